@@ -1,0 +1,4 @@
+pub mod Faults
+pub mod formers
+pub mod Lends
+pub mod Lists

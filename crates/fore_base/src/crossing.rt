@@ -1,0 +1,32 @@
+// Values that hold only data can be shared between threads and moved to another.
+
+use crate::fault::Fault;
+use crate::list::List;
+use crate::place::Place;
+use crate::shape::Shapes;
+use crate::store::Store;
+use crate::text::Text;
+
+fn crosses<T: Send + Sync>(_value: &T) {}
+
+/// A list crosses threads where its items do.
+pub fn list_crosses<T: Send + Sync>(list: &List<T>) {
+    crosses(list)
+}
+
+/// Stores cross threads, and with them values, data and cells.
+pub fn store_crosses(store: &Store) {
+    crosses(store)
+}
+
+/// Structs cross threads, and with them texts.
+pub fn shapes_cross(shapes: &Shapes, text: &Text) {
+    crosses(shapes);
+    crosses(text)
+}
+
+/// Faults and places cross threads.
+pub fn fault_crosses(fault: &Fault, place: &Place) {
+    crosses(fault);
+    crosses(place)
+}

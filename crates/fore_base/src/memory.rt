@@ -1,0 +1,4 @@
+use std::alloc::AllocError;
+
+/// What a call gives that may want memory. Its error is want of memory, and leaves every argument as before.
+pub type Mem<T> = Result<T, AllocError>;
