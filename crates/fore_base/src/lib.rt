@@ -3,6 +3,7 @@
 
 pub mod crossing;
 pub mod fault;
+pub mod laws;
 pub mod list;
 pub mod memory;
 pub mod place;
