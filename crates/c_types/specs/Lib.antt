@@ -1,0 +1,4 @@
+pub mod Control
+pub mod Program
+pub mod Runs
+pub mod Steps

@@ -1,0 +1,201 @@
+-- Programs as contracts see them, and when one is well typed.
+use Rattle.std.specs.Prelude.{ℕ, zero, suc, List, [], ◌∷◌, map, length, Bool, true, false, ◌&&◌, nat_eq, nat_lt, Option, Some, None, is_some, slice_get}
+use Rattle.fore_base.specs.declared.shape.FieldKind.{FieldKind}
+use Rattle.fore_base.specs.declared.shape.FieldKind.TheVariants.{Pointer, Datum}
+use Rattle.fore_base.specs.declared.shape.FieldDef.{FieldDef}
+use Rattle.fore_base.specs.declared.shape.Shape.{Shape}
+use Rattle.fore_base.specs.declared.shape.Shapes.{Shapes}
+use Rattle.c_types.specs.declared.program.Path.{Path}
+use Rattle.c_types.specs.declared.program.DataPath.{DataPath}
+use Rattle.c_types.specs.declared.program.DataPath.TheVariants.{Var as DataVar, Field as DataField}
+use Rattle.c_types.specs.declared.program.PtrRhs.{PtrRhs}
+use Rattle.c_types.specs.declared.program.PtrRhs.TheVariants.{Path as RhsPath, Null as RhsNull, New as RhsNew}
+use Rattle.c_types.specs.declared.program.DataRhs.{DataRhs}
+use Rattle.c_types.specs.declared.program.DataRhs.TheVariants.{Path as DataRhsPath, Known as DataRhsKnown, Choice as DataRhsChoice}
+use Rattle.c_types.specs.declared.program.Act.{Act}
+use Rattle.c_types.specs.declared.program.Act.TheVariants.{SetPtr, SetData, Free, Error, Halt, Return, Break, Continue}
+use Rattle.c_types.specs.declared.program.PtrOp.{PtrOp}
+use Rattle.c_types.specs.declared.program.PtrOp.TheVariants.{Path as OpPath, Null as OpNull}
+use Rattle.c_types.specs.declared.program.DataOp.{DataOp}
+use Rattle.c_types.specs.declared.program.DataOp.TheVariants.{Path as DataOpPath, Known as DataOpKnown}
+use Rattle.c_types.specs.declared.program.Atom.{Atom}
+use Rattle.c_types.specs.declared.program.Atom.TheVariants.{Choice as ChoiceAtom, Known as KnownAtom, Ptr as PtrAtom, Data as DataAtom}
+use Rattle.c_types.specs.declared.program.Cond.{Cond, Cond-F, fold-Cond}
+use Rattle.c_types.specs.declared.program.Cond.TheOpen.{Atom as Atom-F, Not as Not-F, All as All-F, Any as Any-F}
+use Rattle.c_types.specs.declared.program.Stmt.{Stmt, Stmt-F, fold-Stmt}
+use Rattle.c_types.specs.declared.program.Stmt.TheOpen.{Do as Do-F, Branch as Branch-F, While as While-F, DoWhile as DoWhile-F, For as For-F, Group as Group-F}
+use Rattle.c_types.specs.declared.program.VarDef.{VarDef}
+
+-- the structs, the pointer variables, the names of the data variables, and the body
+pub record Program : Type 0 where
+  pub shapes : Shapes
+  pub vars : List VarDef
+  pub data_vars : List (List ℕ)
+  pub body : List Stmt
+
+-- A struct's pointer fields and data fields are numbered apart, each kind in order of declaration.
+
+abbrev pub target_before : FieldKind → List ℕ → List ℕ
+target_before (Pointer shape) targets = shape ∷ targets
+target_before Datum targets = targets
+
+abbrev pub datum_before : FieldKind → ℕ → ℕ
+datum_before (Pointer shape) count = count
+datum_before Datum count = suc count
+
+-- the structs to which the pointer fields point, in order
+abbrev pub targets_in : List FieldDef → List ℕ
+targets_in [] = []
+targets_in (f ∷ fs) = target_before f.kind (targets_in fs)
+
+-- how many data fields there are
+abbrev pub datums_in : List FieldDef → ℕ
+datums_in [] = 0
+datums_in (f ∷ fs) = datum_before f.kind (datums_in fs)
+
+-- the same of the struct of a number; none where there is no such struct
+abbrev pub targets_of : List Shape → ℕ → List ℕ
+targets_of [] n = []
+targets_of (s ∷ ss) zero = targets_in s.fields
+targets_of (s ∷ ss) (suc n) = targets_of ss n
+
+abbrev pub datums_of : List Shape → ℕ → ℕ
+datums_of [] n = 0
+datums_of (s ∷ ss) zero = datums_in s.fields
+datums_of (s ∷ ss) (suc n) = datums_of ss n
+
+-- each number is below n
+abbrev pub all_below : ℕ → List ℕ → Bool
+all_below n [] = true
+all_below n (m ∷ ms) = nat_lt m n && all_below n ms
+
+-- Structs and variables
+
+abbrev pub shapes_typed : ℕ → List Shape → Bool
+shapes_typed n [] = true
+shapes_typed n (s ∷ ss) = all_below n (targets_in s.fields) && shapes_typed n ss
+
+abbrev pub vars_typed : ℕ → List VarDef → Bool
+vars_typed n [] = true
+vars_typed n (v ∷ vs) = nat_lt v.shape n && vars_typed n vs
+
+-- the struct to which a variable points
+abbrev pub var_target : List VarDef → ℕ → Option ℕ
+var_target [] x = None
+var_target (v ∷ vs) zero = Some v.shape
+var_target (v ∷ vs) (suc x) = var_target vs x
+
+-- one of two structs, or none
+abbrev pub is_target : Option ℕ → ℕ → Bool
+is_target None shape = false
+is_target (Some t) shape = nat_eq t shape
+
+-- operands that point to structs, or are null, agree
+abbrev pub both_targets : Option ℕ → Option ℕ → Bool
+both_targets None t = false
+both_targets (Some s) t = is_target t s
+
+module _ (shapes : List Shape) where
+  -- the struct to which a field leads
+  abbrev pub field_target : ℕ → ℕ → Option ℕ
+  field_target shape field = slice_get (targets_of shapes shape) field
+
+  -- the struct to which the arrows lead, one after the other
+  abbrev pub target_after : Option ℕ → List ℕ → Option ℕ
+  target_after t [] = t
+  target_after None (f ∷ fs) = None
+  target_after (Some s) (f ∷ fs) = target_after (field_target s f) fs
+
+  abbrev pub has_datum : Option ℕ → ℕ → Bool
+  has_datum None field = false
+  has_datum (Some s) field = nat_lt field (datums_of shapes s)
+
+  module _ (vars : List VarDef) (datums : ℕ) where
+    -- the struct to which a path points; none where the path is not one of the program's
+    abbrev pub path_target : Path → Option ℕ
+    path_target p = target_after (var_target vars p.var) p.fields
+
+    abbrev pub data_typed : DataPath → Bool
+    data_typed (DataVar x) = nat_lt x datums
+    data_typed (DataField base field) = has_datum (path_target base) field
+
+    -- a right side may be assigned to a pointer to the struct t
+    abbrev pub rhs_typed : Option ℕ → PtrRhs → Bool
+    rhs_typed t (RhsPath q) = both_targets t (path_target q)
+    rhs_typed t RhsNull = is_some t
+    rhs_typed t (RhsNew shape) = is_target t shape
+
+    abbrev pub data_rhs_typed : DataRhs → Bool
+    data_rhs_typed (DataRhsPath p) = data_typed p
+    data_rhs_typed (DataRhsKnown k) = nat_lt k 16
+    data_rhs_typed DataRhsChoice = true
+
+    abbrev pub returned_typed : Option DataPath → Bool
+    returned_typed None = true
+    returned_typed (Some p) = data_typed p
+
+    -- the Bool says whether the act stands in the body of a loop
+    abbrev pub act_typed : Act → Bool → Bool
+    act_typed (SetPtr to rhs) inside = rhs_typed (path_target to) rhs
+    act_typed (SetData to rhs) inside = data_typed to && data_rhs_typed rhs
+    act_typed (Free p) inside = is_some (path_target p)
+    act_typed Error inside = true
+    act_typed Halt inside = true
+    act_typed (Return operand) inside = returned_typed operand
+    act_typed Break inside = inside
+    act_typed Continue inside = inside
+
+    abbrev pub ops_typed : PtrOp → PtrOp → Bool
+    ops_typed (OpPath p) (OpPath q) = both_targets (path_target p) (path_target q)
+    ops_typed (OpPath p) OpNull = is_some (path_target p)
+    ops_typed OpNull (OpPath q) = is_some (path_target q)
+    ops_typed OpNull OpNull = true
+
+    abbrev pub data_op_typed : DataOp → Bool
+    data_op_typed (DataOpPath p) = data_typed p
+    data_op_typed (DataOpKnown k) = nat_lt k 16
+
+    abbrev pub atom_typed : Atom → Bool
+    atom_typed ChoiceAtom = true
+    atom_typed (KnownAtom b) = true
+    atom_typed (PtrAtom l r e) = ops_typed l r
+    atom_typed (DataAtom l r e) = data_op_typed l && data_op_typed r
+
+    abbrev pub all_typed : List Bool → Bool
+    all_typed [] = true
+    all_typed (b ∷ bs) = b && all_typed bs
+
+    -- there is a part, and each is typed
+    abbrev pub parts_typed : List Bool → Bool
+    parts_typed [] = false
+    parts_typed (b ∷ bs) = b && all_typed bs
+
+    abbrev pub cond_typed_step : Cond-F Bool → Bool
+    cond_typed_step (Atom-F a line) = atom_typed a
+    cond_typed_step (Not-F c) = c.value
+    cond_typed_step (All-F cs) = parts_typed cs
+    cond_typed_step (Any-F cs) = parts_typed cs
+
+    abbrev pub cond_typed : Cond → Bool
+    cond_typed = fold-Cond Bool cond_typed_step
+
+    abbrev pub each_typed : List (Bool → Bool) → Bool → Bool
+    each_typed [] inside = true
+    each_typed (s ∷ ss) inside = s inside && each_typed ss inside
+
+    abbrev pub stmt_typed_step : Stmt-F (Bool → Bool) → Bool → Bool
+    stmt_typed_step (Do-F a line) inside = act_typed a inside
+    stmt_typed_step (Branch-F c x y) inside = cond_typed c && (each_typed x inside && each_typed y inside)
+    stmt_typed_step (While-F c b) inside = cond_typed c && each_typed b true
+    stmt_typed_step (DoWhile-F c b) inside = cond_typed c && each_typed b true
+    stmt_typed_step (For-F c n b) inside = cond_typed c && (each_typed n false && each_typed b true)
+    stmt_typed_step (Group-F b ps ds m) inside = each_typed b inside && (all_below (length vars) ps && all_below datums ds)
+
+    abbrev pub stmt_typed : Stmt → Bool → Bool
+    stmt_typed = fold-Stmt (Bool → Bool) stmt_typed_step
+
+-- what the type of programs keeps
+unfoldable pub is_typed : Program → Bool
+is_typed p =
+    (shapes_typed (length p.shapes.structs) p.shapes.structs && vars_typed (length p.shapes.structs) p.vars)
+    && each_typed p.shapes.structs p.vars (length p.data_vars) (map (stmt_typed p.shapes.structs p.vars (length p.data_vars)) p.body) false

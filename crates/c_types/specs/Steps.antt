@@ -1,0 +1,223 @@
+-- One step of a program: what it does to the store, which items are left, and the faults that it can meet.
+use Rattle.std.specs.Prelude.{ℕ, zero, suc, List, [], ◌∷◌, ◌++◌, length, replicate, nat_eq, Bool, true, false, not, if◌then◌else◌, Option, Some, None, Result, Ok, Err}
+use Rattle.fore_base.specs.declared.fault.Fault.{Fault}
+use Rattle.fore_base.specs.declared.fault.Fault.TheVariants.{Leak, Assertion, IndetTest}
+use Rattle.fore_base.specs.declared.shape.Shape.{Shape}
+use Rattle.fore_base.specs.declared.store.Value.{Value}
+use Rattle.fore_base.specs.declared.store.Value.TheVariants.{Null, Uninit, Dangling, Cell}
+use Rattle.fore_base.specs.declared.store.Datum.{Datum}
+use Rattle.fore_base.specs.declared.store.Datum.TheVariants.{Undefined, Known}
+use Rattle.fore_base.specs.declared.store.CellRec.{CellRec}
+use Rattle.fore_base.specs.declared.store.Store.{Store}
+use Rattle.fore_base.specs.Stores.{onward, var_of, datum_of, set_var, set_datum, kill, load_datum, store_datum, walk, write_from, grown, freed}
+use Rattle.fore_base.specs.Heap.{leaks}
+use Rattle.c_types.specs.declared.program.Path.{Path}
+use Rattle.c_types.specs.declared.program.DataPath.{DataPath}
+use Rattle.c_types.specs.declared.program.DataPath.TheVariants.{Var as DataVar, Field as DataField}
+use Rattle.c_types.specs.declared.program.PtrRhs.{PtrRhs}
+use Rattle.c_types.specs.declared.program.PtrRhs.TheVariants.{Path as RhsPath, Null as RhsNull, New as RhsNew}
+use Rattle.c_types.specs.declared.program.DataRhs.{DataRhs}
+use Rattle.c_types.specs.declared.program.DataRhs.TheVariants.{Path as DataRhsPath, Known as DataRhsKnown, Choice as DataRhsChoice}
+use Rattle.c_types.specs.declared.program.Act.{Act}
+use Rattle.c_types.specs.declared.program.Act.TheVariants.{SetPtr, SetData, Free, Error, Halt, Return, Break, Continue}
+use Rattle.c_types.specs.declared.program.PtrOp.{PtrOp}
+use Rattle.c_types.specs.declared.program.PtrOp.TheVariants.{Path as OpPath, Null as OpNull}
+use Rattle.c_types.specs.declared.program.DataOp.{DataOp}
+use Rattle.c_types.specs.declared.program.DataOp.TheVariants.{Path as DataOpPath, Known as DataOpKnown}
+use Rattle.c_types.specs.declared.program.Atom.{Atom}
+use Rattle.c_types.specs.declared.program.Atom.TheVariants.{Choice as ChoiceAtom, Known as KnownAtom, Ptr as PtrAtom, Data as DataAtom}
+use Rattle.c_types.specs.Program.{targets_of, datums_of}
+use Rattle.c_types.specs.Control.{Items, Done, Do, Close, If, Loop, Again, DoLoop, DoAgain, Ask, Not, Both, Either, ◌then◌, after_again, from_again, closed_ptrs, closed_datums}
+
+-- Reading
+
+abbrev pub read : Store → Path → Result Value Fault
+read s p = walk s (var_of s p.var) p.fields
+
+abbrev pub read_data : Store → DataPath → Result Datum Fault
+read_data s (DataVar x) = Ok (datum_of s x)
+read_data s (DataField base f) = onward (read s base) (λ v. load_datum s v f)
+
+abbrev pub read_op : Store → PtrOp → Result Value Fault
+read_op s (OpPath p) = read s p
+read_op s OpNull = Ok Null
+
+abbrev pub read_data_op : Store → DataOp → Result Datum Fault
+read_data_op s (DataOpPath p) = read_data s p
+read_data_op s (DataOpKnown k) = Ok (Known k)
+
+-- x is the choice that was taken, if one was
+abbrev pub read_data_rhs : Store → DataRhs → ℕ → Result Datum Fault
+read_data_rhs s (DataRhsPath p) x = read_data s p
+read_data_rhs s (DataRhsKnown k) x = Ok (Known k)
+read_data_rhs s DataRhsChoice x = Ok (Known x)
+
+-- what a `return` looks at (6.8.6.4)
+abbrev pub look_at : Store → Option DataPath → Result Store Fault
+look_at s None = Ok s
+look_at s (Some p) = onward (read_data s p) (λ d. Ok s)
+
+-- Comparing. A value that is indeterminate cannot be tested; the left one is looked at first.
+
+abbrev pub same_values : Value → Value → Result Bool Fault
+same_values Uninit w = Err IndetTest
+same_values Dangling w = Err IndetTest
+same_values Null Uninit = Err IndetTest
+same_values Null Dangling = Err IndetTest
+same_values Null Null = Ok true
+same_values Null (Cell m) = Ok false
+same_values (Cell n) Uninit = Err IndetTest
+same_values (Cell n) Dangling = Err IndetTest
+same_values (Cell n) Null = Ok false
+same_values (Cell n) (Cell m) = Ok (nat_eq n m)
+
+abbrev pub same_datums : Datum → Datum → Result Bool Fault
+same_datums Undefined e = Err IndetTest
+same_datums (Known a) Undefined = Err IndetTest
+same_datums (Known a) (Known b) = Ok (nat_eq a b)
+
+-- whether a comparison for equal, or for not equal, holds
+abbrev pub agrees : Bool → Bool → Bool
+agrees true same = same
+agrees false same = not same
+
+-- a choice as a truth
+abbrev pub is_one : ℕ → Bool
+is_one zero = false
+is_one (suc n) = true
+
+-- the left operand, then the right one, then the test of both
+abbrev pub atom_of : Atom → Store → ℕ → Result Bool Fault
+atom_of ChoiceAtom s x = Ok (is_one x)
+atom_of (KnownAtom b) s x = Ok b
+atom_of (PtrAtom l r e) s x = onward (read_op s l) (λ v. onward (read_op s r) (λ w. onward (same_values v w) (λ b. Ok (agrees e b))))
+atom_of (DataAtom l r e) s x = onward (read_data_op s l) (λ v. onward (read_data_op s r) (λ w. onward (same_datums v w) (λ b. Ok (agrees e b))))
+
+-- Writing. The path before its last arrow is followed, then the last arrow and the write.
+
+abbrev pub write_path : Store → ℕ → List ℕ → Value → Result Store Fault
+write_path s x [] v = Ok (set_var s x v)
+write_path s x (f ∷ fs) v = write_from s (var_of s x) f fs v
+
+abbrev pub write_data : Store → DataPath → Datum → Result Store Fault
+write_data s (DataVar x) d = Ok (set_datum s x d)
+write_data s (DataField base f) d = onward (read s base) (λ v. store_datum s v f d)
+
+-- a new cell of a struct: its value is indeterminate (7.22.3.4)
+abbrev pub blank : List Shape → ℕ → ℕ → CellRec
+blank shapes number shape =
+    record { number = number; shape = shape; datums = replicate (datums_of shapes shape) Undefined; fields = replicate (length (targets_of shapes shape)) Uninit }
+
+-- an assignment to a pointer: the right side first
+abbrev pub assign : List Shape → Store → Path → PtrRhs → Result Store Fault
+assign shapes s to (RhsPath from) = onward (read s from) (λ v. write_path s to.var to.fields v)
+assign shapes s to RhsNull = write_path s to.var to.fields Null
+assign shapes s to (RhsNew shape) = write_path (grown s (blank shapes s.next shape)) to.var to.fields (Cell s.next)
+
+-- Steps
+
+-- the numbers below n
+abbrev pub below : ℕ → List ℕ
+below zero = []
+below (suc n) = below n ++ n ∷ []
+
+-- all variables die
+abbrev pub all_dead : Store → Store
+all_dead s = kill (below (length s.vars)) (below (length s.data_vars)) s
+
+-- How a step goes: on with other items and another store, to the end, or into a fault.
+pub data Turn : Type 0 where
+  Goes : Items → Store → Turn
+  Stops : Turn
+  Faults : Fault → Turn
+
+-- the leak test is the last part of a step
+abbrev pub settle : Store → Items → Turn
+settle s is = if leaks s then Faults Leak else Goes is s
+
+abbrev pub settled : Result Store Fault → Items → Turn
+settled (Ok s) is = settle s is
+settled (Err k) is = Faults k
+
+-- the end of a run with its leak test
+abbrev pub finished : Result Store Fault → Turn
+finished (Ok s) = if leaks (all_dead s) then Faults Leak else Stops
+finished (Err k) = Faults k
+
+abbrev pub act_turn : List Shape → Act → Items → Store → ℕ → Turn
+act_turn shapes (SetPtr to from) is s x = settled (assign shapes s to from) is
+act_turn shapes (SetData to from) is s x = settled (onward (read_data_rhs s from x) (λ d. write_data s to d)) is
+act_turn shapes (Free p) is s x = settled (onward (read s p) (λ v. freed s v)) is
+act_turn shapes Error is s x = Faults Assertion
+act_turn shapes Halt is s x = Stops
+act_turn shapes (Return operand) is s x = finished (look_at s operand)
+act_turn shapes Break is s x = settle (kill (closed_ptrs is) (closed_datums is) s) (after_again is)
+act_turn shapes Continue is s x = settle (kill (closed_ptrs is) (closed_datums is) s) (from_again is)
+
+abbrev pub test_turn : Result Bool Fault → Items → Items → Items → Store → Turn
+test_turn (Ok true) x y is s = settle s (x then is)
+test_turn (Ok false) x y is s = settle s (y then is)
+test_turn (Err k) x y is s = Faults k
+
+-- one step of an opened list; x is the choice, where the step takes one (an opened list begins with none of the others)
+abbrev pub turn_of : List Shape → Items → Store → ℕ → Turn
+turn_of shapes Done s x = Stops
+turn_of shapes (Do a m is) s x = act_turn shapes a is s x
+turn_of shapes (Close ps ds m is) s x = settle (kill ps ds s) is
+turn_of shapes (If (Ask a m) y n is) s x = test_turn (atom_of a s x) y n is s
+turn_of shapes (If (Not c) y n is) s x = Stops
+turn_of shapes (If (Both c d) y n is) s x = Stops
+turn_of shapes (If (Either c d) y n is) s x = Stops
+turn_of shapes (Loop c n b is) s x = Stops
+turn_of shapes (Again c n b is) s x = Stops
+turn_of shapes (DoLoop c b is) s x = Stops
+turn_of shapes (DoAgain c b is) s x = Stops
+
+-- Whether the first item of an opened list takes a choice, and its mark
+
+abbrev pub atom_takes : Atom → Bool
+atom_takes ChoiceAtom = true
+atom_takes (KnownAtom b) = false
+atom_takes (PtrAtom l r e) = false
+atom_takes (DataAtom l r e) = false
+
+abbrev pub data_rhs_takes : DataRhs → Bool
+data_rhs_takes (DataRhsPath p) = false
+data_rhs_takes (DataRhsKnown k) = false
+data_rhs_takes DataRhsChoice = true
+
+abbrev pub act_takes : Act → Bool
+act_takes (SetPtr to from) = false
+act_takes (SetData to from) = data_rhs_takes from
+act_takes (Free p) = false
+act_takes Error = false
+act_takes Halt = false
+act_takes (Return operand) = false
+act_takes Break = false
+act_takes Continue = false
+
+abbrev pub takes : Items → Bool
+takes Done = false
+takes (Do a m is) = act_takes a
+takes (Close ps ds m is) = false
+takes (If (Ask a m) x y is) = atom_takes a
+takes (If (Not c) x y is) = false
+takes (If (Both c d) x y is) = false
+takes (If (Either c d) x y is) = false
+takes (Loop c n b is) = false
+takes (Again c n b is) = false
+takes (DoLoop c b is) = false
+takes (DoAgain c b is) = false
+
+abbrev pub mark_of : Items → ℕ
+mark_of Done = 0
+mark_of (Do a m is) = m
+mark_of (Close ps ds m is) = m
+mark_of (If (Ask a m) x y is) = m
+mark_of (If (Not c) x y is) = 0
+mark_of (If (Both c d) x y is) = 0
+mark_of (If (Either c d) x y is) = 0
+mark_of (Loop c n b is) = 0
+mark_of (Again c n b is) = 0
+mark_of (DoLoop c b is) = 0
+mark_of (DoAgain c b is) = 0

@@ -1,0 +1,6 @@
+// Typed programs, and what they mean: control, steps and runs.
+#![tactic(auto)]
+
+pub mod crossing;
+pub mod outcome;
+pub mod program;
