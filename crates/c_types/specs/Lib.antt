@@ -1,4 +1,6 @@
 pub mod Control
+pub mod Over
+pub mod Plain
 pub mod Program
 pub mod Runs
 pub mod Steps

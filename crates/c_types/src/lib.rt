@@ -2,5 +2,6 @@
 #![tactic(auto)]
 
 pub mod crossing;
+pub mod laws;
 pub mod outcome;
 pub mod program;
