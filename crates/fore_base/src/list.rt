@@ -1,4 +1,4 @@
-ghost use Rattle.std.specs.Prelude.{◌≡◌, [], ◌∷◌, ◌++◌, ◌<◌, ◌↔◌, length, slice_get, slice_set, remove, IsTrue, IfOk, MatchOption, OnOk, OnErr, OnSome};
+ghost use Rattle.std.specs.Prelude.{◌≡◌, [], ◌∷◌, ◌++◌, ◌<◌, ◌↔◌, length, slice_get, slice_index_or, slice_set, replicate, remove, IsTrue, IfOk, MatchOption, OnOk, OnErr, OnSome};
 ghost use Rattle.std.specs.Option.{option_copied};
 
 use std::alloc::{AllocError, Global};
@@ -134,6 +134,35 @@ impl<T: Drop> List<T> {
         ensures rest { self.new ≡ remove self.old at }
     {
         self.items.remove(at)
+    }
+}
+
+impl<T: Copy> List<T> {
+    /// A list of so many copies of an item.
+    pub fn filled(alloc: Global, item: T, count: usize) -> Result<List<T>, AllocError>
+        ensures { IfOk result (λ list. list ≡ replicate count item) }
+    {
+        let mut list = List::new(alloc);
+        for _i in 0..count {
+            list.push(item)?;
+        }
+        Ok(list)
+    }
+
+    /// The item at a place, or `default` where the list ends before it.
+    pub fn get_or(&self, at: usize, default: T) -> T
+        ensures { result ≡ slice_index_or self.now at default }
+    {
+        if at < self.items.len() { self.items[at] } else { default }
+    }
+
+    /// Writes an item at a place; nothing where the list ends before it.
+    pub fn set_within(&mut self, at: usize, item: T)
+        ensures { self.new ≡ slice_set self.old at item }
+    {
+        if at < self.items.len() {
+            self.items[at] = item;
+        }
     }
 }
 

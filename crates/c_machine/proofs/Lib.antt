@@ -1,0 +1,3 @@
+pub mod Searching
+pub mod CellLemmas
+pub mod ShapeLemmas

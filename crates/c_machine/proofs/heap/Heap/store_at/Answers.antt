@@ -1,0 +1,9 @@
+use Rattle.c_machine.proofs.CellLemmas.{rises_with, below_with}
+use Rattle.c_machine.proofs.heap.Heap.store_at.Goals as goal
+
+pub invariant_of-self : goal.invariant_of-self
+invariant_of-self c =
+    rw c.set_field.ensures (
+      rises_with c.in_ok-number.number c.args.field c.args.value 0 c.self.inside.store.cells c.self.invariant.0,
+      below_with c.in_ok-number.number c.args.field c.args.value c.self.inside.store.next c.self.inside.store.cells c.self.invariant.1,
+    )

@@ -1,0 +1,13 @@
+ghost use Rattle.std.specs.Prelude.{◌≡◌, ◌<◌, length, IfSome};
+ghost use Rattle.c_machine.specs.Rising.{RisesFrom, position_in};
+
+use fore_base::store::CellRec;
+
+/// The position of the cell of a number, among cells in order of their numbers.
+pub fn position_of(cells: &[CellRec], number: u64) -> Option<usize>
+    requires { RisesFrom 0 cells.now }
+    ensures position { result ≡ position_in cells.now number }
+    ensures within { IfSome result (λ i. i < length cells.now) }
+{
+    cells.binary_search_by_key(&number, |cell| cell.number).ok()
+}
