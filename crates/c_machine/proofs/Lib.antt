@@ -1,3 +1,4 @@
 pub mod Searching
 pub mod CellLemmas
 pub mod ShapeLemmas
+pub mod Marked

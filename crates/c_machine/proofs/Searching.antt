@@ -9,7 +9,7 @@ use Rattle.std.specs.declared.cmp.Ordering.TheVariants.{Less, Equal, Greater}
 use Rattle.fore_base.specs.declared.store.CellRec.{CellRec}
 use Rattle.c_machine.specs.Rising.{RisesFrom, position_in}
 
-no_cell : CellRec
+pub no_cell : CellRec
 no_cell = record { number = 0; shape = 0; datums = []; fields = [] }
 
 rises_above : (low : ℕ) (cs : List CellRec) → RisesFrom low cs → (j : ℕ) (d : CellRec) → j < length cs → low ≤ (get_or cs j d).number
@@ -33,13 +33,13 @@ compared x n e = grind (arith, nat_tests)
 equal_from : (x n : ℕ) → nat_cmp x n ≡ Equal → x ≡ n
 equal_from x n e = grind (arith, nat_tests)
 
-found : (low : ℕ) (cs : List CellRec) (n i : ℕ) (d : CellRec) → RisesFrom low cs → i < length cs → (get_or cs i d).number ≡ n → position_in cs n ≡ Some i
-found low [] n i d h less e = absurd (omega (arith, less))
-found low (c ∷ cs) n zero d h less e = rw (eq-eqb c.number n e) refl
-found low (c ∷ cs) n (suc i) d h less e =
+pub position_at : (low : ℕ) (cs : List CellRec) (n i : ℕ) (d : CellRec) → RisesFrom low cs → i < length cs → (get_or cs i d).number ≡ n → position_in cs n ≡ Some i
+position_at low [] n i d h less e = absurd (omega (arith, less))
+position_at low (c ∷ cs) n zero d h less e = rw (eq-eqb c.number n e) refl
+position_at low (c ∷ cs) n (suc i) d h less e =
     let above : suc c.number ≤ (get_or cs i d).number = rises_above (suc c.number) cs h.1 i d (omega (arith, less)) in
     let other : nat_eq c.number n ≡ false = grind (arith, nat_tests) in
-    rw (other, found (suc c.number) cs n i d h.1 (omega (arith, less)) e) refl
+    rw (other, position_at (suc c.number) cs n i d h.1 (omega (arith, less)) e) refl
 
 absent : (cs : List CellRec) (n : ℕ) → ((j : ℕ) → j < length cs → (get_or cs j no_cell).number ≡ n → ⊥) → position_in cs n ≡ None
 absent [] n none = refl
@@ -49,7 +49,7 @@ absent (c ∷ cs) n none =
     rw (other, absent cs n (λ j less. none (suc j) (omega (arith, less)))) refl
 
 pub searched_cells : (cs : List CellRec) (n : ℕ) (r : Result ℕ ℕ) → RisesFrom 0 cs → IsSearchInRange r (length cs) → IsBinarySearchResult (λ c. nat_cmp c.number n) cs r → result_ok r ≡ position_in cs n
-searched_cells cs n (Ok i) h range e = sym (found 0 cs n i no_cell h range (equal_from (get_or cs i no_cell).number n (e no_cell)))
+searched_cells cs n (Ok i) h range e = sym (position_at 0 cs n i no_cell h range (equal_from (get_or cs i no_cell).number n (e no_cell)))
 searched_cells cs n (Err i) h range e = sym (absent cs n apart)
   where
     in_order : IsNonDecreasingBy (λ c. ordering_index (nat_cmp c.number n)) cs

@@ -4,5 +4,6 @@
 mod blank;
 mod cells;
 mod heap;
+mod leak;
 mod search;
 mod values;

@@ -1,0 +1,9 @@
+use Rattle.std.proofs.Common.{◌-◌, length}
+use Rattle.c_machine.proofs.Marked.{Walked}
+use Rattle.c_machine.proofs.leak.has_leaked.Given as goal
+
+abbrev pub invariant-loop-done : goal.invariant-loop-done
+invariant-loop-done l = Walked l.store l.store.vars l.done l.marks
+
+abbrev pub decreases-loop-done : goal.decreases-loop-done
+decreases-loop-done l = length l.store.cells - l.done
