@@ -1,6 +1,6 @@
 -- Where all that was marked has been looked at, the marked cells are those that can be reached.
-use Rattle.std.proofs.Common.{◌≡◌, ◌≢◌, ◌≤◌, ◌<◌, ◌⊎◌, inl, inr, ℕ, zero, suc, ◌+◌, Bool, true, false, ◌||◌, nat_eq, nat_lt, if◌then◌else◌, Option, Some, None, List, [], ◌∷◌, ◌++◌, length, get_or, set, drop, replicate, refl, sym, ap, ◌∙◌, subst, true≢false, arith}
-use Rattle.std.proofs.lemmas.Bool.{eqb-true, eq-eqb, cases_lt}
+use Rattle.std.proofs.Common.{◌≡◌, ◌≤◌, ◌<◌, ◌⊎◌, inl, inr, ℕ, zero, suc, Bool, true, false, nat_lt, if◌then◌else◌, Option, Some, None, List, [], ◌∷◌, ◌++◌, length, get_or, set, drop, replicate, refl, sym, ap, ◌∙◌, subst, true≢false, arith}
+use Rattle.std.proofs.lemmas.Bool.{eqb-true, cases_lt}
 use Rattle.std.proofs.lemmas.Bool.Decides.{nat_tests}
 use Rattle.fore_base.specs.declared.store.Value.{Value}
 use Rattle.fore_base.specs.declared.store.Value.TheVariants.{Null, Uninit, Dangling, Cell}
@@ -12,7 +12,7 @@ use Rattle.fore_base.proofs.Leaks.{leaks_leaked, sound_reached}
 use Rattle.c_machine.specs.declared.leak.Marks.{Marks}
 use Rattle.c_machine.specs.Rising.{RisesFrom, position_in}
 use Rattle.c_machine.specs.Marking.{noted_at, noted, noted_all}
-use Rattle.c_machine.proofs.CellLemmas.{FoundAt, first, further, Position, found, missing, positioned, placed}
+use Rattle.c_machine.proofs.CellLemmas.{FoundAt, first, further, Position, found, missing, positioned}
 use Rattle.c_machine.proofs.Searching.{no_cell, position_at}
 
 abbrev pub is_marked : Marks → ℕ → Bool
@@ -141,25 +141,30 @@ module _ (s : Store) (vs : List Value) (k i : ℕ) (m : Marks) where
 
   new_within : Walked s vs k m → get_or m.reached i true ≡ false → (j : ℕ) → j < length (m.order ++ i ∷ []) → get_or (m.order ++ i ∷ []) j 0 < length s.cells
   new_within w fresh j less = elim (cases_lt j (length m.order)) [
-      inl old ↦ rw (get_append_left m.order (i ∷ []) j 0 old) (w.within j old)
-    | inr last ↦ (let same : j ≡ length m.order = omega (arith, length_append_last m.order i) in rw (same, get_append_last m.order i 0) (omega (arith, unmarked_within m.reached i fresh, w.long))) ]
+    | inl old ↦ rw (get_append_left m.order (i ∷ []) j 0 old) (w.within j old)
+    | inr last ↦ (let same : j ≡ length m.order = omega (arith, length_append_last m.order i) in rw (same, get_append_last m.order i 0) (omega (arith, unmarked_within m.reached i fresh, w.long)))
+  ]
 
   new_ordered : Walked s vs k m → get_or m.reached i true ≡ false → (j : ℕ) → j < length (m.order ++ i ∷ []) → get_or (set m.reached i true) (get_or (m.order ++ i ∷ []) j 0) false ≡ true
   new_ordered w fresh j less = elim (cases_lt j (length m.order)) [
-      inl old ↦ rw (get_append_left m.order (i ∷ []) j 0 old) (set_grows m.reached i (get_or m.order j 0) (w.ordered j old))
-    | inr last ↦ (let same : j ≡ length m.order = omega (arith, length_append_last m.order i) in rw (same, get_append_last m.order i 0) (set_same m.reached i (unmarked_within m.reached i fresh))) ]
+    | inl old ↦ rw (get_append_left m.order (i ∷ []) j 0 old) (set_grows m.reached i (get_or m.order j 0) (w.ordered j old))
+    | inr last ↦ (let same : j ≡ length m.order = omega (arith, length_append_last m.order i) in rw (same, get_append_last m.order i 0) (set_same m.reached i (unmarked_within m.reached i fresh)))
+  ]
 
   new_sound : Walked s vs k m → Reach s (cell_at s.cells i).number → (j : ℕ) → get_or (set m.reached i true) j false ≡ true → Reach s (cell_at s.cells j).number
   new_sound w reach j e = elim (set_new m.reached i j e) [
-      inl same ↦ subst (λ x. Reach s (cell_at s.cells x).number) (sym same) reach
-    | inr old ↦ w.sound j old ]
+    | inl same ↦ subst (λ x. Reach s (cell_at s.cells x).number) (sym same) reach
+    | inr old ↦ w.sound j old
+  ]
 
   new_done : Walked s vs k m → (j : ℕ) → get_or (set m.reached i true) j false ≡ true → IsIn j (drop k (m.order ++ i ∷ [])) ⊎ AllNoted s.cells (cell_at s.cells j).fields marked_one
   new_done w j e = rw (drop_append k m.order (i ∷ []) w.begun) (elim (set_new m.reached i j e) [
-      inl same ↦ inl (subst (λ x. IsIn x (drop k m.order ++ i ∷ [])) (sym same) (in_append_last i (drop k m.order)))
+    | inl same ↦ inl (subst (λ x. IsIn x (drop k m.order ++ i ∷ [])) (sym same) (in_append_last i (drop k m.order)))
     | inr old ↦ (elim (w.done j old) [
-          inl open' ↦ inl (in_append_left j (drop k m.order) (i ∷ []) open')
-        | inr noted' ↦ inr (still (cell_at s.cells j).fields noted') ]) ])
+      | inl open' ↦ inl (in_append_left j (drop k m.order) (i ∷ []) open')
+      | inr noted' ↦ inr (still (cell_at s.cells j).fields noted')
+    ])
+  ])
 
   mark_one : Walked s vs k m → get_or m.reached i true ≡ false → Reach s (cell_at s.cells i).number → Walked s vs k marked_one
   mark_one w fresh reach = record {
@@ -170,7 +175,8 @@ module _ (s : Store) (vs : List Value) (k i : ℕ) (m : Marks) where
     sound = new_sound w reach;
     values = still vs w.values;
     done = new_done w;
-    begun = omega (arith, w.begun, length_append_last m.order i) }
+    begun = omega (arith, w.begun, length_append_last m.order i);
+  }
 
 -- Marking what a value names
 
@@ -212,7 +218,7 @@ note_value s vs k m Uninit w reach = (unchanged s vs k m w, λ n i e is. cc)
 note_value s vs k m Dangling w reach = (unchanged s vs k m w, λ n i e is. cc)
 note_value s vs k m (Cell n) w reach =
     let one : Noting s vs k m (noted_at (position_in s.cells n) m) × ((i : ℕ) → position_in s.cells n ≡ Some i → is_marked (noted_at (position_in s.cells n) m) i ≡ true) =
-      note_found s vs k n m w (reach n refl) (position_in s.cells n) (positioned n s.cells) in
+    note_found s vs k n m w (reach n refl) (position_in s.cells n) (positioned n s.cells) in
     (one.0, λ n' i e is. let same : n ≡ n' = cc in one.1 i (subst (λ x. position_in s.cells x ≡ Some i) (sym same) is))
 
 -- all the values were noted
@@ -220,14 +226,17 @@ pub note_values : (s : Store) (vs us : List Value) (k : ℕ) (m : Marks) → Wal
 note_values s vs [] k m w reach = (unchanged s vs k m w, λ n i here is. absurd here)
 note_values s vs (u ∷ us) k m w reach =
     let one : Noting s vs k m (noted s.cells u m) × ((n i : ℕ) → u ≡ Cell n → position_in s.cells n ≡ Some i → is_marked (noted s.cells u m) i ≡ true) =
-      note_value s vs k m u w (λ n e. reach n (inl (sym e))) in
+    note_value s vs k m u w (λ n e. reach n (inl (sym e))) in
     let rest : Noting s vs k (noted s.cells u m) (noted_all s.cells us (noted s.cells u m)) × AllNoted s.cells us (noted_all s.cells us (noted s.cells u m)) =
-      note_values s vs us k (noted s.cells u m) one.0.walked (λ n here. reach n (inr here)) in
-    (record {
-      walked = rest.0.walked;
-      grows = λ i e. rest.0.grows i (one.0.grows i e);
-      longer = omega (arith, one.0.longer, rest.0.longer);
-      kept = λ j less. rest.0.kept j (omega (arith, less, one.0.longer)) ∙ one.0.kept j less }, noted' one rest)
+    note_values s vs us k (noted s.cells u m) one.0.walked (λ n here. reach n (inr here)) in (
+      record {
+        walked = rest.0.walked;
+        grows = λ i e. rest.0.grows i (one.0.grows i e);
+        longer = omega (arith, one.0.longer, rest.0.longer);
+        kept = λ j less. rest.0.kept j (omega (arith, less, one.0.longer)) ∙ one.0.kept j less;
+      },
+      noted' one rest,
+    )
   where
     noted' : Noting s vs k m (noted s.cells u m) × ((n i : ℕ) → u ≡ Cell n → position_in s.cells n ≡ Some i → is_marked (noted s.cells u m) i ≡ true) → Noting s vs k (noted s.cells u m) (noted_all s.cells us (noted s.cells u m)) × AllNoted s.cells us (noted_all s.cells us (noted s.cells u m)) → AllNoted s.cells (u ∷ us) (noted_all s.cells us (noted s.cells u m))
     noted' one rest n i (inl e) is = rest.0.grows i (one.1 n i (sym e) is)
@@ -251,14 +260,15 @@ length_filled (suc n) = ap suc (length_filled n)
 -- nothing is marked at first
 pub walk_begins : (s : Store) → Walked s [] 0 (record { reached = replicate (length s.cells) false; order = [] })
 walk_begins s = record {
-    long = length_filled (length s.cells);
-    within = λ j less. absurd (omega (arith, less));
-    counted = sym (count_none (length s.cells));
-    ordered = λ j less. absurd (omega (arith, less));
-    sound = λ i e. absurd (no_mark (length s.cells) i e);
-    values = λ n i here is. absurd here;
-    done = λ i e. absurd (no_mark (length s.cells) i e);
-    begun = omega arith }
+  long = length_filled (length s.cells);
+  within = λ j less. absurd (omega (arith, less));
+  counted = sym (count_none (length s.cells));
+  ordered = λ j less. absurd (omega (arith, less));
+  sound = λ i e. absurd (no_mark (length s.cells) i e);
+  values = λ n i here is. absurd here;
+  done = λ i e. absurd (no_mark (length s.cells) i e);
+  begun = omega arith;
+}
 
 -- then the values of the variables
 pub walk_vars : (s : Store) (m : Marks) → Walked s [] 0 m → Walked s s.vars 0 (noted_all s.cells s.vars m)
@@ -280,38 +290,48 @@ in_cells (c ∷ cs) (suc i) less = inr (in_cells cs i (omega (arith, less)))
 -- the fields of the next marked cell
 pub walk_more : (s : Store) (vs : List Value) (k at : ℕ) (m : Marks) → Walked s vs k m → k < length m.order → at ≡ get_or m.order k 0 → Walked s vs (suc k) (noted_all s.cells (cell_at s.cells at).fields m)
 walk_more s vs k at m w less is = record {
-    long = after.long;
-    within = after.within;
-    counted = after.counted;
-    ordered = after.ordered;
-    sound = after.sound;
-    values = after.values;
-    done = done;
-    begun = longer }
+  long = after.long;
+  within = after.within;
+  counted = after.counted;
+  ordered = after.ordered;
+  sound = after.sound;
+  values = after.values;
+  done = done;
+  begun = longer;
+}
   where
     fields : List Value
     fields = (cell_at s.cells at).fields
+
     next : Marks
     next = noted_all s.cells fields m
+
     marked : is_marked m at ≡ true
     marked = subst (λ x. is_marked m x ≡ true) (sym is) (w.ordered k less)
+
     inside : at < length s.cells
     inside = subst (λ x. x < length s.cells) (sym is) (w.within k less)
+
     all : Noting s vs k m next × AllNoted s.cells fields next
     all = note_values s vs fields k m w (λ n here. by_field (cell_at s.cells at) (in_cells s.cells at inside) (w.sound at marked) here)
+
     after : Walked s vs k next
     after = all.0.walked
+
     longer : suc k ≤ length next.order
     longer = omega (arith, less, all.0.longer)
+
     first_or_later : (i : ℕ) → (i ≡ get_or next.order k 0) ⊎ IsIn i (drop (suc k) next.order) → IsIn i (drop (suc k) next.order) ⊎ AllNoted s.cells (cell_at s.cells i).fields next
     first_or_later i (inl same) =
         let this : i ≡ at = same ∙ all.0.kept k less ∙ sym is in
         inr (subst (λ x. AllNoted s.cells (cell_at s.cells x).fields next) (sym this) all.1)
     first_or_later i (inr later) = inl later
+
     done : (i : ℕ) → is_marked next i ≡ true → IsIn i (drop (suc k) next.order) ⊎ AllNoted s.cells (cell_at s.cells i).fields next
     done i e = elim (after.done i e) [
-        inl open' ↦ first_or_later i (drop_here k next.order i longer open')
-      | inr noted' ↦ inr noted' ]
+      | inl open' ↦ first_or_later i (drop_here k next.order i longer open')
+      | inr noted' ↦ inr noted'
+    ]
 
 -- The end of the walk
 
@@ -336,12 +356,15 @@ module _ (s : Store) (k : ℕ) (m : Marks) (rising : RisesFrom 0 s.cells) (w : W
     where
       own : (j : ℕ) × (cell_at s.cells j ≡ c) × (j < length s.cells)
       own = own_position c s.cells 0 rising there
+
       found_at : position_in s.cells c.number ≡ Some own.0
       found_at = position_at 0 s.cells c.number own.0 no_cell rising own.2 (ap (λ (x : CellRec). x.number) own.1)
+
       after : ((j : ℕ) → position_in s.cells c.number ≡ Some j → is_marked m j ≡ true) → is_marked m i ≡ true
       after before = elim (w.done own.0 (before own.0 found_at)) [
-          inl open' ↦ absurd (past_end k m.order own.0 ended open')
-        | inr noted' ↦ noted' n i (subst (λ (x : CellRec). IsIn (Cell n) x.fields) (sym own.1) field) is ]
+        | inl open' ↦ absurd (past_end k m.order own.0 ended open')
+        | inr noted' ↦ noted' n i (subst (λ (x : CellRec). IsIn (Cell n) x.fields) (sym own.1) field) is
+      ]
 
   some_left : length m.order < length s.cells → Leaked s
   some_left less =
@@ -351,15 +374,18 @@ module _ (s : Store) (k : ℕ) (m : Marks) (rising : RisesFrom 0 s.cells) (w : W
       record {
         cell = cell_at s.cells free.0;
         is_there = in_cells s.cells free.0 inside;
-        unreached = λ reach. true≢false (sym (reached_marked (cell_at s.cells free.0).number reach free.0 at) ∙ free.2) }
+        unreached = λ reach. true≢false (sym (reached_marked (cell_at s.cells free.0).number reach free.0 at) ∙ free.2);
+      }
 
   none_left : length s.cells ≤ length m.order → Leaked s → ⊥
   none_left all leaked = leaked.unreached reach
     where
       own : (j : ℕ) × (cell_at s.cells j ≡ leaked.cell) × (j < length s.cells)
       own = own_position leaked.cell s.cells 0 rising leaked.is_there
+
       marked : is_marked m own.0 ≡ true
       marked = all_true m.reached (omega (arith, all, w.counted, w.long)) own.0 (omega (arith, own.2, w.long))
+
       reach : Reach s leaked.cell.number
       reach = subst (λ (x : CellRec). Reach s x.number) own.1 (w.sound own.0 marked)
 
@@ -371,3 +397,13 @@ module _ (s : Store) (k : ℕ) (m : Marks) (rising : RisesFrom 0 s.cells) (w : W
       here true is (inr all) = absurd (none_left all (leaks_leaked s is))
       here false is (inl less) = absurd ((some_left less).unreached (sound_reached s is (some_left less).cell (some_left less).is_there))
       here false is (inr all) = grind (arith, nat_tests)
+
+-- a position that is there needs no default
+pub cell_there : (cs : List CellRec) (i : ℕ) (d : CellRec) → i < length cs → get_or cs i d ≡ cell_at cs i
+cell_there [] i d less = absurd (omega (arith, less))
+cell_there (c ∷ cs) zero d less = refl
+cell_there (c ∷ cs) (suc i) d less = cell_there cs i d (omega (arith, less))
+
+-- the marked cells are at most all cells
+pub walk_within : (s : Store) (vs : List Value) (k : ℕ) (m : Marks) → Walked s vs k m → length m.order ≤ length s.cells
+walk_within s vs k m w = omega (arith, w.counted, w.long, count_within m.reached)
