@@ -2,3 +2,4 @@ pub mod Searching
 pub mod CellLemmas
 pub mod ShapeLemmas
 pub mod Marked
+pub mod PathLemmas

@@ -1,3 +1,4 @@
 pub mod Rising
 pub mod Shapes
 pub mod Marking
+pub mod Acts

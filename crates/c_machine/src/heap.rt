@@ -1,11 +1,13 @@
 ghost use Rattle.std.specs.Prelude.{◌≡◌, ◌<◌, ◌+◌, ◌^◌, MatchResult, IfOk, OnErr, map};
 ghost use Rattle.fore_base.specs.Stores.{var_of, set_var, load, store_at, freed, grown};
 ghost use Rattle.fore_base.specs.Stores as stores;
+ghost use Rattle.fore_base.specs.Heap.{leaks};
 ghost use Rattle.c_types.specs.Runs.{empty_store};
 ghost use Rattle.c_types.specs.Steps.{blank, all_dead};
 
 use crate::blank::blank_cell;
 use crate::cells::{end_cell, field_of, set_field};
+use crate::leak::has_leaked;
 use crate::values::{dangle_all, set_all};
 use fore_base::fault::Fault;
 use fore_base::list::List;
@@ -93,6 +95,7 @@ impl Heap {
     pub fn store_at(&mut self, to: Value, field: u32, value: Value) -> Result<(), Fault>
         ensures result { MatchResult result (λ _. store_at self.old to field value ≡ Ok self.new) (λ fault. store_at self.old to field value ≡ Err fault) }
         ensures err { OnErr result (self.new ≡ self.old) }
+        ensures next { self.new.next ≡ self.old.next }
     {
         let number = followed(to)?;
         set_field(&mut self.store.cells, number, field, value);
@@ -134,6 +137,13 @@ impl Heap {
         self.store.cells.push(cell)?;
         self.store.next = number + 1;
         Ok(number)
+    }
+
+    /// Whether some cell cannot be reached from the variables.
+    pub fn leaks(&self, alloc: Global) -> Mem<bool>
+        ensures { IfOk result (λ leaked. leaked ≡ leaks self.now) }
+    {
+        has_leaked(alloc, &self.store)
     }
 
     /// Lets all variables die.
