@@ -3,3 +3,4 @@ pub mod CellLemmas
 pub mod ShapeLemmas
 pub mod Marked
 pub mod PathLemmas
+pub mod RunLemmas

@@ -7,5 +7,8 @@ mod cells;
 mod heap;
 mod leak;
 mod paths;
+pub mod run;
 mod search;
 mod values;
+
+pub use c_types::outcome;

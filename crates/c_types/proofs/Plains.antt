@@ -132,7 +132,7 @@ module _ (shapes : List Shape) where
   plain_goes Break is js s t x plain e = absurd (true≢false (sym plain))
   plain_goes Continue is js s t x plain e = absurd (true≢false (sym plain))
 
-  return_stops : (a : Act) (is js : Items) (s t : Store) (x : ℕ) → act_is_return a ≡ true → act_turn shapes a is s x ≡ Goes js t → ⊥
+  pub return_stops : (a : Act) (is js : Items) (s t : Store) (x : ℕ) → act_is_return a ≡ true → act_turn shapes a is s x ≡ Goes js t → ⊥
   return_stops (SetPtr to from) is js s t x ends e = true≢false (sym ends)
   return_stops (SetData to from) is js s t x ends e = true≢false (sym ends)
   return_stops (Free p) is js s t x ends e = true≢false (sym ends)
@@ -147,7 +147,7 @@ module _ (shapes : List Shape) where
   return_stops Break is js s t x ends e = true≢false (sym ends)
   return_stops Continue is js s t x ends e = true≢false (sym ends)
 
-plain_takes : (a : Act) → act_is_plain a ≡ true → act_takes a ≡ false
+pub plain_takes : (a : Act) → act_is_plain a ≡ true → act_takes a ≡ false
 plain_takes (SetPtr to from) e = refl
 plain_takes (SetData to from) e = absurd (true≢false (sym e))
 plain_takes (Free p) e = refl
@@ -157,7 +157,7 @@ plain_takes (Return operand) e = refl
 plain_takes Break e = refl
 plain_takes Continue e = refl
 
-return_takes : (a : Act) → act_is_return a ≡ true → act_takes a ≡ false
+pub return_takes : (a : Act) → act_is_return a ≡ true → act_takes a ≡ false
 return_takes (SetPtr to from) e = refl
 return_takes (SetData to from) e = absurd (true≢false (sym e))
 return_takes (Free p) e = refl
