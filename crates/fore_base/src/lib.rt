@@ -1,4 +1,5 @@
-// What every other crate stands on: lists and texts, places, values and stores, structs and faults.
+// What every other crate stands on: lists and texts, places, values and stores, structs and faults, and the outside:
+// files to be read and sinks to be written to, in memory and real.
 #![tactic(auto)]
 
 pub mod crossing;
@@ -7,5 +8,7 @@ pub mod list;
 pub mod memory;
 pub mod place;
 pub mod shape;
+pub mod shelf;
+pub mod sink;
 pub mod store;
 pub mod text;
