@@ -1,1 +1,2 @@
+pub mod MemShelfLemmas
 pub mod OutsideLemmas

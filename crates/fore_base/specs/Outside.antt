@@ -15,3 +15,7 @@ pub record GrewByPrefix (old new : Option (List ℕ)) (bytes : List ℕ) : Type 
   pub count : ℕ
   pub within : count ≤ length bytes
   pub grew : Grew old new (take count bytes)
+
+-- contents that are not told
+abbrev pub untold : Option (List ℕ)
+untold = None

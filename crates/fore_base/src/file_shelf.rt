@@ -1,0 +1,83 @@
+ghost use Rattle.std.specs.Prelude.{◌≡◌, ◌≢◌, ◌≤◌, ◌<◌, length, IfOk, IfSome, IsErrOf};
+ghost use Rattle.fore_base.specs.Outside.{Rose, untold};
+ghost use Rattle.fore_base.specs.declared.shelf.ShelfFault.TheVariants as ShelfFault;
+
+use crate::list::List;
+use crate::shelf::{Shelf, ShelfFault};
+use std::alloc::Global;
+use std::io::Read;
+use std::rt::Files;
+use std::{fs, io};
+
+/// A shelf that reads real files. It does not tell what they hold, and keeps one count of faults for all paths.
+#[derive(Drop)]
+pub struct FileShelf<'r, R: Files> {
+    files: &'r R,
+    faults: u64,
+}
+
+impl<'r, R: Files> FileShelf<'r, R> {
+    /// A shelf over a handle for files, which it keeps.
+    pub fn new(files: &'r R) -> FileShelf<'r, R>
+        ensures { result.faults ≡ 0 }
+    {
+        FileShelf { files, faults: 0 }
+    }
+
+    /// How often a call failed; the greatest number stays.
+    pub fn faults(&self) -> u64
+        ensures { result ≡ self.now.faults }
+    {
+        self.faults
+    }
+}
+
+impl<'r, R: Files> Shelf for FileShelf<'r, R> {
+    ghost holds = { λ _ _. untold };
+
+    ghost faults = { λ shelf _. shelf.faults };
+
+    /// A file that cannot be opened or read is a fault. At most `limit + 1` bytes are read.
+    fn read_all(&mut self, alloc: Global, path: &str, limit: usize) -> Result<List<u8>, ShelfFault> {
+        let answer = read_path(self.files, alloc, path, limit);
+        if let Err(ShelfFault::Failed) = answer {
+            self.faults = self.faults.saturating_add(1);
+        }
+        answer
+    }
+}
+
+fn read_path<R: Files>(files: &R, alloc: Global, path: &str, limit: usize) -> Result<List<u8>, ShelfFault>
+    ensures { IfOk result (λ bytes. length bytes ≤ limit) }
+{
+    match fs::open(files, path) {
+        Ok(file) => read_within(file, alloc, limit),
+        Err(error) => Err(fault_of(&error)),
+    }
+}
+
+// What a reader has left, where that is no more than the limit. One byte more is read at most.
+fn read_within<R: Read + Drop>(reader: R, alloc: Global, limit: usize) -> Result<List<u8>, ShelfFault>
+    ensures within { IfOk result (λ bytes. length bytes ≤ limit) }
+    ensures whole { IfOk result (λ bytes. IfSome (R.remaining reader) (λ left. bytes ≡ left)) }
+    ensures long { IsErrOf result ShelfFault.TooLong → IfSome (R.remaining reader) (λ left. limit < length left) }
+{
+    let mut bytes = Vec::new(alloc);
+    let mut front = reader.take((limit as u64).saturating_add(1));
+    match front.read_to_end(&mut bytes) {
+        Ok(count) if count <= limit => Ok(List::from_vec(bytes)),
+        Ok(_) => Err(ShelfFault::TooLong),
+        Err(error) => Err(fault_of(&error)),
+    }
+}
+
+// Want of memory is no fault of the file.
+fn fault_of(error: &io::Error) -> ShelfFault
+    ensures { result ≢ ShelfFault.TooLong }
+{
+    if error.kind() == io::ErrorKind::OutOfMemory {
+        ShelfFault::Memory
+    } else {
+        ShelfFault::Failed
+    }
+}
