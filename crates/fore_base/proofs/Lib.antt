@@ -1,2 +1,3 @@
 pub mod MemShelfLemmas
 pub mod OutsideLemmas
+pub mod ReadLemmas

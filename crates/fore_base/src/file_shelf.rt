@@ -1,5 +1,6 @@
-ghost use Rattle.std.specs.Prelude.{◌≡◌, ◌≢◌, ◌≤◌, ◌<◌, length, IfOk, IfSome, IsErrOf};
+ghost use Rattle.std.specs.Prelude.{◌≡◌, ◌≢◌, ◌≤◌, ◌<◌, ℕ, List, length, IfOk, IfSome, OnOk, IsErrOf};
 ghost use Rattle.fore_base.specs.Outside.{Rose, untold};
+ghost use Rattle.fore_base.specs.Counts.{one_more};
 ghost use Rattle.fore_base.specs.declared.shelf.ShelfFault.TheVariants as ShelfFault;
 
 use crate::list::List;
@@ -38,7 +39,16 @@ impl<'r, R: Files> Shelf for FileShelf<'r, R> {
     ghost faults = { λ shelf _. shelf.faults };
 
     /// A file that cannot be opened or read is a fault. At most `limit + 1` bytes are read.
-    fn read_all(&mut self, alloc: Global, path: &str, limit: usize) -> Result<List<u8>, ShelfFault> {
+    fn read_all(&mut self, alloc: Global, path: &str, limit: usize) -> Result<List<u8>, ShelfFault>
+        ensures keeps { List ℕ → untold ≡ untold }
+        ensures never_falls { List ℕ → self.old.faults ≤ self.new.faults }
+        ensures within { IfOk result (λ bytes. length bytes ≤ limit) }
+        ensures content { IfOk result (λ bytes. IfSome untold (λ held. bytes ≡ held)) }
+        ensures long { IsErrOf result ShelfFault.TooLong → IfSome untold (λ held. limit < length held) }
+        ensures failed { IsErrOf result ShelfFault.Failed → Rose self.old.faults self.new.faults }
+        ensures counted { IsErrOf result ShelfFault.Failed → self.new.faults ≡ one_more self.old.faults }
+        ensures uncounted { OnOk result (self.new.faults ≡ self.old.faults) }
+    {
         let answer = read_path(self.files, alloc, path, limit);
         if let Err(ShelfFault::Failed) = answer {
             self.faults = self.faults.saturating_add(1);

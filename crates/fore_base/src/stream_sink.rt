@@ -1,5 +1,6 @@
-ghost use Rattle.std.specs.Prelude.{◌≡◌, ◌≤◌, ◌<◌, length, take, IfOk, OnErr, IfSome, IfNone};
+ghost use Rattle.std.specs.Prelude.{◌≡◌, ◌≤◌, ◌<◌, length, take, IfOk, OnOk, OnErr, IfSome, IfNone};
 ghost use Rattle.std.specs.Io.KnownBytes.{Appends, Keeps};
+ghost use Rattle.fore_base.specs.Counts.{one_more};
 ghost use Rattle.fore_base.specs.Outside.{Rose, Grew, untold};
 
 use crate::sink::{Sink, SinkFault};
@@ -44,7 +45,8 @@ impl<W: io::Write + Drop> Sink for StreamSink<W> {
         ensures failed { OnErr result (Rose self.old.faults self.new.faults) }
         ensures written { IfOk result (λ count. Appends (W.contents self.old.to) (W.contents self.new.to) (take count bytes.now)) }
         ensures untouched { OnErr result (Keeps (W.contents self.old.to) (W.contents self.new.to)) }
-        ensures counted { IfOk result (λ count. self.new.faults ≡ self.old.faults) }
+        ensures counted { OnErr result (self.new.faults ≡ one_more self.old.faults) }
+        ensures uncounted { OnOk result (self.new.faults ≡ self.old.faults) }
     {
         match write_once(&mut self.to, bytes) {
             Some(count) if count > 0 || bytes.is_empty() => Ok(count),
