@@ -7,9 +7,9 @@ use Rattle.fore_base.specs.declared.mem_shelf.NamedFile.{NamedFile}
 
 pub record ShelfState : Type 0 where
   pub files : List NamedFile
-  pub fails : List ℕ    -- the numbers of the calls that are to fail
-  pub calls : ℕ         -- how often it was called
-  pub faults : ℕ        -- how often a call failed
+  pub fails : List ℕ  -- the numbers of the calls that are to fail
+  pub calls : ℕ  -- how often it was called
+  pub faults : ℕ  -- how often a call failed
 
 -- a shelf as it is made
 abbrev pub new_shelf : ShelfState

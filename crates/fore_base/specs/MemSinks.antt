@@ -3,12 +3,12 @@ use Rattle.std.specs.Prelude.{◌⊎◌, ◌<◌, ◌≤◌, ◌-◌, ℕ, List,
 use Rattle.fore_base.specs.Counts.{one_more, is_listed}
 
 pub record SinkState : Type 0 where
-  pub held : List ℕ     -- the bytes that it took
-  pub room : ℕ          -- how many bytes it can hold
-  pub most : ℕ          -- how many bytes it takes in one call at most
-  pub fails : List ℕ    -- the numbers of the calls that are to fail
-  pub calls : ℕ         -- how often it was called
-  pub faults : ℕ        -- how often a call failed
+  pub held : List ℕ  -- the bytes that it took
+  pub room : ℕ  -- how many bytes it can hold
+  pub most : ℕ  -- how many bytes it takes in one call at most
+  pub fails : List ℕ  -- the numbers of the calls that are to fail
+  pub calls : ℕ  -- how often it was called
+  pub faults : ℕ  -- how often a call failed
 
 -- a sink as it is made
 abbrev pub new_sink : ℕ → ℕ → SinkState

@@ -57,7 +57,12 @@ impl<'r, R: Files> Shelf for FileShelf<'r, R> {
     }
 }
 
-fn read_path<R: Files>(files: &R, alloc: Global, path: &str, limit: usize) -> Result<List<u8>, ShelfFault>
+fn read_path<R: Files>(
+    files: &R,
+    alloc: Global,
+    path: &str,
+    limit: usize,
+) -> Result<List<u8>, ShelfFault>
     ensures { IfOk result (λ bytes. length bytes ≤ limit) }
 {
     match fs::open(files, path) {
@@ -67,7 +72,11 @@ fn read_path<R: Files>(files: &R, alloc: Global, path: &str, limit: usize) -> Re
 }
 
 // What a reader has left, where that is no more than the limit. One byte more is read at most.
-fn read_within<R: Read + Drop>(reader: R, alloc: Global, limit: usize) -> Result<List<u8>, ShelfFault>
+fn read_within<R: Read + Drop>(
+    reader: R,
+    alloc: Global,
+    limit: usize,
+) -> Result<List<u8>, ShelfFault>
     ensures within { IfOk result (λ bytes. length bytes ≤ limit) }
     ensures whole { IfOk result (λ bytes. IfSome (R.remaining reader) (λ left. bytes ≡ left)) }
     ensures long { IsErrOf result ShelfFault.TooLong → IfSome (R.remaining reader) (λ left. limit < length left) }
@@ -89,5 +98,50 @@ fn fault_of(error: &io::Error) -> ShelfFault
         ShelfFault::Memory
     } else {
         ShelfFault::Failed
+    }
+}
+
+#[cfg(test)]
+mod tests {
+    use super::*;
+    use std::test::Fail;
+
+    fn read<'a>(answer: &'a Result<List<u8>, ShelfFault>) -> Result<&'a [u8], ShelfFault> {
+        match answer {
+            Ok(bytes) => Ok(bytes.as_slice()),
+            Err(fault) => Err(*fault),
+        }
+    }
+
+    #[test]
+    fn real_files_are_read_whole_or_refused(rt: HostRuntime) -> Result<(), Fail> {
+        fs::write(&rt, "shelf_eight.c", "int x=1;")?;
+        fs::write(&rt, "shelf_empty.c", "")?;
+        fs::create_dir(&rt, "shelf_folder")?;
+        let mut shelf = FileShelf::new(&rt);
+        // path, limit, answer, count of faults afterwards
+        let calls: [(&str, usize, Result<&[u8], ShelfFault>, u64); 7] = [
+            // eight bytes are within a limit of eight, and of more
+            ("shelf_eight.c", 8, Ok(b"int x=1;"), 0),
+            ("shelf_eight.c", 1048576, Ok(b"int x=1;"), 0),
+            // and one too many for seven
+            ("shelf_eight.c", 7, Err(ShelfFault::TooLong), 0),
+            // it is not there
+            ("shelf_missing.c", 8, Err(ShelfFault::Failed), 1),
+            // a directory has no bytes to be read
+            ("shelf_folder", 8, Err(ShelfFault::Failed), 2),
+            // an empty file is within a limit of nothing, and one with bytes is not
+            ("shelf_empty.c", 0, Ok(b""), 2),
+            ("shelf_eight.c", 0, Err(ShelfFault::TooLong), 2),
+        ];
+        for (path, limit, wanted, faults) in calls {
+            let answer = shelf.read_all(rt.alloc(), path, limit);
+            assert_eq!(rt; read(&answer), wanted, "{path} within {limit}");
+            assert_eq!(rt; shelf.faults(), faults, "{path} within {limit}");
+        }
+        fs::remove_file(&rt, "shelf_eight.c")?;
+        fs::remove_file(&rt, "shelf_empty.c")?;
+        fs::remove_dir(&rt, "shelf_folder")?;
+        Ok(())
     }
 }

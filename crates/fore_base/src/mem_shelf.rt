@@ -107,7 +107,11 @@ impl Shelf for MemShelf {
         ensures after { self.new ≡ record self.old { calls = one_more self.old.calls; faults = (if is_none (found self.old path.now) then one_more self.old.faults else self.old.faults) } }
     {
         self.calls = self.calls.saturating_add(1);
-        match find_bytes(&self.files, path.as_bytes(), is_listed(&self.fails, self.calls)) {
+        match find_bytes(
+            &self.files,
+            path.as_bytes(),
+            is_listed(&self.fails, self.calls),
+        ) {
             None => {
                 self.faults = self.faults.saturating_add(1);
                 Err(ShelfFault::Failed)
@@ -168,4 +172,52 @@ fn copy_within(alloc: Global, held: &[u8], limit: usize) -> Result<List<u8>, She
     }
     let bytes = Vec::from_slice(alloc, held)?;
     Ok(List::from_vec(bytes))
+}
+
+#[cfg(test)]
+mod tests {
+    use super::*;
+    use std::test::Fail;
+
+    fn read<'a>(answer: &'a Result<List<u8>, ShelfFault>) -> Result<&'a [u8], ShelfFault> {
+        match answer {
+            Ok(bytes) => Ok(bytes.as_slice()),
+            Err(fault) => Err(*fault),
+        }
+    }
+
+    #[test]
+    fn calls_read_what_is_held_and_fail_where_they_are_to(rt: HostRuntime) -> Result<(), Fail> {
+        let alloc = rt.alloc();
+        let mut shelf = MemShelf::new(alloc);
+        shelf.add("a.c", b"int")?;
+        shelf.add("empty.c", b"")?;
+        shelf.add("a.c", b"void")?;
+        shelf.fail(3)?;
+        shelf.fail(5)?;
+        // path, limit, answer, count of faults afterwards; a row is a call, the first being 1
+        let calls: [(&str, usize, Result<&[u8], ShelfFault>, u64); 8] = [
+            // the later bytes stand in place of the earlier; four bytes are within a limit of four
+            ("a.c", 4, Ok(b"void"), 0),
+            // and not within three
+            ("a.c", 3, Err(ShelfFault::TooLong), 0),
+            // this call is to fail, though the file is there
+            ("a.c", 4, Err(ShelfFault::Failed), 1),
+            // the next one is not
+            ("a.c", 9, Ok(b"void"), 1),
+            // a call that is to fail, for a file that is too long
+            ("a.c", 0, Err(ShelfFault::Failed), 2),
+            // no file has this path: another letter, or a part of a path
+            ("b.c", 4, Err(ShelfFault::Failed), 3),
+            ("a", 4, Err(ShelfFault::Failed), 4),
+            // an empty file is within a limit of nothing
+            ("empty.c", 0, Ok(b""), 4),
+        ];
+        for (path, limit, wanted, faults) in calls {
+            let answer = shelf.read_all(alloc, path, limit);
+            assert_eq!(rt; read(&answer), wanted, "{path} within {limit}");
+            assert_eq!(rt; shelf.faults(), faults, "{path} within {limit}");
+        }
+        Ok(())
+    }
 }

@@ -110,3 +110,56 @@ fn is_stuck(count: usize, bytes: &[u8]) -> bool
 {
     count == 0 && !bytes.is_empty()
 }
+
+#[cfg(test)]
+mod tests {
+    use super::*;
+    use crate::sink::put_all;
+    use std::test::Fail;
+
+    #[test]
+    fn put_all_goes_on_until_the_room_is_full_or_a_call_fails(rt: HostRuntime) -> Result<(), Fail> {
+        // room, most bytes in a call, the call that is to fail, piece, whether all was put, bytes held, count of faults
+        let rows: [(usize, usize, u64, &str, bool, &str, u64); 13] = [
+            // five calls of one byte; calls of 2, 2, 1; of 3, 2; of 4, 1; and one call
+            (8, 1, 9, "hello", true, "hello", 0),
+            (8, 2, 9, "hello", true, "hello", 0),
+            (8, 3, 9, "hello", true, "hello", 0),
+            (8, 4, 9, "hello", true, "hello", 0),
+            (8, 8, 9, "hello", true, "hello", 0),
+            // the room is just enough, or one byte short
+            (5, 2, 9, "hello", true, "hello", 0),
+            (4, 3, 9, "hello", false, "hell", 1),
+            // no room takes an empty piece, for which no call is made, and no other
+            (0, 1, 1, "", true, "", 0),
+            (0, 1, 9, "h", false, "", 1),
+            // the first, second and third call fails, of three that are needed; a fourth is not made
+            (8, 2, 1, "hello", false, "", 1),
+            (8, 2, 2, "hello", false, "he", 1),
+            (8, 2, 3, "hello", false, "hell", 1),
+            (8, 2, 4, "hello", true, "hello", 0),
+        ];
+        for (room, most, call, piece, all, held, faults) in rows {
+            assert!(rt; 0 < most);
+            let mut sink = MemSink::new(rt.alloc(), room, most)?;
+            sink.fail(call)?;
+            let answer = put_all(&mut sink, piece.as_bytes());
+            assert_eq!(rt;
+                answer.is_ok(),
+                all,
+                "room {room}, most {most}, call {call}"
+            );
+            assert_eq!(rt;
+                sink.bytes(),
+                held.as_bytes(),
+                "room {room}, most {most}, call {call}"
+            );
+            assert_eq!(rt;
+                sink.faults(),
+                faults,
+                "room {room}, most {most}, call {call}"
+            );
+        }
+        Ok(())
+    }
+}

@@ -73,3 +73,61 @@ fn write_once<W: io::Write>(to: &mut W, bytes: &[u8]) -> Option<usize>
     }
     None
 }
+
+#[cfg(test)]
+mod tests {
+    use super::*;
+    use crate::sink::put_all;
+    use std::test::Fail;
+
+    // A stream that takes two bytes in a call and five in all; then a call fails, or takes nothing.
+    #[derive(Drop)]
+    struct Reluctant {
+        taken: Vec<u8>,
+        fails: bool,
+    }
+
+    impl io::Write for Reluctant {
+        fn write(&mut self, bytes: &[u8]) -> io::Result<usize> {
+            let count = 5usize
+                .saturating_sub(self.taken.len())
+                .min(2)
+                .min(bytes.len());
+            if count == 0 && self.fails {
+                return Err(io::Error::from(io::ErrorKind::BrokenPipe));
+            }
+            self.taken.extend_from_slice(&bytes[..count])?;
+            Ok(count)
+        }
+
+        fn flush(&mut self) -> io::Result<()> {
+            Ok(())
+        }
+    }
+
+    #[test]
+    fn a_stream_that_fails_or_takes_nothing_is_a_fault(rt: HostRuntime) -> Result<(), Fail> {
+        for fails in [true, false] {
+            let taken = Vec::new(rt.alloc());
+            let mut sink = StreamSink::new(Reluctant { taken, fails });
+            // piece, whether all was put, what the stream then has taken, count of faults
+            let rows: [(&str, bool, &str, u64); 4] = [
+                // two bytes and one
+                ("abc", true, "abc", 0),
+                // two bytes, and then none
+                ("defg", false, "abcde", 1),
+                // nothing is asked of the stream
+                ("", true, "abcde", 1),
+                // again none
+                ("h", false, "abcde", 2),
+            ];
+            for (piece, all, taken, faults) in rows {
+                let answer = put_all(&mut sink, piece.as_bytes());
+                assert_eq!(rt; answer.is_ok(), all, "{piece}");
+                assert_eq!(rt; sink.to.taken.as_slice(), taken.as_bytes(), "{piece}");
+                assert_eq!(rt; sink.faults(), faults, "{piece}");
+            }
+        }
+        Ok(())
+    }
+}
