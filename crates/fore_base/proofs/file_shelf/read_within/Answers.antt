@@ -1,4 +1,4 @@
-use Rattle.std.proofs.Common.{arith, length, ◌<◌, ◌≤◌, ◌^◌}
+use Rattle.std.proofs.Common.{arith, length, ◌<◌, ◌^◌}
 use Rattle.fore_base.proofs.ReadLemmas.{all_given}
 use Rattle.fore_base.proofs.file_shelf.read_within.Goals as goal
 
