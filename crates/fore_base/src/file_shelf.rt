@@ -144,4 +144,29 @@ mod tests {
         fs::remove_dir(&rt, "shelf_folder")?;
         Ok(())
     }
+
+    // A reader without end, which gives three bytes in a call at most and counts them.
+    #[derive(Drop)]
+    struct Endless {
+        given: usize,
+    }
+
+    impl Read for Endless {
+        fn read(&mut self, into: &mut [u8]) -> io::Result<usize> {
+            let count = into.len().min(3);
+            self.given = self.given.saturating_add(count);
+            Ok(count)
+        }
+    }
+
+    #[test]
+    fn one_byte_above_the_limit_is_taken_and_no_more(rt: HostRuntime) {
+        // a limit, and how many bytes show that it is passed
+        for (limit, taken) in [(0, 1), (1, 2), (5, 6), (1000, 1001)] {
+            let mut endless = Endless { given: 0 };
+            let answer = read_within(&mut endless, rt.alloc(), limit);
+            assert_eq!(rt; read(&answer), Err(ShelfFault::TooLong), "limit {limit}");
+            assert_eq!(rt; endless.given, taken, "limit {limit}");
+        }
+    }
 }
