@@ -1,1 +1,4 @@
 pub mod Leaks
+pub mod MemShelfLemmas
+pub mod OutsideLemmas
+pub mod ReadLemmas

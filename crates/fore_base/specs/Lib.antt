@@ -1,6 +1,10 @@
+pub mod Counts
 pub mod Faults
 pub mod formers
 pub mod Heap
 pub mod Lends
 pub mod Lists
 pub mod Stores
+pub mod MemShelves
+pub mod MemSinks
+pub mod Outside
