@@ -1,0 +1,6 @@
+pub mod Bytes
+pub mod Lexemes
+pub mod Places
+pub mod Skips
+pub mod Steps
+pub mod Tokens
