@@ -1,0 +1,7 @@
+pub mod Classes
+pub mod Closings
+pub mod Includes
+pub mod PlaceLemmas
+pub mod Runs
+pub mod Signs
+pub mod Sound
