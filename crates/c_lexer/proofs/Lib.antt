@@ -5,3 +5,4 @@ pub mod PlaceLemmas
 pub mod Runs
 pub mod Signs
 pub mod Sound
+pub mod Unique

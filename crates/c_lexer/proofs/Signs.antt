@@ -34,7 +34,7 @@ long_from_test a b h = by_tests (eqb a 45) (eqb a 61) (eqb a 33) (eqb a 38) (eqb
 pub long_second : (a : ℕ) → is_long_mark a 0 ≡ true → ⊥
 long_second a h = every_in (λ (p : List ℕ). get_or p 1 0 ≡ 0 → ⊥) long_marks (λ e. cc, (λ e. cc, (λ e. cc, (λ e. cc, (λ e. cc, tt))))) (a ∷ (0 ∷ [])) (long_from_test a 0 h) refl
 
-one_not_long : (a : ℕ) → IsIn (a ∷ []) long_marks → ⊥
+pub one_not_long : (a : ℕ) → IsIn (a ∷ []) long_marks → ⊥
 one_not_long a i = every_in (λ (p : List ℕ). length p ≡ 1 → ⊥) long_marks (λ e. cc, (λ e. cc, (λ e. cc, (λ e. cc, (λ e. cc, tt))))) (a ∷ []) i refl
 
 three_not_long : (a b c : ℕ) (cs : List ℕ) → IsIn (a ∷ (b ∷ (c ∷ cs))) long_marks → ⊥

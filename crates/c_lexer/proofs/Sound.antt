@@ -161,7 +161,7 @@ stands_from_test b x bs positive t = by_rest bs (and_parts (eqb b 47) (eqb (get_
     by_rest [] p = absurd (positive (eqb-true 0 x p.1))
     by_rest (c ∷ cs) p = (sym (eqb-true b 47 p.0), (sym (eqb-true c x p.1), tt))
 
-test_from_stands : (b x : ℕ) (bs : List ℕ) → Stands (47 ∷ (x ∷ [])) (b ∷ bs) → (eqb b 47 && eqb (get_or bs 0 0) x) ≡ true
+pub test_from_stands : (b x : ℕ) (bs : List ℕ) → Stands (47 ∷ (x ∷ [])) (b ∷ bs) → (eqb b 47 && eqb (get_or bs 0 0) x) ≡ true
 test_from_stands b x [] h = absurd h.1
 test_from_stands b x (c ∷ cs) h = and_from (eqb b 47) (eqb c x) (eq-eqb b 47 (sym h.0)) (eq-eqb c x (sym h.1.0))
 

@@ -2,8 +2,16 @@
 #![tactic(auto)]
 
 pub mod bytes;
+pub mod crossing;
 pub mod fault;
+pub mod laws;
 pub mod place;
+pub mod reader;
 pub mod scan;
 pub mod step;
 pub mod token;
+
+pub use fault::LexFault;
+pub use place::end_place;
+pub use reader::tokens;
+pub use token::{TokKind, Token};

@@ -1,5 +1,6 @@
 // What stands at a place of a text.
 ghost use Rattle.std.specs.Prelude.{◌≡◌, ◌<◌, false, drop, length, slice_index};
+ghost use Rattle.c_lexer.specs.Found.{IsFound};
 ghost use Rattle.c_lexer.specs.Steps.{quote_step, comment_step, mark_step, sign_step, sharp_step, step_of, quote_end, comment_end};
 
 use crate::bytes::{Class, byte_at, class_of};
@@ -83,8 +84,7 @@ fn at_quote(rest: &[u8]) -> Step
     }
 }
 
-/// What stands at the front of a text that is not empty; `fresh` says that nothing but spaces and tabs stands before it on its line.
-pub fn next_step(rest: &[u8], fresh: bool) -> Step
+fn by_class(rest: &[u8], fresh: bool) -> Step
     requires { 0 < length rest.now }
     ensures { result ≡ step_of fresh rest.now }
 {
@@ -96,4 +96,12 @@ pub fn next_step(rest: &[u8], fresh: bool) -> Step
         Class::Sharp => at_sharp(rest, fresh),
         Class::Sign => at_sign(rest),
     }
+}
+
+/// What stands at the front of a text that is not empty; `fresh` says that nothing but spaces and tabs stands before it on its line.
+pub fn next_step(rest: &[u8], fresh: bool) -> Step
+    requires { 0 < length rest.now }
+    ensures { IsFound fresh rest.now result }
+{
+    by_class(rest, fresh)
 }
