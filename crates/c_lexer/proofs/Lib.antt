@@ -2,6 +2,7 @@ pub mod Classes
 pub mod Closings
 pub mod Includes
 pub mod PlaceLemmas
+pub mod ReadingLemmas
 pub mod Runs
 pub mod Signs
 pub mod Sound
