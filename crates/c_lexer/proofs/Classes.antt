@@ -28,8 +28,8 @@ pub in_from_any : (bytes : List ℕ) (b : ℕ) → list_any (λ x. eqb x b) byte
 in_from_any [] b h = absurd (false≢true h)
 in_from_any (y ∷ ys) b h =
     let split : (v : Bool) → eqb y b ≡ v → (v || list_any (λ x. eqb x b) ys) ≡ true → IsIn b (y ∷ ys) =
-        λ v. elim v as (λ v. eqb y b ≡ v → (v || list_any (λ x. eqb x b) ys) ≡ true → IsIn b (y ∷ ys))
-          [ true ↦ (λ e k. inl (sym (eqb-true y b e))) | false ↦ (λ e k. inr (in_from_any ys b k)) ] in
+    λ v. elim v as (λ v. eqb y b ≡ v → (v || list_any (λ x. eqb x b) ys) ≡ true → IsIn b (y ∷ ys))
+    [ true ↦ (λ e k. inl (sym (eqb-true y b e))) | false ↦ (λ e k. inr (in_from_any ys b k)) ] in
     split (eqb y b) refl h
 
 letter_no_space : (b : ℕ) → is_letter b ≡ true → is_space b ≡ false
@@ -115,7 +115,7 @@ refused_class : (b : ℕ) → IsIn b refused_marks → class_of b ≡ Sign
 unfolding is_space is_letter is_digit is_quote
 refused_class b i =
     every_in (λ q. class_of q ≡ Sign) refused_marks
-      (refl, (refl, (refl, (refl, (refl, (refl, (refl, (refl, (refl, (refl, (refl, (refl, (refl, (refl, (refl, tt))))))))))))))) b i
+    (refl, (refl, (refl, (refl, (refl, (refl, (refl, (refl, (refl, (refl, (refl, (refl, (refl, (refl, (refl, tt))))))))))))))) b i
 
 pub lexeme_class : (kind : TokKind) (b : ℕ) (bs : List ℕ) → IsLexeme kind (b ∷ bs) → class_of b ≡ class_for kind
 unfolding first_of

@@ -48,9 +48,10 @@ closing [] i = nowhere
 closing (b ∷ bs) i =
     let ih = closing bs (i + 1) in
     let split : (v : Bool) → (eqb b 42 && eqb (get_or bs 0 0) 47) ≡ v → ClosingIs (b ∷ bs) i (cond v (Some (i + 2)) (comment_end (i + 1) bs)) =
-        λ v. elim v as (λ v. (eqb b 42 && eqb (get_or bs 0 0) 47) ≡ v → ClosingIs (b ∷ bs) i (cond v (Some (i + 2)) (comment_end (i + 1) bs)))
-          [ true ↦ (λ e. (0, ((close_from_test b bs e).0, λ j less. absurd (omega arith)), omega arith, omega (arith, (close_from_test b bs e).1)))
-          | false ↦ (λ e. closing_more b bs i (comment_end (i + 1) bs) (λ h. false≢true (sym e ∙ test_from_close b bs h)) ih) ] in
+    λ v. elim v as (λ v. (eqb b 42 && eqb (get_or bs 0 0) 47) ≡ v → ClosingIs (b ∷ bs) i (cond v (Some (i + 2)) (comment_end (i + 1) bs))) [
+      | true ↦ (λ e. (0, ((close_from_test b bs e).0, λ j less. absurd (omega arith)), omega arith, omega (arith, (close_from_test b bs e).1)))
+      | false ↦ (λ e. closing_more b bs i (comment_end (i + 1) bs) (λ h. false≢true (sym e ∙ test_from_close b bs h)) ih)
+    ] in
     split _ refl
 
 -- a comment has one first end

@@ -47,8 +47,9 @@ same_from (x ∷ xs) (y ∷ ys) h =
 pub include_from : (line : List ℕ) → is_include line ≡ true → IsIn (filter is_solid line) skipped_includes
 include_from line h =
     elim (or_cases _ _ h) [
-      inl p ↦ elim (or_cases _ _ p) [ inl e ↦ inl (same_from (filter is_solid line) (codes "#include<stdlib.h>") e) | inr e ↦ inr (inl (same_from (filter is_solid line) (codes "#include<assert.h>") e)) ]
-    | inr p ↦ elim (or_cases _ _ p) [ inl e ↦ inr (inr (inl (same_from (filter is_solid line) (codes "#include<stddef.h>") e))) | inr e ↦ inr (inr (inr (inl (same_from (filter is_solid line) (codes "#include<stdbool.h>") e)))) ] ]
+      | inl p ↦ elim (or_cases _ _ p) [ inl e ↦ inl (same_from (filter is_solid line) (codes "#include<stdlib.h>") e) | inr e ↦ inr (inl (same_from (filter is_solid line) (codes "#include<assert.h>") e)) ]
+      | inr p ↦ elim (or_cases _ _ p) [ inl e ↦ inr (inr (inl (same_from (filter is_solid line) (codes "#include<stddef.h>") e))) | inr e ↦ inr (inr (inr (inl (same_from (filter is_solid line) (codes "#include<stdbool.h>") e)))) ]
+    ]
 
 abbrev is_one : List ℕ → Bool
 is_one solid = (are_same solid (codes "#include<stdlib.h>") || are_same solid (codes "#include<assert.h>"))

@@ -37,10 +37,10 @@ cursor_push : (front : List ℕ) (b : ℕ) (newline : Bool) → is_newline b ≡
 cursor_push front b true h =
     let n = newline_no_gap b h in
     rw (suffix_push is_no_newline front b, suffix_push is_gap front b, count_push is_newline front b, h, n.0, n.1)
-      (cursor_is _ _ _ _ _ _ _ _ (length-append front (b ∷ [])) (omega arith) (omega arith) refl)
+    (cursor_is _ _ _ _ _ _ _ _ (length-append front (b ∷ [])) (omega arith) (omega arith) refl)
 cursor_push front b false h =
     rw (suffix_push is_no_newline front b, suffix_push is_gap front b, count_push is_newline front b, h, no_newline b h)
-      (cursor_is _ _ _ _ _ _ _ _ (length-append front (b ∷ [])) (omega arith) (omega arith) (fresh_push _ _ _))
+    (cursor_is _ _ _ _ _ _ _ _ (length-append front (b ∷ [])) (omega arith) (omega arith) (fresh_push _ _ _))
 
 -- the cursor behind one more byte of a text
 pub cursor_more : (xs : List ℕ) (i : ℕ) → i < length xs → cursor_after (take (i + 1) xs) ≡ moved (cursor_after (take i xs)) (get_or xs i 0)

@@ -30,9 +30,11 @@ module _ (text : List ℕ) (at : ℕ) (cursor : Cursor) (here : cursor ≡ curso
 
   pub leads_take : (found more : List Token) (kind : TokKind) (n : ℕ) → IsFound cursor.fresh (take (length text - at) (drop at text)) (Take kind n) →
       more ≡ found ++ record { kind = kind; text = take (at + n - at) (drop at text); at = cursor.place } ∷ [] → Leads text at found (at + n) more
-  leads_take found more kind n h added = λ ts e r.
-      (token ∷ ts, next (found_here (Take kind n) h).0 (ap (λ m. take m (drop at text)) (omega arith)) (ap (λ (c : Cursor). c.place) here) r,
-        sym (append_assoc found (token ∷ []) ts) ∙ ap (λ x. x ++ ts) (sym added))
+  leads_take found more kind n h added = λ ts e r. (
+    token ∷ ts,
+    next (found_here (Take kind n) h).0 (ap (λ m. take m (drop at text)) (omega arith)) (ap (λ (c : Cursor). c.place) here) r,
+    sym (append_assoc found (token ∷ []) ts) ∙ ap (λ x. x ++ ts) (sym added),
+  )
     where
       token : Token
       token = record { kind = kind; text = take (at + n - at) (drop at text); at = cursor.place }

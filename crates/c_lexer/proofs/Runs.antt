@@ -14,8 +14,8 @@ front_passes p [] = tt
 front_passes p (x ∷ xs) =
     let ih = front_passes p xs in
     let split : (v : Bool) → p x ≡ v → Passes p (take (cond v (1 + prefix_len p xs) 0) (x ∷ xs)) =
-        λ v. elim v as (λ v. p x ≡ v → Passes p (take (cond v (1 + prefix_len p xs) 0) (x ∷ xs)))
-          [ true ↦ (λ e. rw one-add (e, ih)) | false ↦ (λ e. tt) ] in
+    λ v. elim v as (λ v. p x ≡ v → Passes p (take (cond v (1 + prefix_len p xs) 0) (x ∷ xs)))
+    [ true ↦ (λ e. rw one-add (e, ih)) | false ↦ (λ e. tt) ] in
     split (p x) refl
 
 -- and no longer front does

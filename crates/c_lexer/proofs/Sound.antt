@@ -82,8 +82,10 @@ run_found fresh kind later b bs e other forth back =
     longer : (m : ℕ) (k : TokKind) → suc (prefix_len later bs) < m → m ≤ length (b ∷ bs) → IsLexeme k (take m (b ∷ bs)) → ⊥
     longer zero k less within h = absurd (omega arith)
     longer (suc m) k less within h = longer_fails later bs m (omega arith) (omega arith) (back k (take m bs) h)
+
     short : suc (prefix_len later bs) ≤ length (b ∷ bs)
     short = omega (arith, prefix_len-le-length later bs)
+
     found : IsFound fresh (b ∷ bs) (Take kind (suc (prefix_len later bs)))
     found = ((other, short, forth (take (prefix_len later bs) bs) (front_passes later bs), longer), omega arith, short)
 
@@ -98,12 +100,12 @@ digit_in_number c h = or_left (is_letter c || is_digit c) (eqb c 46) (or_right (
 letter_found : (fresh : Bool) (b : ℕ) (bs : List ℕ) → class_of b ≡ Letter → IsFound fresh (b ∷ bs) (Take Word (prefix_len is_word_byte (b ∷ bs)))
 letter_found fresh b bs e =
     run_found fresh Word is_word_byte b bs (letter_in_word b (told b Letter e)) (other_by_class fresh b bs (λ f. cc) (λ f. cc) (λ f. not_sharp b bs (λ g. cc)))
-      (λ xs h. (told b Letter e, h)) (λ k xs h. word_back k b xs e h)
+    (λ xs h. (told b Letter e, h)) (λ k xs h. word_back k b xs e h)
 
 digit_found : (fresh : Bool) (b : ℕ) (bs : List ℕ) → class_of b ≡ Digit → IsFound fresh (b ∷ bs) (Take Number (prefix_len is_number_byte (b ∷ bs)))
 digit_found fresh b bs e =
     run_found fresh Number is_number_byte b bs (digit_in_number b (told b Digit e)) (other_by_class fresh b bs (λ f. cc) (λ f. cc) (λ f. not_sharp b bs (λ g. cc)))
-      (λ xs h. (told b Digit e, h)) (λ k xs h. number_back k b xs e h)
+    (λ xs h. (told b Digit e, h)) (λ k xs h. number_back k b xs e h)
 
 quote_found : (fresh : Bool) (b : ℕ) (bs : List ℕ) → class_of b ≡ Quote → IsFound fresh (b ∷ bs) (quote_step (quote_end b false 1 bs))
 quote_found fresh b bs e =
@@ -112,6 +114,7 @@ quote_found fresh b bs e =
   where
     other : IsOther fresh (b ∷ bs)
     other = other_by_class fresh b bs (λ f. cc) (λ f. cc) (λ f. not_sharp b bs (λ g. cc))
+
     by_end : (o : Option ℕ) → FrontIs (Inside b false) bs 1 o → IsFound fresh (b ∷ bs) (quote_step o)
     by_end None found = (other, λ f. cc, stuck)
       where
@@ -122,11 +125,14 @@ quote_found fresh b bs e =
       where
         size : suc found.0 ≡ n
         size = omega (arith, found.1)
+
         short : suc found.0 ≤ length (b ∷ bs)
         short = omega (arith, found.2)
+
         longer : (m : ℕ) (k : TokKind) → suc found.0 < m → m ≤ length (b ∷ bs) → IsLexeme k (take m (b ∷ bs)) → ⊥
         longer zero k less within h = absurd (omega arith)
         longer (suc m) k less within h = found.4 m (omega arith) (omega arith) (quoted_back k b (take m bs) e h)
+
         next : IsFound fresh (b ∷ bs) (Take Quoted (suc found.0))
         next = ((other, short, (told b Quote e, found.3), longer), omega arith, short)
 
@@ -136,6 +142,7 @@ hash_found fresh b bs e no_include =
   where
     is_hash : IsLexeme Hash (b ∷ [])
     is_hash = ap (λ x. x ∷ []) (told b Sharp e)
+
     longer : (bs : List ℕ) (m : ℕ) (k : TokKind) → 1 < m → m ≤ length (b ∷ bs) → IsLexeme k (take m (b ∷ bs)) → ⊥
     longer bs zero k less within h = absurd (omega arith)
     longer bs (suc zero) k less within h = absurd (omega arith)

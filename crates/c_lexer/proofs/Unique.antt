@@ -49,7 +49,7 @@ kind_of (b ∷ bs) = kind_by (class_of b) (is_marked (b ∷ bs))
 refused_not_marked : (b : ℕ) → IsLexeme Refused (b ∷ []) → list_any (λ x. eqb x b) short_marks ≡ false
 refused_not_marked b i =
     every_in (λ q. list_any (λ x. eqb x q) short_marks ≡ false) refused_marks
-      (refl, (refl, (refl, (refl, (refl, (refl, (refl, (refl, (refl, (refl, (refl, (refl, (refl, (refl, (refl, tt))))))))))))))) b i
+    (refl, (refl, (refl, (refl, (refl, (refl, (refl, (refl, (refl, (refl, (refl, (refl, (refl, (refl, (refl, tt))))))))))))))) b i
 
 kind_is : (k : TokKind) (p : List ℕ) → IsLexeme k p → kind_of p ≡ k
 kind_is k [] h = absurd (lexeme_not_empty k h)
@@ -70,8 +70,9 @@ one_kind k l p h g = sym (kind_is k p h) ∙ kind_is l p g
 next_once : (fresh : Bool) (rest : List ℕ) (k l : TokKind) (n m : ℕ) → IsNext fresh rest k n → IsNext fresh rest l m → (k ≡ l) × (n ≡ m)
 next_once fresh rest k l n m h g =
     elim (cases_order n m) [
-      inl e ↦ (one_kind k l (take n rest) h.2 (subst (λ x. IsLexeme l (take x rest)) (sym e) g.2), e)
-    | inr o ↦ absurd (elim o [ inl less ↦ h.3 m l less g.1 g.2 | inr more ↦ g.3 n k more h.1 h.2 ]) ]
+      | inl e ↦ (one_kind k l (take n rest) h.2 (subst (λ x. IsLexeme l (take x rest)) (sym e) g.2), e)
+      | inr o ↦ absurd (elim o [ inl less ↦ h.3 m l less g.1 g.2 | inr more ↦ g.3 n k more h.1 h.2 ])
+    ]
 
 block_step : (b c : ℕ) (cs : List ℕ) → 47 ≡ b → 42 ≡ c → sign_step (b ∷ (c ∷ cs)) ≡ comment_step (comment_end 2 cs)
 block_step b c cs e f = rw (← e, ← f) refl
@@ -102,8 +103,8 @@ skip_step fresh (b ∷ (c ∷ cs)) n (block_comment h k f e) =
     ap (λ x. class_step x fresh (b ∷ (c ∷ cs))) (slash_class b h.0) ∙ block_step b c cs h.0 h.1.0 ∙ closed_step cs k n f e
 skip_step fresh (b ∷ bs) n (include_line f h e) =
     ap (λ c. class_step c fresh (b ∷ bs)) (sharp_class b (include_sharp b bs h))
-      ∙ ap (λ v. cond v (Skip (prefix_len is_no_newline (b ∷ bs))) (Take Hash 1)) (and_from fresh (is_include (line_of (b ∷ bs))) f (include_to (line_of (b ∷ bs)) h.1))
-      ∙ ap Skip (line_length (b ∷ bs) ∙ sym e)
+    ∙ ap (λ v. cond v (Skip (prefix_len is_no_newline (b ∷ bs))) (Take Hash 1)) (and_from fresh (is_include (line_of (b ∷ bs))) f (include_to (line_of (b ∷ bs)) h.1))
+    ∙ ap Skip (line_length (b ∷ bs) ∙ sym e)
 
 skip_once : (fresh : Bool) (rest : List ℕ) (n m : ℕ) → Skips fresh rest n → Skips fresh rest m → n ≡ m
 skip_once fresh rest n m h g = let e = sym (skip_step fresh rest n h) ∙ skip_step fresh rest m g in cc
@@ -206,9 +207,10 @@ module _ (text : List ℕ) where
   has_reading zero at within enough = ([], (whole, ended (omega arith)))
   has_reading (suc fuel) at within enough =
       elim (cases_lt at (length text)) [
-        inl less ↦ has_step at (step_of (fresh_at text at) (drop at text)) within (sound (fresh_at text at) (drop at text) (omega (arith, length-drop at text)))
+        | inl less ↦ has_step at (step_of (fresh_at text at) (drop at text)) within (sound (fresh_at text at) (drop at text) (omega (arith, length-drop at text)))
             (λ n positive short. has_reading fuel (at + n) short (omega arith))
-      | inr over ↦ ([], (whole, ended (omega arith))) ]
+        | inr over ↦ ([], (whole, ended (omega arith)))
+      ]
 
   by_ending : (ts : List Token) (e : Ending) → Reads text 0 ts e →
       ((ts : List Token) × Tokens text ts) ⊎ (((place : Place) × LacksToken text place) ⊎ ((place : Place) × LacksClose text place))

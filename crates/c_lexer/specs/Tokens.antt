@@ -15,7 +15,7 @@ IsOther fresh rest = ((n : ℕ) → ¬ Skips fresh rest n) × ¬ IsUnclosed rest
 abbrev pub IsNext : Bool → List ℕ → TokKind → ℕ → Type 0
 IsNext fresh rest kind n =
     IsOther fresh rest × (n ≤ length rest) × IsLexeme kind (take n rest)
-        × ((m : ℕ) (other : TokKind) → n < m → m ≤ length rest → ¬ IsLexeme other (take m rest))
+    × ((m : ℕ) (other : TokKind) → n < m → m ≤ length rest → ¬ IsLexeme other (take m rest))
 
 -- a byte stands here, and no front of the rest is a token
 abbrev pub IsStuck : Bool → List ℕ → Type 0

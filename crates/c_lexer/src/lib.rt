@@ -9,6 +9,8 @@ pub mod place;
 pub mod reader;
 pub mod scan;
 pub mod step;
+#[cfg(test)]
+mod tests;
 pub mod token;
 
 pub use fault::LexFault;

@@ -33,10 +33,11 @@ fn behind(cursor: Cursor, byte: u8) -> Cursor
     let offset = cursor.place.offset + 1;
     if is_newline(byte) {
         let line = cursor.place.line + 1;
+        let column = 1;
         let place = Place {
             offset,
             line,
-            column: 1,
+            column,
         };
         Cursor { place, fresh: true }
     } else {
