@@ -2,6 +2,7 @@
 
 use crate::fault::Fault;
 use crate::list::List;
+use crate::names::Names;
 use crate::place::Place;
 use crate::shape::Shapes;
 use crate::store::Store;
@@ -29,4 +30,9 @@ pub fn shapes_cross(shapes: &Shapes, text: &Text) {
 pub fn fault_crosses(fault: &Fault, place: &Place) {
     crosses(fault);
     crosses(place)
+}
+
+/// Names cross threads.
+pub fn names_cross(names: &Names) {
+    crosses(names)
 }

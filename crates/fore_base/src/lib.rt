@@ -5,6 +5,7 @@ pub mod crossing;
 pub mod fault;
 pub mod list;
 pub mod memory;
+pub mod names;
 pub mod place;
 pub mod shape;
 pub mod store;
