@@ -1,12 +1,12 @@
 -- What the first byte of a text tells about it.
-use Rattle.std.proofs.Common.{◌≡◌, ◌≢◌, ℕ, ◌+◌, ◌<◌, ◌≤◌, Bool, true, false, cond, eqb, not, ◌&&◌, ◌||◌, List, [], ◌∷◌, ◌++◌, length, take, get_or, refl, sym, ap, ◌∙◌, subst, arith, inl, inr, ◌⊎◌}
-use Rattle.std.proofs.lemmas.Bool.{cases_Bool, eqb-true, eq-eqb, false≢true}
+use Rattle.std.proofs.Common.{◌≡◌, ◌≢◌, ℕ, Bool, true, false, cond, eqb, ◌||◌, List, [], ◌∷◌, refl, sym, subst, arith, inl, inr, ◌⊎◌}
+use Rattle.std.proofs.lemmas.Bool.{eqb-true, eq-eqb, false≢true}
 use Rattle.std.proofs.lemmas.Bool.Decides.{nat_tests}
 use Rattle.std.specs.List.{list_any}
 use Rattle.fore_base.specs.Lists.{IsIn, Every}
-use Rattle.c_lexer.specs.Bytes.{is_letter, is_digit, is_word_byte, is_number_byte, is_space, is_quote}
-use Rattle.c_lexer.specs.Lexemes.{IsLexeme, IsOneOf, long_marks, short_marks, refused_marks}
-use Rattle.c_lexer.specs.Steps.{class_of, is_long_mark}
+use Rattle.c_lexer.specs.Bytes.{is_letter, is_digit, is_space, is_quote}
+use Rattle.c_lexer.specs.Lexemes.{IsLexeme, long_marks, short_marks, refused_marks}
+use Rattle.c_lexer.specs.Steps.{class_of}
 use Rattle.c_lexer.specs.declared.bytes.Class.{Class}
 use Rattle.c_lexer.specs.declared.bytes.Class.TheVariants.{Space, Letter, Digit, Quote, Sharp, Sign}
 use Rattle.c_lexer.specs.declared.token.TokKind.{TokKind}

@@ -1,10 +1,10 @@
 -- Where comments and quotations end.
-use Rattle.std.proofs.Common.{◌≡◌, ◌≢◌, ℕ, zero, suc, ◌+◌, ◌<◌, ◌≤◌, Bool, true, false, cond, eqb, not, ◌&&◌, List, [], ◌∷◌, length, take, drop, get_or, Option, Some, None, refl, sym, ap, ◌∙◌, subst, arith, inl, inr, codes}
-use Rattle.std.proofs.lemmas.Bool.{cases_Bool, eqb-true, eqb-false, eq-eqb, false≢true, and_parts, and_from, cases_order}
+use Rattle.std.proofs.Common.{◌≡◌, ◌≢◌, ℕ, zero, suc, ◌+◌, ◌<◌, ◌≤◌, Bool, true, false, cond, eqb, ◌&&◌, List, [], ◌∷◌, length, take, get_or, Option, Some, None, refl, sym, ◌∙◌, arith, inl, inr}
+use Rattle.std.proofs.lemmas.Bool.{eqb-true, eqb-false, eq-eqb, false≢true, and_parts, and_from, cases_order}
 use Rattle.c_lexer.specs.Bytes.{is_newline}
 use Rattle.c_lexer.specs.Lexemes.{IsQuoteRest}
 use Rattle.c_lexer.specs.Lexemes.IsQuoteRest.{close, plain, escape}
-use Rattle.c_lexer.specs.Skips.{Stands, ClosesAt, IsFirstClose}
+use Rattle.c_lexer.specs.Skips.{ClosesAt, IsFirstClose}
 use Rattle.c_lexer.specs.Steps.{comment_end, quote_end}
 
 -- what the search for the end of a comment, begun at i, found

@@ -1,9 +1,9 @@
 -- Lines, and the include lines that are passed over.
-use Rattle.std.proofs.Common.{◌≡◌, ◌≢◌, ℕ, ◌+◌, ◌<◌, ◌≤◌, Bool, true, false, cond, eqb, not, ◌&&◌, ◌||◌, List, [], ◌∷◌, length, take, filter, refl, sym, ap, ◌∙◌, subst, arith, inl, inr, ◌⊎◌, codes, length-take}
-use Rattle.std.specs.List.{prefix_len, take_while}
-use Rattle.std.proofs.lemmas.Bool.{eqb-true, eq-eqb, false≢true, and_parts, or_cases}
+use Rattle.std.proofs.Common.{◌≡◌, ℕ, ◌<◌, Bool, true, false, eqb, ◌||◌, List, [], ◌∷◌, length, filter, refl, arith, inl, inr, codes, length-take}
+use Rattle.std.specs.List.{prefix_len}
+use Rattle.std.proofs.lemmas.Bool.{eqb-true, false≢true, and_parts, or_cases}
 use Rattle.std.proofs.lemmas.List.Sums.{prefix_len-le-length, take_while-cons}
-use Rattle.fore_base.specs.Lists.{IsIn, Every}
+use Rattle.fore_base.specs.Lists.{IsIn}
 use Rattle.c_lexer.specs.Bytes.{is_no_newline, is_solid}
 use Rattle.c_lexer.specs.Skips.{Stands, line_of, skipped_includes, IsInclude}
 use Rattle.c_lexer.specs.Steps.{are_same, is_include}

@@ -1,11 +1,11 @@
 -- The marks of one and two bytes.
-use Rattle.std.proofs.Common.{◌≡◌, ◌≢◌, ℕ, ◌+◌, ◌<◌, ◌≤◌, Bool, true, false, cond, eqb, not, ◌&&◌, ◌||◌, List, [], ◌∷◌, length, take, get_or, refl, sym, ap, ◌∙◌, subst, arith, inl, inr, ◌⊎◌, codes}
+use Rattle.std.proofs.Common.{◌≡◌, ℕ, Bool, true, false, cond, eqb, ◌||◌, List, [], ◌∷◌, length, get_or, refl, sym, ◌∙◌, arith, inl, inr}
 use Rattle.std.specs.List.{list_any}
-use Rattle.std.proofs.lemmas.Bool.{eqb-true, eq-eqb, false≢true, cases_Bool}
-use Rattle.fore_base.specs.Lists.{IsIn, Every}
-use Rattle.c_lexer.specs.Lexemes.{IsLexeme, IsOneOf, long_marks, short_marks, refused_marks}
+use Rattle.std.proofs.lemmas.Bool.{eqb-true, false≢true}
+use Rattle.fore_base.specs.Lists.{IsIn}
+use Rattle.c_lexer.specs.Lexemes.{IsLexeme, long_marks, short_marks, refused_marks}
 use Rattle.c_lexer.specs.Steps.{class_of, is_long_mark}
-use Rattle.c_lexer.specs.declared.bytes.Class.TheVariants.{Space, Letter, Digit, Quote, Sharp, Sign}
+use Rattle.c_lexer.specs.declared.bytes.Class.TheVariants.{Sign}
 use Rattle.c_lexer.specs.declared.token.TokKind.{TokKind}
 use Rattle.c_lexer.specs.declared.token.TokKind.TheVariants.{Word, Number, Mark, Quoted, Hash, Refused}
 use Rattle.c_lexer.proofs.Classes.{every_in, any_from_in, lexeme_class}

@@ -1,22 +1,22 @@
 -- What the reader's step finds is what the rules give.
-use Rattle.std.proofs.Common.{◌≡◌, ◌≢◌, ℕ, zero, suc, ◌+◌, ◌<◌, ◌≤◌, Bool, true, false, cond, eqb, not, ◌&&◌, ◌||◌, List, [], ◌∷◌, length, take, drop, get_or, Option, Some, None, refl, sym, ap, ◌∙◌, subst, arith, inl, inr, codes, one-add}
+use Rattle.std.proofs.Common.{◌≡◌, ◌≢◌, ℕ, zero, suc, ◌<◌, ◌≤◌, Bool, true, false, cond, eqb, ◌&&◌, ◌||◌, List, [], ◌∷◌, length, take, drop, get_or, Option, Some, None, refl, sym, ap, ◌∙◌, subst, arith, inl, inr, codes, one-add}
 use Rattle.std.specs.List.{prefix_len, list_any}
 use Rattle.std.proofs.lemmas.Bool.{eqb-true, eq-eqb, false≢true, and_parts, and_from, or_left, or_right}
 use Rattle.std.proofs.lemmas.List.Sums.{prefix_len-le-length}
-use Rattle.fore_base.specs.Lists.{IsIn, Every}
-use Rattle.c_lexer.specs.Bytes.{is_letter, is_digit, is_word_byte, is_number_byte, is_quote, is_no_newline, is_space}
+use Rattle.fore_base.specs.Lists.{Every}
+use Rattle.c_lexer.specs.Bytes.{is_letter, is_digit, is_word_byte, is_number_byte, is_no_newline}
 use Rattle.c_lexer.specs.Lexemes.{IsLexeme, IsQuoteRest, short_marks, refused_marks}
-use Rattle.c_lexer.specs.Skips.{Stands, line_of, IsInclude, Skips, IsUnclosed}
+use Rattle.c_lexer.specs.Skips.{Stands, line_of, IsInclude, Skips}
 use Rattle.c_lexer.specs.Skips.Skips.{white_space, line_comment, block_comment, include_line}
-use Rattle.c_lexer.specs.Tokens.{IsOther, IsNext, IsStuck}
+use Rattle.c_lexer.specs.Tokens.{IsOther}
 use Rattle.c_lexer.specs.Found.{IsFound}
 use Rattle.c_lexer.specs.Steps.{class_of, class_step, step_of, quote_step, quote_end, comment_step, comment_end, sharp_step, sign_step, mark_step, is_include, is_long_mark}
 use Rattle.c_lexer.specs.declared.bytes.Class.{Class}
 use Rattle.c_lexer.specs.declared.bytes.Class.TheVariants.{Space, Letter, Digit, Quote, Sharp, Sign}
-use Rattle.c_lexer.specs.declared.step.Step.TheVariants.{Skip, Take, Unclosed, Nothing}
+use Rattle.c_lexer.specs.declared.step.Step.TheVariants.{Skip, Take, Nothing}
 use Rattle.c_lexer.specs.declared.token.TokKind.{TokKind}
 use Rattle.c_lexer.specs.declared.token.TokKind.TheVariants.{Word, Number, Mark, Quoted, Hash, Refused}
-use Rattle.c_lexer.proofs.Classes.{class_for, class_tells, Tells, space_class, slash_class, sharp_class, lexeme_class, lexeme_not_empty, in_from_any, quote_plain}
+use Rattle.c_lexer.proofs.Classes.{class_tells, Tells, space_class, slash_class, sharp_class, lexeme_class, lexeme_not_empty, in_from_any, quote_plain}
 use Rattle.c_lexer.proofs.Closings.{FrontIs, Inside, quotation, ClosingIs, closing}
 use Rattle.c_lexer.proofs.Includes.{line_length, line_cons, line_positive, sharp_no_newline, slash_no_newline, include_sharp, include_from, include_to}
 use Rattle.c_lexer.proofs.Runs.{front_passes, longer_fails}

@@ -1,5 +1,5 @@
 -- Each text has one reading.
-use Rattle.std.proofs.Common.{◌≡◌, ◌≢◌, ◌⊎◌, ℕ, zero, suc, ◌+◌, ◌<◌, ◌≤◌, Bool, true, false, cond, eqb, ◌&&◌, List, [], ◌∷◌, ◌++◌, length, take, drop, get_or, Option, Some, None, refl, sym, ap, ◌∙◌, subst, arith, inl, inr, codes}
+use Rattle.std.proofs.Common.{◌≡◌, ◌≢◌, ◌⊎◌, ℕ, zero, suc, ◌+◌, ◌<◌, ◌≤◌, Bool, true, false, cond, eqb, List, [], ◌∷◌, length, take, drop, Option, Some, None, refl, sym, ap, ◌∙◌, subst, arith, inl, inr, codes}
 use Rattle.std.specs.List.{prefix_len, list_any}
 use Rattle.std.proofs.lemmas.Bool.{cases_order, cases_lt, and_from}
 use Rattle.std.proofs.lemmas.List.{drop_all, length-drop}
@@ -9,8 +9,8 @@ use Rattle.c_lexer.specs.Bytes.{is_no_newline}
 use Rattle.c_lexer.specs.Places.{is_fresh, place_after}
 use Rattle.c_lexer.specs.Skips.{Stands, line_of, IsFirstClose, Skips, IsUnclosed}
 use Rattle.c_lexer.specs.Skips.Skips.{white_space, line_comment, block_comment, include_line}
-use Rattle.c_lexer.specs.Steps.{class_of, class_step, step_of, comment_step, comment_end, sign_step, sharp_step, is_include}
-use Rattle.c_lexer.specs.Tokens.{IsNext, IsStuck, Reads, Ending, Tokens, LacksToken, LacksClose}
+use Rattle.c_lexer.specs.Steps.{class_of, class_step, step_of, comment_step, comment_end, sign_step, is_include}
+use Rattle.c_lexer.specs.Tokens.{IsNext, Reads, Ending, Tokens, LacksToken, LacksClose}
 use Rattle.c_lexer.specs.Tokens.Ending.{whole, no_token, unclosed}
 use Rattle.c_lexer.specs.Tokens.Reads.{ended, skip, next, stuck, open_comment}
 use Rattle.c_lexer.specs.Found.{IsFound}

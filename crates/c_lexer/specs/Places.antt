@@ -1,5 +1,5 @@
 -- Places in a text.
-use Rattle.std.specs.Prelude.{◌≡◌, ℕ, ◌+◌, ◌==◌, Bool, List, length, count_by}
+use Rattle.std.specs.Prelude.{ℕ, ◌+◌, ◌==◌, Bool, List, length, count_by}
 use Rattle.std.specs.List.{suffix_len}
 use Rattle.fore_base.specs.declared.place.Place.{Place}
 use Rattle.c_lexer.specs.Bytes.{is_gap, is_newline, is_no_newline}

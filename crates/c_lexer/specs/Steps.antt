@@ -1,5 +1,5 @@
 -- What the reader finds at a place, as functions: the contracts of its parts.
-use Rattle.std.specs.Prelude.{ℕ, ◌+◌, ◌==◌, ◌&&◌, ◌||◌, Bool, true, false, cond, Option, Some, None, List, [], ◌∷◌, length, drop, filter, slice_index, codes}
+use Rattle.std.specs.Prelude.{ℕ, ◌+◌, ◌==◌, ◌&&◌, ◌||◌, Bool, true, false, cond, Option, Some, None, List, [], ◌∷◌, drop, filter, slice_index, codes}
 use Rattle.std.specs.List.{prefix_len, list_any}
 use Rattle.c_lexer.specs.Bytes.{is_letter, is_digit, is_word_byte, is_number_byte, is_gap, is_space, is_quote, is_newline, is_no_newline, is_solid}
 use Rattle.c_lexer.specs.Lexemes.{short_marks, refused_marks}
