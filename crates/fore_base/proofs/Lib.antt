@@ -1,4 +1,5 @@
 pub mod Leaks
 pub mod MemShelfLemmas
+pub mod NameLemmas
 pub mod OutsideLemmas
 pub mod ReadLemmas

@@ -4,7 +4,8 @@ pub mod formers
 pub mod Heap
 pub mod Lends
 pub mod Lists
-pub mod Stores
 pub mod MemShelves
 pub mod MemSinks
+pub mod Names
 pub mod Outside
+pub mod Stores

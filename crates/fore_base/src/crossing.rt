@@ -4,6 +4,7 @@ use crate::fault::Fault;
 use crate::list::List;
 use crate::mem_shelf::MemShelf;
 use crate::mem_sink::MemSink;
+use crate::names::Names;
 use crate::place::Place;
 use crate::shape::Shapes;
 use crate::shelf::ShelfFault;
@@ -45,4 +46,9 @@ pub fn memory_crosses(shelf: &MemShelf, sink: &MemSink) {
 pub fn outside_faults_cross(shelf_fault: &ShelfFault, sink_fault: &SinkFault) {
     crosses(shelf_fault);
     crosses(sink_fault)
+}
+
+/// Names cross threads.
+pub fn names_cross(names: &Names) {
+    crosses(names)
 }

@@ -5,12 +5,13 @@
 mod counts;
 pub mod crossing;
 pub mod fault;
-pub mod laws;
 pub mod file_shelf;
+pub mod laws;
 pub mod list;
 pub mod mem_shelf;
 pub mod mem_sink;
 pub mod memory;
+pub mod names;
 pub mod place;
 pub mod shape;
 pub mod shelf;

@@ -1,0 +1,9 @@
+pub mod Classes
+pub mod Closings
+pub mod Includes
+pub mod PlaceLemmas
+pub mod ReadingLemmas
+pub mod Runs
+pub mod Signs
+pub mod Sound
+pub mod Unique

@@ -1,0 +1,108 @@
+// The classes of bytes that the rules for tokens speak of.
+ghost use Rattle.std.specs.Prelude.{◌≡◌, slice_index};
+ghost use Rattle.c_lexer.specs.Bytes as spec;
+ghost use Rattle.c_lexer.specs.Steps.{class_of};
+
+/// Where a token or a skipped piece may begin: what the first byte of a place tells.
+#[derive(Clone, Copy, PartialEq, Eq, Debug)]
+pub enum Class {
+    /// White space.
+    Space,
+    /// A letter or the underscore.
+    Letter,
+    Digit,
+    /// A quotation mark or an apostrophe.
+    Quote,
+    /// The number sign.
+    Sharp,
+    /// Every other byte.
+    Sign,
+}
+
+#[tactic(auto, unfolding(crate::specs::Bytes::is_letter))]
+pub fn is_letter(byte: u8) -> bool
+    ensures { result ≡ spec.is_letter byte }
+{
+    (byte >= b'a' && byte <= b'z') || (byte >= b'A' && byte <= b'Z') || byte == b'_'
+}
+
+#[tactic(auto, unfolding(crate::specs::Bytes::is_digit))]
+pub fn is_digit(byte: u8) -> bool
+    ensures { result ≡ spec.is_digit byte }
+{
+    byte >= b'0' && byte <= b'9'
+}
+
+#[tactic(auto, unfolding(crate::specs::Bytes::is_word_byte))]
+pub fn is_word_byte(byte: u8) -> bool
+    ensures { result ≡ spec.is_word_byte byte }
+{
+    is_letter(byte) || is_digit(byte)
+}
+
+#[tactic(auto, unfolding(crate::specs::Bytes::is_number_byte))]
+pub fn is_number_byte(byte: u8) -> bool
+    ensures { result ≡ spec.is_number_byte byte }
+{
+    is_word_byte(byte) || byte == b'.'
+}
+
+#[tactic(auto, unfolding(crate::specs::Bytes::is_gap))]
+pub fn is_gap(byte: u8) -> bool
+    ensures { result ≡ spec.is_gap byte }
+{
+    byte == b' ' || byte == b'\t'
+}
+
+#[tactic(auto, unfolding(crate::specs::Bytes::is_space))]
+pub fn is_space(byte: u8) -> bool
+    ensures { result ≡ spec.is_space byte }
+{
+    byte == b' ' || (byte >= b'\t' && byte <= b'\r')
+}
+
+#[tactic(auto, unfolding(crate::specs::Bytes::is_quote))]
+pub fn is_quote(byte: u8) -> bool
+    ensures { result ≡ spec.is_quote byte }
+{
+    byte == b'"' || byte == b'\''
+}
+
+#[tactic(auto, unfolding(crate::specs::Bytes::is_newline))]
+pub fn is_newline(byte: u8) -> bool
+    ensures { result ≡ spec.is_newline byte }
+{
+    byte == b'\n'
+}
+
+#[tactic(auto, unfolding(crate::specs::Bytes::is_solid))]
+pub fn is_solid(byte: u8) -> bool
+    ensures { result ≡ spec.is_solid byte }
+{
+    byte != b' ' && byte != b'\t' && byte != b'\r'
+}
+
+pub fn class_of(byte: u8) -> Class
+    ensures { result ≡ class_of byte }
+{
+    if is_space(byte) {
+        Class::Space
+    } else if is_letter(byte) {
+        Class::Letter
+    } else if is_digit(byte) {
+        Class::Digit
+    } else if is_quote(byte) {
+        Class::Quote
+    } else if byte == b'#' {
+        Class::Sharp
+    } else {
+        Class::Sign
+    }
+}
+
+/// The byte at a place, and 0 past the end.
+pub fn byte_at(text: &[u8], at: usize) -> u8
+    ensures { result ≡ slice_index text.now at }
+{
+    if at < text.len() { text[at] } else { 0 }
+}

@@ -1,0 +1,27 @@
+use fore_base::place::Place;
+use fore_base::text::Text;
+
+/// The kinds of tokens.
+#[derive(Clone, Copy, PartialEq, Eq, Debug)]
+pub enum TokKind {
+    /// An identifier or a keyword (ISO/IEC 9899:2011, 6.4.1 and 6.4.2).
+    Word,
+    /// A digit with the letters, digits, underscores and dots after it; among them the constants of 6.4.4.
+    Number,
+    /// A punctuator that programs may use (6.4.6).
+    Mark,
+    /// A string literal or a character constant (6.4.5 and 6.4.4.4).
+    Quoted,
+    /// A number sign that begins no skipped line.
+    Hash,
+    /// A punctuator that no program may use.
+    Refused,
+}
+
+/// A token: its bytes, and the place of the first of them.
+#[derive(PartialEq, Eq, Debug, Drop)]
+pub struct Token {
+    pub kind: TokKind,
+    pub text: Text,
+    pub at: Place,
+}

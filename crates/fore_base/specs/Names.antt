@@ -1,0 +1,12 @@
+-- Lists of texts in which a text has one place.
+use Rattle.std.specs.Prelude.{ℕ, ◌≤◌, List, [], ◌∷◌, length}
+use Rattle.fore_base.specs.Lists.{IsIn}
+
+-- no item stands twice
+abbrev pub IsDistinct : {X : Type 0} → List X → Type 0
+IsDistinct [] = Unit {0}
+IsDistinct (x ∷ xs) = (IsIn x xs → ⊥) × IsDistinct xs
+
+-- no text stands twice, and each place has a number of 32 bits
+abbrev pub IsNumbered : List (List ℕ) → Type 0
+IsNumbered texts = IsDistinct texts × (length texts ≤ 4294967295)

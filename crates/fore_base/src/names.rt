@@ -1,0 +1,115 @@
+// Texts that are numbered in the order in which they first come.
+ghost use Rattle.std.specs.Prelude.{◌≡◌, ◌<◌, [], ◌∷◌, ◌++◌, length, slice_get, IfOk, OnOk, OnErr, MatchOption};
+ghost use Rattle.fore_base.specs.Lists.{IsIn};
+ghost use Rattle.fore_base.specs.Names.{IsDistinct};
+
+use crate::memory::Mem;
+use indexmap::IndexSet;
+use std::alloc::Global;
+use std::marker::Model;
+
+/// Texts with their numbers. Contracts see the list of the texts, none twice and at most 4,294,967,295; a text's number is its position there.
+#[derive(Drop)]
+pub struct Names {
+    texts: IndexSet<Vec<u8>>,
+    alloc: Global,
+}
+
+impl Model for Names {
+    ghost use Rattle.std.specs.Prelude.{List, ℕ, map};
+    ghost use Rattle.std.specs.Coded.{coded_list, coded_ℕ};
+    ghost use Rattle.fore_base.specs.Names.{IsNumbered};
+
+    ghost Value = { List (List ℕ) };
+
+    ghost coded = { coded_list (coded_list coded_ℕ) };
+
+    ghost view = { λ names. map (λ text. text.items) names.texts.keys };
+
+    ghost invariant = { λ names. IsNumbered (map (λ text. text.items) names.texts.keys) };
+}
+
+impl Names {
+    /// No texts, which takes no memory.
+    pub fn new(alloc: Global) -> Names
+        ensures { result ≡ [] }
+    {
+        Names {
+            texts: IndexSet::new(alloc),
+            alloc,
+        }
+    }
+
+    /// The number of texts.
+    pub fn len(&self) -> usize
+        ensures { result ≡ length self.now }
+    {
+        self.texts.len()
+    }
+
+    /// No text has two numbers.
+    pub fn is_distinct(&self)
+        ensures { IsDistinct self.now }
+    {
+        let _texts = &self.texts;
+    }
+
+    /// The number of the text, if it is there.
+    pub fn find(&self, text: &[u8]) -> Option<u32>
+        ensures { MatchOption result (IsIn text.now self.now → ⊥) (λ number. slice_get self.now number ≡ Some text.now) }
+    {
+        match self.texts.get_index_of(text) {
+            Some(index) => Some(index as u32),
+            None => None,
+        }
+    }
+
+    /// The number of the text, which is added at the end if it is not there. Without memory for it the texts stay as they were.
+    pub fn number(&mut self, text: &[u8]) -> Mem<u32>
+        requires { length self.old < 4294967295 }
+        ensures number { IfOk result (λ number. slice_get self.new number ≡ Some text.now) }
+        ensures there { OnOk result (IsIn text.now self.old → self.new ≡ self.old) }
+        ensures added { OnOk result ((IsIn text.now self.old → ⊥) → self.new ≡ self.old ++ text.now ∷ []) }
+        ensures err { OnErr result (self.new ≡ self.old) }
+    {
+        match self.find(text) {
+            Some(number) => Ok(number),
+            None => self.add(text),
+        }
+    }
+
+    /// Adds a text that is not there.
+    fn add(&mut self, text: &[u8]) -> Mem<u32>
+        requires absent { IsIn text.now self.old → ⊥ }
+        requires room { length self.old < 4294967295 }
+        ensures number { IfOk result (λ number. number ≡ length self.old) }
+        ensures ok { OnOk result (self.new ≡ self.old ++ text.now ∷ []) }
+        ensures err { OnErr result (self.new ≡ self.old) }
+    {
+        let number = self.texts.len() as u32;
+        let copy = Vec::from_slice(self.alloc, text)?;
+        self.texts.insert_full(copy)?;
+        Ok(number)
+    }
+}
+
+#[cfg(test)]
+mod tests {
+    use super::*;
+    use std::test::Fail;
+
+    #[test]
+    fn a_text_keeps_its_first_number(rt: HostRuntime) -> Result<(), Fail> {
+        let mut names = Names::new(rt.alloc());
+        // `a` comes first and `b` second; `a` again adds nothing; `c` never came.
+        let rows: [(&[u8], u32); 3] = [(b"a", 0), (b"b", 1), (b"a", 0)];
+        for (text, want) in rows {
+            assert!(rt; names.len() < 4294967295);
+            assert_eq!(rt; names.number(text)?, want);
+        }
+        assert_eq!(rt; names.len(), 2);
+        assert_eq!(rt; names.find(b"b"), Some(1));
+        assert_eq!(rt; names.find(b"c"), None);
+        Ok(())
+    }
+}
