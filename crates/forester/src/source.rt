@@ -1,0 +1,38 @@
+use fore_base::list::List;
+use fore_base::text::Text;
+
+/// A pointer field of a struct: `struct SHAPE *NAME;`.
+#[derive(PartialEq, Eq, Debug, Drop)]
+pub struct FieldLine {
+    pub shape: Text,
+    pub name: Text,
+}
+
+/// A line of the body of a straight program.
+#[derive(PartialEq, Eq, Debug, Drop)]
+pub enum Line {
+    /// `struct SHAPE *NAME;`
+    Declare { shape: Text, name: Text },
+    /// `TO = FROM;`
+    Copy { to: Text, from: Text },
+    /// `TO = NULL;`
+    SetNull { to: Text },
+    /// `TO = FROM->FIELD;`
+    Load { to: Text, from: Text, field: Text },
+    /// `TO = malloc(sizeof(struct SHAPE));`
+    New { to: Text, shape: Text },
+    /// `TO->FIELD = FROM;`
+    Store { to: Text, field: Text, from: Text },
+    /// `TO->FIELD = NULL;`
+    StoreNull { to: Text, field: Text },
+    /// `free(NAME);`
+    Free { name: Text },
+}
+
+/// What the tokens of a straight file spell: one struct, and main with its lines.
+#[derive(Debug, Drop)]
+pub struct Source {
+    pub shape: Text,
+    pub fields: List<FieldLine>,
+    pub lines: List<Line>,
+}
