@@ -1,5 +1,5 @@
 pub mod Meaning
-pub mod Pieces
 pub mod Rules
 pub mod Spelling
 pub mod Straight
+pub mod Templates

@@ -1,0 +1,100 @@
+// Reading the tokens of a straight file: each line is one of a few forms of fixed length.
+ghost use Rattle.std.specs.Prelude.{◌≡◌, ◌<◌, length, map, IfOk};
+ghost use Rattle.forester.specs.Straight.{text_of};
+ghost use Rattle.forester.specs.Templates.{text_at, stored_at, assigned_at, line_at};
+
+use crate::part::{Part, fits};
+use crate::source::Line;
+use c_lexer::token::Token;
+use fore_base::list::Copies;
+use fore_base::memory::Mem;
+use fore_base::text::Text;
+use std::alloc::Global;
+
+const DECLARE: [Part; 5] = [Part::Struct, Part::Name, Part::Star, Part::Name, Part::Semicolon];
+const FREE: [Part; 5] = [Part::Free, Part::Open, Part::Name, Part::Close, Part::Semicolon];
+const NULL: [Part; 4] = [Part::Name, Part::Equals, Part::Null, Part::Semicolon];
+const COPY: [Part; 4] = [Part::Name, Part::Equals, Part::Name, Part::Semicolon];
+const LOAD: [Part; 6] = [Part::Name, Part::Equals, Part::Name, Part::Arrow, Part::Name, Part::Semicolon];
+const NEW: [Part; 11] = [
+    Part::Name,
+    Part::Equals,
+    Part::Malloc,
+    Part::Open,
+    Part::Sizeof,
+    Part::Open,
+    Part::Struct,
+    Part::Name,
+    Part::Close,
+    Part::Close,
+    Part::Semicolon,
+];
+const STORE: [Part; 6] = [Part::Name, Part::Arrow, Part::Name, Part::Equals, Part::Name, Part::Semicolon];
+const STORE_NULL: [Part; 6] = [Part::Name, Part::Arrow, Part::Name, Part::Equals, Part::Null, Part::Semicolon];
+
+/// The line with which the tokens begin, if they begin with one.
+pub fn line(alloc: Global, tokens: &[Token]) -> Mem<Option<Line>>
+    ensures { IfOk result (λ found. found ≡ line_at (map text_of tokens.now)) }
+{
+    if fits(&DECLARE, tokens) {
+        let shape = text(alloc, tokens, 1)?;
+        let name = text(alloc, tokens, 3)?;
+        return Ok(Some(Line::Declare { shape, name }));
+    }
+    if fits(&FREE, tokens) {
+        let name = text(alloc, tokens, 2)?;
+        return Ok(Some(Line::Free { name }));
+    }
+    assigned(alloc, tokens)
+}
+
+fn assigned(alloc: Global, tokens: &[Token]) -> Mem<Option<Line>>
+    ensures { IfOk result (λ found. found ≡ assigned_at (map text_of tokens.now)) }
+{
+    if fits(&NULL, tokens) {
+        let to = text(alloc, tokens, 0)?;
+        return Ok(Some(Line::SetNull { to }));
+    }
+    if fits(&COPY, tokens) {
+        let to = text(alloc, tokens, 0)?;
+        let from = text(alloc, tokens, 2)?;
+        return Ok(Some(Line::Copy { to, from }));
+    }
+    if fits(&LOAD, tokens) {
+        let to = text(alloc, tokens, 0)?;
+        let from = text(alloc, tokens, 2)?;
+        let field = text(alloc, tokens, 4)?;
+        return Ok(Some(Line::Load { to, from, field }));
+    }
+    if fits(&NEW, tokens) {
+        let to = text(alloc, tokens, 0)?;
+        let shape = text(alloc, tokens, 7)?;
+        return Ok(Some(Line::New { to, shape }));
+    }
+    stored(alloc, tokens)
+}
+
+fn stored(alloc: Global, tokens: &[Token]) -> Mem<Option<Line>>
+    ensures { IfOk result (λ found. found ≡ stored_at (map text_of tokens.now)) }
+{
+    if fits(&STORE, tokens) {
+        let to = text(alloc, tokens, 0)?;
+        let field = text(alloc, tokens, 2)?;
+        let from = text(alloc, tokens, 4)?;
+        return Ok(Some(Line::Store { to, field, from }));
+    }
+    if fits(&STORE_NULL, tokens) {
+        let to = text(alloc, tokens, 0)?;
+        let field = text(alloc, tokens, 2)?;
+        return Ok(Some(Line::StoreNull { to, field }));
+    }
+    Ok(None)
+}
+
+/// A copy of the text of a token.
+fn text(alloc: Global, tokens: &[Token], at: usize) -> Mem<Text>
+    requires { at < length tokens.now }
+    ensures { IfOk result (λ copy. copy ≡ text_at (map text_of tokens.now) at) }
+{
+    tokens[at].text.copy(alloc)
+}
