@@ -3,3 +3,4 @@ pub mod Rules
 pub mod Spelling
 pub mod Straight
 pub mod Templates
+pub mod Sources

@@ -1,12 +1,14 @@
 // Reading the tokens of a straight file: each line is one of a few forms of fixed length.
-ghost use Rattle.std.specs.Prelude.{◌≡◌, ◌<◌, length, map, IfOk};
+ghost use Rattle.std.specs.Prelude.{◌≡◌, ◌<◌, ◌↔◌, length, map, IfOk, IsTrue};
+ghost use Rattle.forester.specs.Spelling.{end_pieces};
+ghost use Rattle.forester.specs.Sources.{SpellsLines};
 ghost use Rattle.forester.specs.Straight.{text_of};
 ghost use Rattle.forester.specs.Templates.{text_at, stored_at, assigned_at, line_at};
 
 use crate::part::{Part, fits};
 use crate::source::Line;
 use c_lexer::token::Token;
-use fore_base::list::Copies;
+use fore_base::list::{Copies, List};
 use fore_base::memory::Mem;
 use fore_base::text::Text;
 use std::alloc::Global;
@@ -30,6 +32,7 @@ const NEW: [Part; 11] = [
     Part::Semicolon,
 ];
 const STORE: [Part; 6] = [Part::Name, Part::Arrow, Part::Name, Part::Equals, Part::Name, Part::Semicolon];
+const END: [Part; 4] = [Part::Return, Part::Zero, Part::Semicolon, Part::End];
 const STORE_NULL: [Part; 6] = [Part::Name, Part::Arrow, Part::Name, Part::Equals, Part::Null, Part::Semicolon];
 
 /// The line with which the tokens begin, if they begin with one.
@@ -89,6 +92,26 @@ fn stored(alloc: Global, tokens: &[Token]) -> Mem<Option<Line>>
         return Ok(Some(Line::StoreNull { to, field }));
     }
     Ok(None)
+}
+
+/// The lines and the end of main: the tokens are theirs, each of them.
+pub fn lines(alloc: Global, tokens: &[Token]) -> Mem<Option<List<Line>>>
+    ensures { IfOk result (SpellsLines (map text_of tokens.now)) }
+{
+    let mut found = List::new(alloc);
+    let mut at = 0;
+    'lines: while let Some(next) = line(alloc, &tokens[at..])? {
+        at += next.size();
+        found.push(next)?;
+    }
+    if is_end(&tokens[at..]) { Ok(Some(found)) } else { Ok(None) }
+}
+
+/// Whether the tokens are `return 0; }`.
+fn is_end(tokens: &[Token]) -> bool
+    ensures { IsTrue result ↔ (map text_of tokens.now ≡ end_pieces) }
+{
+    tokens.len() == 4 && fits(&END, tokens)
 }
 
 /// A copy of the text of a token.
