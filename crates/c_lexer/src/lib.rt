@@ -1,14 +1,14 @@
 // The tokens of a C text: every text has either its list of tokens, each with its place, or its first refusal.
 #![tactic(auto)]
 
-pub mod bytes;
+mod bytes;
 pub mod crossing;
 pub mod fault;
 pub mod laws;
-pub mod place;
-pub mod reader;
-pub mod scan;
-pub mod step;
+mod place;
+mod reader;
+mod scan;
+mod step;
 #[cfg(test)]
 mod tests;
 pub mod token;
