@@ -1,7 +1,7 @@
 // The tokens of a C text: every text has either its list of tokens, each with its place, or its first refusal.
 #![tactic(auto)]
 
-mod bytes;
+pub mod bytes;
 pub mod crossing;
 pub mod fault;
 pub mod laws;
