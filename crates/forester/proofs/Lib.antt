@@ -1,3 +1,4 @@
 pub mod TemplateLemmas
 pub mod LineLemmas
 pub mod SourceLemmas
+pub mod NumberLemmas

@@ -4,3 +4,4 @@ pub mod Spelling
 pub mod Straight
 pub mod Templates
 pub mod Sources
+pub mod Checks

@@ -3,6 +3,7 @@
 
 mod part;
 mod source;
+mod check;
 mod parse;
 
 fn main() {}
