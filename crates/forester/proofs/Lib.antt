@@ -2,3 +2,4 @@ pub mod TemplateLemmas
 pub mod LineLemmas
 pub mod SourceLemmas
 pub mod NumberLemmas
+pub mod MeaningLemmas
