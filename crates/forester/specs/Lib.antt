@@ -5,3 +5,4 @@ pub mod Straight
 pub mod Templates
 pub mod Sources
 pub mod Checks
+pub mod Building

@@ -3,6 +3,7 @@
 
 mod part;
 mod source;
+mod body;
 mod check;
 mod parse;
 
