@@ -3,3 +3,4 @@ pub mod LineLemmas
 pub mod SourceLemmas
 pub mod NumberLemmas
 pub mod MeaningLemmas
+pub mod BodyLemmas

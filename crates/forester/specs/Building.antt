@@ -3,6 +3,7 @@ use Rattle.std.specs.Prelude.{◌≡◌, ◌≤◌, ◌<◌, ℕ, List, [], ◌�
 use Rattle.fore_base.specs.Lists.{IsIn, Every}
 use Rattle.fore_base.specs.Names.{IsDistinct}
 use Rattle.forester.specs.declared.body.Body.{Body}
+use Rattle.forester.specs.declared.source.FieldLine.{FieldLine}
 use Rattle.forester.specs.declared.source.Line.{Line}
 use Rattle.forester.specs.declared.source.Line.TheVariants.{Declare, Copy, SetNull, Load, New, Store, StoreNull, Free}
 use Rattle.forester.specs.declared.source.Source.{Source}
@@ -19,6 +20,11 @@ pub record FieldsKept (s : Source) : Type 0 where
 abbrev pub ChecksFields : Source → Option (List (List ℕ)) → Type 0
 ChecksFields s None = FieldsKept s → ⊥
 ChecksFields s (Some names) = FieldsKept s × (names ≡ field_names s.fields)
+
+-- the field's name was added, or the field breaks a rule
+abbrev pub AddsField : List ℕ → FieldLine → List (List ℕ) → List (List ℕ) → Bool → Type 0
+AddsField shape f old new true = (f.shape ≡ shape) × (IsIn f.name old → ⊥) × (new ≡ old ++ f.name ∷ [])
+AddsField shape f old new false = f.shape ≡ shape → (IsIn f.name old → ⊥) → ⊥
 
 -- the variables have their definitions
 abbrev pub IsDefined : Body → Type 0

@@ -3,10 +3,10 @@ ghost use Rattle.std.specs.Prelude.{◌≡◌, ◌≤◌, ◌<◌, [], ℕ, leng
 ghost use Rattle.forester.specs.Straight.{line_of};
 ghost use Rattle.forester.specs.Rules.{field_names};
 ghost use Rattle.forester.specs.Meaning.{first_of, tokens_before};
-ghost use Rattle.forester.specs.Building.{ChecksFields, AddsLine, ChecksLines, IsDefined, IsFresh, Declared};
+ghost use Rattle.forester.specs.Building.{ChecksFields, AddsField, AddsLine, ChecksLines, IsDefined, IsFresh, Declared};
 
-use crate::check::{Checked, Known, check_line};
-use crate::source::{Line, Source};
+use crate::check::{Checked, Known, check_line, number_of};
+use crate::source::{FieldLine, Line, Source};
 use c_lexer::token::Token;
 use c_types::program::{Act, Stmt, VarDef};
 use fore_base::list::{Copies, List};
@@ -31,16 +31,30 @@ pub fn field_names(alloc: Global, source: &Source) -> Mem<Option<Names>>
     }
     let mut names = Names::new(alloc);
     for field in source.fields.as_slice() {
-        if field.shape.as_slice() != source.shape.as_slice() {
+        let kept = add_field(source.shape.as_slice(), &mut names, field)?;
+        if !kept {
             return Ok(None);
         }
-        if names.find(field.name.as_slice()).is_some() {
-            return Ok(None);
-        }
-        let _number = names.number(field.name.as_slice())?;
     }
     names.known_distinct();
     Ok(Some(names))
+}
+
+/// Adds the name of a field, and says whether the field keeps the rules.
+fn add_field(shape: &[u8], names: &mut Names, field: &FieldLine) -> Mem<bool>
+    requires { length names.old < 4294967295 }
+    ensures { IfOk result (AddsField shape.now field.now names.old names.new) }
+{
+    if field.shape.as_slice() != shape {
+        return Ok(false);
+    }
+    match number_of(names, field.name.as_slice()) {
+        Some(_) => Ok(false),
+        None => {
+            let _number = names.number(field.name.as_slice())?;
+            Ok(true)
+        }
+    }
 }
 
 /// The body of the source's lines and the `return`, if each line keeps the rules.
@@ -58,7 +72,8 @@ pub fn body_of(alloc: Global, source: &Source, fields: &Names, tokens: &[Token])
     let mut at = 11 + 5 * source.fields.len();
     for line in source.lines.as_slice() {
         let number = line_number(tokens, at);
-        if !add_line(alloc, source.shape.as_slice(), fields, &mut body, line, number)? {
+        let kept = add_line(alloc, source.shape.as_slice(), fields, &mut body, line, number)?;
+        if !kept {
             return Ok(None);
         }
         at += line.size();

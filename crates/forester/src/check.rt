@@ -164,7 +164,7 @@ fn free(alloc: Global, known: Known<'_>, name: &[u8]) -> Checked
 }
 
 /// The number of a text among names, if it is one of them.
-fn number_of(names: &Names, text: &[u8]) -> Option<u32>
+pub fn number_of(names: &Names, text: &[u8]) -> Option<u32>
     ensures { MatchOption result (IsIn text.now names.now → ⊥) (λ number. IsIn text.now names.now × (number_in names.now text.now ≡ number)) }
 {
     names.known_distinct();
