@@ -4,3 +4,6 @@ pub mod Spelling
 pub mod Straight
 pub mod Templates
 pub mod Sources
+pub mod Words
+pub mod Texts
+pub mod Delivery

@@ -4,5 +4,9 @@
 mod part;
 mod source;
 mod parse;
+mod answer;
+mod deliver;
+mod report;
+mod words;
 
 fn main() {}
