@@ -1,2 +1,3 @@
 pub mod TemplateLemmas
 pub mod LineLemmas
+pub mod WordLemmas
