@@ -24,3 +24,41 @@ fn is_option(word: &str) -> bool
         None => false,
     }
 }
+
+#[cfg(test)]
+mod tests {
+    use super::*;
+    use std::test::Fail;
+
+    #[test]
+    fn only_verify_and_a_file_read(rt: HostRuntime) -> Result<(), Fail> {
+        // words, the file that they name
+        let rows: [(&[&str], Option<&str>); 13] = [
+            (&["verify", "list.c"], Some("list.c")),
+            // any text that is no option is a path, also the empty one
+            (&["verify", ""], Some("")),
+            (&["verify", "verify"], Some("verify")),
+            (&["verify", "a-b.c"], Some("a-b.c")),
+            // a word that begins with a hyphen is no path
+            (&["verify", "-"], None),
+            (&["verify", "-x"], None),
+            (&["verify", "--"], None),
+            // too few words and too many
+            (&[], None),
+            (&["verify"], None),
+            (&["verify", "list.c", "list.c"], None),
+            // another command
+            (&["Verify", "list.c"], None),
+            (&["verify ", "list.c"], None),
+            (&["list.c", "verify"], None),
+        ];
+        for (texts, file) in rows {
+            let mut words = Vec::new(rt.alloc());
+            for text in texts {
+                words.push(String::from_str(rt.alloc(), text)?)?;
+            }
+            assert_eq!(rt; file_of(&words), file, "{texts:?}");
+        }
+        Ok(())
+    }
+}

@@ -6,7 +6,7 @@ use Rattle.forester.proofs.words.file_of.Goals as goal
 pub returns : goal.returns
 returns c =
     let two = two_texts (λ w. string_bytes w) c.args.words.now c.command-item.result c.file-item.result
-      c.in-len2.len_at_least c.in-len2.len_below c.command-item.is c.file-item.is in
+    c.in-len2.len_at_least c.in-len2.len_below c.command-item.is c.file-item.is in
     let command : c.as_str.result.now ≡ codes "verify" = search rules in
     let other : IsNoOption c.as_str-else-ne.result.now = c.if-is_option.ensures.other (search rules) in
     record {
