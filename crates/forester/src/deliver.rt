@@ -54,106 +54,39 @@ mod tests {
     use super::*;
     use fore_base::fault::Fault;
     use fore_base::mem_sink::MemSink;
+    use fore_base::memory::Mem;
     use std::test::Fail;
 
+    const LEAK: Answer = Answer::Unsafe { kind: Fault::Leak, line: 5, step: 2 };
+
+    // The status of a delivery, and its sinks: a put takes `most` bytes at most, and the puts of these numbers fail (0 for none).
+    fn delivered(alloc: Global, answer: Answer, most: usize, out_fails: u64, notes_fails: u64) -> Mem<(u8, MemSink, MemSink)> {
+        let most = most.max(1);
+        let mut out = MemSink::new(alloc, 128, most)?;
+        let mut notes = MemSink::new(alloc, 128, most)?;
+        out.fail(out_fails)?;
+        notes.fail(notes_fails)?;
+        let status = deliver(alloc, answer, &mut out, &mut notes);
+        Ok((status, out, notes))
+    }
+
     #[test]
-    fn each_answer_gives_its_text_to_one_sink_and_its_status(rt: HostRuntime) -> Result<(), Fail> {
+    fn each_answer_writes_to_one_sink(rt: HostRuntime) -> Result<(), Fail> {
         // answer, status, standard output, standard error
-        let rows: [(Answer, u8, &str, &str); 13] = [
-            // a safe program: one line, and nothing beside it
+        let rows: [(Answer, u8, &str, &str); 7] = [
+            // reports go to standard output, and nothing goes beside them
             (Answer::Safe, 0, "SAFE\n", ""),
-            // a fault: number and name of the fault, then line, step and choices, five lines in this order; each of the eight faults
-            (
-                Answer::Unsafe {
-                    kind: Fault::NullDeref,
-                    line: 7,
-                    step: 3,
-                },
-                1,
-                "UNSAFE\nfault 1 null dereference\nline 7\nstep 3\nchoices -\n",
-                "",
-            ),
-            (
-                Answer::Unsafe {
-                    kind: Fault::UninitDeref,
-                    line: 12,
-                    step: 1,
-                },
-                1,
-                "UNSAFE\nfault 2 uninitialised dereference\nline 12\nstep 1\nchoices -\n",
-                "",
-            ),
-            (
-                Answer::Unsafe {
-                    kind: Fault::DanglingDeref,
-                    line: 1,
-                    step: 4160,
-                },
-                1,
-                "UNSAFE\nfault 3 dangling dereference\nline 1\nstep 4160\nchoices -\n",
-                "",
-            ),
-            (
-                Answer::Unsafe {
-                    kind: Fault::InvalidFree,
-                    line: 9,
-                    step: 10,
-                },
-                1,
-                "UNSAFE\nfault 4 invalid free\nline 9\nstep 10\nchoices -\n",
-                "",
-            ),
-            (
-                Answer::Unsafe {
-                    kind: Fault::DoubleFree,
-                    line: 100,
-                    step: 99,
-                },
-                1,
-                "UNSAFE\nfault 5 double free\nline 100\nstep 99\nchoices -\n",
-                "",
-            ),
-            (
-                Answer::Unsafe {
-                    kind: Fault::Leak,
-                    line: 5,
-                    step: 2,
-                },
-                1,
-                "UNSAFE\nfault 6 leak\nline 5\nstep 2\nchoices -\n",
-                "",
-            ),
-            // the greatest numbers that the answer holds
-            (
-                Answer::Unsafe {
-                    kind: Fault::Assertion,
-                    line: 4294967295,
-                    step: 18446744073709551615,
-                },
-                1,
-                "UNSAFE\nfault 7 failed assertion\nline 4294967295\nstep 18446744073709551615\nchoices -\n",
-                "",
-            ),
-            (
-                Answer::Unsafe {
-                    kind: Fault::IndetTest,
-                    line: 20,
-                    step: 30,
-                },
-                1,
-                "UNSAFE\nfault 8 indeterminate test\nline 20\nstep 30\nchoices -\n",
-                "",
-            ),
-            // what is no report goes to standard error alone
+            (LEAK, 1, "UNSAFE\nfault 6 leak\nline 5\nstep 2\nchoices -\n", ""),
+            // all else goes to standard error alone
             (Answer::Usage, 2, "", "usage\n"),
             (Answer::TooLong, 4, "", "refused K1 file\n"),
             (Answer::NotStraight, 4, "", "refused N1 file\n"),
             (Answer::ReadFault, 5, "", "read fault\n"),
+            // without memory nothing is written
+            (Answer::NoMemory, 7, "", ""),
         ];
         for (answer, status, out_text, notes_text) in rows {
-            let mut out = MemSink::new(rt.alloc(), 128, 128)?;
-            let mut notes = MemSink::new(rt.alloc(), 128, 128)?;
-            let ended = deliver(rt.alloc(), answer, &mut out, &mut notes);
+            let (ended, out, notes) = delivered(rt.alloc(), answer, 128, 0, 0)?;
             assert_eq!(rt; ended, status, "{answer:?}");
             assert_eq!(rt; out.bytes(), out_text.as_bytes(), "{answer:?}");
             assert_eq!(rt; notes.bytes(), notes_text.as_bytes(), "{answer:?}");
@@ -162,88 +95,63 @@ mod tests {
     }
 
     #[test]
-    fn want_of_memory_writes_nothing(rt: HostRuntime) -> Result<(), Fail> {
-        let mut out = MemSink::new(rt.alloc(), 128, 128)?;
-        let mut notes = MemSink::new(rt.alloc(), 128, 128)?;
-        let ended = deliver(rt.alloc(), Answer::NoMemory, &mut out, &mut notes);
-        assert_eq!(rt; ended, 7);
-        assert!(rt; out.bytes().is_empty());
-        assert!(rt; notes.bytes().is_empty());
+    fn each_fault_has_its_report(rt: HostRuntime) -> Result<(), Fail> {
+        // five lines: the verdict, number and name of the fault, line, step, choices; the numbers are decimal, up to the greatest
+        let rows: [(Fault, u32, u64, &str); 7] = [
+            (Fault::NullDeref, 7, 3, "UNSAFE\nfault 1 null dereference\nline 7\nstep 3\nchoices -\n"),
+            (Fault::UninitDeref, 12, 1, "UNSAFE\nfault 2 uninitialised dereference\nline 12\nstep 1\nchoices -\n"),
+            (Fault::DanglingDeref, 1, 4160, "UNSAFE\nfault 3 dangling dereference\nline 1\nstep 4160\nchoices -\n"),
+            (Fault::InvalidFree, 9, 10, "UNSAFE\nfault 4 invalid free\nline 9\nstep 10\nchoices -\n"),
+            (Fault::DoubleFree, 100, 99, "UNSAFE\nfault 5 double free\nline 100\nstep 99\nchoices -\n"),
+            (Fault::Assertion, 4294967295, 8, "UNSAFE\nfault 7 failed assertion\nline 4294967295\nstep 8\nchoices -\n"),
+            (Fault::IndetTest, 20, 18446744073709551615, "UNSAFE\nfault 8 indeterminate test\nline 20\nstep 18446744073709551615\nchoices -\n"),
+        ];
+        for (kind, line, step, text) in rows {
+            let report = unsafe_report(rt.alloc(), kind, line, step)?;
+            assert_eq!(rt; report.as_slice(), text.as_bytes(), "{kind:?}");
+        }
         Ok(())
     }
 
     #[test]
-    fn a_sink_that_fails_keeps_what_it_took_and_the_other_gets_nothing(
-        rt: HostRuntime,
-    ) -> Result<(), Fail> {
-        let leak = Answer::Unsafe {
-            kind: Fault::Leak,
-            line: 5,
-            step: 2,
-        };
-        // answer, most bytes that a put takes, the put of standard output and of standard error that fails, status, what each holds
-        let rows: [(Answer, usize, u64, u64, u8, &str, &str); 23] = [
-            // the first put fails, on either sink
-            (Answer::Safe, 128, 1, 0, 6, "", ""),
-            (leak, 128, 1, 0, 6, "", ""),
-            (Answer::Usage, 128, 0, 1, 6, "", ""),
-            (Answer::NotStraight, 128, 0, 1, 6, "", ""),
-            (Answer::ReadFault, 4, 0, 2, 6, "", "read"),
-            // the sink to which nothing is due would fail, and is not asked
-            (Answer::Safe, 128, 0, 1, 0, "SAFE\n", ""),
-            (Answer::TooLong, 128, 1, 0, 4, "", "refused K1 file\n"),
-            // five bytes by one: five puts, of which each fails in turn; a sixth is not made
-            (Answer::Safe, 1, 1, 0, 6, "", ""),
-            (Answer::Safe, 1, 2, 0, 6, "S", ""),
-            (Answer::Safe, 1, 3, 0, 6, "SA", ""),
-            (Answer::Safe, 1, 4, 0, 6, "SAF", ""),
-            (Answer::Safe, 1, 5, 0, 6, "SAFE", ""),
-            (Answer::Safe, 1, 6, 0, 0, "SAFE\n", ""),
-            // by two: three puts
-            (Answer::Safe, 2, 2, 0, 6, "SA", ""),
-            (Answer::Safe, 2, 3, 0, 6, "SAFE", ""),
-            (Answer::Safe, 2, 4, 0, 0, "SAFE\n", ""),
-            // by three: two puts
-            (Answer::Safe, 3, 2, 0, 6, "SAF", ""),
-            (Answer::Safe, 3, 3, 0, 0, "SAFE\n", ""),
-            // by four: two puts
-            (Answer::Safe, 4, 2, 0, 6, "SAFE", ""),
-            (Answer::Safe, 4, 3, 0, 0, "SAFE\n", ""),
-            // 44 bytes by four: eleven puts
-            (leak, 4, 5, 0, 6, "UNSAFE\nfault 6 l", ""),
-            (
-                leak,
-                4,
-                11,
-                0,
-                6,
-                "UNSAFE\nfault 6 leak\nline 5\nstep 2\nchoice",
-                "",
-            ),
-            (
-                leak,
-                4,
-                12,
-                0,
-                1,
-                "UNSAFE\nfault 6 leak\nline 5\nstep 2\nchoices -\n",
-                "",
-            ),
+    fn each_put_that_fails_leaves_what_was_put_before(rt: HostRuntime) -> Result<(), Fail> {
+        // the most bytes that a put takes, and what is held where the first put is the one that fails, the second, and so on, until all puts pass
+        let rows: [(usize, &[&str]); 4] = [
+            (1, &["", "S", "SA", "SAF", "SAFE", "SAFE\n"]),
+            (2, &["", "SA", "SAFE", "SAFE\n"]),
+            (3, &["", "SAF", "SAFE\n"]),
+            (4, &["", "SAFE", "SAFE\n"]),
         ];
-        for (answer, most, out_fails, notes_fails, status, out_text, notes_text) in rows {
-            assert!(rt; 0 < most);
-            let mut out = MemSink::new(rt.alloc(), 128, most)?;
-            let mut notes = MemSink::new(rt.alloc(), 128, most)?;
-            out.fail(out_fails)?;
-            notes.fail(notes_fails)?;
-            let ended = deliver(rt.alloc(), answer, &mut out, &mut notes);
-            assert_eq!(rt; ended, status, "{answer:?}, most {most}");
-            assert_eq!(rt; out.bytes(), out_text.as_bytes(), "{answer:?}, most {most}");
-            assert_eq!(rt;
-                notes.bytes(),
-                notes_text.as_bytes(),
-                "{answer:?}, most {most}"
-            );
+        for (most, helds) in rows {
+            for (puts, held) in helds.iter().enumerate() {
+                let call = puts as u64 + 1;
+                let (ended, out, notes) = delivered(rt.alloc(), Answer::Safe, most, call, 1)?;
+                let status = if *held == "SAFE\n" { 0 } else { 6 };
+                assert_eq!(rt; ended, status, "most {most}, call {call}");
+                assert_eq!(rt; out.bytes(), held.as_bytes(), "most {most}, call {call}");
+                assert!(rt; notes.bytes().is_empty(), "most {most}, call {call}");
+            }
+        }
+        Ok(())
+    }
+
+    #[test]
+    fn a_failed_put_of_one_sink_leaves_the_other_alone(rt: HostRuntime) -> Result<(), Fail> {
+        // answer, the put of standard output and that of standard error that fail, status, what each holds; a put takes four bytes at most
+        let rows: [(Answer, u64, u64, u8, &str, &str); 5] = [
+            (Answer::NotStraight, 0, 1, 6, "", ""),
+            (Answer::ReadFault, 0, 2, 6, "", "read"),
+            // of eleven puts the fifth fails, or the last
+            (LEAK, 5, 0, 6, "UNSAFE\nfault 6 l", ""),
+            (LEAK, 11, 0, 6, "UNSAFE\nfault 6 leak\nline 5\nstep 2\nchoice", ""),
+            // the sink to which nothing is due is not asked
+            (Answer::Usage, 1, 0, 2, "", "usage\n"),
+        ];
+        for (answer, out_fails, notes_fails, status, out_text, notes_text) in rows {
+            let (ended, out, notes) = delivered(rt.alloc(), answer, 4, out_fails, notes_fails)?;
+            assert_eq!(rt; ended, status, "{answer:?}");
+            assert_eq!(rt; out.bytes(), out_text.as_bytes(), "{answer:?}");
+            assert_eq!(rt; notes.bytes(), notes_text.as_bytes(), "{answer:?}");
         }
         Ok(())
     }
