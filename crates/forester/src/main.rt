@@ -1,10 +1,15 @@
 // Forester: from the words and the bytes of a C file to the report and the status.
 #![tactic(auto)]
 
-mod part;
-mod source;
+mod answer;
 mod body;
 mod check;
+mod deliver;
 mod parse;
+mod part;
+mod report;
+mod source;
+mod typed;
+mod words;
 
 fn main() {}
