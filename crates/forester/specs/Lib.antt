@@ -9,3 +9,4 @@ pub mod Straight
 pub mod Templates
 pub mod Texts
 pub mod Words
+pub mod Reading

@@ -9,6 +9,7 @@ mod parse;
 mod part;
 mod report;
 mod source;
+mod straight;
 mod typed;
 mod words;
 
