@@ -10,3 +10,4 @@ pub mod Templates
 pub mod Texts
 pub mod Words
 pub mod Reading
+pub mod Verdict

@@ -5,6 +5,7 @@ mod answer;
 mod body;
 mod check;
 mod deliver;
+mod judge;
 mod parse;
 mod part;
 mod report;

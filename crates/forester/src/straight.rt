@@ -1,5 +1,8 @@
 // Reading a straight file: from its bytes to its program.
-ghost use Rattle.std.specs.Prelude.{◌≤◌, length, IfOk};
+ghost use Rattle.std.specs.Prelude.{◌≡◌, ◌≤◌, ◌↔◌, List, length, IfOk, IsTrue};
+ghost use Rattle.fore_base.specs.Lists.{IsIn};
+ghost use Rattle.c_lexer.specs.declared.token.Token.{Token};
+ghost use Rattle.c_lexer.specs.Tokens.{Tokens};
 ghost use Rattle.forester.specs.Reading.{HasTokens, ReadsStraight};
 
 use crate::parse::source;
@@ -15,7 +18,10 @@ pub fn read_straight(alloc: Global, bytes: &[u8]) -> Mem<Option<Typed>>
     requires { length bytes.now ≤ 1048576 }
     ensures { IfOk result (ReadsStraight bytes.now) }
 {
-    if bytes.contains(&b'/') || bytes.contains(&b'#') {
+    if has_byte(bytes, b'/') {
+        return Ok(None);
+    }
+    if has_byte(bytes, b'#') {
         return Ok(None);
     }
     let Some(tokens) = tokens_of(alloc, bytes)? else {
@@ -31,10 +37,22 @@ pub fn read_straight(alloc: Global, bytes: &[u8]) -> Mem<Option<Typed>>
     Ok(program)
 }
 
+fn has_byte(bytes: &[u8], byte: u8) -> bool
+    ensures { IsTrue result ↔ IsIn byte bytes.now }
+{
+    for other in bytes {
+        if *other == byte {
+            return true;
+        }
+    }
+    false
+}
+
 /// The tokens of the bytes; none where they have none.
 fn tokens_of(alloc: Global, bytes: &[u8]) -> Mem<Option<List<Token>>>
     requires { length bytes.now ≤ 1048576 }
-    ensures { IfOk result (HasTokens bytes.now) }
+    ensures tokens { IfOk result (HasTokens bytes.now) }
+    ensures only { IfOk result (λ found. (ts : List Token) → Tokens bytes.now ts → found ≡ Some ts) }
 {
     match tokens(alloc, bytes) {
         Ok(found) => Ok(Some(found)),
