@@ -7,3 +7,4 @@ pub mod TemplateLemmas
 pub mod WordLemmas
 pub mod StraightLemmas
 pub mod JudgeLemmas
+pub mod TopLemmas

@@ -1,5 +1,5 @@
 -- What each answer writes, and the status with which it ends.
-use Rattle.std.specs.Prelude.{ℕ, List, [], ◌∷◌, ◌++◌, codes, decimal}
+use Rattle.std.specs.Prelude.{◌≡◌, ◌⊎◌, ℕ, List, [], ◌∷◌, ◌++◌, codes, decimal}
 use Rattle.fore_base.specs.declared.fault.Fault.{Fault}
 use Rattle.fore_base.specs.declared.fault.Fault.TheVariants.{NullDeref, UninitDeref, DanglingDeref, InvalidFree, DoubleFree, Leak, Assertion, IndetTest}
 use Rattle.fore_base.specs.Faults.{number_of}
@@ -61,3 +61,7 @@ status_of TooLong = 4
 status_of NotStraight = 4
 status_of ReadFault = 5
 status_of NoMemory = 7
+
+-- the statuses with which the program ends
+abbrev pub IsStatus : ℕ → Type 0
+IsStatus n = (n ≡ 0) ⊎ ((n ≡ 1) ⊎ ((n ≡ 2) ⊎ ((n ≡ 4) ⊎ ((n ≡ 5) ⊎ ((n ≡ 6) ⊎ (n ≡ 7))))))
