@@ -1,3 +1,5 @@
 pub mod Advancing
 pub mod Plains
 pub mod RunLaws
+pub mod CellsFit
+pub mod CellsKept
