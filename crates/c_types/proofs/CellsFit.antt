@@ -33,7 +33,7 @@ at_same [] i t u a b = absurd a
 at_same (v ∷ us) zero t u a b = sym a ∙ b
 at_same (v ∷ us) (suc i) t u a b = at_same us i t u a b
 
-length_set : {X : Type 0} (xs : List X) (i : ℕ) (x : X) → length (slice_set xs i x) ≡ length xs
+pub length_set : {X : Type 0} (xs : List X) (i : ℕ) (x : X) → length (slice_set xs i x) ≡ length xs
 length_set [] i x = refl
 length_set (y ∷ xs) zero x = refl
 length_set (y ∷ xs) (suc i) x = ap suc (length_set xs i x)

@@ -3,3 +3,4 @@ pub mod Plains
 pub mod RunLaws
 pub mod CellsFit
 pub mod CellsKept
+pub mod Fitting
