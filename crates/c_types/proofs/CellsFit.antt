@@ -1,5 +1,5 @@
 -- Values that point to cells of their struct, and cells that fit their structs.
-use Rattle.std.proofs.Common.{◌≡◌, ◌<◌, ℕ, zero, suc, Bool, true, false, nat_eq, if◌then◌else◌, inl, inr, Some, List, [], ◌∷◌, length, get_or, map, replicate, ◌++◌, slice_get, slice_set, slice_index_or, refl, sym, ap, ◌∙◌, subst, true≢false, arith}
+use Rattle.std.proofs.Common.{◌≡◌, ◌<◌, ℕ, zero, suc, Bool, true, false, nat_eq, if◌then◌else◌, inl, inr, Some, List, [], ◌∷◌, length, length-set, get_or, map, replicate, ◌++◌, slice_get, slice_set, slice_index_or, refl, sym, ◌∙◌, subst, true≢false, arith}
 use Rattle.std.proofs.lemmas.Bool.{eqb-true, eq-eqb}
 use Rattle.std.proofs.lemmas.Option.{slice_get_within, get_or_from_slice_get}
 use Rattle.fore_base.specs.declared.shape.Shape.{Shape}
@@ -10,7 +10,7 @@ use Rattle.fore_base.specs.declared.store.CellRec.{CellRec}
 use Rattle.fore_base.specs.Lists.{Every}
 use Rattle.fore_base.specs.Stores.{set_each, field_in, with_field, with_datum, dangle, dangle_in, without}
 use Rattle.fore_base.specs.Heap.{HasCell, NamesCell, AllDiffer}
-use Rattle.c_types.specs.Program.{targets_of, datums_of}
+use Rattle.c_types.specs.Program.{targets_of}
 use Rattle.c_types.specs.Fits.{HasCellOf, PointsTo, PointsToEach, CellFits}
 use Rattle.c_types.proofs.CellsKept.{cell_of_is, without_cell_of}
 
@@ -33,14 +33,9 @@ at_same [] i t u a b = absurd a
 at_same (v ∷ us) zero t u a b = sym a ∙ b
 at_same (v ∷ us) (suc i) t u a b = at_same us i t u a b
 
-pub length_set : {X : Type 0} (xs : List X) (i : ℕ) (x : X) → length (slice_set xs i x) ≡ length xs
-length_set [] i x = refl
-length_set (y ∷ xs) zero x = refl
-length_set (y ∷ xs) (suc i) x = ap suc (length_set xs i x)
-
 pub length_set_each : {X : Type 0} (xs : List X) (ns : List ℕ) (x : X) → length (set_each xs ns x) ≡ length xs
 length_set_each xs [] x = refl
-length_set_each xs (n ∷ ns) x = length_set_each (slice_set xs n x) ns x ∙ length_set xs n x
+length_set_each xs (n ∷ ns) x = length_set_each (slice_set xs n x) ns x ∙ length-set xs n x
 
 -- Values
 
@@ -138,12 +133,14 @@ module _ (shapes : List Shape) (cs : List CellRec) where
     where
       here : (b : Bool) → nat_eq c.number n ≡ b → (HasCellOf es n shape → Every (CellFits shapes cs) (with_field es n f v)) → Every (CellFits shapes cs) (if b then record c { fields = slice_set c.fields f v } ∷ es else c ∷ with_field es n f v)
       here true is rest =
-          let same : c.shape ≡ shape = first_shape c es n shape (eqb-true c.number n is) apart has in
-          (record {
-            shape = fit.0.shape;
-            fields = set_points cs (targets_of shapes c.shape) c.fields f v (λ t at. this t (subst (λ k. IsAt (targets_of shapes k) f t) same at)) fit.0.fields;
-            datums = fit.0.datums;
-          }, fit.1)
+          let same : c.shape ≡ shape = first_shape c es n shape (eqb-true c.number n is) apart has in (
+            record {
+              shape = fit.0.shape;
+              fields = set_points cs (targets_of shapes c.shape) c.fields f v (λ t at. this t (subst (λ k. IsAt (targets_of shapes k) f t) same at)) fit.0.fields;
+              datums = fit.0.datums;
+            },
+            fit.1,
+          )
       here false is rest = (fit.0, rest (not_first c es n shape is has))
 
   pub with_datum_fits : (n f : ℕ) (d : Datum) (es : List CellRec) → Every (CellFits shapes cs) es → Every (CellFits shapes cs) (with_datum es n f d)
@@ -151,7 +148,7 @@ module _ (shapes : List Shape) (cs : List CellRec) where
   with_datum_fits n f d (c ∷ es) fit = here (nat_eq c.number n) (with_datum_fits n f d es fit.1)
     where
       here : (b : Bool) → Every (CellFits shapes cs) (with_datum es n f d) → Every (CellFits shapes cs) (if b then record c { datums = slice_set c.datums f d } ∷ es else c ∷ with_datum es n f d)
-      here true rest = (record { shape = fit.0.shape; fields = fit.0.fields; datums = length_set c.datums f d ∙ fit.0.datums }, fit.1)
+      here true rest = (record { shape = fit.0.shape; fields = fit.0.fields; datums = length-set c.datums f d ∙ fit.0.datums }, fit.1)
       here false rest = (fit.0, rest)
 
   pub without_fits : (n : ℕ) (es : List CellRec) → Every (CellFits shapes cs) es → Every (CellFits shapes (without n cs)) (without n es)

@@ -1,5 +1,7 @@
 -- Reading, writing, new cells and freeing keep a store proper and fitting.
-use Rattle.std.proofs.Common.{◌≡◌, ◌<◌, ◌≤◌, ◌+◌, ℕ, zero, suc, Bool, true, false, ◌&&◌, nat_eq, nat_lt, if◌then◌else◌, Option, Some, None, Result, Ok, Err, List, [], ◌∷◌, ◌++◌, length, map, replicate, slice_get, slice_index_or, refl, sym, ap, ◌∙◌, subst, true≢false, arith}
+use Rattle.std.proofs.Common.{◌≡◌, ◌<◌, ℕ, zero, suc, true, nat_lt, Option, Some, None, Result, Ok, Err, List, [], ◌∷◌, ◌++◌, length, length-set, replicate, slice_get, refl, sym, ap, ◌∙◌, subst, arith}
+use Rattle.std.proofs.lemmas.Bool.{and_parts}
+use Rattle.std.proofs.lemmas.List.{length-replicate}
 use Rattle.std.proofs.lemmas.Bool.Decides.{nat_tests}
 use Rattle.fore_base.specs.declared.fault.Fault.{Fault}
 use Rattle.fore_base.specs.declared.shape.Shape.{Shape}
@@ -10,7 +12,7 @@ use Rattle.fore_base.specs.declared.store.Datum.TheVariants.{Undefined}
 use Rattle.fore_base.specs.declared.store.CellRec.{CellRec}
 use Rattle.fore_base.specs.declared.store.Store.{Store}
 use Rattle.fore_base.specs.Lists.{Every}
-use Rattle.fore_base.specs.Stores.{onward, var_of, set_var, set_datum, kill, followed, load, store_at, store_datum, walk, write_from, field_in, with_field, with_datum, grown, freed, without}
+use Rattle.fore_base.specs.Stores.{onward, var_of, set_var, set_datum, kill, followed, load, store_at, store_datum, walk, write_from, field_in, with_field, with_datum, grown, freed}
 use Rattle.fore_base.specs.Heap.{NamesCell, AllDiffer, IsProper}
 use Rattle.c_types.specs.declared.program.Path.{Path}
 use Rattle.c_types.specs.declared.program.VarDef.{VarDef}
@@ -19,7 +21,7 @@ use Rattle.c_types.specs.Steps.{read, write_path, blank}
 use Rattle.c_types.specs.Runs.{empty_store}
 use Rattle.c_types.specs.Fits.{HasCellOf, PointsTo, PointsToEach, var_targets, CellFits, FitsProgram}
 use Rattle.c_types.proofs.CellsKept.{IsBelow, heads_with, heads_with_datum, heads_cell_of, heads_differ, heads_below, without_differ, without_below, append_cell_of, last_cell_of, append_differ, append_below}
-use Rattle.c_types.proofs.CellsFit.{IsAt, is_at, at_same, length_set, length_set_each, names_each, get_points, set_points, dead_points, unset_points, dangle_points_each, points_moved, each_moved, cells_moved, field_points, with_fits, with_datum_fits, without_fits, append_fits}
+use Rattle.c_types.proofs.CellsFit.{IsAt, is_at, at_same, length_set_each, names_each, get_points, set_points, dead_points, unset_points, dangle_points_each, each_moved, cells_moved, field_points, with_fits, with_datum_fits, without_fits, append_fits}
 
 -- what is got, where no fault is met, meets P
 abbrev pub Gives : {A : Type 0} → (A → Type 0) → Result A Fault → Type 0
@@ -73,27 +75,19 @@ path_leads p q u e = here (var_target p.vars q.var) refl
 
 -- The structs of a well typed program's fields and variables are there.
 
-and_first : (a b : Bool) → (a && b) ≡ true → a ≡ true
-and_first true b e = refl
-and_first false b e = e
-
-and_second : (a b : Bool) → (a && b) ≡ true → b ≡ true
-and_second true b e = e
-and_second false b e = absurd (true≢false (sym e))
-
 at_below : (n : ℕ) (ts : List ℕ) (i t : ℕ) → all_below n ts ≡ true → IsAt ts i t → t < n
 at_below n [] i t e at = absurd at
-at_below n (u ∷ ts) zero t e at = let first : nat_lt u n ≡ true = and_first (nat_lt u n) (all_below n ts) e in grind (arith, nat_tests)
-at_below n (u ∷ ts) (suc i) t e at = at_below n ts i t (and_second (nat_lt u n) (all_below n ts) e) at
+at_below n (u ∷ ts) zero t e at = let first : nat_lt u n ≡ true = (and_parts (nat_lt u n) (all_below n ts) e).0 in grind (arith, nat_tests)
+at_below n (u ∷ ts) (suc i) t e at = at_below n ts i t (and_parts (nat_lt u n) (all_below n ts) e).1 at
 
 targets_below : (n : ℕ) (shapes : List Shape) (t : ℕ) → shapes_typed n shapes ≡ true → all_below n (targets_of shapes t) ≡ true
 targets_below n [] t e = refl
-targets_below n (s ∷ shapes) zero e = and_first (all_below n (targets_in s.fields)) (shapes_typed n shapes) e
-targets_below n (s ∷ shapes) (suc t) e = targets_below n shapes t (and_second (all_below n (targets_in s.fields)) (shapes_typed n shapes) e)
+targets_below n (s ∷ shapes) zero e = (and_parts (all_below n (targets_in s.fields)) (shapes_typed n shapes) e).0
+targets_below n (s ∷ shapes) (suc t) e = targets_below n shapes t (and_parts (all_below n (targets_in s.fields)) (shapes_typed n shapes) e).1
 
 vars_below : (n : ℕ) (vars : List VarDef) → vars_typed n vars ≡ true → all_below n (var_targets vars) ≡ true
 vars_below n [] e = refl
-vars_below n (v ∷ vars) e = rw (and_first (nat_lt v.shape n) (vars_typed n vars) e) (vars_below n vars (and_second (nat_lt v.shape n) (vars_typed n vars) e))
+vars_below n (v ∷ vars) e = rw (and_parts (nat_lt v.shape n) (vars_typed n vars) e).0 (vars_below n vars (and_parts (nat_lt v.shape n) (vars_typed n vars) e).1)
 
 leads_below : (n : ℕ) (shapes : List Shape) (t : ℕ) (fs : List ℕ) (u : ℕ) → shapes_typed n shapes ≡ true → t < n → Leads shapes t fs u → u < n
 leads_below n shapes t [] u typed less on = subst (λ k. k < n) on less
@@ -194,7 +188,7 @@ module _ (p : Program) where
   path_sound s q u w sound path points = write_sound s q.var path.first q.fields u w sound path.is_var path.leads_on points
 
   pub set_datum_sound : (s : Store) (x : ℕ) (d : Datum) → Sound s → Sound (set_datum s x d)
-  set_datum_sound s x d sound = record { differ = sound.differ; below = sound.below; vars = sound.vars; data_vars = length_set s.data_vars x d ∙ sound.data_vars; cells = sound.cells }
+  set_datum_sound s x d sound = record { differ = sound.differ; below = sound.below; vars = sound.vars; data_vars = length-set s.data_vars x d ∙ sound.data_vars; cells = sound.cells }
 
   datum_sound : (s : Store) (n f : ℕ) (d : Datum) → Sound s → Sound (record s { cells = with_datum s.cells n f d })
   datum_sound s n f d sound =
@@ -228,11 +222,7 @@ module _ (p : Program) where
   -- Cells come and go
 
   blank_fits : (cs : List CellRec) (number t : ℕ) → t < length p.shapes.structs → CellFits p.shapes.structs cs (blank p.shapes.structs number t)
-  blank_fits cs number t less = record { shape = less; fields = unset_points cs (targets_of p.shapes.structs t); datums = long (datums_of p.shapes.structs t) }
-    where
-      long : (n : ℕ) → length (replicate n Undefined) ≡ n
-      long zero = refl
-      long (suc n) = ap suc (long n)
+  blank_fits cs number t less = record { shape = less; fields = unset_points cs (targets_of p.shapes.structs t); datums = length-replicate (datums_of p.shapes.structs t) Undefined }
 
   pub grown_sound : (s : Store) (t : ℕ) → t < length p.shapes.structs → Sound s → Sound (grown s (blank p.shapes.structs s.next t))
   grown_sound s t less sound =
@@ -273,8 +263,4 @@ module _ (p : Program) where
   unset_vars (v ∷ vars) = (tt, unset_vars vars)
 
   pub empty_sound : Sound (empty_store (length p.vars) (length p.data_vars))
-  empty_sound = record { differ = tt; below = tt; vars = unset_vars p.vars; data_vars = long (length p.data_vars); cells = tt }
-    where
-      long : (n : ℕ) → length (replicate n Undefined) ≡ n
-      long zero = refl
-      long (suc n) = ap suc (long n)
+  empty_sound = record { differ = tt; below = tt; vars = unset_vars p.vars; data_vars = length-replicate (length p.data_vars) Undefined; cells = tt }

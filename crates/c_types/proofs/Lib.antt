@@ -4,3 +4,5 @@ pub mod RunLaws
 pub mod CellsFit
 pub mod CellsKept
 pub mod Fitting
+pub mod ItemsTyped
+pub mod StepLaws
