@@ -5,7 +5,7 @@ use Rattle.fore_base.specs.declared.shape.Shape.{Shape}
 use Rattle.c_types.specs.declared.program.VarDef.{VarDef}
 use Rattle.c_types.specs.declared.program.Act.{Act}
 use Rattle.c_types.specs.declared.program.Act.TheVariants.{Return}
-use Rattle.c_types.specs.declared.program.Stmt.{Stmt, Stmt-F, out-Stmt, map-Stmt, fold_out-Stmt}
+use Rattle.c_types.specs.declared.program.Stmt.{Stmt, map-Stmt, fold_out-Stmt}
 use Rattle.c_types.specs.declared.program.Stmt.TheVariants.{Do, Group, outs-Do, outs-Group}
 use Rattle.c_types.specs.Program.{Program, shapes_typed, vars_typed, act_typed, stmt_typed, stmt_typed_step, each_typed, is_typed}
 use Rattle.c_types.specs.Plain.{act_is_plain, act_is_return, layer_does, does, lines_are_plain, layer_inside, lines_in}
