@@ -3,7 +3,7 @@ ghost use Rattle.std.specs.Prelude.{◌≡◌, slice_index};
 ghost use Rattle.c_lexer.specs.Bytes as spec;
 ghost use Rattle.c_lexer.specs.Steps.{class_of};
 
-/// Where a token or a skipped piece may begin: what the first byte of a place tells.
+/// What the first byte at a place tells of the piece that begins there.
 #[derive(Clone, Copy, PartialEq, Eq, Debug)]
 pub enum Class {
     /// White space.
@@ -19,6 +19,7 @@ pub enum Class {
     Sign,
 }
 
+/// A letter or the underscore.
 #[tactic(auto, unfolding(crate::specs::Bytes::is_letter))]
 pub fn is_letter(byte: u8) -> bool
     ensures { result ≡ spec.is_letter byte }
@@ -26,6 +27,7 @@ pub fn is_letter(byte: u8) -> bool
     (byte >= b'a' && byte <= b'z') || (byte >= b'A' && byte <= b'Z') || byte == b'_'
 }
 
+/// A decimal digit.
 #[tactic(auto, unfolding(crate::specs::Bytes::is_digit))]
 pub fn is_digit(byte: u8) -> bool
     ensures { result ≡ spec.is_digit byte }
@@ -33,6 +35,7 @@ pub fn is_digit(byte: u8) -> bool
     byte >= b'0' && byte <= b'9'
 }
 
+/// What may follow the first byte of a word.
 #[tactic(auto, unfolding(crate::specs::Bytes::is_word_byte))]
 pub fn is_word_byte(byte: u8) -> bool
     ensures { result ≡ spec.is_word_byte byte }
@@ -40,6 +43,7 @@ pub fn is_word_byte(byte: u8) -> bool
     is_letter(byte) || is_digit(byte)
 }
 
+/// What may follow the first digit of a number.
 #[tactic(auto, unfolding(crate::specs::Bytes::is_number_byte))]
 pub fn is_number_byte(byte: u8) -> bool
     ensures { result ≡ spec.is_number_byte byte }
@@ -47,6 +51,7 @@ pub fn is_number_byte(byte: u8) -> bool
     is_word_byte(byte) || byte == b'.'
 }
 
+/// A space or a tab.
 #[tactic(auto, unfolding(crate::specs::Bytes::is_gap))]
 pub fn is_gap(byte: u8) -> bool
     ensures { result ≡ spec.is_gap byte }
@@ -54,6 +59,7 @@ pub fn is_gap(byte: u8) -> bool
     byte == b' ' || byte == b'\t'
 }
 
+/// White space: a space, a tab, a newline, a vertical tab, a form feed or a carriage return.
 #[tactic(auto, unfolding(crate::specs::Bytes::is_space))]
 pub fn is_space(byte: u8) -> bool
     ensures { result ≡ spec.is_space byte }
@@ -61,6 +67,7 @@ pub fn is_space(byte: u8) -> bool
     byte == b' ' || (byte >= b'\t' && byte <= b'\r')
 }
 
+/// A quotation mark or an apostrophe.
 #[tactic(auto, unfolding(crate::specs::Bytes::is_quote))]
 pub fn is_quote(byte: u8) -> bool
     ensures { result ≡ spec.is_quote byte }
@@ -68,6 +75,7 @@ pub fn is_quote(byte: u8) -> bool
     byte == b'"' || byte == b'\''
 }
 
+/// A newline.
 #[tactic(auto, unfolding(crate::specs::Bytes::is_newline))]
 pub fn is_newline(byte: u8) -> bool
     ensures { result ≡ spec.is_newline byte }
@@ -75,6 +83,7 @@ pub fn is_newline(byte: u8) -> bool
     byte == b'\n'
 }
 
+/// No space, no tab and no carriage return.
 #[tactic(auto, unfolding(crate::specs::Bytes::is_solid))]
 pub fn is_solid(byte: u8) -> bool
     ensures { result ≡ spec.is_solid byte }
@@ -82,6 +91,7 @@ pub fn is_solid(byte: u8) -> bool
     byte != b' ' && byte != b'\t' && byte != b'\r'
 }
 
+/// The class of a byte.
 pub fn class_of(byte: u8) -> Class
     ensures { result ≡ class_of byte }
 {

@@ -5,10 +5,10 @@ pub mod bytes;
 pub mod crossing;
 pub mod fault;
 pub mod laws;
-pub mod place;
-pub mod reader;
-pub mod scan;
-pub mod step;
+mod place;
+mod reader;
+mod scan;
+mod step;
 #[cfg(test)]
 mod tests;
 pub mod token;

@@ -6,10 +6,11 @@ ghost use Rattle.c_lexer.specs.Steps.{cursor_after, moved};
 use crate::bytes::{is_gap, is_newline};
 use fore_base::place::Place;
 
-/// A place, and whether nothing but spaces and tabs stands before it on its line.
+/// Where the reader stands.
 #[derive(Clone, Copy, PartialEq, Eq, Debug)]
 pub struct Cursor {
     pub place: Place,
+    /// Nothing but spaces and tabs stands before the place on its line.
     pub fresh: bool,
 }
 

@@ -18,10 +18,12 @@ pub enum TokKind {
     Refused,
 }
 
-/// A token: its bytes, and the place of the first of them.
+/// A token of a text.
 #[derive(PartialEq, Eq, Debug, Drop)]
 pub struct Token {
     pub kind: TokKind,
+    /// The bytes of the token.
     pub text: Text,
+    /// The place of its first byte.
     pub at: Place,
 }

@@ -1,5 +1,5 @@
 // Texts that are numbered in the order in which they first come.
-ghost use Rattle.std.specs.Prelude.{◌≡◌, ◌<◌, [], ◌∷◌, ◌++◌, length, slice_get, IfOk, OnOk, OnErr, MatchOption};
+ghost use Rattle.std.specs.Prelude.{◌≡◌, ◌↔◌, ◌<◌, [], ◌∷◌, ◌++◌, length, slice_get, IfOk, IsTrue, OnOk, OnErr, MatchOption};
 ghost use Rattle.fore_base.specs.Lists.{IsIn};
 ghost use Rattle.fore_base.specs.Names.{IsDistinct};
 
@@ -47,8 +47,15 @@ impl Names {
         self.texts.len()
     }
 
-    /// No text has two numbers.
-    pub fn is_distinct(&self)
+    /// Whether there are no texts.
+    pub fn is_empty(&self) -> bool
+        ensures { IsTrue result ↔ (self.now ≡ []) }
+    {
+        self.len() == 0
+    }
+
+    /// Says that no text has two numbers, and does nothing.
+    pub fn known_distinct(&self)
         ensures { IsDistinct self.now }
     {
         let _texts = &self.texts;

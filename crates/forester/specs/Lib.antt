@@ -1,5 +1,12 @@
+pub mod Building
+pub mod Checks
+pub mod Delivery
 pub mod Meaning
-pub mod Pieces
 pub mod Rules
+pub mod Sources
 pub mod Spelling
 pub mod Straight
+pub mod Templates
+pub mod Texts
+pub mod Words
+pub mod Reading

@@ -5,10 +5,12 @@ use Rattle.c_lexer.specs.declared.token.Token.{Token}
 use Rattle.c_lexer.specs.Tokens.{Tokens}
 use Rattle.c_types.specs.Program.{Program}
 use Rattle.forester.specs.declared.source.Source.{Source}
-use Rattle.forester.specs.Pieces.{piece_of}
 use Rattle.forester.specs.Spelling.{spelled, IsNamed}
 use Rattle.forester.specs.Rules.{KeepsRules}
 use Rattle.forester.specs.Meaning.{program_of}
+
+abbrev pub text_of : Token → List ℕ
+text_of t = t.text
 
 abbrev pub line_of : Token → ℕ
 line_of t = t.at.line
@@ -22,7 +24,7 @@ pub record IsStraight (bytes : List ℕ) (p : Program) : Type 0 where
   pub reads : Tokens bytes tokens
   pub few_tokens : length tokens ≤ 65535
   pub source : Source
-  pub spells : map piece_of tokens ≡ spelled source
+  pub spells : map text_of tokens ≡ spelled source
   pub named : IsNamed source
   pub rules : KeepsRules source
   pub means : p ≡ program_of source (map line_of tokens)

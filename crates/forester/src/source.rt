@@ -1,3 +1,5 @@
+ghost use Rattle.std.specs.Prelude.{◌≡◌, length};
+
 use fore_base::list::List;
 use fore_base::text::Text;
 
@@ -35,4 +37,20 @@ pub struct Source {
     pub shape: Text,
     pub fields: List<FieldLine>,
     pub lines: List<Line>,
+}
+
+impl Line {
+    ghost use Rattle.forester.specs.Spelling.{line_pieces};
+
+    /// The number of its tokens.
+    pub fn size(&self) -> usize
+        ensures { result ≡ length (line_pieces self.now) }
+    {
+        match self {
+            Line::Declare { .. } | Line::Free { .. } => 5,
+            Line::Copy { .. } | Line::SetNull { .. } => 4,
+            Line::Load { .. } | Line::Store { .. } | Line::StoreNull { .. } => 6,
+            Line::New { .. } => 11,
+        }
+    }
 }

@@ -1,0 +1,12 @@
+-- The words of the command line.
+use Rattle.std.specs.Prelude.{◌≡◌, ◌≢◌, ⊤, ℕ, List, [], ◌∷◌, codes}
+
+-- a word that is no option: it does not begin with `-`
+abbrev pub IsNoOption : List ℕ → Type 0
+IsNoOption [] = ⊤
+IsNoOption (b ∷ bs) = b ≢ 45
+
+-- the words are `verify` and the path of a file
+pub record IsVerify (words : List (List ℕ)) (path : List ℕ) : Type 0 where
+  pub are : words ≡ codes "verify" ∷ (path ∷ [])
+  pub no_option : IsNoOption path

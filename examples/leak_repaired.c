@@ -1,0 +1,7 @@
+struct node { struct node *next; };
+int main(void) {
+  struct node *x;
+  x = malloc(sizeof(struct node));
+  free(x);
+  return 0;
+}
