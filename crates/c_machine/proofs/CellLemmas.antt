@@ -1,5 +1,5 @@
 -- What stands at the position of a cell.
-use Rattle.std.proofs.Common.{◌≡◌, ◌≤◌, ◌<◌, ℕ, zero, suc, ◌+◌, Bool, true, false, nat_eq, if◌then◌else◌, Option, Some, None, List, [], ◌∷◌, ◌++◌, length, get_or, map, remove, slice_set, slice_index_or, refl, sym, ap, ◌∙◌, subst, arith}
+use Rattle.std.proofs.Common.{◌≡◌, ◌≤◌, ◌<◌, ℕ, zero, suc, Bool, true, false, nat_eq, if◌then◌else◌, Option, Some, None, List, [], ◌∷◌, ◌++◌, length, get_or, map, remove, slice_set, slice_index_or, refl, sym, ap, ◌∙◌, subst, arith}
 use Rattle.std.proofs.lemmas.Bool.{eqb-true}
 use Rattle.std.proofs.lemmas.Bool.Decides.{nat_tests}
 use Rattle.fore_base.specs.declared.store.Value.{Value}
@@ -7,6 +7,7 @@ use Rattle.fore_base.specs.declared.store.Value.TheVariants.{Uninit}
 use Rattle.fore_base.specs.declared.store.CellRec.{CellRec}
 use Rattle.fore_base.specs.Lists.{Every}
 use Rattle.fore_base.specs.Stores.{field_in, with_field, dangle_in, without}
+use Rattle.c_types.proofs.CellsKept.{IsBelow}
 use Rattle.c_machine.specs.Rising.{RisesFrom, position_in, one_more}
 
 -- the cell c of the number n is the first one, at i
@@ -126,30 +127,7 @@ rises_without n low (c ∷ cs) h = here (nat_eq c.number n) (rises_without n (su
     here true rest = rises_lower low (suc c.number) (without n cs) (omega (arith, h.0)) rest
     here false rest = (h.0, rest)
 
-abbrev pub IsBelow : ℕ → CellRec → Type 0
-IsBelow next c = c.number < next
-
-pub below_with : (n f : ℕ) (v : Value) (next : ℕ) (cs : List CellRec) → Every (IsBelow next) cs → Every (IsBelow next) (with_field cs n f v)
-below_with n f v next [] h = tt
-below_with n f v next (c ∷ cs) h = here (nat_eq c.number n) (below_with n f v next cs h.1)
-  where
-    here : (b : Bool) → Every (IsBelow next) (with_field cs n f v) → Every (IsBelow next) (if b then record c { fields = slice_set c.fields f v } ∷ cs else c ∷ with_field cs n f v)
-    here true rest = h
-    here false rest = (h.0, rest)
-
-pub below_without : (n next : ℕ) (cs : List CellRec) → Every (IsBelow next) cs → Every (IsBelow next) (without n cs)
-below_without n next [] h = tt
-below_without n next (c ∷ cs) h = here (nat_eq c.number n) (below_without n next cs h.1)
-  where
-    here : (b : Bool) → Every (IsBelow next) (without n cs) → Every (IsBelow next) (if b then without n cs else dangle_in n c ∷ without n cs)
-    here true rest = rest
-    here false rest = (h.0, rest)
-
 -- a new cell of the number `next`
 pub rises_grown : (next low : ℕ) (cs : List CellRec) (c : CellRec) → c.number ≡ next → low ≤ next → RisesFrom low cs → Every (IsBelow next) cs → RisesFrom low (cs ++ c ∷ [])
 rises_grown next low [] c is less h below = (omega (arith, is), tt)
 rises_grown next low (b ∷ cs) c is less h below = (h.0, rises_grown next (suc b.number) cs c is (omega (arith, below.0)) h.1 below.1)
-
-pub below_grown : (next : ℕ) (cs : List CellRec) (c : CellRec) → c.number ≡ next → Every (IsBelow next) cs → Every (IsBelow (next + 1)) (cs ++ c ∷ [])
-below_grown next [] c is h = (omega (arith, is), tt)
-below_grown next (b ∷ cs) c is h = (omega (arith, h.0), below_grown next cs c is h.1)

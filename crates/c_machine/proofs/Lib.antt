@@ -4,3 +4,4 @@ pub mod ShapeLemmas
 pub mod Marked
 pub mod PathLemmas
 pub mod RunLemmas
+pub mod NodePrograms

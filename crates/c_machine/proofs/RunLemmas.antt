@@ -1,5 +1,6 @@
 -- A statement's step in a run of a plain program.
-use Rattle.std.proofs.Common.{◌≡◌, ◌⊎◌, inl, inr, ◌<◌, ◌+◌, ◌-◌, ℕ, zero, suc, Bool, true, false, ◌&&◌, List, [], ◌∷◌, drop, get_or, length, refl, sym, ap, ◌∙◌, true≢false, sub-one, arith}
+use Rattle.std.proofs.Common.{◌≡◌, ◌⊎◌, inl, inr, ◌<◌, ◌+◌, ◌-◌, ℕ, zero, suc, Bool, true, false, List, [], ◌∷◌, drop, get_or, length, refl, sym, ap, ◌∙◌, sub-one, arith}
+use Rattle.std.proofs.lemmas.Bool.{and_parts}
 use Rattle.fore_base.specs.declared.shape.Shape.{Shape}
 use Rattle.fore_base.specs.declared.store.Store.{Store}
 use Rattle.c_types.specs.declared.program.Act.{Act}
@@ -42,18 +43,10 @@ module _ (shapes : List Shape) where
 
 -- Statement by statement
 
-and_first : (a b : Bool) → (a && b) ≡ true → a ≡ true
-and_first true b e = refl
-and_first false b e = e
-
-and_second : (a b : Bool) → (a && b) ≡ true → b ≡ true
-and_second true b e = e
-and_second false b e = absurd (true≢false (sym e))
-
 -- a statement of a plain program is plain or the `return`, and only the `return` is last
 pub next_line : (s : Stmt) (ss : List Stmt) → lines_are_plain (s ∷ ss) ≡ true → ((does act_is_plain s ≡ true) × (lines_are_plain ss ≡ true)) ⊎ (does act_is_return s ≡ true)
 next_line s [] e = inr e
-next_line s (t ∷ ss) e = inl (and_first (does act_is_plain s) (lines_are_plain (t ∷ ss)) e, and_second (does act_is_plain s) (lines_are_plain (t ∷ ss)) e)
+next_line s (t ∷ ss) e = inl (and_parts (does act_is_plain s) (lines_are_plain (t ∷ ss)) e)
 
 -- with no step left a plain statement still stands
 still_runs : (shapes : List Shape) (stmt : Stmt) (rest : Items) (test : Act → Bool) (step : ℕ) (s : Store) (cs : List ℕ) → does test stmt ≡ true → go shapes own_line at_end zero step (items_of stmt rest) s cs 0 ≡ StillRunning

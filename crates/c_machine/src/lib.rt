@@ -9,6 +9,8 @@ mod leak;
 mod paths;
 pub mod run;
 mod search;
+#[cfg(test)]
+mod tests;
 mod values;
 
 pub use c_types::outcome;

@@ -1,5 +1,6 @@
 -- Plain programs: their items, one for each statement, and their runs, which take no choice.
-use Rattle.std.proofs.Common.{◌≡◌, ◌≤◌, ℕ, zero, suc, ◌+◌, Bool, true, false, ◌&&◌, if◌then◌else◌, Result, Ok, Err, Some, None, List, [], ◌∷◌, length, map, refl, sym, ap, ◌∙◌, subst, true≢false, arith}
+use Rattle.std.proofs.Common.{◌≡◌, ◌≤◌, ℕ, zero, suc, ◌+◌, Bool, true, false, if◌then◌else◌, Result, Ok, Err, Some, None, List, [], ◌∷◌, length, map, refl, sym, ap, ◌∙◌, subst, true≢false, arith}
+use Rattle.std.proofs.lemmas.Bool.{and_parts}
 use Rattle.fore_base.specs.declared.fault.Fault.{Fault as Kind}
 use Rattle.fore_base.specs.declared.fault.Fault.TheVariants.{Leak}
 use Rattle.fore_base.specs.declared.shape.Shape.{Shape}
@@ -57,22 +58,14 @@ pub data PlainItems : ℕ → Items → Type 0 where
   last : {a : Act} {m : ℕ} {is : Items} → act_is_return a ≡ true → PlainItems (suc zero) (Do a m is)
   more : {a : Act} {m n : ℕ} {is : Items} → act_is_plain a ≡ true → PlainItems n is → PlainItems (suc n) (Do a m is)
 
-and_left : (a b : Bool) → (a && b) ≡ true → a ≡ true
-and_left true b e = refl
-and_left false b e = e
-
-and_right : (a b : Bool) → (a && b) ≡ true → b ≡ true
-and_right true b e = e
-and_right false b e = absurd (true≢false (sym e))
-
 lines_plain : (ss : List Stmt) (r : Items) → lines_are_plain ss ≡ true → PlainItems (length ss) (all_before (map items_of ss) r)
 lines_plain [] r e = absurd (true≢false (sym e))
 lines_plain (s ∷ []) r e =
     let d : DoesAct act_is_return (out-Stmt s) = act_in act_is_return s e in
     subst (PlainItems (suc zero)) (sym (items_act s d.act d.line r d.is)) (last d.holds)
 lines_plain (s ∷ (t ∷ ss)) r e =
-    let d : DoesAct act_is_plain (out-Stmt s) = act_in act_is_plain s (and_left (does act_is_plain s) (lines_are_plain (t ∷ ss)) e) in
-    subst (PlainItems (length (s ∷ (t ∷ ss)))) (sym (items_act s d.act d.line (all_before (map items_of (t ∷ ss)) r) d.is)) (more d.holds (lines_plain (t ∷ ss) r (and_right (does act_is_plain s) (lines_are_plain (t ∷ ss)) e)))
+    let d : DoesAct act_is_plain (out-Stmt s) = act_in act_is_plain s (and_parts (does act_is_plain s) (lines_are_plain (t ∷ ss)) e).0 in
+    subst (PlainItems (length (s ∷ (t ∷ ss)))) (sym (items_act s d.act d.line (all_before (map items_of (t ∷ ss)) r) d.is)) (more d.holds (lines_plain (t ∷ ss) r (and_parts (does act_is_plain s) (lines_are_plain (t ∷ ss)) e).1))
 
 -- what comes after the statements of the one block
 abbrev pub layer_end : Stmt-F Stmt → Items

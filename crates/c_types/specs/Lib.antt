@@ -1,4 +1,5 @@
 pub mod Control
+pub mod Fits
 pub mod Over
 pub mod Plain
 pub mod Program

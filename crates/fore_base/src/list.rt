@@ -153,7 +153,11 @@ impl<T: Copy> List<T> {
     pub fn get_or(&self, at: usize, default: T) -> T
         ensures { result ≡ slice_index_or self.now at default }
     {
-        if at < self.items.len() { self.items[at] } else { default }
+        if at < self.items.len() {
+            self.items[at]
+        } else {
+            default
+        }
     }
 
     /// Writes an item at a place; nothing where the list ends before it.

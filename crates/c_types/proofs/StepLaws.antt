@@ -1,0 +1,151 @@
+-- Steps keep stores proper and fitting.
+use Rattle.std.proofs.Common.{◌≡◌, ◌<◌, ℕ, Bool, true, false, is_some, Option, Some, None, Result, Ok, Err, length, refl, sym, ap, subst, true≢false}
+use Rattle.std.proofs.lemmas.Bool.{eqb-true}
+use Rattle.fore_base.specs.declared.fault.Fault.{Fault}
+use Rattle.fore_base.specs.declared.store.Value.TheVariants.{Null, Cell}
+use Rattle.fore_base.specs.declared.store.Datum.{Datum}
+use Rattle.fore_base.specs.declared.store.Store.{Store}
+use Rattle.fore_base.specs.Stores.{kill, store_datum, grown, freed}
+use Rattle.fore_base.specs.Heap.{IsProper, leaks}
+use Rattle.c_types.specs.declared.program.Path.{Path}
+use Rattle.c_types.specs.declared.program.DataPath.{DataPath}
+use Rattle.c_types.specs.declared.program.DataPath.TheVariants.{Var as DataVar, Field as DataField}
+use Rattle.c_types.specs.declared.program.PtrRhs.{PtrRhs}
+use Rattle.c_types.specs.declared.program.PtrRhs.TheVariants.{Path as RhsPath, Null as RhsNull, New as RhsNew}
+use Rattle.c_types.specs.declared.program.Act.{Act}
+use Rattle.c_types.specs.declared.program.Act.TheVariants.{SetPtr, SetData, Free, Error, Halt, Return, Break, Continue}
+use Rattle.c_types.specs.Program.{Program, is_target, both_targets, path_target, rhs_typed, is_typed}
+use Rattle.c_types.specs.Control.{Items, Done, Do, Close, If, Loop, Again, DoLoop, DoAgain, Ask, Not, Both, Either, ◌then◌, opened, after_again, from_again, closed_ptrs, closed_datums, start_of}
+use Rattle.c_types.specs.Steps.{Turn, Goes, Stops, Faults, read, read_data_rhs, write_path, write_data, blank, assign, look_at, all_dead, settle, settled, finished, act_turn, test_turn, atom_of, turn_of}
+use Rattle.c_types.specs.Runs.{empty_store}
+use Rattle.c_types.specs.Fits.{PointsTo, FitsProgram, Visited, start, step, ActFits, ItemsFit}
+use Rattle.c_types.proofs.Fitting.{Gives, onward_gives, PathLeads, path_leads, path_below, Sound, is_sound, sound_fits, sound_proper, read_gives, path_sound, set_datum_sound, store_datum_sound, kill_sound, grown_sound, grown_points, freed_sound, empty_sound}
+use Rattle.c_types.proofs.ItemsTyped.{then_fit, opened_fit, after_fit, from_fit, has_shapes_typed, has_vars_typed, start_fits}
+
+-- where a turn goes on, what it goes on with meets P
+abbrev pub TurnGives : (Items → Store → Type 0) → Turn → Type 0
+TurnGives P (Goes is s) = P is s
+TurnGives P Stops = Unit {0}
+TurnGives P (Faults k) = Unit {0}
+
+pub turn_gives : (P : Items → Store → Type 0) (t : Turn) (js : Items) (u : Store) → TurnGives P t → t ≡ Goes js u → P js u
+turn_gives P t js u this e = subst (TurnGives P) e this
+
+settle_gives : (P : Items → Store → Type 0) (s : Store) (is : Items) → P is s → TurnGives P (settle s is)
+settle_gives P s is this = here (leaks s) refl
+  where
+    here : (b : Bool) → leaks s ≡ b → TurnGives P (settle s is)
+    here true leak = rw leak tt
+    here false fine = rw fine this
+
+settled_gives : (P : Items → Store → Type 0) (r : Result Store Fault) (is : Items) → Gives (λ s. P is s) r → TurnGives P (settled r is)
+settled_gives P (Ok s) is this = settle_gives P s is this
+settled_gives P (Err k) is this = tt
+
+finished_gives : (P : Items → Store → Type 0) (r : Result Store Fault) → TurnGives P (finished r)
+finished_gives P (Err k) = tt
+finished_gives P (Ok s) = here (leaks (all_dead s)) refl
+  where
+    here : (b : Bool) → leaks (all_dead s) ≡ b → TurnGives P (finished (Ok s))
+    here true leak = rw leak tt
+    here false fine = rw fine tt
+
+-- Structs that agree
+
+target_is : (o : Option ℕ) (t : ℕ) → is_target o t ≡ true → o ≡ Some t
+target_is None t e = absurd (true≢false (sym e))
+target_is (Some u) t e = ap Some (eqb-true u t e)
+
+some_target : (o : Option ℕ) → is_some o ≡ true → (t : ℕ) × (o ≡ Some t)
+some_target None e = absurd (true≢false (sym e))
+some_target (Some t) e = (t, refl)
+
+agreed : (o r : Option ℕ) → both_targets o r ≡ true → (t : ℕ) × (o ≡ Some t) × (r ≡ Some t)
+agreed None r e = absurd (true≢false (sym e))
+agreed (Some t) r e = (t, refl, target_is r t e)
+
+module _ (p : Program) (typed : is_typed p ≡ true) where
+  abbrev target : Path → Option ℕ
+  target q = path_target p.shapes.structs p.vars (length p.data_vars) q
+
+  -- typed items and a store that fits
+  abbrev Goods : Items → Store → Type 0
+  Goods is s = ItemsFit p is × Sound p s
+
+  assign_sound : (s : Store) (to : Path) (from : PtrRhs) → rhs_typed p.shapes.structs p.vars (length p.data_vars) (target to) from ≡ true → Sound p s → Gives (Sound p) (assign p.shapes.structs s to from)
+  assign_sound s to (RhsPath from) e sound =
+      let both : (t : ℕ) × (target to ≡ Some t) × (target from ≡ Some t) = agreed (target to) (target from) e in
+      onward_gives (PointsTo s.cells both.0) (Sound p) (read s from) (λ v. write_path s to.var to.fields v) (read_gives p s from both.0 sound (path_leads p from both.0 both.2))
+      (λ v points. path_sound p s to both.0 v sound (path_leads p to both.0 both.1) points)
+  assign_sound s to RhsNull e sound =
+      let some : (t : ℕ) × (target to ≡ Some t) = some_target (target to) e in
+      path_sound p s to some.0 Null sound (path_leads p to some.0 some.1) tt
+  assign_sound s to (RhsNew shape) e sound =
+      let leads : PathLeads p to shape = path_leads p to shape (target_is (target to) shape e) in
+      let less : shape < length p.shapes.structs = path_below p to shape (has_shapes_typed p typed) (has_vars_typed p typed) leads in
+      path_sound p (grown s (blank p.shapes.structs s.next shape)) to shape (Cell s.next) (grown_sound p s shape less sound) leads (grown_points p s shape)
+
+  always : {A : Type 0} (r : Result A Fault) → Gives (λ a. Unit {0}) r
+  always (Ok a) = tt
+  always (Err k) = tt
+
+  write_data_sound : (s : Store) (to : DataPath) (d : Datum) → Sound p s → Gives (Sound p) (write_data s to d)
+  write_data_sound s (DataVar x) d sound = set_datum_sound p s x d sound
+  write_data_sound s (DataField base f) d sound =
+      onward_gives (λ v. Unit {0}) (Sound p) (read s base) (λ v. store_datum s v f d) (always (read s base)) (λ v this. store_datum_sound p s v f d sound)
+
+  with_items : (is : Items) (r : Result Store Fault) → ItemsFit p is → Gives (Sound p) r → Gives (λ s. Goods is s) r
+  with_items is (Ok s) fit sound = (fit, sound)
+  with_items is (Err k) fit sound = tt
+
+  act_gives : (a : Act) (is : Items) (s : Store) (x : ℕ) → ActFits p a → Goods is s → TurnGives Goods (act_turn p.shapes.structs a is s x)
+  act_gives (SetPtr to from) is s x e this = settled_gives Goods (assign p.shapes.structs s to from) is (with_items is (assign p.shapes.structs s to from) this.0 (assign_sound s to from e this.1))
+  act_gives (SetData to from) is s x e this =
+      settled_gives Goods _ is (with_items is _ this.0
+      (onward_gives (λ d. Unit {0}) (Sound p) (read_data_rhs s from x) (λ d. write_data s to d) (always (read_data_rhs s from x)) (λ d that. write_data_sound s to d this.1)))
+  act_gives (Free q) is s x e this =
+      settled_gives Goods _ is (with_items is _ this.0
+      (onward_gives (λ v. Unit {0}) (Sound p) (read s q) (λ v. freed s v) (always (read s q)) (λ v that. freed_sound p s v this.1)))
+  act_gives Error is s x e this = tt
+  act_gives Halt is s x e this = tt
+  act_gives (Return operand) is s x e this = finished_gives Goods (look_at s operand)
+  act_gives Break is s x e this = settle_gives Goods (kill (closed_ptrs is) (closed_datums is) s) (after_again is) (after_fit p is this.0, kill_sound p (closed_ptrs is) (closed_datums is) s this.1)
+  act_gives Continue is s x e this = settle_gives Goods (kill (closed_ptrs is) (closed_datums is) s) (from_again is) (from_fit p is this.0, kill_sound p (closed_ptrs is) (closed_datums is) s this.1)
+
+  test_gives : (r : Result Bool Fault) (x y is : Items) (s : Store) → ItemsFit p x → ItemsFit p y → Goods is s → TurnGives Goods (test_turn r x y is s)
+  test_gives (Ok true) x y is s yes_fit no_fit this = settle_gives Goods s (x then is) (then_fit p x is yes_fit this.0, this.1)
+  test_gives (Ok false) x y is s yes_fit no_fit this = settle_gives Goods s (y then is) (then_fit p y is no_fit this.0, this.1)
+  test_gives (Err k) x y is s yes_fit no_fit this = tt
+
+  step_gives : (is : Items) (s : Store) (x : ℕ) → Goods is s → TurnGives Goods (turn_of p.shapes.structs is s x)
+  step_gives Done s x this = tt
+  step_gives (Do a m is) s x this = act_gives a is s x this.0.0 (this.0.1, this.1)
+  step_gives (Close ps ds m is) s x this = settle_gives Goods (kill ps ds s) is (this.0, kill_sound p ps ds s this.1)
+  step_gives (If (Ask a m) y n is) s x this = test_gives (atom_of a s x) y n is s this.0.0 this.0.1 (this.0.2, this.1)
+  step_gives (If (Not c) y n is) s x this = tt
+  step_gives (If (Both c d) y n is) s x this = tt
+  step_gives (If (Either c d) y n is) s x this = tt
+  step_gives (Loop c n b is) s x this = tt
+  step_gives (Again c n b is) s x this = tt
+  step_gives (DoLoop c b is) s x this = tt
+  step_gives (DoAgain c b is) s x this = tt
+
+  goes_good : (is js : Items) (s t : Store) (x : ℕ) → Goods is s → turn_of p.shapes.structs (opened is) s x ≡ Goes js t → Goods js t
+  goes_good is js s t x this e = turn_gives Goods (turn_of p.shapes.structs (opened is) s x) js t (step_gives (opened is) s x (opened_fit p is this.0, this.1)) e
+
+  -- A run begins with typed items and a store that is proper and fits, and each step keeps that.
+
+  pub begins_fitting : ItemsFit p (start_of p) × IsProper (empty_store (length p.vars) (length p.data_vars)) × FitsProgram p (empty_store (length p.vars) (length p.data_vars))
+  begins_fitting = (start_fits p typed, sound_proper p (empty_store (length p.vars) (length p.data_vars)) (empty_sound p), sound_fits p (empty_store (length p.vars) (length p.data_vars)) (empty_sound p))
+
+  pub step_keeps : (is js : Items) (s t : Store) (x : ℕ) → ItemsFit p is → IsProper s → FitsProgram p s → turn_of p.shapes.structs (opened is) s x ≡ Goes js t → ItemsFit p js × IsProper t × FitsProgram p t
+  step_keeps is js s t x items proper fits e =
+      let after : Goods js t = goes_good is js s t x (items, is_sound p s proper fits) e in
+      (after.0, sound_proper p t after.1, sound_fits p t after.1)
+
+  visited_good : {is : Items} {s : Store} → Visited p is s → Goods is s
+  visited_good start = (start_fits p typed, empty_sound p)
+  visited_good (step {is} {js} {s} {t} x before e) = goes_good is js s t x (visited_good before) e
+
+  pub visited_fits : (is : Items) (s : Store) → Visited p is s → IsProper s × FitsProgram p s
+  visited_fits is s visited = let this : Goods is s = visited_good visited in (sound_proper p s this.1, sound_fits p s this.1)

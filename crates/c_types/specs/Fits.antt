@@ -1,0 +1,71 @@
+-- When a store fits a program, which stores a run visits, and when pending items are well typed.
+use Rattle.std.specs.Prelude.{◌≡◌, ◌<◌, ◌⊎◌, ℕ, true, List, [], ◌∷◌, length}
+use Rattle.fore_base.specs.declared.shape.Shape.{Shape}
+use Rattle.fore_base.specs.declared.store.Value.{Value}
+use Rattle.fore_base.specs.declared.store.Value.TheVariants.{Null, Uninit, Dangling, Cell}
+use Rattle.fore_base.specs.declared.store.CellRec.{CellRec}
+use Rattle.fore_base.specs.declared.store.Store.{Store}
+use Rattle.fore_base.specs.Lists.{Every}
+use Rattle.c_types.specs.declared.program.VarDef.{VarDef}
+use Rattle.c_types.specs.declared.program.Act.{Act}
+use Rattle.c_types.specs.Program.{Program, targets_of, datums_of, act_typed}
+use Rattle.c_types.specs.Control.{Items, Done, Do, Close, If, Loop, Again, DoLoop, DoAgain, opened, start_of}
+use Rattle.c_types.specs.Steps.{Goes, turn_of}
+use Rattle.c_types.specs.Runs.{empty_store}
+
+-- some cell has this number and this struct
+abbrev pub HasCellOf : List CellRec → ℕ → ℕ → Type 0
+HasCellOf [] n shape = ⊥
+HasCellOf (c ∷ cs) n shape = ((c.number ≡ n) × (c.shape ≡ shape)) ⊎ HasCellOf cs n shape
+
+-- a value that names a cell names one of this struct
+abbrev pub PointsTo : List CellRec → ℕ → Value → Type 0
+PointsTo cs shape Null = Unit {0}
+PointsTo cs shape Uninit = Unit {0}
+PointsTo cs shape Dangling = Unit {0}
+PointsTo cs shape (Cell n) = HasCellOf cs n shape
+
+-- there is a value for each of these structs, and it points to its struct
+abbrev pub PointsToEach : List CellRec → List ℕ → List Value → Type 0
+PointsToEach cs [] [] = Unit {0}
+PointsToEach cs [] (v ∷ vs) = ⊥
+PointsToEach cs (shape ∷ shapes) [] = ⊥
+PointsToEach cs (shape ∷ shapes) (v ∷ vs) = PointsTo cs shape v × PointsToEach cs shapes vs
+
+-- the structs to which the variables point, in order
+abbrev pub var_targets : List VarDef → List ℕ
+var_targets [] = []
+var_targets (v ∷ vs) = v.shape ∷ var_targets vs
+
+-- a cell has a struct of the program, a value for each pointer field of the struct, which points to the declared struct, and a datum for each
+-- data field
+pub record CellFits (shapes : List Shape) (cells : List CellRec) (c : CellRec) : Type 0 where
+  pub shape : c.shape < length shapes
+  pub fields : PointsToEach cells (targets_of shapes c.shape) c.fields
+  pub datums : length c.datums ≡ datums_of shapes c.shape
+
+-- a store has a program's variables and cells of its structs, and what names a cell names one of the declared struct
+pub record FitsProgram (p : Program) (s : Store) : Type 0 where
+  pub vars : PointsToEach s.cells (var_targets p.vars) s.vars
+  pub data_vars : length s.data_vars ≡ length p.data_vars
+  pub cells : Every (CellFits p.shapes.structs s.cells) s.cells
+
+-- what the runs of a program, on any choices, come to between their steps
+pub data Visited (p : Program) : Items → Store → Type 0 where
+  start : Visited p (start_of p) (empty_store (length p.vars) (length p.data_vars))
+  step : {is js : Items} {s t : Store} (choice : ℕ) → Visited p is s → turn_of p.shapes.structs (opened is) s choice ≡ Goes js t → Visited p js t
+
+-- an act is one of the program's, inside or outside a loop
+abbrev pub ActFits : Program → Act → Type 0
+ActFits p a = act_typed p.shapes.structs p.vars (length p.data_vars) a true ≡ true
+
+-- each act of the items is one of the program's
+abbrev pub ItemsFit : Program → Items → Type 0
+ItemsFit p Done = Unit {0}
+ItemsFit p (Do a m is) = ActFits p a × ItemsFit p is
+ItemsFit p (Close ps ds m is) = ItemsFit p is
+ItemsFit p (If c x y is) = ItemsFit p x × ItemsFit p y × ItemsFit p is
+ItemsFit p (Loop c n b is) = ItemsFit p n × ItemsFit p b × ItemsFit p is
+ItemsFit p (Again c n b is) = ItemsFit p n × ItemsFit p b × ItemsFit p is
+ItemsFit p (DoLoop c b is) = ItemsFit p b × ItemsFit p is
+ItemsFit p (DoAgain c b is) = ItemsFit p b × ItemsFit p is
