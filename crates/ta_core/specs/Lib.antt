@@ -1,0 +1,4 @@
+pub mod Arity
+pub mod Auto
+pub mod Language
+pub mod Simulations

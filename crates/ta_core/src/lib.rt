@@ -1,0 +1,7 @@
+// Tree automata over the symbols of cells: their runs and languages, and what is computed of them.
+#![tactic(auto)]
+
+pub mod auto;
+pub mod crossing;
+pub mod symbol;
+pub mod tree;
