@@ -1,4 +1,7 @@
 pub mod Arity
 pub mod Auto
 pub mod Language
+pub mod Marks
+pub mod Paired
 pub mod Simulations
+pub mod Tops

@@ -1,23 +1,10 @@
 -- Simulations on the states of a tree automaton, and reduced automata.
-use Rattle.std.specs.Prelude.{◌≡◌, ℕ, suc, zero, ◌<◌, Bool, true, List, [], ◌∷◌, slice_get, Some}
+use Rattle.std.specs.Prelude.{◌≡◌, ℕ, ◌<◌, Bool, true, List, slice_get, Some}
 use Rattle.fore_base.specs.Lists.{IsIn}
 use Rattle.ta_core.specs.Auto.{Automaton}
 use Rattle.ta_core.specs.Language.{IsTrim}
+use Rattle.ta_core.specs.Paired.{Paired, PairedBut}
 use Rattle.ta_core.specs.declared.auto.Rule.{Rule}
-
--- the lists are as long as each other, and the items in each place are related
-abbrev pub Paired : {X Y : Type 0} → (X → Y → Type 0) → List X → List Y → Type 0
-Paired R [] [] = Unit {0}
-Paired R [] (y ∷ ys) = ⊥
-Paired R (x ∷ xs) [] = ⊥
-Paired R (x ∷ xs) (y ∷ ys) = R x y × Paired R xs ys
-
--- the lists are as long as each other, p and q stand at place i of them, and the items in each other place are related
-abbrev pub PairedBut : {X Y : Type 0} → (X → Y → Type 0) → ℕ → X → Y → List X → List Y → Type 0
-PairedBut R i p q [] ys = ⊥
-PairedBut R i p q (x ∷ xs) [] = ⊥
-PairedBut R zero p q (x ∷ xs) (y ∷ ys) = (x ≡ p) × (y ≡ q) × Paired R xs ys
-PairedBut R (suc i) p q (x ∷ xs) (y ∷ ys) = R x y × PairedBut R i p q xs ys
 
 -- a downward simulation: each rule of p is matched by a rule of each state that p is related to, with the same symbol and related children
 abbrev pub IsDownward : List Rule → (ℕ → ℕ → Type 0) → Type 0
