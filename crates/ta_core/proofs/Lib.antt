@@ -1,3 +1,4 @@
+pub mod Reaching
 pub mod Lists
 pub mod Marking
 pub mod Tops

@@ -35,9 +35,16 @@ module _ {X : Type 0} where
   in_place (x ∷ xs) zero d h = inl refl
   in_place (x ∷ xs) (suc i) d h = inr (in_place xs i d (omega arith))
 
+  pub in_at : (xs : List X) (i : ℕ) (x : X) → i < length xs → x ≡ get_or xs i x → IsIn x xs
+  in_at xs i x l e = subst (λ (y : X). IsIn y xs) (sym e) (in_place xs i x l)
+
   -- what each item meets, the item at a place meets
   pub every_at : (P : X → Type 0) (xs : List X) (i : ℕ) (x : X) → Every P xs → i < length xs → x ≡ get_or xs i x → P x
   every_at P xs i x h l e = let g = every_in P xs (get_or xs i x) h (in_place xs i x l) in subst P (sym e) g
+
+  pub every_push : (P : X → Type 0) (xs : List X) (x : X) → Every P xs → P x → Every P (xs ++ x ∷ [])
+  every_push P [] x h p = (p, tt)
+  every_push P (y ∷ xs) x h p = (h.0, every_push P xs x h.1 p)
 
   -- one more item, read at place i
   pub take_item : (xs : List X) (i : ℕ) (x : X) → i < length xs → x ≡ get_or xs i x → take (i + 1) xs ≡ take i xs ++ x ∷ []

@@ -1,5 +1,6 @@
 pub mod Arity
 pub mod Auto
+pub mod Closing
 pub mod Language
 pub mod Marks
 pub mod Paired

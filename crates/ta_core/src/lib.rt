@@ -3,7 +3,9 @@
 
 pub mod accepting;
 pub mod auto;
+mod closing;
 pub mod crossing;
 mod marks;
+mod step;
 pub mod symbol;
 pub mod tree;
