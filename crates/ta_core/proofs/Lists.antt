@@ -1,5 +1,5 @@
 -- Items of lists, and lists paired place by place.
-use Rattle.std.proofs.Common.{◌≡◌, ◌⊎◌, inl, inr, ℕ, zero, suc, ◌<◌, ◌+◌, List, [], ◌∷◌, ◌++◌, length, get_or, take, drop, refl, sym, ap, subst, ◌∙◌, arith}
+use Rattle.std.proofs.Common.{◌≡◌, ◌⊎◌, inl, inr, ℕ, zero, suc, ◌<◌, ◌+◌, List, [], ◌∷◌, ◌++◌, length, map, get_or, take, drop, refl, sym, ap, subst, ◌∙◌, arith}
 use Rattle.std.proofs.lemmas.List.{take_more, drop_more}
 use Rattle.fore_base.specs.Lists.{IsIn, Every}
 use Rattle.ta_core.specs.Paired.{Paired}
@@ -46,12 +46,28 @@ module _ {X : Type 0} where
   every_push P [] x h p = (p, tt)
   every_push P (y ∷ xs) x h p = (h.0, every_push P xs x h.1 p)
 
+  pub every_append : (P : X → Type 0) (xs ys : List X) → Every P xs → Every P ys → Every P (xs ++ ys)
+  every_append P [] ys h k = k
+  every_append P (x ∷ xs) ys h k = (h.0, every_append P xs ys h.1 k)
+
   -- one more item, read at place i
   pub take_item : (xs : List X) (i : ℕ) (x : X) → i < length xs → x ≡ get_or xs i x → take (i + 1) xs ≡ take i xs ++ x ∷ []
   take_item xs i x h e = take_more xs i x h ∙ ap (λ (y : X). take i xs ++ y ∷ []) (sym e)
 
   pub drop_item : (xs : List X) (i : ℕ) (x : X) → i < length xs → x ≡ get_or xs i x → drop i xs ≡ x ∷ drop (i + 1) xs
   drop_item xs i x h e = drop_more xs i x h ∙ ap (λ (y : X). y ∷ drop (i + 1) xs) (sym e)
+
+module _ {X Y : Type 0} (f : X → Y) where
+  pub in_map : (x : X) (xs : List X) → IsIn x xs → IsIn (f x) (map f xs)
+  in_map x (y ∷ xs) (inl e) = inl (ap f e)
+  in_map x (y ∷ xs) (inr i) = inr (in_map x xs i)
+  in_map x [] i = absurd i
+
+  -- an item of the mapped list comes from one of the list
+  pub in_mapped : (y : Y) (xs : List X) → IsIn y (map f xs) → (x : X) × IsIn x xs × (y ≡ f x)
+  in_mapped y [] i = absurd i
+  in_mapped y (x ∷ xs) (inl e) = (x, inl refl, e)
+  in_mapped y (x ∷ xs) (inr i) = let m = in_mapped y xs i in (m.0, inr m.1, m.2)
 
 module _ {X Y : Type 0} (R : X → Y → Type 0) where
   -- one more item behind both lists

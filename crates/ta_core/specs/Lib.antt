@@ -4,5 +4,8 @@ pub mod Closing
 pub mod Language
 pub mod Marks
 pub mod Paired
+pub mod Relabelled
+pub mod Restricted
 pub mod Simulations
+pub mod Steps
 pub mod Tops
