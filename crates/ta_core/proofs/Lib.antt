@@ -1,7 +1,9 @@
 pub mod Climbing
+pub mod Descending
 pub mod Kept
 pub mod Lists
 pub mod Marking
 pub mod Reaching
 pub mod Runs
+pub mod Standing
 pub mod Tops
