@@ -5,5 +5,6 @@ pub mod Lists
 pub mod Marking
 pub mod Reaching
 pub mod Runs
+pub mod Shifting
 pub mod Standing
 pub mod Tops

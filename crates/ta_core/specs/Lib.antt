@@ -1,6 +1,7 @@
 pub mod Arity
 pub mod Auto
 pub mod Closing
+pub mod Joined
 pub mod Language
 pub mod Marks
 pub mod Paired

@@ -6,6 +6,8 @@ pub mod auto;
 mod closing;
 pub mod crossing;
 pub mod inhabited;
+pub mod joining;
+pub mod laws;
 mod marks;
 mod restricting;
 mod step;
