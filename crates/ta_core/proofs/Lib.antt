@@ -6,5 +6,7 @@ pub mod Marking
 pub mod Reaching
 pub mod Runs
 pub mod Shifting
+pub mod Sizing
+pub mod Smaller
 pub mod Standing
 pub mod Tops

@@ -8,5 +8,6 @@ pub mod Paired
 pub mod Relabelled
 pub mod Restricted
 pub mod Simulations
+pub mod Sizes
 pub mod Steps
 pub mod Tops

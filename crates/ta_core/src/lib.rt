@@ -10,6 +10,8 @@ pub mod joining;
 pub mod laws;
 mod marks;
 mod restricting;
+mod sizes;
+pub mod smallest;
 mod step;
 pub mod symbol;
 pub mod tree;
