@@ -17,3 +17,7 @@ IsProperRule n r = (r.state < n) × Every (λ q. q < n) r.children × (length r.
 -- each state is in range, and each rule has as many children as its symbol
 abbrev pub IsProper : Automaton → Type 0
 IsProper a = Every (λ q. q < a.states) a.roots × Every (IsProperRule a.states) a.rules
+
+-- the automaton of these parts
+abbrev pub automaton : ℕ → List ℕ → List Rule → Automaton
+automaton n qs rs = record { states = n; roots = qs; rules = rs }

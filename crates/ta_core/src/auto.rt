@@ -1,6 +1,7 @@
-ghost use Rattle.std.specs.Prelude.{◌≡◌, ◌↔◌, ◌<◌, ◌+◌, ◌^◌, IfSome, IsSome, IfOk, OnErr, ◌≤◌, List};
-ghost use Rattle.ta_core.specs.Auto.{IsProper};
+ghost use Rattle.std.specs.Prelude.{◌≡◌, ◌↔◌, ◌<◌, IsTrue, SomeIff};
+ghost use Rattle.fore_base.specs.Lists.{Every};
 
+use crate::proper::{are_below, are_proper};
 use crate::symbol::Symbol;
 use fore_base::list::{Copies, List};
 use std::alloc::{AllocError, Global};
@@ -30,6 +31,25 @@ impl Model for Auto {
     ghost view = { λ a. record { states = a.states; roots = a.roots; rules = a.rules } };
 
     ghost invariant = { λ a. IsProper (record { states = a.states; roots = a.roots; rules = a.rules }) };
+}
+
+impl Auto {
+    ghost use Rattle.ta_core.specs.Auto.{IsProper, automaton};
+
+    /// The automaton of these parts. None exactly where a state is not below `states`, or a rule has more or fewer children than its symbol. Takes no memory.
+    pub fn from_parts(states: u32, roots: List<u32>, rules: List<Rule>) -> Option<Auto>
+        ensures { SomeIff result (IsProper (automaton states roots rules)) (automaton states roots rules) }
+    {
+        if are_below(states, roots.as_slice()) && are_proper(states, rules.as_slice()) {
+            Some(Auto {
+                states,
+                roots,
+                rules,
+            })
+        } else {
+            None
+        }
+    }
 }
 
 impl Copies for Rule {

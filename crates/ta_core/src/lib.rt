@@ -9,6 +9,7 @@ pub mod inhabited;
 pub mod joining;
 pub mod laws;
 mod marks;
+mod proper;
 mod restricting;
 mod sizes;
 pub mod smallest;
