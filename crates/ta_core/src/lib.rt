@@ -15,5 +15,7 @@ mod sizes;
 pub mod smallest;
 mod step;
 pub mod symbol;
+#[cfg(test)]
+mod tests;
 pub mod tree;
 pub mod trimming;

@@ -1,0 +1,4 @@
+mod building;
+mod large;
+mod small;
+mod worked;
