@@ -1,80 +1,38 @@
 // Small automata, with languages worked out by hand.
 
-use crate::accepting::accepts;
 use crate::auto::Auto;
-use crate::inhabited::is_empty;
-use crate::smallest::smallest_tree;
 use crate::symbol::Slot;
-use crate::tests::building::{Line, Sign, auto, rules, tree};
-use crate::trimming::trim;
+use crate::tests::building::{Line, Sign, auto, rules};
+use crate::tests::checking::{F, N, NULL, Plan, check, check_empty, check_trees};
 use fore_base::list::List;
 use fore_base::store::Datum;
-use std::alloc::Global;
-use std::process::Abort;
 use std::test::Fail;
 
-// A tree in postfix order, each sign with the number of its children.
-type Plan<'a> = &'a [(Sign, usize)];
-
-const NULL: (Sign, usize) = (Sign::Null, 0);
-
-const N: (Sign, usize) = (Sign::Link, 1);
-
-const F: (Sign, usize) = (Sign::Fork, 2);
-
-// The automaton accepts some of the trees and not the others.
-fn check_trees(
-    rt: &impl Abort,
-    alloc: Global,
-    auto: &Auto,
-    accepted: &[Plan],
-    refused: &[Plan],
-) -> Result<(), Fail> {
-    for plan in accepted {
-        assert!(rt; accepts(alloc, auto, &tree(alloc, plan)?)?);
-    }
-    for plan in refused {
-        assert!(rt; !accepts(alloc, auto, &tree(alloc, plan)?)?);
-    }
-    Ok(())
-}
-
-// So does it when it is trimmed to so many states; and it has this smallest tree.
-fn check(
-    rt: &impl Abort,
-    alloc: Global,
-    auto: &Auto,
-    accepted: &[Plan],
-    refused: &[Plan],
-    smallest: Plan,
-    states: u32,
-) -> Result<(), Fail> {
-    check_trees(rt, alloc, auto, accepted, refused)?;
-    assert!(rt; !is_empty(alloc, auto)?);
-    assert!(rt; smallest_tree(alloc, auto)? == Some(tree(alloc, smallest)?));
-    let trimmed = trim(alloc, auto)?;
-    assert_eq!(rt; trimmed.states, states);
-    check_trees(rt, alloc, &trimmed, accepted, refused)
+#[test]
+fn without_root_states_nothing_is_accepted(rt: HostRuntime) -> Result<(), Fail> {
+    let alloc = rt.alloc();
+    check_empty(
+        &rt,
+        alloc,
+        &auto(
+            alloc,
+            1,
+            &[],
+            &[Line(0, Sign::Null, &[]), Line(0, Sign::Link, &[0])],
+        )?,
+    )
 }
 
 #[test]
-fn automata_without_root_rule_or_leaf_are_empty(rt: HostRuntime) -> Result<(), Fail> {
+fn without_leaves_nothing_is_accepted(rt: HostRuntime) -> Result<(), Fail> {
     let alloc = rt.alloc();
-    let leaf = Line(0, Sign::Null, &[]);
-    let cell = Line(0, Sign::Link, &[0]);
-    // No root state; no rule; and a state each tree of which holds another one, without end.
-    for (roots, lines) in [
-        ([].as_slice(), [leaf, cell].as_slice()),
-        ([0].as_slice(), [].as_slice()),
-        ([0].as_slice(), [cell].as_slice()),
-    ] {
-        let auto = auto(alloc, 1, roots, lines)?;
-        check_trees(&rt, alloc, &auto, &[], &[&[NULL], &[NULL, N]])?;
-        assert!(rt; is_empty(alloc, &auto)?);
-        assert!(rt; smallest_tree(alloc, &auto)?.is_none());
-        assert_eq!(rt; trim(alloc, &auto)?.states, 0);
-    }
-    Ok(())
+    // No rule at all, and 0 = n(0) alone: each tree of state 0 holds another one, without end.
+    check_empty(&rt, alloc, &auto(alloc, 1, &[0], &[])?)?;
+    check_empty(
+        &rt,
+        alloc,
+        &auto(alloc, 1, &[0], &[Line(0, Sign::Link, &[0])])?,
+    )
 }
 
 #[test]
