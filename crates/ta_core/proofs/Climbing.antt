@@ -1,13 +1,13 @@
 -- The states to which some tree has a run are those that are reached from below.
-use Rattle.std.proofs.Common.{◌≡◌, ◌⊎◌, inl, inr, ℕ, ◌<◌, Bool, true, false, true≢false, not, List, [], ◌∷◌, ◌++◌, map, refl, sym, ap, subst, ◌∙◌}
+use Rattle.std.proofs.Common.{◌≡◌, ℕ, ◌<◌, Bool, true, false, true≢false, not, List, [], ◌∷◌, map, refl, sym, ap, subst, ◌∙◌}
 use Rattle.std.specs.Bool.{Decides}
-use Rattle.fore_base.specs.Lists.{IsIn, Every}
+use Rattle.fore_base.specs.Lists.{Every}
 use Rattle.ta_core.specs.declared.auto.Rule.{Rule}
 use Rattle.ta_core.specs.declared.step.Step.{Step}
-use Rattle.ta_core.specs.declared.tree.Tree.{Tree, out-Tree}
+use Rattle.ta_core.specs.declared.tree.Tree.{Tree}
 use Rattle.ta_core.specs.Auto.{Automaton, IsProperRule}
 use Rattle.ta_core.specs.Closing.{Reached, reach, ReachedAll, reach_none, reach_more}
-use Rattle.ta_core.specs.Language.{RunOf, run, RunEach, run_none, run_more, HasTree, InLanguage, IsBarren}
+use Rattle.ta_core.specs.Language.{RunOf, run, RunEach, run_none, run_more, HasTree, IsBarren}
 use Rattle.ta_core.specs.Marks.{MarksOf, some_marked}
 use Rattle.ta_core.specs.Steps.{up_step}
 use Rattle.ta_core.proofs.Lists.{in_map, in_mapped}

@@ -3,8 +3,8 @@ use Rattle.std.proofs.Common.{◌≡◌, ◌⊎◌, inl, inr, ℕ, ◌<◌, Bool
 use Rattle.fore_base.specs.Lists.{IsIn, Every}
 use Rattle.ta_core.specs.declared.auto.Rule.{Rule}
 use Rattle.ta_core.specs.declared.step.Step.{Step}
-use Rattle.ta_core.specs.declared.tree.Tree.{Tree, Tree-F, out-Tree, roll-Tree, out-roll-Tree}
-use Rattle.ta_core.specs.Auto.{Automaton, IsProper, IsProperRule}
+use Rattle.ta_core.specs.declared.tree.Tree.{Tree, Tree-F, out-roll-Tree}
+use Rattle.ta_core.specs.Auto.{Automaton, IsProperRule}
 use Rattle.ta_core.specs.Closing.{Reached, reach, ReachedAll, reach_none, reach_more}
 use Rattle.ta_core.specs.Language.{RunOf, run, RunEach, run_none, run_more, HasTree, PassesBy, at_top, below, OnePasses, this_one, later_one, TakesPart}
 use Rattle.ta_core.specs.Marks.{IsMarked, MarksOf, all_marked}

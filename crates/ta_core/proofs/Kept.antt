@@ -1,10 +1,9 @@
 -- The marked states under their new numbers.
-use Rattle.std.proofs.Common.{◌≡◌, ◌⊎◌, inl, inr, ℕ, zero, suc, ◌<◌, ◌+◌, Bool, true, false, true≢false, ◌&&◌, cond, List, [], ◌∷◌, ◌++◌, length, map, get_or, slice_index, refl, sym, ap, subst, ◌∙◌, arith, append_assoc}
+use Rattle.std.proofs.Common.{◌≡◌, ℕ, zero, suc, ◌<◌, ◌+◌, Bool, true, false, true≢false, cond, List, [], ◌∷◌, ◌++◌, length, map, get_or, slice_index, refl, sym, ap, ◌∙◌, arith, append_assoc}
 use Rattle.std.proofs.lemmas.List.{length-map}
-use Rattle.fore_base.specs.Lists.{IsIn, Every}
+use Rattle.fore_base.specs.Lists.{Every}
 use Rattle.ta_core.specs.declared.auto.Rule.{Rule}
-use Rattle.ta_core.specs.Arity.{arity}
-use Rattle.ta_core.specs.Auto.{Automaton, IsProper, IsProperRule}
+use Rattle.ta_core.specs.Auto.{Automaton, IsProperRule}
 use Rattle.ta_core.specs.Marks.{IsMarked, all_marked}
 use Rattle.ta_core.specs.Relabelled.{relabelled}
 use Rattle.ta_core.specs.Restricted.{marked_count, rank, ranks, keeps, kept_states, kept_rules, restricted}

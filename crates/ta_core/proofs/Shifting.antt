@@ -1,12 +1,12 @@
 -- Runs under other state numbers, and of two automata side by side.
-use Rattle.std.proofs.Common.{◌≡◌, ◌⊎◌, inl, inr, ℕ, ◌<◌, ◌≤◌, ◌+◌, ◌^◌, List, [], ◌∷◌, ◌++◌, length, map, refl, sym, ap, subst, ◌∙◌, arith}
+use Rattle.std.proofs.Common.{◌≡◌, inl, inr, ℕ, ◌<◌, ◌≤◌, ◌+◌, ◌^◌, List, [], ◌∷◌, ◌++◌, map, refl, sym, ap, subst, ◌∙◌, arith}
 use Rattle.std.proofs.lemmas.List.{length-map}
 use Rattle.fore_base.specs.Lists.{IsIn, Every}
 use Rattle.ta_core.specs.declared.auto.Rule.{Rule}
 use Rattle.ta_core.specs.declared.tree.Tree.{Tree}
 use Rattle.ta_core.specs.Auto.{Automaton, IsProper, IsProperRule}
 use Rattle.ta_core.specs.Joined.{shift, renamed, united, IsUnion, CanShift, CanShiftRule, SameRootRuns}
-use Rattle.ta_core.specs.Language.{RunOf, RunEach, InLanguage, IsAlike, HasTree}
+use Rattle.ta_core.specs.Language.{RunOf, IsAlike}
 use Rattle.ta_core.specs.Paired.{Paired}
 use Rattle.ta_core.specs.Relabelled.{relabelled, IsSublist, sub_none, sub_skip, sub_keep, StandsFor}
 use Rattle.ta_core.proofs.Lists.{in_left, in_right, in_append, in_map, in_mapped, every_in, every_append}

@@ -1,14 +1,14 @@
 -- Sizes are those of trees, and no tree is smaller.
-use Rattle.std.proofs.Common.{◌≡◌, ◌⊎◌, inl, inr, ℕ, zero, suc, ◌<◌, ◌≤◌, ◌+◌, ◌*◌, ◌^◌, Bool, true, false, true≢false, nat_lt, cond, List, [], ◌∷◌, ◌++◌, length, map, set, replicate, Option, Some, None, refl, sym, ap, subst, ◌∙◌, arith, length-set}
+use Rattle.std.proofs.Common.{◌≡◌, ◌⊎◌, inl, inr, ℕ, zero, suc, ◌<◌, ◌≤◌, ◌+◌, ◌^◌, Bool, true, false, true≢false, nat_lt, cond, List, [], ◌∷◌, ◌++◌, length, map, set, replicate, Option, Some, None, refl, sym, ap, subst, ◌∙◌, arith, length-set}
 use Rattle.std.proofs.lemmas.Bool.{ltb-true, lt-ltb, ltb-false}
 use Rattle.std.specs.Bool.{MatchBool}
 use Rattle.std.specs.Option.{IsSome}
 use Rattle.fore_base.specs.Lists.{IsIn, Every}
 use Rattle.ta_core.specs.declared.auto.Rule.{Rule}
 use Rattle.ta_core.specs.declared.symbol.Symbol.{Symbol}
-use Rattle.ta_core.specs.declared.tree.Tree.{Tree, Tree-F, out-Tree, roll-Tree, fold-roll-Tree, fold_out-Tree}
+use Rattle.ta_core.specs.declared.tree.Tree.{Tree, out-Tree, fold-roll-Tree, fold_out-Tree}
 use Rattle.ta_core.specs.Language.{RunOf, run, RunEach, run_none, run_more, nodes, nodes_step, sum_of}
-use Rattle.ta_core.specs.Sizes.{size_at, capped, plus, total, rule_size, is_less, IsSettled, HasTreeOf, AreReal, AreLeast, Improves, weight, IsLeastRule, number, sum_at}
+use Rattle.ta_core.specs.Sizes.{size_at, capped, plus, total, rule_size, is_less, IsSettled, HasTreeOf, AreReal, Improves, weight, IsLeastRule, number, sum_at}
 use Rattle.ta_core.proofs.Lists.{every_in, every_push}
 use Rattle.ta_core.proofs.Runs.{tree_of, run_tree}
 

@@ -1,5 +1,5 @@
 -- The tree that is built from the sizes is a smallest one.
-use Rattle.std.proofs.Common.{◌≡◌, ◌⊎◌, inl, inr, ℕ, ◌<◌, ◌≤◌, ◌+◌, ◌*◌, ◌^◌, Bool, true, false, true≢false, nat_lt, List, [], ◌∷◌, ◌++◌, map, Option, Some, None, refl, sym, ap, subst, ◌∙◌, arith, lt_irrefl}
+use Rattle.std.proofs.Common.{◌≡◌, ◌⊎◌, inl, inr, ℕ, ◌<◌, ◌≤◌, ◌+◌, ◌*◌, ◌^◌, Bool, true, false, true≢false, nat_lt, List, [], ◌∷◌, ◌++◌, map, Option, Some, None, refl, sym, ap, subst, ◌∙◌, arith}
 use Rattle.std.proofs.lemmas.Bool.{ltb-true, ltb-false, cases_lt}
 use Rattle.std.specs.Option.{IsSome}
 use Rattle.fore_base.specs.Lists.{IsIn, Every}
@@ -8,10 +8,10 @@ use Rattle.ta_core.specs.declared.tree.Tree.{Tree}
 use Rattle.ta_core.specs.Auto.{Automaton, IsProperRule}
 use Rattle.ta_core.specs.Language.{RunOf, RunEach, run_none, run_more, InLanguage, IsSmallest, nodes, sum_of}
 use Rattle.ta_core.specs.Paired.{Paired}
-use Rattle.ta_core.specs.Sizes.{size_at, rule_size, is_less, AreLeast, IsLeastRule, IsTreeAt, IsBest, number, sum_at}
+use Rattle.ta_core.specs.Sizes.{size_at, is_less, AreLeast, IsLeastRule, IsTreeAt, IsBest, number, sum_at}
 use Rattle.ta_core.proofs.Lists.{in_left, in_right, every_in, every_push}
 use Rattle.ta_core.proofs.Runs.{tree_of, run_tree}
-use Rattle.ta_core.proofs.Sizing.{nodes_tree, Sums, some_same, none_some, less_some, sum_total, sum_at_sums, sums_there, lower, has_rule}
+use Rattle.ta_core.proofs.Sizing.{nodes_tree, Sums, some_same, less_some, sum_total, sum_at_sums, sums_there, lower, has_rule}
 
 not_less : (m n : ℕ) → n ≤ m → nat_lt m n ≡ false
 not_less m n h = here (nat_lt m n) refl

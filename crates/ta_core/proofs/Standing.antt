@@ -1,16 +1,16 @@
 -- What remains of an automaton whose marked states are those that take part.
-use Rattle.std.proofs.Common.{◌≡◌, ◌⊎◌, inl, inr, ℕ, ◌<◌, Bool, true, false, true≢false, ◌&&◌, cond, List, [], ◌∷◌, ◌++◌, length, map, get_or, refl, sym, ap, subst, ◌∙◌}
+use Rattle.std.proofs.Common.{◌≡◌, inl, inr, ℕ, Bool, true, false, true≢false, ◌&&◌, cond, List, [], ◌∷◌, map, get_or, refl, sym, ap, subst, ◌∙◌}
 use Rattle.fore_base.specs.Lists.{IsIn, Every}
 use Rattle.ta_core.specs.declared.auto.Rule.{Rule}
 use Rattle.ta_core.specs.declared.tree.Tree.{Tree, out-Tree}
 use Rattle.ta_core.specs.Auto.{Automaton}
-use Rattle.ta_core.specs.Language.{RunOf, run, RunEach, run_none, run_more, HasTree, InLanguage, IsAlike, PassesBy, at_top, below, OnePasses, this_one, later_one, TakesPart, IsTrim}
+use Rattle.ta_core.specs.Language.{RunOf, RunEach, IsAlike, PassesBy, at_top, below, OnePasses, this_one, later_one, TakesPart, IsTrim}
 use Rattle.ta_core.specs.Marks.{IsMarked, MarksOf, all_marked}
 use Rattle.ta_core.specs.Paired.{Paired}
 use Rattle.ta_core.specs.Relabelled.{relabelled, IsSublist, sub_none, sub_skip, sub_keep, StandsFor}
-use Rattle.ta_core.specs.Restricted.{marked_count, rank, keeps, kept_states, kept_rules, restricted}
+use Rattle.ta_core.specs.Restricted.{rank, keeps, kept_states, kept_rules, restricted}
 use Rattle.ta_core.proofs.Descending.{passing_run, passing_each, child_part}
-use Rattle.ta_core.proofs.Kept.{nth_marked, nth_is_marked, nth_rank, rank_nth, rank_below}
+use Rattle.ta_core.proofs.Kept.{nth_marked, nth_is_marked, nth_rank, rank_nth}
 use Rattle.ta_core.proofs.Lists.{in_every}
 use Rattle.ta_core.proofs.Marking.{and_left, and_right, all_from, all_to}
 use Rattle.ta_core.proofs.Runs.{along, along_each}

@@ -1,5 +1,5 @@
 -- Automata with other state numbers, and two automata side by side.
-use Rattle.std.specs.Prelude.{◌≡◌, ◌↔◌, ◌⊎◌, ℕ, ◌<◌, ◌+◌, ◌^◌, List, ◌++◌, map}
+use Rattle.std.specs.Prelude.{◌↔◌, ◌⊎◌, ℕ, ◌<◌, ◌+◌, ◌^◌, ◌++◌, map}
 use Rattle.fore_base.specs.Lists.{IsIn, Every}
 use Rattle.ta_core.specs.Auto.{Automaton}
 use Rattle.ta_core.specs.Language.{InLanguage, RunOf, HasTree}

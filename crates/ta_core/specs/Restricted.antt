@@ -1,5 +1,5 @@
 -- An automaton with the marked states alone, numbered anew in their order.
-use Rattle.std.specs.Prelude.{ℕ, zero, suc, ◌+◌, Bool, true, false, ◌&&◌, List, [], ◌∷◌, map, if◌then◌else◌, slice_index_or}
+use Rattle.std.specs.Prelude.{ℕ, zero, suc, ◌+◌, Bool, true, false, ◌&&◌, List, [], ◌∷◌, if◌then◌else◌, slice_index_or}
 use Rattle.ta_core.specs.Auto.{Automaton}
 use Rattle.ta_core.specs.Marks.{all_marked}
 use Rattle.ta_core.specs.Relabelled.{relabelled}

@@ -1,5 +1,5 @@
 -- The steps by which the states of an automaton are reached, from below and from above.
-use Rattle.std.specs.Prelude.{ℕ, Bool, true, false, List, [], ◌∷◌, ◌++◌, map, if◌then◌else◌, slice_index_or}
+use Rattle.std.specs.Prelude.{ℕ, Bool, false, List, [], ◌∷◌, ◌++◌, map, if◌then◌else◌, slice_index_or}
 use Rattle.ta_core.specs.declared.auto.Rule.{Rule}
 use Rattle.ta_core.specs.declared.step.Step.{Step}
 use Rattle.ta_core.specs.Marks.{all_marked}

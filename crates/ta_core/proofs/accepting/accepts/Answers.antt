@@ -1,4 +1,3 @@
-use Rattle.std.proofs.Common.{◌∙◌}
 use Rattle.ta_core.proofs.Tops.{accepted}
 use Rattle.ta_core.proofs.accepting.accepts.Goals as goal
 

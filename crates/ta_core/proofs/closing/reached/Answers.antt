@@ -1,6 +1,3 @@
-use Rattle.std.proofs.Common.{◌∙◌, sym, subst}
-use Rattle.ta_core.specs.Marks.{MarksOf}
-use Rattle.ta_core.specs.Closing.{Reached}
 use Rattle.ta_core.proofs.Reaching.{closed}
 use Rattle.ta_core.proofs.closing.reached.Goals as goal
 

@@ -1,7 +1,6 @@
-use Rattle.std.proofs.Common.{◌≡◌, ◌<◌, length, subst, sym, ap, ◌∙◌, List, Bool, arith}
+use Rattle.std.proofs.Common.{◌<◌, length, subst, sym, ap, ◌∙◌, arith}
 use Rattle.ta_core.specs.declared.step.Step.{Step}
 use Rattle.ta_core.specs.Closing.{AreReached}
-use Rattle.fore_base.specs.Lists.{IsIn}
 use Rattle.ta_core.proofs.Lists.{every_at, in_at, take_item}
 use Rattle.ta_core.proofs.Reaching.{step_adds, step_keeps}
 use Rattle.ta_core.proofs.closing.take_all.Goals as goal

@@ -1,4 +1,4 @@
-use Rattle.std.proofs.Common.{◌≡◌, ◌++◌, ℕ, List, drop, slice_index, ap, sym, ◌∙◌}
+use Rattle.std.proofs.Common.{◌++◌, ℕ, List, slice_index, ap, sym, ◌∙◌}
 use Rattle.ta_core.specs.declared.auto.Rule.{Rule}
 use Rattle.ta_core.specs.Restricted.{kept_rules}
 use Rattle.ta_core.proofs.Kept.{kept_push, kept_skip}

@@ -1,4 +1,4 @@
-use Rattle.std.proofs.Common.{◌≡◌, ◌<◌, length, subst, sym, ap, ◌∙◌, arith}
+use Rattle.std.proofs.Common.{◌<◌, length, subst, sym, ap, ◌∙◌, arith}
 use Rattle.ta_core.specs.declared.auto.Rule.{Rule}
 use Rattle.ta_core.specs.Sizes.{AreReal}
 use Rattle.ta_core.proofs.Lists.{every_at, in_at, take_item}

@@ -1,7 +1,7 @@
-use Rattle.std.proofs.Common.{◌≡◌, ◌<◌, ◌≤◌, ◌+◌, ◌*◌, ℕ, slice_index_or, arith, sym}
+use Rattle.std.proofs.Common.{ℕ, arith}
 use Rattle.std.proofs.lemmas.List.{take_more}
 use Rattle.std.specs.Option.{IsSome}
-use Rattle.ta_core.specs.Sizes.{number, size_at, sum_at, IsTreeAt}
+use Rattle.ta_core.specs.Sizes.{size_at}
 use Rattle.ta_core.proofs.Lists.{in_place, every_in, paired_push}
 use Rattle.ta_core.proofs.Sizing.{sum_at_in}
 use Rattle.ta_core.proofs.Smaller.{rule_falls, rule_there, tree_here}

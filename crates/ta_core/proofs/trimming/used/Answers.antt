@@ -1,7 +1,7 @@
 use Rattle.std.proofs.Common.{◌++◌}
 use Rattle.std.proofs.lemmas.Result.{IfOk-weaker}
 use Rattle.ta_core.specs.Closing.{Reached}
-use Rattle.ta_core.specs.Language.{TakesPart, HasTree}
+use Rattle.ta_core.specs.Language.{TakesPart}
 use Rattle.ta_core.specs.Marks.{MarksOf}
 use Rattle.ta_core.specs.Steps.{root_steps, rule_steps}
 use Rattle.ta_core.proofs.Descending.{down_low, part_marks}
