@@ -1,6 +1,6 @@
 ghost use Rattle.std.specs.Prelude.{◌≡◌, ◌↔◌, ◌<◌, IsTrue, IfOk, List};
 ghost use Rattle.fore_base.specs.Lists.{Every};
-ghost use Rattle.ta_core.specs.Language.{InLanguage, RunOf};
+ghost use Rattle.ta_core.specs.Language.{InLanguage};
 ghost use Rattle.ta_core.specs.Marks.{MarksOf, marked_each};
 ghost use Rattle.ta_core.specs.Tops.{IsTopRule, Tops, AreStatesOf};
 ghost use Rattle.ta_core.specs.Paired.{Paired};

@@ -1,5 +1,4 @@
-ghost use Rattle.std.specs.Prelude.{◌≡◌, ◌↔◌, ◌<◌, IsTrue, SomeIff};
-ghost use Rattle.fore_base.specs.Lists.{Every};
+ghost use Rattle.std.specs.Prelude.{SomeIff};
 
 use crate::proper::{are_below, are_proper};
 use crate::symbol::Symbol;

@@ -1,8 +1,8 @@
 // The states that are reached by steps, each of which leads from several states to one.
 
-ghost use Rattle.std.specs.Prelude.{◌≡◌, ◌<◌, ℕ, true, false, length, slice_index_or, slice_set, IfOk, MatchBool};
+ghost use Rattle.std.specs.Prelude.{◌≡◌, ◌<◌, true, false, length, IfOk, MatchBool};
 ghost use Rattle.fore_base.specs.Lists.{Every};
-ghost use Rattle.ta_core.specs.Marks.{MarksOf, IsMarked, all_marked};
+ghost use Rattle.ta_core.specs.Marks.{MarksOf};
 ghost use Rattle.ta_core.specs.Closing.{Reached, AreReached, IsTaken, Takes, gaps};
 
 use crate::marks::{are_all_marked, is_marked, mark, unmarked};

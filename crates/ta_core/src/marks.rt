@@ -1,6 +1,6 @@
 // Sets of states, kept as one mark for each state.
 
-ghost use Rattle.std.specs.Prelude.{◌≡◌, false, true, length, slice_index_or, slice_set, replicate, IfOk};
+ghost use Rattle.std.specs.Prelude.{◌≡◌, false, true, slice_index_or, slice_set, replicate, IfOk};
 ghost use Rattle.ta_core.specs.Marks.{all_marked, some_marked};
 
 use fore_base::list::List;

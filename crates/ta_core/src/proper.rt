@@ -1,6 +1,6 @@
 // Tests for what an automaton's type keeps.
 
-ghost use Rattle.std.specs.Prelude.{◌≡◌, ◌↔◌, ◌<◌, IsTrue};
+ghost use Rattle.std.specs.Prelude.{◌↔◌, ◌<◌, IsTrue};
 ghost use Rattle.fore_base.specs.Lists.{Every};
 ghost use Rattle.ta_core.specs.Auto.{IsProperRule};
 

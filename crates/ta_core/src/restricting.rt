@@ -1,4 +1,4 @@
-ghost use Rattle.std.specs.Prelude.{◌≡◌, ◌<◌, ◌≤◌, ◌^◌, List, length, IfOk, map, slice_index};
+ghost use Rattle.std.specs.Prelude.{◌≡◌, List, length, IfOk, slice_index};
 ghost use Rattle.ta_core.specs.Relabelled.{relabelled};
 ghost use Rattle.ta_core.specs.Restricted.{marked_count, rank, ranks, keeps, kept_states, kept_rules, restricted};
 

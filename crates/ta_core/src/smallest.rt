@@ -1,4 +1,4 @@
-ghost use Rattle.std.specs.Prelude.{◌≡◌, ◌∷◌, ◌++◌, ◌↔◌, List, [], ℕ, IsTrue, IfOk, IsSome, MatchOption};
+ghost use Rattle.std.specs.Prelude.{◌∷◌, ◌++◌, ◌↔◌, List, [], ℕ, IsTrue, IfOk, IsSome, MatchOption};
 ghost use Rattle.fore_base.specs.Lists.{IsIn, Every};
 ghost use Rattle.ta_core.specs.Language.{IsBarren, IsSmallest};
 ghost use Rattle.ta_core.specs.Paired.{Paired};

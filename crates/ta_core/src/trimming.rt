@@ -1,8 +1,7 @@
-ghost use Rattle.std.specs.Prelude.{◌≡◌, ◌<◌, ◌≤◌, ◌^◌, ◌++◌, List, length, IfOk, map, slice_index};
+ghost use Rattle.std.specs.Prelude.{◌≡◌, List, IfOk, map};
 ghost use Rattle.ta_core.specs.Language.{IsAlike, IsTrim, HasTree, TakesPart};
 ghost use Rattle.ta_core.specs.Marks.{MarksOf};
 ghost use Rattle.ta_core.specs.Relabelled.{StandsFor};
-ghost use Rattle.ta_core.specs.Restricted.{rank, restricted};
 ghost use Rattle.ta_core.specs.Steps.{down_step, root_steps, rule_steps};
 
 use crate::auto::{Auto, Rule};
