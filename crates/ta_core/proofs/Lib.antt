@@ -1,0 +1,12 @@
+pub mod Climbing
+pub mod Descending
+pub mod Kept
+pub mod Lists
+pub mod Marking
+pub mod Reaching
+pub mod Runs
+pub mod Shifting
+pub mod Sizing
+pub mod Smaller
+pub mod Standing
+pub mod Tops

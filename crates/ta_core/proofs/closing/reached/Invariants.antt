@@ -1,0 +1,12 @@
+use Rattle.std.proofs.Common.{◌≡◌, length}
+use Rattle.ta_core.specs.Closing.{AreReached, gaps}
+use Rattle.ta_core.proofs.closing.reached.Given as goal
+
+abbrev pub invariant-rounds : goal.invariant-rounds
+invariant-rounds l = record {
+  long : length l.marks ≡ l.states;
+  only : AreReached l.steps l.marks;
+}
+
+abbrev pub decreases-rounds : goal.decreases-rounds
+decreases-rounds l = gaps l.marks

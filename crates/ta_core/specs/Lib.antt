@@ -1,0 +1,13 @@
+pub mod Arity
+pub mod Auto
+pub mod Closing
+pub mod Joined
+pub mod Language
+pub mod Marks
+pub mod Paired
+pub mod Relabelled
+pub mod Restricted
+pub mod Simulations
+pub mod Sizes
+pub mod Steps
+pub mod Tops

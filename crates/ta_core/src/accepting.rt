@@ -1,0 +1,88 @@
+ghost use Rattle.std.specs.Prelude.{◌≡◌, ◌↔◌, ◌<◌, IsTrue, IfOk, List};
+ghost use Rattle.fore_base.specs.Lists.{Every};
+ghost use Rattle.ta_core.specs.Language.{InLanguage};
+ghost use Rattle.ta_core.specs.Marks.{MarksOf, marked_each};
+ghost use Rattle.ta_core.specs.Tops.{IsTopRule, Tops, AreStatesOf};
+ghost use Rattle.ta_core.specs.Paired.{Paired};
+
+use crate::auto::{Auto, Rule};
+use crate::marks::{is_marked, is_some_marked, mark, unmarked};
+use crate::symbol::Symbol;
+use crate::tree::Tree;
+use fore_base::list::List;
+use fore_base::memory::Mem;
+use std::alloc::Global;
+
+/// Whether the tree is in the automaton's language. Err is want of memory.
+pub fn accepts(alloc: Global, auto: &Auto, tree: &Tree) -> Mem<bool>
+    ensures { IfOk result (λ yes. IsTrue yes ↔ InLanguage auto.now tree.now) }
+{
+    let states = run_states(alloc, auto.rules.as_slice(), auto.states, tree)?;
+    Ok(is_some_marked(states.as_slice(), auto.roots.as_slice()))
+}
+
+/// The states to which the tree has a run.
+#[cycle(run_states)]
+fn run_states(alloc: Global, rules: &[Rule], states: u32, tree: &Tree) -> Mem<List<bool>>
+    requires { Every (λ r. r.state < states) rules.now }
+    ensures { IfOk result (AreStatesOf rules.now states tree.now) }
+{
+    let sets = run_sets(alloc, rules, states, tree.children.as_slice())?;
+    top_states(alloc, rules, states, &tree.symbol, &sets)
+}
+
+/// For each tree the states to which it has a run.
+#[cycle(run_states)]
+fn run_sets(alloc: Global, rules: &[Rule], states: u32, trees: &[Tree]) -> Mem<List<List<bool>>>
+    requires { Every (λ r. r.state < states) rules.now }
+    ensures { IfOk result (Paired (AreStatesOf rules.now states) trees.now) }
+{
+    let mut sets = List::new(alloc);
+    for tree in trees {
+        let set = run_states(alloc, rules, states, tree)?;
+        sets.push(set)?;
+    }
+    Ok(sets)
+}
+
+/// The states to which a tree with this symbol has a run, by those of its children.
+fn top_states(
+    alloc: Global,
+    rules: &[Rule],
+    states: u32,
+    symbol: &Symbol,
+    sets: &List<List<bool>>,
+) -> Mem<List<bool>>
+    requires { Every (λ r. r.state < states) rules.now }
+    ensures { IfOk result (MarksOf states (Tops rules.now symbol.now sets.now)) }
+{
+    let mut marks = unmarked(alloc, states as usize)?;
+    for rule in rules {
+        if is_top(rule, symbol, sets) {
+            mark(&mut marks, rule.state);
+        }
+    }
+    Ok(marks)
+}
+
+/// Whether the rule has the symbol, and each child of it is in the set in its place.
+fn is_top(rule: &Rule, symbol: &Symbol, sets: &List<List<bool>>) -> bool
+    ensures { IsTrue result ↔ IsTopRule symbol.now sets.now rule.now }
+{
+    rule.symbol.is_same(symbol) && are_marked_each(rule.children.as_slice(), sets)
+}
+
+/// Whether the sets are as many as the states, and each state is in the set in its place.
+fn are_marked_each(states: &[u32], sets: &List<List<bool>>) -> bool
+    ensures { result ≡ marked_each states.now sets.now }
+{
+    if states.len() != sets.len() {
+        return false;
+    }
+    for (place, state) in states.iter().enumerate() {
+        if !is_marked(sets.at(place).as_slice(), *state) {
+            return false;
+        }
+    }
+    true
+}

@@ -1,0 +1,16 @@
+// Symbols, trees and automata can be shared between threads and moved to another.
+
+use crate::auto::Auto;
+use crate::tree::Tree;
+
+fn crosses<T: Send + Sync>(_value: &T) {}
+
+/// Automata cross threads, and with them rules, symbols and slots.
+pub fn automata_cross(auto: &Auto) {
+    crosses(auto)
+}
+
+/// Trees cross threads.
+pub fn trees_cross(tree: &Tree) {
+    crosses(tree)
+}

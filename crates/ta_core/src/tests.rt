@@ -1,0 +1,5 @@
+mod building;
+mod checking;
+mod large;
+mod small;
+mod worked;
