@@ -22,21 +22,21 @@ pub fn deliver<K: Sink, E: Sink>(alloc: Global, answer: Answer, out: &mut K, not
     ensures notes_never_falls { E.faults notes.old ≤ E.faults notes.new }
 {
     match answer {
-        Answer::Safe => told(out, b"SAFE\n", 0),
+        Answer::Safe => write_text(out, b"SAFE\n", 0),
         Answer::Unsafe { kind, line, step } => match unsafe_report(alloc, kind, line, step) {
-            Ok(report) => told(out, report.as_slice(), 1),
+            Ok(report) => write_text(out, report.as_slice(), 1),
             Err(_) => 7,
         },
-        Answer::Usage => told(notes, b"usage\n", 2),
-        Answer::TooLong => told(notes, b"refused K1 file\n", 4),
-        Answer::NotStraight => told(notes, b"refused N1 file\n", 4),
-        Answer::ReadFault => told(notes, b"read fault\n", 5),
+        Answer::Usage => write_text(notes, b"usage\n", 2),
+        Answer::TooLong => write_text(notes, b"refused K1 file\n", 4),
+        Answer::NotStraight => write_text(notes, b"refused N1 file\n", 4),
+        Answer::ReadFault => write_text(notes, b"read fault\n", 5),
         Answer::NoMemory => 7,
     }
 }
 
 /// Writes a text, and gives the status: 6 where the sink failed.
-fn told<S: Sink>(sink: &mut S, text: &[u8], status: u8) -> u8
+fn write_text<S: Sink>(sink: &mut S, text: &[u8], status: u8) -> u8
     requires { status ≢ 6 }
     ensures status { (result ≡ status) ⊎ (result ≡ 6) }
     ensures whole { result ≡ status → Grew (S.held sink.old) (S.held sink.new) text.now }
