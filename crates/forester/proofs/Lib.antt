@@ -1,3 +1,7 @@
-pub mod TemplateLemmas
+pub mod BodyLemmas
 pub mod LineLemmas
+pub mod MeaningLemmas
+pub mod NumberLemmas
+pub mod SourceLemmas
+pub mod TemplateLemmas
 pub mod WordLemmas

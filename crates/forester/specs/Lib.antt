@@ -1,9 +1,11 @@
+pub mod Building
+pub mod Checks
+pub mod Delivery
 pub mod Meaning
 pub mod Rules
+pub mod Sources
 pub mod Spelling
 pub mod Straight
 pub mod Templates
-pub mod Sources
-pub mod Words
 pub mod Texts
-pub mod Delivery
+pub mod Words

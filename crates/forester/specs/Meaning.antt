@@ -35,10 +35,10 @@ field_path x f = record { var = x; fields = f ∷ [] }
 
 -- what a line does, if it is no declaration
 module _ (fields scope : List (List ℕ)) where
-  abbrev var : List ℕ → ℕ
+  abbrev pub var : List ℕ → ℕ
   var x = number_in scope x
 
-  abbrev field : List ℕ → ℕ
+  abbrev pub field : List ℕ → ℕ
   field f = number_in fields f
 
   abbrev pub act_of : Line → Option Act

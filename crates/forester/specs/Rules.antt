@@ -1,15 +1,11 @@
 -- The rules of names, types and limits that a straight file keeps.
 use Rattle.std.specs.Prelude.{◌≡◌, ◌≤◌, ◌<◌, ◌+◌, ℕ, List, [], ◌∷◌, ◌++◌, map, length}
 use Rattle.fore_base.specs.Lists.{IsIn, Every}
+use Rattle.fore_base.specs.Names.{IsDistinct}
 use Rattle.forester.specs.declared.source.FieldLine.{FieldLine}
 use Rattle.forester.specs.declared.source.Line.{Line}
 use Rattle.forester.specs.declared.source.Line.TheVariants.{Declare, Copy, SetNull, Load, New, Store, StoreNull, Free}
 use Rattle.forester.specs.declared.source.Source.{Source}
-
--- no text stands twice
-abbrev pub AllDiffer : List (List ℕ) → Type 0
-AllDiffer [] = Unit {0}
-AllDiffer (x ∷ xs) = (IsIn x xs → ⊥) × AllDiffer xs
 
 abbrev pub field_names : List FieldLine → List (List ℕ)
 field_names fs = map (λ f. f.name) fs
@@ -51,7 +47,7 @@ pub record KeepsRules (s : Source) : Type 0 where
   pub some_field : 0 < length s.fields
   pub few_fields : length s.fields ≤ 16
   pub one_shape : Every (λ f. f.shape ≡ s.shape) s.fields
-  pub distinct_fields : AllDiffer (field_names s.fields)
+  pub distinct_fields : IsDistinct (field_names s.fields)
   -- at most 64 variables, and 4,096 statements with the `return`
   pub lines : LinesTyped s.shape (field_names s.fields) [] s.lines
   pub few_vars : length (scope_end [] s.lines) ≤ 64

@@ -2,11 +2,14 @@
 #![tactic(auto)]
 
 mod answer;
+mod body;
+mod check;
 mod deliver;
 mod parse;
 mod part;
 mod report;
 mod source;
+mod typed;
 mod words;
 
 fn main() {}

@@ -1,18 +1,29 @@
 // Reading the tokens of a straight file: each line is one of a few forms of fixed length.
-ghost use Rattle.std.specs.Prelude.{◌≡◌, ◌<◌, ◌↔◌, length, map, IfOk, IsTrue};
+ghost use Rattle.std.specs.Prelude.{◌≡◌, ◌<◌, ◌≤◌, ◌↔◌, length, map, IfOk, IsTrue};
 ghost use Rattle.forester.specs.Spelling.{end_pieces};
-ghost use Rattle.forester.specs.Sources.{SpellsLines};
+ghost use Rattle.forester.specs.Sources.{SpellsLines, SpellsFields, SpellsSource};
 ghost use Rattle.forester.specs.Straight.{text_of};
 ghost use Rattle.forester.specs.Templates.{text_at, stored_at, assigned_at, line_at};
 
 use crate::part::{Part, fits};
-use crate::source::Line;
+use crate::source::{FieldLine, Line, Source};
 use c_lexer::token::Token;
 use fore_base::list::{Copies, List};
 use fore_base::memory::Mem;
 use fore_base::text::Text;
 use std::alloc::Global;
 
+const HEAD: [Part; 3] = [Part::Struct, Part::Name, Part::Begin];
+const MAIN: [Part; 8] = [
+    Part::End,
+    Part::Semicolon,
+    Part::Int,
+    Part::Main,
+    Part::Open,
+    Part::Void,
+    Part::Close,
+    Part::Begin,
+];
 const DECLARE: [Part; 5] = [Part::Struct, Part::Name, Part::Star, Part::Name, Part::Semicolon];
 const FREE: [Part; 5] = [Part::Free, Part::Open, Part::Name, Part::Close, Part::Semicolon];
 const NULL: [Part; 4] = [Part::Name, Part::Equals, Part::Null, Part::Semicolon];
@@ -92,6 +103,51 @@ fn stored(alloc: Global, tokens: &[Token]) -> Mem<Option<Line>>
         return Ok(Some(Line::StoreNull { to, field }));
     }
     Ok(None)
+}
+
+/// The source that the tokens spell, each of them, if they spell one.
+pub fn source(alloc: Global, tokens: &[Token]) -> Mem<Option<Source>>
+    ensures { IfOk result (SpellsSource (map text_of tokens.now)) }
+{
+    if !fits(&HEAD, tokens) {
+        return Ok(None);
+    }
+    let shape = text(alloc, tokens, 1)?;
+    let after_head = &tokens[3..];
+    let (fields, size) = fields(alloc, after_head)?;
+    let after_fields = &after_head[size..];
+    if !fits(&MAIN, after_fields) {
+        return Ok(None);
+    }
+    match lines(alloc, &after_fields[8..])? {
+        Some(lines) => Ok(Some(Source { shape, fields, lines })),
+        None => Ok(None),
+    }
+}
+
+/// The fields with which the tokens begin, and the number of their tokens.
+fn fields(alloc: Global, tokens: &[Token]) -> Mem<(List<FieldLine>, usize)>
+    ensures fields { IfOk result (λ found. SpellsFields (map text_of tokens.now) found.0 found.1) }
+    ensures within { IfOk result (λ found. found.1 ≤ length tokens.now) }
+{
+    let mut found = List::new(alloc);
+    let mut at = 0;
+    'fields: while fits(&DECLARE, &tokens[at..]) {
+        let field = field(alloc, &tokens[at..])?;
+        found.push(field)?;
+        at += 5;
+    }
+    Ok((found, at))
+}
+
+/// The field with which the tokens begin.
+fn field(alloc: Global, tokens: &[Token]) -> Mem<FieldLine>
+    requires { 5 ≤ length tokens.now }
+    ensures { IfOk result (λ field. field ≡ record { shape = text_at (map text_of tokens.now) 1; name = text_at (map text_of tokens.now) 3 }) }
+{
+    let shape = text(alloc, tokens, 1)?;
+    let name = text(alloc, tokens, 3)?;
+    Ok(FieldLine { shape, name })
 }
 
 /// The lines and the end of main: the tokens are theirs, each of them.
