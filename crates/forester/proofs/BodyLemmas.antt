@@ -1,5 +1,6 @@
 -- Fields and lines one by one.
-use Rattle.std.proofs.Common.{◌≡◌, ◌≤◌, ◌<◌, ◌+◌, ◌*◌, ℕ, zero, suc, Bool, true, false, Option, Some, None, List, [], ◌∷◌, ◌++◌, map, length, drop, get_or, refl, sym, ap, ◌∙◌, subst, inl, inr, arith}
+use Rattle.std.proofs.Common.{◌≡◌, ◌≤◌, ◌<◌, ◌+◌, ◌*◌, ℕ, zero, suc, Bool, true, false, Option, Some, None, List, [], ◌∷◌, ◌++◌, map, ◌-◌, length, drop, get_or, sub-one, refl, sym, ap, ◌∙◌, subst, inl, inr, arith}
+use Rattle.std.specs.Prelude.{slice_get}
 use Rattle.std.proofs.lemmas.List.{length-append, append-nil, append_assoc, drop-drop}
 use Rattle.fore_base.specs.Lists.{IsIn, Every}
 use Rattle.fore_base.specs.Names.{IsDistinct}
@@ -13,7 +14,7 @@ use Rattle.forester.specs.declared.source.Line.TheVariants.{Declare, Copy, SetNu
 use Rattle.forester.specs.Straight.{line_of}
 use Rattle.forester.specs.Spelling.{line_pieces}
 use Rattle.forester.specs.Rules.{field_names, scope_after, scope_end, LineTyped, LinesTyped}
-use Rattle.forester.specs.Meaning.{act_of, first_of, stmt_before, stmts_of, tokens_before}
+use Rattle.forester.specs.Meaning.{act_of, first_of, stmt_before, stmts_of, tokens_before, last_of}
 
 -- an item and those after it
 pub front_is : {X : Type 0} (xs : List X) (i : ℕ) (x : X) → i < length xs → x ≡ get_or xs i x → drop i xs ≡ x ∷ drop (suc i) xs
@@ -81,3 +82,11 @@ module _ (shape : List ℕ) (fields : List (List ℕ)) (scope : List (List ℕ))
   stmts_front lines done at is =
       ap (λ ls. done ++ stmts_of fields scope ls at) is
       ∙ stmts_split (act_of fields scope l) (first_of at) done (stmts_of fields (scope_after scope l) rest (drop (length (line_pieces l)) at))
+
+-- the last token is that of the last line
+pub last_there : (tokens : List Token) (t : Token) → Some t ≡ slice_get tokens (length tokens - 1) → t.at.line ≡ last_of (map line_of tokens)
+last_there [] t e = cc
+last_there (u ∷ []) t e = let same : t ≡ u = cc in ap (λ (x : Token). x.at.line) same
+last_there (u ∷ (v ∷ tokens)) t e =
+    let next : Some t ≡ slice_get (v ∷ tokens) (length (v ∷ tokens) - 1) = rw sub-one (rw sub-one at e) in
+    last_there (v ∷ tokens) t next

@@ -5,3 +5,5 @@ pub mod NumberLemmas
 pub mod SourceLemmas
 pub mod TemplateLemmas
 pub mod WordLemmas
+pub mod StraightLemmas
+pub mod JudgeLemmas

@@ -12,7 +12,7 @@ use Rattle.forester.specs.declared.source.Source.{Source}
 use Rattle.forester.specs.Spelling.{field_pieces, fields_pieces, FieldNamed, head_pieces, main_pieces, end_pieces, lines_pieces, LineNamed, spelled, IsName, IsNamed}
 use Rattle.forester.specs.Templates.{fits, text_at, declare_parts, head_parts, main_parts}
 use Rattle.forester.proofs.TemplateLemmas.{Fitted, fitted}
-use Rattle.forester.proofs.LineLemmas.{LinesLeft, lines_left}
+use Rattle.forester.proofs.LineLemmas.{LinesLeft, lines_left, end_no_line, line_same, line_rest}
 
 -- one field more at the end
 pub fields_more : (fs : List FieldLine) (f : FieldLine) (x : List (List ℕ)) → fields_pieces (fs ++ f ∷ []) x ≡ fields_pieces fs (field_pieces f ++ x)
@@ -90,3 +90,23 @@ module _ (T : List (List ℕ)) (fs : List FieldLine) (n : ℕ) (head : fits head
       (record { shape = head_read.named.1.0 refl; fields = fields.named; lines = lines.0 },
       head_read.spells
       ∙ ap (λ ts. head_pieces (text_at T 1) ++ ts) (fields.spells ∙ ap (fields_pieces fs) (main_read.spells ∙ ap (λ ts. main_pieces ++ ts) lines.1)))
+
+-- Two sources that spell the same are one.
+
+lines_same : (ls ms : List Line) → Every LineNamed ls → Every LineNamed ms → lines_pieces ls end_pieces ≡ lines_pieces ms end_pieces → ls ≡ ms
+lines_same [] [] h g e = refl
+lines_same [] (m ∷ ms) h g e = absurd (end_no_line m (lines_pieces ms end_pieces) g.0 (sym e))
+lines_same (l ∷ ls) [] h g e = absurd (end_no_line l (lines_pieces ls end_pieces) h.0 e)
+lines_same (l ∷ ls) (m ∷ ms) h g e =
+    let first : l ≡ m = line_same l m (lines_pieces ls end_pieces) (lines_pieces ms end_pieces) h.0 g.0 e in
+    let rest : ls ≡ ms = lines_same ls ms h.1 g.1 (line_rest l m (lines_pieces ls end_pieces) (lines_pieces ms end_pieces) h.0 g.0 e) in
+    λ i. first i ∷ rest i
+
+pub source_same : (s t : Source) → IsNamed s → IsNamed t → spelled s ≡ spelled t → s ≡ t
+source_same s t h g e =
+    let shape : s.shape ≡ t.shape = ap (λ ts. text_at ts 1) e in
+    let parts : (s.fields ≡ t.fields) × (main_pieces ++ lines_pieces s.lines end_pieces ≡ main_pieces ++ lines_pieces t.lines end_pieces) =
+      fields_same s.fields t.fields (main_pieces ++ lines_pieces s.lines end_pieces) (main_pieces ++ lines_pieces t.lines end_pieces) h.fields g.fields
+        (main_no_field (lines_pieces s.lines end_pieces)) (main_no_field (lines_pieces t.lines end_pieces)) (ap (drop 3) e) in
+    let lines : s.lines ≡ t.lines = lines_same s.lines t.lines h.lines g.lines (ap (drop 8) parts.1) in
+    λ i. record { shape = shape i; fields = parts.0 i; lines = lines i }

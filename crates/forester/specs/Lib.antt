@@ -9,3 +9,5 @@ pub mod Straight
 pub mod Templates
 pub mod Texts
 pub mod Words
+pub mod Reading
+pub mod Verdict

@@ -5,10 +5,12 @@ mod answer;
 mod body;
 mod check;
 mod deliver;
+mod judge;
 mod parse;
 mod part;
 mod report;
 mod source;
+mod straight;
 mod typed;
 mod words;
 
