@@ -22,21 +22,21 @@ pub fn deliver<K: Sink, E: Sink>(alloc: Global, answer: Answer, out: &mut K, not
     ensures notes_never_falls { E.faults notes.old ≤ E.faults notes.new }
 {
     match answer {
-        Answer::Safe => told(out, b"SAFE\n", 0),
+        Answer::Safe => write_text(out, b"SAFE\n", 0),
         Answer::Unsafe { kind, line, step } => match unsafe_report(alloc, kind, line, step) {
-            Ok(report) => told(out, report.as_slice(), 1),
+            Ok(report) => write_text(out, report.as_slice(), 1),
             Err(_) => 7,
         },
-        Answer::Usage => told(notes, b"usage\n", 2),
-        Answer::TooLong => told(notes, b"refused K1 file\n", 4),
-        Answer::NotStraight => told(notes, b"refused N1 file\n", 4),
-        Answer::ReadFault => told(notes, b"read fault\n", 5),
+        Answer::Usage => write_text(notes, b"usage\n", 2),
+        Answer::TooLong => write_text(notes, b"refused K1 file\n", 4),
+        Answer::NotStraight => write_text(notes, b"refused N1 file\n", 4),
+        Answer::ReadFault => write_text(notes, b"read fault\n", 5),
         Answer::NoMemory => 7,
     }
 }
 
 /// Writes a text, and gives the status: 6 where the sink failed.
-fn told<S: Sink>(sink: &mut S, text: &[u8], status: u8) -> u8
+fn write_text<S: Sink>(sink: &mut S, text: &[u8], status: u8) -> u8
     requires { status ≢ 6 }
     ensures status { (result ≡ status) ⊎ (result ≡ 6) }
     ensures whole { result ≡ status → Grew (S.held sink.old) (S.held sink.new) text.now }
@@ -57,17 +57,33 @@ mod tests {
     use fore_base::memory::Mem;
     use std::test::Fail;
 
-    const LEAK: Answer = Answer::Unsafe { kind: Fault::Leak, line: 5, step: 2 };
+    const LEAK: Answer = Answer::Unsafe {
+        kind: Fault::Leak,
+        line: 5,
+        step: 2,
+    };
 
-    // The status of a delivery, and its sinks: a put takes `most` bytes at most, and the puts of these numbers fail (0 for none).
-    fn delivered(alloc: Global, answer: Answer, most: usize, out_fails: u64, notes_fails: u64) -> Mem<(u8, MemSink, MemSink)> {
+    // Whether a delivery ends with this status and leaves this on its sinks, where a put takes `most` bytes at most, and the puts of these
+    // numbers fail (0 for none).
+    fn leaves(
+        alloc: Global,
+        answer: Answer,
+        most: usize,
+        fails: (u64, u64),
+        status: u8,
+        texts: (&str, &str),
+    ) -> Mem<bool> {
         let most = most.max(1);
         let mut out = MemSink::new(alloc, 128, most)?;
         let mut notes = MemSink::new(alloc, 128, most)?;
-        out.fail(out_fails)?;
-        notes.fail(notes_fails)?;
-        let status = deliver(alloc, answer, &mut out, &mut notes);
-        Ok((status, out, notes))
+        out.fail(fails.0)?;
+        notes.fail(fails.1)?;
+        let ended = deliver(alloc, answer, &mut out, &mut notes);
+        Ok(
+            ended == status
+                && out.bytes() == texts.0.as_bytes()
+                && notes.bytes() == texts.1.as_bytes(),
+        )
     }
 
     #[test]
@@ -76,7 +92,12 @@ mod tests {
         let rows: [(Answer, u8, &str, &str); 7] = [
             // reports go to standard output, and nothing goes beside them
             (Answer::Safe, 0, "SAFE\n", ""),
-            (LEAK, 1, "UNSAFE\nfault 6 leak\nline 5\nstep 2\nchoices -\n", ""),
+            (
+                LEAK,
+                1,
+                "UNSAFE\nfault 6 leak\nline 5\nstep 2\nchoices -\n",
+                "",
+            ),
             // all else goes to standard error alone
             (Answer::Usage, 2, "", "usage\n"),
             (Answer::TooLong, 4, "", "refused K1 file\n"),
@@ -86,10 +107,17 @@ mod tests {
             (Answer::NoMemory, 7, "", ""),
         ];
         for (answer, status, out_text, notes_text) in rows {
-            let (ended, out, notes) = delivered(rt.alloc(), answer, 128, 0, 0)?;
-            assert_eq!(rt; ended, status, "{answer:?}");
-            assert_eq!(rt; out.bytes(), out_text.as_bytes(), "{answer:?}");
-            assert_eq!(rt; notes.bytes(), notes_text.as_bytes(), "{answer:?}");
+            assert!(rt;
+                leaves(
+                    rt.alloc(),
+                    answer,
+                    128,
+                    (0, 0),
+                    status,
+                    (out_text, notes_text)
+                )?,
+                "{answer:?}"
+            );
         }
         Ok(())
     }
@@ -98,13 +126,48 @@ mod tests {
     fn each_fault_has_its_report(rt: HostRuntime) -> Result<(), Fail> {
         // five lines: the verdict, number and name of the fault, line, step, choices; the numbers are decimal, up to the greatest
         let rows: [(Fault, u32, u64, &str); 7] = [
-            (Fault::NullDeref, 7, 3, "UNSAFE\nfault 1 null dereference\nline 7\nstep 3\nchoices -\n"),
-            (Fault::UninitDeref, 12, 1, "UNSAFE\nfault 2 uninitialised dereference\nline 12\nstep 1\nchoices -\n"),
-            (Fault::DanglingDeref, 1, 4160, "UNSAFE\nfault 3 dangling dereference\nline 1\nstep 4160\nchoices -\n"),
-            (Fault::InvalidFree, 9, 10, "UNSAFE\nfault 4 invalid free\nline 9\nstep 10\nchoices -\n"),
-            (Fault::DoubleFree, 100, 99, "UNSAFE\nfault 5 double free\nline 100\nstep 99\nchoices -\n"),
-            (Fault::Assertion, 4294967295, 8, "UNSAFE\nfault 7 failed assertion\nline 4294967295\nstep 8\nchoices -\n"),
-            (Fault::IndetTest, 20, 18446744073709551615, "UNSAFE\nfault 8 indeterminate test\nline 20\nstep 18446744073709551615\nchoices -\n"),
+            (
+                Fault::NullDeref,
+                7,
+                3,
+                "UNSAFE\nfault 1 null dereference\nline 7\nstep 3\nchoices -\n",
+            ),
+            (
+                Fault::UninitDeref,
+                12,
+                1,
+                "UNSAFE\nfault 2 uninitialised dereference\nline 12\nstep 1\nchoices -\n",
+            ),
+            (
+                Fault::DanglingDeref,
+                1,
+                4160,
+                "UNSAFE\nfault 3 dangling dereference\nline 1\nstep 4160\nchoices -\n",
+            ),
+            (
+                Fault::InvalidFree,
+                9,
+                10,
+                "UNSAFE\nfault 4 invalid free\nline 9\nstep 10\nchoices -\n",
+            ),
+            (
+                Fault::DoubleFree,
+                100,
+                99,
+                "UNSAFE\nfault 5 double free\nline 100\nstep 99\nchoices -\n",
+            ),
+            (
+                Fault::Assertion,
+                4294967295,
+                8,
+                "UNSAFE\nfault 7 failed assertion\nline 4294967295\nstep 8\nchoices -\n",
+            ),
+            (
+                Fault::IndetTest,
+                20,
+                18446744073709551615,
+                "UNSAFE\nfault 8 indeterminate test\nline 20\nstep 18446744073709551615\nchoices -\n",
+            ),
         ];
         for (kind, line, step, text) in rows {
             let report = unsafe_report(rt.alloc(), kind, line, step)?;
@@ -125,11 +188,18 @@ mod tests {
         for (most, helds) in rows {
             for (puts, held) in helds.iter().enumerate() {
                 let call = puts as u64 + 1;
-                let (ended, out, notes) = delivered(rt.alloc(), Answer::Safe, most, call, 1)?;
                 let status = if *held == "SAFE\n" { 0 } else { 6 };
-                assert_eq!(rt; ended, status, "most {most}, call {call}");
-                assert_eq!(rt; out.bytes(), held.as_bytes(), "most {most}, call {call}");
-                assert!(rt; notes.bytes().is_empty(), "most {most}, call {call}");
+                assert!(rt;
+                    leaves(
+                        rt.alloc(),
+                        Answer::Safe,
+                        most,
+                        (call, 1),
+                        status,
+                        (*held, "")
+                    )?,
+                    "most {most}, call {call}"
+                );
             }
         }
         Ok(())
@@ -143,15 +213,29 @@ mod tests {
             (Answer::ReadFault, 0, 2, 6, "", "read"),
             // of eleven puts the fifth fails, or the last
             (LEAK, 5, 0, 6, "UNSAFE\nfault 6 l", ""),
-            (LEAK, 11, 0, 6, "UNSAFE\nfault 6 leak\nline 5\nstep 2\nchoice", ""),
+            (
+                LEAK,
+                11,
+                0,
+                6,
+                "UNSAFE\nfault 6 leak\nline 5\nstep 2\nchoice",
+                "",
+            ),
             // the sink to which nothing is due is not asked
             (Answer::Usage, 1, 0, 2, "", "usage\n"),
         ];
         for (answer, out_fails, notes_fails, status, out_text, notes_text) in rows {
-            let (ended, out, notes) = delivered(rt.alloc(), answer, 4, out_fails, notes_fails)?;
-            assert_eq!(rt; ended, status, "{answer:?}");
-            assert_eq!(rt; out.bytes(), out_text.as_bytes(), "{answer:?}");
-            assert_eq!(rt; notes.bytes(), notes_text.as_bytes(), "{answer:?}");
+            assert!(rt;
+                leaves(
+                    rt.alloc(),
+                    answer,
+                    4,
+                    (out_fails, notes_fails),
+                    status,
+                    (out_text, notes_text)
+                )?,
+                "{answer:?}"
+            );
         }
         Ok(())
     }
