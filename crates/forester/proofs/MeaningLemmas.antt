@@ -113,9 +113,10 @@ module _ (name : List ℕ) (fs : List FieldLine) (xs : List (List ℕ)) where
 
   before_ok : (o : Option Act) (m : ℕ) (ss : List Stmt) → ((a : Act) → o ≡ Some a → (act_typed structs vars 0 a false ≡ true) × (act_is_plain a ≡ true)) → StmtsOk ss → StmtsOk (stmt_before o m ss)
   before_ok None m ss h ok = ok
-  before_ok (Some a) m ss h ok =
-      (both (stmt_typed structs vars 0 (Do a m) false) (each_typed structs vars 0 (map (stmt_typed structs vars 0) ss) false) (do_typed a m ∙ (h a refl).0) ok.0,
-      plain_before (Do a m) ss (do_does act_is_plain a m ∙ (h a refl).1) ok.1)
+  before_ok (Some a) m ss h ok = (
+    both (stmt_typed structs vars 0 (Do a m) false) (each_typed structs vars 0 (map (stmt_typed structs vars 0) ss) false) (do_typed a m ∙ (h a refl).0) ok.0,
+    plain_before (Do a m) ss (do_does act_is_plain a m ∙ (h a refl).1) ok.1,
+  )
 
   scope_grows : (scope : List (List ℕ)) (l : Line) → length scope ≤ length (scope_after scope l)
   scope_grows scope (Declare s x) = omega (arith, length-append scope (x ∷ []))
@@ -135,8 +136,8 @@ module _ (name : List ℕ) (fs : List FieldLine) (xs : List (List ℕ)) where
   stmts_ok scope [] at h less = (both (stmt_typed structs vars 0 (Do (Return None) (first_of at)) false) true (do_typed (Return None) (first_of at)) refl, do_does act_is_return (Return None) (first_of at))
   stmts_ok scope (l ∷ ls) at h less =
       before_ok (act_of (field_names fs) scope l) (first_of at) (stmts_of (field_names fs) (scope_after scope l) ls (drop (length (line_pieces l)) at))
-        (λ a e. act_ok scope l a h.0 (omega (arith, less, scope_grows scope l, ends_grown (scope_after scope l) ls)) e)
-        (stmts_ok (scope_after scope l) ls (drop (length (line_pieces l)) at) h.1 less)
+      (λ a e. act_ok scope l a h.0 (omega (arith, less, scope_grows scope l, ends_grown (scope_after scope l) ls)) e)
+      (stmts_ok (scope_after scope l) ls (drop (length (line_pieces l)) at) h.1 less)
 
   group_typed : (b : List Stmt) (ps : List ℕ) (m : ℕ) → each_typed structs vars 0 (map (stmt_typed structs vars 0) b) false ≡ true → all_below (length vars) ps ≡ true → stmt_typed structs vars 0 (Group b ps [] m) false ≡ true
   group_typed b ps m h g =
@@ -156,10 +157,10 @@ module _ (s : Source) (at : List ℕ) (rules : KeepsRules s) where
       let shapes : List Shape = record { name = s.shape; fields = map field_def s.fields } ∷ [] in
       let stmts : List Stmt = stmts_of (field_names s.fields) [] s.lines (drop (tokens_before s.fields) at) in
       let group : stmt_typed shapes (map var_def xs) 0 (Group stmts (below (length xs)) [] (last_of at)) false ≡ true =
-        group_typed s.shape s.fields xs stmts (below (length xs)) (last_of at) body_ok.0 (below_all (length xs) (length (map var_def xs)) (omega (arith, length-map xs var_def))) in
+      group_typed s.shape s.fields xs stmts (below (length xs)) (last_of at) body_ok.0 (below_all (length xs) (length (map var_def xs)) (omega (arith, length-map xs var_def))) in
       both (shapes_typed 1 shapes && vars_typed 1 (map var_def xs)) (stmt_typed shapes (map var_def xs) 0 (Group stmts (below (length xs)) [] (last_of at)) false && true)
-        (both (shapes_typed 1 shapes) (vars_typed 1 (map var_def xs)) (both (all_below 1 (targets_in (map field_def s.fields))) true (targets_below s.fields) refl) (vars_below xs))
-        (both (stmt_typed shapes (map var_def xs) 0 (Group stmts (below (length xs)) [] (last_of at)) false) true group refl)
+      (both (shapes_typed 1 shapes) (vars_typed 1 (map var_def xs)) (both (all_below 1 (targets_in (map field_def s.fields))) true (targets_below s.fields) refl) (vars_below xs))
+      (both (stmt_typed shapes (map var_def xs) 0 (Group stmts (below (length xs)) [] (last_of at)) false) true group refl)
 
   lines_are : lines_in (program_of s at).body ≡ stmts_of (field_names s.fields) [] s.lines (drop (tokens_before s.fields) at)
   lines_are = ap layer_inside (outs-Group (stmts_of (field_names s.fields) [] s.lines (drop (tokens_before s.fields) at)) (below (length (scope_end [] s.lines))) [] (last_of at))

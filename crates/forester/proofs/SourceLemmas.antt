@@ -72,7 +72,7 @@ module _ (T : List (List ℕ)) (fs : List FieldLine) (n : ℕ) (head : fits head
   unfolding after
   other_after s named e =
       fields_same fs s.fields (drop n (drop 3 T)) (main_pieces ++ lines_pieces s.lines end_pieces) fields.named named.fields fields.ends (main_no_field (lines_pieces s.lines end_pieces))
-        (sym fields.spells ∙ ap (drop 3) e)
+      (sym fields.spells ∙ ap (drop 3) e)
 
   pub no_main : fits main_parts (drop n (drop 3 T)) ≡ false → SpellsSource T None
   unfolding after
@@ -86,10 +86,11 @@ module _ (T : List (List ℕ)) (fs : List FieldLine) (n : ℕ) (head : fits head
 
   pub source_found : (ls : List Line) → fits main_parts (drop n (drop 3 T)) ≡ true → SpellsLines (drop 8 (drop n (drop 3 T))) (Some ls) → SpellsSource T (Some (record { shape = text_at T 1; fields = fs; lines = ls }))
   source_found ls main lines =
-      let main_read : Fitted 0 main_parts (drop n (drop 3 T)) = fitted 0 main_parts (drop n (drop 3 T)) (drop n (drop 3 T)) refl main in
-      (record { shape = head_read.named.1.0 refl; fields = fields.named; lines = lines.0 },
-      head_read.spells
-      ∙ ap (λ ts. head_pieces (text_at T 1) ++ ts) (fields.spells ∙ ap (fields_pieces fs) (main_read.spells ∙ ap (λ ts. main_pieces ++ ts) lines.1)))
+      let main_read : Fitted 0 main_parts (drop n (drop 3 T)) = fitted 0 main_parts (drop n (drop 3 T)) (drop n (drop 3 T)) refl main in (
+        record { shape = head_read.named.1.0 refl; fields = fields.named; lines = lines.0 },
+        head_read.spells
+            ∙ ap (λ ts. head_pieces (text_at T 1) ++ ts) (fields.spells ∙ ap (fields_pieces fs) (main_read.spells ∙ ap (λ ts. main_pieces ++ ts) lines.1)),
+      )
 
 -- Two sources that spell the same are one.
 
@@ -106,7 +107,7 @@ pub source_same : (s t : Source) → IsNamed s → IsNamed t → spelled s ≡ s
 source_same s t h g e =
     let shape : s.shape ≡ t.shape = ap (λ ts. text_at ts 1) e in
     let parts : (s.fields ≡ t.fields) × (main_pieces ++ lines_pieces s.lines end_pieces ≡ main_pieces ++ lines_pieces t.lines end_pieces) =
-      fields_same s.fields t.fields (main_pieces ++ lines_pieces s.lines end_pieces) (main_pieces ++ lines_pieces t.lines end_pieces) h.fields g.fields
-        (main_no_field (lines_pieces s.lines end_pieces)) (main_no_field (lines_pieces t.lines end_pieces)) (ap (drop 3) e) in
+    fields_same s.fields t.fields (main_pieces ++ lines_pieces s.lines end_pieces) (main_pieces ++ lines_pieces t.lines end_pieces) h.fields g.fields
+    (main_no_field (lines_pieces s.lines end_pieces)) (main_no_field (lines_pieces t.lines end_pieces)) (ap (drop 3) e) in
     let lines : s.lines ≡ t.lines = lines_same s.lines t.lines h.lines g.lines (ap (drop 8) parts.1) in
     λ i. record { shape = shape i; fields = parts.0 i; lines = lines i }

@@ -53,11 +53,12 @@ fitted_part p t e = here (is_slot p) refl
 
 fitted_more : (k : ℕ) (p : Part) (ps : List Part) (all rest : List (List ℕ)) (t : List ℕ) → drop k all ≡ t ∷ rest → text_at all k ≡ t → drop (suc k) all ≡ rest → part_is p t ≡ true → Fitted (suc k) ps all → Fitted k (p ∷ ps) all
 fitted_more k p ps all rest t is here there e later = record {
-    spells =
+  spells =
       is
       ∙ ap (λ x. x ∷ rest) ((fitted_part p t e).0 ∙ ap (λ x. if is_slot p then x else fixed_text p) (sym here))
       ∙ ap (λ (xs : List (List ℕ)). (if is_slot p then text_at all k else fixed_text p) ∷ xs) (sym there ∙ later.spells ∙ ap (λ n. filled (suc k) ps all ++ drop n all) number);
-    named = (λ slot. subst IsName (sym here) ((fitted_part p t e).1 slot), later.named) }
+  named = (λ slot. subst IsName (sym here) ((fitted_part p t e).1 slot), later.named);
+}
   where
     number : length ps + suc k ≡ suc (length ps) + k
     number = omega arith

@@ -85,7 +85,8 @@ var_def name = record { name = name; shape = 0 }
 -- the program: one struct, one block; `at` are the line numbers of all tokens, and the block ends at the last
 abbrev pub program_of : Source → List ℕ → Program
 program_of s at = record {
-    shapes = record { structs = record { name = s.shape; fields = map field_def s.fields } ∷ [] };
-    vars = map var_def (scope_end [] s.lines);
-    data_vars = [];
-    body = Group (stmts_of (field_names s.fields) [] s.lines (drop (tokens_before s.fields) at)) (below (length (scope_end [] s.lines))) [] (last_of at) ∷ [] }
+  shapes = record { structs = record { name = s.shape; fields = map field_def s.fields } ∷ [] };
+  vars = map var_def (scope_end [] s.lines);
+  data_vars = [];
+  body = Group (stmts_of (field_names s.fields) [] s.lines (drop (tokens_before s.fields) at)) (below (length (scope_end [] s.lines))) [] (last_of at) ∷ [];
+}

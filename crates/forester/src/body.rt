@@ -58,7 +58,12 @@ fn add_field(shape: &[u8], names: &mut Names, field: &FieldLine) -> Mem<bool>
 }
 
 /// The body of the source's lines and the `return`, if each line keeps the rules.
-pub fn body_of(alloc: Global, source: &Source, fields: &Names, tokens: &[Token]) -> Mem<Option<Body>>
+pub fn body_of(
+    alloc: Global,
+    source: &Source,
+    fields: &Names,
+    tokens: &[Token],
+) -> Mem<Option<Body>>
     requires fields { fields.now ≡ field_names source.now.fields }
     requires few_fields { length source.now.fields ≤ 16 }
     requires few_lines { length source.now.lines < 4096 }
@@ -72,7 +77,14 @@ pub fn body_of(alloc: Global, source: &Source, fields: &Names, tokens: &[Token])
     let mut at = 11 + 5 * source.fields.len();
     for line in source.lines.as_slice() {
         let number = line_number(tokens, at);
-        let kept = add_line(alloc, source.shape.as_slice(), fields, &mut body, line, number)?;
+        let kept = add_line(
+            alloc,
+            source.shape.as_slice(),
+            fields,
+            &mut body,
+            line,
+            number,
+        )?;
         if !kept {
             return Ok(None);
         }
@@ -86,7 +98,14 @@ pub fn body_of(alloc: Global, source: &Source, fields: &Names, tokens: &[Token])
 }
 
 /// Adds what a line declares or does, and says whether it keeps the rules.
-fn add_line(alloc: Global, shape: &[u8], fields: &Names, body: &mut Body, line: &Line, number: u32) -> Mem<bool>
+fn add_line(
+    alloc: Global,
+    shape: &[u8],
+    fields: &Names,
+    body: &mut Body,
+    line: &Line,
+    number: u32,
+) -> Mem<bool>
     requires defined { IsDefined body.old }
     requires room { length body.old.vars < 4294967295 }
     ensures { IfOk result (AddsLine shape.now fields.now line.now number body.old body.new) }
@@ -118,7 +137,10 @@ fn declare(alloc: Global, body: &mut Body, line: &Line) -> Mem<()>
 {
     if let Line::Declare { name, .. } = line {
         let copy = name.copy(alloc)?;
-        body.defs.push(VarDef { name: copy, shape: 0 })?;
+        body.defs.push(VarDef {
+            name: copy,
+            shape: 0,
+        })?;
         let _number = body.vars.number(name.as_slice())?;
     }
     Ok(())

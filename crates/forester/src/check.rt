@@ -38,9 +38,21 @@ pub fn check_line(alloc: Global, known: Known<'_>, line: &Line) -> Mem<Checked>
         Line::Declare { shape, name } => Ok(declare(known, shape.as_slice(), name.as_slice())),
         Line::Copy { to, from } => Ok(copy(alloc, known, to.as_slice(), from.as_slice())),
         Line::SetNull { to } => Ok(set_null(alloc, known, to.as_slice())),
-        Line::Load { to, from, field } => load(alloc, known, to.as_slice(), from.as_slice(), field.as_slice()),
+        Line::Load { to, from, field } => load(
+            alloc,
+            known,
+            to.as_slice(),
+            from.as_slice(),
+            field.as_slice(),
+        ),
         Line::New { to, shape } => Ok(new(alloc, known, to.as_slice(), shape.as_slice())),
-        Line::Store { to, field, from } => store(alloc, known, to.as_slice(), field.as_slice(), from.as_slice()),
+        Line::Store { to, field, from } => store(
+            alloc,
+            known,
+            to.as_slice(),
+            field.as_slice(),
+            from.as_slice(),
+        ),
         Line::StoreNull { to, field } => store_null(alloc, known, to.as_slice(), field.as_slice()),
         Line::Free { name } => Ok(free(alloc, known, name.as_slice())),
     }

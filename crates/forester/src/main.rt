@@ -36,7 +36,15 @@ fn main(rt: HostRuntime) -> ExitCode {
     let mut shelf = FileShelf::new(&rt);
     let mut out = StreamSink::new(rt.stdout());
     let mut notes = StreamSink::new(rt.stderr());
-    let status = forester(&rt, alloc, words.as_slice(), &mut shelf, &mut out, &mut notes, &NoGate);
+    let status = forester(
+        &rt,
+        alloc,
+        words.as_slice(),
+        &mut shelf,
+        &mut out,
+        &mut notes,
+        &NoGate,
+    );
     ExitCode::from(status)
 }
 

@@ -14,6 +14,7 @@ use fore_base::text::Text;
 use std::alloc::Global;
 
 const HEAD: [Part; 3] = [Part::Struct, Part::Name, Part::Begin];
+
 const MAIN: [Part; 8] = [
     Part::End,
     Part::Semicolon,
@@ -24,11 +25,36 @@ const MAIN: [Part; 8] = [
     Part::Close,
     Part::Begin,
 ];
-const DECLARE: [Part; 5] = [Part::Struct, Part::Name, Part::Star, Part::Name, Part::Semicolon];
-const FREE: [Part; 5] = [Part::Free, Part::Open, Part::Name, Part::Close, Part::Semicolon];
+
+const DECLARE: [Part; 5] = [
+    Part::Struct,
+    Part::Name,
+    Part::Star,
+    Part::Name,
+    Part::Semicolon,
+];
+
+const FREE: [Part; 5] = [
+    Part::Free,
+    Part::Open,
+    Part::Name,
+    Part::Close,
+    Part::Semicolon,
+];
+
 const NULL: [Part; 4] = [Part::Name, Part::Equals, Part::Null, Part::Semicolon];
+
 const COPY: [Part; 4] = [Part::Name, Part::Equals, Part::Name, Part::Semicolon];
-const LOAD: [Part; 6] = [Part::Name, Part::Equals, Part::Name, Part::Arrow, Part::Name, Part::Semicolon];
+
+const LOAD: [Part; 6] = [
+    Part::Name,
+    Part::Equals,
+    Part::Name,
+    Part::Arrow,
+    Part::Name,
+    Part::Semicolon,
+];
+
 const NEW: [Part; 11] = [
     Part::Name,
     Part::Equals,
@@ -42,9 +68,26 @@ const NEW: [Part; 11] = [
     Part::Close,
     Part::Semicolon,
 ];
-const STORE: [Part; 6] = [Part::Name, Part::Arrow, Part::Name, Part::Equals, Part::Name, Part::Semicolon];
+
+const STORE: [Part; 6] = [
+    Part::Name,
+    Part::Arrow,
+    Part::Name,
+    Part::Equals,
+    Part::Name,
+    Part::Semicolon,
+];
+
 const END: [Part; 4] = [Part::Return, Part::Zero, Part::Semicolon, Part::End];
-const STORE_NULL: [Part; 6] = [Part::Name, Part::Arrow, Part::Name, Part::Equals, Part::Null, Part::Semicolon];
+
+const STORE_NULL: [Part; 6] = [
+    Part::Name,
+    Part::Arrow,
+    Part::Name,
+    Part::Equals,
+    Part::Null,
+    Part::Semicolon,
+];
 
 /// The line with which the tokens begin, if they begin with one.
 pub fn line(alloc: Global, tokens: &[Token]) -> Mem<Option<Line>>
@@ -120,7 +163,11 @@ pub fn source(alloc: Global, tokens: &[Token]) -> Mem<Option<Source>>
         return Ok(None);
     }
     match lines(alloc, &after_fields[8..])? {
-        Some(lines) => Ok(Some(Source { shape, fields, lines })),
+        Some(lines) => Ok(Some(Source {
+            shape,
+            fields,
+            lines,
+        })),
         None => Ok(None),
     }
 }
@@ -160,7 +207,11 @@ pub fn lines(alloc: Global, tokens: &[Token]) -> Mem<Option<List<Line>>>
         at += next.size();
         found.push(next)?;
     }
-    if is_end(&tokens[at..]) { Ok(Some(found)) } else { Ok(None) }
+    if is_end(&tokens[at..]) {
+        Ok(Some(found))
+    } else {
+        Ok(None)
+    }
 }
 
 /// Whether the tokens are `return 0; }`.

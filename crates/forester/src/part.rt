@@ -3,8 +3,8 @@ ghost use Rattle.forester.specs.Spelling.{is_name, is_among, begins_word, reserv
 ghost use Rattle.forester.specs.Straight.{text_of};
 ghost use Rattle.forester.specs.Templates.{fixed_text, part_is, fits};
 
-use c_lexer::token::Token;
 use c_lexer::bytes::is_letter;
+use c_lexer::token::Token;
 
 /// What may stand at a place of a line: a name, or a fixed token.
 #[derive(Clone, Copy, PartialEq, Eq, Debug)]
@@ -87,14 +87,15 @@ pub fn fits(template: &[Part], tokens: &[Token]) -> bool
 
 /// The words that the grammar keeps for itself.
 const RESERVED: [&str; 20] = [
-    "struct", "enum", "int", "void", "extern", "if", "else", "while", "do", "for", "return", "break", "continue", "sizeof", "malloc", "free", "assert",
-    "NULL", "true", "false",
+    "struct", "enum", "int", "void", "extern", "if", "else", "while", "do", "for", "return",
+    "break", "continue", "sizeof", "malloc", "free", "assert", "NULL", "true", "false",
 ];
 
 /// The words that no program may use.
 const REFUSED: [&str; 23] = [
-    "union", "goto", "switch", "case", "default", "char", "short", "long", "float", "double", "signed", "unsigned", "bool", "_Bool", "_Complex", "static",
-    "volatile", "const", "register", "auto", "inline", "restrict", "typedef",
+    "union", "goto", "switch", "case", "default", "char", "short", "long", "float", "double",
+    "signed", "unsigned", "bool", "_Bool", "_Complex", "static", "volatile", "const", "register",
+    "auto", "inline", "restrict", "typedef",
 ];
 
 /// Whether a token's text is a word that is free to be declared.

@@ -13,6 +13,7 @@ use std::thread::Threads;
 
 // Lines 1 and 2 of each program, and what follows its lines, of which the first is line 3.
 const HEAD: &str = "struct node { struct node *next; struct node *other; };\nint main(void) {\n";
+
 const TAIL: &str = "return 0;\n}\n";
 
 fn words_of(alloc: Global, words: &[&str]) -> Mem<Vec<String>> {
@@ -24,14 +25,34 @@ fn words_of(alloc: Global, words: &[&str]) -> Mem<Vec<String>> {
 }
 
 // Whether these words, with this file as x.c, give this status and leave this on the sinks.
-fn gives<R: Threads + Sync>(rt: &R, alloc: Global, words: &[&str], file: &[u8], status: u8, out: &str, notes: &str) -> Mem<bool> {
+fn gives<R: Threads + Sync>(
+    rt: &R,
+    alloc: Global,
+    words: &[&str],
+    file: &[u8],
+    status: u8,
+    out: &str,
+    notes: &str,
+) -> Mem<bool> {
     let words = words_of(alloc, words)?;
     let mut shelf = MemShelf::new(alloc);
     shelf.add("x.c", file)?;
     let mut out_sink = MemSink::new(alloc, 128, 128)?;
     let mut notes_sink = MemSink::new(alloc, 128, 128)?;
-    let got = forester(rt, alloc, words.as_slice(), &mut shelf, &mut out_sink, &mut notes_sink, &NoGate);
-    Ok(got == status && out_sink.bytes() == out.as_bytes() && notes_sink.bytes() == notes.as_bytes())
+    let got = forester(
+        rt,
+        alloc,
+        words.as_slice(),
+        &mut shelf,
+        &mut out_sink,
+        &mut notes_sink,
+        &NoGate,
+    );
+    Ok(
+        got == status
+            && out_sink.bytes() == out.as_bytes()
+            && notes_sink.bytes() == notes.as_bytes(),
+    )
 }
 
 // Whether the program of these lines gives this status and this report.
@@ -40,12 +61,28 @@ fn runs<R: Threads + Sync>(rt: &R, alloc: Global, lines: &str, status: u8, out: 
     text.put(HEAD.as_bytes())?;
     text.put(lines.as_bytes())?;
     text.put(TAIL.as_bytes())?;
-    gives(rt, alloc, &["verify", "x.c"], text.as_slice(), status, out, "")
+    gives(
+        rt,
+        alloc,
+        &["verify", "x.c"],
+        text.as_slice(),
+        status,
+        out,
+        "",
+    )
 }
 
 // Whether the file is refused because it is not straight.
 fn is_refused<R: Threads + Sync>(rt: &R, alloc: Global, file: &str) -> Mem<bool> {
-    gives(rt, alloc, &["verify", "x.c"], file.as_bytes(), 4, "", "refused N1 file\n")
+    gives(
+        rt,
+        alloc,
+        &["verify", "x.c"],
+        file.as_bytes(),
+        4,
+        "",
+        "refused N1 file\n",
+    )
 }
 
 #[test]
@@ -53,21 +90,54 @@ fn lines_meet_their_faults(rt: HostRuntime) -> Result<(), Fail> {
     // lines, report. A declaration takes no step; the `return` is a step.
     let rows: [(&str, &str); 11] = [
         // the second free of line 6 is the third step
-        ("struct node *x;\nx = malloc(sizeof(struct node));\nfree(x);\nfree(x);\n", "UNSAFE\nfault 5 double free\nline 6\nstep 3\nchoices -\n"),
+        (
+            "struct node *x;\nx = malloc(sizeof(struct node));\nfree(x);\nfree(x);\n",
+            "UNSAFE\nfault 5 double free\nline 6\nstep 3\nchoices -\n",
+        ),
         // the cell is lost when the variables die, in line 5
-        ("struct node *x;\nx = malloc(sizeof(struct node));\n", "UNSAFE\nfault 6 leak\nline 5\nstep 2\nchoices -\n"),
-        ("struct node *x;\nstruct node *y;\nx = NULL;\ny = x->next;\n", "UNSAFE\nfault 1 null dereference\nline 6\nstep 2\nchoices -\n"),
-        ("struct node *x;\nx = x->next;\n", "UNSAFE\nfault 2 uninitialised dereference\nline 4\nstep 1\nchoices -\n"),
-        ("struct node *x;\nx = malloc(sizeof(struct node));\nfree(x);\nx = x->next;\n", "UNSAFE\nfault 3 dangling dereference\nline 6\nstep 3\nchoices -\n"),
-        ("struct node *x;\nfree(x);\n", "UNSAFE\nfault 4 invalid free\nline 4\nstep 1\nchoices -\n"),
-        ("struct node *x;\nx = NULL;\nx->next = x;\n", "UNSAFE\nfault 1 null dereference\nline 5\nstep 2\nchoices -\n"),
-        ("struct node *x;\nx->other = NULL;\n", "UNSAFE\nfault 2 uninitialised dereference\nline 4\nstep 1\nchoices -\n"),
+        (
+            "struct node *x;\nx = malloc(sizeof(struct node));\n",
+            "UNSAFE\nfault 6 leak\nline 5\nstep 2\nchoices -\n",
+        ),
+        (
+            "struct node *x;\nstruct node *y;\nx = NULL;\ny = x->next;\n",
+            "UNSAFE\nfault 1 null dereference\nline 6\nstep 2\nchoices -\n",
+        ),
+        (
+            "struct node *x;\nx = x->next;\n",
+            "UNSAFE\nfault 2 uninitialised dereference\nline 4\nstep 1\nchoices -\n",
+        ),
+        (
+            "struct node *x;\nx = malloc(sizeof(struct node));\nfree(x);\nx = x->next;\n",
+            "UNSAFE\nfault 3 dangling dereference\nline 6\nstep 3\nchoices -\n",
+        ),
+        (
+            "struct node *x;\nfree(x);\n",
+            "UNSAFE\nfault 4 invalid free\nline 4\nstep 1\nchoices -\n",
+        ),
+        (
+            "struct node *x;\nx = NULL;\nx->next = x;\n",
+            "UNSAFE\nfault 1 null dereference\nline 5\nstep 2\nchoices -\n",
+        ),
+        (
+            "struct node *x;\nx->other = NULL;\n",
+            "UNSAFE\nfault 2 uninitialised dereference\nline 4\nstep 1\nchoices -\n",
+        ),
         // a copy of the pointer does not keep the cell alive
-        ("struct node *x;\nstruct node *y;\nx = malloc(sizeof(struct node));\ny = x;\nfree(x);\ny->next = NULL;\n", "UNSAFE\nfault 3 dangling dereference\nline 8\nstep 4\nchoices -\n"),
+        (
+            "struct node *x;\nstruct node *y;\nx = malloc(sizeof(struct node));\ny = x;\nfree(x);\ny->next = NULL;\n",
+            "UNSAFE\nfault 3 dangling dereference\nline 8\nstep 4\nchoices -\n",
+        ),
         // the only pointer is overwritten in line 5, before the end
-        ("struct node *x;\nx = malloc(sizeof(struct node));\nx = NULL;\nx = malloc(sizeof(struct node));\nfree(x);\n", "UNSAFE\nfault 6 leak\nline 5\nstep 2\nchoices -\n"),
+        (
+            "struct node *x;\nx = malloc(sizeof(struct node));\nx = NULL;\nx = malloc(sizeof(struct node));\nfree(x);\n",
+            "UNSAFE\nfault 6 leak\nline 5\nstep 2\nchoices -\n",
+        ),
         // a cell that only names itself is not reached
-        ("struct node *x;\nx = malloc(sizeof(struct node));\nx->next = x;\nx = NULL;\n", "UNSAFE\nfault 6 leak\nline 6\nstep 3\nchoices -\n"),
+        (
+            "struct node *x;\nx = malloc(sizeof(struct node));\nx->next = x;\nx = NULL;\n",
+            "UNSAFE\nfault 6 leak\nline 6\nstep 3\nchoices -\n",
+        ),
     ];
     for (lines, out) in rows {
         assert!(rt; runs(&rt, rt.alloc(), lines, 1, out)?, "{lines}");
@@ -152,9 +222,25 @@ fn long_file(alloc: Global, vars: usize, lines: usize) -> Mem<Text> {
 }
 
 // Whether the long file gives this.
-fn long_gives<R: Threads + Sync>(rt: &R, alloc: Global, vars: usize, lines: usize, status: u8, out: &str, notes: &str) -> Mem<bool> {
+fn long_gives<R: Threads + Sync>(
+    rt: &R,
+    alloc: Global,
+    vars: usize,
+    lines: usize,
+    status: u8,
+    out: &str,
+    notes: &str,
+) -> Mem<bool> {
     let text = long_file(alloc, vars, lines)?;
-    gives(rt, alloc, &["verify", "x.c"], text.as_slice(), status, out, notes)
+    gives(
+        rt,
+        alloc,
+        &["verify", "x.c"],
+        text.as_slice(),
+        status,
+        out,
+        notes,
+    )
 }
 
 #[test]
@@ -179,11 +265,41 @@ fn spaces(alloc: Global, count: usize) -> Mem<Vec<u8>> {
 fn other_answers_go_to_notes(rt: HostRuntime) -> Result<(), Fail> {
     let long = spaces(rt.alloc(), 1_048_577)?;
     // the greatest length that is read is no program; one byte more is too long
-    assert!(rt; gives(&rt, rt.alloc(), &["verify", "x.c"], &long[1..], 4, "", "refused N1 file\n")?);
-    assert!(rt; gives(&rt, rt.alloc(), &["verify", "x.c"], long.as_slice(), 4, "", "refused K1 file\n")?);
+    assert!(rt;
+        gives(
+            &rt,
+            rt.alloc(),
+            &["verify", "x.c"],
+            &long[1..],
+            4,
+            "",
+            "refused N1 file\n"
+        )?
+    );
+    assert!(rt;
+        gives(
+            &rt,
+            rt.alloc(),
+            &["verify", "x.c"],
+            long.as_slice(),
+            4,
+            "",
+            "refused K1 file\n"
+        )?
+    );
     // words that do not read, and a file that is not there
     assert!(rt; gives(&rt, rt.alloc(), &["verify"], b"", 2, "", "usage\n")?);
     assert!(rt; gives(&rt, rt.alloc(), &["verify", "-x.c"], b"", 2, "", "usage\n")?);
-    assert!(rt; gives(&rt, rt.alloc(), &["verify", "y.c"], b"", 5, "", "read fault\n")?);
+    assert!(rt;
+        gives(
+            &rt,
+            rt.alloc(),
+            &["verify", "y.c"],
+            b"",
+            5,
+            "",
+            "read fault\n"
+        )?
+    );
     Ok(())
 }

@@ -44,7 +44,7 @@ pub fn forester<R: Threads + Sync, L: Shelf, K: Sink, E: Sink, G: Gate>(
     ensures written { result ≡ 6 → (due : Answer)
         × IsRight (map (λ w. string_bytes w) words.now) (L.holds shelf.old) (L.faults shelf.old) (L.faults shelf.new) due
         × ((IsCutShort K.held K.faults out.old out.new (out_text due) × (E.held notes.new ≡ E.held notes.old))
-            ⊎ (IsCutShort E.held E.faults notes.old notes.new (notes_text due) × (K.held out.new ≡ K.held out.old))) }
+        ⊎ (IsCutShort E.held E.faults notes.old notes.new (notes_text due) × (K.held out.new ≡ K.held out.old))) }
     ensures memory { result ≡ 7 → ((path : List ℕ) × IsVerify (map (λ w. string_bytes w) words.now) path)
         × (K.held out.new ≡ K.held out.old) × (E.held notes.new ≡ E.held notes.old) }
     ensures unread { ((path : List ℕ) → IsVerify (map (λ w. string_bytes w) words.now) path → ⊥) → (result ≡ 2) ⊎ (result ≡ 6) }

@@ -41,7 +41,11 @@ fn program(alloc: Global, source: &Source, body: Body, tokens: &[Token]) -> Mem<
     requires stmts { body.stmts ≡ stmts_of (field_names source.now.fields) [] source.now.lines (drop (tokens_before source.now.fields) (map line_of tokens.now)) }
     ensures { IfOk result (λ program. program ≡ program_of source.now (map line_of tokens.now)) }
 {
-    let Body { vars: _vars, defs, stmts } = body;
+    let Body {
+        vars: _vars,
+        defs,
+        stmts,
+    } = body;
     let shapes = shapes(alloc, source)?;
     let ptrs = numbers_below(alloc, defs.len() as u32)?;
     let mut groups = List::new(alloc);

@@ -24,7 +24,8 @@ loop-line-init c =
       stmts = ap (λ n. stmts_of fields [] s.lines (drop n places)) at;
       defined = refl;
       few = omega arith;
-      room = omega (arith, c.requires.few_fields, count) })
+      room = omega (arith, c.requires.few_fields, count);
+    })
 
 pub loop-line-preserved : goal.loop-line-preserved
 loop-line-preserved c =
@@ -40,22 +41,23 @@ loop-line-preserved c =
     let item : l ≡ get_or s.lines i l = rw c.as_slice-line-items.ensures at c.line-item.is in
     let is : drop i s.lines ≡ l ∷ drop (suc i) s.lines = front_is s.lines i l less item in
     let added : AddsLine s.shape fields l number old new true =
-      subst (AddsLine s.shape fields l number old new) c.if-not-kept.false
-        (subst (λ f. AddsLine s.shape f l number old new c.in_ok-kept.kept) c.requires.fields
-          (subst (λ x. AddsLine x c.args.fields.now l number old new c.in_ok-kept.kept) c.as_slice.ensures c.in_ok-kept.ensures)) in
+    subst (AddsLine s.shape fields l number old new) c.if-not-kept.false
+    (subst (λ f. AddsLine s.shape f l number old new c.in_ok-kept.kept) c.requires.fields
+    (subst (λ x. AddsLine x c.args.fields.now l number old new c.in_ok-kept.kept) c.as_slice.ensures c.in_ok-kept.ensures)) in
     let typed = added.0 in
     let scope : new.vars ≡ scope_after old.vars l = added.1 in
     let later : drop (c.loop-line.at + c.size-at.result) places ≡ drop (length (line_pieces l)) (drop c.loop-line.at places) =
-      sym (drop-drop c.size-at.result c.loop-line.at places) ∙ ap (λ n. drop n (drop c.loop-line.at places)) c.size-at.ensures in
+    sym (drop-drop c.size-at.result c.loop-line.at places) ∙ ap (λ n. drop n (drop c.loop-line.at places)) c.size-at.ensures in
     rw (add-one, scope, later) (record {
       typed_to = λ all. (typed_front s.shape fields old.vars l (drop (suc i) s.lines) (drop i s.lines) is (c.loop-line.invariant.typed_to all)).1;
       typed_from = λ rest. c.loop-line.invariant.typed_from (typed_back s.shape fields old.vars l (drop (suc i) s.lines) (drop i s.lines) is typed rest);
       scope = c.loop-line.invariant.scope ∙ scope_front s.shape fields old.vars l (drop (suc i) s.lines) (drop i s.lines) is;
       stmts =
-        c.loop-line.invariant.stmts
-        ∙ stmts_front s.shape fields old.vars l (drop (suc i) s.lines) (drop i s.lines) old.stmts (drop c.loop-line.at places) is
-        ∙ ap (λ (ss : List Stmt). ss ++ stmts_of fields (scope_after old.vars l) (drop (suc i) s.lines) (drop (length (line_pieces l)) (drop c.loop-line.at places)))
-            (ap (λ n. old.stmts ++ stmt_before (act_of fields old.vars l) n []) (sym c.line_number-number.ensures) ∙ sym added.2);
+          c.loop-line.invariant.stmts
+          ∙ stmts_front s.shape fields old.vars l (drop (suc i) s.lines) (drop i s.lines) old.stmts (drop c.loop-line.at places) is
+          ∙ ap (λ (ss : List Stmt). ss ++ stmts_of fields (scope_after old.vars l) (drop (suc i) s.lines) (drop (length (line_pieces l)) (drop c.loop-line.at places)))
+          (ap (λ n. old.stmts ++ stmt_before (act_of fields old.vars l) n []) (sym c.line_number-number.ensures) ∙ sym added.2);
       defined = added.3 ∙ ap (map var_def) scope;
       few = omega (arith, scope_longer old.vars l, c.loop-line.invariant.few);
-      room = omega (arith, c.size-at.ensures, line_short l, c.loop-line.invariant.room) })
+      room = omega (arith, c.size-at.ensures, line_short l, c.loop-line.invariant.room);
+    })

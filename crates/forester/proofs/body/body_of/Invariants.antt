@@ -13,5 +13,5 @@ invariant-loop-line l = record {
   stmts : stmts_of (field_names l.source.fields) [] l.source.lines (drop (tokens_before l.source.fields) (map line_of l.tokens)) ≡ l.body.stmts ++ stmts_of (field_names l.source.fields) l.body.vars (drop l.line-index l.source.lines) (drop l.at (map line_of l.tokens));
   defined : IsDefined l.body;
   few : length l.body.vars ≤ l.line-index;
-  room : l.at ≤ 91 + 11 * l.line-index
+  room : l.at ≤ 91 + 11 * l.line-index;
 }

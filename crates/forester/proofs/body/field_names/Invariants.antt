@@ -8,5 +8,5 @@ invariant-loop-field l = record {
   names : field_names l.source.fields ≡ l.names ++ field_names (drop l.field-index l.source.fields);
   shapes_to : Every (λ f. f.shape ≡ l.source.shape) l.source.fields → Every (λ f. f.shape ≡ l.source.shape) (drop l.field-index l.source.fields);
   shapes_from : Every (λ f. f.shape ≡ l.source.shape) (drop l.field-index l.source.fields) → Every (λ f. f.shape ≡ l.source.shape) l.source.fields;
-  few : length l.names ≤ l.field-index
+  few : length l.names ≤ l.field-index;
 }

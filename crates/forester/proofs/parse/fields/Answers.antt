@@ -21,16 +21,17 @@ fields-preserved c =
     let read = field_read texts fit in
     let front : FieldLine = record { shape = text_at texts 1; name = text_at texts 3 } in
     let field : c.in_ok-field.field ≡ front =
-      c.in_ok-field.ensures ∙ ap (λ (ts : List Token). let f : FieldLine = record { shape = text_at (map text_of ts) 1; name = text_at (map text_of ts) 3 } in f) (take_rest tokens at) in
+    c.in_ok-field.ensures ∙ ap (λ (ts : List Token). let f : FieldLine = record { shape = text_at (map text_of ts) 1; name = text_at (map text_of ts) 3 } in f) (take_rest tokens at) in
     let rest : drop 5 texts ≡ map text_of (drop (at + 5) tokens) = drop-map text_of 5 (drop at tokens) ∙ ap (map text_of) (drop-drop 5 at tokens) in
     let pushed : c.push.new.self ≡ c.fields.found ++ front ∷ [] = c.in_ok-push.ensures.ok ∙ ap (λ (f : FieldLine). c.fields.found ++ f ∷ []) field in
     rw pushed (record {
       spells =
-        c.fields.invariant.spells
-        ∙ ap (fields_pieces c.fields.found) (read.0 ∙ ap (λ ts. field_pieces front ++ ts) rest)
-        ∙ sym (fields_more c.fields.found front (map text_of (drop (at + 5) tokens)));
+          c.fields.invariant.spells
+          ∙ ap (fields_pieces c.fields.found) (read.0 ∙ ap (λ ts. field_pieces front ++ ts) rest)
+          ∙ sym (fields_more c.fields.found front (map text_of (drop (at + 5) tokens)));
       named = field_named_more c.fields.found front c.fields.invariant.named (read.1, read.2);
-      within = omega (arith, c.fits.ensures.long c.fields-test.true, length-take (length tokens - at) (drop at tokens), length-drop at tokens, c.fields.invariant.within) })
+      within = omega (arith, c.fits.ensures.long c.fields-test.true, length-take (length tokens - at) (drop at tokens), length-drop at tokens, c.fields.invariant.within);
+    })
 
 pub returns-clause-fields : goal.returns-clause-fields
 returns-clause-fields c =
@@ -39,4 +40,5 @@ returns-clause-fields c =
     record {
       named = c.fields.invariant.named;
       spells = c.fields.invariant.spells ∙ ap (fields_pieces c.fields.found) (sym (drop-map text_of at tokens));
-      ends = ap (fits declare_parts) (drop-map text_of at tokens) ∙ at_front tokens at c.fits.result false c.fits.ensures.fits c.fields-test.false }
+      ends = ap (fits declare_parts) (drop-map text_of at tokens) ∙ at_front tokens at c.fits.result false c.fits.ensures.fits c.fields-test.false;
+    }

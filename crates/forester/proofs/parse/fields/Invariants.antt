@@ -8,7 +8,7 @@ abbrev pub invariant-fields : goal.invariant-fields
 invariant-fields l = record {
   spells : map text_of l.tokens ≡ fields_pieces l.found (map text_of (drop l.at l.tokens));
   named : Every FieldNamed l.found;
-  within : l.at ≤ length l.tokens
+  within : l.at ≤ length l.tokens;
 }
 
 abbrev pub decreases-fields : goal.decreases-fields

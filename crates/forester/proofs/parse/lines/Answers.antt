@@ -21,19 +21,20 @@ lines-preserved c =
     let texts : List (List ℕ) = map text_of (drop at tokens) in
     let read : LineRead texts next = line_read texts next (at_front tokens at c.in_ok-next.field-0 (Some next) c.in_ok-next.ensures c.in-Some.is) in
     let rest : read.rest ≡ map text_of (drop (at + size) tokens) =
-      sym (drop_at (line_pieces next) read.rest size (sym c.size-at.ensures))
-      ∙ ap (drop size) (sym read.spells)
-      ∙ drop-map text_of size (drop at tokens)
-      ∙ ap (map text_of) (drop-drop size at tokens) in
+    sym (drop_at (line_pieces next) read.rest size (sym c.size-at.ensures))
+    ∙ ap (drop size) (sym read.spells)
+    ∙ drop-map text_of size (drop at tokens)
+    ∙ ap (map text_of) (drop-drop size at tokens) in
     let long : length texts ≡ size + length read.rest = ap (λ (ts : List (List ℕ)). length ts) read.spells ∙ length-append (line_pieces next) read.rest ∙ ap (λ n. n + length read.rest) (sym c.size-at.ensures) in
     let short : length texts ≡ length tokens - at = length-map (drop at tokens) text_of ∙ length-drop at tokens in
     rw c.in_ok-push.ensures.ok (record {
       spells =
-        c.lines.invariant.spells
-        ∙ ap (lines_pieces c.lines.found) (read.spells ∙ ap (λ ts. line_pieces next ++ ts) rest)
-        ∙ sym (lines_more c.lines.found next (map text_of (drop (at + size) tokens)));
+          c.lines.invariant.spells
+          ∙ ap (lines_pieces c.lines.found) (read.spells ∙ ap (λ ts. line_pieces next ++ ts) rest)
+          ∙ sym (lines_more c.lines.found next (map text_of (drop (at + size) tokens)));
       named = named_more c.lines.found next c.lines.invariant.named read.named;
-      within = omega (arith, long, short, c.lines.invariant.within) })
+      within = omega (arith, long, short, c.lines.invariant.within);
+    })
 
 pub returns-else-is_end : goal.returns-else-is_end
 returns-else-is_end c = λ ls named spells.

@@ -8,7 +8,7 @@ abbrev pub invariant-lines : goal.invariant-lines
 invariant-lines l = record {
   spells : map text_of l.tokens ≡ lines_pieces l.found (map text_of (drop l.at l.tokens));
   named : Every LineNamed l.found;
-  within : l.at ≤ length l.tokens
+  within : l.at ≤ length l.tokens;
 }
 
 abbrev pub decreases-lines : goal.decreases-lines

@@ -27,7 +27,7 @@ returns-then-not-fits-2 c =
     let head : fits head_parts (map text_of tokens) ≡ true = sym c.fits.ensures.fits ∙ c.if-not-fits.false in
     let fields = subst (λ ts. SpellsFields ts c.in_ok-fields.fields n) (slice_texts tokens 3) c.in_ok-fields.ensures.fields in
     no_main (map text_of tokens) c.in_ok-fields.fields n head fields
-      (ap (fits main_parts) (sym (after_fields tokens n)) ∙ sym c.fits-2.ensures.fits ∙ c.if-not-fits-2.true)
+    (ap (fits main_parts) (sym (after_fields tokens n)) ∙ sym c.fits-2.ensures.fits ∙ c.if-not-fits-2.true)
 
 pub returns-in-Some : goal.returns-in-Some
 returns-in-Some c =
@@ -37,9 +37,9 @@ returns-in-Some c =
     let fields = subst (λ ts. SpellsFields ts c.in_ok-fields.fields n) (slice_texts tokens 3) c.in_ok-fields.ensures.fields in
     let main : fits main_parts (drop n (drop 3 (map text_of tokens))) ≡ true = ap (fits main_parts) (sym (after_fields tokens n)) ∙ sym c.fits-2.ensures.fits ∙ c.if-not-fits-2.false in
     let lines : SpellsLines (drop 8 (drop n (drop 3 (map text_of tokens)))) (Some c.in-Some.lines) =
-      subst (SpellsLines (drop 8 (drop n (drop 3 (map text_of tokens))))) c.in-Some.is (subst (λ ts. SpellsLines ts c.in_ok-lines.field-0) (after_main tokens n) c.in_ok-lines.ensures) in
+    subst (SpellsLines (drop 8 (drop n (drop 3 (map text_of tokens))))) c.in-Some.is (subst (λ ts. SpellsLines ts c.in_ok-lines.field-0) (after_main tokens n) c.in_ok-lines.ensures) in
     subst (λ x. SpellsSource (map text_of tokens) (Some (record { shape = x; fields = c.in_ok-fields.fields; lines = c.in-Some.lines }))) (sym c.in_ok-shape.ensures)
-      (source_found (map text_of tokens) c.in_ok-fields.fields n head fields c.in-Some.lines main lines)
+    (source_found (map text_of tokens) c.in_ok-fields.fields n head fields c.in-Some.lines main lines)
 
 pub returns-in-None : goal.returns-in-None
 returns-in-None c =
@@ -48,4 +48,4 @@ returns-in-None c =
     let head : fits head_parts (map text_of tokens) ≡ true = sym c.fits.ensures.fits ∙ c.if-not-fits.false in
     let fields = subst (λ ts. SpellsFields ts c.in_ok-fields.fields n) (slice_texts tokens 3) c.in_ok-fields.ensures.fields in
     no_lines (map text_of tokens) c.in_ok-fields.fields n head fields
-      (subst (SpellsLines (drop 8 (drop n (drop 3 (map text_of tokens))))) c.in-None.is (subst (λ ts. SpellsLines ts c.in_ok-lines.field-0) (after_main tokens n) c.in_ok-lines.ensures))
+    (subst (SpellsLines (drop 8 (drop n (drop 3 (map text_of tokens))))) c.in-None.is (subst (λ ts. SpellsLines ts c.in_ok-lines.field-0) (after_main tokens n) c.in_ok-lines.ensures))

@@ -23,6 +23,6 @@ returns c =
     let only : (us : List Token) → Tokens bytes us → us ≡ ts = λ us h. only_tokens c.in_ok-tokens.field-0 us ts (c.in_ok-tokens.ensures.only us h) c.in-Some.is in
     let few : length ts ≤ 65535 = omega (arith, c.len.ensures, c.if-len-gt65535.false) in
     let spells : SpellsSource (map text_of ts) (Some s) =
-      subst (SpellsSource (map text_of ts)) c.in-Some-2.is (subst (λ us. SpellsSource (map text_of us) c.in_ok-source.field-0) c.as_slice.ensures c.in_ok-source.ensures) in
+    subst (SpellsSource (map text_of ts)) c.in-Some-2.is (subst (λ us. SpellsSource (map text_of us) c.in_ok-source.field-0) c.as_slice.ensures c.in_ok-source.ensures) in
     read_result bytes ts s no_slash no_hash reads only few spells c.in_ok-program.program
-      (subst (λ us. TypesSource s (map line_of us) c.in_ok-program.program) c.as_slice-2.ensures c.in_ok-program.ensures)
+    (subst (λ us. TypesSource s (map line_of us) c.in_ok-program.program) c.as_slice-2.ensures c.in_ok-program.ensures)
