@@ -263,6 +263,7 @@ fn spaces(alloc: Global, count: usize) -> Mem<Vec<u8>> {
 
 #[test]
 fn other_answers_go_to_notes(rt: HostRuntime) -> Result<(), Fail> {
+    let longest = spaces(rt.alloc(), 1_048_576)?;
     let long = spaces(rt.alloc(), 1_048_577)?;
     // the greatest length that is read is no program; one byte more is too long
     assert!(rt;
@@ -270,7 +271,7 @@ fn other_answers_go_to_notes(rt: HostRuntime) -> Result<(), Fail> {
             &rt,
             rt.alloc(),
             &["verify", "x.c"],
-            &long[1..],
+            longest.as_slice(),
             4,
             "",
             "refused N1 file\n"
