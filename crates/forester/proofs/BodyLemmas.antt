@@ -1,8 +1,8 @@
 -- Fields and lines one by one.
-use Rattle.std.proofs.Common.{◌≡◌, ◌≤◌, ◌<◌, ◌+◌, ◌*◌, ℕ, zero, suc, Bool, true, false, Option, Some, None, List, [], ◌∷◌, ◌++◌, map, ◌-◌, length, drop, get_or, sub-one, refl, sym, ap, ◌∙◌, subst, inl, inr, arith}
+use Rattle.std.proofs.Common.{◌≡◌, ◌≤◌, ◌<◌, ◌+◌, ◌*◌, ℕ, zero, suc, Option, Some, None, List, [], ◌∷◌, ◌++◌, map, ◌-◌, length, drop, get_or, sub-one, sym, ap, ◌∙◌, subst, inl, inr, arith}
 use Rattle.std.specs.Prelude.{slice_get}
-use Rattle.std.proofs.lemmas.List.{length-append, append-nil, append_assoc, drop-drop}
-use Rattle.fore_base.specs.Lists.{IsIn, Every}
+use Rattle.std.proofs.lemmas.List.{length-append, append-nil, append_assoc}
+use Rattle.fore_base.specs.Lists.{IsIn}
 use Rattle.fore_base.specs.Names.{IsDistinct}
 use Rattle.c_lexer.specs.declared.token.Token.{Token}
 use Rattle.c_types.specs.declared.program.Act.{Act}
@@ -13,7 +13,7 @@ use Rattle.forester.specs.declared.source.Line.{Line}
 use Rattle.forester.specs.declared.source.Line.TheVariants.{Declare, Copy, SetNull, Load, New, Store, StoreNull, Free}
 use Rattle.forester.specs.Straight.{line_of}
 use Rattle.forester.specs.Spelling.{line_pieces}
-use Rattle.forester.specs.Rules.{field_names, scope_after, scope_end, LineTyped, LinesTyped}
+use Rattle.forester.specs.Rules.{scope_after, scope_end, LineTyped, LinesTyped}
 use Rattle.forester.specs.Meaning.{act_of, first_of, stmt_before, stmts_of, tokens_before, last_of}
 
 -- an item and those after it

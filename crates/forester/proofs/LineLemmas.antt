@@ -1,15 +1,15 @@
 -- The reader finds a line exactly where the texts begin with one.
-use Rattle.std.proofs.Common.{◌≡◌, ◌≢◌, ◌+◌, ℕ, zero, suc, Bool, true, false, ◌&&◌, ◌||◌, not, nat_eq, if◌then◌else◌, Option, Some, None, List, [], ◌∷◌, ◌++◌, length, drop, refl, sym, ap, ◌∙◌, subst, true≢false, arith}
+use Rattle.std.proofs.Common.{◌≡◌, ℕ, zero, suc, Bool, true, false, ◌&&◌, ◌||◌, not, nat_eq, if◌then◌else◌, Option, Some, None, List, [], ◌∷◌, ◌++◌, length, drop, refl, sym, ap, ◌∙◌, subst, true≢false, arith}
 use Rattle.std.specs.Prelude.{codes}
 use Rattle.std.specs.Cmp.Lexicographic.{pointwise}
 use Rattle.c_lexer.specs.Bytes.{is_letter}
 use Rattle.forester.specs.declared.source.Line.{Line}
 use Rattle.forester.specs.declared.source.Line.TheVariants.{Declare, Copy, SetNull, Load, New, Store, StoreNull, Free}
-use Rattle.forester.specs.Spelling.{declared, line_pieces, lines_pieces, LineNamed, is_among, reserved, refused, begins_word, is_name, IsName, end_pieces, main_pieces}
+use Rattle.forester.specs.Spelling.{line_pieces, lines_pieces, LineNamed, is_among, reserved, refused, begins_word, is_name, IsName, end_pieces}
 use Rattle.std.proofs.lemmas.List.{drop_all}
 use Rattle.fore_base.specs.Lists.{Every}
 use Rattle.forester.specs.Templates.{fits, text_at, end_parts, declare_parts, free_parts, null_parts, copy_parts, load_parts, new_parts, store_parts, store_null_parts, line_at, assigned_at, stored_at}
-use Rattle.forester.proofs.TemplateLemmas.{and_false, Fitted, fitted}
+use Rattle.forester.proofs.TemplateLemmas.{Fitted, fitted}
 
 -- A name is no reserved word.
 

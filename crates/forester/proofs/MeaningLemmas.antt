@@ -1,19 +1,16 @@
 -- The program of a source that keeps the rules is well typed and plain.
-use Rattle.std.proofs.Common.{◌≡◌, ◌≤◌, ◌<◌, ◌+◌, ℕ, zero, suc, Bool, true, false, ◌&&◌, nat_eq, nat_lt, if◌then◌else◌, Option, Some, None, is_some, List, [], ◌∷◌, ◌++◌, map, length, drop, refl, sym, ap, ◌∙◌, subst, true≢false, arith}
+use Rattle.std.proofs.Common.{◌≡◌, ◌≤◌, ◌<◌, ℕ, zero, suc, Bool, true, false, ◌&&◌, nat_lt, Option, Some, None, List, [], ◌∷◌, ◌++◌, map, length, drop, refl, sym, ap, ◌∙◌, subst, true≢false, arith}
 use Rattle.std.proofs.lemmas.Bool.Decides.{nat_tests}
 use Rattle.std.proofs.lemmas.List.{length-map, length-append}
 use Rattle.std.specs.Prelude.{slice_get}
 use Rattle.fore_base.specs.Lists.{IsIn}
-use Rattle.fore_base.specs.declared.shape.FieldDef.{FieldDef}
 use Rattle.fore_base.specs.declared.shape.Shape.{Shape}
-use Rattle.fore_base.specs.declared.shape.Shapes.{Shapes}
 use Rattle.c_types.specs.declared.program.Act.{Act}
-use Rattle.c_types.specs.declared.program.Act.TheVariants.{SetPtr, SetData, Free as FreeAct, Error, Halt, Return, Break, Continue}
+use Rattle.c_types.specs.declared.program.Act.TheVariants.{Return}
 use Rattle.c_types.specs.declared.program.Stmt.{Stmt, out-Stmt, map-Stmt, fold_out-Stmt}
 use Rattle.c_types.specs.declared.program.Stmt.TheVariants.{Do, outs-Do, Group, outs-Group}
-use Rattle.c_types.specs.declared.program.Stmt.TheOpen.{Do as Do-F, Group as Group-F}
 use Rattle.c_types.specs.declared.program.VarDef.{VarDef}
-use Rattle.c_types.specs.Program.{Program, targets_in, targets_of, all_below, shapes_typed, vars_typed, var_target, path_target, act_typed, each_typed, stmt_typed, stmt_typed_step, is_typed}
+use Rattle.c_types.specs.Program.{targets_in, all_below, shapes_typed, vars_typed, var_target, path_target, act_typed, each_typed, stmt_typed, stmt_typed_step, is_typed}
 use Rattle.c_types.specs.Plain.{act_is_plain, act_is_return, does, layer_does, lines_are_plain, lines_in, layer_inside, is_plain}
 use Rattle.c_types.specs.Steps.{below}
 use Rattle.forester.specs.declared.source.FieldLine.{FieldLine}

@@ -1,6 +1,5 @@
 -- The source that some texts spell is the only one.
-use Rattle.std.proofs.Common.{◌≡◌, ◌≤◌, ◌+◌, ℕ, zero, suc, Bool, true, false, ◌&&◌, nat_eq, Option, Some, None, List, [], ◌∷◌, ◌++◌, ◌-◌, length, map, take, drop, refl, sym, ap, ◌∙◌, subst, true≢false, arith}
-use Rattle.std.specs.Prelude.{codes}
+use Rattle.std.proofs.Common.{◌≡◌, ℕ, true, false, Some, None, List, [], ◌∷◌, ◌++◌, ◌-◌, length, map, take, drop, refl, sym, ap, ◌∙◌, true≢false}
 use Rattle.std.proofs.lemmas.List.{take_rest, drop-map}
 use Rattle.fore_base.specs.Lists.{Every}
 use Rattle.c_lexer.specs.declared.token.Token.{Token}
@@ -12,7 +11,7 @@ use Rattle.forester.specs.declared.source.Source.{Source}
 use Rattle.forester.specs.Spelling.{field_pieces, fields_pieces, FieldNamed, head_pieces, main_pieces, end_pieces, lines_pieces, LineNamed, spelled, IsName, IsNamed}
 use Rattle.forester.specs.Templates.{fits, text_at, declare_parts, head_parts, main_parts}
 use Rattle.forester.proofs.TemplateLemmas.{Fitted, fitted}
-use Rattle.forester.proofs.LineLemmas.{LinesLeft, lines_left, end_no_line, line_same, line_rest}
+use Rattle.forester.proofs.LineLemmas.{end_no_line, line_same, line_rest}
 
 -- one field more at the end
 pub fields_more : (fs : List FieldLine) (f : FieldLine) (x : List (List ℕ)) → fields_pieces (fs ++ f ∷ []) x ≡ fields_pieces fs (field_pieces f ++ x)

@@ -1,11 +1,10 @@
 -- A file is straight exactly where the reader gives its program.
-use Rattle.std.proofs.Common.{◌≡◌, ◌≤◌, ℕ, Option, Some, None, List, map, length, refl, sym, ap, ◌∙◌, subst}
+use Rattle.std.proofs.Common.{◌≡◌, ◌≤◌, ℕ, Option, Some, None, List, map, length, sym, ap, ◌∙◌, subst}
 use Rattle.fore_base.specs.Lists.{IsIn}
 use Rattle.c_lexer.specs.declared.token.Token.{Token}
 use Rattle.c_lexer.specs.Tokens.{Tokens}
 use Rattle.c_types.specs.Program.{Program}
 use Rattle.forester.specs.declared.source.Source.{Source}
-use Rattle.forester.specs.Spelling.{spelled, IsNamed}
 use Rattle.forester.specs.Rules.{KeepsRules}
 use Rattle.forester.specs.Straight.{text_of, line_of, IsStraight}
 use Rattle.forester.specs.Sources.{SpellsSource}

@@ -1,8 +1,8 @@
 -- Texts that begin with given parts.
-use Rattle.std.proofs.Common.{◌≡◌, ◌≤◌, ◌<◌, ℕ, zero, suc, ◌+◌, ◌++◌, drop, Bool, true, false, ◌&&◌, nat_eq, if◌then◌else◌, List, [], ◌∷◌, length, refl, sym, ap, ◌∙◌, subst, true≢false, arith}
-use Rattle.std.specs.Cmp.Lexicographic.{pointwise, same_text}
+use Rattle.std.proofs.Common.{◌≡◌, ◌<◌, ℕ, zero, suc, ◌+◌, ◌++◌, drop, Bool, true, false, ◌&&◌, if◌then◌else◌, List, [], ◌∷◌, length, refl, sym, ap, ◌∙◌, subst, true≢false, arith}
+use Rattle.std.specs.Cmp.Lexicographic.{same_text}
 use Rattle.forester.specs.declared.part.Part.{Part}
-use Rattle.forester.specs.Spelling.{is_name, IsName}
+use Rattle.forester.specs.Spelling.{IsName}
 use Rattle.forester.specs.Templates.{fixed_text, is_slot, part_is, fits, text_at}
 
 pub and_false : (b : Bool) → (b && false) ≡ false

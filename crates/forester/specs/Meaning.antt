@@ -1,10 +1,8 @@
 -- The program of a straight file.
-use Rattle.std.specs.Prelude.{ℕ, zero, suc, List, [], ◌∷◌, ◌++◌, map, length, drop, nat_eq, if◌then◌else◌, Option, Some, None}
+use Rattle.std.specs.Prelude.{ℕ, suc, List, [], ◌∷◌, map, length, drop, nat_eq, if◌then◌else◌, Option, Some, None}
 use Rattle.std.specs.Cmp.Lexicographic.{pointwise}
 use Rattle.fore_base.specs.declared.shape.FieldKind.TheVariants.{Pointer}
 use Rattle.fore_base.specs.declared.shape.FieldDef.{FieldDef}
-use Rattle.fore_base.specs.declared.shape.Shape.{Shape}
-use Rattle.fore_base.specs.declared.shape.Shapes.{Shapes}
 use Rattle.c_types.specs.declared.program.Path.{Path}
 use Rattle.c_types.specs.declared.program.PtrRhs.TheVariants.{Path as RhsPath, Null as RhsNull, New as RhsNew}
 use Rattle.c_types.specs.declared.program.Act.{Act}

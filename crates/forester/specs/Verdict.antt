@@ -1,5 +1,5 @@
 -- Which answer is right for some words, and for what the shelf holds.
-use Rattle.std.specs.Prelude.{◌≡◌, ◌≤◌, ◌<◌, ⊤, ℕ, List, [], Option, Some, None, IfSome, length}
+use Rattle.std.specs.Prelude.{◌≡◌, ◌≤◌, ◌<◌, ◌⊎◌, ⊤, ℕ, List, [], Option, IfSome, length}
 use Rattle.fore_base.specs.declared.fault.Fault.{Fault as Kind}
 use Rattle.fore_base.specs.Outside.{Rose, Grew}
 use Rattle.c_types.specs.declared.outcome.Outcome.TheVariants.{Fault}
@@ -75,3 +75,11 @@ JudgesBytes bytes NoMemory = ⊥
 -- Both sinks grew by the texts of the answer.
 abbrev pub Told : (out_old out_new notes_old notes_new : Option (List ℕ)) → Answer → Type 0
 Told out_old out_new notes_old notes_new answer = Grew out_old out_new (out_text answer) × Grew notes_old notes_new (notes_text answer)
+
+-- a count of faults that did not rise
+abbrev pub IsSteady : ℕ → ℕ → Type 0
+IsSteady before after = Rose before after → ⊥
+
+-- bytes above the limit, or of no straight file
+abbrev pub IsNoStraightFile : List ℕ → Type 0
+IsNoStraightFile bytes = (1048576 < length bytes) ⊎ ((p : Program) → IsStraight bytes p → ⊥)

@@ -1,10 +1,12 @@
 // The top call: it does all that the program does.
-ghost use Rattle.std.specs.Prelude.{◌≡◌, ◌⊎◌, ℕ, List, Option, map, string_bytes};
+ghost use Rattle.std.specs.Prelude.{◌≡◌, ◌≤◌, ◌⊎◌, ℕ, List, Option, Some, length, map, string_bytes};
 ghost use Rattle.fore_base.specs.declared.fault.Fault.{Fault as Kind};
 ghost use Rattle.forester.specs.Texts.{out_text, notes_text, IsStatus};
 ghost use Rattle.forester.specs.Delivery.{IsCutShort};
 ghost use Rattle.forester.specs.Words.{IsVerify};
-ghost use Rattle.forester.specs.Verdict.{ForFile, IsRight, Told};
+ghost use Rattle.c_types.specs.Program.{Program};
+ghost use Rattle.forester.specs.Straight.{IsStraight};
+ghost use Rattle.forester.specs.Verdict.{ForFile, IsRight, IsNoStraightFile, IsSteady, Told};
 
 use crate::answer::Answer;
 use crate::deliver::deliver;
@@ -48,6 +50,14 @@ pub fn forester<R: Threads + Sync, L: Shelf, K: Sink, E: Sink, G: Gate>(
     ensures memory { result ≡ 7 → ((path : List ℕ) × IsVerify (map (λ w. string_bytes w) words.now) path)
         × (K.held out.new ≡ K.held out.old) × (E.held notes.new ≡ E.held notes.old) }
     ensures unread { ((path : List ℕ) → IsVerify (map (λ w. string_bytes w) words.now) path → ⊥) → (result ≡ 2) ⊎ (result ≡ 6) }
+    ensures judges { (path : List ℕ) (bytes : List ℕ) (p : Program) → IsVerify (map (λ w. string_bytes w) words.now) path
+        → L.holds shelf.old path ≡ Some bytes → length bytes ≤ 1048576 → IsStraight bytes p
+        → IsSteady (L.faults shelf.old path) (L.faults shelf.new path) → IsSteady (K.faults out.old) (K.faults out.new) → IsSteady (E.faults notes.old) (E.faults notes.new)
+        → (result ≡ 0) ⊎ ((result ≡ 1) ⊎ (result ≡ 7)) }
+    ensures refuses { (path : List ℕ) (bytes : List ℕ) → IsVerify (map (λ w. string_bytes w) words.now) path
+        → L.holds shelf.old path ≡ Some bytes → IsNoStraightFile bytes
+        → IsSteady (L.faults shelf.old path) (L.faults shelf.new path) → IsSteady (K.faults out.old) (K.faults out.new) → IsSteady (E.faults notes.old) (E.faults notes.new)
+        → (result ≡ 4) ⊎ (result ≡ 7) }
     ensures status { IsStatus result }
 {
     let _rt = rt;

@@ -1,11 +1,10 @@
-use Rattle.std.proofs.Common.{◌≡◌, ◌+◌, ◌*◌, ◌<◌, ◌≤◌, ℕ, suc, Bool, true, false, List, [], ◌∷◌, ◌++◌, length, map, drop, get_or, add-one, refl, sym, ap, ◌∙◌, subst, arith}
+use Rattle.std.proofs.Common.{◌≡◌, ◌+◌, ◌*◌, ◌<◌, ℕ, suc, true, List, [], ◌∷◌, ◌++◌, length, map, drop, get_or, add-one, refl, sym, ap, ◌∙◌, subst, arith}
 use Rattle.std.proofs.lemmas.List.{drop-drop}
 use Rattle.c_types.specs.declared.program.Stmt.{Stmt}
-use Rattle.forester.specs.declared.source.Line.{Line}
 use Rattle.forester.specs.Straight.{line_of}
 use Rattle.forester.specs.Spelling.{line_pieces}
-use Rattle.forester.specs.Rules.{field_names, scope_after, scope_end, LineTyped, LinesTyped}
-use Rattle.forester.specs.Meaning.{act_of, first_of, stmt_before, stmts_of, tokens_before, var_def}
+use Rattle.forester.specs.Rules.{field_names, scope_after}
+use Rattle.forester.specs.Meaning.{act_of, stmt_before, stmts_of, tokens_before, var_def}
 use Rattle.forester.specs.Building.{AddsLine}
 use Rattle.forester.proofs.BodyLemmas.{front_is, tokens_are, scope_longer, line_short, typed_front, typed_back, scope_front, stmts_front}
 use Rattle.forester.proofs.body.body_of.Goals as goal

@@ -1,6 +1,6 @@
-use Rattle.std.proofs.Common.{◌≡◌, ◌+◌, ◌<◌, ◌≤◌, ℕ, suc, Bool, true, false, List, [], ◌∷◌, ◌++◌, length, drop, get_or, add-one, refl, sym, ap, ◌∙◌, subst, arith}
+use Rattle.std.proofs.Common.{◌≡◌, ◌<◌, ℕ, suc, true, false, List, [], ◌∷◌, ◌++◌, length, drop, get_or, add-one, sym, ap, ◌∙◌, subst, arith}
 use Rattle.std.proofs.lemmas.List.{length-append, append_assoc}
-use Rattle.fore_base.specs.Lists.{Every, IsIn}
+use Rattle.fore_base.specs.Lists.{Every}
 use Rattle.fore_base.specs.Names.{IsDistinct}
 use Rattle.forester.specs.declared.source.FieldLine.{FieldLine}
 use Rattle.forester.specs.Rules.{field_names}

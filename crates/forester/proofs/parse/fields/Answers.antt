@@ -1,9 +1,9 @@
-use Rattle.std.proofs.Common.{◌≡◌, ◌+◌, ◌-◌, ◌≤◌, ℕ, Bool, true, false, List, [], ◌∷◌, ◌++◌, length, map, drop, take, sym, ap, ◌∙◌, arith}
+use Rattle.std.proofs.Common.{◌≡◌, ◌+◌, ◌-◌, ℕ, Bool, true, false, List, [], ◌∷◌, ◌++◌, length, map, drop, take, sym, ap, ◌∙◌, arith}
 use Rattle.std.proofs.lemmas.List.{length-drop, length-take, drop-drop, take_rest, drop-map}
 use Rattle.c_lexer.specs.declared.token.Token.{Token}
 use Rattle.forester.specs.declared.source.FieldLine.{FieldLine}
 use Rattle.forester.specs.Straight.{text_of}
-use Rattle.forester.specs.Spelling.{field_pieces, fields_pieces, IsName}
+use Rattle.forester.specs.Spelling.{field_pieces, fields_pieces}
 use Rattle.forester.specs.Templates.{fits, text_at, declare_parts}
 use Rattle.forester.proofs.SourceLemmas.{field_read, fields_more, field_named_more}
 use Rattle.forester.proofs.parse.fields.Goals as goal

@@ -1,9 +1,9 @@
-use Rattle.std.proofs.Common.{◌≡◌, ◌+◌, ◌-◌, ◌≤◌, ℕ, List, ◌∷◌, ◌++◌, Option, Some, None, length, map, drop, take, sym, ap, ◌∙◌, true≢false, arith}
+use Rattle.std.proofs.Common.{◌≡◌, ◌+◌, ◌-◌, ℕ, List, ◌++◌, Option, Some, None, length, map, drop, take, sym, ap, ◌∙◌, true≢false, arith}
 use Rattle.std.proofs.lemmas.List.{length-map, length-drop, length-append, drop-drop, drop_at, take_rest, drop-map}
 use Rattle.c_lexer.specs.declared.token.Token.{Token}
 use Rattle.forester.specs.declared.source.Line.{Line}
 use Rattle.forester.specs.Straight.{text_of}
-use Rattle.forester.specs.Spelling.{line_pieces, lines_pieces, end_pieces}
+use Rattle.forester.specs.Spelling.{line_pieces, lines_pieces}
 use Rattle.forester.specs.Templates.{line_at}
 use Rattle.forester.proofs.LineLemmas.{LineRead, line_read, lines_more, named_more, lines_left, nothing_left}
 use Rattle.forester.proofs.parse.lines.Goals as goal

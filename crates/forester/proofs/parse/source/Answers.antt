@@ -1,11 +1,8 @@
-use Rattle.std.proofs.Common.{◌≡◌, ◌-◌, ℕ, Bool, true, false, List, Option, Some, None, length, map, drop, take, sym, ap, ◌∙◌, subst}
+use Rattle.std.proofs.Common.{◌≡◌, ◌-◌, ℕ, true, List, Some, length, map, drop, take, sym, ap, ◌∙◌, subst}
 use Rattle.c_lexer.specs.declared.token.Token.{Token}
-use Rattle.forester.specs.declared.source.FieldLine.{FieldLine}
-use Rattle.forester.specs.declared.source.Line.{Line}
-use Rattle.forester.specs.declared.source.Source.{Source}
 use Rattle.forester.specs.Straight.{text_of}
 use Rattle.forester.specs.Sources.{SpellsLines, SpellsFields, SpellsSource}
-use Rattle.forester.specs.Templates.{fits, text_at, head_parts, main_parts}
+use Rattle.forester.specs.Templates.{fits, head_parts, main_parts}
 use Rattle.forester.proofs.SourceLemmas.{slice_texts, no_main, no_lines, source_found}
 use Rattle.forester.proofs.parse.source.Goals as goal
 

@@ -1,9 +1,9 @@
-use Rattle.std.proofs.Common.{◌≡◌, ℕ, List, [], ◌∷◌, ◌++◌, true, length, map, drop, sym, ap, ◌∙◌}
+use Rattle.std.proofs.Common.{◌≡◌, ℕ, List, [], ◌∷◌, ◌++◌, length, map, drop, ap, ◌∙◌}
 use Rattle.std.proofs.lemmas.List.{length-map}
 use Rattle.c_types.specs.declared.program.Stmt.{Stmt}
 use Rattle.c_types.specs.declared.program.Stmt.TheVariants.{Group}
 use Rattle.c_types.specs.declared.program.VarDef.{VarDef}
-use Rattle.c_types.specs.Program.{Program, is_typed}
+use Rattle.c_types.specs.Program.{is_typed}
 use Rattle.c_types.specs.Steps.{below}
 use Rattle.forester.specs.Straight.{line_of}
 use Rattle.forester.specs.Rules.{field_names, scope_end}
