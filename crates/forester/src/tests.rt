@@ -34,16 +34,29 @@ fn gives<R: Threads + Sync>(
     out: &str,
     notes: &str,
 ) -> Mem<bool> {
-    let words = words_of(alloc, words)?;
     let mut shelf = MemShelf::new(alloc);
     shelf.add("x.c", file)?;
+    answers(rt, alloc, words, &mut shelf, status, out, notes)
+}
+
+// Whether these words, with this shelf, give this status and leave this on the sinks.
+fn answers<R: Threads + Sync>(
+    rt: &R,
+    alloc: Global,
+    words: &[&str],
+    shelf: &mut MemShelf,
+    status: u8,
+    out: &str,
+    notes: &str,
+) -> Mem<bool> {
+    let words = words_of(alloc, words)?;
     let mut out_sink = MemSink::new(alloc, 128, 128)?;
     let mut notes_sink = MemSink::new(alloc, 128, 128)?;
     let got = forester(
         rt,
         alloc,
         words.as_slice(),
-        &mut shelf,
+        shelf,
         &mut out_sink,
         &mut notes_sink,
         &NoGate,
@@ -171,7 +184,7 @@ fn lines_without_fault_are_safe(rt: HostRuntime) -> Result<(), Fail> {
 
 #[test]
 fn each_broken_rule_refuses_the_file(rt: HostRuntime) -> Result<(), Fail> {
-    let rows: [&str; 17] = [
+    let rows: [&str; 18] = [
         // no tokens, and a loop
         "",
         "int main(void) { while (1) {} }",
@@ -184,6 +197,8 @@ fn each_broken_rule_refuses_the_file(rt: HostRuntime) -> Result<(), Fail> {
         "struct n { struct m *f; };\nint main(void) { return 0; }",
         "struct n { struct n *f; struct n *f; };\nint main(void) { return 0; }",
         "struct n { int f; };\nint main(void) { return 0; }",
+        // 17 fields
+        "struct n { struct n *a; struct n *b; struct n *c; struct n *d; struct n *e; struct n *f; struct n *g; struct n *h; struct n *i; struct n *j; struct n *k; struct n *l; struct n *m; struct n *n; struct n *o; struct n *p; struct n *q; };\nint main(void) { return 0; }",
         // a variable of another struct, a variable twice, one that is used before it is declared
         "struct n { struct n *f; };\nint main(void) { struct m *x; return 0; }",
         "struct n { struct n *f; };\nint main(void) { struct n *x; struct n *x; return 0; }",
@@ -247,6 +262,20 @@ fn long_gives<R: Threads + Sync>(
 fn limits_come_at_their_numbers(rt: HostRuntime) -> Result<(), Fail> {
     // 64 variables, and 4,096 statements with the declarations and the `return`
     assert!(rt; long_gives(&rt, rt.alloc(), 64, 4031, 0, "SAFE\n", "")?);
+    // 16 fields
+    let fields =
+        "struct n { struct n *a; struct n *b; struct n *c; struct n *d; struct n *e; struct n *f; struct n *g; struct n *h; struct n *i; struct n *j; struct n *k; struct n *l; struct n *m; struct n *n; struct n *o; struct n *p; };\nint main(void) { return 0; }";
+    assert!(rt;
+        gives(
+            &rt,
+            rt.alloc(),
+            &["verify", "x.c"],
+            fields.as_bytes(),
+            0,
+            "SAFE\n",
+            ""
+        )?
+    );
     // one statement more, and one variable more
     assert!(rt; long_gives(&rt, rt.alloc(), 64, 4032, 4, "", "refused N1 file\n")?);
     assert!(rt; long_gives(&rt, rt.alloc(), 65, 0, 4, "", "refused N1 file\n")?);
@@ -300,6 +329,37 @@ fn other_answers_go_to_notes(rt: HostRuntime) -> Result<(), Fail> {
             5,
             "",
             "read fault\n"
+        )?
+    );
+    Ok(())
+}
+
+#[test]
+fn a_read_that_fails_is_a_read_fault(rt: HostRuntime) -> Result<(), Fail> {
+    let mut shelf = MemShelf::new(rt.alloc());
+    shelf.add("x.c", b"")?;
+    shelf.fail(1)?;
+    assert!(rt;
+        answers(
+            &rt,
+            rt.alloc(),
+            &["verify", "x.c"],
+            &mut shelf,
+            5,
+            "",
+            "read fault\n"
+        )?
+    );
+    // the second read does not fail, and the empty file is no program
+    assert!(rt;
+        answers(
+            &rt,
+            rt.alloc(),
+            &["verify", "x.c"],
+            &mut shelf,
+            4,
+            "",
+            "refused N1 file\n"
         )?
     );
     Ok(())
