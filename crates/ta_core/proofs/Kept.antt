@@ -1,5 +1,5 @@
 -- The marked states under their new numbers.
-use Rattle.std.proofs.Common.{◌≡◌, ℕ, zero, suc, ◌<◌, ◌+◌, Bool, true, false, true≢false, cond, List, [], ◌∷◌, ◌++◌, length, map, get_or, slice_index, refl, sym, ap, ◌∙◌, arith, append_assoc}
+use Rattle.std.proofs.Common.{◌≡◌, ℕ, zero, suc, ◌<◌, ◌≤◌, ◌+◌, Bool, true, false, true≢false, cond, List, [], ◌∷◌, ◌++◌, length, map, get_or, slice_index, refl, sym, ap, ◌∙◌, arith, append_assoc}
 use Rattle.std.proofs.lemmas.List.{length-map}
 use Rattle.fore_base.specs.Lists.{Every}
 use Rattle.ta_core.specs.declared.auto.Rule.{Rule}
@@ -15,6 +15,11 @@ nth_marked [] i = i
 nth_marked (true ∷ bs) zero = 0
 nth_marked (true ∷ bs) (suc i) = nth_marked bs i + 1
 nth_marked (false ∷ bs) i = nth_marked bs i + 1
+
+pub count_within : (bs : List Bool) → marked_count bs ≤ length bs
+count_within [] = omega arith
+count_within (true ∷ bs) = let l = count_within bs in omega (arith, l)
+count_within (false ∷ bs) = let l = count_within bs in omega (arith, l)
 
 pub rank_below : (bs : List Bool) (q : ℕ) → IsMarked bs q → rank bs q < marked_count bs
 rank_below [] q h = absurd (true≢false (sym h))

@@ -1,5 +1,6 @@
 pub mod Climbing
 pub mod Descending
+pub mod Imaged
 pub mod Kept
 pub mod Lists
 pub mod Marking

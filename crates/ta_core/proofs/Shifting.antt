@@ -121,7 +121,7 @@ module _ (a b : Automaton) (proper : IsProper a) where
     ],
   )
 
-in_sub : {X : Type 0} {xs ys : List X} (x : X) → IsSublist xs ys → IsIn x xs → IsIn x ys
+pub in_sub : {X : Type 0} {xs ys : List X} (x : X) → IsSublist xs ys → IsIn x xs → IsIn x ys
 in_sub x sub_none i = absurd i
 in_sub x (sub_skip s) i = inr (in_sub x s i)
 in_sub x (sub_keep s) (inl e) = inl e

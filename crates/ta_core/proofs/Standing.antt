@@ -1,5 +1,5 @@
 -- What remains of an automaton whose marked states are those that take part.
-use Rattle.std.proofs.Common.{◌≡◌, inl, inr, ℕ, Bool, true, false, true≢false, ◌&&◌, cond, List, [], ◌∷◌, map, get_or, refl, sym, ap, subst, ◌∙◌}
+use Rattle.std.proofs.Common.{◌≡◌, inl, inr, ℕ, ◌<◌, Bool, true, false, true≢false, ◌&&◌, cond, List, [], ◌∷◌, map, get_or, refl, sym, ap, subst, ◌∙◌}
 use Rattle.fore_base.specs.Lists.{IsIn, Every}
 use Rattle.ta_core.specs.declared.auto.Rule.{Rule}
 use Rattle.ta_core.specs.declared.tree.Tree.{Tree, out-Tree}
@@ -11,7 +11,7 @@ use Rattle.ta_core.specs.Relabelled.{relabelled, IsSublist, sub_none, sub_skip, 
 use Rattle.ta_core.specs.Restricted.{rank, keeps, kept_states, kept_rules, restricted}
 use Rattle.ta_core.proofs.Descending.{passing_run, passing_each, child_part}
 use Rattle.ta_core.proofs.Kept.{nth_marked, nth_is_marked, nth_rank, rank_nth}
-use Rattle.ta_core.proofs.Lists.{in_every}
+use Rattle.ta_core.proofs.Lists.{in_every, in_map}
 use Rattle.ta_core.proofs.Marking.{and_left, and_right, all_from, all_to}
 use Rattle.ta_core.proofs.Runs.{along, along_each}
 
@@ -152,6 +152,13 @@ module _ (a : Automaton) (marks : List Bool) (m : MarksOf a.states (TakesPart a)
         (w.0, w.1, subst (λ (x : ℕ). RunOf a.rules x t) e (to_old l.2))),
   )
 
+  -- a rule of a marked state that some tree can use is kept
+  rule_stands : (q : ℕ) (r : Rule) (ts : List Tree) → q < made.states → IsIn r a.rules → r.state ≡ nth_marked marks q → RunEach a.rules r.children ts → IsIn r (map (relabelled (nth_marked marks)) made.rules)
+  rule_stands q r ts l i e k =
+      let g = subst (IsMarked marks) (sym e) (nth_is_marked marks q l) in
+      let h = keeps_rule r g (children_marked r ts i g k) in
+      subst (λ (x : Rule). IsIn x (map (relabelled (nth_marked marks)) made.rules)) (old_rule marks r h) (in_map (relabelled (nth_marked marks)) (relabelled (rank marks) r) made.rules (rule_kept marks (rank marks) a.rules r i h))
+
   pub standing : StandsFor a made
   standing = record {
     of = nth_marked marks;
@@ -160,6 +167,7 @@ module _ (a : Automaton) (marks : List Bool) (m : MarksOf a.states (TakesPart a)
     rules = sub_rules marks a.rules;
     roots = sub_states marks a.roots;
     whole = λ q i t. (let h = root_marked q t.0 i t.1 in (rank marks q, state_kept marks (rank marks) a.roots q i h, nth_rank marks q h));
+    used = rule_stands;
   }
 
   mutual

@@ -8,6 +8,8 @@ pub mod Paired
 pub mod Relabelled
 pub mod Restricted
 pub mod Simulations
+pub mod Single
 pub mod Sizes
 pub mod Steps
+pub mod Tables
 pub mod Tops

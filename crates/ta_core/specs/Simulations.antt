@@ -6,9 +6,13 @@ use Rattle.ta_core.specs.Language.{IsTrim}
 use Rattle.ta_core.specs.Paired.{Paired, PairedBut}
 use Rattle.ta_core.specs.declared.auto.Rule.{Rule}
 
--- a downward simulation: each rule of p is matched by a rule of each state that p is related to, with the same symbol and related children
+-- the rule r is matched by a rule of q: one with the same symbol, and with children to which those of r are related
+abbrev pub IsMatched : List Rule → (ℕ → ℕ → Type 0) → Rule → ℕ → Type 0
+IsMatched rules R r q = (s : Rule) × IsIn s rules × (s.state ≡ q) × (s.symbol ≡ r.symbol) × Paired R r.children s.children
+
+-- a downward simulation: each rule of p is matched by a rule of each state that p is related to
 abbrev pub IsDownward : List Rule → (ℕ → ℕ → Type 0) → Type 0
-IsDownward rules R = (r : Rule) (q : ℕ) → IsIn r rules → R r.state q → (s : Rule) × IsIn s rules × (s.state ≡ q) × (s.symbol ≡ r.symbol) × Paired R r.children s.children
+IsDownward rules R = (r : Rule) (q : ℕ) → IsIn r rules → R r.state q → IsMatched rules R r q
 
 -- the greatest downward simulation: some downward simulation relates p to q
 abbrev pub IsSimulated : List Rule → ℕ → ℕ → Type 0

@@ -45,8 +45,8 @@ fn run_sets(alloc: Global, rules: &[Rule], states: u32, trees: &[Tree]) -> Mem<L
     Ok(sets)
 }
 
-/// The states to which a tree with this symbol has a run, by those of its children.
-fn top_states(
+/// The states to which a tree with this symbol has a run, by those of its children. Err is want of memory.
+pub fn top_states(
     alloc: Global,
     rules: &[Rule],
     states: u32,

@@ -35,6 +35,13 @@ impl Model for Auto {
 impl Auto {
     ghost use Rattle.ta_core.specs.Auto.{IsProper, automaton};
 
+    /// Does nothing, and says what the automaton keeps: for proofs in which no part of it is read.
+    pub fn known(&self)
+        ensures { IsProper self.now }
+    {
+        let _states = self.states;
+    }
+
     /// The automaton of these parts. None exactly where a state is not below `states`, or a rule has more or fewer children than its symbol. Takes no memory.
     pub fn from_parts(states: u32, roots: List<u32>, rules: List<Rule>) -> Option<Auto>
         ensures { SomeIff result (IsProper (automaton states roots rules)) (automaton states roots rules) }

@@ -1,6 +1,7 @@
-// Symbols, trees and automata can be shared between threads and moved to another.
+// Symbols, trees, automata and plans of automata can be shared between threads and moved to another.
 
 use crate::auto::Auto;
+use crate::tables::Plan;
 use crate::tree::Tree;
 
 fn crosses<T: Send + Sync>(_value: &T) {}
@@ -13,4 +14,9 @@ pub fn automata_cross(auto: &Auto) {
 /// Trees cross threads.
 pub fn trees_cross(tree: &Tree) {
     crosses(tree)
+}
+
+/// Plans cross threads, and with them lines and signs.
+pub fn plans_cross(plan: &Plan) {
+    crosses(plan)
 }

@@ -8,13 +8,15 @@ pub mod crossing;
 pub mod inhabited;
 pub mod joining;
 pub mod laws;
-mod marks;
+pub mod marks;
 mod proper;
+pub mod relabelling;
 mod restricting;
 mod sizes;
 pub mod smallest;
 mod step;
 pub mod symbol;
+pub mod tables;
 #[cfg(test)]
 mod tests;
 pub mod tree;

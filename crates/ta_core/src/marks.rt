@@ -7,6 +7,7 @@ use fore_base::list::List;
 use fore_base::memory::Mem;
 use std::alloc::Global;
 
+/// A set of so many states without a mark.
 pub fn unmarked(alloc: Global, count: usize) -> Mem<List<bool>>
     ensures { IfOk result (λ marks. marks ≡ replicate count false) }
 {
@@ -34,6 +35,7 @@ pub fn mark(marks: &mut List<bool>, state: u32)
     }
 }
 
+/// Whether each of the states has a mark.
 pub fn are_all_marked(marks: &[bool], states: &[u32]) -> bool
     ensures { result ≡ all_marked marks.now states.now }
 {
@@ -45,6 +47,7 @@ pub fn are_all_marked(marks: &[bool], states: &[u32]) -> bool
     true
 }
 
+/// Whether one of the states has a mark.
 pub fn is_some_marked(marks: &[bool], states: &[u32]) -> bool
     ensures { result ≡ some_marked marks.now states.now }
 {

@@ -1,10 +1,10 @@
 ghost use Rattle.std.specs.Prelude.{◌≡◌, List, length, IfOk, slice_index};
-ghost use Rattle.ta_core.specs.Relabelled.{relabelled};
 ghost use Rattle.ta_core.specs.Restricted.{marked_count, rank, ranks, keeps, kept_states, kept_rules, restricted};
 
 use crate::auto::{Auto, Rule};
 use crate::marks::{are_all_marked, is_marked};
-use fore_base::list::{Copies, List};
+use crate::relabelling::{number_of, with_numbers};
+use fore_base::list::List;
 use fore_base::memory::Mem;
 use std::alloc::Global;
 
@@ -81,27 +81,4 @@ fn is_kept(marks: &[bool], rule: &Rule) -> bool
     ensures { result ≡ keeps marks.now rule.now }
 {
     is_marked(marks, rule.state) && are_all_marked(marks, rule.children.as_slice())
-}
-
-fn with_numbers(alloc: Global, rule: &Rule, numbers: &[u32]) -> Mem<Rule>
-    ensures { IfOk result (λ made. made ≡ relabelled (λ q. slice_index numbers.now q) rule.now) }
-{
-    let mut children = List::new(alloc);
-    for child in rule.children.as_slice() {
-        children.push(number_of(numbers, *child))?;
-    }
-    Ok(Rule {
-        state: number_of(numbers, rule.state),
-        symbol: rule.symbol.copy(alloc)?,
-        children,
-    })
-}
-
-fn number_of(numbers: &[u32], state: u32) -> u32
-    ensures { result ≡ slice_index numbers.now state }
-{
-    match numbers.get(state as usize) {
-        Some(number) => *number,
-        None => 0,
-    }
 }

@@ -1,4 +1,4 @@
-ghost use Rattle.std.specs.Prelude.{◌≡◌, List, IfOk, map};
+ghost use Rattle.std.specs.Prelude.{◌≡◌, ◌≤◌, List, IfOk, map};
 ghost use Rattle.ta_core.specs.Language.{IsAlike, IsTrim, HasTree, TakesPart};
 ghost use Rattle.ta_core.specs.Marks.{MarksOf};
 ghost use Rattle.ta_core.specs.Relabelled.{StandsFor};
@@ -19,6 +19,7 @@ pub fn trim(alloc: Global, auto: &Auto) -> Mem<Auto>
     ensures language { IfOk result (λ made. IsAlike auto.now made) }
     ensures trim { IfOk result IsTrim }
     ensures parts { IfOk result (λ made. StandsFor auto.now made) }
+    ensures size { IfOk result (λ made. made.states ≤ auto.now.states) }
 {
     let inhabited = inhabited(alloc, auto)?;
     let used = used(alloc, auto, inhabited.as_slice())?;

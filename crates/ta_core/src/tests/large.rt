@@ -5,7 +5,8 @@ use crate::auto::Auto;
 use crate::inhabited::is_empty;
 use crate::joining::room;
 use crate::smallest::smallest_tree;
-use crate::tests::building::{Line, Sign, auto, chain, make, rule};
+use crate::tables::{Line, Sign, rule};
+use crate::tests::building::{auto, chain, make};
 use crate::trimming::trim;
 use fore_base::list::{Copies, List};
 use std::alloc::Global;
@@ -30,10 +31,10 @@ fn a_chain_of_ten_thousand_cells_is_handled(rt: HostRuntime) -> Result<(), Fail>
 // State k has the full tree of k levels of cells alone: 0 = Null, and k = f(k - 1, k - 1). The last one is the root state.
 fn levels(alloc: Global, count: u32) -> Result<Auto, Fail> {
     let mut rules = List::new(alloc);
-    rules.push(rule(alloc, 0, Sign::Null, &[])?)?;
+    rules.push(rule(alloc, Line(0, Sign::Null, &[]))?)?;
     for below in 0..count {
         let state = below.checked_add(1).ok_or("too many levels")?;
-        rules.push(rule(alloc, state, Sign::Fork, &[below, below])?)?;
+        rules.push(rule(alloc, Line(state, Sign::Fork, &[below, below]))?)?;
     }
     make(
         alloc,
@@ -74,10 +75,10 @@ fn a_tree_that_no_memory_holds_is_want_of_memory(rt: HostRuntime) -> Result<(), 
 fn thousand(alloc: Global) -> Result<Auto, Fail> {
     let mut rules = List::new(alloc);
     for state in 0..999 {
-        rules.push(rule(alloc, state, Sign::Link, &[state + 1])?)?;
+        rules.push(rule(alloc, Line(state, Sign::Link, &[state + 1]))?)?;
     }
-    rules.push(rule(alloc, 999, Sign::Null, &[])?)?;
-    rules.push(rule(alloc, 1000, Sign::Link, &[1000])?)?;
+    rules.push(rule(alloc, Line(999, Sign::Null, &[]))?)?;
+    rules.push(rule(alloc, Line(1000, Sign::Link, &[1000]))?)?;
     make(alloc, 1001, &[0, 1000], rules)
 }
 

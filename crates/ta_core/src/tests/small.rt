@@ -2,7 +2,8 @@
 
 use crate::auto::Auto;
 use crate::symbol::Slot;
-use crate::tests::building::{Line, Sign, auto, rules};
+use crate::tables::{Line, Sign, rules};
+use crate::tests::building::auto;
 use crate::tests::checking::{F, N, NULL, Plan, check, check_empty, check_trees};
 use fore_base::list::List;
 use fore_base::store::Datum;

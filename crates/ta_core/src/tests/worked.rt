@@ -2,7 +2,8 @@
 
 use crate::auto::Auto;
 use crate::joining::{rename, union};
-use crate::tests::building::{Line, Sign, auto, rules};
+use crate::tables::{Line, Sign, rules};
+use crate::tests::building::auto;
 use crate::tests::checking::{N, NULL, check};
 use crate::trimming::trim;
 use std::alloc::Global;

@@ -1,9 +1,10 @@
-use Rattle.std.proofs.Common.{◌≡◌, subst, sym}
+use Rattle.std.proofs.Common.{◌≡◌, ◌≤◌, subst, sym, ap, arith}
 use Rattle.std.proofs.lemmas.Result.{IfOk-weaker}
 use Rattle.ta_core.specs.Auto.{Automaton}
 use Rattle.ta_core.specs.Language.{IsAlike, IsTrim}
 use Rattle.ta_core.specs.Relabelled.{StandsFor}
-use Rattle.ta_core.specs.Restricted.{rank, restricted}
+use Rattle.ta_core.specs.Restricted.{rank, restricted, marked_count}
+use Rattle.ta_core.proofs.Kept.{count_within}
 use Rattle.ta_core.proofs.Standing.{alike, standing, trimmed}
 use Rattle.ta_core.proofs.trimming.trim.Goals as goal
 
@@ -24,3 +25,11 @@ returns-clause-parts c =
     let h = rw c.as_slice-2.ensures at c.restrict.ensures in
     IfOk-weaker c.restrict.result (λ (made : Automaton). made ≡ restricted c.in_ok-used.used (rank c.in_ok-used.used) c.args.auto.now) (λ (made : Automaton). StandsFor c.args.auto.now made)
     (λ made e. subst (StandsFor c.args.auto.now) (sym e) (standing c.args.auto.now c.in_ok-used.used c.in_ok-used.ensures)) h
+
+pub returns-clause-size : goal.returns-clause-size
+returns-clause-size c =
+    let h = rw c.as_slice-2.ensures at c.restrict.ensures in
+    let l = count_within c.in_ok-used.used in
+    let n = c.in_ok-used.ensures.long in
+    IfOk-weaker c.restrict.result (λ (made : Automaton). made ≡ restricted c.in_ok-used.used (rank c.in_ok-used.used) c.args.auto.now) (λ (made : Automaton). made.states ≤ c.args.auto.now.states)
+    (λ made e. (let s : made.states ≡ marked_count c.in_ok-used.used = ap (λ (a : Automaton). a.states) e in omega (arith, s, l, n))) h

@@ -1,0 +1,14 @@
+-- Automata of which one rule stands at the top of each tree.
+use Rattle.std.specs.Prelude.{◌≡◌, ℕ, [], ◌∷◌, slice_get, Some}
+use Rattle.ta_core.specs.Auto.{Automaton}
+use Rattle.ta_core.specs.declared.auto.Rule.{Rule}
+
+-- there is one root state, and that state has one rule
+pub record HasOneTop (a : Automaton) : Type 0 where
+  pub root : ℕ
+  pub alone : a.roots ≡ root ∷ []
+  pub place : ℕ
+  pub rule : Rule
+  pub there : slice_get a.rules place ≡ Some rule
+  pub top : rule.state ≡ root
+  pub only : (i : ℕ) (r : Rule) → slice_get a.rules i ≡ Some r → r.state ≡ root → i ≡ place
