@@ -1,0 +1,4 @@
+pub mod Counting
+pub mod Related
+pub mod Rounds
+pub mod Simulated

@@ -1,0 +1,11 @@
+// Simulations on the states of tree automata.
+#![tactic(auto)]
+
+pub mod crossing;
+pub mod downward;
+pub mod laws;
+mod matching;
+mod refining;
+pub mod relation;
+#[cfg(test)]
+mod tests;
