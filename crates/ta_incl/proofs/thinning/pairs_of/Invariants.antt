@@ -1,0 +1,7 @@
+use Rattle.std.proofs.Common.{take}
+use Rattle.ta_core.specs.Paired.{Paired}
+use Rattle.ta_incl.specs.Founds.{IsPairOf}
+use Rattle.ta_incl.proofs.thinning.pairs_of.Given as goal
+
+abbrev pub invariant-loop-pair : goal.invariant-loop-pair
+invariant-loop-pair l = Paired IsPairOf (take l.pair-index l.found) l.pairs

@@ -1,0 +1,10 @@
+// Answers on inclusion can be shared between threads and moved to another.
+
+use crate::inclusion::Inclusion;
+
+fn crosses<T: Send + Sync>(_value: &T) {}
+
+/// Answers cross threads, and with them pairs and trees.
+pub fn answers_cross(answer: &Inclusion) {
+    crosses(answer)
+}

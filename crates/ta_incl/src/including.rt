@@ -1,0 +1,43 @@
+ghost use Rattle.std.specs.Prelude.{IfOk};
+ghost use Rattle.ta_core.specs.Language.{IsWithin};
+ghost use Rattle.ta_incl.specs.Inclusions.{IsAntichain, IsClosed, MeetsRoots, IsMissing, IfYes, IfNo, Answers};
+
+use crate::exploring::explored;
+use crate::failing::{failing, tree_at};
+use crate::inclusion::Inclusion;
+use crate::thinning::{pairs_of, thinned};
+use fore_base::memory::Mem;
+use std::alloc::Global;
+use ta_core::auto::Auto;
+
+/// Whether each tree of the left automaton is one of the right one, with what shows it. Err is want of memory.
+pub fn included(alloc: Global, left: &Auto, right: &Auto) -> Mem<Inclusion>
+    ensures within { IfOk result (IfYes (λ _. IsWithin left.now right.now)) }
+    ensures antichain { IfOk result (IfYes IsAntichain) }
+    ensures closed { IfOk result (IfYes (IsClosed left.now right.now)) }
+    ensures roots { IfOk result (IfYes (MeetsRoots left.now right.now)) }
+    ensures missing { IfOk result (IfNo (IsMissing left.now right.now)) }
+{
+    answered(alloc, left, right)
+}
+
+fn answered(alloc: Global, left: &Auto, right: &Auto) -> Mem<Inclusion>
+    ensures { IfOk result (Answers left.now right.now) }
+{
+    let found = explored(alloc, left, right)?;
+    match failing(
+        left.roots.as_slice(),
+        right.roots.as_slice(),
+        found.as_slice(),
+    ) {
+        Some(place) => {
+            let tree = tree_at(alloc, &left.rules, found.as_slice(), place)?;
+            Ok(Inclusion::No { tree })
+        }
+        None => {
+            let kept = thinned(alloc, found)?;
+            let pairs = pairs_of(alloc, right.states, kept.as_slice())?;
+            Ok(Inclusion::Yes { pairs })
+        }
+    }
+}
