@@ -20,6 +20,7 @@ cell slots = Cell 0 [] slots
 abbrev pub single : ℕ → Datum → Symbol
 single shape datum = Cell shape (datum ∷ []) []
 
+-- the symbol that a sign stands for
 abbrev pub sign_symbol : Sign → Symbol
 sign_symbol NullSign = Null
 sign_symbol UninitSign = Uninit
@@ -30,8 +31,10 @@ sign_symbol Fork = cell (Field 0 ∷ Field 1 ∷ [])
 sign_symbol (DatumSign shape datum) = single shape datum
 sign_symbol (Slots first second) = cell (first ∷ second ∷ [])
 
+-- the rule that a line stands for
 abbrev pub line_rule : Line → Rule
 line_rule l = record { state = l.0; symbol = sign_symbol l.1; children = l.2.now }
 
+-- the automaton of a plan
 abbrev pub planned : Plan → Automaton
 planned p = automaton p.0 p.1.now (map line_rule p.2.now)

@@ -12,7 +12,7 @@ use std::process::Abort;
 use std::test::Fail;
 
 // A tree in postfix order, each sign with the number of its children.
-pub type Plan<'a> = &'a [(Sign, usize)];
+pub type Postfix<'a> = &'a [(Sign, usize)];
 
 pub const NULL: (Sign, usize) = (Sign::Null, 0);
 
@@ -25,14 +25,14 @@ pub fn check_trees(
     rt: &impl Abort,
     alloc: Global,
     auto: &Auto,
-    accepted: &[Plan],
-    refused: &[Plan],
+    accepted: &[Postfix],
+    refused: &[Postfix],
 ) -> Result<(), Fail> {
-    for plan in accepted {
-        assert!(rt; accepts(alloc, auto, &tree(alloc, plan)?)?);
+    for signs in accepted {
+        assert!(rt; accepts(alloc, auto, &tree(alloc, signs)?)?);
     }
-    for plan in refused {
-        assert!(rt; !accepts(alloc, auto, &tree(alloc, plan)?)?);
+    for signs in refused {
+        assert!(rt; !accepts(alloc, auto, &tree(alloc, signs)?)?);
     }
     Ok(())
 }
@@ -42,9 +42,9 @@ pub fn check(
     rt: &impl Abort,
     alloc: Global,
     auto: &Auto,
-    accepted: &[Plan],
-    refused: &[Plan],
-    smallest: Plan,
+    accepted: &[Postfix],
+    refused: &[Postfix],
+    smallest: Postfix,
     states: u32,
 ) -> Result<(), Fail> {
     check_trees(rt, alloc, auto, accepted, refused)?;

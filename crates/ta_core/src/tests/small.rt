@@ -4,7 +4,7 @@ use crate::auto::Auto;
 use crate::symbol::Slot;
 use crate::tables::{Line, Sign, rules};
 use crate::tests::building::auto;
-use crate::tests::checking::{F, N, NULL, Plan, check, check_empty, check_trees};
+use crate::tests::checking::{F, N, NULL, Postfix, check, check_empty, check_trees};
 use fore_base::list::List;
 use fore_base::store::Datum;
 use std::test::Fail;
@@ -67,7 +67,7 @@ fn all_lists(rt: HostRuntime) -> Result<(), Fail> {
         &[0],
         &[Line(0, Sign::Link, &[0]), Line(0, Sign::Null, &[])],
     )?;
-    let refused: [Plan; 3] = [
+    let refused: [Postfix; 3] = [
         &[(Sign::Link, 0)],
         &[NULL, NULL, (Sign::Link, 2)],
         &[(Sign::Uninit, 0), N],
@@ -93,7 +93,7 @@ fn all_binary_trees(rt: HostRuntime) -> Result<(), Fail> {
         &[0],
         &[Line(0, Sign::Fork, &[0, 0]), Line(0, Sign::Null, &[])],
     )?;
-    let accepted: [Plan; 3] = [&[NULL], &[NULL, NULL, F], &[NULL, NULL, F, NULL, F]];
+    let accepted: [Postfix; 3] = [&[NULL], &[NULL, NULL, F], &[NULL, NULL, F, NULL, F]];
     check(
         &rt,
         alloc,
