@@ -1,36 +1,16 @@
 -- What the first byte of a text tells about it.
-use Rattle.std.proofs.Common.{◌≡◌, ◌≢◌, ℕ, Bool, true, false, cond, eqb, ◌||◌, List, [], ◌∷◌, refl, sym, subst, arith, inl, inr, ◌⊎◌}
-use Rattle.std.proofs.lemmas.Bool.{eqb-true, eq-eqb, false≢true}
+use Rattle.std.proofs.Common.{◌≡◌, ◌≢◌, ℕ, Bool, true, false, cond, eqb, List, [], ◌∷◌, refl, arith, inl, inr, ◌⊎◌}
+use Rattle.std.proofs.lemmas.Bool.{eqb-true}
 use Rattle.std.proofs.lemmas.Bool.Decides.{nat_tests}
-use Rattle.std.specs.List.{list_any}
-use Rattle.fore_base.specs.Lists.{IsIn, Every}
+use Rattle.fore_base.specs.Lists.{IsIn}
+use Rattle.fore_base.proofs.ListLemmas.{every_in}
 use Rattle.c_lexer.specs.Bytes.{is_letter, is_digit, is_space, is_quote}
 use Rattle.c_lexer.specs.Lexemes.{IsLexeme, long_marks, short_marks, refused_marks}
-use Rattle.c_lexer.specs.Steps.{class_of}
-use Rattle.c_lexer.specs.declared.bytes.Class.{Class}
-use Rattle.c_lexer.specs.declared.bytes.Class.TheVariants.{Space, Letter, Digit, Quote, Sharp, Sign}
+use Rattle.c_lexer.specs.inner.Steps.{class_of}
+use Rattle.c_lexer.specs.declared.class.Class.{Class}
+use Rattle.c_lexer.specs.declared.class.Class.TheVariants.{Space, Letter, Digit, Quote, Sharp, Sign}
 use Rattle.c_lexer.specs.declared.token.TokKind.{TokKind}
 use Rattle.c_lexer.specs.declared.token.TokKind.TheVariants.{Word, Number, Mark, Quoted, Hash, Refused}
-
--- what holds of each item of a list holds of one that is in it
-pub every_in : {X : Type 0} (P : X → Type 0) (xs : List X) → Every P xs → (x : X) → IsIn x xs → P x
-every_in P [] h x i = absurd i
-every_in P (y ∷ ys) h x (inl e) = subst P (sym e) h.0
-every_in P (y ∷ ys) h x (inr i) = every_in P ys h.1 x i
-
--- the test of the code for one of these bytes
-pub any_from_in : (bytes : List ℕ) (b : ℕ) → IsIn b bytes → list_any (λ x. eqb x b) bytes ≡ true
-any_from_in [] b i = absurd i
-any_from_in (y ∷ ys) b (inl e) = rw (eq-eqb y b (sym e)) refl
-any_from_in (y ∷ ys) b (inr i) = let rest = any_from_in ys b i in elim (eqb y b) as (λ v. (v || list_any (λ x. eqb x b) ys) ≡ true) [ true ↦ refl | false ↦ rest ]
-
-pub in_from_any : (bytes : List ℕ) (b : ℕ) → list_any (λ x. eqb x b) bytes ≡ true → IsIn b bytes
-in_from_any [] b h = absurd (false≢true h)
-in_from_any (y ∷ ys) b h =
-    let split : (v : Bool) → eqb y b ≡ v → (v || list_any (λ x. eqb x b) ys) ≡ true → IsIn b (y ∷ ys) =
-    λ v. elim v as (λ v. eqb y b ≡ v → (v || list_any (λ x. eqb x b) ys) ≡ true → IsIn b (y ∷ ys))
-    [ true ↦ (λ e k. inl (sym (eqb-true y b e))) | false ↦ (λ e k. inr (in_from_any ys b k)) ] in
-    split (eqb y b) refl h
 
 letter_no_space : (b : ℕ) → is_letter b ≡ true → is_space b ≡ false
 unfolding is_letter is_space
@@ -105,17 +85,17 @@ class_for Refused = Sign
 
 long_class : (p : List ℕ) → IsIn p long_marks → class_of (first_of p) ≡ Sign
 unfolding is_space is_letter is_digit is_quote first_of
-long_class p i = every_in (λ q. class_of (first_of q) ≡ Sign) long_marks (refl, (refl, (refl, (refl, (refl, tt))))) p i
+long_class p i = every_in (λ q. class_of (first_of q) ≡ Sign) long_marks p (refl, (refl, (refl, (refl, (refl, tt))))) i
 
 short_class : (b : ℕ) → IsIn b short_marks → class_of b ≡ Sign
 unfolding is_space is_letter is_digit is_quote
-short_class b i = every_in (λ q. class_of q ≡ Sign) short_marks (refl, (refl, (refl, (refl, (refl, (refl, (refl, (refl, (refl, tt))))))))) b i
+short_class b i = every_in (λ q. class_of q ≡ Sign) short_marks b (refl, (refl, (refl, (refl, (refl, (refl, (refl, (refl, (refl, tt))))))))) i
 
 refused_class : (b : ℕ) → IsIn b refused_marks → class_of b ≡ Sign
 unfolding is_space is_letter is_digit is_quote
 refused_class b i =
-    every_in (λ q. class_of q ≡ Sign) refused_marks
-    (refl, (refl, (refl, (refl, (refl, (refl, (refl, (refl, (refl, (refl, (refl, (refl, (refl, (refl, (refl, tt))))))))))))))) b i
+    every_in (λ q. class_of q ≡ Sign) refused_marks b
+    (refl, (refl, (refl, (refl, (refl, (refl, (refl, (refl, (refl, (refl, (refl, (refl, (refl, (refl, (refl, tt))))))))))))))) i
 
 pub lexeme_class : (kind : TokKind) (b : ℕ) (bs : List ℕ) → IsLexeme kind (b ∷ bs) → class_of b ≡ class_for kind
 unfolding first_of
@@ -133,7 +113,7 @@ lexeme_class Refused b (c ∷ cs) h = absurd h
 pub lexeme_not_empty : (kind : TokKind) → IsLexeme kind [] → ⊥
 lexeme_not_empty Word h = h
 lexeme_not_empty Number h = h
-lexeme_not_empty Mark (inl h) = every_in (λ (q : List ℕ). q ≡ [] → ⊥) long_marks (λ e. cc, (λ e. cc, (λ e. cc, (λ e. cc, (λ e. cc, tt))))) [] h refl
+lexeme_not_empty Mark (inl h) = every_in (λ (q : List ℕ). q ≡ [] → ⊥) long_marks [] (λ e. cc, (λ e. cc, (λ e. cc, (λ e. cc, (λ e. cc, tt))))) h refl
 lexeme_not_empty Mark (inr h) = h
 lexeme_not_empty Quoted h = h
 lexeme_not_empty Hash h = cc

@@ -5,7 +5,7 @@ use Rattle.c_lexer.specs.Bytes.{is_newline}
 use Rattle.c_lexer.specs.Lexemes.{IsQuoteRest}
 use Rattle.c_lexer.specs.Lexemes.IsQuoteRest.{close, plain, escape}
 use Rattle.c_lexer.specs.Skips.{ClosesAt, IsFirstClose}
-use Rattle.c_lexer.specs.Steps.{comment_end, quote_end}
+use Rattle.c_lexer.specs.inner.Steps.{comment_end, quote_end}
 
 -- what the search for the end of a comment, begun at i, found
 abbrev pub ClosingIs : List ℕ → ℕ → Option ℕ → Type 0

@@ -5,14 +5,14 @@ use Rattle.std.proofs.lemmas.Bool.{eqb-true, false≢true, and_parts, or_cases}
 use Rattle.std.proofs.lemmas.List.Sums.{prefix_len-le-length, take_while-cons}
 use Rattle.fore_base.specs.Lists.{IsIn}
 use Rattle.c_lexer.specs.Bytes.{is_no_newline, is_solid}
-use Rattle.c_lexer.specs.Skips.{Stands, line_of, skipped_includes, IsInclude}
-use Rattle.c_lexer.specs.Steps.{are_same, is_include}
-use Rattle.c_lexer.proofs.Classes.{every_in}
+use Rattle.c_lexer.specs.Skips.{Stands, first_line, skipped_includes, IsInclude}
+use Rattle.c_lexer.specs.inner.Steps.{are_same, is_include}
+use Rattle.fore_base.proofs.ListLemmas.{every_in}
 
-pub line_length : (rest : List ℕ) → prefix_len is_no_newline rest ≡ length (line_of rest)
+pub line_length : (rest : List ℕ) → prefix_len is_no_newline rest ≡ length (first_line rest)
 line_length rest = omega (arith, length-take (prefix_len is_no_newline rest) rest, prefix_len-le-length is_no_newline rest)
 
-pub line_cons : (b : ℕ) (bs : List ℕ) → is_no_newline b ≡ true → line_of (b ∷ bs) ≡ b ∷ line_of bs
+pub line_cons : (b : ℕ) (bs : List ℕ) → is_no_newline b ≡ true → first_line (b ∷ bs) ≡ b ∷ first_line bs
 line_cons b bs h = rw (take_while-cons is_no_newline b bs, h) refl
 
 pub line_positive : (b : ℕ) (bs : List ℕ) → is_no_newline b ≡ true → 0 < prefix_len is_no_newline (b ∷ bs)
@@ -27,11 +27,11 @@ unfolding is_no_newline
 slash_no_newline b e = rw (← e) refl
 
 -- an include line begins with its number sign
-pub include_sharp : (b : ℕ) (bs : List ℕ) → IsInclude (line_of (b ∷ bs)) → 35 ≡ b
+pub include_sharp : (b : ℕ) (bs : List ℕ) → IsInclude (first_line (b ∷ bs)) → 35 ≡ b
 include_sharp b bs h = by_test (is_no_newline b) refl
   where
     by_test : (v : Bool) → is_no_newline b ≡ v → 35 ≡ b
-    by_test true e = let s : Stands (codes "#") (b ∷ line_of bs) = rw (line_cons b bs e) at h.0 in s.0
+    by_test true e = let s : Stands (codes "#") (b ∷ first_line bs) = rw (line_cons b bs e) at h.0 in s.0
     by_test false e = let s : Stands (codes "#") [] = rw (take_while-cons is_no_newline b bs, e) at h.0 in absurd s
 
 pub same_from : (xs ys : List ℕ) → are_same xs ys ≡ true → xs ≡ ys
@@ -56,4 +56,4 @@ is_one solid = (are_same solid (codes "#include<stdlib.h>") || are_same solid (c
     || (are_same solid (codes "#include<stddef.h>") || are_same solid (codes "#include<stdbool.h>"))
 
 pub include_to : (line : List ℕ) → IsIn (filter is_solid line) skipped_includes → is_include line ≡ true
-include_to line i = every_in (λ solid. is_one solid ≡ true) skipped_includes (refl, (refl, (refl, (refl, tt)))) (filter is_solid line) i
+include_to line i = every_in (λ solid. is_one solid ≡ true) skipped_includes (filter is_solid line) (refl, (refl, (refl, (refl, tt)))) i

@@ -3,6 +3,7 @@ pub mod Closings
 pub mod Includes
 pub mod PlaceLemmas
 pub mod ReadingLemmas
+mod Rows
 pub mod Runs
 pub mod Signs
 pub mod Sound

@@ -7,7 +7,7 @@ use Rattle.std.proofs.lemmas.List.Sums.{sum_by_push, suffix_len-le-length, count
 use Rattle.c_lexer.specs.declared.place.Cursor.{Cursor}
 use Rattle.c_lexer.specs.Bytes.{is_gap, is_newline, is_no_newline}
 use Rattle.c_lexer.specs.Places.{place_after}
-use Rattle.c_lexer.specs.Steps.{cursor_after, moved}
+use Rattle.c_lexer.specs.inner.Steps.{cursor_after, moved}
 
 suffix_push : (p : ℕ → Bool) (xs : List ℕ) (b : ℕ) → suffix_len p (xs ++ b ∷ []) ≡ cond (p b) (1 + suffix_len p xs) 0
 suffix_push p xs b = ap (prefix_len p) (reverse-append xs (b ∷ []))

@@ -2,10 +2,11 @@
 use Rattle.std.proofs.Common.{◌≡◌, ◌⊎◌, ℕ, ◌+◌, ◌-◌, ◌≤◌, List, [], ◌∷◌, ◌++◌, length, take, drop, Result, Ok, Err, IfOk, IfErr, refl, sym, ap, ◌∙◌, subst, arith, inl, inr, append_assoc, length-drop}
 use Rattle.std.proofs.lemmas.List.{append-nil, take_all}
 use Rattle.fore_base.specs.declared.place.Place.{Place}
-use Rattle.c_lexer.specs.Found.{IsFound}
+use Rattle.c_lexer.specs.inner.Found.{IsFound}
 use Rattle.c_lexer.specs.Places.{is_fresh}
-use Rattle.c_lexer.specs.Readings.{Leads, Refuses, IsRefusal}
-use Rattle.c_lexer.specs.Steps.{cursor_after}
+use Rattle.c_lexer.specs.inner.Readings.{Leads, Refuses}
+use Rattle.c_lexer.specs.Refusals.{IsRefusal}
+use Rattle.c_lexer.specs.inner.Steps.{cursor_after}
 use Rattle.c_lexer.specs.Tokens.{Reads, Tokens, LacksToken, LacksClose}
 use Rattle.c_lexer.specs.Tokens.Ending.{whole, no_token, unclosed}
 use Rattle.c_lexer.specs.Tokens.Reads.{ended, skip, next, stuck, open_comment}

@@ -4,16 +4,17 @@ use Rattle.std.specs.List.{list_any}
 use Rattle.std.proofs.lemmas.Bool.{eqb-true, false≢true}
 use Rattle.fore_base.specs.Lists.{IsIn}
 use Rattle.c_lexer.specs.Lexemes.{IsLexeme, long_marks, short_marks, refused_marks}
-use Rattle.c_lexer.specs.Steps.{class_of, is_long_mark}
-use Rattle.c_lexer.specs.declared.bytes.Class.TheVariants.{Sign}
+use Rattle.c_lexer.specs.inner.Steps.{class_of, is_long_mark}
+use Rattle.c_lexer.specs.declared.class.Class.TheVariants.{Sign}
 use Rattle.c_lexer.specs.declared.token.TokKind.{TokKind}
 use Rattle.c_lexer.specs.declared.token.TokKind.TheVariants.{Word, Number, Mark, Quoted, Hash, Refused}
-use Rattle.c_lexer.proofs.Classes.{every_in, any_from_in, lexeme_class}
+use Rattle.fore_base.proofs.ListLemmas.{every_in, in_number}
+use Rattle.c_lexer.proofs.Classes.{lexeme_class}
 
 -- the test of the code for a mark of two bytes
 pub test_from_long : (a b : ℕ) → IsIn (a ∷ (b ∷ [])) long_marks → is_long_mark a b ≡ true
 test_from_long a b i =
-    every_in (λ (p : List ℕ). is_long_mark (get_or p 0 0) (get_or p 1 0) ≡ true) long_marks (refl, (refl, (refl, (refl, (refl, tt))))) (a ∷ (b ∷ [])) i
+    every_in (λ (p : List ℕ). is_long_mark (get_or p 0 0) (get_or p 1 0) ≡ true) long_marks (a ∷ (b ∷ [])) (refl, (refl, (refl, (refl, (refl, tt))))) i
 
 pair_is : (a b x y : ℕ) → a ≡ x → b ≡ y → ◌≡◌ {A = List ℕ} (a ∷ (b ∷ [])) (x ∷ (y ∷ []))
 pair_is a b x y p q = cc
@@ -32,14 +33,14 @@ long_from_test a b h = by_tests (eqb a 45) (eqb a 61) (eqb a 33) (eqb a 38) (eqb
 
 -- a second byte of a mark is not 0
 pub long_second : (a : ℕ) → is_long_mark a 0 ≡ true → ⊥
-long_second a h = every_in (λ (p : List ℕ). get_or p 1 0 ≡ 0 → ⊥) long_marks (λ e. cc, (λ e. cc, (λ e. cc, (λ e. cc, (λ e. cc, tt))))) (a ∷ (0 ∷ [])) (long_from_test a 0 h) refl
+long_second a h = every_in (λ (p : List ℕ). get_or p 1 0 ≡ 0 → ⊥) long_marks (a ∷ (0 ∷ [])) (λ e. cc, (λ e. cc, (λ e. cc, (λ e. cc, (λ e. cc, tt))))) (long_from_test a 0 h) refl
 
 pub one_not_long : (a : ℕ) → IsIn (a ∷ []) long_marks → ⊥
-one_not_long a i = every_in (λ (p : List ℕ). length p ≡ 1 → ⊥) long_marks (λ e. cc, (λ e. cc, (λ e. cc, (λ e. cc, (λ e. cc, tt))))) (a ∷ []) i refl
+one_not_long a i = every_in (λ (p : List ℕ). length p ≡ 1 → ⊥) long_marks (a ∷ []) (λ e. cc, (λ e. cc, (λ e. cc, (λ e. cc, (λ e. cc, tt))))) i refl
 
 three_not_long : (a b c : ℕ) (cs : List ℕ) → IsIn (a ∷ (b ∷ (c ∷ cs))) long_marks → ⊥
 three_not_long a b c cs i =
-    let e = every_in (λ (p : List ℕ). length p ≡ 2) long_marks (refl, (refl, (refl, (refl, (refl, tt))))) (a ∷ (b ∷ (c ∷ cs))) i in absurd (omega (arith, e))
+    let e = every_in (λ (p : List ℕ). length p ≡ 2) long_marks (a ∷ (b ∷ (c ∷ cs))) (refl, (refl, (refl, (refl, (refl, tt))))) i in absurd (omega (arith, e))
 
 -- a token that begins with a sign has at most two bytes
 pub sign_short : (kind : TokKind) (a b c : ℕ) (cs : List ℕ) → class_of a ≡ Sign → IsLexeme kind (a ∷ (b ∷ (c ∷ cs))) → ⊥
@@ -67,7 +68,7 @@ pub sign_single : (kind : TokKind) (a : ℕ) → class_of a ≡ Sign → list_an
 sign_single Word a e f g h = let k = lexeme_class Word a [] h in cc
 sign_single Number a e f g h = let k = lexeme_class Number a [] h in cc
 sign_single Mark a e f g (inl h) = one_not_long a h
-sign_single Mark a e f g (inr h) = false≢true (sym f ∙ any_from_in short_marks a h)
+sign_single Mark a e f g (inr h) = false≢true (sym f ∙ in_number a short_marks h)
 sign_single Quoted a e f g h = let k = lexeme_class Quoted a [] h in cc
 sign_single Hash a e f g h = let k = lexeme_class Hash a [] h in cc
-sign_single Refused a e f g h = false≢true (sym g ∙ any_from_in refused_marks a h)
+sign_single Refused a e f g h = false≢true (sym g ∙ in_number a refused_marks h)

@@ -6,17 +6,18 @@ use Rattle.std.proofs.lemmas.List.Sums.{prefix_len-le-length}
 use Rattle.fore_base.specs.Lists.{Every}
 use Rattle.c_lexer.specs.Bytes.{is_letter, is_digit, is_word_byte, is_number_byte, is_no_newline}
 use Rattle.c_lexer.specs.Lexemes.{IsLexeme, IsQuoteRest, short_marks, refused_marks}
-use Rattle.c_lexer.specs.Skips.{Stands, line_of, IsInclude, Skips}
+use Rattle.c_lexer.specs.Skips.{Stands, first_line, IsInclude, Skips}
 use Rattle.c_lexer.specs.Skips.Skips.{white_space, line_comment, block_comment, include_line}
 use Rattle.c_lexer.specs.Tokens.{IsOther}
-use Rattle.c_lexer.specs.Found.{IsFound}
-use Rattle.c_lexer.specs.Steps.{class_of, class_step, step_of, quote_step, quote_end, comment_step, comment_end, sharp_step, sign_step, mark_step, is_include, is_long_mark}
-use Rattle.c_lexer.specs.declared.bytes.Class.{Class}
-use Rattle.c_lexer.specs.declared.bytes.Class.TheVariants.{Space, Letter, Digit, Quote, Sharp, Sign}
+use Rattle.c_lexer.specs.inner.Found.{IsFound}
+use Rattle.c_lexer.specs.inner.Steps.{class_of, class_step, step_of, quote_step, quote_end, comment_step, comment_end, sharp_step, sign_step, mark_step, is_include, is_long_mark}
+use Rattle.c_lexer.specs.declared.class.Class.{Class}
+use Rattle.c_lexer.specs.declared.class.Class.TheVariants.{Space, Letter, Digit, Quote, Sharp, Sign}
 use Rattle.c_lexer.specs.declared.step.Step.TheVariants.{Skip, Take, Nothing}
 use Rattle.c_lexer.specs.declared.token.TokKind.{TokKind}
 use Rattle.c_lexer.specs.declared.token.TokKind.TheVariants.{Word, Number, Mark, Quoted, Hash, Refused}
-use Rattle.c_lexer.proofs.Classes.{class_tells, Tells, space_class, slash_class, sharp_class, lexeme_class, lexeme_not_empty, in_from_any, quote_plain}
+use Rattle.fore_base.proofs.ListLemmas.{number_in}
+use Rattle.c_lexer.proofs.Classes.{class_tells, Tells, space_class, slash_class, sharp_class, lexeme_class, lexeme_not_empty, quote_plain}
 use Rattle.c_lexer.proofs.Closings.{FrontIs, Inside, quotation, ClosingIs, closing}
 use Rattle.c_lexer.proofs.Includes.{line_length, line_cons, line_positive, sharp_no_newline, slash_no_newline, include_sharp, include_from, include_to}
 use Rattle.c_lexer.proofs.Runs.{front_passes, longer_fails}
@@ -26,7 +27,7 @@ told : (b : ℕ) (c : Class) → class_of b ≡ c → Tells b c
 told b c e = subst (Tells b) e (class_tells b)
 
 -- only white space, a slash and a number sign begin what is passed over
-other_by_class : (fresh : Bool) (b : ℕ) (bs : List ℕ) → class_of b ≢ Space → class_of b ≢ Sign → (fresh ≡ true → IsInclude (line_of (b ∷ bs)) → ⊥) → IsOther fresh (b ∷ bs)
+other_by_class : (fresh : Bool) (b : ℕ) (bs : List ℕ) → class_of b ≢ Space → class_of b ≢ Sign → (fresh ≡ true → IsInclude (first_line (b ∷ bs)) → ⊥) → IsOther fresh (b ∷ bs)
 other_by_class fresh b bs no_space no_sign no_include = (no_skip, λ u. no_sign (slash_class b u.0.0))
   where
     no_skip : (n : ℕ) → Skips fresh (b ∷ bs) n → ⊥
@@ -35,7 +36,7 @@ other_by_class fresh b bs no_space no_sign no_include = (no_skip, λ u. no_sign 
     no_skip n (block_comment h k f e) = no_sign (slash_class b h.0)
     no_skip n (include_line f h e) = no_include f h
 
-not_sharp : (b : ℕ) (bs : List ℕ) → class_of b ≢ Sharp → IsInclude (line_of (b ∷ bs)) → ⊥
+not_sharp : (b : ℕ) (bs : List ℕ) → class_of b ≢ Sharp → IsInclude (first_line (b ∷ bs)) → ⊥
 not_sharp b bs no_sharp h = no_sharp (sharp_class b (include_sharp b bs h))
 
 word_back : (kind : TokKind) (b : ℕ) (xs : List ℕ) → class_of b ≡ Letter → IsLexeme kind (b ∷ xs) → Every (λ c. is_word_byte c ≡ true) xs
@@ -136,7 +137,7 @@ quote_found fresh b bs e =
         next : IsFound fresh (b ∷ bs) (Take Quoted (suc found.0))
         next = ((other, short, (told b Quote e, found.3), longer), omega arith, short)
 
-hash_found : (fresh : Bool) (b : ℕ) (bs : List ℕ) → class_of b ≡ Sharp → (fresh ≡ true → IsInclude (line_of (b ∷ bs)) → ⊥) → IsFound fresh (b ∷ bs) (Take Hash 1)
+hash_found : (fresh : Bool) (b : ℕ) (bs : List ℕ) → class_of b ≡ Sharp → (fresh ≡ true → IsInclude (first_line (b ∷ bs)) → ⊥) → IsFound fresh (b ∷ bs) (Take Hash 1)
 hash_found fresh b bs e no_include =
     ((other_by_class fresh b bs (λ f. cc) (λ f. cc) no_include, omega arith, is_hash, longer bs), omega arith, omega arith)
   where
@@ -150,15 +151,15 @@ hash_found fresh b bs e no_include =
     longer (c ∷ cs) (suc (suc m)) k less within h = let none = hash_back k b (c ∷ take m cs) e h in cc
 
 sharp_found : (fresh : Bool) (b : ℕ) (bs : List ℕ) → class_of b ≡ Sharp → IsFound fresh (b ∷ bs) (sharp_step fresh (b ∷ bs))
-sharp_found fresh b bs e = by_test (fresh && is_include (line_of (b ∷ bs))) refl
+sharp_found fresh b bs e = by_test (fresh && is_include (first_line (b ∷ bs))) refl
   where
-    by_test : (v : Bool) → (fresh && is_include (line_of (b ∷ bs))) ≡ v → IsFound fresh (b ∷ bs) (cond v (Skip (prefix_len is_no_newline (b ∷ bs))) (Take Hash 1))
+    by_test : (v : Bool) → (fresh && is_include (first_line (b ∷ bs))) ≡ v → IsFound fresh (b ∷ bs) (cond v (Skip (prefix_len is_no_newline (b ∷ bs))) (Take Hash 1))
     by_test true t =
-        let p = and_parts fresh (is_include (line_of (b ∷ bs))) t in
+        let p = and_parts fresh (is_include (first_line (b ∷ bs))) t in
         let sharp = told b Sharp e in
-        let front : Stands (codes "#") (line_of (b ∷ bs)) = rw (line_cons b bs (sharp_no_newline b sharp)) (sym sharp, tt) in
-        (include_line p.0 (front, include_from (line_of (b ∷ bs)) p.1) (line_length (b ∷ bs)), line_positive b bs (sharp_no_newline b sharp), prefix_len-le-length is_no_newline (b ∷ bs))
-    by_test false t = hash_found fresh b bs e (λ f h. false≢true (sym t ∙ and_from fresh (is_include (line_of (b ∷ bs))) f (include_to (line_of (b ∷ bs)) h.1)))
+        let front : Stands (codes "#") (first_line (b ∷ bs)) = rw (line_cons b bs (sharp_no_newline b sharp)) (sym sharp, tt) in
+        (include_line p.0 (front, include_from (first_line (b ∷ bs)) p.1) (line_length (b ∷ bs)), line_positive b bs (sharp_no_newline b sharp), prefix_len-le-length is_no_newline (b ∷ bs))
+    by_test false t = hash_found fresh b bs e (λ f h. false≢true (sym t ∙ and_from fresh (is_include (first_line (b ∷ bs))) f (include_to (first_line (b ∷ bs)) h.1)))
 
 -- the two slashes or the slash and the star that the code tests for
 stands_from_test : (b x : ℕ) (bs : List ℕ) → (0 ≡ x → ⊥) → (eqb b 47 && eqb (get_or bs 0 0) x) ≡ true → Stands (47 ∷ (x ∷ [])) (b ∷ bs)
@@ -223,8 +224,8 @@ module _ (fresh : Bool) (b : ℕ) (sign : class_of b ≡ Sign) where
       by_tests : (l s r : Bool) → is_long_mark b (get_or bs 0 0) ≡ l → list_any (λ x. eqb x b) short_marks ≡ s → list_any (λ x. eqb x b) refused_marks ≡ r →
           IsFound fresh (b ∷ bs) (cond l (Take Mark 2) (cond s (Take Mark 1) (cond r (Take Refused 1) Nothing)))
       by_tests true s r el es er = long_found bs other el
-      by_tests false true r el es er = ((other, omega arith, inr (in_from_any short_marks b es), longer_than_one bs el), omega arith, omega arith)
-      by_tests false false true el es er = ((other, omega arith, in_from_any refused_marks b er, longer_than_one bs el), omega arith, omega arith)
+      by_tests false true r el es er = ((other, omega arith, inr (number_in b short_marks es), longer_than_one bs el), omega arith, omega arith)
+      by_tests false false true el es er = ((other, omega arith, number_in b refused_marks er, longer_than_one bs el), omega arith, omega arith)
       by_tests false false false el es er = (other, λ f. cc, no_mark bs el es er)
 
   sign_found : (bs : List ℕ) → IsFound fresh (b ∷ bs) (sign_step (b ∷ bs))

@@ -7,21 +7,22 @@ use Rattle.fore_base.specs.declared.place.Place.{Place}
 use Rattle.c_lexer.specs.Lexemes.{IsLexeme, short_marks, refused_marks}
 use Rattle.c_lexer.specs.Bytes.{is_no_newline}
 use Rattle.c_lexer.specs.Places.{is_fresh, place_after}
-use Rattle.c_lexer.specs.Skips.{Stands, line_of, IsFirstClose, Skips, IsUnclosed}
+use Rattle.c_lexer.specs.Skips.{Stands, first_line, IsFirstClose, Skips, IsUnclosed}
 use Rattle.c_lexer.specs.Skips.Skips.{white_space, line_comment, block_comment, include_line}
-use Rattle.c_lexer.specs.Steps.{class_of, class_step, step_of, comment_step, comment_end, sign_step, is_include}
+use Rattle.c_lexer.specs.inner.Steps.{class_of, class_step, step_of, comment_step, comment_end, sign_step, is_include}
 use Rattle.c_lexer.specs.Tokens.{IsNext, Reads, Ending, Tokens, LacksToken, LacksClose}
 use Rattle.c_lexer.specs.Tokens.Ending.{whole, no_token, unclosed}
 use Rattle.c_lexer.specs.Tokens.Reads.{ended, skip, next, stuck, open_comment}
-use Rattle.c_lexer.specs.Found.{IsFound}
-use Rattle.c_lexer.specs.declared.bytes.Class.{Class}
-use Rattle.c_lexer.specs.declared.bytes.Class.TheVariants.{Space, Letter, Digit, Quote, Sharp, Sign}
+use Rattle.c_lexer.specs.inner.Found.{IsFound}
+use Rattle.c_lexer.specs.declared.class.Class.{Class}
+use Rattle.c_lexer.specs.declared.class.Class.TheVariants.{Space, Letter, Digit, Quote, Sharp, Sign}
 use Rattle.c_lexer.specs.declared.step.Step.{Step}
 use Rattle.c_lexer.specs.declared.step.Step.TheVariants.{Skip, Take, Unclosed, Nothing}
 use Rattle.c_lexer.specs.declared.token.TokKind.{TokKind}
 use Rattle.c_lexer.specs.declared.token.TokKind.TheVariants.{Word, Number, Mark, Quoted, Hash, Refused}
 use Rattle.c_lexer.specs.declared.token.Token.{Token}
-use Rattle.c_lexer.proofs.Classes.{every_in, any_from_in, lexeme_class, lexeme_not_empty, space_class, slash_class, sharp_class}
+use Rattle.fore_base.proofs.ListLemmas.{every_in, in_number}
+use Rattle.c_lexer.proofs.Classes.{lexeme_class, lexeme_not_empty, space_class, slash_class, sharp_class}
 use Rattle.c_lexer.proofs.Closings.{ClosingIs, closing, first_close_once}
 use Rattle.c_lexer.proofs.Includes.{line_length, include_sharp, include_to}
 use Rattle.c_lexer.proofs.Signs.{one_not_long}
@@ -48,15 +49,15 @@ kind_of (b ∷ bs) = kind_by (class_of b) (is_marked (b ∷ bs))
 
 refused_not_marked : (b : ℕ) → IsLexeme Refused (b ∷ []) → list_any (λ x. eqb x b) short_marks ≡ false
 refused_not_marked b i =
-    every_in (λ q. list_any (λ x. eqb x q) short_marks ≡ false) refused_marks
-    (refl, (refl, (refl, (refl, (refl, (refl, (refl, (refl, (refl, (refl, (refl, (refl, (refl, (refl, (refl, tt))))))))))))))) b i
+    every_in (λ q. list_any (λ x. eqb x q) short_marks ≡ false) refused_marks b
+    (refl, (refl, (refl, (refl, (refl, (refl, (refl, (refl, (refl, (refl, (refl, (refl, (refl, (refl, (refl, tt))))))))))))))) i
 
 kind_is : (k : TokKind) (p : List ℕ) → IsLexeme k p → kind_of p ≡ k
 kind_is k [] h = absurd (lexeme_not_empty k h)
 kind_is Word (b ∷ bs) h = ap (λ c. kind_by c (is_marked (b ∷ bs))) (lexeme_class Word b bs h)
 kind_is Number (b ∷ bs) h = ap (λ c. kind_by c (is_marked (b ∷ bs))) (lexeme_class Number b bs h)
 kind_is Mark (b ∷ []) (inl h) = absurd (one_not_long b h)
-kind_is Mark (b ∷ []) (inr h) = ap (λ c. kind_by c (is_marked (b ∷ []))) (lexeme_class Mark b [] (inr h)) ∙ ap (kind_by Sign) (any_from_in short_marks b h)
+kind_is Mark (b ∷ []) (inr h) = ap (λ c. kind_by c (is_marked (b ∷ []))) (lexeme_class Mark b [] (inr h)) ∙ ap (kind_by Sign) (in_number b short_marks h)
 kind_is Mark (b ∷ (c ∷ bs)) h = ap (λ k. kind_by k true) (lexeme_class Mark b (c ∷ bs) h)
 kind_is Quoted (b ∷ bs) h = ap (λ c. kind_by c (is_marked (b ∷ bs))) (lexeme_class Quoted b bs h)
 kind_is Hash (b ∷ bs) h = ap (λ c. kind_by c (is_marked (b ∷ bs))) (lexeme_class Hash b bs h)
@@ -103,7 +104,7 @@ skip_step fresh (b ∷ (c ∷ cs)) n (block_comment h k f e) =
     ap (λ x. class_step x fresh (b ∷ (c ∷ cs))) (slash_class b h.0) ∙ block_step b c cs h.0 h.1.0 ∙ closed_step cs k n f e
 skip_step fresh (b ∷ bs) n (include_line f h e) =
     ap (λ c. class_step c fresh (b ∷ bs)) (sharp_class b (include_sharp b bs h))
-    ∙ ap (λ v. cond v (Skip (prefix_len is_no_newline (b ∷ bs))) (Take Hash 1)) (and_from fresh (is_include (line_of (b ∷ bs))) f (include_to (line_of (b ∷ bs)) h.1))
+    ∙ ap (λ v. cond v (Skip (prefix_len is_no_newline (b ∷ bs))) (Take Hash 1)) (and_from fresh (is_include (first_line (b ∷ bs))) f (include_to (first_line (b ∷ bs)) h.1))
     ∙ ap Skip (line_length (b ∷ bs) ∙ sym e)
 
 skip_once : (fresh : Bool) (rest : List ℕ) (n m : ℕ) → Skips fresh rest n → Skips fresh rest m → n ≡ m

@@ -1,8 +1,7 @@
 pub mod Bytes
-pub mod Found
+pub mod inner
 pub mod Lexemes
 pub mod Places
-pub mod Readings
+pub mod Refusals
 pub mod Skips
-pub mod Steps
 pub mod Tokens

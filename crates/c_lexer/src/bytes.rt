@@ -1,23 +1,6 @@
 // The classes of bytes that the rules for tokens speak of.
-ghost use Rattle.std.specs.Prelude.{◌≡◌, slice_index};
+ghost use Rattle.std.specs.Prelude.{◌≡◌};
 ghost use Rattle.c_lexer.specs.Bytes as spec;
-ghost use Rattle.c_lexer.specs.Steps.{class_of};
-
-/// What the first byte at a place tells of the piece that begins there.
-#[derive(Clone, Copy, PartialEq, Eq, Debug)]
-pub enum Class {
-    /// White space.
-    Space,
-    /// A letter or the underscore.
-    Letter,
-    Digit,
-    /// A quotation mark or an apostrophe.
-    Quote,
-    /// The number sign.
-    Sharp,
-    /// Every other byte.
-    Sign,
-}
 
 /// A letter or the underscore.
 #[tactic(auto, unfolding(crate::specs::Bytes::is_letter))]
@@ -89,30 +72,4 @@ pub fn is_solid(byte: u8) -> bool
     ensures { result ≡ spec.is_solid byte }
 {
     byte != b' ' && byte != b'\t' && byte != b'\r'
-}
-
-/// The class of a byte.
-pub fn class_of(byte: u8) -> Class
-    ensures { result ≡ class_of byte }
-{
-    if is_space(byte) {
-        Class::Space
-    } else if is_letter(byte) {
-        Class::Letter
-    } else if is_digit(byte) {
-        Class::Digit
-    } else if is_quote(byte) {
-        Class::Quote
-    } else if byte == b'#' {
-        Class::Sharp
-    } else {
-        Class::Sign
-    }
-}
-
-/// The byte at a place, and 0 past the end.
-pub fn byte_at(text: &[u8], at: usize) -> u8
-    ensures { result ≡ slice_index text.now at }
-{
-    if at < text.len() { text[at] } else { 0 }
 }

@@ -2,8 +2,7 @@
 
 use crate::fault::LexFault;
 use crate::token::Token;
-
-fn crosses<T: Send + Sync>(_value: &T) {}
+use fore_base::crossing::crosses;
 
 /// Tokens cross threads, and with them their kinds.
 pub fn token_crosses(token: &Token) {

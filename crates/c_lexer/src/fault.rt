@@ -1,3 +1,4 @@
+// Refusals of texts.
 use fore_base::place::Place;
 use std::alloc::AllocError;
 use thiserror::Error;
@@ -7,10 +8,16 @@ use thiserror::Error;
 pub enum LexFault {
     /// No token begins at this byte.
     #[error("no token begins at {}:{}", .at.line, .at.column)]
-    L1 { at: Place },
+    L1 {
+        /// The place of the byte.
+        at: Place,
+    },
     /// The comment that begins at this byte is not closed.
     #[error("the comment at {}:{} is not closed", .at.line, .at.column)]
-    L2 { at: Place },
+    L2 {
+        /// The place of its first byte.
+        at: Place,
+    },
     /// Want of memory.
     #[error("no memory")]
     Memory,

@@ -1,7 +1,11 @@
-// The tokens of a C text: every text has either its list of tokens, each with its place, or its first refusal.
+//! The tokens of a C text.
+//!
+//! `tokens` gives every text either its list of tokens, each with its place, or its first refusal: a byte at which no token begins (L1), or a
+//! comment that is not closed (L2). `end_place` gives the place behind its last byte.
 #![tactic(auto)]
 
 pub mod bytes;
+mod class;
 pub mod crossing;
 pub mod fault;
 pub mod laws;

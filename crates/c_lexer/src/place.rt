@@ -1,9 +1,10 @@
 // Places in a text, byte by byte.
 ghost use Rattle.std.specs.Prelude.{◌≡◌, ◌≤◌, ◌<◌, ◌+◌, [], length, take};
 ghost use Rattle.c_lexer.specs.Places.{place_after};
-ghost use Rattle.c_lexer.specs.Steps.{cursor_after, moved};
+ghost use Rattle.c_lexer.specs.inner.Steps.{cursor_after, moved};
 
 use crate::bytes::{is_gap, is_newline};
+use fore_base::limits::FILE_BYTES;
 use fore_base::place::Place;
 
 /// Where the reader stands.
@@ -56,7 +57,7 @@ fn behind(cursor: Cursor, byte: u8) -> Cursor
 
 /// The place at `to`, from the one at `from`.
 pub fn advance(text: &[u8], cursor: Cursor, from: usize, to: usize) -> Cursor
-    requires short { length text.now ≤ 1048576 }
+    requires short { length text.now ≤ FILE_BYTES }
     requires order { from ≤ to }
     requires within { to ≤ length text.now }
     requires here { cursor ≡ cursor_after (take from text.now) }
@@ -71,7 +72,7 @@ pub fn advance(text: &[u8], cursor: Cursor, from: usize, to: usize) -> Cursor
 
 /// The place behind the last byte of a text of at most 1,048,576 bytes.
 pub fn end_place(text: &[u8]) -> Place
-    requires { length text.now ≤ 1048576 }
+    requires { length text.now ≤ FILE_BYTES }
     ensures { result ≡ place_after text.now }
 {
     advance(text, start(), 0, text.len()).place

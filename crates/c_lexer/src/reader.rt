@@ -1,15 +1,17 @@
 // A text is read from its front to its end, one piece after another.
-ghost use Rattle.std.specs.Prelude.{◌≡◌, ◌⊎◌, ◌≤◌, ◌<◌, ◌+◌, ◌++◌, [], ◌∷◌, ℕ, List, Ok, Err, length, take, drop, IfOk, IfErr, OnOk, OnErr};
+ghost use Rattle.std.specs.Prelude.{◌≡◌, ◌⊎◌, ◌≤◌, ◌<◌, ◌+◌, ◌++◌, [], ◌∷◌, List, Ok, Err, length, take, IfOk, IfErr, OnOk};
 ghost use Rattle.fore_base.specs.declared.place.Place.{Place};
 ghost use Rattle.c_lexer.specs.declared.token.Token.{Token};
-ghost use Rattle.c_lexer.specs.Readings.{Leads, Refuses, IsRefusal};
-ghost use Rattle.c_lexer.specs.Steps.{cursor_after};
+ghost use Rattle.c_lexer.specs.inner.Readings.{Leads, Refuses};
+ghost use Rattle.c_lexer.specs.Refusals.{IsRefusal};
+ghost use Rattle.c_lexer.specs.inner.Steps.{cursor_after};
 ghost use Rattle.c_lexer.specs.Tokens.{Tokens, LacksToken, LacksClose};
 
 use crate::fault::LexFault;
 use crate::place::{Cursor, advance, start};
 use crate::step::{Step, next_step};
 use crate::token::{TokKind, Token};
+use fore_base::limits::FILE_BYTES;
 use fore_base::list::List;
 use fore_base::place::Place;
 use fore_base::text::Text;
@@ -56,7 +58,7 @@ fn read_piece(
 }
 
 fn read_pieces(alloc: Global, text: &[u8]) -> Result<List<Token>, LexFault>
-    requires { length text.now ≤ 1048576 }
+    requires { length text.now ≤ FILE_BYTES }
     ensures ok { IfOk result (Tokens text.now) }
     ensures err { IfErr result (IsRefusal text.now) }
 {
@@ -71,12 +73,14 @@ fn read_pieces(alloc: Global, text: &[u8]) -> Result<List<Token>, LexFault>
     Ok(found)
 }
 
-/// The tokens of a text of at most 1,048,576 bytes.
+/// The tokens of a text of at most 1,048,576 bytes, in order.
+///
+/// # Errors
 ///
 /// `LexFault::L1` at the first byte at which no token begins, `LexFault::L2` at the first byte of the comment that is not closed: whichever comes
 /// first. `LexFault::Memory` for want of memory.
 pub fn tokens(alloc: Global, text: &[u8]) -> Result<List<Token>, LexFault>
-    requires { length text.now ≤ 1048576 }
+    requires { length text.now ≤ FILE_BYTES }
     ensures ok { IfOk result (λ ts. Tokens text.now ts) }
     ensures err { IfErr result (IsRefusal text.now) }
 

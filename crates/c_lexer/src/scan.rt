@@ -3,10 +3,11 @@ ghost use Rattle.std.specs.Prelude.{◌≡◌, ◌==◌, ◌<◌, false, drop, l
 ghost use Rattle.std.specs.List.{prefix_len, list_any};
 ghost use Rattle.c_lexer.specs.Bytes.{is_no_newline};
 ghost use Rattle.c_lexer.specs.Bytes as spec;
-ghost use Rattle.c_lexer.specs.Steps.{quote_end, comment_end, spells, is_include, is_long_mark};
+ghost use Rattle.c_lexer.specs.inner.Steps.{quote_end, comment_end, spells, is_include, is_long_mark};
 ghost use Rattle.c_lexer.specs.Lexemes.{short_marks, refused_marks};
 
-use crate::bytes::{byte_at, is_newline, is_number_byte, is_solid, is_word_byte};
+use crate::bytes::{is_newline, is_number_byte, is_solid, is_word_byte};
+use crate::class::byte_at;
 
 /// The number of bytes at the front that may stand in a word.
 pub fn word_size(rest: &[u8]) -> usize

@@ -1,9 +1,9 @@
 // What stands at a place of a text.
 ghost use Rattle.std.specs.Prelude.{◌≡◌, ◌<◌, false, drop, length, slice_index};
-ghost use Rattle.c_lexer.specs.Found.{IsFound};
-ghost use Rattle.c_lexer.specs.Steps.{quote_step, comment_step, mark_step, sign_step, sharp_step, step_of, quote_end, comment_end};
+ghost use Rattle.c_lexer.specs.inner.Found.{IsFound};
+ghost use Rattle.c_lexer.specs.inner.Steps.{quote_step, comment_step, mark_step, sign_step, sharp_step, step_of, quote_end, comment_end};
 
-use crate::bytes::{Class, byte_at, class_of};
+use crate::class::{Class, byte_at, class_of};
 use crate::scan::{
     comment_size, is_include, is_long_mark, is_refused_mark, is_short_mark, line_size, number_size,
     quotation_size, word_size,

@@ -1,3 +1,4 @@
+// Tokens and their kinds.
 use fore_base::place::Place;
 use fore_base::text::Text;
 
@@ -21,6 +22,7 @@ pub enum TokKind {
 /// A token of a text.
 #[derive(PartialEq, Eq, Debug, Drop)]
 pub struct Token {
+    /// What it is.
     pub kind: TokKind,
     /// The bytes of the token.
     pub text: Text,

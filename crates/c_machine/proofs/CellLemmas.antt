@@ -4,11 +4,13 @@ use Rattle.std.proofs.lemmas.Bool.{eqb-true}
 use Rattle.std.proofs.lemmas.Bool.Decides.{nat_tests}
 use Rattle.fore_base.specs.declared.store.Value.{Value}
 use Rattle.fore_base.specs.declared.store.Value.TheVariants.{Uninit}
+use Rattle.fore_base.specs.declared.store.Datum.{Datum}
+use Rattle.fore_base.specs.declared.store.Datum.TheVariants.{Undefined}
 use Rattle.fore_base.specs.declared.store.CellRec.{CellRec}
 use Rattle.fore_base.specs.Lists.{Every}
-use Rattle.fore_base.specs.Stores.{field_in, with_field, dangle_in, without}
+use Rattle.fore_base.specs.Stores.{field_in, with_field, datum_in, with_datum, dangle_in, without}
 use Rattle.c_types.proofs.CellsKept.{IsBelow}
-use Rattle.c_machine.specs.Rising.{RisesFrom, position_in, one_more}
+use Rattle.c_machine.specs.inner.Rising.{RisesFrom, position_in, one_more}
 
 -- the cell c of the number n is the first one, at i
 pub data FoundAt (n : ℕ) : List CellRec → ℕ → CellRec → Type 0 where
@@ -81,6 +83,39 @@ absent_with n f v (other {b} is apart) = rw is (ap (λ (xs : List CellRec). b �
 pub with_none : (n f : ℕ) (v : Value) (cs : List CellRec) → Position n cs None → with_field cs n f v ≡ cs
 with_none n f v cs (missing apart) = absent_with n f v apart
 
+-- Data fields
+
+found_datum : (n f : ℕ) {cs : List CellRec} {i : ℕ} {c : CellRec} → FoundAt n cs i c → datum_in cs n f ≡ slice_index_or c.datums f Undefined
+found_datum n f (first is) = rw is refl
+found_datum n f (further is at) = rw is (found_datum n f at)
+
+pub datum_some : (n f i : ℕ) (cs : List CellRec) (d : CellRec) → Position n cs (Some i) → datum_in cs n f ≡ slice_index_or (get_or cs i d).datums f Undefined
+datum_some n f i cs d (found c at) = found_datum n f at ∙ ap (λ (x : CellRec). slice_index_or x.datums f Undefined) (sym (found_get n d at))
+
+absent_datum : (n f : ℕ) {cs : List CellRec} → Absent n cs → datum_in cs n f ≡ Undefined
+absent_datum n f none = refl
+absent_datum n f (other is apart) = rw is (absent_datum n f apart)
+
+pub datum_none : (n f : ℕ) (cs : List CellRec) → Position n cs None → datum_in cs n f ≡ Undefined
+datum_none n f cs (missing apart) = absent_datum n f apart
+
+abbrev pub with_datum_at : CellRec → ℕ → Datum → CellRec
+with_datum_at c f v = record c { datums = slice_set c.datums f v }
+
+found_with_datum : (n f : ℕ) (v : Datum) {cs : List CellRec} {i : ℕ} {c : CellRec} → FoundAt n cs i c → with_datum cs n f v ≡ slice_set cs i (with_datum_at c f v)
+found_with_datum n f v (first is) = rw is refl
+found_with_datum n f v (further {b} {c} {cs} {i} is at) = rw is (ap (λ (xs : List CellRec). b ∷ xs) (found_with_datum n f v at))
+
+pub with_datum_some : (n f i : ℕ) (v : Datum) (cs : List CellRec) (d : CellRec) → Position n cs (Some i) → with_datum cs n f v ≡ slice_set cs i (with_datum_at (get_or cs i d) f v)
+with_datum_some n f i v cs d (found c at) = found_with_datum n f v at ∙ ap (λ (x : CellRec). slice_set cs i (with_datum_at x f v)) (sym (found_get n d at))
+
+absent_with_datum : (n f : ℕ) (v : Datum) {cs : List CellRec} → Absent n cs → with_datum cs n f v ≡ cs
+absent_with_datum n f v none = refl
+absent_with_datum n f v (other {b} is apart) = rw is (ap (λ (xs : List CellRec). b ∷ xs) (absent_with_datum n f v apart))
+
+pub with_datum_none : (n f : ℕ) (v : Datum) (cs : List CellRec) → Position n cs None → with_datum cs n f v ≡ cs
+with_datum_none n f v cs (missing apart) = absent_with_datum n f v apart
+
 -- The end of a cell
 
 absent_without : (n : ℕ) {cs : List CellRec} → Absent n cs → without n cs ≡ map (dangle_in n) cs
@@ -116,6 +151,14 @@ rises_with n f v low [] h = tt
 rises_with n f v low (c ∷ cs) h = here (nat_eq c.number n) (rises_with n f v (suc c.number) cs h.1)
   where
     here : (b : Bool) → RisesFrom (suc c.number) (with_field cs n f v) → RisesFrom low (if b then record c { fields = slice_set c.fields f v } ∷ cs else c ∷ with_field cs n f v)
+    here true rest = h
+    here false rest = (h.0, rest)
+
+pub rises_with_datum : (n f : ℕ) (d : Datum) (low : ℕ) (cs : List CellRec) → RisesFrom low cs → RisesFrom low (with_datum cs n f d)
+rises_with_datum n f d low [] h = tt
+rises_with_datum n f d low (c ∷ cs) h = here (nat_eq c.number n) (rises_with_datum n f d (suc c.number) cs h.1)
+  where
+    here : (b : Bool) → RisesFrom (suc c.number) (with_datum cs n f d) → RisesFrom low (if b then record c { datums = slice_set c.datums f d } ∷ cs else c ∷ with_datum cs n f d)
     here true rest = h
     here false rest = (h.0, rest)
 

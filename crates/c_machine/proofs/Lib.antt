@@ -3,5 +3,10 @@ pub mod CellLemmas
 pub mod ShapeLemmas
 pub mod Marked
 pub mod PathLemmas
-pub mod RunLemmas
+pub mod Stacks
+pub mod RoundLemmas
+pub mod Lengths
+pub mod Fronts
+pub mod Goings
+pub mod Stepping
 pub mod NodePrograms

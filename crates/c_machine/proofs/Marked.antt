@@ -9,30 +9,23 @@ use Rattle.fore_base.specs.declared.store.Store.{Store}
 use Rattle.fore_base.specs.Lists.{IsIn}
 use Rattle.fore_base.specs.Heap.{Reach, by_var, by_field, Leaked, leaks}
 use Rattle.fore_base.proofs.Leaks.{leaks_leaked, sound_reached}
-use Rattle.c_machine.specs.declared.leak.Marks.{Marks}
-use Rattle.c_machine.specs.Rising.{RisesFrom, position_in}
-use Rattle.c_machine.specs.Marking.{noted_at, noted, noted_all}
+use Rattle.c_machine.specs.inner.Rising.{RisesFrom, position_in}
+use Rattle.c_machine.specs.inner.Marking.{Marked, count_true, noted_at, noted, noted_all}
 use Rattle.c_machine.proofs.CellLemmas.{FoundAt, first, further, Position, found, missing, positioned}
 use Rattle.c_machine.proofs.Searching.{no_cell, position_at}
 
-abbrev pub is_marked : Marks → ℕ → Bool
+abbrev pub is_marked : Marked → ℕ → Bool
 is_marked m i = get_or m.reached i false
 
 abbrev pub cell_at : List CellRec → ℕ → CellRec
 cell_at cs i = get_or cs i no_cell
 
--- how many are true
-abbrev pub count_true : List Bool → ℕ
-count_true [] = 0
-count_true (true ∷ bs) = suc (count_true bs)
-count_true (false ∷ bs) = count_true bs
-
 -- each cell that one of the values names is marked
-abbrev pub AllNoted : List CellRec → List Value → Marks → Type 0
+abbrev pub AllNoted : List CellRec → List Value → Marked → Type 0
 AllNoted cs vs m = (n i : ℕ) → IsIn (Cell n) vs → position_in cs n ≡ Some i → is_marked m i ≡ true
 
--- Marks in the middle of the walk: the fields of the first k marked cells were looked at, and so were the values vs.
-pub record Walked (s : Store) (vs : List Value) (k : ℕ) (m : Marks) : Type 0 where
+-- Marked in the middle of the walk: the fields of the first k marked cells were looked at, and so were the values vs.
+pub record Walked (s : Store) (vs : List Value) (k : ℕ) (m : Marked) : Type 0 where
   pub long : length m.reached ≡ length s.cells
   pub within : (j : ℕ) → j < length m.order → get_or m.order j 0 < length s.cells
   pub counted : length m.order ≡ count_true m.reached
@@ -67,7 +60,7 @@ get_append_last : (xs : List ℕ) (y d : ℕ) → get_or (xs ++ y ∷ []) (lengt
 get_append_last [] y d = refl
 get_append_last (x ∷ xs) y d = get_append_last xs y d
 
-length_append_last : {X : Type 0} (xs : List X) (y : X) → length (xs ++ y ∷ []) ≡ suc (length xs)
+pub length_append_last : {X : Type 0} (xs : List X) (y : X) → length (xs ++ y ∷ []) ≡ suc (length xs)
 length_append_last [] y = refl
 length_append_last (x ∷ xs) y = ap suc (length_append_last xs y)
 
@@ -90,19 +83,19 @@ set_new (b ∷ bs) zero (suc j) e = inr e
 set_new (b ∷ bs) (suc i) zero e = inr e
 set_new (b ∷ bs) (suc i) (suc j) e = elim (set_new bs i j e) [ inl same ↦ inl (ap suc same) | inr old ↦ inr old ]
 
-set_length : (bs : List Bool) (i : ℕ) → length (set bs i true) ≡ length bs
+pub set_length : (bs : List Bool) (i : ℕ) → length (set bs i true) ≡ length bs
 set_length [] i = refl
 set_length (b ∷ bs) zero = refl
 set_length (b ∷ bs) (suc i) = ap suc (set_length bs i)
 
-set_count : (bs : List Bool) (i : ℕ) → get_or bs i true ≡ false → count_true (set bs i true) ≡ suc (count_true bs)
+pub set_count : (bs : List Bool) (i : ℕ) → get_or bs i true ≡ false → count_true (set bs i true) ≡ suc (count_true bs)
 set_count [] i e = absurd (true≢false e)
 set_count (true ∷ bs) zero e = absurd (true≢false e)
 set_count (false ∷ bs) zero e = refl
 set_count (true ∷ bs) (suc i) e = ap suc (set_count bs i e)
 set_count (false ∷ bs) (suc i) e = set_count bs i e
 
-unmarked_within : (bs : List Bool) (i : ℕ) → get_or bs i true ≡ false → i < length bs
+pub unmarked_within : (bs : List Bool) (i : ℕ) → get_or bs i true ≡ false → i < length bs
 unmarked_within [] i e = absurd (true≢false e)
 unmarked_within (b ∷ bs) zero e = omega arith
 unmarked_within (b ∷ bs) (suc i) e = omega (arith, unmarked_within bs i e)
@@ -112,7 +105,7 @@ marked_default [] i less e = absurd (omega (arith, less))
 marked_default (b ∷ bs) zero less e = e
 marked_default (b ∷ bs) (suc i) less e = marked_default bs i (omega (arith, less)) e
 
-count_within : (bs : List Bool) → count_true bs ≤ length bs
+pub count_within : (bs : List Bool) → count_true bs ≤ length bs
 count_within [] = omega arith
 count_within (true ∷ bs) = omega (arith, count_within bs)
 count_within (false ∷ bs) = omega (arith, count_within bs)
@@ -132,8 +125,8 @@ all_true (false ∷ bs) all i less = absurd (omega (arith, all, count_within bs)
 
 -- Marking one cell
 
-module _ (s : Store) (vs : List Value) (k i : ℕ) (m : Marks) where
-  abbrev marked_one : Marks
+module _ (s : Store) (vs : List Value) (k i : ℕ) (m : Marked) where
+  abbrev marked_one : Marked
   marked_one = record { reached = set m.reached i true; order = m.order ++ i ∷ [] }
 
   still : (us : List Value) → AllNoted s.cells us m → AllNoted s.cells us marked_one
@@ -181,16 +174,16 @@ module _ (s : Store) (vs : List Value) (k i : ℕ) (m : Marks) where
 -- Marking what a value names
 
 -- what is still marked, and what is now
-pub record Noting (s : Store) (vs : List Value) (k : ℕ) (m after : Marks) : Type 0 where
+pub record Noting (s : Store) (vs : List Value) (k : ℕ) (m after : Marked) : Type 0 where
   pub walked : Walked s vs k after
   pub grows : (i : ℕ) → is_marked m i ≡ true → is_marked after i ≡ true
   pub longer : length m.order ≤ length after.order
   pub kept : (j : ℕ) → j < length m.order → get_or after.order j 0 ≡ get_or m.order j 0
 
-unchanged : (s : Store) (vs : List Value) (k : ℕ) (m : Marks) → Walked s vs k m → Noting s vs k m m
+unchanged : (s : Store) (vs : List Value) (k : ℕ) (m : Marked) → Walked s vs k m → Noting s vs k m m
 unchanged s vs k m w = record { walked = w; grows = λ i e. e; longer = omega arith; kept = λ j less. refl }
 
-note_at : (s : Store) (vs : List Value) (k i : ℕ) (m : Marks) → Walked s vs k m → Reach s (cell_at s.cells i).number → i < length s.cells → Noting s vs k m (noted_at (Some i) m) × (is_marked (noted_at (Some i) m) i ≡ true)
+note_at : (s : Store) (vs : List Value) (k i : ℕ) (m : Marked) → Walked s vs k m → Reach s (cell_at s.cells i).number → i < length s.cells → Noting s vs k m (noted_at (Some i) m) × (is_marked (noted_at (Some i) m) i ≡ true)
 note_at s vs k i m w reach less = here (get_or m.reached i true) refl
   where
     here : (b : Bool) → get_or m.reached i true ≡ b → Noting s vs k m (if b then m else record { reached = set m.reached i true; order = m.order ++ i ∷ [] }) × (is_marked (if b then m else record { reached = set m.reached i true; order = m.order ++ i ∷ [] }) i ≡ true)
@@ -205,14 +198,14 @@ found_number n cs i (found c at) = there at
     there (first {c} {cs} is) = (eqb-true c.number n is, omega arith)
     there (further is rest) = ((there rest).0, omega (arith, (there rest).1))
 
-note_found : (s : Store) (vs : List Value) (k n : ℕ) (m : Marks) → Walked s vs k m → Reach s n → (p : Option ℕ) → Position n s.cells p → Noting s vs k m (noted_at p m) × ((i : ℕ) → p ≡ Some i → is_marked (noted_at p m) i ≡ true)
+note_found : (s : Store) (vs : List Value) (k n : ℕ) (m : Marked) → Walked s vs k m → Reach s n → (p : Option ℕ) → Position n s.cells p → Noting s vs k m (noted_at p m) × ((i : ℕ) → p ≡ Some i → is_marked (noted_at p m) i ≡ true)
 note_found s vs k n m w reach None (missing apart) = (unchanged s vs k m w, λ i e. cc)
 note_found s vs k n m w reach (Some i) (found c at) =
     let number : ((cell_at s.cells i).number ≡ n) × (i < length s.cells) = found_number n s.cells i (found c at) in
     let one : Noting s vs k m (noted_at (Some i) m) × (is_marked (noted_at (Some i) m) i ≡ true) = note_at s vs k i m w (subst (Reach s) (sym number.0) reach) number.1 in
     (one.0, λ j e. let same : i ≡ j = cc in subst (λ x. is_marked (noted_at (Some i) m) x ≡ true) same one.1)
 
-note_value : (s : Store) (vs : List Value) (k : ℕ) (m : Marks) (v : Value) → Walked s vs k m → ((n : ℕ) → v ≡ Cell n → Reach s n) → Noting s vs k m (noted s.cells v m) × ((n i : ℕ) → v ≡ Cell n → position_in s.cells n ≡ Some i → is_marked (noted s.cells v m) i ≡ true)
+note_value : (s : Store) (vs : List Value) (k : ℕ) (m : Marked) (v : Value) → Walked s vs k m → ((n : ℕ) → v ≡ Cell n → Reach s n) → Noting s vs k m (noted s.cells v m) × ((n i : ℕ) → v ≡ Cell n → position_in s.cells n ≡ Some i → is_marked (noted s.cells v m) i ≡ true)
 note_value s vs k m Null w reach = (unchanged s vs k m w, λ n i e is. cc)
 note_value s vs k m Uninit w reach = (unchanged s vs k m w, λ n i e is. cc)
 note_value s vs k m Dangling w reach = (unchanged s vs k m w, λ n i e is. cc)
@@ -222,7 +215,7 @@ note_value s vs k m (Cell n) w reach =
     (one.0, λ n' i e is. let same : n ≡ n' = cc in one.1 i (subst (λ x. position_in s.cells x ≡ Some i) (sym same) is))
 
 -- all the values were noted
-pub note_values : (s : Store) (vs us : List Value) (k : ℕ) (m : Marks) → Walked s vs k m → ((n : ℕ) → IsIn (Cell n) us → Reach s n) → Noting s vs k m (noted_all s.cells us m) × AllNoted s.cells us (noted_all s.cells us m)
+pub note_values : (s : Store) (vs us : List Value) (k : ℕ) (m : Marked) → Walked s vs k m → ((n : ℕ) → IsIn (Cell n) us → Reach s n) → Noting s vs k m (noted_all s.cells us m) × AllNoted s.cells us (noted_all s.cells us m)
 note_values s vs [] k m w reach = (unchanged s vs k m w, λ n i here is. absurd here)
 note_values s vs (u ∷ us) k m w reach =
     let one : Noting s vs k m (noted s.cells u m) × ((n i : ℕ) → u ≡ Cell n → position_in s.cells n ≡ Some i → is_marked (noted s.cells u m) i ≡ true) =
@@ -249,11 +242,11 @@ no_mark zero i e = true≢false (sym e)
 no_mark (suc n) zero e = true≢false (sym e)
 no_mark (suc n) (suc i) e = no_mark n i e
 
-count_none : (n : ℕ) → count_true (replicate n false) ≡ 0
+pub count_none : (n : ℕ) → count_true (replicate n false) ≡ 0
 count_none zero = refl
 count_none (suc n) = count_none n
 
-length_filled : (n : ℕ) → length (replicate n false) ≡ n
+pub length_filled : (n : ℕ) → length (replicate n false) ≡ n
 length_filled zero = refl
 length_filled (suc n) = ap suc (length_filled n)
 
@@ -271,7 +264,7 @@ walk_begins s = record {
 }
 
 -- then the values of the variables
-pub walk_vars : (s : Store) (m : Marks) → Walked s [] 0 m → Walked s s.vars 0 (noted_all s.cells s.vars m)
+pub walk_vars : (s : Store) (m : Marked) → Walked s [] 0 m → Walked s s.vars 0 (noted_all s.cells s.vars m)
 walk_vars s m w =
     let all : Noting s [] 0 m (noted_all s.cells s.vars m) × AllNoted s.cells s.vars (noted_all s.cells s.vars m) = note_values s [] s.vars 0 m w (λ n here. by_var here) in
     let after : Walked s [] 0 (noted_all s.cells s.vars m) = all.0.walked in
@@ -288,7 +281,7 @@ in_cells (c ∷ cs) zero less = inl refl
 in_cells (c ∷ cs) (suc i) less = inr (in_cells cs i (omega (arith, less)))
 
 -- the fields of the next marked cell
-pub walk_more : (s : Store) (vs : List Value) (k at : ℕ) (m : Marks) → Walked s vs k m → k < length m.order → at ≡ get_or m.order k 0 → Walked s vs (suc k) (noted_all s.cells (cell_at s.cells at).fields m)
+pub walk_more : (s : Store) (vs : List Value) (k at : ℕ) (m : Marked) → Walked s vs k m → k < length m.order → at ≡ get_or m.order k 0 → Walked s vs (suc k) (noted_all s.cells (cell_at s.cells at).fields m)
 walk_more s vs k at m w less is = record {
   long = after.long;
   within = after.within;
@@ -303,7 +296,7 @@ walk_more s vs k at m w less is = record {
     fields : List Value
     fields = (cell_at s.cells at).fields
 
-    next : Marks
+    next : Marked
     next = noted_all s.cells fields m
 
     marked : is_marked m at ≡ true
@@ -341,7 +334,7 @@ past_end zero (y ∷ ys) x less h = absurd (omega (arith, less))
 past_end (suc k) [] x less h = h
 past_end (suc k) (y ∷ ys) x less h = past_end k ys x (omega (arith, less)) h
 
-module _ (s : Store) (k : ℕ) (m : Marks) (rising : RisesFrom 0 s.cells) (w : Walked s s.vars k m) (ended : length m.order ≤ k) where
+module _ (s : Store) (k : ℕ) (m : Marked) (rising : RisesFrom 0 s.cells) (w : Walked s s.vars k m) (ended : length m.order ≤ k) where
   -- a cell stands at a position of its own
   own_position : (c : CellRec) (cs : List CellRec) (low : ℕ) → RisesFrom low cs → IsIn c cs → (j : ℕ) × (cell_at cs j ≡ c) × (j < length cs)
   own_position c [] low h here = absurd here
@@ -405,5 +398,13 @@ cell_there (c ∷ cs) zero d less = refl
 cell_there (c ∷ cs) (suc i) d less = cell_there cs i d (omega (arith, less))
 
 -- the marked cells are at most all cells
-pub walk_within : (s : Store) (vs : List Value) (k : ℕ) (m : Marks) → Walked s vs k m → length m.order ≤ length s.cells
+pub walk_within : (s : Store) (vs : List Value) (k : ℕ) (m : Marked) → Walked s vs k m → length m.order ≤ length s.cells
 walk_within s vs k m w = omega (arith, w.counted, w.long, count_within m.reached)
+
+-- with one more mark there is still room for each
+pub counted_more : (order : List ℕ) (reached : List Bool) (at room room' : ℕ) → (length order ≡ count_true reached) × (length reached ≤ room) → room ≤ room' → get_or reached at true ≡ false → (length (order ++ at ∷ []) ≡ count_true (set reached at true)) × (length (set reached at true) ≤ room')
+counted_more order reached at room room' h less fresh = (length_append_last order at ∙ ap suc h.0 ∙ sym (set_count reached at fresh), omega (arith, h.1, less, set_length reached at))
+
+-- where one is not marked, there is room for it
+pub fresh_room : (order : List ℕ) (reached : List Bool) (at room : ℕ) → (length order ≡ count_true reached) × (length reached ≤ room) → get_or reached at true ≡ false → length order < room
+fresh_room order reached at room h fresh = omega (arith, h.0, h.1, set_count reached at fresh, set_length reached at, count_within (set reached at true))

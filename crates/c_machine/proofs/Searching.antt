@@ -7,7 +7,7 @@ use Rattle.std.specs.Result.{result_ok}
 use Rattle.std.specs.List.Sorted.{IsBinarySearchResult, IsNonDecreasingBy, IsSearchInRange}
 use Rattle.std.specs.declared.cmp.Ordering.TheVariants.{Less, Equal, Greater}
 use Rattle.fore_base.specs.declared.store.CellRec.{CellRec}
-use Rattle.c_machine.specs.Rising.{RisesFrom, position_in}
+use Rattle.c_machine.specs.inner.Rising.{RisesFrom, position_in}
 
 pub no_cell : CellRec
 no_cell = record { number = 0; shape = 0; datums = []; fields = [] }

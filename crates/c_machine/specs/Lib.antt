@@ -1,4 +1,3 @@
-pub mod Rising
-pub mod Shapes
-pub mod Marking
-pub mod Acts
+pub mod inner
+pub mod Machines
+pub mod Pending

@@ -1,7 +1,6 @@
 ghost use Rattle.std.specs.Prelude.{◌≡◌, ◌+◌, length, IfOk};
-ghost use Rattle.c_types.specs.Program.{targets_in, datums_in};
+ghost use Rattle.fore_base.specs.Shapes.{targets_in, datums_in, fields_at};
 ghost use Rattle.c_types.specs.Steps.{blank};
-ghost use Rattle.c_machine.specs.Shapes.{fields_at};
 
 use fore_base::list::List;
 use fore_base::memory::Mem;

@@ -1,11 +1,11 @@
 ghost use Rattle.std.specs.Prelude.{◌≡◌, map};
-ghost use Rattle.fore_base.specs.Stores.{field_in, with_field, dangle_in, without};
-ghost use Rattle.c_machine.specs.Rising.{RisesFrom};
+ghost use Rattle.fore_base.specs.Stores.{field_in, with_field, datum_in, with_datum, dangle_in, without};
+ghost use Rattle.c_machine.specs.inner.Rising.{RisesFrom};
 
 use crate::search::position_of;
 use crate::values::dangle_all;
 use fore_base::list::List;
-use fore_base::store::{CellRec, Value};
+use fore_base::store::{CellRec, Datum, Value};
 
 /// A field of the cell of a number.
 pub fn field_of(cells: &[CellRec], number: u64, field: u32) -> Value
@@ -26,6 +26,28 @@ pub fn set_field(cells: &mut List<CellRec>, number: u64, field: u32, value: Valu
     if let Some(at) = position_of(cells.as_slice(), number) {
         let cell = cells.at_mut(at);
         cell.fields.set_within(field as usize, value);
+    }
+}
+
+/// A data field of the cell of a number.
+pub fn datum_field_of(cells: &[CellRec], number: u64, field: u32) -> Datum
+    requires { RisesFrom 0 cells.now }
+    ensures { result ≡ datum_in cells.now number field }
+{
+    match position_of(cells, number) {
+        Some(at) => cells[at].datums.get_or(field as usize, Datum::Undefined),
+        None => Datum::Undefined,
+    }
+}
+
+/// Writes a data field of the cell of a number.
+pub fn set_datum_field(cells: &mut List<CellRec>, number: u64, field: u32, datum: Datum)
+    requires { RisesFrom 0 cells.old }
+    ensures { cells.new ≡ with_datum cells.old number field datum }
+{
+    if let Some(at) = position_of(cells.as_slice(), number) {
+        let cell = cells.at_mut(at);
+        cell.datums.set_within(field as usize, datum);
     }
 }
 

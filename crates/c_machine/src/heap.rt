@@ -1,21 +1,24 @@
-ghost use Rattle.std.specs.Prelude.{◌≡◌, ◌<◌, ◌+◌, ◌^◌, MatchResult, IfOk, OnErr, map};
-ghost use Rattle.fore_base.specs.Stores.{var_of, set_var, load, store_at, freed, grown};
+ghost use Rattle.std.specs.Prelude.{◌≡◌, ◌<◌, ◌+◌, ◌^◌, [], length, MatchResult, IfOk, OnErr, map};
+ghost use Rattle.fore_base.specs.Stores.{var_of, set_var, datum_of, set_datum, load, store_at, load_datum, store_datum, kill, freed, grown};
 ghost use Rattle.fore_base.specs.Stores as stores;
 ghost use Rattle.fore_base.specs.Heap.{leaks};
 ghost use Rattle.c_types.specs.Runs.{empty_store};
-ghost use Rattle.c_types.specs.Steps.{blank, all_dead};
+ghost use Rattle.c_types.specs.Steps.{all_dead};
+ghost use Rattle.c_machine.specs.inner.Marking.{HasRoomFor, IsAsRoomy};
+ghost use Rattle.c_machine.specs.inner.Sizes.{IsNoLarger};
+ghost use Rattle.std.specs.Vec.{vec_capacity};
 
-use crate::blank::blank_cell;
-use crate::cells::{end_cell, field_of, set_field};
-use crate::leak::has_leaked;
-use crate::values::{dangle_all, set_all};
+use crate::cells::{datum_field_of, end_cell, field_of, set_datum_field, set_field};
+use crate::leak::{Marks, has_leaked};
+use crate::seats::seated;
+use crate::values::{dangle_all, set_all, set_these};
 use fore_base::fault::Fault;
 use fore_base::list::List;
 use fore_base::memory::Mem;
-use fore_base::shape::Shape;
-use fore_base::store::{Datum, Store, Value};
+use fore_base::store::{CellRec, Datum, Store, Value};
 use std::alloc::Global;
 use std::marker::Model;
+use std::mem::replace;
 
 /// The store of a run, whose cells stand in order of their numbers.
 #[derive(Debug, Drop)]
@@ -25,7 +28,7 @@ pub struct Heap {
 
 impl Model for Heap {
     ghost use Rattle.fore_base.specs.declared.store.Store.{Store};
-    ghost use Rattle.c_machine.specs.Rising.{IsRising};
+    ghost use Rattle.c_machine.specs.inner.Rising.{IsRising};
 
     ghost Value = { Store };
 
@@ -70,6 +73,20 @@ impl Heap {
         &self.store
     }
 
+    /// The number of the next cell to be made.
+    pub fn next(&self) -> u64
+        ensures { result ≡ self.now.next }
+    {
+        self.store.next
+    }
+
+    /// How many cells there are.
+    pub fn count(&self) -> usize
+        ensures { result ≡ length self.now.cells }
+    {
+        self.store.cells.len()
+    }
+
     /// The value of a variable.
     pub fn var(&self, var: u32) -> Value
         ensures { result ≡ var_of self.now var }
@@ -92,21 +109,62 @@ impl Heap {
     }
 
     /// Writes through an arrow. A fault leaves the store as it was.
+    #[tactic(auto, using(crate::proofs::Lengths::lengths))]
     pub fn store_at(&mut self, to: Value, field: u32, value: Value) -> Result<(), Fault>
         ensures result { MatchResult result (λ _. store_at self.old to field value ≡ Ok self.new) (λ fault. store_at self.old to field value ≡ Err fault) }
         ensures err { OnErr result (self.new ≡ self.old) }
-        ensures next { self.new.next ≡ self.old.next }
+        ensures keeps { IsNoLarger self.old self.new }
     {
         let number = followed(to)?;
         set_field(&mut self.store.cells, number, field, value);
         Ok(())
     }
 
+    /// The value of a data variable.
+    pub fn datum(&self, var: u32) -> Datum
+        ensures { result ≡ datum_of self.now var }
+    {
+        self.store.data_vars.get_or(var as usize, Datum::Undefined)
+    }
+
+    pub fn set_datum(&mut self, var: u32, datum: Datum)
+        ensures { self.new ≡ set_datum self.old var datum }
+    {
+        self.store.data_vars.set_within(var as usize, datum)
+    }
+
+    /// Follows an arrow to a datum.
+    pub fn load_datum(&self, from: Value, field: u32) -> Result<Datum, Fault>
+        ensures { result ≡ load_datum self.now from field }
+    {
+        let number = followed(from)?;
+        Ok(datum_field_of(self.store.cells.as_slice(), number, field))
+    }
+
+    /// Writes a datum through an arrow. A fault leaves the store as it was.
+    #[tactic(auto, using(crate::proofs::Lengths::lengths))]
+    pub fn store_datum(&mut self, to: Value, field: u32, datum: Datum) -> Result<(), Fault>
+        ensures result { MatchResult result (λ _. store_datum self.old to field datum ≡ Ok self.new) (λ fault. store_datum self.old to field datum ≡ Err fault) }
+        ensures keeps { IsNoLarger self.old self.new }
+    {
+        let number = followed(to)?;
+        set_datum_field(&mut self.store.cells, number, field, datum);
+        Ok(())
+    }
+
+    /// Lets these variables die.
+    pub fn kill(&mut self, ptrs: &[u32], datums: &[u32])
+        ensures { self.new ≡ kill ptrs.now datums.now self.old }
+    {
+        set_these(&mut self.store.vars, ptrs, Value::Uninit);
+        set_these(&mut self.store.data_vars, datums, Datum::Undefined)
+    }
+
     /// Ends the cell to which a value points, as `free` does. A fault leaves the store as it was.
     pub fn free(&mut self, value: Value) -> Result<(), Fault>
         ensures result { MatchResult result (λ _. freed self.old value ≡ Ok self.new) (λ fault. freed self.old value ≡ Err fault) }
         ensures err { OnErr result (self.new ≡ self.old) }
-        ensures next { self.new.next ≡ self.old.next }
+        ensures keeps { IsNoLarger self.old self.new }
     {
         match value {
             Value::Null => Ok(()),
@@ -119,31 +177,39 @@ impl Heap {
         }
     }
 
+    #[tactic(auto, using(crate::proofs::Lengths::lengths))]
     fn end(&mut self, number: u64)
-        ensures { freed self.old (Value.Cell number) ≡ Ok self.new }
+        ensures freed { freed self.old (Value.Cell number) ≡ Ok self.new }
+        ensures keeps { IsNoLarger self.old self.new }
     {
         dangle_all(&mut self.store.vars, number);
         end_cell(&mut self.store.cells, number)
     }
 
-    /// Makes a new cell of a struct, and gives its number. Without memory for it the store stays as it was.
-    pub fn grow(&mut self, alloc: Global, shapes: &[Shape], shape: u32) -> Mem<u64>
-        requires { self.old.next + 1 < 2 ^ 64 }
-        ensures ok { IfOk result (λ number. (number ≡ self.old.next) × (self.new ≡ grown self.old (blank shapes.now self.old.next shape))) }
-        ensures err { OnErr result (self.new ≡ self.old) }
+    /// Adds a new cell, for which there are seats, and gives its number.
+    pub fn grow(&mut self, alloc: Global, seats: &mut Vec<CellRec>, cell: CellRec) -> u64
+        requires below { self.old.next + 1 < 2 ^ 64 }
+        requires number { cell.number ≡ self.old.next }
+        requires empty { seats.old.items ≡ [] }
+        requires room { length self.old.cells < vec_capacity seats.old }
+        ensures number { result ≡ self.old.next }
+        ensures grown { self.new ≡ grown self.old cell }
+        ensures empty { seats.new.items ≡ [] }
     {
         let number = self.store.next;
-        let cell = blank_cell(alloc, shapes, number, shape)?;
-        self.store.cells.push(cell)?;
+        let cells = replace(&mut self.store.cells, List::new(alloc));
+        self.store.cells = seated(seats, cells, cell);
         self.store.next = number + 1;
-        Ok(number)
+        number
     }
 
     /// Whether some cell cannot be reached from the variables.
-    pub fn leaks(&self, alloc: Global) -> Mem<bool>
-        ensures { IfOk result (λ leaked. leaked ≡ leaks self.now) }
+    pub fn leaks(&self, marks: &mut Marks) -> bool
+        requires { HasRoomFor (length self.now.cells) marks.old }
+        ensures leaked { result ≡ leaks self.now }
+        ensures room { IsAsRoomy marks.old marks.new }
     {
-        has_leaked(alloc, &self.store)
+        has_leaked(marks, &self.store)
     }
 
     /// Lets all variables die.

@@ -1,6 +1,7 @@
 ghost use Rattle.std.specs.Prelude.{◌≡◌, MatchResult};
 ghost use Rattle.fore_base.specs.Stores.{var_of, write_from};
 ghost use Rattle.c_types.specs.Steps.{read, write_path};
+ghost use Rattle.c_machine.specs.inner.Sizes.{IsNoLarger};
 
 use crate::heap::Heap;
 use c_types::program::Path;
@@ -21,7 +22,7 @@ pub fn read(heap: &Heap, path: &Path) -> Result<Value, Fault>
 /// Writes at the end of a path: the arrows before the last one are followed, then the last arrow and the write.
 pub fn write(heap: &mut Heap, path: &Path, value: Value) -> Result<(), Fault>
     ensures result { MatchResult result (λ _. write_path heap.old path.now.var path.now.fields value ≡ Ok heap.new) (λ fault. write_path heap.old path.now.var path.now.fields value ≡ Err fault) }
-    ensures next { heap.new.next ≡ heap.old.next }
+    ensures keeps { IsNoLarger heap.old heap.new }
 {
     match path.fields.as_slice().split_first() {
         Some((first, others)) => write_from(heap, path.var, *first, others, value),
@@ -40,7 +41,7 @@ fn write_from(
     value: Value,
 ) -> Result<(), Fault>
     ensures result { MatchResult result (λ _. write_from heap.old (var_of heap.old var) first others.now value ≡ Ok heap.new) (λ fault. write_from heap.old (var_of heap.old var) first others.now value ≡ Err fault) }
-    ensures next { heap.new.next ≡ heap.old.next }
+    ensures keeps { IsNoLarger heap.old heap.new }
 {
     let mut base = heap.var(var);
     let mut field = first;

@@ -1,93 +1,96 @@
-ghost use Rattle.std.specs.Prelude.{◌≡◌, ◌<◌, ◌≤◌, ◌+◌, ◌-◌, ◌^◌, ◌⊎◌, ℕ, suc, true, List, IfOk, map};
-ghost use Rattle.c_types.specs.Program.{Program};
-ghost use Rattle.c_types.specs.Plain.{act_is_plain, act_is_return, does, lines_are_plain, lines_in, is_plain};
-ghost use Rattle.c_types.specs.Control.{Items, items_of, all_before};
-ghost use Rattle.c_types.specs.Runs.{go, run, at_end, own_line};
-ghost use Rattle.c_machine.specs.Acts.{outcome_after};
+//! Runs of a program on a list of choices.
 
-use crate::act::{ActTurn, take_act};
-use crate::heap::Heap;
+ghost use Rattle.std.specs.Prelude.{◌≡◌, ◌<◌, ◌≤◌, ◌+◌, ◌-◌, ◌^◌, ℕ, suc, List, drop, length, IfOk, IfSome, MatchResult, Some, None};
+ghost use Rattle.c_types.specs.declared.outcome.Outcome.{Outcome as Out};
+ghost use Rattle.c_types.specs.Steps.{takes};
+ghost use Rattle.c_types.specs.Runs.{supply, run};
+ghost use Rattle.c_machine.specs.Machines.{todo, store_of, over_of, spare_of, program_of, chosen};
+ghost use Rattle.c_machine.specs.inner.Going.{going, or_none};
+
+use crate::state::{Machine, Turn};
 use c_types::outcome::Outcome;
-use c_types::program::{Stmt, Typed};
+use c_types::program::Typed;
 use fore_base::memory::Mem;
-use fore_base::shape::Shape;
 use std::alloc::Global;
 
-/// The run of a plain program on these choices, of at most `limit` steps. A plain program takes no choice.
+/// The run of a program on these choices, of at most `limit` steps.
+///
+/// # Errors
+///
+/// Want of memory.
 pub fn run(alloc: Global, program: &Typed, choices: &[u8], limit: u64) -> Mem<Outcome>
-    requires plain { is_plain program.now ≡ true }
     requires below { limit < 2 ^ 64 - 1 }
     ensures { IfOk result (λ outcome. outcome ≡ run program.now choices.now limit) }
 {
-    let _choices = choices;
-    let heap = Heap::empty(alloc, program.vars.len(), program.data_vars.len())?;
-    let outcome = run_lines(
-        alloc,
-        heap,
-        program.shapes.structs.as_slice(),
-        lines_of(program),
-        limit,
-    )?;
-    Ok(outcome)
-}
-
-fn run_lines(
-    alloc: Global,
-    heap: Heap,
-    shapes: &[Shape],
-    lines: &[Stmt],
-    limit: u64,
-) -> Mem<Outcome>
-    requires plain { lines_are_plain lines.now ≡ true }
-    requires room { heap.next + limit < 2 ^ 64 }
-    ensures { IfOk result (λ outcome. (rest : Items) (choices : List ℕ) → go shapes.now own_line at_end limit 0 (all_before (map items_of lines.now) rest) heap choices 0 ≡ outcome) }
-{
-    let mut heap = heap;
-    let mut left = limit;
-    for stmt in lines {
-        if left == 0 {
-            return Ok(Outcome::StillRunning);
-        }
-        left -= 1;
-        let (turn, line) = take_line(alloc, &mut heap, shapes, stmt)?;
-        match turn {
-            ActTurn::Next => {}
-            ActTurn::Fault(kind) => {
-                return Ok(Outcome::Fault {
-                    kind,
-                    line,
-                    step: limit - left,
-                });
-            }
-            ActTurn::Ended => return Ok(Outcome::Ended { step: limit - left }),
+    let mut machine = Machine::new(alloc, program)?;
+    let mut used = 0;
+    for step in 0..limit {
+        machine.reserve()?;
+        match take_one(&mut machine, choices, &mut used, step) {
+            Ok(()) => {}
+            Err(outcome) => return Ok(outcome),
         }
     }
-    unreachable!()
+    machine.reserve()?;
+    if machine.is_done() {
+        return Ok(Outcome::Ended { step: limit });
+    }
+    Ok(Outcome::StillRunning)
 }
 
-/// The statements of a plain program's one block.
-fn lines_of(program: &Typed) -> &[Stmt]
-    ensures { result.now ≡ lines_in program.now.body }
+/// The choice of a step, where it needs one, or how the run comes out for want of one. `used` counts the choices.
+fn supply(needed: bool, choices: &[u8], used: &mut usize, step: u64) -> Result<Option<u8>, Outcome>
+    requires used { used.old ≤ length choices.now }
+    ensures given { MatchResult result (λ choice. (next : ℕ → List ℕ → ℕ → Out) → supply needed (drop used.old choices.now) step used.old next ≡ next (or_none choice) (drop used.new choices.now) used.new) (λ outcome. (next : ℕ → List ℕ → ℕ → Out) → supply needed (drop used.old choices.now) step used.old next ≡ outcome) }
+    ensures choice { IfOk result (λ choice. (chosen needed choice ≡ Some (or_none choice)) × IfSome choice (λ x. x < 2)) }
+    ensures used { used.new ≤ length choices.now }
 {
-    match program.body.as_slice() {
-        [Stmt::Group { body, .. }] => body.as_slice(),
-        _ => &[],
+    if !needed {
+        return Ok(None);
+    }
+    match choices.get(*used) {
+        None => Err(Outcome::Starved { step }),
+        Some(choice) => if *choice < 2 {
+            *used += 1;
+            Ok(Some(*choice))
+        } else {
+            Err(Outcome::BadChoice {
+                index: *used as u64,
+            })
+        },
     }
 }
 
-/// Takes the step of one statement of a plain program, and gives its line.
-fn take_line(alloc: Global, heap: &mut Heap, shapes: &[Shape], stmt: &Stmt) -> Mem<(ActTurn, u32)>
-    requires plain { (does act_is_plain stmt.now ≡ true) ⊎ (does act_is_return stmt.now ≡ true) }
-    requires room { heap.old.next + 1 < 2 ^ 64 }
-    ensures turn { IfOk result (λ took. (left step : ℕ) (rest : Items) (choices : List ℕ) → go shapes.now own_line at_end (suc left) step (items_of stmt.now rest) heap.old choices 0 ≡ outcome_after took.0 took.1 (step + 1) (go shapes.now own_line at_end left (step + 1) rest heap.new choices 0)) }
-    ensures ends { IfOk result (λ took. does act_is_return stmt.now ≡ true → took.0 ≡ ActTurn.Next → ⊥) }
-    ensures next { heap.new.next ≤ heap.old.next + 1 }
+/// Takes one step of a run, or says how the run comes out.
+fn take_one(
+    machine: &mut Machine,
+    choices: &[u8],
+    used: &mut usize,
+    step: u64,
+) -> Result<(), Outcome>
+    requires spare { 0 < spare_of machine.old }
+    requires over { over_of machine.old ≡ None }
+    requires below { (store_of machine.old).next + 1 < 2 ^ 64 }
+    requires step { step + 1 < 2 ^ 64 }
+    requires used { used.old ≤ length choices.now }
+    ensures goes { MatchResult result (λ _. (left : ℕ) → going (program_of machine.old).shapes.structs (suc left) step (todo machine.old) (store_of machine.old) (drop used.old choices.now) used.old ≡ going (program_of machine.old).shapes.structs left (step + 1) (todo machine.new) (store_of machine.new) (drop used.new choices.now) used.new) (λ outcome. (left : ℕ) → going (program_of machine.old).shapes.structs (suc left) step (todo machine.old) (store_of machine.old) (drop used.old choices.now) used.old ≡ outcome) }
+    ensures over { IfOk result (λ _. over_of machine.new ≡ None) }
+    ensures program { program_of machine.new ≡ program_of machine.old }
+    ensures next { (store_of machine.new).next ≤ (store_of machine.old).next + 1 }
+    ensures used { used.new ≤ length choices.now }
 {
-    match stmt {
-        Stmt::Do { act, line } => {
-            let turn = take_act(alloc, heap, shapes, act)?;
-            Ok((turn, *line))
-        }
-        _ => unreachable!(),
+    if machine.is_done() {
+        return Err(Outcome::Ended { step });
+    }
+    let choice = supply(machine.needs_choice(), choices, used, step + 1)?;
+    match machine.step(choice) {
+        Turn::Next => Ok(()),
+        Turn::Fault { kind, line } => Err(Outcome::Fault {
+            kind,
+            line,
+            step: step + 1,
+        }),
+        Turn::Ended => Err(Outcome::Ended { step: step + 1 }),
+        Turn::NeedsChoice => unreachable!(),
     }
 }

@@ -1,5 +1,5 @@
 ghost use Rattle.std.specs.Prelude.{◌≡◌, ◌<◌, length, IfSome};
-ghost use Rattle.c_machine.specs.Rising.{RisesFrom, position_in};
+ghost use Rattle.c_machine.specs.inner.Rising.{RisesFrom, position_in};
 
 use fore_base::store::CellRec;
 

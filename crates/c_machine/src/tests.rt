@@ -5,7 +5,7 @@
 ghost use Rattle.std.specs.Prelude.{◌≡◌, ◌<◌, ℕ, true, false, List, Some, IfOk, length, map};
 ghost use Rattle.fore_base.specs.declared.shape.Shape.{Shape as ShapeOf};
 ghost use Rattle.c_types.specs.declared.program.VarDef.{VarDef as VarDefOf};
-ghost use Rattle.c_types.specs.Program.{shapes_typed, vars_typed, field_target, var_target, path_target, act_typed, stmt_typed, each_typed};
+ghost use Rattle.c_types.specs.Program.{Outside, shapes_typed, vars_typed, field_target, var_target, path_target, act_typed, stmt_typed, each_typed};
 ghost use Rattle.c_types.specs.Plain.{at_most_one, act_is_plain, lines_are_plain, is_plain};
 
 use crate::run::run;
@@ -70,7 +70,7 @@ fn path_of(alloc: Global, place: Place) -> Mem<Path>
 
 fn act_of(alloc: Global, line: Line) -> Mem<Act>
     ensures plain { IfOk result (λ act. act_is_plain act ≡ true) }
-    ensures typed { IfOk result (λ act. (shapes : List ShapeOf) (vars : List VarDefOf) → field_target shapes 0 0 ≡ Some 0 → ((x : ℕ) → x < 2 → var_target vars x ≡ Some 0) → act_typed shapes vars 0 act false ≡ true) }
+    ensures typed { IfOk result (λ act. (shapes : List ShapeOf) (vars : List VarDefOf) → field_target shapes 0 0 ≡ Some 0 → ((x : ℕ) → x < 2 → var_target vars x ≡ Some 0) → act_typed shapes vars 0 act Outside ≡ true) }
 {
     match line {
         Line::New(place) => {
@@ -98,7 +98,7 @@ fn act_of(alloc: Global, line: Line) -> Mem<Act>
 
 fn lines_of(alloc: Global, lines: &[Line]) -> Mem<List<Stmt>>
     ensures plain { IfOk result (λ body. lines_are_plain body ≡ true) }
-    ensures typed { IfOk result (λ body. (shapes : List ShapeOf) (vars : List VarDefOf) → field_target shapes 0 0 ≡ Some 0 → ((x : ℕ) → x < 2 → var_target vars x ≡ Some 0) → each_typed shapes vars 0 (map (stmt_typed shapes vars 0) body) false ≡ true) }
+    ensures typed { IfOk result (λ body. (shapes : List ShapeOf) (vars : List VarDefOf) → field_target shapes 0 0 ≡ Some 0 → ((x : ℕ) → x < 2 → var_target vars x ≡ Some 0) → each_typed shapes vars 0 (map (stmt_typed shapes vars 0) body) Outside ≡ true) }
 {
     let mut body = List::new(alloc);
     let mut number = 10u32;

@@ -37,3 +37,12 @@ pub fn set_all<T: Copy>(list: &mut List<T>, item: T)
         list.set_within(i, item);
     }
 }
+
+/// Sets the items at these places; nothing at one past the end.
+pub fn set_these<T: Copy>(list: &mut List<T>, places: &[u32], item: T)
+    ensures { list.new ≡ set_each list.old places.now item }
+{
+    for place in places {
+        list.set_within(*place as usize, item);
+    }
+}

@@ -10,7 +10,7 @@ use Rattle.fore_base.specs.declared.store.CellRec.{CellRec}
 use Rattle.fore_base.specs.Lists.{Every}
 use Rattle.fore_base.specs.Stores.{set_each, field_in, with_field, with_datum, dangle, dangle_in, without}
 use Rattle.fore_base.specs.Heap.{HasCell, NamesCell, AllDiffer}
-use Rattle.c_types.specs.Program.{targets_of}
+use Rattle.fore_base.specs.Shapes.{targets_of}
 use Rattle.c_types.specs.Fits.{HasCellOf, PointsTo, PointsToEach, CellFits}
 use Rattle.c_types.proofs.CellsKept.{cell_of_is, without_cell_of}
 

@@ -16,7 +16,8 @@ use Rattle.fore_base.specs.Stores.{onward, var_of, set_var, set_datum, kill, fol
 use Rattle.fore_base.specs.Heap.{NamesCell, AllDiffer, IsProper}
 use Rattle.c_types.specs.declared.program.Path.{Path}
 use Rattle.c_types.specs.declared.program.VarDef.{VarDef}
-use Rattle.c_types.specs.Program.{Program, targets_in, targets_of, datums_of, all_below, shapes_typed, vars_typed, var_target, target_after, path_target}
+use Rattle.fore_base.specs.Shapes.{targets_in, targets_of, datums_of}
+use Rattle.c_types.specs.Program.{Program, all_below, shapes_typed, vars_typed, var_target, target_after, path_target}
 use Rattle.c_types.specs.Steps.{read, write_path, blank}
 use Rattle.c_types.specs.Runs.{empty_store}
 use Rattle.c_types.specs.Fits.{HasCellOf, PointsTo, PointsToEach, var_targets, CellFits, FitsProgram}

@@ -1,4 +1,5 @@
 pub mod Advancing
+pub mod Turns
 pub mod Plains
 pub mod RunLaws
 pub mod CellsFit
@@ -6,3 +7,11 @@ pub mod CellsKept
 pub mod Fitting
 pub mod ItemsTyped
 pub mod StepLaws
+pub mod Layers
+pub mod Rows
+pub mod LeakKept
+pub mod OneWayItems
+pub mod OneWayPrograms
+pub mod ChoiceLaws
+pub mod LeakTests
+pub mod LeakGained

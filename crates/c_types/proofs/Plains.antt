@@ -1,7 +1,6 @@
 -- Plain programs: their items, one for each statement, and their runs, which take no choice.
-use Rattle.std.proofs.Common.{◌≡◌, ◌≤◌, ℕ, zero, suc, ◌+◌, Bool, true, false, if◌then◌else◌, Result, Ok, Err, Some, None, List, [], ◌∷◌, length, map, refl, sym, ap, ◌∙◌, subst, true≢false, arith}
+use Rattle.std.proofs.Common.{◌≡◌, ◌≤◌, ℕ, zero, suc, ◌+◌, Bool, true, false, if◌then◌else◌, Some, None, List, [], ◌∷◌, length, map, refl, sym, ap, ◌∙◌, subst, true≢false, arith}
 use Rattle.std.proofs.lemmas.Bool.{and_parts}
-use Rattle.fore_base.specs.declared.fault.Fault.{Fault as Kind}
 use Rattle.fore_base.specs.declared.fault.Fault.TheVariants.{Leak}
 use Rattle.fore_base.specs.declared.shape.Shape.{Shape}
 use Rattle.fore_base.specs.declared.store.Store.{Store}
@@ -10,23 +9,14 @@ use Rattle.c_types.specs.declared.program.Act.{Act}
 use Rattle.c_types.specs.declared.program.Act.TheVariants.{SetPtr, SetData, Free, Error, Halt, Return, Break, Continue}
 use Rattle.c_types.specs.declared.program.Stmt.{Stmt, Stmt-F, out-Stmt, map-Stmt, fold_out-Stmt}
 use Rattle.c_types.specs.declared.program.Stmt.TheOpen.{Do as Do-F, Branch as Branch-F, While as While-F, DoWhile as DoWhile-F, For as For-F, Group as Group-F}
-use Rattle.c_types.specs.declared.outcome.Outcome.{Outcome}
 use Rattle.c_types.specs.Program.{Program}
 use Rattle.c_types.specs.Plain.{act_is_plain, act_is_return, layer_does, does, lines_are_plain, layer_inside, lines_in, is_plain}
-use Rattle.c_types.specs.Control.{Items, Done, Do, Close, If, Loop, Again, DoLoop, DoAgain, ◌then◌, all_before, closes, items_step, items_of, start_of}
-use Rattle.c_types.specs.Steps.{Turn, Goes, Stops, Faults, settle, settled, all_dead, act_turn, act_takes}
+use Rattle.c_types.specs.Control.{Items, Done, Do, ◌then◌, all_before, closes, items_step, items_of, start_of}
+use Rattle.c_types.specs.Steps.{Goes, Stops, Faults, all_dead, act_turn, act_takes}
 use Rattle.c_types.specs.Runs.{supply, after_turn, at_end, go}
 use Rattle.c_types.specs.Over.{IsOver}
-
-pub then_done : (is : Items) → is then Done ≡ is
-then_done Done = refl
-then_done (Do a m is) = ap (Do a m) (then_done is)
-then_done (Close ps ds m is) = ap (Close ps ds m) (then_done is)
-then_done (If c x y is) = ap (If c x y) (then_done is)
-then_done (Loop c n b is) = ap (Loop c n b) (then_done is)
-then_done (Again c n b is) = ap (Again c n b) (then_done is)
-then_done (DoLoop c b is) = ap (DoLoop c b) (then_done is)
-then_done (DoAgain c b is) = ap (DoAgain c b) (then_done is)
+pub use Rattle.c_types.proofs.Turns.{then_done}
+use Rattle.c_types.proofs.Turns.{settled_goes, turn_alike, turn_over}
 
 -- a statement's items, by its outer layer
 pub items_layer : (s : Stmt) (r : Items) → items_of s r ≡ items_step (map-Stmt Stmt (Items → Items) items_of (out-Stmt s)) r
@@ -103,17 +93,6 @@ plain_items p e = subst (PlainItems (length (lines_in p.body))) (sym (plain_star
 
 -- Steps of plain items
 
-settle_goes : (s : Store) (is js : Items) (t : Store) → settle s is ≡ Goes js t → js ≡ is
-settle_goes s is js t e = here (leaks s) refl
-  where
-    here : (b : Bool) → leaks s ≡ b → js ≡ is
-    here true leak = let wrong : Faults Leak ≡ Goes js t = rw leak at e in cc
-    here false fine = let goes : Goes is s ≡ Goes js t = rw fine at e in cc
-
-pub settled_goes : (r : Result Store Kind) (is js : Items) (t : Store) → settled r is ≡ Goes js t → js ≡ is
-settled_goes (Ok s) is js t e = settle_goes s is js t e
-settled_goes (Err k) is js t e = cc
-
 module _ (shapes : List Shape) where
   pub plain_goes : (a : Act) (is js : Items) (s t : Store) (x : ℕ) → act_is_plain a ≡ true → act_turn shapes a is s x ≡ Goes js t → js ≡ is
   plain_goes (SetPtr to from) is js s t x plain e = settled_goes _ is js t e
@@ -161,17 +140,6 @@ return_takes Break e = refl
 return_takes Continue e = refl
 
 -- Runs of plain items
-
--- what comes after a turn matters only where the turn goes on
-turn_alike : (t : Turn) (line step : ℕ) (f g : Items → Store → Outcome) → ((js : Items) (u : Store) → t ≡ Goes js u → f js u ≡ g js u) → after_turn t line step f ≡ after_turn t line step g
-turn_alike (Goes is s) line step f g same = same is s refl
-turn_alike Stops line step f g same = refl
-turn_alike (Faults k) line step f g same = refl
-
-turn_over : (t : Turn) (line step : ℕ) (f : Items → Store → Outcome) → ((js : Items) (u : Store) → t ≡ Goes js u → IsOver (f js u)) → IsOver (after_turn t line step f)
-turn_over (Goes is s) line step f over = over is s refl
-turn_over Stops line step f over = tt
-turn_over (Faults k) line step f over = tt
 
 module _ (shapes : List Shape) (line : ℕ → ℕ) where
   -- a step of an act that takes no choice

@@ -32,7 +32,7 @@ pub run_over : (p : Program) → is_plain p ≡ true → (cs : List ℕ) (n : �
 unfolding run
 run_over p plain cs n less = plain_over p.shapes.structs own_line n 0 (empty_store (length p.vars) (length p.data_vars)) cs 0 (plain_items p plain) less
 
-fault_over : (o : Outcome) → IsFault o → IsOver o
+pub fault_over : (o : Outcome) → IsFault o → IsOver o
 fault_over (Ended step) h = absurd h
 fault_over (Fault kind at step) h = tt
 fault_over (Starved step) h = absurd h

@@ -43,30 +43,31 @@ abbrev pub ◌then◌ : Items → Items → Items
 ◌then◌ (DoLoop c b is) r = DoLoop c b (is then r)
 ◌then◌ (DoAgain c b is) r = DoAgain c b (is then r)
 
--- A test opens to its first atom; `&&` and `||` go from the left and stop early (6.5.13, 6.5.14).
+-- A test opens to its first atom; `!` changes the sides, `&&` and `||` go from the left and stop early (6.5.3.3, 6.5.13, 6.5.14).
 abbrev pub ask : Test → Items → Items → Items → Items
 ask (Ask a m) x y r = If (Ask a m) x y r
 ask (Not c) x y r = ask c y x r
 ask (Both c d) x y r = ask c (If d x y Done) y r
 ask (Either c d) x y r = ask c x (If d x y Done) r
 
--- the yes side of a loop's test
-abbrev pub turn : Test → Items → Items → Items
-turn c n b = b then Again c n b Done
+-- a round of `while` or `for`: the yes side of its test (6.8.5.1, 6.8.5.3)
+abbrev pub round : Test → Items → Items → Items
+round c n b = b then Again c n b Done
 
-abbrev pub do_turn : Test → Items → Items
-do_turn c b = b then DoAgain c b Done
+-- a round of `do` (6.8.5.2)
+abbrev pub do_round : Test → Items → Items
+do_round c b = b then DoAgain c b Done
 
--- Opens the front of some items that stand before others, given what the others open to.
+-- Opens the front of some items that stand before others, `r`, given what those open to, `o`. Opening takes no step.
 abbrev pub open_before : Items → Items → Items → Items
 open_before Done r o = o
 open_before (Do a m is) r o = Do a m (is then r)
 open_before (Close ps ds m is) r o = Close ps ds m (is then r)
 open_before (If c x y is) r o = ask c x y (is then r)
-open_before (Loop c n b is) r o = ask c (turn c n b) Done (is then r)
-open_before (Again c n b is) r o = open_before n (Loop c n b (is then r)) (ask c (turn c n b) Done (is then r))
-open_before (DoLoop c b is) r o = open_before b (DoAgain c b (is then r)) (ask c (do_turn c b) Done (is then r))
-open_before (DoAgain c b is) r o = ask c (do_turn c b) Done (is then r)
+open_before (Loop c n b is) r o = ask c (round c n b) Done (is then r)
+open_before (Again c n b is) r o = open_before n (Loop c n b (is then r)) (ask c (round c n b) Done (is then r))
+open_before (DoLoop c b is) r o = open_before b (DoAgain c b (is then r)) (ask c (do_round c b) Done (is then r))
+open_before (DoAgain c b is) r o = ask c (do_round c b) Done (is then r)
 
 -- the list with its front opened: it begins with an act, the test of an atom or a Close, or is Done
 abbrev pub opened : Items → Items
@@ -97,8 +98,9 @@ from_again (DoAgain c b is) = DoAgain c b is
 -- a rising list with one number more
 abbrev pub insert : ℕ → List ℕ → List ℕ
 insert n [] = n ∷ []
-insert n (m ∷ ms) = if nat_lt n m then n ∷ (m ∷ ms) else m ∷ insert n ms
+insert n (m ∷ ms) = if nat_lt n m then n ∷ m ∷ ms else m ∷ insert n ms
 
+-- two rising lists as one
 abbrev pub merged : List ℕ → List ℕ → List ℕ
 merged [] ms = ms
 merged (n ∷ ns) ms = insert n (merged ns ms)
@@ -130,11 +132,12 @@ closed_datums (DoAgain c b is) = []
 abbrev pub joined : (Test → Test → Test) → List Test → Test
 joined join [] = Ask (KnownAtom true) 0
 joined join (c ∷ []) = c
-joined join (c ∷ (d ∷ ds)) = join c (joined join (d ∷ ds))
+joined join (c ∷ d ∷ ds) = join c (joined join (d ∷ ds))
 
+-- a condition's test, by its outer part
 abbrev pub test_step : Cond-F Test → Test
 test_step (Atom-F a line) = Ask a line
-test_step (Not-F c) = Not c.value
+test_step (Not-F c) = Not c
 test_step (All-F cs) = joined Both cs
 test_step (Any-F cs) = joined Either cs
 
@@ -146,13 +149,13 @@ abbrev pub all_before : List (Items → Items) → Items → Items
 all_before [] r = r
 all_before (f ∷ fs) r = f (all_before fs r)
 
--- a block that declares no variable has no Close
+-- the end of a block: the variables that it declares die (6.2.4); a block that declares none has no Close
 abbrev pub closes : List ℕ → List ℕ → ℕ → Items → Items
 closes [] [] m r = r
 closes [] (d ∷ ds) m r = Close [] (d ∷ ds) m r
 closes (p ∷ ps) ds m r = Close (p ∷ ps) ds m r
 
--- a statement's items, before others
+-- a statement's items, before others, by its outer part (6.8.2, 6.8.4, 6.8.5)
 abbrev pub items_step : Stmt-F (Items → Items) → Items → Items
 items_step (Do-F a line) r = Do a line r
 items_step (Branch-F c x y) r = If (test_of c) (all_before x Done) (all_before y Done) r

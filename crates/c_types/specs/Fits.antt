@@ -2,13 +2,14 @@
 use Rattle.std.specs.Prelude.{◌≡◌, ◌<◌, ◌⊎◌, ℕ, true, List, [], ◌∷◌, length}
 use Rattle.fore_base.specs.declared.shape.Shape.{Shape}
 use Rattle.fore_base.specs.declared.store.Value.{Value}
-use Rattle.fore_base.specs.declared.store.Value.TheVariants.{Null, Uninit, Dangling, Cell}
+use Rattle.fore_base.specs.declared.store.Value.TheVariants.{Cell}
 use Rattle.fore_base.specs.declared.store.CellRec.{CellRec}
 use Rattle.fore_base.specs.declared.store.Store.{Store}
 use Rattle.fore_base.specs.Lists.{Every}
 use Rattle.c_types.specs.declared.program.VarDef.{VarDef}
 use Rattle.c_types.specs.declared.program.Act.{Act}
-use Rattle.c_types.specs.Program.{Program, targets_of, datums_of, act_typed}
+use Rattle.fore_base.specs.Shapes.{targets_of, datums_of}
+use Rattle.c_types.specs.Program.{Program, InBody, act_typed}
 use Rattle.c_types.specs.Control.{Items, Done, Do, Close, If, Loop, Again, DoLoop, DoAgain, opened, start_of}
 use Rattle.c_types.specs.Steps.{Goes, turn_of}
 use Rattle.c_types.specs.Runs.{empty_store}
@@ -20,10 +21,8 @@ HasCellOf (c ∷ cs) n shape = ((c.number ≡ n) × (c.shape ≡ shape)) ⊎ Has
 
 -- a value that names a cell names one of this struct
 abbrev pub PointsTo : List CellRec → ℕ → Value → Type 0
-PointsTo cs shape Null = Unit {0}
-PointsTo cs shape Uninit = Unit {0}
-PointsTo cs shape Dangling = Unit {0}
 PointsTo cs shape (Cell n) = HasCellOf cs n shape
+PointsTo cs shape _ = Unit {0}
 
 -- there is a value for each of these structs, and it points to its struct
 abbrev pub PointsToEach : List CellRec → List ℕ → List Value → Type 0
@@ -55,9 +54,9 @@ pub data Visited (p : Program) : Items → Store → Type 0 where
   start : Visited p (start_of p) (empty_store (length p.vars) (length p.data_vars))
   step : {is js : Items} {s t : Store} (choice : ℕ) → Visited p is s → turn_of p.shapes.structs (opened is) s choice ≡ Goes js t → Visited p js t
 
--- an act is one of the program's, inside or outside a loop
+-- an act is one of the program's, wherever it stands
 abbrev pub ActFits : Program → Act → Type 0
-ActFits p a = act_typed p.shapes.structs p.vars (length p.data_vars) a true ≡ true
+ActFits p a = act_typed p.shapes.structs p.vars (length p.data_vars) a InBody ≡ true
 
 -- each act of the items is one of the program's
 abbrev pub ItemsFit : Program → Items → Type 0

@@ -1,10 +1,9 @@
 -- Programs as contracts see them, and when one is well typed.
-use Rattle.std.specs.Prelude.{ℕ, zero, suc, List, [], ◌∷◌, map, length, Bool, true, false, ◌&&◌, nat_eq, nat_lt, Option, Some, None, is_some, slice_get}
-use Rattle.fore_base.specs.declared.shape.FieldKind.{FieldKind}
-use Rattle.fore_base.specs.declared.shape.FieldKind.TheVariants.{Pointer, Datum}
-use Rattle.fore_base.specs.declared.shape.FieldDef.{FieldDef}
+use Rattle.std.specs.Prelude.{ℕ, zero, suc, List, [], ◌∷◌, map, length, Bool, true, false, ◌&&◌, nat_eq, nat_lt, nat_le, Option, Some, None, is_some, slice_get}
 use Rattle.fore_base.specs.declared.shape.Shape.{Shape}
 use Rattle.fore_base.specs.declared.shape.Shapes.{Shapes}
+use Rattle.fore_base.specs.declared.limits.TheConstants.{DATUM}
+use Rattle.fore_base.specs.Shapes.{targets_in, targets_of, datums_of}
 use Rattle.c_types.specs.declared.program.Path.{Path}
 use Rattle.c_types.specs.declared.program.DataPath.{DataPath}
 use Rattle.c_types.specs.declared.program.DataPath.TheVariants.{Var as DataVar, Field as DataField}
@@ -33,41 +32,27 @@ pub record Program : Type 0 where
   pub data_vars : List (List ℕ)
   pub body : List Stmt
 
--- A struct's pointer fields and data fields are numbered apart, each kind in order of declaration.
-
-abbrev pub target_before : FieldKind → List ℕ → List ℕ
-target_before (Pointer shape) targets = shape ∷ targets
-target_before Datum targets = targets
-
-abbrev pub datum_before : FieldKind → ℕ → ℕ
-datum_before (Pointer shape) count = count
-datum_before Datum count = suc count
-
--- the structs to which the pointer fields point, in order
-abbrev pub targets_in : List FieldDef → List ℕ
-targets_in [] = []
-targets_in (f ∷ fs) = target_before f.kind (targets_in fs)
-
--- how many data fields there are
-abbrev pub datums_in : List FieldDef → ℕ
-datums_in [] = 0
-datums_in (f ∷ fs) = datum_before f.kind (datums_in fs)
-
--- the same of the struct of a number; none where there is no such struct
-abbrev pub targets_of : List Shape → ℕ → List ℕ
-targets_of [] n = []
-targets_of (s ∷ ss) zero = targets_in s.fields
-targets_of (s ∷ ss) (suc n) = targets_of ss n
-
-abbrev pub datums_of : List Shape → ℕ → ℕ
-datums_of [] n = 0
-datums_of (s ∷ ss) zero = datums_in s.fields
-datums_of (s ∷ ss) (suc n) = datums_of ss n
-
 -- each number is below n
 abbrev pub all_below : ℕ → List ℕ → Bool
 all_below n [] = true
 all_below n (m ∷ ms) = nat_lt m n && all_below n ms
+
+-- Where a statement stands: outside loops, in the body of a loop, or in what a `for` does between its rounds.
+pub data Spot : Type 0 where
+  Outside : Spot
+  InBody : Spot
+  InNext : Spot
+
+-- where the body of a loop stands, given where the loop does
+abbrev pub body_of : Spot → Spot
+body_of Outside = InBody
+body_of InBody = InBody
+body_of InNext = InNext
+
+-- `break` and `continue` stand in the body of a loop, and none in a `next`, also not in a loop's body there (6.8.6.2, 6.8.6.3)
+abbrev pub is_in_body : Spot → Bool
+is_in_body InBody = true
+is_in_body _ = false
 
 -- Structs and variables
 
@@ -127,23 +112,22 @@ module _ (shapes : List Shape) where
 
     abbrev pub data_rhs_typed : DataRhs → Bool
     data_rhs_typed (DataRhsPath p) = data_typed p
-    data_rhs_typed (DataRhsKnown k) = nat_lt k 16
+    data_rhs_typed (DataRhsKnown k) = nat_le k DATUM
     data_rhs_typed DataRhsChoice = true
 
     abbrev pub returned_typed : Option DataPath → Bool
     returned_typed None = true
     returned_typed (Some p) = data_typed p
 
-    -- the Bool says whether the act stands in the body of a loop
-    abbrev pub act_typed : Act → Bool → Bool
-    act_typed (SetPtr to rhs) inside = rhs_typed (path_target to) rhs
-    act_typed (SetData to rhs) inside = data_typed to && data_rhs_typed rhs
-    act_typed (Free p) inside = is_some (path_target p)
-    act_typed Error inside = true
-    act_typed Halt inside = true
-    act_typed (Return operand) inside = returned_typed operand
-    act_typed Break inside = inside
-    act_typed Continue inside = inside
+    abbrev pub act_typed : Act → Spot → Bool
+    act_typed (SetPtr to rhs) spot = rhs_typed (path_target to) rhs
+    act_typed (SetData to rhs) spot = data_typed to && data_rhs_typed rhs
+    act_typed (Free p) spot = is_some (path_target p)
+    act_typed Error spot = true
+    act_typed Halt spot = true
+    act_typed (Return operand) spot = returned_typed operand
+    act_typed Break spot = is_in_body spot
+    act_typed Continue spot = is_in_body spot
 
     abbrev pub ops_typed : PtrOp → PtrOp → Bool
     ops_typed (OpPath p) (OpPath q) = both_targets (path_target p) (path_target q)
@@ -153,7 +137,7 @@ module _ (shapes : List Shape) where
 
     abbrev pub data_op_typed : DataOp → Bool
     data_op_typed (DataOpPath p) = data_typed p
-    data_op_typed (DataOpKnown k) = nat_lt k 16
+    data_op_typed (DataOpKnown k) = nat_le k DATUM
 
     abbrev pub atom_typed : Atom → Bool
     atom_typed ChoiceAtom = true
@@ -172,30 +156,30 @@ module _ (shapes : List Shape) where
 
     abbrev pub cond_typed_step : Cond-F Bool → Bool
     cond_typed_step (Atom-F a line) = atom_typed a
-    cond_typed_step (Not-F c) = c.value
+    cond_typed_step (Not-F c) = c
     cond_typed_step (All-F cs) = parts_typed cs
     cond_typed_step (Any-F cs) = parts_typed cs
 
     abbrev pub cond_typed : Cond → Bool
     cond_typed = fold-Cond Bool cond_typed_step
 
-    abbrev pub each_typed : List (Bool → Bool) → Bool → Bool
-    each_typed [] inside = true
-    each_typed (s ∷ ss) inside = s inside && each_typed ss inside
+    abbrev pub each_typed : List (Spot → Bool) → Spot → Bool
+    each_typed [] spot = true
+    each_typed (s ∷ ss) spot = s spot && each_typed ss spot
 
-    abbrev pub stmt_typed_step : Stmt-F (Bool → Bool) → Bool → Bool
-    stmt_typed_step (Do-F a line) inside = act_typed a inside
-    stmt_typed_step (Branch-F c x y) inside = cond_typed c && (each_typed x inside && each_typed y inside)
-    stmt_typed_step (While-F c b) inside = cond_typed c && each_typed b true
-    stmt_typed_step (DoWhile-F c b) inside = cond_typed c && each_typed b true
-    stmt_typed_step (For-F c n b) inside = cond_typed c && (each_typed n false && each_typed b true)
-    stmt_typed_step (Group-F b ps ds m) inside = each_typed b inside && (all_below (length vars) ps && all_below datums ds)
+    abbrev pub stmt_typed_step : Stmt-F (Spot → Bool) → Spot → Bool
+    stmt_typed_step (Do-F a line) spot = act_typed a spot
+    stmt_typed_step (Branch-F c x y) spot = cond_typed c && (each_typed x spot && each_typed y spot)
+    stmt_typed_step (While-F c b) spot = cond_typed c && each_typed b (body_of spot)
+    stmt_typed_step (DoWhile-F c b) spot = cond_typed c && each_typed b (body_of spot)
+    stmt_typed_step (For-F c n b) spot = cond_typed c && (each_typed n InNext && each_typed b (body_of spot))
+    stmt_typed_step (Group-F b ps ds m) spot = each_typed b spot && (all_below (length vars) ps && all_below datums ds)
 
-    abbrev pub stmt_typed : Stmt → Bool → Bool
-    stmt_typed = fold-Stmt (Bool → Bool) stmt_typed_step
+    abbrev pub stmt_typed : Stmt → Spot → Bool
+    stmt_typed = fold-Stmt (Spot → Bool) stmt_typed_step
 
 -- what the type of programs keeps
 unfoldable pub is_typed : Program → Bool
 is_typed p =
     (shapes_typed (length p.shapes.structs) p.shapes.structs && vars_typed (length p.shapes.structs) p.vars)
-    && each_typed p.shapes.structs p.vars (length p.data_vars) (map (stmt_typed p.shapes.structs p.vars (length p.data_vars)) p.body) false
+    && each_typed p.shapes.structs p.vars (length p.data_vars) (map (stmt_typed p.shapes.structs p.vars (length p.data_vars)) p.body) Outside

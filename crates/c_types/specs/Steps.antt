@@ -11,6 +11,7 @@ use Rattle.fore_base.specs.declared.store.CellRec.{CellRec}
 use Rattle.fore_base.specs.declared.store.Store.{Store}
 use Rattle.fore_base.specs.Stores.{onward, var_of, datum_of, set_var, set_datum, kill, load_datum, store_datum, walk, write_from, grown, freed}
 use Rattle.fore_base.specs.Heap.{leaks}
+use Rattle.fore_base.specs.Shapes.{targets_of, datums_of}
 use Rattle.c_types.specs.declared.program.Path.{Path}
 use Rattle.c_types.specs.declared.program.DataPath.{DataPath}
 use Rattle.c_types.specs.declared.program.DataPath.TheVariants.{Var as DataVar, Field as DataField}
@@ -26,27 +27,37 @@ use Rattle.c_types.specs.declared.program.DataOp.{DataOp}
 use Rattle.c_types.specs.declared.program.DataOp.TheVariants.{Path as DataOpPath, Known as DataOpKnown}
 use Rattle.c_types.specs.declared.program.Atom.{Atom}
 use Rattle.c_types.specs.declared.program.Atom.TheVariants.{Choice as ChoiceAtom, Known as KnownAtom, Ptr as PtrAtom, Data as DataAtom}
-use Rattle.c_types.specs.Program.{targets_of, datums_of}
 use Rattle.c_types.specs.Control.{Items, Done, Do, Close, If, Loop, Again, DoLoop, DoAgain, Ask, Not, Both, Either, ◌then◌, after_again, from_again, closed_ptrs, closed_datums}
+
+-- In a `do` block the order of the lines is the order of evaluation, and the first fault ends it.
+infixl 10 ◌>>=◌
+abbrev pub ◌>>=◌ : {A B : Type 0} → Result A Fault → (A → Result B Fault) → Result B Fault
+got >>= next = onward got next
 
 -- Reading
 
+-- a pointer: a variable, and the arrows from it, one after the other (6.5.2.3)
 abbrev pub read : Store → Path → Result Value Fault
 read s p = walk s (var_of s p.var) p.fields
 
+-- a datum; an indeterminate one may be read, and copied
 abbrev pub read_data : Store → DataPath → Result Datum Fault
 read_data s (DataVar x) = Ok (datum_of s x)
-read_data s (DataField base f) = onward (read s base) (λ v. load_datum s v f)
+read_data s (DataField base f) = do
+  v ← read s base
+  load_datum s v f
 
+-- a pointer that is compared
 abbrev pub read_op : Store → PtrOp → Result Value Fault
 read_op s (OpPath p) = read s p
 read_op s OpNull = Ok Null
 
+-- a datum that is compared
 abbrev pub read_data_op : Store → DataOp → Result Datum Fault
 read_data_op s (DataOpPath p) = read_data s p
 read_data_op s (DataOpKnown k) = Ok (Known k)
 
--- x is the choice that was taken, if one was
+-- the right side of an assignment to a datum; x is the choice that was taken, if one was
 abbrev pub read_data_rhs : Store → DataRhs → ℕ → Result Datum Fault
 read_data_rhs s (DataRhsPath p) x = read_data s p
 read_data_rhs s (DataRhsKnown k) x = Ok (Known k)
@@ -55,26 +66,24 @@ read_data_rhs s DataRhsChoice x = Ok (Known x)
 -- what a `return` looks at (6.8.6.4)
 abbrev pub look_at : Store → Option DataPath → Result Store Fault
 look_at s None = Ok s
-look_at s (Some p) = onward (read_data s p) (λ d. Ok s)
+look_at s (Some p) = do
+  d ← read_data s p
+  Ok s
 
--- Comparing. A value that is indeterminate cannot be tested; the left one is looked at first.
+-- Comparing (6.5.9). A value that is indeterminate cannot be tested (6.2.4, 6.7.9).
 
 abbrev pub same_values : Value → Value → Result Bool Fault
-same_values Uninit w = Err IndetTest
-same_values Dangling w = Err IndetTest
-same_values Null Uninit = Err IndetTest
-same_values Null Dangling = Err IndetTest
+same_values Uninit _ = Err IndetTest
+same_values Dangling _ = Err IndetTest
+same_values _ Uninit = Err IndetTest
+same_values _ Dangling = Err IndetTest
 same_values Null Null = Ok true
-same_values Null (Cell m) = Ok false
-same_values (Cell n) Uninit = Err IndetTest
-same_values (Cell n) Dangling = Err IndetTest
-same_values (Cell n) Null = Ok false
 same_values (Cell n) (Cell m) = Ok (nat_eq n m)
+same_values _ _ = Ok false
 
 abbrev pub same_datums : Datum → Datum → Result Bool Fault
-same_datums Undefined e = Err IndetTest
-same_datums (Known a) Undefined = Err IndetTest
 same_datums (Known a) (Known b) = Ok (nat_eq a b)
+same_datums _ _ = Err IndetTest
 
 -- whether a comparison for equal, or for not equal, holds
 abbrev pub agrees : Bool → Bool → Bool
@@ -86,14 +95,22 @@ abbrev pub is_one : ℕ → Bool
 is_one zero = false
 is_one (suc n) = true
 
--- the left operand, then the right one, then the test of both
+-- whether an atom holds: the left operand is read, then the right one, then both are compared
 abbrev pub atom_of : Atom → Store → ℕ → Result Bool Fault
 atom_of ChoiceAtom s x = Ok (is_one x)
 atom_of (KnownAtom b) s x = Ok b
-atom_of (PtrAtom l r e) s x = onward (read_op s l) (λ v. onward (read_op s r) (λ w. onward (same_values v w) (λ b. Ok (agrees e b))))
-atom_of (DataAtom l r e) s x = onward (read_data_op s l) (λ v. onward (read_data_op s r) (λ w. onward (same_datums v w) (λ b. Ok (agrees e b))))
+atom_of (PtrAtom l r equal) s x = do
+  v ← read_op s l
+  w ← read_op s r
+  same ← same_values v w
+  Ok (agrees equal same)
+atom_of (DataAtom l r equal) s x = do
+  d ← read_data_op s l
+  e ← read_data_op s r
+  same ← same_datums d e
+  Ok (agrees equal same)
 
--- Writing. The path before its last arrow is followed, then the last arrow and the write.
+-- Writing (6.5.16.1). The path before its last arrow is followed, then the last arrow and the write.
 
 abbrev pub write_path : Store → ℕ → List ℕ → Value → Result Store Fault
 write_path s x [] v = Ok (set_var s x v)
@@ -101,18 +118,34 @@ write_path s x (f ∷ fs) v = write_from s (var_of s x) f fs v
 
 abbrev pub write_data : Store → DataPath → Datum → Result Store Fault
 write_data s (DataVar x) d = Ok (set_datum s x d)
-write_data s (DataField base f) d = onward (read s base) (λ v. store_datum s v f d)
+write_data s (DataField base f) d = do
+  v ← read s base
+  store_datum s v f d
 
 -- a new cell of a struct: its value is indeterminate (7.22.3.4)
 abbrev pub blank : List Shape → ℕ → ℕ → CellRec
 blank shapes number shape =
     record { number = number; shape = shape; datums = replicate (datums_of shapes shape) Undefined; fields = replicate (length (targets_of shapes shape)) Uninit }
 
--- an assignment to a pointer: the right side first
+-- an assignment to a pointer: the right side first (6.5.16 leaves the order open)
 abbrev pub assign : List Shape → Store → Path → PtrRhs → Result Store Fault
-assign shapes s to (RhsPath from) = onward (read s from) (λ v. write_path s to.var to.fields v)
+assign shapes s to (RhsPath from) = do
+  v ← read s from
+  write_path s to.var to.fields v
 assign shapes s to RhsNull = write_path s to.var to.fields Null
 assign shapes s to (RhsNew shape) = write_path (grown s (blank shapes s.next shape)) to.var to.fields (Cell s.next)
+
+-- an assignment to a datum, x being the choice that was taken, if one was
+abbrev pub assign_data : Store → DataPath → DataRhs → ℕ → Result Store Fault
+assign_data s to from x = do
+  d ← read_data_rhs s from x
+  write_data s to d
+
+-- `free` of what stands at the end of a path (7.22.3.3)
+abbrev pub free_path : Store → Path → Result Store Fault
+free_path s p = do
+  v ← read s p
+  freed s v
 
 -- Steps
 
@@ -135,6 +168,7 @@ pub data Turn : Type 0 where
 abbrev pub settle : Store → Items → Turn
 settle s is = if leaks s then Faults Leak else Goes is s
 
+-- a step that does something, which may meet a fault
 abbrev pub settled : Result Store Fault → Items → Turn
 settled (Ok s) is = settle s is
 settled (Err k) is = Faults k
@@ -144,16 +178,18 @@ abbrev pub finished : Result Store Fault → Turn
 finished (Ok s) = if leaks (all_dead s) then Faults Leak else Stops
 finished (Err k) = Faults k
 
+-- what an act does, `is` being the items after it: `exit` and `abort` (7.22.4) and errors (7.2.1.1) make no leak test
 abbrev pub act_turn : List Shape → Act → Items → Store → ℕ → Turn
 act_turn shapes (SetPtr to from) is s x = settled (assign shapes s to from) is
-act_turn shapes (SetData to from) is s x = settled (onward (read_data_rhs s from x) (λ d. write_data s to d)) is
-act_turn shapes (Free p) is s x = settled (onward (read s p) (λ v. freed s v)) is
+act_turn shapes (SetData to from) is s x = settled (assign_data s to from x) is
+act_turn shapes (Free p) is s x = settled (free_path s p) is
 act_turn shapes Error is s x = Faults Assertion
 act_turn shapes Halt is s x = Stops
 act_turn shapes (Return operand) is s x = finished (look_at s operand)
 act_turn shapes Break is s x = settle (kill (closed_ptrs is) (closed_datums is) s) (after_again is)
 act_turn shapes Continue is s x = settle (kill (closed_ptrs is) (closed_datums is) s) (from_again is)
 
+-- the side of a test that is taken stands before the items after the test (6.8.4.1)
 abbrev pub test_turn : Result Bool Fault → Items → Items → Items → Store → Turn
 test_turn (Ok true) x y is s = settle s (x then is)
 test_turn (Ok false) x y is s = settle s (y then is)
@@ -178,8 +214,8 @@ turn_of shapes (DoAgain c b is) s x = Stops
 abbrev pub atom_takes : Atom → Bool
 atom_takes ChoiceAtom = true
 atom_takes (KnownAtom b) = false
-atom_takes (PtrAtom l r e) = false
-atom_takes (DataAtom l r e) = false
+atom_takes (PtrAtom l r equal) = false
+atom_takes (DataAtom l r equal) = false
 
 abbrev pub data_rhs_takes : DataRhs → Bool
 data_rhs_takes (DataRhsPath p) = false

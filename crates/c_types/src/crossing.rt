@@ -2,8 +2,7 @@
 
 use crate::outcome::Outcome;
 use crate::program::Typed;
-
-fn crosses<T: Send + Sync>(_value: &T) {}
+use fore_base::crossing::crosses;
 
 /// Programs cross threads, and with them all their parts.
 pub fn program_crosses(program: &Typed) {

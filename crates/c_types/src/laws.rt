@@ -1,15 +1,18 @@
-// Laws of runs: each is the contract of a function that does nothing.
+// Laws of runs and steps: each is the contract of a function that does nothing.
 
-ghost use Rattle.std.specs.Prelude.{◌≡◌, ◌≤◌, ℕ, true, List, [], length};
+ghost use Rattle.std.specs.Prelude.{◌≡◌, ◌≤◌, ◌-◌, ◌++◌, ◌∷◌, ℕ, true, false, List, [], length};
 ghost use Rattle.c_types.specs.Control.{Items, opened, start_of};
-ghost use Rattle.c_types.specs.Steps.{Goes, turn_of};
+ghost use Rattle.c_types.specs.Steps.{Goes, Faults, turn_of};
+ghost use Rattle.c_types.specs.Losses.{loses};
 ghost use Rattle.c_types.specs.Runs.{run, empty_store};
 ghost use Rattle.c_types.specs.Fits.{FitsProgram, Visited, ItemsFit};
-ghost use Rattle.c_types.specs.Over.{IsOver, IsFault};
+ghost use Rattle.c_types.specs.Over.{IsOver, IsFault, IsStarved};
+ghost use Rattle.c_types.specs.OneWay.{is_one_way, most_steps};
 ghost use Rattle.c_types.specs.Plain.{is_plain, lines_in};
 ghost use Rattle.fore_base.specs.declared.fault.Fault.{Fault as Kind};
 ghost use Rattle.fore_base.specs.declared.store.Store.{Store};
-ghost use Rattle.fore_base.specs.Heap.{IsProper};
+ghost use Rattle.fore_base.specs.declared.fault.Fault.TheVariants.{Leak};
+ghost use Rattle.fore_base.specs.Heap.{IsProper, leaks};
 
 use crate::outcome::Outcome;
 use crate::program::Typed;
@@ -37,11 +40,44 @@ pub fn plain_run_decides(program: &Typed)
     let _program = program;
 }
 
+/// More choices than a run needs change nothing.
+pub fn more_choices_are_ignored(program: &Typed)
+    ensures { (choices more : List ℕ) (steps : ℕ) → (IsStarved (run program.now choices steps) → ⊥) → run program.now (choices ++ more) steps ≡ run program.now choices steps }
+{
+    let _program = program;
+}
+
+/// A run with too few choices is starved at the step that needs the missing one: with any more choices it gets there, and this step reads the
+/// first of them, which no step before it does.
+pub fn starved_where_needed(program: &Typed)
+    ensures { (choices : List ℕ) (steps step : ℕ) → run program.now choices steps ≡ Outcome.Starved step → (1 ≤ step) × (step ≤ steps) × ((more : List ℕ) → run program.now (choices ++ more) (step - 1) ≡ Outcome.StillRunning) × ((more : List ℕ) (bad later : ℕ) → 2 ≤ bad → step ≤ later → run program.now (choices ++ bad ∷ more) later ≡ Outcome.BadChoice (length choices)) }
+{
+    let _program = program;
+}
+
+/// A program without loops and choices takes no choice, and is over after as many steps as it has acts, atoms and Closes. So one run decides it.
+pub fn one_way_run_decides(program: &Typed)
+    ensures alike { is_one_way program.now ≡ true → (choices others : List ℕ) (steps : ℕ) → run program.now choices steps ≡ run program.now others steps }
+    ensures over { is_one_way program.now ≡ true → (choices : List ℕ) (steps : ℕ) → most_steps program.now ≤ steps → IsOver (run program.now choices steps) }
+    ensures decides { is_one_way program.now ≡ true → (limit : ℕ) → most_steps program.now ≤ limit → (choices : List ℕ) (steps : ℕ) → IsFault (run program.now choices steps) → run program.now choices steps ≡ run program.now [] limit }
+{
+    let _program = program;
+}
+
 /// A run begins with a store that is proper and fits the program, and each step keeps both. So every store that a run visits is proper and fits.
 pub fn steps_keep_stores(program: &Typed)
     ensures begins { ItemsFit program.now (start_of program.now) × IsProper (empty_store (length program.now.vars) (length program.now.data_vars)) × FitsProgram program.now (empty_store (length program.now.vars) (length program.now.data_vars)) }
     ensures keeps { (is js : Items) (s t : Store) (choice : ℕ) → ItemsFit program.now is → IsProper s → FitsProgram program.now s → turn_of program.now.shapes.structs (opened is) s choice ≡ Goes js t → ItemsFit program.now js × IsProper t × FitsProgram program.now t }
     ensures visited { (is : Items) (s : Store) → Visited program.now is s → IsProper s × FitsProgram program.now s }
+{
+    let _body = &program.body;
+}
+
+/// A step that takes no reference to a cell away (no variable or field that held a cell is overwritten or dies, no cell is freed, and none is
+/// made) leaks exactly if the store had leaked before it.
+pub fn leaks_by_losses_alone(program: &Typed)
+    ensures kept { (is : Items) (s : Store) (choice : ℕ) → loses (opened is) s ≡ false → leaks s ≡ false → turn_of program.now.shapes.structs (opened is) s choice ≡ Faults Leak → ⊥ }
+    ensures stays { (is js : Items) (s t : Store) (choice : ℕ) → loses (opened is) s ≡ false → leaks s ≡ true → turn_of program.now.shapes.structs (opened is) s choice ≡ Goes js t → ⊥ }
 {
     let _body = &program.body;
 }

@@ -1,3 +1,5 @@
+// How a run comes out.
+
 use fore_base::fault::Fault;
 
 /// How a run of at most some number of steps comes out. Steps are counted from 1.

@@ -1,3 +1,6 @@
+// The types of programs, and the fact that a typed program keeps.
+
+use fore_base::boxed::Boxed;
 use fore_base::list::List;
 use fore_base::shape::Shapes;
 use fore_base::text::Text;
@@ -7,21 +10,27 @@ use std::marker::Model;
 /// there. No field means the variable itself.
 #[derive(PartialEq, Eq, Debug, Drop)]
 pub struct Path {
+    /// The number of a pointer variable.
     pub var: u32,
+    /// Pointer fields, the first arrow first.
     pub fields: List<u32>,
 }
 
 /// A datum: a data variable, or the data field of this number of the cell at the end of a path.
 #[derive(PartialEq, Eq, Debug, Drop)]
 pub enum DataPath {
+    /// The data variable of this number.
     Var(u32),
+    /// A data field, by its number among the data fields of its struct.
     Field { base: Path, field: u32 },
 }
 
 /// What is assigned to a pointer.
 #[derive(PartialEq, Eq, Debug, Drop)]
 pub enum PtrRhs {
+    /// The pointer that stands there.
     Path(Path),
+    /// The null pointer.
     Null,
     /// `malloc` of the struct of this number.
     New(u32),
@@ -30,8 +39,9 @@ pub enum PtrRhs {
 /// What is assigned to a datum.
 #[derive(PartialEq, Eq, Debug, Drop)]
 pub enum DataRhs {
+    /// The datum that stands there.
     Path(DataPath),
-    /// A number, at most 15.
+    /// A number, at most `DATUM`.
     Known(u8),
     /// `__VERIFIER_nondet_bool()`.
     Choice,
@@ -40,31 +50,39 @@ pub enum DataRhs {
 /// What a statement does.
 #[derive(PartialEq, Eq, Debug, Drop)]
 pub enum Act {
+    /// An assignment to a pointer (ISO/IEC 9899:2011, 6.5.16.1).
     SetPtr { to: Path, from: PtrRhs },
+    /// An assignment to a datum.
     SetData { to: DataPath, from: DataRhs },
+    /// `free` of the pointer that stands there (7.22.3.3).
     Free(Path),
     /// A call that reports an error, or a false `assert`.
     Error,
-    /// `exit` or `abort`.
+    /// `exit` or `abort` (7.22.4).
     Halt,
-    /// `return`, with the datum that it looks at, if any.
+    /// `return`, with the datum that it looks at, if any (6.8.6.4).
     Return(Option<DataPath>),
+    /// `break` (6.8.6.3).
     Break,
+    /// `continue` (6.8.6.2).
     Continue,
 }
 
 /// A pointer in a comparison.
 #[derive(PartialEq, Eq, Debug, Drop)]
 pub enum PtrOp {
+    /// The pointer that stands there.
     Path(Path),
+    /// The null pointer.
     Null,
 }
 
 /// A datum in a comparison.
 #[derive(PartialEq, Eq, Debug, Drop)]
 pub enum DataOp {
+    /// The datum that stands there.
     Path(DataPath),
-    /// A number, at most 15.
+    /// A number, at most `DATUM`.
     Known(u8),
 }
 
@@ -75,11 +93,13 @@ pub enum Atom {
     Choice,
     /// A literal.
     Known(bool),
+    /// A comparison of pointers, for equal or for not equal (6.5.9).
     Ptr {
         left: PtrOp,
         right: PtrOp,
         equal: bool,
     },
+    /// A comparison of data, for equal or for not equal.
     Data {
         left: DataOp,
         right: DataOp,
@@ -90,8 +110,10 @@ pub enum Atom {
 /// A condition. The line is that of the atom's first token.
 #[derive(Debug, Drop)]
 pub enum Cond {
+    /// A test without parts.
     Atom { atom: Atom, line: u32 },
-    Not(Box<Cond>),
+    /// `!` (6.5.3.3).
+    Not(Boxed<Cond>),
     /// `&&` of one part or more.
     All(List<Cond>),
     /// `||` of one part or more.
@@ -101,23 +123,28 @@ pub enum Cond {
 /// A statement. The line is that of its first token, or of the declared name.
 #[derive(Debug, Drop)]
 pub enum Stmt {
+    /// A statement without parts.
     Do {
         act: Act,
         line: u32,
     },
+    /// `if`, or an `assert`, whose no side is an error (6.8.4.1).
     Branch {
         cond: Cond,
         yes: List<Stmt>,
         no: List<Stmt>,
     },
+    /// `while` (6.8.5.1).
     While {
         cond: Cond,
         body: List<Stmt>,
     },
+    /// `do` (6.8.5.2).
     DoWhile {
         cond: Cond,
         body: List<Stmt>,
     },
+    /// `for`: what it does between its rounds is `next`; what it does first stands before it (6.8.5.3).
     For {
         cond: Cond,
         next: List<Stmt>,
@@ -135,20 +162,26 @@ pub enum Stmt {
 /// A pointer variable: its name, and the number of the struct to which it points.
 #[derive(PartialEq, Eq, Debug, Drop)]
 pub struct VarDef {
+    /// The variable's name.
     pub name: Text,
+    /// The number of a struct.
     pub shape: u32,
 }
 
 /// A program: its structs, its pointer and data variables in order of declaration, and the one group of main's block.
 ///
 /// Every number in it is in range; each field on a path is one of the struct and kind that stands there; both sides of an assignment or
-/// comparison, and a new cell and its target, agree in struct; a known datum is at most 15; each `&&` and `||` has a part; each `break` and
+/// comparison, and a new cell and its target, agree in struct; a known datum is at most `DATUM`; each `&&` and `||` has a part; each `break` and
 /// `continue` stands in the body of a loop, and none in what a `for` does between its rounds.
 #[derive(Debug, Drop)]
 pub struct Typed {
+    /// The structs.
     pub shapes: Shapes,
+    /// The pointer variables.
     pub vars: List<VarDef>,
+    /// The names of the data variables.
     pub data_vars: List<Text>,
+    /// The one group of main's block.
     pub body: List<Stmt>,
 }
 

@@ -1,5 +1,11 @@
 pub mod Leaks
-pub mod MemShelfLemmas
+pub mod ListLemmas
+mod ListRows
+pub mod MarkLemmas
+pub mod NamedFileLemmas
 pub mod NameLemmas
 pub mod OutsideLemmas
+mod OutsideRows
 pub mod ReadLemmas
+mod Rows
+pub mod ShapeLemmas

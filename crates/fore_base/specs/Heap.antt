@@ -2,7 +2,7 @@
 use Rattle.std.specs.Prelude.{◌≡◌, ◌<◌, ◌⊎◌, ℕ, zero, suc, List, [], ◌∷◌, ◌++◌, map, length, nat_eq, Bool, true, false, ◌||◌, if◌then◌else◌}
 use Rattle.std.specs.List.Sorted.{IsPermutation}
 use Rattle.fore_base.specs.declared.store.Value.{Value}
-use Rattle.fore_base.specs.declared.store.Value.TheVariants.{Null, Uninit, Dangling, Cell}
+use Rattle.fore_base.specs.declared.store.Value.TheVariants.{Cell}
 use Rattle.fore_base.specs.declared.store.CellRec.{CellRec}
 use Rattle.fore_base.specs.declared.store.Store.{Store}
 use Rattle.fore_base.specs.Lists.{IsIn, Every}
@@ -14,10 +14,8 @@ HasCell (c ∷ cs) n = (c.number ≡ n) ⊎ HasCell cs n
 
 -- a value that names a cell names one of these
 abbrev pub NamesCell : List CellRec → Value → Type 0
-NamesCell cs Null = Unit {0}
-NamesCell cs Uninit = Unit {0}
-NamesCell cs Dangling = Unit {0}
 NamesCell cs (Cell n) = HasCell cs n
+NamesCell cs v = Unit {0}
 
 -- no two cells have one number
 abbrev pub AllDiffer : List CellRec → Type 0
@@ -47,10 +45,8 @@ pub record Leaked (s : Store) : Type 0 where
 -- whether one of the values names the cell n
 abbrev pub is_named : ℕ → List Value → Bool
 is_named n [] = false
-is_named n (Null ∷ vs) = is_named n vs
-is_named n (Uninit ∷ vs) = is_named n vs
-is_named n (Dangling ∷ vs) = is_named n vs
 is_named n (Cell m ∷ vs) = nat_eq m n || is_named n vs
+is_named n (v ∷ vs) = is_named n vs
 
 -- the fields of the cells that the values name
 abbrev pub fields_named : List Value → List CellRec → List Value
@@ -67,29 +63,30 @@ abbrev pub left_after : ℕ → List Value → List CellRec → List CellRec
 left_after zero vs cs = cs
 left_after (suc n) vs cs = left_after n (fields_named vs cs) (cells_unnamed vs cs)
 
+-- some cell is left
 abbrev pub is_some_left : List CellRec → Bool
 is_some_left [] = false
-is_some_left (c ∷ cs) = true
+is_some_left cs = true
 
 -- as many rounds as there are cells reach all that can be reached
 unfoldable pub leaks : Store → Bool
 leaks s = is_some_left (left_after (length s.cells) s.vars s.cells)
 
--- Stores that are alike: the cells of one are those of the other under other numbers, in any order.
+-- Stores that are alike. Which number an object has, and which comes first, is nothing that a program can see.
 
-abbrev pub renamed : (ℕ → ℕ) → Value → Value
-renamed to Null = Null
-renamed to Uninit = Uninit
-renamed to Dangling = Dangling
-renamed to (Cell n) = Cell (to n)
+-- a value that names the cell with the new number
+abbrev pub value_renamed : (ℕ → ℕ) → Value → Value
+value_renamed to (Cell n) = Cell (to n)
+value_renamed to v = v
 
-abbrev pub renamed_cell : (ℕ → ℕ) → CellRec → CellRec
-renamed_cell to c = record c { number = to c.number; fields = map (renamed to) c.fields }
+-- a cell with the new numbers
+abbrev pub cell_renamed : (ℕ → ℕ) → CellRec → CellRec
+cell_renamed to c = record c { number = to c.number; fields = map (value_renamed to) c.fields }
 
--- `next` is not compared
+-- the cells of t are those of s under other numbers, in any order; `next` is not compared
 pub record IsAlike (s t : Store) : Type 0 where
   pub to : ℕ → ℕ
   pub one_to_one : (m n : ℕ) → HasCell s.cells m → HasCell s.cells n → to m ≡ to n → m ≡ n
-  pub vars : t.vars ≡ map (renamed to) s.vars
+  pub vars : t.vars ≡ map (value_renamed to) s.vars
   pub data_vars : t.data_vars ≡ s.data_vars
-  pub cells : IsPermutation (map (renamed_cell to) s.cells) t.cells
+  pub cells : IsPermutation (map (cell_renamed to) s.cells) t.cells

@@ -4,8 +4,11 @@ pub mod formers
 pub mod Heap
 pub mod Lends
 pub mod Lists
+pub mod Marks
 pub mod MemShelves
 pub mod MemSinks
+pub mod NamedFiles
 pub mod Names
 pub mod Outside
+pub mod Shapes
 pub mod Stores

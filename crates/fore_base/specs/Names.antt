@@ -1,12 +1,11 @@
 -- Lists of texts in which a text has one place.
-use Rattle.std.specs.Prelude.{ℕ, ◌≤◌, List, [], ◌∷◌, length}
-use Rattle.fore_base.specs.Lists.{IsIn}
+use Rattle.std.specs.Prelude.{ℕ, ◌≤◌, List, length}
+use Rattle.fore_base.specs.Lists as lists
 
 -- no item stands twice
 abbrev pub IsDistinct : {X : Type 0} → List X → Type 0
-IsDistinct [] = Unit {0}
-IsDistinct (x ∷ xs) = (IsIn x xs → ⊥) × IsDistinct xs
+IsDistinct = lists.IsDistinct
 
 -- no text stands twice, and each place has a number of 32 bits
 abbrev pub IsNumbered : List (List ℕ) → Type 0
-IsNumbered texts = IsDistinct texts × (length texts ≤ 4294967295)
+IsNumbered texts = lists.IsDistinct texts × (length texts ≤ 4294967295)

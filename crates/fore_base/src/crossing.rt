@@ -1,5 +1,6 @@
 // Values that hold only data can be shared between threads and moved to another.
 
+use crate::boxed::Boxed;
 use crate::fault::Fault;
 use crate::list::List;
 use crate::mem_shelf::MemShelf;
@@ -12,11 +13,17 @@ use crate::sink::SinkFault;
 use crate::store::Store;
 use crate::text::Text;
 
-fn crosses<T: Send + Sync>(_value: &T) {}
+/// A value of this type may be shared between threads, and moved to another: where this call is accepted, that is proved.
+pub fn crosses<T: Send + Sync>(_value: &T) {}
 
 /// A list crosses threads where its items do.
 pub fn list_crosses<T: Send + Sync>(list: &List<T>) {
     crosses(list)
+}
+
+/// A box crosses threads where what it holds does.
+pub fn boxed_crosses<T: Send + Sync>(boxed: &Boxed<T>) {
+    crosses(boxed)
 }
 
 /// Stores cross threads, and with them values, data and cells.

@@ -1,3 +1,4 @@
+// Faults of programs, and their numbers.
 ghost use Rattle.std.specs.Prelude.{◌≡◌};
 ghost use Rattle.fore_base.specs.Faults.{number_of};
 

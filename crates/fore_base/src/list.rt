@@ -1,3 +1,4 @@
+// Growing lists, and values of which equal copies can be made.
 ghost use Rattle.std.specs.Prelude.{◌≡◌, [], ◌∷◌, ◌++◌, ◌<◌, ◌↔◌, length, slice_get, slice_index_or, slice_set, replicate, remove, IsTrue, IfOk, MatchOption, OnOk, OnErr, OnSome};
 ghost use Rattle.std.specs.Option.{option_copied};
 
@@ -31,12 +32,14 @@ impl<T> List<T> {
         }
     }
 
+    /// The list of the items of a vector.
     pub fn from_vec(items: Vec<T>) -> List<T>
         ensures { result ≡ items.items }
     {
         List { items }
     }
 
+    /// The vector of the items of the list.
     pub fn into_vec(self) -> Vec<T>
         ensures { result.items ≡ self }
     {
@@ -44,24 +47,28 @@ impl<T> List<T> {
         items
     }
 
+    /// The items, to be read.
     pub fn as_slice(&self) -> &[T]
         ensures { result.now ≡ self.now }
     {
         self.items.as_slice()
     }
 
+    /// The number of items.
     pub fn len(&self) -> usize
         ensures { result ≡ length self.now }
     {
         self.items.len()
     }
 
+    /// Whether there are no items.
     pub fn is_empty(&self) -> bool
         ensures { IsTrue result ↔ (self.now ≡ []) }
     {
         self.items.is_empty()
     }
 
+    /// The item at a place, the first being at 0; None where the list ends before it.
     pub fn get(&self, at: usize) -> Option<&T>
         ensures value { option_copied result ≡ slice_get self.now at }
         ensures within { OnSome result (at < length self.now) }
@@ -77,7 +84,7 @@ impl<T> List<T> {
         &self.items[at]
     }
 
-    /// The last item, taken off.
+    /// The last item, taken off; None where there is none.
     pub fn pop(&mut self) -> Option<T>
         ensures { MatchOption result ((self.old ≡ []) × (self.new ≡ [])) (λ last. self.old ≡ self.new ++ last ∷ []) }
     {
@@ -100,7 +107,11 @@ impl<T> List<T> {
 }
 
 impl<T: Drop> List<T> {
-    /// Adds an item at the end. Without memory for it the list stays as it was.
+    /// Adds an item at the end.
+    ///
+    /// # Errors
+    ///
+    /// Want of memory; the list stays as it was, and the item is let go.
     pub fn push(&mut self, item: T) -> Result<(), AllocError>
         ensures ok { OnOk result (self.new ≡ self.old ++ item ∷ []) }
         ensures err { OnErr result (self.new ≡ self.old) }
@@ -109,7 +120,11 @@ impl<T: Drop> List<T> {
         Ok(())
     }
 
-    /// Moves the items of `more` to the end. Without memory for them the list stays as it was.
+    /// Moves the items of `more` to the end.
+    ///
+    /// # Errors
+    ///
+    /// Want of memory; the list stays as it was, and `more` is let go.
     pub fn append(&mut self, more: List<T>) -> Result<(), AllocError>
         ensures ok { OnOk result (self.new ≡ self.old ++ more) }
         ensures err { OnErr result (self.new ≡ self.old) }
@@ -139,6 +154,10 @@ impl<T: Drop> List<T> {
 
 impl<T: Copy> List<T> {
     /// A list of so many copies of an item.
+    ///
+    /// # Errors
+    ///
+    /// Want of memory.
     pub fn filled(alloc: Global, item: T, count: usize) -> Result<List<T>, AllocError>
         ensures { IfOk result (λ list. list ≡ replicate count item) }
     {
@@ -170,6 +189,24 @@ impl<T: Copy> List<T> {
     }
 }
 
+impl<T: Copies> List<T> {
+    /// A list of equal copies of the items.
+    ///
+    /// # Errors
+    ///
+    /// Want of memory.
+    pub fn from_slice(alloc: Global, items: &[T]) -> Result<List<T>, AllocError>
+        ensures { IfOk result (λ list. list ≡ items.now) }
+    {
+        let mut all = List::new(alloc);
+        for item in items {
+            let other = item.copy(alloc)?;
+            all.push(other)?;
+        }
+        Ok(all)
+    }
+}
+
 impl<T: PartialEq> PartialEq for List<T> {
     ghost use Rattle.std.specs.Cmp.Lexicographic.{pointwise, lists_per};
 
@@ -190,18 +227,18 @@ impl<T: Eq> Eq for List<T> {
 
 /// A value of which an equal one can be made, in memory of its own.
 pub trait Copies: Drop {
+    /// An equal value.
+    ///
+    /// # Errors
+    ///
+    /// Want of memory.
     fn copy(&self, alloc: Global) -> Result<Self, AllocError>
         ensures { IfOk result (λ other. other ≡ self.now) };
 }
 
 impl<T: Copies> Copies for List<T> {
     fn copy(&self, alloc: Global) -> Result<List<T>, AllocError> {
-        let mut all = List::new(alloc);
-        for item in self.as_slice() {
-            let other = item.copy(alloc)?;
-            all.push(other)?;
-        }
-        Ok(all)
+        List::from_slice(alloc, self.as_slice())
     }
 }
 
@@ -214,5 +251,44 @@ impl Copies for u8 {
 impl Copies for u32 {
     fn copy(&self, _alloc: Global) -> Result<u32, AllocError> {
         Ok(*self)
+    }
+}
+
+impl Copies for bool {
+    fn copy(&self, _alloc: Global) -> Result<bool, AllocError> {
+        Ok(*self)
+    }
+}
+
+impl Copies for u64 {
+    fn copy(&self, _alloc: Global) -> Result<u64, AllocError> {
+        Ok(*self)
+    }
+}
+
+impl Copies for usize {
+    fn copy(&self, _alloc: Global) -> Result<usize, AllocError> {
+        Ok(*self)
+    }
+}
+
+#[cfg(test)]
+mod tests {
+    use super::*;
+    use std::test::Fail;
+
+    #[test]
+    fn items_are_changed_where_they_stand(rt: HostRuntime) -> Result<(), Fail> {
+        let mut list = List::from_slice(rt.alloc(), &[5u32, 6, 7])?;
+        list.append(List::filled(rt.alloc(), 8, 2)?)?;
+        list.set_within(0, 4);
+        // the list ends before it
+        list.set_within(5, 9);
+        assert_eq!(rt; list.as_slice(), [4u32, 6, 7, 8, 8].as_slice());
+        assert_eq!(rt; list.pop(), Some(8));
+        assert_eq!(rt; list.get_or(3, 0), 8);
+        assert_eq!(rt; list.get_or(4, 0), 0);
+        assert!(rt; list == list.copy(rt.alloc())?);
+        Ok(())
     }
 }

@@ -1,3 +1,4 @@
+// A sink in memory, for tests: what it took is known, and calls fail where they are to.
 ghost use Rattle.std.specs.Prelude.{◌≡◌, ◌≤◌, ◌<◌, ◌↔◌, ◌++◌, [], ◌∷◌, length, take, IsErr, IsTrue, IfOk, OnOk, OnErr};
 ghost use Rattle.fore_base.specs.Outside.{Rose, Grew};
 ghost use Rattle.fore_base.specs.Counts.{one_more};
@@ -7,7 +8,7 @@ use crate::counts::is_listed;
 use crate::list::List;
 use crate::memory::Mem;
 use crate::sink::{Sink, SinkFault};
-use std::alloc::{AllocError, Global};
+use std::alloc::Global;
 use std::marker::Model;
 
 /// A sink in memory, for tests: it has a room, takes so many bytes in one call at most, and fails in chosen calls.
@@ -33,7 +34,11 @@ impl Model for MemSink {
 }
 
 impl MemSink {
-    /// A sink with room for `room` bytes, of which a call takes `most` at most. The memory of the whole room is taken here.
+    /// A sink with room for `room` bytes, of which a call takes `most` at most, which is at least 1. The memory of the whole room is taken here.
+    ///
+    /// # Errors
+    ///
+    /// Want of memory.
     pub fn new(alloc: Global, room: usize, most: usize) -> Mem<MemSink>
         requires { 0 < most }
         ensures { IfOk result (λ sink. sink ≡ new_sink room most) }
@@ -48,7 +53,11 @@ impl MemSink {
         })
     }
 
-    /// Lets the call of this number fail, the first call being 1. Without memory to note it the sink stays as it was.
+    /// Lets the call of this number fail, the first call being 1.
+    ///
+    /// # Errors
+    ///
+    /// Want of memory; the sink stays as it was.
     pub fn fail(&mut self, call: u64) -> Mem<()>
         ensures ok { OnOk result (self.new ≡ record self.old { fails = self.old.fails ++ call ∷ [] }) }
         ensures err { OnErr result (self.new ≡ self.old) }
@@ -78,7 +87,11 @@ impl Sink for MemSink {
 
     ghost faults = { λ sink. sink.faults };
 
-    /// Takes no memory. A piece of which no byte has room is a fault.
+    /// Takes as many of the first bytes as have room, and no more than a call takes. It takes no memory.
+    ///
+    /// # Errors
+    ///
+    /// `Failed` in a call that is to fail, and for a piece of which no byte has room.
     fn put(&mut self, bytes: &[u8]) -> Result<usize, SinkFault>
         ensures never_falls { self.old.faults ≤ self.new.faults }
         ensures within { IfOk result (λ count. count ≤ length bytes.now) }
@@ -86,6 +99,7 @@ impl Sink for MemSink {
         ensures took { IfOk result (λ count. Grew (Some self.old.held) (Some self.new.held) (take count bytes.now)) }
         ensures kept { OnErr result (Some self.new.held ≡ Some self.old.held) }
         ensures failed { OnErr result (Rose self.old.faults self.new.faults) }
+        ensures counts_failed_alone { OnOk result (self.new.faults ≡ self.old.faults) }
         ensures fails { IsErr result ↔ PutFails self.old bytes.now }
         ensures count { IfOk result (λ count. count ≡ taken self.old bytes.now) }
         ensures after { IfOk result (λ count. self.new ≡ record self.old { held = self.old.held ++ take count bytes.now; calls = one_more self.old.calls }) }
@@ -117,29 +131,30 @@ mod tests {
     use crate::sink::put_all;
     use std::test::Fail;
 
+    // room, most bytes in a call, the call that is to fail, piece, whether all was put, bytes held, count of faults
+    const PUTS: [(usize, usize, u64, &str, bool, &str, u64); 13] = [
+        // five calls of one byte; calls of 2, 2, 1; of 3, 2; of 4, 1; and one call
+        (8, 1, 9, "hello", true, "hello", 0),
+        (8, 2, 9, "hello", true, "hello", 0),
+        (8, 3, 9, "hello", true, "hello", 0),
+        (8, 4, 9, "hello", true, "hello", 0),
+        (8, 8, 9, "hello", true, "hello", 0),
+        // the room is just enough, or one byte short
+        (5, 2, 9, "hello", true, "hello", 0),
+        (4, 3, 9, "hello", false, "hell", 1),
+        // no room takes an empty piece, for which no call is made, and no other
+        (0, 1, 1, "", true, "", 0),
+        (0, 1, 9, "h", false, "", 1),
+        // the first, second and third call fails, of three that are needed; a fourth is not made
+        (8, 2, 1, "hello", false, "", 1),
+        (8, 2, 2, "hello", false, "he", 1),
+        (8, 2, 3, "hello", false, "hell", 1),
+        (8, 2, 4, "hello", true, "hello", 0),
+    ];
+
     #[test]
     fn put_all_goes_on_until_the_room_is_full_or_a_call_fails(rt: HostRuntime) -> Result<(), Fail> {
-        // room, most bytes in a call, the call that is to fail, piece, whether all was put, bytes held, count of faults
-        let rows: [(usize, usize, u64, &str, bool, &str, u64); 13] = [
-            // five calls of one byte; calls of 2, 2, 1; of 3, 2; of 4, 1; and one call
-            (8, 1, 9, "hello", true, "hello", 0),
-            (8, 2, 9, "hello", true, "hello", 0),
-            (8, 3, 9, "hello", true, "hello", 0),
-            (8, 4, 9, "hello", true, "hello", 0),
-            (8, 8, 9, "hello", true, "hello", 0),
-            // the room is just enough, or one byte short
-            (5, 2, 9, "hello", true, "hello", 0),
-            (4, 3, 9, "hello", false, "hell", 1),
-            // no room takes an empty piece, for which no call is made, and no other
-            (0, 1, 1, "", true, "", 0),
-            (0, 1, 9, "h", false, "", 1),
-            // the first, second and third call fails, of three that are needed; a fourth is not made
-            (8, 2, 1, "hello", false, "", 1),
-            (8, 2, 2, "hello", false, "he", 1),
-            (8, 2, 3, "hello", false, "hell", 1),
-            (8, 2, 4, "hello", true, "hello", 0),
-        ];
-        for (room, most, call, piece, all, held, faults) in rows {
+        for (room, most, call, piece, all, held, faults) in PUTS {
             assert!(rt; 0 < most);
             let mut sink = MemSink::new(rt.alloc(), room, most)?;
             sink.fail(call)?;

@@ -61,7 +61,7 @@ impl Names {
         let _texts = &self.texts;
     }
 
-    /// The number of the text, if it is there.
+    /// The number of the text; None exactly where it is not there.
     pub fn find(&self, text: &[u8]) -> Option<u32>
         ensures { MatchOption result (IsIn text.now self.now → ⊥) (λ number. slice_get self.now number ≡ Some text.now) }
     {
@@ -71,7 +71,11 @@ impl Names {
         }
     }
 
-    /// The number of the text, which is added at the end if it is not there. Without memory for it the texts stay as they were.
+    /// The number of the text, which is added at the end if it is not there. Fewer than 4,294,967,295 texts are there.
+    ///
+    /// # Errors
+    ///
+    /// Want of memory; the texts stay as they were.
     pub fn number(&mut self, text: &[u8]) -> Mem<u32>
         requires { length self.old < 4294967295 }
         ensures number { IfOk result (λ number. slice_get self.new number ≡ Some text.now) }
@@ -105,17 +109,19 @@ mod tests {
     use super::*;
     use std::test::Fail;
 
+    // `a` comes first and `b` second; `a` again adds nothing.
+    const TEXTS: [(&[u8], u32); 3] = [(b"a", 0), (b"b", 1), (b"a", 0)];
+
     #[test]
     fn a_text_keeps_its_first_number(rt: HostRuntime) -> Result<(), Fail> {
         let mut names = Names::new(rt.alloc());
-        // `a` comes first and `b` second; `a` again adds nothing; `c` never came.
-        let rows: [(&[u8], u32); 3] = [(b"a", 0), (b"b", 1), (b"a", 0)];
-        for (text, want) in rows {
+        for (text, want) in TEXTS {
             assert!(rt; names.len() < 4294967295);
             assert_eq!(rt; names.number(text)?, want);
         }
         assert_eq!(rt; names.len(), 2);
         assert_eq!(rt; names.find(b"b"), Some(1));
+        // `c` never came
         assert_eq!(rt; names.find(b"c"), None);
         Ok(())
     }

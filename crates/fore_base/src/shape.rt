@@ -1,3 +1,4 @@
+// Structs and their fields.
 use crate::list::{Copies, List};
 use crate::text::Text;
 use std::alloc::{AllocError, Global};
@@ -14,20 +15,25 @@ pub enum FieldKind {
 /// A field of a struct.
 #[derive(PartialEq, Eq, Debug, Drop)]
 pub struct FieldDef {
+    /// Its name, as it is spelled.
     pub name: Text,
+    /// What it holds.
     pub kind: FieldKind,
 }
 
 /// A struct: its fields in order of declaration.
 #[derive(PartialEq, Eq, Debug, Drop)]
 pub struct Shape {
+    /// Its tag, as it is spelled.
     pub name: Text,
+    /// Pointers and data, in order of declaration.
     pub fields: List<FieldDef>,
 }
 
 /// The structs of a program. The number of a struct is its position here.
 #[derive(PartialEq, Eq, Debug, Drop)]
 pub struct Shapes {
+    /// In order of declaration.
     pub structs: List<Shape>,
 }
 

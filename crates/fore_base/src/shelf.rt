@@ -1,17 +1,22 @@
-ghost use Rattle.std.specs.Prelude.{◌≡◌, ◌≤◌, ◌<◌, ℕ, List, Option, length, IfOk, IfSome, IsErrOf};
+// Where files are read from.
+ghost use Rattle.std.specs.Prelude.{◌≡◌, ◌≢◌, ◌≤◌, ◌<◌, ℕ, List, Option, Some, length, IfOk, IfSome, OnErr, IsErrOf};
 ghost use Rattle.fore_base.specs.Outside.{Rose};
 
 use crate::list::List;
 use std::alloc::{AllocError, Global};
+use thiserror::Error;
 
 /// Why a file was not read.
-#[derive(Clone, Copy, PartialEq, Eq, Debug)]
+#[derive(Clone, Copy, PartialEq, Eq, Debug, Error)]
 pub enum ShelfFault {
     /// The file is not there or could not be read. The shelf has counted it as a fault of this path.
+    #[error("the file could not be read")]
     Failed,
     /// The file has more bytes than the limit.
+    #[error("the file is longer than the limit")]
     TooLong,
     /// Want of memory for the bytes.
+    #[error("no memory")]
     Memory,
 }
 
@@ -33,18 +38,27 @@ pub trait Shelf {
     // the bytes of the file of this path, where the shelf tells them
     ghost holds: { Self → List ℕ → Option (List ℕ) };
 
-    // how often the reading of this path has failed
+    // what the last reading of this path that was answered gave; none before any
+    ghost given: { Self → List ℕ → Option (List ℕ) };
+
+    // how often the reading of this path has failed; a shelf may keep one number for all paths
     ghost faults: { Self → List ℕ → ℕ };
 
     /// Reads a file of at most `limit` bytes, whole.
     ///
     /// # Errors
-    /// `Failed` only where the count of faults of its path rose in this call; `TooLong` where the file has more than `limit` bytes; `Memory` for want of memory.
+    ///
+    /// `Failed` where the file could not be read; the count of faults of its path rises by this answer and by no other.
+    /// `TooLong` where the file has more than `limit` bytes. `Memory` for want of memory.
     fn read_all(&mut self, alloc: Global, path: &str, limit: usize) -> Result<List<u8>, ShelfFault>
         ensures keeps { (p : List ℕ) → holds self.new p ≡ holds self.old p }
         ensures never_falls { (p : List ℕ) → faults self.old p ≤ faults self.new p }
         ensures within { IfOk result (λ bytes. length bytes ≤ limit) }
         ensures content { IfOk result (λ bytes. IfSome (holds self.old path.now) (λ held. bytes ≡ held)) }
         ensures long { IsErrOf result ShelfFault.TooLong → IfSome (holds self.old path.now) (λ held. limit < length held) }
-        ensures failed { IsErrOf result ShelfFault.Failed → Rose (faults self.old path.now) (faults self.new path.now) };
+        ensures failed { IsErrOf result ShelfFault.Failed → Rose (faults self.old path.now) (faults self.new path.now) }
+        ensures counts_failed_alone { (IsErrOf result ShelfFault.Failed → ⊥) → (p : List ℕ) → faults self.new p ≡ faults self.old p }
+        ensures gives { IfOk result (λ bytes. given self.new path.now ≡ Some bytes) }
+        ensures gives_no_other { (p : List ℕ) → p ≢ path.now → given self.new p ≡ given self.old p }
+        ensures gives_nothing { OnErr result ((p : List ℕ) → given self.new p ≡ given self.old p) };
 }

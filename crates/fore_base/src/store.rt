@@ -1,9 +1,11 @@
+// Values, cells and stores of a program that runs.
 use crate::list::{Copies, List};
 use std::alloc::{AllocError, Global};
 
 /// The value of a pointer.
 #[derive(Clone, Copy, PartialEq, Eq, Debug)]
 pub enum Value {
+    /// To no object (6.3.2.3).
     Null,
     /// Never set: indeterminate (ISO/IEC 9899:2011, 6.7.9).
     Uninit,
@@ -25,18 +27,26 @@ pub enum Datum {
 /// An allocated object: its number, which no other cell ever has, its struct, and its data and pointer fields, each kind in order of declaration.
 #[derive(PartialEq, Eq, Debug, Drop)]
 pub struct CellRec {
+    /// Cells are numbered in the order in which they are made, from 0.
     pub number: u64,
+    /// The number of its struct.
     pub shape: u32,
+    /// The values of its data fields.
     pub datums: List<Datum>,
+    /// The values of its pointer fields.
     pub fields: List<Value>,
 }
 
 /// The variables, pointers and data apart, the cells, and the number of the next cell to be made.
 #[derive(PartialEq, Eq, Debug, Drop)]
 pub struct Store {
+    /// The values of the pointer variables, by number.
     pub vars: List<Value>,
+    /// The values of the data variables, by number.
     pub data_vars: List<Datum>,
+    /// The cells that are alive.
     pub cells: List<CellRec>,
+    /// The number of the next cell.
     pub next: u64,
 }
 

@@ -1,3 +1,4 @@
+// A sink over a real stream: the trusted edge of what is written.
 ghost use Rattle.std.specs.Prelude.{◌≡◌, ◌≤◌, ◌<◌, length, take, IfOk, OnOk, OnErr, IfSome, IfNone};
 ghost use Rattle.std.specs.Io.KnownBytes.{Appends, Keeps};
 ghost use Rattle.fore_base.specs.Counts.{one_more};
@@ -35,7 +36,11 @@ impl<W: io::Write + Drop> Sink for StreamSink<W> {
 
     ghost faults = { λ sink. sink.faults };
 
-    /// One write to the stream, tried again where a signal came between. A stream that takes no byte of a piece is a fault.
+    /// One write to the stream, tried again where a signal came between.
+    ///
+    /// # Errors
+    ///
+    /// `Failed` where the stream fails, or takes no byte of a piece that has some.
     fn put(&mut self, bytes: &[u8]) -> Result<usize, SinkFault>
         ensures never_falls { self.old.faults ≤ self.new.faults }
         ensures within { IfOk result (λ count. count ≤ length bytes.now) }
@@ -46,7 +51,7 @@ impl<W: io::Write + Drop> Sink for StreamSink<W> {
         ensures written { IfOk result (λ count. Appends (W.contents self.old.to) (W.contents self.new.to) (take count bytes.now)) }
         ensures untouched { OnErr result (Keeps (W.contents self.old.to) (W.contents self.new.to)) }
         ensures counted { OnErr result (self.new.faults ≡ one_more self.old.faults) }
-        ensures uncounted { OnOk result (self.new.faults ≡ self.old.faults) }
+        ensures counts_failed_alone { OnOk result (self.new.faults ≡ self.old.faults) }
     {
         match write_once(&mut self.to, bytes) {
             Some(count) if count > 0 || bytes.is_empty() => Ok(count),
@@ -80,15 +85,20 @@ mod tests {
     use crate::sink::put_all;
     use std::test::Fail;
 
-    // A stream that takes two bytes in a call and five in all; then a call fails, or takes nothing.
+    // A stream that takes two bytes in a call and five in all; then a call fails, or takes nothing. A signal comes before the first.
     #[derive(Drop)]
     struct Reluctant {
         taken: Vec<u8>,
         fails: bool,
+        interrupted: bool,
     }
 
     impl io::Write for Reluctant {
         fn write(&mut self, bytes: &[u8]) -> io::Result<usize> {
+            if !self.interrupted {
+                self.interrupted = true;
+                return Err(io::Error::from(io::ErrorKind::Interrupted));
+            }
             let count = 5usize
                 .saturating_sub(self.taken.len())
                 .min(2)
@@ -105,23 +115,27 @@ mod tests {
         }
     }
 
+    // piece, whether all was put, what the stream then has taken, count of faults
+    const PUTS: [(&str, bool, &str, u64); 4] = [
+        // two bytes and one, and the call that a signal interrupted is no fault
+        ("abc", true, "abc", 0),
+        // two bytes, and then none
+        ("defg", false, "abcde", 1),
+        // nothing is asked of the stream
+        ("", true, "abcde", 1),
+        // again none
+        ("h", false, "abcde", 2),
+    ];
+
     #[test]
     fn a_stream_that_fails_or_takes_nothing_is_a_fault(rt: HostRuntime) -> Result<(), Fail> {
         for fails in [true, false] {
-            let taken = Vec::new(rt.alloc());
-            let mut sink = StreamSink::new(Reluctant { taken, fails });
-            // piece, whether all was put, what the stream then has taken, count of faults
-            let rows: [(&str, bool, &str, u64); 4] = [
-                // two bytes and one
-                ("abc", true, "abc", 0),
-                // two bytes, and then none
-                ("defg", false, "abcde", 1),
-                // nothing is asked of the stream
-                ("", true, "abcde", 1),
-                // again none
-                ("h", false, "abcde", 2),
-            ];
-            for (piece, all, taken, faults) in rows {
+            let mut sink = StreamSink::new(Reluctant {
+                taken: Vec::new(rt.alloc()),
+                fails,
+                interrupted: false,
+            });
+            for (piece, all, taken, faults) in PUTS {
                 let answer = put_all(&mut sink, piece.as_bytes());
                 assert_eq!(rt; answer.is_ok(), all, "{piece}");
                 assert_eq!(rt; sink.to.taken.as_slice(), taken.as_bytes(), "{piece}");

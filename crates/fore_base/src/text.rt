@@ -1,3 +1,4 @@
+// Growing texts.
 ghost use Rattle.std.specs.Prelude.{◌≡◌, ◌++◌, [], length, decimal, IfOk, OnOk, OnErr, IsTrue, ◌↔◌};
 
 use crate::list::Copies;
@@ -32,6 +33,11 @@ impl Text {
         }
     }
 
+    /// The text of these bytes.
+    ///
+    /// # Errors
+    ///
+    /// Want of memory.
     pub fn from_slice(alloc: Global, bytes: &[u8]) -> Result<Text, AllocError>
         ensures { IfOk result (λ text. text ≡ bytes.now) }
     {
@@ -40,25 +46,32 @@ impl Text {
         })
     }
 
+    /// The bytes, to be read.
     pub fn as_slice(&self) -> &[u8]
         ensures { result.now ≡ self.now }
     {
         self.bytes.as_slice()
     }
 
+    /// The number of bytes.
     pub fn len(&self) -> usize
         ensures { result ≡ length self.now }
     {
         self.bytes.len()
     }
 
+    /// Whether there are no bytes.
     pub fn is_empty(&self) -> bool
         ensures { IsTrue result ↔ (self.now ≡ []) }
     {
         self.bytes.is_empty()
     }
 
-    /// Adds bytes at the end. Without memory for them the text stays as it was.
+    /// Adds bytes at the end.
+    ///
+    /// # Errors
+    ///
+    /// Want of memory; the text stays as it was.
     pub fn put(&mut self, bytes: &[u8]) -> Result<(), AllocError>
         ensures ok { OnOk result (self.new ≡ self.old ++ bytes.now) }
         ensures err { OnErr result (self.new ≡ self.old) }
@@ -66,7 +79,11 @@ impl Text {
         self.bytes.extend_from_slice(bytes)
     }
 
-    /// Adds a number at the end, in decimal. Without memory for it the text stays as it was.
+    /// Adds a number at the end, in decimal without leading zeros.
+    ///
+    /// # Errors
+    ///
+    /// Want of memory; the text stays as it was.
     pub fn put_number(&mut self, number: u64) -> Result<(), AllocError>
         ensures ok { OnOk result (self.new ≡ self.old ++ decimal number) }
         ensures err { OnErr result (self.new ≡ self.old) }

@@ -1,10 +1,4 @@
-pub mod BodyLemmas
-pub mod LineLemmas
-pub mod MeaningLemmas
-pub mod NumberLemmas
-pub mod SourceLemmas
-pub mod TemplateLemmas
-pub mod WordLemmas
-pub mod StraightLemmas
 pub mod JudgeLemmas
+mod Rows
 pub mod TopLemmas
+pub mod WordLemmas

@@ -1,20 +1,32 @@
 -- How an answer reaches its two sinks.
-use Rattle.std.specs.Prelude.{⊤, ℕ, List, Option}
-use Rattle.fore_base.specs.Outside.{Rose, GrewByPrefix}
+use Rattle.std.specs.Prelude.{◌≡◌, ◌⊎◌, ℕ, List}
+use Rattle.fore_base.specs.Outside.{Rose, Grew, GrewByPrefix}
 use Rattle.forester.specs.declared.answer.Answer.{Answer}
-use Rattle.forester.specs.declared.answer.Answer.TheVariants.{Safe, Unsafe, Usage, TooLong, NotStraight, ReadFault, NoMemory}
+use Rattle.forester.specs.Requests.{Writing}
+use Rattle.forester.specs.Texts.{out_text, notes_text}
 
--- A sink failed while a text was written to it: its count of faults rose, and its contents grew by a prefix of the text.
-pub record IsCutShort {S : Type 0} (held : S → Option (List ℕ)) (faults : S → ℕ) (old new : S) (text : List ℕ) : Type 0 where
-  pub rose : Rose (faults old) (faults new)
-  pub grew : GrewByPrefix (held old) (held new) text
+-- nothing was written
+abbrev pub IsUntouched : Writing → Type 0
+IsUntouched w = w.after.held ≡ w.before.held
 
--- the delivery of the answer can want memory: a report with numbers is made whole before it is written
-abbrev pub WantsMemory : Answer → Type 0
-WantsMemory Safe = ⊥
-WantsMemory (Unsafe kind line step) = ⊤
-WantsMemory Usage = ⊥
-WantsMemory TooLong = ⊥
-WantsMemory NotStraight = ⊥
-WantsMemory ReadFault = ⊥
-WantsMemory NoMemory = ⊤
+-- nothing was written to either
+abbrev pub WroteNothing : Writing → Writing → Type 0
+WroteNothing out notes = IsUntouched out × IsUntouched notes
+
+-- exactly this text was written
+abbrev pub Wrote : Writing → List ℕ → Type 0
+Wrote w text = Grew w.before.held w.after.held text
+
+-- both sinks got the text that is due to them
+abbrev pub Told : Writing → Writing → Answer → Type 0
+Told out notes answer = Wrote out (out_text answer) × Wrote notes (notes_text answer)
+
+-- a sink failed while a text was written to it: its count of faults rose, and it got a beginning of the text and not all of it; so some was due
+pub record IsCut (w : Writing) (text : List ℕ) : Type 0 where
+  pub rose : Rose w.before.faults w.after.faults
+  pub grew : GrewByPrefix w.before.held w.after.held text
+
+-- one sink failed, and the other got nothing
+abbrev pub IsCutShort : Writing → Writing → Answer → Type 0
+IsCutShort out notes answer =
+    IsCut out (out_text answer) × IsUntouched notes ⊎ IsCut notes (notes_text answer) × IsUntouched out

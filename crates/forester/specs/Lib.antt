@@ -1,13 +1,7 @@
-pub mod Building
-pub mod Checks
 pub mod Delivery
-pub mod Meaning
-pub mod Rules
-pub mod Sources
-pub mod Spelling
-pub mod Straight
-pub mod Templates
+pub mod Requests
 pub mod Texts
-pub mod Words
-pub mod Reading
 pub mod Verdict
+pub mod Words
+pub mod inner
+pub mod straight

@@ -1,16 +1,19 @@
--- Which answer is right for some words, and for what the shelf holds.
-use Rattle.std.specs.Prelude.{◌≡◌, ◌≤◌, ◌<◌, ◌⊎◌, ⊤, ℕ, List, [], Option, IfSome, length}
+-- Which answer is right for what was asked and what the shelf gave.
+use Rattle.std.specs.Prelude.{◌≡◌, ◌≤◌, ◌<◌, ◌⊎◌, ⊤, ℕ, List, [], Some, None, IfSome, length}
+use Rattle.fore_base.specs.declared.limits.TheConstants.{FILE_BYTES}
 use Rattle.fore_base.specs.declared.fault.Fault.{Fault as Kind}
-use Rattle.fore_base.specs.Outside.{Rose, Grew}
+use Rattle.fore_base.specs.Outside.{Rose}
 use Rattle.c_types.specs.declared.outcome.Outcome.TheVariants.{Fault}
 use Rattle.c_types.specs.Program.{Program}
 use Rattle.c_types.specs.Runs.{run}
 use Rattle.c_types.specs.Over.{IsFault}
+use Rattle.forester.specs.declared.answer.Refusal.{Refusal}
+use Rattle.forester.specs.declared.answer.Refusal.TheVariants.{TooLong, NotStraight}
 use Rattle.forester.specs.declared.answer.Answer.{Answer}
-use Rattle.forester.specs.declared.answer.Answer.TheVariants.{Safe, Unsafe, Usage, TooLong, NotStraight, ReadFault, NoMemory}
-use Rattle.forester.specs.Texts.{out_text, notes_text}
-use Rattle.forester.specs.Words.{IsVerify}
-use Rattle.forester.specs.Straight.{IsStraight}
+use Rattle.forester.specs.declared.answer.Answer.TheVariants.{Safe, Unsafe, Usage, Refused, ReadFault, NoMemory}
+use Rattle.forester.specs.Requests.{ShelfView, Request, Writing}
+use Rattle.forester.specs.Words.{IsVerify, NamesNoFile}
+use Rattle.forester.specs.straight.Files.{IsStraight}
 
 -- no choices and no number of steps lead the program to a fault
 abbrev pub NeverFaults : Program → Type 0
@@ -20,66 +23,75 @@ NeverFaults p = (choices : List ℕ) (steps : ℕ) → IsFault (run p choices st
 abbrev pub MeetsFault : Program → Kind → ℕ → ℕ → Type 0
 MeetsFault p kind line step = run p [] step ≡ Fault kind line step
 
--- the bytes of a file that were read: those that the shelf holds, where it tells, and within the limit
-abbrev pub IsRead : Option (List ℕ) → List ℕ → Type 0
-IsRead held bytes = (length bytes ≤ 1048576) × IfSome held (λ told. bytes ≡ told)
+-- the bytes are those of no straight file
+abbrev pub IsNotStraight : List ℕ → Type 0
+IsNotStraight bytes = (p : Program) → IsStraight bytes p → ⊥
 
--- the file of this path is straight, and its program has the property
-abbrev pub StraightFile : (Program → Type 0) → Option (List ℕ) → Type 0
-StraightFile P held = (bytes : List ℕ) × IsRead held bytes × (p : Program) × IsStraight bytes p × P p
+-- Reading the file of a path, by what the shelf told before and after the call.
+module _ (path : List ℕ) (before after : ShelfView) where
+  -- the bytes that the shelf gave: within the limit, and those that it holds, where it tells them
+  pub record IsRead (bytes : List ℕ) : Type 0 where
+    pub given : after.given path ≡ Some bytes
+    pub within : length bytes ≤ FILE_BYTES
+    pub held : IfSome (before.holds path) (λ told. bytes ≡ told)
 
--- The answers that are right for a path, by what the shelf holds there and by its counts of faults before and after.
-abbrev pub JudgesPath : Option (List ℕ) → ℕ → ℕ → Answer → Type 0
-JudgesPath held before after Safe = StraightFile NeverFaults held
-JudgesPath held before after (Unsafe kind line step) = StraightFile (λ p. MeetsFault p kind line step) held
-JudgesPath held before after Usage = ⊥
-JudgesPath held before after TooLong = IfSome held (λ told. 1048576 < length told)
-JudgesPath held before after NotStraight = (bytes : List ℕ) × IsRead held bytes × ((p : Program) → IsStraight bytes p → ⊥)
-JudgesPath held before after ReadFault = Rose before after
-JudgesPath held before after NoMemory = ⊤
+  -- the bytes that were read are a straight file, whose program has the property
+  abbrev pub HasProgram : (Program → Type 0) → Type 0
+  HasProgram P = (bytes : List ℕ) × IsRead bytes × (p : Program) × IsStraight bytes p × P p
 
--- The answers that are right for the words: usage where they name no file, else an answer that is right for the file's path.
-module _ (words : List (List ℕ)) (holds : List ℕ → Option (List ℕ)) (before after : List ℕ → ℕ) where
-  abbrev pub ForFile : Answer → Type 0
-  ForFile answer = (path : List ℕ) × IsVerify words path × JudgesPath (holds path) (before path) (after path) answer
+  abbrev pub IsRefused : Refusal → Type 0
+  IsRefused TooLong = (after.given path ≡ before.given path) × IfSome (before.holds path) (λ told. FILE_BYTES < length told)
+  IsRefused NotStraight = (bytes : List ℕ) × IsRead bytes × IsNotStraight bytes
 
-  abbrev pub IsRight : Answer → Type 0
-  IsRight Safe = ForFile Safe
-  IsRight (Unsafe kind line step) = ForFile (Unsafe kind line step)
-  IsRight Usage = (path : List ℕ) → IsVerify words path → ⊥
-  IsRight TooLong = ForFile TooLong
-  IsRight NotStraight = ForFile NotStraight
-  IsRight ReadFault = ForFile ReadFault
-  IsRight NoMemory = ForFile NoMemory
+  -- the answer is right for the file
+  abbrev pub IsRightFor : Answer → Type 0
+  IsRightFor Safe = HasProgram NeverFaults
+  IsRightFor (Unsafe kind line step) = HasProgram (λ p. MeetsFault p kind line step)
+  IsRightFor Usage = ⊥
+  IsRightFor (Refused why) = IsRefused why
+  IsRightFor ReadFault = Rose (before.faults path) (after.faults path)
+  IsRightFor NoMemory = ⊤
 
--- The answers that are right for a file's bytes, and for its program.
+-- the words name a file, and the answer is right for it
+abbrev pub ForFile : Request → Answer → Type 0
+ForFile r answer = (path : List ℕ) × IsVerify r.words path × IsRightFor path r.before r.after answer
 
-abbrev pub JudgesProgram : Program → Answer → Type 0
-JudgesProgram p Safe = NeverFaults p
-JudgesProgram p (Unsafe kind line step) = MeetsFault p kind line step
-JudgesProgram p Usage = ⊥
-JudgesProgram p TooLong = ⊥
-JudgesProgram p NotStraight = ⊥
-JudgesProgram p ReadFault = ⊥
-JudgesProgram p NoMemory = ⊥
+-- The answer is right: usage where the words name no file, and otherwise what is right for the file.
+abbrev pub IsRight : Request → Answer → Type 0
+IsRight r Safe = ForFile r Safe
+IsRight r (Unsafe kind line step) = ForFile r (Unsafe kind line step)
+IsRight r Usage = NamesNoFile r.words
+IsRight r (Refused why) = ForFile r (Refused why)
+IsRight r ReadFault = ForFile r ReadFault
+IsRight r NoMemory = ForFile r NoMemory
 
-abbrev pub JudgesBytes : List ℕ → Answer → Type 0
-JudgesBytes bytes Safe = (p : Program) × IsStraight bytes p × NeverFaults p
-JudgesBytes bytes (Unsafe kind line step) = (p : Program) × IsStraight bytes p × MeetsFault p kind line step
-JudgesBytes bytes Usage = ⊥
-JudgesBytes bytes TooLong = ⊥
-JudgesBytes bytes NotStraight = (p : Program) → IsStraight bytes p → ⊥
-JudgesBytes bytes ReadFault = ⊥
-JudgesBytes bytes NoMemory = ⊥
+-- no file is read but the one that the words name, and what the shelf holds stays
+pub record ReadsOnly (r : Request) : Type 0 where
+  pub others : (path : List ℕ) → (IsVerify r.words path → ⊥) → r.after.given path ≡ r.before.given path
+  pub kept : (path : List ℕ) → r.after.holds path ≡ r.before.holds path
 
--- Both sinks grew by the texts of the answer.
-abbrev pub Told : (out_old out_new notes_old notes_new : Option (List ℕ)) → Answer → Type 0
-Told out_old out_new notes_old notes_new answer = Grew out_old out_new (out_text answer) × Grew notes_old notes_new (notes_text answer)
+-- no reading of a file that the words name failed in this call, and no write
+pub record NothingFailed (r : Request) (o n : Writing) : Type 0 where
+  pub shelf : (path : List ℕ) → IsVerify r.words path → Rose (r.before.faults path) (r.after.faults path) → ⊥
+  pub out : Rose o.before.faults o.after.faults → ⊥
+  pub notes : Rose n.before.faults n.after.faults → ⊥
 
--- a count of faults that did not rise
-abbrev pub IsSteady : ℕ → ℕ → Type 0
-IsSteady before after = Rose before after → ⊥
+-- the words name a file of these bytes: the shelf tells that it holds them, or it gave them in this call, having given none of the file before
+pub record HasBytes (r : Request) (bytes : List ℕ) : Type 0 where
+  pub path : List ℕ
+  pub named : IsVerify r.words path
+  pub known : (r.before.holds path ≡ Some bytes) ⊎ (r.before.given path ≡ None) × (r.after.given path ≡ Some bytes)
 
--- bytes above the limit, or of no straight file
-abbrev pub IsNoStraightFile : List ℕ → Type 0
-IsNoStraightFile bytes = (1048576 < length bytes) ⊎ ((p : Program) → IsStraight bytes p → ⊥)
+-- the words name a straight file
+pub record NamesStraight (r : Request) : Type 0 where
+  pub bytes : List ℕ
+  pub file : HasBytes r bytes
+  pub within : length bytes ≤ FILE_BYTES
+  pub program : Program
+  pub straight : IsStraight bytes program
+
+-- the words name a file that is too long or not straight
+pub record NamesOther (r : Request) : Type 0 where
+  pub bytes : List ℕ
+  pub file : HasBytes r bytes
+  pub other : (FILE_BYTES < length bytes) ⊎ IsNotStraight bytes

@@ -1,20 +1,28 @@
+//! What Forester answers to its words.
 use fore_base::fault::Fault;
 
-/// What Forester answers to its words.
+/// An answer to the words, with what its report prints.
 #[derive(Clone, Copy, PartialEq, Eq, Debug)]
 pub enum Answer {
     /// No run of the program meets a fault.
     Safe,
-    /// The program's run meets this fault in its step of this number, the first being 1, on this line of the file.
+    /// The program's run meets this fault in its step of this number, the first being 1, on this line of the file, the first being 1.
     Unsafe { kind: Fault, line: u32, step: u64 },
     /// The words do not read.
     Usage,
-    /// The file has more bytes than the limit.
-    TooLong,
-    /// The file is not straight.
-    NotStraight,
+    /// The file is refused.
+    Refused(Refusal),
     /// The file was not read, and its shelf has counted a fault.
     ReadFault,
     /// Want of memory.
     NoMemory,
+}
+
+/// Why a file is refused. Each reason has one line of text.
+#[derive(Clone, Copy, PartialEq, Eq, Debug)]
+pub enum Refusal {
+    /// K1: the file has more bytes than the limit.
+    TooLong,
+    /// N1: the file is not straight.
+    NotStraight,
 }

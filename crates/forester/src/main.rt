@@ -1,20 +1,18 @@
-// Forester: from the words and the bytes of a C file to the report and the status.
+//! Forester: from the words of the command line and the bytes of a C file to the report and the status.
+//!
+//! `top::forester` does all that the program does, over any shelf and any two sinks, and its contract is what is proved of the program. It reads the
+//! words (`words`), judges the file that they name (`judge`, over the reader in `straight`), and delivers the answer (`deliver`, with the texts of
+//! `report`). `main` makes the real shelf and sinks, and calls it.
 #![tactic(auto)]
 
 mod answer;
-mod body;
-mod check;
 mod deliver;
 mod judge;
-mod parse;
-mod part;
 mod report;
-mod source;
 mod straight;
 #[cfg(test)]
 mod tests;
-mod top;
-mod typed;
+pub mod top;
 mod words;
 
 use fore_base::file_shelf::FileShelf;
@@ -33,7 +31,7 @@ fn main(rt: HostRuntime) -> ExitCode {
         Ok(words) => words,
         Err(status) => return ExitCode::from(status),
     };
-    let mut shelf = FileShelf::new(&rt);
+    let mut shelf = FileShelf::new(alloc, &rt);
     let mut out = StreamSink::new(rt.stdout());
     let mut notes = StreamSink::new(rt.stderr());
     let status = forester(

@@ -1,7 +1,8 @@
-// The texts of reports.
+//! The texts of reports and refusals.
 ghost use Rattle.std.specs.Prelude.{◌≡◌, IfOk};
-ghost use Rattle.forester.specs.Texts.{fault_text, unsafe_text};
+ghost use Rattle.forester.specs.Texts.{fault_text, unsafe_text, refusal_text};
 
+use crate::answer::Refusal;
 use fore_base::fault::Fault;
 use fore_base::memory::Mem;
 use fore_base::text::Text;
@@ -23,7 +24,20 @@ pub fn fault_text(kind: Fault) -> &'static [u8]
     }
 }
 
-/// The report on a fault, whole. Its error is want of memory.
+/// The line that says why a file is refused.
+pub fn refusal_text(why: Refusal) -> &'static [u8]
+    ensures { result.now ≡ refusal_text why }
+{
+    match why {
+        Refusal::TooLong => b"refused K1 file\n",
+        Refusal::NotStraight => b"refused N1 file\n",
+    }
+}
+
+/// The report on a fault, whole.
+///
+/// # Errors
+/// Want of memory for the text.
 pub fn unsafe_report(alloc: Global, kind: Fault, line: u32, step: u64) -> Mem<Text>
     ensures { IfOk result (λ text. text ≡ unsafe_text kind line step) }
 {
@@ -38,4 +52,71 @@ pub fn unsafe_report(alloc: Global, kind: Fault, line: u32, step: u64) -> Mem<Te
     text.put_number(step)?;
     text.put(b"\nchoices -\n")?;
     Ok(text)
+}
+
+#[cfg(test)]
+mod tests {
+    use super::*;
+    use std::test::Fail;
+
+    /// Each fault with its number and name; line and step are decimal, up to the greatest.
+    const REPORTS: [(Fault, u32, u64, &str); 8] = [
+        (
+            Fault::NullDeref,
+            7,
+            3,
+            "UNSAFE\nfault 1 null dereference\nline 7\nstep 3\nchoices -\n",
+        ),
+        (
+            Fault::UninitDeref,
+            12,
+            1,
+            "UNSAFE\nfault 2 uninitialised dereference\nline 12\nstep 1\nchoices -\n",
+        ),
+        (
+            Fault::DanglingDeref,
+            1,
+            4160,
+            "UNSAFE\nfault 3 dangling dereference\nline 1\nstep 4160\nchoices -\n",
+        ),
+        (
+            Fault::InvalidFree,
+            9,
+            10,
+            "UNSAFE\nfault 4 invalid free\nline 9\nstep 10\nchoices -\n",
+        ),
+        (
+            Fault::DoubleFree,
+            100,
+            99,
+            "UNSAFE\nfault 5 double free\nline 100\nstep 99\nchoices -\n",
+        ),
+        (
+            Fault::Leak,
+            5,
+            2,
+            "UNSAFE\nfault 6 leak\nline 5\nstep 2\nchoices -\n",
+        ),
+        (
+            Fault::Assertion,
+            4294967295,
+            8,
+            "UNSAFE\nfault 7 failed assertion\nline 4294967295\nstep 8\nchoices -\n",
+        ),
+        (
+            Fault::IndetTest,
+            20,
+            18446744073709551615,
+            "UNSAFE\nfault 8 indeterminate test\nline 20\nstep 18446744073709551615\nchoices -\n",
+        ),
+    ];
+
+    #[test]
+    fn each_fault_has_its_report(rt: HostRuntime) -> Result<(), Fail> {
+        for (kind, line, step, text) in REPORTS {
+            let report = unsafe_report(rt.alloc(), kind, line, step)?;
+            assert_eq!(rt; report.as_slice(), text.as_bytes(), "{kind:?}");
+        }
+        Ok(())
+    }
 }

@@ -1,4 +1,4 @@
-// Files in memory, from their bytes to the report and the status.
+//! Files in memory, from the words and the bytes to the report and the status.
 
 use crate::top::forester;
 use fore_base::mem_shelf::MemShelf;
@@ -11,10 +11,318 @@ use std::process::Abort;
 use std::test::Fail;
 use std::thread::Threads;
 
-// Lines 1 and 2 of each program, and what follows its lines, of which the first is line 3.
+/// What comes of a call: the status, and what is then on standard output and on standard error.
+type Answers = (u8, &'static str, &'static str);
+
+/// Which read fails, which put of standard output, and which of standard error, the first being 1; 0 for none.
+type Fails = (u64, u64, u64);
+
+/// Lines 1 and 2 of each program of `PROGRAMS`, and what follows its lines, of which the first is line 3.
 const HEAD: &str = "struct node { struct node *next; struct node *other; };\nint main(void) {\n";
 
 const TAIL: &str = "return 0;\n}\n";
+
+/// Lines of programs, with the status and the report.
+const PROGRAMS: [(&str, &str, u8, &str); 19] = [
+    (
+        "the second free of line 6 is the third step: a declaration takes none",
+        "struct node *x;\nx = malloc(sizeof(struct node));\nfree(x);\nfree(x);\n",
+        1,
+        "UNSAFE\nfault 5 double free\nline 6\nstep 3\nchoices -\n",
+    ),
+    (
+        "the cell is lost when the variables die, in line 5; the return is a step",
+        "struct node *x;\nx = malloc(sizeof(struct node));\n",
+        1,
+        "UNSAFE\nfault 6 leak\nline 5\nstep 2\nchoices -\n",
+    ),
+    (
+        "a load through a null pointer",
+        "struct node *x;\nstruct node *y;\nx = NULL;\ny = x->next;\n",
+        1,
+        "UNSAFE\nfault 1 null dereference\nline 6\nstep 2\nchoices -\n",
+    ),
+    (
+        "a load through a variable without a value",
+        "struct node *x;\nx = x->next;\n",
+        1,
+        "UNSAFE\nfault 2 uninitialised dereference\nline 4\nstep 1\nchoices -\n",
+    ),
+    (
+        "a load through a pointer to a freed cell",
+        "struct node *x;\nx = malloc(sizeof(struct node));\nfree(x);\nx = x->next;\n",
+        1,
+        "UNSAFE\nfault 3 dangling dereference\nline 6\nstep 3\nchoices -\n",
+    ),
+    (
+        "free of a variable without a value",
+        "struct node *x;\nfree(x);\n",
+        1,
+        "UNSAFE\nfault 4 invalid free\nline 4\nstep 1\nchoices -\n",
+    ),
+    (
+        "a store through a null pointer",
+        "struct node *x;\nx = NULL;\nx->next = x;\n",
+        1,
+        "UNSAFE\nfault 1 null dereference\nline 5\nstep 2\nchoices -\n",
+    ),
+    (
+        "a store through a variable without a value",
+        "struct node *x;\nx->other = NULL;\n",
+        1,
+        "UNSAFE\nfault 2 uninitialised dereference\nline 4\nstep 1\nchoices -\n",
+    ),
+    (
+        "a copy of the pointer does not keep the cell alive",
+        "struct node *x;\nstruct node *y;\nx = malloc(sizeof(struct node));\ny = x;\nfree(x);\ny->next = NULL;\n",
+        1,
+        "UNSAFE\nfault 3 dangling dereference\nline 8\nstep 4\nchoices -\n",
+    ),
+    (
+        "the only pointer is overwritten in line 5, before the end",
+        "struct node *x;\nx = malloc(sizeof(struct node));\nx = NULL;\nx = malloc(sizeof(struct node));\nfree(x);\n",
+        1,
+        "UNSAFE\nfault 6 leak\nline 5\nstep 2\nchoices -\n",
+    ),
+    (
+        "a cell that only names itself is not reached",
+        "struct node *x;\nx = malloc(sizeof(struct node));\nx->next = x;\nx = NULL;\n",
+        1,
+        "UNSAFE\nfault 6 leak\nline 6\nstep 3\nchoices -\n",
+    ),
+    ("no lines", "", 0, "SAFE\n"),
+    (
+        "a cell that is freed",
+        "struct node *x;\nx = malloc(sizeof(struct node));\nfree(x);\n",
+        0,
+        "SAFE\n",
+    ),
+    (
+        "free of a null pointer does nothing",
+        "struct node *x;\nx = NULL;\nfree(x);\nfree(x);\n",
+        0,
+        "SAFE\n",
+    ),
+    (
+        "values that are indeterminate may be copied",
+        "struct node *x;\nstruct node *y;\ny = x;\nx = malloc(sizeof(struct node));\ny = x->next;\nx->other = y;\nfree(x);\ny = x;\n",
+        0,
+        "SAFE\n",
+    ),
+    (
+        "a chain of three cells, freed from its end",
+        "struct node *a;\nstruct node *b;\nstruct node *c;\na = malloc(sizeof(struct node));\nb = malloc(sizeof(struct node));\nc = malloc(sizeof(struct node));\na->next = b;\nb->next = c;\nc->next = NULL;\nfree(c);\nfree(b);\nfree(a);\n",
+        0,
+        "SAFE\n",
+    ),
+    (
+        "the chain is reached from its head alone",
+        "struct node *a;\nstruct node *b;\na = malloc(sizeof(struct node));\nb = malloc(sizeof(struct node));\na->next = b;\nb = NULL;\nb = a->next;\nfree(a);\nfree(b);\n",
+        0,
+        "SAFE\n",
+    ),
+    (
+        "a cycle, broken and freed",
+        "struct node *x;\nstruct node *y;\nx = malloc(sizeof(struct node));\ny = malloc(sizeof(struct node));\nx->next = y;\ny->next = x;\nx->next = NULL;\nfree(y);\nfree(x);\n",
+        0,
+        "SAFE\n",
+    ),
+    (
+        "a field is overwritten after its cell was freed through another path",
+        "struct node *x;\nstruct node *y;\nx = malloc(sizeof(struct node));\ny = malloc(sizeof(struct node));\nx->next = y;\nfree(y);\nx->next = NULL;\nfree(x);\n",
+        0,
+        "SAFE\n",
+    ),
+];
+
+/// Files that are not straight.
+const OTHERS: [(&str, &str); 18] = [
+    ("no tokens", ""),
+    ("a loop", "int main(void) { while (1) {} }"),
+    (
+        "a comment",
+        "struct n { struct n *f; };\nint main(void) { /* */ return 0; }",
+    ),
+    (
+        "a skipped line",
+        "#include <stdlib.h>\nstruct n { struct n *f; };\nint main(void) { return 0; }",
+    ),
+    (
+        "a byte that begins no token",
+        "struct n { struct n *f; };\nint main(void) { return 0; } @",
+    ),
+    ("no field", "struct n { };\nint main(void) { return 0; }"),
+    (
+        "a field of another struct",
+        "struct n { struct m *f; };\nint main(void) { return 0; }",
+    ),
+    (
+        "a field twice",
+        "struct n { struct n *f; struct n *f; };\nint main(void) { return 0; }",
+    ),
+    (
+        "a data field",
+        "struct n { int f; };\nint main(void) { return 0; }",
+    ),
+    (
+        "17 fields",
+        "struct n { struct n *a; struct n *b; struct n *c; struct n *d; struct n *e; struct n *f; struct n *g; struct n *h; struct n *i; struct n *j; struct n *k; struct n *l; struct n *m; struct n *n; struct n *o; struct n *p; struct n *q; };\nint main(void) { return 0; }",
+    ),
+    (
+        "a variable of another struct",
+        "struct n { struct n *f; };\nint main(void) { struct m *x; return 0; }",
+    ),
+    (
+        "a variable twice",
+        "struct n { struct n *f; };\nint main(void) { struct n *x; struct n *x; return 0; }",
+    ),
+    (
+        "a variable that is used before it is declared",
+        "struct n { struct n *f; };\nint main(void) { x = NULL; struct n *x; return 0; }",
+    ),
+    (
+        "a field that is not there",
+        "struct n { struct n *f; };\nint main(void) { struct n *x; x->g = NULL; return 0; }",
+    ),
+    (
+        "the size of another struct",
+        "struct n { struct n *f; };\nint main(void) { struct n *x; x = malloc(sizeof(struct m)); return 0; }",
+    ),
+    (
+        "a reserved word as a name",
+        "struct n { struct n *true; };\nint main(void) { return 0; }",
+    ),
+    (
+        "a refused word as a name",
+        "struct n { struct n *f; };\nint main(void) { struct n *union; return 0; }",
+    ),
+    (
+        "nothing but 0 is returned",
+        "struct n { struct n *f; };\nint main(void) { return 1; }",
+    ),
+];
+
+/// A program with the greatest number of fields.
+const FIELDS: &str =
+    "struct n { struct n *a; struct n *b; struct n *c; struct n *d; struct n *e; struct n *f; struct n *g; struct n *h; struct n *i; struct n *j; struct n *k; struct n *l; struct n *m; struct n *n; struct n *o; struct n *p; };\nint main(void) { return 0; }";
+
+/// Numbers of variables and of lines `v = NULL;`, and what comes of the program that they make.
+const LENGTHS: [(&str, usize, usize, Answers); 3] = [
+    (
+        "64 variables, and 4,096 statements with the declarations and the return",
+        64,
+        4031,
+        (0, "SAFE\n", ""),
+    ),
+    ("one statement more", 64, 4032, (4, "", "refused N1 file\n")),
+    ("one variable more", 65, 0, (4, "", "refused N1 file\n")),
+];
+
+/// Numbers of bytes of a file of spaces, and what is said of it.
+const SPACES: [(&str, usize, &str); 2] = [
+    (
+        "the greatest length that is read is no program",
+        1_048_576,
+        "refused N1 file\n",
+    ),
+    ("one byte more is too long", 1_048_577, "refused K1 file\n"),
+];
+
+/// A straight program without a fault, and one with a leak.
+const FREED: &str =
+    "struct n { struct n *f; };\nint main(void) { struct n *x; x = malloc(sizeof(struct n)); free(x); return 0; }";
+
+const LOST: &str =
+    "struct n { struct n *f; };\nint main(void) { struct n *x; x = malloc(sizeof(struct n)); return 0; }";
+
+/// Words over the file x.c with this text, where these reads and puts fail.
+const CALLS: [(&str, &[&str], &str, Fails, Answers); 13] = [
+    (
+        "a file that is safe",
+        &["verify", "x.c"],
+        FREED,
+        (0, 0, 0),
+        (0, "SAFE\n", ""),
+    ),
+    (
+        "the greatest number of fields",
+        &["verify", "x.c"],
+        FIELDS,
+        (0, 0, 0),
+        (0, "SAFE\n", ""),
+    ),
+    ("no file", &["verify"], FREED, (0, 0, 0), (2, "", "usage\n")),
+    (
+        "an option for a file",
+        &["verify", "-x.c"],
+        FREED,
+        (0, 0, 0),
+        (2, "", "usage\n"),
+    ),
+    (
+        "a file that is not there",
+        &["verify", "y.c"],
+        FREED,
+        (0, 0, 0),
+        (5, "", "read fault\n"),
+    ),
+    (
+        "the first read fails",
+        &["verify", "x.c"],
+        "",
+        (1, 0, 0),
+        (5, "", "read fault\n"),
+    ),
+    (
+        "a second read, which does not come, would fail; the empty file is no program",
+        &["verify", "x.c"],
+        "",
+        (2, 0, 0),
+        (4, "", "refused N1 file\n"),
+    ),
+    (
+        "standard output fails at its first put",
+        &["verify", "x.c"],
+        FREED,
+        (0, 1, 0),
+        (6, "", ""),
+    ),
+    (
+        "standard output fails with a report on a fault",
+        &["verify", "x.c"],
+        LOST,
+        (0, 1, 0),
+        (6, "", ""),
+    ),
+    (
+        "standard error fails at its first put",
+        &["verify", "x.c"],
+        "",
+        (0, 0, 1),
+        (6, "", ""),
+    ),
+    (
+        "standard error fails with the usage",
+        &["verify"],
+        FREED,
+        (0, 0, 1),
+        (6, "", ""),
+    ),
+    (
+        "standard output would fail, but nothing is due to it",
+        &["verify", "y.c"],
+        FREED,
+        (0, 1, 0),
+        (5, "", "read fault\n"),
+    ),
+    (
+        "standard error would fail, but nothing is due to it",
+        &["verify", "x.c"],
+        FREED,
+        (0, 0, 1),
+        (0, "SAFE\n", ""),
+    ),
+];
 
 fn words_of(alloc: Global, words: &[&str]) -> Mem<Vec<String>> {
     let mut all = Vec::new(alloc);
@@ -24,202 +332,54 @@ fn words_of(alloc: Global, words: &[&str]) -> Mem<Vec<String>> {
     Ok(all)
 }
 
-// Whether these words, with this file as x.c, give this status and leave this on the sinks.
+// Whether these words over the file x.c with this text have this answer.
 fn gives<R: Threads + Sync>(
     rt: &R,
     alloc: Global,
     words: &[&str],
     file: &[u8],
-    status: u8,
-    out: &str,
-    notes: &str,
-) -> Mem<bool> {
-    let mut shelf = MemShelf::new(alloc);
-    shelf.add("x.c", file)?;
-    answers(rt, alloc, words, &mut shelf, status, out, notes)
-}
-
-// Whether these words, with this shelf, give this status and leave this on the sinks.
-fn answers<R: Threads + Sync>(
-    rt: &R,
-    alloc: Global,
-    words: &[&str],
-    shelf: &mut MemShelf,
-    status: u8,
-    out: &str,
-    notes: &str,
+    fails: Fails,
+    wanted: Answers,
 ) -> Mem<bool> {
     let words = words_of(alloc, words)?;
-    let mut out_sink = MemSink::new(alloc, 128, 128)?;
-    let mut notes_sink = MemSink::new(alloc, 128, 128)?;
-    let got = forester(
+    let mut shelf = MemShelf::new(alloc);
+    shelf.add("x.c", file)?;
+    shelf.fail(fails.0)?;
+    let mut out = MemSink::new(alloc, 128, 128)?;
+    out.fail(fails.1)?;
+    let mut notes = MemSink::new(alloc, 128, 128)?;
+    notes.fail(fails.2)?;
+    let status = forester(
         rt,
         alloc,
         words.as_slice(),
-        shelf,
-        &mut out_sink,
-        &mut notes_sink,
+        &mut shelf,
+        &mut out,
+        &mut notes,
         &NoGate,
     );
     Ok(
-        got == status
-            && out_sink.bytes() == out.as_bytes()
-            && notes_sink.bytes() == notes.as_bytes(),
+        status == wanted.0
+            && out.bytes() == wanted.1.as_bytes()
+            && notes.bytes() == wanted.2.as_bytes(),
     )
 }
 
-// Whether the program of these lines gives this status and this report.
-fn runs<R: Threads + Sync>(rt: &R, alloc: Global, lines: &str, status: u8, out: &str) -> Mem<bool> {
+// Whether `verify x.c` has this answer, where nothing fails.
+fn verifies<R: Threads + Sync>(rt: &R, alloc: Global, file: &[u8], wanted: Answers) -> Mem<bool> {
+    gives(rt, alloc, &["verify", "x.c"], file, (0, 0, 0), wanted)
+}
+
+fn program_of(alloc: Global, lines: &str) -> Mem<Text> {
     let mut text = Text::new(alloc);
     text.put(HEAD.as_bytes())?;
     text.put(lines.as_bytes())?;
     text.put(TAIL.as_bytes())?;
-    gives(
-        rt,
-        alloc,
-        &["verify", "x.c"],
-        text.as_slice(),
-        status,
-        out,
-        "",
-    )
-}
-
-// Whether the file is refused because it is not straight.
-fn is_refused<R: Threads + Sync>(rt: &R, alloc: Global, file: &str) -> Mem<bool> {
-    gives(
-        rt,
-        alloc,
-        &["verify", "x.c"],
-        file.as_bytes(),
-        4,
-        "",
-        "refused N1 file\n",
-    )
-}
-
-#[test]
-fn lines_meet_their_faults(rt: HostRuntime) -> Result<(), Fail> {
-    // lines, report. A declaration takes no step; the `return` is a step.
-    let rows: [(&str, &str); 11] = [
-        // the second free of line 6 is the third step
-        (
-            "struct node *x;\nx = malloc(sizeof(struct node));\nfree(x);\nfree(x);\n",
-            "UNSAFE\nfault 5 double free\nline 6\nstep 3\nchoices -\n",
-        ),
-        // the cell is lost when the variables die, in line 5
-        (
-            "struct node *x;\nx = malloc(sizeof(struct node));\n",
-            "UNSAFE\nfault 6 leak\nline 5\nstep 2\nchoices -\n",
-        ),
-        (
-            "struct node *x;\nstruct node *y;\nx = NULL;\ny = x->next;\n",
-            "UNSAFE\nfault 1 null dereference\nline 6\nstep 2\nchoices -\n",
-        ),
-        (
-            "struct node *x;\nx = x->next;\n",
-            "UNSAFE\nfault 2 uninitialised dereference\nline 4\nstep 1\nchoices -\n",
-        ),
-        (
-            "struct node *x;\nx = malloc(sizeof(struct node));\nfree(x);\nx = x->next;\n",
-            "UNSAFE\nfault 3 dangling dereference\nline 6\nstep 3\nchoices -\n",
-        ),
-        (
-            "struct node *x;\nfree(x);\n",
-            "UNSAFE\nfault 4 invalid free\nline 4\nstep 1\nchoices -\n",
-        ),
-        (
-            "struct node *x;\nx = NULL;\nx->next = x;\n",
-            "UNSAFE\nfault 1 null dereference\nline 5\nstep 2\nchoices -\n",
-        ),
-        (
-            "struct node *x;\nx->other = NULL;\n",
-            "UNSAFE\nfault 2 uninitialised dereference\nline 4\nstep 1\nchoices -\n",
-        ),
-        // a copy of the pointer does not keep the cell alive
-        (
-            "struct node *x;\nstruct node *y;\nx = malloc(sizeof(struct node));\ny = x;\nfree(x);\ny->next = NULL;\n",
-            "UNSAFE\nfault 3 dangling dereference\nline 8\nstep 4\nchoices -\n",
-        ),
-        // the only pointer is overwritten in line 5, before the end
-        (
-            "struct node *x;\nx = malloc(sizeof(struct node));\nx = NULL;\nx = malloc(sizeof(struct node));\nfree(x);\n",
-            "UNSAFE\nfault 6 leak\nline 5\nstep 2\nchoices -\n",
-        ),
-        // a cell that only names itself is not reached
-        (
-            "struct node *x;\nx = malloc(sizeof(struct node));\nx->next = x;\nx = NULL;\n",
-            "UNSAFE\nfault 6 leak\nline 6\nstep 3\nchoices -\n",
-        ),
-    ];
-    for (lines, out) in rows {
-        assert!(rt; runs(&rt, rt.alloc(), lines, 1, out)?, "{lines}");
-    }
-    Ok(())
-}
-
-#[test]
-fn lines_without_fault_are_safe(rt: HostRuntime) -> Result<(), Fail> {
-    let rows: [&str; 8] = [
-        "",
-        "struct node *x;\nx = malloc(sizeof(struct node));\nfree(x);\n",
-        // free of a null pointer does nothing
-        "struct node *x;\nx = NULL;\nfree(x);\nfree(x);\n",
-        // values that are indeterminate may be copied
-        "struct node *x;\nstruct node *y;\ny = x;\nx = malloc(sizeof(struct node));\ny = x->next;\nx->other = y;\nfree(x);\ny = x;\n",
-        // a chain of three cells, freed from its end
-        "struct node *a;\nstruct node *b;\nstruct node *c;\na = malloc(sizeof(struct node));\nb = malloc(sizeof(struct node));\nc = malloc(sizeof(struct node));\na->next = b;\nb->next = c;\nc->next = NULL;\nfree(c);\nfree(b);\nfree(a);\n",
-        // the chain is reached from its head alone
-        "struct node *a;\nstruct node *b;\na = malloc(sizeof(struct node));\nb = malloc(sizeof(struct node));\na->next = b;\nb = NULL;\nb = a->next;\nfree(a);\nfree(b);\n",
-        // a cycle, broken and freed
-        "struct node *x;\nstruct node *y;\nx = malloc(sizeof(struct node));\ny = malloc(sizeof(struct node));\nx->next = y;\ny->next = x;\nx->next = NULL;\nfree(y);\nfree(x);\n",
-        // a field is overwritten after its cell was freed through another path
-        "struct node *x;\nstruct node *y;\nx = malloc(sizeof(struct node));\ny = malloc(sizeof(struct node));\nx->next = y;\nfree(y);\nx->next = NULL;\nfree(x);\n",
-    ];
-    for lines in rows {
-        assert!(rt; runs(&rt, rt.alloc(), lines, 0, "SAFE\n")?, "{lines}");
-    }
-    Ok(())
-}
-
-#[test]
-fn each_broken_rule_refuses_the_file(rt: HostRuntime) -> Result<(), Fail> {
-    let rows: [&str; 18] = [
-        // no tokens, and a loop
-        "",
-        "int main(void) { while (1) {} }",
-        // a comment, a skipped line, a byte that begins no token
-        "struct n { struct n *f; };\nint main(void) { /* */ return 0; }",
-        "#include <stdlib.h>\nstruct n { struct n *f; };\nint main(void) { return 0; }",
-        "struct n { struct n *f; };\nint main(void) { return 0; } @",
-        // no field, a field of another struct, a field twice, a data field
-        "struct n { };\nint main(void) { return 0; }",
-        "struct n { struct m *f; };\nint main(void) { return 0; }",
-        "struct n { struct n *f; struct n *f; };\nint main(void) { return 0; }",
-        "struct n { int f; };\nint main(void) { return 0; }",
-        // 17 fields
-        "struct n { struct n *a; struct n *b; struct n *c; struct n *d; struct n *e; struct n *f; struct n *g; struct n *h; struct n *i; struct n *j; struct n *k; struct n *l; struct n *m; struct n *n; struct n *o; struct n *p; struct n *q; };\nint main(void) { return 0; }",
-        // a variable of another struct, a variable twice, one that is used before it is declared
-        "struct n { struct n *f; };\nint main(void) { struct m *x; return 0; }",
-        "struct n { struct n *f; };\nint main(void) { struct n *x; struct n *x; return 0; }",
-        "struct n { struct n *f; };\nint main(void) { x = NULL; struct n *x; return 0; }",
-        // a field that is not there, the size of another struct
-        "struct n { struct n *f; };\nint main(void) { struct n *x; x->g = NULL; return 0; }",
-        "struct n { struct n *f; };\nint main(void) { struct n *x; x = malloc(sizeof(struct m)); return 0; }",
-        // a reserved word and a refused word as names
-        "struct n { struct n *true; };\nint main(void) { return 0; }",
-        "struct n { struct n *f; };\nint main(void) { struct n *union; return 0; }",
-        // nothing may follow the return, which gives 0
-        "struct n { struct n *f; };\nint main(void) { return 1; }",
-    ];
-    for file in rows {
-        assert!(rt; is_refused(&rt, rt.alloc(), file)?, "{file}");
-    }
-    Ok(())
+    Ok(text)
 }
 
 // The first so many variables v, vv, vvv, .. are declared, and then so many lines `v = NULL;` follow.
-fn long_file(alloc: Global, vars: usize, lines: usize) -> Mem<Text> {
+fn long_program(alloc: Global, vars: usize, lines: usize) -> Mem<Text> {
     let mut text = Text::new(alloc);
     text.put(HEAD.as_bytes())?;
     let mut name = Text::new(alloc);
@@ -236,52 +396,6 @@ fn long_file(alloc: Global, vars: usize, lines: usize) -> Mem<Text> {
     Ok(text)
 }
 
-// Whether the long file gives this.
-fn long_gives<R: Threads + Sync>(
-    rt: &R,
-    alloc: Global,
-    vars: usize,
-    lines: usize,
-    status: u8,
-    out: &str,
-    notes: &str,
-) -> Mem<bool> {
-    let text = long_file(alloc, vars, lines)?;
-    gives(
-        rt,
-        alloc,
-        &["verify", "x.c"],
-        text.as_slice(),
-        status,
-        out,
-        notes,
-    )
-}
-
-#[test]
-fn limits_come_at_their_numbers(rt: HostRuntime) -> Result<(), Fail> {
-    // 64 variables, and 4,096 statements with the declarations and the `return`
-    assert!(rt; long_gives(&rt, rt.alloc(), 64, 4031, 0, "SAFE\n", "")?);
-    // 16 fields
-    let fields =
-        "struct n { struct n *a; struct n *b; struct n *c; struct n *d; struct n *e; struct n *f; struct n *g; struct n *h; struct n *i; struct n *j; struct n *k; struct n *l; struct n *m; struct n *n; struct n *o; struct n *p; };\nint main(void) { return 0; }";
-    assert!(rt;
-        gives(
-            &rt,
-            rt.alloc(),
-            &["verify", "x.c"],
-            fields.as_bytes(),
-            0,
-            "SAFE\n",
-            ""
-        )?
-    );
-    // one statement more, and one variable more
-    assert!(rt; long_gives(&rt, rt.alloc(), 64, 4032, 4, "", "refused N1 file\n")?);
-    assert!(rt; long_gives(&rt, rt.alloc(), 65, 0, 4, "", "refused N1 file\n")?);
-    Ok(())
-}
-
 fn spaces(alloc: Global, count: usize) -> Mem<Vec<u8>> {
     let mut all = Vec::new(alloc);
     for _space in 0..count {
@@ -290,77 +404,57 @@ fn spaces(alloc: Global, count: usize) -> Mem<Vec<u8>> {
     Ok(all)
 }
 
-#[test]
-fn other_answers_go_to_notes(rt: HostRuntime) -> Result<(), Fail> {
-    let longest = spaces(rt.alloc(), 1_048_576)?;
-    let long = spaces(rt.alloc(), 1_048_577)?;
-    // the greatest length that is read is no program; one byte more is too long
-    assert!(rt;
-        gives(
-            &rt,
-            rt.alloc(),
-            &["verify", "x.c"],
-            longest.as_slice(),
-            4,
-            "",
-            "refused N1 file\n"
-        )?
-    );
-    assert!(rt;
-        gives(
-            &rt,
-            rt.alloc(),
-            &["verify", "x.c"],
-            long.as_slice(),
-            4,
-            "",
-            "refused K1 file\n"
-        )?
-    );
-    // words that do not read, and a file that is not there
-    assert!(rt; gives(&rt, rt.alloc(), &["verify"], b"", 2, "", "usage\n")?);
-    assert!(rt; gives(&rt, rt.alloc(), &["verify", "-x.c"], b"", 2, "", "usage\n")?);
-    assert!(rt;
-        gives(
-            &rt,
-            rt.alloc(),
-            &["verify", "y.c"],
-            b"",
-            5,
-            "",
-            "read fault\n"
-        )?
-    );
-    Ok(())
+// The first row that is not met, of each table. The error is want of memory.
+
+fn wrong_program<R: Threads + Sync>(rt: &R, alloc: Global) -> Mem<Option<&'static str>> {
+    for (why, lines, status, out) in PROGRAMS {
+        let text = program_of(alloc, lines)?;
+        if !verifies(rt, alloc, text.as_slice(), (status, out, ""))? {
+            return Ok(Some(why));
+        }
+    }
+    Ok(None)
+}
+
+fn wrong_other<R: Threads + Sync>(rt: &R, alloc: Global) -> Mem<Option<&'static str>> {
+    for (why, file) in OTHERS {
+        if !verifies(rt, alloc, file.as_bytes(), (4, "", "refused N1 file\n"))? {
+            return Ok(Some(why));
+        }
+    }
+    Ok(None)
+}
+
+fn wrong_length<R: Threads + Sync>(rt: &R, alloc: Global) -> Mem<Option<&'static str>> {
+    for (why, vars, lines, wanted) in LENGTHS {
+        let text = long_program(alloc, vars, lines)?;
+        if !verifies(rt, alloc, text.as_slice(), wanted)? {
+            return Ok(Some(why));
+        }
+    }
+    for (why, count, notes) in SPACES {
+        let spaces = spaces(alloc, count)?;
+        if !verifies(rt, alloc, spaces.as_slice(), (4, "", notes))? {
+            return Ok(Some(why));
+        }
+    }
+    Ok(None)
+}
+
+fn wrong_call<R: Threads + Sync>(rt: &R, alloc: Global) -> Mem<Option<&'static str>> {
+    for (why, words, file, fails, wanted) in CALLS {
+        if !gives(rt, alloc, words, file.as_bytes(), fails, wanted)? {
+            return Ok(Some(why));
+        }
+    }
+    Ok(None)
 }
 
 #[test]
-fn a_read_that_fails_is_a_read_fault(rt: HostRuntime) -> Result<(), Fail> {
-    let mut shelf = MemShelf::new(rt.alloc());
-    shelf.add("x.c", b"")?;
-    shelf.fail(1)?;
-    assert!(rt;
-        answers(
-            &rt,
-            rt.alloc(),
-            &["verify", "x.c"],
-            &mut shelf,
-            5,
-            "",
-            "read fault\n"
-        )?
-    );
-    // the second read does not fail, and the empty file is no program
-    assert!(rt;
-        answers(
-            &rt,
-            rt.alloc(),
-            &["verify", "x.c"],
-            &mut shelf,
-            4,
-            "",
-            "refused N1 file\n"
-        )?
-    );
+fn each_row_has_its_answer(rt: HostRuntime) -> Result<(), Fail> {
+    assert_eq!(rt; wrong_program(&rt, rt.alloc())?, None);
+    assert_eq!(rt; wrong_other(&rt, rt.alloc())?, None);
+    assert_eq!(rt; wrong_length(&rt, rt.alloc())?, None);
+    assert_eq!(rt; wrong_call(&rt, rt.alloc())?, None);
     Ok(())
 }

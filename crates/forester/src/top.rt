@@ -1,12 +1,13 @@
-// The top call: it does all that the program does.
-ghost use Rattle.std.specs.Prelude.{◌≡◌, ◌≤◌, ◌⊎◌, ℕ, List, Option, Some, length, map, string_bytes};
+//! The top call: it does all that the program does.
+ghost use Rattle.std.specs.Prelude.{◌≡◌, ◌<◌, ◌⊎◌, ℕ};
 ghost use Rattle.fore_base.specs.declared.fault.Fault.{Fault as Kind};
-ghost use Rattle.forester.specs.Texts.{out_text, notes_text, IsStatus};
-ghost use Rattle.forester.specs.Delivery.{IsCutShort};
-ghost use Rattle.forester.specs.Words.{IsVerify};
-ghost use Rattle.c_types.specs.Program.{Program};
-ghost use Rattle.forester.specs.Straight.{IsStraight};
-ghost use Rattle.forester.specs.Verdict.{ForFile, IsRight, IsNoStraightFile, IsSteady, Told};
+ghost use Rattle.forester.specs.declared.answer.Refusal.{Refusal as Why};
+ghost use Rattle.forester.specs.declared.answer.Answer.{Answer as Due};
+ghost use Rattle.forester.specs.Requests.{texts, request_of, writing_of};
+ghost use Rattle.forester.specs.Words.{NamesNoFile};
+ghost use Rattle.forester.specs.Texts.{status_of, IsStatus};
+ghost use Rattle.forester.specs.Delivery.{IsCutShort, Told, WroteNothing};
+ghost use Rattle.forester.specs.Verdict.{IsRight, NothingFailed, NamesStraight, NamesOther, ReadsOnly};
 
 use crate::answer::Answer;
 use crate::deliver::deliver;
@@ -31,33 +32,35 @@ pub fn forester<R: Threads + Sync, L: Shelf, K: Sink, E: Sink, G: Gate>(
     notes: &mut E,
     gate: &G,
 ) -> u8
-    ensures is_safe { result ≡ 0 → ForFile (map (λ w. string_bytes w) words.now) (L.holds shelf.old) (L.faults shelf.old) (L.faults shelf.new) Answer.Safe
-        × Told (K.held out.old) (K.held out.new) (E.held notes.old) (E.held notes.new) Answer.Safe }
+    ensures is_safe { result ≡ 0 → IsRight (request_of L.Shelf words.now shelf.old shelf.new) Answer.Safe
+        × Told (writing_of K.Sink out.old out.new) (writing_of E.Sink notes.old notes.new) Answer.Safe }
     ensures is_unsafe { result ≡ 1 → (kind : Kind) × (line : ℕ) × (step : ℕ)
-        × ForFile (map (λ w. string_bytes w) words.now) (L.holds shelf.old) (L.faults shelf.old) (L.faults shelf.new) (Answer.Unsafe kind line step)
-        × Told (K.held out.old) (K.held out.new) (E.held notes.old) (E.held notes.new) (Answer.Unsafe kind line step) }
-    ensures usage { result ≡ 2 → ((path : List ℕ) → IsVerify (map (λ w. string_bytes w) words.now) path → ⊥)
-        × Told (K.held out.old) (K.held out.new) (E.held notes.old) (E.held notes.new) Answer.Usage }
-    ensures refused { result ≡ 4 → (refusal : Answer) × ((refusal ≡ Answer.TooLong) ⊎ (refusal ≡ Answer.NotStraight))
-        × ForFile (map (λ w. string_bytes w) words.now) (L.holds shelf.old) (L.faults shelf.old) (L.faults shelf.new) refusal
-        × Told (K.held out.old) (K.held out.new) (E.held notes.old) (E.held notes.new) refusal }
-    ensures read { result ≡ 5 → ForFile (map (λ w. string_bytes w) words.now) (L.holds shelf.old) (L.faults shelf.old) (L.faults shelf.new) Answer.ReadFault
-        × Told (K.held out.old) (K.held out.new) (E.held notes.old) (E.held notes.new) Answer.ReadFault }
-    ensures written { result ≡ 6 → (due : Answer)
-        × IsRight (map (λ w. string_bytes w) words.now) (L.holds shelf.old) (L.faults shelf.old) (L.faults shelf.new) due
-        × ((IsCutShort K.held K.faults out.old out.new (out_text due) × (E.held notes.new ≡ E.held notes.old))
-        ⊎ (IsCutShort E.held E.faults notes.old notes.new (notes_text due) × (K.held out.new ≡ K.held out.old))) }
-    ensures memory { result ≡ 7 → ((path : List ℕ) × IsVerify (map (λ w. string_bytes w) words.now) path)
-        × (K.held out.new ≡ K.held out.old) × (E.held notes.new ≡ E.held notes.old) }
-    ensures unread { ((path : List ℕ) → IsVerify (map (λ w. string_bytes w) words.now) path → ⊥) → (result ≡ 2) ⊎ (result ≡ 6) }
-    ensures judges { (path : List ℕ) (bytes : List ℕ) (p : Program) → IsVerify (map (λ w. string_bytes w) words.now) path
-        → L.holds shelf.old path ≡ Some bytes → length bytes ≤ 1048576 → IsStraight bytes p
-        → IsSteady (L.faults shelf.old path) (L.faults shelf.new path) → IsSteady (K.faults out.old) (K.faults out.new) → IsSteady (E.faults notes.old) (E.faults notes.new)
-        → (result ≡ 0) ⊎ ((result ≡ 1) ⊎ (result ≡ 7)) }
-    ensures refuses { (path : List ℕ) (bytes : List ℕ) → IsVerify (map (λ w. string_bytes w) words.now) path
-        → L.holds shelf.old path ≡ Some bytes → IsNoStraightFile bytes
-        → IsSteady (L.faults shelf.old path) (L.faults shelf.new path) → IsSteady (K.faults out.old) (K.faults out.new) → IsSteady (E.faults notes.old) (E.faults notes.new)
+        × IsRight (request_of L.Shelf words.now shelf.old shelf.new) (Answer.Unsafe kind line step)
+        × Told (writing_of K.Sink out.old out.new) (writing_of E.Sink notes.old notes.new)
+        (Answer.Unsafe kind line step) }
+    ensures usage { result ≡ 2 → IsRight (request_of L.Shelf words.now shelf.old shelf.new) Answer.Usage
+        × Told (writing_of K.Sink out.old out.new) (writing_of E.Sink notes.old notes.new) Answer.Usage }
+    ensures refused { result ≡ 4 → (why : Why)
+        × IsRight (request_of L.Shelf words.now shelf.old shelf.new) (Answer.Refused why)
+        × Told (writing_of K.Sink out.old out.new) (writing_of E.Sink notes.old notes.new)
+        (Answer.Refused why) }
+    ensures read { result ≡ 5 → IsRight (request_of L.Shelf words.now shelf.old shelf.new) Answer.ReadFault
+        × Told (writing_of K.Sink out.old out.new) (writing_of E.Sink notes.old notes.new) Answer.ReadFault }
+    ensures written { result ≡ 6 → (due : Due) × (status_of due < 6)
+        × IsRight (request_of L.Shelf words.now shelf.old shelf.new) due
+        × IsCutShort (writing_of K.Sink out.old out.new) (writing_of E.Sink notes.old notes.new) due }
+    ensures memory { result ≡ 7 → IsRight (request_of L.Shelf words.now shelf.old shelf.new) Answer.NoMemory
+        × WroteNothing (writing_of K.Sink out.old out.new) (writing_of E.Sink notes.old notes.new) }
+    ensures unread { NamesNoFile (texts words.now) → (result ≡ 2) ⊎ (result ≡ 6) }
+    ensures judges { NamesStraight (request_of L.Shelf words.now shelf.old shelf.new)
+        → NothingFailed (request_of L.Shelf words.now shelf.old shelf.new)
+        (writing_of K.Sink out.old out.new) (writing_of E.Sink notes.old notes.new)
+        → (result ≡ 0) ⊎ (result ≡ 1) ⊎ (result ≡ 7) }
+    ensures refuses { NamesOther (request_of L.Shelf words.now shelf.old shelf.new)
+        → NothingFailed (request_of L.Shelf words.now shelf.old shelf.new)
+        (writing_of K.Sink out.old out.new) (writing_of E.Sink notes.old notes.new)
         → (result ≡ 4) ⊎ (result ≡ 7) }
+    ensures reads_only { ReadsOnly (request_of L.Shelf words.now shelf.old shelf.new) }
     ensures status { IsStatus result }
 {
     let _rt = rt;

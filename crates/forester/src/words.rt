@@ -1,10 +1,12 @@
-// Reading the words of the command line.
-ghost use Rattle.std.specs.Prelude.{List, ℕ, map, string_bytes, MatchOption, IsTrue, ◌↔◌};
-ghost use Rattle.forester.specs.Words.{IsVerify, IsNoOption};
+//! Reading the words of the command line.
+ghost use Rattle.std.specs.Prelude.{MatchOption, IsTrue};
+ghost use Rattle.forester.specs.Requests.{texts};
+ghost use Rattle.forester.specs.Words.{IsVerify, IsNoOption, NamesNoFile};
 
 /// The file that the words ask to verify. None where the words are anything but `verify` and a path that does not begin with `-`.
 pub fn file_of<'a>(words: &'a [String]) -> Option<&'a str>
-    ensures { MatchOption result ((path : List ℕ) → IsVerify (map (λ w. string_bytes w) words.now) path → ⊥) (λ file. IsVerify (map (λ w. string_bytes w) words.now) file.now) }
+    ensures { MatchOption result (NamesNoFile (texts words.now))
+        (λ file. IsVerify (texts words.now) file.now) }
 {
     let [command, file] = words else {
         return None;
@@ -28,36 +30,47 @@ fn is_option(word: &str) -> bool
 #[cfg(test)]
 mod tests {
     use super::*;
+    use fore_base::memory::Mem;
+    use std::alloc::Global;
     use std::test::Fail;
+
+    /// Words, and the file that they name.
+    const WORDS: [(&str, &[&str], Option<&str>); 13] = [
+        ("a file", &["verify", "list.c"], Some("list.c")),
+        (
+            "any text that is no option is a path, also the empty one",
+            &["verify", ""],
+            Some(""),
+        ),
+        ("the command's name", &["verify", "verify"], Some("verify")),
+        ("a hyphen within", &["verify", "a-b.c"], Some("a-b.c")),
+        (
+            "a word that begins with a hyphen is no path",
+            &["verify", "-"],
+            None,
+        ),
+        ("an option", &["verify", "-x"], None),
+        ("two hyphens", &["verify", "--"], None),
+        ("no words", &[], None),
+        ("too few words", &["verify"], None),
+        ("too many", &["verify", "list.c", "list.c"], None),
+        ("another command", &["Verify", "list.c"], None),
+        ("a blank after the command", &["verify ", "list.c"], None),
+        ("the other way round", &["list.c", "verify"], None),
+    ];
+
+    fn names(alloc: Global, texts: &[&str], file: Option<&str>) -> Mem<bool> {
+        let mut words = Vec::new(alloc);
+        for text in texts {
+            words.push(String::from_str(alloc, text)?)?;
+        }
+        Ok(file_of(&words) == file)
+    }
 
     #[test]
     fn only_verify_and_a_file_read(rt: HostRuntime) -> Result<(), Fail> {
-        // words, the file that they name
-        let rows: [(&[&str], Option<&str>); 13] = [
-            (&["verify", "list.c"], Some("list.c")),
-            // any text that is no option is a path, also the empty one
-            (&["verify", ""], Some("")),
-            (&["verify", "verify"], Some("verify")),
-            (&["verify", "a-b.c"], Some("a-b.c")),
-            // a word that begins with a hyphen is no path
-            (&["verify", "-"], None),
-            (&["verify", "-x"], None),
-            (&["verify", "--"], None),
-            // too few words and too many
-            (&[], None),
-            (&["verify"], None),
-            (&["verify", "list.c", "list.c"], None),
-            // another command
-            (&["Verify", "list.c"], None),
-            (&["verify ", "list.c"], None),
-            (&["list.c", "verify"], None),
-        ];
-        for (texts, file) in rows {
-            let mut words = Vec::new(rt.alloc());
-            for text in texts {
-                words.push(String::from_str(rt.alloc(), text)?)?;
-            }
-            assert_eq!(rt; file_of(&words), file, "{texts:?}");
+        for (why, texts, file) in WORDS {
+            assert!(rt; names(rt.alloc(), texts, file)?, "{why}");
         }
         Ok(())
     }

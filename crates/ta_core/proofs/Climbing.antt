@@ -3,45 +3,45 @@ use Rattle.std.proofs.Common.{◌≡◌, ℕ, ◌<◌, Bool, true, false, true�
 use Rattle.std.specs.Bool.{Decides}
 use Rattle.fore_base.specs.Lists.{Every}
 use Rattle.ta_core.specs.declared.auto.Rule.{Rule}
-use Rattle.ta_core.specs.declared.step.Step.{Step}
+use Rattle.ta_core.specs.declared.arc.Arc.{Arc}
 use Rattle.ta_core.specs.declared.tree.Tree.{Tree}
-use Rattle.ta_core.specs.Auto.{Automaton, IsProperRule}
-use Rattle.ta_core.specs.Closing.{Reached, reach, ReachedAll, reach_none, reach_more}
+use Rattle.ta_core.specs.Auto.{Automaton, IsRankedRule}
+use Rattle.ta_core.specs.inner.Closing.{Reached, reach, ReachedAll, reach_none, reach_more}
 use Rattle.ta_core.specs.Language.{RunOf, run, RunEach, run_none, run_more, HasTree, IsBarren}
-use Rattle.ta_core.specs.Marks.{MarksOf, some_marked}
-use Rattle.ta_core.specs.Steps.{up_step}
-use Rattle.ta_core.proofs.Lists.{in_map, in_mapped}
-use Rattle.ta_core.proofs.Marking.{some_from, some_to}
+use Rattle.fore_base.specs.Marks.{MarksOf, some_marked}
+use Rattle.ta_core.specs.inner.Arcs.{up_arc}
+use Rattle.fore_base.proofs.ListLemmas.{in_map, in_mapped}
+use Rattle.fore_base.proofs.MarkLemmas.{some_from, some_to}
 use Rattle.ta_core.proofs.Runs.{tree_of, run_tree}
 
-pub up_low : (n : ℕ) (rules : List Rule) → Every (IsProperRule n) rules → Every (λ (s : Step). s.to < n) (map up_step rules)
+pub up_low : (n : ℕ) (rules : List Rule) → Every (IsRankedRule n) rules → Every (λ (s : Arc). s.to < n) (map up_arc rules)
 up_low n [] h = tt
 up_low n (r ∷ rules) h = (h.0.0, up_low n rules h.1)
 
 module _ (rules : List Rule) where
   mutual
-    up_tree : {q : ℕ} → Reached (map up_step rules) q → HasTree rules q
+    up_tree : {q : ℕ} → Reached (map up_arc rules) q → HasTree rules q
     up_tree {q} (reach s i e a) =
-        let m = in_mapped up_step s rules i in
-        let f : ReachedAll (map up_step rules) m.0.children = subst (λ (x : Step). ReachedAll (map up_step rules) x.from) m.2 a in
+        let m = in_mapped up_arc s rules i in
+        let f : ReachedAll (map up_arc rules) m.0.children = subst (λ (x : Arc). ReachedAll (map up_arc rules) x.from) m.2 a in
         let ts = up_trees a in
-        let ks : RunEach rules m.0.children ts.0 = subst (λ (x : Step). RunEach rules x.from ts.0) m.2 ts.1 in
-        let c : m.0.state ≡ q = sym (ap (λ (x : Step). x.to) m.2) ∙ e in
+        let ks : RunEach rules m.0.children ts.0 = subst (λ (x : Arc). RunEach rules x.from ts.0) m.2 ts.1 in
+        let c : m.0.state ≡ q = sym (ap (λ (x : Arc). x.to) m.2) ∙ e in
         (tree_of m.0.symbol ts.0, subst (λ (p : ℕ). RunOf rules p (tree_of m.0.symbol ts.0)) c (run_tree rules m.0 ts.0 m.1 ks))
 
-    up_trees : {qs : List ℕ} → ReachedAll (map up_step rules) qs → (ts : List Tree) × RunEach rules qs ts
+    up_trees : {qs : List ℕ} → ReachedAll (map up_arc rules) qs → (ts : List Tree) × RunEach rules qs ts
     up_trees reach_none = ([], run_none)
     up_trees (reach_more r rs) = let t = up_tree r in let ts = up_trees rs in (t.0 ∷ ts.0, run_more t.1 ts.1)
 
   mutual
-    tree_up : {q : ℕ} {t : Tree} → RunOf rules q t → Reached (map up_step rules) q
-    tree_up (run r i e s k) = reach (up_step r) (in_map up_step r rules i) e (trees_up k)
+    tree_up : {q : ℕ} {t : Tree} → RunOf rules q t → Reached (map up_arc rules) q
+    tree_up (run r i e s k) = reach (up_arc r) (in_map up_arc r rules i) e (trees_up k)
 
-    trees_up : {qs : List ℕ} {ts : List Tree} → RunEach rules qs ts → ReachedAll (map up_step rules) qs
+    trees_up : {qs : List ℕ} {ts : List Tree} → RunEach rules qs ts → ReachedAll (map up_arc rules) qs
     trees_up run_none = reach_none
     trees_up (run_more r rs) = reach_more (tree_up r) (trees_up rs)
 
-  pub inhabited_marks : (n : ℕ) (marks : List Bool) → MarksOf n (Reached (map up_step rules)) marks → MarksOf n (HasTree rules) marks
+  pub inhabited_marks : (n : ℕ) (marks : List Bool) → MarksOf n (Reached (map up_arc rules)) marks → MarksOf n (HasTree rules) marks
   inhabited_marks n marks m = record { long = m.long; only = λ q k. up_tree (m.only q k); each = λ q h. m.each q (tree_up h.1) }
 
 not_true : (b : Bool) → not b ≡ true → b ≡ false

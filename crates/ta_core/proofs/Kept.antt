@@ -1,13 +1,14 @@
 -- The marked states under their new numbers.
-use Rattle.std.proofs.Common.{◌≡◌, ℕ, zero, suc, ◌<◌, ◌≤◌, ◌+◌, Bool, true, false, true≢false, cond, List, [], ◌∷◌, ◌++◌, length, map, get_or, slice_index, refl, sym, ap, ◌∙◌, arith, append_assoc}
+use Rattle.std.proofs.Common.{◌≡◌, ℕ, zero, suc, ◌<◌, ◌+◌, Bool, true, false, true≢false, cond, List, [], ◌∷◌, ◌++◌, length, map, get_or, slice_index, refl, sym, ap, ◌∙◌, arith, append_assoc}
 use Rattle.std.proofs.lemmas.List.{length-map}
 use Rattle.fore_base.specs.Lists.{Every}
 use Rattle.ta_core.specs.declared.auto.Rule.{Rule}
-use Rattle.ta_core.specs.Auto.{Automaton, IsProperRule}
-use Rattle.ta_core.specs.Marks.{IsMarked, all_marked}
-use Rattle.ta_core.specs.Relabelled.{relabelled}
-use Rattle.ta_core.specs.Restricted.{marked_count, rank, ranks, keeps, kept_states, kept_rules, restricted}
-use Rattle.ta_core.proofs.Marking.{and_left, and_right, all_from, marked_below}
+use Rattle.ta_core.specs.Auto.{Automaton, IsRankedRule}
+use Rattle.fore_base.specs.Marks.{IsMarked, all_marked, marked_count}
+use Rattle.ta_core.specs.Renumbered.{renumbered}
+use Rattle.ta_core.specs.inner.Restricted.{rank, ranks, keeps, kept_states, kept_rules, restricted}
+use Rattle.std.proofs.lemmas.Bool.{and_parts}
+use Rattle.fore_base.proofs.MarkLemmas.{all_from, marked_below}
 
 -- the marked state that has i marked ones below it
 abbrev pub nth_marked : List Bool → ℕ → ℕ
@@ -15,11 +16,6 @@ nth_marked [] i = i
 nth_marked (true ∷ bs) zero = 0
 nth_marked (true ∷ bs) (suc i) = nth_marked bs i + 1
 nth_marked (false ∷ bs) i = nth_marked bs i + 1
-
-pub count_within : (bs : List Bool) → marked_count bs ≤ length bs
-count_within [] = omega arith
-count_within (true ∷ bs) = let l = count_within bs in omega (arith, l)
-count_within (false ∷ bs) = let l = count_within bs in omega (arith, l)
 
 pub rank_below : (bs : List Bool) (q : ℕ) → IsMarked bs q → rank bs q < marked_count bs
 rank_below [] q h = absurd (true≢false (sym h))
@@ -75,18 +71,18 @@ module _ (marks : List Bool) (f g : ℕ → ℕ) (same : (q : ℕ) → IsMarked 
       here true e k = let a = same q e in rw (a, k) refl
       here false e k = k
 
-  relabelled_same : (r : Rule) → keeps marks r ≡ true → relabelled f r ≡ relabelled g r
-  relabelled_same r h =
-      let a = same r.state (and_left (get_or marks r.state false) (all_marked marks r.children) h) in
-      let b = map_same r.children (all_from marks r.children (and_right (get_or marks r.state false) (all_marked marks r.children) h)) in
+  renumbered_same : (r : Rule) → keeps marks r ≡ true → renumbered f r ≡ renumbered g r
+  renumbered_same r h =
+      let a = same r.state (and_parts (get_or marks r.state false) (all_marked marks r.children) h).0 in
+      let b = map_same r.children (all_from marks r.children (and_parts (get_or marks r.state false) (all_marked marks r.children) h).1) in
       rw (a, b) refl
 
   pub kept_rules_same : (rs : List Rule) → kept_rules marks f rs ≡ kept_rules marks g rs
   kept_rules_same [] = refl
   kept_rules_same (r ∷ rs) = here (keeps marks r) refl (kept_rules_same rs)
     where
-      here : (b : Bool) → keeps marks r ≡ b → kept_rules marks f rs ≡ kept_rules marks g rs → cond b (relabelled f r ∷ kept_rules marks f rs) (kept_rules marks f rs) ≡ cond b (relabelled g r ∷ kept_rules marks g rs) (kept_rules marks g rs)
-      here true e k = let a = relabelled_same r e in rw (a, k) refl
+      here : (b : Bool) → keeps marks r ≡ b → kept_rules marks f rs ≡ kept_rules marks g rs → cond b (renumbered f r ∷ kept_rules marks f rs) (kept_rules marks f rs) ≡ cond b (renumbered g r ∷ kept_rules marks g rs) (kept_rules marks g rs)
+      here true e k = let a = renumbered_same r e in rw (a, k) refl
       here false e k = k
 
   pub restricted_same : (a : Automaton) → restricted marks f a ≡ restricted marks g a
@@ -98,11 +94,11 @@ table_rank marks q h = let e = ranks_at marks 0 q (marked_below marks q h) in om
 
 -- one more rule is kept, or left out
 module _ (marks : List Bool) (f : ℕ → ℕ) (kept : List Rule) (r : Rule) (rest all : List Rule) where
-  pub kept_push : keeps marks r ≡ true → kept ++ kept_rules marks f (r ∷ rest) ≡ all → (kept ++ relabelled f r ∷ []) ++ kept_rules marks f rest ≡ all
-  kept_push h e = append_assoc kept (relabelled f r ∷ []) (kept_rules marks f rest) ∙ ap (λ (b : Bool). kept ++ cond b (relabelled f r ∷ kept_rules marks f rest) (kept_rules marks f rest)) (sym h) ∙ e
+  pub kept_push : keeps marks r ≡ true → kept ++ kept_rules marks f (r ∷ rest) ≡ all → (kept ++ renumbered f r ∷ []) ++ kept_rules marks f rest ≡ all
+  kept_push h e = append_assoc kept (renumbered f r ∷ []) (kept_rules marks f rest) ∙ ap (λ (b : Bool). kept ++ cond b (renumbered f r ∷ kept_rules marks f rest) (kept_rules marks f rest)) (sym h) ∙ e
 
   pub kept_skip : keeps marks r ≡ false → kept ++ kept_rules marks f (r ∷ rest) ≡ all → kept ++ kept_rules marks f rest ≡ all
-  kept_skip h e = ap (λ (b : Bool). kept ++ cond b (relabelled f r ∷ kept_rules marks f rest) (kept_rules marks f rest)) (sym h) ∙ e
+  kept_skip h e = ap (λ (b : Bool). kept ++ cond b (renumbered f r ∷ kept_rules marks f rest) (kept_rules marks f rest)) (sym h) ∙ e
 
 -- what is kept is in range again
 module _ (marks : List Bool) (f : ℕ → ℕ) (n : ℕ) (low : (q : ℕ) → IsMarked marks q → f q < n) where
@@ -118,19 +114,19 @@ module _ (marks : List Bool) (f : ℕ → ℕ) (n : ℕ) (low : (q : ℕ) → Is
       here true e k = (low q e, k)
       here false e k = k
 
-  relabelled_proper : (m : ℕ) (r : Rule) → keeps marks r ≡ true → IsProperRule m r → IsProperRule n (relabelled f r)
-  relabelled_proper m r h p = (
-    low r.state (and_left (get_or marks r.state false) (all_marked marks r.children) h),
-    map_low r.children (all_from marks r.children (and_right (get_or marks r.state false) (all_marked marks r.children) h)),
+  renumbered_proper : (m : ℕ) (r : Rule) → keeps marks r ≡ true → IsRankedRule m r → IsRankedRule n (renumbered f r)
+  renumbered_proper m r h p = (
+    low r.state (and_parts (get_or marks r.state false) (all_marked marks r.children) h).0,
+    map_low r.children (all_from marks r.children (and_parts (get_or marks r.state false) (all_marked marks r.children) h).1),
     length-map r.children f ∙ p.2,
   )
 
-  pub kept_rules_proper : (m : ℕ) (rs : List Rule) → Every (IsProperRule m) rs → Every (IsProperRule n) (kept_rules marks f rs)
+  pub kept_rules_proper : (m : ℕ) (rs : List Rule) → Every (IsRankedRule m) rs → Every (IsRankedRule n) (kept_rules marks f rs)
   kept_rules_proper m [] h = tt
   kept_rules_proper m (r ∷ rs) h = here (keeps marks r) refl (kept_rules_proper m rs h.1)
     where
-      here : (b : Bool) → keeps marks r ≡ b → Every (IsProperRule n) (kept_rules marks f rs) → Every (IsProperRule n) (cond b (relabelled f r ∷ kept_rules marks f rs) (kept_rules marks f rs))
-      here true e k = (relabelled_proper m r e h.0, k)
+      here : (b : Bool) → keeps marks r ≡ b → Every (IsRankedRule n) (kept_rules marks f rs) → Every (IsRankedRule n) (cond b (renumbered f r ∷ kept_rules marks f rs) (kept_rules marks f rs))
+      here true e k = (renumbered_proper m r e h.0, k)
       here false e k = k
 
 -- by the table the states are kept under their ranks

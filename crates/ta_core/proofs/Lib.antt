@@ -2,8 +2,6 @@ pub mod Climbing
 pub mod Descending
 pub mod Imaged
 pub mod Kept
-pub mod Lists
-pub mod Marking
 pub mod Reaching
 pub mod Runs
 pub mod Shifting
@@ -11,3 +9,4 @@ pub mod Sizing
 pub mod Smaller
 pub mod Standing
 pub mod Tops
+mod Rows

@@ -1,11 +1,10 @@
 -- Runs that are carried from one list of rules to another.
 use Rattle.std.proofs.Common.{◌≡◌, ℕ, List, [], ◌∷◌, refl, ◌∙◌}
-use Rattle.fore_base.specs.Lists.{IsIn}
+use Rattle.fore_base.specs.Lists.{IsIn, Paired}
 use Rattle.ta_core.specs.declared.auto.Rule.{Rule}
 use Rattle.ta_core.specs.declared.symbol.Symbol.{Symbol}
 use Rattle.ta_core.specs.declared.tree.Tree.{Tree, out-Tree, roll-Tree, out-roll-Tree}
 use Rattle.ta_core.specs.Language.{RunOf, run, RunEach, run_none, run_more}
-use Rattle.ta_core.specs.Paired.{Paired}
 
 -- the tree of the symbol over these children
 abbrev pub tree_of : Symbol → List Tree → Tree

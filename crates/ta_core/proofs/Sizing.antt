@@ -8,8 +8,8 @@ use Rattle.ta_core.specs.declared.auto.Rule.{Rule}
 use Rattle.ta_core.specs.declared.symbol.Symbol.{Symbol}
 use Rattle.ta_core.specs.declared.tree.Tree.{Tree, out-Tree, fold-roll-Tree, fold_out-Tree}
 use Rattle.ta_core.specs.Language.{RunOf, run, RunEach, run_none, run_more, nodes, nodes_step, sum_of}
-use Rattle.ta_core.specs.Sizes.{size_at, capped, plus, total, rule_size, is_less, IsSettled, HasTreeOf, AreReal, Improves, weight, IsLeastRule, number, sum_at}
-use Rattle.ta_core.proofs.Lists.{every_in, every_push}
+use Rattle.ta_core.specs.inner.Sizes.{size_at, capped, plus, total, rule_size, is_less, IsSettled, HasTreeOf, AreReal, Improves, size_sum, IsLeastRule, number, sum_at}
+use Rattle.fore_base.proofs.ListLemmas.{every_in, every_push}
 use Rattle.ta_core.proofs.Runs.{tree_of, run_tree}
 
 pub nodes_out : (t : Tree) → nodes t ≡ sum_of (map nodes (out-Tree t).children) + 1
@@ -115,34 +115,34 @@ pub less_some : (o p : Option ℕ) → is_less o p ≡ true → (s : ℕ) × (o 
 less_some None p h = absurd (true≢false (sym h))
 less_some (Some s) p h = (s, refl)
 
-weight_falls : (sizes : List (Option ℕ)) (i s : ℕ) → i < length sizes → s < 2 ^ 64 → is_less (Some s) (size_at sizes i) ≡ true → weight (set sizes i (Some s)) < weight sizes
-weight_falls [] i s l k h = absurd (omega arith)
-weight_falls (None ∷ xs) zero s l k h = omega (arith, k)
-weight_falls (Some o ∷ xs) zero s l k h = let m = ltb-true s o h in omega (arith, m)
-weight_falls (None ∷ xs) (suc i) s l k h = let w = weight_falls xs i s (omega arith) k h in omega (arith, w)
-weight_falls (Some o ∷ xs) (suc i) s l k h = let w = weight_falls xs i s (omega arith) k h in omega (arith, w)
+size_sum_falls : (sizes : List (Option ℕ)) (i s : ℕ) → i < length sizes → s < 2 ^ 64 → is_less (Some s) (size_at sizes i) ≡ true → size_sum (set sizes i (Some s)) < size_sum sizes
+size_sum_falls [] i s l k h = absurd (omega arith)
+size_sum_falls (None ∷ xs) zero s l k h = omega (arith, k)
+size_sum_falls (Some o ∷ xs) zero s l k h = let m = ltb-true s o h in omega (arith, m)
+size_sum_falls (None ∷ xs) (suc i) s l k h = let w = size_sum_falls xs i s (omega arith) k h in omega (arith, w)
+size_sum_falls (Some o ∷ xs) (suc i) s l k h = let w = size_sum_falls xs i s (omega arith) k h in omega (arith, w)
 
 module _ (rules : List Rule) (r : Rule) (start now new : List (Option ℕ)) where
   -- the rule at hand gives a smaller size
-  pub rule_betters : (was : Bool) (done : List Rule) → IsIn r rules → r.state < length now → MatchBool was (weight now < weight start) ((now ≡ start) × Every (IsSettled start) done) → Improves r now new true → (length new ≡ length now) × (AreReal rules now → AreReal rules new) × (weight new < weight start)
+  pub rule_betters : (was : Bool) (done : List Rule) → IsIn r rules → r.state < length now → MatchBool was (size_sum now < size_sum start) ((now ≡ start) × Every (IsSettled start) done) → Improves r now new true → (length new ≡ length now) × (AreReal rules now → AreReal rules new) × (size_sum new < size_sum start)
   rule_betters was done i low before better = (
     ap length better.1 ∙ length-set now r.state (rule_size now r),
     λ real. subst (AreReal rules) (sym better.1) (real_set rules now r i real),
     (let o = less_some (rule_size now r) (size_at now r.state) better.0 in
         let w = sum_total now r.children o.0 1 (omega arith) o.1 in
-        let f = weight_falls now r.state o.0 low w.3 (subst (λ (x : Option ℕ). is_less x (size_at now r.state) ≡ true) o.1 better.0) in
-        let e = ap weight (better.1 ∙ ap (λ (x : Option ℕ). set now r.state x) o.1) in
+        let f = size_sum_falls now r.state o.0 low w.3 (subst (λ (x : Option ℕ). is_less x (size_at now r.state) ≡ true) o.1 better.0) in
+        let e = ap size_sum (better.1 ∙ ap (λ (x : Option ℕ). set now r.state x) o.1) in
         let l = under was before in
         omega (arith, f, e, l)),
   )
     where
-      under : (was : Bool) → MatchBool was (weight now < weight start) ((now ≡ start) × Every (IsSettled start) done) → weight now ≤ weight start
+      under : (was : Bool) → MatchBool was (size_sum now < size_sum start) ((now ≡ start) × Every (IsSettled start) done) → size_sum now ≤ size_sum start
       under true h = omega arith
-      under false h = let e = ap weight h.0 in omega (arith, e)
+      under false h = let e = ap size_sum h.0 in omega (arith, e)
 
   -- it gives none
-  pub rule_keeps : (was : Bool) (done : List Rule) → MatchBool was (weight now < weight start) ((now ≡ start) × Every (IsSettled start) done) → Improves r now new false → MatchBool was (weight new < weight start) ((new ≡ start) × Every (IsSettled start) (done ++ r ∷ []))
-  rule_keeps true done before kept = subst (λ (m : List (Option ℕ)). weight m < weight start) (sym kept.0) before
+  pub rule_keeps : (was : Bool) (done : List Rule) → MatchBool was (size_sum now < size_sum start) ((now ≡ start) × Every (IsSettled start) done) → Improves r now new false → MatchBool was (size_sum new < size_sum start) ((new ≡ start) × Every (IsSettled start) (done ++ r ∷ []))
+  rule_keeps true done before kept = subst (λ (m : List (Option ℕ)). size_sum m < size_sum start) (sym kept.0) before
   rule_keeps false done before kept = (kept.0 ∙ before.0, every_push (IsSettled start) done r before.1 (subst (λ (m : List (Option ℕ)). IsSettled m r) before.0 kept.1))
 
 at_most : (m : ℕ) (o : Option ℕ) → is_less (Some m) o ≡ false → (s : ℕ) × (o ≡ Some s) × (s ≤ m)

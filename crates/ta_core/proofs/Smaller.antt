@@ -2,14 +2,13 @@
 use Rattle.std.proofs.Common.{◌≡◌, ◌⊎◌, inl, inr, ℕ, ◌<◌, ◌≤◌, ◌+◌, ◌*◌, ◌^◌, Bool, true, false, true≢false, nat_lt, List, [], ◌∷◌, ◌++◌, map, Option, Some, None, refl, sym, ap, subst, ◌∙◌, arith}
 use Rattle.std.proofs.lemmas.Bool.{ltb-true, ltb-false, cases_lt}
 use Rattle.std.specs.Option.{IsSome}
-use Rattle.fore_base.specs.Lists.{IsIn, Every}
+use Rattle.fore_base.specs.Lists.{IsIn, Every, Paired}
 use Rattle.ta_core.specs.declared.auto.Rule.{Rule}
 use Rattle.ta_core.specs.declared.tree.Tree.{Tree}
-use Rattle.ta_core.specs.Auto.{Automaton, IsProperRule}
+use Rattle.ta_core.specs.Auto.{Automaton, IsRankedRule}
 use Rattle.ta_core.specs.Language.{RunOf, RunEach, run_none, run_more, InLanguage, IsSmallest, nodes, sum_of}
-use Rattle.ta_core.specs.Paired.{Paired}
-use Rattle.ta_core.specs.Sizes.{size_at, is_less, AreLeast, IsLeastRule, IsTreeAt, IsBest, number, sum_at}
-use Rattle.ta_core.proofs.Lists.{in_left, in_right, every_in, every_push}
+use Rattle.ta_core.specs.inner.Sizes.{size_at, is_less, AreLeast, IsLeastRule, IsTreeAt, IsBest, number, sum_at}
+use Rattle.fore_base.proofs.ListLemmas.{in_left, in_right, every_in, every_push}
 use Rattle.ta_core.proofs.Runs.{tree_of, run_tree}
 use Rattle.ta_core.proofs.Sizing.{nodes_tree, Sums, some_same, less_some, sum_total, sum_at_sums, sums_there, lower, has_rule}
 
@@ -105,7 +104,7 @@ module _ (rules : List Rule) (sizes : List (Option ℕ)) where
       let r = has_rule rules sizes l.settled l.real q n.0 n.1 in
       every_in (λ (x : Rule). IsLeastRule sizes q x → ⊥) rules r.0 f r.1 r.2
 
-pub states_low : (n : ℕ) (rules : List Rule) → Every (IsProperRule n) rules → Every (λ (r : Rule). r.state < n) rules
+pub states_low : (n : ℕ) (rules : List Rule) → Every (IsRankedRule n) rules → Every (λ (r : Rule). r.state < n) rules
 states_low n [] h = tt
 states_low n (r ∷ rules) h = (h.0.0, states_low n rules h.1)
 

@@ -8,11 +8,12 @@ use Rattle.ta_core.specs.declared.auto.Rule.{Rule}
 use Rattle.ta_core.specs.declared.symbol.Symbol.{Symbol}
 use Rattle.ta_core.specs.declared.tree.Tree.{Tree, out-Tree}
 use Rattle.ta_core.specs.Language.{InLanguage, RunOf, run, RunEach, run_none, run_more}
-use Rattle.ta_core.specs.Marks.{IsMarked, MarksOf, marked_each, some_marked}
-use Rattle.ta_core.specs.Paired.{Paired}
+use Rattle.fore_base.specs.Marks.{IsMarked, MarksOf, marked_each, some_marked}
+use Rattle.fore_base.specs.Lists.{Paired}
 use Rattle.ta_core.specs.Tops.{IsTopRule, Tops, AreStatesOf}
-use Rattle.ta_core.proofs.Lists.{in_left, in_right, in_append, drop_item}
-use Rattle.ta_core.proofs.Marking.{and_left, and_right, marked_still, marked_new, marked_set, unmarked_none, some_from, some_to}
+use Rattle.fore_base.proofs.ListLemmas.{in_left, in_right, in_append, drop_item}
+use Rattle.std.proofs.lemmas.Bool.{and_parts}
+use Rattle.fore_base.proofs.MarkLemmas.{marked_still, marked_new, marked_set, unmarked_none, some_from, some_to}
 
 module _ (n : ℕ) (y : Symbol) (sets : List (List Bool)) where
   -- no rule marks nothing
@@ -46,12 +47,15 @@ module _ (n : ℕ) (y : Symbol) (sets : List (List Bool)) where
     ];
   }
 
+pub and_true : (a b : Bool) → a ≡ true → (a && b) ≡ b
+and_true a b h = rw h refl
+
 -- lists of two lengths do not match
 pub marked_long : (qs : List ℕ) (sets : List (List Bool)) → marked_each qs sets ≡ true → length qs ≡ length sets
 marked_long [] [] h = refl
 marked_long [] (s ∷ sets) h = absurd (true≢false (sym h))
 marked_long (q ∷ qs) [] h = absurd (true≢false (sym h))
-marked_long (q ∷ qs) (s ∷ sets) h = let e = marked_long qs sets (and_right (get_or s q false) (marked_each qs sets) h) in rw e refl
+marked_long (q ∷ qs) (s ∷ sets) h = let e = marked_long qs sets (and_parts (get_or s q false) (marked_each qs sets) h).1 in rw e refl
 
 pub marked_differ : (qs : List ℕ) (sets : List (List Bool)) → (length qs ≡ length sets → ⊥) → false ≡ marked_each qs sets
 marked_differ qs sets d = here (marked_each qs sets) (λ h. d (marked_long qs sets h))
@@ -75,7 +79,7 @@ module _ (n : ℕ) (rules : List Rule) where
   each_from [] (t ∷ ts) (s ∷ sets) p h = absurd (true≢false (sym h))
   each_from (q ∷ qs) ts [] p h = absurd (true≢false (sym h))
   each_from (q ∷ qs) [] (s ∷ sets) p h = absurd p
-  each_from (q ∷ qs) (t ∷ ts) (s ∷ sets) p h = run_more (p.0.only q (and_left (get_or s q false) (marked_each qs sets) h)) (each_from qs ts sets p.1 (and_right (get_or s q false) (marked_each qs sets) h))
+  each_from (q ∷ qs) (t ∷ ts) (s ∷ sets) p h = run_more (p.0.only q (and_parts (get_or s q false) (marked_each qs sets) h).0) (each_from qs ts sets p.1 (and_parts (get_or s q false) (marked_each qs sets) h).1)
 
   each_to : {qs : List ℕ} {ts : List Tree} (sets : List (List Bool)) → Paired (AreStatesOf rules n) ts sets → RunEach rules qs ts → marked_each qs sets ≡ true
   each_to [] p run_none = refl

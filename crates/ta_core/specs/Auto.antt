@@ -11,12 +11,12 @@ pub record Automaton : Type 0 where
   pub rules : List Rule
 
 -- the states of the rule are below n, and its children are as many as its symbol has
-abbrev pub IsProperRule : ℕ → Rule → Type 0
-IsProperRule n r = (r.state < n) × Every (λ q. q < n) r.children × (length r.children ≡ arity r.symbol)
+abbrev pub IsRankedRule : ℕ → Rule → Type 0
+IsRankedRule n r = (r.state < n) × Every (λ q. q < n) r.children × (length r.children ≡ arity r.symbol)
 
 -- each state is in range, and each rule has as many children as its symbol
-abbrev pub IsProper : Automaton → Type 0
-IsProper a = Every (λ q. q < a.states) a.roots × Every (IsProperRule a.states) a.rules
+abbrev pub IsRanked : Automaton → Type 0
+IsRanked a = Every (λ q. q < a.states) a.roots × Every (IsRankedRule a.states) a.rules
 
 -- the automaton of these parts
 abbrev pub automaton : ℕ → List ℕ → List Rule → Automaton

@@ -1,9 +1,9 @@
 -- Automata with other state numbers, and two automata side by side.
 use Rattle.std.specs.Prelude.{◌↔◌, ◌⊎◌, ℕ, ◌<◌, ◌+◌, ◌^◌, ◌++◌, map}
-use Rattle.fore_base.specs.Lists.{IsIn, Every}
+use Rattle.fore_base.specs.Lists.{Every}
 use Rattle.ta_core.specs.Auto.{Automaton}
-use Rattle.ta_core.specs.Language.{InLanguage, RunOf, HasTree}
-use Rattle.ta_core.specs.Relabelled.{relabelled}
+use Rattle.ta_core.specs.Language.{InLanguage}
+use Rattle.ta_core.specs.Renumbered.{renumbered}
 use Rattle.ta_core.specs.declared.auto.Rule.{Rule}
 use Rattle.ta_core.specs.declared.tree.Tree.{Tree}
 
@@ -12,12 +12,12 @@ abbrev pub shift : ℕ → ℕ → ℕ
 shift n q = q + n
 
 -- n is added to each state
-abbrev pub renamed : ℕ → Automaton → Automaton
-renamed n a = record { states = a.states + n; roots = map (shift n) a.roots; rules = map (relabelled (shift n)) a.rules }
+abbrev pub shifted : ℕ → Automaton → Automaton
+shifted n a = record { states = a.states + n; roots = map (shift n) a.roots; rules = map (renumbered (shift n)) a.rules }
 
 -- the states of a, and behind them those of b
 abbrev pub united : Automaton → Automaton → Automaton
-united a b = record { states = a.states + b.states; roots = a.roots ++ map (shift a.states) b.roots; rules = a.rules ++ map (relabelled (shift a.states)) b.rules }
+united a b = record { states = a.states + b.states; roots = a.roots ++ map (shift a.states) b.roots; rules = a.rules ++ map (renumbered (shift a.states)) b.rules }
 
 -- the trees of c are those of a and those of b
 abbrev pub IsUnion : Automaton → Automaton → Automaton → Type 0
@@ -30,11 +30,3 @@ CanShift n q = q + n < 2 ^ 32
 -- so do the states of the rule
 abbrev pub CanShiftRule : ℕ → Rule → Type 0
 CanShiftRule n r = CanShift n r.state × Every (CanShift n) r.children
-
--- the same trees have runs to p in b as to q in a
-abbrev pub SameTrees : Automaton → ℕ → Automaton → ℕ → Type 0
-SameTrees a q b p = (t : Tree) → RunOf b.rules p t ↔ RunOf a.rules q t
-
--- each root state of b has the trees of one of a, and each root state of a that has a tree those of one of b
-abbrev pub SameRootRuns : Automaton → Automaton → Type 0
-SameRootRuns a b = ((p : ℕ) → IsIn p b.roots → (q : ℕ) × IsIn q a.roots × SameTrees a q b p) × ((q : ℕ) → IsIn q a.roots → HasTree a.rules q → (p : ℕ) × IsIn p b.roots × SameTrees a q b p)

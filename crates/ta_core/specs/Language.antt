@@ -28,8 +28,8 @@ abbrev pub IsWithin : Automaton → Automaton → Type 0
 IsWithin a b = (t : Tree) → InLanguage a t → InLanguage b t
 
 -- a and b have the same trees
-abbrev pub IsAlike : Automaton → Automaton → Type 0
-IsAlike a b = (t : Tree) → InLanguage a t ↔ InLanguage b t
+abbrev pub HasSameLanguage : Automaton → Automaton → Type 0
+HasSameLanguage a b = (t : Tree) → InLanguage a t ↔ InLanguage b t
 
 -- some tree has a run to state q
 abbrev pub HasTree : List Rule → ℕ → Type 0

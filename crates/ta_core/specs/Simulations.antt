@@ -1,9 +1,8 @@
 -- Simulations on the states of a tree automaton, and reduced automata.
 use Rattle.std.specs.Prelude.{◌≡◌, ℕ, ◌<◌, Bool, true, List, slice_get, Some}
-use Rattle.fore_base.specs.Lists.{IsIn}
+use Rattle.fore_base.specs.Lists.{IsIn, Paired, PairedBut}
 use Rattle.ta_core.specs.Auto.{Automaton}
 use Rattle.ta_core.specs.Language.{IsTrim}
-use Rattle.ta_core.specs.Paired.{Paired, PairedBut}
 use Rattle.ta_core.specs.declared.auto.Rule.{Rule}
 
 -- the rule r is matched by a rule of q: one with the same symbol, and with children to which those of r are related
@@ -31,11 +30,11 @@ abbrev pub IsSimulatedUpward : Automaton → (ℕ → ℕ → Type 0) → ℕ �
 IsSimulatedUpward a D p q = (U : ℕ → ℕ → Bool) × IsUpward a D (λ x y. U x y ≡ true) × (U p q ≡ true)
 
 -- the rules at two places of the list have one state and one symbol, and each child of the first is simulated by the second's in its place
-abbrev pub IsSpare : List Rule → ℕ → ℕ → Type 0
-IsSpare rules i j = (r s : Rule) × (slice_get rules i ≡ Some r) × (slice_get rules j ≡ Some s) × (r.state ≡ s.state) × (r.symbol ≡ s.symbol) × Paired (IsSimulated rules) r.children s.children
+abbrev pub IsNeedless : List Rule → ℕ → ℕ → Type 0
+IsNeedless rules i j = (r s : Rule) × (slice_get rules i ≡ Some r) × (slice_get rules j ≡ Some s) × (r.state ≡ s.state) × (r.symbol ≡ s.symbol) × Paired (IsSimulated rules) r.children s.children
 
 -- each state takes part in the run of some accepted tree, no two states simulate each other downward, and no state has a rule of which another rule of its symbol simulates each child
 pub record AutoReduced (a : Automaton) : Type 0 where
   pub trim : IsTrim a
   pub apart : (p q : ℕ) → p < a.states → q < a.states → IsSimulated a.rules p q → IsSimulated a.rules q p → p ≡ q
-  pub spare : (i j : ℕ) → IsSpare a.rules i j → i ≡ j
+  pub needed : (i j : ℕ) → IsNeedless a.rules i j → i ≡ j

@@ -10,7 +10,7 @@ use Rattle.ta_core.specs.declared.symbol.Symbol.TheVariants.{Null, Uninit, Dangl
 use Rattle.ta_core.specs.declared.tables.Line.{Line}
 use Rattle.ta_core.specs.declared.tables.Plan.{Plan}
 use Rattle.ta_core.specs.declared.tables.Sign.{Sign}
-use Rattle.ta_core.specs.declared.tables.Sign.TheVariants.{Null as NullSign, Uninit as UninitSign, Dangling as DanglingSign, Ref as RefSign, Link, Fork, Datum as DatumSign, Slots}
+use Rattle.ta_core.specs.declared.tables.Sign.TheVariants.{Null as NullSign, Uninit as UninitSign, Dangling as DanglingSign, Ref as RefSign, ListCell, Fork, Datum as DatumSign, Slots}
 
 -- a cell of struct 0 without data
 abbrev pub cell : List Slot → Symbol
@@ -26,7 +26,7 @@ sign_symbol NullSign = Null
 sign_symbol UninitSign = Uninit
 sign_symbol DanglingSign = Dangling
 sign_symbol (RefSign r) = Ref r
-sign_symbol Link = cell (Field 0 ∷ [])
+sign_symbol ListCell = cell (Field 0 ∷ [])
 sign_symbol Fork = cell (Field 0 ∷ Field 1 ∷ [])
 sign_symbol (DatumSign shape datum) = single shape datum
 sign_symbol (Slots first second) = cell (first ∷ second ∷ [])

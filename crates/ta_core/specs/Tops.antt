@@ -5,7 +5,7 @@ use Rattle.ta_core.specs.declared.auto.Rule.{Rule}
 use Rattle.ta_core.specs.declared.symbol.Symbol.{Symbol}
 use Rattle.ta_core.specs.declared.tree.Tree.{Tree}
 use Rattle.ta_core.specs.Language.{RunOf}
-use Rattle.ta_core.specs.Marks.{MarksOf, marked_each}
+use Rattle.fore_base.specs.Marks.{MarksOf, marked_each}
 
 -- the marks are of the states to which the tree has a run
 abbrev pub AreStatesOf : List Rule → ℕ → Tree → List Bool → Type 0

@@ -1,15 +1,14 @@
 ghost use Rattle.std.specs.Prelude.{◌≡◌, ◌↔◌, ◌<◌, IsTrue, IfOk, List};
-ghost use Rattle.fore_base.specs.Lists.{Every};
+ghost use Rattle.fore_base.specs.Lists.{Every, Paired};
 ghost use Rattle.ta_core.specs.Language.{InLanguage};
-ghost use Rattle.ta_core.specs.Marks.{MarksOf, marked_each};
+ghost use Rattle.fore_base.specs.Marks.{MarksOf, marked_each};
 ghost use Rattle.ta_core.specs.Tops.{IsTopRule, Tops, AreStatesOf};
-ghost use Rattle.ta_core.specs.Paired.{Paired};
 
 use crate::auto::{Auto, Rule};
-use crate::marks::{is_marked, is_some_marked, mark, unmarked};
 use crate::symbol::Symbol;
 use crate::tree::Tree;
 use fore_base::list::List;
+use fore_base::marks::{is_marked, is_some_marked, mark, unmarked};
 use fore_base::memory::Mem;
 use std::alloc::Global;
 

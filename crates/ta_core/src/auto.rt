@@ -1,6 +1,6 @@
 ghost use Rattle.std.specs.Prelude.{SomeIff};
 
-use crate::proper::{are_below, are_proper};
+use crate::ranked::{are_below, are_ranked};
 use crate::symbol::Symbol;
 use fore_base::list::{Copies, List};
 use std::alloc::{AllocError, Global};
@@ -23,30 +23,30 @@ pub struct Auto {
 }
 
 impl Model for Auto {
-    ghost use Rattle.ta_core.specs.Auto.{Automaton, IsProper};
+    ghost use Rattle.ta_core.specs.Auto.{Automaton, IsRanked};
 
     ghost Value = { Automaton };
 
     ghost view = { λ a. record { states = a.states; roots = a.roots; rules = a.rules } };
 
-    ghost invariant = { λ a. IsProper (record { states = a.states; roots = a.roots; rules = a.rules }) };
+    ghost invariant = { λ a. IsRanked (record { states = a.states; roots = a.roots; rules = a.rules }) };
 }
 
 impl Auto {
-    ghost use Rattle.ta_core.specs.Auto.{IsProper, automaton};
+    ghost use Rattle.ta_core.specs.Auto.{IsRanked, automaton};
 
     /// Does nothing, and says what the automaton keeps: for proofs in which no part of it is read.
     pub fn known(&self)
-        ensures { IsProper self.now }
+        ensures { IsRanked self.now }
     {
         let _states = self.states;
     }
 
     /// The automaton of these parts. None exactly where a state is not below `states`, or a rule has more or fewer children than its symbol. Takes no memory.
     pub fn from_parts(states: u32, roots: List<u32>, rules: List<Rule>) -> Option<Auto>
-        ensures { SomeIff result (IsProper (automaton states roots rules)) (automaton states roots rules) }
+        ensures { SomeIff result (IsRanked (automaton states roots rules)) (automaton states roots rules) }
     {
-        if are_below(states, roots.as_slice()) && are_proper(states, rules.as_slice()) {
+        if are_below(states, roots.as_slice()) && are_ranked(states, rules.as_slice()) {
             Some(Auto {
                 states,
                 roots,

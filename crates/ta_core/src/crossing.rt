@@ -3,8 +3,7 @@
 use crate::auto::Auto;
 use crate::tables::Plan;
 use crate::tree::Tree;
-
-fn crosses<T: Send + Sync>(_value: &T) {}
+use fore_base::crossing::crosses;
 
 /// Automata cross threads, and with them rules, symbols and slots.
 pub fn automata_cross(auto: &Auto) {

@@ -1,13 +1,13 @@
 ghost use Rattle.std.specs.Prelude.{◌≡◌, ◌↔◌, IsTrue, IfOk, map};
 ghost use Rattle.ta_core.specs.Language.{IsBarren, HasTree};
-ghost use Rattle.ta_core.specs.Marks.{MarksOf};
-ghost use Rattle.ta_core.specs.Steps.{up_step};
+ghost use Rattle.fore_base.specs.Marks.{MarksOf};
+ghost use Rattle.ta_core.specs.inner.Arcs.{up_arc};
 
+use crate::arc::Arc;
 use crate::auto::{Auto, Rule};
 use crate::closing::reached;
-use crate::marks::is_some_marked;
-use crate::step::Step;
 use fore_base::list::{Copies, List};
+use fore_base::marks::is_some_marked;
 use fore_base::memory::Mem;
 use std::alloc::Global;
 
@@ -23,22 +23,22 @@ pub fn is_empty(alloc: Global, auto: &Auto) -> Mem<bool>
 pub fn inhabited(alloc: Global, auto: &Auto) -> Mem<List<bool>>
     ensures { IfOk result (MarksOf auto.now.states (HasTree auto.now.rules)) }
 {
-    let steps = up_steps(alloc, auto.rules.as_slice())?;
-    reached(alloc, auto.states, steps.as_slice())
+    let arcs = up_arcs(alloc, auto.rules.as_slice())?;
+    reached(alloc, auto.states, arcs.as_slice())
 }
 
-/// For each rule the step from its children to its state.
-fn up_steps(alloc: Global, rules: &[Rule]) -> Mem<List<Step>>
-    ensures { IfOk result (λ steps. steps ≡ map up_step rules.now) }
+/// For each rule the arc from its children to its state.
+fn up_arcs(alloc: Global, rules: &[Rule]) -> Mem<List<Arc>>
+    ensures { IfOk result (λ arcs. arcs ≡ map up_arc rules.now) }
 {
-    let mut steps = List::new(alloc);
+    let mut arcs = List::new(alloc);
     for rule in rules {
         let from = rule.children.copy(alloc)?;
-        let step = Step {
+        let arc = Arc {
             from,
             to: rule.state,
         };
-        steps.push(step)?;
+        arcs.push(arc)?;
     }
-    Ok(steps)
+    Ok(arcs)
 }

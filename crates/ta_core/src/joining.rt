@@ -1,8 +1,8 @@
 ghost use Rattle.std.specs.Prelude.{◌≡◌, ◌<◌, ◌≤◌, ◌+◌, ◌^◌, List, IfOk, MatchResult, map};
 ghost use Rattle.fore_base.specs.Lists.{Every};
-ghost use Rattle.ta_core.specs.Joined.{shift, renamed, united, IsUnion, CanShift, CanShiftRule};
-ghost use Rattle.ta_core.specs.Language.{IsAlike};
-ghost use Rattle.ta_core.specs.Relabelled.{relabelled};
+ghost use Rattle.ta_core.specs.Joined.{shift, shifted, united, IsUnion, CanShift, CanShiftRule};
+ghost use Rattle.ta_core.specs.Language.{HasSameLanguage};
+ghost use Rattle.ta_core.specs.Renumbered.{renumbered};
 
 use crate::auto::{Auto, Rule};
 use fore_base::list::{Copies, List};
@@ -22,8 +22,8 @@ pub fn room(auto: &Auto, more: u32) -> Mem<u32>
 /// The automaton with `by` added to each state. Its states are all below the new number, and those below `by` have no rule. Err is want of memory.
 pub fn rename(alloc: Global, auto: &Auto, by: u32) -> Mem<Auto>
     requires { auto.now.states + by < 2 ^ 32 }
-    ensures value { IfOk result (λ made. made ≡ renamed by auto.now) }
-    ensures language { IfOk result (λ made. IsAlike auto.now made) }
+    ensures value { IfOk result (λ made. made ≡ shifted by auto.now) }
+    ensures language { IfOk result (λ made. HasSameLanguage auto.now made) }
 {
     let roots = shifted_states(alloc, auto.roots.as_slice(), by)?;
     let rules = shifted_rules(alloc, auto.rules.as_slice(), by)?;
@@ -66,7 +66,7 @@ fn shifted_states(alloc: Global, states: &[u32], by: u32) -> Mem<List<u32>>
 
 fn shifted_rules(alloc: Global, rules: &[Rule], by: u32) -> Mem<List<Rule>>
     requires { Every (CanShiftRule by) rules.now }
-    ensures { IfOk result (λ made. made ≡ map (relabelled (shift by)) rules.now) }
+    ensures { IfOk result (λ made. made ≡ map (renumbered (shift by)) rules.now) }
 {
     let mut made = List::new(alloc);
     for rule in rules {
@@ -78,7 +78,7 @@ fn shifted_rules(alloc: Global, rules: &[Rule], by: u32) -> Mem<List<Rule>>
 
 fn shifted_rule(alloc: Global, rule: &Rule, by: u32) -> Mem<Rule>
     requires { CanShiftRule by rule.now }
-    ensures { IfOk result (λ made. made ≡ relabelled (shift by) rule.now) }
+    ensures { IfOk result (λ made. made ≡ renumbered (shift by) rule.now) }
 {
     Ok(Rule {
         state: rule.state + by,

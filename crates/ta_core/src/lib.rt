@@ -2,19 +2,18 @@
 #![tactic(auto)]
 
 pub mod accepting;
+mod arc;
 pub mod auto;
 mod closing;
 pub mod crossing;
 pub mod inhabited;
 pub mod joining;
 pub mod laws;
-pub mod marks;
-mod proper;
-pub mod relabelling;
+mod ranked;
+pub mod renumbering;
 mod restricting;
 mod sizes;
 pub mod smallest;
-mod step;
 pub mod symbol;
 pub mod tables;
 #[cfg(test)]

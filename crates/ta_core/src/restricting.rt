@@ -1,10 +1,11 @@
 ghost use Rattle.std.specs.Prelude.{◌≡◌, List, length, IfOk, slice_index};
-ghost use Rattle.ta_core.specs.Restricted.{marked_count, rank, ranks, keeps, kept_states, kept_rules, restricted};
+ghost use Rattle.fore_base.specs.Marks.{marked_count};
+ghost use Rattle.ta_core.specs.inner.Restricted.{rank, ranks, keeps, kept_states, kept_rules, restricted};
 
 use crate::auto::{Auto, Rule};
-use crate::marks::{are_all_marked, is_marked};
-use crate::relabelling::{number_of, with_numbers};
+use crate::renumbering::{number_of, with_numbers};
 use fore_base::list::List;
+use fore_base::marks::{are_all_marked, is_marked};
 use fore_base::memory::Mem;
 use std::alloc::Global;
 

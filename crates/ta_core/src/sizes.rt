@@ -2,7 +2,7 @@
 
 ghost use Rattle.std.specs.Prelude.{◌≡◌, ◌<◌, length, Some, None, replicate, IfOk, MatchBool};
 ghost use Rattle.fore_base.specs.Lists.{Every};
-ghost use Rattle.ta_core.specs.Sizes.{size_at, plus, rule_size, is_less, IsSettled, AreReal, AreLeast, Improves, weight};
+ghost use Rattle.ta_core.specs.inner.Sizes.{size_at, plus, rule_size, is_less, IsSettled, AreReal, AreLeast, Improves, size_sum};
 
 use crate::auto::Rule;
 use fore_base::list::List;
@@ -31,7 +31,7 @@ fn improve_all(sizes: &mut List<Option<u64>>, rules: &[Rule]) -> bool
     requires { Every (λ r. r.state < length sizes.old) rules.now }
     ensures long { length sizes.new ≡ length sizes.old }
     ensures real { AreReal rules.now sizes.old → AreReal rules.now sizes.new }
-    ensures better { MatchBool result (weight sizes.new < weight sizes.old) ((sizes.new ≡ sizes.old) × Every (IsSettled sizes.old) rules.now) }
+    ensures better { MatchBool result (size_sum sizes.new < size_sum sizes.old) ((sizes.new ≡ sizes.old) × Every (IsSettled sizes.old) rules.now) }
 {
     let mut better = false;
     for rule in rules {

@@ -1,8 +1,7 @@
 ghost use Rattle.std.specs.Prelude.{◌∷◌, ◌++◌, ◌↔◌, List, [], ℕ, IsTrue, IfOk, IsSome, MatchOption};
-ghost use Rattle.fore_base.specs.Lists.{IsIn, Every};
+ghost use Rattle.fore_base.specs.Lists.{IsIn, Every, Paired};
 ghost use Rattle.ta_core.specs.Language.{IsBarren, IsSmallest};
-ghost use Rattle.ta_core.specs.Paired.{Paired};
-ghost use Rattle.ta_core.specs.Sizes.{size_at, AreLeast, IsLeastRule, IsTreeAt, IsBest};
+ghost use Rattle.ta_core.specs.inner.Sizes.{size_at, AreLeast, IsLeastRule, IsTreeAt, IsBest};
 
 use crate::auto::{Auto, Rule};
 use crate::inhabited::is_empty;

@@ -1,7 +1,7 @@
 // Automata written as tables: for tests, examples and measurements.
 
 ghost use Rattle.std.specs.Prelude.{◌≡◌, IfOk, SomeIff, map};
-ghost use Rattle.ta_core.specs.Auto.{IsProper};
+ghost use Rattle.ta_core.specs.Auto.{IsRanked};
 ghost use Rattle.ta_core.specs.Tables.{cell, single, sign_symbol, line_rule, planned};
 
 use crate::auto::{Auto, Rule};
@@ -19,7 +19,7 @@ pub enum Sign {
     Dangling,
     Ref(u32),
     /// A list cell: one pointer field.
-    Link,
+    ListCell,
     /// A cell of a binary tree: two pointer fields.
     Fork,
     /// A cell of this struct with one datum and without slots.
@@ -38,7 +38,7 @@ pub struct Plan<'a>(pub u32, pub &'a [u32], pub &'a [Line<'a>]);
 
 /// The automaton of the plan, None where its states or its numbers of children do not fit. Err is want of memory.
 pub fn automaton(alloc: Global, plan: Plan) -> Mem<Option<Auto>>
-    ensures { IfOk result (λ made. SomeIff made (IsProper (planned plan.entry)) (planned plan.entry)) }
+    ensures { IfOk result (λ made. SomeIff made (IsRanked (planned plan.entry)) (planned plan.entry)) }
 {
     let Plan(states, roots, lines) = plan;
     let roots = List::from_vec(roots.to_vec(alloc)?);
@@ -79,7 +79,7 @@ pub fn symbol(alloc: Global, sign: Sign) -> Mem<Symbol>
         Sign::Uninit => Ok(Symbol::Uninit),
         Sign::Dangling => Ok(Symbol::Dangling),
         Sign::Ref(root) => Ok(Symbol::Ref(root)),
-        Sign::Link => slot_cell(alloc, &[Slot::Field(0)]),
+        Sign::ListCell => slot_cell(alloc, &[Slot::Field(0)]),
         Sign::Fork => slot_cell(alloc, &[Slot::Field(0), Slot::Field(1)]),
         Sign::Datum(shape, datum) => datum_cell(alloc, shape, datum),
         Sign::Slots(first, second) => slot_cell(alloc, &[first, second]),

@@ -1,26 +1,25 @@
 -- What the found pairs answer.
-use Rattle.std.proofs.Common.{◌≡◌, ℕ, zero, suc, Bool, true, false, true≢false, List, [], ◌∷◌, length, get_or, slice_get, Option, Some, None, MatchOption, nat_eq, is_some, refl, sym, ap, subst, ◌∙◌, eq-eqb}
-use Rattle.std.proofs.lemmas.Bool.{eqb-true}
-use Rattle.std.proofs.lemmas.Option.{none-some, same_Some}
-use Rattle.fore_base.specs.Lists.{IsIn, Every}
+use Rattle.std.proofs.Common.{◌≡◌, ◌↔◌, ℕ, zero, suc, Bool, true, false, true≢false, List, [], ◌∷◌, length, get_or, slice_get, Option, Some, None, MatchOption, nat_eq, is_some, not, IsTrue, refl, sym, ap, subst, ◌∙◌, eq-eqb}
+use Rattle.std.proofs.lemmas.Bool.{eqb-true, and_parts}
+use Rattle.std.proofs.lemmas.Option.{none-some, same_Some, slice_get_within}
+use Rattle.fore_base.specs.Lists.{IsIn, Every, Paired, PairedBut}
 use Rattle.ta_core.specs.Auto.{Automaton}
 use Rattle.ta_core.specs.Joined.{shift, united}
 use Rattle.ta_core.specs.Language.{IsWithin, RunOf, run, RunEach, run_none, run_more}
-use Rattle.ta_core.specs.Marks.{IsMarked, marked_each, some_marked}
-use Rattle.ta_core.specs.Paired.{Paired, PairedBut}
+use Rattle.fore_base.specs.Marks.{IsMarked, marked_each, some_marked}
 use Rattle.ta_core.specs.Simulations.{IsSimulatedUpward}
 use Rattle.ta_core.specs.declared.auto.Rule.{Rule}
 use Rattle.ta_core.specs.declared.tree.Tree.{Tree, out-Tree}
-use Rattle.ta_core.proofs.Lists.{every_in, in_every}
-use Rattle.ta_core.proofs.Marking.{and_left, and_right, some_from, some_to}
-use Rattle.ta_core.proofs.Runs.{paired_same}
+use Rattle.fore_base.proofs.ListLemmas.{every_in, every_weaker, in_every, in_from_place, paired_same, partner_for, partner_of, place_of}
+use Rattle.fore_base.proofs.MarkLemmas.{some_from, some_to}
 use Rattle.ta_incl.specs.declared.found.Found.{Found}
 use Rattle.ta_incl.specs.declared.inclusion.Pair.{Pair}
 use Rattle.ta_incl.specs.declared.inclusion.Inclusion.{Inclusion}
 use Rattle.ta_incl.specs.declared.inclusion.Inclusion.TheVariants.{Yes, No}
-use Rattle.ta_incl.specs.Founds.{HaveStates, sets_of, Covers, AreDerived, AreApart, CoversFrom, CoversRules, IsFailing, IsExplored, IsTreeAt, IsThinned, IsPairOf}
-use Rattle.ta_incl.specs.Inclusions.{IsSubset, IsAntichain, Leads, IsClosed, MeetsRoots, IsMissing, IfYes, IfNo, Answers}
-use Rattle.ta_incl.proofs.Places.{every_weaker, in_found, partner_for, partner_of, place_of}
+use Rattle.ta_incl.specs.inner.Founds.{HaveStates, sets_of, Covers, AreDerived, AreApart, CoversRule, CoversRules, IsFailing, IsExplored, IsTreeAt, IsThinned, IsPairOf}
+use Rattle.ta_incl.specs.Inclusions.{IsSubset, IsAntichain, Leads, IsClosed, MeetsRoots, IsMissing, IfYes, IfNo}
+use Rattle.ta_incl.specs.inner.Answers.{Answers}
+use Rattle.ta_incl.proofs.Trees.{tree_found}
 
 -- a state is below itself
 pub below_same : (c : Automaton) (p q : ℕ) → p ≡ q → IsSimulatedUpward c (λ x y. x ≡ y) p q
@@ -35,13 +34,13 @@ below_same c p q e = (
   where
     but : (i x y : ℕ) (qs : List ℕ) → slice_get qs i ≡ Some x → x ≡ y → PairedBut (λ x y. x ≡ y) i x y qs qs
     but i x y [] at e = absurd (none-some x at)
-    but zero x y (q ∷ qs) at e = let s = same_Some q x at in (s, s ∙ e, paired_same qs)
+    but zero x y (q ∷ qs) at e = let s = same_Some q x at in (s, s ∙ e, paired_same (λ x y. x ≡ y) (λ x. refl) qs)
     but (suc i) x y (q ∷ qs) at e = (refl, but i x y qs at e)
 
 -- where a pair fails, not each one does not
 pub failing_some : (lefts rights : List ℕ) (found : List Found) (o : Option ℕ) → MatchOption o (Every (λ f. IsFailing lefts rights f → ⊥) found) (λ place. (f : Found) × (slice_get found place ≡ Some f) × IsFailing lefts rights f) → is_some o ≡ true → Every (λ f. IsFailing lefts rights f → ⊥) found → ⊥
 failing_some lefts rights found None h s k = true≢false (sym s)
-failing_some lefts rights found (Some place) h s k = every_in (λ (f : Found). IsFailing lefts rights f → ⊥) found h.0 k (in_found found place h.0 h.1) h.2
+failing_some lefts rights found (Some place) h s k = every_in (λ (f : Found). IsFailing lefts rights f → ⊥) found h.0 k (in_from_place found place h.0 h.1) h.2
 
 -- a pair with a root state that does not fail has a root state in its set
 meets : (a b : Automaton) (f : Found) → (IsFailing a.roots b.roots f → ⊥) → IsIn f.state a.roots → (q : ℕ) × IsIn q b.roots × IsMarked f.marks q
@@ -61,7 +60,7 @@ runs_each b [] (t ∷ ts) [] h p = absurd p
 runs_each b [] (t ∷ ts) (f ∷ items) h p = absurd (true≢false (sym h))
 runs_each b (q ∷ qs) ts [] h p = absurd (true≢false (sym h))
 runs_each b (q ∷ qs) [] (f ∷ items) h p = absurd p
-runs_each b (q ∷ qs) (t ∷ ts) (f ∷ items) h p = run_more (p.0 q (and_left (get_or f.marks q false) (marked_each qs (sets_of items)) h)) (runs_each b qs ts items (and_right (get_or f.marks q false) (marked_each qs (sets_of items)) h) p.1)
+runs_each b (q ∷ qs) (t ∷ ts) (f ∷ items) h p = run_more (p.0 q (and_parts (get_or f.marks q false) (marked_each qs (sets_of items)) h).0) (runs_each b qs ts items (and_parts (get_or f.marks q false) (marked_each qs (sets_of items)) h).1 p.1)
 
 module _ (a b : Automaton) (found : List Found) (closed : CoversRules b found found a.rules) where
   mutual
@@ -69,7 +68,7 @@ module _ (a b : Automaton) (found : List Found) (closed : CoversRules b found fo
     run_found : {q : ℕ} {t : Tree} → RunOf a.rules q t → (f : Found) × IsIn f found × (f.state ≡ q) × HasRuns b t f
     run_found {q} {t} (run r i e s k) =
         let w = each_found k in
-        let c = every_in (λ (x : Rule). CoversFrom b found found x []) a.rules r closed i [] w.0 tt w.1 w.2 in
+        let c = every_in (CoversRule b found found) a.rules r closed i w.0 w.1 w.2 in
         (c.0, c.1, c.2 ∙ e, λ p m. let o = c.3 p m in run o.0 o.1 o.2 (o.3.0 ∙ s) (runs_each b o.0.children (out-Tree t).children w.0 o.3.1 w.3))
 
     each_found : {qs : List ℕ} {ts : List Tree} → RunEach a.rules qs ts → (items : List Found) × Every (λ f. IsIn f found) items × HaveStates qs items × Paired (HasRuns b) ts items
@@ -93,11 +92,11 @@ antichain [] (z ∷ pairs) h p i j x y e d s k = absurd p
 antichain (f ∷ kept) [] h p i j x y e d s k = absurd p
 antichain (f ∷ kept) (z ∷ pairs) h p zero zero x y e d s k = refl
 antichain (f ∷ kept) (z ∷ pairs) h p zero (suc j) x y e d s k =
-    let g = partner_of IsPairOf kept pairs y p.1 (in_found pairs j y d) in
+    let g = partner_of IsPairOf kept pairs y p.1 (in_from_place pairs j y d) in
     let apart = every_in (λ (u : Found). (Covers f u.state u.marks → ⊥) × (Covers u f.state f.marks → ⊥)) kept g.0 h.0 g.1 in
     absurd (apart.0 (covers_pair f g.0 x y (subst (IsPairOf f) (same_Some z x e) p.0) g.2 s k))
 antichain (f ∷ kept) (z ∷ pairs) h p (suc i) zero x y e d s k =
-    let g = partner_of IsPairOf kept pairs x p.1 (in_found pairs i x e) in
+    let g = partner_of IsPairOf kept pairs x p.1 (in_from_place pairs i x e) in
     let apart = every_in (λ (u : Found). (Covers f u.state u.marks → ⊥) × (Covers u f.state f.marks → ⊥)) kept g.0 h.0 g.1 in
     absurd (apart.1 (covers_pair g.0 f x y g.2 (subst (IsPairOf f) (same_Some z y d) p.0) s k))
 antichain (f ∷ kept) (z ∷ pairs) h p (suc i) (suc j) x y e d s k = ap suc (antichain kept pairs h.1 p.1 i j x y e d s k)
@@ -109,7 +108,7 @@ lead_sets [] [] (x ∷ xs) h p = absurd p
 lead_sets [] (f ∷ items) xs h p = absurd (true≢false (sym h))
 lead_sets (q ∷ qs) [] xs h p = absurd (true≢false (sym h))
 lead_sets (q ∷ qs) (f ∷ items) [] h p = absurd p
-lead_sets (q ∷ qs) (f ∷ items) (x ∷ xs) h p = ((p.0.1 q).1 (and_left (get_or f.marks q false) (marked_each qs (sets_of items)) h), lead_sets qs items xs (and_right (get_or f.marks q false) (marked_each qs (sets_of items)) h) p.1)
+lead_sets (q ∷ qs) (f ∷ items) (x ∷ xs) h p = ((p.0.1 q).1 (and_parts (get_or f.marks q false) (marked_each qs (sets_of items)) h).0, lead_sets qs items xs (and_parts (get_or f.marks q false) (marked_each qs (sets_of items)) h).1 p.1)
 
 module _ (a b : Automaton) (found kept : List Found) (pairs : List Pair) (thin : IsThinned found kept) (of : Paired IsPairOf kept pairs) where
   -- the found pairs behind the pairs
@@ -125,7 +124,7 @@ module _ (a b : Automaton) (found kept : List Found) (pairs : List Pair) (thin :
   closed_pairs : CoversRules b found found a.rules → IsClosed a b pairs
   closed_pairs closed r xs y i for g =
       let w = items_for r.children xs for in
-      let c = every_in (λ (x : Rule). CoversFrom b found found x []) a.rules r closed i [] w.0 tt w.1 w.2 in
+      let c = every_in (CoversRule b found found) a.rules r closed i w.0 w.1 w.2 in
       let k = every_in (λ (f : Found). (z : Found) × IsIn z kept × Covers z f.state f.marks) found c.0 thin.cover c.1 in
       let z = partner_for IsPairOf kept pairs k.0 of k.1 in (
         z.0,
@@ -162,9 +161,22 @@ answer_no a b found place t h k =
     let f = subst (IsFailing a.roots b.roots) (sym e) k.2 in
     ((h.0.state, f.0, h.2), λ l. true≢false (sym (some_to h.0.marks b.roots l.0 l.1 (h.3.each l.0 l.2)) ∙ f.1))
 
+-- no pair fails exactly where each tree of a is one of b
+pub answer_exact : (a b : Automaton) (found : List Found) (o : Option ℕ) (t : Bool) → IsExplored a b found → MatchOption o (Every (λ f. IsFailing a.roots b.roots f → ⊥) found) (λ place. (f : Found) × (slice_get found place ≡ Some f) × IsFailing a.roots b.roots f) → is_some o ≡ not t → IsTrue t ↔ IsWithin a b
+answer_exact a b found None true e h s = (λ _. within a b found (e.closed h) h, λ _. refl)
+answer_exact a b found None false e h s = absurd (true≢false (sym s))
+answer_exact a b found (Some place) true e h s = absurd (true≢false s)
+answer_exact a b found (Some place) false e h s = (
+  λ same. absurd (true≢false (sym same)),
+  λ i.
+      let t = tree_found a.rules b found place e.derived (slice_get_within found place h.0 h.1) in
+      let n = answer_no a b found place t.0 t.1 h in
+      absurd (n.1 (i t.0 n.0)),
+)
+
 -- each kept pair has a mark for each state of b
 pub kept_long : (rules : List Rule) (b : Automaton) (found kept : List Found) → AreDerived rules b found → Every (λ f. IsIn f found) kept → Every (λ f. length f.marks ≡ b.states) kept
-kept_long rules b found kept d h = every_weaker _ _ kept (λ f i. let p = place_of f found i in (d p.0 f p.1).0.2.marks.long) h
+kept_long rules b found kept d h = every_weaker _ _ kept (λ f i. let p = place_of found f i in (d p.0 f p.1).0.2.marks.long) h
 
 -- what an answer says, part by part
 pub says_within : (a b : Automaton) (x : Inclusion) → Answers a b x → IfYes (λ _. IsWithin a b) x

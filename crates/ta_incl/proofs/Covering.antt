@@ -1,15 +1,15 @@
 -- What is covered by pairs, and what stays so when further ones are found.
 use Rattle.std.proofs.Common.{◌≡◌, inl, inr, ℕ, Bool, List, [], ◌∷◌, ◌++◌, get_or, slice_get, Some, refl, sym, ap, subst, ◌∙◌}
-use Rattle.std.proofs.lemmas.List.{append_assoc, map-append}
+use Rattle.std.proofs.lemmas.List.{append_assoc, append-nil, map-append}
 use Rattle.fore_base.specs.Lists.{Every}
 use Rattle.ta_core.specs.Auto.{Automaton}
-use Rattle.ta_core.specs.Marks.{MarksOf}
+use Rattle.fore_base.specs.Marks.{MarksOf}
 use Rattle.ta_core.specs.Tops.{Tops}
 use Rattle.ta_core.specs.declared.auto.Rule.{Rule}
-use Rattle.ta_core.proofs.Lists.{in_left, in_right, in_append, every_push, every_append}
+use Rattle.fore_base.proofs.ListLemmas.{every_append, every_push, every_weaker, in_append, in_left, in_right}
 use Rattle.ta_incl.specs.declared.found.Found.{Found}
-use Rattle.ta_incl.specs.Founds.{AreAt, HaveStates, sets_of, Covers, HasCover, AreFresh, IsFrom, IsCovered, Widens}
-use Rattle.ta_incl.proofs.Places.{every_weaker, every_pop, paired_last, same_item}
+use Rattle.ta_incl.specs.inner.Founds.{AreAt, HaveStates, sets_of, Covers, HasCover, AreFresh, IsFrom, IsCovered, Widens}
+use Rattle.ta_incl.proofs.Places.{every_pop, paired_last, read_item}
 
 -- a new pair that none covers
 pub fresh_push : (found : List Found) (x : Found) → AreFresh found → (HasCover found x.state x.marks → ⊥) → AreFresh (found ++ x ∷ [])
@@ -23,7 +23,7 @@ fresh_push (g ∷ found) x h f = (
 pub sets_push : (found : List Found) (places : List ℕ) (place : ℕ) (sets : List (List Bool)) (set : List Bool) (x : Found) → ((items : List Found) → AreAt found places items → sets ≡ sets_of items) → x ≡ get_or found place x → set ≡ x.marks → (items : List Found) → AreAt found (places ++ place ∷ []) items → sets ++ set ∷ [] ≡ sets_of items
 sets_push found places place sets set x f i e items h =
     let p = paired_last (λ (k : ℕ) (y : Found). slice_get found k ≡ Some y) places place items h in
-    let s : set ≡ p.1.marks = e ∙ ap (λ (y : Found). y.marks) (same_item found place x p.1 i p.4) in
+    let s : set ≡ p.1.marks = e ∙ ap (λ (y : Found). y.marks) (read_item found place x p.1 i p.4) in
     ap (λ (ss : List (List Bool)). ss ++ set ∷ []) (f p.0 p.3) ∙ ap (λ (m : List Bool). sets_of p.0 ++ m ∷ []) s ∙ sym (map-append (λ (y : Found). y.marks) p.0 (p.1 ∷ [])) ∙ ap sets_of (sym p.2)
 
 module _ (found added : List Found) (q : ℕ) (marks : List Bool) where
@@ -55,6 +55,10 @@ module _ (P : Found → Type 0) (old : List Found) where
     each = (p, tt);
     fresh = λ h. subst AreFresh (append_assoc old before (x ∷ []) ∙ ap (λ (xs : List Found). old ++ xs) (sym e)) (fresh_push (old ++ before) x h f);
   }
+
+  -- none was added
+  pub widens_none : (before : List Found) → Widens P old before before
+  widens_none before = record { more = []; is = sym (append-nil before); each = tt; fresh = λ h. h }
 
   pub widens_more : (a b c : List Found) → Widens P old a b → Widens P old b c → Widens P old a c
   widens_more a b c h k = record {

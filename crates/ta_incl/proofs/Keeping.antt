@@ -1,12 +1,12 @@
 -- The pairs that no later one covers, taken from the last one on.
 use Rattle.std.proofs.Common.{◌≡◌, ◌⊎◌, ◌↔◌, inl, inr, ℕ, ◌+◌, ◌<◌, Bool, List, [], ◌∷◌, ◌++◌, refl, sym, subst, arith}
 use Rattle.fore_base.specs.Lists.{IsIn, Every}
-use Rattle.ta_core.specs.Marks.{IsMarked}
-use Rattle.ta_core.proofs.Lists.{in_left, in_right, in_append, in_every, every_in, every_push}
+use Rattle.fore_base.specs.Marks.{IsMarked}
+use Rattle.fore_base.proofs.ListLemmas.{every_in, every_push, every_weaker, in_append, in_every, in_left, in_right}
 use Rattle.ta_incl.specs.declared.found.Found.{Found}
-use Rattle.ta_incl.specs.Founds.{Covers, HasCover, AreFresh, AreApart, IsThinned}
+use Rattle.ta_incl.specs.inner.Founds.{Covers, HasCover, AreFresh, AreApart, IsThinned}
 use Rattle.ta_incl.proofs.Covering.{cover_left, fresh_pop}
-use Rattle.ta_incl.proofs.Places.{every_pop, every_weaker}
+use Rattle.ta_incl.proofs.Places.{every_pop}
 
 -- some of the found pairs are kept, and the rest is still to be looked at
 pub record Thinning (found rest kept : List Found) : Type 0 where

@@ -2,6 +2,9 @@ pub mod Answering
 pub mod Covering
 pub mod Deriving
 pub mod Extending
-pub mod Places
 pub mod Keeping
+pub mod Lasting
+pub mod Places
+mod Rows
+pub mod Tasks
 pub mod Trees

@@ -1,18 +1,18 @@
 -- The tree by which a pair was found.
-use Rattle.std.proofs.Common.{◌≡◌, inl, inr, ℕ, ◌+◌, ◌≤◌, ◌<◌, max, List, [], ◌∷◌, slice_get, Some, sym, ap, subst, ◌∙◌, arith}
+use Rattle.std.proofs.Common.{◌≡◌, inl, inr, ℕ, zero, suc, ◌+◌, ◌≤◌, ◌<◌, max, List, [], ◌∷◌, length, slice_get, Some, sym, ap, subst, ◌∙◌, arith}
 use Rattle.std.proofs.lemmas.Option.{same_Some}
-use Rattle.fore_base.specs.Lists.{IsIn, Every}
+use Rattle.fore_base.specs.Lists.{IsIn, Every, Paired}
+use Rattle.fore_base.proofs.ListLemmas.{every_weaker, in_from_place}
 use Rattle.ta_core.specs.Auto.{Automaton}
 use Rattle.ta_core.specs.Language.{RunOf, RunEach, run_none, run_more}
-use Rattle.ta_core.specs.Paired.{Paired}
 use Rattle.ta_core.specs.Tops.{AreStatesOf}
 use Rattle.ta_core.specs.declared.auto.Rule.{Rule}
 use Rattle.ta_core.specs.declared.tree.Tree.{Tree, out-roll-Tree}
 use Rattle.ta_core.proofs.Runs.{tree_of, run_tree}
 use Rattle.ta_core.proofs.Tops.{states_top}
 use Rattle.ta_incl.specs.declared.found.Found.{Found}
-use Rattle.ta_incl.specs.Founds.{AreAt, HaveStates, sets_of, AreDerived, IsTreeAt}
-use Rattle.ta_incl.proofs.Places.{in_found}
+use Rattle.ta_incl.specs.inner.Founds.{AreAt, HaveStates, sets_of, AreDerived, IsTreeAt}
+use Rattle.ta_incl.proofs.Places.{item_at, paired_for}
 
 -- above each of the places
 abbrev pub ceiling : List ℕ → ℕ
@@ -51,6 +51,19 @@ module _ (rules : List Rule) (b : Automaton) (found : List Found) where
       let same : g.0 ≡ r = same_Some g.0 r (sym g.1 ∙ at) in
       let k = runs_at f.from g.2.items g.0.children ts g.2.from g.2.children p in
       let out = out-roll-Tree (record { symbol = g.0.symbol; children = ts }) in
-      let left : RunOf rules f.state (tree_of g.0.symbol ts) = subst (λ (n : ℕ). RunOf rules n (tree_of g.0.symbol ts)) (sym g.2.state) (run_tree rules g.0 ts (in_found rules f.rule g.0 g.1) k.0) in
+      let left : RunOf rules f.state (tree_of g.0.symbol ts) = subst (λ (n : ℕ). RunOf rules n (tree_of g.0.symbol ts)) (sym g.2.state) (run_tree rules g.0 ts (in_from_place rules f.rule g.0 g.1) k.0) in
       let right : AreStatesOf b.rules b.states (tree_of g.0.symbol ts) f.marks = states_top b.states b.rules (tree_of g.0.symbol ts) (sets_of g.2.items) f.marks (rw out k.1) (rw out g.2.marks) in
       subst (λ (s : Rule). IsTreeAt rules b found place (tree_of s.symbol ts)) same (f, e, left, right)
+
+  -- each pair has a tree by which it was found
+  tree_below : (n place : ℕ) → AreDerived rules b found → place < n → place < length found → (t : Tree) × IsTreeAt rules b found place t
+  tree_below zero place d l k = absurd (omega (arith, l))
+  tree_below (suc n) place d l k =
+      let f = item_at found place k in
+      let g = d place f.0 f.1 in
+      let low = every_weaker (λ (i : ℕ). i < place) (λ (i : ℕ). (i < n) × (i < length found)) f.0.from (λ i j. (omega (arith, j, l), omega (arith, j, k))) g.1 in
+      let ts = paired_for (IsTreeAt rules b found) (λ (i : ℕ). (i < n) × (i < length found)) (λ i j. tree_below n i d j.0 j.1) f.0.from low in
+      (tree_of g.0.0.symbol ts.0, tree_here place f.0 g.0.0 ts.0 d f.1 g.0.1 ts.1)
+
+  pub tree_found : (place : ℕ) → AreDerived rules b found → place < length found → (t : Tree) × IsTreeAt rules b found place t
+  tree_found place d k = tree_below (place + 1) place d (omega arith) k

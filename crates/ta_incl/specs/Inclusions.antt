@@ -1,10 +1,9 @@
 -- What an answer on inclusion carries: pairs of a state of the left automaton and a set of states of the right one (CAV 2011, section 4), or a tree.
 use Rattle.std.specs.Prelude.{◌≡◌, ◌↔◌, ℕ, List, slice_get, Some}
-use Rattle.fore_base.specs.Lists.{IsIn, Every}
+use Rattle.fore_base.specs.Lists.{IsIn, Every, Paired}
 use Rattle.ta_core.specs.Auto.{Automaton}
 use Rattle.ta_core.specs.Joined.{shift, united}
-use Rattle.ta_core.specs.Language.{InLanguage, IsWithin}
-use Rattle.ta_core.specs.Paired.{Paired}
+use Rattle.ta_core.specs.Language.{InLanguage}
 use Rattle.ta_core.specs.Simulations.{IsSimulatedUpward}
 use Rattle.ta_core.specs.declared.auto.Rule.{Rule}
 use Rattle.ta_core.specs.declared.tree.Tree.{Tree}
@@ -61,8 +60,3 @@ IfYes P (No tree) = Unit {0}
 abbrev pub IfNo : (Tree → Type 0) → Inclusion → Type 0
 IfNo P (Yes pairs) = Unit {0}
 IfNo P (No tree) = P tree
-
--- Yes comes where each tree of a is one of b, with an antichain of pairs that is closed under the rules and meets the roots; No comes with a tree of a that is none of b
-abbrev pub Answers : Automaton → Automaton → Inclusion → Type 0
-Answers a b (Yes pairs) = IsWithin a b × IsAntichain pairs × IsClosed a b pairs × MeetsRoots a b pairs
-Answers a b (No tree) = IsMissing a b tree

@@ -1,2 +1,2 @@
-pub mod Founds
 pub mod Inclusions
+pub mod inner

@@ -1,18 +1,11 @@
 // What shows that a tree of the left automaton is none of the right one.
 
-ghost use Rattle.std.specs.Prelude.{◌≡◌, ◌↔◌, ◌<◌, Some, slice_get, length, IsTrue, IfOk, MatchOption};
+ghost use Rattle.std.specs.Prelude.{◌≡◌, ◌↔◌, Some, slice_get, IsTrue, MatchOption};
 ghost use Rattle.fore_base.specs.Lists.{IsIn, Every};
-ghost use Rattle.ta_core.specs.Auto.{Automaton};
-ghost use Rattle.ta_core.specs.Paired.{Paired};
-ghost use Rattle.ta_incl.specs.Founds.{IsFailing, AreDerived, IsTreeAt};
+ghost use Rattle.ta_incl.specs.inner.Founds.{IsFailing};
 
 use crate::found::Found;
-use fore_base::list::{Copies, List};
-use fore_base::memory::Mem;
-use std::alloc::Global;
-use ta_core::auto::Rule;
-use ta_core::marks::is_some_marked;
-use ta_core::tree::Tree;
+use fore_base::marks::is_some_marked;
 
 /// The first pair with one of the left root states and none of the right ones.
 pub fn failing(lefts: &[u32], rights: &[u32], found: &[Found]) -> Option<usize>
@@ -41,34 +34,4 @@ fn is_one_of(state: u32, states: &[u32]) -> bool
         }
     }
     false
-}
-
-/// The tree by which the pair at this place was found.
-#[cycle(tree_at)]
-pub fn tree_at(alloc: Global, rules: &List<Rule>, found: &[Found], place: usize) -> Mem<Tree>
-    requires there { place < length found.now }
-    requires derived { (b : Automaton) × AreDerived rules.now b found.now }
-    ensures { IfOk result (λ t. (b : Automaton) → AreDerived rules.now b found.now → IsTreeAt rules.now b found.now place t) }
-{
-    let pair = &found[place];
-    let children = trees_at(alloc, rules, found, pair.from.as_slice())?;
-    Ok(Tree {
-        symbol: rules.at(pair.rule).symbol.copy(alloc)?,
-        children,
-    })
-}
-
-/// For each place such a tree.
-#[cycle(tree_at)]
-fn trees_at(alloc: Global, rules: &List<Rule>, found: &[Found], places: &[usize]) -> Mem<List<Tree>>
-    requires there { Every (λ i. i < length found.now) places.now }
-    requires derived { (b : Automaton) × AreDerived rules.now b found.now }
-    ensures { IfOk result (λ ts. (b : Automaton) → AreDerived rules.now b found.now → Paired (IsTreeAt rules.now b found.now) places.now ts) }
-{
-    let mut trees = List::new(alloc);
-    for place in places {
-        let tree = tree_at(alloc, rules, found, *place)?;
-        trees.push(tree)?;
-    }
-    Ok(trees)
 }

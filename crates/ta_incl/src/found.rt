@@ -1,9 +1,11 @@
 // The pairs that the search has found, and which of them cover which.
 
-ghost use Rattle.std.specs.Prelude.{◌≡◌, ◌↔◌, ◌++◌, false, slice_index_or, IsTrue};
-ghost use Rattle.ta_incl.specs.Founds.{IsPart, Covers, HasCover};
+ghost use Rattle.std.specs.Prelude.{◌≡◌, ◌↔◌, ◌++◌, false, slice_index_or, IsTrue, IfOk};
+ghost use Rattle.ta_incl.specs.inner.Founds.{IsPart, Covers, HasCover, AreLasting};
 
 use fore_base::list::List;
+use fore_base::memory::Mem;
+use std::alloc::Global;
 
 /// A state of the left automaton with a set of states of the right one, as one mark for each; and what it was derived from: the place of a rule of the left automaton, and for each child of it the place of the found pair that stands there.
 #[derive(Debug, Drop)]
@@ -33,6 +35,20 @@ pub fn has_cover(found: &[Found], state: u32, marks: &[bool]) -> bool
     false
 }
 
+/// A mark for each pair that no later one covers.
+pub fn lasting(alloc: Global, found: &[Found]) -> Mem<List<bool>>
+    ensures { IfOk result (AreLasting found.now) }
+{
+    let mut marks = List::new(alloc);
+    let mut rest = found;
+    'pairs: while let Some((pair, later)) = rest.split_first() {
+        let lasts = !has_cover(later, pair.state, pair.marks.as_slice());
+        marks.push(lasts)?;
+        rest = later;
+    }
+    Ok(marks)
+}
+
 /// Whether the pair has this state, and a set within these marks.
 fn covers(pair: &Found, state: u32, marks: &[bool]) -> bool
     ensures { IsTrue result ↔ Covers pair.now state marks.now }
@@ -52,7 +68,8 @@ fn are_part(marks: &[bool], other: &[bool]) -> bool
     true
 }
 
-fn mark_at(marks: &[bool], place: usize) -> bool
+/// Whether the place has a mark. One past the end has none.
+pub fn mark_at(marks: &[bool], place: usize) -> bool
     ensures { result ≡ slice_index_or marks.now place false }
 {
     match marks.get(place) {

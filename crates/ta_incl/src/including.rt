@@ -1,16 +1,24 @@
-ghost use Rattle.std.specs.Prelude.{IfOk};
+// The two calls: with what shows the answer, and without.
+
+ghost use Rattle.std.specs.Prelude.{◌↔◌, IsTrue, IfOk};
 ghost use Rattle.ta_core.specs.Language.{IsWithin};
-ghost use Rattle.ta_incl.specs.Inclusions.{IsAntichain, IsClosed, MeetsRoots, IsMissing, IfYes, IfNo, Answers};
+ghost use Rattle.ta_incl.specs.Inclusions.{IsAntichain, IsClosed, MeetsRoots, IsMissing, IfYes, IfNo};
+ghost use Rattle.ta_incl.specs.inner.Answers.{Answers};
 
 use crate::exploring::explored;
-use crate::failing::{failing, tree_at};
+use crate::failing::failing;
+use crate::growing::tree_at;
 use crate::inclusion::Inclusion;
 use crate::thinning::{pairs_of, thinned};
 use fore_base::memory::Mem;
 use std::alloc::Global;
 use ta_core::auto::Auto;
 
-/// Whether each tree of the left automaton is one of the right one, with what shows it. Err is want of memory.
+/// Whether each tree of the left automaton is one of the right one, with what shows it: pairs, or a tree. The tree can be exponentially larger than the automata.
+///
+/// # Errors
+///
+/// Want of memory.
 pub fn included(alloc: Global, left: &Auto, right: &Auto) -> Mem<Inclusion>
     ensures within { IfOk result (IfYes (λ _. IsWithin left.now right.now)) }
     ensures antichain { IfOk result (IfYes IsAntichain) }
@@ -40,4 +48,21 @@ fn answered(alloc: Global, left: &Auto, right: &Auto) -> Mem<Inclusion>
             Ok(Inclusion::Yes { pairs })
         }
     }
+}
+
+/// Whether each tree of the left automaton is one of the right one. Unlike `included` it makes no tree.
+///
+/// # Errors
+///
+/// Want of memory.
+pub fn is_included(alloc: Global, left: &Auto, right: &Auto) -> Mem<bool>
+    ensures { IfOk result (λ yes. IsTrue yes ↔ IsWithin left.now right.now) }
+{
+    let found = explored(alloc, left, right)?;
+    let place = failing(
+        left.roots.as_slice(),
+        right.roots.as_slice(),
+        found.as_slice(),
+    );
+    Ok(place.is_none())
 }

@@ -1,7 +1,9 @@
+// The answer on inclusion.
+
 use fore_base::list::List;
 use ta_core::tree::Tree;
 
-/// A state of the left automaton, and a set of states of the right one.
+/// A state of the left automaton, and a set of states of the right one, in rising order.
 #[derive(PartialEq, Eq, Debug, Drop)]
 pub struct Pair {
     pub state: u32,

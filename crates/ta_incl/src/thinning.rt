@@ -1,17 +1,16 @@
 // The pairs that are answered: those that no other one covers.
 
 ghost use Rattle.std.specs.Prelude.{◌≡◌, ◌↔◌, ℕ, length, IfOk};
-ghost use Rattle.fore_base.specs.Lists.{IsIn, Every};
-ghost use Rattle.ta_core.specs.Marks.{IsMarked};
-ghost use Rattle.ta_core.specs.Paired.{Paired};
-ghost use Rattle.ta_incl.specs.Founds.{AreFresh, IsThinned, IsPairOf};
+ghost use Rattle.fore_base.specs.Lists.{IsIn, Every, Paired};
+ghost use Rattle.fore_base.specs.Marks.{IsMarked};
+ghost use Rattle.ta_incl.specs.inner.Founds.{AreFresh, IsThinned, IsPairOf};
 
 use crate::found::{Found, has_cover};
 use crate::inclusion::Pair;
 use fore_base::list::List;
+use fore_base::marks::is_marked;
 use fore_base::memory::Mem;
 use std::alloc::Global;
-use ta_core::marks::is_marked;
 
 /// Those pairs that no later one covers, the last one first.
 pub fn thinned(alloc: Global, found: List<Found>) -> Mem<List<Found>>

@@ -1,7 +1,10 @@
+pub mod Classing
 pub mod Fewer
 pub mod Joined
 pub mod Leads
-pub mod Places
+pub mod Once
 pub mod Rounds
+pub mod Sublists
+pub mod Thinning
 pub mod Tight
 pub mod Trimmed

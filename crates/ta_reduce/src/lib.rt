@@ -1,10 +1,10 @@
 // Tree automata reduced by simulation.
 #![tactic(auto)]
 
-mod covering;
+mod classes;
+mod dropping;
 mod joining;
-mod leaving;
 pub mod reducing;
+mod rooting;
 #[cfg(test)]
 mod tests;
-mod twins;

@@ -14,7 +14,7 @@ const NULL: Sign = Sign::Null;
 
 const UNINIT: Sign = Sign::Uninit;
 
-const N: Sign = Sign::Link;
+const N: Sign = Sign::ListCell;
 
 const F: Sign = Sign::Fork;
 

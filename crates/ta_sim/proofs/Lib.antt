@@ -1,4 +1,5 @@
 pub mod Counting
+pub mod Groups
 pub mod Related
 pub mod Rounds
 pub mod Simulated

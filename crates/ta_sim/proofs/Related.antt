@@ -2,9 +2,9 @@
 use Rattle.std.proofs.Common.{◌≡◌, ℕ, ◌<◌, ◌+◌, Bool, true, false, true≢false, ◌&&◌, List, [], ◌∷◌, length, get_or, drop, refl, sym, ◌∙◌}
 use Rattle.std.proofs.lemmas.List.{drop_more}
 use Rattle.std.specs.Bool.{Decides}
-use Rattle.ta_core.specs.Paired.{Paired}
-use Rattle.ta_core.proofs.Marking.{and_left, and_right}
-use Rattle.ta_sim.specs.Matching.{related_each}
+use Rattle.fore_base.specs.Lists.{Paired}
+use Rattle.std.proofs.lemmas.Bool.{and_parts}
+use Rattle.ta_sim.specs.inner.Matching.{related_each}
 use Rattle.ta_sim.specs.Relations.{entry, Relates}
 
 module _ (rows : List (List Bool)) where
@@ -12,7 +12,7 @@ module _ (rows : List (List Bool)) where
   related_from [] [] h = tt
   related_from [] (q ∷ qs) h = absurd (true≢false (sym h))
   related_from (p ∷ ps) [] h = absurd (true≢false (sym h))
-  related_from (p ∷ ps) (q ∷ qs) h = (and_left (entry rows p q) (related_each rows ps qs) h, related_from ps qs (and_right (entry rows p q) (related_each rows ps qs) h))
+  related_from (p ∷ ps) (q ∷ qs) h = let parts = and_parts (entry rows p q) (related_each rows ps qs) h in (parts.0, related_from ps qs parts.1)
 
   related_to : (ps qs : List ℕ) → Paired (Relates rows) ps qs → related_each rows ps qs ≡ true
   related_to [] [] h = refl
@@ -28,7 +28,7 @@ module _ (rows : List (List Bool)) where
   related_long [] [] h = refl
   related_long [] (q ∷ qs) h = absurd (true≢false (sym h))
   related_long (p ∷ ps) [] h = absurd (true≢false (sym h))
-  related_long (p ∷ ps) (q ∷ qs) h = let e = related_long ps qs (and_right (entry rows p q) (related_each rows ps qs) h) in rw e refl
+  related_long (p ∷ ps) (q ∷ qs) h = let e = related_long ps qs (and_parts (entry rows p q) (related_each rows ps qs) h).1 in rw e refl
 
   pub related_differ : (ps qs : List ℕ) → (length ps ≡ length qs → ⊥) → false ≡ related_each rows ps qs
   related_differ ps qs d = here (related_each rows ps qs) (λ h. d (related_long ps qs h))

@@ -2,16 +2,15 @@
 use Rattle.std.proofs.Common.{◌≡◌, inl, inr, ℕ, zero, suc, ◌<◌, ◌≤◌, Bool, true, false, true≢false, List, [], ◌∷◌, ◌++◌, length, get_or, replicate, refl, sym, ap, subst, ◌∙◌, arith}
 use Rattle.std.proofs.lemmas.Bool.{cases_lt}
 use Rattle.std.proofs.lemmas.List.{get_or_push, get_or_append_left, get_or-replicate, length-append, length-replicate}
-use Rattle.fore_base.specs.Lists.{IsIn, Every}
+use Rattle.fore_base.specs.Lists.{IsIn, Every, Paired}
 use Rattle.ta_core.specs.declared.auto.Rule.{Rule}
-use Rattle.ta_core.specs.Auto.{IsProperRule}
-use Rattle.ta_core.specs.Marks.{MarksOf}
-use Rattle.ta_core.specs.Paired.{Paired}
+use Rattle.ta_core.specs.Auto.{IsRankedRule}
+use Rattle.fore_base.specs.Marks.{MarksOf}
 use Rattle.ta_core.specs.Simulations.{IsDownward, IsSimulated}
-use Rattle.ta_core.proofs.Lists.{every_in, in_every}
-use Rattle.ta_core.proofs.Marking.{marked_below}
-use Rattle.ta_sim.specs.Matching.{IsAnswered, Stays}
-use Rattle.ta_sim.specs.Refining.{AreSquare, Includes, AreRefined, pair_count}
+use Rattle.fore_base.proofs.ListLemmas.{every_in, in_every}
+use Rattle.fore_base.proofs.MarkLemmas.{marked_below}
+use Rattle.ta_sim.specs.inner.Matching.{rules_at, AreByState, IsAnswered, Stays}
+use Rattle.ta_sim.specs.inner.Refining.{AreSquare, Includes, AreRefined, pair_count}
 use Rattle.ta_sim.specs.Relations.{Relates}
 use Rattle.ta_sim.proofs.Counting.{rows_fall}
 use Rattle.ta_sim.proofs.Simulated.{simulated_downward}
@@ -58,21 +57,22 @@ related_each n rules rows f [] (q ∷ qs) l k h = absurd h
 related_each n rules rows f (p ∷ ps) [] l k h = absurd h
 related_each n rules rows f (p ∷ ps) (q ∷ qs) l k h = (f p q l.0 k.0 h.0, related_each n rules rows f ps qs l.1 k.1 h.1)
 
-module _ (n : ℕ) (rules : List Rule) (rows : List (List Bool)) (proper : Every (IsProperRule n) rules) (square : AreSquare n rows) where
+module _ (n : ℕ) (rules : List Rule) (groups : List (List Rule)) (rows : List (List Bool)) (proper : Every (IsRankedRule n) rules) (by : AreByState rules n groups) (square : AreSquare n rows) where
   -- a pair stays where the one state simulates the other
-  stays_simulated : Includes n rules rows → (p q : ℕ) → p < n → q < n → IsSimulated rules p q → Stays rules rows p q
-  stays_simulated f p q l k h = (f p q l k h, in_every (IsAnswered rules rows p q) rules answer)
+  stays_simulated : Includes n rules rows → (p q : ℕ) → p < n → q < n → IsSimulated rules p q → Stays groups rows p q
+  stays_simulated f p q l k h = (f p q l k h, in_every (IsAnswered rows (rules_at groups q)) (rules_at groups p) answer)
     where
-      answer : (r : Rule) → IsIn r rules → IsAnswered rules rows p q r
-      answer r i e =
-          let m = simulated_downward rules r q i (subst (λ (x : ℕ). IsSimulated rules x q) (sym e) h) in
-          (m.0, m.1, m.2, m.3, related_each n rules rows f r.children m.0.children (every_in (IsProperRule n) rules r proper i).1 (every_in (IsProperRule n) rules m.0 proper m.1).1 m.4)
+      answer : (r : Rule) → IsIn r (rules_at groups p) → IsAnswered rows (rules_at groups q) r
+      answer r i =
+          let w = by.only p r i in
+          let m = simulated_downward rules r q w.0 (subst (λ (x : ℕ). IsSimulated rules x q) (sym w.1) h) in
+          (m.0, subst (λ (x : ℕ). IsIn m.0 (rules_at groups x)) m.2 (by.each m.0 m.1), (m.3, related_each n rules rows f r.children m.0.children (every_in (IsRankedRule n) rules r proper w.0).1 (every_in (IsRankedRule n) rules m.0 proper m.1).1 m.4))
 
-  module _ (next : List (List Bool)) (long : length next ≡ n) (refined : AreRefined n rules rows next) where
+  module _ (next : List (List Bool)) (long : length next ≡ n) (refined : AreRefined n groups rows next) where
     pub next_square : AreSquare n next
     next_square = (long, every_row n next (λ p l. (refined p l).long))
 
-    next_stays : (p q : ℕ) → Relates next p q → Stays rules rows p q
+    next_stays : (p q : ℕ) → Relates next p q → Stays groups rows p q
     next_stays p q h = (refined p (row_there next p q h)).only q h
 
     pub next_includes : Includes n rules rows → Includes n rules next
@@ -80,24 +80,27 @@ module _ (n : ℕ) (rules : List Rule) (rows : List (List Bool)) (proper : Every
 
     -- nothing was taken away: the rows are a simulation
     pub settled : next ≡ rows → IsDownward rules (Relates rows)
-    settled e r q i h = every_in (IsAnswered rules rows r.state q) rules r (next_stays r.state q (subst (λ (x : List (List Bool)). Relates x r.state q) (sym e) h)).1 i refl
+    settled e r q i h =
+        let m = every_in (IsAnswered rows (rules_at groups q)) (rules_at groups r.state) r (next_stays r.state q (subst (λ (x : List (List Bool)). Relates x r.state q) (sym e) h)).1 (by.each r i) in
+        let w = by.only q m.0 m.1 in
+        (m.0, w.0, w.1, m.2.0, m.2.1)
 
     pub fewer : (next ≡ rows → ⊥) → pair_count next < pair_count rows
     fewer d = elim (rows_fall n next rows (long ∙ sym square.0) next_square.1 square.1 (λ p q h. (next_stays p q h).0)) [ inl e ↦ absurd (d e) | inr l ↦ l ]
 
 -- one more row
-pub refined_push : (n : ℕ) (rules : List Rule) (rows next : List (List Bool)) (row : List Bool) (p : ℕ) → length next ≡ p → AreRefined n rules rows next → MarksOf n (Stays rules rows p) row → AreRefined n rules rows (next ++ row ∷ [])
-refined_push n rules rows next row p e h m i l = elim (cases_lt i (length next)) [
-  | inl k ↦ subst (MarksOf n (Stays rules rows i)) (sym (get_or_append_left next (row ∷ []) [] i k)) (h i k)
-  | inr k ↦ (let d = last k in subst (MarksOf n (Stays rules rows i)) (sym (get_or_push next row [] i (sym d))) (subst (λ (x : ℕ). MarksOf n (Stays rules rows x) row) (sym e ∙ sym d) m))
+pub refined_push : (n : ℕ) (groups : List (List Rule)) (rows next : List (List Bool)) (row : List Bool) (p : ℕ) → length next ≡ p → AreRefined n groups rows next → MarksOf n (Stays groups rows p) row → AreRefined n groups rows (next ++ row ∷ [])
+refined_push n groups rows next row p e h m i l = elim (cases_lt i (length next)) [
+  | inl k ↦ subst (MarksOf n (Stays groups rows i)) (sym (get_or_append_left next (row ∷ []) [] i k)) (h i k)
+  | inr k ↦ (let d = last k in subst (MarksOf n (Stays groups rows i)) (sym (get_or_push next row [] i (sym d))) (subst (λ (x : ℕ). MarksOf n (Stays groups rows x) row) (sym e ∙ sym d) m))
 ]
   where
     last : length next ≤ i → i ≡ length next
     last k = let a = length-append next (row ∷ []) in omega (arith, a, k, l)
 
 -- all places of the row are done
-pub row_done : (n : ℕ) (rules : List Rule) (rows : List (List Bool)) (p : ℕ) (row : List Bool) → AreSquare n rows → MarksOf n (λ q. (q < n) × Stays rules rows p q) row → MarksOf n (Stays rules rows p) row
-row_done n rules rows p row s m = record {
+pub row_done : (n : ℕ) (groups : List (List Rule)) (rows : List (List Bool)) (p : ℕ) (row : List Bool) → AreSquare n rows → MarksOf n (λ q. (q < n) × Stays groups rows p q) row → MarksOf n (Stays groups rows p) row
+row_done n groups rows p row s m = record {
   long = m.long;
   only = λ q h. (m.only q h).1;
   each = λ q h. m.each q (related_low n rows p q s h.0, h);

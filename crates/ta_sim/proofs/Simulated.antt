@@ -1,15 +1,13 @@
 -- The greatest downward simulation: it is a preorder, and trees go up along it.
 use Rattle.std.proofs.Common.{◌≡◌, ◌⊎◌, inl, inr, ℕ, zero, suc, ◌<◌, Bool, true, false, true≢false, ◌&&◌, ◌||◌, List, [], ◌∷◌, nat_eq, refl, sym, ◌∙◌, arith}
-use Rattle.std.proofs.lemmas.Bool.{eqb-true, eq-eqb, or_cases}
-use Rattle.fore_base.specs.Lists.{Every}
+use Rattle.std.proofs.lemmas.Bool.{eqb-true, eq-eqb, or_cases, and_parts}
+use Rattle.fore_base.specs.Lists.{Every, Paired}
 use Rattle.ta_core.specs.declared.auto.Rule.{Rule}
 use Rattle.ta_core.specs.declared.tree.Tree.{Tree}
-use Rattle.ta_core.specs.Auto.{IsProperRule}
+use Rattle.ta_core.specs.Auto.{IsRankedRule}
 use Rattle.ta_core.specs.Language.{RunOf}
-use Rattle.ta_core.specs.Paired.{Paired}
 use Rattle.ta_core.specs.Simulations.{IsDownward, IsSimulated}
-use Rattle.ta_core.proofs.Lists.{every_in}
-use Rattle.ta_core.proofs.Marking.{and_left, and_right}
+use Rattle.fore_base.proofs.ListLemmas.{every_in}
 use Rattle.ta_core.proofs.Runs.{along}
 
 -- where one relation is within another on the states of the first list, so are the lists
@@ -79,19 +77,19 @@ module _ (n : ℕ) (R S : ℕ → ℕ → Bool) where
   each_through (p ∷ ps) (q ∷ qs) [] l h k = absurd k
   each_through (p ∷ ps) (q ∷ qs) (r ∷ rs) l h k = (go_through p q r l.0 h.0 k.0, each_through ps qs rs l.1 h.1 k.1)
 
-  through_downward : (rules : List Rule) → Every (IsProperRule n) rules → IsDownward rules (λ x y. R x y ≡ true) → IsDownward rules (λ x y. S x y ≡ true) → IsDownward rules (λ x y. through n R S x y ≡ true)
+  through_downward : (rules : List Rule) → Every (IsRankedRule n) rules → IsDownward rules (λ x y. R x y ≡ true) → IsDownward rules (λ x y. S x y ≡ true) → IsDownward rules (λ x y. through n R S x y ≡ true)
   through_downward rules proper f g r z i h =
       let w = below_from n (λ m. R r.state m && S m z) h in
-      let a = f r w.0 i (and_left (R r.state w.0) (S w.0 z) w.2) in
-      let b = g a.0 z a.1 (rw a.2 (and_right (R r.state w.0) (S w.0 z) w.2)) in
-      (b.0, b.1, b.2, b.3 ∙ a.3, each_through r.children a.0.children b.0.children (every_in (IsProperRule n) rules a.0 proper a.1).1 a.4 b.4)
+      let a = f r w.0 i (and_parts (R r.state w.0) (S w.0 z) w.2).0 in
+      let b = g a.0 z a.1 (rw a.2 (and_parts (R r.state w.0) (S w.0 z) w.2).1) in
+      (b.0, b.1, b.2, b.3 ∙ a.3, each_through r.children a.0.children b.0.children (every_in (IsRankedRule n) rules a.0 proper a.1).1 a.4 b.4)
 
 -- a state of the automaton that simulates one is simulated by what simulates it
-pub simulated_through : (n : ℕ) (rules : List Rule) → Every (IsProperRule n) rules → (p q r : ℕ) → q < n → IsSimulated rules p q → IsSimulated rules q r → IsSimulated rules p r
+pub simulated_through : (n : ℕ) (rules : List Rule) → Every (IsRankedRule n) rules → (p q r : ℕ) → q < n → IsSimulated rules p q → IsSimulated rules q r → IsSimulated rules p r
 simulated_through n rules proper p q r l h k = (through n h.0 k.0, through_downward n h.0 k.0 rules proper h.1 k.1, go_through n h.0 k.0 p q r l h.2 k.2)
 
 -- so are those of whole lists, place by place
-pub paired_through : (n : ℕ) (rules : List Rule) → Every (IsProperRule n) rules → (ps qs rs : List ℕ) → Every (λ q. q < n) qs → Paired (IsSimulated rules) ps qs → Paired (IsSimulated rules) qs rs → Paired (IsSimulated rules) ps rs
+pub paired_through : (n : ℕ) (rules : List Rule) → Every (IsRankedRule n) rules → (ps qs rs : List ℕ) → Every (λ q. q < n) qs → Paired (IsSimulated rules) ps qs → Paired (IsSimulated rules) qs rs → Paired (IsSimulated rules) ps rs
 paired_through n rules proper [] [] [] l h k = tt
 paired_through n rules proper [] [] (r ∷ rs) l h k = absurd k
 paired_through n rules proper [] (q ∷ qs) rs l h k = absurd h

@@ -1,3 +1,2 @@
-pub mod Matching
-pub mod Refining
 pub mod Relations
+pub mod inner

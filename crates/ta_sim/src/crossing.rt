@@ -1,8 +1,7 @@
 // Relations can be shared between threads and moved to another.
 
 use crate::relation::Relation;
-
-fn crosses<T: Send + Sync>(_value: &T) {}
+use fore_base::crossing::crosses;
 
 /// Relations cross threads.
 pub fn relations_cross(relation: &Relation) {

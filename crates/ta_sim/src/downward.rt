@@ -3,6 +3,7 @@ ghost use Rattle.par_kit.specs.Crews.{IsJobs};
 ghost use Rattle.ta_core.specs.Simulations.{IsDownward, IsSimulated};
 ghost use Rattle.ta_sim.specs.Relations.{Holds};
 
+use crate::grouping::by_state;
 use crate::refining::{all_pairs, refine};
 use crate::relation::Relation;
 use fore_base::memory::Mem;
@@ -25,8 +26,9 @@ pub fn downward<R: Threads + Sync, G: Gate>(
     ensures greatest { IfOk result (λ made. (p q : ℕ) → p < auto.now.states → q < auto.now.states → IsSimulated auto.now.rules p q → Holds made p q) }
 {
     let rules = auto.rules.as_slice();
+    let groups = by_state(alloc, rules, auto.states)?;
     let mut rows = all_pairs(alloc, auto.states)?;
-    'rounds: while refine(alloc, rules, auto.states, &mut rows)? {}
+    'rounds: while refine(alloc, rules, groups.as_slice(), auto.states, &mut rows)? {}
     Ok(Relation {
         size: auto.states,
         rows,

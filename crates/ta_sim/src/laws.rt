@@ -2,7 +2,7 @@
 
 ghost use Rattle.std.specs.Prelude.{◌<◌, ℕ, List};
 ghost use Rattle.fore_base.specs.Lists.{Every};
-ghost use Rattle.ta_core.specs.Auto.{IsProperRule};
+ghost use Rattle.ta_core.specs.Auto.{IsRankedRule};
 ghost use Rattle.ta_core.specs.Language.{RunOf};
 ghost use Rattle.ta_core.specs.Simulations.{IsDownward, IsSimulated};
 ghost use Rattle.ta_core.specs.declared.auto.Rule.{Rule};
@@ -25,5 +25,5 @@ pub fn simulated_is_reflexive()
 
 /// What simulates a state also simulates those that it simulates.
 pub fn simulated_is_transitive()
-    ensures { (n : ℕ) (rules : List Rule) → Every (IsProperRule n) rules → (p q r : ℕ) → q < n → IsSimulated rules p q → IsSimulated rules q r → IsSimulated rules p r }
+    ensures { (n : ℕ) (rules : List Rule) → Every (IsRankedRule n) rules → (p q r : ℕ) → q < n → IsSimulated rules p q → IsSimulated rules q r → IsSimulated rules p r }
 {}

@@ -3,6 +3,7 @@
 
 pub mod crossing;
 pub mod downward;
+mod grouping;
 pub mod laws;
 mod matching;
 mod refining;

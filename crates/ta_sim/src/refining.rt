@@ -2,10 +2,10 @@
 
 ghost use Rattle.std.specs.Prelude.{◌≡◌, ◌↔◌, List, replicate, length, true, IsTrue, IfOk};
 ghost use Rattle.fore_base.specs.Lists.{Every};
-ghost use Rattle.ta_core.specs.Auto.{IsProperRule};
-ghost use Rattle.ta_core.specs.Marks.{MarksOf};
-ghost use Rattle.ta_sim.specs.Matching.{Stays};
-ghost use Rattle.ta_sim.specs.Refining.{AreSquare, AreRefined, Includes, Refines};
+ghost use Rattle.ta_core.specs.Auto.{IsRankedRule};
+ghost use Rattle.fore_base.specs.Marks.{MarksOf};
+ghost use Rattle.ta_sim.specs.inner.Matching.{AreByState, Stays};
+ghost use Rattle.ta_sim.specs.inner.Refining.{AreSquare, AreRefined, Includes, Refines};
 
 use crate::matching::stays;
 use fore_base::list::List;
@@ -26,14 +26,21 @@ pub fn all_pairs(alloc: Global, states: u32) -> Mem<List<List<bool>>>
 }
 
 /// Takes away each pair of which the second state has no rule that matches one of the first, by the relation as it was, and says whether there was one.
-pub fn refine(alloc: Global, rules: &[Rule], states: u32, rows: &mut List<List<bool>>) -> Mem<bool>
-    requires proper { Every (IsProperRule states) rules.now }
+pub fn refine(
+    alloc: Global,
+    _rules: &[Rule],
+    groups: &[List<Rule>],
+    states: u32,
+    rows: &mut List<List<bool>>,
+) -> Mem<bool>
+    requires proper { Every (IsRankedRule states) _rules.now }
+    requires grouped { AreByState _rules.now states groups.now }
     requires square { AreSquare states rows.old }
     ensures square { AreSquare states rows.new }
-    ensures includes { Includes states rules.now rows.old → Includes states rules.now rows.new }
-    ensures refines { IfOk result (Refines rules.now rows.old rows.new) }
+    ensures includes { Includes states _rules.now rows.old → Includes states _rules.now rows.new }
+    ensures refines { IfOk result (Refines _rules.now rows.old rows.new) }
 {
-    let next = refined(alloc, rules, states, rows.as_slice())?;
+    let next = refined(alloc, groups, states, rows.as_slice())?;
     if are_same(next.as_slice(), rows.as_slice()) {
         return Ok(false);
     }
@@ -41,14 +48,19 @@ pub fn refine(alloc: Global, rules: &[Rule], states: u32, rows: &mut List<List<b
     Ok(true)
 }
 
-fn refined(alloc: Global, rules: &[Rule], states: u32, rows: &[List<bool>]) -> Mem<List<List<bool>>>
+fn refined(
+    alloc: Global,
+    groups: &[List<Rule>],
+    states: u32,
+    rows: &[List<bool>],
+) -> Mem<List<List<bool>>>
     requires { AreSquare states rows.now }
     ensures long { IfOk result (λ next. length next ≡ states) }
-    ensures refined { IfOk result (AreRefined states rules.now rows.now) }
+    ensures refined { IfOk result (AreRefined states groups.now rows.now) }
 {
     let mut next = List::new(alloc);
     for state in 0..states {
-        let row = refined_row(alloc, rules, states, rows, state)?;
+        let row = refined_row(alloc, groups, states, rows, state)?;
         next.push(row)?;
     }
     Ok(next)
@@ -56,17 +68,17 @@ fn refined(alloc: Global, rules: &[Rule], states: u32, rows: &[List<bool>]) -> M
 
 fn refined_row(
     alloc: Global,
-    rules: &[Rule],
+    groups: &[List<Rule>],
     states: u32,
     rows: &[List<bool>],
     left: u32,
 ) -> Mem<List<bool>>
     requires { AreSquare states rows.now }
-    ensures { IfOk result (MarksOf states (Stays rules.now rows.now left)) }
+    ensures { IfOk result (MarksOf states (Stays groups.now rows.now left)) }
 {
     let mut row = List::new(alloc);
     for right in 0..states {
-        row.push(stays(rules, rows, left, right))?;
+        row.push(stays(groups, rows, left, right))?;
     }
     Ok(row)
 }

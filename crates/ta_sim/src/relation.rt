@@ -1,6 +1,6 @@
 ghost use Rattle.std.specs.Prelude.{◌≡◌, ◌↔◌, ◌<◌, IsTrue};
-ghost use Rattle.ta_core.specs.Paired.{Paired};
-ghost use Rattle.ta_sim.specs.Matching.{related_each};
+ghost use Rattle.fore_base.specs.Lists.{Paired};
+ghost use Rattle.ta_sim.specs.inner.Matching.{related_each};
 ghost use Rattle.ta_sim.specs.Relations.{entry, Relates};
 
 use fore_base::list::List;
@@ -24,7 +24,14 @@ impl Model for Relation {
 }
 
 impl Relation {
-    ghost use Rattle.ta_sim.specs.Relations.{Holds};
+    ghost use Rattle.ta_sim.specs.Relations.{Holds, IsSquare};
+
+    /// Does nothing, and says what the relation keeps: for proofs in which no part of it is read.
+    pub fn known(&self)
+        ensures { IsSquare self.now }
+    {
+        let _size = self.size;
+    }
 
     /// Whether `left` is related to `right`, both below `size`. Takes no memory.
     pub fn holds(&self, left: u32, right: u32) -> bool

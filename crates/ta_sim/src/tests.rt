@@ -63,10 +63,10 @@ fn downward_simulations(rt: HostRuntime) -> Result<(), Fail> {
         Row(
             3,
             &[
-                Line(0, Sign::Link, &[1]),
+                Line(0, Sign::ListCell, &[1]),
                 Line(1, Sign::Null, &[]),
-                Line(2, Sign::Link, &[2]),
-                Line(2, Sign::Link, &[1]),
+                Line(2, Sign::ListCell, &[2]),
+                Line(2, Sign::ListCell, &[1]),
             ],
             &[(0, 0), (0, 2), (1, 1), (2, 2)],
         ),
@@ -74,8 +74,8 @@ fn downward_simulations(rt: HostRuntime) -> Result<(), Fail> {
         Row(
             2,
             &[
-                Line(0, Sign::Link, &[1]),
-                Line(1, Sign::Link, &[0]),
+                Line(0, Sign::ListCell, &[1]),
+                Line(1, Sign::ListCell, &[0]),
                 Line(0, Sign::Null, &[]),
                 Line(1, Sign::Null, &[]),
             ],
@@ -87,10 +87,10 @@ fn downward_simulations(rt: HostRuntime) -> Result<(), Fail> {
             &[
                 Line(0, Sign::Uninit, &[]),
                 Line(1, Sign::Null, &[]),
-                Line(2, Sign::Link, &[0]),
-                Line(3, Sign::Link, &[1]),
-                Line(4, Sign::Link, &[2]),
-                Line(5, Sign::Link, &[3]),
+                Line(2, Sign::ListCell, &[0]),
+                Line(3, Sign::ListCell, &[1]),
+                Line(4, Sign::ListCell, &[2]),
+                Line(5, Sign::ListCell, &[3]),
             ],
             &[(0, 0), (1, 1), (2, 2), (3, 3), (4, 4), (5, 5)],
         ),

@@ -56,7 +56,7 @@ pub fn chain(alloc: Global, cells: u32) -> Mem<Tree> {
         let mut children = List::new(alloc);
         children.push(tree)?;
         tree = Tree {
-            symbol: symbol(alloc, Sign::Link)?,
+            symbol: symbol(alloc, Sign::ListCell)?,
             children,
         };
     }

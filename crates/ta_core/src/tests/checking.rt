@@ -16,7 +16,7 @@ pub type Postfix<'a> = &'a [(Sign, usize)];
 
 pub const NULL: (Sign, usize) = (Sign::Null, 0);
 
-pub const N: (Sign, usize) = (Sign::Link, 1);
+pub const N: (Sign, usize) = (Sign::ListCell, 1);
 
 pub const F: (Sign, usize) = (Sign::Fork, 2);
 

@@ -19,7 +19,7 @@ fn a_chain_of_ten_thousand_cells_is_handled(rt: HostRuntime) -> Result<(), Fail>
         alloc,
         1,
         &[0],
-        &[Line(0, Sign::Link, &[0]), Line(0, Sign::Null, &[])],
+        &[Line(0, Sign::ListCell, &[0]), Line(0, Sign::Null, &[])],
     )?;
     let tree = chain(alloc, 10_000)?;
     assert!(rt; accepts(alloc, &lists, &tree)?);
@@ -75,10 +75,10 @@ fn a_tree_that_no_memory_holds_is_want_of_memory(rt: HostRuntime) -> Result<(), 
 fn thousand(alloc: Global) -> Result<Auto, Fail> {
     let mut rules = List::new(alloc);
     for state in 0..999 {
-        rules.push(rule(alloc, Line(state, Sign::Link, &[state + 1]))?)?;
+        rules.push(rule(alloc, Line(state, Sign::ListCell, &[state + 1]))?)?;
     }
     rules.push(rule(alloc, Line(999, Sign::Null, &[]))?)?;
-    rules.push(rule(alloc, Line(1000, Sign::Link, &[1000]))?)?;
+    rules.push(rule(alloc, Line(1000, Sign::ListCell, &[1000]))?)?;
     make(alloc, 1001, &[0, 1000], rules)
 }
 

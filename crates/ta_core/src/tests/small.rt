@@ -19,7 +19,7 @@ fn without_root_states_nothing_is_accepted(rt: HostRuntime) -> Result<(), Fail> 
             alloc,
             1,
             &[],
-            &[Line(0, Sign::Null, &[]), Line(0, Sign::Link, &[0])],
+            &[Line(0, Sign::Null, &[]), Line(0, Sign::ListCell, &[0])],
         )?,
     )
 }
@@ -32,7 +32,7 @@ fn without_leaves_nothing_is_accepted(rt: HostRuntime) -> Result<(), Fail> {
     check_empty(
         &rt,
         alloc,
-        &auto(alloc, 1, &[0], &[Line(0, Sign::Link, &[0])])?,
+        &auto(alloc, 1, &[0], &[Line(0, Sign::ListCell, &[0])])?,
     )
 }
 
@@ -44,7 +44,7 @@ fn one_tree_alone(rt: HostRuntime) -> Result<(), Fail> {
         alloc,
         2,
         &[0],
-        &[Line(0, Sign::Link, &[1]), Line(1, Sign::Null, &[])],
+        &[Line(0, Sign::ListCell, &[1]), Line(1, Sign::Null, &[])],
     )?;
     check(
         &rt,
@@ -65,11 +65,11 @@ fn all_lists(rt: HostRuntime) -> Result<(), Fail> {
         alloc,
         1,
         &[0],
-        &[Line(0, Sign::Link, &[0]), Line(0, Sign::Null, &[])],
+        &[Line(0, Sign::ListCell, &[0]), Line(0, Sign::Null, &[])],
     )?;
     let refused: [Postfix; 3] = [
-        &[(Sign::Link, 0)],
-        &[NULL, NULL, (Sign::Link, 2)],
+        &[(Sign::ListCell, 0)],
+        &[NULL, NULL, (Sign::ListCell, 2)],
         &[(Sign::Uninit, 0), N],
     ];
     check(
@@ -113,7 +113,7 @@ fn the_smaller_tree_of_two_roots(rt: HostRuntime) -> Result<(), Fail> {
         alloc,
         2,
         &[1, 0],
-        &[Line(0, Sign::Uninit, &[]), Line(1, Sign::Link, &[0])],
+        &[Line(0, Sign::Uninit, &[]), Line(1, Sign::ListCell, &[0])],
     )?;
     let leaf = (Sign::Uninit, 0);
     check(
@@ -132,11 +132,11 @@ fn the_smaller_tree_of_two_rules(rt: HostRuntime) -> Result<(), Fail> {
     let alloc = rt.alloc();
     // 0 = n(2), 0 = f(1, 1), 1 = Null, 2 = n(3), 3 = n(1): n(n(n(Null))) has 4 nodes, f(Null, Null) 3.
     let lines = [
-        Line(0, Sign::Link, &[2]),
+        Line(0, Sign::ListCell, &[2]),
         Line(0, Sign::Fork, &[1, 1]),
         Line(1, Sign::Null, &[]),
-        Line(2, Sign::Link, &[3]),
-        Line(3, Sign::Link, &[1]),
+        Line(2, Sign::ListCell, &[3]),
+        Line(3, Sign::ListCell, &[1]),
     ];
     let auto = auto(alloc, 4, &[0], &lines)?;
     check(
@@ -156,10 +156,10 @@ fn states_without_use_are_left_out(rt: HostRuntime) -> Result<(), Fail> {
     // No tree has a run to 2, so none uses 0 = f(4, 2) and with it 4; no root leads to 3. The one tree n(Null) uses 0 and 1.
     let lines = [
         Line(0, Sign::Fork, &[4, 2]),
-        Line(0, Sign::Link, &[1]),
+        Line(0, Sign::ListCell, &[1]),
         Line(1, Sign::Null, &[]),
-        Line(2, Sign::Link, &[2]),
-        Line(3, Sign::Link, &[1]),
+        Line(2, Sign::ListCell, &[2]),
+        Line(3, Sign::ListCell, &[1]),
         Line(4, Sign::Dangling, &[]),
     ];
     let auto = auto(alloc, 5, &[0], &lines)?;
@@ -248,10 +248,10 @@ fn parts_out_of_range_make_no_automaton(rt: HostRuntime) -> Result<(), Fail> {
     let alloc = rt.alloc();
     // A root state that is none; a state in a rule that is none; a child that is none; a cell without its child; a leaf with one.
     for (root, line) in [
-        (1, Line(0, Sign::Link, &[0])),
-        (0, Line(1, Sign::Link, &[0])),
-        (0, Line(0, Sign::Link, &[1])),
-        (0, Line(0, Sign::Link, &[])),
+        (1, Line(0, Sign::ListCell, &[0])),
+        (0, Line(1, Sign::ListCell, &[0])),
+        (0, Line(0, Sign::ListCell, &[1])),
+        (0, Line(0, Sign::ListCell, &[])),
         (0, Line(0, Sign::Null, &[0])),
     ] {
         let roots = List::from_vec([root].to_vec(alloc)?);

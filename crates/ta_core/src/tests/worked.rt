@@ -12,10 +12,10 @@ use std::test::Fail;
 // Root 2, with 0 = n(1), 1 = Null, 2 = n(2), 2 = n(1): all lists of at least one cell, and state 0 beside them.
 fn some_cells(alloc: Global) -> Result<Auto, Fail> {
     let lines = [
-        Line(0, Sign::Link, &[1]),
+        Line(0, Sign::ListCell, &[1]),
         Line(1, Sign::Null, &[]),
-        Line(2, Sign::Link, &[2]),
-        Line(2, Sign::Link, &[1]),
+        Line(2, Sign::ListCell, &[2]),
+        Line(2, Sign::ListCell, &[1]),
     ];
     auto(alloc, 3, &[2], &lines)
 }
@@ -26,7 +26,7 @@ fn one_cell(alloc: Global) -> Result<Auto, Fail> {
         alloc,
         2,
         &[0],
-        &[Line(0, Sign::Link, &[1]), Line(1, Sign::Null, &[])],
+        &[Line(0, Sign::ListCell, &[1]), Line(1, Sign::Null, &[])],
     )
 }
 
@@ -53,8 +53,8 @@ fn a_state_without_use_is_trimmed(rt: HostRuntime) -> Result<(), Fail> {
         alloc,
         &[
             Line(0, Sign::Null, &[]),
-            Line(1, Sign::Link, &[1]),
-            Line(1, Sign::Link, &[0]),
+            Line(1, Sign::ListCell, &[1]),
+            Line(1, Sign::ListCell, &[0]),
         ],
     )?;
     assert!(rt; trimmed.states == 2);
@@ -62,7 +62,7 @@ fn a_state_without_use_is_trimmed(rt: HostRuntime) -> Result<(), Fail> {
     Ok(())
 }
 
-// The union of an automaton with itself, renamed by its number of states.
+// The union of an automaton with itself, shifted by its number of states.
 fn doubled(alloc: Global, auto: &Auto) -> Result<Auto, Fail> {
     if auto.states > 1000 {
         return Err(Fail::from("too many states"));

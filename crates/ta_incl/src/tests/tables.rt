@@ -14,7 +14,7 @@ const B: Sign = Sign::Uninit;
 
 const C: Sign = Sign::Dangling;
 
-const N: Sign = Sign::Link;
+const N: Sign = Sign::ListCell;
 
 const F: Sign = Sign::Fork;
 

@@ -1,5 +1,5 @@
 use Rattle.std.proofs.Common.{◌≡◌, ◌<◌, length, take, get_or, arith, sym, ap, ◌∙◌, length-take}
-use Rattle.c_lexer.specs.Steps.{cursor_after, moved}
+use Rattle.c_lexer.specs.inner.Steps.{cursor_after, moved}
 use Rattle.c_lexer.proofs.PlaceLemmas.{cursor_bounds, cursor_more}
 use Rattle.c_lexer.proofs.place.advance.Goals as goal
 

@@ -1,5 +1,5 @@
 use Rattle.std.proofs.Common.{◌-◌, length, take, drop, subst}
-use Rattle.c_lexer.specs.Found.{IsFound}
+use Rattle.c_lexer.specs.inner.Found.{IsFound}
 use Rattle.c_lexer.proofs.ReadingLemmas.{leads_skip, leads_take, refuses_unclosed, refuses_stuck}
 use Rattle.c_lexer.proofs.reader.read_piece.Goals as goal
 

@@ -1,6 +1,6 @@
 use Rattle.std.proofs.Common.{◌≡◌, ◌≤◌, ◌-◌, [], length, take}
-use Rattle.c_lexer.specs.Readings.{Leads}
-use Rattle.c_lexer.specs.Steps.{cursor_after}
+use Rattle.c_lexer.specs.inner.Readings.{Leads}
+use Rattle.c_lexer.specs.inner.Steps.{cursor_after}
 use Rattle.c_lexer.proofs.reader.read_pieces.Given as goal
 
 abbrev pub invariant-pieces : goal.invariant-pieces

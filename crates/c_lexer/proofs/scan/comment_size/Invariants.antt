@@ -1,5 +1,5 @@
 use Rattle.std.proofs.Common.{◌≡◌, drop}
-use Rattle.c_lexer.specs.Steps.{comment_end}
+use Rattle.c_lexer.specs.inner.Steps.{comment_end}
 use Rattle.c_lexer.proofs.scan.comment_size.Given as goal
 
 abbrev pub invariant-loop-i : goal.invariant-loop-i

@@ -1,5 +1,5 @@
 use Rattle.std.proofs.Common.{◌≡◌, false, drop}
-use Rattle.c_lexer.specs.Steps.{quote_end}
+use Rattle.c_lexer.specs.inner.Steps.{quote_end}
 use Rattle.c_lexer.proofs.scan.quotation_size.Given as goal
 
 abbrev pub invariant-loop-i : goal.invariant-loop-i

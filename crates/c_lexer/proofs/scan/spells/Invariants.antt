@@ -1,6 +1,6 @@
 use Rattle.std.proofs.Common.{◌≡◌, drop, filter}
 use Rattle.c_lexer.specs.Bytes.{is_solid}
-use Rattle.c_lexer.specs.Steps.{are_same}
+use Rattle.c_lexer.specs.inner.Steps.{are_same}
 use Rattle.c_lexer.proofs.scan.spells.Given as goal
 
 abbrev pub invariant-loop-byte : goal.invariant-loop-byte

@@ -1,5 +1,5 @@
 use Rattle.std.proofs.Common.{sym, subst}
-use Rattle.c_lexer.specs.Found.{IsFound}
+use Rattle.c_lexer.specs.inner.Found.{IsFound}
 use Rattle.c_lexer.proofs.Sound.{sound}
 use Rattle.c_lexer.proofs.step.next_step.Goals as goal
 

@@ -4,9 +4,9 @@ use Rattle.fore_base.specs.declared.store.Value.{Value}
 use Rattle.fore_base.specs.declared.store.Value.TheVariants.{Uninit}
 use Rattle.fore_base.specs.declared.store.Datum.{Datum}
 use Rattle.fore_base.specs.declared.store.Datum.TheVariants.{Undefined}
-use Rattle.c_types.specs.Program.{targets_in, datums_in, targets_of, datums_of}
-use Rattle.c_machine.specs.Shapes.{fields_at}
-use Rattle.c_machine.proofs.ShapeLemmas.{targets_there, datums_there}
+use Rattle.fore_base.specs.Shapes.{targets_in, datums_in, targets_of, datums_of}
+use Rattle.fore_base.specs.Shapes.{fields_at}
+use Rattle.fore_base.proofs.ShapeLemmas.{targets_there, datums_there}
 use Rattle.c_machine.proofs.blank.blank_cell.Goals as goal
 
 pub returns : goal.returns

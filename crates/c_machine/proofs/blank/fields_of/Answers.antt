@@ -1,6 +1,7 @@
 use Rattle.std.proofs.Common.{◌<◌, ◌≤◌, length, sym, ◌∙◌, arith}
 use Rattle.std.proofs.lemmas.Bool.Decides.{nat_tests}
-use Rattle.c_machine.proofs.ShapeLemmas.{fields_there, fields_within, no_fields_past}
+use Rattle.c_machine.proofs.ShapeLemmas.{fields_there}
+use Rattle.fore_base.proofs.ShapeLemmas.{fields_within, no_fields_past}
 use Rattle.c_machine.proofs.blank.fields_of.Goals as goal
 
 pub returns-in-Some : goal.returns-in-Some

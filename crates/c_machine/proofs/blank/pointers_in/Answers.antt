@@ -1,4 +1,4 @@
-use Rattle.c_machine.proofs.ShapeLemmas.{fields_split}
+use Rattle.fore_base.proofs.ShapeLemmas.{fields_split}
 use Rattle.c_machine.proofs.blank.pointers_in.Goals as goal
 
 pub returns-clause-datums : goal.returns-clause-datums

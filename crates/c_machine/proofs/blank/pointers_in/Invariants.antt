@@ -1,5 +1,5 @@
 use Rattle.std.proofs.Common.{◌≡◌, ◌≤◌, ◌+◌, length, drop}
-use Rattle.c_types.specs.Program.{targets_in}
+use Rattle.fore_base.specs.Shapes.{targets_in}
 use Rattle.c_machine.proofs.blank.pointers_in.Given as goal
 
 abbrev pub invariant-loop-field : goal.invariant-loop-field

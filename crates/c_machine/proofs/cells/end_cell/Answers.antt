@@ -1,6 +1,6 @@
 use Rattle.std.proofs.Common.{◌≡◌, Some, None, map, sym, ap, ◌∙◌}
 use Rattle.fore_base.specs.Stores.{dangle_in}
-use Rattle.c_machine.specs.Rising.{position_in}
+use Rattle.c_machine.specs.inner.Rising.{position_in}
 use Rattle.c_machine.proofs.CellLemmas.{placed, without_some, without_none}
 use Rattle.c_machine.proofs.cells.end_cell.Goals as goal
 use Rattle.c_machine.proofs.cells.end_cell.Goals.{in-Some, in_default}

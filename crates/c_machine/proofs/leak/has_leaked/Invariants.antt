@@ -1,9 +1,14 @@
 use Rattle.std.proofs.Common.{◌-◌, length}
+use Rattle.c_machine.specs.inner.Marking.{seen, IsCounted, IsAsRoomy}
 use Rattle.c_machine.proofs.Marked.{Walked}
 use Rattle.c_machine.proofs.leak.has_leaked.Given as goal
 
 abbrev pub invariant-loop-done : goal.invariant-loop-done
-invariant-loop-done l = Walked l.store l.store.vars l.done l.marks
+invariant-loop-done l = record {
+  walked : Walked l.store l.store.vars l.done (seen l.marks);
+  counted : IsCounted l.marks;
+  room : IsAsRoomy l.initial.marks l.marks;
+}
 
 abbrev pub decreases-loop-done : goal.decreases-loop-done
 decreases-loop-done l = length l.store.cells - l.done

@@ -1,28 +1,49 @@
-use Rattle.std.proofs.Common.{◌≡◌, List, length, map, sym, ap, ◌∙◌}
-use Rattle.fore_base.specs.declared.shape.Shape.{Shape}
+use Rattle.std.proofs.Common.{◌≡◌, ◌≤◌, ◌+◌, ◌-◌, ℕ, suc, List, drop, length, add-one, refl, sym, ap, ◌∙◌, arith}
 use Rattle.fore_base.specs.declared.store.Store.{Store}
-use Rattle.c_types.specs.declared.program.Stmt.{Stmt}
+use Rattle.fore_base.specs.declared.shape.Shape.{Shape}
 use Rattle.c_types.specs.Program.{Program}
-use Rattle.c_types.specs.Plain.{lines_in}
-use Rattle.c_types.specs.Control.{Items, items_of, all_before}
-use Rattle.c_types.specs.Runs.{go, run, at_end, own_line, empty_store}
-use Rattle.c_types.proofs.Plains.{end_of, plain_start}
+use Rattle.c_types.specs.Control.{opened, start_of}
+use Rattle.c_types.specs.Runs.{run, empty_store}
+use Rattle.c_machine.specs.Machines.{program_of, todo, store_of}
+use Rattle.c_machine.specs.inner.Going.{going}
+use Rattle.c_machine.proofs.Goings.{ends_at, runs_on, run_going, same_going}
 use Rattle.c_machine.proofs.run.run.Goals as goal
 
-pub returns : goal.returns
-unfolding run
-returns c =
+pub loop-step-init : goal.loop-step-init
+loop-step-init c =
     let p = c.args.program.now in
-    let limit = c.args.limit in
-    let choices = c.args.choices.now in
-    let lines : Items = all_before (map items_of (lines_in p.body)) (end_of p.body) in
-    let shapes : c.as_slice.result.now ≡ p.shapes.structs = c.as_slice.ensures ∙ ap (λ (x : Program). x.shapes.structs) c.program.view_is in
-    let ptrs : c.len.result ≡ length p.vars = c.len.ensures ∙ ap (λ (x : Program). length x.vars) c.program.view_is in
-    let datums : c.len-2.result ≡ length p.data_vars = c.len-2.ensures ∙ ap (λ (x : Program). length x.data_vars) c.program.view_is in
-    let heap : c.in_ok-heap.heap ≡ empty_store (length p.vars) (length p.data_vars) =
-    c.in_ok-heap.ensures ∙ ap (λ n. empty_store n c.len-2.result) ptrs ∙ ap (λ n. empty_store (length p.vars) n) datums in
-    sym (c.in_ok-outcome.ensures (end_of p.body) choices)
-    ∙ ap (λ (ss : List Shape). go ss own_line at_end limit 0 (all_before (map items_of c.lines_of.result.now) (end_of p.body)) c.in_ok-heap.heap choices 0) shapes
-    ∙ ap (λ (ls : List Stmt). go p.shapes.structs own_line at_end limit 0 (all_before (map items_of ls) (end_of p.body)) c.in_ok-heap.heap choices 0) c.lines_of.ensures
-    ∙ ap (λ (h : Store). go p.shapes.structs own_line at_end limit 0 lines h choices 0) heap
-    ∙ ap (λ (is : Items). go p.shapes.structs own_line at_end limit 0 is (empty_store (length p.vars) (length p.data_vars)) choices 0) (sym (plain_start p c.requires.plain))
+    let cs = c.args.choices.now in
+    let m = c.in_ok-machine.machine in
+    let s : Store = empty_store (length p.vars) (length p.data_vars) in
+    let first : (store_of m).next ≡ 1 = ap (λ (t : Store). t.next) c.in_ok-machine.ensures.store in
+    record {
+      goes = run_going p cs c.args.limit
+          ∙ same_going p.shapes.structs p.shapes.structs c.args.limit (c.args.limit - 0) 0 (opened (start_of p)) (todo m) s (store_of m) cs 0 refl (omega arith) (sym c.in_ok-machine.ensures.items) (sym c.in_ok-machine.ensures.store);
+      over = c.in_ok-machine.ensures.over;
+      program = c.in_ok-machine.ensures.program;
+      next = omega (arith, first);
+      used = omega arith;
+    }
+
+pub loop-step-preserved : goal.loop-step-preserved
+loop-step-preserved c =
+    let p = c.args.program.now in
+    let m = c.loop-step.machine in
+    let ready = c.reserve.new.self in
+    let after = c.take_one.new.machine in
+    let step = c.loop-step.step in
+    let left : ℕ = c.args.limit - (step + 1) in
+    let number : c.args.limit - step ≡ suc left = omega arith in
+    let shapes : (program_of ready).shapes.structs ≡ p.shapes.structs = ap (λ (q : Program). q.shapes.structs) (c.reserve.ensures.program ∙ c.loop-step.invariant.program) in
+    let reserved : (store_of ready).next ≡ (store_of m).next = ap (λ (t : Store). t.next) c.reserve.ensures.store in
+    record {
+      goes = c.loop-step.invariant.goes
+          ∙ same_going p.shapes.structs (program_of ready).shapes.structs (c.args.limit - step) (suc left) step (todo m) (todo ready) (store_of m) (store_of ready) (drop c.loop-step.used c.args.choices.now) c.loop-step.used
+          (sym shapes) number (sym c.reserve.ensures.items) (sym c.reserve.ensures.store)
+          ∙ c.in-Ok.ensures.goes left
+          ∙ ap (λ (ss : List Shape). going ss left (step + 1) (todo after) (store_of after) (drop c.take_one.new.used c.args.choices.now) c.take_one.new.used) shapes;
+      over = c.in-Ok.ensures.over;
+      program = c.take_one.ensures.program ∙ c.reserve.ensures.program ∙ c.loop-step.invariant.program;
+      next = omega (arith, c.take_one.ensures.next, reserved, c.loop-step.invariant.next);
+      used = c.take_one.ensures.used;
+    }

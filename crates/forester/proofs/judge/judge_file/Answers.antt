@@ -1,11 +1,12 @@
 use Rattle.std.proofs.Common.{subst}
-use Rattle.forester.specs.Verdict.{JudgesBytes}
-use Rattle.forester.proofs.JudgeLemmas.{path_from_bytes}
+use Rattle.forester.specs.Requests.{shelf_view}
+use Rattle.forester.specs.inner.Judging.{JudgesBytes}
+use Rattle.forester.proofs.JudgeLemmas.{right_from_bytes}
 use Rattle.forester.proofs.judge.judge_file.Goals as goal
 
-pub returns-in-Ok-judge_bytes : goal.returns-in-Ok-judge_bytes
-returns-in-Ok-judge_bytes g c =
-    path_from_bytes (g.L.Shelf.holds c.args.shelf.now c.args.path.now) c.in-Ok.bytes
-    (g.L.Shelf.faults c.args.shelf.now c.args.path.now) (g.L.Shelf.faults c.read_all.new.self c.args.path.now) c.in-Ok-judge_bytes.answer
-    (c.in-Ok.ensures.within, c.in-Ok.ensures.content)
+pub returns-in-Ok-judge_bytes-clause-right : goal.returns-in-Ok-judge_bytes-clause-right
+returns-in-Ok-judge_bytes-clause-right g c =
+    right_from_bytes c.args.path.now (shelf_view g.L.Shelf c.args.shelf.now) (shelf_view g.L.Shelf c.read_all.new.self) c.in-Ok.bytes
+    (record { given = c.in-Ok.ensures.gives; within = c.in-Ok.ensures.within; held = c.in-Ok.ensures.content })
+    c.in-Ok-judge_bytes.answer
     (subst (λ bytes. JudgesBytes bytes c.in-Ok-judge_bytes.answer) c.as_slice.ensures c.in-Ok-judge_bytes.ensures)

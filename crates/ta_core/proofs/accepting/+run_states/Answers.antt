@@ -1,8 +1,8 @@
 use Rattle.std.proofs.lemmas.Result.{IfOk-weaker}
 use Rattle.ta_core.specs.declared.tree.Tree.{out-Tree}
-use Rattle.ta_core.specs.Marks.{MarksOf}
+use Rattle.fore_base.specs.Marks.{MarksOf}
 use Rattle.ta_core.specs.Tops.{Tops, AreStatesOf}
-use Rattle.ta_core.proofs.Lists.{take_item, paired_push}
+use Rattle.fore_base.proofs.ListLemmas.{take_item, paired_push}
 use Rattle.ta_core.proofs.Tops.{states_top}
 use Rattle.ta_core.proofs.accepting.+run_states.Goals as goal
 

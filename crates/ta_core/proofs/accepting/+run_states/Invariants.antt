@@ -1,5 +1,5 @@
 use Rattle.std.proofs.Common.{take}
-use Rattle.ta_core.specs.Paired.{Paired}
+use Rattle.fore_base.specs.Lists.{Paired}
 use Rattle.ta_core.specs.Tops.{AreStatesOf}
 use Rattle.ta_core.proofs.accepting.+run_states.Given as goal
 

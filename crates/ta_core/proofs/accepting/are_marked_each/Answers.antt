@@ -1,6 +1,6 @@
 use Rattle.std.proofs.Common.{Bool, false, sym, ap, ◌∙◌, List, get_or}
-use Rattle.ta_core.proofs.Marking.{and_false, and_true}
-use Rattle.ta_core.proofs.Tops.{marked_differ, marked_step}
+use Rattle.std.proofs.lemmas.Bool.{and_left as and_false}
+use Rattle.ta_core.proofs.Tops.{and_true, marked_differ, marked_step}
 use Rattle.ta_core.proofs.accepting.are_marked_each.Goals as goal
 
 pub returns-then-states-len : goal.returns-then-states-len

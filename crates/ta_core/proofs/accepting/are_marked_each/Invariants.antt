@@ -1,5 +1,5 @@
 use Rattle.std.proofs.Common.{◌≡◌, drop}
-use Rattle.ta_core.specs.Marks.{marked_each}
+use Rattle.fore_base.specs.Marks.{marked_each}
 use Rattle.ta_core.proofs.accepting.are_marked_each.Given as goal
 
 abbrev pub invariant-loop-place : goal.invariant-loop-place

@@ -1,6 +1,6 @@
 use Rattle.std.proofs.Common.{◌<◌, sym, ◌∙◌, true≢false}
 use Rattle.ta_core.specs.declared.auto.Rule.{Rule}
-use Rattle.ta_core.proofs.Lists.{every_at, take_item}
+use Rattle.fore_base.proofs.ListLemmas.{every_at, take_item}
 use Rattle.ta_core.proofs.Tops.{tops_skip, tops_mark}
 use Rattle.ta_core.proofs.accepting.top_states.Goals as goal
 use Rattle.ta_core.proofs.accepting.top_states.Goals.{then-is_top, else-is_top}

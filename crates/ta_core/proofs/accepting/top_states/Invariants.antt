@@ -1,5 +1,5 @@
 use Rattle.std.proofs.Common.{take}
-use Rattle.ta_core.specs.Marks.{MarksOf}
+use Rattle.fore_base.specs.Marks.{MarksOf}
 use Rattle.ta_core.specs.Tops.{Tops}
 use Rattle.ta_core.proofs.accepting.top_states.Given as goal
 

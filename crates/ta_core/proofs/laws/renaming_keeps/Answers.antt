@@ -1,5 +1,5 @@
-use Rattle.ta_core.proofs.Shifting.{renamed_alike}
+use Rattle.ta_core.proofs.Shifting.{shifted_same_language}
 use Rattle.ta_core.proofs.laws.renaming_keeps.Goals as goal
 
 pub returns : goal.returns
-returns c = renamed_alike
+returns c = shifted_same_language

@@ -1,5 +1,5 @@
 use Rattle.std.proofs.Common.{◌≡◌, ◌+◌, ◌≤◌, drop}
-use Rattle.ta_core.specs.Restricted.{marked_count}
+use Rattle.fore_base.specs.Marks.{marked_count}
 use Rattle.ta_core.proofs.restricting.count_marked.Given as goal
 
 abbrev pub invariant-loop-state : goal.invariant-loop-state

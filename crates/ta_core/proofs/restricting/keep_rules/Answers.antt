@@ -1,8 +1,8 @@
 use Rattle.std.proofs.Common.{◌++◌, ℕ, List, slice_index, ap, sym, ◌∙◌}
 use Rattle.ta_core.specs.declared.auto.Rule.{Rule}
-use Rattle.ta_core.specs.Restricted.{kept_rules}
+use Rattle.ta_core.specs.inner.Restricted.{kept_rules}
 use Rattle.ta_core.proofs.Kept.{kept_push, kept_skip}
-use Rattle.ta_core.proofs.Lists.{drop_item}
+use Rattle.fore_base.proofs.ListLemmas.{drop_item}
 use Rattle.ta_core.proofs.restricting.keep_rules.Goals as goal
 use Rattle.ta_core.proofs.restricting.keep_rules.Goals.{then-is_kept+in_ok-rule+in_ok-push, else-is_kept}
 

@@ -1,5 +1,5 @@
 use Rattle.std.proofs.Common.{◌≡◌, ◌++◌, drop, slice_index}
-use Rattle.ta_core.specs.Restricted.{kept_rules}
+use Rattle.ta_core.specs.inner.Restricted.{kept_rules}
 use Rattle.ta_core.proofs.restricting.keep_rules.Given as goal
 
 abbrev pub invariant-loop-rule : goal.invariant-loop-rule

@@ -1,5 +1,5 @@
 use Rattle.std.proofs.Common.{◌≡◌, ◌++◌, ◌≤◌, drop}
-use Rattle.ta_core.specs.Restricted.{ranks}
+use Rattle.ta_core.specs.inner.Restricted.{ranks}
 use Rattle.ta_core.proofs.restricting.new_numbers.Given as goal
 
 abbrev pub invariant-loop-state : goal.invariant-loop-state

@@ -1,5 +1,6 @@
 use Rattle.std.proofs.Common.{◌≡◌, refl, ◌∙◌}
-use Rattle.ta_core.specs.Restricted.{rank, kept_states, kept_rules, marked_count}
+use Rattle.ta_core.specs.inner.Restricted.{rank, kept_states, kept_rules}
+use Rattle.fore_base.specs.Marks.{marked_count}
 use Rattle.ta_core.proofs.Kept.{kept_states_low, kept_rules_proper, table_states, table_rules, rank_below}
 use Rattle.ta_core.proofs.restricting.restrict.Goals as goal
 

@@ -1,7 +1,7 @@
 use Rattle.std.proofs.Common.{◌<◌, length, subst, sym, ap, ◌∙◌, arith}
 use Rattle.ta_core.specs.declared.auto.Rule.{Rule}
-use Rattle.ta_core.specs.Sizes.{AreReal}
-use Rattle.ta_core.proofs.Lists.{every_at, in_at, take_item}
+use Rattle.ta_core.specs.inner.Sizes.{AreReal}
+use Rattle.fore_base.proofs.ListLemmas.{every_at, in_at, take_item}
 use Rattle.ta_core.proofs.Sizing.{rule_betters, rule_keeps}
 use Rattle.ta_core.proofs.sizes.improve_all.Goals as goal
 use Rattle.ta_core.proofs.sizes.improve_all.Goals.{then-improve, else-improve}

@@ -1,5 +1,5 @@
 use Rattle.std.proofs.Common.{◌≡◌, length}
-use Rattle.ta_core.specs.Sizes.{AreReal, weight}
+use Rattle.ta_core.specs.inner.Sizes.{AreReal, size_sum}
 use Rattle.ta_core.proofs.sizes.least_sizes.Given as goal
 
 abbrev pub invariant-rounds : goal.invariant-rounds
@@ -9,4 +9,4 @@ invariant-rounds l = record {
 }
 
 abbrev pub decreases-rounds : goal.decreases-rounds
-decreases-rounds l = weight l.sizes
+decreases-rounds l = size_sum l.sizes

@@ -1,5 +1,5 @@
 use Rattle.std.proofs.Common.{◌≡◌, drop, Some}
-use Rattle.ta_core.specs.Sizes.{total}
+use Rattle.ta_core.specs.inner.Sizes.{total}
 use Rattle.ta_core.proofs.sizes.size_of_rule.Given as goal
 
 abbrev pub invariant-loop-child : goal.invariant-loop-child

@@ -1,8 +1,8 @@
 use Rattle.std.proofs.Common.{ℕ, arith}
 use Rattle.std.proofs.lemmas.List.{take_more}
 use Rattle.std.specs.Option.{IsSome}
-use Rattle.ta_core.specs.Sizes.{size_at}
-use Rattle.ta_core.proofs.Lists.{in_place, every_in, paired_push}
+use Rattle.ta_core.specs.inner.Sizes.{size_at}
+use Rattle.fore_base.proofs.ListLemmas.{in_place, every_in, paired_push}
 use Rattle.ta_core.proofs.Sizing.{sum_at_in}
 use Rattle.ta_core.proofs.Smaller.{rule_falls, rule_there, tree_here}
 use Rattle.ta_core.proofs.smallest.+tree_at.Goals as goal

@@ -1,6 +1,6 @@
 use Rattle.std.proofs.Common.{◌+◌, ◌*◌, take}
-use Rattle.ta_core.specs.Paired.{Paired}
-use Rattle.ta_core.specs.Sizes.{IsTreeAt, number, size_at, sum_at}
+use Rattle.fore_base.specs.Lists.{Paired}
+use Rattle.ta_core.specs.inner.Sizes.{IsTreeAt, number, size_at, sum_at}
 use Rattle.ta_core.proofs.smallest.+tree_at.Given as goal
 
 abbrev pub decreases-tree_at : goal.decreases-tree_at

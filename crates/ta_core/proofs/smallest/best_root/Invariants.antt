@@ -1,5 +1,5 @@
 use Rattle.std.proofs.Common.{take}
-use Rattle.ta_core.specs.Sizes.{IsBest}
+use Rattle.ta_core.specs.inner.Sizes.{IsBest}
 use Rattle.ta_core.proofs.smallest.best_root.Given as goal
 
 abbrev pub invariant-loop-root : goal.invariant-loop-root

@@ -1,6 +1,6 @@
 use Rattle.std.proofs.Common.{◌≡◌, true, subst, sym, ap, ◌∙◌}
 use Rattle.std.specs.Option.{is_some}
-use Rattle.ta_core.specs.Sizes.{IsBest, size_at}
+use Rattle.ta_core.specs.inner.Sizes.{IsBest, size_at}
 use Rattle.ta_core.proofs.Smaller.{best_first, best_new, best_old}
 use Rattle.ta_core.proofs.smallest.better_root.Goals as goal
 

@@ -1,4 +1,4 @@
-use Rattle.ta_core.proofs.Lists.{in_at}
+use Rattle.fore_base.proofs.ListLemmas.{in_at}
 use Rattle.ta_core.proofs.smallest.least_rule.Goals as goal
 
 pub returns-then-is_least : goal.returns-then-is_least

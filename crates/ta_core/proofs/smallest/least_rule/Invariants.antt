@@ -1,6 +1,6 @@
 use Rattle.std.proofs.Common.{take}
 use Rattle.fore_base.specs.Lists.{Every}
-use Rattle.ta_core.specs.Sizes.{IsLeastRule}
+use Rattle.ta_core.specs.inner.Sizes.{IsLeastRule}
 use Rattle.ta_core.proofs.smallest.least_rule.Given as goal
 
 abbrev pub invariant-loop-rule : goal.invariant-loop-rule

@@ -1,18 +1,19 @@
 use Rattle.std.proofs.Common.{◌≡◌, ◌≤◌, subst, sym, ap, arith}
 use Rattle.std.proofs.lemmas.Result.{IfOk-weaker}
 use Rattle.ta_core.specs.Auto.{Automaton}
-use Rattle.ta_core.specs.Language.{IsAlike, IsTrim}
-use Rattle.ta_core.specs.Relabelled.{StandsFor}
-use Rattle.ta_core.specs.Restricted.{rank, restricted, marked_count}
-use Rattle.ta_core.proofs.Kept.{count_within}
+use Rattle.ta_core.specs.Language.{HasSameLanguage, IsTrim}
+use Rattle.ta_core.specs.Renumbered.{StandsFor}
+use Rattle.ta_core.specs.inner.Restricted.{rank, restricted}
+use Rattle.fore_base.specs.Marks.{marked_count}
+use Rattle.fore_base.proofs.MarkLemmas.{count_within}
 use Rattle.ta_core.proofs.Standing.{alike, standing, trimmed}
 use Rattle.ta_core.proofs.trimming.trim.Goals as goal
 
 pub returns-clause-language : goal.returns-clause-language
 returns-clause-language c =
     let h = rw c.as_slice-2.ensures at c.restrict.ensures in
-    IfOk-weaker c.restrict.result (λ (made : Automaton). made ≡ restricted c.in_ok-used.used (rank c.in_ok-used.used) c.args.auto.now) (λ (made : Automaton). IsAlike c.args.auto.now made)
-    (λ made e. subst (IsAlike c.args.auto.now) (sym e) (alike c.args.auto.now c.in_ok-used.used c.in_ok-used.ensures)) h
+    IfOk-weaker c.restrict.result (λ (made : Automaton). made ≡ restricted c.in_ok-used.used (rank c.in_ok-used.used) c.args.auto.now) (λ (made : Automaton). HasSameLanguage c.args.auto.now made)
+    (λ made e. subst (HasSameLanguage c.args.auto.now) (sym e) (alike c.args.auto.now c.in_ok-used.used c.in_ok-used.ensures)) h
 
 pub returns-clause-trim : goal.returns-clause-trim
 returns-clause-trim c =

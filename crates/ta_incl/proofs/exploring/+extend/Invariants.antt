@@ -1,5 +1,5 @@
-use Rattle.std.proofs.Common.{◌-◌, ◌++◌, length, take}
-use Rattle.ta_incl.specs.Founds.{Widens, IsFrom}
+use Rattle.std.proofs.Common.{◌-◌, ◌++◌, length}
+use Rattle.ta_incl.specs.inner.Founds.{Widens, IsFrom}
 use Rattle.ta_incl.proofs.Extending.{CoversNext}
 use Rattle.ta_incl.proofs.exploring.+extend.Given as goal
 
@@ -9,5 +9,5 @@ decreases-extend l = length l.rule.now.children - length l.from.now
 abbrev pub invariant-loop-next : goal.invariant-loop-next
 invariant-loop-next l = record {
   widens : Widens (IsFrom l.right l.found l.place l.rule) l.found l.initial.added l.added;
-  covers : CoversNext l.right l.found (l.found ++ l.added) l.rule l.from (take l.next l.found);
+  covers : CoversNext l.right l.found l.recent (l.found ++ l.added) l.rule l.from l.next;
 }

@@ -1,7 +1,7 @@
 use Rattle.std.proofs.Common.{ℕ, List, sym, ◌∙◌, subst, true≢false}
 use Rattle.std.proofs.lemmas.Result.{on_ok_weaker}
 use Rattle.ta_core.proofs.Smaller.{states_low}
-use Rattle.ta_incl.specs.Founds.{AreAt}
+use Rattle.ta_incl.specs.inner.Founds.{AreAt}
 use Rattle.ta_incl.proofs.Covering.{widens_push, given_here, covered_by, cover_new}
 use Rattle.ta_incl.proofs.Places.{places_low}
 use Rattle.ta_incl.proofs.exploring.add.Goals as goal

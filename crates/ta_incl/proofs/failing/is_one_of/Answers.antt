@@ -1,7 +1,7 @@
 use Rattle.std.proofs.Common.{ℕ, List, inl, inr, refl, sym, subst}
 use Rattle.std.proofs.lemmas.List.{take_more}
 use Rattle.fore_base.specs.Lists.{IsIn}
-use Rattle.ta_core.proofs.Lists.{in_append, in_place}
+use Rattle.fore_base.proofs.ListLemmas.{in_append, in_place}
 use Rattle.ta_incl.proofs.failing.is_one_of.Goals as goal
 
 pub returns-then-other-state : goal.returns-then-other-state

@@ -1,5 +1,5 @@
 use Rattle.std.proofs.Common.{ℕ, ◌<◌}
-use Rattle.ta_core.specs.Marks.{IsMarked}
+use Rattle.fore_base.specs.Marks.{IsMarked}
 use Rattle.ta_incl.proofs.found.are_part.Given as goal
 
 abbrev pub invariant-loop-place : goal.invariant-loop-place

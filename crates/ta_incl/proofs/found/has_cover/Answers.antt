@@ -1,7 +1,7 @@
 use Rattle.std.proofs.Common.{List, refl, sym, ◌∙◌, subst, true≢false}
-use Rattle.ta_core.proofs.Lists.{in_at, take_item}
+use Rattle.fore_base.proofs.ListLemmas.{in_at, take_item}
 use Rattle.ta_incl.specs.declared.found.Found.{Found}
-use Rattle.ta_incl.specs.Founds.{Covers, HasCover}
+use Rattle.ta_incl.specs.inner.Founds.{Covers, HasCover}
 use Rattle.ta_incl.proofs.Places.{none_push}
 use Rattle.ta_incl.proofs.found.has_cover.Goals as goal
 

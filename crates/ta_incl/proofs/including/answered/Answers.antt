@@ -1,7 +1,7 @@
 use Rattle.std.proofs.Common.{List, sym, ap, ◌∙◌, subst}
 use Rattle.ta_core.specs.Auto.{Automaton}
 use Rattle.ta_core.specs.declared.auto.Rule.{Rule}
-use Rattle.ta_incl.specs.Founds.{AreDerived}
+use Rattle.ta_incl.specs.inner.Founds.{AreDerived}
 use Rattle.ta_incl.proofs.Answering.{answer_no, answer_yes, kept_long}
 use Rattle.ta_incl.proofs.including.answered.Goals as goal
 

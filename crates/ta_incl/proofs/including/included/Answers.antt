@@ -1,6 +1,7 @@
 use Rattle.std.proofs.lemmas.Result.{IfOk-weaker}
 use Rattle.ta_core.specs.Language.{IsWithin}
-use Rattle.ta_incl.specs.Inclusions.{IsAntichain, IsClosed, MeetsRoots, IsMissing, IfYes, IfNo, Answers}
+use Rattle.ta_incl.specs.Inclusions.{IsAntichain, IsClosed, MeetsRoots, IsMissing, IfYes, IfNo}
+use Rattle.ta_incl.specs.inner.Answers.{Answers}
 use Rattle.ta_incl.proofs.Answering.{says_within, says_antichain, says_closed, says_roots, says_missing}
 use Rattle.ta_incl.proofs.including.included.Goals as goal
 

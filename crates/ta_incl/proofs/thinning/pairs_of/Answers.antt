@@ -1,6 +1,6 @@
 use Rattle.std.proofs.Common.{refl}
-use Rattle.ta_core.proofs.Lists.{paired_push, take_item}
-use Rattle.ta_incl.specs.Founds.{IsPairOf}
+use Rattle.fore_base.proofs.ListLemmas.{paired_push, take_item}
+use Rattle.ta_incl.specs.inner.Founds.{IsPairOf}
 use Rattle.ta_incl.proofs.thinning.pairs_of.Goals as goal
 
 pub loop-pair-preserved : goal.loop-pair-preserved

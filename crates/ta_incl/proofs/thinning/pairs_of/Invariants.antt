@@ -1,6 +1,6 @@
 use Rattle.std.proofs.Common.{take}
-use Rattle.ta_core.specs.Paired.{Paired}
-use Rattle.ta_incl.specs.Founds.{IsPairOf}
+use Rattle.fore_base.specs.Lists.{Paired}
+use Rattle.ta_incl.specs.inner.Founds.{IsPairOf}
 use Rattle.ta_incl.proofs.thinning.pairs_of.Given as goal
 
 abbrev pub invariant-loop-pair : goal.invariant-loop-pair

@@ -1,23 +1,26 @@
-use Rattle.std.proofs.Common.{◌≡◌, ◌-◌, slice_index, subst, sym}
+use Rattle.std.proofs.Common.{◌≡◌, slice_index, length, subst, sym}
 use Rattle.std.proofs.lemmas.Result.{IfOk-weaker}
 use Rattle.ta_core.specs.Auto.{Automaton, automaton}
-use Rattle.ta_core.specs.Relabelled.{image}
-use Rattle.ta_reduce.specs.Smaller.{IsSmaller}
+use Rattle.ta_core.specs.Renumbered.{image}
+use Rattle.ta_reduce.specs.inner.Smaller.{IsSmaller}
 use Rattle.ta_reduce.proofs.Joined.{numbers_low, joined_smaller}
 use Rattle.ta_reduce.proofs.joining.join.Goals as goal
 
-pub relabel-requires-clause-low : goal.relabel-requires-clause-low
-relabel-requires-clause-low c =
-    let order = rw (← c.auto.view_is) at c.requires.order in
-    rw c.as_slice.ensures (numbers_low (automaton c.auto.inside.states c.auto.inside.roots c.auto.inside.rules) c.args.twins.kept c.args.twins.joined c.in_ok-numbers.numbers c.in_ok-numbers.ensures order)
+pub renumber-requires-clause-low : goal.renumber-requires-clause-low
+renumber-requires-clause-low c =
+    let a = automaton c.auto.inside.states c.auto.inside.roots c.auto.inside.rules in
+    let greatest = rw (← c.auto.view_is) at c.requires.greatest in
+    let classes = rw (← c.auto.view_is) at c.requires.classes in
+    rw (c.as_slice-2.ensures, c.number_of-states.ensures, c.as_slice.ensures) (numbers_low a c.args.relation.now c.auto.invariant greatest c.args.classes.now.numbers c.args.classes.now.firsts classes)
 
 pub returns : goal.returns
 returns c =
     let a = automaton c.auto.inside.states c.auto.inside.roots c.auto.inside.rules in
-    let order = rw (← c.auto.view_is) at c.requires.order in
+    let firsts = c.args.classes.now.firsts in
+    let numbers = c.args.classes.now.numbers in
     let greatest = rw (← c.auto.view_is) at c.requires.greatest in
-    let up = rw (← c.auto.view_is) at c.requires.up in
-    let down = rw (← c.auto.view_is) at c.requires.down in
-    let h = rw (c.as_slice.ensures, ← c.auto.view_is) at c.relabel.ensures in
-    let k = joined_smaller a c.args.twins.kept c.args.twins.joined c.in_ok-numbers.numbers c.in_ok-numbers.ensures order c.args.relation.now greatest c.auto.invariant up down in
-    rw (← c.auto.view_is) (IfOk-weaker c.relabel.result (λ (made : Automaton). made ≡ image (c.auto.inside.states - 1) (λ q. slice_index c.in_ok-numbers.numbers q) a) (IsSmaller a) (λ made e. subst (IsSmaller a) (sym e) k) h)
+    let classes = rw (← c.auto.view_is) at c.requires.classes in
+    let fewer = rw (← c.auto.view_is) at c.requires.fewer in
+    let k = joined_smaller a c.args.relation.now c.auto.invariant greatest numbers firsts classes fewer in
+    let h = rw (c.as_slice-2.ensures, c.number_of-states.ensures, c.as_slice.ensures, ← c.auto.view_is) at c.renumber.ensures in
+    rw (← c.auto.view_is) (IfOk-weaker c.renumber.result (λ (made : Automaton). made ≡ image (length firsts) (λ q. slice_index numbers q) a) (IsSmaller a) (λ made e. subst (IsSmaller a) (sym e) k) h)

@@ -1,4 +1,4 @@
-use Rattle.ta_sim.specs.Refining.{AreSquare, Includes, pair_count}
+use Rattle.ta_sim.specs.inner.Refining.{AreSquare, Includes, pair_count}
 use Rattle.ta_sim.proofs.downward.downward.Given as goal
 
 abbrev pub invariant-rounds : goal.invariant-rounds

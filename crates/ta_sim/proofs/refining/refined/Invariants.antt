@@ -1,6 +1,6 @@
 use Rattle.std.proofs.Common.{◌≡◌, length}
-use Rattle.ta_sim.specs.Refining.{AreRefined}
+use Rattle.ta_sim.specs.inner.Refining.{AreRefined}
 use Rattle.ta_sim.proofs.refining.refined.Given as goal
 
 abbrev pub invariant-loop-state : goal.invariant-loop-state
-invariant-loop-state l = (length l.next ≡ l.state) × AreRefined l.states l.rules l.rows l.next
+invariant-loop-state l = (length l.next ≡ l.state) × AreRefined l.states l.groups l.rows l.next

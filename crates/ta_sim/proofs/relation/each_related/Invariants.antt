@@ -1,5 +1,5 @@
 use Rattle.std.proofs.Common.{◌≡◌, drop}
-use Rattle.ta_sim.specs.Matching.{related_each}
+use Rattle.ta_sim.specs.inner.Matching.{related_each}
 use Rattle.ta_sim.proofs.relation.each_related.Given as goal
 
 abbrev pub invariant-loop-place : goal.invariant-loop-place

@@ -1,0 +1,4 @@
+pub mod Faults
+pub mod Parted
+pub mod Sets
+pub mod Shapes

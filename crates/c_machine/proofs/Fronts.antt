@@ -1,0 +1,77 @@
+-- The step from each kind of front.
+use Rattle.std.proofs.Common.{◌≡◌, Bor, ℕ, Bool, true, false, List, Result, Ok, Err, refl, sym, ap, ◌∙◌}
+use Rattle.fore_base.specs.declared.fault.Fault.{Fault as Kind}
+use Rattle.fore_base.specs.declared.shape.Shape.{Shape}
+use Rattle.fore_base.specs.declared.store.Store.{Store}
+use Rattle.fore_base.specs.Stores.{kill}
+use Rattle.c_types.specs.declared.program.Act.{Act}
+use Rattle.c_types.specs.declared.program.Atom.{Atom}
+use Rattle.c_types.specs.Control.{Items, Done, Do, Close, If, Test, Ask, ◌then◌, opened}
+use Rattle.c_types.specs.Steps.{Turn, settle, act_turn, test_turn, turn_of, atom_of}
+use Rattle.c_types.proofs.Plains.{then_done}
+use Rattle.c_machine.specs.declared.items.Front.{Front}
+use Rattle.c_machine.specs.declared.items.Front.TheVariants.{Act as FrontAct, Test as FrontTest, Truth, Close as FrontClose}
+use Rattle.c_machine.specs.declared.items.Part.{Part}
+use Rattle.c_machine.specs.declared.items.Sides.{Sides}
+use Rattle.c_machine.specs.declared.items.Control.{Control}
+use Rattle.c_machine.specs.declared.acting.Pace.{Pace}
+use Rattle.c_machine.specs.declared.acting.Pace.TheVariants.{Goes as PaceGoes, Stops as PaceStops, Faults as PaceFaults}
+use Rattle.c_machine.specs.inner.Acts.{turn_seen, TurnIs}
+use Rattle.c_machine.specs.Pending.{Ways, way, ways_of, through, test_before, facing, left_of}
+
+pub opened-Do : (a : Act) (m : ℕ) (r : Items) → opened (Do a m r) ≡ Do a m r
+opened-Do a m r = ap (Do a m) (then_done r)
+
+pub opened-Close : (ps ds : List ℕ) (m : ℕ) (r : Items) → opened (Close ps ds m r) ≡ Close ps ds m r
+opened-Close ps ds m r = ap (Close ps ds m) (then_done r)
+
+pub opened-Ask : (a : Atom) (m : ℕ) (w : Ways) (r : Items) → opened (test_before (Ask a m) w r) ≡ test_before (Ask a m) w r
+opened-Ask a m w r = ap (test_before (Ask a m) w) (then_done r)
+
+pub test_way : (b : Bool) (w : Ways) (r : Items) (s : Store) → test_turn (Ok b) w.when w.otherwise r s ≡ settle s (way b w then r)
+test_way true w r s = refl
+test_way false w r s = refl
+
+pub ruleset fronts = (opened-Do, opened-Close, opened-Ask)
+
+comes : (t : Turn) (pace : Pace) (is : Items) (s : Store) (c : Control) → t ≡ turn_seen pace is s → left_of c ≡ opened is → TurnIs t pace c s
+comes t PaceGoes is s c e left = (is, e, left)
+comes t PaceStops is s c e left = e
+comes t (PaceFaults kind) is s c e left = e
+
+module _ (shapes : List Shape) (front : Front) (parts : List Part) (r : Items) (s : Store) (x : ℕ) where
+  -- the step of an act
+  pub act_comes : (a : Bor Act) (m : ℕ) (pace : Pace) (is : Items) (after : Store) (c : Control) → front ≡ FrontAct a m → act_turn shapes a.now r s x ≡ turn_seen pace is after → left_of c ≡ opened is → TurnIs (turn_of shapes (opened (facing front parts r)) s x) pace c after
+  act_comes a m pace is after c at e left =
+      comes (turn_of shapes (opened (facing front parts r)) s x) pace is after c
+      (ap (λ f. turn_of shapes (opened (facing f parts r)) s x) at ∙ ap (λ is. act_turn shapes a.now is s x) (then_done r) ∙ e) left
+
+  -- the step of a test with this outcome
+  pub test_comes : (a : Bor Atom) (m : ℕ) (sides : Sides) (b : Bool) (pace : Pace) (c : Control) → front ≡ FrontTest a m sides → Ok b ≡ atom_of a.now s x → ((is : Items) → turn_seen pace is s ≡ settle s is) → left_of c ≡ opened (way b (through (ways_of sides) parts) then r) → TurnIs (turn_of shapes (opened (facing front parts r)) s x) pace c s
+  test_comes a m sides b pace c at outcome settled left =
+      let w : Ways = through (ways_of sides) parts in
+      comes (turn_of shapes (opened (facing front parts r)) s x) pace (way b w then r) s c
+      (ap (λ f. turn_of shapes (opened (facing f parts r)) s x) at
+      ∙ ap (λ is. test_turn (atom_of a.now s x) w.when w.otherwise is s) (then_done r)
+      ∙ ap (λ o. test_turn o w.when w.otherwise r s) (sym outcome)
+      ∙ test_way b w r s
+      ∙ sym (settled (way b w then r))) left
+
+  pub truth_comes : (sides : Sides) (pace : Pace) (c : Control) → front ≡ Truth sides → ((is : Items) → turn_seen pace is s ≡ settle s is) → left_of c ≡ opened (way true (through (ways_of sides) parts) then r) → TurnIs (turn_of shapes (opened (facing front parts r)) s x) pace c s
+  truth_comes sides pace c at settled left =
+      let w : Ways = through (ways_of sides) parts in
+      comes (turn_of shapes (opened (facing front parts r)) s x) pace (w.when then r) s c
+      (ap (λ f. turn_of shapes (opened (facing f parts r)) s x) at
+      ∙ ap (λ is. test_turn (Ok true) w.when w.otherwise is s) (then_done r)
+      ∙ sym (settled (w.when then r))) left
+
+  -- the step of a Close
+  pub close_comes : (ps ds : Bor (List ℕ)) (m : ℕ) (pace : Pace) (after : Store) (c : Control) → front ≡ FrontClose ps ds m → after ≡ kill ps.now ds.now s → ((is : Items) → turn_seen pace is after ≡ settle after is) → left_of c ≡ opened r → TurnIs (turn_of shapes (opened (facing front parts r)) s x) pace c after
+  close_comes ps ds m pace after c at dead settled left =
+      comes (turn_of shapes (opened (facing front parts r)) s x) pace r after c
+      (ap (λ f. turn_of shapes (opened (facing f parts r)) s x) at
+      ∙ ap (λ is. settle (kill ps.now ds.now s) is) (then_done r)
+      ∙ ap (λ (t : Store). settle t r) (sym dead)
+      ∙ sym (settled r)) left
+
+pub ruleset turns = (opened-Do, opened-Close, opened-Ask, test_way)

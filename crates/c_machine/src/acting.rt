@@ -1,0 +1,197 @@
+//! Acts, each with the leak test at its end. They take no memory.
+
+ghost use Rattle.std.specs.Prelude.{◌≡◌, ◌<◌, ◌≤◌, ◌+◌, ◌^◌, ℕ, length, Some, MatchResult};
+ghost use Rattle.c_types.specs.Control.{Items};
+ghost use Rattle.c_types.specs.Steps.{assign, look_at, finished, act_turn, write_path, blank};
+ghost use Rattle.fore_base.specs.Stores.{grown};
+ghost use Rattle.c_machine.specs.inner.Acts.{turn_seen, copied, copied_data, freed_at, done_to, settled_as};
+ghost use Rattle.c_machine.specs.inner.Marking.{HasRoomFor};
+ghost use Rattle.c_machine.specs.inner.Needs.{made_from, made_by, IsRoomy};
+ghost use Rattle.c_machine.specs.Pending.{pending};
+ghost use Rattle.c_machine.specs.inner.Sizes.{IsNoLarger, IsLittleLarger};
+
+use crate::data::{read_data, read_data_rhs, write_data};
+use crate::heap::Heap;
+use crate::items::Item;
+use crate::leak::Marks;
+use crate::leaving::leave_round;
+use crate::paths::{read, write};
+use crate::spares::Rooms;
+use c_types::program::{Act, DataPath, DataRhs, Path, PtrRhs};
+use fore_base::fault::Fault;
+use fore_base::shape::Shape;
+use fore_base::store::Value;
+use std::alloc::Global;
+
+/// How a step goes: on, to the end of the run, or into a fault.
+#[derive(Clone, Copy, PartialEq, Eq, Debug)]
+pub enum Pace {
+    Goes,
+    Stops,
+    Faults(Fault),
+}
+
+/// Makes the cell that was made ready, and writes the pointer to it.
+fn make(
+    alloc: Global,
+    shapes: &[Shape],
+    shape: u32,
+    heap: &mut Heap,
+    rooms: &mut Rooms,
+    to: &Path,
+) -> Result<(), Fault>
+    requires roomy { IsRoomy shapes.now heap.old (Some shape) rooms.old }
+    requires below { heap.old.next + 1 < 2 ^ 64 }
+    ensures done { MatchResult result (λ _. write_path (grown heap.old (blank shapes.now heap.old.next shape)) to.now.var to.now.fields (Value.Cell heap.old.next) ≡ Ok heap.new) (λ fault. write_path (grown heap.old (blank shapes.now heap.old.next shape)) to.now.var to.now.fields (Value.Cell heap.old.next) ≡ Err fault) }
+    ensures larger { IsLittleLarger heap.old heap.new }
+    ensures marks { rooms.new.marks ≡ rooms.old.marks }
+{
+    let _shapes = shapes;
+    let _shape = shape;
+    match rooms.blank.take() {
+        Some(cell) => {
+            let number = heap.grow(alloc, &mut rooms.seats, cell);
+            write(heap, to, Value::Cell(number))
+        }
+        None => unreachable!(),
+    }
+}
+
+fn assign(
+    alloc: Global,
+    shapes: &[Shape],
+    heap: &mut Heap,
+    rooms: &mut Rooms,
+    to: &Path,
+    from: &PtrRhs,
+) -> Result<(), Fault>
+    requires roomy { IsRoomy shapes.now heap.old (made_from from.now) rooms.old }
+    requires below { heap.old.next + 1 < 2 ^ 64 }
+    ensures done { MatchResult result (λ _. assign shapes.now heap.old to.now from.now ≡ Ok heap.new) (λ fault. assign shapes.now heap.old to.now from.now ≡ Err fault) }
+    ensures larger { IsLittleLarger heap.old heap.new }
+    ensures marks { rooms.new.marks ≡ rooms.old.marks }
+{
+    match from {
+        PtrRhs::Path(path) => copy(heap, to, path),
+        PtrRhs::Null => write(heap, to, Value::Null),
+        PtrRhs::New(shape) => make(alloc, shapes, *shape, heap, rooms, to),
+    }
+}
+
+fn copy(heap: &mut Heap, to: &Path, from: &Path) -> Result<(), Fault>
+    ensures done { MatchResult result (λ _. copied heap.old to.now from.now ≡ Ok heap.new) (λ fault. copied heap.old to.now from.now ≡ Err fault) }
+    ensures keeps { IsNoLarger heap.old heap.new }
+{
+    let value = read(heap, from)?;
+    write(heap, to, value)
+}
+
+fn assign_data(heap: &mut Heap, to: &DataPath, from: &DataRhs, choice: u8) -> Result<(), Fault>
+    ensures done { MatchResult result (λ _. copied_data heap.old to.now from.now choice ≡ Ok heap.new) (λ fault. copied_data heap.old to.now from.now choice ≡ Err fault) }
+    ensures keeps { IsNoLarger heap.old heap.new }
+{
+    let datum = read_data_rhs(heap, from, choice)?;
+    write_data(heap, to, datum)
+}
+
+fn free(heap: &mut Heap, path: &Path) -> Result<(), Fault>
+    ensures done { MatchResult result (λ _. freed_at heap.old path.now ≡ Ok heap.new) (λ fault. freed_at heap.old path.now ≡ Err fault) }
+    ensures keeps { IsNoLarger heap.old heap.new }
+{
+    let value = read(heap, path)?;
+    heap.free(value)
+}
+
+/// What a `return` looks at.
+fn look(heap: &Heap, operand: &Option<DataPath>) -> Result<(), Fault>
+    ensures { done_to result heap.now ≡ look_at heap.now operand.now }
+{
+    match operand {
+        None => Ok(()),
+        Some(path) => {
+            let _datum = read_data(heap, path)?;
+            Ok(())
+        }
+    }
+}
+
+/// The end of a step that did something, or met a fault: the leak test.
+pub fn settle(heap: &Heap, marks: &mut Marks, done: Result<(), Fault>) -> Pace
+    requires { HasRoomFor (length heap.now.cells) marks.old }
+    ensures { (is : Items) → turn_seen result is heap.now ≡ settled_as done heap.now is }
+{
+    match done {
+        Ok(()) => {
+            if heap.leaks(marks) {
+                Pace::Faults(Fault::Leak)
+            } else {
+                Pace::Goes
+            }
+        }
+        Err(fault) => Pace::Faults(fault),
+    }
+}
+
+/// Lets all variables die and ends the run, with the leak test.
+fn finish(heap: &mut Heap, marks: &mut Marks, looked: Result<(), Fault>) -> Pace
+    requires { HasRoomFor (length heap.old.cells) marks.old }
+    ensures turn { (is : Items) → turn_seen result is heap.new ≡ finished (done_to looked heap.old) }
+    ensures keeps { IsNoLarger heap.old heap.new }
+{
+    match looked {
+        Ok(()) => {
+            heap.kill_all();
+            if heap.leaks(marks) {
+                Pace::Faults(Fault::Leak)
+            } else {
+                Pace::Stops
+            }
+        }
+        Err(fault) => Pace::Faults(fault),
+    }
+}
+
+/// Does an act, with the leak test at its end.
+pub fn take_act<'p>(
+    alloc: Global,
+    shapes: &[Shape],
+    stack: &mut Vec<Item<'p>>,
+    heap: &mut Heap,
+    rooms: &mut Rooms,
+    act: &Act,
+    choice: u8,
+) -> Pace
+    requires roomy { IsRoomy shapes.now heap.old (made_by act.now) rooms.old }
+    requires below { heap.old.next + 1 < 2 ^ 64 }
+    ensures turn { act_turn shapes.now act.now (pending stack.old.items) heap.old choice ≡ turn_seen result (pending stack.new.items) heap.new }
+    ensures larger { IsLittleLarger heap.old heap.new }
+{
+    match act {
+        Act::SetPtr { to, from } => {
+            let done = assign(alloc, shapes, heap, rooms, to, from);
+            settle(heap, &mut rooms.marks, done)
+        }
+        Act::SetData { to, from } => {
+            let done = assign_data(heap, to, from, choice);
+            settle(heap, &mut rooms.marks, done)
+        }
+        Act::Free(path) => {
+            let done = free(heap, path);
+            settle(heap, &mut rooms.marks, done)
+        }
+        Act::Error => Pace::Faults(Fault::Assertion),
+        Act::Halt => Pace::Stops,
+        Act::Return(operand) => {
+            let looked = look(heap, operand);
+            finish(heap, &mut rooms.marks, looked)
+        }
+        Act::Break => {
+            leave_round(stack, heap, false);
+            settle(heap, &mut rooms.marks, Ok(()))
+        }
+        Act::Continue => {
+            leave_round(stack, heap, true);
+            settle(heap, &mut rooms.marks, Ok(()))
+        }
+    }
+}

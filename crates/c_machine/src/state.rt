@@ -1,0 +1,40 @@
+//! What a machine is made of.
+
+ghost use Rattle.std.specs.Prelude.{◌≡◌, true};
+ghost use Rattle.c_machine.specs.inner.Needs.{made_at, IsRoomy};
+ghost use Rattle.c_machine.specs.Pending.{IsReady};
+
+use crate::heap::Heap;
+use crate::items::Control;
+use crate::spares::Rooms;
+use c_types::program::Typed;
+use fore_base::fault::Fault;
+use std::alloc::Global;
+
+/// What a step answers.
+#[derive(Clone, Copy, PartialEq, Eq, Debug)]
+pub enum Turn {
+    /// The step was taken.
+    Next,
+    /// The step, which has this line, meets this fault.
+    Fault { kind: Fault, line: u32 },
+    /// The run has ended.
+    Ended,
+    /// The step needs a choice, and none is given.
+    NeedsChoice,
+}
+
+/// A program on its way: its store and what is left to do.
+///
+/// `reserve` makes ready what a step needs, and a step then takes no memory. After a fault or the end each step answers the same again.
+#[derive(Drop)]
+pub struct Machine<'p> {
+    pub(crate) program: &'p Typed,
+    pub(crate) alloc: Global,
+    pub(crate) control: Control<'p>,
+    pub(crate) heap: Heap,
+    pub(crate) rooms: Rooms,
+    pub(crate) over: Option<Turn>,
+    pub(crate) reserved: bool,
+    ghost ready: { reserved ≡ true → IsReady control × IsRoomy program.now.shapes.structs heap (made_at control.front) rooms },
+}

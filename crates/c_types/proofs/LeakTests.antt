@@ -1,0 +1,240 @@
+-- A step that takes no reference to a cell away: its leak test has the answer that it had before.
+use Rattle.std.proofs.Common.{◌≡◌, ℕ, Bool, true, false, if◌then◌else◌, Option, Some, None, Result, Ok, Err, List, [], ◌∷◌, length, refl, sym, ap, ◌∙◌, subst, true≢false}
+use Rattle.fore_base.specs.declared.fault.Fault.{Fault}
+use Rattle.fore_base.specs.declared.fault.Fault.TheVariants.{Leak}
+use Rattle.fore_base.specs.declared.shape.Shape.{Shape}
+use Rattle.fore_base.specs.declared.store.Value.{Value}
+use Rattle.fore_base.specs.declared.store.Value.TheVariants.{Null, Uninit, Dangling, Cell}
+use Rattle.fore_base.specs.declared.store.Datum.{Datum}
+use Rattle.fore_base.specs.declared.store.Datum.TheVariants.{Undefined, Known}
+use Rattle.fore_base.specs.declared.store.Store.{Store}
+use Rattle.fore_base.specs.Heap.{leaks}
+use Rattle.fore_base.specs.Stores.{onward, followed, load_datum, store_at, store_datum, var_of, set_datum, field_in, walk, write_from, freed}
+use Rattle.c_types.specs.declared.program.Path.{Path}
+use Rattle.c_types.specs.declared.program.DataPath.{DataPath}
+use Rattle.c_types.specs.declared.program.DataPath.TheVariants.{Var as DataVar, Field as DataField}
+use Rattle.c_types.specs.declared.program.PtrRhs.{PtrRhs}
+use Rattle.c_types.specs.declared.program.PtrRhs.TheVariants.{Path as RhsPath, Null as RhsNull, New as RhsNew}
+use Rattle.c_types.specs.declared.program.DataRhs.{DataRhs}
+use Rattle.c_types.specs.declared.program.DataRhs.TheVariants.{Path as DataRhsPath, Known as DataRhsKnown, Choice as DataRhsChoice}
+use Rattle.c_types.specs.declared.program.PtrOp.{PtrOp}
+use Rattle.c_types.specs.declared.program.PtrOp.TheVariants.{Path as OpPath, Null as OpNull}
+use Rattle.c_types.specs.declared.program.DataOp.{DataOp}
+use Rattle.c_types.specs.declared.program.DataOp.TheVariants.{Path as DataOpPath, Known as DataOpKnown}
+use Rattle.c_types.specs.declared.program.Atom.{Atom}
+use Rattle.c_types.specs.declared.program.Atom.TheVariants.{Choice as ChoiceAtom, Known as KnownAtom, Ptr as PtrAtom, Data as DataAtom}
+use Rattle.c_types.specs.declared.program.Act.{Act}
+use Rattle.c_types.specs.declared.program.Act.TheVariants.{SetPtr, SetData, Free, Error, Halt, Return, Break, Continue}
+use Rattle.c_types.specs.Control.{Items, Done, Do, Close, If, Loop, Again, DoLoop, DoAgain, Ask, Not, Both, Either, closed_ptrs, closed_datums, after_again, from_again, ◌then◌}
+use Rattle.c_types.specs.Steps.{Goes, Stops, Faults, read, read_data, read_op, read_data_op, read_data_rhs, look_at, same_values, same_datums, atom_of, write_path, write_data, assign, assign_data, free_path, settle, settled, finished, all_dead, below, act_turn, test_turn, turn_of}
+use Rattle.c_types.specs.Losses.{is_cell, got_cell, assign_loses, act_loses, loses}
+use Rattle.c_types.proofs.LeakKept.{Keeps, kept_sound, keeps_all, set_datum_keeps, kill_keeps, store_datum_keeps, write_path_keeps}
+
+-- No fault of an evaluation is a leak
+
+is_leak : Fault → Bool
+is_leak Leak = true
+is_leak _ = false
+
+abbrev NoLeak : {A : Type 0} → Result A Fault → Type 0
+NoLeak (Ok a) = Unit {0}
+NoLeak (Err k) = (k ≡ Leak) → ⊥
+
+onward_clean : {A B : Type 0} (r : Result A Fault) (next : A → Result B Fault) → NoLeak r → ((a : A) → NoLeak (next a)) → NoLeak (onward r next)
+onward_clean (Ok a) next h rest = rest a
+onward_clean (Err k) next h rest = h
+
+followed_clean : (v : Value) → NoLeak (followed v)
+followed_clean Null = λ e. cc
+followed_clean Uninit = λ e. cc
+followed_clean Dangling = λ e. cc
+followed_clean (Cell n) = tt
+
+walk_clean : (s : Store) (v : Value) (fs : List ℕ) → NoLeak (walk s v fs)
+walk_clean s v [] = tt
+walk_clean s Null (f ∷ fs) = λ e. cc
+walk_clean s Uninit (f ∷ fs) = λ e. cc
+walk_clean s Dangling (f ∷ fs) = λ e. cc
+walk_clean s (Cell n) (f ∷ fs) = walk_clean s (field_in s.cells n f) fs
+
+store_at_clean : (s : Store) (v : Value) (f : ℕ) (w : Value) → NoLeak (store_at s v f w)
+store_at_clean s v f w = onward_clean (followed v) _ (followed_clean v) (λ n. tt)
+
+write_from_clean : (s : Store) (v : Value) (f : ℕ) (fs : List ℕ) (w : Value) → NoLeak (write_from s v f fs w)
+write_from_clean s v f [] w = store_at_clean s v f w
+write_from_clean s Null f (g ∷ gs) w = λ e. cc
+write_from_clean s Uninit f (g ∷ gs) w = λ e. cc
+write_from_clean s Dangling f (g ∷ gs) w = λ e. cc
+write_from_clean s (Cell n) f (g ∷ gs) w = write_from_clean s (field_in s.cells n f) g gs w
+
+write_path_clean : (s : Store) (x : ℕ) (fs : List ℕ) (v : Value) → NoLeak (write_path s x fs v)
+write_path_clean s x [] v = tt
+write_path_clean s x (f ∷ fs) v = write_from_clean s (var_of s x) f fs v
+
+read_clean : (s : Store) (p : Path) → NoLeak (read s p)
+read_clean s p = walk_clean s (var_of s p.var) p.fields
+
+read_data_clean : (s : Store) (p : DataPath) → NoLeak (read_data s p)
+read_data_clean s (DataVar x) = tt
+read_data_clean s (DataField base f) = onward_clean (read s base) (λ v. load_datum s v f) (read_clean s base) (λ v. onward_clean (followed v) _ (followed_clean v) (λ n. tt))
+
+read_op_clean : (s : Store) (p : PtrOp) → NoLeak (read_op s p)
+read_op_clean s (OpPath p) = read_clean s p
+read_op_clean s OpNull = tt
+
+read_data_op_clean : (s : Store) (p : DataOp) → NoLeak (read_data_op s p)
+read_data_op_clean s (DataOpPath p) = read_data_clean s p
+read_data_op_clean s (DataOpKnown k) = tt
+
+same_values_clean : (v w : Value) → NoLeak (same_values v w)
+same_values_clean Uninit w = λ e. cc
+same_values_clean Dangling w = λ e. cc
+same_values_clean Null Uninit = λ e. cc
+same_values_clean Null Dangling = λ e. cc
+same_values_clean Null Null = tt
+same_values_clean Null (Cell m) = tt
+same_values_clean (Cell n) Uninit = λ e. cc
+same_values_clean (Cell n) Dangling = λ e. cc
+same_values_clean (Cell n) Null = tt
+same_values_clean (Cell n) (Cell m) = tt
+
+same_datums_clean : (d e : Datum) → NoLeak (same_datums d e)
+same_datums_clean Undefined e = λ h. cc
+same_datums_clean (Known a) Undefined = λ h. cc
+same_datums_clean (Known a) (Known b) = tt
+
+atom_clean : (a : Atom) (s : Store) (x : ℕ) → NoLeak (atom_of a s x)
+atom_clean ChoiceAtom s x = tt
+atom_clean (KnownAtom b) s x = tt
+atom_clean (PtrAtom l r equal) s x =
+    onward_clean (read_op s l) _ (read_op_clean s l) (λ v. onward_clean (read_op s r) _ (read_op_clean s r) (λ w. onward_clean (same_values v w) _ (same_values_clean v w) (λ b. tt)))
+atom_clean (DataAtom l r equal) s x =
+    onward_clean (read_data_op s l) _ (read_data_op_clean s l) (λ d. onward_clean (read_data_op s r) _ (read_data_op_clean s r) (λ e. onward_clean (same_datums d e) _ (same_datums_clean d e) (λ b. tt)))
+
+write_data_clean : (s : Store) (p : DataPath) (d : Datum) → NoLeak (write_data s p d)
+write_data_clean s (DataVar x) d = tt
+write_data_clean s (DataField base f) d = onward_clean (read s base) (λ v. store_datum s v f d) (read_clean s base) (λ v. onward_clean (followed v) _ (followed_clean v) (λ n. tt))
+
+read_data_rhs_clean : (s : Store) (r : DataRhs) (x : ℕ) → NoLeak (read_data_rhs s r x)
+read_data_rhs_clean s (DataRhsPath p) x = read_data_clean s p
+read_data_rhs_clean s (DataRhsKnown k) x = tt
+read_data_rhs_clean s DataRhsChoice x = tt
+
+freed_clean : (s : Store) (v : Value) → NoLeak (freed s v)
+freed_clean s Null = tt
+freed_clean s Uninit = λ e. cc
+freed_clean s Dangling = λ e. cc
+freed_clean s (Cell n) = tt
+
+look_at_clean : (s : Store) (p : Option DataPath) → NoLeak (look_at s p)
+look_at_clean s None = tt
+look_at_clean s (Some p) = onward_clean (read_data s p) _ (read_data_clean s p) (λ d. tt)
+
+-- A store that the change gives, if it gives one, keeps references
+
+abbrev KeepsAll : Store → Result Store Fault → Type 0
+KeepsAll s r = (t : Store) → r ≡ Ok t → Keeps s t
+
+-- what was written at the end of a path, over what was no cell; where the path meets a fault nothing is written
+walk_wrote : (s : Store) (t : Store) (fs : List ℕ) (v : Value) (f : ℕ) (w : Value) → write_from s v f fs w ≡ Ok t → (old : Value) × (walk s v (f ∷ fs) ≡ Ok old)
+walk_wrote s t [] Null f w e = cc
+walk_wrote s t [] Uninit f w e = cc
+walk_wrote s t [] Dangling f w e = cc
+walk_wrote s t [] (Cell n) f w e = (field_in s.cells n f, refl)
+walk_wrote s t (g ∷ gs) Null f w e = cc
+walk_wrote s t (g ∷ gs) Uninit f w e = cc
+walk_wrote s t (g ∷ gs) Dangling f w e = cc
+walk_wrote s t (g ∷ gs) (Cell n) f w e = walk_wrote s t gs (field_in s.cells n f) g w e
+
+path_wrote : (s : Store) (t : Store) (x : ℕ) (fs : List ℕ) (w : Value) → write_path s x fs w ≡ Ok t → (old : Value) × (walk s (var_of s x) fs ≡ Ok old)
+path_wrote s t x [] w e = (var_of s x, refl)
+path_wrote s t x (f ∷ fs) w e = walk_wrote s t fs (var_of s x) f w e
+
+write_keeps : (s : Store) (to : Path) (w : Value) → got_cell (read s to) ≡ false → KeepsAll s (write_path s to.var to.fields w)
+write_keeps s to w none t e =
+    let old : (v : Value) × (walk s (var_of s to.var) to.fields ≡ Ok v) = path_wrote s t to.var to.fields w e in
+    write_path_keeps s t to.var to.fields old.0 w old.1 (ap got_cell (sym old.1) ∙ none) e
+
+onward_keeps : {A : Type 0} (s : Store) (r : Result A Fault) (next : A → Result Store Fault) → ((a : A) → r ≡ Ok a → KeepsAll s (next a)) → KeepsAll s (onward r next)
+onward_keeps s (Ok a) next rest t e = rest a refl t e
+onward_keeps s (Err k) next rest t e = cc
+
+assign_keeps : (shapes : List Shape) (s : Store) (to : Path) (from : PtrRhs) → assign_loses s to from ≡ false → KeepsAll s (assign shapes s to from)
+assign_keeps shapes s to (RhsPath from) none = onward_keeps s (read s from) (λ v. write_path s to.var to.fields v) (λ v is. write_keeps s to v none)
+assign_keeps shapes s to RhsNull none = write_keeps s to Null none
+assign_keeps shapes s to (RhsNew shape) none = absurd (true≢false none)
+
+write_data_keeps : (s : Store) (to : DataPath) (d : Datum) → KeepsAll s (write_data s to d)
+write_data_keeps s (DataVar x) d t e = let same : set_datum s x d ≡ t = cc in subst (Keeps s) same (set_datum_keeps s x d)
+write_data_keeps s (DataField base f) d t e = onward_keeps s (read s base) (λ v. store_datum s v f d) (λ v is u g. store_datum_keeps s u v f d g) t e
+
+freed_keeps : (s : Store) (v : Value) → is_cell v ≡ false → KeepsAll s (freed s v)
+freed_keeps s Null none t e = let same : s ≡ t = cc in subst (Keeps s) same (keeps_all s)
+freed_keeps s Uninit none t e = cc
+freed_keeps s Dangling none t e = cc
+freed_keeps s (Cell n) none t e = absurd (true≢false none)
+
+free_keeps : (s : Store) (p : Path) → got_cell (read s p) ≡ false → KeepsAll s (free_path s p)
+free_keeps s p none = onward_keeps s (read s p) (freed s) (λ v is. freed_keeps s v (ap got_cell (sym is) ∙ none))
+
+look_keeps : (s : Store) (p : Option DataPath) (t : Store) → look_at s p ≡ Ok t → s ≡ t
+look_keeps s None t e = cc
+look_keeps s (Some p) t e = here (read_data s p) e
+  where
+    here : (r : Result Datum Fault) → onward r (λ d. Ok s) ≡ Ok t → s ≡ t
+    here (Ok d) e = cc
+    here (Err k) e = cc
+
+-- Turns
+
+sound_settles : (t : Store) (is : Items) → leaks t ≡ false → settle t is ≡ Faults Leak → ⊥
+sound_settles t is sound e = let wrong : Goes is t ≡ Faults Leak = rw sound at e in cc
+
+settled_sound : (s : Store) (r : Result Store Fault) (is : Items) → NoLeak r → KeepsAll s r → leaks s ≡ false → settled r is ≡ Faults Leak → ⊥
+settled_sound s (Ok t) is clean keeps sound e = sound_settles t is (kept_sound s t (keeps t refl) sound) e
+settled_sound s (Err k) is clean keeps sound e = let same : k ≡ Leak = cc in clean same
+
+finished_sound : (s : Store) (r : Result Store Fault) → NoLeak r → ((t : Store) → r ≡ Ok t → leaks (all_dead t) ≡ false) → finished r ≡ Faults Leak → ⊥
+finished_sound s (Ok t) clean sound e = let wrong : Stops ≡ Faults Leak = rw (sound t refl) at e in cc
+finished_sound s (Err k) clean sound e = let same : k ≡ Leak = cc in clean same
+
+module _ (shapes : List Shape) where
+  act_sound : (a : Act) (is : Items) (s : Store) (x : ℕ) → act_loses a is s ≡ false → leaks s ≡ false → act_turn shapes a is s x ≡ Faults Leak → ⊥
+  act_sound (SetPtr to from) is s x none sound e = settled_sound s (assign shapes s to from) is (assign_clean from) (assign_keeps shapes s to from none) sound e
+    where
+      assign_clean : (from : PtrRhs) → NoLeak (assign shapes s to from)
+      assign_clean (RhsPath from) = onward_clean (read s from) (λ v. write_path s to.var to.fields v) (read_clean s from) (λ v. write_path_clean s to.var to.fields v)
+      assign_clean RhsNull = write_path_clean s to.var to.fields Null
+      assign_clean (RhsNew shape) = write_path_clean _ to.var to.fields (Cell s.next)
+  act_sound (SetData to from) is s x none sound e =
+      settled_sound s (assign_data s to from x) is
+      (onward_clean (read_data_rhs s from x) (λ d. write_data s to d) (read_data_rhs_clean s from x) (λ d. write_data_clean s to d))
+      (onward_keeps s (read_data_rhs s from x) (λ d. write_data s to d) (λ d is. write_data_keeps s to d)) sound e
+  act_sound (Free p) is s x none sound e =
+      settled_sound s (free_path s p) is (onward_clean (read s p) (freed s) (read_clean s p) (λ v. freed_clean s v)) (free_keeps s p none) sound e
+  act_sound Error is s x none sound e = cc
+  act_sound Halt is s x none sound e = cc
+  act_sound (Return operand) is s x none sound e =
+      finished_sound s (look_at s operand) (look_at_clean s operand)
+      (λ t same. subst (λ (u : Store). leaks (all_dead u) ≡ false) (look_keeps s operand t same) (kept_sound s (all_dead s) (kill_keeps s (below (length s.vars)) (below (length s.data_vars)) none) sound)) e
+  act_sound Break is s x none sound e = sound_settles _ (after_again is) (kept_sound s _ (kill_keeps s (closed_ptrs is) (closed_datums is) none) sound) e
+  act_sound Continue is s x none sound e = sound_settles _ (from_again is) (kept_sound s _ (kill_keeps s (closed_ptrs is) (closed_datums is) none) sound) e
+
+  test_sound : (r : Result Bool Fault) (x y is : Items) (s : Store) → NoLeak r → leaks s ≡ false → test_turn r x y is s ≡ Faults Leak → ⊥
+  test_sound (Ok true) x y is s clean sound e = sound_settles s (x then is) sound e
+  test_sound (Ok false) x y is s clean sound e = sound_settles s (y then is) sound e
+  test_sound (Err k) x y is s clean sound e = let same : k ≡ Leak = cc in clean same
+
+  -- where no cell had leaked, none has leaked after the step
+  pub turn_sound : (is : Items) (s : Store) (x : ℕ) → loses is s ≡ false → leaks s ≡ false → turn_of shapes is s x ≡ Faults Leak → ⊥
+  turn_sound Done s x none sound e = cc
+  turn_sound (Do a m is) s x none sound e = act_sound a is s x none sound e
+  turn_sound (Close ps ds m is) s x none sound e = sound_settles _ is (kept_sound s _ (kill_keeps s ps ds none) sound) e
+  turn_sound (If (Ask a m) y n is) s x none sound e = test_sound (atom_of a s x) y n is s (atom_clean a s x) sound e
+  turn_sound (If (Not c) y n is) s x none sound e = cc
+  turn_sound (If (Both c d) y n is) s x none sound e = cc
+  turn_sound (If (Either c d) y n is) s x none sound e = cc
+  turn_sound (Loop c n b is) s x none sound e = cc
+  turn_sound (Again c n b is) s x none sound e = cc
+  turn_sound (DoLoop c b is) s x none sound e = cc
+  turn_sound (DoAgain c b is) s x none sound e = cc

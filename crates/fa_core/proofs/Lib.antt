@@ -1,0 +1,14 @@
+pub mod Boxless
+pub mod CellMarks
+pub mod Composed
+pub mod NodeRuns
+pub mod Numbers
+pub mod Permuted
+pub mod Rearranging
+pub mod Regrouped
+pub mod Renamed
+pub mod Rows
+pub mod RowsBack
+pub mod Sorting
+pub mod WayParts
+pub mod WaysOf

@@ -1,0 +1,11 @@
+pub mod Boxes
+pub mod Boxless
+pub mod Canonical
+pub mod Cells
+pub mod Covering
+pub mod Dressed
+pub mod Filled
+pub mod Folding
+pub mod Member
+pub mod Rearranged
+pub mod Ways

@@ -1,0 +1,77 @@
+// Tables of sound boxes.
+
+ghost use Rattle.std.specs.Prelude.{◌≡◌, ◌<◌, ◌^◌, [], length, Some, slice_get, IfOk};
+ghost use Rattle.fa_core.specs.Boxes.{IsBoxTable};
+
+use crate::boxes::BoxDef;
+use crate::faces::Face;
+use fore_base::list::{Copies, List};
+use fore_base::memory::Mem;
+use fore_base::shape::Shapes;
+use std::alloc::Global;
+use std::marker::Model;
+
+/// Boxes over structs, seen as a face and a list of boxes. It keeps that the face has the faces of the boxes, and that each box is sound over those before it.
+#[derive(Debug, Drop)]
+pub struct BoxTable {
+    face: Face,
+    defs: List<BoxDef>,
+}
+
+impl Model for BoxTable {
+    ghost use Rattle.fa_core.specs.Boxes.{Boxes, IsBoxTable};
+
+    ghost Value = { Boxes };
+
+    ghost view = { λ t. record { face = t.face; defs = t.defs } };
+
+    ghost invariant = { λ t. IsBoxTable (record { face = t.face; defs = t.defs }) };
+}
+
+impl BoxTable {
+    /// The table without boxes over these structs. Err is want of memory.
+    pub fn empty(alloc: Global, shapes: &Shapes) -> Mem<BoxTable>
+        ensures shapes { IfOk result (λ table. table.face.shapes ≡ shapes.now) }
+        ensures faces { IfOk result (λ table. table.face.boxes ≡ []) }
+        ensures defs { IfOk result (λ table. table.defs ≡ []) }
+    {
+        let shapes = shapes.copy(alloc)?;
+        Ok(BoxTable {
+            face: Face {
+                shapes,
+                boxes: List::new(alloc),
+            },
+            defs: List::new(alloc),
+        })
+    }
+
+    /// The structs and the faces of the boxes.
+    pub fn face(&self) -> &Face
+        ensures { result.now ≡ self.now.face }
+    {
+        &self.face
+    }
+
+    /// How many boxes it has, as far as 32 bits count.
+    pub fn len(&self) -> u32
+        requires { length self.now.defs < 2 ^ 32 }
+        ensures { result ≡ length self.now.defs }
+    {
+        self.defs.len() as u32
+    }
+
+    /// The box of this number.
+    pub fn box_def(&self, box_no: u32) -> &BoxDef
+        requires { box_no < length self.now.defs }
+        ensures { slice_get self.now.defs box_no ≡ Some result.now }
+    {
+        self.defs.at(box_no as usize)
+    }
+
+    /// Does nothing, and says what the table keeps.
+    pub fn known(&self)
+        ensures { IsBoxTable self.now }
+    {
+        let _defs = &self.defs;
+    }
+}

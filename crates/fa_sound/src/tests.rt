@@ -1,0 +1,4 @@
+// Forests by hand: which are made.
+
+mod building;
+mod made;

@@ -1,0 +1,13 @@
+-- Files in memory, found by their paths. A path is its bytes.
+use Rattle.std.specs.Prelude.{ℕ, Bool, List, Option, nat_eq, find}
+use Rattle.std.specs.Option.{option_map}
+use Rattle.std.specs.Cmp.Lexicographic.{pointwise}
+use Rattle.fore_base.specs.declared.named_files.NamedFile.{NamedFile}
+
+-- the file has this path
+abbrev pub is_named : List ℕ → NamedFile → Bool
+is_named name file = pointwise nat_eq file.name name
+
+-- the bytes of the first file of this path
+abbrev pub bytes_of : List NamedFile → List ℕ → Option (List ℕ)
+bytes_of files name = option_map (λ file. file.bytes) (find (is_named name) files)

@@ -1,0 +1,62 @@
+// Files in memory, found by their paths.
+ghost use Rattle.std.specs.Prelude.{◌≡◌, ◌≢◌, ℕ, List, Some, find, position, OnOk, OnErr};
+ghost use Rattle.std.specs.Option.{option_copied};
+ghost use Rattle.fore_base.specs.NamedFiles.{is_named, bytes_of};
+
+use crate::list::List;
+use crate::memory::Mem;
+use crate::text::Text;
+use std::alloc::Global;
+
+/// A file in memory: its path, and its bytes.
+#[derive(Debug, Drop)]
+pub struct NamedFile {
+    /// Its path.
+    pub name: Text,
+    /// Its bytes.
+    pub bytes: Text,
+}
+
+/// Keeps a copy of the bytes under this path, in place of those that it had.
+///
+/// # Errors
+///
+/// Want of memory; then the files are as they were.
+pub fn put_bytes(alloc: Global, files: &mut List<NamedFile>, path: &str, bytes: &[u8]) -> Mem<()>
+    ensures held { OnOk result (bytes_of files.new path.now ≡ Some bytes.now) }
+    ensures others { OnOk result ((other : List ℕ) → other ≢ path.now → bytes_of files.new other ≡ bytes_of files.old other) }
+    ensures err { OnErr result (files.new ≡ files.old) }
+{
+    let file = NamedFile {
+        name: Text::from_slice(alloc, path.as_bytes())?,
+        bytes: Text::from_slice(alloc, bytes)?,
+    };
+    put_file(files, file)
+}
+
+/// The first file of this path; None where there is none.
+pub fn find_named<'a>(files: &'a [NamedFile], name: &[u8]) -> Option<&'a NamedFile>
+    ensures { option_copied result ≡ find (is_named name.now) files.now }
+{
+    files.iter().find(|file| file.name.as_slice() == name)
+}
+
+// The place of the first file of this path.
+fn place_of(files: &[NamedFile], name: &[u8]) -> Option<usize>
+    ensures { result ≡ position (is_named name.now) files.now }
+{
+    files.iter().position(|file| file.name.as_slice() == name)
+}
+
+// Puts a file in the place of the first of its path, or last.
+fn put_file(files: &mut List<NamedFile>, file: NamedFile) -> Mem<()>
+    ensures held { OnOk result (bytes_of files.new file.name ≡ Some file.bytes) }
+    ensures others { OnOk result ((other : List ℕ) → other ≢ file.name → bytes_of files.new other ≡ bytes_of files.old other) }
+    ensures err { OnErr result (files.new ≡ files.old) }
+{
+    match place_of(files.as_slice(), file.name.as_slice()) {
+        Some(at) => files.set(at, file),
+        None => files.push(file)?,
+    }
+    Ok(())
+}

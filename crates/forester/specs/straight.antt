@@ -1,0 +1,4 @@
+pub mod Files
+pub mod Meaning
+pub mod Rules
+pub mod Spelling

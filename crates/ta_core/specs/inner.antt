@@ -1,0 +1,4 @@
+pub mod Arcs
+pub mod Closing
+pub mod Restricted
+pub mod Sizes

@@ -1,0 +1,8 @@
+use fore_base::list::List;
+
+/// Where all the states of `from` are reached, `to` is too.
+#[derive(Debug, Drop)]
+pub struct Arc {
+    pub from: List<u32>,
+    pub to: u32,
+}

@@ -1,8 +1,0 @@
-use fore_base::list::List;
-
-/// Where all the states of `from` are reached, `to` is too.
-#[derive(Debug, Drop)]
-pub struct Step {
-    pub from: List<u32>,
-    pub to: u32,
-}

@@ -1,7 +1,0 @@
-use Rattle.std.proofs.Common.{take}
-use Rattle.fore_base.specs.Lists.{Every}
-use Rattle.ta_sim.specs.Matching.{IsMatch}
-use Rattle.ta_sim.proofs.matching.is_matched.Given as goal
-
-abbrev pub invariant-loop-other : goal.invariant-loop-other
-invariant-loop-other l = Every (λ s. IsMatch l.rows l.rule l.state s → ⊥) (take l.other-index l.rules)
