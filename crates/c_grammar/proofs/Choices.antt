@@ -40,3 +40,16 @@ same_fork f = record {
     | inr q ↦ inr (record { part = q.part; read = q.read; is = r.is ∙ ap f q.is })
   ];
 }
+
+-- the same, where the whole is made of what each part is made into
+pub same_forks : {X Y V Z : Type 0} {A : Rule X} {B : Rule Y} (a : X → V) (b : Y → V) (f : V → Z) → Same (choice (made (λ x. f (a x)) A) (made (λ y. f (b y)) B)) (made f (choice (made a A) (made b B)))
+same_forks a b f = record {
+  to = λ n ts rest x. elim [
+    | inl r ↦ record { part = a r.part; is = r.is; read = inl (record { part = r.part; read = r.read; is = refl }) }
+    | inr r ↦ record { part = b r.part; is = r.is; read = inr (record { part = r.part; read = r.read; is = refl }) }
+  ];
+  back = λ n ts rest x r. elim r.read [
+    | inl q ↦ inl (record { part = q.part; read = q.read; is = r.is ∙ ap f q.is })
+    | inr q ↦ inr (record { part = q.part; read = q.read; is = r.is ∙ ap f q.is })
+  ];
+}

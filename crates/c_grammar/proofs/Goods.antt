@@ -24,6 +24,11 @@ pub named : {X : Type 0} {A : Rule X} {fa ca ba : Signs} {na : Bool} (fb cb bb :
     every (λ s. implies (fa s) (fb s)) ≡ true → every (λ s. implies (ca s) (cb s)) ≡ true → every (λ s. implies (ba s) (bb s)) ≡ true → Good A fb cb bb na
 named {fa = fa} {ca = ca} {ba = ba} fb cb bb good f c b = good_within fb cb bb (inside fa fb f) (within ca cb c) (within ba bb b) good
 
+-- the same, beginning as it does
+pub contd : {X : Type 0} {A : Rule X} {fa ca ba : Signs} {na : Bool} (cb bb : Signs) → Good A fa ca ba na →
+    every (λ s. implies (ca s) (cb s)) ≡ true → every (λ s. implies (ba s) (bb s)) ≡ true → Good A fa cb bb na
+contd {fa = fa} {ca = ca} {ba = ba} cb bb good c b = good_within fa cb bb (λ s h. h) (within ca cb c) (within ba bb b) good
+
 pub good_one : (s : Sign) → Good (one s) (among (s ∷ [])) no_sign no_sign false
 good_one s = good_token s (among (s ∷ [])) (λ t e. subst (λ t. among (s ∷ []) t ≡ true) (sym e) (ap (λ b. or_on b false) (holds (λ s. same_sign s s) refl s)))
 

@@ -10,7 +10,7 @@ use Rattle.c_grammar.specs.Grammar.{Rule, Many, ◌then◌, ◌or◌}
 use Rattle.c_grammar.specs.Syntax as syntax
 use Rattle.c_grammar.specs.declared.signs.Sign.TheVariants as sign
 use Rattle.c_grammar.specs.inner.Faults.{Alive}
-use Rattle.c_grammar.specs.inner.Parted.{sized_part, After, after_part}
+use Rattle.c_grammar.specs.inner.Parted.{inside_part, sized_part, After, after_part}
 use Rattle.c_grammar.specs.inner.Sets.{Signs, no_sign}
 use Rattle.c_grammar.proofs.Conditions.{least_operand}
 use Rattle.c_grammar.proofs.Families.{one}
@@ -29,6 +29,9 @@ least_path n = record { more = sample sign.Id ∷ []; tree = syntax.path_of (syn
 
 starred : (y : List Token) → (syntax.at sign.Star then syntax.path) (sample sign.Star ∷ (sample sign.Id ∷ y)) y ((sample sign.Star).at, syntax.path_of (syntax.name_of (sample sign.Id), []))
 starred y = and_then _ (at_tok sign.Star (real sign.Star tt) _) (single y)
+
+pub least_inside : (n : ℕ) → Alive (λ n. inside_part) no_sign n []
+least_inside n = record { more = sample sign.Star ∷ (sample sign.Id ∷ []); tree = inr ((sample sign.Star).at, syntax.path_of (syntax.name_of (sample sign.Id), [])); reads = λ y h. inr (make inr (starred y)) }
 
 pub least_sized : (n : ℕ) → Alive (λ n. sized_part) no_sign n []
 least_sized n = record { more = sample sign.Star ∷ (sample sign.Id ∷ []); tree = inr ((sample sign.Star).at, syntax.path_of (syntax.name_of (sample sign.Id), [])); reads = λ y h. inr (make inr (starred y)) }

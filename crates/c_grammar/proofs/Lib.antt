@@ -11,7 +11,9 @@ pub mod Families
 pub mod Firsts
 pub mod Fix
 pub mod Goods
+pub mod Heads
 pub mod ItemForms
+pub mod ItemLeasts
 pub mod Items
 pub mod Leasts
 pub mod Levels

@@ -2,6 +2,7 @@
 use Rattle.std.specs.Prelude.{◌⊎◌, ℕ, Bool, true, false, List, [], ◌∷◌, Option, Some, None}
 use Rattle.std.proofs.Common.{inl, inr}
 use Rattle.fore_base.specs.declared.place.Place.{Place}
+use Rattle.c_ast.specs.declared.conditions.Cond.{Cond}
 use Rattle.c_ast.specs.declared.items.Field.{Field}
 use Rattle.c_ast.specs.declared.items.Head.{Head}
 use Rattle.c_ast.specs.declared.items.Item.{Item}
@@ -23,13 +24,14 @@ use Rattle.c_ast.specs.declared.statements.Data.{Data}
 use Rattle.c_ast.specs.declared.statements.Data.TheVariants as data'
 use Rattle.c_ast.specs.declared.statements.Declarator.{Declarator}
 use Rattle.c_ast.specs.declared.statements.Declare.TheVariants as declare'
+use Rattle.c_ast.specs.declared.statements.First.{First}
 use Rattle.c_lexer.specs.declared.token.Token.{Token}
 use Rattle.c_grammar.specs.Grammar.{Part, Rule, token, empty, ◌then◌, ◌or◌, Many, Made}
 use Rattle.c_grammar.specs.Items as i
 use Rattle.c_grammar.specs.Items.{braced_fields, Enumerated, enum_body, closed_params, head, head_of}
 use Rattle.c_grammar.specs.Signs.{or_on}
 use Rattle.c_grammar.specs.Syntax as s
-use Rattle.c_grammar.specs.Syntax.{at, name, path, arrow, second, bracketed, optional, declarator, declarator_of, block, rhs}
+use Rattle.c_grammar.specs.Syntax.{at, name, path, arrow, second, bracketed, optional, declarator, declarator_of, declare, simple, cond, first_part, block, rhs}
 use Rattle.c_grammar.specs.declared.signs.Sign.TheVariants as sign
 use Rattle.c_grammar.specs.inner.Sets.{Signs, among, commas, begins_declare, begins_stmt, begins_cond, cond_goes_on}
 
@@ -194,3 +196,13 @@ simple_goes_on = among (sign.Arrow ∷ (sign.Open ∷ (sign.Id ∷ (sign.Free �
 
 abbrev pub maybe_cond_goes_on : Signs
 maybe_cond_goes_on s = or_on (cond_goes_on s) (begins_cond s)
+
+-- the head of a `for`: its place, what stands first, its condition and its step
+abbrev pub HeadOfFor : Type 0
+HeadOfFor = Place × First × Option Cond × Option Simple
+
+abbrev pub for_head_of : Place × (Token × (First × (Option Cond × (Token × (Option Simple × Token))))) → HeadOfFor
+for_head_of p = (p.0, p.1.1.0, p.1.1.1.0, p.1.1.1.1.1.0)
+
+abbrev pub for_head : Rule HeadOfFor
+for_head n = Made for_head_of (at sign.For then token sign.Open then first_part (declare n) (simple n) then optional (cond n) then token sign.Semicolon then optional (simple n) then token sign.Close)

@@ -1,0 +1,16 @@
+use Rattle.std.proofs.Common.{◌∙◌, sym}
+use Rattle.c_grammar.specs.inner.Faults.Fails.{no_memory}
+use Rattle.c_parser.specs.inner.Bounds.{Stops}
+use Rattle.c_grammar.specs.inner.Shapes.{a_literal}
+use Rattle.c_grammar.proofs.Literals.{takes_null, takes_true, takes_false, takes_number, no_literal}
+use Rattle.c_grammar.proofs.Steps.{passed}
+use Rattle.c_parser.proofs.operands.literal.Goals as goal
+
+pub returns-in_ok-token-in-Null-clause-ok : goal.returns-in_ok-token-in-Null-clause-ok
+returns-in_ok-token-in-Null-clause-ok c = let t = c.in_ok-token-in-Null.ensures.ok in takes_null _ _ _ _ t.0 t.1
+
+pub returns-in_ok-token-in-True-clause-ok : goal.returns-in_ok-token-in-True-clause-ok
+returns-in_ok-token-in-True-clause-ok c = let t = c.in_ok-token-in-True.ensures.ok in takes_true _ _ _ _ t.0 t.1
+
+pub returns-in_ok-token-in-False-clause-ok : goal.returns-in_ok-token-in-False-clause-ok
+returns-in_ok-token-in-False-clause-ok c = let t = c.in_ok-token-in-False.ensures.ok in takes_false _ _ _ _ t.0 t.1
