@@ -7,7 +7,7 @@ use Rattle.ta_core.specs.declared.arc.Arc.{Arc}
 use Rattle.ta_core.specs.declared.tree.Tree.{Tree}
 use Rattle.ta_core.specs.Auto.{Automaton, IsRankedRule}
 use Rattle.ta_core.specs.inner.Closing.{Reached, reach, ReachedAll, reach_none, reach_more}
-use Rattle.ta_core.specs.Language.{RunOf, run, RunEach, run_none, run_more, HasTree, IsBarren}
+use Rattle.ta_core.specs.Language.{RunOf, run, RunEach, run_none, run_more, InLanguage, HasTree, IsBarren}
 use Rattle.fore_base.specs.Marks.{MarksOf, some_marked}
 use Rattle.ta_core.specs.inner.Arcs.{up_arc}
 use Rattle.fore_base.proofs.ListLemmas.{in_map, in_mapped}
@@ -58,3 +58,11 @@ barren a marks b m e = (
   λ h t l. true≢false (sym (e ∙ some_to marks a.roots l.0 l.1 (m.each l.0 (t, l.2))) ∙ not_true b h),
   λ h. true_not b (λ y. let s = some_from marks a.roots (sym e ∙ y) in let t = m.only s.0 s.2 in h t.0 (s.0, s.1, t.1)),
 )
+
+-- where some root state has a mark, a tree is accepted
+pub accepts_some : (a : Automaton) (marks : List Bool) (b : Bool) → MarksOf a.states (HasTree a.rules) marks → b ≡ some_marked marks a.roots → not b ≡ false → (t : Tree) × InLanguage a t
+accepts_some a marks b m e h = let s = some_from marks a.roots (sym e ∙ not_false b h) in let t = m.only s.0 s.2 in (t.0, (s.0, s.1, t.1))
+  where
+    not_false : (b : Bool) → not b ≡ false → b ≡ true
+    not_false true h = refl
+    not_false false h = absurd (true≢false h)

@@ -54,6 +54,12 @@ child_missing h = let e = h.1.0.2 in omega (arith, e)
 root_too_high : IsRanked (automaton 1 (1 ∷ []) []) → ⊥
 root_too_high h = let l = h.0.0 in omega (arith, l)
 
+state_too_high : IsRanked (automaton 1 [] (rule 1 Null [] ∷ [])) → ⊥
+state_too_high h = let l = h.1.0.0 in omega (arith, l)
+
+child_too_high : IsRanked (automaton 1 [] (rule 0 n (1 ∷ []) ∷ [])) → ⊥
+child_too_high h = let l = h.1.0.1.0 in omega (arith, l)
+
 -- Null and n(Null) have runs to state 0
 null_runs : RunOf lists.rules 0 (tree_of Null [])
 null_runs = run_tree lists.rules (rule 0 Null []) [] (inr (inl refl)) run_none

@@ -1,10 +1,11 @@
 ghost use Rattle.std.specs.Prelude.{◌≡◌, ◌↔◌, ◌<◌, IsTrue, IfOk, List};
-ghost use Rattle.fore_base.specs.Lists.{Every, Paired};
+ghost use Rattle.fore_base.specs.Lists.{Every};
 ghost use Rattle.ta_core.specs.Language.{InLanguage};
 ghost use Rattle.fore_base.specs.Marks.{MarksOf, marked_each};
-ghost use Rattle.ta_core.specs.Tops.{IsTopRule, Tops, AreStatesOf};
+ghost use Rattle.ta_core.specs.Tops.{IsTopRule, Tops};
 
 use crate::auto::{Auto, Rule};
+use crate::running::run_states;
 use crate::symbol::Symbol;
 use crate::tree::Tree;
 use fore_base::list::List;
@@ -12,7 +13,11 @@ use fore_base::marks::{is_marked, is_some_marked, mark, unmarked};
 use fore_base::memory::Mem;
 use std::alloc::Global;
 
-/// Whether the tree is in the automaton's language. Err is want of memory.
+/// Whether the tree is in the automaton's language.
+///
+/// # Errors
+///
+/// Want of memory.
 pub fn accepts(alloc: Global, auto: &Auto, tree: &Tree) -> Mem<bool>
     ensures { IfOk result (λ yes. IsTrue yes ↔ InLanguage auto.now tree.now) }
 {
@@ -20,31 +25,11 @@ pub fn accepts(alloc: Global, auto: &Auto, tree: &Tree) -> Mem<bool>
     Ok(is_some_marked(states.as_slice(), auto.roots.as_slice()))
 }
 
-/// The states to which the tree has a run.
-#[cycle(run_states)]
-fn run_states(alloc: Global, rules: &[Rule], states: u32, tree: &Tree) -> Mem<List<bool>>
-    requires { Every (λ r. r.state < states) rules.now }
-    ensures { IfOk result (AreStatesOf rules.now states tree.now) }
-{
-    let sets = run_sets(alloc, rules, states, tree.children.as_slice())?;
-    top_states(alloc, rules, states, &tree.symbol, &sets)
-}
-
-/// For each tree the states to which it has a run.
-#[cycle(run_states)]
-fn run_sets(alloc: Global, rules: &[Rule], states: u32, trees: &[Tree]) -> Mem<List<List<bool>>>
-    requires { Every (λ r. r.state < states) rules.now }
-    ensures { IfOk result (Paired (AreStatesOf rules.now states) trees.now) }
-{
-    let mut sets = List::new(alloc);
-    for tree in trees {
-        let set = run_states(alloc, rules, states, tree)?;
-        sets.push(set)?;
-    }
-    Ok(sets)
-}
-
-/// The states to which a tree with this symbol has a run, by those of its children. Err is want of memory.
+/// The states to which a tree with this symbol has a run, by those of its children.
+///
+/// # Errors
+///
+/// Want of memory.
 pub fn top_states(
     alloc: Global,
     rules: &[Rule],

@@ -6,6 +6,7 @@ ghost use Rattle.fore_base.specs.Marks.{MarksOf};
 ghost use Rattle.ta_core.specs.inner.Closing.{Reached, AreReached, IsTaken, Takes, gaps};
 
 use crate::arc::Arc;
+use crate::rounds::{Rounds, settle};
 use fore_base::list::List;
 use fore_base::marks::{are_all_marked, is_marked, mark, unmarked};
 use fore_base::memory::Mem;
@@ -17,8 +18,32 @@ pub fn reached(alloc: Global, states: u32, arcs: &[Arc]) -> Mem<List<bool>>
     ensures { IfOk result (MarksOf states (Reached arcs.now)) }
 {
     let mut marks = unmarked(alloc, states as usize)?;
-    'rounds: while take_all(&mut marks, arcs) {}
+    let marking = Marking { states, arcs };
+    settle(&marking, &mut marks)?;
     Ok(marks)
+}
+
+/// What marks the states below `states` that the arcs reach.
+#[derive(Clone, Copy)]
+struct Marking<'a> {
+    states: u32,
+    arcs: &'a [Arc],
+}
+
+impl Rounds<List<bool>> for Marking<'_> {
+    ghost use Rattle.std.specs.Prelude.{◌≡◌, ◌<◌, length};
+    ghost use Rattle.fore_base.specs.Lists.{Every};
+    ghost use Rattle.ta_core.specs.inner.Closing.{AreReached, IsTaken, gaps};
+
+    ghost keeps = { λ m marks. Every (λ s. s.to < m.states) m.arcs.now × (length marks ≡ m.states) × AreReached m.arcs.now marks };
+
+    ghost is_settled = { λ m marks. Every (IsTaken marks) m.arcs.now };
+
+    ghost left = { λ m marks. gaps marks };
+
+    fn round(&self, marks: &mut List<bool>) -> Mem<bool> {
+        Ok(take_all(marks, self.arcs))
+    }
 }
 
 /// Takes each arc once, and says whether a mark was added.

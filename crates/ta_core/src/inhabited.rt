@@ -1,5 +1,6 @@
-ghost use Rattle.std.specs.Prelude.{◌≡◌, ◌↔◌, IsTrue, IfOk, map};
-ghost use Rattle.ta_core.specs.Language.{IsBarren, HasTree};
+ghost use Rattle.std.specs.Prelude.{◌≡◌, ◌↔◌, false, IsTrue, IfOk, map};
+ghost use Rattle.ta_core.specs.Language.{IsBarren, InLanguage, HasTree};
+ghost use Rattle.ta_core.specs.declared.tree.Tree.{Tree};
 ghost use Rattle.fore_base.specs.Marks.{MarksOf};
 ghost use Rattle.ta_core.specs.inner.Arcs.{up_arc};
 
@@ -11,15 +12,24 @@ use fore_base::marks::is_some_marked;
 use fore_base::memory::Mem;
 use std::alloc::Global;
 
-/// Whether the automaton accepts no tree. Err is want of memory.
+/// Whether the automaton accepts no tree. Where it says no, there is one.
+///
+/// # Errors
+///
+/// Want of memory.
 pub fn is_empty(alloc: Global, auto: &Auto) -> Mem<bool>
-    ensures { IfOk result (λ yes. IsTrue yes ↔ IsBarren auto.now) }
+    ensures empty { IfOk result (λ yes. IsTrue yes ↔ IsBarren auto.now) }
+    ensures tree { IfOk result (λ yes. yes ≡ false → (t : Tree) × InLanguage auto.now t) }
 {
     let marks = inhabited(alloc, auto)?;
     Ok(!is_some_marked(marks.as_slice(), auto.roots.as_slice()))
 }
 
 /// The states to which some tree has a run.
+///
+/// # Errors
+///
+/// Want of memory.
 pub fn inhabited(alloc: Global, auto: &Auto) -> Mem<List<bool>>
     ensures { IfOk result (MarksOf auto.now.states (HasTree auto.now.rules)) }
 {

@@ -9,7 +9,11 @@ use fore_base::list::{Copies, List};
 use fore_base::memory::Mem;
 use std::alloc::{AllocError, Global};
 
-/// The number of states when `more` are added to those of the automaton. Where it does not fit 32 bits the answer is want of memory.
+/// The number of states when `more` are added to those of the automaton. Takes no memory.
+///
+/// # Errors
+///
+/// Want of memory, exactly where the number does not fit 32 bits.
 pub fn room(auto: &Auto, more: u32) -> Mem<u32>
     ensures { MatchResult result (λ states. states ≡ auto.now.states + more) (λ _. 2 ^ 32 ≤ auto.now.states + more) }
 {
@@ -19,7 +23,11 @@ pub fn room(auto: &Auto, more: u32) -> Mem<u32>
     }
 }
 
-/// The automaton with `by` added to each state. Its states are all below the new number, and those below `by` have no rule. Err is want of memory.
+/// The automaton with `by` added to each state. Its states are all below the new number, and those below `by` have no rule.
+///
+/// # Errors
+///
+/// Want of memory.
 pub fn rename(alloc: Global, auto: &Auto, by: u32) -> Mem<Auto>
     requires { auto.now.states + by < 2 ^ 32 }
     ensures value { IfOk result (λ made. made ≡ shifted by auto.now) }
@@ -34,7 +42,11 @@ pub fn rename(alloc: Global, auto: &Auto, by: u32) -> Mem<Auto>
     })
 }
 
-/// An automaton for the trees of either: the states of the left one, and behind them those of the right one. Err is want of memory.
+/// An automaton for the trees of either: the states of the left one, and behind them those of the right one.
+///
+/// # Errors
+///
+/// Want of memory.
 pub fn union(alloc: Global, left: &Auto, right: &Auto) -> Mem<Auto>
     requires { left.now.states + right.now.states < 2 ^ 32 }
     ensures value { IfOk result (λ made. made ≡ united left.now right.now) }

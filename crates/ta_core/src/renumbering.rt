@@ -9,7 +9,11 @@ use fore_base::list::{Copies, List};
 use fore_base::memory::Mem;
 use std::alloc::Global;
 
-/// The automaton in which each state is its number in the table, below `states`. States with one number are joined. Err is want of memory.
+/// The automaton in which each state is its number in the table, below `states`. States with one number are joined.
+///
+/// # Errors
+///
+/// Want of memory.
 pub fn renumber(alloc: Global, auto: &Auto, numbers: &[u32], states: u32) -> Mem<Auto>
     requires long { length numbers.now ≡ auto.now.states }
     requires low { Every (λ n. n < states) numbers.now }
@@ -36,6 +40,10 @@ fn with_numbers_each(alloc: Global, rules: &[Rule], numbers: &[u32]) -> Mem<List
 }
 
 /// The rule in which each state is its number in the table.
+///
+/// # Errors
+///
+/// Want of memory.
 pub fn with_numbers(alloc: Global, rule: &Rule, numbers: &[u32]) -> Mem<Rule>
     ensures { IfOk result (λ made. made ≡ renumbered (λ q. slice_index numbers.now q) rule.now) }
 {

@@ -5,6 +5,7 @@ ghost use Rattle.fore_base.specs.Lists.{Every};
 ghost use Rattle.ta_core.specs.inner.Sizes.{size_at, plus, rule_size, is_less, IsSettled, AreReal, AreLeast, Improves, size_sum};
 
 use crate::auto::Rule;
+use crate::rounds::{Rounds, settle};
 use fore_base::list::List;
 use fore_base::memory::Mem;
 use std::alloc::Global;
@@ -15,8 +16,32 @@ pub fn least_sizes(alloc: Global, states: u32, rules: &[Rule]) -> Mem<List<Optio
     ensures { IfOk result (AreLeast rules.now) }
 {
     let mut sizes = no_sizes(alloc, states)?;
-    'rounds: while improve_all(&mut sizes, rules) {}
+    let improving = Improving { states, rules };
+    settle(&improving, &mut sizes)?;
     Ok(sizes)
+}
+
+/// What finds smaller trees by the rules.
+#[derive(Clone, Copy)]
+struct Improving<'a> {
+    states: u32,
+    rules: &'a [Rule],
+}
+
+impl Rounds<List<Option<u64>>> for Improving<'_> {
+    ghost use Rattle.std.specs.Prelude.{◌≡◌, ◌<◌, length};
+    ghost use Rattle.fore_base.specs.Lists.{Every};
+    ghost use Rattle.ta_core.specs.inner.Sizes.{AreReal, IsSettled, size_sum};
+
+    ghost keeps = { λ i sizes. Every (λ r. r.state < i.states) i.rules.now × (length sizes ≡ i.states) × AreReal i.rules.now sizes };
+
+    ghost is_settled = { λ i sizes. Every (IsSettled sizes) i.rules.now };
+
+    ghost left = { λ i sizes. size_sum sizes };
+
+    fn round(&self, sizes: &mut List<Option<u64>>) -> Mem<bool> {
+        Ok(improve_all(sizes, self.rules))
+    }
 }
 
 fn no_sizes(alloc: Global, states: u32) -> Mem<List<Option<u64>>>

@@ -1,17 +1,20 @@
-ghost use Rattle.std.specs.Prelude.{◌∷◌, ◌++◌, ◌↔◌, List, [], ℕ, IsTrue, IfOk, IsSome, MatchOption};
-ghost use Rattle.fore_base.specs.Lists.{IsIn, Every, Paired};
+ghost use Rattle.std.specs.Prelude.{◌∷◌, ◌++◌, List, [], ℕ, IfOk, MatchOption};
 ghost use Rattle.ta_core.specs.Language.{IsBarren, IsSmallest};
-ghost use Rattle.ta_core.specs.inner.Sizes.{size_at, AreLeast, IsLeastRule, IsTreeAt, IsBest};
+ghost use Rattle.ta_core.specs.inner.Sizes.{IsBest};
 
-use crate::auto::{Auto, Rule};
+use crate::auto::Auto;
+use crate::growing::tree_at;
 use crate::inhabited::is_empty;
-use crate::sizes::{least_sizes, less, size_of, size_of_rule};
+use crate::sizes::{least_sizes, less, size_of};
 use crate::tree::Tree;
-use fore_base::list::{Copies, List};
 use fore_base::memory::Mem;
 use std::alloc::{AllocError, Global};
 
-/// A tree of the language with the fewest nodes, None where the language is empty. Err is want of memory; this is also the answer where each tree has more nodes than 64 bits count, which no memory holds.
+/// A tree of the language with the fewest nodes, None where the language is empty.
+///
+/// # Errors
+///
+/// Want of memory. Each tree that has more nodes than 64 bits count is more than memory holds, so this is the answer where there are only such ones.
 pub fn smallest_tree(alloc: Global, auto: &Auto) -> Mem<Option<Tree>>
     ensures { IfOk result (λ found. MatchOption found (IsBarren auto.now) (IsSmallest auto.now)) }
 {
@@ -60,56 +63,4 @@ fn better_root(sizes: &[Option<u64>], best: Option<u32>, root: u32) -> Option<u3
             }
         }
     }
-}
-
-/// A tree of the size at the state, with a run to it.
-#[cycle(tree_at)]
-fn tree_at(alloc: Global, rules: &[Rule], sizes: &[Option<u64>], state: u32) -> Mem<Tree>
-    requires least { AreLeast rules.now sizes.now }
-    requires there { IsSome (size_at sizes.now state) }
-    ensures { IfOk result (IsTreeAt rules.now sizes.now state) }
-{
-    match least_rule(rules, sizes, state) {
-        Some(rule) => {
-            let children = trees_at(alloc, rules, sizes, rule.children.as_slice())?;
-            Ok(Tree {
-                symbol: rule.symbol.copy(alloc)?,
-                children,
-            })
-        }
-        None => unreachable!(),
-    }
-}
-
-/// For each state such a tree.
-#[cycle(tree_at)]
-fn trees_at(alloc: Global, rules: &[Rule], sizes: &[Option<u64>], states: &[u32]) -> Mem<List<Tree>>
-    requires least { AreLeast rules.now sizes.now }
-    requires there { Every (λ q. IsSome (size_at sizes.now q)) states.now }
-    ensures { IfOk result (Paired (IsTreeAt rules.now sizes.now) states.now) }
-{
-    let mut trees = List::new(alloc);
-    for state in states {
-        let tree = tree_at(alloc, rules, sizes, *state)?;
-        trees.push(tree)?;
-    }
-    Ok(trees)
-}
-
-/// The first rule that gives a tree of the size at the state.
-fn least_rule<'a>(rules: &'a [Rule], sizes: &[Option<u64>], state: u32) -> Option<&'a Rule>
-    ensures { MatchOption result (Every (λ r. IsLeastRule sizes.now state r → ⊥) rules.entry.now) (λ r. IsIn r.now rules.entry.now × IsLeastRule sizes.now state r.now) }
-{
-    for rule in rules {
-        if is_least(sizes, state, rule) {
-            return Some(rule);
-        }
-    }
-    None
-}
-
-fn is_least(sizes: &[Option<u64>], state: u32, rule: &Rule) -> bool
-    ensures { IsTrue result ↔ IsLeastRule sizes.now state rule.now }
-{
-    rule.state == state && size_of_rule(sizes, rule) == size_of(sizes, state)
 }

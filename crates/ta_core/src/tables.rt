@@ -36,7 +36,11 @@ pub struct Line<'a>(pub u32, pub Sign, pub &'a [u32]);
 #[derive(Clone, Copy, Debug)]
 pub struct Plan<'a>(pub u32, pub &'a [u32], pub &'a [Line<'a>]);
 
-/// The automaton of the plan, None where its states or its numbers of children do not fit. Err is want of memory.
+/// The automaton of the plan. None exactly where a state is not below the number of states, or a rule has more or fewer children than its symbol.
+///
+/// # Errors
+///
+/// Want of memory.
 pub fn automaton(alloc: Global, plan: Plan) -> Mem<Option<Auto>>
     ensures { IfOk result (λ made. SomeIff made (IsRanked (planned plan.entry)) (planned plan.entry)) }
 {
@@ -46,7 +50,11 @@ pub fn automaton(alloc: Global, plan: Plan) -> Mem<Option<Auto>>
     Ok(Auto::from_parts(states, roots, rules))
 }
 
-/// The rules of the lines. Err is want of memory.
+/// The rules of the lines.
+///
+/// # Errors
+///
+/// Want of memory.
 pub fn rules(alloc: Global, lines: &[Line]) -> Mem<List<Rule>>
     ensures { IfOk result (λ made. made ≡ map line_rule lines.now) }
 {
@@ -58,7 +66,11 @@ pub fn rules(alloc: Global, lines: &[Line]) -> Mem<List<Rule>>
     Ok(made)
 }
 
-/// The rule of the line. Err is want of memory.
+/// The rule of the line.
+///
+/// # Errors
+///
+/// Want of memory.
 pub fn rule(alloc: Global, line: Line) -> Mem<Rule>
     ensures { IfOk result (λ made. made ≡ line_rule line.entry) }
 {
@@ -70,7 +82,11 @@ pub fn rule(alloc: Global, line: Line) -> Mem<Rule>
     })
 }
 
-/// The symbol that the sign stands for. Err is want of memory.
+/// The symbol that the sign stands for.
+///
+/// # Errors
+///
+/// Want of memory.
 pub fn symbol(alloc: Global, sign: Sign) -> Mem<Symbol>
     ensures { IfOk result (λ made. made ≡ sign_symbol sign) }
 {

@@ -14,7 +14,11 @@ use fore_base::marks::{are_all_marked, is_marked};
 use fore_base::memory::Mem;
 use std::alloc::Global;
 
-/// The automaton with the states alone that take part in the run of some accepted tree, numbered anew in their order, and the rules over these. Err is want of memory.
+/// The automaton with the states alone that take part in the run of some accepted tree, numbered anew in their order, and the rules over these.
+///
+/// # Errors
+///
+/// Want of memory.
 pub fn trim(alloc: Global, auto: &Auto) -> Mem<Auto>
     ensures language { IfOk result (λ made. HasSameLanguage auto.now made) }
     ensures trim { IfOk result IsTrim }

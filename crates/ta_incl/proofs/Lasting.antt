@@ -106,13 +106,14 @@ module _ (b : Automaton) (old added : List Found) (recent : Recent) (last : AreL
 pub grown : (rules : List Rule) (b : Automaton) (recent : Recent) (old added new : List Found) (n m : ℕ) → new ≡ old ++ added → n ≡ length old → m ≡ length new → m < 2 ^ 64 → AreLasting old recent.marks → (0 < recent.start → CoversRules b (take recent.start old) old rules) → Widens (IsDerived rules b old) old [] added → Every (λ r. CoversFrom b old recent (old ++ added) r []) rules → Grows rules b old new n (nat_lt n m)
 grown rules b recent old added new n m e l k f last closed w now = (
   which (nat_lt n m) refl,
+  l,
   subst (λ (found : List Found). CoversRules b old found rules) (sym e) (rules_covered b old added recent last rules closed now),
 )
   where
     long : length new ≡ length old + length added
     long = ap length e ∙ length-append old added
 
-    which : (t : Bool) → nat_lt n m ≡ t → MatchBool t (Widens (IsDerived rules b old) [] old new × (length old < length new) × (length new < 2 ^ 64) × (n ≡ length old)) (new ≡ old)
+    which : (t : Bool) → nat_lt n m ≡ t → MatchBool t (Widens (IsDerived rules b old) [] old new × (length old < length new) × (length new < 2 ^ 64)) (new ≡ old)
     which true t = let i = ltb-true n m t in (
       record {
         more = added;
@@ -122,6 +123,5 @@ grown rules b recent old added new n m e l k f last closed w now = (
       },
       omega (arith, i, l, k),
       omega (arith, f, k),
-      l,
     )
     which false t = let i = ltb-false n m t in let j = long in e ∙ ap (λ (xs : List Found). old ++ xs) (nil_from_length added (omega (arith, i, j, l, k))) ∙ append-nil old

@@ -6,5 +6,6 @@ pub mod Keeping
 pub mod Lasting
 pub mod Places
 mod Rows
+pub mod Rounding
 pub mod Tasks
 pub mod Trees

@@ -1,11 +1,10 @@
-// The search: which pairs the rules of the left automaton give, from the leaves upward.
+// One round of the search: which pairs the rules of the left automaton give over those that are there.
 
 ghost use Rattle.std.specs.Prelude.{◌≡◌, ◌↔◌, ◌<◌, List, [], ◌++◌, ◌∷◌, length, take, IsTrue, IfOk, OnOk};
 ghost use Rattle.fore_base.specs.Lists.{Every};
 ghost use Rattle.fore_base.specs.Marks.{IsMarked};
 ghost use Rattle.ta_incl.specs.inner.Founds.{AreAt, sets_of, IsBegun, IsFull, IsFrom, IsDerived, AreLasting, all_below, are_old, CoversAt, CoversFrom, CoversRules, Widens, Grows, IsExplored};
 
-use crate::failing::failing;
 use crate::found::{Found, is_covered, lasting, mark_at};
 use fore_base::list::{Copies, List};
 use fore_base::memory::Mem;
@@ -13,25 +12,8 @@ use std::alloc::Global;
 use ta_core::accepting::top_states;
 use ta_core::auto::{Auto, Rule};
 
-/// The pairs that are found until one fails, or no rule gives a further one.
-pub fn explored(alloc: Global, left: &Auto, right: &Auto) -> Mem<List<Found>>
-    ensures { IfOk result (IsExplored left.now right.now) }
-{
-    let mut found = List::new(alloc);
-    let mut start = 0;
-    'rounds: while failing(
-        left.roots.as_slice(),
-        right.roots.as_slice(),
-        found.as_slice(),
-    )
-    .is_none()
-        && grow(alloc, left.rules.as_slice(), right, &mut start, &mut found)?
-    {}
-    Ok(found)
-}
-
 /// Takes each rule once over the pairs that are there, those from `start` on being the pairs of the last round, and says whether this gave a further one. `start` is moved to the first further one.
-fn grow(
+pub fn grow(
     alloc: Global,
     rules: &[Rule],
     right: &Auto,

@@ -1,16 +1,17 @@
 // The tree by which a pair was found. What is still to be done for it stands in a list, so that no call goes as deep as the tree.
 
-ghost use Rattle.std.specs.Prelude.{◌≡◌, ◌++◌, ◌<◌, ◌≤◌, ℕ, Some, slice_get, length, map, reverse, IfOk, OnOk};
+ghost use Rattle.std.specs.Prelude.{◌≡◌, ◌++◌, ◌<◌, ◌≤◌, Some, slice_get, length, map, IfOk, OnOk};
 ghost use Rattle.ta_core.specs.Auto.{Automaton};
-ghost use Rattle.ta_incl.specs.declared.growing.Task.TheVariants.{Open};
+ghost use Rattle.ta_core.specs.inner.Tasks.{visit};
 ghost use Rattle.ta_incl.specs.inner.Founds.{AreDerived, IsTreeAt};
-ghost use Rattle.ta_incl.specs.inner.Tasks.{Opens, Closes};
+ghost use Rattle.ta_incl.specs.inner.Tasks.{seen, Opens, Closes};
 
 use crate::found::Found;
 use fore_base::list::{Copies, List};
 use fore_base::memory::Mem;
 use std::alloc::Global;
 use ta_core::auto::Rule;
+use ta_core::results::last;
 use ta_core::tree::Tree;
 
 /// What is still to be done: the tree of the pair at this place, or the same where the trees of its children are made.
@@ -44,7 +45,7 @@ pub fn tree_at(alloc: Global, rules: &List<Rule>, found: &[Found], place: usize)
 /// Asks for the trees of the pair's children, and then for its own.
 fn open(found: &[Found], place: usize, tasks: &mut List<Task>) -> Mem<()>
     requires { place < length found.now }
-    ensures { OnOk result (Opens found.now place tasks.old tasks.new) }
+    ensures { OnOk result (Opens found.now place (map seen tasks.old) (map seen tasks.new)) }
 {
     tasks.push(Task::Close(place))?;
     ask(found[place].from.as_slice(), tasks)
@@ -52,7 +53,7 @@ fn open(found: &[Found], place: usize, tasks: &mut List<Task>) -> Mem<()>
 
 /// Asks for the trees of the pairs at these places.
 fn ask(places: &[usize], tasks: &mut List<Task>) -> Mem<()>
-    ensures { OnOk result (tasks.new ≡ tasks.old ++ map Open places.now) }
+    ensures { OnOk result (map seen tasks.new ≡ map seen tasks.old ++ map visit places.now) }
 {
     for place in places {
         tasks.push(Task::Open(*place))?;
@@ -77,20 +78,4 @@ fn close(
     let children = last(alloc, trees, pair.from.len())?;
     let symbol = rules.at(pair.rule).symbol.copy(alloc)?;
     trees.push(Tree { symbol, children })
-}
-
-/// So many trees, taken off the end, the last one first.
-fn last(alloc: Global, trees: &mut List<Tree>, count: usize) -> Mem<List<Tree>>
-    requires { count ≤ length trees.old }
-    ensures long { IfOk result (λ off. length off ≡ count) }
-    ensures off { IfOk result (λ off. reverse trees.old ≡ off ++ reverse trees.new) }
-{
-    let mut off = List::new(alloc);
-    for _i in 0..count {
-        match trees.pop() {
-            Some(tree) => off.push(tree)?,
-            None => unreachable!(),
-        }
-    }
-    Ok(off)
 }

@@ -5,10 +5,10 @@ ghost use Rattle.ta_core.specs.Language.{IsWithin};
 ghost use Rattle.ta_incl.specs.Inclusions.{IsAntichain, IsClosed, MeetsRoots, IsMissing, IfYes, IfNo};
 ghost use Rattle.ta_incl.specs.inner.Answers.{Answers};
 
-use crate::exploring::explored;
 use crate::failing::failing;
 use crate::growing::tree_at;
 use crate::inclusion::Inclusion;
+use crate::searching::explored;
 use crate::thinning::{pairs_of, thinned};
 use fore_base::memory::Mem;
 use std::alloc::Global;

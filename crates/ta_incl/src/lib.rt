@@ -2,7 +2,7 @@
 //!
 //! - `included` says whether each tree of one automaton is one of another, with pairs that show it or a tree that refutes it; `is_included` says it alone, and makes no tree.
 //! - `Inclusion` is the answer, and `Pair` what a Yes carries: a state of the left automaton with a set of states of the right one.
-//! - The search (`exploring`) finds pairs from the leaves upward, round by round; `failing` finds one that shows a No, `growing` makes its tree, and `thinning` keeps the pairs of a Yes.
+//! - The search (`searching`) finds pairs from the leaves upward, round by round (`exploring`); `failing` finds one that shows a No, `growing` makes its tree, and `thinning` keeps the pairs of a Yes.
 #![tactic(auto)]
 
 pub mod crossing;
@@ -12,8 +12,7 @@ mod found;
 mod growing;
 pub mod including;
 pub mod inclusion;
-#[cfg(test)]
-mod tests;
+mod searching;
 mod thinning;
 
 pub use including::{included, is_included};

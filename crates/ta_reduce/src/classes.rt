@@ -15,7 +15,11 @@ pub struct Classes {
     pub firsts: List<u32>,
 }
 
-/// The classes of states that are related both ways. Err is want of memory.
+/// The classes of states that are related both ways.
+///
+/// # Errors
+///
+/// Want of memory.
 pub fn classes_of(alloc: Global, relation: &Relation) -> Mem<Classes>
     requires { IsPreorder relation.now }
     ensures { IfOk result (λ made. AreClasses relation.now relation.now.size made.numbers made.firsts) }

@@ -12,7 +12,11 @@ use std::alloc::Global;
 use ta_core::auto::{Auto, Rule};
 use ta_sim::relation::{Relation, are_related};
 
-/// The automaton without needless rules, None where it has none. Err is want of memory.
+/// The automaton without needless rules, None where it has none.
+///
+/// # Errors
+///
+/// Want of memory.
 pub fn with_fewer_rules(alloc: Global, auto: &Auto, relation: &Relation) -> Mem<Option<Auto>>
     requires greatest { IsGreatest auto.now relation.now }
     requires preorder { IsPreorder relation.now }

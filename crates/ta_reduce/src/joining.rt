@@ -10,7 +10,11 @@ use ta_core::auto::Auto;
 use ta_core::renumbering::renumber;
 use ta_sim::relation::Relation;
 
-/// The automaton in which each class of states is one. Err is want of memory.
+/// The automaton in which each class of states is one.
+///
+/// # Errors
+///
+/// Want of memory.
 pub fn join(alloc: Global, auto: &Auto, relation: &Relation, classes: &Classes) -> Mem<Auto>
     requires greatest { IsGreatest auto.now relation.now }
     requires classes { AreClasses relation.now auto.now.states classes.now.numbers classes.now.firsts }

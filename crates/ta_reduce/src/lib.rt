@@ -6,5 +6,3 @@ mod dropping;
 mod joining;
 pub mod reducing;
 mod rooting;
-#[cfg(test)]
-mod tests;

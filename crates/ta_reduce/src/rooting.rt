@@ -9,7 +9,11 @@ use fore_base::memory::Mem;
 use std::alloc::Global;
 use ta_core::auto::Auto;
 
-/// The automaton with each root state listed once. Err is want of memory.
+/// The automaton with each root state listed once.
+///
+/// # Errors
+///
+/// Want of memory.
 pub fn with_roots_once(alloc: Global, auto: &Auto) -> Mem<Auto>
     ensures { IfOk result (HasRootsOnce auto.now) }
 {

@@ -3,3 +3,4 @@ pub mod Groups
 pub mod Related
 pub mod Rounds
 pub mod Simulated
+mod Rows

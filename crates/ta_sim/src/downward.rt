@@ -4,7 +4,7 @@ ghost use Rattle.ta_core.specs.Simulations.{IsDownward, IsSimulated};
 ghost use Rattle.ta_sim.specs.Relations.{Holds};
 
 use crate::grouping::by_state;
-use crate::refining::{all_pairs, refine};
+use crate::refining::{Refining, all_pairs};
 use crate::relation::Relation;
 use fore_base::memory::Mem;
 use par_kit::crew::Crew;
@@ -12,8 +12,13 @@ use par_kit::gate::Gate;
 use std::alloc::Global;
 use std::thread::Threads;
 use ta_core::auto::Auto;
+use ta_core::rounds::settle;
 
-/// The greatest downward simulation on the automaton's states: it is a simulation, and each simulation is within it. The crew runs 1 to 64 jobs and has no bearing on the answer. Err is want of memory.
+/// The greatest downward simulation on the automaton's states: it is a simulation, and each simulation is within it. The crew runs 1 to 64 jobs and has no bearing on the answer.
+///
+/// # Errors
+///
+/// Want of memory.
 pub fn downward<R: Threads + Sync, G: Gate>(
     _rt: &R,
     alloc: Global,
@@ -28,7 +33,13 @@ pub fn downward<R: Threads + Sync, G: Gate>(
     let rules = auto.rules.as_slice();
     let groups = by_state(alloc, rules, auto.states)?;
     let mut rows = all_pairs(alloc, auto.states)?;
-    'rounds: while refine(alloc, rules, groups.as_slice(), auto.states, &mut rows)? {}
+    let refining = Refining {
+        alloc,
+        rules,
+        groups: groups.as_slice(),
+        states: auto.states,
+    };
+    settle(&refining, &mut rows)?;
     Ok(Relation {
         size: auto.states,
         rows,

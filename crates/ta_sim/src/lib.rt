@@ -8,5 +8,3 @@ pub mod laws;
 mod matching;
 mod refining;
 pub mod relation;
-#[cfg(test)]
-mod tests;

@@ -12,6 +12,7 @@ use fore_base::list::List;
 use fore_base::memory::Mem;
 use std::alloc::Global;
 use ta_core::auto::Rule;
+use ta_core::rounds::Rounds;
 
 /// Rows that relate each two states.
 pub fn all_pairs(alloc: Global, states: u32) -> Mem<List<List<bool>>>
@@ -25,8 +26,36 @@ pub fn all_pairs(alloc: Global, states: u32) -> Mem<List<List<bool>>>
     Ok(rows)
 }
 
+/// What takes pairs away from rows.
+#[derive(Clone, Copy)]
+pub struct Refining<'a> {
+    pub alloc: Global,
+    pub rules: &'a [Rule],
+    pub groups: &'a [List<Rule>],
+    pub states: u32,
+}
+
+impl Rounds<List<List<bool>>> for Refining<'_> {
+    ghost use Rattle.fore_base.specs.Lists.{Every};
+    ghost use Rattle.ta_core.specs.Auto.{IsRankedRule};
+    ghost use Rattle.ta_core.specs.Simulations.{IsDownward};
+    ghost use Rattle.ta_sim.specs.Relations.{Relates};
+    ghost use Rattle.ta_sim.specs.inner.Matching.{AreByState};
+    ghost use Rattle.ta_sim.specs.inner.Refining.{AreSquare, Includes, pair_count};
+
+    ghost keeps = { λ r rows. Every (IsRankedRule r.states) r.rules.now × AreByState r.rules.now r.states r.groups.now × AreSquare r.states rows × Includes r.states r.rules.now rows };
+
+    ghost is_settled = { λ r rows. IsDownward r.rules.now (Relates rows) };
+
+    ghost left = { λ r rows. pair_count rows };
+
+    fn round(&self, rows: &mut List<List<bool>>) -> Mem<bool> {
+        refine(self.alloc, self.rules, self.groups, self.states, rows)
+    }
+}
+
 /// Takes away each pair of which the second state has no rule that matches one of the first, by the relation as it was, and says whether there was one.
-pub fn refine(
+fn refine(
     alloc: Global,
     _rules: &[Rule],
     groups: &[List<Rule>],

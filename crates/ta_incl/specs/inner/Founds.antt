@@ -113,9 +113,9 @@ pub record Widens (P : Found → Type 0) (old before after : List Found) : Type 
   pub each : Every P more
   pub fresh : AreFresh (old ++ before) → AreFresh (old ++ after)
 
--- the list got pairs that the rules give over it, which stand from this place on; or it stayed. It covers what the rules give over the old one
+-- the list got pairs that the rules give over it, or it stayed; further ones would stand from this place on. It covers what the rules give over the old one
 abbrev pub Grows : List Rule → Automaton → List Found → List Found → ℕ → Bool → Type 0
-Grows rules b old new start grew = MatchBool grew (Widens (IsDerived rules b old) [] old new × (length old < length new) × (length new < 2 ^ 64) × (start ≡ length old)) (new ≡ old) × CoversRules b old new rules
+Grows rules b old new start grew = MatchBool grew (Widens (IsDerived rules b old) [] old new × (length old < length new) × (length new < 2 ^ 64)) (new ≡ old) × (start ≡ length old) × CoversRules b old new rules
 
 -- the pair has a root state of the left automaton, and none of the right one in its set
 abbrev pub IsFailing : List ℕ → List ℕ → Found → Type 0

@@ -1,41 +1,35 @@
--- What is still to be done for a tree, and the trees that are made.
-use Rattle.std.specs.Prelude.{◌≡◌, ℕ, ◌<◌, List, [], ◌∷◌, ◌++◌, length, map, reverse, slice_get, Some}
+-- What is still to be done for the tree by which a pair was found.
+use Rattle.std.specs.Prelude.{◌≡◌, ℕ, ◌<◌, List, ◌∷◌, ◌++◌, length, map, slice_get, Some}
 use Rattle.ta_core.specs.Auto.{Automaton}
-use Rattle.fore_base.specs.Lists.{Paired}
 use Rattle.ta_core.specs.declared.auto.Rule.{Rule}
-use Rattle.ta_core.specs.declared.symbol.Symbol.{Symbol}
 use Rattle.ta_core.specs.declared.tree.Tree.{Tree, roll-Tree}
+use Rattle.ta_core.specs.inner.Tasks.{Todo, visit, build, Reduces}
 use Rattle.ta_incl.specs.declared.found.Found.{Found}
 use Rattle.ta_incl.specs.declared.growing.Task.{Task}
 use Rattle.ta_incl.specs.declared.growing.Task.TheVariants.{Open, Close}
 use Rattle.ta_incl.specs.inner.Founds.{AreDerived, IsTreeAt}
 
--- the tree of the symbol over these children
-abbrev pub tree_over : Symbol → List Tree → Tree
-tree_over y ts = roll-Tree (record { symbol = y; children = ts })
+-- the task, as one for the pair at a place
+abbrev pub seen : Task → Todo ℕ ℕ
+seen (Open p) = visit p
+seen (Close p) = build p
 
--- a task for the pair's own tree, and behind it, so that they come first, one for each child
-abbrev pub Opens : List Found → ℕ → List Task → List Task → Type 0
-Opens found place old new = (f : Found) × (slice_get found place ≡ Some f) × (new ≡ old ++ Close place ∷ map Open f.from)
+-- there is a pair at the place
+abbrev pub IsPlace : List Found → ℕ → Type 0
+IsPlace found p = p < length found
 
--- as many trees as the pair has children went off the end, the last one as the first child, and the tree of the pair's rule over them came
-pub record Closes (rules : List Rule) (found : List Found) (place : ℕ) (old new : List Tree) : Type 0 where
-  pub pair : Found
-  pub at : slice_get found place ≡ Some pair
-  pub rule : Rule
-  pub of : slice_get rules pair.rule ≡ Some rule
-  pub children : List Tree
-  pub rest : List Tree
-  pub long : length children ≡ length pair.from
-  pub before : reverse old ≡ children ++ rest
-  pub after : reverse new ≡ tree_over rule.symbol children ∷ rest
+-- the tree of the pair at the place is built by itself, over those of the pairs from which it is derived
+abbrev pub IsOver : List Found → ℕ → ℕ → List ℕ → Type 0
+IsOver found p q below = (f : Found) × (p ≡ q) × (slice_get found q ≡ Some f) × (below ≡ f.from)
 
--- where the trees that are made are of the pairs at the places qs, the last one first, the tasks, the last one first, make of them those of the places ps
-abbrev pub Leaves : List Found → List Task → List ℕ → List ℕ → Type 0
-Leaves found [] ps qs = ps ≡ qs
-Leaves found (Open p ∷ tasks) ps qs = (rest : List ℕ) × (ps ≡ p ∷ rest) × (p < length found) × Leaves found tasks rest qs
-Leaves found (Close p ∷ tasks) ps qs = (rest : List ℕ) × (f : Found) × (ps ≡ p ∷ rest) × (slice_get found p ≡ Some f) × Leaves found tasks (f.from ++ rest) qs
+-- the tree is one of the pair at the place, whatever the right automaton is
+abbrev pub GivesTree : List Rule → List Found → ℕ → Tree → Type 0
+GivesTree rules found p t = (b : Automaton) → AreDerived rules b found → IsTreeAt rules b found p t
 
--- the trees that are made are such that the tasks leave the tree of the pair at the place alone
-abbrev pub IsUnderway : List Rule → List Found → ℕ → List Task → List Tree → Type 0
-IsUnderway rules found place tasks trees = (qs : List ℕ) × Leaves found tasks (place ∷ []) qs × ((b : Automaton) → AreDerived rules b found → Paired (IsTreeAt rules b found) qs (reverse trees))
+-- a task for the pair's own tree, and behind it, so that they come first, one for each pair from which it is derived
+abbrev pub Opens : List Found → ℕ → List (Todo ℕ ℕ) → List (Todo ℕ ℕ) → Type 0
+Opens found p old new = (f : Found) × (slice_get found p ≡ Some f) × (new ≡ old ++ build p ∷ map visit f.from)
+
+-- the tree of the symbol of the pair's rule came in the place of those of the pairs from which it is derived
+abbrev pub Closes : List Rule → List Found → ℕ → List Tree → List Tree → Type 0
+Closes rules found p old new = (f : Found) × (r : Rule) × (slice_get found p ≡ Some f) × (slice_get rules f.rule ≡ Some r) × Reduces (length f.from) (λ ts t. t ≡ roll-Tree (record { symbol = r.symbol; children = ts })) old new

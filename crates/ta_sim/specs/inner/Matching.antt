@@ -1,5 +1,5 @@
 -- Which rules match others, by a relation in rows.
-use Rattle.std.specs.Prelude.{◌≡◌, ◌↔◌, ℕ, ◌<◌, Bool, true, false, ◌&&◌, List, [], ◌∷◌, length, slice_index_or}
+use Rattle.std.specs.Prelude.{◌≡◌, ℕ, Bool, true, false, ◌&&◌, List, [], ◌∷◌, length, slice_index_or}
 use Rattle.fore_base.specs.Lists.{IsIn, Every, Paired}
 use Rattle.ta_core.specs.declared.auto.Rule.{Rule}
 use Rattle.ta_sim.specs.Relations.{entry, Relates}

@@ -2,6 +2,4 @@ use Rattle.ta_core.proofs.Reaching.{closed}
 use Rattle.ta_core.proofs.closing.reached.Goals as goal
 
 pub returns : goal.returns
-returns c =
-    let k = c.rounds-test.ensures.added in
-    rw k.0 (closed c.args.arcs.now c.rounds.marks k.1 c.args.states c.rounds.invariant.long c.rounds.invariant.only)
+returns c = let k = c.in_ok-settle.ensures.keeps in closed c.args.arcs.now c.settle.new.value c.in_ok-settle.ensures.settled c.args.states k.1 k.2

@@ -2,7 +2,7 @@ use Rattle.ta_core.proofs.Smaller.{states_low, smallest}
 use Rattle.ta_core.proofs.smallest.smallest_tree.Goals as goal
 
 pub returns-then-branch : goal.returns-then-branch
-returns-then-branch c = c.in_ok-is_empty.ensures.0 c.if-branch.true
+returns-then-branch c = c.in_ok-is_empty.ensures.empty.0 c.if-branch.true
 
 pub least_sizes-requires : goal.least_sizes-requires
 least_sizes-requires c = rw c.as_slice-rules.ensures (states_low _ c.auto.inside.rules c.auto.invariant.1)

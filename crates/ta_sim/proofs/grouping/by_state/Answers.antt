@@ -1,7 +1,6 @@
-use Rattle.std.proofs.Common.{◌<◌, sym, subst, List, take, length}
+use Rattle.std.proofs.Common.{◌<◌, take}
 use Rattle.fore_base.proofs.ListLemmas.{every_at, take_item}
 use Rattle.ta_core.specs.declared.auto.Rule.{Rule}
-use Rattle.ta_sim.specs.inner.Matching.{AreByState}
 use Rattle.ta_sim.proofs.Groups.{by_state_push}
 use Rattle.ta_sim.proofs.grouping.by_state.Goals as goal
 

@@ -1,5 +1,0 @@
-mod building;
-mod checking;
-mod large;
-mod small;
-mod worked;
