@@ -112,10 +112,11 @@ given_below bs x [] h = absurd h
 given_below bs x (y ∷ ss) h = refl
 
 module _ (bs : List BoxFace) (r : ℕ) (rs : List ℕ) where
-  abbrev gives : Slot → Way → List ℕ
+  abbrev pub gives : Slot → Way → List ℕ
   gives s w = given bs (longer rs (s, w)).steps
 
-  given_through : (s : Slot) (ws : List Way) → HaveEdges ws → collect (gives s) r ws ≡ collect (λ w. given bs w.steps) r ws
+  -- what an edge above adds to ways that have edges: nothing
+  pub given_through : (s : Slot) (ws : List Way) → HaveEdges ws → collect (gives s) r ws ≡ collect (λ w. given bs w.steps) r ws
   given_through s [] h = refl
   given_through s (w ∷ ws) h = here (nat_eq r w.root) (given_through s ws h.1)
     where

@@ -1,6 +1,7 @@
 -- One item taken out of rearranged lists.
 use Rattle.std.proofs.Common.{◌≡◌, ◌⊎◌, inl, inr, List, [], ◌∷◌, ◌++◌, refl, sym, ap, subst, ◌∙◌}
-use Rattle.fore_base.specs.Lists.{IsIn}
+use Rattle.fore_base.specs.Lists.{IsIn, IsDistinct}
+use Rattle.fore_base.proofs.ListLemmas.{in_left, in_right}
 use Rattle.fa_core.specs.Rearranged.{Rearranged, empty, keep, swap, chain}
 use Rattle.fa_core.proofs.Rearranging.{same, equal, back}
 
@@ -58,45 +59,23 @@ module _ {X : Type 0} where
   in_rearranged x (swap a b l) (inr (inr h)) = inr (inr h)
   in_rearranged x (chain p q) h = in_rearranged x q (in_rearranged x p h)
 
-  pub in_first : (x : X) (xs ys : List X) → IsIn x xs → IsIn x (xs ++ ys)
-  in_first x [] ys h = absurd h
-  in_first x (y ∷ xs) ys (inl e) = inl e
-  in_first x (y ∷ xs) ys (inr h) = inr (in_first x xs ys h)
-
-  pub in_second : (x : X) (xs ys : List X) → IsIn x ys → IsIn x (xs ++ ys)
-  in_second x [] ys h = h
-  in_second x (y ∷ xs) ys h = inr (in_second x xs ys h)
-
-  pub in_both : (x : X) (xs ys : List X) → IsIn x (xs ++ ys) → IsIn x xs ⊎ IsIn x ys
-  in_both x [] ys h = inr h
-  in_both x (y ∷ xs) ys (inl e) = inl (inl e)
-  in_both x (y ∷ xs) ys (inr h) = more (in_both x xs ys h)
-    where
-      more : IsIn x xs ⊎ IsIn x ys → IsIn x (y ∷ xs) ⊎ IsIn x ys
-      more (inl g) = inl (inr g)
-      more (inr g) = inr g
-
-  -- no item stands twice
-  abbrev pub NoneTwice : List X → Type 0
-  NoneTwice [] = Unit {0}
-  NoneTwice (x ∷ xs) = (IsIn x xs → ⊥) × NoneTwice xs
-
-  pub none_twice_moved : {xs ys : List X} → Rearranged xs ys → NoneTwice xs → NoneTwice ys
-  none_twice_moved empty h = h
-  none_twice_moved (keep y r) (g, h) = (λ i. g (in_rearranged y (back r) i), none_twice_moved r h)
-  none_twice_moved (swap a b l) (g, (h, k)) = (twice, ((λ i. g (inr i)), k))
+  -- no item stands twice in rearranged lists, if none does in the first
+  pub distinct_moved : {xs ys : List X} → Rearranged xs ys → IsDistinct xs → IsDistinct ys
+  distinct_moved empty h = h
+  distinct_moved (keep y r) (g, h) = (λ i. g (in_rearranged y (back r) i), distinct_moved r h)
+  distinct_moved (swap a b l) (g, (h, k)) = (twice, ((λ i. g (inr i)), k))
     where
       twice : IsIn b (a ∷ l) → ⊥
       twice (inl e) = g (inl (sym e))
       twice (inr i) = h i
-  none_twice_moved (chain p q) h = none_twice_moved q (none_twice_moved p h)
+  distinct_moved (chain p q) h = distinct_moved q (distinct_moved p h)
 
   -- an item of the first part is none of the second
-  pub none_in_both : (x : X) (xs ys : List X) → NoneTwice (xs ++ ys) → IsIn x xs → IsIn x ys → ⊥
+  pub none_in_both : (x : X) (xs ys : List X) → IsDistinct (xs ++ ys) → IsIn x xs → IsIn x ys → ⊥
   none_in_both x [] ys h i j = i
-  none_in_both x (y ∷ xs) ys (g, h) (inl e) j = g (in_second y xs ys (subst (λ (z : X). IsIn z ys) e j))
+  none_in_both x (y ∷ xs) ys (g, h) (inl e) j = g (in_right y xs ys (subst (λ (z : X). IsIn z ys) e j))
   none_in_both x (y ∷ xs) ys (g, h) (inr i) j = none_in_both x xs ys h i j
 
-  pub none_twice_second : (xs ys : List X) → NoneTwice (xs ++ ys) → NoneTwice ys
-  none_twice_second [] ys h = h
-  none_twice_second (x ∷ xs) ys (g, h) = none_twice_second xs ys h
+  pub distinct_parts : (xs ys : List X) → IsDistinct (xs ++ ys) → IsDistinct xs × IsDistinct ys
+  distinct_parts [] ys h = (tt, h)
+  distinct_parts (x ∷ xs) ys (g, h) = let k = distinct_parts xs ys h in (((λ i. g (in_left x xs ys i)), k.0), k.1)

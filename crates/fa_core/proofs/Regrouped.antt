@@ -13,13 +13,13 @@ use Rattle.fa_core.specs.Rearranged.{Rearranged, empty, keep, chain}
 use Rattle.fa_core.proofs.Rearranging.{back, after, both, exchange, flat_map-append, flat_mapped}
 
 -- the facts of one slot alone
-abbrev own_slot : ℕ → Seen → List Fact
+abbrev pub own_slot : ℕ → Seen → List Fact
 own_slot c (SeenField f v) = Points c f v ∷ []
 own_slot c (SeenLink b inside v) = forest_facts (with_ports (Cell c ∷ (v ∷ [])) inside) (Cell c ∷ (v ∷ [])) inside
 own_slot c (SeenHook b inside) = forest_facts (with_ports (Cell c ∷ []) inside) (Cell c ∷ []) inside
 
 -- the facts of one cell alone
-abbrev own : SeenCell → List Fact
+abbrev pub own : SeenCell → List Fact
 own x = Head x.cell x.shape x.datums ∷ flat_map (own_slot x.cell) x.slots
 
 -- what stands below goes behind what the slots themselves give

@@ -18,42 +18,42 @@ use Rattle.fa_core.specs.Dressed.{Nodes, node, no_parts, field, link, under, lea
 use Rattle.fa_core.specs.Ways.{Way, Step, ways, ways_at, leads_back, led_to, given, to_root, signature}
 
 -- Fields next, prev and x are 0, 1 and 2. The one box, dll, leads from next of its input to prev of its output, and back.
-abbrev dll : List BoxFace
+abbrev pub dll : List BoxFace
 dll = record { input = 0; output = Some 0; gives_in = 0 ∷ []; gives_out = 1 ∷ []; back = true } ∷ []
 
 abbrev ref : ℕ → Tree
 ref r = roll-Tree (record { symbol = Ref r; children = [] })
 
-abbrev null : Tree
+abbrev pub null : Tree
 null = roll-Tree (record { symbol = Null; children = [] })
 
 abbrev cell : List Slot → List Tree → Tree
 cell ss ts = roll-Tree (record { symbol = Cell 0 [] ss; children = ts })
 
-opened : (x : Tree-F Tree) → ways (roll-Tree x) ≡ ways_at x.symbol (map ways x.children)
+pub opened : (x : Tree-F Tree) → ways (roll-Tree x) ≡ ways_at x.symbol (map ways x.children)
 opened x = fold-roll-Tree (List Way) (λ t. ways_at t.symbol t.children) x
 
 -- A variable is at root 0, whose prev an edge of tree 1 gives. Below the top of tree 1 stand two further cells. In forest V the lowest of them, at which the edge begins, refers to root 1; in forest U the middle one does.
 
-abbrev root_cell : Tree
+abbrev pub root_cell : Tree
 root_cell = cell (Field 0 ∷ Field 2 ∷ []) (null ∷ null ∷ [])
 
 abbrev v_low : Tree
 v_low = cell (Link 0 ∷ Field 1 ∷ Field 2 ∷ []) (ref 0 ∷ ref 1 ∷ null ∷ [])
 
-abbrev v_tree : Tree
+abbrev pub v_tree : Tree
 v_tree = cell (Field 0 ∷ Field 1 ∷ Field 2 ∷ []) (cell (Field 0 ∷ Field 1 ∷ Field 2 ∷ []) (v_low ∷ null ∷ null ∷ []) ∷ null ∷ null ∷ [])
 
-abbrev v_trees : List Tree
+abbrev pub v_trees : List Tree
 v_trees = root_cell ∷ v_tree ∷ []
 
 abbrev u_low : Tree
 u_low = cell (Link 0 ∷ Field 1 ∷ Field 2 ∷ []) (ref 0 ∷ null ∷ null ∷ [])
 
-abbrev u_tree : Tree
+abbrev pub u_tree : Tree
 u_tree = cell (Field 0 ∷ Field 1 ∷ Field 2 ∷ []) (cell (Field 0 ∷ Field 1 ∷ Field 2 ∷ []) (u_low ∷ ref 1 ∷ null ∷ []) ∷ null ∷ null ∷ [])
 
-abbrev u_trees : List Tree
+abbrev pub u_trees : List Tree
 u_trees = root_cell ∷ u_tree ∷ []
 
 abbrev step : Slot → Step
@@ -71,13 +71,13 @@ u_back = record { root = 0; steps = step (Field 0) ∷ step (Field 0) ∷ record
 abbrev u_own : Way
 u_own = record { root = 1; steps = step (Field 0) ∷ step (Field 1) ∷ [] }
 
-v_ways : ways v_tree ≡ v_back ∷ v_own ∷ []
+pub v_ways : ways v_tree ≡ v_back ∷ v_own ∷ []
 v_ways = simp opened
 
-u_ways : ways u_tree ≡ u_back ∷ u_own ∷ []
+pub u_ways : ways u_tree ≡ u_back ∷ u_own ∷ []
 u_ways = simp opened
 
-no_ways : ways root_cell ≡ []
+pub no_ways : ways root_cell ≡ []
 no_ways = simp opened
 
 one_zero : suc zero ≡ zero → ⊥
@@ -88,7 +88,7 @@ v_led : LeadsBack dll v_trees 0 1 1
 v_led = (v_tree, refl, (v_back, rw v_ways (inl refl), refl, inr (inr (inl refl))))
 
 -- so root 1 of V is of kind 3
-v_kind : IsLedTo dll (At 0 ∷ []) v_trees 1
+pub v_kind : IsLedTo dll (At 0 ∷ []) v_trees 1
 v_kind = record {
   no_var = λ i. elim i [ inl e ↦ one_zero (ap index e) | inr e ↦ e ];
   alone = only;
@@ -107,7 +107,7 @@ v_kind = record {
     only (suc (suc j)) u e n i = absurd (none-some u e)
 
 -- in U the way back ends at the lowest cell too, and that does not refer to root 1: no way back from root 0 leads there
-u_not_led : LeadsBack dll u_trees 0 1 1 → ⊥
+pub u_not_led : LeadsBack dll u_trees 0 1 1 → ⊥
 u_not_led l =
     let there : IsIn l.2.0 (u_back ∷ u_own ∷ []) = rw u_ways at (subst (λ (y : Tree). IsIn l.2.0 (ways y)) (sym (same_Some u_tree l.0 l.1)) l.2.1) in
     go l.2.0 there l.2.2 l.2.3
@@ -136,7 +136,7 @@ two_signatures : signature dll u_tree ≡ signature dll v_tree → ⊥
 two_signatures e = let f = ap longs (sym u_sign ∙ ap reaches e ∙ v_sign) in omega (arith, f)
 
 -- the walk over V places root 0 by the variable, and goes on from root 1
-v_goes_on : GoesOn dll v_trees 1
+pub v_goes_on : GoesOn dll v_trees 1
 v_goes_on = record {
   from = 0;
   into = 1;
@@ -174,17 +174,17 @@ fact_value (Head c s ds) = NullValue
 fact_value (Points c f v) = v
 
 -- dll: from the input to the output and back
-abbrev dll_inside : ℕ → ℕ → Nodes
+abbrev pub dll_inside : ℕ → ℕ → Nodes
 dll_inside a b = more (node a 0 [] (field 0 (leaf (At 1)) no_parts)) (more (node b 0 [] (field 1 (leaf (At 0)) no_parts)) no_nodes)
 
-dll_down : (a b c m : ℕ) → Reaches (CellValue c ∷ []) (inside_facts (CellValue c ∷ (CellValue m ∷ [])) (dll_inside a b)) m
+pub dll_down : (a b c m : ℕ) → Reaches (CellValue c ∷ []) (inside_facts (CellValue c ∷ (CellValue m ∷ [])) (dll_inside a b)) m
 dll_down a b c m = through c 0 (named (inl refl)) (inl refl)
 
-dll_up : (a b c m : ℕ) → Reaches (CellValue m ∷ []) (inside_facts (CellValue c ∷ (CellValue m ∷ [])) (dll_inside a b)) c
+pub dll_up : (a b c m : ℕ) → Reaches (CellValue m ∷ []) (inside_facts (CellValue c ∷ (CellValue m ∷ [])) (dll_inside a b)) c
 dll_up a b c m = through m 1 (named (inl refl)) (inr (inl refl))
 
 -- a box of one field does not lead back between different cells
-abbrev one_inside : ℕ → ℕ → Nodes
+abbrev pub one_inside : ℕ → ℕ → Nodes
 one_inside a b = more (node a 0 [] (field 0 (leaf (At 1)) no_parts)) (more (node b 0 [] no_parts) no_nodes)
 
 one_stays : (a b c m n : ℕ) → Reaches (CellValue m ∷ []) (inside_facts (CellValue c ∷ (CellValue m ∷ [])) (one_inside a b)) n → n ≡ m
@@ -193,7 +193,7 @@ one_stays a b c m n (named (inr e)) = absurd e
 one_stays a b c m n (through k f h (inl e)) = ap number_of (ap fact_value e)
 one_stays a b c m n (through k f h (inr e)) = absurd e
 
-one_never : (a b c m : ℕ) → c ≢ m → Reaches (CellValue m ∷ []) (inside_facts (CellValue c ∷ (CellValue m ∷ [])) (one_inside a b)) c → ⊥
+pub one_never : (a b c m : ℕ) → c ≢ m → Reaches (CellValue m ∷ []) (inside_facts (CellValue c ∷ (CellValue m ∷ [])) (one_inside a b)) c → ⊥
 one_never a b c m ne h = ne (one_stays a b c m c h)
 
 -- where it ends in Dangling, its one field is Dangling

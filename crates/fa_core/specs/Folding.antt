@@ -19,7 +19,8 @@ use Rattle.fa_core.specs.declared.forest.Target.TheVariants.{Null as NullTarget,
 use Rattle.fa_core.specs.Canonical.{refs_at}
 use Rattle.fa_core.specs.Filled.{Choice, covers, IsInOrder}
 use Rattle.fa_core.specs.Rearranged.{Rearranged, IsRising}
-use Rattle.fa_core.specs.Ways.{Way, ways, has}
+use Rattle.fa_core.specs.References.{tree_refs}
+use Rattle.fa_core.specs.Ways.{has}
 
 -- Slots with their children.
 
@@ -97,9 +98,6 @@ position [] k = 0
 position (r ∷ rs) k = if nat_eq k r then 0 else suc (position rs k)
 
 -- the roots to which trees refer
-abbrev pub tree_refs : Tree → List ℕ
-tree_refs t = map (λ (w : Way). w.root) (ways t)
-
 abbrev pub place_refs : List (Slot × List Tree) → List ℕ
 place_refs ps = flat_map (λ p. flat_map tree_refs p.1) ps
 

@@ -2,10 +2,14 @@ pub mod Boxes
 pub mod Boxless
 pub mod Canonical
 pub mod Cells
+pub mod Choices
 pub mod Covering
 pub mod Dressed
 pub mod Filled
 pub mod Folding
+pub mod Formed
 pub mod Member
+pub mod Placed
 pub mod Rearranged
+pub mod References
 pub mod Ways

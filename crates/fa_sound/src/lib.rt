@@ -11,8 +11,6 @@ mod learning;
 mod parts;
 mod signing;
 pub mod sound;
-#[cfg(test)]
-mod tests;
 
 pub use fitting::have_no_boxes;
 pub use sound::Sound;

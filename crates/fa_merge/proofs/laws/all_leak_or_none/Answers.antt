@@ -1,0 +1,5 @@
+use Rattle.fa_merge.proofs.laws.all_leak_or_none.Goals as goal
+use Rattle.fa_merge.proofs.LeaksDecided.{leak_decided}
+
+pub returns : goal.returns
+returns c = λ face F sound plain. leak_decided face F plain sound

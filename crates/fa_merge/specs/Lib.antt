@@ -1,0 +1,5 @@
+pub mod Dropped
+pub mod Merged
+pub mod Reached
+pub mod Reordered
+pub mod inner

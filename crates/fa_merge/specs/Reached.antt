@@ -1,0 +1,52 @@
+-- Which roots of a forest are reached, and when its members leak.
+use Rattle.std.specs.Prelude.{◌≡◌, ◌<◌, ℕ, List, length, Some, slice_get}
+use Rattle.fore_base.specs.Heap.{Leaked}
+use Rattle.fore_base.specs.Lists.{IsIn}
+use Rattle.fore_base.specs.declared.shape.Shape.{Shape}
+use Rattle.fore_base.specs.declared.store.Store.{Store}
+use Rattle.ta_core.specs.declared.tree.Tree.{Tree}
+use Rattle.fa_core.specs.declared.boxes.BoxDef.{BoxDef}
+use Rattle.fa_core.specs.declared.faces.BoxFace.{BoxFace}
+use Rattle.fa_core.specs.declared.faces.Face.{Face}
+use Rattle.fa_core.specs.declared.forest.Forest.{Forest}
+use Rattle.fa_core.specs.declared.forest.Target.{Target}
+use Rattle.fa_core.specs.declared.forest.Target.TheVariants.{At}
+use Rattle.fa_core.specs.Canonical.{LeadsBack, RefersTo}
+use Rattle.fa_core.specs.Filled.{Choice}
+use Rattle.fa_core.specs.Member.{Stands}
+
+-- on one tree of each component: the roots at which variables are, those to which the tree of a reached root refers, and those to which a way back from a reached root leads
+pub data RootReached (bs : List BoxFace) (vars : List Target) (ts : List Tree) : ℕ → Type 0 where
+  by_var : {r : ℕ} → IsIn (At r) vars → RootReached bs vars ts r
+  by_tree : {r : ℕ} (i : ℕ) (t : Tree) → RootReached bs vars ts i → slice_get ts i ≡ Some t → RefersTo t r → RootReached bs vars ts r
+  by_way : {r : ℕ} (i j : ℕ) → RootReached bs vars ts i → LeadsBack bs ts i j r → RootReached bs vars ts r
+
+-- the root is reached, whichever tree of each component is taken
+abbrev pub IsReached : Face → Forest → ℕ → Type 0
+IsReached face F r = (ts : List Tree) → Choice F.autos ts → RootReached face.boxes F.vars ts r
+
+-- the root is not reached, whichever tree of each component is taken
+abbrev pub IsUnreached : Face → Forest → ℕ → Type 0
+IsUnreached face F r = (ts : List Tree) → Choice F.autos ts → RootReached face.boxes F.vars ts r → ⊥
+
+-- each root is reached
+abbrev pub AreAllReached : Face → Forest → Type 0
+AreAllReached face F = (r : ℕ) → r < length F.autos → IsReached face F r
+
+-- the root is not reached, and each lesser one is
+pub record IsLeastUnreached (face : Face) (F : Forest) (r : ℕ) : Type 0 where
+  pub root : r < length F.autos
+  pub unreached : IsUnreached face F r
+  pub least : (k : ℕ) → k < r → IsReached face F k
+
+-- every member of the forest leaks, whatever the structs and the box table are
+abbrev pub AlwaysLeaks : Forest → Type 0
+AlwaysLeaks F = (hs : List Shape) (T : List BoxDef) (s : Store) → Stands hs T F s → Leaked s
+
+-- no member of the forest leaks
+abbrev pub NeverLeaks : Forest → Type 0
+NeverLeaks F = (hs : List Shape) (T : List BoxDef) (s : Store) → Stands hs T F s → Leaked s → ⊥
+
+-- the forest stands for some store, for every box table
+abbrev pub HasMembers : Face → Forest → Type 0
+HasMembers face F = (T : List BoxDef) → (s : Store) × Stands face.shapes.structs T F s

@@ -1,0 +1,82 @@
+// Cells that are dropped.
+
+ghost use Rattle.std.specs.Prelude.{◌≡◌, ◌<◌, List, length, map, IfOk};
+ghost use Rattle.fore_base.specs.Lists.{Every};
+ghost use Rattle.fa_core.specs.Boxless.{HasNoBoxes};
+ghost use Rattle.fa_core.specs.Placed.{placed_auto};
+ghost use Rattle.fa_core.specs.declared.boxes.BoxDef.{BoxDef};
+ghost use Rattle.fa_merge.specs.Dropped.{CanDrop, IsCut, Removes, Restores, but_place, drop_leaf, dropped_forest};
+
+use crate::placing::{Leaves, place_auto, place_targets};
+use crate::sounding::{ranked_components, sound_of};
+use fa_core::forest::{Forest, Target};
+use fa_sound::Sound;
+use fore_base::list::{Copies, List};
+use fore_base::memory::Mem;
+use std::alloc::Global;
+use ta_core::auto::Auto;
+
+/// The forest without the root: each reference to it is Dangling, and later roots move down by one. Where each tree of the root is a cell whose fields end at leaves, and no box edge gives a field there, its dressed forests are those of the forest without the root, and its members, up to alike, those of the forest with the root's cell removed and each value that named it Dangling. Err is want of memory.
+pub fn drop_dead(alloc: Global, forest: &Sound, root: u32) -> Mem<Sound>
+    requires plain { Every HasNoBoxes forest.now.forest.autos }
+    requires root { root < length forest.now.forest.autos }
+    ensures value { IfOk result (λ made. made.forest ≡ dropped_forest root forest.now.forest) }
+    ensures face { IfOk result (λ made. made.face ≡ forest.now.face) }
+    ensures cut { CanDrop forest.now.face.boxes forest.now.forest root → IfOk result (λ made. (T : List BoxDef) → IsCut T forest.now.forest made.forest root) }
+    ensures removes { CanDrop forest.now.face.boxes forest.now.forest root → IfOk result (λ made. (T : List BoxDef) → Removes forest.now.face.shapes.structs T forest.now.forest made.forest root) }
+    ensures restores { CanDrop forest.now.face.boxes forest.now.forest root → IfOk result (λ made. (T : List BoxDef) → Restores forest.now.face.shapes.structs T forest.now.forest made.forest root) }
+{
+    forest.known();
+    ranked_components(forest.forest());
+    let made = drop_root(alloc, forest.forest(), root)?;
+    sound_of(alloc, &made, forest.face())
+}
+
+/// Dangling for the root, and the numbers of the others without it.
+#[derive(Drop)]
+struct Without {
+    root: u32,
+}
+
+impl Leaves for Without {
+    ghost use Rattle.fa_merge.specs.Dropped.{drop_leaf};
+
+    ghost leaf_of = { λ without. drop_leaf without.root };
+
+    fn leaf(&self, root: u32) -> Target {
+        if self.root == root {
+            Target::Dangling
+        } else if self.root < root {
+            Target::At(root - 1)
+        } else {
+            Target::At(root)
+        }
+    }
+}
+
+fn drop_root(alloc: Global, forest: &Forest, root: u32) -> Mem<Forest>
+    requires { root < length forest.now.autos }
+    ensures { IfOk result (λ made. made ≡ dropped_forest root forest.now) }
+{
+    let leaves = Without { root };
+    let mut autos = drop_references(alloc, forest.autos.as_slice(), &leaves)?;
+    let _own = autos.remove(root as usize);
+    let vars = place_targets(alloc, forest.vars.as_slice(), &leaves)?;
+    let data_vars = forest.data_vars.copy(alloc)?;
+    Ok(Forest {
+        autos,
+        vars,
+        data_vars,
+    })
+}
+
+fn drop_references(alloc: Global, autos: &[Auto], leaves: &Without) -> Mem<List<Auto>>
+    ensures { IfOk result (λ made. made ≡ map (placed_auto (drop_leaf leaves.now.root)) autos.now) }
+{
+    let mut made = List::new(alloc);
+    for auto in autos {
+        let auto = place_auto(alloc, auto, leaves)?;
+        made.push(auto)?;
+    }
+    Ok(made)
+}

@@ -1,0 +1,23 @@
+// Merging of forests: roots that stand in another order, a component merged into the one tree that refers to its root, a
+// cell that is dropped; and which roots are reached, from which it follows whether a forest's members leak.
+#![tactic(auto)]
+
+pub mod counting;
+pub mod dead;
+mod hops;
+mod joins;
+pub mod laws;
+pub mod leaking;
+pub mod merge;
+mod merging;
+mod orders;
+mod placing;
+mod signing;
+mod sounding;
+#[cfg(test)]
+mod tests;
+
+pub use counting::can_merge;
+pub use dead::drop_dead;
+pub use leaking::leaking_root;
+pub use merge::{merge_root, reorder};

@@ -1,4 +1,0 @@
-// Forests by hand: which are made.
-
-mod building;
-mod made;
