@@ -1,10 +1,10 @@
 // Values that hold only data can be shared between threads and moved to another.
 
 use crate::conditions::Cond;
-use crate::items::{Field, Head};
+use crate::items::{Field, Head, Item, Unit};
 use crate::operands::Operand;
 use crate::simples::Simple;
-use crate::statements::Declare;
+use crate::statements::{Block, Declare, Stmt};
 use fore_base::crossing::crosses;
 
 /// Operands cross threads, and with them calls and paths.
@@ -35,4 +35,24 @@ pub fn field_crosses(field: &Field) {
 /// Heads of functions cross threads.
 pub fn head_crosses(head: &Head) {
     crosses(head)
+}
+
+/// Statements cross threads.
+pub fn stmt_crosses(stmt: &Stmt) {
+    crosses(stmt)
+}
+
+/// Blocks cross threads.
+pub fn block_crosses(block: &Block) {
+    crosses(block)
+}
+
+/// Items cross threads.
+pub fn item_crosses(item: &Item) {
+    crosses(item)
+}
+
+/// Whole texts cross threads.
+pub fn unit_crosses(unit: &Unit) {
+    crosses(unit)
 }

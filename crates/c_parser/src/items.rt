@@ -474,12 +474,12 @@ fn extern_item<'t>(
 {
     let (token, rest) = take(bounds, left, Sign::Extern)?;
     let (head, rest) = head(alloc, bounds, rest)?;
-    let (_, rest) = take(bounds, rest, Sign::Semicolon)?;
+    let (_, after) = take(bounds, rest, Sign::Semicolon)?;
     let item = Item::Proto {
         outer: Some(token.at),
         head,
     };
-    Ok((item, rest))
+    Ok((item, after))
 }
 
 /// A prototype or a function that gives nothing.

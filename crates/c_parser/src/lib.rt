@@ -17,8 +17,6 @@ mod paths;
 mod reader;
 mod simples;
 mod statements;
-#[cfg(test)]
-mod tests;
 mod whole;
 
 pub use c_grammar::SyntaxFault;
