@@ -1,0 +1,163 @@
+-- An edge of a lowered program has a choice exactly if it is a Choose.
+use Rattle.std.proofs.Common.{◌≡◌, ℕ, ◌+◌, List, [], ◌∷◌, ◌++◌, length, Bool, true, false, refl, sym, Option, Some, None}
+use Rattle.fore_base.specs.Lists.{Every}
+use Rattle.c_types.specs.declared.program.Path.{Path}
+use Rattle.c_types.specs.declared.program.DataPath.{DataPath}
+use Rattle.c_types.specs.declared.program.DataPath.TheVariants.{Var as DataVar, Field as DataField}
+use Rattle.c_types.specs.declared.program.PtrRhs.{PtrRhs}
+use Rattle.c_types.specs.declared.program.PtrRhs.TheVariants.{Path as RhsPath, Null as RhsNull, New as RhsNew}
+use Rattle.c_types.specs.declared.program.DataRhs.{DataRhs}
+use Rattle.c_types.specs.declared.program.DataRhs.TheVariants.{Path as DataRhsPath, Known as DataRhsKnown, Choice as DataRhsChoice}
+use Rattle.c_types.specs.declared.program.Act.{Act}
+use Rattle.c_types.specs.declared.program.Act.TheVariants.{SetPtr, SetData, Free as FreeAct, Error, Halt, Return, Break, Continue}
+use Rattle.c_types.specs.declared.program.PtrOp.{PtrOp}
+use Rattle.c_types.specs.declared.program.PtrOp.TheVariants.{Path as OpPath, Null as OpNull}
+use Rattle.c_types.specs.declared.program.DataOp.{DataOp}
+use Rattle.c_types.specs.declared.program.DataOp.TheVariants.{Path as DataOpPath, Known as DataOpKnown}
+use Rattle.c_types.specs.declared.program.Atom.{Atom}
+use Rattle.c_types.specs.declared.program.Atom.TheVariants.{Choice as ChoiceAtom, Known as KnownAtom, Ptr as PtrAtom, Data as DataAtom}
+use Rattle.c_types.specs.Control.{Items, Done, Do, Close, If, Loop, Again, DoLoop, DoAgain, Ask, Not, Both, Either}
+use Rattle.c_cfg.specs.declared.graph.Instr.{Instr}
+use Rattle.c_cfg.specs.declared.graph.Edge.{Edge}
+use Rattle.c_cfg.specs.Graphs.{is_choose, HasItsChoice}
+use Rattle.c_cfg.specs.Links.{Link, One, Two, loads, loads_but_last, used, ends, data_loads, op_loads, data_op_loads, var_row, path_row, ptr_row, data_var_row, data_field_row, data_row, return_row, act_row, ptr_loads, cmp_loads, ptr_test, data_test, ptr_ends, data_ends}
+use Rattle.c_cfg.specs.Lowering.{link_edges}
+use Rattle.c_cfg.specs.inner.Numbering.{chain, test_edges, atom_edges, place_edges, all_edges}
+
+-- a link of edges with or without choices
+abbrev LinkFits : Link → Type 0
+LinkFits (One i) = is_choose i ≡ false
+LinkFits (Two i j) = (is_choose i ≡ true) × (is_choose j ≡ true)
+
+every_more : {A : Type 0} (P : A → Type 0) (xs ys : List A) → Every P xs → Every P ys → Every P (xs ++ ys)
+every_more P [] ys h k = k
+every_more P (x ∷ xs) ys h k = (h.0, every_more P xs ys h.1 k)
+
+abbrev Fit : List Link → Type 0
+Fit ls = Every LinkFits ls
+
+fit_more : (xs ys : List Link) → Fit xs → Fit ys → Fit (xs ++ ys)
+fit_more = every_more LinkFits
+
+loads_fit : (t b : ℕ) (fs : List ℕ) → Fit (loads t b fs)
+loads_fit t b [] = tt
+loads_fit t b (f ∷ fs) = (refl, loads_fit t t fs)
+
+last_fits : (t b f : ℕ) (fs : List ℕ) (last : ℕ → ℕ → Instr) → ((c g : ℕ) → is_choose (last c g) ≡ false) → Fit (loads_but_last t b f fs last)
+last_fits t b f [] last h = (h b f, tt)
+last_fits t b f (g ∷ gs) last h = (refl, last_fits t t g gs last h)
+
+ends_fit : (ps ds : List ℕ) → Fit (ends ps ds)
+ends_fit [] [] = tt
+ends_fit [] (d ∷ ds) = (refl, tt)
+ends_fit (p ∷ ps) ds = (refl, tt)
+
+data_fit : (t d : ℕ) (p : DataPath) → Fit (data_loads t d p)
+data_fit t d (DataVar x) = tt
+data_fit t d (DataField base f) = fit_more (loads t base.var base.fields) _ (loads_fit t base.var base.fields) (refl, tt)
+
+op_fit : (t : ℕ) (o : PtrOp) → Fit (op_loads t o)
+op_fit t (OpPath p) = loads_fit t p.var p.fields
+op_fit t OpNull = tt
+
+data_op_fit : (t d : ℕ) (o : DataOp) → Fit (data_op_loads t d o)
+data_op_fit t d (DataOpPath p) = data_fit t d p
+data_op_fit t d (DataOpKnown k) = tt
+
+module _ (nv nd : ℕ) where
+  var_fits : (x : ℕ) (from : PtrRhs) → Fit (var_row nv nd x from)
+  var_fits x (RhsPath q) = by_fields q.fields
+    where
+      by_fields : (fs : List ℕ) → Fit (var_row nv nd x (RhsPath (record { var = q.var; fields = fs })))
+      by_fields [] = (refl, tt)
+      by_fields (f ∷ fs) = fit_more (loads_but_last nv q.var f fs _) _ (last_fits nv q.var f fs _ (λ c g. refl)) (ends_fit _ [])
+  var_fits x RhsNull = (refl, tt)
+  var_fits x (RhsNew shape) = (refl, tt)
+
+  path_fits : (x f : ℕ) (fs : List ℕ) (from : PtrRhs) → Fit (path_row nv nd x f fs from)
+  path_fits x f fs (RhsPath q) = fit_more (loads nv q.var q.fields) _ (loads_fit nv q.var q.fields) (fit_more (loads_but_last (nv + 1) x f fs _) _ (last_fits (nv + 1) x f fs _ (λ c g. refl)) (ends_fit _ []))
+  path_fits x f fs RhsNull = fit_more (loads_but_last (nv + 1) x f fs _) _ (last_fits (nv + 1) x f fs _ (λ c g. refl)) (ends_fit _ [])
+  path_fits x f fs (RhsNew shape) = (refl, fit_more (loads_but_last (nv + 1) x f fs _) _ (last_fits (nv + 1) x f fs _ (λ c g. refl)) (ends_fit (nv ∷ used (nv + 1) fs) []))
+
+  ptr_fits : (x : ℕ) (fs : List ℕ) (from : PtrRhs) → Fit (ptr_row nv nd x fs from)
+  ptr_fits x [] from = var_fits x from
+  ptr_fits x (f ∷ fs) from = path_fits x f fs from
+
+  data_var_fits : (x : ℕ) (from : DataRhs) → Fit (data_var_row nv nd x from)
+  data_var_fits x (DataRhsPath (DataVar y)) = (refl, tt)
+  data_var_fits x (DataRhsPath (DataField base f)) = fit_more (data_loads nv x (DataField base f)) _ (data_fit nv x (DataField base f)) (ends_fit _ [])
+  data_var_fits x (DataRhsKnown k) = (refl, tt)
+  data_var_fits x DataRhsChoice = ((refl, refl), tt)
+
+  data_field_fits : (base : Path) (f : ℕ) (from : DataRhs) → Fit (data_field_row nv nd base f from)
+  data_field_fits base f (DataRhsPath q) = fit_more (data_loads nv nd q) _ (data_fit nv nd q) (fit_more (loads (nv + 1) base.var base.fields) _ (loads_fit (nv + 1) base.var base.fields) (refl, ends_fit _ _))
+  data_field_fits base f (DataRhsKnown k) = fit_more (loads (nv + 1) base.var base.fields) _ (loads_fit (nv + 1) base.var base.fields) (refl, ends_fit _ [])
+  data_field_fits base f DataRhsChoice = ((refl, refl), fit_more (loads (nv + 1) base.var base.fields) _ (loads_fit (nv + 1) base.var base.fields) (refl, ends_fit _ (nd ∷ [])))
+
+  set_data_fits : (to : DataPath) (from : DataRhs) → Fit (data_row nv nd to from)
+  set_data_fits (DataVar x) from = data_var_fits x from
+  set_data_fits (DataField base f) from = data_field_fits base f from
+
+  return_fits : (operand : Option DataPath) → Fit (return_row nv nd operand)
+  return_fits None = (refl, tt)
+  return_fits (Some p) = fit_more (data_loads nv nd p) _ (data_fit nv nd p) (refl, tt)
+
+  act_fits : (a : Act) (is : Items) → Fit (act_row nv nd a is)
+  act_fits (SetPtr to from) is = ptr_fits to.var to.fields from
+  act_fits (SetData to from) is = set_data_fits to from
+  act_fits (FreeAct p) is = fit_more (loads nv p.var p.fields) _ (loads_fit nv p.var p.fields) (refl, ends_fit _ [])
+  act_fits Error is = (refl, tt)
+  act_fits Halt is = (refl, tt)
+  act_fits (Return operand) is = return_fits operand
+  act_fits Break is = (refl, tt)
+  act_fits Continue is = (refl, tt)
+
+-- Edges
+
+abbrev Told : List Edge → Type 0
+Told es = Every HasItsChoice es
+
+told_more : (xs ys : List Edge) → Told xs → Told ys → Told (xs ++ ys)
+told_more = every_more HasItsChoice
+
+link_told : (line k to : ℕ) (l : Link) → LinkFits l → Told (link_edges line k to l)
+link_told line k to (One i) h = (sym h, tt)
+link_told line k to (Two i j) h = (sym h.0, (sym h.1, tt))
+
+chain_told : (line : ℕ) (ls : List Link) (k to : ℕ) → Fit ls → Told (chain line ls k to)
+chain_told line [] k to h = tt
+chain_told line (l ∷ []) k to h = link_told line k to l h.0
+chain_told line (l ∷ x ∷ ls) k to h = told_more (link_edges line k (k + 1) l) _ (link_told line k (k + 1) l h.0) (chain_told line (x ∷ ls) (k + 1) to h.1)
+
+test_told : (line : ℕ) (pre : List Link) (test : Bool → Instr) (post : List Link) (k same other : ℕ) → Fit pre → ((b : Bool) → is_choose (test b) ≡ false) → Fit post → Told (test_edges line pre test post k same other)
+test_told line pre test [] k same other h t p = told_more (chain line pre k (k + length pre)) _ (chain_told line pre k (k + length pre) h) (sym (t true), (sym (t false), tt))
+test_told line pre test (l ∷ ls) k same other h t p =
+    told_more (chain line pre k (k + length pre)) _ (chain_told line pre k (k + length pre) h)
+    (sym (t true), (sym (t false), told_more (link_edges line (k + length pre + 1) same l) _ (link_told line (k + length pre + 1) same l p.0) (link_told line (k + length pre + 2) other l p.0)))
+
+module _ (nv nd : ℕ) where
+  atom_told : (a : Atom) (line k x y : ℕ) → Told (atom_edges nv nd a line k x y)
+  atom_told ChoiceAtom line k x y = (refl, (refl, tt))
+  atom_told (KnownAtom true) line k x y = (refl, tt)
+  atom_told (KnownAtom false) line k x y = (refl, tt)
+  atom_told (PtrAtom l r true) line k x y = test_told line (ptr_loads nv nd l r) (ptr_test nv nd l r) (ptr_ends nv nd l r) k x y (fit_more (op_loads nv l) _ (op_fit nv l) (op_fit (nv + 1) r)) (λ b. refl) (ends_fit _ [])
+  atom_told (PtrAtom l r false) line k x y = test_told line (ptr_loads nv nd l r) (ptr_test nv nd l r) (ptr_ends nv nd l r) k y x (fit_more (op_loads nv l) _ (op_fit nv l) (op_fit (nv + 1) r)) (λ b. refl) (ends_fit _ [])
+  atom_told (DataAtom l r true) line k x y = test_told line (cmp_loads nv nd l r) (data_test nv nd l r) (data_ends nv nd l r) k x y (fit_more (data_op_loads nv nd l) _ (data_op_fit nv nd l) (data_op_fit (nv + 1) (nd + 1) r)) (λ b. refl) (ends_fit _ _)
+  atom_told (DataAtom l r false) line k x y = test_told line (cmp_loads nv nd l r) (data_test nv nd l r) (data_ends nv nd l r) k y x (fit_more (data_op_loads nv nd l) _ (data_op_fit nv nd l) (data_op_fit (nv + 1) (nd + 1) r)) (λ b. refl) (ends_fit _ _)
+
+  place_told : (exit : ℕ) (line : ℕ → ℕ) (c : Items) → Told (place_edges nv nd exit line c)
+  place_told exit line Done = tt
+  place_told exit line (Do a m is) = chain_told (line m) (act_row nv nd a is) m _ (act_fits nv nd a is)
+  place_told exit line (Close ps ds m is) = (refl, tt)
+  place_told exit line (If (Ask a m) x y is) = atom_told a (line m) m _ _
+  place_told exit line (If (Not c) x y is) = tt
+  place_told exit line (If (Both c d) x y is) = tt
+  place_told exit line (If (Either c d) x y is) = tt
+  place_told exit line (Loop c n b is) = tt
+  place_told exit line (Again c n b is) = tt
+  place_told exit line (DoLoop c b is) = tt
+  place_told exit line (DoAgain c b is) = tt
+
+  pub all_told : (exit : ℕ) (line : ℕ → ℕ) (ps : List Items) → Told (all_edges nv nd exit line ps)
+  all_told exit line [] = tt
+  all_told exit line (c ∷ cs) = told_more (place_edges nv nd exit line c) _ (place_told exit line c) (all_told exit line cs)

@@ -1,0 +1,6 @@
+pub mod Comparing
+pub mod Counted
+pub mod Emitting
+pub mod LastArrows
+pub mod Numbering
+pub mod Sites

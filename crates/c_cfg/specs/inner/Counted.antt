@@ -1,0 +1,58 @@
+-- The table of edges by the counts of a program's variables.
+use Rattle.std.specs.Prelude.{ℕ, ◌+◌, List, [], ◌∷◌, ◌++◌, Option, Some}
+use Rattle.c_types.specs.declared.program.Path.{Path}
+use Rattle.c_types.specs.declared.program.DataPath.{DataPath}
+use Rattle.c_types.specs.declared.program.PtrRhs.{PtrRhs}
+use Rattle.c_types.specs.declared.program.DataRhs.{DataRhs}
+use Rattle.c_types.specs.declared.program.DataOp.{DataOp}
+use Rattle.c_types.specs.declared.program.Act.{Act}
+use Rattle.c_types.specs.Steps.{below}
+use Rattle.c_cfg.specs.declared.graph.Instr.TheVariants.{Kill, StoreData, Choose}
+use Rattle.c_cfg.specs.declared.around.Around.{Around}
+use Rattle.c_cfg.specs.declared.counts.Counts.{Counts}
+use Rattle.c_cfg.specs.Links.{Link, One, Two, loads, holder, var_row, path_row, ptr_row, data_var_row, data_field_row, data_row, return_row, cmp_loads}
+use Rattle.c_cfg.specs.inner.Emitting.{act_links}
+
+module _ (n : Counts) where
+  abbrev pub ptr_links : Path → PtrRhs → List Link
+  ptr_links to from = ptr_row n.ptrs n.datums to.var to.fields from
+
+  abbrev pub var_links : ℕ → PtrRhs → List Link
+  var_links x from = var_row n.ptrs n.datums x from
+
+  abbrev pub field_links : ℕ → ℕ → List ℕ → PtrRhs → List Link
+  field_links x f fs from = path_row n.ptrs n.datums x f fs from
+
+  abbrev pub data_links : DataPath → DataRhs → List Link
+  data_links to from = data_row n.ptrs n.datums to from
+
+  abbrev pub data_var_links : ℕ → DataRhs → List Link
+  data_var_links x from = data_var_row n.ptrs n.datums x from
+
+  abbrev pub data_field_links : Path → ℕ → DataRhs → List Link
+  data_field_links base f from = data_field_row n.ptrs n.datums base f from
+
+  -- the arrows of the left base, and the store
+  abbrev pub store_links : Path → ℕ → ℕ → List Link
+  store_links base f from = loads (n.ptrs + 1) base.var base.fields ++ One (StoreData (holder (n.ptrs + 1) base.var base.fields) f from) ∷ []
+
+  abbrev pub return_links : Option DataPath → List Link
+  return_links operand = return_row n.ptrs n.datums operand
+
+  -- all variables die
+  abbrev pub end_links : List Link
+  end_links = One (Kill (below (n.ptrs + 2)) (below (n.datums + 2))) ∷ []
+
+  abbrev pub links_of : Around → Act → List Link
+  links_of w a = act_links n.ptrs n.datums w a
+
+  abbrev pub data_op_links : DataOp → DataOp → List Link
+  data_op_links l r = cmp_loads n.ptrs n.datums l r
+
+-- the two edges of a choice
+abbrev pub choice_links : ℕ → List Link
+choice_links to = Two (Choose (Some to)) (Choose (Some to)) ∷ []
+
+-- the end of a round
+abbrev pub round_links : Around → List Link
+round_links w = One (Kill w.ptrs w.datums) ∷ []
