@@ -1,0 +1,53 @@
+-- What each kind of place among the items adds to the first fault so far.
+use Rattle.std.proofs.Common.{◌≡◌, ℕ, Bool, true, not, ◌&&◌, ◌||◌, nat_eq, List, Option, ap}
+use Rattle.fore_base.specs.declared.limits.TheConstants.{STRUCTS, FIELDS, ENUMERATORS}
+use Rattle.fore_base.specs.declared.place.Place.{Place}
+use Rattle.c_ast.specs.declared.items.Head.{Head}
+use Rattle.c_ast.specs.declared.operands.Name.{Name}
+use Rattle.c_typing.specs.Globals.{Globals}
+use Rattle.c_typing.specs.Profile.{is_allowed_head, is_main, is_main_head}
+use Rattle.c_typing.specs.Sites.{Struct, Enum, Value, Member, Defines, Declares, Functions, Globally, Ends, Overflows}
+use Rattle.c_typing.specs.Texts.{Text, has}
+use Rattle.c_typing.proofs.Breaching as breaching
+use Rattle.c_typing.proofs.Breaching.{fault_at}
+use Rattle.c_typing.specs.declared.fault.TypeFault.{TypeFault}
+use Rattle.c_typing.specs.declared.fault.TypeFault.TheVariants.{Rule, Limit}
+use Rattle.c_check.specs.inner.First.{first_from}
+use Rattle.c_check.specs.inner.Meeting.{noted, noted_when}
+use Rattle.c_check.proofs.MeetingLemmas.{one, two}
+
+module _ (g : Globals) (found : Option TypeFault) where
+  pub noted-Struct : (n : Name) (earlier : List Text) (count : ℕ) →
+      noted g found (Defines Struct n earlier count) ≡ noted_when (nat_eq count STRUCTS) (Limit 2 n.at) (noted_when (has n.text earlier) (Rule 5 n.at) found)
+  noted-Struct n earlier count = two g found _ _ _ _ _ (breaching.at-Struct g n earlier count)
+
+  pub noted-Member : (n : Name) (earlier : List Text) (count : ℕ) →
+      noted g found (Defines Member n earlier count) ≡ noted_when (nat_eq count FIELDS) (Limit 3 n.at) (noted_when (has n.text earlier) (Rule 5 n.at) found)
+  noted-Member n earlier count = two g found _ _ _ _ _ (breaching.at-Member g n earlier count)
+
+  pub noted-Value : (n : Name) (earlier : List Text) (count : ℕ) →
+      noted g found (Defines Value n earlier count) ≡ noted_when (nat_eq count ENUMERATORS) (Limit 5 n.at) (noted_when (has n.text earlier) (Rule 5 n.at) found)
+  noted-Value n earlier count = two g found _ _ _ _ _ (breaching.at-Value g n earlier count)
+
+  pub noted-Enum : (n : Name) (earlier : List Text) (count : ℕ) → noted g found (Defines Enum n earlier count) ≡ noted_when (has n.text earlier) (Rule 5 n.at) found
+  noted-Enum n earlier count = one g found _ _ _ (breaching.at-Enum g n earlier count)
+
+  pub noted-Declares : (h : Head) → noted g found (Declares h) ≡ noted_when (not (is_allowed_head h)) (Rule 15 h.name.at) found
+  noted-Declares h = one g found _ _ _ (breaching.at-Declares g h)
+
+  pub noted-Functions : (main : Bool) (h : Head) →
+      noted g found (Functions main h)
+      ≡ noted_when (not main && (is_main h && not (is_main_head h))) (Rule 15 h.name.at) (noted_when (main || not (is_main h)) (Rule 13 h.name.at) found)
+  noted-Functions main h = two g found _ _ _ _ _ (breaching.at-Functions g main h)
+
+  pub noted-Globally : (n : Name) → noted g found (Globally n) ≡ noted_when true (Rule 14 n.at) found
+  noted-Globally n = one g found _ true (Rule 14 n.at) (breaching.at-Globally g n)
+
+  pub noted-Ends : (main : Bool) (at : Place) → noted g found (Ends main at) ≡ noted_when (not main) (Rule 12 at) found
+  noted-Ends main at = one g found _ _ _ (breaching.at-Ends g main at)
+
+  pub noted-Overflows : (over : Option Place) → noted g found (Overflows over) ≡ first_from found (fault_at (Limit 8) over)
+  unfolding noted
+  noted-Overflows over = ap (first_from found) (breaching.at-Overflows g over)
+
+pub ruleset sites = (noted-Struct, noted-Member, noted-Value, noted-Enum, noted-Declares, noted-Functions, noted-Globally, noted-Ends, noted-Overflows)

@@ -1,0 +1,16 @@
+use Rattle.std.proofs.Common.{false, ap, ◌∙◌}
+use Rattle.c_typing.specs.Sites.{Ends, Overflows}
+use Rattle.c_check.specs.inner.Items.{any_main, kept_items_sites, nothing_kept}
+use Rattle.c_check.specs.inner.Meeting.{met, noted}
+use Rattle.c_check.proofs.KeptLemmas.{whole_met}
+use Rattle.c_check.proofs.units.all_places.Goals as goal
+
+pub returns-clause-found : goal.returns-clause-found
+returns-clause-found c =
+    let g = c.args.tables.now in
+    let u = c.args.unit.now in
+    c.overflows.ensures
+    ∙ ap (λ o. noted g o (Overflows u.over)) c.ends.ensures
+    ∙ ap (λ o. noted g (noted g o (Ends c.is_some.result u.end)) (Overflows u.over))
+    (c.in_ok-main.ensures.found ∙ ap (λ is. met g c.args.found.now (kept_items_sites g false nothing_kept is)) c.as_slice.ensures)
+    ∙ whole_met g c.args.found.now u c.is_some.result (c.is_some.ensures ∙ c.in_ok-main.ensures.main ∙ ap any_main c.as_slice.ensures)

@@ -1,0 +1,213 @@
+// What assignments and statements without parts do.
+ghost use Rattle.std.specs.Prelude.{◌≡◌, ◌∷◌, [], IfOk};
+ghost use Rattle.c_types.specs.declared.program.Stmt.TheVariants.{Do};
+ghost use Rattle.c_typing.specs.Programs.{ptr_rhs_of, data_rhs_of, assigned, target_struct, freed, call_act, returned, assignment, simple_stmts, maybe_simple, returned_operand};
+ghost use Rattle.c_typing.specs.Scopes.{or_zero};
+ghost use Rattle.c_types.specs.declared.program.DataRhs.TheVariants as data_rhs;
+ghost use Rattle.c_types.specs.declared.program.PtrRhs.TheVariants as ptr_rhs;
+
+use crate::calls::is_error;
+use crate::meanings::{meaning_of_operand, meaning_of_path};
+use crate::scopes::{Scope, or_zero};
+use crate::tables::Tables;
+use c_ast::{Operand, Rhs, Simple};
+use c_types::{Act, DataPath, DataRhs, PtrRhs, Stmt};
+use c_typing::Meaning;
+use fore_base::list::List;
+use fore_base::memory::Mem;
+use std::alloc::Global;
+
+/// A list of one statement.
+pub fn one(alloc: Global, stmt: Stmt) -> Mem<List<Stmt>>
+    ensures { IfOk result (λ stmts. stmts ≡ stmt ∷ []) }
+{
+    let mut stmts = List::new(alloc);
+    stmts.push(stmt)?;
+    Ok(stmts)
+}
+
+/// A statement without parts.
+pub fn doing(alloc: Global, act: Act, line: u32) -> Mem<List<Stmt>>
+    ensures { IfOk result (λ stmts. stmts ≡ Do act line ∷ []) }
+{
+    one(alloc, Stmt::Do { act, line })
+}
+
+fn ptr_rhs_of(meaning: Meaning) -> PtrRhs
+    ensures { result ≡ ptr_rhs_of meaning }
+{
+    match meaning {
+        Meaning::Pointer { path, .. } => PtrRhs::Path(path),
+        Meaning::Datum(_)
+        | Meaning::Known(_)
+        | Meaning::Zero
+        | Meaning::Null
+        | Meaning::Call
+        | Meaning::Broken => PtrRhs::Null,
+    }
+}
+
+fn data_rhs_of(meaning: Meaning) -> DataRhs
+    ensures { result ≡ data_rhs_of meaning }
+{
+    match meaning {
+        Meaning::Datum(path) => DataRhs::Path(path),
+        Meaning::Known(number) => DataRhs::Known(number),
+        Meaning::Call => DataRhs::Choice,
+        Meaning::Pointer { .. } | Meaning::Zero | Meaning::Null | Meaning::Broken => DataRhs::Known(
+            0,
+        ),
+    }
+}
+
+/// The assignment of what an operand is.
+fn assigned_operand(target: Meaning, from: Meaning) -> Act
+    ensures { result ≡ assigned target (ptr_rhs_of from) (data_rhs_of from) }
+{
+    match target {
+        Meaning::Pointer { path, .. } => Act::SetPtr {
+            to: path,
+            from: ptr_rhs_of(from),
+        },
+        Meaning::Datum(path) => Act::SetData {
+            to: path,
+            from: data_rhs_of(from),
+        },
+        Meaning::Known(_) | Meaning::Zero | Meaning::Null | Meaning::Call | Meaning::Broken =>
+            Act::Halt,
+    }
+}
+
+/// The assignment of a new cell.
+fn assigned_new(target: Meaning) -> Act
+    ensures { result ≡ assigned target (ptr_rhs.New (target_struct target)) (data_rhs.Known 0) }
+{
+    match target {
+        Meaning::Pointer { path, to } => Act::SetPtr {
+            to: path,
+            from: PtrRhs::New(or_zero(to)),
+        },
+        Meaning::Datum(path) => Act::SetData {
+            to: path,
+            from: DataRhs::Known(0),
+        },
+        Meaning::Known(_) | Meaning::Zero | Meaning::Null | Meaning::Call | Meaning::Broken =>
+            Act::Halt,
+    }
+}
+
+/// The assignment of a right side.
+pub fn assignment(
+    alloc: Global,
+    tables: &Tables,
+    scope: &Scope,
+    target: Meaning,
+    rhs: &Rhs,
+) -> Mem<Act>
+    ensures { IfOk result (λ act. act ≡ assignment tables.now scope.now target rhs.now) }
+{
+    match rhs {
+        Rhs::Operand(operand) => {
+            let from = meaning_of_operand(alloc, tables, scope, operand)?;
+            Ok(assigned_operand(target, from))
+        }
+        Rhs::Malloc { .. } => Ok(assigned_new(target)),
+    }
+}
+
+fn freed(meaning: Meaning) -> Act
+    ensures { result ≡ freed meaning }
+{
+    match meaning {
+        Meaning::Pointer { path, .. } => Act::Free(path),
+        Meaning::Datum(_)
+        | Meaning::Known(_)
+        | Meaning::Zero
+        | Meaning::Null
+        | Meaning::Call
+        | Meaning::Broken => Act::Halt,
+    }
+}
+
+fn call_act(name: &[u8]) -> Act
+    ensures { result ≡ call_act name.now }
+{
+    if is_error(name) {
+        Act::Error
+    } else {
+        Act::Halt
+    }
+}
+
+/// What a statement without parts does.
+pub fn simple_stmts(
+    alloc: Global,
+    tables: &Tables,
+    scope: &Scope,
+    simple: &Simple,
+) -> Mem<List<Stmt>>
+    ensures { IfOk result (λ stmts. stmts ≡ simple_stmts tables.now scope.now simple.now) }
+{
+    match simple {
+        Simple::Assign { to, from } => {
+            let target = meaning_of_path(alloc, tables, scope, to)?;
+            let act = assignment(alloc, tables, scope, target, from)?;
+            doing(alloc, act, to.head.at.line)
+        }
+        Simple::Call(call) => {
+            let act = call_act(call.name.text.as_slice());
+            doing(alloc, act, call.name.at.line)
+        }
+        Simple::Free { at, path } => {
+            let meaning = meaning_of_path(alloc, tables, scope, path)?;
+            doing(alloc, freed(meaning), at.line)
+        }
+    }
+}
+
+/// What a statement does that may be missing.
+pub fn maybe_simple(
+    alloc: Global,
+    tables: &Tables,
+    scope: &Scope,
+    simple: &Option<Simple>,
+) -> Mem<List<Stmt>>
+    ensures { IfOk result (λ stmts. stmts ≡ maybe_simple tables.now scope.now simple.now) }
+{
+    match simple {
+        None => Ok(List::new(alloc)),
+        Some(simple) => simple_stmts(alloc, tables, scope, simple),
+    }
+}
+
+fn returned(meaning: Meaning) -> Option<DataPath>
+    ensures { result ≡ returned meaning }
+{
+    match meaning {
+        Meaning::Datum(path) => Some(path),
+        Meaning::Pointer { .. }
+        | Meaning::Known(_)
+        | Meaning::Zero
+        | Meaning::Null
+        | Meaning::Call
+        | Meaning::Broken => None,
+    }
+}
+
+/// The datum at which a `return` looks.
+pub fn returned_operand(
+    alloc: Global,
+    tables: &Tables,
+    scope: &Scope,
+    operand: &Option<Operand>,
+) -> Mem<Option<DataPath>>
+    ensures { IfOk result (λ path. path ≡ returned_operand tables.now scope.now operand.now) }
+{
+    match operand {
+        None => Ok(None),
+        Some(operand) => {
+            let meaning = meaning_of_operand(alloc, tables, scope, operand)?;
+            Ok(returned(meaning))
+        }
+    }
+}

@@ -1,0 +1,136 @@
+// A whole unit.
+ghost use Rattle.std.specs.Prelude.{true, ◌≡◌, ◌≢◌, ◌⊎◌, ◌∷◌, [], Ok, Err, Some, None, IfOk, IfErr, OnOk};
+ghost use Rattle.c_ast.specs.declared.items.Unit as whole;
+ghost use Rattle.c_types.specs.Program.{Program, is_typed};
+ghost use Rattle.c_typing.specs.Globals.{globals_of};
+ghost use Rattle.c_typing.specs.Programs.{program_in, program_of};
+ghost use Rattle.c_typing.specs.ItemSites.{unit_sites};
+ghost use Rattle.c_typing.specs.Sites.{Ends, Overflows};
+ghost use Rattle.c_typing.specs.Typing.{breaches, IsFirstFault, TypedOf};
+ghost use Rattle.c_typing.specs.declared.fault.TypeFault.{TypeFault as Fault};
+ghost use Rattle.c_typing.specs.declared.fault.TypeFault.TheVariants.{Memory};
+ghost use Rattle.c_check.specs.inner.Bodies.{program_from};
+ghost use Rattle.c_check.specs.inner.First.{first_from};
+ghost use Rattle.c_check.specs.inner.Items.{any_main, kept_items_sites, nothing_kept};
+ghost use Rattle.c_check.specs.inner.Meeting.{met, noted};
+
+use crate::first::note_limit;
+use crate::items::all_items;
+use crate::noting::note_when;
+use crate::statements::Body;
+use crate::tables::Tables;
+use c_ast::Unit;
+use c_types::Typed;
+use c_typing::TypeFault;
+use fore_base::list::List;
+use fore_base::memory::Mem;
+use fore_base::place::Place;
+use std::alloc::Global;
+
+/// The program of a unit. It is gone through once, by recursion no deeper than the tree.
+///
+/// Errors: the first fault of the unit, which is `Rule` or `Limit` at the earliest place where a rule is broken or a limit is passed, on one
+/// place a rule before a limit, and then the lesser number; `Memory` for want of memory.
+pub fn check(alloc: Global, unit: &Unit) -> Result<Typed, TypeFault>
+    ensures ok { IfOk result (TypedOf unit.now) }
+    ensures err { IfErr result (λ e. (e ≡ Memory) ⊎ IsFirstFault unit.now e) }
+    ensures types { (p : Program) → TypedOf unit.now p → (result ≡ Ok p) ⊎ (result ≡ Err Memory) }
+    ensures finds { (e : Fault) → IsFirstFault unit.now e → (result ≡ Err e) ⊎ (result ≡ Err Memory) }
+{
+    answer(alloc, unit)
+}
+
+/// The end of the file, where `main` tells whether there is one.
+#[tactic(auto, using(crate::proofs::ItemLemmas::sites))]
+fn ends(tables: &Tables, main: bool, end: Place, found: &mut Option<TypeFault>)
+    ensures { found.new ≡ noted tables.now found.old (Ends main end) }
+{
+    let _tables = tables;
+    note_when(!main, 12, end, found);
+}
+
+/// The first token above the limit, if there is one.
+#[tactic(auto, using(crate::proofs::ItemLemmas::sites))]
+fn overflows(tables: &Tables, over: &Option<Place>, found: &mut Option<TypeFault>)
+    ensures { found.new ≡ noted tables.now found.old (Overflows over.now) }
+{
+    let _tables = tables;
+    match over {
+        Some(at) => note_limit(found, 8, *at),
+        None => {}
+    }
+}
+
+/// All of a unit: what the body of the first `main` is, if there is one.
+fn all_places(
+    alloc: Global,
+    tables: &Tables,
+    unit: &Unit,
+    found: &mut Option<TypeFault>,
+) -> Mem<Option<Body>>
+    ensures found { OnOk result (found.new ≡ met tables.now found.old (unit_sites tables.now unit.now)) }
+    ensures program { IfOk result (λ main. program_from tables.now main [] ≡ program_in tables.now unit.now.items) }
+{
+    let main = all_items(alloc, tables, unit.items.as_slice(), found)?;
+    ends(tables, main.is_some(), unit.end, found);
+    overflows(tables, &unit.over, found);
+    Ok(main)
+}
+
+/// The program that was read.
+fn program(alloc: Global, tables: &Tables, main: Option<Body>) -> Mem<Typed>
+    requires { is_typed (program_from tables.now main []) ≡ true }
+    ensures { IfOk result (λ typed. typed ≡ program_from tables.now main []) }
+{
+    let shapes = tables.shapes(alloc)?;
+    match main {
+        Some(
+            Body {
+                vars,
+                data_vars,
+                body,
+            },
+        ) => Ok(Typed {
+            shapes,
+            vars,
+            data_vars,
+            body,
+        }),
+        None => Ok(Typed {
+            shapes,
+            vars: List::new(alloc),
+            data_vars: List::new(alloc),
+            body: List::new(alloc),
+        }),
+    }
+}
+
+/// The first fault, if there was one, or else the program that was read.
+fn outcome(
+    alloc: Global,
+    tables: &Tables,
+    main: Option<Body>,
+    found: Option<TypeFault>,
+) -> Result<Typed, TypeFault>
+    requires { found ≡ None → is_typed (program_from tables.now main []) ≡ true }
+    ensures ok { IfOk result (λ typed. (found ≡ None) × (typed ≡ program_from tables.now main [])) }
+    ensures err { IfErr result (λ e. (e ≡ Memory) ⊎ (found ≡ Some e)) }
+{
+    match found {
+        Some(fault) => Err(fault),
+        None => {
+            let typed = program(alloc, tables, main)?;
+            Ok(typed)
+        }
+    }
+}
+
+fn answer(alloc: Global, unit: &Unit) -> Result<Typed, TypeFault>
+    ensures ok { IfOk result (TypedOf unit.now) }
+    ensures err { IfErr result (λ e. (e ≡ Memory) ⊎ IsFirstFault unit.now e) }
+{
+    let tables = Tables::of(alloc, unit.items.as_slice())?;
+    let mut found = None;
+    let main = all_places(alloc, &tables, unit, &mut found)?;
+    outcome(alloc, &tables, main, found)
+}

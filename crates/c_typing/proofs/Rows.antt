@@ -1,0 +1,10 @@
+-- Worked rows of the definitions, by subject.
+pub mod Assignments
+pub mod Blocks
+pub mod Definitions
+pub mod Files
+pub mod Forms
+pub mod Limits
+pub mod Orders
+pub mod Tests
+pub mod Translations

@@ -1,0 +1,150 @@
+-- What the items of a file define: structs, enumerations and enumerators. They are known in the whole file. Of two definitions of one name
+-- the first counts.
+use Rattle.std.specs.Prelude.{ℕ, zero, suc, cond, nat_le, List, [], ◌∷◌, map, Option, Some, None}
+use Rattle.fore_base.specs.declared.limits.TheConstants.{DATUM}
+use Rattle.c_ast.specs.declared.items.Field.{Field}
+use Rattle.c_ast.specs.declared.items.Field.TheVariants as field
+use Rattle.c_ast.specs.declared.items.Item.{Item}
+use Rattle.c_ast.specs.declared.items.Item.TheVariants as item
+use Rattle.c_ast.specs.declared.operands.Name.{Name}
+use Rattle.c_typing.specs.Texts.{Text, same, number_of, firsts, each_of}
+use Rattle.c_typing.specs.declared.meaning.Enumerator.{Enumerator}
+use Rattle.c_typing.specs.declared.meaning.FieldUse.{FieldUse}
+use Rattle.c_typing.specs.declared.meaning.FieldUse.TheVariants as use_of
+use Rattle.c_typing.specs.declared.meaning.Kind.{Kind}
+use Rattle.c_typing.specs.declared.meaning.Kind.TheVariants.{Points, Datum}
+use Rattle.c_typing.specs.declared.meaning.Member.{Member}
+use Rattle.c_typing.specs.declared.meaning.StructDef.{StructDef}
+
+-- the structs in order of their definitions, the names of the enumerations, and the enumerators
+pub record Globals : Type 0 where
+  pub structs : List StructDef
+  pub enums : List Text
+  pub values : List Enumerator
+
+abbrev pub text_of : Name → Text
+text_of n = n.text
+
+-- Structs (ISO/IEC 9899:2011, 6.7.2.1). Without braces nothing is defined.
+
+abbrev pub Definition : Type 0
+Definition = Name × List Field
+
+abbrev pub defined_name : Definition → Text
+defined_name d = d.0.text
+
+abbrev pub maybe_defined : Name → Option (List Field) → List Definition
+maybe_defined name None = []
+maybe_defined name (Some fields) = (name, fields) ∷ []
+
+abbrev pub structs_in : Item → List Definition
+structs_in (item.Struct at name fields) = maybe_defined name fields
+structs_in (item.Enum at name values) = []
+structs_in (item.Proto outer head) = []
+structs_in (item.Function head body) = []
+structs_in (item.Declare d) = []
+
+abbrev pub struct_definitions : List Item → List Definition
+struct_definitions items = firsts defined_name [] (each_of structs_in items)
+
+abbrev pub pointer_member : Option ℕ → Name → Member
+pointer_member to name = record { name = name.text; kind = Points to }
+
+abbrev pub datum_member : Name → Member
+datum_member name = record { name = name.text; kind = Datum }
+
+-- the fields of one line, given the names of all structs
+abbrev pub members_in : List Text → Field → List Member
+members_in names (field.Pointers at shape fields) = map (pointer_member (number_of shape.text names)) fields
+members_in names (field.Datums base fields) = map datum_member fields
+
+abbrev pub struct_of : List Text → Definition → StructDef
+struct_of names d = record { name = d.0.text; fields = each_of (members_in names) d.1 }
+
+abbrev pub structs_of : List Item → List StructDef
+structs_of items = map (struct_of (map defined_name (struct_definitions items))) (struct_definitions items)
+
+-- Enumerations (6.7.2.2)
+
+abbrev pub enums_in : Item → List Text
+enums_in (item.Struct at name fields) = []
+enums_in (item.Enum at name values) = name.text ∷ []
+enums_in (item.Proto outer head) = []
+enums_in (item.Function head body) = []
+enums_in (item.Declare d) = []
+
+abbrev pub itself : Text → Text
+itself x = x
+
+abbrev pub enums_of : List Item → List Text
+enums_of items = firsts itself [] (each_of enums_in items)
+
+-- a datum of this number; 0 where there is none
+abbrev pub datum_of : ℕ → ℕ
+datum_of n = cond (nat_le n DATUM) n 0
+
+-- enumerators have the values n, n + 1 and so on
+abbrev pub values_from : ℕ → List Name → List Enumerator
+values_from n [] = []
+values_from n (x ∷ xs) = record { name = x.text; value = datum_of n } ∷ values_from (suc n) xs
+
+abbrev pub values_in : Item → List Enumerator
+values_in (item.Struct at name fields) = []
+values_in (item.Enum at name values) = values_from 0 values
+values_in (item.Proto outer head) = []
+values_in (item.Function head body) = []
+values_in (item.Declare d) = []
+
+abbrev pub value_name : Enumerator → Text
+value_name v = v.name
+
+abbrev pub values_of : List Item → List Enumerator
+values_of items = firsts value_name [] (each_of values_in items)
+
+abbrev pub globals_of : List Item → Globals
+globals_of items = record { structs = structs_of items; enums = enums_of items; values = values_of items }
+
+-- What a name means
+
+abbrev pub struct_name : StructDef → Text
+struct_name s = s.name
+
+-- the number of the struct of this name
+abbrev pub struct_number : Globals → Text → Option ℕ
+struct_number g x = number_of x (map struct_name g.structs)
+
+abbrev pub value_in : Text → List Enumerator → Option ℕ
+value_in x [] = None
+value_in x (v ∷ vs) = cond (same x v.name) (Some v.value) (value_in x vs)
+
+-- the value of the enumerator of this name
+abbrev pub value_of : Globals → Text → Option ℕ
+value_of g x = value_in x g.values
+
+-- the fields of the struct of this number
+abbrev pub fields_of : List StructDef → ℕ → List Member
+fields_of [] n = []
+fields_of (s ∷ ss) zero = s.fields
+fields_of (s ∷ ss) (suc n) = fields_of ss n
+
+abbrev pub use_as : Kind → ℕ → ℕ → FieldUse
+use_as (Points to) ptrs datums = use_of.Pointer ptrs to
+use_as Datum ptrs datums = use_of.Datum datums
+
+abbrev pub one_pointer_more : Kind → ℕ → ℕ
+one_pointer_more (Points to) n = suc n
+one_pointer_more Datum n = n
+
+abbrev pub one_datum_more : Kind → ℕ → ℕ
+one_datum_more (Points to) n = n
+one_datum_more Datum n = suc n
+
+-- the field of this name, after so many pointers and so many data
+abbrev pub use_in : Text → ℕ → ℕ → List Member → Option FieldUse
+use_in x ptrs datums [] = None
+use_in x ptrs datums (m ∷ ms) =
+    cond (same x m.name) (Some (use_as m.kind ptrs datums)) (use_in x (one_pointer_more m.kind ptrs) (one_datum_more m.kind datums) ms)
+
+-- the field of this name of the struct of this number; pointers and data are numbered apart
+abbrev pub field_use : Globals → ℕ → Text → Option FieldUse
+field_use g shape x = use_in x 0 0 (fields_of g.structs shape)

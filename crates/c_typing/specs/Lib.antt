@@ -1,0 +1,12 @@
+pub mod BodySites
+pub mod Globals
+pub mod ItemSites
+pub mod Meanings
+pub mod Orders
+pub mod Profile
+pub mod Programs
+pub mod Rules
+pub mod Scopes
+pub mod Sites
+pub mod Texts
+pub mod Typing
