@@ -3,11 +3,16 @@
 use Rattle.std.proofs.Common.{◌≡◌, ◌<◌, inl, inr, ℕ, List, [], ◌∷◌, ◌++◌, codes, take, zero, suc, Option, Some, None, refl, arith}
 use Rattle.std.specs.Fmt.{digits}
 use Rattle.fore_base.specs.declared.fault.Fault.TheVariants.{NullDeref, UninitDeref, DanglingDeref, InvalidFree, DoubleFree, Leak, Assertion, IndetTest}
-use Rattle.forester.specs.declared.answer.Refusal.TheVariants.{TooLong, NotStraight}
-use Rattle.forester.specs.declared.answer.Answer.TheVariants.{Safe, Unsafe, Usage, Refused, ReadFault, NoMemory}
+use Rattle.c_types.specs.declared.outcome.Outcome.TheVariants.{Ended, Fault, Starved, BadChoice, StillRunning}
+use Rattle.c_front.specs.declared.broken.Letter.{Letter}
+use Rattle.c_front.specs.declared.broken.Letter.TheVariants.{Lexical, Profile, Syntax, Typing, Limit}
+use Rattle.forester.specs.declared.answer.Refusal.TheVariants.{TooLong, Breaks, NotOneWay}
+use Rattle.forester.specs.declared.answer.Answer.{Answer}
+use Rattle.forester.specs.declared.answer.Answer.TheVariants.{Safe, Unsafe, Ran, Usage, Refused, ReadFault, NoMemory}
+use Rattle.forester.specs.declared.words.Task.TheVariants.{Verify, Run}
 use Rattle.forester.specs.Requests.{ShelfView, Writing}
-use Rattle.forester.specs.Words.{IsNoOption, IsVerify, NamesNoFile}
-use Rattle.forester.specs.Texts.{fault_text, out_text, notes_text, status_of, IsStatus}
+use Rattle.forester.specs.Words.{IsNoOption, IsNumber, IsChoices, IsTask, IsAsked, AsksNothing}
+use Rattle.forester.specs.Texts.{fault_text, out_text, notes_text, status_of}
 use Rattle.forester.specs.Delivery.{IsUntouched, Wrote, IsCut, IsCutShort}
 use Rattle.forester.specs.Verdict.{IsRead, IsRightFor, IsRight, ReadsOnly}
 
@@ -22,17 +27,56 @@ no_text = tt
 an_option : IsNoOption (codes "-x") → ⊥
 an_option h = h refl
 
-two_words : IsVerify (codes "verify" ∷ codes "x.c" ∷ []) (codes "x.c")
-two_words = record { are = refl; no_option = λ h. omega (arith, h) }
+two_words : IsAsked (codes "verify" ∷ codes "x.c" ∷ []) (codes "x.c") Verify
+two_words = record { verb = codes "verify"; given = []; are = refl; no_option = λ h. omega (arith, h); asks = (refl, refl) }
 
-one_word : NamesNoFile (codes "verify" ∷ [])
-one_word path h = cc (h.are)
+one_word : AsksNothing (codes "verify" ∷ [])
+one_word path task h = cc (h.are)
 
-three_words : NamesNoFile (codes "verify" ∷ codes "x.c" ∷ codes "y.c" ∷ [])
-three_words path h = cc (h.are)
+three_words : IsAsked (codes "verify" ∷ codes "x.c" ∷ codes "y.c" ∷ []) (codes "x.c") Verify → ⊥
+three_words h = cc (h.are, h.asks.1)
 
-another_command : NamesNoFile (codes "verif" ∷ codes "x.c" ∷ [])
-another_command path h = cc (h.are)
+another_command : IsTask (codes "verif") [] Verify → ⊥
+another_command h = cc (h.0)
+
+-- a run without options is one on no choices, for a million steps
+bare_run : IsTask (codes "run") [] (Run [] 1000000)
+bare_run = (refl, [], inr (refl, refl), inr (refl, refl))
+
+run_on_choices : IsTask (codes "run") (codes "--choices" ∷ codes "10" ∷ []) (Run (1 ∷ 0 ∷ []) 1000000)
+run_on_choices =
+    (refl, [], inl (codes "10", refl, record { digits = ((omega arith, omega arith), ((omega arith, omega arith), tt)); are = refl }), inr (refl, refl))
+
+run_for_steps : IsTask (codes "run") (codes "--steps" ∷ codes "25" ∷ []) (Run [] 25)
+unfolding digits
+run_for_steps = (refl, codes "--steps" ∷ codes "25" ∷ [], inr (refl, refl), inl (codes "25", refl, record { written = refl; least = omega arith; greatest = omega arith }))
+
+run_on_both : IsTask (codes "run") (codes "--choices" ∷ [] ∷ codes "--steps" ∷ codes "7" ∷ []) (Run [] 7)
+unfolding digits
+run_on_both = (
+  refl,
+  codes "--steps" ∷ codes "7" ∷ [],
+  inl ([], refl, record { digits = tt; are = refl }),
+  inl (codes "7", refl, record { written = refl; least = omega arith; greatest = omega arith }),
+)
+
+-- the greatest number of steps, and what is none
+most_steps : IsNumber 1000000 (codes "1000000") 1000000
+unfolding digits
+most_steps = record { written = refl; least = omega arith; greatest = omega arith }
+
+no_zero : IsNumber 1000000 (codes "0") 0 → ⊥
+no_zero h = omega (arith, h.least)
+
+no_more_steps : IsNumber 1000000 (codes "1000001") 1000001 → ⊥
+no_more_steps h = omega (arith, h.greatest)
+
+no_leading_zero : IsNumber 1000000 (codes "007") 7 → ⊥
+unfolding digits
+no_leading_zero h = cc (h.written)
+
+no_letter : IsChoices (codes "1x") (1 ∷ 72 ∷ []) → ⊥
+no_letter h = omega (arith, h.digits.1.0)
 
 -- Texts
 
@@ -65,14 +109,49 @@ assertion = refl
 indet_test : fault_text IndetTest ≡ codes "indeterminate test"
 indet_test = refl
 
+on_end : out_text (Ran (Ended 14)) ≡ codes "ENDED" ++ 10 ∷ codes "step 14" ++ 10 ∷ []
+unfolding digits
+on_end = refl
+
+on_met_fault : out_text (Ran (Fault NullDeref 20 8)) ≡ codes "FAULT" ++ 10 ∷ codes "fault 1 null dereference" ++ 10 ∷ codes "line 20" ++ 10 ∷ codes "step 8" ++ 10 ∷ []
+unfolding digits
+on_met_fault = refl
+
+on_starved : out_text (Ran (Starved 7)) ≡ codes "STARVED" ++ 10 ∷ codes "step 7" ++ 10 ∷ []
+unfolding digits
+on_starved = refl
+
+on_bad_choice : out_text (Ran (BadChoice 0)) ≡ codes "BAD CHOICE" ++ 10 ∷ codes "index 0" ++ 10 ∷ []
+unfolding digits
+on_bad_choice = refl
+
+on_still_running : out_text (Ran StillRunning) ≡ codes "STILL RUNNING" ++ 10 ∷ []
+on_still_running = refl
+
 on_usage : notes_text Usage ≡ codes "usage" ++ 10 ∷ []
 on_usage = refl
 
 on_long : notes_text (Refused TooLong) ≡ codes "refused K1 file" ++ 10 ∷ []
 on_long = refl
 
-on_other : notes_text (Refused NotStraight) ≡ codes "refused N1 file" ++ 10 ∷ []
+on_other : notes_text (Refused NotOneWay) ≡ codes "refused N1 file" ++ 10 ∷ []
 on_other = refl
+
+abbrev at_place : Letter → ℕ → ℕ → ℕ → Answer
+at_place letter number line column =
+    Refused (Breaks (record { letter = letter; number = number; at = record { offset = 0; line = line; column = column } }))
+
+on_rule : notes_text (at_place Typing 15 3 27) ≡ codes "refused T15 3:27" ++ 10 ∷ []
+unfolding digits
+on_rule = refl
+
+on_others : (notes_text (at_place Lexical 2 1 18) ≡ codes "refused L2 1:18" ++ 10 ∷ []) × (notes_text (at_place Profile 10 1 23) ≡ codes "refused P10 1:23" ++ 10 ∷ [])
+unfolding digits
+on_others = (refl, refl)
+
+on_more : (notes_text (at_place Syntax 1 1 27) ≡ codes "refused S1 1:27" ++ 10 ∷ []) × (notes_text (at_place Limit 8 200 1) ≡ codes "refused K8 200:1" ++ 10 ∷ [])
+unfolding digits
+on_more = (refl, refl)
 
 on_read_fault : notes_text ReadFault ≡ codes "read fault" ++ 10 ∷ []
 on_read_fault = refl
@@ -84,18 +163,11 @@ one_stream = (refl, refl, refl, refl, refl)
 no_stream : (out_text NoMemory ≡ []) × (notes_text NoMemory ≡ [])
 no_stream = (refl, refl)
 
-statuses : (status_of Safe ≡ 0) × (status_of (Unsafe Leak 5 2) ≡ 1) × (status_of Usage ≡ 2) × (status_of (Refused TooLong) ≡ 4) × (status_of (Refused NotStraight) ≡ 4) × (status_of ReadFault ≡ 5) × (status_of NoMemory ≡ 7)
+statuses : (status_of Safe ≡ 0) × (status_of (Unsafe Leak 5 2) ≡ 1) × (status_of Usage ≡ 2) × (status_of (Refused TooLong) ≡ 4) × (status_of (Refused NotOneWay) ≡ 4) × (status_of ReadFault ≡ 5) × (status_of NoMemory ≡ 7)
 statuses = (refl, refl, refl, refl, refl, refl, refl)
 
--- a failed write has a status of its own, and 3 and 8 are none
-a_failed_write : IsStatus 6
-a_failed_write = inr (inr (inr (inr (inr (inl refl)))))
-
-no_three : IsStatus 3 → ⊥
-no_three h = omega (arith, h)
-
-no_eight : IsStatus 8 → ⊥
-no_eight h = omega (arith, h)
+run_statuses : (status_of (Ran (Ended 1)) ≡ 0) × (status_of (Ran (Fault Leak 5 2)) ≡ 1) × (status_of (Ran (Starved 1)) ≡ 3) × (status_of (Ran (BadChoice 0)) ≡ 3) × (status_of (Ran StillRunning) ≡ 3)
+run_statuses = (refl, refl, refl, refl, refl)
 
 -- Delivery
 
@@ -151,6 +223,13 @@ gave bytes = record { holds = λ path. None; given = λ path. Some bytes; faults
 abbrev tells : List ℕ → ShelfView
 tells bytes = record { holds = λ path. Some bytes; given = λ path. None; faults = λ path. 0 }
 
+-- a verdict answers no run, and the outcome of a run no wish for a verdict
+no_verdict_on_a_run : IsRightFor (codes "x.c") blank blank Safe (Run [] 1) → ⊥
+no_verdict_on_a_run h = h
+
+no_outcome_for_a_verdict : IsRightFor (codes "x.c") blank blank (Ran (Ended 0)) Verify → ⊥
+no_outcome_for_a_verdict h = h
+
 a_real_file : IsRead (codes "x.c") blank (gave (codes "int")) (codes "int")
 a_real_file = record { given = refl; within = omega arith; held = tt }
 
@@ -160,20 +239,20 @@ not_given h = cc (h.given)
 not_held : IsRead (codes "x.c") (tells (codes "int")) (gave (codes "void")) (codes "void") → ⊥
 not_held h = cc (h.held)
 
-not_long : IsRightFor (codes "x.c") (tells (codes "int")) (tells (codes "int")) (Refused TooLong) → ⊥
+not_long : IsRightFor (codes "x.c") (tells (codes "int")) (tells (codes "int")) (Refused TooLong) Verify → ⊥
 not_long h = omega (arith, h.1)
 
-given_and_long : IsRightFor (codes "x.c") blank (gave (codes "int")) (Refused TooLong) → ⊥
+given_and_long : IsRightFor (codes "x.c") blank (gave (codes "int")) (Refused TooLong) Verify → ⊥
 given_and_long h = cc (h.0)
 
-no_read_fault : IsRightFor (codes "x.c") blank blank ReadFault → ⊥
+no_read_fault : IsRightFor (codes "x.c") blank blank ReadFault Verify → ⊥
 no_read_fault h = omega (arith, h)
 
 no_usage_for_a_file : IsRight (record { words = codes "verify" ∷ codes "x.c" ∷ []; before = blank; after = blank }) Usage → ⊥
-no_usage_for_a_file h = h (codes "x.c") two_words
+no_usage_for_a_file h = h (codes "x.c") Verify two_words
 
 usage_for_one_word : IsRight (record { words = codes "verify" ∷ []; before = blank; after = blank }) Usage
 usage_for_one_word = one_word
 
 reads_without_a_file : ReadsOnly (record { words = codes "verify" ∷ []; before = blank; after = gave (codes "int") }) → ⊥
-reads_without_a_file h = let e = h.others (codes "x.c") (one_word (codes "x.c")) in cc e
+reads_without_a_file h = let e = h.others (codes "x.c") (λ n. one_word (codes "x.c") n.0 n.1) in cc e

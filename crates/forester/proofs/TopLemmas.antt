@@ -1,48 +1,176 @@
 -- What a status says of the answer that was delivered.
-use Rattle.std.proofs.Common.{◌≡◌, ◌≤◌, ◌<◌, ◌⊎◌, inl, inr, ℕ, Option, Some, None, List, IfSome, length, sym, ◌∙◌, ap, subst, arith}
+use Rattle.std.proofs.Common.{◌≡◌, ◌≤◌, ◌<◌, ◌⊎◌, inl, inr, ℕ, Option, Some, None, List, IfSome, length, sym, ◌∙◌, ap, subst, refl, arith, Bool, true, false}
 use Rattle.c_types.specs.Program.{Program}
+use Rattle.c_types.specs.OneWay.{is_one_way}
+use Rattle.c_types.specs.Runs.{run}
+use Rattle.c_types.specs.declared.outcome.Outcome.{Outcome}
+use Rattle.c_types.specs.declared.outcome.Outcome.TheVariants.{Ended, Fault, Starved, BadChoice, StillRunning}
+use Rattle.c_front.specs.declared.broken.Broken.{Broken}
+use Rattle.c_front.specs.Files.{IsProgramOf, BreaksFirst}
+use Rattle.c_front.proofs.FileLaws.{one_program, program_or_breach}
 use Rattle.fore_base.specs.Outside.{Rose}
 use Rattle.fore_base.specs.declared.limits.TheConstants.{FILE_BYTES}
 use Rattle.fore_base.specs.declared.fault.Fault.{Fault as Kind}
 use Rattle.forester.specs.declared.answer.Refusal.{Refusal}
-use Rattle.forester.specs.declared.answer.Refusal.TheVariants.{TooLong, NotStraight}
+use Rattle.forester.specs.declared.answer.Refusal.TheVariants.{TooLong, Breaks, NotOneWay}
 use Rattle.forester.specs.declared.answer.Answer.{Answer}
-use Rattle.forester.specs.declared.answer.Answer.TheVariants.{Safe, Unsafe, Usage, Refused, ReadFault, NoMemory}
+use Rattle.forester.specs.declared.answer.Answer.TheVariants.{Safe, Unsafe, Ran, Usage, Refused, ReadFault, NoMemory}
+use Rattle.forester.specs.declared.words.Task.{Task}
+use Rattle.forester.specs.declared.words.Task.TheVariants.{Verify, Run}
 use Rattle.forester.specs.Requests.{Request, Writing}
-use Rattle.forester.specs.Words.{IsVerify}
-use Rattle.forester.specs.Texts.{out_text, notes_text, status_of}
+use Rattle.forester.specs.Words.{IsAsked, AsksToVerify, AsksToRun, AsksNothing}
+use Rattle.forester.proofs.WordLemmas.{one_task}
+use Rattle.forester.specs.Texts.{out_text, notes_text, run_status, status_of}
 use Rattle.forester.specs.Delivery.{IsCutShort}
-use Rattle.forester.specs.straight.Files.{IsStraight}
-use Rattle.forester.specs.Verdict.{IsRead, IsRefused, IsRightFor, ForFile, IsRight, IsNotStraight, NothingFailed, HasBytes, NamesStraight, NamesOther}
+use Rattle.forester.specs.inner.Judging.{WantsMemory}
+use Rattle.forester.specs.Verdict.{IsRead, IsRefused, IsRightFor, ForFile, IsRight, IsOther, NothingFailed, HasBytes, NamesProgram, NamesOther}
 
--- the answers of the statuses 1 and 4
-module _ (T : Answer → Type 0) where
-  pub was_unsafe : (a : Answer) → status_of a ≡ 1 → T a → (kind : Kind) × (line : ℕ) × (step : ℕ) × T (Unsafe kind line step)
-  was_unsafe Safe e h = absurd (omega (arith, e))
-  was_unsafe (Unsafe kind line step) e h = (kind, line, step, h)
-  was_unsafe Usage e h = absurd (omega (arith, e))
-  was_unsafe (Refused why) e h = absurd (omega (arith, e))
-  was_unsafe ReadFault e h = absurd (omega (arith, e))
-  was_unsafe NoMemory e h = absurd (omega (arith, e))
+-- Statuses of runs
 
-  pub was_refused : (a : Answer) → status_of a ≡ 4 → T a → (why : Refusal) × T (Refused why)
-  was_refused Safe e h = absurd (omega (arith, e))
-  was_refused (Unsafe kind line step) e h = absurd (omega (arith, e))
-  was_refused Usage e h = absurd (omega (arith, e))
-  was_refused (Refused why) e h = (why, h)
-  was_refused ReadFault e h = absurd (omega (arith, e))
-  was_refused NoMemory e h = absurd (omega (arith, e))
+pub run_below_four : (o : Outcome) → run_status o < 4
+run_below_four (Ended step) = omega arith
+run_below_four (Fault kind line step) = omega arith
+run_below_four (Starved step) = omega arith
+run_below_four (BadChoice index) = omega arith
+run_below_four StillRunning = omega arith
+
+pub run_not_two : (o : Outcome) → run_status o ≡ 2 → ⊥
+run_not_two (Ended step) e = omega (arith, e)
+run_not_two (Fault kind line step) e = omega (arith, e)
+run_not_two (Starved step) e = omega (arith, e)
+run_not_two (BadChoice index) e = omega (arith, e)
+run_not_two StillRunning e = omega (arith, e)
+
+-- the status of an answer to a run
+abbrev pub EndsRun : ℕ → Type 0
+EndsRun n = (n ≡ 0) ⊎ (n ≡ 1) ⊎ (n ≡ 3)
+
+-- The answer by its status and by what was asked
+
+module _ (r : Request) where
+  pub both_tasks : (a b choices : List ℕ) (steps : ℕ) → IsAsked r.words a Verify → IsAsked r.words b (Run choices steps) → ⊥
+  both_tasks a b choices steps v w = cc (v.are, w.are, v.asks.0, w.asks.0)
+
+  -- what is right for a run is not asked of a file that is to be verified
+  ran_for : (o : Outcome) (a b : List ℕ) (t : Task) → IsAsked r.words a Verify → IsAsked r.words b t → IsRightFor b r.before r.after (Ran o) t → ⊥
+  ran_for o a b Verify v w right = right
+  ran_for o a b (Run choices steps) v w right = both_tasks a b choices steps v w
+
+  not_ran : (o : Outcome) → AsksToVerify r.words → IsRight r (Ran o) → ⊥
+  not_ran o v h = ran_for o v.0 h.0 h.1 v.1 h.2 h.3
+
+  safe_for : (a b choices : List ℕ) (steps : ℕ) (t : Task) → IsAsked r.words a (Run choices steps) → IsAsked r.words b t → IsRightFor b r.before r.after Safe t → ⊥
+  safe_for a b choices steps Verify w v right = both_tasks b a choices steps v w
+  safe_for a b choices steps (Run cs n) w v right = right
+
+  unsafe_for : (kind : Kind) (line step : ℕ) (a b choices : List ℕ) (steps : ℕ) (t : Task) → IsAsked r.words a (Run choices steps) → IsAsked r.words b t
+      → IsRightFor b r.before r.after (Unsafe kind line step) t → ⊥
+  unsafe_for kind line step a b choices steps Verify w v right = both_tasks b a choices steps v w
+  unsafe_for kind line step a b choices steps (Run cs n) w v right = right
+
+  pub was_safe : (a : Answer) → AsksToVerify r.words → status_of a ≡ 0 → IsRight r a → a ≡ Safe
+  was_safe Safe v e h = refl
+  was_safe (Unsafe kind line step) v e h = absurd (omega (arith, e))
+  was_safe (Ran o) v e h = absurd (not_ran o v h)
+  was_safe Usage v e h = absurd (omega (arith, e))
+  was_safe (Refused why) v e h = absurd (omega (arith, e))
+  was_safe ReadFault v e h = absurd (omega (arith, e))
+  was_safe NoMemory v e h = absurd (omega (arith, e))
+
+  pub was_unsafe : (a : Answer) → AsksToVerify r.words → status_of a ≡ 1 → IsRight r a → (kind : Kind) × (line : ℕ) × (step : ℕ) × (a ≡ Unsafe kind line step)
+  was_unsafe Safe v e h = absurd (omega (arith, e))
+  was_unsafe (Unsafe kind line step) v e h = (kind, line, step, refl)
+  was_unsafe (Ran o) v e h = absurd (not_ran o v h)
+  was_unsafe Usage v e h = absurd (omega (arith, e))
+  was_unsafe (Refused why) v e h = absurd (omega (arith, e))
+  was_unsafe ReadFault v e h = absurd (omega (arith, e))
+  was_unsafe NoMemory v e h = absurd (omega (arith, e))
+
+  pub was_ran : (a : Answer) → AsksToRun r.words → EndsRun (status_of a) → IsRight r a → (o : Outcome) × (a ≡ Ran o)
+  was_ran Safe w e h = absurd (safe_for w.0 h.0 w.1 w.2 h.1 w.3 h.2 h.3)
+  was_ran (Unsafe kind line step) w e h = absurd (unsafe_for kind line step w.0 h.0 w.1 w.2 h.1 w.3 h.2 h.3)
+  was_ran (Ran o) w e h = (o, refl)
+  was_ran Usage w e h = absurd (omega (arith, e))
+  was_ran (Refused why) w e h = absurd (omega (arith, e))
+  was_ran ReadFault w e h = absurd (omega (arith, e))
+  was_ran NoMemory w e h = absurd (omega (arith, e))
+
+  pub was_usage : (a : Answer) → status_of a ≡ 2 → a ≡ Usage
+  was_usage Safe e = absurd (omega (arith, e))
+  was_usage (Unsafe kind line step) e = absurd (omega (arith, e))
+  was_usage (Ran o) e = absurd (run_not_two o e)
+  was_usage Usage e = refl
+  was_usage (Refused why) e = absurd (omega (arith, e))
+  was_usage ReadFault e = absurd (omega (arith, e))
+  was_usage NoMemory e = absurd (omega (arith, e))
+
+  pub was_refused : (a : Answer) → status_of a ≡ 4 → (why : Refusal) × (a ≡ Refused why)
+  was_refused Safe e = absurd (omega (arith, e))
+  was_refused (Unsafe kind line step) e = absurd (omega (arith, e))
+  was_refused (Ran o) e = absurd (omega (arith, e, run_below_four o))
+  was_refused Usage e = absurd (omega (arith, e))
+  was_refused (Refused why) e = (why, refl)
+  was_refused ReadFault e = absurd (omega (arith, e))
+  was_refused NoMemory e = absurd (omega (arith, e))
+
+  pub was_read_fault : (a : Answer) → status_of a ≡ 5 → a ≡ ReadFault
+  was_read_fault Safe e = absurd (omega (arith, e))
+  was_read_fault (Unsafe kind line step) e = absurd (omega (arith, e))
+  was_read_fault (Ran o) e = absurd (omega (arith, e, run_below_four o))
+  was_read_fault Usage e = absurd (omega (arith, e))
+  was_read_fault (Refused why) e = absurd (omega (arith, e))
+  was_read_fault ReadFault e = refl
+  was_read_fault NoMemory e = absurd (omega (arith, e))
+
+  verifies : (b : List ℕ) (t : Task) (n : ℕ) → n < 2 → IsAsked r.words b t → (AsksToVerify r.words × (n < 2)) ⊎ AsksToRun r.words
+  verifies b Verify n less asked = inl ((b, asked), less)
+  verifies b (Run choices steps) n less asked = inr (b, choices, steps, asked)
+
+  runs_for : (o : Outcome) (b : List ℕ) (t : Task) → IsAsked r.words b t → IsRightFor b r.before r.after (Ran o) t → AsksToRun r.words
+  runs_for o b Verify asked right = absurd right
+  runs_for o b (Run choices steps) asked right = (b, choices, steps, asked)
+
+  -- what was asked, by a status that is a verdict or how a run came out
+  pub was_asked : (a : Answer) → EndsRun (status_of a) → IsRight r a → (AsksToVerify r.words × (status_of a < 2)) ⊎ AsksToRun r.words
+  was_asked Safe e h = verifies h.0 h.1 0 (omega arith) h.2
+  was_asked (Unsafe kind line step) e h = verifies h.0 h.1 1 (omega arith) h.2
+  was_asked (Ran o) e h = inr (runs_for o h.0 h.1 h.2 h.3)
+  was_asked Usage e h = absurd (omega (arith, e))
+  was_asked (Refused why) e h = absurd (omega (arith, e))
+  was_asked ReadFault e h = absurd (omega (arith, e))
+  was_asked NoMemory e h = absurd (omega (arith, e))
+
+  -- words that ask nothing get the usage alone
+  pub only_usage : (a : Answer) → AsksNothing r.words → IsRight r a → a ≡ Usage
+  only_usage Safe none h = absurd (none h.0 h.1 h.2)
+  only_usage (Unsafe kind line step) none h = absurd (none h.0 h.1 h.2)
+  only_usage (Ran o) none h = absurd (none h.0 h.1 h.2)
+  only_usage Usage none h = refl
+  only_usage (Refused why) none h = absurd (none h.0 h.1 h.2)
+  only_usage ReadFault none h = absurd (none h.0 h.1 h.2)
+  only_usage NoMemory none h = absurd (none h.0 h.1 h.2)
+
+  pub unread : (n : ℕ) (a : Answer) → AsksNothing r.words → IsRight r a → (n ≡ status_of a) ⊎ (n ≡ 6) ⊎ (n ≡ 7) → (n ≡ 7 → WantsMemory a) → (n ≡ 2) ⊎ (n ≡ 6)
+  unread n a none h (inl own) memory = inl (own ∙ ap status_of (only_usage a none h))
+  unread n a none h (inr (inl six)) memory = inr six
+  unread n a none h (inr (inr seven)) memory = absurd (subst WantsMemory (only_usage a none h) (memory seven))
 
 -- a status that is neither 6 nor 7 is the answer's own
-pub own_status : (r n : ℕ) (a : Answer) → (r ≡ status_of a) ⊎ (r ≡ 6) ⊎ (r ≡ 7) → r ≡ n → (n ≡ 6 → ⊥) → (n ≡ 7 → ⊥) → r ≡ status_of a
-own_status r n a (inl own) e not_six not_seven = own
-own_status r n a (inr (inl six)) e not_six not_seven = absurd (not_six (sym e ∙ six))
-own_status r n a (inr (inr seven)) e not_six not_seven = absurd (not_seven (sym e ∙ seven))
+pub own_status : (r n : ℕ) (a : Answer) → (r ≡ status_of a) ⊎ (r ≡ 6) ⊎ (r ≡ 7) → r ≡ n → n < 6 → r ≡ status_of a
+own_status r n a (inl own) e less = own
+own_status r n a (inr (inl six)) e less = absurd (omega (arith, six, e, less))
+own_status r n a (inr (inr seven)) e less = absurd (omega (arith, seven, e, less))
+
+pub own_of_run : (r : ℕ) (a : Answer) → (r ≡ status_of a) ⊎ (r ≡ 6) ⊎ (r ≡ 7) → EndsRun r → r ≡ status_of a
+own_of_run r a (inl own) e = own
+own_of_run r a (inr (inl six)) e = absurd (omega (arith, six, e))
+own_of_run r a (inr (inr seven)) e = absurd (omega (arith, seven, e))
 
 -- an answer that has a text for some sink has a status below 6
 pub out_below_six : (a : Answer) (n : ℕ) → n < length (out_text a) → status_of a < 6
 out_below_six Safe n h = omega arith
 out_below_six (Unsafe kind line step) n h = omega arith
+out_below_six (Ran o) n h = omega (arith, run_below_four o)
 out_below_six Usage n h = omega arith
 out_below_six (Refused why) n h = omega arith
 out_below_six ReadFault n h = omega arith
@@ -51,6 +179,7 @@ out_below_six NoMemory n h = absurd (omega (arith, h))
 pub notes_below_six : (a : Answer) (n : ℕ) → n < length (notes_text a) → status_of a < 6
 notes_below_six Safe n h = omega arith
 notes_below_six (Unsafe kind line step) n h = omega arith
+notes_below_six (Ran o) n h = omega (arith, run_below_four o)
 notes_below_six Usage n h = omega arith
 notes_below_six (Refused why) n h = omega arith
 notes_below_six ReadFault n h = omega arith
@@ -60,6 +189,20 @@ pub cut_below_six : (out notes : Writing) (a : Answer) → IsCutShort out notes 
 cut_below_six out notes a (inl cut) = out_below_six a cut.0.grew.count cut.0.grew.within
 cut_below_six out notes a (inr cut) = notes_below_six a cut.0.grew.count cut.0.grew.within
 
+pub below_eight : (a : Answer) → status_of a < 8
+below_eight Safe = omega arith
+below_eight (Unsafe kind line step) = omega arith
+below_eight (Ran o) = omega (arith, run_below_four o)
+below_eight Usage = omega arith
+below_eight (Refused why) = omega arith
+below_eight ReadFault = omega arith
+below_eight NoMemory = omega arith
+
+pub status_below_eight : (r : ℕ) (a : Answer) → (r ≡ status_of a) ⊎ (r ≡ 6) ⊎ (r ≡ 7) → r < 8
+status_below_eight r a (inl own) = omega (arith, own, below_eight a)
+status_below_eight r a (inr (inl six)) = omega (arith, six)
+status_below_eight r a (inr (inr seven)) = omega (arith, seven)
+
 -- what did not fail was not cut short
 pub not_cut : (r : Request) (out notes : Writing) (a : Answer) → NothingFailed r out notes → IsCutShort out notes a → ⊥
 not_cut r out notes a steady (inl cut) = steady.out cut.0.rose
@@ -68,13 +211,16 @@ not_cut r out notes a steady (inr cut) = steady.notes cut.0.rose
 none_some : (bytes : List ℕ) (o : Option (List ℕ)) → o ≡ None → o ≡ Some bytes → ⊥
 none_some bytes o none some = let e : None ≡ Some bytes = sym none ∙ some in cc e
 
-one_path : (words : List (List ℕ)) (a b : List ℕ) → IsVerify words a → IsVerify words b → a ≡ b
-one_path words a b v w = cc (v.are, w.are)
+one_path : (words : List (List ℕ)) (a b : List ℕ) (s t : Task) → IsAsked words a s → IsAsked words b t → a ≡ b
+one_path words a b s t v w = cc (v.are, w.are)
 
--- the statuses of a file whose bytes are known, where reading it did not fail
-module _ (r : Request) (bytes : List ℕ) (file : HasBytes r bytes) (steady : Rose (r.before.faults file.path) (r.after.faults file.path) → ⊥) where
-  here : (a : Answer) → ForFile r a → IsRightFor file.path r.before r.after a
-  here a h = subst (λ p. IsRightFor p r.before r.after a) (one_path r.words h.0 file.path h.1 file.named) h.2
+-- Files whose bytes are known, where reading them did not fail
+
+module _ (r : Request) (task : Task) (bytes : List ℕ) (file : HasBytes r task bytes) (steady : Rose (r.before.faults file.path) (r.after.faults file.path) → ⊥) where
+  here : (a : Answer) → ForFile r a → IsRightFor file.path r.before r.after a task
+  here a h =
+      let at : IsRightFor file.path r.before r.after a h.1 = subst (λ p. IsRightFor p r.before r.after a h.1) (one_path r.words h.0 file.path h.1 task h.2 file.asked) h.3 in
+      subst (λ t. IsRightFor file.path r.before r.after a t) (one_task r.words h.0 file.path h.1 task h.2 file.asked) at
 
   some_same : (read : List ℕ) → Some read ≡ Some bytes → read ≡ bytes
   some_same read e = cc
@@ -87,49 +233,132 @@ module _ (r : Request) (bytes : List ℕ) (file : HasBytes r bytes) (steady : Ro
   ]
 
   -- a file that is refused as too long is
-  long_known : IsRefused file.path r.before r.after TooLong → FILE_BYTES < length bytes
+  long_known : IsRefused file.path r.before r.after TooLong task → FILE_BYTES < length bytes
   long_known h = elim file.known [
     | inl told ↦ subst (λ o. IfSome o (λ held. FILE_BYTES < length held)) told h.1
     | inr given ↦ absurd (none_some bytes (r.before.given file.path) given.0 (sym h.0 ∙ given.1))
   ]
 
-  due_for_straight : (p : Program) → length bytes ≤ FILE_BYTES → IsStraight bytes p → (a : Answer) → IsRight r a
+  -- the program that was read is that of the file
+  program_known : (read : List ℕ) (p q : Program) → IsRead file.path r.before r.after read → IsProgramOf read q → IsProgramOf bytes p → p ≡ q
+  program_known read p q is f g = one_program bytes p q g (subst (λ b. IsProgramOf b q) (read_known read is) f)
+
+  breach_known : (read : List ℕ) (p : Program) (b : Broken) → IsRead file.path r.before r.after read → BreaksFirst read b → IsProgramOf bytes p → ⊥
+  breach_known read p b is f g = program_or_breach bytes p b g (subst (λ l. BreaksFirst l b) (read_known read is) f)
+
+  -- a file that is to be refused gives no program
+  no_program : IsOther task bytes → (read : List ℕ) → IsRead file.path r.before r.after read → (q : Program) → IsProgramOf read q
+      → ((task ≡ Verify) × (is_one_way q ≡ false) → ⊥) → ⊥
+  no_program (inl long) read is q f way = omega (arith, long, is.within, ap length (read_known read is))
+  no_program (inr (inl breach)) read is q f way =
+      program_or_breach bytes q breach.0 (subst (λ b. IsProgramOf b q) (read_known read is) f) breach.1
+  no_program (inr (inr other)) read is q f way =
+      way (other.0, subst (λ p. is_one_way p ≡ false) (program_known read other.1 q is f other.2) other.3)
+
+true_false : (b : Bool) → b ≡ true → b ≡ false → ⊥
+true_false b is not = cc (sym is ∙ not)
+
+module _ (r : Request) (bytes : List ℕ) where
+  due_for_one_way : (file : HasBytes r Verify bytes) (steady : Rose (r.before.faults file.path) (r.after.faults file.path) → ⊥) (p : Program)
+      → length bytes ≤ FILE_BYTES → IsProgramOf bytes p → is_one_way p ≡ true → (a : Answer) → IsRight r a
       → (status_of a ≡ 0) ⊎ (status_of a ≡ 1) ⊎ (status_of a ≡ 7)
-  due_for_straight p short straight Safe h = inl (λ i. 0)
-  due_for_straight p short straight (Unsafe kind line step) h = inr (inl (λ i. 1))
-  due_for_straight p short straight Usage h = absurd (h file.path file.named)
-  due_for_straight p short straight (Refused TooLong) h = let long = long_known (here (Refused TooLong) h) in absurd (omega (arith, long, short))
-  due_for_straight p short straight (Refused NotStraight) h =
-      let n = here (Refused NotStraight) h in absurd (n.2 p (subst (λ b. IsStraight b p) (sym (read_known n.0 n.1)) straight))
-  due_for_straight p short straight ReadFault h = absurd (steady (here ReadFault h))
-  due_for_straight p short straight NoMemory h = inr (inr (λ i. 7))
+  due_for_one_way file steady p short is way Safe h = inl refl
+  due_for_one_way file steady p short is way (Unsafe kind line step) h = inr (inl refl)
+  due_for_one_way file steady p short is way (Ran o) h = absurd (here r Verify bytes file steady (Ran o) h)
+  due_for_one_way file steady p short is way Usage h = absurd (h file.path Verify file.asked)
+  due_for_one_way file steady p short is way (Refused TooLong) h =
+      let long = long_known r Verify bytes file steady (here r Verify bytes file steady (Refused TooLong) h) in absurd (omega (arith, long, short))
+  due_for_one_way file steady p short is way (Refused (Breaks b)) h =
+      let f = here r Verify bytes file steady (Refused (Breaks b)) h in absurd (breach_known r Verify bytes file steady f.0 p b f.1 f.2 is)
+  due_for_one_way file steady p short is way (Refused NotOneWay) h =
+      let f = here r Verify bytes file steady (Refused NotOneWay) h in
+      absurd (true_false (is_one_way p) way (subst (λ q. is_one_way q ≡ false) (sym (program_known r Verify bytes file steady f.0 p f.2 f.1 f.3 is)) f.4))
+  due_for_one_way file steady p short is way ReadFault h = absurd (steady (here r Verify bytes file steady ReadFault h))
+  due_for_one_way file steady p short is way NoMemory h = inr (inr refl)
 
-  no_program : (FILE_BYTES < length bytes) ⊎ IsNotStraight bytes → (read : List ℕ) → IsRead file.path r.before r.after read → (p : Program) → IsStraight read p → ⊥
-  no_program (inl long) read is p straight = omega (arith, long, is.within, ap length (read_known read is))
-  no_program (inr none) read is p straight = none p (subst (λ b. IsStraight b p) (read_known read is) straight)
+  module _ (choices : List ℕ) (steps : ℕ) where
+    abbrev task : Task
+    task = Run choices steps
 
-  due_for_others : (FILE_BYTES < length bytes) ⊎ IsNotStraight bytes → (a : Answer) → IsRight r a → (status_of a ≡ 4) ⊎ (status_of a ≡ 7)
-  due_for_others none Safe h = let n = here Safe h in absurd (no_program none n.0 n.1 n.2 n.3)
-  due_for_others none (Unsafe kind line step) h = let n = here (Unsafe kind line step) h in absurd (no_program none n.0 n.1 n.2 n.3)
-  due_for_others none Usage h = absurd (h file.path file.named)
-  due_for_others none (Refused why) h = inl (λ i. 4)
-  due_for_others none ReadFault h = absurd (steady (here ReadFault h))
-  due_for_others none NoMemory h = inr (λ i. 7)
+    due_for_run : (file : HasBytes r task bytes) (steady : Rose (r.before.faults file.path) (r.after.faults file.path) → ⊥) (p : Program)
+        → length bytes ≤ FILE_BYTES → IsProgramOf bytes p → (a : Answer) → IsRight r a
+        → (status_of a ≡ run_status (run p choices steps)) ⊎ (status_of a ≡ 7)
+    due_for_run file steady p short is Safe h = absurd (here r task bytes file steady Safe h)
+    due_for_run file steady p short is (Unsafe kind line step) h = absurd (here r task bytes file steady (Unsafe kind line step) h)
+    due_for_run file steady p short is (Ran o) h =
+        let f = here r task bytes file steady (Ran o) h in
+        inl (ap run_status (f.4 ∙ ap (λ q. run q choices steps) (sym (program_known r task bytes file steady f.0 p f.2 f.1 f.3 is))))
+    due_for_run file steady p short is Usage h = absurd (h file.path task file.asked)
+    due_for_run file steady p short is (Refused TooLong) h =
+        let long = long_known r task bytes file steady (here r task bytes file steady (Refused TooLong) h) in absurd (omega (arith, long, short))
+    due_for_run file steady p short is (Refused (Breaks b)) h =
+        let f = here r task bytes file steady (Refused (Breaks b)) h in absurd (breach_known r task bytes file steady f.0 p b f.1 f.2 is)
+    due_for_run file steady p short is (Refused NotOneWay) h = absurd (here r task bytes file steady (Refused NotOneWay) h)
+    due_for_run file steady p short is ReadFault h = absurd (steady (here r task bytes file steady ReadFault h))
+    due_for_run file steady p short is NoMemory h = inr refl
+
+module _ (r : Request) (bytes : List ℕ) where
+  safe_not_other : (t : Task) (file : HasBytes r t bytes) (steady : Rose (r.before.faults file.path) (r.after.faults file.path) → ⊥) → IsOther t bytes
+      → IsRightFor file.path r.before r.after Safe t → ⊥
+  safe_not_other Verify file steady other f =
+      no_program r Verify bytes file steady other f.0 f.1 f.2 f.3 (λ way. true_false (is_one_way f.2) f.4.0 way.1)
+  safe_not_other (Run choices steps) file steady other f = f
+
+  unsafe_not_other : (kind : Kind) (line step : ℕ) (t : Task) (file : HasBytes r t bytes) (steady : Rose (r.before.faults file.path) (r.after.faults file.path) → ⊥)
+      → IsOther t bytes → IsRightFor file.path r.before r.after (Unsafe kind line step) t → ⊥
+  unsafe_not_other kind line step Verify file steady other f =
+      no_program r Verify bytes file steady other f.0 f.1 f.2 f.3 (λ way. true_false (is_one_way f.2) f.4.0 way.1)
+  unsafe_not_other kind line step (Run choices steps) file steady other f = f
+
+  run_or_verify : (choices : List ℕ) (steps : ℕ) → Run choices steps ≡ Verify → ⊥
+  run_or_verify choices steps e = cc e
+
+  ran_not_other : (o : Outcome) (t : Task) (file : HasBytes r t bytes) (steady : Rose (r.before.faults file.path) (r.after.faults file.path) → ⊥) → IsOther t bytes
+      → IsRightFor file.path r.before r.after (Ran o) t → ⊥
+  ran_not_other o Verify file steady other f = f
+  ran_not_other o (Run choices steps) file steady other f =
+      no_program r (Run choices steps) bytes file steady other f.0 f.1 f.2 f.3 (λ way. run_or_verify choices steps way.0)
+
+  due_for_others : (t : Task) (file : HasBytes r t bytes) (steady : Rose (r.before.faults file.path) (r.after.faults file.path) → ⊥) → IsOther t bytes
+      → (a : Answer) → IsRight r a → (status_of a ≡ 4) ⊎ (status_of a ≡ 7)
+  due_for_others t file steady other Safe h = absurd (safe_not_other t file steady other (here r t bytes file steady Safe h))
+  due_for_others t file steady other (Unsafe kind line step) h =
+      absurd (unsafe_not_other kind line step t file steady other (here r t bytes file steady (Unsafe kind line step) h))
+  due_for_others t file steady other (Ran o) h = absurd (ran_not_other o t file steady other (here r t bytes file steady (Ran o) h))
+  due_for_others t file steady other Usage h = absurd (h file.path t file.asked)
+  due_for_others t file steady other (Refused why) h = inl refl
+  due_for_others t file steady other ReadFault h = absurd (steady (here r t bytes file steady ReadFault h))
+  due_for_others t file steady other NoMemory h = inr refl
 
 -- a status that is the answer's own, or that of want of memory
 module _ (r : Request) (out notes : Writing) (steady : NothingFailed r out notes) (n : ℕ) (a : Answer) (right : IsRight r a)
-    (cut : n ≡ 6 → IsCutShort out notes a) where
+    (cut : n ≡ 6 → IsCutShort out notes a) (status : (n ≡ status_of a) ⊎ (n ≡ 6) ⊎ (n ≡ 7)) where
   whole : n ≡ 6 → ⊥
   whole six = not_cut r out notes a steady (cut six)
 
-  pub judges : NamesStraight r → (n ≡ status_of a) ⊎ (n ≡ 6) ⊎ (n ≡ 7) → (n ≡ 0) ⊎ (n ≡ 1) ⊎ (n ≡ 7)
-  judges named (inl own) = subst (λ m. (m ≡ 0) ⊎ (m ≡ 1) ⊎ (m ≡ 7)) (sym own)
-      (due_for_straight r named.bytes named.file (steady.shelf named.file.path named.file.named) named.program named.within named.straight a right)
-  judges named (inr (inl six)) = absurd (whole six)
-  judges named (inr (inr seven)) = inr (inr seven)
+  read_well : (t : Task) (bytes : List ℕ) (file : HasBytes r t bytes) → Rose (r.before.faults file.path) (r.after.faults file.path) → ⊥
+  read_well t bytes file = steady.shelf file.path (t, file.asked)
 
-  pub refuses : NamesOther r → (n ≡ status_of a) ⊎ (n ≡ 6) ⊎ (n ≡ 7) → (n ≡ 4) ⊎ (n ≡ 7)
-  refuses named (inl own) = subst (λ m. (m ≡ 4) ⊎ (m ≡ 7)) (sym own)
-      (due_for_others r named.bytes named.file (steady.shelf named.file.path named.file.named) named.other a right)
-  refuses named (inr (inl six)) = absurd (whole six)
-  refuses named (inr (inr seven)) = inr seven
+  pub judges : (p : Program) → NamesProgram r Verify p → is_one_way p ≡ true → (n ≡ 0) ⊎ (n ≡ 1) ⊎ (n ≡ 7)
+  judges p named way = elim status [
+    | inl own ↦ subst (λ m. (m ≡ 0) ⊎ (m ≡ 1) ⊎ (m ≡ 7)) (sym own)
+        (due_for_one_way r named.bytes named.file (read_well Verify named.bytes named.file) p named.within named.is way a right)
+    | inr (inl six) ↦ absurd (whole six)
+    | inr (inr seven) ↦ inr (inr seven)
+  ]
+
+  pub runs : (p : Program) (choices : List ℕ) (steps : ℕ) → NamesProgram r (Run choices steps) p → (n ≡ run_status (run p choices steps)) ⊎ (n ≡ 7)
+  runs p choices steps named = elim status [
+    | inl own ↦ subst (λ m. (m ≡ run_status (run p choices steps)) ⊎ (m ≡ 7)) (sym own)
+        (due_for_run r named.bytes choices steps named.file (read_well (Run choices steps) named.bytes named.file) p named.within named.is a right)
+    | inr (inl six) ↦ absurd (whole six)
+    | inr (inr seven) ↦ inr seven
+  ]
+
+  pub refuses : NamesOther r → (n ≡ 4) ⊎ (n ≡ 7)
+  refuses named = elim status [
+    | inl own ↦ subst (λ m. (m ≡ 4) ⊎ (m ≡ 7)) (sym own)
+        (due_for_others r named.bytes named.task named.file (read_well named.task named.bytes named.file) named.other a right)
+    | inr (inl six) ↦ absurd (whole six)
+    | inr (inr seven) ↦ inr seven
+  ]

@@ -4,4 +4,3 @@ pub mod Texts
 pub mod Verdict
 pub mod Words
 pub mod inner
-pub mod straight

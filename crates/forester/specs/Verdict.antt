@@ -1,19 +1,23 @@
 -- Which answer is right for what was asked and what the shelf gave.
-use Rattle.std.specs.Prelude.{◌≡◌, ◌≤◌, ◌<◌, ◌⊎◌, ⊤, ℕ, List, [], Some, None, IfSome, length}
+use Rattle.std.specs.Prelude.{◌≡◌, ◌≤◌, ◌<◌, ◌⊎◌, ⊤, ℕ, List, [], Some, None, IfSome, length, true, false}
 use Rattle.fore_base.specs.declared.limits.TheConstants.{FILE_BYTES}
 use Rattle.fore_base.specs.declared.fault.Fault.{Fault as Kind}
 use Rattle.fore_base.specs.Outside.{Rose}
 use Rattle.c_types.specs.declared.outcome.Outcome.TheVariants.{Fault}
 use Rattle.c_types.specs.Program.{Program}
+use Rattle.c_types.specs.OneWay.{is_one_way}
 use Rattle.c_types.specs.Runs.{run}
 use Rattle.c_types.specs.Over.{IsFault}
+use Rattle.c_front.specs.declared.broken.Broken.{Broken}
+use Rattle.c_front.specs.Files.{IsProgramOf, BreaksFirst}
 use Rattle.forester.specs.declared.answer.Refusal.{Refusal}
-use Rattle.forester.specs.declared.answer.Refusal.TheVariants.{TooLong, NotStraight}
+use Rattle.forester.specs.declared.answer.Refusal.TheVariants.{TooLong, Breaks, NotOneWay}
 use Rattle.forester.specs.declared.answer.Answer.{Answer}
-use Rattle.forester.specs.declared.answer.Answer.TheVariants.{Safe, Unsafe, Usage, Refused, ReadFault, NoMemory}
+use Rattle.forester.specs.declared.answer.Answer.TheVariants.{Safe, Unsafe, Ran, Usage, Refused, ReadFault, NoMemory}
+use Rattle.forester.specs.declared.words.Task.{Task}
+use Rattle.forester.specs.declared.words.Task.TheVariants.{Verify, Run}
 use Rattle.forester.specs.Requests.{ShelfView, Request, Writing}
-use Rattle.forester.specs.Words.{IsVerify, NamesNoFile}
-use Rattle.forester.specs.straight.Files.{IsStraight}
+use Rattle.forester.specs.Words.{IsAsked, Names, AsksNothing}
 
 -- no choices and no number of steps lead the program to a fault
 abbrev pub NeverFaults : Program → Type 0
@@ -23,10 +27,6 @@ NeverFaults p = (choices : List ℕ) (steps : ℕ) → IsFault (run p choices st
 abbrev pub MeetsFault : Program → Kind → ℕ → ℕ → Type 0
 MeetsFault p kind line step = run p [] step ≡ Fault kind line step
 
--- the bytes are those of no straight file
-abbrev pub IsNotStraight : List ℕ → Type 0
-IsNotStraight bytes = (p : Program) → IsStraight bytes p → ⊥
-
 -- Reading the file of a path, by what the shelf told before and after the call.
 module _ (path : List ℕ) (before after : ShelfView) where
   -- the bytes that the shelf gave: within the limit, and those that it holds, where it tells them
@@ -35,63 +35,78 @@ module _ (path : List ℕ) (before after : ShelfView) where
     pub within : length bytes ≤ FILE_BYTES
     pub held : IfSome (before.holds path) (λ told. bytes ≡ told)
 
-  -- the bytes that were read are a straight file, whose program has the property
+  -- the bytes that were read are those of a program with the property
   abbrev pub HasProgram : (Program → Type 0) → Type 0
-  HasProgram P = (bytes : List ℕ) × IsRead bytes × (p : Program) × IsStraight bytes p × P p
+  HasProgram P = (bytes : List ℕ) × IsRead bytes × (p : Program) × IsProgramOf bytes p × P p
 
-  abbrev pub IsRefused : Refusal → Type 0
-  IsRefused TooLong = (after.given path ≡ before.given path) × IfSome (before.holds path) (λ told. FILE_BYTES < length told)
-  IsRefused NotStraight = (bytes : List ℕ) × IsRead bytes × IsNotStraight bytes
+  abbrev pub IsRefused : Refusal → Task → Type 0
+  IsRefused TooLong task = (after.given path ≡ before.given path) × IfSome (before.holds path) (λ told. FILE_BYTES < length told)
+  IsRefused (Breaks b) task = (bytes : List ℕ) × IsRead bytes × BreaksFirst bytes b
+  IsRefused NotOneWay Verify = HasProgram (λ p. is_one_way p ≡ false)
+  IsRefused NotOneWay (Run choices steps) = ⊥
 
-  -- the answer is right for the file
-  abbrev pub IsRightFor : Answer → Type 0
-  IsRightFor Safe = HasProgram NeverFaults
-  IsRightFor (Unsafe kind line step) = HasProgram (λ p. MeetsFault p kind line step)
-  IsRightFor Usage = ⊥
-  IsRightFor (Refused why) = IsRefused why
-  IsRightFor ReadFault = Rose (before.faults path) (after.faults path)
-  IsRightFor NoMemory = ⊤
+  -- the answer is right for what is to be done with the file
+  abbrev pub IsRightFor : Answer → Task → Type 0
+  IsRightFor Safe Verify = HasProgram (λ p. (is_one_way p ≡ true) × NeverFaults p)
+  IsRightFor Safe (Run choices steps) = ⊥
+  IsRightFor (Unsafe kind line step) Verify = HasProgram (λ p. (is_one_way p ≡ true) × MeetsFault p kind line step)
+  IsRightFor (Unsafe kind line step) (Run choices steps) = ⊥
+  IsRightFor (Ran outcome) Verify = ⊥
+  IsRightFor (Ran outcome) (Run choices steps) = HasProgram (λ p. outcome ≡ run p choices steps)
+  IsRightFor Usage task = ⊥
+  IsRightFor (Refused why) task = IsRefused why task
+  IsRightFor ReadFault task = Rose (before.faults path) (after.faults path)
+  IsRightFor NoMemory task = ⊤
 
 -- the words name a file, and the answer is right for it
 abbrev pub ForFile : Request → Answer → Type 0
-ForFile r answer = (path : List ℕ) × IsVerify r.words path × IsRightFor path r.before r.after answer
+ForFile r answer = (path : List ℕ) × (task : Task) × IsAsked r.words path task × IsRightFor path r.before r.after answer task
 
--- The answer is right: usage where the words name no file, and otherwise what is right for the file.
+-- The answer is right: usage where the words ask nothing, and otherwise what is right for the file.
 abbrev pub IsRight : Request → Answer → Type 0
 IsRight r Safe = ForFile r Safe
 IsRight r (Unsafe kind line step) = ForFile r (Unsafe kind line step)
-IsRight r Usage = NamesNoFile r.words
+IsRight r (Ran outcome) = ForFile r (Ran outcome)
+IsRight r Usage = AsksNothing r.words
 IsRight r (Refused why) = ForFile r (Refused why)
 IsRight r ReadFault = ForFile r ReadFault
 IsRight r NoMemory = ForFile r NoMemory
 
 -- no file is read but the one that the words name, and what the shelf holds stays
 pub record ReadsOnly (r : Request) : Type 0 where
-  pub others : (path : List ℕ) → (IsVerify r.words path → ⊥) → r.after.given path ≡ r.before.given path
+  pub others : (path : List ℕ) → (Names r.words path → ⊥) → r.after.given path ≡ r.before.given path
   pub kept : (path : List ℕ) → r.after.holds path ≡ r.before.holds path
 
 -- no reading of a file that the words name failed in this call, and no write
 pub record NothingFailed (r : Request) (o n : Writing) : Type 0 where
-  pub shelf : (path : List ℕ) → IsVerify r.words path → Rose (r.before.faults path) (r.after.faults path) → ⊥
+  pub shelf : (path : List ℕ) → Names r.words path → Rose (r.before.faults path) (r.after.faults path) → ⊥
   pub out : Rose o.before.faults o.after.faults → ⊥
   pub notes : Rose n.before.faults n.after.faults → ⊥
 
--- the words name a file of these bytes: the shelf tells that it holds them, or it gave them in this call, having given none of the file before
-pub record HasBytes (r : Request) (bytes : List ℕ) : Type 0 where
+-- The words ask to do this with a file of these bytes: the shelf tells that it holds them, or it gave them in this call, having given none of the
+-- file before.
+pub record HasBytes (r : Request) (task : Task) (bytes : List ℕ) : Type 0 where
   pub path : List ℕ
-  pub named : IsVerify r.words path
+  pub asked : IsAsked r.words path task
   pub known : (r.before.holds path ≡ Some bytes) ⊎ (r.before.given path ≡ None) × (r.after.given path ≡ Some bytes)
 
--- the words name a straight file
-pub record NamesStraight (r : Request) : Type 0 where
+-- the words ask to do this with a file of this program
+pub record NamesProgram (r : Request) (task : Task) (p : Program) : Type 0 where
   pub bytes : List ℕ
-  pub file : HasBytes r bytes
+  pub file : HasBytes r task bytes
   pub within : length bytes ≤ FILE_BYTES
-  pub program : Program
-  pub straight : IsStraight bytes program
+  pub is : IsProgramOf bytes p
 
--- the words name a file that is too long or not straight
+-- the bytes are too many, or break a rule, or are to be verified and those of a program that does not run one way
+abbrev pub IsOther : Task → List ℕ → Type 0
+IsOther task bytes =
+    (FILE_BYTES < length bytes)
+    ⊎ ((b : Broken) × BreaksFirst bytes b)
+    ⊎ (task ≡ Verify) × (p : Program) × IsProgramOf bytes p × (is_one_way p ≡ false)
+
+-- the words name a file that is to be refused
 pub record NamesOther (r : Request) : Type 0 where
+  pub task : Task
   pub bytes : List ℕ
-  pub file : HasBytes r bytes
-  pub other : (FILE_BYTES < length bytes) ⊎ IsNotStraight bytes
+  pub file : HasBytes r task bytes
+  pub other : IsOther task bytes

@@ -1,13 +1,15 @@
 //! Delivering an answer: its text goes whole to one of two sinks.
-ghost use Rattle.std.specs.Prelude.{◌≡◌, ◌≢◌, ◌≤◌, ◌⊎◌};
+ghost use Rattle.std.specs.Prelude.{◌≡◌, ◌≤◌, ◌<◌, ◌⊎◌, ℕ, List, Ok};
 ghost use Rattle.forester.specs.Requests.{writing_of};
 ghost use Rattle.forester.specs.Texts.{status_of};
-ghost use Rattle.forester.specs.Delivery.{IsCut, IsCutShort, Told, Wrote, WroteNothing};
+ghost use Rattle.forester.specs.Delivery.{IsCut, IsCutShort, IsUntouched, Told, Wrote, WroteNothing};
 ghost use Rattle.forester.specs.inner.Judging.{WantsMemory};
 
-use crate::answer::Answer;
-use crate::report::{refusal_text, unsafe_report};
+use crate::answer::{Answer, Refusal};
+use crate::report::{broken_line, run_report, run_status, unsafe_report};
+use fore_base::memory::Mem;
 use fore_base::sink::{Sink, put_all};
+use fore_base::text::Text;
 use std::alloc::Global;
 
 /// Writes the answer's text, and gives the status with which the program ends: 6 where a sink failed, 7 where there is no memory for the
@@ -25,20 +27,43 @@ pub fn deliver<K: Sink, E: Sink>(alloc: Global, answer: Answer, out: &mut K, not
 {
     match answer {
         Answer::Safe => write_text(out, b"SAFE\n", 0),
-        Answer::Unsafe { kind, line, step } => match unsafe_report(alloc, kind, line, step) {
-            Ok(report) => write_text(out, report.as_slice(), 1),
-            Err(_) => 7,
-        },
+        Answer::Unsafe { kind, line, step } => {
+            write_report(unsafe_report(alloc, kind, line, step), out, 1)
+        }
+        Answer::Ran(outcome) => {
+            write_report(run_report(alloc, outcome), out, run_status(outcome))
+        }
         Answer::Usage => write_text(notes, b"usage\n", 2),
-        Answer::Refused(why) => write_text(notes, refusal_text(why), 4),
+        Answer::Refused(Refusal::TooLong) => write_text(notes, b"refused K1 file\n", 4),
+        Answer::Refused(Refusal::Breaks(broken)) => {
+            write_report(broken_line(alloc, broken), notes, 4)
+        }
+        Answer::Refused(Refusal::NotOneWay) => write_text(notes, b"refused N1 file\n", 4),
         Answer::ReadFault => write_text(notes, b"read fault\n", 5),
         Answer::NoMemory => 7,
     }
 }
 
+/// Writes a text that was made whole, and gives the status: 6 where the sink failed, 7 where there was no memory for the text.
+fn write_report<S: Sink>(made: Mem<Text>, sink: &mut S, status: u8) -> u8
+    requires { status < 6 }
+    ensures status { (result ≡ status) ⊎ (result ≡ 6) ⊎ (result ≡ 7) }
+    ensures whole { result ≡ status
+        → (text : List ℕ) × (made ≡ Ok text) × Wrote (writing_of S.Sink sink.old sink.new) text }
+    ensures cut { result ≡ 6
+        → (text : List ℕ) × (made ≡ Ok text) × IsCut (writing_of S.Sink sink.old sink.new) text }
+    ensures memory { result ≡ 7 → IsUntouched (writing_of S.Sink sink.old sink.new) }
+    ensures never_falls { S.faults sink.old ≤ S.faults sink.new }
+{
+    match made {
+        Ok(text) => write_text(sink, text.as_slice(), status),
+        Err(_) => 7,
+    }
+}
+
 /// Writes a text, and gives the status: 6 where the sink failed.
 fn write_text<S: Sink>(sink: &mut S, text: &[u8], status: u8) -> u8
-    requires { status ≢ 6 }
+    requires { status < 6 }
     ensures status { (result ≡ status) ⊎ (result ≡ 6) }
     ensures whole { result ≡ status → Wrote (writing_of S.Sink sink.old sink.new) text.now }
     ensures cut { result ≡ 6 → IsCut (writing_of S.Sink sink.old sink.new) text.now }
@@ -53,10 +78,8 @@ fn write_text<S: Sink>(sink: &mut S, text: &[u8], status: u8) -> u8
 #[cfg(test)]
 mod tests {
     use super::*;
-    use crate::answer::Refusal;
     use fore_base::fault::Fault;
     use fore_base::mem_sink::MemSink;
-    use fore_base::memory::Mem;
     use std::test::Fail;
 
     const LEAK: Answer = Answer::Unsafe {
@@ -115,8 +138,8 @@ mod tests {
             "refused K1 file\n",
         ),
         (
-            "a file that is not straight",
-            Answer::Refused(Refusal::NotStraight),
+            "a file that does not run one way",
+            Answer::Refused(Refusal::NotOneWay),
             128,
             (0, 0),
             4,
@@ -199,7 +222,7 @@ mod tests {
         ),
         (
             "standard error fails at once",
-            Answer::Refused(Refusal::NotStraight),
+            Answer::Refused(Refusal::NotOneWay),
             4,
             (0, 1),
             6,

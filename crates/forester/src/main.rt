@@ -1,15 +1,14 @@
 //! Forester: from the words of the command line and the bytes of a C file to the report and the status.
 //!
 //! `top::forester` does all that the program does, over any shelf and any two sinks, and its contract is what is proved of the program. It reads the
-//! words (`words`), judges the file that they name (`judge`, over the reader in `straight`), and delivers the answer (`deliver`, with the texts of
-//! `report`). `main` makes the real shelf and sinks, and calls it.
+//! words (`words`), judges the file that they name (`judge`), and delivers the answer (`deliver`, with the texts of `report`). `main` makes the real shelf and sinks, and calls it.
 #![tactic(auto)]
 
 mod answer;
 mod deliver;
 mod judge;
+mod one_way;
 mod report;
-mod straight;
 #[cfg(test)]
 mod tests;
 pub mod top;

@@ -1,8 +1,10 @@
 //! The texts of reports and refusals.
-ghost use Rattle.std.specs.Prelude.{◌≡◌, IfOk};
-ghost use Rattle.forester.specs.Texts.{fault_text, unsafe_text, refusal_text};
+ghost use Rattle.std.specs.Prelude.{◌≡◌, ◌++◌, ◌∷◌, [], decimal, IfOk, OnOk};
+ghost use Rattle.c_types.specs.declared.outcome.Outcome.{Outcome as Out};
+ghost use Rattle.forester.specs.Texts.{fault_text, fault_lines, unsafe_text, run_text, run_status, letter_text, broken_text};
 
-use crate::answer::Refusal;
+use c_front::{Broken, Letter};
+use c_types::outcome::Outcome;
 use fore_base::fault::Fault;
 use fore_base::memory::Mem;
 use fore_base::text::Text;
@@ -24,25 +26,97 @@ pub fn fault_text(kind: Fault) -> &'static [u8]
     }
 }
 
-/// The line that says why a file is refused.
-pub fn refusal_text(why: Refusal) -> &'static [u8]
-    ensures { result.now ≡ refusal_text why }
-{
-    match why {
-        Refusal::TooLong => b"refused K1 file\n",
-        Refusal::NotStraight => b"refused N1 file\n",
-    }
-}
-
-/// The report on a fault, whole.
+/// The report on a fault that verification found, whole.
 ///
 /// # Errors
+///
 /// Want of memory for the text.
 pub fn unsafe_report(alloc: Global, kind: Fault, line: u32, step: u64) -> Mem<Text>
     ensures { IfOk result (λ text. text ≡ unsafe_text kind line step) }
 {
     let mut text = Text::new(alloc);
-    text.put(b"UNSAFE\nfault ")?;
+    text.put(b"UNSAFE\n")?;
+    put_fault(&mut text, kind, line, step)?;
+    text.put(b"choices -\n")?;
+    Ok(text)
+}
+
+/// The report on how a run came out, whole.
+///
+/// # Errors
+///
+/// Want of memory for the text.
+pub fn run_report(alloc: Global, outcome: Outcome) -> Mem<Text>
+    ensures { IfOk result (λ text. text ≡ run_text outcome) }
+{
+    let mut text = Text::new(alloc);
+    match outcome {
+        Outcome::Ended { step } => put_counted(&mut text, b"ENDED\nstep ", step)?,
+        Outcome::Fault { kind, line, step } => put_met(&mut text, kind, line, step)?,
+        Outcome::Starved { step } => put_counted(&mut text, b"STARVED\nstep ", step)?,
+        Outcome::BadChoice { index } => put_counted(&mut text, b"BAD CHOICE\nindex ", index)?,
+        Outcome::StillRunning => text.put(b"STILL RUNNING\n")?,
+    }
+    Ok(text)
+}
+
+/// The status with which a run ends.
+pub fn run_status(outcome: Outcome) -> u8
+    ensures { result ≡ run_status outcome }
+{
+    match outcome {
+        Outcome::Ended { .. } => 0,
+        Outcome::Fault { .. } => 1,
+        Outcome::Starved { .. } | Outcome::BadChoice { .. } | Outcome::StillRunning => 3,
+    }
+}
+
+/// The line that names a rule and the place at which a file breaks it.
+///
+/// # Errors
+///
+/// Want of memory for the text.
+pub fn broken_line(alloc: Global, broken: Broken) -> Mem<Text>
+    ensures { IfOk result (λ text. text ≡ broken_text broken) }
+{
+    let mut text = Text::new(alloc);
+    text.put(b"refused ")?;
+    text.put(letter_text(broken.letter))?;
+    text.put_number(broken.number as u64)?;
+    text.put(b" ")?;
+    text.put_number(broken.at.line as u64)?;
+    text.put(b":")?;
+    text.put_number(broken.at.column as u64)?;
+    text.put(b"\n")?;
+    Ok(text)
+}
+
+fn letter_text(letter: Letter) -> &'static [u8]
+    ensures { result.now ≡ letter_text letter }
+{
+    match letter {
+        Letter::Lexical => b"L",
+        Letter::Profile => b"P",
+        Letter::Syntax => b"S",
+        Letter::Typing => b"T",
+        Letter::Limit => b"K",
+    }
+}
+
+/// A fault that a run met, with the first line.
+fn put_met(text: &mut Text, kind: Fault, line: u32, step: u64) -> Mem<()>
+    ensures { OnOk result (text.new ≡ text.old ++ run_text (Out.Fault kind line step)) }
+{
+    text.put(b"FAULT\n")?;
+    put_fault(text, kind, line, step)?;
+    Ok(())
+}
+
+/// The lines of a fault: its number and name, its line in the file, and its step.
+fn put_fault(text: &mut Text, kind: Fault, line: u32, step: u64) -> Mem<()>
+    ensures { OnOk result (text.new ≡ text.old ++ fault_lines kind line step) }
+{
+    text.put(b"fault ")?;
     text.put_number(kind.number() as u64)?;
     text.put(b" ")?;
     text.put(fault_text(kind))?;
@@ -50,8 +124,18 @@ pub fn unsafe_report(alloc: Global, kind: Fault, line: u32, step: u64) -> Mem<Te
     text.put_number(line as u64)?;
     text.put(b"\nstep ")?;
     text.put_number(step)?;
-    text.put(b"\nchoices -\n")?;
-    Ok(text)
+    text.put(b"\n")?;
+    Ok(())
+}
+
+/// A word, and a number that ends its line.
+fn put_counted(text: &mut Text, word: &[u8], number: u64) -> Mem<()>
+    ensures { OnOk result (text.new ≡ text.old ++ (word.now ++ (decimal number ++ 10 ∷ []))) }
+{
+    text.put(word)?;
+    text.put_number(number)?;
+    text.put(b"\n")?;
+    Ok(())
 }
 
 #[cfg(test)]

@@ -135,70 +135,163 @@ const PROGRAMS: [(&str, &str, u8, &str); 19] = [
     ),
 ];
 
-/// Files that are not straight.
-const OTHERS: [(&str, &str); 18] = [
-    ("no tokens", ""),
-    ("a loop", "int main(void) { while (1) {} }"),
+/// Files that are refused, with the rule and its place.
+const REFUSED: [(&str, &str, &str); 22] = [
     (
-        "a comment",
-        "struct n { struct n *f; };\nint main(void) { /* */ return 0; }",
+        "no tokens: there is no main, at the end",
+        "",
+        "refused T12 1:1\n",
     ),
     (
-        "a skipped line",
-        "#include <stdlib.h>\nstruct n { struct n *f; };\nint main(void) { return 0; }",
+        "a comment that is not closed",
+        "int main(void) { /* x",
+        "refused L2 1:18\n",
     ),
     (
         "a byte that begins no token",
-        "struct n { struct n *f; };\nint main(void) { return 0; } @",
+        "int main(void) { @ }",
+        "refused L1 1:18\n",
     ),
-    ("no field", "struct n { };\nint main(void) { return 0; }"),
     (
-        "a field of another struct",
+        "arrays are no part of the language",
+        "int main(void) { int a[3]; return 0; }",
+        "refused P2 1:23\n",
+    ),
+    (
+        "nor are numbers above 15",
+        "int main(void) { return 16; }",
+        "refused P10 1:25\n",
+    ),
+    (
+        "a missing semicolon is noticed at the brace",
+        "int main(void) { return 0 }",
+        "refused S1 1:27\n",
+    ),
+    (
+        "a name that is not declared",
+        "int main(void) { x = NULL; return 0; }",
+        "refused T3 1:18\n",
+    ),
+    (
+        "a field of a struct that is not defined",
         "struct n { struct m *f; };\nint main(void) { return 0; }",
-    ),
-    (
-        "a field twice",
-        "struct n { struct n *f; struct n *f; };\nint main(void) { return 0; }",
-    ),
-    (
-        "a data field",
-        "struct n { int f; };\nint main(void) { return 0; }",
-    ),
-    (
-        "17 fields",
-        "struct n { struct n *a; struct n *b; struct n *c; struct n *d; struct n *e; struct n *f; struct n *g; struct n *h; struct n *i; struct n *j; struct n *k; struct n *l; struct n *m; struct n *n; struct n *o; struct n *p; struct n *q; };\nint main(void) { return 0; }",
-    ),
-    (
-        "a variable of another struct",
-        "struct n { struct n *f; };\nint main(void) { struct m *x; return 0; }",
-    ),
-    (
-        "a variable twice",
-        "struct n { struct n *f; };\nint main(void) { struct n *x; struct n *x; return 0; }",
-    ),
-    (
-        "a variable that is used before it is declared",
-        "struct n { struct n *f; };\nint main(void) { x = NULL; struct n *x; return 0; }",
+        "refused T1 1:19\n",
     ),
     (
         "a field that is not there",
         "struct n { struct n *f; };\nint main(void) { struct n *x; x->g = NULL; return 0; }",
+        "refused T2 2:34\n",
+    ),
+    (
+        "an enumeration that is not defined",
+        "int main(void) { enum e x; return 0; }",
+        "refused T4 1:23\n",
+    ),
+    (
+        "a second variable of one block",
+        "struct n { struct n *f; };\nint main(void) { struct n *x; struct n *x; return 0; }",
+        "refused T5 2:41\n",
+    ),
+    (
+        "pointers to different structs",
+        "struct n { int d; };\nstruct m { int d; };\nint main(void) { struct n *x; struct m *y; x = y; return 0; }",
+        "refused T6 3:48\n",
+    ),
+    (
+        "a datum where a pointer is wanted",
+        "struct n { int d; };\nint main(void) { struct n *x = 1; return 0; }",
+        "refused T7 2:32\n",
+    ),
+    (
+        "a pointer where a datum is wanted",
+        "int main(void) { int x = NULL; return 0; }",
+        "refused T8 1:26\n",
+    ),
+    (
+        "an arrow on a datum",
+        "struct n { int d; };\nint main(void) { int x; x->d = 1; return 0; }",
+        "refused T9 2:26\n",
     ),
     (
         "the size of another struct",
-        "struct n { struct n *f; };\nint main(void) { struct n *x; x = malloc(sizeof(struct m)); return 0; }",
+        "struct n { int d; };\nstruct m { int d; };\nint main(void) { struct n *x = malloc(sizeof(struct m)); return 0; }",
+        "refused T10 3:39\n",
     ),
     (
-        "a reserved word as a name",
-        "struct n { struct n *true; };\nint main(void) { return 0; }",
+        "a break outside loops",
+        "int main(void) { break; }",
+        "refused T11 1:18\n",
     ),
     (
-        "a refused word as a name",
-        "struct n { struct n *f; };\nint main(void) { struct n *union; return 0; }",
+        "a function beside main",
+        "int f(void) { return 0; }\nint main(void) { return 0; }",
+        "refused T13 1:5\n",
     ),
     (
-        "nothing but 0 is returned",
-        "struct n { struct n *f; };\nint main(void) { return 1; }",
+        "a global variable",
+        "int x;\nint main(void) { return 0; }",
+        "refused T14 1:5\n",
+    ),
+    (
+        "a call of no known function",
+        "int main(void) { f(); return 0; }",
+        "refused T15 1:18\n",
+    ),
+    (
+        "17 fields",
+        "struct n { int a, b, c, d, e, f, g, h, i, j, k, l, m, n, o, p, q; };\nint main(void) { return 0; }",
+        "refused K3 1:64\n",
+    ),
+    (
+        "a loop is not verified yet",
+        "int main(void) { while (1) {} }",
+        "refused N1 file\n",
+    ),
+];
+
+/// Whole files that are verified, with the status and the report.
+const FILES: [(&str, &str, u8, &str); 7] = [
+    (
+        "a main without statements",
+        "int main(void) { }",
+        0,
+        "SAFE\n",
+    ),
+    (
+        "comments, skipped lines and prototypes",
+        "#include <stdlib.h>\n// a list\nextern int __VERIFIER_nondet_int(void);\nint main() { /* none */ return 0; }\n",
+        0,
+        "SAFE\n",
+    ),
+    (
+        "free of a null pointer that was declared so",
+        "struct node { struct node *next; };\nint main(void) { struct node *x = NULL; free(x); return 0; }",
+        0,
+        "SAFE\n",
+    ),
+    (
+        "the store through the null pointer of line 5 is the third step",
+        "struct node { struct node *next; };\nint main(void) {\nstruct node *x = malloc(sizeof(struct node));\nx->next = NULL;\nx->next->next = x;\nreturn 0; }",
+        1,
+        "UNSAFE\nfault 1 null dereference\nline 5\nstep 3\nchoices -\n",
+    ),
+    (
+        "the block's variable dies at its brace, in line 5, and with it the cell",
+        "struct node { struct node *next; };\nint main(void) {\n{\nstruct node *x = malloc(sizeof(struct node));\n}\nreturn 0; }",
+        1,
+        "UNSAFE\nfault 6 leak\nline 5\nstep 2\nchoices -\n",
+    ),
+    (
+        "a test of a freed pointer is the third step",
+        "struct node { struct node *next; };\nint main(void) {\nstruct node *x = malloc(sizeof(struct node));\nfree(x);\nif (x == NULL) return 0;\nreturn 0; }",
+        1,
+        "UNSAFE\nfault 8 indeterminate test\nline 5\nstep 3\nchoices -\n",
+    ),
+    (
+        "the second operand is not looked at, since the first is false",
+        "struct node { struct node *next; };\nint main(void) { struct node *x = NULL;\nif (x != NULL && x->next == NULL) abort();\nreturn 0; }",
+        0,
+        "SAFE\n",
     ),
 ];
 
@@ -214,26 +307,99 @@ const LENGTHS: [(&str, usize, usize, Answers); 3] = [
         4031,
         (0, "SAFE\n", ""),
     ),
-    ("one statement more", 64, 4032, (4, "", "refused N1 file\n")),
-    ("one variable more", 65, 0, (4, "", "refused N1 file\n")),
+    (
+        "one statement more: two lines, 64 declarations, and 4,031 lines come before the return, which is number 4,097",
+        64,
+        4032,
+        (4, "", "refused K7 4099:1\n"),
+    ),
+    (
+        "one variable more: two lines and 64 declarations come before it",
+        65,
+        0,
+        (4, "", "refused K4 67:14\n"),
+    ),
 ];
 
 /// Numbers of bytes of a file of spaces, and what is said of it.
 const SPACES: [(&str, usize, &str); 2] = [
     (
-        "the greatest length that is read is no program",
+        "the greatest length that is read has no main",
         1_048_576,
-        "refused N1 file\n",
+        "refused T12 1:1048577\n",
     ),
     ("one byte more is too long", 1_048_577, "refused K1 file\n"),
 ];
 
-/// A straight program without a fault, and one with a leak.
+/// A program without a fault, and one with a leak.
 const FREED: &str =
     "struct n { struct n *f; };\nint main(void) { struct n *x; x = malloc(sizeof(struct n)); free(x); return 0; }";
 
 const LOST: &str =
     "struct n { struct n *f; };\nint main(void) { struct n *x; x = malloc(sizeof(struct n)); return 0; }";
+
+/// A list is built and freed, as often as the choices say: each cell takes a choice 1 and four steps, and the first loop ends on 0.
+const LIST: &str =
+    "#include <stdlib.h>\nextern int __VERIFIER_nondet_int(void);\nstruct node { struct node *next; };\nint main(void) {\nstruct node *l = NULL, *n, *t;\nwhile (__VERIFIER_nondet_int()) {\nn = malloc(sizeof(struct node));\nn->next = l;\nl = n;\n}\nwhile (l) {\nt = l->next;\nfree(l);\nl = t;\n}\nreturn 0;\n}\n";
+
+/// Words over the list program in the file x.c, with the status and the report.
+const RUNS: [(&[&str], u8, &str); 11] = [
+    (&["run", "x.c"], 3, "STARVED\nstep 2\n"),
+    (&["run", "x.c", "--choices", ""], 3, "STARVED\nstep 2\n"),
+    (&["run", "x.c", "--choices", "1"], 3, "STARVED\nstep 6\n"),
+    (
+        &["run", "x.c", "--choices", "2"],
+        3,
+        "BAD CHOICE\nindex 0\n",
+    ),
+    (
+        &["run", "x.c", "--choices", "19"],
+        3,
+        "BAD CHOICE\nindex 1\n",
+    ),
+    // l = NULL, the test on 0, the test of l, and the return
+    (&["run", "x.c", "--choices", "0"], 0, "ENDED\nstep 4\n"),
+    // four steps more for the cell that is built, and four for the one that is freed
+    (&["run", "x.c", "--choices", "10"], 0, "ENDED\nstep 12\n"),
+    (
+        &["run", "x.c", "--choices", "10", "--steps", "12"],
+        0,
+        "ENDED\nstep 12\n",
+    ),
+    (
+        &["run", "x.c", "--choices", "10", "--steps", "11"],
+        3,
+        "STILL RUNNING\n",
+    ),
+    (&["run", "x.c", "--steps", "1"], 3, "STILL RUNNING\n"),
+    (
+        &["run", "x.c", "--steps", "1000000"],
+        3,
+        "STARVED\nstep 2\n",
+    ),
+];
+
+/// Words that ask nothing.
+const UNREAD: [&[&str]; 18] = [
+    &["run"],
+    &["run", "-x.c"],
+    &["run", "x.c", "y.c"],
+    &["run", "x.c", "--steps"],
+    &["run", "x.c", "--choices"],
+    &["run", "x.c", "--steps", "0"],
+    &["run", "x.c", "--steps", "1000001"],
+    &["run", "x.c", "--steps", "007"],
+    &["run", "x.c", "--steps", "+7"],
+    &["run", "x.c", "--steps", "-1"],
+    &["run", "x.c", "--steps", ""],
+    &["run", "x.c", "--steps=3"],
+    &["run", "x.c", "--choices", "1x"],
+    &["run", "x.c", "--choices", "1", "--choices", "1"],
+    &["run", "x.c", "--steps", "1", "--steps", "1"],
+    &["run", "x.c", "--steps", "1", "--choices", "1"],
+    &["run", "x.c", "--"],
+    &["verify", "x.c", "--steps", "1"],
+];
 
 /// Words over the file x.c with this text, where these reads and puts fail.
 const CALLS: [(&str, &[&str], &str, Fails, Answers); 13] = [
@@ -278,7 +444,7 @@ const CALLS: [(&str, &[&str], &str, Fails, Answers); 13] = [
         &["verify", "x.c"],
         "",
         (2, 0, 0),
-        (4, "", "refused N1 file\n"),
+        (4, "", "refused T12 1:1\n"),
     ),
     (
         "standard output fails at its first put",
@@ -416,10 +582,47 @@ fn wrong_program<R: Threads + Sync>(rt: &R, alloc: Global) -> Mem<Option<&'stati
     Ok(None)
 }
 
-fn wrong_other<R: Threads + Sync>(rt: &R, alloc: Global) -> Mem<Option<&'static str>> {
-    for (why, file) in OTHERS {
-        if !verifies(rt, alloc, file.as_bytes(), (4, "", "refused N1 file\n"))? {
+fn wrong_refusal<R: Threads + Sync>(rt: &R, alloc: Global) -> Mem<Option<&'static str>> {
+    for (why, file, line) in REFUSED {
+        if !verifies(rt, alloc, file.as_bytes(), (4, "", line))? {
             return Ok(Some(why));
+        }
+    }
+    Ok(None)
+}
+
+fn wrong_file<R: Threads + Sync>(rt: &R, alloc: Global) -> Mem<Option<&'static str>> {
+    for (why, file, status, out) in FILES {
+        if !verifies(rt, alloc, file.as_bytes(), (status, out, ""))? {
+            return Ok(Some(why));
+        }
+    }
+    Ok(None)
+}
+
+fn wrong_run<R: Threads + Sync>(rt: &R, alloc: Global) -> Mem<Option<&'static str>> {
+    for (words, status, out) in RUNS {
+        if !gives(
+            rt,
+            alloc,
+            words,
+            LIST.as_bytes(),
+            (0, 0, 0),
+            (status, out, ""),
+        )? {
+            return Ok(Some(out));
+        }
+    }
+    for words in UNREAD {
+        if !gives(
+            rt,
+            alloc,
+            words,
+            LIST.as_bytes(),
+            (0, 0, 0),
+            (2, "", "usage\n"),
+        )? {
+            return Ok(Some("words that ask nothing"));
         }
     }
     Ok(None)
@@ -453,8 +656,10 @@ fn wrong_call<R: Threads + Sync>(rt: &R, alloc: Global) -> Mem<Option<&'static s
 #[test]
 fn each_row_has_its_answer(rt: HostRuntime) -> Result<(), Fail> {
     assert_eq!(rt; wrong_program(&rt, rt.alloc())?, None);
-    assert_eq!(rt; wrong_other(&rt, rt.alloc())?, None);
+    assert_eq!(rt; wrong_file(&rt, rt.alloc())?, None);
+    assert_eq!(rt; wrong_refusal(&rt, rt.alloc())?, None);
     assert_eq!(rt; wrong_length(&rt, rt.alloc())?, None);
     assert_eq!(rt; wrong_call(&rt, rt.alloc())?, None);
+    assert_eq!(rt; wrong_run(&rt, rt.alloc())?, None);
     Ok(())
 }

@@ -1,13 +1,18 @@
 //! The top call: it does all that the program does.
-ghost use Rattle.std.specs.Prelude.{◌≡◌, ◌<◌, ◌⊎◌, ℕ};
+ghost use Rattle.std.specs.Prelude.{◌≡◌, ◌<◌, ◌⊎◌, ℕ, List, true};
 ghost use Rattle.fore_base.specs.declared.fault.Fault.{Fault as Kind};
+ghost use Rattle.c_types.specs.declared.outcome.Outcome.{Outcome as Out};
+ghost use Rattle.c_types.specs.Program.{Program};
+ghost use Rattle.c_types.specs.OneWay.{is_one_way};
+ghost use Rattle.c_types.specs.Runs.{run};
 ghost use Rattle.forester.specs.declared.answer.Refusal.{Refusal as Why};
 ghost use Rattle.forester.specs.declared.answer.Answer.{Answer as Due};
+ghost use Rattle.forester.specs.declared.words.Task.{Task as What};
 ghost use Rattle.forester.specs.Requests.{texts, request_of, writing_of};
-ghost use Rattle.forester.specs.Words.{NamesNoFile};
-ghost use Rattle.forester.specs.Texts.{status_of, IsStatus};
+ghost use Rattle.forester.specs.Words.{AsksNothing, AsksToVerify, AsksToRun};
+ghost use Rattle.forester.specs.Texts.{status_of, run_status};
 ghost use Rattle.forester.specs.Delivery.{IsCutShort, Told, WroteNothing};
-ghost use Rattle.forester.specs.Verdict.{IsRight, NothingFailed, NamesStraight, NamesOther, ReadsOnly};
+ghost use Rattle.forester.specs.Verdict.{IsRight, NothingFailed, NamesProgram, NamesOther, ReadsOnly};
 
 use crate::answer::Answer;
 use crate::deliver::deliver;
@@ -18,11 +23,12 @@ use par_kit::gate::Gate;
 use std::alloc::Global;
 use std::thread::Threads;
 
-/// Does what the words ask: `verify FILE`. Gives the status with which the program ends.
+/// Does what the words ask: `verify FILE`, or `run FILE [--choices LIST] [--steps N]`. Gives the status with which the program ends.
 ///
-/// 0: the file is a straight program that no choices and no number of steps lead to a fault. 1: the printed choices lead it to the printed fault.
-/// 2: the words do not read. 4: the file is longer than 1,048,576 bytes, or is not straight. 5: the file could not be read. 6: a sink failed.
-/// 7: want of memory, and nothing was written.
+/// 0: no choices and no number of steps lead the program of the file to a fault; or the run has ended. 1: the printed choices lead it to the
+/// printed fault; or the run met the printed fault. 2: the words do not read. 3: the run has too few choices, or a wrong one, or still runs. 4:
+/// the file has more than 1,048,576 bytes, or breaks a rule, or is to be verified and has a loop or a choice. 5: the file could not be read. 6: a
+/// sink failed. 7: want of memory, and nothing was written.
 pub fn forester<R: Threads + Sync, L: Shelf, K: Sink, E: Sink, G: Gate>(
     rt: &R,
     alloc: Global,
@@ -32,12 +38,20 @@ pub fn forester<R: Threads + Sync, L: Shelf, K: Sink, E: Sink, G: Gate>(
     notes: &mut E,
     gate: &G,
 ) -> u8
-    ensures is_safe { result ≡ 0 → IsRight (request_of L.Shelf words.now shelf.old shelf.new) Answer.Safe
+    ensures is_safe { AsksToVerify (texts words.now) → result ≡ 0
+        → IsRight (request_of L.Shelf words.now shelf.old shelf.new) Answer.Safe
         × Told (writing_of K.Sink out.old out.new) (writing_of E.Sink notes.old notes.new) Answer.Safe }
-    ensures is_unsafe { result ≡ 1 → (kind : Kind) × (line : ℕ) × (step : ℕ)
+    ensures is_unsafe { AsksToVerify (texts words.now) → result ≡ 1 → (kind : Kind) × (line : ℕ) × (step : ℕ)
         × IsRight (request_of L.Shelf words.now shelf.old shelf.new) (Answer.Unsafe kind line step)
         × Told (writing_of K.Sink out.old out.new) (writing_of E.Sink notes.old notes.new)
         (Answer.Unsafe kind line step) }
+    ensures ran { AsksToRun (texts words.now) → (result ≡ 0) ⊎ (result ≡ 1) ⊎ (result ≡ 3) → (outcome : Out)
+        × (result ≡ run_status outcome)
+        × IsRight (request_of L.Shelf words.now shelf.old shelf.new) (Answer.Ran outcome)
+        × Told (writing_of K.Sink out.old out.new) (writing_of E.Sink notes.old notes.new)
+        (Answer.Ran outcome) }
+    ensures asked { (result ≡ 0) ⊎ (result ≡ 1) ⊎ (result ≡ 3) → AsksToVerify (texts words.now) × (result < 2)
+        ⊎ AsksToRun (texts words.now) }
     ensures usage { result ≡ 2 → IsRight (request_of L.Shelf words.now shelf.old shelf.new) Answer.Usage
         × Told (writing_of K.Sink out.old out.new) (writing_of E.Sink notes.old notes.new) Answer.Usage }
     ensures refused { result ≡ 4 → (why : Why)
@@ -51,17 +65,20 @@ pub fn forester<R: Threads + Sync, L: Shelf, K: Sink, E: Sink, G: Gate>(
         × IsCutShort (writing_of K.Sink out.old out.new) (writing_of E.Sink notes.old notes.new) due }
     ensures memory { result ≡ 7 → IsRight (request_of L.Shelf words.now shelf.old shelf.new) Answer.NoMemory
         × WroteNothing (writing_of K.Sink out.old out.new) (writing_of E.Sink notes.old notes.new) }
-    ensures unread { NamesNoFile (texts words.now) → (result ≡ 2) ⊎ (result ≡ 6) }
-    ensures judges { NamesStraight (request_of L.Shelf words.now shelf.old shelf.new)
-        → NothingFailed (request_of L.Shelf words.now shelf.old shelf.new)
-        (writing_of K.Sink out.old out.new) (writing_of E.Sink notes.old notes.new)
+    ensures unread { AsksNothing (texts words.now) → (result ≡ 2) ⊎ (result ≡ 6) }
+    ensures judges { (p : Program) → NamesProgram (request_of L.Shelf words.now shelf.old shelf.new) What.Verify p
+        → is_one_way p ≡ true
+        → NothingFailed (request_of L.Shelf words.now shelf.old shelf.new) (writing_of K.Sink out.old out.new) (writing_of E.Sink notes.old notes.new)
         → (result ≡ 0) ⊎ (result ≡ 1) ⊎ (result ≡ 7) }
+    ensures runs { (p : Program) (choices : List ℕ) (steps : ℕ)
+        → NamesProgram (request_of L.Shelf words.now shelf.old shelf.new) (What.Run choices steps) p
+        → NothingFailed (request_of L.Shelf words.now shelf.old shelf.new) (writing_of K.Sink out.old out.new) (writing_of E.Sink notes.old notes.new)
+        → (result ≡ run_status (run p choices steps)) ⊎ (result ≡ 7) }
     ensures refuses { NamesOther (request_of L.Shelf words.now shelf.old shelf.new)
-        → NothingFailed (request_of L.Shelf words.now shelf.old shelf.new)
-        (writing_of K.Sink out.old out.new) (writing_of E.Sink notes.old notes.new)
+        → NothingFailed (request_of L.Shelf words.now shelf.old shelf.new) (writing_of K.Sink out.old out.new) (writing_of E.Sink notes.old notes.new)
         → (result ≡ 4) ⊎ (result ≡ 7) }
     ensures reads_only { ReadsOnly (request_of L.Shelf words.now shelf.old shelf.new) }
-    ensures status { IsStatus result }
+    ensures status { result < 8 }
 {
     let _rt = rt;
     let _gate = gate;

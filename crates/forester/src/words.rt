@@ -1,77 +1,225 @@
 //! Reading the words of the command line.
-ghost use Rattle.std.specs.Prelude.{MatchOption, IsTrue};
+ghost use Rattle.std.specs.Prelude.{◌≡◌, ◌∷◌, [], ℕ, List, MatchOption, map, IfOk, IsErrOf, IsTrue, MatchResult, ◌↔◌, codes, decimal};
+ghost use Rattle.fore_base.specs.Lists.{Every};
 ghost use Rattle.forester.specs.Requests.{texts};
-ghost use Rattle.forester.specs.Words.{IsVerify, IsNoOption, NamesNoFile};
+ghost use Rattle.forester.specs.Words.{IsNoOption, IsNumber, IsDigit, digit_of, IsChoices, IsOption, IsTask, AsksNothing};
+ghost use Rattle.forester.specs.declared.words.Unread.{Unread as Why};
+ghost use Rattle.forester.specs.declared.words.Task.{Task as What};
 
-/// The file that the words ask to verify. None where the words are anything but `verify` and a path that does not begin with `-`.
-pub fn file_of<'a>(words: &'a [String]) -> Option<&'a str>
-    ensures { MatchOption result (NamesNoFile (texts words.now))
-        (λ file. IsVerify (texts words.now) file.now) }
-{
-    let [command, file] = words else {
-        return None;
-    };
-    if command.as_str() != "verify" || is_option(file.as_str()) {
-        return None;
-    }
-    Some(file.as_str())
+use fore_base::list::List;
+use fore_base::memory::Mem;
+use itoa::Buffer;
+use std::alloc::{AllocError, Global};
+
+/// The greatest number of steps of a run, and the number that is taken where the words name none.
+pub const RUN_STEPS: u32 = 1000000;
+
+/// What is to be done with a file.
+#[derive(PartialEq, Eq, Debug, Drop)]
+pub enum Task {
+    /// It is verified.
+    Verify,
+    /// It is run on these choices, for at most so many steps, from 1 to `RUN_STEPS`.
+    Run { choices: List<u8>, steps: u32 },
 }
 
-fn is_option(word: &str) -> bool
-    ensures option { IsTrue result → ¬ IsNoOption word.now }
-    ensures other { ¬ IsTrue result → IsNoOption word.now }
+/// Why words are not read.
+#[derive(Clone, Copy, PartialEq, Eq, Debug)]
+pub enum Unread {
+    /// They ask nothing.
+    Usage,
+    /// Want of memory.
+    Memory,
+}
+
+impl From<AllocError> for Unread {
+    ghost use Rattle.std.specs.Prelude.{◌≡◌};
+    ghost use Rattle.forester.specs.declared.words.Unread.TheVariants.{Memory};
+
+    ghost from_gives = { λ _ why. why ≡ Memory };
+
+    fn from(_error: AllocError) -> Unread {
+        Unread::Memory
+    }
+}
+
+/// Whether a word can be the path of a file: it does not begin with `-`.
+fn is_path(word: &str) -> bool
+    ensures { IsTrue result ↔ IsNoOption word.now }
 {
     match word.as_bytes().first() {
-        Some(byte) => *byte == b'-',
-        None => false,
+        Some(byte) => *byte != b'-',
+        None => true,
     }
 }
 
-#[cfg(test)]
-mod tests {
-    use super::*;
-    use fore_base::memory::Mem;
-    use std::alloc::Global;
-    use std::test::Fail;
-
-    /// Words, and the file that they name.
-    const WORDS: [(&str, &[&str], Option<&str>); 13] = [
-        ("a file", &["verify", "list.c"], Some("list.c")),
-        (
-            "any text that is no option is a path, also the empty one",
-            &["verify", ""],
-            Some(""),
-        ),
-        ("the command's name", &["verify", "verify"], Some("verify")),
-        ("a hyphen within", &["verify", "a-b.c"], Some("a-b.c")),
-        (
-            "a word that begins with a hyphen is no path",
-            &["verify", "-"],
-            None,
-        ),
-        ("an option", &["verify", "-x"], None),
-        ("two hyphens", &["verify", "--"], None),
-        ("no words", &[], None),
-        ("too few words", &["verify"], None),
-        ("too many", &["verify", "list.c", "list.c"], None),
-        ("another command", &["Verify", "list.c"], None),
-        ("a blank after the command", &["verify ", "list.c"], None),
-        ("the other way round", &["list.c", "verify"], None),
-    ];
-
-    fn names(alloc: Global, texts: &[&str], file: Option<&str>) -> Mem<bool> {
-        let mut words = Vec::new(alloc);
-        for text in texts {
-            words.push(String::from_str(alloc, text)?)?;
-        }
-        Ok(file_of(&words) == file)
+/// What the first word and the words after the path ask to do with the file.
+///
+/// # Errors
+///
+/// `Usage` where they ask nothing, `Memory` for want of memory.
+pub fn task_of(alloc: Global, verb: &str, given: &[String]) -> Result<Task, Unread>
+    ensures ok { IfOk result (IsTask verb.now (texts given.now)) }
+    ensures usage { IsErrOf result Why.Usage → (task : What) → IsTask verb.now (texts given.now) task → ⊥ }
+    ensures memory { IsErrOf result Why.Memory → (task : What) × IsTask verb.now (texts given.now) task }
+{
+    match verb {
+        "verify" => if given.is_empty() {
+            Ok(Task::Verify)
+        } else {
+            Err(Unread::Usage)
+        },
+        "run" => run_of(alloc, given),
+        _ => Err(Unread::Usage),
     }
+}
 
-    #[test]
-    fn only_verify_and_a_file_read(rt: HostRuntime) -> Result<(), Fail> {
-        for (why, texts, file) in WORDS {
-            assert!(rt; names(rt.alloc(), texts, file)?, "{why}");
+/// What `run` asks, by the words after the path: `--choices LIST` and `--steps N`, each at most once and in this order.
+///
+/// # Errors
+///
+/// `Usage` where they ask nothing, `Memory` for want of memory.
+fn run_of(alloc: Global, given: &[String]) -> Result<Task, Unread>
+    ensures ok { IfOk result (IsTask (codes "run") (texts given.now)) }
+    ensures usage { IsErrOf result Why.Usage → (task : What) → IsTask (codes "run") (texts given.now) task → ⊥ }
+    ensures memory { IsErrOf result Why.Memory → (task : What) × IsTask (codes "run") (texts given.now) task }
+{
+    match choices_named(given) {
+        Some((list, rest)) => {
+            let steps = steps_of(rest)?;
+            let choices = choices_in(alloc, list)?;
+            Ok(Task::Run { choices, steps })
         }
-        Ok(())
+        None => {
+            let steps = steps_of(given)?;
+            Ok(Task::Run {
+                choices: List::new(alloc),
+                steps,
+            })
+        }
     }
+}
+
+/// The text of the choices, where they are named first, and the words after it.
+fn choices_named<'a>(given: &'a [String]) -> Option<(&'a str, &'a [String])>
+    ensures { MatchOption result
+        ((list : List ℕ) (rest : List (List ℕ)) → texts given.now ≡ codes "--choices" ∷ list ∷ rest → ⊥)
+        (λ p. texts given.now ≡ codes "--choices" ∷ p.0.now ∷ texts p.1.now) }
+{
+    match pair(given) {
+        Some(("--choices", list, rest)) => Some((list, rest)),
+        _ => None,
+    }
+}
+
+/// The first word, the path, and the words after it. None where there is no path in its place, and so nothing is asked.
+#[tactic(auto, using(crate::proofs::WordLemmas::too_few, crate::proofs::WordLemmas::no_path))]
+pub fn asked<'a>(words: &'a [String]) -> Option<(&'a str, &'a str, &'a [String])>
+    ensures { MatchOption result (AsksNothing (texts words.now))
+        (λ p. (texts words.now ≡ p.0.now ∷ p.1.now ∷ texts p.2.now) × IsNoOption p.1.now) }
+{
+    let (verb, path, given) = pair(words)?;
+    if !is_path(path) {
+        return None;
+    }
+    Some((verb, path, given))
+}
+
+/// The first two words, and those after them. None where there are fewer.
+fn pair<'a>(words: &'a [String]) -> Option<(&'a str, &'a str, &'a [String])>
+    ensures { MatchOption result ((a b : List ℕ) (rest : List (List ℕ)) → texts words.now ≡ a ∷ b ∷ rest → ⊥)
+        (λ p. texts words.now ≡ p.0.now ∷ p.1.now ∷ texts p.2.now) }
+{
+    let (first, rest) = words.split_first()?;
+    let (second, rest) = rest.split_first()?;
+    Some((first.as_str(), second.as_str(), rest))
+}
+
+/// The number of steps that these words name, or the greatest where there are none.
+///
+/// # Errors
+///
+/// `Usage` where they are no words for steps.
+fn steps_of(given: &[String]) -> Result<u32, Unread>
+    ensures { MatchResult result
+        (IsOption (codes "--steps") (IsNumber RUN_STEPS) RUN_STEPS (texts given.now) [])
+        (λ why. (why ≡ Why.Usage)
+        × ((n : ℕ) → IsOption (codes "--steps") (IsNumber RUN_STEPS) RUN_STEPS (texts given.now) [] n → ⊥)) }
+{
+    if given.is_empty() {
+        return Ok(RUN_STEPS);
+    }
+    match pair(given) {
+        Some(("--steps", number, [])) => number_in(number, RUN_STEPS),
+        _ => Err(Unread::Usage),
+    }
+}
+
+/// The number that a word is, from 1 to the greatest.
+///
+/// # Errors
+///
+/// `Usage` where it is none.
+fn number_in(word: &str, most: u32) -> Result<u32, Unread>
+    ensures { MatchResult result (IsNumber most word.now)
+        (λ why. (why ≡ Why.Usage) × ((n : ℕ) → IsNumber most word.now n → ⊥)) }
+{
+    match word.parse::<u32>() {
+        Ok(number) if is_number(word, most, number) => Ok(number),
+        _ => Err(Unread::Usage),
+    }
+}
+
+fn is_number(word: &str, most: u32, number: u32) -> bool
+    ensures { IsTrue result ↔ IsNumber most word.now number }
+{
+    1 <= number && number <= most && is_decimal(word, number)
+}
+
+/// Whether a word is the number in decimal, without a sign or leading zeros.
+fn is_decimal(word: &str, number: u32) -> bool
+    ensures { IsTrue result ↔ (word.now ≡ decimal number) }
+{
+    let mut buffer = Buffer::new();
+    word.as_bytes() == buffer.format(number).as_bytes()
+}
+
+/// The choices that a word lists, a digit for each.
+///
+/// # Errors
+///
+/// `Usage` where some byte is no digit, `Memory` for want of memory.
+fn choices_in(alloc: Global, word: &str) -> Result<List<u8>, Unread>
+    ensures ok { IfOk result (IsChoices word.now) }
+    ensures usage { IsErrOf result Why.Usage → (choices : List ℕ) → IsChoices word.now choices → ⊥ }
+    ensures memory { IsErrOf result Why.Memory → (choices : List ℕ) × IsChoices word.now choices }
+{
+    if !are_digits(word.as_bytes()) {
+        return Err(Unread::Usage);
+    }
+    let choices = values_of(alloc, word.as_bytes())?;
+    Ok(choices)
+}
+
+fn are_digits(bytes: &[u8]) -> bool
+    ensures { IsTrue result ↔ Every IsDigit bytes.now }
+{
+    for byte in bytes {
+        if !byte.is_ascii_digit() {
+            return false;
+        }
+    }
+    true
+}
+
+/// The values of digits.
+fn values_of(alloc: Global, digits: &[u8]) -> Mem<List<u8>>
+    requires { Every IsDigit digits.now }
+    ensures { IfOk result (λ values. values ≡ map digit_of digits.now) }
+{
+    let mut values = List::new(alloc);
+    for digit in digits {
+        values.push(*digit - b'0')?;
+    }
+    Ok(values)
 }

@@ -1,6 +1,0 @@
-use Rattle.std.proofs.Common.{◌≡◌, drop, map}
-use Rattle.forester.specs.straight.Spelling.{is_among}
-use Rattle.forester.proofs.straight.part.is_among.Given as goal
-
-abbrev pub invariant-loop-word : goal.invariant-loop-word
-invariant-loop-word l = is_among (map (λ word. word.now) (drop l.word-index l.words)) l.text ≡ is_among (map (λ word. word.now) l.words) l.text

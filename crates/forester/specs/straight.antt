@@ -1,4 +1,0 @@
-pub mod Files
-pub mod Meaning
-pub mod Rules
-pub mod Spelling
