@@ -1,4 +1,5 @@
 pub mod Adding
+pub mod Agree
 pub mod Chains
 pub mod Closing
 pub mod Compiled

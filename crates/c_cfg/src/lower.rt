@@ -1,5 +1,6 @@
 // The control graph of a program.
 ghost use Rattle.std.specs.Prelude.{◌≡◌, ◌<◌, ◌^◌, length, IfOk};
+ghost use Rattle.c_cfg.specs.Agreement.{Agrees};
 ghost use Rattle.c_cfg.specs.Lowering.{LowerOf};
 ghost use Rattle.c_cfg.specs.inner.Emitting.{wide_all};
 ghost use Rattle.c_cfg.specs.inner.Sites.{program_edges};
@@ -14,7 +15,7 @@ use fore_base::list::{Copies, List};
 use fore_base::memory::Mem;
 use std::alloc::Global;
 
-/// The control graph of a program. Its locations are numbered in order of the text, those in the middle of a step after the one at which it begins,
+/// The control graph of a program. On any choices both meet the same faults in the same lines, both end, or both want a choice. The graph's locations are numbered in order of the text, those in the middle of a step after the one at which it begins,
 /// and the exit is the last.
 ///
 /// # Errors
@@ -22,6 +23,7 @@ use std::alloc::Global;
 /// Want of memory, also where there would be more locations, variables or edges than 32 bits count.
 pub fn lower(alloc: Global, program: &Typed) -> Mem<Graph>
     ensures lowers { IfOk result (λ graph. LowerOf program.now graph) }
+    ensures agrees { IfOk result (λ graph. Agrees program.now graph) }
 {
     let counts = counts_of(program)?;
     let body = program.body.as_slice();

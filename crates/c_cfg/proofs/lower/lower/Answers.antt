@@ -1,7 +1,9 @@
-use Rattle.std.proofs.Common.{rules, arith, ◌≡◌, ◌+◌, ◌<◌, ◌^◌, length, true, false, replicate}
+use Rattle.std.proofs.Common.{rules, arith, ◌≡◌, ◌+◌, ◌<◌, ◌^◌, length, true, false, replicate, subst}
 use Rattle.fore_base.specs.Stores.{set_each}
 use Rattle.c_cfg.specs.inner.Emitting.{in_loop, wide_all, emit_all, heads_all}
 use Rattle.c_cfg.proofs.Lowered.{heads_long, choices_told, built}
+use Rattle.c_types.specs.Program.{Program, is_typed}
+use Rattle.c_cfg.proofs.Agree.Agreed.{agree}
 use Rattle.c_cfg.proofs.lower.lower.Goals as goal
 
 pub invariant_of-result : goal.invariant_of-result
@@ -29,4 +31,5 @@ returns c =
     let ptrs : c.all_ptrs.result ≡ length p.vars + 2 = search rules in
     let datums : c.all_datums.result ≡ length p.data_vars + 2 = search rules in
     let shapes : c.in_ok-shapes.shapes ≡ p.shapes = search rules in
-    record { lowers = built p e exit c.in_ok-locations.locations c.all_ptrs.result c.all_datums.result c.in_ok-edges.edges c.in_ok-heads.heads c.in_ok-shapes.shapes locations ptrs datums edges heads shapes }
+    let low = built p e exit c.in_ok-locations.locations c.all_ptrs.result c.all_datums.result c.in_ok-edges.edges c.in_ok-heads.heads c.in_ok-shapes.shapes locations ptrs datums edges heads shapes in
+    record { lowers = low; agrees = agree p (subst (λ (q : Program). is_typed q ≡ true) c.program.view_is c.program.invariant) _ low }

@@ -1,0 +1,21 @@
+-- The theorem that a program and its control graph agree.
+pub mod ActTurns
+pub mod Agreed
+pub mod Arrows
+pub mod DataRows
+pub mod Dying
+pub mod FieldsThere
+pub mod Flow
+pub mod LinksOnes
+pub mod OneEdges
+pub mod OtherMarks
+pub mod Passing
+pub mod PointerRows
+pub mod Reading
+pub mod Simulated
+pub mod StepsAlike
+pub mod TempLeaks
+pub mod Temporaries
+pub mod Tested
+pub mod TestsTyped
+pub mod Ways
