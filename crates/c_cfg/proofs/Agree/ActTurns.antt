@@ -1,10 +1,7 @@
 -- Each act's edges do what the act does.
-use Rattle.std.proofs.Common.{◌≡◌, ◌+◌, ℕ, Bool, true, false, if◌then◌else◌, Option, Some, None, Result, Ok, Err, List, [], ◌∷◌, length, refl, sym, ap, ◌∙◌}
+use Rattle.std.proofs.Common.{◌≡◌, ℕ, Bool, true, false, Option, Some, None, Result, Ok, Err, List, [], ◌∷◌, length, refl, sym, ap, ◌∙◌}
 use Rattle.fore_base.specs.declared.fault.Fault.{Fault}
-use Rattle.fore_base.specs.declared.fault.Fault.TheVariants.{Leak}
-use Rattle.fore_base.specs.declared.store.Value.TheVariants.{Uninit}
 use Rattle.fore_base.specs.declared.store.Datum.{Datum}
-use Rattle.fore_base.specs.declared.store.Datum.TheVariants.{Undefined}
 use Rattle.fore_base.specs.declared.store.Store.{Store}
 use Rattle.fore_base.specs.Stores.{onward, kill}
 use Rattle.fore_base.specs.Heap.{leaks}
@@ -16,9 +13,8 @@ use Rattle.c_types.specs.Control.{Items, after_again, from_again, closed_ptrs, c
 use Rattle.c_types.specs.Steps.{Turn, Goes, Stops, Faults, read_data, look_at, assign, assign_data, free_path, all_dead, settle, settled, finished, act_turn}
 use Rattle.c_types.specs.Fits.{ActFits}
 use Rattle.c_types.proofs.Fitting.{Sound}
-use Rattle.c_types.proofs.Turns.{finished_stops}
 use Rattle.c_cfg.specs.declared.graph.Instr.TheVariants.{Kill}
-use Rattle.c_cfg.specs.Edges.{Pass, Passed, Faulted, Halted, onto, leak_tested}
+use Rattle.c_cfg.specs.Edges.{Pass, Passed, Faulted, Halted, onto}
 use Rattle.c_cfg.specs.Links.{Link, One, act_row}
 use Rattle.c_cfg.specs.Lowering.{followed_by}
 use Rattle.c_cfg.proofs.Agree.Temporaries.{ext0, kill_ext0}

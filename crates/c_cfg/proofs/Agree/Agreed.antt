@@ -1,5 +1,5 @@
 -- A program and its graph agree.
-use Rattle.std.proofs.Common.{◌≡◌, ◌<◌, ◌≤◌, ◌+◌, ℕ, zero, suc, Bool, true, false, List, [], ◌∷◌, ◌++◌, length, replicate, refl, sym, ap, ◌∙◌, subst, arith}
+use Rattle.std.proofs.Common.{◌≡◌, ◌<◌, ◌≤◌, ◌+◌, ℕ, zero, suc, true, false, List, [], ◌∷◌, ◌++◌, length, replicate, refl, sym, ap, ◌∙◌, subst, arith}
 use Rattle.fore_base.specs.declared.fault.Fault.{Fault as Kind}
 use Rattle.fore_base.specs.declared.store.Value.{Value}
 use Rattle.fore_base.specs.declared.store.Value.TheVariants.{Uninit}
@@ -11,7 +11,7 @@ use Rattle.fore_base.specs.Heap.{leaks}
 use Rattle.c_types.specs.declared.outcome.Outcome.{Outcome}
 use Rattle.c_types.specs.declared.outcome.Outcome.TheVariants.{Ended, Fault, Starved, BadChoice, StillRunning}
 use Rattle.c_types.specs.Program.{Program, is_typed}
-use Rattle.c_types.specs.Control.{Items, Done, Do, Close, If, Loop, Again, DoLoop, DoAgain, Test, Ask, Not, Both, Either, ◌then◌, round, do_round, opened, start_of}
+use Rattle.c_types.specs.Control.{Items, Done, Do, Close, If, Loop, Again, DoLoop, DoAgain, Test, Ask, Not, Both, Either, ◌then◌, round, do_round, opened}
 use Rattle.c_types.specs.Runs.{run, go, at_end, own_line, empty_store}
 use Rattle.c_types.specs.Over.{IsOver}
 use Rattle.c_types.specs.Fits.{ItemsFit}
@@ -20,15 +20,15 @@ use Rattle.c_types.proofs.ItemsTyped.{start_fits}
 use Rattle.c_cfg.specs.Graphs.{ControlGraph}
 use Rattle.c_cfg.specs.GraphRuns.{grun, ggo, at_location}
 use Rattle.c_cfg.specs.Lowering.{LowerOf, IsRow}
-use Rattle.c_cfg.specs.Places.{test_places, places, remark}
-use Rattle.c_cfg.specs.Agreement.{IsFaultAt, IsEnded, IsStarved, IsBadAt, Together, BothCome, Agrees}
+use Rattle.c_cfg.specs.Places.{test_places, places}
+use Rattle.c_cfg.specs.Agreement.{IsFaultAt, IsEnded, IsStarved, IsBadAt, Agrees}
 use Rattle.c_cfg.proofs.Agree.Temporaries.{ext0}
 use Rattle.c_cfg.proofs.Agree.Ways.{stepless}
 use Rattle.c_cfg.proofs.Agree.TestsTyped.{TestFits, TestsFit, start_tests_fit}
-use Rattle.c_cfg.proofs.Agree.StepsAlike.{size, AtomThere, R}
+use Rattle.c_cfg.proofs.Agree.StepsAlike.{size, AtomThere}
 use Rattle.c_cfg.proofs.Agree.Simulated.{Follows, Still, Stays, longer, fuel, fuel_least, Ready, over, goes_on}
 use Rattle.c_cfg.proofs.Agree.OtherMarks.{go_same, items_marked, tests_marked}
-use Rattle.c_cfg.proofs.Agree.Flow.{Each, each}
+use Rattle.c_cfg.proofs.Agree.Flow.{each}
 
 -- The atoms of all places are typed
 

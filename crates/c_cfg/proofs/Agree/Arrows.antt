@@ -1,5 +1,5 @@
 -- Paths: the arrows before the last, and the last one.
-use Rattle.std.proofs.Common.{◌≡◌, ◌<◌, ℕ, zero, suc, Result, Ok, Err, List, [], ◌∷◌, ◌++◌, length, refl, sym, ap, ◌∙◌, subst, arith}
+use Rattle.std.proofs.Common.{◌≡◌, ℕ, Result, Ok, Err, List, [], ◌∷◌, ◌++◌, refl, sym, ap, ◌∙◌, subst}
 use Rattle.fore_base.specs.declared.fault.Fault.{Fault}
 use Rattle.fore_base.specs.declared.shape.Shape.{Shape}
 use Rattle.fore_base.specs.declared.store.Value.{Value}
@@ -10,7 +10,7 @@ use Rattle.c_types.proofs.CellsFit.{IsAt}
 use Rattle.c_types.proofs.Fitting.{Leads}
 use Rattle.c_cfg.specs.declared.graph.Instr.{Instr}
 use Rattle.c_cfg.specs.declared.graph.Instr.TheVariants.{LoadPtr}
-use Rattle.c_cfg.specs.Links.{Link, One, loads, holder, used, loads_but_last}
+use Rattle.c_cfg.specs.Links.{One, loads, holder, used, loads_but_last}
 use Rattle.c_cfg.proofs.Agree.Passing.{onward_onward}
 
 -- of the arrows f and fs those before the last, and the last

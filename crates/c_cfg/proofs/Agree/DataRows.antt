@@ -1,7 +1,6 @@
 -- The edges of assignments to data, and of `return`, do what the step does.
-use Rattle.std.proofs.Common.{◌≡◌, ◌<◌, ◌+◌, ℕ, zero, suc, Bool, true, false, ◌&&◌, if◌then◌else◌, Option, Some, None, Result, Ok, Err, List, [], ◌∷◌, ◌++◌, length, append-nil, refl, sym, ap, ◌∙◌, subst}
+use Rattle.std.proofs.Common.{◌≡◌, ◌<◌, ◌+◌, ℕ, zero, suc, true, false, ◌&&◌, if◌then◌else◌, Option, Some, None, Ok, List, [], ◌∷◌, ◌++◌, length, append-nil, refl, sym, ap, ◌∙◌, subst}
 use Rattle.std.proofs.lemmas.Bool.{and_parts}
-use Rattle.fore_base.specs.declared.fault.Fault.{Fault}
 use Rattle.fore_base.specs.declared.fault.Fault.TheVariants.{Leak}
 use Rattle.fore_base.specs.declared.store.Value.{Value}
 use Rattle.fore_base.specs.declared.store.Value.TheVariants.{Null, Uninit, Dangling, Cell}
@@ -25,7 +24,7 @@ use Rattle.c_cfg.specs.declared.graph.Const.TheVariants.{Known as ConstKnown}
 use Rattle.c_cfg.specs.declared.graph.Instr.{Instr}
 use Rattle.c_cfg.specs.declared.graph.Instr.TheVariants.{CopyData, LoadData, StoreData, StoreConst, Choose, Kill}
 use Rattle.c_cfg.specs.Edges.{Pass, Passed, Faulted, onto, raw_step, leak_tested}
-use Rattle.c_cfg.specs.Links.{Link, One, Two, loads, holder, used, ends, data_loads, data_holder, base_used, data_used, data_row, return_row}
+use Rattle.c_cfg.specs.Links.{Link, One, Two, loads, holder, used, ends, data_holder, base_used, data_used, data_row, return_row}
 use Rattle.c_cfg.proofs.Agree.Temporaries.{ext, ext0, Sized, datum_ext, set_datum_ext, d0_holds, d0_set, all_die}
 use Rattle.c_cfg.proofs.Agree.TempLeaks.{hidden}
 use Rattle.c_cfg.proofs.Agree.Passing.{then_pass, pick, links_pass, settled_pass, done_pass, onto_same, onto_onward, onward_onward, one_link, finishing}

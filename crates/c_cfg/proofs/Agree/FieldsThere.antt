@@ -1,10 +1,9 @@
 -- In a store that fits a program, a cell has the fields of its struct, and what stands in them is of the declared struct.
-use Rattle.std.proofs.Common.{◌≡◌, ◌<◌, ◌⊎◌, inl, inr, ℕ, zero, suc, Bool, true, false, nat_eq, if◌then◌else◌, Option, Some, None, List, [], ◌∷◌, length, slice_get, slice_index_or, refl, sym, ap, ◌∙◌, subst, true≢false, arith}
+use Rattle.std.proofs.Common.{◌≡◌, ◌<◌, inl, inr, ℕ, zero, suc, Bool, true, false, nat_eq, if◌then◌else◌, Some, List, [], ◌∷◌, length, slice_get, slice_index_or, refl, sym, ap, ◌∙◌, subst, true≢false, arith}
 use Rattle.std.proofs.lemmas.Bool.{eqb-true, eq-eqb}
 use Rattle.fore_base.specs.declared.shape.Shape.{Shape}
 use Rattle.fore_base.specs.declared.store.Value.{Value}
 use Rattle.fore_base.specs.declared.store.Value.TheVariants.{Null, Uninit, Dangling, Cell}
-use Rattle.fore_base.specs.declared.store.Datum.{Datum}
 use Rattle.fore_base.specs.declared.store.Datum.TheVariants.{Undefined}
 use Rattle.fore_base.specs.declared.store.CellRec.{CellRec}
 use Rattle.fore_base.specs.Lists.{Every}
@@ -14,7 +13,7 @@ use Rattle.fore_base.specs.Shapes.{targets_of, datums_of}
 use Rattle.c_types.specs.Fits.{HasCellOf, PointsTo, PointsToEach, CellFits}
 use Rattle.c_types.proofs.CellsFit.{IsAt}
 use Rattle.c_types.proofs.CellsKept.{cell_of_is}
-use Rattle.c_cfg.specs.Edges.{field_of, datum_field_of, struct_of, target_of, same_struct, may_stand}
+use Rattle.c_cfg.specs.Edges.{field_of, datum_field_of, struct_of, may_stand}
 
 -- an item that is there
 get_there : {A : Type 0} (xs : List A) (i : ℕ) (d : A) → i < length xs → slice_get xs i ≡ Some (slice_index_or xs i d)

@@ -1,5 +1,5 @@
 -- Where a step leads is a place again.
-use Rattle.std.proofs.Common.{◌≡◌, ℕ, List, [], ◌∷◌, ◌++◌, refl, sym, ap, ◌∙◌, subst}
+use Rattle.std.proofs.Common.{List, [], ◌∷◌, ◌++◌}
 use Rattle.c_types.specs.Control.{Items, Done, Do, Close, If, Loop, Again, DoLoop, DoAgain, Test, Ask, Not, Both, Either, ◌then◌, ask, round, do_round, open_before, opened, after_again, from_again}
 use Rattle.fore_base.specs.Lists.{Every}
 use Rattle.c_types.proofs.Turns.{then_done}

@@ -1,6 +1,5 @@
 -- Which links take a choice: the first of an assignment of a choice, and no other. And each step has a link.
-use Rattle.std.proofs.Common.{◌≡◌, ◌<◌, ◌+◌, ℕ, zero, suc, Bool, true, false, Option, Some, None, List, [], ◌∷◌, ◌++◌, length, arith}
-use Rattle.c_types.specs.declared.program.Path.{Path}
+use Rattle.std.proofs.Common.{◌+◌, ℕ, Some, None, List, [], ◌∷◌, ◌++◌}
 use Rattle.c_types.specs.declared.program.DataPath.{DataPath}
 use Rattle.c_types.specs.declared.program.DataPath.TheVariants.{Var as DataVar, Field as DataField}
 use Rattle.c_types.specs.declared.program.PtrRhs.{PtrRhs}

@@ -1,21 +1,19 @@
 -- What the edges that follow a pointer do, on a store that fits a program and has temporaries.
-use Rattle.std.proofs.Common.{◌≡◌, ◌<◌, ℕ, Result, Ok, Err, List, [], ◌∷◌, length, refl, sym, ap, ◌∙◌, subst}
-use Rattle.fore_base.specs.declared.fault.Fault.{Fault}
+use Rattle.std.proofs.Common.{◌≡◌, ◌<◌, ℕ, Ok, refl, ap, ◌∙◌, subst}
 use Rattle.fore_base.specs.declared.store.Value.{Value}
 use Rattle.fore_base.specs.declared.store.Value.TheVariants.{Null, Uninit, Dangling, Cell}
 use Rattle.fore_base.specs.declared.store.Datum.{Datum}
 use Rattle.fore_base.specs.declared.store.Datum.TheVariants.{Known}
 use Rattle.fore_base.specs.declared.store.Store.{Store}
-use Rattle.fore_base.specs.Stores.{var_of, datum_of, set_var, set_datum, load, load_datum, store_at, store_datum, field_in, datum_in}
+use Rattle.fore_base.specs.Stores.{var_of, datum_of, set_var, set_datum, load, load_datum, store_at, store_datum, field_in}
 use Rattle.fore_base.specs.Shapes.{targets_of, datums_of}
 use Rattle.c_types.specs.Program.{Program}
 use Rattle.c_types.specs.Fits.{PointsTo}
 use Rattle.c_types.proofs.CellsFit.{IsAt, field_points}
 use Rattle.c_types.proofs.Fitting.{Sound}
 use Rattle.c_cfg.specs.declared.graph.Const.TheVariants.{Null as ConstNull, Known as ConstKnown}
-use Rattle.c_cfg.specs.declared.graph.Instr.{Instr}
 use Rattle.c_cfg.specs.declared.graph.Instr.TheVariants.{LoadPtr, StorePtr, StoreConst, LoadData, StoreData}
-use Rattle.c_cfg.specs.Edges.{Pass, Passed, onto, raw_step, field_of, datum_field_of}
+use Rattle.c_cfg.specs.Edges.{Passed, onto, raw_step, field_of, datum_field_of}
 use Rattle.c_cfg.proofs.Agree.Temporaries.{ext}
 use Rattle.c_cfg.proofs.Agree.FieldsThere.{field_there, datum_there, stands_there}
 

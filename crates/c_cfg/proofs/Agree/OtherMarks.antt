@@ -1,17 +1,16 @@
 -- Other marks change nothing but the lines of faults.
-use Rattle.std.proofs.Common.{◌≡◌, ◌+◌, ℕ, zero, suc, Bool, true, false, Option, Some, None, Result, Ok, Err, List, [], ◌∷◌, refl, sym, ap, ◌∙◌}
+use Rattle.std.proofs.Common.{◌≡◌, ◌+◌, ℕ, zero, suc, Bool, true, false, Result, Ok, Err, List, [], ◌∷◌, refl, sym, ap, ◌∙◌}
 use Rattle.fore_base.specs.declared.fault.Fault.{Fault as Kind}
 use Rattle.fore_base.specs.declared.shape.Shape.{Shape}
 use Rattle.fore_base.specs.declared.store.Store.{Store}
 use Rattle.fore_base.specs.Stores.{kill}
 use Rattle.fore_base.specs.Heap.{leaks}
 use Rattle.c_types.specs.declared.outcome.Outcome.{Outcome}
-use Rattle.c_types.specs.declared.outcome.Outcome.TheVariants.{Ended, StillRunning}
 use Rattle.c_types.specs.declared.program.Act.{Act}
 use Rattle.c_types.specs.declared.program.Act.TheVariants.{SetPtr, SetData, Free, Error, Halt, Return, Break, Continue}
 use Rattle.c_types.specs.Program.{Program}
 use Rattle.c_types.specs.Control.{Items, Done, Do, Close, If, Loop, Again, DoLoop, DoAgain, Test, Ask, Not, Both, Either, ◌then◌, ask, round, do_round, open_before, opened, after_again, from_again, closed_ptrs, closed_datums, merged}
-use Rattle.c_types.specs.Steps.{Turn, Goes, Stops, Faults, assign, assign_data, free_path, look_at, all_dead, settle, settled, finished, act_turn, act_takes, atom_of, atom_takes, test_turn}
+use Rattle.c_types.specs.Steps.{assign, assign_data, free_path, look_at, all_dead, settle, settled, finished, act_turn, act_takes, atom_of, atom_takes, test_turn}
 use Rattle.c_types.specs.Runs.{supply, after_turn, at_end, advance, go, own_line}
 use Rattle.c_types.specs.Fits.{ItemsFit}
 use Rattle.c_cfg.specs.Places.{remark, remark_test}

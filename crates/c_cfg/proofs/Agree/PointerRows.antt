@@ -1,26 +1,24 @@
 -- The edges of assignments to pointers, and of `free`, do what the step does.
 use Rattle.std.proofs.Common.{◌≡◌, ◌<◌, ◌+◌, ℕ, zero, suc, Bool, true, false, if◌then◌else◌, Option, Some, None, is_some, true≢false, Result, Ok, Err, List, [], ◌∷◌, ◌++◌, length, map, append-nil, refl, sym, ap, ◌∙◌, subst, arith}
 use Rattle.std.proofs.lemmas.Bool.{eqb-true}
-use Rattle.fore_base.specs.declared.fault.Fault.{Fault}
 use Rattle.fore_base.specs.declared.fault.Fault.TheVariants.{Leak}
 use Rattle.fore_base.specs.declared.store.Value.{Value}
 use Rattle.fore_base.specs.declared.store.Value.TheVariants.{Null, Uninit, Dangling, Cell}
 use Rattle.fore_base.specs.declared.store.Datum.{Datum}
 use Rattle.fore_base.specs.declared.store.Datum.TheVariants.{Undefined}
-use Rattle.fore_base.specs.declared.store.CellRec.{CellRec}
 use Rattle.fore_base.specs.declared.store.Store.{Store}
-use Rattle.fore_base.specs.Stores.{onward, var_of, set_var, load, store_at, walk, write_from, with_field, dangle, without, freed, grown, kill}
+use Rattle.fore_base.specs.Stores.{onward, var_of, set_var, load, store_at, walk, write_from, with_field, dangle, without, freed, grown}
 use Rattle.fore_base.specs.Heap.{leaks}
 use Rattle.fore_base.specs.Shapes.{targets_of}
 use Rattle.c_types.specs.declared.program.Path.{Path}
 use Rattle.c_types.specs.Program.{Program, is_target, both_targets, path_target, rhs_typed, is_typed}
-use Rattle.c_types.specs.Fits.{PointsTo, var_targets}
+use Rattle.c_types.specs.Fits.{PointsTo}
 use Rattle.c_types.specs.Steps.{read, write_path, blank, assign, free_path}
 use Rattle.c_types.specs.declared.program.PtrRhs.{PtrRhs}
 use Rattle.c_types.proofs.ItemsTyped.{has_shapes_typed, has_vars_typed}
 use Rattle.c_types.specs.declared.program.PtrRhs.TheVariants.{Path as RhsPath, Null as RhsNull, New as RhsNew}
 use Rattle.c_types.proofs.CellsFit.{IsAt}
-use Rattle.c_types.proofs.Fitting.{Leads, PathLeads, path_leads, path_below, Sound, grown_sound, grown_points}
+use Rattle.c_types.proofs.Fitting.{PathLeads, path_leads, path_below, Sound, grown_sound, grown_points}
 use Rattle.c_cfg.specs.declared.graph.PtrArg.TheVariants.{Var as PtrVar, Null as PtrNull}
 use Rattle.c_cfg.specs.declared.graph.Const.TheVariants.{Null as ConstNull}
 use Rattle.c_cfg.specs.declared.graph.Instr.{Instr}

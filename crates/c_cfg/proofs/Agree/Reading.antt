@@ -1,5 +1,5 @@
 -- The edges that read a path or a datum into temporaries read what the program does.
-use Rattle.std.proofs.Common.{◌≡◌, ◌<◌, ◌+◌, ℕ, zero, suc, Bool, true, false, nat_lt, Option, Some, None, Result, Ok, Err, List, [], ◌∷◌, ◌++◌, length, refl, sym, ap, ◌∙◌, subst, true≢false, arith}
+use Rattle.std.proofs.Common.{◌≡◌, ◌<◌, ◌+◌, ℕ, zero, suc, true, false, nat_lt, Option, Some, None, Result, Ok, Err, List, [], ◌∷◌, ◌++◌, length, refl, sym, ap, ◌∙◌, subst, true≢false, arith}
 use Rattle.std.proofs.lemmas.Bool.Decides.{nat_tests}
 use Rattle.fore_base.specs.declared.fault.Fault.{Fault}
 use Rattle.fore_base.specs.declared.store.Value.{Value}
@@ -10,7 +10,7 @@ use Rattle.fore_base.specs.declared.store.CellRec.{CellRec}
 use Rattle.fore_base.specs.declared.store.Store.{Store}
 use Rattle.fore_base.specs.Stores.{onward, var_of, datum_of, set_var, set_datum, load, load_datum, walk}
 use Rattle.fore_base.specs.Heap.{leaks}
-use Rattle.fore_base.specs.Shapes.{targets_of, datums_of}
+use Rattle.fore_base.specs.Shapes.{datums_of}
 use Rattle.c_types.specs.declared.program.VarDef.{VarDef}
 use Rattle.c_types.specs.declared.program.Path.{Path}
 use Rattle.c_types.specs.declared.program.DataPath.{DataPath}
@@ -20,8 +20,8 @@ use Rattle.c_types.specs.Fits.{PointsTo, PointsToEach, var_targets}
 use Rattle.c_types.specs.Steps.{read, read_data}
 use Rattle.c_types.proofs.CellsFit.{IsAt, get_points}
 use Rattle.c_types.proofs.Fitting.{Leads, PathLeads, path_leads, Sound, Gives, read_gives}
-use Rattle.c_cfg.specs.declared.graph.Instr.TheVariants.{LoadPtr, LoadData}
-use Rattle.c_cfg.specs.Edges.{Pass, Passed, onto, raw_step, leak_tested}
+use Rattle.c_cfg.specs.declared.graph.Instr.TheVariants.{LoadData}
+use Rattle.c_cfg.specs.Edges.{Pass, Passed, onto, leak_tested}
 use Rattle.c_cfg.specs.Links.{Link, One, loads, holder, data_loads, data_holder}
 use Rattle.c_cfg.proofs.Agree.Temporaries.{ext, Sized, var_ext, datum_ext, p0_holds, p1_holds, d0_holds, d1_holds, p0_set, p1_set, d0_set, d1_set}
 use Rattle.c_cfg.proofs.Agree.Passing.{then_pass, links_pass, links_append, then_onto, onto_same, onto_onward}

@@ -1,6 +1,5 @@
 -- Where a program's run is over, the graph's is, alike; while the program's run goes on, so does the graph's; and a run of a graph that is over stays so.
-use Rattle.std.proofs.Common.{◌≡◌, ◌<◌, ◌≤◌, ◌+◌, ◌-◌, ℕ, zero, suc, Bool, true, false, if◌then◌else◌, Option, Some, None, List, [], ◌∷◌, ◌++◌, length, refl, sym, ap, ◌∙◌, subst, arith}
-use Rattle.fore_base.specs.declared.fault.Fault.{Fault as Kind}
+use Rattle.std.proofs.Common.{◌≡◌, ◌<◌, ◌≤◌, ◌+◌, ◌-◌, ℕ, zero, suc, Bool, true, false, if◌then◌else◌, Some, None, List, [], ◌∷◌, ◌++◌, length, refl, sym, ap, ◌∙◌, subst, arith}
 use Rattle.fore_base.specs.declared.shape.Shape.{Shape}
 use Rattle.fore_base.specs.declared.store.Store.{Store}
 use Rattle.fore_base.specs.Heap.{IsProper, leaks}
@@ -17,7 +16,7 @@ use Rattle.c_types.specs.declared.program.Act.TheVariants.{SetPtr, SetData, Free
 use Rattle.c_types.specs.declared.program.Atom.{Atom}
 use Rattle.c_types.specs.declared.program.Atom.TheVariants.{Choice as ChoiceAtom, Known as KnownAtom, Ptr as PtrAtom, Data as DataAtom}
 use Rattle.c_types.specs.Program.{Program, is_typed}
-use Rattle.c_types.specs.Control.{Items, Done, Do, Close, If, Loop, Again, DoLoop, DoAgain, Test, Ask, Not, Both, Either, ◌then◌, opened}
+use Rattle.c_types.specs.Control.{Items, Done, Do, Close, If, Loop, Again, DoLoop, DoAgain, Ask, Not, Both, Either, ◌then◌, opened}
 use Rattle.c_types.specs.Steps.{Goes, turn_of}
 use Rattle.c_types.specs.Runs.{supply, at_end, advance, go}
 use Rattle.c_types.specs.Fits.{FitsProgram, ItemsFit}
@@ -29,7 +28,7 @@ use Rattle.c_cfg.specs.declared.graph.Edge.{Edge}
 use Rattle.c_cfg.specs.Graphs.{has_choice}
 use Rattle.c_cfg.specs.Edges.{Pass, Passed, Faulted, Halted, NotPassed, gstep}
 use Rattle.c_cfg.specs.GraphRuns.{out_of, is_taken_on, after_pass, unless_left, at_location, first_pass, leave, ggo}
-use Rattle.c_cfg.specs.Links.{Link, One, Two, loads, loads_but_last, ends, data_loads, ptr_row, data_row, act_row, ptr_loads, cmp_loads}
+use Rattle.c_cfg.specs.Links.{Link, One, Two, loads, loads_but_last, ends, data_loads, ptr_row, data_row, act_row}
 use Rattle.c_cfg.specs.Lowering.{IsWay, IsTestRow, IsRow}
 use Rattle.c_cfg.proofs.Agree.Temporaries.{ext0}
 use Rattle.c_cfg.proofs.Agree.Ways.{stepless}

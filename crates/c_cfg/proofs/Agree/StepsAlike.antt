@@ -1,17 +1,17 @@
 -- One step of a program, at a place, is the run of the graph along the place's edges.
-use Rattle.std.proofs.Common.{◌≡◌, ◌<◌, ◌≤◌, ◌+◌, ℕ, zero, suc, Bool, true, false, Option, Some, None, Result, Ok, Err, List, [], ◌∷◌, ◌++◌, length, refl, sym, ap, ◌∙◌, subst, arith}
+use Rattle.std.proofs.Common.{◌≡◌, ◌≤◌, ◌+◌, ℕ, zero, suc, Bool, true, false, Some, None, Result, Ok, Err, List, [], ◌∷◌, length, refl, sym, ap, ◌∙◌, subst, arith}
 use Rattle.fore_base.specs.declared.fault.Fault.{Fault as Kind}
 use Rattle.fore_base.specs.declared.store.Store.{Store}
 use Rattle.fore_base.specs.Stores.{onward, kill}
 use Rattle.fore_base.specs.Heap.{leaks}
 use Rattle.c_types.specs.declared.outcome.Outcome.{Outcome}
-use Rattle.c_types.specs.declared.outcome.Outcome.TheVariants.{Ended, Fault, Starved, BadChoice, StillRunning}
+use Rattle.c_types.specs.declared.outcome.Outcome.TheVariants.{Ended, Fault, StillRunning}
 use Rattle.c_types.specs.declared.program.Act.{Act}
 use Rattle.c_types.specs.declared.program.Act.TheVariants.{SetPtr, SetData, Free, Error, Halt, Return, Break, Continue}
 use Rattle.c_types.specs.declared.program.Atom.{Atom}
 use Rattle.c_types.specs.declared.program.Atom.TheVariants.{Choice as ChoiceAtom, Known as KnownAtom, Ptr as PtrAtom, Data as DataAtom}
 use Rattle.c_types.specs.Program.{Program, is_typed}
-use Rattle.c_types.specs.Control.{Items, Done, Do, Close, If, Loop, Again, DoLoop, DoAgain, Test, Ask, Not, Both, Either, ◌then◌, opened}
+use Rattle.c_types.specs.Control.{Items, Done, Do, Close, If, Loop, Again, DoLoop, DoAgain, Ask, Not, Both, Either, ◌then◌, opened}
 use Rattle.c_types.specs.Steps.{Turn, Goes, Stops, Faults, read_op, read_data_op, same_values, same_datums, agrees, atom_of, act_takes, all_dead, settle, act_turn, test_turn, turn_of}
 use Rattle.c_types.specs.Runs.{supply, after_turn, at_end, advance}
 use Rattle.c_types.specs.Fits.{ItemsFit}
@@ -20,12 +20,12 @@ use Rattle.c_types.proofs.Turns.{then_done}
 use Rattle.c_cfg.specs.declared.graph.Instr.{Instr}
 use Rattle.c_cfg.specs.declared.graph.Instr.TheVariants.{Kill, Choose}
 use Rattle.c_cfg.specs.declared.graph.Edge.{Edge}
-use Rattle.c_cfg.specs.Edges.{Pass, Passed, Faulted, Halted, NotPassed}
+use Rattle.c_cfg.specs.Edges.{Pass, Halted}
 use Rattle.c_cfg.specs.GraphRuns.{out_of, unless_left, leave}
-use Rattle.c_cfg.specs.Links.{Link, One, act_row, ptr_loads, ptr_test, ptr_ends, cmp_loads, data_test, data_ends}
-use Rattle.c_cfg.specs.Lowering.{edge, IsWay, IsTestRow, IsRow, followed_by}
+use Rattle.c_cfg.specs.Links.{Link, One, act_row, ptr_loads, ptr_ends, cmp_loads, data_ends}
+use Rattle.c_cfg.specs.Lowering.{edge, IsTestRow, IsRow, followed_by}
 use Rattle.c_cfg.proofs.Agree.Temporaries.{ext0}
-use Rattle.c_cfg.proofs.Agree.Passing.{links_pass, settled_pass, onward_onward}
+use Rattle.c_cfg.proofs.Agree.Passing.{settled_pass, onward_onward}
 use Rattle.c_cfg.proofs.Agree.Tested.{Tests, ptr_tests, data_tests}
 use Rattle.c_cfg.proofs.Agree.ActTurns.{turn_pass, settle_pass, stop_of, kill_passes, act_passes, GoesTo, settle_to, act_to}
 use Rattle.c_cfg.proofs.Agree.TestsTyped.{AtomFits}

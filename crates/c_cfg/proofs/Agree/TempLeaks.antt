@@ -12,7 +12,7 @@ use Rattle.fore_base.specs.Heap.{Reach, by_var, by_field, Leaked, leaks}
 use Rattle.fore_base.proofs.ListLemmas.{paired_same}
 use Rattle.fore_base.proofs.Leaks.{leaks_leaked, sound_reached}
 use Rattle.c_types.specs.Steps.{blank}
-use Rattle.c_types.proofs.LeakKept.{Keeps, KeptCell, kept_sound}
+use Rattle.c_types.proofs.LeakKept.{KeptCell, kept_sound}
 use Rattle.c_cfg.proofs.Agree.Temporaries.{ext, ext0}
 
 front_in : {X : Type 0} (x : X) (xs ys : List X) → IsIn x xs → IsIn x (xs ++ ys)

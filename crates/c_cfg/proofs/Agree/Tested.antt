@@ -1,5 +1,5 @@
 -- The edges of a comparison: its loads, the two edges of the test, and the Kill on each side.
-use Rattle.std.proofs.Common.{◌≡◌, ◌<◌, ◌+◌, ℕ, zero, suc, Bool, true, false, ◌&&◌, Option, Some, None, Result, Ok, Err, List, [], ◌∷◌, ◌++◌, length, refl, sym, ap, ◌∙◌, subst}
+use Rattle.std.proofs.Common.{◌≡◌, ◌+◌, ℕ, Bool, true, false, ◌&&◌, Result, Ok, Err, List, [], ◌++◌, length, refl, sym, ap, ◌∙◌}
 use Rattle.std.proofs.lemmas.Bool.{and_parts}
 use Rattle.fore_base.specs.declared.fault.Fault.{Fault}
 use Rattle.fore_base.specs.declared.store.Value.{Value}
@@ -9,17 +9,16 @@ use Rattle.fore_base.specs.declared.store.Datum.TheVariants.{Undefined, Known}
 use Rattle.fore_base.specs.declared.store.Store.{Store}
 use Rattle.fore_base.specs.Stores.{onward}
 use Rattle.fore_base.specs.Heap.{leaks}
-use Rattle.c_types.specs.declared.program.Path.{Path}
 use Rattle.c_types.specs.declared.program.PtrOp.{PtrOp}
 use Rattle.c_types.specs.declared.program.PtrOp.TheVariants.{Path as OpPath, Null as OpNull}
 use Rattle.c_types.specs.declared.program.DataOp.{DataOp}
 use Rattle.c_types.specs.declared.program.DataOp.TheVariants.{Path as DataOpPath, Known as DataOpKnown}
-use Rattle.c_types.specs.Program.{Program, path_target, data_typed, data_op_typed, ops_typed}
-use Rattle.c_types.specs.Steps.{read, read_data, read_op, read_data_op, same_values, same_datums}
-use Rattle.c_types.proofs.Fitting.{PathLeads, path_leads, Sound}
+use Rattle.c_types.specs.Program.{Program, path_target, data_op_typed, ops_typed}
+use Rattle.c_types.specs.Steps.{read_op, read_data_op, same_values, same_datums}
+use Rattle.c_types.proofs.Fitting.{path_leads, Sound}
 use Rattle.c_cfg.specs.declared.graph.Instr.{Instr}
 use Rattle.c_cfg.specs.Edges.{Pass, Passed, Faulted, onto, if_agreed, arg_of, data_arg_of, raw_step}
-use Rattle.c_cfg.specs.Links.{Link, One, op_loads, op_arg, op_used, data_op_loads, data_op_arg, op_base_used, op_data_used, ptr_loads, ptr_test, ptr_ends, cmp_loads, data_test, data_ends}
+use Rattle.c_cfg.specs.Links.{Link, op_loads, op_arg, op_used, data_op_loads, data_op_arg, op_base_used, op_data_used, ptr_loads, ptr_test, ptr_ends, cmp_loads, data_test, data_ends}
 use Rattle.c_cfg.proofs.Agree.Temporaries.{ext, ext0, Sized}
 use Rattle.c_cfg.proofs.Agree.TempLeaks.{hidden}
 use Rattle.c_cfg.proofs.Agree.Passing.{then_pass, links_pass, links_append, then_onto, onto_same, ends_pass}

@@ -1,5 +1,5 @@
 -- A well typed program begins with items whose atoms are typed.
-use Rattle.std.proofs.Common.{◌≡◌, ℕ, Bool, true, false, ◌&&◌, List, [], ◌∷◌, length, map, refl, sym, ap, ◌∙◌, subst, true≢false}
+use Rattle.std.proofs.Common.{◌≡◌, ℕ, Bool, true, ◌&&◌, List, [], ◌∷◌, length, map, sym, ap, ◌∙◌, subst, true≢false}
 use Rattle.std.proofs.lemmas.Bool.{and_parts}
 use Rattle.c_types.specs.declared.program.Atom.{Atom}
 use Rattle.c_types.specs.declared.program.Cond.{Cond, Cond-F, roll-Cond, map-Cond, fold-roll-Cond, ind-Cond}
