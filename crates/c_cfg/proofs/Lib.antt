@@ -6,7 +6,9 @@ pub mod Compiled
 pub mod CondLayers
 pub mod Counting
 pub mod Filling
+pub mod Leaving
 pub mod LoopHeads
+pub mod Fanning
 pub mod FreeOfLoops
 pub mod HeadsAdded
 pub mod ItsChoices

@@ -1,5 +1,6 @@
 pub mod Agreement
 pub mod Edges
+pub mod Fans
 pub mod GraphRuns
 pub mod Graphs
 pub mod inner
