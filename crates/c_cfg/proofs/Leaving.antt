@@ -5,7 +5,7 @@ use Rattle.std.proofs.lemmas.Bool.{eqb-true, cases_lt}
 use Rattle.std.specs.Prelude.{nat_eq}
 use Rattle.std.proofs.lemmas.List.Sorted.{list_any-IsPermutation}
 use Rattle.fore_base.specs.Lists.{IsIn, Every}
-use Rattle.fore_base.proofs.ListLemmas.{in_left, in_last, every_in, in_every, every_parts, every_append, every_weaker, number_in, in_number}
+use Rattle.fore_base.proofs.ListLemmas.{in_left, in_right, in_last, every_in, in_every, every_parts, every_append, every_weaker, number_in, in_number}
 use Rattle.c_types.specs.declared.program.Atom.{Atom}
 use Rattle.c_types.specs.declared.program.Atom.TheVariants.{Choice as ChoiceAtom, Known as KnownAtom, Ptr as PtrAtom, Data as DataAtom}
 use Rattle.c_types.specs.Program.{Program}
@@ -218,6 +218,20 @@ module _ (p : Program) (g : ControlGraph) (low : LowerOf p g) where
   pub all_below : Every (λ k. k < g.locations) (numbers low.at low.mids (places low.items Done))
   all_below = in_every (λ k. k < g.locations) (numbers low.at low.mids (places low.items Done)) (λ k i.
       below_in g.locations k (number_in k (below g.locations) (sym (list_any-IsPermutation (λ m. nat_eq m k) _ _ low.all_numbers) ∙ in_number k _ i)))
+
+  exit_in : (cs : List Items) → IsIn (low.at Done) (numbers low.at low.mids cs)
+  exit_in [] = inl refl
+  exit_in (c ∷ cs) = inr (in_right (low.at Done) (low.mids c) (numbers low.at low.mids cs) (exit_in cs))
+
+  pub exit_below : low.at Done < g.locations
+  exit_below = every_in (λ k. k < g.locations) (numbers low.at low.mids (places low.items Done)) (low.at Done) all_below (exit_in (places low.items Done))
+
+  starts_below : (cs : List Items) → Every (λ k. k < g.locations) (numbers low.at low.mids cs) → Every (λ c. low.at c < g.locations) cs
+  starts_below [] h = tt
+  starts_below (c ∷ cs) h = (h.0, starts_below cs (every_parts (λ k. k < g.locations) (low.mids c) (numbers low.at low.mids cs) h.1).1)
+
+  pub places_below : Every (λ c. low.at c < g.locations) (places low.items Done)
+  places_below = starts_below (places low.items Done) all_below
 
   number_of : (k : ℕ) → k < g.locations → IsIn k (numbers low.at low.mids (places low.items Done))
   number_of k h = number_in k _ (list_any-IsPermutation (λ m. nat_eq m k) _ _ low.all_numbers ∙ in_number k (below g.locations) (in_below g.locations k h))

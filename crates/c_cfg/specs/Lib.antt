@@ -1,4 +1,5 @@
 pub mod Agreement
+pub mod Alike
 pub mod Edges
 pub mod Fans
 pub mod GraphRuns
@@ -8,3 +9,4 @@ pub mod Links
 pub mod LoopFree
 pub mod Lowering
 pub mod Places
+pub mod Ranges

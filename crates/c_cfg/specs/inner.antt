@@ -4,3 +4,4 @@ pub mod Emitting
 pub mod LastArrows
 pub mod Numbering
 pub mod Sites
+pub mod Sizes

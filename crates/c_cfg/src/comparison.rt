@@ -1,7 +1,7 @@
 // The edges of comparisons.
 ghost use Rattle.std.specs.Prelude.{◌≡◌, ◌++◌, ◌∷◌, [], true, false, None, OnOk, IfOk};
 ghost use Rattle.c_cfg.specs.inner.Counted.{data_op_links};
-ghost use Rattle.c_cfg.specs.inner.Comparing.{test_of, ptr_parts, data_parts, parts_edges, parts_room, tests_of, end_of};
+ghost use Rattle.c_cfg.specs.inner.Comparing.{test_of, ptr_parts, data_parts, parts_edges, tests_of, end_of};
 
 use crate::chain::{add_chain, add_edge};
 use crate::counts::Counts;
@@ -98,19 +98,6 @@ fn data_loads(alloc: Global, counts: &Counts, left: &DataOp, right: &DataOp) -> 
 }
 
 impl Comparison {
-    /// How many locations it takes.
-    pub fn room(&self) -> Mem<u32>
-        ensures { IfOk result (λ room. room ≡ parts_room self.now) }
-    {
-        let loads = count(self.loads.len())?;
-        let own = sum(loads, 1)?;
-        if self.ptrs.is_empty() && self.datums.is_empty() {
-            Ok(own)
-        } else {
-            sum(own, 2)
-        }
-    }
-
     /// Adds its edges from a location on, to these locations.
     pub fn add_to(
         &self,

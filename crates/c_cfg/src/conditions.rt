@@ -8,6 +8,7 @@ use crate::chain::{add_choice, add_edge};
 use crate::comparison::{of_data, of_ptrs};
 use crate::graph::{Edge, Instr};
 use crate::site::Site;
+use crate::sizes::atom_size;
 use crate::sums::sum;
 use c_types::program::{Atom, Cond};
 use fore_base::list::List;
@@ -43,21 +44,11 @@ impl Joint {
 }
 
 impl Site {
+    #[tactic(auto, using(crate::proofs::Sized::sizes))]
     fn atom_room(&self, atom: &Atom) -> Mem<u32>
         ensures { IfOk result (λ room. room ≡ atom_room self.now atom.now) }
     {
-        match atom {
-            Atom::Choice => Ok(1),
-            Atom::Known(_) => Ok(1),
-            Atom::Ptr { left, right, .. } => {
-                let parts = of_ptrs(self.alloc, &self.counts, left, right)?;
-                parts.room()
-            }
-            Atom::Data { left, right, .. } => {
-                let parts = of_data(self.alloc, &self.counts, left, right)?;
-                parts.room()
-            }
-        }
+        atom_size(atom)
     }
 
     /// How many locations a condition takes.

@@ -7,7 +7,12 @@ ghost use Rattle.c_cfg.specs.LoopFree.{has_no_loop};
 ghost use Rattle.c_cfg.specs.declared.graph.Edge.{Edge};
 ghost use Rattle.c_cfg.specs.GraphRuns.{out_of};
 ghost use Rattle.c_cfg.specs.Fans.{IsFan, GoesBy};
-ghost use Rattle.fore_base.specs.Lists.{IsIn};
+ghost use Rattle.c_cfg.specs.Edges.{Passed, gstep};
+ghost use Rattle.c_cfg.specs.Alike.{LikePass, IsUnset};
+ghost use Rattle.c_types.specs.Runs.{empty_store};
+ghost use Rattle.fore_base.specs.Heap.{IsProper, IsAlike};
+ghost use Rattle.c_cfg.specs.Ranges.{IsEdgeOf};
+ghost use Rattle.fore_base.specs.Lists.{IsIn, Every};
 ghost use Rattle.fore_base.specs.declared.store.Store.{Store};
 
 use crate::graph::Graph;
@@ -30,6 +35,15 @@ pub fn graphs_agree(program: &Typed, graph: &Graph)
     let _edges = &graph.edges;
 }
 
+/// Each number of an edge of a program's graph is in range: it leads from a location to a location; its variables and structs are the graph's; each of
+/// its fields is one of some struct, of its kind; a known datum is at most `DATUM`; a choice is 0 or 1, and is there exactly on a `Choose`.
+pub fn edges_in_range(program: &Typed, graph: &Graph)
+    ensures { LowerOf program.now graph.now → Every (IsEdgeOf graph.now) graph.now.edges }
+{
+    let _body = &program.body;
+    let _edges = &graph.edges;
+}
+
 /// The edges that leave a location of a program's graph are none, one without a choice, two for the choices 0 and 1 in this order, or the two of a
 /// test, of which on each store one is not passed or both meet one fault.
 pub fn edges_fan_out(program: &Typed, graph: &Graph)
@@ -44,5 +58,16 @@ pub fn edges_make_runs(program: &Typed, graph: &Graph)
     ensures { LowerOf program.now graph.now → (location : ℕ) (edge : Edge) (store : Store) → IsIn edge (out_of graph.now.edges location) → GoesBy graph.now.shapes.structs (out_of graph.now.edges location) edge store }
 {
     let _body = &program.body;
+    let _edges = &graph.edges;
+}
+
+/// An edge does the same to two proper stores that are alike: both meet one fault, or pass to alike stores, or stop, or are not passed; and it keeps a
+/// store proper. A run begins with a proper store, and each store without cells and set variables is alike to it.
+pub fn alike_stores_step_alike(graph: &Graph)
+    ensures alike { (edge : Edge) (s t : Store) → IsProper s → IsProper t → IsAlike s t → LikePass (gstep graph.now.shapes.structs edge s) (gstep graph.now.shapes.structs edge t) }
+    ensures keeps { (edge : Edge) (s t : Store) → IsProper s → gstep graph.now.shapes.structs edge s ≡ Passed t → IsProper t }
+    ensures begins { IsProper (empty_store graph.now.ptrs graph.now.datums) × ((s : Store) → IsUnset graph.now.ptrs graph.now.datums s → IsAlike s (empty_store graph.now.ptrs graph.now.datums)) }
+    ensures chain { (s t u : Store) → IsAlike s t → IsAlike t u → IsAlike s u }
+{
     let _edges = &graph.edges;
 }

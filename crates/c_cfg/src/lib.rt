@@ -22,6 +22,7 @@ mod operands;
 mod pointers;
 mod rooms;
 mod site;
+mod sizes;
 mod statements;
 mod sums;
 #[cfg(test)]

@@ -3,22 +3,19 @@ ghost use Rattle.std.specs.Prelude.{◌≡◌, ◌+◌, IfOk};
 ghost use Rattle.c_cfg.specs.inner.Emitting.{close_width};
 ghost use Rattle.c_cfg.specs.inner.Sites.{act_room, stmt_room, room as all_room};
 
-use crate::acts::act_links;
-use crate::around::Around;
 use crate::site::Site;
-use crate::sums::{count, sum};
+use crate::sizes::act_size;
+use crate::sums::sum;
 use c_types::program::{Act, Stmt};
 use fore_base::memory::Mem;
 
 impl Site {
     /// How many locations an act takes: as many as it has links.
-    #[tactic(auto, using(crate::proofs::Layers::rooms))]
+    #[tactic(auto, using(crate::proofs::Sized::sizes))]
     fn act_room(&self, act: &Act) -> Mem<u32>
         ensures { IfOk result (λ room. room ≡ act_room self.now act.now) }
     {
-        let around = Around::in_loop(self.alloc, 0, 0);
-        let links = act_links(self.alloc, &self.counts, act, &around)?;
-        count(links.len())
+        act_size(act)
     }
 
     /// How many locations a statement takes.

@@ -9,7 +9,7 @@ use Rattle.c_cfg.specs.declared.comparison.Compared.{Compared}
 use Rattle.c_cfg.specs.declared.comparison.Compared.TheVariants.{Ptrs, Data}
 use Rattle.c_cfg.specs.declared.comparison.Comparison.{Comparison}
 use Rattle.c_cfg.specs.Links.{ends, op_arg, op_used, data_op_arg, op_base_used, op_data_used, ptr_loads, cmp_loads}
-use Rattle.c_cfg.specs.inner.Numbering.{test_edges, test_room}
+use Rattle.c_cfg.specs.inner.Numbering.{test_edges}
 use Rattle.std.specs.Prelude.{◌∷◌, true, false, None}
 use Rattle.c_cfg.specs.declared.graph.Instr.TheVariants.{Kill}
 use Rattle.c_cfg.specs.declared.counts.Counts.{Counts}
@@ -38,9 +38,6 @@ module _ (n : Counts) where
 
 abbrev pub parts_edges : Comparison → ℕ → ℕ → ℕ → ℕ → List Edge
 parts_edges parts line k same other = test_edges line parts.loads (test_of parts.compared) (ends parts.ptrs parts.datums) k same other
-
-abbrev pub parts_room : Comparison → ℕ
-parts_room parts = test_room parts.loads (ends parts.ptrs parts.datums)
 
 -- the two edges of the test
 abbrev pub tests_of : Compared → ℕ → ℕ → ℕ → ℕ → List Edge
