@@ -21,7 +21,7 @@ use Rattle.c_cfg.specs.GraphRuns.{out_of, is_taken_on, after_pass, leave}
 use Rattle.c_cfg.specs.Links.{Link, One, Two, ptr_test, data_test}
 use Rattle.c_cfg.specs.Places.{places}
 use Rattle.c_cfg.specs.Lowering.{edge, link_edges, numbers, LowerOf}
-use Rattle.c_cfg.specs.Fans.{AreOpposed, first_out, second_out, one_fault, choice_list, used_by, IsFan, no_edge, one_edge, choices, test, GoesBy}
+use Rattle.c_cfg.specs.Fans.{AreOpposed, first_out, second_out, one_fault, choice_list, used_by, IsFan, no_edge, one_edge, choices, test, GoesBy, AtMostOne}
 use Rattle.c_cfg.proofs.Leaving.{AtomGood, PlaceGood, PlaceLeads, each_location}
 
 -- The two edges of a test
@@ -181,3 +181,36 @@ module _ (shapes : List Shape) (s : Store) where
   goes_by (d ∷ f ∷ []) e (test d' f' none also line are) (inr (inl same)) = subst (λ z. GoesBy shapes (d ∷ f ∷ []) z s) (sym same) (by_second d f none also line (are s))
   goes_by (d ∷ f ∷ []) e (test d' f' none also line are) (inr (inr h)) = absurd h
   goes_by (d ∷ f ∷ x ∷ es) e fan h = elim fan [ ]
+
+-- At most one edge is passed
+
+module _ (shapes : List Shape) where
+  -- of opposed edges not both
+  not_both : (p q : Pass) (t u : Store) → AreOpposed p q → p ≡ Passed t → q ≡ Passed u → ⊥
+  not_both p q t u (first_out e) x y = cc
+  not_both p q t u (second_out e) x y = cc
+  not_both p q t u (one_fault k e f) x y = cc
+
+  pub one_passed : (es : List Edge) → IsFan shapes es → AtMostOne shapes es
+  one_passed [] fan e f s i j c x y = absurd i
+  one_passed (d ∷ []) fan e f s (inl i) (inl j) c x y = i ∙ sym j
+  one_passed (d ∷ []) fan e f s (inl i) (inr j) c x y = absurd j
+  one_passed (d ∷ []) fan e f s (inr i) j c x y = absurd i
+  one_passed (d ∷ b ∷ []) fan e f s (inl i) (inl j) c x y = i ∙ sym j
+  one_passed (d ∷ b ∷ []) fan e f s (inr (inl i)) (inr (inl j)) c x y = i ∙ sym j
+  one_passed (d ∷ b ∷ []) (choices d' b' zero one line) e f s (inl i) (inr (inl j)) c x y = absurd (differ (sym zero ∙ ap (λ z. z.choice) (sym i) ∙ c ∙ ap (λ z. z.choice) j ∙ one))
+    where
+      differ : ◌≡◌ {A = Option ℕ} (Some 0) (Some 1) → ⊥
+      differ h = cc
+  one_passed (d ∷ b ∷ []) (choices d' b' zero one line) e f s (inr (inl i)) (inl j) c x y = absurd (differ (sym zero ∙ ap (λ z. z.choice) (sym j) ∙ sym c ∙ ap (λ z. z.choice) i ∙ one))
+    where
+      differ : ◌≡◌ {A = Option ℕ} (Some 0) (Some 1) → ⊥
+      differ h = cc
+  one_passed (d ∷ b ∷ []) (test d' b' none also line are) e f s (inl i) (inr (inl j)) c x y =
+      absurd (not_both (gstep shapes d s) (gstep shapes b s) x.0 y.0 (are s) (ap (λ z. gstep shapes z s) (sym i) ∙ x.1) (ap (λ z. gstep shapes z s) (sym j) ∙ y.1))
+  one_passed (d ∷ b ∷ []) (test d' b' none also line are) e f s (inr (inl i)) (inl j) c x y =
+      absurd (not_both (gstep shapes d s) (gstep shapes b s) y.0 x.0 (are s) (ap (λ z. gstep shapes z s) (sym j) ∙ y.1) (ap (λ z. gstep shapes z s) (sym i) ∙ x.1))
+  one_passed (d ∷ b ∷ []) fan e f s (inr (inr i)) j c x y = absurd i
+  one_passed (d ∷ b ∷ []) fan e f s (inl i) (inr (inr j)) c x y = absurd j
+  one_passed (d ∷ b ∷ []) fan e f s (inr (inl i)) (inr (inr j)) c x y = absurd j
+  one_passed (d ∷ b ∷ x ∷ es) fan e f s i j c z y = elim fan [ ]

@@ -6,6 +6,7 @@ mod Leaking
 mod Runs
 mod Acts
 mod Comparisons
+mod Facts
 mod Loopless
 mod Loops
 mod Lowerings

@@ -8,7 +8,7 @@ use Rattle.fore_base.specs.Lists.{IsIn}
 use Rattle.c_types.specs.declared.outcome.Outcome.{Outcome}
 use Rattle.c_types.specs.declared.outcome.Outcome.TheVariants.{StillRunning}
 use Rattle.c_cfg.specs.declared.graph.Edge.{Edge}
-use Rattle.c_cfg.specs.Edges.{Pass, Faulted, NotPassed, gstep}
+use Rattle.c_cfg.specs.Edges.{Pass, Passed, Faulted, NotPassed, gstep}
 use Rattle.c_cfg.specs.GraphRuns.{after_pass, leave}
 
 -- of the two edges of a test one is not passed, or both meet one fault
@@ -42,3 +42,10 @@ module _ (shapes : List Shape) where
       (gstep shapes e s ≡ NotPassed → ⊥) → (next : ℕ → ℕ → Store → List ℕ → ℕ → Outcome) (step : ℕ) (cs : List ℕ) (used : ℕ)
       → leave shapes es next step s (choice_list e.choice ++ cs) used
       ≡ after_pass (gstep shapes e s) e.line (step + 1) (λ t. next (step + 1) e.to t cs (used_by e.choice used)) StillRunning
+
+  abbrev pub IsPassed : Edge → Store → Type 0
+  IsPassed e s = (t : Store) × (gstep shapes e s ≡ Passed t)
+
+  -- of these edges at most one of each choice is passed
+  abbrev pub AtMostOne : List Edge → Type 0
+  AtMostOne es = (e f : Edge) (s : Store) → IsIn e es → IsIn f es → e.choice ≡ f.choice → IsPassed e s → IsPassed f s → e ≡ f

@@ -6,7 +6,7 @@ ghost use Rattle.c_cfg.specs.Lowering.{LowerOf};
 ghost use Rattle.c_cfg.specs.LoopFree.{has_no_loop};
 ghost use Rattle.c_cfg.specs.declared.graph.Edge.{Edge};
 ghost use Rattle.c_cfg.specs.GraphRuns.{out_of};
-ghost use Rattle.c_cfg.specs.Fans.{IsFan, GoesBy};
+ghost use Rattle.c_cfg.specs.Fans.{IsFan, GoesBy, AtMostOne};
 ghost use Rattle.c_cfg.specs.Edges.{Passed, gstep};
 ghost use Rattle.c_cfg.specs.Alike.{LikePass, IsUnset};
 ghost use Rattle.c_types.specs.Runs.{empty_store};
@@ -45,9 +45,10 @@ pub fn edges_in_range(program: &Typed, graph: &Graph)
 }
 
 /// The edges that leave a location of a program's graph are none, one without a choice, two for the choices 0 and 1 in this order, or the two of a
-/// test, of which on each store one is not passed or both meet one fault.
+/// test, of which on each store one is not passed or both meet one fault. So on each store at most one of them of each choice is passed.
 pub fn edges_fan_out(program: &Typed, graph: &Graph)
-    ensures { LowerOf program.now graph.now → (location : ℕ) → IsFan graph.now.shapes.structs (out_of graph.now.edges location) }
+    ensures fans { LowerOf program.now graph.now → (location : ℕ) → IsFan graph.now.shapes.structs (out_of graph.now.edges location) }
+    ensures one { LowerOf program.now graph.now → (location : ℕ) → AtMostOne graph.now.shapes.structs (out_of graph.now.edges location) }
 {
     let _body = &program.body;
     let _edges = &graph.edges;

@@ -4,7 +4,9 @@
 // are two pointer variables x0 and x1, so the pointer temporaries are x2 and x3, and one data variable d0, so the data temporaries are d1 and d2.
 // Pointer fields are written `x0.1`, data fields `x0:1`.
 
+mod assignments;
 mod builder;
+mod control;
 mod printing;
 
 use crate::lower::lower;
@@ -13,9 +15,9 @@ use crate::tests::printing::{edges_text, heads_text};
 use std::test::Fail;
 
 /// What a program is, its tokens, its edges, its loop heads.
-type Row = (&'static str, &'static [Token], &'static str, &'static str);
+pub type Row = (&'static str, &'static [Token], &'static str, &'static str);
 
-const ROWS: [Row; 9] = [
+const ROWS: &[Row] = &[
     (
         "pointer variables: x1; NULL; malloc; one arrow; two arrows",
         &[
@@ -156,11 +158,13 @@ const ROWS: [Row; 9] = [
 
 #[test]
 fn each_step_has_its_edges(rt: HostRuntime) -> Result<(), Fail> {
-    for (name, tokens, edges, heads) in &ROWS {
-        let found = edges_text(rt.alloc(), tokens)?;
-        assert_eq!(rt; found.as_slice(), edges.as_bytes(), "{name}");
-        let found = heads_text(rt.alloc(), tokens)?;
-        assert_eq!(rt; found.as_slice(), heads.as_bytes(), "{name}");
+    for rows in [ROWS, assignments::ROWS, control::ROWS] {
+        for (name, tokens, edges, heads) in rows {
+            let found = edges_text(rt.alloc(), tokens)?;
+            assert_eq!(rt; found.as_slice(), edges.as_bytes(), "{name}");
+            let found = heads_text(rt.alloc(), tokens)?;
+            assert_eq!(rt; found.as_slice(), heads.as_bytes(), "{name}");
+        }
     }
     Ok(())
 }
