@@ -1,0 +1,3 @@
+pub mod CutForests
+pub mod CutPieces
+pub mod inner

@@ -1,0 +1,2 @@
+pub mod CutPairs
+pub mod CutProducts

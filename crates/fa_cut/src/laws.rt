@@ -1,0 +1,22 @@
+// Laws of forests that are cut by signature, each the contract of a function that does nothing. Box edges are no exception.
+
+ghost use Rattle.std.specs.Prelude.{List};
+ghost use Rattle.fa_core.specs.Filled.{IsFilled, IsSound};
+ghost use Rattle.fa_core.specs.Member.{Regroups, RegroupsInto};
+ghost use Rattle.fa_core.specs.declared.boxes.BoxDef.{BoxDef};
+ghost use Rattle.fa_core.specs.declared.faces.BoxFace.{BoxFace};
+ghost use Rattle.fa_core.specs.declared.faces.Face.{Face};
+ghost use Rattle.fa_core.specs.declared.forest.Forest.{Forest};
+ghost use Rattle.fa_cut.specs.CutForests.{IsCutForest, AreCutForests, IsUnionOf};
+
+/// A forest regroups each of its parts, none of its dressed forests is lost in them, and together they have its members.
+pub fn parts_regroup()
+    ensures regroups { (bs : List BoxFace) (F G : Forest) (T : List BoxDef) → IsCutForest bs F G → Regroups T F G }
+    ensures lost { (bs : List BoxFace) (F : Forest) (Gs : List Forest) (T : List BoxDef) → AreCutForests bs F Gs → RegroupsInto T F Gs }
+    ensures members { (bs : List BoxFace) (F : Forest) (Gs : List Forest) → AreCutForests bs F Gs → IsUnionOf F Gs }
+{}
+
+/// Each part of a forest in which each field of each cell is given exactly once is sound.
+pub fn parts_are_sound()
+    ensures { (face : Face) (F G : Forest) → IsCutForest face.boxes F G → IsFilled face F → IsSound face G }
+{}

@@ -1,0 +1,5 @@
+// Automata and forests cut by signature, worked out by hand.
+
+mod cutting;
+mod splitting;
+mod trees;
