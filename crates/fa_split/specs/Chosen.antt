@@ -7,6 +7,7 @@ use Rattle.ta_core.specs.declared.auto.Rule.{Rule}
 use Rattle.ta_core.specs.declared.tree.Tree.{Tree, out-Tree}
 use Rattle.fa_core.specs.declared.boxes.BoxDef.{BoxDef}
 use Rattle.fa_core.specs.declared.forest.Forest.{Forest}
+use Rattle.fa_core.specs.Covering.{Covers}
 use Rattle.fa_core.specs.Dressed.{Node, Nodes}
 use Rattle.fa_core.specs.Member.{OfForest, bare}
 use Rattle.fa_merge.specs.Dropped.{node_at}
@@ -54,6 +55,6 @@ IsTreeBy a x r d = (n : Node) × (node_at d r ≡ Some n) × IsBy a.rules x (bar
 abbrev pub IsChosenBy : List BoxDef → Forest → ℕ → Rule → Forest → Type 0
 IsChosenBy T F r x G = (d : Nodes) → OfForest T G d ↔ (OfForest T F d × IsTreeBy (component_at F.autos r) x r d)
 
--- G is one of the forests of which each has one rule at root r, and so are its dressed forests
+-- G is one of the forests of which each has one rule at root r, and so are its dressed forests; F covers it
 abbrev pub IsChosenOf : List BoxDef → Forest → ℕ → Forest → Type 0
-IsChosenOf T F r G = (x : Rule) × IsIn x (component_at F.autos r).rules × StandsAtTop (component_at F.autos r) x × (G ≡ chosen_at F r x) × IsChosenBy T F r x G
+IsChosenOf T F r G = (x : Rule) × IsIn x (component_at F.autos r).rules × StandsAtTop (component_at F.autos r) x × (G ≡ chosen_at F r x) × Covers F G × IsChosenBy T F r x G

@@ -1,3 +1,4 @@
 pub mod Chosen
 pub mod Divided
 pub mod Split
+pub mod inner

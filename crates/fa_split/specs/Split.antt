@@ -14,6 +14,7 @@ use Rattle.fa_core.specs.declared.forest.Target.{Target}
 use Rattle.fa_core.specs.declared.forest.Target.TheVariants.{At}
 use Rattle.fa_core.specs.Cells.{is_leaf}
 use Rattle.fa_core.specs.Choices.{count}
+use Rattle.fa_core.specs.Covering.{Covers}
 use Rattle.fa_core.specs.Dressed.{Node, Parts, End, Nodes, node, no_parts, field, link, hook, under, leaf, no_nodes, more}
 use Rattle.fa_core.specs.Member.{OfForest, bare_end, leaf_symbol}
 use Rattle.fa_core.specs.Ways.{has}
@@ -163,6 +164,6 @@ pub record IsSplitCells (T : List BoxDef) (F : Forest) (r p : ℕ) (G : Forest) 
   pub forth : (d e : Nodes) → OfForest T F d → IsTakenOut r p d e → OfForest T G e
   pub back : (e : Nodes) → OfForest T G e → (d : Nodes) × OfForest T F d × IsTakenOut r p d e
 
--- G is one of the forests into which F is split, and so are its dressed forests
+-- G is one of the forests into which F is split, and so are its dressed forests; where the child is a leaf, F covers it
 abbrev pub IsSplitOf : List BoxDef → Forest → ℕ → ℕ → Forest → Type 0
-IsSplitOf T F r p G = ((y : Target) × MayBeLeaf F r p y × (G ≡ split_leaf F r p y) × IsSplitLeaf T F r p y G) ⊎ (MayBeCell F r p × (G ≡ split_cells F r p) × IsSplitCells T F r p G)
+IsSplitOf T F r p G = ((y : Target) × MayBeLeaf F r p y × (G ≡ split_leaf F r p y) × Covers F G × IsSplitLeaf T F r p y G) ⊎ (MayBeCell F r p × (G ≡ split_cells F r p) × IsSplitCells T F r p G)

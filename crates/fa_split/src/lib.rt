@@ -1,8 +1,15 @@
-// Splitting of forests: one rule chosen at a root, and a child of a root's one rule fixed as a leaf or made a root of its own.
+// Splitting of forests: one rule chosen at a root, and a child of a root's one rule fixed as a leaf or made a root of its
+// own. Each call gives forests that have the members of the first together. What each of them is, is said exactly.
 #![tactic(auto)]
 
 pub mod choosing;
+mod ending;
+pub mod laws;
+mod replacing;
 pub mod splitting;
+#[cfg(test)]
+mod tests;
+mod topping;
 
 pub use choosing::choose_rule;
-pub use splitting::split_child;
+pub use splitting::{can_split, split_child};

@@ -1,6 +1,6 @@
 // A child of a root's one rule fixed as a leaf, or made a root of its own.
 
-ghost use Rattle.std.specs.Prelude.{◌≡◌, List, IfOk};
+ghost use Rattle.std.specs.Prelude.{◌≡◌, List, ◌↔◌, map, IsTrue, IfOk};
 ghost use Rattle.fore_base.specs.Lists.{Every};
 ghost use Rattle.ta_core.specs.Single.{HasOneTop};
 ghost use Rattle.fa_core.specs.Boxless.{HasNoBoxes};
@@ -8,12 +8,31 @@ ghost use Rattle.fa_core.specs.Member.{Regroups, RegroupsInto};
 ghost use Rattle.fa_core.specs.declared.boxes.BoxDef.{BoxDef};
 ghost use Rattle.fa_merge.specs.Reordered.{component_at};
 ghost use Rattle.fa_split.specs.Divided.{forests, HasVarsOf, IsUnionOf};
-ghost use Rattle.fa_split.specs.Split.{AreSplit, CanSplit, IsSplitOf};
+ghost use Rattle.fa_split.specs.Split.{AreSplit, AreThose, CanSplit, IsSplitOf, IsWhere, MayBeCell, MayBeLeaf, split_cells, split_leaf};
 
+use crate::ending::{has_cell_at, leaves_at};
+use crate::replacing::{component, count_roots, ranked_components, replace, sound_of};
+use crate::topping::{
+    count_children, fix_child, has_one_top, lift_cells, rules_of, state_at, states_of,
+};
+use fa_core::forest::{Forest, Target};
 use fa_sound::Sound;
 use fore_base::list::List;
 use fore_base::memory::Mem;
 use std::alloc::Global;
+use ta_core::inhabited::inhabited;
+
+/// Whether the root is there and has one rule, and that a child at the place.
+pub fn can_split(forest: &Sound, root: u32, place: usize) -> bool
+    ensures { IsTrue result ↔ CanSplit forest.now.forest root place }
+{
+    let forest = forest.forest();
+    if (root as usize) >= forest.autos.len() {
+        return false;
+    }
+    let auto = component(forest, root);
+    has_one_top(auto) && place < count_children(auto)
+}
 
 /// One forest for each leaf that the child at the place may be, in which it is that leaf, and behind them, where the child may be a cell, one in which the child's cells are a new last root. The root has one rule, and that has a child at the place. Err is want of memory.
 pub fn split_child(alloc: Global, forest: &Sound, root: u32, place: usize) -> Mem<List<Sound>>
@@ -22,12 +41,147 @@ pub fn split_child(alloc: Global, forest: &Sound, root: u32, place: usize) -> Me
     ensures value { IfOk result (λ made. AreSplit forest.now.forest root place (forests made)) }
     ensures face { IfOk result (λ made. Every (λ s. s.face ≡ forest.now.face) made) }
     ensures vars { IfOk result (λ made. Every (HasVarsOf forest.now.forest) (forests made)) }
-    ensures plain { IfOk result (λ made. Every (λ s. Every HasNoBoxes s.forest.autos) made) }
-    ensures tops { IfOk result (λ made. Every (λ s. HasOneTop (component_at s.forest.autos root)) made) }
+    ensures plain { IfOk result (λ made. Every (λ G. Every HasNoBoxes G.autos) (forests made)) }
+    ensures tops { IfOk result (λ made. Every (λ G. HasOneTop (component_at G.autos root)) (forests made)) }
     ensures dressed { IfOk result (λ made. (T : List BoxDef) → Every (IsSplitOf T forest.now.forest root place) (forests made)) }
     ensures regroups { IfOk result (λ made. (T : List BoxDef) → Every (Regroups T forest.now.forest) (forests made)) }
     ensures whole { IfOk result (λ made. (T : List BoxDef) → RegroupsInto T forest.now.forest (forests made)) }
     ensures members { IfOk result (λ made. IsUnionOf forest.now.forest (forests made)) }
 {
-    todo!()
+    forest.known();
+    ranked_components(forest.forest());
+    let made = forests_by_child(alloc, forest, root, place)?;
+    Ok(made)
+}
+
+fn forests_by_child(alloc: Global, forest: &Sound, root: u32, place: usize) -> Mem<List<Sound>>
+    requires plain { Every HasNoBoxes forest.now.forest.autos }
+    requires can { CanSplit forest.now.forest root place }
+    ensures value { IfOk result (λ made. AreSplit forest.now.forest root place (forests made)) }
+    ensures face { IfOk result (λ made. Every (λ s. s.face ≡ forest.now.face) made) }
+{
+    let leaves = leaves_of_child(alloc, forest, root, place)?;
+    let mut made = with_leaves(alloc, forest, root, place, leaves.as_slice())?;
+    made.append(with_cells(alloc, forest, root, place)?)?;
+    Ok(made)
+}
+
+/// The leaves that the child may be, each once.
+fn leaves_of_child(alloc: Global, forest: &Sound, root: u32, place: usize) -> Mem<List<Target>>
+    requires { CanSplit forest.now.forest root place }
+    ensures { IfOk result (AreThose (MayBeLeaf forest.now.forest root place)) }
+{
+    forest.known();
+    ranked_components(forest.forest());
+    let auto = component(forest.forest(), root);
+    leaves_at(alloc, rules_of(auto), state_at(auto, place))
+}
+
+/// A forest for each of these leaves, in which the child is that leaf. Err is want of memory.
+fn with_leaves(
+    alloc: Global,
+    forest: &Sound,
+    root: u32,
+    place: usize,
+    leaves: &[Target],
+) -> Mem<List<Sound>>
+    requires plain { Every HasNoBoxes forest.now.forest.autos }
+    requires can { CanSplit forest.now.forest root place }
+    requires may { Every (MayBeLeaf forest.now.forest root place) leaves.now }
+    ensures value { IfOk result (λ made. forests made ≡ map (split_leaf forest.now.forest root place) leaves.now) }
+    ensures face { IfOk result (λ made. Every (λ s. s.face ≡ forest.now.face) made) }
+{
+    let mut made = List::new(alloc);
+    for leaf in leaves {
+        made.push(with_leaf(alloc, forest, root, place, *leaf)?)?;
+    }
+    Ok(made)
+}
+
+fn with_leaf(alloc: Global, forest: &Sound, root: u32, place: usize, leaf: Target) -> Mem<Sound>
+    requires plain { Every HasNoBoxes forest.now.forest.autos }
+    requires can { CanSplit forest.now.forest root place }
+    requires may { MayBeLeaf forest.now.forest root place leaf }
+    ensures forest { IfOk result (λ made. made.forest ≡ split_leaf forest.now.forest root place leaf) }
+    ensures face { IfOk result (λ made. made.face ≡ forest.now.face) }
+{
+    forest.known();
+    ranked_components(forest.forest());
+    let made = fix_at(alloc, forest.forest(), root, place, leaf)?;
+    sound_of(alloc, &made, forest.face())
+}
+
+/// The forest in which the child is the leaf. Err is want of memory.
+fn fix_at(alloc: Global, forest: &Forest, root: u32, place: usize, leaf: Target) -> Mem<Forest>
+    requires { CanSplit forest.now root place }
+    ensures { IfOk result (λ made. made ≡ split_leaf forest.now root place leaf) }
+{
+    let auto = fix_child(alloc, component(forest, root), place, leaf)?;
+    replace(alloc, forest, root, auto)
+}
+
+/// The forest in which the child's cells are a new last root, where it may be a cell, and no other. Err is want of memory.
+fn with_cells(alloc: Global, forest: &Sound, root: u32, place: usize) -> Mem<List<Sound>>
+    requires plain { Every HasNoBoxes forest.now.forest.autos }
+    requires can { CanSplit forest.now.forest root place }
+    ensures value { IfOk result (λ made. IsWhere (MayBeCell forest.now.forest root place) (split_cells forest.now.forest root place) (forests made)) }
+    ensures face { IfOk result (λ made. Every (λ s. s.face ≡ forest.now.face) made) }
+{
+    let mut made = List::new(alloc);
+    if may_be_cell(alloc, forest, root, place)? {
+        made.push(with_new_root(alloc, forest, root, place)?)?;
+    }
+    Ok(made)
+}
+
+/// Whether the child may be a cell.
+fn may_be_cell(alloc: Global, forest: &Sound, root: u32, place: usize) -> Mem<bool>
+    requires { CanSplit forest.now.forest root place }
+    ensures { IfOk result (λ yes. IsTrue yes ↔ MayBeCell forest.now.forest root place) }
+{
+    forest.known();
+    ranked_components(forest.forest());
+    let auto = component(forest.forest(), root);
+    let marks = inhabited(alloc, auto)?;
+    Ok(has_cell_at(
+        rules_of(auto),
+        marks.as_slice(),
+        state_at(auto, place),
+        states_of(auto),
+    ))
+}
+
+fn with_new_root(alloc: Global, forest: &Sound, root: u32, place: usize) -> Mem<Sound>
+    requires plain { Every HasNoBoxes forest.now.forest.autos }
+    requires can { CanSplit forest.now.forest root place }
+    requires may { MayBeCell forest.now.forest root place }
+    ensures forest { IfOk result (λ made. made.forest ≡ split_cells forest.now.forest root place) }
+    ensures face { IfOk result (λ made. made.face ≡ forest.now.face) }
+{
+    forest.known();
+    ranked_components(forest.forest());
+    let made = lift_at(alloc, forest.forest(), root, place)?;
+    sound_of(alloc, &made, forest.face())
+}
+
+/// The forest in which the child's cells are a new last root. Err is want of memory.
+fn lift_at(alloc: Global, forest: &Forest, root: u32, place: usize) -> Mem<Forest>
+    requires { CanSplit forest.now root place }
+    ensures { IfOk result (λ made. made ≡ split_cells forest.now root place) }
+{
+    let new_root = count_roots(forest)?;
+    let auto = component(forest, root);
+    let cells = lift_cells(alloc, auto, state_at(auto, place))?;
+    let Forest {
+        autos,
+        vars,
+        data_vars,
+    } = fix_at(alloc, forest, root, place, Target::At(new_root))?;
+    let mut autos = autos;
+    autos.push(cells)?;
+    Ok(Forest {
+        autos,
+        vars,
+        data_vars,
+    })
 }

@@ -1,0 +1,5 @@
+// The calls on small forests, worked out by hand.
+
+mod building;
+mod choosing;
+mod splitting;
