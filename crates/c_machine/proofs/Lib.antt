@@ -10,3 +10,5 @@ pub mod Fronts
 pub mod Goings
 pub mod Stepping
 pub mod NodePrograms
+pub mod Kept
+pub mod Holding

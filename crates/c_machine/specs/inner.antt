@@ -4,3 +4,4 @@ pub mod Rising
 pub mod Sizes
 pub mod Needs
 pub mod Going
+pub mod Losing

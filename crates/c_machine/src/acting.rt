@@ -1,8 +1,9 @@
 //! Acts, each with the leak test at its end. They take no memory.
 
-ghost use Rattle.std.specs.Prelude.{◌≡◌, ◌<◌, ◌≤◌, ◌+◌, ◌^◌, ℕ, length, Some, MatchResult};
+ghost use Rattle.std.specs.Prelude.{◌≡◌, ◌<◌, ◌≤◌, ◌+◌, ◌^◌, ℕ, false, length, Some, MatchResult, OnOk};
 ghost use Rattle.c_types.specs.Control.{Items};
 ghost use Rattle.c_types.specs.Steps.{assign, look_at, finished, act_turn, write_path, blank};
+ghost use Rattle.fore_base.specs.Heap.{leaks};
 ghost use Rattle.fore_base.specs.Stores.{grown};
 ghost use Rattle.c_machine.specs.inner.Acts.{turn_seen, copied, copied_data, freed_at, done_to, settled_as};
 ghost use Rattle.c_machine.specs.inner.Marking.{HasRoomFor};
@@ -15,6 +16,7 @@ use crate::heap::Heap;
 use crate::items::Item;
 use crate::leak::Marks;
 use crate::leaving::leave_round;
+use crate::losing::act_loses;
 use crate::paths::{read, write};
 use crate::spares::Rooms;
 use c_types::program::{Act, DataPath, DataRhs, Path, PtrRhs};
@@ -115,14 +117,16 @@ fn look(heap: &Heap, operand: &Option<DataPath>) -> Result<(), Fault>
     }
 }
 
-/// The end of a step that did something, or met a fault: the leak test.
-pub fn settle(heap: &Heap, marks: &mut Marks, done: Result<(), Fault>) -> Pace
-    requires { HasRoomFor (length heap.now.cells) marks.old }
-    ensures { (is : Items) → turn_seen result is heap.now ≡ settled_as done heap.now is }
+/// The end of a step that did something, or met a fault: the leak test. It is made only where a reference to a cell was lost.
+pub fn settle(heap: &Heap, marks: &mut Marks, done: Result<(), Fault>, lost: bool) -> Pace
+    requires room { HasRoomFor (length heap.now.cells) marks.old }
+    requires kept { lost ≡ false → OnOk done (leaks heap.now ≡ false) }
+    ensures turn { (is : Items) → turn_seen result is heap.now ≡ settled_as done heap.now is }
+    ensures unleaked { result ≡ Pace.Goes → leaks heap.now ≡ false }
 {
     match done {
         Ok(()) => {
-            if heap.leaks(marks) {
+            if lost && heap.leaks(marks) {
                 Pace::Faults(Fault::Leak)
             } else {
                 Pace::Goes
@@ -136,6 +140,7 @@ pub fn settle(heap: &Heap, marks: &mut Marks, done: Result<(), Fault>) -> Pace
 fn finish(heap: &mut Heap, marks: &mut Marks, looked: Result<(), Fault>) -> Pace
     requires { HasRoomFor (length heap.old.cells) marks.old }
     ensures turn { (is : Items) → turn_seen result is heap.new ≡ finished (done_to looked heap.old) }
+    ensures over { result ≡ Pace.Goes → ⊥ }
     ensures keeps { IsNoLarger heap.old heap.new }
 {
     match looked {
@@ -163,21 +168,24 @@ pub fn take_act<'p>(
 ) -> Pace
     requires roomy { IsRoomy shapes.now heap.old (made_by act.now) rooms.old }
     requires below { heap.old.next + 1 < 2 ^ 64 }
+    requires unleaked { leaks heap.old ≡ false }
     ensures turn { act_turn shapes.now act.now (pending stack.old.items) heap.old choice ≡ turn_seen result (pending stack.new.items) heap.new }
+    ensures unleaked { result ≡ Pace.Goes → leaks heap.new ≡ false }
     ensures larger { IsLittleLarger heap.old heap.new }
 {
+    let lost = act_loses(heap, stack.as_slice(), act);
     match act {
         Act::SetPtr { to, from } => {
             let done = assign(alloc, shapes, heap, rooms, to, from);
-            settle(heap, &mut rooms.marks, done)
+            settle(heap, &mut rooms.marks, done, lost)
         }
         Act::SetData { to, from } => {
             let done = assign_data(heap, to, from, choice);
-            settle(heap, &mut rooms.marks, done)
+            settle(heap, &mut rooms.marks, done, lost)
         }
         Act::Free(path) => {
             let done = free(heap, path);
-            settle(heap, &mut rooms.marks, done)
+            settle(heap, &mut rooms.marks, done, lost)
         }
         Act::Error => Pace::Faults(Fault::Assertion),
         Act::Halt => Pace::Stops,
@@ -187,11 +195,11 @@ pub fn take_act<'p>(
         }
         Act::Break => {
             leave_round(stack, heap, false);
-            settle(heap, &mut rooms.marks, Ok(()))
+            settle(heap, &mut rooms.marks, Ok(()), lost)
         }
         Act::Continue => {
             leave_round(stack, heap, true);
-            settle(heap, &mut rooms.marks, Ok(()))
+            settle(heap, &mut rooms.marks, Ok(()), lost)
         }
     }
 }

@@ -13,6 +13,7 @@ mod heap;
 mod items;
 mod leak;
 mod leaving;
+mod losing;
 mod machine;
 mod opening;
 mod paths;

@@ -1,6 +1,7 @@
 //! The machine: a program's store and what is left to do, a step at a time.
 
-ghost use Rattle.std.specs.Prelude.{◌≡◌, ◌<◌, ◌≤◌, ◌+◌, ◌^◌, true, IfOk, List, IfSome, OnOk, Some, None, length};
+ghost use Rattle.std.specs.Prelude.{◌≡◌, ◌<◌, ◌≤◌, ◌+◌, ◌^◌, true, false, IfOk, List, IfSome, OnOk, Some, None, length};
+ghost use Rattle.fore_base.specs.Heap.{leaks};
 ghost use Rattle.c_machine.specs.declared.items.Part.{Part};
 ghost use Rattle.c_types.specs.Control.{Items, opened, start_of};
 ghost use Rattle.c_types.specs.Steps.{turn_of, takes, mark_of, act_takes, atom_takes};
@@ -16,6 +17,7 @@ use crate::answering::answer;
 use crate::data::outcome_of;
 use crate::heap::Heap;
 use crate::items::{Control, Front};
+use crate::losing::hold_cell;
 use crate::spares::Rooms;
 use crate::state::{Machine, Turn};
 use c_types::program::{Act, Atom, DataRhs, Typed};
@@ -97,7 +99,9 @@ fn take_step<'p>(
     requires ready { IsReady control.old }
     requires roomy { IsRoomy shapes.now heap.old (made_at control.old.front) rooms.old }
     requires below { heap.old.next + 1 < 2 ^ 64 }
+    requires unleaked { leaks heap.old ≡ false }
     ensures turn { TurnIs (turn_of shapes.now (left_of control.old) heap.old choice) result control.new heap.new }
+    ensures unleaked { result ≡ Pace.Goes → leaks heap.new ≡ false }
     ensures larger { IsLittleLarger heap.old heap.new }
 {
     match control.front {
@@ -108,18 +112,19 @@ fn take_step<'p>(
         Front::Test { atom, sides, .. } => match outcome_of(heap, atom, choice) {
             Ok(outcome) => {
                 answer(control, sides, outcome);
-                settle(heap, &mut rooms.marks, Ok(()))
+                Pace::Goes
             }
             Err(fault) => Pace::Faults(fault),
         },
         Front::Truth { sides } => {
             answer(control, sides, true);
-            settle(heap, &mut rooms.marks, Ok(()))
+            Pace::Goes
         }
         Front::Close { ptrs, datums, .. } => {
             control.front = Front::Shut;
+            let lost = hold_cell(heap, ptrs);
             heap.kill(ptrs, datums);
-            settle(heap, &mut rooms.marks, Ok(()))
+            settle(heap, &mut rooms.marks, Ok(()), lost)
         }
         Front::Nothing => Pace::Stops,
         Front::Shut | Front::Asked { .. } => unreachable!(),

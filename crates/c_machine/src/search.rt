@@ -9,5 +9,25 @@ pub fn position_of(cells: &[CellRec], number: u64) -> Option<usize>
     ensures position { result ≡ position_in cells.now number }
     ensures within { IfSome result (λ i. i < length cells.now) }
 {
+    let guess = guessed(cells, number);
+    match cells.get(guess) {
+        Some(cell) if cell.number == number => Some(guess),
+        _ => searched(cells, number),
+    }
+}
+
+/// Where the cell of a number stands if no cell between the first one and it is gone, as is so in most programs.
+fn guessed(cells: &[CellRec], number: u64) -> usize {
+    match cells.first() {
+        Some(first) => number.saturating_sub(first.number) as usize,
+        None => 0,
+    }
+}
+
+fn searched(cells: &[CellRec], number: u64) -> Option<usize>
+    requires { RisesFrom 0 cells.now }
+    ensures position { result ≡ position_in cells.now number }
+    ensures within { IfSome result (λ i. i < length cells.now) }
+{
     cells.binary_search_by_key(&number, |cell| cell.number).ok()
 }

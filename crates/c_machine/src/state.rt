@@ -1,6 +1,7 @@
 //! What a machine is made of.
 
-ghost use Rattle.std.specs.Prelude.{◌≡◌, true};
+ghost use Rattle.std.specs.Prelude.{◌≡◌, true, false, None};
+ghost use Rattle.fore_base.specs.Heap.{leaks};
 ghost use Rattle.c_machine.specs.inner.Needs.{made_at, IsRoomy};
 ghost use Rattle.c_machine.specs.Pending.{IsReady};
 
@@ -26,7 +27,8 @@ pub enum Turn {
 
 /// A program on its way: its store and what is left to do.
 ///
-/// `reserve` makes ready what a step needs, and a step then takes no memory. After a fault or the end each step answers the same again.
+/// `reserve` makes ready what a step needs, and a step then takes no memory. After a fault or the end each step answers the same again. As long as
+/// the run is not over no cell has leaked, so that only a step that loses a reference to a cell needs the leak test.
 #[derive(Drop)]
 pub struct Machine<'p> {
     pub(crate) program: &'p Typed,
@@ -37,4 +39,5 @@ pub struct Machine<'p> {
     pub(crate) over: Option<Turn>,
     pub(crate) reserved: bool,
     ghost ready: { reserved ≡ true → IsReady control × IsRoomy program.now.shapes.structs heap (made_at control.front) rooms },
+    ghost unleaked: { over ≡ None → leaks heap ≡ false },
 }

@@ -1,6 +1,9 @@
-use Rattle.std.proofs.Common.{refl}
+use Rattle.std.proofs.Common.{refl, sym, ap, ◌∙◌}
+use Rattle.fore_base.specs.Heap.{leaks}
+use Rattle.c_machine.specs.declared.acting.Pace.TheVariants.{Goes}
 use Rattle.c_machine.specs.Pending.{pending}
 use Rattle.c_machine.proofs.Fronts.{act_comes, test_comes, truth_comes, close_comes}
+use Rattle.c_machine.proofs.Kept.{settle_goes, close_kept}
 use Rattle.c_machine.proofs.machine.take_step.Goals as goal
 
 pub returns-in-Act-clause-turn : goal.returns-in-Act-clause-turn
@@ -13,16 +16,20 @@ pub returns-in-Ok-clause-turn : goal.returns-in-Ok-clause-turn
 returns-in-Ok-clause-turn c =
     let old = c.args.control.now in
     test_comes c.args.shapes.now old.front old.parts.items (pending old.stack.items) c.args.heap.now c.args.choice
-    c.in-Test.atom c.in-Test.line c.in-Test.sides c.in-Ok.outcome c.settle.result c.answer.new.control c.in-Test.is c.in-Ok.ensures c.settle.ensures c.answer.ensures
+    c.in-Test.atom c.in-Test.line c.in-Test.sides c.in-Ok.outcome Goes c.answer.new.control c.in-Test.is c.in-Ok.ensures (λ is. settle_goes c.args.heap.now is c.requires.unleaked) c.answer.ensures
 
 pub returns-in-Truth-clause-turn : goal.returns-in-Truth-clause-turn
 returns-in-Truth-clause-turn c =
     let old = c.args.control.now in
     truth_comes c.args.shapes.now old.front old.parts.items (pending old.stack.items) c.args.heap.now c.args.choice
-    c.in-Truth.sides c.settle-in-Truth.result c.answer-in-Truth.new.control c.in-Truth.is c.settle-in-Truth.ensures c.answer-in-Truth.ensures
+    c.in-Truth.sides Goes c.answer-in-Truth.new.control c.in-Truth.is (λ is. settle_goes c.args.heap.now is c.requires.unleaked) c.answer-in-Truth.ensures
 
 pub returns-in-Close-clause-turn : goal.returns-in-Close-clause-turn
 returns-in-Close-clause-turn c =
     let old = c.args.control.now in
     close_comes c.args.shapes.now old.front old.parts.items (pending old.stack.items) c.args.heap.now c.args.choice
-    c.in-Close.ptrs c.in-Close.datums c.in-Close.line c.settle-in-Close.result c.kill.new.self _ c.in-Close.is c.kill.ensures c.settle-in-Close.ensures refl
+    c.in-Close.ptrs c.in-Close.datums c.in-Close.line c.settle.result c.kill.new.self _ c.in-Close.is c.kill.ensures c.settle.ensures.turn refl
+
+pub settle-requires-clause-kept : goal.settle-requires-clause-kept
+settle-requires-clause-kept c = λ none.
+    ap leaks c.kill.ensures ∙ close_kept c.in-Close.ptrs.now c.in-Close.datums.now c.args.heap.now c.requires.unleaked (sym c.hold_cell-lost.ensures ∙ none)

@@ -1,10 +1,15 @@
-use Rattle.std.proofs.Common.{rules, ◌∙◌}
-use Rattle.std.proofs.lemmas.List.Sorted.{answers_always}
-use Rattle.c_machine.proofs.Searching.{searched_cells}
+use Rattle.std.proofs.Common.{◌≡◌, ◌<◌, ℕ, length, get_or, sym, ap, ◌∙◌, arith}
+use Rattle.std.proofs.lemmas.Bool.Decides.{nat_tests}
+use Rattle.fore_base.specs.declared.store.CellRec.{CellRec}
+use Rattle.c_machine.proofs.Searching.{position_at}
 use Rattle.c_machine.proofs.search.position_of.Goals as goal
 
-pub returns-clause-position : goal.returns-clause-position
-returns-clause-position c =
-    c.ok.ensures.value
-    ∙ searched_cells c.args.cells.now c.args.number c.binary_search_by_key.result c.requires c.binary_search_by_key.ensures.bound
-    (c.binary_search_by_key.ensures.position (λ cell. cell.number) (answers_always _ _ _ (λ f a r g h. search rules)))
+pub returns-in-Some-clause-position : goal.returns-in-Some-clause-position
+returns-in-Some-clause-position c =
+    let cells = c.args.cells.now in
+    let cell = c.in-Some.cell.now in
+    let at = c.guessed-guess.result in
+    let h = c.in-Some.ensures.lookup in
+    let within : at < length cells = grind (arith, nat_tests, h) in
+    let there : cell ≡ get_or cells at cell = grind (arith, h) in
+    sym (position_at 0 cells c.args.number at cell c.requires within (ap (λ (x : CellRec). x.number) (sym there) ∙ c.if-cell-number.true))
