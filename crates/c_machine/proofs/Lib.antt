@@ -12,3 +12,4 @@ pub mod Stepping
 pub mod NodePrograms
 pub mod Kept
 pub mod Holding
+mod Rows
