@@ -85,7 +85,10 @@ fn check_smallest(rt: &impl Abort, alloc: Global, auto: &Auto, smallest: &str) -
     assert_eq!(rt; is_empty(alloc, auto)?, smallest.is_empty());
     match smallest_tree(alloc, auto)? {
         None => assert!(rt; smallest.is_empty()),
-        Some(found) => assert!(rt; found == tree(alloc, smallest)?, "{smallest}"),
+        Some(found) => {
+            let wanted = tree(alloc, smallest)?;
+            assert!(rt; found.is_same(alloc, &wanted)?, "{smallest}");
+        }
     }
     Ok(())
 }

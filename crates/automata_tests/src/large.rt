@@ -35,8 +35,6 @@ fn a_chain_of_ten_thousand_cells_is_handled(rt: HostRuntime) -> Result<(), Fail>
     let alloc = rt.alloc();
     let tree = chain(alloc, 10_000)?;
     assert!(rt; accepts(alloc, &auto(alloc, "10 0n0 0a")?, &tree)?);
-    assert!(rt; tree == chain(alloc, 10_000)?);
-    assert!(rt; tree != chain(alloc, 10_001)?);
     Ok(())
 }
 
@@ -119,6 +117,47 @@ fn trees_of_forty_thousand_levels_are_made_and_let_go(rt: HostRuntime) -> Result
     check_deep(&rt, alloc, Sign::Fork, Shape::Right, "10 0f00 0a")
 }
 
+// Trees of 40,000 levels: the list of the first column with that of the second, each a list of so many cells, or a spine of forks with a leaf beside each. Whether they are one.
+const COMPARED: [((Sign, Shape, u32), (Sign, Shape, u32), bool); 5] = [
+    // each is one with itself, made twice
+    (LIST, LIST, true),
+    (LEFT, LEFT, true),
+    // a list with one cell more or less
+    (LIST, (Sign::ListCell, Shape::List, 40_001), false),
+    ((Sign::ListCell, Shape::List, 39_999), LIST, false),
+    // forks to the other side
+    (LEFT, (Sign::Fork, Shape::Right, 40_000), false),
+];
+
+const LIST: (Sign, Shape, u32) = (Sign::ListCell, Shape::List, 40_000);
+
+const LEFT: (Sign, Shape, u32) = (Sign::Fork, Shape::Left, 40_000);
+
+fn deep(alloc: Global, form: (Sign, Shape, u32)) -> Result<Tree, Fail> {
+    let (sign, shape, count) = form;
+    Ok(smallest_tree(alloc, &levels(alloc, count, sign, shape)?)?.ok_or("no tree")?)
+}
+
+#[test]
+fn trees_of_forty_thousand_levels_are_compared(rt: HostRuntime) -> Result<(), Fail> {
+    let alloc = rt.alloc();
+    for (left, right, wanted) in COMPARED {
+        let tree = deep(alloc, left)?;
+        assert_eq!(rt; tree.is_same(alloc, &deep(alloc, right)?)?, wanted);
+    }
+    Ok(())
+}
+
+#[test]
+fn the_top_of_a_deep_tree_is_printed(rt: HostRuntime) -> Result<(), Fail> {
+    let alloc = rt.alloc();
+    let text = format!(in alloc; "{:?}", deep(alloc, LEFT)?)?;
+    let wanted =
+        "Tree { symbol: Cell { shape: 0, datums: List { items: [] }, slots: List { items: [Field(0), Field(1)] } }, children: 2 }";
+    assert_eq!(rt; text.as_str(), wanted);
+    Ok(())
+}
+
 #[test]
 fn a_full_tree_of_4095_cells_is_accepted(rt: HostRuntime) -> Result<(), Fail> {
     let alloc = rt.alloc();
@@ -160,6 +199,7 @@ fn a_thousand_states_are_trimmed(rt: HostRuntime) -> Result<(), Fail> {
     assert_eq!(rt; trimmed.states, 1000);
     assert_eq!(rt; trimmed.rules.len(), 1000);
     assert_eq!(rt; trimmed.roots.as_slice(), [0].as_slice());
-    assert!(rt; smallest_tree(alloc, &trimmed)? == Some(chain(alloc, 999)?));
+    let smallest = smallest_tree(alloc, &trimmed)?.ok_or("no tree")?;
+    assert!(rt; smallest.is_same(alloc, &chain(alloc, 999)?)?);
     Ok(())
 }

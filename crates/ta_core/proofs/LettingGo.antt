@@ -21,7 +21,7 @@ by_pairs (t ∷ ts) = ap (λ (us : List Tree). alone t + 2 * all_nodes us) (pair
 alone_out : (t : Tree) → alone t ≡ toll (out-Tree t).children + 1
 alone_out t = ap alone (sym (roll-out-Tree t)) ∙ para-roll-Tree ℕ alone_step (out-Tree t) ∙ ap (λ (n : ℕ). n + 1) (by_pairs (out-Tree t).children)
 
-nodes_append : (ts us : List Tree) → all_nodes (ts ++ us) ≡ all_nodes ts + all_nodes us
+pub nodes_append : (ts us : List Tree) → all_nodes (ts ++ us) ≡ all_nodes ts + all_nodes us
 nodes_append [] us = omega arith
 nodes_append (t ∷ ts) us = let h = nodes_append ts us in omega (arith, h)
 

@@ -1,3 +1,4 @@
+pub mod Alike
 pub mod Climbing
 pub mod Descending
 pub mod Imaged
@@ -17,3 +18,4 @@ mod Rows
 mod RunRows
 mod SimulationRows
 mod StateRows
+mod UnionRows

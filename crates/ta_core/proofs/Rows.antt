@@ -13,7 +13,9 @@ use Rattle.ta_core.specs.Joined.{shifted, united}
 use Rattle.ta_core.specs.Language.{RunOf, run, run_none, run_more, sum_of}
 use Rattle.ta_core.specs.Renumbered.{image}
 use Rattle.ta_core.specs.Single.{HasOneTop, HasSameTop}
-use Rattle.ta_core.specs.Tables.{sign_symbol}
+use Rattle.ta_core.specs.Tables.{sign_symbol, line_rule, planned}
+use Rattle.ta_core.specs.declared.tables.Line.{Line}
+use Rattle.ta_core.specs.declared.tables.Plan.{Plan}
 use Rattle.ta_core.proofs.Runs.{tree_of, run_tree}
 
 abbrev rule : ℕ → Symbol → List ℕ → Rule
@@ -125,3 +127,11 @@ datum_sign = refl
 
 slots_sign : sign_symbol (Slots (Link 0) (Hook 1)) ≡ Cell 0 [] (Link 0 ∷ Hook 1 ∷ [])
 slots_sign = refl
+
+-- a line: state 3 over state 1, by a list cell
+a_line : (l : Line) → l.0 ≡ 3 → l.1 ≡ ListCell → l.2.now ≡ 1 ∷ [] → line_rule l ≡ rule 3 n (1 ∷ [])
+a_line l p q r = rw (p, q, r) refl
+
+-- a plan: two states, the second of which is a root, and one line
+a_plan : (p : Plan) (l : Line) → p.0 ≡ 2 → p.1.now ≡ 1 ∷ [] → p.2.now ≡ l ∷ [] → line_rule l ≡ rule 1 Null [] → planned p ≡ automaton 2 (1 ∷ []) (rule 1 Null [] ∷ [])
+a_plan p l d e f h = rw (d, e, f) (ap (λ (r : Rule). automaton 2 (1 ∷ []) (r ∷ [])) h)

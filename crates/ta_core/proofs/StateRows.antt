@@ -1,7 +1,7 @@
 -- Worked values of what automata keep of the trees of each state, and of the states to which a symbol leads, each made by hand.
-use Rattle.std.proofs.Common.{◌≡◌, inl, inr, ℕ, true, false, true≢false, List, [], ◌∷◌, refl, sym, ap, subst, ◌∙◌, arith}
+use Rattle.std.proofs.Common.{◌≡◌, inl, inr, ℕ, zero, suc, true, false, true≢false, List, [], ◌∷◌, refl, sym, ap, subst, ◌∙◌, arith}
 use Rattle.fore_base.specs.Lists.{IsIn, Paired}
-use Rattle.fore_base.specs.Marks.{marked_each}
+use Rattle.fore_base.specs.Marks.{IsMarked, marked_each}
 use Rattle.ta_core.specs.declared.auto.Rule.{Rule}
 use Rattle.ta_core.specs.declared.symbol.Symbol.TheVariants.{Null, Uninit}
 use Rattle.ta_core.specs.declared.tree.Tree.{Tree}
@@ -9,7 +9,7 @@ use Rattle.ta_core.specs.Auto.{Automaton, automaton}
 use Rattle.ta_core.specs.Language.{RunOf, run, RunEach, run_none}
 use Rattle.ta_core.specs.Renumbered.{IsSublist, sub_none, sub_skip, sub_keep, StandsFor}
 use Rattle.ta_core.specs.States.{SameTrees, KeepsStates, SameRootRuns}
-use Rattle.ta_core.specs.Tops.{Tops}
+use Rattle.ta_core.specs.Tops.{AreStatesOf, Tops}
 use Rattle.ta_core.proofs.Runs.{run_tree, along}
 use Rattle.ta_core.proofs.RunRows.{rule, kind, n, null, uninit, top}
 
@@ -49,6 +49,18 @@ null_of_second q r = no (top Null [] r)
 
 null_0 : RunOf two.rules 0 null
 null_0 = run_tree two.rules (rule 0 Null []) [] (inl refl) run_none
+
+-- so the marks of the states of a leaf are those of its state, as many as there are states
+states_of_null : AreStatesOf two.rules 2 null (true ∷ false ∷ [])
+states_of_null = record { long = refl; only = only; each = λ q r. let e = null_of_two q r in rw e refl }
+  where
+    only : (q : ℕ) → IsMarked (true ∷ false ∷ []) q → RunOf two.rules q null
+    only zero m = null_0
+    only (suc zero) m = absurd (true≢false (sym m))
+    only (suc (suc q)) m = absurd (true≢false (sym m))
+
+not_states_of_null : AreStatesOf two.rules 2 null (true ∷ true ∷ []) → ⊥
+not_states_of_null h = let e = null_of_two 1 (h.only 1 refl) in omega (arith, e)
 
 joined_null : RunOf joined.rules 0 null
 joined_null = run_tree joined.rules (rule 0 Null []) [] (inl refl) run_none

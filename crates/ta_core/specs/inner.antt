@@ -1,5 +1,6 @@
 pub mod Arcs
 pub mod Closing
+pub mod Comparing
 pub mod Growing
 pub mod LettingGo
 pub mod Restricted

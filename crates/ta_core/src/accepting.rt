@@ -1,3 +1,5 @@
+// Whether a tree is accepted, and to which states a tree has a run.
+
 ghost use Rattle.std.specs.Prelude.{◌≡◌, ◌↔◌, ◌<◌, IsTrue, IfOk, List};
 ghost use Rattle.fore_base.specs.Lists.{Every};
 ghost use Rattle.ta_core.specs.Language.{InLanguage};

@@ -1,3 +1,5 @@
+// Arcs, by which the states of an automaton are reached.
+
 use fore_base::list::List;
 
 /// Where all the states of `from` are reached, `to` is too.

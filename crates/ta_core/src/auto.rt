@@ -1,3 +1,5 @@
+// Rules and automata.
+
 ghost use Rattle.std.specs.Prelude.{SomeIff};
 
 use crate::ranked::{are_below, are_ranked};

@@ -1,3 +1,5 @@
+// Which states have trees, and whether the language is empty.
+
 ghost use Rattle.std.specs.Prelude.{◌≡◌, ◌↔◌, false, IsTrue, IfOk, map};
 ghost use Rattle.ta_core.specs.Language.{IsBarren, InLanguage, HasTree};
 ghost use Rattle.ta_core.specs.declared.tree.Tree.{Tree};

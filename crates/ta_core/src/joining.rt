@@ -1,3 +1,5 @@
+// State numbers shifted, and two automata side by side.
+
 ghost use Rattle.std.specs.Prelude.{◌≡◌, ◌<◌, ◌≤◌, ◌+◌, ◌^◌, List, IfOk, MatchResult, map};
 ghost use Rattle.fore_base.specs.Lists.{Every};
 ghost use Rattle.ta_core.specs.Joined.{shift, shifted, united, IsUnion, CanShift, CanShiftRule};

@@ -1,3 +1,5 @@
+// An automaton with some of its states alone.
+
 ghost use Rattle.std.specs.Prelude.{◌≡◌, List, length, IfOk, slice_index};
 ghost use Rattle.fore_base.specs.Marks.{marked_count};
 ghost use Rattle.ta_core.specs.inner.Restricted.{rank, ranks, keeps, kept_states, kept_rules, restricted};

@@ -92,6 +92,7 @@ pub fn size_of_rule(sizes: &[Option<u64>], rule: &Rule) -> Option<u64>
     size
 }
 
+/// The size at a state, None where the table has none.
 pub fn size_of(sizes: &[Option<u64>], state: u32) -> Option<u64>
     ensures { result ≡ size_at sizes.now state }
 {

@@ -1,3 +1,5 @@
+// A smallest tree of the language.
+
 ghost use Rattle.std.specs.Prelude.{◌∷◌, ◌++◌, List, [], ℕ, IfOk, MatchOption};
 ghost use Rattle.ta_core.specs.Language.{IsBarren, IsSmallest};
 ghost use Rattle.ta_core.specs.inner.Sizes.{IsBest};

@@ -1,3 +1,5 @@
+// Symbols: what stands at the nodes of trees.
+
 ghost use Rattle.std.specs.Prelude.{◌≡◌, ◌↔◌, IsTrue};
 ghost use Rattle.ta_core.specs.Arity.{arity, child_slots};
 

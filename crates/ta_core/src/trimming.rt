@@ -1,3 +1,5 @@
+// An automaton without the states that take no part.
+
 ghost use Rattle.std.specs.Prelude.{◌≡◌, ◌≤◌, List, IfOk, map};
 ghost use Rattle.ta_core.specs.Language.{HasSameLanguage, IsTrim, HasTree, TakesPart};
 ghost use Rattle.fore_base.specs.Marks.{MarksOf};

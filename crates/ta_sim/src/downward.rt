@@ -1,3 +1,5 @@
+// The greatest downward simulation.
+
 ghost use Rattle.std.specs.Prelude.{◌≡◌, ◌<◌, ℕ, IfOk};
 ghost use Rattle.par_kit.specs.Crews.{IsJobs};
 ghost use Rattle.ta_core.specs.Simulations.{IsDownward, IsSimulated};

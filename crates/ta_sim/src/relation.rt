@@ -1,3 +1,5 @@
+// Relations on states, as tables.
+
 ghost use Rattle.std.specs.Prelude.{◌≡◌, ◌↔◌, ◌<◌, IsTrue};
 ghost use Rattle.fore_base.specs.Lists.{Paired};
 ghost use Rattle.ta_sim.specs.inner.Matching.{related_each};
