@@ -1,5 +1,5 @@
 -- The edges of assignments to data, and of `return`, do what the step does.
-use Rattle.std.proofs.Common.{◌≡◌, ◌<◌, ◌+◌, ℕ, zero, suc, true, false, ◌&&◌, if◌then◌else◌, Option, Some, None, Ok, List, [], ◌∷◌, ◌++◌, length, append-nil, refl, sym, ap, ◌∙◌, subst}
+use Rattle.std.proofs.Common.{◌≡◌, ◌<◌, ◌+◌, ℕ, zero, suc, true, false, ◌&&◌, if◌then◌else◌, Option, Some, None, Ok, List, [], ◌∷◌, ◌++◌, length, length-set, append-nil, refl, sym, ap, ◌∙◌, subst}
 use Rattle.std.proofs.lemmas.Bool.{and_parts}
 use Rattle.fore_base.specs.declared.fault.Fault.TheVariants.{Leak}
 use Rattle.fore_base.specs.declared.store.Value.{Value}
@@ -27,11 +27,11 @@ use Rattle.c_cfg.specs.Edges.{Pass, Passed, Faulted, onto, raw_step, leak_tested
 use Rattle.c_cfg.specs.Links.{Link, One, Two, loads, holder, used, ends, data_holder, base_used, data_used, data_row, return_row}
 use Rattle.c_cfg.proofs.Agree.Temporaries.{ext, ext0, Sized, datum_ext, set_datum_ext, d0_holds, d0_set, all_die}
 use Rattle.c_cfg.proofs.Agree.TempLeaks.{hidden}
-use Rattle.c_cfg.proofs.Agree.Passing.{then_pass, pick, links_pass, settled_pass, done_pass, onto_same, onto_onward, onward_onward, one_link, finishing}
+use Rattle.c_cfg.proofs.Agree.Passing.{then_pass, then_nothing, pick, links_pass, settled_pass, done_pass, onto_same, onto_onward, onward_onward, one_link, finishing}
 use Rattle.c_cfg.proofs.Agree.OneEdges.{load_datum_raw, store_datum_raw, store_known_raw}
 use Rattle.c_cfg.proofs.Agree.Reading.{sound_sized, Slot, first_slot, second_slot, held, base_held, data_held, FieldTyped, field_typed, data_var_less, read_points, path_then, path_held, datum_then, datum_held}
 use Rattle.c_cfg.proofs.Agree.Dying.{IsCleared, all_cleared, held_cleared, base_cleared, data_cleared}
-use Rattle.c_cfg.proofs.Agree.PointerRows.{set_long, append_on}
+use Rattle.c_cfg.proofs.Agree.PointerRows.{append_on}
 
 stored_datum_sized : (nv nd : ℕ) (s t : Store) (w : Value) (f : ℕ) (v : Datum) → Sized nv nd s → store_datum s w f v ≡ Ok t → Sized nv nd t
 stored_datum_sized nv nd s t Null f v z e = cc
@@ -71,23 +71,23 @@ module _ (p : Program) (choice : ℕ) (s : Store) (sound : Sound p s) (whole : l
   var_chosen x less =
       ap (λ i. then_pass (leak_tested (raw_step p.shapes.structs i choice (ext0 s))) (λ g. Passed g)) (pick_same choice (Choose (Some x)))
       ∙ ap (λ g. then_pass (leak_tested (Passed g)) (λ g. Passed g)) (set_datum_ext nv nd s size Uninit Uninit Undefined Undefined x (Known choice) less)
-      ∙ Rattle.c_cfg.proofs.Agree.Passing.then_nothing (settled_pass (set_datum s x (Known choice)))
+      ∙ then_nothing (settled_pass (set_datum s x (Known choice)))
 
   var_loaded : (x : ℕ) → x < nd → (base : Path) (f : ℕ) → is_typed_data (DataField base f) → pass (data_row nv nd (DataVar x) (DataRhsPath (DataField base f))) (ext0 s) ≡ done_pass (assign_data s (DataVar x) (DataRhsPath (DataField base f)) choice)
   var_loaded x less base f typed =
       let this : FieldTyped p base f = field_typed p base f typed in
       let h : ℕ = holder nv base.var base.fields in
-      let kps : List ℕ = used nv base.fields in
+      let killed : List ℕ = used nv base.fields in
       let put : Value → Datum → Store = λ v d. ext s v Uninit d Undefined in
-      ap (λ ls. pass ls (ext0 s)) (append_on (loads nv base.var base.fields) (One (LoadData x h f)) (ends kps []))
-      ∙ path_then p s sound choice nv nd put (slot0 Uninit) Undefined base this.struct this.leads (One (LoadData x h f) ∷ ends kps [])
-      ∙ onto_same (read s base) (λ w. pass (One (LoadData x h f) ∷ ends kps []) (ext s (held base.fields w) Uninit Undefined Undefined)) (λ w. done_pass (onward (load_datum s w f) (λ d. Ok (set_datum s x d))))
+      ap (λ ls. pass ls (ext0 s)) (append_on (loads nv base.var base.fields) (One (LoadData x h f)) (ends killed []))
+      ∙ path_then p s sound choice nv nd put (slot0 Uninit) Undefined base this.struct this.leads (One (LoadData x h f) ∷ ends killed [])
+      ∙ onto_same (read s base) (λ w. pass (One (LoadData x h f) ∷ ends killed []) (ext s (held base.fields w) Uninit Undefined Undefined)) (λ w. done_pass (onward (load_datum s w f) (λ d. Ok (set_datum s x d))))
       (λ w got.
-      ap (λ z. then_pass (leak_tested z) (λ r. pass (ends kps []) r))
+      ap (λ z. then_pass (leak_tested z) (λ r. pass (ends killed []) r))
       (load_datum_raw p s sound (ext s (held base.fields w) Uninit Undefined Undefined) refl x h f this.struct w (path_held p s sound choice nv nd put (slot0 Uninit) Undefined base this.struct w Undefined this.leads got) (read_points p s sound choice base this.struct w this.leads got) this.less
       ∙ onto_same (load_datum s w f) (λ d. Passed (set_datum (ext s (held base.fields w) Uninit Undefined Undefined) x d)) (λ d. Passed (ext (set_datum s x d) (held base.fields w) Uninit Undefined Undefined)) (λ d that. ap (λ g. Passed g) (set_datum_ext nv nd s size (held base.fields w) Uninit Undefined Undefined x d less)))
-      ∙ finishing p.shapes.structs choice kps [] (load_datum s w f) (λ d. set_datum s x d) (λ d. held base.fields w) (λ d. Uninit) (λ d. Undefined) (λ d. Undefined)
-      (λ d that. all_cleared nv nd (set_datum s x d) (record { ptrs = size.ptrs; datums = set_long s.data_vars x d ∙ size.datums }) (held base.fields w) Uninit Undefined Undefined (used nv base.fields) [] [] [] kps [] (sym (append-nil _)) refl (held_cleared nv base.fields w) refl refl refl)
+      ∙ finishing p.shapes.structs choice killed [] (load_datum s w f) (λ d. set_datum s x d) (λ d. held base.fields w) (λ d. Uninit) (λ d. Undefined) (λ d. Undefined)
+      (λ d that. all_cleared nv nd (set_datum s x d) (record { ptrs = size.ptrs; datums = length-set s.data_vars x d ∙ size.datums }) (held base.fields w) Uninit Undefined Undefined (used nv base.fields) [] [] [] killed [] (sym (append-nil _)) refl (held_cleared nv base.fields w) refl refl refl)
       ∙ sym (onto_onward (load_datum s w f) (λ d. Ok (set_datum s x d)) settled_pass))
       ∙ sym (onto_onward (read s base) (λ w. onward (load_datum s w f) (λ d. Ok (set_datum s x d))) settled_pass)
       ∙ ap (λ r. done_pass r) (sym (onward_onward (read s base) (λ w. load_datum s w f) (λ d. Ok (set_datum s x d))))
@@ -98,19 +98,19 @@ module _ (p : Program) (choice : ℕ) (s : Store) (sound : Sound p s) (whole : l
     field_writes : (a : Value) (k : Datum) (last : ℕ → ℕ → Instr) (v : Datum)
         → ((b j : ℕ) (y w : Value) → var_of (ext s a y k Undefined) b ≡ w → PointsTo s.cells j w → f < datums_of p.shapes.structs j
         → raw_step p.shapes.structs (last b f) 0 (ext s a y k Undefined) ≡ onto (store_datum s w f v) (λ z. Passed (ext z a y k Undefined)))
-        → (ps ds kps : List ℕ) → kps ≡ ps ++ used (nv + 1) base.fields → IsCleared nv Uninit ps a → IsCleared nd Undefined ds k
-        → pass (loads (nv + 1) base.var base.fields ++ One (last (holder (nv + 1) base.var base.fields) f) ∷ ends kps ds) (ext s a Uninit k Undefined) ≡ done_pass (write_data s (DataField base f) v)
-    field_writes a k last v is_last ps ds kps parts a_cleared k_cleared =
+        → (ps ds killed : List ℕ) → killed ≡ ps ++ used (nv + 1) base.fields → IsCleared nv Uninit ps a → IsCleared nd Undefined ds k
+        → pass (loads (nv + 1) base.var base.fields ++ One (last (holder (nv + 1) base.var base.fields) f) ∷ ends killed ds) (ext s a Uninit k Undefined) ≡ done_pass (write_data s (DataField base f) v)
+    field_writes a k last v is_last ps ds killed parts a_cleared k_cleared =
         let h : ℕ = holder (nv + 1) base.var base.fields in
         let put : Value → Datum → Store = λ v e. ext s a v k e in
         let slot : Slot nv nd s (nv + 1) (nd + 1) (λ v e. ext s a v k e) = second_slot nv nd s size a k (λ v e. hidden s a v k e whole) in
-        path_then p s sound choice (nv + 1) (nd + 1) put slot Undefined base this.struct this.leads (One (last h f) ∷ ends kps ds)
-        ∙ onto_same (read s base) (λ w. pass (One (last h f) ∷ ends kps ds) (ext s a (held base.fields w) k Undefined)) (λ w. done_pass (store_datum s w f v))
+        path_then p s sound choice (nv + 1) (nd + 1) put slot Undefined base this.struct this.leads (One (last h f) ∷ ends killed ds)
+        ∙ onto_same (read s base) (λ w. pass (One (last h f) ∷ ends killed ds) (ext s a (held base.fields w) k Undefined)) (λ w. done_pass (store_datum s w f v))
         (λ w got.
-        ap (λ z. then_pass (leak_tested z) (λ r. pass (ends kps ds) r))
+        ap (λ z. then_pass (leak_tested z) (λ r. pass (ends killed ds) r))
         (is_last h this.struct (held base.fields w) w (path_held p s sound choice (nv + 1) (nd + 1) put slot Undefined base this.struct w Undefined this.leads got) (read_points p s sound choice base this.struct w this.leads got) this.less)
-        ∙ finishing p.shapes.structs choice kps ds (store_datum s w f v) (λ z. z) (λ z. a) (λ z. held base.fields w) (λ z. k) (λ z. Undefined)
-        (λ z e. all_cleared nv nd z (stored_datum_sized nv nd s z w f v size e) a (held base.fields w) k Undefined ps (used (nv + 1) base.fields) ds [] kps ds parts (sym (append-nil _)) a_cleared (held_cleared (nv + 1) base.fields w) k_cleared refl))
+        ∙ finishing p.shapes.structs choice killed ds (store_datum s w f v) (λ z. z) (λ z. a) (λ z. held base.fields w) (λ z. k) (λ z. Undefined)
+        (λ z e. all_cleared nv nd z (stored_datum_sized nv nd s z w f v size e) a (held base.fields w) k Undefined ps (used (nv + 1) base.fields) ds [] killed ds parts (sym (append-nil _)) a_cleared (held_cleared (nv + 1) base.fields w) k_cleared refl))
         ∙ sym (onto_onward (read s base) (λ w. store_datum s w f v) settled_pass)
 
     field_set : (from : DataRhs) → data_rhs_typed p.shapes.structs p.vars (length p.data_vars) from ≡ true → pass (data_row nv nd (DataField base f) from) (ext0 s) ≡ done_pass (assign_data s (DataField base f) from choice)

@@ -13,7 +13,7 @@ use Rattle.c_types.specs.declared.program.PtrOp.TheVariants.{Path as OpPath, Nul
 use Rattle.c_types.specs.declared.program.DataOp.{DataOp}
 use Rattle.c_types.specs.declared.program.DataOp.TheVariants.{Path as DataOpPath, Known as DataOpKnown}
 use Rattle.c_cfg.specs.Links.{used, base_used, data_used, op_used, op_base_used, op_data_used}
-use Rattle.c_cfg.proofs.Agree.Temporaries.{ext, ext0, Sized, set_first, set_second}
+use Rattle.c_cfg.proofs.Agree.Temporaries.{with_vars, ext, ext0, Sized, set_first, set_second}
 use Rattle.c_cfg.proofs.Agree.Reading.{held, base_held, data_held}
 
 -- a temporary that is killed, or is not and holds nothing
@@ -31,16 +31,12 @@ both_cleared m xs u e [] (n ∷ k ∷ ns) x y a b = absurd b
 both_cleared m xs u e (n ∷ []) (k ∷ j ∷ ns) x y a b = absurd b
 both_cleared m xs u e (n ∷ k ∷ ns) qs x y a b = absurd a
 
-with_vars : Store → List Value → List Datum → Store
-with_vars s vs ds = record s { vars = vs; data_vars = ds }
-
 module _ (nv nd : ℕ) where
   -- the lists of the Kill, as they are made up of those of each temporary
-  pub all_cleared : (t : Store) → Sized nv nd t → (x y : Value) (d e : Datum) (ps qs ds es kps kds : List ℕ) → kps ≡ ps ++ qs → kds ≡ ds ++ es
-      → IsCleared nv Uninit ps x → IsCleared (nv + 1) Uninit qs y → IsCleared nd Undefined ds d → IsCleared (nd + 1) Undefined es e → kill kps kds (ext t x y d e) ≡ ext0 t
-  unfolding with_vars
-  all_cleared t z x y d e ps qs ds es kps kds ep ed a b c f =
-      ap (λ ks. kill ks kds (ext t x y d e)) ep
+  pub all_cleared : (t : Store) → Sized nv nd t → (x y : Value) (d e : Datum) (ps qs ds es killed killed_datums : List ℕ) → killed ≡ ps ++ qs → killed_datums ≡ ds ++ es
+      → IsCleared nv Uninit ps x → IsCleared (nv + 1) Uninit qs y → IsCleared nd Undefined ds d → IsCleared (nd + 1) Undefined es e → kill killed killed_datums (ext t x y d e) ≡ ext0 t
+  all_cleared t z x y d e ps qs ds es killed killed_datums ep ed a b c f =
+      ap (λ ks. kill ks killed_datums (ext t x y d e)) ep
       ∙ ap (λ ks. kill (ps ++ qs) ks (ext t x y d e)) ed
       ∙ ap (λ vs. with_vars t vs (set_each (t.data_vars ++ d ∷ e ∷ []) (ds ++ es) Undefined)) (both_cleared nv t.vars Uninit z.ptrs ps qs x y a b)
       ∙ ap (λ us. with_vars t (t.vars ++ Uninit ∷ Uninit ∷ []) us) (both_cleared nd t.data_vars Undefined z.datums ds es d e c f)

@@ -67,9 +67,9 @@ module _ (nv nd : ℕ) where
   ptr_row_ones x [] (RhsNew shape) = tt
   ptr_row_ones x (f ∷ fs) (RhsPath q) =
       let last : ℕ → ℕ → Instr = λ b g. StorePtr b g (holder nv q.var q.fields) in
-      let kps : List ℕ = used nv q.fields ++ used (nv + 1) fs in
-      both_ones (loads nv q.var q.fields) (loads_but_last (nv + 1) x f fs last ++ ends kps []) (loads_ones nv q.var q.fields)
-      (both_ones (loads_but_last (nv + 1) x f fs last) (ends kps []) (last_ones (nv + 1) x f fs last) (ends_ones kps []))
+      let killed : List ℕ = used nv q.fields ++ used (nv + 1) fs in
+      both_ones (loads nv q.var q.fields) (loads_but_last (nv + 1) x f fs last ++ ends killed []) (loads_ones nv q.var q.fields)
+      (both_ones (loads_but_last (nv + 1) x f fs last) (ends killed []) (last_ones (nv + 1) x f fs last) (ends_ones killed []))
   ptr_row_ones x (f ∷ fs) RhsNull =
       both_ones (loads_but_last (nv + 1) x f fs (λ b g. StoreConst b g ConstNull)) (ends (used (nv + 1) fs) []) (last_ones (nv + 1) x f fs (λ b g. StoreConst b g ConstNull)) (ends_ones (used (nv + 1) fs) [])
   ptr_row_ones x (f ∷ fs) (RhsNew shape) =
@@ -86,8 +86,8 @@ module _ (nv nd : ℕ) where
   data_row_takes (DataField base f) (DataRhsPath q) =
       let ls : List Link = loads (nv + 1) base.var base.fields in
       let i : Instr = StoreData (holder (nv + 1) base.var base.fields) f (data_holder nd q) in
-      let kps : List ℕ = base_used nv q ++ used (nv + 1) base.fields in
-      both_ones (data_loads nv nd q) (ls ++ One i ∷ ends kps (data_used nd q)) (data_ones nv nd q) (then_ends ls i kps (data_used nd q) (loads_ones (nv + 1) base.var base.fields))
+      let killed : List ℕ = base_used nv q ++ used (nv + 1) base.fields in
+      both_ones (data_loads nv nd q) (ls ++ One i ∷ ends killed (data_used nd q)) (data_ones nv nd q) (then_ends ls i killed (data_used nd q) (loads_ones (nv + 1) base.var base.fields))
   data_row_takes (DataField base f) (DataRhsKnown k) =
       then_ends (loads (nv + 1) base.var base.fields) (StoreConst (holder (nv + 1) base.var base.fields) f (ConstKnown k)) (used (nv + 1) base.fields) [] (loads_ones (nv + 1) base.var base.fields)
   data_row_takes (DataField base f) DataRhsChoice =

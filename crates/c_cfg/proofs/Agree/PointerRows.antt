@@ -1,6 +1,7 @@
 -- The edges of assignments to pointers, and of `free`, do what the step does.
-use Rattle.std.proofs.Common.{◌≡◌, ◌<◌, ◌+◌, ℕ, zero, suc, Bool, true, false, if◌then◌else◌, Option, Some, None, is_some, true≢false, Result, Ok, Err, List, [], ◌∷◌, ◌++◌, length, map, append-nil, refl, sym, ap, ◌∙◌, subst, arith}
+use Rattle.std.proofs.Common.{◌≡◌, ◌<◌, ◌+◌, ℕ, zero, suc, Bool, true, false, if◌then◌else◌, Option, Some, None, is_some, true≢false, Result, Ok, Err, List, [], ◌∷◌, ◌++◌, length, length-set, map, append-nil, refl, sym, ap, ◌∙◌, subst, arith}
 use Rattle.std.proofs.lemmas.Bool.{eqb-true}
+use Rattle.std.proofs.lemmas.List.{length-map}
 use Rattle.fore_base.specs.declared.fault.Fault.TheVariants.{Leak}
 use Rattle.fore_base.specs.declared.store.Value.{Value}
 use Rattle.fore_base.specs.declared.store.Value.TheVariants.{Null, Uninit, Dangling, Cell}
@@ -33,17 +34,8 @@ use Rattle.c_cfg.proofs.Agree.OneEdges.{load_raw, store_raw, store_null_raw}
 use Rattle.c_cfg.proofs.Agree.Reading.{path_less, sound_sized, Slot, first_slot, second_slot, held, read_points, path_then, path_held}
 use Rattle.c_cfg.proofs.Agree.Dying.{IsCleared, all_cleared, held_cleared}
 
-pub set_long : {A : Type 0} (xs : List A) (n : ℕ) (v : A) → length (Rattle.std.proofs.Common.slice_set xs n v) ≡ length xs
-set_long [] n v = refl
-set_long (x ∷ xs) zero v = refl
-set_long (x ∷ xs) (suc n) v = ap suc (set_long xs n v)
-
-map_long : {A B : Type 0} (f : A → B) (xs : List A) → length (map f xs) ≡ length xs
-map_long f [] = refl
-map_long f (x ∷ xs) = ap suc (map_long f xs)
-
 pub set_sized : (nv nd : ℕ) (s : Store) (x : ℕ) (v : Value) → Sized nv nd s → Sized nv nd (set_var s x v)
-set_sized nv nd s x v z = record { ptrs = set_long s.vars x v ∙ z.ptrs; datums = z.datums }
+set_sized nv nd s x v z = record { ptrs = length-set s.vars x v ∙ z.ptrs; datums = z.datums }
 
 stored_sized : (nv nd : ℕ) (s t : Store) (w : Value) (f : ℕ) (v : Value) → Sized nv nd s → store_at s w f v ≡ Ok t → Sized nv nd t
 stored_sized nv nd s t Null f v z e = cc
@@ -99,9 +91,9 @@ module _ (p : Program) (choice : ℕ) where
     pub path_writes : (x f : ℕ) (fs : List ℕ) (u : ℕ) → PathLeads p (record { var = x; fields = f ∷ fs }) u → (last : ℕ → ℕ → Instr) (v : Value)
         → ((b k : ℕ) (y w : Value) → var_of (ext t a y Undefined Undefined) b ≡ w → PointsTo t.cells k w → IsAt (targets_of p.shapes.structs k) (last_of f fs) u
         → raw_step p.shapes.structs (last b (last_of f fs)) 0 (ext t a y Undefined Undefined) ≡ onto (store_at t w (last_of f fs) v) (λ z. Passed (ext z a y Undefined Undefined)))
-        → (ps kps : List ℕ) → kps ≡ ps ++ used (nv + 1) fs → IsCleared nv Uninit ps a
-        → pass (loads_but_last (nv + 1) x f fs last ++ ends kps []) (ext t a Uninit Undefined Undefined) ≡ done_pass (write_from t (var_of t x) f fs v)
-    path_writes x f fs u path last v is_last ps kps parts cleared =
+        → (ps killed : List ℕ) → killed ≡ ps ++ used (nv + 1) fs → IsCleared nv Uninit ps a
+        → pass (loads_but_last (nv + 1) x f fs last ++ ends killed []) (ext t a Uninit Undefined Undefined) ≡ done_pass (write_from t (var_of t x) f fs v)
+    path_writes x f fs u path last v is_last ps killed parts cleared =
         let bs : List ℕ = before_last f fs in
         let l : ℕ = last_of f fs in
         let g : Store = ext t a Uninit Undefined Undefined in
@@ -110,15 +102,15 @@ module _ (p : Program) (choice : ℕ) where
         let before : PathLeads p (record { var = x; fields = before_last f fs }) on.struct = record { first = path.first; is_var = path.is_var; leads_on = on.before } in
         let put : Value → Datum → Store = λ v e. ext t a v Undefined e in
         let h : ℕ = holder (nv + 1) x (before_last f fs) in
-        ap (λ ls. pass (ls ++ ends kps []) g) (loads_are (nv + 1) x f fs last)
-        ∙ ap (λ ls. pass ls g) (append_on (loads (nv + 1) x bs) (One (last h l)) (ends kps []))
-        ∙ path_then p t sound choice (nv + 1) (nd + 1) put slot1 Undefined q on.struct before (One (last h l) ∷ ends kps [])
-        ∙ onto_same (walk t (var_of t x) bs) (λ w. pass (One (last h l) ∷ ends kps []) (ext t a (held bs w) Undefined Undefined)) (λ w. done_pass (store_at t w l v))
+        ap (λ ls. pass (ls ++ ends killed []) g) (loads_are (nv + 1) x f fs last)
+        ∙ ap (λ ls. pass ls g) (append_on (loads (nv + 1) x bs) (One (last h l)) (ends killed []))
+        ∙ path_then p t sound choice (nv + 1) (nd + 1) put slot1 Undefined q on.struct before (One (last h l) ∷ ends killed [])
+        ∙ onto_same (walk t (var_of t x) bs) (λ w. pass (One (last h l) ∷ ends killed []) (ext t a (held bs w) Undefined Undefined)) (λ w. done_pass (store_at t w l v))
         (λ w got.
-        ap (λ z. then_pass (leak_tested z) (λ r. pass (ends kps []) r))
+        ap (λ z. then_pass (leak_tested z) (λ r. pass (ends killed []) r))
         (is_last h on.struct (held bs w) w (path_held p t sound choice (nv + 1) (nd + 1) put slot1 Undefined q on.struct w Undefined before got) (read_points p t sound choice q on.struct w before got) on.last)
-        ∙ finishing p.shapes.structs choice kps [] (store_at t w l v) (λ z. z) (λ z. a) (λ z. held bs w) (λ z. Undefined) (λ z. Undefined)
-        (λ z e. all_cleared nv nd z (stored_sized nv nd t z w l v sized e) a (held bs w) Undefined Undefined ps (used (nv + 1) bs) [] [] kps [] (parts ∙ ap (λ qs. ps ++ qs) (used_before (nv + 1) f fs)) refl
+        ∙ finishing p.shapes.structs choice killed [] (store_at t w l v) (λ z. z) (λ z. a) (λ z. held bs w) (λ z. Undefined) (λ z. Undefined)
+        (λ z e. all_cleared nv nd z (stored_sized nv nd t z w l v sized e) a (held bs w) Undefined Undefined ps (used (nv + 1) bs) [] [] killed [] (parts ∙ ap (λ qs. ps ++ qs) (used_before (nv + 1) f fs)) refl
         cleared (held_cleared (nv + 1) bs w) refl refl))
         ∙ sym (onto_onward (walk t (var_of t x) bs) (λ w. store_at t w l v) settled_pass)
         ∙ ap (λ r. done_pass r) (sym (write_before t (var_of t x) f fs v))
@@ -145,19 +137,19 @@ module _ (p : Program) (choice : ℕ) where
         let on : LastLeads p.shapes.structs path.first f fs u = last_leads p.shapes.structs path.first f fs u path.leads_on in
         let before : PathLeads p (record { var = y; fields = before_last f fs }) on.struct = record { first = path.first; is_var = path.is_var; leads_on = on.before } in
         let put : Value → Datum → Store = λ v d. ext s v Uninit d Undefined in
-        let kps : List ℕ = used nv fs in
+        let killed : List ℕ = used nv fs in
         let last : ℕ → ℕ → Instr = λ b g. LoadPtr x b g in
         let h : ℕ = holder nv y bs in
-        ap (λ ls. pass (ls ++ ends kps []) (ext0 s)) (loads_are nv y f fs last)
-        ∙ ap (λ ls. pass ls (ext0 s)) (append_on (loads nv y bs) (One (last h l)) (ends kps []))
-        ∙ path_then p s sound choice nv nd put (slot0 Uninit) Undefined (path_of y bs) on.struct before (One (last h l) ∷ ends kps [])
-        ∙ onto_same (walk s (var_of s y) bs) (λ w. pass (One (last h l) ∷ ends kps []) (ext s (held bs w) Uninit Undefined Undefined)) (λ w. done_pass (onward (load s w l) (λ v. Ok (set_var s x v))))
+        ap (λ ls. pass (ls ++ ends killed []) (ext0 s)) (loads_are nv y f fs last)
+        ∙ ap (λ ls. pass ls (ext0 s)) (append_on (loads nv y bs) (One (last h l)) (ends killed []))
+        ∙ path_then p s sound choice nv nd put (slot0 Uninit) Undefined (path_of y bs) on.struct before (One (last h l) ∷ ends killed [])
+        ∙ onto_same (walk s (var_of s y) bs) (λ w. pass (One (last h l) ∷ ends killed []) (ext s (held bs w) Uninit Undefined Undefined)) (λ w. done_pass (onward (load s w l) (λ v. Ok (set_var s x v))))
         (λ w got.
-        ap (λ z. then_pass (leak_tested z) (λ r. pass (ends kps []) r))
+        ap (λ z. then_pass (leak_tested z) (λ r. pass (ends killed []) r))
         (load_raw p s sound (ext s (held bs w) Uninit Undefined Undefined) refl x h l on.struct u w (path_held p s sound choice nv nd put (slot0 Uninit) Undefined (path_of y bs) on.struct w Undefined before got) (read_points p s sound choice (path_of y bs) on.struct w before got) on.last
         ∙ onto_same (load s w l) (λ v. Passed (set_var (ext s (held bs w) Uninit Undefined Undefined) x v)) (λ v. Passed (ext (set_var s x v) (held bs w) Uninit Undefined Undefined)) (λ v this. ap (λ g. Passed g) (set_ext nv nd s size (held bs w) Uninit Undefined Undefined x v less)))
-        ∙ finishing p.shapes.structs choice kps [] (load s w l) (λ v. set_var s x v) (λ v. held bs w) (λ v. Uninit) (λ v. Undefined) (λ v. Undefined)
-        (λ v this. all_cleared nv nd (set_var s x v) (set_sized nv nd s x v size) (held bs w) Uninit Undefined Undefined (used nv bs) [] [] [] kps [] (used_before nv f fs ∙ sym (append-nil _)) refl (held_cleared nv bs w) refl refl refl)
+        ∙ finishing p.shapes.structs choice killed [] (load s w l) (λ v. set_var s x v) (λ v. held bs w) (λ v. Uninit) (λ v. Undefined) (λ v. Undefined)
+        (λ v this. all_cleared nv nd (set_var s x v) (set_sized nv nd s x v size) (held bs w) Uninit Undefined Undefined (used nv bs) [] [] [] killed [] (used_before nv f fs ∙ sym (append-nil _)) refl (held_cleared nv bs w) refl refl refl)
         ∙ sym (onto_onward (load s w l) (λ v. Ok (set_var s x v)) settled_pass))
         ∙ sym (onto_onward (walk s (var_of s y) bs) (λ w. onward (load s w l) (λ v. Ok (set_var s x v))) settled_pass)
         ∙ ap (λ r. done_pass r) (sym (onward_onward (walk s (var_of s y) bs) (λ w. load s w l) (λ v. Ok (set_var s x v))))
@@ -236,7 +228,7 @@ module _ (p : Program) (choice : ℕ) where
     freeing h fs Uninit is = rw is refl
     freeing h fs Dangling is = rw is refl
     freeing h fs (Cell n) is =
-        let tall : Sized nv nd (record s { vars = map (dangle n) s.vars; cells = without n s.cells }) = record { ptrs = map_long (dangle n) s.vars ∙ size.ptrs; datums = size.datums } in
+        let tall : Sized nv nd (record s { vars = map (dangle n) s.vars; cells = without n s.cells }) = record { ptrs = length-map s.vars (dangle n) ∙ size.ptrs; datums = size.datums } in
         let gives : raw_step p.shapes.structs (Free h) 0 (ext s (held fs (Cell n)) Uninit Undefined Undefined) ≡ Passed (ext (ended n) (held fs (dangle n (Cell n))) Uninit Undefined Undefined) =
         rw is (ap (λ vs. Passed (record s { vars = vs; data_vars = s.data_vars ++ Undefined ∷ Undefined ∷ []; cells = without n s.cells })) (map_two n s.vars (held fs (Cell n)) ∙ ap (λ v. map (dangle n) s.vars ++ v ∷ Uninit ∷ []) (dangle_held n fs (Cell n)))) in
         ap (λ z. then_pass (leak_tested z) (λ r. pass (ends (used nv fs) []) r)) gives

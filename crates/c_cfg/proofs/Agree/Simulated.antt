@@ -32,7 +32,7 @@ use Rattle.c_cfg.specs.Links.{Link, One, Two, loads, loads_but_last, ends, data_
 use Rattle.c_cfg.specs.Lowering.{IsWay, IsTestRow, IsRow}
 use Rattle.c_cfg.proofs.Agree.Temporaries.{ext0}
 use Rattle.c_cfg.proofs.Agree.Ways.{stepless}
-use Rattle.c_cfg.proofs.Agree.StepsAlike.{R, size, exit_ends, step_alike}
+use Rattle.c_cfg.proofs.Agree.StepsAlike.{IsKnown, size, exit_ends, step_alike}
 use Rattle.c_cfg.proofs.Agree.Flow.{Each, Front, each_opened}
 
 -- Relations of outcomes
@@ -224,18 +224,18 @@ test_begun edges line [] test post k ms same other row q = by row.front row.read
     by [] e = ap (λ j. unless_left (out_of edges j) q StillRunning) e ∙ ap (λ es. unless_left es q StillRunning) row.compares
     by (m ∷ ms) e = absurd e
 
--- as many edges as n steps need, where no step needs more than W
+-- as many edges as n steps need, where no step needs more than most
 abbrev pub fuel : ℕ → ℕ → ℕ
-fuel W zero = 0
-fuel W (suc n) = W + fuel W n
+fuel most zero = 0
+fuel most (suc n) = most + fuel most n
 
-pub fuel_least : (W n : ℕ) → 0 < W → n ≤ fuel W n
-fuel_least W zero h = omega arith
-fuel_least W (suc n) h = omega (arith, h, fuel_least W n h)
+pub fuel_least : (most n : ℕ) → 0 < most → n ≤ fuel most n
+fuel_least most zero h = omega arith
+fuel_least most (suc n) h = omega (arith, h, fuel_least most n h)
 
-module _ (p : Program) (typed : is_typed p ≡ true) (edges : List Edge) (line : ℕ → ℕ) (at : Items → ℕ) (mids : Items → List ℕ) (W : ℕ) (exit : out_of edges (at Done) ≡ []) where
+module _ (p : Program) (typed : is_typed p ≡ true) (edges : List Edge) (line : ℕ → ℕ) (at : Items → ℕ) (mids : Items → List ℕ) (most : ℕ) (exit : out_of edges (at Done) ≡ []) where
   abbrev Place : Items → Type 0
-  Place c = R p edges line at mids W c
+  Place c = IsKnown p edges line at mids most c
 
   abbrev graph : ℕ → ℕ → ℕ → Store → List ℕ → ℕ → Outcome
   graph n q k g cs u = ggo p.shapes.structs edges (at_location edges) n q k g cs u
@@ -259,7 +259,7 @@ module _ (p : Program) (typed : is_typed p ≡ true) (edges : List Edge) (line :
   front_of c s ready = each_opened Place c (exit, tt, omega arith) ready.places
 
   over_start : (o : Items) (st m q : ℕ) (g : Store) (cs : List ℕ) (u : ℕ) → Follows (at_end o st) (graph m q (at o) g cs u)
-  over_start Done st m q g cs u = exit_ends p typed Follows follows_equal edges line at mids W exit m q g cs u
+  over_start Done st m q g cs u = exit_ends p typed Follows follows_equal edges line at mids most exit m q g cs u
   over_start (Do a k is) st m q g cs u = tt
   over_start (Close ps ds k is) st m q g cs u = tt
   over_start (If c x y is) st m q g cs u = tt
@@ -269,15 +269,15 @@ module _ (p : Program) (typed : is_typed p ≡ true) (edges : List Edge) (line :
   over_start (DoAgain c b is) st m q g cs u = tt
 
   -- where the program's run is over, so is the graph's
-  pub over : (n m : ℕ) → fuel W n ≤ m → (c : Items) (s : Store) → Ready c s → (st q : ℕ) (cs : List ℕ) (u : ℕ) → Follows (source n st c s cs u) (graph m q (at (opened c)) (ext0 s) cs u)
+  pub over : (n m : ℕ) → fuel most n ≤ m → (c : Items) (s : Store) → Ready c s → (st q : ℕ) (cs : List ℕ) (u : ℕ) → Follows (source n st c s cs u) (graph m q (at (opened c)) (ext0 s) cs u)
   over zero m h c s ready st q cs u = over_start (opened c) st m q (ext0 s) cs u
   over (suc n) m h c s ready st q cs u =
       let front : Front Place (opened c) = front_of c s ready in
       let k : ℕ = size (length p.vars) (length p.data_vars) (opened c) in
-      let least : size (length p.vars) (length p.data_vars) (opened c) ≤ W = front.0.2 in
+      let least : size (length p.vars) (length p.data_vars) (opened c) ≤ most = front.0.2 in
       let split : m ≡ k + (m - k) = omega (arith, h, least) in
       subst (λ z. Follows (source (suc n) st c s cs u) (graph z q (at (opened c)) (ext0 s) cs u)) (sym split)
-      (step_alike p typed Follows follows_equal edges line at mids W exit (m - k) (λ st js t ds v. source n st js t ds v) st q s ready.sound ready.clear cs u (opened c) front (opened_fit p c ready.fits)
+      (step_alike p typed Follows follows_equal edges line at mids most exit (m - k) (λ st js t ds v. source n st js t ds v) st q s ready.sound ready.clear cs u (opened c) front (opened_fit p c ready.fits)
       (λ x ds v js t e clear each st r. over n (m - k) (omega (arith, h, least)) js t (next_ready c js s t x ready e clear each) st r ds v))
 
   atom_begun : (a : Atom) (m : ℕ) (x y is : Items) → IsRow (length p.vars) (length p.data_vars) edges line at mids (If (Ask a m) x y is) → (q : ℕ) → at_location edges (at (If (Ask a m) x y is)) q ≡ StillRunning
@@ -309,7 +309,7 @@ module _ (p : Program) (typed : is_typed p ≡ true) (edges : List Edge) (line :
     cut o is h =
         let k : ℕ = size (length p.vars) (length p.data_vars) (opened c) in
         shorter _ (graph (k + n) q (at (opened c)) (ext0 s) cs u) _
-        (step_alike p typed Still still_equal edges line at mids W exit n (λ st js t ds v. source n st js t ds v) st q s ready.sound ready.clear cs u (opened c) (front_of c s ready) (opened_fit p c ready.fits)
+        (step_alike p typed Still still_equal edges line at mids most exit n (λ st js t ds v. source n st js t ds v) st q s ready.sound ready.clear cs u (opened c) (front_of c s ready) (opened_fit p c ready.fits)
         (λ x ds v js t e clear each st r. later js t (next_ready c js s t x ready e clear each) st r ds v))
         (longer p.shapes.structs edges (suc n) (k + n) (omega (arith, h)) q (at (opened c)) (ext0 s) cs u)
 

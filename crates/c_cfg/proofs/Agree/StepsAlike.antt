@@ -93,23 +93,24 @@ data_compared s l r equal x =
     inner (Ok v) = onward_onward (read_data_op s r) (λ w. same_datums v w) (λ same. Ok (agrees equal same))
     inner (Err k) = refl
 
-module _ (p : Program) (edges : List Edge) (line : ℕ → ℕ) (at : Items → ℕ) (mids : Items → List ℕ) (W : ℕ) where
-  abbrev pub R : Items → Type 0
-  R c = IsRow (length p.vars) (length p.data_vars) edges line at mids c × AtomThere p c × (size (length p.vars) (length p.data_vars) c ≤ W)
+module _ (p : Program) (edges : List Edge) (line : ℕ → ℕ) (at : Items → ℕ) (mids : Items → List ℕ) (most : ℕ) where
+  -- what is known of a place: its row, that its atom is typed, and that it takes no more edges than these
+  abbrev pub IsKnown : Items → Type 0
+  IsKnown c = IsRow (length p.vars) (length p.data_vars) edges line at mids c × AtomThere p c × (size (length p.vars) (length p.data_vars) c ≤ most)
 
-  each_followed : (a : Act) (is : Items) → Each R is Done → Each R (followed_by a is) Done
+  each_followed : (a : Act) (is : Items) → Each IsKnown is Done → Each IsKnown (followed_by a is) Done
   each_followed (SetPtr to from) is h = h
   each_followed (SetData to from) is h = h
   each_followed (Free q) is h = h
   each_followed Error is h = tt
   each_followed Halt is h = tt
   each_followed (Return operand) is h = tt
-  each_followed Break is h = each_after R is h
-  each_followed Continue is h = each_from R is h
+  each_followed Break is h = each_after IsKnown is h
+  each_followed Continue is h = each_from IsKnown is h
 
-module _ (p : Program) (typed : is_typed p ≡ true) (Rel : Outcome → Outcome → Type 0) (equal : (o r : Outcome) → stepless o ≡ stepless r → Rel o r) (edges : List Edge) (line : ℕ → ℕ) (at : Items → ℕ) (mids : Items → List ℕ) (W : ℕ) where
+module _ (p : Program) (typed : is_typed p ≡ true) (Rel : Outcome → Outcome → Type 0) (equal : (o r : Outcome) → stepless o ≡ stepless r → Rel o r) (edges : List Edge) (line : ℕ → ℕ) (at : Items → ℕ) (mids : Items → List ℕ) (most : ℕ) where
   abbrev Place : Items → Type 0
-  Place c = R p edges line at mids W c
+  Place c = IsKnown p edges line at mids most c
 
   abbrev graph : ℕ → ℕ → ℕ → Store → List ℕ → ℕ → Outcome
   graph n q k g cs u = graph_run Rel equal p.shapes.structs edges n q k g cs u
@@ -229,7 +230,7 @@ module _ (p : Program) (typed : is_typed p ≡ true) (Rel : Outcome → Outcome 
         row_alike Rel equal p.shapes.structs edges (act_takes a) (λ x ds v. out (act_turn p.shapes.structs a is s x) (line m) ds v) (step + 1) (line m) (act_row (length p.vars) (length p.data_vars) a is) (at (Do a m is)) h.0.0.way (at (opened (followed_by a is))) h.0.0.leads
         (act_row_takes (length p.vars) (length p.data_vars) a is) n q (ext0 s) cs u
         (λ x ds v. subst (λ z. Meets Rel equal p.shapes.structs edges (out (act_turn p.shapes.structs a is s x) (line m) ds v) (line m) (λ r t. graph n r (at (opened (followed_by a is))) t ds v) z) (sym (act_passes p typed x s sound clear a is fits.0))
-        (turn_meets (act_turn p.shapes.structs a is s x) (followed_by a is) (line m) (stop_of a s) ds v (act_to p.shapes.structs a is s x) (each_followed p edges line at mids W a is h.1.1) (on x ds v) (act_stops a is (line m) ds v)))
+        (turn_meets (act_turn p.shapes.structs a is s x) (followed_by a is) (line m) (stop_of a s) ds v (act_to p.shapes.structs a is s x) (each_followed p edges line at mids most a is h.1.1) (on x ds v) (act_stops a is (line m) ds v)))
     step_alike (Close ps ds m is) h fits on =
         row_alike Rel equal p.shapes.structs edges false (λ x cs v. out (settle (kill ps ds s) is) (line m) cs v) (step + 1) (line m) (One (Kill ps ds) ∷ []) (at (Close ps ds m is)) h.0.0.way (at (opened is)) h.0.0.leads
         tt n q (ext0 s) cs u

@@ -6,7 +6,7 @@ use Rattle.fore_base.specs.declared.store.Value.TheVariants.{Uninit, Cell}
 use Rattle.fore_base.specs.declared.store.Datum.{Datum}
 use Rattle.fore_base.specs.declared.store.CellRec.{CellRec}
 use Rattle.fore_base.specs.declared.store.Store.{Store}
-use Rattle.fore_base.specs.Lists.{IsIn}
+use Rattle.fore_base.specs.Lists.{IsIn, Paired}
 use Rattle.fore_base.specs.Stores.{grown}
 use Rattle.fore_base.specs.Heap.{Reach, by_var, by_field, Leaked, leaks}
 use Rattle.fore_base.proofs.ListLemmas.{paired_same}
@@ -20,7 +20,7 @@ front_in x [] ys h = absurd h
 front_in x (z ∷ xs) ys (inl e) = inl e
 front_in x (z ∷ xs) ys (inr h) = inr (front_in x xs ys h)
 
-same_cells : (cs : List CellRec) → Rattle.fore_base.specs.Lists.Paired KeptCell cs cs
+same_cells : (cs : List CellRec) → Paired KeptCell cs cs
 same_cells cs = paired_same KeptCell (λ c. (refl, λ n h. h)) cs
 
 -- temporaries hide cells, and show none

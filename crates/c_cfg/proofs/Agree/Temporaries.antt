@@ -1,5 +1,5 @@
 -- Stores with the temporaries behind the program's variables.
-use Rattle.std.proofs.Common.{◌≡◌, ◌<◌, ◌+◌, ℕ, zero, suc, List, [], ◌∷◌, ◌++◌, length, slice_index_or, slice_set, refl, sym, ap, ◌∙◌, arith}
+use Rattle.std.proofs.Common.{◌≡◌, ◌<◌, ◌+◌, ℕ, zero, suc, List, [], ◌∷◌, ◌++◌, length, slice_index_or, slice_set, length-set, refl, sym, ap, ◌∙◌, arith}
 use Rattle.fore_base.specs.Lists.{Every}
 use Rattle.fore_base.specs.declared.store.Value.{Value}
 use Rattle.fore_base.specs.declared.store.Value.TheVariants.{Uninit}
@@ -8,6 +8,7 @@ use Rattle.fore_base.specs.declared.store.Datum.TheVariants.{Undefined}
 use Rattle.fore_base.specs.declared.store.Store.{Store}
 use Rattle.fore_base.specs.Stores.{var_of, datum_of, set_var, set_datum, set_each, kill}
 use Rattle.c_types.specs.Steps.{below, all_dead}
+use Rattle.c_types.proofs.CellsFit.{length_set_each}
 
 -- Lists with two items more
 
@@ -53,24 +54,15 @@ each_anywhere : {A : Type 0} (xs : List A) (ns : List ℕ) (u : A) → set_each 
 each_anywhere xs [] u = refl
 each_anywhere xs (n ∷ ns) u = ap (λ zs. set_each zs ns u) (set_anywhere xs n u) ∙ each_anywhere (slice_set xs n u) ns u
 
-set_length : {A : Type 0} (xs : List A) (n : ℕ) (v : A) → length (slice_set xs n v) ≡ length xs
-set_length [] n v = refl
-set_length (x ∷ xs) zero v = refl
-set_length (x ∷ xs) (suc n) v = ap suc (set_length xs n v)
-
 each_front : {A : Type 0} (m : ℕ) (xs ys : List A) (ns : List ℕ) (v : A) → length xs ≡ m → Every (λ n. n < m) ns → set_each (xs ++ ys) ns v ≡ set_each xs ns v ++ ys
 each_front m xs ys [] v e less = refl
 each_front m xs ys (n ∷ ns) v e less =
     ap (λ zs. set_each zs ns v) (set_front xs ys n v (omega (arith, e, less.0)))
-    ∙ each_front m (slice_set xs n v) ys ns v (set_length xs n v ∙ e) less.1
+    ∙ each_front m (slice_set xs n v) ys ns v (length-set xs n v ∙ e) less.1
 
 each_append : {A : Type 0} (xs : List A) (ns ms : List ℕ) (v : A) → set_each xs (ns ++ ms) v ≡ set_each (set_each xs ns v) ms v
 each_append xs [] ms v = refl
 each_append xs (n ∷ ns) ms v = each_append (slice_set xs n v) ns ms v
-
-each_length : {A : Type 0} (xs : List A) (ns : List ℕ) (v : A) → length (set_each xs ns v) ≡ length xs
-each_length xs [] v = refl
-each_length xs (n ∷ ns) v = each_length (slice_set xs n v) ns v ∙ set_length xs n v
 
 less_more : (m n : ℕ) (ks : List ℕ) → m < n + 1 → Every (λ k. k < m) ks → Every (λ k. k < n) ks
 less_more m n [] h less = tt
@@ -92,8 +84,8 @@ all_set m xs x y u e =
     ap (λ k. set_each (xs ++ x ∷ y ∷ []) (below k) u) two
     ∙ each_append (xs ++ x ∷ y ∷ []) (below m ++ m ∷ []) (suc m ∷ []) u
     ∙ ap (λ zs. slice_set zs (suc m) u) (each_append (xs ++ x ∷ y ∷ []) (below m) (m ∷ []) u ∙ ap (λ zs. slice_set zs m u) (each_front m xs (x ∷ y ∷ []) (below m) u e (below_less m)))
-    ∙ ap (λ zs. slice_set zs (suc m) u) (set_first (set_each xs (below m) u) x y m u (sym e ∙ sym (each_length xs (below m) u)))
-    ∙ set_second (set_each xs (below m) u) u y (suc m) u (omega (arith, e, each_length xs (below m) u))
+    ∙ ap (λ zs. slice_set zs (suc m) u) (set_first (set_each xs (below m) u) x y m u (sym e ∙ sym (length_set_each xs (below m) u)))
+    ∙ set_second (set_each xs (below m) u) u y (suc m) u (omega (arith, e, length_set_each xs (below m) u))
 
 -- Stores
 
@@ -110,19 +102,18 @@ pub record Sized (nv nd : ℕ) (s : Store) : Type 0 where
   pub ptrs : length s.vars ≡ nv
   pub datums : length s.data_vars ≡ nd
 
-with_vars : Store → List Value → List Datum → Store
+-- a store with other variables
+abbrev pub with_vars : Store → List Value → List Datum → Store
 with_vars s vs ds = record s { vars = vs; data_vars = ds }
 
 -- variables die, the temporaries holding nothing
 pub kill_ext0 : (ps ds : List ℕ) (s : Store) → kill ps ds (ext0 s) ≡ ext0 (kill ps ds s)
-unfolding with_vars
 kill_ext0 ps ds s =
     ap (λ vs. with_vars s vs (set_each (s.data_vars ++ Undefined ∷ Undefined ∷ []) ds Undefined)) (each_anywhere s.vars ps Uninit)
     ∙ ap (λ us. with_vars s (set_each s.vars ps Uninit ++ Uninit ∷ Uninit ∷ []) us) (each_anywhere s.data_vars ds Undefined)
 
 -- all variables die, the temporaries with them
 pub all_die : (nv nd : ℕ) (s : Store) → Sized nv nd s → (x y : Value) (d e : Datum) → kill (below (nv + 2)) (below (nd + 2)) (ext s x y d e) ≡ ext0 (all_dead s)
-unfolding with_vars
 all_die nv nd s z x y d e =
     ap (λ vs. with_vars s vs (set_each (s.data_vars ++ d ∷ e ∷ []) (below (nd + 2)) Undefined)) (all_set nv s.vars x y Uninit z.ptrs ∙ ap (λ k. set_each s.vars (below k) Uninit ++ Uninit ∷ Uninit ∷ []) (sym z.ptrs))
     ∙ ap (λ us. with_vars s (set_each s.vars (below (length s.vars)) Uninit ++ Uninit ∷ Uninit ∷ []) us) (all_set nd s.data_vars d e Undefined z.datums ∙ ap (λ k. set_each s.data_vars (below k) Undefined ++ Undefined ∷ Undefined ∷ []) (sym z.datums))
@@ -137,11 +128,9 @@ module _ (nv nd : ℕ) (s : Store) (z : Sized nv nd s) (x y : Value) (d e : Datu
   datum_ext b less = get_front Undefined s.data_vars (d ∷ e ∷ []) b (omega (arith, less, z.datums))
 
   pub set_ext : (b : ℕ) (v : Value) → b < nv → set_var (ext s x y d e) b v ≡ ext (set_var s b v) x y d e
-  unfolding with_vars
   set_ext b v less = ap (λ vs. with_vars s vs (s.data_vars ++ d ∷ e ∷ [])) (set_front s.vars (x ∷ y ∷ []) b v (omega (arith, less, z.ptrs)))
 
   pub set_datum_ext : (b : ℕ) (v : Datum) → b < nd → set_datum (ext s x y d e) b v ≡ ext (set_datum s b v) x y d e
-  unfolding with_vars
   set_datum_ext b v less = ap (λ us. with_vars s (s.vars ++ x ∷ y ∷ []) us) (set_front s.data_vars (d ∷ e ∷ []) b v (omega (arith, less, z.datums)))
 
   -- the temporaries
@@ -159,17 +148,13 @@ module _ (nv nd : ℕ) (s : Store) (z : Sized nv nd s) (x y : Value) (d e : Datu
   d1_holds = get_second Undefined s.data_vars d e (nd + 1) (omega (arith, z.datums))
 
   pub p0_set : (v : Value) → set_var (ext s x y d e) nv v ≡ ext s v y d e
-  unfolding with_vars
   p0_set v = ap (λ vs. with_vars s vs (s.data_vars ++ d ∷ e ∷ [])) (set_first s.vars x y nv v (sym z.ptrs))
 
   pub p1_set : (v : Value) → set_var (ext s x y d e) (nv + 1) v ≡ ext s x v d e
-  unfolding with_vars
   p1_set v = ap (λ vs. with_vars s vs (s.data_vars ++ d ∷ e ∷ [])) (set_second s.vars x y (nv + 1) v (omega (arith, z.ptrs)))
 
   pub d0_set : (v : Datum) → set_datum (ext s x y d e) nd v ≡ ext s x y v e
-  unfolding with_vars
   d0_set v = ap (λ us. with_vars s (s.vars ++ x ∷ y ∷ []) us) (set_first s.data_vars d e nd v (sym z.datums))
 
   pub d1_set : (v : Datum) → set_datum (ext s x y d e) (nd + 1) v ≡ ext s x y d v
-  unfolding with_vars
   d1_set v = ap (λ us. with_vars s (s.vars ++ x ∷ y ∷ []) us) (set_second s.data_vars d e (nd + 1) v (omega (arith, z.datums)))
