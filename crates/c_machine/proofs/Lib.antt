@@ -1,5 +1,6 @@
 pub mod Searching
 pub mod CellLemmas
+pub mod EdgeLemmas
 pub mod ShapeLemmas
 pub mod Marked
 pub mod PathLemmas

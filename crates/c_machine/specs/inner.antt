@@ -5,3 +5,5 @@ pub mod Sizes
 pub mod Needs
 pub mod Going
 pub mod Losing
+pub mod EdgeSteps
+pub mod Outgoing

@@ -24,7 +24,7 @@ pub fn blank_cell(alloc: Global, shapes: &[Shape], number: u64, shape: u32) -> M
 }
 
 /// The fields of the struct of a number; none where there is no such struct.
-fn fields_of(shapes: &[Shape], shape: u32) -> &[FieldDef]
+pub fn fields_of(shapes: &[Shape], shape: u32) -> &[FieldDef]
     ensures { result.now ≡ fields_at shapes.now shape }
 {
     match shapes.get(shape as usize) {

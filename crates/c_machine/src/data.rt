@@ -70,7 +70,7 @@ fn read_data_op(heap: &Heap, op: &DataOp) -> Result<Datum, Fault>
 }
 
 /// Whether two pointers are equal. An indeterminate one cannot be tested.
-fn same_values(left: Value, right: Value) -> Result<bool, Fault>
+pub fn same_values(left: Value, right: Value) -> Result<bool, Fault>
     ensures { result ≡ same_values left right }
 {
     match (left, right) {
@@ -82,7 +82,7 @@ fn same_values(left: Value, right: Value) -> Result<bool, Fault>
     }
 }
 
-fn same_datums(left: Datum, right: Datum) -> Result<bool, Fault>
+pub fn same_datums(left: Datum, right: Datum) -> Result<bool, Fault>
     ensures { result ≡ same_datums left right }
 {
     match (left, right) {
@@ -91,7 +91,7 @@ fn same_datums(left: Datum, right: Datum) -> Result<bool, Fault>
     }
 }
 
-fn agreed(equal: bool, same: bool) -> bool
+pub fn agreed(equal: bool, same: bool) -> bool
     ensures { result ≡ agrees equal same }
 {
     if equal { same } else { !same }

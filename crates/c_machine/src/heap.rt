@@ -6,6 +6,7 @@ ghost use Rattle.c_types.specs.Runs.{empty_store};
 ghost use Rattle.c_types.specs.Steps.{all_dead};
 ghost use Rattle.c_machine.specs.inner.Marking.{HasRoomFor, IsAsRoomy};
 ghost use Rattle.c_machine.specs.inner.Sizes.{IsNoLarger};
+ghost use Rattle.c_machine.specs.inner.Rising.{RisesFrom};
 ghost use Rattle.std.specs.Vec.{vec_capacity};
 
 use crate::cells::{datum_field_of, end_cell, field_of, set_datum_field, set_field};
@@ -71,6 +72,14 @@ impl Heap {
         ensures { result.now ≡ self.now }
     {
         &self.store
+    }
+
+    /// The cells, in order of their numbers.
+    pub fn cells(&self) -> &[CellRec]
+        ensures cells { result.now ≡ self.now.cells }
+        ensures rising { RisesFrom 0 result.now }
+    {
+        self.store.cells.as_slice()
     }
 
     /// The number of the next cell to be made.

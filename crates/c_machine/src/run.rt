@@ -39,7 +39,12 @@ pub fn run(alloc: Global, program: &Typed, choices: &[u8], limit: u64) -> Mem<Ou
 }
 
 /// The choice of a step, where it needs one, or how the run comes out for want of one. `used` counts the choices.
-fn supply(needed: bool, choices: &[u8], used: &mut usize, step: u64) -> Result<Option<u8>, Outcome>
+pub(crate) fn supply(
+    needed: bool,
+    choices: &[u8],
+    used: &mut usize,
+    step: u64,
+) -> Result<Option<u8>, Outcome>
     requires used { used.old ≤ length choices.now }
     ensures given { MatchResult result (λ choice. (next : ℕ → List ℕ → ℕ → Out) → supply needed (drop used.old choices.now) step used.old next ≡ next (or_none choice) (drop used.new choices.now) used.new) (λ outcome. (next : ℕ → List ℕ → ℕ → Out) → supply needed (drop used.old choices.now) step used.old next ≡ outcome) }
     ensures choice { IfOk result (λ choice. (chosen needed choice ≡ Some (or_none choice)) × IfSome choice (λ x. x < 2)) }
