@@ -1,15 +1,14 @@
 -- A forest that is cut: its parts are sound, regroup it, and lose none of its stores.
-use Rattle.std.proofs.Common.{◌≡◌, inl, inr, ℕ, zero, suc, List, [], ◌∷◌, ◌++◌, map, length, refl, sym, ap, ap₂, subst, ◌∙◌}
+use Rattle.std.proofs.Common.{◌≡◌, true, true≢false, List, [], ◌∷◌, ◌++◌, map, length, refl, sym, ap, ap₂, subst, ◌∙◌}
 use Rattle.std.proofs.lemmas.List.{map-append}
 use Rattle.fore_base.specs.Lists.{IsIn, Every, Paired}
-use Rattle.fore_base.specs.declared.shape.Shape.{Shape}
 use Rattle.fore_base.specs.declared.store.Datum.{Datum}
-use Rattle.fore_base.specs.declared.store.Store.{Store}
-use Rattle.fore_base.proofs.ListLemmas.{in_map, every_in, in_every, every_weaker, every_map, every_mapped, partner_of, partner_for, paired_weaker}
+use Rattle.fore_base.proofs.ListLemmas.{in_map, every_in, in_every, every_weaker, every_map, every_mapped, partner_of, partner_for}
 use Rattle.ta_core.specs.Auto.{Automaton}
-use Rattle.ta_core.specs.Language.{InLanguage, IsBarren}
+use Rattle.ta_core.specs.Language.{IsBarren}
 use Rattle.ta_core.specs.declared.auto.Rule.{Rule}
 use Rattle.ta_core.specs.declared.symbol.Symbol.{Symbol}
+use Rattle.ta_core.specs.declared.symbol.Symbol.TheVariants.{Null, Uninit, Dangling, Ref, Cell}
 use Rattle.ta_core.specs.declared.tree.Tree.{Tree}
 use Rattle.fa_core.specs.declared.boxes.BoxDef.{BoxDef}
 use Rattle.fa_core.specs.declared.faces.BoxFace.{BoxFace}
@@ -17,10 +16,11 @@ use Rattle.fa_core.specs.declared.faces.Face.{Face}
 use Rattle.fa_core.specs.declared.forest.Forest.{Forest}
 use Rattle.fa_core.specs.declared.forest.Target.{Target}
 use Rattle.fa_core.specs.Boxless.{HasNoBoxes}
+use Rattle.fa_core.specs.Cells.{is_leaf}
 use Rattle.fa_core.specs.Choices.{bares}
-use Rattle.fa_core.specs.Dressed.{Node, Nodes, no_nodes, more, cells, value_in, roots_of}
+use Rattle.fa_core.specs.Dressed.{Nodes, no_nodes, more, cells, value_in, roots_of}
 use Rattle.fa_core.specs.Filled.{Choice, ChoiceFilled, IsRoot, IsFilled, IsSound, HasSome, HasSignatures, DatumFits, RulesFit, SymbolFits}
-use Rattle.fa_core.specs.Member.{TreesOf, InsidesOf, bare, Regroups, RegroupsInto, Regrouping, Stands}
+use Rattle.fa_core.specs.Member.{TreesOf, Regroups, RegroupsInto}
 use Rattle.fa_core.proofs.Rearranging.{same}
 use Rattle.fa_core.proofs.Regrouped.{members_regrouped, members_split}
 use Rattle.fa_sound.specs.Soundness.{SoundForest}
@@ -187,6 +187,29 @@ module _ (face : Face) (F G : Forest) (h : IsCutForest face.boxes F G) where
     };
     full = in_every HasSome G.autos (λ b i. let w = partner_of (IsPiece face.boxes) F.autos G.autos b h.autos i in w.2.1.some);
   }
+
+-- a leaf fits every face
+pub leaf_fits : (face : Face) (y : Symbol) → is_leaf y ≡ true → SymbolFits face y
+leaf_fits face Null e = tt
+leaf_fits face Uninit e = tt
+leaf_fits face Dangling e = tt
+leaf_fits face (Ref r) e = tt
+leaf_fits face (Cell s ds ss) e = absurd (true≢false (sym e))
+
+-- the other way round, each field is given exactly once if the parts are sound, and rules and data fit the face
+pub whole_filled : (face : Face) (F : Forest) (Gs : List Forest) → AreCutForests face.boxes F Gs → Every (IsSound face) Gs → Every (RulesFit face) F.autos → Every DatumFits F.data_vars → IsFilled face F
+whole_filled face F Gs h sounds rules data_vars = record {
+  data_vars = data_vars;
+  rules = rules;
+  trees = λ ts c.
+      let w = h.whole ts c in
+      let g = every_in (IsCutForest face.boxes F) Gs w.0 h.each w.1 in
+      let k = (every_in (IsSound face) Gs w.0 sounds w.1).well_formed.filled.trees ts w.2 in
+      record { tops = k.tops; are = k.are; vars = subst (λ (vs : List Target). Every (IsRoot (length ts)) vs) g.vars k.vars; cells = k.cells };
+}
+
+pub product_fills : (face : Face) (F : Forest) (pieces : List (List Automaton)) → Paired (AreCut face.boxes) F.autos pieces → Every (λ (autos : List Automaton). IsSound face (with_autos F autos)) (product pieces) → Every (RulesFit face) F.autos → Every DatumFits F.data_vars → IsFilled face F
+product_fills face F pieces h sounds = whole_filled face F (map (with_autos F) (product pieces)) (product_cuts face.boxes F pieces h) (every_map (with_autos F) (IsSound face) (product pieces) sounds)
 
 -- so it is with pieces of all components
 module _ (face : Face) (F : Forest) (autos : List Automaton) (p : Paired (IsPiece face.boxes) F.autos autos) where

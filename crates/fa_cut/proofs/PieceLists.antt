@@ -1,18 +1,17 @@
 -- Pieces, one for each signature, and what one more signature adds.
-use Rattle.std.proofs.Common.{◌≡◌, inl, inr, ℕ, ◌+◌, ◌<◌, List, [], ◌∷◌, ◌++◌, length, map, take, drop, get_or, Some, slice_get, refl, sym, ap, subst, ◌∙◌}
+use Rattle.std.proofs.Common.{◌≡◌, inl, inr, ℕ, ◌+◌, ◌<◌, List, [], ◌∷◌, ◌++◌, length, take, drop, get_or, sym, ap, subst, ◌∙◌}
 use Rattle.std.proofs.lemmas.List.{take-append-drop}
 use Rattle.fore_base.specs.Lists.{IsIn, Every, IsDistinct}
-use Rattle.fore_base.proofs.ListLemmas.{in_left, in_last, in_push, every_in, in_every, every_push, every_weaker, drop_item, twice}
+use Rattle.fore_base.proofs.ListLemmas.{in_left, in_last, in_push, every_in, every_push, every_weaker, drop_item, twice}
 use Rattle.ta_core.specs.Auto.{Automaton}
 use Rattle.ta_core.specs.Language.{InLanguage, IsTrim}
 use Rattle.ta_core.specs.declared.auto.Rule.{Rule}
-use Rattle.ta_core.specs.declared.symbol.Symbol.{Symbol}
 use Rattle.ta_core.specs.declared.tree.Tree.{Tree}
 use Rattle.fa_core.specs.declared.faces.BoxFace.{BoxFace}
 use Rattle.fa_core.specs.declared.signature.RefMark.{RefMark}
 use Rattle.fa_core.specs.Boxless.{HasNoBoxes, IsPlain}
 use Rattle.fa_core.specs.Ways.{signature}
-use Rattle.fa_cut.specs.CutPieces.{KeepsSymbols, IsPieceBy, IsPiece, ShareSignature, AreApart, AreCut}
+use Rattle.fa_cut.specs.CutPieces.{KeepsSymbols, IsPieceBy, IsPiece, ShareSignature, AreCut}
 use Rattle.fa_cut.specs.inner.CutPairs.{AreCutBy}
 use Rattle.fa_cut.proofs.ProductItems.{apart_push}
 

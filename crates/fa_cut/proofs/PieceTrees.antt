@@ -1,6 +1,5 @@
 -- The automaton over pairs, with the root states of one signature, accepts the trees that have it.
-use Rattle.std.proofs.Common.{◌≡◌, ◌↔◌, ℕ, ◌<◌, List, [], ◌∷◌, Some, length, map, slice_get, refl, sym, ap, subst, ◌∙◌}
-use Rattle.std.proofs.lemmas.Option.{same_Some}
+use Rattle.std.proofs.Common.{◌≡◌, ◌↔◌, ℕ, ◌<◌, List, Some, slice_get, sym, ap, subst, ◌∙◌}
 use Rattle.fore_base.specs.Lists.{IsIn, Every, IsDistinct}
 use Rattle.fore_base.proofs.ListLemmas.{every_in, in_every, in_map, in_from_place}
 use Rattle.ta_core.specs.Auto.{Automaton, IsRanked, IsRankedRule}
@@ -11,7 +10,7 @@ use Rattle.ta_core.specs.declared.tree.Tree.{Tree}
 use Rattle.ta_core.proofs.Shifting.{in_sub}
 use Rattle.fa_core.specs.declared.faces.BoxFace.{BoxFace}
 use Rattle.fa_core.specs.declared.signature.RefMark.{RefMark}
-use Rattle.fa_core.specs.Boxless.{HasNoBoxes, IsPlain}
+use Rattle.fa_core.specs.Boxless.{HasNoBoxes}
 use Rattle.fa_core.specs.Filled.{HasSome, HasSignatures}
 use Rattle.fa_core.specs.Ways.{signature}
 use Rattle.fa_sound.proofs.Typed.{AreTyped, typed_run, run_typed}

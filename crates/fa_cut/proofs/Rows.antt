@@ -1,14 +1,13 @@
 -- Worked values of the definitions.
-use Rattle.std.proofs.Common.{◌≡◌, inl, inr, ℕ, List, [], ◌∷◌, map, refl, sym, ap, subst, ◌∙◌, arith}
+use Rattle.std.proofs.Common.{◌≡◌, inl, inr, ℕ, List, [], ◌∷◌, map, refl, sym, ap, ◌∙◌, arith}
 use Rattle.fore_base.specs.Lists.{IsIn}
 use Rattle.ta_core.specs.Auto.{Automaton}
-use Rattle.ta_core.specs.Language.{InLanguage, RunOf, run, RunEach, run_none, run_more}
+use Rattle.ta_core.specs.Language.{RunOf, run, RunEach, run_none, run_more}
 use Rattle.ta_core.specs.declared.auto.Rule.{Rule}
 use Rattle.ta_core.specs.declared.symbol.Symbol.{Symbol}
 use Rattle.ta_core.specs.declared.symbol.Symbol.TheVariants.{Null, Ref}
 use Rattle.ta_core.specs.declared.tree.Tree.{Tree, out-Tree, roll-Tree, out-roll-Tree}
 use Rattle.fa_core.specs.declared.faces.BoxFace.{BoxFace}
-use Rattle.fa_core.specs.declared.signature.RefMark.{RefMark}
 use Rattle.fa_core.specs.Cells.{below_of, leaf_mark, marks_by}
 use Rattle.fa_core.specs.Ways.{signature}
 use Rattle.fa_core.proofs.CellMarks.{tree_signature}

@@ -1,5 +1,5 @@
 -- A sound forest is its own only part.
-use Rattle.std.proofs.Common.{◌≡◌, inl, ℕ, List, [], ◌∷◌, get_or, length, refl, sym, subst, arith}
+use Rattle.std.proofs.Common.{◌≡◌, inl, List, [], ◌∷◌, get_or, refl, sym, subst, arith}
 use Rattle.std.proofs.lemmas.Option.{slice_get-get_or}
 use Rattle.fore_base.specs.Lists.{IsIn, Every, Paired}
 use Rattle.fore_base.proofs.ListLemmas.{in_every}

@@ -1,7 +1,8 @@
 // Laws of forests that are cut by signature, each the contract of a function that does nothing. Box edges are no exception.
 
 ghost use Rattle.std.specs.Prelude.{List};
-ghost use Rattle.fa_core.specs.Filled.{IsFilled, IsSound};
+ghost use Rattle.fore_base.specs.Lists.{Every};
+ghost use Rattle.fa_core.specs.Filled.{DatumFits, IsFilled, IsSound, RulesFit};
 ghost use Rattle.fa_core.specs.Member.{Regroups, RegroupsInto};
 ghost use Rattle.fa_core.specs.declared.boxes.BoxDef.{BoxDef};
 ghost use Rattle.fa_core.specs.declared.faces.BoxFace.{BoxFace};
@@ -16,7 +17,8 @@ pub fn parts_regroup()
     ensures members { (bs : List BoxFace) (F : Forest) (Gs : List Forest) → AreCutForests bs F Gs → IsUnionOf F Gs }
 {}
 
-/// Each part of a forest in which each field of each cell is given exactly once is sound.
+/// Each part is sound where each field of each cell is given exactly once; and this is so where the parts are sound, and rules and data fit the face.
 pub fn parts_are_sound()
-    ensures { (face : Face) (F G : Forest) → IsCutForest face.boxes F G → IsFilled face F → IsSound face G }
+    ensures parts { (face : Face) (F G : Forest) → IsCutForest face.boxes F G → IsFilled face F → IsSound face G }
+    ensures whole { (face : Face) (F : Forest) (Gs : List Forest) → AreCutForests face.boxes F Gs → Every (IsSound face) Gs → Every (RulesFit face) F.autos → Every DatumFits F.data_vars → IsFilled face F }
 {}

@@ -1,6 +1,6 @@
 -- Pairs of a state and a signature of some of its trees, and the rules over them.
 use Rattle.std.specs.Prelude.{◌≡◌, ◌↔◌, ◌⊎◌, ℕ, ◌<◌, false, List, ◌++◌, ◌∷◌, [], length, map, Option, Some, None, slice_get}
-use Rattle.fore_base.specs.Lists.{IsIn, Every, Paired, IsDistinct}
+use Rattle.fore_base.specs.Lists.{IsIn, Every, Paired}
 use Rattle.ta_core.specs.Auto.{Automaton}
 use Rattle.ta_core.specs.Language.{IsTrim}
 use Rattle.ta_core.specs.declared.auto.Rule.{Rule}

@@ -1,8 +1,9 @@
 // Forests cut by the signatures of their components.
 
-use crate::parts::{forest_with, pieces_each};
-use crate::products::product;
+ghost use Rattle.std.specs.Prelude.{◌≡◌, IfOk};
+
 use crate::signatures::split_signatures;
+use crate::tests::filling::{first_symbol, is_filled};
 use crate::tests::trees::{Grown, accepts_grown};
 use fa_core::faces::Face;
 use fa_core::forest::{Forest, Target};
@@ -22,7 +23,7 @@ struct Met<'a>(&'a [Grown], usize);
 // What a row shows, the targets and components of a forest, how many forests it is cut into, and which trees these accept.
 struct Row<'a>(&'a str, &'a [Target], &'a [Plan<'a>], usize, &'a [Met<'a>]);
 
-// Chains of one cell or two that end in null. State 0 takes no part.
+// Chains of at least one cell that end in null. State 0 takes no part.
 const Q: Plan = Plan(
     3,
     &[2],
@@ -198,36 +199,31 @@ fn are_accepted(alloc: Global, autos: &[Auto], trees: &[Grown]) -> Result<bool, 
     Ok(true)
 }
 
-// The forest cut by signature. Where it is not sound, nothing in a test shows that each field is given exactly once, so the steps of the call are taken.
+// The forest cut by signature, if it meets the condition.
 fn split(alloc: Global, forest: &Forest, face: &Face) -> Result<List<Sound>, Fail> {
     if !have_no_boxes(forest.autos.as_slice()) {
         return Err("a box edge".into());
     }
-    match Sound::make(alloc, forest, face)? {
-        Some(_) => Ok(split_signatures(alloc, forest, face)?),
-        None => by_parts(alloc, forest, face),
+    let model = model(alloc, face)?;
+    let cell = first_symbol(&model).ok_or("no rule")?;
+    if !is_filled(alloc, forest, face, cell)? {
+        return Err("not filled".into());
     }
+    Ok(split_signatures(alloc, forest, face)?)
 }
 
-fn by_parts(alloc: Global, forest: &Forest, face: &Face) -> Result<List<Sound>, Fail> {
+// A sound forest whose first rule is that of a list cell.
+fn model(alloc: Global, face: &Face) -> Result<Sound, Fail>
+    ensures { IfOk result (λ model. model.face ≡ face.now) }
+{
+    let forest = forest(alloc, &[], &[TO_0])?;
     if !have_no_boxes(forest.autos.as_slice()) {
         return Err("a box edge".into());
     }
-    let pieces = pieces_each(alloc, face.boxes.as_slice(), forest.autos.as_slice())?;
-    let choices = product(alloc, pieces.as_slice())?;
-    let mut list = List::new(alloc);
-    for autos in choices.as_slice() {
-        let made = sound(alloc, &forest_with(alloc, forest, autos)?, face)?;
-        list.push(made)?;
+    match Sound::make(alloc, &forest, face)? {
+        Some(model) => Ok(model),
+        None => Err("not sound".into()),
     }
-    Ok(list)
-}
-
-fn sound(alloc: Global, forest: &Forest, face: &Face) -> Result<Sound, Fail> {
-    if !have_no_boxes(forest.autos.as_slice()) {
-        return Err("a box edge".into());
-    }
-    Ok(Sound::make(alloc, forest, face)?.ok_or("not sound")?)
 }
 
 fn forest(alloc: Global, vars: &[Target], parts: &[Plan]) -> Result<Forest, Fail> {

@@ -1,4 +1,3 @@
-use Rattle.std.proofs.Common.{List}
 use Rattle.std.proofs.lemmas.Result.{on_ok_weaker}
 use Rattle.fa_cut.specs.inner.CutPairs.{AddsEach, AddsRules}
 use Rattle.fa_cut.specs.inner.CutProducts.{product}
