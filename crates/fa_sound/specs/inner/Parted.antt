@@ -1,9 +1,9 @@
 -- Components cut into parts by what stands at the tops of their trees.
-use Rattle.std.specs.Prelude.{◌≡◌, ◌↔◌, ℕ, ◌+◌, true, List, [], ◌∷◌, ◌++◌, map, take, drop}
-use Rattle.fore_base.specs.Lists.{IsIn, Every}
-use Rattle.fore_base.specs.declared.store.Datum.{Datum}
-use Rattle.ta_core.specs.declared.symbol.Slot.{Slot}
-use Rattle.ta_core.specs.declared.symbol.Symbol.TheVariants.{Cell}
+use Rattle.std.specs.Prelude.{◌≡◌, ◌↔◌, ◌⊎◌, ℕ, ◌+◌, Bool, true, false, nat_eq, List, [], ◌∷◌, ◌++◌, map, take, drop}
+use Rattle.std.specs.List.{filter}
+use Rattle.fore_base.specs.Lists.{IsIn, Every, IsDistinct}
+use Rattle.ta_core.specs.declared.symbol.Symbol.{Symbol}
+use Rattle.ta_core.specs.declared.symbol.Symbol.TheVariants.{Null, Uninit, Dangling, Ref, Cell}
 use Rattle.ta_core.specs.declared.tree.Tree.{Tree, out-Tree}
 use Rattle.ta_core.specs.Auto.{Automaton}
 use Rattle.ta_core.specs.Language.{InLanguage, IsTrim, RunEach}
@@ -19,9 +19,9 @@ use Rattle.fa_sound.specs.inner.Ruled.{IsFilledPart}
 abbrev pub fresh_rule : Automaton → Rule → Rule
 fresh_rule a r = record { state = a.states; symbol = r.symbol; children = r.children }
 
--- the automaton with the rule r alone at its root, which is a state of its own
-abbrev pub chosen : Automaton → Rule → Automaton
-chosen a r = record { states = a.states + 1; roots = a.states ∷ []; rules = a.rules ++ fresh_rule a r ∷ [] }
+-- the automaton with these rules alone at its root, which is a state of its own
+abbrev pub chosen : Automaton → List Rule → Automaton
+chosen a rs = record { states = a.states + 1; roots = a.states ∷ []; rules = a.rules ++ map (fresh_rule a) rs }
 
 -- the tree has a run whose last rule is r
 abbrev pub RunBy : List Rule → Rule → Tree → Type 0
@@ -59,18 +59,50 @@ abbrev pub ArePartsFilled : Face → List (List ℕ) → List (List Part) → Ty
 ArePartsFilled face front [] = Unit {0}
 ArePartsFilled face front (ps ∷ pss) = Every (λ p. IsFilledPart face (tops_but front p.top pss) p.auto) ps × ArePartsFilled face (front ++ tops_of ps ∷ []) pss
 
--- the part is trimmed, its trees are those by the rule, and they have a cell of its struct at the top
-abbrev pub IsPartBy : Automaton → Rule → Part → Type 0
-IsPartBy a r p = (IsTrim p.auto × (HasNoBoxes a → HasNoBoxes p.auto)) × ((t : Tree) → InLanguage p.auto t ↔ RunBy a.rules r t) × ((ds : List Datum) × (ss : List Slot) × (r.symbol ≡ Cell p.top ds ss))
-
 -- the rule is one of a root state, and some tree can use it
-abbrev pub IsTopRule : Automaton → Rule → Type 0
-IsTopRule a r = IsIn r.state a.roots × ((ts : List Tree) × RunEach a.rules r.children ts)
+abbrev pub IsRootRule : Automaton → Rule → Type 0
+IsRootRule a r = IsIn r.state a.roots × ((ts : List Tree) × RunEach a.rules r.children ts)
 
--- the parts are those of rules of the automaton, and each of these rules that some tree can use has one
-pub record ArePartsBy (a : Automaton) (done : List Rule) (ps : List Part) : Type 0 where
-  pub from : (p : Part) → IsIn p ps → (r : Rule) × IsIn r a.rules × IsTopRule a r × IsPartBy a r p
-  pub all : (r : Rule) → IsIn r done → IsTopRule a r → (p : Part) × IsIn p ps × IsPartBy a r p
+-- the rules are those of the ones gone through that are of a root state and that some tree can use
+pub record AreTopRules (a : Automaton) (done tops : List Rule) : Type 0 where
+  pub only : (r : Rule) → IsIn r tops → IsIn r a.rules × IsRootRule a r
+  pub all : (r : Rule) → IsIn r done → IsRootRule a r → IsIn r tops
+
+-- a cell of struct s
+abbrev pub is_of : ℕ → Symbol → Bool
+is_of s Null = false
+is_of s Uninit = false
+is_of s Dangling = false
+is_of s (Ref r) = false
+is_of s (Cell t ds ss) = nat_eq t s
+
+-- the rules that have a cell of struct s
+abbrev pub rules_of : ℕ → List Rule → List Rule
+rules_of s rs = filter (λ r. is_of s r.symbol) rs
+
+-- the structs are those of the rules' cells, each once
+pub record AreStructsOf (rules : List Rule) (structs : List ℕ) : Type 0 where
+  pub each : (r : Rule) → IsIn r rules → (s : ℕ) × IsIn s structs × (is_of s r.symbol ≡ true)
+  pub some : (s : ℕ) → IsIn s structs → (r : Rule) × IsIn r rules × (is_of s r.symbol ≡ true)
+  pub once : IsDistinct structs
+
+-- the number is one more of the numbers, where it was none of them
+pub record IsAdded (n : ℕ) (old new : List ℕ) : Type 0 where
+  pub kept : (m : ℕ) → IsIn m old → IsIn m new
+  pub there : IsIn n new
+  pub only : (m : ℕ) → IsIn m new → IsIn m old ⊎ (m ≡ n)
+  pub once : IsDistinct new
+
+-- one of the rules has a leaf
+abbrev pub HasLeafRule : List Rule → Type 0
+HasLeafRule rules = (r : Rule) × IsIn r rules × (is_leaf r.symbol ≡ true)
+
+-- the part is trimmed, and its trees are those by one of the rules that have a cell of struct s
+pub record IsPartFor (a : Automaton) (tops : List Rule) (s : ℕ) (p : Part) : Type 0 where
+  pub top : p.top ≡ s
+  pub trim : IsTrim p.auto
+  pub plain : HasNoBoxes a → HasNoBoxes p.auto
+  pub trees : (t : Tree) → InLanguage p.auto t ↔ ((r : Rule) × IsIn r (rules_of s tops) × RunBy a.rules r t)
 
 -- a leaf is one of the trees
 abbrev pub HasLeaf : Automaton → Type 0
