@@ -1,0 +1,4 @@
+pub mod Kinds
+pub mod Outlines
+pub mod Placing
+pub mod inner

@@ -1,0 +1,5 @@
+pub mod Deciding
+pub mod Following
+pub mod Reduced
+pub mod Showing
+pub mod Stacks

@@ -1,0 +1,15 @@
+// Which cells of a forest are its roots, and in which order they stand: roots put into the order of the walk, whether a
+// forest is canonical, and canonical forests with their components reduced. The definitions are those of `fa_core` and specs/.
+#![tactic(auto)]
+
+pub mod deciding;
+pub mod laws;
+pub mod reducing;
+mod referring;
+pub mod roots;
+mod showing;
+mod walking;
+
+pub use deciding::{has_root_kinds, is_canonical};
+pub use reducing::reduce_forest;
+pub use roots::place_roots;
