@@ -1,15 +1,11 @@
 // An automaton cut by the signatures of its trees.
 
-ghost use Rattle.std.specs.Prelude.{◌≡◌, ◌↔◌, ℕ, List, length, IsTrue, IfOk, MatchOption};
+ghost use Rattle.std.specs.Prelude.{◌↔◌, ℕ, IsTrue, IfOk};
 ghost use Rattle.fore_base.specs.Lists.{IsIn, Every, IsDistinct};
-ghost use Rattle.ta_core.specs.Auto.{IsRankedRule};
-ghost use Rattle.ta_core.specs.Language.{IsTrim, InLanguage};
-ghost use Rattle.ta_core.specs.declared.tree.Tree.{Tree};
+ghost use Rattle.ta_core.specs.Language.{IsTrim};
 ghost use Rattle.fa_core.specs.Boxless.{HasNoBoxes};
-ghost use Rattle.fa_core.specs.Ways.{signature};
-ghost use Rattle.fa_core.specs.declared.faces.BoxFace.{BoxFace};
-ghost use Rattle.fa_cut.specs.CutPieces.{AreCut, IsPieceBy};
-ghost use Rattle.fa_cut.specs.inner.CutPairs.{ArePairRules, IsRootPair, AreRootMarks, AreCutBy, IsOver};
+ghost use Rattle.fa_cut.specs.CutPieces.{AreCut};
+ghost use Rattle.fa_cut.specs.inner.CutPairs.{IsRootPair, AreRootMarks, AreCutBy, AreInRange, IsOver, IsPieceIn, WhereFound};
 
 use crate::pairing::{Found, Pair, are_same, number_of, pair_up};
 use fa_core::cells::has;
@@ -37,10 +33,9 @@ pub fn cut_auto(alloc: Global, boxes: &[BoxFace], whole: &Auto) -> Mem<List<Auto
 /// The pieces of these signatures.
 fn pieces(alloc: Global, whole: &Auto, found: &Found, all: &[List<RefMark>]) -> Mem<List<Auto>>
     requires plain { HasNoBoxes whole.now }
-    requires pairs { IsDistinct found.now.pairs }
-    requires ranked { Every (IsRankedRule (length found.now.pairs)) found.now.rules }
+    requires found { AreInRange found.now }
     requires apart { IsDistinct all.now }
-    ensures { IfOk result (λ pieces. (bs : List BoxFace) → ArePairRules bs found.now.pairs whole.now.rules found.now.rules → AreCutBy bs whole.now all.now pieces) }
+    ensures { IfOk result (λ pieces. WhereFound whole.now found.now (λ bs. AreCutBy bs whole.now all.now pieces)) }
 {
     let mut pieces = List::new(alloc);
     for marks in all {
@@ -54,9 +49,8 @@ fn pieces(alloc: Global, whole: &Auto, found: &Found, all: &[List<RefMark>]) -> 
 /// The piece of the trees with this signature. None where there is no such tree.
 fn piece(alloc: Global, whole: &Auto, found: &Found, marks: &[RefMark]) -> Mem<Option<Auto>>
     requires plain { HasNoBoxes whole.now }
-    requires pairs { IsDistinct found.now.pairs }
-    requires ranked { Every (IsRankedRule (length found.now.pairs)) found.now.rules }
-    ensures { IfOk result (λ made. (bs : List BoxFace) → ArePairRules bs found.now.pairs whole.now.rules found.now.rules → MatchOption made ((t : Tree) → InLanguage whole.now t → signature bs t ≡ marks.now → ⊥) (λ b. IsPieceBy bs whole.now marks.now b × IsTrim b)) }
+    requires found { AreInRange found.now }
+    ensures { IfOk result (λ made. WhereFound whole.now found.now (λ bs. IsPieceIn bs whole.now marks.now made)) }
 {
     let over = auto_over(alloc, whole.roots.as_slice(), found, marks)?;
     let made = trim(alloc, &over)?;
@@ -69,7 +63,7 @@ fn piece(alloc: Global, whole: &Auto, found: &Found, marks: &[RefMark]) -> Mem<O
 
 /// The automaton over the pairs, in which those with these states and this signature are root states.
 fn auto_over(alloc: Global, roots: &[u32], found: &Found, marks: &[RefMark]) -> Mem<Auto>
-    requires { Every (IsRankedRule (length found.now.pairs)) found.now.rules }
+    requires { AreInRange found.now }
     ensures { IfOk result (IsOver found.now.pairs found.now.rules roots.now marks.now) }
 {
     let states = number_of(found.pairs.len())?;

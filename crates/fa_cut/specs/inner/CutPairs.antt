@@ -1,7 +1,7 @@
 -- Pairs of a state and a signature of some of its trees, and the rules over them.
 use Rattle.std.specs.Prelude.{◌≡◌, ◌↔◌, ◌⊎◌, ℕ, ◌<◌, false, List, ◌++◌, ◌∷◌, [], length, map, Option, Some, None, slice_get}
-use Rattle.fore_base.specs.Lists.{IsIn, Every, Paired}
-use Rattle.ta_core.specs.Auto.{Automaton}
+use Rattle.fore_base.specs.Lists.{IsIn, Every, IsDistinct, Paired}
+use Rattle.ta_core.specs.Auto.{Automaton, IsRankedRule}
 use Rattle.ta_core.specs.Language.{IsTrim}
 use Rattle.ta_core.specs.declared.auto.Rule.{Rule}
 use Rattle.ta_core.specs.declared.tree.Tree.{Tree}
@@ -11,6 +11,7 @@ use Rattle.fa_core.specs.declared.signature.RefMark.{RefMark}
 use Rattle.fa_core.specs.declared.signature.Below.{Below}
 use Rattle.fa_core.specs.Cells.{marks_by}
 use Rattle.fa_core.specs.Ways.{signature}
+use Rattle.fa_cut.specs.declared.pairing.Found.{Found}
 use Rattle.fa_cut.specs.CutPieces.{IsPieceBy, AreApart, ShareSignature}
 
 -- a state and a signature of some of its trees
@@ -83,6 +84,20 @@ pub record IsOver (pairs : List Pair) (over : List Rule) (roots : List ℕ) (mar
   pub states : b.states ≡ length pairs
   pub rules : b.rules ≡ over
   pub tops : (k : ℕ) → IsIn k b.roots ↔ IsRootPair pairs roots marks k
+
+-- what the trees with this signature are: those of a trim piece; or there is none
+abbrev pub IsPieceIn : List BoxFace → Automaton → List RefMark → Option Automaton → Type 0
+IsPieceIn bs a marks None = (t : Tree) → InLanguage a t → signature bs t ≡ marks → ⊥
+IsPieceIn bs a marks (Some b) = IsPieceBy bs a marks b × IsTrim b
+
+-- each pair stands once, and the states of the rules over the pairs are places of pairs
+pub record AreInRange (found : Found) : Type 0 where
+  pub apart : IsDistinct found.pairs
+  pub rules : Every (IsRankedRule (length found.pairs)) found.rules
+
+-- P holds of the faces of boxes by which the rules that were found stand for those of the automaton
+abbrev pub WhereFound : Automaton → Found → (List BoxFace → Type 0) → Type 0
+WhereFound a found P = (bs : List BoxFace) → ArePairRules bs found.pairs a.rules found.rules → P bs
 
 -- the pieces are those of the signatures that are done
 pub record AreCutBy (bs : List BoxFace) (a : Automaton) (done : List (List RefMark)) (pieces : List Automaton) : Type 0 where

@@ -12,10 +12,10 @@ use Rattle.fa_cut.proofs.PieceLists.{cut_whole, all_trim, all_plain}
 use Rattle.fa_cut.proofs.PieceTrees.{all_found}
 use Rattle.fa_cut.proofs.cutting.cut_auto.Goals as goal
 
-pub pieces-requires-clause-ranked : goal.pieces-requires-clause-ranked
-pieces-requires-clause-ranked c =
+pub pieces-requires-clause-found : goal.pieces-requires-clause-found
+pieces-requires-clause-found c =
     let h = rw c.as_slice.ensures at c.in_ok-found.ensures.rules in
-    over_ranked c.in_ok-found.found.pairs c.args.boxes.now c.whole.inside.states c.whole.inside.rules c.in_ok-found.found.rules h c.whole.invariant.1
+    record { apart = c.in_ok-found.ensures.apart; rules = over_ranked c.in_ok-found.found.pairs c.args.boxes.now c.whole.inside.states c.whole.inside.rules c.in_ok-found.found.rules h c.whole.invariant.1 }
 
 pub returns-clause-cut : goal.returns-clause-cut
 returns-clause-cut c =
