@@ -1,0 +1,14 @@
+pub mod MergedRoots
+pub mod RootCounts
+pub mod Settled
+pub mod CutOff
+pub mod FieldCells
+pub mod ListPlaces
+pub mod Knots
+pub mod RootTrees
+pub mod Splits
+pub mod SplitTrees
+pub mod CutForests
+pub mod SplitSteps
+pub mod KnotSteps
+pub mod Finishing

@@ -1,0 +1,7 @@
+use Rattle.std.proofs.Common.{take}
+use Rattle.fa_canon.specs.inner.Finished.{IsFinished}
+use Rattle.fa_canon.specs.inner.Steps.{IsSplitEach}
+use Rattle.fa_canon.proofs.making.finish_each.Given as goal
+
+abbrev pub invariant-loop-forest : goal.invariant-loop-forest
+invariant-loop-forest g l = IsSplitEach IsFinished (take l.forest-index l.forests) l.made

@@ -1,0 +1,2 @@
+pub mod Canonized
+pub mod inner

@@ -1,0 +1,74 @@
+// One rule for each root.
+
+ghost use Rattle.std.specs.Prelude.{◌<◌, [], ◌∷◌, length, IfOk};
+ghost use Rattle.fore_base.specs.Lists.{Every};
+ghost use Rattle.fa_core.specs.Boxless.{HasNoBoxes};
+ghost use Rattle.fa_sound.specs.Soundness.{IsSigned};
+ghost use Rattle.fa_canon.specs.inner.Steps.{HasChosen, HaveTops, IsSplitEach};
+
+use crate::counting::{count_roots, ranked_components};
+use crate::steps::{Step, alone, on_each};
+use fa_sound::Sound;
+use fa_split::choose_rule;
+use fore_base::list::List;
+use fore_base::memory::Mem;
+use std::alloc::Global;
+
+/// One rule chosen at a root.
+#[derive(Drop)]
+struct Choose {
+    root: u32,
+}
+
+impl Step for Choose {
+    ghost use Rattle.std.specs.Prelude.{◌<◌, length};
+    ghost use Rattle.fore_base.specs.Lists.{Every};
+    ghost use Rattle.fa_core.specs.Boxless.{HasNoBoxes};
+    ghost use Rattle.fa_canon.specs.inner.Steps.{IsChosenAt};
+
+    ghost accepts = { λ step F. Every HasNoBoxes F.forest.autos × (step.root < length F.forest.autos) };
+
+    ghost relates = { λ step F G. IsChosenAt step.root F.forest G.forest };
+
+    fn apply(&self, alloc: Global, forest: &Sound) -> Mem<List<Sound>> {
+        forest.known();
+        ranked_components(forest.forest());
+        let made = choose_rule(alloc, forest, self.root)?;
+        Ok(made)
+    }
+}
+
+/// Forests in which each root has one root state with one rule: one for each way to choose a rule of each root from this one on, where the roots before it have one rule. Err is want of memory.
+pub fn choose_rules(alloc: Global, forest: &Sound, from: u32) -> Mem<List<Sound>>
+    requires plain { Every HasNoBoxes forest.now.forest.autos }
+    requires tops { HaveTops from forest.now.forest }
+    ensures { IfOk result (λ made. IsSplitEach (HasChosen (length forest.now.forest.autos)) (forest.now ∷ []) made) }
+{
+    let count = count_roots(forest)?;
+    let mut list = alone(alloc, forest)?;
+    for root in from..count {
+        list = on_each(alloc, &Choose { root }, &list)?;
+    }
+    Ok(list)
+}
+
+/// One rule chosen at each root from this one on.
+#[derive(Drop)]
+pub struct ChooseFrom {
+    pub from: u32,
+}
+
+impl Step for ChooseFrom {
+    ghost use Rattle.std.specs.Prelude.{length};
+    ghost use Rattle.fore_base.specs.Lists.{Every};
+    ghost use Rattle.fa_core.specs.Boxless.{HasNoBoxes};
+    ghost use Rattle.fa_canon.specs.inner.Steps.{HasChosen, HaveTops};
+
+    ghost accepts = { λ step F. Every HasNoBoxes F.forest.autos × HaveTops step.from F.forest };
+
+    ghost relates = { λ step F. HasChosen (length F.forest.autos) F };
+
+    fn apply(&self, alloc: Global, forest: &Sound) -> Mem<List<Sound>> {
+        choose_rules(alloc, forest, self.from)
+    }
+}

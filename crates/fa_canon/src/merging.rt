@@ -1,0 +1,52 @@
+// Roots to which one reference leads, merged into the tree that has it.
+
+ghost use Rattle.std.specs.Prelude.{◌<◌, length, IfOk, MatchOption};
+ghost use Rattle.fore_base.specs.Lists.{Every};
+ghost use Rattle.fa_core.specs.Boxless.{HasNoBoxes};
+ghost use Rattle.fa_merge.specs.Merged.{CanMerge};
+ghost use Rattle.fa_canon.specs.inner.Merges.{IsLastMerge, IsRegrouped, NoneMerges};
+
+use crate::counting::{count_roots, ranked_components};
+use fa_merge::{can_merge, merge_root};
+use fa_sound::Sound;
+use fore_base::memory::Mem;
+use std::alloc::Global;
+
+/// The forest with roots merged until none is left that can be, the highest number first. Err is want of memory.
+pub fn merge_roots(alloc: Global, forest: &Sound) -> Mem<Sound>
+    requires { Every HasNoBoxes forest.now.forest.autos }
+    ensures none { IfOk result (λ made. NoneMerges made.forest) }
+    ensures regrouped { IfOk result (IsRegrouped forest.now) }
+{
+    let mut merged = forest.copy(alloc)?;
+    'merges: while let Some(root) = last_merge(alloc, &merged)? {
+        merged = merge(alloc, &merged, root)?;
+    }
+    Ok(merged)
+}
+
+/// The root of the highest number that can be merged.
+fn last_merge(alloc: Global, forest: &Sound) -> Mem<Option<u32>>
+    ensures { IfOk result (λ found. MatchOption found (NoneMerges forest.now.forest) (IsLastMerge forest.now.forest)) }
+{
+    let count = count_roots(forest)?;
+    for root in (0..count).rev() {
+        if can_merge(alloc, forest, root)? {
+            return Ok(Some(root));
+        }
+    }
+    Ok(None)
+}
+
+/// The forest with the root merged.
+fn merge(alloc: Global, forest: &Sound, root: u32) -> Mem<Sound>
+    requires plain { Every HasNoBoxes forest.now.forest.autos }
+    requires can { CanMerge forest.now.forest root }
+    ensures regrouped { IfOk result (IsRegrouped forest.now) }
+    ensures fewer { IfOk result (λ made. length made.forest.autos < length forest.now.forest.autos) }
+{
+    forest.known();
+    ranked_components(forest.forest());
+    let made = merge_root(alloc, forest, root)?;
+    Ok(made)
+}
