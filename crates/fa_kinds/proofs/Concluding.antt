@@ -1,5 +1,5 @@
 -- A forest with the roots of a canonical one is canonical when its roots stand in the order of the walk.
-use Rattle.std.proofs.Common.{◌≡◌, ◌⊎◌, inl, inr, ℕ, zero, suc, ◌<◌, length, List, [], ◌∷◌, map, refl, sym, ap, subst, ◌∙◌, slice_get, Some}
+use Rattle.std.proofs.Common.{◌≡◌, inl, inr, ℕ, zero, suc, ◌<◌, length, List, [], ◌∷◌, map, refl, sym, ap, subst, ◌∙◌, slice_get, Some}
 use Rattle.std.proofs.lemmas.Option.{none-some, same_Some}
 use Rattle.fore_base.specs.Lists.{IsIn, Every}
 use Rattle.fore_base.proofs.ListLemmas.{every_in, in_every, in_mapped}
@@ -8,7 +8,7 @@ use Rattle.ta_core.specs.Single.{HasOneTop}
 use Rattle.ta_core.specs.declared.auto.Rule.{Rule}
 use Rattle.ta_core.specs.declared.tree.Tree.{Tree}
 use Rattle.fa_core.specs.Boxless.{HasNoBoxes}
-use Rattle.fa_core.specs.Canonical.{IsShared, IsKnot, IsRootKind, IsUntied, IsCanonical, Walks, GoesOn, refs_at, var_roots}
+use Rattle.fa_core.specs.Canonical.{IsRootKind, IsUntied, IsCanonical, Walks, GoesOn, refs_at, var_roots}
 use Rattle.fa_core.specs.Choices.{bares}
 use Rattle.fa_core.specs.Dressed.{Nodes}
 use Rattle.fa_core.specs.Filled.{Choice, IsSound}
@@ -26,7 +26,7 @@ use Rattle.fa_merge.proofs.OtherOrders.{get_mapped, order_below, order_back, ord
 use Rattle.fa_merge.proofs.PlacedForests.{component_has}
 use Rattle.fa_merge.proofs.ReorderedSound.{new_plain, reordered_sound}
 use Rattle.fa_kinds.specs.Kinds.{HasRootKinds}
-use Rattle.fa_kinds.specs.Placing.{Placing, IsWalkOrder}
+use Rattle.fa_kinds.specs.Placing.{IsWalkOrder}
 use Rattle.fa_kinds.proofs.Following.{shared_follows, knot_follows, untied_follows}
 use Rattle.fa_kinds.proofs.NoWays.{plain_kind}
 use Rattle.fa_kinds.proofs.Renumbered.{g_of, before, of_before, follows, refs_turned, var_roots_renumbered}

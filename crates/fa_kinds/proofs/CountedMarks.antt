@@ -1,14 +1,12 @@
 -- The references to a root, counted by signatures as far as two.
 use Rattle.std.proofs.Common.{◌≡◌, ℕ, zero, suc, ◌≤◌, ◌+◌, Bool, true, false, true≢false, ◌||◌, cond, nat_eq, nat_le, length, List, [], ◌∷◌, map, flat_map, refl, sym, ap, ap₂, ◌∙◌, length-append, arith}
 use Rattle.std.proofs.lemmas.Bool.{eqb-true, le-leb}
-use Rattle.fore_base.specs.Lists.{Paired}
 use Rattle.ta_core.specs.declared.tree.Tree.{Tree}
 use Rattle.fa_core.specs.Canonical.{references}
 use Rattle.fa_core.specs.Rearranged.{often}
 use Rattle.fa_core.specs.References.{to_two, tree_refs}
 use Rattle.fa_core.specs.Ways.{Way, ways, to_root, mark, has, roots_met, signature}
 use Rattle.fa_core.specs.declared.faces.BoxFace.{BoxFace}
-use Rattle.fa_core.specs.declared.signature.RefMark.{RefMark}
 use Rattle.fa_core.proofs.Alike.{both_to_two}
 use Rattle.fa_core.proofs.Counts.{often_in, often_out}
 use Rattle.fa_core.proofs.Numbers.{has_once}

@@ -1,15 +1,14 @@
 -- What is decided of the trees that show most is what is asked of a forest's roots.
-use Rattle.std.proofs.Common.{◌≡◌, ◌≢◌, ◌⊎◌, ◌↔◌, inl, inr, ℕ, zero, suc, ◌<◌, ◌≤◌, ◌+◌, Bool, true, false, not, ◌&&◌, ◌||◌, cond, true≢false, nat_eq, nat_le, length, List, [], ◌∷◌, map, refl, sym, ap, ap₂, subst, ◌∙◌, slice_get, Some, arith}
-use Rattle.std.proofs.lemmas.Bool.{eqb-true, eq-eqb, leb-true, le-leb}
+use Rattle.std.proofs.Common.{◌≡◌, ◌≢◌, ◌⊎◌, inl, inr, ℕ, zero, suc, ◌<◌, ◌+◌, Bool, true, false, not, ◌&&◌, cond, true≢false, nat_eq, nat_le, length, List, [], ◌∷◌, map, refl, sym, ap, subst, ◌∙◌, slice_get, Some, arith}
+use Rattle.std.proofs.lemmas.Bool.{and_parts, and_from, or_left, or_right, or_cases, eqb-true, eq-eqb, leb-true, le-leb}
 use Rattle.std.proofs.lemmas.Option.{none-some, same_Some, slice_get_within}
 use Rattle.fore_base.specs.Lists.{IsIn}
-use Rattle.fore_base.proofs.ListLemmas.{in_from_place}
 use Rattle.ta_core.specs.declared.symbol.Symbol.TheVariants.{Ref}
 use Rattle.ta_core.specs.declared.tree.Tree.{Tree, out-Tree}
 use Rattle.fa_core.specs.Canonical.{RefersTo, IsShared, IsKnot, IsUntied, field_trees, references, var_roots}
 use Rattle.fa_core.specs.Cells.{is_leaf, below_of, roots_in}
 use Rattle.fa_core.specs.References.{to_two, tree_refs}
-use Rattle.fa_core.specs.Ways.{ways, has, signature}
+use Rattle.fa_core.specs.Ways.{has, signature}
 use Rattle.fa_core.specs.declared.faces.BoxFace.{BoxFace}
 use Rattle.fa_core.specs.declared.forest.Target.{Target}
 use Rattle.fa_core.proofs.Numbers.{has_once}
@@ -25,26 +24,6 @@ use Rattle.fa_kinds.proofs.Shows.{leaf_refers, ref_refers, ref_is_leaf}
 
 -- Tests.
 
-and_parts : (a b : Bool) → (a && b) ≡ true → (a ≡ true) × (b ≡ true)
-and_parts true b h = (refl, h)
-and_parts false b h = absurd (true≢false (sym h))
-
-and_both : (a b : Bool) → a ≡ true → b ≡ true → (a && b) ≡ true
-and_both true b h k = k
-and_both false b h k = absurd (true≢false (sym h))
-
-or_left : (a b : Bool) → a ≡ true → (a || b) ≡ true
-or_left true b h = refl
-or_left false b h = absurd (true≢false (sym h))
-
-or_right : (a b : Bool) → b ≡ true → (a || b) ≡ true
-or_right true b h = refl
-or_right false b h = h
-
-or_cases : (a b : Bool) → (a || b) ≡ true → (a ≡ true) ⊎ (b ≡ true)
-or_cases true b h = inl refl
-or_cases false b h = inr h
-
 not_true : (a : Bool) → not a ≡ true → a ≡ true → ⊥
 not_true true h k = true≢false (sym h)
 not_true false h k = true≢false (sym k)
@@ -52,14 +31,6 @@ not_true false h k = true≢false (sym k)
 true_not : (a : Bool) → (a ≡ true → ⊥) → not a ≡ true
 true_not true f = absurd (f refl)
 true_not false f = refl
-
-not_of : (a : Bool) → a ≡ false → not a ≡ true
-not_of true e = absurd (true≢false e)
-not_of false e = refl
-
-of_not : (a : Bool) → not a ≡ true → a ≡ false
-of_not true e = absurd (true≢false (sym e))
-of_not false e = refl
 
 module _ (bs : List BoxFace) where
   -- a tree refers to the roots of its signature
@@ -83,7 +54,7 @@ module _ (bs : List BoxFace) where
   there_leaf r (x ∷ us) u (inl q) e =
       or_left (is_leaf (out-Tree x).symbol && has r (roots_in (signature bs x))) (any_leaf r (map (below_of bs) us))
       (subst (λ (z : Tree). (is_leaf (out-Tree z).symbol && has r (roots_in (signature bs z))) ≡ true) q
-      (and_both (is_leaf (out-Tree u).symbol) (has r (roots_in (signature bs u))) (ref_is_leaf u r e) (refers_has u r (ref_refers u r e))))
+      (and_from (is_leaf (out-Tree u).symbol) (has r (roots_in (signature bs u))) (ref_is_leaf u r e) (refers_has u r (ref_refers u r e))))
   there_leaf r (x ∷ us) u (inr i) e = or_right (is_leaf (out-Tree x).symbol && has r (roots_in (signature bs x))) (any_leaf r (map (below_of bs) us)) (there_leaf r us u i e)
 
   cell_there : (r : ℕ) (us : List Tree) → any_cell r (map (below_of bs) us) ≡ true → (u : Tree) × IsIn u us × ((out-Tree u).symbol ≢ Ref r) × RefersTo u r
@@ -99,7 +70,7 @@ module _ (bs : List BoxFace) where
   there_cell r (x ∷ us) u (inl q) d h =
       or_left (not (is_leaf (out-Tree x).symbol) && has r (roots_in (signature bs x))) (any_cell r (map (below_of bs) us))
       (subst (λ (z : Tree). (not (is_leaf (out-Tree z).symbol) && has r (roots_in (signature bs z))) ≡ true) q
-      (and_both (not (is_leaf (out-Tree u).symbol)) (has r (roots_in (signature bs u))) (true_not (is_leaf (out-Tree u).symbol) (λ l. d (leaf_refers u r l h))) (refers_has u r h)))
+      (and_from (not (is_leaf (out-Tree u).symbol)) (has r (roots_in (signature bs u))) (true_not (is_leaf (out-Tree u).symbol) (λ l. d (leaf_refers u r l h))) (refers_has u r h)))
   there_cell r (x ∷ us) u (inr i) d h = or_right (not (is_leaf (out-Tree x).symbol) && has r (roots_in (signature bs x))) (any_cell r (map (below_of bs) us)) (there_cell r us u i d h)
 
   module _ (vs : List Target) (ts : List Tree) where
@@ -176,11 +147,11 @@ module _ (bs : List BoxFace) where
     is_knot r o own k =
         let z : k.from ≡ 0 + k.from = omega arith in
         let same : k.own ≡ o = same_Some k.own o (sym k.is_own ∙ own) in
-        and_both (nat_eq (times_shown r all) 1) (any_ties vars all r (signature bs o) 0 all)
+        and_from (nat_eq (times_shown r all) 1) (any_ties vars all r (signature bs o) 0 all)
         (eq-eqb (times_shown r all) 1 (one_by_two (references ts r) (times_shown r all) (sym (times r)) k.one))
         (there_ties r o 0 ts k.from k.above k.is_above (subst (λ (n : ℕ). Ties r o n k.above) z
-        (and_both (shared_by vars all k.from) (any_leaf r (map (below_of bs) (field_trees k.above)) && has k.from (roots_in (signature bs o))) (is_shared k.from k.shared)
-        (and_both (any_leaf r (map (below_of bs) (field_trees k.above))) (has k.from (roots_in (signature bs o))) (there_leaf r (field_trees k.above) k.leaf k.in_field k.refers)
+        (and_from (shared_by vars all k.from) (any_leaf r (map (below_of bs) (field_trees k.above)) && has k.from (roots_in (signature bs o))) (is_shared k.from k.shared)
+        (and_from (any_leaf r (map (below_of bs) (field_trees k.above))) (has k.from (roots_in (signature bs o))) (there_leaf r (field_trees k.above) k.leaf k.in_field k.refers)
         (refers_has o k.from (subst (λ (t : Tree). RefersTo t k.from) same k.ties))))))
 
     -- One root.
@@ -223,7 +194,7 @@ module _ (bs : List BoxFace) where
     root_each r [] h = refl
     root_each r (u ∷ us) h =
         let z : r + 0 ≡ r = omega arith in
-        and_both (root_by vars all r (shown_of bs u)) (roots_by vars all (suc r) (map (shown_of bs) us)) (subst (λ (n : ℕ). root_by vars all n (shown_of bs u) ≡ true) z (h 0 u refl))
+        and_from (root_by vars all r (shown_of bs u)) (roots_by vars all (suc r) (map (shown_of bs) us)) (subst (λ (n : ℕ). root_by vars all n (shown_of bs u) ≡ true) z (h 0 u refl))
         (root_each (suc r) us (λ j t e. let y : r + suc j ≡ suc r + j = omega arith in subst (λ (n : ℕ). root_by vars all n (shown_of bs t) ≡ true) y (h (suc j) t e)))
 
     tree_here : (xs : List Tree) (r : ℕ) → r < length xs → (t : Tree) × (slice_get xs r ≡ Some t)

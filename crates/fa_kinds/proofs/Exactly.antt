@@ -1,5 +1,5 @@
 -- Whether a forest without box edges is canonical, by what its trees show and by the order of the walk.
-use Rattle.std.proofs.Common.{◌≡◌, ◌⊎◌, ◌↔◌, inl, inr, ℕ, ◌<◌, true, List, length, map, sym, subst}
+use Rattle.std.proofs.Common.{◌≡◌, ◌⊎◌, ◌↔◌, inl, inr, ℕ, true, List, length, sym, subst}
 use Rattle.fore_base.specs.Lists.{Every, Paired}
 use Rattle.ta_core.specs.Single.{HasOneTop}
 use Rattle.ta_core.specs.declared.tree.Tree.{Tree}
@@ -15,7 +15,7 @@ use Rattle.fa_kinds.specs.Kinds.{HasRootKinds}
 use Rattle.fa_kinds.specs.Placing.{IsWalkOrder}
 use Rattle.fa_kinds.specs.declared.showing.Shown.{Shown}
 use Rattle.fa_kinds.specs.inner.Deciding.{roots_by}
-use Rattle.fa_kinds.specs.inner.Showing.{shown_of, IsShownBy}
+use Rattle.fa_kinds.specs.inner.Showing.{IsShownBy}
 use Rattle.fa_kinds.proofs.Decided.{roots_are, are_roots}
 use Rattle.fa_kinds.proofs.NoWays.{plain_kind}
 use Rattle.fa_kinds.proofs.Shows.{AreChosen, choose_shown}

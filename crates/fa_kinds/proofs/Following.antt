@@ -1,6 +1,5 @@
 -- Where trees follow others, their roots are of the same kinds.
-use Rattle.std.proofs.Common.{◌≡◌, ◌⊎◌, inl, inr, ℕ, zero, suc, ◌≤◌, sym, ap, subst, ◌∙◌, List, Some, slice_get, refl, arith}
-use Rattle.fore_base.specs.Lists.{IsIn}
+use Rattle.std.proofs.Common.{◌≡◌, inl, inr, ℕ, zero, suc, ◌≤◌, sym, ap, subst, ◌∙◌, List, Some, slice_get, refl, arith}
 use Rattle.fore_base.proofs.ListLemmas.{partner_of, partner_for}
 use Rattle.ta_core.specs.declared.symbol.Symbol.TheVariants.{Ref}
 use Rattle.ta_core.specs.declared.tree.Tree.{Tree}

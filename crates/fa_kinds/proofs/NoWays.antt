@@ -1,5 +1,5 @@
 -- Without box edges no way leads back: each root is of kind 1, 2 or 4, and the walk goes on only from root to root.
-use Rattle.std.proofs.Common.{◌≡◌, ◌⊎◌, inl, inr, ℕ, List, true≢false, sym, subst, ◌∙◌}
+use Rattle.std.proofs.Common.{◌⊎◌, inl, inr, ℕ, List, true≢false, sym, subst, ◌∙◌}
 use Rattle.fore_base.specs.Lists.{IsIn, Every}
 use Rattle.fore_base.proofs.ListLemmas.{every_in}
 use Rattle.ta_core.specs.Auto.{Automaton}

@@ -1,8 +1,7 @@
 -- A forest whose components are reduced is sound and covers the first one both ways, and it is canonical where that is.
-use Rattle.std.proofs.Common.{◌≡◌, inl, inr, ℕ, ◌<◌, List, [], ◌∷◌, refl, sym, ap, subst, ◌∙◌}
+use Rattle.std.proofs.Common.{◌≡◌, inl, ℕ, ◌<◌, List, [], ◌∷◌, refl, sym, ap, subst, ◌∙◌}
 use Rattle.fore_base.specs.Lists.{IsIn, Every, Paired}
 use Rattle.fore_base.proofs.ListLemmas.{every_in, in_every, in_from_place, paired_weaker}
-use Rattle.fore_base.specs.declared.store.Datum.{Datum}
 use Rattle.ta_core.specs.Auto.{Automaton, IsRanked, IsRankedRule}
 use Rattle.ta_core.specs.Language.{RunOf, run, RunEach, run_none, run_more, InLanguage, HasTree, PassesBy, at_top, below, OnePasses, this_one, later_one, IsTrim, IsWithin}
 use Rattle.ta_core.specs.Simulations.{AutoReduced}
@@ -15,11 +14,10 @@ use Rattle.ta_core.proofs.Runs.{run_tree, tree_of}
 use Rattle.fa_core.specs.Boxless.{IsPlain, HasNoBoxes}
 use Rattle.fa_core.specs.Canonical.{IsCanonical}
 use Rattle.fa_core.specs.Covering.{Covers, Reduced}
-use Rattle.fa_core.specs.Filled.{Choice, ChoiceFilled, SymbolFits, RulesFit, HasSignatures, HasSome, IsSound}
+use Rattle.fa_core.specs.Filled.{Choice, SymbolFits, RulesFit, HasSignatures, HasSome, IsSound}
 use Rattle.fa_core.specs.declared.faces.BoxFace.{BoxFace}
 use Rattle.fa_core.specs.declared.faces.Face.{Face}
 use Rattle.fa_core.specs.declared.forest.Forest.{Forest}
-use Rattle.fa_core.specs.declared.forest.Target.{Target}
 use Rattle.fa_kinds.specs.inner.Reduced.{IsReduction}
 use Rattle.fa_kinds.proofs.Outlined.{smaller_canonical}
 use Rattle.fa_kinds.proofs.Shows.{one_rule}

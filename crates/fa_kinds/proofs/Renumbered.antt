@@ -1,13 +1,13 @@
 -- Where the roots stand in another order, the trees of the reordered forest follow those of the forest, under the new numbers.
-use Rattle.std.proofs.Common.{◌≡◌, ◌↔◌, inl, inr, ℕ, zero, suc, ◌<◌, ◌+◌, Bool, true, false, ◌||◌, true≢false, cond, nat_eq, length, List, [], ◌∷◌, ◌++◌, map, flat_map, refl, sym, ap, ap₂, subst, ◌∙◌, slice_get, Some, not-suc-le-zero, le_of_suc-le-suc, arith}
+use Rattle.std.proofs.Common.{◌≡◌, ◌↔◌, ℕ, zero, suc, ◌<◌, ◌+◌, Bool, true, false, ◌||◌, true≢false, cond, nat_eq, length, List, [], ◌∷◌, ◌++◌, map, flat_map, refl, sym, ap, ap₂, subst, ◌∙◌, slice_get, Some, not-suc-le-zero, le_of_suc-le-suc, arith}
 use Rattle.std.proofs.lemmas.Bool.{eqb-true, eq-eqb}
 use Rattle.std.proofs.lemmas.Option.{none-some, same_Some}
-use Rattle.fore_base.specs.Lists.{IsIn, Every, Paired}
+use Rattle.fore_base.specs.Lists.{IsIn, Paired}
 use Rattle.fore_base.proofs.ListLemmas.{in_map, in_mapped}
 use Rattle.ta_core.specs.declared.symbol.Symbol.{Symbol}
 use Rattle.ta_core.specs.declared.symbol.Symbol.TheVariants.{Null as NullSymbol, Uninit as UninitSymbol, Dangling as DanglingSymbol, Ref, Cell as CellSymbol}
 use Rattle.ta_core.specs.declared.tree.Tree.{Tree, out-Tree, out-roll-Tree}
-use Rattle.fa_core.specs.Canonical.{RefersTo, at_fields, field_trees, references, refs_at, var_roots}
+use Rattle.fa_core.specs.Canonical.{at_fields, field_trees, refs_at, var_roots}
 use Rattle.fa_core.specs.Choices.{bares, count}
 use Rattle.fa_core.specs.Dressed.{Node, Parts, End, Nodes, node, no_parts, field, link, hook, under, leaf, no_nodes, more, refs, end_refs, all_refs}
 use Rattle.fa_core.specs.Member.{OfForest, bare, bare_parts, bare_end, slots_of, leaf_symbol}
@@ -19,7 +19,7 @@ use Rattle.fa_core.specs.declared.forest.Forest.{Forest}
 use Rattle.fa_core.specs.declared.forest.Target.{Target}
 use Rattle.fa_core.specs.declared.forest.Target.TheVariants.{Null, Uninit, Dangling, At}
 use Rattle.fa_core.proofs.Counts.{often_same}
-use Rattle.fa_core.proofs.Dressing.{IsCellSymbol, leaf_top, cell_top}
+use Rattle.fa_core.proofs.Dressing.{leaf_top, cell_top}
 use Rattle.fa_core.proofs.Placing.{refs_placed_end}
 use Rattle.fa_core.proofs.Rearranging.{flat_mapped}
 use Rattle.fa_core.proofs.RootCounts.{references_are}

@@ -7,7 +7,7 @@ use Rattle.ta_core.specs.declared.tree.Tree.{Tree, Tree-F, out-Tree, out-roll-Tr
 use Rattle.fa_core.specs.Ways.{Way, ways, ways_at, roots_met, mark, signature}
 use Rattle.fa_core.specs.declared.signature.RefMark.{RefMark}
 use Rattle.fa_core.proofs.WaysOf.{rolled_ways}
-use Rattle.fa_kinds.specs.Outlines.{Stub, leaf, cell, Outline, outline, stub, stub_by}
+use Rattle.fa_kinds.specs.Outlines.{Stub, leaf, cell, outline, stub, stub_by}
 use Rattle.fa_kinds.specs.Placing.{Placing, all_placed, is_placed, place_now}
 use Rattle.fa_kinds.proofs.Visits.{one_order}
 

@@ -1,6 +1,6 @@
 -- Trees of one signature: the same references, as far as two, the same ways back, and the same fields that box edges give.
-use Rattle.std.proofs.Common.{◌≡◌, ◌⊎◌, ◌↔◌, inl, inr, ℕ, zero, suc, Bool, true, false, true≢false, cond, ◌&&◌, nat_eq, List, [], ◌∷◌, map, flat_map, refl, sym, ap, subst, ◌∙◌, Some, slice_get}
-use Rattle.std.proofs.lemmas.Bool.{eqb-true, eq-eqb}
+use Rattle.std.proofs.Common.{◌≡◌, ◌⊎◌, inl, inr, ℕ, zero, suc, Bool, true, false, true≢false, cond, nat_eq, List, [], ◌∷◌, map, flat_map, refl, sym, ap, subst, ◌∙◌, Some, slice_get}
+use Rattle.std.proofs.lemmas.Bool.{and_parts, and_from, eqb-true, eq-eqb}
 use Rattle.std.proofs.lemmas.Option.{none-some, same_Some}
 use Rattle.fore_base.specs.Lists.{IsIn, Paired}
 use Rattle.fore_base.proofs.ListLemmas.{in_left, in_right, in_append, in_map}
@@ -30,14 +30,6 @@ flat_in f (x ∷ xs) y h = elim (in_append y (f x) (flat_map f xs) h) [
   | inl i ↦ (x, inl refl, i)
   | inr i ↦ (let k = flat_in f xs y i in (k.0, inr k.1, k.2))
 ]
-
-and_right : (a b : Bool) → (a && b) ≡ true → b ≡ true
-and_right true b h = h
-and_right false b h = absurd (true≢false (sym h))
-
-both_true : (a b : Bool) → a ≡ true → b ≡ true → (a && b) ≡ true
-both_true true b h k = k
-both_true false b h k = absurd (true≢false (sym h))
 
 -- The ways that end at a root.
 
@@ -101,11 +93,11 @@ module _ (bs : List BoxFace) where
   reach_in_mark t i r j =
       let there : has r (led t i) ≡ true = in_has r (led t i) j in
       let met : has r (roots_met (ways t)) ≡ true = has_once r (way_roots (ways t)) ∙ collect_in bs (way_roots (ways t)) i (ways t) (tree_in t) r there in
-      has_in r (mark bs (ways t) i).reach (has_filter r (λ (n : ℕ). has n (led t i)) (roots_met (ways t)) ∙ both_true (has r (roots_met (ways t))) (has r (led t i)) met there)
+      has_in r (mark bs (ways t) i).reach (has_filter r (λ (n : ℕ). has n (led t i)) (roots_met (ways t)) ∙ and_from (has r (roots_met (ways t))) (has r (led t i)) met there)
 
   mark_in_reach : (t : Tree) (i r : ℕ) → IsIn r (mark bs (ways t) i).reach → IsIn r (led t i)
   mark_in_reach t i r h =
-      has_in r (led t i) (and_right (has r (roots_met (ways t))) (has r (led t i)) (sym (has_filter r (λ (n : ℕ). has n (led t i)) (roots_met (ways t))) ∙ in_has r (mark bs (ways t) i).reach h))
+      has_in r (led t i) (and_parts (has r (roots_met (ways t))) (has r (led t i)) (sym (has_filter r (λ (n : ℕ). has n (led t i)) (roots_met (ways t))) ∙ in_has r (mark bs (ways t) i).reach h)).1
 
   -- Trees of one signature have one mark for a root to which they refer.
 

@@ -1,7 +1,7 @@
 -- The walk goes the same way on trees of the same signatures.
-use Rattle.std.proofs.Common.{◌≡◌, inl, inr, ℕ, zero, suc, ◌<◌, ◌≤◌, List, [], ◌∷◌, ◌++◌, refl, sym, ap, subst, ◌∙◌, Some, slice_get}
+use Rattle.std.proofs.Common.{◌≡◌, inl, inr, ℕ, zero, suc, List, [], ◌∷◌, ◌++◌, refl, sym, subst}
 use Rattle.ta_core.specs.declared.tree.Tree.{Tree}
-use Rattle.fa_core.specs.Canonical.{LeadsBack, Walks, ended, old, new, again, IsOpen, IsFirstOpen, GoesOn, provides, refs_at}
+use Rattle.fa_core.specs.Canonical.{LeadsBack, Walks, ended, old, new, again, IsOpen, IsFirstOpen, GoesOn, refs_at}
 use Rattle.fa_core.specs.Ways.{ways, roots_met, signature}
 use Rattle.fa_core.specs.declared.faces.BoxFace.{BoxFace}
 use Rattle.fa_kinds.proofs.SameMarks.{AreSigned, signed_back, paired_at, same_roots, leads_too, provides_too}

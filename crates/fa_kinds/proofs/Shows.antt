@@ -1,10 +1,10 @@
 -- One tree of a component that shows whatever any tree of it may show, and what it shows.
-use Rattle.std.proofs.Common.{◌≡◌, inl, inr, ℕ, ◌+◌, Bool, true, false, not, ◌&&◌, ◌||◌, true≢false, nat_eq, length, List, [], ◌∷◌, map, refl, sym, ap, ap₂, subst, ◌∙◌, slice_get, Some, arith}
-use Rattle.std.proofs.lemmas.Bool.{eqb-true, eq-eqb}
+use Rattle.std.proofs.Common.{◌≡◌, inl, inr, ℕ, Bool, true, false, not, ◌&&◌, ◌||◌, true≢false, nat_eq, length, List, [], ◌∷◌, map, refl, sym, ap, ap₂, subst, ◌∙◌, slice_get, arith}
+use Rattle.std.proofs.lemmas.Bool.{and_parts, and_from, or_left, or_right, eqb-true, eq-eqb}
 use Rattle.std.proofs.lemmas.Option.{same_Some}
 use Rattle.fore_base.specs.Lists.{IsIn, Every, Paired}
 use Rattle.fore_base.specs.Marks.{MarksOf, IsMarked, all_marked}
-use Rattle.fore_base.proofs.ListLemmas.{every_in, in_place, in_from_place, only_item, place_of, every_weaker}
+use Rattle.fore_base.proofs.ListLemmas.{every_in, in_from_place, only_item, place_of, every_weaker}
 use Rattle.fore_base.proofs.MarkLemmas.{all_from, all_to}
 use Rattle.ta_core.specs.Arity.{arity, child_slots}
 use Rattle.ta_core.specs.Auto.{Automaton, IsRanked, IsRankedRule}
@@ -61,14 +61,6 @@ ref_is_leaf t k h = ap is_leaf h
 
 -- Cells of a state.
 
-and_parts : (a b : Bool) → (a && b) ≡ true → (a ≡ true) × (b ≡ true)
-and_parts true b h = (refl, h)
-and_parts false b h = absurd (true≢false (sym h))
-
-and_both : (a b : Bool) → a ≡ true → b ≡ true → (a && b) ≡ true
-and_both true b h k = k
-and_both false b h k = absurd (true≢false (sym h))
-
 not_true : (a : Bool) → not a ≡ true → a ≡ false
 not_true true h = absurd (true≢false (sym h))
 not_true false h = refl
@@ -106,20 +98,12 @@ module _ (rules : List Rule) (n : ℕ) (inhabited : List Bool) (marks : MarksOf 
   rule_there : (rs : List Rule) (r : Rule) → IsIn r rs → is_cell_rule inhabited q r ≡ true → has_cell_rule inhabited q rs ≡ true
   rule_there [] r i h = absurd i
   rule_there (x ∷ rs) r (inl e) h = or_left (is_cell_rule inhabited q x) (has_cell_rule inhabited q rs) (subst (λ (z : Rule). is_cell_rule inhabited q z ≡ true) e h)
-    where
-      or_left : (a b : Bool) → a ≡ true → (a || b) ≡ true
-      or_left true b h = refl
-      or_left false b h = absurd (true≢false (sym h))
   rule_there (x ∷ rs) r (inr i) h = or_right (is_cell_rule inhabited q x) (has_cell_rule inhabited q rs) (rule_there rs r i h)
-    where
-      or_right : (a b : Bool) → b ≡ true → (a || b) ≡ true
-      or_right true b h = refl
-      or_right false b h = h
 
   of_cell : (t : Tree) → RunOf rules q t → is_leaf (out-Tree t).symbol ≡ false → has_cell_rule inhabited q rules ≡ true
   of_cell t (run r i s y k) l =
-      rule_there rules r i (and_both (nat_eq r.state q) (not (is_leaf r.symbol) && all_marked inhabited r.children) (eq-eqb r.state q s)
-      (and_both (not (is_leaf r.symbol)) (all_marked inhabited r.children) (not_false (is_leaf r.symbol) (ap is_leaf y ∙ l))
+      rule_there rules r i (and_from (nat_eq r.state q) (not (is_leaf r.symbol) && all_marked inhabited r.children) (eq-eqb r.state q s)
+      (and_from (not (is_leaf r.symbol)) (all_marked inhabited r.children) (not_false (is_leaf r.symbol) (ap is_leaf y ∙ l))
       (all_to inhabited r.children (every_weaker (HasTree rules) (IsMarked inhabited) r.children marks.each (have_trees rules k)))))
 
   no_cell : has_cell_rule inhabited q rules ≡ false → (t : Tree) → RunOf rules q t → is_leaf (out-Tree t).symbol ≡ true

@@ -1,17 +1,17 @@
 -- Where trees stay tame, so do the roots: their kinds, that no other cell is of one, and their order.
-use Rattle.std.proofs.Common.{◌≡◌, inl, inr, ℕ, zero, suc, ◌<◌, List, [], ◌∷◌, length, refl, sym, subst, ◌∙◌, Some, slice_get}
+use Rattle.std.proofs.Common.{◌≡◌, inl, inr, ℕ, zero, suc, ◌<◌, List, [], ◌∷◌, length, refl, sym, subst, Some, slice_get}
 use Rattle.std.proofs.lemmas.Option.{none-some, same_Some}
 use Rattle.fore_base.specs.Lists.{Paired}
 use Rattle.fore_base.proofs.ListLemmas.{paired_long, paired_weaker}
 use Rattle.ta_core.specs.declared.tree.Tree.{Tree}
-use Rattle.fa_core.specs.Canonical.{RefersTo, IsShared, IsLedTo, IsKnot, IsRootKind, IsUntied, Walks, GoesOn, refs_at}
+use Rattle.fa_core.specs.Canonical.{IsLedTo, IsRootKind, IsUntied, Walks, GoesOn, refs_at}
 use Rattle.fa_core.specs.Ways.{signature}
 use Rattle.fa_core.specs.declared.faces.BoxFace.{BoxFace}
 use Rattle.fa_core.specs.declared.forest.Target.{Target}
 use Rattle.fa_kinds.specs.inner.Following.{TreeFollows, Follows, StaysTame}
 use Rattle.fa_kinds.proofs.CountedMarks.{same_times}
 use Rattle.fa_kinds.proofs.Following.{shared_follows, knot_follows, untied_follows}
-use Rattle.fa_kinds.proofs.SameMarks.{AreSigned, signed_back, paired_at, same_roots, met_refers, leads_too}
+use Rattle.fa_kinds.proofs.SameMarks.{AreSigned, paired_at, same_roots, met_refers, leads_too}
 use Rattle.fa_kinds.proofs.SameWalks.{walks_too}
 
 -- the tree in the same place, from the second list

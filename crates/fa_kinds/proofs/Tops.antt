@@ -1,6 +1,6 @@
 -- One root state with one rule, by counting the rules of the state; and numbers that stand in their order.
-use Rattle.std.proofs.Common.{◌≡◌, ◌↔◌, ℕ, zero, suc, ◌+◌, Bool, true, false, ◌&&◌, true≢false, cond, nat_eq, length, List, [], ◌∷◌, refl, sym, ap, ap₂, subst, ◌∙◌, slice_get, Some, arith}
-use Rattle.std.proofs.lemmas.Bool.{eqb-true, eq-eqb}
+use Rattle.std.proofs.Common.{◌≡◌, ◌↔◌, ℕ, zero, suc, ◌+◌, Bool, true, false, true≢false, cond, nat_eq, length, List, [], ◌∷◌, refl, sym, ap, ap₂, ◌∙◌, slice_get, Some, arith}
+use Rattle.std.proofs.lemmas.Bool.{and_parts, eqb-true, eq-eqb}
 use Rattle.std.proofs.lemmas.Option.{none-some, same_Some}
 use Rattle.ta_core.specs.Auto.{Automaton}
 use Rattle.ta_core.specs.Single.{HasOneTop}
@@ -82,10 +82,6 @@ single (y ∷ []) x l e = ap (λ (z : ℕ). z ∷ []) (same_Some y x e)
 single (y ∷ (z ∷ xs)) x l e = absurd (let w : suc (suc (length xs)) ≡ 1 = l in omega (arith, w))
 
 -- Numbers in order.
-
-and_parts : (a b : Bool) → (a && b) ≡ true → (a ≡ true) × (b ≡ true)
-and_parts true b h = (refl, h)
-and_parts false b h = absurd (true≢false (sym h))
 
 pub rises : (k : ℕ) (xs : List ℕ) → rise_from k xs ≡ true → xs ≡ counted k (length xs)
 rises k [] h = refl

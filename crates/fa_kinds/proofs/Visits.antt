@@ -1,8 +1,8 @@
 -- What the walk places: each root that is reached, each once, and in this order each root stands where the walk meets it.
 use Rattle.std.proofs.Common.{◌≡◌, ◌≢◌, ◌⊎◌, inl, inr, ℕ, zero, suc, ◌<◌, ◌≤◌, ◌+◌, Bool, true, false, true≢false, cond, nat_eq, length, List, [], ◌∷◌, ◌++◌, map, refl, sym, ap, ap₂, subst, ◌∙◌, append_assoc, append-nil, arith}
 use Rattle.std.proofs.lemmas.Bool.{eqb-true, eq-eqb}
-use Rattle.fore_base.specs.Lists.{IsIn, Every, IsDistinct}
-use Rattle.fore_base.proofs.ListLemmas.{in_left, in_right, in_append, in_push, in_last, every_push, every_in, distinct_push}
+use Rattle.fore_base.specs.Lists.{IsIn, IsDistinct}
+use Rattle.fore_base.proofs.ListLemmas.{in_left, in_right, in_push, in_last, every_push, every_in, distinct_push}
 use Rattle.fa_core.specs.Canonical.{Walks, ended, old, new, again}
 use Rattle.fa_core.specs.Rearranged.{Rearranged, empty, keep, chain}
 use Rattle.fa_core.specs.References.{AllBelow}

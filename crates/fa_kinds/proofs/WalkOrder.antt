@@ -14,7 +14,6 @@ use Rattle.fa_core.specs.Filled.{Choice, IsSound}
 use Rattle.fa_core.specs.Placed.{placed_leaf, placed_symbol, placed_rule, placed_auto}
 use Rattle.fa_core.specs.References.{AllBelow, tree_refs}
 use Rattle.fa_core.specs.Ways.{ways, roots_met}
-use Rattle.fa_core.specs.declared.faces.BoxFace.{BoxFace}
 use Rattle.fa_core.specs.declared.faces.Face.{Face}
 use Rattle.fa_core.specs.declared.forest.Forest.{Forest}
 use Rattle.fa_core.specs.declared.forest.Target.{Target}

@@ -1,6 +1,6 @@
-use Rattle.std.proofs.Common.{◌∙◌, ap, sym, refl, true≢false}
+use Rattle.std.proofs.Common.{◌∙◌, ap, sym}
 use Rattle.fa_merge.specs.Reordered.{counted}
-use Rattle.fa_kinds.proofs.Exactly.{roots_of_canonical, order_decided}
+use Rattle.fa_kinds.proofs.Exactly.{order_decided}
 use Rattle.fa_kinds.proofs.deciding.is_canonical.Goals as goal
 
 pub returns : goal.returns

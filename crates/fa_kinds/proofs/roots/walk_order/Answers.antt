@@ -1,8 +1,7 @@
-use Rattle.std.proofs.Common.{◌≡◌, ◌∙◌, ℕ, List, [], length, ap, sym, subst}
+use Rattle.std.proofs.Common.{◌≡◌, ◌∙◌, ℕ, List, [], length, subst}
 use Rattle.std.proofs.lemmas.Result.{IfOk-weaker}
 use Rattle.fore_base.proofs.ListLemmas.{paired_long}
 use Rattle.fa_core.specs.Canonical.{var_roots}
-use Rattle.fa_core.specs.References.{AllBelow}
 use Rattle.fa_kinds.specs.Placing.{Placing, IsWalkOrder}
 use Rattle.fa_kinds.specs.inner.Stacks.{AreRefsOf, nth_refs}
 use Rattle.fa_kinds.proofs.WalkOrder.{vars_below, all_refs_below, is_walk}

@@ -1,8 +1,6 @@
-use Rattle.std.proofs.Common.{◌≡◌, ◌<◌, ◌∙◌, ℕ, List, sym, subst}
-use Rattle.fore_base.specs.Lists.{Every}
+use Rattle.std.proofs.Common.{◌∙◌, ℕ, List, subst}
 use Rattle.fore_base.proofs.ListLemmas.{every_in}
-use Rattle.ta_core.specs.Auto.{Automaton, IsRankedRule}
-use Rattle.ta_core.specs.Language.{HasTree}
+use Rattle.ta_core.specs.Auto.{IsRankedRule}
 use Rattle.fa_core.specs.Filled.{HasSome}
 use Rattle.fa_merge.proofs.Signatures.{signatures_at}
 use Rattle.fore_base.proofs.ListLemmas.{in_from_place}

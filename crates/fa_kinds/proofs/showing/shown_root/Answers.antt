@@ -1,6 +1,6 @@
-use Rattle.std.proofs.Common.{◌≡◌, ◌∙◌, List, Some, slice_get, ap, sym, subst}
+use Rattle.std.proofs.Common.{◌≡◌, ◌∙◌, List, Some, slice_get, ap, subst}
 use Rattle.std.proofs.lemmas.Result.{IfOk-weaker}
-use Rattle.fore_base.proofs.ListLemmas.{every_in, in_from_place, only_item, same_item}
+use Rattle.fore_base.proofs.ListLemmas.{every_in, in_from_place, same_item}
 use Rattle.ta_core.specs.Auto.{Automaton}
 use Rattle.ta_core.specs.Single.{HasOneTop}
 use Rattle.ta_core.specs.declared.auto.Rule.{Rule}
