@@ -1,12 +1,11 @@
 -- The step from each kind of front.
-use Rattle.std.proofs.Common.{◌≡◌, Bor, ℕ, Bool, true, false, List, Result, Ok, Err, refl, sym, ap, ◌∙◌}
-use Rattle.fore_base.specs.declared.fault.Fault.{Fault as Kind}
+use Rattle.std.proofs.Common.{◌≡◌, Bor, ℕ, Bool, true, false, List, Ok, refl, sym, ap, ◌∙◌}
 use Rattle.fore_base.specs.declared.shape.Shape.{Shape}
 use Rattle.fore_base.specs.declared.store.Store.{Store}
 use Rattle.fore_base.specs.Stores.{kill}
 use Rattle.c_types.specs.declared.program.Act.{Act}
 use Rattle.c_types.specs.declared.program.Atom.{Atom}
-use Rattle.c_types.specs.Control.{Items, Done, Do, Close, If, Test, Ask, ◌then◌, opened}
+use Rattle.c_types.specs.Control.{Items, Do, Close, Ask, ◌then◌, opened}
 use Rattle.c_types.specs.Steps.{Turn, settle, act_turn, test_turn, turn_of, atom_of}
 use Rattle.c_types.proofs.Plains.{then_done}
 use Rattle.c_machine.specs.declared.items.Front.{Front}

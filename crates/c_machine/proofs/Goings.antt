@@ -14,7 +14,7 @@ use Rattle.c_machine.specs.declared.state.Turn.{Turn}
 use Rattle.c_machine.specs.declared.state.Turn.TheVariants.{Next, Fault, Ended, NeedsChoice}
 use Rattle.c_machine.specs.declared.state.Machine.{Machine}
 use Rattle.c_machine.specs.Machines.{program_of, todo, store_of, over_of, is_done, chosen, Stepped, Answers}
-use Rattle.c_machine.specs.inner.Going.{going, or_none}
+use Rattle.c_machine.specs.inner.Going.{going}
 
 module _ (shapes : List Shape) where
   pub ends_at : (is : Items) (step : ℕ) → is_done is ≡ true → at_end is step ≡ RunEnded step

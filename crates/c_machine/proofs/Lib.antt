@@ -10,7 +10,6 @@ pub mod Lengths
 pub mod Fronts
 pub mod Goings
 pub mod Stepping
-pub mod NodePrograms
 pub mod Kept
 pub mod Holding
 mod Rows

@@ -7,10 +7,10 @@ use Rattle.fore_base.specs.declared.store.Datum.TheVariants.{Undefined}
 use Rattle.fore_base.specs.Stores.{set_each, kill}
 use Rattle.c_types.specs.declared.program.Act.{Act}
 use Rattle.c_types.specs.declared.program.Cond.{Cond}
-use Rattle.c_types.specs.declared.program.Stmt.{Stmt, Stmt-F, map-Stmt, roll-Stmt, ind-Stmt, fold-Stmt, fold-roll-Stmt}
+use Rattle.c_types.specs.declared.program.Stmt.{Stmt, Stmt-F, map-Stmt, roll-Stmt, ind-Stmt, fold-roll-Stmt}
 use Rattle.c_types.specs.declared.program.Stmt.TheVariants.{Do as StmtDo, Branch, While, DoWhile, For, Group, rolls-Do, rolls-Branch, rolls-While, rolls-DoWhile, rolls-For, rolls-Group}
 use Rattle.c_types.specs.declared.program.Stmt.TheOpen.{Do as Do-F, Branch as Branch-F, While as While-F, DoWhile as DoWhile-F, For as For-F, Group as Group-F}
-use Rattle.c_types.specs.Control.{Items, Done, Loop, Again, DoAgain, Test, after_again, from_again, insert, merged, closed_ptrs, closed_datums, all_before, closes, items_step, items_of}
+use Rattle.c_types.specs.Control.{Items, Done, Loop, Test, after_again, from_again, insert, merged, closed_ptrs, closed_datums, all_before, closes, items_step, items_of}
 use Rattle.c_machine.specs.Pending.{block, ends_in_each, ends_step, ends_in, leaving, left_round}
 
 -- Variables that die, in any order

@@ -1,5 +1,5 @@
 -- Worked values, which guard the definitions of specs/Machines.antt: what a machine is at, and what it answers to a step.
-use Rattle.std.proofs.Common.{◌≡◌, ℕ, Bool, true, false, Some, None, [], ◌∷◌, refl, sym, ◌∙◌}
+use Rattle.std.proofs.Common.{◌≡◌, true, false, Some, None, [], ◌∷◌, refl, sym, ◌∙◌}
 use Rattle.fore_base.specs.declared.fault.Fault.TheVariants.{Leak, DoubleFree}
 use Rattle.fore_base.specs.declared.store.Store.{Store}
 use Rattle.c_types.specs.declared.program.Act.TheVariants.{Halt}

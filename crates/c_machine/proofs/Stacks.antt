@@ -1,20 +1,18 @@
 -- The machine's stack and its opening, an entry and a layer at a time.
-use Rattle.std.proofs.Common.{◌≡◌, ◌<◌, ℕ, ◌+◌, List, [], ◌∷◌, ◌++◌, Bool, true, false, map, refl, sym, ap, ◌∙◌, subst, arith}
-use Rattle.c_types.specs.declared.program.Act.{Act}
+use Rattle.std.proofs.Common.{◌≡◌, ℕ, ◌+◌, List, [], ◌∷◌, ◌++◌, map, refl, sym, ap, ◌∙◌, subst, arith}
 use Rattle.c_types.specs.declared.program.Atom.{Atom}
-use Rattle.c_types.specs.declared.program.Atom.TheVariants.{Known as KnownAtom}
 use Rattle.c_types.specs.declared.program.Cond.{Cond, fold-roll-Cond}
 use Rattle.c_types.specs.declared.program.Cond.TheVariants.{Atom as CondAtom, Not as CondNot, All as CondAll, Any as CondAny, rolls-Atom, rolls-Not, rolls-All, rolls-Any}
 use Rattle.c_types.specs.declared.program.Cond.TheOpen.{Atom as Atom-F, Not as Not-F, All as All-F, Any as Any-F}
 use Rattle.c_types.specs.declared.program.Stmt.{Stmt, Stmt-F, map-Stmt, ind-Stmt, fold-roll-Stmt}
-use Rattle.c_types.specs.declared.program.Stmt.TheVariants.{Do as StmtDo, Branch, While, DoWhile, For, Group, rolls-Do, rolls-Branch, rolls-While, rolls-DoWhile, rolls-For, rolls-Group}
+use Rattle.c_types.specs.declared.program.Stmt.TheVariants.{DoWhile, Group, rolls-DoWhile, rolls-Group}
 use Rattle.c_types.specs.declared.program.Stmt.TheOpen.{Do as Do-F, Branch as Branch-F, While as While-F, DoWhile as DoWhile-F, For as For-F, Group as Group-F}
-use Rattle.c_types.specs.Control.{Items, Done, Do, Close, If, Loop, Again, DoLoop, DoAgain, Test, Ask, Not, Both, Either, ◌then◌, ask, round, do_round, open_before, opened, joined, test_step, test_of, all_before, closes, items_step, items_of}
+use Rattle.c_types.specs.Control.{Items, Done, Do, Close, If, Loop, Again, DoLoop, DoAgain, Test, Both, Either, ◌then◌, ask, round, do_round, open_before, opened, joined, test_of, all_before, closes, items_step, items_of}
 use Rattle.c_types.proofs.Plains.{then_done}
 use Rattle.c_types.proofs.Layers.{test-Atom, test-Not, test-All, test-Any, items-Do, items-Branch, items-While, items-For, items-DoWhile, items-Group}
 use Rattle.c_machine.specs.declared.items.Item.{Item}
 use Rattle.c_machine.specs.declared.items.Part.{Part}
-use Rattle.c_machine.specs.Pending.{block, before, onto, pending, Ways, and_then, or_else, through, narrowed, test_before, sum_of, size_step, size_of, weight_step, weight_of, block_weight, item_weight, stack_weight}
+use Rattle.c_machine.specs.Pending.{block, before, onto, Ways, and_then, or_else, through, narrowed, test_before, sum_of, size_step, size_of, weight_step, weight_of, block_weight, item_weight, stack_weight}
 
 -- Items
 

@@ -3,7 +3,7 @@ use Rattle.std.proofs.Common.{◌≡◌, ℕ, Some, None, refl, sym, ap, ◌∙�
 use Rattle.fore_base.specs.declared.fault.Fault.{Fault as Kind}
 use Rattle.c_types.specs.Steps.{Goes, Stops, Faults, mark_of}
 use Rattle.c_types.specs.Steps as steps
-use Rattle.c_machine.specs.declared.acting.Pace.TheVariants.{Goes as PaceGoes, Stops as PaceStops, Faults as PaceFaults}
+use Rattle.c_machine.specs.declared.acting.Pace.TheVariants.{Goes as PaceGoes}
 use Rattle.c_machine.specs.declared.state.Turn.TheVariants.{Next, Fault, Ended}
 use Rattle.c_machine.specs.declared.state.Machine.{Machine}
 use Rattle.c_machine.specs.Machines.{todo, over_of, Stepped}

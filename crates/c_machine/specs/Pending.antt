@@ -1,7 +1,6 @@
 -- What the machine's stack, and what stands before it, mean as pending items.
-use Rattle.std.specs.Prelude.{◌≡◌, ◌++◌, ℕ, zero, suc, ◌+◌, ◌≤◌, List, [], ◌∷◌, map, Bool, true, false, Option, Some, None, length}
+use Rattle.std.specs.Prelude.{◌≡◌, ℕ, ◌+◌, ◌≤◌, List, [], ◌∷◌, map, Bool, true, false}
 use Rattle.std.specs.Vec.{vec_len, vec_capacity}
-use Rattle.c_types.specs.declared.program.Act.{Act}
 use Rattle.c_types.specs.declared.program.Atom.TheVariants.{Known as KnownAtom}
 use Rattle.c_types.specs.declared.program.Cond.{Cond, Cond-F, fold-Cond}
 use Rattle.c_types.specs.declared.program.Cond.TheOpen.{Atom as Atom-F, Not as Not-F, All as All-F, Any as Any-F}

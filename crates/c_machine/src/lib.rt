@@ -26,8 +26,6 @@ mod search;
 mod seats;
 mod spares;
 pub mod state;
-#[cfg(test)]
-mod tests;
 mod values;
 
 pub use crate::state::{Machine, Turn};

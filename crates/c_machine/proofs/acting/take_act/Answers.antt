@@ -1,4 +1,4 @@
-use Rattle.std.proofs.Common.{◌≡◌, ℕ, false, sym, ap, ◌∙◌}
+use Rattle.std.proofs.Common.{◌≡◌, false, sym, ap, ◌∙◌}
 use Rattle.c_types.specs.Control.{Items, after_again, from_again}
 use Rattle.c_types.specs.Losses.{act_loses}
 use Rattle.c_types.specs.Steps.{assign, assign_data, act_turn}

@@ -1,9 +1,8 @@
-use Rattle.std.proofs.Common.{◌≡◌, Vec, List, [], ◌∷◌, ◌++◌, ap, sym, ◌∙◌}
+use Rattle.std.proofs.Common.{◌≡◌, Vec, ap, sym, ◌∙◌}
 use Rattle.std.specs.declared.alloc.Global.{Global}
-use Rattle.c_types.specs.Control.{Items, Done, ◌then◌, opened}
+use Rattle.c_types.specs.Control.{Items, ◌then◌, opened}
 use Rattle.c_machine.specs.declared.items.Item.{Item}
-use Rattle.c_machine.specs.declared.items.Part.{Part}
-use Rattle.c_machine.specs.Pending.{pending, Ways, narrowed, through, ways_of, way}
+use Rattle.c_machine.specs.Pending.{pending, Ways, through, ways_of, way}
 use Rattle.c_machine.proofs.Stacks.{through_parts}
 use Rattle.c_machine.proofs.answering.answer.Goals as goal
 

@@ -1,5 +1,4 @@
-use Rattle.std.proofs.Common.{◌≡◌, ◌+◌, ◌≤◌, length}
-use Rattle.std.specs.Vec.{vec_len, vec_capacity}
+use Rattle.std.proofs.Common.{◌≡◌, length}
 use Rattle.c_machine.specs.Pending.{through, ways_of, way}
 use Rattle.c_machine.proofs.answering.answer.Given as goal
 

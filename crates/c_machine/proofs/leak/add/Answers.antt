@@ -1,5 +1,5 @@
-use Rattle.std.proofs.Common.{◌≡◌, ◌<◌, ◌≤◌, length, arith}
-use Rattle.std.specs.Vec.{vec_len, vec_capacity}
+use Rattle.std.proofs.Common.{◌<◌, length, arith}
+use Rattle.std.specs.Vec.{vec_capacity}
 use Rattle.c_machine.proofs.Marked.{counted_more, fresh_room}
 use Rattle.c_machine.proofs.leak.add.Goals as goal
 

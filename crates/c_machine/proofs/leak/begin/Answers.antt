@@ -1,5 +1,4 @@
-use Rattle.std.proofs.Common.{rules, ◌≡◌, ◌≤◌, List, Bool, false, replicate, length, sym, ap, ◌∙◌, arith}
-use Rattle.std.specs.Vec.{vec_capacity}
+use Rattle.std.proofs.Common.{rules, ◌≡◌, false, replicate, length, sym, ap, ◌∙◌, arith}
 use Rattle.c_machine.specs.inner.Marking.{count_true}
 use Rattle.c_machine.proofs.Marked.{count_none, length_filled}
 use Rattle.c_machine.proofs.leak.begin.Goals as goal

@@ -1,4 +1,4 @@
-use Rattle.std.proofs.Common.{◌≡◌, true, ◌||◌, sym, ap, ◌∙◌}
+use Rattle.std.proofs.Common.{◌||◌, sym, ap, ◌∙◌}
 use Rattle.c_types.specs.Control.{closed_ptrs}
 use Rattle.c_types.specs.Losses.{hold_cell}
 use Rattle.c_machine.specs.Pending.{pending}

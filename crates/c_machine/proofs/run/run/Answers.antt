@@ -1,12 +1,12 @@
-use Rattle.std.proofs.Common.{◌≡◌, ◌≤◌, ◌+◌, ◌-◌, ℕ, suc, List, drop, length, add-one, refl, sym, ap, ◌∙◌, arith}
+use Rattle.std.proofs.Common.{◌≡◌, ◌+◌, ◌-◌, ℕ, suc, List, drop, length, refl, sym, ap, ◌∙◌, arith}
 use Rattle.fore_base.specs.declared.store.Store.{Store}
 use Rattle.fore_base.specs.declared.shape.Shape.{Shape}
 use Rattle.c_types.specs.Program.{Program}
 use Rattle.c_types.specs.Control.{opened, start_of}
-use Rattle.c_types.specs.Runs.{run, empty_store}
+use Rattle.c_types.specs.Runs.{empty_store}
 use Rattle.c_machine.specs.Machines.{program_of, todo, store_of}
 use Rattle.c_machine.specs.inner.Going.{going}
-use Rattle.c_machine.proofs.Goings.{ends_at, runs_on, run_going, same_going}
+use Rattle.c_machine.proofs.Goings.{run_going, same_going}
 use Rattle.c_machine.proofs.run.run.Goals as goal
 
 pub loop-step-init : goal.loop-step-init

@@ -1,5 +1,4 @@
-use Rattle.std.proofs.Common.{◌≡◌, ◌+◌, ℕ, Bool, false, List, Option, Some, drop, sym, ap, ◌∙◌}
-use Rattle.c_types.specs.declared.outcome.Outcome.{Outcome}
+use Rattle.std.proofs.Common.{◌≡◌, ◌+◌, ℕ, false, List, Some, drop, sym, ap, ◌∙◌}
 use Rattle.c_types.specs.Steps.{turn_of, takes, mark_of}
 use Rattle.c_types.specs.Runs.{supply, go, at_end, own_line}
 use Rattle.c_machine.specs.declared.state.Turn.TheVariants.{Next, Fault}

@@ -1,4 +1,4 @@
-use Rattle.std.proofs.Common.{◌≡◌, ◌+◌, ap, arith}
+use Rattle.std.proofs.Common.{◌≡◌, ap, arith}
 use Rattle.c_machine.specs.Pending.{stack_weight, shut_weight}
 use Rattle.c_machine.proofs.items.Control.open_stack.Goals as goal
 

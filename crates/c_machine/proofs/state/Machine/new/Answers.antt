@@ -1,4 +1,4 @@
-use Rattle.std.proofs.Common.{ap, ◌∙◌, length}
+use Rattle.std.proofs.Common.{ap, ◌∙◌}
 use Rattle.fore_base.specs.Heap.{leaks}
 use Rattle.c_machine.proofs.Kept.{empty_kept}
 use Rattle.c_machine.proofs.state.Machine.new.Goals as goal
