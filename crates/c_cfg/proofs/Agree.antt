@@ -7,7 +7,6 @@ pub mod Arrows
 pub mod DataRows
 pub mod Dying
 pub mod FieldsThere
-pub mod Flow
 pub mod LinksOnes
 pub mod OneEdges
 pub mod OtherMarks
@@ -19,5 +18,4 @@ pub mod StepsAlike
 pub mod TempLeaks
 pub mod Temporaries
 pub mod Tested
-pub mod TestsTyped
 pub mod Ways

@@ -24,56 +24,11 @@ use Rattle.c_cfg.specs.Places.{test_places, places}
 use Rattle.c_cfg.specs.Agreement.{IsFaultAt, IsEnded, IsStarved, IsBadAt, Agrees}
 use Rattle.c_cfg.proofs.Agree.Temporaries.{ext0}
 use Rattle.c_cfg.proofs.Agree.Ways.{stepless}
-use Rattle.c_cfg.proofs.Agree.TestsTyped.{TestFits, TestsFit, start_tests_fit}
-use Rattle.c_cfg.proofs.Agree.StepsAlike.{size, AtomThere}
+use Rattle.c_cfg.proofs.Ranged.{Ranged, places_ranged, unmarked, start_ranged}
+use Rattle.c_cfg.proofs.Agree.StepsAlike.{size}
 use Rattle.c_cfg.proofs.Agree.Simulated.{Follows, Still, Stays, longer, fuel, fuel_least, Ready, over, goes_on}
-use Rattle.c_cfg.proofs.Agree.OtherMarks.{go_same, items_marked, tests_marked}
-use Rattle.c_cfg.proofs.Agree.Flow.{each}
-
--- The atoms of all places are typed
-
-every_both : {A : Type 0} (P : A → Type 0) (xs ys : List A) → Every P xs → Every P ys → Every P (xs ++ ys)
-every_both P [] ys h k = k
-every_both P (x ∷ xs) ys h k = (h.0, every_both P xs ys h.1 k)
-
-module _ (p : Program) where
-  test_there : (c : Test) (x y r : Items) → TestFits p c → Every (AtomThere p) (test_places c x y r)
-  test_there (Ask a m) x y r h = (h, tt)
-  test_there (Not c) x y r h = test_there c y x r h
-  test_there (Both c d) x y r h = every_both (AtomThere p) (test_places c (If d x y Done) y r) (test_places d x y r) (test_there c (If d x y Done) y r h.0) (test_there d x y r h.1)
-  test_there (Either c d) x y r h = every_both (AtomThere p) (test_places c x (If d x y Done) r) (test_places d x y r) (test_there c x (If d x y Done) r h.0) (test_there d x y r h.1)
-
-  atoms_there : (is r : Items) → TestsFit p is → Every (AtomThere p) (places is r)
-  atoms_there Done r h = tt
-  atoms_there (Do a m is) r h = (tt, atoms_there is r h)
-  atoms_there (Close ps ds m is) r h = (tt, atoms_there is r h)
-  atoms_there (If c x y is) r h =
-      every_both (AtomThere p) (test_places c x y (is then r)) (places x (is then r) ++ (places y (is then r) ++ places is r)) (test_there c x y (is then r) h.0)
-      (every_both (AtomThere p) (places x (is then r)) (places y (is then r) ++ places is r) (atoms_there x (is then r) h.1)
-      (every_both (AtomThere p) (places y (is then r)) (places is r) (atoms_there y (is then r) h.2) (atoms_there is r h.3)))
-  atoms_there (Loop c n b is) r h =
-      let body : List Items = places b (Again c n b (is then r)) in
-      let next : List Items = places n (Loop c n b (is then r)) in
-      every_both (AtomThere p) (test_places c (round c n b) Done (is then r)) (body ++ (next ++ places is r)) (test_there c (round c n b) Done (is then r) h.0)
-      (every_both (AtomThere p) body (next ++ places is r) (atoms_there b (Again c n b (is then r)) h.2)
-      (every_both (AtomThere p) next (places is r) (atoms_there n (Loop c n b (is then r)) h.1) (atoms_there is r h.3)))
-  atoms_there (Again c n b is) r h =
-      let body : List Items = places b (Again c n b (is then r)) in
-      let next : List Items = places n (Loop c n b (is then r)) in
-      let tests : List Items = test_places c (round c n b) Done (is then r) in
-      every_both (AtomThere p) next (tests ++ (body ++ places is r)) (atoms_there n (Loop c n b (is then r)) h.1)
-      (every_both (AtomThere p) tests (body ++ places is r) (test_there c (round c n b) Done (is then r) h.0)
-      (every_both (AtomThere p) body (places is r) (atoms_there b (Again c n b (is then r)) h.2) (atoms_there is r h.3)))
-  atoms_there (DoLoop c b is) r h =
-      let body : List Items = places b (DoAgain c b (is then r)) in
-      let tests : List Items = test_places c (do_round c b) Done (is then r) in
-      every_both (AtomThere p) body (tests ++ places is r) (atoms_there b (DoAgain c b (is then r)) h.1)
-      (every_both (AtomThere p) tests (places is r) (test_there c (do_round c b) Done (is then r) h.0) (atoms_there is r h.2))
-  atoms_there (DoAgain c b is) r h =
-      let body : List Items = places b (DoAgain c b (is then r)) in
-      let tests : List Items = test_places c (do_round c b) Done (is then r) in
-      every_both (AtomThere p) tests (body ++ places is r) (test_there c (do_round c b) Done (is then r) h.0)
-      (every_both (AtomThere p) body (places is r) (atoms_there b (DoAgain c b (is then r)) h.1) (atoms_there is r h.2))
+use Rattle.c_cfg.proofs.Agree.OtherMarks.{go_same, items_marked}
+use Rattle.c_cfg.proofs.Landing.{each}
 
 -- one bound of all sizes
 
@@ -81,10 +36,10 @@ bound_more : {A : Type 0} (P Q : A → Type 0) (g : A → ℕ) (v w : ℕ) → v
 bound_more P Q g v w h [] e = tt
 bound_more P Q g v w h (x ∷ xs) e = ((e.0.0, e.0.1, omega (arith, e.0.2, h)), bound_more P Q g v w h xs e.1)
 
-record Bounded {A : Type 0} (P Q : A → Type 0) (g : A → ℕ) (xs : List A) : Type 0 where
-  most : ℕ
-  positive : 0 < most
-  each_most : Every (λ x. P x × Q x × (g x ≤ most)) xs
+pub record Bounded {A : Type 0} (P Q : A → Type 0) (g : A → ℕ) (xs : List A) : Type 0 where
+  pub most : ℕ
+  pub positive : 0 < most
+  pub each_most : Every (λ x. P x × Q x × (g x ≤ most)) xs
 
 bounded : {A : Type 0} (P Q : A → Type 0) (g : A → ℕ) (xs : List A) → Every P xs → Every Q xs → Bounded P Q g xs
 bounded P Q g [] h k = record { most = 1; positive = omega arith; each_most = tt }
@@ -162,16 +117,16 @@ from_graph (BadChoice index) r t f s h v = sym f ∙ stays_stepless r t h v
 from_graph StillRunning r t f s h v = absurd (subst IsOver s v)
 
 module _ (p : Program) (typed : is_typed p ≡ true) (g : ControlGraph) (low : LowerOf p g) where
-  abbrev first : Store
+  abbrev pub first : Store
   first = empty_store (length p.vars) (length p.data_vars)
 
   abbrev sizes : Items → ℕ
   sizes c = size (length p.vars) (length p.data_vars) c
 
-  rowed : Bounded (IsRow (length p.vars) (length p.data_vars) g.edges low.line low.at low.mids) (AtomThere p) sizes (places low.items Done)
-  rowed = bounded _ (AtomThere p) sizes (places low.items Done) low.rows (atoms_there p low.items Done (tests_marked low.line p low.items (subst (TestsFit p) (sym low.is_program) (start_tests_fit p typed))))
+  pub rowed : Bounded (IsRow (length p.vars) (length p.data_vars) g.edges low.line low.at low.mids) (Ranged p) sizes (places low.items Done)
+  rowed = bounded _ (Ranged p) sizes (places low.items Done) low.rows (places_ranged p low.items Done (unmarked p low.line low.items (subst (Ranged p) (sym low.is_program) (start_ranged p typed))) tt)
 
-  ready : Ready p typed g.edges low.line low.at low.mids rowed.most low.exit low.items first
+  pub ready : Ready p typed g.edges low.line low.at low.mids rowed.most low.exit low.items first
   ready = record {
     places = each _ low.items Done rowed.each_most;
     fits = items_marked low.line p low.items (subst (ItemsFit p) (sym low.is_program) (start_fits p typed));
@@ -182,7 +137,7 @@ module _ (p : Program) (typed : is_typed p ≡ true) (g : ControlGraph) (low : L
   made : List Value → List Datum → Store
   made vs ds = record { vars = vs; data_vars = ds; cells = []; next = 1 }
 
-  begins : ext0 first ≡ empty_store g.ptrs g.datums
+  pub begins : ext0 first ≡ empty_store g.ptrs g.datums
   unfolding made
   begins =
       ap (λ vs. made vs (replicate (length p.data_vars) Undefined ++ Undefined ∷ Undefined ∷ [])) (two_more (length p.vars) Uninit ∙ ap (λ k. replicate k Uninit) (sym low.ptrs))

@@ -14,7 +14,6 @@ use Rattle.c_types.specs.Steps.{assign, assign_data, free_path, look_at, all_dea
 use Rattle.c_types.specs.Runs.{supply, after_turn, at_end, advance, go, own_line}
 use Rattle.c_types.specs.Fits.{ItemsFit}
 use Rattle.c_cfg.specs.Places.{remark, remark_test}
-use Rattle.c_cfg.proofs.Agree.TestsTyped.{TestFits, TestsFit}
 
 module _ (f : ℕ → ℕ) where
   remark_then : (c d : Items) → remark f (c then d) ≡ remark f c then remark f d
@@ -188,19 +187,3 @@ module _ (f : ℕ → ℕ) where
     items_marked (Again c n b is) h = (items_marked n h.0, items_marked b h.1, items_marked is h.2)
     items_marked (DoLoop c b is) h = (items_marked b h.0, items_marked is h.1)
     items_marked (DoAgain c b is) h = (items_marked b h.0, items_marked is h.1)
-
-    test_marked : (c : Test) → TestFits p (remark_test f c) → TestFits p c
-    test_marked (Ask a m) h = h
-    test_marked (Not c) h = test_marked c h
-    test_marked (Both c d) h = (test_marked c h.0, test_marked d h.1)
-    test_marked (Either c d) h = (test_marked c h.0, test_marked d h.1)
-
-    pub tests_marked : (is : Items) → TestsFit p (remark f is) → TestsFit p is
-    tests_marked Done h = tt
-    tests_marked (Do a m is) h = tests_marked is h
-    tests_marked (Close ps ds m is) h = tests_marked is h
-    tests_marked (If c x y is) h = (test_marked c h.0, tests_marked x h.1, tests_marked y h.2, tests_marked is h.3)
-    tests_marked (Loop c n b is) h = (test_marked c h.0, tests_marked n h.1, tests_marked b h.2, tests_marked is h.3)
-    tests_marked (Again c n b is) h = (test_marked c h.0, tests_marked n h.1, tests_marked b h.2, tests_marked is h.3)
-    tests_marked (DoLoop c b is) h = (test_marked c h.0, tests_marked b h.1, tests_marked is h.2)
-    tests_marked (DoAgain c b is) h = (test_marked c h.0, tests_marked b h.1, tests_marked is h.2)

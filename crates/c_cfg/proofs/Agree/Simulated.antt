@@ -5,14 +5,6 @@ use Rattle.fore_base.specs.declared.store.Store.{Store}
 use Rattle.fore_base.specs.Heap.{IsProper, leaks}
 use Rattle.c_types.specs.declared.outcome.Outcome.{Outcome}
 use Rattle.c_types.specs.declared.outcome.Outcome.TheVariants.{Ended, Fault, Starved, BadChoice, StillRunning}
-use Rattle.c_types.specs.declared.program.PtrRhs.{PtrRhs}
-use Rattle.c_types.specs.declared.program.PtrRhs.TheVariants.{Path as RhsPath, Null as RhsNull, New as RhsNew}
-use Rattle.c_types.specs.declared.program.DataPath.{DataPath}
-use Rattle.c_types.specs.declared.program.DataPath.TheVariants.{Var as DataVar, Field as DataField}
-use Rattle.c_types.specs.declared.program.DataRhs.{DataRhs}
-use Rattle.c_types.specs.declared.program.DataRhs.TheVariants.{Path as DataRhsPath, Known as DataRhsKnown, Choice as DataRhsChoice}
-use Rattle.c_types.specs.declared.program.Act.{Act}
-use Rattle.c_types.specs.declared.program.Act.TheVariants.{SetPtr, SetData, Free, Error, Halt, Return, Break, Continue}
 use Rattle.c_types.specs.declared.program.Atom.{Atom}
 use Rattle.c_types.specs.declared.program.Atom.TheVariants.{Choice as ChoiceAtom, Known as KnownAtom, Ptr as PtrAtom, Data as DataAtom}
 use Rattle.c_types.specs.Program.{Program, is_typed}
@@ -28,12 +20,13 @@ use Rattle.c_cfg.specs.declared.graph.Edge.{Edge}
 use Rattle.c_cfg.specs.Graphs.{has_choice}
 use Rattle.c_cfg.specs.Edges.{Pass, Passed, Faulted, Halted, NotPassed, gstep}
 use Rattle.c_cfg.specs.GraphRuns.{out_of, is_taken_on, after_pass, unless_left, at_location, first_pass, leave, ggo}
-use Rattle.c_cfg.specs.Links.{Link, One, Two, loads, loads_but_last, ends, data_loads, ptr_row, data_row, act_row}
+use Rattle.c_cfg.specs.Links.{Link, One, Two, act_row}
 use Rattle.c_cfg.specs.Lowering.{IsWay, IsTestRow, IsRow}
+use Rattle.c_cfg.proofs.Filling.{Filled, filled_length, act_filled}
 use Rattle.c_cfg.proofs.Agree.Temporaries.{ext0}
 use Rattle.c_cfg.proofs.Agree.Ways.{stepless}
 use Rattle.c_cfg.proofs.Agree.StepsAlike.{IsKnown, size, exit_ends, step_alike}
-use Rattle.c_cfg.proofs.Agree.Flow.{Each, Front, each_opened}
+use Rattle.c_cfg.proofs.Landing.{Each, Front, each_opened}
 
 -- Relations of outcomes
 
@@ -148,61 +141,7 @@ module _ (shapes : List Shape) where
 
 -- Each place's step has an edge
 
-abbrev IsFilled : List Link → Type 0
-IsFilled [] = ⊥
-IsFilled (l ∷ ls) = Unit {0}
-
-front_filled : (ls ms : List Link) → IsFilled ls → IsFilled (ls ++ ms)
-front_filled [] ms h = absurd h
-front_filled (l ∷ ls) ms h = tt
-
-back_filled : (ls ms : List Link) → IsFilled ms → IsFilled (ls ++ ms)
-back_filled [] ms h = h
-back_filled (l ∷ ls) ms h = tt
-
-last_filled : (t b f : ℕ) (fs : List ℕ) (last : ℕ → ℕ → Instr) → IsFilled (loads_but_last t b f fs last)
-last_filled t b f [] last = tt
-last_filled t b f (g ∷ gs) last = tt
-
-filled_size : (ls : List Link) → IsFilled ls → 0 < length ls
-filled_size [] h = absurd h
-filled_size (l ∷ ls) h = omega arith
-
 module _ (nv nd : ℕ) where
-  ptr_row_filled : (x : ℕ) (fs : List ℕ) (from : PtrRhs) → IsFilled (ptr_row nv nd x fs from)
-  ptr_row_filled x [] (RhsPath q) = here q.fields
-    where
-      here : (fs : List ℕ) → IsFilled (ptr_row nv nd x [] (RhsPath (record { var = q.var; fields = fs })))
-      here [] = tt
-      here (f ∷ []) = tt
-      here (f ∷ g ∷ gs) = tt
-  ptr_row_filled x [] RhsNull = tt
-  ptr_row_filled x [] (RhsNew shape) = tt
-  ptr_row_filled x (f ∷ fs) (RhsPath q) = back_filled (loads nv q.var q.fields) (loads_but_last (nv + 1) x f fs _ ++ ends _ []) (front_filled (loads_but_last (nv + 1) x f fs _) (ends _ []) (last_filled (nv + 1) x f fs _))
-  ptr_row_filled x (f ∷ []) RhsNull = tt
-  ptr_row_filled x (f ∷ g ∷ gs) RhsNull = tt
-  ptr_row_filled x (f ∷ fs) (RhsNew shape) = tt
-
-  data_row_filled : (to : DataPath) (from : DataRhs) → IsFilled (data_row nv nd to from)
-  data_row_filled (DataVar x) (DataRhsPath (DataVar y)) = tt
-  data_row_filled (DataVar x) (DataRhsPath (DataField base f)) = front_filled (data_loads nv x (DataField base f)) (ends _ []) (back_filled (loads nv base.var base.fields) (One _ ∷ []) tt)
-  data_row_filled (DataVar x) (DataRhsKnown k) = tt
-  data_row_filled (DataVar x) DataRhsChoice = tt
-  data_row_filled (DataField base f) (DataRhsPath q) = back_filled (data_loads nv nd q) (loads (nv + 1) base.var base.fields ++ One _ ∷ ends _ _) (back_filled (loads (nv + 1) base.var base.fields) (One _ ∷ ends _ _) tt)
-  data_row_filled (DataField base f) (DataRhsKnown k) = back_filled (loads (nv + 1) base.var base.fields) (One _ ∷ ends _ []) tt
-  data_row_filled (DataField base f) DataRhsChoice = tt
-
-  act_filled : (a : Act) (is : Items) → IsFilled (act_row nv nd a is)
-  act_filled (SetPtr to from) is = ptr_row_filled to.var to.fields from
-  act_filled (SetData to from) is = data_row_filled to from
-  act_filled (Free p) is = back_filled (loads nv p.var p.fields) (One _ ∷ ends _ []) tt
-  act_filled Error is = tt
-  act_filled Halt is = tt
-  act_filled (Return None) is = tt
-  act_filled (Return (Some q)) is = back_filled (data_loads nv nd q) (One _ ∷ []) tt
-  act_filled Break is = tt
-  act_filled Continue is = tt
-
   atom_size_least : (a : Atom) (m : ℕ) (x y is : Items) → 0 < size nv nd (If (Ask a m) x y is)
   atom_size_least ChoiceAtom m x y is = omega arith
   atom_size_least (KnownAtom b) m x y is = omega arith
@@ -210,7 +149,7 @@ module _ (nv nd : ℕ) where
   atom_size_least (DataAtom l r e) m x y is = omega arith
 
 -- some edge begins where a way does
-begun : (edges : List Edge) (line : ℕ) (ls : List Link) (k : ℕ) (ms : List ℕ) (to : ℕ) → IsFilled ls → IsWay edges line ls k ms to → (q : ℕ) → at_location edges k q ≡ StillRunning
+begun : (edges : List Edge) (line : ℕ) (ls : List Link) (k : ℕ) (ms : List ℕ) (to : ℕ) → Filled ls → IsWay edges line ls k ms to → (q : ℕ) → at_location edges k q ≡ StillRunning
 begun edges line [] k ms to h w q = absurd h
 begun edges line (l ∷ ls) k [] to h w q = absurd w
 begun edges line (One i ∷ ls) k (m ∷ ms) to h w q = ap (λ es. unless_left es q StillRunning) w.0
@@ -250,12 +189,12 @@ module _ (p : Program) (typed : is_typed p ≡ true) (edges : List Edge) (line :
     pub sound : Sound p s
     pub clear : leaks s ≡ false
 
-  next_ready : (c js : Items) (s t : Store) (x : ℕ) → Ready c s → turn_of p.shapes.structs (opened c) s x ≡ Goes js t → leaks t ≡ false → Each Place js Done → Ready js t
+  pub next_ready : (c js : Items) (s t : Store) (x : ℕ) → Ready c s → turn_of p.shapes.structs (opened c) s x ≡ Goes js t → leaks t ≡ false → Each Place js Done → Ready js t
   next_ready c js s t x ready e clear each =
       let kept : ItemsFit p js × IsProper t × FitsProgram p t = step_keeps p typed c js s t x ready.fits (sound_proper p s ready.sound) (sound_fits p s ready.sound) e in
       record { places = each; fits = kept.0; sound = is_sound p t kept.1 kept.2; clear = clear }
 
-  front_of : (c : Items) (s : Store) → Ready c s → Front Place (opened c)
+  pub front_of : (c : Items) (s : Store) → Ready c s → Front Place (opened c)
   front_of c s ready = each_opened Place c (exit, tt, omega arith) ready.places
 
   over_start : (o : Items) (st m q : ℕ) (g : Store) (cs : List ℕ) (u : ℕ) → Follows (at_end o st) (graph m q (at o) g cs u)
@@ -321,7 +260,7 @@ module _ (p : Program) (typed : is_typed p ≡ true) (edges : List Edge) (line :
 
     step_goes : (o : Items) → Place o → opened c ≡ o → Still (advance p.shapes.structs line at_end (opened c) (λ st js t ds v. source n st js t ds v) st s cs u) (graph (suc n) q (at (opened c)) (ext0 s) cs u)
     step_goes Done h is = ended_at_once (opened c) is
-    step_goes (Do a m js) h is = long (Do a m js) h is (filled_size (act_row (length p.vars) (length p.data_vars) a js) (act_filled (length p.vars) (length p.data_vars) a js))
+    step_goes (Do a m js) h is = long (Do a m js) h is (filled_length (act_row (length p.vars) (length p.data_vars) a js) (act_filled (length p.vars) (length p.data_vars) a js))
     step_goes (Close ps ds m js) h is = long (Close ps ds m js) h is (omega arith)
     step_goes (If (Ask a m) x y js) h is = long (If (Ask a m) x y js) h is (atom_size_least (length p.vars) (length p.data_vars) a m x y js)
     step_goes (If (Not d) x y js) h is = absurd h.0

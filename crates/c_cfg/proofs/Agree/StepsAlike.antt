@@ -28,10 +28,10 @@ use Rattle.c_cfg.proofs.Agree.Temporaries.{ext0}
 use Rattle.c_cfg.proofs.Agree.Passing.{settled_pass, onward_onward}
 use Rattle.c_cfg.proofs.Agree.Tested.{Tests, ptr_tests, data_tests}
 use Rattle.c_cfg.proofs.Agree.ActTurns.{turn_pass, settle_pass, stop_of, kill_passes, act_passes, GoesTo, settle_to, act_to}
-use Rattle.c_cfg.proofs.Agree.TestsTyped.{AtomFits}
 use Rattle.c_cfg.proofs.Agree.Ways.{stepless, AreOnes, graph_run, Meets, after_meets, along, row_alike, test_alike}
 use Rattle.c_cfg.proofs.Agree.LinksOnes.{ends_ones, ptr_ones, cmp_ones, act_row_takes}
-use Rattle.c_cfg.proofs.Agree.Flow.{Each, Front, whole, each_after, each_from}
+use Rattle.c_cfg.proofs.Ranged.{Ranged}
+use Rattle.c_cfg.proofs.Landing.{Each, Front, whole, each_after, each_from}
 
 module _ (nv nd : ℕ) where
   abbrev pub atom_size : Atom → ℕ
@@ -53,20 +53,6 @@ module _ (nv nd : ℕ) where
   size (Again c n b is) = 0
   size (DoLoop c b is) = 0
   size (DoAgain c b is) = 0
-
--- the atom of an opened list, if it begins with one, is typed
-abbrev pub AtomThere : Program → Items → Type 0
-AtomThere p Done = Unit {0}
-AtomThere p (Do a m is) = Unit {0}
-AtomThere p (Close ps ds m is) = Unit {0}
-AtomThere p (If (Ask a m) x y is) = AtomFits p a
-AtomThere p (If (Not c) x y is) = Unit {0}
-AtomThere p (If (Both c d) x y is) = Unit {0}
-AtomThere p (If (Either c d) x y is) = Unit {0}
-AtomThere p (Loop c n b is) = Unit {0}
-AtomThere p (Again c n b is) = Unit {0}
-AtomThere p (DoLoop c b is) = Unit {0}
-AtomThere p (DoAgain c b is) = Unit {0}
 
 -- the side of a test
 abbrev pub side : Items → Items → Items → Bool → Items
@@ -94,11 +80,11 @@ data_compared s l r equal x =
     inner (Err k) = refl
 
 module _ (p : Program) (edges : List Edge) (line : ℕ → ℕ) (at : Items → ℕ) (mids : Items → List ℕ) (most : ℕ) where
-  -- what is known of a place: its row, that its atom is typed, and that it takes no more edges than these
+  -- what is known of a place: its row, that its numbers are in range, and that it takes no more edges than these
   abbrev pub IsKnown : Items → Type 0
-  IsKnown c = IsRow (length p.vars) (length p.data_vars) edges line at mids c × AtomThere p c × (size (length p.vars) (length p.data_vars) c ≤ most)
+  IsKnown c = IsRow (length p.vars) (length p.data_vars) edges line at mids c × Ranged p c × (size (length p.vars) (length p.data_vars) c ≤ most)
 
-  each_followed : (a : Act) (is : Items) → Each IsKnown is Done → Each IsKnown (followed_by a is) Done
+  pub each_followed : (a : Act) (is : Items) → Each IsKnown is Done → Each IsKnown (followed_by a is) Done
   each_followed (SetPtr to from) is h = h
   each_followed (SetData to from) is h = h
   each_followed (Free q) is h = h
@@ -216,13 +202,13 @@ module _ (p : Program) (typed : is_typed p ≡ true) (Rel : Outcome → Outcome 
       atom_step (KnownAtom true) h on = known_way (If (Ask (KnownAtom true) m) x y is) _ (x then is) h.0.0 refl yes_each on
       atom_step (KnownAtom false) h on = known_way (If (Ask (KnownAtom false) m) x y is) _ (y then is) h.0.0 refl no_each on
       atom_step (PtrAtom l r true) h on =
-          compare_step (PtrAtom l r true) true _ _ _ _ (ptr_compared s l r true 0) (ptr_tests p 0 s sound clear l r h.1) (ptr_ones (length p.vars) (length p.data_vars) l r) (ends_ones _ _) _ _ h.0 on
+          compare_step (PtrAtom l r true) true _ _ _ _ (ptr_compared s l r true 0) (ptr_tests p 0 s sound clear l r h.1.0) (ptr_ones (length p.vars) (length p.data_vars) l r) (ends_ones _ _) _ _ h.0 on
       atom_step (PtrAtom l r false) h on =
-          compare_step (PtrAtom l r false) false _ _ _ _ (ptr_compared s l r false 0) (ptr_tests p 0 s sound clear l r h.1) (ptr_ones (length p.vars) (length p.data_vars) l r) (ends_ones _ _) _ _ h.0 on
+          compare_step (PtrAtom l r false) false _ _ _ _ (ptr_compared s l r false 0) (ptr_tests p 0 s sound clear l r h.1.0) (ptr_ones (length p.vars) (length p.data_vars) l r) (ends_ones _ _) _ _ h.0 on
       atom_step (DataAtom l r true) h on =
-          compare_step (DataAtom l r true) true _ _ _ _ (data_compared s l r true 0) (data_tests p 0 s sound clear l r h.1) (cmp_ones (length p.vars) (length p.data_vars) l r) (ends_ones _ _) _ _ h.0 on
+          compare_step (DataAtom l r true) true _ _ _ _ (data_compared s l r true 0) (data_tests p 0 s sound clear l r h.1.0) (cmp_ones (length p.vars) (length p.data_vars) l r) (ends_ones _ _) _ _ h.0 on
       atom_step (DataAtom l r false) h on =
-          compare_step (DataAtom l r false) false _ _ _ _ (data_compared s l r false 0) (data_tests p 0 s sound clear l r h.1) (cmp_ones (length p.vars) (length p.data_vars) l r) (ends_ones _ _) _ _ h.0 on
+          compare_step (DataAtom l r false) false _ _ _ _ (data_compared s l r false 0) (data_tests p 0 s sound clear l r h.1.0) (cmp_ones (length p.vars) (length p.data_vars) l r) (ends_ones _ _) _ _ h.0 on
 
     pub step_alike : (o : Items) → Front Place o → ItemsFit p o → Cont o → Goal o
     step_alike Done h fits on = equal _ _ (sym (exit_ends exit (0 + n) q (ext0 s) cs u))
