@@ -18,4 +18,5 @@ pub mod StepsAlike
 pub mod TempLeaks
 pub mod Temporaries
 pub mod Tested
+pub mod Unstuck
 pub mod Ways

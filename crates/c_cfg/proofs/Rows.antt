@@ -11,3 +11,4 @@ mod Facts
 mod Loopless
 mod Loops
 mod Lowerings
+mod Visiting

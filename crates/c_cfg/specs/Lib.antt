@@ -10,3 +10,4 @@ pub mod LoopFree
 pub mod Lowering
 pub mod Places
 pub mod Ranges
+pub mod Visits

@@ -12,6 +12,7 @@ ghost use Rattle.c_cfg.specs.Alike.{LikePass, IsUnset};
 ghost use Rattle.c_types.specs.Runs.{empty_store};
 ghost use Rattle.fore_base.specs.Heap.{IsProper, IsAlike};
 ghost use Rattle.c_cfg.specs.Ranges.{IsEdgeOf};
+ghost use Rattle.c_cfg.specs.Visits.{IsNeverStuck};
 ghost use Rattle.fore_base.specs.Lists.{IsIn, Every};
 ghost use Rattle.fore_base.specs.declared.store.Store.{Store};
 
@@ -30,6 +31,15 @@ pub fn loop_free_graphs(program: &Typed, graph: &Graph)
 /// program does so after no more steps than the graph after edges.
 pub fn graphs_agree(program: &Typed, graph: &Graph)
     ensures { LowerOf program.now graph.now → Agrees program.now graph.now }
+{
+    let _body = &program.body;
+    let _edges = &graph.edges;
+}
+
+/// No run of a program's graph is stuck: wherever a run comes, on any choices, no edge begins, or on either choice one of those that begin there is
+/// passed, meets a fault, or ends the run.
+pub fn runs_are_never_stuck(program: &Typed, graph: &Graph)
+    ensures { LowerOf program.now graph.now → IsNeverStuck graph.now }
 {
     let _body = &program.body;
     let _edges = &graph.edges;

@@ -1,0 +1,356 @@
+-- No run of a program's graph is stuck: wherever it comes, it is at a place between two steps, on the way through a step, or at a test.
+use Rattle.std.proofs.Common.{◌≡◌, ◌<◌, ◌⊎◌, inl, inr, ◌+◌, ℕ, zero, suc, Bool, true, false, Option, Some, None, Result, Ok, Err, List, [], ◌∷◌, ◌++◌, length, refl, sym, ap, ◌∙◌, subst, arith}
+use Rattle.fore_base.specs.declared.fault.Fault.{Fault as Kind}
+use Rattle.fore_base.specs.declared.store.Store.{Store}
+use Rattle.fore_base.specs.Lists.{IsIn, Every}
+use Rattle.fore_base.specs.Stores.{onward, kill}
+use Rattle.fore_base.specs.Heap.{leaks}
+use Rattle.fore_base.proofs.ListLemmas.{every_in}
+use Rattle.c_types.specs.declared.program.Act.{Act}
+use Rattle.c_types.specs.declared.program.Act.TheVariants.{SetPtr, SetData, Free, Error, Halt, Return, Break, Continue}
+use Rattle.c_types.specs.declared.program.Atom.{Atom}
+use Rattle.c_types.specs.declared.program.Atom.TheVariants.{Choice as ChoiceAtom, Known as KnownAtom, Ptr as PtrAtom, Data as DataAtom}
+use Rattle.c_types.specs.Program.{Program, is_typed}
+use Rattle.c_types.specs.Control.{Items, Done, Do, Close, If, Loop, Again, DoLoop, DoAgain, Test, Ask, Not, Both, Either, ◌then◌, opened}
+use Rattle.c_types.specs.Steps.{Turn, Goes, Stops, Faults, act_takes, settle, act_turn, turn_of}
+use Rattle.c_types.specs.Fits.{ItemsFit}
+use Rattle.c_types.proofs.ItemsTyped.{then_fit, opened_fit}
+use Rattle.c_types.proofs.Turns.{then_done}
+use Rattle.c_cfg.specs.declared.graph.Instr.{Instr}
+use Rattle.c_cfg.specs.declared.graph.Instr.TheVariants.{Kill, Choose}
+use Rattle.c_cfg.specs.declared.graph.Edge.{Edge}
+use Rattle.c_cfg.specs.Graphs.{ControlGraph}
+use Rattle.c_cfg.specs.Edges.{Pass, Passed, Faulted, Halted, NotPassed, onto, if_agreed, raw_step, leak_tested, gstep}
+use Rattle.c_cfg.specs.GraphRuns.{out_of, is_taken_on}
+use Rattle.c_cfg.specs.Links.{Link, One, Two, act_row}
+use Rattle.c_cfg.specs.Lowering.{edge, IsWay, IsTestRow, IsAtomRow, LowerOf, followed_by}
+use Rattle.c_cfg.specs.Visits.{Visits, begin, by_edge, HasWay, IsNeverStuck}
+use Rattle.c_cfg.proofs.Landing.{Each, Front, whole}
+use Rattle.c_cfg.proofs.Filling.{Filled, act_filled}
+use Rattle.c_cfg.proofs.Agree.Temporaries.{ext0}
+use Rattle.c_cfg.proofs.Agree.TempLeaks.{leaks_ext0}
+use Rattle.c_cfg.proofs.Agree.Passing.{then_pass, links_pass, settled_pass}
+use Rattle.c_cfg.proofs.Agree.Tested.{Tests, faults, compares, ptr_tests, data_tests}
+use Rattle.c_cfg.proofs.Agree.ActTurns.{turn_pass, settle_pass, stop_of, kill_passes, act_passes, GoesTo, settle_to, act_to}
+use Rattle.c_cfg.proofs.Agree.Ways.{AreOnes, TakesAs}
+use Rattle.c_cfg.proofs.Agree.LinksOnes.{ends_ones, ptr_ones, cmp_ones, act_row_takes}
+use Rattle.c_cfg.proofs.Agree.StepsAlike.{IsKnown, side, each_followed}
+use Rattle.c_cfg.proofs.Agree.Simulated.{Ready, next_ready, front_of}
+use Rattle.c_cfg.proofs.Agree.Agreed.{first, rowed, ready, begins}
+
+module _ (p : Program) (typed : is_typed p ≡ true) (edges : List Edge) (line : ℕ → ℕ) (at : Items → ℕ) (mids : Items → List ℕ) (most : ℕ) (exit : out_of edges (at Done) ≡ []) where
+  abbrev pass : ℕ → List Link → Store → Pass
+  pass x ls s = links_pass p.shapes.structs x ls s
+
+  abbrev Place : Items → Type 0
+  Place c = IsKnown p edges line at mids most c
+
+  abbrev IsReady : Items → Store → Type 0
+  IsReady c s = Ready p typed edges line at mids most exit c s
+
+  -- Where a run can be
+
+  pub record AtPlace (k : ℕ) (s : Store) : Type 0 where
+    pub items : Items
+    pub store : Store
+    pub is_at : k ≡ at (opened items)
+    pub is_ext : s ≡ ext0 store
+    pub is_ready : IsReady items store
+
+  abbrev Settled : ℕ → Store → Type 0
+  Settled k s = (out_of edges k ≡ []) ⊎ AtPlace k s
+
+  abbrev Lands : (ℕ → Store → Type 0) → ℕ → Pass → Type 0
+  Lands T to (Passed u) = T to u
+  Lands T to (Faulted f) = Unit {0}
+  Lands T to Halted = Unit {0}
+  Lands T to NotPassed = ⊥
+
+  record OnWay (T : ℕ → Store → Type 0) (k : ℕ) (s : Store) : Type 0 where
+    at_line : ℕ
+    links : List Link
+    way : List ℕ
+    to : ℕ
+    leads : IsWay edges at_line links k way to
+    ones : AreOnes links
+    lands : Lands T to (pass 0 links s)
+
+  record AtTest (k : ℕ) (s : Store) : Type 0 where
+    at_line : ℕ
+    if_same : ℕ
+    if_other : ℕ
+    same_test : Instr
+    other_test : Instr
+    tests : out_of edges k ≡ edge at_line k if_same same_test None ∷ edge at_line k if_other other_test None ∷ []
+    compared : Result Bool Kind
+    clear : leaks s ≡ false
+    same_raw : raw_step p.shapes.structs same_test 0 s ≡ onto compared (λ same. if_agreed true same s)
+    other_raw : raw_step p.shapes.structs other_test 0 s ≡ onto compared (λ same. if_agreed false same s)
+    same_on : OnWay Settled if_same s
+    other_on : OnWay Settled if_other s
+
+  abbrev Reached : ℕ → Store → Type 0
+  Reached k s = Settled k s ⊎ AtTest k s
+
+  abbrev Seen : ℕ → Store → Type 0
+  Seen k s = OnWay Reached k s
+
+  -- What an edge leads to is seen too, and one of the edges goes somewhere on either choice.
+  abbrev Good : Store → Edge → Type 0
+  Good s e = (t : Store) → gstep p.shapes.structs e s ≡ Passed t → Seen e.to t
+
+  record StepsOn (es : List Edge) (s : Store) : Type 0 where
+    each_good : Every (Good s) es
+    some_goes : (x : ℕ) → x < 2 → (es ≡ []) ⊎ HasWay p.shapes.structs es x s
+
+  abbrev Steps : ℕ → Store → Type 0
+  Steps k s = StepsOn (out_of edges k) s
+
+  -- Landing
+
+  lands_more : (T U : ℕ → Store → Type 0) → ((k : ℕ) (s : Store) → T k s → U k s) → (to : ℕ) (z : Pass) → Lands T to z → Lands U to z
+  lands_more T U more to (Passed u) h = more to u h
+  lands_more T U more to (Faulted f) h = tt
+  lands_more T U more to Halted h = tt
+  lands_more T U more to NotPassed h = h
+
+  on_way_more : (T U : ℕ → Store → Type 0) → ((k : ℕ) (s : Store) → T k s → U k s) → (k : ℕ) (s : Store) → OnWay T k s → OnWay U k s
+  on_way_more T U more k s w = record { at_line = w.at_line; links = w.links; way = w.way; to = w.to; leads = w.leads; ones = w.ones; lands = lands_more T U more w.to (pass 0 w.links s) w.lands }
+
+  settled_seen : (k : ℕ) (s : Store) → OnWay Settled k s → Seen k s
+  settled_seen k s w = on_way_more Settled Reached (λ k s h. inl h) k s w
+
+  here_seen : (k : ℕ) (s : Store) → Reached k s → Seen k s
+  here_seen k s h = record { at_line = 0; links = []; way = []; to = k; leads = refl; ones = tt; lands = h }
+
+  -- what is left of a way after its first edge
+  after_edge : (T : ℕ → Store → Type 0) (to : ℕ) (z : Pass) (rest : Store → Pass) → Lands T to (then_pass z rest) → (t : Store) → z ≡ Passed t → Lands T to (rest t)
+  after_edge T to z rest h t e = subst (λ y. Lands T to (then_pass y rest)) e h
+
+  no_stop : (T : ℕ → Store → Type 0) (to : ℕ) (z : Pass) (rest : Store → Pass) → Lands T to (then_pass z rest) → z ≡ NotPassed → ⊥
+  no_stop T to z rest h e = subst (λ y. Lands T to (then_pass y rest)) e h
+
+  -- Edges
+
+  no_edges : (s : Store) → StepsOn [] s
+  no_edges s = record { each_good = tt; some_goes = λ x less. inl refl }
+
+  one_edge : (l k m : ℕ) (i : Instr) (s : Store) → (leak_tested (raw_step p.shapes.structs i 0 s) ≡ NotPassed → ⊥) → ((t : Store) → leak_tested (raw_step p.shapes.structs i 0 s) ≡ Passed t → Seen m t) → StepsOn (edge l k m i None ∷ []) s
+  one_edge l k m i s goes good = record { each_good = (good, tt); some_goes = λ x less. inr (record { edge = edge l k m i None; is_there = inl refl; taken = refl; goes = goes }) }
+
+  two_choices : (l k a b : ℕ) (i j : Instr) (s : Store) → (leak_tested (raw_step p.shapes.structs i 0 s) ≡ NotPassed → ⊥) → (leak_tested (raw_step p.shapes.structs j 1 s) ≡ NotPassed → ⊥)
+      → ((t : Store) → leak_tested (raw_step p.shapes.structs i 0 s) ≡ Passed t → Seen a t) → ((t : Store) → leak_tested (raw_step p.shapes.structs j 1 s) ≡ Passed t → Seen b t)
+      → StepsOn (edge l k a i (Some 0) ∷ edge l k b j (Some 1) ∷ []) s
+  two_choices l k a b i j s goes0 goes1 good0 good1 = record { each_good = (good0, (good1, tt)); some_goes = by }
+    where
+      by : (x : ℕ) → x < 2 → ((edge l k a i (Some 0) ∷ edge l k b j (Some 1) ∷ []) ≡ []) ⊎ HasWay p.shapes.structs (edge l k a i (Some 0) ∷ edge l k b j (Some 1) ∷ []) x s
+      by zero less = inr (record { edge = edge l k a i (Some 0); is_there = inl refl; taken = refl; goes = goes0 })
+      by (suc zero) less = inr (record { edge = edge l k b j (Some 1); is_there = inr (inl refl); taken = refl; goes = goes1 })
+      by (suc (suc x)) less = absurd (omega (arith, less))
+
+  on_edges : (k : ℕ) (es : List Edge) (s : Store) → out_of edges k ≡ es → StepsOn es s → Steps k s
+  on_edges k es s is h = subst (λ fs. StepsOn fs s) (sym is) h
+
+  test_steps : (k : ℕ) (s : Store) → AtTest k s → Steps k s
+  test_steps k s h = on_edges k _ s h.tests (by h.compared h.same_raw h.other_raw)
+    where
+      passed_same : (a : Pass) (g t : Store) → a ≡ Passed g → a ≡ Passed t → g ≡ t
+      passed_same a g t u v = let both : Passed g ≡ Passed t = sym u ∙ v in cc
+
+      by : (r : Result Bool Kind) → raw_step p.shapes.structs h.same_test 0 s ≡ onto r (λ same. if_agreed true same s) → raw_step p.shapes.structs h.other_test 0 s ≡ onto r (λ same. if_agreed false same s)
+          → StepsOn (edge h.at_line k h.if_same h.same_test None ∷ edge h.at_line k h.if_other h.other_test None ∷ []) s
+      by (Err x) same other =
+          let p1 : leak_tested (raw_step p.shapes.structs h.same_test 0 s) ≡ Faulted x = ap (λ z. leak_tested z) same in
+          let p2 : leak_tested (raw_step p.shapes.structs h.other_test 0 s) ≡ Faulted x = ap (λ z. leak_tested z) other in
+          record {
+            each_good = ((λ t q. absurd (cc (p1, q))), ((λ t q. absurd (cc (p2, q))), tt));
+            some_goes = λ y less. inr (record { edge = edge h.at_line k h.if_same h.same_test None; is_there = inl refl; taken = refl; goes = λ q. cc (p1, q) });
+          }
+      by (Ok true) same other =
+          let p1 : leak_tested (raw_step p.shapes.structs h.same_test 0 s) ≡ Passed s = ap (λ z. leak_tested z) same ∙ rw h.clear refl in
+          let p2 : leak_tested (raw_step p.shapes.structs h.other_test 0 s) ≡ NotPassed = ap (λ z. leak_tested z) other in
+          record {
+            each_good = ((λ t q. subst (Seen h.if_same) (passed_same _ s t p1 q) (settled_seen h.if_same s h.same_on)), ((λ t q. absurd (cc (p2, q))), tt));
+            some_goes = λ y less. inr (record { edge = edge h.at_line k h.if_same h.same_test None; is_there = inl refl; taken = refl; goes = λ q. cc (p1, q) });
+          }
+      by (Ok false) same other =
+          let p1 : leak_tested (raw_step p.shapes.structs h.same_test 0 s) ≡ NotPassed = ap (λ z. leak_tested z) same in
+          let p2 : leak_tested (raw_step p.shapes.structs h.other_test 0 s) ≡ Passed s = ap (λ z. leak_tested z) other ∙ rw h.clear refl in
+          record {
+            each_good = ((λ t q. absurd (cc (p1, q))), ((λ t q. subst (Seen h.if_other) (passed_same _ s t p2 q) (settled_seen h.if_other s h.other_on)), tt));
+            some_goes = λ y less. inr (record { edge = edge h.at_line k h.if_other h.other_test None; is_there = inr (inl refl); taken = refl; goes = λ q. cc (p2, q) });
+          }
+
+  -- the first edge of a way
+  way_on : (T : ℕ → Store → Type 0) → ((k : ℕ) (s : Store) → T k s → Reached k s) → (l : ℕ) (i : Instr) (ls : List Link) (k : ℕ) (ms : List ℕ) (to : ℕ) (s : Store) → IsWay edges l (One i ∷ ls) k ms to → AreOnes ls → Lands T to (pass 0 (One i ∷ ls) s) → Steps k s
+  way_on T more l i ls k [] to s w ones h = absurd w
+  way_on T more l i ls k (m ∷ ms) to s w ones h =
+      on_edges k (edge l k m i None ∷ []) s w.0
+      (one_edge l k m i s (no_stop T to (leak_tested (raw_step p.shapes.structs i 0 s)) (λ t. pass 0 ls t) h)
+      (λ t e. on_way_more T Reached more m t (record { at_line = l; links = ls; way = ms; to = to; leads = w.1; ones = ones; lands = after_edge T to (leak_tested (raw_step p.shapes.structs i 0 s)) (λ t. pass 0 ls t) h t e })))
+
+  ones_same : (ls : List Link) (x y : ℕ) (s : Store) → AreOnes ls → pass x ls s ≡ pass y ls s
+  ones_same [] x y s h = refl
+  ones_same (Two i j ∷ ls) x y s h = absurd h
+  ones_same (One i ∷ ls) x y s h = here (leak_tested (raw_step p.shapes.structs i 0 s)) (λ t. ones_same ls x y t h)
+    where
+      here : (z : Pass) → ((t : Store) → pass x ls t ≡ pass y ls t) → then_pass z (λ t. pass x ls t) ≡ then_pass z (λ t. pass y ls t)
+      here (Passed t) same = same t
+      here (Faulted f) same = refl
+      here Halted same = refl
+      here NotPassed same = refl
+
+  -- the links of a step
+  row_steps : (takes : Bool) (l : ℕ) (ls : List Link) (k : ℕ) (ms : List ℕ) (to : ℕ) (s : Store) → IsWay edges l ls k ms to → TakesAs takes ls → Filled ls → ((x : ℕ) → Lands Settled to (pass x ls s)) → Steps k s
+  row_steps takes l [] k ms to s w taking filled h = absurd filled
+  row_steps false l (One i ∷ ls) k ms to s w taking filled h = way_on Settled (λ k s u. inl u) l i ls k ms to s w taking (h 0)
+  row_steps false l (Two i j ∷ ls) k ms to s w taking filled h = absurd taking
+  row_steps true l (One i ∷ ls) k ms to s w taking filled h = absurd taking
+  row_steps true l (Two i j ∷ ls) k [] to s w taking filled h = absurd w
+  row_steps true l (Two i j ∷ ls) k (m ∷ ms) to s w taking filled h =
+      on_edges k (edge l k m i (Some 0) ∷ edge l k m j (Some 1) ∷ []) s w.0
+      (two_choices l k m m i j s
+      (no_stop Settled to (leak_tested (raw_step p.shapes.structs i 0 s)) (λ t. pass 0 ls t) (h 0))
+      (no_stop Settled to (leak_tested (raw_step p.shapes.structs j 1 s)) (λ t. pass 1 ls t) (h 1))
+      (λ t e. settled_seen m t (record { at_line = l; links = ls; way = ms; to = to; leads = w.1; ones = taking; lands = after_edge Settled to (leak_tested (raw_step p.shapes.structs i 0 s)) (λ t. pass 0 ls t) (h 0) t e }))
+      (λ t e. settled_seen m t (record { at_line = l; links = ls; way = ms; to = to; leads = w.1; ones = taking; lands = subst (Lands Settled to) (ones_same ls 1 0 t taking) (after_edge Settled to (leak_tested (raw_step p.shapes.structs j 1 s)) (λ t. pass 1 ls t) (h 1) t e) })))
+
+  -- a comparison's row
+  test_row : (l : ℕ) (loads : List Link) (test : Bool → Instr) (ends : List Link) (k : ℕ) (ms : List ℕ) (same other : ℕ) (t : Store) → IsTestRow edges l loads test ends k ms same other → AreOnes loads → AreOnes ends → (compared : Result Bool Kind) → Tests p 0 t loads test ends compared
+      → Settled same (ext0 t) → Settled other (ext0 t) → Steps k (ext0 t)
+  test_row l loads test ends k ms same other t row loads_ones ends_ones' compared tests on_same on_other = go_on loads row.front row.reads loads_ones (lands tests)
+    where
+      lands : Tests p 0 t loads test ends compared → Lands AtTest row.tested (pass 0 loads (ext0 t))
+      lands (faults f reads meets) = subst (Lands AtTest row.tested) (sym reads) tt
+      lands (compares g reads clear tests ended) =
+          subst (Lands AtTest row.tested) (sym reads)
+          (record {
+            at_line = l;
+            if_same = row.if_same;
+            if_other = row.if_other;
+            same_test = test true;
+            other_test = test false;
+            tests = row.compares;
+            compared = compared;
+            clear = clear;
+            same_raw = tests true;
+            other_raw = tests false;
+            same_on = record { at_line = l; links = ends; way = row.after_same; to = same; leads = row.same_ends; ones = ends_ones'; lands = subst (Lands Settled same) (sym ended) on_same };
+            other_on = record { at_line = l; links = ends; way = row.after_other; to = other; leads = row.other_ends; ones = ends_ones'; lands = subst (Lands Settled other) (sym ended) on_other };
+          })
+
+      go_on : (ls : List Link) (front : List ℕ) → IsWay edges l ls k front row.tested → AreOnes ls → Lands AtTest row.tested (pass 0 ls (ext0 t)) → Steps k (ext0 t)
+      go_on [] [] w ones h = test_steps k (ext0 t) (subst (λ j. AtTest j (ext0 t)) (sym w) h)
+      go_on [] (m ∷ front) w ones h = absurd w
+      go_on (One i ∷ ls) front w ones h = way_on AtTest (λ k s u. inr u) l i ls k front row.tested (ext0 t) w ones h
+      go_on (Two i j ∷ ls) front w ones h = absurd ones
+
+  -- A place
+
+  module _ (c : Items) (t : Store) (r : IsReady c t) where
+    -- where a turn leads
+    turn_lands : (turn : Turn) (x : ℕ) (is : Items) (stop : Pass) → turn_of p.shapes.structs (opened c) t x ≡ turn → GoesTo is turn → Each Place is Done → Lands Settled (at (opened is)) stop → Lands Settled (at (opened is)) (turn_pass stop turn)
+    turn_lands (Goes js u) x is stop e to each stops =
+        inr (record { items = js; store = u; is_at = ap (λ z. at (opened z)) (sym to.0); is_ext = refl; is_ready = next_ready p typed edges line at mids most exit c js t u x r e to.1 (subst (λ z. Each Place z Done) (sym to.0) each) })
+    turn_lands Stops x is stop e to each stops = stops
+    turn_lands (Faults f) x is stop e to each stops = tt
+
+    act_stops : (a : Act) (is : Items) → Lands Settled (at (opened (followed_by a is))) (stop_of a t)
+    act_stops (SetPtr to from) is = tt
+    act_stops (SetData to from) is = tt
+    act_stops (Free q) is = tt
+    act_stops Error is = tt
+    act_stops Halt is = tt
+    act_stops (Return operand) is = inl exit
+    act_stops Break is = tt
+    act_stops Continue is = tt
+
+    -- a side of a test
+    on_side : (js : Items) → Each Place js Done → ItemsFit p js → Settled (at (opened js)) (ext0 t)
+    on_side js each fits = inr (record { items = js; store = t; is_at = refl; is_ext = refl; is_ready = record { places = each; fits = fits; sound = r.sound; clear = r.clear } })
+
+    ext_clear : leak_tested (Passed (ext0 t)) ≡ Passed (ext0 t)
+    ext_clear = rw (leaks_ext0 t, r.clear) refl
+
+    -- by an edge that changes nothing
+    taken : (js : Items) → Settled (at (opened js)) (ext0 t) → (u : Store) → leak_tested (Passed (ext0 t)) ≡ Passed u → Seen (at (opened js)) u
+    taken js settled u got =
+        let both : Passed (ext0 t) ≡ Passed u = sym ext_clear ∙ got in
+        let same : ext0 t ≡ u = cc in
+        subst (Seen (at (opened js))) same (here_seen (at (opened js)) (ext0 t) (inl settled))
+
+    goes_somewhere : leak_tested (Passed (ext0 t)) ≡ NotPassed → ⊥
+    goes_somewhere e = cc (ext_clear, e)
+
+    module _ (m : ℕ) (x y is : Items) (yes_on : Settled (at (opened (x then is))) (ext0 t)) (no_on : Settled (at (opened (y then is))) (ext0 t)) where
+      atom_steps : (a : Atom) → Place (If (Ask a m) x y is) → Steps (at (If (Ask a m) x y is)) (ext0 t)
+      atom_steps ChoiceAtom h =
+          on_edges _ _ (ext0 t) h.0.0
+          (two_choices (line m) _ (at (opened (y then is))) (at (opened (x then is))) (Choose None) (Choose None) (ext0 t) goes_somewhere goes_somewhere (taken (y then is) no_on) (taken (x then is) yes_on))
+      atom_steps (KnownAtom true) h = on_edges _ _ (ext0 t) h.0.0 (one_edge (line m) _ (at (opened (x then is))) (Kill [] []) (ext0 t) goes_somewhere (taken (x then is) yes_on))
+      atom_steps (KnownAtom false) h = on_edges _ _ (ext0 t) h.0.0 (one_edge (line m) _ (at (opened (y then is))) (Kill [] []) (ext0 t) goes_somewhere (taken (y then is) no_on))
+      atom_steps (PtrAtom l q true) h = test_row (line m) _ _ _ _ _ _ _ t h.0 (ptr_ones (length p.vars) (length p.data_vars) l q) (ends_ones _ _) _ (ptr_tests p 0 t r.sound r.clear l q h.1.0) yes_on no_on
+      atom_steps (PtrAtom l q false) h = test_row (line m) _ _ _ _ _ _ _ t h.0 (ptr_ones (length p.vars) (length p.data_vars) l q) (ends_ones _ _) _ (ptr_tests p 0 t r.sound r.clear l q h.1.0) no_on yes_on
+      atom_steps (DataAtom l q true) h = test_row (line m) _ _ _ _ _ _ _ t h.0 (cmp_ones (length p.vars) (length p.data_vars) l q) (ends_ones _ _) _ (data_tests p 0 t r.sound r.clear l q h.1.0) yes_on no_on
+      atom_steps (DataAtom l q false) h = test_row (line m) _ _ _ _ _ _ _ t h.0 (cmp_ones (length p.vars) (length p.data_vars) l q) (ends_ones _ _) _ (data_tests p 0 t r.sound r.clear l q h.1.0) no_on yes_on
+
+    place_steps : (o : Items) → opened c ≡ o → Front Place o → ItemsFit p o → Steps (at o) (ext0 t)
+    place_steps Done e h fits = on_edges (at Done) [] (ext0 t) exit (no_edges (ext0 t))
+    place_steps (Do a m is) e h fits =
+        row_steps (act_takes a) (line m) (act_row (length p.vars) (length p.data_vars) a is) (at (Do a m is)) h.0.0.way (at (opened (followed_by a is))) (ext0 t) h.0.0.leads (act_row_takes (length p.vars) (length p.data_vars) a is) (act_filled (length p.vars) (length p.data_vars) a is)
+        (λ x. subst (Lands Settled (at (opened (followed_by a is)))) (sym (act_passes p typed x t r.sound r.clear a is fits.0))
+        (turn_lands (act_turn p.shapes.structs a is t x) x (followed_by a is) (stop_of a t) (ap (λ z. turn_of p.shapes.structs z t x) e) (act_to p.shapes.structs a is t x) (each_followed p edges line at mids most a is h.1.1) (act_stops a is)))
+    place_steps (Close ps ds m is) e h fits =
+        row_steps false (line m) (One (Kill ps ds) ∷ []) (at (Close ps ds m is)) h.0.0.way (at (opened is)) (ext0 t) h.0.0.leads tt tt
+        (λ x. subst (Lands Settled (at (opened is))) (sym (kill_passes p typed x t r.sound r.clear ps ds Halted is))
+        (turn_lands (settle (kill ps ds t) is) x is Halted (ap (λ z. turn_of p.shapes.structs z t x) e) (settle_to (kill ps ds t) is) h.1.1 tt))
+    place_steps (If (Ask a m) x y is) e h fits =
+        atom_steps m x y is
+        (on_side (x then is) (whole Place x is (rw (then_done is) at h.1.1) h.1.3) (then_fit p x is fits.0 fits.2))
+        (on_side (y then is) (whole Place y is (rw (then_done is) at h.1.2) h.1.3) (then_fit p y is fits.1 fits.2)) a h.0
+    place_steps (If (Not d) x y is) e h fits = absurd h.0.0
+    place_steps (If (Both d f) x y is) e h fits = absurd h.0.0
+    place_steps (If (Either d f) x y is) e h fits = absurd h.0.0
+    place_steps (Loop d k b is) e h fits = absurd h.0.0
+    place_steps (Again d k b is) e h fits = absurd h.0.0
+    place_steps (DoLoop d b is) e h fits = absurd h.0.0
+    place_steps (DoAgain d b is) e h fits = absurd h.0.0
+
+  -- Wherever a run can be
+
+  reached_steps : (k : ℕ) (s : Store) → Reached k s → Steps k s
+  reached_steps k s (inl (inl none)) = on_edges k [] s none (no_edges s)
+  reached_steps k s (inl (inr h)) =
+      let base : Steps (at (opened h.items)) (ext0 h.store) =
+      place_steps h.items h.store h.is_ready (opened h.items) refl (front_of p typed edges line at mids most exit h.items h.store h.is_ready) (opened_fit p h.items h.is_ready.fits) in
+      subst (λ j. Steps j s) (sym h.is_at) (subst (λ u. Steps (at (opened h.items)) u) (sym h.is_ext) base)
+  reached_steps k s (inr h) = test_steps k s h
+
+  seen_steps : (k : ℕ) (s : Store) → Seen k s → Steps k s
+  seen_steps k s w = here w.links w.way w.leads w.ones w.lands
+    where
+      here : (ls : List Link) (ms : List ℕ) → IsWay edges w.at_line ls k ms w.to → AreOnes ls → Lands Reached w.to (pass 0 ls s) → Steps k s
+      here [] [] e ones h = subst (λ j. Steps j s) (sym e) (reached_steps w.to s h)
+      here [] (m ∷ ms) e ones h = absurd e
+      here (One i ∷ ls) ms e ones h = way_on Reached (λ k s u. u) w.at_line i ls k ms w.to s e ones h
+      here (Two i j ∷ ls) ms e ones h = absurd ones
+
+module _ (p : Program) (typed : is_typed p ≡ true) (g : ControlGraph) (low : LowerOf p g) where
+  abbrev IsSeen : ℕ → Store → Type 0
+  IsSeen k s = Seen p typed g.edges low.line low.at low.mids (rowed p typed g low).most low.exit k s
+
+  steps : (k : ℕ) (s : Store) → IsSeen k s → StepsOn p typed g.edges low.line low.at low.mids (rowed p typed g low).most low.exit (out_of g.edges k) s
+  steps k s h = seen_steps p typed g.edges low.line low.at low.mids (rowed p typed g low).most low.exit k s h
+
+  same_shapes : g.shapes.structs ≡ p.shapes.structs
+  same_shapes = ap (λ z. z.structs) low.shapes
+
+  visits_seen : {k : ℕ} {s : Store} → Visits g k s → IsSeen k s
+  visits_seen begin =
+      here_seen p typed g.edges low.line low.at low.mids (rowed p typed g low).most low.exit 0 _
+      (inl (inr (record { items = low.items; store = first p typed g low; is_at = sym low.entry; is_ext = sym (begins p typed g low); is_ready = ready p typed g low })))
+  visits_seen (by_edge {k} {s} {t} e before there got) =
+      every_in (Good p typed g.edges low.line low.at low.mids (rowed p typed g low).most low.exit s) (out_of g.edges k) e ((steps k s (visits_seen before)).each_good) there t (subst (λ shapes. gstep shapes e s ≡ Passed t) same_shapes got)
+
+  pub never_stuck : IsNeverStuck g
+  never_stuck k s visits x less = subst (λ shapes. (out_of g.edges k ≡ []) ⊎ HasWay shapes (out_of g.edges k) x s) (sym same_shapes) ((steps k s (visits_seen visits)).some_goes x less)
