@@ -13,3 +13,4 @@ pub mod SpotRules
 pub mod StructFields
 pub mod Typed
 pub mod Witnesses
+mod Rows

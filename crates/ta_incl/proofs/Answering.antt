@@ -16,7 +16,7 @@ use Rattle.ta_incl.specs.declared.found.Found.{Found}
 use Rattle.ta_incl.specs.declared.inclusion.Pair.{Pair}
 use Rattle.ta_incl.specs.declared.inclusion.Inclusion.{Inclusion}
 use Rattle.ta_incl.specs.declared.inclusion.Inclusion.TheVariants.{Yes, No}
-use Rattle.ta_incl.specs.inner.Founds.{HaveStates, sets_of, Covers, AreDerived, AreApart, CoversRule, CoversRules, IsFailing, IsExplored, IsTreeAt, IsThinned, IsPairOf}
+use Rattle.ta_incl.specs.inner.Founds.{HaveStates, sets_of, IsCover, AreDerived, AreApart, CoversRule, CoversRules, IsFailing, IsExplored, IsTreeAt, IsThinned, IsPairOf}
 use Rattle.ta_incl.specs.Inclusions.{IsSubset, IsAntichain, Leads, IsClosed, MeetsRoots, IsMissing, IfYes, IfNo}
 use Rattle.ta_incl.specs.inner.Answers.{Answers}
 use Rattle.ta_incl.proofs.Trees.{tree_found}
@@ -83,7 +83,7 @@ module _ (a b : Automaton) (found : List Found) (closed : CoversRules b found fo
       (m.0, m.1, f.3 m.0 m.2)
 
 -- a pair whose set is within that of another one of its state covers it
-covers_pair : (f g : Found) (x y : Pair) → IsPairOf f x → IsPairOf g y → x.state ≡ y.state → IsSubset x.set y.set → Covers f g.state g.marks
+covers_pair : (f g : Found) (x y : Pair) → IsPairOf f x → IsPairOf g y → x.state ≡ y.state → IsSubset x.set y.set → IsCover f g.state g.marks
 covers_pair f g x y h k s i = (sym h.0 ∙ s ∙ k.0, λ q m. (k.1 q).0 (every_in (λ (p : ℕ). IsIn p y.set) x.set q i ((h.1 q).1 m)))
 
 antichain : (kept : List Found) (pairs : List Pair) → AreApart kept → Paired IsPairOf kept pairs → IsAntichain pairs
@@ -93,11 +93,11 @@ antichain (f ∷ kept) [] h p i j x y e d s k = absurd p
 antichain (f ∷ kept) (z ∷ pairs) h p zero zero x y e d s k = refl
 antichain (f ∷ kept) (z ∷ pairs) h p zero (suc j) x y e d s k =
     let g = partner_of IsPairOf kept pairs y p.1 (in_from_place pairs j y d) in
-    let apart = every_in (λ (u : Found). (Covers f u.state u.marks → ⊥) × (Covers u f.state f.marks → ⊥)) kept g.0 h.0 g.1 in
+    let apart = every_in (λ (u : Found). (IsCover f u.state u.marks → ⊥) × (IsCover u f.state f.marks → ⊥)) kept g.0 h.0 g.1 in
     absurd (apart.0 (covers_pair f g.0 x y (subst (IsPairOf f) (same_Some z x e) p.0) g.2 s k))
 antichain (f ∷ kept) (z ∷ pairs) h p (suc i) zero x y e d s k =
     let g = partner_of IsPairOf kept pairs x p.1 (in_from_place pairs i x e) in
-    let apart = every_in (λ (u : Found). (Covers f u.state u.marks → ⊥) × (Covers u f.state f.marks → ⊥)) kept g.0 h.0 g.1 in
+    let apart = every_in (λ (u : Found). (IsCover f u.state u.marks → ⊥) × (IsCover u f.state f.marks → ⊥)) kept g.0 h.0 g.1 in
     absurd (apart.1 (covers_pair g.0 f x y g.2 (subst (IsPairOf f) (same_Some z y d) p.0) s k))
 antichain (f ∷ kept) (z ∷ pairs) h p (suc i) (suc j) x y e d s k = ap suc (antichain kept pairs h.1 p.1 i j x y e d s k)
 
@@ -125,7 +125,7 @@ module _ (a b : Automaton) (found kept : List Found) (pairs : List Pair) (thin :
   closed_pairs closed r xs y i for g =
       let w = items_for r.children xs for in
       let c = every_in (CoversRule b found found) a.rules r closed i w.0 w.1 w.2 in
-      let k = every_in (λ (f : Found). (z : Found) × IsIn z kept × Covers z f.state f.marks) found c.0 thin.cover c.1 in
+      let k = every_in (λ (f : Found). (z : Found) × IsIn z kept × IsCover z f.state f.marks) found c.0 thin.cover c.1 in
       let z = partner_for IsPairOf kept pairs k.0 of k.1 in (
         z.0,
         z.1,

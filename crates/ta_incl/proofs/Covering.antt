@@ -8,14 +8,14 @@ use Rattle.ta_core.specs.Tops.{Tops}
 use Rattle.ta_core.specs.declared.auto.Rule.{Rule}
 use Rattle.fore_base.proofs.ListLemmas.{every_append, every_push, every_weaker, in_append, in_left, in_right}
 use Rattle.ta_incl.specs.declared.found.Found.{Found}
-use Rattle.ta_incl.specs.inner.Founds.{AreAt, HaveStates, sets_of, Covers, HasCover, AreFresh, IsFrom, IsCovered, Widens}
+use Rattle.ta_incl.specs.inner.Founds.{AreAt, HaveStates, sets_of, IsCover, HasCover, AreFresh, IsFrom, IsCovered, Widens}
 use Rattle.ta_incl.proofs.Places.{every_pop, paired_last, read_item}
 
 -- a new pair that none covers
 pub fresh_push : (found : List Found) (x : Found) → AreFresh found → (HasCover found x.state x.marks → ⊥) → AreFresh (found ++ x ∷ [])
 fresh_push [] x h f = (tt, tt)
 fresh_push (g ∷ found) x h f = (
-  every_push (λ y. Covers g y.state y.marks → ⊥) found x h.0 (λ k. f (g, inl refl, k)),
+  every_push (λ y. IsCover g y.state y.marks → ⊥) found x h.0 (λ k. f (g, inl refl, k)),
   fresh_push found x h.1 (λ k. f (k.0, inr k.1, k.2)),
 )
 
@@ -42,9 +42,9 @@ pub cover_new : (found before after : List Found) (x : Found) → after ≡ befo
 cover_new found before after x e = (x, rw e (in_right x found (before ++ x ∷ []) (in_right x before (x ∷ []) (inl refl))), (refl, λ q m. m))
 
 -- the last pair off
-pub fresh_pop : (found : List Found) (x : Found) → AreFresh (found ++ x ∷ []) → AreFresh found × Every (λ f. Covers f x.state x.marks → ⊥) found
+pub fresh_pop : (found : List Found) (x : Found) → AreFresh (found ++ x ∷ []) → AreFresh found × Every (λ f. IsCover f x.state x.marks → ⊥) found
 fresh_pop [] x h = (tt, tt)
-fresh_pop (g ∷ found) x h = let r = fresh_pop found x h.1 in let k = every_pop (λ y. Covers g y.state y.marks → ⊥) found x h.0 in ((k.0, r.0), (k.1, r.1))
+fresh_pop (g ∷ found) x h = let r = fresh_pop found x h.1 in let k = every_pop (λ y. IsCover g y.state y.marks → ⊥) found x h.0 in ((k.0, r.0), (k.1, r.1))
 
 module _ (P : Found → Type 0) (old : List Found) where
   -- one more pair

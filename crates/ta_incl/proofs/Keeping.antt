@@ -4,7 +4,7 @@ use Rattle.fore_base.specs.Lists.{IsIn, Every}
 use Rattle.fore_base.specs.Marks.{IsMarked}
 use Rattle.fore_base.proofs.ListLemmas.{every_in, every_push, every_weaker, in_append, in_every, in_left, in_right}
 use Rattle.ta_incl.specs.declared.found.Found.{Found}
-use Rattle.ta_incl.specs.inner.Founds.{Covers, HasCover, AreFresh, AreApart, IsThinned}
+use Rattle.ta_incl.specs.inner.Founds.{IsCover, HasCover, AreFresh, AreApart, IsThinned}
 use Rattle.ta_incl.proofs.Covering.{cover_left, fresh_pop}
 use Rattle.ta_incl.proofs.Places.{every_pop}
 
@@ -14,19 +14,19 @@ pub record Thinning (found rest kept : List Found) : Type 0 where
   pub left : Every (λ f. IsIn f found) rest
   pub fresh : AreFresh rest
   pub apart : AreApart kept
-  pub ahead : Every (λ k. Every (λ f. Covers f k.state k.marks → ⊥) rest) kept
+  pub ahead : Every (λ k. Every (λ f. IsCover f k.state k.marks → ⊥) rest) kept
   pub cover : (f : Found) → IsIn f found → IsIn f rest ⊎ HasCover kept f.state f.marks
 
 pub thin_start : (found : List Found) → AreFresh found → Thinning found found []
 thin_start found h = record { of = tt; left = in_every _ found (λ f i. i); fresh = h; apart = tt; ahead = tt; cover = λ f i. inl i }
 
-apart_push : (kept : List Found) (x : Found) → AreApart kept → Every (λ g. (Covers g x.state x.marks → ⊥) × (Covers x g.state g.marks → ⊥)) kept → AreApart (kept ++ x ∷ [])
+apart_push : (kept : List Found) (x : Found) → AreApart kept → Every (λ g. (IsCover g x.state x.marks → ⊥) × (IsCover x g.state g.marks → ⊥)) kept → AreApart (kept ++ x ∷ [])
 apart_push [] x h k = (tt, tt)
 apart_push (g ∷ kept) x h k = (every_push _ kept x h.0 k.0, apart_push kept x h.1 k.1)
 
 module _ (found rest kept : List Found) (x : Found) (h : Thinning found (rest ++ x ∷ []) kept) where
-  heads : Every (λ k. Every (λ f. Covers f k.state k.marks → ⊥) rest) kept
-  heads = every_weaker _ _ kept (λ k e. (every_pop (λ f. Covers f k.state k.marks → ⊥) rest x e).0) h.ahead
+  heads : Every (λ k. Every (λ f. IsCover f k.state k.marks → ⊥) rest) kept
+  heads = every_weaker _ _ kept (λ k e. (every_pop (λ f. IsCover f k.state k.marks → ⊥) rest x e).0) h.ahead
 
   -- a pair that no kept one covers is kept
   pub thin_keep : (HasCover kept x.state x.marks → ⊥) → Thinning found rest (kept ++ x ∷ [])
@@ -36,13 +36,13 @@ module _ (found rest kept : List Found) (x : Found) (h : Thinning found (rest ++
     fresh = (fresh_pop rest x h.fresh).0;
     apart = apart_push kept x h.apart (in_every _ kept (λ g i. (
       λ c. f (g, i, c),
-      (every_pop (λ y. Covers y g.state g.marks → ⊥) rest x (every_in _ kept g h.ahead i)).1,
+      (every_pop (λ y. IsCover y g.state g.marks → ⊥) rest x (every_in _ kept g h.ahead i)).1,
     )));
     ahead = every_push _ kept x heads (fresh_pop rest x h.fresh).1;
     cover = λ g i. elim (h.cover g i) [
       | inl j ↦ (elim (in_append g rest (x ∷ []) j) [
         | inl k ↦ inl k
-        | inr (inl e) ↦ inr (x, in_right x kept (x ∷ []) (inl refl), subst (λ (y : Found). Covers x y.state y.marks) (sym e) (refl, λ q m. m))
+        | inr (inl e) ↦ inr (x, in_right x kept (x ∷ []) (inl refl), subst (λ (y : Found). IsCover x y.state y.marks) (sym e) (refl, λ q m. m))
         | inr (inr k) ↦ absurd k
       ])
       | inr c ↦ inr (cover_left kept (x ∷ []) g.state g.marks c)

@@ -1,7 +1,7 @@
 // The pairs that the search has found, and which of them cover which.
 
 ghost use Rattle.std.specs.Prelude.{◌≡◌, ◌↔◌, ◌++◌, false, slice_index_or, IsTrue, IfOk};
-ghost use Rattle.ta_incl.specs.inner.Founds.{IsPart, Covers, HasCover, AreLasting};
+ghost use Rattle.ta_incl.specs.inner.Founds.{IsPart, IsCover, HasCover, AreLasting};
 
 use fore_base::list::List;
 use fore_base::memory::Mem;
@@ -51,7 +51,7 @@ pub fn lasting(alloc: Global, found: &[Found]) -> Mem<List<bool>>
 
 /// Whether the pair has this state, and a set within these marks.
 fn covers(pair: &Found, state: u32, marks: &[bool]) -> bool
-    ensures { IsTrue result ↔ Covers pair.now state marks.now }
+    ensures { IsTrue result ↔ IsCover pair.now state marks.now }
 {
     pair.state == state && are_part(pair.marks.as_slice(), marks)
 }

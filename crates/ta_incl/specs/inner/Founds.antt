@@ -16,22 +16,22 @@ abbrev pub IsPart : List Bool → List Bool → Type 0
 IsPart ms ns = (q : ℕ) → IsMarked ms q → IsMarked ns q
 
 -- the pair has the state, and a set within the marks
-abbrev pub Covers : Found → ℕ → List Bool → Type 0
-Covers f q marks = (f.state ≡ q) × IsPart f.marks marks
+abbrev pub IsCover : Found → ℕ → List Bool → Type 0
+IsCover f q marks = (f.state ≡ q) × IsPart f.marks marks
 
 -- one of the pairs does
 abbrev pub HasCover : List Found → ℕ → List Bool → Type 0
-HasCover found q marks = (f : Found) × IsIn f found × Covers f q marks
+HasCover found q marks = (f : Found) × IsIn f found × IsCover f q marks
 
 -- no pair is covered by an earlier one
 abbrev pub AreFresh : List Found → Type 0
 AreFresh [] = Unit {0}
-AreFresh (f ∷ fs) = Every (λ g. Covers f g.state g.marks → ⊥) fs × AreFresh fs
+AreFresh (f ∷ fs) = Every (λ g. IsCover f g.state g.marks → ⊥) fs × AreFresh fs
 
 -- no pair is covered by another one
 abbrev pub AreApart : List Found → Type 0
 AreApart [] = Unit {0}
-AreApart (f ∷ fs) = Every (λ g. (Covers f g.state g.marks → ⊥) × (Covers g f.state f.marks → ⊥)) fs × AreApart fs
+AreApart (f ∷ fs) = Every (λ g. (IsCover f g.state g.marks → ⊥) × (IsCover g f.state f.marks → ⊥)) fs × AreApart fs
 
 -- the pairs stand at these places of the list
 abbrev pub AreAt : List Found → List ℕ → List Found → Type 0
