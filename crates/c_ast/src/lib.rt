@@ -1,4 +1,4 @@
-// The syntax trees of the accepted C: one type for each rule of the grammar, and how deep a tree is.
+//! The syntax trees of the accepted C: one type for each rule of the grammar, and how deep a tree is.
 #![tactic(auto)]
 
 pub mod conditions;

@@ -1,3 +1,5 @@
+// Why a list of tokens is no unit.
+
 use fore_base::place::Place;
 use std::alloc::AllocError;
 use thiserror::Error;

@@ -1,3 +1,5 @@
+// What a token is to the grammar.
+
 ghost use Rattle.std.specs.Prelude.{◌≡◌, nat_eq};
 ghost use Rattle.std.specs.Cmp.Lexicographic.{pointwise};
 ghost use Rattle.c_grammar.specs.Signs.{sign_in, sign_as, reserved, marks};

@@ -4,7 +4,7 @@ use Rattle.std.proofs.lemmas.List.{append-nil, take_all}
 use Rattle.fore_base.specs.declared.place.Place.{Place}
 use Rattle.c_lexer.specs.inner.Found.{IsFound}
 use Rattle.c_lexer.specs.Places.{is_fresh}
-use Rattle.c_lexer.specs.inner.Readings.{Leads, Refuses}
+use Rattle.c_lexer.specs.inner.Readings.{ReadsOn, Refuses}
 use Rattle.c_lexer.specs.Refusals.{IsRefusal}
 use Rattle.c_lexer.specs.inner.Steps.{cursor_after}
 use Rattle.c_lexer.specs.Tokens.{Reads, Tokens, LacksToken, LacksClose}
@@ -26,11 +26,11 @@ module _ (text : List ℕ) (at : ℕ) (cursor : Cursor) (here : cursor ≡ curso
       let rest = take_all (length text - at) (drop at text) (omega (arith, length-drop at text)) in
       subst (λ f. IsFound f (drop at text) s) (ap (λ (c : Cursor). c.fresh) here) (subst (λ r. IsFound cursor.fresh r s) rest h)
 
-  pub leads_skip : (found : List Token) (n : ℕ) → IsFound cursor.fresh (take (length text - at) (drop at text)) (Skip n) → Leads text at found (at + n) found
+  pub leads_skip : (found : List Token) (n : ℕ) → IsFound cursor.fresh (take (length text - at) (drop at text)) (Skip n) → ReadsOn text at found (at + n) found
   leads_skip found n h = λ ts e r. (ts, skip (found_here (Skip n) h).0 r, refl)
 
   pub leads_take : (found more : List Token) (kind : TokKind) (n : ℕ) → IsFound cursor.fresh (take (length text - at) (drop at text)) (Take kind n) →
-      more ≡ found ++ record { kind = kind; text = take (at + n - at) (drop at text); at = cursor.place } ∷ [] → Leads text at found (at + n) more
+      more ≡ found ++ record { kind = kind; text = take (at + n - at) (drop at text); at = cursor.place } ∷ [] → ReadsOn text at found (at + n) more
   leads_take found more kind n h added = λ ts e r. (
     token ∷ ts,
     next (found_here (Take kind n) h).0 (ap (λ m. take m (drop at text)) (omega arith)) (ap (λ (c : Cursor). c.place) here) r,
@@ -47,19 +47,19 @@ module _ (text : List ℕ) (at : ℕ) (cursor : Cursor) (here : cursor ≡ curso
   refuses_stuck h = stuck (found_here Nothing h) (ap (λ (c : Cursor). c.place) here)
 
 -- at the end the tokens found are those of the text
-pub read_whole : (text : List ℕ) (at : ℕ) (found : List Token) → at ≤ length text → length text ≤ at → Leads text 0 [] at found → Tokens text found
+pub read_whole : (text : List ℕ) (at : ℕ) (found : List Token) → at ≤ length text → length text ≤ at → ReadsOn text 0 [] at found → Tokens text found
 read_whole text at found within over leads =
     let r = leads [] whole (ended (omega arith)) in
     subst (λ ts. Reads text 0 ts whole) (r.2 ∙ append-nil found) r.1
 
 -- what is refused at a place is the text's refusal
-pub refused_here : (text : List ℕ) (at : ℕ) (found : List Token) (fault : LexFault) → Leads text 0 [] at found → Refuses text at fault → IsRefusal text fault
+pub refused_here : (text : List ℕ) (at : ℕ) (found : List Token) (fault : LexFault) → ReadsOn text 0 [] at found → Refuses text at fault → IsRefusal text fault
 refused_here text at found (L1 place) leads r = let whole_reading = leads [] (no_token place) r in (whole_reading.0, whole_reading.1)
 refused_here text at found (L2 place) leads r = let whole_reading = leads [] (unclosed place) r in (whole_reading.0, whole_reading.1)
 refused_here text at found Memory leads r = tt
 
 -- one step after another
-pub leads_on : (text : List ℕ) (a b c : ℕ) (xs ys zs : List Token) → Leads text a xs b ys → Leads text b ys c zs → Leads text a xs c zs
+pub leads_on : (text : List ℕ) (a b c : ℕ) (xs ys zs : List Token) → ReadsOn text a xs b ys → ReadsOn text b ys c zs → ReadsOn text a xs c zs
 leads_on text a b c xs ys zs p q = λ ts e r.
     let later = q ts e r in
     let whole_reading = p later.0 e later.1 in

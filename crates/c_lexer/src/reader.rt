@@ -2,7 +2,7 @@
 ghost use Rattle.std.specs.Prelude.{◌≡◌, ◌⊎◌, ◌≤◌, ◌<◌, ◌+◌, ◌++◌, [], ◌∷◌, List, Ok, Err, length, take, IfOk, IfErr, OnOk};
 ghost use Rattle.fore_base.specs.declared.place.Place.{Place};
 ghost use Rattle.c_lexer.specs.declared.token.Token.{Token};
-ghost use Rattle.c_lexer.specs.inner.Readings.{Leads, Refuses};
+ghost use Rattle.c_lexer.specs.inner.Readings.{ReadsOn, Refuses};
 ghost use Rattle.c_lexer.specs.Refusals.{IsRefusal};
 ghost use Rattle.c_lexer.specs.inner.Steps.{cursor_after};
 ghost use Rattle.c_lexer.specs.Tokens.{Tokens, LacksToken, LacksClose};
@@ -43,7 +43,7 @@ fn read_piece(
     requires within { at < length text.now }
     requires here { cursor ≡ cursor_after (take at text.now) }
     ensures moves { IfOk result (λ size. (0 < size) × (at + size ≤ length text.now)) }
-    ensures leads { IfOk result (λ size. Leads text.now at found.old (at + size) found.new) }
+    ensures leads { IfOk result (λ size. ReadsOn text.now at found.old (at + size) found.new) }
     ensures err { IfErr result (Refuses text.now at) }
 {
     match next_step(&text[at..], cursor.fresh) {
