@@ -1,0 +1,11 @@
+//! Tests of canonical forests: forests worked out by hand.
+#![tactic(auto)]
+
+#[cfg(test)]
+mod comparing;
+#[cfg(test)]
+mod making;
+#[cfg(test)]
+mod reading;
+#[cfg(test)]
+mod varying;
