@@ -5,13 +5,17 @@
 #![tactic(auto)]
 
 mod answer;
+#[cfg(test)]
+mod calls;
 mod deliver;
+#[cfg(test)]
+mod file_tests;
 mod judge;
 mod one_way;
 mod report;
-#[cfg(test)]
-mod tests;
 pub mod top;
+#[cfg(test)]
+mod word_tests;
 mod words;
 
 use fore_base::file_shelf::FileShelf;
