@@ -2,6 +2,7 @@
 use Rattle.std.proofs.Common.{◌≡◌, ℕ, Bool, true, false, Option, Some, None, Result, Ok, Err, List, [], ◌∷◌, length, refl, sym, ap, ◌∙◌}
 use Rattle.fore_base.specs.declared.fault.Fault.{Fault}
 use Rattle.fore_base.specs.declared.store.Datum.{Datum}
+use Rattle.fore_base.specs.declared.shape.Shape.{Shape}
 use Rattle.fore_base.specs.declared.store.Store.{Store}
 use Rattle.fore_base.specs.Stores.{onward, kill}
 use Rattle.fore_base.specs.Heap.{leaks}
@@ -109,7 +110,7 @@ finished_to (Ok t) is = here (leaks (all_dead t)) refl
     here true leak = rw leak tt
     here false fine = rw fine tt
 
-pub act_to : (shapes : List _) (a : Act) (is : Items) (s : Store) (x : ℕ) → GoesTo (followed_by a is) (act_turn shapes a is s x)
+pub act_to : (shapes : List Shape) (a : Act) (is : Items) (s : Store) (x : ℕ) → GoesTo (followed_by a is) (act_turn shapes a is s x)
 act_to shapes (SetPtr to from) is s x = settled_to (assign shapes s to from) is
 act_to shapes (SetData to from) is s x = settled_to (assign_data s to from x) is
 act_to shapes (Free p) is s x = settled_to (free_path s p) is

@@ -11,7 +11,7 @@ use Rattle.fore_base.specs.Heap.{leaks}
 use Rattle.c_types.specs.declared.outcome.Outcome.{Outcome}
 use Rattle.c_types.specs.declared.outcome.Outcome.TheVariants.{Ended, Fault, Starved, BadChoice, StillRunning}
 use Rattle.c_types.specs.Program.{Program, is_typed}
-use Rattle.c_types.specs.Control.{Items, Done, Do, Close, If, Loop, Again, DoLoop, DoAgain, Test, Ask, Not, Both, Either, ◌then◌, round, do_round, opened}
+use Rattle.c_types.specs.Control.{Items, Done, opened}
 use Rattle.c_types.specs.Runs.{run, go, at_end, own_line, empty_store}
 use Rattle.c_types.specs.Over.{IsOver}
 use Rattle.c_types.specs.Fits.{ItemsFit}
@@ -20,7 +20,7 @@ use Rattle.c_types.proofs.ItemsTyped.{start_fits}
 use Rattle.c_cfg.specs.Graphs.{ControlGraph}
 use Rattle.c_cfg.specs.GraphRuns.{grun, ggo, at_location}
 use Rattle.c_cfg.specs.Lowering.{LowerOf, IsRow}
-use Rattle.c_cfg.specs.Places.{test_places, places}
+use Rattle.c_cfg.specs.Places.{places}
 use Rattle.c_cfg.specs.Agreement.{IsFaultAt, IsEnded, IsStarved, IsBadAt, Agrees}
 use Rattle.c_cfg.proofs.Agree.Temporaries.{ext0}
 use Rattle.c_cfg.proofs.Agree.Ways.{stepless}

@@ -1,6 +1,8 @@
 -- One step of a program, at a place, is the run of the graph along the place's edges.
 use Rattle.std.proofs.Common.{◌≡◌, ◌≤◌, ◌+◌, ℕ, zero, suc, Bool, true, false, Some, None, Result, Ok, Err, List, [], ◌∷◌, length, refl, sym, ap, ◌∙◌, subst, arith}
 use Rattle.fore_base.specs.declared.fault.Fault.{Fault as Kind}
+use Rattle.fore_base.specs.declared.store.Value.{Value}
+use Rattle.fore_base.specs.declared.store.Datum.{Datum}
 use Rattle.fore_base.specs.declared.store.Store.{Store}
 use Rattle.fore_base.specs.Stores.{onward, kill}
 use Rattle.fore_base.specs.Heap.{leaks}
@@ -8,6 +10,8 @@ use Rattle.c_types.specs.declared.outcome.Outcome.{Outcome}
 use Rattle.c_types.specs.declared.outcome.Outcome.TheVariants.{Ended, Fault, StillRunning}
 use Rattle.c_types.specs.declared.program.Act.{Act}
 use Rattle.c_types.specs.declared.program.Act.TheVariants.{SetPtr, SetData, Free, Error, Halt, Return, Break, Continue}
+use Rattle.c_types.specs.declared.program.PtrOp.{PtrOp}
+use Rattle.c_types.specs.declared.program.DataOp.{DataOp}
 use Rattle.c_types.specs.declared.program.Atom.{Atom}
 use Rattle.c_types.specs.declared.program.Atom.TheVariants.{Choice as ChoiceAtom, Known as KnownAtom, Ptr as PtrAtom, Data as DataAtom}
 use Rattle.c_types.specs.Program.{Program, is_typed}
@@ -61,21 +65,21 @@ side x y is false = y then is
 
 -- an atom that compares, and what it compares
 
-ptr_compared : (s : Store) (l r : _) (equal : Bool) (x : ℕ) → atom_of (PtrAtom l r equal) s x ≡ onward (onward (read_op s l) (λ v. onward (read_op s r) (λ w. same_values v w))) (λ same. Ok (agrees equal same))
+ptr_compared : (s : Store) (l r : PtrOp) (equal : Bool) (x : ℕ) → atom_of (PtrAtom l r equal) s x ≡ onward (onward (read_op s l) (λ v. onward (read_op s r) (λ w. same_values v w))) (λ same. Ok (agrees equal same))
 ptr_compared s l r equal x =
     sym (onward_onward (read_op s l) (λ v. onward (read_op s r) (λ w. same_values v w)) (λ same. Ok (agrees equal same))
     ∙ inner (read_op s l))
   where
-    inner : (a : _) → onward a (λ v. onward (onward (read_op s r) (λ w. same_values v w)) (λ same. Ok (agrees equal same))) ≡ onward a (λ v. onward (read_op s r) (λ w. onward (same_values v w) (λ same. Ok (agrees equal same))))
+    inner : (a : Result Value Kind) → onward a (λ v. onward (onward (read_op s r) (λ w. same_values v w)) (λ same. Ok (agrees equal same))) ≡ onward a (λ v. onward (read_op s r) (λ w. onward (same_values v w) (λ same. Ok (agrees equal same))))
     inner (Ok v) = onward_onward (read_op s r) (λ w. same_values v w) (λ same. Ok (agrees equal same))
     inner (Err k) = refl
 
-data_compared : (s : Store) (l r : _) (equal : Bool) (x : ℕ) → atom_of (DataAtom l r equal) s x ≡ onward (onward (read_data_op s l) (λ v. onward (read_data_op s r) (λ w. same_datums v w))) (λ same. Ok (agrees equal same))
+data_compared : (s : Store) (l r : DataOp) (equal : Bool) (x : ℕ) → atom_of (DataAtom l r equal) s x ≡ onward (onward (read_data_op s l) (λ v. onward (read_data_op s r) (λ w. same_datums v w))) (λ same. Ok (agrees equal same))
 data_compared s l r equal x =
     sym (onward_onward (read_data_op s l) (λ v. onward (read_data_op s r) (λ w. same_datums v w)) (λ same. Ok (agrees equal same))
     ∙ inner (read_data_op s l))
   where
-    inner : (a : _) → onward a (λ v. onward (onward (read_data_op s r) (λ w. same_datums v w)) (λ same. Ok (agrees equal same))) ≡ onward a (λ v. onward (read_data_op s r) (λ w. onward (same_datums v w) (λ same. Ok (agrees equal same))))
+    inner : (a : Result Datum Kind) → onward a (λ v. onward (onward (read_data_op s r) (λ w. same_datums v w)) (λ same. Ok (agrees equal same))) ≡ onward a (λ v. onward (read_data_op s r) (λ w. onward (same_datums v w) (λ same. Ok (agrees equal same))))
     inner (Ok v) = onward_onward (read_data_op s r) (λ w. same_datums v w) (λ same. Ok (agrees equal same))
     inner (Err k) = refl
 

@@ -80,7 +80,6 @@ below_less (suc n) = less_both (suc n) (below n) (n ∷ []) (less_more n (suc n)
 all_set : {A : Type 0} (m : ℕ) (xs : List A) (x y u : A) → length xs ≡ m → set_each (xs ++ x ∷ y ∷ []) (below (m + 2)) u ≡ set_each xs (below m) u ++ u ∷ u ∷ []
 all_set m xs x y u e =
     let two : m + 2 ≡ suc (suc m) = omega arith in
-    let after : List _ = set_each xs (below m) u in
     ap (λ k. set_each (xs ++ x ∷ y ∷ []) (below k) u) two
     ∙ each_append (xs ++ x ∷ y ∷ []) (below m ++ m ∷ []) (suc m ∷ []) u
     ∙ ap (λ zs. slice_set zs (suc m) u) (each_append (xs ++ x ∷ y ∷ []) (below m) (m ∷ []) u ∙ ap (λ zs. slice_set zs m u) (each_front m xs (x ∷ y ∷ []) (below m) u e (below_less m)))

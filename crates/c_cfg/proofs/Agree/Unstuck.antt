@@ -1,9 +1,9 @@
 -- No run of a program's graph is stuck: wherever it comes, it is at a place between two steps, on the way through a step, or at a test.
-use Rattle.std.proofs.Common.{◌≡◌, ◌<◌, ◌⊎◌, inl, inr, ◌+◌, ℕ, zero, suc, Bool, true, false, Option, Some, None, Result, Ok, Err, List, [], ◌∷◌, ◌++◌, length, refl, sym, ap, ◌∙◌, subst, arith}
+use Rattle.std.proofs.Common.{◌≡◌, ◌<◌, ◌⊎◌, inl, inr, ℕ, zero, suc, Bool, true, false, Some, None, Result, Ok, Err, List, [], ◌∷◌, length, refl, sym, ap, ◌∙◌, subst, arith}
 use Rattle.fore_base.specs.declared.fault.Fault.{Fault as Kind}
 use Rattle.fore_base.specs.declared.store.Store.{Store}
-use Rattle.fore_base.specs.Lists.{IsIn, Every}
-use Rattle.fore_base.specs.Stores.{onward, kill}
+use Rattle.fore_base.specs.Lists.{Every}
+use Rattle.fore_base.specs.Stores.{kill}
 use Rattle.fore_base.specs.Heap.{leaks}
 use Rattle.fore_base.proofs.ListLemmas.{every_in}
 use Rattle.c_types.specs.declared.program.Act.{Act}
@@ -11,7 +11,7 @@ use Rattle.c_types.specs.declared.program.Act.TheVariants.{SetPtr, SetData, Free
 use Rattle.c_types.specs.declared.program.Atom.{Atom}
 use Rattle.c_types.specs.declared.program.Atom.TheVariants.{Choice as ChoiceAtom, Known as KnownAtom, Ptr as PtrAtom, Data as DataAtom}
 use Rattle.c_types.specs.Program.{Program, is_typed}
-use Rattle.c_types.specs.Control.{Items, Done, Do, Close, If, Loop, Again, DoLoop, DoAgain, Test, Ask, Not, Both, Either, ◌then◌, opened}
+use Rattle.c_types.specs.Control.{Items, Done, Do, Close, If, Loop, Again, DoLoop, DoAgain, Ask, Not, Both, Either, ◌then◌, opened}
 use Rattle.c_types.specs.Steps.{Turn, Goes, Stops, Faults, act_takes, settle, act_turn, turn_of}
 use Rattle.c_types.specs.Fits.{ItemsFit}
 use Rattle.c_types.proofs.ItemsTyped.{then_fit, opened_fit}
@@ -21,20 +21,20 @@ use Rattle.c_cfg.specs.declared.graph.Instr.TheVariants.{Kill, Choose}
 use Rattle.c_cfg.specs.declared.graph.Edge.{Edge}
 use Rattle.c_cfg.specs.Graphs.{ControlGraph}
 use Rattle.c_cfg.specs.Edges.{Pass, Passed, Faulted, Halted, NotPassed, onto, if_agreed, raw_step, leak_tested, gstep}
-use Rattle.c_cfg.specs.GraphRuns.{out_of, is_taken_on}
+use Rattle.c_cfg.specs.GraphRuns.{out_of}
 use Rattle.c_cfg.specs.Links.{Link, One, Two, act_row}
-use Rattle.c_cfg.specs.Lowering.{edge, IsWay, IsTestRow, IsAtomRow, LowerOf, followed_by}
+use Rattle.c_cfg.specs.Lowering.{edge, IsWay, IsTestRow, LowerOf, followed_by}
 use Rattle.c_cfg.specs.Visits.{Visits, begin, by_edge, HasWay, IsNeverStuck}
 use Rattle.c_cfg.proofs.Landing.{Each, Front, whole}
 use Rattle.c_cfg.proofs.Filling.{Filled, act_filled}
 use Rattle.c_cfg.proofs.Agree.Temporaries.{ext0}
 use Rattle.c_cfg.proofs.Agree.TempLeaks.{leaks_ext0}
-use Rattle.c_cfg.proofs.Agree.Passing.{then_pass, links_pass, settled_pass}
+use Rattle.c_cfg.proofs.Agree.Passing.{then_pass, links_pass}
 use Rattle.c_cfg.proofs.Agree.Tested.{Tests, faults, compares, ptr_tests, data_tests}
-use Rattle.c_cfg.proofs.Agree.ActTurns.{turn_pass, settle_pass, stop_of, kill_passes, act_passes, GoesTo, settle_to, act_to}
+use Rattle.c_cfg.proofs.Agree.ActTurns.{turn_pass, stop_of, kill_passes, act_passes, GoesTo, settle_to, act_to}
 use Rattle.c_cfg.proofs.Agree.Ways.{AreOnes, TakesAs}
 use Rattle.c_cfg.proofs.Agree.LinksOnes.{ends_ones, ptr_ones, cmp_ones, act_row_takes}
-use Rattle.c_cfg.proofs.Agree.StepsAlike.{IsKnown, side, each_followed}
+use Rattle.c_cfg.proofs.Agree.StepsAlike.{IsKnown, each_followed}
 use Rattle.c_cfg.proofs.Agree.Simulated.{Ready, next_ready, front_of}
 use Rattle.c_cfg.proofs.Agree.Agreed.{first, rowed, ready, begins}
 

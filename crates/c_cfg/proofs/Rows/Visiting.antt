@@ -1,5 +1,5 @@
 -- Rows on what runs come to, and on runs that are stuck.
-use Rattle.std.proofs.Common.{◌≡◌, ◌⊎◌, inl, inr, false, List, [], ◌∷◌, refl, ap, arith}
+use Rattle.std.proofs.Common.{◌≡◌, ◌⊎◌, inl, inr, false, [], ◌∷◌, refl, ap, arith}
 use Rattle.fore_base.specs.declared.store.Value.TheVariants.{Null, Uninit}
 use Rattle.fore_base.specs.declared.store.Store.{Store}
 use Rattle.fore_base.specs.Lists.{IsIn}
