@@ -7,8 +7,6 @@ mod ending;
 pub mod laws;
 mod replacing;
 pub mod splitting;
-#[cfg(test)]
-mod tests;
 mod topping;
 
 pub use choosing::choose_rule;
