@@ -8,5 +8,6 @@ mod Lifetimes
 mod Data
 mod Choices
 mod Typing
+mod Programs
 mod OneWay
 mod Stores

@@ -16,14 +16,14 @@ use Rattle.c_types.proofs.Layers.{typed_layers}
 use Rattle.c_types.proofs.Rows.Forms.{pointer_to, datum, var, arrow, arrows, key, choice, literal, compare, compare_data, has, null, copy, free, put, copy_data, choose, error, halt, leave, break, continue, block}
 
 -- struct node { struct node *next; };  struct item { struct node *head; int key; struct item *twin; int mark; };
-abbrev both : List Shape
+abbrev pub both : List Shape
 both = record { name = []; fields = (pointer_to 0 ∷ []) } ∷ record { name = []; fields = (pointer_to 0 ∷ datum ∷ pointer_to 1 ∷ datum ∷ []) } ∷ []
 
-abbrev variable : ℕ → VarDef
+abbrev pub variable : ℕ → VarDef
 variable shape = record { name = []; shape = shape }
 
 -- struct node *p; struct item *q, *r; int x, y;
-abbrev program : List Stmt → Program
+abbrev pub program : List Stmt → Program
 program body = record { shapes = record { structs = both }; vars = (variable 0 ∷ variable 1 ∷ variable 1 ∷ []); data_vars = ([] ∷ [] ∷ []); body = body }
 
 -- a statement in main's block is typed
@@ -322,7 +322,7 @@ or_last_bad = simp typed_layers refl
 -- Statements: a bad condition, and a bad act in each part
 
 -- x = 16
-abbrev wrong : Stmt
+abbrev pub wrong : Stmt
 wrong = put (DataVar 0) 16 1
 
 branch_condition : accepts (Branch bad [] []) ≡ false
@@ -470,36 +470,3 @@ continue_in_for_in_next = simp typed_layers refl
 return_in_next : accepts (For (choice 1) (leave 1 ∷ []) []) ≡ true
 unfolding is_typed
 return_in_next = simp typed_layers refl
-
--- Programs
-
-abbrev of : List Shape → List VarDef → List Stmt → Program
-of shapes vars body = record { shapes = record { structs = shapes }; vars = vars; data_vars = []; body = body }
-
-empty_program : is_typed (of [] [] []) ≡ true
-unfolding is_typed
-empty_program = refl
-
-field_of_no_struct : is_typed (of (record { name = []; fields = (pointer_to 0 ∷ pointer_to 1 ∷ []) } ∷ []) [] []) ≡ false
-unfolding is_typed
-field_of_no_struct = refl
-
-field_of_the_other_struct : is_typed (of (record { name = []; fields = (pointer_to 1 ∷ []) } ∷ record { name = []; fields = (datum ∷ []) } ∷ []) [] []) ≡ true
-unfolding is_typed
-field_of_the_other_struct = refl
-
-second_struct_wrong : is_typed (of (record { name = []; fields = [] } ∷ record { name = []; fields = (pointer_to 2 ∷ []) } ∷ []) [] []) ≡ false
-unfolding is_typed
-second_struct_wrong = refl
-
-variable_of_no_struct : is_typed (of [] (variable 0 ∷ []) []) ≡ false
-unfolding is_typed
-variable_of_no_struct = refl
-
-second_variable_wrong : is_typed (of both (variable 1 ∷ variable 2 ∷ []) []) ≡ false
-unfolding is_typed
-second_variable_wrong = refl
-
-second_statement_wrong : is_typed (program (halt 1 ∷ wrong ∷ [])) ≡ false
-unfolding is_typed
-second_statement_wrong = simp typed_layers refl
