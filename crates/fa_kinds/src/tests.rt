@@ -1,0 +1,6 @@
+// The calls on small forests, worked out by hand.
+
+mod building;
+mod deciding;
+mod placing;
+mod reducing;
