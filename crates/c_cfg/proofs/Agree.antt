@@ -4,6 +4,7 @@
 pub mod ActTurns
 pub mod Agreed
 pub mod Arrows
+pub mod BetweenSteps
 pub mod DataRows
 pub mod Dying
 pub mod FieldsThere

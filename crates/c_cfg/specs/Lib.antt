@@ -10,4 +10,5 @@ pub mod LoopFree
 pub mod Lowering
 pub mod Places
 pub mod Ranges
+pub mod Temporaries
 pub mod Visits

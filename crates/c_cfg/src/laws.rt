@@ -12,6 +12,7 @@ ghost use Rattle.c_cfg.specs.Alike.{LikePass, IsUnset};
 ghost use Rattle.c_types.specs.Runs.{empty_store};
 ghost use Rattle.fore_base.specs.Heap.{IsProper, IsAlike};
 ghost use Rattle.c_cfg.specs.Ranges.{IsEdgeOf};
+ghost use Rattle.c_cfg.specs.Temporaries.{UnsetBetweenSteps};
 ghost use Rattle.c_cfg.specs.Visits.{IsNeverStuck};
 ghost use Rattle.fore_base.specs.Lists.{IsIn, Every};
 ghost use Rattle.fore_base.specs.declared.store.Store.{Store};
@@ -40,6 +41,15 @@ pub fn graphs_agree(program: &Typed, graph: &Graph)
 /// passed, meets a fault, or ends the run.
 pub fn runs_are_never_stuck(program: &Typed, graph: &Graph)
     ensures { LowerOf program.now graph.now → IsNeverStuck graph.now }
+{
+    let _body = &program.body;
+    let _edges = &graph.edges;
+}
+
+/// Between the steps of a program the temporaries of its graph hold nothing: with whatever store a run comes, on any choices, to the exit or to a
+/// location at which the step of one of the program's places begins, the two pointers behind the program's are `Uninit`, and the two data `Undefined`.
+pub fn temporaries_are_unset_between_steps(program: &Typed, graph: &Graph)
+    ensures { (low : LowerOf program.now graph.now) → UnsetBetweenSteps program.now graph.now low }
 {
     let _body = &program.body;
     let _edges = &graph.edges;

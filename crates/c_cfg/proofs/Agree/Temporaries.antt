@@ -1,5 +1,5 @@
 -- Stores with the temporaries behind the program's variables.
-use Rattle.std.proofs.Common.{◌≡◌, ◌<◌, ◌+◌, ℕ, zero, suc, List, [], ◌∷◌, ◌++◌, length, slice_index_or, slice_set, length-set, refl, sym, ap, ◌∙◌, arith}
+use Rattle.std.proofs.Common.{◌≡◌, ◌<◌, ◌+◌, ℕ, zero, suc, List, [], ◌∷◌, ◌++◌, length, slice_index_or, slice_get, Option, Some, slice_set, length-set, refl, sym, ap, ◌∙◌, arith}
 use Rattle.fore_base.specs.Lists.{Every}
 use Rattle.fore_base.specs.declared.store.Value.{Value}
 use Rattle.fore_base.specs.declared.store.Value.TheVariants.{Uninit}
@@ -7,6 +7,7 @@ use Rattle.fore_base.specs.declared.store.Datum.{Datum}
 use Rattle.fore_base.specs.declared.store.Datum.TheVariants.{Undefined}
 use Rattle.fore_base.specs.declared.store.Store.{Store}
 use Rattle.fore_base.specs.Stores.{var_of, datum_of, set_var, set_datum, set_each, kill}
+use Rattle.c_cfg.specs.Temporaries.{TemporariesUnset}
 use Rattle.c_types.specs.Steps.{below, all_dead}
 use Rattle.c_types.proofs.CellsFit.{length_set_each}
 
@@ -26,6 +27,16 @@ pub get_second : {A : Type 0} (d : A) (xs : List A) (x y : A) (n : ℕ) → n �
 get_second d [] x y n e = let one : n ≡ 1 = omega (arith, e) in rw one refl
 get_second d (z ∷ xs) x y zero e = absurd (omega (arith, e))
 get_second d (z ∷ xs) x y (suc n) e = get_second d xs x y n (omega (arith, e))
+
+pub there_first : {A : Type 0} (xs : List A) (x y : A) (n : ℕ) → n ≡ length xs → slice_get (xs ++ x ∷ y ∷ []) n ≡ Some x
+there_first [] x y n e = rw e refl
+there_first (z ∷ xs) x y zero e = absurd (omega (arith, e))
+there_first (z ∷ xs) x y (suc n) e = there_first xs x y n (omega (arith, e))
+
+pub there_second : {A : Type 0} (xs : List A) (x y : A) (n : ℕ) → n ≡ length xs + 1 → slice_get (xs ++ x ∷ y ∷ []) n ≡ Some y
+there_second [] x y n e = let one : n ≡ 1 = omega (arith, e) in rw one refl
+there_second (z ∷ xs) x y zero e = absurd (omega (arith, e))
+there_second (z ∷ xs) x y (suc n) e = there_second xs x y n (omega (arith, e))
 
 pub set_front : {A : Type 0} (xs ys : List A) (n : ℕ) (v : A) → n < length xs → slice_set (xs ++ ys) n v ≡ slice_set xs n v ++ ys
 set_front [] ys n v less = absurd (omega (arith, less))
@@ -100,6 +111,14 @@ ext0 s = ext s Uninit Uninit Undefined Undefined
 pub record Sized (nv nd : ℕ) (s : Store) : Type 0 where
   pub ptrs : length s.vars ≡ nv
   pub datums : length s.data_vars ≡ nd
+
+pub ext_unset : (nv nd : ℕ) (t s : Store) → s ≡ ext0 t → Sized nv nd t → TemporariesUnset nv nd s
+ext_unset nv nd t s e z = rw e (record {
+  first_ptr = there_first t.vars Uninit Uninit nv (sym z.ptrs);
+  second_ptr = there_second t.vars Uninit Uninit (nv + 1) (omega (arith, z.ptrs));
+  first_datum = there_first t.data_vars Undefined Undefined nd (sym z.datums);
+  second_datum = there_second t.data_vars Undefined Undefined (nd + 1) (omega (arith, z.datums));
+})
 
 -- a store with other variables
 abbrev pub with_vars : Store → List Value → List Datum → Store
