@@ -1,11 +1,11 @@
 -- No run of a program's graph is stuck: wherever it comes, it is at a place between two steps, on the way through a step, or at a test.
-use Rattle.std.proofs.Common.{◌≡◌, ◌<◌, ◌⊎◌, inl, inr, ◌+◌, ℕ, zero, suc, Bool, true, false, Option, Some, None, Result, Ok, Err, List, [], ◌∷◌, ◌++◌, length, refl, sym, ap, ◌∙◌, subst, arith}
+use Rattle.std.proofs.Common.{◌≡◌, ◌<◌, ◌⊎◌, inl, inr, ℕ, zero, suc, Bool, true, false, Some, None, Result, Ok, Err, List, [], ◌∷◌, length, refl, sym, ap, ◌∙◌, subst, arith}
 use Rattle.fore_base.specs.declared.fault.Fault.{Fault as Kind}
 use Rattle.fore_base.specs.declared.store.Value.TheVariants.{Uninit}
 use Rattle.fore_base.specs.declared.store.Datum.TheVariants.{Undefined}
 use Rattle.fore_base.specs.declared.store.Store.{Store}
 use Rattle.fore_base.specs.Lists.{IsIn, Every}
-use Rattle.fore_base.specs.Stores.{onward, kill}
+use Rattle.fore_base.specs.Stores.{kill}
 use Rattle.fore_base.specs.Heap.{leaks}
 use Rattle.fore_base.proofs.ListLemmas.{every_in, every_parts}
 use Rattle.c_types.specs.declared.program.Act.{Act}
@@ -13,7 +13,7 @@ use Rattle.c_types.specs.declared.program.Act.TheVariants.{SetPtr, SetData, Free
 use Rattle.c_types.specs.declared.program.Atom.{Atom}
 use Rattle.c_types.specs.declared.program.Atom.TheVariants.{Choice as ChoiceAtom, Known as KnownAtom, Ptr as PtrAtom, Data as DataAtom}
 use Rattle.c_types.specs.Program.{Program, is_typed}
-use Rattle.c_types.specs.Control.{Items, Done, Do, Close, If, Loop, Again, DoLoop, DoAgain, Test, Ask, Not, Both, Either, ◌then◌, opened}
+use Rattle.c_types.specs.Control.{Items, Done, Do, Close, If, Loop, Again, DoLoop, DoAgain, Ask, Not, Both, Either, ◌then◌, opened}
 use Rattle.c_types.specs.Steps.{Turn, Goes, Stops, Faults, act_takes, settle, act_turn, turn_of, all_dead, below}
 use Rattle.c_types.specs.Fits.{ItemsFit}
 use Rattle.c_types.proofs.ItemsTyped.{then_fit, opened_fit}
@@ -24,9 +24,9 @@ use Rattle.c_cfg.specs.declared.graph.Instr.TheVariants.{Kill, Choose}
 use Rattle.c_cfg.specs.declared.graph.Edge.{Edge}
 use Rattle.c_cfg.specs.Graphs.{ControlGraph}
 use Rattle.c_cfg.specs.Edges.{Pass, Passed, Faulted, Halted, NotPassed, onto, if_agreed, raw_step, leak_tested, gstep}
-use Rattle.c_cfg.specs.GraphRuns.{out_of, is_taken_on}
+use Rattle.c_cfg.specs.GraphRuns.{out_of}
 use Rattle.c_cfg.specs.Links.{Link, One, Two, act_row}
-use Rattle.c_cfg.specs.Lowering.{edge, IsWay, but_last, IsTestRow, IsAtomRow, LowerOf, followed_by}
+use Rattle.c_cfg.specs.Lowering.{edge, IsWay, but_last, IsTestRow, LowerOf, followed_by}
 use Rattle.c_cfg.specs.Places.{places}
 use Rattle.c_cfg.specs.Temporaries.{TemporariesUnset}
 use Rattle.c_cfg.specs.Visits.{Visits, begin, by_edge, HasWay, IsNeverStuck}
@@ -34,9 +34,9 @@ use Rattle.c_cfg.proofs.Landing.{Each, Front, each, whole, each_opened, each_aft
 use Rattle.c_cfg.proofs.Filling.{Filled, act_filled}
 use Rattle.c_cfg.proofs.Agree.Temporaries.{ext0, Sized, ext_unset}
 use Rattle.c_cfg.proofs.Agree.TempLeaks.{leaks_ext0}
-use Rattle.c_cfg.proofs.Agree.Passing.{then_pass, links_pass, settled_pass}
+use Rattle.c_cfg.proofs.Agree.Passing.{then_pass, links_pass}
 use Rattle.c_cfg.proofs.Agree.Tested.{Tests, faults, compares, ptr_tests, data_tests}
-use Rattle.c_cfg.proofs.Agree.ActTurns.{turn_pass, settle_pass, stop_of, kill_passes, act_passes, GoesTo, settle_to, act_to}
+use Rattle.c_cfg.proofs.Agree.ActTurns.{turn_pass, stop_of, kill_passes, act_passes, GoesTo, settle_to, act_to}
 use Rattle.c_cfg.proofs.Agree.Reading.{sound_sized}
 use Rattle.c_cfg.proofs.Agree.Ways.{AreOnes, TakesAs}
 use Rattle.c_cfg.proofs.Agree.LinksOnes.{ends_ones, ptr_ones, cmp_ones, act_row_takes}

@@ -1,6 +1,7 @@
--- Rows on what runs come to, and on runs that are stuck.
+-- Rows on what runs come to, on runs that are stuck, and on what temporaries hold.
 use Rattle.std.proofs.Common.{◌≡◌, ◌⊎◌, inl, inr, false, [], ◌∷◌, refl, ap, arith}
 use Rattle.fore_base.specs.declared.store.Value.TheVariants.{Null, Uninit}
+use Rattle.fore_base.specs.declared.store.Datum.TheVariants.{Known, Undefined}
 use Rattle.fore_base.specs.declared.store.Store.{Store}
 use Rattle.fore_base.specs.Lists.{IsIn}
 use Rattle.fore_base.specs.Heap.{leaks}
@@ -10,6 +11,7 @@ use Rattle.c_cfg.specs.declared.graph.Edge.{Edge}
 use Rattle.c_cfg.specs.Graphs.{ControlGraph}
 use Rattle.c_cfg.specs.Edges.{NotPassed, gstep}
 use Rattle.c_cfg.specs.GraphRuns.{out_of}
+use Rattle.c_cfg.specs.Temporaries.{TemporariesUnset}
 use Rattle.c_cfg.specs.Visits.{Visits, begin, by_edge, HasWay, IsNeverStuck}
 use Rattle.c_cfg.proofs.Rows.Forms.{two, store, graph, goes}
 
@@ -45,3 +47,17 @@ refuses_stuck never = by (never 0 unset begin 0 (omega arith))
     by : (out_of stuck.edges 0 ≡ []) ⊎ HasWay two (out_of stuck.edges 0) 0 unset → ⊥
     by (inl none) = cc none
     by (inr h) = by_none h.edge h.is_there h.goes
+
+-- behind one pointer that is set and no data variable: two pointers and two data that are not
+unset_behind : TemporariesUnset 1 0 (store (Null ∷ Uninit ∷ Uninit ∷ []) (Undefined ∷ Undefined ∷ []) [] 1)
+unset_behind = record { first_ptr = refl; second_ptr = refl; first_datum = refl; second_datum = refl }
+
+refuses_a_pointer_held : TemporariesUnset 1 0 (store (Null ∷ Uninit ∷ Null ∷ []) (Undefined ∷ Undefined ∷ []) [] 1) → ⊥
+refuses_a_pointer_held h = cc h.second_ptr
+
+refuses_a_datum_held : TemporariesUnset 1 0 (store (Null ∷ Uninit ∷ Uninit ∷ []) (Known 3 ∷ Undefined ∷ []) [] 1) → ⊥
+refuses_a_datum_held h = cc h.first_datum
+
+-- without temporaries
+refuses_too_few : TemporariesUnset 1 0 (store (Null ∷ []) [] [] 1) → ⊥
+refuses_too_few h = cc h.first_ptr
