@@ -1,6 +1,6 @@
 // Forests made canonical, and lists of forests compared.
 
-use crate::reading::{Given, sound};
+use crate::reading::{Form, Given, sound};
 use fa_canon::canonical;
 use fa_merge::leaking_root;
 use fa_sound::{Sound, have_no_boxes};
@@ -19,8 +19,9 @@ pub fn canonical_of<R: Threads + Sync>(
     alloc: Global,
     pointers: usize,
     given: Given,
+    form: Form,
 ) -> Result<List<Sound>, Fail> {
-    let forest = sound(alloc, pointers, given)?;
+    let forest = sound(alloc, pointers, given, form)?;
     if !have_no_boxes(forest.forest().autos.as_slice()) {
         return Err("a box edge".into());
     }

@@ -8,4 +8,6 @@ mod making;
 #[cfg(test)]
 mod reading;
 #[cfg(test)]
+mod turning;
+#[cfg(test)]
 mod varying;

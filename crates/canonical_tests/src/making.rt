@@ -1,7 +1,7 @@
 // What forests are made into: all canonical forests, whole, worked out by hand.
 
 use crate::comparing::{are_alike, canonical_of};
-use crate::reading::{Given, sound};
+use crate::reading::{Form, Given, sound};
 use fore_base::list::List;
 use std::alloc::Global;
 use std::process::Abort;
@@ -172,6 +172,38 @@ fn forks_are_made_canonical(rt: HostRuntime) -> Result<(), Fail> {
     Ok(())
 }
 
+#[test]
+fn lists_in_another_form_have_the_same_canonical_forests(rt: HostRuntime) -> Result<(), Fail> {
+    for row in LISTS {
+        check_varied(&rt, rt.alloc(), 1, *row)?;
+    }
+    Ok(())
+}
+
+#[test]
+fn forks_in_another_form_have_the_same_canonical_forests(rt: HostRuntime) -> Result<(), Fail> {
+    for row in FORKS {
+        check_varied(&rt, rt.alloc(), 2, *row)?;
+    }
+    Ok(())
+}
+
+fn check_varied<R: Threads + Sync + Abort>(
+    rt: &R,
+    alloc: Global,
+    pointers: usize,
+    row: Row,
+) -> Result<(), Fail> {
+    let Row(what, given, _) = row;
+    let made = canonical_of(rt, alloc, pointers, given, Form::Written)?;
+    let other = canonical_of(rt, alloc, pointers, given, Form::Varied)?;
+    assert!(rt;
+        !made.is_empty() && are_alike(alloc, made.as_slice(), other.as_slice())?,
+        "{what}"
+    );
+    Ok(())
+}
+
 fn check<R: Threads + Sync + Abort>(
     rt: &R,
     alloc: Global,
@@ -179,10 +211,10 @@ fn check<R: Threads + Sync + Abort>(
     row: Row,
 ) -> Result<(), Fail> {
     let Row(what, given, wanted) = row;
-    let made = canonical_of(rt, alloc, pointers, given)?;
+    let made = canonical_of(rt, alloc, pointers, given, Form::Written)?;
     let mut all = List::new(alloc);
     for forest in wanted {
-        all.push(sound(alloc, pointers, *forest)?)?;
+        all.push(sound(alloc, pointers, *forest, Form::Written)?)?;
     }
     assert!(rt;
         made.len() == wanted.len() && are_alike(alloc, made.as_slice(), all.as_slice())?,

@@ -4,6 +4,7 @@
 //
 // The symbols are a for Null, u for Uninit, d for Dangling, A, B, C and D for references to the roots 0 to 3, n for a cell whose struct has one pointer, and f for one whose struct has two. All cells of a forest are of one struct.
 
+use crate::turning::varied;
 use fa_core::faces::Face;
 use fa_core::forest::{Forest, Target};
 use fa_sound::{Sound, have_no_boxes};
@@ -19,8 +20,32 @@ use ta_core::tables::{Sign, symbol};
 #[derive(Clone, Copy)]
 pub struct Given<'a>(pub &'a str, pub &'a [&'a str]);
 
+// How a forest stands in a row: as it is written, or in another form with the same members.
+#[derive(Clone, Copy)]
+pub enum Form {
+    Written,
+    Varied,
+}
+
 // The sound forest of the texts, over a struct with so many pointers.
-pub fn sound(alloc: Global, pointers: usize, given: Given) -> Result<Sound, Fail> {
+pub fn sound(alloc: Global, pointers: usize, given: Given, form: Form) -> Result<Sound, Fail> {
+    let forest = forest_in(alloc, given, form)?;
+    let face = face(alloc, pointers)?;
+    if !have_no_boxes(forest.autos.as_slice()) {
+        return Err("a box edge".into());
+    }
+    Ok(Sound::make(alloc, &forest, &face)?.ok_or("not sound")?)
+}
+
+fn forest_in(alloc: Global, given: Given, form: Form) -> Result<Forest, Fail> {
+    let forest = written(alloc, given)?;
+    match form {
+        Form::Written => Ok(forest),
+        Form::Varied => varied(alloc, &forest),
+    }
+}
+
+fn written(alloc: Global, given: Given) -> Result<Forest, Fail> {
     let Given(targets, parts) = given;
     let mut vars = List::new(alloc);
     for byte in targets.as_bytes() {
@@ -31,16 +56,11 @@ pub fn sound(alloc: Global, pointers: usize, given: Given) -> Result<Sound, Fail
         autos.push(auto(alloc, part)?)?;
     }
     let data_vars = List::new(alloc);
-    let forest = Forest {
+    Ok(Forest {
         autos,
         vars,
         data_vars,
-    };
-    let face = face(alloc, pointers)?;
-    if !have_no_boxes(forest.autos.as_slice()) {
-        return Err("a box edge".into());
-    }
-    Ok(Sound::make(alloc, &forest, &face)?.ok_or("not sound")?)
+    })
 }
 
 fn target(byte: u8) -> Option<Target> {

@@ -1,7 +1,7 @@
 // Forests that are written in two ways: their canonical forests cover each other.
 
 use crate::comparing::{are_alike, canonical_of};
-use crate::reading::Given;
+use crate::reading::{Form, Given};
 use std::alloc::Global;
 use std::process::Abort;
 use std::test::Fail;
@@ -84,8 +84,8 @@ fn one_forest_in_two_forms_has_the_same_canonical_forests(rt: HostRuntime) -> Re
 
 fn check<R: Threads + Sync + Abort>(rt: &R, alloc: Global, row: Row) -> Result<(), Fail> {
     let Row(what, pointers, left, right) = row;
-    let mine = canonical_of(rt, alloc, pointers, left)?;
-    let other = canonical_of(rt, alloc, pointers, right)?;
+    let mine = canonical_of(rt, alloc, pointers, left, Form::Written)?;
+    let other = canonical_of(rt, alloc, pointers, right, Form::Written)?;
     assert!(rt;
         !mine.is_empty() && are_alike(alloc, mine.as_slice(), other.as_slice())?,
         "{what}"
