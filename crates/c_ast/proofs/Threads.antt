@@ -101,17 +101,23 @@ first_send = variants_send (enum.shape First.the_type) ((declare_send, tt), ((si
 maybe_cond_send : IsSend (Option.the_field Cond.the_row).row
 maybe_cond_send = option_send Cond.the_row (struct_send Cond.the_type cond_send)
 
-maybe_simple_send : IsSend (Option.the_field Simple.the_row).row
-maybe_simple_send = option_send Simple.the_row (enum_send Simple.the_type simple_send)
+boxed_simple_send : IsSend (Boxed.the_field Simple.the_row).row
+boxed_simple_send = boxed_send Simple.the_row (enum_send Simple.the_type simple_send)
+
+boxed_first_send : IsSend (Boxed.the_field First.the_row).row
+boxed_first_send = boxed_send First.the_row (enum_send First.the_type first_send)
+
+maybe_simple_send : IsSend (Option.the_field (Boxed.the_row Simple.the_row)).row
+maybe_simple_send = option_send (Boxed.the_row Simple.the_row) boxed_simple_send
 
 maybe_operand_send : IsSend (Option.the_field Operand.the_row).row
 maybe_operand_send = option_send Operand.the_row (enum_send Operand.the_type operand_send)
 
 pub block_send : IsSend (Block.the_field).row
-block_send = statements.send-Block declare_send place_send simple_send cond_send boxed_send maybe_boxed_send first_send maybe_cond_send maybe_simple_send maybe_operand_send list_send
+block_send = statements.send-Block declare_send place_send boxed_simple_send cond_send boxed_send maybe_boxed_send boxed_first_send maybe_cond_send maybe_simple_send maybe_operand_send list_send
 
 pub stmt_send : IsSend (Stmt.the_field).row
-stmt_send = statements.send-Stmt declare_send place_send simple_send cond_send boxed_send maybe_boxed_send first_send maybe_cond_send maybe_simple_send maybe_operand_send list_send
+stmt_send = statements.send-Stmt declare_send place_send boxed_simple_send cond_send boxed_send maybe_boxed_send boxed_first_send maybe_cond_send maybe_simple_send maybe_operand_send list_send
 
 -- items and whole texts
 names_send : IsSend (List.the_row Name.the_row)
@@ -217,17 +223,23 @@ first_sync = variants_sync (enum.shape First.the_type) ((declare_sync, tt), ((si
 maybe_cond_sync : IsSync (Option.the_field Cond.the_row).row
 maybe_cond_sync = option_sync Cond.the_row (struct_sync Cond.the_type cond_sync)
 
-maybe_simple_sync : IsSync (Option.the_field Simple.the_row).row
-maybe_simple_sync = option_sync Simple.the_row (enum_sync Simple.the_type simple_sync)
+boxed_simple_sync : IsSync (Boxed.the_field Simple.the_row).row
+boxed_simple_sync = boxed_sync Simple.the_row (enum_sync Simple.the_type simple_sync)
+
+boxed_first_sync : IsSync (Boxed.the_field First.the_row).row
+boxed_first_sync = boxed_sync First.the_row (enum_sync First.the_type first_sync)
+
+maybe_simple_sync : IsSync (Option.the_field (Boxed.the_row Simple.the_row)).row
+maybe_simple_sync = option_sync (Boxed.the_row Simple.the_row) boxed_simple_sync
 
 maybe_operand_sync : IsSync (Option.the_field Operand.the_row).row
 maybe_operand_sync = option_sync Operand.the_row (enum_sync Operand.the_type operand_sync)
 
 pub block_sync : IsSync (Block.the_field).row
-block_sync = statements.sync-Block declare_sync place_sync simple_sync cond_sync boxed_sync maybe_boxed_sync first_sync maybe_cond_sync maybe_simple_sync maybe_operand_sync list_sync
+block_sync = statements.sync-Block declare_sync place_sync boxed_simple_sync cond_sync boxed_sync maybe_boxed_sync boxed_first_sync maybe_cond_sync maybe_simple_sync maybe_operand_sync list_sync
 
 pub stmt_sync : IsSync (Stmt.the_field).row
-stmt_sync = statements.sync-Stmt declare_sync place_sync simple_sync cond_sync boxed_sync maybe_boxed_sync first_sync maybe_cond_sync maybe_simple_sync maybe_operand_sync list_sync
+stmt_sync = statements.sync-Stmt declare_sync place_sync boxed_simple_sync cond_sync boxed_sync maybe_boxed_sync boxed_first_sync maybe_cond_sync maybe_simple_sync maybe_operand_sync list_sync
 
 -- items and whole texts
 names_sync : IsSync (List.the_row Name.the_row)

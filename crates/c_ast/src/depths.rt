@@ -193,11 +193,11 @@ fn maybe_cond_depth(cond: &Option<Cond>) -> u32
     }
 }
 
-fn maybe_simple_depth(simple: &Option<Simple>) -> u32
+fn maybe_simple_depth(simple: &Option<Boxed<Simple>>) -> u32
     ensures { result ≡ min (depth_of_option depth_of_simple simple.now) 4294967295 }
 {
     match simple {
-        Some(simple) => simple_depth(simple),
+        Some(simple) => simple_depth(simple.get()),
         None => 0,
     }
 }
@@ -249,7 +249,7 @@ fn stmt_depth(stmt: &Stmt) -> u32
 {
     match stmt {
         Stmt::Block(block) => inside(block_depth(block)),
-        Stmt::Simple(simple) => simple_depth(simple),
+        Stmt::Simple(simple) => simple_depth(simple.get()),
         Stmt::If {
             cond,
             then,
@@ -268,7 +268,7 @@ fn stmt_depth(stmt: &Stmt) -> u32
             body,
             ..
         } => {
-            let head = greater(first_depth(first), maybe_cond_depth(cond));
+            let head = greater(first_depth(first.get()), maybe_cond_depth(cond));
             inside(greater(
                 head,
                 greater(maybe_simple_depth(next), stmt_depth(body.get())),

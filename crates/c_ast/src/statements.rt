@@ -61,7 +61,8 @@ pub enum First {
     Nothing,
 }
 
-/// A statement: the alternatives of `stmt`, each with the place of its first token.
+/// A statement: the alternatives of `stmt`, each with the place of its first token. What is large in it has a place of its own, so that a
+/// statement is small where it stands in a block.
 #[cycle(stmt)]
 #[derive(Drop)]
 pub enum Stmt {
@@ -69,7 +70,7 @@ pub enum Stmt {
         at: Place,
     },
     Block(Block),
-    Simple(Simple),
+    Simple(Boxed<Simple>),
     If {
         at: Place,
         cond: Cond,
@@ -88,9 +89,9 @@ pub enum Stmt {
     },
     For {
         at: Place,
-        first: First,
+        first: Boxed<First>,
         cond: Option<Cond>,
-        next: Option<Simple>,
+        next: Option<Boxed<Simple>>,
         body: Boxed<Stmt>,
     },
     Return {

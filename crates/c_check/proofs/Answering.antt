@@ -1,5 +1,5 @@
 -- From what a traversal of a unit found to the answer.
-use Rattle.std.proofs.Common.{◌≡◌, ◌⊎◌, inl, inr, true, [], Option, Some, None, Result, Ok, Err, IfOk, IfErr, sym, ap, ◌∙◌}
+use Rattle.std.proofs.Common.{◌≡◌, ◌⊎◌, inl, inr, true, [], Option, Some, None, Result, Ok, Err, IfOk, IfErr, IsErrAnd, sym, ap, ◌∙◌}
 use Rattle.c_ast.specs.declared.items.Unit as whole
 use Rattle.c_types.specs.Program.{Program, is_typed}
 use Rattle.c_typing.specs.Globals.{Globals, globals_of}
@@ -9,8 +9,6 @@ use Rattle.c_typing.specs.Typing.{breaches, breaches_of, IsFirstFault, TypedOf}
 use Rattle.c_typing.proofs.SoundFiles.{file_typed}
 use Rattle.c_typing.specs.declared.fault.TypeFault.{TypeFault}
 use Rattle.c_typing.specs.declared.fault.TypeFault.TheVariants.{Memory}
-use Rattle.c_check.specs.declared.statements.Body.{Body}
-use Rattle.c_check.specs.inner.Bodies.{program_from}
 use Rattle.c_check.specs.inner.First.{first_from}
 use Rattle.c_check.specs.inner.Meeting.{met}
 use Rattle.c_check.proofs.FirstFaults.{found_first, found_none}
@@ -21,24 +19,28 @@ module _ (u : whole.Unit) (g : Globals) (tables : g ≡ globals_of u.items) wher
   unfolding breaches
   found_unit o h = h ∙ met-breaches g None (unit_sites g u) ∙ ap (λ (f : Globals). first_from None (breaches_of f (unit_sites f u))) tables
 
-  program_unit : (main : Option Body) → program_from g main [] ≡ program_in g u.items → program_from g main [] ≡ program_of u
+  program_unit : program_in g u.items ≡ program_of u
   unfolding program_of
-  program_unit main h = h ∙ ap (λ (f : Globals). program_in f u.items) tables
+  program_unit = ap (λ (f : Globals). program_in f u.items) tables
 
   unbroken : (o : Option TypeFault) → o ≡ met g None (unit_sites g u) → o ≡ None → breaches u ≡ []
   unbroken o h none = found_none (breaches u) (sym (found_unit o h) ∙ none)
 
-  pub typed_unit : (o : Option TypeFault) (main : Option Body) → o ≡ met g None (unit_sites g u) → program_from g main [] ≡ program_in g u.items →
-      o ≡ None → is_typed (program_from g main []) ≡ true
-  typed_unit o main h is none = ap is_typed (program_unit main is) ∙ file_typed u (unbroken o h none)
+  pub typed_unit : (o : Option TypeFault) → o ≡ met g None (unit_sites g u) → o ≡ None → is_typed (program_in g u.items) ≡ true
+  typed_unit o h none = ap is_typed program_unit ∙ file_typed u (unbroken o h none)
 
-  pub ok_unit : (o : Option TypeFault) (main : Option Body) (r : Result Program TypeFault) → o ≡ met g None (unit_sites g u) → program_from g main [] ≡ program_in g u.items →
-      IfOk r (λ p. (o ≡ None) × (p ≡ program_from g main [])) → IfOk r (TypedOf u)
-  ok_unit o main (Ok p) h is ok = (unbroken o h ok.0, ok.1 ∙ program_unit main is)
-  ok_unit o main (Err e) h is ok = tt
+  pub ok_unit : (o : Option TypeFault) (r : Result Program TypeFault) → o ≡ met g None (unit_sites g u) →
+      IfOk r (λ p. (o ≡ None) × (p ≡ program_in g u.items)) → IfOk r (TypedOf u)
+  ok_unit o (Ok p) h ok = (unbroken o h ok.0, ok.1 ∙ program_unit)
+  ok_unit o (Err e) h ok = tt
 
   pub err_unit : (o : Option TypeFault) (r : Result Program TypeFault) → o ≡ met g None (unit_sites g u) →
       IfErr r (λ e. (e ≡ Memory) ⊎ (o ≡ Some e)) → IfErr r (λ e. (e ≡ Memory) ⊎ IsFirstFault u e)
   err_unit o (Ok p) h err = tt
   err_unit o (Err e) h (inl is) = inl is
   err_unit o (Err e) h (inr is) = inr (found_first (breaches u) e (sym (found_unit o h) ∙ is))
+
+-- want of memory is passed on
+pub memory_passed : (u : whole.Unit) (r : Result Program TypeFault) → IsErrAnd r (λ e. e ≡ Memory) → IfErr r (λ e. (e ≡ Memory) ⊎ IsFirstFault u e)
+memory_passed u (Ok p) h = absurd h
+memory_passed u (Err e) h = inl h

@@ -11,6 +11,7 @@ pub mod MakingLemmas
 pub mod MeetingLemmas
 pub mod NameLemmas
 pub mod OperandLemmas
+pub mod ProgramLemmas
 pub mod ScopeLemmas
 pub mod StatementLemmas
 pub mod Stepping

@@ -1,5 +1,4 @@
 pub mod Assigning
-pub mod Bodies
 pub mod Counting
 pub mod Definitions
 pub mod Directories

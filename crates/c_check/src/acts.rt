@@ -13,6 +13,7 @@ use crate::tables::Tables;
 use c_ast::{Operand, Rhs, Simple};
 use c_types::{Act, DataPath, DataRhs, PtrRhs, Stmt};
 use c_typing::Meaning;
+use fore_base::boxed::Boxed;
 use fore_base::list::List;
 use fore_base::memory::Mem;
 use std::alloc::Global;
@@ -170,13 +171,13 @@ pub fn maybe_simple(
     alloc: Global,
     tables: &Tables,
     scope: &Scope,
-    simple: &Option<Simple>,
+    simple: &Option<Boxed<Simple>>,
 ) -> Mem<List<Stmt>>
     ensures { IfOk result (λ stmts. stmts ≡ maybe_simple tables.now scope.now simple.now) }
 {
     match simple {
         None => Ok(List::new(alloc)),
-        Some(simple) => simple_stmts(alloc, tables, scope, simple),
+        Some(simple) => simple_stmts(alloc, tables, scope, simple.get()),
     }
 }
 

@@ -81,13 +81,13 @@ fn maybe_simple_faults(
     alloc: Global,
     tables: &Tables,
     scope: &Scope,
-    simple: &Option<Simple>,
+    simple: &Option<Boxed<Simple>>,
     found: &mut Option<TypeFault>,
 ) -> Mem<()>
     ensures { OnOk result (found.new ≡ met tables.now found.old (maybe_sites (simple_sites tables.now scope.now) simple.now)) }
 {
     match simple {
-        Some(simple) => simple_faults(alloc, tables, scope, simple, found),
+        Some(simple) => simple_faults(alloc, tables, scope, simple.get(), found),
         None => Ok(()),
     }
 }
@@ -322,7 +322,7 @@ fn stmt_faults(
     match stmt {
         Stmt::Empty { .. } => Ok(()),
         Stmt::Block(block) => block_faults(alloc, tables, scope, looping, block, found),
-        Stmt::Simple(simple) => simple_faults(alloc, tables, scope, simple, found),
+        Stmt::Simple(simple) => simple_faults(alloc, tables, scope, simple.get(), found),
         Stmt::If {
             cond,
             then,
@@ -349,7 +349,7 @@ fn stmt_faults(
             ..
         } => {
             scope.enter(alloc)?;
-            first_faults(alloc, tables, scope, first, found)?;
+            first_faults(alloc, tables, scope, first.get(), found)?;
             maybe_cond_faults(alloc, tables, scope, cond, found)?;
             maybe_simple_faults(alloc, tables, scope, next, found)?;
             stmt_faults(alloc, tables, scope, true, body.get(), found)?;

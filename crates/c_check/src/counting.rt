@@ -112,7 +112,7 @@ fn pass_stmt(count: &mut Count, stmt: &Stmt)
             pass(count, block.at);
             pass_block(count, block);
         }
-        Stmt::Simple(simple) => pass(count, simple_place(simple)),
+        Stmt::Simple(simple) => pass(count, simple_place(simple.get())),
         Stmt::If {
             at,
             then,
@@ -138,7 +138,7 @@ fn pass_stmt(count: &mut Count, stmt: &Stmt)
             ..
         } => {
             pass(count, *at);
-            pass_first(count, first);
+            pass_first(count, first.get());
             pass_stmt(count, body.get());
         }
         Stmt::Return { at, .. } => pass(count, *at),

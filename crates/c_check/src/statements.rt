@@ -1,29 +1,25 @@
-// The body of main: what it breaks, and the statements that it is.
-ghost use Rattle.std.specs.Prelude.{◌≡◌, ◌++◌, ◌∷◌, [], false, true, IfOk, OnOk};
+// The statements that parts of a body are.
+ghost use Rattle.std.specs.Prelude.{◌≡◌, ◌++◌, ◌∷◌, [], IfOk, OnOk};
 ghost use Rattle.c_ast.specs.declared.conditions.Cond.{Cond};
 ghost use Rattle.c_types.specs.declared.program.Act.TheVariants.{Error, Return};
 ghost use Rattle.c_types.specs.declared.program.Stmt.TheVariants.{Branch, Do};
-ghost use Rattle.c_typing.specs.ItemSites.{body_sites};
 ghost use Rattle.c_typing.specs.Programs.{grouped, next_variable, initialised, declarators_stmts, declare_stmts, part_stmts, parts_stmts, block_stmts, stmt_stmts, other_stmts, cond_of, returned_operand};
-ghost use Rattle.c_typing.specs.Scopes.{empty_scope, all_declared, declared, past_declare, past_first, past_part, past_parts, past_block, past_stmt, past_other, opened};
+ghost use Rattle.c_typing.specs.Scopes.{all_declared, declared, past_declare, past_first, past_part, past_parts, past_block, past_stmt, past_other, opened};
 ghost use Rattle.c_check.specs.inner.Making.{first_stmts, group_first, for_body, past_for, for_made};
-ghost use Rattle.c_check.specs.inner.Meeting.{met};
 ghost use Rattle.c_check.specs.inner.ScopeTables.{outer};
 
 use crate::acts::{assignment, doing, maybe_simple, one, returned_operand, simple_stmts};
-use crate::bodies::{block_faults, declarators_of, kind_of};
+use crate::bodies::{declarators_of, kind_of};
 use crate::conditions::{cond_of, maybe_cond};
-use crate::counting::counts;
 use crate::meanings::variable;
 use crate::scopes::Scope;
 use crate::tables::Tables;
 use c_ast::{Block, Cond, Declarator, Declare, First, Operand, Part, Rhs, Simple, Stmt as Named};
-use c_types::{Act, Stmt, VarDef};
-use c_typing::{Kind, Meaning, TypeFault};
+use c_types::{Act, Stmt};
+use c_typing::{Kind, Meaning};
 use fore_base::boxed::Boxed;
 use fore_base::list::List;
 use fore_base::memory::Mem;
-use fore_base::text::Text;
 use std::alloc::Global;
 
 /// A statement with the variables of the innermost block, which die on this line.
@@ -244,7 +240,7 @@ fn stmt_stmts(alloc: Global, tables: &Tables, scope: &mut Scope, stmt: &Named) -
     match stmt {
         Named::Empty { .. } => Ok(List::new(alloc)),
         Named::Block(block) => block_stmts(alloc, tables, scope, block),
-        Named::Simple(simple) => simple_stmts(alloc, tables, scope, simple),
+        Named::Simple(simple) => simple_stmts(alloc, tables, scope, simple.get()),
         Named::If {
             cond,
             then,
@@ -275,7 +271,7 @@ fn stmt_stmts(alloc: Global, tables: &Tables, scope: &mut Scope, stmt: &Named) -
             cond,
             next,
             body,
-        } => for_stmts(alloc, tables, scope, at.line, first, cond, next, body),
+        } => for_stmts(alloc, tables, scope, at.line, first.get(), cond, next, body),
         Named::Return { at, operand } => return_stmts(alloc, tables, scope, operand, at.line),
         Named::Break { at } => doing(alloc, Act::Break, at.line),
         Named::Continue { at } => doing(alloc, Act::Continue, at.line),
@@ -293,7 +289,7 @@ fn for_stmts(
     line: u32,
     first: &First,
     cond: &Option<Cond>,
-    next: &Option<Simple>,
+    next: &Option<Boxed<Simple>>,
     body: &Boxed<Named>,
 ) -> Mem<List<Stmt>>
     ensures past { OnOk result (scope.new ≡ past_for tables.now first.now body.now scope.old) }
@@ -317,7 +313,7 @@ fn for_body(
     scope: &mut Scope,
     line: u32,
     cond: &Option<Cond>,
-    next: &Option<Simple>,
+    next: &Option<Boxed<Simple>>,
     body: &Boxed<Named>,
 ) -> Mem<Stmt>
     ensures past { OnOk result (scope.new ≡ past_stmt tables.now body.now scope.old) }
@@ -345,51 +341,4 @@ fn other_stmts(
         Some(stmt) => stmt_stmts(alloc, tables, scope, stmt.get()),
         None => Ok(List::new(alloc)),
     }
-}
-
-/// What the body of main is.
-#[derive(Drop)]
-pub struct Body {
-    pub vars: List<VarDef>,
-    pub data_vars: List<Text>,
-    pub body: List<Stmt>,
-}
-
-/// What the body of main breaks.
-#[tactic(auto, using(crate::proofs::MeetingLemmas::meeting))]
-fn main_faults(
-    alloc: Global,
-    tables: &Tables,
-    body: &Block,
-    found: &mut Option<TypeFault>,
-) -> Mem<()>
-    ensures { OnOk result (found.new ≡ met tables.now found.old (body_sites tables.now true body.now)) }
-{
-    let mut scope = Scope::new(alloc);
-    block_faults(alloc, tables, &mut scope, false, body, found)?;
-    counts(tables, body, found);
-    Ok(())
-}
-
-/// The body of main: all that it breaks is noted, and what it is.
-pub fn main_body(
-    alloc: Global,
-    tables: &Tables,
-    body: &Block,
-    found: &mut Option<TypeFault>,
-) -> Mem<Body>
-    ensures found { OnOk result (found.new ≡ met tables.now found.old (body_sites tables.now true body.now)) }
-    ensures vars { IfOk result (λ b. b.vars ≡ (past_block tables.now body.now empty_scope).vars) }
-    ensures data_vars { IfOk result (λ b. b.data_vars ≡ (past_block tables.now body.now empty_scope).data_vars) }
-    ensures body { IfOk result (λ b. b.body ≡ block_stmts tables.now body.now empty_scope) }
-{
-    main_faults(alloc, tables, body, found)?;
-    let mut scope = Scope::new(alloc);
-    let stmts = block_stmts(alloc, tables, &mut scope, body)?;
-    let (vars, data_vars) = scope.into_variables();
-    Ok(Body {
-        vars,
-        data_vars,
-        body: stmts,
-    })
 }

@@ -9,20 +9,17 @@ ghost use Rattle.c_typing.specs.Sites.{Ends, Overflows};
 ghost use Rattle.c_typing.specs.Typing.{breaches, IsFirstFault, TypedOf};
 ghost use Rattle.c_typing.specs.declared.fault.TypeFault.{TypeFault as Fault};
 ghost use Rattle.c_typing.specs.declared.fault.TypeFault.TheVariants.{Memory};
-ghost use Rattle.c_check.specs.inner.Bodies.{program_from};
 ghost use Rattle.c_check.specs.inner.First.{first_from};
-ghost use Rattle.c_check.specs.inner.Items.{any_main, kept_items_sites, nothing_kept};
 ghost use Rattle.c_check.specs.inner.Meeting.{met, noted};
 
 use crate::first::note_limit;
 use crate::items::all_items;
 use crate::noting::note_when;
-use crate::statements::Body;
+use crate::programs::program_in;
 use crate::tables::Tables;
-use c_ast::Unit;
+use c_ast::{Item, Unit};
 use c_types::Typed;
 use c_typing::TypeFault;
-use fore_base::list::List;
 use fore_base::memory::Mem;
 use fore_base::place::Place;
 use std::alloc::Global;
@@ -61,65 +58,31 @@ fn overflows(tables: &Tables, over: &Option<Place>, found: &mut Option<TypeFault
     }
 }
 
-/// All of a unit: what the body of the first `main` is, if there is one.
-fn all_places(
-    alloc: Global,
-    tables: &Tables,
-    unit: &Unit,
-    found: &mut Option<TypeFault>,
-) -> Mem<Option<Body>>
-    ensures found { OnOk result (found.new ≡ met tables.now found.old (unit_sites tables.now unit.now)) }
-    ensures program { IfOk result (λ main. program_from tables.now main [] ≡ program_in tables.now unit.now.items) }
+/// All of a unit.
+fn all_places(alloc: Global, tables: &Tables, unit: &Unit, found: &mut Option<TypeFault>) -> Mem<()>
+    ensures { OnOk result (found.new ≡ met tables.now found.old (unit_sites tables.now unit.now)) }
 {
     let main = all_items(alloc, tables, unit.items.as_slice(), found)?;
-    ends(tables, main.is_some(), unit.end, found);
+    ends(tables, main, unit.end, found);
     overflows(tables, &unit.over, found);
-    Ok(main)
+    Ok(())
 }
 
-/// The program that was read.
-fn program(alloc: Global, tables: &Tables, main: Option<Body>) -> Mem<Typed>
-    requires { is_typed (program_from tables.now main []) ≡ true }
-    ensures { IfOk result (λ typed. typed ≡ program_from tables.now main []) }
-{
-    let shapes = tables.shapes(alloc)?;
-    match main {
-        Some(
-            Body {
-                vars,
-                data_vars,
-                body,
-            },
-        ) => Ok(Typed {
-            shapes,
-            vars,
-            data_vars,
-            body,
-        }),
-        None => Ok(Typed {
-            shapes,
-            vars: List::new(alloc),
-            data_vars: List::new(alloc),
-            body: List::new(alloc),
-        }),
-    }
-}
-
-/// The first fault, if there was one, or else the program that was read.
+/// The first fault, if there was one, or else the program, which is made only then.
 fn outcome(
     alloc: Global,
     tables: &Tables,
-    main: Option<Body>,
+    items: &[Item],
     found: Option<TypeFault>,
 ) -> Result<Typed, TypeFault>
-    requires { found ≡ None → is_typed (program_from tables.now main []) ≡ true }
-    ensures ok { IfOk result (λ typed. (found ≡ None) × (typed ≡ program_from tables.now main [])) }
+    requires { found ≡ None → is_typed (program_in tables.now items.now) ≡ true }
+    ensures ok { IfOk result (λ typed. (found ≡ None) × (typed ≡ program_in tables.now items.now)) }
     ensures err { IfErr result (λ e. (e ≡ Memory) ⊎ (found ≡ Some e)) }
 {
     match found {
         Some(fault) => Err(fault),
         None => {
-            let typed = program(alloc, tables, main)?;
+            let typed = program_in(alloc, tables, items)?;
             Ok(typed)
         }
     }
@@ -131,6 +94,6 @@ fn answer(alloc: Global, unit: &Unit) -> Result<Typed, TypeFault>
 {
     let tables = Tables::of(alloc, unit.items.as_slice())?;
     let mut found = None;
-    let main = all_places(alloc, &tables, unit, &mut found)?;
-    outcome(alloc, &tables, main, found)
+    all_places(alloc, &tables, unit, &mut found)?;
+    outcome(alloc, &tables, unit.items.as_slice(), found)
 }

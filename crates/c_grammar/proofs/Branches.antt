@@ -1,31 +1,25 @@
 -- An if with its else, and levels that are opened by their own first token.
-use Rattle.std.proofs.Common.{◌≡◌, ◌≢◌, ◌⊎◌, ◌≤◌, ℕ, zero, suc, Bool, true, false, List, [], ◌∷◌, ◌++◌, Option, Some, None, refl, sym, ap, ◌∙◌, subst, inl, inr, arith}
+use Rattle.std.proofs.Common.{◌≡◌, ◌⊎◌, ℕ, true, false, List, [], ◌∷◌, ◌++◌, Option, Some, None, refl, sym, ap, ◌∙◌, inl, inr}
 use Rattle.fore_base.specs.declared.place.Place.{Place}
 use Rattle.c_ast.specs.declared.statements.Stmt.{Stmt}
 use Rattle.c_ast.specs.declared.statements.Stmt.TheVariants as stmt'
 use Rattle.c_lexer.specs.declared.token.Token.{Token}
-use Rattle.c_grammar.specs.inner.Faults.{Alive, Dead, Fails, Takes, Sinks}
+use Rattle.c_grammar.specs.inner.Faults.{Alive, Dead, Fails, Takes}
 use Rattle.c_grammar.specs.inner.Faults.Fails.{stuck, sunk, no_memory}
-use Rattle.c_grammar.specs.Grammar.{Part, Rule, token, empty, ◌then◌, ◌or◌, Made, Many, unless, level}
-use Rattle.c_grammar.specs.Hopeless.{IsWhole, place_at}
-use Rattle.c_grammar.specs.inner.Sets.{Signs, among, no_sign, elses, begins_stmt}
-use Rattle.c_grammar.specs.Signs.{sign_of, sign_at, or_on}
-use Rattle.c_grammar.specs.Syntax as s
-use Rattle.c_grammar.specs.Syntax.{at, at_of, second, stmt, flat_stmt, nested_stmt, other_part, declare, simple, cond}
+use Rattle.c_grammar.specs.Grammar.{Rule, token, ◌then◌, Made}
+use Rattle.c_grammar.specs.inner.Sets.{no_sign, elses, begins_stmt}
+use Rattle.c_grammar.specs.Signs.{sign_at}
+use Rattle.c_grammar.specs.Syntax.{second, stmt, other_part}
 use Rattle.c_grammar.specs.declared.fault.SyntaxFault.{SyntaxFault}
-use Rattle.c_grammar.specs.declared.fault.SyntaxFault.TheVariants.{Syntax, Deep}
 use Rattle.c_grammar.specs.declared.signs.Sign.TheVariants as sign
 use Rattle.c_grammar.proofs.Decide.{apart_of, within}
-use Rattle.c_grammar.proofs.Families.{both, choice, made, one}
 use Rattle.c_grammar.proofs.Goods.{named}
-use Rattle.c_grammar.proofs.Parts.{fails_made, takes_token, good_made}
 use Rattle.c_grammar.proofs.Rules.{Good, Fits, fails_front, fails_back, bars_both, same_head, nonempty}
-use Rattle.c_grammar.proofs.Statements.{good_stmt, good_other, good_flat}
+use Rattle.c_grammar.proofs.Statements.{good_stmt, good_other}
 use Rattle.c_grammar.proofs.Readings.{and_then}
 use Rattle.c_grammar.proofs.Levels.{empty_stmt}
 use Rattle.c_grammar.proofs.Steps.{widen_fails, good_pair}
-use Rattle.c_grammar.proofs.Tokens.{sample, sampled, real}
-use Rattle.c_grammar.proofs.Whole.{one_tree}
+use Rattle.c_grammar.proofs.Tokens.{sample}
 use Rattle.c_grammar.proofs.SignLemmas.{clash, one_of}
 use Rattle.c_grammar.specs.inner.Parted.{begins_level}
 

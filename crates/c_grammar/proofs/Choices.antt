@@ -1,14 +1,14 @@
 -- The laws of choices, with the conditions on signs decided, and choices of what the whole makes of its parts.
-use Rattle.std.proofs.Common.{◌≡◌, ◌⊎◌, ℕ, Bool, true, false, List, [], ◌∷◌, Option, Some, None, refl, sym, ap, ◌∙◌, inl, inr}
+use Rattle.std.proofs.Common.{◌≡◌, ◌⊎◌, ℕ, Bool, true, false, List, refl, ap, ◌∙◌, inl, inr}
 use Rattle.fore_base.specs.declared.place.Place.{Place}
 use Rattle.c_lexer.specs.declared.token.Token.{Token}
-use Rattle.c_grammar.specs.Grammar.{Rule, ◌or◌, Made, empty}
+use Rattle.c_grammar.specs.Grammar.{Rule}
 use Rattle.c_grammar.specs.Signs.{and, sign_at}
 use Rattle.c_grammar.specs.declared.fault.SyntaxFault.{SyntaxFault}
 use Rattle.c_grammar.specs.inner.Faults.{Fails, Takes}
-use Rattle.c_grammar.specs.inner.Sets.{Signs, no_sign}
+use Rattle.c_grammar.specs.inner.Sets.{Signs}
 use Rattle.c_grammar.proofs.Decide.{apart_of}
-use Rattle.c_grammar.proofs.Families.{choice, made, no_token}
+use Rattle.c_grammar.proofs.Families.{choice, made}
 use Rattle.c_grammar.proofs.Parts.{Same, takes_left, takes_right, fails_left, fails_right, cont_either}
 use Rattle.c_grammar.proofs.Rules.{Good, bars_both}
 use Rattle.c_grammar.proofs.Steps.{Clear}

@@ -1,7 +1,6 @@
 -- How a condition is read, and where it fails.
-use Rattle.std.proofs.Common.{◌≡◌, ◌≢◌, ◌⊎◌, ◌≤◌, ℕ, zero, suc, Bool, true, false, List, [], ◌∷◌, ◌++◌, Option, Some, None, refl, sym, ap, ◌∙◌, subst, append_assoc, inl, inr, arith}
+use Rattle.std.proofs.Common.{◌≡◌, ◌≢◌, ◌≤◌, ℕ, zero, suc, Bool, true, false, List, [], ◌∷◌, ◌++◌, Some, None, refl, sym, ap, ◌∙◌, subst, append_assoc, inl, inr, arith}
 use Rattle.fore_base.specs.declared.place.Place.{Place}
-use Rattle.c_ast.specs.declared.conditions.And.{And}
 use Rattle.c_ast.specs.declared.conditions.Cond.{Cond}
 use Rattle.c_ast.specs.declared.conditions.Test.{Test}
 use Rattle.c_ast.specs.declared.conditions.Test.TheVariants as test'
@@ -10,11 +9,11 @@ use Rattle.c_ast.specs.declared.conditions.Unary.TheVariants as unary'
 use Rattle.c_ast.specs.declared.operands.Operand.{Operand}
 use Rattle.c_ast.specs.declared.operands.Operand.TheVariants as operand'
 use Rattle.c_lexer.specs.declared.token.Token.{Token}
-use Rattle.c_grammar.specs.inner.Faults.{Alive, Dead, Fails, Takes, Sinks}
-use Rattle.c_grammar.specs.inner.Faults.Fails.{stuck, sunk, no_memory}
-use Rattle.c_grammar.specs.Grammar.{Part, Rule, token, empty, nowhere, ◌then◌, ◌or◌, Many, Made, level}
+use Rattle.c_grammar.specs.inner.Faults.{Alive, Fails, Takes}
+use Rattle.c_grammar.specs.inner.Faults.Fails.{sunk}
+use Rattle.c_grammar.specs.Grammar.{Rule, token, ◌then◌, Many, Made, level}
 use Rattle.c_grammar.specs.inner.Sets.{Signs, among, no_sign, equals, begins_nested, begins_operand, begins_cond, operand_goes_on, test_goes_on, and_goes_on, cond_goes_on}
-use Rattle.c_grammar.specs.inner.Shapes.{StaysOut, two_sides, a_comparison, an_inner_unary, a_unary, a_test, next_test, some_tests, next_and, some_ands, a_cond, an_operand}
+use Rattle.c_grammar.specs.inner.Shapes.{StaysOut, two_sides, a_comparison, a_test, next_test, next_and}
 use Rattle.c_grammar.specs.Signs.{sign_of, sign_at, or_on}
 use Rattle.c_grammar.specs.Syntax as s
 use Rattle.c_grammar.specs.Syntax.{at, at_of, operand, unary, inner_unary, test_with, and_with, cond, sides, compared_part, test_of, series, joined, second, optional, not_of, bracket_of, and_of, cond_of}
@@ -23,10 +22,11 @@ use Rattle.c_grammar.specs.declared.fault.SyntaxFault.TheVariants.{Syntax, Deep}
 use Rattle.c_grammar.specs.declared.signs.Sign.{Sign}
 use Rattle.c_grammar.specs.declared.signs.Sign.TheVariants as sign
 use Rattle.c_grammar.proofs.Decide.{apart_of, within, inside}
-use Rattle.c_grammar.proofs.Families.{both, choice, many, made, one, no_token}
+use Rattle.c_grammar.proofs.Families.{one}
 use Rattle.c_grammar.proofs.Endings.{ends_at}
 use Rattle.c_grammar.proofs.Goods.{named, good_one, good_at, good_operand}
-use Rattle.c_grammar.proofs.Parts.{Same, good_made, good_nothing, good_many, good_level, good_same, takes_made, fails_made, fails_same, takes_same, takes_nothing, takes_token, takes_left, takes_right, fails_left, fails_right, fails_first, fails_level, takes_level}
+use Rattle.c_grammar.proofs.Parts.{Same, good_made, good_nothing, good_level, good_same, takes_made, fails_made, fails_same, takes_same, takes_nothing, takes_token, takes_left, takes_right, fails_left, fails_right, fails_first, fails_level, takes_level}
+use Rattle.c_grammar.proofs.Repeats.{good_many}
 use Rattle.c_grammar.proofs.Rules.{Good}
 use Rattle.c_grammar.proofs.Statements.{good_sides, good_side, good_maybe_side, good_compared, good_factored_test, factored_test, to_test, from_test, unary_over, good_unary_over, good_inner_unary, good_cond}
 use Rattle.c_grammar.proofs.Steps.{good_pair, pair, in_front, in_back, in_back_of, widen_takes, widen_fails}

@@ -1,11 +1,11 @@
 -- What holds of sets of signs is decided sign by sign.
-use Rattle.std.proofs.Common.{◌≡◌, ℕ, zero, suc, ◌==◌, Bool, true, false, List, [], ◌∷◌, refl, sym, ap, ◌∙◌, subst, not}
-use Rattle.c_grammar.specs.inner.Sets.{Signs, among}
+use Rattle.std.proofs.Common.{◌≡◌, ℕ, zero, suc, Bool, true, false, List, [], ◌∷◌, refl, sym, ◌∙◌, not}
+use Rattle.c_grammar.specs.inner.Sets.{Signs}
 use Rattle.c_grammar.specs.declared.signs.Sign.{Sign}
 use Rattle.c_grammar.specs.declared.signs.Sign.TheVariants.{Id, Number, Struct, Enum, Int, Void, Extern, If, Else, While, Do, For, Return, Break, Continue, Sizeof, Malloc, Free, Assert, Null, True, False, Arrow, Equal, Unequal, And, Or, OpenBrace, CloseBrace, Open, Close, Semicolon, Comma, Star, Assign, Not, Other, End}
 use Rattle.c_grammar.proofs.Rules.{Apart}
 use Rattle.c_grammar.proofs.Parts.{Within}
-use Rattle.c_grammar.specs.Signs.{or_on, and, number_of, same_sign}
+use Rattle.c_grammar.specs.Signs.{and}
 use Rattle.c_grammar.proofs.SignLemmas.{clash}
 
 abbrev pub all : Signs → List Sign → Bool

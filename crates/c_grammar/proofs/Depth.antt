@@ -1,8 +1,8 @@
 -- The number of levels of a rule and the depth of its trees: a rule reads a tree with n levels exactly where it reads it with some number and the tree is no deeper than n.
-use Rattle.std.proofs.Common.{◌≡◌, ◌⊎◌, ◌≤◌, ◌<◌, ◌+◌, ℕ, zero, suc, pred, max, Bool, true, false, List, [], ◌∷◌, map, Option, Some, None, refl, sym, ap, ◌∙◌, subst, inl, inr, arith}
+use Rattle.std.proofs.Common.{◌≡◌, ◌≤◌, ◌<◌, ◌+◌, ℕ, zero, suc, max, List, map, Some, None, refl, sym, ap, ◌∙◌, subst, inl, inr, arith}
 use Rattle.c_lexer.specs.declared.token.Token.{Token}
 use Rattle.c_ast.specs.Depths.{deepest, depth_of_option}
-use Rattle.c_grammar.specs.Grammar.{Part, Rule, token, empty, nowhere, ◌then◌, ◌or◌, Many, Made, level}
+use Rattle.c_grammar.specs.Grammar.{Part, Rule, token, empty, nowhere, ◌then◌, Many, Made, level}
 use Rattle.c_grammar.specs.Grammar.Many.{none, more}
 use Rattle.c_grammar.specs.Syntax.{second, joined, middle, optional, series, bracketed}
 use Rattle.c_grammar.specs.declared.signs.Sign.{Sign}

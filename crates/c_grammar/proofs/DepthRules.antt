@@ -1,6 +1,5 @@
 -- Each rule reads a tree with n levels exactly where it reads it with some number of levels and the tree is no deeper than n.
-use Rattle.std.proofs.Common.{◌≡◌, ◌⊎◌, ◌≤◌, ◌<◌, ◌+◌, ℕ, zero, suc, pred, max, Bool, true, false, List, [], ◌∷◌, map, Option, Some, None, refl, sym, ap, ◌∙◌, subst, inl, inr, arith}
-use Rattle.fore_base.specs.declared.place.Place.{Place}
+use Rattle.std.proofs.Common.{◌≡◌, ◌≤◌, ℕ, suc, pred, max, List, [], map, Some, None, refl, sym, ap, ◌∙◌, subst, inl, inr, arith}
 use Rattle.c_lexer.specs.declared.token.Token.{Token}
 use Rattle.c_ast.proofs.DepthLemmas as depth
 use Rattle.c_ast.specs.Depths.{deepest, depth_of_option, depth_of_argument, depth_of_call, depth_of_operand, depth_of_rhs, depth_of_simple, depth_of_test, depth_of_unary, depth_of_and, depth_of_cond, depth_of_declarator, depth_of_declare, depth_of_first, depth_of_part, depth_of_stmt, depth_of_block, depth_of_item, depth_of_items}
@@ -17,7 +16,7 @@ use Rattle.c_ast.specs.declared.statements.First.TheVariants as first'
 use Rattle.c_ast.specs.declared.statements.Part.TheVariants as part'
 use Rattle.c_ast.specs.declared.statements.Stmt.{Stmt}
 use Rattle.c_ast.specs.declared.statements.Stmt.TheVariants as stmt'
-use Rattle.c_grammar.specs.Grammar.{Part, Rule, token, empty, nowhere, ◌then◌, ◌or◌, Many, Made, unless, level}
+use Rattle.c_grammar.specs.Grammar.{Part, Rule, token, empty, ◌then◌, unless, level}
 use Rattle.c_grammar.specs.Hopeless.{IsWhole}
 use Rattle.c_grammar.specs.Items as i
 use Rattle.c_grammar.specs.Items.{head, structdef, enumdef, proto, item, unit}
@@ -25,8 +24,7 @@ use Rattle.c_grammar.specs.Syntax as s
 use Rattle.c_grammar.specs.Syntax.{at, name, path, second, first, optional, series, arguments, argument, call_with, call, operand, literal_part, size, cast, bracketed, rhs, simple, sides, cond, unary, nested_unary, inner_unary, and_with, cond_with, test_with, data_part, declarator, declare, flat_stmt, nested_stmt, other_part, first_part, block_with, stmt, inner_block, block}
 use Rattle.c_grammar.specs.declared.signs.Sign.TheVariants as sign
 use Rattle.c_grammar.proofs.Conditions.{same_unary}
-use Rattle.c_grammar.proofs.Depth.{Deep, flat, zero_le, deep_flat, deep_both, deep_made, deep_or, deep_nowhere, deep_many, deep_level, deep_same, deep_fix, deep_token, deep_bracketed, deep_after, deep_optional, deep_series}
-use Rattle.c_grammar.proofs.Families.{both, choice, made}
+use Rattle.c_grammar.proofs.Depth.{Deep, zero_le, deep_flat, deep_both, deep_made, deep_or, deep_many, deep_level, deep_same, deep_fix, deep_token, deep_bracketed, deep_after, deep_optional, deep_series}
 use Rattle.c_grammar.proofs.Goods.{argument_layer, layer_is, layer_causal, same_call}
 use Rattle.c_grammar.proofs.Statements.{unary_over, unary_layer, unary_is, unary_causal, stmt_layer, stmt_is, stmt_causal}
 

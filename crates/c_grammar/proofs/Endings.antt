@@ -1,10 +1,10 @@
 -- Parts that end with a token that is no name.
-use Rattle.std.proofs.Common.{◌≡◌, ◌⊎◌, ℕ, Bool, true, false, List, [], ◌∷◌, ◌++◌, refl, sym, ap, ◌∙◌, subst, inl, inr, append_assoc, cond}
+use Rattle.std.proofs.Common.{◌≡◌, ℕ, Bool, false, List, [], ◌∷◌, ◌++◌, sym, ap, ◌∙◌, subst, inl, inr, append_assoc, cond}
 use Rattle.std.proofs.lemmas.List.{append-nil}
 use Rattle.c_lexer.specs.declared.token.Token.{Token}
 use Rattle.c_grammar.specs.Grammar.{Rule}
 use Rattle.c_grammar.specs.Hopeless.{opener, opener_of}
-use Rattle.c_grammar.specs.Signs.{and, same_sign, sign_of, sign_at}
+use Rattle.c_grammar.specs.Signs.{and, same_sign, sign_of}
 use Rattle.c_grammar.specs.Syntax.{at, at_of}
 use Rattle.c_grammar.specs.inner.Faults.{Takes}
 use Rattle.c_grammar.specs.inner.Sets.{Signs}

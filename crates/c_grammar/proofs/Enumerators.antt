@@ -1,16 +1,16 @@
 -- The names of an enumeration: a comma may stand after the last, so one token does not tell whether a name follows a comma.
-use Rattle.std.proofs.Common.{◌≡◌, ◌≢◌, ◌⊎◌, ◌≤◌, ℕ, Bool, true, false, List, [], ◌∷◌, ◌++◌, Option, Some, None, refl, sym, ap, ◌∙◌, subst, inl, inr, append_assoc}
+use Rattle.std.proofs.Common.{◌≡◌, ◌≢◌, ℕ, true, false, List, [], ◌∷◌, ◌++◌, Option, Some, None, refl, sym, ap, ◌∙◌, subst, inl, inr, append_assoc}
 use Rattle.std.proofs.lemmas.List.{append-nil}
 use Rattle.fore_base.specs.declared.place.Place.{Place}
 use Rattle.c_ast.specs.declared.operands.Name.{Name}
 use Rattle.c_lexer.specs.declared.token.Token.{Token}
-use Rattle.c_grammar.specs.Grammar.{Part, Rule, token, empty, ◌then◌, ◌or◌, Many, Made}
+use Rattle.c_grammar.specs.Grammar.{Part, Rule, token, ◌then◌, Many, Made}
 use Rattle.c_grammar.specs.inner.Sets.{Signs, among, no_sign}
 use Rattle.c_grammar.specs.Signs.{sign_of, sign_at}
 use Rattle.c_grammar.specs.Items.{more_names}
 use Rattle.c_grammar.specs.Syntax.{name, first, second, optional}
 use Rattle.c_grammar.specs.declared.signs.Sign.TheVariants as sign
-use Rattle.c_grammar.specs.Hopeless.{opener, place_at}
+use Rattle.c_grammar.specs.Hopeless.{place_at}
 use Rattle.c_grammar.specs.Signs.{same_sign}
 use Rattle.c_grammar.specs.inner.Faults.{Alive, Fails, Takes}
 use Rattle.c_grammar.specs.inner.Faults.Fails.{stuck, sunk, no_memory}

@@ -1,5 +1,5 @@
 -- The parts of rules, for each number of levels.
-use Rattle.std.proofs.Common.{ℕ, List}
+use Rattle.std.proofs.Common.{List}
 use Rattle.c_lexer.specs.declared.token.Token.{Token}
 use Rattle.c_grammar.specs.Grammar.{Rule, token, empty, ◌then◌, ◌or◌, Many, Made}
 use Rattle.c_grammar.specs.declared.signs.Sign.{Sign}

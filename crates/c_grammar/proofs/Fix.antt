@@ -1,10 +1,9 @@
 -- A rule that is made of itself one level further in is good where each layer is.
-use Rattle.std.proofs.Common.{◌≡◌, ◌⊎◌, ◌≤◌, ◌<◌, ◌+◌, ℕ, zero, suc, Bool, true, false, List, [], ◌++◌, refl, sym, ap, ◌∙◌, subst, arith}
+use Rattle.std.proofs.Common.{◌≡◌, ◌<◌, ◌+◌, ℕ, zero, suc, Bool, List, ◌++◌, sym, ◌∙◌, subst, arith}
 use Rattle.c_lexer.specs.declared.token.Token.{Token}
 use Rattle.c_grammar.specs.inner.Sets.{Signs}
-use Rattle.c_grammar.specs.Grammar.{Part, Rule, nowhere}
-use Rattle.c_grammar.specs.Signs.{sign_at}
-use Rattle.c_grammar.proofs.Rules.{Front, Good}
+use Rattle.c_grammar.specs.Grammar.{Rule, nowhere}
+use Rattle.c_grammar.proofs.Rules.{Good}
 
 -- as many layers as are looked into
 module _ {X : Type 0} (T : Rule X → Rule X) (F : Rule X) (is : (n : ℕ) → F n ≡ T F n)

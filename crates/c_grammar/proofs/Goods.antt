@@ -1,23 +1,23 @@
 -- The rules of the grammar are good.
-use Rattle.std.proofs.Common.{◌≡◌, ◌⊎◌, ◌<◌, ℕ, zero, suc, ◌==◌, Bool, true, false, List, [], ◌∷◌, refl, sym, ap, ◌∙◌, subst, inl, inr, arith}
+use Rattle.std.proofs.Common.{◌≡◌, ◌⊎◌, ◌<◌, ℕ, zero, suc, Bool, true, false, List, [], ◌∷◌, refl, sym, ap, ◌∙◌, subst, inl, inr, arith}
 use Rattle.c_ast.specs.declared.operands.Arrow.{Arrow}
-use Rattle.c_ast.specs.declared.operands.Call.{Call, roll-Call}
+use Rattle.c_ast.specs.declared.operands.Call.{Call}
 use Rattle.c_ast.specs.declared.operands.Name.{Name}
 use Rattle.c_ast.specs.declared.operands.Operand.{Operand}
 use Rattle.c_ast.specs.declared.operands.Operand.TheVariants as operand'
-use Rattle.c_ast.specs.declared.operands.Path.{Path}
 use Rattle.c_lexer.specs.declared.token.Token.{Token}
-use Rattle.c_grammar.specs.Grammar.{Part, Rule, token, empty, nowhere, ◌then◌, ◌or◌, Many, Made, unless, level}
+use Rattle.c_grammar.specs.Grammar.{Part, Rule, token, empty, nowhere, ◌then◌, ◌or◌, Many, Made, level}
 use Rattle.c_grammar.specs.inner.Sets.{commas, opens, tails, operands_go_on, arguments_go_on, Signs, among, no_sign, arrows, names, operand_goes_on, begins_operand}
-use Rattle.c_grammar.specs.Syntax.{at, at_of, name, name_of, number, arrow, arrow_of, path, path_of, bracketed, middle, series, joined, second, optional, arguments, call_with, call_of, call, operand_with, operand, argument, literal_part}
+use Rattle.c_grammar.specs.Syntax.{at, at_of, name, name_of, arrow, arrow_of, path, path_of, middle, series, joined, second, arguments, call_with, call_of, call, operand_with, operand, argument, literal_part}
 use Rattle.c_grammar.specs.declared.signs.Sign.{Sign}
 use Rattle.c_grammar.specs.declared.signs.Sign.TheVariants as sign
 use Rattle.c_grammar.proofs.Decide.{holds, every, implies, inside, within, apart_of}
-use Rattle.c_grammar.proofs.Families.{both, choice, many, made, one, no_token}
+use Rattle.c_grammar.proofs.Families.{one}
 use Rattle.c_grammar.proofs.Fix.{good_fix}
-use Rattle.c_grammar.proofs.Parts.{good_token, good_nothing, good_made, good_either, good_many, good_level, good_same, good_within, Same}
+use Rattle.c_grammar.proofs.Parts.{good_token, good_nothing, good_made, good_either, good_level, good_same, good_within, Same}
+use Rattle.c_grammar.proofs.Repeats.{good_many}
 use Rattle.c_grammar.proofs.Rules.{Good, good_both}
-use Rattle.c_grammar.specs.Signs.{or_on, and, number_of, same_sign}
+use Rattle.c_grammar.specs.Signs.{or_on, same_sign}
 
 -- a rule with sets of signs that are given
 pub named : {X : Type 0} {A : Rule X} {fa ca ba : Signs} {na : Bool} (fb cb bb : Signs) → Good A fa ca ba na →

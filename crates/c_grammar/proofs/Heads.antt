@@ -1,21 +1,14 @@
 -- The heads of `if`, `while` and `for`, read apart from the statement after them.
-use Rattle.std.proofs.Common.{◌≡◌, ℕ, Bool, true, false, List, [], ◌∷◌, Option, refl, sym, ap, ◌∙◌}
-use Rattle.fore_base.specs.declared.place.Place.{Place}
-use Rattle.c_ast.specs.declared.conditions.Cond.{Cond}
-use Rattle.c_ast.specs.declared.simples.Simple.{Simple}
-use Rattle.c_ast.specs.declared.statements.First.{First}
+use Rattle.std.proofs.Common.{ℕ, false, [], ◌∷◌, refl, ap, ◌∙◌}
 use Rattle.c_ast.specs.declared.statements.Stmt.{Stmt}
 use Rattle.c_ast.specs.declared.statements.Stmt.TheVariants as stmt'
-use Rattle.c_lexer.specs.declared.token.Token.{Token}
-use Rattle.c_grammar.specs.Grammar.{Part, Rule, token, ◌then◌, Made}
+use Rattle.c_grammar.specs.Grammar.{Rule, token, ◌then◌, Made}
 use Rattle.c_grammar.specs.Syntax as s
 use Rattle.c_grammar.specs.Syntax.{at, middle, bracketed, optional, cond, declare, simple, first_part, stmt, other_part}
-use Rattle.c_grammar.specs.declared.signs.Sign.{Sign}
 use Rattle.c_grammar.specs.declared.signs.Sign.TheVariants as sign
 use Rattle.c_grammar.specs.inner.Parted.{HeadOfFor, for_head, for_head_of}
 use Rattle.c_grammar.specs.inner.Faults.{Alive}
 use Rattle.c_grammar.specs.inner.Sets.{among, no_sign}
-use Rattle.c_grammar.proofs.Families.{made}
 use Rattle.c_grammar.proofs.Goods.{named, good_one, good_at}
 use Rattle.c_grammar.proofs.Conditions.{least_cond}
 use Rattle.c_grammar.proofs.Parts.{Same, good_made, alive_made}

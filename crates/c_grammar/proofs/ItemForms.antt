@@ -1,37 +1,28 @@
 -- Items as the grammar has them, and parted by their first tokens: both forms read the same.
-use Rattle.std.proofs.Common.{◌≡◌, ◌⊎◌, ℕ, Bool, true, false, List, [], ◌∷◌, Option, Some, None, refl, sym, ap, ◌∙◌, subst, inl, inr}
+use Rattle.std.proofs.Common.{◌≡◌, ℕ, true, false, List, ◌∷◌, Option, Some, None, refl, sym, ap, ◌∙◌, subst, inl, inr}
 use Rattle.fore_base.specs.declared.place.Place.{Place}
-use Rattle.c_ast.specs.declared.items.Field.{Field}
 use Rattle.c_ast.specs.declared.items.Head.{Head}
 use Rattle.c_ast.specs.declared.items.Item.{Item}
 use Rattle.c_ast.specs.declared.items.Item.TheVariants as item'
 use Rattle.c_ast.specs.declared.items.Params.{Params}
-use Rattle.c_ast.specs.declared.items.Params.TheVariants as params'
 use Rattle.c_ast.specs.declared.items.ReturnType.{ReturnType}
 use Rattle.c_ast.specs.declared.items.ReturnType.TheVariants as return'
 use Rattle.c_ast.specs.declared.operands.Name.{Name}
-use Rattle.c_ast.specs.declared.simples.Rhs.{Rhs}
 use Rattle.c_ast.specs.declared.statements.Block.{Block}
 use Rattle.c_ast.specs.declared.statements.Data.{Data}
 use Rattle.c_ast.specs.declared.statements.Data.TheVariants as data'
-use Rattle.c_ast.specs.declared.statements.Declarator.{Declarator}
 use Rattle.c_ast.specs.declared.statements.Declare.TheVariants as declare'
 use Rattle.c_lexer.specs.declared.token.Token.{Token}
-use Rattle.c_grammar.specs.Grammar.{Part, Rule, token, empty, ◌then◌, ◌or◌, Many, Made}
-use Rattle.c_grammar.specs.Items as i
-use Rattle.c_grammar.specs.Items.{some, field, star_name, braced_fields, more_names, Enumerated, enum_body, rtype, param, params, closed_params, head, head_of, item, unit}
-use Rattle.c_grammar.specs.Signs.{or_on}
-use Rattle.c_grammar.specs.Syntax as s
-use Rattle.c_grammar.specs.Syntax.{at, name, second, middle, joined, optional, series, data_part, declarator, declarator_of, declare, block, rhs}
-use Rattle.c_grammar.specs.inner.Sets.{Signs, among, no_sign, names, opens, commas, elses, begins_declare}
+use Rattle.c_grammar.specs.Grammar.{token}
+use Rattle.c_grammar.specs.Items.{rtype, closed_params, head, head_of, item, unit}
+use Rattle.c_grammar.specs.Syntax.{at, name, optional, data_part, declarator_of, declare}
+use Rattle.c_grammar.specs.inner.Sets.{no_sign, elses}
 use Rattle.c_grammar.specs.declared.signs.Sign.TheVariants as sign
 use Rattle.c_grammar.proofs.Decide.{apart_of}
-use Rattle.c_grammar.proofs.Enumerators.{good_written}
-use Rattle.c_grammar.proofs.Goods.{named, good_one, good_at, good_name}
-use Rattle.c_grammar.proofs.Parts.{Same, good_made, good_nothing, good_many, good_level, good_same}
+use Rattle.c_grammar.proofs.Goods.{named}
+use Rattle.c_grammar.proofs.Parts.{Same, good_same}
+use Rattle.c_grammar.proofs.Repeats.{good_many}
 use Rattle.c_grammar.proofs.Rules.{Good}
-use Rattle.c_grammar.proofs.Statements.{good_data, good_declarator, good_maybe_from, good_star_declarator, good_inner_block}
-use Rattle.c_grammar.proofs.Steps.{good_pair, good_or}
 use Rattle.c_grammar.proofs.Items.{good_parted}
 use Rattle.c_grammar.proofs.Whole.{one_tree}
 use Rattle.c_grammar.specs.Hopeless.{IsWhole}

@@ -1,16 +1,13 @@
 -- Every rule reads something.
-use Rattle.std.proofs.Common.{◌≡◌, ℕ, zero, suc, List, [], ◌∷◌, Option, Some, None, refl, inl, inr}
-use Rattle.c_ast.specs.declared.operands.Name.{Name}
-use Rattle.c_ast.specs.declared.operands.Path.{Path}
+use Rattle.std.proofs.Common.{ℕ, List, [], ◌∷◌, None, refl, inl, inr}
 use Rattle.c_ast.specs.declared.simples.Rhs.TheVariants as rhs'
-use Rattle.c_ast.specs.declared.simples.Simple.TheVariants as simple'
 use Rattle.c_ast.specs.declared.statements.First.TheVariants as first'
 use Rattle.c_lexer.specs.declared.token.Token.{Token}
-use Rattle.c_grammar.specs.Grammar.{Rule, Many, ◌then◌, ◌or◌}
+use Rattle.c_grammar.specs.Grammar.{Rule, Many, ◌then◌}
 use Rattle.c_grammar.specs.Syntax as syntax
 use Rattle.c_grammar.specs.declared.signs.Sign.TheVariants as sign
 use Rattle.c_grammar.specs.inner.Faults.{Alive}
-use Rattle.c_grammar.specs.inner.Parted.{inside_part, sized_part, After, after_part}
+use Rattle.c_grammar.specs.inner.Parted.{inside_part, sized_part, after_part}
 use Rattle.c_grammar.specs.inner.Sets.{Signs, no_sign}
 use Rattle.c_grammar.proofs.Conditions.{least_operand}
 use Rattle.c_grammar.proofs.Families.{one}

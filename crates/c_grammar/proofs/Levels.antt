@@ -1,29 +1,27 @@
 -- Levels that are opened by their own first token.
-use Rattle.std.proofs.Common.{◌≡◌, ◌≢◌, ◌⊎◌, ◌≤◌, ℕ, zero, suc, Bool, true, false, List, [], ◌∷◌, ◌++◌, Option, Some, None, refl, sym, ap, ◌∙◌, subst, append_assoc, inl, inr, arith}
+use Rattle.std.proofs.Common.{◌≡◌, ◌⊎◌, ◌≤◌, ℕ, zero, suc, Bool, true, false, List, [], ◌∷◌, ◌++◌, None, refl, sym, ap, ◌∙◌, subst, append_assoc, inl, inr, arith}
 use Rattle.fore_base.specs.declared.place.Place.{Place}
 use Rattle.c_ast.specs.declared.statements.First.TheVariants as first'
 use Rattle.c_ast.specs.declared.statements.Stmt.{Stmt}
 use Rattle.c_ast.specs.declared.statements.Stmt.TheVariants as stmt'
 use Rattle.c_lexer.specs.declared.token.Token.{Token}
-use Rattle.c_grammar.specs.Grammar.{Part, Rule, token, empty, ◌then◌, ◌or◌, Made, Many, unless, level}
+use Rattle.c_grammar.specs.Grammar.{Rule, Many}
 use Rattle.c_grammar.specs.Hopeless.{place_at}
 use Rattle.c_grammar.specs.Signs.{or_on, same_sign, sign_of, sign_at}
 use Rattle.c_grammar.specs.Syntax as s
 use Rattle.c_grammar.specs.Syntax.{at, at_of, cond, stmt, flat_stmt}
-use Rattle.c_grammar.specs.declared.fault.SyntaxFault.{SyntaxFault}
-use Rattle.c_grammar.specs.declared.fault.SyntaxFault.TheVariants.{Syntax, Deep}
+use Rattle.c_grammar.specs.declared.fault.SyntaxFault.TheVariants.{Deep}
 use Rattle.c_grammar.specs.declared.signs.Sign.{Sign}
 use Rattle.c_grammar.specs.declared.signs.Sign.TheVariants as sign
-use Rattle.c_grammar.specs.inner.Faults.{Alive, Dead, Fails, Takes, Sinks}
-use Rattle.c_grammar.specs.inner.Faults.Fails.{stuck, sunk, no_memory}
+use Rattle.c_grammar.specs.inner.Faults.{Alive, Fails}
+use Rattle.c_grammar.specs.inner.Faults.Fails.{sunk}
 use Rattle.c_grammar.specs.inner.Sets.{Signs, among, no_sign, elses}
-use Rattle.c_grammar.specs.inner.Shapes.{StaysOut}
 use Rattle.c_grammar.proofs.Conditions.{least_cond}
 use Rattle.c_grammar.proofs.Decide.{apart_of}
 use Rattle.c_grammar.proofs.Readings.{tok, make, and_then, at_tok}
 use Rattle.c_grammar.proofs.SignLemmas.{clash, one_of}
 use Rattle.c_grammar.proofs.Statements.{good_flat}
-use Rattle.c_grammar.proofs.Tokens.{sample, sampled, real}
+use Rattle.c_grammar.proofs.Tokens.{sample, real}
 use Rattle.c_grammar.specs.inner.Parted.{begins_flat, begins_level}
 
 -- where a level begins and none is left

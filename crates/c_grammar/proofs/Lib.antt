@@ -22,6 +22,7 @@ pub mod Literals
 pub mod Operands
 pub mod Parts
 pub mod Readings
+pub mod Repeats
 pub mod Rows
 pub mod Rules
 pub mod Sequences

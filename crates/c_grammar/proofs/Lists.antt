@@ -1,19 +1,19 @@
 -- A repetition that is read part by part.
-use Rattle.std.proofs.Common.{not, ◌≤◌, length, length-append, arith, inl, ◌≡◌, ℕ, Bool, true, false, List, [], ◌∷◌, ◌++◌, refl, sym, ap, subst, append_assoc}
+use Rattle.std.proofs.Common.{not, ◌≤◌, length, length-append, arith, inl, ◌≡◌, ℕ, true, false, List, [], ◌∷◌, ◌++◌, refl, sym, ap, subst, append_assoc}
 use Rattle.std.proofs.lemmas.List.{append-nil}
 use Rattle.fore_base.specs.declared.place.Place.{Place}
 use Rattle.c_lexer.specs.declared.token.Token.{Token}
-use Rattle.c_grammar.specs.inner.Faults.{Fails, Takes, Alive}
-use Rattle.c_grammar.specs.Grammar.{Rule, Many}
-use Rattle.c_grammar.specs.inner.Sets.{Signs, no_sign}
+use Rattle.c_grammar.specs.inner.Faults.{Fails, Takes}
+use Rattle.c_grammar.specs.Grammar.{Rule}
+use Rattle.c_grammar.specs.inner.Sets.{Signs}
 use Rattle.c_grammar.specs.Signs.{sign_at}
 use Rattle.c_grammar.proofs.Decide.{every, implies, apart_of}
 use Rattle.c_grammar.proofs.SignLemmas.{clash}
-use Rattle.c_grammar.specs.declared.signs.Sign.{Sign}
 use Rattle.c_grammar.specs.declared.signs.Sign.TheVariants.{Open, End}
 use Rattle.c_grammar.specs.declared.fault.SyntaxFault.{SyntaxFault}
-use Rattle.c_grammar.proofs.Families.{both, many}
-use Rattle.c_grammar.proofs.Parts.{Within, fails_within, cont_many, good_many, takes_none, takes_more, fails_many, least_many}
+use Rattle.c_grammar.proofs.Families.{many}
+use Rattle.c_grammar.proofs.Parts.{fails_within}
+use Rattle.c_grammar.proofs.Repeats.{cont_many, good_many, takes_none, takes_more, fails_many, least_many}
 use Rattle.c_grammar.proofs.Rules.{Apart, Good, fails_front, fails_back, follows, calm_of, nonempty}
 
 -- from these tokens on parts were read up to those: what is read from there on is read by the whole rule after them

@@ -1,20 +1,19 @@
 -- How a literal is read, and where it fails.
-use Rattle.std.proofs.Common.{◌≡◌, ◌≢◌, ℕ, Bool, true, false, List, [], ◌∷◌, refl, sym, ap, ◌∙◌, subst, inl, inr}
+use Rattle.std.proofs.Common.{◌≡◌, ◌≢◌, ℕ, List, [], ◌∷◌, refl, sym, ap, subst, inl, inr}
 use Rattle.fore_base.specs.declared.place.Place.{Place}
-use Rattle.c_ast.specs.declared.operands.Name.{Name}
 use Rattle.c_ast.specs.declared.operands.Operand.{Operand}
 use Rattle.c_ast.specs.declared.operands.Operand.TheVariants as operand'
 use Rattle.c_lexer.specs.declared.token.Token.{Token}
 use Rattle.c_grammar.specs.inner.Faults.{Alive, Fails, Takes}
-use Rattle.c_grammar.specs.inner.Sets.{Signs, among, no_sign}
+use Rattle.c_grammar.specs.inner.Sets.{no_sign}
 use Rattle.c_grammar.specs.inner.Shapes.{a_literal}
-use Rattle.c_grammar.specs.Signs.{sign_of, sign_at, or_on, same_sign}
+use Rattle.c_grammar.specs.Signs.{sign_of, sign_at}
 use Rattle.c_grammar.specs.Syntax.{literal_part, name_of}
 use Rattle.c_grammar.specs.declared.fault.SyntaxFault.{SyntaxFault}
 use Rattle.c_grammar.specs.declared.fault.SyntaxFault.TheVariants.{Syntax}
 use Rattle.c_grammar.specs.declared.signs.Sign.{Sign}
 use Rattle.c_grammar.specs.declared.signs.Sign.TheVariants as sign
-use Rattle.c_grammar.proofs.Goods.{good_literal, begins_literal}
+use Rattle.c_grammar.proofs.Goods.{good_literal}
 use Rattle.c_grammar.proofs.Parts.{fails_first}
 use Rattle.c_grammar.proofs.Tokens.{sample, sampled, real}
 use Rattle.c_grammar.specs.Hopeless.{place_at}

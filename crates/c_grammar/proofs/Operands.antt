@@ -1,26 +1,27 @@
 -- How an operand is read, and where it fails.
-use Rattle.std.proofs.Common.{cond, ◌≡◌, ◌≢◌, ◌⊎◌, ◌≤◌, ◌-◌, ℕ, zero, suc, Bool, true, false, List, [], ◌∷◌, ◌++◌, refl, sym, ap, ◌∙◌, subst, inl, inr, arith}
+use Rattle.std.proofs.Common.{cond, ◌≡◌, ◌≢◌, ◌≤◌, ℕ, zero, suc, Bool, true, false, List, [], ◌∷◌, ◌++◌, refl, sym, ap, ◌∙◌, subst, inl, inr, arith}
 use Rattle.fore_base.specs.declared.place.Place.{Place}
 use Rattle.c_ast.specs.declared.operands.Arrow.{Arrow}
 use Rattle.c_ast.specs.declared.operands.Name.{Name}
 use Rattle.c_ast.specs.declared.operands.Operand.{Operand}
 use Rattle.c_ast.specs.declared.operands.Operand.TheVariants as operand'
 use Rattle.c_lexer.specs.declared.token.Token.{Token}
-use Rattle.c_grammar.specs.inner.Faults.{Alive, Dead, Fails, Takes, Sinks}
-use Rattle.c_grammar.specs.inner.Faults.Fails.{stuck, sunk, no_memory}
-use Rattle.c_grammar.specs.Grammar.{Part, Rule, token, empty, nowhere, ◌then◌, ◌or◌, Many, Made, level}
-use Rattle.c_grammar.specs.inner.Sets.{Signs, among, no_sign, arrows, names, opens, commas, tails, operand_goes_on, operands_go_on, arguments_go_on, begins_operand}
-use Rattle.c_grammar.specs.inner.Shapes.{IsName, a_name, some_arrows, an_argument, next_argument, more_arguments, some_arguments, all_arguments, a_literal}
-use Rattle.c_grammar.specs.Signs.{sign_of, sign_at, or_on, same_sign, and}
-use Rattle.c_grammar.specs.Syntax.{at, at_of, name, name_of, arrow, path_of, middle, series, joined, second, arguments, call_of, call_with, operand_with, argument, literal_part}
+use Rattle.c_grammar.specs.inner.Faults.{Alive, Fails, Takes}
+use Rattle.c_grammar.specs.inner.Faults.Fails.{sunk}
+use Rattle.c_grammar.specs.Grammar.{Rule, token, empty, ◌then◌, ◌or◌, Many}
+use Rattle.c_grammar.specs.inner.Sets.{no_sign, arrows, names, opens, commas, tails, operand_goes_on, operands_go_on, arguments_go_on, begins_operand}
+use Rattle.c_grammar.specs.inner.Shapes.{IsName, a_name, some_arrows, next_argument, some_arguments, all_arguments, a_literal}
+use Rattle.c_grammar.specs.Signs.{sign_of, sign_at, same_sign}
+use Rattle.c_grammar.specs.Syntax.{name, name_of, path_of, middle, series, joined, second, call_of, argument}
 use Rattle.c_grammar.specs.declared.fault.SyntaxFault.{SyntaxFault}
 use Rattle.c_grammar.specs.declared.fault.SyntaxFault.TheVariants.{Syntax, Deep}
 use Rattle.c_grammar.specs.declared.signs.Sign.TheVariants as sign
 use Rattle.c_grammar.proofs.Decide.{apart_of, within}
-use Rattle.c_grammar.proofs.Families.{both, choice, many, made, one, no_token}
-use Rattle.c_grammar.proofs.Goods.{good_one, good_name, good_arrows, good_next_operand, good_more_operands, good_operands, good_some_operands, good_closed_operands, good_arguments, good_argument, good_tail, good_word, good_literal, tail_part, word_of, word_part, Tail, factored, inner_arguments, same_layer, layer_is, begins_literal}
+use Rattle.c_grammar.proofs.Families.{one}
+use Rattle.c_grammar.proofs.Goods.{good_one, good_name, good_arrows, good_more_operands, good_operands, good_some_operands, good_closed_operands, good_arguments, good_argument, good_tail, good_word, good_literal, tail_part, word_of, Tail, factored, inner_arguments, same_layer, layer_is, begins_literal}
 use Rattle.c_grammar.proofs.Lists.{Leads}
-use Rattle.c_grammar.proofs.Parts.{Same, good_made, good_nothing, good_level, takes_made, fails_made, fails_same, takes_same, takes_nothing, takes_left, takes_right, fails_left, fails_right, least_many, cont_many, fails_level, takes_level, takes_token}
+use Rattle.c_grammar.proofs.Parts.{Same, good_made, good_nothing, good_level, takes_made, fails_made, fails_same, takes_same, takes_nothing, takes_left, takes_right, fails_left, fails_right, fails_level, takes_level, takes_token}
+use Rattle.c_grammar.proofs.Repeats.{least_many}
 use Rattle.c_grammar.proofs.Rules.{Good}
 use Rattle.c_grammar.proofs.Steps.{pair, in_front, in_back, widen_takes, widen_fails}
 use Rattle.c_grammar.proofs.Tokens.{sample, sampled, real, fails_one, takes_name}

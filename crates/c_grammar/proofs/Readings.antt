@@ -1,9 +1,7 @@
 -- Readings put together from their pieces, before tokens that are made for it.
-use Rattle.std.proofs.Common.{◌≡◌, ◌≢◌, List, [], ◌∷◌, refl}
-use Rattle.fore_base.specs.declared.place.Place.{Place}
+use Rattle.std.proofs.Common.{◌≢◌, List, ◌∷◌, refl}
 use Rattle.c_lexer.specs.declared.token.Token.{Token}
 use Rattle.c_grammar.specs.Grammar.{Part, token, ◌then◌, Made}
-use Rattle.c_grammar.specs.Signs.{sign_of}
 use Rattle.c_grammar.specs.Syntax.{at, at_of}
 use Rattle.c_grammar.specs.declared.signs.Sign.{Sign}
 use Rattle.c_grammar.specs.declared.signs.Sign.TheVariants.{End}

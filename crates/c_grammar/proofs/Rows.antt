@@ -1,16 +1,13 @@
 -- Worked rows of the grammar: small texts with their trees, made by hand from the rules, and texts that are none.
-use Rattle.std.proofs.Common.{◌≡◌, ◌≢◌, ◌⊎◌, ℕ, zero, suc, Bool, true, false, List, [], ◌∷◌, Option, Some, None, refl, sym, ap, ◌∙◌, subst, inl, inr}
+use Rattle.std.proofs.Common.{◌≡◌, ℕ, zero, suc, true, false, List, [], ◌∷◌, Option, Some, None, refl, sym, ap, ◌∙◌, inl, inr}
 use Rattle.fore_base.specs.declared.place.Place.{Place}
 use Rattle.c_ast.specs.declared.conditions.Cond.{Cond}
 use Rattle.c_ast.specs.declared.conditions.Test.TheVariants as test
 use Rattle.c_ast.specs.declared.conditions.Unary.TheVariants as unary'
-use Rattle.c_ast.specs.declared.items.Field.TheVariants as field'
-use Rattle.c_ast.specs.declared.items.Item.{Item}
 use Rattle.c_ast.specs.declared.items.Item.TheVariants as item'
 use Rattle.c_ast.specs.declared.items.Params.TheVariants as params'
 use Rattle.c_ast.specs.declared.items.ReturnType.TheVariants as return'
 use Rattle.c_ast.specs.declared.operands.Name.{Name}
-use Rattle.c_ast.specs.declared.operands.Operand.{Operand}
 use Rattle.c_ast.specs.declared.operands.Operand.TheVariants as operand'
 use Rattle.c_ast.specs.declared.operands.Path.{Path}
 use Rattle.c_ast.specs.declared.simples.Cast.{Cast}
@@ -23,7 +20,7 @@ use Rattle.c_ast.specs.declared.statements.First.TheVariants as first'
 use Rattle.c_ast.specs.declared.statements.Stmt.{Stmt}
 use Rattle.c_ast.specs.declared.statements.Stmt.TheVariants as stmt'
 use Rattle.c_lexer.specs.declared.token.Token.{Token}
-use Rattle.c_grammar.specs.Grammar.{Part, token, empty, ◌then◌, ◌or◌, Many, Made, unless}
+use Rattle.c_grammar.specs.Grammar.{◌then◌}
 use Rattle.c_grammar.specs.Grammar.Many.{none, more}
 use Rattle.c_grammar.specs.Hopeless.{opener}
 use Rattle.c_grammar.specs.Items as i
@@ -31,14 +28,12 @@ use Rattle.c_grammar.specs.Items.{item, unit}
 use Rattle.c_grammar.specs.Signs.{sign_of, sign_at}
 use Rattle.c_grammar.specs.Syntax as s
 use Rattle.c_grammar.specs.Syntax.{at, at_of, name, name_of, path, bracketed, middle, second, joined, operand, cond, rhs, stmt}
-use Rattle.c_grammar.specs.Units.{IsUnitWithin}
-use Rattle.c_grammar.specs.declared.signs.Sign.{Sign}
 use Rattle.c_grammar.specs.declared.signs.Sign.TheVariants as sign
 use Rattle.c_grammar.specs.inner.Sets.{among, begins_operand}
 use Rattle.c_grammar.proofs.Goods.{good_operand}
 use Rattle.c_grammar.proofs.Readings.{tok, make, and_then, at_tok}
 use Rattle.c_grammar.proofs.SignLemmas.{clash}
-use Rattle.c_grammar.proofs.Statements.{good_cast, good_stmt}
+use Rattle.c_grammar.proofs.Statements.{good_cast}
 use Rattle.c_grammar.proofs.Tokens.{sample, sampled, real}
 
 -- the name a

@@ -1,19 +1,18 @@
 -- What holds of every rule: the laws of its parts.
-use Rattle.std.proofs.Common.{◌≡◌, ◌≢◌, ◌⊎◌, ◌≤◌, ℕ, zero, suc, Bool, true, false, List, [], ◌∷◌, ◌++◌, refl, sym, ap, ◌∙◌, subst, arith, inl, inr, append_assoc, cond}
+use Rattle.std.proofs.Common.{◌≡◌, ◌⊎◌, ◌≤◌, ℕ, Bool, true, false, List, [], ◌∷◌, ◌++◌, refl, sym, ap, ◌∙◌, subst, arith, inl, inr, append_assoc, cond}
 use Rattle.std.proofs.lemmas.List.{append-nil}
 use Rattle.fore_base.specs.declared.place.Place.{Place}
 use Rattle.c_lexer.specs.declared.token.Token.{Token}
 use Rattle.c_grammar.specs.declared.fault.SyntaxFault.{SyntaxFault}
-use Rattle.c_grammar.specs.Hopeless.{opener, opener_of, place_at}
-use Rattle.c_grammar.specs.inner.Faults.{Alive, Dead, IsSyntax, Sinks, Fails, Takes}
+use Rattle.c_grammar.specs.Hopeless.{opener}
+use Rattle.c_grammar.specs.inner.Faults.{Alive, Dead, Fails, Takes}
 use Rattle.c_grammar.specs.inner.Faults.Fails.{stuck, sunk, no_memory}
-use Rattle.c_grammar.specs.Grammar.{Rule, ◌then◌, Many, Made, level}
-use Rattle.c_grammar.proofs.Families.{both, choice, many, made, one, no_token}
-use Rattle.c_grammar.specs.Grammar.Many.{none, more}
+use Rattle.c_grammar.specs.Grammar.{Rule}
+use Rattle.c_grammar.proofs.Families.{both}
 use Rattle.c_grammar.specs.inner.Sets.{Signs}
 use Rattle.c_grammar.specs.Signs.{or_on, and, same_sign, sign_of, sign_at}
 use Rattle.c_grammar.specs.declared.signs.Sign.TheVariants.{Id, Open, End}
-use Rattle.c_grammar.proofs.SignLemmas.{clash, or_left, or_right, or_of, or_first, or_second, and_of, and_gives, and_no, told_apart}
+use Rattle.c_grammar.proofs.SignLemmas.{clash, or_left, or_right, or_first, or_second, and_of, and_gives, and_no, told_apart}
 use Rattle.c_grammar.specs.declared.signs.Sign.{Sign}
 
 abbrev pub IsCons : List Token → Type 0

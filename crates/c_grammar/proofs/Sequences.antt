@@ -1,15 +1,14 @@
 -- What the parts of a sequence are given to the whole: shortest readings, and parts that are read into what the whole makes of them.
-use Rattle.std.proofs.Common.{◌≡◌, ◌≢◌, ◌⊎◌, ℕ, Bool, true, false, List, [], ◌∷◌, ◌++◌, refl, sym, ap, ◌∙◌, subst, append_assoc, inl, inr}
-use Rattle.std.proofs.lemmas.List.{append-nil, append_cancel_right}
+use Rattle.std.proofs.Common.{◌≡◌, ◌≢◌, ℕ, Bool, false, List, [], ◌∷◌, ◌++◌, refl, sym, ◌∙◌, subst, append_assoc, inl, inr}
+use Rattle.std.proofs.lemmas.List.{append_cancel_right}
 use Rattle.fore_base.specs.declared.place.Place.{Place}
 use Rattle.c_lexer.specs.declared.token.Token.{Token}
 use Rattle.c_grammar.specs.Grammar.{Rule}
-use Rattle.c_grammar.specs.Signs.{sign_of, sign_at}
 use Rattle.c_grammar.specs.Syntax.{at, at_of}
 use Rattle.c_grammar.specs.declared.fault.SyntaxFault.{SyntaxFault}
 use Rattle.c_grammar.specs.declared.signs.Sign.{Sign}
 use Rattle.c_grammar.specs.declared.signs.Sign.TheVariants.{End}
-use Rattle.c_grammar.specs.inner.Faults.{Alive, Dead, Fails, Takes}
+use Rattle.c_grammar.specs.inner.Faults.{Alive, Fails, Takes}
 use Rattle.c_grammar.specs.inner.Faults.Fails.{stuck, sunk, no_memory}
 use Rattle.c_grammar.specs.inner.Sets.{Signs, no_sign}
 use Rattle.c_grammar.proofs.Decide.{apart_of}

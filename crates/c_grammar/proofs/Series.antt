@@ -1,5 +1,5 @@
 -- One part or more, with a token between two of them.
-use Rattle.std.proofs.Common.{◌≡◌, ◌≢◌, ℕ, Bool, true, false, List, [], ◌∷◌, refl, sym, ap, not}
+use Rattle.std.proofs.Common.{◌≡◌, ◌≢◌, ℕ, true, false, List, [], ◌∷◌, refl, sym, ap, not}
 use Rattle.fore_base.specs.declared.place.Place.{Place}
 use Rattle.c_lexer.specs.declared.token.Token.{Token}
 use Rattle.c_grammar.specs.inner.Faults.{Alive, Fails, Takes}
@@ -13,7 +13,8 @@ use Rattle.c_grammar.specs.declared.signs.Sign.{Sign}
 use Rattle.c_grammar.specs.declared.signs.Sign.TheVariants.{Id, End}
 use Rattle.c_grammar.proofs.Goods.{good_one}
 use Rattle.c_grammar.proofs.Lists.{Leads}
-use Rattle.c_grammar.proofs.Parts.{fails_within, takes_made, fails_made, takes_token, least_many, cont_many}
+use Rattle.c_grammar.proofs.Parts.{fails_within, takes_made, fails_made, takes_token}
+use Rattle.c_grammar.proofs.Repeats.{least_many, cont_many}
 use Rattle.c_grammar.proofs.Rules.{Good, cont_both, bars_both}
 use Rattle.c_grammar.proofs.Steps.{Clear, Under, Steady, pair, in_front, in_back, in_back_of, widen_takes, widen_fails}
 use Rattle.c_grammar.proofs.Decide.{within}

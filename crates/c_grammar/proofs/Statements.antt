@@ -1,40 +1,33 @@
 -- The rules of conditions and statements are good.
-use Rattle.std.proofs.Common.{◌≡◌, ◌⊎◌, ◌<◌, ◌≤◌, ℕ, zero, suc, Bool, true, false, List, [], ◌∷◌, ◌++◌, Option, Some, None, refl, sym, ap, ◌∙◌, subst, inl, inr, arith}
+use Rattle.std.proofs.Common.{◌≡◌, ◌⊎◌, ◌<◌, ℕ, zero, suc, Bool, true, false, List, [], ◌∷◌, Option, Some, None, refl, sym, ap, ◌∙◌, subst, inl, inr, arith}
 use Rattle.fore_base.specs.declared.place.Place.{Place}
-use Rattle.c_ast.specs.declared.conditions.And.{And}
-use Rattle.c_ast.specs.declared.conditions.Cond.{Cond}
 use Rattle.c_ast.specs.declared.conditions.Test.{Test}
 use Rattle.c_ast.specs.declared.conditions.Test.TheVariants as test'
 use Rattle.c_ast.specs.declared.conditions.Unary.{Unary}
 use Rattle.c_ast.specs.declared.conditions.Unary.TheVariants as unary'
-use Rattle.c_ast.specs.declared.operands.Arrow.{Arrow}
 use Rattle.c_ast.specs.declared.operands.Name.{Name}
 use Rattle.c_ast.specs.declared.operands.Operand.{Operand}
-use Rattle.c_ast.specs.declared.operands.Path.{Path}
-use Rattle.c_ast.specs.declared.simples.Rhs.{Rhs}
 use Rattle.c_ast.specs.declared.simples.Rhs.TheVariants as rhs'
 use Rattle.c_ast.specs.declared.simples.Simple.{Simple}
 use Rattle.c_ast.specs.declared.simples.Simple.TheVariants as simple'
 use Rattle.c_ast.specs.declared.simples.Size.{Size}
-use Rattle.c_ast.specs.declared.simples.Size.TheVariants as size'
 use Rattle.c_ast.specs.declared.statements.Data.TheVariants as data'
 use Rattle.c_ast.specs.declared.statements.First.TheVariants as first'
 use Rattle.c_ast.specs.declared.statements.Part.TheVariants as part'
 use Rattle.c_ast.specs.declared.statements.Stmt.{Stmt}
 use Rattle.c_ast.specs.declared.statements.Stmt.TheVariants as stmt'
 use Rattle.c_lexer.specs.declared.token.Token.{Token}
-use Rattle.c_grammar.specs.Grammar.{Part, Rule, token, empty, nowhere, ◌then◌, ◌or◌, Many, Made, unless, level}
+use Rattle.c_grammar.specs.Grammar.{Part, Rule, token, empty, ◌then◌, ◌or◌, Many, Made, level}
 use Rattle.c_grammar.specs.inner.Sets.{Signs, among, no_sign, arrows, names, opens, commas, elses, operand_goes_on, test_goes_on, and_goes_on, cond_goes_on, begins_nested, equals, begins_operand, begins_rhs, begins_simple, begins_cond, begins_declare, begins_stmt}
-use Rattle.c_grammar.specs.Signs.{sign_of, sign_at, or_on, and}
+use Rattle.c_grammar.specs.Signs.{sign_at, or_on}
 use Rattle.c_grammar.specs.Syntax as s
 use Rattle.c_grammar.specs.Syntax.{at, name, path, arrow, operand, call, rhs, size, cast, simple, data_part, declarator, declare, bracketed, middle, second, first, optional, series, joined, arguments, argument, cond_with, test_with, unary, nested_unary, inner_unary, and_with, sides, test_of, compared_part, cond, flat_stmt, nested_stmt, stmt, block_with, other_part, first_part, inner_block}
-use Rattle.c_grammar.specs.declared.signs.Sign.{Sign}
 use Rattle.c_grammar.specs.declared.signs.Sign.TheVariants as sign
-use Rattle.c_grammar.proofs.Decide.{apart_of, within, inside}
-use Rattle.c_grammar.proofs.Families.{both, choice, many, made, one, no_token}
+use Rattle.c_grammar.proofs.Decide.{apart_of}
 use Rattle.c_grammar.proofs.Fix.{good_fix}
-use Rattle.c_grammar.proofs.Goods.{named, good_one, good_at, good_name, good_arrows, good_path, good_arguments, good_argument, good_operand, good_call, same_call}
-use Rattle.c_grammar.proofs.Parts.{Same, good_made, good_nothing, good_many, good_level, good_same}
+use Rattle.c_grammar.proofs.Goods.{named, good_one, good_at, good_name, good_arrows, good_path, good_arguments, good_argument, good_operand, same_call}
+use Rattle.c_grammar.proofs.Parts.{Same, good_made, good_nothing, good_level, good_same}
+use Rattle.c_grammar.proofs.Repeats.{good_many}
 use Rattle.c_grammar.proofs.Rules.{Good, Front}
 use Rattle.c_grammar.proofs.Steps.{good_pair, good_or}
 use Rattle.c_grammar.proofs.SignLemmas.{clash}

@@ -1,19 +1,17 @@
 -- The laws of parts, with the conditions on signs decided.
-use Rattle.std.proofs.Common.{◌≡◌, ℕ, Bool, true, false, List, [], ◌∷◌, inl, not, refl, sym, subst}
+use Rattle.std.proofs.Common.{◌≡◌, ℕ, Bool, true, false, List, [], inl, not, refl, sym, subst}
 use Rattle.std.specs.Result.{IsErrAnd}
 use Rattle.std.specs.Prelude.{Result, Ok, Err, IfErr}
 use Rattle.fore_base.specs.declared.place.Place.{Place}
 use Rattle.c_lexer.specs.declared.token.Token.{Token}
 use Rattle.c_grammar.specs.inner.Faults.{Fails, Takes, Alive}
-use Rattle.c_grammar.specs.inner.Faults.Fails.{no_memory}
 use Rattle.c_grammar.specs.Grammar.{Rule}
-use Rattle.c_grammar.specs.inner.Sets.{Signs, no_sign}
-use Rattle.c_grammar.specs.Signs.{and, or_on, sign_at}
+use Rattle.c_grammar.specs.inner.Sets.{Signs}
+use Rattle.c_grammar.specs.Signs.{and, or_on}
 use Rattle.c_grammar.specs.declared.signs.Sign.TheVariants.{Open, End}
 use Rattle.c_grammar.specs.declared.fault.SyntaxFault.{SyntaxFault}
-use Rattle.c_grammar.specs.declared.fault.SyntaxFault.TheVariants.{Memory}
 use Rattle.c_grammar.proofs.Decide.{every, implies, within, inside, apart_of}
-use Rattle.c_grammar.proofs.Families.{both, choice, many, made, one}
+use Rattle.c_grammar.proofs.Families.{both, choice}
 use Rattle.c_grammar.proofs.Parts.{fails_within, takes_within, good_either, first_either, cont_either}
 use Rattle.c_grammar.proofs.Rules.{Good, first_both, cont_both, bars_both, heads_after, good_both, fails_front, fails_back, takes_both, follows, calm_of, nonempty}
 use Rattle.c_grammar.proofs.Endings.{Ends, ends_calm, ends_solid}

@@ -1,15 +1,12 @@
 -- A token of each sign, and signs that are told apart.
-use Rattle.std.proofs.Common.{◌≡◌, ◌≢◌, ◌↔◌, IsTrue, ◌==◌, ℕ, zero, suc, Bool, true, false, List, [], ◌∷◌, refl, sym, ap, ◌∙◌, subst}
+use Rattle.std.proofs.Common.{◌≡◌, ◌≢◌, ◌↔◌, IsTrue, ℕ, Bool, true, false, List, [], ◌∷◌, refl, sym, ap, ◌∙◌, subst}
 use Rattle.std.specs.Prelude.{codes}
-use Rattle.std.proofs.lemmas.Bool.{eqb-true}
 use Rattle.fore_base.specs.declared.place.Place.{Place}
-use Rattle.c_lexer.specs.declared.token.TokKind.{TokKind}
 use Rattle.c_lexer.specs.declared.token.TokKind.TheVariants as kind
 use Rattle.c_lexer.specs.declared.token.Token.{Token}
-use Rattle.c_grammar.specs.inner.Faults.{Fails, Takes, Alive}
-use Rattle.c_grammar.specs.Grammar.{Rule}
-use Rattle.c_grammar.specs.inner.Sets.{Signs, among, no_sign}
-use Rattle.c_grammar.specs.Signs.{sign_of, sign_at, or_on, number_of, same_sign}
+use Rattle.c_grammar.specs.inner.Faults.{Fails, Takes}
+use Rattle.c_grammar.specs.inner.Sets.{among, no_sign}
+use Rattle.c_grammar.specs.Signs.{sign_of, sign_at, or_on, same_sign}
 use Rattle.c_ast.specs.declared.operands.Name.{Name}
 use Rattle.c_grammar.specs.inner.Shapes.{IsName}
 use Rattle.c_grammar.specs.Syntax.{at, at_of, name, name_of}
@@ -19,8 +16,8 @@ use Rattle.c_grammar.specs.declared.signs.Sign.{Sign}
 use Rattle.c_grammar.specs.declared.signs.Sign.TheVariants.{Id, Number, Struct, Enum, Int, Void, Extern, If, Else, While, Do, For, Return, Break, Continue, Sizeof, Malloc, Free, Assert, Null, True, False, Arrow, Equal, Unequal, And, Or, OpenBrace, CloseBrace, Open, Close, Semicolon, Comma, Star, Assign, Not, Other, End}
 use Rattle.c_grammar.proofs.Families.{one}
 use Rattle.c_grammar.proofs.Decide.{holds}
-use Rattle.c_grammar.proofs.Goods.{good_one, good_at}
-use Rattle.c_grammar.proofs.Parts.{fails_first, least_token, alive_made, takes_token, takes_made}
+use Rattle.c_grammar.proofs.Goods.{good_one}
+use Rattle.c_grammar.proofs.Parts.{fails_first, least_token, takes_token, takes_made}
 use Rattle.c_grammar.specs.Hopeless.{place_at}
 use Rattle.c_grammar.proofs.SignLemmas.{clash, told_apart}
 

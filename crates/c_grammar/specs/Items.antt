@@ -1,5 +1,5 @@
 -- The items of a text, rule by rule (ISO/IEC 9899:2011, 6.7 and 6.9, cut down), and whole texts.
-use Rattle.std.specs.Prelude.{ℕ, List, [], ◌∷◌, Option, Some, None}
+use Rattle.std.specs.Prelude.{List, ◌∷◌, Option}
 use Rattle.fore_base.specs.declared.place.Place.{Place}
 use Rattle.c_ast.specs.declared.items.Field.{Field}
 use Rattle.c_ast.specs.declared.items.Field.TheVariants as field'
@@ -16,7 +16,7 @@ use Rattle.c_ast.specs.declared.operands.Name.{Name}
 use Rattle.c_ast.specs.declared.statements.Block.{Block}
 use Rattle.c_ast.specs.declared.statements.Data.{Data}
 use Rattle.c_lexer.specs.declared.token.Token.{Token}
-use Rattle.c_grammar.specs.Grammar.{Part, Rule, token, empty, ◌then◌, ◌or◌, Many, Made}
+use Rattle.c_grammar.specs.Grammar.{Part, Rule, token, ◌then◌, ◌or◌, Many, Made}
 use Rattle.c_grammar.specs.Syntax.{at, name, second, middle, joined, optional, series, bracketed, data_part, declare, block}
 use Rattle.c_grammar.specs.declared.signs.Sign.TheVariants as sign
 

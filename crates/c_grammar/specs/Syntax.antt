@@ -1,5 +1,5 @@
 -- The grammar of the accepted C (ISO/IEC 9899:2011, 6.5 to 6.9, cut down), rule by rule.
-use Rattle.std.specs.Prelude.{◌≡◌, ℕ, zero, suc, Bool, true, false, List, [], ◌∷◌, Option, Some, None}
+use Rattle.std.specs.Prelude.{zero, suc, Bool, true, false, List, [], ◌∷◌, Option, Some, None}
 use Rattle.fore_base.specs.declared.place.Place.{Place}
 use Rattle.c_ast.specs.declared.conditions.And.{And, roll-And}
 use Rattle.c_ast.specs.declared.conditions.Cond.{Cond, roll-Cond}

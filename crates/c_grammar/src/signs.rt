@@ -1,6 +1,6 @@
 // What a token is to the grammar.
 
-ghost use Rattle.std.specs.Prelude.{◌≡◌, nat_eq};
+ghost use Rattle.std.specs.Prelude.{◌≡◌, nat_eq, drop};
 ghost use Rattle.std.specs.Cmp.Lexicographic.{pointwise};
 ghost use Rattle.c_grammar.specs.Signs.{sign_in, sign_as, reserved, marks};
 ghost use Rattle.c_grammar.specs.Signs as spec;
@@ -60,6 +60,29 @@ fn is(text: &[u8], word: &[u8]) -> bool
     text == word
 }
 
+/// The sign of a word that is none of the reserved words before `sizeof`.
+fn late_word_sign(text: &[u8]) -> Sign
+    ensures { result ≡ sign_in (drop 13 reserved) text.now Id }
+{
+    if is(text, b"sizeof") {
+        Sign::Sizeof
+    } else if is(text, b"malloc") {
+        Sign::Malloc
+    } else if is(text, b"free") {
+        Sign::Free
+    } else if is(text, b"assert") {
+        Sign::Assert
+    } else if is(text, b"NULL") {
+        Sign::Null
+    } else if is(text, b"true") {
+        Sign::True
+    } else if is(text, b"false") {
+        Sign::False
+    } else {
+        Sign::Id
+    }
+}
+
 /// The sign of a word.
 fn word_sign(text: &[u8]) -> Sign
     ensures { result ≡ sign_in reserved text.now Id }
@@ -90,22 +113,8 @@ fn word_sign(text: &[u8]) -> Sign
         Sign::Break
     } else if is(text, b"continue") {
         Sign::Continue
-    } else if is(text, b"sizeof") {
-        Sign::Sizeof
-    } else if is(text, b"malloc") {
-        Sign::Malloc
-    } else if is(text, b"free") {
-        Sign::Free
-    } else if is(text, b"assert") {
-        Sign::Assert
-    } else if is(text, b"NULL") {
-        Sign::Null
-    } else if is(text, b"true") {
-        Sign::True
-    } else if is(text, b"false") {
-        Sign::False
     } else {
-        Sign::Id
+        late_word_sign(text)
     }
 }
 

@@ -1,17 +1,17 @@
 -- A text has one right answer.
-use Rattle.std.proofs.Common.{◌≡◌, ◌≢◌, ◌⊎◌, ◌≤◌, ℕ, List, [], ◌∷◌, Option, Result, Ok, Err, IfOk, IfErr, refl, sym, ap, ◌∙◌, subst, inl, inr}
+use Rattle.std.proofs.Common.{◌≡◌, ◌≢◌, ◌⊎◌, ℕ, List, [], ◌∷◌, Result, Ok, Err, IfOk, IfErr, refl, sym, ap, ◌∙◌, subst, inl, inr}
 use Rattle.fore_base.specs.declared.place.Place.{Place}
 use Rattle.c_ast.specs.declared.items.Item.{Item}
 use Rattle.c_ast.specs.declared.items.Unit as whole
 use Rattle.c_lexer.specs.declared.token.Token.{Token}
 use Rattle.c_refused.proofs.Refusals.{first_is_one, none_or_first}
 use Rattle.c_refused.specs.declared.refused.Refusal.{Refusal}
-use Rattle.c_grammar.proofs.DepthRules.{unit_to, unit_back}
+use Rattle.c_grammar.proofs.DepthRules.{unit_back}
 use Rattle.c_grammar.proofs.Exclusion.{syntax_or_whole, deep_or_whole, one_syntax, one_deep, syntax_or_deep}
 use Rattle.c_grammar.proofs.ItemForms.{one_unit, good_unit}
 use Rattle.c_grammar.proofs.Whole.{syntax_whole, deep_whole, left_over}
 use Rattle.c_refused.specs.Refused.{NoneRefused}
-use Rattle.c_grammar.specs.Hopeless.{IsSyntaxAt, IsDeepAt, place_at}
+use Rattle.c_grammar.specs.Hopeless.{place_at}
 use Rattle.c_grammar.specs.Items.{unit}
 use Rattle.c_grammar.specs.declared.fault.SyntaxFault.{SyntaxFault}
 use Rattle.c_grammar.specs.declared.fault.SyntaxFault.TheVariants.{Refused, Syntax, Deep, Memory}
@@ -19,7 +19,7 @@ use Rattle.c_grammar.specs.inner.Faults.{Fails, Takes}
 use Rattle.c_grammar.specs.inner.Faults.Fails.{stuck, sunk, no_memory}
 use Rattle.c_grammar.specs.inner.Parted.{begins_item}
 use Rattle.c_grammar.specs.inner.Sets.{no_sign, elses}
-use Rattle.c_parser.specs.Parses.{over_of, IsParsed, IsFault}
+use Rattle.c_parser.specs.Parses.{IsParsed, IsFault}
 use Rattle.c_parser.specs.inner.Stops.{IsStop}
 
 pub one_parse : (ts : List Token) (end : Place) (u v : whole.Unit) → IsParsed ts end u → IsParsed ts end v → u ≡ v

@@ -1,5 +1,5 @@
 -- The right answer of the parser.
-use Rattle.std.specs.Prelude.{◌≡◌, ◌≤◌, ℕ, List, Option, slice_get}
+use Rattle.std.specs.Prelude.{◌≡◌, ◌≤◌, List, Option, slice_get}
 use Rattle.std.specs.Option.{option_map}
 use Rattle.fore_base.specs.declared.place.Place.{Place}
 use Rattle.c_ast.specs.Depths.{depth_of_items}

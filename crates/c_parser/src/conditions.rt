@@ -5,6 +5,7 @@ ghost use Rattle.c_parser.specs.inner.Bounds.{Reads, Stops, StepsIn, StaysOut};
 ghost use Rattle.c_grammar.specs.inner.Shapes.{two_sides, a_comparison, an_inner_unary, a_unary, a_test, next_test, some_tests, next_and, some_ands, a_cond};
 ghost use Rattle.c_grammar.specs.declared.signs.Sign.TheVariants as sign;
 ghost use Rattle.c_grammar.specs.Signs.{sign_at};
+ghost use Rattle.c_parser.specs.inner.Shapes.{read_closed_cond};
 
 use crate::levels::Level;
 use crate::operands::{begins_operand, operand};
@@ -272,4 +273,20 @@ fn brackets<'t>(
     let (_, rest) = take(bounds, rest, Sign::Close)?;
     let bracket = Unary::Bracket { at: token.at, cond };
     Ok((bracket, rest))
+}
+
+/// `"(" cond ")"`
+pub fn closed_cond<'t>(
+    alloc: Global,
+    bounds: &Bounds,
+    left: &'t [Token],
+) -> Result<(Cond, &'t [Token]), SyntaxFault>
+    ensures ok { IfOk result (λ r. Reads read_closed_cond bounds.now left.now r.1.now r.0) }
+    ensures shorter { IfOk result (λ r. length r.1.now < length left.now) }
+    ensures err { IfErr result (Stops read_closed_cond bounds.now left.now) }
+{
+    let (_, rest) = take(bounds, left, Sign::Open)?;
+    let (cond, rest) = cond(alloc, bounds, rest)?;
+    let (_, rest) = take(bounds, rest, Sign::Close)?;
+    Ok((cond, rest))
 }

@@ -3,6 +3,7 @@ use c_ast::{
     And, Arrow, Block, Call, Cond, Data, Declarator, Declare, Field, First, Head, Item, Name,
     Operand, Param, Params, Part, Path, ReturnType, Rhs, Simple, Size, Stmt, Test, Unary,
 };
+use fore_base::boxed::Boxed;
 use fore_base::place::Place;
 use fore_base::text::Text;
 use std::alloc::AllocError;
@@ -211,7 +212,7 @@ fn put_for(
     out: &mut Text,
     first: &First,
     cond: &Option<Cond>,
-    next: &Option<Simple>,
+    next: &Option<Boxed<Simple>>,
 ) -> Result<(), AllocError> {
     put_first(out, first)?;
     out.put(b";")?;
@@ -220,7 +221,7 @@ fn put_for(
     }
     out.put(b";")?;
     if let Some(next) = next {
-        put_simple(out, next)?;
+        put_simple(out, next.get())?;
     }
     out.put(b")")
 }
@@ -290,7 +291,7 @@ fn put_stmt(out: &mut Text, stmt: &Stmt) -> Result<(), AllocError> {
         } => {
             put_at(out, b"for", at)?;
             out.put(b"(")?;
-            put_for(out, first, cond, next)?;
+            put_for(out, first.get(), cond, next)?;
             put_stmt(out, body.get())
         }
         _ => put_flat(out, stmt),
@@ -301,7 +302,7 @@ fn put_stmt(out: &mut Text, stmt: &Stmt) -> Result<(), AllocError> {
 fn put_flat(out: &mut Text, stmt: &Stmt) -> Result<(), AllocError> {
     match stmt {
         Stmt::Empty { at } => put_at(out, b";", at),
-        Stmt::Simple(simple) => put_simple(out, simple),
+        Stmt::Simple(simple) => put_simple(out, simple.get()),
         Stmt::Break { at } => put_at(out, b"break", at),
         Stmt::Continue { at } => put_at(out, b"continue", at),
         Stmt::Assert { at, cond } => {

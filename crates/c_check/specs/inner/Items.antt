@@ -84,3 +84,11 @@ any_main (i ∷ is) = is_main_item i || any_main is
 
 abbrev pub nothing_kept : Seen
 nothing_kept = record { structs = []; count = 0; enums = []; values = [] }
+
+-- the body of an item that is a function of the name `main`
+abbrev pub body_of_main : Item → Option Block
+body_of_main (item.Struct at name fields) = None
+body_of_main (item.Enum at name values) = None
+body_of_main (item.Proto outer head) = None
+body_of_main (item.Function head body) = cond (is_main head) (Some body) None
+body_of_main (item.Declare d) = None

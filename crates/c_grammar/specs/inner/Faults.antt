@@ -1,5 +1,5 @@
 -- Where a reading by a rule stops: the words of the contracts of parsing functions.
-use Rattle.std.specs.Prelude.{◌≡◌, ◌⊎◌, ◌≤◌, ℕ, Bool, true, false, List, [], ◌∷◌, ◌++◌}
+use Rattle.std.specs.Prelude.{◌≡◌, ◌⊎◌, ◌≤◌, ℕ, true, false, List, [], ◌∷◌, ◌++◌}
 use Rattle.fore_base.specs.declared.place.Place.{Place}
 use Rattle.c_lexer.specs.declared.token.Token.{Token}
 use Rattle.c_grammar.specs.Grammar.{Rule}

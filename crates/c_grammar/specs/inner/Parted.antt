@@ -1,5 +1,5 @@
 -- Rules whose alternatives begin alike, parted where they part: what the parser reads in each step, with what the whole makes of it.
-use Rattle.std.specs.Prelude.{◌⊎◌, ℕ, Bool, true, false, List, [], ◌∷◌, Option, Some, None}
+use Rattle.std.specs.Prelude.{◌⊎◌, List, [], ◌∷◌, Option, Some, None}
 use Rattle.std.proofs.Common.{inl, inr}
 use Rattle.fore_base.specs.declared.place.Place.{Place}
 use Rattle.c_ast.specs.declared.conditions.Cond.{Cond}
@@ -26,7 +26,7 @@ use Rattle.c_ast.specs.declared.statements.Declarator.{Declarator}
 use Rattle.c_ast.specs.declared.statements.Declare.TheVariants as declare'
 use Rattle.c_ast.specs.declared.statements.First.{First}
 use Rattle.c_lexer.specs.declared.token.Token.{Token}
-use Rattle.c_grammar.specs.Grammar.{Part, Rule, token, empty, ◌then◌, ◌or◌, Many, Made}
+use Rattle.c_grammar.specs.Grammar.{Part, Rule, token, ◌then◌, ◌or◌, Many, Made}
 use Rattle.c_grammar.specs.Items as i
 use Rattle.c_grammar.specs.Items.{braced_fields, Enumerated, enum_body, closed_params, head, head_of}
 use Rattle.c_grammar.specs.Signs.{or_on}

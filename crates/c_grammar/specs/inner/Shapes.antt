@@ -1,17 +1,15 @@
 -- What the parser's functions read: rules, with the signs that can continue them.
 use Rattle.fore_base.specs.declared.place.Place.{Place}
-use Rattle.std.specs.Prelude.{◌≡◌, ◌⊎◌, ℕ, suc, true, false, Bool, List, [], ◌∷◌}
+use Rattle.std.specs.Prelude.{◌≡◌, ◌⊎◌, ℕ, true, false, Bool, List, [], ◌∷◌}
 use Rattle.c_ast.specs.declared.conditions.And.{And}
 use Rattle.c_ast.specs.declared.conditions.Cond.{Cond}
 use Rattle.c_ast.specs.declared.conditions.Test.{Test}
 use Rattle.c_ast.specs.declared.conditions.Unary.{Unary}
 use Rattle.c_ast.specs.declared.operands.Arrow.{Arrow}
-use Rattle.c_ast.specs.declared.operands.Call.{Call}
 use Rattle.c_ast.specs.declared.operands.Name.{Name}
 use Rattle.c_ast.specs.declared.operands.Operand.{Operand}
 use Rattle.c_ast.specs.declared.operands.Path.{Path}
 use Rattle.c_lexer.specs.declared.token.Token.{Token}
-use Rattle.c_grammar.specs.inner.Faults.{Takes, Fails}
 use Rattle.c_grammar.specs.Grammar.{Rule, Many, Made, token, empty, ◌then◌, ◌or◌}
 use Rattle.c_grammar.specs.Signs.{sign_of, sign_at}
 use Rattle.c_grammar.specs.inner.Sets.{Signs, begins_nested, no_sign, test_goes_on, and_goes_on, cond_goes_on, arrows, operand_goes_on, operands_go_on, arguments_go_on}

@@ -1,5 +1,5 @@
 -- What a parsing function reads, and where it stops.
-use Rattle.std.specs.Prelude.{◌≡◌, suc, true, List, ◌∷◌}
+use Rattle.std.specs.Prelude.{◌≡◌, suc, true, List}
 use Rattle.c_grammar.specs.Signs.{sign_at}
 use Rattle.c_grammar.specs.declared.fault.SyntaxFault.{SyntaxFault}
 use Rattle.c_grammar.specs.inner.Faults.{Takes, Fails}

@@ -1,12 +1,11 @@
 -- What the functions of statements and items read: rules, with the signs that can continue them.
-use Rattle.std.specs.Prelude.{◌⊎◌, ℕ, Bool, List, [], ◌∷◌, Option, Some, None}
+use Rattle.std.specs.Prelude.{List, Option, Some, None}
 use Rattle.std.proofs.Common.{inl, inr}
 use Rattle.fore_base.specs.declared.place.Place.{Place}
 use Rattle.c_ast.specs.declared.conditions.Cond.{Cond}
 use Rattle.c_ast.specs.declared.items.Field.{Field}
 use Rattle.c_ast.specs.declared.items.Head.{Head}
 use Rattle.c_ast.specs.declared.items.Item.{Item}
-use Rattle.c_ast.specs.declared.items.Item.TheVariants as item'
 use Rattle.c_ast.specs.declared.items.Param.{Param}
 use Rattle.c_ast.specs.declared.items.Params.{Params}
 use Rattle.c_ast.specs.declared.items.Params.TheVariants as params'
@@ -27,7 +26,6 @@ use Rattle.c_ast.specs.declared.statements.Data.{Data}
 use Rattle.c_ast.specs.declared.statements.Data.TheVariants as data'
 use Rattle.c_ast.specs.declared.statements.Declarator.{Declarator}
 use Rattle.c_ast.specs.declared.statements.Declare.{Declare}
-use Rattle.c_ast.specs.declared.statements.Declare.TheVariants as declare'
 use Rattle.c_ast.specs.declared.statements.First.{First}
 use Rattle.c_ast.specs.declared.statements.First.TheVariants as first'
 use Rattle.c_ast.specs.declared.statements.Part as part
@@ -35,7 +33,7 @@ use Rattle.c_ast.specs.declared.statements.Part.TheVariants as part'
 use Rattle.c_ast.specs.declared.statements.Stmt.{Stmt}
 use Rattle.c_ast.specs.declared.statements.Stmt.TheVariants as stmt'
 use Rattle.c_lexer.specs.declared.token.Token.{Token}
-use Rattle.c_grammar.specs.Grammar.{Part, Rule, token, empty, ◌then◌, ◌or◌, Many, Made, unless}
+use Rattle.c_grammar.specs.Grammar.{token, empty, ◌then◌, ◌or◌, Many, Made}
 use Rattle.c_grammar.specs.Items as i
 use Rattle.c_grammar.specs.Signs.{or_on}
 use Rattle.c_grammar.specs.Syntax as s

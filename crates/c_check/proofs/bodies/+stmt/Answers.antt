@@ -59,7 +59,9 @@ stmt_faults-returns-in-Block-clause-found t c =
 pub stmt_faults-returns-in-Simple-clause-found : goal.stmt_faults-returns-in-Simple-clause-found
 stmt_faults-returns-in-Simple-clause-found t c =
     let g = c.args.tables.now in
-    whole g c.args.found.now _ _ _ _ (ap (λ s. stmt_sites g s c.args.looping c.args.scope.now) c.in-Simple.is ∙ stmt-Simple g c.in-Simple.simple c.args.looping c.args.scope.now) c.simple_faults.ensures
+    let scope = c.args.scope.now in
+    whole g c.args.found.now _ _ _ _ (ap (λ s. stmt_sites g s c.args.looping scope) c.in-Simple.is ∙ stmt-Simple g c.in-Simple.simple c.args.looping scope ∙ ap (simple_sites g scope) (sym c.get.ensures))
+    c.simple_faults.ensures
 
 pub stmt_faults-returns-in_ok-stmt_faults-in-If-clause-found : goal.stmt_faults-returns-in_ok-stmt_faults-in-If-clause-found
 stmt_faults-returns-in_ok-stmt_faults-in-If-clause-found t c =
@@ -71,9 +73,9 @@ stmt_faults-returns-in_ok-stmt_faults-in-If-clause-found t c =
     all_three g c.args.found.now _ _ _ _ _ _ _ _
     (ap (λ s. stmt_sites g s loop_ scope) c.in-If.is ∙ stmt-If g c.in-If.at c.in-If.cond c.in-If.then c.in-If.other loop_ scope)
     c.in_ok-cond_faults-in-If.ensures
-    (c.in_ok-stmt_faults-in-If.ensures.found ∙ ap (λ s. met g c.cond_faults.new.found (stmt_sites g s loop_ scope)) c.get.ensures)
+    (c.in_ok-stmt_faults-in-If.ensures.found ∙ ap (λ s. met g c.cond_faults.new.found (stmt_sites g s loop_ scope)) c.get-in-If.ensures)
     (subst (λ s. OnOk r (e ≡ met g c.stmt_faults.new.found (other_sites g c.in-If.other loop_ s)))
-    (c.in_ok-stmt_faults-in-If.ensures.past ∙ ap (λ s. past_stmt g s scope) c.get.ensures) c.other_faults.ensures.found)
+    (c.in_ok-stmt_faults-in-If.ensures.past ∙ ap (λ s. past_stmt g s scope) c.get-in-If.ensures) c.other_faults.ensures.found)
 
 pub stmt_faults-returns-in_ok-cond_faults-in-While-clause-found : goal.stmt_faults-returns-in_ok-cond_faults-in-While-clause-found
 stmt_faults-returns-in_ok-cond_faults-in-While-clause-found t c =
@@ -104,11 +106,11 @@ stmt_faults-returns-in_ok-stmt_faults-in-For-clause-past t c =
     let f = c.in-For.first in
     let within = c.stmt_faults-in-For.new.scope in
     let opened_as = c.in_ok-enter-in-For.ensures in
-    let first_as = c.in_ok-first_faults-in-For.ensures.past ∙ ap (past_first g f) opened_as in
+    let first_as = c.in_ok-first_faults-in-For.ensures.past ∙ ap (λ x. past_first g x c.enter.new.self) c.get-in-For.ensures ∙ ap (past_first g f) opened_as in
     let outside : outer within.blocks ≡ scope.blocks =
     ap outer c.in_ok-stmt_faults-in-For.ensures.blocks ∙ ap (λ (s : Scope). outer s.blocks) first_as ∙ outer-past_first g f (opened scope) in
     let all : within ≡ past_stmt g c.in-For.body (past_first g f (opened scope)) =
-    c.in_ok-stmt_faults-in-For.ensures.past ∙ ap (λ s. past_stmt g s c.first_faults.new.scope) c.get-in-For.ensures ∙ ap (past_stmt g c.in-For.body) first_as in
+    c.in_ok-stmt_faults-in-For.ensures.past ∙ ap (λ s. past_stmt g s c.first_faults.new.scope) c.get-in-For-2.ensures ∙ ap (past_stmt g c.in-For.body) first_as in
     c.leave.ensures ∙ left_closed scope within outside ∙ ap (closed scope) all
     ∙ sym (ap (λ s. past_stmt g s scope) c.in-For.is ∙ past-For-stmt g c.in-For.at f c.in-For.cond c.in-For.next c.in-For.body scope)
 
@@ -124,14 +126,16 @@ stmt_faults-returns-in_ok-stmt_faults-in-For-clause-found t c =
     let f4 = c.stmt_faults-in-For.new.found in
     let opened_as = c.in_ok-enter-in-For.ensures in
     let inside = past_first g f (opened scope) in
-    let first_as : c.first_faults.new.scope ≡ inside = c.in_ok-first_faults-in-For.ensures.past ∙ ap (past_first g f) opened_as in
-    let one : f1 ≡ met g f0 (first_sites g f (opened scope)) = c.in_ok-first_faults-in-For.ensures.found ∙ ap (λ s. met g f0 (first_sites g f s)) opened_as in
+    let first_as : c.first_faults.new.scope ≡ inside =
+    c.in_ok-first_faults-in-For.ensures.past ∙ ap (λ x. past_first g x c.enter.new.self) c.get-in-For.ensures ∙ ap (past_first g f) opened_as in
+    let one : f1 ≡ met g f0 (first_sites g f (opened scope)) =
+    c.in_ok-first_faults-in-For.ensures.found ∙ ap (λ x. met g f0 (first_sites g x c.enter.new.self)) c.get-in-For.ensures ∙ ap (λ s. met g f0 (first_sites g f s)) opened_as in
     let two : f2 ≡ met g f1 (maybe_sites (cond_sites g inside) c.in-For.cond) =
     c.in_ok-maybe_cond_faults-in-For.ensures ∙ ap (λ s. met g f1 (maybe_sites (cond_sites g s) c.in-For.cond)) first_as in
     let three : f3 ≡ met g f2 (maybe_sites (simple_sites g inside) c.in-For.next) =
     c.in_ok-maybe_simple_faults-in-For.ensures ∙ ap (λ s. met g f2 (maybe_sites (simple_sites g s) c.in-For.next)) first_as in
     let four : f4 ≡ met g f3 (stmt_sites g c.in-For.body true inside) =
-    c.in_ok-stmt_faults-in-For.ensures.found ∙ ap (λ s. met g f3 (stmt_sites g s true c.first_faults.new.scope)) c.get-in-For.ensures
+    c.in_ok-stmt_faults-in-For.ensures.found ∙ ap (λ s. met g f3 (stmt_sites g s true c.first_faults.new.scope)) c.get-in-For-2.ensures
     ∙ ap (λ s. met g f3 (stmt_sites g c.in-For.body true s)) first_as in
     after_one g f0 f1 f4 _ _ one (after_two g f1 f2 f3 f4 _ _ _ two three four)
     ∙ ap (met g f0) (sym (ap (λ s. stmt_sites g s c.args.looping scope) c.in-For.is ∙ stmt-For g c.in-For.at f c.in-For.cond c.in-For.next c.in-For.body c.args.looping scope))

@@ -21,6 +21,6 @@ pub pass_stmt-returns-in-If : goal.pass_stmt-returns-in-If
 pass_stmt-returns-in-If t c =
     passed_two c.args.count.now c.pass-in-If.new.count c.pass_stmt.new.count c.pass_other.new.count c.in-If.at _ (other_places c.in-If.other)
     c.pass-in-If.ensures
-    (c.pass_stmt.ensures ∙ ap (λ s. all_passed c.pass-in-If.new.count (stmt_places s)) c.get.ensures)
+    (c.pass_stmt.ensures ∙ ap (λ s. all_passed c.pass-in-If.new.count (stmt_places s)) c.get-in-If.ensures)
     c.pass_other.ensures
     ∙ ap (all_passed c.args.count.now) (sym (ap stmt_places c.in-If.is ∙ places-If-stmt c.in-If.at c.in-If.cond c.in-If.then c.in-If.other))

@@ -1,7 +1,6 @@
-use Rattle.std.proofs.Common.{◌≡◌, ◌+◌, ◌||◌, Bool, true, false, is_some, List, drop, refl, sym, ap, ◌∙◌}
+use Rattle.std.proofs.Common.{◌≡◌, ◌+◌, ◌||◌, Bool, true, false, List, drop, refl, sym, ap, ◌∙◌}
 use Rattle.std.proofs.lemmas.List.{at_drop_all}
 use Rattle.c_ast.specs.declared.items.Item.{Item}
-use Rattle.c_check.specs.inner.Bodies.{program_from}
 use Rattle.c_check.specs.inner.Items.{any_main, is_main_item, kept_after, kept_item_sites, kept_items_sites}
 use Rattle.c_check.specs.inner.Meeting.{met}
 use Rattle.c_check.proofs.LoopLemmas.{turn}
@@ -28,27 +27,24 @@ loop-item-preserved c =
     let rest : List Item = drop (i + 1) items in
     record {
       found = rw (c.in_ok-main.ensures.seen, c.in_ok-main.ensures.found, c.in_ok-main.ensures.main)
-          (sym (met-append g found (kept_item_sites g (is_some main) seen item) (kept_items_sites g (is_some main || is_main_item item) (kept_after seen item) rest))
-          ∙ turn (λ (is : List Item). met g found (kept_items_sites g (is_some main) seen is)) items i item c.loop-item-test.true c.item-item.is
+          (sym (met-append g found (kept_item_sites g main seen item) (kept_items_sites g (main || is_main_item item) (kept_after seen item) rest))
+          ∙ turn (λ (is : List Item). met g found (kept_items_sites g main seen is)) items i item c.loop-item-test.true c.item-item.is
           ∙ c.loop-item.invariant.found);
       main = ap (λ b. b || any_main rest) c.in_ok-main.ensures.main
-          ∙ or_or (is_some main) (is_main_item item) (any_main rest)
-          ∙ turn (λ (is : List Item). is_some main || any_main is) items i item c.loop-item-test.true c.item-item.is
+          ∙ or_or main (is_main_item item) (any_main rest)
+          ∙ turn (λ (is : List Item). main || any_main is) items i item c.loop-item-test.true c.item-item.is
           ∙ c.loop-item.invariant.main;
-      program = c.in_ok-main.ensures.program rest
-          ∙ turn (λ (is : List Item). program_from g main is) items i item c.loop-item-test.true c.item-item.is
-          ∙ c.loop-item.invariant.program;
     }
 
 pub returns-clause-found : goal.returns-clause-found
 returns-clause-found c =
     let g = c.args.tables.now in
-    sym (at_drop_all (λ (is : List Item). met g c.loop-item.found (kept_items_sites g (is_some c.loop-item.main) c.loop-item.seen is)) c.args.items.now c.loop-item.item-index c.loop-item-test.false
+    sym (at_drop_all (λ (is : List Item). met g c.loop-item.found (kept_items_sites g c.loop-item.main c.loop-item.seen is)) c.args.items.now c.loop-item.item-index c.loop-item-test.false
     ∙ met-nil g c.loop-item.found)
     ∙ c.loop-item.invariant.found
 
 pub returns-clause-main : goal.returns-clause-main
 returns-clause-main c =
-    sym (at_drop_all (λ (is : List Item). is_some c.loop-item.main || any_main is) c.args.items.now c.loop-item.item-index c.loop-item-test.false
-    ∙ or_false (is_some c.loop-item.main))
+    sym (at_drop_all (λ (is : List Item). c.loop-item.main || any_main is) c.args.items.now c.loop-item.item-index c.loop-item-test.false
+    ∙ or_false c.loop-item.main)
     ∙ c.loop-item.invariant.main

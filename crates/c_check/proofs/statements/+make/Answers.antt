@@ -2,11 +2,11 @@ use Rattle.std.proofs.Common.{◌≡◌, ◌+◌, ◌++◌, List, [], ◌∷◌,
 use Rattle.c_ast.specs.declared.statements.Block.{out-Block}
 use Rattle.c_types.specs.declared.program.Stmt.{Stmt}
 use Rattle.c_types.specs.declared.program.Stmt.TheVariants.{Branch, While, DoWhile}
-use Rattle.c_typing.specs.Programs.{cond_of, grouped, part_stmts, parts_stmts, stmt_stmts, other_stmts}
+use Rattle.c_typing.specs.Programs.{cond_of, grouped, part_stmts, parts_stmts, simple_stmts, stmt_stmts, other_stmts}
 use Rattle.c_typing.specs.Scopes.{Scope, opened, closed, past_first, past_parts, past_stmt}
 use Rattle.c_typing.proofs.ProgramLayers.{made-Declare, made-Stmt, made-parts, made-Empty-stmt, made-Block-stmt, made-Simple-stmt, made-While-stmt, made-Do-stmt, made-For-stmt, made-Return-stmt, made-Break-stmt, made-Continue-stmt, made-Assert-stmt, made-If-stmt}
 use Rattle.c_typing.proofs.ScopeLayers.{past-For-stmt}
-use Rattle.c_check.specs.inner.Making.{first_stmts, for_body, group_first}
+use Rattle.c_check.specs.inner.Making.{first_stmts, for_body, for_made, group_first, past_for}
 use Rattle.c_check.specs.inner.ScopeTables.{outer}
 use Rattle.c_check.proofs.BodyLemmas.{left_closed, outer-past_first}
 use Rattle.c_check.proofs.MakingLemmas.{made_as, stmts_step, same_group, for_as}
@@ -73,15 +73,15 @@ stmt_stmts-returns-in-Block-clause-stmts t c =
 pub stmt_stmts-returns-in-Simple-clause-stmts : goal.stmt_stmts-returns-in-Simple-clause-stmts
 stmt_stmts-returns-in-Simple-clause-stmts t c =
     let g = c.args.tables.now in
-    made_as c.simple_stmts.result _ _ (ap (λ s. stmt_stmts g s c.args.scope.now) c.in-Simple.is ∙ made-Simple-stmt g c.in-Simple.simple c.args.scope.now) c.simple_stmts.ensures
+    made_as c.simple_stmts.result _ _ (ap (λ s. stmt_stmts g s c.args.scope.now) c.in-Simple.is ∙ made-Simple-stmt g c.in-Simple.simple c.args.scope.now ∙ ap (simple_stmts g c.args.scope.now) (sym c.get.ensures)) c.simple_stmts.ensures
 
 pub stmt_stmts-returns-in_ok-stmts-in-If-clause-stmts : goal.stmt_stmts-returns-in_ok-stmts-in-If-clause-stmts
 stmt_stmts-returns-in_ok-stmts-in-If-clause-stmts t c =
     let g = c.args.tables.now in
     let scope = c.args.scope.now in
     let inner = c.in-If.then in
-    let yes_as : c.in_ok-yes-in-If.yes ≡ stmt_stmts g inner scope = c.in_ok-yes-in-If.ensures.stmts ∙ ap (λ s. stmt_stmts g s scope) c.get.ensures in
-    let past_as : c.stmt_stmts.new.scope ≡ past_stmt g inner scope = c.in_ok-yes-in-If.ensures.past ∙ ap (λ s. past_stmt g s scope) c.get.ensures in
+    let yes_as : c.in_ok-yes-in-If.yes ≡ stmt_stmts g inner scope = c.in_ok-yes-in-If.ensures.stmts ∙ ap (λ s. stmt_stmts g s scope) c.get-in-If.ensures in
+    let past_as : c.stmt_stmts.new.scope ≡ past_stmt g inner scope = c.in_ok-yes-in-If.ensures.past ∙ ap (λ s. past_stmt g s scope) c.get-in-If.ensures in
     let no_as : c.in_ok-no-in-If.no ≡ other_stmts g c.in-If.other (past_stmt g inner scope) = c.in_ok-no-in-If.ensures.stmts ∙ ap (other_stmts g c.in-If.other) past_as in
     c.in_ok-stmts-in-If.ensures
     ∙ ap (λ x. Branch x c.in_ok-yes-in-If.yes c.in_ok-no-in-If.no ∷ []) c.in_ok-cond-in-If.ensures
@@ -110,8 +110,10 @@ stmt_stmts-returns-in_ok-stmts-in-Do-clause-stmts t c =
 pub stmt_stmts-returns-in-For-clause-past : goal.stmt_stmts-returns-in-For-clause-past
 stmt_stmts-returns-in-For-clause-past t c =
     let g = c.args.tables.now in
+    let scope = c.args.scope.now in
     subst (λ (s : Scope). OnOk c.for_stmts.result (c.for_stmts.new.scope ≡ s))
-    (sym (ap (λ s. past_stmt g s c.args.scope.now) c.in-For.is ∙ past-For-stmt g c.in-For.at c.in-For.first c.in-For.cond c.in-For.next c.in-For.body c.args.scope.now))
+    (ap (λ x. past_for g x c.in-For.body scope) c.get-in-For.ensures
+    ∙ sym (ap (λ s. past_stmt g s scope) c.in-For.is ∙ past-For-stmt g c.in-For.at c.in-For.first c.in-For.cond c.in-For.next c.in-For.body scope))
     c.for_stmts.ensures.past
 
 pub stmt_stmts-returns-in-For-clause-stmts : goal.stmt_stmts-returns-in-For-clause-stmts
@@ -120,7 +122,8 @@ stmt_stmts-returns-in-For-clause-stmts t c =
     let scope = c.args.scope.now in
     made_as c.for_stmts.result _ _
     (ap (λ s. stmt_stmts g s scope) c.in-For.is ∙ made-For-stmt g c.in-For.at c.in-For.first c.in-For.cond c.in-For.next c.in-For.body scope
-    ∙ for_as g c.in-For.first c.in-For.at c.in-For.cond c.in-For.next c.in-For.body scope)
+    ∙ for_as g c.in-For.first c.in-For.at c.in-For.cond c.in-For.next c.in-For.body scope
+    ∙ ap (λ x. for_made g c.in-For.at.line x c.in-For.cond c.in-For.next c.in-For.body scope) (sym c.get-in-For.ensures))
     c.for_stmts.ensures.stmts
 
 pub stmt_stmts-returns-in-Return-clause-stmts : goal.stmt_stmts-returns-in-Return-clause-stmts

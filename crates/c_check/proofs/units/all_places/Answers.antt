@@ -5,12 +5,13 @@ use Rattle.c_check.specs.inner.Meeting.{met, noted}
 use Rattle.c_check.proofs.KeptLemmas.{whole_met}
 use Rattle.c_check.proofs.units.all_places.Goals as goal
 
-pub returns-clause-found : goal.returns-clause-found
-returns-clause-found c =
+pub returns : goal.returns
+returns c =
     let g = c.args.tables.now in
     let u = c.args.unit.now in
+    let main = c.in_ok-main.main in
     c.overflows.ensures
     ∙ ap (λ o. noted g o (Overflows u.over)) c.ends.ensures
-    ∙ ap (λ o. noted g (noted g o (Ends c.is_some.result u.end)) (Overflows u.over))
+    ∙ ap (λ o. noted g (noted g o (Ends main u.end)) (Overflows u.over))
     (c.in_ok-main.ensures.found ∙ ap (λ is. met g c.args.found.now (kept_items_sites g false nothing_kept is)) c.as_slice.ensures)
-    ∙ whole_met g c.args.found.now u c.is_some.result (c.is_some.ensures ∙ c.in_ok-main.ensures.main ∙ ap any_main c.as_slice.ensures)
+    ∙ whole_met g c.args.found.now u main (c.in_ok-main.ensures.main ∙ ap any_main c.as_slice.ensures)

@@ -1,17 +1,15 @@
-use Rattle.std.proofs.Common.{arith, ◌∙◌, sym, ap, subst, ◌++◌, ◌∷◌, [], refl, IfOk, IfErr, ◌≡◌, suc}
+use Rattle.std.proofs.Common.{arith, ◌∙◌, sym, ap, subst, ◌++◌, ◌∷◌, [], refl}
 use Rattle.std.proofs.lemmas.Result.{IfOk-weaker, IfErr-weaker}
-use Rattle.c_ast.specs.declared.conditions.Test.TheVariants as test'
 use Rattle.c_ast.specs.declared.conditions.Unary.TheVariants as unary'
-use Rattle.c_ast.specs.declared.operands.Operand.{Operand}
 use Rattle.c_grammar.specs.inner.Faults.{Takes, Fails}
 use Rattle.c_grammar.specs.inner.Faults.Fails.{no_memory}
-use Rattle.c_grammar.specs.inner.Sets.{among, begins_operand, begins_nested, operand_goes_on, test_goes_on, and_goes_on, cond_goes_on, no_sign}
+use Rattle.c_grammar.specs.inner.Sets.{begins_operand, begins_nested, operand_goes_on, test_goes_on, and_goes_on, cond_goes_on, no_sign}
 use Rattle.c_parser.specs.inner.Bounds.{Stops, Reads}
 use Rattle.c_grammar.specs.inner.Shapes.{a_comparison, an_inner_unary, a_unary, a_test, next_test, some_tests, next_and, some_ands, a_cond}
 use Rattle.c_grammar.specs.Syntax.{and_of, cond_of}
 use Rattle.c_grammar.specs.declared.signs.Sign.TheVariants.{And, Or}
 use Rattle.c_grammar.proofs.Conditions.{ands, ors, good_test, good_more_tests, good_next_test, good_and, good_next_and, good_more_ands, least_test, least_and, unary_stays, test_stays, unary_nested_fails, unary_nested_takes, test_nested_fails, test_nested_takes, unary_operand_fails, unary_operand_takes, test_compared_fails, test_compared_takes, not_fails, not_takes, bad_cond, no_close, brackets_take}
-use Rattle.c_grammar.proofs.Lists.{Leads, lists, leads_more, leads_end, leads_stuck, takes_length}
+use Rattle.c_grammar.proofs.Lists.{Leads, lists, leads_more, leads_end, leads_stuck}
 use Rattle.c_grammar.proofs.Parts.{fails_made, takes_made}
 use Rattle.c_grammar.proofs.Series.{series_fails, series_begun, no_sep, next_fails, next_takes}
 use Rattle.c_grammar.proofs.Steps.{passed}

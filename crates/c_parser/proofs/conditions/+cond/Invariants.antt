@@ -1,7 +1,6 @@
 use Rattle.std.proofs.Common.{◌+◌, ◌*◌, ◌<◌, length}
-use Rattle.c_grammar.specs.inner.Sets.{among, begins_nested, test_goes_on, and_goes_on, cond_goes_on, no_sign}
+use Rattle.c_grammar.specs.inner.Sets.{begins_nested, test_goes_on, and_goes_on, cond_goes_on, no_sign}
 use Rattle.c_grammar.specs.inner.Shapes.{next_test, some_tests, next_and, some_ands}
-use Rattle.c_grammar.specs.declared.signs.Sign.TheVariants.{And, Or}
 use Rattle.c_grammar.proofs.Conditions.{ands, ors}
 use Rattle.c_grammar.proofs.Lists.{Leads}
 use Rattle.c_parser.proofs.conditions.«+cond».Given as goal

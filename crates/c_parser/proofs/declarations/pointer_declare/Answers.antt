@@ -1,5 +1,4 @@
 use Rattle.std.proofs.Common.{refl}
-use Rattle.c_grammar.specs.Grammar.{token}
 use Rattle.c_grammar.specs.Syntax as s
 use Rattle.c_grammar.specs.Syntax.{at_of}
 use Rattle.c_grammar.specs.declared.signs.Sign.TheVariants as sign
@@ -9,7 +8,8 @@ use Rattle.c_parser.specs.inner.Shapes.{read_next_pointer, read_pointer_declare}
 use Rattle.c_grammar.proofs.Goods.{good_one, good_at, good_name}
 use Rattle.c_grammar.proofs.Items.{good_more_pointers}
 use Rattle.c_grammar.proofs.Leasts.{least_name, least_absent}
-use Rattle.c_grammar.proofs.Parts.{takes_made, fails_made, takes_token, least_many, alive_made}
+use Rattle.c_grammar.proofs.Parts.{takes_made, fails_made, takes_token, alive_made}
+use Rattle.c_grammar.proofs.Repeats.{least_many}
 use Rattle.c_grammar.proofs.Sequences.{least_one, least_pair}
 use Rattle.c_grammar.proofs.Statements.{good_declarator, good_maybe_from, good_pointers, good_star_declarator}
 use Rattle.c_grammar.proofs.Steps.{passed, pair, in_front, in_back, widen_takes, widen_fails, good_pair}

@@ -7,7 +7,8 @@ use Rattle.c_parser.specs.inner.Shapes.{read_braced, read_field}
 use Rattle.c_grammar.proofs.ItemLeasts.{least_field}
 use Rattle.c_grammar.proofs.Goods.{good_one}
 use Rattle.c_grammar.proofs.Items.{good_field, good_more_fields, good_some_fields}
-use Rattle.c_grammar.proofs.Parts.{takes_made, fails_made, takes_token, least_many, alive_made}
+use Rattle.c_grammar.proofs.Parts.{takes_made, fails_made, takes_token, alive_made}
+use Rattle.c_grammar.proofs.Repeats.{least_many}
 use Rattle.c_grammar.proofs.Sequences.{least_one, least_pair}
 use Rattle.c_grammar.proofs.Steps.{passed, pair, in_front, in_back, widen_takes, widen_fails, good_pair}
 use Rattle.c_grammar.proofs.Tokens.{fails_one, real}

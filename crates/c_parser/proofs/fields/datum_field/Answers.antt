@@ -8,7 +8,8 @@ use Rattle.c_parser.specs.inner.Shapes.{read_datum_field, read_next_name}
 use Rattle.c_grammar.proofs.Goods.{good_one, good_name}
 use Rattle.c_grammar.proofs.Items.{good_more_names, good_names}
 use Rattle.c_grammar.proofs.Leasts.{least_name}
-use Rattle.c_grammar.proofs.Parts.{takes_made, fails_made, takes_token, least_many, alive_made}
+use Rattle.c_grammar.proofs.Parts.{takes_made, fails_made, takes_token, alive_made}
+use Rattle.c_grammar.proofs.Repeats.{least_many}
 use Rattle.c_grammar.proofs.Sequences.{least_one, least_pair}
 use Rattle.c_grammar.proofs.Statements.{good_data}
 use Rattle.c_grammar.proofs.Steps.{passed, pair, in_front, in_back, widen_takes, widen_fails, good_pair}

@@ -1,5 +1,4 @@
 use Rattle.std.proofs.Common.{refl}
-use Rattle.c_grammar.specs.Grammar.{token}
 use Rattle.c_grammar.specs.Items as i
 use Rattle.c_grammar.specs.Syntax as s
 use Rattle.c_grammar.specs.Syntax.{at_of}
@@ -10,7 +9,8 @@ use Rattle.c_parser.specs.inner.Shapes.{read_next_star, read_pointer_field}
 use Rattle.c_grammar.proofs.Goods.{good_one, good_at, good_name}
 use Rattle.c_grammar.proofs.Items.{good_more_stars, good_star_name, good_star_names}
 use Rattle.c_grammar.proofs.Leasts.{least_name}
-use Rattle.c_grammar.proofs.Parts.{takes_made, fails_made, takes_token, least_many, alive_made}
+use Rattle.c_grammar.proofs.Parts.{takes_made, fails_made, takes_token, alive_made}
+use Rattle.c_grammar.proofs.Repeats.{least_many}
 use Rattle.c_grammar.proofs.Sequences.{least_one, least_pair}
 use Rattle.c_grammar.proofs.Steps.{passed, pair, in_front, in_back, widen_takes, widen_fails, good_pair}
 use Rattle.c_grammar.proofs.Tokens.{fails_one, takes_at, takes_name, real}

@@ -6,7 +6,8 @@ use Rattle.c_parser.specs.inner.Bounds.{Stops}
 use Rattle.c_parser.specs.inner.Shapes.{read_field, read_some_fields}
 use Rattle.c_grammar.proofs.Items.{good_field, good_more_fields}
 use Rattle.c_grammar.proofs.Lists.{Leads, lists, leads_more, leads_end, leads_stuck}
-use Rattle.c_grammar.proofs.Parts.{takes_made, fails_made, least_many}
+use Rattle.c_grammar.proofs.Parts.{takes_made, fails_made}
+use Rattle.c_grammar.proofs.Repeats.{least_many}
 use Rattle.c_grammar.proofs.Steps.{passed, pair, in_front, in_back, widen_takes, widen_fails}
 use Rattle.c_parser.proofs.fields.some_fields.Goals as goal
 

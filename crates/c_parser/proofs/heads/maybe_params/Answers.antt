@@ -1,5 +1,4 @@
 use Rattle.std.proofs.Common.{Some, None, refl, sym, ap, ◌∙◌}
-use Rattle.c_grammar.specs.Syntax as s
 use Rattle.c_grammar.specs.inner.Parted.{begins_params}
 use Rattle.c_grammar.specs.inner.Sets.{no_sign, commas}
 use Rattle.c_parser.specs.inner.Bounds.{Stops}

@@ -2,7 +2,6 @@ use Rattle.std.proofs.Common.{refl, sym, ap, ◌∙◌, ◌∷◌, []}
 use Rattle.std.proofs.lemmas.Result.{IfOk-weaker, IfErr-weaker}
 use Rattle.c_ast.specs.declared.items.ReturnType.TheVariants as return'
 use Rattle.c_grammar.specs.Items as i
-use Rattle.c_grammar.specs.Syntax as s
 use Rattle.c_grammar.specs.declared.signs.Sign.TheVariants as sign
 use Rattle.c_grammar.specs.inner.Parted.{begins_data}
 use Rattle.c_grammar.specs.inner.Sets.{among, no_sign}

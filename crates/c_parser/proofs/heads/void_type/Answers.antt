@@ -1,6 +1,5 @@
 use Rattle.std.proofs.Common.{refl}
 use Rattle.c_ast.specs.declared.items.ReturnType.TheVariants as return'
-use Rattle.c_grammar.specs.Grammar.{token}
 use Rattle.c_grammar.specs.Syntax.{at_of}
 use Rattle.c_grammar.specs.declared.signs.Sign.TheVariants as sign
 use Rattle.c_parser.specs.inner.Bounds.{Stops}

@@ -1,5 +1,4 @@
 use Rattle.std.proofs.Common.{refl, sym, ap, subst, ◌∙◌}
-use Rattle.c_grammar.specs.Syntax as s
 use Rattle.c_grammar.specs.inner.Faults.Fails.{no_memory}
 use Rattle.c_grammar.specs.inner.Parted.{begins_item}
 use Rattle.c_grammar.specs.inner.Sets.{no_sign, elses}
@@ -7,7 +6,7 @@ use Rattle.c_parser.specs.inner.Bounds.{Stops}
 use Rattle.c_parser.specs.inner.Shapes.{read_all_items, read_item}
 use Rattle.c_grammar.proofs.ItemForms.{good_item}
 use Rattle.c_grammar.proofs.Lists.{Leads, lists, leads_none, leads_more, leads_end, leads_stuck}
-use Rattle.c_grammar.proofs.Parts.{cont_many}
+use Rattle.c_grammar.proofs.Repeats.{cont_many}
 use Rattle.c_grammar.proofs.Steps.{passed, widen_takes, widen_fails}
 use Rattle.c_parser.proofs.items.all_items.Goals as goal
 

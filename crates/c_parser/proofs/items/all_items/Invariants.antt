@@ -3,7 +3,7 @@ use Rattle.c_grammar.specs.inner.Parted.{begins_item}
 use Rattle.c_grammar.specs.inner.Sets.{no_sign, elses}
 use Rattle.c_parser.specs.inner.Shapes.{read_all_items, read_item}
 use Rattle.c_grammar.proofs.Lists.{Leads}
-use Rattle.c_grammar.proofs.Parts.{cont_many}
+use Rattle.c_grammar.proofs.Repeats.{cont_many}
 use Rattle.c_parser.proofs.items.all_items.Given as goal
 
 abbrev pub invariant-items : goal.invariant-items

@@ -1,6 +1,5 @@
 use Rattle.std.proofs.Common.{refl}
 use Rattle.c_ast.specs.declared.statements.Data.TheVariants as data'
-use Rattle.c_grammar.specs.Grammar.{token}
 use Rattle.c_grammar.specs.Syntax.{at_of}
 use Rattle.c_grammar.specs.declared.signs.Sign.TheVariants as sign
 use Rattle.c_grammar.specs.inner.Parted.{Rest, data_item, int_of}

@@ -4,7 +4,6 @@ use Rattle.c_ast.specs.declared.items.Field.{Field}
 use Rattle.c_ast.specs.declared.operands.Name.{Name}
 use Rattle.c_lexer.specs.declared.token.Token.{Token}
 use Rattle.c_grammar.specs.Items as i
-use Rattle.c_grammar.specs.Syntax as s
 use Rattle.c_grammar.specs.inner.Parted.{begins_ending, Rest, StructRest, struct_item_of}
 use Rattle.c_grammar.specs.inner.Sets.{no_sign, elses}
 use Rattle.c_parser.specs.inner.Bounds.{Reads, Stops}

@@ -1,4 +1,4 @@
-use Rattle.std.proofs.Common.{◌∙◌, sym, ap, subst, ◌++◌, ◌∷◌, [], refl, arith, ◌-◌, suc, ◌≡◌, IfOk, IfErr}
+use Rattle.std.proofs.Common.{◌∙◌, sym, ap, subst, ◌++◌, ◌∷◌, [], refl}
 use Rattle.std.proofs.lemmas.Result.{IfOk-weaker, IfErr-weaker}
 use Rattle.c_grammar.specs.inner.Faults.{Takes, Fails}
 use Rattle.c_grammar.specs.inner.Faults.Fails.{no_memory}

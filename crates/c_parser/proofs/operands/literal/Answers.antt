@@ -1,9 +1,4 @@
-use Rattle.std.proofs.Common.{◌∙◌, sym}
-use Rattle.c_grammar.specs.inner.Faults.Fails.{no_memory}
-use Rattle.c_parser.specs.inner.Bounds.{Stops}
-use Rattle.c_grammar.specs.inner.Shapes.{a_literal}
-use Rattle.c_grammar.proofs.Literals.{takes_null, takes_true, takes_false, takes_number, no_literal}
-use Rattle.c_grammar.proofs.Steps.{passed}
+use Rattle.c_grammar.proofs.Literals.{takes_null, takes_true, takes_false}
 use Rattle.c_parser.proofs.operands.literal.Goals as goal
 
 pub returns-in_ok-token-in-Null-clause-ok : goal.returns-in_ok-token-in-Null-clause-ok

@@ -1,13 +1,9 @@
-use Rattle.std.proofs.Common.{◌∙◌, sym, ap, subst, ◌++◌, ◌∷◌, [], refl, arith, ◌-◌, suc, ◌≡◌, IfOk, IfErr}
+use Rattle.std.proofs.Common.{◌∙◌, sym}
 use Rattle.std.proofs.lemmas.Result.{IfOk-weaker, IfErr-weaker}
-use Rattle.c_grammar.specs.inner.Faults.{Takes}
-use Rattle.c_grammar.specs.inner.Faults.Fails.{no_memory}
-use Rattle.c_grammar.specs.inner.Sets.{begins_operand, commas, operand_goes_on, arguments_go_on, no_sign}
 use Rattle.c_parser.specs.inner.Bounds.{Stops, Reads}
-use Rattle.c_grammar.specs.inner.Shapes.{an_operand, a_literal, all_arguments, some_arguments, next_argument}
-use Rattle.c_grammar.proofs.Goods.{good_next_operand, good_argument, good_arguments, same_operand}
-use Rattle.c_grammar.proofs.Lists.{Leads, leads_more, leads_end, leads_stuck, takes_length}
-use Rattle.c_grammar.proofs.Operands.{no_open, bad_inside, no_close, all_closed, none_there, bad_first, begun, no_comma, bad_next, next_there, takes_literal, fails_literal, no_name, bad_arrows, path_there, bad_call, call_there, deep_call, inner_fails, inner_takes, good_inner, same_argument}
+use Rattle.c_grammar.specs.inner.Shapes.{an_operand, a_literal}
+use Rattle.c_grammar.proofs.Goods.{good_argument, good_arguments, same_operand}
+use Rattle.c_grammar.proofs.Operands.{takes_literal, fails_literal, no_name, bad_arrows, path_there, bad_call, call_there}
 use Rattle.c_grammar.proofs.Steps.{passed}
 use Rattle.c_parser.proofs.operands.operand.Goals as goal
 

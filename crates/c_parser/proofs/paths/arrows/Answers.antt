@@ -1,11 +1,11 @@
-use Rattle.std.proofs.Common.{refl, sym, ◌∙◌, subst, ◌++◌, ◌∷◌, []}
+use Rattle.std.proofs.Common.{refl, sym, ◌∙◌, subst}
 use Rattle.c_grammar.specs.inner.Faults.Fails.{no_memory}
 use Rattle.c_grammar.specs.inner.Sets.{arrows, no_sign}
 use Rattle.c_parser.specs.inner.Bounds.{Stops}
 use Rattle.c_grammar.specs.inner.Shapes.{some_arrows, an_arrow}
 use Rattle.c_grammar.proofs.Goods.{good_arrow}
 use Rattle.c_grammar.proofs.Lists.{Leads, lists, leads_more, leads_end, leads_stuck}
-use Rattle.c_grammar.proofs.Parts.{cont_many}
+use Rattle.c_grammar.proofs.Repeats.{cont_many}
 use Rattle.c_grammar.proofs.Steps.{passed, widen_takes, widen_fails}
 use Rattle.c_parser.proofs.paths.arrows.Goals as goal
 

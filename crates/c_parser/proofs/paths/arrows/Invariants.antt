@@ -2,7 +2,7 @@ use Rattle.std.proofs.Common.{length}
 use Rattle.c_grammar.specs.inner.Shapes.{an_arrow, some_arrows}
 use Rattle.c_grammar.specs.inner.Sets.{arrows, no_sign}
 use Rattle.c_grammar.proofs.Lists.{Leads}
-use Rattle.c_grammar.proofs.Parts.{cont_many}
+use Rattle.c_grammar.proofs.Repeats.{cont_many}
 use Rattle.c_parser.proofs.paths.arrows.Given as goal
 
 abbrev pub invariant-arrows : goal.invariant-arrows

@@ -1,5 +1,4 @@
 use Rattle.std.proofs.Common.{ap, ◌≡◌, refl}
-use Rattle.c_ast.specs.declared.operands.Name.{Name}
 use Rattle.c_grammar.specs.inner.Faults.Fails.{no_memory}
 use Rattle.c_parser.specs.inner.Bounds.{Stops}
 use Rattle.c_grammar.specs.inner.Shapes.{a_name}
@@ -7,7 +6,7 @@ use Rattle.c_grammar.specs.Signs.{sign_at}
 use Rattle.c_grammar.specs.Syntax.{name_of}
 use Rattle.c_grammar.specs.declared.fault.SyntaxFault.TheVariants.{Memory}
 use Rattle.c_grammar.specs.declared.signs.Sign.TheVariants.{Id}
-use Rattle.c_grammar.proofs.Parts.{takes_made, fails_made, takes_token}
+use Rattle.c_grammar.proofs.Parts.{fails_made}
 use Rattle.c_grammar.proofs.Steps.{passed}
 use Rattle.c_grammar.proofs.Tokens.{fails_one, id_real}
 use Rattle.c_parser.proofs.paths.name.Goals as goal

@@ -4,7 +4,8 @@ use Rattle.c_parser.specs.inner.Bounds.{Stops}
 use Rattle.c_grammar.specs.inner.Shapes.{a_path, an_arrow}
 use Rattle.c_grammar.specs.Syntax.{path_of}
 use Rattle.c_grammar.proofs.Goods.{good_name, good_arrows}
-use Rattle.c_grammar.proofs.Parts.{takes_made, fails_made, least_many}
+use Rattle.c_grammar.proofs.Parts.{takes_made, fails_made}
+use Rattle.c_grammar.proofs.Repeats.{least_many}
 use Rattle.c_grammar.proofs.Steps.{passed, pair, in_front, in_back, widen_takes, widen_fails}
 use Rattle.c_grammar.proofs.Tokens.{takes_name}
 use Rattle.c_parser.proofs.paths.path.Goals as goal

@@ -1,7 +1,6 @@
 use Rattle.std.proofs.Common.{refl, sym, ap, ◌∙◌}
 use Rattle.std.proofs.lemmas.Result.{IfOk-weaker, IfErr-weaker}
 use Rattle.c_ast.specs.declared.simples.Rhs.TheVariants as rhs'
-use Rattle.c_grammar.specs.Syntax as s
 use Rattle.c_grammar.specs.inner.Sets.{no_sign, operand_goes_on, begins_operand}
 use Rattle.c_parser.specs.inner.Bounds.{Reads, Stops}
 use Rattle.c_parser.specs.inner.Shapes.{read_malloc, read_operand_rhs, read_rhs}

@@ -4,7 +4,7 @@ use Rattle.c_ast.specs.declared.conditions.Cond.{Cond}
 use Rattle.c_ast.specs.declared.statements.Part.TheVariants as part'
 use Rattle.c_ast.specs.declared.statements.Stmt.TheVariants as stmt'
 use Rattle.c_lexer.specs.declared.token.Token.{Token}
-use Rattle.c_grammar.specs.Grammar.{token, level}
+use Rattle.c_grammar.specs.Grammar.{level}
 use Rattle.c_grammar.specs.Syntax as s
 use Rattle.c_grammar.specs.Syntax.{at_of}
 use Rattle.c_grammar.specs.declared.signs.Sign.TheVariants as sign
@@ -21,7 +21,8 @@ use Rattle.c_grammar.proofs.Levels.{deep_stmt, least_stmt}
 use Rattle.c_grammar.proofs.Heads.{good_if_head, good_while_head, good_for_head, good_do_tail, apart, same_apart, headed_for, same_for, least_do_tail}
 use Rattle.c_grammar.proofs.SignLemmas.{one_of}
 use Rattle.c_grammar.proofs.Lists.{Leads, lists, leads_none, leads_more, leads_end, leads_stuck}
-use Rattle.c_grammar.proofs.Parts.{takes_made, fails_made, takes_token, takes_same, fails_same, least_many, good_made, takes_level, fails_level, good_level, cont_many}
+use Rattle.c_grammar.proofs.Parts.{takes_made, fails_made, takes_token, takes_same, fails_same, good_made, takes_level, fails_level, good_level}
+use Rattle.c_grammar.proofs.Repeats.{least_many, cont_many}
 use Rattle.c_grammar.proofs.Sequences.{takes_as, least_one, least_pair, takes_unmade, fails_unmade}
 use Rattle.c_grammar.proofs.Statements.{good_declare, good_do, good_flat, good_for, good_if, good_inner_block, good_nested, good_other, good_part, good_parts, good_stmt, good_while, same_stmt}
 use Rattle.c_grammar.proofs.Steps.{passed, pair, in_front, in_back, widen_takes, widen_fails, good_pair, good_or}

@@ -3,7 +3,7 @@ use Rattle.c_grammar.specs.inner.Parted.{begins_part, begins_level}
 use Rattle.c_grammar.specs.inner.Sets.{no_sign, elses}
 use Rattle.c_parser.specs.inner.Shapes.{read_part, read_parts}
 use Rattle.c_grammar.proofs.Lists.{Leads}
-use Rattle.c_grammar.proofs.Parts.{cont_many}
+use Rattle.c_grammar.proofs.Repeats.{cont_many}
 use Rattle.c_parser.proofs.statements.«+stmt».Given as goal
 
 abbrev pub invariant-parts-parts : goal.invariant-parts-parts

@@ -1,4 +1,4 @@
-use Rattle.std.proofs.Common.{◌≡◌, sym, subst, ◌∙◌}
+use Rattle.std.proofs.Common.{sym, subst, ◌∙◌}
 use Rattle.c_grammar.specs.Items.{unit}
 use Rattle.c_grammar.specs.declared.fault.SyntaxFault.TheVariants.{Syntax}
 use Rattle.c_grammar.specs.inner.Faults.{Takes, Fails}
