@@ -10,4 +10,6 @@ pub mod splitting;
 mod topping;
 
 pub use choosing::choose_rule;
-pub use splitting::{can_split, split_child};
+pub use replacing::{component, count_roots, ranked_components, replace, sound_of};
+pub use splitting::{can_split, fix_at, split_child};
+pub use topping::{has_one_top, rule_at_top, rules_of, state_at, states_of};

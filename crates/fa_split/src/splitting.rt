@@ -112,7 +112,7 @@ fn with_leaf(alloc: Global, forest: &Sound, root: u32, place: usize, leaf: Targe
 }
 
 /// The forest in which the child is the leaf. Err is want of memory.
-fn fix_at(alloc: Global, forest: &Forest, root: u32, place: usize, leaf: Target) -> Mem<Forest>
+pub fn fix_at(alloc: Global, forest: &Forest, root: u32, place: usize, leaf: Target) -> Mem<Forest>
     requires { CanSplit forest.now root place }
     ensures { IfOk result (λ made. made ≡ split_leaf forest.now root place leaf) }
 {
