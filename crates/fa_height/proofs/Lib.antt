@@ -1,0 +1,7 @@
+pub mod Agreements
+pub mod Classing
+pub mod Filled
+pub mod Images
+pub mod Joined
+pub mod Rows
+pub mod Sound

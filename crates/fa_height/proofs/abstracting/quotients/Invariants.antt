@@ -1,0 +1,7 @@
+use Rattle.std.proofs.Common.{take}
+use Rattle.fore_base.specs.Lists.{Paired}
+use Rattle.fa_height.specs.Quotients.{IsQuotient}
+use Rattle.fa_height.proofs.abstracting.quotients.Given as goal
+
+abbrev pub invariant-loop-root : goal.invariant-loop-root
+invariant-loop-root l = Paired (IsQuotient l.forest.face.boxes l.height) (take l.root l.forest.forest.autos) l.made
