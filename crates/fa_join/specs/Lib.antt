@@ -1,0 +1,3 @@
+pub mod Joinable
+pub mod Joined
+pub mod inner

@@ -1,0 +1,137 @@
+// The forest that joins two.
+
+ghost use Rattle.std.specs.Prelude.{◌≡◌, ◌<◌, length, IfOk};
+ghost use Rattle.fore_base.specs.Lists.{Every};
+ghost use Rattle.par_kit.specs.Crews.{IsJobs};
+ghost use Rattle.fa_core.specs.Boxless.{HasNoBoxes};
+ghost use Rattle.fa_core.specs.Canonical.{IsCanonical};
+ghost use Rattle.fa_core.specs.Filled.{IsSound};
+ghost use Rattle.fa_core.specs.declared.forest.Forest.{Forest};
+ghost use Rattle.fa_split.specs.Chosen.{with_component};
+ghost use Rattle.fa_split.specs.Divided.{HasVarsOf};
+ghost use Rattle.fa_split.specs.Split.{CanSplit};
+ghost use Rattle.fa_join.specs.Joined.{Joins};
+ghost use Rattle.fa_join.specs.inner.Differing.{CanJoin, DifferAtRoot};
+ghost use Rattle.fa_join.specs.inner.Joining.{IsReady, joined_at};
+
+use crate::autos::join_autos;
+use crate::differing::Difference;
+use crate::tops::{component, ranked_components};
+use fa_core::faces::Face;
+use fa_core::forest::Forest;
+use fa_kinds::reduce_forest;
+use fa_sound::Sound;
+use fore_base::list::Copies;
+use fore_base::memory::Mem;
+use par_kit::crew::Crew;
+use par_kit::gate::Gate;
+use std::alloc::Global;
+use std::thread::Threads;
+use ta_core::auto::Auto;
+
+/// The forest that joins the two, of which it is known where they differ. Err is want of memory.
+pub fn join<R: Threads + Sync, G: Gate>(
+    rt: &R,
+    alloc: Global,
+    left: &Sound,
+    right: &Sound,
+    differing: Difference,
+    crew: &Crew<'_, G>,
+) -> Mem<Sound>
+    requires jobs { IsJobs crew.now.jobs }
+    requires left { IsReady left.now.face left.now }
+    requires right { IsReady left.now.face right.now }
+    requires can { CanJoin left.now.face.boxes left.now.forest right.now.forest differing }
+    ensures ready { IfOk result (IsReady left.now.face) }
+    ensures joins { IfOk result (λ made. Joins left.now.forest right.now.forest made.forest) }
+{
+    match differing {
+        Difference::Nowhere => left.copy(alloc),
+        Difference::Child { root, child } => {
+            let joined = join_below(alloc, left, right, root, child)?;
+            reduced(rt, alloc, &joined, crew)
+        }
+    }
+}
+
+/// The forest whose component at the root has, for the child, the trees of both forests there.
+fn join_below(alloc: Global, left: &Sound, right: &Sound, root: u32, child: usize) -> Mem<Sound>
+    requires plain { Every HasNoBoxes left.now.forest.autos × Every HasNoBoxes right.now.forest.autos }
+    requires canonical { IsCanonical left.now.face left.now.forest × IsCanonical left.now.face right.now.forest }
+    requires face { right.now.face ≡ left.now.face }
+    requires alike { HasVarsOf left.now.forest right.now.forest }
+    requires differ { DifferAtRoot left.now.face.boxes left.now.forest right.now.forest root child }
+    ensures plain { IfOk result (λ made. Every HasNoBoxes made.forest.autos) }
+    ensures face { IfOk result (λ made. made.face ≡ left.now.face) }
+    ensures canonical { IfOk result (λ made. IsCanonical left.now.face made.forest) }
+    ensures joins { IfOk result (λ made. Joins left.now.forest right.now.forest made.forest) }
+{
+    left.known();
+    right.known();
+    ranked_components(left.forest());
+    ranked_components(right.forest());
+    let made = joined_forest(alloc, left.forest(), right.forest(), root, child)?;
+    sound_of(alloc, &made, left.face())
+}
+
+/// The left forest, with the component that joins both at the root.
+fn joined_forest(
+    alloc: Global,
+    left: &Forest,
+    right: &Forest,
+    root: u32,
+    child: usize,
+) -> Mem<Forest>
+    requires left { CanSplit left.now root child }
+    requires right { CanSplit right.now root child }
+    ensures { IfOk result (λ made. made ≡ joined_at left.now right.now root child) }
+{
+    let auto = join_autos(alloc, component(left, root), component(right, root), child)?;
+    replace(alloc, left, root, auto)
+}
+
+/// The forest with the automaton as the component of the root.
+fn replace(alloc: Global, forest: &Forest, root: u32, auto: Auto) -> Mem<Forest>
+    requires { root < length forest.now.autos }
+    ensures { IfOk result (λ made. made ≡ with_component forest.now root auto) }
+{
+    let mut autos = forest.autos.copy(alloc)?;
+    autos.set(root as usize, auto);
+    let vars = forest.vars.copy(alloc)?;
+    let data_vars = forest.data_vars.copy(alloc)?;
+    Ok(Forest {
+        autos,
+        vars,
+        data_vars,
+    })
+}
+
+/// The forest, with its signatures.
+fn sound_of(alloc: Global, forest: &Forest, face: &Face) -> Mem<Sound>
+    requires plain { Every HasNoBoxes forest.now.autos }
+    requires sound { IsSound face.now forest.now }
+    ensures forest { IfOk result (λ made. made.forest ≡ forest.now) }
+    ensures face { IfOk result (λ made. made.face ≡ face.now) }
+{
+    match Sound::make(alloc, forest, face)? {
+        Some(made) => Ok(made),
+        None => unreachable!(),
+    }
+}
+
+/// The forest with its components reduced, which joins what it joined.
+fn reduced<R: Threads + Sync, G: Gate>(
+    rt: &R,
+    alloc: Global,
+    forest: &Sound,
+    crew: &Crew<'_, G>,
+) -> Mem<Sound>
+    requires jobs { IsJobs crew.now.jobs }
+    requires plain { Every HasNoBoxes forest.now.forest.autos }
+    requires canonical { IsCanonical forest.now.face forest.now.forest }
+    ensures ready { IfOk result (IsReady forest.now.face) }
+    ensures joins { IfOk result (λ made. (H K : Forest) → Joins H K forest.now.forest → Joins H K made.forest) }
+{
+    let made = reduce_forest(rt, alloc, forest, crew)?;
+    Ok(made)
+}
