@@ -1,0 +1,5 @@
+pub mod Carried
+pub mod Cases
+pub mod Explicit
+pub mod Kept
+pub mod Quiet
