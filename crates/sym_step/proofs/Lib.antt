@@ -1,0 +1,11 @@
+pub mod ChildNamed
+pub mod FieldPlaces
+pub mod FreedChild
+pub mod Keeping
+pub mod Needing
+pub mod OpenedForests
+pub mod Pieces
+pub mod Rows
+pub mod SettledForests
+pub mod Showing
+pub mod Stepping

@@ -1,0 +1,31 @@
+use Rattle.std.proofs.Common.{subst, List}
+use Rattle.fa_core.specs.Canonical.{IsCanonical}
+use Rattle.fa_core.specs.declared.boxes.BoxDef.{BoxDef}
+use Rattle.sym_edit.specs.Edited.{IsEdited, IfGoes, HasForm}
+use Rattle.sym_step.proofs.Stepping.{edge_fault, all_stay}
+use Rattle.sym_step.proofs.settling.settle.Goals as goal
+
+pub bad_alone-requires-clause-met : goal.bad_alone-requires-clause-met
+bad_alone-requires-clause-met g c =
+    let s = c.args.forest.now in
+    edge_fault s.face c.args.edge.now s.forest c.in-Fault.fault (λ (T : List BoxDef). subst (IsEdited s.face T s.forest c.args.edge.now) c.in-Fault.is (c.in_ok-made.ensures.edited T))
+
+pub nothing-requires : goal.nothing-requires
+nothing-requires g c =
+    let s = c.args.forest.now in
+    record { stays = all_stay s.face c.args.edge.now s.forest (λ (T : List BoxDef). subst (IsEdited s.face T s.forest c.args.edge.now) c.in-Stays.is (c.in_ok-made.ensures.edited T)) }
+
+pub settle_edited-requires-clause-carries : goal.settle_edited-requires-clause-carries
+settle_edited-requires-clause-carries g c = λ ls w.
+    let s = c.args.forest.now in
+    (λ (T : List BoxDef). subst (IsEdited s.face T s.forest c.args.edge.now) c.in-Goes.is (c.in_ok-made.ensures.edited T))
+
+pub settle_edited-requires-clause-like : goal.settle_edited-requires-clause-like
+settle_edited-requires-clause-like g c = λ ls w.
+    let s = c.args.forest.now in
+    let form = subst (IfGoes (HasForm s)) c.in-Goes.is c.in_ok-made.ensures.form in
+    record { face = form.face; plain = form.plain; counts = (form.vars, form.data_vars) }
+
+pub settle_edited-requires-clause-calm : goal.settle_edited-requires-clause-calm
+settle_edited-requires-clause-calm g c = λ ls w q.
+    subst (IfGoes (λ s. IsCanonical s.face s.forest)) c.in-Goes.is (c.in_ok-made.ensures.quiet q (c.requires.calm q))

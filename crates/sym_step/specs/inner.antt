@@ -1,0 +1,3 @@
+pub mod Needing
+pub mod Opening
+pub mod Stepping
