@@ -1,0 +1,163 @@
+-- An exploration with one node more.
+use Rattle.std.proofs.Common.{◌≡◌, ◌⊎◌, ℕ, suc, zero, ◌+◌, ◌<◌, ◌≤◌, List, [], ◌∷◌, ◌++◌, length, Option, Some, None, Bool, true, false, refl, sym, ap, ◌∙◌, subst, arith, inl, inr}
+use Rattle.std.proofs.lemmas.Option.{slice_get_within}
+use Rattle.fore_base.specs.declared.store.Store.{Store}
+use Rattle.fore_base.specs.Lists.{IsIn, Every}
+use Rattle.fa_core.specs.Boxes.{Boxes}
+use Rattle.fa_core.specs.Covering.{Covers}
+use Rattle.c_cfg.specs.declared.graph.Edge.{Edge}
+use Rattle.c_cfg.specs.Edges.{Pass, Passed, Faulted, Halted, NotPassed}
+use Rattle.c_cfg.specs.Graphs.{ControlGraph}
+use Rattle.fix_engine.specs.declared.nodes.Node.{Node}
+use Rattle.fix_engine.specs.States.{AbstractState}
+use Rattle.fix_engine.specs.Follows.{Arrives, passed_by}
+use Rattle.fix_engine.specs.Explorations.{IsNode, IsEdge, is_head, IsChild, NoLater, Follows, FollowsEarlier, IsHoused, IsCared, EdgeDone, Done, IsApart, Exploration}
+use Rattle.fix_engine.specs.inner.Taking.{child, Grows, IsMid}
+use Rattle.fix_engine.proofs.Lists.{some_same, length_push, get_more, get_last, get_push, at_within, in_left, in_right, every_in}
+
+pub grows_push : (nodes : List Node) (n : Node) → Grows nodes (nodes ++ n ∷ [])
+grows_push nodes n = λ j m is. get_more nodes (n ∷ []) j m is
+
+pub grows_same : (nodes : List Node) → Grows nodes nodes
+grows_same nodes = λ j n is. is
+
+pub grows_then : (a b c : List Node) → Grows a b → Grows b c → Grows a c
+grows_then a b c h i = λ j n is. i j n (h j n is)
+
+-- two nodes of one number are one
+pub one_node : (nodes : List Node) (j : ℕ) (m n : Node) → IsNode nodes j m → IsNode nodes j n → m ≡ n
+one_node nodes j m n h i = some_same m n (sym h ∙ i)
+
+module _ (T : Boxes) (g : ControlGraph) where
+  pub housed_more : (nodes more : List Node) → Grows nodes more → (location : ℕ) (t : Store) → IsHoused T g nodes location t → IsHoused T g more location t
+  housed_more nodes more gr location t h = record { at = h.at; node = h.node; is = gr h.at h.node h.is; there = h.there; member = h.member }
+
+  cared_more : (nodes more : List Node) → Grows nodes more → (to : ℕ) (x : Pass) → IsCared T g nodes to x → IsCared T g more to x
+  cared_more nodes more gr to (Passed t) h = housed_more nodes more gr to t h
+  cared_more nodes more gr to (Faulted f) h = h
+  cared_more nodes more gr to Halted h = h
+  cared_more nodes more gr to NotPassed h = h
+
+  pub edge_more : (nodes more : List Node) → Grows nodes more → (n : Node) (e : Edge) → EdgeDone T g nodes n e → EdgeDone T g more n e
+  edge_more nodes more gr n e h = λ s m. cared_more nodes more gr e.to (passed_by T e s) (h s m)
+
+  pub done_more : (nodes more : List Node) → Grows nodes more → (j : ℕ) → j < length nodes → Done T g nodes j → Done T g more j
+  done_more nodes more gr j inside d =
+      let w = at_within nodes j inside in
+      λ n is c e ie fr.
+      let same : w.0 ≡ n = one_node more j w.0 n (gr j w.0 w.1) is in
+      edge_more nodes more gr n e (d n (subst (IsNode nodes j) same w.1) c e ie fr)
+
+module _ (T : Boxes) (g : ControlGraph) (k : ℕ) where
+  -- one more state of edge c of node `at`
+  module _ (nodes : List Node) (at c : ℕ) (before : List AbstractState) (mid : IsMid T g k nodes at c before)
+      (parent : Node) (is : IsNode nodes at parent) (e : Edge) (is_edge : IsEdge g c e) (from : e.from ≡ parent.head.location)
+      (a : AbstractState) (arrives : Arrives T g (is_head g e.to) k parent.state.forest e a)
+      (apart : Every (λ b. IsApart T g k e b a) before)
+      (fresh : (j : ℕ) (m : Node) → IsNode nodes j m → m.head.location ≡ e.to → Covers m.state.forest a.forest → ⊥) where
+    abbrev new : Node
+    new = child at c e a
+
+    abbrev more : List Node
+    more = nodes ++ new ∷ []
+
+    grows : Grows nodes more
+    grows = grows_push nodes new
+
+    new_child : IsChild new at c
+    new_child = record { parent = refl; edge = refl }
+
+    follows_more : (j : ℕ) (n : Node) → FollowsEarlier T g k nodes j n → FollowsEarlier T g k more j n
+    follows_more j n f = record { at = f.at; earlier = f.earlier; parent = f.parent; is = grows f.at f.parent f.is; number = f.number; edge = f.edge; is_edge = f.is_edge; follows = f.follows }
+
+    follows_new : FollowsEarlier T g k more (length nodes) new
+    follows_new = record {
+      at = at;
+      earlier = mid.inside;
+      parent = parent;
+      is = grows at parent is;
+      number = c;
+      edge = e;
+      is_edge = is_edge;
+      follows = record { from = sym from; to = refl; child = new_child; choice = refl; state = arrives };
+    }
+
+    follow : (j : ℕ) (n : Node) → 0 < j → IsNode more j n → FollowsEarlier T g k more j n
+    follow j n pos h = elim (get_push nodes new j n h) [
+      | inl old ↦ follows_more j n (mid.explored.follow j n pos old)
+      | inr p ↦ subst (λ z. FollowsEarlier T g k more j z) (sym p.1) (subst (λ i. FollowsEarlier T g k more i new) (sym p.0) follows_new)
+    ]
+
+    -- of two nodes the later one is new, or none is
+    data Two (i j : ℕ) (m n : Node) : Type 0 where
+      both_old : IsNode nodes i m → IsNode nodes j n → Two i j m n
+      later_new : IsNode nodes i m → n ≡ new → Two i j m n
+
+    two : (i j : ℕ) (m n : Node) → i < j → IsNode more i m → IsNode more j n → Two i j m n
+    two i j m n less h l = elim (get_push nodes new i m h) [
+      | inl old ↦ elim (get_push nodes new j n l) [ inl also ↦ both_old old also | inr p ↦ later_new old p.1 ]
+      | inr p ↦ absurd (omega (arith, p.0, less, slice_get_within more j n l, length_push nodes new))
+    ]
+
+    fresh_more : (i j : ℕ) (m n : Node) → i < j → IsNode more i m → IsNode more j n → m.head.location ≡ n.head.location → Covers m.state.forest n.state.forest → ⊥
+    fresh_more i j m n less h l there cov = elim (two i j m n less h l) [
+      | both_old p q ↦ mid.explored.fresh i j m n less p q there cov
+      | later_new p q ↦ fresh i m p (there ∙ ap (λ z. z.head.location) q) (subst (λ z. Covers m.state.forest z.state.forest) q cov)
+    ]
+
+    -- a new node is a child of node `at` by edge c alone
+    new_is : (n : Node) (q d : ℕ) → n ≡ new → IsChild n q d → (at ≡ q) × (c ≡ d)
+    new_is n q d e' ch = (some_same at q (sym (ap (λ z. z.head.parent) e') ∙ ch.parent), some_same c d (sym (ap (λ z. z.head.edge) e') ∙ ch.edge))
+
+    order : (i j : ℕ) (m n : Node) (p d q f : ℕ) → i < j → IsNode more i m → IsNode more j n → IsChild m p d → IsChild n q f → NoLater p d q f
+    order i j m n p d q f less h l cm cn = elim (two i j m n less h l) [
+      | both_old x y ↦ mid.explored.order i j m n p d q f less x y cm cn
+      | later_new x y ↦
+          let w = new_is n q f y cn in
+          subst (λ z. NoLater p d z f) w.0 (subst (λ z. NoLater p d at z) w.1 (mid.last i m p d x cm))
+    ]
+
+    done_now : (i : ℕ) → i < at → Done T g more i
+    done_now i less = done_more T g nodes more grows i (omega (arith, less, mid.inside)) (mid.done i less)
+
+    done : (j : ℕ) (n : Node) (p d : ℕ) → length more ≡ j + 1 → IsNode more j n → IsChild n p d → (i : ℕ) → i < p → Done T g more i
+    done j n p d len h ch i less = elim (get_push nodes new j n h) [
+      | inl old ↦ absurd (omega (arith, slice_get_within nodes j n old, len, length_push nodes new))
+      | inr w ↦ done_now i (omega (arith, less, (new_is n p d w.1 ch).0))
+    ]
+
+    apart_more : (i j : ℕ) (m n : Node) (p d : ℕ) (f : Edge) → i < j → IsNode more i m → IsNode more j n → IsChild m p d → IsChild n p d → IsEdge g d f → IsApart T g k f m.state n.state
+    apart_more i j m n p d f less h l cm cn ie = elim (two i j m n less h l) [
+      | both_old x y ↦ mid.explored.apart i j m n p d f less x y cm cn ie
+      | later_new x y ↦
+          let w = new_is n p d y cn in
+          let mine : IsChild m at c = record { parent = cm.parent ∙ ap Some (sym w.0); edge = cm.edge ∙ ap Some (sym w.1) } in
+          let same : e ≡ f = some_same e f (sym is_edge ∙ (subst (λ z. IsEdge g z f) (sym w.1) ie)) in
+          let one : IsApart T g k e m.state a = every_in (λ b. IsApart T g k e b a) before m.state apart (mid.those i m x mine) in
+          subst (λ z. IsApart T g k z m.state n.state) same (subst (λ z. IsApart T g k e m.state z.state) (sym y) one)
+    ]
+
+    pub grown : Exploration T g k more
+    grown = let f = mid.explored.first in record {
+      first = record { node = f.node; is = grows 0 f.node f.is; entry = f.entry; no_parent = f.no_parent; no_middle = f.no_middle; no_folds = f.no_folds; face = f.face; sound = f.sound; canonical = f.canonical; reduced = f.reduced; vars = f.vars; members = f.members };
+      follow = follow;
+      fresh = fresh_more;
+      order = order;
+      done = done;
+      apart = apart_more;
+    }
+
+    pub mid_grown : IsMid T g k more at c (before ++ a ∷ [])
+    mid_grown = record {
+      explored = grown;
+      inside = omega (arith, mid.inside, length_push nodes new);
+      done = done_now;
+      last = λ j n p d h ch. elim (get_push nodes new j n h) [
+        | inl old ↦ mid.last j n p d old ch
+        | inr w ↦ let v = new_is n p d w.1 ch in inr (sym v.0, omega (arith, v.1))
+      ];
+      those = λ j n h ch. elim (get_push nodes new j n h) [
+        | inl old ↦ in_left before (a ∷ []) n.state (mid.those j n old ch)
+        | inr w ↦ in_right before (a ∷ []) n.state (inl (ap (λ z. z.state) w.1))
+      ];
+    }

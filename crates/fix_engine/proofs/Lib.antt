@@ -1,0 +1,12 @@
+pub mod Arriving
+pub mod Concrete
+pub mod Covering
+pub mod LocationEdges
+pub mod Growing
+pub mod Judging
+pub mod Lists
+pub mod Posting
+pub mod Safety
+pub mod Starting
+pub mod TakenUp
+pub mod Tracing

@@ -1,0 +1,7 @@
+pub mod Covered
+pub mod Explorations
+pub mod Follows
+pub mod Listed
+pub mod States
+pub mod Verdicts
+pub mod inner

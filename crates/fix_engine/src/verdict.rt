@@ -1,0 +1,85 @@
+// What is said of a program, when its graph was explored.
+ghost use Rattle.std.specs.Prelude.{◌≡◌, ◌<◌, ◌-◌, ◌^◌, [], true, IfOk};
+ghost use Rattle.c_cfg.specs.LoopFree.{has_no_loop};
+ghost use Rattle.c_cfg.specs.Lowering.{LowerOf};
+ghost use Rattle.fore_base.specs.Lists.{Every};
+ghost use Rattle.fa_core.specs.Boxless.{HasNoBoxes};
+ghost use Rattle.fix_engine.specs.Explorations.{IsExplored};
+ghost use Rattle.fix_engine.specs.inner.Judging.{IsReplayed};
+ghost use Rattle.fix_engine.specs.Verdicts.{IsNeverLoose, IsVerdict};
+
+use crate::explored::{AbsTrace, Explored};
+use c_cfg::graph::Graph;
+use c_cfg::laws::{alike_stores_step_alike, edges_make_runs, graphs_agree, loop_free_graphs};
+use c_types::laws::{fault_at_its_step, over_stays};
+use c_types::program::Typed;
+use fa_core::table::BoxTable;
+use fa_sample::sample;
+use fore_base::fault::Fault;
+use fore_base::memory::Mem;
+use fore_base::store::Store;
+use std::alloc::Global;
+use trace_replay::{Replay, replay};
+
+/// What is said of a program.
+#[derive(Drop)]
+pub enum Verdict {
+    /// No run meets a fault.
+    Safe,
+    /// The run on the trace's choices meets this fault, in this line at this step.
+    Unsafe { kind: Fault, line: u32, step: u64 },
+    /// Not known: the budget is full.
+    FullBudget,
+    /// Not known: the run on the trace's choices meets no fault. Here is a member of the trace's last forest.
+    LooseTrace { sample: Store },
+}
+
+/// The verdict on a program, from what the exploration of its graph found. A trace counts only where the program's own run on its choices meets a fault. Without loops a trace is never loose.
+///
+/// # Errors
+///
+/// Want of memory.
+pub fn judge(
+    alloc: Global,
+    program: &Typed,
+    graph: &Graph,
+    table: &BoxTable,
+    height: u32,
+    budget: u32,
+    found: &Explored,
+) -> Mem<Verdict>
+    requires explored { IsExplored table.now graph.now height budget found.now }
+    requires lowered { LowerOf program.now graph.now }
+    requires shapes { graph.now.shapes ≡ table.now.face.shapes }
+    requires empty { table.now.defs ≡ [] }
+    ensures verdict { IfOk result (IsVerdict table.now program.now graph.now height budget found.now) }
+    ensures loops { has_no_loop program.now ≡ true → IfOk result IsNeverLoose }
+{
+    table.known();
+    graphs_agree(program, graph);
+    edges_make_runs(program, graph);
+    alike_stores_step_alike(graph);
+    loop_free_graphs(program, graph);
+    over_stays(program);
+    fault_at_its_step(program);
+    match found {
+        Explored::Closed { .. } => Ok(Verdict::Safe),
+        Explored::Spent { .. } => Ok(Verdict::FullBudget),
+        Explored::Faulty { trace, .. } => judge_trace(alloc, program, table, trace),
+    }
+}
+
+fn judge_trace(alloc: Global, program: &Typed, table: &BoxTable, trace: &AbsTrace) -> Mem<Verdict>
+    requires below { trace.now.steps < 2 ^ 64 - 1 }
+    requires face { table.now.face ≡ trace.now.last.face }
+    requires plain { Every HasNoBoxes trace.now.last.forest.autos }
+    ensures { IfOk result (IsReplayed table.now program.now trace.now) }
+{
+    match replay(alloc, program, trace.choices.as_slice(), trace.steps)? {
+        Replay::Real { kind, line, step } => Ok(Verdict::Unsafe { kind, line, step }),
+        Replay::Spurious => {
+            let sample = sample(alloc, &trace.last, table)?;
+            Ok(Verdict::LooseTrace { sample })
+        }
+    }
+}
