@@ -6,13 +6,16 @@ use Rattle.fore_base.specs.declared.fault.Fault.TheVariants.{NullDeref, UninitDe
 use Rattle.c_types.specs.declared.outcome.Outcome.TheVariants.{Ended, Fault, Starved, BadChoice, StillRunning}
 use Rattle.c_front.specs.declared.broken.Letter.{Letter}
 use Rattle.c_front.specs.declared.broken.Letter.TheVariants.{Lexical, Profile, Syntax, Typing, Limit}
-use Rattle.forester.specs.declared.answer.Refusal.TheVariants.{TooLong, Breaks, NotOneWay}
+use Rattle.fix_engine.specs.declared.explored.AbsTrace.{AbsTrace}
+use Rattle.forester.specs.declared.answer.Refusal.TheVariants.{TooLong, Breaks}
 use Rattle.forester.specs.declared.answer.Answer.{Answer}
-use Rattle.forester.specs.declared.answer.Answer.TheVariants.{Safe, Unsafe, Ran, Usage, Refused, ReadFault, NoMemory}
+use Rattle.forester.specs.declared.answer.Answer.TheVariants.{Verified, Ran, Usage, Refused, ReadFault, NoMemory}
+use Rattle.forester.specs.declared.answer.Verdict.TheVariants.{Safe, Unsafe, Unknown}
+use Rattle.forester.specs.declared.words.Settings.{Settings}
 use Rattle.forester.specs.declared.words.Task.TheVariants.{Verify, Run}
 use Rattle.forester.specs.Requests.{ShelfView, Writing}
 use Rattle.forester.specs.Words.{IsNoOption, IsNumber, IsChoices, IsTask, IsAsked, AsksNothing}
-use Rattle.forester.specs.Texts.{fault_text, out_text, notes_text, status_of}
+use Rattle.forester.specs.Texts.{fault_text, fault_line, ended_line, numbered_line, choices_line, spaced, safe_text, unsafe_text, budget_text, trace_text, out_text, notes_text, status_of}
 use Rattle.forester.specs.Delivery.{IsUntouched, Wrote, IsCut, IsCutShort}
 use Rattle.forester.specs.Verdict.{IsRead, IsRightFor, IsRight, ReadsOnly}
 
@@ -27,37 +30,68 @@ no_text = tt
 an_option : IsNoOption (codes "-x") → ⊥
 an_option h = h refl
 
-two_words : IsAsked (codes "verify" ∷ codes "x.c" ∷ []) (codes "x.c") Verify
-two_words = record { verb = codes "verify"; given = []; are = refl; no_option = λ h. omega (arith, h); asks = (refl, refl) }
+-- the settings that are taken where the words name none, and others
+abbrev usual : Settings
+usual = record { height = 1; budget = 2000 }
+
+abbrev with_height : Settings
+with_height = record { height = 4; budget = 2000 }
+
+abbrev with_both : Settings
+with_both = record { height = 2; budget = 100000 }
+
+two_words : IsAsked (codes "verify" ∷ codes "x.c" ∷ []) (codes "x.c") (Verify usual)
+two_words = record { verb = codes "verify"; given = []; are = refl; no_option = λ h. omega (arith, h); asks = (refl, ([], inr (refl, refl), inr (refl, refl))) }
+
+greater_height : IsTask (codes "verify") (codes "--height" ∷ codes "4" ∷ []) (Verify with_height)
+unfolding digits
+greater_height = (refl, ([], inl (codes "4", refl, record { written = refl; least = omega arith; greatest = omega arith }), inr (refl, refl)))
+
+height_and_budget : IsTask (codes "verify") (codes "--height" ∷ codes "2" ∷ codes "--steps" ∷ codes "100000" ∷ []) (Verify with_both)
+unfolding digits
+height_and_budget = (
+  refl,
+  (
+    codes "--steps" ∷ codes "100000" ∷ [],
+    inl (codes "2", refl, record { written = refl; least = omega arith; greatest = omega arith }),
+    inl (codes "100000", refl, record { written = refl; least = omega arith; greatest = omega arith }),
+  ),
+)
+
+-- a height above 4, and a budget above 100,000, are none
+no_height : IsNumber 4 (codes "5") 5 → ⊥
+no_height h = omega (arith, h.greatest)
+
+no_budget : IsNumber 100000 (codes "100001") 100001 → ⊥
+no_budget h = omega (arith, h.greatest)
 
 one_word : AsksNothing (codes "verify" ∷ [])
 one_word path task h = cc (h.are)
 
-three_words : IsAsked (codes "verify" ∷ codes "x.c" ∷ codes "y.c" ∷ []) (codes "x.c") Verify → ⊥
-three_words h = cc (h.are, h.asks.1)
-
-another_command : IsTask (codes "verif") [] Verify → ⊥
+another_command : IsTask (codes "verif") [] (Verify usual) → ⊥
 another_command h = cc (h.0)
 
 -- a run without options is one on no choices, for a million steps
 bare_run : IsTask (codes "run") [] (Run [] 1000000)
-bare_run = (refl, [], inr (refl, refl), inr (refl, refl))
+bare_run = (refl, ([], inr (refl, refl), inr (refl, refl)))
 
 run_on_choices : IsTask (codes "run") (codes "--choices" ∷ codes "10" ∷ []) (Run (1 ∷ 0 ∷ []) 1000000)
 run_on_choices =
-    (refl, [], inl (codes "10", refl, record { digits = ((omega arith, omega arith), ((omega arith, omega arith), tt)); are = refl }), inr (refl, refl))
+    (refl, ([], inl (codes "10", refl, record { digits = ((omega arith, omega arith), ((omega arith, omega arith), tt)); are = refl }), inr (refl, refl)))
 
 run_for_steps : IsTask (codes "run") (codes "--steps" ∷ codes "25" ∷ []) (Run [] 25)
 unfolding digits
-run_for_steps = (refl, codes "--steps" ∷ codes "25" ∷ [], inr (refl, refl), inl (codes "25", refl, record { written = refl; least = omega arith; greatest = omega arith }))
+run_for_steps = (refl, (codes "--steps" ∷ codes "25" ∷ [], inr (refl, refl), inl (codes "25", refl, record { written = refl; least = omega arith; greatest = omega arith })))
 
 run_on_both : IsTask (codes "run") (codes "--choices" ∷ [] ∷ codes "--steps" ∷ codes "7" ∷ []) (Run [] 7)
 unfolding digits
 run_on_both = (
   refl,
-  codes "--steps" ∷ codes "7" ∷ [],
-  inl ([], refl, record { digits = tt; are = refl }),
-  inl (codes "7", refl, record { written = refl; least = omega arith; greatest = omega arith }),
+  (
+    codes "--steps" ∷ codes "7" ∷ [],
+    inl ([], refl, record { digits = tt; are = refl }),
+    inl (codes "7", refl, record { written = refl; least = omega arith; greatest = omega arith }),
+  ),
 )
 
 -- the greatest number of steps, and what is none
@@ -80,16 +114,39 @@ no_letter h = omega (arith, h.digits.1.0)
 
 -- Texts
 
-on_safe : out_text Safe ≡ codes "SAFE" ++ 10 ∷ []
+on_safe : safe_text usual 4 ≡ codes "SAFE" ++ 10 ∷ codes "height 1 budget 2000 nodes 4" ++ 10 ∷ []
+unfolding digits
 on_safe = refl
 
-on_leak : out_text (Unsafe Leak 5 2) ≡ codes "UNSAFE" ++ 10 ∷ codes "fault 6 leak" ++ 10 ∷ codes "line 5" ++ 10 ∷ codes "step 2" ++ 10 ∷ codes "choices -" ++ 10 ∷ []
+on_leak : unsafe_text Leak 5 2 [] ≡ codes "UNSAFE" ++ 10 ∷ codes "fault 6 leak" ++ 10 ∷ codes "line 5" ++ 10 ∷ codes "step 2" ++ 10 ∷ codes "choices -" ++ 10 ∷ []
 unfolding digits
 on_leak = refl
 
-on_double_free : out_text (Unsafe DoubleFree 100 4160) ≡ codes "UNSAFE" ++ 10 ∷ codes "fault 5 double free" ++ 10 ∷ codes "line 100" ++ 10 ∷ codes "step 4160" ++ 10 ∷ codes "choices -" ++ 10 ∷ []
+on_double_free : unsafe_text DoubleFree 100 4160 (1 ∷ 0 ∷ 1 ∷ []) ≡ codes "UNSAFE" ++ 10 ∷ codes "fault 5 double free" ++ 10 ∷ codes "line 100" ++ 10 ∷ codes "step 4160" ++ 10 ∷ codes "choices 101" ++ 10 ∷ []
 unfolding digits
 on_double_free = refl
+
+on_budget : budget_text with_both 40 ≡ codes "UNKNOWN budget" ++ 10 ∷ codes "height 2 budget 100000 nodes 40" ++ 10 ∷ []
+unfolding digits
+on_budget = refl
+
+on_fault_of_trace : fault_line NullDeref ≡ codes "fault 1 null dereference" ++ 10 ∷ []
+unfolding digits
+on_fault_of_trace = refl
+
+on_way : ended_line (codes "trace" ++ spaced (0 ∷ 3 ∷ 12 ∷ [])) ≡ codes "trace 0 3 12" ++ 10 ∷ []
+unfolding digits
+on_way = refl
+
+-- the lines of the report on a trace, in order
+on_trace : (trace : AbsTrace) → trace_text usual 7 trace
+    ≡ (codes "UNKNOWN trace" ++ 10 ∷ []) ++ (fault_line trace.fault ++ (numbered_line (codes "line") trace.line ++ (numbered_line (codes "steps") trace.steps ++ (choices_line trace.choices
+    ++ (ended_line (codes "trace" ++ spaced trace.nodes) ++ (numbered_line (codes "edge") trace.edge ++ (codes "height 1 budget 2000 nodes 7" ++ 10 ∷ [])))))))
+unfolding digits
+on_trace trace = refl
+
+a_report : (out_text (Verified Safe (codes "SAFE")) ≡ codes "SAFE")
+a_report = refl
 
 null_deref : fault_text NullDeref ≡ codes "null dereference"
 null_deref = refl
@@ -134,9 +191,6 @@ on_usage = refl
 on_long : notes_text (Refused TooLong) ≡ codes "refused K1 file" ++ 10 ∷ []
 on_long = refl
 
-on_other : notes_text (Refused NotOneWay) ≡ codes "refused N1 file" ++ 10 ∷ []
-on_other = refl
-
 abbrev at_place : Letter → ℕ → ℕ → ℕ → Answer
 at_place letter number line column =
     Refused (Breaks (record { letter = letter; number = number; at = record { offset = 0; line = line; column = column } }))
@@ -157,13 +211,13 @@ on_read_fault : notes_text ReadFault ≡ codes "read fault" ++ 10 ∷ []
 on_read_fault = refl
 
 -- a report goes to standard output alone, and all else to standard error alone
-one_stream : (notes_text Safe ≡ []) × (notes_text (Unsafe Leak 5 2) ≡ []) × (out_text Usage ≡ []) × (out_text (Refused TooLong) ≡ []) × (out_text ReadFault ≡ [])
+one_stream : (notes_text (Verified Safe (codes "SAFE")) ≡ []) × (notes_text (Ran StillRunning) ≡ []) × (out_text Usage ≡ []) × (out_text (Refused TooLong) ≡ []) × (out_text ReadFault ≡ [])
 one_stream = (refl, refl, refl, refl, refl)
 
 no_stream : (out_text NoMemory ≡ []) × (notes_text NoMemory ≡ [])
 no_stream = (refl, refl)
 
-statuses : (status_of Safe ≡ 0) × (status_of (Unsafe Leak 5 2) ≡ 1) × (status_of Usage ≡ 2) × (status_of (Refused TooLong) ≡ 4) × (status_of (Refused NotOneWay) ≡ 4) × (status_of ReadFault ≡ 5) × (status_of NoMemory ≡ 7)
+statuses : (status_of (Verified Safe []) ≡ 0) × (status_of (Verified Unsafe []) ≡ 1) × (status_of (Verified Unknown []) ≡ 3) × (status_of Usage ≡ 2) × (status_of (Refused TooLong) ≡ 4) × (status_of ReadFault ≡ 5) × (status_of NoMemory ≡ 7)
 statuses = (refl, refl, refl, refl, refl, refl, refl)
 
 run_statuses : (status_of (Ran (Ended 1)) ≡ 0) × (status_of (Ran (Fault Leak 5 2)) ≡ 1) × (status_of (Ran (Starved 1)) ≡ 3) × (status_of (Ran (BadChoice 0)) ≡ 3) × (status_of (Ran StillRunning) ≡ 3)
@@ -224,10 +278,10 @@ abbrev tells : List ℕ → ShelfView
 tells bytes = record { holds = λ path. Some bytes; given = λ path. None; faults = λ path. 0 }
 
 -- a verdict answers no run, and the outcome of a run no wish for a verdict
-no_verdict_on_a_run : IsRightFor (codes "x.c") blank blank Safe (Run [] 1) → ⊥
+no_verdict_on_a_run : IsRightFor (codes "x.c") blank blank (Verified Safe (codes "SAFE")) (Run [] 1) → ⊥
 no_verdict_on_a_run h = h
 
-no_outcome_for_a_verdict : IsRightFor (codes "x.c") blank blank (Ran (Ended 0)) Verify → ⊥
+no_outcome_for_a_verdict : IsRightFor (codes "x.c") blank blank (Ran (Ended 0)) (Verify usual) → ⊥
 no_outcome_for_a_verdict h = h
 
 a_real_file : IsRead (codes "x.c") blank (gave (codes "int")) (codes "int")
@@ -239,17 +293,17 @@ not_given h = cc (h.given)
 not_held : IsRead (codes "x.c") (tells (codes "int")) (gave (codes "void")) (codes "void") → ⊥
 not_held h = cc (h.held)
 
-not_long : IsRightFor (codes "x.c") (tells (codes "int")) (tells (codes "int")) (Refused TooLong) Verify → ⊥
+not_long : IsRightFor (codes "x.c") (tells (codes "int")) (tells (codes "int")) (Refused TooLong) (Verify usual) → ⊥
 not_long h = omega (arith, h.1)
 
-given_and_long : IsRightFor (codes "x.c") blank (gave (codes "int")) (Refused TooLong) Verify → ⊥
+given_and_long : IsRightFor (codes "x.c") blank (gave (codes "int")) (Refused TooLong) (Verify usual) → ⊥
 given_and_long h = cc (h.0)
 
-no_read_fault : IsRightFor (codes "x.c") blank blank ReadFault Verify → ⊥
+no_read_fault : IsRightFor (codes "x.c") blank blank ReadFault (Verify usual) → ⊥
 no_read_fault h = omega (arith, h)
 
 no_usage_for_a_file : IsRight (record { words = codes "verify" ∷ codes "x.c" ∷ []; before = blank; after = blank }) Usage → ⊥
-no_usage_for_a_file h = h (codes "x.c") Verify two_words
+no_usage_for_a_file h = h (codes "x.c") (Verify usual) two_words
 
 usage_for_one_word : IsRight (record { words = codes "verify" ∷ []; before = blank; after = blank }) Usage
 usage_for_one_word = one_word

@@ -1,7 +1,6 @@
 -- What a status says of the answer that was delivered.
-use Rattle.std.proofs.Common.{◌≡◌, ◌≤◌, ◌<◌, ◌⊎◌, inl, inr, ℕ, Option, Some, None, List, IfSome, length, sym, ◌∙◌, ap, subst, refl, arith, Bool, true, false}
+use Rattle.std.proofs.Common.{◌≡◌, ◌≤◌, ◌<◌, ◌⊎◌, inl, inr, ℕ, Option, Some, None, List, IfSome, length, sym, ◌∙◌, ap, subst, refl, arith}
 use Rattle.c_types.specs.Program.{Program}
-use Rattle.c_types.specs.OneWay.{is_one_way}
 use Rattle.c_types.specs.Runs.{run}
 use Rattle.c_types.specs.declared.outcome.Outcome.{Outcome}
 use Rattle.c_types.specs.declared.outcome.Outcome.TheVariants.{Ended, Fault, Starved, BadChoice, StillRunning}
@@ -10,22 +9,25 @@ use Rattle.c_front.specs.Files.{IsProgramOf, BreaksFirst}
 use Rattle.c_front.proofs.FileLaws.{one_program, program_or_breach}
 use Rattle.fore_base.specs.Outside.{Rose}
 use Rattle.fore_base.specs.declared.limits.TheConstants.{FILE_BYTES}
-use Rattle.fore_base.specs.declared.fault.Fault.{Fault as Kind}
 use Rattle.forester.specs.declared.answer.Refusal.{Refusal}
-use Rattle.forester.specs.declared.answer.Refusal.TheVariants.{TooLong, Breaks, NotOneWay}
+use Rattle.forester.specs.declared.answer.Refusal.TheVariants.{TooLong, Breaks}
 use Rattle.forester.specs.declared.answer.Answer.{Answer}
-use Rattle.forester.specs.declared.answer.Answer.TheVariants.{Safe, Unsafe, Ran, Usage, Refused, ReadFault, NoMemory}
+use Rattle.forester.specs.declared.answer.Answer.TheVariants.{Verified, Ran, Usage, Refused, ReadFault, NoMemory}
+use Rattle.forester.specs.declared.answer.Verdict.{Verdict}
+use Rattle.forester.specs.declared.answer.Verdict.TheVariants.{Safe, Unsafe, Unknown}
+use Rattle.forester.specs.declared.words.Settings.{Settings}
 use Rattle.forester.specs.declared.words.Task.{Task}
 use Rattle.forester.specs.declared.words.Task.TheVariants.{Verify, Run}
 use Rattle.forester.specs.Requests.{Request, Writing}
 use Rattle.forester.specs.Words.{IsAsked, AsksToVerify, AsksToRun, AsksNothing}
 use Rattle.forester.proofs.WordLemmas.{one_task}
-use Rattle.forester.specs.Texts.{out_text, notes_text, run_status, status_of}
+use Rattle.forester.specs.Reports.{IsReport}
+use Rattle.forester.specs.Texts.{out_text, notes_text, run_status, verdict_status, status_of}
 use Rattle.forester.specs.Delivery.{IsCutShort}
 use Rattle.forester.specs.inner.Judging.{WantsMemory}
-use Rattle.forester.specs.Verdict.{IsRead, IsRefused, IsRightFor, ForFile, IsRight, IsOther, NothingFailed, HasBytes, NamesProgram, NamesOther}
+use Rattle.forester.specs.Verdict.{IsRead, IsRefused, IsRightFor, ForFile, IsRight, IsOther, NothingFailed, HasBytes, NamesProgram, NamesOther, VerifiesTo}
 
--- Statuses of runs
+-- Statuses of runs and of verdicts
 
 pub run_below_four : (o : Outcome) → run_status o < 4
 run_below_four (Ended step) = omega arith
@@ -41,54 +43,97 @@ run_not_two (Starved step) e = omega (arith, e)
 run_not_two (BadChoice index) e = omega (arith, e)
 run_not_two StillRunning e = omega (arith, e)
 
--- the status of an answer to a run
+verdict_below_four : (v : Verdict) → verdict_status v < 4
+verdict_below_four Safe = omega arith
+verdict_below_four Unsafe = omega arith
+verdict_below_four Unknown = omega arith
+
+verdict_not_two : (v : Verdict) → verdict_status v ≡ 2 → ⊥
+verdict_not_two Safe e = omega (arith, e)
+verdict_not_two Unsafe e = omega (arith, e)
+verdict_not_two Unknown e = omega (arith, e)
+
+is_safe : (v : Verdict) → verdict_status v ≡ 0 → v ≡ Safe
+is_safe Safe e = refl
+is_safe Unsafe e = absurd (omega (arith, e))
+is_safe Unknown e = absurd (omega (arith, e))
+
+is_unsafe : (v : Verdict) → verdict_status v ≡ 1 → v ≡ Unsafe
+is_unsafe Safe e = absurd (omega (arith, e))
+is_unsafe Unsafe e = refl
+is_unsafe Unknown e = absurd (omega (arith, e))
+
+is_unknown : (v : Verdict) → verdict_status v ≡ 3 → v ≡ Unknown
+is_unknown Safe e = absurd (omega (arith, e))
+is_unknown Unsafe e = absurd (omega (arith, e))
+is_unknown Unknown e = refl
+
+-- the status of a verdict, or of how a run came out
 abbrev pub EndsRun : ℕ → Type 0
 EndsRun n = (n ≡ 0) ⊎ (n ≡ 1) ⊎ (n ≡ 3)
+
+verdict_ends : (v : Verdict) → EndsRun (verdict_status v)
+verdict_ends Safe = inl refl
+verdict_ends Unsafe = inr (inl refl)
+verdict_ends Unknown = inr (inr refl)
 
 -- The answer by its status and by what was asked
 
 module _ (r : Request) where
-  pub both_tasks : (a b choices : List ℕ) (steps : ℕ) → IsAsked r.words a Verify → IsAsked r.words b (Run choices steps) → ⊥
-  both_tasks a b choices steps v w = cc (v.are, w.are, v.asks.0, w.asks.0)
+  pub both_tasks : (a b choices : List ℕ) (settings : Settings) (steps : ℕ) → IsAsked r.words a (Verify settings) → IsAsked r.words b (Run choices steps) → ⊥
+  both_tasks a b choices settings steps v w = cc (v.are, w.are, v.asks.0, w.asks.0)
 
   -- what is right for a run is not asked of a file that is to be verified
-  ran_for : (o : Outcome) (a b : List ℕ) (t : Task) → IsAsked r.words a Verify → IsAsked r.words b t → IsRightFor b r.before r.after (Ran o) t → ⊥
-  ran_for o a b Verify v w right = right
-  ran_for o a b (Run choices steps) v w right = both_tasks a b choices steps v w
+  ran_for : (o : Outcome) (a b : List ℕ) (settings : Settings) (t : Task) → IsAsked r.words a (Verify settings) → IsAsked r.words b t
+      → IsRightFor b r.before r.after (Ran o) t → ⊥
+  ran_for o a b settings (Verify others) v w right = right
+  ran_for o a b settings (Run choices steps) v w right = both_tasks a b choices settings steps v w
 
   not_ran : (o : Outcome) → AsksToVerify r.words → IsRight r (Ran o) → ⊥
-  not_ran o v h = ran_for o v.0 h.0 h.1 v.1 h.2 h.3
+  not_ran o v h = ran_for o v.0 h.0 v.1 h.1 v.2 h.2 h.3
 
-  safe_for : (a b choices : List ℕ) (steps : ℕ) (t : Task) → IsAsked r.words a (Run choices steps) → IsAsked r.words b t → IsRightFor b r.before r.after Safe t → ⊥
-  safe_for a b choices steps Verify w v right = both_tasks b a choices steps v w
-  safe_for a b choices steps (Run cs n) w v right = right
+  verified_for : (v : Verdict) (text a b choices : List ℕ) (steps : ℕ) (t : Task) → IsAsked r.words a (Run choices steps) → IsAsked r.words b t
+      → IsRightFor b r.before r.after (Verified v text) t → ⊥
+  verified_for v text a b choices steps (Verify settings) w asked right = both_tasks b a choices settings steps asked w
+  verified_for v text a b choices steps (Run cs n) w asked right = right
 
-  unsafe_for : (kind : Kind) (line step : ℕ) (a b choices : List ℕ) (steps : ℕ) (t : Task) → IsAsked r.words a (Run choices steps) → IsAsked r.words b t
-      → IsRightFor b r.before r.after (Unsafe kind line step) t → ⊥
-  unsafe_for kind line step a b choices steps Verify w v right = both_tasks b a choices steps v w
-  unsafe_for kind line step a b choices steps (Run cs n) w v right = right
+  -- what was verified is a report of the program of the file
+  reports_of : (v : Verdict) (text b : List ℕ) (t : Task) → IsAsked r.words b t → IsRightFor b r.before r.after (Verified v text) t
+      → VerifiesTo r (λ p settings. IsReport p settings text v)
+  reports_of v text b (Verify settings) asked right = (b, settings, asked, right)
+  reports_of v text b (Run choices steps) asked right = absurd right
 
-  pub was_safe : (a : Answer) → AsksToVerify r.words → status_of a ≡ 0 → IsRight r a → a ≡ Safe
-  was_safe Safe v e h = refl
-  was_safe (Unsafe kind line step) v e h = absurd (omega (arith, e))
-  was_safe (Ran o) v e h = absurd (not_ran o v h)
-  was_safe Usage v e h = absurd (omega (arith, e))
-  was_safe (Refused why) v e h = absurd (omega (arith, e))
-  was_safe ReadFault v e h = absurd (omega (arith, e))
-  was_safe NoMemory v e h = absurd (omega (arith, e))
+  pub verified_to : (v : Verdict) (text : List ℕ) → IsRight r (Verified v text) → VerifiesTo r (λ p settings. IsReport p settings text v)
+  verified_to v text h = reports_of v text h.0 h.1 h.2 h.3
 
-  pub was_unsafe : (a : Answer) → AsksToVerify r.words → status_of a ≡ 1 → IsRight r a → (kind : Kind) × (line : ℕ) × (step : ℕ) × (a ≡ Unsafe kind line step)
-  was_unsafe Safe v e h = absurd (omega (arith, e))
-  was_unsafe (Unsafe kind line step) v e h = (kind, line, step, refl)
-  was_unsafe (Ran o) v e h = absurd (not_ran o v h)
-  was_unsafe Usage v e h = absurd (omega (arith, e))
-  was_unsafe (Refused why) v e h = absurd (omega (arith, e))
-  was_unsafe ReadFault v e h = absurd (omega (arith, e))
-  was_unsafe NoMemory v e h = absurd (omega (arith, e))
+  -- an answer with the status of a verdict is one, where a file is to be verified
+  pub was_verified : (a : Answer) → AsksToVerify r.words → status_of a < 4 → (status_of a ≡ 2 → ⊥) → IsRight r a → (v : Verdict) × (text : List ℕ) × (a ≡ Verified v text)
+  was_verified (Verified v text) w e not_two h = (v, text, refl)
+  was_verified (Ran o) w e not_two h = absurd (not_ran o w h)
+  was_verified Usage w e not_two h = absurd (not_two refl)
+  was_verified (Refused why) w e not_two h = absurd (omega (arith, e))
+  was_verified ReadFault w e not_two h = absurd (omega (arith, e))
+  was_verified NoMemory w e not_two h = absurd (omega (arith, e))
+
+  -- its verdict is that of the status
+  verdict_is : (a : Answer) (n : ℕ) (v : Verdict) → ((u : Verdict) → verdict_status u ≡ n → u ≡ v) → n < 4 → (n ≡ 2 → ⊥) → AsksToVerify r.words → status_of a ≡ n
+      → IsRight r a → (text : List ℕ) × (a ≡ Verified v text)
+  verdict_is a n v only small not_two w e h =
+      let is = was_verified a w (omega (arith, e, small)) (λ two. not_two (sym e ∙ two)) h in
+      let same : is.0 ≡ v = only is.0 (ap status_of (sym is.2) ∙ e) in
+      (is.1, is.2 ∙ ap (λ u. Verified u is.1) same)
+
+  pub was_safe : (a : Answer) → AsksToVerify r.words → status_of a ≡ 0 → IsRight r a → (text : List ℕ) × (a ≡ Verified Safe text)
+  was_safe a = verdict_is a 0 Safe is_safe (omega arith) (λ e. omega (arith, e))
+
+  pub was_unsafe : (a : Answer) → AsksToVerify r.words → status_of a ≡ 1 → IsRight r a → (text : List ℕ) × (a ≡ Verified Unsafe text)
+  was_unsafe a = verdict_is a 1 Unsafe is_unsafe (omega arith) (λ e. omega (arith, e))
+
+  pub was_unknown : (a : Answer) → AsksToVerify r.words → status_of a ≡ 3 → IsRight r a → (text : List ℕ) × (a ≡ Verified Unknown text)
+  was_unknown a = verdict_is a 3 Unknown is_unknown (omega arith) (λ e. omega (arith, e))
 
   pub was_ran : (a : Answer) → AsksToRun r.words → EndsRun (status_of a) → IsRight r a → (o : Outcome) × (a ≡ Ran o)
-  was_ran Safe w e h = absurd (safe_for w.0 h.0 w.1 w.2 h.1 w.3 h.2 h.3)
-  was_ran (Unsafe kind line step) w e h = absurd (unsafe_for kind line step w.0 h.0 w.1 w.2 h.1 w.3 h.2 h.3)
+  was_ran (Verified v text) w e h = absurd (verified_for v text w.0 h.0 w.1 w.2 h.1 w.3 h.2 h.3)
   was_ran (Ran o) w e h = (o, refl)
   was_ran Usage w e h = absurd (omega (arith, e))
   was_ran (Refused why) w e h = absurd (omega (arith, e))
@@ -96,8 +141,7 @@ module _ (r : Request) where
   was_ran NoMemory w e h = absurd (omega (arith, e))
 
   pub was_usage : (a : Answer) → status_of a ≡ 2 → a ≡ Usage
-  was_usage Safe e = absurd (omega (arith, e))
-  was_usage (Unsafe kind line step) e = absurd (omega (arith, e))
+  was_usage (Verified v text) e = absurd (verdict_not_two v e)
   was_usage (Ran o) e = absurd (run_not_two o e)
   was_usage Usage e = refl
   was_usage (Refused why) e = absurd (omega (arith, e))
@@ -105,8 +149,7 @@ module _ (r : Request) where
   was_usage NoMemory e = absurd (omega (arith, e))
 
   pub was_refused : (a : Answer) → status_of a ≡ 4 → (why : Refusal) × (a ≡ Refused why)
-  was_refused Safe e = absurd (omega (arith, e))
-  was_refused (Unsafe kind line step) e = absurd (omega (arith, e))
+  was_refused (Verified v text) e = absurd (omega (arith, e, verdict_below_four v))
   was_refused (Ran o) e = absurd (omega (arith, e, run_below_four o))
   was_refused Usage e = absurd (omega (arith, e))
   was_refused (Refused why) e = (why, refl)
@@ -114,27 +157,21 @@ module _ (r : Request) where
   was_refused NoMemory e = absurd (omega (arith, e))
 
   pub was_read_fault : (a : Answer) → status_of a ≡ 5 → a ≡ ReadFault
-  was_read_fault Safe e = absurd (omega (arith, e))
-  was_read_fault (Unsafe kind line step) e = absurd (omega (arith, e))
+  was_read_fault (Verified v text) e = absurd (omega (arith, e, verdict_below_four v))
   was_read_fault (Ran o) e = absurd (omega (arith, e, run_below_four o))
   was_read_fault Usage e = absurd (omega (arith, e))
   was_read_fault (Refused why) e = absurd (omega (arith, e))
   was_read_fault ReadFault e = refl
   was_read_fault NoMemory e = absurd (omega (arith, e))
 
-  verifies : (b : List ℕ) (t : Task) (n : ℕ) → n < 2 → IsAsked r.words b t → (AsksToVerify r.words × (n < 2)) ⊎ AsksToRun r.words
-  verifies b Verify n less asked = inl ((b, asked), less)
-  verifies b (Run choices steps) n less asked = inr (b, choices, steps, asked)
-
-  runs_for : (o : Outcome) (b : List ℕ) (t : Task) → IsAsked r.words b t → IsRightFor b r.before r.after (Ran o) t → AsksToRun r.words
-  runs_for o b Verify asked right = absurd right
-  runs_for o b (Run choices steps) asked right = (b, choices, steps, asked)
+  asks_by : (b : List ℕ) (t : Task) → IsAsked r.words b t → AsksToVerify r.words ⊎ AsksToRun r.words
+  asks_by b (Verify settings) asked = inl (b, settings, asked)
+  asks_by b (Run choices steps) asked = inr (b, choices, steps, asked)
 
   -- what was asked, by a status that is a verdict or how a run came out
-  pub was_asked : (a : Answer) → EndsRun (status_of a) → IsRight r a → (AsksToVerify r.words × (status_of a < 2)) ⊎ AsksToRun r.words
-  was_asked Safe e h = verifies h.0 h.1 0 (omega arith) h.2
-  was_asked (Unsafe kind line step) e h = verifies h.0 h.1 1 (omega arith) h.2
-  was_asked (Ran o) e h = inr (runs_for o h.0 h.1 h.2 h.3)
+  pub was_asked : (a : Answer) → EndsRun (status_of a) → IsRight r a → AsksToVerify r.words ⊎ AsksToRun r.words
+  was_asked (Verified v text) e h = asks_by h.0 h.1 h.2
+  was_asked (Ran o) e h = asks_by h.0 h.1 h.2
   was_asked Usage e h = absurd (omega (arith, e))
   was_asked (Refused why) e h = absurd (omega (arith, e))
   was_asked ReadFault e h = absurd (omega (arith, e))
@@ -142,8 +179,7 @@ module _ (r : Request) where
 
   -- words that ask nothing get the usage alone
   pub only_usage : (a : Answer) → AsksNothing r.words → IsRight r a → a ≡ Usage
-  only_usage Safe none h = absurd (none h.0 h.1 h.2)
-  only_usage (Unsafe kind line step) none h = absurd (none h.0 h.1 h.2)
+  only_usage (Verified v text) none h = absurd (none h.0 h.1 h.2)
   only_usage (Ran o) none h = absurd (none h.0 h.1 h.2)
   only_usage Usage none h = refl
   only_usage (Refused why) none h = absurd (none h.0 h.1 h.2)
@@ -168,8 +204,7 @@ own_of_run r a (inr (inr seven)) e = absurd (omega (arith, seven, e))
 
 -- an answer that has a text for some sink has a status below 6
 pub out_below_six : (a : Answer) (n : ℕ) → n < length (out_text a) → status_of a < 6
-out_below_six Safe n h = omega arith
-out_below_six (Unsafe kind line step) n h = omega arith
+out_below_six (Verified v text) n h = omega (arith, verdict_below_four v)
 out_below_six (Ran o) n h = omega (arith, run_below_four o)
 out_below_six Usage n h = omega arith
 out_below_six (Refused why) n h = omega arith
@@ -177,8 +212,7 @@ out_below_six ReadFault n h = omega arith
 out_below_six NoMemory n h = absurd (omega (arith, h))
 
 pub notes_below_six : (a : Answer) (n : ℕ) → n < length (notes_text a) → status_of a < 6
-notes_below_six Safe n h = omega arith
-notes_below_six (Unsafe kind line step) n h = omega arith
+notes_below_six (Verified v text) n h = omega (arith, verdict_below_four v)
 notes_below_six (Ran o) n h = omega (arith, run_below_four o)
 notes_below_six Usage n h = omega arith
 notes_below_six (Refused why) n h = omega arith
@@ -190,8 +224,7 @@ cut_below_six out notes a (inl cut) = out_below_six a cut.0.grew.count cut.0.gre
 cut_below_six out notes a (inr cut) = notes_below_six a cut.0.grew.count cut.0.grew.within
 
 pub below_eight : (a : Answer) → status_of a < 8
-below_eight Safe = omega arith
-below_eight (Unsafe kind line step) = omega arith
+below_eight (Verified v text) = omega (arith, verdict_below_four v)
 below_eight (Ran o) = omega (arith, run_below_four o)
 below_eight Usage = omega arith
 below_eight (Refused why) = omega arith
@@ -233,7 +266,7 @@ module _ (r : Request) (task : Task) (bytes : List ℕ) (file : HasBytes r task 
   ]
 
   -- a file that is refused as too long is
-  long_known : IsRefused file.path r.before r.after TooLong task → FILE_BYTES < length bytes
+  long_known : IsRefused file.path r.before r.after TooLong → FILE_BYTES < length bytes
   long_known h = elim file.known [
     | inl told ↦ subst (λ o. IfSome o (λ held. FILE_BYTES < length held)) told h.1
     | inr given ↦ absurd (none_some bytes (r.before.given file.path) given.0 (sym h.0 ∙ given.1))
@@ -247,34 +280,23 @@ module _ (r : Request) (task : Task) (bytes : List ℕ) (file : HasBytes r task 
   breach_known read p b is f g = program_or_breach bytes p b g (subst (λ l. BreaksFirst l b) (read_known read is) f)
 
   -- a file that is to be refused gives no program
-  no_program : IsOther task bytes → (read : List ℕ) → IsRead file.path r.before r.after read → (q : Program) → IsProgramOf read q
-      → ((task ≡ Verify) × (is_one_way q ≡ false) → ⊥) → ⊥
-  no_program (inl long) read is q f way = omega (arith, long, is.within, ap length (read_known read is))
-  no_program (inr (inl breach)) read is q f way =
+  no_program : IsOther bytes → (read : List ℕ) → IsRead file.path r.before r.after read → (q : Program) → IsProgramOf read q → ⊥
+  no_program (inl long) read is q f = omega (arith, long, is.within, ap length (read_known read is))
+  no_program (inr breach) read is q f =
       program_or_breach bytes q breach.0 (subst (λ b. IsProgramOf b q) (read_known read is) f) breach.1
-  no_program (inr (inr other)) read is q f way =
-      way (other.0, subst (λ p. is_one_way p ≡ false) (program_known read other.1 q is f other.2) other.3)
-
-true_false : (b : Bool) → b ≡ true → b ≡ false → ⊥
-true_false b is not = cc (sym is ∙ not)
 
 module _ (r : Request) (bytes : List ℕ) where
-  due_for_one_way : (file : HasBytes r Verify bytes) (steady : Rose (r.before.faults file.path) (r.after.faults file.path) → ⊥) (p : Program)
-      → length bytes ≤ FILE_BYTES → IsProgramOf bytes p → is_one_way p ≡ true → (a : Answer) → IsRight r a
-      → (status_of a ≡ 0) ⊎ (status_of a ≡ 1) ⊎ (status_of a ≡ 7)
-  due_for_one_way file steady p short is way Safe h = inl refl
-  due_for_one_way file steady p short is way (Unsafe kind line step) h = inr (inl refl)
-  due_for_one_way file steady p short is way (Ran o) h = absurd (here r Verify bytes file steady (Ran o) h)
-  due_for_one_way file steady p short is way Usage h = absurd (h file.path Verify file.asked)
-  due_for_one_way file steady p short is way (Refused TooLong) h =
-      let long = long_known r Verify bytes file steady (here r Verify bytes file steady (Refused TooLong) h) in absurd (omega (arith, long, short))
-  due_for_one_way file steady p short is way (Refused (Breaks b)) h =
-      let f = here r Verify bytes file steady (Refused (Breaks b)) h in absurd (breach_known r Verify bytes file steady f.0 p b f.1 f.2 is)
-  due_for_one_way file steady p short is way (Refused NotOneWay) h =
-      let f = here r Verify bytes file steady (Refused NotOneWay) h in
-      absurd (true_false (is_one_way p) way (subst (λ q. is_one_way q ≡ false) (sym (program_known r Verify bytes file steady f.0 p f.2 f.1 f.3 is)) f.4))
-  due_for_one_way file steady p short is way ReadFault h = absurd (steady (here r Verify bytes file steady ReadFault h))
-  due_for_one_way file steady p short is way NoMemory h = inr (inr refl)
+  due_for_verify : (settings : Settings) (file : HasBytes r (Verify settings) bytes) (steady : Rose (r.before.faults file.path) (r.after.faults file.path) → ⊥)
+      (p : Program) → length bytes ≤ FILE_BYTES → IsProgramOf bytes p → (a : Answer) → IsRight r a → EndsRun (status_of a) ⊎ (status_of a ≡ 7)
+  due_for_verify settings file steady p short is (Verified v text) h = inl (verdict_ends v)
+  due_for_verify settings file steady p short is (Ran o) h = absurd (here r (Verify settings) bytes file steady (Ran o) h)
+  due_for_verify settings file steady p short is Usage h = absurd (h file.path (Verify settings) file.asked)
+  due_for_verify settings file steady p short is (Refused TooLong) h =
+      let long = long_known r (Verify settings) bytes file steady (here r (Verify settings) bytes file steady (Refused TooLong) h) in absurd (omega (arith, long, short))
+  due_for_verify settings file steady p short is (Refused (Breaks b)) h =
+      let f = here r (Verify settings) bytes file steady (Refused (Breaks b)) h in absurd (breach_known r (Verify settings) bytes file steady f.0 p b f.1 f.2 is)
+  due_for_verify settings file steady p short is ReadFault h = absurd (steady (here r (Verify settings) bytes file steady ReadFault h))
+  due_for_verify settings file steady p short is NoMemory h = inr refl
 
   module _ (choices : List ℕ) (steps : ℕ) where
     abbrev task : Task
@@ -283,8 +305,7 @@ module _ (r : Request) (bytes : List ℕ) where
     due_for_run : (file : HasBytes r task bytes) (steady : Rose (r.before.faults file.path) (r.after.faults file.path) → ⊥) (p : Program)
         → length bytes ≤ FILE_BYTES → IsProgramOf bytes p → (a : Answer) → IsRight r a
         → (status_of a ≡ run_status (run p choices steps)) ⊎ (status_of a ≡ 7)
-    due_for_run file steady p short is Safe h = absurd (here r task bytes file steady Safe h)
-    due_for_run file steady p short is (Unsafe kind line step) h = absurd (here r task bytes file steady (Unsafe kind line step) h)
+    due_for_run file steady p short is (Verified v text) h = absurd (here r task bytes file steady (Verified v text) h)
     due_for_run file steady p short is (Ran o) h =
         let f = here r task bytes file steady (Ran o) h in
         inl (ap run_status (f.4 ∙ ap (λ q. run q choices steps) (sym (program_known r task bytes file steady f.0 p f.2 f.1 f.3 is))))
@@ -293,37 +314,23 @@ module _ (r : Request) (bytes : List ℕ) where
         let long = long_known r task bytes file steady (here r task bytes file steady (Refused TooLong) h) in absurd (omega (arith, long, short))
     due_for_run file steady p short is (Refused (Breaks b)) h =
         let f = here r task bytes file steady (Refused (Breaks b)) h in absurd (breach_known r task bytes file steady f.0 p b f.1 f.2 is)
-    due_for_run file steady p short is (Refused NotOneWay) h = absurd (here r task bytes file steady (Refused NotOneWay) h)
     due_for_run file steady p short is ReadFault h = absurd (steady (here r task bytes file steady ReadFault h))
     due_for_run file steady p short is NoMemory h = inr refl
 
 module _ (r : Request) (bytes : List ℕ) where
-  safe_not_other : (t : Task) (file : HasBytes r t bytes) (steady : Rose (r.before.faults file.path) (r.after.faults file.path) → ⊥) → IsOther t bytes
-      → IsRightFor file.path r.before r.after Safe t → ⊥
-  safe_not_other Verify file steady other f =
-      no_program r Verify bytes file steady other f.0 f.1 f.2 f.3 (λ way. true_false (is_one_way f.2) f.4.0 way.1)
-  safe_not_other (Run choices steps) file steady other f = f
+  verified_not_other : (v : Verdict) (text : List ℕ) (t : Task) (file : HasBytes r t bytes) (steady : Rose (r.before.faults file.path) (r.after.faults file.path) → ⊥)
+      → IsOther bytes → IsRightFor file.path r.before r.after (Verified v text) t → ⊥
+  verified_not_other v text (Verify settings) file steady other f = no_program r (Verify settings) bytes file steady other f.0 f.1 f.2 f.3
+  verified_not_other v text (Run choices steps) file steady other f = f
 
-  unsafe_not_other : (kind : Kind) (line step : ℕ) (t : Task) (file : HasBytes r t bytes) (steady : Rose (r.before.faults file.path) (r.after.faults file.path) → ⊥)
-      → IsOther t bytes → IsRightFor file.path r.before r.after (Unsafe kind line step) t → ⊥
-  unsafe_not_other kind line step Verify file steady other f =
-      no_program r Verify bytes file steady other f.0 f.1 f.2 f.3 (λ way. true_false (is_one_way f.2) f.4.0 way.1)
-  unsafe_not_other kind line step (Run choices steps) file steady other f = f
-
-  run_or_verify : (choices : List ℕ) (steps : ℕ) → Run choices steps ≡ Verify → ⊥
-  run_or_verify choices steps e = cc e
-
-  ran_not_other : (o : Outcome) (t : Task) (file : HasBytes r t bytes) (steady : Rose (r.before.faults file.path) (r.after.faults file.path) → ⊥) → IsOther t bytes
+  ran_not_other : (o : Outcome) (t : Task) (file : HasBytes r t bytes) (steady : Rose (r.before.faults file.path) (r.after.faults file.path) → ⊥) → IsOther bytes
       → IsRightFor file.path r.before r.after (Ran o) t → ⊥
-  ran_not_other o Verify file steady other f = f
-  ran_not_other o (Run choices steps) file steady other f =
-      no_program r (Run choices steps) bytes file steady other f.0 f.1 f.2 f.3 (λ way. run_or_verify choices steps way.0)
+  ran_not_other o (Verify settings) file steady other f = f
+  ran_not_other o (Run choices steps) file steady other f = no_program r (Run choices steps) bytes file steady other f.0 f.1 f.2 f.3
 
-  due_for_others : (t : Task) (file : HasBytes r t bytes) (steady : Rose (r.before.faults file.path) (r.after.faults file.path) → ⊥) → IsOther t bytes
+  due_for_others : (t : Task) (file : HasBytes r t bytes) (steady : Rose (r.before.faults file.path) (r.after.faults file.path) → ⊥) → IsOther bytes
       → (a : Answer) → IsRight r a → (status_of a ≡ 4) ⊎ (status_of a ≡ 7)
-  due_for_others t file steady other Safe h = absurd (safe_not_other t file steady other (here r t bytes file steady Safe h))
-  due_for_others t file steady other (Unsafe kind line step) h =
-      absurd (unsafe_not_other kind line step t file steady other (here r t bytes file steady (Unsafe kind line step) h))
+  due_for_others t file steady other (Verified v text) h = absurd (verified_not_other v text t file steady other (here r t bytes file steady (Verified v text) h))
   due_for_others t file steady other (Ran o) h = absurd (ran_not_other o t file steady other (here r t bytes file steady (Ran o) h))
   due_for_others t file steady other Usage h = absurd (h file.path t file.asked)
   due_for_others t file steady other (Refused why) h = inl refl
@@ -339,12 +346,12 @@ module _ (r : Request) (out notes : Writing) (steady : NothingFailed r out notes
   read_well : (t : Task) (bytes : List ℕ) (file : HasBytes r t bytes) → Rose (r.before.faults file.path) (r.after.faults file.path) → ⊥
   read_well t bytes file = steady.shelf file.path (t, file.asked)
 
-  pub judges : (p : Program) → NamesProgram r Verify p → is_one_way p ≡ true → (n ≡ 0) ⊎ (n ≡ 1) ⊎ (n ≡ 7)
-  judges p named way = elim status [
-    | inl own ↦ subst (λ m. (m ≡ 0) ⊎ (m ≡ 1) ⊎ (m ≡ 7)) (sym own)
-        (due_for_one_way r named.bytes named.file (read_well Verify named.bytes named.file) p named.within named.is way a right)
+  pub judges : (p : Program) (settings : Settings) → NamesProgram r (Verify settings) p → EndsRun n ⊎ (n ≡ 7)
+  judges p settings named = elim status [
+    | inl own ↦ subst (λ m. EndsRun m ⊎ (m ≡ 7)) (sym own)
+        (due_for_verify r named.bytes settings named.file (read_well (Verify settings) named.bytes named.file) p named.within named.is a right)
     | inr (inl six) ↦ absurd (whole six)
-    | inr (inr seven) ↦ inr (inr seven)
+    | inr (inr seven) ↦ inr seven
   ]
 
   pub runs : (p : Program) (choices : List ℕ) (steps : ℕ) → NamesProgram r (Run choices steps) p → (n ≡ run_status (run p choices steps)) ⊎ (n ≡ 7)

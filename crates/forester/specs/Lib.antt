@@ -1,4 +1,5 @@
 pub mod Delivery
+pub mod Reports
 pub mod Requests
 pub mod Texts
 pub mod Verdict

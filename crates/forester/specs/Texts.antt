@@ -1,5 +1,5 @@
 -- What each answer writes, and the status with which it ends.
-use Rattle.std.specs.Prelude.{ℕ, List, [], ◌∷◌, ◌++◌, codes, decimal}
+use Rattle.std.specs.Prelude.{ℕ, List, [], ◌∷◌, ◌++◌, flat_map, codes, decimal}
 use Rattle.fore_base.specs.declared.fault.Fault.{Fault as Kind}
 use Rattle.fore_base.specs.declared.fault.Fault.TheVariants.{NullDeref, UninitDeref, DanglingDeref, InvalidFree, DoubleFree, Leak, Assertion, IndetTest}
 use Rattle.fore_base.specs.Faults.{number_of}
@@ -9,9 +9,13 @@ use Rattle.c_front.specs.declared.broken.Letter.{Letter}
 use Rattle.c_front.specs.declared.broken.Letter.TheVariants.{Lexical, Profile, Syntax, Typing, Limit}
 use Rattle.c_front.specs.declared.broken.Broken.{Broken}
 use Rattle.forester.specs.declared.answer.Refusal.{Refusal}
-use Rattle.forester.specs.declared.answer.Refusal.TheVariants.{TooLong, Breaks, NotOneWay}
+use Rattle.forester.specs.declared.answer.Refusal.TheVariants.{TooLong, Breaks}
 use Rattle.forester.specs.declared.answer.Answer.{Answer}
-use Rattle.forester.specs.declared.answer.Answer.TheVariants.{Safe, Unsafe, Ran, Usage, Refused, ReadFault, NoMemory}
+use Rattle.forester.specs.declared.answer.Answer.TheVariants.{Verified, Ran, Usage, Refused, ReadFault, NoMemory}
+use Rattle.forester.specs.declared.answer.Verdict.{Verdict}
+use Rattle.forester.specs.declared.answer.Verdict.TheVariants.{Safe, Unsafe, Unknown}
+use Rattle.forester.specs.declared.words.Settings.{Settings}
+use Rattle.fix_engine.specs.declared.explored.AbsTrace.{AbsTrace}
 
 -- the name by which a fault is printed
 abbrev pub fault_text : Kind → List ℕ
@@ -32,19 +36,54 @@ ended_line text = text ++ 10 ∷ []
 abbrev pub numbered_line : List ℕ → ℕ → List ℕ
 numbered_line word n = ended_line (word ++ (codes " " ++ decimal n))
 
--- a fault: the line with its number and name, its line in the file, and its step
+-- the line with the number and name of a fault
+abbrev pub fault_line : Kind → List ℕ
+fault_line kind = ended_line (codes "fault " ++ (decimal (number_of kind) ++ (codes " " ++ fault_text kind)))
+
+-- a fault: its number and name, its line in the file, and its step
 abbrev pub fault_lines : Kind → ℕ → ℕ → List ℕ
-fault_lines kind line step =
-    ended_line (codes "fault " ++ (decimal (number_of kind) ++ (codes " " ++ fault_text kind)))
-    ++ (numbered_line (codes "line") line ++ numbered_line (codes "step") step)
+fault_lines kind line step = fault_line kind ++ (numbered_line (codes "line") line ++ numbered_line (codes "step") step)
+
+-- choices, a digit for each; a hyphen where there are none
+abbrev pub choices_text : List ℕ → List ℕ
+choices_text [] = codes "-"
+choices_text (x ∷ xs) = flat_map decimal (x ∷ xs)
+
+abbrev pub choices_line : List ℕ → List ℕ
+choices_line choices = ended_line (codes "choices " ++ choices_text choices)
+
+-- numbers, with a space before each
+abbrev pub spaced : List ℕ → List ℕ
+spaced ns = flat_map (λ n. codes " " ++ decimal n) ns
+
+-- the line on an exploration: the height of the abstraction, how many abstract states are kept at most, and how many there are
+abbrev pub explored_line : Settings → ℕ → List ℕ
+explored_line settings nodes =
+    ended_line (codes "height " ++ (decimal settings.height ++ (codes " budget " ++ (decimal settings.budget ++ (codes " nodes " ++ decimal nodes)))))
 
 -- the report that no run meets a fault
-abbrev pub safe_text : List ℕ
-safe_text = ended_line (codes "SAFE")
+abbrev pub safe_text : Settings → ℕ → List ℕ
+safe_text settings nodes = ended_line (codes "SAFE") ++ explored_line settings nodes
 
--- the report on a fault, and the choices that lead to it, of which there are none
-abbrev pub unsafe_text : Kind → ℕ → ℕ → List ℕ
-unsafe_text kind line step = ended_line (codes "UNSAFE") ++ (fault_lines kind line step ++ ended_line (codes "choices -"))
+-- the report on a fault, and the choices that lead to it
+abbrev pub unsafe_text : Kind → ℕ → ℕ → List ℕ → List ℕ
+unsafe_text kind line step choices = ended_line (codes "UNSAFE") ++ (fault_lines kind line step ++ choices_line choices)
+
+-- the report that as many abstract states are kept as may be
+abbrev pub budget_text : Settings → ℕ → List ℕ
+budget_text settings nodes = ended_line (codes "UNKNOWN budget") ++ explored_line settings nodes
+
+-- the report on an abstract trace whose choices meet no fault
+abbrev pub trace_text : Settings → ℕ → AbsTrace → List ℕ
+trace_text settings nodes trace =
+    ended_line (codes "UNKNOWN trace")
+    ++ (fault_line trace.fault
+    ++ (numbered_line (codes "line") trace.line
+    ++ (numbered_line (codes "steps") trace.steps
+    ++ (choices_line trace.choices
+    ++ (ended_line (codes "trace" ++ spaced trace.nodes)
+    ++ (numbered_line (codes "edge") trace.edge
+    ++ explored_line settings nodes))))))
 
 -- the report on how a run came out
 abbrev pub run_text : Outcome → List ℕ
@@ -72,12 +111,10 @@ broken_text b =
 abbrev pub refusal_text : Refusal → List ℕ
 refusal_text TooLong = ended_line (codes "refused K1 file")
 refusal_text (Breaks b) = broken_text b
-refusal_text NotOneWay = ended_line (codes "refused N1 file")
 
 -- what goes to standard output
 abbrev pub out_text : Answer → List ℕ
-out_text Safe = safe_text
-out_text (Unsafe kind line step) = unsafe_text kind line step
+out_text (Verified verdict text) = text
 out_text (Ran outcome) = run_text outcome
 out_text Usage = []
 out_text (Refused why) = []
@@ -86,8 +123,7 @@ out_text NoMemory = []
 
 -- what goes to standard error
 abbrev pub notes_text : Answer → List ℕ
-notes_text Safe = []
-notes_text (Unsafe kind line step) = []
+notes_text (Verified verdict text) = []
 notes_text (Ran outcome) = []
 notes_text Usage = ended_line (codes "usage")
 notes_text (Refused why) = refusal_text why
@@ -102,10 +138,15 @@ run_status (Starved step) = 3
 run_status (BadChoice index) = 3
 run_status StillRunning = 3
 
+-- the status of a verdict
+abbrev pub verdict_status : Verdict → ℕ
+verdict_status Safe = 0
+verdict_status Unsafe = 1
+verdict_status Unknown = 3
+
 -- the status with which the program ends
 abbrev pub status_of : Answer → ℕ
-status_of Safe = 0
-status_of (Unsafe kind line step) = 1
+status_of (Verified verdict text) = verdict_status verdict
 status_of (Ran outcome) = run_status outcome
 status_of Usage = 2
 status_of (Refused why) = 4

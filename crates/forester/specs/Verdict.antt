@@ -1,31 +1,21 @@
 -- Which answer is right for what was asked and what the shelf gave.
-use Rattle.std.specs.Prelude.{◌≡◌, ◌≤◌, ◌<◌, ◌⊎◌, ⊤, ℕ, List, [], Some, None, IfSome, length, true, false}
+use Rattle.std.specs.Prelude.{◌≡◌, ◌≤◌, ◌<◌, ◌⊎◌, ⊤, ℕ, List, Some, None, IfSome, length}
 use Rattle.fore_base.specs.declared.limits.TheConstants.{FILE_BYTES}
-use Rattle.fore_base.specs.declared.fault.Fault.{Fault as Kind}
 use Rattle.fore_base.specs.Outside.{Rose}
-use Rattle.c_types.specs.declared.outcome.Outcome.TheVariants.{Fault}
 use Rattle.c_types.specs.Program.{Program}
-use Rattle.c_types.specs.OneWay.{is_one_way}
 use Rattle.c_types.specs.Runs.{run}
-use Rattle.c_types.specs.Over.{IsFault}
 use Rattle.c_front.specs.declared.broken.Broken.{Broken}
 use Rattle.c_front.specs.Files.{IsProgramOf, BreaksFirst}
 use Rattle.forester.specs.declared.answer.Refusal.{Refusal}
-use Rattle.forester.specs.declared.answer.Refusal.TheVariants.{TooLong, Breaks, NotOneWay}
+use Rattle.forester.specs.declared.answer.Refusal.TheVariants.{TooLong, Breaks}
 use Rattle.forester.specs.declared.answer.Answer.{Answer}
-use Rattle.forester.specs.declared.answer.Answer.TheVariants.{Safe, Unsafe, Ran, Usage, Refused, ReadFault, NoMemory}
+use Rattle.forester.specs.declared.answer.Answer.TheVariants.{Verified, Ran, Usage, Refused, ReadFault, NoMemory}
+use Rattle.forester.specs.declared.words.Settings.{Settings}
 use Rattle.forester.specs.declared.words.Task.{Task}
 use Rattle.forester.specs.declared.words.Task.TheVariants.{Verify, Run}
+use Rattle.forester.specs.Reports.{IsReport}
 use Rattle.forester.specs.Requests.{ShelfView, Request, Writing}
 use Rattle.forester.specs.Words.{IsAsked, Names, AsksNothing}
-
--- no choices and no number of steps lead the program to a fault
-abbrev pub NeverFaults : Program → Type 0
-NeverFaults p = (choices : List ℕ) (steps : ℕ) → IsFault (run p choices steps) → ⊥
-
--- the run without choices meets this fault, of this line, at this step
-abbrev pub MeetsFault : Program → Kind → ℕ → ℕ → Type 0
-MeetsFault p kind line step = run p [] step ≡ Fault kind line step
 
 -- Reading the file of a path, by what the shelf told before and after the call.
 module _ (path : List ℕ) (before after : ShelfView) where
@@ -39,22 +29,18 @@ module _ (path : List ℕ) (before after : ShelfView) where
   abbrev pub HasProgram : (Program → Type 0) → Type 0
   HasProgram P = (bytes : List ℕ) × IsRead bytes × (p : Program) × IsProgramOf bytes p × P p
 
-  abbrev pub IsRefused : Refusal → Task → Type 0
-  IsRefused TooLong task = (after.given path ≡ before.given path) × IfSome (before.holds path) (λ told. FILE_BYTES < length told)
-  IsRefused (Breaks b) task = (bytes : List ℕ) × IsRead bytes × BreaksFirst bytes b
-  IsRefused NotOneWay Verify = HasProgram (λ p. is_one_way p ≡ false)
-  IsRefused NotOneWay (Run choices steps) = ⊥
+  abbrev pub IsRefused : Refusal → Type 0
+  IsRefused TooLong = (after.given path ≡ before.given path) × IfSome (before.holds path) (λ told. FILE_BYTES < length told)
+  IsRefused (Breaks b) = (bytes : List ℕ) × IsRead bytes × BreaksFirst bytes b
 
   -- the answer is right for what is to be done with the file
   abbrev pub IsRightFor : Answer → Task → Type 0
-  IsRightFor Safe Verify = HasProgram (λ p. (is_one_way p ≡ true) × NeverFaults p)
-  IsRightFor Safe (Run choices steps) = ⊥
-  IsRightFor (Unsafe kind line step) Verify = HasProgram (λ p. (is_one_way p ≡ true) × MeetsFault p kind line step)
-  IsRightFor (Unsafe kind line step) (Run choices steps) = ⊥
-  IsRightFor (Ran outcome) Verify = ⊥
+  IsRightFor (Verified verdict text) (Verify settings) = HasProgram (λ p. IsReport p settings text verdict)
+  IsRightFor (Verified verdict text) (Run choices steps) = ⊥
+  IsRightFor (Ran outcome) (Verify settings) = ⊥
   IsRightFor (Ran outcome) (Run choices steps) = HasProgram (λ p. outcome ≡ run p choices steps)
   IsRightFor Usage task = ⊥
-  IsRightFor (Refused why) task = IsRefused why task
+  IsRightFor (Refused why) task = IsRefused why
   IsRightFor ReadFault task = Rose (before.faults path) (after.faults path)
   IsRightFor NoMemory task = ⊤
 
@@ -64,13 +50,19 @@ ForFile r answer = (path : List ℕ) × (task : Task) × IsAsked r.words path ta
 
 -- The answer is right: usage where the words ask nothing, and otherwise what is right for the file.
 abbrev pub IsRight : Request → Answer → Type 0
-IsRight r Safe = ForFile r Safe
-IsRight r (Unsafe kind line step) = ForFile r (Unsafe kind line step)
+IsRight r (Verified verdict text) = ForFile r (Verified verdict text)
 IsRight r (Ran outcome) = ForFile r (Ran outcome)
 IsRight r Usage = AsksNothing r.words
 IsRight r (Refused why) = ForFile r (Refused why)
 IsRight r ReadFault = ForFile r ReadFault
 IsRight r NoMemory = ForFile r NoMemory
+
+-- The words ask to verify a file, and the bytes that the shelf gave for it in this call are the text of a program p that this is true of: P p
+-- settings, with the settings of the words.
+abbrev pub VerifiesTo : Request → (Program → Settings → Type 0) → Type 0
+VerifiesTo r P =
+    (path : List ℕ) × (settings : Settings) × IsAsked r.words path (Verify settings)
+    × HasProgram path r.before r.after (λ p. P p settings)
 
 -- no file is read but the one that the words name, and what the shelf holds stays
 pub record ReadsOnly (r : Request) : Type 0 where
@@ -97,16 +89,13 @@ pub record NamesProgram (r : Request) (task : Task) (p : Program) : Type 0 where
   pub within : length bytes ≤ FILE_BYTES
   pub is : IsProgramOf bytes p
 
--- the bytes are too many, or break a rule, or are to be verified and those of a program that does not run one way
-abbrev pub IsOther : Task → List ℕ → Type 0
-IsOther task bytes =
-    (FILE_BYTES < length bytes)
-    ⊎ ((b : Broken) × BreaksFirst bytes b)
-    ⊎ (task ≡ Verify) × (p : Program) × IsProgramOf bytes p × (is_one_way p ≡ false)
+-- the bytes are too many, or break a rule
+abbrev pub IsOther : List ℕ → Type 0
+IsOther bytes = (FILE_BYTES < length bytes) ⊎ ((b : Broken) × BreaksFirst bytes b)
 
 -- the words name a file that is to be refused
 pub record NamesOther (r : Request) : Type 0 where
   pub task : Task
   pub bytes : List ℕ
   pub file : HasBytes r task bytes
-  pub other : IsOther task bytes
+  pub other : IsOther bytes

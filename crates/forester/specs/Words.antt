@@ -1,7 +1,8 @@
 -- What the words of the command line ask.
 use Rattle.std.specs.Prelude.{◌≡◌, ◌≢◌, ◌≤◌, ◌-◌, ◌⊎◌, ⊤, ℕ, List, [], ◌∷◌, map, codes, decimal}
 use Rattle.fore_base.specs.Lists.{Every}
-use Rattle.forester.specs.declared.words.TheConstants.{RUN_STEPS}
+use Rattle.forester.specs.declared.words.TheConstants.{RUN_STEPS, HEIGHT, MOST_HEIGHT, BUDGET, MOST_BUDGET}
+use Rattle.forester.specs.declared.words.Settings.{Settings}
 use Rattle.forester.specs.declared.words.Task.{Task}
 use Rattle.forester.specs.declared.words.Task.TheVariants.{Verify, Run}
 
@@ -33,13 +34,18 @@ abbrev pub IsOption : {V : Type 0} → List ℕ → (List ℕ → V → Type 0) 
 IsOption name IsValue default given rest value =
     ((text : List ℕ) × (given ≡ name ∷ text ∷ rest) × IsValue text value) ⊎ (given ≡ rest) × (value ≡ default)
 
+-- the words are an option, and behind it the number of steps, each with its default where it is not named
+abbrev pub AreOptions : {V : Type 0} → List ℕ → (List ℕ → V → Type 0) → V → ℕ → ℕ → List (List ℕ) → V → ℕ → Type 0
+AreOptions name IsValue default most steps given value n =
+    (rest : List (List ℕ)) × IsOption name IsValue default given rest value × IsOption (codes "--steps") (IsNumber most) steps rest [] n
+
 -- what is to be done with the file, by the first word and those after the file's path
 abbrev pub IsTask : List ℕ → List (List ℕ) → Task → Type 0
-IsTask verb given Verify = (verb ≡ codes "verify") × (given ≡ [])
+IsTask verb given (Verify settings) =
+    (verb ≡ codes "verify")
+    × AreOptions (codes "--height") (IsNumber MOST_HEIGHT) HEIGHT MOST_BUDGET BUDGET given settings.height settings.budget
 IsTask verb given (Run choices steps) =
-    (verb ≡ codes "run") × (rest : List (List ℕ))
-    × IsOption (codes "--choices") IsChoices [] given rest choices
-    × IsOption (codes "--steps") (IsNumber RUN_STEPS) RUN_STEPS rest [] steps
+    (verb ≡ codes "run") × AreOptions (codes "--choices") IsChoices [] RUN_STEPS RUN_STEPS given choices steps
 
 -- the words ask to do this with the file of this path
 pub record IsAsked (words : List (List ℕ)) (path : List ℕ) (task : Task) : Type 0 where
@@ -59,7 +65,7 @@ AsksNothing words = (path : List ℕ) (task : Task) → IsAsked words path task 
 
 -- the words ask to verify a file
 abbrev pub AsksToVerify : List (List ℕ) → Type 0
-AsksToVerify words = (path : List ℕ) × IsAsked words path Verify
+AsksToVerify words = (path : List ℕ) × (settings : Settings) × IsAsked words path (Verify settings)
 
 -- the words ask to run a file
 abbrev pub AsksToRun : List (List ℕ) → Type 0

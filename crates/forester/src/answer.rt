@@ -1,15 +1,24 @@
 //! What Forester answers to its words.
 use c_front::Broken;
 use c_types::outcome::Outcome;
-use fore_base::fault::Fault;
+use fore_base::text::Text;
+
+/// What verification says of a program.
+#[derive(Clone, Copy, PartialEq, Eq, Debug)]
+pub enum Verdict {
+    /// No run meets a fault.
+    Safe,
+    /// The run on the printed choices meets the printed fault.
+    Unsafe,
+    /// Neither was found.
+    Unknown,
+}
 
 /// An answer to the words, with what its report prints.
-#[derive(Clone, Copy, PartialEq, Eq, Debug)]
+#[derive(PartialEq, Eq, Debug, Drop)]
 pub enum Answer {
-    /// No run of the program meets a fault.
-    Safe,
-    /// The program's run meets this fault in its step of this number, the first being 1, on this line of the file, the first being 1.
-    Unsafe { kind: Fault, line: u32, step: u64 },
+    /// The program of the file was verified: the verdict, with its report, whole.
+    Verified { verdict: Verdict, text: Text },
     /// The program's run on the choices of the words came out so.
     Ran(Outcome),
     /// The words do not read.
@@ -29,6 +38,4 @@ pub enum Refusal {
     TooLong,
     /// The first rule that the file breaks.
     Breaks(Broken),
-    /// N1: the file is to be verified, and its program has a loop or takes a choice.
-    NotOneWay,
 }

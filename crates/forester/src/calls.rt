@@ -8,7 +8,7 @@ use par_kit::gate::NoGate;
 use std::alloc::Global;
 use std::thread::Threads;
 
-/// What comes of a call: the status, and what is then on standard output and on standard error.
+/// What comes of a call: the status, and what is then on standard output and on standard error. A text that does not end with its line is a beginning.
 pub type Answers = (u8, &'static str, &'static str);
 
 /// Which read fails, which put of standard output, and which of standard error, the first being 1; 0 for none.
@@ -20,6 +20,15 @@ fn words_of(alloc: Global, words: &[&str]) -> Mem<Vec<String>> {
         all.push(String::from_str(alloc, word)?)?;
     }
     Ok(all)
+}
+
+/// Whether the bytes are the text, or begin with it where it does not end with its line.
+fn is_text(bytes: &[u8], text: &[u8]) -> bool {
+    if text.is_empty() || text.ends_with(b"\n") {
+        bytes == text
+    } else {
+        bytes.starts_with(text)
+    }
 }
 
 /// Whether these words over the file x.c with this text have this answer.
@@ -35,9 +44,9 @@ pub fn gives<R: Threads + Sync>(
     let mut shelf = MemShelf::new(alloc);
     shelf.add("x.c", file)?;
     shelf.fail(fails.0)?;
-    let mut out = MemSink::new(alloc, 128, 128)?;
+    let mut out = MemSink::new(alloc, 512, 512)?;
     out.fail(fails.1)?;
-    let mut notes = MemSink::new(alloc, 128, 128)?;
+    let mut notes = MemSink::new(alloc, 512, 512)?;
     notes.fail(fails.2)?;
     let status = forester(
         rt,
@@ -50,7 +59,7 @@ pub fn gives<R: Threads + Sync>(
     );
     Ok(
         status == wanted.0
-            && out.bytes() == wanted.1.as_bytes()
-            && notes.bytes() == wanted.2.as_bytes(),
+            && is_text(out.bytes(), wanted.1.as_bytes())
+            && is_text(notes.bytes(), wanted.2.as_bytes()),
     )
 }

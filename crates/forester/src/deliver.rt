@@ -6,7 +6,7 @@ ghost use Rattle.forester.specs.Delivery.{IsCut, IsCutShort, IsUntouched, Told, 
 ghost use Rattle.forester.specs.inner.Judging.{WantsMemory};
 
 use crate::answer::{Answer, Refusal};
-use crate::report::{broken_line, run_report, run_status, unsafe_report};
+use crate::texts::{broken_line, run_report, run_status, verdict_status};
 use fore_base::memory::Mem;
 use fore_base::sink::{Sink, put_all};
 use fore_base::text::Text;
@@ -26,19 +26,15 @@ pub fn deliver<K: Sink, E: Sink>(alloc: Global, answer: Answer, out: &mut K, not
     ensures notes_never_falls { E.faults notes.old ≤ E.faults notes.new }
 {
     match answer {
-        Answer::Safe => write_text(out, b"SAFE\n", 0),
-        Answer::Unsafe { kind, line, step } => {
-            write_report(unsafe_report(alloc, kind, line, step), out, 1)
+        Answer::Verified { verdict, text } => {
+            write_text(out, text.as_slice(), verdict_status(verdict))
         }
-        Answer::Ran(outcome) => {
-            write_report(run_report(alloc, outcome), out, run_status(outcome))
-        }
+        Answer::Ran(outcome) => write_report(run_report(alloc, outcome), out, run_status(outcome)),
         Answer::Usage => write_text(notes, b"usage\n", 2),
         Answer::Refused(Refusal::TooLong) => write_text(notes, b"refused K1 file\n", 4),
         Answer::Refused(Refusal::Breaks(broken)) => {
             write_report(broken_line(alloc, broken), notes, 4)
         }
-        Answer::Refused(Refusal::NotOneWay) => write_text(notes, b"refused N1 file\n", 4),
         Answer::ReadFault => write_text(notes, b"read fault\n", 5),
         Answer::NoMemory => 7,
     }
@@ -78,21 +74,46 @@ fn write_text<S: Sink>(sink: &mut S, text: &[u8], status: u8) -> u8
 #[cfg(test)]
 mod tests {
     use super::*;
-    use fore_base::fault::Fault;
+    use crate::answer::Verdict;
     use fore_base::mem_sink::MemSink;
     use std::test::Fail;
 
-    const LEAK: Answer = Answer::Unsafe {
-        kind: Fault::Leak,
-        line: 5,
-        step: 2,
-    };
+    /// An answer, as a row names it.
+    #[derive(Clone, Copy, Debug)]
+    enum Due {
+        Safe,
+        Leak,
+        Usage,
+        TooLong,
+        ReadFault,
+        NoMemory,
+    }
+
+    fn answer_of(alloc: Global, due: Due) -> Mem<Answer> {
+        Ok(match due {
+            Due::Safe => Answer::Verified {
+                verdict: Verdict::Safe,
+                text: Text::from_slice(alloc, b"SAFE\n")?,
+            },
+            Due::Leak => Answer::Verified {
+                verdict: Verdict::Unsafe,
+                text: Text::from_slice(
+                    alloc,
+                    b"UNSAFE\nfault 6 leak\nline 5\nstep 2\nchoices -\n",
+                )?,
+            },
+            Due::Usage => Answer::Usage,
+            Due::TooLong => Answer::Refused(Refusal::TooLong),
+            Due::ReadFault => Answer::ReadFault,
+            Due::NoMemory => Answer::NoMemory,
+        })
+    }
 
     /// Why, the answer, how many bytes a put takes at most, which put of standard output fails and which of standard error (0 for none), the
     /// status, and what is then on each.
     type Row = (
         &'static str,
-        Answer,
+        Due,
         usize,
         (u64, u64),
         u8,
@@ -100,10 +121,10 @@ mod tests {
         &'static str,
     );
 
-    const ROWS: [Row; 30] = [
+    const ROWS: [Row; 29] = [
         (
             "a report goes to standard output",
-            Answer::Safe,
+            Due::Safe,
             128,
             (0, 0),
             0,
@@ -112,7 +133,7 @@ mod tests {
         ),
         (
             "and nothing beside it",
-            LEAK,
+            Due::Leak,
             128,
             (0, 0),
             1,
@@ -121,7 +142,7 @@ mod tests {
         ),
         (
             "all else goes to standard error",
-            Answer::Usage,
+            Due::Usage,
             128,
             (0, 0),
             2,
@@ -130,7 +151,7 @@ mod tests {
         ),
         (
             "a file above the limit",
-            Answer::Refused(Refusal::TooLong),
+            Due::TooLong,
             128,
             (0, 0),
             4,
@@ -138,17 +159,8 @@ mod tests {
             "refused K1 file\n",
         ),
         (
-            "a file that does not run one way",
-            Answer::Refused(Refusal::NotOneWay),
-            128,
-            (0, 0),
-            4,
-            "",
-            "refused N1 file\n",
-        ),
-        (
             "a file that was not read",
-            Answer::ReadFault,
+            Due::ReadFault,
             128,
             (0, 0),
             5,
@@ -157,7 +169,7 @@ mod tests {
         ),
         (
             "without memory nothing is written",
-            Answer::NoMemory,
+            Due::NoMemory,
             128,
             (0, 0),
             7,
@@ -166,54 +178,54 @@ mod tests {
         ),
         (
             "a byte in a put: the first fails",
-            Answer::Safe,
+            Due::Safe,
             1,
             (1, 1),
             6,
             "",
             "",
         ),
-        ("the second", Answer::Safe, 1, (2, 1), 6, "S", ""),
-        ("the third", Answer::Safe, 1, (3, 1), 6, "SA", ""),
-        ("the fourth", Answer::Safe, 1, (4, 1), 6, "SAF", ""),
-        ("the last", Answer::Safe, 1, (5, 1), 6, "SAFE", ""),
+        ("the second", Due::Safe, 1, (2, 1), 6, "S", ""),
+        ("the third", Due::Safe, 1, (3, 1), 6, "SA", ""),
+        ("the fourth", Due::Safe, 1, (4, 1), 6, "SAF", ""),
+        ("the last", Due::Safe, 1, (5, 1), 6, "SAFE", ""),
         (
             "one that does not come",
-            Answer::Safe,
+            Due::Safe,
             1,
             (6, 1),
             0,
             "SAFE\n",
             "",
         ),
-        ("two bytes in a put", Answer::Safe, 2, (1, 1), 6, "", ""),
-        ("the second", Answer::Safe, 2, (2, 1), 6, "SA", ""),
-        ("the last", Answer::Safe, 2, (3, 1), 6, "SAFE", ""),
+        ("two bytes in a put", Due::Safe, 2, (1, 1), 6, "", ""),
+        ("the second", Due::Safe, 2, (2, 1), 6, "SA", ""),
+        ("the last", Due::Safe, 2, (3, 1), 6, "SAFE", ""),
         (
             "one that does not come",
-            Answer::Safe,
+            Due::Safe,
             2,
             (4, 1),
             0,
             "SAFE\n",
             "",
         ),
-        ("three bytes in a put", Answer::Safe, 3, (1, 1), 6, "", ""),
-        ("the last", Answer::Safe, 3, (2, 1), 6, "SAF", ""),
+        ("three bytes in a put", Due::Safe, 3, (1, 1), 6, "", ""),
+        ("the last", Due::Safe, 3, (2, 1), 6, "SAF", ""),
         (
             "one that does not come",
-            Answer::Safe,
+            Due::Safe,
             3,
             (3, 1),
             0,
             "SAFE\n",
             "",
         ),
-        ("four bytes in a put", Answer::Safe, 4, (1, 1), 6, "", ""),
-        ("the last", Answer::Safe, 4, (2, 1), 6, "SAFE", ""),
+        ("four bytes in a put", Due::Safe, 4, (1, 1), 6, "", ""),
+        ("the last", Due::Safe, 4, (2, 1), 6, "SAFE", ""),
         (
             "one that does not come",
-            Answer::Safe,
+            Due::Safe,
             4,
             (3, 1),
             0,
@@ -222,25 +234,17 @@ mod tests {
         ),
         (
             "standard error fails at once",
-            Answer::Refused(Refusal::NotOneWay),
+            Due::TooLong,
             4,
             (0, 1),
             6,
             "",
             "",
         ),
-        (
-            "and after a put",
-            Answer::ReadFault,
-            4,
-            (0, 2),
-            6,
-            "",
-            "read",
-        ),
+        ("and after a put", Due::ReadFault, 4, (0, 2), 6, "", "read"),
         (
             "of eleven puts the fifth fails",
-            LEAK,
+            Due::Leak,
             4,
             (5, 0),
             6,
@@ -249,7 +253,7 @@ mod tests {
         ),
         (
             "or the last",
-            LEAK,
+            Due::Leak,
             4,
             (11, 0),
             6,
@@ -258,7 +262,7 @@ mod tests {
         ),
         (
             "one that does not come",
-            LEAK,
+            Due::Leak,
             4,
             (12, 0),
             1,
@@ -267,7 +271,7 @@ mod tests {
         ),
         (
             "standard output, to which nothing is due, is not asked",
-            Answer::Usage,
+            Due::Usage,
             4,
             (1, 0),
             2,
@@ -276,7 +280,7 @@ mod tests {
         ),
         (
             "nor is standard error",
-            Answer::Safe,
+            Due::Safe,
             4,
             (0, 1),
             0,
@@ -287,7 +291,8 @@ mod tests {
 
     // Whether a row is met.
     fn is_met(alloc: Global, row: Row) -> Mem<bool> {
-        let (_, answer, most, (out_fails, notes_fails), status, out_text, notes_text) = row;
+        let (_, due, most, (out_fails, notes_fails), status, out_text, notes_text) = row;
+        let answer = answer_of(alloc, due)?;
         let most = most.max(1);
         let mut out = MemSink::new(alloc, 128, most)?;
         out.fail(out_fails)?;

@@ -1,34 +1,44 @@
 //! The answer for a program, for a file's bytes, and for the words.
-ghost use Rattle.std.specs.Prelude.{◌≡◌, ◌≢◌, ◌≤◌, ℕ, List, true, length, IfOk};
-ghost use Rattle.c_types.specs.OneWay.{is_one_way, most_steps};
+ghost use Rattle.std.specs.Prelude.{◌≡◌, ◌≢◌, ◌≤◌, ℕ, List, length, IfOk};
+ghost use Rattle.forester.specs.Reports.{no_boxes};
 ghost use Rattle.forester.specs.Requests.{texts, request_of, shelf_view};
 ghost use Rattle.forester.specs.Words.{IsAsked};
 ghost use Rattle.forester.specs.Verdict.{IsRight, IsRightFor, ReadsOnly};
-ghost use Rattle.forester.specs.inner.Judging.{IsVerdict, JudgesProgram, JudgesBytes, answer_to};
+ghost use Rattle.forester.specs.inner.Judging.{TaskFits, SettingsFit, IsVerdict, JudgesProgram, JudgesBytes, answer_to};
 
 use crate::answer::{Answer, Refusal};
-use crate::one_way::is_one_way;
-use crate::words::{Task, Unread, asked, task_of};
+use crate::report::report;
+use crate::words::{Settings, Task, Unread, asked, task_of};
+use c_cfg::graph::Graph;
+use c_cfg::laws::edges_in_range;
+use c_cfg::lower::lower;
 use c_front::{FileFault, program_in};
 use c_machine::run::run;
-use c_types::outcome::Outcome;
 use c_types::program::Typed;
-use fore_base::limits::{FILE_BYTES, TOKENS};
+use fa_core::table::BoxTable;
+use fix_engine::explore;
+use fore_base::limits::FILE_BYTES;
 use fore_base::memory::Mem;
 use fore_base::shelf::{Shelf, ShelfFault};
+use par_kit::crew::Crew;
+use par_kit::gate::Gate;
 use std::alloc::Global;
-
-/// As many steps as a program that runs one way can take: each act, atom and Close takes one, and has a token.
-const STEPS: u64 = TOKENS as u64;
+use std::thread::Threads;
 
 /// The right answer for the words, after reading the file that they name.
-pub fn answer<L: Shelf>(alloc: Global, words: &[String], shelf: &mut L) -> Answer
+pub fn answer<R: Threads + Sync, L: Shelf, G: Gate>(
+    rt: &R,
+    alloc: Global,
+    words: &[String],
+    shelf: &mut L,
+    gate: &G,
+) -> Answer
     ensures right { IsRight (request_of L.Shelf words.now shelf.old shelf.new) result }
     ensures reads_only { ReadsOnly (request_of L.Shelf words.now shelf.old shelf.new) }
 {
     match asked(words) {
         Some((verb, path, given)) => match task_of(alloc, verb, given) {
-            Ok(task) => judge_file(alloc, shelf, path, &task),
+            Ok(task) => judge_file(rt, alloc, shelf, path, &task, gate),
             Err(Unread::Usage) => Answer::Usage,
             Err(Unread::Memory) => Answer::NoMemory,
         },
@@ -36,13 +46,21 @@ pub fn answer<L: Shelf>(alloc: Global, words: &[String], shelf: &mut L) -> Answe
     }
 }
 
-fn judge_file<L: Shelf>(alloc: Global, shelf: &mut L, path: &str, task: &Task) -> Answer
+fn judge_file<R: Threads + Sync, L: Shelf, G: Gate>(
+    rt: &R,
+    alloc: Global,
+    shelf: &mut L,
+    path: &str,
+    task: &Task,
+    gate: &G,
+) -> Answer
+    requires { TaskFits task.now }
     ensures right { IsRightFor path.now (shelf_view L.Shelf shelf.old) (shelf_view L.Shelf shelf.new) result task.now }
     ensures others { (p : List ℕ) → p ≢ path.now → L.given shelf.new p ≡ L.given shelf.old p }
     ensures kept { (p : List ℕ) → L.holds shelf.new p ≡ L.holds shelf.old p }
 {
     match shelf.read_all(alloc, path, FILE_BYTES) {
-        Ok(bytes) => judge_bytes(alloc, bytes.as_slice(), task),
+        Ok(bytes) => judge_bytes(rt, alloc, bytes.as_slice(), task, gate),
         Err(ShelfFault::Failed) => Answer::ReadFault,
         Err(ShelfFault::TooLong) => Answer::Refused(Refusal::TooLong),
         Err(ShelfFault::Memory) => Answer::NoMemory,
@@ -50,12 +68,19 @@ fn judge_file<L: Shelf>(alloc: Global, shelf: &mut L, path: &str, task: &Task) -
 }
 
 #[tactic(auto, using(crate::proofs::JudgeLemmas::judges_fault, crate::proofs::JudgeLemmas::bytes_from_program))]
-fn judge_bytes(alloc: Global, bytes: &[u8], task: &Task) -> Answer
-    requires { length bytes.now ≤ FILE_BYTES }
+fn judge_bytes<R: Threads + Sync, G: Gate>(
+    rt: &R,
+    alloc: Global,
+    bytes: &[u8],
+    task: &Task,
+    gate: &G,
+) -> Answer
+    requires bytes { length bytes.now ≤ FILE_BYTES }
+    requires task { TaskFits task.now }
     ensures { JudgesBytes bytes.now result task.now }
 {
     match program_in(alloc, bytes) {
-        Ok(program) => match judge_program(alloc, &program, task) {
+        Ok(program) => match judge_program(rt, alloc, &program, task, gate) {
             Ok(answer) => answer,
             Err(_) => Answer::NoMemory,
         },
@@ -73,12 +98,18 @@ fn answer_to(fault: FileFault) -> Answer
     }
 }
 
-fn judge_program(alloc: Global, program: &Typed, task: &Task) -> Mem<Answer>
-    requires { most_steps program.now ≤ STEPS }
+fn judge_program<R: Threads + Sync, G: Gate>(
+    rt: &R,
+    alloc: Global,
+    program: &Typed,
+    task: &Task,
+    gate: &G,
+) -> Mem<Answer>
+    requires { TaskFits task.now }
     ensures { IfOk result (λ answer. JudgesProgram program.now answer task.now) }
 {
     match task {
-        Task::Verify => verify(alloc, program),
+        Task::Verify(settings) => verify(rt, alloc, program, *settings, gate),
         Task::Run { choices, steps } => {
             let outcome = run(alloc, program, choices.as_slice(), *steps as u64)?;
             Ok(Answer::Ran(outcome))
@@ -86,26 +117,38 @@ fn judge_program(alloc: Global, program: &Typed, task: &Task) -> Mem<Answer>
     }
 }
 
-/// Verifies a program that runs one way, by its one run.
-fn verify(alloc: Global, program: &Typed) -> Mem<Answer>
-    requires { most_steps program.now ≤ STEPS }
-    ensures { IfOk result (IsVerdict program.now) }
+/// Explores the program's control graph, and reports what was found.
+fn verify<R: Threads + Sync, G: Gate>(
+    rt: &R,
+    alloc: Global,
+    program: &Typed,
+    settings: Settings,
+    gate: &G,
+) -> Mem<Answer>
+    requires { SettingsFit settings }
+    ensures { IfOk result (IsVerdict program.now settings) }
 {
-    if !is_one_way(program) {
-        return Ok(Answer::Refused(Refusal::NotOneWay));
-    }
-    let answer = one_run(alloc, program)?;
-    Ok(answer)
+    let graph = lower(alloc, program)?;
+    edges_in_range(program, &graph);
+    let table = empty_table(alloc, &graph)?;
+    let crew = Crew { jobs: 1, gate };
+    let found = explore(
+        rt,
+        alloc,
+        &graph,
+        &table,
+        settings.height,
+        settings.budget,
+        &crew,
+    )?;
+    let (verdict, text) = report(alloc, &found, settings, &table, &graph, program)?;
+    Ok(Answer::Verified { verdict, text })
 }
 
-fn one_run(alloc: Global, program: &Typed) -> Mem<Answer>
-    requires one_way { is_one_way program.now ≡ true }
-    requires short { most_steps program.now ≤ STEPS }
-    ensures { IfOk result (IsVerdict program.now) }
+/// The table without boxes over the structs of the graph.
+fn empty_table(alloc: Global, graph: &Graph) -> Mem<BoxTable>
+    ensures { IfOk result (λ table. table ≡ no_boxes graph.now.shapes) }
 {
-    let outcome = run(alloc, program, &[], STEPS)?;
-    match outcome {
-        Outcome::Fault { kind, line, step } => Ok(Answer::Unsafe { kind, line, step }),
-        _ => Ok(Answer::Safe),
-    }
+    let table = BoxTable::empty(alloc, &graph.shapes)?;
+    Ok(table)
 }

@@ -1,7 +1,7 @@
 //! Forester: from the words of the command line and the bytes of a C file to the report and the status.
 //!
 //! `top::forester` does all that the program does, over any shelf and any two sinks, and its contract is what is proved of the program. It reads the
-//! words (`words`), judges the file that they name (`judge`), and delivers the answer (`deliver`, with the texts of `report`). `main` makes the real shelf and sinks, and calls it.
+//! words (`words`), judges the file that they name (`judge`, with the reports of `report`), and delivers the answer (`deliver`, with `texts`). `main` makes the real shelf and sinks, and calls it.
 #![tactic(auto)]
 
 mod answer;
@@ -11,8 +11,10 @@ mod deliver;
 #[cfg(test)]
 mod file_tests;
 mod judge;
-mod one_way;
+#[cfg(test)]
+mod loop_tests;
 mod report;
+mod texts;
 pub mod top;
 #[cfg(test)]
 mod word_tests;

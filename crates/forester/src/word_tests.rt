@@ -60,7 +60,7 @@ const RUNS: [(&[&str], u8, &str); 11] = [
 ];
 
 /// Words that ask nothing.
-const UNREAD: [&[&str]; 18] = [
+const UNREAD: [&[&str]; 33] = [
     &["run"],
     &["run", "-x.c"],
     &["run", "x.c", "y.c"],
@@ -77,25 +77,68 @@ const UNREAD: [&[&str]; 18] = [
     &["run", "x.c", "--choices", "1", "--choices", "1"],
     &["run", "x.c", "--steps", "1", "--steps", "1"],
     &["run", "x.c", "--steps", "1", "--choices", "1"],
+    &["run", "x.c", "--height", "1"],
     &["run", "x.c", "--"],
-    &["verify", "x.c", "--steps", "1"],
+    &["verify", "x.c", "y.c"],
+    &["verify", "x.c", "--steps"],
+    &["verify", "x.c", "--height"],
+    &["verify", "x.c", "--height", "0"],
+    &["verify", "x.c", "--height", "5"],
+    &["verify", "x.c", "--steps", "0"],
+    &["verify", "x.c", "--steps", "100001"],
+    &["verify", "x.c", "--height", "01"],
+    &["verify", "x.c", "--height", "1", "--height", "1"],
+    &["verify", "x.c", "--steps", "1", "--steps", "1"],
+    &["verify", "x.c", "--steps", "1", "--height", "1"],
+    &["verify", "x.c", "--height", "1", "--steps"],
+    &["verify", "x.c", "--height=1"],
+    &["verify", "x.c", "--choices", "1"],
+    &["verify", "x.c", "--"],
 ];
 
 /// Words over the file x.c with this text, where these reads and puts fail.
-const CALLS: [(&str, &[&str], &str, Fails, Answers); 20] = [
+const CALLS: [(&str, &[&str], &str, Fails, Answers); 24] = [
     (
         "a file that is safe",
         &["verify", "x.c"],
         FREED,
         (0, 0, 0),
-        (0, "SAFE\n", ""),
+        (0, "SAFE\nheight 1 budget 2000 nodes 4\n", ""),
+    ),
+    (
+        "both options, at their greatest numbers",
+        &["verify", "x.c", "--height", "4", "--steps", "100000"],
+        FREED,
+        (0, 0, 0),
+        (0, "SAFE\nheight 4 budget 100000 nodes 4\n", ""),
+    ),
+    (
+        "as many abstract states as are allowed",
+        &["verify", "x.c", "--steps", "4"],
+        FREED,
+        (0, 0, 0),
+        (0, "SAFE\nheight 1 budget 4 nodes 4\n", ""),
+    ),
+    (
+        "one more is wanted than is allowed",
+        &["verify", "x.c", "--steps", "3"],
+        FREED,
+        (0, 0, 0),
+        (3, "UNKNOWN budget\nheight 1 budget 3 nodes 3\n", ""),
+    ),
+    (
+        "standard output fails with the report of a full budget",
+        &["verify", "x.c", "--height", "2", "--steps", "1"],
+        FREED,
+        (0, 1, 0),
+        (6, "", ""),
     ),
     (
         "the greatest number of fields",
         &["verify", "x.c"],
         FIELDS,
         (0, 0, 0),
-        (0, "SAFE\n", ""),
+        (0, "SAFE\nheight 1 budget 2000 nodes 2\n", ""),
     ),
     (
         "a run that meets a fault: the return of line 2 is the second step",
@@ -215,7 +258,7 @@ const CALLS: [(&str, &[&str], &str, Fails, Answers); 20] = [
         &["verify", "x.c"],
         FREED,
         (0, 0, 1),
-        (0, "SAFE\n", ""),
+        (0, "SAFE\nheight 1 budget 2000 nodes 4\n", ""),
     ),
 ];
 

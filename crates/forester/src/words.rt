@@ -1,5 +1,5 @@
 //! Reading the words of the command line.
-ghost use Rattle.std.specs.Prelude.{◌≡◌, ◌∷◌, [], ℕ, List, MatchOption, map, IfOk, IsErrOf, IsTrue, MatchResult, ◌↔◌, codes, decimal};
+ghost use Rattle.std.specs.Prelude.{◌≡◌, ◌∷◌, [], ℕ, List, MatchOption, map, IfOk, IfErr, IsErrOf, IsTrue, MatchResult, ◌↔◌, codes, decimal};
 ghost use Rattle.fore_base.specs.Lists.{Every};
 ghost use Rattle.forester.specs.Requests.{texts};
 ghost use Rattle.forester.specs.Words.{IsNoOption, IsNumber, IsDigit, digit_of, IsChoices, IsOption, IsTask, AsksNothing};
@@ -14,11 +14,32 @@ use std::alloc::{AllocError, Global};
 /// The greatest number of steps of a run, and the number that is taken where the words name none.
 pub const RUN_STEPS: u32 = 1000000;
 
+/// The height of the abstraction that is taken where the words name none.
+pub const HEIGHT: u32 = 1;
+
+/// The greatest height of the abstraction.
+pub const MOST_HEIGHT: u32 = 4;
+
+/// How many abstract states are kept at most where the words do not say.
+pub const BUDGET: u32 = 2000;
+
+/// The greatest number of abstract states.
+pub const MOST_BUDGET: u32 = 100000;
+
+/// How a file is verified.
+#[derive(Clone, Copy, PartialEq, Eq, Debug)]
+pub struct Settings {
+    /// The height of the abstraction, from 1 to `MOST_HEIGHT`.
+    pub height: u32,
+    /// How many abstract states are kept at most, from 1 to `MOST_BUDGET`.
+    pub budget: u32,
+}
+
 /// What is to be done with a file.
 #[derive(PartialEq, Eq, Debug, Drop)]
 pub enum Task {
-    /// It is verified.
-    Verify,
+    /// It is verified with these settings.
+    Verify(Settings),
     /// It is run on these choices, for at most so many steps, from 1 to `RUN_STEPS`.
     Run { choices: List<u8>, steps: u32 },
 }
@@ -64,13 +85,35 @@ pub fn task_of(alloc: Global, verb: &str, given: &[String]) -> Result<Task, Unre
     ensures memory { IsErrOf result Why.Memory → (task : What) × IsTask verb.now (texts given.now) task }
 {
     match verb {
-        "verify" => if given.is_empty() {
-            Ok(Task::Verify)
-        } else {
-            Err(Unread::Usage)
-        },
+        "verify" => verify_of(given),
         "run" => run_of(alloc, given),
         _ => Err(Unread::Usage),
+    }
+}
+
+/// What `verify` asks, by the words after the path: `--height N` and `--steps N`, each at most once and in this order.
+///
+/// # Errors
+///
+/// `Usage` where they ask nothing.
+fn verify_of(given: &[String]) -> Result<Task, Unread>
+    ensures ok { IfOk result (IsTask (codes "verify") (texts given.now)) }
+    ensures usage { IsErrOf result Why.Usage → (task : What) → IsTask (codes "verify") (texts given.now) task → ⊥ }
+    ensures remembers { IfErr result (λ why. why ≡ Why.Usage) }
+{
+    match option_named("--height", given) {
+        Some((number, rest)) => {
+            let budget = steps_of(rest, MOST_BUDGET, BUDGET)?;
+            let height = number_in(number, MOST_HEIGHT)?;
+            Ok(Task::Verify(Settings { height, budget }))
+        }
+        None => {
+            let budget = steps_of(given, MOST_BUDGET, BUDGET)?;
+            Ok(Task::Verify(Settings {
+                height: HEIGHT,
+                budget,
+            }))
+        }
     }
 }
 
@@ -84,14 +127,14 @@ fn run_of(alloc: Global, given: &[String]) -> Result<Task, Unread>
     ensures usage { IsErrOf result Why.Usage → (task : What) → IsTask (codes "run") (texts given.now) task → ⊥ }
     ensures memory { IsErrOf result Why.Memory → (task : What) × IsTask (codes "run") (texts given.now) task }
 {
-    match choices_named(given) {
+    match option_named("--choices", given) {
         Some((list, rest)) => {
-            let steps = steps_of(rest)?;
+            let steps = steps_of(rest, RUN_STEPS, RUN_STEPS)?;
             let choices = choices_in(alloc, list)?;
             Ok(Task::Run { choices, steps })
         }
         None => {
-            let steps = steps_of(given)?;
+            let steps = steps_of(given, RUN_STEPS, RUN_STEPS)?;
             Ok(Task::Run {
                 choices: List::new(alloc),
                 steps,
@@ -100,16 +143,17 @@ fn run_of(alloc: Global, given: &[String]) -> Result<Task, Unread>
     }
 }
 
-/// The text of the choices, where they are named first, and the words after it.
-fn choices_named<'a>(given: &'a [String]) -> Option<(&'a str, &'a [String])>
+/// The value of the option, where it is named first, and the words after it.
+fn option_named<'a>(name: &str, given: &'a [String]) -> Option<(&'a str, &'a [String])>
     ensures { MatchOption result
-        ((list : List ℕ) (rest : List (List ℕ)) → texts given.now ≡ codes "--choices" ∷ list ∷ rest → ⊥)
-        (λ p. texts given.now ≡ codes "--choices" ∷ p.0.now ∷ texts p.1.now) }
+        ((value : List ℕ) (rest : List (List ℕ)) → texts given.now ≡ name.now ∷ value ∷ rest → ⊥)
+        (λ p. texts given.now ≡ name.now ∷ p.0.now ∷ texts p.1.now) }
 {
-    match pair(given) {
-        Some(("--choices", list, rest)) => Some((list, rest)),
-        _ => None,
+    let (word, value, rest) = pair(given)?;
+    if word != name {
+        return None;
     }
+    Some((value, rest))
 }
 
 /// The first word, the path, and the words after it. None where there is no path in its place, and so nothing is asked.
@@ -135,22 +179,22 @@ fn pair<'a>(words: &'a [String]) -> Option<(&'a str, &'a str, &'a [String])>
     Some((first.as_str(), second.as_str(), rest))
 }
 
-/// The number of steps that these words name, or the greatest where there are none.
+/// The number of steps that these words name, at most the greatest, or the default where there are none.
 ///
 /// # Errors
 ///
 /// `Usage` where they are no words for steps.
-fn steps_of(given: &[String]) -> Result<u32, Unread>
+fn steps_of(given: &[String], most: u32, default: u32) -> Result<u32, Unread>
     ensures { MatchResult result
-        (IsOption (codes "--steps") (IsNumber RUN_STEPS) RUN_STEPS (texts given.now) [])
+        (IsOption (codes "--steps") (IsNumber most) default (texts given.now) [])
         (λ why. (why ≡ Why.Usage)
-        × ((n : ℕ) → IsOption (codes "--steps") (IsNumber RUN_STEPS) RUN_STEPS (texts given.now) [] n → ⊥)) }
+        × ((n : ℕ) → IsOption (codes "--steps") (IsNumber most) default (texts given.now) [] n → ⊥)) }
 {
     if given.is_empty() {
-        return Ok(RUN_STEPS);
+        return Ok(default);
     }
     match pair(given) {
-        Some(("--steps", number, [])) => number_in(number, RUN_STEPS),
+        Some(("--steps", number, [])) => number_in(number, most),
         _ => Err(Unread::Usage),
     }
 }

@@ -4,22 +4,33 @@ use Rattle.forester.specs.Texts.{status_of}
 use Rattle.forester.specs.Words.{AsksToVerify, AsksToRun}
 use Rattle.forester.specs.Delivery.{Told}
 use Rattle.forester.specs.Verdict.{IsRight}
-use Rattle.forester.proofs.TopLemmas.{EndsRun, was_safe, was_unsafe, was_ran, was_asked, was_usage, was_refused, was_read_fault, unread, own_status, own_of_run, cut_below_six, status_below_eight, judges, runs, refuses}
+use Rattle.forester.specs.declared.answer.Verdict.TheVariants.{Safe, Unsafe, Unknown}
+use Rattle.forester.proofs.TopLemmas.{EndsRun, verified_to, was_safe, was_unsafe, was_unknown, was_ran, was_asked, was_usage, was_refused, was_read_fault, unread, own_status, own_of_run, cut_below_six, status_below_eight, judges, runs, refuses}
 use Rattle.forester.proofs.top.forester.Goals as goal
 
 pub returns-clause-is_safe : goal.returns-clause-is_safe
 returns-clause-is_safe g c = λ asked e.
     let due = c.answer-due.result in
     let own : c.deliver.result ≡ status_of due = own_status c.deliver.result 0 due c.deliver.ensures.status e (omega arith) in
-    let is = was_safe (request_of g.L.Shelf c.args.words.now c.args.shelf.now c.answer-due.new.shelf) due asked (sym own ∙ e) c.answer-due.ensures.right in
-    (subst (λ a. IsRight (request_of g.L.Shelf c.args.words.now c.args.shelf.now c.answer-due.new.shelf) a) is c.answer-due.ensures.right, subst (λ a. Told (writing_of g.K.Sink c.args.out.now c.deliver.new.out) (writing_of g.E.Sink c.args.notes.now c.deliver.new.notes) a) is (c.deliver.ensures.told own))
+    let r = request_of g.L.Shelf c.args.words.now c.args.shelf.now c.answer-due.new.shelf in
+    let is = was_safe r due asked (sym own ∙ e) c.answer-due.ensures.right in
+    (is.0, verified_to r Safe is.0 (subst (IsRight r) is.1 c.answer-due.ensures.right), subst (λ a. Told (writing_of g.K.Sink c.args.out.now c.deliver.new.out) (writing_of g.E.Sink c.args.notes.now c.deliver.new.notes) a) is.1 (c.deliver.ensures.told own))
 
 pub returns-clause-is_unsafe : goal.returns-clause-is_unsafe
 returns-clause-is_unsafe g c = λ asked e.
     let due = c.answer-due.result in
     let own : c.deliver.result ≡ status_of due = own_status c.deliver.result 1 due c.deliver.ensures.status e (omega arith) in
-    let is = was_unsafe (request_of g.L.Shelf c.args.words.now c.args.shelf.now c.answer-due.new.shelf) due asked (sym own ∙ e) c.answer-due.ensures.right in
-    (is.0, is.1, is.2, subst (λ a. IsRight (request_of g.L.Shelf c.args.words.now c.args.shelf.now c.answer-due.new.shelf) a) is.3 c.answer-due.ensures.right, subst (λ a. Told (writing_of g.K.Sink c.args.out.now c.deliver.new.out) (writing_of g.E.Sink c.args.notes.now c.deliver.new.notes) a) is.3 (c.deliver.ensures.told own))
+    let r = request_of g.L.Shelf c.args.words.now c.args.shelf.now c.answer-due.new.shelf in
+    let is = was_unsafe r due asked (sym own ∙ e) c.answer-due.ensures.right in
+    (is.0, verified_to r Unsafe is.0 (subst (IsRight r) is.1 c.answer-due.ensures.right), subst (λ a. Told (writing_of g.K.Sink c.args.out.now c.deliver.new.out) (writing_of g.E.Sink c.args.notes.now c.deliver.new.notes) a) is.1 (c.deliver.ensures.told own))
+
+pub returns-clause-is_unknown : goal.returns-clause-is_unknown
+returns-clause-is_unknown g c = λ asked e.
+    let due = c.answer-due.result in
+    let own : c.deliver.result ≡ status_of due = own_status c.deliver.result 3 due c.deliver.ensures.status e (omega arith) in
+    let r = request_of g.L.Shelf c.args.words.now c.args.shelf.now c.answer-due.new.shelf in
+    let is = was_unknown r due asked (sym own ∙ e) c.answer-due.ensures.right in
+    (is.0, verified_to r Unknown is.0 (subst (IsRight r) is.1 c.answer-due.ensures.right), subst (λ a. Told (writing_of g.K.Sink c.args.out.now c.deliver.new.out) (writing_of g.E.Sink c.args.notes.now c.deliver.new.notes) a) is.1 (c.deliver.ensures.told own))
 
 pub returns-clause-ran : goal.returns-clause-ran
 returns-clause-ran g c = λ asked e.
@@ -32,8 +43,7 @@ pub returns-clause-asked : goal.returns-clause-asked
 returns-clause-asked g c = λ e.
     let due = c.answer-due.result in
     let own : c.deliver.result ≡ status_of due = own_of_run c.deliver.result due c.deliver.ensures.status e in
-    subst (λ n. AsksToVerify (texts c.args.words.now) × (n < 2) ⊎ AsksToRun (texts c.args.words.now)) (sym own)
-    (was_asked (request_of g.L.Shelf c.args.words.now c.args.shelf.now c.answer-due.new.shelf) due (subst EndsRun own e) c.answer-due.ensures.right)
+    was_asked (request_of g.L.Shelf c.args.words.now c.args.shelf.now c.answer-due.new.shelf) due (subst EndsRun own e) c.answer-due.ensures.right
 
 pub returns-clause-usage : goal.returns-clause-usage
 returns-clause-usage g c = λ e.
@@ -66,9 +76,9 @@ returns-clause-written g c = λ six.
     )
 
 pub returns-clause-judges : goal.returns-clause-judges
-returns-clause-judges g c = λ p named way steady.
+returns-clause-judges g c = λ p settings named steady.
     judges (request_of g.L.Shelf c.args.words.now c.args.shelf.now c.answer-due.new.shelf) (writing_of g.K.Sink c.args.out.now c.deliver.new.out) (writing_of g.E.Sink c.args.notes.now c.deliver.new.notes)
-    steady c.deliver.result c.answer-due.result c.answer-due.ensures.right c.deliver.ensures.written c.deliver.ensures.status p named way
+    steady c.deliver.result c.answer-due.result c.answer-due.ensures.right c.deliver.ensures.written c.deliver.ensures.status p settings named
 
 pub returns-clause-runs : goal.returns-clause-runs
 returns-clause-runs g c = λ p choices steps named steady.
