@@ -10,7 +10,7 @@ use Rattle.fore_base.specs.declared.store.CellRec.{CellRec}
 use Rattle.fore_base.specs.Lists.{Every}
 use Rattle.fore_base.specs.Stores.{field_in, with_field, datum_in, with_datum, dangle_in, without}
 use Rattle.c_types.proofs.CellsKept.{IsBelow}
-use Rattle.c_machine.specs.inner.Rising.{RisesFrom, position_in, one_more}
+use Rattle.c_machine.specs.inner.Rising.{CellsRiseFrom, position_in, one_more}
 
 -- the cell c of the number n is the first one, at i
 pub data FoundAt (n : ℕ) : List CellRec → ℕ → CellRec → Type 0 where
@@ -126,51 +126,51 @@ pub without_none : (n : ℕ) (cs : List CellRec) → Position n cs None → with
 without_none n cs (missing apart) = absent_without n apart
 
 -- where the numbers rise above n, none is n
-above : (n low : ℕ) (cs : List CellRec) → n < low → RisesFrom low cs → Absent n cs
+above : (n low : ℕ) (cs : List CellRec) → n < low → CellsRiseFrom low cs → Absent n cs
 above n low [] less h = none
 above n low (c ∷ cs) less h =
     let order : low ≤ c.number = h.0 in
     let differs : nat_eq c.number n ≡ false = grind (arith, nat_tests) in
     other differs (above n (suc c.number) cs (omega arith) h.1)
 
-found_without : (n low : ℕ) {cs : List CellRec} {i : ℕ} {c : CellRec} → RisesFrom low cs → FoundAt n cs i c → without n cs ≡ map (dangle_in n) (remove cs i)
+found_without : (n low : ℕ) {cs : List CellRec} {i : ℕ} {c : CellRec} → CellsRiseFrom low cs → FoundAt n cs i c → without n cs ≡ map (dangle_in n) (remove cs i)
 found_without n low h (first {c} {cs} is) = rw is (absent_without n (above n (suc c.number) cs (omega (arith, eqb-true c.number n is)) h.1))
 found_without n low h (further {b} {c} {cs} {i} is at) = rw is (ap (λ (xs : List CellRec). dangle_in n b ∷ xs) (found_without n (suc b.number) h.1 at))
 
-pub without_some : (n i : ℕ) (cs : List CellRec) → RisesFrom 0 cs → Position n cs (Some i) → without n cs ≡ map (dangle_in n) (remove cs i)
+pub without_some : (n i : ℕ) (cs : List CellRec) → CellsRiseFrom 0 cs → Position n cs (Some i) → without n cs ≡ map (dangle_in n) (remove cs i)
 without_some n i cs h (found c at) = found_without n 0 h at
 
 -- Numbers keep rising
 
-rises_lower : (low high : ℕ) (cs : List CellRec) → low ≤ high → RisesFrom high cs → RisesFrom low cs
+rises_lower : (low high : ℕ) (cs : List CellRec) → low ≤ high → CellsRiseFrom high cs → CellsRiseFrom low cs
 rises_lower low high [] less h = tt
 rises_lower low high (c ∷ cs) less h = (omega (arith, h.0), h.1)
 
-pub rises_with : (n f : ℕ) (v : Value) (low : ℕ) (cs : List CellRec) → RisesFrom low cs → RisesFrom low (with_field cs n f v)
+pub rises_with : (n f : ℕ) (v : Value) (low : ℕ) (cs : List CellRec) → CellsRiseFrom low cs → CellsRiseFrom low (with_field cs n f v)
 rises_with n f v low [] h = tt
 rises_with n f v low (c ∷ cs) h = here (nat_eq c.number n) (rises_with n f v (suc c.number) cs h.1)
   where
-    here : (b : Bool) → RisesFrom (suc c.number) (with_field cs n f v) → RisesFrom low (if b then record c { fields = slice_set c.fields f v } ∷ cs else c ∷ with_field cs n f v)
+    here : (b : Bool) → CellsRiseFrom (suc c.number) (with_field cs n f v) → CellsRiseFrom low (if b then record c { fields = slice_set c.fields f v } ∷ cs else c ∷ with_field cs n f v)
     here true rest = h
     here false rest = (h.0, rest)
 
-pub rises_with_datum : (n f : ℕ) (d : Datum) (low : ℕ) (cs : List CellRec) → RisesFrom low cs → RisesFrom low (with_datum cs n f d)
+pub rises_with_datum : (n f : ℕ) (d : Datum) (low : ℕ) (cs : List CellRec) → CellsRiseFrom low cs → CellsRiseFrom low (with_datum cs n f d)
 rises_with_datum n f d low [] h = tt
 rises_with_datum n f d low (c ∷ cs) h = here (nat_eq c.number n) (rises_with_datum n f d (suc c.number) cs h.1)
   where
-    here : (b : Bool) → RisesFrom (suc c.number) (with_datum cs n f d) → RisesFrom low (if b then record c { datums = slice_set c.datums f d } ∷ cs else c ∷ with_datum cs n f d)
+    here : (b : Bool) → CellsRiseFrom (suc c.number) (with_datum cs n f d) → CellsRiseFrom low (if b then record c { datums = slice_set c.datums f d } ∷ cs else c ∷ with_datum cs n f d)
     here true rest = h
     here false rest = (h.0, rest)
 
-pub rises_without : (n low : ℕ) (cs : List CellRec) → RisesFrom low cs → RisesFrom low (without n cs)
+pub rises_without : (n low : ℕ) (cs : List CellRec) → CellsRiseFrom low cs → CellsRiseFrom low (without n cs)
 rises_without n low [] h = tt
 rises_without n low (c ∷ cs) h = here (nat_eq c.number n) (rises_without n (suc c.number) cs h.1)
   where
-    here : (b : Bool) → RisesFrom (suc c.number) (without n cs) → RisesFrom low (if b then without n cs else dangle_in n c ∷ without n cs)
+    here : (b : Bool) → CellsRiseFrom (suc c.number) (without n cs) → CellsRiseFrom low (if b then without n cs else dangle_in n c ∷ without n cs)
     here true rest = rises_lower low (suc c.number) (without n cs) (omega (arith, h.0)) rest
     here false rest = (h.0, rest)
 
 -- a new cell of the number `next`
-pub rises_grown : (next low : ℕ) (cs : List CellRec) (c : CellRec) → c.number ≡ next → low ≤ next → RisesFrom low cs → Every (IsBelow next) cs → RisesFrom low (cs ++ c ∷ [])
+pub rises_grown : (next low : ℕ) (cs : List CellRec) (c : CellRec) → c.number ≡ next → low ≤ next → CellsRiseFrom low cs → Every (IsBelow next) cs → CellsRiseFrom low (cs ++ c ∷ [])
 rises_grown next low [] c is less h below = (omega (arith, is), tt)
 rises_grown next low (b ∷ cs) c is less h below = (h.0, rises_grown next (suc b.number) cs c is (omega (arith, below.0)) h.1 below.1)

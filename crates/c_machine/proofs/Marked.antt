@@ -9,7 +9,7 @@ use Rattle.fore_base.specs.declared.store.Store.{Store}
 use Rattle.fore_base.specs.Lists.{IsIn}
 use Rattle.fore_base.specs.Heap.{Reach, by_var, by_field, Leaked, leaks}
 use Rattle.fore_base.proofs.Leaks.{leaks_leaked, sound_reached}
-use Rattle.c_machine.specs.inner.Rising.{RisesFrom, position_in}
+use Rattle.c_machine.specs.inner.Rising.{CellsRiseFrom, position_in}
 use Rattle.c_machine.specs.inner.Marking.{Marked, count_true, noted_at, noted, noted_all}
 use Rattle.c_machine.proofs.CellLemmas.{FoundAt, first, further, Position, found, missing, positioned}
 use Rattle.c_machine.proofs.Searching.{no_cell, position_at}
@@ -334,9 +334,9 @@ past_end zero (y ∷ ys) x less h = absurd (omega (arith, less))
 past_end (suc k) [] x less h = h
 past_end (suc k) (y ∷ ys) x less h = past_end k ys x (omega (arith, less)) h
 
-module _ (s : Store) (k : ℕ) (m : Marked) (rising : RisesFrom 0 s.cells) (w : Walked s s.vars k m) (ended : length m.order ≤ k) where
+module _ (s : Store) (k : ℕ) (m : Marked) (rising : CellsRiseFrom 0 s.cells) (w : Walked s s.vars k m) (ended : length m.order ≤ k) where
   -- a cell stands at a position of its own
-  own_position : (c : CellRec) (cs : List CellRec) (low : ℕ) → RisesFrom low cs → IsIn c cs → (j : ℕ) × (cell_at cs j ≡ c) × (j < length cs)
+  own_position : (c : CellRec) (cs : List CellRec) (low : ℕ) → CellsRiseFrom low cs → IsIn c cs → (j : ℕ) × (cell_at cs j ≡ c) × (j < length cs)
   own_position c [] low h here = absurd here
   own_position c (d ∷ cs) low h (inl e) = (zero, sym e, omega arith)
   own_position c (d ∷ cs) low h (inr here) =

@@ -7,17 +7,17 @@ use Rattle.std.specs.Result.{result_ok}
 use Rattle.std.specs.List.Sorted.{IsBinarySearchResult, IsNonDecreasingBy, IsSearchInRange}
 use Rattle.std.specs.declared.cmp.Ordering.TheVariants.{Less, Equal, Greater}
 use Rattle.fore_base.specs.declared.store.CellRec.{CellRec}
-use Rattle.c_machine.specs.inner.Rising.{RisesFrom, position_in}
+use Rattle.c_machine.specs.inner.Rising.{CellsRiseFrom, position_in}
 
 pub no_cell : CellRec
 no_cell = record { number = 0; shape = 0; datums = []; fields = [] }
 
-rises_above : (low : ℕ) (cs : List CellRec) → RisesFrom low cs → (j : ℕ) (d : CellRec) → j < length cs → low ≤ (get_or cs j d).number
+rises_above : (low : ℕ) (cs : List CellRec) → CellsRiseFrom low cs → (j : ℕ) (d : CellRec) → j < length cs → low ≤ (get_or cs j d).number
 rises_above low [] h j d less = absurd (omega (arith, less))
 rises_above low (c ∷ cs) h zero d less = h.0
 rises_above low (c ∷ cs) h (suc j) d less = omega (arith, h.0, rises_above (suc c.number) cs h.1 j d (omega (arith, less)))
 
-rises : (low : ℕ) (cs : List CellRec) → RisesFrom low cs → (i j : ℕ) (d : CellRec) → i ≤ j → j < length cs → (get_or cs i d).number ≤ (get_or cs j d).number
+rises : (low : ℕ) (cs : List CellRec) → CellsRiseFrom low cs → (i j : ℕ) (d : CellRec) → i ≤ j → j < length cs → (get_or cs i d).number ≤ (get_or cs j d).number
 rises low [] h i j d order less = absurd (omega (arith, less))
 rises low (c ∷ cs) h zero zero d order less = omega arith
 rises low (c ∷ cs) h zero (suc j) d order less = omega (arith, rises_above (suc c.number) cs h.1 j d (omega (arith, less)))
@@ -33,7 +33,7 @@ compared x n e = grind (arith, nat_tests)
 equal_from : (x n : ℕ) → nat_cmp x n ≡ Equal → x ≡ n
 equal_from x n e = grind (arith, nat_tests)
 
-pub position_at : (low : ℕ) (cs : List CellRec) (n i : ℕ) (d : CellRec) → RisesFrom low cs → i < length cs → (get_or cs i d).number ≡ n → position_in cs n ≡ Some i
+pub position_at : (low : ℕ) (cs : List CellRec) (n i : ℕ) (d : CellRec) → CellsRiseFrom low cs → i < length cs → (get_or cs i d).number ≡ n → position_in cs n ≡ Some i
 position_at low [] n i d h less e = absurd (omega (arith, less))
 position_at low (c ∷ cs) n zero d h less e = rw (eq-eqb c.number n e) refl
 position_at low (c ∷ cs) n (suc i) d h less e =
@@ -48,7 +48,7 @@ absent (c ∷ cs) n none =
     let other : nat_eq c.number n ≡ false = grind (arith, nat_tests) in
     rw (other, absent cs n (λ j less. none (suc j) (omega (arith, less)))) refl
 
-pub searched_cells : (cs : List CellRec) (n : ℕ) (r : Result ℕ ℕ) → RisesFrom 0 cs → IsSearchInRange r (length cs) → IsBinarySearchResult (λ c. nat_cmp c.number n) cs r → result_ok r ≡ position_in cs n
+pub searched_cells : (cs : List CellRec) (n : ℕ) (r : Result ℕ ℕ) → CellsRiseFrom 0 cs → IsSearchInRange r (length cs) → IsBinarySearchResult (λ c. nat_cmp c.number n) cs r → result_ok r ≡ position_in cs n
 searched_cells cs n (Ok i) h range e = sym (position_at 0 cs n i no_cell h range (equal_from (get_or cs i no_cell).number n (e no_cell)))
 searched_cells cs n (Err i) h range e = sym (absent cs n apart)
   where

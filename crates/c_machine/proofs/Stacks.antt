@@ -12,7 +12,8 @@ use Rattle.c_types.proofs.Plains.{then_done}
 use Rattle.c_types.proofs.Layers.{test-Atom, test-Not, test-All, test-Any, items-Do, items-Branch, items-While, items-For, items-DoWhile, items-Group}
 use Rattle.c_machine.specs.declared.items.Item.{Item}
 use Rattle.c_machine.specs.declared.items.Part.{Part}
-use Rattle.c_machine.specs.Pending.{block, before, onto, Ways, and_then, or_else, through, narrowed, test_before, sum_of, size_step, size_of, weight_step, weight_of, block_weight, item_weight, stack_weight}
+use Rattle.fore_base.specs.Lists.{sum_of}
+use Rattle.c_machine.specs.Pending.{block, before, onto, Ways, and_then, or_else, through, narrowed, test_before, size_step, size_of, weight_step, weight_of, block_weight, item_weight, stack_weight}
 
 -- Items
 

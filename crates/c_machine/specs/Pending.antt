@@ -1,6 +1,7 @@
 -- What the machine's stack, and what stands before it, mean as pending items.
 use Rattle.std.specs.Prelude.{◌≡◌, ℕ, ◌+◌, ◌≤◌, List, [], ◌∷◌, map, Bool, true, false}
 use Rattle.std.specs.Vec.{vec_len, vec_capacity}
+use Rattle.fore_base.specs.Lists.{sum_of}
 use Rattle.c_types.specs.declared.program.Atom.TheVariants.{Known as KnownAtom}
 use Rattle.c_types.specs.declared.program.Cond.{Cond, Cond-F, fold-Cond}
 use Rattle.c_types.specs.declared.program.Cond.TheOpen.{Atom as Atom-F, Not as Not-F, All as All-F, Any as Any-F}
@@ -112,10 +113,6 @@ PastIs (Known outcome') old new part outcome = (new ≡ old) × ((w : Ways) → 
 PastIs (Asks cond) old new part outcome = (w : Ways) (r : Items) → opened (test_before (test_of cond.now) (through w new) r) ≡ opened (way outcome (narrowed part (through w old)) then r)
 
 -- Measures of opening
-
-abbrev pub sum_of : List ℕ → ℕ
-sum_of [] = 0
-sum_of (n ∷ ns) = n + sum_of ns
 
 abbrev pub size_step : Cond-F ℕ → ℕ
 size_step (Atom-F a line) = 1

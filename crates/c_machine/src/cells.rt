@@ -1,6 +1,6 @@
 ghost use Rattle.std.specs.Prelude.{◌≡◌, map};
 ghost use Rattle.fore_base.specs.Stores.{field_in, with_field, datum_in, with_datum, dangle_in, without};
-ghost use Rattle.c_machine.specs.inner.Rising.{RisesFrom};
+ghost use Rattle.c_machine.specs.inner.Rising.{CellsRiseFrom};
 
 use crate::search::position_of;
 use crate::values::dangle_all;
@@ -9,7 +9,7 @@ use fore_base::store::{CellRec, Datum, Value};
 
 /// A field of the cell of a number.
 pub fn field_of(cells: &[CellRec], number: u64, field: u32) -> Value
-    requires { RisesFrom 0 cells.now }
+    requires { CellsRiseFrom 0 cells.now }
     ensures { result ≡ field_in cells.now number field }
 {
     match position_of(cells, number) {
@@ -20,7 +20,7 @@ pub fn field_of(cells: &[CellRec], number: u64, field: u32) -> Value
 
 /// Writes a field of the cell of a number.
 pub fn set_field(cells: &mut List<CellRec>, number: u64, field: u32, value: Value)
-    requires { RisesFrom 0 cells.old }
+    requires { CellsRiseFrom 0 cells.old }
     ensures { cells.new ≡ with_field cells.old number field value }
 {
     if let Some(at) = position_of(cells.as_slice(), number) {
@@ -31,7 +31,7 @@ pub fn set_field(cells: &mut List<CellRec>, number: u64, field: u32, value: Valu
 
 /// A data field of the cell of a number.
 pub fn datum_field_of(cells: &[CellRec], number: u64, field: u32) -> Datum
-    requires { RisesFrom 0 cells.now }
+    requires { CellsRiseFrom 0 cells.now }
     ensures { result ≡ datum_in cells.now number field }
 {
     match position_of(cells, number) {
@@ -42,7 +42,7 @@ pub fn datum_field_of(cells: &[CellRec], number: u64, field: u32) -> Datum
 
 /// Writes a data field of the cell of a number.
 pub fn set_datum_field(cells: &mut List<CellRec>, number: u64, field: u32, datum: Datum)
-    requires { RisesFrom 0 cells.old }
+    requires { CellsRiseFrom 0 cells.old }
     ensures { cells.new ≡ with_datum cells.old number field datum }
 {
     if let Some(at) = position_of(cells.as_slice(), number) {
@@ -53,7 +53,7 @@ pub fn set_datum_field(cells: &mut List<CellRec>, number: u64, field: u32, datum
 
 /// Ends the cell of a number, and lets what names it in other cells dangle.
 pub fn end_cell(cells: &mut List<CellRec>, number: u64)
-    requires { RisesFrom 0 cells.old }
+    requires { CellsRiseFrom 0 cells.old }
     ensures { cells.new ≡ without number cells.old }
 {
     if let Some(at) = position_of(cells.as_slice(), number) {

@@ -3,7 +3,7 @@
 ghost use Rattle.std.specs.Prelude.{◌≡◌, ◌≤◌, ◌<◌, ◌+◌, ◌^◌, ℕ, List as ListOf, IfOk, slice_get, false};
 ghost use Rattle.fore_base.specs.Shapes.{targets_in};
 ghost use Rattle.c_cfg.specs.Edges.{arg_of, data_arg_of, field_of, datum_field_of, struct_of, target_of, same_struct, may_stand, onto, if_agreed, chosen_to, leak_tested, choice_of, raw_step, gstep};
-ghost use Rattle.c_machine.specs.inner.Rising.{RisesFrom};
+ghost use Rattle.c_machine.specs.inner.Rising.{CellsRiseFrom};
 ghost use Rattle.c_machine.specs.inner.EdgeSteps.{pass_seen, has_place, stored_at, stored_datum_at, is_new};
 ghost use Rattle.fore_base.specs.declared.shape.Shape.{Shape as ShapeOf};
 ghost use Rattle.fore_base.specs.declared.store.Store.{Store as StoreOf};
@@ -69,7 +69,7 @@ fn item_at<T: Copy>(list: &List<T>, at: u32, default: T) -> Option<T>
 
 /// A pointer field of the cell of a number; None where there is no such cell or field.
 fn field_at(cells: &[CellRec], number: u64, field: u32) -> Option<Value>
-    requires { RisesFrom 0 cells.now }
+    requires { CellsRiseFrom 0 cells.now }
     ensures { result ≡ field_of cells.now number field }
 {
     match position_of(cells, number) {
@@ -80,7 +80,7 @@ fn field_at(cells: &[CellRec], number: u64, field: u32) -> Option<Value>
 
 /// The same of a data field.
 fn datum_at(cells: &[CellRec], number: u64, field: u32) -> Option<Datum>
-    requires { RisesFrom 0 cells.now }
+    requires { CellsRiseFrom 0 cells.now }
     ensures { result ≡ datum_field_of cells.now number field }
 {
     match position_of(cells, number) {
@@ -91,7 +91,7 @@ fn datum_at(cells: &[CellRec], number: u64, field: u32) -> Option<Datum>
 
 /// The struct of the cell of a number.
 fn struct_at(cells: &[CellRec], number: u64) -> Option<u32>
-    requires { RisesFrom 0 cells.now }
+    requires { CellsRiseFrom 0 cells.now }
     ensures { result ≡ struct_of cells.now number }
 {
     match position_of(cells, number) {
@@ -138,7 +138,7 @@ fn same_struct(one: Option<u32>, other: Option<u32>) -> bool
 
 /// Whether a value may stand in a pointer field of the cell of a number.
 fn may_stand(shapes: &[Shape], cells: &[CellRec], number: u64, field: u32, value: Value) -> bool
-    requires { RisesFrom 0 cells.now }
+    requires { CellsRiseFrom 0 cells.now }
     ensures { result ≡ may_stand shapes.now cells.now number field value }
 {
     match value {
@@ -154,7 +154,7 @@ fn may_stand(shapes: &[Shape], cells: &[CellRec], number: u64, field: u32, value
 
 /// Whether the cell of a number has the field, and the value may stand there.
 fn takes(shapes: &[Shape], cells: &[CellRec], number: u64, field: u32, value: Value) -> bool
-    requires { RisesFrom 0 cells.now }
+    requires { CellsRiseFrom 0 cells.now }
     ensures { result ≡ has_place shapes.now cells.now number field value }
 {
     match field_at(cells, number, field) {

@@ -6,7 +6,7 @@ ghost use Rattle.c_types.specs.Runs.{empty_store};
 ghost use Rattle.c_types.specs.Steps.{all_dead};
 ghost use Rattle.c_machine.specs.inner.Marking.{HasRoomFor, IsAsRoomy};
 ghost use Rattle.c_machine.specs.inner.Sizes.{IsNoLarger};
-ghost use Rattle.c_machine.specs.inner.Rising.{RisesFrom};
+ghost use Rattle.c_machine.specs.inner.Rising.{CellsRiseFrom};
 ghost use Rattle.std.specs.Vec.{vec_capacity};
 
 use crate::cells::{datum_field_of, end_cell, field_of, set_datum_field, set_field};
@@ -29,13 +29,13 @@ pub struct Heap {
 
 impl Model for Heap {
     ghost use Rattle.fore_base.specs.declared.store.Store.{Store};
-    ghost use Rattle.c_machine.specs.inner.Rising.{IsRising};
+    ghost use Rattle.c_machine.specs.inner.Rising.{HasRisingCells};
 
     ghost Value = { Store };
 
     ghost view = { λ heap. heap.store };
 
-    ghost invariant = { λ heap. IsRising heap.store };
+    ghost invariant = { λ heap. HasRisingCells heap.store };
 }
 
 /// The number of the cell to which a value points.
@@ -77,7 +77,7 @@ impl Heap {
     /// The cells, in order of their numbers.
     pub fn cells(&self) -> &[CellRec]
         ensures cells { result.now ≡ self.now.cells }
-        ensures rising { RisesFrom 0 result.now }
+        ensures rising { CellsRiseFrom 0 result.now }
     {
         self.store.cells.as_slice()
     }

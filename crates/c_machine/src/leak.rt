@@ -3,7 +3,7 @@
 ghost use Rattle.std.specs.Prelude.{◌≡◌, ◌≤◌, ◌<◌, ◌++◌, ◌∷◌, [], true, false, not, length, replicate, slice_index_or, slice_set, OnOk};
 ghost use Rattle.std.specs.Vec.{vec_capacity};
 ghost use Rattle.fore_base.specs.Heap.{leaks};
-ghost use Rattle.c_machine.specs.inner.Rising.{RisesFrom, IsRising, position_in};
+ghost use Rattle.c_machine.specs.inner.Rising.{CellsRiseFrom, HasRisingCells, position_in};
 ghost use Rattle.c_machine.specs.inner.Marking.{seen, noted, noted_at, noted_all, IsCounted, HasRoomFor, IsAsRoomy};
 
 use crate::search::position_of;
@@ -39,7 +39,7 @@ pub fn make_room(marks: &mut Marks, count: usize) -> Mem<()>
 
 /// Whether some cell cannot be reached from the variables. Each cell is looked at once.
 pub fn has_leaked(marks: &mut Marks, store: &Store) -> bool
-    requires rising { IsRising store.now }
+    requires rising { HasRisingCells store.now }
     requires room { HasRoomFor (length store.now.cells) marks.old }
     ensures leaked { result ≡ leaks store.now }
     ensures room { IsAsRoomy marks.old marks.new }
@@ -79,7 +79,7 @@ fn begin(marks: &mut Marks, count: usize)
 }
 
 fn note_all(cells: &[CellRec], values: &[Value], marks: &mut Marks)
-    requires rising { RisesFrom 0 cells.now }
+    requires rising { CellsRiseFrom 0 cells.now }
     requires counted { IsCounted marks.old }
     ensures noted { seen marks.new ≡ noted_all cells.now values.now (seen marks.old) }
     ensures counted { IsCounted marks.new }
@@ -91,7 +91,7 @@ fn note_all(cells: &[CellRec], values: &[Value], marks: &mut Marks)
 }
 
 fn note(cells: &[CellRec], value: Value, marks: &mut Marks)
-    requires rising { RisesFrom 0 cells.now }
+    requires rising { CellsRiseFrom 0 cells.now }
     requires counted { IsCounted marks.old }
     ensures noted { seen marks.new ≡ noted cells.now value (seen marks.old) }
     ensures counted { IsCounted marks.new }

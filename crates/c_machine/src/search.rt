@@ -1,11 +1,11 @@
 ghost use Rattle.std.specs.Prelude.{◌≡◌, ◌<◌, length, IfSome};
-ghost use Rattle.c_machine.specs.inner.Rising.{RisesFrom, position_in};
+ghost use Rattle.c_machine.specs.inner.Rising.{CellsRiseFrom, position_in};
 
 use fore_base::store::CellRec;
 
 /// The position of the cell of a number, among cells in order of their numbers.
 pub fn position_of(cells: &[CellRec], number: u64) -> Option<usize>
-    requires { RisesFrom 0 cells.now }
+    requires { CellsRiseFrom 0 cells.now }
     ensures position { result ≡ position_in cells.now number }
     ensures within { IfSome result (λ i. i < length cells.now) }
 {
@@ -25,7 +25,7 @@ fn guessed(cells: &[CellRec], number: u64) -> usize {
 }
 
 fn searched(cells: &[CellRec], number: u64) -> Option<usize>
-    requires { RisesFrom 0 cells.now }
+    requires { CellsRiseFrom 0 cells.now }
     ensures position { result ≡ position_in cells.now number }
     ensures within { IfSome result (λ i. i < length cells.now) }
 {

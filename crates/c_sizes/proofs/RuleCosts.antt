@@ -30,7 +30,8 @@ use Rattle.c_ast.specs.declared.statements.Part.TheVariants as part'
 use Rattle.c_ast.specs.declared.statements.Stmt as stmts
 use Rattle.c_ast.specs.declared.statements.Stmt.TheVariants as stmt'
 use Rattle.c_types.proofs.Layers as layer
-use Rattle.c_types.specs.OneWay.{sum_of, parts_atoms, cond_atoms, closes_of, stmt_size, most_steps}
+use Rattle.fore_base.specs.Lists.{sum_of}
+use Rattle.c_types.specs.OneWay.{parts_atoms, cond_atoms, closes_of, stmt_size, most_steps}
 use Rattle.c_types.specs.Program.{Program}
 use Rattle.c_types.specs.declared.program.Atom.TheVariants as atom
 use Rattle.c_types.specs.declared.program.Cond as formula

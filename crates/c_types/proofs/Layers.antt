@@ -11,7 +11,8 @@ use Rattle.c_types.specs.declared.program.Stmt.TheVariants.{Do, Branch, While, D
 use Rattle.c_types.specs.Program.{Spot, InNext, body_of, all_below, act_typed, atom_typed, parts_typed, cond_typed, cond_typed_step, each_typed, stmt_typed, stmt_typed_step}
 use Rattle.c_types.specs.Control.{Test, Ask, Not as NotTest, Both, Either, Items, Done, Do as DoItem, If, Loop, DoLoop, joined, test_step, test_of, all_before, closes, items_step, items_of}
 use Rattle.c_types.specs.Steps.{atom_takes, act_takes}
-use Rattle.c_types.specs.OneWay.{all_true, cond_one_way, cond_one_way_step, stmt_one_way, stmt_one_way_step, sum_of, parts_atoms, cond_atoms, cond_atoms_step, closes_of, stmt_size, stmt_size_step}
+use Rattle.fore_base.specs.Lists.{sum_of}
+use Rattle.c_types.specs.OneWay.{all_true, cond_one_way, cond_one_way_step, stmt_one_way, stmt_one_way_step, parts_atoms, cond_atoms, cond_atoms_step, closes_of, stmt_size, stmt_size_step}
 
 -- a fold on a condition or a statement whose outer part is known
 pub cond_folded : (A : Type 0) (step : Cond-F A → A) (c : Cond) (y : Cond-F Cond) → out-Cond c ≡ y → fold-Cond A step c ≡ step (map-Cond Cond A (fold-Cond A step) y)

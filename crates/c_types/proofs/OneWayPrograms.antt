@@ -10,7 +10,8 @@ use Rattle.c_types.specs.Control.{Test, Both, Either, Items, Done, joined, test_
 use Rattle.c_types.specs.Steps.{atom_takes, act_takes}
 use Rattle.c_types.specs.Runs.{run, own_line, empty_store}
 use Rattle.c_types.specs.Over.{IsOver, IsFault}
-use Rattle.c_types.specs.OneWay.{all_true, cond_one_way_step, cond_one_way, stmt_one_way_step, stmt_one_way, is_one_way, sum_of, parts_atoms, cond_atoms_step, cond_atoms, closes_of, stmt_size_step, stmt_size, most_steps}
+use Rattle.fore_base.specs.Lists.{sum_of}
+use Rattle.c_types.specs.OneWay.{all_true, cond_one_way_step, cond_one_way, stmt_one_way_step, stmt_one_way, is_one_way, parts_atoms, cond_atoms_step, cond_atoms, closes_of, stmt_size_step, stmt_size, most_steps}
 use Rattle.c_types.proofs.OneWayItems.{IsSettledTest, atoms_in, OneWay, done, act, close, branch, more_steps, one_way_alike, one_way_over}
 use Rattle.c_types.proofs.RunLaws.{run_stays_over, fault_over}
 

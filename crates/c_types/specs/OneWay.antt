@@ -1,5 +1,6 @@
 -- Programs that run one way, whatever is chosen: without loops and without choices. And how many steps such a program can take.
 use Rattle.std.specs.Prelude.{ℕ, ◌+◌, List, [], ◌∷◌, map, Bool, true, false, not, ◌&&◌}
+use Rattle.fore_base.specs.Lists.{sum_of}
 use Rattle.c_types.specs.declared.program.Cond.{Cond, Cond-F, fold-Cond}
 use Rattle.c_types.specs.declared.program.Cond.TheOpen.{Atom as Atom-F, Not as Not-F, All as All-F, Any as Any-F}
 use Rattle.c_types.specs.declared.program.Stmt.{Stmt, Stmt-F, fold-Stmt}
@@ -35,10 +36,6 @@ stmt_one_way = fold-Stmt Bool stmt_one_way_step
 
 unfoldable pub is_one_way : Program → Bool
 is_one_way p = all_true (map stmt_one_way p.body)
-
-abbrev pub sum_of : List ℕ → ℕ
-sum_of [] = 0
-sum_of (n ∷ ns) = n + sum_of ns
 
 -- the atoms of `&&` or `||` of several parts (of no part, which a program has nowhere, a literal)
 abbrev pub parts_atoms : List ℕ → ℕ

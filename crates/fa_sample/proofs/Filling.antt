@@ -5,7 +5,8 @@ use Rattle.std.proofs.lemmas.Option.{same_Some}
 use Rattle.fore_base.specs.declared.store.CellRec.{CellRec}
 use Rattle.fore_base.specs.declared.store.Value.{Value}
 use Rattle.fore_base.proofs.ListLemmas.{every_append, every_parts, every_weaker}
-use Rattle.ta_core.specs.Language.{nodes, sum_of}
+use Rattle.fore_base.specs.Lists.{sum_of}
+use Rattle.ta_core.specs.Language.{nodes}
 use Rattle.ta_core.specs.declared.symbol.Symbol.{Symbol}
 use Rattle.ta_core.specs.declared.symbol.Symbol.TheVariants.{Null, Uninit, Dangling, Ref, Cell}
 use Rattle.ta_core.specs.declared.tree.Tree.{Tree, out-Tree, fold_out-Tree}

@@ -29,3 +29,8 @@ PairedBut R i p q [] ys = ⊥
 PairedBut R i p q (x ∷ xs) [] = ⊥
 PairedBut R zero p q (x ∷ xs) (y ∷ ys) = (x ≡ p) × (y ≡ q) × Paired R xs ys
 PairedBut R (suc i) p q (x ∷ xs) (y ∷ ys) = R x y × PairedBut R i p q xs ys
+
+-- the sum of the numbers
+abbrev pub sum_of : List ℕ → ℕ
+sum_of [] = 0
+sum_of (n ∷ ns) = n + sum_of ns

@@ -1,9 +1,8 @@
 -- The tree at a state is made by tasks.
 use Rattle.std.proofs.Common.{◌≡◌, ℕ, ◌<◌, ◌≤◌, List, [], ◌∷◌, ◌++◌, length, map, Option, refl, sym, ap, subst, arith}
-use Rattle.fore_base.specs.Lists.{Paired}
+use Rattle.fore_base.specs.Lists.{Paired, sum_of}
 use Rattle.ta_core.specs.declared.auto.Rule.{Rule}
 use Rattle.ta_core.specs.declared.tree.Tree.{Tree}
-use Rattle.ta_core.specs.Language.{sum_of}
 use Rattle.ta_core.specs.inner.Growing.{IsSized, IsOver, Asks, IsTreeOf}
 use Rattle.ta_core.specs.inner.Sizes.{size_at, number, sum_at, IsTreeAt}
 use Rattle.ta_core.specs.inner.Tasks.{Todo, visit, build, IsUnderway, Reduces, work}

@@ -10,7 +10,8 @@ use Rattle.ta_core.specs.declared.tree.Tree.{Tree}
 use Rattle.ta_core.specs.Arity.{arity}
 use Rattle.ta_core.specs.Auto.{Automaton, automaton, IsRanked}
 use Rattle.ta_core.specs.Joined.{shifted, united}
-use Rattle.ta_core.specs.Language.{RunOf, run, run_none, run_more, sum_of}
+use Rattle.fore_base.specs.Lists.{sum_of}
+use Rattle.ta_core.specs.Language.{RunOf, run, run_none, run_more}
 use Rattle.ta_core.specs.Renumbered.{image}
 use Rattle.ta_core.specs.Single.{HasOneTop, HasSameTop}
 use Rattle.ta_core.specs.Tables.{sign_symbol, line_rule, planned}

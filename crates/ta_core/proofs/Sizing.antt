@@ -3,11 +3,11 @@ use Rattle.std.proofs.Common.{◌≡◌, ◌⊎◌, inl, inr, ℕ, zero, suc, �
 use Rattle.std.proofs.lemmas.Bool.{ltb-true, lt-ltb, ltb-false}
 use Rattle.std.specs.Bool.{MatchBool}
 use Rattle.std.specs.Option.{IsSome}
-use Rattle.fore_base.specs.Lists.{IsIn, Every}
+use Rattle.fore_base.specs.Lists.{IsIn, Every, sum_of}
 use Rattle.ta_core.specs.declared.auto.Rule.{Rule}
 use Rattle.ta_core.specs.declared.symbol.Symbol.{Symbol}
 use Rattle.ta_core.specs.declared.tree.Tree.{Tree, out-Tree, fold-roll-Tree, fold_out-Tree}
-use Rattle.ta_core.specs.Language.{RunOf, run, RunEach, run_none, run_more, nodes, nodes_step, sum_of}
+use Rattle.ta_core.specs.Language.{RunOf, run, RunEach, run_none, run_more, nodes, nodes_step}
 use Rattle.ta_core.specs.inner.Sizes.{size_at, capped, plus, total, rule_size, is_less, IsSettled, HasTreeOf, AreReal, Improves, size_sum, IsLeastRule, number, sum_at}
 use Rattle.fore_base.proofs.ListLemmas.{every_in, every_push}
 use Rattle.ta_core.proofs.Runs.{tree_of, run_tree}

@@ -2,11 +2,11 @@
 use Rattle.std.proofs.Common.{◌≡◌, ◌⊎◌, inl, inr, ℕ, ◌<◌, ◌≤◌, ◌+◌, ◌*◌, ◌^◌, Bool, true, false, true≢false, nat_lt, List, [], ◌∷◌, ◌++◌, map, Option, Some, None, refl, sym, ap, subst, ◌∙◌, arith}
 use Rattle.std.proofs.lemmas.Bool.{ltb-true, ltb-false, cases_lt}
 use Rattle.std.specs.Option.{IsSome}
-use Rattle.fore_base.specs.Lists.{IsIn, Every, Paired}
+use Rattle.fore_base.specs.Lists.{IsIn, Every, Paired, sum_of}
 use Rattle.ta_core.specs.declared.auto.Rule.{Rule}
 use Rattle.ta_core.specs.declared.tree.Tree.{Tree}
 use Rattle.ta_core.specs.Auto.{Automaton, IsRankedRule}
-use Rattle.ta_core.specs.Language.{RunOf, RunEach, run_none, run_more, InLanguage, IsSmallest, nodes, sum_of}
+use Rattle.ta_core.specs.Language.{RunOf, RunEach, run_none, run_more, InLanguage, IsSmallest, nodes}
 use Rattle.ta_core.specs.inner.Sizes.{size_at, is_less, AreLeast, IsLeastRule, IsTreeAt, IsBest, number, sum_at}
 use Rattle.fore_base.proofs.ListLemmas.{in_left, in_right, every_in, every_push}
 use Rattle.ta_core.proofs.Runs.{tree_of, run_tree}

@@ -1,9 +1,8 @@
 -- Trees are gone through, or made, by tasks: what stays true, and that they come to an end.
 use Rattle.std.proofs.Common.{◌≡◌, inl, inr, ℕ, ◌+◌, ◌*◌, ◌<◌, ◌≤◌, List, [], ◌∷◌, ◌++◌, length, map, reverse, refl, sym, ap, subst, ◌∙◌, arith}
 use Rattle.std.proofs.lemmas.List.{length-append, length-reverse, map-append}
-use Rattle.fore_base.specs.Lists.{IsIn, Every, Paired}
+use Rattle.fore_base.specs.Lists.{IsIn, Every, Paired, sum_of}
 use Rattle.fore_base.proofs.ListLemmas.{in_right, paired_long}
-use Rattle.ta_core.specs.Language.{sum_of}
 use Rattle.ta_core.specs.inner.Tasks.{Todo, visit, build, Leaves, IsUnderway, Reduces, work}
 
 -- what is paired with two lists of the same lengths

@@ -1,6 +1,6 @@
 -- Runs and languages of tree automata (CAV 2011, section 2).
 use Rattle.std.specs.Prelude.{◌≡◌, ◌↔◌, ℕ, ◌<◌, ◌≤◌, ◌+◌, List, [], ◌∷◌}
-use Rattle.fore_base.specs.Lists.{IsIn}
+use Rattle.fore_base.specs.Lists.{IsIn, sum_of}
 use Rattle.ta_core.specs.Auto.{Automaton}
 use Rattle.ta_core.specs.declared.auto.Rule.{Rule}
 use Rattle.ta_core.specs.declared.tree.Tree.{Tree, Tree-F, out-Tree, fold-Tree}
@@ -53,11 +53,6 @@ TakesPart a q = (p : ℕ) × (t : Tree) × IsIn p a.roots × PassesBy a.rules q 
 -- each state takes part
 abbrev pub IsTrim : Automaton → Type 0
 IsTrim a = (q : ℕ) → q < a.states → TakesPart a q
-
--- the sum of the numbers
-abbrev pub sum_of : List ℕ → ℕ
-sum_of [] = 0
-sum_of (n ∷ ns) = n + sum_of ns
 
 -- the nodes of a tree, each once
 abbrev pub nodes_step : Tree-F ℕ → ℕ

@@ -1,10 +1,9 @@
 -- The tree by which a pair was found is made by tasks.
 use Rattle.std.proofs.Common.{◌≡◌, ◌⊎◌, inl, inr, ℕ, zero, suc, ◌+◌, ◌<◌, ◌≤◌, max, List, [], ◌∷◌, ◌++◌, length, map, slice_get, Some, refl, sym, ap, subst, ◌∙◌, arith}
 use Rattle.std.proofs.lemmas.Option.{none-some, same_Some, slice_get_within}
-use Rattle.fore_base.specs.Lists.{Every, Paired}
+use Rattle.fore_base.specs.Lists.{Every, Paired, sum_of}
 use Rattle.fore_base.proofs.ListLemmas.{every_weaker, paired_weaker}
 use Rattle.ta_core.specs.Auto.{Automaton}
-use Rattle.ta_core.specs.Language.{sum_of}
 use Rattle.ta_core.specs.declared.auto.Rule.{Rule}
 use Rattle.ta_core.specs.declared.tree.Tree.{Tree}
 use Rattle.ta_core.specs.inner.Tasks.{Todo, visit, build, IsUnderway, work}

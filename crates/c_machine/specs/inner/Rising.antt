@@ -5,13 +5,13 @@ use Rattle.fore_base.specs.declared.store.Store.{Store}
 use Rattle.fore_base.specs.Lists.{Every}
 
 -- the numbers rise, from `low` on
-abbrev pub RisesFrom : ℕ → List CellRec → Type 0
-RisesFrom low [] = Unit {0}
-RisesFrom low (c ∷ cs) = (low ≤ c.number) × RisesFrom (suc c.number) cs
+abbrev pub CellsRiseFrom : ℕ → List CellRec → Type 0
+CellsRiseFrom low [] = Unit {0}
+CellsRiseFrom low (c ∷ cs) = (low ≤ c.number) × CellsRiseFrom (suc c.number) cs
 
 -- the cells stand in order of their numbers, which are below `next`
-abbrev pub IsRising : Store → Type 0
-IsRising s = RisesFrom 0 s.cells × Every (λ c. c.number < s.next) s.cells
+abbrev pub HasRisingCells : Store → Type 0
+HasRisingCells s = CellsRiseFrom 0 s.cells × Every (λ c. c.number < s.next) s.cells
 
 abbrev pub one_more : Option ℕ → Option ℕ
 one_more None = None

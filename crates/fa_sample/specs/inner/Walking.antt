@@ -1,12 +1,12 @@
 -- The walk through a tree: which fields cells do not have yet, and the cells when they have them all.
 use Rattle.std.specs.Prelude.{◌≡◌, ℕ, zero, suc, ◌<◌, ◌+◌, ◌*◌, List, [], ◌∷◌, ◌++◌, length, map}
-use Rattle.fore_base.specs.Lists.{Every}
+use Rattle.fore_base.specs.Lists.{Every, sum_of}
 use Rattle.fore_base.specs.declared.store.CellRec.{CellRec}
 use Rattle.fore_base.specs.declared.store.Value.{Value}
 use Rattle.ta_core.specs.declared.symbol.Symbol.{Symbol}
 use Rattle.ta_core.specs.declared.symbol.Symbol.TheVariants.{Null, Uninit, Dangling, Ref, Cell}
 use Rattle.ta_core.specs.declared.tree.Tree.{Tree, out-Tree}
-use Rattle.ta_core.specs.Language.{nodes, sum_of}
+use Rattle.ta_core.specs.Language.{nodes}
 use Rattle.fa_sample.specs.declared.walking.Missing.{Missing}
 use Rattle.fa_sample.specs.inner.Made.{Making, all_made}
 

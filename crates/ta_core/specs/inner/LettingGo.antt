@@ -1,7 +1,8 @@
 -- How much is still to be done where trees are let go, the last one first.
 use Rattle.std.specs.Prelude.{ℕ, ◌+◌, ◌*◌, List, [], ◌∷◌, map}
 use Rattle.ta_core.specs.declared.tree.Tree.{Tree, Tree-F, para-Tree}
-use Rattle.ta_core.specs.Language.{nodes, sum_of}
+use Rattle.fore_base.specs.Lists.{sum_of}
+use Rattle.ta_core.specs.Language.{nodes}
 
 -- the nodes of the trees
 abbrev pub all_nodes : List Tree → ℕ
