@@ -1,5 +1,5 @@
 -- Words on lists that compute by cases.
-use Rattle.std.specs.Prelude.{◌≡◌, ◌⊎◌, ℕ, zero, suc, List, [], ◌∷◌}
+use Rattle.std.specs.Prelude.{◌≡◌, ◌⊎◌, ℕ, zero, suc, ◌+◌, List, [], ◌∷◌}
 
 -- x is an item of the list
 abbrev pub IsIn : {X : Type 0} → X → List X → Type 0
