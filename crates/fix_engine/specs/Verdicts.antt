@@ -40,8 +40,8 @@ module _ (T : Boxes) where
       pub explored : Exploration T g k nodes
       pub full : Full T g k nodes budget
 
-    -- An abstract trace whose choices lead to no fault, with a member of its last forest: not all of its nodes kept to the members that they had before
-    -- they were folded and abstracted.
+    -- An abstract trace on whose choices the program meets no fault in as many steps, with a member of its last forest: not all of its nodes kept to
+    -- the members that they had before they were folded and abstracted.
     pub record TraceMeans (nodes : List Node) (tr : AbsTrace) (sample : Store) : Type 0 where
       pub explored : Exploration T g k nodes
       pub trace : AbstractTrace T g nodes tr

@@ -51,8 +51,8 @@ module _ (p : Program) (settings : Settings) (text : List ℕ) where
     pub means : BudgetMeans (no_boxes graph.shapes) p graph settings.height settings.budget nodes
     pub prints : text ≡ budget_text settings (length nodes)
 
-  -- UNKNOWN trace: the printed trace is an abstract trace of an exploration of the program's control graph, and its choices lead to no fault. Some
-  -- state of it was abstracted to more stores than the step before led to, so the program has a loop.
+  -- UNKNOWN trace: the printed trace is an abstract trace of an exploration of the program's control graph, and on its choices the program meets no
+  -- fault in as many steps. Some state of it was abstracted to more stores than the step before led to, so the program has a loop.
   pub record IsTraceReport : Type 0 where
     pub graph : ControlGraph
     pub lowered : LowerOf p graph

@@ -55,7 +55,8 @@ fn judge_file<R: Threads + Sync, L: Shelf, G: Gate>(
     gate: &G,
 ) -> Answer
     requires { TaskFits task.now }
-    ensures right { IsRightFor path.now (shelf_view L.Shelf shelf.old) (shelf_view L.Shelf shelf.new) result task.now }
+    ensures right { IsRightFor path.now (shelf_view L.Shelf shelf.old) (shelf_view L.Shelf shelf.new)
+        result task.now }
     ensures others { (p : List ℕ) → p ≢ path.now → L.given shelf.new p ≡ L.given shelf.old p }
     ensures kept { (p : List ℕ) → L.holds shelf.new p ≡ L.holds shelf.old p }
 {

@@ -74,7 +74,8 @@ fn safe_of(
     _program: &Typed,
 ) -> Mem<Text>
     requires lowered { LowerOf _program.now _graph.now }
-    requires means { SafeMeans (no_boxes _graph.now.shapes) _program.now _graph.now settings.height settings.budget nodes.now }
+    requires means { SafeMeans (no_boxes _graph.now.shapes) _program.now _graph.now
+        settings.height settings.budget nodes.now }
     ensures { IfOk result (IsSafeReport _program.now settings) }
 {
     let text = safe_report(alloc, settings, nodes.len())?;
@@ -83,7 +84,7 @@ fn safe_of(
 
 fn unsafe_of(
     alloc: Global,
-    settings: Settings,
+    _settings: Settings,
     trace: &AbsTrace,
     kind: Fault,
     line: u32,
@@ -91,9 +92,8 @@ fn unsafe_of(
     _program: &Typed,
 ) -> Mem<Text>
     requires { run _program.now trace.now.choices step ≡ Out.Fault kind line step }
-    ensures { IfOk result (IsUnsafeReport _program.now settings) }
+    ensures { IfOk result (IsUnsafeReport _program.now _settings) }
 {
-    let _settings = settings;
     let text = unsafe_report(alloc, kind, line, step, trace.choices.as_slice())?;
     Ok(text)
 }
@@ -106,7 +106,8 @@ fn budget_of(
     _program: &Typed,
 ) -> Mem<Text>
     requires lowered { LowerOf _program.now _graph.now }
-    requires means { BudgetMeans (no_boxes _graph.now.shapes) _program.now _graph.now settings.height settings.budget nodes.now }
+    requires means { BudgetMeans (no_boxes _graph.now.shapes) _program.now _graph.now
+        settings.height settings.budget nodes.now }
     ensures { IfOk result (IsBudgetReport _program.now settings) }
 {
     let text = budget_report(alloc, settings, nodes.len())?;
@@ -123,7 +124,8 @@ fn trace_of(
     _program: &Typed,
 ) -> Mem<Text>
     requires lowered { LowerOf _program.now _graph.now }
-    requires means { TraceMeans (no_boxes _graph.now.shapes) _program.now _graph.now settings.height nodes.now trace.now _sample.now }
+    requires means { TraceMeans (no_boxes _graph.now.shapes) _program.now _graph.now
+        settings.height nodes.now trace.now _sample.now }
     requires loops { has_no_loop _program.now ≡ true → ⊥ }
     ensures { IfOk result (IsTraceReport _program.now settings) }
 {

@@ -29,9 +29,9 @@ use std::thread::Threads;
 ///
 /// 0: no choices and no number of steps lead the program of the file to a fault; or the run has ended. 1: the printed choices lead it to the
 /// printed fault; or the run met the printed fault. 2: the words do not read. 3: neither was found, since as many abstract states are kept as may
-/// be, or since the choices of the printed abstract trace meet no fault; or the run has too few choices, or a wrong one, or still runs. 4: the
-/// file has more than 1,048,576 bytes, or breaks a rule. 5: the file could not be read. 6: a sink failed. 7: want of memory, and nothing was
-/// written.
+/// be, or since the choices of the printed abstract trace meet no fault in as many steps; or the run has too few choices, or a wrong one, or
+/// still runs. 4: the file has more than 1,048,576 bytes, or breaks a rule. 5: the file could not be read. 6: a sink failed. 7: want of memory,
+/// and nothing was written.
 pub fn forester<R: Threads + Sync, L: Shelf, K: Sink, E: Sink, G: Gate>(
     rt: &R,
     alloc: Global,
@@ -42,19 +42,22 @@ pub fn forester<R: Threads + Sync, L: Shelf, K: Sink, E: Sink, G: Gate>(
     gate: &G,
 ) -> u8
     ensures is_safe { AsksToVerify (texts words.now) → result ≡ 0 → (text : List ℕ)
-        × VerifiesTo (request_of L.Shelf words.now shelf.old shelf.new) (λ p settings. IsSafeReport p settings text)
+        × VerifiesTo (request_of L.Shelf words.now shelf.old shelf.new)
+        (λ p settings. IsSafeReport p settings text)
         × Told (writing_of K.Sink out.old out.new) (writing_of E.Sink notes.old notes.new)
         (Answer.Verified Found.Safe text) }
     ensures is_unsafe { AsksToVerify (texts words.now) → result ≡ 1 → (text : List ℕ)
-        × VerifiesTo (request_of L.Shelf words.now shelf.old shelf.new) (λ p settings. IsUnsafeReport p settings text)
+        × VerifiesTo (request_of L.Shelf words.now shelf.old shelf.new)
+        (λ p settings. IsUnsafeReport p settings text)
         × Told (writing_of K.Sink out.old out.new) (writing_of E.Sink notes.old notes.new)
         (Answer.Verified Found.Unsafe text) }
     ensures is_unknown { AsksToVerify (texts words.now) → result ≡ 3 → (text : List ℕ)
-        × VerifiesTo (request_of L.Shelf words.now shelf.old shelf.new) (λ p settings. IsUnknownReport p settings text)
+        × VerifiesTo (request_of L.Shelf words.now shelf.old shelf.new)
+        (λ p settings. IsUnknownReport p settings text)
         × Told (writing_of K.Sink out.old out.new) (writing_of E.Sink notes.old notes.new)
         (Answer.Verified Found.Unknown text) }
-    ensures ran { AsksToRun (texts words.now) → (result ≡ 0) ⊎ (result ≡ 1) ⊎ (result ≡ 3) → (outcome : Out)
-        × (result ≡ run_status outcome)
+    ensures ran { AsksToRun (texts words.now) → (result ≡ 0) ⊎ (result ≡ 1) ⊎ (result ≡ 3)
+        → (outcome : Out) × (result ≡ run_status outcome)
         × IsRight (request_of L.Shelf words.now shelf.old shelf.new) (Answer.Ran outcome)
         × Told (writing_of K.Sink out.old out.new) (writing_of E.Sink notes.old notes.new)
         (Answer.Ran outcome) }
@@ -66,12 +69,14 @@ pub fn forester<R: Threads + Sync, L: Shelf, K: Sink, E: Sink, G: Gate>(
         × IsRight (request_of L.Shelf words.now shelf.old shelf.new) (Answer.Refused why)
         × Told (writing_of K.Sink out.old out.new) (writing_of E.Sink notes.old notes.new)
         (Answer.Refused why) }
-    ensures read { result ≡ 5 → IsRight (request_of L.Shelf words.now shelf.old shelf.new) Answer.ReadFault
+    ensures read { result ≡ 5
+        → IsRight (request_of L.Shelf words.now shelf.old shelf.new) Answer.ReadFault
         × Told (writing_of K.Sink out.old out.new) (writing_of E.Sink notes.old notes.new) Answer.ReadFault }
     ensures written { result ≡ 6 → (due : Due) × (status_of due < 6)
         × IsRight (request_of L.Shelf words.now shelf.old shelf.new) due
         × IsCutShort (writing_of K.Sink out.old out.new) (writing_of E.Sink notes.old notes.new) due }
-    ensures memory { result ≡ 7 → IsRight (request_of L.Shelf words.now shelf.old shelf.new) Answer.NoMemory
+    ensures memory { result ≡ 7
+        → IsRight (request_of L.Shelf words.now shelf.old shelf.new) Answer.NoMemory
         × WroteNothing (writing_of K.Sink out.old out.new) (writing_of E.Sink notes.old notes.new) }
     ensures unread { AsksNothing (texts words.now) → (result ≡ 2) ⊎ (result ≡ 6) }
     ensures judges { (p : Program) (settings : Settings)

@@ -81,7 +81,8 @@ fn is_path(word: &str) -> bool
 /// `Usage` where they ask nothing, `Memory` for want of memory.
 pub fn task_of(alloc: Global, verb: &str, given: &[String]) -> Result<Task, Unread>
     ensures ok { IfOk result (IsTask verb.now (texts given.now)) }
-    ensures usage { IsErrOf result Why.Usage → (task : What) → IsTask verb.now (texts given.now) task → ⊥ }
+    ensures usage { IsErrOf result Why.Usage
+        → (task : What) → IsTask verb.now (texts given.now) task → ⊥ }
     ensures memory { IsErrOf result Why.Memory → (task : What) × IsTask verb.now (texts given.now) task }
 {
     match verb {
@@ -98,7 +99,8 @@ pub fn task_of(alloc: Global, verb: &str, given: &[String]) -> Result<Task, Unre
 /// `Usage` where they ask nothing.
 fn verify_of(given: &[String]) -> Result<Task, Unread>
     ensures ok { IfOk result (IsTask (codes "verify") (texts given.now)) }
-    ensures usage { IsErrOf result Why.Usage → (task : What) → IsTask (codes "verify") (texts given.now) task → ⊥ }
+    ensures usage { IsErrOf result Why.Usage
+        → (task : What) → IsTask (codes "verify") (texts given.now) task → ⊥ }
     ensures remembers { IfErr result (λ why. why ≡ Why.Usage) }
 {
     match option_named("--height", given) {
@@ -124,8 +126,10 @@ fn verify_of(given: &[String]) -> Result<Task, Unread>
 /// `Usage` where they ask nothing, `Memory` for want of memory.
 fn run_of(alloc: Global, given: &[String]) -> Result<Task, Unread>
     ensures ok { IfOk result (IsTask (codes "run") (texts given.now)) }
-    ensures usage { IsErrOf result Why.Usage → (task : What) → IsTask (codes "run") (texts given.now) task → ⊥ }
-    ensures memory { IsErrOf result Why.Memory → (task : What) × IsTask (codes "run") (texts given.now) task }
+    ensures usage { IsErrOf result Why.Usage
+        → (task : What) → IsTask (codes "run") (texts given.now) task → ⊥ }
+    ensures memory { IsErrOf result Why.Memory
+        → (task : What) × IsTask (codes "run") (texts given.now) task }
 {
     match option_named("--choices", given) {
         Some((list, rest)) => {
@@ -171,7 +175,8 @@ pub fn asked<'a>(words: &'a [String]) -> Option<(&'a str, &'a str, &'a [String])
 
 /// The first two words, and those after them. None where there are fewer.
 fn pair<'a>(words: &'a [String]) -> Option<(&'a str, &'a str, &'a [String])>
-    ensures { MatchOption result ((a b : List ℕ) (rest : List (List ℕ)) → texts words.now ≡ a ∷ b ∷ rest → ⊥)
+    ensures { MatchOption result
+        ((a b : List ℕ) (rest : List (List ℕ)) → texts words.now ≡ a ∷ b ∷ rest → ⊥)
         (λ p. texts words.now ≡ p.0.now ∷ p.1.now ∷ texts p.2.now) }
 {
     let (first, rest) = words.split_first()?;
