@@ -31,5 +31,6 @@ pub mod Ranged
 pub mod RangedEdges
 pub mod Rows
 pub mod Sized
+pub mod SomeFields
 pub mod Spans
 pub mod Stacking

@@ -20,6 +20,7 @@ mod link;
 pub mod lower;
 mod operands;
 mod pointers;
+pub mod ranges;
 mod rooms;
 mod site;
 mod sizes;
