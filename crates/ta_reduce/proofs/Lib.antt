@@ -1,4 +1,5 @@
 pub mod Classing
+pub mod Deterministic
 pub mod Fewer
 pub mod Joined
 pub mod Leads

@@ -18,7 +18,7 @@ use Rattle.ta_reduce.specs.inner.Leading.{KeepsLead}
 module _ (rules : List Rule) where
   mutual
     -- a state that takes part has a tree
-    part_tree : {q p : ℕ} {t : Tree} → PassesBy rules q p t → HasTree rules q
+    pub part_tree : {q p : ℕ} {t : Tree} → PassesBy rules q p t → HasTree rules q
     part_tree {t = t} (at_top e r) = (t, subst (λ (x : ℕ). RunOf rules x t) e r)
     part_tree (below r i e s o) = one_tree o
 

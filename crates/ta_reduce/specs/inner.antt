@@ -1,3 +1,4 @@
+pub mod Determinism
 pub mod Leading
 pub mod Smaller
 pub mod Thinned

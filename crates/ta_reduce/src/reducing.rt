@@ -11,6 +11,7 @@ ghost use Rattle.ta_core.specs.declared.tree.Tree.{Tree};
 ghost use Rattle.ta_reduce.specs.inner.Smaller.{IsGreatest, IsPreorder, IsSmaller, IsRound};
 
 use crate::classes::classes_of;
+use crate::determinism::is_deterministic;
 use crate::dropping::with_fewer_rules;
 use crate::joining::join;
 use crate::rooting::with_roots_once;
@@ -51,7 +52,7 @@ pub fn reduce<R: Threads + Sync, G: Gate>(
     with_roots_once(alloc, &made)
 }
 
-/// A trimmed automaton that has fewer states and rules, taken together; None where the automaton is reduced.
+/// A trimmed automaton that has fewer states and rules, taken together; None where the automaton is reduced. A deterministic one is, so no simulation is computed for it.
 fn round<R: Threads + Sync, G: Gate>(
     rt: &R,
     alloc: Global,
@@ -63,6 +64,9 @@ fn round<R: Threads + Sync, G: Gate>(
     ensures { IfOk result (λ next. MatchOption next (AutoReduced auto.now) (IsRound auto.now)) }
 {
     auto.known();
+    if is_deterministic(auto) {
+        return Ok(None);
+    }
     let relation = downward(rt, alloc, auto, crew)?;
     relation.known();
     match smaller(alloc, auto, &relation)? {

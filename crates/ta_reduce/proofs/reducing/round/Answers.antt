@@ -1,3 +1,4 @@
+use Rattle.ta_reduce.proofs.Deterministic.{deterministic_reduced}
 use Rattle.ta_reduce.proofs.Rounds.{round_from}
 use Rattle.ta_reduce.proofs.Tight.{greatest_from, greatest_preorder}
 use Rattle.ta_reduce.proofs.reducing.round.Goals as goal
@@ -13,3 +14,6 @@ returns-in-Some g c =
     let h = rw c.in-Some.is at c.in_ok-made.ensures in
     let t = c.in_ok-trimmed-in-Some.ensures in
     round_from c.args.auto.now c.in-Some.made c.in_ok-trimmed-in-Some.trimmed h c.known-in-Some-2.ensures t.language t.trim t.parts c.known-in-Some.ensures t.size
+
+pub returns-then-is_deterministic : goal.returns-then-is_deterministic
+returns-then-is_deterministic g c = deterministic_reduced c.args.auto.now c.known.ensures c.requires.trim (c.is_deterministic.ensures.0 c.if-is_deterministic.true)
