@@ -26,7 +26,5 @@ mod site;
 mod sizes;
 mod statements;
 mod sums;
-#[cfg(test)]
-mod tests;
 
 pub use crate::graph::{Const, DataArg, Edge, Graph, Instr, PtrArg};

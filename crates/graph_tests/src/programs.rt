@@ -1,5 +1,5 @@
-// Programs as the body of a `main`. Before it stand two lines: a struct `node` with the pointers `next` and `other` and the data `d` and `e`, and the
-// head of `main`. So the first line of the body is line 3.
+// Programs as the body of a `main`. Before it stand two lines: a struct `node` with the pointers `next`, `other` and `tag` and the data `d` and `e`, with
+// the struct of `tag`, and the head of `main`. So the first line of the body is line 3.
 ghost use Rattle.std.specs.Prelude.{◌≤◌, length};
 
 use c_front::program_in;
@@ -10,7 +10,7 @@ use std::alloc::Global;
 use std::test::Fail;
 
 const HEAD: &str =
-    "struct node { struct node *next; int d; struct node *other; int e; };\nint main(void) {\n";
+    "struct node { struct node *next; int d; struct node *other; int e; struct tag *tag; }; struct tag { int t; };\nint main(void) {\n";
 
 /// The program of a body; None where it is refused or too long.
 pub fn program_of(alloc: Global, body: &str) -> Result<Option<Typed>, Fail> {

@@ -1,13 +1,12 @@
-// Edges and loop heads as texts.
-
-use crate::counts::Counts;
-use crate::graph::{Const, DataArg, Edge, Instr, PtrArg};
-use crate::site::Site;
-use crate::tests::builder::{Token, body_of};
+// Edges, loop heads and sizes of graphs as texts.
+use crate::programs::program_of;
+use c_cfg::graph::{Const, DataArg, Edge, Graph, Instr, PtrArg};
+use c_cfg::lower::lower;
 use fore_base::list::List;
 use fore_base::memory::Mem;
 use fore_base::text::Text;
 use std::alloc::Global;
+use std::test::Fail;
 
 fn put_var(text: &mut Text, kind: &[u8], var: u32) -> Mem<()> {
     text.put(kind)?;
@@ -151,39 +150,44 @@ fn put_edge(text: &mut Text, edge: &Edge) -> Mem<()> {
     text.put(b";")
 }
 
-fn site(alloc: Global, exit: u32) -> Site {
-    Site {
-        alloc,
-        counts: Counts { ptrs: 2, datums: 1 },
-        exit,
+fn put_heads(text: &mut Text, graph: &Graph) -> Mem<()> {
+    for location in 0..graph.locations {
+        if graph.is_loop_head(location) {
+            put_var(text, b"head ", location)?;
+            text.put(b";")?;
+        }
     }
+    Ok(())
 }
 
-/// The edges of a program.
-pub fn edges_text(alloc: Global, tokens: &[Token]) -> Mem<Text> {
-    let body = body_of(alloc, tokens)?;
-    let exit = site(alloc, 0).all_room(body.as_slice())?;
-    let edges = site(alloc, exit).edges_of(body.as_slice())?;
+/// The edges and loop heads of the graph of a body; nothing where the body is refused.
+pub fn edges_text(alloc: Global, body: &str) -> Result<Text, Fail> {
     let mut text = Text::new(alloc);
-    for edge in edges.as_slice() {
+    let Some(program) = program_of(alloc, body)? else {
+        return Ok(text);
+    };
+    let graph = lower(alloc, &program)?;
+    for edge in graph.edges.as_slice() {
         put_edge(&mut text, edge)?;
     }
+    put_heads(&mut text, &graph)?;
     Ok(text)
 }
 
-/// The loop heads of a program.
-pub fn heads_text(alloc: Global, tokens: &[Token]) -> Mem<Text> {
-    let body = body_of(alloc, tokens)?;
-    let exit = site(alloc, 0).all_room(body.as_slice())?;
-    let entries = site(alloc, exit).head_entries(body.as_slice())?;
+/// How many locations, edges and variables the graph of a body has, and whether it has loops; nothing where the body is refused.
+pub fn sizes_text(alloc: Global, body: &str) -> Result<Text, Fail> {
     let mut text = Text::new(alloc);
-    let mut location = 0u64;
-    for is_head in entries.as_slice() {
-        if *is_head {
-            text.put_number(location)?;
-            text.put(b",")?;
-        }
-        location = location.wrapping_add(1);
+    let Some(program) = program_of(alloc, body)? else {
+        return Ok(text);
+    };
+    let graph = lower(alloc, &program)?;
+    put_var(&mut text, b"locations ", graph.locations)?;
+    text.put(b" edges ")?;
+    text.put_number(graph.edges.len() as u64)?;
+    put_var(&mut text, b" pointers ", graph.ptrs)?;
+    put_var(&mut text, b" data ", graph.datums)?;
+    if !graph.is_loop_free() {
+        text.put(b" loops")?;
     }
     Ok(text)
 }
