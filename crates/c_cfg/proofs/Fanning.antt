@@ -1,28 +1,26 @@
 -- The edges of a lowered program fan out from their locations, so a list of edges is read as a run.
-use Rattle.std.proofs.Common.{◌≡◌, ◌<◌, ℕ, ◌+◌, List, [], ◌∷◌, ◌++◌, Bool, true, false, not, if◌then◌else◌, inl, inr, refl, sym, ap, ◌∙◌, subst, length, Option, Some, None, Result, Ok, Err}
+use Rattle.std.proofs.Common.{◌≡◌, ℕ, ◌+◌, List, [], ◌∷◌, ◌++◌, Bool, true, false, if◌then◌else◌, inl, inr, refl, sym, ap, ◌∙◌, subst, length, Option, Some, None, Result, Ok, Err}
 use Rattle.fore_base.specs.declared.fault.Fault.{Fault as Kind}
 use Rattle.fore_base.specs.declared.shape.Shape.{Shape}
 use Rattle.fore_base.specs.declared.store.Store.{Store}
 use Rattle.fore_base.specs.Lists.{IsIn, Every}
 use Rattle.c_types.specs.declared.outcome.Outcome.{Outcome}
 use Rattle.c_types.specs.declared.outcome.Outcome.TheVariants.{Fault, StillRunning}
-use Rattle.c_types.specs.declared.program.Atom.{Atom}
 use Rattle.c_types.specs.declared.program.Atom.TheVariants.{Choice as ChoiceAtom, Known as KnownAtom, Ptr as PtrAtom, Data as DataAtom}
 use Rattle.c_types.specs.Program.{Program}
 use Rattle.c_types.specs.Control.{Items, Done, Do, Close, If, Loop, Again, DoLoop, DoAgain, Ask, Not, Both, Either}
 use Rattle.c_types.specs.Runs.{supply}
-use Rattle.c_types.specs.Steps.{agrees}
 use Rattle.c_cfg.specs.declared.graph.Instr.{Instr}
 use Rattle.c_cfg.specs.declared.graph.Instr.TheVariants.{Choose}
 use Rattle.c_cfg.specs.declared.graph.Edge.{Edge}
 use Rattle.c_cfg.specs.Graphs.{ControlGraph, has_choice}
 use Rattle.c_cfg.specs.Edges.{Pass, Passed, Faulted, Halted, NotPassed, onto, if_agreed, leak_tested, gstep}
 use Rattle.c_cfg.specs.GraphRuns.{out_of, is_taken_on, after_pass, leave}
-use Rattle.c_cfg.specs.Links.{Link, One, Two, ptr_test, data_test}
+use Rattle.c_cfg.specs.Links.{Link, One, Two}
 use Rattle.c_cfg.specs.Places.{places}
 use Rattle.c_cfg.specs.Lowering.{edge, link_edges, numbers, LowerOf}
 use Rattle.c_cfg.specs.Fans.{AreOpposed, first_out, second_out, one_fault, choice_list, used_by, IsFan, no_edge, one_edge, choices, test, GoesBy, AtMostOne}
-use Rattle.c_cfg.proofs.Leaving.{AtomGood, PlaceGood, PlaceLeads, each_location}
+use Rattle.c_cfg.proofs.Leaving.{PlaceGood, PlaceLeads, each_location}
 
 -- The two edges of a test
 

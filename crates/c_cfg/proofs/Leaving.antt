@@ -1,11 +1,10 @@
 -- What is so of the edges of each row is so of the edges that leave each location.
-use Rattle.std.proofs.Common.{◌≡◌, ◌<◌, ◌≤◌, ◌⊎◌, inl, inr, ℕ, zero, suc, List, [], ◌∷◌, ◌++◌, length, Bool, true, false, refl, sym, ap, ◌∙◌, subst, Some, None, arith}
-use Rattle.std.specs.List.{list_any}
-use Rattle.std.proofs.lemmas.Bool.{eqb-true, cases_lt}
+use Rattle.std.proofs.Common.{◌≡◌, ◌<◌, inl, inr, ℕ, zero, suc, List, [], ◌∷◌, ◌++◌, length, Bool, true, false, refl, sym, ◌∙◌, subst, Some, None, arith}
+use Rattle.std.proofs.lemmas.Bool.{cases_lt}
 use Rattle.std.specs.Prelude.{nat_eq}
 use Rattle.std.proofs.lemmas.List.Sorted.{list_any-IsPermutation}
 use Rattle.fore_base.specs.Lists.{IsIn, Every}
-use Rattle.fore_base.proofs.ListLemmas.{in_left, in_right, in_last, every_in, in_every, every_parts, every_append, every_weaker, number_in, in_number}
+use Rattle.fore_base.proofs.ListLemmas.{in_left, in_right, in_last, every_in, in_every, every_parts, every_append, number_in, in_number}
 use Rattle.c_types.specs.declared.program.Atom.{Atom}
 use Rattle.c_types.specs.declared.program.Atom.TheVariants.{Choice as ChoiceAtom, Known as KnownAtom, Ptr as PtrAtom, Data as DataAtom}
 use Rattle.c_types.specs.Program.{Program}
@@ -16,7 +15,7 @@ use Rattle.c_cfg.specs.declared.graph.Instr.TheVariants.{Kill, Choose}
 use Rattle.c_cfg.specs.declared.graph.Edge.{Edge}
 use Rattle.c_cfg.specs.Graphs.{ControlGraph}
 use Rattle.c_cfg.specs.GraphRuns.{out_of}
-use Rattle.c_cfg.specs.Links.{Link, One, Two, act_row, ptr_loads, ptr_test, ptr_ends, cmp_loads, data_test, data_ends}
+use Rattle.c_cfg.specs.Links.{Link, One, act_row, ptr_loads, ptr_test, ptr_ends, cmp_loads, data_test, data_ends}
 use Rattle.c_cfg.specs.Places.{test_places, places}
 use Rattle.c_cfg.specs.Lowering.{edge, link_edges, IsWay, but_last, IsWayOver, IsTestRow, IsRow, IsAtomRow, followed_by, numbers, LowerOf}
 use Rattle.c_cfg.proofs.Filling.{Filled, act_filled}

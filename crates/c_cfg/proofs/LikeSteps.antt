@@ -1,6 +1,6 @@
 -- Edges do the same to alike stores.
 use Rattle.std.proofs.Common.{◌≡◌, ◌<◌, ◌+◌, ◌⊎◌, inl, inr, ℕ, zero, suc, Bool, true, false, nat_eq, if◌then◌else◌, List, [], ◌∷◌, ◌++◌, length, map, replicate, slice_get, slice_set, slice_index_or, option_map, refl, sym, ap, ap₂, ◌∙◌, subst, arith, Option, Some, None, Result, Ok, Err}
-use Rattle.std.proofs.lemmas.Bool.{eqb-true, eqb-false, eq-eqb, cases_eq}
+use Rattle.std.proofs.lemmas.Bool.{eqb-true, eq-eqb, cases_eq}
 use Rattle.std.proofs.lemmas.List.{map-append, map-set}
 use Rattle.std.proofs.lemmas.Option.{slice_get-map}
 use Rattle.fore_base.specs.declared.fault.Fault.{Fault}
@@ -12,10 +12,10 @@ use Rattle.fore_base.specs.declared.store.Datum.{Datum}
 use Rattle.fore_base.specs.declared.store.Datum.TheVariants.{Undefined, Known}
 use Rattle.fore_base.specs.declared.store.CellRec.{CellRec}
 use Rattle.fore_base.specs.declared.store.Store.{Store}
-use Rattle.fore_base.specs.Lists.{IsIn, Every}
+use Rattle.fore_base.specs.Lists.{Every}
 use Rattle.fore_base.specs.Stores.{var_of, datum_of, set_var, set_datum, set_each, kill, followed, with_field, with_datum, dangle, dangle_in, without, grown, freed}
 use Rattle.fore_base.specs.Heap.{HasCell, NamesCell, AllDiffer, IsProper, leaks, value_renamed, cell_renamed, IsAlike}
-use Rattle.fore_base.specs.Shapes.{targets_of, datums_of}
+use Rattle.fore_base.specs.Shapes.{targets_of}
 use Rattle.c_types.specs.Steps.{same_values, same_datums, agrees, blank}
 use Rattle.c_cfg.specs.declared.graph.PtrArg.{PtrArg}
 use Rattle.c_cfg.specs.declared.graph.PtrArg.TheVariants.{Var as PtrVar, Null as PtrNull}
@@ -29,7 +29,7 @@ use Rattle.c_cfg.specs.declared.graph.Edge.{Edge}
 use Rattle.c_cfg.specs.Edges.{Pass, Passed, Faulted, Halted, NotPassed, arg_of, data_arg_of, field_of, datum_field_of, struct_of, target_of, same_struct, may_stand, onto, if_there, stored, stored_datum, stored_const, if_agreed, raw_step, leak_tested, choice_of, gstep}
 use Rattle.c_cfg.specs.Alike.{LikePass}
 use Rattle.c_cfg.proofs.Moving.{Moved, moved, permuted, back, moved_has, moved_differ, moved_front, find, moved_find, put, moved_put, moved_without}
-use Rattle.c_cfg.proofs.Properly.{Onward, var_named, field_named, without_has, raw_proper}
+use Rattle.c_cfg.proofs.Properly.{Onward, var_named, without_has, raw_proper}
 use Rattle.c_cfg.proofs.LeaksAlike.{leaks_alike}
 
 -- The words on cells as `find` and `put`

@@ -1,5 +1,5 @@
 -- Lists of the same items in another order, and what that leaves of cells.
-use Rattle.std.proofs.Common.{◌≡◌, ◌⊎◌, inl, inr, ℕ, zero, suc, ◌<◌, Bool, true, false, nat_eq, if◌then◌else◌, List, [], ◌∷◌, ◌++◌, map, length, slice_set, slice_index_or, swap, refl, sym, ap, ◌∙◌, subst, arith, not-suc-le-zero, le_of_suc-le-suc, IsPermutation}
+use Rattle.std.proofs.Common.{◌≡◌, inl, inr, ℕ, zero, suc, ◌<◌, Bool, true, false, nat_eq, if◌then◌else◌, List, [], ◌∷◌, ◌++◌, map, length, slice_set, slice_index_or, swap, refl, sym, ◌∙◌, arith, not-suc-le-zero, le_of_suc-le-suc, IsPermutation}
 use Rattle.std.proofs.lemmas.Bool.{eqb-true}
 use Rattle.std.proofs.lemmas.List.Sorted.{IsPermutation-keeps, IsPermutation-refl, IsPermutation-cons, IsPermutation-swap, IsPermutation-trans}
 use Rattle.fore_base.specs.declared.store.CellRec.{CellRec}

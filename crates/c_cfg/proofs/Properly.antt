@@ -1,6 +1,5 @@
 -- An edge keeps a store proper.
-use Rattle.std.proofs.Common.{◌≡◌, ◌<◌, ◌+◌, ◌⊎◌, inl, inr, ℕ, zero, suc, Bool, true, false, nat_eq, if◌then◌else◌, List, [], ◌∷◌, ◌++◌, length, map, replicate, slice_get, slice_set, slice_index_or, refl, sym, ap, ◌∙◌, subst, Option, Some, None, Result, Ok, Err}
-use Rattle.std.proofs.lemmas.Bool.{eqb-true, eq-eqb, eqb-false}
+use Rattle.std.proofs.Common.{◌≡◌, ◌+◌, inl, inr, ℕ, zero, suc, Bool, true, false, nat_eq, if◌then◌else◌, List, [], ◌∷◌, ◌++◌, length, map, slice_get, slice_set, slice_index_or, refl, sym, subst, Option, Some, None, Result, Ok, Err}
 use Rattle.fore_base.specs.declared.fault.Fault.{Fault}
 use Rattle.fore_base.specs.declared.fault.Fault.TheVariants.{Leak}
 use Rattle.fore_base.specs.declared.shape.Shape.{Shape}
@@ -12,7 +11,7 @@ use Rattle.fore_base.specs.declared.store.CellRec.{CellRec}
 use Rattle.fore_base.specs.declared.store.Store.{Store}
 use Rattle.fore_base.specs.Lists.{Every}
 use Rattle.fore_base.specs.Stores.{var_of, datum_of, set_var, set_datum, set_each, kill, followed, with_field, with_datum, dangle, dangle_in, without, grown, freed}
-use Rattle.fore_base.specs.Heap.{HasCell, NamesCell, AllDiffer, IsProper, leaks}
+use Rattle.fore_base.specs.Heap.{HasCell, NamesCell, IsProper, leaks}
 use Rattle.fore_base.proofs.ListLemmas.{every_set, every_copy, every_append, every_weaker}
 use Rattle.fore_base.specs.Shapes.{targets_of}
 use Rattle.c_types.specs.Steps.{agrees, blank}
@@ -20,12 +19,11 @@ use Rattle.c_types.specs.Runs.{empty_store}
 use Rattle.c_types.proofs.CellsKept.{heads_with, heads_with_datum, heads_differ, heads_below, without_differ, without_below, append_differ, append_below}
 use Rattle.c_cfg.specs.declared.graph.PtrArg.{PtrArg}
 use Rattle.c_cfg.specs.declared.graph.PtrArg.TheVariants.{Var as PtrVar, Null as PtrNull}
-use Rattle.c_cfg.specs.declared.graph.Const.{Const}
 use Rattle.c_cfg.specs.declared.graph.Const.TheVariants.{Null as ConstNull, Known as ConstKnown}
 use Rattle.c_cfg.specs.declared.graph.Instr.{Instr}
 use Rattle.c_cfg.specs.declared.graph.Instr.TheVariants.{CopyPtr, LoadPtr, StorePtr, StoreConst, New, Free, Kill, CopyData, LoadData, StoreData, TestPtr, TestData, Choose, Stop}
 use Rattle.c_cfg.specs.declared.graph.Edge.{Edge}
-use Rattle.c_cfg.specs.Edges.{Pass, Passed, Faulted, Halted, NotPassed, arg_of, field_of, datum_field_of, may_stand, onto, if_there, stored, stored_datum, stored_const, if_agreed, raw_step, leak_tested, choice_of, gstep}
+use Rattle.c_cfg.specs.Edges.{Pass, Passed, Faulted, Halted, NotPassed, arg_of, field_of, datum_field_of, may_stand, onto, if_there, stored, stored_datum, if_agreed, raw_step, leak_tested, choice_of, gstep}
 
 -- where an edge passes, P holds of what it passes to
 abbrev pub Onward : (Store → Type 0) → Pass → Type 0

@@ -1,6 +1,6 @@
 -- Each number of an edge of a lowered program is in range.
-use Rattle.std.proofs.Common.{◌≡◌, ◌<◌, ◌≤◌, ◌+◌, ◌⊎◌, inl, inr, ℕ, zero, suc, Bool, true, false, true≢false, ◌&&◌, List, [], ◌∷◌, ◌++◌, length, map, refl, sym, ap, ◌∙◌, subst, arith, Option, Some, None, is_some, slice_get}
-use Rattle.std.specs.Prelude.{nat_lt, nat_le, nat_eq, if◌then◌else◌}
+use Rattle.std.proofs.Common.{◌≡◌, ◌<◌, ◌≤◌, ◌+◌, inl, inr, ℕ, zero, suc, Bool, true, false, true≢false, List, [], ◌∷◌, ◌++◌, length, refl, sym, ap, subst, arith, Option, Some, None, is_some}
+use Rattle.std.specs.Prelude.{nat_eq, if◌then◌else◌}
 use Rattle.std.proofs.lemmas.Bool.{and_parts, ltb-true, leb-true, eq-eqb, eqb-true}
 use Rattle.fore_base.specs.declared.limits.TheConstants.{DATUM}
 use Rattle.fore_base.specs.declared.shape.Shape.{Shape}
@@ -20,7 +20,6 @@ use Rattle.c_types.specs.declared.program.PtrOp.{PtrOp}
 use Rattle.c_types.specs.declared.program.PtrOp.TheVariants.{Path as OpPath, Null as OpNull}
 use Rattle.c_types.specs.declared.program.DataOp.{DataOp}
 use Rattle.c_types.specs.declared.program.DataOp.TheVariants.{Path as DataOpPath, Known as DataOpKnown}
-use Rattle.c_types.specs.declared.program.Atom.{Atom}
 use Rattle.c_types.specs.declared.program.Atom.TheVariants.{Choice as ChoiceAtom, Known as KnownAtom, Ptr as PtrAtom, Data as DataAtom}
 use Rattle.c_types.specs.declared.program.VarDef.{VarDef}
 use Rattle.c_types.specs.Program.{Program, path_target, data_typed, data_rhs_typed, returned_typed, ops_typed, data_op_typed, has_datum, is_target, both_targets, is_typed}
@@ -31,15 +30,14 @@ use Rattle.c_types.proofs.CellsFit.{IsAt}
 use Rattle.c_types.proofs.Fitting.{Leads, PathLeads, path_leads, path_below}
 use Rattle.c_types.proofs.ItemsTyped.{has_shapes_typed, has_vars_typed}
 use Rattle.c_cfg.specs.declared.graph.Instr.{Instr}
-use Rattle.c_cfg.specs.declared.graph.Instr.TheVariants.{Kill, Choose, LoadPtr}
-use Rattle.c_cfg.specs.declared.graph.PtrArg.TheVariants.{Null as PtrNull}
+use Rattle.c_cfg.specs.declared.graph.Instr.TheVariants.{Kill, Choose}
 use Rattle.c_cfg.specs.declared.graph.Edge.{Edge}
-use Rattle.c_cfg.specs.Graphs.{ControlGraph, has_choice, is_choose, HasItsChoice}
+use Rattle.c_cfg.specs.Graphs.{ControlGraph, is_choose}
 use Rattle.c_cfg.specs.GraphRuns.{out_of}
-use Rattle.c_cfg.specs.Links.{Link, One, Two, loads, holder, used, loads_but_last, ends, data_loads, data_holder, base_used, data_used, op_loads, op_arg, op_used, data_op_loads, data_op_arg, op_base_used, op_data_used, var_row, path_row, ptr_row, data_var_row, data_field_row, data_row, return_row, act_row, ptr_loads, ptr_test, ptr_ends, cmp_loads, data_test, data_ends}
+use Rattle.c_cfg.specs.Links.{Link, One, Two, loads, holder, used, loads_but_last, ends, data_loads, data_holder, base_used, data_used, op_loads, op_arg, op_used, data_op_loads, data_op_arg, op_base_used, op_data_used, var_row, path_row, ptr_row, data_var_row, data_field_row, data_row, return_row, act_row}
 use Rattle.c_cfg.specs.Places.{places}
 use Rattle.c_cfg.specs.Lowering.{edge, link_edges, LowerOf}
-use Rattle.c_cfg.specs.Ranges.{IsPtrField, IsDataField, ChoiceFits, PtrArgFits, DataArgFits, ConstFits, InstrFits, EdgeFits, IsEdgeOf}
+use Rattle.c_cfg.specs.Ranges.{IsPtrField, IsDataField, PtrArgFits, DataArgFits, InstrFits, EdgeFits, IsEdgeOf}
 use Rattle.c_cfg.proofs.Leaving.{below_in, all_below, PlaceGood, each_location, exit_below, places_below}
 use Rattle.c_cfg.proofs.Landing.{places_lead}
 use Rattle.c_cfg.proofs.Ranged.{numbers_below, Ranged, start_ranged, unmarked, places_ranged, closed_ptrs_below, closed_datums_below}

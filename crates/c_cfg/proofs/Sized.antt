@@ -1,5 +1,5 @@
 -- How many edges acts and tests have, by the lengths of their paths.
-use Rattle.std.proofs.Common.{◌≡◌, ℕ, zero, suc, ◌+◌, ◌<◌, List, [], ◌∷◌, ◌++◌, length, Bool, refl, sym, ap, ◌∙◌, arith, Option, Some, None}
+use Rattle.std.proofs.Common.{◌≡◌, ℕ, zero, suc, ◌+◌, ◌<◌, List, [], ◌∷◌, ◌++◌, length, refl, sym, ap, ◌∙◌, arith, Option, Some, None}
 use Rattle.std.specs.Prelude.{pred}
 use Rattle.c_types.specs.declared.program.Path.{Path}
 use Rattle.c_types.specs.declared.program.DataPath.{DataPath}
@@ -21,10 +21,10 @@ use Rattle.c_cfg.specs.declared.graph.Instr.{Instr}
 use Rattle.c_cfg.specs.declared.graph.Instr.TheVariants.{LoadPtr, StorePtr, StoreConst, Free, Kill, StoreData}
 use Rattle.c_cfg.specs.declared.graph.Const.TheVariants.{Null as ConstNull, Known as ConstKnown}
 use Rattle.c_types.specs.Steps.{below}
-use Rattle.c_cfg.specs.Links.{Link, One, loads, holder, used, loads_but_last, ends, data_loads, base_used, data_used, op_loads, op_used, data_op_loads, op_base_used, op_data_used, var_row, path_row, ptr_row, data_var_row, data_field_row, data_row, return_row, act_row, ptr_loads, ptr_ends, cmp_loads, data_ends}
+use Rattle.c_cfg.specs.Links.{Link, One, loads, holder, used, loads_but_last, ends, data_loads, op_loads, op_used, data_op_loads, op_base_used, op_data_used, var_row, path_row, ptr_row, data_var_row, data_field_row, data_row, return_row, act_row}
 use Rattle.c_cfg.specs.inner.Numbering.{act_width, atom_width}
 use Rattle.c_cfg.proofs.Filling.{filled_length, act_filled}
-use Rattle.c_cfg.specs.inner.Sizes.{end_size, step_size, path_size, var_size, field_size, ptr_size, read_size, datum_size, data_var_size, data_field_size, data_size, return_size, act_size, op_size, data_op_size, atom_size}
+use Rattle.c_cfg.specs.inner.Sizes.{end_size, path_size, var_size, field_size, ptr_size, read_size, data_var_size, data_field_size, data_size, return_size, act_size, op_size, data_op_size, atom_size}
 
 -- Parts
 

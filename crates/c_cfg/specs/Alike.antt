@@ -1,6 +1,5 @@
 -- What edges do to alike stores.
 use Rattle.std.specs.Prelude.{◌≡◌, ℕ, [], replicate}
-use Rattle.fore_base.specs.declared.fault.Fault.{Fault}
 use Rattle.fore_base.specs.declared.store.Value.TheVariants.{Uninit}
 use Rattle.fore_base.specs.declared.store.Datum.TheVariants.{Undefined}
 use Rattle.fore_base.specs.declared.store.Store.{Store}

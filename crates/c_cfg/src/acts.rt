@@ -1,5 +1,5 @@
 // The links of acts.
-ghost use Rattle.std.specs.Prelude.{◌≡◌, ◌+◌, ◌++◌, ◌∷◌, [], OnOk, IfOk};
+ghost use Rattle.std.specs.Prelude.{◌≡◌, ◌+◌, ◌++◌, OnOk, IfOk};
 ghost use Rattle.c_types.specs.Steps.{below};
 ghost use Rattle.c_cfg.specs.inner.Counted.{links_of, round_links, return_links, end_links};
 

@@ -1,5 +1,5 @@
 // Edges from links.
-ghost use Rattle.std.specs.Prelude.{◌≡◌, ◌≤◌, ◌+◌, ◌^◌, ◌++◌, ◌∷◌, [], Option, None, Some, ℕ, length, OnOk};
+ghost use Rattle.std.specs.Prelude.{◌≡◌, ◌+◌, ◌++◌, ◌∷◌, [], None, Some, OnOk};
 ghost use Rattle.c_cfg.specs.Lowering.{edge, link_edges};
 ghost use Rattle.c_cfg.specs.inner.Numbering.{chain};
 

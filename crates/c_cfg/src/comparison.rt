@@ -1,5 +1,5 @@
 // The edges of comparisons.
-ghost use Rattle.std.specs.Prelude.{◌≡◌, ◌++◌, ◌∷◌, [], true, false, None, OnOk, IfOk};
+ghost use Rattle.std.specs.Prelude.{◌≡◌, ◌++◌, true, false, OnOk, IfOk};
 ghost use Rattle.c_cfg.specs.inner.Counted.{data_op_links};
 ghost use Rattle.c_cfg.specs.inner.Comparing.{test_of, ptr_parts, data_parts, parts_edges, tests_of, end_of};
 

@@ -1,5 +1,5 @@
 // Laws of control graphs: each is the contract of a function that does nothing.
-ghost use Rattle.std.specs.Prelude.{◌≡◌, ℕ, List, not};
+ghost use Rattle.std.specs.Prelude.{◌≡◌, ℕ, not};
 ghost use Rattle.std.specs.List.{list_all};
 ghost use Rattle.c_cfg.specs.Agreement.{Agrees};
 ghost use Rattle.c_cfg.specs.Lowering.{LowerOf};

@@ -1,5 +1,5 @@
 // How many locations statements take.
-ghost use Rattle.std.specs.Prelude.{◌≡◌, ◌+◌, IfOk};
+ghost use Rattle.std.specs.Prelude.{◌≡◌, IfOk};
 ghost use Rattle.c_cfg.specs.inner.Emitting.{close_width};
 ghost use Rattle.c_cfg.specs.inner.Sites.{act_room, stmt_room, room as all_room};
 

@@ -16,7 +16,7 @@ use Rattle.c_grammar.specs.inner.Sets.{Signs, among, no_sign, equals, begins_nes
 use Rattle.c_grammar.specs.inner.Shapes.{StaysOut, two_sides, a_comparison, a_test, next_test, next_and}
 use Rattle.c_grammar.specs.Signs.{sign_of, sign_at, or_on}
 use Rattle.c_grammar.specs.Syntax as s
-use Rattle.c_grammar.specs.Syntax.{at, at_of, operand, unary, inner_unary, test_with, and_with, cond, sides, compared_part, test_of, series, joined, second, optional, not_of, bracket_of, and_of, cond_of}
+use Rattle.c_grammar.specs.Syntax.{at, operand, unary, inner_unary, test_with, and_with, cond, sides, test_of, joined, second, optional, not_of, bracket_of, and_of, cond_of}
 use Rattle.c_grammar.specs.declared.fault.SyntaxFault.{SyntaxFault}
 use Rattle.c_grammar.specs.declared.fault.SyntaxFault.TheVariants.{Syntax, Deep}
 use Rattle.c_grammar.specs.declared.signs.Sign.{Sign}

@@ -19,9 +19,9 @@ use Rattle.c_ast.specs.declared.statements.Stmt.TheVariants as stmt'
 use Rattle.c_grammar.specs.Grammar.{Part, Rule, token, empty, ◌then◌, unless, level}
 use Rattle.c_grammar.specs.Hopeless.{IsWhole}
 use Rattle.c_grammar.specs.Items as i
-use Rattle.c_grammar.specs.Items.{head, structdef, enumdef, proto, item, unit}
+use Rattle.c_grammar.specs.Items.{head, item, unit}
 use Rattle.c_grammar.specs.Syntax as s
-use Rattle.c_grammar.specs.Syntax.{at, name, path, second, first, optional, series, arguments, argument, call_with, call, operand, literal_part, size, cast, bracketed, rhs, simple, sides, cond, unary, nested_unary, inner_unary, and_with, cond_with, test_with, data_part, declarator, declare, flat_stmt, nested_stmt, other_part, first_part, block_with, stmt, inner_block, block}
+use Rattle.c_grammar.specs.Syntax.{at, name, path, first, optional, arguments, argument, call_with, call, operand, literal_part, size, cast, bracketed, rhs, simple, sides, cond, unary, nested_unary, inner_unary, and_with, cond_with, test_with, data_part, declarator, declare, flat_stmt, nested_stmt, other_part, first_part, block_with, stmt, block}
 use Rattle.c_grammar.specs.declared.signs.Sign.TheVariants as sign
 use Rattle.c_grammar.proofs.Conditions.{same_unary}
 use Rattle.c_grammar.proofs.Depth.{Deep, zero_le, deep_flat, deep_both, deep_made, deep_or, deep_many, deep_level, deep_same, deep_fix, deep_token, deep_bracketed, deep_after, deep_optional, deep_series}

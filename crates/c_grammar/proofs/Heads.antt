@@ -4,7 +4,7 @@ use Rattle.c_ast.specs.declared.statements.Stmt.{Stmt}
 use Rattle.c_ast.specs.declared.statements.Stmt.TheVariants as stmt'
 use Rattle.c_grammar.specs.Grammar.{Rule, token, ◌then◌, Made}
 use Rattle.c_grammar.specs.Syntax as s
-use Rattle.c_grammar.specs.Syntax.{at, middle, bracketed, optional, cond, declare, simple, first_part, stmt, other_part}
+use Rattle.c_grammar.specs.Syntax.{at, middle, bracketed, optional, cond, declare, simple, first_part, stmt}
 use Rattle.c_grammar.specs.declared.signs.Sign.TheVariants as sign
 use Rattle.c_grammar.specs.inner.Parted.{HeadOfFor, for_head, for_head_of}
 use Rattle.c_grammar.specs.inner.Faults.{Alive}

@@ -4,7 +4,7 @@ use Rattle.c_ast.specs.declared.items.Params.TheVariants as params'
 use Rattle.c_ast.specs.declared.items.ReturnType.TheVariants as return'
 use Rattle.c_grammar.specs.Grammar.{token, ◌then◌, Many, Made}
 use Rattle.c_grammar.specs.Items as i
-use Rattle.c_grammar.specs.Items.{some, field, star_name, braced_fields, more_names, Enumerated, enum_body, rtype, param, params, closed_params, head, head_of, item, unit}
+use Rattle.c_grammar.specs.Items.{some, field, star_name, braced_fields, enum_body, rtype, param, params, closed_params, head, head_of}
 use Rattle.c_grammar.specs.Syntax.{at, name, second, middle, joined, optional, series, declarator, block}
 use Rattle.c_grammar.specs.inner.Sets.{among, no_sign, names, opens, commas, elses, begins_declare}
 use Rattle.c_grammar.specs.declared.signs.Sign.TheVariants as sign

@@ -9,7 +9,7 @@ use Rattle.c_grammar.specs.Grammar.{Rule, Many}
 use Rattle.c_grammar.specs.Hopeless.{place_at}
 use Rattle.c_grammar.specs.Signs.{or_on, same_sign, sign_of, sign_at}
 use Rattle.c_grammar.specs.Syntax as s
-use Rattle.c_grammar.specs.Syntax.{at, at_of, cond, stmt, flat_stmt}
+use Rattle.c_grammar.specs.Syntax.{at, cond, stmt}
 use Rattle.c_grammar.specs.declared.fault.SyntaxFault.TheVariants.{Deep}
 use Rattle.c_grammar.specs.declared.signs.Sign.{Sign}
 use Rattle.c_grammar.specs.declared.signs.Sign.TheVariants as sign

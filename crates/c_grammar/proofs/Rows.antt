@@ -24,10 +24,10 @@ use Rattle.c_grammar.specs.Grammar.{◌then◌}
 use Rattle.c_grammar.specs.Grammar.Many.{none, more}
 use Rattle.c_grammar.specs.Hopeless.{opener}
 use Rattle.c_grammar.specs.Items as i
-use Rattle.c_grammar.specs.Items.{item, unit}
+use Rattle.c_grammar.specs.Items.{item}
 use Rattle.c_grammar.specs.Signs.{sign_of, sign_at}
 use Rattle.c_grammar.specs.Syntax as s
-use Rattle.c_grammar.specs.Syntax.{at, at_of, name, name_of, path, bracketed, middle, second, joined, operand, cond, rhs, stmt}
+use Rattle.c_grammar.specs.Syntax.{at, name, name_of, path, bracketed, middle, second, joined, operand, cond, rhs, stmt}
 use Rattle.c_grammar.specs.declared.signs.Sign.TheVariants as sign
 use Rattle.c_grammar.specs.inner.Sets.{among, begins_operand}
 use Rattle.c_grammar.proofs.Goods.{good_operand}

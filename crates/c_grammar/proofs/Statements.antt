@@ -21,7 +21,7 @@ use Rattle.c_grammar.specs.Grammar.{Part, Rule, token, empty, ◌then◌, ◌or�
 use Rattle.c_grammar.specs.inner.Sets.{Signs, among, no_sign, arrows, names, opens, commas, elses, operand_goes_on, test_goes_on, and_goes_on, cond_goes_on, begins_nested, equals, begins_operand, begins_rhs, begins_simple, begins_cond, begins_declare, begins_stmt}
 use Rattle.c_grammar.specs.Signs.{sign_at, or_on}
 use Rattle.c_grammar.specs.Syntax as s
-use Rattle.c_grammar.specs.Syntax.{at, name, path, arrow, operand, call, rhs, size, cast, simple, data_part, declarator, declare, bracketed, middle, second, first, optional, series, joined, arguments, argument, cond_with, test_with, unary, nested_unary, inner_unary, and_with, sides, test_of, compared_part, cond, flat_stmt, nested_stmt, stmt, block_with, other_part, first_part, inner_block}
+use Rattle.c_grammar.specs.Syntax.{at, name, path, arrow, operand, rhs, size, cast, simple, data_part, declarator, declare, bracketed, middle, second, first, optional, series, joined, arguments, argument, cond_with, test_with, unary, nested_unary, inner_unary, sides, test_of, compared_part, cond, flat_stmt, nested_stmt, stmt, block_with, other_part, first_part, inner_block}
 use Rattle.c_grammar.specs.declared.signs.Sign.TheVariants as sign
 use Rattle.c_grammar.proofs.Decide.{apart_of}
 use Rattle.c_grammar.proofs.Fix.{good_fix}

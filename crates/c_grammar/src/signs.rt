@@ -2,7 +2,7 @@
 
 ghost use Rattle.std.specs.Prelude.{◌≡◌, nat_eq, drop};
 ghost use Rattle.std.specs.Cmp.Lexicographic.{pointwise};
-ghost use Rattle.c_grammar.specs.Signs.{sign_in, sign_as, reserved, marks};
+ghost use Rattle.c_grammar.specs.Signs.{sign_in, reserved, marks};
 ghost use Rattle.c_grammar.specs.Signs as spec;
 ghost use Rattle.c_grammar.specs.declared.signs.Sign.TheVariants.{Id, Other};
 

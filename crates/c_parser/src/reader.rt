@@ -1,5 +1,5 @@
 // What the parser knows of the tokens that are left.
-ghost use Rattle.std.specs.Prelude.{suc, ◌≡◌, ◌≢◌, ◌<◌, [], ◌∷◌, ◌↔◌, IfOk, IfErr, IsTrue, length};
+ghost use Rattle.std.specs.Prelude.{suc, ◌≡◌, ◌≢◌, ◌<◌, [], ◌∷◌, ◌↔◌, IfOk, IfErr, IsTrue};
 ghost use Rattle.c_grammar.specs.Hopeless.{place_at};
 ghost use Rattle.c_grammar.specs.Signs as spec;
 ghost use Rattle.c_grammar.specs.Signs.{sign_at};

@@ -1,5 +1,5 @@
 -- What is made of the tokens that a part takes, and that it is no more than those tokens.
-use Rattle.std.proofs.Common.{◌≡◌, ◌≤◌, ◌<◌, ◌+◌, ◌⊎◌, inl, inr, ℕ, List, [], ◌∷◌, length, refl, ap, subst, sym, arith, Option, Some, None}
+use Rattle.std.proofs.Common.{◌≡◌, ◌≤◌, ◌+◌, inl, inr, ℕ, List, [], ◌∷◌, length, refl, ap, subst, sym, arith, Option, Some, None}
 use Rattle.c_lexer.specs.declared.token.Token.{Token}
 use Rattle.c_grammar.specs.Grammar.{Part, token, empty, nowhere, ◌then◌, ◌or◌, Many, none, more, Made, unless}
 use Rattle.c_grammar.specs.Syntax as s

@@ -1,5 +1,5 @@
 -- Parts of rules leave no more tokens than there were.
-use Rattle.std.proofs.Common.{◌≡◌, ◌≤◌, ◌<◌, ◌⊎◌, inl, inr, ℕ, zero, suc, List, [], ◌∷◌, length, ap, arith, Some, None}
+use Rattle.std.proofs.Common.{◌≤◌, ◌<◌, inl, inr, ℕ, zero, suc, List, [], ◌∷◌, length, ap, arith, Some, None}
 use Rattle.c_ast.specs.declared.operands.Call.{Call}
 use Rattle.c_ast.specs.declared.operands.Operand.{Operand}
 use Rattle.c_ast.specs.declared.operands.Operand.TheVariants as operand'

@@ -1,5 +1,5 @@
 -- What a file's program has of acts, atoms and Closes is no more than the tokens that the rules of the grammar take.
-use Rattle.std.proofs.Common.{◌≡◌, ◌≤◌, ◌+◌, ◌⊎◌, inl, inr, ℕ, zero, suc, Bool, true, false, cond, List, [], ◌∷◌, ◌++◌, map, length, refl, ap, subst, sym, ◌∙◌, arith, Option, Some, None}
+use Rattle.std.proofs.Common.{◌≡◌, ◌≤◌, ◌+◌, ℕ, zero, suc, Bool, true, false, cond, List, [], ◌∷◌, ◌++◌, map, length, refl, ap, subst, sym, ◌∙◌, arith, Option, Some, None}
 use Rattle.std.proofs.lemmas.List.{map-append}
 use Rattle.fore_base.specs.declared.place.Place.{Place}
 use Rattle.c_lexer.specs.declared.token.Token.{Token}
@@ -22,7 +22,6 @@ use Rattle.c_ast.specs.declared.simples.Simple.TheVariants as simple'
 use Rattle.c_ast.specs.declared.statements.Block.{Block}
 use Rattle.c_ast.specs.declared.statements.Declarator.{Declarator}
 use Rattle.c_ast.specs.declared.statements.Declare.{Declare}
-use Rattle.c_ast.specs.declared.statements.Declare.TheVariants as declare'
 use Rattle.c_ast.specs.declared.statements.First.{First}
 use Rattle.c_ast.specs.declared.statements.First.TheVariants as first'
 use Rattle.c_ast.specs.declared.statements.Part as part
@@ -31,16 +30,15 @@ use Rattle.c_ast.specs.declared.statements.Stmt as stmts
 use Rattle.c_ast.specs.declared.statements.Stmt.TheVariants as stmt'
 use Rattle.c_types.proofs.Layers as layer
 use Rattle.fore_base.specs.Lists.{sum_of}
-use Rattle.c_types.specs.OneWay.{parts_atoms, cond_atoms, closes_of, stmt_size, most_steps}
+use Rattle.c_types.specs.OneWay.{cond_atoms, closes_of, stmt_size, most_steps}
 use Rattle.c_types.specs.Program.{Program}
 use Rattle.c_types.specs.declared.program.Atom.TheVariants as atom
-use Rattle.c_types.specs.declared.program.Cond as formula
 use Rattle.c_types.specs.declared.program.Act.{Act}
 use Rattle.c_types.specs.declared.program.Act.TheVariants.{Error}
 use Rattle.c_types.specs.declared.program.Stmt.{Stmt}
 use Rattle.c_types.specs.declared.program.Stmt.TheVariants.{Do}
 use Rattle.c_grammar.specs.declared.signs.Sign.{Sign}
-use Rattle.c_grammar.specs.Grammar.{Part, Rule, token, empty, ◌then◌, ◌or◌, Many, Made}
+use Rattle.c_grammar.specs.Grammar.{Part, token, empty, ◌then◌, ◌or◌, Made}
 use Rattle.c_grammar.specs.Items as i
 use Rattle.c_grammar.specs.Syntax as s
 use Rattle.c_grammar.specs.Units.{IsUnit}
@@ -54,8 +52,8 @@ use Rattle.c_typing.specs.Programs.{assignment, call_act, freed, comparison, tru
 use Rattle.c_typing.specs.Scopes.{Scope, innermost, past_parts, opened, declared, empty_scope, kind_of, past_part, past_stmt, past_declare}
 use Rattle.c_typing.specs.declared.meaning.Kind.{Kind}
 use Rattle.c_typing.specs.declared.meaning.Meaning.{Meaning}
-use Rattle.c_sizes.proofs.Costs.{Claim, Cost, Costs, Nothing, OneThing, Both, Each, no_more, one_more, Maybe, costs_nothing, costs_one, costs_both, costs_or, costs_made, costs_many, costs_empty, costs_nowhere, costs_unless, costs_token, costs_bracketed, costs_after, costs_series, costs_optional, moved}
-use Rattle.c_sizes.proofs.Eating.{Shrinks, Eats, shrinks, eats_at, eats_token, shrinks_empty, shrinks_both, shrinks_or, shrinks_made, shrinks_many, shrinks_optional, shrinks_series, eats_bracketed, eats_name, eats_operand, eats_simple, shrinks_rhs, shrinks_data}
+use Rattle.c_sizes.proofs.Costs.{Claim, Costs, Nothing, OneThing, Both, Each, no_more, one_more, Maybe, costs_nothing, costs_one, costs_both, costs_or, costs_made, costs_many, costs_empty, costs_nowhere, costs_unless, costs_token, costs_bracketed, costs_after, costs_series, costs_optional, moved}
+use Rattle.c_sizes.proofs.Eating.{Shrinks, shrinks, eats_at, eats_token, shrinks_both, shrinks_or, shrinks_made, shrinks_many, shrinks_optional, shrinks_series, eats_bracketed, eats_name, eats_operand, eats_simple, shrinks_rhs, shrinks_data}
 
 abbrev size_of : List Stmt → ℕ
 size_of ss = sum_of (map stmt_size ss)

@@ -1,6 +1,5 @@
 // Programs as the body of a `main`. Before it stand two lines: a struct `node` with the pointers `next`, `other` and `tag` and the data `d` and `e`, with
 // the struct of `tag`, and the head of `main`. So the first line of the body is line 3.
-ghost use Rattle.std.specs.Prelude.{◌≤◌, length};
 
 use c_front::program_in;
 use c_types::program::Typed;

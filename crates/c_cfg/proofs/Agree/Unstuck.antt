@@ -40,7 +40,7 @@ use Rattle.c_cfg.proofs.Agree.ActTurns.{turn_pass, stop_of, kill_passes, act_pas
 use Rattle.c_cfg.proofs.Agree.Reading.{sound_sized}
 use Rattle.c_cfg.proofs.Agree.Ways.{AreOnes, TakesAs}
 use Rattle.c_cfg.proofs.Agree.LinksOnes.{ends_ones, ptr_ones, cmp_ones, act_row_takes}
-use Rattle.c_cfg.proofs.Agree.StepsAlike.{IsKnown, side, each_followed}
+use Rattle.c_cfg.proofs.Agree.StepsAlike.{IsKnown, each_followed}
 use Rattle.c_cfg.proofs.Agree.Simulated.{Ready, next_ready, front_of}
 use Rattle.c_cfg.proofs.Agree.Agreed.{first, rowed, ready, begins}
 

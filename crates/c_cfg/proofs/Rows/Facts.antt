@@ -1,19 +1,18 @@
 -- Rows on fans, on numbers in range, and on what edges do to alike stores.
-use Rattle.std.proofs.Common.{◌≡◌, ◌<◌, ◌≤◌, ℕ, true, false, Some, None, List, [], ◌∷◌, refl, arith}
+use Rattle.std.proofs.Common.{◌≡◌, true, Some, None, List, [], ◌∷◌, refl, arith}
 use Rattle.fore_base.specs.declared.fault.Fault.TheVariants.{NullDeref, UninitDeref}
-use Rattle.fore_base.specs.declared.store.Value.TheVariants.{Null, Uninit, Cell}
+use Rattle.fore_base.specs.declared.store.Value.TheVariants.{Null, Uninit}
 use Rattle.fore_base.specs.declared.store.Datum.TheVariants.{Undefined}
-use Rattle.fore_base.specs.declared.store.Store.{Store}
 use Rattle.fore_base.specs.Heap.{leaks}
 use Rattle.c_cfg.specs.declared.graph.PtrArg.TheVariants.{Var as PtrVar, Null as PtrNull}
-use Rattle.c_cfg.specs.declared.graph.DataArg.TheVariants.{Var as ArgVar, Known as ArgKnown}
-use Rattle.c_cfg.specs.declared.graph.Const.TheVariants.{Null as ConstNull, Known as ConstKnown}
+use Rattle.c_cfg.specs.declared.graph.DataArg.TheVariants.{Known as ArgKnown}
+use Rattle.c_cfg.specs.declared.graph.Const.TheVariants.{Known as ConstKnown}
 use Rattle.c_cfg.specs.declared.graph.Instr.{Instr}
-use Rattle.c_cfg.specs.declared.graph.Instr.TheVariants.{CopyPtr, LoadPtr, StoreConst, New, Kill, CopyData, LoadData, Choose, Stop}
+use Rattle.c_cfg.specs.declared.graph.Instr.TheVariants.{CopyPtr, LoadPtr, StoreConst, New, Kill, CopyData, Choose, Stop}
 use Rattle.c_cfg.specs.declared.graph.Edge.{Edge}
 use Rattle.c_cfg.specs.Edges.{Passed, Faulted, Halted, NotPassed}
 use Rattle.c_cfg.specs.Lowering.{edge}
-use Rattle.c_cfg.specs.Fans.{AreOpposed, first_out, second_out, one_fault, IsFan, no_edge, one_edge, choices, test}
+use Rattle.c_cfg.specs.Fans.{AreOpposed, first_out, second_out, one_fault, IsFan, one_edge, choices, test}
 use Rattle.c_cfg.specs.Ranges.{InstrFits, EdgeFits}
 use Rattle.c_cfg.specs.Alike.{LikePass, IsUnset}
 use Rattle.c_cfg.proofs.Rows.Forms.{two, store}

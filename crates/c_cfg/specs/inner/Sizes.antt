@@ -1,6 +1,5 @@
 -- How many edges acts and tests have, by the lengths of their paths.
 use Rattle.std.specs.Prelude.{ℕ, zero, suc, ◌+◌, List, [], ◌∷◌, length, Option, Some, None}
-use Rattle.c_types.specs.declared.program.Path.{Path}
 use Rattle.c_types.specs.declared.program.DataPath.{DataPath}
 use Rattle.c_types.specs.declared.program.DataPath.TheVariants.{Var as DataVar, Field as DataField}
 use Rattle.c_types.specs.declared.program.PtrRhs.{PtrRhs}
