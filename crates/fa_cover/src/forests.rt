@@ -5,6 +5,7 @@ ghost use Rattle.fore_base.specs.Lists.{Paired};
 ghost use Rattle.ta_core.specs.Language.{IsWithin};
 ghost use Rattle.fa_core.specs.Covering.{Covers};
 
+use crate::tops::keep_tops;
 use fa_core::forest::{Forest, Target};
 use fore_base::memory::Mem;
 use fore_base::store::Datum;
@@ -12,7 +13,7 @@ use std::alloc::Global;
 use ta_core::auto::Auto;
 use ta_incl::is_included;
 
-/// Whether the one forest covers the other. Targets, data and the number of roots are compared before any language. Err is want of memory.
+/// Whether the one forest covers the other. Targets, data, the number of roots and the symbols of the roots' rules are compared before any language. Err is want of memory.
 pub fn is_covered(alloc: Global, wide: &Forest, narrow: &Forest) -> Mem<bool>
     ensures { IfOk result (λ yes. IsTrue yes ↔ Covers wide.now narrow.now) }
 {
@@ -20,6 +21,9 @@ pub fn is_covered(alloc: Global, wide: &Forest, narrow: &Forest) -> Mem<bool>
         return Ok(false);
     }
     if !are_same_data(narrow.data_vars.as_slice(), wide.data_vars.as_slice()) {
+        return Ok(false);
+    }
+    if !keep_tops(alloc, narrow.autos.as_slice(), wide.autos.as_slice())? {
         return Ok(false);
     }
     are_within(alloc, narrow.autos.as_slice(), wide.autos.as_slice())

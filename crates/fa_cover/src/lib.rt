@@ -6,5 +6,6 @@
 
 pub mod covering;
 mod forests;
+mod tops;
 
 pub use covering::{covers, first_cover};
