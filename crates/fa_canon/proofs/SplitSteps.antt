@@ -90,6 +90,10 @@ covers_same F = record { vars = refl; data_vars = refl; within = paired_same IsW
 pub covers_long : (F G : Forest) → Covers F G → length G.autos ≡ length F.autos
 covers_long F G h = paired_long IsWithin G.autos F.autos h.within
 
+-- one rule is there already
+pub chosen_already : (r : ℕ) (F : Forest) → HasOneTop (component_at F.autos r) → IsChosenAt r F F
+chosen_already r F h = record { covers = covers_same F; top = h; others = λ k d. refl }
+
 -- none chosen yet
 pub chosen_start : (n : ℕ) (F : SoundForest) → HaveTops n F.forest → HasChosen n F F
 chosen_start n F h = (covers_same F.forest, h)

@@ -9,12 +9,12 @@ ghost use Rattle.fa_canon.specs.inner.Steps.{HasChosen, HaveTops, IsSplitEach};
 use crate::counting::{count_roots, ranked_components};
 use crate::steps::{Step, alone, on_each};
 use fa_sound::Sound;
-use fa_split::choose_rule;
+use fa_split::{choose_rule, component, has_one_top};
 use fore_base::list::List;
 use fore_base::memory::Mem;
 use std::alloc::Global;
 
-/// One rule chosen at a root.
+/// One rule chosen at a root. A forest that has one there is left as it is.
 #[derive(Drop)]
 struct Choose {
     root: u32,
@@ -30,24 +30,26 @@ impl Step for Choose {
 
     ghost relates = { λ step F G. IsChosenAt step.root F.forest G.forest };
 
-    fn apply(&self, alloc: Global, forest: &Sound) -> Mem<List<Sound>> {
-        forest.known();
+    fn apply(&self, alloc: Global, forest: Sound) -> Mem<List<Sound>> {
+        if has_one_top(component(forest.forest(), self.root)) {
+            return alone(alloc, forest);
+        }
         ranked_components(forest.forest());
-        let made = choose_rule(alloc, forest, self.root)?;
+        let made = choose_rule(alloc, &forest, self.root)?;
         Ok(made)
     }
 }
 
 /// Forests in which each root has one root state with one rule: one for each way to choose a rule of each root from this one on, where the roots before it have one rule. Err is want of memory.
-pub fn choose_rules(alloc: Global, forest: &Sound, from: u32) -> Mem<List<Sound>>
-    requires plain { Every HasNoBoxes forest.now.forest.autos }
-    requires tops { HaveTops from forest.now.forest }
-    ensures { IfOk result (λ made. IsSplitEach (HasChosen (length forest.now.forest.autos)) (forest.now ∷ []) made) }
+pub fn choose_rules(alloc: Global, forest: Sound, from: u32) -> Mem<List<Sound>>
+    requires plain { Every HasNoBoxes forest.forest.autos }
+    requires tops { HaveTops from forest.forest }
+    ensures { IfOk result (λ made. IsSplitEach (HasChosen (length forest.forest.autos)) (forest ∷ []) made) }
 {
-    let count = count_roots(forest)?;
+    let count = count_roots(&forest)?;
     let mut list = alone(alloc, forest)?;
     for root in from..count {
-        list = on_each(alloc, &Choose { root }, &list)?;
+        list = on_each(alloc, &Choose { root }, list)?;
     }
     Ok(list)
 }
@@ -68,7 +70,7 @@ impl Step for ChooseFrom {
 
     ghost relates = { λ step F. HasChosen (length F.forest.autos) F };
 
-    fn apply(&self, alloc: Global, forest: &Sound) -> Mem<List<Sound>> {
+    fn apply(&self, alloc: Global, forest: Sound) -> Mem<List<Sound>> {
         choose_rules(alloc, forest, self.from)
     }
 }

@@ -19,13 +19,13 @@ use fore_base::memory::Mem;
 use std::alloc::Global;
 
 /// Forests without knots in the trees of their first `count` roots, which are shared: each cell that was one is a root. Err is want of memory.
-pub fn cut_knots(alloc: Global, forest: &Sound, count: u32) -> Mem<List<Sound>>
-    requires { IsReady count 0 0 forest.now }
-    ensures { IfOk result (λ made. IsSplitEach (HasCut count count 0) (forest.now ∷ []) made) }
+pub fn cut_knots(alloc: Global, forest: Sound, count: u32) -> Mem<List<Sound>>
+    requires { IsReady count 0 0 forest }
+    ensures { IfOk result (λ made. IsSplitEach (HasCut count count 0) (forest ∷ []) made) }
 {
     let mut list = alone(alloc, forest)?;
     for root in 0..count {
-        list = on_each(alloc, &CutRoot { root, count }, &list)?;
+        list = on_each(alloc, &CutRoot { root, count }, list)?;
     }
     Ok(list)
 }
@@ -43,7 +43,7 @@ impl Step for CutKnots {
 
     ghost relates = { λ step. HasCut step.count step.count 0 };
 
-    fn apply(&self, alloc: Global, forest: &Sound) -> Mem<List<Sound>> {
+    fn apply(&self, alloc: Global, forest: Sound) -> Mem<List<Sound>> {
         cut_knots(alloc, forest, self.count)
     }
 }
@@ -63,15 +63,15 @@ impl Step for CutRoot {
 
     ghost relates = { λ step. HasCut step.count (step.root + 1) 0 };
 
-    fn apply(&self, alloc: Global, forest: &Sound) -> Mem<List<Sound>> {
+    fn apply(&self, alloc: Global, forest: Sound) -> Mem<List<Sound>> {
         cut_root(alloc, forest, self.root, self.count)
     }
 }
 
-fn cut_root(alloc: Global, forest: &Sound, root: u32, count: u32) -> Mem<List<Sound>>
-    requires ready { IsReady count root 0 forest.now }
+fn cut_root(alloc: Global, forest: Sound, root: u32, count: u32) -> Mem<List<Sound>>
+    requires ready { IsReady count root 0 forest }
     requires root { root < count }
-    ensures { IfOk result (λ made. IsSplitEach (HasCut count (root + 1) 0) (forest.now ∷ []) made) }
+    ensures { IfOk result (λ made. IsSplitEach (HasCut count (root + 1) 0) (forest ∷ []) made) }
 {
     forest.known();
     let width = count_children(forest.forest().autos.at(root as usize));
@@ -83,7 +83,7 @@ fn cut_root(alloc: Global, forest: &Sound, root: u32, count: u32) -> Mem<List<So
             count,
             width,
         };
-        list = on_each(alloc, &step, &list)?;
+        list = on_each(alloc, &step, list)?;
     }
     Ok(list)
 }
@@ -105,19 +105,19 @@ impl Step for CutChild {
 
     ghost relates = { λ step. HasCutAt step.count step.root (step.place + 1) step.width };
 
-    fn apply(&self, alloc: Global, forest: &Sound) -> Mem<List<Sound>> {
+    fn apply(&self, alloc: Global, forest: Sound) -> Mem<List<Sound>> {
         cut_child(alloc, forest, self)
     }
 }
 
-fn cut_child(alloc: Global, forest: &Sound, step: &CutChild) -> Mem<List<Sound>>
-    requires { CanCut step.now.count step.now.root step.now.place step.now.width forest.now }
-    ensures { IfOk result (λ made. IsSplitEach (HasCutAt step.now.count step.now.root (step.now.place + 1) step.now.width) (forest.now ∷ []) made) }
+fn cut_child(alloc: Global, forest: Sound, step: &CutChild) -> Mem<List<Sound>>
+    requires { CanCut step.now.count step.now.root step.now.place step.now.width forest }
+    ensures { IfOk result (λ made. IsSplitEach (HasCutAt step.now.count step.now.root (step.now.place + 1) step.now.width) (forest ∷ []) made) }
 {
     forest.known();
     ranked_components(forest.forest());
-    if is_tied(forest, step.root, step.place) {
-        cut_knot(alloc, forest, step)
+    if is_tied(&forest, step.root, step.place) {
+        cut_knot(alloc, &forest, step)
     } else {
         alone(alloc, forest)
     }
@@ -146,5 +146,5 @@ fn cut_knot(alloc: Global, forest: &Sound, step: &CutChild) -> Mem<List<Sound>>
     ranked_components(forest.forest());
     let from = count_roots(forest)?;
     let list = split_child(alloc, forest, step.root, step.place)?;
-    on_each(alloc, &ChooseFrom { from }, &list)
+    on_each(alloc, &ChooseFrom { from }, list)
 }

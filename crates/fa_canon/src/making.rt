@@ -72,7 +72,7 @@ fn canonical_forests<R: Threads + Sync, G: Gate>(
         return reduced_alone(rt, alloc, forest, crew);
     }
     let merged = merge_roots(alloc, forest)?;
-    made_canonical(rt, alloc, &merged, crew)
+    made_canonical(rt, alloc, merged, crew)
 }
 
 /// A canonical forest, reduced.
@@ -98,20 +98,20 @@ fn reduced_alone<R: Threads + Sync, G: Gate>(
 fn made_canonical<R: Threads + Sync, G: Gate>(
     rt: &R,
     alloc: Global,
-    forest: &Sound,
+    forest: Sound,
     crew: &Crew<'_, G>,
 ) -> Mem<List<Sound>>
     requires jobs { IsJobs crew.now.jobs }
-    requires plain { Every HasNoBoxes forest.now.forest.autos }
-    requires none { NoneMerges forest.now.forest }
-    requires tight { NeverLeaks forest.now.forest }
-    ensures { IfOk result (λ made. IsSplitEach IsFinished (forest.now ∷ []) made) }
+    requires plain { Every HasNoBoxes forest.forest.autos }
+    requires none { NoneMerges forest.forest }
+    requires tight { NeverLeaks forest.forest }
+    ensures { IfOk result (λ made. IsSplitEach IsFinished (forest ∷ []) made) }
 {
     forest.known();
     ranked_components(forest.forest());
-    let count = count_roots(forest)?;
+    let count = count_roots(&forest)?;
     let chosen = choose_rules(alloc, forest, 0)?;
-    let cut = on_each(alloc, &CutKnots { count }, &chosen)?;
+    let cut = on_each(alloc, &CutKnots { count }, chosen)?;
     finish_each(rt, alloc, &cut, crew, count)
 }
 

@@ -18,7 +18,22 @@ pub fn merge_roots(alloc: Global, forest: &Sound) -> Mem<Sound>
     ensures none { IfOk result (λ made. NoneMerges made.forest) }
     ensures regrouped { IfOk result (IsRegrouped forest.now) }
 {
-    let mut merged = forest.copy(alloc)?;
+    match last_merge(alloc, forest)? {
+        Some(root) => {
+            let merged = merge(alloc, forest, root)?;
+            merge_others(alloc, merged)
+        }
+        None => forest.copy(alloc),
+    }
+}
+
+/// The same of a forest that is not used again, so that it need not be copied.
+fn merge_others(alloc: Global, forest: Sound) -> Mem<Sound>
+    requires { Every HasNoBoxes forest.forest.autos }
+    ensures none { IfOk result (λ made. NoneMerges made.forest) }
+    ensures regrouped { IfOk result (IsRegrouped forest) }
+{
+    let mut merged = forest;
     'merges: while let Some(root) = last_merge(alloc, &merged)? {
         merged = merge(alloc, &merged, root)?;
     }

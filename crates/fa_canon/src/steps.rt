@@ -17,30 +17,30 @@ pub trait Step {
 
     ghost relates: { Self → SoundForest → SoundForest → Type 0 };
 
-    /// The forests into which the forest is taken apart. Err is want of memory.
-    fn apply(&self, alloc: Global, forest: &Sound) -> Mem<List<Sound>>
-        requires { accepts self.now forest.now }
-        ensures { IfOk result (λ made. IsSplitEach (relates self.now) (forest.now ∷ []) made) };
+    /// The forests into which the forest is taken apart: where it stays as it is, itself. Err is want of memory.
+    fn apply(&self, alloc: Global, forest: Sound) -> Mem<List<Sound>>
+        requires { accepts self.now forest }
+        ensures { IfOk result (λ made. IsSplitEach (relates self.now) (forest ∷ []) made) };
 }
 
 /// Each forest of the list taken apart. Err is want of memory.
-pub fn on_each<S: Step>(alloc: Global, step: &S, forests: &List<Sound>) -> Mem<List<Sound>>
-    requires { Every (S.accepts step.now) forests.now }
-    ensures { IfOk result (λ made. IsSplitEach (S.relates step.now) forests.now made) }
+pub fn on_each<S: Step>(alloc: Global, step: &S, forests: List<Sound>) -> Mem<List<Sound>>
+    requires { Every (S.accepts step.now) forests }
+    ensures { IfOk result (λ made. IsSplitEach (S.relates step.now) forests made) }
 {
     let mut made = List::new(alloc);
-    for forest in forests.as_slice() {
+    for forest in forests.into_vec() {
         let more = step.apply(alloc, forest)?;
         made.append(more)?;
     }
     Ok(made)
 }
 
-/// The forest alone. Err is want of memory.
-pub fn alone(alloc: Global, forest: &Sound) -> Mem<List<Sound>>
-    ensures { IfOk result (λ made. made ≡ forest.now ∷ []) }
+/// The forest alone, not copied. Err is want of memory.
+pub fn alone(alloc: Global, forest: Sound) -> Mem<List<Sound>>
+    ensures { IfOk result (λ made. made ≡ forest ∷ []) }
 {
     let mut made = List::new(alloc);
-    made.push(forest.copy(alloc)?)?;
+    made.push(forest)?;
     Ok(made)
 }

@@ -12,13 +12,13 @@ use Rattle.fa_canon.proofs.cutting.cut_child.Goals as goal
 pub is_tied-requires : goal.is_tied-requires
 is_tied-requires c =
     let s = c.args.step.now in
-    can_split s.count s.root s.place s.width c.args.forest.now c.known.ensures.sound c.requires
+    can_split s.count s.root s.place s.width c.args.forest c.known.ensures.sound c.requires
 
 pub returns-else-is_tied : goal.returns-else-is_tied
 returns-else-is_tied c =
     let s = c.args.step.now in
-    let F = c.args.forest.now in
-    let ranked : Every IsRanked F.forest.autos = rw c.forest.ensures at c.ranked_components.ensures in
+    let F = c.args.forest in
+    let ranked : Every IsRanked F.forest.autos = rw c.forest-2.ensures at c.ranked_components.ensures in
     IfOk-weaker c.alone.result (λ made. made ≡ F ∷ []) (λ made. IsSplitEach (HasCutAt s.count s.root (s.place + 1) s.width) (F ∷ []) made)
     (λ made e. subst (λ (z : List SoundForest). IsSplitEach (HasCutAt s.count s.root (s.place + 1) s.width) (F ∷ []) z) (sym e)
     (split_same (HasCutAt s.count s.root (s.place + 1) s.width) F c.requires.0.0 (loose_child s.count s.root s.place s.width F c.known.ensures.sound c.requires ranked c.if-is_tied.ensures)))

@@ -16,7 +16,7 @@ use Rattle.fa_canon.proofs.cutting.cut_root.Goals as goal
 
 pub loop-place-init : goal.loop-place-init
 loop-place-init c =
-    let F = c.args.forest.now in
+    let F = c.args.forest in
     let n = c.args.count in
     let r = c.args.root in
     let w = c.count_children-width.result in
@@ -34,7 +34,7 @@ on_each-requires c =
     let r = c.args.root in
     let p = c.loop-place.place in
     let w = c.count_children-width.result in
-    each_piece (HasCutAt n r p w) (CanCut n r p w) c.args.forest.now c.loop-place.list c.loop-place.invariant
+    each_piece (HasCutAt n r p w) (CanCut n r p w) c.args.forest c.loop-place.list c.loop-place.invariant
     (λ G piece h. ((piece.plain, h.0, h.1), h.2, c.requires.root, c.loop-place-test.true))
 
 pub loop-place-preserved : goal.loop-place-preserved
@@ -43,7 +43,7 @@ loop-place-preserved c =
     let r = c.args.root in
     let p = c.loop-place.place in
     let w = c.count_children-width.result in
-    split_twice (HasCutAt n r p w) (HasCutAt n r (p + 1) w) (HasCutAt n r (p + 1) w) (c.args.forest.now ∷ []) c.loop-place.list c.in_ok-list-2.list
+    split_twice (HasCutAt n r p w) (HasCutAt n r (p + 1) w) (HasCutAt n r (p + 1) w) (c.args.forest ∷ []) c.loop-place.list c.in_ok-list-2.list
     (λ F G H i x a y b. b) c.loop-place.invariant c.in_ok-list-2.ensures
 
 pub returns : goal.returns
@@ -53,5 +53,5 @@ returns c =
     let p = c.loop-place.place in
     let w = c.count_children-width.result in
     let e : p ≡ w = omega (arith, c.loop-place.auto.place-end, c.loop-place-test.false) in
-    split_weaker (HasCutAt n r p w) (HasCut n (r + 1) 0) (c.args.forest.now ∷ []) c.loop-place.list
+    split_weaker (HasCutAt n r p w) (HasCut n (r + 1) 0) (c.args.forest ∷ []) c.loop-place.list
     (λ F G i x h. (h.0, root_cutting n r w G.forest h.2 (subst (λ (m : ℕ). IsCutting n r m G.forest) e h.1))) c.loop-place.invariant

@@ -11,14 +11,14 @@ use Rattle.fa_canon.proofs.making.made_canonical.Goals as goal
 
 pub on_each-requires : goal.on_each-requires
 on_each-requires g c =
-    let F = c.args.forest.now in
-    let ranked : Every IsRanked F.forest.autos = rw c.forest.ensures at c.ranked_components.ensures in
+    let F = c.args.forest in
+    let ranked : Every IsRanked F.forest.autos = rw c.forest-2.ensures at c.ranked_components.ensures in
     each_piece (HasChosen (length F.forest.autos)) (IsReady c.in_ok-count.count 0 0) F c.in_ok-chosen.chosen c.in_ok-chosen.ensures
     (λ G piece h. ready_start c.in_ok-count.count F G c.in_ok-count.ensures c.known.ensures.sound ranked c.requires.plain c.requires.none c.requires.tight piece h)
 
 pub finish_each-requires-clause-can : goal.finish_each-requires-clause-can
 finish_each-requires-clause-can g c κs within =
-    let F = c.args.forest.now in
+    let F = c.args.forest in
     let n = c.in_ok-count.count in
     each_piece (HasCut n n 0) (CanFinish n) F c.in_ok-cut.cut
     (split_twice (HasChosen (length F.forest.autos)) (HasCut n n 0) (HasCut n n 0) (F ∷ []) c.in_ok-chosen.chosen c.in_ok-cut.cut (λ x G H i p a q b. b) c.in_ok-chosen.ensures c.in_ok-cut.ensures)
@@ -26,7 +26,7 @@ finish_each-requires-clause-can g c κs within =
 
 pub returns : goal.returns
 returns g c =
-    let F = c.args.forest.now in
+    let F = c.args.forest in
     let n = c.in_ok-count.count in
     let cut = split_twice (HasChosen (length F.forest.autos)) (HasCut n n 0) (HasCut n n 0) (F ∷ []) c.in_ok-chosen.chosen c.in_ok-cut.cut (λ x G H i p a q b. b) c.in_ok-chosen.ensures c.in_ok-cut.ensures in
     IfOk-weaker c.finish_each.result (λ made. IsSplitEach IsFinished c.in_ok-cut.cut made) (λ made. IsSplitEach IsFinished (F ∷ []) made)

@@ -1,6 +1,5 @@
-use Rattle.std.proofs.Common.{take}
 use Rattle.fa_canon.specs.inner.Steps.{IsSplitEach}
 use Rattle.fa_canon.proofs.steps.on_each.Given as goal
 
 abbrev pub invariant-loop-forest : goal.invariant-loop-forest
-invariant-loop-forest g l = IsSplitEach (g.S.Step.relates l.step) (take l.forest-index l.forests) l.made
+invariant-loop-forest g l = IsSplitEach (g.S.Step.relates l.step) l.yielded l.made
