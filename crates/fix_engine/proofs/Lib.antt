@@ -6,6 +6,7 @@ pub mod Growing
 pub mod Judging
 pub mod Lists
 pub mod Posting
+pub mod Rows
 pub mod Safety
 pub mod Starting
 pub mod TakenUp

@@ -1,8 +1,9 @@
 // The nodes of an exploration.
-ghost use Rattle.std.specs.Prelude.{◌≡◌, ◌<◌, ◌+◌, ◌++◌, ◌∷◌, [], ◌^◌, length, None, Some, IfOk, OnOk, OnErr, MatchOption};
+ghost use Rattle.std.specs.Prelude.{◌≡◌, ◌↔◌, ◌<◌, ◌+◌, ◌++◌, ◌∷◌, [], ◌^◌, length, None, Some, IsTrue, IfOk, OnOk, OnErr, MatchOption};
 ghost use Rattle.fix_engine.specs.Explorations.{IsNode};
 ghost use Rattle.fix_engine.specs.declared.nodes.Node.{Node};
 ghost use Rattle.fore_base.specs.Lists.{IsIn};
+ghost use Rattle.fa_core.specs.Covering.{Covers};
 ghost use Rattle.fix_engine.specs.Covered.{CoversAt, CoversOrNot, Lists};
 ghost use Rattle.fix_engine.specs.Listed.{AreListed, MoreListed, numbers_at};
 
@@ -171,14 +172,18 @@ impl Nodes {
         ensures { IfOk result (CoversAt self.now number location state.now.forest) }
     {
         match self.items.get(number as usize) {
-            Some(node) if node.head.location == location => covers(
-                alloc,
-                node.state.forest(),
-                state.forest(),
-            ),
+            Some(node) if node.head.location == location => covers_state(alloc, node, state),
             _ => Ok(false),
         }
     }
+}
+
+/// Whether the node's forest covers that of the state. Err is want of memory.
+fn covers_state(alloc: Global, node: &Node, state: &State) -> Mem<bool>
+    requires { node.now.state.face ≡ state.now.face }
+    ensures { IfOk result (λ yes. IsTrue yes ↔ Covers node.now.state.forest state.now.forest) }
+{
+    covers(alloc, node.state.forest(), state.forest())
 }
 
 /// Adds a number to the list of a place. Err is want of memory.
