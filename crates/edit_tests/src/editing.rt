@@ -18,45 +18,57 @@ use fore_base::text::Text;
 use std::alloc::Global;
 use std::test::Fail;
 
-// Struct 0 has a pointer to itself, two data and a pointer to struct 1, which has no fields.
-fn face(alloc: Global) -> Result<Face, Fail> {
-    let mut fields = List::new(alloc);
-    for kind in [
+// The fields of each struct: struct 0 has a pointer to itself, two data and a pointer to struct 1, which has no fields.
+const STRUCTS: &[&[FieldKind]] = &[
+    &[
         FieldKind::Pointer(0),
         FieldKind::Datum,
         FieldKind::Datum,
         FieldKind::Pointer(1),
-    ] {
-        let name = Text::from_slice(alloc, b"field")?;
-        fields.push(FieldDef { name, kind })?;
-    }
+    ],
+    &[],
+];
+
+fn face(alloc: Global) -> Result<Face, Fail> {
     let mut structs = List::new(alloc);
-    let name = Text::from_slice(alloc, b"cell")?;
-    structs.push(Shape { name, fields })?;
-    let name = Text::from_slice(alloc, b"end")?;
-    let fields = List::new(alloc);
-    structs.push(Shape { name, fields })?;
+    for kinds in STRUCTS {
+        structs.push(shape(alloc, kinds)?)?;
+    }
     Ok(Face {
         shapes: Shapes { structs },
         boxes: List::new(alloc),
     })
 }
 
+fn shape(alloc: Global, kinds: &[FieldKind]) -> Result<Shape, Fail> {
+    let mut fields = List::new(alloc);
+    for kind in kinds {
+        let name = Text::from_slice(alloc, b"field")?;
+        fields.push(FieldDef { name, kind: *kind })?;
+    }
+    let name = Text::from_slice(alloc, b"cell")?;
+    Ok(Shape { name, fields })
+}
+
 // The forest without a cell, of two variables.
 pub fn empty(alloc: Global) -> Result<Sound, Fail> {
-    let vars = List::filled(alloc, Target::Null, 2)?;
-    let autos = List::new(alloc);
-    let data_vars = List::new(alloc);
-    let forest = Forest {
-        autos,
-        vars,
-        data_vars,
-    };
     let face = face(alloc)?;
+    let forest = Forest {
+        autos: List::new(alloc),
+        vars: List::filled(alloc, Target::Null, 2)?,
+        data_vars: List::new(alloc),
+    };
+    sound(alloc, &forest, &face)
+}
+
+fn sound(alloc: Global, forest: &Forest, face: &Face) -> Result<Sound, Fail> {
     if !have_no_boxes(forest.autos.as_slice()) {
         return Err("a box edge".into());
     }
-    Ok(Sound::make(alloc, &forest, &face)?.ok_or("not sound")?)
+    match Sound::make(alloc, forest, face)? {
+        Some(made) => Ok(made),
+        None => Err("not sound".into()),
+    }
 }
 
 // The forest with a new cell, at which the variable is.

@@ -88,11 +88,13 @@ fn new_cells_are_blank(rt: HostRuntime) -> Result<(), Fail> {
     check(&rt, &forest, BLANK)
 }
 
+// Where the variables of two new cells are.
+const AT_CELLS: &[Target] = &[Target::At(0), Target::At(1)];
+
 #[test]
 fn variables_are_at_new_cells(rt: HostRuntime) -> Result<(), Fail> {
     let forest = two_cells(rt.alloc())?;
-    let wanted = [Target::At(0), Target::At(1)];
-    assert!(&rt; forest.forest().vars.as_slice() == wanted.as_slice());
+    assert!(&rt; forest.forest().vars.as_slice() == AT_CELLS);
     Ok(())
 }
 
