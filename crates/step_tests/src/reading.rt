@@ -4,6 +4,8 @@
 //
 // Struct 0 has one pointer to itself, struct 1 two, and struct 2 a datum and one. The symbols are a for Null, u for Uninit, d for Dangling, A, B, C and D for references to the roots 0 to 3, n for a cell of struct 0, f for one of struct 1, and x, y and z for one of struct 2 with the datum undefined, 1 and 2.
 
+ghost use Rattle.std.specs.Prelude.{◌≡◌, IfOk};
+
 use fa_core::faces::Face;
 use fa_core::forest::{Forest, Target};
 use fa_sound::{Sound, have_no_boxes};
@@ -29,12 +31,22 @@ const STRUCTS: &[&[FieldKind]] = &[
 
 // The sound forest of the texts.
 pub fn sound(alloc: Global, given: Given) -> Result<Sound, Fail> {
-    let forest = written(alloc, given)?;
     let face = face(alloc)?;
+    sound_over(alloc, &face, given)
+}
+
+// The sound forest of the texts, over this face.
+pub fn sound_over(alloc: Global, face: &Face, given: Given) -> Result<Sound, Fail>
+    ensures { IfOk result (λ s. s.face ≡ face.now) }
+{
+    let forest = written(alloc, given)?;
     if !have_no_boxes(forest.autos.as_slice()) {
         return Err("a box edge".into());
     }
-    Ok(Sound::make(alloc, &forest, &face)?.ok_or("not sound")?)
+    match Sound::make(alloc, &forest, face)? {
+        Some(made) => Ok(made),
+        None => Err("not sound".into()),
+    }
 }
 
 fn written(alloc: Global, given: Given) -> Result<Forest, Fail> {
@@ -85,7 +97,8 @@ fn datum(byte: u8) -> Option<Datum> {
     }
 }
 
-fn face(alloc: Global) -> Result<Face, Fail> {
+// The structs, and no boxes.
+pub fn face(alloc: Global) -> Result<Face, Fail> {
     let mut structs = List::new(alloc);
     for kinds in STRUCTS {
         structs.push(shape(alloc, kinds)?)?;

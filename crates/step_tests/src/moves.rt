@@ -43,36 +43,23 @@ fn choice(what: Move) -> Option<u8> {
 }
 
 fn instr(alloc: Global, what: Move) -> Result<Instr, Fail> {
-    match what {
-        Move::Kill(ptrs, datums) => Ok(Instr::Kill {
-            ptrs: List::from_vec(ptrs.to_vec(alloc)?),
-            datums: List::from_vec(datums.to_vec(alloc)?),
-        }),
-        _ => Ok(on_pointers(what)),
-    }
-}
-
-fn on_pointers(what: Move) -> Instr {
-    match what {
+    Ok(match what {
         Move::CopyPtr(to, from) => Instr::CopyPtr { to, from },
         Move::LoadPtr(to, from, field) => Instr::LoadPtr { to, from, field },
         Move::StorePtr(to, field, from) => Instr::StorePtr { to, field, from },
         Move::StoreConst(to, field, value) => Instr::StoreConst { to, field, value },
         Move::New(to, shape) => Instr::New { to, shape },
         Move::Free(from) => Instr::Free { from },
-        Move::TestPtr(left, right, equal) => Instr::TestPtr { left, right, equal },
-        _ => on_data(what),
-    }
-}
-
-fn on_data(what: Move) -> Instr {
-    match what {
+        Move::Kill(ptrs, datums) => Instr::Kill {
+            ptrs: List::from_slice(alloc, ptrs)?,
+            datums: List::from_slice(alloc, datums)?,
+        },
         Move::CopyData(to, from) => Instr::CopyData { to, from },
         Move::LoadData(to, from, field) => Instr::LoadData { to, from, field },
         Move::StoreData(to, field, from) => Instr::StoreData { to, field, from },
+        Move::TestPtr(left, right, equal) => Instr::TestPtr { left, right, equal },
         Move::TestData(left, right, equal) => Instr::TestData { left, right, equal },
         Move::Choose(to, _) => Instr::Choose { to },
         Move::Stop(error) => Instr::Stop { error },
-        _ => Instr::Stop { error: false },
-    }
+    })
 }

@@ -1,9 +1,13 @@
 // Steps of forests, compared with steps that were worked out by hand.
 
+ghost use Rattle.std.specs.Prelude.{◌≡◌, ◌↔◌, [], length, IsTrue};
+ghost use Rattle.fa_core.specs.Canonical.{IsCanonical};
+ghost use Rattle.c_cfg.specs.Ranges.{EdgeFits};
+
 use crate::moves::{Move, edge};
-use crate::ranges::fits;
 use crate::reading::{Given, sound};
 use c_cfg::graph::Edge;
+use c_cfg::ranges::fits;
 use fa_core::table::BoxTable;
 use fa_kinds::is_canonical;
 use fa_sound::{Sound, have_no_boxes};
@@ -46,9 +50,12 @@ pub fn check_all<R: Threads + Sync + Abort>(
 }
 
 fn check<R: Threads + Sync + Abort>(rt: &R, alloc: Global, row: Row) -> Result<(), Fail> {
-    let Row(what, given, instr, next, faults) = row;
-    let made = posted(rt, alloc, given, instr)?;
-    assert!(rt; goes_on(alloc, &made, next)?, "{what}: other forests");
+    let Row(what, given, change, next, faults) = row;
+    let made = posted(rt, alloc, given, change)?;
+    assert!(rt;
+        are_these(alloc, made.next.as_slice(), next)?,
+        "{what}: other forests"
+    );
     assert!(rt; has_faults(alloc, &made, faults)?, "{what}: other faults");
     Ok(())
 }
@@ -57,13 +64,10 @@ fn posted<R: Threads + Sync>(
     rt: &R,
     alloc: Global,
     given: Given,
-    instr: Move,
+    what: Move,
 ) -> Result<Post, Fail> {
     let forest = sound(alloc, given)?;
-    if !fits(&forest, instr) {
-        return Err("a number out of range".into());
-    }
-    let edge = edge(alloc, instr)?;
+    let edge = edge(alloc, what)?;
     taken(rt, alloc, &forest, &edge)
 }
 
@@ -76,25 +80,73 @@ fn taken<R: Threads + Sync>(
     if !have_no_boxes(forest.forest().autos.as_slice()) {
         return Err("a box edge".into());
     }
+    if !forest.face().boxes.is_empty() {
+        return Err("a box".into());
+    }
+    if !fits_forest(edge, forest) {
+        return Err("a number out of range".into());
+    }
     if !is_canonical(alloc, forest)? {
         return Err("not canonical".into());
     }
+    passed(rt, alloc, forest, edge)
+}
+
+// Whether the numbers of the edge are in range for the forest.
+fn fits_forest(edge: &Edge, forest: &Sound) -> bool
+    ensures { IsTrue result ↔ EdgeFits (length forest.now.forest.vars) (length forest.now.forest.data_vars) forest.now.face.shapes.structs edge.now }
+{
+    let vars = forest.forest().vars.len();
+    let data_vars = forest.forest().data_vars.len();
+    fits(
+        edge,
+        vars,
+        data_vars,
+        forest.face().shapes.structs.as_slice(),
+    )
+}
+
+fn passed<R: Threads + Sync>(
+    rt: &R,
+    alloc: Global,
+    forest: &Sound,
+    edge: &Edge,
+) -> Result<Post, Fail>
+    requires boxes { forest.now.face.boxes ≡ [] }
+    requires canonical { IsCanonical forest.now.face forest.now.forest }
+    requires fits { EdgeFits (length forest.now.forest.vars) (length forest.now.forest.data_vars) forest.now.face.shapes.structs edge.now }
+{
     let table = BoxTable::empty(alloc, &forest.face().shapes)?;
+    step(rt, alloc, forest, edge, &table)
+}
+
+fn step<R: Threads + Sync>(
+    rt: &R,
+    alloc: Global,
+    forest: &Sound,
+    edge: &Edge,
+    table: &BoxTable,
+) -> Result<Post, Fail>
+    requires canonical { IsCanonical forest.now.face forest.now.forest }
+    requires face { forest.now.face ≡ table.now.face }
+    requires empty { table.now.defs ≡ [] }
+    requires fits { EdgeFits (length forest.now.forest.vars) (length forest.now.forest.data_vars) forest.now.face.shapes.structs edge.now }
+{
     let crew = Crew {
         jobs: 1,
         gate: &NoGate,
     };
-    Ok(post(rt, alloc, forest, edge, &table, &crew)?)
+    Ok(post(rt, alloc, forest, edge, table, &crew)?)
 }
 
-// Whether the forests behind the edge are these, in some order.
-fn goes_on(alloc: Global, made: &Post, wanted: &[Given]) -> Result<bool, Fail> {
-    if made.next.len() != wanted.len() {
+// Whether the forests are these, in some order.
+pub fn are_these(alloc: Global, made: &[Sound], wanted: &[Given]) -> Result<bool, Fail> {
+    if made.len() != wanted.len() {
         return Ok(false);
     }
     for given in wanted {
         let forest = sound(alloc, *given)?;
-        if !has_like(alloc, made.next.as_slice(), &forest)? {
+        if !has_like(alloc, made, &forest)? {
             return Ok(false);
         }
     }

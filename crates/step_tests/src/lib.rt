@@ -1,4 +1,4 @@
-//! Tests of symbolic steps: forests taken along edges, each step compared whole with one that was worked out by hand.
+//! Tests of symbolic steps, forests taken along edges, and of forests joined: each compared whole with what was worked out by hand.
 #![tactic(auto)]
 
 #[cfg(test)]
@@ -10,11 +10,11 @@ mod data;
 #[cfg(test)]
 mod freeing;
 #[cfg(test)]
+mod joining;
+#[cfg(test)]
 mod loading;
 #[cfg(test)]
 mod moves;
-#[cfg(test)]
-mod ranges;
 #[cfg(test)]
 mod reading;
 #[cfg(test)]
