@@ -19,6 +19,27 @@ const PUSHES: Drawn = Drawn(
     ],
 );
 
+// The nodes by height 1, which are the first ones by height 2 too.
+const SEVENTEEN: &[At] = &[
+    At(0, None, None, "uu"),
+    At(1, Some(0), Some(0), "nu"),
+    At(2, Some(1), Some(1), "n0"),
+    At(4, Some(1), Some(4), "nu"),
+    At(3, Some(2), Some(2), "n0"),
+    At(1, Some(4), Some(3), "00"),
+    At(2, Some(5), Some(1), "01"),
+    At(4, Some(5), Some(4), "00"),
+    At(3, Some(6), Some(2), "01"),
+    At(1, Some(8), Some(3), "00"),
+    At(2, Some(9), Some(1), "01"),
+    At(4, Some(9), Some(4), "00"),
+    At(3, Some(10), Some(2), "01"),
+    At(1, Some(12), Some(3), "00"),
+    At(2, Some(13), Some(1), "01"),
+    At(4, Some(13), Some(4), "00"),
+    At(3, Some(14), Some(2), "01"),
+];
+
 const ROWS: &[Row] = &[
     // At the loop head are the empty list (node 1), the list of one cell (node 5) and that of two (node 9), which stay themselves: of their inner states no two agree, since a cell is no null pointer. The list of three cells has two inner states with cells, which agree to height 1: it becomes the lists of two cells or more (node 13), and node 9 does not cover these. With one cell more they are the lists of three or more, which become those of two or more again: node 13 covers them.
     Row(
@@ -26,25 +47,7 @@ const ROWS: &[Row] = &[
         PUSHES,
         1,
         100,
-        &[
-            At(0, None, None, "uu"),
-            At(1, Some(0), Some(0), "nu"),
-            At(2, Some(1), Some(1), "n0"),
-            At(4, Some(1), Some(4), "nu"),
-            At(3, Some(2), Some(2), "n0"),
-            At(1, Some(4), Some(3), "00"),
-            At(2, Some(5), Some(1), "01"),
-            At(4, Some(5), Some(4), "00"),
-            At(3, Some(6), Some(2), "01"),
-            At(1, Some(8), Some(3), "00"),
-            At(2, Some(9), Some(1), "01"),
-            At(4, Some(9), Some(4), "00"),
-            At(3, Some(10), Some(2), "01"),
-            At(1, Some(12), Some(3), "00"),
-            At(2, Some(13), Some(1), "01"),
-            At(4, Some(13), Some(4), "00"),
-            At(3, Some(14), Some(2), "01"),
-        ],
+        SEVENTEEN,
         End::Closed,
     ),
     // To height 2 the inner states of the list of three cells differ: a cell stands below the one, and none below the other. So node 13 has that list alone. Of the list of four cells two inner states agree to height 2: it becomes the lists of three cells or more (node 17), which cover what one cell more makes of them.
@@ -84,25 +87,7 @@ const ROWS: &[Row] = &[
         PUSHES,
         2,
         17,
-        &[
-            At(0, None, None, "uu"),
-            At(1, Some(0), Some(0), "nu"),
-            At(2, Some(1), Some(1), "n0"),
-            At(4, Some(1), Some(4), "nu"),
-            At(3, Some(2), Some(2), "n0"),
-            At(1, Some(4), Some(3), "00"),
-            At(2, Some(5), Some(1), "01"),
-            At(4, Some(5), Some(4), "00"),
-            At(3, Some(6), Some(2), "01"),
-            At(1, Some(8), Some(3), "00"),
-            At(2, Some(9), Some(1), "01"),
-            At(4, Some(9), Some(4), "00"),
-            At(3, Some(10), Some(2), "01"),
-            At(1, Some(12), Some(3), "00"),
-            At(2, Some(13), Some(1), "01"),
-            At(4, Some(13), Some(4), "00"),
-            At(3, Some(14), Some(2), "01"),
-        ],
+        SEVENTEEN,
         End::Spent,
     ),
 ];

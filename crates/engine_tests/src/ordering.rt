@@ -52,6 +52,22 @@ const EQUAL: Drawn = Drawn(
     ],
 );
 
+// The nodes of the straight graph.
+const OF_STRAIGHT: &[At] = &[
+    At(0, None, None, "u"),
+    At(1, Some(0), Some(0), "0"),
+    At(2, Some(1), Some(1), "0"),
+    At(3, Some(2), Some(2), "d"),
+];
+
+// The nodes of the graph with equal successors.
+const OF_EQUAL: &[At] = &[
+    At(0, None, None, "u"),
+    At(1, Some(0), Some(0), "n"),
+    At(2, Some(0), Some(2), "n"),
+    At(1, Some(0), Some(3), "u"),
+];
+
 const ROWS: &[Row] = &[
     // one node behind each edge, and none behind the end of the run
     Row(
@@ -59,12 +75,7 @@ const ROWS: &[Row] = &[
         STRAIGHT,
         1,
         100,
-        &[
-            At(0, None, None, "u"),
-            At(1, Some(0), Some(0), "0"),
-            At(2, Some(1), Some(1), "0"),
-            At(3, Some(2), Some(2), "d"),
-        ],
+        OF_STRAIGHT,
         End::Closed,
     ),
     // four nodes are wanted, and there is room for four
@@ -73,12 +84,7 @@ const ROWS: &[Row] = &[
         STRAIGHT,
         1,
         4,
-        &[
-            At(0, None, None, "u"),
-            At(1, Some(0), Some(0), "0"),
-            At(2, Some(1), Some(1), "0"),
-            At(3, Some(2), Some(2), "d"),
-        ],
+        OF_STRAIGHT,
         End::Closed,
     ),
     // the node behind the third edge has no room
@@ -123,12 +129,7 @@ const ROWS: &[Row] = &[
         EQUAL,
         1,
         100,
-        &[
-            At(0, None, None, "u"),
-            At(1, Some(0), Some(0), "n"),
-            At(2, Some(0), Some(2), "n"),
-            At(1, Some(0), Some(3), "u"),
-        ],
+        OF_EQUAL,
         End::Closed,
     ),
     // those that are dropped want no room
@@ -137,12 +138,7 @@ const ROWS: &[Row] = &[
         EQUAL,
         1,
         4,
-        &[
-            At(0, None, None, "u"),
-            At(1, Some(0), Some(0), "n"),
-            At(2, Some(0), Some(2), "n"),
-            At(1, Some(0), Some(3), "u"),
-        ],
+        OF_EQUAL,
         End::Closed,
     ),
 ];
