@@ -11,7 +11,7 @@ use crate::reading::{Given, face, sound};
 use fa_abstract::abstracted;
 use fa_core::faces::Face;
 use fa_height::abstract_height;
-use fa_kinds::{is_canonical, reduce_forest};
+use fa_order::{is_canonical, reduce_forest};
 use fa_sound::{Sound, have_no_boxes};
 use par_kit::crew::Crew;
 use par_kit::gate::NoGate;

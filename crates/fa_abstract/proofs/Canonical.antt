@@ -20,8 +20,8 @@ use Rattle.fa_core.specs.declared.faces.BoxFace.{BoxFace}
 use Rattle.fa_core.specs.declared.faces.Face.{Face}
 use Rattle.fa_core.specs.declared.forest.Forest.{Forest}
 use Rattle.fa_core.specs.declared.signature.RefMark.{RefMark}
-use Rattle.fa_kinds.specs.Outlines.{Stub, Outline, outline, stub, stub_by}
-use Rattle.fa_kinds.proofs.Outlined.{outlined_canonical}
+use Rattle.fa_order.specs.Outlines.{Stub, Outline, outline, stub, stub_by}
+use Rattle.fa_order.proofs.Outlined.{outlined_canonical}
 use Rattle.fa_height.specs.Quotients.{IsQuotient, Quotient}
 use Rattle.fa_height.specs.Structs.{HasOneStruct}
 use Rattle.fa_height.proofs.Images.{LooksLike, outlined}

@@ -16,7 +16,7 @@ ghost use Rattle.fa_abstract.specs.Abstractions.{IsAbstraction};
 use crate::laws::quotients_keep_canonical;
 use fa_core::laws::covered_members;
 use fa_height::abstract_height;
-use fa_kinds::reduce_forest;
+use fa_order::reduce_forest;
 use fa_sound::Sound;
 use fore_base::memory::Mem;
 use par_kit::crew::Crew;

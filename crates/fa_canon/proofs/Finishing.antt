@@ -19,7 +19,7 @@ use Rattle.fa_merge.specs.Reached.{NeverLeaks}
 use Rattle.fa_merge.proofs.LeaksDecided.{some_choice}
 use Rattle.fa_merge.proofs.Named.{var_below}
 use Rattle.fa_split.specs.Divided.{IsUnionOf, forests}
-use Rattle.fa_kinds.specs.Kinds.{HasRootKinds}
+use Rattle.fa_order.specs.Kinds.{HasRootKinds}
 use Rattle.fa_canon.specs.Canonized.{IsSameAlone}
 use Rattle.fa_canon.specs.inner.Cutting.{IsCutting}
 use Rattle.fa_canon.specs.inner.Finished.{CanFinish}

@@ -20,7 +20,7 @@ use crate::counting::{count_roots, ranked_components};
 use crate::cutting::CutKnots;
 use crate::merging::merge_roots;
 use crate::steps::on_each;
-use fa_kinds::{is_canonical, place_roots, reduce_forest};
+use fa_order::{is_canonical, place_roots, reduce_forest};
 use fa_sound::Sound;
 use fore_base::list::List;
 use fore_base::memory::Mem;

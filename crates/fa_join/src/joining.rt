@@ -19,7 +19,7 @@ use crate::differing::Difference;
 use crate::tops::{component, ranked_components};
 use fa_core::faces::Face;
 use fa_core::forest::Forest;
-use fa_kinds::reduce_forest;
+use fa_order::reduce_forest;
 use fa_sound::Sound;
 use fore_base::list::Copies;
 use fore_base::memory::Mem;

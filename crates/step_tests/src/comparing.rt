@@ -9,7 +9,7 @@ use crate::reading::{Given, sound};
 use c_cfg::graph::Edge;
 use c_cfg::ranges::fits;
 use fa_core::table::BoxTable;
-use fa_kinds::is_canonical;
+use fa_order::is_canonical;
 use fa_sound::{Sound, have_no_boxes};
 use fore_base::fault::Fault;
 use par_kit::crew::Crew;

@@ -12,7 +12,7 @@ use crate::comparing::are_these;
 use crate::reading::{Given, face, sound_over};
 use fa_core::faces::Face;
 use fa_join::join_all;
-use fa_kinds::{is_canonical, reduce_forest};
+use fa_order::{is_canonical, reduce_forest};
 use fa_sound::{Sound, have_no_boxes};
 use fore_base::list::List;
 use par_kit::crew::Crew;

@@ -19,8 +19,8 @@ ghost use Rattle.sym_step.specs.inner.Stepping.{IsLike, IsNext, IsStepping, Sett
 use crate::posts::{Bad, Post};
 use c_cfg::graph::{Edge, Instr};
 use fa_canon::canonical;
-use fa_kinds::reduce_forest;
 use fa_merge::leaking_root;
+use fa_order::reduce_forest;
 use fa_sound::Sound;
 use fore_base::fault::Fault;
 use fore_base::list::List;
@@ -29,7 +29,7 @@ use par_kit::crew::Crew;
 use par_kit::gate::Gate;
 use std::alloc::Global;
 use std::thread::Threads;
-use sym_edit::{Edited, edited};
+use sym_transfer::{Edited, edited};
 
 /// What the edge makes of the members of a forest that shows what it needs. After the edge's own fault comes the leak test. A fault stands at the forest before the edge. Err is want of memory.
 pub fn settle<R: Threads + Sync, G: Gate>(

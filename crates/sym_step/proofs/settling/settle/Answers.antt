@@ -1,7 +1,7 @@
 use Rattle.std.proofs.Common.{subst, List}
 use Rattle.fa_core.specs.Canonical.{IsCanonical}
 use Rattle.fa_core.specs.declared.boxes.BoxDef.{BoxDef}
-use Rattle.sym_edit.specs.Edited.{IsEdited, IfGoes, HasForm}
+use Rattle.sym_transfer.specs.Edited.{IsEdited, IfGoes, HasForm}
 use Rattle.sym_step.proofs.Stepping.{edge_fault, all_stay}
 use Rattle.sym_step.proofs.settling.settle.Goals as goal
 

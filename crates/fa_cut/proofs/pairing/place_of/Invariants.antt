@@ -1,6 +1,0 @@
-use Rattle.std.proofs.Common.{take}
-use Rattle.fore_base.specs.Lists.{IsIn}
-use Rattle.fa_cut.proofs.pairing.place_of.Given as goal
-
-abbrev pub invariant-loop-place : goal.invariant-loop-place
-invariant-loop-place l = IsIn (l.state, l.marks) (take l.place l.pairs) → ⊥

@@ -1,5 +1,0 @@
-use Rattle.std.proofs.Common.{◌≡◌, [], ◌∷◌, ◌++◌, map, take}
-use Rattle.fa_cut.proofs.products.extended.Given as goal
-
-abbrev pub invariant-loop-item : goal.invariant-loop-item
-invariant-loop-item g l = l.made ≡ map (λ x. l.list ++ x ∷ []) (take l.item-index l.items)

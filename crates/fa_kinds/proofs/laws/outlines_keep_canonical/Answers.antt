@@ -1,5 +1,0 @@
-use Rattle.fa_kinds.proofs.Outlined.{outlined_canonical}
-use Rattle.fa_kinds.proofs.laws.outlines_keep_canonical.Goals as goal
-
-pub returns : goal.returns
-returns c = outlined_canonical

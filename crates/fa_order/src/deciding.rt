@@ -1,0 +1,231 @@
+// Whether a forest is canonical, and whether its roots are those of a canonical one.
+
+ghost use Rattle.std.specs.Prelude.{◌≡◌, ◌≤◌, ◌<◌, ◌*◌, ◌^◌, ◌↔◌, length, IsTrue, IfOk};
+ghost use Rattle.fore_base.specs.Lists.{Every};
+ghost use Rattle.ta_core.specs.Single.{HasOneTop};
+ghost use Rattle.fa_core.specs.Boxless.{HasNoBoxes};
+ghost use Rattle.fa_core.specs.Canonical.{IsCanonical};
+ghost use Rattle.fa_merge.specs.Reordered.{counted};
+ghost use Rattle.fa_merge.specs.inner.Counted.{mark_count, marks_count};
+ghost use Rattle.fa_order.specs.Kinds.{HasRootKinds};
+ghost use Rattle.fa_order.specs.inner.Deciding.{any_cell, any_leaf, any_ties, knot_by, rise_from, root_by, roots_by, rules_of, shared_by, ties, times_shown};
+
+use crate::referring::{count_roots, is_marked_root, var_roots};
+use crate::roots::walk_order;
+use crate::showing::{Shown, shown_roots};
+use crate::walking::is_in;
+use fa_core::signature::{Below, RefMark};
+use fa_sound::Sound;
+use fore_base::memory::Mem;
+use std::alloc::Global;
+use ta_core::auto::{Auto, Rule};
+
+/// Whether the forest is canonical. Err is want of memory.
+pub fn is_canonical(alloc: Global, forest: &Sound) -> Mem<bool>
+    requires { Every HasNoBoxes forest.now.forest.autos }
+    ensures { IfOk result (λ yes. IsTrue yes ↔ IsCanonical forest.now.face forest.now.forest) }
+{
+    forest.known();
+    let is_rooted = has_root_kinds(alloc, forest)?;
+    if !is_rooted {
+        return Ok(false);
+    }
+    let count = count_roots(forest)?;
+    let order = walk_order(alloc, forest)?;
+    Ok(is_counted(order.as_slice(), count))
+}
+
+/// Whether each component has one root state with one rule, and the roots are the cells of the four kinds: what makes the forest canonical but for the order of its roots. Err is want of memory.
+pub fn has_root_kinds(alloc: Global, forest: &Sound) -> Mem<bool>
+    requires { Every HasNoBoxes forest.now.forest.autos }
+    ensures { IfOk result (λ yes. IsTrue yes ↔ HasRootKinds forest.now.face forest.now.forest) }
+{
+    forest.known();
+    if !have_one_top(forest.forest().autos.as_slice()) {
+        return Ok(false);
+    }
+    let count = count_roots(forest)?;
+    let shown = shown_roots(alloc, forest, count)?;
+    let vars = var_roots(alloc, forest.forest().vars.as_slice())?;
+    Ok(are_roots(vars.as_slice(), shown.as_slice()))
+}
+
+/// Whether each component has one root state with one rule.
+fn have_one_top(autos: &[Auto]) -> bool
+    ensures { IsTrue result ↔ Every HasOneTop autos.now }
+{
+    for auto in autos {
+        if !has_one_top(auto) {
+            return false;
+        }
+    }
+    true
+}
+
+fn has_one_top(auto: &Auto) -> bool
+    ensures { IsTrue result ↔ HasOneTop auto.now }
+{
+    auto.roots.len() == 1 && count_rules(auto.rules.as_slice(), *auto.roots.at(0)) == 1
+}
+
+/// How many of the rules are of the state.
+fn count_rules(rules: &[Rule], state: u32) -> usize
+    ensures { result ≡ rules_of state rules.now }
+{
+    let mut count = 0;
+    for rule in rules {
+        if rule.state == state {
+            count += 1;
+        }
+    }
+    count
+}
+
+/// Whether the numbers are those below `count`, in order.
+fn is_counted(numbers: &[u32], count: u32) -> bool
+    ensures { IsTrue result ↔ (numbers.now ≡ counted 0 count) }
+{
+    numbers.len() == count as usize && do_rise(numbers)
+}
+
+fn do_rise(numbers: &[u32]) -> bool
+    requires { length numbers.now < 2 ^ 32 }
+    ensures { result ≡ rise_from 0 numbers.now }
+{
+    let mut next: u32 = 0;
+    for number in numbers {
+        if *number != next {
+            return false;
+        }
+        next += 1;
+    }
+    true
+}
+
+/// Whether each root is one of a canonical forest, and no other cell is.
+fn are_roots(vars: &[u32], shown: &[Shown]) -> bool
+    requires { length shown.now < 2 ^ 32 }
+    ensures { result ≡ roots_by vars.now shown.now 0 shown.now }
+{
+    let mut root: u32 = 0;
+    for own in shown {
+        if !is_root(vars, shown, root, own) {
+            return false;
+        }
+        root += 1;
+    }
+    true
+}
+
+fn is_root(vars: &[u32], shown: &[Shown], root: u32, own: &Shown) -> bool
+    requires { length shown.now < 2 ^ 32 }
+    ensures { result ≡ root_by vars.now shown.now root own.now }
+{
+    if is_shared(vars, shown, root) {
+        !is_cell_to(root, own.ends.as_slice())
+    } else {
+        is_knot(vars, shown, root, own.marks.as_slice())
+    }
+}
+
+/// Whether a variable points to the root, or there are two references to it.
+fn is_shared(vars: &[u32], shown: &[Shown], root: u32) -> bool
+    requires { length shown.now < 2 ^ 32 }
+    ensures { result ≡ shared_by vars.now shown.now root }
+{
+    is_in(root, vars) || 2 <= count_references(root, shown)
+}
+
+/// Whether there is one reference to the root, in a field of a shared root to which its own trees refer.
+fn is_knot(vars: &[u32], shown: &[Shown], root: u32, own: &[RefMark]) -> bool
+    requires { length shown.now < 2 ^ 32 }
+    ensures { result ≡ knot_by vars.now shown.now root own.now }
+{
+    count_references(root, shown) == 1 && is_tied(vars, shown, root, own)
+}
+
+fn is_tied(vars: &[u32], shown: &[Shown], root: u32, own: &[RefMark]) -> bool
+    requires { length shown.now < 2 ^ 32 }
+    ensures { result ≡ any_ties vars.now shown.now root own.now 0 shown.now }
+{
+    let mut from: u32 = 0;
+    for above in shown {
+        if does_tie(vars, shown, root, own, from, above) {
+            return true;
+        }
+        from += 1;
+    }
+    false
+}
+
+fn does_tie(
+    vars: &[u32],
+    shown: &[Shown],
+    root: u32,
+    own: &[RefMark],
+    from: u32,
+    above: &Shown,
+) -> bool
+    requires { length shown.now < 2 ^ 32 }
+    ensures { result ≡ ties vars.now shown.now root own.now from above.now }
+{
+    is_shared(vars, shown, from)
+        && is_leaf_to(root, above.ends.as_slice())
+        && is_marked_root(own, from)
+}
+
+/// Whether a leaf that refers to the root stands at one of the ends.
+fn is_leaf_to(root: u32, ends: &[Below]) -> bool
+    ensures { result ≡ any_leaf root ends.now }
+{
+    for end in ends {
+        if end.leaf && is_marked_root(end.marks.as_slice(), root) {
+            return true;
+        }
+    }
+    false
+}
+
+/// Whether a cell whose tree refers to the root stands at one of the ends.
+fn is_cell_to(root: u32, ends: &[Below]) -> bool
+    ensures { result ≡ any_cell root ends.now }
+{
+    for end in ends {
+        if !end.leaf && is_marked_root(end.marks.as_slice(), root) {
+            return true;
+        }
+    }
+    false
+}
+
+/// How many references to the root there are, as far as two in each tree.
+fn count_references(root: u32, shown: &[Shown]) -> u64
+    requires { length shown.now < 2 ^ 32 }
+    ensures { result ≡ times_shown root shown.now }
+{
+    let mut sum: u64 = 0;
+    for own in shown {
+        sum += count_marks(own.marks.as_slice(), root);
+    }
+    sum
+}
+
+/// The references to the root for which the marks stand, as far as two.
+fn count_marks(marks: &[RefMark], root: u32) -> u64
+    ensures value { result ≡ marks_count root marks.now }
+    ensures few { result ≤ 2 }
+{
+    for mark in marks {
+        if root == mark.root {
+            return count_mark(mark);
+        }
+    }
+    0
+}
+
+fn count_mark(mark: &RefMark) -> u64
+    ensures value { result ≡ mark_count mark.now }
+    ensures few { result ≤ 2 }
+{
+    if mark.many { 2 } else { 1 }
+}

@@ -1,0 +1,94 @@
+// Forests with their components reduced.
+
+ghost use Rattle.std.specs.Prelude.{◌≡◌, IfOk};
+ghost use Rattle.fore_base.specs.Lists.{Every, Paired};
+ghost use Rattle.par_kit.specs.Crews.{IsJobs};
+ghost use Rattle.fa_core.specs.Boxless.{HasNoBoxes};
+ghost use Rattle.fa_core.specs.Canonical.{IsCanonical};
+ghost use Rattle.fa_core.specs.Covering.{Covers, Reduced};
+ghost use Rattle.fa_core.specs.Filled.{IsSound};
+ghost use Rattle.fa_order.specs.inner.Reduced.{IsReduction};
+
+use crate::referring::ranked_components;
+use fa_core::faces::Face;
+use fa_core::forest::Forest;
+use fa_sound::Sound;
+use fore_base::list::{Copies, List};
+use fore_base::memory::Mem;
+use par_kit::crew::Crew;
+use par_kit::gate::Gate;
+use std::alloc::Global;
+use std::thread::Threads;
+use ta_core::auto::Auto;
+use ta_reduce::reducing::reduce;
+
+/// The forest with each component reduced: the same languages, component by component, the same targets and data. Where the forest is canonical, so is the result. The crew runs 1 to 64 jobs and has no bearing on the answer. Err is want of memory.
+pub fn reduce_forest<R: Threads + Sync, G: Gate>(
+    rt: &R,
+    alloc: Global,
+    forest: &Sound,
+    crew: &Crew<'_, G>,
+) -> Mem<Sound>
+    requires jobs { IsJobs crew.now.jobs }
+    requires plain { Every HasNoBoxes forest.now.forest.autos }
+    ensures covers { IfOk result (λ made. Covers made.forest forest.now.forest) }
+    ensures covered { IfOk result (λ made. Covers forest.now.forest made.forest) }
+    ensures reduced { IfOk result (λ made. Reduced made.forest) }
+    ensures face { IfOk result (λ made. made.face ≡ forest.now.face) }
+    ensures plain { IfOk result (λ made. Every HasNoBoxes made.forest.autos) }
+    ensures canonical { IfOk result (λ made. IsCanonical forest.now.face forest.now.forest → IsCanonical made.face made.forest) }
+{
+    forest.known();
+    let autos = reduced_autos(rt, alloc, forest.forest().autos.as_slice(), crew)?;
+    let vars = forest.forest().vars.copy(alloc)?;
+    let data_vars = forest.forest().data_vars.copy(alloc)?;
+    let made = Forest {
+        autos,
+        vars,
+        data_vars,
+    };
+    ranked_components(&made);
+    sound_of(alloc, &made, forest.face())
+}
+
+fn reduced_autos<R: Threads + Sync, G: Gate>(
+    rt: &R,
+    alloc: Global,
+    autos: &[Auto],
+    crew: &Crew<'_, G>,
+) -> Mem<List<Auto>>
+    requires { IsJobs crew.now.jobs }
+    ensures { IfOk result (λ made. Paired IsReduction autos.now made) }
+{
+    let mut made = List::new(alloc);
+    for auto in autos {
+        let reduced = reduced_auto(rt, alloc, auto, crew)?;
+        made.push(reduced)?;
+    }
+    Ok(made)
+}
+
+fn reduced_auto<R: Threads + Sync, G: Gate>(
+    rt: &R,
+    alloc: Global,
+    auto: &Auto,
+    crew: &Crew<'_, G>,
+) -> Mem<Auto>
+    requires { IsJobs crew.now.jobs }
+    ensures { IfOk result (IsReduction auto.now) }
+{
+    reduce(rt, alloc, auto, crew)
+}
+
+/// The forest, with its signatures.
+fn sound_of(alloc: Global, forest: &Forest, face: &Face) -> Mem<Sound>
+    requires plain { Every HasNoBoxes forest.now.autos }
+    requires sound { IsSound face.now forest.now }
+    ensures forest { IfOk result (λ made. made.forest ≡ forest.now) }
+    ensures face { IfOk result (λ made. made.face ≡ face.now) }
+{
+    match Sound::make(alloc, forest, face)? {
+        Some(made) => Ok(made),
+        None => unreachable!(),
+    }
+}

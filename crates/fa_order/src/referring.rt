@@ -1,0 +1,122 @@
+// The roots to which the trees of each root refer.
+
+ghost use Rattle.std.specs.Prelude.{◌≡◌, ◌<◌, ◌^◌, ◌++◌, ◌∷◌, [], length, Some, slice_get, IfOk, OnOk};
+ghost use Rattle.fore_base.specs.Lists.{Every, Paired};
+ghost use Rattle.ta_core.specs.Auto.{Automaton, IsRanked};
+ghost use Rattle.ta_core.specs.Single.{HasOneTop};
+ghost use Rattle.fa_core.specs.Canonical.{var_roots};
+ghost use Rattle.fa_core.specs.Cells.{roots_in};
+ghost use Rattle.fa_core.specs.Ways.{has};
+ghost use Rattle.fa_order.specs.inner.Stacks.{AreRefsOf};
+
+use fa_core::forest::{Forest, Target};
+use fa_core::signature::RefMark;
+use fa_sound::Sound;
+use fore_base::list::{Copies, List};
+use fore_base::memory::Mem;
+use std::alloc::{AllocError, Global};
+use ta_core::auto::Auto;
+
+/// The roots to which the trees of each root refer, in the order of first visit.
+pub fn references(alloc: Global, forest: &Sound) -> Mem<List<List<u32>>>
+    requires { Every HasOneTop forest.now.forest.autos }
+    ensures { IfOk result (λ all. Paired AreRefsOf forest.now.forest.autos all) }
+{
+    let count = count_roots(forest)?;
+    let mut all = List::new(alloc);
+    for root in 0..count {
+        let references = root_references(alloc, forest, root)?;
+        all.push(references)?;
+    }
+    Ok(all)
+}
+
+/// How many roots the forest has. Where the number does not fit 32 bits the answer is want of memory.
+pub fn count_roots(forest: &Sound) -> Mem<u32>
+    ensures value { IfOk result (λ count. count ≡ length forest.now.forest.autos) }
+    ensures few { IfOk result (λ count. count < 2 ^ 32) }
+{
+    let count = forest.forest().autos.len();
+    if count > u32::MAX as usize {
+        return Err(AllocError);
+    }
+    Ok(count as u32)
+}
+
+/// The roots to which the trees of the root refer.
+fn root_references(alloc: Global, forest: &Sound, root: u32) -> Mem<List<u32>>
+    requires below { root < length forest.now.forest.autos }
+    requires tops { Every HasOneTop forest.now.forest.autos }
+    ensures { IfOk result (λ rs. (a : Automaton) → slice_get forest.now.forest.autos root ≡ Some a → AreRefsOf a rs) }
+{
+    let auto = forest.forest().autos.at(root as usize);
+    auto.known();
+    let state = root_state(auto);
+    marked_roots(alloc, forest.signature(root, state).refs.as_slice())
+}
+
+/// The one root state.
+pub fn root_state(auto: &Auto) -> u32
+    requires { HasOneTop auto.now }
+    ensures { auto.now.roots ≡ result ∷ [] }
+{
+    *auto.roots.at(0)
+}
+
+/// The roots of the marks.
+pub fn marked_roots(alloc: Global, marks: &[RefMark]) -> Mem<List<u32>>
+    ensures { IfOk result (λ made. made ≡ roots_in marks.now) }
+{
+    let mut made = List::new(alloc);
+    for mark in marks {
+        made.push(mark.root)?;
+    }
+    Ok(made)
+}
+
+/// Whether one of the marks is of the root.
+pub fn is_marked_root(marks: &[RefMark], root: u32) -> bool
+    ensures { result ≡ has root (roots_in marks.now) }
+{
+    for mark in marks {
+        if root == mark.root {
+            return true;
+        }
+    }
+    false
+}
+
+/// The roots at which variables are, in order.
+pub fn var_roots(alloc: Global, vars: &[Target]) -> Mem<List<u32>>
+    ensures { IfOk result (λ made. made ≡ var_roots vars.now) }
+{
+    let mut made = List::new(alloc);
+    for target in vars {
+        push_root(&mut made, *target)?;
+    }
+    Ok(made)
+}
+
+fn push_root(roots: &mut List<u32>, target: Target) -> Mem<()>
+    ensures { OnOk result (roots.new ≡ roots.old ++ var_roots (target ∷ [])) }
+{
+    if let Target::At(root) = target {
+        roots.push(root)?;
+    }
+    Ok(())
+}
+
+/// Does nothing, and says that each component keeps its ranges.
+pub fn ranked_components(forest: &Forest)
+    ensures { Every IsRanked forest.now.autos }
+{
+    ranked_autos(forest.autos.as_slice());
+}
+
+fn ranked_autos(autos: &[Auto])
+    ensures { Every IsRanked autos.now }
+{
+    for auto in autos {
+        auto.known();
+    }
+}

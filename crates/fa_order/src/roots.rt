@@ -1,0 +1,53 @@
+// Roots in the order of the walk.
+
+ghost use Rattle.std.specs.Prelude.{◌≡◌, List, length, IfOk};
+ghost use Rattle.fore_base.specs.Lists.{Every};
+ghost use Rattle.ta_core.specs.Single.{HasOneTop};
+ghost use Rattle.fa_core.specs.Boxless.{HasNoBoxes};
+ghost use Rattle.fa_core.specs.Canonical.{IsCanonical};
+ghost use Rattle.fa_core.specs.Member.{Regroups};
+ghost use Rattle.fa_core.specs.declared.boxes.BoxDef.{BoxDef};
+ghost use Rattle.fa_merge.specs.Reached.{NeverLeaks};
+ghost use Rattle.fa_merge.specs.Reordered.{IsOrderOf};
+ghost use Rattle.fa_order.specs.Kinds.{HasRootKinds};
+ghost use Rattle.fa_order.specs.Placing.{IsPlaced, IsWalkOrder};
+
+use crate::referring::{ranked_components, references, var_roots};
+use crate::walking::walk;
+use fa_merge::reorder;
+use fa_sound::Sound;
+use fore_base::list::List;
+use fore_base::memory::Mem;
+use std::alloc::Global;
+
+/// The forest with its roots in the order of the walk: depth first from the variables in order of number, through the slots of each cell in order, each root placed at its first visit. Err is want of memory.
+pub fn place_roots(alloc: Global, forest: &Sound) -> Mem<Sound>
+    requires plain { Every HasNoBoxes forest.now.forest.autos }
+    requires kinds { HasRootKinds forest.now.face forest.now.forest }
+    requires tight { NeverLeaks forest.now.forest }
+    ensures canonical { IfOk result (λ made. IsCanonical made.face made.forest) }
+    ensures value { IfOk result (λ made. IsPlaced forest.now.forest made.forest) }
+    ensures face { IfOk result (λ made. made.face ≡ forest.now.face) }
+    ensures whole { IfOk result (λ made. (T : List BoxDef) → Regroups T made.forest forest.now.forest) }
+    ensures regroups { IfOk result (λ made. (T : List BoxDef) → Regroups T forest.now.forest made.forest) }
+    ensures vars { IfOk result (λ made. length made.forest.vars ≡ length forest.now.forest.vars) }
+    ensures data { IfOk result (λ made. made.forest.data_vars ≡ forest.now.forest.data_vars) }
+    ensures plain { IfOk result (λ made. Every HasNoBoxes made.forest.autos) }
+    ensures same { IfOk result (λ made. IsCanonical forest.now.face forest.now.forest → made.forest ≡ forest.now.forest) }
+{
+    forest.known();
+    ranked_components(forest.forest());
+    let order = walk_order(alloc, forest)?;
+    reorder(alloc, forest, order.as_slice())
+}
+
+/// The roots that are reached, in the order of the walk. Err is want of memory.
+pub fn walk_order(alloc: Global, forest: &Sound) -> Mem<List<u32>>
+    requires { Every HasOneTop forest.now.forest.autos }
+    ensures { IfOk result (IsWalkOrder forest.now.forest) }
+{
+    forest.known();
+    let refers = references(alloc, forest)?;
+    let from = var_roots(alloc, forest.forest().vars.as_slice())?;
+    walk(alloc, from.as_slice(), &refers)
+}

@@ -1,0 +1,79 @@
+// The walk that places the roots, by a stack of roots to be visited.
+
+ghost use Rattle.std.specs.Prelude.{◌≡◌, ◌<◌, ◌++◌, ◌∷◌, [], ℕ, List, length, IfOk, OnOk};
+ghost use Rattle.fore_base.specs.Lists.{Every};
+ghost use Rattle.fa_core.specs.References.{AllBelow};
+ghost use Rattle.fa_core.specs.Ways.{has};
+ghost use Rattle.fa_order.specs.Placing.{Placing};
+ghost use Rattle.fa_order.specs.inner.Stacks.{behind, nth_refs, weight};
+
+use fore_base::list::{Copies, List};
+use fore_base::memory::Mem;
+use std::alloc::Global;
+
+/// The roots in the order of the walk from these. Err is want of memory.
+pub fn walk(alloc: Global, from: &[u32], refers: &List<List<u32>>) -> Mem<List<u32>>
+    requires from { AllBelow (length refers.now) from.now }
+    requires refers { Every (AllBelow (length refers.now)) refers.now }
+    ensures { IfOk result (λ order. Placing (nth_refs refers.now) from.now [] order) }
+{
+    let mut stack = List::new(alloc);
+    let mut placed = List::new(alloc);
+    push_all(&mut stack, from)?;
+    while let Some(root) = stack.pop() {
+        visit(&mut stack, &mut placed, refers, root)?;
+    }
+    Ok(placed)
+}
+
+/// Visits the root: where it is not placed yet it is placed, and the roots to which it refers are to be visited.
+fn visit(
+    stack: &mut List<u32>,
+    placed: &mut List<u32>,
+    refers: &List<List<u32>>,
+    root: u32,
+) -> Mem<()>
+    requires { root < length refers.now }
+    ensures goes { OnOk result ((order : List ℕ) → Placing (nth_refs refers.now) (behind stack.new) placed.new order → Placing (nth_refs refers.now) (root ∷ behind stack.old) placed.old order) }
+    ensures falls { OnOk result (weight refers.now (behind stack.new) placed.new < weight refers.now (root ∷ behind stack.old) placed.old) }
+    ensures below { OnOk result (Every (AllBelow (length refers.now)) refers.now → AllBelow (length refers.now) (behind stack.old) → AllBelow (length refers.now) (behind stack.new)) }
+{
+    if is_in(root, placed.as_slice()) {
+        Ok(())
+    } else {
+        placed.push(root)?;
+        push_refs(stack, refers, root)?;
+        Ok(())
+    }
+}
+
+fn push_refs(stack: &mut List<u32>, refers: &List<List<u32>>, root: u32) -> Mem<()>
+    requires { root < length refers.now }
+    ensures { OnOk result (behind stack.new ≡ nth_refs refers.now root ++ behind stack.old) }
+{
+    push_all(stack, refers.at(root as usize).as_slice())?;
+    Ok(())
+}
+
+/// Puts the roots on the stack so that the first of them is on top.
+#[tactic(auto, using(crate::proofs::Weights::behind_last))]
+fn push_all(stack: &mut List<u32>, roots: &[u32]) -> Mem<()>
+    ensures { OnOk result (behind stack.new ≡ roots.now ++ behind stack.old) }
+{
+    for place in (0..roots.len()).rev() {
+        stack.push(roots[place])?;
+    }
+    Ok(())
+}
+
+/// Whether the root stands in the list.
+pub fn is_in(root: u32, placed: &[u32]) -> bool
+    ensures { result ≡ has root placed.now }
+{
+    for other in placed {
+        if root == *other {
+            return true;
+        }
+    }
+    false
+}

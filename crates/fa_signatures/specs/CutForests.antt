@@ -1,0 +1,37 @@
+-- A forest cut by the signatures of its components.
+use Rattle.std.specs.Prelude.{◌≡◌, ◌↔◌, List, map}
+use Rattle.fore_base.specs.Lists.{IsIn, Every, Paired}
+use Rattle.fore_base.specs.declared.shape.Shape.{Shape}
+use Rattle.fore_base.specs.declared.store.Store.{Store}
+use Rattle.ta_core.specs.declared.tree.Tree.{Tree}
+use Rattle.fa_core.specs.declared.faces.BoxFace.{BoxFace}
+use Rattle.fa_core.specs.declared.forest.Forest.{Forest}
+use Rattle.fa_core.specs.declared.boxes.BoxDef.{BoxDef}
+use Rattle.fa_core.specs.Filled.{Choice}
+use Rattle.fa_core.specs.Member.{Stands}
+use Rattle.fa_sound.specs.Soundness.{SoundForest}
+use Rattle.fa_signatures.specs.CutPieces.{IsPiece, ShareSignature, AreApart}
+
+-- each component of G has the trees of one signature of F's in its place; targets and data are those of F
+pub record IsCutForest (bs : List BoxFace) (F G : Forest) : Type 0 where
+  pub autos : Paired (IsPiece bs) F.autos G.autos
+  pub vars : G.vars ≡ F.vars
+  pub data_vars : G.data_vars ≡ F.data_vars
+
+-- each component of the one forest has a tree with the signature of one of the other's in its place
+abbrev pub ShareSignatures : List BoxFace → Forest → Forest → Type 0
+ShareSignatures bs F G = Paired (ShareSignature bs) F.autos G.autos
+
+-- the forests cut F: each has one signature of each component, each choice of trees is one of some of them, and no two have the same signatures
+pub record AreCutForests (bs : List BoxFace) (F : Forest) (Gs : List Forest) : Type 0 where
+  pub each : Every (IsCutForest bs F) Gs
+  pub whole : (ts : List Tree) → Choice F.autos ts → (G : Forest) × IsIn G Gs × Choice G.autos ts
+  pub apart : AreApart (ShareSignatures bs) Gs
+
+-- the forests, without their faces and signatures
+abbrev pub forests : List SoundForest → List Forest
+forests list = map (λ s. s.forest) list
+
+-- F and the forests of the list together have the same members, whatever the structs and the box table are
+abbrev pub IsUnionOf : Forest → List Forest → Type 0
+IsUnionOf F Gs = (hs : List Shape) (T : List BoxDef) (s : Store) → Stands hs T F s ↔ ((G : Forest) × IsIn G Gs × Stands hs T G s)

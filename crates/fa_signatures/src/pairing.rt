@@ -1,0 +1,212 @@
+// Pairs of a state and a signature of some of its trees, and the rules over them: found from the leaves upward.
+
+ghost use Rattle.std.specs.Prelude.{◌≡◌, ◌↔◌, ◌++◌, ◌∷◌, [], length, map, slice_get, Some, IsTrue, IfOk, OnOk, MatchOption};
+ghost use Rattle.fore_base.specs.Lists.{IsIn, Paired, IsDistinct};
+ghost use Rattle.fa_signatures.specs.inner.CutPairs.{below_pair, marks_over, ArePlacesOf, ArePairRules, GrowsOr, AddsRule, AddsEach, AddsRules};
+
+use crate::products::product;
+use fa_core::cells::marks_by;
+use fa_core::faces::BoxFace;
+use fa_core::signature::{Below, RefMark};
+use fore_base::list::{Copies, List};
+use fore_base::memory::Mem;
+use std::alloc::{AllocError, Global};
+use ta_core::auto::Rule;
+
+/// A state and a signature of some of its trees.
+pub type Pair = (u32, List<RefMark>);
+
+/// The pairs that were found, and the rules over them. The state of such a rule is the place of a pair.
+#[derive(Debug, Drop)]
+pub struct Found {
+    pub pairs: List<Pair>,
+    pub rules: List<Rule>,
+}
+
+/// The pairs that the rules give, and the rules over them. Err is want of memory.
+pub fn pair_up(alloc: Global, boxes: &[BoxFace], rules: &[Rule]) -> Mem<Found>
+    ensures rules { IfOk result (λ found. ArePairRules boxes.now found.pairs rules.now found.rules) }
+    ensures apart { IfOk result (λ found. IsDistinct found.pairs) }
+{
+    let mut pairs = List::new(alloc);
+    'rounds: loop {
+        let before = pairs.len();
+        let over = rules_over(alloc, boxes, rules, &mut pairs)?;
+        if pairs.len() == before {
+            return Ok(Found { pairs, rules: over });
+        }
+    }
+}
+
+/// The rules over the pairs that are there. Pairs that they give and that are not there are added.
+fn rules_over(
+    alloc: Global,
+    boxes: &[BoxFace],
+    rules: &[Rule],
+    pairs: &mut List<Pair>,
+) -> Mem<List<Rule>>
+    ensures grows { IfOk result (λ over. GrowsOr pairs.old pairs.new (ArePairRules boxes.now pairs.old rules.now over)) }
+    ensures apart { OnOk result (IsDistinct pairs.old → IsDistinct pairs.new) }
+{
+    let mut over = List::new(alloc);
+    for rule in rules {
+        take_rule(alloc, boxes, rule, pairs, &mut over)?;
+    }
+    Ok(over)
+}
+
+/// Adds the rules that stand for this one, over each choice of pairs for its children.
+fn take_rule(
+    alloc: Global,
+    boxes: &[BoxFace],
+    rule: &Rule,
+    pairs: &mut List<Pair>,
+    over: &mut List<Rule>,
+) -> Mem<()>
+    ensures grows { OnOk result (GrowsOr pairs.old pairs.new (AddsRules boxes.now pairs.old rule.now over.old over.new)) }
+    ensures apart { OnOk result (IsDistinct pairs.old → IsDistinct pairs.new) }
+{
+    let options = options(alloc, pairs.as_slice(), rule.children.as_slice())?;
+    let choices = product(alloc, options.as_slice())?;
+    add_rules(alloc, boxes, rule, choices.as_slice(), pairs, over)
+}
+
+/// Adds a rule that stands for this one for each of the choices.
+fn add_rules(
+    alloc: Global,
+    boxes: &[BoxFace],
+    rule: &Rule,
+    choices: &[List<u32>],
+    pairs: &mut List<Pair>,
+    over: &mut List<Rule>,
+) -> Mem<()>
+    ensures grows { OnOk result (GrowsOr pairs.old pairs.new (AddsEach boxes.now pairs.old rule.now choices.now over.old over.new)) }
+    ensures apart { OnOk result (IsDistinct pairs.old → IsDistinct pairs.new) }
+{
+    for choice in choices {
+        add_rule(alloc, boxes, rule, choice, pairs, over)?;
+    }
+    Ok(())
+}
+
+/// Adds the rule that stands for this one over the pairs in these places.
+fn add_rule(
+    alloc: Global,
+    boxes: &[BoxFace],
+    rule: &Rule,
+    places: &List<u32>,
+    pairs: &mut List<Pair>,
+    over: &mut List<Rule>,
+) -> Mem<()>
+    ensures grows { OnOk result (GrowsOr pairs.old pairs.new (AddsRule boxes.now pairs.old rule.now places.now over.old over.new)) }
+    ensures apart { OnOk result (IsDistinct pairs.old → IsDistinct pairs.new) }
+{
+    let belows = belows_at(alloc, pairs.as_slice(), places.as_slice())?;
+    let marks = marks_by(alloc, boxes, &rule.symbol, belows.as_slice())?;
+    let state = place_for(rule.state, marks, pairs)?;
+    let symbol = rule.symbol.copy(alloc)?;
+    let children = places.copy(alloc)?;
+    over.push(Rule {
+        state,
+        symbol,
+        children,
+    })
+}
+
+/// The place of the pair of this state and signature, which is added where it is not there.
+fn place_for(state: u32, marks: List<RefMark>, pairs: &mut List<Pair>) -> Mem<u32>
+    ensures grows { IfOk result (λ place. GrowsOr pairs.old pairs.new (slice_get pairs.old place ≡ Some (state, marks))) }
+    ensures apart { OnOk result (IsDistinct pairs.old → IsDistinct pairs.new) }
+{
+    if let Some(place) = place_of(pairs.as_slice(), state, marks.as_slice()) {
+        return number_of(place);
+    }
+    let place = number_of(pairs.len())?;
+    pairs.push((state, marks))?;
+    Ok(place)
+}
+
+/// The number. One that does not fit 32 bits is want of memory.
+pub fn number_of(place: usize) -> Mem<u32>
+    ensures { IfOk result (λ number. number ≡ place) }
+{
+    if place > u32::MAX as usize {
+        return Err(AllocError);
+    }
+    Ok(place as u32)
+}
+
+/// A place of the pair of this state and signature.
+fn place_of(pairs: &[Pair], state: u32, marks: &[RefMark]) -> Option<usize>
+    ensures { MatchOption result (IsIn (state, marks.now) pairs.now → ⊥) (λ place. slice_get pairs.now place ≡ Some (state, marks.now)) }
+{
+    for (place, pair) in pairs.iter().enumerate() {
+        if pair.0 == state && are_same(pair.1.as_slice(), marks) {
+            return Some(place);
+        }
+    }
+    None
+}
+
+/// Whether both are one signature.
+pub fn are_same(left: &[RefMark], right: &[RefMark]) -> bool
+    ensures { IsTrue result ↔ (left.now ≡ right.now) }
+{
+    if left.len() != right.len() {
+        return false;
+    }
+    for (place, mark) in left.iter().enumerate() {
+        if !mark.is_same(&right[place]) {
+            return false;
+        }
+    }
+    true
+}
+
+/// For each of the states the places of its pairs.
+fn options(alloc: Global, pairs: &[Pair], states: &[u32]) -> Mem<List<List<u32>>>
+    ensures { IfOk result (λ options. Paired (ArePlacesOf pairs.now) options states.now) }
+{
+    let mut options = List::new(alloc);
+    for state in states {
+        let places = places_of(alloc, pairs, *state)?;
+        options.push(places)?;
+    }
+    Ok(options)
+}
+
+/// The places of the pairs of this state.
+fn places_of(alloc: Global, pairs: &[Pair], state: u32) -> Mem<List<u32>>
+    ensures { IfOk result (λ places. ArePlacesOf pairs.now places state) }
+{
+    let mut places = List::new(alloc);
+    for (place, pair) in pairs.iter().enumerate() {
+        if pair.0 == state {
+            let number = number_of(place)?;
+            places.push(number)?;
+        }
+    }
+    Ok(places)
+}
+
+/// What is known of trees of the pairs in these places.
+fn belows_at(alloc: Global, pairs: &[Pair], places: &[u32]) -> Mem<List<Below>>
+    ensures { IfOk result (λ belows. belows ≡ map (below_pair pairs.now) places.now) }
+{
+    let mut belows = List::new(alloc);
+    for place in places {
+        let below = below_pair(alloc, pairs, *place)?;
+        belows.push(below)?;
+    }
+    Ok(belows)
+}
+
+fn below_pair(alloc: Global, pairs: &[Pair], place: u32) -> Mem<Below>
+    ensures { IfOk result (λ below. below ≡ below_pair pairs.now place) }
+{
+    let marks = match pairs.get(place as usize) {
+        Some(pair) => pair.1.copy(alloc)?,
+        None => List::new(alloc),
+    };
+    Ok(Below { leaf: false, marks })
+}
