@@ -6,7 +6,7 @@ use Rattle.fore_base.specs.declared.named_files.NamedFile.{NamedFile}
 
 pub record ShelfState : Type 0 where
   pub files : List NamedFile  -- the files that it holds
-  pub given : List NamedFile  -- what it gave last of each path that was read
+  pub given : List NamedFile  -- the readings that were answered, in their order
   pub fails : List ℕ  -- the numbers of the calls that are to fail
   pub calls : ℕ  -- how often it was called
   pub faults : ℕ  -- how often a call failed

@@ -4,6 +4,10 @@ use Rattle.std.specs.Option.{option_map}
 use Rattle.std.specs.Cmp.Lexicographic.{pointwise}
 use Rattle.fore_base.specs.declared.named_files.NamedFile.{NamedFile}
 
+-- one answered reading: the path that was asked for, and the bytes that it gave
+abbrev pub reading : List ℕ → List ℕ → NamedFile
+reading path bytes = record { name = path; bytes = bytes }
+
 -- the file has this path
 abbrev pub is_named : List ℕ → NamedFile → Bool
 is_named name file = pointwise nat_eq file.name name

@@ -1,19 +1,19 @@
 // A shelf over real files: the trusted edge of what is read.
-ghost use Rattle.std.specs.Prelude.{◌≡◌, ◌≢◌, ◌≤◌, ◌<◌, ℕ, List, [], Some, length, IfOk, IfSome, OnErr, IsErrOf};
-ghost use Rattle.fore_base.specs.NamedFiles.{bytes_of};
+ghost use Rattle.std.specs.Prelude.{◌≡◌, ◌≢◌, ◌≤◌, ◌<◌, ◌++◌, ◌∷◌, ℕ, List, [], length, IfOk, IfSome, OnErr, IsErrOf};
+ghost use Rattle.fore_base.specs.NamedFiles.{reading};
 ghost use Rattle.fore_base.specs.Outside.{Rose, untold};
 ghost use Rattle.fore_base.specs.Counts.{one_more};
 ghost use Rattle.fore_base.specs.declared.shelf.ShelfFault.TheVariants as ShelfFault;
 
 use crate::list::List;
-use crate::named_files::{NamedFile, put_bytes};
+use crate::named_files::{NamedFile, note_reading};
 use crate::shelf::{Shelf, ShelfFault};
 use std::alloc::Global;
 use std::io::Read;
 use std::rt::Files;
 use std::{fs, io};
 
-/// A shelf that reads real files. It does not tell what they hold; it keeps what it gave last of each path, and one count of faults for all
+/// A shelf that reads real files. It does not tell what they hold; it keeps each reading that was answered, and one count of faults for all
 /// paths.
 #[derive(Drop)]
 pub struct FileShelf<'r, R: Files> {
@@ -44,11 +44,9 @@ impl<'r, R: Files> FileShelf<'r, R> {
 }
 
 impl<'r, R: Files> Shelf for FileShelf<'r, R> {
-    ghost use Rattle.fore_base.specs.NamedFiles.{bytes_of};
-
     ghost holds = { λ _ _. untold };
 
-    ghost given = { λ shelf path. bytes_of shelf.given path };
+    ghost given = { λ shelf. shelf.given };
 
     ghost faults = { λ shelf _. shelf.faults };
 
@@ -65,9 +63,8 @@ impl<'r, R: Files> Shelf for FileShelf<'r, R> {
         ensures long { IsErrOf result ShelfFault.TooLong → IfSome untold (λ held. limit < length held) }
         ensures failed { IsErrOf result ShelfFault.Failed → Rose self.old.faults self.new.faults }
         ensures counts_failed_alone { (IsErrOf result ShelfFault.Failed → ⊥) → (p : List ℕ) → self.new.faults ≡ self.old.faults }
-        ensures gives { IfOk result (λ bytes. bytes_of self.new.given path.now ≡ Some bytes) }
-        ensures gives_no_other { (p : List ℕ) → p ≢ path.now → bytes_of self.new.given p ≡ bytes_of self.old.given p }
-        ensures gives_nothing { OnErr result ((p : List ℕ) → bytes_of self.new.given p ≡ bytes_of self.old.given p) }
+        ensures gives { IfOk result (λ bytes. self.new.given ≡ self.old.given ++ reading path.now bytes ∷ []) }
+        ensures gives_nothing { OnErr result (self.new.given ≡ self.old.given) }
         ensures counted { IsErrOf result ShelfFault.Failed → self.new.faults ≡ one_more self.old.faults }
     {
         let answer = read_noted(self.files, &mut self.given, alloc, path, limit);
@@ -87,12 +84,11 @@ fn read_noted<R: Files>(
     limit: usize,
 ) -> Result<List<u8>, ShelfFault>
     ensures within { IfOk result (λ bytes. length bytes ≤ limit) }
-    ensures gives { IfOk result (λ bytes. bytes_of given.new path.now ≡ Some bytes) }
-    ensures gives_no_other { (p : List ℕ) → p ≢ path.now → bytes_of given.new p ≡ bytes_of given.old p }
+    ensures gives { IfOk result (λ bytes. given.new ≡ given.old ++ reading path.now bytes ∷ []) }
     ensures err { OnErr result (given.new ≡ given.old) }
 {
     let bytes = read_path(files, alloc, path, limit)?;
-    put_bytes(alloc, given, path, bytes.as_slice())?;
+    note_reading(alloc, given, path, bytes.as_slice())?;
     Ok(bytes)
 }
 

@@ -1,14 +1,14 @@
 // A shelf in memory, for tests: what it holds is known, and calls fail where they are to.
 ghost use Rattle.std.specs.Prelude.{◌≡◌, ◌≢◌, ◌≤◌, ◌<◌, ◌↔◌, ◌++◌, [], ◌∷◌, ℕ, List, Some, None, length, is_none, if◌then◌else◌, IsNone, IsSomeAnd, IfOk, IfSome, IsErrOf, OnOk, OnErr};
 ghost use Rattle.std.specs.Option.{option_copied};
-ghost use Rattle.fore_base.specs.NamedFiles.{bytes_of};
+ghost use Rattle.fore_base.specs.NamedFiles.{bytes_of, reading};
 ghost use Rattle.fore_base.specs.declared.shelf.ShelfFault.TheVariants as ShelfFault;
 
 use crate::counts::is_listed;
 use crate::list::List;
 use crate::memory::Mem;
 pub use crate::named_files::NamedFile;
-use crate::named_files::{find_named, put_bytes};
+use crate::named_files::{find_named, note_reading, put_bytes};
 use crate::shelf::{Shelf, ShelfFault};
 use std::alloc::Global;
 use std::marker::Model;
@@ -88,11 +88,11 @@ impl Shelf for MemShelf {
     ghost use Rattle.fore_base.specs.Outside.{Rose};
     ghost use Rattle.fore_base.specs.Counts.{one_more};
     ghost use Rattle.fore_base.specs.MemShelves.{found};
-    ghost use Rattle.fore_base.specs.NamedFiles.{bytes_of};
+    ghost use Rattle.fore_base.specs.NamedFiles.{bytes_of, reading};
 
     ghost holds = { λ shelf path. bytes_of shelf.files path };
 
-    ghost given = { λ shelf path. bytes_of shelf.given path };
+    ghost given = { λ shelf. shelf.given };
 
     ghost faults = { λ shelf path. shelf.faults };
 
@@ -110,9 +110,8 @@ impl Shelf for MemShelf {
         ensures long { IsErrOf result ShelfFault.TooLong → IfSome (bytes_of self.old.files path.now) (λ held. limit < length held) }
         ensures failed { IsErrOf result ShelfFault.Failed → Rose self.old.faults self.new.faults }
         ensures counts_failed_alone { (IsErrOf result ShelfFault.Failed → ⊥) → (p : List ℕ) → self.new.faults ≡ self.old.faults }
-        ensures gives { IfOk result (λ bytes. bytes_of self.new.given path.now ≡ Some bytes) }
-        ensures gives_no_other { (p : List ℕ) → p ≢ path.now → bytes_of self.new.given p ≡ bytes_of self.old.given p }
-        ensures gives_nothing { OnErr result ((p : List ℕ) → bytes_of self.new.given p ≡ bytes_of self.old.given p) }
+        ensures gives { IfOk result (λ bytes. self.new.given ≡ self.old.given ++ reading path.now bytes ∷ []) }
+        ensures gives_nothing { OnErr result (self.new.given ≡ self.old.given) }
         ensures exactly_failed { IsErrOf result ShelfFault.Failed ↔ IsNone (found self.old path.now) }
         ensures exactly_long { IsErrOf result ShelfFault.TooLong ↔ IsSomeAnd (found self.old path.now) (λ held. limit < length held) }
         ensures whole { IfOk result (λ bytes. found self.old path.now ≡ Some bytes) }
@@ -130,7 +129,7 @@ impl Shelf for MemShelf {
             }
             Some(held) => {
                 let bytes = copy_within(alloc, held, limit)?;
-                put_bytes(alloc, &mut self.given, path, bytes.as_slice())?;
+                note_reading(alloc, &mut self.given, path, bytes.as_slice())?;
                 Ok(bytes)
             }
         }

@@ -1,7 +1,7 @@
 // Files in memory, found by their paths.
-ghost use Rattle.std.specs.Prelude.{◌≡◌, ◌≢◌, ℕ, List, Some, find, position, OnOk, OnErr};
+ghost use Rattle.std.specs.Prelude.{◌≡◌, ◌≢◌, ◌++◌, ◌∷◌, [], ℕ, List, Some, find, position, IfOk, OnOk, OnErr};
 ghost use Rattle.std.specs.Option.{option_copied};
-ghost use Rattle.fore_base.specs.NamedFiles.{is_named, bytes_of};
+ghost use Rattle.fore_base.specs.NamedFiles.{is_named, bytes_of, reading};
 
 use crate::list::List;
 use crate::memory::Mem;
@@ -27,11 +27,36 @@ pub fn put_bytes(alloc: Global, files: &mut List<NamedFile>, path: &str, bytes: 
     ensures others { OnOk result ((other : List ℕ) → other ≢ path.now → bytes_of files.new other ≡ bytes_of files.old other) }
     ensures err { OnErr result (files.new ≡ files.old) }
 {
-    let file = NamedFile {
+    let file = copy_file(alloc, path, bytes)?;
+    put_file(files, file)
+}
+
+/// Notes one more reading, of this path and these bytes, after those that were noted.
+///
+/// # Errors
+///
+/// Want of memory; then the readings are as they were.
+pub fn note_reading(
+    alloc: Global,
+    readings: &mut List<NamedFile>,
+    path: &str,
+    bytes: &[u8],
+) -> Mem<()>
+    ensures ok { OnOk result (readings.new ≡ readings.old ++ reading path.now bytes.now ∷ []) }
+    ensures err { OnErr result (readings.new ≡ readings.old) }
+{
+    let file = copy_file(alloc, path, bytes)?;
+    readings.push(file)
+}
+
+// A file of this path and these bytes, in memory of its own.
+fn copy_file(alloc: Global, path: &str, bytes: &[u8]) -> Mem<NamedFile>
+    ensures { IfOk result (λ file. file ≡ reading path.now bytes.now) }
+{
+    Ok(NamedFile {
         name: Text::from_slice(alloc, path.as_bytes())?,
         bytes: Text::from_slice(alloc, bytes)?,
-    };
-    put_file(files, file)
+    })
 }
 
 /// The first file of this path; None where there is none.

@@ -1,6 +1,8 @@
 // Where files are read from.
-ghost use Rattle.std.specs.Prelude.{◌≡◌, ◌≢◌, ◌≤◌, ◌<◌, ℕ, List, Option, Some, length, IfOk, IfSome, OnErr, IsErrOf};
+ghost use Rattle.std.specs.Prelude.{◌≡◌, ◌≤◌, ◌<◌, ◌++◌, ◌∷◌, [], ℕ, List, Option, length, IfOk, IfSome, OnErr, IsErrOf};
 ghost use Rattle.fore_base.specs.Outside.{Rose};
+ghost use Rattle.fore_base.specs.NamedFiles.{reading};
+ghost use Rattle.fore_base.specs.declared.named_files.NamedFile.{NamedFile};
 
 use crate::list::List;
 use std::alloc::{AllocError, Global};
@@ -38,8 +40,8 @@ pub trait Shelf {
     // the bytes of the file of this path, where the shelf tells them
     ghost holds: { Self → List ℕ → Option (List ℕ) };
 
-    // what the last reading of this path that was answered gave; none before any
-    ghost given: { Self → List ℕ → Option (List ℕ) };
+    // the readings that were answered, in their order: each the path that was asked for, and the bytes that it gave
+    ghost given: { Self → List NamedFile };
 
     // how often the reading of this path has failed; a shelf may keep one number for all paths
     ghost faults: { Self → List ℕ → ℕ };
@@ -58,7 +60,6 @@ pub trait Shelf {
         ensures long { IsErrOf result ShelfFault.TooLong → IfSome (holds self.old path.now) (λ held. limit < length held) }
         ensures failed { IsErrOf result ShelfFault.Failed → Rose (faults self.old path.now) (faults self.new path.now) }
         ensures counts_failed_alone { (IsErrOf result ShelfFault.Failed → ⊥) → (p : List ℕ) → faults self.new p ≡ faults self.old p }
-        ensures gives { IfOk result (λ bytes. given self.new path.now ≡ Some bytes) }
-        ensures gives_no_other { (p : List ℕ) → p ≢ path.now → given self.new p ≡ given self.old p }
-        ensures gives_nothing { OnErr result ((p : List ℕ) → given self.new p ≡ given self.old p) };
+        ensures gives { IfOk result (λ bytes. given self.new ≡ given self.old ++ reading path.now bytes ∷ []) }
+        ensures gives_nothing { OnErr result (given self.new ≡ given self.old) };
 }
