@@ -27,7 +27,7 @@ use Rattle.fa_core.specs.Ways.{gives_out_of}
 use Rattle.fa_core.proofs.Counts.{below_both}
 use Rattle.fa_core.proofs.Dressing.{dress_all, numbered_differ, choice_of, choice_length, bares_length}
 use Rattle.fa_core.proofs.FilledCells.{IsApart, cells_filled, trees_filled}
-use Rattle.fa_core.proofs.Given.{inner, inner_of, end_inner, all_inner, inner_number, root_numbers}
+use Rattle.fa_core.proofs.Given.{inner_of, end_inner, all_inner, inner_number, root_numbers}
 use Rattle.fa_core.proofs.NodeSpots.{tree_below}
 use Rattle.fa_core.proofs.Permuted.{distinct_moved, distinct_parts, none_in_both}
 use Rattle.fa_core.proofs.Rearranging.{back, after, exchange}

@@ -16,12 +16,12 @@ use Rattle.fa_core.specs.declared.boxes.BoxDef.{BoxDef}
 use Rattle.fa_core.specs.declared.faces.BoxFace.{BoxFace}
 use Rattle.fa_core.specs.declared.faces.Face.{Face}
 use Rattle.fa_core.specs.declared.forest.Target.TheVariants.{At}
-use Rattle.fa_core.specs.Boxes.{PortSymbolFits, IsChild, PortRulesFit, IsPortFilled, InsideFits, Reaches, named, heads, OutFits, IsReached, LeadsUp, BackHolds, SoundBox}
+use Rattle.fa_core.specs.Boxes.{PortSymbolFits, IsChild, PortRulesFit, CoverAlike, CoverSome, IsPortFilled, InsideFits, Reaches, named, heads, OutFits, IsReached, LeadsUp, BackHolds, SoundBox}
 use Rattle.fa_core.specs.Canonical.{RefersTo}
 use Rattle.fa_core.specs.Choices.{bares}
 use Rattle.fa_core.specs.Dressed.{Node, Parts, End, Nodes, node, no_parts, field, link, hook, under, leaf, no_nodes, more, inside_facts}
-use Rattle.fa_core.specs.Filled.{Choice, spots, given_at}
-use Rattle.fa_core.specs.Folding.{symbol_slots}
+use Rattle.fa_core.specs.Filled.{HasField, Choice, spots, given_at}
+use Rattle.fa_core.specs.Folding.{symbol_slots, covered_fields}
 use Rattle.fa_core.specs.Member.{TreesOf, bare, bare_parts, bare_end, slots_of}
 use Rattle.fa_core.specs.Rearranged.{empty, keep}
 use Rattle.fa_core.specs.Ways.{signature}
@@ -51,8 +51,16 @@ port_runs c f r =
 abbrev pub box_face : BoxFace
 box_face = record { input = 0; output = Some 0; gives_in = 0 ∷ []; gives_out = 1 ∷ []; back = true }
 
+-- its name: dll
+abbrev pub dll_name : List ℕ
+dll_name = 100 ∷ 108 ∷ 108 ∷ []
+
 abbrev pub dll_box : BoxDef
-dll_box = record { name = []; face = box_face; inside = record { autos = port 0 1 ∷ port 1 0 ∷ []; vars = []; data_vars = [] } }
+dll_box = record {
+  name = dll_name;
+  face = box_face;
+  inside = record { autos = port 0 1 ∷ port 1 0 ∷ []; vars = []; data_vars = [] };
+}
 
 -- no state of it stands at the top and below
 no_child : (f r : ℕ) → IsChild (port f r) 0 → ⊥
@@ -68,6 +76,19 @@ port_rules face f r h = record {
 
 pub port_single : (f r : ℕ) → IsSingle (port f r)
 port_single f r = ((refl, (refl, tt)), (0, refl))
+
+-- a single automaton covers the fields of its one tree; the input of dll covers next
+pub single_covers : (bs : List BoxFace) (a : Automaton) → IsSingle a → CoverAlike bs a
+single_covers bs a s t u h k f i = subst (λ (x : Tree). IsIn f (covered_fields bs x)) (single_tree a t u s h k) i
+
+pub port_covers : (bs : List BoxFace) (f r : ℕ) → covered_fields bs (bare (port_node 0 f r)) ≡ f ∷ []
+port_covers bs f r = let e = cell_top 0 0 [] (field f (leaf (At r)) no_parts) in rw e refl
+
+pub port_covers_some : (bs : List BoxFace) (f r : ℕ) → CoverSome bs (port f r)
+port_covers_some bs f r t h =
+    let e = port_covers bs f r in
+    let i = single_tree (port f r) (bare (port_node 0 f r)) t (port_single f r) (port_runs 0 f r) h in
+    subst (λ (x : Tree). HasField (covered_fields bs x)) i (rw e tt)
 
 abbrev pub port_nodes : Nodes
 port_nodes = more (port_node 0 0 1) (more (port_node 1 1 0) no_nodes)
@@ -210,6 +231,11 @@ dll_sound T = record {
   full = ((bare (port_node 0 0 1), port_runs 0 0 1), ((bare (port_node 1 1 0), port_runs 1 1 0), tt));
   fits = λ ts c. subst (λ (us : List Tree). InsideFits dll_face box_face us) (single_choice (port 0 1 ∷ port 1 0 ∷ []) (bares port_nodes) ts (port_single 0 1, (port_single 1 0, tt)) port_choice c) dll_fits;
   covers = λ e. (let z : 1 ≡ 0 = ap (λ (l : List ℕ). length l) e in omega (arith, z));
+  ports = (
+    single_covers dll (port 0 1) (port_single 0 1),
+    port_covers_some dll 0 1,
+    single_covers dll (port 1 0) (port_single 1 0),
+  );
   in_order = (tt, tt);
   signatures = (
     (λ q p t u x y. ap (signature dll) (same_tree (port 0 1).rules (port_single 0 1).0 q t u x y)),

@@ -1,7 +1,8 @@
 -- A worked part and its fold: two cells of a doubly linked list that refer to each other, and the edge in their place.
-use Rattle.std.proofs.Common.{◌≡◌, inl, inr, ℕ, zero, suc, List, [], ◌∷◌, ◌++◌, map, flat_map, refl, sym, ap, ap₂, subst, ◌∙◌, Some, slice_get, arith}
+use Rattle.std.proofs.Common.{◌≡◌, inl, inr, ℕ, zero, suc, List, [], ◌∷◌, ◌++◌, map, refl, sym, ap, ap₂, subst, ◌∙◌, Some, slice_get, arith}
+use Rattle.std.proofs.lemmas.Bool.{ne_eqb}
 use Rattle.std.proofs.lemmas.Option.{none-some, same_Some}
-use Rattle.fore_base.specs.Lists.{IsIn}
+use Rattle.fore_base.specs.Lists.{IsIn, IsDistinct}
 use Rattle.fore_base.specs.declared.store.Datum.{Datum}
 use Rattle.ta_core.specs.Auto.{Automaton}
 use Rattle.ta_core.specs.Language.{InLanguage}
@@ -16,7 +17,7 @@ use Rattle.fa_core.specs.declared.forest.Forest.{Forest}
 use Rattle.fa_core.specs.declared.forest.Target.TheVariants.{Null as NullTarget, At}
 use Rattle.fa_core.specs.Dressed.{Node, node, no_parts, field, link, leaf, no_nodes}
 use Rattle.fa_core.specs.Filled.{covers, least, IsInOrder}
-use Rattle.fa_core.specs.Folding.{symbol_slots, top_places, cell_of, left, moved_symbol, moved_tree, moved_places, all_placed, is_placed, position, ArePortFields, port_refs, ArePartRoots, IsLanguageOf, port_tree, IsPart, number_without, box_slot, gained, taken_at, IsFoldedTree, IsFoldedAuto, FoldOf}
+use Rattle.fa_core.specs.Folding.{covered_fields, top_places, cell_of, left, moved_symbol, moved_tree, moved_places, all_placed, is_placed, position, ArePortFields, port_refs, ArePartRoots, IsLanguageOf, port_tree, IsPart, number_without, box_slot, gained, taken_at, IsFoldedTree, IsFoldedAuto, FoldOf}
 use Rattle.fa_core.specs.Member.{bare}
 use Rattle.fa_core.specs.Rearranged.{Rearranged, chain, IsRising}
 use Rattle.fa_core.specs.Ways.{ways}
@@ -24,7 +25,7 @@ use Rattle.fa_core.proofs.Dressing.{cell_top}
 use Rattle.fa_core.proofs.NodeRuns.{EndRun, node_bare}
 use Rattle.fa_core.proofs.Rearranging.{same, back as turned}
 use Rattle.fa_core.proofs.RowsBack.{dll, null, opened}
-use Rattle.fa_core.proofs.RowsBoxes.{port, port_node, port_runs, port_single, dll_box}
+use Rattle.fa_core.proofs.RowsBoxes.{port, port_node, port_runs, port_single, port_covers, dll_box}
 use Rattle.fa_core.proofs.RowsCanonical.{rule, three}
 use Rattle.fa_core.proofs.SameKeys.{same_by_keys}
 use Rattle.fa_core.proofs.SingleTrees.{IsSingle, single_tree, single_choice}
@@ -117,15 +118,12 @@ single_language g a b t u s z h k e v = (
   (λ w. subst (λ (x : Tree). InLanguage b x) (sym (w.2 ∙ ap g (single_tree a w.0 t s w.1 h) ∙ e)) k),
 )
 
-port_covers : (f r : ℕ) → flat_map (covers dll) (symbol_slots (out-Tree (bare (port_node 0 f r))).symbol) ≡ f ∷ []
-port_covers f r = let e = cell_top 0 0 [] (field f (leaf (At r)) no_parts) in rw e refl
-
 port_fields_are : (f r : ℕ) → ArePortFields dll (port f r) (f ∷ [])
 port_fields_are f r = record {
   rising = tt;
   are = λ k. (
-    (λ i. (bare (port_node 0 f r), port_runs 0 f r, (let e = port_covers f r in rw e i))),
-    (λ w. subst (λ (l : List ℕ). IsIn k l) (port_covers f r) (subst (λ (t : Tree). IsIn k (flat_map (covers dll) (symbol_slots (out-Tree t).symbol))) (single_tree (port f r) w.0 (bare (port_node 0 f r)) (port_single f r) w.1 (port_runs 0 f r)) w.2)),
+    (λ i. (bare (port_node 0 f r), port_runs 0 f r, (let e = port_covers dll f r in rw e i))),
+    (λ w. subst (λ (l : List ℕ). IsIn k l) (port_covers dll f r) (subst (λ (t : Tree). IsIn k (covered_fields dll t)) (single_tree (port f r) w.0 (bare (port_node 0 f r)) (port_single f r) w.1 (port_runs 0 f r)) w.2)),
   );
 }
 
@@ -153,6 +151,14 @@ part_roots = record {
   alone = λ r k i o l j. i;
 }
 
+taken_once : (r : ℕ) → IsDistinct (taken_at ports r)
+taken_once zero = ((λ i. i), tt)
+taken_once (suc zero) = ((λ i. i), tt)
+taken_once (suc (suc r)) =
+    let a = ne_eqb 1 (suc (suc r)) (λ e. omega (arith, e)) in
+    let b = ne_eqb 0 (suc (suc r)) (λ e. omega (arith, e)) in
+    rw (a, b) tt
+
 abbrev two_part : IsPart dll two_cells dll_box 1 (Some 0) dll_box
 two_part = record {
   ports = ports;
@@ -163,6 +169,7 @@ two_part = record {
     record { auto = first_auto; there = refl; one = over_top fields (2 ∷ 1 ∷ 1 ∷ []) 0; datums = []; slots = fields; symbol = refl; fields = λ f i. (elim i [ inl e ↦ inl (ap Field e) | inr x ↦ absurd x ]) },
     (record { auto = second_auto; there = refl; one = over_top fields (1 ∷ 2 ∷ 1 ∷ []) 1; datums = []; slots = fields; symbol = refl; fields = λ f i. (elim i [ inl e ↦ inr (inl (ap Field e)) | inr x ↦ absurd x ]) }, tt),
   );
+  once = taken_once;
   reached = λ ts c. (subst (λ (us : List Tree). ArePartRoots (At 0 ∷ []) us ports []) (single_choice (second_auto ∷ first_auto ∷ []) two_trees ts (over_single fields (1 ∷ 2 ∷ 1 ∷ []) 1, (over_single fields (2 ∷ 1 ∷ 1 ∷ []) 0, tt)) (second_runs, (first_runs, tt)) c) part_roots);
   name = refl;
   face = refl;

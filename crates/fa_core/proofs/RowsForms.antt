@@ -1,12 +1,12 @@
 -- Worked values of references, numbers, forms and leaves put in the place of references.
 use Rattle.std.proofs.Common.{◌≡◌, inl, inr, ℕ, zero, suc, true, false, true≢false, List, [], ◌∷◌, map, refl, sym, ap, arith}
 use Rattle.std.proofs.lemmas.Option.{none-some}
-use Rattle.ta_core.specs.declared.symbol.Slot.TheVariants.{Field, Link, Hook}
+use Rattle.ta_core.specs.declared.symbol.Slot.TheVariants.{Field, Link}
 use Rattle.ta_core.specs.declared.symbol.Symbol.TheVariants.{Dangling, Ref, Cell}
 use Rattle.ta_core.specs.declared.tree.Tree.{roll-Tree, fold-roll-Tree}
 use Rattle.fa_core.specs.declared.forest.Target.{Target}
 use Rattle.fa_core.specs.declared.forest.Target.TheVariants.{Null as NullTarget, Uninit as UninitTarget, Dangling as DanglingTarget, At}
-use Rattle.fa_core.specs.Choices.{count, numbers, all_numbers, IsNumbered, SymbolHasInsides}
+use Rattle.fa_core.specs.Choices.{count, all_numbers, IsNumbered, SymbolHasInsides}
 use Rattle.fa_core.specs.Dressed.{Nodes, node, no_parts, field, link, hook, under, leaf, no_nodes, more}
 use Rattle.fa_core.specs.Placed.{placed, placed_all, placed_auto}
 use Rattle.fa_core.specs.References.{AllBelow, IsNever, IsOnce, to_two, AreAlike, plain_marks, tree_refs}

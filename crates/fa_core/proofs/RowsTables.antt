@@ -1,5 +1,5 @@
 -- A worked table of one box: the edge of one pointer, which does not lead back, and may end in Dangling.
-use Rattle.std.proofs.Common.{◌≡◌, ◌≢◌, ◌<◌, ◌⊎◌, inl, inr, ℕ, Bool, true, false, true≢false, List, [], ◌∷◌, length, refl, sym, ap, ap₂, subst, ◌∙◌, arith}
+use Rattle.std.proofs.Common.{◌≡◌, ◌<◌, ◌⊎◌, inl, inr, ℕ, Bool, true, false, true≢false, List, [], ◌∷◌, length, refl, sym, ap, ap₂, subst, ◌∙◌, arith}
 use Rattle.fore_base.specs.Lists.{IsIn}
 use Rattle.fore_base.specs.declared.store.Value.{Value}
 use Rattle.fore_base.specs.declared.store.Value.TheVariants.{Null as NullValue, Uninit as UninitValue, Dangling as DanglingValue, Cell as CellValue}
@@ -23,7 +23,7 @@ use Rattle.fa_core.proofs.Dressing.{leaf_top, cell_top}
 use Rattle.fa_core.proofs.GivenTips.{given_tips}
 use Rattle.fa_core.proofs.NodeSpots.{spots_are}
 use Rattle.fa_core.proofs.RowsBack.{one_inside, one_never}
-use Rattle.fa_core.proofs.RowsBoxes.{port, port_node, port_runs, port_single, port_rules, port_is, no_slots, slot_count, symbol_struct, symbol_data, number_of}
+use Rattle.fa_core.proofs.RowsBoxes.{port, port_node, port_runs, port_single, port_rules, single_covers, port_covers_some, port_is, no_slots, slot_count, symbol_struct, symbol_data, number_of}
 use Rattle.fa_core.proofs.RowsForests.{list_struct, list_face, one_pointer, bare_cell, bare_node, bare_runs}
 use Rattle.fa_core.proofs.SeenCells.{structs_tops}
 use Rattle.fa_core.proofs.SingleTrees.{IsSingle, same_tree, single_tree, single_choice}
@@ -33,8 +33,13 @@ use Rattle.fa_core.proofs.WaysOf.{tree_roots}
 abbrev plain_face : Face
 plain_face = record { shapes = record { structs = list_struct }; boxes = [] }
 
+-- its name is n1
 abbrev pointer_box : BoxDef
-pointer_box = record { name = []; face = one_pointer; inside = record { autos = port 0 1 ∷ bare_cell ∷ []; vars = []; data_vars = [] } }
+pointer_box = record {
+  name = 110 ∷ 49 ∷ [];
+  face = one_pointer;
+  inside = record { autos = port 0 1 ∷ bare_cell ∷ []; vars = []; data_vars = [] };
+}
 
 bare_single : IsSingle bare_cell
 bare_single = ((refl, tt), (0, refl))
@@ -132,6 +137,11 @@ pointer_sound = record {
   full = ((bare (port_node 0 0 1), port_runs 0 0 1), ((bare bare_node, bare_runs), tt));
   fits = λ ts c. subst (λ (us : List Tree). InsideFits plain_face one_pointer us) (single_choice (port 0 1 ∷ bare_cell ∷ []) (bares pointer_nodes) ts (port_single 0 1, (bare_single, tt)) (port_runs 0 0 1, (bare_runs, tt)) c) pointer_fits;
   covers = λ e. (let z : 1 ≡ 0 = ap (λ (l : List ℕ). length l) e in omega (arith, z));
+  ports = (
+    single_covers [] (port 0 1) (port_single 0 1),
+    port_covers_some [] 0 1,
+    single_covers [] bare_cell bare_single,
+  );
   in_order = (tt, tt);
   signatures = (
     (λ q p t u x y. ap (signature []) (same_tree (port 0 1).rules (port_single 0 1).0 q t u x y)),
@@ -143,4 +153,11 @@ pointer_sound = record {
 
 -- the table of this box
 pointer_table : IsBoxTable (record { face = list_face; defs = pointer_box ∷ [] })
-pointer_table = record { faces = refl; sound = (pointer_sound, tt) }
+pointer_table = record {
+  faces = refl;
+  sound = (pointer_sound, tt);
+  count = omega arith;
+  names = ((λ i. i), tt);
+  words = ((inl (omega arith, omega arith), (inr (omega arith, omega arith), tt)), tt);
+  insides = ((refl, refl), tt);
+}

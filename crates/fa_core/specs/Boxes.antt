@@ -1,11 +1,11 @@
 -- Sound boxes, and tables of them.
-use Rattle.std.specs.Prelude.{◌≡◌, ◌≢◌, ◌<◌, ◌⊎◌, ℕ, suc, true, false, List, [], ◌∷◌, ◌++◌, map, length, flat_map, Option, Some, None}
+use Rattle.std.specs.Prelude.{◌≡◌, ◌≢◌, ◌<◌, ◌≤◌, ◌⊎◌, ℕ, suc, true, false, List, [], ◌∷◌, ◌++◌, map, length, flat_map, Option, Some, None}
 use Rattle.fore_base.specs.Lists.{IsIn, Every, IsDistinct}
 use Rattle.fore_base.specs.declared.shape.Shapes.{Shapes}
 use Rattle.fore_base.specs.declared.store.Value.{Value}
 use Rattle.fore_base.specs.declared.store.Value.TheVariants.{Dangling as DanglingValue, Cell as CellValue}
 use Rattle.ta_core.specs.Auto.{Automaton}
-use Rattle.ta_core.specs.Language.{RunOf, TakesPart}
+use Rattle.ta_core.specs.Language.{InLanguage, RunOf, TakesPart}
 use Rattle.ta_core.specs.declared.auto.Rule.{Rule}
 use Rattle.ta_core.specs.declared.symbol.Symbol.{Symbol}
 use Rattle.ta_core.specs.declared.symbol.Symbol.TheVariants.{Null, Uninit, Dangling, Ref, Cell}
@@ -15,10 +15,12 @@ use Rattle.fa_core.specs.declared.faces.BoxFace.{BoxFace}
 use Rattle.fa_core.specs.declared.faces.Face.{Face}
 use Rattle.fa_core.specs.Canonical.{RefersTo}
 use Rattle.fa_core.specs.Dressed.{Nodes, Fact, Head, Points, inside_facts}
-use Rattle.fa_core.specs.Filled.{Choice, TopsAre, Spot, spots, given_at, covers, IsFilledSpot, EndsFit, IsInOrder, HasSome, SlotFits, SymbolFits, RulesFit}
+use Rattle.fa_core.specs.Filled.{Choice, TopsAre, Spot, spots, given_at, covers, HasField, IsFilledSpot, EndsFit, IsInOrder, HasSome, SlotFits, SymbolFits, RulesFit}
+use Rattle.fa_core.specs.Folding.{covered_fields}
 use Rattle.fa_core.specs.Member.{TreesOf}
 use Rattle.fa_core.specs.Rearranged.{Rearranged, IsRising}
 use Rattle.fa_core.specs.Ways.{signature}
+use Rattle.fa_core.specs.Words.{IsWord}
 
 -- Rules of an inside.
 
@@ -85,6 +87,24 @@ pub record InsideFits (face : Face) (x : BoxFace) (ts : List Tree) : Type 0 wher
   pub refs : (t : Tree) (k : ℕ) → IsIn t ts → RefersTo t k → k < length ts
   pub cells : InsideFilled face ts tops 0 (port_fields x x.output) ts
 
+-- What the slots of the ports cover: one set of fields at each port, which a fold takes.
+
+-- all trees of the component cover the same fields by the slots at their tops
+abbrev pub CoverAlike : List BoxFace → Automaton → Type 0
+CoverAlike bs a = (t u : Tree) → InLanguage a t → InLanguage a u → (f : ℕ)
+    → IsIn f (covered_fields bs t) → IsIn f (covered_fields bs u)
+
+-- each tree of the component covers some field by the slots at its top
+abbrev pub CoverSome : List BoxFace → Automaton → Type 0
+CoverSome bs a = (t : Tree) → InLanguage a t → HasField (covered_fields bs t)
+
+-- the ports are there, the trees of each cover alike, and those of the input cover some field
+abbrev pub PortsCover : List BoxFace → Option ℕ → List Automaton → Type 0
+PortsCover bs out [] = ⊥
+PortsCover bs None (a ∷ autos) = CoverAlike bs a × CoverSome bs a
+PortsCover bs (Some t) (a ∷ []) = ⊥
+PortsCover bs (Some t) (a ∷ (c ∷ autos)) = CoverAlike bs a × CoverSome bs a × CoverAlike bs c
+
 -- What an edge of the box is worth to reachability, by the fields of its inside.
 
 -- the cells that a value names, and those that a field of such a cell names
@@ -134,8 +154,9 @@ pub record SoundBox (face : Face) (T : List BoxDef) (b : BoxDef) : Type 0 where
   pub rules : InsideRulesFit face (port_fields b.face b.face.output) b.inside.autos
   pub full : Every HasSome b.inside.autos
   pub fits : (ts : List Tree) → Choice b.inside.autos ts → InsideFits face b.face ts
-  -- the input covers something, and the face's fields are rising
+  -- the input covers something, each port by one set of slots' fields, and the face's fields are rising
   pub covers : b.face.gives_in ≢ []
+  pub ports : PortsCover face.boxes b.face.output b.inside.autos
   pub in_order : IsRising b.face.gives_in × IsRising b.face.gives_out
   -- all trees of a state that takes part have one signature; a component may have several
   pub signatures : Every (λ (a : Automaton). (q : ℕ) → TakesPart a q → (t u : Tree) → RunOf a.rules q t → RunOf a.rules q u → signature face.boxes t ≡ signature face.boxes u) b.inside.autos
@@ -158,7 +179,20 @@ abbrev pub AreSoundOver : Shapes → List BoxDef → List BoxDef → Type 0
 AreSoundOver shapes before [] = Unit {0}
 AreSoundOver shapes before (b ∷ defs) = SoundBox (record { shapes = shapes; boxes = faces_of before }) before b × AreSoundOver shapes (before ++ b ∷ []) defs
 
--- the faces are those of the boxes, and each box is sound over those before it
+-- the names of the boxes
+abbrev pub names_of : List BoxDef → List (List ℕ)
+names_of defs = map (λ (b : BoxDef). b.name) defs
+
+-- the inside has no variables
+abbrev pub HasNoVariables : BoxDef → Type 0
+HasNoVariables b = (b.inside.vars ≡ []) × (b.inside.data_vars ≡ [])
+
+-- the faces are those of the boxes, each box is sound over those before it, and there are at most 32, with different
+-- names that are words, and without variables inside
 pub record IsBoxTable (t : Boxes) : Type 0 where
   pub faces : t.face.boxes ≡ faces_of t.defs
   pub sound : AreSoundOver t.face.shapes [] t.defs
+  pub count : length t.defs ≤ 32
+  pub names : IsDistinct (names_of t.defs)
+  pub words : Every IsWord (names_of t.defs)
+  pub insides : Every HasNoVariables t.defs

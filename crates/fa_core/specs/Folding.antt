@@ -1,6 +1,6 @@
 -- Parts of forests, and folds: a part that a box edge takes the place of.
 use Rattle.std.specs.Prelude.{◌≡◌, ◌↔◌, ◌<◌, ℕ, zero, suc, ◌+◌, ◌-◌, Bool, false, not, nat_eq, nat_lt, if◌then◌else◌, List, [], ◌∷◌, ◌++◌, map, filter, flat_map, length, Option, Some, None, slice_get}
-use Rattle.fore_base.specs.Lists.{IsIn, Paired}
+use Rattle.fore_base.specs.Lists.{IsIn, IsDistinct, Paired}
 use Rattle.fore_base.specs.declared.store.Datum.{Datum}
 use Rattle.ta_core.specs.Auto.{Automaton}
 use Rattle.ta_core.specs.Language.{InLanguage, IsWithin}
@@ -40,6 +40,10 @@ symbol_slots Uninit = []
 symbol_slots Dangling = []
 symbol_slots (Ref r) = []
 symbol_slots (Cell s ds ss) = ss
+
+-- the fields that the slots at the top of a tree cover
+abbrev pub covered_fields : List BoxFace → Tree → List ℕ
+covered_fields bs t = flat_map (covers bs) (symbol_slots (out-Tree t).symbol)
 
 -- the slots at the top of a tree, with their children
 abbrev pub top_places : Tree → List (Slot × List Tree)
@@ -104,7 +108,7 @@ place_refs ps = flat_map (λ p. flat_map tree_refs p.1) ps
 -- the fields that some slot at the top of a port's tree covers
 pub record ArePortFields (bs : List BoxFace) (a : Automaton) (fs : List ℕ) : Type 0 where
   pub rising : IsRising fs
-  pub are : (f : ℕ) → IsIn f fs ↔ ((t : Tree) × InLanguage a t × IsIn f (flat_map (covers bs) (symbol_slots (out-Tree t).symbol)))
+  pub are : (f : ℕ) → IsIn f fs ↔ ((t : Tree) × InLanguage a t × IsIn f (covered_fields bs t))
 
 -- the root is there, one rule stands at the top of its trees, and that is a cell of this struct with a slot for each of the fields
 pub record IsPortRoot (autos : List Automaton) (r shape : ℕ) (fs : List ℕ) : Type 0 where
@@ -184,6 +188,8 @@ pub record IsPart (bs : List BoxFace) (F : Forest) (b : BoxDef) (i : ℕ) (out :
   pub inner : List ℕ
   pub are_ports : PortsAre bs b i out ports shapes
   pub roots : ArePortRoots F.autos ports shapes
+  -- where both ports are one root, they cover no common field
+  pub once : (r : ℕ) → IsDistinct (taken_at ports r)
   pub reached : (ts : List Tree) → Choice F.autos ts → ArePartRoots F.vars ts ports inner
   pub name : g.name ≡ b.name
   pub face : g.face ≡ b.face

@@ -13,3 +13,4 @@ pub mod Placed
 pub mod Rearranged
 pub mod References
 pub mod Ways
+pub mod Words

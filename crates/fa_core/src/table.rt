@@ -1,6 +1,6 @@
 // Tables of sound boxes.
 
-ghost use Rattle.std.specs.Prelude.{◌≡◌, ◌<◌, ◌^◌, [], length, Some, slice_get, IfOk};
+ghost use Rattle.std.specs.Prelude.{◌≡◌, ◌<◌, [], length, Some, slice_get, IfOk};
 ghost use Rattle.fa_core.specs.Boxes.{IsBoxTable};
 
 use crate::boxes::BoxDef;
@@ -11,7 +11,8 @@ use fore_base::shape::Shapes;
 use std::alloc::Global;
 use std::marker::Model;
 
-/// Boxes over structs, seen as a face and a list of boxes. It keeps that the face has the faces of the boxes, and that each box is sound over those before it.
+/// Boxes over structs, seen as a face and a list of boxes. It keeps that the face has the faces of the boxes, that each
+/// box is sound over those before it, and that there are at most 32, with different names, and without variables inside.
 #[derive(Debug, Drop)]
 pub struct BoxTable {
     face: Face,
@@ -52,9 +53,8 @@ impl BoxTable {
         &self.face
     }
 
-    /// How many boxes it has, as far as 32 bits count.
+    /// How many boxes it has: at most 32.
     pub fn len(&self) -> u32
-        requires { length self.now.defs < 2 ^ 32 }
         ensures { result ≡ length self.now.defs }
     {
         self.defs.len() as u32
