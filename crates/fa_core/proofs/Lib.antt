@@ -16,6 +16,7 @@ pub mod Permuted
 pub mod Placing
 pub mod PlainNodes
 pub mod PlainWays
+pub mod ReachedEnds
 pub mod Rearranging
 pub mod Regrouped
 pub mod Renamed
@@ -24,11 +25,14 @@ pub mod Rows
 pub mod RowsBack
 pub mod RowsBoxes
 pub mod RowsCanonical
+pub mod RowsChains
 pub mod RowsFolds
 pub mod RowsForests
 pub mod RowsForms
+pub mod RowsHooks
 pub mod RowsTables
 pub mod SameKeys
+pub mod SameTrees
 pub mod SeenCells
 pub mod SingleTrees
 pub mod Sorting

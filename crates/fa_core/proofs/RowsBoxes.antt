@@ -1,5 +1,5 @@
 -- Worked boxes: one that is sound and leads back, and one that does not lead back.
-use Rattle.std.proofs.Common.{◌≡◌, ◌<◌, ◌⊎◌, inl, inr, ℕ, suc, Bool, true, false, true≢false, List, [], ◌∷◌, length, refl, sym, ap, ap₂, subst, ◌∙◌, Some, arith}
+use Rattle.std.proofs.Common.{◌≡◌, ◌<◌, ◌⊎◌, inl, inr, ℕ, suc, Bool, true, false, true≢false, List, [], ◌∷◌, length, refl, sym, ap, ap₂, subst, ◌∙◌, Option, Some, IsSome, arith}
 use Rattle.fore_base.specs.Lists.{IsIn}
 use Rattle.fore_base.specs.declared.store.Datum.{Datum}
 use Rattle.fore_base.specs.declared.store.Value.{Value}
@@ -20,7 +20,7 @@ use Rattle.fa_core.specs.Boxes.{PortSymbolFits, IsChild, PortRulesFit, CoverAlik
 use Rattle.fa_core.specs.Canonical.{RefersTo}
 use Rattle.fa_core.specs.Choices.{bares}
 use Rattle.fa_core.specs.Dressed.{Node, Parts, End, Nodes, node, no_parts, field, link, hook, under, leaf, no_nodes, more, inside_facts}
-use Rattle.fa_core.specs.Filled.{HasField, Choice, spots, given_at}
+use Rattle.fa_core.specs.Filled.{HasField, Choice, spots, given_at, target_of}
 use Rattle.fa_core.specs.Folding.{symbol_slots, covered_fields}
 use Rattle.fa_core.specs.Member.{TreesOf, bare, bare_parts, bare_end, slots_of}
 use Rattle.fa_core.specs.Rearranged.{empty, keep}
@@ -29,7 +29,7 @@ use Rattle.fa_core.proofs.Dressing.{leaf_top, cell_top, cell_is_no_leaf}
 use Rattle.fa_core.proofs.GivenTips.{given_tips}
 use Rattle.fa_core.proofs.NodeRuns.{EndRun, node_bare}
 use Rattle.fa_core.proofs.NodeSpots.{spots_are, one_leaf}
-use Rattle.fa_core.proofs.RowsBack.{dll, dll_inside, dll_down, dll_up}
+use Rattle.fa_core.proofs.RowsBack.{dll_inside, dll_down, dll_up}
 use Rattle.fa_core.proofs.RowsCanonical.{rule, dll_face}
 use Rattle.fa_core.proofs.SeenCells.{structs_tops}
 use Rattle.fa_core.proofs.SingleTrees.{IsSingle, same_tree, single_tree, single_choice}
@@ -161,7 +161,7 @@ port_is f r (node c s ds ps) h =
     below c s ds ps = rw (out-roll-Tree (record { symbol = Cell s ds (slots_of ps); children = bare_parts ps })) refl
 
 -- so each dressed inside is this one
-inside_is : (T : List BoxDef) (d : Nodes) → TreesOf T (port 0 1 ∷ port 1 0 ∷ []) d → (a b : ℕ) × (d ≡ dll_inside a b)
+pub inside_is : (T : List BoxDef) (d : Nodes) → TreesOf T (port 0 1 ∷ port 1 0 ∷ []) d → (a b : ℕ) × (d ≡ dll_inside a b)
 inside_is T no_nodes h = absurd h
 inside_is T (more n no_nodes) h = absurd h.2
 inside_is T (more n (more m (more k ns))) h = absurd h.2.2
@@ -200,50 +200,77 @@ dll_leads_up T d h c m =
     let k = inside_is T d h in
     subst (λ (e : Nodes). Reaches (CellValue m ∷ []) (inside_facts (CellValue c ∷ (CellValue m ∷ [])) e) c) (sym k.2) (dll_up k.0 k.1 c m)
 
--- Fields.
-
-input_filled : IsPortFilled dll_face (0 ∷ 0 ∷ []) (0 ∷ []) (spots dll (bare (port_node 0 0 1)) (given_at dll (bares port_nodes) 0))
-input_filled =
-    let e = spots_are dll (port_node 0 0 1) (given_at dll (bares port_nodes) 0) in
-    let g = given_tips dll 0 port_nodes in
-    let l = leaf_top (At 1) in
-    rw e (record { ends = ((0, refl, rw l refl), tt); order = ((tt, tt), tt); once = rw g (keep 0 empty) }, tt)
-
-output_filled : IsPortFilled dll_face (0 ∷ 0 ∷ []) (1 ∷ []) (spots dll (bare (port_node 1 1 0)) (given_at dll (bares port_nodes) 1))
-output_filled =
-    let e = spots_are dll (port_node 1 1 0) (given_at dll (bares port_nodes) 1) in
-    let g = given_tips dll 1 port_nodes in
-    let l = leaf_top (At 0) in
-    rw e (record { ends = ((0, refl, rw l refl), tt); order = ((tt, tt), tt); once = rw g (keep 1 empty) }, tt)
+-- Fields. Over any face whose first struct has the pointers next and prev to itself, whatever boxes it has.
 
 port_refers : (t : Tree) (k : ℕ) → IsIn t (bares port_nodes) → RefersTo t k → k < 2
 port_refers t k (inl e) h = elim (rw (tree_roots (port_node 0 0 1)) at (subst (λ (x : Tree). RefersTo x k) e h)) [ inl i ↦ omega (arith, i) | inr x ↦ absurd x ]
 port_refers t k (inr (inl e)) h = elim (rw (tree_roots (port_node 1 1 0)) at (subst (λ (x : Tree). RefersTo x k) e h)) [ inl i ↦ omega (arith, i) | inr x ↦ absurd x ]
 port_refers t k (inr (inr e)) h = absurd e
 
-dll_fits : InsideFits dll_face box_face (bares port_nodes)
-dll_fits = record { tops = 0 ∷ 0 ∷ []; are = structs_tops port_nodes; ports = ([], refl); refs = port_refers; cells = (input_filled, (output_filled, refl)) }
+module _ (face : Face) (there : 0 < length face.shapes.structs)
+    (next : target_of face.shapes.structs 0 0 ≡ Some 0) (prev : target_of face.shapes.structs 0 1 ≡ Some 0) where
+  abbrev bs : List BoxFace
+  bs = face.boxes
 
--- the box is sound, over any table of that face
-dll_sound : (T : List BoxDef) → SoundBox dll_face T dll_box
-dll_sound T = record {
-  rules = (port_rules dll_face 0 1 (omega arith, refl, (refl, tt)), (port_rules dll_face 1 0 (omega arith, refl, (refl, tt)), tt));
-  full = ((bare (port_node 0 0 1), port_runs 0 0 1), ((bare (port_node 1 1 0), port_runs 1 1 0), tt));
-  fits = λ ts c. subst (λ (us : List Tree). InsideFits dll_face box_face us) (single_choice (port 0 1 ∷ port 1 0 ∷ []) (bares port_nodes) ts (port_single 0 1, (port_single 1 0, tt)) port_choice c) dll_fits;
-  covers = λ e. (let z : 1 ≡ 0 = ap (λ (l : List ℕ). length l) e in omega (arith, z));
-  ports = (
-    single_covers dll (port 0 1) (port_single 0 1),
-    port_covers_some dll 0 1,
-    single_covers dll (port 1 0) (port_single 1 0),
-  );
-  in_order = (tt, tt);
-  signatures = (
-    (λ q p t u x y. ap (signature dll) (same_tree (port 0 1).rules (port_single 0 1).0 q t u x y)),
-    ((λ q p t u x y. ap (signature dll) (same_tree (port 1 0).rules (port_single 1 0).0 q t u x y)), tt),
-  );
-  reached = dll_reached T;
-  back = ((λ e. ((λ z. (let w : 1 ≡ 0 = ap (λ (l : List ℕ). length l) z in omega (arith, w))), dll_leads_up T)), (λ e. absurd (true≢false e)));
-}
+  input_filled : IsPortFilled face (0 ∷ 0 ∷ []) (0 ∷ []) (spots bs (bare (port_node 0 0 1)) (given_at bs (bares port_nodes) 0))
+  input_filled =
+      let e = spots_are bs (port_node 0 0 1) (given_at bs (bares port_nodes) 0) in
+      let g = given_tips bs 0 port_nodes in
+      let l = leaf_top (At 1) in
+      rw e (record { ends = ((0, next, rw l refl), tt); order = ((tt, tt), tt); once = rw g (keep 0 empty) }, tt)
+
+  output_filled : IsPortFilled face (0 ∷ 0 ∷ []) (1 ∷ []) (spots bs (bare (port_node 1 1 0)) (given_at bs (bares port_nodes) 1))
+  output_filled =
+      let e = spots_are bs (port_node 1 1 0) (given_at bs (bares port_nodes) 1) in
+      let g = given_tips bs 1 port_nodes in
+      let l = leaf_top (At 0) in
+      rw e (record { ends = ((0, prev, rw l refl), tt); order = ((tt, tt), tt); once = rw g (keep 1 empty) }, tt)
+
+  dll_fits : InsideFits face box_face (bares port_nodes)
+  dll_fits = record {
+    tops = 0 ∷ 0 ∷ [];
+    are = structs_tops port_nodes;
+    ports = ([], refl);
+    refs = port_refers;
+    cells = (input_filled, (output_filled, refl));
+  }
+
+  abbrev dll_autos : List Automaton
+  dll_autos = port 0 1 ∷ port 1 0 ∷ []
+
+  dll_choices : (ts : List Tree) → Choice dll_autos ts → bares port_nodes ≡ ts
+  dll_choices ts c = single_choice dll_autos (bares port_nodes) ts (port_single 0 1, (port_single 1 0, tt)) port_choice c
+
+  -- the box is sound, over any table of that face
+  pub dll_sound : (T : List BoxDef) → SoundBox face T dll_box
+  dll_sound T = record {
+    rules = (
+      port_rules face 0 1 (there, refl, (subst (λ (o : Option ℕ). IsSome o) (sym next) refl, tt)),
+      (port_rules face 1 0 (there, refl, (subst (λ (o : Option ℕ). IsSome o) (sym prev) refl, tt)), tt),
+    );
+    full = ((bare (port_node 0 0 1), port_runs 0 0 1), ((bare (port_node 1 1 0), port_runs 1 1 0), tt));
+    fits = λ ts c. subst (λ (us : List Tree). InsideFits face box_face us) (dll_choices ts c) dll_fits;
+    covers = λ e. (let z : 1 ≡ 0 = ap (λ (l : List ℕ). length l) e in omega (arith, z));
+    ports = (
+      single_covers bs (port 0 1) (port_single 0 1),
+      port_covers_some bs 0 1,
+      single_covers bs (port 1 0) (port_single 1 0),
+    );
+    in_order = (tt, tt);
+    signatures = (
+      (λ q p t u x y. ap (signature bs) (same_tree (port 0 1).rules (port_single 0 1).0 q t u x y)),
+      ((λ q p t u x y. ap (signature bs) (same_tree (port 1 0).rules (port_single 1 0).0 q t u x y)), tt),
+    );
+    reached = dll_reached T;
+    back = (
+      (λ e. ((λ z. (let w : 1 ≡ 0 = ap (λ (l : List ℕ). length l) z in omega (arith, w))), dll_leads_up T)),
+      (λ e. absurd (true≢false e)),
+    );
+  }
+
+-- its own face serves as well
+dll_over_itself : (T : List BoxDef) → SoundBox dll_face T dll_box
+dll_over_itself T = dll_sound dll_face (omega arith) refl refl T
 
 -- the same box said not to lead back is not sound
 dll_not_back : (T : List BoxDef) → BackHolds T (record box_face { back = false }) (Some 0) (port 0 1 ∷ port 1 0 ∷ []) → ⊥
