@@ -1,5 +1,6 @@
 pub mod Choices
 pub mod Chosen
+pub mod ComponentLemmas
 pub mod Counting
 pub mod FilledRules
 pub mod Fillings

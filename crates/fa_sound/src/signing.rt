@@ -31,6 +31,17 @@ pub fn signatures(alloc: Global, boxes: &[BoxFace], auto: &Auto) -> Mem<Option<L
     Ok(Some(list))
 }
 
+/// The signature of each state of an automaton that is known to have one for the trees of each. Err is want of memory.
+pub fn signatures_of(alloc: Global, boxes: &[BoxFace], auto: &Auto) -> Mem<List<Signature>>
+    requires plain { HasNoBoxes auto.now }
+    requires uniform { HasSignatures boxes.now auto.now }
+    ensures { IfOk result (AreSignatures boxes.now auto.now) }
+{
+    let table = learn(alloc, boxes, auto.states, auto.rules.as_slice())?;
+    let list = signatures_in(alloc, table.as_slice())?;
+    Ok(list)
+}
+
 /// Whether each rule gives trees with the signature of its state's tree.
 fn are_settled(
     alloc: Global,
