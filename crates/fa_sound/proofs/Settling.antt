@@ -1,5 +1,6 @@
 -- Where no rule has a box edge: settled rules give every tree of a state one signature, and a rule that is not settled gives two.
 use Rattle.std.proofs.Common.{◌≡◌, ℕ, zero, suc, Bool, true, false, true≢false, ◌||◌, List, [], ◌∷◌, ◌++◌, map, filter, flat_map, length, Option, Some, None, slice_get, refl, sym, ap, ap₂, subst, ◌∙◌}
+use Rattle.std.proofs.Common.{◌⊎◌, inl, inr}
 use Rattle.fore_base.specs.Lists.{Every}
 use Rattle.ta_core.specs.declared.auto.Rule.{Rule}
 use Rattle.ta_core.specs.declared.symbol.Slot.{Slot}
@@ -181,9 +182,15 @@ module _ (bs : List BoxFace) where
     all_listed s = record {
       long = map_long table ∙ l.long;
       each = λ q x t e r. sign_at table q x e ∙ settled_run a.rules table p l.whole s r;
+      some = λ q x e. known_some q x (sign_at table q x e) (entry table q) refl;
       none = λ q x e h. sign_at table q x e ∙ unknown_none q h (entry table q) refl;
     }
       where
+        known_some : (q : ℕ) (x : Signature) → x.refs ≡ (below_at table q).marks → (o : Option Below) →
+            entry table q ≡ o → (x.refs ≡ []) ⊎ HasTree a.rules q
+        known_some q x h None e = inl (h ∙ ap (λ (o : Option Below). (said o).marks) e)
+        known_some q x h (Some b) e = let w = l.witnessed q b e in inr (w.0, w.1)
+
         unknown_none : (q : ℕ) → (HasTree a.rules q → ⊥) → (o : Option Below) → entry table q ≡ o → (said o).marks ≡ []
         unknown_none q h None e = refl
         unknown_none q h (Some b) e = let w = l.witnessed q b e in absurd (h (w.0, w.1))
