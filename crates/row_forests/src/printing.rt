@@ -1,0 +1,88 @@
+// Automata and forests as texts, as they are read.
+
+use crate::digits::{put_number, put_numbers};
+use crate::symbols::put_symbol;
+use anyhow::Result;
+use fa_core::forest::{Forest, Target};
+use fore_base::store::Datum;
+use std::alloc::Global;
+use ta_core::auto::{Auto, Rule};
+
+/// Adds the text of the forest.
+///
+/// # Errors
+///
+/// Want of memory.
+pub fn put_forest(alloc: Global, text: &mut String, forest: &Forest) -> Result<()> {
+    put_targets(text, forest.vars.as_slice())?;
+    put_datums(text, forest.data_vars.as_slice())?;
+    for auto in forest.autos.as_slice() {
+        text.push_str(" / ")?;
+        put_auto(alloc, text, auto)?;
+    }
+    Ok(())
+}
+
+/// Adds the pointer variables.
+///
+/// # Errors
+///
+/// Want of memory.
+pub fn put_targets(text: &mut String, targets: &[Target]) -> Result<()> {
+    if targets.is_empty() {
+        text.push('-')?;
+    }
+    for target in targets {
+        put_target(text, *target)?;
+    }
+    Ok(())
+}
+
+fn put_target(text: &mut String, target: Target) -> Result<()> {
+    match target {
+        Target::Null => text.push('n')?,
+        Target::Uninit => text.push('u')?,
+        Target::Dangling => text.push('d')?,
+        Target::At(root) => put_number(text, root)?,
+    }
+    Ok(())
+}
+
+fn put_datums(text: &mut String, datums: &[Datum]) -> Result<()> {
+    if !datums.is_empty() {
+        text.push(' ')?;
+    }
+    for datum in datums {
+        put_datum(text, *datum)?;
+    }
+    Ok(())
+}
+
+fn put_datum(text: &mut String, datum: Datum) -> Result<()> {
+    match datum {
+        Datum::Undefined => text.push('u')?,
+        Datum::Known(number) => write!(text, "{number:x}")?,
+    }
+    Ok(())
+}
+
+/// Adds the text of the automaton.
+///
+/// # Errors
+///
+/// Want of memory.
+pub fn put_auto(alloc: Global, text: &mut String, auto: &Auto) -> Result<()> {
+    put_number(text, auto.states)?;
+    put_numbers(text, auto.roots.as_slice())?;
+    for rule in auto.rules.as_slice() {
+        text.push(' ')?;
+        put_rule(alloc, text, rule)?;
+    }
+    Ok(())
+}
+
+fn put_rule(alloc: Global, text: &mut String, rule: &Rule) -> Result<()> {
+    put_number(text, rule.state)?;
+    put_symbol(alloc, text, &rule.symbol)?;
+    put_numbers(text, rule.children.as_slice())
+}
