@@ -10,6 +10,7 @@ loop-text-preserved c =
     let made = c.loop-text.made in
     let forest = c.in_ok-forest.forest in
     let kept = c.loop-text.invariant in
-    let faces = every_push (λ (s : SoundForest). s.face ≡ c.args.face.now) made forest kept.0 c.in_ok-forest.ensures.face in
-    let plains = every_push (λ (s : SoundForest). Every HasNoBoxes s.forest.autos) made forest kept.1 c.in_ok-forest.ensures.plain in
+    let is = c.in_ok-forest.ensures in
+    let faces = every_push (λ (s : SoundForest). s.face ≡ c.args.face.now) made forest kept.0 is.face in
+    let plains = every_push (λ (s : SoundForest). Every HasNoBoxes s.forest.autos) made forest kept.1 is.plain in
     rw c.in_ok-push.ensures.ok (faces, plains)
