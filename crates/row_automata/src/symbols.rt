@@ -1,0 +1,113 @@
+// Symbols as letters.
+//
+// Beside the letters of the crate's first page, p, q and v are a cell of struct 0 with the datum 1, 2 and undefined,
+// w one of struct 1 with the datum 1, and these are cells of struct 0 with two slots, a field, a box with an output
+// (link) or one without (hook): h both hooks of box 0, i hooks of the boxes 0 and 1, j a hook and a link of box 0, k
+// a field and a hook of box 0, l a link of box 0 and a field, r a link of box 0 and a hook of box 1, s a field and a
+// hook of box 1, t a link and a hook of box 1.
+
+use anyhow::{Result, bail};
+use fore_base::list::List;
+use fore_base::store::Datum;
+use std::alloc::Global;
+use ta_core::symbol::{Slot, Symbol};
+
+// The letters of cells.
+const CELLS: &[u8] = b"nfxyzpqvwhijklrst";
+
+const FIELD: Slot = Slot::Field(0);
+
+/// The symbol of the letter.
+///
+/// # Errors
+///
+/// A letter that is no symbol, and want of memory.
+pub fn symbol_of(alloc: Global, letter: u8) -> Result<Symbol> {
+    match letter {
+        b'a' => Ok(Symbol::Null),
+        b'u' => Ok(Symbol::Uninit),
+        b'd' => Ok(Symbol::Dangling),
+        b'A'..=b'Z' => Ok(Symbol::Ref((letter - b'A') as u32)),
+        _ => cell_of(alloc, letter),
+    }
+}
+
+fn cell_of(alloc: Global, letter: u8) -> Result<Symbol> {
+    match letter {
+        b'n' => cell(alloc, 0, &[], &[FIELD]),
+        b'f' => cell(alloc, 1, &[], &[FIELD, Slot::Field(1)]),
+        b'x' => cell(alloc, 2, &[Datum::Undefined], &[FIELD]),
+        b'y' => cell(alloc, 2, &[Datum::Known(1)], &[FIELD]),
+        b'z' => cell(alloc, 2, &[Datum::Known(2)], &[FIELD]),
+        b'p' => cell(alloc, 0, &[Datum::Known(1)], &[]),
+        b'q' => cell(alloc, 0, &[Datum::Known(2)], &[]),
+        b'v' => cell(alloc, 0, &[Datum::Undefined], &[]),
+        b'w' => cell(alloc, 1, &[Datum::Known(1)], &[]),
+        _ => slots_of(alloc, letter),
+    }
+}
+
+fn slots_of(alloc: Global, letter: u8) -> Result<Symbol> {
+    match letter {
+        b'h' => cell(alloc, 0, &[], &[Slot::Hook(0), Slot::Hook(0)]),
+        b'i' => cell(alloc, 0, &[], &[Slot::Hook(0), Slot::Hook(1)]),
+        b'j' => cell(alloc, 0, &[], &[Slot::Hook(0), Slot::Link(0)]),
+        b'k' => cell(alloc, 0, &[], &[FIELD, Slot::Hook(0)]),
+        b'l' => cell(alloc, 0, &[], &[Slot::Link(0), FIELD]),
+        b'r' => cell(alloc, 0, &[], &[Slot::Link(0), Slot::Hook(1)]),
+        b's' => cell(alloc, 0, &[], &[FIELD, Slot::Hook(1)]),
+        b't' => cell(alloc, 0, &[], &[Slot::Link(1), Slot::Hook(1)]),
+        _ => bail!("no such symbol"),
+    }
+}
+
+fn cell(alloc: Global, shape: u32, datums: &[Datum], slots: &[Slot]) -> Result<Symbol> {
+    let datums = List::from_slice(alloc, datums)?;
+    let slots = List::from_slice(alloc, slots)?;
+    Ok(Symbol::Cell {
+        shape,
+        datums,
+        slots,
+    })
+}
+
+/// Adds the letter of the symbol, or what it has between brackets, where it has no letter.
+///
+/// # Errors
+///
+/// Want of memory.
+pub fn put_symbol(alloc: Global, text: &mut String, symbol: &Symbol) -> Result<()> {
+    match symbol {
+        Symbol::Null => text.push('a')?,
+        Symbol::Uninit => text.push('u')?,
+        Symbol::Dangling => text.push('d')?,
+        Symbol::Ref(root) => put_reference(text, *root)?,
+        Symbol::Cell { .. } => put_cell(alloc, text, symbol)?,
+    }
+    Ok(())
+}
+
+fn put_reference(text: &mut String, root: u32) -> Result<()> {
+    if root < 26 {
+        text.push((b'A' + root as u8) as char)?;
+    } else {
+        write!(text, "[root {root}]")?;
+    }
+    Ok(())
+}
+
+fn put_cell(alloc: Global, text: &mut String, symbol: &Symbol) -> Result<()> {
+    for letter in CELLS {
+        if is_cell(alloc, *letter, symbol)? {
+            text.push(*letter as char)?;
+            return Ok(());
+        }
+    }
+    write!(text, "[{symbol:?}]")?;
+    Ok(())
+}
+
+fn is_cell(alloc: Global, letter: u8, symbol: &Symbol) -> Result<bool> {
+    let cell = cell_of(alloc, letter)?;
+    Ok(cell.is_same(symbol))
+}
