@@ -4,8 +4,6 @@ ghost use Rattle.std.specs.Prelude.{◌≡◌, IfOk};
 ghost use Rattle.fore_base.specs.Lists.{Every};
 ghost use Rattle.fa_core.specs.Boxless.{HasNoBoxes};
 
-use crate::automata::auto_of;
-use crate::digits::digit;
 use anyhow::{Context, Result, bail};
 use fa_core::faces::Face;
 use fa_core::forest::{Forest, Target};
@@ -14,6 +12,7 @@ use fore_base::list::List;
 use fore_base::shape::{FieldDef, FieldKind, Shape, Shapes};
 use fore_base::store::Datum;
 use fore_base::text::Text;
+use row_automata::{auto_of, digit};
 use std::alloc::Global;
 use ta_core::auto::Auto;
 

@@ -1,12 +1,10 @@
-// Automata and forests as texts, as they are read.
+// Forests as texts, as they are read.
 
-use crate::digits::{put_number, put_numbers};
-use crate::symbols::put_symbol;
 use anyhow::Result;
 use fa_core::forest::{Forest, Target};
 use fore_base::store::Datum;
+use row_automata::{put_auto, put_number};
 use std::alloc::Global;
-use ta_core::auto::{Auto, Rule};
 
 /// Adds the text of the forest.
 ///
@@ -64,25 +62,4 @@ fn put_datum(text: &mut String, datum: Datum) -> Result<()> {
         Datum::Known(number) => write!(text, "{number:x}")?,
     }
     Ok(())
-}
-
-/// Adds the text of the automaton.
-///
-/// # Errors
-///
-/// Want of memory.
-pub fn put_auto(alloc: Global, text: &mut String, auto: &Auto) -> Result<()> {
-    put_number(text, auto.states)?;
-    put_numbers(text, auto.roots.as_slice())?;
-    for rule in auto.rules.as_slice() {
-        text.push(' ')?;
-        put_rule(alloc, text, rule)?;
-    }
-    Ok(())
-}
-
-fn put_rule(alloc: Global, text: &mut String, rule: &Rule) -> Result<()> {
-    put_number(text, rule.state)?;
-    put_symbol(alloc, text, &rule.symbol)?;
-    put_numbers(text, rule.children.as_slice())
 }
