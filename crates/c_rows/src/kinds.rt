@@ -1,0 +1,65 @@
+// What each kind of row asks.
+ghost use Rattle.std.specs.Prelude.{◌≤◌, length};
+
+use crate::lexing::{put_count, put_places, put_refused, put_tokens};
+use crate::texts::read_text;
+use anyhow::{Context, Result, bail};
+use fore_base::limits::FILE_BYTES;
+use fore_base::memory::Mem;
+use fore_base::text::Text;
+use row_kit::Answers;
+use std::alloc::Global;
+use std::str;
+use std::thread::Threads;
+
+/// The kinds of rows on C.
+pub struct Kinds;
+
+impl Answers for Kinds {
+    fn answer<R: Threads + Sync>(
+        &self,
+        _rt: &R,
+        alloc: Global,
+        head: &str,
+        texts: &[&str],
+    ) -> Result<String> {
+        let text = texts.first().context("no text")?;
+        let mut out = Text::new(alloc);
+        put_plain(alloc, &mut out, head, text)?;
+        shown(alloc, &out)
+    }
+}
+
+/// An answer as it is printed.
+fn shown(alloc: Global, out: &Text) -> Result<String> {
+    let text = str::from_utf8(out.as_slice())
+        .ok()
+        .context("bytes that are no text")?;
+    Ok(String::from_str(alloc, text)?)
+}
+
+/// Puts the answer to a row of a kind alone.
+fn put_plain(alloc: Global, out: &mut Text, kind: &str, row: &str) -> Result<()> {
+    let text = read_text(alloc, row)?;
+    if text.len() > FILE_BYTES {
+        bail!("too long");
+    }
+    if !is_put(alloc, out, kind, text.as_slice())? {
+        bail!("no such kind");
+    }
+    Ok(())
+}
+
+/// Puts what the front end answers; false for another kind.
+fn is_put(alloc: Global, out: &mut Text, kind: &str, text: &[u8]) -> Mem<bool>
+    requires { length text.now ≤ FILE_BYTES }
+{
+    match kind {
+        "tokens" => put_tokens(alloc, out, text)?,
+        "places" => put_places(alloc, out, text)?,
+        "count" => put_count(alloc, out, text)?,
+        "refused" => put_refused(alloc, out, text)?,
+        _ => return Ok(false),
+    }
+    Ok(true)
+}
