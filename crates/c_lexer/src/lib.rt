@@ -13,8 +13,6 @@ mod place;
 mod reader;
 mod scan;
 mod step;
-#[cfg(test)]
-mod tests;
 pub mod token;
 
 pub use fault::LexFault;

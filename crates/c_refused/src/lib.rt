@@ -5,7 +5,5 @@
 pub mod crossing;
 pub mod laws;
 mod refused;
-#[cfg(test)]
-mod tests;
 
 pub use refused::{Refusal, first_refused};
