@@ -20,7 +20,7 @@ use Rattle.fa_core.proofs.Counts.{often_in, often_out}
 use Rattle.fa_core.proofs.Numbers.{has_once}
 use Rattle.fa_core.proofs.PlainWays.{to_often}
 use Rattle.fa_merge.specs.Merged.{CanMerge}
-use Rattle.fa_merge.specs.Reordered.{component_at}
+use Rattle.fa_sound.specs.Components.{component_at}
 use Rattle.fa_merge.specs.inner.Counted.{mark_count, marks_count, sum_count}
 use Rattle.fa_merge.specs.inner.Hops.{IsSignatureOf}
 use Rattle.fa_merge.proofs.Hopping.{IsSignedBy, has_in, in_has}

@@ -27,13 +27,14 @@ use Rattle.fa_sound.proofs.Choices.{trees_filled, filled_trees}
 use Rattle.fa_sound.proofs.NothingGiven.{nothing_given}
 use Rattle.fa_merge.specs.Dropped.{drop_leaf, but_place, dropped_forest, without_node, IsFlat, CanDrop, IsCut}
 use Rattle.fa_merge.specs.Merged.{lowered}
-use Rattle.fa_merge.specs.Reordered.{component_at}
+use Rattle.fa_sound.specs.Components.{component_at}
 use Rattle.fa_merge.proofs.Dropping.{trees_added, cut_forest}
 use Rattle.fa_merge.proofs.Lowered.{lowered_above, lowered_below}
 use Rattle.fa_merge.proofs.MergedAnywhere.{nat_cases}
 use Rattle.fa_merge.proofs.Named.{var_below}
 use Rattle.fa_merge.proofs.OtherOrders.{got, mapped_length}
-use Rattle.fa_merge.proofs.PlacedForests.{component_got, component_has, tree_is_node, placed_before, placed_some, placed_signed}
+use Rattle.fa_merge.proofs.PlacedForests.{component_has, tree_is_node, placed_before, placed_some, placed_signed}
+use Rattle.fa_sound.proofs.ComponentLemmas.{component_got}
 use Rattle.fa_merge.proofs.PlacedSpots.{tops_placed, all_filled}
 
 -- Lists without the item at a place.

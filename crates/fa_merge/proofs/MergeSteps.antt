@@ -5,7 +5,8 @@ use Rattle.fa_core.specs.declared.forest.Forest.{Forest}
 use Rattle.fa_core.specs.Placed.{placed_leaf}
 use Rattle.fa_core.specs.Rearranged.{Rearranged}
 use Rattle.fa_merge.specs.Merged.{merged, others, last_order, to_last, merged_at}
-use Rattle.fa_merge.specs.Reordered.{counted, component_at, reordered_by, renumber}
+use Rattle.fa_merge.specs.Reordered.{counted, reordered_by, renumber}
+use Rattle.fa_sound.specs.Components.{component_at}
 use Rattle.fa_merge.specs.inner.Lone.{IsLone}
 use Rattle.fa_merge.proofs.OtherOrders.{mapped_length, order_length, component_at_mapped}
 use Rattle.fa_merge.proofs.MergedAnywhere.{new, rest, others_new, place_less, size_is, at_place, autos_last, last_is_order}

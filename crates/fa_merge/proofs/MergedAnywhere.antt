@@ -24,7 +24,8 @@ use Rattle.fa_core.proofs.Permuted.{in_rearranged, distinct_moved}
 use Rattle.fa_core.proofs.Placing.{in_placed, placed_ranked, refs_placed}
 use Rattle.fa_core.proofs.Rearranging.{same, back}
 use Rattle.fa_merge.specs.Merged.{others, last_order, to_last, merged_at}
-use Rattle.fa_merge.specs.Reordered.{renumber, counted, component_at, place_from, place_of, reordered_by}
+use Rattle.fa_merge.specs.Reordered.{renumber, counted, place_from, place_of, reordered_by}
+use Rattle.fa_sound.specs.Components.{component_at}
 use Rattle.fa_merge.specs.inner.Lone.{TopsAreCells, IsLone}
 use Rattle.fa_merge.specs.inner.Orders.{IsOrder}
 use Rattle.fa_merge.proofs.MergedLast.{MeetsOnce, MeetsNever, MetIn, RootsBelow, merge_onto, merge_back}

@@ -1,13 +1,12 @@
 -- The merged automaton keeps its ranges, and what the code of merging needs of lists.
-use Rattle.std.proofs.Common.{◌≡◌, ℕ, zero, suc, ◌<◌, ◌+◌, length, List, [], ◌∷◌, ◌++◌, map, refl, sym, ap, ap₂, ◌∙◌, slice_get, Some, arith}
-use Rattle.std.proofs.lemmas.Option.{none-some, same_Some}
+use Rattle.std.proofs.Common.{◌≡◌, ℕ, suc, ◌<◌, ◌+◌, length, List, [], ◌∷◌, ◌++◌, map, refl, sym, ap, ap₂, ◌∙◌, arith}
 use Rattle.fore_base.specs.Lists.{IsIn, Every}
 use Rattle.fore_base.proofs.ListLemmas.{in_every, every_in, every_append}
 use Rattle.ta_core.specs.Auto.{Automaton, IsRanked, IsRankedRule}
 use Rattle.ta_core.specs.Joined.{shift}
 use Rattle.ta_core.specs.declared.auto.Rule.{Rule}
+pub use Rattle.fa_sound.proofs.ComponentLemmas.{item_component}
 use Rattle.fa_merge.specs.Merged.{kept, moved, bridges, merged}
-use Rattle.fa_merge.specs.Reordered.{component_at}
 use Rattle.fa_merge.proofs.MergedTrees.{kept_in, moved_in, bridges_in}
 use Rattle.fa_merge.proofs.OtherOrders.{mapped_length}
 
@@ -42,11 +41,6 @@ merged_ranked r t l p q = (
         let w = every_in (IsRankedRule l.states) l.rules m.1 q.1 m.4 in
         let a = (every_in (IsRankedRule t.states) t.rules m.0 p.1 m.2).0 in
         rw m.6 (omega (arith, a), states_up t.states l.states m.1.children w.1, mapped_length (shift t.states) m.1.children ∙ w.2)
-
-pub item_component : (xs : List Automaton) (k : ℕ) (a : Automaton) → slice_get xs k ≡ Some a → a ≡ component_at xs k
-item_component [] k a e = absurd (none-some a e)
-item_component (x ∷ xs) zero a e = sym (same_Some x a e)
-item_component (x ∷ xs) (suc k) a e = item_component xs k a e
 
 -- lists with a last item
 abbrev head_or : Automaton → List Automaton → Automaton

@@ -24,7 +24,8 @@ use Rattle.fa_core.proofs.Placing.{placed_boxless, placed_fit, refs_put}
 use Rattle.fa_core.proofs.Uniform.{signed_alike, alike_signed, alike_ends, alike_tops}
 use Rattle.fa_core.proofs.WaysOf.{tree_roots}
 use Rattle.fa_merge.specs.Merged.{kept, moved, bridges, merged, merged_at, to_last}
-use Rattle.fa_merge.specs.Reordered.{renumber, component_at, counted}
+use Rattle.fa_merge.specs.Reordered.{renumber, counted}
+use Rattle.fa_sound.specs.Components.{component_at}
 use Rattle.fa_merge.specs.inner.Lone.{TopsAreCells, IsLone}
 use Rattle.fa_merge.proofs.CutTrees.{FillsEnd}
 use Rattle.fa_merge.proofs.MergedAlike.{merged_alike, end_low}

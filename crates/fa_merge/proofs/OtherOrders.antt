@@ -22,7 +22,8 @@ use Rattle.fa_core.specs.Rearranged.{Rearranged, empty, keep, swap, chain}
 use Rattle.fa_core.proofs.Permuted.{distinct_moved}
 use Rattle.fa_core.proofs.Placing.{Agrees, cells_placed, in_placed, insides_placed, number_placed}
 use Rattle.fa_core.proofs.Rearranging.{back, flat_mapped}
-use Rattle.fa_merge.specs.Reordered.{renumber, counted, component_at, reordered_by}
+use Rattle.fa_merge.specs.Reordered.{renumber, counted, reordered_by}
+use Rattle.fa_sound.specs.Components.{component_at}
 use Rattle.fa_merge.specs.inner.Orders.{IsOrder, nth_or}
 
 -- Lists in another order

@@ -1,5 +1,5 @@
 -- Forests with other leaves in the place of references: what their components keep.
-use Rattle.std.proofs.Common.{◌≡◌, ℕ, zero, suc, ◌<◌, length, List, [], ◌∷◌, map, flat_map, refl, sym, ap, subst, ◌∙◌, slice_get, Some, arith}
+use Rattle.std.proofs.Common.{◌≡◌, ℕ, ◌<◌, length, List, [], ◌∷◌, map, flat_map, refl, sym, ap, subst, ◌∙◌}
 use Rattle.fore_base.specs.Lists.{Every}
 use Rattle.fore_base.proofs.ListLemmas.{every_in, in_from_place}
 use Rattle.ta_core.specs.Auto.{Automaton, IsRanked}
@@ -22,14 +22,10 @@ use Rattle.fa_core.proofs.PlainNodes.{end_no_edges, no_insides_at}
 use Rattle.fa_core.proofs.Placing.{in_placed, end_from, placed_ranked, placed_boxless, refs_put, refs_placed, refs_placed_end}
 use Rattle.fa_core.proofs.Uniform.{alike_ends, alike_tops, ends_refer_alike, signed_alike, alike_signed}
 use Rattle.fa_core.proofs.WaysOf.{tree_roots}
-use Rattle.fa_merge.specs.Reordered.{component_at}
+use Rattle.fa_sound.specs.Components.{component_at}
+pub use Rattle.fa_sound.proofs.ComponentLemmas.{component_got}
 use Rattle.fa_merge.proofs.FlatAlike.{flat_alike}
 use Rattle.fa_merge.proofs.LeaksDecided.{some_choice}
-
-pub component_got : (autos : List Automaton) (k : ℕ) → k < length autos → slice_get autos k ≡ Some (component_at autos k)
-component_got [] k l = absurd (omega (arith, l))
-component_got (a ∷ autos) zero l = refl
-component_got (a ∷ autos) (suc k) l = component_got autos k (omega (arith, l))
 
 -- what each component has
 pub component_has : (P : Automaton → Type 0) (autos : List Automaton) (k : ℕ) → Every P autos → k < length autos → P (component_at autos k)

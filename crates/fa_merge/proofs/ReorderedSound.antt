@@ -18,13 +18,15 @@ use Rattle.fa_core.specs.Placed.{placed_leaf, placed_auto}
 use Rattle.fa_core.specs.References.{AllBelow}
 use Rattle.fa_core.proofs.FilledKept.{IsFormedTree, filled_kept, formed_by, refs_of_filled}
 use Rattle.fa_core.proofs.Placing.{placed_ranked, placed_boxless, placed_fit, refs_put}
-use Rattle.fa_merge.specs.Reordered.{renumber, component_at, place_of, reordered, IsOrderOf}
+use Rattle.fa_merge.specs.Reordered.{renumber, place_of, reordered, IsOrderOf}
+use Rattle.fa_sound.specs.Components.{component_at}
 use Rattle.fa_merge.specs.inner.Orders.{IsOrder}
 use Rattle.fa_merge.proofs.LeaksDecided.{some_choice}
 use Rattle.fa_merge.proofs.MergedAnywhere.{an_order, numbers_mapped}
 use Rattle.fa_merge.proofs.Named.{var_below}
 use Rattle.fa_merge.proofs.OtherOrders.{order_below, order_length, place_below, mapped_length, reorder_onto, reorder_back}
-use Rattle.fa_merge.proofs.PlacedForests.{component_got, component_has, placed_formed, placed_signed, regrouped_full}
+use Rattle.fa_merge.proofs.PlacedForests.{component_has, placed_formed, placed_signed, regrouped_full}
+use Rattle.fa_sound.proofs.ComponentLemmas.{component_got}
 
 abbrev at_of : Target → ℕ
 at_of (At k) = k

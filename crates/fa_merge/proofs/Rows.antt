@@ -18,7 +18,8 @@ use Rattle.fa_core.specs.Ways.{Way, ways, ways_at}
 use Rattle.fa_merge.specs.Dropped.{drop_leaf, but_place, dropped_forest, dropped, AreLeaves, HasFieldsOnly, without_cell}
 use Rattle.fa_merge.specs.Merged.{is_ref, kept, moved, bridge, bridges, merged, others, last_order, to_last, merged_at, lowered, lowering, CanMerge}
 use Rattle.fa_merge.specs.Reached.{RootReached, by_var, by_tree, by_way}
-use Rattle.fa_merge.specs.Reordered.{counted, component_at, place_of, reordered}
+use Rattle.fa_merge.specs.Reordered.{counted, place_of, reordered}
+use Rattle.fa_sound.specs.Components.{component_at}
 
 abbrev rule : ℕ → Symbol → List ℕ → Rule
 rule q y qs = record { state = q; symbol = y; children = qs }

@@ -1,12 +1,10 @@
 -- The signature of a component from that of a root state which has a tree.
-use Rattle.std.proofs.Common.{◌≡◌, ◌∙◌, ℕ, zero, suc, ◌<◌, ◌+◌, Bool, false, true≢false, List, [], ◌∷◌, ◌++◌, length, take, Option, Some, None, slice_get, refl, sym, ap, subst, arith}
-use Rattle.std.specs.Option.{MatchOption}
+use Rattle.std.proofs.Common.{◌≡◌, ◌∙◌, ℕ, zero, suc, ◌<◌, ◌+◌, List, [], ◌∷◌}
+use Rattle.std.proofs.Common.{◌++◌, length, take, Option, Some, slice_get, refl, sym, ap, subst, arith}
 use Rattle.std.proofs.lemmas.Option.{none-some, same_Some}
-use Rattle.fore_base.specs.Lists.{IsIn, Every}
-use Rattle.fore_base.specs.Marks.{MarksOf, IsMarked, some_marked}
-use Rattle.fore_base.proofs.MarkLemmas.{some_to}
+use Rattle.fore_base.specs.Lists.{Every}
 use Rattle.ta_core.specs.Auto.{Automaton}
-use Rattle.ta_core.specs.Language.{HasTree, IsBarren, RunOf}
+use Rattle.ta_core.specs.Language.{RunOf}
 use Rattle.ta_core.specs.declared.tree.Tree.{Tree}
 use Rattle.fa_core.specs.declared.faces.BoxFace.{BoxFace}
 use Rattle.fa_core.specs.declared.signature.Signature.{Signature}
@@ -14,12 +12,6 @@ use Rattle.fa_core.specs.Filled.{HasSignatures}
 use Rattle.fa_core.specs.Ways.{signature}
 use Rattle.fa_sound.specs.Soundness.{IsStateOf}
 use Rattle.fa_merge.specs.inner.Hops.{IsLiveRoot, IsSignatureOf}
-
--- the first root state with a mark has a tree; where there is none the automaton accepts nothing
-pub live_or_barren : (a : Automaton) (marks : List Bool) (found : Option ℕ) → MarksOf a.states (HasTree a.rules) marks
-    → MatchOption found (some_marked marks a.roots ≡ false) (λ q. IsIn q a.roots × IsMarked marks q) → MatchOption found (IsBarren a) (IsLiveRoot a)
-live_or_barren a marks None m h = λ t i. true≢false (sym (some_to marks a.roots i.0 i.1 (m.each i.0 (t, i.2))) ∙ h)
-live_or_barren a marks (Some q) m h = (h.0, m.only q h.1)
 
 pub is_state : (o : Option Automaton) (a : Automaton) (q : ℕ) → o ≡ Some a → q < a.states → IsStateOf o q
 is_state o a q e l = subst (λ (x : Option Automaton). IsStateOf x q) (sym e) l

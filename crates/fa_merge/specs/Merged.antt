@@ -19,7 +19,8 @@ use Rattle.fa_core.specs.Filled.{Choice}
 use Rattle.fa_core.specs.Member.{Stands}
 use Rattle.fa_core.specs.Placed.{placed_leaf, placed_auto}
 use Rattle.fa_core.specs.Ways.{has}
-use Rattle.fa_merge.specs.Reordered.{counted, component_at, place_of, renumber}
+use Rattle.fa_merge.specs.Reordered.{counted, place_of, renumber}
+use Rattle.fa_sound.specs.Components.{component_at}
 
 -- The merged automaton.
 

@@ -1,11 +1,11 @@
 -- Forests whose roots stand in another order: components, references and targets are renumbered together.
 use Rattle.std.specs.Prelude.{ℕ, zero, suc, if◌then◌else◌, nat_eq, List, [], ◌∷◌, map, length}
-use Rattle.ta_core.specs.Auto.{Automaton, automaton}
 use Rattle.fa_core.specs.declared.forest.Forest.{Forest}
 use Rattle.fa_core.specs.declared.forest.Target.{Target}
 use Rattle.fa_core.specs.declared.forest.Target.TheVariants.{At}
 use Rattle.fa_core.specs.Placed.{placed_leaf, placed_auto}
 use Rattle.fa_core.specs.Rearranged.{Rearranged}
+pub use Rattle.fa_sound.specs.Components.{component_at}
 
 -- the leaf of a root that has a new number
 abbrev pub renumber : (ℕ → ℕ) → ℕ → Target
@@ -15,12 +15,6 @@ renumber f k = At (f k)
 abbrev pub counted : ℕ → ℕ → List ℕ
 counted k zero = []
 counted k (suc n) = k ∷ counted (suc k) n
-
--- the k-th component; where there is none, an automaton without trees
-abbrev pub component_at : List Automaton → ℕ → Automaton
-component_at [] k = automaton 0 [] []
-component_at (a ∷ autos) zero = a
-component_at (a ∷ autos) (suc k) = component_at autos k
 
 -- the place of k in the list, whose first item stands at place i; where k is not there, k
 abbrev pub place_from : ℕ → List ℕ → ℕ → ℕ

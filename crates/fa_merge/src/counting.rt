@@ -8,10 +8,10 @@ ghost use Rattle.fa_merge.specs.inner.Counted.{mark_count, marks_count, sum_coun
 ghost use Rattle.fa_merge.specs.inner.Hops.{IsSignatureOf};
 
 use crate::merge::is_marked_root;
-use crate::signing::{component_signature, component_signatures, count_roots};
+use crate::signing::{component_signature, component_signatures};
 use fa_core::forest::Target;
 use fa_core::signature::{RefMark, Signature};
-use fa_sound::Sound;
+use fa_sound::{Sound, count_roots};
 use fore_base::memory::Mem;
 use std::alloc::Global;
 
@@ -28,7 +28,7 @@ pub fn can_merge(alloc: Global, forest: &Sound, root: u32) -> Mem<bool>
     if is_marked_root(own.refs.as_slice(), root) {
         return Ok(false);
     }
-    let count = count_roots(forest)?;
+    let count = count_roots(forest.forest())?;
     let signatures = component_signatures(alloc, forest, count)?;
     Ok(has_one(signatures.as_slice(), root, count))
 }

@@ -8,7 +8,6 @@ ghost use Rattle.fa_core.specs.declared.boxes.BoxDef.{BoxDef};
 ghost use Rattle.fa_merge.specs.Dropped.{CanDrop, IsCut, Removes, Restores, but_place, drop_leaf, dropped_forest};
 
 use crate::placing::{Leaves, place_auto, place_targets};
-use crate::sounding::{ranked_components, sound_of};
 use fa_core::forest::{Forest, Target};
 use fa_sound::Sound;
 use fore_base::list::{Copies, List};
@@ -27,9 +26,8 @@ pub fn drop_dead(alloc: Global, forest: &Sound, root: u32) -> Mem<Sound>
     ensures restores { CanDrop forest.now.face.boxes forest.now.forest root → IfOk result (λ made. (T : List BoxDef) → Restores forest.now.face.shapes.structs T forest.now.forest made.forest root) }
 {
     forest.known();
-    ranked_components(forest.forest());
     let made = drop_root(alloc, forest.forest(), root)?;
-    sound_of(alloc, &made, forest.face())
+    Sound::of(alloc, made, forest.face())
 }
 
 /// Dangling for the root, and the numbers of the others without it.

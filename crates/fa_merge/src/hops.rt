@@ -5,10 +5,10 @@ ghost use Rattle.fore_base.specs.Lists.{Paired};
 ghost use Rattle.fa_core.specs.Canonical.{var_roots};
 ghost use Rattle.fa_merge.specs.inner.Hops.{first_hop, hop, back_hops, mark_hops, tree_hops, all_hops, AreReachMarks, IsSignatureOf};
 
-use crate::signing::{component_signatures, count_roots};
+use crate::signing::component_signatures;
 use fa_core::forest::Target;
 use fa_core::signature::{RefMark, Signature};
-use fa_sound::Sound;
+use fa_sound::{Sound, count_roots};
 use fore_base::list::{Copies, List};
 use fore_base::memory::Mem;
 use std::alloc::Global;
@@ -21,7 +21,7 @@ pub fn reached_roots(alloc: Global, forest: &Sound) -> Mem<List<bool>>
     ensures marks { IfOk result (λ marks. AreReachMarks forest.now.face forest.now.forest marks) }
     ensures few { IfOk result (λ marks. length marks < 2 ^ 32) }
 {
-    let count = count_roots(forest)?;
+    let count = count_roots(forest.forest())?;
     let signatures = component_signatures(alloc, forest, count)?;
     marks_by(alloc, forest, count, signatures.as_slice())
 }

@@ -8,7 +8,6 @@ ghost use Rattle.fa_merge.specs.Reached.{AlwaysLeaks, AreAllReached, IsLeastUnre
 ghost use Rattle.fa_merge.specs.inner.Hops.{IsFirstUnmarked};
 
 use crate::hops::reached_roots;
-use crate::sounding::ranked_components;
 use fa_sound::Sound;
 use fore_base::memory::Mem;
 use std::alloc::Global;
@@ -20,7 +19,6 @@ pub fn leaking_root(alloc: Global, forest: &Sound) -> Mem<Option<u32>>
     ensures exact { Every HasNoBoxes forest.now.forest.autos → IfOk result (λ found. (AlwaysLeaks forest.now.forest → IsSome found) × (NeverLeaks forest.now.forest → IsNone found)) }
 {
     forest.known();
-    ranked_components(forest.forest());
     let marks = reached_roots(alloc, forest)?;
     Ok(first_unmarked(marks.as_slice()))
 }

@@ -13,7 +13,6 @@ mod merging;
 mod orders;
 mod placing;
 mod signing;
-mod sounding;
 #[cfg(test)]
 mod tests;
 

@@ -9,16 +9,16 @@ ghost use Rattle.fa_core.specs.Placed.{placed_leaf};
 ghost use Rattle.fa_core.specs.Ways.{has};
 ghost use Rattle.fa_core.specs.declared.boxes.BoxDef.{BoxDef};
 ghost use Rattle.fa_merge.specs.Merged.{CanMerge, HasSameMembers, IsMergedInto, lowering, merged_at};
-ghost use Rattle.fa_merge.specs.Reordered.{IsOrderOf, component_at, reordered};
+ghost use Rattle.fa_merge.specs.Reordered.{IsOrderOf, reordered};
+ghost use Rattle.fa_sound.specs.Components.{component_at};
 ghost use Rattle.fa_merge.specs.inner.Lone.{AllRefer, IsLone, IsReferrer, NoneRefer, NoneRefers};
 
 use crate::merging::merge_into;
 use crate::orders::reorder_forest;
-use crate::signing::{component_signature, count_roots};
-use crate::sounding::{ranked_components, sound_of};
+use crate::signing::component_signature;
 use fa_core::forest::Forest;
 use fa_core::signature::RefMark;
-use fa_sound::Sound;
+use fa_sound::{Sound, count_roots};
 use fore_base::memory::Mem;
 use std::alloc::Global;
 
@@ -32,10 +32,9 @@ pub fn reorder(alloc: Global, forest: &Sound, order: &[u32]) -> Mem<Sound>
     ensures regroups { IfOk result (λ made. (T : List BoxDef) → Regroups T forest.now.forest made.forest) }
 {
     forest.known();
-    ranked_components(forest.forest());
-    let count = count_roots(forest)?;
+    let count = count_roots(forest.forest())?;
     let made = reorder_counted(alloc, forest.forest(), order, count)?;
-    sound_of(alloc, &made, forest.face())
+    Sound::of(alloc, made, forest.face())
 }
 
 /// The forest with its roots in this order, their number being one of 32 bits.
@@ -59,8 +58,7 @@ pub fn merge_root(alloc: Global, forest: &Sound, root: u32) -> Mem<Sound>
     ensures members { IfOk result (λ made. HasSameMembers made.forest forest.now.forest) }
 {
     forest.known();
-    ranked_components(forest.forest());
-    let count = count_roots(forest)?;
+    let count = count_roots(forest.forest())?;
     match referrer(alloc, forest, root, count)? {
         Some(into) => merge_at(alloc, forest, root, into, count),
         None => unreachable!(),
@@ -77,7 +75,7 @@ fn merge_at(alloc: Global, forest: &Sound, root: u32, into: u32, count: u32) -> 
 {
     forest.known();
     let made = merge_into(alloc, forest.forest(), root, into, count)?;
-    sound_of(alloc, &made, forest.face())
+    Sound::of(alloc, made, forest.face())
 }
 
 /// The first root whose trees refer to the root.

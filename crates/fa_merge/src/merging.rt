@@ -3,7 +3,7 @@
 ghost use Rattle.std.specs.Prelude.{◌≡◌, ◌<◌, ◌+◌, ◌++◌, ◌∷◌, [], ◌^◌, List, length, IfOk, OnOk, slice_set};
 ghost use Rattle.ta_core.specs.Auto.{Automaton};
 ghost use Rattle.fa_merge.specs.Merged.{last_order, merged, merged_at, others};
-ghost use Rattle.fa_merge.specs.Reordered.{component_at};
+ghost use Rattle.fa_sound.specs.Components.{component_at};
 ghost use Rattle.fa_merge.specs.inner.Lone.{IsLone};
 
 use crate::joins::merge_auto;

@@ -3,7 +3,8 @@
 ghost use Rattle.std.specs.Prelude.{◌≡◌, ◌<◌, ◌^◌, length, IfOk, map};
 ghost use Rattle.fore_base.specs.Lists.{Every};
 ghost use Rattle.fa_core.specs.Placed.{placed_auto};
-ghost use Rattle.fa_merge.specs.Reordered.{IsOrderOf, component_at, place_of, renumber, reordered};
+ghost use Rattle.fa_merge.specs.Reordered.{IsOrderOf, place_of, renumber, reordered};
+ghost use Rattle.fa_sound.specs.Components.{component_at};
 
 use crate::placing::{Leaves, place_auto, place_targets};
 use fa_core::forest::{Forest, Target};

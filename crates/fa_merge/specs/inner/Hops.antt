@@ -1,9 +1,10 @@
 -- The hops from reached roots to further ones, as rules of an automaton whose states are the roots: a root is reached where its state has a tree.
-use Rattle.std.specs.Prelude.{◌≡◌, ◌⊎◌, ℕ, suc, ◌<◌, Bool, false, if◌then◌else◌, length, slice_index_or, List, [], ◌∷◌, ◌++◌, map, flat_map}
+use Rattle.std.specs.Prelude.{◌≡◌, ◌⊎◌, ℕ, suc, ◌<◌, Bool, false, if◌then◌else◌, length, slice_index_or}
+use Rattle.std.specs.Prelude.{List, [], ◌∷◌, ◌++◌, map, flat_map, Option, Some}
 use Rattle.fore_base.specs.Lists.{IsIn}
 use Rattle.fore_base.specs.Marks.{IsMarked}
 use Rattle.ta_core.specs.Auto.{Automaton}
-use Rattle.ta_core.specs.Language.{InLanguage, HasTree}
+use Rattle.ta_core.specs.Language.{InLanguage, HasTree, RunOf}
 use Rattle.ta_core.specs.declared.auto.Rule.{Rule}
 use Rattle.ta_core.specs.declared.symbol.Slot.TheVariants.{Field}
 use Rattle.ta_core.specs.declared.symbol.Symbol.TheVariants.{Null, Cell}
@@ -55,6 +56,14 @@ IsHop x = ((r : ℕ) × (x ≡ first_hop r)) ⊎ ((i : ℕ) × (r : ℕ) × (x �
 -- the state is a root state of the automaton, and has a tree
 abbrev pub IsLiveRoot : Automaton → ℕ → Type 0
 IsLiveRoot a q = IsIn q a.roots × HasTree a.rules q
+
+-- the component's state has a tree
+abbrev pub IsLiveOf : Option Automaton → ℕ → Type 0
+IsLiveOf o q = (a : Automaton) → o ≡ Some a → HasTree a.rules q
+
+-- no tree of the component's state refers to a root
+abbrev pub IsSilentOf : List BoxFace → Option Automaton → ℕ → Type 0
+IsSilentOf bs o q = (a : Automaton) (t : Tree) → o ≡ Some a → RunOf a.rules q t → signature bs t ≡ []
 
 -- each tree of the component has the signature
 abbrev pub IsSignatureOf : List BoxFace → Automaton → Signature → Type 0

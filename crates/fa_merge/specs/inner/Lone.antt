@@ -12,7 +12,7 @@ use Rattle.fa_core.specs.Canonical.{RefersTo}
 use Rattle.fa_core.specs.Dressed.{Node, refs}
 use Rattle.fa_core.specs.Member.{bare, leaf_symbol}
 use Rattle.fa_core.specs.References.{AllBelow, IsOnce, IsNever}
-use Rattle.fa_merge.specs.Reordered.{component_at}
+use Rattle.fa_sound.specs.Components.{component_at}
 
 -- no rule of a root state is of a leaf
 abbrev pub TopsAreCells : Automaton → Type 0

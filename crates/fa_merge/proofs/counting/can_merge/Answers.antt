@@ -1,9 +1,10 @@
-use Rattle.std.proofs.Common.{◌∙◌, sym, true≢false}
+use Rattle.std.proofs.Common.{◌∙◌, ap, length, sym, true≢false}
+use Rattle.fa_core.specs.declared.forest.Forest.{Forest}
 use Rattle.fore_base.proofs.ListLemmas.{paired_long}
-use Rattle.fa_merge.specs.Reordered.{component_at}
+use Rattle.fa_sound.specs.Components.{component_at}
 use Rattle.fa_merge.specs.inner.Hops.{IsSignatureOf}
 use Rattle.fa_merge.proofs.CountedRefs.{in_own, merge_decided}
-use Rattle.fa_merge.proofs.PlacedForests.{component_got}
+use Rattle.fa_sound.proofs.ComponentLemmas.{component_got}
 use Rattle.fa_merge.proofs.counting.can_merge.Goals as goal
 
 pub returns-then-is_marked_root : goal.returns-then-is_marked_root
@@ -18,7 +19,8 @@ returns-then-is_marked_root c =
 pub has_one-requires : goal.has_one-requires
 has_one-requires c =
     let long = paired_long (IsSignatureOf c.args.forest.now.face.boxes) c.args.forest.now.forest.autos c.in_ok-signatures.signatures c.in_ok-signatures.ensures in
-    rw c.as_slice-3.ensures (sym long ∙ sym c.in_ok-count.ensures)
+    rw c.as_slice-3.ensures (sym long ∙ sym (c.in_ok-count.ensures.value ∙ ap (λ (z : Forest). length z.autos)
+      c.forest-2.ensures))
 
 pub returns : goal.returns
 returns c =

@@ -12,31 +12,31 @@ use Rattle.fa_merge.proofs.DroppedStores.{store_cut}
 use Rattle.fa_merge.proofs.DroppedSound.{dropped_plain, dropped_sound, cut_of}
 use Rattle.fa_merge.proofs.dead.drop_dead.Goals as goal
 
-pub sound_of-requires-clause-plain : goal.sound_of-requires-clause-plain
-sound_of-requires-clause-plain c =
+pub of-requires-clause-plain : goal.of-requires-clause-plain
+of-requires-clause-plain c =
     let F = c.args.forest.now.forest in
     let r = c.args.root in
-    let made : c.in_ok-made.made ≡ dropped_forest r F = c.in_ok-made.ensures ∙ ap (dropped_forest r) c.forest-2.ensures in
-    let ranked : Every IsRanked F.autos = rw c.forest.ensures at c.ranked_components.ensures in
+    let made : c.in_ok-made.made ≡ dropped_forest r F = c.in_ok-made.ensures ∙ ap (dropped_forest r) c.forest.ensures in
+    let ranked : Every IsRanked F.autos = c.known.ensures.ranked in
     subst (λ (z : Forest). Every HasNoBoxes z.autos) (sym made) (dropped_plain c.args.forest.now.face F r c.requires.root ranked c.requires.plain c.known.ensures.sound)
 
-pub sound_of-requires-clause-sound : goal.sound_of-requires-clause-sound
-sound_of-requires-clause-sound c =
+pub of-requires-clause-sound : goal.of-requires-clause-sound
+of-requires-clause-sound c =
     let F = c.args.forest.now.forest in
     let r = c.args.root in
-    let made : c.in_ok-made.made ≡ dropped_forest r F = c.in_ok-made.ensures ∙ ap (dropped_forest r) c.forest-2.ensures in
-    let ranked : Every IsRanked F.autos = rw c.forest.ensures at c.ranked_components.ensures in
+    let made : c.in_ok-made.made ≡ dropped_forest r F = c.in_ok-made.ensures ∙ ap (dropped_forest r) c.forest.ensures in
+    let ranked : Every IsRanked F.autos = c.known.ensures.ranked in
     rw c.face.ensures (subst (λ (z : Forest). IsSound c.args.forest.now.face z) (sym made) (dropped_sound c.args.forest.now.face F r c.requires.root ranked c.requires.plain c.known.ensures.sound))
 
 pub returns-clause-cut : goal.returns-clause-cut
 returns-clause-cut c = λ dead.
     let F = c.args.forest.now.forest in
     let r = c.args.root in
-    let made : c.in_ok-made.made ≡ dropped_forest r F = c.in_ok-made.ensures ∙ ap (dropped_forest r) c.forest-2.ensures in
-    let ranked : Every IsRanked F.autos = rw c.forest.ensures at c.ranked_components.ensures in
-    IfOk-weaker c.sound_of.result (λ s. s.forest ≡ c.in_ok-made.made) (λ s. (T : List BoxDef) → IsCut T F s.forest r)
+    let made : c.in_ok-made.made ≡ dropped_forest r F = c.in_ok-made.ensures ∙ ap (dropped_forest r) c.forest.ensures in
+    let ranked : Every IsRanked F.autos = c.known.ensures.ranked in
+    IfOk-weaker c.of.result (λ s. s.forest ≡ c.in_ok-made.made) (λ s. (T : List BoxDef) → IsCut T F s.forest r)
     (λ s e T. subst (λ (z : Forest). IsCut T F z r) (sym (e ∙ made)) (cut_of c.args.forest.now.face F r c.requires.root ranked c.requires.plain c.known.ensures.sound T dead))
-    c.sound_of.ensures.forest
+    c.of.ensures.forest
 
 pub returns-clause-removes : goal.returns-clause-removes
 returns-clause-removes c = λ dead.
@@ -44,11 +44,11 @@ returns-clause-removes c = λ dead.
     let face = c.args.forest.now.face in
     let hs = face.shapes.structs in
     let r = c.args.root in
-    let made : c.in_ok-made.made ≡ dropped_forest r F = c.in_ok-made.ensures ∙ ap (dropped_forest r) c.forest-2.ensures in
-    let ranked : Every IsRanked F.autos = rw c.forest.ensures at c.ranked_components.ensures in
-    IfOk-weaker c.sound_of.result (λ s. s.forest ≡ c.in_ok-made.made) (λ s. (T : List BoxDef) → Removes hs T F s.forest r)
+    let made : c.in_ok-made.made ≡ dropped_forest r F = c.in_ok-made.ensures ∙ ap (dropped_forest r) c.forest.ensures in
+    let ranked : Every IsRanked F.autos = c.known.ensures.ranked in
+    IfOk-weaker c.of.result (λ s. s.forest ≡ c.in_ok-made.made) (λ s. (T : List BoxDef) → Removes hs T F s.forest r)
     (λ s e T. subst (λ (z : Forest). Removes hs T F z r) (sym (e ∙ made)) (store_cut hs T F (dropped_forest r F) r c.requires.plain (cut_of face F r c.requires.root ranked c.requires.plain c.known.ensures.sound T dead)))
-    c.sound_of.ensures.forest
+    c.of.ensures.forest
 
 pub returns-clause-restores : goal.returns-clause-restores
 returns-clause-restores c = λ dead.
@@ -56,8 +56,8 @@ returns-clause-restores c = λ dead.
     let face = c.args.forest.now.face in
     let hs = face.shapes.structs in
     let r = c.args.root in
-    let made : c.in_ok-made.made ≡ dropped_forest r F = c.in_ok-made.ensures ∙ ap (dropped_forest r) c.forest-2.ensures in
-    let ranked : Every IsRanked F.autos = rw c.forest.ensures at c.ranked_components.ensures in
-    IfOk-weaker c.sound_of.result (λ s. s.forest ≡ c.in_ok-made.made) (λ s. (T : List BoxDef) → Restores hs T F s.forest r)
+    let made : c.in_ok-made.made ≡ dropped_forest r F = c.in_ok-made.ensures ∙ ap (dropped_forest r) c.forest.ensures in
+    let ranked : Every IsRanked F.autos = c.known.ensures.ranked in
+    IfOk-weaker c.of.result (λ s. s.forest ≡ c.in_ok-made.made) (λ s. (T : List BoxDef) → Restores hs T F s.forest r)
     (λ s e T. subst (λ (z : Forest). Restores hs T F z r) (sym (e ∙ made)) (store_restored T face F (dropped_forest r F) r c.requires.plain (dropped_plain face F r c.requires.root ranked c.requires.plain c.known.ensures.sound) c.known.ensures.sound.well_formed.filled (cut_of face F r c.requires.root ranked c.requires.plain c.known.ensures.sound T dead)))
-    c.sound_of.ensures.forest
+    c.of.ensures.forest

@@ -13,5 +13,5 @@ returns-clause-leaks c = λ plain. leaks_found _ _ c.in_ok-marks.marks c.in_ok-m
 pub returns-clause-exact : goal.returns-clause-exact
 returns-clause-exact c = λ plain.
     let F = c.args.forest.now.forest in
-    let ranked : Every IsRanked F.autos = rw c.forest.ensures at c.ranked_components.ensures in
+    let ranked : Every IsRanked F.autos = c.known.ensures.ranked in
     exact_of c.args.forest.now.face F c.known.ensures.sound ranked plain c.first_unmarked.result (leaks_found _ _ c.in_ok-marks.marks c.in_ok-marks.ensures.marks c.first_unmarked.result (rw c.as_slice.ensures at c.first_unmarked.ensures) plain)

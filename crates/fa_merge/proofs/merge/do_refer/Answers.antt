@@ -1,6 +1,6 @@
-use Rattle.fa_merge.specs.Reordered.{component_at}
+use Rattle.fa_sound.specs.Components.{component_at}
 use Rattle.fa_merge.proofs.LoneFound.{refer_or_not}
-use Rattle.fa_merge.proofs.PlacedForests.{component_got}
+use Rattle.fa_sound.proofs.ComponentLemmas.{component_got}
 use Rattle.fa_merge.proofs.merge.do_refer.Goals as goal
 
 pub returns : goal.returns

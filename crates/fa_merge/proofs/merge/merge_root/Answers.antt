@@ -17,14 +17,14 @@ use Rattle.fa_merge.proofs.merge.merge_root.Goals as goal
 pub merge_at-requires-clause-lone : goal.merge_at-requires-clause-lone
 merge_at-requires-clause-lone c =
     let F = c.args.forest.now.forest in
-    let ranked : Every IsRanked F.autos = rw c.forest.ensures at c.ranked_components.ensures in
+    let ranked : Every IsRanked F.autos = c.known.ensures.ranked in
     let found : IsReferrer F c.args.root c.in-Some.into = rw c.in-Some.is at c.in_ok-into.ensures in
     lone_found c.args.forest.now.face F c.args.root c.known.ensures.sound ranked c.requires.lone c.in-Some.into found.0 found.1
 
 pub unreachable-requires : goal.unreachable-requires
 unreachable-requires c =
     let F = c.args.forest.now.forest in
-    let ranked : Every IsRanked F.autos = rw c.forest.ensures at c.ranked_components.ensures in
+    let ranked : Every IsRanked F.autos = c.known.ensures.ranked in
     let none = rw c.in-None.is at c.in_ok-into.ensures in
     some_refers c.args.forest.now.face F c.args.root c.known.ensures.sound ranked c.requires.lone none
 
@@ -32,7 +32,7 @@ pub returns-clause-value : goal.returns-clause-value
 returns-clause-value c =
     let F = c.args.forest.now.forest in
     let r = c.args.root in
-    let ranked : Every IsRanked F.autos = rw c.forest.ensures at c.ranked_components.ensures in
+    let ranked : Every IsRanked F.autos = c.known.ensures.ranked in
     let found : IsReferrer F r c.in-Some.into = rw c.in-Some.is at c.in_ok-into.ensures in
     let lone : IsLone F r c.in-Some.into = lone_found c.args.forest.now.face F r c.known.ensures.sound ranked c.requires.lone c.in-Some.into found.0 found.1 in
     IfOk-weaker c.merge_at.result (λ s. s.forest ≡ merged_at r c.in-Some.into F) (λ s. IsMergedInto F r s.forest)
@@ -43,7 +43,7 @@ pub returns-clause-vars : goal.returns-clause-vars
 returns-clause-vars c =
     let F = c.args.forest.now.forest in
     let r = c.args.root in
-    let ranked : Every IsRanked F.autos = rw c.forest.ensures at c.ranked_components.ensures in
+    let ranked : Every IsRanked F.autos = c.known.ensures.ranked in
     let found : IsReferrer F r c.in-Some.into = rw c.in-Some.is at c.in_ok-into.ensures in
     let lone : IsLone F r c.in-Some.into = lone_found c.args.forest.now.face F r c.known.ensures.sound ranked c.requires.lone c.in-Some.into found.0 found.1 in
     IfOk-weaker c.merge_at.result (λ s. s.forest ≡ merged_at r c.in-Some.into F) (λ s. s.forest.vars ≡ map (placed_leaf (lowering r)) F.vars)
@@ -54,7 +54,7 @@ pub returns-clause-whole : goal.returns-clause-whole
 returns-clause-whole c =
     let F = c.args.forest.now.forest in
     let r = c.args.root in
-    let ranked : Every IsRanked F.autos = rw c.forest.ensures at c.ranked_components.ensures in
+    let ranked : Every IsRanked F.autos = c.known.ensures.ranked in
     let found : IsReferrer F r c.in-Some.into = rw c.in-Some.is at c.in_ok-into.ensures in
     let lone : IsLone F r c.in-Some.into = lone_found c.args.forest.now.face F r c.known.ensures.sound ranked c.requires.lone c.in-Some.into found.0 found.1 in
     IfOk-weaker c.merge_at.result (λ s. s.forest ≡ merged_at r c.in-Some.into F) (λ s. (T : List BoxDef) → Regroups T s.forest F)
@@ -65,7 +65,7 @@ pub returns-clause-regroups : goal.returns-clause-regroups
 returns-clause-regroups c =
     let F = c.args.forest.now.forest in
     let r = c.args.root in
-    let ranked : Every IsRanked F.autos = rw c.forest.ensures at c.ranked_components.ensures in
+    let ranked : Every IsRanked F.autos = c.known.ensures.ranked in
     let found : IsReferrer F r c.in-Some.into = rw c.in-Some.is at c.in_ok-into.ensures in
     let lone : IsLone F r c.in-Some.into = lone_found c.args.forest.now.face F r c.known.ensures.sound ranked c.requires.lone c.in-Some.into found.0 found.1 in
     IfOk-weaker c.merge_at.result (λ s. s.forest ≡ merged_at r c.in-Some.into F) (λ s. (T : List BoxDef) → Regroups T F s.forest)
@@ -76,7 +76,7 @@ pub returns-clause-members : goal.returns-clause-members
 returns-clause-members c =
     let F = c.args.forest.now.forest in
     let r = c.args.root in
-    let ranked : Every IsRanked F.autos = rw c.forest.ensures at c.ranked_components.ensures in
+    let ranked : Every IsRanked F.autos = c.known.ensures.ranked in
     let found : IsReferrer F r c.in-Some.into = rw c.in-Some.is at c.in_ok-into.ensures in
     let lone : IsLone F r c.in-Some.into = lone_found c.args.forest.now.face F r c.known.ensures.sound ranked c.requires.lone c.in-Some.into found.0 found.1 in
     IfOk-weaker c.merge_at.result (λ s. s.forest ≡ merged_at r c.in-Some.into F) (λ s. HasSameMembers s.forest F)

@@ -1,5 +1,5 @@
 use Rattle.std.proofs.Common.{arith}
-use Rattle.fa_merge.specs.Reordered.{component_at}
+use Rattle.fa_sound.specs.Components.{component_at}
 use Rattle.fa_merge.specs.inner.Lone.{NoneRefer}
 use Rattle.fa_merge.proofs.LoneFound.{below_or_last}
 use Rattle.fa_merge.proofs.merge.referrer.Goals as goal

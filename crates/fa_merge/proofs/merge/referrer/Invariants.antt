@@ -1,5 +1,5 @@
 use Rattle.std.proofs.Common.{ℕ, ◌<◌}
-use Rattle.fa_merge.specs.Reordered.{component_at}
+use Rattle.fa_sound.specs.Components.{component_at}
 use Rattle.fa_merge.specs.inner.Lone.{NoneRefer}
 use Rattle.fa_merge.proofs.merge.referrer.Given as goal
 

@@ -13,18 +13,18 @@ use Rattle.fa_merge.proofs.OtherOrders.{reorder_onto, reorder_back}
 use Rattle.fa_merge.proofs.ReorderedSound.{new_plain, reordered_sound}
 use Rattle.fa_merge.proofs.merge.reorder.Goals as goal
 
-pub sound_of-requires-clause-plain : goal.sound_of-requires-clause-plain
-sound_of-requires-clause-plain c =
+pub of-requires-clause-plain : goal.of-requires-clause-plain
+of-requires-clause-plain c =
     let F = c.args.forest.now.forest in
     let made : c.in_ok-made.made ≡ reordered c.args.order.now F = c.in_ok-made.ensures ∙ ap (reordered c.args.order.now) c.forest-2.ensures in
-    let ranked : Every IsRanked F.autos = rw c.forest.ensures at c.ranked_components.ensures in
+    let ranked : Every IsRanked F.autos = c.known.ensures.ranked in
     subst (λ (z : Forest). Every HasNoBoxes z.autos) (sym made) (new_plain c.args.forest.now.face F c.args.order.now c.requires.all ranked c.requires.plain c.known.ensures.sound)
 
-pub sound_of-requires-clause-sound : goal.sound_of-requires-clause-sound
-sound_of-requires-clause-sound c =
+pub of-requires-clause-sound : goal.of-requires-clause-sound
+of-requires-clause-sound c =
     let F = c.args.forest.now.forest in
     let made : c.in_ok-made.made ≡ reordered c.args.order.now F = c.in_ok-made.ensures ∙ ap (reordered c.args.order.now) c.forest-2.ensures in
-    let ranked : Every IsRanked F.autos = rw c.forest.ensures at c.ranked_components.ensures in
+    let ranked : Every IsRanked F.autos = c.known.ensures.ranked in
     rw c.face.ensures (subst (λ (z : Forest). IsSound c.args.forest.now.face z) (sym made) (reordered_sound c.args.forest.now.face F c.args.order.now c.requires.all ranked c.requires.plain c.known.ensures.sound))
 
 pub returns-clause-whole : goal.returns-clause-whole
@@ -32,15 +32,15 @@ returns-clause-whole c =
     let F = c.args.forest.now.forest in
     let order = c.args.order.now in
     let made : c.in_ok-made.made ≡ reordered order F = c.in_ok-made.ensures ∙ ap (reordered order) c.forest-2.ensures in
-    IfOk-weaker c.sound_of.result (λ s. s.forest ≡ c.in_ok-made.made) (λ s. (T : List BoxDef) → Regroups T s.forest F)
+    IfOk-weaker c.of.result (λ s. s.forest ≡ c.in_ok-made.made) (λ s. (T : List BoxDef) → Regroups T s.forest F)
     (λ s e T. subst (λ (z : Forest). Regroups T z F) (sym (e ∙ made)) (reorder_onto T F (place_of order) order (an_order (length F.autos) order c.requires.all)))
-    c.sound_of.ensures.forest
+    c.of.ensures.forest
 
 pub returns-clause-regroups : goal.returns-clause-regroups
 returns-clause-regroups c =
     let F = c.args.forest.now.forest in
     let order = c.args.order.now in
     let made : c.in_ok-made.made ≡ reordered order F = c.in_ok-made.ensures ∙ ap (reordered order) c.forest-2.ensures in
-    IfOk-weaker c.sound_of.result (λ s. s.forest ≡ c.in_ok-made.made) (λ s. (T : List BoxDef) → Regroups T F s.forest)
+    IfOk-weaker c.of.result (λ s. s.forest ≡ c.in_ok-made.made) (λ s. (T : List BoxDef) → Regroups T F s.forest)
     (λ s e T. subst (λ (z : Forest). Regroups T F z) (sym (e ∙ made)) (reorder_back F (place_of order) order (an_order (length F.autos) order c.requires.all) T))
-    c.sound_of.ensures.forest
+    c.of.ensures.forest

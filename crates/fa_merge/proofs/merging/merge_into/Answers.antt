@@ -3,7 +3,8 @@ use Rattle.fore_base.specs.declared.store.Datum.{Datum}
 use Rattle.fa_core.specs.declared.forest.Forest.{Forest}
 use Rattle.fa_core.specs.declared.forest.Target.{Target}
 use Rattle.fa_merge.specs.Merged.{merged, last_order, to_last}
-use Rattle.fa_merge.specs.Reordered.{component_at, place_of, reordered}
+use Rattle.fa_merge.specs.Reordered.{place_of, reordered}
+use Rattle.fa_sound.specs.Components.{component_at}
 use Rattle.fa_merge.proofs.MergeSteps.{lone_order, lone_length, autos_length, lone_place, lone_value}
 use Rattle.fa_merge.proofs.merging.merge_into.Goals as goal
 

@@ -1,4 +1,4 @@
-use Rattle.fa_merge.proofs.MergedRanks.{item_component}
+use Rattle.fa_sound.proofs.ComponentLemmas.{item_component}
 use Rattle.fa_merge.proofs.orders.component.Goals as goal
 
 pub returns : goal.returns

@@ -1,6 +1,7 @@
 use Rattle.std.proofs.Common.{◌≡◌, take, map}
 use Rattle.fa_core.specs.Placed.{placed_auto}
-use Rattle.fa_merge.specs.Reordered.{component_at, place_of, renumber}
+use Rattle.fa_merge.specs.Reordered.{place_of, renumber}
+use Rattle.fa_sound.specs.Components.{component_at}
 use Rattle.fa_merge.proofs.orders.ordered_autos.Given as goal
 
 abbrev pub invariant-loop-root : goal.invariant-loop-root
