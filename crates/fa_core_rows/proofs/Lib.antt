@@ -1,3 +1,5 @@
 pub mod Broken
+pub mod LinkFolds
 pub mod Rings
+pub mod Singles
 pub mod Walks
