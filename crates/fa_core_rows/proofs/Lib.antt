@@ -1,4 +1,5 @@
 pub mod Broken
+pub mod HookFolds
 pub mod LinkFolds
 pub mod Rings
 pub mod Singles

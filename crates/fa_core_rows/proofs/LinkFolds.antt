@@ -1,6 +1,6 @@
 -- A worked part and its fold whose inner root stands before the roots that stay, between ports of different structs, in a
 -- box that has more trees than the part.
-use Rattle.std.proofs.Common.{◌≡◌, ◌<◌, inl, inr, ℕ, zero, suc, false, List, [], ◌∷◌, ◌++◌, map, length, refl, sym, ap, subst, Some}
+use Rattle.std.proofs.Common.{◌≡◌, ◌<◌, inl, inr, ℕ, zero, suc, false, List, [], ◌∷◌, ◌++◌, refl, ap, subst, Some}
 use Rattle.std.proofs.Common.{slice_get, arith}
 use Rattle.std.proofs.lemmas.Bool.{ne_eqb}
 use Rattle.std.proofs.lemmas.Option.{none-some, same_Some}
@@ -12,15 +12,14 @@ use Rattle.ta_core.specs.declared.symbol.Slot.{Slot}
 use Rattle.ta_core.specs.declared.symbol.Slot.TheVariants.{Field, Link}
 use Rattle.ta_core.specs.declared.symbol.Symbol.{Symbol}
 use Rattle.ta_core.specs.declared.symbol.Symbol.TheVariants.{Null, Uninit, Ref, Cell}
-use Rattle.ta_core.specs.declared.tree.Tree.{Tree, roll-Tree, out-Tree, out-roll-Tree}
+use Rattle.ta_core.specs.declared.tree.Tree.{Tree, roll-Tree, out-roll-Tree}
 use Rattle.fa_core.specs.declared.boxes.BoxDef.{BoxDef}
 use Rattle.fa_core.specs.declared.faces.BoxFace.{BoxFace}
 use Rattle.fa_core.specs.declared.forest.Forest.{Forest}
 use Rattle.fa_core.specs.declared.forest.Target.{Target}
 use Rattle.fa_core.specs.declared.forest.Target.TheVariants.{Null as NullTarget, At}
 use Rattle.fa_core.specs.Canonical.{refs_at}
-use Rattle.fa_core.specs.Choices.{bares}
-use Rattle.fa_core.specs.Dressed.{Node, Nodes, node, no_parts, field, link, leaf, no_nodes, more}
+use Rattle.fa_core.specs.Dressed.{Node, node, no_parts, field, link, leaf, no_nodes}
 use Rattle.fa_core.specs.Filled.{Choice}
 use Rattle.fa_core.specs.Folding.{covered_fields, top_places, Placing, all_placed, is_placed, place_now, position, Ports, port_refs}
 use Rattle.fa_core.specs.Folding.{left_refs, ArePartRoots, port_tree, moved_tree, IsPart, number_without, box_slot, gained}
@@ -207,7 +206,7 @@ part_roots = record {
         let e = from_ports in
         let f = inner_refs in
         let last : Placing (refs_at trees) (refs_at trees 0 ++ 0 ∷ []) (2 ∷ 1 ∷ 0 ∷ []) (2 ∷ 1 ∷ 0 ∷ []) =
-            rw f (is_placed (inr (inl refl)) (is_placed (inr (inr (inl refl))) all_placed)) in
+        rw f (is_placed (inr (inl refl)) (is_placed (inr (inr (inl refl))) all_placed)) in
         rw e (place_now {r = 0} not_a_port last)
 
     no_var : (r : ℕ) → IsIn r (0 ∷ []) → IsIn (At r) (At 1 ∷ At 2 ∷ []) → ⊥
@@ -248,10 +247,18 @@ is_part = record {
   shapes = 1 ∷ 0 ∷ [];
   inner = 0 ∷ [];
   are_ports = (
-    in_port, out_port, 0 ∷ [], 1 ∷ [], 0, refl, refl,
+    in_port,
+    out_port,
+    0 ∷ [],
+    1 ∷ [],
+    0,
+    refl,
+    refl,
     single_fields bs in_port (bare in_node) (0 ∷ []) (over_single _ _ _) in_runs in_fields tt,
     single_fields bs out_port (bare prev_node) (1 ∷ []) (over_single _ _ _) prev_runs prev_fields tt,
-    refl, refl, refl,
+    refl,
+    refl,
+    refl,
   );
   roots = (
     record {
@@ -287,17 +294,29 @@ is_part = record {
   inner_autos = inner_auto ∷ [];
   autos = refl;
   at_ports = (
-    (head_auto, refl, single_language (port_tree places 1 (0 ∷ [])) head_auto in_port (bare head_node) (bare in_node)
-        (over_single _ _ _) (over_single _ _ _) head_runs in_runs moved_input),
     (
-      (out_auto, refl, single_language (port_tree places 0 (1 ∷ [])) out_auto out_port (bare out_node) (bare prev_node)
-          (over_single _ _ _) (over_single _ _ _) out_runs prev_runs moved_output),
+      head_auto,
+      refl,
+      single_language (port_tree places 1 (0 ∷ [])) head_auto in_port (bare head_node) (bare in_node)
+          (over_single _ _ _) (over_single _ _ _) head_runs in_runs moved_input,
+    ),
+    (
+      (
+        out_auto,
+        refl,
+        single_language (port_tree places 0 (1 ∷ [])) out_auto out_port (bare out_node) (bare prev_node)
+            (over_single _ _ _) (over_single _ _ _) out_runs prev_runs moved_output,
+      ),
       refl,
     ),
   );
   at_inner = (
-    (inner_auto, refl, single_language (moved_tree places) inner_auto inner_auto (bare inner_node) (bare inner_node)
-        (over_single _ _ _) (over_single _ _ _) inner_runs inner_runs moved_inner),
+    (
+      inner_auto,
+      refl,
+      single_language (moved_tree places) inner_auto inner_auto (bare inner_node) (bare inner_node)
+          (over_single _ _ _) (over_single _ _ _) inner_runs inner_runs moved_inner,
+    ),
     tt,
   );
 }
@@ -346,10 +365,17 @@ head_folded = single_folded bs numbers ((Link 0, leaf_tree (Ref 0) ∷ []) ∷ [
 
 -- the tree of the part is one of the box
 wide_runs : InLanguage wide (bare inner_node)
-wide_runs = (0, inl refl, node_bare wide.rules 0 inner_node (
-  rule 0 (item both) (1 ∷ 2 ∷ []), inl refl, refl, refl,
-  ((rule 1 (Ref 1) [], inr (inl refl), refl, refl, refl), ((rule 2 Null [], inr (inr (inl refl)), refl, refl, refl), tt)),
-))
+wide_runs = (
+  0,
+  inl refl,
+  node_bare wide.rules 0 inner_node (
+    rule 0 (item both) (1 ∷ 2 ∷ []),
+    inl refl,
+    refl,
+    refl,
+    ((rule 1 (Ref 1) [], inr (inl refl), refl, refl, refl), ((rule 2 Null [], inr (inr (inl refl)), refl, refl, refl), tt)),
+  ),
+)
 
 inner_within : IsWithin inner_auto wide
 inner_within t h = subst (λ (u : Tree). InLanguage wide u) (single_tree inner_auto (bare inner_node) t (over_single _ _ _) inner_runs h) wide_runs
@@ -372,7 +398,8 @@ fold = record {
     all zero a e n = absurd (n (inl refl))
     all (suc zero) a e n = (kept_out, refl, subst (λ (x : Automaton). IsFoldedAuto bs numbers [] (1 ∷ []) x kept_out) (same_Some out_auto a e) out_folded)
     all (suc (suc zero)) a e n = (
-      kept_head, refl,
+      kept_head,
+      refl,
       subst (λ (x : Automaton). IsFoldedAuto bs numbers ((Link 0, leaf_tree (Ref 0) ∷ []) ∷ []) (0 ∷ []) x kept_head) (same_Some head_auto a e) head_folded,
     )
     all (suc (suc (suc r))) a e n = absurd (none-some a e)

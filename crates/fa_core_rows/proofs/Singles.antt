@@ -120,16 +120,20 @@ module _ (bs : List BoxFace) (f : ℕ → ℕ) (more : List Place) (fs : List �
       → Rearranged made (more ++ moved_places f (left fs (top_places (bare n))))
       → IsInOrder bs (map (λ (p : Place). p.0) made) → bare m ≡ cell_of s ds made → IsFoldedAuto bs f more fs a c
   single_folded s ds ss made sa sc ha hc y r o e u = (
-    (λ w. (bare n, ha, record {
-      shape = s;
-      datums = ds;
-      slots = ss;
-      symbol = y;
-      made = made;
-      same = r;
-      order = o;
-      is = single_tree c u (bare m) sc w hc ∙ e;
-    })),
+    (λ w. (
+      bare n,
+      ha,
+      record {
+        shape = s;
+        datums = ds;
+        slots = ss;
+        symbol = y;
+        made = made;
+        same = r;
+        order = o;
+        is = single_tree c u (bare m) sc w hc ∙ e;
+      },
+    )),
     (λ w. from (subst (λ (v : Tree). IsFoldedTree bs f more fs v u) (single_tree a w.0 (bare n) sa w.1 ha) w.2)),
   )
     where
@@ -140,6 +144,6 @@ module _ (bs : List BoxFace) (f : ℕ → ℕ) (more : List Place) (fs : List �
           let rose = subst (λ (l : List ℕ). IsRising l) (slot_keys bs made) o.1 in
           let k : x.made ≡ made = same_by_keys (key bs) x.made made (chain x.same (turned r)) rises rose in
           let i : u ≡ bare m =
-              x.is ∙ ap₂ (λ (t : ℕ) (es : List Datum). cell_of t es x.made) (ap symbol_struct z) (ap symbol_data z)
-              ∙ ap (λ (l : List Place). cell_of s ds l) k ∙ sym e in
+          x.is ∙ ap₂ (λ (t : ℕ) (es : List Datum). cell_of t es x.made) (ap symbol_struct z) (ap symbol_data z)
+          ∙ ap (λ (l : List Place). cell_of s ds l) k ∙ sym e in
           subst (λ (v : Tree). InLanguage c v) (sym i) hc
