@@ -13,7 +13,8 @@ use Rattle.fa_core.specs.declared.faces.BoxFace.{BoxFace}
 use Rattle.fa_core.specs.declared.faces.Face.{Face}
 use Rattle.fa_core.specs.declared.forest.Target.TheVariants.{Null as NullTarget, At}
 use Rattle.fa_core.specs.declared.signature.RefMark.{RefMark}
-use Rattle.fa_core.specs.Boxes.{PortSymbolFits, CoverAlike, CoverSome, InsideRulesFit, IsPortSpot, IsReached, LeadsUp, SoundBox}
+use Rattle.fa_core.specs.Boxes.{PortSymbolFits, CoverAlike, CoverSome, InsideRulesFit, IsPortSpot, IsReached, LeadsUp}
+use Rattle.fa_core.specs.Boxes.{SoundBox}
 use Rattle.fa_core.specs.Choices.{bares}
 use Rattle.fa_core.specs.Dressed.{Node, Nodes, node, no_parts, field, under, leaf, no_nodes, more}
 use Rattle.fa_core.specs.Filled.{given_at}
@@ -73,7 +74,8 @@ abbrev short_head : Automaton
 short_head = record {
   states = 3;
   roots = 0 ∷ [];
-  rules = rule 0 (Cell 1 [] (Field 0 ∷ [])) (1 ∷ []) ∷ rule 1 (Cell 0 [] (Field 0 ∷ [])) (2 ∷ []) ∷ rule 2 (Ref 1) [] ∷ [];
+  rules = rule 0 (Cell 1 [] (Field 0 ∷ [])) (1 ∷ []) ∷ rule 1 (Cell 0 [] (Field 0 ∷ [])) (2 ∷ [])
+      ∷ rule 2 (Ref 1) [] ∷ [];
 }
 
 abbrev short_node : Node
@@ -111,7 +113,8 @@ low_cell_lacks_prev T h =
     omega (arith, z)
 
 -- a port with a field of its own and the same by an edge
-given_twice : IsPortSpot plain (0 ∷ 0 ∷ []) (0 ∷ []) (record { shape = 0; slots = Field 0 ∷ []; ends = Ref 1 ∷ []; given = 0 ∷ [] }) → ⊥
+given_twice : IsPortSpot plain (0 ∷ 0 ∷ []) (0 ∷ [])
+    (record { shape = 0; slots = Field 0 ∷ []; ends = Ref 1 ∷ []; given = 0 ∷ [] }) → ⊥
 given_twice h = let z = same_long h.once in omega (arith, z)
 
 -- the fields of a face rise
@@ -151,7 +154,8 @@ abbrev two_fields : Automaton
 two_fields = record {
   states = 2;
   roots = 0 ∷ [];
-  rules = rule 0 (Cell 0 [] (Field 0 ∷ [])) (1 ∷ []) ∷ rule 0 (Cell 0 [] (Field 1 ∷ [])) (1 ∷ []) ∷ rule 1 (Ref 1) [] ∷ [];
+  rules = rule 0 (Cell 0 [] (Field 0 ∷ [])) (1 ∷ []) ∷ rule 0 (Cell 0 [] (Field 1 ∷ [])) (1 ∷ [])
+      ∷ rule 1 (Ref 1) [] ∷ [];
 }
 
 next_runs : InLanguage two_fields (bare (port_node 0 0 1))
@@ -196,21 +200,23 @@ abbrev first : List ℕ → ℕ
 first [] = 9
 first (x ∷ xs) = x
 
-other_struct : (T : List BoxDef) → SoundBox plain T (box_of (record box_face { input = 1 }) (port 0 1 ∷ port 1 0 ∷ [])) → ⊥
+other_struct : (T : List BoxDef) → SoundBox plain T (box_of (record box_face { input = 1 }) (port 0 1 ∷ port 1 0 ∷ []))
+    → ⊥
 other_struct T h =
     let d = more (port_node 0 0 1) (more (port_node 1 1 0) no_nodes) in
     let f = h.fits (bares d) (port_runs 0 0 1, (port_runs 1 1 0, tt)) in
     let z : 0 ≡ 1 = ap first (sym (tops_structs d f.tops f.are) ∙ f.ports.1) in
     omega (arith, z)
 
--- Signatures: the third child refers to root 1 or to nothing, and the first two refer to it in any case. So the roots have
--- one signature, and the state of the third child two.
+-- Signatures: the third child refers to root 1 or to nothing, and the first two refer to it in any case. So the roots
+-- have one signature, and the state of the third child two.
 
 abbrev third : Automaton
 third = record {
   states = 3;
   roots = 0 ∷ [];
-  rules = rule 0 (Cell 0 [] (Field 0 ∷ Field 1 ∷ Field 2 ∷ [])) (1 ∷ 1 ∷ 2 ∷ []) ∷ rule 1 (Ref 1) [] ∷ rule 2 (Ref 1) [] ∷ rule 2 Null [] ∷ [];
+  rules = rule 0 (Cell 0 [] (Field 0 ∷ Field 1 ∷ Field 2 ∷ [])) (1 ∷ 1 ∷ 2 ∷ []) ∷ rule 1 (Ref 1) []
+      ∷ rule 2 (Ref 1) [] ∷ rule 2 Null [] ∷ [];
 }
 
 abbrev ref : Tree
@@ -230,7 +236,8 @@ third_null = end_bare third.rules 2 (leaf NullTarget) (rule 2 Null [], inr (inr 
 
 third_takes_part : TakesPart third 2
 third_takes_part =
-    let e = out-roll-Tree (record { symbol = Cell 0 [] (Field 0 ∷ Field 1 ∷ Field 2 ∷ []); children = ref ∷ ref ∷ ref ∷ [] }) in (
+    let e = out-roll-Tree (record { symbol = Cell 0 [] (Field 0 ∷ Field 1 ∷ Field 2 ∷ []);
+        children = ref ∷ ref ∷ ref ∷ [] }) in (
       0,
       roll-Tree (record { symbol = Cell 0 [] (Field 0 ∷ Field 1 ∷ Field 2 ∷ []); children = ref ∷ ref ∷ ref ∷ [] }),
       inl refl,
@@ -251,7 +258,8 @@ null_marks = let e = opened (record { symbol = Null; children = [] }) in rw e re
 abbrev third_face : BoxFace
 third_face = record { input = 0; output = Some 0; gives_in = 0 ∷ 1 ∷ 2 ∷ []; gives_out = []; back = false }
 
-two_signatures : (T : List BoxDef) → SoundBox (record dll_face { boxes = [] }) T (box_of third_face (third ∷ bare_cell ∷ [])) → ⊥
+two_signatures : (T : List BoxDef)
+    → SoundBox (record dll_face { boxes = [] }) T (box_of third_face (third ∷ bare_cell ∷ [])) → ⊥
 two_signatures T h =
     let e = h.signatures.0 2 third_takes_part ref null third_ref third_null in
     let z : 1 ≡ 0 = sym ref_marks ∙ ap marks e ∙ null_marks in
@@ -261,7 +269,8 @@ two_signatures T h =
 
 -- an item whose next is null
 abbrev null_port : Automaton
-null_port = record { states = 2; roots = 0 ∷ []; rules = rule 0 (Cell 0 [] (Field 0 ∷ [])) (1 ∷ []) ∷ rule 1 Null [] ∷ [] }
+null_port = record { states = 2; roots = 0 ∷ [];
+    rules = rule 0 (Cell 0 [] (Field 0 ∷ [])) (1 ∷ []) ∷ rule 1 Null [] ∷ [] }
 
 abbrev null_node : Node
 null_node = node 5 0 [] (field 0 (leaf NullTarget) no_parts)
@@ -281,7 +290,8 @@ null_runs = (
 
 output_unreached : (T : List BoxDef) → IsReached T (record box_face { gives_out = [] }) (null_port ∷ bare_cell ∷ []) → ⊥
 output_unreached T h =
-    let r = h (more null_node (more bare_node no_nodes)) (null_runs, (tt, tt), (bare_runs, tt, tt)) 1 (CellValue 1 ∷ CellValue 2 ∷ [])
+    let r = h (more null_node (more bare_node no_nodes)) (null_runs, (tt, tt), (bare_runs, tt, tt)) 1
+        (CellValue 1 ∷ CellValue 2 ∷ [])
     (CellValue 2, refl, inl (2, refl)) 2 (inr (inr (inl refl))) in
     elim (reached_ends _ _ 2 r) [
       | inl i ↦ elim i [ inl e ↦ omega (arith, e) | inr x ↦ x ]
@@ -291,7 +301,8 @@ output_unreached T h =
 -- the input's next is the input, so nothing leads to the inner root 3
 inner_unreached : (T : List BoxDef) → IsReached T ring_face (port 0 0 ∷ item 0 ∷ []) → ⊥
 inner_unreached T h =
-    let r = h (more (port_node 0 0 0) (more (item_node 3 0) no_nodes)) (port_runs 0 0 0, (tt, tt), (item_runs 3 0, (tt, (tt, tt)), tt)) 1
+    let r = h (more (port_node 0 0 0) (more (item_node 3 0) no_nodes))
+        (port_runs 0 0 0, (tt, tt), (item_runs 3 0, (tt, (tt, tt)), tt)) 1
     (CellValue 1 ∷ []) refl 3 (inl (inl refl)) in
     elim (reached_ends _ _ 3 r) [
       | inl i ↦ elim i [ inl e ↦ omega (arith, e) | inr x ↦ x ]
@@ -311,5 +322,6 @@ no_rules = record { states = 1; roots = 0 ∷ []; rules = [] }
 no_tree : (q : ℕ) (t : Tree) → RunOf [] q t → ⊥
 no_tree q t (run r i e s k) = i
 
-empty_component : (face : Face) (T : List BoxDef) (x : BoxFace) → SoundBox face T (box_of x (port 0 1 ∷ no_rules ∷ [])) → ⊥
+empty_component : (face : Face) (T : List BoxDef) (x : BoxFace) → SoundBox face T (box_of x (port 0 1 ∷ no_rules ∷ []))
+    → ⊥
 empty_component face T x h = let w = h.full.1.0 in no_tree w.1.0 w.0 w.1.2

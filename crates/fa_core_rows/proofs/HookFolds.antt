@@ -20,8 +20,10 @@ use Rattle.fa_core.specs.declared.forest.Target.TheVariants.{Null as NullTarget,
 use Rattle.fa_core.specs.Canonical.{refs_at}
 use Rattle.fa_core.specs.Dressed.{Node, node, no_parts, field, hook, leaf, no_nodes}
 use Rattle.fa_core.specs.Filled.{Choice}
-use Rattle.fa_core.specs.Folding.{covered_fields, top_places, Placing, all_placed, is_placed, place_now, position, Ports, port_refs}
-use Rattle.fa_core.specs.Folding.{left_refs, ArePartRoots, port_tree, moved_tree, IsPart, number_without, box_slot, gained}
+use Rattle.fa_core.specs.Folding.{covered_fields, top_places, Placing, all_placed, is_placed, place_now, position}
+use Rattle.fa_core.specs.Folding.{Ports, port_refs}
+use Rattle.fa_core.specs.Folding.{left_refs, ArePartRoots, port_tree, moved_tree, IsPart, number_without, box_slot}
+use Rattle.fa_core.specs.Folding.{gained}
 use Rattle.fa_core.specs.Folding.{taken_at, ArePortFields, IsFoldedAuto, FoldOf}
 use Rattle.fa_core.specs.Member.{bare}
 use Rattle.fa_core.specs.References.{tree_refs}
@@ -113,11 +115,14 @@ places = position (2 ∷ 0 ∷ [])
 abbrev leaf_tree : Symbol → Tree
 leaf_tree y = roll-Tree (record { symbol = y; children = [] })
 
-next_places : (c r : ℕ) → top_places (bare (next_node c r)) ≡ (Field 0, leaf_tree (Ref r) ∷ []) ∷ (Field 1, leaf_tree Null ∷ []) ∷ []
-next_places c r = let e = out-roll-Tree (record { symbol = item both; children = leaf_tree (Ref r) ∷ leaf_tree Null ∷ [] }) in rw e refl
+next_places : (c r : ℕ) → top_places (bare (next_node c r)) ≡ (Field 0, leaf_tree (Ref r) ∷ []) ∷
+    (Field 1, leaf_tree Null ∷ []) ∷ []
+next_places c r = let e = out-roll-Tree
+    (record { symbol = item both; children = leaf_tree (Ref r) ∷ leaf_tree Null ∷ [] }) in rw e refl
 
 lone_places : top_places (bare lone_node) ≡ (Field 0, leaf_tree Null ∷ []) ∷ (Field 1, leaf_tree Null ∷ []) ∷ []
-lone_places = let e = out-roll-Tree (record { symbol = item both; children = leaf_tree Null ∷ leaf_tree Null ∷ [] }) in rw e refl
+lone_places = let e = out-roll-Tree (record { symbol = item both; children = leaf_tree Null ∷ leaf_tree Null ∷ [] }) in
+    rw e refl
 
 ref_refs : (r : ℕ) → tree_refs (leaf_tree (Ref r)) ≡ r ∷ []
 ref_refs r = let e = opened (record { symbol = Ref r; children = [] }) in rw e refl
@@ -152,7 +157,8 @@ part_roots = record { order = 2 ∷ 0 ∷ []; reached = walk; are = refl; no_var
     walk =
         let e = from_ports in
         let f = inner_refs in
-        let last : Placing (refs_at trees) (refs_at trees 0 ++ []) (2 ∷ 0 ∷ []) (2 ∷ 0 ∷ []) = rw f (is_placed (inl refl) all_placed) in
+        let last : Placing (refs_at trees) (refs_at trees 0 ++ []) (2 ∷ 0 ∷ []) (2 ∷ 0 ∷ []) =
+            rw f (is_placed (inl refl) all_placed) in
         rw e (place_now {r = 0} not_a_port last)
 
     no_var : (r : ℕ) → IsIn r (0 ∷ []) → IsIn (At r) (At 1 ∷ At 2 ∷ []) → ⊥
@@ -168,7 +174,8 @@ part_roots = record { order = 2 ∷ 0 ∷ []; reached = walk; are = refl; no_var
     alone (suc (suc (suc r))) k i o l j = omega (arith, l)
 
 moved_input : port_tree places 0 (0 ∷ []) (bare (next_node 2 0)) ≡ bare in_node
-moved_input = let e = next_places 2 0 in let m = moved_rolled places (record { symbol = Ref 0; children = [] }) in rw (e, m) refl
+moved_input = let e = next_places 2 0 in let m =
+    moved_rolled places (record { symbol = Ref 0; children = [] }) in rw (e, m) refl
 
 moved_inner : moved_tree places (bare (next_node 0 2)) ≡ bare (next_node 0 0)
 moved_inner = simp moved_rolled
@@ -184,7 +191,8 @@ is_part = record {
   ports = ports;
   shapes = 0 ∷ [];
   inner = 0 ∷ [];
-  are_ports = (in_port, 0 ∷ [], refl, single_fields bs in_port (bare in_node) (0 ∷ []) (over_single _ _ _) in_runs in_fields tt, refl, refl, refl);
+  are_ports = (in_port, 0 ∷ [], refl,
+      single_fields bs in_port (bare in_node) (0 ∷ []) (over_single _ _ _) in_runs in_fields tt, refl, refl, refl);
   roots = (
     record {
       auto = next_auto 0;
@@ -252,14 +260,16 @@ moved_null : moved_tree numbers (leaf_tree Null) ≡ leaf_tree Null
 moved_null = moved_rolled numbers (record { symbol = Null; children = [] })
 
 lone_stays : IsFoldedAuto bs numbers [] [] lone_auto lone_auto
-lone_stays = single_folded bs numbers [] [] lone_auto lone_auto lone_node lone_node 0 [] both (null_place 0 ∷ null_place 1 ∷ [])
+lone_stays = single_folded bs numbers [] [] lone_auto lone_auto lone_node lone_node 0 [] both
+    (null_place 0 ∷ null_place 1 ∷ [])
     (over_single _ _ _) (over_single _ _ _) lone_runs lone_runs
     (cell_top 1 0 [] (field 0 (leaf NullTarget) (field 1 (leaf NullTarget) no_parts)))
     (let e = lone_places in let m = moved_null in rw (e, m) (same _))
     ((tt, (tt, tt)), (omega arith, tt)) refl
 
 input_folded : IsFoldedAuto bs numbers ((Hook 0, []) ∷ []) (0 ∷ []) (next_auto 0) hooked
-input_folded = single_folded bs numbers ((Hook 0, []) ∷ []) (0 ∷ []) (next_auto 0) hooked (next_node 2 0) hook_node 0 [] both
+input_folded = single_folded bs numbers ((Hook 0, []) ∷ []) (0 ∷ []) (next_auto 0) hooked
+    (next_node 2 0) hook_node 0 [] both
     ((Hook 0, []) ∷ null_place 1 ∷ [])
     (over_single _ _ _) (over_single _ _ _) (next_runs 2 0) hook_runs
     (cell_top 2 0 [] (field 0 (leaf (At 0)) (field 1 (leaf NullTarget) no_parts)))
@@ -282,11 +292,13 @@ fold = record {
         → (c : Automaton) × (slice_get (lone_auto ∷ hooked ∷ []) (numbers r) ≡ Some c)
         × IsFoldedAuto bs numbers (gained (box_slot numbers 0 None) 2 r) (taken_at ports r) a c
     all zero a e n = absurd (n (inl refl))
-    all (suc zero) a e n = (lone_auto, refl, subst (λ (x : Automaton). IsFoldedAuto bs numbers [] [] x lone_auto) (same_Some lone_auto a e) lone_stays)
+    all (suc zero) a e n = (lone_auto, refl, subst (λ (x : Automaton). IsFoldedAuto bs numbers [] [] x lone_auto)
+        (same_Some lone_auto a e) lone_stays)
     all (suc (suc zero)) a e n = (
       hooked,
       refl,
-      subst (λ (x : Automaton). IsFoldedAuto bs numbers ((Hook 0, []) ∷ []) (0 ∷ []) x hooked) (same_Some (next_auto 0) a e) input_folded,
+      subst (λ (x : Automaton). IsFoldedAuto bs numbers ((Hook 0, []) ∷ []) (0 ∷ []) x hooked)
+          (same_Some (next_auto 0) a e) input_folded,
     )
     all (suc (suc (suc r))) a e n = absurd (none-some a e)
 
@@ -344,14 +356,19 @@ twice_there (x ∷ xs) ys f (inl e) j d = d.0 (in_right x xs ys (subst (λ (k : 
 twice_there (x ∷ xs) ys f (inr i) j d = twice_there xs ys f i j d.1
 
 no_part_at_one_root : (F : Forest) (g : BoxDef) → IsPart [] F twin 0 (Some 0) g → ⊥
-no_part_at_one_root F g h = by h.are_ports.0 h.are_ports.1 h.are_ports.2 h.are_ports.3 h.are_ports.5 h.are_ports.6 h.are_ports.7 h.are_ports.8 h.are_ports.9
+no_part_at_one_root F g h = by h.are_ports.0 h.are_ports.1 h.are_ports.2 h.are_ports.3 h.are_ports.5 h.are_ports.6
+    h.are_ports.7 h.are_ports.8 h.are_ports.9
   where
-    by : (a c : Automaton) (ins outs : List ℕ) → slice_get twin.inside.autos 0 ≡ Some a → slice_get twin.inside.autos 1 ≡ Some c
+    by : (a c : Automaton) (ins outs : List ℕ) → slice_get twin.inside.autos 0 ≡ Some a
+        → slice_get twin.inside.autos 1 ≡ Some c
         → ArePortFields [] a ins → ArePortFields [] c outs → h.ports ≡ (0, ins) ∷ ((0, outs) ∷ []) → ⊥
     by a c ins outs ea ec fa fc e =
         let u = front_fields in
         let v = back_fields in
-        let i = (fa.are 0).1 (bare in_node, subst (λ (x : Automaton). InLanguage x (bare in_node)) (same_Some in_port a ea) in_runs, rw u (inl refl)) in
-        let j = (fc.are 0).1 (bare back_node, subst (λ (x : Automaton). InLanguage x (bare back_node)) (same_Some back_port c ec) back_runs, rw v (inl refl)) in
+        let i = (fa.are 0).1 (bare in_node,
+            subst (λ (x : Automaton). InLanguage x (bare in_node)) (same_Some in_port a ea) in_runs, rw u (inl refl)) in
+        let j = (fc.are 0).1 (bare back_node,
+            subst (λ (x : Automaton). InLanguage x (bare back_node)) (same_Some back_port c ec) back_runs,
+            rw v (inl refl)) in
         let d = subst (λ (ps : Ports). IsDistinct (taken_at ps 0)) e (h.once 0) in
         twice_there ins (outs ++ []) 0 i (in_left 0 outs [] j) d

@@ -1,5 +1,5 @@
--- A worked part and its fold whose inner root stands before the roots that stay, between ports of different structs, in a
--- box that has more trees than the part.
+-- A worked part and its fold whose inner root stands before the roots that stay, between ports of different structs, in
+-- a box that has more trees than the part.
 use Rattle.std.proofs.Common.{◌≡◌, ◌<◌, inl, inr, ℕ, zero, suc, false, List, [], ◌∷◌, ◌++◌, refl, ap, subst, Some}
 use Rattle.std.proofs.Common.{slice_get, arith}
 use Rattle.std.proofs.lemmas.Bool.{ne_eqb}
@@ -21,8 +21,10 @@ use Rattle.fa_core.specs.declared.forest.Target.TheVariants.{Null as NullTarget,
 use Rattle.fa_core.specs.Canonical.{refs_at}
 use Rattle.fa_core.specs.Dressed.{Node, node, no_parts, field, link, leaf, no_nodes}
 use Rattle.fa_core.specs.Filled.{Choice}
-use Rattle.fa_core.specs.Folding.{covered_fields, top_places, Placing, all_placed, is_placed, place_now, position, Ports, port_refs}
-use Rattle.fa_core.specs.Folding.{left_refs, ArePartRoots, port_tree, moved_tree, IsPart, number_without, box_slot, gained}
+use Rattle.fa_core.specs.Folding.{covered_fields, top_places, Placing, all_placed, is_placed, place_now, position}
+use Rattle.fa_core.specs.Folding.{Ports, port_refs}
+use Rattle.fa_core.specs.Folding.{left_refs, ArePartRoots, port_tree, moved_tree, IsPart, number_without, box_slot}
+use Rattle.fa_core.specs.Folding.{gained}
 use Rattle.fa_core.specs.Folding.{taken_at, IsFoldedAuto, FoldOf}
 use Rattle.fa_core.specs.Member.{bare}
 use Rattle.fa_core.specs.References.{tree_refs}
@@ -35,8 +37,8 @@ use Rattle.fa_core.proofs.SingleTrees.{IsSingle, single_tree, single_choice}
 use Rattle.fa_core_rows.proofs.Singles.{over, over_single, over_top, over_runs, to_ref, to_null, moved_rolled}
 use Rattle.fa_core_rows.proofs.Singles.{single_language, single_fields, single_folded}
 
--- Items have next and prev, heads a datum and first. Root 0 is an item between the item of root 1, which is its next and
--- whose prev it is, and the head of root 2, whose first it is. Variables are at roots 1 and 2.
+-- Items have next and prev, heads a datum and first. Root 0 is an item between the item of root 1, which is its next
+-- and whose prev it is, and the head of root 2, whose first it is. Variables are at roots 1 and 2.
 
 abbrev item : List Slot → Symbol
 item ss = Cell 0 [] ss
@@ -133,7 +135,8 @@ abbrev part : BoxDef
 part = segment (inner_auto ∷ [])
 
 in_runs : InLanguage in_port (bare in_node)
-in_runs = over_runs 0 1 [] (field 0 (leaf (At 2)) no_parts) (1 ∷ []) 2 (to_ref (Cell 1 [] (Field 0 ∷ [])) (1 ∷ []) 2, tt)
+in_runs = over_runs 0 1 [] (field 0 (leaf (At 2)) no_parts) (1 ∷ []) 2
+    (to_ref (Cell 1 [] (Field 0 ∷ [])) (1 ∷ []) 2, tt)
 
 prev_runs : InLanguage out_port (bare prev_node)
 prev_runs = over_runs 1 0 [] (field 1 (leaf (At 2)) no_parts) (1 ∷ []) 2 (to_ref (item (Field 1 ∷ [])) (1 ∷ []) 2, tt)
@@ -157,10 +160,12 @@ abbrev leaf_tree : Symbol → Tree
 leaf_tree y = roll-Tree (record { symbol = y; children = [] })
 
 inner_places : top_places (bare inner_node) ≡ (Field 0, leaf_tree (Ref 1) ∷ []) ∷ (Field 1, leaf_tree Null ∷ []) ∷ []
-inner_places = let e = out-roll-Tree (record { symbol = item both; children = leaf_tree (Ref 1) ∷ leaf_tree Null ∷ [] }) in rw e refl
+inner_places = let e = out-roll-Tree
+    (record { symbol = item both; children = leaf_tree (Ref 1) ∷ leaf_tree Null ∷ [] }) in rw e refl
 
 out_places : top_places (bare out_node) ≡ (Field 0, leaf_tree Null ∷ []) ∷ (Field 1, leaf_tree (Ref 0) ∷ []) ∷ []
-out_places = let e = out-roll-Tree (record { symbol = item both; children = leaf_tree Null ∷ leaf_tree (Ref 0) ∷ [] }) in rw e refl
+out_places = let e = out-roll-Tree
+    (record { symbol = item both; children = leaf_tree Null ∷ leaf_tree (Ref 0) ∷ [] }) in rw e refl
 
 head_places : top_places (bare head_node) ≡ (Field 0, leaf_tree (Ref 0) ∷ []) ∷ []
 head_places = let e = out-roll-Tree (record { symbol = head; children = leaf_tree (Ref 0) ∷ [] }) in rw e refl
@@ -224,10 +229,12 @@ part_roots = record {
 -- The part.
 
 moved_input : port_tree places 1 (0 ∷ []) (bare head_node) ≡ bare in_node
-moved_input = let e = head_places in let m = moved_rolled places (record { symbol = Ref 0; children = [] }) in rw (e, m) refl
+moved_input = let e = head_places in let m =
+    moved_rolled places (record { symbol = Ref 0; children = [] }) in rw (e, m) refl
 
 moved_output : port_tree places 0 (1 ∷ []) (bare out_node) ≡ bare prev_node
-moved_output = let e = out_places in let m = moved_rolled places (record { symbol = Ref 0; children = [] }) in rw (e, m) refl
+moved_output = let e = out_places in let m =
+    moved_rolled places (record { symbol = Ref 0; children = [] }) in rw (e, m) refl
 
 moved_inner : moved_tree places (bare inner_node) ≡ bare inner_node
 moved_inner = simp moved_rolled
@@ -339,7 +346,8 @@ abbrev edge_node : Node
 edge_node = node 2 1 (Known 3 ∷ []) (link 0 no_nodes (leaf (At 0)) no_parts)
 
 kept_runs : InLanguage kept_out (bare kept_node)
-kept_runs = over_runs 1 0 [] (field 0 (leaf NullTarget) no_parts) (2 ∷ []) 0 (to_null (item (Field 0 ∷ [])) (2 ∷ []) 0, tt)
+kept_runs = over_runs 1 0 [] (field 0 (leaf NullTarget) no_parts) (2 ∷ []) 0
+    (to_null (item (Field 0 ∷ [])) (2 ∷ []) 0, tt)
 
 edge_runs : InLanguage kept_head (bare edge_node)
 edge_runs = over_runs 2 1 (Known 3 ∷ []) (link 0 no_nodes (leaf (At 0)) no_parts) (1 ∷ []) 0
@@ -349,14 +357,16 @@ abbrev numbers : ℕ → ℕ
 numbers = number_without (0 ∷ [])
 
 out_folded : IsFoldedAuto bs numbers [] (1 ∷ []) out_auto kept_out
-out_folded = single_folded bs numbers [] (1 ∷ []) out_auto kept_out out_node kept_node 0 [] both ((Field 0, leaf_tree Null ∷ []) ∷ [])
+out_folded = single_folded bs numbers [] (1 ∷ []) out_auto kept_out out_node kept_node 0 [] both
+    ((Field 0, leaf_tree Null ∷ []) ∷ [])
     (over_single _ _ _) (over_single _ _ _) out_runs kept_runs
     (cell_top 1 0 [] (field 0 (leaf NullTarget) (field 1 (leaf (At 0)) no_parts)))
     (let e = out_places in let m = moved_rolled numbers (record { symbol = Null; children = [] }) in rw (e, m) (same _))
     ((tt, tt), tt) refl
 
 head_folded : IsFoldedAuto bs numbers ((Link 0, leaf_tree (Ref 0) ∷ []) ∷ []) (0 ∷ []) head_auto kept_head
-head_folded = single_folded bs numbers ((Link 0, leaf_tree (Ref 0) ∷ []) ∷ []) (0 ∷ []) head_auto kept_head head_node edge_node
+head_folded = single_folded bs numbers ((Link 0, leaf_tree (Ref 0) ∷ []) ∷ [])
+    (0 ∷ []) head_auto kept_head head_node edge_node
     1 (Known 3 ∷ []) (Field 0 ∷ []) ((Link 0, leaf_tree (Ref 0) ∷ []) ∷ [])
     (over_single _ _ _) (over_single _ _ _) head_runs edge_runs
     (cell_top 2 1 (Known 3 ∷ []) (field 0 (leaf (At 0)) no_parts))
@@ -373,12 +383,14 @@ wide_runs = (
     inl refl,
     refl,
     refl,
-    ((rule 1 (Ref 1) [], inr (inl refl), refl, refl, refl), ((rule 2 Null [], inr (inr (inl refl)), refl, refl, refl), tt)),
+    ((rule 1 (Ref 1) [], inr (inl refl), refl, refl, refl),
+        ((rule 2 Null [], inr (inr (inl refl)), refl, refl, refl), tt)),
   ),
 )
 
 inner_within : IsWithin inner_auto wide
-inner_within t h = subst (λ (u : Tree). InLanguage wide u) (single_tree inner_auto (bare inner_node) t (over_single _ _ _) inner_runs h) wide_runs
+inner_within t h = subst (λ (u : Tree). InLanguage wide u)
+    (single_tree inner_auto (bare inner_node) t (over_single _ _ _) inner_runs h) wide_runs
 
 fold : FoldOf bs (box ∷ []) three folded 0 2 (Some 1) part
 fold = record {
@@ -396,10 +408,12 @@ fold = record {
         → (c : Automaton) × (slice_get (kept_out ∷ kept_head ∷ []) (numbers r) ≡ Some c)
         × IsFoldedAuto bs numbers (gained (box_slot numbers 0 (Some 1)) 2 r) (taken_at ports r) a c
     all zero a e n = absurd (n (inl refl))
-    all (suc zero) a e n = (kept_out, refl, subst (λ (x : Automaton). IsFoldedAuto bs numbers [] (1 ∷ []) x kept_out) (same_Some out_auto a e) out_folded)
+    all (suc zero) a e n = (kept_out, refl, subst (λ (x : Automaton). IsFoldedAuto bs numbers [] (1 ∷ []) x kept_out)
+        (same_Some out_auto a e) out_folded)
     all (suc (suc zero)) a e n = (
       kept_head,
       refl,
-      subst (λ (x : Automaton). IsFoldedAuto bs numbers ((Link 0, leaf_tree (Ref 0) ∷ []) ∷ []) (0 ∷ []) x kept_head) (same_Some head_auto a e) head_folded,
+      subst (λ (x : Automaton). IsFoldedAuto bs numbers ((Link 0, leaf_tree (Ref 0) ∷ []) ∷ []) (0 ∷ []) x kept_head)
+          (same_Some head_auto a e) head_folded,
     )
     all (suc (suc (suc r))) a e n = absurd (none-some a e)

@@ -1,5 +1,6 @@
 -- Which cells are roots: two references, knots, and cells in fields of a shared root that refer to it.
-use Rattle.std.proofs.Common.{◌≡◌, ◌≢◌, inl, inr, ℕ, zero, suc, List, [], ◌∷◌, refl, sym, ap, subst, ◌∙◌, Some, slice_get, arith}
+use Rattle.std.proofs.Common.{◌≡◌, ◌≢◌, inl, inr, ℕ, zero, suc, List, [], ◌∷◌, refl, sym, ap, subst, ◌∙◌, Some}
+use Rattle.std.proofs.Common.{slice_get, arith}
 use Rattle.std.proofs.lemmas.Option.{none-some, same_Some}
 use Rattle.fore_base.specs.Lists.{IsIn}
 use Rattle.ta_core.specs.declared.symbol.Slot.{Slot}
@@ -113,7 +114,8 @@ no_knot_by_edge h = by h.from h.is_above
         rw f at (subst (λ (t : Tree). IsIn h.leaf (field_trees t)) (sym (same_Some by_edge h.above e)) h.in_field)
     by (suc zero) e =
         let f = below_fields in
-        elim (rw f at (subst (λ (t : Tree). IsIn h.leaf (field_trees t)) (sym (same_Some below h.above e)) h.in_field)) [
+        elim (rw f at (subst (λ (t : Tree). IsIn h.leaf (field_trees t)) (sym (same_Some below h.above e)) h.in_field))
+            [
           | inl k ↦ other_reference h.leaf k h.refers
           | inr x ↦ x
         ]
@@ -157,7 +159,8 @@ abbrev below_edge : Tree
 below_edge = cell (Link 0 ∷ []) (below ∷ [])
 
 below_edge_fields : field_trees below_edge ≡ []
-below_edge_fields = let e = out-roll-Tree (record { symbol = Cell 0 [] (Link 0 ∷ []); children = below ∷ [] }) in rw e refl
+below_edge_fields = let e = out-roll-Tree (record { symbol = Cell 0 [] (Link 0 ∷ []); children = below ∷ [] }) in
+    rw e refl
 
 untied_by_edge : IsUntied (At 0 ∷ []) (below_edge ∷ [])
 untied_by_edge zero t u s g i n h =

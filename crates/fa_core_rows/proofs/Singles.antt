@@ -1,5 +1,6 @@
 -- Automata with one tree, for rows of parts and folds: a cell over references to one root and null pointers.
-use Rattle.std.proofs.Common.{◌≡◌, inl, inr, ℕ, zero, suc, List, [], ◌∷◌, ◌++◌, map, refl, sym, ap, ap₂, subst, ◌∙◌, Some, slice_get, arith}
+use Rattle.std.proofs.Common.{◌≡◌, inl, inr, ℕ, zero, suc, List, [], ◌∷◌, ◌++◌, map, refl, sym, ap, ap₂, subst, ◌∙◌}
+use Rattle.std.proofs.Common.{Some, slice_get, arith}
 use Rattle.std.proofs.lemmas.Option.{none-some, same_Some}
 use Rattle.fore_base.specs.Lists.{IsIn}
 use Rattle.fore_base.specs.declared.store.Datum.{Datum}
@@ -33,7 +34,8 @@ over y qs r = record { states = 3; roots = 0 ∷ []; rules = rule 0 y qs ∷ rul
 pub over_single : (y : Symbol) (qs : List ℕ) (r : ℕ) → IsSingle (over y qs r)
 over_single y qs r = ((refl, (refl, (refl, tt))), (0, refl))
 
-pub top_alone : (y : Symbol) (qs : List ℕ) (r i : ℕ) (x : Rule) → slice_get (over y qs r).rules i ≡ Some x → x.state ≡ 0 → i ≡ 0
+pub top_alone : (y : Symbol) (qs : List ℕ) (r i : ℕ) (x : Rule) → slice_get (over y qs r).rules i ≡ Some x
+    → x.state ≡ 0 → i ≡ 0
 top_alone y qs r zero x e s = refl
 top_alone y qs r (suc zero) x e s =
     let z : 1 ≡ 0 = ap (λ (o : Rule). o.state) (same_Some (rule 1 (Ref r) []) x e) ∙ s in
@@ -61,7 +63,8 @@ module _ (y : Symbol) (qs : List ℕ) (r : ℕ) where
   pub to_null : EndRun (over y qs r).rules 2 (leaf NullTarget)
   to_null = (rule 2 Null [], inr (inr (inl refl)), refl, refl, refl)
 
-pub over_runs : (c s : ℕ) (ds : List Datum) (ps : Parts) (qs : List ℕ) (r : ℕ) → PartsRun (over (Cell s ds (slots_of ps)) qs r).rules qs ps
+pub over_runs : (c s : ℕ) (ds : List Datum) (ps : Parts) (qs : List ℕ) (r : ℕ)
+    → PartsRun (over (Cell s ds (slots_of ps)) qs r).rules qs ps
     → InLanguage (over (Cell s ds (slots_of ps)) qs r) (bare (node c s ds ps))
 over_runs c s ds ps qs r h =
     let y = Cell s ds (slots_of ps) in
@@ -70,12 +73,15 @@ over_runs c s ds ps qs r h =
 -- Moved trees, layer by layer.
 
 pub moved_rolled : (f : ℕ → ℕ) (x : Tree-F Tree)
-    → moved_tree f (roll-Tree x) ≡ roll-Tree (record { symbol = moved_symbol f x.symbol; children = map (moved_tree f) x.children })
-moved_rolled f x = fold-roll-Tree Tree (λ t. roll-Tree (record { symbol = moved_symbol f t.symbol; children = t.children })) x
+    → moved_tree f (roll-Tree x) ≡ roll-Tree
+        (record { symbol = moved_symbol f x.symbol; children = map (moved_tree f) x.children })
+moved_rolled f x = fold-roll-Tree Tree
+    (λ t. roll-Tree (record { symbol = moved_symbol f t.symbol; children = t.children })) x
 
 -- Languages of one tree.
 
-pub single_language : (g : Tree → Tree) (a b : Automaton) (t u : Tree) → IsSingle a → IsSingle b → InLanguage a t → InLanguage b u
+pub single_language : (g : Tree → Tree) (a b : Automaton) (t u : Tree) → IsSingle a → IsSingle b → InLanguage a t
+    → InLanguage b u
     → g t ≡ u → IsLanguageOf g a b
 single_language g a b t u s z h k e v = (
   (λ w. (t, h, single_tree b v u z w k ∙ sym e)),
@@ -83,7 +89,8 @@ single_language g a b t u s z h k e v = (
 )
 
 -- the fields that the one tree covers are those of the port
-pub single_fields : (bs : List BoxFace) (a : Automaton) (t : Tree) (fs : List ℕ) → IsSingle a → InLanguage a t → covered_fields bs t ≡ fs
+pub single_fields : (bs : List BoxFace) (a : Automaton) (t : Tree) (fs : List ℕ) → IsSingle a → InLanguage a t
+    → covered_fields bs t ≡ fs
     → IsRising fs → ArePortFields bs a fs
 single_fields bs a t fs s h e r = record {
   rising = r;
@@ -101,7 +108,8 @@ Place = Slot × List Tree
 abbrev key : List BoxFace → Place → ℕ
 key bs p = least (covers bs p.0)
 
-slot_keys : (bs : List BoxFace) (ps : List Place) → map (λ s. least (covers bs s)) (map (λ (p : Place). p.0) ps) ≡ map (key bs) ps
+slot_keys : (bs : List BoxFace) (ps : List Place)
+    → map (λ s. least (covers bs s)) (map (λ (p : Place). p.0) ps) ≡ map (key bs) ps
 slot_keys bs [] = refl
 slot_keys bs (p ∷ ps) = ap (λ (l : List ℕ). key bs p ∷ l) (slot_keys bs ps)
 
