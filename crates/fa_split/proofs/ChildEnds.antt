@@ -1,14 +1,13 @@
 -- What the child may be, by the rules of its state; and which rules stand at the top of some tree.
-use Rattle.std.proofs.Common.{◌≡◌, ◌↔◌, ◌⊎◌, inl, inr, ℕ, ◌<◌, ◌&&◌, Bool, true, false, true≢false, length, List, [], ◌∷◌, ◌++◌, map, refl, sym, ap, subst, ◌∙◌, slice_set, Some, arith}
-use Rattle.fore_base.specs.Lists.{IsIn, Every, IsDistinct}
+use Rattle.std.proofs.Common.{◌≡◌, ◌↔◌, ℕ, Bool, true, length, List, [], ◌∷◌, refl, sym, ap, subst, ◌∙◌, arith}
+use Rattle.fore_base.specs.Lists.{Every}
 use Rattle.fore_base.specs.Marks.{IsMarked, MarksOf, all_marked}
-use Rattle.fore_base.proofs.ListLemmas.{every_in, in_every, every_weaker}
+use Rattle.fore_base.proofs.ListLemmas.{every_in, every_weaker}
 use Rattle.fore_base.proofs.MarkLemmas.{all_from, all_to}
 use Rattle.ta_core.specs.Arity.{arity}
 use Rattle.ta_core.specs.Auto.{Automaton, IsRanked, IsRankedRule}
 use Rattle.ta_core.specs.Language.{RunOf, run, RunEach, run_none, run_more, HasTree}
 use Rattle.ta_core.specs.declared.auto.Rule.{Rule}
-use Rattle.ta_core.specs.declared.symbol.Symbol.{Symbol}
 use Rattle.ta_core.specs.declared.tree.Tree.{Tree, out-Tree, out-roll-Tree}
 use Rattle.ta_core.proofs.Runs.{tree_of, run_tree}
 use Rattle.fa_core.specs.declared.forest.Forest.{Forest}
@@ -20,12 +19,12 @@ use Rattle.fa_core.specs.Filled.{HasSome}
 use Rattle.fa_core.specs.Member.{bare_end, leaf_symbol}
 use Rattle.fa_core.specs.Ways.{has}
 use Rattle.fa_core.proofs.Dressing.{leaf_top}
-use Rattle.fa_merge.specs.Reordered.{component_at}
+use Rattle.fa_sound.specs.Components.{component_at}
 use Rattle.fa_merge.proofs.Hopping.{has_in, in_has}
 use Rattle.fa_merge.proofs.PlacedForests.{component_has}
-use Rattle.fa_split.specs.Chosen.{IsBy, StandsAtTop}
+use Rattle.fa_split.specs.Chosen.{StandsAtTop}
 use Rattle.fa_split.specs.Split.{CanSplit, MayStand, MayBeLeaf, MayBeCell, child_state, AreThose}
-use Rattle.fa_split.specs.inner.Ends.{HasLeafRule, IsCellRule, HasCellRule}
+use Rattle.fa_split.specs.inner.Ends.{HasLeafRule, HasCellRule}
 use Rattle.fa_split.proofs.ChosenTrees.{leaf_arity}
 use Rattle.fa_split.proofs.FixedTrees.{child_with, has_child}
 use Rattle.fa_split.proofs.RunPlaces.{set_here}

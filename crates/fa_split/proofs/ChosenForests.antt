@@ -1,13 +1,12 @@
 -- Forests with one rule chosen at a root.
-use Rattle.std.proofs.Common.{◌≡◌, ◌↔◌, ◌⊎◌, inl, inr, ℕ, ◌<◌, ◌≤◌, length, List, [], ◌∷◌, ◌++◌, map, refl, sym, ap, subst, ◌∙◌, Some}
+use Rattle.std.proofs.Common.{◌≡◌, inl, inr, ℕ, ◌<◌, ◌≤◌, length, List, [], ◌∷◌, ◌++◌, map, refl, sym, ap, subst, Some}
 use Rattle.fore_base.specs.Lists.{IsIn, Every}
 use Rattle.fore_base.proofs.ListLemmas.{every_in, in_every, in_map, in_mapped}
 use Rattle.ta_core.specs.Auto.{Automaton, IsRanked}
 use Rattle.ta_core.specs.Language.{RunOf, run, InLanguage, IsWithin}
 use Rattle.ta_core.specs.Single.{HasOneTop}
 use Rattle.ta_core.specs.declared.auto.Rule.{Rule}
-use Rattle.ta_core.specs.declared.symbol.Symbol.{Symbol}
-use Rattle.ta_core.specs.declared.tree.Tree.{Tree, out-Tree}
+use Rattle.ta_core.specs.declared.tree.Tree.{Tree}
 use Rattle.fa_core.specs.declared.boxes.BoxDef.{BoxDef}
 use Rattle.fa_core.specs.declared.faces.BoxFace.{BoxFace}
 use Rattle.fa_core.specs.declared.faces.Face.{Face}
@@ -15,17 +14,17 @@ use Rattle.fa_core.specs.declared.forest.Forest.{Forest}
 use Rattle.fa_core.specs.Boxless.{IsPlain, HasNoBoxes}
 use Rattle.fa_core.specs.Covering.{Covers}
 use Rattle.fa_core.specs.Dressed.{Node, Nodes, cells, roots_of, value_in}
-use Rattle.fa_core.specs.Filled.{SymbolFits, RulesFit, HasSignatures, HasSome, IsSound}
+use Rattle.fa_core.specs.Filled.{SymbolFits, RulesFit, HasSignatures, IsSound}
 use Rattle.fa_core.specs.Member.{OfForest, Regroups, RegroupsInto, bare}
-use Rattle.fa_core.specs.Ways.{signature}
 use Rattle.fa_core.proofs.Rearranging.{same}
 use Rattle.fa_merge.specs.Dropped.{node_at}
-use Rattle.fa_merge.specs.Reordered.{component_at}
+use Rattle.fa_sound.specs.Components.{component_at}
 use Rattle.fa_merge.proofs.MergedAnywhere.{nat_cases}
 use Rattle.fa_merge.proofs.PlacedForests.{component_has}
-use Rattle.fa_split.specs.Chosen.{Picked, none, take, leave, IsBy, StandsAtTop, chosen, with_component, chosen_at, AreChosen, IsChosenBy, IsChosenOf}
+use Rattle.fa_split.specs.Chosen.{Picked, none, take, leave, IsBy}
+use Rattle.fa_split.specs.Chosen.{StandsAtTop, chosen, chosen_at, AreChosen, IsChosenBy, IsChosenOf}
 use Rattle.fa_split.specs.Divided.{HasVarsOf}
-use Rattle.fa_split.proofs.ChosenTrees.{one_item, chosen_back, chosen_of, to_chosen, chosen_ranked, chosen_symbols, chosen_one, chosen_stay, chosen_roots}
+use Rattle.fa_split.proofs.ChosenTrees.{chosen_back, chosen_of, to_chosen, chosen_symbols, chosen_one, chosen_stay, chosen_roots}
 use Rattle.fa_split.proofs.OtherComponent.{component_set, every_put, tree_at, tree_in, trees_keep, within_sound, within_covers, within_dressed, within_regroups}
 
 -- signatures stay uniform where each new state is one with trees of an old one

@@ -1,26 +1,20 @@
 -- The automaton with a rule alone at a new root state.
-use Rattle.std.proofs.Common.{◌≡◌, ◌≢◌, ◌⊎◌, inl, inr, ℕ, zero, suc, ◌<◌, ◌≤◌, ◌+◌, ◌&&◌, not, Bool, true, false, true≢false, nat_eq, if◌then◌else◌, length, List, [], ◌∷◌, ◌++◌, refl, sym, ap, subst, ◌∙◌, slice_get, slice_set, Some, length-set, arith}
-use Rattle.std.proofs.lemmas.Bool.{eqb-true, eq-eqb}
+use Rattle.std.proofs.Common.{◌≡◌, inl, inr, ℕ, ◌<◌, ◌≤◌, ◌+◌, List, [], ◌∷◌, refl, sym, ap, subst, ◌∙◌, arith}
 use Rattle.fore_base.specs.Lists.{IsIn, Every}
-use Rattle.fore_base.proofs.ListLemmas.{in_right, every_in, in_every, every_append, every_set, every_weaker}
+use Rattle.fore_base.proofs.ListLemmas.{in_right, every_in, every_append, every_weaker}
 use Rattle.ta_core.specs.Arity.{arity}
-use Rattle.ta_core.specs.Auto.{Automaton, automaton, IsRanked, IsRankedRule}
-use Rattle.ta_core.specs.Language.{RunOf, run, RunEach, run_none, InLanguage}
+use Rattle.ta_core.specs.Auto.{Automaton, IsRanked, IsRankedRule}
+use Rattle.ta_core.specs.Language.{RunOf, run, RunEach, InLanguage}
 use Rattle.ta_core.specs.Single.{HasOneTop}
 use Rattle.ta_core.specs.declared.auto.Rule.{Rule}
 use Rattle.ta_core.specs.declared.symbol.Symbol.{Symbol}
 use Rattle.ta_core.specs.declared.tree.Tree.{Tree, out-Tree}
 use Rattle.fa_core.specs.declared.forest.Target.{Target}
 use Rattle.fa_core.specs.declared.forest.Target.TheVariants.{Null, Uninit, Dangling, At}
-use Rattle.fa_core.specs.Cells.{is_leaf}
-use Rattle.fa_core.specs.Dressed.{leaf}
-use Rattle.fa_core.specs.Member.{bare_end, leaf_symbol}
-use Rattle.fa_core.proofs.Dressing.{leaf_top}
+use Rattle.fa_core.specs.Member.{leaf_symbol}
 use Rattle.fa_split.specs.Chosen.{IsBy, chosen}
-use Rattle.fa_split.specs.Split.{top_rule, child_state, fresh_top, fresh_leaf, fixed, cell_rules, lifted}
-use Rattle.fa_split.proofs.FreshStates.{low, stay, stay_each, widen, widen_each, fresh_run, states_more, rules_more}
-use Rattle.fa_split.proofs.Places.{leaf_tree}
-use Rattle.fa_split.proofs.RunPlaces.{at_index, each_at, each_set, each_with, set_here, set_back, set_again}
+use Rattle.fa_split.specs.Split.{top_rule}
+use Rattle.fa_split.proofs.FreshStates.{stay, stay_each, widen_each, fresh_run, states_more, rules_more}
 use Rattle.fa_split.proofs.TopRules.{top_alone, fresh_top_one}
 
 pub one_item : {X : Type 0} (x y : X) → IsIn x (y ∷ []) → x ≡ y

@@ -1,6 +1,6 @@
 -- Without box edges, signatures stay uniform where a leaf stands alone at a place below the top.
-use Rattle.std.proofs.Common.{◌≡◌, ◌⊎◌, inl, inr, ℕ, zero, suc, ◌<◌, ◌≤◌, ◌+◌, length, List, [], ◌∷◌, refl, sym, ap, subst, ◌∙◌, length-set, arith}
-use Rattle.fore_base.specs.Lists.{IsIn, Every}
+use Rattle.std.proofs.Common.{◌≡◌, inl, inr, ℕ, ◌<◌, ◌≤◌, ◌+◌, length, List, [], refl, sym, subst, length-set, arith}
+use Rattle.fore_base.specs.Lists.{Every}
 use Rattle.fore_base.proofs.ListLemmas.{every_set, every_weaker}
 use Rattle.ta_core.specs.Auto.{Automaton, IsRanked}
 use Rattle.ta_core.specs.Language.{RunEach}
@@ -17,7 +17,7 @@ use Rattle.fa_core.specs.References.{AreAlike, RefersAlike}
 use Rattle.fa_core.proofs.Alike.{alike_same}
 use Rattle.fa_core.proofs.Dressing.{each_length}
 use Rattle.fa_core.proofs.NodeRuns.{PartsRun, EndRun, end_bare, bare_of_end, bare_each}
-use Rattle.fa_core.proofs.Uniform.{EndsAlike, TopsAlike, state_ends, parts_alike, ends_refer_alike, signed_alike, alike_signed}
+use Rattle.fa_core.proofs.Uniform.{EndsAlike, state_ends, parts_alike, ends_refer_alike, signed_alike, alike_signed}
 use Rattle.fa_merge.proofs.MergedAnywhere.{nat_cases}
 use Rattle.fa_split.specs.Split.{top_rule, fixed}
 use Rattle.fa_split.proofs.ChosenTrees.{one_item}

@@ -1,7 +1,7 @@
 -- Forests in which the component of one root is another automaton.
-use Rattle.std.proofs.Common.{◌≡◌, ◌≢◌, ℕ, zero, suc, ◌<◌, length, List, [], ◌∷◌, ◌++◌, refl, sym, ap, subst, ◌∙◌, slice_get, slice_set, Some, length-set, arith}
-use Rattle.std.proofs.lemmas.Option.{none-some, same_Some}
-use Rattle.fore_base.specs.Lists.{IsIn, Every, Paired}
+use Rattle.std.proofs.Common.{◌≡◌, ◌≢◌, ℕ, zero, suc, ◌<◌, length, List, [], ◌∷◌, ◌++◌, refl, sym, ap, subst, slice_set, Some, length-set, arith}
+use Rattle.std.proofs.lemmas.Option.{same_Some}
+use Rattle.fore_base.specs.Lists.{Every, Paired}
 use Rattle.fore_base.proofs.ListLemmas.{every_set}
 use Rattle.ta_core.specs.Auto.{Automaton}
 use Rattle.ta_core.specs.Language.{InLanguage, IsWithin}
@@ -15,9 +15,8 @@ use Rattle.fa_core.specs.Filled.{Choice, RulesFit, HasSignatures, HasSome, IsSou
 use Rattle.fa_core.specs.Member.{TreesOf, OfForest, InsidesOf, Regroups, bare}
 use Rattle.fa_core.proofs.Rearranging.{same}
 use Rattle.fa_merge.specs.Dropped.{node_at}
-use Rattle.fa_merge.specs.Reordered.{component_at}
-use Rattle.fa_merge.proofs.PlacedForests.{component_got}
-use Rattle.fa_split.specs.Chosen.{with_component}
+use Rattle.fa_sound.specs.Components.{component_at, with_component}
+use Rattle.fa_sound.proofs.ComponentLemmas.{component_got}
 use Rattle.fa_split.specs.Split.{set_node}
 use Rattle.fa_split.proofs.RunPlaces.{set_back}
 

@@ -9,12 +9,12 @@ use Rattle.ta_core.specs.declared.symbol.Slot.TheVariants.{Field}
 use Rattle.ta_core.specs.declared.symbol.Symbol.{Symbol}
 use Rattle.ta_core.specs.declared.symbol.Symbol.TheVariants.{Null, Uninit, Ref, Cell}
 use Rattle.fa_core.specs.declared.forest.Forest.{Forest}
-use Rattle.fa_core.specs.declared.forest.Target.{Target}
 use Rattle.fa_core.specs.declared.forest.Target.TheVariants.{Null as NullTarget, Uninit as UninitTarget, At}
 use Rattle.fa_core.specs.Dressed.{Node, Parts, Nodes, node, no_parts, field, link, hook, under, leaf, no_nodes, more}
-use Rattle.fa_split.specs.Chosen.{Picked, none, take, leave, with_component, chosen, chosen_at}
+use Rattle.fa_split.specs.Chosen.{Picked, none, take, leave, chosen, chosen_at}
+use Rattle.fa_sound.specs.Components.{with_component}
 use Rattle.fa_split.specs.Divided.{HasVarsOf}
-use Rattle.fa_split.specs.Split.{first_of, top_rule, child_state, fresh_top, fresh_leaf, fixed, cell_rules, lifted, split_leaf, split_cells, CanSplit, AreThose, IsWhere, end_at, set_end, set_node, with_last, with_end, HasChild, IsTakenOut}
+use Rattle.fa_split.specs.Split.{first_of, top_rule, child_state, fixed, cell_rules, lifted, split_leaf, split_cells, CanSplit, AreThose, IsWhere, end_at, set_end, set_node, with_last, with_end, HasChild, IsTakenOut}
 
 abbrev rule : ℕ → Symbol → List ℕ → Rule
 rule q y qs = record { state = q; symbol = y; children = qs }

@@ -1,11 +1,11 @@
 -- The forest in which the child's cells are a new last root: its dressed forests are those with the child taken out.
-use Rattle.std.proofs.Common.{◌≡◌, inl, inr, ℕ, zero, suc, ◌<◌, length, List, [], ◌∷◌, ◌++◌, map, refl, sym, ap, subst, ◌∙◌, slice_set, Some, false, arith}
+use Rattle.std.proofs.Common.{◌≡◌, inl, inr, ℕ, suc, ◌<◌, length, List, [], ◌∷◌, map, refl, sym, ap, subst, ◌∙◌, slice_set, Some, false, arith}
 use Rattle.std.proofs.lemmas.Option.{same_Some}
 use Rattle.fore_base.specs.Lists.{IsIn, Every}
 use Rattle.fore_base.specs.declared.store.Value.{Value}
 use Rattle.ta_core.specs.Auto.{Automaton, IsRanked}
 use Rattle.ta_core.specs.Language.{RunOf, InLanguage}
-use Rattle.ta_core.specs.declared.tree.Tree.{Tree, out-Tree}
+use Rattle.ta_core.specs.declared.tree.Tree.{out-Tree}
 use Rattle.fa_core.specs.declared.boxes.BoxDef.{BoxDef}
 use Rattle.fa_core.specs.declared.faces.Face.{Face}
 use Rattle.fa_core.specs.declared.forest.Forest.{Forest}
@@ -13,8 +13,8 @@ use Rattle.fa_core.specs.declared.forest.Target.{Target}
 use Rattle.fa_core.specs.declared.forest.Target.TheVariants.{Null, Uninit, Dangling, At}
 use Rattle.fa_core.specs.Cells.{is_leaf}
 use Rattle.fa_core.specs.Choices.{count}
-use Rattle.fa_core.specs.Dressed.{Node, End, Nodes, node, under, leaf, no_nodes, more, cells, roots_of, value_in, refs, all_refs}
-use Rattle.fa_core.specs.Filled.{Choice, IsSound}
+use Rattle.fa_core.specs.Dressed.{Node, End, Nodes, node, under, leaf, no_nodes, more, roots_of, value_in, refs, all_refs}
+use Rattle.fa_core.specs.Filled.{IsSound}
 use Rattle.fa_core.specs.Member.{TreesOf, OfForest, InsidesOf, Regroups, Regrouping, bare, bare_end}
 use Rattle.fa_core.specs.References.{AllBelow}
 use Rattle.fa_core.proofs.Counts.{below_both}
@@ -22,13 +22,14 @@ use Rattle.fa_core.proofs.Dressing.{cell_top}
 use Rattle.fa_core.proofs.FilledKept.{refs_of_filled}
 use Rattle.fa_core.proofs.Rearranging.{back}
 use Rattle.fa_merge.specs.Dropped.{node_at}
-use Rattle.fa_merge.specs.Reordered.{component_at}
+use Rattle.fa_sound.specs.Components.{component_at}
 use Rattle.fa_merge.specs.inner.Grafting as grafting
 use Rattle.fa_merge.proofs.LeaksDecided.{some_choice}
 use Rattle.fa_merge.proofs.MergedLast.{split_last, join_last, vars_same, RootsBelow}
 use Rattle.fa_merge.proofs.Named.{var_below}
 use Rattle.fa_merge.proofs.OtherOrders.{count_trees}
-use Rattle.fa_merge.proofs.PlacedForests.{component_got, component_has}
+use Rattle.fa_merge.proofs.PlacedForests.{component_has}
+use Rattle.fa_sound.proofs.ComponentLemmas.{component_got}
 use Rattle.fa_split.specs.Split.{CanSplit, child_state, fixed, lifted, split_cells, end_at, set_node, with_last, top_parts, with_end, IsTakenOut, IsSplitCells}
 use Rattle.fa_split.proofs.FixedTrees.{to_fixed, fixed_leaf, fixed_with, child_run}
 use Rattle.fa_split.proofs.LiftedTrees.{lifted_of, to_lifted}

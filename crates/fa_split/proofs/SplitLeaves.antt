@@ -1,10 +1,9 @@
 -- The forests in which the child is one leaf.
-use Rattle.std.proofs.Common.{◌≡◌, ℕ, ◌<◌, length, List, [], ◌∷◌, refl, sym, ap, subst, ◌∙◌, slice_get, slice_set, Some}
+use Rattle.std.proofs.Common.{◌≡◌, ℕ, List, refl, sym, ap, subst, ◌∙◌, slice_get, slice_set, Some}
 use Rattle.std.proofs.lemmas.Option.{same_Some}
 use Rattle.fore_base.specs.Lists.{Every}
 use Rattle.ta_core.specs.Auto.{Automaton, IsRanked}
 use Rattle.ta_core.specs.Language.{RunOf, InLanguage, IsWithin}
-use Rattle.ta_core.specs.Single.{HasOneTop}
 use Rattle.ta_core.specs.declared.tree.Tree.{Tree, out-Tree, roll-Tree, out-roll-Tree}
 use Rattle.fa_core.specs.declared.boxes.BoxDef.{BoxDef}
 use Rattle.fa_core.specs.declared.faces.Face.{Face}
@@ -13,15 +12,14 @@ use Rattle.fa_core.specs.declared.forest.Target.{Target}
 use Rattle.fa_core.specs.declared.forest.Target.TheVariants.{Null, Uninit, Dangling, At}
 use Rattle.fa_core.specs.Boxless.{HasNoBoxes}
 use Rattle.fa_core.specs.Covering.{Covers}
-use Rattle.fa_core.specs.Dressed.{Node, Nodes, leaf}
-use Rattle.fa_core.specs.Filled.{SymbolFits, RulesFit, HasSignatures, HasSome, IsSound}
+use Rattle.fa_core.specs.Dressed.{Node, leaf}
+use Rattle.fa_core.specs.Filled.{SymbolFits, RulesFit, HasSignatures, IsSound}
 use Rattle.fa_core.specs.Member.{OfForest, Regroups, bare, bare_end, leaf_symbol}
-use Rattle.fa_merge.specs.Dropped.{node_at}
-use Rattle.fa_merge.specs.Reordered.{component_at}
+use Rattle.fa_sound.specs.Components.{component_at}
 use Rattle.fa_merge.proofs.PlacedForests.{component_has}
-use Rattle.fa_split.specs.Split.{CanSplit, MayStand, MayBeLeaf, child_state, fixed, split_leaf, end_at, top_parts, HasChild, IsSplitLeaf}
+use Rattle.fa_split.specs.Split.{CanSplit, MayStand, MayBeLeaf, child_state, fixed, split_leaf, HasChild, IsSplitLeaf}
 use Rattle.fa_split.proofs.FixedSigned.{fixed_plain, fixed_signed}
-use Rattle.fa_split.proofs.FixedTrees.{to_fixed, fixed_leaf, fixed_within, child_run, child_with, fixed_symbols}
+use Rattle.fa_split.proofs.FixedTrees.{to_fixed, fixed_leaf, fixed_within, child_run, fixed_symbols}
 use Rattle.fa_split.proofs.OtherComponent.{every_put, tree_at, tree_in, trees_keep, within_sound, within_covers, within_dressed, within_regroups}
 use Rattle.fa_split.proofs.Places.{child_of_top, top_of_child, end_is_leaf}
 use Rattle.fa_split.proofs.RunPlaces.{set_same}

@@ -1,10 +1,9 @@
 -- The forest in which the child's cells are a new last root is sound.
-use Rattle.std.proofs.Common.{◌≡◌, inl, inr, ℕ, suc, ◌<◌, ◌+◌, length, List, [], ◌∷◌, ◌++◌, refl, sym, ap, subst, ◌∙◌, slice_get, slice_set, Some, true, false, true≢false, length-set, length-append, arith}
+use Rattle.std.proofs.Common.{◌≡◌, ℕ, suc, ◌<◌, ◌+◌, length, List, [], ◌∷◌, refl, sym, ap, subst, ◌∙◌, slice_get, slice_set, Some, true, false, true≢false, length-set, length-append, arith}
 use Rattle.fore_base.specs.Lists.{IsIn, Every}
 use Rattle.fore_base.proofs.ListLemmas.{in_every, every_append, place_of}
 use Rattle.ta_core.specs.Auto.{Automaton, IsRanked}
 use Rattle.ta_core.specs.Language.{RunOf, InLanguage}
-use Rattle.ta_core.specs.declared.symbol.Symbol.{Symbol}
 use Rattle.ta_core.specs.declared.tree.Tree.{Tree, out-Tree}
 use Rattle.fa_core.specs.declared.faces.Face.{Face}
 use Rattle.fa_core.specs.declared.forest.Forest.{Forest}
@@ -12,19 +11,19 @@ use Rattle.fa_core.specs.declared.forest.Target.{Target}
 use Rattle.fa_core.specs.declared.forest.Target.TheVariants.{Null, Uninit, Dangling, At}
 use Rattle.fa_core.specs.Boxless.{IsPlain, HasNoBoxes}
 use Rattle.fa_core.specs.Cells.{is_leaf}
-use Rattle.fa_core.specs.Dressed.{Node, End, under, leaf, refs, end_refs}
+use Rattle.fa_core.specs.Dressed.{Node, End, under, leaf, refs}
 use Rattle.fa_core.specs.Filled.{IsRoot, SymbolFits, RulesFit, HasSignatures, HasSome, IsTopped, IsSound}
 use Rattle.fa_core.specs.Formed.{IsFormed}
 use Rattle.fa_core.specs.Member.{bare, bare_end, leaf_symbol}
-use Rattle.fa_core.specs.References.{AllBelow, tree_refs}
+use Rattle.fa_core.specs.References.{AllBelow}
 use Rattle.fa_core.proofs.Counts.{below_wider}
 use Rattle.fa_core.proofs.Dressing.{leaf_top}
 use Rattle.fa_core.proofs.FilledKept.{IsFormedTree, filled_kept, formed_by}
 use Rattle.fa_core.proofs.WaysOf.{tree_roots}
-use Rattle.fa_merge.specs.Reordered.{component_at}
-use Rattle.fa_merge.proofs.MergedRanks.{item_component}
+use Rattle.fa_sound.specs.Components.{component_at}
+use Rattle.fa_sound.proofs.ComponentLemmas.{item_component}
 use Rattle.fa_merge.proofs.OtherOrders.{got}
-use Rattle.fa_merge.proofs.PlacedForests.{component_has, node_topped, topped_node, run_end, top_is_node, tree_is_node}
+use Rattle.fa_merge.proofs.PlacedForests.{component_has, node_topped, topped_node, run_end, tree_is_node}
 use Rattle.fa_split.specs.Split.{CanSplit, MayBeCell, child_state, fixed, lifted, split_cells, end_at, top_parts, with_end}
 use Rattle.fa_split.proofs.ChosenForests.{fresh_signed}
 use Rattle.fa_split.proofs.FixedSigned.{fixed_plain, fixed_signed}
@@ -32,9 +31,8 @@ use Rattle.fa_split.proofs.FixedTrees.{to_fixed, fixed_leaf, fixed_with, fixed_r
 use Rattle.fa_split.proofs.LiftedTrees.{lifted_of, to_lifted, lifted_back, lifted_stay, lifted_roots, lifted_ranked, lifted_symbols}
 use Rattle.fa_split.proofs.OtherComponent.{every_put}
 use Rattle.fa_split.proofs.Places.{top_of_child, end_is_leaf, with_end_symbol, with_end_children, with_end_at, with_end_twice, with_end_same}
-use Rattle.fa_split.proofs.RunPlaces.{set_same}
 use Rattle.fa_split.proofs.SplitCells.{RefersWell, refers_well, cells_regroup}
-use Rattle.fa_split.proofs.SplitLeaves.{with_child, with_child_symbol, with_child_children, fitting_leaf, may_run}
+use Rattle.fa_split.proofs.SplitLeaves.{with_child, with_child_symbol, with_child_children, may_run}
 use Rattle.fa_split.proofs.TakenOut.{below_top, below_with}
 use Rattle.fa_split.proofs.TopRules.{tree_by_top}
 

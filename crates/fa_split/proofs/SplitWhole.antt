@@ -1,5 +1,5 @@
 -- The list of the forests into which a forest is split: what each has, and that none is lost.
-use Rattle.std.proofs.Common.{◌≡◌, ◌⊎◌, inl, inr, ℕ, ◌<◌, length, List, [], ◌∷◌, ◌++◌, map, refl, sym, ap, subst, ◌∙◌, slice_set, Some}
+use Rattle.std.proofs.Common.{◌≡◌, inl, inr, ℕ, length, List, map, refl, sym, subst, ◌∙◌, slice_set, Some}
 use Rattle.fore_base.specs.Lists.{IsIn, Every}
 use Rattle.fore_base.proofs.ListLemmas.{every_in, in_every, every_map, every_append, in_left, in_right, in_map}
 use Rattle.ta_core.specs.Auto.{Automaton, IsRanked}
@@ -14,13 +14,13 @@ use Rattle.fa_core.specs.Boxless.{HasNoBoxes}
 use Rattle.fa_core.specs.Choices.{count}
 use Rattle.fa_core.specs.Dressed.{Node, End, Nodes, under, leaf, cells}
 use Rattle.fa_core.specs.Filled.{IsSound}
-use Rattle.fa_core.specs.Member.{OfForest, Regroups, RegroupsInto, Regrouping, bare, bare_end}
+use Rattle.fa_core.specs.Member.{Regroups, RegroupsInto, Regrouping, bare}
 use Rattle.fa_core.proofs.Rearranging.{same}
 use Rattle.fa_merge.specs.Dropped.{node_at}
-use Rattle.fa_merge.specs.Reordered.{component_at}
+use Rattle.fa_sound.specs.Components.{component_at}
 use Rattle.fa_merge.proofs.PlacedForests.{component_has}
 use Rattle.fa_split.specs.Divided.{HasVarsOf}
-use Rattle.fa_split.specs.Split.{CanSplit, MayStand, MayBeLeaf, MayBeCell, top_rule, child_state, fixed, lifted, split_leaf, split_cells, AreThose, IsWhere, AreSplit, end_at, set_node, with_last, top_parts, with_end, IsTakenOut, IsSplitOf}
+use Rattle.fa_split.specs.Split.{CanSplit, MayBeLeaf, MayBeCell, child_state, fixed, lifted, split_leaf, split_cells, IsWhere, AreSplit, end_at, set_node, with_last, top_parts, with_end, IsTakenOut, IsSplitOf}
 use Rattle.fa_split.proofs.FixedTrees.{fixed_one, has_child}
 use Rattle.fa_split.proofs.OtherComponent.{component_set, component_first, set_less, tree_at}
 use Rattle.fa_split.proofs.Places.{child_of_top, top_of_child}

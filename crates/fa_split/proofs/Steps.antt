@@ -1,8 +1,8 @@
 -- Steps of the loops: one more rule, one more leaf.
-use Rattle.std.proofs.Common.{◌≡◌, ◌≢◌, ◌⊎◌, inl, inr, ℕ, ◌<◌, true, false, true≢false, List, [], ◌∷◌, ◌++◌, map, refl, sym, ap, ap₂, subst, ◌∙◌, ◌+◌, length, take, slice_index_or}
+use Rattle.std.proofs.Common.{◌≡◌, ◌⊎◌, inl, inr, ℕ, ◌<◌, false, true≢false, List, [], ◌∷◌, ◌++◌, map, sym, ap, ap₂, subst, ◌∙◌, ◌+◌, length, take, slice_index_or}
 use Rattle.std.proofs.lemmas.Option.{get_or_from_slice_get}
-use Rattle.fore_base.specs.Lists.{IsIn, Every, IsDistinct}
-use Rattle.fore_base.proofs.ListLemmas.{in_left, in_right, in_last, in_push, every_in, in_every, every_push, every_weaker, distinct_push}
+use Rattle.fore_base.specs.Lists.{IsIn, Every}
+use Rattle.fore_base.proofs.ListLemmas.{in_left, in_right, in_last, in_push, every_push, every_weaker, distinct_push}
 use Rattle.ta_core.specs.declared.auto.Rule.{Rule}
 use Rattle.fa_core.specs.declared.faces.Face.{Face}
 use Rattle.fa_core.specs.declared.forest.Forest.{Forest}
@@ -11,11 +11,11 @@ use Rattle.fa_core.specs.declared.forest.Target.TheVariants.{Null}
 use Rattle.fa_core.specs.Cells.{is_leaf}
 use Rattle.fa_core.specs.Member.{leaf_symbol}
 use Rattle.fa_core.proofs.WaysOf.{map-append}
-use Rattle.fa_merge.specs.Reordered.{component_at}
+use Rattle.fa_sound.specs.Components.{component_at}
 use Rattle.fa_merge.proofs.Signatures.{one_more}
 use Rattle.fa_sound.specs.Soundness.{SoundForest}
 use Rattle.fa_split.specs.Chosen.{Picked, StandsAtTop, chosen_at}
-use Rattle.fa_split.specs.Divided.{forests}
+use Rattle.fa_sound.specs.Unions.{forests}
 use Rattle.fa_split.specs.Split.{AreThose, split_leaf}
 use Rattle.fa_split.specs.inner.Ends.{HasLeafRule, IsAdded}
 use Rattle.fa_split.proofs.ChosenForests.{picked_take, picked_leave}

@@ -1,5 +1,5 @@
 -- A forest with one rule chosen at a root.
-use Rattle.std.specs.Prelude.{◌≡◌, ◌↔◌, ℕ, ◌+◌, List, [], ◌∷◌, ◌++◌, map, Some, slice_set}
+use Rattle.std.specs.Prelude.{◌≡◌, ◌↔◌, ℕ, ◌+◌, List, [], ◌∷◌, ◌++◌, map, Some}
 use Rattle.fore_base.specs.Lists.{IsIn}
 use Rattle.ta_core.specs.Auto.{Automaton}
 use Rattle.ta_core.specs.Language.{RunEach}
@@ -11,17 +11,14 @@ use Rattle.fa_core.specs.Covering.{Covers}
 use Rattle.fa_core.specs.Dressed.{Node, Nodes}
 use Rattle.fa_core.specs.Member.{OfForest, bare}
 use Rattle.fa_merge.specs.Dropped.{node_at}
-use Rattle.fa_merge.specs.Reordered.{component_at}
+pub use Rattle.fa_sound.specs.Components.{with_component}
+use Rattle.fa_sound.specs.Components.{component_at}
 
 -- The items of a list that meet P, in their order.
 pub data Picked {X : Type 0} (P : X → Type 0) : List X → List X → Type 0 where
   none : Picked P [] []
   take : (x : X) {xs ys : List X} → P x → Picked P xs ys → Picked P (x ∷ xs) (x ∷ ys)
   leave : (x : X) {xs ys : List X} → (P x → ⊥) → Picked P xs ys → Picked P (x ∷ xs) ys
-
--- the forest with this component at root r
-abbrev pub with_component : Forest → ℕ → Automaton → Forest
-with_component F r a = record F { autos = slice_set F.autos r a }
 
 -- the tree has a run that ends with the rule
 abbrev pub IsBy : List Rule → Rule → Tree → Type 0

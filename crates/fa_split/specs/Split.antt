@@ -1,7 +1,6 @@
 -- A forest in which the child at a place below the top of a root is one leaf, or, where it is a cell, a root of its own.
 use Rattle.std.specs.Prelude.{◌≡◌, ◌↔◌, ◌<◌, ◌⊎◌, ℕ, zero, suc, ◌+◌, ◌&&◌, false, nat_eq, if◌then◌else◌, not, List, [], ◌∷◌, ◌++◌, map, length, Option, Some, None, slice_get, slice_set, slice_index_or}
 use Rattle.fore_base.specs.Lists.{IsIn, Every, IsDistinct}
-use Rattle.fore_base.specs.declared.store.Datum.{Datum}
 use Rattle.ta_core.specs.Auto.{Automaton}
 use Rattle.ta_core.specs.Language.{InLanguage}
 use Rattle.ta_core.specs.Single.{HasOneTop}
@@ -19,8 +18,7 @@ use Rattle.fa_core.specs.Dressed.{Node, Parts, End, Nodes, node, no_parts, field
 use Rattle.fa_core.specs.Member.{OfForest, bare_end, leaf_symbol}
 use Rattle.fa_core.specs.Ways.{has}
 use Rattle.fa_merge.specs.Dropped.{node_at}
-use Rattle.fa_merge.specs.Reordered.{component_at}
-use Rattle.fa_split.specs.Chosen.{with_component}
+use Rattle.fa_sound.specs.Components.{component_at, with_component}
 
 -- The condition.
 

@@ -8,14 +8,13 @@ ghost use Rattle.ta_core.specs.Single.{HasOneTop};
 ghost use Rattle.fa_core.specs.Boxless.{HasNoBoxes};
 ghost use Rattle.fa_core.specs.Member.{Regroups, RegroupsInto};
 ghost use Rattle.fa_core.specs.declared.boxes.BoxDef.{BoxDef};
-ghost use Rattle.fa_merge.specs.Reordered.{component_at};
+ghost use Rattle.fa_sound.specs.Components.{component_at};
 ghost use Rattle.fa_split.specs.Chosen.{AreChosen, IsChosenOf, StandsAtTop, chosen_at};
-ghost use Rattle.fa_split.specs.Divided.{forests, HasVarsOf, IsUnionOf};
+ghost use Rattle.fa_split.specs.Divided.{HasVarsOf};
+ghost use Rattle.fa_sound.specs.Unions.{forests, IsUnionOf};
 
-use crate::replacing::{component, ranked_components, replace, sound_of};
 use crate::topping::{choose, is_one_of, roots_of, rules_of};
-use fa_core::forest::Forest;
-use fa_sound::Sound;
+use fa_sound::{Sound, component};
 use fore_base::list::List;
 use fore_base::marks::are_all_marked;
 use fore_base::memory::Mem;
@@ -37,7 +36,7 @@ pub fn choose_rule(alloc: Global, forest: &Sound, root: u32) -> Mem<List<Sound>>
     ensures whole { IfOk result (λ made. (T : List BoxDef) → RegroupsInto T forest.now.forest (forests made)) }
     ensures members { IfOk result (λ made. IsUnionOf forest.now.forest (forests made)) }
 {
-    ranked_components(forest.forest());
+    forest.known();
     let made = forests_by_rule(alloc, forest, root)?;
     Ok(made)
 }
@@ -78,16 +77,6 @@ fn with_rule(alloc: Global, forest: &Sound, root: u32, rule: &Rule) -> Mem<Sound
     ensures face { IfOk result (λ made. made.face ≡ forest.now.face) }
 {
     forest.known();
-    ranked_components(forest.forest());
-    let made = choose_at(alloc, forest.forest(), root, rule)?;
-    sound_of(alloc, &made, forest.face())
-}
-
-fn choose_at(alloc: Global, forest: &Forest, root: u32, rule: &Rule) -> Mem<Forest>
-    requires root { root < length forest.now.autos }
-    requires rule { IsIn rule.now (component_at forest.now.autos root).rules }
-    ensures { IfOk result (λ made. made ≡ chosen_at forest.now root rule.now) }
-{
-    let auto = choose(alloc, component(forest, root), rule)?;
-    replace(alloc, forest, root, auto)
+    let auto = choose(alloc, component(forest.forest(), root), rule)?;
+    forest.with_component(alloc, root, auto)
 }

@@ -11,7 +11,7 @@ ghost use Rattle.fa_core.specs.declared.boxes.BoxDef.{BoxDef};
 ghost use Rattle.fa_core.specs.declared.faces.Face.{Face};
 ghost use Rattle.fa_core.specs.declared.forest.Forest.{Forest};
 ghost use Rattle.fa_core.specs.declared.forest.Target.{Target};
-ghost use Rattle.fa_merge.specs.Reordered.{component_at};
+ghost use Rattle.fa_sound.specs.Components.{component_at};
 ghost use Rattle.fa_split.specs.Chosen.{IsChosenBy, chosen_at};
 ghost use Rattle.fa_split.specs.Split.{CanSplit, IsSplitCells, IsSplitLeaf, IsTakenOut, MayBeLeaf, split_cells, split_leaf};
 

@@ -11,5 +11,5 @@ mod topping;
 
 pub use choosing::choose_rule;
 pub use replacing::{component, count_roots, ranked_components, replace, sound_of};
-pub use splitting::{can_split, fix_at, split_child};
+pub use splitting::{can_split, fix_at, fix_leaf, split_child};
 pub use topping::{has_one_top, rule_at_top, rules_of, state_at, states_of};

@@ -4,19 +4,20 @@ ghost use Rattle.std.specs.Prelude.{◌≡◌, List, ◌↔◌, map, IsTrue, IfO
 ghost use Rattle.fore_base.specs.Lists.{Every};
 ghost use Rattle.ta_core.specs.Single.{HasOneTop};
 ghost use Rattle.fa_core.specs.Boxless.{HasNoBoxes};
+ghost use Rattle.fa_core.specs.Filled.{IsSound};
 ghost use Rattle.fa_core.specs.Member.{Regroups, RegroupsInto};
 ghost use Rattle.fa_core.specs.declared.boxes.BoxDef.{BoxDef};
-ghost use Rattle.fa_merge.specs.Reordered.{component_at};
-ghost use Rattle.fa_split.specs.Divided.{forests, HasVarsOf, IsUnionOf};
+ghost use Rattle.fa_sound.specs.Components.{component_at};
+ghost use Rattle.fa_split.specs.Divided.{HasVarsOf};
+ghost use Rattle.fa_sound.specs.Unions.{forests, IsUnionOf};
 ghost use Rattle.fa_split.specs.Split.{AreSplit, AreThose, CanSplit, IsSplitOf, IsWhere, MayBeCell, MayBeLeaf, split_cells, split_leaf};
 
 use crate::ending::{has_cell_at, leaves_at};
-use crate::replacing::{component, count_roots, ranked_components, replace, sound_of};
 use crate::topping::{
     count_children, fix_child, has_one_top, lift_cells, rules_of, state_at, states_of,
 };
 use fa_core::forest::{Forest, Target};
-use fa_sound::Sound;
+use fa_sound::{Sound, component, count_roots, replace};
 use fore_base::list::List;
 use fore_base::memory::Mem;
 use std::alloc::Global;
@@ -49,7 +50,6 @@ pub fn split_child(alloc: Global, forest: &Sound, root: u32, place: usize) -> Me
     ensures members { IfOk result (λ made. IsUnionOf forest.now.forest (forests made)) }
 {
     forest.known();
-    ranked_components(forest.forest());
     let made = forests_by_child(alloc, forest, root, place)?;
     Ok(made)
 }
@@ -72,7 +72,6 @@ fn leaves_of_child(alloc: Global, forest: &Sound, root: u32, place: usize) -> Me
     ensures { IfOk result (AreThose (MayBeLeaf forest.now.forest root place)) }
 {
     forest.known();
-    ranked_components(forest.forest());
     let auto = component(forest.forest(), root);
     leaves_at(alloc, rules_of(auto), state_at(auto, place))
 }
@@ -106,9 +105,19 @@ fn with_leaf(alloc: Global, forest: &Sound, root: u32, place: usize, leaf: Targe
     ensures face { IfOk result (λ made. made.face ≡ forest.now.face) }
 {
     forest.known();
-    ranked_components(forest.forest());
-    let made = fix_at(alloc, forest.forest(), root, place, leaf)?;
-    sound_of(alloc, &made, forest.face())
+    fix_leaf(alloc, forest, root, place, leaf)
+}
+
+/// The forest in which the child is the leaf, which is known to be sound: nothing is judged. Err is want of memory.
+pub fn fix_leaf(alloc: Global, forest: &Sound, root: u32, place: usize, leaf: Target) -> Mem<Sound>
+    requires can { CanSplit forest.now.forest root place }
+    requires plain { Every HasNoBoxes (split_leaf forest.now.forest root place leaf).autos }
+    requires sound { IsSound forest.now.face (split_leaf forest.now.forest root place leaf) }
+    ensures forest { IfOk result (λ made. made.forest ≡ split_leaf forest.now.forest root place leaf) }
+    ensures face { IfOk result (λ made. made.face ≡ forest.now.face) }
+{
+    let auto = fix_child(alloc, component(forest.forest(), root), place, leaf)?;
+    forest.with_component(alloc, root, auto)
 }
 
 /// The forest in which the child is the leaf. Err is want of memory.
@@ -140,7 +149,6 @@ fn may_be_cell(alloc: Global, forest: &Sound, root: u32, place: usize) -> Mem<bo
     ensures { IfOk result (λ yes. IsTrue yes ↔ MayBeCell forest.now.forest root place) }
 {
     forest.known();
-    ranked_components(forest.forest());
     let auto = component(forest.forest(), root);
     let marks = inhabited(alloc, auto)?;
     Ok(has_cell_at(
@@ -159,9 +167,8 @@ fn with_new_root(alloc: Global, forest: &Sound, root: u32, place: usize) -> Mem<
     ensures face { IfOk result (λ made. made.face ≡ forest.now.face) }
 {
     forest.known();
-    ranked_components(forest.forest());
     let made = lift_at(alloc, forest.forest(), root, place)?;
-    sound_of(alloc, &made, forest.face())
+    Sound::of(alloc, made, forest.face())
 }
 
 /// The forest in which the child's cells are a new last root. Err is want of memory.

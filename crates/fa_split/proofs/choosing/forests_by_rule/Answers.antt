@@ -1,7 +1,6 @@
-use Rattle.std.proofs.Common.{List, [], refl, take, sym, ◌∙◌, true≢false}
+use Rattle.std.proofs.Common.{[], refl, take, sym, ◌∙◌, true≢false}
 use Rattle.fore_base.proofs.ListLemmas.{in_at, take_item}
-use Rattle.ta_core.specs.declared.auto.Rule.{Rule}
-use Rattle.fa_split.specs.Chosen.{Picked, none}
+use Rattle.fa_split.specs.Chosen.{none}
 use Rattle.fa_split.proofs.Steps.{choose_more, choose_no_more}
 use Rattle.fa_split.proofs.choosing.forests_by_rule.Goals as goal
 use Rattle.fa_split.proofs.choosing.forests_by_rule.Goals.{then-stands_at_top+in_ok-with_rule+in_ok-push, else-stands_at_top}

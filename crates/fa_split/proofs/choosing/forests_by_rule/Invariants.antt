@@ -1,9 +1,9 @@
 use Rattle.std.proofs.Common.{◌≡◌, List, map, take}
 use Rattle.fore_base.specs.Lists.{Every}
 use Rattle.ta_core.specs.declared.auto.Rule.{Rule}
-use Rattle.fa_merge.specs.Reordered.{component_at}
+use Rattle.fa_sound.specs.Components.{component_at}
 use Rattle.fa_split.specs.Chosen.{Picked, StandsAtTop, chosen_at}
-use Rattle.fa_split.specs.Divided.{forests}
+use Rattle.fa_sound.specs.Unions.{forests}
 use Rattle.fa_split.proofs.choosing.forests_by_rule.Given as goal
 
 abbrev pub invariant-loop-rule : goal.invariant-loop-rule

@@ -1,5 +1,4 @@
-use Rattle.std.proofs.Common.{◌≡◌, ◌∙◌, sym, true≢false}
-use Rattle.fore_base.specs.Marks.{all_marked}
+use Rattle.std.proofs.Common.{◌∙◌, sym, true≢false}
 use Rattle.fa_split.proofs.ChildEnds.{top_decided}
 use Rattle.fa_split.proofs.choosing.stands_at_top.Goals as goal
 

@@ -1,30 +1,15 @@
-use Rattle.std.proofs.Common.{◌≡◌, ◌∙◌, ap, sym, subst}
-use Rattle.std.proofs.lemmas.Result.{IfOk-weaker}
-use Rattle.fore_base.specs.Lists.{Every}
-use Rattle.ta_core.specs.Auto.{IsRanked}
-use Rattle.fa_core.specs.Boxless.{HasNoBoxes}
-use Rattle.fa_core.specs.Filled.{IsSound}
-use Rattle.fa_core.specs.declared.forest.Forest.{Forest}
-use Rattle.fa_split.specs.Split.{split_leaf}
 use Rattle.fa_split.proofs.SplitLeaves.{leaf_plain, leaf_sound}
 use Rattle.fa_split.proofs.splitting.with_leaf.Goals as goal
 
-pub sound_of-requires-clause-plain : goal.sound_of-requires-clause-plain
-sound_of-requires-clause-plain c =
+pub fix_leaf-requires-clause-plain : goal.fix_leaf-requires-clause-plain
+fix_leaf-requires-clause-plain c =
     let F = c.args.forest.now.forest in
-    let made : c.in_ok-made.made ≡ split_leaf F c.args.root c.args.place c.args.leaf = c.in_ok-made.ensures ∙ ap (λ (z : Forest). split_leaf z c.args.root c.args.place c.args.leaf) c.forest-2.ensures in
-    let ranked : Every IsRanked F.autos = rw c.forest.ensures at c.ranked_components.ensures in
-    subst (λ (z : Forest). Every HasNoBoxes z.autos) (sym made) (leaf_plain F c.args.root c.args.place ranked c.requires.can c.args.leaf c.requires.may c.requires.plain)
+    let r = c.requires in
+    leaf_plain F c.args.root c.args.place c.known.ensures.ranked r.can c.args.leaf r.may r.plain
 
-pub sound_of-requires-clause-sound : goal.sound_of-requires-clause-sound
-sound_of-requires-clause-sound c =
-    let F = c.args.forest.now.forest in
-    let made : c.in_ok-made.made ≡ split_leaf F c.args.root c.args.place c.args.leaf = c.in_ok-made.ensures ∙ ap (λ (z : Forest). split_leaf z c.args.root c.args.place c.args.leaf) c.forest-2.ensures in
-    let ranked : Every IsRanked F.autos = rw c.forest.ensures at c.ranked_components.ensures in
-    rw c.face.ensures (subst (λ (z : Forest). IsSound c.args.forest.now.face z) (sym made) (leaf_sound F c.args.root c.args.place ranked c.requires.can c.args.leaf c.requires.may c.args.forest.now.face c.requires.plain c.known.ensures.sound))
-
-pub returns-clause-forest : goal.returns-clause-forest
-returns-clause-forest c =
-    let F = c.args.forest.now.forest in
-    let made : c.in_ok-made.made ≡ split_leaf F c.args.root c.args.place c.args.leaf = c.in_ok-made.ensures ∙ ap (λ (z : Forest). split_leaf z c.args.root c.args.place c.args.leaf) c.forest-2.ensures in
-    IfOk-weaker c.sound_of.result (λ s. s.forest ≡ c.in_ok-made.made) (λ s. s.forest ≡ split_leaf F c.args.root c.args.place c.args.leaf) (λ s e. e ∙ made) c.sound_of.ensures.forest
+pub fix_leaf-requires-clause-sound : goal.fix_leaf-requires-clause-sound
+fix_leaf-requires-clause-sound c =
+    let s = c.args.forest.now in
+    let r = c.requires in
+    let k = c.known.ensures in
+    leaf_sound s.forest c.args.root c.args.place k.ranked r.can c.args.leaf r.may s.face r.plain k.sound

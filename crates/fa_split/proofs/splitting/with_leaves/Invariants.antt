@@ -1,6 +1,6 @@
 use Rattle.std.proofs.Common.{◌≡◌, map, take}
 use Rattle.fore_base.specs.Lists.{Every}
-use Rattle.fa_split.specs.Divided.{forests}
+use Rattle.fa_sound.specs.Unions.{forests}
 use Rattle.fa_split.specs.Split.{split_leaf}
 use Rattle.fa_split.proofs.splitting.with_leaves.Given as goal
 

@@ -9,22 +9,26 @@ use Rattle.fa_split.specs.Split.{split_cells}
 use Rattle.fa_split.proofs.SplitSound.{cells_plain, cells_sound}
 use Rattle.fa_split.proofs.splitting.with_new_root.Goals as goal
 
-pub sound_of-requires-clause-plain : goal.sound_of-requires-clause-plain
-sound_of-requires-clause-plain c =
+pub of-requires-clause-plain : goal.of-requires-clause-plain
+of-requires-clause-plain c =
     let F = c.args.forest.now.forest in
-    let made : c.in_ok-made.made ≡ split_cells F c.args.root c.args.place = c.in_ok-made.ensures ∙ ap (λ (z : Forest). split_cells z c.args.root c.args.place) c.forest-2.ensures in
-    let ranked : Every IsRanked F.autos = rw c.forest.ensures at c.ranked_components.ensures in
+    let made : c.in_ok-made.made ≡ split_cells F c.args.root c.args.place = c.in_ok-made.ensures ∙ ap
+    (λ (z : Forest). split_cells z c.args.root c.args.place) c.forest.ensures in
+    let ranked : Every IsRanked F.autos = c.known.ensures.ranked in
     subst (λ (z : Forest). Every HasNoBoxes z.autos) (sym made) (cells_plain c.args.forest.now.face F c.args.root c.args.place ranked c.requires.plain c.requires.can c.known.ensures.sound c.requires.may)
 
-pub sound_of-requires-clause-sound : goal.sound_of-requires-clause-sound
-sound_of-requires-clause-sound c =
+pub of-requires-clause-sound : goal.of-requires-clause-sound
+of-requires-clause-sound c =
     let F = c.args.forest.now.forest in
-    let made : c.in_ok-made.made ≡ split_cells F c.args.root c.args.place = c.in_ok-made.ensures ∙ ap (λ (z : Forest). split_cells z c.args.root c.args.place) c.forest-2.ensures in
-    let ranked : Every IsRanked F.autos = rw c.forest.ensures at c.ranked_components.ensures in
+    let made : c.in_ok-made.made ≡ split_cells F c.args.root c.args.place = c.in_ok-made.ensures ∙ ap
+    (λ (z : Forest). split_cells z c.args.root c.args.place) c.forest.ensures in
+    let ranked : Every IsRanked F.autos = c.known.ensures.ranked in
     rw c.face.ensures (subst (λ (z : Forest). IsSound c.args.forest.now.face z) (sym made) (cells_sound c.args.forest.now.face F c.args.root c.args.place ranked c.requires.plain c.requires.can c.known.ensures.sound c.requires.may))
 
 pub returns-clause-forest : goal.returns-clause-forest
 returns-clause-forest c =
     let F = c.args.forest.now.forest in
-    let made : c.in_ok-made.made ≡ split_cells F c.args.root c.args.place = c.in_ok-made.ensures ∙ ap (λ (z : Forest). split_cells z c.args.root c.args.place) c.forest-2.ensures in
-    IfOk-weaker c.sound_of.result (λ s. s.forest ≡ c.in_ok-made.made) (λ s. s.forest ≡ split_cells F c.args.root c.args.place) (λ s e. e ∙ made) c.sound_of.ensures.forest
+    let made : c.in_ok-made.made ≡ split_cells F c.args.root c.args.place = c.in_ok-made.ensures ∙ ap
+    (λ (z : Forest). split_cells z c.args.root c.args.place) c.forest.ensures in
+    IfOk-weaker c.of.result (λ s. s.forest ≡ c.in_ok-made.made)
+    (λ s. s.forest ≡ split_cells F c.args.root c.args.place) (λ s e. e ∙ made) c.of.ensures.forest
