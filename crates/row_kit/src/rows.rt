@@ -1,5 +1,7 @@
 // Files of rows, read and answered.
 
+ghost use Rattle.std.specs.Thread.{IsSync};
+
 use anyhow::{Context, Result};
 use std::alloc::{AllocGlobal, Global};
 use std::env::Env;
@@ -20,7 +22,8 @@ pub trait Answers {
         alloc: Global,
         head: &str,
         texts: &[&str],
-    ) -> Result<String>;
+    ) -> Result<String>
+        requires { IsSync R.row };
 }
 
 /// Answers each row of the files that the program's words name, and prints a line a row.
