@@ -1,11 +1,42 @@
 -- The verdicts, from what was explored.
-use Rattle.std.proofs.Common.{◌≡◌, ◌<◌, ◌≤◌, ◌+◌, ◌&&◌, ℕ, suc, zero, List, [], ◌∷◌, length, slice_index_or, Bool, true, false, not, Result, Ok, Err, IfOk, refl, sym, ap, ◌∙◌, subst, arith}
+use Rattle.std.proofs.Common.{
+  ◌≡◌,
+  ◌⊎◌,
+  inl,
+  inr,
+  ◌<◌,
+  ◌≤◌,
+  ◌+◌,
+  ◌&&◌,
+  ℕ,
+  suc,
+  zero,
+  List,
+  [],
+  ◌∷◌,
+  length,
+  slice_index_or,
+  Bool,
+  true,
+  false,
+  not,
+  Result,
+  Ok,
+  Err,
+  IfOk,
+  refl,
+  sym,
+  ap,
+  ◌∙◌,
+  subst,
+  arith,
+}
 use Rattle.std.specs.List.{list_all}
 use Rattle.std.proofs.lemmas.Option.{slice_get_within}
 use Rattle.fore_base.specs.declared.fault.Fault.{Fault as Kind}
 use Rattle.fore_base.specs.declared.shape.Shapes.{Shapes}
 use Rattle.fore_base.specs.declared.store.Store.{Store}
-use Rattle.fore_base.specs.Lists.{IsIn}
+use Rattle.fore_base.specs.Lists.{IsIn, Every}
 use Rattle.c_types.specs.declared.outcome.Outcome.{Outcome}
 use Rattle.c_types.specs.declared.outcome.Outcome.TheVariants.{Ended, Fault, Starved, BadChoice, StillRunning}
 use Rattle.c_types.specs.Program.{Program}
@@ -17,17 +48,29 @@ use Rattle.c_cfg.specs.Agreement.{Agrees, IsFaultAt}
 use Rattle.c_cfg.specs.Fans.{GoesBy}
 use Rattle.c_cfg.specs.GraphRuns.{out_of, at_location, ggo, grun}
 use Rattle.c_cfg.specs.Graphs.{ControlGraph}
+use Rattle.c_cfg.specs.Ranges.{IsEdgeOf}
 use Rattle.c_cfg.specs.declared.graph.Edge.{Edge}
 use Rattle.fix_engine.specs.declared.explored.AbsTrace.{AbsTrace}
 use Rattle.fix_engine.specs.declared.explored.Explored.{Explored}
 use Rattle.fix_engine.specs.declared.explored.Explored.TheVariants.{Closed, Faulty, Spent}
 use Rattle.fix_engine.specs.declared.nodes.Node.{Node}
+use Rattle.fix_engine.specs.declared.verdict.TheConstants.{REPLAY_STEPS}
 use Rattle.fix_engine.specs.declared.verdict.Verdict.{Verdict}
 use Rattle.fix_engine.specs.declared.verdict.Verdict.TheVariants.{Safe, Unsafe, FullBudget, LooseTrace}
 use Rattle.fix_engine.specs.Explorations.{is_head, IsClosed, Exploration, Full, AbstractTrace, IsExplored}
 use Rattle.fix_engine.specs.Follows.{IsMember}
-use Rattle.fix_engine.specs.Verdicts.{AreExact, SafeMeans, BudgetMeans, TraceMeans, IsVerdict, IsNeverLoose}
+use Rattle.fix_engine.specs.Verdicts.{
+  AreExact,
+  SafeMeans,
+  BudgetMeans,
+  TraceOf,
+  UnsafeMeans,
+  TraceMeans,
+  IsVerdict,
+  IsNeverLoose,
+}
 use Rattle.fix_engine.specs.inner.Judging.{IsReplayed}
+use Rattle.fix_engine.proofs.Choices.{trace_choices}
 use Rattle.fix_engine.proofs.Concrete.{RunsGoBy, trace_runs, all_exact}
 use Rattle.fix_engine.proofs.Safety.{runs_safe}
 use Rattle.fix_engine.proofs.TakenUp.{has_ways}
@@ -54,14 +97,19 @@ is_over : (o : Outcome) (kind : Kind) (line step : ℕ) → o ≡ Fault kind lin
 is_over o kind line step e = subst IsOver (sym e) tt
 
 -- where no location is a loop head, none is
-pub no_heads : (heads : List Bool) (location : ℕ) → list_all not heads ≡ true → slice_index_or heads location false ≡ false
+pub no_heads : (heads : List Bool) (location : ℕ) → list_all not heads ≡ true → slice_index_or heads location false
+    ≡ false
 no_heads [] location h = refl
 no_heads (true ∷ bs) location h = cc
 no_heads (false ∷ bs) zero h = refl
 no_heads (false ∷ bs) (suc location) h = no_heads bs location h
 
-pub runs_go_by : (T : Boxes) (g : ControlGraph) → g.shapes ≡ T.face.shapes → ((location : ℕ) (e : Edge) (s : Store) → IsIn e (out_of g.edges location) → GoesBy g.shapes.structs (out_of g.edges location) e s) → RunsGoBy T g
-runs_go_by T g same by_edge = λ location e s i. subst (λ (z : Shapes). GoesBy z.structs (out_of g.edges location) e s) same (by_edge location e s i)
+pub runs_go_by : (T : Boxes) (g : ControlGraph) → g.shapes ≡ T.face.shapes
+    → ((location : ℕ) (e : Edge) (s : Store) → IsIn e (out_of g.edges location)
+    → GoesBy g.shapes.structs (out_of g.edges location) e s) → RunsGoBy T g
+runs_go_by T g same by_edge =
+    λ location e s i. subst (λ (z : Shapes). GoesBy z.structs (out_of g.edges location) e s) same
+    (by_edge location e s i)
 
 module _ (T : Boxes) (p : Program) (g : ControlGraph) (agrees : Agrees p g) (shapes : g.shapes ≡ T.face.shapes) where
   pub never_faults : (nodes : List Node) → IsClosed T g nodes → (cs : List ℕ) (n : ℕ) → IsFault (run p cs n) → ⊥
@@ -71,60 +119,99 @@ module _ (T : Boxes) (p : Program) (g : ControlGraph) (agrees : Agrees p g) (sha
       runs_safe T g nodes closed shapes cs m.0 (is_fault (grun g cs m.0) f.kind f.line m.1.0 m.1.1)
 
   module _ (k : ℕ) where
-    pub safe_means : (budget : ℕ) (nodes : List Node) → IsExplored T g k budget (Closed nodes) → SafeMeans T p g k budget nodes
+    pub safe_means : (budget : ℕ) (nodes : List Node) → IsExplored T g k budget (Closed nodes)
+        → SafeMeans T p g k budget nodes
     safe_means budget nodes x = record { never = never_faults nodes x.1; explored = x.0; closed = x.1; within = x.2 }
 
     -- the graph's run on the choices of an exact trace
-    graph_faults : (nodes : List Node) (tr : AbsTrace) (s : Store) → RunsGoBy T g → Exploration T g k nodes → AbstractTrace T g nodes tr → IsMember T tr.last.forest s → AreExact T nodes tr.nodes
+    graph_faults : (nodes : List Node) (tr : AbsTrace) (s : Store) → RunsGoBy T g → Exploration T g k nodes
+        → AbstractTrace T g nodes tr → IsMember T tr.last.forest s → AreExact T nodes tr.nodes
         → grun g tr.choices tr.steps ≡ Fault tr.fault tr.line tr.steps
     unfolding grun
     graph_faults nodes tr s by_edge x a member exact =
-        subst (λ (z : Shapes). ggo z.structs g.edges (at_location g.edges) tr.steps 0 0 (empty_store g.ptrs g.datums) tr.choices 0 ≡ Fault tr.fault tr.line tr.steps) (sym shapes)
+        subst
+        (λ (z : Shapes). ggo z.structs g.edges (at_location g.edges) tr.steps 0 0 (empty_store g.ptrs g.datums)
+        tr.choices 0 ≡ Fault tr.fault tr.line tr.steps) (sym shapes)
         (trace_runs T g k nodes by_edge x tr s a member exact)
 
     -- the program's run on the choices of an exact trace meets a fault within its steps
-    exact_faults : (nodes : List Node) (tr : AbsTrace) (s : Store) → RunsGoBy T g → Exploration T g k nodes → AbstractTrace T g nodes tr → IsMember T tr.last.forest s → AreExact T nodes tr.nodes
+    exact_faults : (nodes : List Node) (tr : AbsTrace) (s : Store) → RunsGoBy T g → Exploration T g k nodes
+        → AbstractTrace T g nodes tr → IsMember T tr.last.forest s → AreExact T nodes tr.nodes
         → IsFaultAt tr.fault tr.line (run p tr.choices tr.steps)
     exact_faults nodes tr s by_edge x a member exact =
         let f = graph_faults nodes tr s by_edge x a member exact in
-        let n = (agrees.faults tr.choices tr.fault tr.line).back tr.steps (tr.steps, f) in
-        (n.2.0, run_stays_over p tr.choices n.0 tr.steps n.1 (is_over (run p tr.choices n.0) tr.fault tr.line n.2.0 n.2.1) ∙ n.2.1)
+        let n = (agrees.faults tr.choices tr.fault tr.line).back tr.steps (tr.steps, f) in (
+          n.2.0,
+          run_stays_over p tr.choices n.0 tr.steps n.1
+              (is_over (run p tr.choices n.0) tr.fault tr.line n.2.0 n.2.1) ∙ n.2.1,
+        )
 
-    trace_means : (budget : ℕ) (nodes : List Node) (tr : AbsTrace) (s : Store) → RunsGoBy T g → IsExplored T g k budget (Faulty nodes tr)
-        → (IsFault (run p tr.choices tr.steps) → ⊥) → IsMember T tr.last.forest s → TraceMeans T p g k nodes tr s
-    trace_means budget nodes tr s by_edge x none member = record {
-      explored = x.0;
-      trace = x.1;
-      no_fault = none;
-      member = member;
-      loose = λ exact.
-          let f = exact_faults nodes tr s by_edge x.0 x.1 member exact in
-          none (is_fault (run p tr.choices tr.steps) tr.fault tr.line f.0 f.1);
-    }
+    -- What is known of a trace that was found, and of the run that replays it for this many steps.
+    module _ (budget : ℕ) (nodes : List Node) (tr : AbsTrace) (by_edge : RunsGoBy T g)
+        (fit : Every (IsEdgeOf g) g.edges) (steps : ℕ)
+        (trace_steps : tr.steps ≤ steps) (more_steps : REPLAY_STEPS ≤ steps)
+        (x : IsExplored T g k budget (Faulty nodes tr)) where
+      trace_of : TraceOf T p g k budget nodes tr
+      trace_of =
+          record { explored = x.0; trace = x.1; within = x.2; choices = trace_choices T g k nodes tr fit x.0 x.1 }
 
-    -- what the replay of a trace says is the verdict
-    pub replayed : (budget : ℕ) (nodes : List Node) (tr : AbsTrace) (v : Verdict) → RunsGoBy T g → IsExplored T g k budget (Faulty nodes tr) → IsReplayed T p tr v → IsVerdict T p g k budget (Faulty nodes tr) v
-    replayed budget nodes tr Safe by_edge x r = r
-    replayed budget nodes tr (Unsafe kind line step) by_edge x r = (run_met_at p tr.choices tr.steps kind line step r).1
-    replayed budget nodes tr FullBudget by_edge x r = r
-    replayed budget nodes tr (LooseTrace sample) by_edge x r = trace_means budget nodes tr sample by_edge x r.0 r.1
+      no_fault : (IsFault (run p tr.choices steps) → ⊥) → (n : ℕ) → (n ≤ REPLAY_STEPS) ⊎ (n ≤ tr.steps)
+          → IsFault (run p tr.choices n) → ⊥
+      no_fault none n within fault =
+          let less : n ≤ steps = elim within [
+            | inl few ↦ omega (arith, few, more_steps)
+            | inr few ↦ omega (arith, few, trace_steps)
+          ] in
+          let f = parts (run p tr.choices n) fault in
+          let same : run p tr.choices steps ≡ run p tr.choices n =
+          run_stays_over p tr.choices n steps less (is_over (run p tr.choices n) f.kind f.line f.step f.is) in
+          none (is_fault (run p tr.choices steps) f.kind f.line f.step (same ∙ f.is))
 
-    -- without loop heads it is never loose
-    pub never_loose : (budget : ℕ) (nodes : List Node) (tr : AbsTrace) (v : Verdict) → ((location : ℕ) → is_head g location ≡ false) → RunsGoBy T g → IsExplored T g k budget (Faulty nodes tr) → IsReplayed T p tr v → IsNeverLoose v
-    never_loose budget nodes tr Safe no_head by_edge x r = tt
-    never_loose budget nodes tr (Unsafe kind line step) no_head by_edge x r = tt
-    never_loose budget nodes tr FullBudget no_head by_edge x r = tt
-    never_loose budget nodes tr (LooseTrace sample) no_head by_edge x r =
-        (trace_means budget nodes tr sample by_edge x r.0 r.1).loose (all_exact T g k nodes by_edge x.0 no_head tr.nodes)
+      trace_means : (s : Store) → (IsFault (run p tr.choices steps) → ⊥) → IsMember T tr.last.forest s
+          → TraceMeans T p g k budget nodes tr s
+      trace_means s none member = record {
+        of = trace_of;
+        no_fault = no_fault none;
+        member = member;
+        loose = λ exact.
+            let f = exact_faults nodes tr s by_edge x.0 x.1 member exact in
+            no_fault none tr.steps (inr (omega arith)) (is_fault (run p tr.choices tr.steps) tr.fault tr.line f.0 f.1);
+      }
 
-    pub if_replayed : {E : Type 0} (budget : ℕ) (nodes : List Node) (tr : AbsTrace) (r : Result Verdict E) → RunsGoBy T g → IsExplored T g k budget (Faulty nodes tr) → IfOk r (IsReplayed T p tr) → IfOk r (IsVerdict T p g k budget (Faulty nodes tr))
-    if_replayed budget nodes tr (Ok v) by_edge x h = replayed budget nodes tr v by_edge x h
-    if_replayed budget nodes tr (Err e) by_edge x h = tt
+      -- what the replay of a trace says is the verdict
+      replayed : (v : Verdict) → IsReplayed T p tr steps v → IsVerdict T p g k budget (Faulty nodes tr) v
+      replayed Safe r = r
+      replayed (Unsafe kind line step) r =
+          record { of = trace_of; meets = (run_met_at p tr.choices steps kind line step r).1 }
+      replayed FullBudget r = r
+      replayed (LooseTrace sample) r = trace_means sample r.0 r.1
 
-    pub if_never_loose : {E : Type 0} (budget : ℕ) (nodes : List Node) (tr : AbsTrace) (r : Result Verdict E) → ((location : ℕ) → is_head g location ≡ false) → RunsGoBy T g → IsExplored T g k budget (Faulty nodes tr) → IfOk r (IsReplayed T p tr) → IfOk r IsNeverLoose
-    if_never_loose budget nodes tr (Ok v) no_head by_edge x h = never_loose budget nodes tr v no_head by_edge x h
-    if_never_loose budget nodes tr (Err e) no_head by_edge x h = tt
+      -- without loop heads it is never loose
+      never_loose : (v : Verdict) → ((location : ℕ) → is_head g location ≡ false) → IsReplayed T p tr steps v
+          → IsNeverLoose v
+      never_loose Safe no_head r = tt
+      never_loose (Unsafe kind line step) no_head r = tt
+      never_loose FullBudget no_head r = tt
+      never_loose (LooseTrace sample) no_head r =
+          (trace_means sample r.0 r.1).loose (all_exact T g k nodes by_edge x.0 no_head tr.nodes)
+
+      pub if_replayed : {E : Type 0} (r : Result Verdict E) → IfOk r (IsReplayed T p tr steps)
+          → IfOk r (IsVerdict T p g k budget (Faulty nodes tr))
+      if_replayed (Ok v) h = replayed v h
+      if_replayed (Err e) h = tt
+
+      pub if_never_loose : {E : Type 0} (r : Result Verdict E) → ((location : ℕ) → is_head g location ≡ false)
+          → IfOk r (IsReplayed T p tr steps) → IfOk r IsNeverLoose
+      if_never_loose (Ok v) no_head h = never_loose v no_head h
+      if_never_loose (Err e) no_head h = tt
 
     -- a trace has no more steps than there are nodes
-    pub trace_short : (nodes : List Node) (tr : AbsTrace) → Exploration T g k nodes → AbstractTrace T g nodes tr → tr.steps ≤ length nodes
-    trace_short nodes tr x a = omega (arith, a.steps, way_short nodes a.at tr.nodes a.choices (has_ways T g k nodes x) a.way, slice_get_within nodes a.at a.node a.is)
+    pub trace_short : (nodes : List Node) (tr : AbsTrace) → Exploration T g k nodes → AbstractTrace T g nodes tr
+        → tr.steps ≤ length nodes
+    trace_short nodes tr x a =
+        omega (
+          arith,
+          a.steps,
+          way_short nodes a.at tr.nodes a.choices (has_ways T g k nodes x) a.way,
+          slice_get_within nodes a.at a.node a.is,
+        )

@@ -1,4 +1,5 @@
 pub mod Arriving
+pub mod Choices
 pub mod Concrete
 pub mod Covering
 pub mod LocationEdges

@@ -1,9 +1,10 @@
 -- Worked values of the words on explorations, each made by hand from what the word says.
-use Rattle.std.proofs.Common.{◌≡◌, inl, inr, ℕ, zero, suc, ◌++◌, List, [], ◌∷◌, length, true, false, Option, Some, None, refl, sym, ◌∙◌, ap, subst, arith, lit<, lit≤, length-append}
+use Rattle.std.proofs.Common.{◌≡◌, ◌<◌, inl, inr, ℕ, zero, suc, ◌++◌, List, [], ◌∷◌, length, true, false, Option, Some, None, refl, sym, ◌∙◌, ap, subst, arith, lit<, lit≤, length-append}
 use Rattle.std.proofs.lemmas.Option.{none-some, same_Some}
 use Rattle.fore_base.specs.declared.fault.Fault.TheVariants.{Leak}
 use Rattle.fore_base.specs.declared.store.Store.{Store}
-use Rattle.fore_base.specs.Lists.{IsIn}
+use Rattle.fore_base.specs.Lists.{IsIn, Every}
+use Rattle.c_types.specs.Over.{IsFault}
 use Rattle.c_types.specs.Program.{Program}
 use Rattle.c_types.specs.Runs.{run}
 use Rattle.c_types.specs.declared.outcome.Outcome.TheVariants.{StillRunning, Fault}
@@ -25,7 +26,7 @@ use Rattle.fix_engine.specs.Explorations.{is_head, NoLater, IsWay, begins, goes,
 use Rattle.fix_engine.specs.Follows.{OutputUpTo, IsUpTo, IsMember, FoldsTo, IsStateAt}
 use Rattle.fix_engine.specs.Listed.{numbers_at, AreListed, MoreListed}
 use Rattle.fix_engine.specs.States.{AbstractState, forest_of, IsOver}
-use Rattle.fix_engine.specs.Verdicts.{IsExact, AreExact, IsVerdict, IsNeverLoose}
+use Rattle.fix_engine.specs.Verdicts.{IsExact, AreExact, TraceOf, IsVerdict, IsNeverLoose}
 use Rattle.fix_engine.specs.declared.explored.AbsTrace.{AbsTrace}
 use Rattle.fix_engine.specs.declared.explored.Explored.TheVariants.{Closed, Faulty, Spent}
 use Rattle.fix_engine.specs.declared.nodes.Node.{Node}
@@ -321,15 +322,30 @@ module _ (T : Boxes) (p : Program) (k budget : ℕ) (tr : AbsTrace) (s : Store) 
   faulty_is_not_spent : IsVerdict T p graph k budget (Faulty nodes tr) FullBudget → ⊥
   faulty_is_not_spent h = h
 
-  -- the fault is that of the program's run, in the line and step that are told
-  unsafe_by_the_run : run p tr.choices 2 ≡ Fault Leak 7 2 → IsVerdict T p graph k budget (Faulty nodes tr) (Unsafe Leak 7 2)
-  unsafe_by_the_run e = e
+  -- the fault is that of the program's run on the trace's choices, in the line and step that are told
+  unsafe_by_the_run : TraceOf T p graph k budget nodes tr → run p tr.choices 2 ≡ Fault Leak 7 2 → IsVerdict T p graph k budget (Faulty nodes tr) (Unsafe Leak 7 2)
+  unsafe_by_the_run of e = record { of = of; meets = e }
 
   unsafe_in_another_line : run p tr.choices 2 ≡ Fault Leak 7 2 → IsVerdict T p graph k budget (Faulty nodes tr) (Unsafe Leak 8 2) → ⊥
-  unsafe_in_another_line e h = let lines : (a b : ℕ) → Fault Leak a 2 ≡ Fault Leak b 2 → a ≡ b = λ a b f. cc in omega (arith, lines 7 8 (sym e ∙ h))
+  unsafe_in_another_line e h = let lines : (a b : ℕ) → Fault Leak a 2 ≡ Fault Leak b 2 → a ≡ b = λ a b f. cc in omega (arith, lines 7 8 (sym e ∙ h.meets))
 
   unsafe_past_the_step : run p tr.choices 3 ≡ StillRunning → IsVerdict T p graph k budget (Faulty nodes tr) (Unsafe Leak 7 3) → ⊥
-  unsafe_past_the_step e h = cc
+  unsafe_past_the_step e h = let met = h.meets in cc
+
+  -- no trace of more nodes than the budget
+  unsafe_above_the_budget : budget < length nodes → IsVerdict T p graph k budget (Faulty nodes tr) (Unsafe Leak 7 2) → ⊥
+  unsafe_above_the_budget less h = omega (arith, less, h.of.within)
+
+  -- a choice that is neither 0 nor 1
+  unsafe_on_another_choice : tr.choices ≡ 2 ∷ [] → IsVerdict T p graph k budget (Faulty nodes tr) (Unsafe Leak 7 2) → ⊥
+  unsafe_on_another_choice e h = omega (arith, (subst (Every (λ x. x < 2)) e h.of.choices).0)
+
+  -- the run may meet its fault after the trace's last step, at the last step that is replayed; one step later it is not looked for
+  loose_to_the_last_step : run p tr.choices 1000000 ≡ Fault Leak 7 1000000 → IsVerdict T p graph k budget (Faulty nodes tr) (LooseTrace s) → ⊥
+  loose_to_the_last_step e h = h.no_fault 1000000 (inl (omega arith)) (subst IsFault (sym e) tt)
+
+  loose_in_its_steps : tr.steps ≡ 3 → run p tr.choices 3 ≡ Fault Leak 7 2 → IsVerdict T p graph k budget (Faulty nodes tr) (LooseTrace s) → ⊥
+  loose_in_its_steps steps e h = h.no_fault 3 (inr (omega (arith, steps))) (subst IsFault (sym e) tt)
 
   spent_is_not_safe : IsVerdict T p graph k budget (Spent nodes) Safe → ⊥
   spent_is_not_safe h = h

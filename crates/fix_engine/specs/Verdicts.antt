@@ -1,7 +1,8 @@
 -- What the verdicts say of a program.
-use Rattle.std.specs.Prelude.{◌≡◌, ◌<◌, ◌≤◌, ℕ, List, length, Some}
+use Rattle.std.specs.Prelude.{◌≡◌, ◌⊎◌, ◌<◌, ◌≤◌, ℕ, List, length, Some}
+use Rattle.fore_base.specs.declared.fault.Fault.{Fault as Kind}
 use Rattle.fore_base.specs.declared.store.Store.{Store}
-use Rattle.fore_base.specs.Lists.{IsIn}
+use Rattle.fore_base.specs.Lists.{IsIn, Every}
 use Rattle.c_types.specs.declared.outcome.Outcome.TheVariants.{Fault}
 use Rattle.c_types.specs.Over.{IsFault}
 use Rattle.c_types.specs.Program.{Program}
@@ -13,6 +14,7 @@ use Rattle.fix_engine.specs.declared.explored.AbsTrace.{AbsTrace}
 use Rattle.fix_engine.specs.declared.explored.Explored.{Explored}
 use Rattle.fix_engine.specs.declared.explored.Explored.TheVariants.{Closed, Faulty, Spent}
 use Rattle.fix_engine.specs.declared.nodes.Node.{Node}
+use Rattle.fix_engine.specs.declared.verdict.TheConstants.{REPLAY_STEPS}
 use Rattle.fix_engine.specs.declared.verdict.Verdict.{Verdict}
 use Rattle.fix_engine.specs.declared.verdict.Verdict.TheVariants.{Safe, Unsafe, FullBudget, LooseTrace}
 use Rattle.fix_engine.specs.Explorations.{IsNode, IsClosed, Exploration, Full, AbstractTrace}
@@ -21,7 +23,8 @@ use Rattle.fix_engine.specs.Follows.{IsMember}
 module _ (T : Boxes) where
   -- each member of the node of number j was one before it was folded and abstracted
   abbrev pub IsExact : List Node → ℕ → Type 0
-  IsExact nodes j = (n : Node) (M : Forest) → IsNode nodes j n → n.state.middle ≡ Some M → (s : Store) → IsMember T n.state.forest s → IsMember T M s
+  IsExact nodes j = (n : Node) (M : Forest) → IsNode nodes j n → n.state.middle ≡ Some M → (s : Store)
+      → IsMember T n.state.forest s → IsMember T M s
 
   -- no node of the way but node 0 gained members
   abbrev pub AreExact : List Node → List ℕ → Type 0
@@ -40,29 +43,34 @@ module _ (T : Boxes) where
       pub explored : Exploration T g k nodes
       pub full : Full T g k nodes budget
 
-    -- An abstract trace on whose choices the program meets no fault in as many steps, with a member of its last forest: not all of its nodes kept to
-    -- the members that they had before they were folded and abstracted.
-    pub record TraceMeans (nodes : List Node) (tr : AbsTrace) (sample : Store) : Type 0 where
+    -- An abstract trace of an exploration of at most the budget of nodes. Each of its choices is 0 or 1.
+    pub record TraceOf (budget : ℕ) (nodes : List Node) (tr : AbsTrace) : Type 0 where
       pub explored : Exploration T g k nodes
       pub trace : AbstractTrace T g nodes tr
-      pub no_fault : IsFault (run p tr.choices tr.steps) → ⊥
+      pub within : length nodes ≤ budget
+      pub choices : Every (λ x. x < 2) tr.choices
+
+    -- The program's run on the choices of an abstract trace meets this fault, of this line, in this step.
+    pub record UnsafeMeans (budget : ℕ) (nodes : List Node) (tr : AbsTrace) (kind : Kind) (line step : ℕ) : Type 0 where
+      pub of : TraceOf budget nodes tr
+      pub meets : run p tr.choices step ≡ Fault kind line step
+
+    -- An abstract trace on whose choices the program meets no fault in up to REPLAY_STEPS steps, nor in as many as
+    -- the trace has; with a member of its last forest. Not all of its nodes kept to the members that they had
+    -- before they were folded and abstracted.
+    pub record TraceMeans (budget : ℕ) (nodes : List Node) (tr : AbsTrace) (sample : Store) : Type 0 where
+      pub of : TraceOf budget nodes tr
+      pub no_fault : (n : ℕ) → (n ≤ REPLAY_STEPS) ⊎ (n ≤ tr.steps) → IsFault (run p tr.choices n) → ⊥
       pub member : IsMember T tr.last.forest sample
       pub loose : AreExact nodes tr.nodes → ⊥
 
     -- the verdict is right for what was found
     abbrev pub IsVerdict : ℕ → Explored → Verdict → Type 0
     IsVerdict budget (Closed nodes) Safe = SafeMeans budget nodes
-    IsVerdict budget (Closed nodes) (Unsafe kind line step) = ⊥
-    IsVerdict budget (Closed nodes) FullBudget = ⊥
-    IsVerdict budget (Closed nodes) (LooseTrace sample) = ⊥
-    IsVerdict budget (Faulty nodes tr) Safe = ⊥
-    IsVerdict budget (Faulty nodes tr) (Unsafe kind line step) = run p tr.choices step ≡ Fault kind line step
-    IsVerdict budget (Faulty nodes tr) FullBudget = ⊥
-    IsVerdict budget (Faulty nodes tr) (LooseTrace sample) = TraceMeans nodes tr sample
-    IsVerdict budget (Spent nodes) Safe = ⊥
-    IsVerdict budget (Spent nodes) (Unsafe kind line step) = ⊥
+    IsVerdict budget (Faulty nodes tr) (Unsafe kind line step) = UnsafeMeans budget nodes tr kind line step
+    IsVerdict budget (Faulty nodes tr) (LooseTrace sample) = TraceMeans budget nodes tr sample
     IsVerdict budget (Spent nodes) FullBudget = BudgetMeans budget nodes
-    IsVerdict budget (Spent nodes) (LooseTrace sample) = ⊥
+    IsVerdict budget _ _ = ⊥
 
 -- the verdict is no loose trace
 abbrev pub IsNeverLoose : Verdict → Type 0

@@ -1,34 +1,19 @@
-//! Forester: from the words of the command line and the bytes of a C file to the report and the status.
+//! Forester: verifies and runs C programs.
 //!
-//! `top::forester` does all that the program does, over any shelf and any two sinks, and its contract is what is proved of the program. It reads the
-//! words (`words`), judges the file that they name (`judge`, with the reports of `report`), and delivers the answer (`deliver`, with `texts`). `main` makes the real shelf and sinks, and calls it.
+//! `fore_call` does all of it, and what is proved of the program is the contract of its top call. `main` makes the
+//! real shelf and the real sinks, and calls it.
 #![tactic(auto)]
-
-mod answer;
-#[cfg(test)]
-mod calls;
-mod deliver;
-#[cfg(test)]
-mod file_tests;
-mod judge;
-#[cfg(test)]
-mod loop_tests;
-mod report;
-mod texts;
-pub mod top;
-#[cfg(test)]
-mod word_tests;
-mod words;
 
 use fore_base::file_shelf::FileShelf;
 use fore_base::stream_sink::StreamSink;
+use fore_call::forester;
+use fore_call::status::{NO_MEMORY, USAGE};
 use par_kit::gate::NoGate;
 use std::alloc::{AllocGlobal, Global};
 use std::env;
 use std::env::Env;
 use std::io::ErrorKind;
 use std::process::ExitCode;
-use top::forester;
 
 fn main(rt: HostRuntime) -> ExitCode {
     let alloc = rt.alloc();
@@ -51,7 +36,8 @@ fn main(rt: HostRuntime) -> ExitCode {
     ExitCode::from(status)
 }
 
-/// The words after the program's name, or the status of a program that cannot read them: 2 where one is not UTF-8, 7 for want of memory.
+/// The words after the program's name, or the status of a program that cannot read them: `USAGE` where one is not
+/// UTF-8, `NO_MEMORY` for want of memory.
 fn words_of<R: Env + AllocGlobal>(rt: &R, alloc: Global) -> Result<Vec<String>, u8> {
     let args = match env::args(rt) {
         Ok(args) => args,
@@ -60,7 +46,7 @@ fn words_of<R: Env + AllocGlobal>(rt: &R, alloc: Global) -> Result<Vec<String>, 
     let mut words = Vec::new(alloc);
     for word in args.skip(1) {
         if words.push(word).is_err() {
-            return Err(7);
+            return Err(NO_MEMORY);
         }
     }
     Ok(words)
@@ -68,7 +54,7 @@ fn words_of<R: Env + AllocGlobal>(rt: &R, alloc: Global) -> Result<Vec<String>, 
 
 fn status_of(kind: ErrorKind) -> u8 {
     match kind {
-        ErrorKind::OutOfMemory => 7,
-        _ => 2,
+        ErrorKind::OutOfMemory => NO_MEMORY,
+        _ => USAGE,
     }
 }

@@ -1,5 +1,5 @@
 -- What the replay of a trace says.
-use Rattle.std.specs.Prelude.{◌≡◌}
+use Rattle.std.specs.Prelude.{◌≡◌, ℕ}
 use Rattle.c_types.specs.declared.outcome.Outcome.TheVariants.{Fault}
 use Rattle.c_types.specs.Over.{IsFault}
 use Rattle.c_types.specs.Program.{Program}
@@ -10,9 +10,9 @@ use Rattle.fix_engine.specs.declared.verdict.Verdict.{Verdict}
 use Rattle.fix_engine.specs.declared.verdict.Verdict.TheVariants.{Safe, Unsafe, FullBudget, LooseTrace}
 use Rattle.fix_engine.specs.Follows.{IsMember}
 
--- the run on the trace's choices meets this fault; or it meets none, and the store is a member of the trace's last forest
-abbrev pub IsReplayed : Boxes → Program → AbsTrace → Verdict → Type 0
-IsReplayed T p tr Safe = ⊥
-IsReplayed T p tr (Unsafe kind line step) = run p tr.choices tr.steps ≡ Fault kind line step
-IsReplayed T p tr FullBudget = ⊥
-IsReplayed T p tr (LooseTrace sample) = (IsFault (run p tr.choices tr.steps) → ⊥) × IsMember T tr.last.forest sample
+-- the run of this many steps on the trace's choices meets this fault; or it meets none, and the store is a member of
+-- the trace's last forest
+abbrev pub IsReplayed : Boxes → Program → AbsTrace → ℕ → Verdict → Type 0
+IsReplayed T p tr n (Unsafe kind line step) = run p tr.choices n ≡ Fault kind line step
+IsReplayed T p tr n (LooseTrace sample) = (IsFault (run p tr.choices n) → ⊥) × IsMember T tr.last.forest sample
+IsReplayed T p tr n _ = ⊥
