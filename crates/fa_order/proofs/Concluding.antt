@@ -18,7 +18,8 @@ use Rattle.fa_core.specs.declared.faces.Face.{Face}
 use Rattle.fa_core.specs.declared.forest.Forest.{Forest}
 use Rattle.fa_core.proofs.Dressing.{dress_all, boxless_have_insides, choice_of}
 use Rattle.fa_core.proofs.Placing.{placed_ranked}
-use Rattle.fa_merge.specs.Reordered.{component_at, IsOrderOf, place_of, renumber, reordered}
+use Rattle.fa_merge.specs.Reordered.{IsOrderOf, place_of, renumber, reordered}
+use Rattle.fa_sound.specs.Components.{component_at}
 use Rattle.fa_merge.specs.inner.Orders.{IsOrder}
 use Rattle.fa_merge.proofs.MergedAnywhere.{an_order}
 use Rattle.fa_merge.proofs.Named.{choice_long}

@@ -11,7 +11,7 @@ use Rattle.fa_core.specs.Ways.{ways}
 use Rattle.fa_core.specs.declared.faces.BoxFace.{BoxFace}
 use Rattle.fa_core.specs.declared.forest.Target.{Target}
 use Rattle.fa_core.proofs.PlainWays.{IsPlainWay, run_plain}
-use Rattle.fa_merge.specs.Reordered.{component_at}
+use Rattle.fa_sound.specs.Components.{component_at}
 use Rattle.fa_merge.proofs.LoneFound.{choice_component}
 use Rattle.fa_merge.proofs.PlacedForests.{component_has}
 

@@ -8,7 +8,7 @@ use Rattle.fa_core.specs.Ways.{Way, ways, ways_at, roots_met, mark, signature}
 use Rattle.fa_core.specs.declared.signature.RefMark.{RefMark}
 use Rattle.fa_core.proofs.WaysOf.{rolled_ways}
 use Rattle.fa_order.specs.Outlines.{Stub, leaf, cell, outline, stub, stub_by}
-use Rattle.fa_order.specs.Placing.{Placing, all_placed, is_placed, place_now}
+use Rattle.fa_core.specs.Folding.{Placing, all_placed, is_placed, place_now}
 use Rattle.fa_order.proofs.Visits.{one_order}
 
 -- The walk. Root 0 refers to 1 and 2, root 1 to 3, root 3 to 0, and root 4 to itself.

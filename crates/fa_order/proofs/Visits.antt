@@ -14,7 +14,7 @@ use Rattle.fa_merge.specs.Merged.{others}
 use Rattle.fa_merge.specs.Reordered.{counted, place_from, place_of}
 use Rattle.fa_merge.proofs.MergedAnywhere.{in_counted, push_last, others_last, others_in}
 use Rattle.fa_merge.proofs.OtherOrders.{counted_differ, counted_below, counted_length}
-use Rattle.fa_order.specs.Placing.{Placing, all_placed, is_placed, place_now}
+use Rattle.fa_core.specs.Folding.{Placing, all_placed, is_placed, place_now}
 
 module _ (refers : ℕ → List ℕ) where
   -- what is placed stands first

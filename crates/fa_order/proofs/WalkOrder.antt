@@ -19,13 +19,15 @@ use Rattle.fa_core.specs.declared.forest.Forest.{Forest}
 use Rattle.fa_core.specs.declared.forest.Target.{Target}
 use Rattle.fa_core.specs.declared.forest.Target.TheVariants.{Null, Uninit, Dangling, At}
 use Rattle.fa_merge.specs.Reached.{RootReached, by_var, by_tree, by_way, AreAllReached, NeverLeaks}
-use Rattle.fa_merge.specs.Reordered.{counted, component_at, IsOrderOf, place_of, renumber, reordered}
+use Rattle.fa_merge.specs.Reordered.{counted, IsOrderOf, place_of, renumber, reordered}
+use Rattle.fa_sound.specs.Components.{component_at}
 use Rattle.fa_merge.proofs.Hopping.{in_once, once_in, in_var_roots, var_roots_in}
 use Rattle.fa_merge.proofs.LeaksDecided.{some_choice, roots_decided, unreached_leaks}
 use Rattle.fa_merge.proofs.Members.{not_both}
 use Rattle.fa_merge.proofs.Named.{choice_long, refers_below, var_below}
 use Rattle.fa_merge.proofs.OtherOrders.{counted_later}
-use Rattle.fa_order.specs.Placing.{Placing, IsWalkOrder}
+use Rattle.fa_order.specs.Placing.{IsWalkOrder}
+use Rattle.fa_core.specs.Folding.{Placing}
 use Rattle.fa_order.specs.inner.Stacks.{AreRefsOf, nth_refs}
 use Rattle.fa_order.proofs.NoWays.{never_back, never_goes_on}
 use Rattle.fa_order.proofs.Visits.{same_placing, todo_placed, placed_closed, one_order, walk_is_order, walks_placed, placed_walks, place_counted}

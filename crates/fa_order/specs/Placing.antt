@@ -1,17 +1,11 @@
 -- The walk that places the roots, and forests with their roots in its order.
-use Rattle.std.specs.Prelude.{◌≡◌, ℕ, List, [], ◌∷◌, ◌++◌}
-use Rattle.fore_base.specs.Lists.{IsIn}
+use Rattle.std.specs.Prelude.{◌≡◌, ℕ, List, []}
 use Rattle.ta_core.specs.declared.tree.Tree.{Tree}
 use Rattle.fa_core.specs.Canonical.{refs_at, var_roots}
 use Rattle.fa_core.specs.Filled.{Choice}
+use Rattle.fa_core.specs.Folding.{Placing}
 use Rattle.fa_core.specs.declared.forest.Forest.{Forest}
 use Rattle.fa_merge.specs.Reordered.{IsOrderOf, reordered}
-
--- where the roots of `placed` are placed, in their order, and `todo` is to be visited, the walk ends with `order`: each root is placed at its first visit, and then the roots to which it refers are visited
-pub data Placing (refers : ℕ → List ℕ) : List ℕ → List ℕ → List ℕ → Type 0 where
-  all_placed : {order : List ℕ} → Placing refers [] order order
-  is_placed : {r : ℕ} {todo placed order : List ℕ} → IsIn r placed → Placing refers todo placed order → Placing refers (r ∷ todo) placed order
-  place_now : {r : ℕ} {todo placed order : List ℕ} → (IsIn r placed → ⊥) → Placing refers (refers r ++ todo) (placed ++ r ∷ []) order → Placing refers (r ∷ todo) placed order
 
 -- the roots in the order of the walk from the variables, whichever trees are taken
 abbrev pub IsWalkOrder : Forest → List ℕ → Type 0

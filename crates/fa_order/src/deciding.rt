@@ -10,12 +10,12 @@ ghost use Rattle.fa_merge.specs.inner.Counted.{mark_count, marks_count};
 ghost use Rattle.fa_order.specs.Kinds.{HasRootKinds};
 ghost use Rattle.fa_order.specs.inner.Deciding.{any_cell, any_leaf, any_ties, knot_by, rise_from, root_by, roots_by, rules_of, shared_by, ties, times_shown};
 
-use crate::referring::{count_roots, is_marked_root, var_roots};
+use crate::referring::{is_marked_root, var_roots};
 use crate::roots::walk_order;
 use crate::showing::{Shown, shown_roots};
 use crate::walking::is_in;
 use fa_core::signature::{Below, RefMark};
-use fa_sound::Sound;
+use fa_sound::{Sound, count_roots};
 use fore_base::memory::Mem;
 use std::alloc::Global;
 use ta_core::auto::{Auto, Rule};
@@ -30,7 +30,7 @@ pub fn is_canonical(alloc: Global, forest: &Sound) -> Mem<bool>
     if !is_rooted {
         return Ok(false);
     }
-    let count = count_roots(forest)?;
+    let count = count_roots(forest.forest())?;
     let order = walk_order(alloc, forest)?;
     Ok(is_counted(order.as_slice(), count))
 }
@@ -44,7 +44,7 @@ pub fn has_root_kinds(alloc: Global, forest: &Sound) -> Mem<bool>
     if !have_one_top(forest.forest().autos.as_slice()) {
         return Ok(false);
     }
-    let count = count_roots(forest)?;
+    let count = count_roots(forest.forest())?;
     let shown = shown_roots(alloc, forest, count)?;
     let vars = var_roots(alloc, forest.forest().vars.as_slice())?;
     Ok(are_roots(vars.as_slice(), shown.as_slice()))

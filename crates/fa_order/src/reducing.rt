@@ -3,14 +3,12 @@
 ghost use Rattle.std.specs.Prelude.{◌≡◌, IfOk};
 ghost use Rattle.fore_base.specs.Lists.{Every, Paired};
 ghost use Rattle.par_kit.specs.Crews.{IsJobs};
+ghost use Rattle.ta_core.specs.Auto.{IsRanked};
 ghost use Rattle.fa_core.specs.Boxless.{HasNoBoxes};
 ghost use Rattle.fa_core.specs.Canonical.{IsCanonical};
 ghost use Rattle.fa_core.specs.Covering.{Covers, Reduced};
-ghost use Rattle.fa_core.specs.Filled.{IsSound};
 ghost use Rattle.fa_order.specs.inner.Reduced.{IsReduction};
 
-use crate::referring::ranked_components;
-use fa_core::faces::Face;
 use fa_core::forest::Forest;
 use fa_sound::Sound;
 use fore_base::list::{Copies, List};
@@ -47,8 +45,7 @@ pub fn reduce_forest<R: Threads + Sync, G: Gate>(
         vars,
         data_vars,
     };
-    ranked_components(&made);
-    sound_of(alloc, &made, forest.face())
+    Sound::of(alloc, made, forest.face())
 }
 
 fn reduced_autos<R: Threads + Sync, G: Gate>(
@@ -58,11 +55,13 @@ fn reduced_autos<R: Threads + Sync, G: Gate>(
     crew: &Crew<'_, G>,
 ) -> Mem<List<Auto>>
     requires { IsJobs crew.now.jobs }
-    ensures { IfOk result (λ made. Paired IsReduction autos.now made) }
+    ensures reductions { IfOk result (λ made. Paired IsReduction autos.now made) }
+    ensures ranked { IfOk result (λ made. Every IsRanked made) }
 {
     let mut made = List::new(alloc);
     for auto in autos {
         let reduced = reduced_auto(rt, alloc, auto, crew)?;
+        reduced.known();
         made.push(reduced)?;
     }
     Ok(made)
@@ -78,17 +77,4 @@ fn reduced_auto<R: Threads + Sync, G: Gate>(
     ensures { IfOk result (IsReduction auto.now) }
 {
     reduce(rt, alloc, auto, crew)
-}
-
-/// The forest, with its signatures.
-fn sound_of(alloc: Global, forest: &Forest, face: &Face) -> Mem<Sound>
-    requires plain { Every HasNoBoxes forest.now.autos }
-    requires sound { IsSound face.now forest.now }
-    ensures forest { IfOk result (λ made. made.forest ≡ forest.now) }
-    ensures face { IfOk result (λ made. made.face ≡ face.now) }
-{
-    match Sound::make(alloc, forest, face)? {
-        Some(made) => Ok(made),
-        None => unreachable!(),
-    }
 }

@@ -1,20 +1,20 @@
 // The roots to which the trees of each root refer.
 
-ghost use Rattle.std.specs.Prelude.{◌≡◌, ◌<◌, ◌^◌, ◌++◌, ◌∷◌, [], length, Some, slice_get, IfOk, OnOk};
+ghost use Rattle.std.specs.Prelude.{◌≡◌, ◌<◌, ◌++◌, ◌∷◌, [], length, Some, slice_get, IfOk, OnOk};
 ghost use Rattle.fore_base.specs.Lists.{Every, Paired};
-ghost use Rattle.ta_core.specs.Auto.{Automaton, IsRanked};
+ghost use Rattle.ta_core.specs.Auto.{Automaton};
 ghost use Rattle.ta_core.specs.Single.{HasOneTop};
 ghost use Rattle.fa_core.specs.Canonical.{var_roots};
 ghost use Rattle.fa_core.specs.Cells.{roots_in};
 ghost use Rattle.fa_core.specs.Ways.{has};
 ghost use Rattle.fa_order.specs.inner.Stacks.{AreRefsOf};
 
-use fa_core::forest::{Forest, Target};
+use fa_core::forest::Target;
 use fa_core::signature::RefMark;
-use fa_sound::Sound;
+use fa_sound::{Sound, count_roots};
 use fore_base::list::{Copies, List};
 use fore_base::memory::Mem;
-use std::alloc::{AllocError, Global};
+use std::alloc::Global;
 use ta_core::auto::Auto;
 
 /// The roots to which the trees of each root refer, in the order of first visit.
@@ -22,25 +22,13 @@ pub fn references(alloc: Global, forest: &Sound) -> Mem<List<List<u32>>>
     requires { Every HasOneTop forest.now.forest.autos }
     ensures { IfOk result (λ all. Paired AreRefsOf forest.now.forest.autos all) }
 {
-    let count = count_roots(forest)?;
+    let count = count_roots(forest.forest())?;
     let mut all = List::new(alloc);
     for root in 0..count {
         let references = root_references(alloc, forest, root)?;
         all.push(references)?;
     }
     Ok(all)
-}
-
-/// How many roots the forest has. Where the number does not fit 32 bits the answer is want of memory.
-pub fn count_roots(forest: &Sound) -> Mem<u32>
-    ensures value { IfOk result (λ count. count ≡ length forest.now.forest.autos) }
-    ensures few { IfOk result (λ count. count < 2 ^ 32) }
-{
-    let count = forest.forest().autos.len();
-    if count > u32::MAX as usize {
-        return Err(AllocError);
-    }
-    Ok(count as u32)
 }
 
 /// The roots to which the trees of the root refer.
@@ -104,19 +92,4 @@ fn push_root(roots: &mut List<u32>, target: Target) -> Mem<()>
         roots.push(root)?;
     }
     Ok(())
-}
-
-/// Does nothing, and says that each component keeps its ranges.
-pub fn ranked_components(forest: &Forest)
-    ensures { Every IsRanked forest.now.autos }
-{
-    ranked_autos(forest.autos.as_slice());
-}
-
-fn ranked_autos(autos: &[Auto])
-    ensures { Every IsRanked autos.now }
-{
-    for auto in autos {
-        auto.known();
-    }
 }

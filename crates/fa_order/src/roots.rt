@@ -12,7 +12,7 @@ ghost use Rattle.fa_merge.specs.Reordered.{IsOrderOf};
 ghost use Rattle.fa_order.specs.Kinds.{HasRootKinds};
 ghost use Rattle.fa_order.specs.Placing.{IsPlaced, IsWalkOrder};
 
-use crate::referring::{ranked_components, references, var_roots};
+use crate::referring::{references, var_roots};
 use crate::walking::walk;
 use fa_merge::reorder;
 use fa_sound::Sound;
@@ -36,7 +36,6 @@ pub fn place_roots(alloc: Global, forest: &Sound) -> Mem<Sound>
     ensures same { IfOk result (λ made. IsCanonical forest.now.face forest.now.forest → made.forest ≡ forest.now.forest) }
 {
     forest.known();
-    ranked_components(forest.forest());
     let order = walk_order(alloc, forest)?;
     reorder(alloc, forest, order.as_slice())
 }

@@ -4,7 +4,7 @@ ghost use Rattle.std.specs.Prelude.{◌≡◌, ◌<◌, ◌++◌, ◌∷◌, [],
 ghost use Rattle.fore_base.specs.Lists.{Every};
 ghost use Rattle.fa_core.specs.References.{AllBelow};
 ghost use Rattle.fa_core.specs.Ways.{has};
-ghost use Rattle.fa_order.specs.Placing.{Placing};
+ghost use Rattle.fa_core.specs.Folding.{Placing};
 ghost use Rattle.fa_order.specs.inner.Stacks.{behind, nth_refs, weight};
 
 use fore_base::list::{Copies, List};

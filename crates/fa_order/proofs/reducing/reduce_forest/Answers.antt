@@ -14,79 +14,96 @@ use Rattle.fa_order.proofs.BothOk.{both_ok}
 use Rattle.fa_order.proofs.Reduced.{G, covers_first, first_covers, is_reduced, plain_made, sound_made, canonical_made}
 use Rattle.fa_order.proofs.reducing.reduce_forest.Goals as goal
 
-pub sound_of-requires-clause-plain : goal.sound_of-requires-clause-plain
-sound_of-requires-clause-plain g c =
+pub of-requires-clause-plain : goal.of-requires-clause-plain
+of-requires-clause-plain g c =
     let F = c.args.forest.now.forest in
     let face = c.args.forest.now.face in
-    let h : Paired IsReduction F.autos c.in_ok-autos.autos = rw (c.as_slice.ensures, c.forest.ensures) at c.in_ok-autos.ensures in
-    plain_made face F c.in_ok-autos.autos h c.ranked_components.ensures c.requires.plain
+    let h : Paired IsReduction F.autos c.in_ok-autos.autos = rw (c.as_slice.ensures, c.forest.ensures) at
+    c.in_ok-autos.ensures.reductions in
+    plain_made face F c.in_ok-autos.autos h c.in_ok-autos.ensures.ranked c.requires.plain
 
-pub sound_of-requires-clause-sound : goal.sound_of-requires-clause-sound
-sound_of-requires-clause-sound g c =
+pub of-requires-clause-sound : goal.of-requires-clause-sound
+of-requires-clause-sound g c =
     let F = c.args.forest.now.forest in
     let face = c.args.forest.now.face in
-    let h : Paired IsReduction F.autos c.in_ok-autos.autos = rw (c.as_slice.ensures, c.forest.ensures) at c.in_ok-autos.ensures in
+    let h : Paired IsReduction F.autos c.in_ok-autos.autos = rw (c.as_slice.ensures, c.forest.ensures) at
+    c.in_ok-autos.ensures.reductions in
     let vars : c.in_ok-vars.vars ≡ F.vars = rw c.forest-2.ensures at c.in_ok-vars.ensures in
     let datums : c.in_ok-data_vars.data_vars ≡ F.data_vars = rw c.forest-3.ensures at c.in_ok-data_vars.ensures in
     let made : record { autos = c.in_ok-autos.autos; vars = c.in_ok-vars.vars; data_vars = c.in_ok-data_vars.data_vars } ≡ G face F c.in_ok-autos.autos h = ap₂ (λ (v : List Target) (d : List Datum). record { autos = c.in_ok-autos.autos; vars = v; data_vars = d }) vars datums in
-    subst (λ (f : Face). IsSound f (record { autos = c.in_ok-autos.autos; vars = c.in_ok-vars.vars; data_vars = c.in_ok-data_vars.data_vars })) (sym c.face.ensures) (subst (IsSound face) (sym made) (sound_made face F c.in_ok-autos.autos h c.ranked_components.ensures c.known.ensures.sound))
+    subst (λ (f : Face). IsSound f (record {
+      autos = c.in_ok-autos.autos;
+      vars = c.in_ok-vars.vars;
+      data_vars =
+          c.in_ok-data_vars.data_vars;
+    })) (sym c.face.ensures)
+    (subst (IsSound face) (sym made) (sound_made face F c.in_ok-autos.autos h c.in_ok-autos.ensures.ranked
+    c.known.ensures.sound))
 
 pub returns-clause-covers : goal.returns-clause-covers
 returns-clause-covers g c =
     let F = c.args.forest.now.forest in
     let face = c.args.forest.now.face in
-    let h : Paired IsReduction F.autos c.in_ok-autos.autos = rw (c.as_slice.ensures, c.forest.ensures) at c.in_ok-autos.ensures in
+    let h : Paired IsReduction F.autos c.in_ok-autos.autos = rw (c.as_slice.ensures, c.forest.ensures) at
+    c.in_ok-autos.ensures.reductions in
     let vars : c.in_ok-vars.vars ≡ F.vars = rw c.forest-2.ensures at c.in_ok-vars.ensures in
     let datums : c.in_ok-data_vars.data_vars ≡ F.data_vars = rw c.forest-3.ensures at c.in_ok-data_vars.ensures in
     let made : record { autos = c.in_ok-autos.autos; vars = c.in_ok-vars.vars; data_vars = c.in_ok-data_vars.data_vars } ≡ G face F c.in_ok-autos.autos h = ap₂ (λ (v : List Target) (d : List Datum). record { autos = c.in_ok-autos.autos; vars = v; data_vars = d }) vars datums in
-    IfOk-weaker c.sound_of.result (λ s. s.forest ≡ _) (λ s. Covers s.forest F)
+    IfOk-weaker c.of.result (λ s. s.forest ≡ _) (λ s. Covers s.forest F)
     (λ s e. subst (λ (z : Forest). Covers z F) (sym (e ∙ made)) (covers_first face F c.in_ok-autos.autos h))
-    c.sound_of.ensures.forest
+    c.of.ensures.forest
 
 pub returns-clause-covered : goal.returns-clause-covered
 returns-clause-covered g c =
     let F = c.args.forest.now.forest in
     let face = c.args.forest.now.face in
-    let h : Paired IsReduction F.autos c.in_ok-autos.autos = rw (c.as_slice.ensures, c.forest.ensures) at c.in_ok-autos.ensures in
+    let h : Paired IsReduction F.autos c.in_ok-autos.autos = rw (c.as_slice.ensures, c.forest.ensures) at
+    c.in_ok-autos.ensures.reductions in
     let vars : c.in_ok-vars.vars ≡ F.vars = rw c.forest-2.ensures at c.in_ok-vars.ensures in
     let datums : c.in_ok-data_vars.data_vars ≡ F.data_vars = rw c.forest-3.ensures at c.in_ok-data_vars.ensures in
     let made : record { autos = c.in_ok-autos.autos; vars = c.in_ok-vars.vars; data_vars = c.in_ok-data_vars.data_vars } ≡ G face F c.in_ok-autos.autos h = ap₂ (λ (v : List Target) (d : List Datum). record { autos = c.in_ok-autos.autos; vars = v; data_vars = d }) vars datums in
-    IfOk-weaker c.sound_of.result (λ s. s.forest ≡ _) (λ s. Covers F s.forest)
+    IfOk-weaker c.of.result (λ s. s.forest ≡ _) (λ s. Covers F s.forest)
     (λ s e. subst (λ (z : Forest). Covers F z) (sym (e ∙ made)) (first_covers face F c.in_ok-autos.autos h))
-    c.sound_of.ensures.forest
+    c.of.ensures.forest
 
 pub returns-clause-reduced : goal.returns-clause-reduced
 returns-clause-reduced g c =
     let F = c.args.forest.now.forest in
     let face = c.args.forest.now.face in
-    let h : Paired IsReduction F.autos c.in_ok-autos.autos = rw (c.as_slice.ensures, c.forest.ensures) at c.in_ok-autos.ensures in
+    let h : Paired IsReduction F.autos c.in_ok-autos.autos = rw (c.as_slice.ensures, c.forest.ensures) at
+    c.in_ok-autos.ensures.reductions in
     let vars : c.in_ok-vars.vars ≡ F.vars = rw c.forest-2.ensures at c.in_ok-vars.ensures in
     let datums : c.in_ok-data_vars.data_vars ≡ F.data_vars = rw c.forest-3.ensures at c.in_ok-data_vars.ensures in
     let made : record { autos = c.in_ok-autos.autos; vars = c.in_ok-vars.vars; data_vars = c.in_ok-data_vars.data_vars } ≡ G face F c.in_ok-autos.autos h = ap₂ (λ (v : List Target) (d : List Datum). record { autos = c.in_ok-autos.autos; vars = v; data_vars = d }) vars datums in
-    IfOk-weaker c.sound_of.result (λ s. s.forest ≡ _) (λ s. Reduced s.forest)
+    IfOk-weaker c.of.result (λ s. s.forest ≡ _) (λ s. Reduced s.forest)
     (λ s e. subst Reduced (sym (e ∙ made)) (is_reduced face F c.in_ok-autos.autos h))
-    c.sound_of.ensures.forest
+    c.of.ensures.forest
 
 pub returns-clause-plain : goal.returns-clause-plain
 returns-clause-plain g c =
     let F = c.args.forest.now.forest in
     let face = c.args.forest.now.face in
-    let h : Paired IsReduction F.autos c.in_ok-autos.autos = rw (c.as_slice.ensures, c.forest.ensures) at c.in_ok-autos.ensures in
+    let h : Paired IsReduction F.autos c.in_ok-autos.autos = rw (c.as_slice.ensures, c.forest.ensures) at
+    c.in_ok-autos.ensures.reductions in
     let vars : c.in_ok-vars.vars ≡ F.vars = rw c.forest-2.ensures at c.in_ok-vars.ensures in
     let datums : c.in_ok-data_vars.data_vars ≡ F.data_vars = rw c.forest-3.ensures at c.in_ok-data_vars.ensures in
     let made : record { autos = c.in_ok-autos.autos; vars = c.in_ok-vars.vars; data_vars = c.in_ok-data_vars.data_vars } ≡ G face F c.in_ok-autos.autos h = ap₂ (λ (v : List Target) (d : List Datum). record { autos = c.in_ok-autos.autos; vars = v; data_vars = d }) vars datums in
-    IfOk-weaker c.sound_of.result (λ s. s.forest ≡ _) (λ s. Every HasNoBoxes s.forest.autos)
-    (λ s e. subst (λ (z : Forest). Every HasNoBoxes z.autos) (sym (e ∙ made)) (plain_made face F c.in_ok-autos.autos h c.ranked_components.ensures c.requires.plain))
-    c.sound_of.ensures.forest
+    IfOk-weaker c.of.result (λ s. s.forest ≡ _) (λ s. Every HasNoBoxes s.forest.autos)
+    (λ s e. subst (λ (z : Forest). Every HasNoBoxes z.autos) (sym (e ∙ made))
+    (plain_made face F c.in_ok-autos.autos h c.in_ok-autos.ensures.ranked c.requires.plain))
+    c.of.ensures.forest
 
 pub returns-clause-canonical : goal.returns-clause-canonical
 returns-clause-canonical g c =
     let F = c.args.forest.now.forest in
     let face = c.args.forest.now.face in
-    let h : Paired IsReduction F.autos c.in_ok-autos.autos = rw (c.as_slice.ensures, c.forest.ensures) at c.in_ok-autos.ensures in
+    let h : Paired IsReduction F.autos c.in_ok-autos.autos = rw (c.as_slice.ensures, c.forest.ensures) at
+    c.in_ok-autos.ensures.reductions in
     let vars : c.in_ok-vars.vars ≡ F.vars = rw c.forest-2.ensures at c.in_ok-vars.ensures in
     let datums : c.in_ok-data_vars.data_vars ≡ F.data_vars = rw c.forest-3.ensures at c.in_ok-data_vars.ensures in
     let made : record { autos = c.in_ok-autos.autos; vars = c.in_ok-vars.vars; data_vars = c.in_ok-data_vars.data_vars } ≡ G face F c.in_ok-autos.autos h = ap₂ (λ (v : List Target) (d : List Datum). record { autos = c.in_ok-autos.autos; vars = v; data_vars = d }) vars datums in
-    both_ok c.sound_of.result (λ s. s.forest ≡ _) (λ s. s.face ≡ _) (λ s. IsCanonical face F → IsCanonical s.face s.forest)
-    (λ s e f can. subst (λ (x : Face). IsCanonical x s.forest) (sym (f ∙ c.face.ensures)) (subst (IsCanonical face) (sym (e ∙ made)) (canonical_made face F c.in_ok-autos.autos h c.ranked_components.ensures c.known.ensures.sound can)))
-    c.sound_of.ensures.forest c.sound_of.ensures.face
+    both_ok c.of.result (λ s. s.forest ≡ _) (λ s. s.face ≡ _) (λ s. IsCanonical face F → IsCanonical s.face s.forest)
+    (λ s e f can. subst (λ (x : Face). IsCanonical x s.forest) (sym (f ∙ c.face.ensures))
+    (subst (IsCanonical face) (sym (e ∙ made)) (canonical_made face F c.in_ok-autos.autos h
+    c.in_ok-autos.ensures.ranked c.known.ensures.sound can)))
+    c.of.ensures.forest c.of.ensures.face

@@ -7,6 +7,6 @@ use Rattle.fa_order.proofs.referring.references.Goals as goal
 pub loop-root-preserved : goal.loop-root-preserved
 loop-root-preserved c =
     let low = c.loop-root-test.true in
-    let size = c.in_ok-count.ensures.value in
+    let size = rw c.forest.ensures at c.in_ok-count.ensures.value in
     let k = one_more c.args.forest.now.forest.autos c.loop-root.root (omega (arith, low, size)) in
     rw (k.2, c.in_ok-push.ensures.ok) (paired_push AreRefsOf _ _ k.0 _ c.loop-root.invariant (c.in_ok-references.ensures k.0 k.1))

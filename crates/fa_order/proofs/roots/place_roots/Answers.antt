@@ -19,7 +19,7 @@ reorder-requires-clause-all c =
     let F = c.args.forest.now.forest in
     let face = c.args.forest.now.face in
     let sound = c.known.ensures.sound in
-    let ranked : Every IsRanked F.autos = rw c.forest.ensures at c.ranked_components.ensures in
+    let ranked : Every IsRanked F.autos = c.known.ensures.ranked in
     subst (IsOrderOf F) (sym c.as_slice.ensures) (is_order face F sound c.requires.plain (tight_reached face F sound c.requires.plain ranked c.requires.tight) c.in_ok-order.order c.in_ok-order.ensures)
 
 pub returns-clause-canonical : goal.returns-clause-canonical
@@ -28,7 +28,7 @@ returns-clause-canonical c =
     let face = c.args.forest.now.face in
     let sound = c.known.ensures.sound in
     let order = c.in_ok-order.order in
-    let ranked : Every IsRanked F.autos = rw c.forest.ensures at c.ranked_components.ensures in
+    let ranked : Every IsRanked F.autos = c.known.ensures.ranked in
     let all : IsOrderOf F order = is_order face F sound c.requires.plain (tight_reached face F sound c.requires.plain ranked c.requires.tight) order c.in_ok-order.ensures in
     both_ok c.reorder.result (λ s. s.forest ≡ reordered c.as_slice.result.now F) (λ s. s.face ≡ face) (λ s. IsCanonical s.face s.forest)
     (λ s value same.
@@ -41,7 +41,7 @@ returns-clause-value c =
     let face = c.args.forest.now.face in
     let sound = c.known.ensures.sound in
     let order = c.in_ok-order.order in
-    let ranked : Every IsRanked F.autos = rw c.forest.ensures at c.ranked_components.ensures in
+    let ranked : Every IsRanked F.autos = c.known.ensures.ranked in
     let all : IsOrderOf F order = is_order face F sound c.requires.plain (tight_reached face F sound c.requires.plain ranked c.requires.tight) order c.in_ok-order.ensures in
     IfOk-weaker c.reorder.result (λ s. s.forest ≡ reordered c.as_slice.result.now F) (λ s. IsPlaced F s.forest)
     (λ s value. (order, all, c.in_ok-order.ensures, value ∙ ap (λ (ks : List ℕ). reordered ks F) c.as_slice.ensures))
@@ -53,7 +53,7 @@ returns-clause-plain c =
     let face = c.args.forest.now.face in
     let sound = c.known.ensures.sound in
     let order = c.in_ok-order.order in
-    let ranked : Every IsRanked F.autos = rw c.forest.ensures at c.ranked_components.ensures in
+    let ranked : Every IsRanked F.autos = c.known.ensures.ranked in
     let all : IsOrderOf F order = is_order face F sound c.requires.plain (tight_reached face F sound c.requires.plain ranked c.requires.tight) order c.in_ok-order.ensures in
     IfOk-weaker c.reorder.result (λ s. s.forest ≡ reordered c.as_slice.result.now F) (λ s. Every HasNoBoxes s.forest.autos)
     (λ s value. subst (λ (x : Forest). Every HasNoBoxes x.autos) (sym (value ∙ ap (λ (ks : List ℕ). reordered ks F) c.as_slice.ensures)) (new_plain face F order all ranked c.requires.plain sound))

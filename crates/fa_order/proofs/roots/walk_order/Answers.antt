@@ -2,7 +2,8 @@ use Rattle.std.proofs.Common.{◌≡◌, ◌∙◌, ℕ, List, [], length, subst
 use Rattle.std.proofs.lemmas.Result.{IfOk-weaker}
 use Rattle.fore_base.proofs.ListLemmas.{paired_long}
 use Rattle.fa_core.specs.Canonical.{var_roots}
-use Rattle.fa_order.specs.Placing.{Placing, IsWalkOrder}
+use Rattle.fa_order.specs.Placing.{IsWalkOrder}
+use Rattle.fa_core.specs.Folding.{Placing}
 use Rattle.fa_order.specs.inner.Stacks.{AreRefsOf, nth_refs}
 use Rattle.fa_order.proofs.WalkOrder.{vars_below, all_refs_below, is_walk}
 use Rattle.fa_order.proofs.roots.walk_order.Goals as goal

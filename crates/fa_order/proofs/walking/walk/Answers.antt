@@ -1,6 +1,6 @@
 use Rattle.std.proofs.Common.{◌≡◌, ◌<◌, ℕ, List, ◌∷◌, length, ap, sym, subst, ◌∙◌}
 use Rattle.fa_core.specs.References.{AllBelow}
-use Rattle.fa_order.specs.Placing.{Placing, all_placed}
+use Rattle.fa_core.specs.Folding.{Placing, all_placed}
 use Rattle.fa_order.specs.inner.Stacks.{behind, nth_refs, weight}
 use Rattle.fa_order.proofs.Weights.{behind_last}
 use Rattle.fa_order.proofs.walking.walk.Goals as goal

@@ -1,6 +1,6 @@
 use Rattle.std.proofs.Common.{ℕ, List, [], length}
 use Rattle.fa_core.specs.References.{AllBelow}
-use Rattle.fa_order.specs.Placing.{Placing}
+use Rattle.fa_core.specs.Folding.{Placing}
 use Rattle.fa_order.specs.inner.Stacks.{behind, nth_refs, weight}
 use Rattle.fa_order.proofs.walking.walk.Given as goal
 
