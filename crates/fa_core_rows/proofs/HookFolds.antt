@@ -117,8 +117,9 @@ leaf_tree y = roll-Tree (record { symbol = y; children = [] })
 
 next_places : (c r : ℕ) → top_places (bare (next_node c r)) ≡ (Field 0, leaf_tree (Ref r) ∷ []) ∷
     (Field 1, leaf_tree Null ∷ []) ∷ []
-next_places c r = let e = out-roll-Tree
-    (record { symbol = item both; children = leaf_tree (Ref r) ∷ leaf_tree Null ∷ [] }) in rw e refl
+next_places c r =
+    let e = out-roll-Tree (record { symbol = item both; children = leaf_tree (Ref r) ∷ leaf_tree Null ∷ [] }) in
+    rw e refl
 
 lone_places : top_places (bare lone_node) ≡ (Field 0, leaf_tree Null ∷ []) ∷ (Field 1, leaf_tree Null ∷ []) ∷ []
 lone_places = let e = out-roll-Tree (record { symbol = item both; children = leaf_tree Null ∷ leaf_tree Null ∷ [] }) in
@@ -174,8 +175,10 @@ part_roots = record { order = 2 ∷ 0 ∷ []; reached = walk; are = refl; no_var
     alone (suc (suc (suc r))) k i o l j = omega (arith, l)
 
 moved_input : port_tree places 0 (0 ∷ []) (bare (next_node 2 0)) ≡ bare in_node
-moved_input = let e = next_places 2 0 in let m =
-    moved_rolled places (record { symbol = Ref 0; children = [] }) in rw (e, m) refl
+moved_input =
+    let e = next_places 2 0 in
+    let m = moved_rolled places (record { symbol = Ref 0; children = [] }) in
+    rw (e, m) refl
 
 moved_inner : moved_tree places (bare (next_node 0 2)) ≡ bare (next_node 0 0)
 moved_inner = simp moved_rolled

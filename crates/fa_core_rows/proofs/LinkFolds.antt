@@ -160,12 +160,14 @@ abbrev leaf_tree : Symbol → Tree
 leaf_tree y = roll-Tree (record { symbol = y; children = [] })
 
 inner_places : top_places (bare inner_node) ≡ (Field 0, leaf_tree (Ref 1) ∷ []) ∷ (Field 1, leaf_tree Null ∷ []) ∷ []
-inner_places = let e = out-roll-Tree
-    (record { symbol = item both; children = leaf_tree (Ref 1) ∷ leaf_tree Null ∷ [] }) in rw e refl
+inner_places =
+    let e = out-roll-Tree (record { symbol = item both; children = leaf_tree (Ref 1) ∷ leaf_tree Null ∷ [] }) in
+    rw e refl
 
 out_places : top_places (bare out_node) ≡ (Field 0, leaf_tree Null ∷ []) ∷ (Field 1, leaf_tree (Ref 0) ∷ []) ∷ []
-out_places = let e = out-roll-Tree
-    (record { symbol = item both; children = leaf_tree Null ∷ leaf_tree (Ref 0) ∷ [] }) in rw e refl
+out_places =
+    let e = out-roll-Tree (record { symbol = item both; children = leaf_tree Null ∷ leaf_tree (Ref 0) ∷ [] }) in
+    rw e refl
 
 head_places : top_places (bare head_node) ≡ (Field 0, leaf_tree (Ref 0) ∷ []) ∷ []
 head_places = let e = out-roll-Tree (record { symbol = head; children = leaf_tree (Ref 0) ∷ [] }) in rw e refl
@@ -229,12 +231,16 @@ part_roots = record {
 -- The part.
 
 moved_input : port_tree places 1 (0 ∷ []) (bare head_node) ≡ bare in_node
-moved_input = let e = head_places in let m =
-    moved_rolled places (record { symbol = Ref 0; children = [] }) in rw (e, m) refl
+moved_input =
+    let e = head_places in
+    let m = moved_rolled places (record { symbol = Ref 0; children = [] }) in
+    rw (e, m) refl
 
 moved_output : port_tree places 0 (1 ∷ []) (bare out_node) ≡ bare prev_node
-moved_output = let e = out_places in let m =
-    moved_rolled places (record { symbol = Ref 0; children = [] }) in rw (e, m) refl
+moved_output =
+    let e = out_places in
+    let m = moved_rolled places (record { symbol = Ref 0; children = [] }) in
+    rw (e, m) refl
 
 moved_inner : moved_tree places (bare inner_node) ≡ bare inner_node
 moved_inner = simp moved_rolled
