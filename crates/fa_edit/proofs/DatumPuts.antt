@@ -14,7 +14,7 @@ use Rattle.fa_edit.specs.Data.{AllHaveDatum, AllLackDatum, HasDatum, IsDatumPut,
 use Rattle.fa_edit.specs.inner.Edited.{dated, dated_at}
 use Rattle.fa_edit.proofs.ChangedRoots.{put_forth, put_back}
 use Rattle.fa_edit.proofs.DatumTrees.{datums_top, put_dated, dated_has, from_dated}
-use Rattle.fa_merge.specs.Reordered.{component_at}
+use Rattle.fa_sound.specs.Components.{component_at}
 use Rattle.fa_merge.proofs.PlacedForests.{component_has}
 use Rattle.fa_split.proofs.OtherComponent.{tree_at, tree_in}
 use Rattle.fa_split.proofs.TopRules.{tree_by_top}

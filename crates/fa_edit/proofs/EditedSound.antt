@@ -8,10 +8,9 @@ use Rattle.fa_core.specs.declared.faces.Face.{Face}
 use Rattle.fa_core.specs.declared.forest.Forest.{Forest}
 use Rattle.fa_core.specs.Boxless.{HasNoBoxes}
 use Rattle.fa_core.specs.Filled.{Choice, ChoiceFilled, TopsAre, IsTopped, IsRoot, IsFilledSpot, spots, RulesFit, HasSignatures, HasSome, IsSound}
-use Rattle.fa_merge.specs.Reordered.{component_at}
+use Rattle.fa_sound.specs.Components.{component_at, with_component}
 use Rattle.fa_sound.proofs.Choices.{trees_filled, filled_trees}
 use Rattle.fa_sound.proofs.NothingGiven.{nothing_given}
-use Rattle.fa_split.specs.Chosen.{with_component}
 use Rattle.fa_split.proofs.OtherComponent.{every_put}
 
 -- the r-th tree changed by g

@@ -24,8 +24,9 @@ use Rattle.fa_edit.proofs.EditedSound.{IsFilledTree, edited_plain, edited_sound}
 use Rattle.fa_edit.proofs.LeafPuts.{ranked_own, inside, put_end, put_old, from_put}
 use Rattle.fa_edit.proofs.PlainFields.{leaf_runs, tree_has, tree_put}
 use Rattle.fa_edit.proofs.PutSpots.{node_shape, put_filled}
-use Rattle.fa_merge.specs.Reordered.{component_at}
-use Rattle.fa_merge.proofs.PlacedForests.{component_got, component_has, run_end, topped_node}
+use Rattle.fa_sound.specs.Components.{component_at}
+use Rattle.fa_merge.proofs.PlacedForests.{component_has, run_end, topped_node}
+use Rattle.fa_sound.proofs.ComponentLemmas.{component_got}
 use Rattle.fa_split.specs.Split.{top_rule, fixed, split_leaf, with_end}
 use Rattle.fa_split.proofs.FixedSigned.{fixed_plain, fixed_signed}
 use Rattle.fa_split.proofs.FixedTrees.{to_fixed, fixed_with, fixed_symbols, fixed_ranked}

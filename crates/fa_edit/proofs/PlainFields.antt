@@ -20,7 +20,7 @@ use Rattle.fa_core.proofs.Dressing.{leaf_top, cell_top}
 use Rattle.fa_edit.specs.Leaves.{AllHaveLeaf, AllLackField, end_of_field, with_leaf}
 use Rattle.fa_edit.specs.Plain.{HasOnlyLeaf, IsOnlyLeaf, IsLeafPlace, IsPlainAt, field_place_from, place_at}
 use Rattle.fa_edit.proofs.FieldPlaces.{place_below, end_from, put_from, none_from}
-use Rattle.fa_merge.specs.Reordered.{component_at}
+use Rattle.fa_sound.specs.Components.{component_at}
 use Rattle.fa_merge.proofs.PlacedForests.{component_has}
 use Rattle.fa_split.specs.Split.{CanSplit, top_rule, child_state, top_parts, end_at, with_end}
 use Rattle.fa_split.proofs.ChosenTrees.{leaf_arity}

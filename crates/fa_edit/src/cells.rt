@@ -7,10 +7,9 @@ ghost use Rattle.fa_core.specs.declared.boxes.BoxDef.{BoxDef};
 ghost use Rattle.fa_edit.specs.Cells.{IsNewed};
 ghost use Rattle.fa_edit.specs.inner.News.{blank, blank_rule, field_slots, newed, uninit_rule};
 
-use crate::structs::{count_datums, count_targets};
 use fa_core::forest::{Forest, Target};
-use fa_sound::Sound;
-use fa_split::{count_roots, ranked_components, sound_of};
+use fa_sound::fields::{count_targets, datums_of};
+use fa_sound::{Sound, count_roots};
 use fore_base::list::{Copies, List};
 use fore_base::memory::Mem;
 use fore_base::shape::Shape;
@@ -31,7 +30,6 @@ pub fn with_cell(alloc: Global, forest: &Sound, to: u32, shape: u32) -> Mem<Soun
     ensures data_vars { IfOk result (λ made. made.forest.data_vars ≡ forest.now.forest.data_vars) }
 {
     forest.known();
-    ranked_components(forest.forest());
     let made = sound_newed(alloc, forest, to, shape)?;
     Ok(made)
 }
@@ -46,7 +44,7 @@ fn sound_newed(alloc: Global, forest: &Sound, to: u32, shape: u32) -> Mem<Sound>
     forest.known();
     let structs = forest.face().shapes.structs.as_slice();
     let made = newed(alloc, structs, forest.forest(), to, shape)?;
-    sound_of(alloc, &made, forest.face())
+    Sound::of(alloc, made, forest.face())
 }
 
 /// The forest with the component of a new cell as its last. Err is want of memory.
@@ -96,7 +94,7 @@ fn blank_rule(alloc: Global, structs: &[Shape], shape: u32) -> Mem<Rule>
     ensures { IfOk result (λ made. made ≡ blank_rule structs.now shape) }
 {
     let targets = count_targets(structs, shape);
-    let datums = List::filled(alloc, Datum::Undefined, count_datums(structs, shape))?;
+    let datums = List::filled(alloc, Datum::Undefined, datums_of(structs, shape))?;
     let slots = field_slots(alloc, targets)?;
     let children = List::filled(alloc, 1, targets)?;
     Ok(Rule {

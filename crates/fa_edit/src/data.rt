@@ -9,12 +9,11 @@ ghost use Rattle.fa_core.specs.Filled.{DatumFits};
 ghost use Rattle.fa_core.specs.declared.boxes.BoxDef.{BoxDef};
 ghost use Rattle.fa_edit.specs.Data.{AllHaveDatum, AllLackDatum, HasDatumField, IsDatumPut, datums_at};
 ghost use Rattle.fa_edit.specs.inner.Edited.{dated, dated_at, symbol_with};
-ghost use Rattle.fa_merge.specs.Reordered.{component_at};
+ghost use Rattle.fa_sound.specs.Components.{component_at};
 
 use crate::tops::datum_at;
-use fa_core::forest::Forest;
-use fa_sound::Sound;
-use fa_split::{component, ranked_components, replace, rule_at_top, sound_of, states_of};
+use fa_sound::{Sound, component};
+use fa_split::{rule_at_top, states_of};
 use fore_base::list::{Copies, List};
 use fore_base::memory::Mem;
 use fore_base::store::Datum;
@@ -32,7 +31,6 @@ pub fn datum_of(forest: &Sound, root: u32, field: u32) -> Option<Datum>
     ensures has { OnSome result (HasDatumField forest.now.forest root field) }
     ensures held { MatchOption result ((T : List BoxDef) → AllLackDatum T forest.now.forest root field) (λ datum. (T : List BoxDef) → AllHaveDatum T forest.now.forest root field datum) }
 {
-    ranked_components(forest.forest());
     datum_at(component(forest.forest(), root), field)
 }
 
@@ -49,7 +47,6 @@ pub fn with_datum(alloc: Global, forest: &Sound, root: u32, field: u32, datum: D
     ensures canonical { IsCanonical forest.now.face forest.now.forest → IfOk result (λ made. IsCanonical made.face made.forest) }
 {
     forest.known();
-    ranked_components(forest.forest());
     let made = sound_dated(alloc, forest, root, field, datum)?;
     Ok(made)
 }
@@ -63,19 +60,8 @@ fn sound_dated(alloc: Global, forest: &Sound, root: u32, field: u32, datum: Datu
     ensures face { IfOk result (λ made. made.face ≡ forest.now.face) }
 {
     forest.known();
-    ranked_components(forest.forest());
-    let made = dated_at(alloc, forest.forest(), root, field, datum)?;
-    sound_of(alloc, &made, forest.face())
-}
-
-/// The forest with the datum in the data field of the root. Err is want of memory.
-fn dated_at(alloc: Global, forest: &Forest, root: u32, field: u32, datum: Datum) -> Mem<Forest>
-    requires root { root < length forest.now.autos }
-    requires top { HasOneTop (component_at forest.now.autos root) }
-    ensures { IfOk result (λ made. made ≡ dated_at forest.now root field datum) }
-{
-    let auto = dated(alloc, component(forest, root), field, datum)?;
-    replace(alloc, forest, root, auto)
+    let auto = dated(alloc, component(forest.forest(), root), field, datum)?;
+    forest.with_component(alloc, root, auto)
 }
 
 /// The automaton with the datum in the one rule at its top, at a root state of its own. Err is want of memory.

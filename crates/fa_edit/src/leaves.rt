@@ -10,14 +10,14 @@ ghost use Rattle.fa_core.specs.declared.forest.Target.{Target};
 ghost use Rattle.fa_edit.specs.Fits.{IsRootFor, LeafFits};
 ghost use Rattle.fa_edit.specs.Leaves.{AllHaveLeaf, AllLackField, IsPut};
 ghost use Rattle.fa_edit.specs.Plain.{HasPlace, IsPlainAt, place_at};
-ghost use Rattle.fa_merge.specs.Reordered.{component_at};
+ghost use Rattle.fa_sound.specs.Components.{component_at};
 ghost use Rattle.fa_split.specs.Split.{split_leaf};
 
-use crate::structs::target_of;
 use crate::tops::{has_only_leaf, only_leaf, place_of, shape_of};
 use fa_core::forest::Target;
-use fa_sound::Sound;
-use fa_split::{component, fix_at, has_one_top, ranked_components, rules_of, sound_of, state_at};
+use fa_sound::fields::target_of;
+use fa_sound::{Sound, component};
+use fa_split::{fix_leaf, has_one_top, rules_of, state_at};
 use fore_base::memory::Mem;
 use fore_base::shape::Shape;
 use std::alloc::Global;
@@ -47,7 +47,7 @@ pub fn leaf_of(forest: &Sound, root: u32, field: u32) -> Option<Target>
     ensures lacks { IsNone result → place_at forest.now.forest root field ≡ None }
     ensures held { MatchOption result ((T : List BoxDef) → AllLackField T forest.now.forest root field) (λ leaf. (T : List BoxDef) → AllHaveLeaf T forest.now.forest root field leaf) }
 {
-    ranked_components(forest.forest());
+    forest.known();
     let auto = component(forest.forest(), root);
     match place_of(auto, field) {
         Some(place) => Some(only_leaf(rules_of(auto), state_at(auto, place))),
@@ -109,7 +109,6 @@ pub fn with_leaf(alloc: Global, forest: &Sound, root: u32, field: u32, leaf: Tar
     ensures plain { IfOk result (λ made. Every HasNoBoxes made.forest.autos) }
 {
     forest.known();
-    ranked_components(forest.forest());
     match place_of(component(forest.forest(), root), field) {
         Some(place) => with_leaf_at(alloc, forest, root, field, place, leaf),
         None => unreachable!(),
@@ -133,7 +132,5 @@ fn with_leaf_at(
     ensures face { IfOk result (λ made. made.face ≡ forest.now.face) }
 {
     forest.known();
-    ranked_components(forest.forest());
-    let made = fix_at(alloc, forest.forest(), root, place, leaf)?;
-    sound_of(alloc, &made, forest.face())
+    fix_leaf(alloc, forest, root, place, leaf)
 }

@@ -7,7 +7,6 @@
 pub mod cells;
 pub mod data;
 pub mod leaves;
-mod structs;
 mod tops;
 pub mod vars;
 

@@ -6,10 +6,9 @@ ghost use Rattle.fa_core.specs.Boxless.{HasNoBoxes};
 ghost use Rattle.fa_core.specs.Canonical.{IsCanonical};
 ghost use Rattle.fa_core.specs.Filled.{DatumFits, IsRoot};
 
-use fa_core::forest::{Forest, Target};
+use fa_core::forest::Target;
 use fa_sound::Sound;
-use fa_split::sound_of;
-use fore_base::list::{Copies, List};
+use fore_base::list::List;
 use fore_base::memory::Mem;
 use fore_base::store::Datum;
 use std::alloc::Global;
@@ -30,12 +29,6 @@ pub fn with_vars(
     ensures canonical { vars ≡ forest.now.forest.vars → IsCanonical forest.now.face forest.now.forest → IfOk result (λ made. IsCanonical made.face made.forest) }
 {
     forest.known();
-    let autos = forest.forest().autos.copy(alloc)?;
-    let other = Forest {
-        autos,
-        vars,
-        data_vars,
-    };
-    let made = sound_of(alloc, &other, forest.face())?;
+    let made = forest.with_vars(alloc, vars, data_vars)?;
     Ok(made)
 }

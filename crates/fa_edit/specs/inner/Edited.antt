@@ -6,8 +6,8 @@ use Rattle.ta_core.specs.declared.auto.Rule.{Rule}
 use Rattle.ta_core.specs.declared.symbol.Symbol.{Symbol}
 use Rattle.ta_core.specs.declared.symbol.Symbol.TheVariants.{Null, Uninit, Dangling, Ref, Cell}
 use Rattle.fa_core.specs.declared.forest.Forest.{Forest}
-use Rattle.fa_merge.specs.Reordered.{component_at}
-use Rattle.fa_split.specs.Chosen.{chosen, with_component}
+use Rattle.fa_sound.specs.Components.{component_at, with_component}
+use Rattle.fa_split.specs.Chosen.{chosen}
 use Rattle.fa_split.specs.Split.{top_rule}
 
 -- the symbol with the datum x in data field f

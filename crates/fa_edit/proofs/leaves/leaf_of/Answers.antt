@@ -8,14 +8,17 @@ use Rattle.fa_edit.proofs.leaves.leaf_of.Goals as goal
 pub returns-in-Some-clause-held : goal.returns-in-Some-clause-held
 returns-in-Some-clause-held c =
     let F = c.args.forest.now.forest in
-    let ranked : Every IsRanked F.autos = rw c.forest.ensures at c.ranked_components.ensures in
-    let place : Some c.in-Some.place ≡ place_at F c.args.root c.args.field = rw (c.component-auto.ensures, c.forest-2.ensures) at c.in-Some.ensures in
-    let alone : IsLeafPlace F c.args.root c.in-Some.place c.only_leaf.result = rw (c.rules_of.ensures, c.state_at.ensures, c.component-auto.ensures, c.forest-2.ensures) at c.only_leaf.ensures in
+    let ranked : Every IsRanked F.autos = c.known.ensures.ranked in
+    let place : Some c.in-Some.place ≡ place_at F c.args.root c.args.field = rw
+    (c.component-auto.ensures, c.forest.ensures) at c.in-Some.ensures in
+    let alone : IsLeafPlace F c.args.root c.in-Some.place c.only_leaf.result = rw
+    (c.rules_of.ensures, c.state_at.ensures, c.component-auto.ensures, c.forest.ensures) at c.only_leaf.ensures in
     all_have F c.args.root c.args.field ranked c.requires.at c.in-Some.place (sym place) c.only_leaf.result alone
 
 pub returns-in-None-clause-held : goal.returns-in-None-clause-held
 returns-in-None-clause-held c =
     let F = c.args.forest.now.forest in
-    let ranked : Every IsRanked F.autos = rw c.forest.ensures at c.ranked_components.ensures in
-    let place : None ≡ place_at F c.args.root c.args.field = rw (c.component-auto.ensures, c.forest-2.ensures) at c.in-None.ensures in
+    let ranked : Every IsRanked F.autos = c.known.ensures.ranked in
+    let place : None ≡ place_at F c.args.root c.args.field = rw (c.component-auto.ensures, c.forest.ensures) at
+    c.in-None.ensures in
     lacks F c.args.root c.args.field ranked c.requires.at (sym place)

@@ -19,8 +19,8 @@ returns-clause-put c =
     let r = c.args.root in
     let f = c.args.field in
     let p = c.in-Some.place in
-    let ranked : Every IsRanked F.autos = rw c.forest.ensures at c.ranked_components.ensures in
-    let place : Some p ≡ place_at F r f = rw (c.component.ensures, c.forest-2.ensures) at c.in-Some.ensures in
+    let ranked : Every IsRanked F.autos = c.known.ensures.ranked in
+    let place : Some p ≡ place_at F r f = rw (c.component.ensures, c.forest.ensures) at c.in-Some.ensures in
     let t = c.requires.at.leaf p (sym place) in
     IfOk-weaker c.with_leaf_at.result
     (λ made. made.forest ≡ split_leaf F r p c.args.leaf)
@@ -34,8 +34,8 @@ returns-clause-plain c =
     let r = c.args.root in
     let f = c.args.field in
     let p = c.in-Some.place in
-    let ranked : Every IsRanked F.autos = rw c.forest.ensures at c.ranked_components.ensures in
-    let place : Some p ≡ place_at F r f = rw (c.component.ensures, c.forest-2.ensures) at c.in-Some.ensures in
+    let ranked : Every IsRanked F.autos = c.known.ensures.ranked in
+    let place : Some p ≡ place_at F r f = rw (c.component.ensures, c.forest.ensures) at c.in-Some.ensures in
     IfOk-weaker c.with_leaf_at.result
     (λ made. made.forest ≡ split_leaf F r p c.args.leaf)
     (λ made. Every HasNoBoxes made.forest.autos)
