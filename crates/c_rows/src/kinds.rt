@@ -2,7 +2,10 @@
 ghost use Rattle.std.specs.Prelude.{◌≤◌, length};
 
 use crate::lexing::{put_count, put_places, put_refused, put_tokens};
+use crate::positions::{Change, put_answers};
+use crate::syntax::{put_over, put_parsed, put_tree};
 use crate::texts::read_text;
+use crate::whole::{put_checked, put_read};
 use anyhow::{Context, Result, bail};
 use fore_base::limits::FILE_BYTES;
 use fore_base::memory::Mem;
@@ -25,7 +28,10 @@ impl Answers for Kinds {
     ) -> Result<String> {
         let text = texts.first().context("no text")?;
         let mut out = Text::new(alloc);
-        put_plain(alloc, &mut out, head, text)?;
+        match head.split_once(' ') {
+            Some((kind, words)) => put_said(alloc, &mut out, kind, words, text)?,
+            None => put_plain(alloc, &mut out, head, text)?,
+        }
         shown(alloc, &out)
     }
 }
@@ -36,6 +42,17 @@ fn shown(alloc: Global, out: &Text) -> Result<String> {
         .ok()
         .context("bytes that are no text")?;
     Ok(String::from_str(alloc, text)?)
+}
+
+/// Puts the answer to a row whose kind wants to know more.
+fn put_said(alloc: Global, out: &mut Text, kind: &str, words: &str, row: &str) -> Result<()> {
+    match kind {
+        "missing" => put_answers(alloc, out, words, row, Change::Missing),
+        "doubled" => put_answers(alloc, out, words, row, Change::Doubled),
+        "swapped" => put_answers(alloc, out, words, row, Change::Swapped),
+        "ended" => put_answers(alloc, out, words, row, Change::Ended),
+        _ => bail!("no such kind"),
+    }
 }
 
 /// Puts the answer to a row of a kind alone.
@@ -59,6 +76,11 @@ fn is_put(alloc: Global, out: &mut Text, kind: &str, text: &[u8]) -> Mem<bool>
         "places" => put_places(alloc, out, text)?,
         "count" => put_count(alloc, out, text)?,
         "refused" => put_refused(alloc, out, text)?,
+        "parse" => put_parsed(alloc, out, text)?,
+        "tree" => put_tree(alloc, out, text)?,
+        "over" => put_over(alloc, out, text)?,
+        "check" => put_checked(alloc, out, text)?,
+        "front" => put_read(alloc, out, text)?,
         _ => return Ok(false),
     }
     Ok(true)

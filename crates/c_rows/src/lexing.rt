@@ -10,7 +10,8 @@ use fore_base::place::Place;
 use fore_base::text::Text;
 use std::alloc::{AllocError, Global};
 
-/// tokens: the first letter of each token's kind and its bytes, or `none`; or the rule that refuses the text, and the place.
+/// tokens: the first letter of each token's kind and its bytes, or `none`; or the rule that refuses the text, and
+/// the place.
 pub fn put_tokens(alloc: Global, out: &mut Text, text: &[u8]) -> Mem<()>
     requires { length text.now ≤ FILE_BYTES }
 {

@@ -5,7 +5,11 @@
 
 mod kinds;
 mod lexing;
+mod positions;
+mod syntax;
 mod texts;
+mod trees;
+mod whole;
 
 use anyhow::Result;
 use kinds::Kinds;

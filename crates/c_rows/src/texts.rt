@@ -1,8 +1,9 @@
 // Texts of C, as they stand in rows.
 //
-// A text stands in a row on one line. A backslash and a letter stand for what a line cannot have: n, r and t for a newline, a carriage return
-// and a tab, b for a backslash, p for a bar, x and two digits for the byte of that number in base sixteen, and e for nothing, as in the empty
-// text. `\[3 a;\]` stands for `a;` three times; in it, v stands for the letter v as often as there have been rounds, this one with them.
+// A text stands in a row on one line. A backslash and a letter stand for what a line cannot have: n, r and t for a
+// newline, a carriage return and a tab, b for a backslash, p for a bar, x and two digits for the byte of that
+// number in base sixteen, and e for nothing, as in the empty text. `\[3 a;\]` stands for `a;` three times; in it, v
+// stands for the letter v as often as there have been rounds, this one with them.
 
 use anyhow::{Context, Result, bail};
 use fore_base::memory::Mem;
