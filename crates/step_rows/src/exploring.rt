@@ -1,0 +1,67 @@
+// explore: the nodes of an exploration of a graph, and how it ends.
+
+use crate::graphs::graph_of;
+use crate::tracing::{put_nodes, put_trace};
+use anyhow::{Context, Result, bail};
+use c_cfg::graph::Graph;
+use c_cfg::ranges::are_edges_of;
+use fa_core::table::BoxTable;
+use fix_engine::{Explored, explore};
+use par_kit::crew::Crew;
+use par_kit::gate::NoGate;
+use std::alloc::Global;
+use std::thread::Threads;
+
+// How the exploration of the graph ends; the numbers are the height and the budget.
+pub fn explore_graph<R: Threads + Sync>(
+    rt: &R,
+    alloc: Global,
+    numbers: &str,
+    texts: &[&str],
+) -> Result<String> {
+    let (height, budget) = numbers.split_once(' ').context("no budget")?;
+    let text = texts.first().context("no graph")?;
+    let graph = graph_of(alloc, text)?;
+    let found = explored(
+        rt,
+        alloc,
+        &graph,
+        height.parse::<u32>()?,
+        budget.parse::<u32>()?,
+    )?;
+    shown(alloc, &found)
+}
+
+fn explored<R: Threads + Sync>(
+    rt: &R,
+    alloc: Global,
+    graph: &Graph,
+    height: u32,
+    budget: u32,
+) -> Result<Explored> {
+    if !are_edges_of(graph) {
+        bail!("a number of an edge is out of range");
+    }
+    if height < 1 || 4 < height || budget < 1 {
+        bail!("no such height or budget");
+    }
+    let table = BoxTable::empty(alloc, &graph.shapes)?;
+    let crew = Crew {
+        jobs: 1,
+        gate: &NoGate,
+    };
+    Ok(explore(rt, alloc, graph, &table, height, budget, &crew)?)
+}
+
+fn shown(alloc: Global, found: &Explored) -> Result<String> {
+    let mut text = String::new(alloc);
+    match found {
+        Explored::Closed { nodes } => put_nodes(alloc, &mut text, "closed", nodes)?,
+        Explored::Spent { nodes } => put_nodes(alloc, &mut text, "spent", nodes)?,
+        Explored::Faulty { nodes, trace } => {
+            put_nodes(alloc, &mut text, "faulty", nodes)?;
+            put_trace(&mut text, trace)?;
+        }
+    }
+    Ok(text)
+}
