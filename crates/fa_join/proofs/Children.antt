@@ -12,8 +12,9 @@ use Rattle.fa_core.specs.declared.faces.Face.{Face}
 use Rattle.fa_core.specs.declared.forest.Forest.{Forest}
 use Rattle.fa_core.specs.declared.signature.RefMark.{RefMark}
 use Rattle.fa_sound.specs.Soundness.{IsStateOf}
-use Rattle.fa_merge.specs.Reordered.{component_at}
-use Rattle.fa_merge.proofs.PlacedForests.{component_got, component_has}
+use Rattle.fa_sound.specs.Components.{component_at}
+use Rattle.fa_merge.proofs.PlacedForests.{component_has}
+use Rattle.fa_sound.proofs.ComponentLemmas.{component_got}
 use Rattle.fa_split.specs.Split.{CanSplit, top_rule, child_state}
 use Rattle.fa_split.proofs.RunPlaces.{at_index, each_at}
 use Rattle.fa_split.proofs.TopRules.{top_in, tree_by_top}

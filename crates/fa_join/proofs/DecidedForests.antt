@@ -11,8 +11,9 @@ use Rattle.ta_core.specs.declared.tree.Tree.{out-Tree}
 use Rattle.fa_core.specs.Filled.{HasSome}
 use Rattle.fa_core.specs.declared.faces.BoxFace.{BoxFace}
 use Rattle.fa_core.specs.declared.forest.Forest.{Forest}
-use Rattle.fa_merge.specs.Reordered.{component_at}
-use Rattle.fa_merge.proofs.PlacedForests.{component_got, component_has}
+use Rattle.fa_sound.specs.Components.{component_at}
+use Rattle.fa_merge.proofs.PlacedForests.{component_has}
+use Rattle.fa_sound.proofs.ComponentLemmas.{component_got}
 use Rattle.fa_split.specs.Split.{CanSplit, top_rule, child_state}
 use Rattle.fa_split.proofs.RunPlaces.{at_index}
 use Rattle.fa_split.proofs.TopRules.{top_in, tree_by_top, top_by_tree}

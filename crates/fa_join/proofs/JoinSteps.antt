@@ -14,7 +14,8 @@ use Rattle.fa_core.specs.declared.faces.BoxFace.{BoxFace}
 use Rattle.fa_core.specs.declared.faces.Face.{Face}
 use Rattle.fa_core.specs.declared.forest.Forest.{Forest}
 use Rattle.fa_sound.specs.Soundness.{SoundForest}
-use Rattle.fa_split.specs.Divided.{HasVarsOf, forests}
+use Rattle.fa_split.specs.Divided.{HasVarsOf}
+use Rattle.fa_sound.specs.Unions.{forests}
 use Rattle.fa_join.specs.Joinable.{Joinable}
 use Rattle.fa_join.specs.Joined.{OfOne, IsJoined, Joins}
 use Rattle.fa_join.specs.declared.lists.Partner.{Partner}

@@ -9,7 +9,7 @@ use Rattle.fa_core.specs.Canonical.{IsCanonical}
 use Rattle.fa_core.specs.Filled.{IsSound}
 use Rattle.fa_core.specs.declared.faces.Face.{Face}
 use Rattle.fa_core.specs.declared.forest.Forest.{Forest}
-use Rattle.fa_merge.specs.Reordered.{component_at}
+use Rattle.fa_sound.specs.Components.{component_at}
 use Rattle.fa_split.specs.Split.{top_rule}
 use Rattle.fa_join.specs.Joinable.{SameRuns, SameSignatures, DifferInChild, Joinable}
 use Rattle.fa_join.specs.Joined.{Joins}

@@ -7,7 +7,7 @@ use Rattle.ta_core.specs.Language.{HasSameLanguage}
 use Rattle.fa_core.specs.declared.faces.BoxFace.{BoxFace}
 use Rattle.fa_core.specs.declared.forest.Forest.{Forest}
 use Rattle.fa_sound.specs.Soundness.{SoundForest}
-use Rattle.fa_split.specs.Divided.{forests}
+use Rattle.fa_sound.specs.Unions.{forests}
 use Rattle.fa_split.specs.Split.{top_rule}
 use Rattle.fa_join.specs.Joinable.{SameRuns, SameSignatures, DifferInChild, Joinable, NoneJoinable}
 use Rattle.fa_join.specs.inner.Joining.{NoLater}

@@ -4,7 +4,7 @@ ghost use Rattle.std.specs.Prelude.{◌≡◌, ◌<◌, ◌↔◌, length, IsTru
 ghost use Rattle.fore_base.specs.Lists.{Every};
 ghost use Rattle.ta_core.specs.Language.{HasSameLanguage};
 ghost use Rattle.ta_core.specs.Single.{HasOneTop};
-ghost use Rattle.fa_merge.specs.Reordered.{component_at};
+ghost use Rattle.fa_sound.specs.Components.{component_at};
 ghost use Rattle.fa_split.specs.Split.{top_rule};
 ghost use Rattle.fa_join.specs.Joinable.{Joinable, SameRuns};
 ghost use Rattle.fa_join.specs.declared.comparing.Apart.TheVariants.{At};
@@ -14,9 +14,9 @@ ghost use Rattle.fa_join.specs.inner.Differing.{CanJoin, LookAlike, SameTops};
 use crate::comparing::{Apart, autos_apart, states_apart};
 use crate::looks::look_alike;
 use crate::marks::have_same_marks;
-use crate::tops::{children_of, component, root_of};
+use crate::tops::{children_of, root_of};
 use fa_core::forest::Forest;
-use fa_sound::Sound;
+use fa_sound::{Sound, component};
 use fore_base::memory::Mem;
 use std::alloc::Global;
 

@@ -1,27 +1,23 @@
 // The forest that joins two.
 
-ghost use Rattle.std.specs.Prelude.{◌≡◌, ◌<◌, length, IfOk};
+ghost use Rattle.std.specs.Prelude.{◌≡◌, IfOk};
 ghost use Rattle.fore_base.specs.Lists.{Every};
 ghost use Rattle.par_kit.specs.Crews.{IsJobs};
 ghost use Rattle.fa_core.specs.Boxless.{HasNoBoxes};
 ghost use Rattle.fa_core.specs.Canonical.{IsCanonical};
-ghost use Rattle.fa_core.specs.Filled.{IsSound};
 ghost use Rattle.fa_core.specs.declared.forest.Forest.{Forest};
-ghost use Rattle.fa_split.specs.Chosen.{with_component};
+ghost use Rattle.fa_sound.specs.Components.{component_at};
 ghost use Rattle.fa_split.specs.Divided.{HasVarsOf};
 ghost use Rattle.fa_split.specs.Split.{CanSplit};
 ghost use Rattle.fa_join.specs.Joined.{Joins};
 ghost use Rattle.fa_join.specs.inner.Differing.{CanJoin, DifferAtRoot};
-ghost use Rattle.fa_join.specs.inner.Joining.{IsReady, joined_at};
+ghost use Rattle.fa_join.specs.inner.Joining.{IsReady, joined};
 
 use crate::autos::join_autos;
 use crate::differing::Difference;
-use crate::tops::{component, ranked_components};
-use fa_core::faces::Face;
 use fa_core::forest::Forest;
 use fa_order::reduce_forest;
-use fa_sound::Sound;
-use fore_base::list::Copies;
+use fa_sound::{Sound, component};
 use fore_base::memory::Mem;
 use par_kit::crew::Crew;
 use par_kit::gate::Gate;
@@ -68,55 +64,18 @@ fn join_below(alloc: Global, left: &Sound, right: &Sound, root: u32, child: usiz
 {
     left.known();
     right.known();
-    ranked_components(left.forest());
-    ranked_components(right.forest());
-    let made = joined_forest(alloc, left.forest(), right.forest(), root, child)?;
-    sound_of(alloc, &made, left.face())
+    let auto = joined_auto(alloc, left.forest(), right.forest(), root, child)?;
+    left.with_component(alloc, root, auto)
 }
 
-/// The left forest, with the component that joins both at the root.
-fn joined_forest(
-    alloc: Global,
-    left: &Forest,
-    right: &Forest,
-    root: u32,
-    child: usize,
-) -> Mem<Forest>
+/// The component that joins those of both forests at the root.
+fn joined_auto(alloc: Global, left: &Forest, right: &Forest, root: u32, child: usize) -> Mem<Auto>
     requires left { CanSplit left.now root child }
     requires right { CanSplit right.now root child }
-    ensures { IfOk result (λ made. made ≡ joined_at left.now right.now root child) }
+    ensures { IfOk result (λ made.
+        made ≡ joined (component_at left.now.autos root) (component_at right.now.autos root) child) }
 {
-    let auto = join_autos(alloc, component(left, root), component(right, root), child)?;
-    replace(alloc, left, root, auto)
-}
-
-/// The forest with the automaton as the component of the root.
-fn replace(alloc: Global, forest: &Forest, root: u32, auto: Auto) -> Mem<Forest>
-    requires { root < length forest.now.autos }
-    ensures { IfOk result (λ made. made ≡ with_component forest.now root auto) }
-{
-    let mut autos = forest.autos.copy(alloc)?;
-    autos.set(root as usize, auto);
-    let vars = forest.vars.copy(alloc)?;
-    let data_vars = forest.data_vars.copy(alloc)?;
-    Ok(Forest {
-        autos,
-        vars,
-        data_vars,
-    })
-}
-
-/// The forest, with its signatures.
-fn sound_of(alloc: Global, forest: &Forest, face: &Face) -> Mem<Sound>
-    requires plain { Every HasNoBoxes forest.now.autos }
-    requires sound { IsSound face.now forest.now }
-    ensures forest { IfOk result (λ made. made.forest ≡ forest.now) }
-    ensures face { IfOk result (λ made. made.face ≡ face.now) }
-{
-    match Sound::make(alloc, forest, face)? {
-        Some(made) => Ok(made),
-        None => unreachable!(),
-    }
+    join_autos(alloc, component(left, root), component(right, root), child)
 }
 
 /// The forest with its components reduced, which joins what it joined.

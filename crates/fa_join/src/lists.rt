@@ -8,7 +8,7 @@ ghost use Rattle.fa_core.specs.Canonical.{IsCanonical};
 ghost use Rattle.fa_core.specs.Covering.{Reduced};
 ghost use Rattle.fa_core.specs.declared.boxes.BoxDef.{BoxDef};
 ghost use Rattle.fa_sound.specs.Soundness.{SoundForest};
-ghost use Rattle.fa_split.specs.Divided.{forests};
+ghost use Rattle.fa_sound.specs.Unions.{forests};
 ghost use Rattle.fa_join.specs.Joinable.{Joinable, NoneJoinable};
 ghost use Rattle.fa_join.specs.Joined.{IsJoined};
 ghost use Rattle.fa_join.specs.inner.Differing.{IsPartner};

@@ -1,15 +1,15 @@
 // The signatures of the children below the roots of two forests.
 
 ghost use Rattle.std.specs.Prelude.{◌≡◌, ◌<◌, ◌↔◌, IsTrue};
-ghost use Rattle.fa_merge.specs.Reordered.{component_at};
+ghost use Rattle.fa_sound.specs.Components.{component_at};
 ghost use Rattle.fa_split.specs.Split.{CanSplit, child_state};
 ghost use Rattle.fa_join.specs.Joinable.{SameSignatures};
 ghost use Rattle.fa_join.specs.inner.Differing.{HasMarks};
 
-use crate::tops::{component, state_at};
+use crate::tops::state_at;
 use fa_core::forest::Forest;
 use fa_core::signature::RefMark;
-use fa_sound::Sound;
+use fa_sound::{Sound, component};
 
 /// Whether the trees of the child below the root have one signature in both forests.
 pub fn have_same_marks(left: &Sound, right: &Sound, root: u32, child: usize) -> bool

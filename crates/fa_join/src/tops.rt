@@ -1,15 +1,12 @@
-// The rule at the top of an automaton, and the components of forests.
+// The rule at the top of an automaton.
 
 ghost use Rattle.std.specs.Prelude.{◌≡◌, ◌<◌, ◌^◌, false, length, [], ◌∷◌, IfOk, MatchOption};
-ghost use Rattle.fore_base.specs.Lists.{IsIn, Every};
-ghost use Rattle.ta_core.specs.Auto.{IsRanked};
+ghost use Rattle.fore_base.specs.Lists.{IsIn};
 ghost use Rattle.ta_core.specs.Single.{HasOneTop};
 ghost use Rattle.ta_core.specs.declared.auto.Rule.{Rule};
 ghost use Rattle.fa_core.specs.Ways.{has};
-ghost use Rattle.fa_merge.specs.Reordered.{component_at};
 ghost use Rattle.fa_split.specs.Split.{first_of, top_rule, child_state};
 
-use fa_core::forest::Forest;
 use fore_base::list::List;
 use fore_base::memory::Mem;
 use std::alloc::{AllocError, Global};
@@ -91,14 +88,6 @@ pub fn state_at(auto: &Auto, place: usize) -> u32
     rule_at_top(auto).children.get_or(place, 0)
 }
 
-/// The component of the root.
-pub fn component(forest: &Forest, root: u32) -> &Auto
-    requires { root < length forest.now.autos }
-    ensures { result.now ≡ component_at forest.now.autos root }
-{
-    forest.autos.at(root as usize)
-}
-
 /// The root of the component at the place. Where the number does not fit 32 bits the answer is want of memory.
 pub fn root_of(place: usize) -> Mem<u32>
     ensures { IfOk result (λ root. root ≡ place) }
@@ -107,19 +96,4 @@ pub fn root_of(place: usize) -> Mem<u32>
         return Err(AllocError);
     }
     Ok(place as u32)
-}
-
-/// Does nothing, and says that each component keeps its ranges.
-pub fn ranked_components(forest: &Forest)
-    ensures { Every IsRanked forest.now.autos }
-{
-    ranked_autos(forest.autos.as_slice());
-}
-
-fn ranked_autos(autos: &[Auto])
-    ensures { Every IsRanked autos.now }
-{
-    for auto in autos {
-        auto.known();
-    }
 }

@@ -9,7 +9,7 @@ use Rattle.fa_core.specs.Ways.{signature}
 use Rattle.fa_core.specs.declared.forest.Forest.{Forest}
 use Rattle.fa_core.specs.declared.signature.RefMark.{RefMark}
 use Rattle.fa_sound.specs.Soundness.{SoundForest}
-use Rattle.fa_merge.specs.Reordered.{component_at}
+use Rattle.fa_sound.specs.Components.{component_at}
 use Rattle.fa_split.specs.Split.{top_rule, child_state}
 use Rattle.fa_join.specs.Joinable.{SameRuns, SameSignatures, Joinable}
 use Rattle.fa_join.specs.declared.differing.Difference.{Difference}

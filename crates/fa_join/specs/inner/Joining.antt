@@ -12,9 +12,8 @@ use Rattle.fa_core.specs.declared.faces.BoxFace.{BoxFace}
 use Rattle.fa_core.specs.declared.faces.Face.{Face}
 use Rattle.fa_core.specs.declared.forest.Forest.{Forest}
 use Rattle.fa_sound.specs.Soundness.{SoundForest}
-use Rattle.fa_merge.specs.Reordered.{component_at}
-use Rattle.fa_split.specs.Chosen.{with_component}
-use Rattle.fa_split.specs.Divided.{forests}
+use Rattle.fa_sound.specs.Components.{component_at, with_component}
+use Rattle.fa_sound.specs.Unions.{forests}
 use Rattle.fa_split.specs.Split.{top_rule, child_state}
 use Rattle.fa_join.specs.Joinable.{Joinable}
 use Rattle.fa_join.specs.Joined.{IsJoined}

@@ -1,6 +1,6 @@
 use Rattle.ta_core.specs.Auto.{IsRanked}
 use Rattle.ta_core.specs.Single.{HasOneTop}
-use Rattle.fa_merge.specs.Reordered.{component_at}
+use Rattle.fa_sound.specs.Components.{component_at}
 use Rattle.fa_merge.proofs.PlacedForests.{component_has}
 use Rattle.fa_join.proofs.Children.{children_within}
 use Rattle.fa_join.proofs.DecidedForests.{tops_long}

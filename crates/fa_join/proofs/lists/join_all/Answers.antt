@@ -5,7 +5,7 @@ use Rattle.fa_core.specs.Boxless.{HasNoBoxes}
 use Rattle.fa_core.specs.Canonical.{IsCanonical}
 use Rattle.fa_core.specs.Covering.{Reduced}
 use Rattle.fa_sound.specs.Soundness.{SoundForest}
-use Rattle.fa_split.specs.Divided.{forests}
+use Rattle.fa_sound.specs.Unions.{forests}
 use Rattle.fa_join.specs.Joined.{IsJoined}
 use Rattle.fa_join.specs.inner.Joining.{IsReady}
 use Rattle.fa_join.proofs.JoinSteps.{all_ready, joining_first}

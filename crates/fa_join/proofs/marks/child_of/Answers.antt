@@ -1,6 +1,6 @@
 use Rattle.std.proofs.Common.{◌≡◌, ◌<◌, ◌∙◌, ap, sym, subst, ℕ}
 use Rattle.ta_core.specs.Auto.{Automaton, IsRanked}
-use Rattle.fa_merge.specs.Reordered.{component_at}
+use Rattle.fa_sound.specs.Components.{component_at}
 use Rattle.fa_split.specs.Split.{child_state}
 use Rattle.fa_join.proofs.Children.{child_within}
 use Rattle.fa_join.proofs.marks.child_of.Goals as goal

@@ -1,6 +1,6 @@
 use Rattle.std.proofs.Common.{sym, subst}
 use Rattle.fa_core.specs.declared.faces.Face.{Face}
-use Rattle.fa_merge.specs.Reordered.{component_at}
+use Rattle.fa_sound.specs.Components.{component_at}
 use Rattle.fa_split.specs.Split.{child_state}
 use Rattle.fa_join.specs.inner.Differing.{HasMarks}
 use Rattle.fa_join.proofs.Children.{marks_decide}

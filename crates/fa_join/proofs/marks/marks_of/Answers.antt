@@ -1,7 +1,7 @@
 use Rattle.std.proofs.Common.{◌≡◌, ◌<◌, ◌∙◌, sym, subst, ℕ}
 use Rattle.ta_core.specs.Language.{RunOf}
-use Rattle.fa_merge.specs.Reordered.{component_at}
-use Rattle.fa_merge.proofs.PlacedForests.{component_got}
+use Rattle.fa_sound.specs.Components.{component_at}
+use Rattle.fa_sound.proofs.ComponentLemmas.{component_got}
 use Rattle.fa_split.specs.Split.{child_state}
 use Rattle.fa_join.proofs.Children.{child_tree, child_is_state}
 use Rattle.fa_join.proofs.marks.marks_of.Goals as goal
