@@ -1,26 +1,24 @@
 // Forests abstracted by height.
 
-ghost use Rattle.std.specs.Prelude.{◌≡◌, ◌≤◌, List, length, IfOk};
+ghost use Rattle.std.specs.Prelude.{◌≡◌, ◌≤◌, List, IfOk};
 ghost use Rattle.fore_base.specs.Lists.{Every, Paired};
 ghost use Rattle.fore_base.specs.declared.shape.Shape.{Shape};
 ghost use Rattle.fore_base.specs.declared.store.Store.{Store};
 ghost use Rattle.ta_core.specs.Auto.{IsRanked};
 ghost use Rattle.ta_core.specs.Language.{IsTrim};
 ghost use Rattle.fa_core.specs.Boxless.{HasNoBoxes};
-ghost use Rattle.fa_core.specs.Filled.{IsSound};
 ghost use Rattle.fa_core.specs.Member.{Stands};
 ghost use Rattle.fa_core.specs.declared.boxes.BoxDef.{BoxDef};
 ghost use Rattle.fa_height.specs.Quotients.{IsQuotient, Quotient};
 ghost use Rattle.fa_height.specs.Structs.{HasOneStruct};
 
 use crate::joining::quotient;
-use fa_core::faces::Face;
 use fa_core::forest::Forest;
 use fa_core::laws::covered_members;
-use fa_sound::Sound;
+use fa_sound::{Sound, count_roots};
 use fore_base::list::{Copies, List};
 use fore_base::memory::Mem;
-use std::alloc::{AllocError, Global};
+use std::alloc::Global;
 use ta_core::auto::Auto;
 
 /// The quotient of the forest by the height: in each component exactly the inner states that agree to the height and have equal signatures are joined. A root state is joined with none, also where it stands inside. Targets and data stay, and each member of the forest is one of the result. The height is at least 1, each state takes part in an accepted tree of its component, and cells of one struct stand at the tops of a component's trees.
@@ -42,9 +40,7 @@ pub fn abstract_height(alloc: Global, forest: &Sound, height: u32) -> Mem<Sound>
 {
     covered_members();
     forest.known();
-    ranked_autos(forest.forest().autos.as_slice());
     let autos = quotients(alloc, forest, height)?;
-    ranked_autos(autos.as_slice());
     let vars = forest.forest().vars.copy(alloc)?;
     let data_vars = forest.forest().data_vars.copy(alloc)?;
     let made = Forest {
@@ -52,52 +48,22 @@ pub fn abstract_height(alloc: Global, forest: &Sound, height: u32) -> Mem<Sound>
         vars,
         data_vars,
     };
-    sound_of(alloc, &made, forest.face())
+    Sound::of(alloc, made, forest.face())
 }
 
 /// The quotient of each component.
 fn quotients(alloc: Global, forest: &Sound, height: u32) -> Mem<List<Auto>>
     requires { Every IsTrim forest.now.forest.autos }
-    ensures { IfOk result (λ made. Paired (IsQuotient forest.now.face.boxes height) forest.now.forest.autos made) }
+    ensures quotients { IfOk result (λ made.
+        Paired (IsQuotient forest.now.face.boxes height) forest.now.forest.autos made) }
+    ensures ranked { IfOk result (λ made. Every IsRanked made) }
 {
-    let count = count_roots(forest)?;
+    let count = count_roots(forest.forest())?;
     let mut made = List::new(alloc);
     for root in 0..count {
         let auto = quotient(alloc, forest, root, height)?;
+        auto.known();
         made.push(auto)?;
     }
     Ok(made)
-}
-
-/// How many roots the forest has. Where the number does not fit 32 bits the answer is want of memory.
-fn count_roots(forest: &Sound) -> Mem<u32>
-    ensures { IfOk result (λ count. count ≡ length forest.now.forest.autos) }
-{
-    let count = forest.forest().autos.len();
-    if count > u32::MAX as usize {
-        return Err(AllocError);
-    }
-    Ok(count as u32)
-}
-
-/// The forest, with its signatures.
-fn sound_of(alloc: Global, forest: &Forest, face: &Face) -> Mem<Sound>
-    requires plain { Every HasNoBoxes forest.now.autos }
-    requires sound { IsSound face.now forest.now }
-    ensures forest { IfOk result (λ made. made.forest ≡ forest.now) }
-    ensures face { IfOk result (λ made. made.face ≡ face.now) }
-{
-    match Sound::make(alloc, forest, face)? {
-        Some(made) => Ok(made),
-        None => unreachable!(),
-    }
-}
-
-/// Does nothing, and says that each automaton keeps its ranges.
-fn ranked_autos(autos: &[Auto])
-    ensures { Every IsRanked autos.now }
-{
-    for auto in autos {
-        auto.known();
-    }
 }
