@@ -1,14 +1,16 @@
 -- Quiet edges: those that change no pointer and split no cell.
 use Rattle.std.specs.Prelude.{Bool, true, false, [], ◌∷◌}
+use Rattle.c_cfg.specs.declared.graph.Const.TheVariants.{Null as ConstNull, Known as ConstKnown}
 use Rattle.c_cfg.specs.declared.graph.Instr.{Instr}
 use Rattle.c_cfg.specs.declared.graph.Instr.TheVariants.{CopyPtr, LoadPtr, StorePtr, StoreConst, New, Free, Kill, CopyData, LoadData, StoreData, TestPtr, TestData, Choose, Stop}
 
--- a Kill is quiet where no pointer variable dies
+-- a Kill is quiet where no pointer variable dies, and a StoreConst where it stores a number
 abbrev pub is_quiet : Instr → Bool
 is_quiet (CopyPtr to from) = false
 is_quiet (LoadPtr to b f) = false
 is_quiet (StorePtr b f from) = false
-is_quiet (StoreConst b f value) = false
+is_quiet (StoreConst b f ConstNull) = false
+is_quiet (StoreConst b f (ConstKnown k)) = true
 is_quiet (New to shape) = false
 is_quiet (Free b) = false
 is_quiet (Kill [] datums) = true

@@ -17,7 +17,7 @@ ghost use Rattle.sym_core.specs.Quiet.{is_quiet};
 ghost use Rattle.sym_step.specs.inner.Stepping.{IsLike, IsNext, IsStepping, Settles};
 
 use crate::posts::{Bad, Post};
-use c_cfg::graph::{Edge, Instr};
+use c_cfg::graph::{Const, Edge, Instr};
 use fa_canon::canonical;
 use fa_merge::leaking_root;
 use fa_order::reduce_forest;
@@ -182,6 +182,7 @@ fn is_quiet(instr: &Instr) -> bool
 {
     match instr {
         Instr::Kill { ptrs, .. } => ptrs.is_empty(),
+        Instr::StoreConst { value, .. } => matches!(value, Const::Known(_)),
         Instr::CopyData { .. }
         | Instr::LoadData { .. }
         | Instr::StoreData { .. }

@@ -1,6 +1,6 @@
 // Edges that store into a field.
 
-ghost use Rattle.std.specs.Prelude.{◌≡◌, ◌≤◌, List, [], ℕ, length, IfOk};
+ghost use Rattle.std.specs.Prelude.{◌≡◌, ◌≤◌, true, List, [], ℕ, length, IfOk};
 ghost use Rattle.fore_base.specs.Lists.{Every};
 ghost use Rattle.fa_core.specs.Boxless.{HasNoBoxes};
 ghost use Rattle.fa_core.specs.Canonical.{IsCanonical};
@@ -9,6 +9,7 @@ ghost use Rattle.fa_edit.specs.Plain.{IsPlainAt};
 ghost use Rattle.c_cfg.specs.Ranges.{ConstFits};
 ghost use Rattle.c_cfg.specs.declared.graph.Instr.TheVariants.{StorePtr, StoreConst, StoreData};
 ghost use Rattle.sym_core.specs.Explicit.{IsExplicit};
+ghost use Rattle.sym_core.specs.Quiet.{is_quiet};
 ghost use Rattle.sym_transfer.specs.Edited.{GoesCanonical, HasForm, IfGoes};
 ghost use Rattle.sym_transfer.specs.inner.Parts.{IsDatumStored, IsLeafStored, IsMadeBy};
 ghost use Rattle.sym_transfer.specs.inner.Tops.{AreTopped, HasTop};
@@ -71,13 +72,15 @@ pub fn stored_ptr(alloc: Global, forest: &Sound, to: u32, field: u32, from: u32)
     }
 }
 
-/// `to->field = value`. Err is want of memory.
+/// `to->field = value`. A number leaves a canonical forest canonical. Err is want of memory.
 pub fn stored_const(alloc: Global, forest: &Sound, to: u32, field: u32, value: Const) -> Mem<Edited>
     requires plain { Every HasNoBoxes forest.now.forest.autos }
     requires explicit { IsExplicit forest.now.forest (StoreConst to field value) }
     requires value { ConstFits (length forest.now.forest.vars) (length forest.now.forest.data_vars) forest.now.face.shapes.structs field value }
     ensures edited { IfOk result (IsMadeBy forest.now (StoreConst to field value)) }
     ensures form { IfOk result (IfGoes (HasForm forest.now)) }
+    ensures quiet { is_quiet (StoreConst to field value) ≡ true → IsCanonical forest.now.face forest.now.forest →
+        IfOk result GoesCanonical }
 {
     match followed(forest, to) {
         Ok(root) => match value {
