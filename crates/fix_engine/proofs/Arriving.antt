@@ -2,6 +2,8 @@
 use Rattle.std.proofs.Common.{◌≡◌, ◌⊎◌, ℕ, suc, zero, ◌+◌, ◌<◌, ◌≤◌, List, [], ◌∷◌, ◌++◌, map, length, slice_get, Option, Some, None, Bool, true, false, Result, Ok, Err, IfOk, refl, sym, ap, ◌∙◌, subst, arith, inl, inr, true≢false}
 use Rattle.fore_base.specs.declared.store.Store.{Store}
 use Rattle.fore_base.specs.Lists.{IsIn, Every, Paired}
+use Rattle.fore_base.proofs.ListLemmas.{paired_same}
+use Rattle.ta_core.specs.Language.{HasSameLanguage}
 use Rattle.fa_core.specs.Boxes.{Boxes}
 use Rattle.fa_core.specs.Canonical.{IsCanonical}
 use Rattle.fa_core.specs.Covering.{Reduced}
@@ -21,10 +23,10 @@ use Rattle.sym_core.specs.Cases.{CaseOf}
 use Rattle.sym_core.specs.Kept.{Keeps}
 use Rattle.sym_core.specs.Quiet.{is_quiet}
 use Rattle.sym_step.specs.Posts.{HasAsMany}
-use Rattle.fix_engine.specs.Explorations.{is_head, IsApart}
-use Rattle.fix_engine.specs.Follows.{HasItsVars, IsMember, IsCase, Settles, IsStateAt, Arrives}
+use Rattle.fix_engine.specs.Explorations.{is_head}
+use Rattle.fix_engine.specs.Follows.{HasItsVars, IsMember, IsCase, SameLanguages, IsStateAt, Arrives}
 use Rattle.fix_engine.specs.States.{AbstractState}
-use Rattle.fix_engine.specs.inner.Arriving.{EachTwo, carried, IsCarriedOver, AreCarried, IsHeld, StandsInCase, IsRawCase, AreCases, IsSettling, AreSettled, AreArrivals}
+use Rattle.fix_engine.specs.inner.Arriving.{EachTwo, carried, IsCarriedOver, AreCarried, IsHeld, StandsInCase, IsRawCase, AreCases, AreOfTwoCases, IsSettling, AreSettled, AreArrivals}
 use Rattle.fix_engine.specs.inner.Ready.{IsNormal}
 use Rattle.fix_engine.proofs.Lists.{some_same, every_in, every_at}
 
@@ -44,6 +46,10 @@ no_def : (defs : List BoxDef) (b : ℕ) (d : BoxDef) → defs ≡ [] → slice_g
 no_def [] b d none is = cc
 no_def (x ∷ xs) b d none is = cc
 
+-- a forest has its own trees
+same_trees : (F : Forest) → SameLanguages F F
+same_trees F = record { vars = refl; data_vars = refl; languages = paired_same HasSameLanguage (λ a t. ((λ h. h), (λ h. h))) F.autos }
+
 pub settling : (T : Boxes) (g : ControlGraph) (k : ℕ) (M made : SoundForest) → T.defs ≡ [] → IsNormal T g M → IsSound M.face M.forest → IsSound made.face made.forest → made.face ≡ M.face
     → IsAbstraction M.face.boxes M.forest k made.forest → IsCanonical made.face made.forest → Reduced made.forest → ((s : Store) → IsMember T M.forest s → IsMember T made.forest s)
     → IsSettling T g k M (record { face = made.face; forest = made.forest; middle = Some M.forest; folds = [] })
@@ -51,13 +57,14 @@ settling T g k M made none normal sound made_sound face abs canonical reduced ke
     let same : made.face ≡ T.face = face ∙ normal.face in
     record {
       case_sound = subst (λ z. IsSound z M.forest) normal.face sound;
+      grouped = M.forest;
       settles = record {
         middle = refl;
         folded = M.forest;
         folds = refl;
         whole = λ b i o can. no_def T.defs b can.0 none can.1;
-        grouped = M.forest;
         regroups = regroups_same T.defs M.forest;
+        unfolded = λ no_folds. same_trees M.forest;
         canonical = normal.canonical;
         reduced = normal.reduced;
         abstracts = subst (λ (z : Face). IsAbstraction z.boxes M.forest k made.forest) normal.face abs;
@@ -87,7 +94,7 @@ module _ (T : Boxes) (g : ControlGraph) (k : ℕ) (F : Forest) (e : Edge) where
   settled_each [] (a ∷ as') head cs ps = absurd ps
   settled_each (M ∷ Ms) [] head cs ps = absurd ps
   settled_each (M ∷ Ms) (a ∷ as') head cs ps =
-      let st : IsStateAt T true k F e a = record { middle = M.forest; case_of = case_is M ps.0.case_sound cs.0; settles = ps.0.settles } in (
+      let st : IsStateAt T true k F e a = record { middle = M.forest; grouped = ps.0.grouped; case_of = case_is M ps.0.case_sound cs.0; settles = ps.0.settles } in (
         record { face = ps.0.face; state = subst (λ z. IsStateAt T z k F e a) (sym head) st; sound = ps.0.sound; canonical = ps.0.canonical; reduced = ps.0.reduced; vars = ps.0.vars },
         settled_each Ms as' head cs.1 ps.1,
       )
@@ -99,7 +106,7 @@ module _ (T : Boxes) (g : ControlGraph) (k : ℕ) (F : Forest) (e : Edge) where
       none (subst (λ z. Joinable T.face.boxes z N) here (subst (λ z. Joinable T.face.boxes P z) there j))
 
   settled_apart : (Ms : List SoundForest) (made : List AbstractState) → is_head g e.to ≡ true → EachTwo (λ A B. Joinable T.face.boxes A B → ⊥) (forests Ms) → (is_quiet e.instr ≡ true → length Ms ≤ 1)
-      → Paired (IsSettling T g k) Ms made → EachTwo (IsApart T g k e) made
+      → Paired (IsSettling T g k) Ms made → EachTwo (AreOfTwoCases T g e) made
   settled_apart [] [] head two quiet ps = tt
   settled_apart [] (a ∷ as') head two quiet ps = absurd ps
   settled_apart (M ∷ Ms) [] head two quiet ps = absurd ps
@@ -107,16 +114,15 @@ module _ (T : Boxes) (g : ControlGraph) (k : ℕ) (F : Forest) (e : Edge) where
       (each Ms as' two.0 (λ q. omega (arith, quiet q)) ps.1, settled_apart Ms as' head two.1 (λ q. omega (arith, quiet q)) ps.1)
     where
       each : (Ns : List SoundForest) (bs : List AbstractState) → Every (λ B. Joinable T.face.boxes M.forest B → ⊥) (forests Ns) → (is_quiet e.instr ≡ true → length Ns ≤ 0)
-          → Paired (IsSettling T g k) Ns bs → Every (IsApart T g k e a) bs
+          → Paired (IsSettling T g k) Ns bs → Every (AreOfTwoCases T g e a) bs
       each [] [] apart none qs = tt
       each [] (b ∷ bs) apart none qs = absurd qs
       each (N ∷ Ns) [] apart none qs = absurd qs
       each (N ∷ Ns) (b ∷ bs) apart none qs = (
         record {
           joinable = λ not_head. absurd (true≢false (sym head ∙ not_head));
-          quiet_at = λ q. head;
-          quiet_same = λ q. absurd (omega (arith, none q));
-          middles = λ P Q p q. inr (two_middles P Q M.forest N.forest a b ps.0.settles.middle qs.0.settles.middle p q apart.0);
+          not_quiet = λ q. omega (arith, none q);
+          middles = λ P Q p q. two_middles P Q M.forest N.forest a b ps.0.settles.middle qs.0.settles.middle p q apart.0;
         },
         each Ns bs apart.1 (λ q. absurd (omega (arith, none q))) qs.1,
       )
@@ -152,7 +158,7 @@ module _ (T : Boxes) (g : ControlGraph) (k : ℕ) (F : Forest) (e : Edge) where
   none_some o P n h = cc
 
   carried_apart : (Ms : List SoundForest) (made : List AbstractState) → is_head g e.to ≡ false → EachTwo (λ A B. Joinable T.face.boxes A B → ⊥) (forests Ms) → (is_quiet e.instr ≡ true → length Ms ≤ 1)
-      → AreCarried Ms made → EachTwo (IsApart T g k e) made
+      → AreCarried Ms made → EachTwo (AreOfTwoCases T g e) made
   carried_apart [] [] head two quiet ps = tt
   carried_apart [] (a ∷ as') head two quiet ps = absurd ps
   carried_apart (M ∷ Ms) [] head two quiet ps = absurd ps
@@ -160,15 +166,14 @@ module _ (T : Boxes) (g : ControlGraph) (k : ℕ) (F : Forest) (e : Edge) where
       (each Ms as' two.0 (λ q. omega (arith, quiet q)) ps.1, carried_apart Ms as' head two.1 (λ q. omega (arith, quiet q)) ps.1)
     where
       each : (Ns : List SoundForest) (bs : List AbstractState) → Every (λ B. Joinable T.face.boxes M.forest B → ⊥) (forests Ns) → (is_quiet e.instr ≡ true → length Ns ≤ 0)
-          → AreCarried Ns bs → Every (IsApart T g k e a) bs
+          → AreCarried Ns bs → Every (AreOfTwoCases T g e a) bs
       each [] [] apart none qs = tt
       each [] (b ∷ bs) apart none qs = absurd qs
       each (N ∷ Ns) [] apart none qs = absurd qs
       each (N ∷ Ns) (b ∷ bs) apart none qs = (
         record {
           joinable = λ h j. apart.0 (subst (λ (z : AbstractState). Joinable T.face.boxes M.forest z.forest) qs.0.is (subst (λ (z : AbstractState). Joinable T.face.boxes z.forest b.forest) ps.0.is j));
-          quiet_at = λ q. absurd (omega (arith, none q));
-          quiet_same = λ q. absurd (omega (arith, none q));
+          not_quiet = λ q. omega (arith, none q);
           middles = λ P Q p q. absurd (none_some a.middle P (ap (λ (z : AbstractState). z.middle) ps.0.is) p);
         },
         each Ns bs apart.1 (λ q. absurd (omega (arith, none q))) qs.1,

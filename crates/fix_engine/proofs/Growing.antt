@@ -1,17 +1,23 @@
 -- An exploration with one node more.
-use Rattle.std.proofs.Common.{◌≡◌, ◌⊎◌, ℕ, suc, zero, ◌+◌, ◌<◌, ◌≤◌, List, [], ◌∷◌, ◌++◌, length, Option, Some, None, Bool, true, false, refl, sym, ap, ◌∙◌, subst, arith, inl, inr}
-use Rattle.std.proofs.lemmas.Option.{slice_get_within}
+use Rattle.std.proofs.Common.{◌≡◌, ◌⊎◌, ℕ, suc, zero, ◌+◌, ◌<◌, ◌≤◌, List, [], ◌∷◌, ◌++◌, length, Option, Some, None, Bool, true, false, nat_eq, if◌then◌else◌, refl, sym, ap, ◌∙◌, subst, arith, inl, inr}
+use Rattle.std.proofs.lemmas.Bool.{eqb-true, eq-eqb}
+use Rattle.std.proofs.lemmas.Option.{none-some, slice_get_within}
+use Rattle.fore_base.specs.declared.fault.Fault.{Fault as Kind}
 use Rattle.fore_base.specs.declared.store.Store.{Store}
 use Rattle.fore_base.specs.Lists.{IsIn, Every}
 use Rattle.fa_core.specs.Boxes.{Boxes}
 use Rattle.fa_core.specs.Covering.{Covers}
+use Rattle.fa_core.specs.declared.forest.Forest.{Forest}
+use Rattle.fa_join.specs.Joinable.{Joinable}
 use Rattle.c_cfg.specs.declared.graph.Edge.{Edge}
 use Rattle.c_cfg.specs.Edges.{Pass, Passed, Faulted, Halted, NotPassed}
 use Rattle.c_cfg.specs.Graphs.{ControlGraph}
 use Rattle.fix_engine.specs.declared.nodes.Node.{Node}
 use Rattle.fix_engine.specs.States.{AbstractState}
-use Rattle.fix_engine.specs.Follows.{Arrives, passed_by}
-use Rattle.fix_engine.specs.Explorations.{IsNode, IsEdge, is_head, IsChild, NoLater, Follows, FollowsEarlier, IsHoused, IsCared, EdgeDone, Done, IsApart, Exploration}
+use Rattle.fix_engine.specs.Follows.{Arrives, IsMember, IsStateAt, Settles, passed_by}
+use Rattle.fix_engine.specs.Explorations.{IsNode, IsEdge, is_head, IsChild, NoLater, Follows, FollowsEarlier, IsHoused, IsCared, IsCalm}
+use Rattle.fix_engine.specs.Explorations.{EdgeDone, EarlierDone, CalmUpTo, Done, IsApart, Exploration}
+use Rattle.fix_engine.specs.inner.Arriving.{AreOfTwoCases}
 use Rattle.fix_engine.specs.inner.Taking.{child, Grows, IsMid}
 use Rattle.fix_engine.proofs.Lists.{some_same, length_push, get_more, get_last, get_push, at_within, in_left, in_right, every_in}
 
@@ -41,6 +47,31 @@ module _ (T : Boxes) (g : ControlGraph) where
   pub edge_more : (nodes more : List Node) → Grows nodes more → (n : Node) (e : Edge) → EdgeDone T g nodes n e → EdgeDone T g more n e
   edge_more nodes more gr n e h = λ s m. cared_more nodes more gr e.to (passed_by T e s) (h s m)
 
+  -- the edges before are done, also among more nodes
+  pub earlier_more : (nodes more : List Node) → Grows nodes more → (n : Node) (c : ℕ) → EarlierDone T g nodes n c → EarlierDone T g more n c
+  earlier_more nodes more gr n c h = λ d e less ie fr. edge_more nodes more gr n e (h d e less ie fr)
+
+  cared_calm : (nodes : List Node) (to : ℕ) (x : Pass) (kind : Kind) → IsCared T g nodes to x → x ≡ Faulted kind → ⊥
+  cared_calm nodes to x kind h is = subst (IsCared T g nodes to) is h
+
+  -- no member meets a fault on an edge that is done
+  done_calm : (nodes : List Node) (n : Node) (e : Edge) → EdgeDone T g nodes n e → IsCalm T n e
+  done_calm nodes n e h = λ s kind m is. cared_calm nodes e.to (passed_by T e s) kind (h s m) is
+
+  -- nor on an edge up to this one, where those before it are done
+  pub calm_here : (nodes : List Node) (n : Node) (c : ℕ) (e : Edge) → IsEdge g c e → EarlierDone T g nodes n c → IsCalm T n e → CalmUpTo T g n c
+  calm_here nodes n c e ie earlier calm = λ d f le jf fr. here d f jf fr (upto d c le)
+    where
+      upto : (a b : ℕ) → a ≤ b → (a < b) ⊎ (a ≡ b)
+      upto zero zero h = inr refl
+      upto zero (suc b) h = inl (omega arith)
+      upto (suc a) zero h = absurd (omega (arith, h))
+      upto (suc a) (suc b) h = elim (upto a b (omega (arith, h))) [ inl l ↦ inl (omega (arith, l)) | inr e ↦ inr (ap suc e) ]
+
+      here : (d : ℕ) (f : Edge) → IsEdge g d f → f.from ≡ n.head.location → (d < c) ⊎ (d ≡ c) → IsCalm T n f
+      here d f jf fr (inl less) = done_calm nodes n f (earlier d f less jf fr)
+      here d f jf fr (inr same) = subst (IsCalm T n) (some_same e f (sym ie ∙ subst (λ z. IsEdge g z f) same jf)) calm
+
   pub done_more : (nodes more : List Node) → Grows nodes more → (j : ℕ) → j < length nodes → Done T g nodes j → Done T g more j
   done_more nodes more gr j inside d =
       let w = at_within nodes j inside in
@@ -48,12 +79,45 @@ module _ (T : Boxes) (g : ControlGraph) where
       let same : w.0 ≡ n = one_node more j w.0 n (gr j w.0 w.1) is in
       edge_more nodes more gr n e (d n (subst (IsNode nodes j) same w.1) c e ie fr)
 
+-- a value for each number, and another one for n
+abbrev instead : (ℕ → Forest) → ℕ → Forest → ℕ → Forest
+instead old n F j = if nat_eq j n then F else old j
+
+instead_there : (old : ℕ → Forest) (n : ℕ) (F : Forest) → instead old n F n ≡ F
+instead_there old n F = ap (λ b. if b then F else old n) (eq-eqb n n refl)
+
+instead_elsewhere : (old : ℕ → Forest) (n j : ℕ) (F : Forest) → j < n → instead old n F j ≡ old j
+instead_elsewhere old n j F less = here (nat_eq j n) refl
+  where
+    here : (b : Bool) → nat_eq j n ≡ b → (if b then F else old j) ≡ old j
+    here true is = absurd (omega (arith, less, eqb-true j n is))
+    here false is = refl
+
 module _ (T : Boxes) (g : ControlGraph) (k : ℕ) where
+  -- what the case of a state was regrouped into
+  abbrev grouped_of : (head : Bool) (F : Forest) (e : Edge) (a : AbstractState) → IsStateAt T head k F e a → Forest
+  grouped_of true F e a st = st.grouped
+  grouped_of false F e a st = a.forest
+
+  groups_of : (head : Bool) (F : Forest) (e : Edge) (a : AbstractState) (st : IsStateAt T head k F e a) (M : Forest) → a.middle ≡ Some M
+      → Settles T k M (grouped_of head F e a st) a
+  groups_of true F e a st M is = subst (λ z. Settles T k z st.grouped a) (some_same st.middle M (sym st.settles.middle ∙ is)) st.settles
+  groups_of false F e a st M is = absurd (none-some M (sym st.no_middle ∙ is))
+
+  -- states of two cases are apart, whatever they were regrouped into
+  two_apart : (e : Edge) (a b : AbstractState) (G H : Forest) → AreOfTwoCases T g e a b → IsApart T g k e a b G H
+  two_apart e a b G H two = record {
+    joinable = two.joinable;
+    quiet_at = λ q. absurd (two.not_quiet q);
+    quiet_same = λ q. absurd (two.not_quiet q);
+    middles = λ M N is js. inr (two.middles M N is js);
+  }
+
   -- one more state of edge c of node `at`
   module _ (nodes : List Node) (at c : ℕ) (before : List AbstractState) (mid : IsMid T g k nodes at c before)
       (parent : Node) (is : IsNode nodes at parent) (e : Edge) (is_edge : IsEdge g c e) (from : e.from ≡ parent.head.location)
-      (a : AbstractState) (arrives : Arrives T g (is_head g e.to) k parent.state.forest e a)
-      (apart : Every (λ b. IsApart T g k e b a) before)
+      (calm : IsCalm T parent e) (a : AbstractState) (arrives : Arrives T g (is_head g e.to) k parent.state.forest e a)
+      (apart : Every (λ b. AreOfTwoCases T g e b a) before)
       (fresh : (j : ℕ) (m : Node) → IsNode nodes j m → m.head.location ≡ e.to → Covers m.state.forest a.forest → ⊥) where
     abbrev new : Node
     new = child at c e a
@@ -126,24 +190,90 @@ module _ (T : Boxes) (g : ControlGraph) (k : ℕ) where
       | inr w ↦ done_now i (omega (arith, less, (new_is n p d w.1 ch).0))
     ]
 
-    apart_more : (i j : ℕ) (m n : Node) (p d : ℕ) (f : Edge) → i < j → IsNode more i m → IsNode more j n → IsChild m p d → IsChild n p d → IsEdge g d f → IsApart T g k f m.state n.state
+    -- the parent of a node is an earlier one
+    parent_is : (q : ℕ) (p : Node) → q ≡ at → IsNode more q p → parent ≡ p
+    parent_is q p same h = one_node more at parent p (grows at parent is) (subst (λ z. IsNode more z p) same h)
+
+    parent_old : (j q d : ℕ) (n p : Node) → IsNode nodes j n → IsChild n q d → IsNode more q p → IsNode nodes q p
+    parent_old zero q d n p h ch hp =
+        let none = ap (λ z. z.head.parent) (one_node nodes 0 n mid.explored.first.node h mid.explored.first.is) ∙ mid.explored.first.no_parent in
+        absurd (none-some q (sym none ∙ ch.parent))
+    parent_old (suc j) q d n p h ch hp =
+        let f = mid.explored.follow (suc j) n (omega arith) h in
+        let same : f.at ≡ q = some_same f.at q (sym f.follows.child.parent ∙ ch.parent) in
+        elim (get_push nodes new q p hp) [
+          | inl old ↦ old
+          | inr w ↦ absurd (omega (arith, w.0, same, f.earlier, slice_get_within nodes (suc j) n h))
+        ]
+
+    earlier_now : EarlierDone T g more parent c
+    earlier_now = earlier_more T g nodes more grows parent c (mid.earlier parent is)
+
+    earlier : (j : ℕ) (n p : Node) (q d : ℕ) → length more ≡ j + 1 → IsNode more j n → IsChild n q d → IsNode more q p → EarlierDone T g more p d
+    earlier j n p q d len h ch hp = elim (get_push nodes new j n h) [
+      | inl old ↦ absurd (omega (arith, slice_get_within nodes j n old, len, length_push nodes new))
+      | inr w ↦
+          let v = new_is n q d w.1 ch in
+          subst (λ z. EarlierDone T g more z d) (parent_is q p (sym v.0) hp) (subst (EarlierDone T g more parent) v.1 earlier_now)
+    ]
+
+    calm_more : (j : ℕ) (n p : Node) (q d : ℕ) → IsNode more j n → IsChild n q d → IsNode more q p → CalmUpTo T g p d
+    calm_more j n p q d h ch hp = elim (get_push nodes new j n h) [
+      | inl old ↦ mid.explored.calm j n p q d old ch (parent_old j q d n p old ch hp)
+      | inr w ↦
+          let v = new_is n q d w.1 ch in
+          let here : CalmUpTo T g parent c = calm_here T g nodes parent c e is_edge (mid.earlier parent is) calm in
+          subst (λ z. CalmUpTo T g z d) (parent_is q p (sym v.0) hp) (subst (CalmUpTo T g parent) v.1 here)
+    ]
+
+    abbrev own_grouped : Forest
+    own_grouped = grouped_of (is_head g e.to) parent.state.forest e a arrives.state
+
+    abbrev grouped : ℕ → Forest
+    grouped = instead mid.explored.grouped (length nodes) own_grouped
+
+    grouped_new : (j : ℕ) → j ≡ length nodes → grouped j ≡ own_grouped
+    grouped_new j same = ap grouped same ∙ instead_there mid.explored.grouped (length nodes) own_grouped
+
+    grouped_old : (j : ℕ) (n : Node) → IsNode nodes j n → grouped j ≡ mid.explored.grouped j
+    grouped_old j n h = instead_elsewhere mid.explored.grouped (length nodes) j own_grouped (slice_get_within nodes j n h)
+
+    groups : (j : ℕ) (n : Node) (M : Forest) → IsNode more j n → n.state.middle ≡ Some M → Settles T k M (grouped j) n.state
+    groups j n M h m = elim (get_push nodes new j n h) [
+      | inl old ↦ subst (λ z. Settles T k M z n.state) (sym (grouped_old j n old)) (mid.explored.groups j n M old m)
+      | inr w ↦
+          let own : a.middle ≡ Some M = sym (ap (λ z. z.state.middle) w.1) ∙ m in
+          let one : Settles T k M own_grouped a = groups_of (is_head g e.to) parent.state.forest e a arrives.state M own in
+          subst (λ z. Settles T k M z n.state) (sym (grouped_new j w.0)) (subst (λ z. Settles T k M own_grouped z.state) (sym w.1) one)
+    ]
+
+    apart_more : (i j : ℕ) (m n : Node) (p d : ℕ) (f : Edge) → i < j → IsNode more i m → IsNode more j n → IsChild m p d → IsChild n p d
+        → IsEdge g d f → IsApart T g k f m.state n.state (grouped i) (grouped j)
     apart_more i j m n p d f less h l cm cn ie = elim (two i j m n less h l) [
-      | both_old x y ↦ mid.explored.apart i j m n p d f less x y cm cn ie
+      | both_old x y ↦
+          subst (λ z. IsApart T g k f m.state n.state z (grouped j)) (sym (grouped_old i m x))
+          (subst (λ z. IsApart T g k f m.state n.state (mid.explored.grouped i) z) (sym (grouped_old j n y))
+          (mid.explored.apart i j m n p d f less x y cm cn ie))
       | later_new x y ↦
           let w = new_is n p d y cn in
           let mine : IsChild m at c = record { parent = cm.parent ∙ ap Some (sym w.0); edge = cm.edge ∙ ap Some (sym w.1) } in
           let same : e ≡ f = some_same e f (sym is_edge ∙ (subst (λ z. IsEdge g z f) (sym w.1) ie)) in
-          let one : IsApart T g k e m.state a = every_in (λ b. IsApart T g k e b a) before m.state apart (mid.those i m x mine) in
-          subst (λ z. IsApart T g k z m.state n.state) same (subst (λ z. IsApart T g k e m.state z.state) (sym y) one)
+          let one : AreOfTwoCases T g e m.state a = every_in (λ b. AreOfTwoCases T g e b a) before m.state apart (mid.those i m x mine) in
+          two_apart f m.state n.state (grouped i) (grouped j)
+          (subst (λ z. AreOfTwoCases T g z m.state n.state) same (subst (λ z. AreOfTwoCases T g e m.state z.state) (sym y) one))
     ]
 
     pub grown : Exploration T g k more
     grown = let f = mid.explored.first in record {
-      first = record { node = f.node; is = grows 0 f.node f.is; entry = f.entry; no_parent = f.no_parent; no_middle = f.no_middle; no_folds = f.no_folds; face = f.face; sound = f.sound; canonical = f.canonical; reduced = f.reduced; vars = f.vars; members = f.members };
+      first = record { node = f.node; is = grows 0 f.node f.is; entry = f.entry; no_parent = f.no_parent; no_edge = f.no_edge; no_choice = f.no_choice; no_middle = f.no_middle; no_folds = f.no_folds; face = f.face; sound = f.sound; canonical = f.canonical; reduced = f.reduced; vars = f.vars; members = f.members };
       follow = follow;
       fresh = fresh_more;
       order = order;
       done = done;
+      earlier_edges = λ j n p q d. earlier j n p q d;
+      calm = λ j n p q d. calm_more j n p q d;
+      grouped = grouped;
+      groups = groups;
       apart = apart_more;
     }
 
@@ -152,6 +282,7 @@ module _ (T : Boxes) (g : ControlGraph) (k : ℕ) where
       explored = grown;
       inside = omega (arith, mid.inside, length_push nodes new);
       done = done_now;
+      earlier = λ p h. subst (λ z. EarlierDone T g more z c) (parent_is at p refl h) earlier_now;
       last = λ j n p d h ch. elim (get_push nodes new j n h) [
         | inl old ↦ mid.last j n p d old ch
         | inr w ↦ let v = new_is n p d w.1 ch in inr (sym v.0, omega (arith, v.1))

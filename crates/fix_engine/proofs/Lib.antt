@@ -8,6 +8,7 @@ pub mod Judging
 pub mod Lists
 pub mod Posting
 pub mod Rows
+pub mod ExplorationRows
 pub mod Safety
 pub mod Starting
 pub mod TakenUp

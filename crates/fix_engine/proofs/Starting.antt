@@ -1,6 +1,7 @@
 -- The forest of node 0: its members are the stores with which a run begins.
 use Rattle.std.proofs.Common.{◌≡◌, ◌↔◌, ◌<◌, ℕ, suc, zero, List, [], ◌∷◌, map, length, replicate, slice_get, Some, None, refl, sym, ap, ap₂, ◌∙◌, subst, arith, inl, inr}
 use Rattle.std.proofs.lemmas.List.{length-replicate}
+use Rattle.std.proofs.lemmas.Option.{none-some}
 use Rattle.fore_base.specs.Heap.{IsProper, NamesCell}
 use Rattle.fore_base.specs.Lists.{IsIn, Every}
 use Rattle.fore_base.specs.declared.shape.Shape.{Shape}
@@ -19,6 +20,7 @@ use Rattle.fa_core.specs.Rearranged.{Rearranged, empty, keep, swap, chain}
 use Rattle.fa_core.specs.declared.boxes.BoxDef.{BoxDef}
 use Rattle.fa_core.specs.declared.faces.BoxFace.{BoxFace}
 use Rattle.fa_core.specs.declared.faces.Face.{Face}
+use Rattle.fa_core.specs.declared.forest.Forest.{Forest}
 use Rattle.fa_core.specs.declared.forest.Target.{Target}
 use Rattle.fa_core.specs.declared.forest.Target.TheVariants.{Uninit, At}
 use Rattle.fa_sound.specs.Soundness.{SoundForest}
@@ -89,13 +91,13 @@ values_unset : (vs : List Value) (n : ℕ) → map (value_in vs) (replicate n Un
 values_unset vs zero = refl
 values_unset vs (suc n) = ap (λ zs. UninitValue ∷ zs) (values_unset vs n)
 
-nothing : {X : Type 0} (xs ys : List X) → Rearranged xs ys → xs ≡ [] → ys ≡ []
+pub nothing : {X : Type 0} (xs ys : List X) → Rearranged xs ys → xs ≡ [] → ys ≡ []
 nothing xs ys empty h = refl
 nothing xs ys (keep x r) h = cc
 nothing xs ys (swap x y zs) h = cc
 nothing xs ys (chain {ys = ms} a b) h = nothing ms ys b (nothing xs ms a h)
 
-no_cells : (cs : List CellRec) → store_facts cs ≡ [] → cs ≡ []
+pub no_cells : (cs : List CellRec) → store_facts cs ≡ [] → cs ≡ []
 no_cells [] h = refl
 no_cells (c ∷ cs) h = cc
 
@@ -129,13 +131,16 @@ module _ (hs : List Shape) (T : List BoxDef) (ptrs datums : ℕ) where
 -- node 0 alone
 
 module _ (T : Boxes) (g : ControlGraph) (n : Node) (forest : n.state.forest ≡ no_components g.ptrs g.datums) (face : n.state.face ≡ T.face)
-    (entry : n.head.location ≡ 0) (no_parent : n.head.parent ≡ None) (no_middle : n.state.middle ≡ None) (no_folds : n.state.folds ≡ []) where
+    (entry : n.head.location ≡ 0) (no_parent : n.head.parent ≡ None) (no_edge : n.head.edge ≡ None) (no_choice : n.head.choice ≡ None)
+    (no_middle : n.state.middle ≡ None) (no_folds : n.state.folds ≡ []) where
   first_is : IsFirst T g (n ∷ [])
   first_is = record {
     node = n;
     is = refl;
     entry = entry;
     no_parent = no_parent;
+    no_edge = no_edge;
+    no_choice = no_choice;
     no_middle = no_middle;
     no_folds = no_folds;
     face = face;
@@ -157,6 +162,10 @@ module _ (T : Boxes) (g : ControlGraph) (n : Node) (forest : n.state.forest ≡ 
       none m p a b = cc
   no_child (suc j) p m is par = cc
 
+  no_middles : (j : ℕ) (m : Node) (M : Forest) → IsNode (n ∷ []) j m → m.state.middle ≡ Some M → ⊥
+  no_middles zero m M is has = none-some M (sym no_middle ∙ ap (λ z. z.state.middle) (some_same n m is) ∙ has)
+  no_middles (suc j) m M is has = none-some m is
+
   alone_explored : (k : ℕ) → Exploration T g k (n ∷ [])
   alone_explored k = record {
     first = first_is;
@@ -164,6 +173,10 @@ module _ (T : Boxes) (g : ControlGraph) (n : Node) (forest : n.state.forest ≡ 
     fresh = λ i j a b less ia ib. absurd (omega (arith, less, only j b ib));
     order = λ i j a b p c q d less ia ib. absurd (omega (arith, less, only j b ib));
     done = λ j m p c len is ch. absurd (no_child j p m is ch.parent);
+    earlier_edges = λ j m q p c len is ch. absurd (no_child j p m is ch.parent);
+    calm = λ j m q p c is ch. absurd (no_child j p m is ch.parent);
+    grouped = λ j. n.state.forest;
+    groups = λ j m M is has. absurd (no_middles j m M is has);
     apart = λ i j a b p c e less ia ib. absurd (omega (arith, less, only j b ib));
   }
 

@@ -1,6 +1,7 @@
 -- The states of an edge, the edges of a node and the nodes, taken up one by one.
 use Rattle.std.proofs.Common.{◌≡◌, ◌⊎◌, ℕ, suc, zero, ◌+◌, ◌<◌, ◌≤◌, List, [], ◌∷◌, ◌++◌, map, length, take, drop, slice_get, Option, Some, None, Bool, true, false, refl, sym, ap, ◌∙◌, subst, arith, inl, inr}
 use Rattle.std.proofs.lemmas.Option.{slice_get_within}
+use Rattle.fore_base.specs.declared.fault.Fault.{Fault as Kind}
 use Rattle.fore_base.specs.declared.store.Store.{Store}
 use Rattle.fore_base.specs.Lists.{IsIn, Every}
 use Rattle.fore_base.proofs.ListLemmas.{place_of}
@@ -23,10 +24,10 @@ use Rattle.fix_engine.specs.declared.nodes.Node.{Node}
 use Rattle.fix_engine.specs.declared.posts.Made.{Made}
 use Rattle.fix_engine.specs.declared.taking.Taken.{Taken}
 use Rattle.fix_engine.specs.declared.taking.Taken.TheVariants.{All, Fault, Full as Over}
-use Rattle.fix_engine.specs.Explorations.{IsNode, IsEdge, is_head, IsChild, NoLater, IsHoused, IsCared, EdgeDone, Done, IsApart, Exploration, Full, IsExplored, AbstractTrace}
+use Rattle.fix_engine.specs.Explorations.{IsNode, IsEdge, is_head, IsChild, NoLater, IsHoused, IsCared, IsCalm, EdgeDone, EarlierDone, Done, Exploration, Full, IsExplored, AbstractTrace}
 use Rattle.fix_engine.specs.Follows.{IsMember, passed_by, Arrives, HasItsVars}
 use Rattle.fix_engine.specs.States.{AbstractState}
-use Rattle.fix_engine.specs.inner.Arriving.{EachTwo, AreCases, AreArrivals, IsHeld, IsRawCase, StandsInCase}
+use Rattle.fix_engine.specs.inner.Arriving.{EachTwo, AreCases, AreOfTwoCases, AreArrivals, IsHeld, IsRawCase, StandsInCase}
 use Rattle.fix_engine.specs.Covered.{IsCovered, CoversOrNot, NoneCovers}
 use Rattle.fix_engine.specs.inner.Exits.{Rises}
 use Rattle.fix_engine.specs.inner.Posting.{IsPost, IsMade, IsMadeAt, AreMade, edge_numbers}
@@ -35,7 +36,7 @@ use Rattle.fix_engine.specs.inner.Taking.{child, Grows, AreHoused, AreDue, IsMid
 use Rattle.fix_engine.specs.inner.Tracing.{HasParent, HasWays, IsTraceTo}
 use Rattle.fix_engine.proofs.Lists.{some_same, length_push, get_more, get_last, get_push, in_at, in_left, in_right, in_map, every_in, every_of, every_both, take_at, at_within, before_each}
 use Rattle.fix_engine.proofs.Covering.{covered_member}
-use Rattle.fix_engine.proofs.Growing.{grows_push, grows_same, grows_then, housed_more, edge_more, one_node, done_more, grown, mid_grown}
+use Rattle.fix_engine.proofs.Growing.{grows_push, grows_same, grows_then, housed_more, edge_more, earlier_more, one_node, done_more, grown, mid_grown}
 
 -- the fault, at its forest
 abbrev at_forest : Bad → BadAt
@@ -52,7 +53,7 @@ module _ (T : Boxes) (g : ControlGraph) (k : ℕ) where
   housed_all nodes more location (a ∷ as') gr h = (λ s m. housed_more T g nodes more gr location s (h.0 s m), housed_all nodes more location as' gr h.1)
 
   mid_weaker : (nodes : List Node) (at c : ℕ) (before more : List AbstractState) → IsMid T g k nodes at c before → IsMid T g k nodes at c (before ++ more)
-  mid_weaker nodes at c before more m = record { explored = m.explored; inside = m.inside; done = m.done; last = m.last; those = λ j n is ch. in_left before more n.state (m.those j n is ch) }
+  mid_weaker nodes at c before more m = record { explored = m.explored; inside = m.inside; done = m.done; earlier = m.earlier; last = m.last; those = λ j n is ch. in_left before more n.state (m.those j n is ch) }
 
   module _ (start nodes : List Node) (at c budget : ℕ) (states : List AbstractState) (i : ℕ) (a : AbstractState) (e : Edge)
       (is : slice_get states i ≡ Some a) (is_edge : IsEdge g c e) (before : AreTaken T g k start at c budget (take i states) nodes true) where
@@ -76,8 +77,11 @@ module _ (T : Boxes) (g : ControlGraph) (k : ℕ) where
       arrives : Arrives T g (is_head g e.to) k due.parent.state.forest e a
       arrives = subst (λ z. Arrives T g (is_head g z.to) k due.parent.state.forest z a) due_edge (every_in (Arrives T g (is_head g due.edge.to) k due.parent.state.forest due.edge) states a due.each (in_at states i a is))
 
-      apart : Every (λ b. IsApart T g k e b a) (take i states)
-      apart = subst (λ z. Every (λ b. IsApart T g k z b a) (take i states)) due_edge (before_each (IsApart T g k due.edge) states i a due.apart is)
+      apart : Every (λ b. AreOfTwoCases T g e b a) (take i states)
+      apart = subst (λ z. Every (λ b. AreOfTwoCases T g z b a) (take i states)) due_edge (before_each (AreOfTwoCases T g due.edge) states i a due.apart is)
+
+      calm : IsCalm T due.parent e
+      calm = subst (IsCalm T due.parent) due_edge due.calm
 
       from : e.from ≡ due.parent.head.location
       from = ap (λ z. z.from) (sym due_edge) ∙ due.from
@@ -95,14 +99,14 @@ module _ (T : Boxes) (g : ControlGraph) (k : ℕ) where
         record {
           many = many;
           further = child at c e a;
-          again = grown T g k nodes at c (take i states) before.0 due.parent parent_is e is_edge from a arrives apart none;
+          again = grown T g k nodes at c (take i states) before.0 due.parent parent_is e is_edge from calm a arrives apart none;
         },
       )
 
       pub taken_pushed : (length nodes ≡ budget → ⊥) → (n : Node) → n ≡ child at c e a → AreTaken T g k start at c budget (take (i + 1) states) (nodes ++ n ∷ []) true
       unfolding more
       taken_pushed room n same = rw (same, take_at states i a is) (
-        mid_grown T g k nodes at c (take i states) before.0 due.parent parent_is e is_edge from a arrives apart none,
+        mid_grown T g k nodes at c (take i states) before.0 due.parent parent_is e is_edge from calm a arrives apart none,
         grows_then start nodes (nodes ++ child at c e a ∷ []) before.1 (grows_push nodes (child at c e a)),
         fits,
         λ f ie. every_both (λ (z : AbstractState). (s : Store) → IsMember T z.forest s → IsHoused T g (nodes ++ child at c e a ∷ []) f.to s) (take i states) (a ∷ [])
@@ -115,8 +119,8 @@ module _ (T : Boxes) (g : ControlGraph) (k : ℕ) where
 
   -- an edge
 
-  pub edge_fault : (nodes : List Node) (at : ℕ) (x : Made) (bad : Bad) → IsMadeAt T g nodes at x → slice_get x.post.faults 0 ≡ Some bad → IsSound bad.at.face bad.at.forest → IsFault T g nodes at x.edge bad
-  edge_fault nodes at x bad m h sound =
+  pub edge_fault : (nodes : List Node) (at : ℕ) (x : Made) (bad : Bad) → IsMid T g k nodes at x.edge [] → IsMadeAt T g nodes at x → slice_get x.post.faults 0 ≡ Some bad → IsSound bad.at.face bad.at.forest → IsFault T g nodes at x.edge bad
+  edge_fault nodes at x bad mid m h sound =
       let listed = in_at x.post.faults 0 bad h in
       let face = every_in (λ (b : Bad). b.at.face ≡ T.face) x.post.faults bad m.made.post.faces listed in
       record {
@@ -128,6 +132,7 @@ module _ (T : Boxes) (g : ControlGraph) (k : ℕ) where
         members = every_in (IsTrueBad T.face T.defs m.node.state.forest m.made.edge) (bads x.post.faults) (at_forest bad) m.made.post.true_bads (in_map at_forest x.post.faults bad listed);
         face = face;
         sound = subst (λ z. IsSound z bad.at.forest) face sound;
+        earlier = mid.earlier m.node m.is;
       }
 
   -- what the cases of the edge become; e is the edge as the code has it
@@ -138,8 +143,27 @@ module _ (T : Boxes) (g : ControlGraph) (k : ℕ) where
       subst (λ z. AreArrivals T g k m.node.state.forest z x.post.next states) same
       (f m.node.state.forest (subst (λ z. AreCases T g m.node.state.forest z x.post.next) (sym same) m.made.post.nexts))
 
-  pub edge_due : (nodes : List Node) (at : ℕ) (x : Made) (states : List AbstractState) (m : IsMadeAt T g nodes at x) → AreArrivals T g k m.node.state.forest m.made.edge x.post.next states → AreDue T g k nodes at x.edge states
-  edge_due nodes at x states m arr = record { parent = m.node; is = m.is; edge = m.made.edge; is_edge = m.made.is; from = m.made.from; each = arr.each; apart = arr.apart }
+  fault_met : (p : Pass) (s : Store) (kind : Kind) (Ms : List Forest) (bs : List Bad) → bs ≡ [] → IsMet T.face T.defs Ms (bads bs) s p → p ≡ Faulted kind → ⊥
+  fault_met p s kind Ms [] none met is = (subst (IsMet T.face T.defs Ms [] s) is met).1
+  fault_met p s kind Ms (b ∷ bs) none met is = cc
+
+  -- where the post has no fault, no member of the node meets one
+  edge_calm : (nodes : List Node) (at : ℕ) (x : Made) (m : IsMadeAt T g nodes at x) → x.post.faults ≡ [] → IsCalm T m.node m.made.edge
+  edge_calm nodes at x m no_fault = λ s kind st is.
+      fault_met (passed_by T m.made.edge s) s kind (forests x.post.next) x.post.faults no_fault (m.made.post.all s st) is
+
+  pub edge_due : (nodes : List Node) (at : ℕ) (x : Made) (states : List AbstractState) (m : IsMadeAt T g nodes at x) → x.post.faults ≡ []
+      → AreArrivals T g k m.node.state.forest m.made.edge x.post.next states → AreDue T g k nodes at x.edge states
+  edge_due nodes at x states m no_fault arr = record {
+    parent = m.node;
+    is = m.is;
+    edge = m.made.edge;
+    is_edge = m.made.is;
+    from = m.made.from;
+    calm = edge_calm nodes at x m no_fault;
+    each = arr.each;
+    apart = arr.apart;
+  }
 
   -- the cases of an edge are normal
   pub edge_normal : (nodes : List Node) (at : ℕ) (x : Made) (m : IsMadeAt T g nodes at x) → Every (IsNormal T g) x.post.next
@@ -193,15 +217,21 @@ module _ (T : Boxes) (g : ControlGraph) (k : ℕ) where
 
   -- a node
 
-  pub stage_mid : (nodes : List Node) (at c : ℕ) (cs : List ℕ) → IsStage T g k nodes at (c ∷ cs) → IsMid T g k nodes at c []
-  stage_mid nodes at c cs st = record {
+  pub stage_mid : (nodes : List Node) (at c : ℕ) (cs : List ℕ) → Rises (c ∷ cs) → IsStage T g k nodes at (c ∷ cs) → IsMid T g k nodes at c []
+  stage_mid nodes at c cs rises st = record {
     explored = st.explored;
     inside = st.inside;
     done = st.done;
+    earlier = λ n is d e less ie fr. taken_before n d e less (st.taken n d e is ie fr);
     last = λ j n p d is ch. before_or_at p d (st.upto j n p d is ch) (λ e. (st.early j n d is (subst (λ z. IsChild n z d) e ch)).0);
     those = λ j n is ch. absurd (omega (arith, (st.early j n c is ch).0));
   }
     where
+      taken_before : (n : Node) (d : ℕ) (e : Edge) → d < c → IsIn d (c ∷ cs) ⊎ EdgeDone T g nodes n e → EdgeDone T g nodes n e
+      taken_before n d e less (inl (inl same)) = absurd (omega (arith, less, same))
+      taken_before n d e less (inl (inr later)) = let more : c < d = every_in (λ z. c < z) cs d rises.0 later in absurd (omega (arith, less, more))
+      taken_before n d e less (inr done) = done
+
       before_or_at : (p d : ℕ) → p ≤ at → (p ≡ at → d < c) → NoLater p d at c
       before_or_at p d le f = cases (nat_cases p at le)
         where
@@ -331,6 +361,7 @@ module _ (T : Boxes) (g : ControlGraph) (k : ℕ) where
         line = t.line;
         steps = t.steps;
         done = done;
+        earlier_edges = subst (EarlierDone T g nodes f.node) (sym t.number_is) f.earlier;
       }
 
   pub front_wider : (nodes : List Node) (at budget : ℕ) → 1 ≤ budget → IsFront T g k nodes at 1 → IsFront T g k nodes at budget

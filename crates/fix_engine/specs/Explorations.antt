@@ -1,5 +1,6 @@
 -- Explorations of a control graph by abstract states, and the three ways in which they end.
 use Rattle.std.specs.Prelude.{◌≡◌, ◌↔◌, ◌⊎◌, ◌<◌, ◌≤◌, ◌+◌, ◌++◌, ℕ, List, [], ◌∷◌, length, slice_get, slice_index_or, Bool, true, false, Option, Some, None}
+use Rattle.fore_base.specs.declared.fault.Fault.{Fault}
 use Rattle.fore_base.specs.declared.store.Store.{Store}
 use Rattle.fa_core.specs.Boxes.{Boxes}
 use Rattle.fa_core.specs.Canonical.{IsCanonical}
@@ -17,7 +18,7 @@ use Rattle.fix_engine.specs.declared.explored.AbsTrace.{AbsTrace}
 use Rattle.fix_engine.specs.declared.explored.Explored.{Explored}
 use Rattle.fix_engine.specs.declared.explored.Explored.TheVariants.{Closed, Faulty, Spent}
 use Rattle.fix_engine.specs.declared.nodes.Node.{Node}
-use Rattle.fix_engine.specs.Follows.{HasItsVars, SameLanguages, IsMember, passed_by, Arrives}
+use Rattle.fix_engine.specs.Follows.{HasItsVars, SameLanguages, IsMember, passed_by, Settles, Arrives}
 use Rattle.fix_engine.specs.States.{AbstractState}
 
 -- the node of number j is n
@@ -46,6 +47,10 @@ pub data IsWay (nodes : List Node) : ℕ → List ℕ → List ℕ → Type 0 wh
   begins : IsWay nodes 0 (0 ∷ []) []
   goes : {p j : ℕ} {way choices : List ℕ} (n : Node) (more used : List ℕ) → IsWay nodes p way choices → IsNode nodes j n → n.head.parent ≡ Some p
       → more ≡ way ++ j ∷ [] → used ≡ choices ++ choice_list n.head.choice → IsWay nodes j more used
+
+-- by the table T, no member of the node meets a fault on the edge
+abbrev pub IsCalm : Boxes → Node → Edge → Type 0
+IsCalm T n e = (s : Store) (kind : Fault) → IsMember T n.state.forest s → passed_by T e s ≡ Faulted kind → ⊥
 
 -- over the structs and boxes of the table T, of the graph g
 module _ (T : Boxes) (g : ControlGraph) where
@@ -78,6 +83,8 @@ module _ (T : Boxes) (g : ControlGraph) where
     pub is : IsNode nodes 0 node
     pub entry : node.head.location ≡ 0
     pub no_parent : node.head.parent ≡ None
+    pub no_edge : node.head.edge ≡ None
+    pub no_choice : node.head.choice ≡ None
     pub no_middle : node.state.middle ≡ None
     pub no_folds : node.state.folds ≡ []
     pub face : node.state.face ≡ T.face
@@ -92,8 +99,16 @@ module _ (T : Boxes) (g : ControlGraph) where
     pub first : IsFirst nodes
     pub done : (j : ℕ) → j < length nodes → Done nodes j
 
-  -- An abstract trace: the way to a node, and an edge on which each member of `last`, which are members of the node, meets the fault. The nodes before
-  -- that node are done.
+  -- each edge with a lower number than c, from the node's location, is done
+  abbrev pub EarlierDone : List Node → Node → ℕ → Type 0
+  EarlierDone nodes n c = (d : ℕ) (e : Edge) → d < c → IsEdge g d e → e.from ≡ n.head.location → EdgeDone nodes n e
+
+  -- each edge with a number up to c, from the node's location, meets no fault
+  abbrev pub CalmUpTo : Node → ℕ → Type 0
+  CalmUpTo n c = (d : ℕ) (e : Edge) → d ≤ c → IsEdge g d e → e.from ≡ n.head.location → IsCalm T n e
+
+  -- An abstract trace: the way to a node, and an edge on which each member of `last`, which are members of the node, meets the fault.
+  -- The nodes before that node are done, and the edges before that edge.
   pub record AbstractTrace (nodes : List Node) (tr : AbsTrace) : Type 0 where
     pub at : ℕ
     pub node : Node
@@ -110,6 +125,7 @@ module _ (T : Boxes) (g : ControlGraph) where
     pub line : tr.line ≡ edge.line
     pub steps : tr.steps ≡ length tr.nodes
     pub done : (j : ℕ) → j < at → Done nodes j
+    pub earlier_edges : EarlierDone nodes node tr.edge
 
   -- by the height k
   module _ (k : ℕ) where
@@ -132,23 +148,42 @@ module _ (T : Boxes) (g : ControlGraph) where
       pub is_edge : IsEdge g number edge
       pub follows : Follows at parent number edge n
 
-    -- Two states to which one edge leads from one node. Elsewhere than at loop heads they are not joinable. Where the edge is quiet they are at a loop
-    -- head, and were alike before they were folded. Also at a loop head a case is not cut in one child before it is folded.
-    pub record IsApart (e : Edge) (a b : AbstractState) : Type 0 where
+    -- Two states of one case, with the middle forests M and N: these have the same trees, the same folds were made, and G and H, into
+    -- which they were regrouped, are not joinable.
+    pub record AreOfOneCase (a b : AbstractState) (M N G H : Forest) : Type 0 where
+      pub middles : SameLanguages M N
+      pub folds : b.folds ≡ a.folds
+      pub joinable : Joinable T.face.boxes G H → ⊥
+
+    -- Two states to which one edge leads from one node, at a loop head regrouped into G and H. Elsewhere than at loop heads they are
+    -- not joinable. Where the edge is quiet they are at a loop head, and were alike before they were folded. At a loop head they are
+    -- of one case, or of two that are not joinable: so no case is cut in one child.
+    pub record IsApart (e : Edge) (a b : AbstractState) (G H : Forest) : Type 0 where
       pub joinable : is_head g e.to ≡ false → Joinable T.face.boxes a.forest b.forest → ⊥
       pub quiet_at : is_quiet e.instr ≡ true → is_head g e.to ≡ true
       pub quiet_same : is_quiet e.instr ≡ true → (M N : Forest) → a.middle ≡ Some M → b.middle ≡ Some N → SameLanguages M N
-      pub middles : (M N : Forest) → a.middle ≡ Some M → b.middle ≡ Some N → SameLanguages M N ⊎ (Joinable T.face.boxes M N → ⊥)
+      pub middles : (M N : Forest) → a.middle ≡ Some M → b.middle ≡ Some N
+          → AreOfOneCase a b M N G H ⊎ (Joinable T.face.boxes M N → ⊥)
 
-    -- An exploration: nodes that begin at the entry, each other one following an earlier one. No earlier node of its location covers a node. The pairs
-    -- of parent and edge never fall, and each node before the parent of the last one is done.
+    -- An exploration: nodes that begin at the entry, each other one following an earlier one. No earlier node of its location covers
+    -- a node. The pairs of parent and edge never fall. Each node before the parent of the last one is done, and of this parent the
+    -- edges before that to the last node. Where an edge leads to a node, no member of its parent meets a fault on it, nor on an edge
+    -- before it. `grouped` is, for each node at a loop head, what its middle forest was folded and regrouped into.
     pub record Exploration (nodes : List Node) : Type 0 where
       pub first : IsFirst nodes
       pub follow : (j : ℕ) (n : Node) → 0 < j → IsNode nodes j n → FollowsEarlier nodes j n
-      pub fresh : (i j : ℕ) (m n : Node) → i < j → IsNode nodes i m → IsNode nodes j n → m.head.location ≡ n.head.location → Covers m.state.forest n.state.forest → ⊥
-      pub order : (i j : ℕ) (m n : Node) (p c q d : ℕ) → i < j → IsNode nodes i m → IsNode nodes j n → IsChild m p c → IsChild n q d → NoLater p c q d
+      pub fresh : (i j : ℕ) (m n : Node) → i < j → IsNode nodes i m → IsNode nodes j n → m.head.location ≡ n.head.location
+          → Covers m.state.forest n.state.forest → ⊥
+      pub order : (i j : ℕ) (m n : Node) (p c q d : ℕ) → i < j → IsNode nodes i m → IsNode nodes j n → IsChild m p c → IsChild n q d
+          → NoLater p c q d
       pub done : (j : ℕ) (n : Node) (p c : ℕ) → length nodes ≡ j + 1 → IsNode nodes j n → IsChild n p c → (i : ℕ) → i < p → Done nodes i
-      pub apart : (i j : ℕ) (m n : Node) (p c : ℕ) (e : Edge) → i < j → IsNode nodes i m → IsNode nodes j n → IsChild m p c → IsChild n p c → IsEdge g c e → IsApart e m.state n.state
+      pub earlier_edges : (j : ℕ) (n parent : Node) (p c : ℕ) → length nodes ≡ j + 1 → IsNode nodes j n → IsChild n p c
+          → IsNode nodes p parent → EarlierDone nodes parent c
+      pub calm : (j : ℕ) (n parent : Node) (p c : ℕ) → IsNode nodes j n → IsChild n p c → IsNode nodes p parent → CalmUpTo parent c
+      pub grouped : ℕ → Forest
+      pub groups : (j : ℕ) (n : Node) (M : Forest) → IsNode nodes j n → n.state.middle ≡ Some M → Settles T k M (grouped j) n.state
+      pub apart : (i j : ℕ) (m n : Node) (p c : ℕ) (e : Edge) → i < j → IsNode nodes i m → IsNode nodes j n → IsChild m p c
+          → IsChild n p c → IsEdge g c e → IsApart e m.state n.state (grouped i) (grouped j)
 
     -- The nodes are as many as the budget, and with some further node at the end they would be an exploration again.
     pub record Full (nodes : List Node) (budget : ℕ) : Type 0 where

@@ -77,14 +77,15 @@ module _ (T : Boxes) where
   FoldsTo F [] G = F ≡ G
   FoldsTo F (x ∷ xs) G = (H : Forest) × IsLeastFold F x H × FoldsTo H xs G
 
-  -- The state is M folded until nothing can be folded, regrouped into a canonical and reduced forest, and abstracted to height k.
-  pub record Settles (k : ℕ) (M : Forest) (a : AbstractState) : Type 0 where
+  -- The state is M folded until nothing can be folded, regrouped into `grouped`, which is canonical and reduced, and abstracted
+  -- to height k. Where nothing was folded, `grouped` has the trees of M.
+  pub record Settles (k : ℕ) (M grouped : Forest) (a : AbstractState) : Type 0 where
     pub middle : a.middle ≡ Some M
     pub folded : Forest
     pub folds : FoldsTo M a.folds folded
     pub whole : IsFolded folded
-    pub grouped : Forest
     pub regroups : Regroups T.defs folded grouped
+    pub unfolded : a.folds ≡ [] → SameLanguages M grouped
     pub canonical : IsCanonical T.face grouped
     pub reduced : Reduced grouped
     pub abstracts : IsAbstraction T.face.boxes grouped k a.forest
@@ -92,8 +93,9 @@ module _ (T : Boxes) where
   -- at a loop head: a case of the edge from F, folded and abstracted
   pub record IsSettled (k : ℕ) (F : Forest) (e : Edge) (a : AbstractState) : Type 0 where
     pub middle : Forest
+    pub grouped : Forest
     pub case_of : IsCase F e middle
-    pub settles : Settles k middle a
+    pub settles : Settles k middle grouped a
 
   -- elsewhere: a case of the edge from F as it is
   pub record IsCarried (F : Forest) (e : Edge) (a : AbstractState) : Type 0 where

@@ -1,5 +1,5 @@
 -- The cases of an edge, and what becomes of them.
-use Rattle.std.specs.Prelude.{◌≡◌, ◌≤◌, ℕ, List, [], ◌∷◌, length, true, None, Some}
+use Rattle.std.specs.Prelude.{◌≡◌, ◌≤◌, ℕ, List, [], ◌∷◌, length, true, false, None, Some}
 use Rattle.fore_base.specs.declared.store.Store.{Store}
 use Rattle.fore_base.specs.Lists.{IsIn, Every, Paired}
 use Rattle.fa_core.specs.Boxes.{Boxes}
@@ -7,7 +7,7 @@ use Rattle.fa_core.specs.Canonical.{IsCanonical}
 use Rattle.fa_core.specs.Covering.{Reduced}
 use Rattle.fa_core.specs.Filled.{IsSound}
 use Rattle.fa_core.specs.declared.forest.Forest.{Forest}
-use Rattle.fa_join.specs.Joinable.{NoneJoinable}
+use Rattle.fa_join.specs.Joinable.{Joinable, NoneJoinable}
 use Rattle.fa_sound.specs.Soundness.{SoundForest}
 use Rattle.fa_split.specs.Divided.{forests}
 use Rattle.c_cfg.specs.Graphs.{ControlGraph}
@@ -15,7 +15,7 @@ use Rattle.c_cfg.specs.declared.graph.Edge.{Edge}
 use Rattle.sym_core.specs.Cases.{CaseOf}
 use Rattle.sym_core.specs.Kept.{Keeps}
 use Rattle.sym_core.specs.Quiet.{is_quiet}
-use Rattle.fix_engine.specs.Explorations.{is_head, IsApart}
+use Rattle.fix_engine.specs.Explorations.{is_head}
 use Rattle.fix_engine.specs.Follows.{HasItsVars, IsMember, Settles, Arrives}
 use Rattle.fix_engine.specs.States.{AbstractState}
 use Rattle.fix_engine.specs.inner.Ready.{IsNormal}
@@ -64,11 +64,18 @@ module _ (T : Boxes) where
       pub apart : NoneJoinable T.face.boxes (forests Ms)
       pub quiet : is_quiet e.instr ≡ true → length Ms ≤ 1
 
+    -- the states are of two cases of the edge, which are not joinable; a quiet edge has no two
+    pub record AreOfTwoCases (e : Edge) (a b : AbstractState) : Type 0 where
+      pub joinable : is_head g e.to ≡ false → Joinable T.face.boxes a.forest b.forest → ⊥
+      pub not_quiet : is_quiet e.instr ≡ true → ⊥
+      pub middles : (M N : Forest) → a.middle ≡ Some M → b.middle ≡ Some N → Joinable T.face.boxes M N → ⊥
+
     module _ (k : ℕ) where
       -- the state is what M becomes at a loop head
       pub record IsSettling (M : SoundForest) (a : AbstractState) : Type 0 where
         pub case_sound : IsSound T.face M.forest
-        pub settles : Settles T k M.forest a
+        pub grouped : Forest
+        pub settles : Settles T k M.forest grouped a
         pub face : a.face ≡ T.face
         pub sound : IsSound T.face a.forest
         pub canonical : IsCanonical T.face a.forest
@@ -83,5 +90,5 @@ module _ (T : Boxes) where
       -- the states are what the cases of an edge become
       pub record AreArrivals (F : Forest) (e : Edge) (Ms : List SoundForest) (made : List AbstractState) : Type 0 where
         pub each : Every (Arrives T g (is_head g e.to) k F e) made
-        pub apart : EachTwo (IsApart T g k e) made
+        pub apart : EachTwo (AreOfTwoCases e) made
         pub kept : (s : Store) → StandsInCase Ms s → IsHeld made s

@@ -12,10 +12,10 @@ use Rattle.sym_step.specs.declared.posts.Bad.{Bad}
 use Rattle.fix_engine.specs.declared.nodes.Node.{Node}
 use Rattle.fix_engine.specs.declared.taking.Taken.{Taken}
 use Rattle.fix_engine.specs.declared.taking.Taken.TheVariants.{All, Fault, Full as Over}
-use Rattle.fix_engine.specs.Explorations.{IsNode, IsEdge, is_head, IsChild, NoLater, IsHoused, EdgeDone, Done, IsApart, Exploration, Full}
+use Rattle.fix_engine.specs.Explorations.{IsNode, IsEdge, is_head, IsChild, NoLater, IsHoused, IsCalm, EdgeDone, EarlierDone, Done, Exploration, Full}
 use Rattle.fix_engine.specs.Follows.{IsMember, passed_by, Arrives}
 use Rattle.fix_engine.specs.States.{AbstractState}
-use Rattle.fix_engine.specs.inner.Arriving.{EachTwo}
+use Rattle.fix_engine.specs.inner.Arriving.{EachTwo, AreOfTwoCases}
 
 -- the node that an edge leads to
 abbrev pub child : ℕ → ℕ → Edge → AbstractState → Node
@@ -30,7 +30,7 @@ module _ (T : Boxes) (g : ControlGraph) where
   abbrev pub AreHoused : List Node → ℕ → List AbstractState → Type 0
   AreHoused nodes location states = Every (λ (a : AbstractState). (s : Store) → IsMember T a.forest s → IsHoused T g nodes location s) states
 
-  -- a fault on an edge of node `at`
+  -- a fault on an edge of node `at`, of which the edges before are done
   pub record IsFault (nodes : List Node) (at c : ℕ) (bad : Bad) : Type 0 where
     pub node : Node
     pub is : IsNode nodes at node
@@ -40,23 +40,27 @@ module _ (T : Boxes) (g : ControlGraph) where
     pub members : (s : Store) → IsMember T bad.at.forest s → IsMember T node.state.forest s × (passed_by T edge s ≡ Faulted bad.fault)
     pub face : bad.at.face ≡ T.face
     pub sound : IsSound T.face bad.at.forest
+    pub earlier : EarlierDone T g nodes node c
 
   module _ (k : ℕ) where
-    -- the states are those to which edge c of node `at` leads
+    -- the states are those to which edge c of node `at` leads, on which no member of the node meets a fault
     pub record AreDue (nodes : List Node) (at c : ℕ) (states : List AbstractState) : Type 0 where
       pub parent : Node
       pub is : IsNode nodes at parent
       pub edge : Edge
       pub is_edge : IsEdge g c edge
       pub from : edge.from ≡ parent.head.location
+      pub calm : IsCalm T parent edge
       pub each : Every (Arrives T g (is_head g edge.to) k parent.state.forest edge) states
-      pub apart : EachTwo (IsApart T g k edge) states
+      pub apart : EachTwo (AreOfTwoCases T g edge) states
 
-    -- In the middle of edge c of node `at`, of whose states these were taken up: the nodes before are done, and no node is a child of a later edge.
+    -- In the middle of edge c of node `at`, of whose states these were taken up: the nodes before are done, and the edges before; and
+    -- no node is a child of a later edge.
     pub record IsMid (nodes : List Node) (at c : ℕ) (before : List AbstractState) : Type 0 where
       pub explored : Exploration T g k nodes
       pub inside : at < length nodes
       pub done : (j : ℕ) → j < at → Done T g nodes j
+      pub earlier : (parent : Node) → IsNode nodes at parent → EarlierDone T g nodes parent c
       pub last : (j : ℕ) (n : Node) (p d : ℕ) → IsNode nodes j n → IsChild n p d → NoLater p d at c
       pub those : (j : ℕ) (n : Node) → IsNode nodes j n → IsChild n at c → IsIn n.state before
 

@@ -16,7 +16,7 @@ returns-in-Some g c =
     let x = c.args.made.now in
     let first = c.in-Some.first.now in
     let is : slice_get x.post.faults 0 ≡ Some first = sym c.get.ensures.value ∙ ap (λ z. option_copied z) c.in-Some.is in
-    (subst (IsFault t.table t.graph c.args.nodes.now c.args.at x.edge) (sym c.in_ok-bad.ensures.same) (edge_fault t.table t.graph t.height c.args.nodes.now c.args.at x first c.requires.made is c.copy_bad.ensures.sound), refl)
+    (subst (IsFault t.table t.graph c.args.nodes.now c.args.at x.edge) (sym c.in_ok-bad.ensures.same) (edge_fault t.table t.graph t.height c.args.nodes.now c.args.at x first c.requires.mid c.requires.made is c.copy_bad.ensures.sound), refl)
 
 pub edge_at-edge-requires : goal.edge_at-edge-requires
 edge_at-edge-requires g c = rw c.graph.ensures (slice_get_within c.args.task.now.graph.edges c.args.made.now.edge c.requires.made.made.edge c.requires.made.made.is)
@@ -40,6 +40,7 @@ take_states-requires-clause-due g c =
     let is_edge : IsEdge t.graph c.args.made.now.edge e = subst (λ z. IsEdge z c.args.made.now.edge e) c.graph.ensures c.edge_at-edge.ensures in
     λ κs within. rw c.as_slice-2.ensures
     (edge_due t.table t.graph t.height c.args.nodes.now c.args.at c.args.made.now c.in_ok-states.states c.requires.made
+    (none_first c.args.made.now.post.faults (sym c.get.ensures.value ∙ ap (λ z. option_copied z) c.in_default.is))
     (edge_arrivals t.table t.graph t.height c.args.nodes.now c.args.at c.args.made.now e c.in_ok-states.states c.requires.made is_edge
     (rw (sym c.as_slice.ensures) c.in_ok-states.ensures)))
 

@@ -12,8 +12,9 @@ take_edge-requires-clause-mid g c =
     let t = c.args.task.now in
     let x = c.next-item.result in
     let is = at_item c.args.made.now c.loop-next.next-index x c.loop-next-test.true c.next-item.is in
+    let left = ap edge_numbers (drop_at c.args.made.now c.loop-next.next-index x is) in
     λ κs within. stage_mid t.table t.graph t.height c.loop-next.nodes c.args.at x.edge (edge_numbers (drop (c.loop-next.next-index + 1) c.args.made.now))
-    (subst (IsStage t.table t.graph t.height c.loop-next.nodes c.args.at) (ap edge_numbers (drop_at c.args.made.now c.loop-next.next-index x is)) c.loop-next.invariant.0)
+    (subst Rises left c.loop-next.invariant.1) (subst (IsStage t.table t.graph t.height c.loop-next.nodes c.args.at) left c.loop-next.invariant.0)
 
 pub take_edge-requires-clause-made : goal.take_edge-requires-clause-made
 take_edge-requires-clause-made g c =
