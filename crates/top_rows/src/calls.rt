@@ -1,0 +1,109 @@
+// One call of the program over the file x.c and two sinks in memory.
+
+use anyhow::{Context, Result};
+use fore_base::mem_shelf::MemShelf;
+use fore_base::mem_sink::MemSink;
+use fore_base::memory::Mem;
+use fore_call::forester;
+use par_kit::gate::NoGate;
+use std::alloc::Global;
+use std::thread::Threads;
+
+/// How the shelf and the sinks behave.
+#[derive(Clone, Copy)]
+pub struct Ends {
+    /// How many bytes one put takes at most.
+    pub most: usize,
+    /// Which read fails, the first being 1; 0 for none.
+    pub read: u64,
+    /// Which put to standard output fails.
+    pub out: u64,
+    /// Which put to standard error fails.
+    pub notes: u64,
+}
+
+/// Nothing fails, and a text is put at once.
+pub const STEADY: Ends = Ends {
+    most: 512,
+    read: 0,
+    out: 0,
+    notes: 0,
+};
+
+/// What came of a call: the status, and what is then on standard output and on standard error.
+#[derive(Drop)]
+pub struct Told {
+    pub status: u8,
+    pub out: MemSink,
+    pub notes: MemSink,
+}
+
+/// What comes of these words over the file x.c of these bytes.
+pub fn call<R: Threads + Sync>(
+    rt: &R,
+    alloc: Global,
+    words: &[&str],
+    file: &[u8],
+    ends: Ends,
+) -> Result<Told> {
+    let words = words_of(alloc, words)?;
+    let mut shelf = MemShelf::new(alloc);
+    shelf.add("x.c", file)?;
+    shelf.fail(ends.read)?;
+    let mut out = sink(alloc, ends.most, ends.out)?;
+    let mut notes = sink(alloc, ends.most, ends.notes)?;
+    let status = forester(
+        rt,
+        alloc,
+        words.as_slice(),
+        &mut shelf,
+        &mut out,
+        &mut notes,
+        &NoGate,
+    );
+    Ok(Told { status, out, notes })
+}
+
+/// The words of a head; two quotes stand for the empty one.
+fn words_of(alloc: Global, words: &[&str]) -> Mem<Vec<String>> {
+    let mut all = Vec::new(alloc);
+    for word in words {
+        all.push(String::from_str(alloc, plain(word))?)?;
+    }
+    Ok(all)
+}
+
+fn plain<'a>(word: &'a str) -> &'a str {
+    match word {
+        "''" => "",
+        _ => word,
+    }
+}
+
+/// A sink of which this put fails.
+fn sink(alloc: Global, most: usize, fails: u64) -> Mem<MemSink> {
+    let mut sink = MemSink::new(alloc, 512, most.max(1))?;
+    sink.fail(fails)?;
+    Ok(sink)
+}
+
+/// The status, and both texts in quotes.
+pub fn shown(alloc: Global, told: &Told) -> Result<String> {
+    let out = text_of(told.out.bytes())?;
+    let notes = text_of(told.notes.bytes())?;
+    Ok(format!(in alloc; "{} {out:?} {notes:?}", told.status)?)
+}
+
+/// The same, with what is on standard output as far as the end of `last`.
+pub fn shown_until(alloc: Global, told: &Told, last: &str) -> Result<String> {
+    let out = text_of(told.out.bytes())?;
+    let notes = text_of(told.notes.bytes())?;
+    let (before, _) = out
+        .split_once(last)
+        .context("no such text on standard output")?;
+    Ok(format!(in alloc; "{} {before:?}.. {notes:?}", told.status)?)
+}
+
+fn text_of<'a>(bytes: &'a [u8]) -> Result<&'a str> {
+    str::from_utf8(bytes).ok().context("bytes that are no text")
+}

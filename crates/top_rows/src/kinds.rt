@@ -1,0 +1,124 @@
+// What each kind of row asks. It answers the status, and what is then on standard output and on standard error, in quotes.
+//
+// - `call WORDS | FILE`: of the words over the file x.c.
+// - `lines WORDS | LINES`: of the words over a file with these lines in its main, of which the first is line 3.
+// - `until WORDS | FILE | LAST`: the same as `call`, and of standard output only what stands before LAST.
+// - `failing MOST READ OUT NOTES WORDS | FILE`: where a put takes at most MOST bytes, and these reads and puts fail.
+// - `report NUMBER LINE STEP | NAME`: the report on a fault of this number.
+
+use crate::calls::{Ends, STEADY, call, shown, shown_until};
+use crate::texts::{main_of, read_text};
+use anyhow::{Context, Result, bail};
+use fore_base::fault::Fault;
+use fore_base::text::Text;
+use fore_call::texts::unsafe_report;
+use row_kit::Answers;
+use std::alloc::Global;
+use std::thread::Threads;
+
+/// What is known of calls.
+#[derive(Clone, Copy)]
+pub struct Kinds;
+
+impl Answers for Kinds {
+    fn answer<R: Threads + Sync>(
+        &self,
+        rt: &R,
+        alloc: Global,
+        head: &str,
+        texts: &[&str],
+    ) -> Result<String> {
+        let words: Vec<&str> = head.split(' ').collect(alloc)?;
+        let (kind, words) = words.as_slice().split_first().context("no kind")?;
+        let (file, others) = texts.split_first().context("no file")?;
+        let file = file_of(alloc, kind, file)?;
+        match *kind {
+            "call" | "lines" => steady(rt, alloc, words, &file),
+            "until" => until(rt, alloc, words, &file, others),
+            "failing" => failing(rt, alloc, words, &file),
+            "report" => report(alloc, words),
+            _ => bail!("no such kind"),
+        }
+    }
+}
+
+/// The bytes of the file.
+fn file_of(alloc: Global, kind: &str, text: &str) -> Result<Text> {
+    match kind {
+        "lines" => main_of(alloc, text),
+        _ => read_text(alloc, text),
+    }
+}
+
+fn steady<R: Threads + Sync>(rt: &R, alloc: Global, words: &[&str], file: &Text) -> Result<String> {
+    let told = call(rt, alloc, words, file.as_slice(), STEADY)?;
+    shown(alloc, &told)
+}
+
+fn until<R: Threads + Sync>(
+    rt: &R,
+    alloc: Global,
+    words: &[&str],
+    file: &Text,
+    others: &[&str],
+) -> Result<String> {
+    let last = others.first().context("no last text")?;
+    let told = call(rt, alloc, words, file.as_slice(), STEADY)?;
+    shown_until(alloc, &told, last)
+}
+
+fn failing<R: Threads + Sync>(
+    rt: &R,
+    alloc: Global,
+    words: &[&str],
+    file: &Text,
+) -> Result<String> {
+    let (most, words) = words.split_first().context("no number of bytes")?;
+    let (read, words) = words.split_first().context("no number of a read")?;
+    let (out, words) = words
+        .split_first()
+        .context("no number of a put to standard output")?;
+    let (notes, words) = words
+        .split_first()
+        .context("no number of a put to standard error")?;
+    let ends = Ends {
+        most: most.parse::<usize>()?,
+        read: read.parse::<u64>()?,
+        out: out.parse::<u64>()?,
+        notes: notes.parse::<u64>()?,
+    };
+    let told = call(rt, alloc, words, file.as_slice(), ends)?;
+    shown(alloc, &told)
+}
+
+fn report(alloc: Global, words: &[&str]) -> Result<String> {
+    let (number, words) = words.split_first().context("no number of a fault")?;
+    let (line, words) = words.split_first().context("no line")?;
+    let step = words.first().context("no step")?;
+    let fault = fault_of(number)?;
+    let text = unsafe_report(
+        alloc,
+        fault,
+        line.parse::<u32>()?,
+        step.parse::<u64>()?,
+        &[],
+    )?;
+    let text = str::from_utf8(text.as_slice())
+        .ok()
+        .context("bytes that are no text")?;
+    Ok(format!(in alloc; "{text:?}")?)
+}
+
+fn fault_of(number: &str) -> Result<Fault> {
+    match number {
+        "1" => Ok(Fault::NullDeref),
+        "2" => Ok(Fault::UninitDeref),
+        "3" => Ok(Fault::DanglingDeref),
+        "4" => Ok(Fault::InvalidFree),
+        "5" => Ok(Fault::DoubleFree),
+        "6" => Ok(Fault::Leak),
+        "7" => Ok(Fault::Assertion),
+        "8" => Ok(Fault::IndetTest),
+        _ => bail!("no such fault"),
+    }
+}

@@ -1,0 +1,17 @@
+//! Rows of whole calls: the files of rows that the words name are read, and each row is answered by a line.
+//!
+//! `calls` makes one call of the program over a file and two sinks in memory, `kinds` says what each kind of row
+//! asks, and `texts` how a C text stands in a row.
+#![tactic(auto)]
+
+mod calls;
+mod kinds;
+mod texts;
+
+use anyhow::Result;
+use kinds::Kinds;
+use row_kit::answer_files;
+
+fn main(rt: HostRuntime) -> Result<()> {
+    answer_files(&rt, &Kinds)
+}
