@@ -1,4 +1,5 @@
--- How deep a syntax tree is: open blocks, `if`, `while`, `do` and `for` statements, calls inside calls, negations and bracketed conditions
+-- How deep a syntax tree is: open blocks, `if`, `while`, `do` and `for` statements, calls inside calls, negations and
+-- bracketed conditions
 -- round a token. An `else` counts as inside its `if`. The outermost call of a nest of calls is no level.
 use Rattle.std.specs.Prelude.{ℕ, zero, suc, max, List, [], ◌∷◌, Option, Some, None, map}
 use Rattle.c_ast.specs.declared.conditions.And.{And, fold-And, And-F}
@@ -136,7 +137,9 @@ stmt_step (stmt.If at c then_ other) = suc (max (depth_of_cond c) (max then_ (de
 stmt_step (stmt.While at c body) = suc (max (depth_of_cond c) body)
 stmt_step (stmt.Do at body c) = suc (max body (depth_of_cond c))
 stmt_step (stmt.For at f c next body) =
-    suc (max (max (depth_of_first f) (depth_of_option depth_of_cond c)) (max (depth_of_option depth_of_simple next) body))
+    suc
+    (max (max (depth_of_first f) (depth_of_option depth_of_cond c))
+    (max (depth_of_option depth_of_simple next) body))
 stmt_step (stmt.Return at o) = depth_of_option depth_of_operand o
 stmt_step (stmt.Break at) = 0
 stmt_step (stmt.Continue at) = 0

@@ -1,6 +1,11 @@
-// How deep a tree is. The recursion goes no deeper than the tree: what the depth does not count is gone through by loops.
+// How deep a tree is. The recursion goes no deeper than the tree: what the depth does not count is gone through by
+// loops.
 ghost use Rattle.std.specs.Prelude.{◌≡◌, ◌<◌, ◌^◌, max, min, suc, map};
-ghost use Rattle.c_ast.specs.Depths.{deepest, depth_of_option, depth_of_argument, depth_of_call, depth_of_operand, depth_of_rhs, depth_of_simple, depth_of_test, depth_of_unary, depth_of_and, depth_of_cond, depth_of_declarator, depth_of_declare, depth_of_first, depth_of_part, depth_of_stmt, depth_of_block, depth_of_item, depth_of_items, depth_of_unit};
+ghost use Rattle.c_ast.specs.Depths.{deepest, depth_of_option, depth_of_argument, depth_of_call, depth_of_operand};
+ghost use Rattle.c_ast.specs.Depths.{depth_of_rhs, depth_of_simple, depth_of_test, depth_of_unary, depth_of_and};
+ghost use Rattle.c_ast.specs.Depths.{depth_of_cond, depth_of_declarator, depth_of_declare, depth_of_first};
+ghost use Rattle.c_ast.specs.Depths.{depth_of_part, depth_of_stmt, depth_of_block, depth_of_item, depth_of_items};
+ghost use Rattle.c_ast.specs.Depths.{depth_of_unit};
 
 use crate::conditions::{And, Cond, Test, Unary};
 use crate::items::{Item, Unit};
@@ -312,7 +317,8 @@ fn items_depth(items: &[Item]) -> u32
 }
 
 impl Unit {
-    /// How many levels are open at once where most are: blocks, `if`, `while`, `do` and `for` statements, calls in calls, negations and
+    /// How many levels are open at once where most are: blocks, `if`, `while`, `do` and `for` statements, calls in
+    /// calls, negations and
     /// bracketed conditions. An `else` is inside its `if`.
     pub fn depth(&self) -> u32
         requires { depth_of_unit self.now < 2 ^ 32 }

@@ -21,7 +21,8 @@ pub struct Declarator {
     pub from: Option<Rhs>,
 }
 
-/// `declare = "struct" id "*" id [ "=" rhs ] { "," "*" id [ "=" rhs ] } ";" | data id [ "=" rhs ] { "," id [ "=" rhs ] } ";"`
+/// `declare = "struct" id "*" id [ "=" rhs ] { "," "*" id [ "=" rhs ] } ";" | data id [ "=" rhs ] { "," id [ "=" rhs ]
+/// } ";"`
 #[derive(Drop)]
 pub enum Declare {
     Pointers {
@@ -61,7 +62,8 @@ pub enum First {
     Nothing,
 }
 
-/// A statement: the alternatives of `stmt`, each with the place of its first token. What is large in it has a place of its own, so that a
+/// A statement: the alternatives of `stmt`, each with the place of its first token. What is large in it has a place of
+/// its own, so that a
 /// statement is small where it stands in a block.
 #[cycle(stmt)]
 #[derive(Drop)]

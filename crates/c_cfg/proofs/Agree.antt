@@ -1,5 +1,7 @@
--- The theorem that a program and its control graph agree, from the stores upwards. The edges of a step, taken one after the other, do what the step does
--- (up to `ActTurns` and `Tested`). A step at a place is the run along the place's edges (`Ways`, `StepsAlike`), for any relation of outcomes that counts
+-- The theorem that a program and its control graph agree, from the stores upwards. The edges of a step, taken one after
+-- the other, do what the step does
+-- (up to `ActTurns` and `Tested`). A step at a place is the run along the place's edges (`Ways`, `StepsAlike`), for any
+-- relation of outcomes that counts
 -- no steps; used for two such relations it gives both directions and the bound (`Simulated`, `Agreed`).
 pub mod ActTurns
 pub mod Agreed

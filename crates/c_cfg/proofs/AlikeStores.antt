@@ -1,5 +1,6 @@
 -- Alike stores: one after the other, and the stores with which a run begins.
-use Rattle.std.proofs.Common.{◌≡◌, inl, inr, ℕ, zero, suc, List, [], ◌∷◌, map, replicate, refl, sym, ap, ap₂, ◌∙◌, subst}
+use Rattle.std.proofs.Common.{◌≡◌, inl, inr, ℕ, zero, suc, List, [], ◌∷◌, map, replicate, refl, sym, ap, ap₂, ◌∙◌}
+use Rattle.std.proofs.Common.{subst}
 use Rattle.fore_base.specs.declared.store.Value.{Value}
 use Rattle.fore_base.specs.declared.store.Value.TheVariants.{Null, Uninit, Dangling, Cell}
 use Rattle.fore_base.specs.declared.store.CellRec.{CellRec}
@@ -16,13 +17,16 @@ module _ (f g : ℕ → ℕ) where
   value_twice Dangling = refl
   value_twice (Cell n) = refl
 
-  values_twice : (vs : List Value) → map (value_renamed g) (map (value_renamed f) vs) ≡ map (value_renamed (λ n. g (f n))) vs
+  values_twice : (vs : List Value) → map (value_renamed g) (map (value_renamed f) vs)
+      ≡ map (value_renamed (λ n. g (f n))) vs
   values_twice [] = refl
   values_twice (v ∷ vs) = ap₂ (λ x xs. x ∷ xs) (value_twice v) (values_twice vs)
 
-  cells_twice : (cs : List CellRec) → map (cell_renamed g) (map (cell_renamed f) cs) ≡ map (cell_renamed (λ n. g (f n))) cs
+  cells_twice : (cs : List CellRec) → map (cell_renamed g) (map (cell_renamed f) cs)
+      ≡ map (cell_renamed (λ n. g (f n))) cs
   cells_twice [] = refl
-  cells_twice (c ∷ cs) = ap₂ (λ fs ds. record c { number = g (f c.number); fields = fs } ∷ ds) (values_twice c.fields) (cells_twice cs)
+  cells_twice (c ∷ cs) = ap₂ (λ fs ds. record c { number = g (f c.number); fields = fs } ∷ ds) (values_twice c.fields)
+      (cells_twice cs)
 
 renamed_has : (f : ℕ → ℕ) (cs : List CellRec) (m : ℕ) → HasCell cs m → HasCell (map (cell_renamed f) cs) (f m)
 renamed_has f [] m h = absurd h
@@ -33,13 +37,17 @@ pub alike_chain : (s t u : Store) → IsAlike s t → IsAlike t u → IsAlike s 
 alike_chain s t u a b =
     let to_t : Moved (map (cell_renamed a.to) s.cells) t.cells = moved _ _ a.cells in
     let to_u : Moved (map (cell_renamed b.to) t.cells) u.cells = moved _ _ b.cells in
-    let there : (m : ℕ) → HasCell s.cells m → HasCell t.cells (a.to m) = λ m h. moved_has (a.to m) to_t (renamed_has a.to s.cells m h) in
+    let there : (m : ℕ) → HasCell s.cells m → HasCell t.cells (a.to m) =
+    λ m h. moved_has (a.to m) to_t (renamed_has a.to s.cells m h) in
     record {
       to = λ n. b.to (a.to n);
       one_to_one = λ m n hm hn e. a.one_to_one m n hm hn (b.one_to_one (a.to m) (a.to n) (there m hm) (there n hn) e);
       vars = b.vars ∙ ap (map (value_renamed b.to)) a.vars ∙ values_twice a.to b.to s.vars;
       data_vars = b.data_vars ∙ a.data_vars;
-      cells = permuted (subst (λ cs. Moved cs u.cells) (cells_twice a.to b.to s.cells) (chain (moved_map (cell_renamed b.to) to_t) to_u));
+      cells =
+          permuted
+          (subst (λ cs. Moved cs u.cells) (cells_twice a.to b.to s.cells)
+          (chain (moved_map (cell_renamed b.to) to_t) to_u));
     }
 
 unset_renamed : (f : ℕ → ℕ) (n : ℕ) → map (value_renamed f) (replicate n Uninit) ≡ replicate n Uninit

@@ -1,6 +1,7 @@
 -- Which variables die in the rest of a round, a statement at a time.
 use Rattle.std.specs.Prelude.{get_or, drop}
-use Rattle.std.proofs.Common.{◌≡◌, ℕ, zero, suc, ◌+◌, ◌<◌, ◌≤◌, List, [], ◌∷◌, length, refl, sym, ap, ◌∙◌, arith, Bool, true, false}
+use Rattle.std.proofs.Common.{◌≡◌, ℕ, zero, suc, ◌+◌, ◌<◌, ◌≤◌, List, [], ◌∷◌, length, refl, sym, ap, ◌∙◌, arith, Bool}
+use Rattle.std.proofs.Common.{true, false}
 use Rattle.c_types.specs.declared.program.Act.{Act}
 use Rattle.c_types.specs.declared.program.Cond.{Cond}
 use Rattle.c_types.specs.declared.program.Stmt.{Stmt}
@@ -29,7 +30,8 @@ closes_closed w [] [] m = refl
 closes_closed w [] (d ∷ ds) m = refl
 closes_closed w (p ∷ ps) ds m = refl
 
-pub inside-Group : (w : Around) (b : List Stmt) (ps ds : List ℕ) (m : ℕ) → inside_stmt w (Group b ps ds m) ≡ inside_all (closed w ps ds) b
+pub inside-Group : (w : Around) (b : List Stmt) (ps ds : List ℕ) (m : ℕ) → inside_stmt w (Group b ps ds m)
+    ≡ inside_all (closed w ps ds) b
 unfolding inside_stmt inside_all
 inside-Group w b ps ds m =
     ap (inside w) (items-Group b ps ds m Done ∙ all_stand b Done (closes ps ds m Done))
@@ -56,10 +58,12 @@ unfolding inside_stmt
 inside-For w c n b = ap (inside w) (items-For c n b Done)
 
 -- from the end on
-pub inside-drop : (w : Around) (i : ℕ) (ss : List Stmt) (s : Stmt) → i < length ss → s ≡ get_or ss i s → inside_all w (drop i ss) ≡ inside_stmt (inside_all w (drop (i + 1) ss)) s
+pub inside-drop : (w : Around) (i : ℕ) (ss : List Stmt) (s : Stmt) → i < length ss → s ≡ get_or ss i s
+    → inside_all w (drop i ss) ≡ inside_stmt (inside_all w (drop (i + 1) ss)) s
 inside-drop w i [] s h e = absurd (omega (arith, h))
 inside-drop w zero (x ∷ ss) s h e = inside-more w x ss ∙ ap (inside_stmt (inside_all w ss)) (sym e)
-inside-drop w (suc i) (x ∷ ss) s h e = let q : suc i + 1 ≡ suc (i + 1) = omega arith in rw q (inside-drop w i ss s (omega (arith, h)) e)
+inside-drop w (suc i) (x ∷ ss) s h e = let q : suc i + 1 ≡ suc (i + 1) = omega arith in
+    rw q (inside-drop w i ss s (omega (arith, h)) e)
 
 pub drop_all : {A : Type 0} (n : ℕ) (xs : List A) → length xs ≤ n → drop n xs ≡ []
 drop_all zero [] h = refl
@@ -70,7 +74,17 @@ drop_all (suc n) (x ∷ xs) h = drop_all n xs (omega (arith, h))
 pub inside-end : (w : Around) (n : ℕ) (ss : List Stmt) → length ss ≤ n → inside_all w (drop n ss) ≡ w
 inside-end w n ss h = ap (inside_all w) (drop_all n ss h) ∙ inside-none w
 
-pub ruleset closing = (inside-none, inside-end, inside-drop, inside-Group, inside-Do, inside-Branch, inside-While, inside-DoWhile, inside-For)
+pub ruleset closing = (
+  inside-none,
+  inside-end,
+  inside-drop,
+  inside-Group,
+  inside-Do,
+  inside-Branch,
+  inside-While,
+  inside-DoWhile,
+  inside-For,
+)
 
 -- what is left of a list into which a number is put, which may have its place already
 abbrev pub to_place : Bool → ℕ → List ℕ → List ℕ
@@ -78,10 +92,12 @@ to_place true n ms = ms
 to_place false n ms = insert n ms
 
 -- merging, from the end on
-pub merged-drop : (i : ℕ) (ns : List ℕ) (n : ℕ) (ms : List ℕ) → i < length ns → n ≡ get_or ns i n → merged (drop i ns) ms ≡ insert n (merged (drop (i + 1) ns) ms)
+pub merged-drop : (i : ℕ) (ns : List ℕ) (n : ℕ) (ms : List ℕ) → i < length ns → n ≡ get_or ns i n
+    → merged (drop i ns) ms ≡ insert n (merged (drop (i + 1) ns) ms)
 merged-drop i [] n ms h e = absurd (omega (arith, h))
 merged-drop zero (m ∷ ns) n ms h e = ap (λ k. insert k (merged ns ms)) (sym e)
-merged-drop (suc i) (m ∷ ns) n ms h e = let q : suc i + 1 ≡ suc (i + 1) = omega arith in rw q (merged-drop i ns n ms (omega (arith, h)) e)
+merged-drop (suc i) (m ∷ ns) n ms h e = let q : suc i + 1 ≡ suc (i + 1) = omega arith in
+    rw q (merged-drop i ns n ms (omega (arith, h)) e)
 
 pub merged-end : (n : ℕ) (ns ms : List ℕ) → length ns ≤ n → merged (drop n ns) ms ≡ ms
 merged-end n ns ms h = ap (λ ks. merged ks ms) (drop_all n ns h)

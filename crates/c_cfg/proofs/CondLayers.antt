@@ -38,19 +38,23 @@ module _ (nv nd : ℕ) where
   joined-some [] h = absurd (omega (arith, h))
   joined-some (c ∷ cs) h = refl
 
-  pub emit-Atom : (a : AtomPart) (line i x y : ℕ) → emit_test nv nd (test_of (Atom a line)) i x y ≡ atom_edges nv nd a line i x y
+  pub emit-Atom : (a : AtomPart) (line i x y : ℕ) → emit_test nv nd (test_of (Atom a line)) i x y
+      ≡ atom_edges nv nd a line i x y
   emit-Atom a line i x y = ap (λ t. emit_test nv nd t i x y) (test-Atom a line)
 
   pub emit-Not : (c : Cond) (i x y : ℕ) → emit_test nv nd (test_of (Not c)) i x y ≡ emit_test nv nd (test_of c) i y x
   emit-Not c i x y = ap (λ t. emit_test nv nd t i x y) (test-Not c)
 
-  pub emit-All : (cs : List Cond) (i x y : ℕ) → emit_test nv nd (test_of (All cs)) i x y ≡ emit_parts nv nd JointAll cs i x y
+  pub emit-All : (cs : List Cond) (i x y : ℕ) → emit_test nv nd (test_of (All cs)) i x y
+      ≡ emit_parts nv nd JointAll cs i x y
   emit-All cs i x y = ap (λ t. emit_test nv nd t i x y) (test-All cs)
 
-  pub emit-Any : (cs : List Cond) (i x y : ℕ) → emit_test nv nd (test_of (Any cs)) i x y ≡ emit_parts nv nd JointAny cs i x y
+  pub emit-Any : (cs : List Cond) (i x y : ℕ) → emit_test nv nd (test_of (Any cs)) i x y
+      ≡ emit_parts nv nd JointAny cs i x y
   emit-Any cs i x y = ap (λ t. emit_test nv nd t i x y) (test-Any cs)
 
-  pub parts_last : (j : Joint) (i : ℕ) (cs : List Cond) (c : Cond) (k x y : ℕ) → i + 1 ≡ length cs → c ≡ get_or cs i c → emit_parts nv nd j (drop i cs) k x y ≡ emit_test nv nd (test_of c) k x y
+  pub parts_last : (j : Joint) (i : ℕ) (cs : List Cond) (c : Cond) (k x y : ℕ) → i + 1 ≡ length cs → c ≡ get_or cs i c
+      → emit_parts nv nd j (drop i cs) k x y ≡ emit_test nv nd (test_of c) k x y
   parts_last j i [] c k x y n e = absurd (omega (arith, n))
   parts_last j zero (d ∷ []) c k x y n e = ap (λ z. emit_test nv nd (test_of z) k x y) (sym e)
   parts_last j zero (d ∷ f ∷ ds) c k x y n e = absurd (omega (arith, n))
@@ -58,18 +62,24 @@ module _ (nv nd : ℕ) where
 
   joint_more : (j : Joint) (c d : Cond) (ds : List Cond) (k x y : ℕ)
       → emit_parts nv nd j (c ∷ d ∷ ds) k x y
-      ≡ emit_test nv nd (test_of c) k (yes_side j (k + test_width nv nd (test_of c)) x) (no_side j (k + test_width nv nd (test_of c)) y) ++ emit_parts nv nd j (d ∷ ds) (k + test_width nv nd (test_of c)) x y
+      ≡ emit_test nv nd (test_of c) k (yes_side j (k + test_width nv nd (test_of c)) x)
+      (no_side j (k + test_width nv nd (test_of c)) y)
+      ++ emit_parts nv nd j (d ∷ ds) (k + test_width nv nd (test_of c)) x y
   joint_more JointAll c d ds k x y = refl
   joint_more JointAny c d ds k x y = refl
 
-  pub parts_more : (j : Joint) (i : ℕ) (cs : List Cond) (c : Cond) (k next x y : ℕ) → i + 1 < length cs → c ≡ get_or cs i c → next ≡ k + test_width nv nd (test_of c)
-      → emit_parts nv nd j (drop i cs) k x y ≡ emit_test nv nd (test_of c) k (yes_side j next x) (no_side j next y) ++ emit_parts nv nd j (drop (i + 1) cs) next x y
+  pub parts_more : (j : Joint) (i : ℕ) (cs : List Cond) (c : Cond) (k next x y : ℕ) → i + 1 < length cs
+      → c ≡ get_or cs i c → next ≡ k + test_width nv nd (test_of c)
+      → emit_parts nv nd j (drop i cs) k x y ≡ emit_test nv nd (test_of c) k (yes_side j next x) (no_side j next y)
+      ++ emit_parts nv nd j (drop (i + 1) cs) next x y
   parts_more j i [] c k next x y n e w = absurd (omega (arith, n))
   parts_more j zero (d ∷ []) c k next x y n e w = absurd (omega (arith, n))
   parts_more j zero (d ∷ f ∷ ds) c k next x y n e w =
       ap (λ z. emit_parts nv nd j (z ∷ f ∷ ds) k x y) (sym e) ∙ joint_more j c f ds k x y
-      ∙ ap (λ m. emit_test nv nd (test_of c) k (yes_side j m x) (no_side j m y) ++ emit_parts nv nd j (f ∷ ds) m x y) (sym w)
-  parts_more j (suc i) (d ∷ ds) c k next x y n e w = let s : suc i + 1 ≡ suc (i + 1) = omega arith in rw s (parts_more j i ds c k next x y (omega (arith, n)) e w)
+      ∙ ap (λ m. emit_test nv nd (test_of c) k (yes_side j m x) (no_side j m y) ++ emit_parts nv nd j (f ∷ ds) m x y)
+      (sym w)
+  parts_more j (suc i) (d ∷ ds) c k next x y n e w = let s : suc i + 1 ≡ suc (i + 1) = omega arith in
+      rw s (parts_more j i ds c k next x y (omega (arith, n)) e w)
 
 pub ruleset rooms = (wide-Atom, wide-Not, wide-All, wide-Any, joined-some)
 

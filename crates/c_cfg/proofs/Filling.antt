@@ -1,5 +1,6 @@
 -- Each act has an edge, and as many whatever stands after it.
-use Rattle.std.proofs.Common.{◌≡◌, ℕ, zero, suc, ◌<◌, ◌≤◌, ◌+◌, List, [], ◌∷◌, ◌++◌, length, refl, arith, Option, Some, None}
+use Rattle.std.proofs.Common.{◌≡◌, ℕ, zero, suc, ◌<◌, ◌≤◌, ◌+◌, List, [], ◌∷◌, ◌++◌, length, refl, arith, Option, Some}
+use Rattle.std.proofs.Common.{None}
 use Rattle.std.specs.Prelude.{pred}
 use Rattle.c_types.specs.declared.program.Path.{Path}
 use Rattle.c_types.specs.declared.program.DataPath.{DataPath}
@@ -7,12 +8,15 @@ use Rattle.c_types.specs.declared.program.DataPath.TheVariants.{Var as DataVar, 
 use Rattle.c_types.specs.declared.program.PtrRhs.{PtrRhs}
 use Rattle.c_types.specs.declared.program.PtrRhs.TheVariants.{Path as RhsPath, Null as RhsNull, New as RhsNew}
 use Rattle.c_types.specs.declared.program.DataRhs.{DataRhs}
-use Rattle.c_types.specs.declared.program.DataRhs.TheVariants.{Path as DataRhsPath, Known as DataRhsKnown, Choice as DataRhsChoice}
+use Rattle.c_types.specs.declared.program.DataRhs.TheVariants.{Path as DataRhsPath, Known as DataRhsKnown}
+use Rattle.c_types.specs.declared.program.DataRhs.TheVariants.{Choice as DataRhsChoice}
 use Rattle.c_types.specs.declared.program.Act.{Act}
-use Rattle.c_types.specs.declared.program.Act.TheVariants.{SetPtr, SetData, Free as FreeAct, Error, Halt, Return, Break, Continue}
+use Rattle.c_types.specs.declared.program.Act.TheVariants.{SetPtr, SetData, Free as FreeAct, Error, Halt, Return, Break}
+use Rattle.c_types.specs.declared.program.Act.TheVariants.{Continue}
 use Rattle.c_types.specs.Control.{Items, Done}
 use Rattle.c_cfg.specs.declared.graph.Instr.{Instr}
-use Rattle.c_cfg.specs.Links.{Link, loads, loads_but_last, data_loads, var_row, path_row, ptr_row, data_var_row, data_field_row, data_row, return_row, act_row}
+use Rattle.c_cfg.specs.Links.{Link, loads, loads_but_last, data_loads, var_row, path_row, ptr_row, data_var_row}
+use Rattle.c_cfg.specs.Links.{data_field_row, data_row, return_row, act_row}
 
 abbrev pub Filled : List Link → Type 0
 Filled [] = ⊥
@@ -35,12 +39,14 @@ filled_behind : (ls xs : List Link) → Filled xs → Filled (ls ++ xs)
 filled_behind [] xs h = h
 filled_behind (l ∷ ls) xs h = tt
 
-but_last_filled : (t b f : ℕ) (fs : List ℕ) (last : ℕ → ℕ → Instr) (xs : List Link) → Filled (loads_but_last t b f fs last ++ xs)
+but_last_filled : (t b f : ℕ) (fs : List ℕ) (last : ℕ → ℕ → Instr) (xs : List Link)
+    → Filled (loads_but_last t b f fs last ++ xs)
 but_last_filled t b f [] last xs = tt
 but_last_filled t b f (g ∷ gs) last xs = tt
 
 data_filled : (t d f : ℕ) (base : Path) (xs : List Link) → Filled (data_loads t d (DataField base f) ++ xs)
-data_filled t d f base xs = filled_before (data_loads t d (DataField base f)) xs (filled_after (loads t base.var base.fields) _ [])
+data_filled t d f base xs =
+    filled_before (data_loads t d (DataField base f)) xs (filled_after (loads t base.var base.fields) _ [])
 
 module _ (nv nd : ℕ) where
   var_filled : (x : ℕ) (from : PtrRhs) → Filled (var_row nv nd x from)
@@ -68,7 +74,8 @@ module _ (nv nd : ℕ) where
   data_var_filled x DataRhsChoice = tt
 
   data_field_filled : (base : Path) (f : ℕ) (from : DataRhs) → Filled (data_field_row nv nd base f from)
-  data_field_filled base f (DataRhsPath q) = filled_behind (data_loads nv nd q) _ (filled_after (loads (nv + 1) base.var base.fields) _ _)
+  data_field_filled base f (DataRhsPath q) =
+      filled_behind (data_loads nv nd q) _ (filled_after (loads (nv + 1) base.var base.fields) _ _)
   data_field_filled base f (DataRhsKnown k) = filled_after (loads (nv + 1) base.var base.fields) _ _
   data_field_filled base f DataRhsChoice = tt
 

@@ -1,14 +1,18 @@
 -- A graph has a loop head exactly if its program has a loop.
-use Rattle.std.proofs.Common.{◌≡◌, ◌⊎◌, inl, inr, ℕ, Bool, true, false, true≢false, not, ◌&&◌, List, [], ◌∷◌, ◌++◌, map, eqb, refl, sym, ap, ◌∙◌, subst}
+use Rattle.std.proofs.Common.{◌≡◌, ◌⊎◌, inl, inr, ℕ, Bool, true, false, true≢false, not, ◌&&◌, List, [], ◌∷◌, ◌++◌, map}
+use Rattle.std.proofs.Common.{eqb, refl, sym, ap, ◌∙◌, subst}
 use Rattle.std.specs.List.{list_any, list_all}
 use Rattle.std.proofs.lemmas.Bool.{and_parts}
 use Rattle.std.proofs.lemmas.List.Sorted.{list_any-IsPermutation}
 use Rattle.fore_base.specs.Lists.{IsIn}
 use Rattle.fore_base.proofs.ListLemmas.{in_left, in_right, in_map, number_in, in_number}
 use Rattle.c_types.specs.declared.program.Stmt.{Stmt, Stmt-F, fold-roll-Stmt, map-Stmt, ind-Stmt}
-use Rattle.c_types.specs.declared.program.Stmt.TheOpen.{Do as Do-F, Branch as Branch-F, While as While-F, DoWhile as DoWhile-F, For as For-F, Group as Group-F}
+use Rattle.c_types.specs.declared.program.Stmt.TheOpen.{Do as Do-F, Branch as Branch-F, While as While-F}
+use Rattle.c_types.specs.declared.program.Stmt.TheOpen.{DoWhile as DoWhile-F, For as For-F, Group as Group-F}
 use Rattle.c_types.specs.Program.{Program}
-use Rattle.c_types.specs.Control.{Items, Done, Do, Close, If, Loop, Again, DoLoop, DoAgain, Test, Ask, Not, Both, Either, ◌then◌, ask, round, do_round, all_before, closes, items_step, items_of, start_of}
+use Rattle.c_types.specs.Control.{Items, Done, Do, Close, If, Loop, Again, DoLoop, DoAgain, Test, Ask, Not, Both}
+use Rattle.c_types.specs.Control.{Either, ◌then◌, ask, round, do_round, all_before, closes, items_step, items_of}
+use Rattle.c_types.specs.Control.{start_of}
 use Rattle.c_types.specs.Steps.{below}
 use Rattle.c_cfg.specs.Graphs.{ControlGraph}
 use Rattle.c_cfg.specs.Places.{test_places, places, heads, remark}
@@ -55,13 +59,15 @@ IsToldFree s = (r : Items) → items_free (items_of s r) ≡ (stmt_free s && ite
 abbrev Told : Type 0
 Told = (s : Stmt) × IsToldFree s
 
-each_free : (es : List Told) (r : Items) → items_free (all_before (map items_of (map (λ e. e.0) es)) r) ≡ (all_free (map stmt_free (map (λ e. e.0) es)) && items_free r)
+each_free : (es : List Told) (r : Items) → items_free (all_before (map items_of (map (λ e. e.0) es)) r)
+    ≡ (all_free (map stmt_free (map (λ e. e.0) es)) && items_free r)
 each_free [] r = refl
 each_free (e ∷ es) r =
     e.1 (all_before (map items_of (map (λ e. e.0) es)) r) ∙ ap (λ b. stmt_free e.0 && b) (each_free es r)
     ∙ and_assoc (stmt_free e.0) (all_free (map stmt_free (map (λ e. e.0) es))) (items_free r)
 
-side_free : (es : List Told) → items_free (all_before (map items_of (map (λ e. e.0) es)) Done) ≡ all_free (map stmt_free (map (λ e. e.0) es))
+side_free : (es : List Told) → items_free (all_before (map items_of (map (λ e. e.0) es)) Done)
+    ≡ all_free (map stmt_free (map (λ e. e.0) es))
 side_free es = each_free es Done ∙ and_true (all_free (map stmt_free (map (λ e. e.0) es)))
 
 closes_free : (ps ds : List ℕ) (m : ℕ) (r : Items) → items_free (closes ps ds m r) ≡ items_free r
@@ -70,24 +76,31 @@ closes_free [] (d ∷ ds) m r = refl
 closes_free (p ∷ ps) ds m r = refl
 
 abbrev LayerFree : Stmt-F Stmt → Type 0
-LayerFree x = (r : Items) → items_free (items_step (map-Stmt Stmt (Items → Items) items_of x) r) ≡ (free_step (map-Stmt Stmt Bool stmt_free x) && items_free r)
+LayerFree x = (r : Items) → items_free (items_step (map-Stmt Stmt (Items → Items) items_of x) r)
+    ≡ (free_step (map-Stmt Stmt Bool stmt_free x) && items_free r)
 
 layer_free : (y : Stmt-F Told) → LayerFree (map-Stmt Told Stmt (λ e. e.0) y)
 layer_free (Do-F a line) r = refl
-layer_free (Branch-F t x y) r = ap (λ b. (b && items_free (all_before (map items_of (map (λ e. e.0) y)) Done)) && items_free r) (side_free x) ∙ ap (λ b. (all_free (map stmt_free (map (λ e. e.0) x)) && b) && items_free r) (side_free y)
+layer_free (Branch-F t x y) r =
+    ap (λ b. (b && items_free (all_before (map items_of (map (λ e. e.0) y)) Done)) && items_free r) (side_free x)
+    ∙ ap (λ b. (all_free (map stmt_free (map (λ e. e.0) x)) && b) && items_free r) (side_free y)
 layer_free (While-F t b) r = refl
 layer_free (DoWhile-F t b) r = refl
 layer_free (For-F t n b) r = refl
-layer_free (Group-F b ps ds m) r = each_free b (closes ps ds m r) ∙ ap (λ c. all_free (map stmt_free (map (λ e. e.0) b)) && c) (closes_free ps ds m r)
+layer_free (Group-F b ps ds m) r = each_free b (closes ps ds m r)
+    ∙ ap (λ c. all_free (map stmt_free (map (λ e. e.0) b)) && c) (closes_free ps ds m r)
 
 stmt_told : (s : Stmt) → IsToldFree s
 stmt_told = ind-Stmt IsToldFree (λ x y is.
     let here : LayerFree x = subst LayerFree is (layer_free y) in
-    λ r. ap (λ f. items_free (f r)) (fold-roll-Stmt (Items → Items) items_step x) ∙ here r ∙ ap (λ b. b && items_free r) (sym (fold-roll-Stmt Bool free_step x)))
+    λ r. ap (λ f. items_free (f r)) (fold-roll-Stmt (Items → Items) items_step x) ∙ here r
+    ∙ ap (λ b. b && items_free r) (sym (fold-roll-Stmt Bool free_step x)))
 
-all_told : (ss : List Stmt) (r : Items) → items_free (all_before (map items_of ss) r) ≡ (all_free (map stmt_free ss) && items_free r)
+all_told : (ss : List Stmt) (r : Items) → items_free (all_before (map items_of ss) r)
+    ≡ (all_free (map stmt_free ss) && items_free r)
 all_told [] r = refl
-all_told (s ∷ ss) r = stmt_told s (all_before (map items_of ss) r) ∙ ap (λ b. stmt_free s && b) (all_told ss r) ∙ and_assoc (stmt_free s) (all_free (map stmt_free ss)) (items_free r)
+all_told (s ∷ ss) r = stmt_told s (all_before (map items_of ss) r) ∙ ap (λ b. stmt_free s && b) (all_told ss r)
+    ∙ and_assoc (stmt_free s) (all_free (map stmt_free ss)) (items_free r)
 
 program_told : (p : Program) → items_free (start_of p) ≡ has_no_loop p
 program_told p = all_told p.body Done ∙ and_true (has_no_loop p)
@@ -99,8 +112,10 @@ no_heads Done r e = refl
 no_heads (Do a m is) r e = no_heads is r e
 no_heads (Close ps ds m is) r e = no_heads is r e
 no_heads (If c x y is) r e =
-    let both = and_parts (items_free x && items_free y) (items_free is) e in let sides = and_parts (items_free x) (items_free y) both.0 in
-    ap (λ hs. hs ++ (heads y (is then r) ++ heads is r)) (no_heads x (is then r) sides.0) ∙ ap (λ hs. hs ++ heads is r) (no_heads y (is then r) sides.1) ∙ no_heads is r both.1
+    let both = and_parts (items_free x && items_free y) (items_free is) e in let sides =
+    and_parts (items_free x) (items_free y) both.0 in
+    ap (λ hs. hs ++ (heads y (is then r) ++ heads is r)) (no_heads x (is then r) sides.0)
+    ∙ ap (λ hs. hs ++ heads is r) (no_heads y (is then r) sides.1) ∙ no_heads is r both.1
 no_heads (Loop c n b is) r e = absurd (true≢false (sym e))
 no_heads (Again c n b is) r e = absurd (true≢false (sym e))
 no_heads (DoLoop c b is) r e = absurd (true≢false (sym e))
@@ -123,7 +138,8 @@ one_of_three false b c e = inl refl
 one_of_three true false c e = inr (inl refl)
 one_of_three true true c e = inr (inr e)
 
-if_head : (c : Test) (x y is r : Items) → (items_free x ≡ false → HasHead x (is then r)) → (items_free y ≡ false → HasHead y (is then r)) → (items_free is ≡ false → HasHead is r)
+if_head : (c : Test) (x y is r : Items) → (items_free x ≡ false → HasHead x (is then r))
+    → (items_free y ≡ false → HasHead y (is then r)) → (items_free is ≡ false → HasHead is r)
     → (items_free x ≡ false) ⊎ ((items_free y ≡ false) ⊎ (items_free is ≡ false)) → HasHead (If c x y is) r
 if_head c x y is r hx hy hi (inl f) = let h = hx f in record {
   head = h.head;
@@ -133,19 +149,25 @@ if_head c x y is r hx hy hi (inl f) = let h = hx f in record {
 if_head c x y is r hx hy hi (inr (inl f)) = let h = hy f in record {
   head = h.head;
   is_head = in_right _ (heads x (is then r)) _ (in_left _ (heads y (is then r)) _ h.is_head);
-  is_place = in_right _ (test_places c x y (is then r)) _ (in_right _ (places x (is then r)) _ (in_left _ (places y (is then r)) _ h.is_place));
+  is_place = in_right _ (test_places c x y (is then r)) _
+      (in_right _ (places x (is then r)) _ (in_left _ (places y (is then r)) _ h.is_place));
 }
 if_head c x y is r hx hy hi (inr (inr f)) = let h = hi f in record {
   head = h.head;
   is_head = in_right _ (heads x (is then r)) _ (in_right _ (heads y (is then r)) _ h.is_head);
-  is_place = in_right _ (test_places c x y (is then r)) _ (in_right _ (places x (is then r)) _ (in_right _ (places y (is then r)) _ h.is_place));
+  is_place = in_right _ (test_places c x y (is then r)) _
+      (in_right _ (places x (is then r)) _ (in_right _ (places y (is then r)) _ h.is_place));
 }
 
 some_head : (is r : Items) → items_free is ≡ false → HasHead is r
 some_head Done r e = absurd (true≢false e)
-some_head (Do a m is) r e = let h = some_head is r e in record { head = h.head; is_head = h.is_head; is_place = inr h.is_place }
-some_head (Close ps ds m is) r e = let h = some_head is r e in record { head = h.head; is_head = h.is_head; is_place = inr h.is_place }
-some_head (If c x y is) r e = if_head c x y is r (λ f. some_head x (is then r) f) (λ f. some_head y (is then r) f) (λ f. some_head is r f) (one_of_three (items_free x) (items_free y) (items_free is) e)
+some_head (Do a m is) r e = let h = some_head is r e in
+    record { head = h.head; is_head = h.is_head; is_place = inr h.is_place }
+some_head (Close ps ds m is) r e = let h = some_head is r e in
+    record { head = h.head; is_head = h.is_head; is_place = inr h.is_place }
+some_head (If c x y is) r e =
+    if_head c x y is r (λ f. some_head x (is then r) f) (λ f. some_head y (is then r) f) (λ f. some_head is r f)
+    (one_of_three (items_free x) (items_free y) (items_free is) e)
 some_head (Loop c n b is) r e = record {
   head = ask c (round c n b) Done (is then r);
   is_head = inl refl;
@@ -154,12 +176,14 @@ some_head (Loop c n b is) r e = record {
 some_head (Again c n b is) r e = record {
   head = ask c (round c n b) Done (is then r);
   is_head = inl refl;
-  is_place = in_right _ (places n (Loop c n b (is then r))) _ (in_left _ (test_places c (round c n b) Done (is then r)) _ (asks_place c (round c n b) Done (is then r)));
+  is_place = in_right _ (places n (Loop c n b (is then r))) _
+      (in_left _ (test_places c (round c n b) Done (is then r)) _ (asks_place c (round c n b) Done (is then r)));
 }
 some_head (DoLoop c b is) r e = record {
   head = ask c (do_round c b) Done (is then r);
   is_head = inl refl;
-  is_place = in_right _ (places b (DoAgain c b (is then r))) _ (in_left _ (test_places c (do_round c b) Done (is then r)) _ (asks_place c (do_round c b) Done (is then r)));
+  is_place = in_right _ (places b (DoAgain c b (is then r))) _
+      (in_left _ (test_places c (do_round c b) Done (is then r)) _ (asks_place c (do_round c b) Done (is then r)));
 }
 some_head (DoAgain c b is) r e = record {
   head = ask c (do_round c b) Done (is then r);
@@ -169,7 +193,8 @@ some_head (DoAgain c b is) r e = record {
 
 -- Entries
 
-in_numbers : (at : Items → ℕ) (mids : Items → List ℕ) (h : Items) (ps : List Items) → IsIn h ps → IsIn (at h) (numbers at mids ps)
+in_numbers : (at : Items → ℕ) (mids : Items → List ℕ) (h : Items) (ps : List Items) → IsIn h ps
+    → IsIn (at h) (numbers at mids ps)
 in_numbers at mids h [] i = absurd i
 in_numbers at mids h (c ∷ cs) (inl e) = inl (ap at e)
 in_numbers at mids h (c ∷ cs) (inr i) = inr (in_right (at h) (mids c) (numbers at mids cs) (in_numbers at mids h cs i))
@@ -185,14 +210,22 @@ none_true [] = refl
 none_true (k ∷ ks) = none_true ks
 
 pub free_graph : (p : Program) (g : ControlGraph) → LowerOf p g → list_all not g.heads ≡ has_no_loop p
-free_graph p g low = ap (list_all not) low.heads_are ∙ by (items_free low.items) refl ∙ sym (free_remarked low.line low.items) ∙ ap items_free low.is_program ∙ program_told p
+free_graph p g low = ap (list_all not) low.heads_are ∙ by (items_free low.items) refl
+    ∙ sym (free_remarked low.line low.items) ∙ ap items_free low.is_program ∙ program_told p
   where
-    by : (b : Bool) → items_free low.items ≡ b → list_all not (map (is_one_of (map low.at (heads low.items Done))) (below g.locations)) ≡ items_free low.items
-    by true e = ap (λ (hs : List Items). list_all not (map (is_one_of (map low.at hs)) (below g.locations))) (no_heads low.items Done e) ∙ none_true (below g.locations) ∙ sym e
+    by : (b : Bool) → items_free low.items ≡ b
+        → list_all not (map (is_one_of (map low.at (heads low.items Done))) (below g.locations)) ≡ items_free low.items
+    by true e = ap (λ (hs : List Items). list_all not (map (is_one_of (map low.at hs)) (below g.locations)))
+        (no_heads low.items Done e) ∙ none_true (below g.locations) ∙ sym e
     by false e =
         let h = some_head low.items Done e in
         let k = low.at h.head in let ks = map low.at (heads low.items Done) in
-        let there : list_any (λ m. eqb m k) (numbers low.at low.mids (places low.items Done)) ≡ true = in_number k _ (in_numbers low.at low.mids h.head (places low.items Done) h.is_place) in
-        let here : IsIn k (below g.locations) = number_in k (below g.locations) (sym (list_any-IsPermutation (λ m. eqb m k) _ _ low.all_numbers) ∙ there) in
+        let there : list_any (λ m. eqb m k) (numbers low.at low.mids (places low.items Done)) ≡ true =
+        in_number k _ (in_numbers low.at low.mids h.head (places low.items Done) h.is_place) in
+        let here : IsIn k (below g.locations) =
+        number_in k (below g.locations)
+        (sym (list_any-IsPermutation (λ m. eqb m k) _ _ low.all_numbers) ∙ there) in
         let marked : is_one_of ks k ≡ true = in_number k ks (in_map low.at h.head (heads low.items Done) h.is_head) in
-        one_true _ (subst (λ b. IsIn b (map (is_one_of ks) (below g.locations))) marked (in_map (is_one_of ks) k (below g.locations) here)) ∙ sym e
+        one_true _
+        (subst (λ b. IsIn b (map (is_one_of ks) (below g.locations))) marked
+        (in_map (is_one_of ks) k (below g.locations) here)) ∙ sym e

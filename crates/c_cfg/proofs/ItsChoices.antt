@@ -1,5 +1,6 @@
 -- An edge of a lowered program has a choice exactly if it is a Choose.
-use Rattle.std.proofs.Common.{◌≡◌, ℕ, ◌+◌, List, [], ◌∷◌, ◌++◌, length, Bool, true, false, refl, sym, Option, Some, None}
+use Rattle.std.proofs.Common.{◌≡◌, ℕ, ◌+◌, List, [], ◌∷◌, ◌++◌, length, Bool, true, false, refl, sym, Option, Some}
+use Rattle.std.proofs.Common.{None}
 use Rattle.fore_base.specs.Lists.{Every}
 use Rattle.c_types.specs.declared.program.Path.{Path}
 use Rattle.c_types.specs.declared.program.DataPath.{DataPath}
@@ -7,20 +8,25 @@ use Rattle.c_types.specs.declared.program.DataPath.TheVariants.{Var as DataVar, 
 use Rattle.c_types.specs.declared.program.PtrRhs.{PtrRhs}
 use Rattle.c_types.specs.declared.program.PtrRhs.TheVariants.{Path as RhsPath, Null as RhsNull, New as RhsNew}
 use Rattle.c_types.specs.declared.program.DataRhs.{DataRhs}
-use Rattle.c_types.specs.declared.program.DataRhs.TheVariants.{Path as DataRhsPath, Known as DataRhsKnown, Choice as DataRhsChoice}
+use Rattle.c_types.specs.declared.program.DataRhs.TheVariants.{Path as DataRhsPath, Known as DataRhsKnown}
+use Rattle.c_types.specs.declared.program.DataRhs.TheVariants.{Choice as DataRhsChoice}
 use Rattle.c_types.specs.declared.program.Act.{Act}
-use Rattle.c_types.specs.declared.program.Act.TheVariants.{SetPtr, SetData, Free as FreeAct, Error, Halt, Return, Break, Continue}
+use Rattle.c_types.specs.declared.program.Act.TheVariants.{SetPtr, SetData, Free as FreeAct, Error, Halt, Return, Break}
+use Rattle.c_types.specs.declared.program.Act.TheVariants.{Continue}
 use Rattle.c_types.specs.declared.program.PtrOp.{PtrOp}
 use Rattle.c_types.specs.declared.program.PtrOp.TheVariants.{Path as OpPath, Null as OpNull}
 use Rattle.c_types.specs.declared.program.DataOp.{DataOp}
 use Rattle.c_types.specs.declared.program.DataOp.TheVariants.{Path as DataOpPath, Known as DataOpKnown}
 use Rattle.c_types.specs.declared.program.Atom.{Atom}
-use Rattle.c_types.specs.declared.program.Atom.TheVariants.{Choice as ChoiceAtom, Known as KnownAtom, Ptr as PtrAtom, Data as DataAtom}
+use Rattle.c_types.specs.declared.program.Atom.TheVariants.{Choice as ChoiceAtom, Known as KnownAtom, Ptr as PtrAtom}
+use Rattle.c_types.specs.declared.program.Atom.TheVariants.{Data as DataAtom}
 use Rattle.c_types.specs.Control.{Items, Done, Do, Close, If, Loop, Again, DoLoop, DoAgain, Ask, Not, Both, Either}
 use Rattle.c_cfg.specs.declared.graph.Instr.{Instr}
 use Rattle.c_cfg.specs.declared.graph.Edge.{Edge}
 use Rattle.c_cfg.specs.Graphs.{is_choose, HasItsChoice}
-use Rattle.c_cfg.specs.Links.{Link, One, Two, loads, loads_but_last, used, ends, data_loads, op_loads, data_op_loads, var_row, path_row, ptr_row, data_var_row, data_field_row, data_row, return_row, act_row, ptr_loads, cmp_loads, ptr_test, data_test, ptr_ends, data_ends}
+use Rattle.c_cfg.specs.Links.{Link, One, Two, loads, loads_but_last, used, ends, data_loads, op_loads, data_op_loads}
+use Rattle.c_cfg.specs.Links.{var_row, path_row, ptr_row, data_var_row, data_field_row, data_row, return_row, act_row}
+use Rattle.c_cfg.specs.Links.{ptr_loads, cmp_loads, ptr_test, data_test, ptr_ends, data_ends}
 use Rattle.c_cfg.specs.Lowering.{link_edges}
 use Rattle.c_cfg.specs.inner.Numbering.{chain, test_edges, atom_edges, place_edges, all_edges}
 
@@ -43,7 +49,8 @@ loads_fit : (t b : ℕ) (fs : List ℕ) → Fit (loads t b fs)
 loads_fit t b [] = tt
 loads_fit t b (f ∷ fs) = (refl, loads_fit t t fs)
 
-last_fits : (t b f : ℕ) (fs : List ℕ) (last : ℕ → ℕ → Instr) → ((c g : ℕ) → is_choose (last c g) ≡ false) → Fit (loads_but_last t b f fs last)
+last_fits : (t b f : ℕ) (fs : List ℕ) (last : ℕ → ℕ → Instr) → ((c g : ℕ) → is_choose (last c g) ≡ false)
+    → Fit (loads_but_last t b f fs last)
 last_fits t b f [] last h = (h b f, tt)
 last_fits t b f (g ∷ gs) last h = (refl, last_fits t t g gs last h)
 
@@ -54,7 +61,8 @@ ends_fit (p ∷ ps) ds = (refl, tt)
 
 data_fit : (t d : ℕ) (p : DataPath) → Fit (data_loads t d p)
 data_fit t d (DataVar x) = tt
-data_fit t d (DataField base f) = fit_more (loads t base.var base.fields) _ (loads_fit t base.var base.fields) (refl, tt)
+data_fit t d (DataField base f) =
+    fit_more (loads t base.var base.fields) _ (loads_fit t base.var base.fields) (refl, tt)
 
 op_fit : (t : ℕ) (o : PtrOp) → Fit (op_loads t o)
 op_fit t (OpPath p) = loads_fit t p.var p.fields
@@ -70,14 +78,22 @@ module _ (nv nd : ℕ) where
     where
       by_fields : (fs : List ℕ) → Fit (var_row nv nd x (RhsPath (record { var = q.var; fields = fs })))
       by_fields [] = (refl, tt)
-      by_fields (f ∷ fs) = fit_more (loads_but_last nv q.var f fs _) _ (last_fits nv q.var f fs _ (λ c g. refl)) (ends_fit _ [])
+      by_fields (f ∷ fs) = fit_more (loads_but_last nv q.var f fs _) _ (last_fits nv q.var f fs _ (λ c g. refl))
+          (ends_fit _ [])
   var_fits x RhsNull = (refl, tt)
   var_fits x (RhsNew shape) = (refl, tt)
 
   path_fits : (x f : ℕ) (fs : List ℕ) (from : PtrRhs) → Fit (path_row nv nd x f fs from)
-  path_fits x f fs (RhsPath q) = fit_more (loads nv q.var q.fields) _ (loads_fit nv q.var q.fields) (fit_more (loads_but_last (nv + 1) x f fs _) _ (last_fits (nv + 1) x f fs _ (λ c g. refl)) (ends_fit _ []))
-  path_fits x f fs RhsNull = fit_more (loads_but_last (nv + 1) x f fs _) _ (last_fits (nv + 1) x f fs _ (λ c g. refl)) (ends_fit _ [])
-  path_fits x f fs (RhsNew shape) = (refl, fit_more (loads_but_last (nv + 1) x f fs _) _ (last_fits (nv + 1) x f fs _ (λ c g. refl)) (ends_fit (nv ∷ used (nv + 1) fs) []))
+  path_fits x f fs (RhsPath q) =
+      fit_more (loads nv q.var q.fields) _ (loads_fit nv q.var q.fields)
+      (fit_more (loads_but_last (nv + 1) x f fs _) _ (last_fits (nv + 1) x f fs _ (λ c g. refl)) (ends_fit _ []))
+  path_fits x f fs RhsNull =
+      fit_more (loads_but_last (nv + 1) x f fs _) _ (last_fits (nv + 1) x f fs _ (λ c g. refl)) (ends_fit _ [])
+  path_fits x f fs (RhsNew shape) = (
+    refl,
+    fit_more (loads_but_last (nv + 1) x f fs _) _ (last_fits (nv + 1) x f fs _ (λ c g. refl))
+        (ends_fit (nv ∷ used (nv + 1) fs) []),
+  )
 
   ptr_fits : (x : ℕ) (fs : List ℕ) (from : PtrRhs) → Fit (ptr_row nv nd x fs from)
   ptr_fits x [] from = var_fits x from
@@ -85,14 +101,22 @@ module _ (nv nd : ℕ) where
 
   data_var_fits : (x : ℕ) (from : DataRhs) → Fit (data_var_row nv nd x from)
   data_var_fits x (DataRhsPath (DataVar y)) = (refl, tt)
-  data_var_fits x (DataRhsPath (DataField base f)) = fit_more (data_loads nv x (DataField base f)) _ (data_fit nv x (DataField base f)) (ends_fit _ [])
+  data_var_fits x (DataRhsPath (DataField base f)) =
+      fit_more (data_loads nv x (DataField base f)) _ (data_fit nv x (DataField base f)) (ends_fit _ [])
   data_var_fits x (DataRhsKnown k) = (refl, tt)
   data_var_fits x DataRhsChoice = ((refl, refl), tt)
 
   data_field_fits : (base : Path) (f : ℕ) (from : DataRhs) → Fit (data_field_row nv nd base f from)
-  data_field_fits base f (DataRhsPath q) = fit_more (data_loads nv nd q) _ (data_fit nv nd q) (fit_more (loads (nv + 1) base.var base.fields) _ (loads_fit (nv + 1) base.var base.fields) (refl, ends_fit _ _))
-  data_field_fits base f (DataRhsKnown k) = fit_more (loads (nv + 1) base.var base.fields) _ (loads_fit (nv + 1) base.var base.fields) (refl, ends_fit _ [])
-  data_field_fits base f DataRhsChoice = ((refl, refl), fit_more (loads (nv + 1) base.var base.fields) _ (loads_fit (nv + 1) base.var base.fields) (refl, ends_fit _ (nd ∷ [])))
+  data_field_fits base f (DataRhsPath q) =
+      fit_more (data_loads nv nd q) _ (data_fit nv nd q)
+      (fit_more (loads (nv + 1) base.var base.fields) _ (loads_fit (nv + 1) base.var base.fields) (refl, ends_fit _ _))
+  data_field_fits base f (DataRhsKnown k) =
+      fit_more (loads (nv + 1) base.var base.fields) _ (loads_fit (nv + 1) base.var base.fields) (refl, ends_fit _ [])
+  data_field_fits base f DataRhsChoice = (
+    (refl, refl),
+    fit_more (loads (nv + 1) base.var base.fields) _ (loads_fit (nv + 1) base.var base.fields)
+        (refl, ends_fit _ (nd ∷ [])),
+  )
 
   set_data_fits : (to : DataPath) (from : DataRhs) → Fit (data_row nv nd to from)
   set_data_fits (DataVar x) from = data_var_fits x from
@@ -127,23 +151,43 @@ link_told line k to (Two i j) h = (sym h.0, (sym h.1, tt))
 chain_told : (line : ℕ) (ls : List Link) (k to : ℕ) → Fit ls → Told (chain line ls k to)
 chain_told line [] k to h = tt
 chain_told line (l ∷ []) k to h = link_told line k to l h.0
-chain_told line (l ∷ x ∷ ls) k to h = told_more (link_edges line k (k + 1) l) _ (link_told line k (k + 1) l h.0) (chain_told line (x ∷ ls) (k + 1) to h.1)
+chain_told line (l ∷ x ∷ ls) k to h =
+    told_more (link_edges line k (k + 1) l) _ (link_told line k (k + 1) l h.0) (chain_told line (x ∷ ls) (k + 1) to h.1)
 
-test_told : (line : ℕ) (pre : List Link) (test : Bool → Instr) (post : List Link) (k same other : ℕ) → Fit pre → ((b : Bool) → is_choose (test b) ≡ false) → Fit post → Told (test_edges line pre test post k same other)
-test_told line pre test [] k same other h t p = told_more (chain line pre k (k + length pre)) _ (chain_told line pre k (k + length pre) h) (sym (t true), (sym (t false), tt))
-test_told line pre test (l ∷ ls) k same other h t p =
+test_told : (line : ℕ) (pre : List Link) (test : Bool → Instr) (post : List Link) (k same other : ℕ) → Fit pre
+    → ((b : Bool) → is_choose (test b) ≡ false) → Fit post → Told (test_edges line pre test post k same other)
+test_told line pre test [] k same other h t p =
     told_more (chain line pre k (k + length pre)) _ (chain_told line pre k (k + length pre) h)
-    (sym (t true), (sym (t false), told_more (link_edges line (k + length pre + 1) same l) _ (link_told line (k + length pre + 1) same l p.0) (link_told line (k + length pre + 2) other l p.0)))
+    (sym (t true), (sym (t false), tt))
+test_told line pre test (l ∷ ls) k same other h t p =
+    told_more (chain line pre k (k + length pre)) _ (chain_told line pre k (k + length pre) h) (
+      sym (t true),
+      (
+        sym (t false),
+        told_more (link_edges line (k + length pre + 1) same l) _
+            (link_told line (k + length pre + 1) same l p.0) (link_told line (k + length pre + 2) other l p.0),
+      ),
+    )
 
 module _ (nv nd : ℕ) where
   atom_told : (a : Atom) (line k x y : ℕ) → Told (atom_edges nv nd a line k x y)
   atom_told ChoiceAtom line k x y = (refl, (refl, tt))
   atom_told (KnownAtom true) line k x y = (refl, tt)
   atom_told (KnownAtom false) line k x y = (refl, tt)
-  atom_told (PtrAtom l r true) line k x y = test_told line (ptr_loads nv nd l r) (ptr_test nv nd l r) (ptr_ends nv nd l r) k x y (fit_more (op_loads nv l) _ (op_fit nv l) (op_fit (nv + 1) r)) (λ b. refl) (ends_fit _ [])
-  atom_told (PtrAtom l r false) line k x y = test_told line (ptr_loads nv nd l r) (ptr_test nv nd l r) (ptr_ends nv nd l r) k y x (fit_more (op_loads nv l) _ (op_fit nv l) (op_fit (nv + 1) r)) (λ b. refl) (ends_fit _ [])
-  atom_told (DataAtom l r true) line k x y = test_told line (cmp_loads nv nd l r) (data_test nv nd l r) (data_ends nv nd l r) k x y (fit_more (data_op_loads nv nd l) _ (data_op_fit nv nd l) (data_op_fit (nv + 1) (nd + 1) r)) (λ b. refl) (ends_fit _ _)
-  atom_told (DataAtom l r false) line k x y = test_told line (cmp_loads nv nd l r) (data_test nv nd l r) (data_ends nv nd l r) k y x (fit_more (data_op_loads nv nd l) _ (data_op_fit nv nd l) (data_op_fit (nv + 1) (nd + 1) r)) (λ b. refl) (ends_fit _ _)
+  atom_told (PtrAtom l r true) line k x y =
+      test_told line (ptr_loads nv nd l r) (ptr_test nv nd l r) (ptr_ends nv nd l r) k x y
+      (fit_more (op_loads nv l) _ (op_fit nv l) (op_fit (nv + 1) r)) (λ b. refl) (ends_fit _ [])
+  atom_told (PtrAtom l r false) line k x y =
+      test_told line (ptr_loads nv nd l r) (ptr_test nv nd l r) (ptr_ends nv nd l r) k y x
+      (fit_more (op_loads nv l) _ (op_fit nv l) (op_fit (nv + 1) r)) (λ b. refl) (ends_fit _ [])
+  atom_told (DataAtom l r true) line k x y =
+      test_told line (cmp_loads nv nd l r) (data_test nv nd l r) (data_ends nv nd l r) k x y
+      (fit_more (data_op_loads nv nd l) _ (data_op_fit nv nd l) (data_op_fit (nv + 1) (nd + 1) r)) (λ b. refl)
+      (ends_fit _ _)
+  atom_told (DataAtom l r false) line k x y =
+      test_told line (cmp_loads nv nd l r) (data_test nv nd l r) (data_ends nv nd l r) k y x
+      (fit_more (data_op_loads nv nd l) _ (data_op_fit nv nd l) (data_op_fit (nv + 1) (nd + 1) r)) (λ b. refl)
+      (ends_fit _ _)
 
   place_told : (exit : ℕ) (line : ℕ → ℕ) (c : Items) → Told (place_edges nv nd exit line c)
   place_told exit line Done = tt
@@ -160,4 +204,5 @@ module _ (nv nd : ℕ) where
 
   pub all_told : (exit : ℕ) (line : ℕ → ℕ) (ps : List Items) → Told (all_edges nv nd exit line ps)
   all_told exit line [] = tt
-  all_told exit line (c ∷ cs) = told_more (place_edges nv nd exit line c) _ (place_told exit line c) (all_told exit line cs)
+  all_told exit line (c ∷ cs) =
+      told_more (place_edges nv nd exit line c) _ (place_told exit line c) (all_told exit line cs)

@@ -4,7 +4,8 @@ use Rattle.fore_base.specs.Lists.{Every}
 use Rattle.fore_base.proofs.ListLemmas.{every_append, every_parts}
 use Rattle.c_types.specs.declared.program.Act.{Act}
 use Rattle.c_types.specs.declared.program.Act.TheVariants.{SetPtr, SetData, Free, Error, Halt, Return, Break, Continue}
-use Rattle.c_types.specs.Control.{Items, Done, Do, Close, If, Loop, Again, DoLoop, DoAgain, Test, Ask, Not, Both, Either, ◌then◌, ask, round, do_round, open_before, opened, after_again, from_again}
+use Rattle.c_types.specs.Control.{Items, Done, Do, Close, If, Loop, Again, DoLoop, DoAgain, Test, Ask, Not, Both}
+use Rattle.c_types.specs.Control.{Either, ◌then◌, ask, round, do_round, open_before, opened, after_again, from_again}
 use Rattle.c_cfg.specs.Places.{test_places, places}
 use Rattle.c_cfg.specs.Lowering.{followed_by}
 use Rattle.c_cfg.proofs.Opening.{then_then}
@@ -33,35 +34,54 @@ module _ (R : Items → Type 0) where
   Each (Do a m is) r = R (Do a m (is then r)) × Each is r
   Each (Close ps ds m is) r = R (Close ps ds m (is then r)) × Each is r
   Each (If c x y is) r = EachTest c x y (is then r) × Each x (is then r) × Each y (is then r) × Each is r
-  Each (Loop c n b is) r = EachTest c (round c n b) Done (is then r) × Each b (Again c n b (is then r)) × Each n (Loop c n b (is then r)) × Each is r
-  Each (Again c n b is) r = EachTest c (round c n b) Done (is then r) × Each b (Again c n b (is then r)) × Each n (Loop c n b (is then r)) × Each is r
+  Each (Loop c n b is) r = EachTest c (round c n b) Done (is then r) × Each b (Again c n b (is then r))
+      × Each n (Loop c n b (is then r)) × Each is r
+  Each (Again c n b is) r = EachTest c (round c n b) Done (is then r) × Each b (Again c n b (is then r))
+      × Each n (Loop c n b (is then r)) × Each is r
   Each (DoLoop c b is) r = EachTest c (do_round c b) Done (is then r) × Each b (DoAgain c b (is then r)) × Each is r
   Each (DoAgain c b is) r = EachTest c (do_round c b) Done (is then r) × Each b (DoAgain c b (is then r)) × Each is r
 
   each_test : (c : Test) (x y r : Items) → Every R (test_places c x y r) → EachTest c x y r
   each_test (Ask a m) x y r h = h.0
   each_test (Not c) x y r h = each_test c y x r h
-  each_test (Both c d) x y r h = let both = every_parts R (test_places c (If d x y Done) y r) _ h in (each_test c (If d x y Done) y r both.0, each_test d x y r both.1)
-  each_test (Either c d) x y r h = let both = every_parts R (test_places c x (If d x y Done) r) _ h in (each_test c x (If d x y Done) r both.0, each_test d x y r both.1)
+  each_test (Both c d) x y r h = let both = every_parts R (test_places c (If d x y Done) y r) _ h in
+      (each_test c (If d x y Done) y r both.0, each_test d x y r both.1)
+  each_test (Either c d) x y r h = let both = every_parts R (test_places c x (If d x y Done) r) _ h in
+      (each_test c x (If d x y Done) r both.0, each_test d x y r both.1)
 
   pub each : (is r : Items) → Every R (places is r) → Each is r
   each Done r h = tt
   each (Do a m is) r h = (h.0, each is r h.1)
   each (Close ps ds m is) r h = (h.0, each is r h.1)
   each (If c x y is) r h =
-      let h1 = every_parts R (test_places c x y (is then r)) _ h in let h2 = every_parts R (places x (is then r)) _ h1.1 in let h3 = every_parts R (places y (is then r)) _ h2.1 in
+      let h1 = every_parts R (test_places c x y (is then r)) _ h in let h2 =
+      every_parts R (places x (is then r)) _ h1.1 in let h3 = every_parts R (places y (is then r)) _ h2.1 in
       (each_test c x y (is then r) h1.0, each x (is then r) h2.0, each y (is then r) h3.0, each is r h3.1)
   each (Loop c n b is) r h =
-      let h1 = every_parts R (test_places c (round c n b) Done (is then r)) _ h in let h2 = every_parts R (places b (Again c n b (is then r))) _ h1.1 in let h3 = every_parts R (places n (Loop c n b (is then r))) _ h2.1 in
-      (each_test c (round c n b) Done (is then r) h1.0, each b (Again c n b (is then r)) h2.0, each n (Loop c n b (is then r)) h3.0, each is r h3.1)
+      let h1 = every_parts R (test_places c (round c n b) Done (is then r)) _ h in let h2 =
+      every_parts R (places b (Again c n b (is then r))) _ h1.1 in
+      let h3 = every_parts R (places n (Loop c n b (is then r))) _ h2.1 in (
+        each_test c (round c n b) Done (is then r) h1.0,
+        each b (Again c n b (is then r)) h2.0,
+        each n (Loop c n b (is then r)) h3.0,
+        each is r h3.1,
+      )
   each (Again c n b is) r h =
-      let h1 = every_parts R (places n (Loop c n b (is then r))) _ h in let h2 = every_parts R (test_places c (round c n b) Done (is then r)) _ h1.1 in let h3 = every_parts R (places b (Again c n b (is then r))) _ h2.1 in
-      (each_test c (round c n b) Done (is then r) h2.0, each b (Again c n b (is then r)) h3.0, each n (Loop c n b (is then r)) h1.0, each is r h3.1)
+      let h1 = every_parts R (places n (Loop c n b (is then r))) _ h in let h2 =
+      every_parts R (test_places c (round c n b) Done (is then r)) _ h1.1 in
+      let h3 = every_parts R (places b (Again c n b (is then r))) _ h2.1 in (
+        each_test c (round c n b) Done (is then r) h2.0,
+        each b (Again c n b (is then r)) h3.0,
+        each n (Loop c n b (is then r)) h1.0,
+        each is r h3.1,
+      )
   each (DoLoop c b is) r h =
-      let h1 = every_parts R (places b (DoAgain c b (is then r))) _ h in let h2 = every_parts R (test_places c (do_round c b) Done (is then r)) _ h1.1 in
+      let h1 = every_parts R (places b (DoAgain c b (is then r))) _ h in let h2 =
+      every_parts R (test_places c (do_round c b) Done (is then r)) _ h1.1 in
       (each_test c (do_round c b) Done (is then r) h2.0, each b (DoAgain c b (is then r)) h1.0, each is r h2.1)
   each (DoAgain c b is) r h =
-      let h1 = every_parts R (test_places c (do_round c b) Done (is then r)) _ h in let h2 = every_parts R (places b (DoAgain c b (is then r))) _ h1.1 in
+      let h1 = every_parts R (test_places c (do_round c b) Done (is then r)) _ h in let h2 =
+      every_parts R (places b (DoAgain c b (is then r))) _ h1.1 in
       (each_test c (do_round c b) Done (is then r) h1.0, each b (DoAgain c b (is then r)) h2.0, each is r h2.1)
 
   -- items before items before others
@@ -69,9 +89,12 @@ module _ (R : Items → Type 0) where
   each_then Done d r h k = k
   each_then (Do a m is) d r h k = (rw (then_then is d r) h.0, each_then is d r h.1 k)
   each_then (Close ps ds m is) d r h k = (rw (then_then is d r) h.0, each_then is d r h.1 k)
-  each_then (If c x y is) d r h k = (rw (then_then is d r) h.0, rw (then_then is d r) h.1, rw (then_then is d r) h.2, each_then is d r h.3 k)
-  each_then (Loop c n b is) d r h k = (rw (then_then is d r) h.0, rw (then_then is d r) h.1, rw (then_then is d r) h.2, each_then is d r h.3 k)
-  each_then (Again c n b is) d r h k = (rw (then_then is d r) h.0, rw (then_then is d r) h.1, rw (then_then is d r) h.2, each_then is d r h.3 k)
+  each_then (If c x y is) d r h k =
+      (rw (then_then is d r) h.0, rw (then_then is d r) h.1, rw (then_then is d r) h.2, each_then is d r h.3 k)
+  each_then (Loop c n b is) d r h k =
+      (rw (then_then is d r) h.0, rw (then_then is d r) h.1, rw (then_then is d r) h.2, each_then is d r h.3 k)
+  each_then (Again c n b is) d r h k =
+      (rw (then_then is d r) h.0, rw (then_then is d r) h.1, rw (then_then is d r) h.2, each_then is d r h.3 k)
   each_then (DoLoop c b is) d r h k = (rw (then_then is d r) h.0, rw (then_then is d r) h.1, each_then is d r h.2 k)
   each_then (DoAgain c b is) d r h k = (rw (then_then is d r) h.0, rw (then_then is d r) h.1, each_then is d r h.2 k)
 
@@ -86,16 +109,20 @@ module _ (R : Items → Type 0) where
   each_ask (Either c d) x y r h hx hy hr = each_ask c x (If d x y Done) r h.0 hx (h.1, hx, hy, tt) hr
 
   -- a round of a loop
-  each_round : (c : Test) (n b r : Items) → EachTest c (round c n b) Done r → Each b (Again c n b r) → Each n (Loop c n b r) → Each (round c n b) r
+  each_round : (c : Test) (n b r : Items) → EachTest c (round c n b) Done r → Each b (Again c n b r)
+      → Each n (Loop c n b r) → Each (round c n b) r
   each_round c n b r h hb hn = each_then b (Again c n b Done) r hb (h, hb, hn, tt)
 
-  each_do_round : (c : Test) (b r : Items) → EachTest c (do_round c b) Done r → Each b (DoAgain c b r) → Each (do_round c b) r
+  each_do_round : (c : Test) (b r : Items) → EachTest c (do_round c b) Done r → Each b (DoAgain c b r)
+      → Each (do_round c b) r
   each_do_round c b r h hb = each_then b (DoAgain c b Done) r hb (h, hb, tt)
 
-  each_loop : (c : Test) (n b r : Items) → EachTest c (round c n b) Done r → Each b (Again c n b r) → Each n (Loop c n b r) → Each r Done → Front (ask c (round c n b) Done r)
+  each_loop : (c : Test) (n b r : Items) → EachTest c (round c n b) Done r → Each b (Again c n b r)
+      → Each n (Loop c n b r) → Each r Done → Front (ask c (round c n b) Done r)
   each_loop c n b r h hb hn hr = each_ask c (round c n b) Done r h (each_round c n b r h hb hn) tt hr
 
-  each_do : (c : Test) (b r : Items) → EachTest c (do_round c b) Done r → Each b (DoAgain c b r) → Each r Done → Front (ask c (do_round c b) Done r)
+  each_do : (c : Test) (b r : Items) → EachTest c (do_round c b) Done r → Each b (DoAgain c b r) → Each r Done
+      → Front (ask c (do_round c b) Done r)
   each_do c b r h hb hr = each_ask c (do_round c b) Done r h (each_do_round c b r h hb) tt hr
 
   pub whole : (is r : Items) → Each is r → Each r Done → Each (is then r) Done
@@ -109,10 +136,12 @@ module _ (R : Items → Type 0) where
   each_open (Loop c n b is) r o h hr ho = each_loop c n b (is then r) h.0 h.1 h.2 (whole is r h.3 hr)
   each_open (Again c n b is) r o h hr ho =
       let q = is then r in let hq = whole is r h.3 hr in
-      each_open n (Loop c n b q) (ask c (round c n b) Done q) h.2 (rw (then_done q) (h.0, h.1, h.2, hq)) (each_loop c n b q h.0 h.1 h.2 hq)
+      each_open n (Loop c n b q) (ask c (round c n b) Done q) h.2 (rw (then_done q) (h.0, h.1, h.2, hq))
+      (each_loop c n b q h.0 h.1 h.2 hq)
   each_open (DoLoop c b is) r o h hr ho =
       let q = is then r in let hq = whole is r h.2 hr in
-      each_open b (DoAgain c b q) (ask c (do_round c b) Done q) h.1 (rw (then_done q) (h.0, h.1, hq)) (each_do c b q h.0 h.1 hq)
+      each_open b (DoAgain c b q) (ask c (do_round c b) Done q) h.1 (rw (then_done q) (h.0, h.1, hq))
+      (each_do c b q h.0 h.1 hq)
   each_open (DoAgain c b is) r o h hr ho = each_do c b (is then r) h.0 h.1 (whole is r h.2 hr)
 
   -- the front of pending items, all of whose places are known
@@ -144,38 +173,55 @@ module _ (R : Items → Type 0) where
   abbrev After : Items → Type 0
   After c = Each c Done
 
-  tests_after : (c : Test) (x y r : Items) → EachTest c x y r → Each x r → Each y r → Each r Done → Every After (test_places c x y r)
+  tests_after : (c : Test) (x y r : Items) → EachTest c x y r → Each x r → Each y r → Each r Done
+      → Every After (test_places c x y r)
   tests_after (Ask a m) x y r h hx hy hr = ((rw (then_done r) h, rw (then_done r) hx, rw (then_done r) hy, hr), tt)
   tests_after (Not c) x y r h hx hy hr = tests_after c y x r h hy hx hr
-  tests_after (Both c d) x y r h hx hy hr = every_append After (test_places c (If d x y Done) y r) _ (tests_after c (If d x y Done) y r h.0 (h.1, hx, hy, tt) hy hr) (tests_after d x y r h.1 hx hy hr)
-  tests_after (Either c d) x y r h hx hy hr = every_append After (test_places c x (If d x y Done) r) _ (tests_after c x (If d x y Done) r h.0 hx (h.1, hx, hy, tt) hr) (tests_after d x y r h.1 hx hy hr)
+  tests_after (Both c d) x y r h hx hy hr =
+      every_append After (test_places c (If d x y Done) y r) _
+      (tests_after c (If d x y Done) y r h.0 (h.1, hx, hy, tt) hy hr) (tests_after d x y r h.1 hx hy hr)
+  tests_after (Either c d) x y r h hx hy hr =
+      every_append After (test_places c x (If d x y Done) r) _
+      (tests_after c x (If d x y Done) r h.0 hx (h.1, hx, hy, tt) hr) (tests_after d x y r h.1 hx hy hr)
 
   pub places_after : (is r : Items) → Each is r → Each r Done → Every After (places is r)
   places_after Done r h hr = tt
   places_after (Do a m is) r h hr = ((rw (then_done (is then r)) h.0, whole is r h.1 hr), places_after is r h.1 hr)
-  places_after (Close ps ds m is) r h hr = ((rw (then_done (is then r)) h.0, whole is r h.1 hr), places_after is r h.1 hr)
+  places_after (Close ps ds m is) r h hr =
+      ((rw (then_done (is then r)) h.0, whole is r h.1 hr), places_after is r h.1 hr)
   places_after (If c x y is) r h hr =
       let q = is then r in let hq = whole is r h.3 hr in
       every_append After (test_places c x y q) _ (tests_after c x y q h.0 h.1 h.2 hq)
-      (every_append After (places x q) _ (places_after x q h.1 hq) (every_append After (places y q) _ (places_after y q h.2 hq) (places_after is r h.3 hr)))
+      (every_append After (places x q) _ (places_after x q h.1 hq)
+      (every_append After (places y q) _ (places_after y q h.2 hq) (places_after is r h.3 hr)))
   places_after (Loop c n b is) r h hr =
       let q = is then r in let hq = whole is r h.3 hr in
-      every_append After (test_places c (round c n b) Done q) _ (tests_after c (round c n b) Done q h.0 (each_round c n b q h.0 h.1 h.2) tt hq)
-      (every_append After (places b (Again c n b q)) _ (places_after b (Again c n b q) h.1 (rw (then_done q) (h.0, h.1, h.2, hq)))
-      (every_append After (places n (Loop c n b q)) _ (places_after n (Loop c n b q) h.2 (rw (then_done q) (h.0, h.1, h.2, hq))) (places_after is r h.3 hr)))
+      every_append After (test_places c (round c n b) Done q) _
+      (tests_after c (round c n b) Done q h.0 (each_round c n b q h.0 h.1 h.2) tt hq)
+      (every_append After (places b (Again c n b q)) _
+      (places_after b (Again c n b q) h.1 (rw (then_done q) (h.0, h.1, h.2, hq)))
+      (every_append After (places n (Loop c n b q)) _
+      (places_after n (Loop c n b q) h.2 (rw (then_done q) (h.0, h.1, h.2, hq))) (places_after is r h.3 hr)))
   places_after (Again c n b is) r h hr =
       let q = is then r in let hq = whole is r h.3 hr in
-      every_append After (places n (Loop c n b q)) _ (places_after n (Loop c n b q) h.2 (rw (then_done q) (h.0, h.1, h.2, hq)))
-      (every_append After (test_places c (round c n b) Done q) _ (tests_after c (round c n b) Done q h.0 (each_round c n b q h.0 h.1 h.2) tt hq)
-      (every_append After (places b (Again c n b q)) _ (places_after b (Again c n b q) h.1 (rw (then_done q) (h.0, h.1, h.2, hq))) (places_after is r h.3 hr)))
+      every_append After (places n (Loop c n b q)) _
+      (places_after n (Loop c n b q) h.2 (rw (then_done q) (h.0, h.1, h.2, hq)))
+      (every_append After (test_places c (round c n b) Done q) _
+      (tests_after c (round c n b) Done q h.0 (each_round c n b q h.0 h.1 h.2) tt hq)
+      (every_append After (places b (Again c n b q)) _
+      (places_after b (Again c n b q) h.1 (rw (then_done q) (h.0, h.1, h.2, hq))) (places_after is r h.3 hr)))
   places_after (DoLoop c b is) r h hr =
       let q = is then r in let hq = whole is r h.2 hr in
-      every_append After (places b (DoAgain c b q)) _ (places_after b (DoAgain c b q) h.1 (rw (then_done q) (h.0, h.1, hq)))
-      (every_append After (test_places c (do_round c b) Done q) _ (tests_after c (do_round c b) Done q h.0 (each_do_round c b q h.0 h.1) tt hq) (places_after is r h.2 hr))
+      every_append After (places b (DoAgain c b q)) _
+      (places_after b (DoAgain c b q) h.1 (rw (then_done q) (h.0, h.1, hq)))
+      (every_append After (test_places c (do_round c b) Done q) _
+      (tests_after c (do_round c b) Done q h.0 (each_do_round c b q h.0 h.1) tt hq) (places_after is r h.2 hr))
   places_after (DoAgain c b is) r h hr =
       let q = is then r in let hq = whole is r h.2 hr in
-      every_append After (test_places c (do_round c b) Done q) _ (tests_after c (do_round c b) Done q h.0 (each_do_round c b q h.0 h.1) tt hq)
-      (every_append After (places b (DoAgain c b q)) _ (places_after b (DoAgain c b q) h.1 (rw (then_done q) (h.0, h.1, hq))) (places_after is r h.2 hr))
+      every_append After (test_places c (do_round c b) Done q) _
+      (tests_after c (do_round c b) Done q h.0 (each_do_round c b q h.0 h.1) tt hq)
+      (every_append After (places b (DoAgain c b q)) _
+      (places_after b (DoAgain c b q) h.1 (rw (then_done q) (h.0, h.1, hq))) (places_after is r h.2 hr))
 
 -- Where T holds of the exit and of each place, it holds of each location to which a step leads.
 module _ (T : ℕ → Type 0) (at : Items → ℕ) where
@@ -198,8 +244,10 @@ module _ (T : ℕ → Type 0) (at : Items → ℕ) where
   place_leads (Close ps ds m is) d h = (each_opened There is d h.1).0
   place_leads (If (Ask a m) x y is) d h =
       let hx : Each There x is = subst (Each There x) (then_done is) h.1 in
-      let hy : Each There y is = subst (Each There y) (then_done is) h.2 in
-      ((each_opened There (x then is) d (whole There x is hx h.3)).0, (each_opened There (y then is) d (whole There y is hy h.3)).0)
+      let hy : Each There y is = subst (Each There y) (then_done is) h.2 in (
+        (each_opened There (x then is) d (whole There x is hx h.3)).0,
+        (each_opened There (y then is) d (whole There y is hy h.3)).0,
+      )
   place_leads (If (Not c) x y is) d h = tt
   place_leads (If (Both c e) x y is) d h = tt
   place_leads (If (Either c e) x y is) d h = tt

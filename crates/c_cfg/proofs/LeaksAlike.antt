@@ -5,7 +5,8 @@ use Rattle.fore_base.specs.declared.store.Value.TheVariants.{Null, Uninit, Dangl
 use Rattle.fore_base.specs.declared.store.CellRec.{CellRec}
 use Rattle.fore_base.specs.declared.store.Store.{Store}
 use Rattle.fore_base.specs.Lists.{IsIn, Every}
-use Rattle.fore_base.specs.Heap.{HasCell, NamesCell, IsProper, Reach, by_var, by_field, Leaked, leaks, value_renamed, cell_renamed, IsAlike}
+use Rattle.fore_base.specs.Heap.{HasCell, NamesCell, IsProper, Reach, by_var, by_field, Leaked, leaks, value_renamed}
+use Rattle.fore_base.specs.Heap.{cell_renamed, IsAlike}
 use Rattle.fore_base.proofs.ListLemmas.{every_in, in_map, in_mapped}
 use Rattle.fore_base.proofs.Leaks.{leaks_leaked, sound_unleaked}
 use Rattle.c_cfg.proofs.Moving.{Moved, moved, moved_in, back}
@@ -37,9 +38,11 @@ module _ (s t : Store) (a : IsAlike s t) (p : IsProper s) where
   -- what can be reached can be reached by its new number
 
   pub forward : {n : ℕ} → Reach s n → Reach t (a.to n)
-  forward (by_var {n} i) = by_var (subst (λ vs. IsIn (Cell (a.to n)) vs) (sym a.vars) (in_map (value_renamed a.to) (Cell n) s.vars i))
+  forward (by_var {n} i) =
+      by_var (subst (λ vs. IsIn (Cell (a.to n)) vs) (sym a.vars) (in_map (value_renamed a.to) (Cell n) s.vars i))
   forward (by_field {n} c i r f) =
-      by_field (ren c) (moved_in (ren c) to_t (in_map ren c s.cells i)) (forward r) (in_map (value_renamed a.to) (Cell n) c.fields f)
+      by_field (ren c) (moved_in (ren c) to_t (in_map ren c s.cells i)) (forward r)
+      (in_map (value_renamed a.to) (Cell n) c.fields f)
 
   -- and what can be reached by a new number could be reached
 
@@ -54,19 +57,27 @@ module _ (s t : Store) (a : IsAlike s t) (p : IsProper s) where
       let old = in_mapped (value_renamed a.to) (Cell n) s.vars (subst (λ vs. IsIn (Cell n) vs) a.vars i) in
       let named = named_before a.to n old.0 old.2 in
       let is_in : IsIn (Cell named.number) s.vars = subst (λ v. IsIn v s.vars) named.is old.1 in
-      record { number = named.number; to_is = named.to_is; is_there = every_in (NamesCell s.cells) s.vars (Cell named.number) p.vars is_in; reached = by_var is_in }
+      record {
+        number = named.number;
+        to_is = named.to_is;
+        is_there = every_in (NamesCell s.cells) s.vars (Cell named.number) p.vars is_in;
+        reached = by_var is_in;
+      }
   backward (by_field {n} c i r f) =
       let old = in_mapped ren c s.cells (moved_in c (back to_t) i) in
       let before = backward r in
       let f_old : IsIn (Cell n) (map (value_renamed a.to) old.0.fields) = subst (λ d. IsIn (Cell n) d.fields) old.2 f in
       let field = in_mapped (value_renamed a.to) (Cell n) old.0.fields f_old in
       let named = named_before a.to n field.0 field.2 in
-      let same : before.number ≡ old.0.number = a.one_to_one before.number old.0.number before.is_there (cell_has s.cells old.0 old.1) (before.to_is ∙ ap (λ d. d.number) old.2) in
+      let same : before.number ≡ old.0.number =
+      a.one_to_one before.number old.0.number before.is_there (cell_has s.cells old.0 old.1)
+      (before.to_is ∙ ap (λ d. d.number) old.2) in
       let is_field : IsIn (Cell named.number) old.0.fields = subst (λ v. IsIn v old.0.fields) named.is field.1 in
       record {
         number = named.number;
         to_is = named.to_is;
-        is_there = every_in (NamesCell s.cells) old.0.fields (Cell named.number) (every_in (λ d. Every (NamesCell s.cells) d.fields) s.cells old.0 p.fields old.1) is_field;
+        is_there = every_in (NamesCell s.cells) old.0.fields (Cell named.number)
+            (every_in (λ d. Every (NamesCell s.cells) d.fields) s.cells old.0 p.fields old.1) is_field;
         reached = by_field old.0 old.1 (subst (Reach s) same before.reached) is_field;
       }
 
@@ -76,13 +87,20 @@ module _ (s t : Store) (a : IsAlike s t) (p : IsProper s) where
     is_there = moved_in (ren l.cell) to_t (in_map ren l.cell s.cells l.is_there);
     unreached = λ r.
         let before = backward r in
-        l.unreached (subst (Reach s) (a.one_to_one before.number l.cell.number before.is_there (cell_has s.cells l.cell l.is_there) before.to_is) before.reached);
+        l.unreached
+        (subst (Reach s)
+        (a.one_to_one before.number l.cell.number before.is_there (cell_has s.cells l.cell l.is_there) before.to_is)
+        before.reached);
   }
 
   was_lost : Leaked t → Leaked s
   was_lost l =
       let old = in_mapped ren l.cell s.cells (moved_in l.cell (back to_t) l.is_there) in
-      record { cell = old.0; is_there = old.1; unreached = λ r. l.unreached (subst (Reach t) (sym (ap (λ d. d.number) old.2)) (forward r)) }
+      record {
+        cell = old.0;
+        is_there = old.1;
+        unreached = λ r. l.unreached (subst (Reach t) (sym (ap (λ d. d.number) old.2)) (forward r));
+      }
 
   pub leaks_alike : leaks s ≡ leaks t
   leaks_alike = here (leaks s) (leaks t) refl refl

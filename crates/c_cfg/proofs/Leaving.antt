@@ -1,14 +1,18 @@
 -- What is so of the edges of each row is so of the edges that leave each location.
-use Rattle.std.proofs.Common.{◌≡◌, ◌<◌, inl, inr, ℕ, zero, suc, List, [], ◌∷◌, ◌++◌, length, Bool, true, false, refl, sym, ◌∙◌, subst, Some, None, arith}
+use Rattle.std.proofs.Common.{◌≡◌, ◌<◌, inl, inr, ℕ, zero, suc, List, [], ◌∷◌, ◌++◌, length, Bool, true, false, refl}
+use Rattle.std.proofs.Common.{sym, ◌∙◌, subst, Some, None, arith}
 use Rattle.std.proofs.lemmas.Bool.{cases_lt}
 use Rattle.std.specs.Prelude.{nat_eq}
 use Rattle.std.proofs.lemmas.List.Sorted.{list_any-IsPermutation}
 use Rattle.fore_base.specs.Lists.{IsIn, Every}
-use Rattle.fore_base.proofs.ListLemmas.{in_left, in_right, in_last, every_in, in_every, every_parts, every_append, number_in, in_number}
+use Rattle.fore_base.proofs.ListLemmas.{in_left, in_right, in_last, every_in, in_every, every_parts, every_append}
+use Rattle.fore_base.proofs.ListLemmas.{number_in, in_number}
 use Rattle.c_types.specs.declared.program.Atom.{Atom}
-use Rattle.c_types.specs.declared.program.Atom.TheVariants.{Choice as ChoiceAtom, Known as KnownAtom, Ptr as PtrAtom, Data as DataAtom}
+use Rattle.c_types.specs.declared.program.Atom.TheVariants.{Choice as ChoiceAtom, Known as KnownAtom, Ptr as PtrAtom}
+use Rattle.c_types.specs.declared.program.Atom.TheVariants.{Data as DataAtom}
 use Rattle.c_types.specs.Program.{Program}
-use Rattle.c_types.specs.Control.{Items, Done, Do, Close, If, Loop, Again, DoLoop, DoAgain, Test, Ask, Not, Both, Either, ◌then◌, opened, round, do_round}
+use Rattle.c_types.specs.Control.{Items, Done, Do, Close, If, Loop, Again, DoLoop, DoAgain, Test, Ask, Not, Both}
+use Rattle.c_types.specs.Control.{Either, ◌then◌, opened, round, do_round}
 use Rattle.c_types.specs.Steps.{below}
 use Rattle.c_cfg.specs.declared.graph.Instr.{Instr}
 use Rattle.c_cfg.specs.declared.graph.Instr.TheVariants.{Kill, Choose}
@@ -17,7 +21,8 @@ use Rattle.c_cfg.specs.Graphs.{ControlGraph}
 use Rattle.c_cfg.specs.GraphRuns.{out_of}
 use Rattle.c_cfg.specs.Links.{Link, One, act_row, ptr_loads, ptr_test, ptr_ends, cmp_loads, data_test, data_ends}
 use Rattle.c_cfg.specs.Places.{test_places, places}
-use Rattle.c_cfg.specs.Lowering.{edge, link_edges, IsWay, but_last, IsWayOver, IsTestRow, IsRow, IsAtomRow, followed_by, numbers, LowerOf}
+use Rattle.c_cfg.specs.Lowering.{edge, link_edges, IsWay, but_last, IsWayOver, IsTestRow, IsRow, IsAtomRow, followed_by}
+use Rattle.c_cfg.specs.Lowering.{numbers, LowerOf}
 use Rattle.c_cfg.proofs.Filling.{Filled, act_filled}
 use Rattle.c_cfg.proofs.Spans.{Within, out_off}
 
@@ -26,7 +31,8 @@ pub in_below : (n k : ℕ) → k < n → IsIn k (below n)
 in_below zero k h = absurd (omega (arith, h))
 in_below (suc n) k h = elim (cases_lt k n) [
   | inl less ↦ in_left k (below n) (n ∷ []) (in_below n k less)
-  | inr same ↦ let e : k ≡ n = omega (arith, h, same) in subst (λ m. IsIn m (below n ++ n ∷ [])) (sym e) (in_last n (below n))
+  | inr same ↦ let e : k ≡ n = omega (arith, h, same) in
+      subst (λ m. IsIn m (below n ++ n ∷ [])) (sym e) (in_last n (below n))
 ]
 
 pub below_in : (n k : ℕ) → IsIn k (below n) → k < n
@@ -47,8 +53,10 @@ IsStep _ = Unit {0}
 tests_step : (c : Test) (x y r : Items) → Every IsStep (test_places c x y r)
 tests_step (Ask a m) x y r = (tt, tt)
 tests_step (Not c) x y r = tests_step c y x r
-tests_step (Both c d) x y r = every_append IsStep (test_places c (If d x y Done) y r) _ (tests_step c (If d x y Done) y r) (tests_step d x y r)
-tests_step (Either c d) x y r = every_append IsStep (test_places c x (If d x y Done) r) _ (tests_step c x (If d x y Done) r) (tests_step d x y r)
+tests_step (Both c d) x y r =
+    every_append IsStep (test_places c (If d x y Done) y r) _ (tests_step c (If d x y Done) y r) (tests_step d x y r)
+tests_step (Either c d) x y r =
+    every_append IsStep (test_places c x (If d x y Done) r) _ (tests_step c x (If d x y Done) r) (tests_step d x y r)
 
 places_step : (is r : Items) → Every IsStep (places is r)
 places_step Done r = tt
@@ -56,19 +64,26 @@ places_step (Do a m is) r = (tt, places_step is r)
 places_step (Close ps ds m is) r = (tt, places_step is r)
 places_step (If c x y is) r =
     every_append IsStep (test_places c x y (is then r)) _ (tests_step c x y (is then r))
-    (every_append IsStep (places x (is then r)) _ (places_step x (is then r)) (every_append IsStep (places y (is then r)) _ (places_step y (is then r)) (places_step is r)))
+    (every_append IsStep (places x (is then r)) _ (places_step x (is then r))
+    (every_append IsStep (places y (is then r)) _ (places_step y (is then r)) (places_step is r)))
 places_step (Loop c n b is) r =
     every_append IsStep (test_places c (round c n b) Done (is then r)) _ (tests_step c (round c n b) Done (is then r))
-    (every_append IsStep (places b (Again c n b (is then r))) _ (places_step b (Again c n b (is then r))) (every_append IsStep (places n (Loop c n b (is then r))) _ (places_step n (Loop c n b (is then r))) (places_step is r)))
+    (every_append IsStep (places b (Again c n b (is then r))) _ (places_step b (Again c n b (is then r)))
+    (every_append IsStep (places n (Loop c n b (is then r))) _ (places_step n (Loop c n b (is then r)))
+    (places_step is r)))
 places_step (Again c n b is) r =
     every_append IsStep (places n (Loop c n b (is then r))) _ (places_step n (Loop c n b (is then r)))
-    (every_append IsStep (test_places c (round c n b) Done (is then r)) _ (tests_step c (round c n b) Done (is then r)) (every_append IsStep (places b (Again c n b (is then r))) _ (places_step b (Again c n b (is then r))) (places_step is r)))
+    (every_append IsStep (test_places c (round c n b) Done (is then r)) _ (tests_step c (round c n b) Done (is then r))
+    (every_append IsStep (places b (Again c n b (is then r))) _ (places_step b (Again c n b (is then r)))
+    (places_step is r)))
 places_step (DoLoop c b is) r =
     every_append IsStep (places b (DoAgain c b (is then r))) _ (places_step b (DoAgain c b (is then r)))
-    (every_append IsStep (test_places c (do_round c b) Done (is then r)) _ (tests_step c (do_round c b) Done (is then r)) (places_step is r))
+    (every_append IsStep (test_places c (do_round c b) Done (is then r)) _
+    (tests_step c (do_round c b) Done (is then r)) (places_step is r))
 places_step (DoAgain c b is) r =
     every_append IsStep (test_places c (do_round c b) Done (is then r)) _ (tests_step c (do_round c b) Done (is then r))
-    (every_append IsStep (places b (DoAgain c b (is then r))) _ (places_step b (DoAgain c b (is then r))) (places_step is r))
+    (every_append IsStep (places b (DoAgain c b (is then r))) _ (places_step b (DoAgain c b (is then r)))
+    (places_step is r))
 
 module _ (nv nd : ℕ) (L : Link → Type 0) (C : (Bool → Instr) → Type 0) where
   -- L of the links of a place, and C of its test
@@ -109,13 +124,16 @@ module _ (T : ℕ → Type 0) (at : Items → ℕ) where
 -- P is to hold of the edges that leave a location, T of the locations to which they lead, L of links, C of tests.
 module _ (edges : List Edge) (P : List Edge → Type 0) (T : ℕ → Type 0) (L : Link → Type 0) (C : (Bool → Instr) → Type 0)
     (links : (line k to : ℕ) (l : Link) → L l → T to → P (link_edges line k to l))
-    (tests : (line k a b : ℕ) (test : Bool → Instr) → C test → T a → T b → P (edge line k a (test true) None ∷ edge line k b (test false) None ∷ []))
-    (chosen : (line k a b : ℕ) → T a → T b → P (edge line k a (Choose None) (Some 0) ∷ edge line k b (Choose None) (Some 1) ∷ [])) where
+    (tests : (line k a b : ℕ) (test : Bool → Instr) → C test → T a → T b
+    → P (edge line k a (test true) None ∷ edge line k b (test false) None ∷ []))
+    (chosen : (line k a b : ℕ) → T a → T b
+    → P (edge line k a (Choose None) (Some 0) ∷ edge line k b (Choose None) (Some 1) ∷ [])) where
   abbrev Here : ℕ → Type 0
   Here k = P (out_of edges k)
 
   -- where Q holds of the end and of the locations before it, it holds of the whole way
-  way_whole : (Q : ℕ → Type 0) (line : ℕ) (ls : List Link) (k : ℕ) (ms : List ℕ) (to : ℕ) → IsWay edges line ls k ms to → Q to → Every Q (but_last ms) → Every Q ms
+  way_whole : (Q : ℕ → Type 0) (line : ℕ) (ls : List Link) (k : ℕ) (ms : List ℕ) (to : ℕ) → IsWay edges line ls k ms to
+      → Q to → Every Q (but_last ms) → Every Q ms
   way_whole Q line [] k [] to w t h = tt
   way_whole Q line [] k (m ∷ ms) to w t h = absurd w
   way_whole Q line (l ∷ ls) k [] to w t h = absurd w
@@ -125,7 +143,8 @@ module _ (edges : List Edge) (P : List Edge → Type 0) (T : ℕ → Type 0) (L 
   way_whole Q line (l ∷ x ∷ ls) k (m ∷ n ∷ ms) to w t h = (h.0, way_whole Q line (x ∷ ls) m (n ∷ ms) to w.1 t h.1)
 
   -- the edges of links leave each location of their way
-  way_has : (line : ℕ) (ls : List Link) (k : ℕ) (ms : List ℕ) (to : ℕ) → IsWay edges line ls k ms to → Every L ls → Every T ms → (Filled ls → Here k) × Every Here (but_last ms)
+  way_has : (line : ℕ) (ls : List Link) (k : ℕ) (ms : List ℕ) (to : ℕ) → IsWay edges line ls k ms to → Every L ls
+      → Every T ms → (Filled ls → Here k) × Every Here (but_last ms)
   way_has line [] k [] to w g t = ((λ f. absurd f), tt)
   way_has line [] k (m ∷ ms) to w g t = absurd w
   way_has line (l ∷ ls) k [] to w g t = absurd w
@@ -136,27 +155,31 @@ module _ (edges : List Edge) (P : List Edge → Type 0) (T : ℕ → Type 0) (L 
       let rest = way_has line (x ∷ ls) m (n ∷ ms) to w.1 g.1 t.1 in
       ((λ f. subst P (sym w.0) (links line k m l g.0 t.0)), (rest.0 tt, rest.1))
 
-  over_has : (line : ℕ) (ls : List Link) (k : ℕ) (mids : List ℕ) (to : ℕ) → IsWayOver edges line ls k mids to → Filled ls → Every L ls → T to → Every T mids → Here k × Every Here mids
+  over_has : (line : ℕ) (ls : List Link) (k : ℕ) (mids : List ℕ) (to : ℕ) → IsWayOver edges line ls k mids to
+      → Filled ls → Every L ls → T to → Every T mids → Here k × Every Here mids
   over_has line ls k mids to o f g t ts =
       let all = way_whole T line ls k o.way to o.leads t (subst (Every T) o.middle ts) in
       let has = way_has line ls k o.way to o.leads g all in
       (has.0 f, subst (Every Here) (sym o.middle) has.1)
 
   -- the ends of one side of a test
-  end_begins : (line : ℕ) (ls : List Link) (k : ℕ) (ms : List ℕ) (to : ℕ) → IsWay edges line ls k ms to → T to → Every T (but_last (k ∷ ms)) → T k × Every T ms
+  end_begins : (line : ℕ) (ls : List Link) (k : ℕ) (ms : List ℕ) (to : ℕ) → IsWay edges line ls k ms to → T to
+      → Every T (but_last (k ∷ ms)) → T k × Every T ms
   end_begins line [] k [] to w t h = (subst T (sym w) t, tt)
   end_begins line [] k (m ∷ ms) to w t h = absurd w
   end_begins line (l ∷ ls) k [] to w t h = absurd w
   end_begins line (l ∷ ls) k (m ∷ ms) to w t h = (h.0, way_whole T line (l ∷ ls) k (m ∷ ms) to w t h.1)
 
-  end_has : (line : ℕ) (ls : List Link) (k : ℕ) (ms : List ℕ) (to : ℕ) → IsWay edges line ls k ms to → Every L ls → Every T ms → Every Here (but_last (k ∷ ms))
+  end_has : (line : ℕ) (ls : List Link) (k : ℕ) (ms : List ℕ) (to : ℕ) → IsWay edges line ls k ms to → Every L ls
+      → Every T ms → Every Here (but_last (k ∷ ms))
   end_has line [] k [] to w g t = tt
   end_has line [] k (m ∷ ms) to w g t = absurd w
   end_has line (l ∷ ls) k [] to w g t = absurd w
   end_has line (l ∷ ls) k (m ∷ ms) to w g t = let has = way_has line (l ∷ ls) k (m ∷ ms) to w g t in (has.0 tt, has.1)
 
   -- the loads of a test, and the test after them
-  front_has : (line : ℕ) (ls : List Link) (k : ℕ) (ms : List ℕ) (tested : ℕ) → IsWay edges line ls k ms tested → Every L ls → Every T ms → Here tested → Here k × Every Here ms
+  front_has : (line : ℕ) (ls : List Link) (k : ℕ) (ms : List ℕ) (tested : ℕ) → IsWay edges line ls k ms tested
+      → Every L ls → Every T ms → Here tested → Here k × Every Here ms
   front_has line [] k [] tested w g t h = (subst Here (sym w) h, tt)
   front_has line [] k (m ∷ ms) tested w g t h = absurd w
   front_has line (l ∷ ls) k [] tested w g t h = absurd w
@@ -164,38 +187,53 @@ module _ (edges : List Edge) (P : List Edge → Type 0) (T : ℕ → Type 0) (L 
       let has = way_has line (l ∷ ls) k (m ∷ ms) tested w g t in
       (has.0 tt, way_whole Here line (l ∷ ls) k (m ∷ ms) tested w h has.1)
 
-  test_has : (line : ℕ) (pre : List Link) (test : Bool → Instr) (post : List Link) (k : ℕ) (mids : List ℕ) (same other : ℕ) → IsTestRow edges line pre test post k mids same other
+  test_has : (line : ℕ) (pre : List Link) (test : Bool → Instr) (post : List Link) (k : ℕ) (mids : List ℕ)
+      (same other : ℕ) → IsTestRow edges line pre test post k mids same other
       → Every L pre → C test → Every L post → T same → T other → Every T mids → Here k × Every Here mids
   test_has line pre test post k mids same other r g c e ts to ms =
       let all = every_parts T r.front _ (subst (Every T) r.middle ms) in
       let sides = every_parts T (but_last (r.if_same ∷ r.after_same)) _ all.1 in
       let yes = end_begins line post r.if_same r.after_same same r.same_ends ts sides.0 in
       let no = end_begins line post r.if_other r.after_other other r.other_ends to sides.1 in
-      let tested : Here r.tested = subst P (sym r.compares) (tests line r.tested r.if_same r.if_other test c yes.0 no.0) in
+      let tested : Here r.tested = subst P (sym r.compares) (tests line r.tested r.if_same r.if_other test c yes.0 no.0)
+      in
       let front = front_has line pre k r.front r.tested r.reads g all.0 tested in (
         front.0,
         subst (Every Here) (sym r.middle) (every_append Here r.front _ front.1
-            (every_append Here (but_last (r.if_same ∷ r.after_same)) _ (end_has line post r.if_same r.after_same same r.same_ends e yes.1) (end_has line post r.if_other r.after_other other r.other_ends e no.1))),
+            (every_append Here (but_last (r.if_same ∷ r.after_same)) _
+            (end_has line post r.if_same r.after_same same r.same_ends e yes.1)
+            (end_has line post r.if_other r.after_other other r.other_ends e no.1))),
       )
 
   module _ (nv nd : ℕ) (line : ℕ → ℕ) (at : Items → ℕ) (mids : Items → List ℕ) where
     none_in : (ms : List ℕ) → ms ≡ [] → Every Here ms
     none_in ms e = subst (Every Here) (sym e) tt
 
-    atom_has : (a : Atom) (n k : ℕ) (ms : List ℕ) (x y : ℕ) → IsAtomRow nv nd edges a n k ms x y → AtomGood nv nd L C a → T x → T y → Every T ms → Here k × Every Here ms
+    atom_has : (a : Atom) (n k : ℕ) (ms : List ℕ) (x y : ℕ) → IsAtomRow nv nd edges a n k ms x y → AtomGood nv nd L C a
+        → T x → T y → Every T ms → Here k × Every Here ms
     atom_has ChoiceAtom n k ms x y r g tx ty t = (subst P (sym r.0) (chosen n k y x ty tx), none_in ms r.1)
-    atom_has (KnownAtom true) n k ms x y r g tx ty t = (subst P (sym r.0) (links n k x (One (Kill [] [])) g tx), none_in ms r.1)
-    atom_has (KnownAtom false) n k ms x y r g tx ty t = (subst P (sym r.0) (links n k y (One (Kill [] [])) g ty), none_in ms r.1)
-    atom_has (PtrAtom l r true) n k ms x y row g tx ty t = test_has n (ptr_loads nv nd l r) (ptr_test nv nd l r) (ptr_ends nv nd l r) k ms x y row g.0 g.1 g.2 tx ty t
-    atom_has (PtrAtom l r false) n k ms x y row g tx ty t = test_has n (ptr_loads nv nd l r) (ptr_test nv nd l r) (ptr_ends nv nd l r) k ms y x row g.0 g.1 g.2 ty tx t
-    atom_has (DataAtom l r true) n k ms x y row g tx ty t = test_has n (cmp_loads nv nd l r) (data_test nv nd l r) (data_ends nv nd l r) k ms x y row g.0 g.1 g.2 tx ty t
-    atom_has (DataAtom l r false) n k ms x y row g tx ty t = test_has n (cmp_loads nv nd l r) (data_test nv nd l r) (data_ends nv nd l r) k ms y x row g.0 g.1 g.2 ty tx t
+    atom_has (KnownAtom true) n k ms x y r g tx ty t =
+        (subst P (sym r.0) (links n k x (One (Kill [] [])) g tx), none_in ms r.1)
+    atom_has (KnownAtom false) n k ms x y r g tx ty t =
+        (subst P (sym r.0) (links n k y (One (Kill [] [])) g ty), none_in ms r.1)
+    atom_has (PtrAtom l r true) n k ms x y row g tx ty t =
+        test_has n (ptr_loads nv nd l r) (ptr_test nv nd l r) (ptr_ends nv nd l r) k ms x y row g.0 g.1 g.2 tx ty t
+    atom_has (PtrAtom l r false) n k ms x y row g tx ty t =
+        test_has n (ptr_loads nv nd l r) (ptr_test nv nd l r) (ptr_ends nv nd l r) k ms y x row g.0 g.1 g.2 ty tx t
+    atom_has (DataAtom l r true) n k ms x y row g tx ty t =
+        test_has n (cmp_loads nv nd l r) (data_test nv nd l r) (data_ends nv nd l r) k ms x y row g.0 g.1 g.2 tx ty t
+    atom_has (DataAtom l r false) n k ms x y row g tx ty t =
+        test_has n (cmp_loads nv nd l r) (data_test nv nd l r) (data_ends nv nd l r) k ms y x row g.0 g.1 g.2 ty tx t
 
-    place_has : (c : Items) → IsStep c → IsRow nv nd edges line at mids c → PlaceGood nv nd L C c → PlaceLeads T at c → Every T (mids c) → Here (at c) × Every Here (mids c)
+    place_has : (c : Items) → IsStep c → IsRow nv nd edges line at mids c → PlaceGood nv nd L C c → PlaceLeads T at c
+        → Every T (mids c) → Here (at c) × Every Here (mids c)
     place_has Done o r g d t = absurd o
-    place_has (Do a m is) o r g d t = over_has (line m) (act_row nv nd a is) (at (Do a m is)) (mids (Do a m is)) _ r (act_filled nv nd a is) g d t
-    place_has (Close ps ds m is) o r g d t = over_has (line m) (One (Kill ps ds) ∷ []) (at (Close ps ds m is)) (mids (Close ps ds m is)) _ r tt (g, tt) d t
-    place_has (If (Ask a m) x y is) o r g d t = atom_has a (line m) (at (If (Ask a m) x y is)) (mids (If (Ask a m) x y is)) _ _ r g d.0 d.1 t
+    place_has (Do a m is) o r g d t =
+        over_has (line m) (act_row nv nd a is) (at (Do a m is)) (mids (Do a m is)) _ r (act_filled nv nd a is) g d t
+    place_has (Close ps ds m is) o r g d t =
+        over_has (line m) (One (Kill ps ds) ∷ []) (at (Close ps ds m is)) (mids (Close ps ds m is)) _ r tt (g, tt) d t
+    place_has (If (Ask a m) x y is) o r g d t =
+        atom_has a (line m) (at (If (Ask a m) x y is)) (mids (If (Ask a m) x y is)) _ _ r g d.0 d.1 t
     place_has (If (Not c) x y is) o r g d t = absurd r
     place_has (If (Both c e) x y is) o r g d t = absurd r
     place_has (If (Either c e) x y is) o r g d t = absurd r
@@ -204,7 +242,8 @@ module _ (edges : List Edge) (P : List Edge → Type 0) (T : ℕ → Type 0) (L 
     place_has (DoLoop c b is) o r g d t = absurd r
     place_has (DoAgain c b is) o r g d t = absurd r
 
-    every_has : (cs : List Items) → Every IsStep cs → Every (IsRow nv nd edges line at mids) cs → Every (PlaceGood nv nd L C) cs → Every (PlaceLeads T at) cs → Every T (numbers at mids cs) → Here (at Done)
+    every_has : (cs : List Items) → Every IsStep cs → Every (IsRow nv nd edges line at mids) cs
+        → Every (PlaceGood nv nd L C) cs → Every (PlaceLeads T at) cs → Every T (numbers at mids cs) → Here (at Done)
         → Every Here (numbers at mids cs)
     every_has [] o r g d t h = (h, tt)
     every_has (c ∷ cs) o r g d t h =
@@ -216,24 +255,31 @@ module _ (edges : List Edge) (P : List Edge → Type 0) (T : ℕ → Type 0) (L 
 module _ (p : Program) (g : ControlGraph) (low : LowerOf p g) where
   pub all_below : Every (λ k. k < g.locations) (numbers low.at low.mids (places low.items Done))
   all_below = in_every (λ k. k < g.locations) (numbers low.at low.mids (places low.items Done)) (λ k i.
-      below_in g.locations k (number_in k (below g.locations) (sym (list_any-IsPermutation (λ m. nat_eq m k) _ _ low.all_numbers) ∙ in_number k _ i)))
+      below_in g.locations k
+      (number_in k (below g.locations)
+      (sym (list_any-IsPermutation (λ m. nat_eq m k) _ _ low.all_numbers) ∙ in_number k _ i)))
 
   exit_in : (cs : List Items) → IsIn (low.at Done) (numbers low.at low.mids cs)
   exit_in [] = inl refl
   exit_in (c ∷ cs) = inr (in_right (low.at Done) (low.mids c) (numbers low.at low.mids cs) (exit_in cs))
 
   pub exit_below : low.at Done < g.locations
-  exit_below = every_in (λ k. k < g.locations) (numbers low.at low.mids (places low.items Done)) (low.at Done) all_below (exit_in (places low.items Done))
+  exit_below = every_in (λ k. k < g.locations) (numbers low.at low.mids (places low.items Done)) (low.at Done) all_below
+      (exit_in (places low.items Done))
 
-  starts_below : (cs : List Items) → Every (λ k. k < g.locations) (numbers low.at low.mids cs) → Every (λ c. low.at c < g.locations) cs
+  starts_below : (cs : List Items) → Every (λ k. k < g.locations) (numbers low.at low.mids cs)
+      → Every (λ c. low.at c < g.locations) cs
   starts_below [] h = tt
-  starts_below (c ∷ cs) h = (h.0, starts_below cs (every_parts (λ k. k < g.locations) (low.mids c) (numbers low.at low.mids cs) h.1).1)
+  starts_below (c ∷ cs) h =
+      (h.0, starts_below cs (every_parts (λ k. k < g.locations) (low.mids c) (numbers low.at low.mids cs) h.1).1)
 
   pub places_below : Every (λ c. low.at c < g.locations) (places low.items Done)
   places_below = starts_below (places low.items Done) all_below
 
   number_of : (k : ℕ) → k < g.locations → IsIn k (numbers low.at low.mids (places low.items Done))
-  number_of k h = number_in k _ (list_any-IsPermutation (λ m. nat_eq m k) _ _ low.all_numbers ∙ in_number k (below g.locations) (in_below g.locations k h))
+  number_of k h = number_in k _
+      (list_any-IsPermutation (λ m. nat_eq m k) _ _ low.all_numbers
+      ∙ in_number k (below g.locations) (in_below g.locations k h))
 
   abbrev nv : ℕ
   nv = length p.vars
@@ -243,15 +289,18 @@ module _ (p : Program) (g : ControlGraph) (low : LowerOf p g) where
 
   module _ (P : List Edge → Type 0) (T : ℕ → Type 0) (L : Link → Type 0) (C : (Bool → Instr) → Type 0)
       (links : (line k to : ℕ) (l : Link) → L l → T to → P (link_edges line k to l))
-      (tests : (line k a b : ℕ) (test : Bool → Instr) → C test → T a → T b → P (edge line k a (test true) None ∷ edge line k b (test false) None ∷ []))
-      (chosen : (line k a b : ℕ) → T a → T b → P (edge line k a (Choose None) (Some 0) ∷ edge line k b (Choose None) (Some 1) ∷ [])) where
+      (tests : (line k a b : ℕ) (test : Bool → Instr) → C test → T a → T b
+      → P (edge line k a (test true) None ∷ edge line k b (test false) None ∷ []))
+      (chosen : (line k a b : ℕ) → T a → T b
+      → P (edge line k a (Choose None) (Some 0) ∷ edge line k b (Choose None) (Some 1) ∷ [])) where
     -- so P holds of the edges that leave any location
     pub each_location : P [] → Every (PlaceGood nv nd L C) (places low.items Done)
         → Every (PlaceLeads T low.at) (places low.items Done)
         → Every T (numbers low.at low.mids (places low.items Done)) → (k : ℕ) → P (out_of g.edges k)
     each_location none good leads ts k = elim (cases_lt k g.locations) [
       | inl less ↦ every_in (λ j. P (out_of g.edges j)) (numbers low.at low.mids (places low.items Done)) k
-          (every_has g.edges P T L C links tests chosen nv nd low.line low.at low.mids (places low.items Done) (places_step low.items Done) low.rows good leads ts (subst P (sym low.exit) none)) (number_of k less)
+          (every_has g.edges P T L C links tests chosen nv nd low.line low.at low.mids (places low.items Done)
+          (places_step low.items Done) low.rows good leads ts (subst P (sym low.exit) none)) (number_of k less)
       | inr past ↦ subst P (sym (out_off 0 g.locations g.edges k (within g.edges low.each_from) (inr past))) none
     ]
       where

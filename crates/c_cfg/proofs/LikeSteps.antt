@@ -1,5 +1,7 @@
 -- Edges do the same to alike stores.
-use Rattle.std.proofs.Common.{◌≡◌, ◌<◌, ◌+◌, ◌⊎◌, inl, inr, ℕ, zero, suc, Bool, true, false, nat_eq, if◌then◌else◌, List, [], ◌∷◌, ◌++◌, length, map, replicate, slice_get, slice_set, slice_index_or, option_map, refl, sym, ap, ap₂, ◌∙◌, subst, arith, Option, Some, None, Result, Ok, Err}
+use Rattle.std.proofs.Common.{◌≡◌, ◌<◌, ◌+◌, ◌⊎◌, inl, inr, ℕ, zero, suc, Bool, true, false, nat_eq, if◌then◌else◌}
+use Rattle.std.proofs.Common.{List, [], ◌∷◌, ◌++◌, length, map, replicate, slice_get, slice_set, slice_index_or}
+use Rattle.std.proofs.Common.{option_map, refl, sym, ap, ap₂, ◌∙◌, subst, arith, Option, Some, None, Result, Ok, Err}
 use Rattle.std.proofs.lemmas.Bool.{eqb-true, eq-eqb, cases_eq}
 use Rattle.std.proofs.lemmas.List.{map-append, map-set}
 use Rattle.std.proofs.lemmas.Option.{slice_get-map}
@@ -13,7 +15,8 @@ use Rattle.fore_base.specs.declared.store.Datum.TheVariants.{Undefined, Known}
 use Rattle.fore_base.specs.declared.store.CellRec.{CellRec}
 use Rattle.fore_base.specs.declared.store.Store.{Store}
 use Rattle.fore_base.specs.Lists.{Every}
-use Rattle.fore_base.specs.Stores.{var_of, datum_of, set_var, set_datum, set_each, kill, followed, with_field, with_datum, dangle, dangle_in, without, grown, freed}
+use Rattle.fore_base.specs.Stores.{var_of, datum_of, set_var, set_datum, set_each, kill, followed, with_field}
+use Rattle.fore_base.specs.Stores.{with_datum, dangle, dangle_in, without, grown, freed}
 use Rattle.fore_base.specs.Heap.{HasCell, NamesCell, AllDiffer, IsProper, leaks, value_renamed, cell_renamed, IsAlike}
 use Rattle.fore_base.specs.Shapes.{targets_of}
 use Rattle.c_types.specs.Steps.{same_values, same_datums, agrees, blank}
@@ -24,11 +27,15 @@ use Rattle.c_cfg.specs.declared.graph.DataArg.TheVariants.{Var as ArgVar, Known 
 use Rattle.c_cfg.specs.declared.graph.Const.{Const}
 use Rattle.c_cfg.specs.declared.graph.Const.TheVariants.{Null as ConstNull, Known as ConstKnown}
 use Rattle.c_cfg.specs.declared.graph.Instr.{Instr}
-use Rattle.c_cfg.specs.declared.graph.Instr.TheVariants.{CopyPtr, LoadPtr, StorePtr, StoreConst, New, Free, Kill, CopyData, LoadData, StoreData, TestPtr, TestData, Choose, Stop}
+use Rattle.c_cfg.specs.declared.graph.Instr.TheVariants.{CopyPtr, LoadPtr, StorePtr, StoreConst, New, Free, Kill}
+use Rattle.c_cfg.specs.declared.graph.Instr.TheVariants.{CopyData, LoadData, StoreData, TestPtr, TestData, Choose, Stop}
 use Rattle.c_cfg.specs.declared.graph.Edge.{Edge}
-use Rattle.c_cfg.specs.Edges.{Pass, Passed, Faulted, Halted, NotPassed, arg_of, data_arg_of, field_of, datum_field_of, struct_of, target_of, same_struct, may_stand, onto, if_there, stored, stored_datum, stored_const, if_agreed, raw_step, leak_tested, choice_of, gstep}
+use Rattle.c_cfg.specs.Edges.{Pass, Passed, Faulted, Halted, NotPassed, arg_of, data_arg_of, field_of, datum_field_of}
+use Rattle.c_cfg.specs.Edges.{struct_of, target_of, same_struct, may_stand, onto, if_there, stored, stored_datum}
+use Rattle.c_cfg.specs.Edges.{stored_const, if_agreed, raw_step, leak_tested, choice_of, gstep}
 use Rattle.c_cfg.specs.Alike.{LikePass}
-use Rattle.c_cfg.proofs.Moving.{Moved, moved, permuted, back, moved_has, moved_differ, moved_front, find, moved_find, put, moved_put, moved_without}
+use Rattle.c_cfg.proofs.Moving.{Moved, moved, permuted, back, moved_has, moved_differ, moved_front, find, moved_find}
+use Rattle.c_cfg.proofs.Moving.{put, moved_put, moved_without}
 use Rattle.c_cfg.proofs.Properly.{Onward, var_named, without_has, raw_proper}
 use Rattle.c_cfg.proofs.LeaksAlike.{leaks_alike}
 
@@ -46,15 +53,22 @@ struct_found : (cs : List CellRec) (n : ℕ) → struct_of cs n ≡ find (λ c. 
 struct_found [] n = refl
 struct_found (c ∷ cs) n = ap (λ o. if nat_eq c.number n then Some c.shape else o) (struct_found cs n)
 
-with_put : (cs : List CellRec) (n f : ℕ) (v : Value) → with_field cs n f v ≡ put (λ c. record c { fields = slice_set c.fields f v }) cs n
+with_put : (cs : List CellRec) (n f : ℕ) (v : Value) → with_field cs n f v
+    ≡ put (λ c. record c { fields = slice_set c.fields f v }) cs n
 with_put [] n f v = refl
-with_put (c ∷ cs) n f v = ap (λ ds. if nat_eq c.number n then record c { fields = slice_set c.fields f v } ∷ cs else c ∷ ds) (with_put cs n f v)
+with_put (c ∷ cs) n f v =
+    ap (λ ds. if nat_eq c.number n then record c { fields = slice_set c.fields f v } ∷ cs else c ∷ ds)
+    (with_put cs n f v)
 
-with_datum_put : (cs : List CellRec) (n f : ℕ) (d : Datum) → with_datum cs n f d ≡ put (λ c. record c { datums = slice_set c.datums f d }) cs n
+with_datum_put : (cs : List CellRec) (n f : ℕ) (d : Datum) → with_datum cs n f d
+    ≡ put (λ c. record c { datums = slice_set c.datums f d }) cs n
 with_datum_put [] n f d = refl
-with_datum_put (c ∷ cs) n f d = ap (λ ds. if nat_eq c.number n then record c { datums = slice_set c.datums f d } ∷ cs else c ∷ ds) (with_datum_put cs n f d)
+with_datum_put (c ∷ cs) n f d =
+    ap (λ ds. if nat_eq c.number n then record c { datums = slice_set c.datums f d } ∷ cs else c ∷ ds)
+    (with_datum_put cs n f d)
 
--- Cells under other numbers. Of two cells of the list `all`, numbers are equal after the renaming only if they were before.
+-- Cells under other numbers. Of two cells of the list `all`, numbers are equal after the renaming only if they were
+-- before.
 module _ (to : ℕ → ℕ) (all : List CellRec) (one : (m n : ℕ) → HasCell all m → HasCell all n → to m ≡ to n → m ≡ n) where
   abbrev val : Value → Value
   val = value_renamed to
@@ -82,19 +96,29 @@ module _ (to : ℕ → ℕ) (all : List CellRec) (one : (m n : ℕ) → HasCell 
   later : (c : CellRec) (cs : List CellRec) → Within (c ∷ cs) → Within cs
   later c cs w m h = w m (inr h)
 
-  found : {A B : Type 0} (g : CellRec → A) (z : A) (h : CellRec → B) (y : B) (f : B → A) → ((c : CellRec) → g (ren c) ≡ f (h c)) → z ≡ f y → (cs : List CellRec) → Within cs → (n : ℕ) → HasCell all n → find g z (map ren cs) (to n) ≡ f (find h y cs n)
+  found : {A B : Type 0} (g : CellRec → A) (z : A) (h : CellRec → B) (y : B) (f : B → A)
+      → ((c : CellRec) → g (ren c) ≡ f (h c)) → z ≡ f y → (cs : List CellRec) → Within cs → (n : ℕ) → HasCell all n
+      → find g z (map ren cs) (to n) ≡ f (find h y cs n)
   found g z h y f each none [] w n hn = none
-  found {A} {B} g z h y f each none (c ∷ cs) w n hn = rw (same_number c.number n (w c.number (inl refl)) hn) (here (nat_eq c.number n) (found g z h y f each none cs (later c cs w) n hn))
+  found {A} {B} g z h y f each none (c ∷ cs) w n hn =
+      rw (same_number c.number n (w c.number (inl refl)) hn)
+      (here (nat_eq c.number n) (found g z h y f each none cs (later c cs w) n hn))
     where
-      here : (b : Bool) → find g z (map ren cs) (to n) ≡ f (find h y cs n) → (if b then g (ren c) else find g z (map ren cs) (to n)) ≡ f (if b then h c else find h y cs n)
+      here : (b : Bool) → find g z (map ren cs) (to n) ≡ f (find h y cs n)
+          → (if b then g (ren c) else find g z (map ren cs) (to n)) ≡ f (if b then h c else find h y cs n)
       here true e = each c
       here false e = e
 
-  put_renamed : (g h : CellRec → CellRec) → ((c : CellRec) → g (ren c) ≡ ren (h c)) → (cs : List CellRec) → Within cs → (n : ℕ) → HasCell all n → put g (map ren cs) (to n) ≡ map ren (put h cs n)
+  put_renamed : (g h : CellRec → CellRec) → ((c : CellRec) → g (ren c) ≡ ren (h c)) → (cs : List CellRec) → Within cs
+      → (n : ℕ) → HasCell all n → put g (map ren cs) (to n) ≡ map ren (put h cs n)
   put_renamed g h each [] w n hn = refl
-  put_renamed g h each (c ∷ cs) w n hn = rw (same_number c.number n (w c.number (inl refl)) hn) (here (nat_eq c.number n) (put_renamed g h each cs (later c cs w) n hn))
+  put_renamed g h each (c ∷ cs) w n hn =
+      rw (same_number c.number n (w c.number (inl refl)) hn)
+      (here (nat_eq c.number n) (put_renamed g h each cs (later c cs w) n hn))
     where
-      here : (b : Bool) → put g (map ren cs) (to n) ≡ map ren (put h cs n) → (if b then g (ren c) ∷ map ren cs else ren c ∷ put g (map ren cs) (to n)) ≡ map ren (if b then h c ∷ cs else c ∷ put h cs n)
+      here : (b : Bool) → put g (map ren cs) (to n) ≡ map ren (put h cs n)
+          → (if b then g (ren c) ∷ map ren cs else ren c ∷ put g (map ren cs) (to n))
+          ≡ map ren (if b then h c ∷ cs else c ∷ put h cs n)
       here true e = ap (λ d. d ∷ map ren cs) (each c)
       here false e = ap (λ ds. ren c ∷ ds) e
 
@@ -108,42 +132,56 @@ module _ (to : ℕ → ℕ) (all : List CellRec) (one : (m n : ℕ) → HasCell 
       here true = refl
       here false = refl
 
-  dangles_renamed : (n : ℕ) → HasCell all n → (vs : List Value) → Every (NamesCell all) vs → map (dangle (to n)) (map val vs) ≡ map val (map (dangle n) vs)
+  dangles_renamed : (n : ℕ) → HasCell all n → (vs : List Value) → Every (NamesCell all) vs
+      → map (dangle (to n)) (map val vs) ≡ map val (map (dangle n) vs)
   dangles_renamed n hn [] h = refl
   dangles_renamed n hn (v ∷ vs) h = ap₂ (λ x xs. x ∷ xs) (dangle_renamed n hn v h.0) (dangles_renamed n hn vs h.1)
 
-  without_renamed : (cs : List CellRec) → Within cs → Every (λ c. Every (NamesCell all) c.fields) cs → (n : ℕ) → HasCell all n → without (to n) (map ren cs) ≡ map ren (without n cs)
+  without_renamed : (cs : List CellRec) → Within cs → Every (λ c. Every (NamesCell all) c.fields) cs → (n : ℕ)
+      → HasCell all n → without (to n) (map ren cs) ≡ map ren (without n cs)
   without_renamed [] w h n hn = refl
-  without_renamed (c ∷ cs) w h n hn = rw (same_number c.number n (w c.number (inl refl)) hn) (here (nat_eq c.number n) (without_renamed cs (later c cs w) h.1 n hn))
+  without_renamed (c ∷ cs) w h n hn =
+      rw (same_number c.number n (w c.number (inl refl)) hn)
+      (here (nat_eq c.number n) (without_renamed cs (later c cs w) h.1 n hn))
     where
-      here : (b : Bool) → without (to n) (map ren cs) ≡ map ren (without n cs) → (if b then without (to n) (map ren cs) else dangle_in (to n) (ren c) ∷ without (to n) (map ren cs)) ≡ map ren (if b then without n cs else dangle_in n c ∷ without n cs)
+      here : (b : Bool) → without (to n) (map ren cs) ≡ map ren (without n cs)
+          → (if b then without (to n) (map ren cs) else dangle_in (to n) (ren c) ∷ without (to n) (map ren cs))
+          ≡ map ren (if b then without n cs else dangle_in n c ∷ without n cs)
       here true e = e
-      here false e = ap₂ (λ d ds. d ∷ ds) (ap (λ fs. record (ren c) { fields = fs }) (dangles_renamed n hn c.fields h.0)) e
+      here false e = ap₂ (λ d ds. d ∷ ds)
+          (ap (λ fs. record (ren c) { fields = fs }) (dangles_renamed n hn c.fields h.0)) e
 
-var_renamed : (to : ℕ → ℕ) (vs : List Value) (x : ℕ) → slice_index_or (map (value_renamed to) vs) x Uninit ≡ value_renamed to (slice_index_or vs x Uninit)
+var_renamed : (to : ℕ → ℕ) (vs : List Value) (x : ℕ) → slice_index_or (map (value_renamed to) vs) x Uninit
+    ≡ value_renamed to (slice_index_or vs x Uninit)
 var_renamed to [] x = refl
 var_renamed to (v ∷ vs) zero = refl
 var_renamed to (v ∷ vs) (suc x) = var_renamed to vs x
 
-dead_renamed : (to : ℕ → ℕ) (vs : List Value) (ns : List ℕ) → set_each (map (value_renamed to) vs) ns Uninit ≡ map (value_renamed to) (set_each vs ns Uninit)
+dead_renamed : (to : ℕ → ℕ) (vs : List Value) (ns : List ℕ) → set_each (map (value_renamed to) vs) ns Uninit
+    ≡ map (value_renamed to) (set_each vs ns Uninit)
 dead_renamed to vs [] = refl
-dead_renamed to vs (n ∷ ns) = ap (λ ws. set_each ws ns Uninit) (sym (map-set (value_renamed to) vs n Uninit)) ∙ dead_renamed to (slice_set vs n Uninit) ns
+dead_renamed to vs (n ∷ ns) = ap (λ ws. set_each ws ns Uninit) (sym (map-set (value_renamed to) vs n Uninit))
+    ∙ dead_renamed to (slice_set vs n Uninit) ns
 
 -- Passes
 
-onto_like : {A : Type 0} (r : Result A Fault) (K J : A → Pass) → ((a : A) → r ≡ Ok a → LikePass (K a) (J a)) → LikePass (onto r K) (onto r J)
+onto_like : {A : Type 0} (r : Result A Fault) (K J : A → Pass) → ((a : A) → r ≡ Ok a → LikePass (K a) (J a))
+    → LikePass (onto r K) (onto r J)
 onto_like (Ok a) K J h = h a refl
 onto_like (Err k) K J h = refl
 
-there_like : {A B : Type 0} (o : Option A) (f : A → B) (K : A → Pass) (J : B → Pass) → ((a : A) → o ≡ Some a → LikePass (K a) (J (f a))) → LikePass (if_there o K) (if_there (option_map f o) J)
+there_like : {A B : Type 0} (o : Option A) (f : A → B) (K : A → Pass) (J : B → Pass)
+    → ((a : A) → o ≡ Some a → LikePass (K a) (J (f a))) → LikePass (if_there o K) (if_there (option_map f o) J)
 there_like (Some a) f K J h = h a refl
 there_like None f K J h = tt
 
-there_same : {A : Type 0} (o : Option A) (K J : A → Pass) → ((a : A) → o ≡ Some a → LikePass (K a) (J a)) → LikePass (if_there o K) (if_there o J)
+there_same : {A : Type 0} (o : Option A) (K J : A → Pass) → ((a : A) → o ≡ Some a → LikePass (K a) (J a))
+    → LikePass (if_there o K) (if_there o J)
 there_same (Some a) K J h = h a refl
 there_same None K J h = tt
 
-follow_like : (to : ℕ → ℕ) (v : Value) (K J : ℕ → Pass) → ((n : ℕ) → v ≡ Cell n → LikePass (K n) (J (to n))) → LikePass (onto (followed v) K) (onto (followed (value_renamed to v)) J)
+follow_like : (to : ℕ → ℕ) (v : Value) (K J : ℕ → Pass) → ((n : ℕ) → v ≡ Cell n → LikePass (K n) (J (to n)))
+    → LikePass (onto (followed v) K) (onto (followed (value_renamed to v)) J)
 follow_like to Null K J h = refl
 follow_like to Uninit K J h = refl
 follow_like to Dangling K J h = refl
@@ -188,26 +226,32 @@ module _ (shapes : List Shape) (s t : Store) (a : IsAlike s t) (ps : IsProper s)
   field_like : (n f : ℕ) → HasCell s.cells n → field_of t.cells (a.to n) f ≡ option_map v_of (field_of s.cells n f)
   field_like n f hn =
       field_found t.cells (a.to n) f ∙ sym (moved_find (λ c. slice_get c.fields f) None (a.to n) to_t differ_s)
-      ∙ found a.to s.cells a.one_to_one (λ c. slice_get c.fields f) None (λ c. slice_get c.fields f) None (option_map v_of) (λ c. slice_get-map v_of c.fields f) refl s.cells itself n hn
+      ∙ found a.to s.cells a.one_to_one (λ c. slice_get c.fields f) None (λ c. slice_get c.fields f) None
+      (option_map v_of) (λ c. slice_get-map v_of c.fields f) refl s.cells itself n hn
       ∙ ap (option_map v_of) (sym (field_found s.cells n f))
 
   datum_field_like : (n f : ℕ) → HasCell s.cells n → datum_field_of t.cells (a.to n) f ≡ datum_field_of s.cells n f
   datum_field_like n f hn =
       datum_found t.cells (a.to n) f ∙ sym (moved_find (λ c. slice_get c.datums f) None (a.to n) to_t differ_s)
-      ∙ found a.to s.cells a.one_to_one (λ c. slice_get c.datums f) None (λ c. slice_get c.datums f) None (λ o. o) (λ c. refl) refl s.cells itself n hn ∙ sym (datum_found s.cells n f)
+      ∙ found a.to s.cells a.one_to_one (λ c. slice_get c.datums f) None (λ c. slice_get c.datums f) None (λ o. o)
+      (λ c. refl) refl s.cells itself n hn ∙ sym (datum_found s.cells n f)
 
   struct_like : (n : ℕ) → HasCell s.cells n → struct_of t.cells (a.to n) ≡ struct_of s.cells n
   struct_like n hn =
       struct_found t.cells (a.to n) ∙ sym (moved_find (λ c. Some c.shape) None (a.to n) to_t differ_s)
-      ∙ found a.to s.cells a.one_to_one (λ c. Some c.shape) None (λ c. Some c.shape) None (λ o. o) (λ c. refl) refl s.cells itself n hn ∙ sym (struct_found s.cells n)
+      ∙ found a.to s.cells a.one_to_one (λ c. Some c.shape) None (λ c. Some c.shape) None (λ o. o) (λ c. refl) refl
+      s.cells itself n hn ∙ sym (struct_found s.cells n)
 
-  stand_like : (n f : ℕ) (v : Value) → HasCell s.cells n → NamesCell s.cells v → may_stand shapes t.cells (a.to n) f (v_of v) ≡ may_stand shapes s.cells n f v
+  stand_like : (n f : ℕ) (v : Value) → HasCell s.cells n → NamesCell s.cells v
+      → may_stand shapes t.cells (a.to n) f (v_of v) ≡ may_stand shapes s.cells n f v
   stand_like n f Null hn hv = refl
   stand_like n f Uninit hn hv = refl
   stand_like n f Dangling hn hv = refl
-  stand_like n f (Cell m) hn hv = ap₂ (λ x y. same_struct x (target_of shapes y f)) (struct_like m hv) (struct_like n hn)
+  stand_like n f (Cell m) hn hv =
+      ap₂ (λ x y. same_struct x (target_of shapes y f)) (struct_like m hv) (struct_like n hn)
 
-  values_like : (v w : Value) → NamesCell s.cells v → NamesCell s.cells w → same_values (v_of v) (v_of w) ≡ same_values v w
+  values_like : (v w : Value) → NamesCell s.cells v → NamesCell s.cells w → same_values (v_of v) (v_of w)
+      ≡ same_values v w
   values_like Uninit w hv hw = refl
   values_like Dangling w hv hw = refl
   values_like Null Uninit hv hw = refl
@@ -238,38 +282,61 @@ module _ (shapes : List Shape) (s t : Store) (a : IsAlike s t) (ps : IsProper s)
   }
 
   set_datum_like : (x : ℕ) (d e : Datum) → e ≡ d → IsAlike (set_datum s x d) (set_datum t x e)
-  set_datum_like x d e h = record { to = a.to; one_to_one = a.one_to_one; vars = a.vars; data_vars = ap₂ (λ ds z. slice_set ds x z) a.data_vars h; cells = a.cells }
+  set_datum_like x d e h =
+      record {
+        to = a.to;
+        one_to_one = a.one_to_one;
+        vars = a.vars;
+        data_vars = ap₂ (λ ds z. slice_set ds x z) a.data_vars h;
+        cells = a.cells;
+      }
 
-  has_put : (g : CellRec → CellRec) → ((c : CellRec) → (g c).number ≡ c.number) → (cs : List CellRec) (n m : ℕ) → HasCell (put g cs n) m → HasCell cs m
+  has_put : (g : CellRec → CellRec) → ((c : CellRec) → (g c).number ≡ c.number) → (cs : List CellRec) (n m : ℕ)
+      → HasCell (put g cs n) m → HasCell cs m
   has_put g keeps [] n m h = h
   has_put g keeps (c ∷ cs) n m h = here (nat_eq c.number n) (has_put g keeps cs n m) h
     where
-      here : (b : Bool) → (HasCell (put g cs n) m → HasCell cs m) → HasCell (if b then g c ∷ cs else c ∷ put g cs n) m → HasCell (c ∷ cs) m
+      here : (b : Bool) → (HasCell (put g cs n) m → HasCell cs m) → HasCell (if b then g c ∷ cs else c ∷ put g cs n) m
+          → HasCell (c ∷ cs) m
       here true rest (inl e) = inl (sym (keeps c) ∙ e)
       here true rest (inr h) = inr h
       here false rest (inl e) = inl e
       here false rest (inr h) = inr (rest h)
 
-  put_like : (g h : CellRec → CellRec) → ((c : CellRec) → g (c_of c) ≡ c_of (h c)) → ((c : CellRec) → (h c).number ≡ c.number) → (n : ℕ) → HasCell s.cells n → IsAlike (record s { cells = put h s.cells n }) (record t { cells = put g t.cells (a.to n) })
+  put_like : (g h : CellRec → CellRec) → ((c : CellRec) → g (c_of c) ≡ c_of (h c))
+      → ((c : CellRec) → (h c).number ≡ c.number) → (n : ℕ) → HasCell s.cells n
+      → IsAlike (record s { cells = put h s.cells n }) (record t { cells = put g t.cells (a.to n) })
   put_like g h each keeps n hn = record {
     to = a.to;
     one_to_one = λ m k hm hk e. a.one_to_one m k (has_put h keeps s.cells n m hm) (has_put h keeps s.cells n k hk) e;
     vars = a.vars;
     data_vars = a.data_vars;
-    cells = permuted (subst (λ cs. Moved cs (put g t.cells (a.to n))) (put_renamed a.to s.cells a.one_to_one g h each s.cells itself n hn) (moved_put g (a.to n) to_t differ_s));
+    cells =
+        permuted
+        (subst (λ cs. Moved cs (put g t.cells (a.to n)))
+        (put_renamed a.to s.cells a.one_to_one g h each s.cells itself n hn) (moved_put g (a.to n) to_t differ_s));
   }
 
-  field_set_like : (n f : ℕ) (v w : Value) → HasCell s.cells n → w ≡ v_of v → IsAlike (record s { cells = with_field s.cells n f v }) (record t { cells = with_field t.cells (a.to n) f w })
+  field_set_like : (n f : ℕ) (v w : Value) → HasCell s.cells n → w ≡ v_of v
+      → IsAlike (record s { cells = with_field s.cells n f v }) (record t { cells = with_field t.cells (a.to n) f w })
   field_set_like n f v w hn e =
-      subst (λ cs. IsAlike (record s { cells = cs }) (record t { cells = with_field t.cells (a.to n) f w })) (sym (with_put s.cells n f v))
-      (subst (λ cs. IsAlike (record s { cells = put (λ c. record c { fields = slice_set c.fields f v }) s.cells n }) (record t { cells = cs })) (sym (with_put t.cells (a.to n) f w))
+      subst (λ cs. IsAlike (record s { cells = cs }) (record t { cells = with_field t.cells (a.to n) f w }))
+      (sym (with_put s.cells n f v))
+      (subst
+      (λ cs. IsAlike (record s { cells = put (λ c. record c { fields = slice_set c.fields f v }) s.cells n })
+      (record t { cells = cs })) (sym (with_put t.cells (a.to n) f w))
       (put_like (λ c. record c { fields = slice_set c.fields f w }) (λ c. record c { fields = slice_set c.fields f v })
-      (λ c. ap (λ fs. record (c_of c) { fields = fs }) (ap (λ z. slice_set (map v_of c.fields) f z) e ∙ sym (map-set v_of c.fields f v))) (λ c. refl) n hn))
+      (λ c. ap (λ fs. record (c_of c) { fields = fs })
+      (ap (λ z. slice_set (map v_of c.fields) f z) e ∙ sym (map-set v_of c.fields f v))) (λ c. refl) n hn))
 
-  field_datum_like : (n f : ℕ) (d e : Datum) → HasCell s.cells n → e ≡ d → IsAlike (record s { cells = with_datum s.cells n f d }) (record t { cells = with_datum t.cells (a.to n) f e })
+  field_datum_like : (n f : ℕ) (d e : Datum) → HasCell s.cells n → e ≡ d
+      → IsAlike (record s { cells = with_datum s.cells n f d }) (record t { cells = with_datum t.cells (a.to n) f e })
   field_datum_like n f d e hn h =
-      subst (λ cs. IsAlike (record s { cells = cs }) (record t { cells = with_datum t.cells (a.to n) f e })) (sym (with_datum_put s.cells n f d))
-      (subst (λ cs. IsAlike (record s { cells = put (λ c. record c { datums = slice_set c.datums f d }) s.cells n }) (record t { cells = cs })) (sym (with_datum_put t.cells (a.to n) f e))
+      subst (λ cs. IsAlike (record s { cells = cs }) (record t { cells = with_datum t.cells (a.to n) f e }))
+      (sym (with_datum_put s.cells n f d))
+      (subst
+      (λ cs. IsAlike (record s { cells = put (λ c. record c { datums = slice_set c.datums f d }) s.cells n })
+      (record t { cells = cs })) (sym (with_datum_put t.cells (a.to n) f e))
       (put_like (λ c. record c { datums = slice_set c.datums f e }) (λ c. record c { datums = slice_set c.datums f d })
       (λ c. ap (λ z. record (c_of c) { datums = slice_set c.datums f z }) h) (λ c. refl) n hn))
 
@@ -291,7 +358,10 @@ module _ (shapes : List Shape) (s t : Store) (a : IsAlike s t) (ps : IsProper s)
     one_to_one = λ m k hm hk e. a.one_to_one m k (without_has n m s.cells hm) (without_has n k s.cells hk) e;
     vars = ap (λ vs. map (dangle (a.to n)) vs) a.vars ∙ dangles_renamed a.to s.cells a.one_to_one n h s.vars ps.vars;
     data_vars = a.data_vars;
-    cells = permuted (subst (λ cs. Moved cs (without (a.to n) t.cells)) (without_renamed a.to s.cells a.one_to_one s.cells itself ps.fields n h) (moved_without (a.to n) to_t));
+    cells =
+        permuted
+        (subst (λ cs. Moved cs (without (a.to n) t.cells))
+        (without_renamed a.to s.cells a.one_to_one s.cells itself ps.fields n h) (moved_without (a.to n) to_t));
   }
 
   -- A new cell gets the next number of each.
@@ -324,10 +394,13 @@ module _ (shapes : List Shape) (s t : Store) (a : IsAlike s t) (ps : IsProper s)
   values_old [] h = refl
   values_old (v ∷ vs) h = ap₂ (λ x xs. x ∷ xs) (value_old v h.0) (values_old vs h.1)
 
-  cells_old : (cs : List CellRec) → ((m : ℕ) → HasCell cs m → HasCell s.cells m) → Every (λ c. Every (NamesCell s.cells) c.fields) cs → map (cell_renamed next_to) cs ≡ map c_of cs
+  cells_old : (cs : List CellRec) → ((m : ℕ) → HasCell cs m → HasCell s.cells m)
+      → Every (λ c. Every (NamesCell s.cells) c.fields) cs → map (cell_renamed next_to) cs ≡ map c_of cs
   cells_old [] w h = refl
   cells_old (c ∷ cs) w h =
-      ap₂ (λ d ds. d ∷ ds) (ap₂ (λ n fs. record c { number = n; fields = fs }) (old_number c.number (w c.number (inl refl))) (values_old c.fields h.0)) (cells_old cs (λ m k. w m (inr k)) h.1)
+      ap₂ (λ d ds. d ∷ ds)
+      (ap₂ (λ n fs. record c { number = n; fields = fs }) (old_number c.number (w c.number (inl refl)))
+      (values_old c.fields h.0)) (cells_old cs (λ m k. w m (inr k)) h.1)
 
   unset_renamed : (f : ℕ → ℕ) (n : ℕ) → map (value_renamed f) (replicate n Uninit) ≡ replicate n Uninit
   unset_renamed f zero = refl
@@ -335,7 +408,8 @@ module _ (shapes : List Shape) (s t : Store) (a : IsAlike s t) (ps : IsProper s)
 
   new_blank : (shape : ℕ) → cell_renamed next_to (blank shapes s.next shape) ≡ blank shapes t.next shape
   new_blank shape =
-      ap₂ (λ n fs. record (blank shapes t.next shape) { number = n; fields = fs }) new_number (unset_renamed next_to (length (targets_of shapes shape)))
+      ap₂ (λ n fs. record (blank shapes t.next shape) { number = n; fields = fs }) new_number
+      (unset_renamed next_to (length (targets_of shapes shape)))
 
   old_or_new : (cs : List CellRec) (c : CellRec) (m : ℕ) → HasCell (cs ++ c ∷ []) m → HasCell cs m ⊎ (m ≡ c.number)
   old_or_new [] c m (inl e) = inr (sym e)
@@ -354,8 +428,10 @@ module _ (shapes : List Shape) (s t : Store) (a : IsAlike s t) (ps : IsProper s)
       let there : HasCell t.cells (a.to m) = moved_has (a.to m) to_t (renamed_has s.cells m h) in
       let less = is_below t.next t.cells (a.to m) pt.below there in omega (arith, less, e)
 
-  next_one : (shape m n : ℕ) → HasCell (s.cells ++ blank shapes s.next shape ∷ []) m → HasCell (s.cells ++ blank shapes s.next shape ∷ []) n → next_to m ≡ next_to n → m ≡ n
-  next_one shape m n hm hn e = here (old_or_new s.cells (blank shapes s.next shape) m hm) (old_or_new s.cells (blank shapes s.next shape) n hn)
+  next_one : (shape m n : ℕ) → HasCell (s.cells ++ blank shapes s.next shape ∷ []) m
+      → HasCell (s.cells ++ blank shapes s.next shape ∷ []) n → next_to m ≡ next_to n → m ≡ n
+  next_one shape m n hm hn e =
+      here (old_or_new s.cells (blank shapes s.next shape) m hm) (old_or_new s.cells (blank shapes s.next shape) n hn)
     where
       here : HasCell s.cells m ⊎ (m ≡ s.next) → HasCell s.cells n ⊎ (n ≡ s.next) → m ≡ n
       here (inl h) (inl k) = a.one_to_one m n h k (sym (old_number m h) ∙ e ∙ old_number n k)
@@ -363,56 +439,85 @@ module _ (shapes : List Shape) (s t : Store) (a : IsAlike s t) (ps : IsProper s)
       here (inr h) (inl k) = absurd (not_next n k (sym (old_number n k) ∙ sym e ∙ ap next_to h ∙ new_number))
       here (inr h) (inr k) = h ∙ sym k
 
-  new_like : (to shape : ℕ) → IsAlike (set_var (grown s (blank shapes s.next shape)) to (Cell s.next)) (set_var (grown t (blank shapes t.next shape)) to (Cell t.next))
+  new_like : (to shape : ℕ)
+      → IsAlike (set_var (grown s (blank shapes s.next shape)) to (Cell s.next))
+      (set_var (grown t (blank shapes t.next shape)) to (Cell t.next))
   new_like to shape = record {
     to = next_to;
     one_to_one = next_one shape;
-    vars = ap₂ (λ vs n. slice_set vs to (Cell n)) (a.vars ∙ sym (values_old s.vars ps.vars)) (sym new_number) ∙ sym (map-set (value_renamed next_to) s.vars to (Cell s.next));
+    vars = ap₂ (λ vs n. slice_set vs to (Cell n)) (a.vars ∙ sym (values_old s.vars ps.vars)) (sym new_number)
+        ∙ sym (map-set (value_renamed next_to) s.vars to (Cell s.next));
     data_vars = a.data_vars;
     cells = permuted (subst (λ cs. Moved cs (t.cells ++ blank shapes t.next shape ∷ []))
-        (sym (map-append (cell_renamed next_to) s.cells (blank shapes s.next shape ∷ []) ∙ ap₂ (λ cs c. cs ++ c ∷ []) (cells_old s.cells itself ps.fields) (new_blank shape)))
+        (sym (map-append (cell_renamed next_to) s.cells (blank shapes s.next shape ∷ [])
+        ∙ ap₂ (λ cs c. cs ++ c ∷ []) (cells_old s.cells itself ps.fields) (new_blank shape)))
         (moved_front (blank shapes t.next shape ∷ []) to_t));
   }
 
   -- Edges
 
-  stored_like : (n f : ℕ) (v w : Value) → HasCell s.cells n → NamesCell s.cells v → w ≡ v_of v → LikePass (stored shapes s n f v) (stored shapes t (a.to n) f w)
+  stored_like : (n f : ℕ) (v w : Value) → HasCell s.cells n → NamesCell s.cells v → w ≡ v_of v
+      → LikePass (stored shapes s n f v) (stored shapes t (a.to n) f w)
   stored_like n f v w hn hv e =
       rw (field_like n f hn) (there_like (field_of s.cells n f) v_of _ _ (λ old h.
-      subst (λ b. LikePass (if may_stand shapes s.cells n f v then Passed (record s { cells = with_field s.cells n f v }) else NotPassed) (if b then Passed (record t { cells = with_field t.cells (a.to n) f w }) else NotPassed))
+      subst
+      (λ b. LikePass (if may_stand shapes s.cells n f v then Passed (record s { cells = with_field s.cells n f v })
+      else NotPassed) (if b then Passed (record t { cells = with_field t.cells (a.to n) f w }) else NotPassed))
       (sym (ap (λ z. may_stand shapes t.cells (a.to n) f z) e ∙ stand_like n f v hn hv))
       (if_like (may_stand shapes s.cells n f v) _ _ (field_set_like n f v w hn e))))
 
-  stored_datum_like : (n f : ℕ) (d e : Datum) → HasCell s.cells n → e ≡ d → LikePass (stored_datum s n f d) (stored_datum t (a.to n) f e)
-  stored_datum_like n f d e hn h = rw (datum_field_like n f hn) (there_same (datum_field_of s.cells n f) _ _ (λ old k. field_datum_like n f d e hn h))
+  stored_datum_like : (n f : ℕ) (d e : Datum) → HasCell s.cells n → e ≡ d
+      → LikePass (stored_datum s n f d) (stored_datum t (a.to n) f e)
+  stored_datum_like n f d e hn h =
+      rw (datum_field_like n f hn)
+      (there_same (datum_field_of s.cells n f) _ _ (λ old k. field_datum_like n f d e hn h))
 
-  stored_const_like : (n f : ℕ) (c : Const) → HasCell s.cells n → LikePass (stored_const shapes s n f c) (stored_const shapes t (a.to n) f c)
+  stored_const_like : (n f : ℕ) (c : Const) → HasCell s.cells n
+      → LikePass (stored_const shapes s n f c) (stored_const shapes t (a.to n) f c)
   stored_const_like n f ConstNull hn = stored_like n f Null Null hn tt refl
   stored_const_like n f (ConstKnown k) hn = stored_datum_like n f (Known k) (Known k) hn refl
 
   -- what is done at the cell to which a variable points
-  at_like : (b : ℕ) (K J : ℕ → Pass) → ((n : ℕ) → HasCell s.cells n → LikePass (K n) (J (a.to n))) → LikePass (onto (followed (var_of s b)) K) (onto (followed (var_of t b)) J)
-  at_like b K J h = subst (λ v. LikePass (onto (followed (var_of s b)) K) (onto (followed v) J)) (sym (var_like b)) (follow_like a.to (var_of s b) K J (λ n e. h n (pointed b n e)))
+  at_like : (b : ℕ) (K J : ℕ → Pass) → ((n : ℕ) → HasCell s.cells n → LikePass (K n) (J (a.to n)))
+      → LikePass (onto (followed (var_of s b)) K) (onto (followed (var_of t b)) J)
+  at_like b K J h = subst (λ v. LikePass (onto (followed (var_of s b)) K) (onto (followed v) J)) (sym (var_like b))
+      (follow_like a.to (var_of s b) K J (λ n e. h n (pointed b n e)))
 
-  agreed_like : (equal : Bool) (r q : Result Bool Fault) → q ≡ r → LikePass (onto r (λ same. if_agreed equal same s)) (onto q (λ same. if_agreed equal same t))
-  agreed_like equal r q e = subst (λ z. LikePass (onto r (λ same. if_agreed equal same s)) (onto z (λ same. if_agreed equal same t))) (sym e) (onto_like r _ _ (λ same h. if_like (agrees equal same) (Passed s) (Passed t) a))
+  agreed_like : (equal : Bool) (r q : Result Bool Fault) → q ≡ r
+      → LikePass (onto r (λ same. if_agreed equal same s)) (onto q (λ same. if_agreed equal same t))
+  agreed_like equal r q e =
+      subst (λ z. LikePass (onto r (λ same. if_agreed equal same s)) (onto z (λ same. if_agreed equal same t))) (sym e)
+      (onto_like r _ _ (λ same h. if_like (agrees equal same) (Passed s) (Passed t) a))
 
   raw_like : (i : Instr) (x : ℕ) → LikePass (raw_step shapes i x s) (raw_step shapes i x t)
   raw_like (CopyPtr to from) x = set_like to (arg_of s from) (arg_of t from) (arg_like from)
-  raw_like (LoadPtr to b f) x = at_like b _ _ (λ n hn. rw (field_like n f hn) (there_like (field_of s.cells n f) v_of _ _ (λ v h. set_like to v (v_of v) refl)))
-  raw_like (StorePtr b f from) x = at_like b _ _ (λ n hn. stored_like n f (var_of s from) (var_of t from) hn (var_named s.cells s.vars from ps.vars) (var_like from))
+  raw_like (LoadPtr to b f) x =
+      at_like b _ _
+      (λ n hn. rw (field_like n f hn) (there_like (field_of s.cells n f) v_of _ _ (λ v h. set_like to v (v_of v) refl)))
+  raw_like (StorePtr b f from) x =
+      at_like b _ _
+      (λ n hn. stored_like n f (var_of s from) (var_of t from) hn (var_named s.cells s.vars from ps.vars)
+      (var_like from))
   raw_like (StoreConst b f c) x = at_like b _ _ (λ n hn. stored_const_like n f c hn)
   raw_like (New to shape) x = new_like to shape
   raw_like (Free from) x =
-      subst (λ v. LikePass (onto (freed s (var_of s from)) Passed) (onto (freed t v) Passed)) (sym (var_like from)) (free_like (var_of s from) (var_named s.cells s.vars from ps.vars))
+      subst (λ v. LikePass (onto (freed s (var_of s from)) Passed) (onto (freed t v) Passed)) (sym (var_like from))
+      (free_like (var_of s from) (var_named s.cells s.vars from ps.vars))
   raw_like (Kill xs ys) x = kill_like xs ys
   raw_like (CopyData to from) x = set_datum_like to (data_arg_of s from) (data_arg_of t from) (data_arg_like from)
-  raw_like (LoadData to b f) x = at_like b _ _ (λ n hn. rw (datum_field_like n f hn) (there_same (datum_field_of s.cells n f) _ _ (λ d h. set_datum_like to d d refl)))
-  raw_like (StoreData b f from) x = at_like b _ _ (λ n hn. stored_datum_like n f (datum_of s from) (datum_of t from) hn (datum_like from))
+  raw_like (LoadData to b f) x =
+      at_like b _ _
+      (λ n hn. rw (datum_field_like n f hn)
+      (there_same (datum_field_of s.cells n f) _ _ (λ d h. set_datum_like to d d refl)))
+  raw_like (StoreData b f from) x =
+      at_like b _ _ (λ n hn. stored_datum_like n f (datum_of s from) (datum_of t from) hn (datum_like from))
   raw_like (TestPtr l r e) x =
-      agreed_like e (same_values (arg_of s l) (arg_of s r)) (same_values (arg_of t l) (arg_of t r)) (ap₂ same_values (arg_like l) (arg_like r) ∙ values_like (arg_of s l) (arg_of s r) (arg_names l) (arg_names r))
+      agreed_like e (same_values (arg_of s l) (arg_of s r)) (same_values (arg_of t l) (arg_of t r))
+      (ap₂ same_values (arg_like l) (arg_like r)
+      ∙ values_like (arg_of s l) (arg_of s r) (arg_names l) (arg_names r))
   raw_like (TestData l r e) x =
-      agreed_like e (same_datums (data_arg_of s l) (data_arg_of s r)) (same_datums (data_arg_of t l) (data_arg_of t r)) (ap₂ same_datums (data_arg_like l) (data_arg_like r))
+      agreed_like e (same_datums (data_arg_of s l) (data_arg_of s r)) (same_datums (data_arg_of t l) (data_arg_of t r))
+      (ap₂ same_datums (data_arg_like l) (data_arg_like r))
   raw_like (Choose None) x = a
   raw_like (Choose (Some to)) x = set_datum_like to (Known x) (Known x) refl
   raw_like (Stop true) x = refl
@@ -440,6 +545,8 @@ tested_like NotPassed (Faulted j) ps h = absurd h
 tested_like NotPassed Halted ps h = absurd h
 tested_like NotPassed NotPassed ps h = tt
 
-pub steps_alike : (shapes : List Shape) (e : Edge) (s t : Store) → IsProper s → IsProper t → IsAlike s t → LikePass (gstep shapes e s) (gstep shapes e t)
+pub steps_alike : (shapes : List Shape) (e : Edge) (s t : Store) → IsProper s → IsProper t → IsAlike s t
+    → LikePass (gstep shapes e s) (gstep shapes e t)
 steps_alike shapes e s t ps pt a =
-    tested_like (raw_step shapes e.instr (choice_of e.choice) s) (raw_step shapes e.instr (choice_of e.choice) t) (raw_proper shapes e.instr (choice_of e.choice) s ps) (raw_like shapes s t a ps pt e.instr (choice_of e.choice))
+    tested_like (raw_step shapes e.instr (choice_of e.choice) s) (raw_step shapes e.instr (choice_of e.choice) t)
+    (raw_proper shapes e.instr (choice_of e.choice) s ps) (raw_like shapes s t a ps pt e.instr (choice_of e.choice))

@@ -1,5 +1,6 @@
 -- The lowering by consecutive numbers is one of its program.
-use Rattle.std.proofs.Common.{◌≡◌, inr, ℕ, zero, suc, ◌+◌, ◌<◌, Bool, true, false, List, [], ◌∷◌, ◌++◌, length, map, replicate, refl, sym, ap, ◌∙◌, subst, arith}
+use Rattle.std.proofs.Common.{◌≡◌, inr, ℕ, zero, suc, ◌+◌, ◌<◌, Bool, true, false, List, [], ◌∷◌, ◌++◌, length, map}
+use Rattle.std.proofs.Common.{replicate, refl, sym, ap, ◌∙◌, subst, arith}
 use Rattle.std.proofs.lemmas.List.{length-replicate}
 use Rattle.std.specs.List.Sorted.{IsPermutation}
 use Rattle.fore_base.specs.Lists.{Every}
@@ -48,12 +49,15 @@ lowers p =
     let e = exit_of nv nd items in
     let line : ℕ → ℕ = line_of nv nd items in
     let zero_e : 0 + e ≡ e = omega arith in
-    let st : Stacked nv nd 0 (places q Done) e = subst (λ k. Stacked nv nd 0 (places q Done) k) zero_e (stacked nv nd items 0 Done) in
+    let st : Stacked nv nd 0 (places q Done) e =
+    subst (λ k. Stacked nv nd 0 (places q Done) k) zero_e (stacked nv nd items 0 Done) in
     let good = good_all nv nd e line (places q Done) 0 e st in
     record {
       items = q;
       line = line;
-      is_program = back nv nd line items 0 (lined_all nv nd (lines nv nd items) (lines nv nd items) 0 (λ k. let z : 0 + k ≡ k = omega arith in ap line z));
+      is_program = back nv nd line items 0
+          (lined_all nv nd (lines nv nd items) (lines nv nd items) 0
+          (λ k. let z : 0 + k ≡ k = omega arith in ap line z));
       own_marks = marks_differ nv nd (places q Done) 0 e st;
       at = loc nv nd e;
       mids = mids_of nv nd;
@@ -62,7 +66,8 @@ lowers p =
       rows = rows_all nv nd (edges_of nv nd items) e line (places q Done) 0 e st (λ k x y. refl);
       all_numbers = same_list (
           numbers_are nv nd e (places q Done) 0 e st
-          ∙ ap (λ n. span 0 n ++ e ∷ []) (let t : total nv nd (places q Done) ≡ e = omega (arith, total_is nv nd (places q Done) 0 e st) in t)
+          ∙ ap (λ n. span 0 n ++ e ∷ [])
+          (let t : total nv nd (places q Done) ≡ e = omega (arith, total_is nv nd (places q Done) 0 e st) in t)
           ∙ ap (λ ns. ns ++ e ∷ []) (span_below nv nd e) ∙ (let z : suc e ≡ e + 1 = omega arith in ap below z));
       each_from = below_all e (edges_of nv nd items) good.0;
       in_order = good.1;
@@ -81,17 +86,23 @@ module _ (p : Program) where
   abbrev nd : ℕ
   nd = length p.data_vars
 
-  edges_emitted : edges_of nv nd (start_of p) ≡ emit_all nv nd (exit_of nv nd (start_of p)) p.body (in_loop (exit_of nv nd (start_of p)) (exit_of nv nd (start_of p))) 0 (exit_of nv nd (start_of p))
+  edges_emitted : edges_of nv nd (start_of p)
+      ≡ emit_all nv nd (exit_of nv nd (start_of p)) p.body
+      (in_loop (exit_of nv nd (start_of p)) (exit_of nv nd (start_of p))) 0 (exit_of nv nd (start_of p))
   unfolding emit_all
   edges_emitted =
       let e = exit_of nv nd (start_of p) in let line : ℕ → ℕ = line_of nv nd (start_of p) in
-      emits nv nd e line (start_of p) (all_plain p.body Done tt) 0 Done (in_loop e e) e refl (record { leaves = refl; agains = refl; ptrs = refl; datums = refl })
-      (lined_all nv nd (lines nv nd (start_of p)) (lines nv nd (start_of p)) 0 (λ k. let z : 0 + k ≡ k = omega arith in ap line z))
+      emits nv nd e line (start_of p) (all_plain p.body Done tt) 0 Done (in_loop e e) e refl
+      (record { leaves = refl; agains = refl; ptrs = refl; datums = refl })
+      (lined_all nv nd (lines nv nd (start_of p)) (lines nv nd (start_of p)) 0
+      (λ k. let z : 0 + k ≡ k = omega arith in ap line z))
 
-  heads_entered : heads_of nv nd (start_of p) ≡ set_each (replicate (exit_of nv nd (start_of p) + 1) false) (heads_all nv nd p.body 0) true
+  heads_entered : heads_of nv nd (start_of p)
+      ≡ set_each (replicate (exit_of nv nd (start_of p) + 1) false) (heads_all nv nd p.body 0) true
   unfolding heads_all
   heads_entered =
-      ap (λ (ks : List ℕ). map (is_one_of ks) (below (exit_of nv nd (start_of p) + 1))) (heads_numbered nv nd (exit_of nv nd (start_of p)) (start_of p) (all_plain p.body Done tt) 0 Done)
+      ap (λ (ks : List ℕ). map (is_one_of ks) (below (exit_of nv nd (start_of p) + 1)))
+      (heads_numbered nv nd (exit_of nv nd (start_of p)) (start_of p) (all_plain p.body Done tt) 0 Done)
       ∙ sym (entries_are (head_numbers nv nd (start_of p) 0) (exit_of nv nd (start_of p) + 1))
 
   exit_wide : wide_all nv nd p.body ≡ exit_of nv nd (start_of p)
@@ -105,21 +116,34 @@ module _ (p : Program) where
     pub edges_are : (es : List Edge) → es ≡ emit_all nv nd e p.body (in_loop e e) 0 e → es ≡ edges_of nv nd (start_of p)
     edges_are es h = h ∙ ap (λ k. emit_all nv nd k p.body (in_loop k k) 0 k) (exit ∙ exit_wide) ∙ sym edges_emitted
 
-    pub heads_have : (hs : List Bool) → hs ≡ set_each (replicate (e + 1) false) (heads_all nv nd p.body 0) true → hs ≡ heads_of nv nd (start_of p)
-    heads_have hs h = h ∙ ap (λ k. set_each (replicate (k + 1) false) (heads_all nv nd p.body 0) true) (exit ∙ exit_wide) ∙ sym heads_entered
+    pub heads_have : (hs : List Bool) → hs ≡ set_each (replicate (e + 1) false) (heads_all nv nd p.body 0) true
+        → hs ≡ heads_of nv nd (start_of p)
+    heads_have hs h = h ∙ ap (λ k. set_each (replicate (k + 1) false) (heads_all nv nd p.body 0) true)
+        (exit ∙ exit_wide) ∙ sym heads_entered
 
-    pub heads_long : (hs : List Bool) → hs ≡ set_each (replicate (e + 1) false) (heads_all nv nd p.body 0) true → length hs ≡ e + 1
-    heads_long hs h = ap length h ∙ length_set_each (replicate (e + 1) false) (heads_all nv nd p.body 0) true ∙ length-replicate (e + 1) false
+    pub heads_long : (hs : List Bool) → hs ≡ set_each (replicate (e + 1) false) (heads_all nv nd p.body 0) true
+        → length hs ≡ e + 1
+    heads_long hs h = ap length h ∙ length_set_each (replicate (e + 1) false) (heads_all nv nd p.body 0) true
+        ∙ length-replicate (e + 1) false
 
     pub choices_told : (es : List Edge) → es ≡ emit_all nv nd e p.body (in_loop e e) 0 e → Every HasItsChoice es
-    choices_told es h = subst (Every HasItsChoice) (sym (edges_are es h)) (all_told nv nd (exit_of nv nd (start_of p)) (line_of nv nd (start_of p)) (places (numbered nv nd (start_of p)) Done))
+    choices_told es h = subst (Every HasItsChoice) (sym (edges_are es h))
+        (all_told nv nd (exit_of nv nd (start_of p)) (line_of nv nd (start_of p))
+        (places (numbered nv nd (start_of p)) Done))
 
-    pub built : (l q d : ℕ) (es : List Edge) (hs : List Bool) (shapes : Shapes) → l ≡ e + 1 → q ≡ nv + 2 → d ≡ nd + 2 → es ≡ emit_all nv nd e p.body (in_loop e e) 0 e
-        → hs ≡ set_each (replicate (e + 1) false) (heads_all nv nd p.body 0) true → shapes ≡ p.shapes → LowerOf p (made l q d es hs shapes)
+    pub built : (l q d : ℕ) (es : List Edge) (hs : List Bool) (shapes : Shapes) → l ≡ e + 1 → q ≡ nv + 2 → d ≡ nd + 2
+        → es ≡ emit_all nv nd e p.body (in_loop e e) 0 e
+        → hs ≡ set_each (replicate (e + 1) false) (heads_all nv nd p.body 0) true → shapes ≡ p.shapes
+        → LowerOf p (made l q d es hs shapes)
     built l q d es hs shapes el eq ed ee eh es2 =
         let path : made l q d es hs shapes ≡ lowered p =
-        ap (λ z. made z q d es hs shapes) (el ∙ ap (λ k. k + 1) (exit ∙ exit_wide)) ∙ ap (λ z. made (exit_of nv nd (start_of p) + 1) z d es hs shapes) eq
-        ∙ ap (λ z. made (exit_of nv nd (start_of p) + 1) (nv + 2) z es hs shapes) ed ∙ ap (λ z. made (exit_of nv nd (start_of p) + 1) (nv + 2) (nd + 2) z hs shapes) (edges_are es ee)
-        ∙ ap (λ z. made (exit_of nv nd (start_of p) + 1) (nv + 2) (nd + 2) (edges_of nv nd (start_of p)) z shapes) (heads_have hs eh)
-        ∙ ap (λ z. made (exit_of nv nd (start_of p) + 1) (nv + 2) (nd + 2) (edges_of nv nd (start_of p)) (heads_of nv nd (start_of p)) z) es2 in
+        ap (λ z. made z q d es hs shapes) (el ∙ ap (λ k. k + 1) (exit ∙ exit_wide))
+        ∙ ap (λ z. made (exit_of nv nd (start_of p) + 1) z d es hs shapes) eq
+        ∙ ap (λ z. made (exit_of nv nd (start_of p) + 1) (nv + 2) z es hs shapes) ed
+        ∙ ap (λ z. made (exit_of nv nd (start_of p) + 1) (nv + 2) (nd + 2) z hs shapes) (edges_are es ee)
+        ∙ ap (λ z. made (exit_of nv nd (start_of p) + 1) (nv + 2) (nd + 2) (edges_of nv nd (start_of p)) z shapes)
+        (heads_have hs eh)
+        ∙ ap
+        (λ z. made (exit_of nv nd (start_of p) + 1) (nv + 2) (nd + 2) (edges_of nv nd (start_of p))
+        (heads_of nv nd (start_of p)) z) es2 in
         subst (LowerOf p) (sym path) (lowers p)

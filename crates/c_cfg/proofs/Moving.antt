@@ -1,7 +1,10 @@
 -- Lists of the same items in another order, and what that leaves of cells.
-use Rattle.std.proofs.Common.{◌≡◌, inl, inr, ℕ, zero, suc, ◌<◌, Bool, true, false, nat_eq, if◌then◌else◌, List, [], ◌∷◌, ◌++◌, map, length, slice_set, slice_index_or, swap, refl, sym, ◌∙◌, arith, not-suc-le-zero, le_of_suc-le-suc, IsPermutation}
+use Rattle.std.proofs.Common.{◌≡◌, inl, inr, ℕ, zero, suc, ◌<◌, Bool, true, false, nat_eq, if◌then◌else◌, List, [], ◌∷◌}
+use Rattle.std.proofs.Common.{◌++◌, map, length, slice_set, slice_index_or, swap, refl, sym, ◌∙◌, arith}
+use Rattle.std.proofs.Common.{not-suc-le-zero, le_of_suc-le-suc, IsPermutation}
 use Rattle.std.proofs.lemmas.Bool.{eqb-true}
-use Rattle.std.proofs.lemmas.List.Sorted.{IsPermutation-keeps, IsPermutation-refl, IsPermutation-cons, IsPermutation-swap, IsPermutation-trans}
+use Rattle.std.proofs.lemmas.List.Sorted.{IsPermutation-keeps, IsPermutation-refl, IsPermutation-cons}
+use Rattle.std.proofs.lemmas.List.Sorted.{IsPermutation-swap, IsPermutation-trans}
 use Rattle.fore_base.specs.declared.store.CellRec.{CellRec}
 use Rattle.fore_base.specs.Lists.{IsIn}
 use Rattle.fore_base.specs.Stores.{dangle_in, without}
@@ -25,12 +28,16 @@ back (chain h k) = chain (back k) (back h)
 
 -- Exchanges
 
-lifted : {X : Type 0} (x : X) (xs : List X) (j : ℕ) (d : X) → j < length xs → Moved (x ∷ xs) (slice_index_or xs j d ∷ slice_set xs j x)
+lifted : {X : Type 0} (x : X) (xs : List X) (j : ℕ) (d : X) → j < length xs
+    → Moved (x ∷ xs) (slice_index_or xs j d ∷ slice_set xs j x)
 lifted x [] j d h = absurd (not-suc-le-zero h)
 lifted x (y ∷ ys) zero d h = two x y ys
-lifted x (y ∷ ys) (suc j) d h = chain (two x y ys) (chain (keep y (lifted x ys j d (le_of_suc-le-suc h))) (two y (slice_index_or ys j d) (slice_set ys j x)))
+lifted x (y ∷ ys) (suc j) d h =
+    chain (two x y ys)
+    (chain (keep y (lifted x ys j d (le_of_suc-le-suc h))) (two y (slice_index_or ys j d) (slice_set ys j x)))
 
-swapped : {X : Type 0} (xs : List X) (i j : ℕ) (d : X) → i < length xs → j < length xs → Moved xs (slice_set (slice_set xs i (slice_index_or xs j d)) j (slice_index_or xs i d))
+swapped : {X : Type 0} (xs : List X) (i j : ℕ) (d : X) → i < length xs → j < length xs
+    → Moved xs (slice_set (slice_set xs i (slice_index_or xs j d)) j (slice_index_or xs i d))
 swapped [] i j d h k = absurd (not-suc-le-zero h)
 swapped (x ∷ xs) zero zero d h k = same (x ∷ xs)
 swapped (x ∷ xs) zero (suc j) d h k = lifted x xs j d (le_of_suc-le-suc k)
@@ -42,7 +49,8 @@ exchanged [] i j h k = absurd (not-suc-le-zero h)
 exchanged (d ∷ ys) i j h k = swapped (d ∷ ys) i j d h k
 
 pub moved : {X : Type 0} (xs ys : List X) → IsPermutation xs ys → Moved xs ys
-moved {X} xs ys p = IsPermutation-keeps xs (λ l. Moved xs l) (same xs) (λ l i j h k r. chain r (exchanged l i j h k)) ys p
+moved {X} xs ys p = IsPermutation-keeps xs (λ l. Moved xs l) (same xs) (λ l i j h k r. chain r (exchanged l i j h k)) ys
+    p
 
 pub permuted : {X : Type 0} {xs ys : List X} → Moved xs ys → IsPermutation xs ys
 permuted none = IsPermutation-refl []
@@ -99,19 +107,23 @@ abbrev pub find : {A : Type 0} → (CellRec → A) → A → List CellRec → �
 find g z [] n = z
 find g z (c ∷ cs) n = if nat_eq c.number n then g c else find g z cs n
 
-not_both : (c d : CellRec) (cs : List CellRec) (n : ℕ) → AllDiffer (c ∷ d ∷ cs) → nat_eq c.number n ≡ true → nat_eq d.number n ≡ true → ⊥
+not_both : (c d : CellRec) (cs : List CellRec) (n : ℕ) → AllDiffer (c ∷ d ∷ cs) → nat_eq c.number n ≡ true
+    → nat_eq d.number n ≡ true → ⊥
 not_both c d cs n a x y = a.0 (inl (eqb-true d.number n y ∙ sym (eqb-true c.number n x)))
 
-pub moved_find : {A : Type 0} (g : CellRec → A) (z : A) (n : ℕ) {cs ds : List CellRec} → Moved cs ds → AllDiffer cs → find g z cs n ≡ find g z ds n
+pub moved_find : {A : Type 0} (g : CellRec → A) (z : A) (n : ℕ) {cs ds : List CellRec} → Moved cs ds → AllDiffer cs
+    → find g z cs n ≡ find g z ds n
 moved_find g z n none a = refl
 moved_find {A} g z n (keep c {xs} {ys} m) a = here (nat_eq c.number n) (moved_find g z n m a.1)
   where
-    here : (b : Bool) → find g z xs n ≡ find g z ys n → (if b then g c else find g z xs n) ≡ (if b then g c else find g z ys n)
+    here : (b : Bool) → find g z xs n ≡ find g z ys n → (if b then g c else find g z xs n)
+        ≡ (if b then g c else find g z ys n)
     here true e = refl
     here false e = e
 moved_find {A} g z n (two c d cs) a = here (nat_eq c.number n) (nat_eq d.number n) refl refl
   where
-    here : (x y : Bool) → nat_eq c.number n ≡ x → nat_eq d.number n ≡ y → (if x then g c else if y then g d else find g z cs n) ≡ (if y then g d else if x then g c else find g z cs n)
+    here : (x y : Bool) → nat_eq c.number n ≡ x → nat_eq d.number n ≡ y
+        → (if x then g c else if y then g d else find g z cs n) ≡ (if y then g d else if x then g c else find g z cs n)
     here true true p q = absurd (not_both c d cs n a p q)
     here true false p q = refl
     here false true p q = refl
@@ -123,17 +135,20 @@ abbrev pub put : (CellRec → CellRec) → List CellRec → ℕ → List CellRec
 put g [] n = []
 put g (c ∷ cs) n = if nat_eq c.number n then g c ∷ cs else c ∷ put g cs n
 
-pub moved_put : (g : CellRec → CellRec) (n : ℕ) {cs ds : List CellRec} → Moved cs ds → AllDiffer cs → Moved (put g cs n) (put g ds n)
+pub moved_put : (g : CellRec → CellRec) (n : ℕ) {cs ds : List CellRec} → Moved cs ds → AllDiffer cs
+    → Moved (put g cs n) (put g ds n)
 moved_put g n none a = none
 moved_put g n (keep c {xs} {ys} m) a = here (nat_eq c.number n) (moved_put g n m a.1)
   where
-    here : (b : Bool) → Moved (put g xs n) (put g ys n) → Moved (if b then g c ∷ xs else c ∷ put g xs n) (if b then g c ∷ ys else c ∷ put g ys n)
+    here : (b : Bool) → Moved (put g xs n) (put g ys n)
+        → Moved (if b then g c ∷ xs else c ∷ put g xs n) (if b then g c ∷ ys else c ∷ put g ys n)
     here true e = keep (g c) m
     here false e = keep c e
 moved_put g n (two c d cs) a = here (nat_eq c.number n) (nat_eq d.number n) refl refl
   where
     here : (x y : Bool) → nat_eq c.number n ≡ x → nat_eq d.number n ≡ y
-        → Moved (if x then g c ∷ d ∷ cs else c ∷ (if y then g d ∷ cs else d ∷ put g cs n)) (if y then g d ∷ c ∷ cs else d ∷ (if x then g c ∷ cs else c ∷ put g cs n))
+        → Moved (if x then g c ∷ d ∷ cs else c ∷ (if y then g d ∷ cs else d ∷ put g cs n))
+        (if y then g d ∷ c ∷ cs else d ∷ (if x then g c ∷ cs else c ∷ put g cs n))
     here true true p q = absurd (not_both c d cs n a p q)
     here true false p q = two (g c) d cs
     here false true p q = two c (g d) cs
@@ -144,13 +159,18 @@ pub moved_without : (n : ℕ) {cs ds : List CellRec} → Moved cs ds → Moved (
 moved_without n none = none
 moved_without n (keep c {xs} {ys} m) = here (nat_eq c.number n) (moved_without n m)
   where
-    here : (b : Bool) → Moved (without n xs) (without n ys) → Moved (if b then without n xs else dangle_in n c ∷ without n xs) (if b then without n ys else dangle_in n c ∷ without n ys)
+    here : (b : Bool) → Moved (without n xs) (without n ys)
+        → Moved (if b then without n xs else dangle_in n c ∷ without n xs)
+        (if b then without n ys else dangle_in n c ∷ without n ys)
     here true e = e
     here false e = keep (dangle_in n c) e
 moved_without n (two c d cs) = here (nat_eq c.number n) (nat_eq d.number n)
   where
-    here : (x y : Bool) → Moved (if x then (if y then without n cs else dangle_in n d ∷ without n cs) else dangle_in n c ∷ (if y then without n cs else dangle_in n d ∷ without n cs))
-        (if y then (if x then without n cs else dangle_in n c ∷ without n cs) else dangle_in n d ∷ (if x then without n cs else dangle_in n c ∷ without n cs))
+    here : (x y : Bool) → Moved
+        (if x then (if y then without n cs else dangle_in n d ∷ without n cs)
+        else dangle_in n c ∷ (if y then without n cs else dangle_in n d ∷ without n cs))
+        (if y then (if x then without n cs else dangle_in n c ∷ without n cs)
+        else dangle_in n d ∷ (if x then without n cs else dangle_in n c ∷ without n cs))
     here true true = same (without n cs)
     here true false = same (dangle_in n d ∷ without n cs)
     here false true = same (dangle_in n c ∷ without n cs)

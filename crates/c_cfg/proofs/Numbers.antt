@@ -1,9 +1,11 @@
 -- Numbered places have all numbers below the exit, each once.
-use Rattle.std.proofs.Common.{◌≡◌, inl, inr, ℕ, zero, suc, ◌+◌, ◌<◌, List, [], ◌∷◌, ◌++◌, map, refl, sym, ap, ◌∙◌, arith}
+use Rattle.std.proofs.Common.{◌≡◌, inl, inr, ℕ, zero, suc, ◌+◌, ◌<◌, List, [], ◌∷◌, ◌++◌, map, refl, sym, ap, ◌∙◌}
+use Rattle.std.proofs.Common.{arith}
 use Rattle.std.specs.Prelude.{pred}
 use Rattle.std.proofs.lemmas.List.{append_assoc}
 use Rattle.fore_base.specs.Lists.{IsIn, IsDistinct}
-use Rattle.c_types.specs.declared.program.Atom.TheVariants.{Choice as ChoiceAtom, Known as KnownAtom, Ptr as PtrAtom, Data as DataAtom}
+use Rattle.c_types.specs.declared.program.Atom.TheVariants.{Choice as ChoiceAtom, Known as KnownAtom, Ptr as PtrAtom}
+use Rattle.c_types.specs.declared.program.Atom.TheVariants.{Data as DataAtom}
 use Rattle.c_types.specs.Control.{Items, Done, Do, Close, If, Loop, Again, DoLoop, DoAgain, Ask, Not, Both, Either}
 use Rattle.c_types.specs.Steps.{below, mark_of}
 use Rattle.c_cfg.specs.Lowering.{numbers}
@@ -50,7 +52,8 @@ module _ (nv nd : ℕ) where
   loc_mark exit (DoLoop c b is) o = absurd o
   loc_mark exit (DoAgain c b is) o = absurd o
 
-  pub numbers_are : (exit : ℕ) (ps : List Items) (i e : ℕ) → Stacked nv nd i ps e → numbers (loc nv nd exit) (mids_of nv nd) ps ≡ span i (total ps) ++ (exit ∷ [])
+  pub numbers_are : (exit : ℕ) (ps : List Items) (i e : ℕ) → Stacked nv nd i ps e
+      → numbers (loc nv nd exit) (mids_of nv nd) ps ≡ span i (total ps) ++ (exit ∷ [])
   numbers_are exit [] i e h = refl
   numbers_are exit (c ∷ ps) i e h =
       let w = place_width nv nd c in
@@ -63,7 +66,9 @@ module _ (nv nd : ℕ) where
 
   pub span_below : (n : ℕ) → span 0 n ≡ below n
   span_below zero = refl
-  span_below (suc n) = let e : suc n ≡ n + 1 = omega arith in ap (span 0) e ∙ span_more 0 n 1 ∙ ap (λ ns. ns ++ span (0 + n) 1) (span_below n) ∙ (let z : 0 + n ≡ n = omega arith in ap (λ k. below n ++ (k ∷ [])) z)
+  span_below (suc n) = let e : suc n ≡ n + 1 = omega arith in ap (span 0) e ∙ span_more 0 n 1
+      ∙ ap (λ ns. ns ++ span (0 + n) 1) (span_below n)
+      ∙ (let z : 0 + n ≡ n = omega arith in ap (λ k. below n ++ (k ∷ [])) z)
 
   -- the marks differ
 
@@ -74,4 +79,7 @@ module _ (nv nd : ℕ) where
 
   pub marks_differ : (ps : List Items) (i e : ℕ) → Stacked nv nd i ps e → IsDistinct (map mark_of ps)
   marks_differ [] i e h = tt
-  marks_differ (c ∷ ps) i e h = (apart ps (mark_of c) (i + place_width nv nd c) e (omega (arith, h.1, wide c h.0)) h.2, marks_differ ps (i + place_width nv nd c) e h.2)
+  marks_differ (c ∷ ps) i e h = (
+    apart ps (mark_of c) (i + place_width nv nd c) e (omega (arith, h.1, wide c h.0)) h.2,
+    marks_differ ps (i + place_width nv nd c) e h.2,
+  )

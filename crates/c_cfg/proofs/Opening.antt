@@ -1,8 +1,11 @@
--- Items that stand before others: how they open, what a statement's items are, and that a program's items have no Again.
+-- Items that stand before others: how they open, what a statement's items are, and that a program's items have no
+-- Again.
 use Rattle.std.proofs.Common.{◌≡◌, ℕ, List, [], ◌∷◌, map, refl, sym, ap, ◌∙◌, subst}
 use Rattle.c_types.specs.declared.program.Stmt.{Stmt, Stmt-F, fold-roll-Stmt, map-Stmt, ind-Stmt}
-use Rattle.c_types.specs.declared.program.Stmt.TheOpen.{Do as Do-F, Branch as Branch-F, While as While-F, DoWhile as DoWhile-F, For as For-F, Group as Group-F}
-use Rattle.c_types.specs.Control.{Items, Done, Do, Close, If, Loop, Again, DoLoop, DoAgain, ◌then◌, ask, round, do_round, open_before, all_before, closes, items_step, items_of}
+use Rattle.c_types.specs.declared.program.Stmt.TheOpen.{Do as Do-F, Branch as Branch-F, While as While-F}
+use Rattle.c_types.specs.declared.program.Stmt.TheOpen.{DoWhile as DoWhile-F, For as For-F, Group as Group-F}
+use Rattle.c_types.specs.Control.{Items, Done, Do, Close, If, Loop, Again, DoLoop, DoAgain, ◌then◌, ask, round}
+use Rattle.c_types.specs.Control.{do_round, open_before, all_before, closes, items_step, items_of}
 
 pub then_then : (c d r : Items) → (c then d) then r ≡ c then (d then r)
 then_then Done d r = refl
@@ -21,8 +24,10 @@ open_then (Do a m is) d r o = ap (Do a m) (then_then is d r)
 open_then (Close ps ds m is) d r o = ap (Close ps ds m) (then_then is d r)
 open_then (If c x y is) d r o = ap (λ z. ask c x y z) (then_then is d r)
 open_then (Loop c n b is) d r o = ap (λ z. ask c (round c n b) Done z) (then_then is d r)
-open_then (Again c n b is) d r o = ap (λ z. open_before n (Loop c n b z) (ask c (round c n b) Done z)) (then_then is d r)
-open_then (DoLoop c b is) d r o = ap (λ z. open_before b (DoAgain c b z) (ask c (do_round c b) Done z)) (then_then is d r)
+open_then (Again c n b is) d r o =
+    ap (λ z. open_before n (Loop c n b z) (ask c (round c n b) Done z)) (then_then is d r)
+open_then (DoLoop c b is) d r o =
+    ap (λ z. open_before b (DoAgain c b z) (ask c (do_round c b) Done z)) (then_then is d r)
 open_then (DoAgain c b is) d r o = ap (λ z. ask c (do_round c b) Done z) (then_then is d r)
 
 -- A statement's items stand before whatever comes.
@@ -40,22 +45,28 @@ Standing = (s : Stmt) × StandsBefore (items_of s)
 
 each_stands : (es : List Standing) → StandsBefore (all_before (map items_of (map (λ e. e.0) es)))
 each_stands [] c r = refl
-each_stands (e ∷ es) c r = ap (items_of e.0) (each_stands es c r) ∙ e.1 (all_before (map items_of (map (λ e. e.0) es)) c) r
+each_stands (e ∷ es) c r = ap (items_of e.0) (each_stands es c r)
+    ∙ e.1 (all_before (map items_of (map (λ e. e.0) es)) c) r
 
-layer_stands : (y : Stmt-F Standing) → StandsBefore (items_step (map-Stmt Stmt (Items → Items) items_of (map-Stmt Standing Stmt (λ e. e.0) y)))
+layer_stands : (y : Stmt-F Standing)
+    → StandsBefore (items_step (map-Stmt Stmt (Items → Items) items_of (map-Stmt Standing Stmt (λ e. e.0) y)))
 layer_stands (Do-F a line) c r = refl
 layer_stands (Branch-F t x y) c r = refl
 layer_stands (While-F t b) c r = refl
 layer_stands (DoWhile-F t b) c r = refl
 layer_stands (For-F t n b) c r = refl
-layer_stands (Group-F b ps ds m) c r = ap (all_before (map items_of (map (λ e. e.0) b))) (closes_then ps ds m c r) ∙ each_stands b (closes ps ds m c) r
+layer_stands (Group-F b ps ds m) c r = ap (all_before (map items_of (map (λ e. e.0) b))) (closes_then ps ds m c r)
+    ∙ each_stands b (closes ps ds m c) r
 
 pub stmt_stands : (s : Stmt) → StandsBefore (items_of s)
 stmt_stands = ind-Stmt (λ s. StandsBefore (items_of s)) (λ x y is.
-    let here : StandsBefore (items_step (map-Stmt Stmt (Items → Items) items_of x)) = subst (λ z. StandsBefore (items_step (map-Stmt Stmt (Items → Items) items_of z))) is (layer_stands y) in
-    λ c r. ap (λ f. f (c then r)) (fold-roll-Stmt (Items → Items) items_step x) ∙ here c r ∙ ap (λ f. f c then r) (sym (fold-roll-Stmt (Items → Items) items_step x)))
+    let here : StandsBefore (items_step (map-Stmt Stmt (Items → Items) items_of x)) =
+    subst (λ z. StandsBefore (items_step (map-Stmt Stmt (Items → Items) items_of z))) is (layer_stands y) in
+    λ c r. ap (λ f. f (c then r)) (fold-roll-Stmt (Items → Items) items_step x) ∙ here c r
+    ∙ ap (λ f. f c then r) (sym (fold-roll-Stmt (Items → Items) items_step x)))
 
-pub all_stand : (ss : List Stmt) (c r : Items) → all_before (map items_of ss) (c then r) ≡ all_before (map items_of ss) c then r
+pub all_stand : (ss : List Stmt) (c r : Items) → all_before (map items_of ss) (c then r)
+    ≡ all_before (map items_of ss) c then r
 all_stand [] c r = refl
 all_stand (s ∷ ss) c r = ap (items_of s) (all_stand ss c r) ∙ stmt_stands s (all_before (map items_of ss) c) r
 
@@ -87,7 +98,8 @@ each_plain : (es : List Plain) → KeepsPlain (all_before (map items_of (map (λ
 each_plain [] r h = h
 each_plain (e ∷ es) r h = e.1 (all_before (map items_of (map (λ e. e.0) es)) r) (each_plain es r h)
 
-layer_plain : (y : Stmt-F Plain) → KeepsPlain (items_step (map-Stmt Stmt (Items → Items) items_of (map-Stmt Plain Stmt (λ e. e.0) y)))
+layer_plain : (y : Stmt-F Plain)
+    → KeepsPlain (items_step (map-Stmt Stmt (Items → Items) items_of (map-Stmt Plain Stmt (λ e. e.0) y)))
 layer_plain (Do-F a line) r h = h
 layer_plain (Branch-F t x y) r h = (each_plain x Done tt, each_plain y Done tt, h)
 layer_plain (While-F t b) r h = (tt, each_plain b Done tt, h)
@@ -97,7 +109,8 @@ layer_plain (Group-F b ps ds m) r h = each_plain b (closes ps ds m r) (closes_pl
 
 pub stmt_plain : (s : Stmt) → KeepsPlain (items_of s)
 stmt_plain = ind-Stmt (λ s. KeepsPlain (items_of s)) (λ x y is.
-    let here : KeepsPlain (items_step (map-Stmt Stmt (Items → Items) items_of x)) = subst (λ z. KeepsPlain (items_step (map-Stmt Stmt (Items → Items) items_of z))) is (layer_plain y) in
+    let here : KeepsPlain (items_step (map-Stmt Stmt (Items → Items) items_of x)) =
+    subst (λ z. KeepsPlain (items_step (map-Stmt Stmt (Items → Items) items_of z))) is (layer_plain y) in
     λ r h. subst (λ f. IsPlain (f r)) (sym (fold-roll-Stmt (Items → Items) items_step x)) (here r h))
 
 pub all_plain : (ss : List Stmt) → KeepsPlain (all_before (map items_of ss))

@@ -1,5 +1,6 @@
 -- Each number of an edge of a lowered program is in range.
-use Rattle.std.proofs.Common.{◌≡◌, ◌<◌, ◌≤◌, ◌+◌, inl, inr, ℕ, zero, suc, Bool, true, false, true≢false, List, [], ◌∷◌, ◌++◌, length, refl, sym, ap, subst, arith, Option, Some, None, is_some}
+use Rattle.std.proofs.Common.{◌≡◌, ◌<◌, ◌≤◌, ◌+◌, inl, inr, ℕ, zero, suc, Bool, true, false, true≢false, List, [], ◌∷◌}
+use Rattle.std.proofs.Common.{◌++◌, length, refl, sym, ap, subst, arith, Option, Some, None, is_some}
 use Rattle.std.specs.Prelude.{nat_eq, if◌then◌else◌}
 use Rattle.std.proofs.lemmas.Bool.{and_parts, ltb-true, leb-true, eq-eqb, eqb-true}
 use Rattle.fore_base.specs.declared.limits.TheConstants.{DATUM}
@@ -13,17 +14,22 @@ use Rattle.c_types.specs.declared.program.DataPath.TheVariants.{Var as DataVar, 
 use Rattle.c_types.specs.declared.program.PtrRhs.{PtrRhs}
 use Rattle.c_types.specs.declared.program.PtrRhs.TheVariants.{Path as RhsPath, Null as RhsNull, New as RhsNew}
 use Rattle.c_types.specs.declared.program.DataRhs.{DataRhs}
-use Rattle.c_types.specs.declared.program.DataRhs.TheVariants.{Path as DataRhsPath, Known as DataRhsKnown, Choice as DataRhsChoice}
+use Rattle.c_types.specs.declared.program.DataRhs.TheVariants.{Path as DataRhsPath, Known as DataRhsKnown}
+use Rattle.c_types.specs.declared.program.DataRhs.TheVariants.{Choice as DataRhsChoice}
 use Rattle.c_types.specs.declared.program.Act.{Act}
-use Rattle.c_types.specs.declared.program.Act.TheVariants.{SetPtr, SetData, Free as FreeAct, Error, Halt, Return, Break, Continue}
+use Rattle.c_types.specs.declared.program.Act.TheVariants.{SetPtr, SetData, Free as FreeAct, Error, Halt, Return, Break}
+use Rattle.c_types.specs.declared.program.Act.TheVariants.{Continue}
 use Rattle.c_types.specs.declared.program.PtrOp.{PtrOp}
 use Rattle.c_types.specs.declared.program.PtrOp.TheVariants.{Path as OpPath, Null as OpNull}
 use Rattle.c_types.specs.declared.program.DataOp.{DataOp}
 use Rattle.c_types.specs.declared.program.DataOp.TheVariants.{Path as DataOpPath, Known as DataOpKnown}
-use Rattle.c_types.specs.declared.program.Atom.TheVariants.{Choice as ChoiceAtom, Known as KnownAtom, Ptr as PtrAtom, Data as DataAtom}
+use Rattle.c_types.specs.declared.program.Atom.TheVariants.{Choice as ChoiceAtom, Known as KnownAtom, Ptr as PtrAtom}
+use Rattle.c_types.specs.declared.program.Atom.TheVariants.{Data as DataAtom}
 use Rattle.c_types.specs.declared.program.VarDef.{VarDef}
-use Rattle.c_types.specs.Program.{Program, path_target, data_typed, data_rhs_typed, returned_typed, ops_typed, data_op_typed, has_datum, is_target, both_targets, is_typed}
-use Rattle.c_types.specs.Control.{Items, Done, Do, Close, If, Loop, Again, DoLoop, DoAgain, Ask, Not, Both, Either, closed_ptrs, closed_datums}
+use Rattle.c_types.specs.Program.{Program, path_target, data_typed, data_rhs_typed, returned_typed, ops_typed}
+use Rattle.c_types.specs.Program.{data_op_typed, has_datum, is_target, both_targets, is_typed}
+use Rattle.c_types.specs.Control.{Items, Done, Do, Close, If, Loop, Again, DoLoop, DoAgain, Ask, Not, Both, Either}
+use Rattle.c_types.specs.Control.{closed_ptrs, closed_datums}
 use Rattle.c_types.specs.Steps.{below}
 use Rattle.c_types.specs.Fits.{var_targets, ActFits}
 use Rattle.c_types.proofs.CellsFit.{IsAt}
@@ -34,13 +40,17 @@ use Rattle.c_cfg.specs.declared.graph.Instr.TheVariants.{Kill, Choose}
 use Rattle.c_cfg.specs.declared.graph.Edge.{Edge}
 use Rattle.c_cfg.specs.Graphs.{ControlGraph, is_choose}
 use Rattle.c_cfg.specs.GraphRuns.{out_of}
-use Rattle.c_cfg.specs.Links.{Link, One, Two, loads, holder, used, loads_but_last, ends, data_loads, data_holder, base_used, data_used, op_loads, op_arg, op_used, data_op_loads, data_op_arg, op_base_used, op_data_used, var_row, path_row, ptr_row, data_var_row, data_field_row, data_row, return_row, act_row}
+use Rattle.c_cfg.specs.Links.{Link, One, Two, loads, holder, used, loads_but_last, ends, data_loads, data_holder}
+use Rattle.c_cfg.specs.Links.{base_used, data_used, op_loads, op_arg, op_used, data_op_loads, data_op_arg, op_base_used}
+use Rattle.c_cfg.specs.Links.{op_data_used, var_row, path_row, ptr_row, data_var_row, data_field_row, data_row}
+use Rattle.c_cfg.specs.Links.{return_row, act_row}
 use Rattle.c_cfg.specs.Places.{places}
 use Rattle.c_cfg.specs.Lowering.{edge, link_edges, LowerOf}
 use Rattle.c_cfg.specs.Ranges.{IsPtrField, IsDataField, PtrArgFits, DataArgFits, InstrFits, EdgeFits, IsEdgeOf}
 use Rattle.c_cfg.proofs.Leaving.{below_in, all_below, PlaceGood, each_location, exit_below, places_below}
 use Rattle.c_cfg.proofs.Landing.{places_lead}
-use Rattle.c_cfg.proofs.Ranged.{numbers_below, Ranged, start_ranged, unmarked, places_ranged, closed_ptrs_below, closed_datums_below}
+use Rattle.c_cfg.proofs.Ranged.{numbers_below, Ranged, start_ranged, unmarked, places_ranged, closed_ptrs_below}
+use Rattle.c_cfg.proofs.Ranged.{closed_datums_below}
 
 -- Structs that agree
 
@@ -69,7 +79,8 @@ targets_long (v ∷ vs) = ap suc (targets_long vs)
 
 fields_are : (shapes : List Shape) (t : ℕ) (fs : List ℕ) (u : ℕ) → Leads shapes t fs u → Every (IsPtrField shapes) fs
 fields_are shapes t [] u h = tt
-fields_are shapes t (f ∷ fs) u h = (record { shape = t; is_there = at_within (targets_of shapes t) f h.0 h.1 }, fields_are shapes h.0 fs u h.2)
+fields_are shapes t (f ∷ fs) u h =
+    (record { shape = t; is_there = at_within (targets_of shapes t) f h.0 h.1 }, fields_are shapes h.0 fs u h.2)
 
 module _ (p : Program) where
   abbrev shapes : List Shape
@@ -92,7 +103,11 @@ module _ (p : Program) where
   path_fits : (q : Path) (t : ℕ) → target q ≡ Some t → PathFits q
   path_fits q t e =
       let lead : PathLeads p q t = path_leads p q t e in
-      record { var = let l = at_within (var_targets p.vars) q.var lead.first lead.is_var in omega (arith, l, targets_long p.vars); fields = fields_are shapes lead.first q.fields t lead.leads_on }
+      record {
+        var = let l = at_within (var_targets p.vars) q.var lead.first lead.is_var in
+            omega (arith, l, targets_long p.vars);
+        fields = fields_are shapes lead.first q.fields t lead.leads_on;
+      }
 
   some_fits : (q : Path) → is_some (target q) ≡ true → PathFits q
   some_fits q e = let some = some_target (target q) e in path_fits q some.0 some.1
@@ -106,7 +121,8 @@ module _ (p : Program) where
   data_fits (DataVar x) e = ltb-true x nd e
   data_fits (DataField base f) e = here (target base) refl e
     where
-      here : (o : Option ℕ) → target base ≡ o → has_datum p.shapes.structs o f ≡ true → PathFits base × IsDataField p.shapes.structs f
+      here : (o : Option ℕ) → target base ≡ o → has_datum p.shapes.structs o f ≡ true → PathFits base
+          × IsDataField p.shapes.structs f
       here None is h = absurd (true≢false (sym h))
       here (Some t) is h = (path_fits base t is, record { shape = t; is_there = ltb-true f (datums_of shapes t) h })
 
@@ -166,13 +182,16 @@ module _ (p : Program) where
   ends_fit [] (d ∷ ds) hp hd = (((hp, hd), refl), tt)
   ends_fit (q ∷ ps) ds hp hd = (((hp, hd), refl), tt)
 
-  last_fits : (t b f : ℕ) (fs : List ℕ) (last : ℕ → ℕ → Instr) → Ptr t → Ptr b → Every (IsPtrField shapes) (f ∷ fs) → ((c g : ℕ) → Ptr c → IsPtrField shapes g → LinkFits (One (last c g))) → All (loads_but_last t b f fs last)
+  last_fits : (t b f : ℕ) (fs : List ℕ) (last : ℕ → ℕ → Instr) → Ptr t → Ptr b → Every (IsPtrField shapes) (f ∷ fs)
+      → ((c g : ℕ) → Ptr c → IsPtrField shapes g → LinkFits (One (last c g))) → All (loads_but_last t b f fs last)
   last_fits t b f [] last ht hb h l = (l b f hb h.0, tt)
   last_fits t b f (g ∷ gs) last ht hb h l = (((ht, hb, h.0), refl), last_fits t t g gs last ht ht h.1 l)
 
   data_loads_fit : (t d : ℕ) (q : DataPath) → Ptr t → Datum d → DataFits q → All (data_loads t d q)
   data_loads_fit t d (DataVar x) ht hd h = tt
-  data_loads_fit t d (DataField base f) ht hd h = more (loads t base.var base.fields) _ (loads_fit t base.var base.fields ht (own base.var h.0.var) h.0.fields) (((hd, holder_fits t base.var base.fields ht (own base.var h.0.var), h.1), refl), tt)
+  data_loads_fit t d (DataField base f) ht hd h =
+      more (loads t base.var base.fields) _ (loads_fit t base.var base.fields ht (own base.var h.0.var) h.0.fields)
+      (((hd, holder_fits t base.var base.fields ht (own base.var h.0.var), h.1), refl), tt)
 
   data_holder_fits : (d : ℕ) (q : DataPath) → Datum d → DataFits q → Datum (data_holder d q)
   data_holder_fits d (DataVar x) hd h = own_datum x h
@@ -197,20 +216,34 @@ module _ (p : Program) where
   var_row_fits : (x : ℕ) (from : PtrRhs) → Ptr x → RhsFits from → All (var_row nv nd x from)
   var_row_fits x (RhsPath q) hx h = by_fields q.fields h.fields
     where
-      by_fields : (fs : List ℕ) → Every (IsPtrField shapes) fs → All (var_row nv nd x (RhsPath (record { var = q.var; fields = fs })))
+      by_fields : (fs : List ℕ) → Every (IsPtrField shapes) fs
+          → All (var_row nv nd x (RhsPath (record { var = q.var; fields = fs })))
       by_fields [] hf = (((hx, own q.var h.var), refl), tt)
-      by_fields (f ∷ fs) hf = more (loads_but_last nv q.var f fs _) _ (last_fits nv q.var f fs _ p0_in (own q.var h.var) hf (λ c g hc hg. ((hx, hc, hg), refl))) (ends_fit _ [] (used_fits nv fs p0_in) tt)
+      by_fields (f ∷ fs) hf = more (loads_but_last nv q.var f fs _) _
+          (last_fits nv q.var f fs _ p0_in (own q.var h.var) hf (λ c g hc hg. ((hx, hc, hg), refl)))
+          (ends_fit _ [] (used_fits nv fs p0_in) tt)
   var_row_fits x RhsNull hx h = (((hx, tt), refl), tt)
   var_row_fits x (RhsNew shape) hx h = (((hx, h), refl), tt)
 
-  path_row_fits : (x f : ℕ) (fs : List ℕ) (from : PtrRhs) → Ptr x → Every (IsPtrField shapes) (f ∷ fs) → RhsFits from → All (path_row nv nd x f fs from)
+  path_row_fits : (x f : ℕ) (fs : List ℕ) (from : PtrRhs) → Ptr x → Every (IsPtrField shapes) (f ∷ fs) → RhsFits from
+      → All (path_row nv nd x f fs from)
   path_row_fits x f fs (RhsPath q) hx hf h =
       more (loads nv q.var q.fields) _ (loads_fit nv q.var q.fields p0_in (own q.var h.var) h.fields)
-      (more (loads_but_last (nv + 1) x f fs _) _ (last_fits (nv + 1) x f fs _ p1_in hx hf (λ c g hc hg. ((hc, hg, holder_fits nv q.var q.fields p0_in (own q.var h.var)), refl)))
-      (ends_fit _ [] (every_append Ptr (used nv q.fields) _ (used_fits nv q.fields p0_in) (used_fits (nv + 1) fs p1_in)) tt))
-  path_row_fits x f fs RhsNull hx hf h = more (loads_but_last (nv + 1) x f fs _) _ (last_fits (nv + 1) x f fs _ p1_in hx hf (λ c g hc hg. ((hc, hg), refl))) (ends_fit _ [] (used_fits (nv + 1) fs p1_in) tt)
-  path_row_fits x f fs (RhsNew shape) hx hf h =
-      (((p0_in, h), refl), more (loads_but_last (nv + 1) x f fs _) _ (last_fits (nv + 1) x f fs _ p1_in hx hf (λ c g hc hg. ((hc, hg, p0_in), refl))) (ends_fit (nv ∷ used (nv + 1) fs) [] (p0_in, used_fits (nv + 1) fs p1_in) tt))
+      (more (loads_but_last (nv + 1) x f fs _) _
+      (last_fits (nv + 1) x f fs _ p1_in hx hf
+      (λ c g hc hg. ((hc, hg, holder_fits nv q.var q.fields p0_in (own q.var h.var)), refl)))
+      (ends_fit _ [] (every_append Ptr (used nv q.fields) _ (used_fits nv q.fields p0_in) (used_fits (nv + 1) fs p1_in))
+      tt))
+  path_row_fits x f fs RhsNull hx hf h =
+      more (loads_but_last (nv + 1) x f fs _) _
+      (last_fits (nv + 1) x f fs _ p1_in hx hf (λ c g hc hg. ((hc, hg), refl)))
+      (ends_fit _ [] (used_fits (nv + 1) fs p1_in) tt)
+  path_row_fits x f fs (RhsNew shape) hx hf h = (
+    ((p0_in, h), refl),
+    more (loads_but_last (nv + 1) x f fs _) _
+        (last_fits (nv + 1) x f fs _ p1_in hx hf (λ c g hc hg. ((hc, hg, p0_in), refl)))
+        (ends_fit (nv ∷ used (nv + 1) fs) [] (p0_in, used_fits (nv + 1) fs p1_in) tt),
+  )
 
   ptr_row_fits : (to : Path) (from : PtrRhs) → PathFits to → RhsFits from → All (ptr_row nv nd to.var to.fields from)
   ptr_row_fits to from hto h = by_fields to.fields hto.fields
@@ -226,23 +259,34 @@ module _ (p : Program) where
 
   data_var_fits : (x : ℕ) (from : DataRhs) → Datum x → DataRhsFits from → All (data_var_row nv nd x from)
   data_var_fits x (DataRhsPath (DataVar y)) hx h = (((hx, own_datum y h), refl), tt)
-  data_var_fits x (DataRhsPath (DataField base f)) hx h = more (data_loads nv x (DataField base f)) _ (data_loads_fit nv x (DataField base f) p0_in hx h) (ends_fit _ [] (used_fits nv base.fields p0_in) tt)
+  data_var_fits x (DataRhsPath (DataField base f)) hx h =
+      more (data_loads nv x (DataField base f)) _ (data_loads_fit nv x (DataField base f) p0_in hx h)
+      (ends_fit _ [] (used_fits nv base.fields p0_in) tt)
   data_var_fits x (DataRhsKnown k) hx h = (((hx, h), refl), tt)
   data_var_fits x DataRhsChoice hx h = ((hx, hx, refl, refl), tt)
 
-  data_field_fits : (base : Path) (f : ℕ) (from : DataRhs) → PathFits base → IsDataField shapes f → DataRhsFits from → All (data_field_row nv nd base f from)
+  data_field_fits : (base : Path) (f : ℕ) (from : DataRhs) → PathFits base → IsDataField shapes f → DataRhsFits from
+      → All (data_field_row nv nd base f from)
   data_field_fits base f (DataRhsPath q) hb hf h =
       let to = holder_fits (nv + 1) base.var base.fields p1_in (own base.var hb.var) in
       more (data_loads nv nd q) _ (data_loads_fit nv nd q p0_in d0_in h)
-      (more (loads (nv + 1) base.var base.fields) _ (loads_fit (nv + 1) base.var base.fields p1_in (own base.var hb.var) hb.fields)
-      (((to, hf, data_holder_fits nd q d0_in h), refl), ends_fit _ _ (every_append Ptr (base_used nv q) _ (base_used_fits nv q p0_in) (used_fits (nv + 1) base.fields p1_in)) (data_used_fits nd q d0_in)))
+      (more (loads (nv + 1) base.var base.fields) _
+      (loads_fit (nv + 1) base.var base.fields p1_in (own base.var hb.var) hb.fields) (
+        ((to, hf, data_holder_fits nd q d0_in h), refl),
+        ends_fit _ _
+            (every_append Ptr (base_used nv q) _ (base_used_fits nv q p0_in) (used_fits (nv + 1) base.fields p1_in))
+            (data_used_fits nd q d0_in),
+      ))
   data_field_fits base f (DataRhsKnown k) hb hf h =
       let to = holder_fits (nv + 1) base.var base.fields p1_in (own base.var hb.var) in
-      more (loads (nv + 1) base.var base.fields) _ (loads_fit (nv + 1) base.var base.fields p1_in (own base.var hb.var) hb.fields) (((to, (hf, h)), refl), ends_fit _ [] (used_fits (nv + 1) base.fields p1_in) tt)
+      more (loads (nv + 1) base.var base.fields) _
+      (loads_fit (nv + 1) base.var base.fields p1_in (own base.var hb.var) hb.fields)
+      (((to, (hf, h)), refl), ends_fit _ [] (used_fits (nv + 1) base.fields p1_in) tt)
   data_field_fits base f DataRhsChoice hb hf h =
       let to = holder_fits (nv + 1) base.var base.fields p1_in (own base.var hb.var) in (
         (d0_in, d0_in, refl, refl),
-        more (loads (nv + 1) base.var base.fields) _ (loads_fit (nv + 1) base.var base.fields p1_in (own base.var hb.var) hb.fields)
+        more (loads (nv + 1) base.var base.fields) _
+            (loads_fit (nv + 1) base.var base.fields p1_in (own base.var hb.var) hb.fields)
             (((to, hf, d0_in), refl), ends_fit _ (nd ∷ []) (used_fits (nv + 1) base.fields p1_in) (d0_in, tt)),
       )
 
@@ -268,18 +312,24 @@ module _ (p : Program) where
 
   module _ (typed : is_typed p ≡ true) where
     rhs_fits : (to : Path) (from : PtrRhs) → ActFits p (SetPtr to from) → PathFits to × RhsFits from
-    rhs_fits to (RhsPath q) e = let both = agreed (target to) (target q) e in (path_fits to both.0 both.1, path_fits q both.0 both.2)
+    rhs_fits to (RhsPath q) e = let both = agreed (target to) (target q) e in
+        (path_fits to both.0 both.1, path_fits q both.0 both.2)
     rhs_fits to RhsNull e = (some_fits to e, tt)
     rhs_fits to (RhsNew shape) e =
-        let is = target_is (target to) shape e in
-        (path_fits to shape is, path_below p to shape (has_shapes_typed p typed) (has_vars_typed p typed) (path_leads p to shape is))
+        let is = target_is (target to) shape e in (
+          path_fits to shape is,
+          path_below p to shape (has_shapes_typed p typed) (has_vars_typed p typed)
+              (path_leads p to shape is),
+        )
 
-    data_rhs_fits : (from : DataRhs) → data_rhs_typed p.shapes.structs p.vars (length p.data_vars) from ≡ true → DataRhsFits from
+    data_rhs_fits : (from : DataRhs) → data_rhs_typed p.shapes.structs p.vars (length p.data_vars) from ≡ true
+        → DataRhsFits from
     data_rhs_fits (DataRhsPath q) e = data_fits q e
     data_rhs_fits (DataRhsKnown k) e = leb-true k DATUM e
     data_rhs_fits DataRhsChoice e = tt
 
-    operand_fits : (operand : Option DataPath) → returned_typed p.shapes.structs p.vars (length p.data_vars) operand ≡ true → OperandFits operand
+    operand_fits : (operand : Option DataPath) → returned_typed p.shapes.structs p.vars (length p.data_vars) operand
+        ≡ true → OperandFits operand
     operand_fits None e = tt
     operand_fits (Some q) e = data_fits q e
 
@@ -287,16 +337,29 @@ module _ (p : Program) where
     wider n ms h = every_weaker (λ m. m < n) (λ m. m < n + 2) ms (λ m l. omega (arith, l)) h
 
     closes_fit : (is : Items) → Ranged p is → All (One (Kill (closed_ptrs is) (closed_datums is)) ∷ [])
-    closes_fit is h = (((wider nv (closed_ptrs is) (closed_ptrs_below p is h), wider nd (closed_datums is) (closed_datums_below p is h)), refl), tt)
+    closes_fit is h = (
+      (
+        (
+          wider nv (closed_ptrs is) (closed_ptrs_below p is h),
+          wider nd (closed_datums is) (closed_datums_below p is h),
+        ),
+        refl,
+      ),
+      tt,
+    )
 
     act_fits : (a : Act) (is : Items) → ActFits p a → Ranged p is → All (act_row nv nd a is)
     act_fits (SetPtr to from) is e h = let both = rhs_fits to from e in ptr_row_fits to from both.0 both.1
     act_fits (SetData to from) is e h =
-        let both = and_parts (data_typed p.shapes.structs p.vars (length p.data_vars) to) (data_rhs_typed p.shapes.structs p.vars (length p.data_vars) from) e in
+        let both = and_parts (data_typed p.shapes.structs p.vars (length p.data_vars) to)
+        (data_rhs_typed p.shapes.structs p.vars (length p.data_vars) from) e in
         data_row_fits to from (data_fits to both.0) (data_rhs_fits from both.1)
     act_fits (FreeAct q) is e h =
         let fit = some_fits q e in
-        more (loads nv q.var q.fields) _ (loads_fit nv q.var q.fields p0_in (own q.var fit.var) fit.fields) ((holder_fits nv q.var q.fields p0_in (own q.var fit.var), refl), ends_fit _ [] (used_fits nv q.fields p0_in) tt)
+        more (loads nv q.var q.fields) _ (loads_fit nv q.var q.fields p0_in (own q.var fit.var) fit.fields) (
+          (holder_fits nv q.var q.fields p0_in (own q.var fit.var), refl),
+          ends_fit _ [] (used_fits nv q.fields p0_in) tt,
+        )
     act_fits Error is e h = ((tt, refl), tt)
     act_fits Halt is e h = ((tt, refl), tt)
     act_fits (Return operand) is e h = return_fits operand (operand_fits operand e)
@@ -310,7 +373,8 @@ module _ (p : Program) where
     OpFits OpNull = Unit {0}
 
     ops_fit : (l r : PtrOp) → ops_typed p.shapes.structs p.vars (length p.data_vars) l r ≡ true → OpFits l × OpFits r
-    ops_fit (OpPath q) (OpPath r) e = let both = agreed (target q) (target r) e in (path_fits q both.0 both.1, path_fits r both.0 both.2)
+    ops_fit (OpPath q) (OpPath r) e = let both = agreed (target q) (target r) e in
+        (path_fits q both.0 both.1, path_fits r both.0 both.2)
     ops_fit (OpPath q) OpNull e = (some_fits q e, tt)
     ops_fit OpNull (OpPath q) e = (tt, some_fits q e)
     ops_fit OpNull OpNull e = (tt, tt)
@@ -339,7 +403,8 @@ module _ (p : Program) where
     data_op_loads_fit t d (DataOpPath q) ht hd h = data_loads_fit t d q ht hd h
     data_op_loads_fit t d (DataOpKnown k) ht hd h = tt
 
-    data_op_arg_fits : (d : ℕ) (o : DataOp) → Datum d → DataOpFits o → DataArgFits (nv + 2) (nd + 2) shapes (data_op_arg d o)
+    data_op_arg_fits : (d : ℕ) (o : DataOp) → Datum d → DataOpFits o
+        → DataArgFits (nv + 2) (nd + 2) shapes (data_op_arg d o)
     data_op_arg_fits d (DataOpPath q) hd h = data_holder_fits d q hd h
     data_op_arg_fits d (DataOpKnown k) hd h = h
 
@@ -361,21 +426,27 @@ module _ (p : Program) where
     place_fits : (c : Items) → Ranged p c → Good c
     place_fits Done h = tt
     place_fits (Do a m is) h = act_fits a is h.0 h.1
-    place_fits (Close ps ds m is) h = ((wider nv ps (numbers_below nv ps h.0), wider nd ds (numbers_below nd ds h.1)), refl)
+    place_fits (Close ps ds m is) h =
+        ((wider nv ps (numbers_below nv ps h.0), wider nd ds (numbers_below nd ds h.1)), refl)
     place_fits (If (Ask ChoiceAtom m) x y is) h = tt
     place_fits (If (Ask (KnownAtom b) m) x y is) h = ((tt, tt), refl)
     place_fits (If (Ask (PtrAtom l r e) m) x y is) h =
         let both = ops_fit l r h.0 in (
           more (op_loads nv l) _ (op_loads_fit nv l p0_in both.0) (op_loads_fit (nv + 1) r p1_in both.1),
           (λ b. ((op_arg_fits nv l p0_in both.0, op_arg_fits (nv + 1) r p1_in both.1), refl)),
-          ends_fit _ [] (every_append Ptr (op_used nv l) _ (op_used_fits nv l p0_in) (op_used_fits (nv + 1) r p1_in)) tt,
+          ends_fit _ [] (every_append Ptr (op_used nv l) _ (op_used_fits nv l p0_in) (op_used_fits (nv + 1) r p1_in))
+              tt,
         )
     place_fits (If (Ask (DataAtom l r e) m) x y is) h =
-        let both = and_parts (data_op_typed p.shapes.structs p.vars (length p.data_vars) l) (data_op_typed p.shapes.structs p.vars (length p.data_vars) r) h.0 in
+        let both = and_parts (data_op_typed p.shapes.structs p.vars (length p.data_vars) l)
+        (data_op_typed p.shapes.structs p.vars (length p.data_vars) r) h.0 in
         let hl = data_op_fits l both.0 in let hr = data_op_fits r both.1 in (
-          more (data_op_loads nv nd l) _ (data_op_loads_fit nv nd l p0_in d0_in hl) (data_op_loads_fit (nv + 1) (nd + 1) r p1_in d1_in hr),
+          more (data_op_loads nv nd l) _ (data_op_loads_fit nv nd l p0_in d0_in hl)
+              (data_op_loads_fit (nv + 1) (nd + 1) r p1_in d1_in hr),
           (λ b. ((data_op_arg_fits nd l d0_in hl, data_op_arg_fits (nd + 1) r d1_in hr), refl)),
-          ends_fit _ _ (every_append Ptr (op_base_used nv l) _ (op_base_fits nv l p0_in) (op_base_fits (nv + 1) r p1_in)) (every_append Datum (op_data_used nd l) _ (op_data_fits nd l d0_in) (op_data_fits (nd + 1) r d1_in)),
+          ends_fit _ _
+              (every_append Ptr (op_base_used nv l) _ (op_base_fits nv l p0_in) (op_base_fits (nv + 1) r p1_in))
+              (every_append Datum (op_data_used nd l) _ (op_data_fits nd l d0_in) (op_data_fits (nd + 1) r d1_in)),
         )
     place_fits (If (Not c) x y is) h = tt
     place_fits (If (Both c d) x y is) h = tt
@@ -401,17 +472,29 @@ module _ (p : Program) (typed : is_typed p ≡ true) (g : ControlGraph) (low : L
 
   link_fits : (line k to : ℕ) (l : Link) → LinkFits p l → In to → Every (HasRange p g) (link_edges line k to l)
   link_fits line k to (One i) h t = ((t, record { instr = h.0; has_its_choice = sym h.1; choice = tt }), tt)
-  link_fits line k to (Two i j) h t = ((t, record { instr = h.0; has_its_choice = sym h.2; choice = omega arith }), ((t, record { instr = h.1; has_its_choice = sym h.3; choice = omega arith }), tt))
+  link_fits line k to (Two i j) h t = (
+    (t, record { instr = h.0; has_its_choice = sym h.2; choice = omega arith }),
+    ((t, record { instr = h.1; has_its_choice = sym h.3; choice = omega arith }), tt),
+  )
 
-  test_fits : (line k a b : ℕ) (t : Bool → Instr) → TestFits p typed t → In a → In b → Every (HasRange p g) (edge line k a (t true) None ∷ edge line k b (t false) None ∷ [])
-  test_fits line k a b t h x y = ((x, record { instr = (h true).0; has_its_choice = sym (h true).1; choice = tt }), ((y, record { instr = (h false).0; has_its_choice = sym (h false).1; choice = tt }), tt))
+  test_fits : (line k a b : ℕ) (t : Bool → Instr) → TestFits p typed t → In a → In b
+      → Every (HasRange p g) (edge line k a (t true) None ∷ edge line k b (t false) None ∷ [])
+  test_fits line k a b t h x y = (
+    (x, record { instr = (h true).0; has_its_choice = sym (h true).1; choice = tt }),
+    ((y, record { instr = (h false).0; has_its_choice = sym (h false).1; choice = tt }), tt),
+  )
 
-  choice_fits : (line k a b : ℕ) → In a → In b → Every (HasRange p g) (edge line k a (Choose None) (Some 0) ∷ edge line k b (Choose None) (Some 1) ∷ [])
-  choice_fits line k a b x y = ((x, record { instr = tt; has_its_choice = refl; choice = omega arith }), ((y, record { instr = tt; has_its_choice = refl; choice = omega arith }), tt))
+  choice_fits : (line k a b : ℕ) → In a → In b
+      → Every (HasRange p g) (edge line k a (Choose None) (Some 0) ∷ edge line k b (Choose None) (Some 1) ∷ [])
+  choice_fits line k a b x y = (
+    (x, record { instr = tt; has_its_choice = refl; choice = omega arith }),
+    ((y, record { instr = tt; has_its_choice = refl; choice = omega arith }), tt),
+  )
 
   in_out : (es : List Edge) (e : Edge) → IsIn e es → IsIn e (out_of es e.from)
   in_out [] e i = absurd i
-  in_out (d ∷ ds) e (inl same) = let here : nat_eq d.from e.from ≡ true = eq-eqb d.from e.from (ap (λ z. z.from) (sym same)) in rw here (inl same)
+  in_out (d ∷ ds) e (inl same) =
+      let here : nat_eq d.from e.from ≡ true = eq-eqb d.from e.from (ap (λ z. z.from) (sym same)) in rw here (inl same)
   in_out (d ∷ ds) e (inr i) = later (nat_eq d.from e.from) (in_out ds e i)
     where
       later : (b : Bool) → IsIn e (out_of ds e.from) → IsIn e (if b then d ∷ out_of ds e.from else out_of ds e.from)
@@ -420,18 +503,23 @@ module _ (p : Program) (typed : is_typed p ≡ true) (g : ControlGraph) (low : L
 
   ranges : (k : ℕ) → Every (HasRange p g) (out_of g.edges k)
   ranges =
-      each_location p g low (λ es. Every (HasRange p g) es) In (LinkFits p) (TestFits p typed) link_fits test_fits choice_fits tt
-      (all_fit p typed (places low.items Done) (places_ranged p low.items Done (unmarked p low.line low.items (subst (Ranged p) (sym low.is_program) (start_ranged p typed))) tt))
+      each_location p g low (λ es. Every (HasRange p g) es) In (LinkFits p) (TestFits p typed) link_fits test_fits
+      choice_fits tt
+      (all_fit p typed (places low.items Done)
+      (places_ranged p low.items Done
+      (unmarked p low.line low.items (subst (Ranged p) (sym low.is_program) (start_ranged p typed))) tt))
       (places_lead In low.at low.items (exit_below p g low) (places_below p g low)) (all_below p g low)
 
   pub edges_in_range : Every (IsEdgeOf g) g.edges
   edges_in_range = in_every (IsEdgeOf g) g.edges (λ e i.
-      let has : HasRange p g e = every_in (HasRange p g) (out_of g.edges e.from) e (ranges e.from) (in_out g.edges e i) in
+      let has : HasRange p g e = every_in (HasRange p g) (out_of g.edges e.from) e (ranges e.from) (in_out g.edges e i)
+      in
       record {
         from = every_in (λ d. d.from < g.locations) g.edges e low.each_from i;
         to = has.0;
         fits = same_numbers has.1;
       })
     where
-      same_numbers : {e : Edge} → EdgeFits (length p.vars + 2) (length p.data_vars + 2) p.shapes.structs e → EdgeFits g.ptrs g.datums g.shapes.structs e
+      same_numbers : {e : Edge} → EdgeFits (length p.vars + 2) (length p.data_vars + 2) p.shapes.structs e
+          → EdgeFits g.ptrs g.datums g.shapes.structs e
       same_numbers {e} h = rw (low.ptrs, low.datums, low.shapes) h

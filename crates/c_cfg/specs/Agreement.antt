@@ -1,4 +1,5 @@
--- When a program and a control graph agree: on any choices they meet the same faults in the same lines, both end, or both want a choice, and the
+-- When a program and a control graph agree: on any choices they meet the same faults in the same lines, both end, or
+-- both want a choice, and the
 -- program does so after no more steps than the graph after edges.
 use Rattle.std.specs.Prelude.{◌≡◌, ◌≤◌, ℕ, List}
 use Rattle.fore_base.specs.declared.fault.Fault.{Fault as Kind}
@@ -30,7 +31,8 @@ pub record Together (P Q : ℕ → Type 0) : Type 0 where
   pub there : (n : ℕ) → P n → (m : ℕ) × Q m
   pub back : (m : ℕ) → Q m → (n : ℕ) × (n ≤ m) × P n
 
--- of a condition on outcomes: some number of steps leads the program to one exactly where some number of edges leads the graph to one
+-- of a condition on outcomes: some number of steps leads the program to one exactly where some number of edges leads
+-- the graph to one
 abbrev pub BothCome : Program → ControlGraph → List ℕ → (Outcome → Type 0) → Type 0
 BothCome p g choices Is = Together (λ n. Is (run p choices n)) (λ m. Is (grun g choices m))
 

@@ -1,5 +1,6 @@
 -- One edge of a control graph on a store: on with another store, into a fault, to the end of the run, or not at all.
-use Rattle.std.specs.Prelude.{ℕ, List, [], ◌∷◌, nat_eq, Bool, true, false, if◌then◌else◌, Option, Some, None, Result, Ok, Err, slice_get}
+use Rattle.std.specs.Prelude.{ℕ, List, [], ◌∷◌, nat_eq, Bool, true, false, if◌then◌else◌, Option, Some, None, Result}
+use Rattle.std.specs.Prelude.{Ok, Err, slice_get}
 use Rattle.fore_base.specs.declared.fault.Fault.{Fault}
 use Rattle.fore_base.specs.declared.fault.Fault.TheVariants.{Leak, Assertion}
 use Rattle.fore_base.specs.declared.shape.Shape.{Shape}
@@ -9,7 +10,8 @@ use Rattle.fore_base.specs.declared.store.Datum.{Datum}
 use Rattle.fore_base.specs.declared.store.Datum.TheVariants.{Known}
 use Rattle.fore_base.specs.declared.store.CellRec.{CellRec}
 use Rattle.fore_base.specs.declared.store.Store.{Store}
-use Rattle.fore_base.specs.Stores.{var_of, datum_of, set_var, set_datum, kill, followed, with_field, with_datum, grown, freed}
+use Rattle.fore_base.specs.Stores.{var_of, datum_of, set_var, set_datum, kill, followed, with_field, with_datum, grown}
+use Rattle.fore_base.specs.Stores.{freed}
 use Rattle.fore_base.specs.Heap.{leaks}
 use Rattle.fore_base.specs.Shapes.{targets_of}
 use Rattle.c_types.specs.Steps.{same_values, same_datums, agrees, blank}
@@ -20,7 +22,8 @@ use Rattle.c_cfg.specs.declared.graph.DataArg.TheVariants.{Var as ArgVar, Known 
 use Rattle.c_cfg.specs.declared.graph.Const.{Const}
 use Rattle.c_cfg.specs.declared.graph.Const.TheVariants.{Null as ConstNull, Known as ConstKnown}
 use Rattle.c_cfg.specs.declared.graph.Instr.{Instr}
-use Rattle.c_cfg.specs.declared.graph.Instr.TheVariants.{CopyPtr, LoadPtr, StorePtr, StoreConst, New, Free, Kill, CopyData, LoadData, StoreData, TestPtr, TestData, Choose, Stop}
+use Rattle.c_cfg.specs.declared.graph.Instr.TheVariants.{CopyPtr, LoadPtr, StorePtr, StoreConst, New, Free, Kill}
+use Rattle.c_cfg.specs.declared.graph.Instr.TheVariants.{CopyData, LoadData, StoreData, TestPtr, TestData, Choose, Stop}
 use Rattle.c_cfg.specs.declared.graph.Edge.{Edge}
 
 -- How an edge goes.
@@ -91,11 +94,13 @@ if_there None next = NotPassed
 abbrev pub stored : List Shape → Store → ℕ → ℕ → Value → Pass
 stored shapes s n f v =
     if_there (field_of s.cells n f)
-    (λ old. if may_stand shapes s.cells n f v then Passed (record s { cells = with_field s.cells n f v }) else NotPassed)
+    (λ old. if may_stand shapes s.cells n f v then Passed (record s { cells = with_field s.cells n f v })
+    else NotPassed)
 
 -- the datum goes into the data field f of the cell n
 abbrev pub stored_datum : Store → ℕ → ℕ → Datum → Pass
-stored_datum s n f d = if_there (datum_field_of s.cells n f) (λ old. Passed (record s { cells = with_datum s.cells n f d }))
+stored_datum s n f d = if_there (datum_field_of s.cells n f)
+    (λ old. Passed (record s { cells = with_datum s.cells n f d }))
 
 abbrev pub stored_const : List Shape → Store → ℕ → ℕ → Const → Pass
 stored_const shapes s n f ConstNull = stored shapes s n f Null
@@ -112,17 +117,21 @@ chosen_to s (Some to) x = set_datum s to (Known x)
 -- an edge without its leak test; x is its choice, where it has one
 abbrev pub raw_step : List Shape → Instr → ℕ → Store → Pass
 raw_step shapes (CopyPtr to from) x s = Passed (set_var s to (arg_of s from))
-raw_step shapes (LoadPtr to b f) x s = onto (followed (var_of s b)) (λ n. if_there (field_of s.cells n f) (λ v. Passed (set_var s to v)))
+raw_step shapes (LoadPtr to b f) x s =
+    onto (followed (var_of s b)) (λ n. if_there (field_of s.cells n f) (λ v. Passed (set_var s to v)))
 raw_step shapes (StorePtr b f from) x s = onto (followed (var_of s b)) (λ n. stored shapes s n f (var_of s from))
 raw_step shapes (StoreConst b f value) x s = onto (followed (var_of s b)) (λ n. stored_const shapes s n f value)
 raw_step shapes (New to shape) x s = Passed (set_var (grown s (blank shapes s.next shape)) to (Cell s.next))
 raw_step shapes (Free from) x s = onto (freed s (var_of s from)) Passed
 raw_step shapes (Kill ptrs datums) x s = Passed (kill ptrs datums s)
 raw_step shapes (CopyData to from) x s = Passed (set_datum s to (data_arg_of s from))
-raw_step shapes (LoadData to b f) x s = onto (followed (var_of s b)) (λ n. if_there (datum_field_of s.cells n f) (λ d. Passed (set_datum s to d)))
+raw_step shapes (LoadData to b f) x s =
+    onto (followed (var_of s b)) (λ n. if_there (datum_field_of s.cells n f) (λ d. Passed (set_datum s to d)))
 raw_step shapes (StoreData b f from) x s = onto (followed (var_of s b)) (λ n. stored_datum s n f (datum_of s from))
-raw_step shapes (TestPtr left right equal) x s = onto (same_values (arg_of s left) (arg_of s right)) (λ same. if_agreed equal same s)
-raw_step shapes (TestData left right equal) x s = onto (same_datums (data_arg_of s left) (data_arg_of s right)) (λ same. if_agreed equal same s)
+raw_step shapes (TestPtr left right equal) x s =
+    onto (same_values (arg_of s left) (arg_of s right)) (λ same. if_agreed equal same s)
+raw_step shapes (TestData left right equal) x s =
+    onto (same_datums (data_arg_of s left) (data_arg_of s right)) (λ same. if_agreed equal same s)
 raw_step shapes (Choose to) x s = Passed (chosen_to s to x)
 raw_step shapes (Stop true) x s = Faulted Assertion
 raw_step shapes (Stop false) x s = Halted

@@ -1,4 +1,5 @@
--- The edges that leave one location: none, one without a choice, two for the choices 0 and 1, or the two of a test. So a list of edges can be read as a
+-- The edges that leave one location: none, one without a choice, two for the choices 0 and 1, or the two of a test. So
+-- a list of edges can be read as a
 -- run: where an edge goes somewhere, no other edge of its location goes elsewhere on its choice.
 use Rattle.std.specs.Prelude.{◌≡◌, ℕ, ◌+◌, List, [], ◌∷◌, ◌++◌, Option, Some, None}
 use Rattle.fore_base.specs.declared.fault.Fault.{Fault as Kind}
@@ -33,19 +34,24 @@ module _ (shapes : List Shape) where
     no_edge : IsFan []
     one_edge : (e : Edge) → e.choice ≡ None → IsFan (e ∷ [])
     choices : (e f : Edge) → e.choice ≡ Some 0 → f.choice ≡ Some 1 → e.line ≡ f.line → IsFan (e ∷ f ∷ [])
-    test : (e f : Edge) → e.choice ≡ None → f.choice ≡ None → e.line ≡ f.line → ((s : Store) → AreOpposed (gstep shapes e s) (gstep shapes f s))
+    test : (e f : Edge) → e.choice ≡ None → f.choice ≡ None → e.line ≡ f.line
+        → ((s : Store) → AreOpposed (gstep shapes e s) (gstep shapes f s))
         → IsFan (e ∷ f ∷ [])
 
-  -- Where e goes somewhere from s, a run that comes to these edges with e's choice before others goes by e: to e's end, into e's fault, or to its end.
+  -- Where e goes somewhere from s, a run that comes to these edges with e's choice before others goes by e: to e's end,
+  -- into e's fault, or to its end.
   abbrev pub GoesBy : List Edge → Edge → Store → Type 0
   GoesBy es e s =
-      (gstep shapes e s ≡ NotPassed → ⊥) → (next : ℕ → ℕ → Store → List ℕ → ℕ → Outcome) (step : ℕ) (cs : List ℕ) (used : ℕ)
+      (gstep shapes e s ≡ NotPassed → ⊥)
+      → (next : ℕ → ℕ → Store → List ℕ → ℕ → Outcome) (step : ℕ) (cs : List ℕ) (used : ℕ)
       → leave shapes es next step s (choice_list e.choice ++ cs) used
-      ≡ after_pass (gstep shapes e s) e.line (step + 1) (λ t. next (step + 1) e.to t cs (used_by e.choice used)) StillRunning
+      ≡ after_pass (gstep shapes e s) e.line (step + 1) (λ t. next (step + 1) e.to t cs (used_by e.choice used))
+      StillRunning
 
   abbrev pub IsPassed : Edge → Store → Type 0
   IsPassed e s = (t : Store) × (gstep shapes e s ≡ Passed t)
 
   -- of these edges at most one of each choice is passed
   abbrev pub AtMostOne : List Edge → Type 0
-  AtMostOne es = (e f : Edge) (s : Store) → IsIn e es → IsIn f es → e.choice ≡ f.choice → IsPassed e s → IsPassed f s → e ≡ f
+  AtMostOne es = (e f : Edge) (s : Store) → IsIn e es → IsIn f es → e.choice ≡ f.choice → IsPassed e s → IsPassed f s
+      → e ≡ f

@@ -36,17 +36,21 @@ abbrev pub at_location : List Edge → ℕ → ℕ → Outcome
 at_location edges k step = unless_left (out_of edges k) step StillRunning
 
 module _ (shapes : List Shape) where
-  -- the first of these edges that is taken on the choice x and goes somewhere; where none does, the run is stuck, and never over
+  -- the first of these edges that is taken on the choice x and goes somewhere; where none does, the run is stuck, and
+  -- never over
   abbrev pub first_pass : List Edge → ℕ → (ℕ → Store → Outcome) → ℕ → Store → Outcome
   first_pass [] x next step s = StillRunning
   first_pass (e ∷ es) x next step s =
-      if is_taken_on x e.choice then after_pass (gstep shapes e s) e.line step (next e.to) (first_pass es x next step s) else first_pass es x next step s
+      if is_taken_on x e.choice then after_pass (gstep shapes e s) e.line step (next e.to) (first_pass es x next step s)
+      else first_pass es x next step s
 
-  -- leaves a location by one of the edges that begin there, after `step` edges; they need a choice if the first of them has one
+  -- leaves a location by one of the edges that begin there, after `step` edges; they need a choice if the first of them
+  -- has one
   abbrev pub leave : List Edge → (ℕ → ℕ → Store → List ℕ → ℕ → Outcome) → ℕ → Store → List ℕ → ℕ → Outcome
   leave [] next step s cs used = Ended step
   leave (e ∷ es) next step s cs used =
-      supply (has_choice e.choice) cs (step + 1) used (λ x ds u. first_pass (e ∷ es) x (λ k t. next (step + 1) k t ds u) (step + 1) s)
+      supply (has_choice e.choice) cs (step + 1) used
+      (λ x ds u. first_pass (e ∷ es) x (λ k t. next (step + 1) k t ds u) (step + 1) s)
 
   module _ (edges : List Edge) (final : ℕ → ℕ → Outcome) where
     -- at most n further edges from the location k, after `step` edges and `used` choices

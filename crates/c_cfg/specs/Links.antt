@@ -6,9 +6,11 @@ use Rattle.c_types.specs.declared.program.DataPath.TheVariants.{Var as DataVar, 
 use Rattle.c_types.specs.declared.program.PtrRhs.{PtrRhs}
 use Rattle.c_types.specs.declared.program.PtrRhs.TheVariants.{Path as RhsPath, Null as RhsNull, New as RhsNew}
 use Rattle.c_types.specs.declared.program.DataRhs.{DataRhs}
-use Rattle.c_types.specs.declared.program.DataRhs.TheVariants.{Path as DataRhsPath, Known as DataRhsKnown, Choice as DataRhsChoice}
+use Rattle.c_types.specs.declared.program.DataRhs.TheVariants.{Path as DataRhsPath, Known as DataRhsKnown}
+use Rattle.c_types.specs.declared.program.DataRhs.TheVariants.{Choice as DataRhsChoice}
 use Rattle.c_types.specs.declared.program.Act.{Act}
-use Rattle.c_types.specs.declared.program.Act.TheVariants.{SetPtr, SetData, Free as FreeAct, Error, Halt, Return, Break, Continue}
+use Rattle.c_types.specs.declared.program.Act.TheVariants.{SetPtr, SetData, Free as FreeAct, Error, Halt, Return, Break}
+use Rattle.c_types.specs.declared.program.Act.TheVariants.{Continue}
 use Rattle.c_types.specs.declared.program.PtrOp.{PtrOp}
 use Rattle.c_types.specs.declared.program.PtrOp.TheVariants.{Path as OpPath, Null as OpNull}
 use Rattle.c_types.specs.declared.program.DataOp.{DataOp}
@@ -21,7 +23,8 @@ use Rattle.c_cfg.specs.declared.graph.DataArg.{DataArg}
 use Rattle.c_cfg.specs.declared.graph.DataArg.TheVariants.{Var as ArgVar, Known as ArgKnown}
 use Rattle.c_cfg.specs.declared.graph.Const.TheVariants.{Null as ConstNull, Known as ConstKnown}
 use Rattle.c_cfg.specs.declared.graph.Instr.{Instr}
-use Rattle.c_cfg.specs.declared.graph.Instr.TheVariants.{CopyPtr, LoadPtr, StorePtr, StoreConst, New, Free, Kill, CopyData, LoadData, StoreData, TestPtr, TestData, Choose, Stop}
+use Rattle.c_cfg.specs.declared.graph.Instr.TheVariants.{CopyPtr, LoadPtr, StorePtr, StoreConst, New, Free, Kill}
+use Rattle.c_cfg.specs.declared.graph.Instr.TheVariants.{CopyData, LoadData, StoreData, TestPtr, TestData, Choose, Stop}
 -- one edge, or the two edges for the choices 0 and 1, from one location to the next
 pub use Rattle.c_cfg.specs.declared.link.Link.{Link}
 pub use Rattle.c_cfg.specs.declared.link.Link.TheVariants.{One, Two}
@@ -57,7 +60,8 @@ ends (p ∷ ps) ds = One (Kill (p ∷ ps) ds) ∷ []
 -- a data field is read into d, its base into t; a data variable needs no edge
 abbrev pub data_loads : ℕ → ℕ → DataPath → List Link
 data_loads t d (DataVar x) = []
-data_loads t d (DataField base f) = loads t base.var base.fields ++ One (LoadData d (holder t base.var base.fields) f) ∷ []
+data_loads t d (DataField base f) = loads t base.var base.fields ++ One (LoadData d (holder t base.var base.fields) f)
+    ∷ []
 
 -- the data variable that then holds the datum
 abbrev pub data_holder : ℕ → DataPath → ℕ
@@ -135,9 +139,11 @@ module _ (nv nd : ℕ) where
   abbrev pub path_row : ℕ → ℕ → List ℕ → PtrRhs → List Link
   path_row x f fs (RhsPath q) =
       loads p0 q.var q.fields
-      ++ (loads_but_last p1 x f fs (λ b g. StorePtr b g (holder p0 q.var q.fields)) ++ ends (used p0 q.fields ++ used p1 fs) [])
+      ++ (loads_but_last p1 x f fs (λ b g. StorePtr b g (holder p0 q.var q.fields))
+      ++ ends (used p0 q.fields ++ used p1 fs) [])
   path_row x f fs RhsNull = loads_but_last p1 x f fs (λ b g. StoreConst b g ConstNull) ++ ends (used p1 fs) []
-  path_row x f fs (RhsNew shape) = One (New p0 shape) ∷ (loads_but_last p1 x f fs (λ b g. StorePtr b g p0) ++ ends (p0 ∷ used p1 fs) [])
+  path_row x f fs (RhsNew shape) =
+      One (New p0 shape) ∷ (loads_but_last p1 x f fs (λ b g. StorePtr b g p0) ++ ends (p0 ∷ used p1 fs) [])
 
   abbrev pub ptr_row : ℕ → List ℕ → PtrRhs → List Link
   ptr_row x [] from = var_row x from
@@ -157,12 +163,15 @@ module _ (nv nd : ℕ) where
   data_field_row base f (DataRhsPath q) =
       data_loads p0 d0 q
       ++ (loads p1 base.var base.fields
-      ++ One (StoreData (holder p1 base.var base.fields) f (data_holder d0 q)) ∷ ends (base_used p0 q ++ used p1 base.fields) (data_used d0 q))
+      ++ One (StoreData (holder p1 base.var base.fields) f (data_holder d0 q))
+      ∷ ends (base_used p0 q ++ used p1 base.fields) (data_used d0 q))
   data_field_row base f (DataRhsKnown k) =
-      loads p1 base.var base.fields ++ One (StoreConst (holder p1 base.var base.fields) f (ConstKnown k)) ∷ ends (used p1 base.fields) []
+      loads p1 base.var base.fields ++ One (StoreConst (holder p1 base.var base.fields) f (ConstKnown k))
+      ∷ ends (used p1 base.fields) []
   data_field_row base f DataRhsChoice =
       Two (Choose (Some d0)) (Choose (Some d0))
-      ∷ (loads p1 base.var base.fields ++ One (StoreData (holder p1 base.var base.fields) f d0) ∷ ends (used p1 base.fields) (d0 ∷ []))
+      ∷ (loads p1 base.var base.fields ++ One (StoreData (holder p1 base.var base.fields) f d0)
+      ∷ ends (used p1 base.fields) (d0 ∷ []))
 
   abbrev pub data_row : DataPath → DataRhs → List Link
   data_row (DataVar x) from = data_var_row x from

@@ -1,14 +1,17 @@
 -- When a control graph is one of a program. Only the numbers of locations are free.
-use Rattle.std.specs.Prelude.{◌≡◌, ◌≤◌, ◌<◌, ℕ, ◌+◌, List, [], ◌∷◌, ◌++◌, length, map, nat_eq, Bool, true, false, Option, Some, None}
+use Rattle.std.specs.Prelude.{◌≡◌, ◌≤◌, ◌<◌, ℕ, ◌+◌, List, [], ◌∷◌, ◌++◌, length, map, nat_eq, Bool, true, false}
+use Rattle.std.specs.Prelude.{Option, Some, None}
 use Rattle.std.specs.List.{list_any}
 use Rattle.std.specs.List.Sorted.{IsPermutation}
 use Rattle.fore_base.specs.Lists.{Every, IsDistinct}
 use Rattle.c_types.specs.declared.program.Act.{Act}
 use Rattle.c_types.specs.declared.program.Act.TheVariants.{SetPtr, SetData, Free, Error, Halt, Return, Break, Continue}
 use Rattle.c_types.specs.declared.program.Atom.{Atom}
-use Rattle.c_types.specs.declared.program.Atom.TheVariants.{Choice as ChoiceAtom, Known as KnownAtom, Ptr as PtrAtom, Data as DataAtom}
+use Rattle.c_types.specs.declared.program.Atom.TheVariants.{Choice as ChoiceAtom, Known as KnownAtom, Ptr as PtrAtom}
+use Rattle.c_types.specs.declared.program.Atom.TheVariants.{Data as DataAtom}
 use Rattle.c_types.specs.Program.{Program}
-use Rattle.c_types.specs.Control.{Items, Done, Do, Close, If, Loop, Again, DoLoop, DoAgain, Ask, Not, Both, Either, ◌then◌, opened, after_again, from_again, start_of}
+use Rattle.c_types.specs.Control.{Items, Done, Do, Close, If, Loop, Again, DoLoop, DoAgain, Ask, Not, Both, Either}
+use Rattle.c_types.specs.Control.{◌then◌, opened, after_again, from_again, start_of}
 use Rattle.c_types.specs.Steps.{below, mark_of}
 use Rattle.c_cfg.specs.declared.graph.Instr.{Instr}
 use Rattle.c_cfg.specs.declared.graph.Instr.TheVariants.{Kill, Choose}
@@ -46,8 +49,10 @@ pub record IsWayOver (edges : List Edge) (line : ℕ) (links : List Link) (k : �
   pub leads : IsWay edges line links k way to
   pub middle : mids ≡ but_last way
 
--- A comparison: the loads from k to `tested`; there the edge for equal, and then the one for not equal; after each of them its own ends.
-pub record IsTestRow (edges : List Edge) (line : ℕ) (loads : List Link) (test : Bool → Instr) (ends : List Link) (k : ℕ) (mids : List ℕ) (same other : ℕ) : Type 0 where
+-- A comparison: the loads from k to `tested`; there the edge for equal, and then the one for not equal; after each of
+-- them its own ends.
+pub record IsTestRow (edges : List Edge) (line : ℕ) (loads : List Link) (test : Bool → Instr) (ends : List Link) (k : ℕ)
+    (mids : List ℕ) (same other : ℕ) : Type 0 where
   pub tested : ℕ
   pub if_same : ℕ
   pub if_other : ℕ
@@ -55,7 +60,8 @@ pub record IsTestRow (edges : List Edge) (line : ℕ) (loads : List Link) (test 
   pub after_same : List ℕ
   pub after_other : List ℕ
   pub reads : IsWay edges line loads k front tested
-  pub compares : out_of edges tested ≡ edge line tested if_same (test true) None ∷ edge line tested if_other (test false) None ∷ []
+  pub compares : out_of edges tested ≡ edge line tested if_same (test true) None
+      ∷ edge line tested if_other (test false) None ∷ []
   pub same_ends : IsWay edges line ends if_same after_same same
   pub other_ends : IsWay edges line ends if_other after_other other
   pub middle : mids ≡ front ++ (but_last (if_same ∷ after_same) ++ but_last (if_other ∷ after_other))
@@ -76,23 +82,34 @@ module _ (nv nd : ℕ) (edges : List Edge) where
   -- the edges of an atom at k whose sides are at `yes'` and `no'`
   abbrev pub IsAtomRow : Atom → ℕ → ℕ → List ℕ → ℕ → ℕ → Type 0
   IsAtomRow ChoiceAtom line k mids yes' no' =
-      (out_of edges k ≡ edge line k no' (Choose None) (Some 0) ∷ edge line k yes' (Choose None) (Some 1) ∷ []) × (mids ≡ [])
-  IsAtomRow (KnownAtom true) line k mids yes' no' = (out_of edges k ≡ edge line k yes' (Kill [] []) None ∷ []) × (mids ≡ [])
-  IsAtomRow (KnownAtom false) line k mids yes' no' = (out_of edges k ≡ edge line k no' (Kill [] []) None ∷ []) × (mids ≡ [])
-  IsAtomRow (PtrAtom l r true) line k mids yes' no' = IsTestRow edges line (ptr_loads nv nd l r) (ptr_test nv nd l r) (ptr_ends nv nd l r) k mids yes' no'
-  IsAtomRow (PtrAtom l r false) line k mids yes' no' = IsTestRow edges line (ptr_loads nv nd l r) (ptr_test nv nd l r) (ptr_ends nv nd l r) k mids no' yes'
-  IsAtomRow (DataAtom l r true) line k mids yes' no' = IsTestRow edges line (cmp_loads nv nd l r) (data_test nv nd l r) (data_ends nv nd l r) k mids yes' no'
-  IsAtomRow (DataAtom l r false) line k mids yes' no' = IsTestRow edges line (cmp_loads nv nd l r) (data_test nv nd l r) (data_ends nv nd l r) k mids no' yes'
+      (out_of edges k ≡ edge line k no' (Choose None) (Some 0) ∷ edge line k yes' (Choose None) (Some 1) ∷ [])
+      × (mids ≡ [])
+  IsAtomRow (KnownAtom true) line k mids yes' no' = (out_of edges k ≡ edge line k yes' (Kill [] []) None ∷ [])
+      × (mids ≡ [])
+  IsAtomRow (KnownAtom false) line k mids yes' no' = (out_of edges k ≡ edge line k no' (Kill [] []) None ∷ [])
+      × (mids ≡ [])
+  IsAtomRow (PtrAtom l r true) line k mids yes' no' =
+      IsTestRow edges line (ptr_loads nv nd l r) (ptr_test nv nd l r) (ptr_ends nv nd l r) k mids yes' no'
+  IsAtomRow (PtrAtom l r false) line k mids yes' no' =
+      IsTestRow edges line (ptr_loads nv nd l r) (ptr_test nv nd l r) (ptr_ends nv nd l r) k mids no' yes'
+  IsAtomRow (DataAtom l r true) line k mids yes' no' =
+      IsTestRow edges line (cmp_loads nv nd l r) (data_test nv nd l r) (data_ends nv nd l r) k mids yes' no'
+  IsAtomRow (DataAtom l r false) line k mids yes' no' =
+      IsTestRow edges line (cmp_loads nv nd l r) (data_test nv nd l r) (data_ends nv nd l r) k mids no' yes'
 
   module _ (line : ℕ → ℕ) (at : Items → ℕ) (mids : Items → List ℕ) where
-    -- At a place begin exactly the edges of its step, which lead to the places where its step leads. (An opened list begins with none of the others.)
+    -- At a place begin exactly the edges of its step, which lead to the places where its step leads. (An opened list
+    -- begins with none of the others.)
     abbrev pub IsRow : Items → Type 0
     IsRow Done = out_of edges (at Done) ≡ []
-    IsRow (Do a m is) = IsWayOver edges (line m) (act_row nv nd a is) (at (Do a m is)) (mids (Do a m is)) (at (opened (followed_by a is)))
+    IsRow (Do a m is) = IsWayOver edges (line m) (act_row nv nd a is) (at (Do a m is)) (mids (Do a m is))
+        (at (opened (followed_by a is)))
     IsRow (Close ps ds m is) =
-        IsWayOver edges (line m) (One (Kill ps ds) ∷ []) (at (Close ps ds m is)) (mids (Close ps ds m is)) (at (opened is))
+        IsWayOver edges (line m) (One (Kill ps ds) ∷ []) (at (Close ps ds m is)) (mids (Close ps ds m is))
+        (at (opened is))
     IsRow (If (Ask a m) x y is) =
-        IsAtomRow a (line m) (at (If (Ask a m) x y is)) (mids (If (Ask a m) x y is)) (at (opened (x then is))) (at (opened (y then is)))
+        IsAtomRow a (line m) (at (If (Ask a m) x y is)) (mids (If (Ask a m) x y is)) (at (opened (x then is)))
+        (at (opened (y then is)))
     IsRow (If (Not c) x y is) = ⊥
     IsRow (If (Both c d) x y is) = ⊥
     IsRow (If (Either c d) x y is) = ⊥
@@ -115,8 +132,10 @@ InOrder (e ∷ es) = Every (λ f. e.from ≤ f.from) es × InOrder es
 abbrev pub is_one_of : List ℕ → ℕ → Bool
 is_one_of ks k = list_any (λ other. nat_eq other k) ks
 
--- The graph is one of the program: each act, atom and Close of the program's items gets a mark of its own, and the mark tells its line. Each pending
--- list has a location. So two places have one location exactly if they are equal as occurrences: joins are shared, a loop is tested at one location, and
+-- The graph is one of the program: each act, atom and Close of the program's items gets a mark of its own, and the mark
+-- tells its line. Each pending
+-- list has a location. So two places have one location exactly if they are equal as occurrences: joins are shared, a
+-- loop is tested at one location, and
 -- there is one exit.
 pub record LowerOf (p : Program) (g : ControlGraph) : Type 0 where
   -- the program's items with marks of their own

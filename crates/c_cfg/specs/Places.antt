@@ -1,6 +1,7 @@
 -- The places of a program: its pending lists that begin with one of its acts, atoms or Closes.
 use Rattle.std.specs.Prelude.{ℕ, List, [], ◌∷◌, ◌++◌}
-use Rattle.c_types.specs.Control.{Items, Done, Do, Close, If, Loop, Again, DoLoop, DoAgain, Test, Ask, Not, Both, Either, ◌then◌, ask, round, do_round}
+use Rattle.c_types.specs.Control.{Items, Done, Do, Close, If, Loop, Again, DoLoop, DoAgain, Test, Ask, Not, Both}
+use Rattle.c_types.specs.Control.{Either, ◌then◌, ask, round, do_round}
 
 -- of a test with these sides that stands before others: one place for each atom
 abbrev pub test_places : Test → Items → Items → Items → List Items
@@ -9,18 +10,24 @@ test_places (Not c) x y r = test_places c y x r
 test_places (Both c d) x y r = test_places c (If d x y Done) y r ++ test_places d x y r
 test_places (Either c d) x y r = test_places c x (If d x y Done) r ++ test_places d x y r
 
--- Of some items that stand before others, whether they can be reached or not. (No program has an Again among its own items.)
+-- Of some items that stand before others, whether they can be reached or not. (No program has an Again among its own
+-- items.)
 abbrev pub places : Items → Items → List Items
 places Done r = []
 places (Do a m is) r = Do a m (is then r) ∷ places is r
 places (Close ps ds m is) r = Close ps ds m (is then r) ∷ places is r
-places (If c x y is) r = test_places c x y (is then r) ++ (places x (is then r) ++ (places y (is then r) ++ places is r))
+places (If c x y is) r = test_places c x y (is then r)
+    ++ (places x (is then r) ++ (places y (is then r) ++ places is r))
 places (Loop c n b is) r =
-    test_places c (round c n b) Done (is then r) ++ (places b (Again c n b (is then r)) ++ (places n (Loop c n b (is then r)) ++ places is r))
+    test_places c (round c n b) Done (is then r)
+    ++ (places b (Again c n b (is then r)) ++ (places n (Loop c n b (is then r)) ++ places is r))
 places (Again c n b is) r =
-    places n (Loop c n b (is then r)) ++ (test_places c (round c n b) Done (is then r) ++ (places b (Again c n b (is then r)) ++ places is r))
-places (DoLoop c b is) r = places b (DoAgain c b (is then r)) ++ (test_places c (do_round c b) Done (is then r) ++ places is r)
-places (DoAgain c b is) r = test_places c (do_round c b) Done (is then r) ++ (places b (DoAgain c b (is then r)) ++ places is r)
+    places n (Loop c n b (is then r))
+    ++ (test_places c (round c n b) Done (is then r) ++ (places b (Again c n b (is then r)) ++ places is r))
+places (DoLoop c b is) r = places b (DoAgain c b (is then r))
+    ++ (test_places c (do_round c b) Done (is then r) ++ places is r)
+places (DoAgain c b is) r = test_places c (do_round c b) Done (is then r)
+    ++ (places b (DoAgain c b (is then r)) ++ places is r)
 
 -- the loop heads: the places at which the step of the first atom of a loop's condition begins
 abbrev pub heads : Items → Items → List Items
@@ -29,13 +36,16 @@ heads (Do a m is) r = heads is r
 heads (Close ps ds m is) r = heads is r
 heads (If c x y is) r = heads x (is then r) ++ (heads y (is then r) ++ heads is r)
 heads (Loop c n b is) r =
-    ask c (round c n b) Done (is then r) ∷ (heads b (Again c n b (is then r)) ++ (heads n (Loop c n b (is then r)) ++ heads is r))
+    ask c (round c n b) Done (is then r)
+    ∷ (heads b (Again c n b (is then r)) ++ (heads n (Loop c n b (is then r)) ++ heads is r))
 heads (Again c n b is) r =
-    ask c (round c n b) Done (is then r) ∷ (heads n (Loop c n b (is then r)) ++ (heads b (Again c n b (is then r)) ++ heads is r))
+    ask c (round c n b) Done (is then r)
+    ∷ (heads n (Loop c n b (is then r)) ++ (heads b (Again c n b (is then r)) ++ heads is r))
 heads (DoLoop c b is) r = ask c (do_round c b) Done (is then r) ∷ (heads b (DoAgain c b (is then r)) ++ heads is r)
 heads (DoAgain c b is) r = ask c (do_round c b) Done (is then r) ∷ (heads b (DoAgain c b (is then r)) ++ heads is r)
 
--- The items with other marks. Where each act, atom and Close has a mark of its own, two equal pending lists are the same occurrences in the text.
+-- The items with other marks. Where each act, atom and Close has a mark of its own, two equal pending lists are the
+-- same occurrences in the text.
 
 abbrev pub remark_test : (ℕ → ℕ) → Test → Test
 remark_test f (Ask a m) = Ask a (f m)

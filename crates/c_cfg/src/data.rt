@@ -1,6 +1,7 @@
 // The links of assignments to data.
 ghost use Rattle.std.specs.Prelude.{◌≡◌, ◌+◌, ◌++◌, Some, OnOk};
-ghost use Rattle.c_types.specs.declared.program.DataRhs.TheVariants.{Path as RhsPath, Known as RhsKnown, Choice as RhsChoice};
+ghost use Rattle.c_types.specs.declared.program.DataRhs.TheVariants.{Path as RhsPath, Known as RhsKnown};
+ghost use Rattle.c_types.specs.declared.program.DataRhs.TheVariants.{Choice as RhsChoice};
 ghost use Rattle.c_cfg.specs.inner.Counted.{data_links, data_var_links, data_field_links, store_links, choice_links};
 
 use crate::arrows::{add, end_with, holder, load_all, note_used};

@@ -128,7 +128,8 @@ pub struct Edge {
 
 /// A control graph. Its locations are the numbers below `locations`, and 0 is the entry.
 ///
-/// There is at least one location, there are fewer than 2^32 edges, `heads` has one entry for each location, and an edge has a choice exactly if it
+/// There is at least one location, there are fewer than 2^32 edges, `heads` has one entry for each location, and an
+/// edge has a choice exactly if it
 /// is a `Choose`.
 #[derive(Debug, Drop)]
 pub struct Graph {
@@ -151,9 +152,25 @@ impl Model for Graph {
 
     ghost Value = { ControlGraph };
 
-    ghost view = { λ g. record { locations = g.locations; ptrs = g.ptrs; datums = g.datums; edges = g.edges; heads = g.heads; shapes = g.shapes } };
+    ghost view = { λ g. record {
+      locations = g.locations;
+      ptrs = g.ptrs;
+      datums = g.datums;
+      edges = g.edges;
+      heads = g.heads;
+      shapes = g.shapes;
+    } };
 
-    ghost invariant = { λ g. IsGraph (record { locations = g.locations; ptrs = g.ptrs; datums = g.datums; edges = g.edges; heads = g.heads; shapes = g.shapes }) };
+    ghost invariant = { λ g.
+        IsGraph
+        (record {
+          locations = g.locations;
+          ptrs = g.ptrs;
+          datums = g.datums;
+          edges = g.edges;
+          heads = g.heads;
+          shapes = g.shapes;
+        }) };
 }
 
 impl Graph {

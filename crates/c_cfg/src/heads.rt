@@ -61,7 +61,8 @@ impl Site {
         Ok(())
     }
 
-    /// The entries of `heads` for a program with this body, whose first location is 0: one for each location, with the exit.
+    /// The entries of `heads` for a program with this body, whose first location is 0: one for each location, with the
+    /// exit.
     pub fn head_entries(&self, body: &[Stmt]) -> Mem<List<bool>>
         ensures { IfOk result (λ entries. entries ≡ entries_of self.now body.now) }
     {

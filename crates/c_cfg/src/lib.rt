@@ -1,7 +1,9 @@
 //! Control graphs: what they are, how a run goes over their edges, and the graph of a program.
 //!
-//! `graph` has the types. A graph's edges are those of a program's steps, by one table: each assignment with its loads and its store, each test
-//! with an edge for either outcome. `specs/` has the definitions: one edge on a store, a run of a graph, and when a graph is one of a program.
+//! `graph` has the types. A graph's edges are those of a program's steps, by one table: each assignment with its loads
+//! and its store, each test
+//! with an edge for either outcome. `specs/` has the definitions: one edge on a store, a run of a graph, and when a
+//! graph is one of a program.
 #![tactic(auto)]
 
 mod acts;

@@ -15,7 +15,9 @@ use fore_base::list::{Copies, List};
 use fore_base::memory::Mem;
 use std::alloc::Global;
 
-/// The control graph of a program. On any choices both meet the same faults in the same lines, both end, or both want a choice. The graph's locations are numbered in order of the text, those in the middle of a step after the one at which it begins,
+/// The control graph of a program. On any choices both meet the same faults in the same lines, both end, or both want a
+/// choice. The graph's locations are numbered in order of the text, those in the middle of a step after the one at
+/// which it begins,
 /// and the exit is the last.
 ///
 /// # Errors

@@ -1,6 +1,7 @@
 // The links of data paths and of operands of comparisons.
 ghost use Rattle.std.specs.Prelude.{◌≡◌, ◌++◌, OnOk};
-ghost use Rattle.c_cfg.specs.Links.{data_loads, data_holder, base_used, data_used, op_loads, op_arg, op_used, data_op_loads, data_op_arg, op_base_used, op_data_used};
+ghost use Rattle.c_cfg.specs.Links.{data_loads, data_holder, base_used, data_used, op_loads, op_arg, op_used};
+ghost use Rattle.c_cfg.specs.Links.{data_op_loads, data_op_arg, op_base_used, op_data_used};
 
 use crate::arrows::{add, holder, load_all, note_used};
 use crate::graph::{DataArg, Instr, PtrArg};

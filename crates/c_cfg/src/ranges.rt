@@ -3,7 +3,8 @@ ghost use Rattle.std.specs.Prelude.{◌≡◌, ◌<◌, ◌↔◌, length, IsTru
 ghost use Rattle.fore_base.specs.Lists.{Every};
 ghost use Rattle.fore_base.specs.Shapes.{targets_in, datums_in};
 ghost use Rattle.c_cfg.specs.Graphs.{has_choice, is_choose};
-ghost use Rattle.c_cfg.specs.Ranges.{IsPtrField, IsDataField, PtrArgFits, DataArgFits, ConstFits, TargetFits, ChoiceFits, InstrFits, EdgeFits, IsEdgeOf};
+ghost use Rattle.c_cfg.specs.Ranges.{IsPtrField, IsDataField, PtrArgFits, DataArgFits, ConstFits, TargetFits};
+ghost use Rattle.c_cfg.specs.Ranges.{ChoiceFits, InstrFits, EdgeFits, IsEdgeOf};
 
 use crate::graph::{Const, DataArg, Edge, Graph, Instr, PtrArg};
 use fore_base::limits::DATUM;
@@ -42,7 +43,8 @@ fn is_edge_of(graph: &Graph, edge: &Edge) -> bool
         )
 }
 
-/// Whether each number of the edge but its locations is in range for so many pointer and data variables and these structs, and a choice is there exactly on a `Choose`.
+/// Whether each number of the edge but its locations is in range for so many pointer and data variables and these
+/// structs, and a choice is there exactly on a `Choose`.
 pub fn fits(edge: &Edge, ptrs: usize, datums: usize, structs: &[Shape]) -> bool
     ensures { IsTrue result ↔ EdgeFits ptrs datums structs.now edge.now }
 {

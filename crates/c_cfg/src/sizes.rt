@@ -1,6 +1,8 @@
 // How many edges acts and tests have, by the lengths of their paths.
 ghost use Rattle.std.specs.Prelude.{◌≡◌, ◌+◌, length, IfOk};
-ghost use Rattle.c_cfg.specs.inner.Sizes.{end_size, step_size, path_size, var_size, field_size, ptr_size, read_size, datum_size, data_var_size, data_field_size, data_size, return_size, act_size, test_size, op_size, data_op_size, atom_size};
+ghost use Rattle.c_cfg.specs.inner.Sizes.{end_size, step_size, path_size, var_size, field_size, ptr_size, read_size};
+ghost use Rattle.c_cfg.specs.inner.Sizes.{datum_size, data_var_size, data_field_size, data_size, return_size, act_size};
+ghost use Rattle.c_cfg.specs.inner.Sizes.{test_size, op_size, data_op_size, atom_size};
 
 use crate::sums::{count, sum};
 use c_types::program::{Act, Atom, DataOp, DataPath, DataRhs, Path, PtrOp, PtrRhs};

@@ -1,7 +1,8 @@
 // The edges of statements.
 ghost use Rattle.std.specs.Prelude.{◌≡◌, ◌<◌, ◌+◌, ◌++◌, drop, length, OnOk, IfOk};
 ghost use Rattle.c_cfg.specs.inner.Emitting.{act_to, close_edges};
-ghost use Rattle.c_cfg.specs.inner.Sites.{act_edges, stmt_edges, all_edges, branch_test, branch_spans, loop_test, loop_spans, do_span, do_test, group_spans};
+ghost use Rattle.c_cfg.specs.inner.Sites.{act_edges, stmt_edges, all_edges, branch_test, branch_spans, loop_test};
+ghost use Rattle.c_cfg.specs.inner.Sites.{loop_spans, do_span, do_test, group_spans};
 
 use crate::acts::act_links;
 use crate::around::Around;
@@ -148,7 +149,8 @@ impl Site {
         })
     }
 
-    /// Adds the test of a `while` or `for`, and tells where its body stands and where what is done between the rounds does.
+    /// Adds the test of a `while` or `for`, and tells where its body stands and where what is done between the rounds
+    /// does.
     fn add_loop(
         &self,
         edges: &mut List<Edge>,

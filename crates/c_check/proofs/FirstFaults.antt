@@ -1,17 +1,20 @@
 -- The first fault so far, in the end, is the first fault.
-use Rattle.std.proofs.Common.{◌≡◌, ◌≢◌, ◌⊎◌, inl, inr, Bool, true, false, true≢false, cond, List, [], ◌∷◌, Some, None, Result, Ok, Err, IfOk, IfErr, refl, sym, ap, ◌∙◌, subst}
+use Rattle.std.proofs.Common.{◌≡◌, ◌≢◌, ◌⊎◌, inl, inr, Bool, true, false, true≢false, cond, List, [], ◌∷◌, Some, None}
+use Rattle.std.proofs.Common.{Result, Ok, Err, IfOk, IfErr, refl, sym, ap, ◌∙◌, subst}
 use Rattle.fore_base.specs.Lists.{IsIn}
 use Rattle.c_ast.specs.declared.items.Unit as whole
 use Rattle.c_types.specs.Program.{Program}
 use Rattle.c_typing.specs.Orders.{before}
 use Rattle.c_typing.specs.Typing.{IsFirst, IsFirstFault, TypedOf}
-use Rattle.c_typing.proofs.TypingLaws.{first_there, level_faults, one_first, one_first_fault, one_program, typed_or_fault}
+use Rattle.c_typing.proofs.TypingLaws.{first_there, level_faults, one_first, one_first_fault, one_program}
+use Rattle.c_typing.proofs.TypingLaws.{typed_or_fault}
 use Rattle.c_typing.specs.declared.fault.TypeFault.{TypeFault}
 use Rattle.c_typing.specs.declared.fault.TypeFault.TheVariants.{Rule, Limit, Memory}
 use Rattle.c_check.specs.inner.First.{earlier_of, first_from}
 
 -- the first of a list with two in front is the first with the earlier of these in front
-kept : (d x : TypeFault) (xs : List TypeFault) (f : TypeFault) → IsFirst f (d ∷ x ∷ xs) → IsFirst f (cond (before x d) x d ∷ xs)
+kept : (d x : TypeFault) (xs : List TypeFault) (f : TypeFault) → IsFirst f (d ∷ x ∷ xs)
+    → IsFirst f (cond (before x d) x d ∷ xs)
 kept d x xs f p = by (before x d) refl
   where
     by : (b : Bool) → before x d ≡ b → IsFirst f (cond b x d ∷ xs)
@@ -24,7 +27,8 @@ kept d x xs f p = by (before x d) refl
       where
         placed : IsIn f (d ∷ x ∷ xs) → IsIn f (d ∷ xs)
         placed (inl is) = inl is
-        placed (inr (inl is)) = inl (is ∙ sym (level_faults d x (subst (λ (c : TypeFault). before d c ≡ false) is p.1.0) i))
+        placed (inr (inl is)) = inl
+            (is ∙ sym (level_faults d x (subst (λ (c : TypeFault). before d c ≡ false) is p.1.0) i))
         placed (inr (inr later)) = inr later
 
 only : (d f : TypeFault) → IsFirst f (d ∷ []) → IsFirst d (d ∷ [])
@@ -42,7 +46,8 @@ found_among [] d e h =
 found_among (x ∷ xs) d e h =
     let least : IsFirst e (earlier_of (Some d) x ∷ xs) = found_among xs (earlier_of (Some d) x) e h in
     let f : (f : TypeFault) × IsFirst f (d ∷ x ∷ xs) = first_there d (x ∷ xs) in
-    subst (λ (c : TypeFault). IsFirst c (d ∷ x ∷ xs)) (one_first (earlier_of (Some d) x ∷ xs) f.0 e (kept d x xs f.0 f.1) least) f.1
+    subst (λ (c : TypeFault). IsFirst c (d ∷ x ∷ xs))
+    (one_first (earlier_of (Some d) x ∷ xs) f.0 e (kept d x xs f.0 f.1) least) f.1
 
 pub found_first : (es : List TypeFault) (e : TypeFault) → first_from None es ≡ Some e → IsFirst e es
 found_first [] e h = cc
@@ -67,12 +72,14 @@ memory Memory = inl refl
 abbrev pub IsAnswer : whole.Unit → TypeFault → Type 0
 IsAnswer u e = (e ≡ Memory) ⊎ IsFirstFault u e
 
-pub types_all : (u : whole.Unit) (r : Result Program TypeFault) → IfOk r (TypedOf u) → IfErr r (IsAnswer u) → (p : Program) → TypedOf u p → (r ≡ Ok p) ⊎ (r ≡ Err Memory)
+pub types_all : (u : whole.Unit) (r : Result Program TypeFault) → IfOk r (TypedOf u) → IfErr r (IsAnswer u)
+    → (p : Program) → TypedOf u p → (r ≡ Ok p) ⊎ (r ≡ Err Memory)
 types_all u (Ok q) ok err p typed = inl (ap (λ w. Ok w) (one_program u q p ok typed))
 types_all u (Err e) ok (inl h) p typed = inr (ap (λ d. Err d) h)
 types_all u (Err e) ok (inr first) p typed = absurd (typed_or_fault u p e typed first)
 
-pub finds_all : (u : whole.Unit) (r : Result Program TypeFault) → IfOk r (TypedOf u) → IfErr r (IsAnswer u) → (e : TypeFault) → IsFirstFault u e → (r ≡ Err e) ⊎ (r ≡ Err Memory)
+pub finds_all : (u : whole.Unit) (r : Result Program TypeFault) → IfOk r (TypedOf u) → IfErr r (IsAnswer u)
+    → (e : TypeFault) → IsFirstFault u e → (r ≡ Err e) ⊎ (r ≡ Err Memory)
 finds_all u (Ok q) ok err e first = absurd (typed_or_fault u q e ok first)
 finds_all u (Err d) ok (inl h) e first = inr (ap (λ f. Err f) h)
 finds_all u (Err d) ok (inr one) e first = inl (ap (λ f. Err f) (one_first_fault u d e one first))

@@ -3,6 +3,7 @@ use Rattle.std.proofs.Common.{◌≡◌, List, [], ◌∷◌, ◌++◌, Option, 
 use Rattle.c_typing.specs.declared.fault.TypeFault.{TypeFault}
 use Rattle.c_check.specs.inner.First.{earlier_of, first_from}
 
-pub first_from-append : (found : Option TypeFault) (xs ys : List TypeFault) → first_from found (xs ++ ys) ≡ first_from (first_from found xs) ys
+pub first_from-append : (found : Option TypeFault) (xs ys : List TypeFault) → first_from found (xs ++ ys)
+    ≡ first_from (first_from found xs) ys
 first_from-append found [] ys = refl
 first_from-append found (x ∷ xs) ys = first_from-append (Some (earlier_of found x)) xs ys

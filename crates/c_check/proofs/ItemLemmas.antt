@@ -18,26 +18,32 @@ use Rattle.c_check.proofs.MeetingLemmas.{one, two}
 
 module _ (g : Globals) (found : Option TypeFault) where
   pub noted-Struct : (n : Name) (earlier : List Text) (count : ℕ) →
-      noted g found (Defines Struct n earlier count) ≡ noted_when (nat_eq count STRUCTS) (Limit 2 n.at) (noted_when (has n.text earlier) (Rule 5 n.at) found)
+      noted g found (Defines Struct n earlier count)
+      ≡ noted_when (nat_eq count STRUCTS) (Limit 2 n.at) (noted_when (has n.text earlier) (Rule 5 n.at) found)
   noted-Struct n earlier count = two g found _ _ _ _ _ (breaching.at-Struct g n earlier count)
 
   pub noted-Member : (n : Name) (earlier : List Text) (count : ℕ) →
-      noted g found (Defines Member n earlier count) ≡ noted_when (nat_eq count FIELDS) (Limit 3 n.at) (noted_when (has n.text earlier) (Rule 5 n.at) found)
+      noted g found (Defines Member n earlier count)
+      ≡ noted_when (nat_eq count FIELDS) (Limit 3 n.at) (noted_when (has n.text earlier) (Rule 5 n.at) found)
   noted-Member n earlier count = two g found _ _ _ _ _ (breaching.at-Member g n earlier count)
 
   pub noted-Value : (n : Name) (earlier : List Text) (count : ℕ) →
-      noted g found (Defines Value n earlier count) ≡ noted_when (nat_eq count ENUMERATORS) (Limit 5 n.at) (noted_when (has n.text earlier) (Rule 5 n.at) found)
+      noted g found (Defines Value n earlier count)
+      ≡ noted_when (nat_eq count ENUMERATORS) (Limit 5 n.at) (noted_when (has n.text earlier) (Rule 5 n.at) found)
   noted-Value n earlier count = two g found _ _ _ _ _ (breaching.at-Value g n earlier count)
 
-  pub noted-Enum : (n : Name) (earlier : List Text) (count : ℕ) → noted g found (Defines Enum n earlier count) ≡ noted_when (has n.text earlier) (Rule 5 n.at) found
+  pub noted-Enum : (n : Name) (earlier : List Text) (count : ℕ) → noted g found (Defines Enum n earlier count)
+      ≡ noted_when (has n.text earlier) (Rule 5 n.at) found
   noted-Enum n earlier count = one g found _ _ _ (breaching.at-Enum g n earlier count)
 
-  pub noted-Declares : (h : Head) → noted g found (Declares h) ≡ noted_when (not (is_allowed_head h)) (Rule 15 h.name.at) found
+  pub noted-Declares : (h : Head) → noted g found (Declares h)
+      ≡ noted_when (not (is_allowed_head h)) (Rule 15 h.name.at) found
   noted-Declares h = one g found _ _ _ (breaching.at-Declares g h)
 
   pub noted-Functions : (main : Bool) (h : Head) →
       noted g found (Functions main h)
-      ≡ noted_when (not main && (is_main h && not (is_main_head h))) (Rule 15 h.name.at) (noted_when (main || not (is_main h)) (Rule 13 h.name.at) found)
+      ≡ noted_when (not main && (is_main h && not (is_main_head h))) (Rule 15 h.name.at)
+      (noted_when (main || not (is_main h)) (Rule 13 h.name.at) found)
   noted-Functions main h = two g found _ _ _ _ _ (breaching.at-Functions g main h)
 
   pub noted-Globally : (n : Name) → noted g found (Globally n) ≡ noted_when true (Rule 14 n.at) found
@@ -46,8 +52,19 @@ module _ (g : Globals) (found : Option TypeFault) where
   pub noted-Ends : (main : Bool) (at : Place) → noted g found (Ends main at) ≡ noted_when (not main) (Rule 12 at) found
   noted-Ends main at = one g found _ _ _ (breaching.at-Ends g main at)
 
-  pub noted-Overflows : (over : Option Place) → noted g found (Overflows over) ≡ first_from found (fault_at (Limit 8) over)
+  pub noted-Overflows : (over : Option Place) → noted g found (Overflows over)
+      ≡ first_from found (fault_at (Limit 8) over)
   unfolding noted
   noted-Overflows over = ap (first_from found) (breaching.at-Overflows g over)
 
-pub ruleset sites = (noted-Struct, noted-Member, noted-Value, noted-Enum, noted-Declares, noted-Functions, noted-Globally, noted-Ends, noted-Overflows)
+pub ruleset sites = (
+  noted-Struct,
+  noted-Member,
+  noted-Value,
+  noted-Enum,
+  noted-Declares,
+  noted-Functions,
+  noted-Globally,
+  noted-Ends,
+  noted-Overflows,
+)

@@ -1,5 +1,6 @@
 -- To keep each name once, with how many definitions there were, is to keep them all.
-use Rattle.std.proofs.Common.{◌≡◌, ℕ, suc, ◌+◌, Bool, true, false, not, ◌&&◌, ◌||◌, cond, List, [], ◌∷◌, ◌++◌, map, length, Option, Some, None, refl, sym, ap, subst, ◌∙◌, arith, nat_eq}
+use Rattle.std.proofs.Common.{◌≡◌, ℕ, suc, ◌+◌, Bool, true, false, not, ◌&&◌, ◌||◌, cond, List, [], ◌∷◌, ◌++◌, map}
+use Rattle.std.proofs.Common.{length, Option, Some, None, refl, sym, ap, subst, ◌∙◌, arith, nat_eq}
 use Rattle.std.specs.Cmp.Lexicographic.{bytes_decides}
 use Rattle.fore_base.specs.declared.limits.TheConstants.{STRUCTS, FIELDS, ENUMERATORS}
 use Rattle.c_ast.specs.declared.items.Field.{Field}
@@ -8,14 +9,18 @@ use Rattle.c_ast.specs.declared.items.Item.TheVariants as item
 use Rattle.c_ast.specs.declared.items.Unit as whole
 use Rattle.c_ast.specs.declared.operands.Name.{Name}
 use Rattle.c_typing.specs.Globals.{Globals, text_of}
-use Rattle.c_typing.specs.ItemSites.{Seen, nothing_seen, structs_seen, seen_after, all_seen, member_sites, field_type_sites, names_of, fields_sites, value_sites, struct_sites, item_sites, items_sites, head_sites, body_sites, unit_sites}
+use Rattle.c_typing.specs.ItemSites.{Seen, nothing_seen, structs_seen, seen_after, all_seen, member_sites}
+use Rattle.c_typing.specs.ItemSites.{field_type_sites, names_of, fields_sites, value_sites, struct_sites, item_sites}
+use Rattle.c_typing.specs.ItemSites.{items_sites, head_sites, body_sites, unit_sites}
 use Rattle.c_typing.specs.Profile.{is_main}
 use Rattle.c_typing.specs.Sites.{Struct, Enum, Value, Member, Site, Defines, Functions, Ends, Overflows}
 use Rattle.c_typing.specs.Texts.{Text, has, same}
 use Rattle.c_typing.specs.declared.fault.TypeFault.{TypeFault}
 use Rattle.c_typing.specs.declared.fault.TypeFault.TheVariants.{Rule, Limit}
 use Rattle.c_check.specs.declared.definitions.Seen as kept
-use Rattle.c_check.specs.inner.Items.{with_name, with_names, kept_member_sites, kept_fields_sites, kept_value_sites, kept_struct_sites, kept_structs, kept_after, kept_item_sites, kept_items_sites, is_main_item, any_main, nothing_kept}
+use Rattle.c_check.specs.inner.Items.{with_name, with_names, kept_member_sites, kept_fields_sites, kept_value_sites}
+use Rattle.c_check.specs.inner.Items.{kept_struct_sites, kept_structs, kept_after, kept_item_sites, kept_items_sites}
+use Rattle.c_check.specs.inner.Items.{is_main_item, any_main, nothing_kept}
 use Rattle.c_check.specs.inner.Meeting.{met, noted, noted_when}
 use Rattle.c_check.proofs.ItemLemmas.{noted-Struct, noted-Member, noted-Value, noted-Enum}
 use Rattle.c_check.proofs.MeetingLemmas.{met-append, met-cons, met-one}
@@ -51,9 +56,11 @@ has_with_name x y names = by (has y names) refl
     by true e = there (has x names) (same x y) (λ h. ap (λ (z : Text). has z names) ((bytes_decides x y).0 h) ∙ e)
     by false e = has_append x names (y ∷ []) ∙ ap (λ b. has x names || b) (has_one x y)
 
-alike_more : (names earlier : List Text) (y : Text) → Alike names earlier → Alike (with_name names y) (earlier ++ y ∷ [])
+alike_more : (names earlier : List Text) (y : Text) → Alike names earlier
+    → Alike (with_name names y) (earlier ++ y ∷ [])
 alike_more names earlier y h = record {
-  same_names = λ x. has_with_name x y names ∙ ap (λ b. b || same x y) (h.same_names x) ∙ ap (λ b. has x earlier || b) (sym (has_one x y)) ∙ sym (has_append x earlier (y ∷ []));
+  same_names = λ x. has_with_name x y names ∙ ap (λ b. b || same x y) (h.same_names x)
+      ∙ ap (λ b. has x earlier || b) (sym (has_one x y)) ∙ sym (has_append x earlier (y ∷ []));
 }
 
 append_one : (xs : List Text) (y : Text) (zs : List Text) → (xs ++ y ∷ []) ++ zs ≡ xs ++ (y ∷ zs)
@@ -64,10 +71,12 @@ append_none : (xs : List Text) → xs ++ [] ≡ xs
 append_none [] = refl
 append_none (x ∷ xs) = ap (λ ys. x ∷ ys) (append_none xs)
 
-alike_names : (names earlier : List Text) (ns : List Name) → Alike names earlier → Alike (with_names names ns) (earlier ++ map text_of ns)
+alike_names : (names earlier : List Text) (ns : List Name) → Alike names earlier
+    → Alike (with_names names ns) (earlier ++ map text_of ns)
 alike_names names earlier [] h = rw (append_none earlier) h
 alike_names names earlier (n ∷ ns) h =
-    rw (← append_one earlier n.text (map text_of ns)) (alike_names (with_name names n.text) (earlier ++ n.text ∷ []) ns (alike_more names earlier n.text h))
+    rw (← append_one earlier n.text (map text_of ns))
+    (alike_names (with_name names n.text) (earlier ++ n.text ∷ []) ns (alike_more names earlier n.text h))
 
 length_one : (xs : List Text) (y : Text) → length (xs ++ y ∷ []) ≡ length xs + 1
 length_one [] y = refl
@@ -101,16 +110,21 @@ main_after (item.Proto outer head) main s e = or_false main ∙ e
 main_after (item.Function head body) main s e = ap (λ b. b || is_main head) e
 main_after (item.Declare d) main s e = or_false main ∙ e
 
-struct_keeps : (name : Name) (fields : Option (List Field)) (k : kept.Seen) (s : Seen) → Alike k.structs s.structs → k.count ≡ length s.structs →
-    Alike (kept_structs k name fields).structs (structs_seen s.structs name fields) × ((kept_structs k name fields).count ≡ length (structs_seen s.structs name fields))
+struct_keeps : (name : Name) (fields : Option (List Field)) (k : kept.Seen) (s : Seen) → Alike k.structs s.structs
+    → k.count ≡ length s.structs →
+    Alike (kept_structs k name fields).structs (structs_seen s.structs name fields)
+    × ((kept_structs k name fields).count ≡ length (structs_seen s.structs name fields))
 struct_keeps name None k s h e = (h, e)
-struct_keeps name (Some fields) k s h e = (alike_more k.structs s.structs name.text h, omega (arith, length_one s.structs name.text, e))
+struct_keeps name (Some fields) k s h e =
+    (alike_more k.structs s.structs name.text h, omega (arith, length_one s.structs name.text, e))
 
-rest_kept : (name : Name) (fields : Option (List Field)) (k : kept.Seen) → ((kept_structs k name fields).enums ≡ k.enums) × ((kept_structs k name fields).values ≡ k.values)
+rest_kept : (name : Name) (fields : Option (List Field)) (k : kept.Seen)
+    → ((kept_structs k name fields).enums ≡ k.enums) × ((kept_structs k name fields).values ≡ k.values)
 rest_kept name None k = (refl, refl)
 rest_kept name (Some fields) k = (refl, refl)
 
-keeps_after : (i : Item) (main : Bool) (k : kept.Seen) (s : Seen) → Keeps main k s → Keeps (main || is_main_item i) (kept_after k i) (seen_after s i)
+keeps_after : (i : Item) (main : Bool) (k : kept.Seen) (s : Seen) → Keeps main k s
+    → Keeps (main || is_main_item i) (kept_after k i) (seen_after s i)
 keeps_after (item.Struct at name fields) main k s h =
     let structs = struct_keeps name fields k s h.structs h.count in
     let rest = rest_kept name fields k in
@@ -128,88 +142,140 @@ keeps_after (item.Enum at name values) main k s h = record {
   values = alike_names k.values s.values values h.values;
   main_is = or_false main ∙ h.main_is;
 }
-keeps_after (item.Proto outer head) main k s h = record { structs = h.structs; count = h.count; enums = h.enums; values = h.values; main_is = or_false main ∙ h.main_is }
-keeps_after (item.Function head body) main k s h = record { structs = h.structs; count = h.count; enums = h.enums; values = h.values; main_is = ap (λ b. b || is_main head) h.main_is }
-keeps_after (item.Declare d) main k s h = record { structs = h.structs; count = h.count; enums = h.enums; values = h.values; main_is = or_false main ∙ h.main_is }
+keeps_after (item.Proto outer head) main k s h =
+    record {
+      structs = h.structs;
+      count = h.count;
+      enums = h.enums;
+      values = h.values;
+      main_is = or_false main
+          ∙ h.main_is;
+    }
+keeps_after (item.Function head body) main k s h =
+    record {
+      structs = h.structs;
+      count = h.count;
+      enums = h.enums;
+      values = h.values;
+      main_is = ap (λ b. b || is_main head) h.main_is;
+    }
+keeps_after (item.Declare d) main k s h =
+    record {
+      structs = h.structs;
+      count = h.count;
+      enums = h.enums;
+      values = h.values;
+      main_is = or_false main
+          ∙ h.main_is;
+    }
 
 nothing_keeps : Keeps false nothing_kept nothing_seen
-nothing_keeps = record { structs = record { same_names = λ x. refl }; count = refl; enums = record { same_names = λ x. refl }; values = record { same_names = λ x. refl }; main_is = refl }
+nothing_keeps =
+    record {
+      structs = record { same_names = λ x. refl };
+      count = refl;
+      enums = record { same_names = λ x. refl };
+      values = record { same_names = λ x. refl };
+      main_is = refl;
+    }
 
 main_seen : (is : List Item) (main : Bool) (s : Seen) → main ≡ s.main → (main || any_main is) ≡ (all_seen s is).main
 main_seen [] main s e = or_false main ∙ e
-main_seen (i ∷ is) main s e = or_or main (is_main_item i) (any_main is) ∙ main_seen is (main || is_main_item i) (seen_after s i) (main_after i main s e)
+main_seen (i ∷ is) main s e = or_or main (is_main_item i) (any_main is)
+    ∙ main_seen is (main || is_main_item i) (seen_after s i) (main_after i main s e)
 
 -- whether one of the items is a main
 pub any_seen : (is : List Item) → any_main is ≡ (all_seen nothing_seen is).main
 any_seen is = main_seen is false nothing_seen refl
 
 module _ (g : Globals) where
-  member_alike : (found : Option TypeFault) (n : Name) (names earlier : List Text) (count : ℕ) → has n.text names ≡ has n.text earlier →
+  member_alike : (found : Option TypeFault) (n : Name) (names earlier : List Text) (count : ℕ) → has n.text names
+      ≡ has n.text earlier →
       noted g found (Defines Member n names count) ≡ noted g found (Defines Member n earlier count)
   member_alike found n names earlier count h =
       noted-Member g found n names count
       ∙ ap (λ b. noted_when (nat_eq count FIELDS) (Limit 3 n.at) (noted_when b (Rule 5 n.at) found)) h
       ∙ sym (noted-Member g found n earlier count)
 
-  value_alike : (found : Option TypeFault) (n : Name) (names earlier : List Text) (count : ℕ) → has n.text names ≡ has n.text earlier →
+  value_alike : (found : Option TypeFault) (n : Name) (names earlier : List Text) (count : ℕ) → has n.text names
+      ≡ has n.text earlier →
       noted g found (Defines Value n names count) ≡ noted g found (Defines Value n earlier count)
   value_alike found n names earlier count h =
       noted-Value g found n names count
       ∙ ap (λ b. noted_when (nat_eq count ENUMERATORS) (Limit 5 n.at) (noted_when b (Rule 5 n.at) found)) h
       ∙ sym (noted-Value g found n earlier count)
 
-  struct_alike : (found : Option TypeFault) (n : Name) (names earlier : List Text) (count : ℕ) → has n.text names ≡ has n.text earlier →
+  struct_alike : (found : Option TypeFault) (n : Name) (names earlier : List Text) (count : ℕ) → has n.text names
+      ≡ has n.text earlier →
       noted g found (Defines Struct n names count) ≡ noted g found (Defines Struct n earlier count)
   struct_alike found n names earlier count h =
       noted-Struct g found n names count
       ∙ ap (λ b. noted_when (nat_eq count STRUCTS) (Limit 2 n.at) (noted_when b (Rule 5 n.at) found)) h
       ∙ sym (noted-Struct g found n earlier count)
 
-  enum_alike : (found : Option TypeFault) (n : Name) (names earlier : List Text) (count more : ℕ) → has n.text names ≡ has n.text earlier →
+  enum_alike : (found : Option TypeFault) (n : Name) (names earlier : List Text) (count more : ℕ) → has n.text names
+      ≡ has n.text earlier →
       noted g found (Defines Enum n names count) ≡ noted g found (Defines Enum n earlier more)
   enum_alike found n names earlier count more h =
-      noted-Enum g found n names count ∙ ap (λ b. noted_when b (Rule 5 n.at) found) h ∙ sym (noted-Enum g found n earlier more)
+      noted-Enum g found n names count ∙ ap (λ b. noted_when b (Rule 5 n.at) found) h
+      ∙ sym (noted-Enum g found n earlier more)
 
   -- one site that is alike, and then others that are
-  next : (found : Option TypeFault) (s t : Site) (ss ts : List Site) → noted g found s ≡ noted g found t → met g (noted g found t) ss ≡ met g (noted g found t) ts →
+  next : (found : Option TypeFault) (s t : Site) (ss ts : List Site) → noted g found s ≡ noted g found t
+      → met g (noted g found t) ss ≡ met g (noted g found t) ts →
       met g found (s ∷ ss) ≡ met g found (t ∷ ts)
-  next found s t ss ts here rest = met-cons g found s ss ∙ ap (λ o. met g o ss) here ∙ rest ∙ sym (met-cons g found t ts)
+  next found s t ss ts here rest = met-cons g found s ss ∙ ap (λ o. met g o ss) here ∙ rest
+      ∙ sym (met-cons g found t ts)
 
   -- sites that are alike, and then others that are
-  onward : (found : Option TypeFault) (ss ts us vs : List Site) → met g found ss ≡ met g found ts → met g (met g found ts) us ≡ met g (met g found ts) vs →
+  onward : (found : Option TypeFault) (ss ts us vs : List Site) → met g found ss ≡ met g found ts
+      → met g (met g found ts) us ≡ met g (met g found ts) vs →
       met g found (ss ++ us) ≡ met g found (ts ++ vs)
-  onward found ss ts us vs here rest = met-append g found ss us ∙ ap (λ o. met g o us) here ∙ rest ∙ sym (met-append g found ts vs)
+  onward found ss ts us vs here rest = met-append g found ss us ∙ ap (λ o. met g o us) here ∙ rest
+      ∙ sym (met-append g found ts vs)
 
-  members_alike : (ns : List Name) (found : Option TypeFault) (names earlier : List Text) (count : ℕ) → Alike names earlier → count ≡ length earlier →
+  members_alike : (ns : List Name) (found : Option TypeFault) (names earlier : List Text) (count : ℕ)
+      → Alike names earlier → count ≡ length earlier →
       met g found (kept_member_sites names count ns) ≡ met g found (member_sites earlier ns)
   members_alike [] found names earlier count h e = refl
   members_alike (n ∷ ns) found names earlier count h e =
       next found _ _ _ _
-      (member_alike found n names earlier count (h.same_names n.text) ∙ ap (λ k. noted g found (Defines Member n earlier k)) e)
-      (members_alike ns _ (with_name names n.text) (earlier ++ n.text ∷ []) (count + 1) (alike_more names earlier n.text h) (omega (arith, length_one earlier n.text, e)))
+      (member_alike found n names earlier count (h.same_names n.text)
+      ∙ ap (λ k. noted g found (Defines Member n earlier k)) e)
+      (members_alike ns _ (with_name names n.text) (earlier ++ n.text ∷ []) (count + 1)
+      (alike_more names earlier n.text h) (omega (arith, length_one earlier n.text, e)))
 
-  fields_alike : (fs : List Field) (found : Option TypeFault) (names earlier : List Text) (count : ℕ) → Alike names earlier → count ≡ length earlier →
+  fields_alike : (fs : List Field) (found : Option TypeFault) (names earlier : List Text) (count : ℕ)
+      → Alike names earlier → count ≡ length earlier →
       met g found (kept_fields_sites names count fs) ≡ met g found (fields_sites earlier fs)
   fields_alike [] found names earlier count h e = refl
   fields_alike (f ∷ fs) found names earlier count h e =
       onward found _ _ _ _
-      (onward found (field_type_sites f) (field_type_sites f) _ _ refl (members_alike (names_of f) _ names earlier count h e))
-      (fields_alike fs _ (with_names names (names_of f)) (earlier ++ map text_of (names_of f)) (count + length (names_of f)) (alike_names names earlier (names_of f) h) (omega (arith, length_names earlier (names_of f), e)))
+      (onward found (field_type_sites f) (field_type_sites f) _ _ refl
+      (members_alike (names_of f) _ names earlier count h e))
+      (fields_alike fs _ (with_names names (names_of f)) (earlier ++ map text_of (names_of f))
+      (count + length (names_of f)) (alike_names names earlier (names_of f) h)
+      (omega (arith, length_names earlier (names_of f), e)))
 
-  values_alike : (ns : List Name) (found : Option TypeFault) (names earlier : List Text) (count more : ℕ) → Alike names earlier → count ≡ more →
+  values_alike : (ns : List Name) (found : Option TypeFault) (names earlier : List Text) (count more : ℕ)
+      → Alike names earlier → count ≡ more →
       met g found (kept_value_sites names count ns) ≡ met g found (value_sites earlier more ns)
   values_alike [] found names earlier count more h e = refl
   values_alike (n ∷ ns) found names earlier count more h e =
       next found _ _ _ _
-      (value_alike found n names earlier count (h.same_names n.text) ∙ ap (λ k. noted g found (Defines Value n earlier k)) e)
-      (values_alike ns _ (with_name names n.text) (earlier ++ n.text ∷ []) (count + 1) (suc more) (alike_more names earlier n.text h) (omega (arith, e)))
+      (value_alike found n names earlier count (h.same_names n.text)
+      ∙ ap (λ k. noted g found (Defines Value n earlier k)) e)
+      (values_alike ns _ (with_name names n.text) (earlier ++ n.text ∷ []) (count + 1) (suc more)
+      (alike_more names earlier n.text h) (omega (arith, e)))
 
-  structs_alike : (found : Option TypeFault) (k : kept.Seen) (s : Seen) (name : Name) (fields : Option (List Field)) → Alike k.structs s.structs → k.count ≡ length s.structs →
+  structs_alike : (found : Option TypeFault) (k : kept.Seen) (s : Seen) (name : Name) (fields : Option (List Field))
+      → Alike k.structs s.structs → k.count ≡ length s.structs →
       met g found (kept_struct_sites k name fields) ≡ met g found (struct_sites s name fields)
   structs_alike found k s name None h e = refl
   structs_alike found k s name (Some fields) h e =
       next found _ _ _ _
-      (struct_alike found name k.structs s.structs k.count (h.same_names name.text) ∙ ap (λ n. noted g found (Defines Struct name s.structs n)) e)
+      (struct_alike found name k.structs s.structs k.count (h.same_names name.text)
+      ∙ ap (λ n. noted g found (Defines Struct name s.structs n)) e)
       (fields_alike fields _ [] [] 0 (record { same_names = λ x. refl }) refl)
 
   item_alike : (i : Item) (found : Option TypeFault) (main : Bool) (k : kept.Seen) (s : Seen) → Keeps main k s →
@@ -220,21 +286,25 @@ module _ (g : Globals) where
       (enum_alike found name k.enums s.enums 0 (length s.enums) (h.enums.same_names name.text))
       (values_alike values _ k.values s.values 0 0 h.values refl)
   item_alike (item.Proto outer head) found main k s h = refl
-  item_alike (item.Function head body) found main k s h = ap (λ m. met g found (head_sites (Functions m head) head ++ body_sites g (not m && is_main head) body)) h.main_is
+  item_alike (item.Function head body) found main k s h =
+      ap (λ m. met g found (head_sites (Functions m head) head ++ body_sites g (not m && is_main head) body)) h.main_is
   item_alike (item.Declare d) found main k s h = refl
 
   items_alike : (is : List Item) (found : Option TypeFault) (main : Bool) (k : kept.Seen) (s : Seen) → Keeps main k s →
       met g found (kept_items_sites g main k is) ≡ met g found (items_sites g s is)
   items_alike [] found main k s h = refl
   items_alike (i ∷ is) found main k s h =
-      onward found _ _ _ _ (item_alike i found main k s h) (items_alike is _ (main || is_main_item i) (kept_after k i) (seen_after s i) (keeps_after i main k s h))
+      onward found _ _ _ _ (item_alike i found main k s h)
+      (items_alike is _ (main || is_main_item i) (kept_after k i) (seen_after s i) (keeps_after i main k s h))
 
-  pub all_alike : (found : Option TypeFault) (is : List Item) → met g found (kept_items_sites g false nothing_kept is) ≡ met g found (items_sites g nothing_seen is)
+  pub all_alike : (found : Option TypeFault) (is : List Item) → met g found (kept_items_sites g false nothing_kept is)
+      ≡ met g found (items_sites g nothing_seen is)
   all_alike found is = items_alike is found false nothing_kept nothing_seen nothing_keeps
 
   -- the items, the end and the first token above the limit
   pub whole_met : (found : Option TypeFault) (u : whole.Unit) (main : Bool) → main ≡ any_main u.items →
-      noted g (noted g (met g found (kept_items_sites g false nothing_kept u.items)) (Ends main u.end)) (Overflows u.over) ≡ met g found (unit_sites g u)
+      noted g (noted g (met g found (kept_items_sites g false nothing_kept u.items)) (Ends main u.end))
+      (Overflows u.over) ≡ met g found (unit_sites g u)
   whole_met found u main e =
       let seen : Option TypeFault = met g found (items_sites g nothing_seen u.items) in
       let there : Bool = (all_seen nothing_seen u.items).main in

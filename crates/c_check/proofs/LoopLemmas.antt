@@ -9,7 +9,8 @@ use Rattle.c_check.specs.inner.Meeting.{met}
 use Rattle.c_check.proofs.MeetingLemmas.{met-nil, met-append}
 
 -- one item more was gone through
-pub turn : {X Y : Type 0} (F : List X → Y) (xs : List X) (i : ℕ) (x : X) → i < length xs → x ≡ get_or xs i x → F (x ∷ drop (i + 1) xs) ≡ F (drop i xs)
+pub turn : {X Y : Type 0} (F : List X → Y) (xs : List X) (i : ℕ) (x : X) → i < length xs → x ≡ get_or xs i x
+    → F (x ∷ drop (i + 1) xs) ≡ F (drop i xs)
 turn {X} F xs i x h is = sym (at_drop_more F xs i x h ∙ ap (λ (y : X). F (y ∷ drop (i + 1) xs)) (sym is))
 
 module _ (g : Globals) {X : Type 0} (f : X → List Site) where
@@ -20,5 +21,6 @@ module _ (g : Globals) {X : Type 0} (f : X → List Site) where
       ∙ ap (λ (y : X). met g found (f y ++ each_of f (drop (i + 1) xs))) (sym is)
       ∙ met-append g found (f x) (each_of f (drop (i + 1) xs)))
 
-  pub met_end : (found : Option TypeFault) (xs : List X) (i : ℕ) → length xs ≤ i → met g found (each_of f (drop i xs)) ≡ found
+  pub met_end : (found : Option TypeFault) (xs : List X) (i : ℕ) → length xs ≤ i → met g found (each_of f (drop i xs))
+      ≡ found
   met_end found xs i h = at_drop_all (λ ys. met g found (each_of f ys)) xs i h ∙ met-nil g found

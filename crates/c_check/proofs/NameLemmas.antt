@@ -1,5 +1,6 @@
 -- Texts among others, and values that are found by texts.
-use Rattle.std.proofs.Common.{◌≡◌, ◌⊎◌, inl, inr, ℕ, zero, suc, Bool, true, false, not, cond, ◌||◌, List, [], ◌∷◌, ◌++◌, length, slice_get, Option, Some, None, refl, sym, ◌∙◌, arith}
+use Rattle.std.proofs.Common.{◌≡◌, ◌⊎◌, inl, inr, ℕ, zero, suc, Bool, true, false, not, cond, ◌||◌, List, [], ◌∷◌, ◌++◌}
+use Rattle.std.proofs.Common.{length, slice_get, Option, Some, None, refl, sym, ◌∙◌, arith}
 use Rattle.std.specs.Cmp.Lexicographic.{bytes_decides}
 use Rattle.std.proofs.lemmas.Bool.{false≢true, false_from_ne_true}
 use Rattle.fore_base.specs.Lists.{IsIn, IsDistinct}
@@ -56,7 +57,8 @@ number_none x (n ∷ ns) h =
 -- values
 
 module _ {X : Type 0} where
-  pub look_up_at : (x : Text) (ns : List Text) (vs : List X) (i : ℕ) → IsDistinct ns → slice_get ns i ≡ Some x → look_up x ns vs ≡ slice_get vs i
+  pub look_up_at : (x : Text) (ns : List Text) (vs : List X) (i : ℕ) → IsDistinct ns → slice_get ns i ≡ Some x
+      → look_up x ns vs ≡ slice_get vs i
   look_up_at x [] vs i d h = cc
   look_up_at x (n ∷ ns) [] i d h = refl
   look_up_at x (n ∷ ns) (v ∷ vs) zero d h =
@@ -100,7 +102,8 @@ module _ {X : Type 0} where
       both false = sym (or_else_none o)
 
   -- one more name, that is there already
-  pub look_up_there : (x name : Text) (ns : List Text) (vs : List X) (v : X) → length ns ≡ length vs → has name ns ≡ true →
+  pub look_up_there : (x name : Text) (ns : List Text) (vs : List X) (v : X) → length ns ≡ length vs
+      → has name ns ≡ true →
       look_up x ns vs ≡ or_else (look_up x ns vs) (cond (same x name) (Some v) None)
   look_up_there x name [] vs v e h = absurd (false≢true h)
   look_up_there x name (n ∷ ns) [] v e h = absurd (omega arith)
@@ -118,7 +121,8 @@ module _ {X : Type 0} where
       by false r q h = h
 
   -- what is found among all, and then among the rest
-  pub or_else_rest : (o : Option X) (b : Bool) (v : X) (rest : Option X) → or_else (or_else o (cond b (Some v) None)) rest ≡ or_else o (cond b (Some v) rest)
+  pub or_else_rest : (o : Option X) (b : Bool) (v : X) (rest : Option X)
+      → or_else (or_else o (cond b (Some v) None)) rest ≡ or_else o (cond b (Some v) rest)
   or_else_rest (Some w) b v rest = refl
   or_else_rest None true v rest = refl
   or_else_rest None false v rest = refl

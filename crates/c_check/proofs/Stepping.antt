@@ -13,7 +13,8 @@ module _ {X : Type 0} (g : Globals) (found : Option TypeFault) (f : X → List S
   pub each_step : (xs : List X) (i : ℕ) (x : X) → i < length xs → x ≡ get_or xs i x →
       met g found (joined (map f (drop i xs))) ≡ met g (met g found (f x)) (joined (map f (drop (i + 1) xs)))
   each_step xs i x within is =
-      ap (λ ys. met g found (joined (map f ys))) (drop_item xs i x within is) ∙ met-append g found (f x) (joined (map f (drop (i + 1) xs)))
+      ap (λ ys. met g found (joined (map f ys))) (drop_item xs i x within is)
+      ∙ met-append g found (f x) (joined (map f (drop (i + 1) xs)))
 
   pub each_end : (xs : List X) (i : ℕ) → length xs ≤ i → met g found (joined (map f (drop i xs))) ≡ found
   each_end xs i past = ap (λ ys. met g found (joined (map f ys))) (drop_all i xs past) ∙ met-nil g found

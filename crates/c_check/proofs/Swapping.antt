@@ -29,8 +29,11 @@ of_every P (x ∷ xs) e all (inr later) = of_every P xs e all.1 later
 
 first_of_same : (xs ys : List TypeFault) (e : TypeFault) → Within xs ys → Within ys xs → IsFirst e xs → IsFirst e ys
 unfolding Within
-first_of_same xs ys e there back first =
-    (there e first.0, every_among (λ f. before f e ≡ false) ys (λ f i. of_every (λ f. before f e ≡ false) xs f first.1 (back f i)))
+first_of_same xs ys e there back first = (
+  there e first.0,
+  every_among (λ f. before f e ≡ false) ys
+      (λ f i. of_every (λ f. before f e ≡ false) xs f first.1 (back f i)),
+)
 
 nothing_within : (ys : List TypeFault) → Within ys [] → ys ≡ []
 unfolding Within
@@ -42,21 +45,25 @@ unfolding Within
 same_first xs ys there back = by (first_from None xs) (first_from None ys) refl refl
   where
     empty : (zs ws : List TypeFault) → Within ws zs → first_from None zs ≡ None → first_from None ws ≡ None
-    empty zs ws h is = ap (first_from None) (nothing_within ws (subst (λ (us : List TypeFault). Within ws us) (found_none zs is) h))
+    empty zs ws h is = ap (first_from None)
+        (nothing_within ws (subst (λ (us : List TypeFault). Within ws us) (found_none zs is) h))
 
     by : (o p : Option TypeFault) → first_from None xs ≡ o → first_from None ys ≡ p → o ≡ p
     by None p is ys_is = sym (empty xs ys back is) ∙ ys_is
     by (Some d) None is ys_is = sym is ∙ empty ys xs there ys_is
-    by (Some d) (Some e) is ys_is = ap Some (one_first ys d e (first_of_same xs ys d there back (found_first xs d is)) (found_first ys e ys_is))
+    by (Some d) (Some e) is ys_is =
+        ap Some (one_first ys d e (first_of_same xs ys d there back (found_first xs d is)) (found_first ys e ys_is))
 
-turned_within : (found : Option TypeFault) (xs ys : List TypeFault) → first_from found (xs ++ ys) ≡ first_from found (ys ++ xs)
+turned_within : (found : Option TypeFault) (xs ys : List TypeFault) → first_from found (xs ++ ys)
+    ≡ first_from found (ys ++ xs)
 unfolding Within
 turned_within found xs ys = by found
   where
     across : (us vs : List TypeFault) (e : TypeFault) → IsIn e (us ++ vs) → IsIn e (vs ++ us)
     across us vs e i = elim (in_append e us vs i) [ inl l ↦ in_right e vs us l | inr r ↦ in_left e vs us r ]
 
-    behind : (d : TypeFault) (us vs : List TypeFault) (e : TypeFault) → IsIn e (d ∷ (us ++ vs)) → IsIn e (d ∷ (vs ++ us))
+    behind : (d : TypeFault) (us vs : List TypeFault) (e : TypeFault) → IsIn e (d ∷ (us ++ vs))
+        → IsIn e (d ∷ (vs ++ us))
     behind d us vs e (inl is) = inl is
     behind d us vs e (inr i) = inr (across us vs e i)
 
@@ -64,7 +71,8 @@ turned_within found xs ys = by found
     by None = same_first (xs ++ ys) (ys ++ xs) (across xs ys) (across ys xs)
     by (Some d) = same_first (d ∷ (xs ++ ys)) (d ∷ (ys ++ xs)) (behind d xs ys) (behind d ys xs)
 
-pub met-swap : (g : Globals) (found : Option TypeFault) (xs ys : List Site) → met g found (xs ++ ys) ≡ met g found (ys ++ xs)
+pub met-swap : (g : Globals) (found : Option TypeFault) (xs ys : List Site) → met g found (xs ++ ys)
+    ≡ met g found (ys ++ xs)
 met-swap g found xs ys =
     met-breaches g found (xs ++ ys)
     ∙ ap (first_from found) (breaches-append g xs ys)

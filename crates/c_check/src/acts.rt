@@ -1,7 +1,8 @@
 // What assignments and statements without parts do.
 ghost use Rattle.std.specs.Prelude.{◌≡◌, ◌∷◌, [], IfOk};
 ghost use Rattle.c_types.specs.declared.program.Stmt.TheVariants.{Do};
-ghost use Rattle.c_typing.specs.Programs.{ptr_rhs_of, data_rhs_of, assigned, target_struct, freed, call_act, returned, assignment, simple_stmts, maybe_simple, returned_operand};
+ghost use Rattle.c_typing.specs.Programs.{ptr_rhs_of, data_rhs_of, assigned, target_struct, freed, call_act, returned};
+ghost use Rattle.c_typing.specs.Programs.{assignment, simple_stmts, maybe_simple, returned_operand};
 ghost use Rattle.c_typing.specs.Scopes.{or_zero};
 ghost use Rattle.c_types.specs.declared.program.DataRhs.TheVariants as data_rhs;
 ghost use Rattle.c_types.specs.declared.program.PtrRhs.TheVariants as ptr_rhs;

@@ -2,8 +2,10 @@
 ghost use Rattle.std.specs.Prelude.{◌≡◌, true, false, OnOk, Option};
 ghost use Rattle.c_ast.specs.declared.conditions.Cond.{Cond};
 ghost use Rattle.c_ast.specs.declared.simples.Simple.{Simple};
-ghost use Rattle.c_typing.specs.BodySites.{maybe_sites, declarator_sites, declarators_sites, declare_sites, first_sites, part_sites, parts_sites, block_sites, stmt_sites, other_sites};
-ghost use Rattle.c_typing.specs.Scopes.{all_declared, declared, past_declare, past_first, past_part, past_parts, past_block, past_stmt, past_other, opened, closed, kind_of, declarators_of};
+ghost use Rattle.c_typing.specs.BodySites.{maybe_sites, declarator_sites, declarators_sites, declare_sites};
+ghost use Rattle.c_typing.specs.BodySites.{first_sites, part_sites, parts_sites, block_sites, stmt_sites, other_sites};
+ghost use Rattle.c_typing.specs.Scopes.{all_declared, declared, past_declare, past_first, past_part, past_parts};
+ghost use Rattle.c_typing.specs.Scopes.{past_block, past_stmt, past_other, opened, closed, kind_of, declarators_of};
 ghost use Rattle.c_typing.specs.Sites.{simple_sites, cond_sites, wanted_sites, rhs_sites, want_of_kind};
 ghost use Rattle.c_check.specs.inner.Assigning.{assign_sites, free_sites};
 ghost use Rattle.c_check.specs.inner.Meeting.{met};
@@ -84,7 +86,9 @@ fn maybe_simple_faults(
     simple: &Option<Boxed<Simple>>,
     found: &mut Option<TypeFault>,
 ) -> Mem<()>
-    ensures { OnOk result (found.new ≡ met tables.now found.old (maybe_sites (simple_sites tables.now scope.now) simple.now)) }
+    ensures { OnOk result
+        (found.new ≡ met tables.now found.old
+        (maybe_sites (simple_sites tables.now scope.now) simple.now)) }
 {
     match simple {
         Some(simple) => simple_faults(alloc, tables, scope, simple.get(), found),
@@ -100,7 +104,9 @@ fn maybe_cond_faults(
     cond: &Option<Cond>,
     found: &mut Option<TypeFault>,
 ) -> Mem<()>
-    ensures { OnOk result (found.new ≡ met tables.now found.old (maybe_sites (cond_sites tables.now scope.now) cond.now)) }
+    ensures { OnOk result
+        (found.new ≡ met tables.now found.old
+        (maybe_sites (cond_sites tables.now scope.now) cond.now)) }
 {
     match cond {
         Some(cond) => cond_faults(alloc, tables, scope, cond, found),
@@ -117,7 +123,9 @@ fn returned_faults(
     operand: &Option<Operand>,
     found: &mut Option<TypeFault>,
 ) -> Mem<()>
-    ensures { OnOk result (found.new ≡ met tables.now found.old (maybe_sites (wanted_sites tables.now scope.now Spot.Elsewhere Want.Datum) operand.now)) }
+    ensures { OnOk result
+        (found.new ≡ met tables.now found.old
+        (maybe_sites (wanted_sites tables.now scope.now Spot.Elsewhere Want.Datum) operand.now)) }
 {
     match operand {
         Some(operand) => wanted_faults(
@@ -142,7 +150,9 @@ fn maybe_rhs_faults(
     from: &Option<Rhs>,
     found: &mut Option<TypeFault>,
 ) -> Mem<()>
-    ensures { OnOk result (found.new ≡ met tables.now found.old (maybe_sites (rhs_sites tables.now scope.now (want_of_kind kind)) from.now)) }
+    ensures { OnOk result
+        (found.new ≡ met tables.now found.old
+        (maybe_sites (rhs_sites tables.now scope.now (want_of_kind kind)) from.now)) }
 {
     match from {
         Some(rhs) => rhs_faults(alloc, tables, scope, want_of_kind(kind), rhs, found),
@@ -161,7 +171,9 @@ fn declarator_faults(
     found: &mut Option<TypeFault>,
 ) -> Mem<()>
     ensures past { OnOk result (scope.new ≡ declared scope.old declarator.now.name.text kind) }
-    ensures found { OnOk result (found.new ≡ met tables.now found.old (declarator_sites tables.now kind scope.old declarator.now)) }
+    ensures found { OnOk result
+        (found.new ≡ met tables.now found.old
+        (declarator_sites tables.now kind scope.old declarator.now)) }
 {
     defines_variable(tables, scope, &declarator.name, found);
     scope.declare(alloc, declarator.name.text.as_slice(), kind)?;
@@ -178,7 +190,9 @@ fn declarators_faults(
     found: &mut Option<TypeFault>,
 ) -> Mem<()>
     ensures past { OnOk result (scope.new ≡ all_declared kind vars.now scope.old) }
-    ensures found { OnOk result (found.new ≡ met tables.now found.old (declarators_sites tables.now kind vars.now scope.old)) }
+    ensures found { OnOk result
+        (found.new ≡ met tables.now found.old
+        (declarators_sites tables.now kind vars.now scope.old)) }
 {
     for var in vars {
         declarator_faults(alloc, tables, scope, kind, var, found)?;
@@ -216,7 +230,9 @@ fn declare_faults(
     found: &mut Option<TypeFault>,
 ) -> Mem<()>
     ensures past { OnOk result (scope.new ≡ past_declare tables.now declare.now scope.old) }
-    ensures found { OnOk result (found.new ≡ met tables.now found.old (declare_sites tables.now declare.now scope.old)) }
+    ensures found { OnOk result
+        (found.new ≡ met tables.now found.old
+        (declare_sites tables.now declare.now scope.old)) }
 {
     uses_type(tables, declare, found);
     let kind = kind_of(tables, declare);
@@ -255,7 +271,9 @@ pub fn block_faults(
 ) -> Mem<()>
     ensures past { OnOk result (scope.new ≡ past_block tables.now block.now scope.old) }
     ensures blocks { OnOk result (scope.new.blocks ≡ scope.old.blocks) }
-    ensures found { OnOk result (found.new ≡ met tables.now found.old (block_sites tables.now block.now looping scope.old)) }
+    ensures found { OnOk result
+        (found.new ≡ met tables.now found.old
+        (block_sites tables.now block.now looping scope.old)) }
 {
     scope.enter(alloc)?;
     parts_faults(alloc, tables, scope, looping, block.parts.as_slice(), found)?;
@@ -276,7 +294,9 @@ fn parts_faults(
 ) -> Mem<()>
     ensures past { OnOk result (scope.new ≡ past_parts tables.now parts.now scope.old) }
     ensures outer { OnOk result (outer scope.new.blocks ≡ outer scope.old.blocks) }
-    ensures found { OnOk result (found.new ≡ met tables.now found.old (parts_sites tables.now parts.now looping scope.old)) }
+    ensures found { OnOk result
+        (found.new ≡ met tables.now found.old
+        (parts_sites tables.now parts.now looping scope.old)) }
 {
     for part in parts {
         part_faults(alloc, tables, scope, looping, part, found)?;
@@ -296,7 +316,9 @@ fn part_faults(
 ) -> Mem<()>
     ensures past { OnOk result (scope.new ≡ past_part tables.now part.now scope.old) }
     ensures outer { OnOk result (outer scope.new.blocks ≡ outer scope.old.blocks) }
-    ensures found { OnOk result (found.new ≡ met tables.now found.old (part_sites tables.now part.now looping scope.old)) }
+    ensures found { OnOk result
+        (found.new ≡ met tables.now found.old
+        (part_sites tables.now part.now looping scope.old)) }
 {
     match part {
         Part::Declare(declare) => declare_faults(alloc, tables, scope, declare, found),
@@ -317,7 +339,9 @@ fn stmt_faults(
 ) -> Mem<()>
     ensures past { OnOk result (scope.new ≡ past_stmt tables.now stmt.now scope.old) }
     ensures blocks { OnOk result (scope.new.blocks ≡ scope.old.blocks) }
-    ensures found { OnOk result (found.new ≡ met tables.now found.old (stmt_sites tables.now stmt.now looping scope.old)) }
+    ensures found { OnOk result
+        (found.new ≡ met tables.now found.old
+        (stmt_sites tables.now stmt.now looping scope.old)) }
 {
     match stmt {
         Stmt::Empty { .. } => Ok(()),
@@ -381,7 +405,9 @@ fn other_faults(
 ) -> Mem<()>
     ensures past { OnOk result (scope.new ≡ past_other tables.now other.now scope.old) }
     ensures blocks { OnOk result (scope.new.blocks ≡ scope.old.blocks) }
-    ensures found { OnOk result (found.new ≡ met tables.now found.old (other_sites tables.now other.now looping scope.old)) }
+    ensures found { OnOk result
+        (found.new ≡ met tables.now found.old
+        (other_sites tables.now other.now looping scope.old)) }
 {
     match other {
         Some(stmt) => stmt_faults(alloc, tables, scope, looping, stmt.get(), found),

@@ -109,7 +109,8 @@ pub fn is_allowed_call(
     spot: Spot,
     call: &Call,
 ) -> Mem<bool>
-    ensures { IfOk result (λ allowed. allowed ≡ is_allowed tables.now scope.now spot (out-Call call.now).name.text (out-Call call.now).operands) }
+    ensures { IfOk result (λ allowed. allowed
+        ≡ is_allowed tables.now scope.now spot (out-Call call.now).name.text (out-Call call.now).operands) }
 {
     let name = call.name.text.as_slice();
     is_allowed(alloc, tables, scope, spot, name, call.operands.as_slice())
@@ -125,7 +126,9 @@ pub fn calls(
     call: &Call,
     found: &mut Option<TypeFault>,
 ) -> Mem<()>
-    ensures { OnOk result (found.new ≡ noted tables.now found.old (Calls scope.now spot (out-Call call.now).name (out-Call call.now).operands)) }
+    ensures { OnOk result
+        (found.new ≡ noted tables.now found.old
+        (Calls scope.now spot (out-Call call.now).name (out-Call call.now).operands)) }
 {
     let allowed = is_allowed_call(alloc, tables, scope, spot, call)?;
     note_when(!allowed, 15, call.name.at, found);

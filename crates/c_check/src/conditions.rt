@@ -1,7 +1,8 @@
 // Conditions: what they break, and the formulas that they are.
 ghost use Rattle.std.specs.Prelude.{◌≡◌, ◌∷◌, [], map, IfOk, OnOk};
 ghost use Rattle.c_ast.specs.declared.operands.Operand.{Operand};
-ghost use Rattle.c_typing.specs.Programs.{ptr_op_of, data_op_of, compares_pointers, comparison, truth, all_of, any_of, test_of, unary_of, and_of, cond_of, maybe_cond};
+ghost use Rattle.c_typing.specs.Programs.{ptr_op_of, data_op_of, compares_pointers, comparison, truth, all_of, any_of};
+ghost use Rattle.c_typing.specs.Programs.{test_of, unary_of, and_of, cond_of, maybe_cond};
 ghost use Rattle.c_typing.specs.Sites.{compare_sites, test_sites, unary_sites, and_sites, cond_sites};
 ghost use Rattle.c_typing.specs.Texts.{joined};
 ghost use Rattle.c_check.specs.inner.Meeting.{met};
@@ -29,7 +30,9 @@ fn compare_faults(
     right: &Operand,
     found: &mut Option<TypeFault>,
 ) -> Mem<()>
-    ensures { OnOk result (found.new ≡ met tables.now found.old (compare_sites tables.now scope.now left.now right.now)) }
+    ensures { OnOk result
+        (found.new ≡ met tables.now found.old
+        (compare_sites tables.now scope.now left.now right.now)) }
 {
     operand_faults(alloc, tables, scope, Spot::Elsewhere, left, found)?;
     let meaning = meaning_of_operand(alloc, tables, scope, left)?;
@@ -103,7 +106,9 @@ fn tests_faults(
     tests: &[Test],
     found: &mut Option<TypeFault>,
 ) -> Mem<()>
-    ensures { OnOk result (found.new ≡ met tables.now found.old (joined (map (test_sites tables.now scope.now) tests.now))) }
+    ensures { OnOk result
+        (found.new ≡ met tables.now found.old
+        (joined (map (test_sites tables.now scope.now) tests.now))) }
 {
     for test in tests {
         test_faults(alloc, tables, scope, test, found)?;
@@ -119,7 +124,9 @@ fn ands_faults(
     ands: &[And],
     found: &mut Option<TypeFault>,
 ) -> Mem<()>
-    ensures { OnOk result (found.new ≡ met tables.now found.old (joined (map (and_sites tables.now scope.now) ands.now))) }
+    ensures { OnOk result
+        (found.new ≡ met tables.now found.old
+        (joined (map (and_sites tables.now scope.now) ands.now))) }
 {
     for and in ands {
         and_faults(alloc, tables, scope, and, found)?;

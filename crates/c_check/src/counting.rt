@@ -1,6 +1,7 @@
 // How many statements and declarations a body has.
 ghost use Rattle.std.specs.Prelude.{◌≡◌, ◌∷◌, ◌++◌, [], map};
-ghost use Rattle.c_typing.specs.BodySites.{data_place, simple_place, declare_place, first_places, part_places, stmt_places, block_places, other_places};
+ghost use Rattle.c_typing.specs.BodySites.{data_place, simple_place, declare_place, first_places, part_places};
+ghost use Rattle.c_typing.specs.BodySites.{stmt_places, block_places, other_places};
 ghost use Rattle.c_typing.specs.Sites.{Counts};
 ghost use Rattle.c_typing.specs.Texts.{joined};
 ghost use Rattle.c_check.specs.inner.Counting.{passed, all_passed};

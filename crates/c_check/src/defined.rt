@@ -1,6 +1,8 @@
 // What the items of a unit define, of each name the first.
 ghost use Rattle.std.specs.Prelude.{◌≡◌, ◌∷◌, ◌++◌, [], List, map, cond, not, IfOk, OnOk};
-ghost use Rattle.c_typing.specs.Globals.{Definition, datum_of, defined_name, enums_of, itself, members_in, struct_definitions, struct_of, structs_in, value_name, values_from, values_in, values_of, enums_in};
+ghost use Rattle.c_typing.specs.Globals.{Definition, datum_of, defined_name, enums_of, itself, members_in};
+ghost use Rattle.c_typing.specs.Globals.{struct_definitions, struct_of, structs_in, value_name, values_from, values_in};
+ghost use Rattle.c_typing.specs.Globals.{values_of, enums_in};
 ghost use Rattle.c_typing.specs.Texts.{Text as Word, each_of, firsts, has, number_of};
 ghost use Rattle.c_typing.specs.declared.meaning.Enumerator.{Enumerator as Value};
 ghost use Rattle.c_check.specs.inner.Definitions.{names_in, member_of};
@@ -35,7 +37,8 @@ fn all_names(alloc: Global, items: &[Item]) -> Mem<Names>
 }
 
 fn name_struct(names: &mut Names, item: &Item) -> Mem<()>
-    ensures { OnOk result ((rest : List Word) → names.new ++ firsts itself names.new rest ≡ names.old ++ firsts itself names.old (names_in item.now ++ rest)) }
+    ensures { OnOk result ((rest : List Word) → names.new ++ firsts itself names.new rest ≡ names.old
+        ++ firsts itself names.old (names_in item.now ++ rest)) }
 {
     match item {
         Item::Struct { name, fields, .. } => match fields {
@@ -47,7 +50,8 @@ fn name_struct(names: &mut Names, item: &Item) -> Mem<()>
 }
 
 fn put_name(names: &mut Names, name: &Name) -> Mem<()>
-    ensures { OnOk result ((rest : List Word) → names.new ++ firsts itself names.new rest ≡ names.old ++ firsts itself names.old (name.now.text ∷ rest)) }
+    ensures { OnOk result ((rest : List Word) → names.new ++ firsts itself names.new rest ≡ names.old
+        ++ firsts itself names.old (name.now.text ∷ rest)) }
 {
     let _new = naming::add(names, name.text.as_slice())?;
     Ok(())
@@ -65,7 +69,8 @@ pub fn enum_names(alloc: Global, items: &[Item]) -> Mem<Names>
 }
 
 fn name_enum(names: &mut Names, item: &Item) -> Mem<()>
-    ensures { OnOk result ((rest : List Word) → names.new ++ firsts itself names.new rest ≡ names.old ++ firsts itself names.old (enums_in item.now ++ rest)) }
+    ensures { OnOk result ((rest : List Word) → names.new ++ firsts itself names.new rest ≡ names.old
+        ++ firsts itself names.old (enums_in item.now ++ rest)) }
 {
     match item {
         Item::Enum { name, .. } => put_name(names, name),
@@ -101,7 +106,8 @@ impl Values {
     fn add_item(&mut self, alloc: Global, item: &Item) -> Mem<()>
         requires { self.old.names ≡ map value_name self.old.values }
         ensures names { OnOk result (self.new.names ≡ map value_name self.new.values) }
-        ensures ok { OnOk result ((rest : List Value) → self.new.values ++ firsts value_name self.new.names rest ≡ self.old.values ++ firsts value_name self.old.names (values_in item.now ++ rest)) }
+        ensures ok { OnOk result ((rest : List Value) → self.new.values ++ firsts value_name self.new.names rest
+            ≡ self.old.values ++ firsts value_name self.old.names (values_in item.now ++ rest)) }
     {
         match item {
             Item::Enum { values, .. } => self.add_all(alloc, values.as_slice()),
@@ -113,7 +119,8 @@ impl Values {
     fn add_all(&mut self, alloc: Global, names: &[Name]) -> Mem<()>
         requires { self.old.names ≡ map value_name self.old.values }
         ensures names { OnOk result (self.new.names ≡ map value_name self.new.values) }
-        ensures ok { OnOk result ((rest : List Value) → self.new.values ++ firsts value_name self.new.names rest ≡ self.old.values ++ firsts value_name self.old.names (values_from 0 names.now ++ rest)) }
+        ensures ok { OnOk result ((rest : List Value) → self.new.values ++ firsts value_name self.new.names rest
+            ≡ self.old.values ++ firsts value_name self.old.names (values_from 0 names.now ++ rest)) }
     {
         for (place, name) in names.iter().enumerate() {
             self.add(alloc, name, value_at(place))?;
@@ -124,7 +131,9 @@ impl Values {
     fn add(&mut self, alloc: Global, name: &Name, value: u8) -> Mem<()>
         requires { self.old.names ≡ map value_name self.old.values }
         ensures names { OnOk result (self.new.names ≡ map value_name self.new.values) }
-        ensures ok { OnOk result ((rest : List Value) → self.new.values ++ firsts value_name self.new.names rest ≡ self.old.values ++ firsts value_name self.old.names (record { name = name.now.text; value = value } ∷ rest)) }
+        ensures ok { OnOk result ((rest : List Value) → self.new.values ++ firsts value_name self.new.names rest
+            ≡ self.old.values ++ firsts value_name self.old.names
+            (record { name = name.now.text; value = value } ∷ rest)) }
     {
         if naming::add(&mut self.names, name.text.as_slice())? {
             let name = name.text.copy(alloc)?;
@@ -165,7 +174,9 @@ fn define_item(
     structs: &mut List<Struct>,
     item: &Item,
 ) -> Mem<()>
-    ensures { OnOk result ((rest : List Definition) → structs.new ++ map (struct_of names.now) (firsts defined_name seen.new rest) ≡ structs.old ++ map (struct_of names.now) (firsts defined_name seen.old (structs_in item.now ++ rest))) }
+    ensures { OnOk result ((rest : List Definition)
+        → structs.new ++ map (struct_of names.now) (firsts defined_name seen.new rest) ≡ structs.old
+        ++ map (struct_of names.now) (firsts defined_name seen.old (structs_in item.now ++ rest))) }
 {
     match item {
         Item::Struct { name, fields, .. } => match fields {
@@ -184,7 +195,9 @@ fn define(
     name: &Name,
     fields: &[Field],
 ) -> Mem<()>
-    ensures { OnOk result ((rest : List Definition) → structs.new ++ map (struct_of names.now) (firsts defined_name seen.new rest) ≡ structs.old ++ map (struct_of names.now) (firsts defined_name seen.old ((name.now, fields.now) ∷ rest))) }
+    ensures { OnOk result ((rest : List Definition)
+        → structs.new ++ map (struct_of names.now) (firsts defined_name seen.new rest) ≡ structs.old
+        ++ map (struct_of names.now) (firsts defined_name seen.old ((name.now, fields.now) ∷ rest))) }
 {
     if naming::add(seen, name.text.as_slice())? {
         let one = one_struct(alloc, names, name, fields)?;

@@ -4,7 +4,8 @@ ghost use Rattle.c_typing.specs.ItemSites.{field_type_sites, names_of};
 ghost use Rattle.c_typing.specs.Sites.{Struct, Enum, Value, Member, Defines};
 ghost use Rattle.c_typing.specs.Texts.{has};
 ghost use Rattle.c_typing.specs.declared.fault.TypeFault.TheVariants.{Rule, Limit};
-ghost use Rattle.c_check.specs.inner.Items.{with_name, with_names, kept_member_sites, kept_fields_sites, kept_value_sites, kept_structs, kept_struct_sites, kept_enums};
+ghost use Rattle.c_check.specs.inner.Items.{with_name, with_names, kept_member_sites, kept_fields_sites};
+ghost use Rattle.c_check.specs.inner.Items.{kept_value_sites, kept_structs, kept_struct_sites, kept_enums};
 ghost use Rattle.c_check.specs.inner.Meeting.{met, noted, noted_when};
 
 use crate::first::note_limit;
@@ -127,7 +128,9 @@ fn defines_field(
 ) -> Mem<usize>
     ensures count { IfOk result (λ more. more ≡ count + length (names_of field.now)) }
     ensures names { OnOk result (names.new ≡ with_names names.old (names_of field.now)) }
-    ensures found { OnOk result (found.new ≡ met tables.now (met tables.now found.old (field_type_sites field.now)) (kept_member_sites names.old count (names_of field.now))) }
+    ensures found { OnOk result
+        (found.new ≡ met tables.now (met tables.now found.old (field_type_sites field.now))
+        (kept_member_sites names.old count (names_of field.now))) }
 {
     uses_field_type(tables, field, found);
     defines_members(tables, names, count, names_of(field), found)
@@ -163,7 +166,9 @@ fn defines_struct(
     ensures count { OnOk result (seen.new.count ≡ seen.old.count + 1) }
     ensures enums { OnOk result (seen.new.enums ≡ seen.old.enums) }
     ensures values { OnOk result (seen.new.values ≡ seen.old.values) }
-    ensures found { OnOk result (found.new ≡ noted tables.now found.old (Defines Struct name.now seen.old.structs seen.old.count)) }
+    ensures found { OnOk result
+        (found.new ≡ noted tables.now found.old
+        (Defines Struct name.now seen.old.structs seen.old.count)) }
 {
     let _tables = tables;
     defines(&mut seen.structs, name, found)?;
@@ -183,7 +188,9 @@ pub fn struct_item(
     found: &mut Option<TypeFault>,
 ) -> Mem<()>
     ensures seen { OnOk result (seen.new ≡ kept_structs seen.old name.now fields.now) }
-    ensures found { OnOk result (found.new ≡ met tables.now found.old (kept_struct_sites seen.old name.now fields.now)) }
+    ensures found { OnOk result
+        (found.new ≡ met tables.now found.old
+        (kept_struct_sites seen.old name.now fields.now)) }
 {
     match fields {
         None => {
@@ -256,7 +263,9 @@ pub fn enum_item(
     found: &mut Option<TypeFault>,
 ) -> Mem<()>
     ensures seen { OnOk result (seen.new ≡ kept_enums seen.old name.now values.now) }
-    ensures found { OnOk result (found.new ≡ met tables.now found.old (Defines Enum name.now seen.old.enums 0 ∷ kept_value_sites seen.old.values 0 values.now)) }
+    ensures found { OnOk result
+        (found.new ≡ met tables.now found.old
+        (Defines Enum name.now seen.old.enums 0 ∷ kept_value_sites seen.old.values 0 values.now)) }
 {
     defines_enum(tables, &mut seen.enums, name, found)?;
     defines_values(tables, &mut seen.values, values, found)

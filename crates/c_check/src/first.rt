@@ -7,7 +7,8 @@ ghost use Rattle.c_check.specs.inner.First.{earlier_of, first_from};
 use c_typing::TypeFault;
 use fore_base::place::Place;
 
-/// Whether one list of numbers comes before another: the first that differ decide, and a list comes after its beginnings.
+/// Whether one list of numbers comes before another: the first that differ decide, and a list comes after its
+/// beginnings.
 fn is_less(left: &[u32], right: &[u32]) -> bool
     ensures { result ≡ less left.now right.now }
 {

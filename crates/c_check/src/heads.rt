@@ -91,7 +91,8 @@ fn declarators_of(declare: &Declare) -> &[Declarator]
 /// A declaration at file level.
 #[tactic(auto, using(crate::proofs::MeetingLemmas::meeting))]
 pub fn global_item(tables: &Tables, declare: &Declare, found: &mut Option<TypeFault>)
-    ensures { found.new ≡ met tables.now found.old (type_sites declare.now ++ global_sites tables.now (declarators_of declare.now)) }
+    ensures { found.new ≡ met tables.now found.old
+        (type_sites declare.now ++ global_sites tables.now (declarators_of declare.now)) }
 {
     uses_type(tables, declare, found);
     first_global(tables, declarators_of(declare), found);

@@ -2,7 +2,8 @@
 ghost use Rattle.std.specs.Prelude.{◌≡◌, ◌||◌, ◌&&◌, false, true, not, IfOk, OnOk};
 ghost use Rattle.c_typing.specs.ItemSites.{body_sites};
 ghost use Rattle.c_typing.specs.Profile.{is_main};
-ghost use Rattle.c_check.specs.inner.Items.{is_main_item, kept_after, kept_function_sites, kept_item_sites, kept_items_sites, nothing_kept, any_main};
+ghost use Rattle.c_check.specs.inner.Items.{is_main_item, kept_after, kept_function_sites, kept_item_sites};
+ghost use Rattle.c_check.specs.inner.Items.{kept_items_sites, nothing_kept, any_main};
 ghost use Rattle.c_check.specs.inner.Meeting.{met};
 
 use crate::bodies::block_faults;
@@ -60,7 +61,9 @@ fn function_item(
     body: &Block,
     found: &mut Option<TypeFault>,
 ) -> Mem<bool>
-    ensures found { OnOk result (found.new ≡ met tables.now found.old (kept_function_sites tables.now main head.now body.now)) }
+    ensures found { OnOk result
+        (found.new ≡ met tables.now found.old
+        (kept_function_sites tables.now main head.now body.now)) }
     ensures main { IfOk result (λ more. more ≡ (main || is_main head.now)) }
 {
     function_head(tables, main, head, found);
@@ -79,7 +82,9 @@ fn one_item(
     found: &mut Option<TypeFault>,
 ) -> Mem<bool>
     ensures seen { OnOk result (seen.new ≡ kept_after seen.old item.now) }
-    ensures found { OnOk result (found.new ≡ met tables.now found.old (kept_item_sites tables.now main seen.old item.now)) }
+    ensures found { OnOk result
+        (found.new ≡ met tables.now found.old
+        (kept_item_sites tables.now main seen.old item.now)) }
     ensures main { IfOk result (λ more. more ≡ (main || is_main_item item.now)) }
 {
     match item {
@@ -110,7 +115,9 @@ pub fn all_items(
     items: &[Item],
     found: &mut Option<TypeFault>,
 ) -> Mem<bool>
-    ensures found { OnOk result (found.new ≡ met tables.now found.old (kept_items_sites tables.now false nothing_kept items.now)) }
+    ensures found { OnOk result
+        (found.new ≡ met tables.now found.old
+        (kept_items_sites tables.now false nothing_kept items.now)) }
     ensures main { IfOk result (λ main. main ≡ any_main items.now) }
 {
     let mut seen = Seen::new(alloc);

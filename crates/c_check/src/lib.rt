@@ -1,8 +1,11 @@
 //! The rules of names, types and limits, checked: a unit gives its program, or its first fault.
 //!
-//! `check` is the only call. `tables` has what the items define, to be found by names. `items`, with `definitions`, `heads` and `types`, goes
-//! through the items in order, and `bodies` through the body of main. Each keeps the first fault so far (`first`), wherever its place is, so
-//! that nothing is assumed of places; what each kind of place breaks is in `noting`. `programs`, with `statements`, makes the program of a unit
+//! `check` is the only call. `tables` has what the items define, to be found by names. `items`, with `definitions`,
+//! `heads` and `types`, goes
+//! through the items in order, and `bodies` through the body of main. Each keeps the first fault so far (`first`),
+//! wherever its place is, so
+//! that nothing is assumed of places; what each kind of place breaks is in `noting`. `programs`, with `statements`,
+//! makes the program of a unit
 //! that breaks nothing.
 #![tactic(auto)]
 

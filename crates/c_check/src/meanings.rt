@@ -1,6 +1,7 @@
 // What names, paths and operands are.
 ghost use Rattle.std.specs.Prelude.{◌≡◌, IfOk};
-ghost use Rattle.c_typing.specs.Meanings.{variable, meaning_of_name, field_meaning, followed, meaning_of_path, numeral, number_meaning, meaning_of_operand, place_of_operand, longer};
+ghost use Rattle.c_typing.specs.Meanings.{variable, meaning_of_name, field_meaning, followed, meaning_of_path, numeral};
+ghost use Rattle.c_typing.specs.Meanings.{number_meaning, meaning_of_operand, place_of_operand, longer};
 
 use crate::scopes::Scope;
 use crate::tables::Tables;

@@ -1,5 +1,6 @@
 // Names with their numbers.
-ghost use Rattle.std.specs.Prelude.{◌≡◌, ◌+◌, ◌∷◌, ◌++◌, [], Bool, true, false, not, Some, slice_get, cond, IfOk, OnOk, OnErr};
+ghost use Rattle.std.specs.Prelude.{◌≡◌, ◌+◌, ◌∷◌, ◌++◌, [], Bool, true, false, not, Some, slice_get, cond, IfOk, OnOk};
+ghost use Rattle.std.specs.Prelude.{OnErr};
 ghost use Rattle.c_typing.specs.Texts.{has, number_of};
 
 use fore_base::memory::Mem;

@@ -2,7 +2,8 @@
 ghost use Rattle.std.specs.Prelude.{◌≡◌, not, ◌||◌, ◌&&◌, map};
 ghost use Rattle.c_typing.specs.Rules.{lacks_field};
 ghost use Rattle.c_typing.specs.Scopes.{var_name, innermost, declared_so_far};
-ghost use Rattle.c_typing.specs.Sites.{UsesStruct, UsesEnum, Defines, Variable, Begins, Follows, Measures, Stands, Chooses, Allocates, Casts, Sizes, Jumps};
+ghost use Rattle.c_typing.specs.Sites.{UsesStruct, UsesEnum, Defines, Variable, Begins, Follows, Measures, Stands};
+ghost use Rattle.c_typing.specs.Sites.{Chooses, Allocates, Casts, Sizes, Jumps};
 ghost use Rattle.c_typing.specs.declared.fault.TypeFault.TheVariants.{Rule};
 ghost use Rattle.c_check.specs.inner.Meeting.{noted, noted_when, is_data_path};
 
@@ -46,7 +47,8 @@ pub fn uses_enum(tables: &Tables, name: &Name, found: &mut Option<TypeFault>)
 /// A variable is declared.
 #[tactic(auto, using(crate::proofs::MeetingLemmas::sites))]
 pub fn defines_variable(tables: &Tables, scope: &Scope, name: &Name, found: &mut Option<TypeFault>)
-    ensures { found.new ≡ noted tables.now found.old (Defines Variable name.now (map var_name (innermost scope.now.blocks)) (declared_so_far scope.now)) }
+    ensures { found.new ≡ noted tables.now found.old
+        (Defines Variable name.now (map var_name (innermost scope.now.blocks)) (declared_so_far scope.now)) }
 {
     let _tables = tables;
     note_when(scope.is_taken(name.text.as_slice()), 5, name.at, found);

@@ -1,7 +1,8 @@
 // What paths, operands and right sides break.
 ghost use Rattle.std.specs.Prelude.{◌≡◌, not, OnOk};
 ghost use Rattle.c_ast.specs.declared.operands.Operand.{out-Operand};
-ghost use Rattle.c_typing.specs.Sites.{arrow_sites, path_sites, read_sites, operand_sites, wanted_sites, choice_sites, right_sites, cast_sites, starred_sites, size_sites, rhs_sites};
+ghost use Rattle.c_typing.specs.Sites.{arrow_sites, path_sites, read_sites, operand_sites, wanted_sites, choice_sites};
+ghost use Rattle.c_typing.specs.Sites.{right_sites, cast_sites, starred_sites, size_sites, rhs_sites};
 ghost use Rattle.c_typing.specs.Texts.{is_empty};
 ghost use Rattle.c_check.specs.inner.Meeting.{met};
 
@@ -49,7 +50,9 @@ pub fn path_faults(
     path: &Path,
     found: &mut Option<TypeFault>,
 ) -> Mem<()>
-    ensures { OnOk result (found.new ≡ met tables.now found.old (path_sites tables.now scope.now to_be_variable path.now)) }
+    ensures { OnOk result
+        (found.new ≡ met tables.now found.old
+        (path_sites tables.now scope.now to_be_variable path.now)) }
 {
     begins(tables, scope, to_be_variable, &path.head, found);
     let meaning = meaning_of_name(alloc, tables, scope, path.head.text.as_slice());
@@ -109,7 +112,9 @@ pub fn wanted_faults(
     operand: &Operand,
     found: &mut Option<TypeFault>,
 ) -> Mem<()>
-    ensures { OnOk result (found.new ≡ met tables.now found.old (wanted_sites tables.now scope.now spot want operand.now)) }
+    ensures { OnOk result
+        (found.new ≡ met tables.now found.old
+        (wanted_sites tables.now scope.now spot want operand.now)) }
 {
     operand_faults(alloc, tables, scope, spot, operand, found)?;
     let meaning = meaning_of_operand(alloc, tables, scope, operand)?;
@@ -127,7 +132,8 @@ fn choice_faults(
     operand: &Operand,
     found: &mut Option<TypeFault>,
 ) -> Mem<()>
-    ensures { OnOk result (found.new ≡ met tables.now found.old (choice_sites tables.now scope.now want (out-Operand operand.now))) }
+    ensures { OnOk result
+        (found.new ≡ met tables.now found.old (choice_sites tables.now scope.now want (out-Operand operand.now))) }
 {
     if let Operand::Call(call) = operand {
         if is_allowed_call(alloc, tables, scope, Spot::Right, call)? {
@@ -182,7 +188,9 @@ fn starred_faults(
     path: &Path,
     found: &mut Option<TypeFault>,
 ) -> Mem<()>
-    ensures { OnOk result (found.new ≡ met tables.now found.old (starred_sites tables.now scope.now want at star path.now)) }
+    ensures { OnOk result
+        (found.new ≡ met tables.now found.old
+        (starred_sites tables.now scope.now want at star path.now)) }
 {
     read_faults(alloc, tables, scope, path, found)?;
     let meaning = meaning_of_path(alloc, tables, scope, path)?;

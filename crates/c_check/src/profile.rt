@@ -1,6 +1,7 @@
 // The heads that prototypes and `main` may have.
 ghost use Rattle.std.specs.Prelude.{◌≡◌, ◌∷◌, codes};
-ghost use Rattle.c_typing.specs.Profile.{is_allowed_head, is_int_type, is_main, is_main_head, gives_int, gives_nothing, has_no_params, errors};
+ghost use Rattle.c_typing.specs.Profile.{is_allowed_head, is_int_type, is_main, is_main_head, gives_int, gives_nothing};
+ghost use Rattle.c_typing.specs.Profile.{has_no_params, errors};
 ghost use Rattle.c_typing.specs.Texts.{has};
 
 use crate::calls::{is_choice, is_error};

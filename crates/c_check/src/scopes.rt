@@ -1,10 +1,14 @@
 // The variables that are in scope, each found by its name at once.
-ghost use Rattle.std.specs.Prelude.{◌≡◌, ◌<◌, ◌≤◌, [], ◌∷◌, ◌++◌, ℕ, length, reverse, slice_get, slice_set, slice_index_or, IfOk, OnOk, OnErr, Some, None, map, nat_eq};
+ghost use Rattle.std.specs.Prelude.{◌≡◌, ◌<◌, ◌≤◌, [], ◌∷◌, ◌++◌, ℕ, length, reverse, slice_get, slice_set};
+ghost use Rattle.std.specs.Prelude.{slice_index_or, IfOk, OnOk, OnErr, Some, None, map, nat_eq};
 ghost use Rattle.fore_base.specs.Lists.{IsDistinct};
 ghost use Rattle.c_typing.specs.Texts.{has};
-ghost use Rattle.c_typing.specs.Scopes.{look_up, empty_scope, innermost, var_name, declared_so_far, declared, opened, or_zero};
+ghost use Rattle.c_typing.specs.Scopes.{look_up, empty_scope, innermost, var_name, declared_so_far, declared, opened};
+ghost use Rattle.c_typing.specs.Scopes.{or_zero};
 ghost use Rattle.c_typing.specs.Programs.{ptrs_of, datums_of};
-ghost use Rattle.c_check.specs.inner.ScopeTables.{first_block, ptrs_in, datums_in, Grew, IsKept, scope_of, what_of, found_as, is_at, is_shut, turned, with_entry, unbound, next_number, more_vars, more_data, pushed, bound, left, name_at};
+ghost use Rattle.c_check.specs.inner.ScopeTables.{first_block, ptrs_in, datums_in, Grew, IsKept, scope_of, what_of};
+ghost use Rattle.c_check.specs.inner.ScopeTables.{found_as, is_at, is_shut, turned, with_entry, unbound, next_number};
+ghost use Rattle.c_check.specs.inner.ScopeTables.{more_vars, more_data, pushed, bound, left, name_at};
 
 use c_types::VarDef;
 use c_typing::Kind;
@@ -38,7 +42,8 @@ struct Entry {
     under: Option<Meant>,
 }
 
-/// The names that were declared so far, what each of them means now, and the variables of the open blocks, innermost last.
+/// The names that were declared so far, what each of them means now, and the variables of the open blocks, innermost
+/// last.
 #[derive(Drop)]
 struct Table {
     names: Names,

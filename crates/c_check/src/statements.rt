@@ -3,8 +3,11 @@ ghost use Rattle.std.specs.Prelude.{◌≡◌, ◌++◌, ◌∷◌, [], IfOk, On
 ghost use Rattle.c_ast.specs.declared.conditions.Cond.{Cond};
 ghost use Rattle.c_types.specs.declared.program.Act.TheVariants.{Error, Return};
 ghost use Rattle.c_types.specs.declared.program.Stmt.TheVariants.{Branch, Do};
-ghost use Rattle.c_typing.specs.Programs.{grouped, next_variable, initialised, declarators_stmts, declare_stmts, part_stmts, parts_stmts, block_stmts, stmt_stmts, other_stmts, cond_of, returned_operand};
-ghost use Rattle.c_typing.specs.Scopes.{all_declared, declared, past_declare, past_first, past_part, past_parts, past_block, past_stmt, past_other, opened};
+ghost use Rattle.c_typing.specs.Programs.{grouped, next_variable, initialised, declarators_stmts, declare_stmts};
+ghost use Rattle.c_typing.specs.Programs.{part_stmts, parts_stmts, block_stmts, stmt_stmts, other_stmts, cond_of};
+ghost use Rattle.c_typing.specs.Programs.{returned_operand};
+ghost use Rattle.c_typing.specs.Scopes.{all_declared, declared, past_declare, past_first, past_part, past_parts};
+ghost use Rattle.c_typing.specs.Scopes.{past_block, past_stmt, past_other, opened};
 ghost use Rattle.c_check.specs.inner.Making.{first_stmts, group_first, for_body, past_for, for_made};
 ghost use Rattle.c_check.specs.inner.ScopeTables.{outer};
 
@@ -73,7 +76,9 @@ fn declarator_stmts(
     declarator: &Declarator,
 ) -> Mem<List<Stmt>>
     ensures past { OnOk result (scope.new ≡ declared scope.old declarator.now.name.text kind) }
-    ensures stmts { IfOk result (λ stmts. stmts ≡ initialised tables.now (declared scope.old declarator.now.name.text kind) (next_variable scope.old kind) declarator.now.name.at.line declarator.now.from) }
+    ensures stmts { IfOk result (λ stmts. stmts
+        ≡ initialised tables.now (declared scope.old declarator.now.name.text kind) (next_variable scope.old kind)
+        declarator.now.name.at.line declarator.now.from) }
 {
     let target = next_variable(alloc, scope, kind)?;
     scope.declare(alloc, declarator.name.text.as_slice(), kind)?;
@@ -172,7 +177,9 @@ fn assert_stmts(
     cond: &Cond,
     line: u32,
 ) -> Mem<List<Stmt>>
-    ensures { IfOk result (λ stmts. stmts ≡ Branch (cond_of tables.now scope.now cond.now) [] (Do Error line ∷ []) ∷ []) }
+    ensures { IfOk result (λ stmts. stmts
+        ≡ Branch (cond_of tables.now scope.now cond.now) [] (Do Error line ∷ [])
+        ∷ []) }
 {
     let cond = cond_of(alloc, tables, scope, cond)?;
     let yes = List::new(alloc);
@@ -294,7 +301,9 @@ fn for_stmts(
 ) -> Mem<List<Stmt>>
     ensures past { OnOk result (scope.new ≡ past_for tables.now first.now body.now scope.old) }
     ensures blocks { OnOk result (scope.new.blocks ≡ scope.old.blocks) }
-    ensures stmts { IfOk result (λ stmts. stmts ≡ for_made tables.now line first.now cond.now next.now body.now scope.old) }
+    ensures stmts { IfOk result (λ stmts. stmts
+        ≡ for_made tables.now line first.now cond.now next.now body.now
+        scope.old) }
 {
     scope.enter(alloc)?;
     let mut all = first_stmts(alloc, tables, scope, first)?;

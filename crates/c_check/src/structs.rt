@@ -112,7 +112,10 @@ impl Uses {
     fn add(&mut self, field: &Member) -> Mem<()>
         requires { length self.old.names ≡ length self.old.uses }
         ensures even { OnOk result (length self.new.names ≡ length self.new.uses) }
-        ensures ok { OnOk result ((x : Word) (rest : List AMember) → or_else (look_up x self.new.names self.new.uses) (use_in x self.new.ptrs self.new.datums rest) ≡ or_else (look_up x self.old.names self.old.uses) (use_in x self.old.ptrs self.old.datums (field.now ∷ rest))) }
+        ensures ok { OnOk result ((x : Word) (rest : List AMember)
+            → or_else (look_up x self.new.names self.new.uses) (use_in x self.new.ptrs self.new.datums rest)
+            ≡ or_else (look_up x self.old.names self.old.uses)
+            (use_in x self.old.ptrs self.old.datums (field.now ∷ rest))) }
     {
         let place = use_of(field.kind, self.ptrs, self.datums);
         put(
@@ -142,7 +145,8 @@ impl Uses {
 fn put(names: &mut Names, uses: &mut List<FieldUse>, name: &[u8], place: FieldUse) -> Mem<()>
     requires { length names.old ≡ length uses.old }
     ensures even { OnOk result (length names.new ≡ length uses.new) }
-    ensures ok { OnOk result ((x : Word) → look_up x names.new uses.new ≡ or_else (look_up x names.old uses.old) (cond (same x name.now) (Some place) None)) }
+    ensures ok { OnOk result ((x : Word) → look_up x names.new uses.new
+        ≡ or_else (look_up x names.old uses.old) (cond (same x name.now) (Some place) None)) }
 {
     if add(names, name)? {
         uses.push(place)?;

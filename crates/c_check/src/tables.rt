@@ -1,6 +1,7 @@
 // What the items of a unit define, to be found by names.
 ghost use Rattle.std.specs.Prelude.{◌≡◌, [], map, IfOk, OnOk};
-ghost use Rattle.c_typing.specs.Globals.{globals_of, fields_of, struct_number, field_use, use_in, value_of, value_in, value_name};
+ghost use Rattle.c_typing.specs.Globals.{globals_of, fields_of, struct_number, field_use, use_in, value_of, value_in};
+ghost use Rattle.c_typing.specs.Globals.{value_name};
 ghost use Rattle.c_typing.specs.Programs.{field_kind_of, field_of, shape_of};
 ghost use Rattle.c_typing.specs.Texts.{has};
 

@@ -26,7 +26,8 @@ use std::alloc::Global;
 
 /// The program of a unit. It is gone through once, by recursion no deeper than the tree.
 ///
-/// Errors: the first fault of the unit, which is `Rule` or `Limit` at the earliest place where a rule is broken or a limit is passed, on one
+/// Errors: the first fault of the unit, which is `Rule` or `Limit` at the earliest place where a rule is broken or a
+/// limit is passed, on one
 /// place a rule before a limit, and then the lesser number; `Memory` for want of memory.
 pub fn check(alloc: Global, unit: &Unit) -> Result<Typed, TypeFault>
     ensures ok { IfOk result (TypedOf unit.now) }

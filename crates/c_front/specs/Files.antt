@@ -21,7 +21,8 @@ use Rattle.c_front.specs.declared.broken.FileFault.TheVariants.{Breaks, Memory}
 use Rattle.c_front.specs.declared.broken.Letter.{Letter}
 use Rattle.c_front.specs.declared.broken.Letter.TheVariants.{Lexical, Profile, Syntax, Typing, Limit}
 
--- The bytes are the text of the program: they are these tokens, the tokens are this tree, and the tree breaks no rule and is this program.
+-- The bytes are the text of the program: they are these tokens, the tokens are this tree, and the tree breaks no rule
+-- and is this program.
 pub record IsProgramOf (bytes : List ℕ) (p : Program) : Type 0 where
   pub tokens : List Token
   pub unit : whole.Unit
@@ -53,9 +54,11 @@ type_fault typing.Memory = Memory
 -- The first rule that the bytes break: one of tokens; else one of the grammar; else one of names, types and limits.
 pub data BreaksFirst (bytes : List ℕ) (b : Broken) : Type 0 where
   no_tokens : (e : LexFault) → IsRefusal bytes e → lexical_fault e ≡ Breaks b → BreaksFirst bytes b
-  no_tree : (ts : List Token) (e : SyntaxFault) → Tokens bytes ts → parses.IsFault ts (place_after bytes) e → syntax_fault e ≡ Breaks b
+  no_tree : (ts : List Token) (e : SyntaxFault) → Tokens bytes ts → parses.IsFault ts (place_after bytes) e
+      → syntax_fault e ≡ Breaks b
       → BreaksFirst bytes b
-  no_types : (ts : List Token) (u : whole.Unit) (e : TypeFault) → Tokens bytes ts → parses.IsParsed ts (place_after bytes) u → IsFirstFault u e
+  no_types : (ts : List Token) (u : whole.Unit) (e : TypeFault) → Tokens bytes ts
+      → parses.IsParsed ts (place_after bytes) u → IsFirstFault u e
       → type_fault e ≡ Breaks b → BreaksFirst bytes b
 
 -- why the bytes give no program

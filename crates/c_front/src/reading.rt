@@ -6,7 +6,8 @@ ghost use Rattle.c_types.specs.OneWay.{most_steps};
 ghost use Rattle.c_types.specs.Program.{Program};
 ghost use Rattle.c_front.specs.declared.broken.Broken.{Broken as Rule};
 ghost use Rattle.c_front.specs.declared.broken.FileFault.TheVariants.{Breaks, Memory};
-ghost use Rattle.c_front.specs.Files.{IsProgramOf, BreaksFirst, IsFault, broken, lexical_fault, syntax_fault, type_fault};
+ghost use Rattle.c_front.specs.Files.{IsProgramOf, BreaksFirst, IsFault, broken, lexical_fault, syntax_fault};
+ghost use Rattle.c_front.specs.Files.{type_fault};
 
 use crate::broken::{Broken, FileFault, Letter};
 use c_check::check;
@@ -24,8 +25,10 @@ use std::alloc::Global;
 ///
 /// # Errors
 ///
-/// `Breaks` with the first rule that the file breaks: the first byte at which no token begins, or comment that is not closed (L); else the first
-/// token that no accepted program has (P); else the first hopeless token, or level too many (S); else the first breach of the rules of names,
+/// `Breaks` with the first rule that the file breaks: the first byte at which no token begins, or comment that is not
+/// closed (L); else the first
+/// token that no accepted program has (P); else the first hopeless token, or level too many (S); else the first breach
+/// of the rules of names,
 /// types and limits (T, K). `Memory` for want of memory.
 pub fn program_in(alloc: Global, bytes: &[u8]) -> Result<Typed, FileFault>
     requires { length bytes.now ≤ FILE_BYTES }

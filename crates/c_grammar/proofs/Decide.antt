@@ -2,7 +2,11 @@
 use Rattle.std.proofs.Common.{◌≡◌, ℕ, zero, suc, Bool, true, false, List, [], ◌∷◌, refl, sym, ◌∙◌, not}
 use Rattle.c_grammar.specs.inner.Sets.{Signs}
 use Rattle.c_grammar.specs.declared.signs.Sign.{Sign}
-use Rattle.c_grammar.specs.declared.signs.Sign.TheVariants.{Id, Number, Struct, Enum, Int, Void, Extern, If, Else, While, Do, For, Return, Break, Continue, Sizeof, Malloc, Free, Assert, Null, True, False, Arrow, Equal, Unequal, And, Or, OpenBrace, CloseBrace, Open, Close, Semicolon, Comma, Star, Assign, Not, Other, End}
+use Rattle.c_grammar.specs.declared.signs.Sign.TheVariants.{Id, Number, Struct, Enum, Int, Void, Extern, If, Else}
+use Rattle.c_grammar.specs.declared.signs.Sign.TheVariants.{While, Do, For, Return, Break, Continue, Sizeof, Malloc}
+use Rattle.c_grammar.specs.declared.signs.Sign.TheVariants.{Free, Assert, Null, True, False, Arrow, Equal, Unequal, And}
+use Rattle.c_grammar.specs.declared.signs.Sign.TheVariants.{Or, OpenBrace, CloseBrace, Open, Close, Semicolon, Comma}
+use Rattle.c_grammar.specs.declared.signs.Sign.TheVariants.{Star, Assign, Not, Other, End}
 use Rattle.c_grammar.proofs.Rules.{Apart}
 use Rattle.c_grammar.proofs.Parts.{Within}
 use Rattle.c_grammar.specs.Signs.{and}
@@ -13,7 +17,67 @@ all p [] = true
 all p (s ∷ ss) = and (p s) (all p ss)
 
 abbrev pub signs : List Sign
-signs = Id ∷ (Number ∷ (Struct ∷ (Enum ∷ (Int ∷ (Void ∷ (Extern ∷ (If ∷ (Else ∷ (While ∷ (Do ∷ (For ∷ (Return ∷ (Break ∷ (Continue ∷ (Sizeof ∷ (Malloc ∷ (Free ∷ (Assert ∷ (Null ∷ (True ∷ (False ∷ (Arrow ∷ (Equal ∷ (Unequal ∷ (And ∷ (Or ∷ (OpenBrace ∷ (CloseBrace ∷ (Open ∷ (Close ∷ (Semicolon ∷ (Comma ∷ (Star ∷ (Assign ∷ (Not ∷ (Other ∷ (End ∷ [])))))))))))))))))))))))))))))))))))))
+signs =
+    Id
+    ∷
+    (Number
+    ∷
+    (Struct
+    ∷
+    (Enum
+    ∷
+    (Int
+    ∷
+    (Void
+    ∷
+    (Extern
+    ∷
+    (If
+    ∷
+    (Else
+    ∷
+    (While
+    ∷
+    (Do
+    ∷
+    (For
+    ∷
+    (Return
+    ∷
+    (Break
+    ∷
+    (Continue
+    ∷
+    (Sizeof
+    ∷
+    (Malloc
+    ∷
+    (Free
+    ∷
+    (Assert
+    ∷
+    (Null
+    ∷
+    (True
+    ∷
+    (False
+    ∷
+    (Arrow
+    ∷
+    (Equal
+    ∷
+    (Unequal
+    ∷
+    (And
+    ∷
+    (Or
+    ∷
+    (OpenBrace
+    ∷
+    (CloseBrace
+    ∷
+    (Open
+    ∷ (Close ∷ (Semicolon ∷ (Comma ∷ (Star ∷ (Assign ∷ (Not ∷ (Other ∷ (End ∷ [])))))))))))))))))))))))))))))))))))))
 
 abbrev pub every : Signs → Bool
 every p = all p signs

@@ -1,5 +1,7 @@
--- The number of levels of a rule and the depth of its trees: a rule reads a tree with n levels exactly where it reads it with some number and the tree is no deeper than n.
-use Rattle.std.proofs.Common.{◌≡◌, ◌≤◌, ◌<◌, ◌+◌, ℕ, zero, suc, max, List, map, Some, None, refl, sym, ap, ◌∙◌, subst, inl, inr, arith}
+-- The number of levels of a rule and the depth of its trees: a rule reads a tree with n levels exactly where it reads
+-- it with some number and the tree is no deeper than n.
+use Rattle.std.proofs.Common.{◌≡◌, ◌≤◌, ◌<◌, ◌+◌, ℕ, zero, suc, max, List, map, Some, None, refl, sym, ap, ◌∙◌, subst}
+use Rattle.std.proofs.Common.{inl, inr, arith}
 use Rattle.c_lexer.specs.declared.token.Token.{Token}
 use Rattle.c_ast.specs.Depths.{deepest, depth_of_option}
 use Rattle.c_grammar.specs.Grammar.{Part, Rule, token, empty, nowhere, ◌then◌, Many, Made, level}
@@ -38,22 +40,34 @@ module _ {X Y : Type 0} {A : Rule X} {B : Rule Y} {d : X → ℕ} {e : Y → ℕ
   pub deep_both : Deep (both A B) (λ p. max (d p.0) (e p.1))
   deep_both = record {
     bound = λ n ts rest x r. max_le _ _ n (a.bound n ts r.mid x.0 r.front) (b.bound n r.mid rest x.1 r.back);
-    shrink = λ n m ts rest x r le. record { mid = r.mid; front = a.shrink n m ts r.mid x.0 r.front (left_le _ (e x.1) n le); back = b.shrink n m r.mid rest x.1 r.back (right_le (d x.0) _ n le) };
+    shrink = λ n m ts rest x r le.
+        record {
+          mid = r.mid;
+          front = a.shrink n m ts r.mid x.0 r.front (left_le _ (e x.1) n le);
+          back = b.shrink n m r.mid rest x.1 r.back (right_le (d x.0) _ n le);
+        };
   }
 
 -- what is made of a part is as deep as the part
-module _ {X Y : Type 0} {A : Rule X} {d : X → ℕ} (f : X → Y) (e : Y → ℕ) (same : (x : X) → e (f x) ≡ d x) (a : Deep A d) where
-  pub deep_made : Deep (made f A) e
-  deep_made = record {
-    bound = λ n ts rest y r. subst (λ k. k ≤ n) (sym (ap e r.is ∙ same r.part)) (a.bound n ts rest r.part r.read);
-    shrink = λ n m ts rest y r le. record { part = r.part; is = r.is; read = a.shrink n m ts rest r.part r.read (subst (λ k. k ≤ n) (ap e r.is ∙ same r.part) le) };
-  }
+module _ {X Y : Type 0} {A : Rule X} {d : X → ℕ} (f : X → Y) (e : Y → ℕ) (same : (x : X) → e (f x) ≡ d x) (a : Deep A d)
+  where
+    pub deep_made : Deep (made f A) e
+    deep_made = record {
+      bound = λ n ts rest y r. subst (λ k. k ≤ n) (sym (ap e r.is ∙ same r.part)) (a.bound n ts rest r.part r.read);
+      shrink = λ n m ts rest y r le.
+          record {
+            part = r.part;
+            is = r.is;
+            read = a.shrink n m ts rest r.part r.read (subst (λ k. k ≤ n) (ap e r.is ∙ same r.part) le);
+          };
+    }
 
 module _ {X : Type 0} {A B : Rule X} {d : X → ℕ} (a : Deep A d) (b : Deep B d) where
   pub deep_or : Deep (choice A B) d
   deep_or = record {
     bound = λ n ts rest x. elim [ inl r ↦ a.bound n ts rest x r | inr r ↦ b.bound n ts rest x r ];
-    shrink = λ n m ts rest x. elim [ inl r ↦ λ le. inl (a.shrink n m ts rest x r le) | inr r ↦ λ le. inr (b.shrink n m ts rest x r le) ];
+    shrink = λ n m ts rest x.
+        elim [ inl r ↦ λ le. inl (a.shrink n m ts rest x r le) | inr r ↦ λ le. inr (b.shrink n m ts rest x r le) ];
   }
 
 pub deep_nowhere : {X : Type 0} (d : X → ℕ) → Deep (λ n. nowhere) d
@@ -62,18 +76,22 @@ deep_nowhere d = record { bound = λ n ts rest x r. absurd r; shrink = λ n m ts
 module _ {X : Type 0} {A : Rule X} {d : X → ℕ} (a : Deep A d) where
   many_bound : (n : ℕ) (ts rest : List Token) (xs : List X) → Many (A n) ts rest xs → deepest (map d xs) ≤ n
   many_bound n ts rest xs none = omega arith
-  many_bound n ts rest xs (more {mid = mid} {x = x} {xs = ys} r rs) = max_le _ _ n (a.bound n ts mid x r) (many_bound n mid rest ys rs)
+  many_bound n ts rest xs (more {mid = mid} {x = x} {xs = ys} r rs) =
+      max_le _ _ n (a.bound n ts mid x r) (many_bound n mid rest ys rs)
 
-  many_shrink : (n m : ℕ) (ts rest : List Token) (xs : List X) → Many (A m) ts rest xs → deepest (map d xs) ≤ n → Many (A n) ts rest xs
+  many_shrink : (n m : ℕ) (ts rest : List Token) (xs : List X) → Many (A m) ts rest xs → deepest (map d xs) ≤ n
+      → Many (A n) ts rest xs
   many_shrink n m ts rest xs none le = none
   many_shrink n m ts rest xs (more {mid = mid} {x = x} {xs = ys} r rs) le =
-      more (a.shrink n m ts mid x r (left_le _ (deepest (map d ys)) n le)) (many_shrink n m mid rest ys rs (right_le (d x) _ n le))
+      more (a.shrink n m ts mid x r (left_le _ (deepest (map d ys)) n le))
+      (many_shrink n m mid rest ys rs (right_le (d x) _ n le))
 
   pub deep_many : Deep (many A) (λ xs. deepest (map d xs))
   deep_many = record { bound = many_bound; shrink = many_shrink }
 
 -- a level more, where what is read is one deeper by its own depth e than by d
-module _ {X : Type 0} {A : Rule X} {d : X → ℕ} (e : X → ℕ) (a : Deep A d) (one : (n : ℕ) (ts rest : List Token) (x : X) → A n ts rest x → e x ≡ suc (d x)) where
+module _ {X : Type 0} {A : Rule X} {d : X → ℕ} (e : X → ℕ) (a : Deep A d)
+    (one : (n : ℕ) (ts rest : List Token) (x : X) → A n ts rest x → e x ≡ suc (d x)) where
   level_bound : (n : ℕ) (ts rest : List Token) (x : X) → level A n ts rest x → e x ≤ n
   level_bound zero ts rest x r = absurd r
   level_bound (suc n) ts rest x r = let le = a.bound n ts rest x r in omega (arith, one n ts rest x r, le)
@@ -99,23 +117,26 @@ deep_same s a = record {
 module _ {X : Type 0} (T : Rule X → Rule X) (F : Rule X) (d : X → ℕ) (Q : X → Type 0) (is : (n : ℕ) → F n ≡ T F n)
     (causal : (G H : Rule X) (n : ℕ) → ((k : ℕ) → k < n → G k ≡ H k) → T G n ≡ T H n)
     (only : (G : Rule X) (n : ℕ) (ts rest : List Token) (x : X) → T G n ts rest x → Q x)
-    (step : (G : Rule X) → Deep G d → ((n : ℕ) (ts rest : List Token) (x : X) → G n ts rest x → Q x) → Deep (T G) d) where
-  only_upto : (k n : ℕ) (ts rest : List Token) (x : X) → upto T F is causal k n ts rest x → Q x
-  unfolding upto
-  only_upto zero n ts rest x r = absurd r
-  only_upto (suc k) n ts rest x r = only (upto T F is causal k) n ts rest x r
+    (step : (G : Rule X) → Deep G d → ((n : ℕ) (ts rest : List Token) (x : X) → G n ts rest x → Q x) → Deep (T G) d)
+  where
+    only_upto : (k n : ℕ) (ts rest : List Token) (x : X) → upto T F is causal k n ts rest x → Q x
+    unfolding upto
+    only_upto zero n ts rest x r = absurd r
+    only_upto (suc k) n ts rest x r = only (upto T F is causal k) n ts rest x r
 
-  deep_upto : (k : ℕ) → Deep (upto T F is causal k) d
-  unfolding upto
-  deep_upto zero = deep_nowhere d
-  deep_upto (suc k) = step (upto T F is causal k) (deep_upto k) (only_upto k)
+    deep_upto : (k : ℕ) → Deep (upto T F is causal k) d
+    unfolding upto
+    deep_upto zero = deep_nowhere d
+    deep_upto (suc k) = step (upto T F is causal k) (deep_upto k) (only_upto k)
 
-  pub deep_fix : Deep F d
-  deep_fix = record {
-    bound = λ n ts rest x r. (deep_upto (suc n)).bound n ts rest x (into T F is causal (suc n) n (omega arith) ts rest x r);
-    shrink = λ n m ts rest x r le. outof T F is causal (suc (n + m)) n (omega arith) ts rest x
-        ((deep_upto (suc (n + m))).shrink n m ts rest x (into T F is causal (suc (n + m)) m (omega arith) ts rest x r) le);
-  }
+    pub deep_fix : Deep F d
+    deep_fix = record {
+      bound = λ n ts rest x r.
+          (deep_upto (suc n)).bound n ts rest x (into T F is causal (suc n) n (omega arith) ts rest x r);
+      shrink = λ n m ts rest x r le. outof T F is causal (suc (n + m)) n (omega arith) ts rest x
+          ((deep_upto (suc (n + m))).shrink n m ts rest x (into T F is causal (suc (n + m)) m (omega arith) ts rest x r)
+          le);
+    }
 
 -- forms that return
 pub deep_token : (s : Sign) → Deep (λ n. token s) flat
@@ -123,7 +144,8 @@ deep_token s = deep_flat (token s)
 
 module _ {X : Type 0} {A : Rule X} {d : X → ℕ} (a : Deep A d) where
   pub deep_bracketed : Deep (λ n. bracketed (A n)) d
-  deep_bracketed = deep_made middle d (λ p. between (d p.1.0)) (deep_both (deep_token sign.Open) (deep_both a (deep_token sign.Close)))
+  deep_bracketed = deep_made middle d (λ p. between (d p.1.0))
+      (deep_both (deep_token sign.Open) (deep_both a (deep_token sign.Close)))
     where
       between : (k : ℕ) → k ≡ max 0 (max k 0)
       between k = omega arith
@@ -143,5 +165,7 @@ module _ {X : Type 0} {A : Rule X} {d : X → ℕ} (a : Deep A d) where
         shrink = λ n m ts rest x r le. r;
       }
 
-pub deep_series : {X : Type 0} {A : Rule X} {d : X → ℕ} (s : Sign) → Deep A d → Deep (λ n. series s (A n)) (λ xs. deepest (map d xs))
-deep_series {d = d} s a = deep_made joined (λ xs. deepest (map d xs)) (λ p. refl) (deep_both a (deep_many (deep_after a s)))
+pub deep_series : {X : Type 0} {A : Rule X} {d : X → ℕ} (s : Sign) → Deep A d
+    → Deep (λ n. series s (A n)) (λ xs. deepest (map d xs))
+deep_series {d = d} s a =
+    deep_made joined (λ xs. deepest (map d xs)) (λ p. refl) (deep_both a (deep_many (deep_after a s)))

@@ -9,8 +9,11 @@ use Rattle.c_grammar.proofs.Goods.{good_at, good_name}
 use Rattle.c_grammar.proofs.Statements.{good_data, good_pointers, good_datums, good_maybe_first}
 
 ends_declare : Ends declare
-ends_declare = ends_either (ends_made s.pointers_of (ends_pair (good_at sign.Struct) (ends_pair good_name (ends_pair good_pointers (ends_one sign.Semicolon refl)))))
+ends_declare = ends_either
+    (ends_made s.pointers_of
+    (ends_pair (good_at sign.Struct) (ends_pair good_name (ends_pair good_pointers (ends_one sign.Semicolon refl)))))
     (ends_made s.datums_of (ends_pair good_data (ends_pair good_datums (ends_one sign.Semicolon refl))))
 
 pub ends_first : Ends (λ n. first_part (declare n) (simple n))
-ends_first = ends_either (ends_made first'.Declare ends_declare) (ends_made first (ends_pair good_maybe_first (ends_one sign.Semicolon refl)))
+ends_first = ends_either (ends_made first'.Declare ends_declare)
+    (ends_made first (ends_pair good_maybe_first (ends_one sign.Semicolon refl)))

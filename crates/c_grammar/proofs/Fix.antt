@@ -42,9 +42,19 @@ module _ {X : Type 0} (T : Rule X → Rule X) (F : Rule X) (fa ca ba : Signs) (n
 
   pub good_fix : Good F fa ca ba na
   good_fix = record {
-    det = λ n m ts a b s t r q. (good_upto (suc (n + m))).det n m ts a b s t (into T F is causal (suc (n + m)) n (omega arith) ts a s r) (into T F is causal (suc (n + m)) m (omega arith) ts b t q);
-    front = λ n ts rest x r. let p = (good_upto (suc n)).front n ts rest x (into T F is causal (suc n) n (omega arith) ts rest x r) in
-        record { front = p.front; is = p.is; alike = λ y h. outof T F is causal (suc n) n (omega arith) (p.front ++ y) y x (p.alike y h) };
-    starts = λ n ts rest x r. (good_upto (suc n)).starts n ts rest x (into T F is causal (suc n) n (omega arith) ts rest x r);
-    up = λ n m ts rest x le r. outof T F is causal (suc m) m (omega arith) ts rest x ((good_upto (suc m)).up n m ts rest x le (into T F is causal (suc m) n (omega (arith, le)) ts rest x r));
+    det = λ n m ts a b s t r q.
+        (good_upto (suc (n + m))).det n m ts a b s t (into T F is causal (suc (n + m)) n (omega arith) ts a s r)
+        (into T F is causal (suc (n + m)) m (omega arith) ts b t q);
+    front = λ n ts rest x r.
+        let p = (good_upto (suc n)).front n ts rest x (into T F is causal (suc n) n (omega arith) ts rest x r) in
+        record {
+          front = p.front;
+          is = p.is;
+          alike = λ y h. outof T F is causal (suc n) n (omega arith) (p.front ++ y) y x (p.alike y h);
+        };
+    starts = λ n ts rest x r.
+        (good_upto (suc n)).starts n ts rest x (into T F is causal (suc n) n (omega arith) ts rest x r);
+    up = λ n m ts rest x le r.
+        outof T F is causal (suc m) m (omega arith) ts rest x
+        ((good_upto (suc m)).up n m ts rest x le (into T F is causal (suc m) n (omega (arith, le)) ts rest x r));
   }

@@ -19,23 +19,32 @@ use Rattle.c_grammar.proofs.Statements.{good_cond, good_closed_cond, good_first,
 use Rattle.c_grammar.proofs.Steps.{good_pair}
 
 pub good_if_head : Good (λ n. at sign.If then bracketed (cond n)) (among (sign.If ∷ [])) no_sign no_sign false
-good_if_head = named (among (sign.If ∷ [])) no_sign no_sign (good_pair (good_at sign.If) good_closed_cond refl) refl refl refl
+good_if_head = named (among (sign.If ∷ [])) no_sign no_sign (good_pair (good_at sign.If) good_closed_cond refl) refl
+    refl refl
 
 pub good_while_head : Good (λ n. at sign.While then bracketed (cond n)) (among (sign.While ∷ [])) no_sign no_sign false
-good_while_head = named (among (sign.While ∷ [])) no_sign no_sign (good_pair (good_at sign.While) good_closed_cond refl) refl refl refl
+good_while_head = named (among (sign.While ∷ [])) no_sign no_sign (good_pair (good_at sign.While) good_closed_cond refl)
+    refl refl refl
 
 pub good_for_head : Good for_head (among (sign.For ∷ [])) no_sign no_sign false
-good_for_head = named (among (sign.For ∷ [])) no_sign no_sign (good_made (good_pair (good_at sign.For) (good_pair (good_one sign.Open) (good_pair good_first (good_pair good_maybe_cond (good_pair (good_one sign.Semicolon)
+good_for_head = named (among (sign.For ∷ [])) no_sign no_sign
+    (good_made
+    (good_pair (good_at sign.For)
+    (good_pair (good_one sign.Open)
+    (good_pair good_first (good_pair good_maybe_cond (good_pair (good_one sign.Semicolon)
     (good_pair good_maybe_simple (good_one sign.Close) refl) refl) refl) refl) refl) refl) for_head_of) refl refl refl
 
-pub good_do_tail : Good (λ n. token sign.While then bracketed (cond n) then token sign.Semicolon) (among (sign.While ∷ [])) no_sign no_sign false
-good_do_tail = named (among (sign.While ∷ [])) no_sign no_sign (good_pair (good_one sign.While) (good_pair good_closed_cond (good_one sign.Semicolon) refl) refl) refl refl refl
+pub good_do_tail : Good (λ n. token sign.While then bracketed (cond n) then token sign.Semicolon)
+    (among (sign.While ∷ [])) no_sign no_sign false
+good_do_tail = named (among (sign.While ∷ [])) no_sign no_sign
+    (good_pair (good_one sign.While) (good_pair good_closed_cond (good_one sign.Semicolon) refl) refl) refl refl refl
 
 -- a head of two parts, and what stands after it
 abbrev pub apart : {X Y Z V : Type 0} → (X × (Y × Z) → V) → (X × Y) × Z → V
 apart f p = f (p.0.0, (p.0.1, p.1))
 
-pub same_apart : {X Y Z V : Type 0} {A : Rule X} {B : Rule Y} {C : Rule Z} (f : X × (Y × Z) → V) → Same (λ n. Made (apart f) ((A n then B n) then C n)) (λ n. Made f (A n then B n then C n))
+pub same_apart : {X Y Z V : Type 0} {A : Rule X} {B : Rule Y} {C : Rule Z} (f : X × (Y × Z) → V)
+    → Same (λ n. Made (apart f) ((A n then B n) then C n)) (λ n. Made f (A n then B n then C n))
 same_apart f = record {
   to = λ n ts rest x r. record {
     part = (r.part.0.0, (r.part.0.1, r.part.1));
@@ -65,42 +74,15 @@ same_apart f = record {
 abbrev pub headed_for : HeadOfFor × Stmt → Stmt
 headed_for p = stmt'.For p.0.0 p.0.1 p.0.2 p.0.3 p.1
 
-pub same_for : Same (λ n. Made headed_for (for_head n then stmt n)) (λ n. Made s.for_of (at sign.For then token sign.Open then first_part (declare n) (simple n) then optional (cond n) then token sign.Semicolon then
+pub same_for : Same (λ n. Made headed_for (for_head n then stmt n))
+    (λ n. Made s.for_of (at sign.For then token sign.Open then first_part (declare n) (simple n) then optional (cond n)
+    then token sign.Semicolon then
     optional (simple n) then token sign.Close then stmt n))
 same_for = record {
-  to = λ n ts rest x r. let h = r.read.front in let q = h.part in let a = h.read in let b = a.back in let c = b.back in let d = c.back in let e = d.back in let g = e.back in record {
-    part = (q.0, (q.1.0, (q.1.1.0, (q.1.1.1.0, (q.1.1.1.1.0, (q.1.1.1.1.1.0, (q.1.1.1.1.1.1, r.part.1)))))));
-    is = r.is ∙ ap (λ h. headed_for (h, r.part.1)) h.is;
-    read = record {
-      mid = a.mid;
-      front = a.front;
-      back = record {
-        mid = b.mid;
-        front = b.front;
-        back = record {
-          mid = c.mid;
-          front = c.front;
-          back = record {
-            mid = d.mid;
-            front = d.front;
-            back = record {
-              mid = e.mid;
-              front = e.front;
-              back = record { mid = g.mid; front = g.front; back = record { mid = r.read.mid; front = g.back; back = r.read.back } };
-            };
-          };
-        };
-      };
-    };
-  };
-  back = λ n ts rest x r. let q = r.part in let a = r.read in let b = a.back in let c = b.back in let d = c.back in let e = d.back in let g = e.back in let k = g.back in record {
-    part = (for_head_of (q.0, (q.1.0, (q.1.1.0, (q.1.1.1.0, (q.1.1.1.1.0, (q.1.1.1.1.1.0, q.1.1.1.1.1.1.0)))))), q.1.1.1.1.1.1.1);
-    is = r.is;
-    read = record {
-      mid = k.mid;
-      front = record {
-        part = (q.0, (q.1.0, (q.1.1.0, (q.1.1.1.0, (q.1.1.1.1.0, (q.1.1.1.1.1.0, q.1.1.1.1.1.1.0))))));
-        is = refl;
+  to = λ n ts rest x r. let h = r.read.front in let q = h.part in let a = h.read in let b = a.back in let c = b.back in
+      let d = c.back in let e = d.back in let g = e.back in record {
+        part = (q.0, (q.1.0, (q.1.1.0, (q.1.1.1.0, (q.1.1.1.1.0, (q.1.1.1.1.1.0, (q.1.1.1.1.1.1, r.part.1)))))));
+        is = r.is ∙ ap (λ h. headed_for (h, r.part.1)) h.is;
         read = record {
           mid = a.mid;
           front = a.front;
@@ -116,23 +98,68 @@ same_for = record {
                 back = record {
                   mid = e.mid;
                   front = e.front;
-                  back = record {
-                    mid = g.mid;
-                    front = g.front;
-                    back = k.front;
-                  };
+                  back =
+                      record {
+                        mid = g.mid;
+                        front = g.front;
+                        back = record { mid = r.read.mid; front = g.back; back = r.read.back };
+                      };
                 };
               };
             };
           };
         };
       };
-      back = k.back;
-    };
-  };
+  back = λ n ts rest x r. let q = r.part in let a = r.read in let b = a.back in let c = b.back in let d = c.back in
+      let e = d.back in let g = e.back in let k = g.back in record {
+        part = (
+          for_head_of (q.0, (q.1.0, (q.1.1.0, (q.1.1.1.0, (q.1.1.1.1.0, (q.1.1.1.1.1.0, q.1.1.1.1.1.1.0)))))),
+          q.1.1.1.1.1.1.1,
+        );
+        is = r.is;
+        read = record {
+          mid = k.mid;
+          front = record {
+            part = (q.0, (q.1.0, (q.1.1.0, (q.1.1.1.0, (q.1.1.1.1.0, (q.1.1.1.1.1.0, q.1.1.1.1.1.1.0))))));
+            is = refl;
+            read = record {
+              mid = a.mid;
+              front = a.front;
+              back = record {
+                mid = b.mid;
+                front = b.front;
+                back = record {
+                  mid = c.mid;
+                  front = c.front;
+                  back = record {
+                    mid = d.mid;
+                    front = d.front;
+                    back = record {
+                      mid = e.mid;
+                      front = e.front;
+                      back = record {
+                        mid = g.mid;
+                        front = g.front;
+                        back = k.front;
+                      };
+                    };
+                  };
+                };
+              };
+            };
+          };
+          back = k.back;
+        };
+      };
 }
 
-pub least_do_tail : (n : ℕ) → Alive (λ n. token sign.While then bracketed (cond n) then token sign.Semicolon) no_sign n []
-least_do_tail n = least_pair (good_one sign.While) (good_pair good_closed_cond (good_one sign.Semicolon) refl) refl refl n (least_one sign.While (real sign.While tt) n)
-    (least_pair good_closed_cond (good_one sign.Semicolon) refl refl n (alive_made middle (least_pair (good_one sign.Open) (good_pair good_cond (good_one sign.Close) refl) refl refl n (least_one sign.Open (real sign.Open tt) n)
-    (least_pair good_cond (good_one sign.Close) refl refl n (least_cond n) (least_one sign.Close (real sign.Close tt) n)))) (least_one sign.Semicolon (real sign.Semicolon tt) n))
+pub least_do_tail : (n : ℕ)
+    → Alive (λ n. token sign.While then bracketed (cond n) then token sign.Semicolon) no_sign n []
+least_do_tail n = least_pair (good_one sign.While) (good_pair good_closed_cond (good_one sign.Semicolon) refl) refl refl
+    n (least_one sign.While (real sign.While tt) n)
+    (least_pair good_closed_cond (good_one sign.Semicolon) refl refl n
+    (alive_made middle
+    (least_pair (good_one sign.Open) (good_pair good_cond (good_one sign.Close) refl) refl refl n
+    (least_one sign.Open (real sign.Open tt) n)
+    (least_pair good_cond (good_one sign.Close) refl refl n (least_cond n)
+    (least_one sign.Close (real sign.Close tt) n)))) (least_one sign.Semicolon (real sign.Semicolon tt) n))

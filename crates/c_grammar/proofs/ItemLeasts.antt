@@ -28,7 +28,12 @@ pub least_field : (n : ℕ) → Alive (λ n. i.field) no_sign n []
 least_field n = record {
   more = sample sign.Int ∷ (sample sign.Id ∷ (sample sign.Semicolon ∷ []));
   tree = i.datum_fields_of (data'.Int (sample sign.Int).at, (a_name ∷ [], sample sign.Semicolon));
-  reads = λ y h. inr (make i.datum_fields_of (and_then _ (int_data _) (and_then _ (make s.joined (and_then _ (named _) Many.none)) (tok sign.Semicolon (real sign.Semicolon tt) y))));
+  reads =
+      λ y h.
+      inr
+      (make i.datum_fields_of
+      (and_then _ (int_data _)
+      (and_then _ (make s.joined (and_then _ (named _) Many.none)) (tok sign.Semicolon (real sign.Semicolon tt) y))));
 }
 
 -- int a
@@ -40,14 +45,18 @@ least_param n = record {
 }
 
 no_params : (y : List Token) → i.closed_params (sample sign.Open ∷ (sample sign.Close ∷ y)) y None
-no_params y = make s.middle (and_then _ (tok sign.Open (real sign.Open tt) _) (and_then _ (inr (refl, refl)) (tok sign.Close (real sign.Close tt) y)))
+no_params y = make s.middle
+    (and_then _ (tok sign.Open (real sign.Open tt) _)
+    (and_then _ (inr (refl, refl)) (tok sign.Close (real sign.Close tt) y)))
 
 -- void a ( )
 pub least_head : (n : ℕ) → Alive (λ n. i.head) no_sign n []
 least_head n = record {
   more = sample sign.Void ∷ (sample sign.Id ∷ (sample sign.Open ∷ (sample sign.Close ∷ [])));
   tree = i.head_of (return'.Void (sample sign.Void).at, (a_name, None));
-  reads = λ y h. make i.head_of (and_then _ (inl (make return'.Void (at_tok sign.Void (real sign.Void tt) _))) (and_then _ (named _) (no_params y)));
+  reads = λ y h. make i.head_of
+      (and_then _ (inl (make return'.Void (at_tok sign.Void (real sign.Void tt) _)))
+      (and_then _ (named _) (no_params y)));
 }
 
 -- }
@@ -60,7 +69,12 @@ least_names n = record {
 
 -- ;
 pub least_ending : (n : ℕ) → Alive ending elses n []
-least_ending n = record { more = sample sign.Semicolon ∷ []; tree = None; reads = λ y h. inl (make no_block (tok sign.Semicolon (real sign.Semicolon tt) y)) }
+least_ending n =
+    record {
+      more = sample sign.Semicolon ∷ [];
+      tree = None;
+      reads = λ y h. inl (make no_block (tok sign.Semicolon (real sign.Semicolon tt) y));
+    }
 
 -- ( ) ;
 pub least_called : (n : ℕ) → Alive called elses n []
@@ -75,14 +89,20 @@ pub least_data_rest : (n : ℕ) → Alive data_rest elses n []
 least_data_rest n = record {
   more = sample sign.Semicolon ∷ [];
   tree = inr (None, ([], sample sign.Semicolon));
-  reads = λ y h. inr (make inr (and_then _ (inr (refl, refl)) (and_then _ Many.none (tok sign.Semicolon (real sign.Semicolon tt) y))));
+  reads =
+      λ y h.
+      inr
+      (make inr (and_then _ (inr (refl, refl)) (and_then _ Many.none (tok sign.Semicolon (real sign.Semicolon tt) y))));
 }
 
 pub least_pointer_rest : (n : ℕ) → Alive pointer_rest elses n []
 least_pointer_rest n = record {
   more = sample sign.Semicolon ∷ [];
   tree = inr (None, ([], sample sign.Semicolon));
-  reads = λ y h. inr (make inr (and_then _ (inr (refl, refl)) (and_then _ Many.none (tok sign.Semicolon (real sign.Semicolon tt) y))));
+  reads =
+      λ y h.
+      inr
+      (make inr (and_then _ (inr (refl, refl)) (and_then _ Many.none (tok sign.Semicolon (real sign.Semicolon tt) y))));
 }
 
 -- a ;
@@ -90,7 +110,14 @@ pub least_enum_rest : (n : ℕ) → Alive enum_rest elses n []
 least_enum_rest n = record {
   more = sample sign.Id ∷ (sample sign.Semicolon ∷ []);
   tree = inr (a_name, inr (None, ([], sample sign.Semicolon)));
-  reads = λ y h. inr (make inr (and_then _ (named _) (inr (make inr (and_then _ (inr (refl, refl)) (and_then _ Many.none (tok sign.Semicolon (real sign.Semicolon tt) y)))))));
+  reads =
+      λ y h.
+      inr
+      (make inr
+      (and_then _ (named _)
+      (inr
+      (make inr
+      (and_then _ (inr (refl, refl)) (and_then _ Many.none (tok sign.Semicolon (real sign.Semicolon tt) y)))))));
 }
 
 -- ;

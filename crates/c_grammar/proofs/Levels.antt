@@ -1,5 +1,6 @@
 -- Levels that are opened by their own first token.
-use Rattle.std.proofs.Common.{◌≡◌, ◌⊎◌, ◌≤◌, ℕ, zero, suc, Bool, true, false, List, [], ◌∷◌, ◌++◌, None, refl, sym, ap, ◌∙◌, subst, append_assoc, inl, inr, arith}
+use Rattle.std.proofs.Common.{◌≡◌, ◌⊎◌, ◌≤◌, ℕ, zero, suc, Bool, true, false, List, [], ◌∷◌, ◌++◌, None, refl, sym, ap}
+use Rattle.std.proofs.Common.{◌∙◌, subst, append_assoc, inl, inr, arith}
 use Rattle.fore_base.specs.declared.place.Place.{Place}
 use Rattle.c_ast.specs.declared.statements.First.TheVariants as first'
 use Rattle.c_ast.specs.declared.statements.Stmt.{Stmt}
@@ -25,9 +26,11 @@ use Rattle.c_grammar.proofs.Tokens.{sample, real}
 use Rattle.c_grammar.specs.inner.Parted.{begins_flat, begins_level}
 
 -- where a level begins and none is left
-pub deep_first : {X : Type 0} (F : Rule X) (c ba hs : Signs) (end : Place) (ts : List Token) → hs (sign_at ts) ≡ true → hs sign.End ≡ false → Alive F ba 0 [] →
+pub deep_first : {X : Type 0} (F : Rule X) (c ba hs : Signs) (end : Place) (ts : List Token) → hs (sign_at ts) ≡ true
+    → hs sign.End ≡ false → Alive F ba 0 [] →
     ((t : Token) → hs (sign_of t) ≡ true → Alive F ba 1 (t ∷ [])) →
-    ((z y : List Token) (x : X) → hs (sign_at z) ≡ true → F 0 z y x → ⊥) → Fails F c ba hs 0 end ts (Deep (place_at end ts))
+    ((z y : List Token) (x : X) → hs (sign_at z) ≡ true → F 0 z y x → ⊥)
+    → Fails F c ba hs 0 end ts (Deep (place_at end ts))
 deep_first F c ba hs end [] first solid least on dead = absurd (clash (sym first ∙ solid))
 deep_first {X} F c ba hs end (t ∷ rest) first solid least on dead = sunk (record {
   pre = [];
@@ -43,7 +46,8 @@ deep_first {X} F c ba hs end (t ∷ rest) first solid least on dead = sunk (reco
   deeper = on t first;
 })
   where
-    within_none : (m : ℕ) → m ≤ 0 → (z y : List Token) (x : X) → sign_at z ≡ sign_of t → c (sign_at y) ≡ false → F m z y x → ⊥
+    within_none : (m : ℕ) → m ≤ 0 → (z y : List Token) (x : X) → sign_at z ≡ sign_of t → c (sign_at y) ≡ false
+        → F m z y x → ⊥
     within_none zero le z y x same h r = dead z y x (ap hs same ∙ first) r
     within_none (suc m) le z y x same h r = nope le
       where
@@ -59,12 +63,18 @@ either_of s ss x h = split (same_sign s x) refl h
     split false e k = inr k
 
 -- shortest statements
-pub empty_stmt : (n : ℕ) (y : List Token) → stmt n (sample sign.Semicolon ∷ y) y (stmt'.Empty (sample sign.Semicolon).at)
+pub empty_stmt : (n : ℕ) (y : List Token)
+    → stmt n (sample sign.Semicolon ∷ y) y (stmt'.Empty (sample sign.Semicolon).at)
 empty_stmt zero y = inr (inl (make stmt'.Empty (at_tok sign.Semicolon (real sign.Semicolon tt) y)))
 empty_stmt (suc n) y = inr (inl (make stmt'.Empty (at_tok sign.Semicolon (real sign.Semicolon tt) y)))
 
 abbrev pub least_stmt : (n : ℕ) → Alive stmt elses n []
-least_stmt n = record { more = sample sign.Semicolon ∷ []; tree = stmt'.Empty (sample sign.Semicolon).at; reads = λ y h. empty_stmt n y }
+least_stmt n =
+    record {
+      more = sample sign.Semicolon ∷ [];
+      tree = stmt'.Empty (sample sign.Semicolon).at;
+      reads = λ y h. empty_stmt n y;
+    }
 
 -- a condition in brackets, with what stands after it
 module _ (t : Token) where
@@ -101,13 +111,19 @@ module _ (t : Token) where
     more = sample sign.CloseBrace ∷ [];
     tree = stmt'.Block (s.block_of (t.at, ([], sample sign.CloseBrace)));
     reads = λ y h.
-        inl (inl (make stmt'.Block (make s.block_of (and_then _ (told sign.OpenBrace e _) (and_then _ Many.none (tok sign.CloseBrace (real sign.CloseBrace tt) y))))));
+        inl
+        (inl
+        (make stmt'.Block
+        (make s.block_of
+        (and_then _ (told sign.OpenBrace e _)
+        (and_then _ Many.none (tok sign.CloseBrace (real sign.CloseBrace tt) y))))));
   }
 
   abbrev if_more : List Token
   if_more = sample sign.Open ∷ (c.more ++ (sample sign.Close ∷ tail))
 
-  joined_front : (y : List Token) → (sample sign.Open ∷ (c.more ++ (sample sign.Close ∷ tail))) ++ y ≡ sample sign.Open ∷ (c.more ++ (sample sign.Close ∷ (sample sign.Semicolon ∷ y)))
+  joined_front : (y : List Token) → (sample sign.Open ∷ (c.more ++ (sample sign.Close ∷ tail))) ++ y ≡ sample sign.Open
+      ∷ (c.more ++ (sample sign.Close ∷ (sample sign.Semicolon ∷ y)))
   joined_front y = ap (λ l. sample sign.Open ∷ l) (append_assoc c.more (sample sign.Close ∷ tail) y)
 
   on_if : sign_of t ≡ sign.If → Alive stmt elses 1 (t ∷ [])
@@ -115,7 +131,13 @@ module _ (t : Token) where
     more = if_more;
     tree = s.if_of (t.at, (c.tree, (stmt'.Empty (sample sign.Semicolon).at, None)));
     reads = λ y h.
-        inl (inr (inl (make s.if_of (and_then _ (told sign.If e _) (and_then (sample sign.Semicolon ∷ y) (subst (λ l. s.bracketed (cond 0) l (sample sign.Semicolon ∷ y) c.tree) (sym (joined_front y)) (closed _))
+        inl
+        (inr
+        (inl
+        (make s.if_of
+        (and_then _ (told sign.If e _)
+        (and_then (sample sign.Semicolon ∷ y)
+        (subst (λ l. s.bracketed (cond 0) l (sample sign.Semicolon ∷ y) c.tree) (sym (joined_front y)) (closed _))
         (and_then _ (empty_stmt 0 y) (inr ((refl, refl), λ i. clash (sym (ap elses i) ∙ h)))))))));
   }
 
@@ -124,25 +146,59 @@ module _ (t : Token) where
     more = if_more;
     tree = s.while_of (t.at, (c.tree, stmt'.Empty (sample sign.Semicolon).at));
     reads = λ y h.
-        inl (inr (inr (inl (make s.while_of (and_then _ (told sign.While e _) (and_then (sample sign.Semicolon ∷ y) (subst (λ l. s.bracketed (cond 0) l (sample sign.Semicolon ∷ y) c.tree) (sym (joined_front y)) (closed _))
+        inl
+        (inr
+        (inr
+        (inl
+        (make s.while_of
+        (and_then _ (told sign.While e _)
+        (and_then (sample sign.Semicolon ∷ y)
+        (subst (λ l. s.bracketed (cond 0) l (sample sign.Semicolon ∷ y) c.tree) (sym (joined_front y)) (closed _))
         (empty_stmt 0 y)))))));
   }
 
   on_do : sign_of t ≡ sign.Do → Alive stmt elses 1 (t ∷ [])
   on_do e = record {
     more = sample sign.Semicolon ∷ (sample sign.While ∷ if_more);
-    tree = s.do_of (t.at, (stmt'.Empty (sample sign.Semicolon).at, (sample sign.While, (c.tree, sample sign.Semicolon))));
+    tree =
+        s.do_of (t.at, (stmt'.Empty (sample sign.Semicolon).at, (sample sign.While, (c.tree, sample sign.Semicolon))));
     reads = λ y h.
-        inl (inr (inr (inr (inl (make s.do_of (and_then _ (told sign.Do e _) (and_then _ (empty_stmt 0 _) (and_then _ (tok sign.While (real sign.While tt) _)
-        (and_then (sample sign.Semicolon ∷ y) (subst (λ l. s.bracketed (cond 0) l (sample sign.Semicolon ∷ y) c.tree) (sym (joined_front y)) (closed _)) (tok sign.Semicolon (real sign.Semicolon tt) y))))))))));
+        inl
+        (inr
+        (inr
+        (inr
+        (inl
+        (make s.do_of
+        (and_then _ (told sign.Do e _)
+        (and_then _ (empty_stmt 0 _) (and_then _ (tok sign.While (real sign.While tt) _)
+        (and_then (sample sign.Semicolon ∷ y)
+        (subst (λ l. s.bracketed (cond 0) l (sample sign.Semicolon ∷ y) c.tree) (sym (joined_front y)) (closed _))
+        (tok sign.Semicolon (real sign.Semicolon tt) y))))))))));
   }
 
   on_for : sign_of t ≡ sign.For → Alive stmt elses 1 (t ∷ [])
   on_for e = record {
-    more = sample sign.Open ∷ (sample sign.Semicolon ∷ (sample sign.Semicolon ∷ (sample sign.Close ∷ (sample sign.Semicolon ∷ []))));
-    tree = s.for_of (t.at, (sample sign.Open, (first'.Nothing, (None, (sample sign.Semicolon, (None, (sample sign.Close, stmt'.Empty (sample sign.Semicolon).at)))))));
-    reads = λ y h. inl (inr (inr (inr (inr (make s.for_of (and_then _ (told sign.For e _) (and_then _ (tok sign.Open (real sign.Open tt) _)
-        (and_then _ (inr (make s.first (and_then _ (inr (refl, refl)) (tok sign.Semicolon (real sign.Semicolon tt) _)))) (and_then _ (inr (refl, refl)) (and_then _ (tok sign.Semicolon (real sign.Semicolon tt) _)
+    more =
+        sample sign.Open
+        ∷ (sample sign.Semicolon ∷ (sample sign.Semicolon ∷ (sample sign.Close ∷ (sample sign.Semicolon ∷ []))));
+    tree =
+        s.for_of (
+          t.at,
+          (
+            sample sign.Open,
+            (
+              first'.Nothing,
+              (None, (sample sign.Semicolon, (None, (sample sign.Close, stmt'.Empty (sample sign.Semicolon).at)))),
+            ),
+          ),
+        );
+    reads =
+        λ y h.
+        inl
+        (inr
+        (inr (inr (inr (make s.for_of (and_then _ (told sign.For e _) (and_then _ (tok sign.Open (real sign.Open tt) _)
+        (and_then _ (inr (make s.first (and_then _ (inr (refl, refl)) (tok sign.Semicolon (real sign.Semicolon tt) _))))
+        (and_then _ (inr (refl, refl)) (and_then _ (tok sign.Semicolon (real sign.Semicolon tt) _)
         (and_then _ (inr (refl, refl)) (and_then _ (tok sign.Close (real sign.Close tt) _) (empty_stmt 0 y)))))))))))));
   }
 
@@ -153,16 +209,21 @@ module _ (t : Token) where
       | inl e ↦ on_if e
       | inr l ↦ elim (either_of sign.While (sign.Do ∷ (sign.For ∷ [])) (sign_of t) l) [
         | inl e ↦ on_while e
-        | inr m ↦ elim (either_of sign.Do (sign.For ∷ []) (sign_of t) m) [ inl e ↦ on_do e | inr o ↦ on_for (one_of sign.For (sign_of t) o) ]
+        | inr m ↦ elim (either_of sign.Do (sign.For ∷ []) (sign_of t) m)
+            [ inl e ↦ on_do e | inr o ↦ on_for (one_of sign.For (sign_of t) o) ]
       ]
     ]
   ]
 
 no_stmt : (z y : List Token) (x : Stmt) → begins_level (sign_at z) ≡ true → stmt 0 z y x → ⊥
 no_stmt z y x first (inl r) = r
-no_stmt z y x first (inr r) = elim (good_flat.starts 0 z y x r) [ inl f ↦ clash (sym first ∙ apart_of begins_level begins_flat refl (sign_at z) f) | inr e ↦ clash (sym e.0) ]
+no_stmt z y x first (inr r) =
+    elim (good_flat.starts 0 z y x r)
+    [ inl f ↦ clash (sym first ∙ apart_of begins_level begins_flat refl (sign_at z) f) | inr e ↦ clash (sym e.0) ]
 
 -- a statement that is a level where none is left
-pub deep_stmt : (n : ℕ) (end : Place) (ts : List Token) → n ≡ 0 → begins_level (sign_at ts) ≡ true → Fails stmt no_sign elses begins_level n end ts (Deep (place_at end ts))
-deep_stmt n end ts is first = subst (λ m. Fails stmt no_sign elses begins_level m end ts (Deep (place_at end ts))) (sym is)
+pub deep_stmt : (n : ℕ) (end : Place) (ts : List Token) → n ≡ 0 → begins_level (sign_at ts) ≡ true
+    → Fails stmt no_sign elses begins_level n end ts (Deep (place_at end ts))
+deep_stmt n end ts is first =
+    subst (λ m. Fails stmt no_sign elses begins_level m end ts (Deep (place_at end ts))) (sym is)
     (deep_first stmt no_sign elses begins_level end ts first refl (least_stmt 0) stmt_on no_stmt)

@@ -31,34 +31,60 @@ literal_only t z y x (inr (inr (inl r))) = ap rest_of r.read.read.0
 literal_only t z y x (inr (inr (inr r))) = ap rest_of r.read.read.0
 
 module _ (n : ℕ) (ts rest : List Token) (t : Token) (is : ts ≡ t ∷ rest) where
-  takes_single : (x : Operand) → ((y : List Token) → literal_part (t ∷ y) y x) → Takes a_literal.rule no_sign no_sign n ts rest x
-  takes_single x reads = record { front = t ∷ []; is = is; alike = λ y h. reads y; only = λ m z y u same h r. literal_only t z y u r }
+  takes_single : (x : Operand) → ((y : List Token) → literal_part (t ∷ y) y x)
+      → Takes a_literal.rule no_sign no_sign n ts rest x
+  takes_single x reads = record
+      { front = t ∷ []; is = is; alike = λ y h. reads y; only = λ m z y u same h r. literal_only t z y u r }
 
   pub takes_null : sign_of t ≡ sign.Null → Takes a_literal.rule no_sign no_sign n ts rest (operand'.Null t.at)
-  takes_null s = takes_single (operand'.Null t.at) (λ y. inr (inl (record { part = t.at; is = refl; read = record { part = t; is = refl; read = (refl, s) } })))
+  takes_null s = takes_single (operand'.Null t.at)
+      (λ y. inr (inl (record { part = t.at; is = refl; read = record { part = t; is = refl; read = (refl, s) } })))
 
   pub takes_true : sign_of t ≡ sign.True → Takes a_literal.rule no_sign no_sign n ts rest (operand'.True t.at)
-  takes_true s = takes_single (operand'.True t.at) (λ y. inr (inr (inl (record { part = t.at; is = refl; read = record { part = t; is = refl; read = (refl, s) } }))))
+  takes_true s = takes_single (operand'.True t.at)
+      (λ y.
+      inr (inr (inl (record { part = t.at; is = refl; read = record { part = t; is = refl; read = (refl, s) } }))))
 
   pub takes_false : sign_of t ≡ sign.False → Takes a_literal.rule no_sign no_sign n ts rest (operand'.False t.at)
-  takes_false s = takes_single (operand'.False t.at) (λ y. inr (inr (inr (record { part = t.at; is = refl; read = record { part = t; is = refl; read = (refl, s) } }))))
+  takes_false s = takes_single (operand'.False t.at)
+      (λ y.
+      inr (inr (inr (record { part = t.at; is = refl; read = record { part = t; is = refl; read = (refl, s) } }))))
 
-  pub takes_number : (text : List ℕ) → sign_of t ≡ sign.Number → text ≡ t.text → Takes a_literal.rule no_sign no_sign n ts rest (operand'.Number (record { text = text; at = t.at }))
+  pub takes_number : (text : List ℕ) → sign_of t ≡ sign.Number → text ≡ t.text
+      → Takes a_literal.rule no_sign no_sign n ts rest (operand'.Number (record { text = text; at = t.at }))
   takes_number text s same = takes_single (operand'.Number (record { text = text; at = t.at }))
-      (λ y. inl (record { part = name_of t; is = ap (λ text. operand'.Number (record { text = text; at = t.at })) same; read = record { part = t; is = refl; read = (refl, s) } }))
+      (λ y.
+      inl
+      (record {
+        part = name_of t;
+        is = ap (λ text. operand'.Number (record { text = text; at = t.at })) same;
+        read = record { part = t; is = refl; read = (refl, s) };
+      }))
 
 least_literal : (n : ℕ) → Alive a_literal.rule no_sign n []
 least_literal n = record {
   more = sample sign.Null ∷ [];
   tree = operand'.Null (sample sign.Null).at;
-  reads = λ y h. inr (inl (record { part = (sample sign.Null).at; is = refl; read = record { part = sample sign.Null; is = refl; read = (refl, sampled sign.Null (real sign.Null tt)) } }));
+  reads =
+      λ y h.
+      inr
+      (inl
+      (record {
+        part = (sample sign.Null).at;
+        is = refl;
+        read = record { part = sample sign.Null; is = refl; read = (refl, sampled sign.Null (real sign.Null tt)) };
+      }));
 }
 
-pub no_literal : (n : ℕ) (end : Place) (ts : List Token) (e : SyntaxFault) → e ≡ Syntax (place_at end ts) → sign_at ts ≢ sign.Null → sign_at ts ≢ sign.True → sign_at ts ≢ sign.False → sign_at ts ≢ sign.Number →
+pub no_literal : (n : ℕ) (end : Place) (ts : List Token) (e : SyntaxFault) → e ≡ Syntax (place_at end ts)
+    → sign_at ts ≢ sign.Null → sign_at ts ≢ sign.True → sign_at ts ≢ sign.False → sign_at ts ≢ sign.Number →
     Fails a_literal.rule no_sign no_sign no_sign n end ts e
-no_literal n end ts e is null yes_ no_ num = subst (λ e. Fails a_literal.rule no_sign no_sign no_sign n end ts e) (sym is)
+no_literal n end ts e is null yes_ no_ num =
+    subst (λ e. Fails a_literal.rule no_sign no_sign no_sign n end ts e) (sym is)
     (fails_first good_literal n end ts (least_literal n)
-    (or_of _ _ (told_apart sign.Number s num) (or_of _ _ (told_apart sign.Null s null) (or_of _ _ (told_apart sign.True s yes_) (or_of _ _ (told_apart sign.False s no_) refl)))))
+    (or_of _ _ (told_apart sign.Number s num)
+    (or_of _ _ (told_apart sign.Null s null)
+    (or_of _ _ (told_apart sign.True s yes_) (or_of _ _ (told_apart sign.False s no_) refl)))))
   where
     s : Sign
     s = sign_at ts

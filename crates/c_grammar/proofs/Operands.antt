@@ -1,5 +1,6 @@
 -- How an operand is read, and where it fails.
-use Rattle.std.proofs.Common.{cond, ◌≡◌, ◌≢◌, ◌≤◌, ℕ, zero, suc, Bool, true, false, List, [], ◌∷◌, ◌++◌, refl, sym, ap, ◌∙◌, subst, inl, inr, arith}
+use Rattle.std.proofs.Common.{cond, ◌≡◌, ◌≢◌, ◌≤◌, ℕ, zero, suc, Bool, true, false, List, [], ◌∷◌, ◌++◌, refl, sym, ap}
+use Rattle.std.proofs.Common.{◌∙◌, subst, inl, inr, arith}
 use Rattle.fore_base.specs.declared.place.Place.{Place}
 use Rattle.c_ast.specs.declared.operands.Arrow.{Arrow}
 use Rattle.c_ast.specs.declared.operands.Name.{Name}
@@ -9,8 +10,10 @@ use Rattle.c_lexer.specs.declared.token.Token.{Token}
 use Rattle.c_grammar.specs.inner.Faults.{Alive, Fails, Takes}
 use Rattle.c_grammar.specs.inner.Faults.Fails.{sunk}
 use Rattle.c_grammar.specs.Grammar.{Rule, token, empty, ◌then◌, ◌or◌, Many}
-use Rattle.c_grammar.specs.inner.Sets.{no_sign, arrows, names, opens, commas, tails, operand_goes_on, operands_go_on, arguments_go_on, begins_operand}
-use Rattle.c_grammar.specs.inner.Shapes.{IsName, a_name, some_arrows, next_argument, some_arguments, all_arguments, a_literal}
+use Rattle.c_grammar.specs.inner.Sets.{no_sign, arrows, names, opens, commas, tails, operand_goes_on, operands_go_on}
+use Rattle.c_grammar.specs.inner.Sets.{arguments_go_on, begins_operand}
+use Rattle.c_grammar.specs.inner.Shapes.{IsName, a_name, some_arrows, next_argument, some_arguments, all_arguments}
+use Rattle.c_grammar.specs.inner.Shapes.{a_literal}
 use Rattle.c_grammar.specs.Signs.{sign_of, sign_at, same_sign}
 use Rattle.c_grammar.specs.Syntax.{name, name_of, path_of, middle, series, joined, second, call_of, argument}
 use Rattle.c_grammar.specs.declared.fault.SyntaxFault.{SyntaxFault}
@@ -18,9 +21,14 @@ use Rattle.c_grammar.specs.declared.fault.SyntaxFault.TheVariants.{Syntax, Deep}
 use Rattle.c_grammar.specs.declared.signs.Sign.TheVariants as sign
 use Rattle.c_grammar.proofs.Decide.{apart_of, within}
 use Rattle.c_grammar.proofs.Families.{one}
-use Rattle.c_grammar.proofs.Goods.{good_one, good_name, good_arrows, good_more_operands, good_operands, good_some_operands, good_closed_operands, good_arguments, good_argument, good_tail, good_word, good_literal, tail_part, word_of, Tail, factored, inner_arguments, same_layer, layer_is, begins_literal}
+use Rattle.c_grammar.proofs.Goods.{good_one, good_name, good_arrows, good_more_operands, good_operands}
+use Rattle.c_grammar.proofs.Goods.{good_some_operands, good_closed_operands, good_arguments, good_argument, good_tail}
+use Rattle.c_grammar.proofs.Goods.{good_word, good_literal, tail_part, word_of, Tail, factored, inner_arguments}
+use Rattle.c_grammar.proofs.Goods.{same_layer, layer_is, begins_literal}
 use Rattle.c_grammar.proofs.Lists.{Leads}
-use Rattle.c_grammar.proofs.Parts.{Same, good_made, good_nothing, good_level, takes_made, fails_made, fails_same, takes_same, takes_nothing, takes_left, takes_right, fails_left, fails_right, fails_level, takes_level, takes_token}
+use Rattle.c_grammar.proofs.Parts.{Same, good_made, good_nothing, good_level, takes_made, fails_made, fails_same}
+use Rattle.c_grammar.proofs.Parts.{takes_same, takes_nothing, takes_left, takes_right, fails_left, fails_right}
+use Rattle.c_grammar.proofs.Parts.{fails_level, takes_level, takes_token}
 use Rattle.c_grammar.proofs.Repeats.{least_many}
 use Rattle.c_grammar.proofs.Rules.{Good}
 use Rattle.c_grammar.proofs.Steps.{pair, in_front, in_back, widen_takes, widen_fails}
@@ -38,83 +46,133 @@ least_closed : (n : ℕ) → Alive Closed no_sign n []
 least_closed n = record {
   more = sample sign.Close ∷ [];
   tree = ([], sample sign.Close);
-  reads = λ y h. record { mid = sample sign.Close ∷ y; front = inr (refl, refl); back = (refl, sampled sign.Close (real sign.Close tt)) };
+  reads =
+      λ y h.
+      record {
+        mid = sample sign.Close ∷ y;
+        front = inr (refl, refl);
+        back = (refl, sampled sign.Close (real sign.Close tt));
+      };
 }
 
 least_close : (n : ℕ) → Alive (one sign.Close) no_sign n []
-least_close n = record { more = sample sign.Close ∷ []; tree = sample sign.Close; reads = λ y h. (refl, sampled sign.Close (real sign.Close tt)) }
+least_close n =
+    record {
+      more = sample sign.Close ∷ [];
+      tree = sample sign.Close;
+      reads = λ y h. (refl, sampled sign.Close (real sign.Close tt));
+    }
 
 pub least_argument : (n : ℕ) → Alive argument no_sign n []
 least_argument n = record {
   more = sample sign.Null ∷ [];
   tree = operand'.Null (sample sign.Null).at;
-  reads = λ y h. inr (inr (inr (inl (record { part = (sample sign.Null).at; read = record { part = sample sign.Null; read = (refl, sampled sign.Null (real sign.Null tt)); is = refl }; is = refl }))));
+  reads =
+      λ y h.
+      inr
+      (inr
+      (inr
+      (inl
+      (record {
+        part = (sample sign.Null).at;
+        read = record { part = sample sign.Null; read = (refl, sampled sign.Null (real sign.Null tt)); is = refl };
+        is =
+            refl;
+      }))));
 }
 
 -- a list in brackets
 module _ (n : ℕ) (end : Place) (ts : List Token) (e : SyntaxFault) where
-  pub no_open : e ≡ Syntax (place_at end ts) → sign_at ts ≢ sign.Open → Fails all_arguments.rule no_sign no_sign no_sign n end ts e
+  pub no_open : e ≡ Syntax (place_at end ts) → sign_at ts ≢ sign.Open
+      → Fails all_arguments.rule no_sign no_sign no_sign n end ts e
   no_open is other = widen_fails no_sign no_sign no_sign refl refl refl (fails_made middle e
-      (in_front (good_one sign.Open) (good_closed_operands gs) refl refl (least_closed n) (fails_one sign.Open (real sign.Open tt) n end ts e is other)))
+      (in_front (good_one sign.Open) (good_closed_operands gs) refl refl (least_closed n)
+      (fails_one sign.Open (real sign.Open tt) n end ts e is other)))
 
-  pub bad_inside : (t : Token) (rest : List Token) → ts ≡ t ∷ rest → sign_of t ≡ sign.Open → Fails some_arguments.rule arguments_go_on no_sign no_sign n end rest e →
+  pub bad_inside : (t : Token) (rest : List Token) → ts ≡ t ∷ rest → sign_of t ≡ sign.Open
+      → Fails some_arguments.rule arguments_go_on no_sign no_sign n end rest e →
       Fails all_arguments.rule no_sign no_sign no_sign n end ts e
   bad_inside t rest is told f = widen_fails no_sign no_sign no_sign refl refl refl (fails_made middle e
       (in_back (good_one sign.Open) (good_closed_operands gs) refl refl refl (takes_token sign.Open n ts rest t is told)
-      (widen_fails no_sign no_sign no_sign refl refl refl (in_front (good_some_operands gs) (good_one sign.Close) refl refl (least_close n) f))))
+      (widen_fails no_sign no_sign no_sign refl refl refl
+      (in_front (good_some_operands gs) (good_one sign.Close) refl refl (least_close n) f))))
 
-  pub no_close : (t : Token) (rest later : List Token) (os : List Operand) → ts ≡ t ∷ rest → sign_of t ≡ sign.Open → Takes some_arguments.rule arguments_go_on no_sign n rest later os →
-      e ≡ Syntax (place_at end later) → sign_at later ≢ sign.Close → Fails all_arguments.rule no_sign no_sign no_sign n end ts e
-  no_close t rest later os is told took bad other = widen_fails no_sign no_sign no_sign refl refl refl (fails_made middle e
+  pub no_close : (t : Token) (rest later : List Token) (os : List Operand) → ts ≡ t ∷ rest → sign_of t ≡ sign.Open
+      → Takes some_arguments.rule arguments_go_on no_sign n rest later os →
+      e ≡ Syntax (place_at end later) → sign_at later ≢ sign.Close
+      → Fails all_arguments.rule no_sign no_sign no_sign n end ts e
+  no_close t rest later os is told took bad other =
+      widen_fails no_sign no_sign no_sign refl refl refl (fails_made middle e
       (in_back (good_one sign.Open) (good_closed_operands gs) refl refl refl (takes_token sign.Open n ts rest t is told)
-      (widen_fails no_sign no_sign no_sign refl refl refl (in_back (good_some_operands gs) (good_one sign.Close) refl refl refl took (fails_one sign.Close (real sign.Close tt) n end later e bad other)))))
+      (widen_fails no_sign no_sign no_sign refl refl refl
+      (in_back (good_some_operands gs) (good_one sign.Close) refl refl refl took
+      (fails_one sign.Close (real sign.Close tt) n end later e bad other)))))
 
-pub all_closed : (n : ℕ) (ts rest later after : List Token) (t u : Token) (os : List Operand) → ts ≡ t ∷ rest → sign_of t ≡ sign.Open →
-    Takes some_arguments.rule arguments_go_on no_sign n rest later os → later ≡ u ∷ after → sign_of u ≡ sign.Close → Takes all_arguments.rule no_sign no_sign n ts after os
-all_closed n ts rest later after t u os is told took close_is close_sign = widen_takes no_sign no_sign refl refl (takes_made middle
+pub all_closed : (n : ℕ) (ts rest later after : List Token) (t u : Token) (os : List Operand) → ts ≡ t ∷ rest
+    → sign_of t ≡ sign.Open →
+    Takes some_arguments.rule arguments_go_on no_sign n rest later os → later ≡ u ∷ after → sign_of u ≡ sign.Close
+    → Takes all_arguments.rule no_sign no_sign n ts after os
+all_closed n ts rest later after t u os is told took close_is close_sign =
+    widen_takes no_sign no_sign refl refl (takes_made middle
     (pair (good_one sign.Open) (good_closed_operands gs) refl (takes_token sign.Open n ts rest t is told)
-    (widen_takes no_sign no_sign refl refl (pair (good_some_operands gs) (good_one sign.Close) refl took (takes_token sign.Close n later after u close_is close_sign)))))
+    (widen_takes no_sign no_sign refl refl
+    (pair (good_some_operands gs) (good_one sign.Close) refl took
+    (takes_token sign.Close n later after u close_is close_sign)))))
 
 -- the list within
 module _ (n : ℕ) (ts : List Token) where
   pub none_there : begins_operand (sign_at ts) ≡ false → Takes some_arguments.rule arguments_go_on no_sign n ts ts []
   none_there other = widen_takes arguments_go_on no_sign refl refl
-      (takes_right (good_operands gs) (good_nothing []) (apart_of begins_operand no_sign refl) refl refl n ts ts [] other (takes_nothing [] n ts))
+      (takes_right (good_operands gs) (good_nothing []) (apart_of begins_operand no_sign refl) refl refl n ts ts []
+      other (takes_nothing [] n ts))
 
-  some_take : (rest : List Token) (os : List Operand) → begins_operand (sign_at ts) ≡ true → Takes (λ n. series sign.Comma (argument n)) operands_go_on no_sign n ts rest os →
+  some_take : (rest : List Token) (os : List Operand) → begins_operand (sign_at ts) ≡ true
+      → Takes (λ n. series sign.Comma (argument n)) operands_go_on no_sign n ts rest os →
       Takes some_arguments.rule arguments_go_on no_sign n ts rest os
   some_take rest os first t = widen_takes arguments_go_on no_sign refl refl
       (takes_left (good_operands gs) (good_nothing []) (apart_of begins_operand no_sign refl) refl n ts rest os first t)
 
-  some_fail : (end : Place) (e : SyntaxFault) → begins_operand (sign_at ts) ≡ true → Fails (λ n. series sign.Comma (argument n)) operands_go_on no_sign no_sign n end ts e →
+  some_fail : (end : Place) (e : SyntaxFault) → begins_operand (sign_at ts) ≡ true
+      → Fails (λ n. series sign.Comma (argument n)) operands_go_on no_sign no_sign n end ts e →
       Fails some_arguments.rule arguments_go_on no_sign no_sign n end ts e
   some_fail end e first f = widen_fails arguments_go_on no_sign no_sign refl refl refl
       (fails_left (good_operands gs) (good_nothing []) (apart_of begins_operand no_sign refl) refl n end ts first e f)
 
-  pub bad_first : (end : Place) (e : SyntaxFault) → begins_operand (sign_at ts) ≡ true → Fails argument operand_goes_on no_sign no_sign n end ts e → Fails some_arguments.rule arguments_go_on no_sign no_sign n end ts e
-  bad_first end e first f = some_fail end e first (widen_fails operands_go_on no_sign no_sign refl refl refl (fails_made joined e
+  pub bad_first : (end : Place) (e : SyntaxFault) → begins_operand (sign_at ts) ≡ true
+      → Fails argument operand_goes_on no_sign no_sign n end ts e
+      → Fails some_arguments.rule arguments_go_on no_sign no_sign n end ts e
+  bad_first end e first f =
+      some_fail end e first (widen_fails operands_go_on no_sign no_sign refl refl refl (fails_made joined e
       (in_front gs (good_more_operands gs) refl refl (least_many next_argument.rule no_sign n) f)))
 
-  pub begun : (end : Place) (mid : List Token) (x : Operand) → begins_operand (sign_at ts) ≡ true → Takes argument operand_goes_on no_sign n ts mid x →
-      Leads next_argument.rule commas operand_goes_on no_sign no_sign some_arguments.rule arguments_go_on no_sign no_sign n end ts mid (x ∷ [])
+  pub begun : (end : Place) (mid : List Token) (x : Operand) → begins_operand (sign_at ts) ≡ true
+      → Takes argument operand_goes_on no_sign n ts mid x →
+      Leads next_argument.rule commas operand_goes_on no_sign no_sign some_arguments.rule arguments_go_on no_sign
+      no_sign n end ts mid (x ∷ [])
   begun end mid x first t = record {
     takes = λ rest ys u. some_take rest (x ∷ ys) first (widen_takes operands_go_on no_sign refl refl (takes_made joined
         (pair gs (good_more_operands gs) refl t (widen_takes operands_go_on no_sign refl refl u))));
     fails = λ e f. some_fail end e first (widen_fails operands_go_on no_sign no_sign refl refl refl (fails_made joined e
-        (in_back gs (good_more_operands gs) refl refl refl t (widen_fails operands_go_on no_sign no_sign refl refl refl f))));
+        (in_back gs (good_more_operands gs) refl refl refl t
+        (widen_fails operands_go_on no_sign no_sign refl refl refl f))));
   }
 
 -- one more
 module _ (n : ℕ) (end : Place) (ts : List Token) (e : SyntaxFault) where
-  pub no_comma : e ≡ Syntax (place_at end ts) → sign_at ts ≢ sign.Comma → Fails next_argument.rule operand_goes_on no_sign no_sign n end ts e
+  pub no_comma : e ≡ Syntax (place_at end ts) → sign_at ts ≢ sign.Comma
+      → Fails next_argument.rule operand_goes_on no_sign no_sign n end ts e
   no_comma is other = widen_fails operand_goes_on no_sign no_sign refl refl refl (fails_made second e
-      (in_front (good_one sign.Comma) gs refl refl (least_argument n) (fails_one sign.Comma (real sign.Comma tt) n end ts e is other)))
+      (in_front (good_one sign.Comma) gs refl refl (least_argument n)
+      (fails_one sign.Comma (real sign.Comma tt) n end ts e is other)))
 
-  pub bad_next : (t : Token) (rest : List Token) → ts ≡ t ∷ rest → sign_of t ≡ sign.Comma → Fails argument operand_goes_on no_sign no_sign n end rest e → Fails next_argument.rule operand_goes_on no_sign no_sign n end ts e
+  pub bad_next : (t : Token) (rest : List Token) → ts ≡ t ∷ rest → sign_of t ≡ sign.Comma
+      → Fails argument operand_goes_on no_sign no_sign n end rest e
+      → Fails next_argument.rule operand_goes_on no_sign no_sign n end ts e
   bad_next t rest is told f = widen_fails operand_goes_on no_sign no_sign refl refl refl (fails_made second e
       (in_back (good_one sign.Comma) gs refl refl refl (takes_token sign.Comma n ts rest t is told) f))
 
-pub next_there : (n : ℕ) (ts rest after : List Token) (t : Token) (x : Operand) → ts ≡ t ∷ rest → sign_of t ≡ sign.Comma → Takes argument operand_goes_on no_sign n rest after x →
+pub next_there : (n : ℕ) (ts rest after : List Token) (t : Token) (x : Operand) → ts ≡ t ∷ rest → sign_of t ≡ sign.Comma
+    → Takes argument operand_goes_on no_sign n rest after x →
     Takes next_argument.rule operand_goes_on no_sign n ts after x
 next_there n ts rest after t x is told took = widen_takes operand_goes_on no_sign refl refl (takes_made second
     (pair (good_one sign.Comma) gs refl (takes_token sign.Comma n ts rest t is told) took))
@@ -133,59 +191,89 @@ same_argument = record {
 }
 
 -- an operand of the rule F, whose lists in brackets are those of the rule R
-module _ {R : Rule (List Operand)} (gr : Good R opens no_sign no_sign false) {F : Rule Operand} (same : Same (λ n. factored (R n)) F) (n : ℕ) (end : Place) (ts : List Token) where
-  pub takes_literal : (rest : List Token) (x : Operand) → names (sign_at ts) ≡ false → Takes a_literal.rule no_sign no_sign n ts rest x → Takes F operand_goes_on no_sign n ts rest x
+module _ {R : Rule (List Operand)} (gr : Good R opens no_sign no_sign false) {F : Rule Operand}
+    (same : Same (λ n. factored (R n)) F) (n : ℕ) (end : Place) (ts : List Token) where
+  pub takes_literal : (rest : List Token) (x : Operand) → names (sign_at ts) ≡ false
+      → Takes a_literal.rule no_sign no_sign n ts rest x → Takes F operand_goes_on no_sign n ts rest x
   takes_literal rest x other t = takes_same same (widen_takes operand_goes_on no_sign refl refl
       (takes_right (good_word gr) good_literal (apart_of names begins_literal refl) refl refl n ts rest x other t))
 
-  pub fails_literal : (e : SyntaxFault) → names (sign_at ts) ≡ false → Fails a_literal.rule no_sign no_sign no_sign n end ts e → Fails F operand_goes_on no_sign no_sign n end ts e
+  pub fails_literal : (e : SyntaxFault) → names (sign_at ts) ≡ false
+      → Fails a_literal.rule no_sign no_sign no_sign n end ts e → Fails F operand_goes_on no_sign no_sign n end ts e
   fails_literal e other f = fails_same same e (widen_fails operand_goes_on no_sign no_sign refl refl refl
       (fails_right (good_word gr) good_literal (apart_of names begins_literal refl) refl refl n end ts other e f))
 
-  word_takes : (rest : List Token) (p : Name × Tail) → names (sign_at ts) ≡ true → Takes (λ n. name then tail_part (R n)) tails no_sign n ts rest p → Takes F operand_goes_on no_sign n ts rest (word_of p)
+  word_takes : (rest : List Token) (p : Name × Tail) → names (sign_at ts) ≡ true
+      → Takes (λ n. name then tail_part (R n)) tails no_sign n ts rest p
+      → Takes F operand_goes_on no_sign n ts rest (word_of p)
   word_takes rest p first t = takes_same same (widen_takes operand_goes_on no_sign refl refl
-      (takes_left (good_word gr) good_literal (apart_of names begins_literal refl) refl n ts rest (word_of p) first (takes_made word_of t)))
+      (takes_left (good_word gr) good_literal (apart_of names begins_literal refl) refl n ts rest (word_of p) first
+      (takes_made word_of t)))
 
-  word_fails : (e : SyntaxFault) → names (sign_at ts) ≡ true → Fails (λ n. name then tail_part (R n)) tails no_sign no_sign n end ts e → Fails F operand_goes_on no_sign no_sign n end ts e
+  word_fails : (e : SyntaxFault) → names (sign_at ts) ≡ true
+      → Fails (λ n. name then tail_part (R n)) tails no_sign no_sign n end ts e
+      → Fails F operand_goes_on no_sign no_sign n end ts e
   word_fails e first f = fails_same same e (widen_fails operand_goes_on no_sign no_sign refl refl refl
-      (fails_left (good_word gr) good_literal (apart_of names begins_literal refl) refl n end ts first e (fails_made word_of e f)))
+      (fails_left (good_word gr) good_literal (apart_of names begins_literal refl) refl n end ts first e
+      (fails_made word_of e f)))
 
   least_tail : Alive (λ n. tail_part (R n)) no_sign n []
-  least_tail = record { more = []; tree = inr []; reads = λ y h. inr (record { part = []; read = Many.none; is = refl }) }
+  least_tail =
+      record { more = []; tree = inr []; reads = λ y h. inr (record { part = []; read = Many.none; is = refl }) }
 
-  pub no_name : (e : SyntaxFault) → names (sign_at ts) ≡ true → Fails a_name.rule no_sign no_sign no_sign n end ts e → Fails F operand_goes_on no_sign no_sign n end ts e
-  no_name e first f = word_fails e first (widen_fails tails no_sign no_sign refl refl refl (in_front good_name (good_tail gr) refl refl least_tail f))
+  pub no_name : (e : SyntaxFault) → names (sign_at ts) ≡ true → Fails a_name.rule no_sign no_sign no_sign n end ts e
+      → Fails F operand_goes_on no_sign no_sign n end ts e
+  no_name e first f = word_fails e first
+      (widen_fails tails no_sign no_sign refl refl refl (in_front good_name (good_tail gr) refl refl least_tail f))
 
   module _ (mid : List Token) (x : Name) (first : names (sign_at ts) ≡ true) (is_name : IsName ts mid x) where
-    back_fails : (e : SyntaxFault) → Fails (λ n. tail_part (R n)) tails no_sign no_sign n end mid e → Fails F operand_goes_on no_sign no_sign n end ts e
-    back_fails e f = word_fails e first (widen_fails tails no_sign no_sign refl refl refl (in_back good_name (good_tail gr) refl refl refl (takes_name n ts mid x is_name) f))
+    back_fails : (e : SyntaxFault) → Fails (λ n. tail_part (R n)) tails no_sign no_sign n end mid e
+        → Fails F operand_goes_on no_sign no_sign n end ts e
+    back_fails e f = word_fails e first
+        (widen_fails tails no_sign no_sign refl refl refl
+        (in_back good_name (good_tail gr) refl refl refl (takes_name n ts mid x is_name) f))
 
-    back_takes : (rest : List Token) (t : Tail) → Takes (λ n. tail_part (R n)) tails no_sign n mid rest t → Takes F operand_goes_on no_sign n ts rest (word_of (x, t))
-    back_takes rest t u = word_takes rest (x, t) first (widen_takes tails no_sign refl refl (pair good_name (good_tail gr) refl (takes_name n ts mid x is_name) u))
+    back_takes : (rest : List Token) (t : Tail) → Takes (λ n. tail_part (R n)) tails no_sign n mid rest t
+        → Takes F operand_goes_on no_sign n ts rest (word_of (x, t))
+    back_takes rest t u = word_takes rest (x, t) first
+        (widen_takes tails no_sign refl refl (pair good_name (good_tail gr) refl (takes_name n ts mid x is_name) u))
 
-    pub bad_arrows : (e : SyntaxFault) → opens (sign_at mid) ≡ false → Fails some_arrows.rule arrows no_sign no_sign n end mid e → Fails F operand_goes_on no_sign no_sign n end ts e
+    pub bad_arrows : (e : SyntaxFault) → opens (sign_at mid) ≡ false
+        → Fails some_arrows.rule arrows no_sign no_sign n end mid e → Fails F operand_goes_on no_sign no_sign n end ts e
     bad_arrows e other f = back_fails e (widen_fails tails no_sign no_sign refl refl refl
-        (fails_right (good_made gr inl) (good_made good_arrows inr) (apart_of opens arrows refl) refl refl n end mid other e (fails_made inr e f)))
+        (fails_right (good_made gr inl) (good_made good_arrows inr) (apart_of opens arrows refl) refl refl n end mid
+        other e (fails_made inr e f)))
 
-    pub path_there : (rest : List Token) (es : List Arrow) → opens (sign_at mid) ≡ false → Takes some_arrows.rule arrows no_sign n mid rest es →
+    pub path_there : (rest : List Token) (es : List Arrow) → opens (sign_at mid) ≡ false
+        → Takes some_arrows.rule arrows no_sign n mid rest es →
         Takes F operand_goes_on no_sign n ts rest (operand'.Path (path_of (x, es)))
     path_there rest es other t = back_takes rest (inr es) (widen_takes tails no_sign refl refl
-        (takes_right (good_made gr inl) (good_made good_arrows inr) (apart_of opens arrows refl) refl refl n mid rest (inr es) other (takes_made inr t)))
+        (takes_right (good_made gr inl) (good_made good_arrows inr) (apart_of opens arrows refl) refl refl n mid rest
+        (inr es) other (takes_made inr t)))
 
-    pub bad_call : (e : SyntaxFault) → opens (sign_at mid) ≡ true → Fails R no_sign no_sign no_sign n end mid e → Fails F operand_goes_on no_sign no_sign n end ts e
+    pub bad_call : (e : SyntaxFault) → opens (sign_at mid) ≡ true → Fails R no_sign no_sign no_sign n end mid e
+        → Fails F operand_goes_on no_sign no_sign n end ts e
     bad_call e open_there f = back_fails e (widen_fails tails no_sign no_sign refl refl refl
-        (fails_left (good_made gr inl) (good_made good_arrows inr) (apart_of opens arrows refl) refl n end mid open_there e (fails_made inl e f)))
+        (fails_left (good_made gr inl) (good_made good_arrows inr) (apart_of opens arrows refl) refl n end mid
+        open_there e (fails_made inl e f)))
 
-    pub call_there : (rest : List Token) (os : List Operand) → opens (sign_at mid) ≡ true → Takes R no_sign no_sign n mid rest os → Takes F operand_goes_on no_sign n ts rest (operand'.Call (call_of (x, os)))
+    pub call_there : (rest : List Token) (os : List Operand) → opens (sign_at mid) ≡ true
+        → Takes R no_sign no_sign n mid rest os
+        → Takes F operand_goes_on no_sign n ts rest (operand'.Call (call_of (x, os)))
     call_there rest os open_there t = back_takes rest (inl os) (widen_takes tails no_sign refl refl
-        (takes_left (good_made gr inl) (good_made good_arrows inr) (apart_of opens arrows refl) refl n mid rest (inl os) open_there (takes_made inl t)))
+        (takes_left (good_made gr inl) (good_made good_arrows inr) (apart_of opens arrows refl) refl n mid rest (inl os)
+        open_there (takes_made inl t)))
 
 -- a list in brackets one level further in
-pub inner_fails : (n k : ℕ) → n ≡ suc k → (end : Place) (ts : List Token) (e : SyntaxFault) → Fails all_arguments.rule no_sign no_sign no_sign k end ts e → Fails Inner no_sign no_sign no_sign n end ts e
-inner_fails n k is end ts e f = subst (λ m. Fails Inner no_sign no_sign no_sign m end ts e) (sym is) (fails_level (good_arguments gs) k end ts e f)
+pub inner_fails : (n k : ℕ) → n ≡ suc k → (end : Place) (ts : List Token) (e : SyntaxFault)
+    → Fails all_arguments.rule no_sign no_sign no_sign k end ts e → Fails Inner no_sign no_sign no_sign n end ts e
+inner_fails n k is end ts e f =
+    subst (λ m. Fails Inner no_sign no_sign no_sign m end ts e) (sym is) (fails_level (good_arguments gs) k end ts e f)
 
-pub inner_takes : (n k : ℕ) → n ≡ suc k → (ts rest : List Token) (os : List Operand) → Takes all_arguments.rule no_sign no_sign k ts rest os → Takes Inner no_sign no_sign n ts rest os
-inner_takes n k is ts rest os t = subst (λ m. Takes Inner no_sign no_sign m ts rest os) (sym is) (takes_level (good_arguments gs) k ts rest os t)
+pub inner_takes : (n k : ℕ) → n ≡ suc k → (ts rest : List Token) (os : List Operand)
+    → Takes all_arguments.rule no_sign no_sign k ts rest os → Takes Inner no_sign no_sign n ts rest os
+inner_takes n k is ts rest os t =
+    subst (λ m. Takes Inner no_sign no_sign m ts rest os) (sym is) (takes_level (good_arguments gs) k ts rest os t)
 
 rest_of : List Token → List Token
 rest_of [] = []
@@ -197,7 +285,8 @@ starts (t ∷ ts) = true
 
 -- with no level left, a call cannot go on at its bracket
 module _ (mid rest : List Token) (u : Token) (mid_is : mid ≡ u ∷ rest) (open_there : sign_of u ≡ sign.Open) where
-  no_call : (m : ℕ) (z y : List Token) (x : Tail) → m ≤ 0 → sign_at z ≡ sign_of u → tails (sign_at y) ≡ false → tail_part (Inner m) z y x → ⊥
+  no_call : (m : ℕ) (z y : List Token) (x : Tail) → m ≤ 0 → sign_at z ≡ sign_of u → tails (sign_at y) ≡ false
+      → tail_part (Inner m) z y x → ⊥
   no_call zero z y x le same h (inl r) = r.read
   no_call (suc m) z y x le same h (inl r) = nope le
     where
@@ -221,24 +310,34 @@ module _ (mid rest : List Token) (u : Token) (mid_is : mid ≡ u ∷ rest) (open
         read = record {
           mid = sample sign.Close ∷ y;
           front = (refl, open_there);
-          back = record { mid = sample sign.Close ∷ y; front = inr (refl, refl); back = (refl, sampled sign.Close (real sign.Close tt)) };
+          back =
+              record {
+                mid = sample sign.Close ∷ y;
+                front = inr (refl, refl);
+                back = (refl, sampled sign.Close (real sign.Close tt));
+              };
         };
       };
     });
   }
 
   module _ (ts : List Token) (t : Token) (ts_is : ts ≡ t ∷ mid) (id_there : sign_of t ≡ sign.Id) where
-    not_called : (m : ℕ) (z y : List Token) (x : Operand) → m ≤ 0 → sign_at z ≡ sign_of u → operand_goes_on (sign_at y) ≡ false → factored (Inner m) (t ∷ z) y x → ⊥
+    not_called : (m : ℕ) (z y : List Token) (x : Operand) → m ≤ 0 → sign_at z ≡ sign_of u → operand_goes_on (sign_at y)
+        ≡ false → factored (Inner m) (t ∷ z) y x → ⊥
     unfolding rest_of
     not_called m z y x le same h (inl r) =
-        no_call m z y r.part.1 le same (within tails operand_goes_on refl (sign_at y) h) (subst (λ l. tail_part (Inner m) l y r.part.1) (sym (ap rest_of r.read.front.read.0)) r.read.back)
+        no_call m z y r.part.1 le same (within tails operand_goes_on refl (sign_at y) h)
+        (subst (λ l. tail_part (Inner m) l y r.part.1) (sym (ap rest_of r.read.front.read.0)) r.read.back)
     not_called m z y x le same h (inr r) = elim (good_literal.starts m (t ∷ z) y x r) [
       | inl f ↦ clash (sym (ap names id_there) ∙ apart_of names begins_literal refl (sign_of t) f)
       | inr e ↦ clash (sym e.0)
     ]
 
     is_called : t.at ≡ (opener (t ∷ []) u).at
-    is_called = ap (λ b. (cond b t u).at) (sym (and_of (same_sign sign.Id (sign_of t)) (same_sign sign.Open (sign_of u)) (ap (same_sign sign.Id) id_there) (ap (same_sign sign.Open) open_there)))
+    is_called = ap (λ b. (cond b t u).at)
+        (sym
+        (and_of (same_sign sign.Id (sign_of t)) (same_sign sign.Open (sign_of u)) (ap (same_sign sign.Id) id_there)
+        (ap (same_sign sign.Open) open_there)))
 
     pub too_deep : (end : Place) → Fails argument operand_goes_on no_sign no_sign 0 end ts (Deep t.at)
     too_deep end = sunk (record {
@@ -284,11 +383,14 @@ module _ (mid rest : List Token) (u : Token) (mid_is : mid ≡ u ∷ rest) (open
     })
 
 -- the same, by the name that was read
-pub deep_call : (n : ℕ) (end : Place) (ts mid : List Token) (x : Name) → n ≡ 0 → IsName ts mid x → opens (sign_at mid) ≡ true → Fails argument operand_goes_on no_sign no_sign n end ts (Deep x.at)
+pub deep_call : (n : ℕ) (end : Place) (ts mid : List Token) (x : Name) → n ≡ 0 → IsName ts mid x → opens (sign_at mid)
+    ≡ true → Fails argument operand_goes_on no_sign no_sign n end ts (Deep x.at)
 deep_call n end ts mid x is (t, ts_is, id_there, same) first =
     subst (λ m. Fails argument operand_goes_on no_sign no_sign m end ts (Deep x.at)) (sym is)
-    (subst (λ (x : Name). Fails argument operand_goes_on no_sign no_sign 0 end ts (Deep x.at)) (sym same) (next_token mid ts_is first))
+    (subst (λ (x : Name). Fails argument operand_goes_on no_sign no_sign 0 end ts (Deep x.at)) (sym same)
+    (next_token mid ts_is first))
   where
-    next_token : (mid : List Token) → ts ≡ t ∷ mid → opens (sign_at mid) ≡ true → Fails argument operand_goes_on no_sign no_sign 0 end ts (Deep t.at)
+    next_token : (mid : List Token) → ts ≡ t ∷ mid → opens (sign_at mid) ≡ true
+        → Fails argument operand_goes_on no_sign no_sign 0 end ts (Deep t.at)
     next_token [] e f = absurd (clash (sym f))
     next_token (u ∷ rest) e f = too_deep (u ∷ rest) rest u refl (one_of sign.Open (sign_of u) f) ts t e id_there end

@@ -13,7 +13,8 @@ tok s h y = (refl, sampled s h)
 pub make : {X Y : Type 0} {A : Part X} {ts rest : List Token} {x : X} (f : X → Y) → A ts rest x → Made f A ts rest (f x)
 make {x = x} f r = record { part = x; read = r; is = refl }
 
-pub and_then : {X Y : Type 0} {A : Part X} {B : Part Y} {ts rest : List Token} {x : X} {y : Y} (mid : List Token) → A ts mid x → B mid rest y → (A then B) ts rest (x, y)
+pub and_then : {X Y : Type 0} {A : Part X} {B : Part Y} {ts rest : List Token} {x : X} {y : Y} (mid : List Token)
+    → A ts mid x → B mid rest y → (A then B) ts rest (x, y)
 and_then mid r q = record { mid = mid; front = r; back = q }
 
 pub at_tok : (s : Sign) → s ≢ End → (y : List Token) → at s (sample s ∷ y) y (sample s).at

@@ -1,5 +1,6 @@
 -- What holds of every rule: the laws of its parts.
-use Rattle.std.proofs.Common.{◌≡◌, ◌⊎◌, ◌≤◌, ℕ, Bool, true, false, List, [], ◌∷◌, ◌++◌, refl, sym, ap, ◌∙◌, subst, arith, inl, inr, append_assoc, cond}
+use Rattle.std.proofs.Common.{◌≡◌, ◌⊎◌, ◌≤◌, ℕ, Bool, true, false, List, [], ◌∷◌, ◌++◌, refl, sym, ap, ◌∙◌, subst}
+use Rattle.std.proofs.Common.{arith, inl, inr, append_assoc, cond}
 use Rattle.std.proofs.lemmas.List.{append-nil}
 use Rattle.fore_base.specs.declared.place.Place.{Place}
 use Rattle.c_lexer.specs.declared.token.Token.{Token}
@@ -12,7 +13,8 @@ use Rattle.c_grammar.proofs.Families.{both}
 use Rattle.c_grammar.specs.inner.Sets.{Signs}
 use Rattle.c_grammar.specs.Signs.{or_on, and, same_sign, sign_of, sign_at}
 use Rattle.c_grammar.specs.declared.signs.Sign.TheVariants.{Id, Open, End}
-use Rattle.c_grammar.proofs.SignLemmas.{clash, or_left, or_right, or_first, or_second, and_of, and_gives, and_no, told_apart}
+use Rattle.c_grammar.proofs.SignLemmas.{clash, or_left, or_right, or_first, or_second, and_of, and_gives, and_no}
+use Rattle.c_grammar.proofs.SignLemmas.{told_apart}
 use Rattle.c_grammar.specs.declared.signs.Sign.{Sign}
 
 abbrev pub IsCons : List Token → Type 0
@@ -48,26 +50,34 @@ pub record Front {X : Type 0} (A : Rule X) (bars : Signs) (n : ℕ) (ts rest : L
 
 -- first: what it can begin with; cont: what can continue it; bars: what may not come after it; null: it may be empty
 pub record Good {X : Type 0} (A : Rule X) (first cont bars : Signs) (null : Bool) : Type 0 where
-  pub det : (n m : ℕ) (ts a b : List Token) (s t : X) → A n ts a s → A m ts b t → cont (sign_at a) ≡ false → cont (sign_at b) ≡ false → (a ≡ b) × (s ≡ t)
+  pub det : (n m : ℕ) (ts a b : List Token) (s t : X) → A n ts a s → A m ts b t → cont (sign_at a) ≡ false
+      → cont (sign_at b) ≡ false → (a ≡ b) × (s ≡ t)
   pub front : (n : ℕ) (ts rest : List Token) (x : X) → A n ts rest x → Front A bars n ts rest x
-  pub starts : (n : ℕ) (ts rest : List Token) (x : X) → A n ts rest x → (first (sign_at ts) ≡ true) ⊎ ((null ≡ true) × (ts ≡ rest))
+  pub starts : (n : ℕ) (ts rest : List Token) (x : X) → A n ts rest x → (first (sign_at ts) ≡ true)
+      ⊎ ((null ≡ true) × (ts ≡ rest))
   pub up : (n m : ℕ) (ts rest : List Token) (x : X) → n ≤ m → A n ts rest x → A m ts rest x
 
 -- a sign that cannot continue what comes before is not at the front of a part, nor after it if it is empty
 pub after : {X : Type 0} {B : Rule X} {fb cb bb : Signs} {nb : Bool} → Good B fb cb bb nb → (p : Signs) → Apart p fb →
-    (n : ℕ) (ts rest : List Token) (x : X) → B n ts rest x → (nb ≡ true → p (sign_at rest) ≡ false) → p (sign_at ts) ≡ false
-after good p apart n ts rest x r h = elim (good.starts n ts rest x r) [ inl f ↦ apart (sign_at ts) f | inr e ↦ subst (λ l. p (sign_at l) ≡ false) (sym e.1) (h e.0) ]
+    (n : ℕ) (ts rest : List Token) (x : X) → B n ts rest x → (nb ≡ true → p (sign_at rest) ≡ false)
+    → p (sign_at ts) ≡ false
+after good p apart n ts rest x r h =
+    elim (good.starts n ts rest x r)
+    [ inl f ↦ apart (sign_at ts) f | inr e ↦ subst (λ l. p (sign_at l) ≡ false) (sym e.1) (h e.0) ]
 
-pub same_head : (front y rest ts : List Token) → ts ≡ front ++ rest → sign_at y ≡ sign_at rest → sign_at (front ++ y) ≡ sign_at ts
+pub same_head : (front y rest ts : List Token) → ts ≡ front ++ rest → sign_at y ≡ sign_at rest → sign_at (front ++ y)
+    ≡ sign_at ts
 same_head [] y rest ts is h = h ∙ ap sign_at (sym is)
 same_head (t ∷ front) y rest ts is h = ap sign_at (sym is)
 
-pub other_head : (front y rest ts : List Token) (p : Signs) → ts ≡ front ++ rest → p (sign_at y) ≡ false → (sign_at (front ++ y) ≡ sign_at ts) ⊎ (p (sign_at (front ++ y)) ≡ false)
+pub other_head : (front y rest ts : List Token) (p : Signs) → ts ≡ front ++ rest → p (sign_at y) ≡ false
+    → (sign_at (front ++ y) ≡ sign_at ts) ⊎ (p (sign_at (front ++ y)) ≡ false)
 other_head [] y rest ts p is h = inr h
 other_head (t ∷ front) y rest ts p is h = inl (ap sign_at (sym is))
 
 -- what opens a level after a front that is not empty is told by what stands next to it
-pub opener_after : (front pre : List Token) (t : Token) → (pre ≡ [] → opener front t ≡ t) → opener (front ++ pre) t ≡ opener pre t
+pub opener_after : (front pre : List Token) (t : Token) → (pre ≡ [] → opener front t ≡ t) → opener (front ++ pre) t
+    ≡ opener pre t
 opener_after front [] t h = ap (λ l. opener l t) (append-nil front) ∙ h refl
 opener_after [] (p ∷ ps) t h = refl
 opener_after (x ∷ []) (p ∷ ps) t h = refl
@@ -82,7 +92,8 @@ opener_other [] t h = refl
 opener_other (p ∷ []) t h = ap (λ b. cond b p t) (and_no (same_sign Id (sign_of p)) (same_sign Open (sign_of t)) h)
 opener_other (p ∷ (q ∷ ps)) t h = opener_other (q ∷ ps) t h
 
-pub calm_of : (h : Signs) → h Open ≡ false → (front : List Token) (t : Token) → h (sign_of t) ≡ true → opener front t ≡ t
+pub calm_of : (h : Signs) → h Open ≡ false → (front : List Token) (t : Token) → h (sign_of t) ≡ true
+    → opener front t ≡ t
 calm_of h shut front t here = opener_other front t (told_apart Open (sign_of t) (λ e. clash (sym here ∙ ap h e ∙ shut)))
 
 pub nil_back : (front pre : List Token) → front ++ pre ≡ [] → pre ≡ []
@@ -93,38 +104,51 @@ pub nil_front : (front pre : List Token) → front ++ pre ≡ [] → front ≡ [
 nil_front [] pre e = refl
 nil_front (t ∷ front) pre e = absurd (subst IsCons e tt)
 
-abbrev pub higher_least : {X : Type 0} {A : Rule X} {fa ca ba : Signs} {na : Bool} → Good A fa ca ba na → (n m : ℕ) → n ≤ m → Alive A ba n [] → Alive A ba m []
+abbrev pub higher_least : {X : Type 0} {A : Rule X} {fa ca ba : Signs} {na : Bool} → Good A fa ca ba na → (n m : ℕ)
+    → n ≤ m → Alive A ba n [] → Alive A ba m []
 higher_least good n m le a = record { more = a.more; tree = a.tree; reads = λ y e. good.up n m _ _ _ le (a.reads y e) }
 
-module _ {X Y : Type 0} {A : Rule X} {B : Rule Y} {fa ca ba fb cb bb : Signs} {na nb : Bool} (ga : Good A fa ca ba na) (gb : Good B fb cb bb nb) (apart : Apart ca fb) where
+module _ {X Y : Type 0} {A : Rule X} {B : Rule Y} {fa ca ba fb cb bb : Signs} {na nb : Bool} (ga : Good A fa ca ba na)
+    (gb : Good B fb cb bb nb) (apart : Apart ca fb) where
   both_det : (n m : ℕ) (ts a b : List Token) (s t : X × Y) → both A B n ts a s → both A B m ts b t →
       cont_both nb ca cb (sign_at a) ≡ false → cont_both nb ca cb (sign_at b) ≡ false → (a ≡ b) × (s ≡ t)
   both_det n m ts a b s t p q h k =
       let hm : ca (sign_at p.mid) ≡ false = after gb ca apart n p.mid a s.1 p.back (and_gives nb _ (or_right _ _ h)) in
       let km : ca (sign_at q.mid) ≡ false = after gb ca apart m q.mid b t.1 q.back (and_gives nb _ (or_right _ _ k)) in
       let e = ga.det n m ts p.mid q.mid s.0 t.0 p.front q.front hm km in
-      let f = gb.det n m q.mid a b s.1 t.1 (subst (λ l. B n l a s.1) e.0 p.back) q.back (or_left _ _ h) (or_left _ _ k) in
+      let f = gb.det n m q.mid a b s.1 t.1 (subst (λ l. B n l a s.1) e.0 p.back) q.back (or_left _ _ h) (or_left _ _ k)
+      in
       (f.0, λ i. (e.1 i, f.1 i))
 
-  both_front : (n : ℕ) (ts rest : List Token) (x : X × Y) → both A B n ts rest x → Front (both A B) (bars_both ba bb) n ts rest x
+  both_front : (n : ℕ) (ts rest : List Token) (x : X × Y) → both A B n ts rest x
+      → Front (both A B) (bars_both ba bb) n ts rest x
   both_front n ts rest x r =
       let a = ga.front n ts r.mid x.0 r.front in
       let b = gb.front n r.mid rest x.1 r.back in
-      let first : (y : List Token) → (sign_at y ≡ sign_at rest) ⊎ (bars_both ba bb (sign_at y) ≡ false) → (sign_at (b.front ++ y) ≡ sign_at r.mid) ⊎ (ba (sign_at (b.front ++ y)) ≡ false) =
-      λ y. elim [ inl e ↦ inl (same_head b.front y rest r.mid b.is e) | inr e ↦ other_head b.front y rest r.mid ba b.is (or_left _ _ e) ] in
-      let later : (y : List Token) → (sign_at y ≡ sign_at rest) ⊎ (bars_both ba bb (sign_at y) ≡ false) → (sign_at y ≡ sign_at rest) ⊎ (bb (sign_at y) ≡ false) =
+      let first : (y : List Token) → (sign_at y ≡ sign_at rest) ⊎ (bars_both ba bb (sign_at y) ≡ false)
+      → (sign_at (b.front ++ y) ≡ sign_at r.mid) ⊎ (ba (sign_at (b.front ++ y)) ≡ false) =
+      λ y.
+      elim [
+        | inl e ↦ inl (same_head b.front y rest r.mid b.is e)
+        | inr e ↦ other_head b.front y rest r.mid ba b.is
+            (or_left _ _ e)
+      ] in
+      let later : (y : List Token) → (sign_at y ≡ sign_at rest) ⊎ (bars_both ba bb (sign_at y) ≡ false)
+      → (sign_at y ≡ sign_at rest) ⊎ (bb (sign_at y) ≡ false) =
       λ y. elim [ inl e ↦ inl e | inr e ↦ inr (or_right (ba (sign_at y)) _ e) ] in
       record {
         front = a.front ++ b.front;
         is = a.is ∙ ap (λ l. a.front ++ l) b.is ∙ sym (append_assoc a.front b.front rest);
         alike = λ y h. record {
           mid = b.front ++ y;
-          front = subst (λ l. A n l (b.front ++ y) x.0) (sym (append_assoc a.front b.front y)) (a.alike (b.front ++ y) (first y h));
+          front = subst (λ l. A n l (b.front ++ y) x.0) (sym (append_assoc a.front b.front y))
+              (a.alike (b.front ++ y) (first y h));
           back = b.alike y (later y h);
         };
       }
 
-  both_starts : (n : ℕ) (ts rest : List Token) (x : X × Y) → both A B n ts rest x → (first_both na fa fb (sign_at ts) ≡ true) ⊎ ((and na nb ≡ true) × (ts ≡ rest))
+  both_starts : (n : ℕ) (ts rest : List Token) (x : X × Y) → both A B n ts rest x
+      → (first_both na fa fb (sign_at ts) ≡ true) ⊎ ((and na nb ≡ true) × (ts ≡ rest))
   both_starts n ts rest x r = elim (ga.starts n ts r.mid x.0 r.front) [
     | inl f ↦ inl (or_first _ _ f)
     | inr e ↦ elim (gb.starts n r.mid rest x.1 r.back) [
@@ -138,28 +162,35 @@ module _ {X Y : Type 0} {A : Rule X} {B : Rule Y} {fa ca ba fb cb bb : Signs} {n
     det = both_det;
     front = both_front;
     starts = both_starts;
-    up = λ n m ts rest x le r. record { mid = r.mid; front = ga.up n m ts r.mid x.0 le r.front; back = gb.up n m r.mid rest x.1 le r.back };
+    up = λ n m ts rest x le r.
+        record { mid = r.mid; front = ga.up n m ts r.mid x.0 le r.front; back = gb.up n m r.mid rest x.1 le r.back };
   }
 
   -- what begins the first part begins both
   pub alive_front : (n : ℕ) (pre : List Token) → Alive A ba n pre → (least : Alive B bb n []) →
-      ((y : List Token) → bars_both ba bb (sign_at y) ≡ false → ba (sign_at (least.more ++ y)) ≡ false) → Alive (both A B) (bars_both ba bb) n pre
+      ((y : List Token) → bars_both ba bb (sign_at y) ≡ false → ba (sign_at (least.more ++ y)) ≡ false)
+      → Alive (both A B) (bars_both ba bb) n pre
   alive_front n pre a least h = record {
     more = a.more ++ least.more;
     tree = (a.tree, least.tree);
     reads = λ y e. record {
       mid = least.more ++ y;
-      front = subst (λ l. A n (pre ++ l) (least.more ++ y) a.tree) (sym (append_assoc a.more least.more y)) (a.reads (least.more ++ y) (h y e));
+      front = subst (λ l. A n (pre ++ l) (least.more ++ y) a.tree) (sym (append_assoc a.more least.more y))
+          (a.reads (least.more ++ y) (h y e));
       back = least.reads y (or_right _ _ e);
     };
   }
 
   -- the second part may come after the first
-  pub follows : (n : ℕ) → Apart ba fb → (least : Alive B bb n []) → (y : List Token) → bars_both ba bb (sign_at y) ≡ false → ba (sign_at (least.more ++ y)) ≡ false
-  follows n free least y e = after gb ba free n (least.more ++ y) y least.tree (least.reads y (or_right _ _ e)) (λ _. or_left _ _ e)
+  pub follows : (n : ℕ) → Apart ba fb → (least : Alive B bb n []) → (y : List Token) → bars_both ba bb (sign_at y)
+      ≡ false → ba (sign_at (least.more ++ y)) ≡ false
+  follows n free least y e =
+      after gb ba free n (least.more ++ y) y least.tree (least.reads y (or_right _ _ e)) (λ _. or_left _ _ e)
 
-  pub dead_front : (m : ℕ) (pre post : List Token) → Dead A ca m pre post → Dead (both A B) (cont_both nb ca cb) m pre post
-  dead_front m pre post d z y x same h r = d z r.mid x.0 same (after gb ca apart m r.mid y x.1 r.back (and_gives nb _ (or_right _ _ h))) r.front
+  pub dead_front : (m : ℕ) (pre post : List Token) → Dead A ca m pre post
+      → Dead (both A B) (cont_both nb ca cb) m pre post
+  dead_front m pre post d z y x same h r =
+      d z r.mid x.0 same (after gb ca apart m r.mid y x.1 r.back (and_gives nb _ (or_right _ _ h))) r.front
 
   module _ (n : ℕ) (ts mid : List Token) (x : X) (part : Takes A ca ba n ts mid x) where
     pub whole_is : (pre post : List Token) → mid ≡ pre ++ post → ts ≡ (part.front ++ pre) ++ post
@@ -167,7 +198,8 @@ module _ {X Y : Type 0} {A : Rule X} {B : Rule Y} {fa ca ba fb cb bb : Signs} {n
 
     -- what begins the second part, with what the first part read before it, begins both
     pub alive_back : (m : ℕ) → n ≤ m → (pre : List Token) → (a : Alive B bb m pre) →
-        ((y : List Token) → bars_both ba bb (sign_at y) ≡ false → (sign_at (pre ++ (a.more ++ y)) ≡ sign_at mid) ⊎ (ba (sign_at (pre ++ (a.more ++ y))) ≡ false)) →
+        ((y : List Token) → bars_both ba bb (sign_at y) ≡ false → (sign_at (pre ++ (a.more ++ y)) ≡ sign_at mid)
+        ⊎ (ba (sign_at (pre ++ (a.more ++ y))) ≡ false)) →
         Alive (both A B) (bars_both ba bb) m (part.front ++ pre)
     alive_back m le pre a h = record {
       more = a.more;
@@ -181,51 +213,71 @@ module _ {X Y : Type 0} {A : Rule X} {B : Rule Y} {fa ca ba fb cb bb : Signs} {n
     }
 
     -- where a token of the second part was read, it comes after the first part as in the text
-    pub joins : (m : ℕ) → Fits ba fb mid → (pre : List Token) → (a : Alive B bb m pre) → (y : List Token) → bars_both ba bb (sign_at y) ≡ false →
+    pub joins : (m : ℕ) → Fits ba fb mid → (pre : List Token) → (a : Alive B bb m pre) → (y : List Token)
+        → bars_both ba bb (sign_at y) ≡ false →
         (sign_at (pre ++ (a.more ++ y)) ≡ sign_at mid) ⊎ (ba (sign_at (pre ++ (a.more ++ y))) ≡ false)
     joins m fits pre a y e = elim (gb.starts m (pre ++ (a.more ++ y)) y a.tree (a.reads y (or_right _ _ e))) [
       | inl f ↦ (elim (fits (sign_at (pre ++ (a.more ++ y))) f) [ inl g ↦ inr g | inr g ↦ inl g ])
       | inr f ↦ inr (ap (λ l. ba (sign_at l)) f.1 ∙ or_left _ _ e)
     ]
 
-    pub dead_back : (m : ℕ) (pre post : List Token) → mid ≡ pre ++ post → Dead B cb m pre post → Dead (both A B) (cont_both nb ca cb) m (part.front ++ pre) post
+    pub dead_back : (m : ℕ) (pre post : List Token) → mid ≡ pre ++ post → Dead B cb m pre post
+        → Dead (both A B) (cont_both nb ca cb) m (part.front ++ pre) post
     dead_back m pre post is d z y t same h r =
-        let front : A m (part.front ++ (pre ++ z)) r.mid t.0 = subst (λ l. A m l r.mid t.0) (append_assoc part.front pre z) r.front in
-        let after_front : ca (sign_at r.mid) ≡ false = after gb ca apart m r.mid y t.1 r.back (and_gives nb _ (or_right _ _ h)) in
+        let front : A m (part.front ++ (pre ++ z)) r.mid t.0 =
+        subst (λ l. A m l r.mid t.0) (append_assoc part.front pre z) r.front in
+        let after_front : ca (sign_at r.mid) ≡ false =
+        after gb ca apart m r.mid y t.1 r.back (and_gives nb _ (or_right _ _ h)) in
         let e = part.only m (pre ++ z) r.mid t.0 (same_head pre z post mid is same) after_front front in
         d z y t.1 same (or_left _ _ h) (subst (λ l. B m l y t.1) (sym e) r.back)
 
-    pub takes_both : (rest : List Token) (y : Y) → Takes B cb bb n mid rest y → Takes (both A B) (cont_both nb ca cb) (bars_both ba bb) n ts rest (x, y)
+    pub takes_both : (rest : List Token) (y : Y) → Takes B cb bb n mid rest y
+        → Takes (both A B) (cont_both nb ca cb) (bars_both ba bb) n ts rest (x, y)
     takes_both rest y b =
-        let first : (z : List Token) → (sign_at z ≡ sign_at rest) ⊎ (bars_both ba bb (sign_at z) ≡ false) → (sign_at (b.front ++ z) ≡ sign_at mid) ⊎ (ba (sign_at (b.front ++ z)) ≡ false) =
-        λ z. elim [ inl e ↦ inl (same_head b.front z rest mid b.is e) | inr e ↦ other_head b.front z rest mid ba b.is (or_left _ _ e) ] in
-        let later : (z : List Token) → (sign_at z ≡ sign_at rest) ⊎ (bars_both ba bb (sign_at z) ≡ false) → (sign_at z ≡ sign_at rest) ⊎ (bb (sign_at z) ≡ false) =
+        let first : (z : List Token) → (sign_at z ≡ sign_at rest) ⊎ (bars_both ba bb (sign_at z) ≡ false)
+        → (sign_at (b.front ++ z) ≡ sign_at mid) ⊎ (ba (sign_at (b.front ++ z)) ≡ false) =
+        λ z.
+        elim [
+          | inl e ↦ inl (same_head b.front z rest mid b.is e)
+          | inr e ↦ other_head b.front z rest mid ba b.is
+              (or_left _ _ e)
+        ] in
+        let later : (z : List Token) → (sign_at z ≡ sign_at rest) ⊎ (bars_both ba bb (sign_at z) ≡ false)
+        → (sign_at z ≡ sign_at rest) ⊎ (bb (sign_at z) ≡ false) =
         λ z. elim [ inl e ↦ inl e | inr e ↦ inr (or_right (ba (sign_at z)) _ e) ] in
         record {
           front = part.front ++ b.front;
           is = part.is ∙ ap (λ l. part.front ++ l) b.is ∙ sym (append_assoc part.front b.front rest);
           alike = λ z h. record {
             mid = b.front ++ z;
-            front = subst (λ l. A n l (b.front ++ z) x) (sym (append_assoc part.front b.front z)) (part.alike (b.front ++ z) (first z h));
+            front = subst (λ l. A n l (b.front ++ z) x) (sym (append_assoc part.front b.front z))
+                (part.alike (b.front ++ z) (first z h));
             back = b.alike z (later z h);
           };
           only = λ m z w t same h r.
-              let front : A m (part.front ++ (b.front ++ z)) r.mid t.0 = subst (λ l. A m l r.mid t.0) (append_assoc part.front b.front z) r.front in
-              let after_front : ca (sign_at r.mid) ≡ false = after gb ca apart m r.mid w t.1 r.back (and_gives nb _ (or_right _ _ h)) in
+              let front : A m (part.front ++ (b.front ++ z)) r.mid t.0 =
+              subst (λ l. A m l r.mid t.0) (append_assoc part.front b.front z) r.front in
+              let after_front : ca (sign_at r.mid) ≡ false =
+              after gb ca apart m r.mid w t.1 r.back (and_gives nb _ (or_right _ _ h)) in
               let e = part.only m (b.front ++ z) r.mid t.0 (same_head b.front z rest mid b.is same) after_front front in
               b.only m z w t.1 same (or_left _ _ h) (subst (λ l. B m l w t.1) (sym e) r.back);
         }
 
 -- a part that is never empty has read a token
-pub nonempty : {X : Type 0} {A : Rule X} {fa ca ba : Signs} {na : Bool} → Good A fa ca ba na → na ≡ false → fa End ≡ false → ba End ≡ false →
+pub nonempty : {X : Type 0} {A : Rule X} {fa ca ba : Signs} {na : Bool} → Good A fa ca ba na → na ≡ false
+    → fa End ≡ false → ba End ≡ false →
     {n : ℕ} {ts mid : List Token} {x : X} → (t : Takes A ca ba n ts mid x) → t.front ≡ [] → ⊥
 nonempty {A = A} {fa = fa} good full first free {n = n} {x = x} t e =
-    elim (good.starts n [] [] x (subst (λ l. A n (l ++ []) [] x) e (t.alike [] (inr free)))) [ inl f ↦ clash (sym f ∙ first) | inr f ↦ clash (sym f.0 ∙ full) ]
+    elim (good.starts n [] [] x (subst (λ l. A n (l ++ []) [] x) e (t.alike [] (inr free))))
+    [ inl f ↦ clash (sym f ∙ first) | inr f ↦ clash (sym f.0 ∙ full) ]
 
 -- the faults of a rule that is made of two parts
-module _ {X Y : Type 0} {A : Rule X} {B : Rule Y} {fa ca ba fb cb bb : Signs} {na nb : Bool} (ga : Good A fa ca ba na) (gb : Good B fb cb bb nb)
+module _ {X Y : Type 0} {A : Rule X} {B : Rule Y} {fa ca ba fb cb bb : Signs} {na nb : Bool} (ga : Good A fa ca ba na)
+    (gb : Good B fb cb bb nb)
     (apart : Apart ca fb) where
-  pub fails_front : {ha : Signs} (n : ℕ) (end : Place) (ts : List Token) → (least : Alive B bb n []) → ((y : List Token) → bars_both ba bb (sign_at y) ≡ false → ba (sign_at (least.more ++ y)) ≡ false) → (e : SyntaxFault) → Fails A ca ba ha n end ts e →
+  pub fails_front : {ha : Signs} (n : ℕ) (end : Place) (ts : List Token) → (least : Alive B bb n [])
+      → ((y : List Token) → bars_both ba bb (sign_at y) ≡ false → ba (sign_at (least.more ++ y)) ≡ false)
+      → (e : SyntaxFault) → Fails A ca ba ha n end ts e →
       Fails (both A B) (cont_both nb ca cb) (bars_both ba bb) ha n end ts e
   fails_front n end ts least fits _ (stuck f) = stuck (record {
     pre = f.pre;
@@ -246,12 +298,15 @@ module _ {X Y : Type 0} {A : Rule X} {B : Rule Y} {fa ca ba fb cb bb : Signs} {n
     dead = λ m le. dead_front ga gb apart m f.pre (f.next ∷ f.post) (f.dead m le);
     room = f.room;
     higher = f.higher;
-    deeper = alive_front ga gb apart f.room (f.pre ++ f.next ∷ []) f.deeper (higher_least gb n f.room f.higher least) fits;
+    deeper = alive_front ga gb apart f.room (f.pre ++ f.next ∷ []) f.deeper (higher_least gb n f.room f.higher least)
+        fits;
   })
   fails_front n end ts least fits _ no_memory = no_memory
 
-  -- `calm`: what opens a level at the very front of the second part is no call's bracket; `solid`: the first part is not empty, but where it may be
-  pub fails_back : {hb : Signs} (n : ℕ) (end : Place) (ts : List Token) (mid : List Token) (x : X) → Fits ba fb mid → (t : Takes A ca ba n ts mid x) → (calm : (u : Token) → hb (sign_of u) ≡ true → opener t.front u ≡ u) →
+  -- `calm`: what opens a level at the very front of the second part is no call's bracket; `solid`: the first part is
+  -- not empty, but where it may be
+  pub fails_back : {hb : Signs} (n : ℕ) (end : Place) (ts : List Token) (mid : List Token) (x : X) → Fits ba fb mid
+      → (t : Takes A ca ba n ts mid x) → (calm : (u : Token) → hb (sign_of u) ≡ true → opener t.front u ≡ u) →
       (solid : na ≡ false → t.front ≡ [] → ⊥) → (e : SyntaxFault) → Fails B cb bb hb n end mid e →
       Fails (both A B) (cont_both nb ca cb) (bars_both ba bb) (heads_after na hb) n end ts e
   fails_back n end ts mid x fits t calm solid _ (stuck f) = stuck (record {
@@ -259,7 +314,8 @@ module _ {X Y : Type 0} {A : Rule X} {B : Rule Y} {fa ca ba fb cb bb : Signs} {n
     post = f.post;
     is = whole_is ga gb apart n ts mid x t f.pre f.post f.is;
     place = f.place;
-    alive = alive_back ga gb apart n ts mid x t n (omega arith) f.pre f.alive (joins ga gb apart n ts mid x t n fits f.pre f.alive);
+    alive = alive_back ga gb apart n ts mid x t n (omega arith) f.pre f.alive
+        (joins ga gb apart n ts mid x t n fits f.pre f.alive);
     dead = λ m. dead_back ga gb apart n ts mid x t m f.pre f.post f.is (f.dead m);
   })
   fails_back {hb = hb} n end ts mid x fits t calm solid _ (sunk f) = sunk (record {
@@ -269,12 +325,14 @@ module _ {X Y : Type 0} {A : Rule X} {B : Rule Y} {fa ca ba fb cb bb : Signs} {n
     is = whole_is ga gb apart n ts mid x t f.pre (f.next ∷ f.post) f.is;
     place = f.place ∙ ap (λ (u : Token). u.at) (sym (opener_after t.front f.pre f.next (λ e. calm f.next (f.early e))));
     early = λ e. first_of_all na refl e;
-    alive = alive_back ga gb apart n ts mid x t n (omega arith) f.pre f.alive (joins ga gb apart n ts mid x t n fits f.pre f.alive);
+    alive = alive_back ga gb apart n ts mid x t n (omega arith) f.pre f.alive
+        (joins ga gb apart n ts mid x t n fits f.pre f.alive);
     dead = λ m le. dead_back ga gb apart n ts mid x t m f.pre (f.next ∷ f.post) f.is (f.dead m le);
     room = f.room;
     higher = f.higher;
     deeper = subst (λ l. Alive (both A B) (bars_both ba bb) f.room l) (sym (append_assoc t.front f.pre (f.next ∷ [])))
-        (alive_back ga gb apart n ts mid x t f.room f.higher (f.pre ++ f.next ∷ []) f.deeper (joins ga gb apart n ts mid x t f.room fits (f.pre ++ f.next ∷ []) f.deeper));
+        (alive_back ga gb apart n ts mid x t f.room f.higher (f.pre ++ f.next ∷ []) f.deeper
+        (joins ga gb apart n ts mid x t f.room fits (f.pre ++ f.next ∷ []) f.deeper));
   })
     where
       first_of_all : (v : Bool) → na ≡ v → t.front ++ f.pre ≡ [] → and na (hb (sign_of f.next)) ≡ true

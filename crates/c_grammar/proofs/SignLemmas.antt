@@ -4,7 +4,11 @@ use Rattle.std.proofs.lemmas.Bool.{eqb-true}
 use Rattle.c_grammar.specs.Signs.{or_on, and, number_of, same_sign}
 use Rattle.c_grammar.specs.inner.Sets.{among}
 use Rattle.c_grammar.specs.declared.signs.Sign.{Sign}
-use Rattle.c_grammar.specs.declared.signs.Sign.TheVariants.{Id, Number, Struct, Enum, Int, Void, Extern, If, Else, While, Do, For, Return, Break, Continue, Sizeof, Malloc, Free, Assert, Null, True, False, Arrow, Equal, Unequal, And, Or, OpenBrace, CloseBrace, Open, Close, Semicolon, Comma, Star, Assign, Not, Other, End}
+use Rattle.c_grammar.specs.declared.signs.Sign.TheVariants.{Id, Number, Struct, Enum, Int, Void, Extern, If, Else}
+use Rattle.c_grammar.specs.declared.signs.Sign.TheVariants.{While, Do, For, Return, Break, Continue, Sizeof, Malloc}
+use Rattle.c_grammar.specs.declared.signs.Sign.TheVariants.{Free, Assert, Null, True, False, Arrow, Equal, Unequal, And}
+use Rattle.c_grammar.specs.declared.signs.Sign.TheVariants.{Or, OpenBrace, CloseBrace, Open, Close, Semicolon, Comma}
+use Rattle.c_grammar.specs.declared.signs.Sign.TheVariants.{Star, Assign, Not, Other, End}
 
 abbrev IsOn : Bool → Type 0
 IsOn true = Unit {0}
@@ -63,26 +67,269 @@ sign_by (suc (suc (suc (suc (suc (suc (suc (suc (suc (suc (suc (suc (suc zero)))
 sign_by (suc (suc (suc (suc (suc (suc (suc (suc (suc (suc (suc (suc (suc (suc zero)))))))))))))) = Continue
 sign_by (suc (suc (suc (suc (suc (suc (suc (suc (suc (suc (suc (suc (suc (suc (suc zero))))))))))))))) = Sizeof
 sign_by (suc (suc (suc (suc (suc (suc (suc (suc (suc (suc (suc (suc (suc (suc (suc (suc zero)))))))))))))))) = Malloc
-sign_by (suc (suc (suc (suc (suc (suc (suc (suc (suc (suc (suc (suc (suc (suc (suc (suc (suc zero))))))))))))))))) = Free
-sign_by (suc (suc (suc (suc (suc (suc (suc (suc (suc (suc (suc (suc (suc (suc (suc (suc (suc (suc zero)))))))))))))))))) = Assert
-sign_by (suc (suc (suc (suc (suc (suc (suc (suc (suc (suc (suc (suc (suc (suc (suc (suc (suc (suc (suc zero))))))))))))))))))) = Null
-sign_by (suc (suc (suc (suc (suc (suc (suc (suc (suc (suc (suc (suc (suc (suc (suc (suc (suc (suc (suc (suc zero)))))))))))))))))))) = True
-sign_by (suc (suc (suc (suc (suc (suc (suc (suc (suc (suc (suc (suc (suc (suc (suc (suc (suc (suc (suc (suc (suc zero))))))))))))))))))))) = False
-sign_by (suc (suc (suc (suc (suc (suc (suc (suc (suc (suc (suc (suc (suc (suc (suc (suc (suc (suc (suc (suc (suc (suc zero)))))))))))))))))))))) = Arrow
-sign_by (suc (suc (suc (suc (suc (suc (suc (suc (suc (suc (suc (suc (suc (suc (suc (suc (suc (suc (suc (suc (suc (suc (suc zero))))))))))))))))))))))) = Equal
-sign_by (suc (suc (suc (suc (suc (suc (suc (suc (suc (suc (suc (suc (suc (suc (suc (suc (suc (suc (suc (suc (suc (suc (suc (suc zero)))))))))))))))))))))))) = Unequal
-sign_by (suc (suc (suc (suc (suc (suc (suc (suc (suc (suc (suc (suc (suc (suc (suc (suc (suc (suc (suc (suc (suc (suc (suc (suc (suc zero))))))))))))))))))))))))) = And
-sign_by (suc (suc (suc (suc (suc (suc (suc (suc (suc (suc (suc (suc (suc (suc (suc (suc (suc (suc (suc (suc (suc (suc (suc (suc (suc (suc zero)))))))))))))))))))))))))) = Or
-sign_by (suc (suc (suc (suc (suc (suc (suc (suc (suc (suc (suc (suc (suc (suc (suc (suc (suc (suc (suc (suc (suc (suc (suc (suc (suc (suc (suc zero))))))))))))))))))))))))))) = OpenBrace
-sign_by (suc (suc (suc (suc (suc (suc (suc (suc (suc (suc (suc (suc (suc (suc (suc (suc (suc (suc (suc (suc (suc (suc (suc (suc (suc (suc (suc (suc zero)))))))))))))))))))))))))))) = CloseBrace
-sign_by (suc (suc (suc (suc (suc (suc (suc (suc (suc (suc (suc (suc (suc (suc (suc (suc (suc (suc (suc (suc (suc (suc (suc (suc (suc (suc (suc (suc (suc zero))))))))))))))))))))))))))))) = Open
-sign_by (suc (suc (suc (suc (suc (suc (suc (suc (suc (suc (suc (suc (suc (suc (suc (suc (suc (suc (suc (suc (suc (suc (suc (suc (suc (suc (suc (suc (suc (suc zero)))))))))))))))))))))))))))))) = Close
-sign_by (suc (suc (suc (suc (suc (suc (suc (suc (suc (suc (suc (suc (suc (suc (suc (suc (suc (suc (suc (suc (suc (suc (suc (suc (suc (suc (suc (suc (suc (suc (suc zero))))))))))))))))))))))))))))))) = Semicolon
-sign_by (suc (suc (suc (suc (suc (suc (suc (suc (suc (suc (suc (suc (suc (suc (suc (suc (suc (suc (suc (suc (suc (suc (suc (suc (suc (suc (suc (suc (suc (suc (suc (suc zero)))))))))))))))))))))))))))))))) = Comma
-sign_by (suc (suc (suc (suc (suc (suc (suc (suc (suc (suc (suc (suc (suc (suc (suc (suc (suc (suc (suc (suc (suc (suc (suc (suc (suc (suc (suc (suc (suc (suc (suc (suc (suc zero))))))))))))))))))))))))))))))))) = Star
-sign_by (suc (suc (suc (suc (suc (suc (suc (suc (suc (suc (suc (suc (suc (suc (suc (suc (suc (suc (suc (suc (suc (suc (suc (suc (suc (suc (suc (suc (suc (suc (suc (suc (suc (suc zero)))))))))))))))))))))))))))))))))) = Assign
-sign_by (suc (suc (suc (suc (suc (suc (suc (suc (suc (suc (suc (suc (suc (suc (suc (suc (suc (suc (suc (suc (suc (suc (suc (suc (suc (suc (suc (suc (suc (suc (suc (suc (suc (suc (suc zero))))))))))))))))))))))))))))))))))) = Not
-sign_by (suc (suc (suc (suc (suc (suc (suc (suc (suc (suc (suc (suc (suc (suc (suc (suc (suc (suc (suc (suc (suc (suc (suc (suc (suc (suc (suc (suc (suc (suc (suc (suc (suc (suc (suc (suc zero)))))))))))))))))))))))))))))))))))) = Other
+sign_by (suc (suc (suc (suc (suc (suc (suc (suc (suc (suc (suc (suc (suc (suc (suc (suc (suc zero))))))))))))))))) =
+    Free
+sign_by
+    (suc (suc (suc (suc (suc (suc (suc (suc (suc (suc (suc (suc (suc (suc (suc (suc (suc (suc zero)))))))))))))))))) =
+    Assert
+sign_by
+    (suc
+    (suc (suc (suc (suc (suc (suc (suc (suc (suc (suc (suc (suc (suc (suc (suc (suc (suc (suc zero))))))))))))))))))) =
+    Null
+sign_by
+    (suc
+    (suc
+    (suc (suc (suc (suc (suc (suc (suc (suc (suc (suc (suc (suc (suc (suc (suc (suc (suc (suc zero)))))))))))))))))))) =
+    True
+sign_by
+    (suc
+    (suc
+    (suc
+    (suc
+    (suc (suc (suc (suc (suc (suc (suc (suc (suc (suc (suc (suc (suc (suc (suc (suc (suc zero))))))))))))))))))))) =
+    False
+sign_by
+    (suc
+    (suc
+    (suc
+    (suc
+    (suc
+    (suc (suc (suc (suc (suc (suc (suc (suc (suc (suc (suc (suc (suc (suc (suc (suc (suc zero)))))))))))))))))))))) =
+    Arrow
+sign_by
+    (suc
+    (suc
+    (suc
+    (suc
+    (suc
+    (suc
+    (suc (suc (suc (suc (suc (suc (suc (suc (suc (suc (suc (suc (suc (suc (suc (suc (suc zero))))))))))))))))))))))) =
+    Equal
+sign_by
+    (suc
+    (suc
+    (suc
+    (suc
+    (suc
+    (suc
+    (suc
+    (suc (suc (suc (suc (suc (suc (suc (suc (suc (suc (suc (suc (suc (suc (suc (suc (suc zero)))))))))))))))))))))))) =
+    Unequal
+sign_by
+    (suc
+    (suc
+    (suc
+    (suc
+    (suc
+    (suc
+    (suc
+    (suc
+    (suc (suc (suc (suc (suc (suc (suc (suc (suc (suc (suc (suc (suc (suc (suc (suc (suc zero))))))))))))))))))))))))) =
+    And
+sign_by
+    (suc
+    (suc
+    (suc
+    (suc
+    (suc
+    (suc
+    (suc
+    (suc
+    (suc
+    (suc
+    (suc (suc (suc (suc (suc (suc (suc (suc (suc (suc (suc (suc (suc (suc (suc (suc zero)))))))))))))))))))))))))) = Or
+sign_by
+    (suc
+    (suc
+    (suc
+    (suc
+    (suc
+    (suc
+    (suc
+    (suc
+    (suc
+    (suc
+    (suc
+    (suc (suc (suc (suc (suc (suc (suc (suc (suc (suc (suc (suc (suc (suc (suc (suc zero))))))))))))))))))))))))))) =
+    OpenBrace
+sign_by
+    (suc
+    (suc
+    (suc
+    (suc
+    (suc
+    (suc
+    (suc
+    (suc
+    (suc
+    (suc
+    (suc
+    (suc
+    (suc (suc (suc (suc (suc (suc (suc (suc (suc (suc (suc (suc (suc (suc (suc (suc zero)))))))))))))))))))))))))))) =
+    CloseBrace
+sign_by
+    (suc
+    (suc
+    (suc
+    (suc
+    (suc
+    (suc
+    (suc
+    (suc
+    (suc
+    (suc
+    (suc
+    (suc
+    (suc
+    (suc (suc (suc (suc (suc (suc (suc (suc (suc (suc (suc (suc (suc (suc (suc (suc zero))))))))))))))))))))))))))))) =
+    Open
+sign_by
+    (suc
+    (suc
+    (suc
+    (suc
+    (suc
+    (suc
+    (suc
+    (suc
+    (suc
+    (suc
+    (suc
+    (suc
+    (suc
+    (suc
+    (suc (suc (suc (suc (suc (suc (suc (suc (suc (suc (suc (suc (suc (suc (suc (suc zero)))))))))))))))))))))))))))))) =
+    Close
+sign_by
+    (suc
+    (suc
+    (suc
+    (suc
+    (suc
+    (suc
+    (suc
+    (suc
+    (suc
+    (suc
+    (suc
+    (suc
+    (suc
+    (suc
+    (suc
+    (suc
+    (suc (suc (suc (suc (suc (suc (suc (suc (suc (suc (suc (suc (suc (suc (suc zero))))))))))))))))))))))))))))))) =
+    Semicolon
+sign_by
+    (suc
+    (suc
+    (suc
+    (suc
+    (suc
+    (suc
+    (suc
+    (suc
+    (suc
+    (suc
+    (suc
+    (suc
+    (suc
+    (suc
+    (suc
+    (suc
+    (suc
+    (suc (suc (suc (suc (suc (suc (suc (suc (suc (suc (suc (suc (suc (suc (suc zero)))))))))))))))))))))))))))))))) =
+    Comma
+sign_by
+    (suc
+    (suc
+    (suc
+    (suc
+    (suc
+    (suc
+    (suc
+    (suc
+    (suc
+    (suc
+    (suc
+    (suc
+    (suc
+    (suc
+    (suc
+    (suc
+    (suc
+    (suc
+    (suc (suc (suc (suc (suc (suc (suc (suc (suc (suc (suc (suc (suc (suc (suc zero))))))))))))))))))))))))))))))))) =
+    Star
+sign_by
+    (suc
+    (suc
+    (suc
+    (suc
+    (suc
+    (suc
+    (suc
+    (suc
+    (suc
+    (suc
+    (suc
+    (suc
+    (suc
+    (suc
+    (suc
+    (suc
+    (suc
+    (suc
+    (suc
+    (suc (suc (suc (suc (suc (suc (suc (suc (suc (suc (suc (suc (suc (suc (suc zero)))))))))))))))))))))))))))))))))) =
+    Assign
+sign_by
+    (suc
+    (suc
+    (suc
+    (suc
+    (suc
+    (suc
+    (suc
+    (suc
+    (suc
+    (suc
+    (suc
+    (suc
+    (suc
+    (suc
+    (suc
+    (suc
+    (suc
+    (suc
+    (suc
+    (suc
+    (suc (suc (suc (suc (suc (suc (suc (suc (suc (suc (suc (suc (suc (suc (suc zero))))))))))))))))))))))))))))))))))) =
+    Not
+sign_by
+    (suc
+    (suc
+    (suc
+    (suc
+    (suc
+    (suc
+    (suc
+    (suc
+    (suc
+    (suc
+    (suc
+    (suc
+    (suc
+    (suc
+    (suc
+    (suc
+    (suc
+    (suc
+    (suc
+    (suc
+    (suc
+    (suc
+    (suc (suc (suc (suc (suc (suc (suc (suc (suc (suc (suc (suc (suc (suc zero)))))))))))))))))))))))))))))))))))) =
+    Other
 sign_by _ = End
 
 known : (s : Sign) → sign_by (number_of s) ≡ s

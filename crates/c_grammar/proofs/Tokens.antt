@@ -13,7 +13,11 @@ use Rattle.c_grammar.specs.Syntax.{at, at_of, name, name_of}
 use Rattle.c_grammar.specs.declared.fault.SyntaxFault.{SyntaxFault}
 use Rattle.c_grammar.specs.declared.fault.SyntaxFault.TheVariants.{Syntax}
 use Rattle.c_grammar.specs.declared.signs.Sign.{Sign}
-use Rattle.c_grammar.specs.declared.signs.Sign.TheVariants.{Id, Number, Struct, Enum, Int, Void, Extern, If, Else, While, Do, For, Return, Break, Continue, Sizeof, Malloc, Free, Assert, Null, True, False, Arrow, Equal, Unequal, And, Or, OpenBrace, CloseBrace, Open, Close, Semicolon, Comma, Star, Assign, Not, Other, End}
+use Rattle.c_grammar.specs.declared.signs.Sign.TheVariants.{Id, Number, Struct, Enum, Int, Void, Extern, If, Else}
+use Rattle.c_grammar.specs.declared.signs.Sign.TheVariants.{While, Do, For, Return, Break, Continue, Sizeof, Malloc}
+use Rattle.c_grammar.specs.declared.signs.Sign.TheVariants.{Free, Assert, Null, True, False, Arrow, Equal, Unequal, And}
+use Rattle.c_grammar.specs.declared.signs.Sign.TheVariants.{Or, OpenBrace, CloseBrace, Open, Close, Semicolon, Comma}
+use Rattle.c_grammar.specs.declared.signs.Sign.TheVariants.{Star, Assign, Not, Other, End}
 use Rattle.c_grammar.proofs.Families.{one}
 use Rattle.c_grammar.proofs.Decide.{holds}
 use Rattle.c_grammar.proofs.Goods.{good_one}
@@ -112,11 +116,14 @@ sampled Other h = refl
 sampled End h = absurd (h refl)
 
 -- no token of the sign is there
-pub fails_one : (s : Sign) → s ≢ End → (n : ℕ) (end : Place) (ts : List Token) (e : SyntaxFault) → e ≡ Syntax (place_at end ts) → sign_at ts ≢ s → Fails (one s) no_sign no_sign no_sign n end ts e
+pub fails_one : (s : Sign) → s ≢ End → (n : ℕ) (end : Place) (ts : List Token) (e : SyntaxFault)
+    → e ≡ Syntax (place_at end ts) → sign_at ts ≢ s → Fails (one s) no_sign no_sign no_sign n end ts e
 fails_one s real n end ts e is other = subst (λ e. Fails (one s) no_sign no_sign no_sign n end ts e) (sym is)
-    (fails_first (good_one s) n end ts (least_token s (sample s) (sampled s real) n) (ap (λ b. or_on b false) (told_apart s (sign_at ts) other)))
+    (fails_first (good_one s) n end ts (least_token s (sample s) (sampled s real) n)
+    (ap (λ b. or_on b false) (told_apart s (sign_at ts) other)))
 
-pub takes_at : (s : Sign) (n : ℕ) (ts rest : List Token) (t : Token) → ts ≡ t ∷ rest → sign_of t ≡ s → Takes (λ n. at s) no_sign no_sign n ts rest t.at
+pub takes_at : (s : Sign) (n : ℕ) (ts rest : List Token) (t : Token) → ts ≡ t ∷ rest → sign_of t ≡ s
+    → Takes (λ n. at s) no_sign no_sign n ts rest t.at
 takes_at s n ts rest t is sign = takes_made at_of (takes_token s n ts rest t is sign)
 
 -- no sign of a token is the end's
@@ -131,8 +138,12 @@ pub id_real : Id ≢ End
 id_real = real Id tt
 
 pub among_one : (b : Bool) (s t : Sign) → IsTrue b ↔ (t ≡ s) → b ≡ among (s ∷ []) t
-among_one true s t h = sym (ap (λ x. among (s ∷ []) x) (h.0 refl) ∙ ap (λ b. or_on b false) (holds (λ s. same_sign s s) refl s))
+among_one true s t h = sym
+    (ap (λ x. among (s ∷ []) x) (h.0 refl) ∙ ap (λ b. or_on b false) (holds (λ s. same_sign s s) refl s))
 among_one false s t h = sym (ap (λ b. or_on b false) (told_apart s t (λ e. clash (sym (h.1 e)))))
 
-pub takes_name : (n : ℕ) (ts rest : List Token) (x : Name) → IsName ts rest x → Takes (λ n. name) no_sign no_sign n ts rest x
-takes_name n ts rest x (t, is, sign, same) = subst (λ x. Takes (λ n. name) no_sign no_sign n ts rest x) (sym same) (takes_made name_of (takes_token Id n ts rest t is sign))
+pub takes_name : (n : ℕ) (ts rest : List Token) (x : Name) → IsName ts rest x
+    → Takes (λ n. name) no_sign no_sign n ts rest x
+takes_name n ts rest x (t, is, sign, same) =
+    subst (λ x. Takes (λ n. name) no_sign no_sign n ts rest x) (sym same)
+    (takes_made name_of (takes_token Id n ts rest t is sign))

@@ -18,19 +18,28 @@ IsCons (t ∷ ts) = Unit {0}
 not_nil : (t : Token) (ts : List Token) → t ∷ ts ≡ [] → ⊥
 not_nil t ts e = subst IsCons e tt
 
-module _ {X : Type 0} {R : Rule X} {f c b : Signs} {na : Bool} (good : Good R f c b na) (open_end : c End ≡ false) (free_end : b End ≡ false) where
+module _ {X : Type 0} {R : Rule X} {f c b : Signs} {na : Bool} (good : Good R f c b na) (open_end : c End ≡ false)
+    (free_end : b End ≡ false) where
   -- a list of tokens has at most one tree
   pub one_tree : (ts : List Token) (u v : X) → IsWhole R ts u → IsWhole R ts v → u ≡ v
   one_tree ts u v p q = (good.det p.0 q.0 ts [] [] u v p.1 q.1 open_end open_end).1
 
   alive_whole : (n : ℕ) (pre : List Token) → Alive R b n pre → IsAliveWithin R n pre
-  alive_whole n pre a = (a.more, a.tree, subst (λ l. R n (pre ++ l) [] a.tree) (append-nil a.more) (a.reads [] free_end))
+  alive_whole n pre a =
+      (a.more, a.tree, subst (λ l. R n (pre ++ l) [] a.tree) (append-nil a.more) (a.reads [] free_end))
 
-  hopeless_end : (n : ℕ) (pre post : List Token) → Alive R b n pre → ((m : ℕ) (z : List Token) (u : X) → sign_at z ≡ sign_at post → R m (pre ++ z) [] u → ⊥) → IsHopelessAt R pre post
-  hopeless_end n pre [] a dead = ((n, alive_whole n pre a), λ u w. dead w.0 [] u refl (subst (λ l. R w.0 l [] u) (sym (append-nil pre)) w.1))
-  hopeless_end n pre (t ∷ post) a dead = ((n, alive_whole n pre a), λ w. dead w.0 (t ∷ w.1.0) w.1.1 refl (subst (λ l. R w.0 l [] w.1.1) (append_assoc pre (t ∷ []) w.1.0) w.1.2))
+  hopeless_end : (n : ℕ) (pre post : List Token) → Alive R b n pre
+      → ((m : ℕ) (z : List Token) (u : X) → sign_at z ≡ sign_at post → R m (pre ++ z) [] u → ⊥)
+      → IsHopelessAt R pre post
+  hopeless_end n pre [] a dead =
+      ((n, alive_whole n pre a), λ u w. dead w.0 [] u refl (subst (λ l. R w.0 l [] u) (sym (append-nil pre)) w.1))
+  hopeless_end n pre (t ∷ post) a dead = (
+    (n, alive_whole n pre a),
+    λ w. dead w.0 (t ∷ w.1.0) w.1.1 refl (subst (λ l. R w.0 l [] w.1.1) (append_assoc pre (t ∷ []) w.1.0) w.1.2),
+  )
 
-  pub syntax_whole : (n : ℕ) (end : Place) (ts : List Token) (at : Place) → IsSyntax R c b n end ts at → IsSyntaxAt R n end ts at
+  pub syntax_whole : (n : ℕ) (end : Place) (ts : List Token) (at : Place) → IsSyntax R c b n end ts at
+      → IsSyntaxAt R n end ts at
   syntax_whole n end ts at s = record {
     pre = s.pre;
     post = s.post;
@@ -49,7 +58,8 @@ module _ {X : Type 0} {R : Rule X} {f c b : Signs} {na : Bool} (good : Good R f 
     place = s.place;
     shallow = alive_whole n s.pre s.alive;
     deeper = (s.room, alive_whole s.room (s.pre ++ s.next ∷ []) s.deeper);
-    deep = λ w. s.dead n (omega arith) (s.next ∷ w.0) [] w.1 refl open_end (subst (λ l. R n l [] w.1) (append_assoc s.pre (s.next ∷ []) w.0) w.2);
+    deep = λ w. s.dead n (omega arith) (s.next ∷ w.0) [] w.1 refl open_end
+        (subst (λ l. R n l [] w.1) (append_assoc s.pre (s.next ∷ []) w.0) w.2);
   }
 
   -- all was read
@@ -57,7 +67,8 @@ module _ {X : Type 0} {R : Rule X} {f c b : Signs} {na : Bool} (good : Good R f 
   whole_read n ts u t = (n, subst (λ l. R n l [] u) (sym t.is) (t.alike [] (inl refl)))
 
   -- a token is left
-  pub left_over : (n : ℕ) (end : Place) (ts : List Token) (t : Token) (rest : List Token) (u : X) → Takes R c b n ts (t ∷ rest) u → IsSyntaxAt R n end ts t.at
+  pub left_over : (n : ℕ) (end : Place) (ts : List Token) (t : Token) (rest : List Token) (u : X)
+      → Takes R c b n ts (t ∷ rest) u → IsSyntaxAt R n end ts t.at
   left_over n end ts t rest u took = record {
     pre = took.front;
     post = t ∷ rest;
@@ -66,6 +77,9 @@ module _ {X : Type 0} {R : Rule X} {f c b : Signs} {na : Bool} (good : Good R f 
     shallow = ([], u, subst (λ l. R n l [] u) refl (took.alike [] (inr free_end)));
     hopeless = (
       (n, ([], u, took.alike [] (inr free_end))),
-      λ w. not_nil t w.1.0 (took.only w.0 (t ∷ w.1.0) [] w.1.1 refl open_end (subst (λ l. R w.0 l [] w.1.1) (append_assoc took.front (t ∷ []) w.1.0) w.1.2)),
+      λ w.
+          not_nil t w.1.0
+          (took.only w.0 (t ∷ w.1.0) [] w.1.1 refl open_end
+          (subst (λ l. R w.0 l [] w.1.1) (append_assoc took.front (t ∷ []) w.1.0) w.1.2)),
     );
   }

@@ -1,4 +1,5 @@
--- The parts that rules of a grammar are made of. A part relates the tokens that are left before it, those that are left after it, and the tree of
+-- The parts that rules of a grammar are made of. A part relates the tokens that are left before it, those that are left
+-- after it, and the tree of
 -- what stands between them.
 use Rattle.std.specs.Prelude.{◌≡◌, ◌≢◌, ◌⊎◌, ℕ, zero, suc, List, [], ◌∷◌}
 use Rattle.c_lexer.specs.declared.token.Token.{Token}

@@ -1,4 +1,5 @@
--- What holds of the tokens of a whole text: alive beginnings, the hopeless token, the token that opens a level too many. R is the rule of the whole.
+-- What holds of the tokens of a whole text: alive beginnings, the hopeless token, the token that opens a level too
+-- many. R is the rule of the whole.
 use Rattle.std.specs.Prelude.{◌≡◌, ℕ, cond, List, [], ◌∷◌, ◌++◌}
 use Rattle.fore_base.specs.declared.place.Place.{Place}
 use Rattle.c_lexer.specs.declared.token.Token.{Token}
@@ -47,7 +48,8 @@ pub record IsSyntaxAt {X : Type 0} (R : Rule X) (n : ℕ) (end : Place) (ts : Li
   pub shallow : IsAliveWithin R n pre
   pub hopeless : IsHopelessAt R pre post
 
--- the tokens up to the next one begin something whole, but only with more than n levels; level n + 1 is opened at this place
+-- the tokens up to the next one begin something whole, but only with more than n levels; level n + 1 is opened at this
+-- place
 pub record IsDeepAt {X : Type 0} (R : Rule X) (n : ℕ) (ts : List Token) (at : Place) : Type 0 where
   pub pre : List Token
   pub next : Token

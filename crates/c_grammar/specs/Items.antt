@@ -17,7 +17,8 @@ use Rattle.c_ast.specs.declared.statements.Block.{Block}
 use Rattle.c_ast.specs.declared.statements.Data.{Data}
 use Rattle.c_lexer.specs.declared.token.Token.{Token}
 use Rattle.c_grammar.specs.Grammar.{Part, Rule, token, ◌then◌, ◌or◌, Many, Made}
-use Rattle.c_grammar.specs.Syntax.{at, name, second, middle, joined, optional, series, bracketed, data_part, declare, block}
+use Rattle.c_grammar.specs.Syntax.{at, name, second, middle, joined, optional, series, bracketed, data_part, declare}
+use Rattle.c_grammar.specs.Syntax.{block}
 use Rattle.c_grammar.specs.declared.signs.Sign.TheVariants as sign
 
 -- one or more
@@ -69,7 +70,8 @@ abbrev pub return_pointer_of : Place × (Name × Token) → ReturnType
 return_pointer_of p = return'.Pointer p.0 p.1.0
 
 abbrev pub rtype : Part ReturnType
-rtype = Made return'.Void (at sign.Void) or Made return'.Data data_part or Made return_pointer_of (at sign.Struct then name then token sign.Star)
+rtype = Made return'.Void (at sign.Void) or Made return'.Data data_part or Made return_pointer_of
+    (at sign.Struct then name then token sign.Star)
 
 -- param = "struct" id "*" id | data id
 abbrev pub pointer_param_of : Place × (Name × (Token × Name)) → Param
@@ -79,7 +81,8 @@ abbrev pub datum_param_of : Data × Name → Param
 datum_param_of p = param'.Datum p.0 p.1
 
 abbrev pub param : Part Param
-param = Made pointer_param_of (at sign.Struct then name then token sign.Star then name) or Made datum_param_of (data_part then name)
+param = Made pointer_param_of (at sign.Struct then name then token sign.Star then name) or Made datum_param_of
+    (data_part then name)
 
 -- params = "void" | param { "," param }
 abbrev pub params : Part Params

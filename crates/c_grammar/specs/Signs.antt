@@ -5,7 +5,11 @@ use Rattle.c_lexer.specs.declared.token.TokKind.{TokKind}
 use Rattle.c_lexer.specs.declared.token.TokKind.TheVariants as kind
 use Rattle.c_lexer.specs.declared.token.Token.{Token}
 use Rattle.c_grammar.specs.declared.signs.Sign.{Sign}
-use Rattle.c_grammar.specs.declared.signs.Sign.TheVariants.{Id, Number, Struct, Enum, Int, Void, Extern, If, Else, While, Do, For, Return, Break, Continue, Sizeof, Malloc, Free, Assert, Null, True, False, Arrow, Equal, Unequal, And, Or, OpenBrace, CloseBrace, Open, Close, Semicolon, Comma, Star, Assign, Not, Other, End}
+use Rattle.c_grammar.specs.declared.signs.Sign.TheVariants.{Id, Number, Struct, Enum, Int, Void, Extern, If, Else}
+use Rattle.c_grammar.specs.declared.signs.Sign.TheVariants.{While, Do, For, Return, Break, Continue, Sizeof, Malloc}
+use Rattle.c_grammar.specs.declared.signs.Sign.TheVariants.{Free, Assert, Null, True, False, Arrow, Equal, Unequal, And}
+use Rattle.c_grammar.specs.declared.signs.Sign.TheVariants.{Or, OpenBrace, CloseBrace, Open, Close, Semicolon, Comma}
+use Rattle.c_grammar.specs.declared.signs.Sign.TheVariants.{Star, Assign, Not, Other, End}
 
 abbrev pub Spelling : Type 0
 Spelling = List ℕ × Sign
@@ -13,15 +17,26 @@ Spelling = List ℕ × Sign
 -- the reserved words
 abbrev pub reserved : List Spelling
 reserved =
-    (codes "struct", Struct) ∷ ((codes "enum", Enum) ∷ ((codes "int", Int) ∷ ((codes "void", Void) ∷ ((codes "extern", Extern) ∷ ((codes "if", If) ∷
-    ((codes "else", Else) ∷ ((codes "while", While) ∷ ((codes "do", Do) ∷ ((codes "for", For) ∷ ((codes "return", Return) ∷ ((codes "break", Break) ∷
-    ((codes "continue", Continue) ∷ ((codes "sizeof", Sizeof) ∷ ((codes "malloc", Malloc) ∷ ((codes "free", Free) ∷ ((codes "assert", Assert) ∷
+    (codes "struct", Struct)
+    ∷
+    ((codes "enum", Enum)
+    ∷ ((codes "int", Int) ∷ ((codes "void", Void) ∷ ((codes "extern", Extern) ∷ ((codes "if", If) ∷
+    ((codes "else", Else)
+    ∷ ((codes "while", While)
+    ∷ ((codes "do", Do) ∷ ((codes "for", For) ∷ ((codes "return", Return) ∷ ((codes "break", Break) ∷
+    ((codes "continue", Continue)
+    ∷ ((codes "sizeof", Sizeof) ∷ ((codes "malloc", Malloc) ∷ ((codes "free", Free) ∷ ((codes "assert", Assert) ∷
     ((codes "NULL", Null) ∷ ((codes "true", True) ∷ ((codes "false", False) ∷ [])))))))))))))))))))
 
 abbrev pub marks : List Spelling
 marks =
-    (codes "->", Arrow) ∷ ((codes "==", Equal) ∷ ((codes "!=", Unequal) ∷ ((codes "&&", And) ∷ ((codes "||", Or) ∷ ((codes "{", OpenBrace) ∷
-    ((codes "}", CloseBrace) ∷ ((codes "(", Open) ∷ ((codes ")", Close) ∷ ((codes ";", Semicolon) ∷ ((codes ",", Comma) ∷ ((codes "*", Star) ∷
+    (codes "->", Arrow)
+    ∷
+    ((codes "==", Equal)
+    ∷ ((codes "!=", Unequal) ∷ ((codes "&&", And) ∷ ((codes "||", Or) ∷ ((codes "{", OpenBrace) ∷
+    ((codes "}", CloseBrace)
+    ∷
+    ((codes "(", Open) ∷ ((codes ")", Close) ∷ ((codes ";", Semicolon) ∷ ((codes ",", Comma) ∷ ((codes "*", Star) ∷
     ((codes "=", Assign) ∷ ((codes "!", Not) ∷ [])))))))))))))
 
 -- the sign of this text in a table, or another one where it is not there

@@ -101,7 +101,8 @@ call_with inner = Made call_of (name then arguments inner)
 
 -- operand = path | call | number | "NULL" | "true" | "false"
 abbrev pub literal_part : Part Operand
-literal_part = Made operand'.Number number or Made operand'.Null (at sign.Null) or Made operand'.True (at sign.True) or Made operand'.False (at sign.False)
+literal_part = Made operand'.Number number or Made operand'.Null (at sign.Null) or Made operand'.True (at sign.True) or
+    Made operand'.False (at sign.False)
 
 abbrev pub operand_with : Part Call → Part Operand
 operand_with c = Made operand'.Path path or Made operand'.Call c or literal_part
@@ -130,7 +131,8 @@ size_bare p = size'.Bare p.0 p.1.0 p.1.1
 
 abbrev pub size : Part Size
 size = Made size_struct (at sign.Sizeof then bracketed (Made second (token sign.Struct then name)))
-    or Made size_bracketed (at sign.Sizeof then bracketed (at sign.Star then path)) or Made size_bare (at sign.Sizeof then at sign.Star then path)
+    or Made size_bracketed (at sign.Sizeof then bracketed (at sign.Star then path)) or Made size_bare
+    (at sign.Sizeof then at sign.Star then path)
 
 -- rhs = operand | [ "(" "struct" id "*" ")" ] "malloc" "(" size ")"
 abbrev pub cast_of : Place × (Token × (Name × (Token × Token))) → Cast
@@ -153,7 +155,8 @@ abbrev pub free_of : Place × Path → Simple
 free_of p = simple'.Free p.0 p.1
 
 abbrev pub simple : Rule Simple
-simple n = Made assign_of (path then token sign.Assign then rhs n) or Made simple'.Call (call n) or Made free_of (at sign.Free then bracketed path)
+simple n = Made assign_of (path then token sign.Assign then rhs n) or Made simple'.Call (call n) or Made free_of
+    (at sign.Free then bracketed path)
 
 -- test = operand ( "==" | "!=" ) operand | unary
 abbrev pub yes_of : Token → Bool
@@ -166,7 +169,8 @@ abbrev pub compare_of : Operand × (Bool × Operand) → Test
 compare_of p = test.Compare p.0 p.1.0 p.1.1
 
 abbrev pub test_with : Part Operand → Part Unary → Part Test
-test_with o u = Made compare_of (o then (Made yes_of (token sign.Equal) or Made no_of (token sign.Unequal)) then o) or Made test.Unary u
+test_with o u = Made compare_of (o then (Made yes_of (token sign.Equal) or Made no_of (token sign.Unequal)) then o) or
+    Made test.Unary u
 
 -- a comparison, or an operand alone: they begin alike
 abbrev pub sides : Part Bool
@@ -199,7 +203,8 @@ abbrev pub bracket_of : Place × (Cond × Token) → Unary
 bracket_of p = unary'.Bracket p.0 p.1.0
 
 abbrev pub nested_unary : Part Operand → Part Unary → Part Unary
-nested_unary o u = Made not_of (at sign.Not then u) or Made bracket_of (at sign.Open then cond_with o u then token sign.Close)
+nested_unary o u = Made not_of (at sign.Not then u) or Made bracket_of
+    (at sign.Open then cond_with o u then token sign.Close)
 
 abbrev pub unary : Rule Unary
 unary zero = nowhere or Made unary'.Operand (operand zero)
@@ -219,7 +224,8 @@ enum_of p = data'.Enum p.0 p.1
 abbrev pub data_part : Part Data
 data_part = Made data'.Int (at sign.Int) or Made enum_of (at sign.Enum then name)
 
--- declare = "struct" id "*" id [ "=" rhs ] { "," "*" id [ "=" rhs ] } ";" | data id [ "=" rhs ] { "," id [ "=" rhs ] } ";"
+-- declare = "struct" id "*" id [ "=" rhs ] { "," "*" id [ "=" rhs ] } ";" | data id [ "=" rhs ] { "," id [ "=" rhs ] }
+-- ";"
 abbrev pub declarator_of : Name × Option Rhs → Declarator
 declarator_of p = record { name = p.0; from = p.1 }
 
@@ -233,7 +239,9 @@ abbrev pub datums_of : Data × (List Declarator × Token) → Declare
 datums_of p = declare'.Datums p.0 p.1.0
 
 abbrev pub declare : Rule Declare
-declare n = Made pointers_of (at sign.Struct then name then series sign.Comma (Made second (token sign.Star then declarator n)) then token sign.Semicolon)
+declare n = Made pointers_of
+    (at sign.Struct then name then series sign.Comma (Made second (token sign.Star then declarator n))
+    then token sign.Semicolon)
     or Made datums_of (data_part then series sign.Comma (declarator n) then token sign.Semicolon)
 
 -- block = "{" { declare | stmt } "}"
@@ -241,7 +249,8 @@ abbrev pub block_of : Place × (List part.Part × Token) → Block
 block_of p = roll-Block (record { at = p.0; parts = p.1.0; close = p.1.1.at })
 
 abbrev pub block_with : Part Declare → Part Stmt → Part Block
-block_with d s = Made block_of (at sign.OpenBrace then Many (Made part'.Declare d or Made part'.Stmt s) then token sign.CloseBrace)
+block_with d s = Made block_of
+    (at sign.OpenBrace then Many (Made part'.Declare d or Made part'.Stmt s) then token sign.CloseBrace)
 
 -- what a statement may be that is no level
 abbrev pub return_of : Place × (Option Operand × Token) → Stmt
@@ -261,10 +270,13 @@ simple_of p = stmt'.Simple p.0
 
 abbrev pub flat_stmt : Rule Stmt
 flat_stmt n = Made stmt'.Empty (at sign.Semicolon) or Made simple_of (simple n then token sign.Semicolon)
-    or Made return_of (at sign.Return then optional (operand n) then token sign.Semicolon) or Made break_of (at sign.Break then token sign.Semicolon)
-    or Made continue_of (at sign.Continue then token sign.Semicolon) or Made assert_of (at sign.Assert then bracketed (cond n) then token sign.Semicolon)
+    or Made return_of (at sign.Return then optional (operand n) then token sign.Semicolon) or Made break_of
+    (at sign.Break then token sign.Semicolon)
+    or Made continue_of (at sign.Continue then token sign.Semicolon) or Made assert_of
+    (at sign.Assert then bracketed (cond n) then token sign.Semicolon)
 
--- what a statement may be that is a level; an else belongs to the nearest if that has none, so none stands after an if without one
+-- what a statement may be that is a level; an else belongs to the nearest if that has none, so none stands after an if
+-- without one
 abbrev pub if_of : Place × (Cond × (Stmt × Option Stmt)) → Stmt
 if_of p = stmt'.If p.0 p.1.0 p.1.1.0 p.1.1.1
 
@@ -281,12 +293,16 @@ abbrev pub other_part : Part Stmt → Part (Option Stmt)
 other_part s = Made Some (Made second (token sign.Else then s)) or unless sign.Else (empty None)
 
 abbrev pub first_part : Part Declare → Part Simple → Part First
-first_part d m = Made first'.Declare d or Made first ((Made first'.Simple m or empty first'.Nothing) then token sign.Semicolon)
+first_part d m = Made first'.Declare d or Made first
+    ((Made first'.Simple m or empty first'.Nothing) then token sign.Semicolon)
 
 abbrev pub nested_stmt : Part Declare → Part Simple → Part Cond → Part Stmt → Part Stmt
-nested_stmt d m c s = Made stmt'.Block (block_with d s) or Made if_of (at sign.If then bracketed c then s then other_part s)
-    or Made while_of (at sign.While then bracketed c then s) or Made do_of (at sign.Do then s then token sign.While then bracketed c then token sign.Semicolon)
-    or Made for_of (at sign.For then token sign.Open then first_part d m then optional c then token sign.Semicolon then optional m then token sign.Close then s)
+nested_stmt d m c s = Made stmt'.Block (block_with d s) or Made if_of
+    (at sign.If then bracketed c then s then other_part s)
+    or Made while_of (at sign.While then bracketed c then s) or Made do_of
+    (at sign.Do then s then token sign.While then bracketed c then token sign.Semicolon)
+    or Made for_of (at sign.For then token sign.Open then first_part d m then optional c then token sign.Semicolon
+    then optional m then token sign.Close then s)
 
 abbrev pub stmt : Rule Stmt
 stmt zero = nowhere or flat_stmt zero

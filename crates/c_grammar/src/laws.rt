@@ -20,13 +20,18 @@ pub fn levels_are_depth()
 
 /// There is at most one hopeless token, and at most one that opens a level too many.
 pub fn refusals_are_unique()
-    ensures hopeless { (n : ℕ) (end : Place) (ts : List Token) (here there : Place) → IsSyntaxAt unit n end ts here → IsSyntaxAt unit n end ts there → here ≡ there }
-    ensures deep { (n : ℕ) (ts : List Token) (here there : Place) → IsDeepAt unit n ts here → IsDeepAt unit n ts there → here ≡ there }
+    ensures hopeless { (n : ℕ) (end : Place) (ts : List Token) (here there : Place) → IsSyntaxAt unit n end ts here
+        → IsSyntaxAt unit n end ts there → here ≡ there }
+    ensures deep { (n : ℕ) (ts : List Token) (here there : Place) → IsDeepAt unit n ts here → IsDeepAt unit n ts there
+        → here ≡ there }
 {}
 
 /// A text has a tree with n levels, or a hopeless token first, or a level too many first: no two of these.
 pub fn answers_exclude_each_other()
-    ensures hopeless { (n : ℕ) (end : Place) (ts : List Token) (at : Place) (u : List Item) → IsSyntaxAt unit n end ts at → IsUnit ts u → ⊥ }
-    ensures deep { (n : ℕ) (ts : List Token) (at : Place) (u : List Item) → IsDeepAt unit n ts at → IsUnitWithin n ts u → ⊥ }
-    ensures apart { (n : ℕ) (end : Place) (ts : List Token) (here there : Place) → IsSyntaxAt unit n end ts here → IsDeepAt unit n ts there → ⊥ }
+    ensures hopeless { (n : ℕ) (end : Place) (ts : List Token) (at : Place) (u : List Item) → IsSyntaxAt unit n end ts at → IsUnit ts u
+        → ⊥ }
+    ensures deep { (n : ℕ) (ts : List Token) (at : Place) (u : List Item)
+        → IsDeepAt unit n ts at → IsUnitWithin n ts u → ⊥ }
+    ensures apart { (n : ℕ) (end : Place) (ts : List Token) (here there : Place) → IsSyntaxAt unit n end ts here
+        → IsDeepAt unit n ts there → ⊥ }
 {}

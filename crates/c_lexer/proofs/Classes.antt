@@ -89,13 +89,19 @@ long_class p i = every_in (λ q. class_of (first_of q) ≡ Sign) long_marks p (r
 
 short_class : (b : ℕ) → IsIn b short_marks → class_of b ≡ Sign
 unfolding is_space is_letter is_digit is_quote
-short_class b i = every_in (λ q. class_of q ≡ Sign) short_marks b (refl, (refl, (refl, (refl, (refl, (refl, (refl, (refl, (refl, tt))))))))) i
+short_class b i = every_in (λ q. class_of q ≡ Sign) short_marks b
+    (refl, (refl, (refl, (refl, (refl, (refl, (refl, (refl, (refl, tt))))))))) i
 
 refused_class : (b : ℕ) → IsIn b refused_marks → class_of b ≡ Sign
 unfolding is_space is_letter is_digit is_quote
 refused_class b i =
-    every_in (λ q. class_of q ≡ Sign) refused_marks b
-    (refl, (refl, (refl, (refl, (refl, (refl, (refl, (refl, (refl, (refl, (refl, (refl, (refl, (refl, (refl, tt))))))))))))))) i
+    every_in (λ q. class_of q ≡ Sign) refused_marks b (
+      refl,
+      (
+        refl,
+        (refl, (refl, (refl, (refl, (refl, (refl, (refl, (refl, (refl, (refl, (refl, (refl, (refl, tt))))))))))))),
+      ),
+    ) i
 
 pub lexeme_class : (kind : TokKind) (b : ℕ) (bs : List ℕ) → IsLexeme kind (b ∷ bs) → class_of b ≡ class_for kind
 unfolding first_of
@@ -113,7 +119,8 @@ lexeme_class Refused b (c ∷ cs) h = absurd h
 pub lexeme_not_empty : (kind : TokKind) → IsLexeme kind [] → ⊥
 lexeme_not_empty Word h = h
 lexeme_not_empty Number h = h
-lexeme_not_empty Mark (inl h) = every_in (λ (q : List ℕ). q ≡ [] → ⊥) long_marks [] (λ e. cc, (λ e. cc, (λ e. cc, (λ e. cc, (λ e. cc, tt))))) h refl
+lexeme_not_empty Mark (inl h) =
+    every_in (λ (q : List ℕ). q ≡ [] → ⊥) long_marks [] (λ e. cc, (λ e. cc, (λ e. cc, (λ e. cc, (λ e. cc, tt))))) h refl
 lexeme_not_empty Mark (inr h) = h
 lexeme_not_empty Quoted h = h
 lexeme_not_empty Hash h = cc

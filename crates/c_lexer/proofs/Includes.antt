@@ -1,5 +1,6 @@
 -- Lines, and the include lines that are passed over.
-use Rattle.std.proofs.Common.{◌≡◌, ℕ, ◌<◌, Bool, true, false, eqb, ◌||◌, List, [], ◌∷◌, length, filter, refl, arith, inl, inr, codes, length-take}
+use Rattle.std.proofs.Common.{◌≡◌, ℕ, ◌<◌, Bool, true, false, eqb, ◌||◌, List, [], ◌∷◌, length, filter, refl, arith}
+use Rattle.std.proofs.Common.{inl, inr, codes, length-take}
 use Rattle.std.specs.List.{prefix_len}
 use Rattle.std.proofs.lemmas.Bool.{eqb-true, false≢true, and_parts, or_cases}
 use Rattle.std.proofs.lemmas.List.Sums.{prefix_len-le-length, take_while-cons}
@@ -10,7 +11,8 @@ use Rattle.c_lexer.specs.inner.Steps.{are_same, is_include}
 use Rattle.fore_base.proofs.ListLemmas.{every_in}
 
 pub line_length : (rest : List ℕ) → prefix_len is_no_newline rest ≡ length (first_line rest)
-line_length rest = omega (arith, length-take (prefix_len is_no_newline rest) rest, prefix_len-le-length is_no_newline rest)
+line_length rest = omega
+    (arith, length-take (prefix_len is_no_newline rest) rest, prefix_len-le-length is_no_newline rest)
 
 pub line_cons : (b : ℕ) (bs : List ℕ) → is_no_newline b ≡ true → first_line (b ∷ bs) ≡ b ∷ first_line bs
 line_cons b bs h = rw (take_while-cons is_no_newline b bs, h) refl
@@ -47,8 +49,16 @@ same_from (x ∷ xs) (y ∷ ys) h =
 pub include_from : (line : List ℕ) → is_include line ≡ true → IsIn (filter is_solid line) skipped_includes
 include_from line h =
     elim (or_cases _ _ h) [
-      | inl p ↦ elim (or_cases _ _ p) [ inl e ↦ inl (same_from (filter is_solid line) (codes "#include<stdlib.h>") e) | inr e ↦ inr (inl (same_from (filter is_solid line) (codes "#include<assert.h>") e)) ]
-      | inr p ↦ elim (or_cases _ _ p) [ inl e ↦ inr (inr (inl (same_from (filter is_solid line) (codes "#include<stddef.h>") e))) | inr e ↦ inr (inr (inr (inl (same_from (filter is_solid line) (codes "#include<stdbool.h>") e)))) ]
+      | inl p ↦ elim (or_cases _ _ p) [
+        | inl e ↦ inl (same_from (filter is_solid line) (codes "#include<stdlib.h>") e)
+        | inr e ↦ inr
+            (inl (same_from (filter is_solid line) (codes "#include<assert.h>") e))
+      ]
+      | inr p ↦ elim (or_cases _ _ p) [
+        | inl e ↦ inr (inr (inl (same_from (filter is_solid line) (codes "#include<stddef.h>") e)))
+        | inr e ↦ inr
+            (inr (inr (inl (same_from (filter is_solid line) (codes "#include<stdbool.h>") e))))
+      ]
     ]
 
 abbrev is_one : List ℕ → Bool
@@ -56,4 +66,5 @@ is_one solid = (are_same solid (codes "#include<stdlib.h>") || are_same solid (c
     || (are_same solid (codes "#include<stddef.h>") || are_same solid (codes "#include<stdbool.h>"))
 
 pub include_to : (line : List ℕ) → IsIn (filter is_solid line) skipped_includes → is_include line ≡ true
-include_to line i = every_in (λ solid. is_one solid ≡ true) skipped_includes (filter is_solid line) (refl, (refl, (refl, (refl, tt)))) i
+include_to line i = every_in (λ solid. is_one solid ≡ true) skipped_includes (filter is_solid line)
+    (refl, (refl, (refl, (refl, tt)))) i

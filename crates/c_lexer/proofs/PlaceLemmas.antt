@@ -1,5 +1,6 @@
 -- How places move on by one byte.
-use Rattle.std.proofs.Common.{◌≡◌, ℕ, ◌+◌, ◌<◌, ◌≤◌, Bool, true, false, cond, eqb, ◌&&◌, List, [], ◌∷◌, ◌++◌, length, take, get_or, refl, ap, arith, count_by, length-append}
+use Rattle.std.proofs.Common.{◌≡◌, ℕ, ◌+◌, ◌<◌, ◌≤◌, Bool, true, false, cond, eqb, ◌&&◌, List, [], ◌∷◌, ◌++◌, length}
+use Rattle.std.proofs.Common.{take, get_or, refl, ap, arith, count_by, length-append}
 use Rattle.std.specs.List.{prefix_len, suffix_len}
 use Rattle.std.proofs.lemmas.Bool.Decides.{nat_tests}
 use Rattle.std.proofs.lemmas.List.{reverse-append, take_more}
@@ -24,14 +25,16 @@ unfolding is_newline is_no_newline
 no_newline b h = grind (arith, nat_tests)
 
 cursor_is : (o o' l l' c c' : ℕ) (f f' : Bool) → o ≡ o' → l ≡ l' → c ≡ c' → f ≡ f' →
-    ◌≡◌ {A = Cursor} (record { place = record { offset = o; line = l; column = c }; fresh = f }) (record { place = record { offset = o'; line = l'; column = c' }; fresh = f' })
+    ◌≡◌ {A = Cursor} (record { place = record { offset = o; line = l; column = c }; fresh = f })
+    (record { place = record { offset = o'; line = l'; column = c' }; fresh = f' })
 cursor_is o o' l l' c c' f f' p q r s = cc
 
 fresh_push : (x y : ℕ) (g : Bool) → eqb (cond g (1 + x) 0) (1 + y) ≡ (eqb x y && g)
 fresh_push x y true = grind (arith, nat_tests)
 fresh_push x y false = grind (arith, nat_tests)
 
-cursor_push : (front : List ℕ) (b : ℕ) (newline : Bool) → is_newline b ≡ newline → cursor_after (front ++ b ∷ []) ≡ moved (cursor_after front) b
+cursor_push : (front : List ℕ) (b : ℕ) (newline : Bool) → is_newline b ≡ newline → cursor_after (front ++ b ∷ [])
+    ≡ moved (cursor_after front) b
 cursor_push front b true h =
     let n = newline_no_gap b h in
     rw (suffix_push is_no_newline front b, suffix_push is_gap front b, count_push is_newline front b, h, n.0, n.1)
@@ -41,7 +44,8 @@ cursor_push front b false h =
     (cursor_is _ _ _ _ _ _ _ _ (length-append front (b ∷ [])) (omega arith) (omega arith) (fresh_push _ _ _))
 
 -- the cursor behind one more byte of a text
-pub cursor_more : (xs : List ℕ) (i : ℕ) → i < length xs → cursor_after (take (i + 1) xs) ≡ moved (cursor_after (take i xs)) (get_or xs i 0)
+pub cursor_more : (xs : List ℕ) (i : ℕ) → i < length xs → cursor_after (take (i + 1) xs)
+    ≡ moved (cursor_after (take i xs)) (get_or xs i 0)
 cursor_more xs i h = rw (take_more xs i 0 h) (cursor_push (take i xs) (get_or xs i 0) _ refl)
 
 -- lines and columns are no more than one above the offset

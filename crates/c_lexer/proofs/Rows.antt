@@ -1,7 +1,9 @@
 -- Worked texts with their tokens and refusals, each worked out by hand from the rules.
-use Rattle.std.proofs.Common.{◌≡◌, ◌<◌, ◌+◌, ℕ, zero, suc, true, false, true≢false, List, [], ◌∷◌, length, take, drop, refl, sym, subst, arith, inl, inr, codes}
+use Rattle.std.proofs.Common.{◌≡◌, ◌<◌, ◌+◌, ℕ, zero, suc, true, false, true≢false, List, [], ◌∷◌, length, take, drop}
+use Rattle.std.proofs.Common.{refl, sym, subst, arith, inl, inr, codes}
 use Rattle.fore_base.specs.declared.place.Place.{Place}
-use Rattle.c_lexer.specs.Bytes.{is_letter, is_digit, is_word_byte, is_number_byte, is_gap, is_space, is_quote, is_newline, is_no_newline, is_solid}
+use Rattle.c_lexer.specs.Bytes.{is_letter, is_digit, is_word_byte, is_number_byte, is_gap, is_space, is_quote}
+use Rattle.c_lexer.specs.Bytes.{is_newline, is_no_newline, is_solid}
 use Rattle.c_lexer.specs.Lexemes.{IsLexeme}
 use Rattle.c_lexer.specs.Lexemes.IsQuoteRest.{close, plain, escape}
 use Rattle.c_lexer.specs.Places.{place_after, is_fresh}
@@ -97,7 +99,11 @@ a_quoted_apostrophe = (refl, escape refl (λ e. absurd (omega (arith, e))) (clos
 
 a_quoted_letter : IsLexeme Quoted (34 ∷ 97 ∷ 34 ∷ [])
 unfolding is_quote
-a_quoted_letter = (refl, plain (λ e. absurd (omega (arith, e))) (λ e. absurd (omega (arith, e))) (λ e. absurd (omega (arith, e))) (close refl))
+a_quoted_letter = (
+  refl,
+  plain (λ e. absurd (omega (arith, e))) (λ e. absurd (omega (arith, e))) (λ e. absurd (omega (arith, e)))
+      (close refl),
+)
 
 a_number_sign : IsLexeme Hash (codes "#")
 a_number_sign = refl
@@ -141,30 +147,39 @@ not_the_shorter_mark h = h.3 2 Mark (omega arith) (omega arith) (inl (inl refl))
 -- Readings. Each part is found by the rules where the reader's step says so.
 
 module _ (text : List ℕ) (at : ℕ) (within : 0 < length (drop at text)) where
-  found : (s : Step) → step_of (is_fresh (take at text)) (drop at text) ≡ s → IsFound (is_fresh (take at text)) (drop at text) s
-  found s is = subst (IsFound (is_fresh (take at text)) (drop at text)) is (sound (is_fresh (take at text)) (drop at text) within)
+  found : (s : Step) → step_of (is_fresh (take at text)) (drop at text) ≡ s
+      → IsFound (is_fresh (take at text)) (drop at text) s
+  found s is = subst (IsFound (is_fresh (take at text)) (drop at text)) is
+      (sound (is_fresh (take at text)) (drop at text) within)
 
-  read : (kind : TokKind) (n : ℕ) {ts : List Token} {e : Ending} → step_of (is_fresh (take at text)) (drop at text) ≡ Take kind n → Reads text (at + n) ts e →
+  read : (kind : TokKind) (n : ℕ) {ts : List Token} {e : Ending} → step_of (is_fresh (take at text)) (drop at text)
+      ≡ Take kind n → Reads text (at + n) ts e →
       Reads text at (token kind (take n (drop at text)) (place_after (take at text)) ∷ ts) e
   read kind n is more = next (found (Take kind n) is).0 refl refl more
 
-  pass : (n : ℕ) {ts : List Token} {e : Ending} → step_of (is_fresh (take at text)) (drop at text) ≡ Skip n → Reads text (at + n) ts e → Reads text at ts e
+  pass : (n : ℕ) {ts : List Token} {e : Ending} → step_of (is_fresh (take at text)) (drop at text) ≡ Skip n
+      → Reads text (at + n) ts e → Reads text at ts e
   pass n is more = skip (found (Skip n) is).0 more
 
-  refuse : step_of (is_fresh (take at text)) (drop at text) ≡ Nothing → Reads text at [] (no_token (place_after (take at text)))
+  refuse : step_of (is_fresh (take at text)) (drop at text) ≡ Nothing
+      → Reads text at [] (no_token (place_after (take at text)))
   refuse is = stuck (found Nothing is) refl
 
-  unclose : step_of (is_fresh (take at text)) (drop at text) ≡ Unclosed → Reads text at [] (unclosed (place_after (take at text)))
+  unclose : step_of (is_fresh (take at text)) (drop at text) ≡ Unclosed
+      → Reads text at [] (unclosed (place_after (take at text)))
   unclose is = open_comment (found Unclosed is) refl
 
 no_tokens : Tokens [] []
 no_tokens = ended refl
 
-an_access : Tokens (codes "p->x") (token Word (codes "p") (place 0 1 1) ∷ token Mark (codes "->") (place 1 1 2) ∷ token Word (codes "x") (place 3 1 4) ∷ [])
+an_access : Tokens (codes "p->x")
+    (token Word (codes "p") (place 0 1 1) ∷ token Mark (codes "->") (place 1 1 2) ∷ token Word (codes "x") (place 3 1 4)
+    ∷ [])
 unfolding is_letter is_digit is_word_byte is_number_byte is_gap is_space is_quote is_newline is_no_newline is_solid
 an_access =
     let t : List ℕ = codes "p->x" in
-    read t 0 (omega arith) Word 1 refl (read t 1 (omega arith) Mark 2 refl (read t 3 (omega arith) Word 1 refl (ended refl)))
+    read t 0 (omega arith) Word 1 refl
+    (read t 1 (omega arith) Mark 2 refl (read t 3 (omega arith) Word 1 refl (ended refl)))
 
 -- the longest mark is next
 three_signs : Tokens (codes "===") (token Mark (codes "==") (place 0 1 1) ∷ token Mark (codes "=") (place 2 1 3) ∷ [])
@@ -174,32 +189,42 @@ three_signs =
     read t 0 (omega arith) Mark 2 refl (read t 2 (omega arith) Mark 1 refl (ended refl))
 
 -- a dot goes on with a number and ends a word; a number sign is read
-a_mixture : Tokens (codes "1.a.#") (token Number (codes "1.a.") (place 0 1 1) ∷ token Hash (codes "#") (place 4 1 5) ∷ [])
+a_mixture : Tokens (codes "1.a.#")
+    (token Number (codes "1.a.") (place 0 1 1) ∷ token Hash (codes "#") (place 4 1 5) ∷ [])
 unfolding is_letter is_digit is_word_byte is_number_byte is_gap is_space is_quote is_newline is_no_newline is_solid
 a_mixture =
     let t : List ℕ = codes "1.a.#" in
     read t 0 (omega arith) Number 4 refl (read t 4 (omega arith) Hash 1 refl (ended refl))
 
 -- an apostrophe in quotation marks is a byte like any other; then a letter
-a_quotation : Tokens (34 ∷ 39 ∷ 34 ∷ 97 ∷ []) (token Quoted (34 ∷ 39 ∷ 34 ∷ []) (place 0 1 1) ∷ token Word (97 ∷ []) (place 3 1 4) ∷ [])
+a_quotation : Tokens (34 ∷ 39 ∷ 34 ∷ 97 ∷ [])
+    (token Quoted (34 ∷ 39 ∷ 34 ∷ []) (place 0 1 1) ∷ token Word (97 ∷ []) (place 3 1 4) ∷ [])
 unfolding is_letter is_digit is_word_byte is_number_byte is_gap is_space is_quote is_newline is_no_newline is_solid
 a_quotation =
     let t : List ℕ = 34 ∷ 39 ∷ 34 ∷ 97 ∷ [] in
     read t 0 (omega arith) Quoted 3 refl (read t 3 (omega arith) Word 1 refl (ended refl))
 
 -- comments are passed over, and so is white space
-two_comments : Tokens (codes "/***/a //b\n;") (token Word (codes "a") (place 5 1 6) ∷ token Mark (codes ";") (place 11 2 1) ∷ [])
+two_comments : Tokens (codes "/***/a //b\n;")
+    (token Word (codes "a") (place 5 1 6) ∷ token Mark (codes ";") (place 11 2 1) ∷ [])
 unfolding is_letter is_digit is_word_byte is_number_byte is_gap is_space is_quote is_newline is_no_newline is_solid
 two_comments =
     let t : List ℕ = codes "/***/a //b\n;" in
-    pass t 0 (omega arith) 5 refl (read t 5 (omega arith) Word 1 refl (pass t 6 (omega arith) 1 refl (pass t 7 (omega arith) 3 refl (pass t 10 (omega arith) 1 refl (read t 11 (omega arith) Mark 1 refl (ended refl))))))
+    pass t 0 (omega arith) 5 refl
+    (read t 5 (omega arith) Word 1 refl
+    (pass t 6 (omega arith) 1 refl
+    (pass t 7 (omega arith) 3 refl
+    (pass t 10 (omega arith) 1 refl (read t 11 (omega arith) Mark 1 refl (ended refl))))))
 
 -- an include line is passed over up to its newline, and another line that begins so is read
-an_include_line : Tokens (codes "#include <assert.h>\n#x") (token Hash (codes "#") (place 20 2 1) ∷ token Word (codes "x") (place 21 2 2) ∷ [])
+an_include_line : Tokens (codes "#include <assert.h>\n#x")
+    (token Hash (codes "#") (place 20 2 1) ∷ token Word (codes "x") (place 21 2 2) ∷ [])
 unfolding is_letter is_digit is_word_byte is_number_byte is_gap is_space is_quote is_newline is_no_newline is_solid
 an_include_line =
     let t : List ℕ = codes "#include <assert.h>\n#x" in
-    pass t 0 (omega arith) 19 refl (pass t 19 (omega arith) 1 refl (read t 20 (omega arith) Hash 1 refl (read t 21 (omega arith) Word 1 refl (ended refl))))
+    pass t 0 (omega arith) 19 refl
+    (pass t 19 (omega arith) 1 refl
+    (read t 20 (omega arith) Hash 1 refl (read t 21 (omega arith) Word 1 refl (ended refl))))
 
 -- Refusals
 
@@ -207,8 +232,11 @@ an_include_line =
 an_at_sign : LacksToken (codes "a\n @") (place 3 2 2)
 unfolding is_letter is_digit is_word_byte is_number_byte is_gap is_space is_quote is_newline is_no_newline is_solid
 an_at_sign =
-    let t : List ℕ = codes "a\n @" in
-    (token Word (codes "a") (place 0 1 1) ∷ [], read t 0 (omega arith) Word 1 refl (pass t 1 (omega arith) 1 refl (pass t 2 (omega arith) 1 refl (refuse t 3 (omega arith) refl))))
+    let t : List ℕ = codes "a\n @" in (
+      token Word (codes "a") (place 0 1 1) ∷ [],
+      read t 0 (omega arith) Word 1 refl
+          (pass t 1 (omega arith) 1 refl (pass t 2 (omega arith) 1 refl (refuse t 3 (omega arith) refl))),
+    )
 
 -- a quotation that a newline cuts
 a_cut_quotation : LacksToken (34 ∷ 97 ∷ 10 ∷ 34 ∷ []) (place 0 1 1)

@@ -1,5 +1,6 @@
 -- The longest front whose bytes pass a test.
-use Rattle.std.proofs.Common.{◌≡◌, ℕ, zero, suc, ◌+◌, ◌<◌, ◌≤◌, Bool, true, false, cond, List, [], ◌∷◌, length, take, refl, arith, one-add}
+use Rattle.std.proofs.Common.{◌≡◌, ℕ, zero, suc, ◌+◌, ◌<◌, ◌≤◌, Bool, true, false, cond, List, [], ◌∷◌, length, take}
+use Rattle.std.proofs.Common.{refl, arith, one-add}
 use Rattle.std.specs.List.{prefix_len}
 use Rattle.fore_base.specs.Lists.{Every}
 
@@ -17,7 +18,8 @@ front_passes p (x ∷ xs) =
     split (p x) refl
 
 -- and no longer front does
-pub longer_fails : (p : ℕ → Bool) (xs : List ℕ) (m : ℕ) → prefix_len p xs < m → m ≤ length xs → Every (λ c. p c ≡ true) (take m xs) → ⊥
+pub longer_fails : (p : ℕ → Bool) (xs : List ℕ) (m : ℕ) → prefix_len p xs < m → m ≤ length xs
+    → Every (λ c. p c ≡ true) (take m xs) → ⊥
 longer_fails p [] m h k e = omega arith
 longer_fails p (x ∷ xs) zero h k e = omega arith
 longer_fails p (x ∷ xs) (suc m) h k e =

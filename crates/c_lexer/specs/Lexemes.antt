@@ -15,11 +15,13 @@ abbrev pub IsOneOf : List ℕ → List ℕ → Type 0
 IsOneOf bytes (b ∷ []) = IsIn b bytes
 IsOneOf bytes text = ⊥
 
--- what ends a quotation that this quote began: bytes other than the quote, a backslash and a newline, or pairs of a backslash and a byte other
+-- what ends a quotation that this quote began: bytes other than the quote, a backslash and a newline, or pairs of a
+-- backslash and a byte other
 -- than a newline, and then the quote
 pub data IsQuoteRest (quote : ℕ) : List ℕ → Type 0 where
   close : {b : ℕ} → b ≡ quote → IsQuoteRest quote (b ∷ [])
-  plain : {b : ℕ} {bs : List ℕ} → b ≢ quote → b ≢ backslash → b ≢ newline → IsQuoteRest quote bs → IsQuoteRest quote (b ∷ bs)
+  plain : {b : ℕ} {bs : List ℕ} → b ≢ quote → b ≢ backslash → b ≢ newline → IsQuoteRest quote bs
+      → IsQuoteRest quote (b ∷ bs)
   escape : {b c : ℕ} {bs : List ℕ} → b ≡ backslash → c ≢ newline → IsQuoteRest quote bs → IsQuoteRest quote (b ∷ c ∷ bs)
 
 -- a quote and what ends the quotation that it begins: a string literal (6.4.5) or a character constant (6.4.4.4)

@@ -21,7 +21,8 @@ first_line rest = take_while is_no_newline rest
 
 -- the lines that include a header of which a program needs nothing that is not known already (6.10.2)
 abbrev pub skipped_includes : List (List ℕ)
-skipped_includes = codes "#include<stdlib.h>" ∷ codes "#include<assert.h>" ∷ codes "#include<stddef.h>" ∷ codes "#include<stdbool.h>" ∷ []
+skipped_includes = codes "#include<stdlib.h>" ∷ codes "#include<assert.h>" ∷ codes "#include<stddef.h>"
+    ∷ codes "#include<stdbool.h>" ∷ []
 
 -- the line begins with a number sign, and without spaces, tabs and carriage returns it is one of the four
 abbrev pub IsInclude : List ℕ → Type 0
@@ -39,8 +40,10 @@ IsFirstClose inner k = ClosesAt inner k × ((j : ℕ) → j < k → ¬ ClosesAt 
 pub data Skips (fresh : Bool) (rest : List ℕ) : ℕ → Type 0 where
   white_space : {n : ℕ} → StandsSpace rest → n ≡ 1 → Skips fresh rest n
   line_comment : {n : ℕ} → Stands (codes "//") rest → n ≡ length (first_line rest) → Skips fresh rest n
-  block_comment : {n : ℕ} → Stands (codes "/*") rest → (k : ℕ) → IsFirstClose (drop 2 rest) k → n ≡ k + 4 → Skips fresh rest n
-  include_line : {n : ℕ} → IsTrue fresh → IsInclude (first_line rest) → n ≡ length (first_line rest) → Skips fresh rest n
+  block_comment : {n : ℕ} → Stands (codes "/*") rest → (k : ℕ) → IsFirstClose (drop 2 rest) k → n ≡ k + 4
+      → Skips fresh rest n
+  include_line : {n : ℕ} → IsTrue fresh → IsInclude (first_line rest) → n ≡ length (first_line rest)
+      → Skips fresh rest n
 
 -- a comment begins that is not closed
 abbrev pub IsUnclosed : List ℕ → Type 0

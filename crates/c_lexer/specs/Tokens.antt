@@ -1,4 +1,5 @@
--- The tokens of a text, and its first refusal (ISO/IEC 9899:2011, 6.4: the longest text that is a token is the next one).
+-- The tokens of a text, and its first refusal (ISO/IEC 9899:2011, 6.4: the longest text that is a token is the next
+-- one).
 use Rattle.std.specs.Prelude.{◌≡◌, ◌≢◌, ◌≤◌, ◌<◌, ◌+◌, ℕ, Bool, List, [], ◌∷◌, length, take, drop}
 use Rattle.fore_base.specs.declared.place.Place.{Place}
 use Rattle.c_lexer.specs.Lexemes.{IsLexeme}
@@ -30,11 +31,16 @@ pub data Ending : Type 0 where
 -- the text from this offset on has these tokens, and then ends so
 pub data Reads (text : List ℕ) : ℕ → List Token → Ending → Type 0 where
   ended : {at : ℕ} → at ≡ length text → Reads text at [] whole
-  skip : {at n : ℕ} {ts : List Token} {e : Ending} → Skips (is_fresh (take at text)) (drop at text) n → Reads text (at + n) ts e → Reads text at ts e
-  next : {at n : ℕ} {t : Token} {ts : List Token} {e : Ending} → IsNext (is_fresh (take at text)) (drop at text) t.kind n
-      → t.text ≡ take n (drop at text) → t.at ≡ place_after (take at text) → Reads text (at + n) ts e → Reads text at (t ∷ ts) e
-  stuck : {at : ℕ} {place : Place} → IsStuck (is_fresh (take at text)) (drop at text) → place ≡ place_after (take at text) → Reads text at [] (no_token place)
-  open_comment : {at : ℕ} {place : Place} → IsUnclosed (drop at text) → place ≡ place_after (take at text) → Reads text at [] (unclosed place)
+  skip : {at n : ℕ} {ts : List Token} {e : Ending} → Skips (is_fresh (take at text)) (drop at text) n
+      → Reads text (at + n) ts e → Reads text at ts e
+  next : {at n : ℕ} {t : Token} {ts : List Token} {e : Ending}
+      → IsNext (is_fresh (take at text)) (drop at text) t.kind n
+      → t.text ≡ take n (drop at text) → t.at ≡ place_after (take at text) → Reads text (at + n) ts e
+      → Reads text at (t ∷ ts) e
+  stuck : {at : ℕ} {place : Place} → IsStuck (is_fresh (take at text)) (drop at text)
+      → place ≡ place_after (take at text) → Reads text at [] (no_token place)
+  open_comment : {at : ℕ} {place : Place} → IsUnclosed (drop at text) → place ≡ place_after (take at text)
+      → Reads text at [] (unclosed place)
 
 -- the text has these tokens
 abbrev pub Tokens : List ℕ → List Token → Type 0

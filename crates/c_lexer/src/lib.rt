@@ -1,6 +1,7 @@
 //! The tokens of a C text.
 //!
-//! `tokens` gives every text either its list of tokens, each with its place, or its first refusal: a byte at which no token begins (L1), or a
+//! `tokens` gives every text either its list of tokens, each with its place, or its first refusal: a byte at which no
+//! token begins (L1), or a
 //! comment that is not closed (L2). `end_place` gives the place behind its last byte.
 #![tactic(auto)]
 

@@ -29,7 +29,8 @@ pub fn start() -> Cursor
 
 /// The place behind one more byte.
 fn behind(cursor: Cursor, byte: u8) -> Cursor
-    requires { (cursor.place.offset < 4294967295) × (cursor.place.line < 4294967295) × (cursor.place.column < 4294967295) }
+    requires { (cursor.place.offset < 4294967295) × (cursor.place.line < 4294967295)
+        × (cursor.place.column < 4294967295) }
     ensures { result ≡ moved cursor byte }
 {
     let offset = cursor.place.offset + 1;

@@ -1,5 +1,6 @@
 // A text is read from its front to its end, one piece after another.
-ghost use Rattle.std.specs.Prelude.{◌≡◌, ◌⊎◌, ◌≤◌, ◌<◌, ◌+◌, ◌++◌, [], ◌∷◌, List, Ok, Err, length, take, IfOk, IfErr, OnOk};
+ghost use Rattle.std.specs.Prelude.{◌≡◌, ◌⊎◌, ◌≤◌, ◌<◌, ◌+◌, ◌++◌, [], ◌∷◌, List, Ok, Err, length, take, IfOk, IfErr};
+ghost use Rattle.std.specs.Prelude.{OnOk};
 ghost use Rattle.fore_base.specs.declared.place.Place.{Place};
 ghost use Rattle.c_lexer.specs.declared.token.Token.{Token};
 ghost use Rattle.c_lexer.specs.inner.Readings.{ReadsOn, Refuses};
@@ -77,7 +78,8 @@ fn read_pieces(alloc: Global, text: &[u8]) -> Result<List<Token>, LexFault>
 ///
 /// # Errors
 ///
-/// `LexFault::L1` at the first byte at which no token begins, `LexFault::L2` at the first byte of the comment that is not closed: whichever comes
+/// `LexFault::L1` at the first byte at which no token begins, `LexFault::L2` at the first byte of the comment that is
+/// not closed: whichever comes
 /// first. `LexFault::Memory` for want of memory.
 pub fn tokens(alloc: Global, text: &[u8]) -> Result<List<Token>, LexFault>
     requires { length text.now ≤ FILE_BYTES }

@@ -1,7 +1,8 @@
 // What stands at a place of a text.
 ghost use Rattle.std.specs.Prelude.{◌≡◌, ◌<◌, false, drop, length, slice_index};
 ghost use Rattle.c_lexer.specs.inner.Found.{IsFound};
-ghost use Rattle.c_lexer.specs.inner.Steps.{quote_step, comment_step, mark_step, sign_step, sharp_step, step_of, quote_end, comment_end};
+ghost use Rattle.c_lexer.specs.inner.Steps.{quote_step, comment_step, mark_step, sign_step, sharp_step, step_of};
+ghost use Rattle.c_lexer.specs.inner.Steps.{quote_end, comment_end};
 
 use crate::class::{Class, byte_at, class_of};
 use crate::scan::{
@@ -98,7 +99,8 @@ fn by_class(rest: &[u8], fresh: bool) -> Step
     }
 }
 
-/// What stands at the front of a text that is not empty; `fresh` says that nothing but spaces and tabs stands before it on its line.
+/// What stands at the front of a text that is not empty; `fresh` says that nothing but spaces and tabs stands before it
+/// on its line.
 pub fn next_step(rest: &[u8], fresh: bool) -> Step
     requires { 0 < length rest.now }
     ensures { IsFound fresh rest.now result }

@@ -1,5 +1,7 @@
 -- What edges find in cells and structs.
-use Rattle.std.proofs.Common.{◌≡◌, ◌+◌, ℕ, suc, zero, ◌<◌, ◌≤◌, length, arith, slice_index_or, Bool, true, false, Option, Some, None, Result, Ok, Err, IfOk, List, [], ◌∷◌, drop, get_or, slice_get, refl, sym, ap, ◌∙◌}
+use Rattle.std.proofs.Common.{◌≡◌, ◌+◌, ℕ, suc, zero, ◌<◌, ◌≤◌, length, arith, slice_index_or, Bool, true, false}
+use Rattle.std.proofs.Common.{Option, Some, None, Result, Ok, Err, IfOk, List, [], ◌∷◌, drop, get_or, slice_get, refl}
+use Rattle.std.proofs.Common.{sym, ap, ◌∙◌}
 use Rattle.std.proofs.lemmas.Option.{slice_get_past}
 use Rattle.fore_base.specs.declared.shape.Shape.{Shape}
 use Rattle.fore_base.specs.declared.store.CellRec.{CellRec}
@@ -22,11 +24,13 @@ got : (n : ℕ) {cs : List CellRec} {i : ℕ} {c : CellRec} (d : CellRec) → Fo
 got n d (first is) = refl
 got n d (further is at) = got n d at
 
-found_field : (n f : ℕ) {cs : List CellRec} {i : ℕ} {c : CellRec} → FoundAt n cs i c → field_of cs n f ≡ slice_get c.fields f
+found_field : (n f : ℕ) {cs : List CellRec} {i : ℕ} {c : CellRec} → FoundAt n cs i c → field_of cs n f
+    ≡ slice_get c.fields f
 found_field n f (first is) = rw is refl
 found_field n f (further is at) = rw is (found_field n f at)
 
-pub field_some : (n f i : ℕ) (cs : List CellRec) (d : CellRec) → Position n cs (Some i) → field_of cs n f ≡ slice_get (get_or cs i d).fields f
+pub field_some : (n f i : ℕ) (cs : List CellRec) (d : CellRec) → Position n cs (Some i) → field_of cs n f
+    ≡ slice_get (get_or cs i d).fields f
 field_some n f i cs d (found c at) = found_field n f at ∙ ap (λ (x : CellRec). slice_get x.fields f) (sym (got n d at))
 
 absent_field : (n f : ℕ) {cs : List CellRec} → Absent n cs → field_of cs n f ≡ None
@@ -36,11 +40,13 @@ absent_field n f (other is apart) = rw is (absent_field n f apart)
 pub field_none : (n f : ℕ) (cs : List CellRec) → Position n cs None → field_of cs n f ≡ None
 field_none n f cs (missing apart) = absent_field n f apart
 
-found_datum : (n f : ℕ) {cs : List CellRec} {i : ℕ} {c : CellRec} → FoundAt n cs i c → datum_field_of cs n f ≡ slice_get c.datums f
+found_datum : (n f : ℕ) {cs : List CellRec} {i : ℕ} {c : CellRec} → FoundAt n cs i c → datum_field_of cs n f
+    ≡ slice_get c.datums f
 found_datum n f (first is) = rw is refl
 found_datum n f (further is at) = rw is (found_datum n f at)
 
-pub datum_some : (n f i : ℕ) (cs : List CellRec) (d : CellRec) → Position n cs (Some i) → datum_field_of cs n f ≡ slice_get (get_or cs i d).datums f
+pub datum_some : (n f i : ℕ) (cs : List CellRec) (d : CellRec) → Position n cs (Some i) → datum_field_of cs n f
+    ≡ slice_get (get_or cs i d).datums f
 datum_some n f i cs d (found c at) = found_datum n f at ∙ ap (λ (x : CellRec). slice_get x.datums f) (sym (got n d at))
 
 absent_datum : (n f : ℕ) {cs : List CellRec} → Absent n cs → datum_field_of cs n f ≡ None
@@ -54,7 +60,8 @@ found_struct : (n : ℕ) {cs : List CellRec} {i : ℕ} {c : CellRec} → FoundAt
 found_struct n (first is) = rw is refl
 found_struct n (further is at) = rw is (found_struct n at)
 
-pub struct_some : (n i : ℕ) (cs : List CellRec) (d : CellRec) → Position n cs (Some i) → struct_of cs n ≡ Some (get_or cs i d).shape
+pub struct_some : (n i : ℕ) (cs : List CellRec) (d : CellRec) → Position n cs (Some i)
+    → struct_of cs n ≡ Some (get_or cs i d).shape
 struct_some n i cs d (found c at) = found_struct n at ∙ ap (λ (x : CellRec). Some x.shape) (sym (got n d at))
 
 absent_struct : (n : ℕ) {cs : List CellRec} → Absent n cs → struct_of cs n ≡ None
@@ -66,7 +73,8 @@ struct_none n cs (missing apart) = absent_struct n apart
 
 -- Items
 
-pub item-there : {X : Type 0} (xs : List X) (i : ℕ) (d : X) → i < length xs → slice_get xs i ≡ Some (slice_index_or xs i d)
+pub item-there : {X : Type 0} (xs : List X) (i : ℕ) (d : X) → i < length xs
+    → slice_get xs i ≡ Some (slice_index_or xs i d)
 item-there [] i d h = absurd (omega (arith, h))
 item-there (x ∷ xs) zero d h = refl
 item-there (x ∷ xs) (suc i) d h = item-there xs i d (omega (arith, h))
@@ -78,21 +86,28 @@ pub ruleset items = (item-there, item-past)
 
 -- Structs
 
-pub target-there : (shapes : List Shape) (shape field : ℕ) → target_of shapes (Some shape) field ≡ slice_get (targets_in (fields_at shapes shape)) field
+pub target-there : (shapes : List Shape) (shape field : ℕ) → target_of shapes (Some shape) field
+    ≡ slice_get (targets_in (fields_at shapes shape)) field
 target-there shapes shape field = ap (λ ts. slice_get ts field) (targets_there shapes shape)
 
 pub ruleset targets = (target-there)
 
 -- The edges of a location
 
-pub leave_none : (shapes : List Shape) (es : List Edge) (next : ℕ → ℕ → Store → List ℕ → ℕ → Outcome) (step : ℕ) (s : Store) (cs : List ℕ) (used : ℕ) → asked es ≡ None → leave shapes es next step s cs used ≡ Ended step
+pub leave_none : (shapes : List Shape) (es : List Edge) (next : ℕ → ℕ → Store → List ℕ → ℕ → Outcome) (step : ℕ)
+    (s : Store) (cs : List ℕ) (used : ℕ) → asked es ≡ None → leave shapes es next step s cs used ≡ Ended step
 leave_none shapes [] next step s cs used e = refl
 leave_none shapes (d ∷ ds) next step s cs used e = cc
 
-pub leave_asked : (shapes : List Shape) (es : List Edge) (next : ℕ → ℕ → Store → List ℕ → ℕ → Outcome) (step : ℕ) (s : Store) (cs : List ℕ) (used : ℕ) (b : Bool) → asked es ≡ Some b
-    → leave shapes es next step s cs used ≡ supply b cs (step + 1) used (λ x ds u. first_pass shapes es x (λ k t. next (step + 1) k t ds u) (step + 1) s)
+pub leave_asked : (shapes : List Shape) (es : List Edge) (next : ℕ → ℕ → Store → List ℕ → ℕ → Outcome) (step : ℕ)
+    (s : Store) (cs : List ℕ) (used : ℕ) (b : Bool) → asked es ≡ Some b
+    → leave shapes es next step s cs used
+    ≡ supply b cs (step + 1) used (λ x ds u. first_pass shapes es x (λ k t. next (step + 1) k t ds u) (step + 1) s)
 leave_asked shapes [] next step s cs used b e = cc
-leave_asked shapes (d ∷ ds) next step s cs used b e = ap (λ z. supply z cs (step + 1) used (λ x vs u. first_pass shapes (d ∷ ds) x (λ k t. next (step + 1) k t vs u) (step + 1) s)) (same d e)
+leave_asked shapes (d ∷ ds) next step s cs used b e =
+    ap
+    (λ z. supply z cs (step + 1) used
+    (λ x vs u. first_pass shapes (d ∷ ds) x (λ k t. next (step + 1) k t vs u) (step + 1) s)) (same d e)
   where
     same : (d : Edge) → asked (d ∷ ds) ≡ Some b → has_choice d.choice ≡ b
     same d e = cc
@@ -107,7 +122,8 @@ left_some (d ∷ ds) step o b e = refl
 
 -- Runs
 
-pub run_rest : (g : ControlGraph) (cs : List ℕ) (limit left : ℕ) (h : Store) → left ≡ limit → h ≡ empty_store g.ptrs g.datums → grun g cs limit ≡ rest_of g left 0 0 h cs 0
+pub run_rest : (g : ControlGraph) (cs : List ℕ) (limit left : ℕ) (h : Store) → left ≡ limit
+    → h ≡ empty_store g.ptrs g.datums → grun g cs limit ≡ rest_of g left 0 0 h cs 0
 unfolding grun
 run_rest g cs limit left h e f = rw (e, f) refl
 
@@ -117,12 +133,15 @@ pub ok_more : {A E : Type 0} (P Q : A → Type 0) (r : Result A E) → ((a : A) 
 ok_more P Q (Ok a) f h = f a h
 ok_more P Q (Err e) f h = tt
 
-pub one_more : (g : ControlGraph) (cs : List ℕ) (left step k : ℕ) (s : Store) (used : ℕ) (b : Bool) (x later k' : ℕ) (s' : Store) (o : Option Outcome) → asked (out_of g.edges k) ≡ Some b
+pub one_more : (g : ControlGraph) (cs : List ℕ) (left step k : ℕ) (s : Store) (used : ℕ) (b : Bool) (x later k' : ℕ)
+    (s' : Store) (o : Option Outcome) → asked (out_of g.edges k) ≡ Some b
     → ((next : ℕ → List ℕ → ℕ → Outcome) → supply b (drop used cs) (step + 1) used next ≡ next x (drop later cs) later)
-    → ((next : ℕ → Store → Outcome) → first_pass g.shapes.structs (out_of g.edges k) x next (step + 1) s ≡ or_rest o (next k' s'))
+    → ((next : ℕ → Store → Outcome) → first_pass g.shapes.structs (out_of g.edges k) x next (step + 1) s
+    ≡ or_rest o (next k' s'))
     → rest_of g (suc left) step k s cs used ≡ or_rest o (rest_of g left (step + 1) k' s' cs later)
 one_more g cs left step k s used b x later k' s' o is given leads =
-    let rest : ℕ → ℕ → Store → List ℕ → ℕ → Outcome = λ step' j t ds u. ggo g.shapes.structs g.edges (at_location g.edges) left step' j t ds u in
+    let rest : ℕ → ℕ → Store → List ℕ → ℕ → Outcome =
+    λ step' j t ds u. ggo g.shapes.structs g.edges (at_location g.edges) left step' j t ds u in
     leave_asked g.shapes.structs (out_of g.edges k) rest step s (drop used cs) used b is
     ∙ given (λ y ds u. first_pass g.shapes.structs (out_of g.edges k) y (λ j t. rest (step + 1) j t ds u) (step + 1) s)
     ∙ leads (λ j t. rest (step + 1) j t (drop later cs) later)

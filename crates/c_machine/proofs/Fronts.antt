@@ -9,7 +9,8 @@ use Rattle.c_types.specs.Control.{Items, Do, Close, Ask, ◌then◌, opened}
 use Rattle.c_types.specs.Steps.{Turn, settle, act_turn, test_turn, turn_of, atom_of}
 use Rattle.c_types.proofs.Plains.{then_done}
 use Rattle.c_machine.specs.declared.items.Front.{Front}
-use Rattle.c_machine.specs.declared.items.Front.TheVariants.{Act as FrontAct, Test as FrontTest, Truth, Close as FrontClose}
+use Rattle.c_machine.specs.declared.items.Front.TheVariants.{Act as FrontAct, Test as FrontTest, Truth}
+use Rattle.c_machine.specs.declared.items.Front.TheVariants.{Close as FrontClose}
 use Rattle.c_machine.specs.declared.items.Part.{Part}
 use Rattle.c_machine.specs.declared.items.Sides.{Sides}
 use Rattle.c_machine.specs.declared.items.Control.{Control}
@@ -24,29 +25,38 @@ opened-Do a m r = ap (Do a m) (then_done r)
 pub opened-Close : (ps ds : List ℕ) (m : ℕ) (r : Items) → opened (Close ps ds m r) ≡ Close ps ds m r
 opened-Close ps ds m r = ap (Close ps ds m) (then_done r)
 
-pub opened-Ask : (a : Atom) (m : ℕ) (w : Ways) (r : Items) → opened (test_before (Ask a m) w r) ≡ test_before (Ask a m) w r
+pub opened-Ask : (a : Atom) (m : ℕ) (w : Ways) (r : Items) → opened (test_before (Ask a m) w r)
+    ≡ test_before (Ask a m) w r
 opened-Ask a m w r = ap (test_before (Ask a m) w) (then_done r)
 
-pub test_way : (b : Bool) (w : Ways) (r : Items) (s : Store) → test_turn (Ok b) w.when w.otherwise r s ≡ settle s (way b w then r)
+pub test_way : (b : Bool) (w : Ways) (r : Items) (s : Store) → test_turn (Ok b) w.when w.otherwise r s
+    ≡ settle s (way b w then r)
 test_way true w r s = refl
 test_way false w r s = refl
 
 pub ruleset fronts = (opened-Do, opened-Close, opened-Ask)
 
-comes : (t : Turn) (pace : Pace) (is : Items) (s : Store) (c : Control) → t ≡ turn_seen pace is s → left_of c ≡ opened is → TurnIs t pace c s
+comes : (t : Turn) (pace : Pace) (is : Items) (s : Store) (c : Control) → t ≡ turn_seen pace is s
+    → left_of c ≡ opened is → TurnIs t pace c s
 comes t PaceGoes is s c e left = (is, e, left)
 comes t PaceStops is s c e left = e
 comes t (PaceFaults kind) is s c e left = e
 
 module _ (shapes : List Shape) (front : Front) (parts : List Part) (r : Items) (s : Store) (x : ℕ) where
   -- the step of an act
-  pub act_comes : (a : Bor Act) (m : ℕ) (pace : Pace) (is : Items) (after : Store) (c : Control) → front ≡ FrontAct a m → act_turn shapes a.now r s x ≡ turn_seen pace is after → left_of c ≡ opened is → TurnIs (turn_of shapes (opened (facing front parts r)) s x) pace c after
+  pub act_comes : (a : Bor Act) (m : ℕ) (pace : Pace) (is : Items) (after : Store) (c : Control) → front ≡ FrontAct a m
+      → act_turn shapes a.now r s x ≡ turn_seen pace is after → left_of c ≡ opened is
+      → TurnIs (turn_of shapes (opened (facing front parts r)) s x) pace c after
   act_comes a m pace is after c at e left =
       comes (turn_of shapes (opened (facing front parts r)) s x) pace is after c
-      (ap (λ f. turn_of shapes (opened (facing f parts r)) s x) at ∙ ap (λ is. act_turn shapes a.now is s x) (then_done r) ∙ e) left
+      (ap (λ f. turn_of shapes (opened (facing f parts r)) s x) at
+      ∙ ap (λ is. act_turn shapes a.now is s x) (then_done r) ∙ e) left
 
   -- the step of a test with this outcome
-  pub test_comes : (a : Bor Atom) (m : ℕ) (sides : Sides) (b : Bool) (pace : Pace) (c : Control) → front ≡ FrontTest a m sides → Ok b ≡ atom_of a.now s x → ((is : Items) → turn_seen pace is s ≡ settle s is) → left_of c ≡ opened (way b (through (ways_of sides) parts) then r) → TurnIs (turn_of shapes (opened (facing front parts r)) s x) pace c s
+  pub test_comes : (a : Bor Atom) (m : ℕ) (sides : Sides) (b : Bool) (pace : Pace) (c : Control)
+      → front ≡ FrontTest a m sides → Ok b ≡ atom_of a.now s x → ((is : Items) → turn_seen pace is s ≡ settle s is)
+      → left_of c ≡ opened (way b (through (ways_of sides) parts) then r)
+      → TurnIs (turn_of shapes (opened (facing front parts r)) s x) pace c s
   test_comes a m sides b pace c at outcome settled left =
       let w : Ways = through (ways_of sides) parts in
       comes (turn_of shapes (opened (facing front parts r)) s x) pace (way b w then r) s c
@@ -56,7 +66,10 @@ module _ (shapes : List Shape) (front : Front) (parts : List Part) (r : Items) (
       ∙ test_way b w r s
       ∙ sym (settled (way b w then r))) left
 
-  pub truth_comes : (sides : Sides) (pace : Pace) (c : Control) → front ≡ Truth sides → ((is : Items) → turn_seen pace is s ≡ settle s is) → left_of c ≡ opened (way true (through (ways_of sides) parts) then r) → TurnIs (turn_of shapes (opened (facing front parts r)) s x) pace c s
+  pub truth_comes : (sides : Sides) (pace : Pace) (c : Control) → front ≡ Truth sides
+      → ((is : Items) → turn_seen pace is s ≡ settle s is)
+      → left_of c ≡ opened (way true (through (ways_of sides) parts) then r)
+      → TurnIs (turn_of shapes (opened (facing front parts r)) s x) pace c s
   truth_comes sides pace c at settled left =
       let w : Ways = through (ways_of sides) parts in
       comes (turn_of shapes (opened (facing front parts r)) s x) pace (w.when then r) s c
@@ -65,7 +78,10 @@ module _ (shapes : List Shape) (front : Front) (parts : List Part) (r : Items) (
       ∙ sym (settled (w.when then r))) left
 
   -- the step of a Close
-  pub close_comes : (ps ds : Bor (List ℕ)) (m : ℕ) (pace : Pace) (after : Store) (c : Control) → front ≡ FrontClose ps ds m → after ≡ kill ps.now ds.now s → ((is : Items) → turn_seen pace is after ≡ settle after is) → left_of c ≡ opened r → TurnIs (turn_of shapes (opened (facing front parts r)) s x) pace c after
+  pub close_comes : (ps ds : Bor (List ℕ)) (m : ℕ) (pace : Pace) (after : Store) (c : Control)
+      → front ≡ FrontClose ps ds m → after ≡ kill ps.now ds.now s
+      → ((is : Items) → turn_seen pace is after ≡ settle after is) → left_of c ≡ opened r
+      → TurnIs (turn_of shapes (opened (facing front parts r)) s x) pace c after
   close_comes ps ds m pace after c at dead settled left =
       comes (turn_of shapes (opened (facing front parts r)) s x) pace r after c
       (ap (λ f. turn_of shapes (opened (facing f parts r)) s x) at

@@ -1,5 +1,6 @@
 -- One step of a run, by the machine's answer to it.
-use Rattle.std.proofs.Common.{◌≡◌, ◌+◌, length, ℕ, zero, suc, Bool, true, false, List, Option, Some, None, refl, sym, ap, ◌∙◌, subst, true≢false}
+use Rattle.std.proofs.Common.{◌≡◌, ◌+◌, length, ℕ, zero, suc, Bool, true, false, List, Option, Some, None, refl, sym}
+use Rattle.std.proofs.Common.{ap, ◌∙◌, subst, true≢false}
 use Rattle.fore_base.specs.declared.fault.Fault.{Fault as Kind}
 use Rattle.fore_base.specs.declared.shape.Shape.{Shape}
 use Rattle.fore_base.specs.declared.store.Store.{Store}
@@ -37,7 +38,8 @@ module _ (shapes : List Shape) where
   runs_on (DoLoop c b is) step e = refl
   runs_on (DoAgain c b is) step e = refl
 
-  pub done_ends : (n step : ℕ) (is : Items) (s : Store) (cs : List ℕ) (used : ℕ) → is_done is ≡ true → going shapes (suc n) step is s cs used ≡ RunEnded step
+  pub done_ends : (n step : ℕ) (is : Items) (s : Store) (cs : List ℕ) (used : ℕ) → is_done is ≡ true
+      → going shapes (suc n) step is s cs used ≡ RunEnded step
   done_ends n step Done s cs used e = refl
   done_ends n step (Do a m is) s cs used e = absurd (true≢false (sym e))
   done_ends n step (Close ps ds m is) s cs used e = absurd (true≢false (sym e))
@@ -49,9 +51,12 @@ module _ (shapes : List Shape) where
 
   -- the rest of a run after a choice
   abbrev pub next_of : ℕ → ℕ → Items → Store → ℕ → List ℕ → ℕ → Outcome
-  next_of n step is s x ds u = after_turn (turn_of shapes is s x) (mark_of is) (step + 1) (λ js t. go shapes own_line at_end n (step + 1) js t ds u)
+  next_of n step is s x ds u =
+      after_turn (turn_of shapes is s x) (mark_of is) (step + 1)
+      (λ js t. go shapes own_line at_end n (step + 1) js t ds u)
 
-  pub steps_on : (n step : ℕ) (is : Items) (s : Store) (cs : List ℕ) (used : ℕ) → is_done is ≡ false → going shapes (suc n) step is s cs used ≡ supply (takes is) cs (step + 1) used (next_of n step is s)
+  pub steps_on : (n step : ℕ) (is : Items) (s : Store) (cs : List ℕ) (used : ℕ) → is_done is ≡ false
+      → going shapes (suc n) step is s cs used ≡ supply (takes is) cs (step + 1) used (next_of n step is s)
   steps_on n step Done s cs used e = absurd (true≢false e)
   steps_on n step (Do a m is) s cs used e = refl
   steps_on n step (Close ps ds m is) s cs used e = refl
@@ -61,28 +66,38 @@ module _ (shapes : List Shape) where
   steps_on n step (DoLoop c b is) s cs used e = refl
   steps_on n step (DoAgain c b is) s cs used e = refl
 
-  pub go_going : (n step : ℕ) (is : Items) (s : Store) (cs : List ℕ) (used : ℕ) → go shapes own_line at_end n step is s cs used ≡ going shapes n step (opened is) s cs used
+  pub go_going : (n step : ℕ) (is : Items) (s : Store) (cs : List ℕ) (used : ℕ)
+      → go shapes own_line at_end n step is s cs used ≡ going shapes n step (opened is) s cs used
   go_going zero step is s cs used = refl
   go_going (suc n) step is s cs used = refl
 
   -- a turn, by what the machine answered
-  pub turn_next : (t : steps.Turn) (old new : Machine) (line st n u : ℕ) (ds : List ℕ) → Stepped t old new Next → after_turn t line st (λ js v. go shapes own_line at_end n st js v ds u) ≡ going shapes n st (todo new) (store_of new) ds u
-  turn_next (Goes js v) old new line st n u ds h = go_going n st js v ds u ∙ ap (λ is. going shapes n st is v ds u) (sym h.1) ∙ ap (λ (s : Store). going shapes n st (todo new) s ds u) (sym h.2)
+  pub turn_next : (t : steps.Turn) (old new : Machine) (line st n u : ℕ) (ds : List ℕ) → Stepped t old new Next
+      → after_turn t line st (λ js v. go shapes own_line at_end n st js v ds u)
+      ≡ going shapes n st (todo new) (store_of new) ds u
+  turn_next (Goes js v) old new line st n u ds h = go_going n st js v ds u
+      ∙ ap (λ is. going shapes n st is v ds u) (sym h.1)
+      ∙ ap (λ (s : Store). going shapes n st (todo new) s ds u) (sym h.2)
   turn_next Stops old new line st n u ds h = absurd (let e : Next ≡ Ended = h.0 in cc)
   turn_next (Faults k) old new line st n u ds h = absurd (let e : Next ≡ Fault k (mark_of (todo old)) = h.0 in cc)
 
-  pub turn_ended : (t : steps.Turn) (old new : Machine) (line st : ℕ) (k : Items → Store → Outcome) → Stepped t old new Ended → after_turn t line st k ≡ RunEnded st
+  pub turn_ended : (t : steps.Turn) (old new : Machine) (line st : ℕ) (k : Items → Store → Outcome)
+      → Stepped t old new Ended → after_turn t line st k ≡ RunEnded st
   turn_ended (Goes js v) old new line st k h = absurd (let e : Ended ≡ Next = h.0 in cc)
   turn_ended Stops old new line st k h = refl
   turn_ended (Faults kind) old new line st k h = absurd (let e : Ended ≡ Fault kind (mark_of (todo old)) = h.0 in cc)
 
-  pub turn_fault : (t : steps.Turn) (old new : Machine) (kind : Kind) (line st : ℕ) (k : Items → Store → Outcome) → Stepped t old new (Fault kind line) → after_turn t (mark_of (todo old)) st k ≡ RunFault kind line st
+  pub turn_fault : (t : steps.Turn) (old new : Machine) (kind : Kind) (line st : ℕ) (k : Items → Store → Outcome)
+      → Stepped t old new (Fault kind line) → after_turn t (mark_of (todo old)) st k ≡ RunFault kind line st
   turn_fault (Goes js v) old new kind line st k h = absurd (let e : Fault kind line ≡ Next = h.0 in cc)
   turn_fault Stops old new kind line st k h = absurd (let e : Fault kind line ≡ Ended = h.0 in cc)
-  turn_fault (Faults other) old new kind line st k h = let e : Fault kind line ≡ Fault other (mark_of (todo old)) = h.0 in cc
+  turn_fault (Faults other) old new kind line st k h =
+      let e : Fault kind line ≡ Fault other (mark_of (todo old)) = h.0 in cc
 
 -- what was answered on the choice that there was
-pub answered : (old new : Machine) (answer : Turn) (needed : Bool) (choice : Option ℕ) (x : ℕ) → chosen needed choice ≡ Some x → Answers (chosen needed choice) old new answer → Stepped (turn_of (program_of old).shapes.structs (todo old) (store_of old) x) old new answer
+pub answered : (old new : Machine) (answer : Turn) (needed : Bool) (choice : Option ℕ) (x : ℕ) → chosen needed choice
+    ≡ Some x → Answers (chosen needed choice) old new answer
+    → Stepped (turn_of (program_of old).shapes.structs (todo old) (store_of old) x) old new answer
 answered old new answer needed choice x e h = subst (λ c. Answers c old new answer) e h
 
 -- a step that was taken wants no choice
@@ -97,12 +112,16 @@ still_on Stops old new h = absurd (let e : Next ≡ Ended = h.0 in cc)
 still_on (Faults k) old new h = absurd (let e : Next ≡ Fault k (mark_of (todo old)) = h.0 in cc)
 
 -- a run from its start
-pub run_going : (p : Program) (cs : List ℕ) (n : ℕ) → run p cs n ≡ going p.shapes.structs n 0 (opened (start_of p)) (empty_store (length p.vars) (length p.data_vars)) cs 0
+pub run_going : (p : Program) (cs : List ℕ) (n : ℕ)
+    → run p cs n ≡ going p.shapes.structs n 0 (opened (start_of p)) (empty_store (length p.vars) (length p.data_vars))
+    cs 0
 unfolding run
 run_going p cs n = go_going p.shapes.structs n 0 (start_of p) (empty_store (length p.vars) (length p.data_vars)) cs 0
 
 -- the same rest of a run
-pub same_going : (shapes shapes' : List Shape) (n n' step : ℕ) (is is' : Items) (s s' : Store) (cs : List ℕ) (used : ℕ) → shapes ≡ shapes' → n ≡ n' → is ≡ is' → s ≡ s' → going shapes n step is s cs used ≡ going shapes' n' step is' s' cs used
+pub same_going : (shapes shapes' : List Shape) (n n' step : ℕ) (is is' : Items) (s s' : Store) (cs : List ℕ) (used : ℕ)
+    → shapes ≡ shapes' → n ≡ n' → is ≡ is' → s ≡ s' → going shapes n step is s cs used
+    ≡ going shapes' n' step is' s' cs used
 same_going shapes shapes' n n' step is is' s s' cs used a b c d =
     ap (λ (x : List Shape). going x n step is s cs used) a
     ∙ ap (λ x. going shapes' x step is s cs used) b

@@ -1,5 +1,6 @@
 -- Which variables of the blocks that are left refer to a cell.
-use Rattle.std.proofs.Common.{Bor, ◌≡◌, ℕ, zero, suc, Bool, true, false, ◌||◌, nat_lt, if◌then◌else◌, List, [], ◌∷◌, ◌++◌, map, length, take, slice_index_or, ◌≤◌, refl, sym, ap, ◌∙◌, subst, arith}
+use Rattle.std.proofs.Common.{Bor, ◌≡◌, ℕ, zero, suc, Bool, true, false, ◌||◌, nat_lt, if◌then◌else◌, List, [], ◌∷◌}
+use Rattle.std.proofs.Common.{◌++◌, map, length, take, slice_index_or, ◌≤◌, refl, sym, ap, ◌∙◌, subst, arith}
 use Rattle.std.proofs.Math.Seq.{take-suc, take-length}
 use Rattle.std.proofs.lemmas.List.{map-append}
 use Rattle.fore_base.specs.declared.store.Value.{Value}
@@ -7,8 +8,11 @@ use Rattle.fore_base.specs.declared.store.Value.TheVariants.{Uninit}
 use Rattle.c_types.specs.declared.program.Act.{Act}
 use Rattle.c_types.specs.declared.program.Cond.{Cond}
 use Rattle.c_types.specs.declared.program.Stmt.{Stmt, Stmt-F, map-Stmt, roll-Stmt, ind-Stmt, fold-roll-Stmt}
-use Rattle.c_types.specs.declared.program.Stmt.TheVariants.{Do as StmtDo, Branch, While, DoWhile, For, Group, rolls-Do, rolls-Branch, rolls-While, rolls-DoWhile, rolls-For, rolls-Group}
-use Rattle.c_types.specs.declared.program.Stmt.TheOpen.{Do as Do-F, Branch as Branch-F, While as While-F, DoWhile as DoWhile-F, For as For-F, Group as Group-F}
+use Rattle.c_types.specs.declared.program.Stmt.TheVariants.{Do as StmtDo, Branch, While, DoWhile, For, Group, rolls-Do}
+use Rattle.c_types.specs.declared.program.Stmt.TheVariants.{rolls-Branch, rolls-While, rolls-DoWhile, rolls-For}
+use Rattle.c_types.specs.declared.program.Stmt.TheVariants.{rolls-Group}
+use Rattle.c_types.specs.declared.program.Stmt.TheOpen.{Do as Do-F, Branch as Branch-F, While as While-F}
+use Rattle.c_types.specs.declared.program.Stmt.TheOpen.{DoWhile as DoWhile-F, For as For-F, Group as Group-F}
 use Rattle.c_types.specs.Control.{Items, insert, merged, closed_ptrs, all_before, closes, items_step, items_of}
 use Rattle.c_types.specs.Steps.{below}
 use Rattle.c_types.specs.Losses.{is_cell, hold_cell}
@@ -28,13 +32,17 @@ or_swap false b c = refl
 
 -- Variables in any order
 
-hold_insert : (vs : List Value) (n : ℕ) (ms : List ℕ) → hold_cell vs (insert n ms) ≡ is_cell (slice_index_or vs n Uninit) || hold_cell vs ms
+hold_insert : (vs : List Value) (n : ℕ) (ms : List ℕ) → hold_cell vs (insert n ms)
+    ≡ is_cell (slice_index_or vs n Uninit) || hold_cell vs ms
 hold_insert vs n [] = refl
 hold_insert vs n (m ∷ ms) = here (nat_lt n m) (hold_insert vs n ms)
   where
-    here : (b : Bool) → hold_cell vs (insert n ms) ≡ is_cell (slice_index_or vs n Uninit) || hold_cell vs ms → hold_cell vs (if b then n ∷ (m ∷ ms) else m ∷ insert n ms) ≡ is_cell (slice_index_or vs n Uninit) || hold_cell vs (m ∷ ms)
+    here : (b : Bool) → hold_cell vs (insert n ms) ≡ is_cell (slice_index_or vs n Uninit) || hold_cell vs ms
+        → hold_cell vs (if b then n ∷ (m ∷ ms) else m ∷ insert n ms) ≡ is_cell (slice_index_or vs n Uninit)
+        || hold_cell vs (m ∷ ms)
     here true rest = refl
-    here false rest = ap (λ b. is_cell (slice_index_or vs m Uninit) || b) rest ∙ or_swap (is_cell (slice_index_or vs m Uninit)) (is_cell (slice_index_or vs n Uninit)) (hold_cell vs ms)
+    here false rest = ap (λ b. is_cell (slice_index_or vs m Uninit) || b) rest
+        ∙ or_swap (is_cell (slice_index_or vs m Uninit)) (is_cell (slice_index_or vs n Uninit)) (hold_cell vs ms)
 
 pub hold_merged : (vs : List Value) (ns ms : List ℕ) → hold_cell vs (merged ns ms) ≡ hold_cell vs ns || hold_cell vs ms
 hold_merged vs [] ms = refl
@@ -47,10 +55,12 @@ or_end : (b : Bool) → b || false ≡ b
 or_end true = refl
 or_end false = refl
 
-hold_last : (vs : List Value) (ns : List ℕ) (n : ℕ) → hold_cell vs (ns ++ n ∷ []) ≡ hold_cell vs ns || is_cell (slice_index_or vs n Uninit)
+hold_last : (vs : List Value) (ns : List ℕ) (n : ℕ) → hold_cell vs (ns ++ n ∷ []) ≡ hold_cell vs ns
+    || is_cell (slice_index_or vs n Uninit)
 hold_last vs [] n = or_end (is_cell (slice_index_or vs n Uninit))
 hold_last vs (m ∷ ms) n =
-    ap (λ b. is_cell (slice_index_or vs m Uninit) || b) (hold_last vs ms n) ∙ sym (or_assoc (is_cell (slice_index_or vs m Uninit)) (hold_cell vs ms) (is_cell (slice_index_or vs n Uninit)))
+    ap (λ b. is_cell (slice_index_or vs m Uninit) || b) (hold_last vs ms n)
+    ∙ sym (or_assoc (is_cell (slice_index_or vs m Uninit)) (hold_cell vs ms) (is_cell (slice_index_or vs n Uninit)))
 
 -- All variables
 
@@ -73,7 +83,8 @@ hold_all vs = hold_taken vs (length vs) (omega arith) ∙ ap (λ xs. some_true (
 
 -- Statements
 
-pub hold_closes : (vs : List Value) (ps ds : List ℕ) (m : ℕ) (r : Items) → hold_cell vs (closed_ptrs (closes ps ds m r)) ≡ hold_cell vs ps || hold_cell vs (closed_ptrs r)
+pub hold_closes : (vs : List Value) (ps ds : List ℕ) (m : ℕ) (r : Items) → hold_cell vs (closed_ptrs (closes ps ds m r))
+    ≡ hold_cell vs ps || hold_cell vs (closed_ptrs r)
 hold_closes vs [] [] m r = refl
 hold_closes vs [] (d ∷ ds) m r = refl
 hold_closes vs (p ∷ ps) ds m r = hold_merged vs (p ∷ ps) (closed_ptrs r)
@@ -86,15 +97,18 @@ module _ (vs : List Value) where
   abbrev HoldsAs : Stmt → Type 0
   HoldsAs s = Holds (items_of s) (held_in vs s)
 
-  each_holds : (es : List ((s : Stmt) × HoldsAs s)) → Holds (all_before (map items_of (map (λ e. e.0) es))) (some_true (map (held_in vs) (map (λ e. e.0) es)))
+  each_holds : (es : List ((s : Stmt) × HoldsAs s))
+      → Holds (all_before (map items_of (map (λ e. e.0) es))) (some_true (map (held_in vs) (map (λ e. e.0) es)))
   each_holds [] = λ r. refl
   each_holds (e ∷ es) = λ r.
       e.1 (all_before (map items_of (map (λ x. x.0) es)) r)
       ∙ ap (λ b. held_in vs e.0 || b) (each_holds es r)
-      ∙ sym (or_assoc (held_in vs e.0) (some_true (map (held_in vs) (map (λ x. x.0) es))) (hold_cell vs (closed_ptrs r)))
+      ∙ sym
+      (or_assoc (held_in vs e.0) (some_true (map (held_in vs) (map (λ x. x.0) es))) (hold_cell vs (closed_ptrs r)))
 
   abbrev LayerHolds : Stmt-F Stmt → Type 0
-  LayerHolds y = Holds (items_step (map-Stmt Stmt (Items → Items) items_of y)) (held_step vs (map-Stmt Stmt Bool (held_in vs) y))
+  LayerHolds y = Holds (items_step (map-Stmt Stmt (Items → Items) items_of y))
+      (held_step vs (map-Stmt Stmt Bool (held_in vs) y))
 
   layer_holds : (y : Stmt-F ((s : Stmt) × HoldsAs s)) → LayerHolds (map-Stmt ((s : Stmt) × HoldsAs s) Stmt (λ e. e.0) y)
   layer_holds (Do-F a line) = λ r. refl
@@ -111,12 +125,16 @@ module _ (vs : List Value) where
   stmt_holds : (s : Stmt) → HoldsAs s
   stmt_holds = ind-Stmt HoldsAs (λ x y is.
       let here : LayerHolds x = subst LayerHolds is (layer_holds y) in
-      subst (λ f. Holds f (held_in vs (roll-Stmt x))) (sym (fold-roll-Stmt (Items → Items) items_step x)) (subst (λ b. Holds (items_step (map-Stmt Stmt (Items → Items) items_of x)) b) (sym (fold-roll-Stmt Bool (held_step vs) x)) here))
+      subst (λ f. Holds f (held_in vs (roll-Stmt x))) (sym (fold-roll-Stmt (Items → Items) items_step x))
+      (subst (λ b. Holds (items_step (map-Stmt Stmt (Items → Items) items_of x)) b)
+      (sym (fold-roll-Stmt Bool (held_step vs) x)) here))
 
-  pub block_holds : (ss : List Stmt) (r : Items) → hold_cell vs (closed_ptrs (block ss r)) ≡ held_in_each vs ss || hold_cell vs (closed_ptrs r)
+  pub block_holds : (ss : List Stmt) (r : Items) → hold_cell vs (closed_ptrs (block ss r)) ≡ held_in_each vs ss
+      || hold_cell vs (closed_ptrs r)
   block_holds [] r = refl
   block_holds (x ∷ xs) r =
-      stmt_holds x (block xs r) ∙ ap (λ b. held_in vs x || b) (block_holds xs r) ∙ sym (or_assoc (held_in vs x) (held_in_each vs xs) (hold_cell vs (closed_ptrs r)))
+      stmt_holds x (block xs r) ∙ ap (λ b. held_in vs x || b) (block_holds xs r)
+      ∙ sym (or_assoc (held_in vs x) (held_in_each vs xs) (hold_cell vs (closed_ptrs r)))
 
 -- The blocks among statements
 
@@ -135,8 +153,10 @@ held-DoWhile vs c b = ap (held_in vs) (sym (rolls-DoWhile c b)) ∙ fold-roll-St
 pub held-For : (vs : List Value) (c : Cond) (n b : List Stmt) → held_in vs (For c n b) ≡ false
 held-For vs c n b = ap (held_in vs) (sym (rolls-For c n b)) ∙ fold-roll-Stmt Bool (held_step vs) (For-F c n b)
 
-pub held-Group : (vs : List Value) (b : List Stmt) (ps ds : List ℕ) (m : ℕ) → held_in vs (Group b ps ds m) ≡ held_in_each vs b || hold_cell vs ps
-held-Group vs b ps ds m = ap (held_in vs) (sym (rolls-Group b ps ds m)) ∙ fold-roll-Stmt Bool (held_step vs) (Group-F b ps ds m)
+pub held-Group : (vs : List Value) (b : List Stmt) (ps ds : List ℕ) (m : ℕ) → held_in vs (Group b ps ds m)
+    ≡ held_in_each vs b || hold_cell vs ps
+held-Group vs b ps ds m = ap (held_in vs) (sym (rolls-Group b ps ds m))
+    ∙ fold-roll-Stmt Bool (held_step vs) (Group-F b ps ds m)
 
 pub ruleset held = (held-Do, held-Branch, held-While, held-DoWhile, held-For, held-Group)
 
@@ -152,7 +172,9 @@ pending_last xs x = onto_last _ xs x
 pub ruleset leaves = (hold_closes, pending_last)
 
 -- the blocks of the entry that comes first, and what comes after it
-pub round_block : (vs : List Value) (xs ys : List Item) (x : Item) (ss : Bor (List Stmt)) → ys ≡ xs ++ x ∷ [] → x ≡ Block ss → hold_cell vs (closed_ptrs (pending ys)) ≡ held_in_each vs ss.now || hold_cell vs (closed_ptrs (pending xs))
+pub round_block : (vs : List Value) (xs ys : List Item) (x : Item) (ss : Bor (List Stmt)) → ys ≡ xs ++ x ∷ []
+    → x ≡ Block ss → hold_cell vs (closed_ptrs (pending ys)) ≡ held_in_each vs ss.now
+    || hold_cell vs (closed_ptrs (pending xs))
 round_block vs xs ys x ss e is =
     ap (λ zs. hold_cell vs (closed_ptrs (pending zs))) e
     ∙ ap (λ r. hold_cell vs (closed_ptrs r)) (pending_last xs x)

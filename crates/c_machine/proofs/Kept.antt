@@ -1,5 +1,6 @@
 -- Where no cell has leaked, a step that takes no reference to a cell away leads to no leak.
-use Rattle.std.proofs.Common.{◌≡◌, ℕ, Bool, true, false, if◌then◌else◌, MatchResult, OnOk, Result, Ok, Err, List, [], refl, sym, ap, ◌∙◌}
+use Rattle.std.proofs.Common.{◌≡◌, ℕ, Bool, true, false, if◌then◌else◌, MatchResult, OnOk, Result, Ok, Err, List, []}
+use Rattle.std.proofs.Common.{refl, sym, ap, ◌∙◌}
 use Rattle.fore_base.specs.declared.fault.Fault.{Fault as Kind}
 use Rattle.fore_base.specs.declared.fault.Fault.TheVariants.{Leak}
 use Rattle.fore_base.specs.declared.shape.Shape.{Shape}
@@ -25,22 +26,30 @@ settle_kept t is none = here (leaks t) refl
 pub settle_goes : (t : Store) (is : Items) → leaks t ≡ false → Goes is t ≡ settle t is
 settle_goes t is kept = ap (λ b. if b then Faults Leak else Goes is t) (sym kept)
 
-settled_kept : (done : Result Unit Kind) (r : Result Store Kind) (t : Store) (is : Items) → MatchResult done (λ _. r ≡ Ok t) (λ k. r ≡ Err k) → (settled r is ≡ Faults Leak → ⊥) → OnOk done (leaks t ≡ false)
+settled_kept : (done : Result Unit Kind) (r : Result Store Kind) (t : Store) (is : Items)
+    → MatchResult done (λ _. r ≡ Ok t) (λ k. r ≡ Err k) → (settled r is ≡ Faults Leak → ⊥) → OnOk done (leaks t ≡ false)
 settled_kept (Ok u) r t is e none = settle_kept t is (λ leaked. none (ap (λ x. settled x is) e ∙ leaked))
 settled_kept (Err k) r t is e none = tt
 
 module _ (shapes : List Shape) (a : Act) (is : Items) (s : Store) (x : ℕ) where
   -- what an act does, where it gives a store
-  pub act_kept : (done : Result Unit Kind) (r : Result Store Kind) (t : Store) → leaks s ≡ false → MatchResult done (λ _. r ≡ Ok t) (λ k. r ≡ Err k) → act_turn shapes a is s x ≡ settled r is → act_loses a is s ≡ false → OnOk done (leaks t ≡ false)
-  act_kept done r t sound e at none = settled_kept done r t is e (λ leaked. turn_sound shapes (Do a 0 is) s x none sound (at ∙ leaked))
+  pub act_kept : (done : Result Unit Kind) (r : Result Store Kind) (t : Store) → leaks s ≡ false
+      → MatchResult done (λ _. r ≡ Ok t) (λ k. r ≡ Err k) → act_turn shapes a is s x ≡ settled r is → act_loses a is s
+      ≡ false → OnOk done (leaks t ≡ false)
+  act_kept done r t sound e at none =
+      settled_kept done r t is e (λ leaked. turn_sound shapes (Do a 0 is) s x none sound (at ∙ leaked))
 
   -- where a round is left
-  pub leave_kept : (t : Store) (js : Items) → leaks s ≡ false → act_turn shapes a is s x ≡ settle t js → act_loses a is s ≡ false → leaks t ≡ false
-  leave_kept t js sound at none = settle_kept t js (λ leaked. turn_sound shapes (Do a 0 is) s x none sound (at ∙ leaked))
+  pub leave_kept : (t : Store) (js : Items) → leaks s ≡ false → act_turn shapes a is s x ≡ settle t js
+      → act_loses a is s ≡ false → leaks t ≡ false
+  leave_kept t js sound at none =
+      settle_kept t js (λ leaked. turn_sound shapes (Do a 0 is) s x none sound (at ∙ leaked))
 
 -- the end of a block
-pub close_kept : (ps ds : List ℕ) (s : Store) → leaks s ≡ false → hold_cell s.vars ps ≡ false → leaks (kill ps ds s) ≡ false
-close_kept ps ds s sound none = settle_kept (kill ps ds s) Done (λ leaked. turn_sound [] (Close ps ds 0 Done) s 0 none sound leaked)
+pub close_kept : (ps ds : List ℕ) (s : Store) → leaks s ≡ false → hold_cell s.vars ps ≡ false → leaks (kill ps ds s)
+    ≡ false
+close_kept ps ds s sound none =
+    settle_kept (kill ps ds s) Done (λ leaked. turn_sound [] (Close ps ds 0 Done) s 0 none sound leaked)
 
 -- a store without cells
 pub empty_kept : (ptrs datums : ℕ) → leaks (empty_store ptrs datums) ≡ false

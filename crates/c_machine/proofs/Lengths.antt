@@ -1,5 +1,6 @@
 -- How many cells there are after a write and after a cell's end.
-use Rattle.std.proofs.Common.{◌≡◌, ◌≤◌, ℕ, suc, nat_eq, Bool, true, false, if◌then◌else◌, List, [], ◌∷◌, length, refl, ap, arith}
+use Rattle.std.proofs.Common.{◌≡◌, ◌≤◌, ℕ, suc, nat_eq, Bool, true, false, if◌then◌else◌, List, [], ◌∷◌, length, refl}
+use Rattle.std.proofs.Common.{ap, arith}
 use Rattle.std.specs.Prelude.{slice_set}
 use Rattle.fore_base.specs.declared.store.Value.{Value}
 use Rattle.fore_base.specs.declared.store.Datum.{Datum}
@@ -10,7 +11,9 @@ pub length_with_field : (cs : List CellRec) (n f : ℕ) (v : Value) → length (
 length_with_field [] n f v = refl
 length_with_field (c ∷ cs) n f v = here (nat_eq c.number n) (length_with_field cs n f v)
   where
-    here : (b : Bool) → length (with_field cs n f v) ≡ length cs → length (if b then record c { fields = slice_set c.fields f v } ∷ cs else c ∷ with_field cs n f v) ≡ suc (length cs)
+    here : (b : Bool) → length (with_field cs n f v) ≡ length cs
+        → length (if b then record c { fields = slice_set c.fields f v } ∷ cs else c ∷ with_field cs n f v)
+        ≡ suc (length cs)
     here true rest = refl
     here false rest = ap suc rest
 
@@ -18,7 +21,9 @@ pub length_with_datum : (cs : List CellRec) (n f : ℕ) (d : Datum) → length (
 length_with_datum [] n f d = refl
 length_with_datum (c ∷ cs) n f d = here (nat_eq c.number n) (length_with_datum cs n f d)
   where
-    here : (b : Bool) → length (with_datum cs n f d) ≡ length cs → length (if b then record c { datums = slice_set c.datums f d } ∷ cs else c ∷ with_datum cs n f d) ≡ suc (length cs)
+    here : (b : Bool) → length (with_datum cs n f d) ≡ length cs
+        → length (if b then record c { datums = slice_set c.datums f d } ∷ cs else c ∷ with_datum cs n f d)
+        ≡ suc (length cs)
     here true rest = refl
     here false rest = ap suc rest
 
@@ -26,7 +31,8 @@ pub length_without : (n : ℕ) (cs : List CellRec) → length (without n cs) ≤
 length_without n [] = omega arith
 length_without n (c ∷ cs) = here (nat_eq c.number n) (length_without n cs)
   where
-    here : (b : Bool) → length (without n cs) ≤ length cs → length (if b then without n cs else dangle_in n c ∷ without n cs) ≤ suc (length cs)
+    here : (b : Bool) → length (without n cs) ≤ length cs
+        → length (if b then without n cs else dangle_in n c ∷ without n cs) ≤ suc (length cs)
     here true rest = omega (arith, rest)
     here false rest = omega (arith, rest)
 

@@ -1,5 +1,7 @@
 -- Where all that was marked has been looked at, the marked cells are those that can be reached.
-use Rattle.std.proofs.Common.{◌≡◌, ◌≤◌, ◌<◌, ◌⊎◌, inl, inr, ℕ, zero, suc, Bool, true, false, nat_lt, if◌then◌else◌, Option, Some, None, List, [], ◌∷◌, ◌++◌, length, get_or, set, drop, replicate, refl, sym, ap, ◌∙◌, subst, true≢false, arith}
+use Rattle.std.proofs.Common.{◌≡◌, ◌≤◌, ◌<◌, ◌⊎◌, inl, inr, ℕ, zero, suc, Bool, true, false, nat_lt, if◌then◌else◌}
+use Rattle.std.proofs.Common.{Option, Some, None, List, [], ◌∷◌, ◌++◌, length, get_or, set, drop, replicate, refl, sym}
+use Rattle.std.proofs.Common.{ap, ◌∙◌, subst, true≢false, arith}
 use Rattle.std.proofs.lemmas.Bool.{eqb-true, cases_lt}
 use Rattle.std.proofs.lemmas.Bool.Decides.{nat_tests}
 use Rattle.fore_base.specs.declared.store.Value.{Value}
@@ -114,7 +116,9 @@ count_within (false ∷ bs) = omega (arith, count_within bs)
 pub fewer_true : (bs : List Bool) → count_true bs < length bs → (i : ℕ) × (i < length bs) × (get_or bs i false ≡ false)
 fewer_true [] less = absurd (omega (arith, less))
 fewer_true (false ∷ bs) less = (zero, omega arith, refl)
-fewer_true (true ∷ bs) less = let rest : (i : ℕ) × (i < length bs) × (get_or bs i false ≡ false) = fewer_true bs (omega (arith, less)) in (suc rest.0, omega (arith, rest.1), rest.2)
+fewer_true (true ∷ bs) less =
+    let rest : (i : ℕ) × (i < length bs) × (get_or bs i false ≡ false) = fewer_true bs (omega (arith, less)) in
+    (suc rest.0, omega (arith, rest.1), rest.2)
 
 -- where as many are true as there are, each is
 pub all_true : (bs : List Bool) → length bs ≤ count_true bs → (i : ℕ) → i < length bs → get_or bs i false ≡ true
@@ -132,25 +136,32 @@ module _ (s : Store) (vs : List Value) (k i : ℕ) (m : Marked) where
   still : (us : List Value) → AllNoted s.cells us m → AllNoted s.cells us marked_one
   still us h n j here is = set_grows m.reached i j (h n j here is)
 
-  new_within : Walked s vs k m → get_or m.reached i true ≡ false → (j : ℕ) → j < length (m.order ++ i ∷ []) → get_or (m.order ++ i ∷ []) j 0 < length s.cells
+  new_within : Walked s vs k m → get_or m.reached i true ≡ false → (j : ℕ) → j < length (m.order ++ i ∷ [])
+      → get_or (m.order ++ i ∷ []) j 0 < length s.cells
   new_within w fresh j less = elim (cases_lt j (length m.order)) [
     | inl old ↦ rw (get_append_left m.order (i ∷ []) j 0 old) (w.within j old)
-    | inr last ↦ (let same : j ≡ length m.order = omega (arith, length_append_last m.order i) in rw (same, get_append_last m.order i 0) (omega (arith, unmarked_within m.reached i fresh, w.long)))
+    | inr last ↦ (let same : j ≡ length m.order = omega (arith, length_append_last m.order i) in
+        rw (same, get_append_last m.order i 0) (omega (arith, unmarked_within m.reached i fresh, w.long)))
   ]
 
-  new_ordered : Walked s vs k m → get_or m.reached i true ≡ false → (j : ℕ) → j < length (m.order ++ i ∷ []) → get_or (set m.reached i true) (get_or (m.order ++ i ∷ []) j 0) false ≡ true
+  new_ordered : Walked s vs k m → get_or m.reached i true ≡ false → (j : ℕ) → j < length (m.order ++ i ∷ [])
+      → get_or (set m.reached i true) (get_or (m.order ++ i ∷ []) j 0) false ≡ true
   new_ordered w fresh j less = elim (cases_lt j (length m.order)) [
-    | inl old ↦ rw (get_append_left m.order (i ∷ []) j 0 old) (set_grows m.reached i (get_or m.order j 0) (w.ordered j old))
-    | inr last ↦ (let same : j ≡ length m.order = omega (arith, length_append_last m.order i) in rw (same, get_append_last m.order i 0) (set_same m.reached i (unmarked_within m.reached i fresh)))
+    | inl old ↦ rw (get_append_left m.order (i ∷ []) j 0 old)
+        (set_grows m.reached i (get_or m.order j 0) (w.ordered j old))
+    | inr last ↦ (let same : j ≡ length m.order = omega (arith, length_append_last m.order i) in
+        rw (same, get_append_last m.order i 0) (set_same m.reached i (unmarked_within m.reached i fresh)))
   ]
 
-  new_sound : Walked s vs k m → Reach s (cell_at s.cells i).number → (j : ℕ) → get_or (set m.reached i true) j false ≡ true → Reach s (cell_at s.cells j).number
+  new_sound : Walked s vs k m → Reach s (cell_at s.cells i).number → (j : ℕ) → get_or (set m.reached i true) j false
+      ≡ true → Reach s (cell_at s.cells j).number
   new_sound w reach j e = elim (set_new m.reached i j e) [
     | inl same ↦ subst (λ x. Reach s (cell_at s.cells x).number) (sym same) reach
     | inr old ↦ w.sound j old
   ]
 
-  new_done : Walked s vs k m → (j : ℕ) → get_or (set m.reached i true) j false ≡ true → IsIn j (drop k (m.order ++ i ∷ [])) ⊎ AllNoted s.cells (cell_at s.cells j).fields marked_one
+  new_done : Walked s vs k m → (j : ℕ) → get_or (set m.reached i true) j false ≡ true
+      → IsIn j (drop k (m.order ++ i ∷ [])) ⊎ AllNoted s.cells (cell_at s.cells j).fields marked_one
   new_done w j e = rw (drop_append k m.order (i ∷ []) w.begun) (elim (set_new m.reached i j e) [
     | inl same ↦ inl (subst (λ x. IsIn x (drop k m.order ++ i ∷ [])) (sym same) (in_append_last i (drop k m.order)))
     | inr old ↦ (elim (w.done j old) [
@@ -159,7 +170,8 @@ module _ (s : Store) (vs : List Value) (k i : ℕ) (m : Marked) where
     ])
   ])
 
-  mark_one : Walked s vs k m → get_or m.reached i true ≡ false → Reach s (cell_at s.cells i).number → Walked s vs k marked_one
+  mark_one : Walked s vs k m → get_or m.reached i true ≡ false → Reach s (cell_at s.cells i).number
+      → Walked s vs k marked_one
   mark_one w fresh reach = record {
     long = set_length m.reached i ∙ w.long;
     within = new_within w fresh;
@@ -183,44 +195,66 @@ pub record Noting (s : Store) (vs : List Value) (k : ℕ) (m after : Marked) : T
 unchanged : (s : Store) (vs : List Value) (k : ℕ) (m : Marked) → Walked s vs k m → Noting s vs k m m
 unchanged s vs k m w = record { walked = w; grows = λ i e. e; longer = omega arith; kept = λ j less. refl }
 
-note_at : (s : Store) (vs : List Value) (k i : ℕ) (m : Marked) → Walked s vs k m → Reach s (cell_at s.cells i).number → i < length s.cells → Noting s vs k m (noted_at (Some i) m) × (is_marked (noted_at (Some i) m) i ≡ true)
+note_at : (s : Store) (vs : List Value) (k i : ℕ) (m : Marked) → Walked s vs k m → Reach s (cell_at s.cells i).number
+    → i < length s.cells → Noting s vs k m (noted_at (Some i) m) × (is_marked (noted_at (Some i) m) i ≡ true)
 note_at s vs k i m w reach less = here (get_or m.reached i true) refl
   where
-    here : (b : Bool) → get_or m.reached i true ≡ b → Noting s vs k m (if b then m else record { reached = set m.reached i true; order = m.order ++ i ∷ [] }) × (is_marked (if b then m else record { reached = set m.reached i true; order = m.order ++ i ∷ [] }) i ≡ true)
+    here : (b : Bool) → get_or m.reached i true ≡ b
+        → Noting s vs k m (if b then m else record { reached = set m.reached i true; order = m.order ++ i ∷ [] })
+        × (is_marked (if b then m else record { reached = set m.reached i true; order = m.order ++ i ∷ [] }) i ≡ true)
     here true old = (unchanged s vs k m w, marked_default m.reached i (omega (arith, less, w.long)) old)
-    here false fresh = (record { walked = mark_one s vs k i m w fresh reach; grows = λ j e. set_grows m.reached i j e; longer = omega (arith, length_append_last m.order i); kept = λ j old. get_append_left m.order (i ∷ []) j 0 old }, set_same m.reached i (unmarked_within m.reached i fresh))
+    here false fresh = (
+      record {
+        walked = mark_one s vs k i m w fresh reach;
+        grows = λ j e. set_grows m.reached i j e;
+        longer = omega (arith, length_append_last m.order i);
+        kept =
+            λ j old. get_append_left m.order (i ∷ []) j 0 old;
+      },
+      set_same m.reached i (unmarked_within m.reached i fresh),
+    )
 
 -- the cell found for a number has this number
-found_number : (n : ℕ) (cs : List CellRec) (i : ℕ) → Position n cs (Some i) → ((cell_at cs i).number ≡ n) × (i < length cs)
+found_number : (n : ℕ) (cs : List CellRec) (i : ℕ) → Position n cs (Some i) → ((cell_at cs i).number ≡ n)
+    × (i < length cs)
 found_number n cs i (found c at) = there at
   where
     there : {ds : List CellRec} {j : ℕ} {d : CellRec} → FoundAt n ds j d → ((cell_at ds j).number ≡ n) × (j < length ds)
     there (first {c} {cs} is) = (eqb-true c.number n is, omega arith)
     there (further is rest) = ((there rest).0, omega (arith, (there rest).1))
 
-note_found : (s : Store) (vs : List Value) (k n : ℕ) (m : Marked) → Walked s vs k m → Reach s n → (p : Option ℕ) → Position n s.cells p → Noting s vs k m (noted_at p m) × ((i : ℕ) → p ≡ Some i → is_marked (noted_at p m) i ≡ true)
+note_found : (s : Store) (vs : List Value) (k n : ℕ) (m : Marked) → Walked s vs k m → Reach s n → (p : Option ℕ)
+    → Position n s.cells p → Noting s vs k m (noted_at p m) × ((i : ℕ) → p ≡ Some i → is_marked (noted_at p m) i ≡ true)
 note_found s vs k n m w reach None (missing apart) = (unchanged s vs k m w, λ i e. cc)
 note_found s vs k n m w reach (Some i) (found c at) =
     let number : ((cell_at s.cells i).number ≡ n) × (i < length s.cells) = found_number n s.cells i (found c at) in
-    let one : Noting s vs k m (noted_at (Some i) m) × (is_marked (noted_at (Some i) m) i ≡ true) = note_at s vs k i m w (subst (Reach s) (sym number.0) reach) number.1 in
+    let one : Noting s vs k m (noted_at (Some i) m) × (is_marked (noted_at (Some i) m) i ≡ true) =
+    note_at s vs k i m w (subst (Reach s) (sym number.0) reach) number.1 in
     (one.0, λ j e. let same : i ≡ j = cc in subst (λ x. is_marked (noted_at (Some i) m) x ≡ true) same one.1)
 
-note_value : (s : Store) (vs : List Value) (k : ℕ) (m : Marked) (v : Value) → Walked s vs k m → ((n : ℕ) → v ≡ Cell n → Reach s n) → Noting s vs k m (noted s.cells v m) × ((n i : ℕ) → v ≡ Cell n → position_in s.cells n ≡ Some i → is_marked (noted s.cells v m) i ≡ true)
+note_value : (s : Store) (vs : List Value) (k : ℕ) (m : Marked) (v : Value) → Walked s vs k m
+    → ((n : ℕ) → v ≡ Cell n → Reach s n) → Noting s vs k m (noted s.cells v m)
+    × ((n i : ℕ) → v ≡ Cell n → position_in s.cells n ≡ Some i → is_marked (noted s.cells v m) i ≡ true)
 note_value s vs k m Null w reach = (unchanged s vs k m w, λ n i e is. cc)
 note_value s vs k m Uninit w reach = (unchanged s vs k m w, λ n i e is. cc)
 note_value s vs k m Dangling w reach = (unchanged s vs k m w, λ n i e is. cc)
 note_value s vs k m (Cell n) w reach =
-    let one : Noting s vs k m (noted_at (position_in s.cells n) m) × ((i : ℕ) → position_in s.cells n ≡ Some i → is_marked (noted_at (position_in s.cells n) m) i ≡ true) =
+    let one : Noting s vs k m (noted_at (position_in s.cells n) m)
+    × ((i : ℕ) → position_in s.cells n ≡ Some i → is_marked (noted_at (position_in s.cells n) m) i ≡ true) =
     note_found s vs k n m w (reach n refl) (position_in s.cells n) (positioned n s.cells) in
     (one.0, λ n' i e is. let same : n ≡ n' = cc in one.1 i (subst (λ x. position_in s.cells x ≡ Some i) (sym same) is))
 
 -- all the values were noted
-pub note_values : (s : Store) (vs us : List Value) (k : ℕ) (m : Marked) → Walked s vs k m → ((n : ℕ) → IsIn (Cell n) us → Reach s n) → Noting s vs k m (noted_all s.cells us m) × AllNoted s.cells us (noted_all s.cells us m)
+pub note_values : (s : Store) (vs us : List Value) (k : ℕ) (m : Marked) → Walked s vs k m
+    → ((n : ℕ) → IsIn (Cell n) us → Reach s n) → Noting s vs k m (noted_all s.cells us m)
+    × AllNoted s.cells us (noted_all s.cells us m)
 note_values s vs [] k m w reach = (unchanged s vs k m w, λ n i here is. absurd here)
 note_values s vs (u ∷ us) k m w reach =
-    let one : Noting s vs k m (noted s.cells u m) × ((n i : ℕ) → u ≡ Cell n → position_in s.cells n ≡ Some i → is_marked (noted s.cells u m) i ≡ true) =
+    let one : Noting s vs k m (noted s.cells u m)
+    × ((n i : ℕ) → u ≡ Cell n → position_in s.cells n ≡ Some i → is_marked (noted s.cells u m) i ≡ true) =
     note_value s vs k m u w (λ n e. reach n (inl (sym e))) in
-    let rest : Noting s vs k (noted s.cells u m) (noted_all s.cells us (noted s.cells u m)) × AllNoted s.cells us (noted_all s.cells us (noted s.cells u m)) =
+    let rest : Noting s vs k (noted s.cells u m) (noted_all s.cells us (noted s.cells u m))
+    × AllNoted s.cells us (noted_all s.cells us (noted s.cells u m)) =
     note_values s vs us k (noted s.cells u m) one.0.walked (λ n here. reach n (inr here)) in (
       record {
         walked = rest.0.walked;
@@ -231,7 +265,11 @@ note_values s vs (u ∷ us) k m w reach =
       noted' one rest,
     )
   where
-    noted' : Noting s vs k m (noted s.cells u m) × ((n i : ℕ) → u ≡ Cell n → position_in s.cells n ≡ Some i → is_marked (noted s.cells u m) i ≡ true) → Noting s vs k (noted s.cells u m) (noted_all s.cells us (noted s.cells u m)) × AllNoted s.cells us (noted_all s.cells us (noted s.cells u m)) → AllNoted s.cells (u ∷ us) (noted_all s.cells us (noted s.cells u m))
+    noted' : Noting s vs k m (noted s.cells u m)
+        × ((n i : ℕ) → u ≡ Cell n → position_in s.cells n ≡ Some i → is_marked (noted s.cells u m) i ≡ true)
+        → Noting s vs k (noted s.cells u m) (noted_all s.cells us (noted s.cells u m))
+        × AllNoted s.cells us (noted_all s.cells us (noted s.cells u m))
+        → AllNoted s.cells (u ∷ us) (noted_all s.cells us (noted s.cells u m))
     noted' one rest n i (inl e) is = rest.0.grows i (one.1 n i (sym e) is)
     noted' one rest n i (inr here) is = rest.1 n i here is
 
@@ -266,11 +304,22 @@ walk_begins s = record {
 -- then the values of the variables
 pub walk_vars : (s : Store) (m : Marked) → Walked s [] 0 m → Walked s s.vars 0 (noted_all s.cells s.vars m)
 walk_vars s m w =
-    let all : Noting s [] 0 m (noted_all s.cells s.vars m) × AllNoted s.cells s.vars (noted_all s.cells s.vars m) = note_values s [] s.vars 0 m w (λ n here. by_var here) in
+    let all : Noting s [] 0 m (noted_all s.cells s.vars m) × AllNoted s.cells s.vars (noted_all s.cells s.vars m) =
+    note_values s [] s.vars 0 m w (λ n here. by_var here) in
     let after : Walked s [] 0 (noted_all s.cells s.vars m) = all.0.walked in
-    record { long = after.long; within = after.within; counted = after.counted; ordered = after.ordered; sound = after.sound; values = all.1; done = after.done; begun = after.begun }
+    record {
+      long = after.long;
+      within = after.within;
+      counted = after.counted;
+      ordered = after.ordered;
+      sound = after.sound;
+      values = all.1;
+      done = after.done;
+      begun = after.begun;
+    }
 
-drop_here : (k : ℕ) (xs : List ℕ) (x : ℕ) → k < length xs → IsIn x (drop k xs) → (x ≡ get_or xs k 0) ⊎ IsIn x (drop (suc k) xs)
+drop_here : (k : ℕ) (xs : List ℕ) (x : ℕ) → k < length xs → IsIn x (drop k xs) → (x ≡ get_or xs k 0)
+    ⊎ IsIn x (drop (suc k) xs)
 drop_here k [] x less h = absurd (omega (arith, less))
 drop_here zero (y ∷ ys) x less h = h
 drop_here (suc k) (y ∷ ys) x less h = drop_here k ys x (omega (arith, less)) h
@@ -281,7 +330,8 @@ in_cells (c ∷ cs) zero less = inl refl
 in_cells (c ∷ cs) (suc i) less = inr (in_cells cs i (omega (arith, less)))
 
 -- the fields of the next marked cell
-pub walk_more : (s : Store) (vs : List Value) (k at : ℕ) (m : Marked) → Walked s vs k m → k < length m.order → at ≡ get_or m.order k 0 → Walked s vs (suc k) (noted_all s.cells (cell_at s.cells at).fields m)
+pub walk_more : (s : Store) (vs : List Value) (k at : ℕ) (m : Marked) → Walked s vs k m → k < length m.order
+    → at ≡ get_or m.order k 0 → Walked s vs (suc k) (noted_all s.cells (cell_at s.cells at).fields m)
 walk_more s vs k at m w less is = record {
   long = after.long;
   within = after.within;
@@ -306,7 +356,8 @@ walk_more s vs k at m w less is = record {
     inside = subst (λ x. x < length s.cells) (sym is) (w.within k less)
 
     all : Noting s vs k m next × AllNoted s.cells fields next
-    all = note_values s vs fields k m w (λ n here. by_field (cell_at s.cells at) (in_cells s.cells at inside) (w.sound at marked) here)
+    all = note_values s vs fields k m w
+        (λ n here. by_field (cell_at s.cells at) (in_cells s.cells at inside) (w.sound at marked) here)
 
     after : Walked s vs k next
     after = all.0.walked
@@ -314,13 +365,15 @@ walk_more s vs k at m w less is = record {
     longer : suc k ≤ length next.order
     longer = omega (arith, less, all.0.longer)
 
-    first_or_later : (i : ℕ) → (i ≡ get_or next.order k 0) ⊎ IsIn i (drop (suc k) next.order) → IsIn i (drop (suc k) next.order) ⊎ AllNoted s.cells (cell_at s.cells i).fields next
+    first_or_later : (i : ℕ) → (i ≡ get_or next.order k 0) ⊎ IsIn i (drop (suc k) next.order)
+        → IsIn i (drop (suc k) next.order) ⊎ AllNoted s.cells (cell_at s.cells i).fields next
     first_or_later i (inl same) =
         let this : i ≡ at = same ∙ all.0.kept k less ∙ sym is in
         inr (subst (λ x. AllNoted s.cells (cell_at s.cells x).fields next) (sym this) all.1)
     first_or_later i (inr later) = inl later
 
-    done : (i : ℕ) → is_marked next i ≡ true → IsIn i (drop (suc k) next.order) ⊎ AllNoted s.cells (cell_at s.cells i).fields next
+    done : (i : ℕ) → is_marked next i ≡ true → IsIn i (drop (suc k) next.order)
+        ⊎ AllNoted s.cells (cell_at s.cells i).fields next
     done i e = elim (after.done i e) [
       | inl open' ↦ first_or_later i (drop_here k next.order i longer open')
       | inr noted' ↦ inr noted'
@@ -334,9 +387,11 @@ past_end zero (y ∷ ys) x less h = absurd (omega (arith, less))
 past_end (suc k) [] x less h = h
 past_end (suc k) (y ∷ ys) x less h = past_end k ys x (omega (arith, less)) h
 
-module _ (s : Store) (k : ℕ) (m : Marked) (rising : CellsRiseFrom 0 s.cells) (w : Walked s s.vars k m) (ended : length m.order ≤ k) where
+module _ (s : Store) (k : ℕ) (m : Marked) (rising : CellsRiseFrom 0 s.cells) (w : Walked s s.vars k m)
+    (ended : length m.order ≤ k) where
   -- a cell stands at a position of its own
-  own_position : (c : CellRec) (cs : List CellRec) (low : ℕ) → CellsRiseFrom low cs → IsIn c cs → (j : ℕ) × (cell_at cs j ≡ c) × (j < length cs)
+  own_position : (c : CellRec) (cs : List CellRec) (low : ℕ) → CellsRiseFrom low cs → IsIn c cs → (j : ℕ)
+      × (cell_at cs j ≡ c) × (j < length cs)
   own_position c [] low h here = absurd here
   own_position c (d ∷ cs) low h (inl e) = (zero, sym e, omega arith)
   own_position c (d ∷ cs) low h (inr here) =
@@ -361,9 +416,11 @@ module _ (s : Store) (k : ℕ) (m : Marked) (rising : CellsRiseFrom 0 s.cells) (
 
   some_left : length m.order < length s.cells → Leaked s
   some_left less =
-      let free : (i : ℕ) × (i < length m.reached) × (get_or m.reached i false ≡ false) = fewer_true m.reached (omega (arith, less, w.counted, w.long)) in
+      let free : (i : ℕ) × (i < length m.reached) × (get_or m.reached i false ≡ false) =
+      fewer_true m.reached (omega (arith, less, w.counted, w.long)) in
       let inside : free.0 < length s.cells = omega (arith, free.1, w.long) in
-      let at : position_in s.cells (cell_at s.cells free.0).number ≡ Some free.0 = position_at 0 s.cells (cell_at s.cells free.0).number free.0 no_cell rising inside refl in
+      let at : position_in s.cells (cell_at s.cells free.0).number ≡ Some free.0 =
+      position_at 0 s.cells (cell_at s.cells free.0).number free.0 no_cell rising inside refl in
       record {
         cell = cell_at s.cells free.0;
         is_there = in_cells s.cells free.0 inside;
@@ -385,10 +442,12 @@ module _ (s : Store) (k : ℕ) (m : Marked) (rising : CellsRiseFrom 0 s.cells) (
   pub walk_decides : (b : Bool) → b ≡ nat_lt (length m.order) (length s.cells) → b ≡ leaks s
   walk_decides b e = e ∙ here (leaks s) refl (cases_lt (length m.order) (length s.cells))
     where
-      here : (l : Bool) → leaks s ≡ l → (length m.order < length s.cells) ⊎ (length s.cells ≤ length m.order) → nat_lt (length m.order) (length s.cells) ≡ l
+      here : (l : Bool) → leaks s ≡ l → (length m.order < length s.cells) ⊎ (length s.cells ≤ length m.order)
+          → nat_lt (length m.order) (length s.cells) ≡ l
       here true is (inl less) = grind (arith, nat_tests)
       here true is (inr all) = absurd (none_left all (leaks_leaked s is))
-      here false is (inl less) = absurd ((some_left less).unreached (sound_reached s is (some_left less).cell (some_left less).is_there))
+      here false is (inl less) =
+          absurd ((some_left less).unreached (sound_reached s is (some_left less).cell (some_left less).is_there))
       here false is (inr all) = grind (arith, nat_tests)
 
 -- a position that is there needs no default
@@ -402,9 +461,16 @@ pub walk_within : (s : Store) (vs : List Value) (k : ℕ) (m : Marked) → Walke
 walk_within s vs k m w = omega (arith, w.counted, w.long, count_within m.reached)
 
 -- with one more mark there is still room for each
-pub counted_more : (order : List ℕ) (reached : List Bool) (at room room' : ℕ) → (length order ≡ count_true reached) × (length reached ≤ room) → room ≤ room' → get_or reached at true ≡ false → (length (order ++ at ∷ []) ≡ count_true (set reached at true)) × (length (set reached at true) ≤ room')
-counted_more order reached at room room' h less fresh = (length_append_last order at ∙ ap suc h.0 ∙ sym (set_count reached at fresh), omega (arith, h.1, less, set_length reached at))
+pub counted_more : (order : List ℕ) (reached : List Bool) (at room room' : ℕ) → (length order ≡ count_true reached)
+    × (length reached ≤ room) → room ≤ room' → get_or reached at true ≡ false
+    → (length (order ++ at ∷ []) ≡ count_true (set reached at true)) × (length (set reached at true) ≤ room')
+counted_more order reached at room room' h less fresh = (
+  length_append_last order at ∙ ap suc h.0 ∙ sym (set_count reached at fresh),
+  omega (arith, h.1, less, set_length reached at),
+)
 
 -- where one is not marked, there is room for it
-pub fresh_room : (order : List ℕ) (reached : List Bool) (at room : ℕ) → (length order ≡ count_true reached) × (length reached ≤ room) → get_or reached at true ≡ false → length order < room
-fresh_room order reached at room h fresh = omega (arith, h.0, h.1, set_count reached at fresh, set_length reached at, count_within (set reached at true))
+pub fresh_room : (order : List ℕ) (reached : List Bool) (at room : ℕ) → (length order ≡ count_true reached)
+    × (length reached ≤ room) → get_or reached at true ≡ false → length order < room
+fresh_room order reached at room h fresh =
+    omega (arith, h.0, h.1, set_count reached at fresh, set_length reached at, count_within (set reached at true))

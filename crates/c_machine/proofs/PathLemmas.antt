@@ -12,6 +12,7 @@ store_fails s Uninit w f k e = cc
 store_fails s Dangling w f k e = cc
 store_fails s (Cell n) w f k e = cc
 
-pub write_fails : (s : Store) (v w : Value) (f : ℕ) (gs : List ℕ) (k : Fault) → load s v f ≡ Err k → write_from s v f gs w ≡ Err k
+pub write_fails : (s : Store) (v w : Value) (f : ℕ) (gs : List ℕ) (k : Fault) → load s v f ≡ Err k
+    → write_from s v f gs w ≡ Err k
 write_fails s v w f [] k e = store_fails s v w f k e
 write_fails s v w f (g ∷ gs) k e = ap (λ r. onward r (λ u. write_from s u g gs w)) e

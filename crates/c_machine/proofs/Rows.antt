@@ -1,4 +1,5 @@
--- Worked values, which guard the definitions of specs/Machines.antt: what a machine is at, and what it answers to a step.
+-- Worked values, which guard the definitions of specs/Machines.antt: what a machine is at, and what it answers to a
+-- step.
 use Rattle.std.proofs.Common.{◌≡◌, true, false, Some, None, [], ◌∷◌, refl, sym, ◌∙◌}
 use Rattle.fore_base.specs.declared.fault.Fault.TheVariants.{Leak, DoubleFree}
 use Rattle.fore_base.specs.declared.store.Store.{Store}
@@ -96,7 +97,8 @@ module _ (old new : Machine) (is : Items) (s : Store) where
   the_end_stays h over = let e : None ≡ Some Ended = sym over ∙ h.1 in cc
 
   -- a fault has the line of the item in front before the step
-  a_fault : mark_of (todo old) ≡ 8 → over_of new ≡ Some (Fault DoubleFree 8) → Stepped (Faults DoubleFree) old new (Fault DoubleFree 8)
+  a_fault : mark_of (todo old) ≡ 8 → over_of new ≡ Some (Fault DoubleFree 8)
+      → Stepped (Faults DoubleFree) old new (Fault DoubleFree 8)
   a_fault line over = rw line (refl, over)
 
   not_another_fault : Stepped (Faults DoubleFree) old new (Fault Leak (mark_of (todo old))) → ⊥

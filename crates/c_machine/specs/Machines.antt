@@ -51,11 +51,14 @@ chosen true choice = choice
 
 -- what a machine answers to a step that goes so, and where it is then
 abbrev pub Stepped : steps.Turn → Machine → Machine → Turn → Type 0
-Stepped (Goes is s) old new answer = (answer ≡ Next) × (todo new ≡ opened is) × (store_of new ≡ s) × (over_of new ≡ None)
+Stepped (Goes is s) old new answer = (answer ≡ Next) × (todo new ≡ opened is) × (store_of new ≡ s)
+    × (over_of new ≡ None)
 Stepped Stops old new answer = (answer ≡ Ended) × (over_of new ≡ Some Ended)
-Stepped (Faults kind) old new answer = (answer ≡ Fault kind (mark_of (todo old))) × (over_of new ≡ Some (Fault kind (mark_of (todo old))))
+Stepped (Faults kind) old new answer = (answer ≡ Fault kind (mark_of (todo old)))
+    × (over_of new ≡ Some (Fault kind (mark_of (todo old))))
 
 -- the same with the choice that there is, or none, which changes nothing
 abbrev pub Answers : Option ℕ → Machine → Machine → Turn → Type 0
 Answers None old new answer = (answer ≡ NeedsChoice) × (new ≡ old)
-Answers (Some choice) old new answer = Stepped (turn_of (program_of old).shapes.structs (todo old) (store_of old) choice) old new answer
+Answers (Some choice) old new answer =
+    Stepped (turn_of (program_of old).shapes.structs (todo old) (store_of old) choice) old new answer

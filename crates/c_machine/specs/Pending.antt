@@ -6,18 +6,23 @@ use Rattle.c_types.specs.declared.program.Atom.TheVariants.{Known as KnownAtom}
 use Rattle.c_types.specs.declared.program.Cond.{Cond, Cond-F, fold-Cond}
 use Rattle.c_types.specs.declared.program.Cond.TheOpen.{Atom as Atom-F, Not as Not-F, All as All-F, Any as Any-F}
 use Rattle.c_types.specs.declared.program.Stmt.{Stmt, Stmt-F, fold-Stmt}
-use Rattle.c_types.specs.declared.program.Stmt.TheOpen.{Do as Do-F, Branch as Branch-F, While as While-F, DoWhile as DoWhile-F, For as For-F, Group as Group-F}
-use Rattle.c_types.specs.Control.{Test, Ask, Both, Either, Items, Done, Do, Close, If, Loop, Again, DoAgain, ◌then◌, round, do_round, opened, joined, test_of, items_of, all_before, closes, after_again, from_again, closed_ptrs, closed_datums}
+use Rattle.c_types.specs.declared.program.Stmt.TheOpen.{Do as Do-F, Branch as Branch-F, While as While-F}
+use Rattle.c_types.specs.declared.program.Stmt.TheOpen.{DoWhile as DoWhile-F, For as For-F, Group as Group-F}
+use Rattle.c_types.specs.Control.{Test, Ask, Both, Either, Items, Done, Do, Close, If, Loop, Again, DoAgain, ◌then◌}
+use Rattle.c_types.specs.Control.{round, do_round, opened, joined, test_of, items_of, all_before, closes, after_again}
+use Rattle.c_types.specs.Control.{from_again, closed_ptrs, closed_datums}
 use Rattle.fore_base.specs.declared.store.Store.{Store}
 use Rattle.fore_base.specs.Stores.{kill}
 use Rattle.c_machine.specs.declared.items.Item.{Item}
-use Rattle.c_machine.specs.declared.items.Item.TheVariants.{Block, Close as ItemClose, Loop as ItemLoop, Again as ItemAgain, DoAgain as ItemDoAgain}
+use Rattle.c_machine.specs.declared.items.Item.TheVariants.{Block, Close as ItemClose, Loop as ItemLoop}
+use Rattle.c_machine.specs.declared.items.Item.TheVariants.{Again as ItemAgain, DoAgain as ItemDoAgain}
 use Rattle.c_machine.specs.declared.items.Part.{Part}
 use Rattle.c_machine.specs.declared.items.Part.TheVariants.{Negated, AllOf, AnyOf}
 use Rattle.c_machine.specs.declared.items.Sides.{Sides}
 use Rattle.c_machine.specs.declared.items.Sides.TheVariants.{Branch as SideBranch, Round, DoRound}
 use Rattle.c_machine.specs.declared.items.Front.{Front}
-use Rattle.c_machine.specs.declared.items.Front.TheVariants.{Shut, Asked, Act as FrontAct, Test as FrontTest, Truth, Close as FrontClose, Nothing}
+use Rattle.c_machine.specs.declared.items.Front.TheVariants.{Shut, Asked, Act as FrontAct, Test as FrontTest, Truth}
+use Rattle.c_machine.specs.declared.items.Front.TheVariants.{Close as FrontClose, Nothing}
 use Rattle.c_machine.specs.declared.items.Control.{Control}
 use Rattle.c_machine.specs.declared.answering.Past.{Past}
 use Rattle.c_machine.specs.declared.answering.Past.TheVariants.{Known, Asks}
@@ -49,11 +54,13 @@ pub record Ways : Type 0 where
 
 abbrev pub and_then : List Cond → Ways → Ways
 and_then [] w = w
-and_then (c ∷ cs) w = record { when = If (joined Both (map test_of (c ∷ cs))) w.when w.otherwise Done; otherwise = w.otherwise }
+and_then (c ∷ cs) w = record
+    { when = If (joined Both (map test_of (c ∷ cs))) w.when w.otherwise Done; otherwise = w.otherwise }
 
 abbrev pub or_else : List Cond → Ways → Ways
 or_else [] w = w
-or_else (c ∷ cs) w = record { when = w.when; otherwise = If (joined Either (map test_of (c ∷ cs))) w.when w.otherwise Done }
+or_else (c ∷ cs) w = record
+    { when = w.when; otherwise = If (joined Either (map test_of (c ∷ cs))) w.when w.otherwise Done }
 
 -- where the outcomes of a part lead, by those of what it is a part of
 abbrev pub narrowed : Part → Ways → Ways
@@ -109,8 +116,11 @@ pub record IsReady (c : Control) : Type 0 where
 
 -- what is known once a part of a condition has an outcome
 abbrev pub PastIs : Past → List Part → List Part → Part → Bool → Type 0
-PastIs (Known outcome') old new part outcome = (new ≡ old) × ((w : Ways) → way outcome (narrowed part w) ≡ way outcome' w)
-PastIs (Asks cond) old new part outcome = (w : Ways) (r : Items) → opened (test_before (test_of cond.now) (through w new) r) ≡ opened (way outcome (narrowed part (through w old)) then r)
+PastIs (Known outcome') old new part outcome = (new ≡ old)
+    × ((w : Ways) → way outcome (narrowed part w) ≡ way outcome' w)
+PastIs (Asks cond) old new part outcome = (w : Ways) (r : Items)
+    → opened (test_before (test_of cond.now) (through w new) r)
+    ≡ opened (way outcome (narrowed part (through w old)) then r)
 
 -- Measures of opening
 

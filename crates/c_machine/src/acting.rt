@@ -44,7 +44,11 @@ fn make(
 ) -> Result<(), Fault>
     requires roomy { IsRoomy shapes.now heap.old (Some shape) rooms.old }
     requires below { heap.old.next + 1 < 2 ^ 64 }
-    ensures done { MatchResult result (λ _. write_path (grown heap.old (blank shapes.now heap.old.next shape)) to.now.var to.now.fields (Value.Cell heap.old.next) ≡ Ok heap.new) (λ fault. write_path (grown heap.old (blank shapes.now heap.old.next shape)) to.now.var to.now.fields (Value.Cell heap.old.next) ≡ Err fault) }
+    ensures done { MatchResult result
+        (λ _. write_path (grown heap.old (blank shapes.now heap.old.next shape)) to.now.var to.now.fields
+        (Value.Cell heap.old.next) ≡ Ok heap.new)
+        (λ fault. write_path (grown heap.old (blank shapes.now heap.old.next shape)) to.now.var to.now.fields
+        (Value.Cell heap.old.next) ≡ Err fault) }
     ensures larger { IsLittleLarger heap.old heap.new }
     ensures marks { rooms.new.marks ≡ rooms.old.marks }
 {
@@ -69,7 +73,8 @@ fn assign(
 ) -> Result<(), Fault>
     requires roomy { IsRoomy shapes.now heap.old (made_from from.now) rooms.old }
     requires below { heap.old.next + 1 < 2 ^ 64 }
-    ensures done { MatchResult result (λ _. assign shapes.now heap.old to.now from.now ≡ Ok heap.new) (λ fault. assign shapes.now heap.old to.now from.now ≡ Err fault) }
+    ensures done { MatchResult result (λ _. assign shapes.now heap.old to.now from.now ≡ Ok heap.new)
+        (λ fault. assign shapes.now heap.old to.now from.now ≡ Err fault) }
     ensures larger { IsLittleLarger heap.old heap.new }
     ensures marks { rooms.new.marks ≡ rooms.old.marks }
 {
@@ -81,7 +86,8 @@ fn assign(
 }
 
 fn copy(heap: &mut Heap, to: &Path, from: &Path) -> Result<(), Fault>
-    ensures done { MatchResult result (λ _. copied heap.old to.now from.now ≡ Ok heap.new) (λ fault. copied heap.old to.now from.now ≡ Err fault) }
+    ensures done { MatchResult result (λ _. copied heap.old to.now from.now ≡ Ok heap.new)
+        (λ fault. copied heap.old to.now from.now ≡ Err fault) }
     ensures keeps { IsNoLarger heap.old heap.new }
 {
     let value = read(heap, from)?;
@@ -89,7 +95,8 @@ fn copy(heap: &mut Heap, to: &Path, from: &Path) -> Result<(), Fault>
 }
 
 fn assign_data(heap: &mut Heap, to: &DataPath, from: &DataRhs, choice: u8) -> Result<(), Fault>
-    ensures done { MatchResult result (λ _. copied_data heap.old to.now from.now choice ≡ Ok heap.new) (λ fault. copied_data heap.old to.now from.now choice ≡ Err fault) }
+    ensures done { MatchResult result (λ _. copied_data heap.old to.now from.now choice ≡ Ok heap.new)
+        (λ fault. copied_data heap.old to.now from.now choice ≡ Err fault) }
     ensures keeps { IsNoLarger heap.old heap.new }
 {
     let datum = read_data_rhs(heap, from, choice)?;
@@ -97,7 +104,8 @@ fn assign_data(heap: &mut Heap, to: &DataPath, from: &DataRhs, choice: u8) -> Re
 }
 
 fn free(heap: &mut Heap, path: &Path) -> Result<(), Fault>
-    ensures done { MatchResult result (λ _. freed_at heap.old path.now ≡ Ok heap.new) (λ fault. freed_at heap.old path.now ≡ Err fault) }
+    ensures done { MatchResult result (λ _. freed_at heap.old path.now ≡ Ok heap.new)
+        (λ fault. freed_at heap.old path.now ≡ Err fault) }
     ensures keeps { IsNoLarger heap.old heap.new }
 {
     let value = read(heap, path)?;
@@ -117,7 +125,8 @@ fn look(heap: &Heap, operand: &Option<DataPath>) -> Result<(), Fault>
     }
 }
 
-/// The end of a step that did something, or met a fault: the leak test. It is made only where a reference to a cell was lost.
+/// The end of a step that did something, or met a fault: the leak test. It is made only where a reference to a cell was
+/// lost.
 pub fn settle(heap: &Heap, marks: &mut Marks, done: Result<(), Fault>, lost: bool) -> Pace
     requires room { HasRoomFor (length heap.now.cells) marks.old }
     requires kept { lost ≡ false → OnOk done (leaks heap.now ≡ false) }
@@ -169,7 +178,8 @@ pub fn take_act<'p>(
     requires roomy { IsRoomy shapes.now heap.old (made_by act.now) rooms.old }
     requires below { heap.old.next + 1 < 2 ^ 64 }
     requires unleaked { leaks heap.old ≡ false }
-    ensures turn { act_turn shapes.now act.now (pending stack.old.items) heap.old choice ≡ turn_seen result (pending stack.new.items) heap.new }
+    ensures turn { act_turn shapes.now act.now (pending stack.old.items) heap.old choice
+        ≡ turn_seen result (pending stack.new.items) heap.new }
     ensures unleaked { result ≡ Pace.Goes → leaks heap.new ≡ false }
     ensures larger { IsLittleLarger heap.old heap.new }
 {

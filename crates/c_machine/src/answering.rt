@@ -82,7 +82,8 @@ fn turn_to<'p>(stack: &mut Vec<Item<'p>>, sides: Sides<'p>, outcome: bool)
 #[tactic(auto, using(crate::proofs::Stacks::parting))]
 pub fn answer<'p>(control: &mut Control<'p>, sides: Sides<'p>, outcome: bool)
     requires { vec_len control.old.stack + 2 ≤ vec_capacity control.old.stack }
-    ensures { left_of control.new ≡ opened (way outcome (through (ways_of sides.entry) control.old.parts.items) then pending control.old.stack.items) }
+    ensures { left_of control.new ≡ opened
+        (way outcome (through (ways_of sides.entry) control.old.parts.items) then pending control.old.stack.items) }
 {
     let mut outcome = outcome;
     while let Some(part) = take_part(&mut control.parts) {

@@ -1,7 +1,8 @@
 //! Data: the values of data variables and of the data fields of cells.
 
 ghost use Rattle.std.specs.Prelude.{◌≡◌, MatchResult, OnErr};
-ghost use Rattle.c_types.specs.Steps.{read_data, read_data_op, read_data_rhs, look_at, write_data, same_values, same_datums, agrees, atom_of, read_op, is_one};
+ghost use Rattle.c_types.specs.Steps.{read_data, read_data_op, read_data_rhs, look_at, write_data, same_values};
+ghost use Rattle.c_types.specs.Steps.{same_datums, agrees, atom_of, read_op, is_one};
 ghost use Rattle.c_machine.specs.inner.Sizes.{IsNoLarger};
 
 use crate::heap::Heap;
@@ -25,7 +26,8 @@ pub fn read_data(heap: &Heap, path: &DataPath) -> Result<Datum, Fault>
 
 /// Writes the datum at a path.
 pub fn write_data(heap: &mut Heap, path: &DataPath, datum: Datum) -> Result<(), Fault>
-    ensures result { MatchResult result (λ _. write_data heap.old path.now datum ≡ Ok heap.new) (λ fault. write_data heap.old path.now datum ≡ Err fault) }
+    ensures result { MatchResult result (λ _. write_data heap.old path.now datum ≡ Ok heap.new)
+        (λ fault. write_data heap.old path.now datum ≡ Err fault) }
     ensures keeps { IsNoLarger heap.old heap.new }
 {
     match path {

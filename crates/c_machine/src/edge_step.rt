@@ -2,12 +2,14 @@
 
 ghost use Rattle.std.specs.Prelude.{◌≡◌, ◌≤◌, ◌<◌, ◌+◌, ◌^◌, ℕ, List as ListOf, IfOk, slice_get, false};
 ghost use Rattle.fore_base.specs.Shapes.{targets_in};
-ghost use Rattle.c_cfg.specs.Edges.{arg_of, data_arg_of, field_of, datum_field_of, struct_of, target_of, same_struct, may_stand, onto, if_agreed, chosen_to, leak_tested, choice_of, raw_step, gstep};
+ghost use Rattle.c_cfg.specs.Edges.{arg_of, data_arg_of, field_of, datum_field_of, struct_of, target_of, same_struct};
+ghost use Rattle.c_cfg.specs.Edges.{may_stand, onto, if_agreed, chosen_to, leak_tested, choice_of, raw_step, gstep};
 ghost use Rattle.c_machine.specs.inner.Rising.{CellsRiseFrom};
 ghost use Rattle.c_machine.specs.inner.EdgeSteps.{pass_seen, has_place, stored_at, stored_datum_at, is_new};
 ghost use Rattle.fore_base.specs.declared.shape.Shape.{Shape as ShapeOf};
 ghost use Rattle.fore_base.specs.declared.store.Store.{Store as StoreOf};
-ghost use Rattle.c_cfg.specs.declared.graph.Instr.TheVariants.{LoadPtr, StoreConst, LoadData, New, Free, TestPtr, TestData, Stop};
+ghost use Rattle.c_cfg.specs.declared.graph.Instr.TheVariants.{LoadPtr, StoreConst, LoadData, New, Free, TestPtr};
+ghost use Rattle.c_cfg.specs.declared.graph.Instr.TheVariants.{TestData, Stop};
 
 use crate::blank::{blank_cell, fields_of};
 use crate::data::{agreed, same_datums, same_values};
@@ -164,7 +166,9 @@ fn takes(shapes: &[Shape], cells: &[CellRec], number: u64, field: u32, value: Va
 }
 
 fn load(heap: &mut Heap, to: u32, from: u32, field: u32) -> Went
-    ensures went { (shapes : ListOf ShapeOf) → raw_step shapes (LoadPtr to from field) 0 heap.old ≡ pass_seen result heap.new }
+    ensures went { (shapes : ListOf ShapeOf)
+        → raw_step shapes (LoadPtr to from field) 0 heap.old
+        ≡ pass_seen result heap.new }
     ensures stays { result ≡ Went.Stays → heap.new ≡ heap.old }
     ensures next { heap.new.next ≡ heap.old.next }
 {
@@ -202,7 +206,9 @@ fn store(shapes: &[Shape], heap: &mut Heap, to: u32, field: u32, value: Value) -
 }
 
 fn load_datum(heap: &mut Heap, to: u32, from: u32, field: u32) -> Went
-    ensures went { (shapes : ListOf ShapeOf) → raw_step shapes (LoadData to from field) 0 heap.old ≡ pass_seen result heap.new }
+    ensures went { (shapes : ListOf ShapeOf)
+        → raw_step shapes (LoadData to from field) 0 heap.old
+        ≡ pass_seen result heap.new }
     ensures stays { result ≡ Went.Stays → heap.new ≡ heap.old }
     ensures next { heap.new.next ≡ heap.old.next }
 {
@@ -288,14 +294,18 @@ fn tested(same: Result<bool, Fault>, equal: bool) -> Went
 }
 
 fn test(heap: &Heap, left: PtrArg, right: PtrArg, equal: bool) -> Went
-    ensures { (shapes : ListOf ShapeOf) → raw_step shapes (TestPtr left right equal) 0 heap.now ≡ pass_seen result heap.now }
+    ensures { (shapes : ListOf ShapeOf)
+        → raw_step shapes (TestPtr left right equal) 0 heap.now
+        ≡ pass_seen result heap.now }
 {
     let same = same_values(arg_of(heap, left), arg_of(heap, right));
     tested(same, equal)
 }
 
 fn test_data(heap: &Heap, left: DataArg, right: DataArg, equal: bool) -> Went
-    ensures { (shapes : ListOf ShapeOf) → raw_step shapes (TestData left right equal) 0 heap.now ≡ pass_seen result heap.now }
+    ensures { (shapes : ListOf ShapeOf)
+        → raw_step shapes (TestData left right equal) 0 heap.now
+        ≡ pass_seen result heap.now }
 {
     let same = same_datums(data_arg_of(heap, left), data_arg_of(heap, right));
     tested(same, equal)

@@ -76,7 +76,10 @@ impl Walk {
         requires below { self.old.heap.next + 1 < 2 ^ 64 }
         requires step { step + 1 < 2 ^ 64 }
         requires used { self.old.used ≤ length choices.now }
-        ensures goes { IfOk result (λ outcome. (left : ℕ) → rest_of graph.now (suc left) step self.old.location self.old.heap choices.now self.old.used ≡ or_rest outcome (rest_of graph.now left (step + 1) self.new.location self.new.heap choices.now self.new.used)) }
+        ensures goes { IfOk result (λ outcome. (left : ℕ)
+            → rest_of graph.now (suc left) step self.old.location self.old.heap choices.now self.old.used
+            ≡ or_rest outcome
+            (rest_of graph.now left (step + 1) self.new.location self.new.heap choices.now self.new.used)) }
         ensures next { self.new.heap.next ≤ self.old.heap.next + 1 }
         ensures used { self.new.used ≤ length choices.now }
     {
@@ -93,7 +96,9 @@ impl Walk {
     /// Leaves the location on a choice; `step` is the number of the edge that is taken.
     fn leave(&mut self, alloc: Global, graph: &Graph, choice: u8, step: u64) -> Mem<Option<Outcome>>
         requires below { self.old.heap.next + 1 < 2 ^ 64 }
-        ensures goes { IfOk result (λ outcome. (next : ℕ → StoreOf → Out) → first_pass graph.now.shapes.structs (out_of graph.now.edges self.old.location) choice next step self.old.heap ≡ or_rest outcome (next self.new.location self.new.heap)) }
+        ensures goes { IfOk result (λ outcome. (next : ℕ → StoreOf → Out)
+            → first_pass graph.now.shapes.structs (out_of graph.now.edges self.old.location) choice next step
+            self.old.heap ≡ or_rest outcome (next self.new.location self.new.heap)) }
         ensures next { self.new.heap.next ≤ self.old.heap.next + 1 }
         ensures used { self.new.used ≡ self.old.used }
     {

@@ -1,5 +1,6 @@
 ghost use Rattle.std.specs.Prelude.{◌≡◌, ◌<◌, ◌+◌, ◌^◌, [], length, MatchResult, IfOk, OnErr, map};
-ghost use Rattle.fore_base.specs.Stores.{var_of, set_var, datum_of, set_datum, load, store_at, load_datum, store_datum, kill, freed, grown};
+ghost use Rattle.fore_base.specs.Stores.{var_of, set_var, datum_of, set_datum, load, store_at, load_datum, store_datum};
+ghost use Rattle.fore_base.specs.Stores.{kill, freed, grown};
 ghost use Rattle.fore_base.specs.Stores as stores;
 ghost use Rattle.fore_base.specs.Heap.{leaks};
 ghost use Rattle.c_types.specs.Runs.{empty_store};
@@ -120,7 +121,8 @@ impl Heap {
     /// Writes through an arrow. A fault leaves the store as it was.
     #[tactic(auto, using(crate::proofs::Lengths::lengths))]
     pub fn store_at(&mut self, to: Value, field: u32, value: Value) -> Result<(), Fault>
-        ensures result { MatchResult result (λ _. store_at self.old to field value ≡ Ok self.new) (λ fault. store_at self.old to field value ≡ Err fault) }
+        ensures result { MatchResult result (λ _. store_at self.old to field value ≡ Ok self.new)
+            (λ fault. store_at self.old to field value ≡ Err fault) }
         ensures err { OnErr result (self.new ≡ self.old) }
         ensures keeps { IsNoLarger self.old self.new }
     {
@@ -153,7 +155,8 @@ impl Heap {
     /// Writes a datum through an arrow. A fault leaves the store as it was.
     #[tactic(auto, using(crate::proofs::Lengths::lengths))]
     pub fn store_datum(&mut self, to: Value, field: u32, datum: Datum) -> Result<(), Fault>
-        ensures result { MatchResult result (λ _. store_datum self.old to field datum ≡ Ok self.new) (λ fault. store_datum self.old to field datum ≡ Err fault) }
+        ensures result { MatchResult result (λ _. store_datum self.old to field datum ≡ Ok self.new)
+            (λ fault. store_datum self.old to field datum ≡ Err fault) }
         ensures keeps { IsNoLarger self.old self.new }
     {
         let number = followed(to)?;
@@ -171,7 +174,8 @@ impl Heap {
 
     /// Ends the cell to which a value points, as `free` does. A fault leaves the store as it was.
     pub fn free(&mut self, value: Value) -> Result<(), Fault>
-        ensures result { MatchResult result (λ _. freed self.old value ≡ Ok self.new) (λ fault. freed self.old value ≡ Err fault) }
+        ensures result { MatchResult result (λ _. freed self.old value ≡ Ok self.new)
+            (λ fault. freed self.old value ≡ Err fault) }
         ensures err { OnErr result (self.new ≡ self.old) }
         ensures keeps { IsNoLarger self.old self.new }
     {

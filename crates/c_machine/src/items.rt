@@ -1,4 +1,5 @@
-//! What the machine has still to do, as it lies in memory: each entry borrows the program, and a rest of a list is one entry.
+//! What the machine has still to do, as it lies in memory: each entry borrows the program, and a rest of a list is one
+//! entry.
 
 use c_types::program::{Act, Atom, Cond, Stmt};
 

@@ -1,6 +1,7 @@
 //! The leak test: a walk over the cells from the variables. It takes no memory where there is room for its marks.
 
-ghost use Rattle.std.specs.Prelude.{◌≡◌, ◌≤◌, ◌<◌, ◌++◌, ◌∷◌, [], true, false, not, length, replicate, slice_index_or, slice_set, OnOk};
+ghost use Rattle.std.specs.Prelude.{◌≡◌, ◌≤◌, ◌<◌, ◌++◌, ◌∷◌, [], true, false, not, length, replicate, slice_index_or};
+ghost use Rattle.std.specs.Prelude.{slice_set, OnOk};
 ghost use Rattle.std.specs.Vec.{vec_capacity};
 ghost use Rattle.fore_base.specs.Heap.{leaks};
 ghost use Rattle.c_machine.specs.inner.Rising.{CellsRiseFrom, HasRisingCells, position_in};
@@ -128,7 +129,8 @@ fn mark(marks: &mut Marks, at: usize)
 fn add(marks: &mut Marks, at: usize)
     requires counted { IsCounted marks.old }
     requires fresh { slice_index_or marks.old.reached.items at true ≡ false }
-    ensures noted { seen marks.new ≡ record { reached = slice_set marks.old.reached.items at true; order = marks.old.order.items ++ at ∷ [] } }
+    ensures noted { seen marks.new
+        ≡ record { reached = slice_set marks.old.reached.items at true; order = marks.old.order.items ++ at ∷ [] } }
     ensures counted { IsCounted marks.new }
     ensures room { IsAsRoomy marks.old marks.new }
 {

@@ -1,6 +1,8 @@
-//! The concrete machine: a program's store and what is left to do, a step at a time, and runs of a program on a list of choices.
+//! The concrete machine: a program's store and what is left to do, a step at a time, and runs of a program on a list of
+//! choices.
 //!
-//! `Machine` takes the steps. `reserve` opens what comes next and makes room, so that `step` takes no memory. `run` is a loop over it.
+//! `Machine` takes the steps. `reserve` opens what comes next and makes room, so that `step` takes no memory. `run` is
+//! a loop over it.
 //! What is left to do lies on a stack that borrows the program; a rest of a list is one entry.
 #![tactic(auto)]
 

@@ -1,4 +1,5 @@
-//! Whether an act, or the end of a block, takes a reference to a cell away. Any other step has the leak test's answer of before it.
+//! Whether an act, or the end of a block, takes a reference to a cell away. Any other step has the leak test's answer
+//! of before it.
 
 ghost use Rattle.std.specs.Prelude.{◌≡◌, length, map};
 ghost use Rattle.c_types.specs.Control.{closed_ptrs};

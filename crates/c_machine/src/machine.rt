@@ -10,7 +10,8 @@ ghost use Rattle.c_machine.specs.inner.Acts.{TurnIs};
 ghost use Rattle.c_machine.specs.inner.Needs.{made_at, IsRoomy};
 ghost use Rattle.c_machine.specs.Pending.{facing, left_of, is_open, IsReady};
 ghost use Rattle.c_machine.specs.inner.Sizes.{IsLittleLarger};
-ghost use Rattle.c_machine.specs.Machines.{program_of, todo, store_of, over_of, spare_of, is_done, chosen, Stepped, Answers};
+ghost use Rattle.c_machine.specs.Machines.{program_of, todo, store_of, over_of, spare_of, is_done, chosen, Stepped};
+ghost use Rattle.c_machine.specs.Machines.{Answers};
 
 use crate::acting::{Pace, settle, take_act};
 use crate::answering::answer;
@@ -139,7 +140,8 @@ impl<'p> Machine<'p> {
     /// Want of memory.
     pub fn new(alloc: Global, program: &'p Typed) -> Mem<Machine<'p>>
         ensures items { IfOk result (λ machine. todo machine ≡ opened (start_of program.now)) }
-        ensures store { IfOk result (λ machine. store_of machine ≡ empty_store (length program.now.vars) (length program.now.data_vars)) }
+        ensures store { IfOk result (λ machine. store_of machine
+            ≡ empty_store (length program.now.vars) (length program.now.data_vars)) }
         ensures over { IfOk result (λ machine. over_of machine ≡ None) }
         ensures program { IfOk result (λ machine. program_of machine ≡ program.now) }
     {
@@ -210,7 +212,8 @@ impl<'p> Machine<'p> {
         requires below { (store_of self.old).next + 1 < 2 ^ 64 }
         requires choice { IfSome choice (λ x. x < 2) }
         ensures over { IfSome (over_of self.old) (λ turn. (result ≡ turn) × (self.new ≡ self.old)) }
-        ensures step { over_of self.old ≡ None → Answers (chosen (takes (todo self.old)) choice) self.old self.new result }
+        ensures step { over_of self.old ≡ None → Answers
+            (chosen (takes (todo self.old)) choice) self.old self.new result }
         ensures program { program_of self.new ≡ program_of self.old }
         ensures next { (store_of self.new).next ≤ (store_of self.old).next + 1 }
     {
@@ -233,7 +236,8 @@ impl<'p> Machine<'p> {
         requires reserved { self.old.reserved ≡ true }
         requires over { self.old.over ≡ None }
         requires below { self.old.heap.next + 1 < 2 ^ 64 }
-        ensures step { Stepped (turn_of (program_of self.old).shapes.structs (todo self.old) (store_of self.old) choice) self.old self.new result }
+        ensures step { Stepped (turn_of (program_of self.old).shapes.structs (todo self.old) (store_of self.old) choice) self.old
+            self.new result }
         ensures program { program_of self.new ≡ program_of self.old }
         ensures next { (store_of self.new).next ≤ (store_of self.old).next + 1 }
     {

@@ -1,9 +1,12 @@
 //! Opening: the front of what is left becomes an act, the test of an atom, or the end of a block. It takes no step.
 
-ghost use Rattle.std.specs.Prelude.{◌≡◌, ◌≢◌, ◌+◌, ◌≤◌, ◌<◌, ◌++◌, ◌∷◌, [], true, false, map, IfOk, OnOk, OnSome, MatchOption};
+ghost use Rattle.std.specs.Prelude.{◌≡◌, ◌≢◌, ◌+◌, ◌≤◌, ◌<◌, ◌++◌, ◌∷◌, [], true, false, map, IfOk, OnOk, OnSome};
+ghost use Rattle.std.specs.Prelude.{MatchOption};
 ghost use Rattle.std.specs.Vec.{vec_len, vec_capacity};
 ghost use Rattle.c_types.specs.Control.{Items, Done, opened, items_of, all_before, test_of};
-ghost use Rattle.c_machine.specs.Pending.{before, pending, facing, item_weight, stack_weight, weight_of, size_of, asked_size, shut_weight, test_before, through, ways_of, left_of, is_open, IsReady};
+ghost use Rattle.c_machine.specs.Pending.{before, pending, facing, item_weight, stack_weight, weight_of, size_of};
+ghost use Rattle.c_machine.specs.Pending.{asked_size, shut_weight, test_before, through, ways_of, left_of, is_open};
+ghost use Rattle.c_machine.specs.Pending.{IsReady};
 
 use crate::items::{Control, Front, Item, Part, Sides};
 use c_types::program::{Cond, Stmt};
@@ -28,8 +31,10 @@ pub fn put<'p>(stack: &mut Vec<Item<'p>>, item: Item<'p>)
 /// Takes the first entry off the stack.
 #[tactic(auto, using(crate::proofs::Stacks::pushing))]
 pub fn take<'p>(stack: &mut Vec<Item<'p>>) -> Option<Item<'p>>
-    ensures pending { MatchOption result ((pending stack.old.items ≡ Done) × (pending stack.new.items ≡ Done)) (λ item. pending stack.old.items ≡ before item (pending stack.new.items)) }
-    ensures weight { MatchOption result (stack_weight stack.new.items ≡ 0) (λ item. stack_weight stack.old.items ≡ item_weight item + stack_weight stack.new.items) }
+    ensures pending { MatchOption result ((pending stack.old.items ≡ Done) × (pending stack.new.items ≡ Done))
+        (λ item. pending stack.old.items ≡ before item (pending stack.new.items)) }
+    ensures weight { MatchOption result (stack_weight stack.new.items ≡ 0)
+        (λ item. stack_weight stack.old.items ≡ item_weight item + stack_weight stack.new.items) }
     ensures len { vec_len stack.new ≤ vec_len stack.old }
     ensures capacity { vec_capacity stack.new ≡ vec_capacity stack.old }
     ensures shorter { OnSome result (vec_len stack.new < vec_len stack.old) }
@@ -42,8 +47,10 @@ pub fn take<'p>(stack: &mut Vec<Item<'p>>) -> Option<Item<'p>>
 #[tactic(auto, using(crate::proofs::Stacks::layers))]
 fn open_stmt<'p>(stack: &mut Vec<Item<'p>>, stmt: &'p Stmt) -> Front<'p>
     requires { vec_len stack.old + 2 ≤ vec_capacity stack.old }
-    ensures left { opened (facing result [] (pending stack.new.items)) ≡ opened (items_of stmt.now (pending stack.old.items)) }
-    ensures weight { stack_weight stack.new.items + shut_weight result ≤ weight_of stmt.now + stack_weight stack.old.items }
+    ensures left { opened (facing result [] (pending stack.new.items))
+        ≡ opened (items_of stmt.now (pending stack.old.items)) }
+    ensures weight { stack_weight stack.new.items + shut_weight result
+        ≤ weight_of stmt.now + stack_weight stack.old.items }
 {
     match stmt {
         Stmt::Do { act, line } => Front::Act { act, line: *line },
@@ -105,8 +112,10 @@ fn open_stmt<'p>(stack: &mut Vec<Item<'p>>, stmt: &'p Stmt) -> Front<'p>
 #[tactic(auto, using(crate::proofs::Stacks::layers))]
 fn open_item<'p>(stack: &mut Vec<Item<'p>>, item: Item<'p>) -> Front<'p>
     requires { vec_len stack.old + 3 ≤ vec_capacity stack.old }
-    ensures left { opened (facing result [] (pending stack.new.items)) ≡ opened (before item.entry (pending stack.old.items)) }
-    ensures weight { stack_weight stack.new.items + shut_weight result ≤ item_weight item.entry + stack_weight stack.old.items }
+    ensures left { opened (facing result [] (pending stack.new.items))
+        ≡ opened (before item.entry (pending stack.old.items)) }
+    ensures weight { stack_weight stack.new.items + shut_weight result
+        ≤ item_weight item.entry + stack_weight stack.old.items }
 {
     match item {
         Item::Block(stmts) => match stmts.split_first() {
@@ -153,7 +162,8 @@ pub fn put_part<'p>(parts: &mut Vec<Part<'p>>, part: Part<'p>)
 #[tactic(auto, using(crate::proofs::Stacks::conditions))]
 fn open_cond<'p>(parts: &mut Vec<Part<'p>>, cond: &'p Cond, sides: Sides<'p>) -> Front<'p>
     requires { vec_len parts.old < vec_capacity parts.old }
-    ensures left { (r : Items) → opened (facing result parts.new.items r) ≡ opened (test_before (test_of cond.now) (through (ways_of sides.entry) parts.old.items) r) }
+    ensures left { (r : Items) → opened (facing result parts.new.items r)
+        ≡ opened (test_before (test_of cond.now) (through (ways_of sides.entry) parts.old.items) r) }
     ensures size { asked_size result < size_of cond.now }
     ensures asked { result ≢ Front.Shut }
 {
@@ -229,7 +239,8 @@ impl<'p> Control<'p> {
         requires shut { self.old.front ≡ Front.Shut }
         requires room { vec_len self.old.stack + 3 ≤ vec_capacity self.old.stack }
         ensures left { left_of self.new ≡ left_of self.old }
-        ensures weight { stack_weight self.new.stack.items + shut_weight self.new.front ≤ stack_weight self.old.stack.items }
+        ensures weight { stack_weight self.new.stack.items + shut_weight self.new.front
+            ≤ stack_weight self.old.stack.items }
     {
         self.parts.clear();
         match take(&mut self.stack) {

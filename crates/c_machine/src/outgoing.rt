@@ -67,7 +67,9 @@ pub fn take_first(
     choice: u8,
 ) -> Mem<Gone>
     requires below { heap.old.next + 1 < 2 ^ 64 }
-    ensures gone { IfOk result (λ gone. (next : ℕ → StoreOf → Out) (step : ℕ) → first_pass shapes.now (out_of edges.now location) choice next step heap.old ≡ gone_to gone step next heap.new) }
+    ensures gone { IfOk result (λ gone. (next : ℕ → StoreOf → Out) (step : ℕ)
+        → first_pass shapes.now (out_of edges.now location) choice next step heap.old
+        ≡ gone_to gone step next heap.new) }
     ensures next { heap.new.next ≤ heap.old.next + 1 }
 {
     for edge in edges {

@@ -21,7 +21,8 @@ pub fn read(heap: &Heap, path: &Path) -> Result<Value, Fault>
 
 /// Writes at the end of a path: the arrows before the last one are followed, then the last arrow and the write.
 pub fn write(heap: &mut Heap, path: &Path, value: Value) -> Result<(), Fault>
-    ensures result { MatchResult result (λ _. write_path heap.old path.now.var path.now.fields value ≡ Ok heap.new) (λ fault. write_path heap.old path.now.var path.now.fields value ≡ Err fault) }
+    ensures result { MatchResult result (λ _. write_path heap.old path.now.var path.now.fields value ≡ Ok heap.new)
+        (λ fault. write_path heap.old path.now.var path.now.fields value ≡ Err fault) }
     ensures keeps { IsNoLarger heap.old heap.new }
 {
     match path.fields.as_slice().split_first() {
@@ -40,7 +41,8 @@ fn write_from(
     others: &[u32],
     value: Value,
 ) -> Result<(), Fault>
-    ensures result { MatchResult result (λ _. write_from heap.old (var_of heap.old var) first others.now value ≡ Ok heap.new) (λ fault. write_from heap.old (var_of heap.old var) first others.now value ≡ Err fault) }
+    ensures result { MatchResult result (λ _. write_from heap.old (var_of heap.old var) first others.now value ≡ Ok heap.new)
+        (λ fault. write_from heap.old (var_of heap.old var) first others.now value ≡ Err fault) }
     ensures keeps { IsNoLarger heap.old heap.new }
 {
     let mut base = heap.var(var);

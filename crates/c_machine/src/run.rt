@@ -1,6 +1,7 @@
 //! Runs of a program on a list of choices.
 
-ghost use Rattle.std.specs.Prelude.{◌≡◌, ◌<◌, ◌≤◌, ◌+◌, ◌-◌, ◌^◌, ℕ, suc, List, drop, length, IfOk, IfSome, MatchResult, Some, None};
+ghost use Rattle.std.specs.Prelude.{◌≡◌, ◌<◌, ◌≤◌, ◌+◌, ◌-◌, ◌^◌, ℕ, suc, List, drop, length, IfOk, IfSome};
+ghost use Rattle.std.specs.Prelude.{MatchResult, Some, None};
 ghost use Rattle.c_types.specs.declared.outcome.Outcome.{Outcome as Out};
 ghost use Rattle.c_types.specs.Steps.{takes};
 ghost use Rattle.c_types.specs.Runs.{supply, run};
@@ -46,8 +47,13 @@ pub(crate) fn supply(
     step: u64,
 ) -> Result<Option<u8>, Outcome>
     requires used { used.old ≤ length choices.now }
-    ensures given { MatchResult result (λ choice. (next : ℕ → List ℕ → ℕ → Out) → supply needed (drop used.old choices.now) step used.old next ≡ next (or_none choice) (drop used.new choices.now) used.new) (λ outcome. (next : ℕ → List ℕ → ℕ → Out) → supply needed (drop used.old choices.now) step used.old next ≡ outcome) }
-    ensures choice { IfOk result (λ choice. (chosen needed choice ≡ Some (or_none choice)) × IfSome choice (λ x. x < 2)) }
+    ensures given { MatchResult result (λ choice. (next : ℕ → List ℕ → ℕ → Out)
+        → supply needed (drop used.old choices.now) step used.old next
+        ≡ next (or_none choice) (drop used.new choices.now) used.new)
+        (λ outcome. (next : ℕ → List ℕ → ℕ → Out) → supply needed (drop used.old choices.now) step used.old next
+        ≡ outcome) }
+    ensures choice { IfOk result (λ choice. (chosen needed choice ≡ Some (or_none choice))
+        × IfSome choice (λ x. x < 2)) }
     ensures used { used.new ≤ length choices.now }
 {
     if !needed {
@@ -78,7 +84,13 @@ fn take_one(
     requires below { (store_of machine.old).next + 1 < 2 ^ 64 }
     requires step { step + 1 < 2 ^ 64 }
     requires used { used.old ≤ length choices.now }
-    ensures goes { MatchResult result (λ _. (left : ℕ) → going (program_of machine.old).shapes.structs (suc left) step (todo machine.old) (store_of machine.old) (drop used.old choices.now) used.old ≡ going (program_of machine.old).shapes.structs left (step + 1) (todo machine.new) (store_of machine.new) (drop used.new choices.now) used.new) (λ outcome. (left : ℕ) → going (program_of machine.old).shapes.structs (suc left) step (todo machine.old) (store_of machine.old) (drop used.old choices.now) used.old ≡ outcome) }
+    ensures goes { MatchResult result (λ _. (left : ℕ)
+        → going (program_of machine.old).shapes.structs (suc left) step (todo machine.old) (store_of machine.old)
+        (drop used.old choices.now) used.old
+        ≡ going (program_of machine.old).shapes.structs left (step + 1) (todo machine.new) (store_of machine.new)
+        (drop used.new choices.now) used.new)
+        (λ outcome. (left : ℕ) → going (program_of machine.old).shapes.structs (suc left) step (todo machine.old)
+        (store_of machine.old) (drop used.old choices.now) used.old ≡ outcome) }
     ensures over { IfOk result (λ _. over_of machine.new ≡ None) }
     ensures program { program_of machine.new ≡ program_of machine.old }
     ensures next { (store_of machine.new).next ≤ (store_of machine.old).next + 1 }

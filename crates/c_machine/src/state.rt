@@ -27,7 +27,8 @@ pub enum Turn {
 
 /// A program on its way: its store and what is left to do.
 ///
-/// `reserve` makes ready what a step needs, and a step then takes no memory. After a fault or the end each step answers the same again. As long as
+/// `reserve` makes ready what a step needs, and a step then takes no memory. After a fault or the end each step answers
+/// the same again. As long as
 /// the run is not over no cell has leaked, so that only a step that loses a reference to a cell needs the leak test.
 #[derive(Drop)]
 pub struct Machine<'p> {
@@ -38,6 +39,7 @@ pub struct Machine<'p> {
     pub(crate) rooms: Rooms,
     pub(crate) over: Option<Turn>,
     pub(crate) reserved: bool,
-    ghost ready: { reserved ≡ true → IsReady control × IsRoomy program.now.shapes.structs heap (made_at control.front) rooms },
+    ghost ready: { reserved ≡ true → IsReady control
+        × IsRoomy program.now.shapes.structs heap (made_at control.front) rooms },
     ghost unleaked: { over ≡ None → leaks heap ≡ false },
 }

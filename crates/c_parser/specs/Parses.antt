@@ -21,9 +21,11 @@ over_of ts = option_map place_of (slice_get ts 65535)
 
 -- no token is refused, and the tokens are those of this tree, in which no more than 64 levels are open at once
 abbrev pub IsParsed : List Token → Place → whole.Unit → Type 0
-IsParsed ts end u = NoneRefused ts × IsUnit ts u.items × (depth_of_items u.items ≤ 64) × (u.over ≡ over_of ts) × (u.end ≡ end)
+IsParsed ts end u = NoneRefused ts × IsUnit ts u.items × (depth_of_items u.items ≤ 64) × (u.over ≡ over_of ts)
+    × (u.end ≡ end)
 
--- why the tokens are no unit of at most 64 levels: the first refused token; else the hopeless token, or the one that opens level 65
+-- why the tokens are no unit of at most 64 levels: the first refused token; else the hopeless token, or the one that
+-- opens level 65
 abbrev pub IsFault : List Token → Place → SyntaxFault → Type 0
 IsFault ts end (Refused rule at) = IsFirstRefused ts (record { rule = rule; at = at })
 IsFault ts end (Syntax at) = NoneRefused ts × IsSyntaxAt unit 64 end ts at

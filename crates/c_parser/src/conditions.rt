@@ -2,7 +2,8 @@
 ghost use Rattle.std.specs.Prelude.{◌<◌, ◌≡◌, ◌≢◌, true, IfOk, IfErr, length};
 ghost use Rattle.c_grammar.specs.inner.Sets as sets;
 ghost use Rattle.c_parser.specs.inner.Bounds.{Reads, Stops, StepsIn, StaysOut};
-ghost use Rattle.c_grammar.specs.inner.Shapes.{two_sides, a_comparison, an_inner_unary, a_unary, a_test, next_test, some_tests, next_and, some_ands, a_cond};
+ghost use Rattle.c_grammar.specs.inner.Shapes.{two_sides, a_comparison, an_inner_unary, a_unary, a_test, next_test};
+ghost use Rattle.c_grammar.specs.inner.Shapes.{some_tests, next_and, some_ands, a_cond};
 ghost use Rattle.c_grammar.specs.declared.signs.Sign.TheVariants as sign;
 ghost use Rattle.c_grammar.specs.Signs.{sign_at};
 ghost use Rattle.c_parser.specs.inner.Shapes.{read_closed_cond};

@@ -1,7 +1,10 @@
 // Declarations.
 ghost use Rattle.std.specs.Prelude.{length, IfOk, IfErr, ◌<◌, ◌≤◌};
 ghost use Rattle.c_parser.specs.inner.Bounds.{Reads, Stops};
-ghost use Rattle.c_parser.specs.inner.Shapes.{read_data, read_datum_declare, read_declarator, read_declarators, read_declare, read_enum_data, read_initial, read_int_data, read_maybe_from, read_next_declarator, read_next_pointer, read_pointer_declare, read_pointers, read_star_declarator};
+ghost use Rattle.c_parser.specs.inner.Shapes.{read_data, read_datum_declare, read_declarator, read_declarators};
+ghost use Rattle.c_parser.specs.inner.Shapes.{read_declare, read_enum_data, read_initial, read_int_data};
+ghost use Rattle.c_parser.specs.inner.Shapes.{read_maybe_from, read_next_declarator, read_next_pointer};
+ghost use Rattle.c_parser.specs.inner.Shapes.{read_pointer_declare, read_pointers, read_star_declarator};
 
 use crate::paths::name;
 use crate::reader::{Bounds, is_next, take};

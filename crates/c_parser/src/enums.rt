@@ -1,7 +1,8 @@
 // Items that begin with `enum`.
 ghost use Rattle.std.specs.Prelude.{length, IfOk, IfErr, ◌<◌};
 ghost use Rattle.c_parser.specs.inner.Bounds.{Reads, Stops};
-ghost use Rattle.c_parser.specs.inner.Shapes.{read_enum_body, read_enum_item, read_enum_named, read_enum_rest_of, read_more_names};
+ghost use Rattle.c_parser.specs.inner.Shapes.{read_enum_body, read_enum_item, read_enum_named, read_enum_rest_of};
+ghost use Rattle.c_parser.specs.inner.Shapes.{read_more_names};
 ghost use Rattle.c_parser.specs.inner.Values.{ValueStep, ValueStops};
 
 use crate::globals::{begun_with, rest_of_data};

@@ -1,7 +1,9 @@
 // The fields of structs.
 ghost use Rattle.std.specs.Prelude.{length, IfOk, IfErr, ◌<◌, ◌≤◌};
 ghost use Rattle.c_parser.specs.inner.Bounds.{Reads, Stops};
-ghost use Rattle.c_parser.specs.inner.Shapes.{read_braced, read_datum_field, read_field, read_maybe_braced, read_names, read_next_name, read_next_star, read_pointer_field, read_some_fields, read_star_name, read_star_names};
+ghost use Rattle.c_parser.specs.inner.Shapes.{read_braced, read_datum_field, read_field, read_maybe_braced, read_names};
+ghost use Rattle.c_parser.specs.inner.Shapes.{read_next_name, read_next_star, read_pointer_field, read_some_fields};
+ghost use Rattle.c_parser.specs.inner.Shapes.{read_star_name, read_star_names};
 
 use crate::begins::begins_declare;
 use crate::declarations::data;

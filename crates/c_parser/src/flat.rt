@@ -1,7 +1,8 @@
 // Statements that are no level.
 ghost use Rattle.std.specs.Prelude.{length, IfOk, IfErr, ◌<◌, ◌≤◌};
 ghost use Rattle.c_parser.specs.inner.Bounds.{Reads, Stops};
-ghost use Rattle.c_parser.specs.inner.Shapes.{read_assert_stmt, read_break_stmt, read_continue_stmt, read_empty, read_flat, read_maybe_operand, read_return_stmt, read_simple_stmt};
+ghost use Rattle.c_parser.specs.inner.Shapes.{read_assert_stmt, read_break_stmt, read_continue_stmt, read_empty};
+ghost use Rattle.c_parser.specs.inner.Shapes.{read_flat, read_maybe_operand, read_return_stmt, read_simple_stmt};
 
 use crate::begins::begins_simple;
 use crate::conditions::closed_cond;

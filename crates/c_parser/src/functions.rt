@@ -1,7 +1,8 @@
 // Prototypes and functions, from what stands after their name.
 ghost use Rattle.std.specs.Prelude.{length, IfOk, IfErr, ◌<◌};
 ghost use Rattle.c_parser.specs.inner.Bounds.{Reads, Stops};
-ghost use Rattle.c_parser.specs.inner.Shapes.{read_body, read_called, read_data_called, read_ending_of, read_function_end, read_pointer_called, read_proto_end};
+ghost use Rattle.c_parser.specs.inner.Shapes.{read_body, read_called, read_data_called, read_ending_of};
+ghost use Rattle.c_parser.specs.inner.Shapes.{read_function_end, read_pointer_called, read_proto_end};
 
 use crate::heads::closed_params;
 use crate::levels::Level;

@@ -1,7 +1,10 @@
 // Parameters, and what a function gives.
 ghost use Rattle.std.specs.Prelude.{length, IfOk, IfErr, ◌<◌, ◌≤◌};
 ghost use Rattle.c_parser.specs.inner.Bounds.{Reads, Stops};
-ghost use Rattle.c_parser.specs.inner.Shapes.{read_all_params, read_closed_params, read_data_type, read_datum_param, read_head, read_list_params, read_maybe_params, read_next_param, read_param, read_params, read_pointer_param, read_pointer_type, read_rtype, read_void_params, read_void_type};
+ghost use Rattle.c_parser.specs.inner.Shapes.{read_all_params, read_closed_params, read_data_type, read_datum_param};
+ghost use Rattle.c_parser.specs.inner.Shapes.{read_head, read_list_params, read_maybe_params, read_next_param};
+ghost use Rattle.c_parser.specs.inner.Shapes.{read_param, read_params, read_pointer_param, read_pointer_type};
+ghost use Rattle.c_parser.specs.inner.Shapes.{read_rtype, read_void_params, read_void_type};
 
 use crate::begins::{begins_data, begins_params};
 use crate::declarations::data;

@@ -1,7 +1,9 @@
 // Items, and all of a text.
 ghost use Rattle.std.specs.Prelude.{length, IfOk, IfErr, ◌<◌};
 ghost use Rattle.c_parser.specs.inner.Bounds.{Reads, Stops};
-ghost use Rattle.c_parser.specs.inner.Shapes.{read_all_items, read_extern_item, read_int_item, read_item, read_star_rest, read_struct_end, read_struct_item, read_struct_rest_of, read_void_item};
+ghost use Rattle.c_parser.specs.inner.Shapes.{read_all_items, read_extern_item, read_int_item, read_item};
+ghost use Rattle.c_parser.specs.inner.Shapes.{read_star_rest, read_struct_end, read_struct_item, read_struct_rest_of};
+ghost use Rattle.c_parser.specs.inner.Shapes.{read_void_item};
 
 use crate::begins::{begins_ending, begins_item};
 use crate::enums::enum_item;

@@ -19,7 +19,8 @@ pub enum Level {
     Bracket,
 }
 
-/// The levels that are open round the next token: at most 64, and no memory is taken for them. Contracts see how many more may be opened.
+/// The levels that are open round the next token: at most 64, and no memory is taken for them. Contracts see how many
+/// more may be opened.
 #[derive(Drop)]
 pub struct Levels {
     open: SmallVec<Level, 64>,

@@ -1,7 +1,9 @@
 //! The parser of the accepted C: the tree of a list of tokens, or its one refusal.
 //!
-//! `parse` is the only call. Each function of the other modules reads one rule of the grammar from the front of the tokens that are left,
-//! and has one kind of contract (`specs/inner`): what it reads, or where it stops. Repetitions are loops; the recursion opens levels, of
+//! `parse` is the only call. Each function of the other modules reads one rule of the grammar from the front of the
+//! tokens that are left,
+//! and has one kind of contract (`specs/inner`): what it reads, or where it stops. Repetitions are loops; the recursion
+//! opens levels, of
 //! which at most 64 may be open.
 #![tactic(auto)]
 

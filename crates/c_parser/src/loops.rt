@@ -1,7 +1,9 @@
 // What stands round the statements that an `if`, a `while`, a `do` and a `for` have within.
 ghost use Rattle.std.specs.Prelude.{length, IfOk, IfErr, ◌<◌, ◌≤◌};
 ghost use Rattle.c_parser.specs.inner.Bounds.{Reads, Stops};
-ghost use Rattle.c_parser.specs.inner.Shapes.{read_do_tail, read_first, read_first_declare, read_first_simple, read_for_head, read_if_head, read_maybe_cond, read_maybe_first, read_maybe_simple, read_while_head};
+ghost use Rattle.c_parser.specs.inner.Shapes.{read_do_tail, read_first, read_first_declare, read_first_simple};
+ghost use Rattle.c_parser.specs.inner.Shapes.{read_for_head, read_if_head, read_maybe_cond, read_maybe_first};
+ghost use Rattle.c_parser.specs.inner.Shapes.{read_maybe_simple, read_while_head};
 
 use crate::begins::{begins_cond, begins_declare, begins_simple};
 use crate::conditions::{closed_cond, cond};

@@ -1,7 +1,8 @@
 // Operands and calls.
 ghost use Rattle.std.specs.Prelude.{◌≡◌, ◌≢◌, ◌<◌, ◌≤◌, IfOk, IfErr, length};
 ghost use Rattle.c_parser.specs.inner.Bounds.{Reads, Stops};
-ghost use Rattle.c_grammar.specs.inner.Shapes.{an_argument, next_argument, some_arguments, all_arguments, a_literal, an_operand};
+ghost use Rattle.c_grammar.specs.inner.Shapes.{an_argument, next_argument, some_arguments, all_arguments, a_literal};
+ghost use Rattle.c_grammar.specs.inner.Shapes.{an_operand};
 ghost use Rattle.c_grammar.specs.inner.Sets as sets;
 ghost use Rattle.c_grammar.specs.Signs.{sign_at};
 ghost use Rattle.c_grammar.specs.declared.signs.Sign.TheVariants as sign;

@@ -1,7 +1,11 @@
 // Sizes, right sides and simple statements.
 ghost use Rattle.std.specs.Prelude.{length, IfOk, IfErr, ◌<◌, ◌≤◌};
 ghost use Rattle.c_parser.specs.inner.Bounds.{Reads, Stops};
-ghost use Rattle.c_parser.specs.inner.Shapes.{read_after_name, read_assigned, read_bare_size, read_called_simple, read_cast, read_closed_path, read_closed_size, read_closed_size_inside, read_free, read_malloc, read_maybe_cast, read_operand_rhs, read_rhs, read_simple, read_size, read_size_inside, read_sized, read_starred_size, read_struct_size, read_word_simple};
+ghost use Rattle.c_parser.specs.inner.Shapes.{read_after_name, read_assigned, read_bare_size, read_called_simple};
+ghost use Rattle.c_parser.specs.inner.Shapes.{read_cast, read_closed_path, read_closed_size, read_closed_size_inside};
+ghost use Rattle.c_parser.specs.inner.Shapes.{read_free, read_malloc, read_maybe_cast, read_operand_rhs, read_rhs};
+ghost use Rattle.c_parser.specs.inner.Shapes.{read_simple, read_size, read_size_inside, read_sized, read_starred_size};
+ghost use Rattle.c_parser.specs.inner.Shapes.{read_struct_size, read_word_simple};
 
 use crate::operands::{arguments, begins_operand, operand};
 use crate::paths::{arrows, name, path};

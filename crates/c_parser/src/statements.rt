@@ -6,7 +6,9 @@ ghost use Rattle.c_grammar.specs.declared.fault.SyntaxFault.TheVariants.{Deep};
 ghost use Rattle.c_grammar.specs.declared.signs.Sign.TheVariants as sign;
 ghost use Rattle.c_grammar.specs.inner.Parted as sets;
 ghost use Rattle.c_parser.specs.inner.Bounds.{Reads, Stops, StepsIn};
-ghost use Rattle.c_parser.specs.inner.Shapes.{read_block, read_block_stmt, read_do_stmt, read_for_stmt, read_if_stmt, read_nested, read_other, read_part, read_parts, read_stmt, read_while_stmt};
+ghost use Rattle.c_parser.specs.inner.Shapes.{read_block, read_block_stmt, read_do_stmt, read_for_stmt, read_if_stmt};
+ghost use Rattle.c_parser.specs.inner.Shapes.{read_nested, read_other, read_part, read_parts, read_stmt};
+ghost use Rattle.c_parser.specs.inner.Shapes.{read_while_stmt};
 
 use crate::begins::{begins_declare, begins_level, begins_part};
 use crate::declarations::declare;

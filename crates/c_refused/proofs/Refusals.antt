@@ -7,7 +7,8 @@ use Rattle.c_refused.specs.declared.refused.Refusal.{Refusal}
 use Rattle.c_refused.specs.Refused.{rule_of, NoneRefused, IsFirstRefused}
 
 -- of two readings of one list, the refused token behind tokens that are not is one token
-same_token : (b c x y : List Token) (t u : Token) (r s : ℕ) → NoneRefused b → NoneRefused c → rule_of t ≡ Some r → rule_of u ≡ Some s
+same_token : (b c x y : List Token) (t u : Token) (r s : ℕ) → NoneRefused b → NoneRefused c → rule_of t ≡ Some r
+    → rule_of u ≡ Some s
     → b ++ t ∷ x ≡ c ++ u ∷ y → t ≡ u
 same_token [] [] x y t u r s p q m n e = cc e
 same_token [] (d ∷ c) x y t u r s p q m n e =
@@ -16,9 +17,12 @@ same_token (d ∷ b) [] x y t u r s p q m n e =
     let same : d ≡ u = cc e in absurd (none-some s (sym p.0 ∙ ap rule_of same ∙ n))
 same_token (d ∷ b) (f ∷ c) x y t u r s p q m n e = same_token b c x y t u r s p.1 q.1 m n (cc e)
 
-pub first_is_one : (ts : List Token) (one other : Refusal) → IsFirstRefused ts one → IsFirstRefused ts other → one ≡ other
+pub first_is_one : (ts : List Token) (one other : Refusal) → IsFirstRefused ts one → IsFirstRefused ts other
+    → one ≡ other
 first_is_one ts one other f g =
-    let same : f.token ≡ g.token = same_token f.before g.before f.after g.after f.token g.token one.rule other.rule f.none g.none f.rule g.rule (sym f.are ∙ g.are) in
+    let same : f.token ≡ g.token =
+    same_token f.before g.before f.after g.after f.token g.token one.rule other.rule f.none g.none f.rule g.rule
+    (sym f.are ∙ g.are) in
     let rule : one.rule ≡ other.rule = cc (same, f.rule, g.rule) in
     let at : one.at ≡ other.at = cc (same, f.at, g.at) in
     let made : ℕ → Place → Refusal = λ r a. record { rule = r; at = a } in

@@ -1,5 +1,6 @@
 -- The tokens that no program may have, each with the number of the rule that refuses it.
-use Rattle.std.specs.Prelude.{◌≡◌, ℕ, Bool, false, List, [], ◌∷◌, ◌++◌, ◌||◌, Option, Some, None, nat_eq, codes, if◌then◌else◌}
+use Rattle.std.specs.Prelude.{◌≡◌, ℕ, Bool, false, List, [], ◌∷◌, ◌++◌, ◌||◌, Option, Some, None, nat_eq, codes}
+use Rattle.std.specs.Prelude.{if◌then◌else◌}
 use Rattle.std.specs.Cmp.Lexicographic.{pointwise}
 use Rattle.fore_base.specs.Lists.{Every}
 use Rattle.c_lexer.specs.declared.token.TokKind.{TokKind}
@@ -16,7 +17,8 @@ is_among (t ∷ ts) text = pointwise nat_eq t text || is_among ts text
 abbrev pub Line : Type 0
 Line = ℕ × List (List ℕ)
 
--- words of other parts of the language (ISO/IEC 9899:2011, 6.4.1): unions, other control, other base types, other specifiers and qualifiers
+-- words of other parts of the language (ISO/IEC 9899:2011, 6.4.1): unions, other control, other base types, other
+-- specifiers and qualifiers
 abbrev pub words : List Line
 words =
     (3, codes "union" ∷ [])
@@ -26,15 +28,24 @@ words =
       codes "char" ∷ codes "short" ∷ codes "long" ∷ codes "float" ∷ codes "double" ∷ codes "signed" ∷ codes "unsigned"
           ∷ codes "bool" ∷ codes "_Bool" ∷ codes "_Complex" ∷ [],
     )
-    ∷ (9, codes "static" ∷ codes "volatile" ∷ codes "const" ∷ codes "register" ∷ codes "auto" ∷ codes "inline" ∷ codes "restrict" ∷ codes "typedef" ∷ [])
+    ∷ (
+      9,
+      codes "static" ∷ codes "volatile" ∷ codes "const" ∷ codes "register" ∷ codes "auto" ∷ codes "inline"
+          ∷ codes "restrict" ∷ codes "typedef" ∷ [],
+    )
     ∷ []
 
--- punctuators of other parts of the language (6.4.6): addresses, arrays, arithmetic, comparison by size and members, labels
+-- punctuators of other parts of the language (6.4.6): addresses, arrays, arithmetic, comparison by size and members,
+-- labels
 abbrev pub marks : List Line
 marks =
     (1, codes "&" ∷ [])
     ∷ (2, codes "[" ∷ codes "]" ∷ [])
-    ∷ (4, codes "+" ∷ codes "-" ∷ codes "/" ∷ codes "%" ∷ codes "<" ∷ codes ">" ∷ codes "~" ∷ codes "^" ∷ codes "|" ∷ codes "?" ∷ codes "." ∷ [])
+    ∷ (
+      4,
+      codes "+" ∷ codes "-" ∷ codes "/" ∷ codes "%" ∷ codes "<" ∷ codes ">" ∷ codes "~" ∷ codes "^" ∷ codes "|"
+          ∷ codes "?" ∷ codes "." ∷ [],
+    )
     ∷ (5, codes ":" ∷ [])
     ∷ []
 

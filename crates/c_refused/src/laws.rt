@@ -6,6 +6,7 @@ ghost use Rattle.c_refused.specs.Refused.{NoneRefused, IsFirstRefused};
 
 /// A list of tokens has at most one first refused token, and none where no token is refused.
 pub fn first_refused_is_unique()
-    ensures unique { (ts : List Token) (one other : Refusal) → IsFirstRefused ts one → IsFirstRefused ts other → one ≡ other }
+    ensures unique { (ts : List Token) (one other : Refusal) → IsFirstRefused ts one
+        → IsFirstRefused ts other → one ≡ other }
     ensures apart { (ts : List Token) (one : Refusal) → NoneRefused ts → IsFirstRefused ts one → ⊥ }
 {}

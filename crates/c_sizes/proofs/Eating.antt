@@ -61,23 +61,29 @@ pub shrinks_optional : {X : Type 0} {A : Part X} → Shrinks A → Shrinks (s.op
 shrinks_optional a = shrinks_or (shrinks_made Some a) (shrinks_empty None)
 
 pub shrinks_series : {X : Type 0} (c : Sign) {A : Part X} → Shrinks A → Shrinks (s.series c A)
-shrinks_series c a = shrinks_made s.joined (shrinks_both a (shrinks_many (shrinks_made s.second (shrinks_both (shrinks (eats_token c)) a))))
+shrinks_series c a = shrinks_made s.joined
+    (shrinks_both a (shrinks_many (shrinks_made s.second (shrinks_both (shrinks (eats_token c)) a))))
 
 pub eats_bracketed : {X : Type 0} {A : Part X} → Shrinks A → Eats (s.bracketed A)
-eats_bracketed a = eats_made s.middle (eats_first (eats_token sign.Open) (shrinks_both a (shrinks (eats_token sign.Close))))
+eats_bracketed a = eats_made s.middle
+    (eats_first (eats_token sign.Open) (shrinks_both a (shrinks (eats_token sign.Close))))
 
 pub eats_name : Eats s.name
 eats_name = eats_made s.name_of (eats_token sign.Id)
 
 pub eats_path : Eats s.path
-eats_path = eats_made s.path_of (eats_first eats_name (shrinks_many (shrinks_made s.arrow_of (shrinks_both (shrinks (eats_at sign.Arrow)) (shrinks eats_name)))))
+eats_path = eats_made s.path_of
+    (eats_first eats_name
+    (shrinks_many (shrinks_made s.arrow_of (shrinks_both (shrinks (eats_at sign.Arrow)) (shrinks eats_name)))))
 
 eats_literal : Eats s.literal_part
 eats_literal = eats_or (eats_made operand'.Number (eats_made s.name_of (eats_token sign.Number)))
-    (eats_or (eats_made operand'.Null (eats_at sign.Null)) (eats_or (eats_made operand'.True (eats_at sign.True)) (eats_made operand'.False (eats_at sign.False))))
+    (eats_or (eats_made operand'.Null (eats_at sign.Null))
+    (eats_or (eats_made operand'.True (eats_at sign.True)) (eats_made operand'.False (eats_at sign.False))))
 
 eats_call_with : {inner : Part Operand} → Shrinks inner → Eats (s.call_with inner)
-eats_call_with a = eats_made s.call_of (eats_first eats_name (shrinks (eats_bracketed (shrinks_or (shrinks_series sign.Comma a) (shrinks_empty [])))))
+eats_call_with a = eats_made s.call_of
+    (eats_first eats_name (shrinks (eats_bracketed (shrinks_or (shrinks_series sign.Comma a) (shrinks_empty [])))))
 
 eats_operand_with : {c : Part Call} → Eats c → Eats (s.operand_with c)
 eats_operand_with c = eats_or (eats_made operand'.Path eats_path) (eats_or (eats_made operand'.Call c) eats_literal)
@@ -95,21 +101,34 @@ eats_operand n = eats_operand_with (eats_call n)
 eats_size : Eats s.size
 eats_size =
     eats_or (eats_made s.size_struct (eats_first (eats_at sign.Sizeof)
-    (shrinks (eats_bracketed (shrinks_made s.second (shrinks_both (shrinks (eats_token sign.Struct)) (shrinks eats_name)))))))
-    (eats_or (eats_made s.size_bracketed (eats_first (eats_at sign.Sizeof) (shrinks (eats_bracketed (shrinks_both (shrinks (eats_at sign.Star)) (shrinks eats_path))))))
-    (eats_made s.size_bare (eats_first (eats_at sign.Sizeof) (shrinks_both (shrinks (eats_at sign.Star)) (shrinks eats_path)))))
+    (shrinks
+    (eats_bracketed
+    (shrinks_made s.second (shrinks_both (shrinks (eats_token sign.Struct)) (shrinks eats_name)))))))
+    (eats_or
+    (eats_made s.size_bracketed
+    (eats_first (eats_at sign.Sizeof)
+    (shrinks (eats_bracketed (shrinks_both (shrinks (eats_at sign.Star)) (shrinks eats_path))))))
+    (eats_made s.size_bare
+    (eats_first (eats_at sign.Sizeof) (shrinks_both (shrinks (eats_at sign.Star)) (shrinks eats_path)))))
 
 eats_cast : Eats s.cast
 eats_cast = eats_made s.cast_of (eats_first (eats_at sign.Open) (shrinks_both (shrinks (eats_token sign.Struct))
-    (shrinks_both (shrinks eats_name) (shrinks_both (shrinks (eats_token sign.Star)) (shrinks (eats_token sign.Close))))))
+    (shrinks_both (shrinks eats_name)
+    (shrinks_both (shrinks (eats_token sign.Star)) (shrinks (eats_token sign.Close))))))
 
 pub shrinks_rhs : (n : ℕ) → Shrinks (s.rhs n)
 shrinks_rhs n = shrinks_or (shrinks_made rhs'.Operand (shrinks (eats_operand n)))
-    (shrinks_made s.malloc_of (shrinks_both (shrinks_optional (shrinks eats_cast)) (shrinks_both (shrinks (eats_at sign.Malloc)) (shrinks (eats_bracketed (shrinks eats_size))))))
+    (shrinks_made s.malloc_of
+    (shrinks_both (shrinks_optional (shrinks eats_cast))
+    (shrinks_both (shrinks (eats_at sign.Malloc)) (shrinks (eats_bracketed (shrinks eats_size))))))
 
 pub eats_simple : (n : ℕ) → Eats (s.simple n)
-eats_simple n = eats_or (eats_made s.assign_of (eats_first eats_path (shrinks_both (shrinks (eats_token sign.Assign)) (shrinks_rhs n))))
-    (eats_or (eats_made simple'.Call (eats_call n)) (eats_made s.free_of (eats_first (eats_at sign.Free) (shrinks (eats_bracketed (shrinks eats_path))))))
+eats_simple n =
+    eats_or
+    (eats_made s.assign_of (eats_first eats_path (shrinks_both (shrinks (eats_token sign.Assign)) (shrinks_rhs n))))
+    (eats_or (eats_made simple'.Call (eats_call n))
+    (eats_made s.free_of (eats_first (eats_at sign.Free) (shrinks (eats_bracketed (shrinks eats_path))))))
 
 pub shrinks_data : Shrinks s.data_part
-shrinks_data = shrinks_or (shrinks_made data'.Int (shrinks (eats_at sign.Int))) (shrinks_made s.enum_of (shrinks_both (shrinks (eats_at sign.Enum)) (shrinks eats_name)))
+shrinks_data = shrinks_or (shrinks_made data'.Int (shrinks (eats_at sign.Int)))
+    (shrinks_made s.enum_of (shrinks_both (shrinks (eats_at sign.Enum)) (shrinks eats_name)))

@@ -1,5 +1,6 @@
 -- Cells keep their numbers and structs when a field or a datum is written, a cell is made, or another cell ends.
-use Rattle.std.proofs.Common.{◌≡◌, ◌<◌, ◌+◌, ◌⊎◌, inl, inr, ℕ, Bool, true, false, nat_eq, if◌then◌else◌, List, [], ◌∷◌, ◌++◌, slice_set, refl, sym, ◌∙◌, subst, arith}
+use Rattle.std.proofs.Common.{◌≡◌, ◌<◌, ◌+◌, ◌⊎◌, inl, inr, ℕ, Bool, true, false, nat_eq, if◌then◌else◌, List, [], ◌∷◌}
+use Rattle.std.proofs.Common.{◌++◌, slice_set, refl, sym, ◌∙◌, subst, arith}
 use Rattle.fore_base.specs.declared.store.Value.{Value}
 use Rattle.fore_base.specs.declared.store.Datum.{Datum}
 use Rattle.fore_base.specs.declared.store.CellRec.{CellRec}
@@ -32,7 +33,8 @@ pub heads_with : (n f : ℕ) (v : Value) (cs : List CellRec) → SameHeads cs (w
 heads_with n f v [] = tt
 heads_with n f v (c ∷ cs) = here (nat_eq c.number n) (heads_with n f v cs)
   where
-    here : (b : Bool) → SameHeads cs (with_field cs n f v) → SameHeads (c ∷ cs) (if b then record c { fields = slice_set c.fields f v } ∷ cs else c ∷ with_field cs n f v)
+    here : (b : Bool) → SameHeads cs (with_field cs n f v)
+        → SameHeads (c ∷ cs) (if b then record c { fields = slice_set c.fields f v } ∷ cs else c ∷ with_field cs n f v)
     here true rest = (refl, refl, same_heads cs)
     here false rest = (refl, refl, rest)
 
@@ -40,7 +42,8 @@ pub heads_with_datum : (n f : ℕ) (d : Datum) (cs : List CellRec) → SameHeads
 heads_with_datum n f d [] = tt
 heads_with_datum n f d (c ∷ cs) = here (nat_eq c.number n) (heads_with_datum n f d cs)
   where
-    here : (b : Bool) → SameHeads cs (with_datum cs n f d) → SameHeads (c ∷ cs) (if b then record c { datums = slice_set c.datums f d } ∷ cs else c ∷ with_datum cs n f d)
+    here : (b : Bool) → SameHeads cs (with_datum cs n f d)
+        → SameHeads (c ∷ cs) (if b then record c { datums = slice_set c.datums f d } ∷ cs else c ∷ with_datum cs n f d)
     here true rest = (refl, refl, same_heads cs)
     here false rest = (refl, refl, rest)
 
@@ -62,13 +65,18 @@ pub heads_differ : (cs ds : List CellRec) → SameHeads cs ds → AllDiffer cs �
 heads_differ [] [] same apart = tt
 heads_differ [] (d ∷ ds) same apart = absurd same
 heads_differ (c ∷ cs) [] same apart = absurd same
-heads_differ (c ∷ cs) (d ∷ ds) same apart = ((λ has. apart.0 (subst (HasCell cs) (sym same.0) (heads_cell cs ds d.number same.2 has))), heads_differ cs ds same.2 apart.1)
+heads_differ (c ∷ cs) (d ∷ ds) same apart = (
+  (λ has. apart.0 (subst (HasCell cs) (sym same.0) (heads_cell cs ds d.number same.2 has))),
+  heads_differ cs ds same.2 apart.1,
+)
 
-pub heads_below : (next : ℕ) (cs ds : List CellRec) → SameHeads cs ds → Every (IsBelow next) cs → Every (IsBelow next) ds
+pub heads_below : (next : ℕ) (cs ds : List CellRec) → SameHeads cs ds → Every (IsBelow next) cs
+    → Every (IsBelow next) ds
 heads_below next [] [] same below = tt
 heads_below next [] (d ∷ ds) same below = absurd same
 heads_below next (c ∷ cs) [] same below = absurd same
-heads_below next (c ∷ cs) (d ∷ ds) same below = (subst (λ n. n < next) same.0 below.0, heads_below next cs ds same.2 below.1)
+heads_below next (c ∷ cs) (d ∷ ds) same below =
+    (subst (λ n. n < next) same.0 below.0, heads_below next cs ds same.2 below.1)
 
 -- The end of a cell
 
@@ -80,7 +88,8 @@ without_cell n m (c ∷ cs) has = here (nat_eq c.number n) (without_cell n m cs)
     later rest (inl e) = inl e
     later rest (inr g) = inr (rest g)
 
-    here : (b : Bool) → (HasCell (without n cs) m → HasCell cs m) → HasCell (if b then without n cs else dangle_in n c ∷ without n cs) m → HasCell (c ∷ cs) m
+    here : (b : Bool) → (HasCell (without n cs) m → HasCell cs m)
+        → HasCell (if b then without n cs else dangle_in n c ∷ without n cs) m → HasCell (c ∷ cs) m
     here true rest h = inr (rest h)
     here false rest h = later rest h
 
@@ -96,18 +105,21 @@ pub without_below : (n next : ℕ) (cs : List CellRec) → Every (IsBelow next) 
 without_below n next [] below = tt
 without_below n next (c ∷ cs) below = here (nat_eq c.number n) (without_below n next cs below.1)
   where
-    here : (b : Bool) → Every (IsBelow next) (without n cs) → Every (IsBelow next) (if b then without n cs else dangle_in n c ∷ without n cs)
+    here : (b : Bool) → Every (IsBelow next) (without n cs)
+        → Every (IsBelow next) (if b then without n cs else dangle_in n c ∷ without n cs)
     here true rest = rest
     here false rest = (below.0, rest)
 
-pub without_cell_of : (n m t : ℕ) (cs : List CellRec) → nat_eq m n ≡ false → HasCellOf cs m t → HasCellOf (without n cs) m t
+pub without_cell_of : (n m t : ℕ) (cs : List CellRec) → nat_eq m n ≡ false → HasCellOf cs m t
+    → HasCellOf (without n cs) m t
 without_cell_of n m t [] other has = has
 without_cell_of n m t (c ∷ cs) other (inl e) =
     let stays : nat_eq c.number n ≡ false = subst (λ k. nat_eq k n ≡ false) (sym e.0) other in
     rw stays (inl e)
 without_cell_of n m t (c ∷ cs) other (inr has) = here (nat_eq c.number n) (without_cell_of n m t cs other has)
   where
-    here : (b : Bool) → HasCellOf (without n cs) m t → HasCellOf (if b then without n cs else dangle_in n c ∷ without n cs) m t
+    here : (b : Bool) → HasCellOf (without n cs) m t
+        → HasCellOf (if b then without n cs else dangle_in n c ∷ without n cs) m t
     here true rest = rest
     here false rest = inr rest
 
@@ -140,9 +152,12 @@ append_apart (b ∷ cs) c fresh apart = (
   append_apart cs c (λ has. fresh (inr has)) apart.1,
 )
 
-pub append_differ : (next : ℕ) (cs : List CellRec) (c : CellRec) → c.number ≡ next → Every (IsBelow next) cs → AllDiffer cs → AllDiffer (cs ++ c ∷ [])
-append_differ next cs c is below apart = append_apart cs c (λ has. omega (arith, is, cell_below next c.number cs below has)) apart
+pub append_differ : (next : ℕ) (cs : List CellRec) (c : CellRec) → c.number ≡ next → Every (IsBelow next) cs
+    → AllDiffer cs → AllDiffer (cs ++ c ∷ [])
+append_differ next cs c is below apart =
+    append_apart cs c (λ has. omega (arith, is, cell_below next c.number cs below has)) apart
 
-pub append_below : (next : ℕ) (cs : List CellRec) (c : CellRec) → c.number ≡ next → Every (IsBelow next) cs → Every (IsBelow (next + 1)) (cs ++ c ∷ [])
+pub append_below : (next : ℕ) (cs : List CellRec) (c : CellRec) → c.number ≡ next → Every (IsBelow next) cs
+    → Every (IsBelow (next + 1)) (cs ++ c ∷ [])
 append_below next [] c is below = (omega (arith, is), tt)
 append_below next (b ∷ cs) c is below = (omega (arith, below.0), append_below next cs c is below.1)

@@ -1,5 +1,6 @@
 -- Changes of a store that bring no reference but to cells that were reached: a cell that had leaked stays so.
-use Rattle.std.proofs.Common.{◌≡◌, ◌⊎◌, inl, inr, ℕ, zero, suc, Bool, true, false, nat_eq, if◌then◌else◌, Result, Ok, Err, List, [], ◌∷◌, slice_set, slice_index_or, refl, sym, ap, ◌∙◌, subst, true≢false}
+use Rattle.std.proofs.Common.{◌≡◌, ◌⊎◌, inl, inr, ℕ, zero, suc, Bool, true, false, nat_eq, if◌then◌else◌, Result, Ok}
+use Rattle.std.proofs.Common.{Err, List, [], ◌∷◌, slice_set, slice_index_or, refl, sym, ap, ◌∙◌, subst, true≢false}
 use Rattle.std.proofs.lemmas.Bool.{eqb-true}
 use Rattle.fore_base.specs.declared.fault.Fault.{Fault}
 use Rattle.fore_base.specs.declared.fault.Fault.TheVariants.{Leak}
@@ -11,7 +12,8 @@ use Rattle.fore_base.specs.declared.store.CellRec.{CellRec}
 use Rattle.fore_base.specs.declared.store.Store.{Store}
 use Rattle.fore_base.specs.Lists.{IsIn, Paired}
 use Rattle.fore_base.specs.Heap.{Reach, by_var, by_field, Leaked, leaks}
-use Rattle.fore_base.specs.Stores.{onward, var_of, set_var, set_datum, set_each, kill, field_in, with_field, with_datum, walk, write_from, store_datum, freed}
+use Rattle.fore_base.specs.Stores.{onward, var_of, set_var, set_datum, set_each, kill, field_in, with_field, with_datum}
+use Rattle.fore_base.specs.Stores.{walk, write_from, store_datum, freed}
 use Rattle.fore_base.proofs.ListLemmas.{paired_same}
 use Rattle.fore_base.proofs.Leaks.{leaks_leaked, sound_unleaked}
 use Rattle.c_types.specs.declared.program.Path.{Path}
@@ -21,8 +23,10 @@ use Rattle.c_types.specs.declared.program.PtrRhs.{PtrRhs}
 use Rattle.c_types.specs.declared.program.PtrRhs.TheVariants.{Path as RhsPath, Null as RhsNull, New as RhsNew}
 use Rattle.c_types.specs.declared.program.Act.{Act}
 use Rattle.c_types.specs.declared.program.Act.TheVariants.{SetPtr, SetData, Free, Error, Halt, Return, Break, Continue}
-use Rattle.c_types.specs.Control.{Items, Done, Do, Close, If, Loop, Again, DoLoop, DoAgain, Ask, Not, Both, Either, closed_ptrs, closed_datums, after_again, from_again, ◌then◌}
-use Rattle.c_types.specs.Steps.{Goes, Faults, read, read_data_rhs, look_at, atom_of, write_path, write_data, assign, assign_data, free_path, settle, settled, act_turn, test_turn, turn_of}
+use Rattle.c_types.specs.Control.{Items, Done, Do, Close, If, Loop, Again, DoLoop, DoAgain, Ask, Not, Both, Either}
+use Rattle.c_types.specs.Control.{closed_ptrs, closed_datums, after_again, from_again, ◌then◌}
+use Rattle.c_types.specs.Steps.{Goes, Faults, read, read_data_rhs, look_at, atom_of, write_path, write_data, assign}
+use Rattle.c_types.specs.Steps.{assign_data, free_path, settle, settled, act_turn, test_turn, turn_of}
 use Rattle.c_types.specs.Losses.{is_cell, got_cell, assign_loses, act_loses, loses}
 use Rattle.c_types.proofs.Turns.{finished_stops}
 
@@ -48,8 +52,10 @@ back : (s : Store) (cs ds : List CellRec) → Paired (AddedCell s) cs ds → (d 
 back s [] [] p d h = absurd h
 back s [] (e ∷ ds) p d h = absurd p
 back s (c ∷ cs) [] p d h = absurd p
-back s (c ∷ cs) (e ∷ ds) p d (inl is) = record { cell = c; is_there = inl refl; added = subst (λ x. AddedCell s c x) (sym is) p.0 }
-back s (c ∷ cs) (e ∷ ds) p d (inr h) = let g : Back s d cs = back s cs ds p.1 d h in record { cell = g.cell; is_there = inr g.is_there; added = g.added }
+back s (c ∷ cs) (e ∷ ds) p d (inl is) =
+    record { cell = c; is_there = inl refl; added = subst (λ x. AddedCell s c x) (sym is) p.0 }
+back s (c ∷ cs) (e ∷ ds) p d (inr h) = let g : Back s d cs = back s cs ds p.1 d h in
+    record { cell = g.cell; is_there = inr g.is_there; added = g.added }
 
 pub record Ahead (c : CellRec) (ds : List CellRec) : Type 0 where
   pub cell : CellRec
@@ -60,8 +66,10 @@ ahead : (s : Store) (cs ds : List CellRec) → Paired (AddedCell s) cs ds → (c
 ahead s [] [] p c h = absurd h
 ahead s [] (d ∷ ds) p c h = absurd p
 ahead s (b ∷ cs) [] p c h = absurd p
-ahead s (b ∷ cs) (d ∷ ds) p c (inl is) = record { cell = d; is_there = inl refl; same = p.0.0 ∙ ap (λ (x : CellRec). x.number) (sym is) }
-ahead s (b ∷ cs) (d ∷ ds) p c (inr h) = let g : Ahead c ds = ahead s cs ds p.1 c h in record { cell = g.cell; is_there = inr g.is_there; same = g.same }
+ahead s (b ∷ cs) (d ∷ ds) p c (inl is) =
+    record { cell = d; is_there = inl refl; same = p.0.0 ∙ ap (λ (x : CellRec). x.number) (sym is) }
+ahead s (b ∷ cs) (d ∷ ds) p c (inr h) = let g : Ahead c ds = ahead s cs ds p.1 c h in
+    record { cell = g.cell; is_there = inr g.is_there; same = g.same }
 
 reach_back : (s t : Store) → Adds s t → {n : ℕ} → Reach t n → Reach s n
 reach_back s t a {n} (by_var h) = a.vars n h
@@ -69,7 +77,8 @@ reach_back s t a {n} (by_field d there reached field) =
     here (back s s.cells t.cells a.cells d there) (reach_back s t a reached)
   where
     here : Back s d s.cells → Reach s d.number → Reach s n
-    here b r = elim (b.added.1 n field) [ inl i ↦ by_field b.cell b.is_there (subst (Reach s) b.added.0 r) i | inr far ↦ far ]
+    here b r = elim (b.added.1 n field)
+        [ inl i ↦ by_field b.cell b.is_there (subst (Reach s) b.added.0 r) i | inr far ↦ far ]
 
 -- where some cell had leaked, some has leaked
 pub added_leaks : (s t : Store) → Adds s t → leaks s ≡ true → leaks t ≡ true
@@ -78,7 +87,11 @@ added_leaks s t a leak = here (leaks t) refl
     leaked : Leaked s → Leaked t
     leaked l =
         let d : Ahead l.cell t.cells = ahead s s.cells t.cells a.cells l.cell l.is_there in
-        record { cell = d.cell; is_there = d.is_there; unreached = λ r. l.unreached (subst (Reach s) d.same (reach_back s t a r)) }
+        record {
+          cell = d.cell;
+          is_there = d.is_there;
+          unreached = λ r. l.unreached (subst (Reach s) d.same (reach_back s t a r));
+        }
 
     here : (b : Bool) → leaks t ≡ b → leaks t ≡ true
     here true is = is
@@ -90,7 +103,8 @@ same_cells s cs = paired_same (AddedCell s) (λ c. (refl, λ n h. inl h)) cs
 pub adds_none : (s : Store) → Adds s s
 adds_none s = record { vars = λ n h. by_var h; cells = same_cells s s.cells }
 
-in_set : (vs : List Value) (x : ℕ) (v : Value) (n : ℕ) → IsIn (Cell n) (slice_set vs x v) → IsIn (Cell n) vs ⊎ (v ≡ Cell n)
+in_set : (vs : List Value) (x : ℕ) (v : Value) (n : ℕ) → IsIn (Cell n) (slice_set vs x v) → IsIn (Cell n) vs
+    ⊎ (v ≡ Cell n)
 in_set [] x v n h = absurd h
 in_set (w ∷ vs) zero v n (inl is) = inr (sym is)
 in_set (w ∷ vs) zero v n (inr h) = inl (inr h)
@@ -99,10 +113,15 @@ in_set (w ∷ vs) (suc x) v n (inr h) = elim (in_set vs x v n h) [ inl i ↦ inl
 
 in_unset : (vs : List Value) (xs : List ℕ) (n : ℕ) → IsIn (Cell n) (set_each vs xs Uninit) → IsIn (Cell n) vs
 in_unset vs [] n h = h
-in_unset vs (x ∷ xs) n h = elim (in_set vs x Uninit n (in_unset (slice_set vs x Uninit) xs n h)) [ inl i ↦ i | inr e ↦ cc ]
+in_unset vs (x ∷ xs) n h =
+    elim (in_set vs x Uninit n (in_unset (slice_set vs x Uninit) xs n h)) [ inl i ↦ i | inr e ↦ cc ]
 
 pub set_var_adds : (s : Store) (x : ℕ) (v : Value) → IsTold s v → Adds s (set_var s x v)
-set_var_adds s x v told = record { vars = λ n h. elim (in_set s.vars x v n h) [ inl i ↦ by_var i | inr e ↦ told n e ]; cells = same_cells s s.cells }
+set_var_adds s x v told =
+    record {
+      vars = λ n h. elim (in_set s.vars x v n h) [ inl i ↦ by_var i | inr e ↦ told n e ];
+      cells = same_cells s s.cells;
+    }
 
 pub kill_adds : (s : Store) (ps ds : List ℕ) → Adds s (kill ps ds s)
 kill_adds s ps ds = record { vars = λ n h. by_var (in_unset s.vars ps n h); cells = same_cells s s.cells }
@@ -110,12 +129,16 @@ kill_adds s ps ds = record { vars = λ n h. by_var (in_unset s.vars ps n h); cel
 pub set_datum_adds : (s : Store) (x : ℕ) (d : Datum) → Adds s (set_datum s x d)
 set_datum_adds s x d = record { vars = λ n h. by_var h; cells = same_cells s s.cells }
 
-with_field_added : (s : Store) (n f : ℕ) (v : Value) → IsTold s v → (cs : List CellRec) → Paired (AddedCell s) cs (with_field cs n f v)
+with_field_added : (s : Store) (n f : ℕ) (v : Value) → IsTold s v → (cs : List CellRec)
+    → Paired (AddedCell s) cs (with_field cs n f v)
 with_field_added s n f v told [] = tt
 with_field_added s n f v told (c ∷ cs) = here (nat_eq c.number n) (with_field_added s n f v told cs)
   where
-    here : (b : Bool) → Paired (AddedCell s) cs (with_field cs n f v) → Paired (AddedCell s) (c ∷ cs) (if b then record c { fields = slice_set c.fields f v } ∷ cs else c ∷ with_field cs n f v)
-    here true rest = ((refl, λ m h. elim (in_set c.fields f v m h) [ inl i ↦ inl i | inr e ↦ inr (told m e) ]), same_cells s cs)
+    here : (b : Bool) → Paired (AddedCell s) cs (with_field cs n f v)
+        → Paired (AddedCell s) (c ∷ cs)
+        (if b then record c { fields = slice_set c.fields f v } ∷ cs else c ∷ with_field cs n f v)
+    here true rest =
+        ((refl, λ m h. elim (in_set c.fields f v m h) [ inl i ↦ inl i | inr e ↦ inr (told m e) ]), same_cells s cs)
     here false rest = ((refl, λ m h. inl h), rest)
 
 pub field_adds : (s : Store) (n f : ℕ) (v : Value) → IsTold s v → Adds s (record s { cells = with_field s.cells n f v })
@@ -125,7 +148,9 @@ with_datum_added : (s : Store) (n f : ℕ) (d : Datum) (cs : List CellRec) → P
 with_datum_added s n f d [] = tt
 with_datum_added s n f d (c ∷ cs) = here (nat_eq c.number n) (with_datum_added s n f d cs)
   where
-    here : (b : Bool) → Paired (AddedCell s) cs (with_datum cs n f d) → Paired (AddedCell s) (c ∷ cs) (if b then record c { datums = slice_set c.datums f d } ∷ cs else c ∷ with_datum cs n f d)
+    here : (b : Bool) → Paired (AddedCell s) cs (with_datum cs n f d)
+        → Paired (AddedCell s) (c ∷ cs)
+        (if b then record c { datums = slice_set c.datums f d } ∷ cs else c ∷ with_datum cs n f d)
     here true rest = ((refl, λ m h. inl h), same_cells s cs)
     here false rest = ((refl, λ m h. inl h), rest)
 
@@ -142,12 +167,16 @@ var_in (v ∷ vs) (suc x) n e = inr (var_in vs x n e)
 pub var_told : (s : Store) (x : ℕ) → IsTold s (var_of s x)
 var_told s x n e = by_var (var_in s.vars x n e)
 
-field_told_in : (s : Store) (m f n : ℕ) → Reach s m → (cs : List CellRec) → ((c : CellRec) → IsIn c cs → IsIn c s.cells) → field_in cs m f ≡ Cell n → Reach s n
+field_told_in : (s : Store) (m f n : ℕ) → Reach s m → (cs : List CellRec) → ((c : CellRec) → IsIn c cs → IsIn c s.cells)
+    → field_in cs m f ≡ Cell n → Reach s n
 field_told_in s m f n reached [] there e = cc
-field_told_in s m f n reached (c ∷ cs) there e = here (nat_eq c.number m) refl e (field_told_in s m f n reached cs (λ d h. there d (inr h)))
+field_told_in s m f n reached (c ∷ cs) there e =
+    here (nat_eq c.number m) refl e (field_told_in s m f n reached cs (λ d h. there d (inr h)))
   where
-    here : (b : Bool) → nat_eq c.number m ≡ b → (if b then slice_index_or c.fields f Uninit else field_in cs m f) ≡ Cell n → (field_in cs m f ≡ Cell n → Reach s n) → Reach s n
-    here true is g rest = by_field c (there c (inl refl)) (subst (Reach s) (sym (eqb-true c.number m is)) reached) (var_in c.fields f n g)
+    here : (b : Bool) → nat_eq c.number m ≡ b → (if b then slice_index_or c.fields f Uninit else field_in cs m f)
+        ≡ Cell n → (field_in cs m f ≡ Cell n → Reach s n) → Reach s n
+    here true is g rest = by_field c (there c (inl refl)) (subst (Reach s) (sym (eqb-true c.number m is)) reached)
+        (var_in c.fields f n g)
     here false is g rest = rest g
 
 field_told : (s : Store) (m f : ℕ) → Reach s m → IsTold s (field_in s.cells m f)
@@ -168,11 +197,13 @@ read_told s p v e = walk_told s p.fields (var_of s p.var) v (var_told s p.var) e
 abbrev AddsAll : Store → Result Store Fault → Type 0
 AddsAll s r = (t : Store) → r ≡ Ok t → Adds s t
 
-write_from_adds : (s : Store) (fs : List ℕ) (v : Value) (f : ℕ) (w : Value) → IsTold s w → AddsAll s (write_from s v f fs w)
+write_from_adds : (s : Store) (fs : List ℕ) (v : Value) (f : ℕ) (w : Value) → IsTold s w
+    → AddsAll s (write_from s v f fs w)
 write_from_adds s [] Null f w told t e = cc
 write_from_adds s [] Uninit f w told t e = cc
 write_from_adds s [] Dangling f w told t e = cc
-write_from_adds s [] (Cell n) f w told t e = let same : record s { cells = with_field s.cells n f w } ≡ t = cc in subst (Adds s) same (field_adds s n f w told)
+write_from_adds s [] (Cell n) f w told t e = let same : record s { cells = with_field s.cells n f w } ≡ t = cc in
+    subst (Adds s) same (field_adds s n f w told)
 write_from_adds s (g ∷ gs) Null f w told t e = cc
 write_from_adds s (g ∷ gs) Uninit f w told t e = cc
 write_from_adds s (g ∷ gs) Dangling f w told t e = cc
@@ -186,23 +217,29 @@ store_datum_adds : (s : Store) (v : Value) (f : ℕ) (d : Datum) → AddsAll s (
 store_datum_adds s Null f d t e = cc
 store_datum_adds s Uninit f d t e = cc
 store_datum_adds s Dangling f d t e = cc
-store_datum_adds s (Cell n) f d t e = let same : record s { cells = with_datum s.cells n f d } ≡ t = cc in subst (Adds s) same (datum_adds s n f d)
+store_datum_adds s (Cell n) f d t e = let same : record s { cells = with_datum s.cells n f d } ≡ t = cc in
+    subst (Adds s) same (datum_adds s n f d)
 
-onward_adds : {A : Type 0} (s : Store) (r : Result A Fault) (next : A → Result Store Fault) → ((a : A) → r ≡ Ok a → AddsAll s (next a)) → AddsAll s (onward r next)
+onward_adds : {A : Type 0} (s : Store) (r : Result A Fault) (next : A → Result Store Fault)
+    → ((a : A) → r ≡ Ok a → AddsAll s (next a)) → AddsAll s (onward r next)
 onward_adds s (Ok a) next rest t e = rest a refl t e
 onward_adds s (Err k) next rest t e = cc
 
 null_told : (s : Store) → IsTold s Null
 null_told s n e = cc
 
-assign_adds : (shapes : List Shape) (s : Store) (to : Path) (from : PtrRhs) → assign_loses s to from ≡ false → AddsAll s (assign shapes s to from)
-assign_adds shapes s to (RhsPath from) none = onward_adds s (read s from) (λ v. write_path s to.var to.fields v) (λ v is. write_path_adds s to.var to.fields v (read_told s from v is))
+assign_adds : (shapes : List Shape) (s : Store) (to : Path) (from : PtrRhs) → assign_loses s to from ≡ false
+    → AddsAll s (assign shapes s to from)
+assign_adds shapes s to (RhsPath from) none =
+    onward_adds s (read s from) (λ v. write_path s to.var to.fields v)
+    (λ v is. write_path_adds s to.var to.fields v (read_told s from v is))
 assign_adds shapes s to RhsNull none = write_path_adds s to.var to.fields Null (null_told s)
 assign_adds shapes s to (RhsNew shape) none = absurd (true≢false none)
 
 write_data_adds : (s : Store) (to : DataPath) (d : Datum) → AddsAll s (write_data s to d)
 write_data_adds s (DataVar x) d t e = let same : set_datum s x d ≡ t = cc in subst (Adds s) same (set_datum_adds s x d)
-write_data_adds s (DataField base f) d t e = onward_adds s (read s base) (λ v. store_datum s v f d) (λ v is. store_datum_adds s v f d) t e
+write_data_adds s (DataField base f) d t e =
+    onward_adds s (read s base) (λ v. store_datum s v f d) (λ v is. store_datum_adds s v f d) t e
 
 freed_adds : (s : Store) (v : Value) → is_cell v ≡ false → AddsAll s (freed s v)
 freed_adds s Null none t e = let same : s ≡ t = cc in subst (Adds s) same (adds_none s)
@@ -215,33 +252,43 @@ freed_adds s (Cell n) none t e = absurd (true≢false none)
 leaked_settles : (t : Store) (is js : Items) (u : Store) → leaks t ≡ true → settle t is ≡ Goes js u → ⊥
 leaked_settles t is js u leak e = let wrong : Faults Leak ≡ Goes js u = rw leak at e in cc
 
-settled_leaks : (s : Store) (r : Result Store Fault) (is js : Items) (u : Store) → AddsAll s r → leaks s ≡ true → settled r is ≡ Goes js u → ⊥
+settled_leaks : (s : Store) (r : Result Store Fault) (is js : Items) (u : Store) → AddsAll s r → leaks s ≡ true
+    → settled r is ≡ Goes js u → ⊥
 settled_leaks s (Ok t) is js u adds leak e = leaked_settles t is js u (added_leaks s t (adds t refl) leak) e
 settled_leaks s (Err k) is js u adds leak e = cc
 
 module _ (shapes : List Shape) where
-  act_leaks : (a : Act) (is js : Items) (s t : Store) (x : ℕ) → act_loses a is s ≡ false → leaks s ≡ true → act_turn shapes a is s x ≡ Goes js t → ⊥
-  act_leaks (SetPtr to from) is js s t x none leak e = settled_leaks s (assign shapes s to from) is js t (assign_adds shapes s to from none) leak e
+  act_leaks : (a : Act) (is js : Items) (s t : Store) (x : ℕ) → act_loses a is s ≡ false → leaks s ≡ true
+      → act_turn shapes a is s x ≡ Goes js t → ⊥
+  act_leaks (SetPtr to from) is js s t x none leak e =
+      settled_leaks s (assign shapes s to from) is js t (assign_adds shapes s to from none) leak e
   act_leaks (SetData to from) is js s t x none leak e =
-      settled_leaks s (assign_data s to from x) is js t (onward_adds s (read_data_rhs s from x) (λ d. write_data s to d) (λ d is. write_data_adds s to d)) leak e
+      settled_leaks s (assign_data s to from x) is js t
+      (onward_adds s (read_data_rhs s from x) (λ d. write_data s to d) (λ d is. write_data_adds s to d)) leak e
   act_leaks (Free p) is js s t x none leak e =
-      settled_leaks s (free_path s p) is js t (onward_adds s (read s p) (freed s) (λ v same. freed_adds s v (ap got_cell (sym same) ∙ none))) leak e
+      settled_leaks s (free_path s p) is js t
+      (onward_adds s (read s p) (freed s) (λ v same. freed_adds s v (ap got_cell (sym same) ∙ none))) leak e
   act_leaks Error is js s t x none leak e = cc
   act_leaks Halt is js s t x none leak e = cc
   act_leaks (Return operand) is js s t x none leak e = finished_stops (look_at s operand) js t e
-  act_leaks Break is js s t x none leak e = leaked_settles _ (after_again is) js t (added_leaks s _ (kill_adds s (closed_ptrs is) (closed_datums is)) leak) e
-  act_leaks Continue is js s t x none leak e = leaked_settles _ (from_again is) js t (added_leaks s _ (kill_adds s (closed_ptrs is) (closed_datums is)) leak) e
+  act_leaks Break is js s t x none leak e =
+      leaked_settles _ (after_again is) js t (added_leaks s _ (kill_adds s (closed_ptrs is) (closed_datums is)) leak) e
+  act_leaks Continue is js s t x none leak e =
+      leaked_settles _ (from_again is) js t (added_leaks s _ (kill_adds s (closed_ptrs is) (closed_datums is)) leak) e
 
-  test_leaks : (r : Result Bool Fault) (x y is js : Items) (s t : Store) → leaks s ≡ true → test_turn r x y is s ≡ Goes js t → ⊥
+  test_leaks : (r : Result Bool Fault) (x y is js : Items) (s t : Store) → leaks s ≡ true → test_turn r x y is s
+      ≡ Goes js t → ⊥
   test_leaks (Ok true) x y is js s t leak e = leaked_settles s (x then is) js t leak e
   test_leaks (Ok false) x y is js s t leak e = leaked_settles s (y then is) js t leak e
   test_leaks (Err k) x y is js s t leak e = cc
 
   -- where some cell had leaked, the step does not go on
-  pub turn_leaks : (is js : Items) (s t : Store) (x : ℕ) → loses is s ≡ false → leaks s ≡ true → turn_of shapes is s x ≡ Goes js t → ⊥
+  pub turn_leaks : (is js : Items) (s t : Store) (x : ℕ) → loses is s ≡ false → leaks s ≡ true → turn_of shapes is s x
+      ≡ Goes js t → ⊥
   turn_leaks Done js s t x none leak e = cc
   turn_leaks (Do a m is) js s t x none leak e = act_leaks a is js s t x none leak e
-  turn_leaks (Close ps ds m is) js s t x none leak e = leaked_settles _ is js t (added_leaks s _ (kill_adds s ps ds) leak) e
+  turn_leaks (Close ps ds m is) js s t x none leak e =
+      leaked_settles _ is js t (added_leaks s _ (kill_adds s ps ds) leak) e
   turn_leaks (If (Ask a m) y n is) js s t x none leak e = test_leaks (atom_of a s x) y n is js s t leak e
   turn_leaks (If (Not c) y n is) js s t x none leak e = cc
   turn_leaks (If (Both c d) y n is) js s t x none leak e = cc

@@ -1,5 +1,6 @@
 -- Changes of a store that take no reference to a cell away: where no cell had leaked before, none has after.
-use Rattle.std.proofs.Common.{◌≡◌, inl, inr, ℕ, zero, suc, Bool, true, false, ◌||◌, nat_eq, if◌then◌else◌, Ok, List, [], ◌∷◌, slice_set, slice_index_or, refl, sym, ap, ◌∙◌, subst, true≢false}
+use Rattle.std.proofs.Common.{◌≡◌, inl, inr, ℕ, zero, suc, Bool, true, false, ◌||◌, nat_eq, if◌then◌else◌, Ok, List, []}
+use Rattle.std.proofs.Common.{◌∷◌, slice_set, slice_index_or, refl, sym, ap, ◌∙◌, subst, true≢false}
 use Rattle.fore_base.specs.declared.store.Value.{Value}
 use Rattle.fore_base.specs.declared.store.Value.TheVariants.{Null, Uninit, Dangling, Cell}
 use Rattle.fore_base.specs.declared.store.Datum.{Datum}
@@ -7,7 +8,8 @@ use Rattle.fore_base.specs.declared.store.CellRec.{CellRec}
 use Rattle.fore_base.specs.declared.store.Store.{Store}
 use Rattle.fore_base.specs.Lists.{IsIn, Paired}
 use Rattle.fore_base.specs.Heap.{Reach, by_var, by_field, Leaked, leaks}
-use Rattle.fore_base.specs.Stores.{var_of, set_var, set_datum, set_each, kill, field_in, with_field, with_datum, walk, write_from, store_datum}
+use Rattle.fore_base.specs.Stores.{var_of, set_var, set_datum, set_each, kill, field_in, with_field, with_datum, walk}
+use Rattle.fore_base.specs.Stores.{write_from, store_datum}
 use Rattle.fore_base.proofs.ListLemmas.{paired_same}
 use Rattle.fore_base.proofs.Leaks.{leaks_leaked, sound_reached}
 use Rattle.c_types.specs.Losses.{is_cell, hold_cell}
@@ -32,8 +34,10 @@ pub after : (cs ds : List CellRec) → Paired KeptCell cs ds → (c : CellRec) �
 after [] [] p c h = absurd h
 after [] (d ∷ ds) p c h = absurd p
 after (b ∷ cs) [] p c h = absurd p
-after (b ∷ cs) (d ∷ ds) p c (inl e) = record { cell = d; is_there = inl refl; kept = subst (λ x. KeptCell x d) (sym e) p.0 }
-after (b ∷ cs) (d ∷ ds) p c (inr h) = let g : After c ds = after cs ds p.1 c h in record { cell = g.cell; is_there = inr g.is_there; kept = g.kept }
+after (b ∷ cs) (d ∷ ds) p c (inl e) =
+    record { cell = d; is_there = inl refl; kept = subst (λ x. KeptCell x d) (sym e) p.0 }
+after (b ∷ cs) (d ∷ ds) p c (inr h) = let g : After c ds = after cs ds p.1 c h in
+    record { cell = g.cell; is_there = inr g.is_there; kept = g.kept }
 
 -- where d was before it
 pub record Before (d : CellRec) (cs : List CellRec) : Type 0 where
@@ -45,8 +49,10 @@ pub before : (cs ds : List CellRec) → Paired KeptCell cs ds → (d : CellRec) 
 before [] [] p d h = absurd h
 before [] (e ∷ ds) p d h = absurd p
 before (c ∷ cs) [] p d h = absurd p
-before (c ∷ cs) (e ∷ ds) p d (inl is) = record { cell = c; is_there = inl refl; same = ap (λ (x : CellRec). x.number) is ∙ p.0.0 }
-before (c ∷ cs) (e ∷ ds) p d (inr h) = let g : Before d cs = before cs ds p.1 d h in record { cell = g.cell; is_there = inr g.is_there; same = g.same }
+before (c ∷ cs) (e ∷ ds) p d (inl is) =
+    record { cell = c; is_there = inl refl; same = ap (λ (x : CellRec). x.number) is ∙ p.0.0 }
+before (c ∷ cs) (e ∷ ds) p d (inr h) = let g : Before d cs = before cs ds p.1 d h in
+    record { cell = g.cell; is_there = inr g.is_there; same = g.same }
 
 -- what was reached is reached
 pub reach_kept : (s t : Store) → Keeps s t → {n : ℕ} → Reach s n → Reach t n
@@ -84,11 +90,13 @@ paired_both (c ∷ cs) (d ∷ ds) [] p q = absurd q
 paired_both (c ∷ cs) (d ∷ ds) (e ∷ es) p q = ((q.0.0 ∙ p.0.0, λ n h. q.0.1 n (p.0.1 n h)), paired_both cs ds es p.1 q.1)
 
 pub keeps_both : (s t u : Store) → Keeps s t → Keeps t u → Keeps s u
-keeps_both s t u k l = record { vars = λ n h. l.vars n (k.vars n h); cells = paired_both s.cells t.cells u.cells k.cells l.cells }
+keeps_both s t u k l = record
+    { vars = λ n h. l.vars n (k.vars n h); cells = paired_both s.cells t.cells u.cells k.cells l.cells }
 
 -- Variables
 
-set_kept : (vs : List Value) (x : ℕ) (v : Value) → is_cell (slice_index_or vs x Uninit) ≡ false → (n : ℕ) → IsIn (Cell n) vs → IsIn (Cell n) (slice_set vs x v)
+set_kept : (vs : List Value) (x : ℕ) (v : Value) → is_cell (slice_index_or vs x Uninit) ≡ false → (n : ℕ)
+    → IsIn (Cell n) vs → IsIn (Cell n) (slice_set vs x v)
 set_kept [] x v e n h = absurd h
 set_kept (w ∷ vs) zero v e n (inl is) = absurd (true≢false (ap is_cell is ∙ e))
 set_kept (w ∷ vs) zero v e n (inr h) = inr h
@@ -106,23 +114,28 @@ or_none true b e = absurd (true≢false e)
 or_none false b e = (refl, e)
 
 -- what holds no cell holds none after another variable has died
-unset_at : (vs : List Value) (x y : ℕ) → is_cell (slice_index_or vs y Uninit) ≡ false → is_cell (slice_index_or (slice_set vs x Uninit) y Uninit) ≡ false
+unset_at : (vs : List Value) (x y : ℕ) → is_cell (slice_index_or vs y Uninit) ≡ false
+    → is_cell (slice_index_or (slice_set vs x Uninit) y Uninit) ≡ false
 unset_at [] x y e = e
 unset_at (w ∷ vs) zero zero e = refl
 unset_at (w ∷ vs) zero (suc y) e = e
 unset_at (w ∷ vs) (suc x) zero e = e
 unset_at (w ∷ vs) (suc x) (suc y) e = unset_at vs x y e
 
-unset_each : (vs : List Value) (x : ℕ) (ys : List ℕ) → hold_cell vs ys ≡ false → hold_cell (slice_set vs x Uninit) ys ≡ false
+unset_each : (vs : List Value) (x : ℕ) (ys : List ℕ) → hold_cell vs ys ≡ false → hold_cell (slice_set vs x Uninit) ys
+    ≡ false
 unset_each vs x [] e = refl
 unset_each vs x (y ∷ ys) e =
-    let parts : (is_cell (slice_index_or vs y Uninit) ≡ false) × (hold_cell vs ys ≡ false) = or_none (is_cell (slice_index_or vs y Uninit)) (hold_cell vs ys) e in
+    let parts : (is_cell (slice_index_or vs y Uninit) ≡ false) × (hold_cell vs ys ≡ false) =
+    or_none (is_cell (slice_index_or vs y Uninit)) (hold_cell vs ys) e in
     rw (unset_at vs x y parts.0) (unset_each vs x ys parts.1)
 
-each_kept : (vs : List Value) (xs : List ℕ) → hold_cell vs xs ≡ false → (n : ℕ) → IsIn (Cell n) vs → IsIn (Cell n) (set_each vs xs Uninit)
+each_kept : (vs : List Value) (xs : List ℕ) → hold_cell vs xs ≡ false → (n : ℕ) → IsIn (Cell n) vs
+    → IsIn (Cell n) (set_each vs xs Uninit)
 each_kept vs [] e n h = h
 each_kept vs (x ∷ xs) e n h =
-    let parts : (is_cell (slice_index_or vs x Uninit) ≡ false) × (hold_cell vs xs ≡ false) = or_none (is_cell (slice_index_or vs x Uninit)) (hold_cell vs xs) e in
+    let parts : (is_cell (slice_index_or vs x Uninit) ≡ false) × (hold_cell vs xs ≡ false) =
+    or_none (is_cell (slice_index_or vs x Uninit)) (hold_cell vs xs) e in
     each_kept (slice_set vs x Uninit) xs (unset_each vs x xs parts.1) n (set_kept vs x Uninit parts.0 n h)
 
 pub kill_keeps : (s : Store) (ps ds : List ℕ) → hold_cell s.vars ps ≡ false → Keeps s (kill ps ds s)
@@ -130,22 +143,29 @@ kill_keeps s ps ds e = record { vars = each_kept s.vars ps e; cells = same_cells
 
 -- Fields
 
-with_field_kept : (n f : ℕ) (v : Value) (cs : List CellRec) → is_cell (field_in cs n f) ≡ false → Paired KeptCell cs (with_field cs n f v)
+with_field_kept : (n f : ℕ) (v : Value) (cs : List CellRec) → is_cell (field_in cs n f) ≡ false
+    → Paired KeptCell cs (with_field cs n f v)
 with_field_kept n f v [] e = tt
 with_field_kept n f v (c ∷ cs) e = here (nat_eq c.number n) e (with_field_kept n f v cs)
   where
-    here : (b : Bool) → is_cell (if b then slice_index_or c.fields f Uninit else field_in cs n f) ≡ false → (is_cell (field_in cs n f) ≡ false → Paired KeptCell cs (with_field cs n f v)) → Paired KeptCell (c ∷ cs) (if b then record c { fields = slice_set c.fields f v } ∷ cs else c ∷ with_field cs n f v)
+    here : (b : Bool) → is_cell (if b then slice_index_or c.fields f Uninit else field_in cs n f) ≡ false
+        → (is_cell (field_in cs n f) ≡ false → Paired KeptCell cs (with_field cs n f v))
+        → Paired KeptCell (c ∷ cs)
+        (if b then record c { fields = slice_set c.fields f v } ∷ cs else c ∷ with_field cs n f v)
     here true old rest = ((refl, set_kept c.fields f v old), same_cells cs)
     here false old rest = ((refl, λ m h. h), rest old)
 
-pub field_keeps : (s : Store) (n f : ℕ) (v : Value) → is_cell (field_in s.cells n f) ≡ false → Keeps s (record s { cells = with_field s.cells n f v })
+pub field_keeps : (s : Store) (n f : ℕ) (v : Value) → is_cell (field_in s.cells n f) ≡ false
+    → Keeps s (record s { cells = with_field s.cells n f v })
 field_keeps s n f v e = record { vars = λ m h. h; cells = with_field_kept n f v s.cells e }
 
 with_datum_kept : (n f : ℕ) (d : Datum) (cs : List CellRec) → Paired KeptCell cs (with_datum cs n f d)
 with_datum_kept n f d [] = tt
 with_datum_kept n f d (c ∷ cs) = here (nat_eq c.number n) (with_datum_kept n f d cs)
   where
-    here : (b : Bool) → Paired KeptCell cs (with_datum cs n f d) → Paired KeptCell (c ∷ cs) (if b then record c { datums = slice_set c.datums f d } ∷ cs else c ∷ with_datum cs n f d)
+    here : (b : Bool) → Paired KeptCell cs (with_datum cs n f d)
+        → Paired KeptCell (c ∷ cs)
+        (if b then record c { datums = slice_set c.datums f d } ∷ cs else c ∷ with_datum cs n f d)
     here true rest = ((refl, λ m h. h), same_cells cs)
     here false rest = ((refl, λ m h. h), rest)
 
@@ -156,11 +176,13 @@ pub store_datum_keeps : (s t : Store) (v : Value) (f : ℕ) (d : Datum) → stor
 store_datum_keeps s t Null f d e = cc
 store_datum_keeps s t Uninit f d e = cc
 store_datum_keeps s t Dangling f d e = cc
-store_datum_keeps s t (Cell n) f d e = let same : record s { cells = with_datum s.cells n f d } ≡ t = cc in subst (Keeps s) same (datum_keeps s n f d)
+store_datum_keeps s t (Cell n) f d e = let same : record s { cells = with_datum s.cells n f d } ≡ t = cc in
+    subst (Keeps s) same (datum_keeps s n f d)
 
 -- Paths: what stood at the end of the path was no cell
 
-pub write_from_keeps : (s t : Store) (fs : List ℕ) (v : Value) (f : ℕ) (old new : Value) → walk s v (f ∷ fs) ≡ Ok old → is_cell old ≡ false → write_from s v f fs new ≡ Ok t → Keeps s t
+pub write_from_keeps : (s t : Store) (fs : List ℕ) (v : Value) (f : ℕ) (old new : Value) → walk s v (f ∷ fs) ≡ Ok old
+    → is_cell old ≡ false → write_from s v f fs new ≡ Ok t → Keeps s t
 write_from_keeps s t [] Null f old new was none e = cc
 write_from_keeps s t [] Uninit f old new was none e = cc
 write_from_keeps s t [] Dangling f old new was none e = cc
@@ -171,9 +193,11 @@ write_from_keeps s t [] (Cell n) f old new was none e =
 write_from_keeps s t (g ∷ gs) Null f old new was none e = cc
 write_from_keeps s t (g ∷ gs) Uninit f old new was none e = cc
 write_from_keeps s t (g ∷ gs) Dangling f old new was none e = cc
-write_from_keeps s t (g ∷ gs) (Cell n) f old new was none e = write_from_keeps s t gs (field_in s.cells n f) g old new was none e
+write_from_keeps s t (g ∷ gs) (Cell n) f old new was none e =
+    write_from_keeps s t gs (field_in s.cells n f) g old new was none e
 
-pub write_path_keeps : (s t : Store) (x : ℕ) (fs : List ℕ) (old new : Value) → walk s (var_of s x) fs ≡ Ok old → is_cell old ≡ false → write_path s x fs new ≡ Ok t → Keeps s t
+pub write_path_keeps : (s t : Store) (x : ℕ) (fs : List ℕ) (old new : Value) → walk s (var_of s x) fs ≡ Ok old
+    → is_cell old ≡ false → write_path s x fs new ≡ Ok t → Keeps s t
 write_path_keeps s t x [] old new was none e =
     let is : var_of s x ≡ old = cc in
     let same : set_var s x new ≡ t = cc in

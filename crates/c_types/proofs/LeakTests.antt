@@ -1,5 +1,6 @@
 -- A step that takes no reference to a cell away: its leak test has the answer that it had before.
-use Rattle.std.proofs.Common.{◌≡◌, ℕ, Bool, true, false, if◌then◌else◌, Option, Some, None, Result, Ok, Err, List, [], ◌∷◌, length, refl, sym, ap, ◌∙◌, subst, true≢false}
+use Rattle.std.proofs.Common.{◌≡◌, ℕ, Bool, true, false, if◌then◌else◌, Option, Some, None, Result, Ok, Err, List, []}
+use Rattle.std.proofs.Common.{◌∷◌, length, refl, sym, ap, ◌∙◌, subst, true≢false}
 use Rattle.fore_base.specs.declared.fault.Fault.{Fault}
 use Rattle.fore_base.specs.declared.fault.Fault.TheVariants.{Leak}
 use Rattle.fore_base.specs.declared.shape.Shape.{Shape}
@@ -9,26 +10,33 @@ use Rattle.fore_base.specs.declared.store.Datum.{Datum}
 use Rattle.fore_base.specs.declared.store.Datum.TheVariants.{Undefined, Known}
 use Rattle.fore_base.specs.declared.store.Store.{Store}
 use Rattle.fore_base.specs.Heap.{leaks}
-use Rattle.fore_base.specs.Stores.{onward, followed, load_datum, store_at, store_datum, var_of, set_datum, field_in, walk, write_from, freed}
+use Rattle.fore_base.specs.Stores.{onward, followed, load_datum, store_at, store_datum, var_of, set_datum, field_in}
+use Rattle.fore_base.specs.Stores.{walk, write_from, freed}
 use Rattle.c_types.specs.declared.program.Path.{Path}
 use Rattle.c_types.specs.declared.program.DataPath.{DataPath}
 use Rattle.c_types.specs.declared.program.DataPath.TheVariants.{Var as DataVar, Field as DataField}
 use Rattle.c_types.specs.declared.program.PtrRhs.{PtrRhs}
 use Rattle.c_types.specs.declared.program.PtrRhs.TheVariants.{Path as RhsPath, Null as RhsNull, New as RhsNew}
 use Rattle.c_types.specs.declared.program.DataRhs.{DataRhs}
-use Rattle.c_types.specs.declared.program.DataRhs.TheVariants.{Path as DataRhsPath, Known as DataRhsKnown, Choice as DataRhsChoice}
+use Rattle.c_types.specs.declared.program.DataRhs.TheVariants.{Path as DataRhsPath, Known as DataRhsKnown}
+use Rattle.c_types.specs.declared.program.DataRhs.TheVariants.{Choice as DataRhsChoice}
 use Rattle.c_types.specs.declared.program.PtrOp.{PtrOp}
 use Rattle.c_types.specs.declared.program.PtrOp.TheVariants.{Path as OpPath, Null as OpNull}
 use Rattle.c_types.specs.declared.program.DataOp.{DataOp}
 use Rattle.c_types.specs.declared.program.DataOp.TheVariants.{Path as DataOpPath, Known as DataOpKnown}
 use Rattle.c_types.specs.declared.program.Atom.{Atom}
-use Rattle.c_types.specs.declared.program.Atom.TheVariants.{Choice as ChoiceAtom, Known as KnownAtom, Ptr as PtrAtom, Data as DataAtom}
+use Rattle.c_types.specs.declared.program.Atom.TheVariants.{Choice as ChoiceAtom, Known as KnownAtom, Ptr as PtrAtom}
+use Rattle.c_types.specs.declared.program.Atom.TheVariants.{Data as DataAtom}
 use Rattle.c_types.specs.declared.program.Act.{Act}
 use Rattle.c_types.specs.declared.program.Act.TheVariants.{SetPtr, SetData, Free, Error, Halt, Return, Break, Continue}
-use Rattle.c_types.specs.Control.{Items, Done, Do, Close, If, Loop, Again, DoLoop, DoAgain, Ask, Not, Both, Either, closed_ptrs, closed_datums, after_again, from_again, ◌then◌}
-use Rattle.c_types.specs.Steps.{Goes, Stops, Faults, read, read_data, read_op, read_data_op, read_data_rhs, look_at, same_values, same_datums, atom_of, write_path, write_data, assign, assign_data, free_path, settle, settled, finished, all_dead, below, act_turn, test_turn, turn_of}
+use Rattle.c_types.specs.Control.{Items, Done, Do, Close, If, Loop, Again, DoLoop, DoAgain, Ask, Not, Both, Either}
+use Rattle.c_types.specs.Control.{closed_ptrs, closed_datums, after_again, from_again, ◌then◌}
+use Rattle.c_types.specs.Steps.{Goes, Stops, Faults, read, read_data, read_op, read_data_op, read_data_rhs, look_at}
+use Rattle.c_types.specs.Steps.{same_values, same_datums, atom_of, write_path, write_data, assign, assign_data}
+use Rattle.c_types.specs.Steps.{free_path, settle, settled, finished, all_dead, below, act_turn, test_turn, turn_of}
 use Rattle.c_types.specs.Losses.{is_cell, got_cell, assign_loses, act_loses, loses}
-use Rattle.c_types.proofs.LeakKept.{Keeps, kept_sound, keeps_all, set_datum_keeps, kill_keeps, store_datum_keeps, write_path_keeps}
+use Rattle.c_types.proofs.LeakKept.{Keeps, kept_sound, keeps_all, set_datum_keeps, kill_keeps, store_datum_keeps}
+use Rattle.c_types.proofs.LeakKept.{write_path_keeps}
 
 -- No fault of an evaluation is a leak
 
@@ -40,7 +48,8 @@ abbrev NoLeak : {A : Type 0} → Result A Fault → Type 0
 NoLeak (Ok a) = Unit {0}
 NoLeak (Err k) = (k ≡ Leak) → ⊥
 
-onward_clean : {A B : Type 0} (r : Result A Fault) (next : A → Result B Fault) → NoLeak r → ((a : A) → NoLeak (next a)) → NoLeak (onward r next)
+onward_clean : {A B : Type 0} (r : Result A Fault) (next : A → Result B Fault) → NoLeak r → ((a : A) → NoLeak (next a))
+    → NoLeak (onward r next)
 onward_clean (Ok a) next h rest = rest a
 onward_clean (Err k) next h rest = h
 
@@ -76,7 +85,9 @@ read_clean s p = walk_clean s (var_of s p.var) p.fields
 
 read_data_clean : (s : Store) (p : DataPath) → NoLeak (read_data s p)
 read_data_clean s (DataVar x) = tt
-read_data_clean s (DataField base f) = onward_clean (read s base) (λ v. load_datum s v f) (read_clean s base) (λ v. onward_clean (followed v) _ (followed_clean v) (λ n. tt))
+read_data_clean s (DataField base f) =
+    onward_clean (read s base) (λ v. load_datum s v f) (read_clean s base)
+    (λ v. onward_clean (followed v) _ (followed_clean v) (λ n. tt))
 
 read_op_clean : (s : Store) (p : PtrOp) → NoLeak (read_op s p)
 read_op_clean s (OpPath p) = read_clean s p
@@ -107,13 +118,19 @@ atom_clean : (a : Atom) (s : Store) (x : ℕ) → NoLeak (atom_of a s x)
 atom_clean ChoiceAtom s x = tt
 atom_clean (KnownAtom b) s x = tt
 atom_clean (PtrAtom l r equal) s x =
-    onward_clean (read_op s l) _ (read_op_clean s l) (λ v. onward_clean (read_op s r) _ (read_op_clean s r) (λ w. onward_clean (same_values v w) _ (same_values_clean v w) (λ b. tt)))
+    onward_clean (read_op s l) _ (read_op_clean s l)
+    (λ v. onward_clean (read_op s r) _ (read_op_clean s r)
+    (λ w. onward_clean (same_values v w) _ (same_values_clean v w) (λ b. tt)))
 atom_clean (DataAtom l r equal) s x =
-    onward_clean (read_data_op s l) _ (read_data_op_clean s l) (λ d. onward_clean (read_data_op s r) _ (read_data_op_clean s r) (λ e. onward_clean (same_datums d e) _ (same_datums_clean d e) (λ b. tt)))
+    onward_clean (read_data_op s l) _ (read_data_op_clean s l)
+    (λ d. onward_clean (read_data_op s r) _ (read_data_op_clean s r)
+    (λ e. onward_clean (same_datums d e) _ (same_datums_clean d e) (λ b. tt)))
 
 write_data_clean : (s : Store) (p : DataPath) (d : Datum) → NoLeak (write_data s p d)
 write_data_clean s (DataVar x) d = tt
-write_data_clean s (DataField base f) d = onward_clean (read s base) (λ v. store_datum s v f d) (read_clean s base) (λ v. onward_clean (followed v) _ (followed_clean v) (λ n. tt))
+write_data_clean s (DataField base f) d =
+    onward_clean (read s base) (λ v. store_datum s v f d) (read_clean s base)
+    (λ v. onward_clean (followed v) _ (followed_clean v) (λ n. tt))
 
 read_data_rhs_clean : (s : Store) (r : DataRhs) (x : ℕ) → NoLeak (read_data_rhs s r x)
 read_data_rhs_clean s (DataRhsPath p) x = read_data_clean s p
@@ -136,7 +153,8 @@ abbrev KeepsAll : Store → Result Store Fault → Type 0
 KeepsAll s r = (t : Store) → r ≡ Ok t → Keeps s t
 
 -- what was written at the end of a path, over what was no cell; where the path meets a fault nothing is written
-walk_wrote : (s : Store) (t : Store) (fs : List ℕ) (v : Value) (f : ℕ) (w : Value) → write_from s v f fs w ≡ Ok t → (old : Value) × (walk s v (f ∷ fs) ≡ Ok old)
+walk_wrote : (s : Store) (t : Store) (fs : List ℕ) (v : Value) (f : ℕ) (w : Value) → write_from s v f fs w ≡ Ok t
+    → (old : Value) × (walk s v (f ∷ fs) ≡ Ok old)
 walk_wrote s t [] Null f w e = cc
 walk_wrote s t [] Uninit f w e = cc
 walk_wrote s t [] Dangling f w e = cc
@@ -146,27 +164,34 @@ walk_wrote s t (g ∷ gs) Uninit f w e = cc
 walk_wrote s t (g ∷ gs) Dangling f w e = cc
 walk_wrote s t (g ∷ gs) (Cell n) f w e = walk_wrote s t gs (field_in s.cells n f) g w e
 
-path_wrote : (s : Store) (t : Store) (x : ℕ) (fs : List ℕ) (w : Value) → write_path s x fs w ≡ Ok t → (old : Value) × (walk s (var_of s x) fs ≡ Ok old)
+path_wrote : (s : Store) (t : Store) (x : ℕ) (fs : List ℕ) (w : Value) → write_path s x fs w ≡ Ok t → (old : Value)
+    × (walk s (var_of s x) fs ≡ Ok old)
 path_wrote s t x [] w e = (var_of s x, refl)
 path_wrote s t x (f ∷ fs) w e = walk_wrote s t fs (var_of s x) f w e
 
-write_keeps : (s : Store) (to : Path) (w : Value) → got_cell (read s to) ≡ false → KeepsAll s (write_path s to.var to.fields w)
+write_keeps : (s : Store) (to : Path) (w : Value) → got_cell (read s to) ≡ false
+    → KeepsAll s (write_path s to.var to.fields w)
 write_keeps s to w none t e =
     let old : (v : Value) × (walk s (var_of s to.var) to.fields ≡ Ok v) = path_wrote s t to.var to.fields w e in
     write_path_keeps s t to.var to.fields old.0 w old.1 (ap got_cell (sym old.1) ∙ none) e
 
-onward_keeps : {A : Type 0} (s : Store) (r : Result A Fault) (next : A → Result Store Fault) → ((a : A) → r ≡ Ok a → KeepsAll s (next a)) → KeepsAll s (onward r next)
+onward_keeps : {A : Type 0} (s : Store) (r : Result A Fault) (next : A → Result Store Fault)
+    → ((a : A) → r ≡ Ok a → KeepsAll s (next a)) → KeepsAll s (onward r next)
 onward_keeps s (Ok a) next rest t e = rest a refl t e
 onward_keeps s (Err k) next rest t e = cc
 
-assign_keeps : (shapes : List Shape) (s : Store) (to : Path) (from : PtrRhs) → assign_loses s to from ≡ false → KeepsAll s (assign shapes s to from)
-assign_keeps shapes s to (RhsPath from) none = onward_keeps s (read s from) (λ v. write_path s to.var to.fields v) (λ v is. write_keeps s to v none)
+assign_keeps : (shapes : List Shape) (s : Store) (to : Path) (from : PtrRhs) → assign_loses s to from ≡ false
+    → KeepsAll s (assign shapes s to from)
+assign_keeps shapes s to (RhsPath from) none =
+    onward_keeps s (read s from) (λ v. write_path s to.var to.fields v) (λ v is. write_keeps s to v none)
 assign_keeps shapes s to RhsNull none = write_keeps s to Null none
 assign_keeps shapes s to (RhsNew shape) none = absurd (true≢false none)
 
 write_data_keeps : (s : Store) (to : DataPath) (d : Datum) → KeepsAll s (write_data s to d)
-write_data_keeps s (DataVar x) d t e = let same : set_datum s x d ≡ t = cc in subst (Keeps s) same (set_datum_keeps s x d)
-write_data_keeps s (DataField base f) d t e = onward_keeps s (read s base) (λ v. store_datum s v f d) (λ v is u g. store_datum_keeps s u v f d g) t e
+write_data_keeps s (DataVar x) d t e = let same : set_datum s x d ≡ t = cc in
+    subst (Keeps s) same (set_datum_keeps s x d)
+write_data_keeps s (DataField base f) d t e =
+    onward_keeps s (read s base) (λ v. store_datum s v f d) (λ v is u g. store_datum_keeps s u v f d g) t e
 
 freed_keeps : (s : Store) (v : Value) → is_cell v ≡ false → KeepsAll s (freed s v)
 freed_keeps s Null none t e = let same : s ≡ t = cc in subst (Keeps s) same (keeps_all s)
@@ -190,43 +215,56 @@ look_keeps s (Some p) t e = here (read_data s p) e
 sound_settles : (t : Store) (is : Items) → leaks t ≡ false → settle t is ≡ Faults Leak → ⊥
 sound_settles t is sound e = let wrong : Goes is t ≡ Faults Leak = rw sound at e in cc
 
-settled_sound : (s : Store) (r : Result Store Fault) (is : Items) → NoLeak r → KeepsAll s r → leaks s ≡ false → settled r is ≡ Faults Leak → ⊥
+settled_sound : (s : Store) (r : Result Store Fault) (is : Items) → NoLeak r → KeepsAll s r → leaks s ≡ false
+    → settled r is ≡ Faults Leak → ⊥
 settled_sound s (Ok t) is clean keeps sound e = sound_settles t is (kept_sound s t (keeps t refl) sound) e
 settled_sound s (Err k) is clean keeps sound e = let same : k ≡ Leak = cc in clean same
 
-finished_sound : (s : Store) (r : Result Store Fault) → NoLeak r → ((t : Store) → r ≡ Ok t → leaks (all_dead t) ≡ false) → finished r ≡ Faults Leak → ⊥
+finished_sound : (s : Store) (r : Result Store Fault) → NoLeak r → ((t : Store) → r ≡ Ok t → leaks (all_dead t) ≡ false)
+    → finished r ≡ Faults Leak → ⊥
 finished_sound s (Ok t) clean sound e = let wrong : Stops ≡ Faults Leak = rw (sound t refl) at e in cc
 finished_sound s (Err k) clean sound e = let same : k ≡ Leak = cc in clean same
 
 module _ (shapes : List Shape) where
-  act_sound : (a : Act) (is : Items) (s : Store) (x : ℕ) → act_loses a is s ≡ false → leaks s ≡ false → act_turn shapes a is s x ≡ Faults Leak → ⊥
-  act_sound (SetPtr to from) is s x none sound e = settled_sound s (assign shapes s to from) is (assign_clean from) (assign_keeps shapes s to from none) sound e
+  act_sound : (a : Act) (is : Items) (s : Store) (x : ℕ) → act_loses a is s ≡ false → leaks s ≡ false
+      → act_turn shapes a is s x ≡ Faults Leak → ⊥
+  act_sound (SetPtr to from) is s x none sound e =
+      settled_sound s (assign shapes s to from) is (assign_clean from) (assign_keeps shapes s to from none) sound e
     where
       assign_clean : (from : PtrRhs) → NoLeak (assign shapes s to from)
-      assign_clean (RhsPath from) = onward_clean (read s from) (λ v. write_path s to.var to.fields v) (read_clean s from) (λ v. write_path_clean s to.var to.fields v)
+      assign_clean (RhsPath from) =
+          onward_clean (read s from) (λ v. write_path s to.var to.fields v) (read_clean s from)
+          (λ v. write_path_clean s to.var to.fields v)
       assign_clean RhsNull = write_path_clean s to.var to.fields Null
       assign_clean (RhsNew shape) = write_path_clean _ to.var to.fields (Cell s.next)
   act_sound (SetData to from) is s x none sound e =
       settled_sound s (assign_data s to from x) is
-      (onward_clean (read_data_rhs s from x) (λ d. write_data s to d) (read_data_rhs_clean s from x) (λ d. write_data_clean s to d))
+      (onward_clean (read_data_rhs s from x) (λ d. write_data s to d) (read_data_rhs_clean s from x)
+      (λ d. write_data_clean s to d))
       (onward_keeps s (read_data_rhs s from x) (λ d. write_data s to d) (λ d is. write_data_keeps s to d)) sound e
   act_sound (Free p) is s x none sound e =
-      settled_sound s (free_path s p) is (onward_clean (read s p) (freed s) (read_clean s p) (λ v. freed_clean s v)) (free_keeps s p none) sound e
+      settled_sound s (free_path s p) is (onward_clean (read s p) (freed s) (read_clean s p) (λ v. freed_clean s v))
+      (free_keeps s p none) sound e
   act_sound Error is s x none sound e = cc
   act_sound Halt is s x none sound e = cc
   act_sound (Return operand) is s x none sound e =
       finished_sound s (look_at s operand) (look_at_clean s operand)
-      (λ t same. subst (λ (u : Store). leaks (all_dead u) ≡ false) (look_keeps s operand t same) (kept_sound s (all_dead s) (kill_keeps s (below (length s.vars)) (below (length s.data_vars)) none) sound)) e
-  act_sound Break is s x none sound e = sound_settles _ (after_again is) (kept_sound s _ (kill_keeps s (closed_ptrs is) (closed_datums is) none) sound) e
-  act_sound Continue is s x none sound e = sound_settles _ (from_again is) (kept_sound s _ (kill_keeps s (closed_ptrs is) (closed_datums is) none) sound) e
+      (λ t same. subst (λ (u : Store). leaks (all_dead u) ≡ false) (look_keeps s operand t same)
+      (kept_sound s (all_dead s) (kill_keeps s (below (length s.vars)) (below (length s.data_vars)) none) sound)) e
+  act_sound Break is s x none sound e =
+      sound_settles _ (after_again is) (kept_sound s _ (kill_keeps s (closed_ptrs is) (closed_datums is) none) sound) e
+  act_sound Continue is s x none sound e =
+      sound_settles _ (from_again is) (kept_sound s _ (kill_keeps s (closed_ptrs is) (closed_datums is) none) sound) e
 
-  test_sound : (r : Result Bool Fault) (x y is : Items) (s : Store) → NoLeak r → leaks s ≡ false → test_turn r x y is s ≡ Faults Leak → ⊥
+  test_sound : (r : Result Bool Fault) (x y is : Items) (s : Store) → NoLeak r → leaks s ≡ false → test_turn r x y is s
+      ≡ Faults Leak → ⊥
   test_sound (Ok true) x y is s clean sound e = sound_settles s (x then is) sound e
   test_sound (Ok false) x y is s clean sound e = sound_settles s (y then is) sound e
   test_sound (Err k) x y is s clean sound e = let same : k ≡ Leak = cc in clean same
 
   -- where no cell had leaked, none has leaked after the step
-  pub turn_sound : (is : Items) (s : Store) (x : ℕ) → loses is s ≡ false → leaks s ≡ false → turn_of shapes is s x ≡ Faults Leak → ⊥
+  pub turn_sound : (is : Items) (s : Store) (x : ℕ) → loses is s ≡ false → leaks s ≡ false → turn_of shapes is s x
+      ≡ Faults Leak → ⊥
   turn_sound Done s x none sound e = cc
   turn_sound (Do a m is) s x none sound e = act_sound a is s x none sound e
   turn_sound (Close ps ds m is) s x none sound e = sound_settles _ is (kept_sound s _ (kill_keeps s ps ds none) sound) e

@@ -1,5 +1,6 @@
 -- Steps keep stores proper and fitting.
-use Rattle.std.proofs.Common.{◌≡◌, ◌<◌, ℕ, Bool, true, false, is_some, Option, Some, None, Result, Ok, Err, length, refl, sym, ap, subst, true≢false}
+use Rattle.std.proofs.Common.{◌≡◌, ◌<◌, ℕ, Bool, true, false, is_some, Option, Some, None, Result, Ok, Err, length}
+use Rattle.std.proofs.Common.{refl, sym, ap, subst, true≢false}
 use Rattle.std.proofs.lemmas.Bool.{eqb-true}
 use Rattle.fore_base.specs.declared.fault.Fault.{Fault}
 use Rattle.fore_base.specs.declared.store.Value.TheVariants.{Null, Cell}
@@ -15,12 +16,17 @@ use Rattle.c_types.specs.declared.program.PtrRhs.TheVariants.{Path as RhsPath, N
 use Rattle.c_types.specs.declared.program.Act.{Act}
 use Rattle.c_types.specs.declared.program.Act.TheVariants.{SetPtr, SetData, Free, Error, Halt, Return, Break, Continue}
 use Rattle.c_types.specs.Program.{Program, is_target, both_targets, path_target, rhs_typed, is_typed}
-use Rattle.c_types.specs.Control.{Items, Done, Do, Close, If, Loop, Again, DoLoop, DoAgain, Ask, Not, Both, Either, ◌then◌, opened, after_again, from_again, closed_ptrs, closed_datums, start_of}
-use Rattle.c_types.specs.Steps.{Turn, Goes, Stops, Faults, read, read_data_rhs, write_path, write_data, blank, assign, look_at, all_dead, settle, settled, finished, act_turn, test_turn, atom_of, turn_of}
+use Rattle.c_types.specs.Control.{Items, Done, Do, Close, If, Loop, Again, DoLoop, DoAgain, Ask, Not, Both, Either}
+use Rattle.c_types.specs.Control.{◌then◌, opened, after_again, from_again, closed_ptrs, closed_datums, start_of}
+use Rattle.c_types.specs.Steps.{Turn, Goes, Stops, Faults, read, read_data_rhs, write_path, write_data, blank, assign}
+use Rattle.c_types.specs.Steps.{look_at, all_dead, settle, settled, finished, act_turn, test_turn, atom_of, turn_of}
 use Rattle.c_types.specs.Runs.{empty_store}
 use Rattle.c_types.specs.Fits.{PointsTo, FitsProgram, Visited, start, step, ActFits, ItemsFit}
-use Rattle.c_types.proofs.Fitting.{Gives, onward_gives, PathLeads, path_leads, path_below, Sound, is_sound, sound_fits, sound_proper, read_gives, path_sound, set_datum_sound, store_datum_sound, kill_sound, grown_sound, grown_points, freed_sound, empty_sound}
-use Rattle.c_types.proofs.ItemsTyped.{then_fit, opened_fit, after_fit, from_fit, has_shapes_typed, has_vars_typed, start_fits}
+use Rattle.c_types.proofs.Fitting.{Gives, onward_gives, PathLeads, path_leads, path_below, Sound, is_sound, sound_fits}
+use Rattle.c_types.proofs.Fitting.{sound_proper, read_gives, path_sound, set_datum_sound, store_datum_sound, kill_sound}
+use Rattle.c_types.proofs.Fitting.{grown_sound, grown_points, freed_sound, empty_sound}
+use Rattle.c_types.proofs.ItemsTyped.{then_fit, opened_fit, after_fit, from_fit, has_shapes_typed, has_vars_typed}
+use Rattle.c_types.proofs.ItemsTyped.{start_fits}
 
 -- where a turn goes on, what it goes on with meets P
 abbrev pub TurnGives : (Items → Store → Type 0) → Turn → Type 0
@@ -28,7 +34,8 @@ TurnGives P (Goes is s) = P is s
 TurnGives P Stops = Unit {0}
 TurnGives P (Faults k) = Unit {0}
 
-pub turn_gives : (P : Items → Store → Type 0) (t : Turn) (js : Items) (u : Store) → TurnGives P t → t ≡ Goes js u → P js u
+pub turn_gives : (P : Items → Store → Type 0) (t : Turn) (js : Items) (u : Store) → TurnGives P t → t ≡ Goes js u
+    → P js u
 turn_gives P t js u this e = subst (TurnGives P) e this
 
 settle_gives : (P : Items → Store → Type 0) (s : Store) (is : Items) → P is s → TurnGives P (settle s is)
@@ -38,7 +45,8 @@ settle_gives P s is this = here (leaks s) refl
     here true leak = rw leak tt
     here false fine = rw fine this
 
-settled_gives : (P : Items → Store → Type 0) (r : Result Store Fault) (is : Items) → Gives (λ s. P is s) r → TurnGives P (settled r is)
+settled_gives : (P : Items → Store → Type 0) (r : Result Store Fault) (is : Items) → Gives (λ s. P is s) r
+    → TurnGives P (settled r is)
 settled_gives P (Ok s) is this = settle_gives P s is this
 settled_gives P (Err k) is this = tt
 
@@ -72,18 +80,23 @@ module _ (p : Program) (typed : is_typed p ≡ true) where
   abbrev Goods : Items → Store → Type 0
   Goods is s = ItemsFit p is × Sound p s
 
-  assign_sound : (s : Store) (to : Path) (from : PtrRhs) → rhs_typed p.shapes.structs p.vars (length p.data_vars) (target to) from ≡ true → Sound p s → Gives (Sound p) (assign p.shapes.structs s to from)
+  assign_sound : (s : Store) (to : Path) (from : PtrRhs)
+      → rhs_typed p.shapes.structs p.vars (length p.data_vars) (target to) from ≡ true → Sound p s
+      → Gives (Sound p) (assign p.shapes.structs s to from)
   assign_sound s to (RhsPath from) e sound =
       let both : (t : ℕ) × (target to ≡ Some t) × (target from ≡ Some t) = agreed (target to) (target from) e in
-      onward_gives (PointsTo s.cells both.0) (Sound p) (read s from) (λ v. write_path s to.var to.fields v) (read_gives p s from both.0 sound (path_leads p from both.0 both.2))
+      onward_gives (PointsTo s.cells both.0) (Sound p) (read s from) (λ v. write_path s to.var to.fields v)
+      (read_gives p s from both.0 sound (path_leads p from both.0 both.2))
       (λ v points. path_sound p s to both.0 v sound (path_leads p to both.0 both.1) points)
   assign_sound s to RhsNull e sound =
       let some : (t : ℕ) × (target to ≡ Some t) = some_target (target to) e in
       path_sound p s to some.0 Null sound (path_leads p to some.0 some.1) tt
   assign_sound s to (RhsNew shape) e sound =
       let leads : PathLeads p to shape = path_leads p to shape (target_is (target to) shape e) in
-      let less : shape < length p.shapes.structs = path_below p to shape (has_shapes_typed p typed) (has_vars_typed p typed) leads in
-      path_sound p (grown s (blank p.shapes.structs s.next shape)) to shape (Cell s.next) (grown_sound p s shape less sound) leads (grown_points p s shape)
+      let less : shape < length p.shapes.structs =
+      path_below p to shape (has_shapes_typed p typed) (has_vars_typed p typed) leads in
+      path_sound p (grown s (blank p.shapes.structs s.next shape)) to shape (Cell s.next)
+      (grown_sound p s shape less sound) leads (grown_points p s shape)
 
   always : {A : Type 0} (r : Result A Fault) → Gives (λ a. Unit {0}) r
   always (Ok a) = tt
@@ -92,29 +105,42 @@ module _ (p : Program) (typed : is_typed p ≡ true) where
   write_data_sound : (s : Store) (to : DataPath) (d : Datum) → Sound p s → Gives (Sound p) (write_data s to d)
   write_data_sound s (DataVar x) d sound = set_datum_sound p s x d sound
   write_data_sound s (DataField base f) d sound =
-      onward_gives (λ v. Unit {0}) (Sound p) (read s base) (λ v. store_datum s v f d) (always (read s base)) (λ v this. store_datum_sound p s v f d sound)
+      onward_gives (λ v. Unit {0}) (Sound p) (read s base) (λ v. store_datum s v f d) (always (read s base))
+      (λ v this. store_datum_sound p s v f d sound)
 
   with_items : (is : Items) (r : Result Store Fault) → ItemsFit p is → Gives (Sound p) r → Gives (λ s. Goods is s) r
   with_items is (Ok s) fit sound = (fit, sound)
   with_items is (Err k) fit sound = tt
 
-  act_gives : (a : Act) (is : Items) (s : Store) (x : ℕ) → ActFits p a → Goods is s → TurnGives Goods (act_turn p.shapes.structs a is s x)
-  act_gives (SetPtr to from) is s x e this = settled_gives Goods (assign p.shapes.structs s to from) is (with_items is (assign p.shapes.structs s to from) this.0 (assign_sound s to from e this.1))
+  act_gives : (a : Act) (is : Items) (s : Store) (x : ℕ) → ActFits p a → Goods is s
+      → TurnGives Goods (act_turn p.shapes.structs a is s x)
+  act_gives (SetPtr to from) is s x e this =
+      settled_gives Goods (assign p.shapes.structs s to from) is
+      (with_items is (assign p.shapes.structs s to from) this.0 (assign_sound s to from e this.1))
   act_gives (SetData to from) is s x e this =
       settled_gives Goods _ is (with_items is _ this.0
-      (onward_gives (λ d. Unit {0}) (Sound p) (read_data_rhs s from x) (λ d. write_data s to d) (always (read_data_rhs s from x)) (λ d that. write_data_sound s to d this.1)))
+      (onward_gives (λ d. Unit {0}) (Sound p) (read_data_rhs s from x) (λ d. write_data s to d)
+      (always (read_data_rhs s from x)) (λ d that. write_data_sound s to d this.1)))
   act_gives (Free q) is s x e this =
       settled_gives Goods _ is (with_items is _ this.0
-      (onward_gives (λ v. Unit {0}) (Sound p) (read s q) (λ v. freed s v) (always (read s q)) (λ v that. freed_sound p s v this.1)))
+      (onward_gives (λ v. Unit {0}) (Sound p) (read s q) (λ v. freed s v) (always (read s q))
+      (λ v that. freed_sound p s v this.1)))
   act_gives Error is s x e this = tt
   act_gives Halt is s x e this = tt
   act_gives (Return operand) is s x e this = finished_gives Goods (look_at s operand)
-  act_gives Break is s x e this = settle_gives Goods (kill (closed_ptrs is) (closed_datums is) s) (after_again is) (after_fit p is this.0, kill_sound p (closed_ptrs is) (closed_datums is) s this.1)
-  act_gives Continue is s x e this = settle_gives Goods (kill (closed_ptrs is) (closed_datums is) s) (from_again is) (from_fit p is this.0, kill_sound p (closed_ptrs is) (closed_datums is) s this.1)
+  act_gives Break is s x e this =
+      settle_gives Goods (kill (closed_ptrs is) (closed_datums is) s) (after_again is)
+      (after_fit p is this.0, kill_sound p (closed_ptrs is) (closed_datums is) s this.1)
+  act_gives Continue is s x e this =
+      settle_gives Goods (kill (closed_ptrs is) (closed_datums is) s) (from_again is)
+      (from_fit p is this.0, kill_sound p (closed_ptrs is) (closed_datums is) s this.1)
 
-  test_gives : (r : Result Bool Fault) (x y is : Items) (s : Store) → ItemsFit p x → ItemsFit p y → Goods is s → TurnGives Goods (test_turn r x y is s)
-  test_gives (Ok true) x y is s yes_fit no_fit this = settle_gives Goods s (x then is) (then_fit p x is yes_fit this.0, this.1)
-  test_gives (Ok false) x y is s yes_fit no_fit this = settle_gives Goods s (y then is) (then_fit p y is no_fit this.0, this.1)
+  test_gives : (r : Result Bool Fault) (x y is : Items) (s : Store) → ItemsFit p x → ItemsFit p y → Goods is s
+      → TurnGives Goods (test_turn r x y is s)
+  test_gives (Ok true) x y is s yes_fit no_fit this =
+      settle_gives Goods s (x then is) (then_fit p x is yes_fit this.0, this.1)
+  test_gives (Ok false) x y is s yes_fit no_fit this =
+      settle_gives Goods s (y then is) (then_fit p y is no_fit this.0, this.1)
   test_gives (Err k) x y is s yes_fit no_fit this = tt
 
   step_gives : (is : Items) (s : Store) (x : ℕ) → Goods is s → TurnGives Goods (turn_of p.shapes.structs is s x)
@@ -130,15 +156,24 @@ module _ (p : Program) (typed : is_typed p ≡ true) where
   step_gives (DoLoop c b is) s x this = tt
   step_gives (DoAgain c b is) s x this = tt
 
-  goes_good : (is js : Items) (s t : Store) (x : ℕ) → Goods is s → turn_of p.shapes.structs (opened is) s x ≡ Goes js t → Goods js t
-  goes_good is js s t x this e = turn_gives Goods (turn_of p.shapes.structs (opened is) s x) js t (step_gives (opened is) s x (opened_fit p is this.0, this.1)) e
+  goes_good : (is js : Items) (s t : Store) (x : ℕ) → Goods is s → turn_of p.shapes.structs (opened is) s x ≡ Goes js t
+      → Goods js t
+  goes_good is js s t x this e =
+      turn_gives Goods (turn_of p.shapes.structs (opened is) s x) js t
+      (step_gives (opened is) s x (opened_fit p is this.0, this.1)) e
 
   -- A run begins with typed items and a store that is proper and fits, and each step keeps that.
 
-  pub begins_fitting : ItemsFit p (start_of p) × IsProper (empty_store (length p.vars) (length p.data_vars)) × FitsProgram p (empty_store (length p.vars) (length p.data_vars))
-  begins_fitting = (start_fits p typed, sound_proper p (empty_store (length p.vars) (length p.data_vars)) (empty_sound p), sound_fits p (empty_store (length p.vars) (length p.data_vars)) (empty_sound p))
+  pub begins_fitting : ItemsFit p (start_of p) × IsProper (empty_store (length p.vars) (length p.data_vars))
+      × FitsProgram p (empty_store (length p.vars) (length p.data_vars))
+  begins_fitting = (
+    start_fits p typed,
+    sound_proper p (empty_store (length p.vars) (length p.data_vars)) (empty_sound p),
+    sound_fits p (empty_store (length p.vars) (length p.data_vars)) (empty_sound p),
+  )
 
-  pub step_keeps : (is js : Items) (s t : Store) (x : ℕ) → ItemsFit p is → IsProper s → FitsProgram p s → turn_of p.shapes.structs (opened is) s x ≡ Goes js t → ItemsFit p js × IsProper t × FitsProgram p t
+  pub step_keeps : (is js : Items) (s t : Store) (x : ℕ) → ItemsFit p is → IsProper s → FitsProgram p s
+      → turn_of p.shapes.structs (opened is) s x ≡ Goes js t → ItemsFit p js × IsProper t × FitsProgram p t
   step_keeps is js s t x items proper fits e =
       let after : Goods js t = goes_good is js s t x (items, is_sound p s proper fits) e in
       (after.0, sound_proper p t after.1, sound_fits p t after.1)
@@ -148,4 +183,5 @@ module _ (p : Program) (typed : is_typed p ≡ true) where
   visited_good (step {is} {js} {s} {t} x before e) = goes_good is js s t x (visited_good before) e
 
   pub visited_fits : (is : Items) (s : Store) → Visited p is s → IsProper s × FitsProgram p s
-  visited_fits is s visited = let this : Goods is s = visited_good visited in (sound_proper p s this.1, sound_fits p s this.1)
+  visited_fits is s visited = let this : Goods is s = visited_good visited in
+      (sound_proper p s this.1, sound_fits p s this.1)

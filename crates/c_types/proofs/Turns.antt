@@ -40,12 +40,14 @@ finished_stops (Ok s) js t e = here (leaks (all_dead s)) refl
     here false fine = let wrong : Stops ≡ Goes js t = rw fine at e in cc
 
 -- what comes after a turn matters only where the turn goes on
-pub turn_alike : (t : Turn) (line step : ℕ) (f g : Items → Store → Outcome) → ((js : Items) (u : Store) → t ≡ Goes js u → f js u ≡ g js u) → after_turn t line step f ≡ after_turn t line step g
+pub turn_alike : (t : Turn) (line step : ℕ) (f g : Items → Store → Outcome)
+    → ((js : Items) (u : Store) → t ≡ Goes js u → f js u ≡ g js u) → after_turn t line step f ≡ after_turn t line step g
 turn_alike (Goes is s) line step f g same = same is s refl
 turn_alike Stops line step f g same = refl
 turn_alike (Faults k) line step f g same = refl
 
-pub turn_over : (t : Turn) (line step : ℕ) (f : Items → Store → Outcome) → ((js : Items) (u : Store) → t ≡ Goes js u → IsOver (f js u)) → IsOver (after_turn t line step f)
+pub turn_over : (t : Turn) (line step : ℕ) (f : Items → Store → Outcome)
+    → ((js : Items) (u : Store) → t ≡ Goes js u → IsOver (f js u)) → IsOver (after_turn t line step f)
 turn_over (Goes is s) line step f over = over is s refl
 turn_over Stops line step f over = tt
 turn_over (Faults k) line step f over = tt

@@ -6,10 +6,12 @@ use Rattle.c_types.specs.declared.program.Atom.TheVariants.{Known as KnownAtom}
 use Rattle.c_types.specs.declared.program.Cond.{Cond, Cond-F, fold-Cond}
 use Rattle.c_types.specs.declared.program.Cond.TheOpen.{Atom as Atom-F, Not as Not-F, All as All-F, Any as Any-F}
 use Rattle.c_types.specs.declared.program.Stmt.{Stmt, Stmt-F, fold-Stmt}
-use Rattle.c_types.specs.declared.program.Stmt.TheOpen.{Do as Do-F, Branch as Branch-F, While as While-F, DoWhile as DoWhile-F, For as For-F, Group as Group-F}
+use Rattle.c_types.specs.declared.program.Stmt.TheOpen.{Do as Do-F, Branch as Branch-F, While as While-F}
+use Rattle.c_types.specs.declared.program.Stmt.TheOpen.{DoWhile as DoWhile-F, For as For-F, Group as Group-F}
 use Rattle.c_types.specs.Program.{Program}
 
--- A condition of binary parts. The number beside an act, an atom or a Close is its mark; in a program's own items it is the line.
+-- A condition of binary parts. The number beside an act, an atom or a Close is its mark; in a program's own items it is
+-- the line.
 pub data Test : Type 0 where
   Ask : Atom → ℕ → Test
   Not : Test → Test
@@ -43,7 +45,8 @@ abbrev pub ◌then◌ : Items → Items → Items
 ◌then◌ (DoLoop c b is) r = DoLoop c b (is then r)
 ◌then◌ (DoAgain c b is) r = DoAgain c b (is then r)
 
--- A test opens to its first atom; `!` changes the sides, `&&` and `||` go from the left and stop early (6.5.3.3, 6.5.13, 6.5.14).
+-- A test opens to its first atom; `!` changes the sides, `&&` and `||` go from the left and stop early (6.5.3.3,
+-- 6.5.13, 6.5.14).
 abbrev pub ask : Test → Items → Items → Items → Items
 ask (Ask a m) x y r = If (Ask a m) x y r
 ask (Not c) x y r = ask c y x r

@@ -36,7 +36,8 @@ abbrev pub var_targets : List VarDef → List ℕ
 var_targets [] = []
 var_targets (v ∷ vs) = v.shape ∷ var_targets vs
 
--- a cell has a struct of the program, a value for each pointer field of the struct, which points to the declared struct, and a datum for each
+-- a cell has a struct of the program, a value for each pointer field of the struct, which points to the declared
+-- struct, and a datum for each
 -- data field
 pub record CellFits (shapes : List Shape) (cells : List CellRec) (c : CellRec) : Type 0 where
   pub shape : c.shape < length shapes
@@ -52,7 +53,8 @@ pub record FitsProgram (p : Program) (s : Store) : Type 0 where
 -- what the runs of a program, on any choices, come to between their steps
 pub data Visited (p : Program) : Items → Store → Type 0 where
   start : Visited p (start_of p) (empty_store (length p.vars) (length p.data_vars))
-  step : {is js : Items} {s t : Store} (choice : ℕ) → Visited p is s → turn_of p.shapes.structs (opened is) s choice ≡ Goes js t → Visited p js t
+  step : {is js : Items} {s t : Store} (choice : ℕ) → Visited p is s → turn_of p.shapes.structs (opened is) s choice
+      ≡ Goes js t → Visited p js t
 
 -- an act is one of the program's, wherever it stands
 abbrev pub ActFits : Program → Act → Type 0

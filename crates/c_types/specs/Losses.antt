@@ -1,4 +1,5 @@
--- Steps that take a reference to a cell away. The leak test of any other step has the answer that it had before the step.
+-- Steps that take a reference to a cell away. The leak test of any other step has the answer that it had before the
+-- step.
 use Rattle.std.specs.Prelude.{ℕ, List, [], ◌∷◌, length, Bool, true, false, ◌||◌, Result, Ok, Err, slice_index_or}
 use Rattle.fore_base.specs.declared.fault.Fault.{Fault}
 use Rattle.fore_base.specs.declared.store.Value.{Value}
@@ -33,7 +34,8 @@ assign_loses s to (RhsPath from) = got_cell (read s to)
 assign_loses s to RhsNull = got_cell (read s to)
 assign_loses s to (RhsNew shape) = true
 
--- an act takes a reference away: a variable or field that held a cell is overwritten or dies, or a cell is freed or made
+-- an act takes a reference away: a variable or field that held a cell is overwritten or dies, or a cell is freed or
+-- made
 abbrev pub act_loses : Act → Items → Store → Bool
 act_loses (SetPtr to from) is s = assign_loses s to from
 act_loses (SetData to from) is s = false

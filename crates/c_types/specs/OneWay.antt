@@ -1,10 +1,12 @@
--- Programs that run one way, whatever is chosen: without loops and without choices. And how many steps such a program can take.
+-- Programs that run one way, whatever is chosen: without loops and without choices. And how many steps such a program
+-- can take.
 use Rattle.std.specs.Prelude.{ℕ, ◌+◌, List, [], ◌∷◌, map, Bool, true, false, not, ◌&&◌}
 use Rattle.fore_base.specs.Lists.{sum_of}
 use Rattle.c_types.specs.declared.program.Cond.{Cond, Cond-F, fold-Cond}
 use Rattle.c_types.specs.declared.program.Cond.TheOpen.{Atom as Atom-F, Not as Not-F, All as All-F, Any as Any-F}
 use Rattle.c_types.specs.declared.program.Stmt.{Stmt, Stmt-F, fold-Stmt}
-use Rattle.c_types.specs.declared.program.Stmt.TheOpen.{Do as Do-F, Branch as Branch-F, While as While-F, DoWhile as DoWhile-F, For as For-F, Group as Group-F}
+use Rattle.c_types.specs.declared.program.Stmt.TheOpen.{Do as Do-F, Branch as Branch-F, While as While-F}
+use Rattle.c_types.specs.declared.program.Stmt.TheOpen.{DoWhile as DoWhile-F, For as For-F, Group as Group-F}
 use Rattle.c_types.specs.Program.{Program}
 use Rattle.c_types.specs.Steps.{atom_takes, act_takes}
 

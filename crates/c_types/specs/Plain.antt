@@ -6,7 +6,8 @@ use Rattle.c_types.specs.declared.program.PtrRhs.TheVariants.{Path as RhsPath, N
 use Rattle.c_types.specs.declared.program.Act.{Act}
 use Rattle.c_types.specs.declared.program.Act.TheVariants.{SetPtr, SetData, Free, Error, Halt, Return, Break, Continue}
 use Rattle.c_types.specs.declared.program.Stmt.{Stmt, Stmt-F, out-Stmt}
-use Rattle.c_types.specs.declared.program.Stmt.TheOpen.{Do as Do-F, Branch as Branch-F, While as While-F, DoWhile as DoWhile-F, For as For-F, Group as Group-F}
+use Rattle.c_types.specs.declared.program.Stmt.TheOpen.{Do as Do-F, Branch as Branch-F, While as While-F}
+use Rattle.c_types.specs.declared.program.Stmt.TheOpen.{DoWhile as DoWhile-F, For as For-F, Group as Group-F}
 use Rattle.c_types.specs.Program.{Program}
 
 abbrev pub at_most_one : List ℕ → Bool

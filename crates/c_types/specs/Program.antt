@@ -1,5 +1,6 @@
 -- Programs as contracts see them, and when one is well typed.
-use Rattle.std.specs.Prelude.{ℕ, zero, suc, List, [], ◌∷◌, map, length, Bool, true, false, ◌&&◌, nat_eq, nat_lt, nat_le, Option, Some, None, is_some, slice_get}
+use Rattle.std.specs.Prelude.{ℕ, zero, suc, List, [], ◌∷◌, map, length, Bool, true, false, ◌&&◌, nat_eq, nat_lt, nat_le}
+use Rattle.std.specs.Prelude.{Option, Some, None, is_some, slice_get}
 use Rattle.fore_base.specs.declared.shape.Shape.{Shape}
 use Rattle.fore_base.specs.declared.shape.Shapes.{Shapes}
 use Rattle.fore_base.specs.declared.limits.TheConstants.{DATUM}
@@ -10,7 +11,8 @@ use Rattle.c_types.specs.declared.program.DataPath.TheVariants.{Var as DataVar, 
 use Rattle.c_types.specs.declared.program.PtrRhs.{PtrRhs}
 use Rattle.c_types.specs.declared.program.PtrRhs.TheVariants.{Path as RhsPath, Null as RhsNull, New as RhsNew}
 use Rattle.c_types.specs.declared.program.DataRhs.{DataRhs}
-use Rattle.c_types.specs.declared.program.DataRhs.TheVariants.{Path as DataRhsPath, Known as DataRhsKnown, Choice as DataRhsChoice}
+use Rattle.c_types.specs.declared.program.DataRhs.TheVariants.{Path as DataRhsPath, Known as DataRhsKnown}
+use Rattle.c_types.specs.declared.program.DataRhs.TheVariants.{Choice as DataRhsChoice}
 use Rattle.c_types.specs.declared.program.Act.{Act}
 use Rattle.c_types.specs.declared.program.Act.TheVariants.{SetPtr, SetData, Free, Error, Halt, Return, Break, Continue}
 use Rattle.c_types.specs.declared.program.PtrOp.{PtrOp}
@@ -18,11 +20,13 @@ use Rattle.c_types.specs.declared.program.PtrOp.TheVariants.{Path as OpPath, Nul
 use Rattle.c_types.specs.declared.program.DataOp.{DataOp}
 use Rattle.c_types.specs.declared.program.DataOp.TheVariants.{Path as DataOpPath, Known as DataOpKnown}
 use Rattle.c_types.specs.declared.program.Atom.{Atom}
-use Rattle.c_types.specs.declared.program.Atom.TheVariants.{Choice as ChoiceAtom, Known as KnownAtom, Ptr as PtrAtom, Data as DataAtom}
+use Rattle.c_types.specs.declared.program.Atom.TheVariants.{Choice as ChoiceAtom, Known as KnownAtom, Ptr as PtrAtom}
+use Rattle.c_types.specs.declared.program.Atom.TheVariants.{Data as DataAtom}
 use Rattle.c_types.specs.declared.program.Cond.{Cond, Cond-F, fold-Cond}
 use Rattle.c_types.specs.declared.program.Cond.TheOpen.{Atom as Atom-F, Not as Not-F, All as All-F, Any as Any-F}
 use Rattle.c_types.specs.declared.program.Stmt.{Stmt, Stmt-F, fold-Stmt}
-use Rattle.c_types.specs.declared.program.Stmt.TheOpen.{Do as Do-F, Branch as Branch-F, While as While-F, DoWhile as DoWhile-F, For as For-F, Group as Group-F}
+use Rattle.c_types.specs.declared.program.Stmt.TheOpen.{Do as Do-F, Branch as Branch-F, While as While-F}
+use Rattle.c_types.specs.declared.program.Stmt.TheOpen.{DoWhile as DoWhile-F, For as For-F, Group as Group-F}
 use Rattle.c_types.specs.declared.program.VarDef.{VarDef}
 
 -- the structs, the pointer variables, the names of the data variables, and the body
@@ -49,7 +53,8 @@ body_of Outside = InBody
 body_of InBody = InBody
 body_of InNext = InNext
 
--- `break` and `continue` stand in the body of a loop, and none in a `next`, also not in a loop's body there (6.8.6.2, 6.8.6.3)
+-- `break` and `continue` stand in the body of a loop, and none in a `next`, also not in a loop's body there (6.8.6.2,
+-- 6.8.6.3)
 abbrev pub is_in_body : Spot → Bool
 is_in_body InBody = true
 is_in_body _ = false
@@ -182,4 +187,5 @@ module _ (shapes : List Shape) where
 unfoldable pub is_typed : Program → Bool
 is_typed p =
     (shapes_typed (length p.shapes.structs) p.shapes.structs && vars_typed (length p.shapes.structs) p.vars)
-    && each_typed p.shapes.structs p.vars (length p.data_vars) (map (stmt_typed p.shapes.structs p.vars (length p.data_vars)) p.body) Outside
+    && each_typed p.shapes.structs p.vars (length p.data_vars)
+    (map (stmt_typed p.shapes.structs p.vars (length p.data_vars)) p.body) Outside

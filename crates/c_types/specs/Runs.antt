@@ -10,7 +10,8 @@ use Rattle.c_types.specs.Program.{Program}
 use Rattle.c_types.specs.Control.{Items, Done, Do, Close, If, Loop, Again, DoLoop, DoAgain, opened, start_of}
 use Rattle.c_types.specs.Steps.{Turn, Goes, Stops, Faults, turn_of, takes, mark_of}
 
--- The choice of a step, where it takes one: `next` is given the choice, the choices that are left, and how many were used.
+-- The choice of a step, where it takes one: `next` is given the choice, the choices that are left, and how many were
+-- used.
 abbrev pub supply : Bool → List ℕ → ℕ → ℕ → (ℕ → List ℕ → ℕ → Outcome) → Outcome
 supply false cs step used next = next 0 cs used
 supply true [] step used next = Starved step
@@ -42,7 +43,10 @@ module _ (shapes : List Shape) (line : ℕ → ℕ) (final : Items → ℕ → O
   -- one step of an opened list in a run, after `step` steps; `next` is the rest of the run
   abbrev pub advance : Items → (ℕ → Items → Store → List ℕ → ℕ → Outcome) → ℕ → Store → List ℕ → ℕ → Outcome
   advance is next step s cs used =
-      unless_done is step (supply (takes is) cs (step + 1) used (λ x ds u. after_turn (turn_of shapes is s x) (line (mark_of is)) (step + 1) (λ js t. next (step + 1) js t ds u)))
+      unless_done is step
+      (supply (takes is) cs (step + 1) used
+      (λ x ds u. after_turn (turn_of shapes is s x) (line (mark_of is)) (step + 1)
+      (λ js t. next (step + 1) js t ds u)))
 
   -- at most n further steps, after `step` steps and `used` choices; `line` tells the line of a mark
   abbrev pub go : ℕ → ℕ → Items → Store → List ℕ → ℕ → Outcome
@@ -51,11 +55,13 @@ module _ (shapes : List Shape) (line : ℕ → ℕ) (final : Items → ℕ → O
 
 -- there are no cells, and no variable is set
 abbrev pub empty_store : ℕ → ℕ → Store
-empty_store ptrs datums = record { vars = replicate ptrs Uninit; data_vars = replicate datums Undefined; cells = []; next = 1 }
+empty_store ptrs datums =
+    record { vars = replicate ptrs Uninit; data_vars = replicate datums Undefined; cells = []; next = 1 }
 
 abbrev pub own_line : ℕ → ℕ
 own_line mark = mark
 
 -- up to n steps on these choices, from the items of main's body and the empty store
 unfoldable pub run : Program → List ℕ → ℕ → Outcome
-run p choices n = go p.shapes.structs own_line at_end n 0 (start_of p) (empty_store (length p.vars) (length p.data_vars)) choices 0
+run p choices n = go p.shapes.structs own_line at_end n 0 (start_of p)
+    (empty_store (length p.vars) (length p.data_vars)) choices 0

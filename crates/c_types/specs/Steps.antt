@@ -1,5 +1,6 @@
 -- One step of a program: what it does to the store, which items are left, and the faults that it can meet.
-use Rattle.std.specs.Prelude.{ℕ, zero, suc, List, [], ◌∷◌, ◌++◌, length, replicate, nat_eq, Bool, true, false, not, if◌then◌else◌, Option, Some, None, Result, Ok, Err}
+use Rattle.std.specs.Prelude.{ℕ, zero, suc, List, [], ◌∷◌, ◌++◌, length, replicate, nat_eq, Bool, true, false, not}
+use Rattle.std.specs.Prelude.{if◌then◌else◌, Option, Some, None, Result, Ok, Err}
 use Rattle.fore_base.specs.declared.fault.Fault.{Fault}
 use Rattle.fore_base.specs.declared.fault.Fault.TheVariants.{Leak, Assertion, IndetTest}
 use Rattle.fore_base.specs.declared.shape.Shape.{Shape}
@@ -9,7 +10,8 @@ use Rattle.fore_base.specs.declared.store.Datum.{Datum}
 use Rattle.fore_base.specs.declared.store.Datum.TheVariants.{Undefined, Known}
 use Rattle.fore_base.specs.declared.store.CellRec.{CellRec}
 use Rattle.fore_base.specs.declared.store.Store.{Store}
-use Rattle.fore_base.specs.Stores.{onward, var_of, datum_of, set_var, set_datum, kill, load_datum, store_datum, walk, write_from, grown, freed}
+use Rattle.fore_base.specs.Stores.{onward, var_of, datum_of, set_var, set_datum, kill, load_datum, store_datum, walk}
+use Rattle.fore_base.specs.Stores.{write_from, grown, freed}
 use Rattle.fore_base.specs.Heap.{leaks}
 use Rattle.fore_base.specs.Shapes.{targets_of, datums_of}
 use Rattle.c_types.specs.declared.program.Path.{Path}
@@ -18,7 +20,8 @@ use Rattle.c_types.specs.declared.program.DataPath.TheVariants.{Var as DataVar, 
 use Rattle.c_types.specs.declared.program.PtrRhs.{PtrRhs}
 use Rattle.c_types.specs.declared.program.PtrRhs.TheVariants.{Path as RhsPath, Null as RhsNull, New as RhsNew}
 use Rattle.c_types.specs.declared.program.DataRhs.{DataRhs}
-use Rattle.c_types.specs.declared.program.DataRhs.TheVariants.{Path as DataRhsPath, Known as DataRhsKnown, Choice as DataRhsChoice}
+use Rattle.c_types.specs.declared.program.DataRhs.TheVariants.{Path as DataRhsPath, Known as DataRhsKnown}
+use Rattle.c_types.specs.declared.program.DataRhs.TheVariants.{Choice as DataRhsChoice}
 use Rattle.c_types.specs.declared.program.Act.{Act}
 use Rattle.c_types.specs.declared.program.Act.TheVariants.{SetPtr, SetData, Free, Error, Halt, Return, Break, Continue}
 use Rattle.c_types.specs.declared.program.PtrOp.{PtrOp}
@@ -26,8 +29,10 @@ use Rattle.c_types.specs.declared.program.PtrOp.TheVariants.{Path as OpPath, Nul
 use Rattle.c_types.specs.declared.program.DataOp.{DataOp}
 use Rattle.c_types.specs.declared.program.DataOp.TheVariants.{Path as DataOpPath, Known as DataOpKnown}
 use Rattle.c_types.specs.declared.program.Atom.{Atom}
-use Rattle.c_types.specs.declared.program.Atom.TheVariants.{Choice as ChoiceAtom, Known as KnownAtom, Ptr as PtrAtom, Data as DataAtom}
-use Rattle.c_types.specs.Control.{Items, Done, Do, Close, If, Loop, Again, DoLoop, DoAgain, Ask, Not, Both, Either, ◌then◌, after_again, from_again, closed_ptrs, closed_datums}
+use Rattle.c_types.specs.declared.program.Atom.TheVariants.{Choice as ChoiceAtom, Known as KnownAtom, Ptr as PtrAtom}
+use Rattle.c_types.specs.declared.program.Atom.TheVariants.{Data as DataAtom}
+use Rattle.c_types.specs.Control.{Items, Done, Do, Close, If, Loop, Again, DoLoop, DoAgain, Ask, Not, Both, Either}
+use Rattle.c_types.specs.Control.{◌then◌, after_again, from_again, closed_ptrs, closed_datums}
 
 -- In a `do` block the order of the lines is the order of evaluation, and the first fault ends it.
 infixl 10 ◌>>=◌
@@ -125,7 +130,12 @@ write_data s (DataField base f) d = do
 -- a new cell of a struct: its value is indeterminate (7.22.3.4)
 abbrev pub blank : List Shape → ℕ → ℕ → CellRec
 blank shapes number shape =
-    record { number = number; shape = shape; datums = replicate (datums_of shapes shape) Undefined; fields = replicate (length (targets_of shapes shape)) Uninit }
+    record {
+      number = number;
+      shape = shape;
+      datums = replicate (datums_of shapes shape) Undefined;
+      fields = replicate (length (targets_of shapes shape)) Uninit;
+    }
 
 -- an assignment to a pointer: the right side first (6.5.16 leaves the order open)
 abbrev pub assign : List Shape → Store → Path → PtrRhs → Result Store Fault

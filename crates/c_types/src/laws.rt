@@ -19,65 +19,89 @@ use crate::program::Typed;
 
 /// A run that has ended, met a fault or stopped for want of a choice stays so with more steps.
 pub fn over_stays(program: &Typed)
-    ensures { (choices : List ℕ) (fewer more : ℕ) → fewer ≤ more → IsOver (run program.now choices fewer) → run program.now choices more ≡ run program.now choices fewer }
+    ensures { (choices : List ℕ) (fewer more : ℕ) → fewer ≤ more → IsOver (run program.now choices fewer)
+        → run program.now choices more ≡ run program.now choices fewer }
 {
     let _program = program;
 }
 
 /// The run of as many steps as the number of the faulty step meets the same fault.
 pub fn fault_at_its_step(program: &Typed)
-    ensures { (choices : List ℕ) (steps : ℕ) (kind : Kind) (line step : ℕ) → run program.now choices steps ≡ Outcome.Fault kind line step → (step ≤ steps) × (run program.now choices step ≡ Outcome.Fault kind line step) }
+    ensures { (choices : List ℕ) (steps : ℕ) (kind : Kind) (line step : ℕ) → run program.now choices steps
+        ≡ Outcome.Fault kind line step → (step ≤ steps)
+        × (run program.now choices step ≡ Outcome.Fault kind line step) }
 {
     let _program = program;
 }
 
 /// A plain program takes no choice, and is over after as many steps as it has statements. So one run decides it.
 pub fn plain_run_decides(program: &Typed)
-    ensures alike { is_plain program.now ≡ true → (choices others : List ℕ) (steps : ℕ) → run program.now choices steps ≡ run program.now others steps }
-    ensures over { is_plain program.now ≡ true → (choices : List ℕ) (steps : ℕ) → length (lines_in program.now.body) ≤ steps → IsOver (run program.now choices steps) }
-    ensures decides { is_plain program.now ≡ true → (limit : ℕ) → length (lines_in program.now.body) ≤ limit → (choices : List ℕ) (steps : ℕ) → IsFault (run program.now choices steps) → run program.now choices steps ≡ run program.now [] limit }
+    ensures alike { is_plain program.now ≡ true → (choices others : List ℕ) (steps : ℕ) → run program.now choices steps
+        ≡ run program.now others steps }
+    ensures over { is_plain program.now ≡ true → (choices : List ℕ) (steps : ℕ) → length (lines_in program.now.body) ≤ steps
+        → IsOver (run program.now choices steps) }
+    ensures decides { is_plain program.now ≡ true → (limit : ℕ) → length (lines_in program.now.body) ≤ limit
+        → (choices : List ℕ) (steps : ℕ) → IsFault (run program.now choices steps) → run program.now choices steps
+        ≡ run program.now [] limit }
 {
     let _program = program;
 }
 
 /// More choices than a run needs change nothing.
 pub fn more_choices_are_ignored(program: &Typed)
-    ensures { (choices more : List ℕ) (steps : ℕ) → (IsStarved (run program.now choices steps) → ⊥) → run program.now (choices ++ more) steps ≡ run program.now choices steps }
+    ensures { (choices more : List ℕ) (steps : ℕ) → (IsStarved (run program.now choices steps) → ⊥)
+        → run program.now (choices ++ more) steps ≡ run program.now choices steps }
 {
     let _program = program;
 }
 
-/// A run with too few choices is starved at the step that needs the missing one: with any more choices it gets there, and this step reads the
+/// A run with too few choices is starved at the step that needs the missing one: with any more choices it gets there,
+/// and this step reads the
 /// first of them, which no step before it does.
 pub fn starved_where_needed(program: &Typed)
-    ensures { (choices : List ℕ) (steps step : ℕ) → run program.now choices steps ≡ Outcome.Starved step → (1 ≤ step) × (step ≤ steps) × ((more : List ℕ) → run program.now (choices ++ more) (step - 1) ≡ Outcome.StillRunning) × ((more : List ℕ) (bad later : ℕ) → 2 ≤ bad → step ≤ later → run program.now (choices ++ bad ∷ more) later ≡ Outcome.BadChoice (length choices)) }
+    ensures { (choices : List ℕ) (steps step : ℕ) → run program.now choices steps ≡ Outcome.Starved step → (1 ≤ step)
+        × (step ≤ steps) × ((more : List ℕ) → run program.now (choices ++ more) (step - 1) ≡ Outcome.StillRunning)
+        × ((more : List ℕ) (bad later : ℕ) → 2 ≤ bad → step ≤ later → run program.now (choices ++ bad ∷ more) later
+        ≡ Outcome.BadChoice (length choices)) }
 {
     let _program = program;
 }
 
-/// A program without loops and choices takes no choice, and is over after as many steps as it has acts, atoms and Closes. So one run decides it.
+/// A program without loops and choices takes no choice, and is over after as many steps as it has acts, atoms and
+/// Closes. So one run decides it.
 pub fn one_way_run_decides(program: &Typed)
-    ensures alike { is_one_way program.now ≡ true → (choices others : List ℕ) (steps : ℕ) → run program.now choices steps ≡ run program.now others steps }
-    ensures over { is_one_way program.now ≡ true → (choices : List ℕ) (steps : ℕ) → most_steps program.now ≤ steps → IsOver (run program.now choices steps) }
-    ensures decides { is_one_way program.now ≡ true → (limit : ℕ) → most_steps program.now ≤ limit → (choices : List ℕ) (steps : ℕ) → IsFault (run program.now choices steps) → run program.now choices steps ≡ run program.now [] limit }
+    ensures alike { is_one_way program.now ≡ true → (choices others : List ℕ) (steps : ℕ) → run program.now choices steps
+        ≡ run program.now others steps }
+    ensures over { is_one_way program.now ≡ true → (choices : List ℕ) (steps : ℕ) → most_steps program.now ≤ steps
+        → IsOver (run program.now choices steps) }
+    ensures decides { is_one_way program.now ≡ true → (limit : ℕ) → most_steps program.now ≤ limit → (choices : List ℕ) (steps : ℕ)
+        → IsFault (run program.now choices steps) → run program.now choices steps ≡ run program.now [] limit }
 {
     let _program = program;
 }
 
-/// A run begins with a store that is proper and fits the program, and each step keeps both. So every store that a run visits is proper and fits.
+/// A run begins with a store that is proper and fits the program, and each step keeps both. So every store that a run
+/// visits is proper and fits.
 pub fn steps_keep_stores(program: &Typed)
-    ensures begins { ItemsFit program.now (start_of program.now) × IsProper (empty_store (length program.now.vars) (length program.now.data_vars)) × FitsProgram program.now (empty_store (length program.now.vars) (length program.now.data_vars)) }
-    ensures keeps { (is js : Items) (s t : Store) (choice : ℕ) → ItemsFit program.now is → IsProper s → FitsProgram program.now s → turn_of program.now.shapes.structs (opened is) s choice ≡ Goes js t → ItemsFit program.now js × IsProper t × FitsProgram program.now t }
+    ensures begins { ItemsFit program.now (start_of program.now)
+        × IsProper (empty_store (length program.now.vars) (length program.now.data_vars))
+        × FitsProgram program.now (empty_store (length program.now.vars) (length program.now.data_vars)) }
+    ensures keeps { (is js : Items) (s t : Store) (choice : ℕ) → ItemsFit program.now is → IsProper s → FitsProgram program.now s
+        → turn_of program.now.shapes.structs (opened is) s choice ≡ Goes js t → ItemsFit program.now js × IsProper t
+        × FitsProgram program.now t }
     ensures visited { (is : Items) (s : Store) → Visited program.now is s → IsProper s × FitsProgram program.now s }
 {
     let _body = &program.body;
 }
 
-/// A step that takes no reference to a cell away (no variable or field that held a cell is overwritten or dies, no cell is freed, and none is
+/// A step that takes no reference to a cell away (no variable or field that held a cell is overwritten or dies, no cell
+/// is freed, and none is
 /// made) leaks exactly if the store had leaked before it.
 pub fn leaks_by_losses_alone(program: &Typed)
-    ensures kept { (is : Items) (s : Store) (choice : ℕ) → loses (opened is) s ≡ false → leaks s ≡ false → turn_of program.now.shapes.structs (opened is) s choice ≡ Faults Leak → ⊥ }
-    ensures stays { (is js : Items) (s t : Store) (choice : ℕ) → loses (opened is) s ≡ false → leaks s ≡ true → turn_of program.now.shapes.structs (opened is) s choice ≡ Goes js t → ⊥ }
+    ensures kept { (is : Items) (s : Store) (choice : ℕ) → loses (opened is) s ≡ false → leaks s ≡ false
+        → turn_of program.now.shapes.structs (opened is) s choice ≡ Faults Leak → ⊥ }
+    ensures stays { (is js : Items) (s t : Store) (choice : ℕ) → loses (opened is) s ≡ false → leaks s ≡ true
+        → turn_of program.now.shapes.structs (opened is) s choice ≡ Goes js t → ⊥ }
 {
     let _body = &program.body;
 }

@@ -1,7 +1,9 @@
 //! Typed programs, and what they mean.
 //!
-//! `program` has the types of programs: what the front end gives, and the machine and the control graph read. `Typed` keeps that its
-//! program is well typed. `outcome` says how a run comes out. The definitions of control, steps and runs stand in `specs/`, for the
+//! `program` has the types of programs: what the front end gives, and the machine and the control graph read. `Typed`
+//! keeps that its
+//! program is well typed. `outcome` says how a run comes out. The definitions of control, steps and runs stand in
+//! `specs/`, for the
 //! whole language; `laws` says what holds of every run, each law being the contract of a function that does nothing.
 #![tactic(auto)]
 

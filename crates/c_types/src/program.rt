@@ -6,7 +6,8 @@ use fore_base::shape::Shapes;
 use fore_base::text::Text;
 use std::marker::Model;
 
-/// A pointer: a variable, and the pointer fields that lead on from it, each by its number among the pointer fields of the struct that stands
+/// A pointer: a variable, and the pointer fields that lead on from it, each by its number among the pointer fields of
+/// the struct that stands
 /// there. No field means the variable itself.
 #[derive(PartialEq, Eq, Debug, Drop)]
 pub struct Path {
@@ -170,8 +171,10 @@ pub struct VarDef {
 
 /// A program: its structs, its pointer and data variables in order of declaration, and the one group of main's block.
 ///
-/// Every number in it is in range; each field on a path is one of the struct and kind that stands there; both sides of an assignment or
-/// comparison, and a new cell and its target, agree in struct; a known datum is at most `DATUM`; each `&&` and `||` has a part; each `break` and
+/// Every number in it is in range; each field on a path is one of the struct and kind that stands there; both sides of
+/// an assignment or
+/// comparison, and a new cell and its target, agree in struct; a known datum is at most `DATUM`; each `&&` and `||` has
+/// a part; each `break` and
 /// `continue` stands in the body of a loop, and none in what a `for` does between its rounds.
 #[derive(Debug, Drop)]
 pub struct Typed {
@@ -197,5 +200,12 @@ impl Model for Typed {
 
     ghost view = { λ p. record { shapes = p.shapes; vars = p.vars; data_vars = p.data_vars; body = p.body } };
 
-    ghost invariant = { λ p. is_typed (record { shapes = p.shapes; vars = p.vars; data_vars = p.data_vars; body = p.body }) ≡ true };
+    ghost invariant = { λ p.
+        is_typed
+        (record {
+          shapes = p.shapes;
+          vars = p.vars;
+          data_vars = p.data_vars;
+          body = p.body;
+        }) ≡ true };
 }

@@ -1,5 +1,6 @@
 -- What each kind of site breaks, and what lists of sites break.
-use Rattle.std.proofs.Common.{◌≡◌, ℕ, Bool, true, false, not, ◌&&◌, ◌||◌, nat_eq, List, [], ◌∷◌, ◌++◌, Option, Some, None, is_some, map, slice_get, refl, sym, ap, ◌∙◌}
+use Rattle.std.proofs.Common.{◌≡◌, ℕ, Bool, true, false, not, ◌&&◌, ◌||◌, nat_eq, List, [], ◌∷◌, ◌++◌, Option, Some}
+use Rattle.std.proofs.Common.{None, is_some, map, slice_get, refl, sym, ap, ◌∙◌}
 use Rattle.std.proofs.lemmas.List.{append_assoc}
 use Rattle.fore_base.specs.declared.limits.TheConstants.{STRUCTS, FIELDS, VARIABLES, ENUMERATORS, STATEMENTS}
 use Rattle.fore_base.specs.declared.place.Place.{Place}
@@ -11,7 +12,8 @@ use Rattle.c_types.specs.declared.program.DataPath.{DataPath}
 use Rattle.c_types.specs.declared.program.Path.{Path}
 use Rattle.c_typing.specs.Globals.{Globals, struct_number, value_of, field_use}
 use Rattle.c_typing.specs.Profile.{is_allowed, is_allowed_head, is_main, is_main_head}
-use Rattle.c_typing.specs.Rules.{when, maybe_place, differ, wanted_struct, wants_pointer, wants_datum, is_datum, is_pointer}
+use Rattle.c_typing.specs.Rules.{when, maybe_place, differ, wanted_struct, wants_pointer, wants_datum, is_datum}
+use Rattle.c_typing.specs.Rules.{is_pointer}
 use Rattle.c_typing.specs.Scopes.{Scope, look_up}
 use Rattle.c_typing.specs.Sites as site
 use Rattle.c_typing.specs.Sites.{Site, struct_at}
@@ -38,13 +40,16 @@ one : (f : Place → TypeFault) (b : Bool) (at : Place) → map f (when b at) ++
 one f true at = refl
 one f false at = refl
 
-two : (f h : Place → TypeFault) (b c : Bool) (at : Place) → map f (when b at) ++ (map h (when c at) ++ []) ≡ fault_when b (f at) ++ fault_when c (h at)
+two : (f h : Place → TypeFault) (b c : Bool) (at : Place) → map f (when b at) ++ (map h (when c at) ++ [])
+    ≡ fault_when b (f at) ++ fault_when c (h at)
 two f h true true at = refl
 two f h true false at = refl
 two f h false true at = refl
 two f h false false at = refl
 
-three : (f h k : Place → TypeFault) (b c d : Bool) (at : Place) → map f (when b at) ++ (map h (when c at) ++ (map k (when d at) ++ [])) ≡ fault_when b (f at) ++ fault_when c (h at) ++ fault_when d (k at)
+three : (f h k : Place → TypeFault) (b c d : Bool) (at : Place) → map f (when b at)
+    ++ (map h (when c at) ++ (map k (when d at) ++ [])) ≡ fault_when b (f at) ++ fault_when c (h at)
+    ++ fault_when d (k at)
 three f h k true true true at = refl
 three f h k true true false at = refl
 three f h k true false true at = refl
@@ -61,39 +66,53 @@ maybe f (Some at) = refl
 module _ (g : Globals) where
   pub breaches-append : (xs ys : List Site) → breaches_of g (xs ++ ys) ≡ breaches_of g xs ++ breaches_of g ys
   breaches-append [] ys = refl
-  breaches-append (x ∷ xs) ys = ap (λ k. breaches_at g x ++ k) (breaches-append xs ys) ∙ sym (append_assoc (breaches_at g x) (breaches_of g xs) (breaches_of g ys))
+  breaches-append (x ∷ xs) ys = ap (λ k. breaches_at g x ++ k) (breaches-append xs ys)
+      ∙ sym (append_assoc (breaches_at g x) (breaches_of g xs) (breaches_of g ys))
 
-  pub at-UsesStruct : (n : Name) → breaches_at g (site.UsesStruct n) ≡ fault_when (not (is_some (struct_number g n.text))) (Rule 1 n.at)
+  pub at-UsesStruct : (n : Name) → breaches_at g (site.UsesStruct n)
+      ≡ fault_when (not (is_some (struct_number g n.text))) (Rule 1 n.at)
   at-UsesStruct n = one (Rule 1) _ n.at
 
   pub at-UsesEnum : (n : Name) → breaches_at g (site.UsesEnum n) ≡ fault_when (not (has n.text g.enums)) (Rule 4 n.at)
   at-UsesEnum n = one (Rule 4) _ n.at
 
-  pub at-Struct : (n : Name) (earlier : List Text) (count : ℕ) → breaches_at g (site.Defines site.Struct n earlier count) ≡ fault_when (has n.text earlier) (Rule 5 n.at) ++ fault_when (nat_eq count STRUCTS) (Limit 2 n.at)
+  pub at-Struct : (n : Name) (earlier : List Text) (count : ℕ)
+      → breaches_at g (site.Defines site.Struct n earlier count) ≡ fault_when (has n.text earlier) (Rule 5 n.at)
+      ++ fault_when (nat_eq count STRUCTS) (Limit 2 n.at)
   at-Struct n earlier count = two (Rule 5) (Limit 2) _ _ n.at
 
-  pub at-Member : (n : Name) (earlier : List Text) (count : ℕ) → breaches_at g (site.Defines site.Member n earlier count) ≡ fault_when (has n.text earlier) (Rule 5 n.at) ++ fault_when (nat_eq count FIELDS) (Limit 3 n.at)
+  pub at-Member : (n : Name) (earlier : List Text) (count : ℕ)
+      → breaches_at g (site.Defines site.Member n earlier count) ≡ fault_when (has n.text earlier) (Rule 5 n.at)
+      ++ fault_when (nat_eq count FIELDS) (Limit 3 n.at)
   at-Member n earlier count = two (Rule 5) (Limit 3) _ _ n.at
 
-  pub at-Variable : (n : Name) (earlier : List Text) (count : ℕ) → breaches_at g (site.Defines site.Variable n earlier count) ≡ fault_when (has n.text earlier) (Rule 5 n.at) ++ fault_when (nat_eq count VARIABLES) (Limit 4 n.at)
+  pub at-Variable : (n : Name) (earlier : List Text) (count : ℕ)
+      → breaches_at g (site.Defines site.Variable n earlier count) ≡ fault_when (has n.text earlier) (Rule 5 n.at)
+      ++ fault_when (nat_eq count VARIABLES) (Limit 4 n.at)
   at-Variable n earlier count = two (Rule 5) (Limit 4) _ _ n.at
 
-  pub at-Value : (n : Name) (earlier : List Text) (count : ℕ) → breaches_at g (site.Defines site.Value n earlier count) ≡ fault_when (has n.text earlier) (Rule 5 n.at) ++ fault_when (nat_eq count ENUMERATORS) (Limit 5 n.at)
+  pub at-Value : (n : Name) (earlier : List Text) (count : ℕ) → breaches_at g (site.Defines site.Value n earlier count)
+      ≡ fault_when (has n.text earlier) (Rule 5 n.at) ++ fault_when (nat_eq count ENUMERATORS) (Limit 5 n.at)
   at-Value n earlier count = two (Rule 5) (Limit 5) _ _ n.at
 
-  pub at-Enum : (n : Name) (earlier : List Text) (count : ℕ) → breaches_at g (site.Defines site.Enum n earlier count) ≡ fault_when (has n.text earlier) (Rule 5 n.at)
+  pub at-Enum : (n : Name) (earlier : List Text) (count : ℕ) → breaches_at g (site.Defines site.Enum n earlier count)
+      ≡ fault_when (has n.text earlier) (Rule 5 n.at)
   at-Enum n earlier count = one (Rule 5) _ n.at
 
-  pub at-Begins : (scope : Scope) (b : Bool) (n : Name) → breaches_at g (site.Begins scope b n) ≡ fault_when (not (is_some (look_up scope n.text) || (not b && is_some (value_of g n.text)))) (Rule 3 n.at)
+  pub at-Begins : (scope : Scope) (b : Bool) (n : Name) → breaches_at g (site.Begins scope b n)
+      ≡ fault_when (not (is_some (look_up scope n.text) || (not b && is_some (value_of g n.text)))) (Rule 3 n.at)
   at-Begins scope b n = one (Rule 3) _ n.at
 
-  pub at-Follows-Pointer : (p : Path) (shape : ℕ) (a : Arrow) → breaches_at g (site.Follows (meaning.Pointer p (Some shape)) a) ≡ fault_when (not (is_some (field_use g shape a.field.text))) (Rule 2 a.field.at)
+  pub at-Follows-Pointer : (p : Path) (shape : ℕ) (a : Arrow)
+      → breaches_at g (site.Follows (meaning.Pointer p (Some shape)) a)
+      ≡ fault_when (not (is_some (field_use g shape a.field.text))) (Rule 2 a.field.at)
   at-Follows-Pointer p shape a = one (Rule 2) _ a.field.at
 
   pub at-Follows-Undefined : (p : Path) (a : Arrow) → breaches_at g (site.Follows (meaning.Pointer p None) a) ≡ []
   at-Follows-Undefined p a = refl
 
-  pub at-Follows-Datum : (d : DataPath) (a : Arrow) → breaches_at g (site.Follows (meaning.Datum d) a) ≡ Rule 9 a.at ∷ []
+  pub at-Follows-Datum : (d : DataPath) (a : Arrow) → breaches_at g (site.Follows (meaning.Datum d) a) ≡ Rule 9 a.at
+      ∷ []
   at-Follows-Datum d a = refl
 
   pub at-Follows-Known : (k : ℕ) (a : Arrow) → breaches_at g (site.Follows (meaning.Known k) a) ≡ []
@@ -111,37 +130,50 @@ module _ (g : Globals) where
   pub at-Follows-Broken : (a : Arrow) → breaches_at g (site.Follows meaning.Broken a) ≡ []
   at-Follows-Broken a = refl
 
-  pub at-Measures : (star : Place) (m : Meaning) → breaches_at g (site.Measures star m) ≡ fault_when (is_datum m) (Rule 9 star)
+  pub at-Measures : (star : Place) (m : Meaning) → breaches_at g (site.Measures star m)
+      ≡ fault_when (is_datum m) (Rule 9 star)
   at-Measures star m = one (Rule 9) _ star
 
-  pub at-Stands : (w : Want) (at : Place) (m : Meaning) → breaches_at g (site.Stands w at m) ≡ fault_when (differ (wanted_struct w) (struct_at m)) (Rule 6 at) ++ fault_when (wants_pointer w && is_datum m) (Rule 7 at) ++ fault_when (wants_datum w && is_pointer m) (Rule 8 at)
+  pub at-Stands : (w : Want) (at : Place) (m : Meaning) → breaches_at g (site.Stands w at m)
+      ≡ fault_when (differ (wanted_struct w) (struct_at m)) (Rule 6 at)
+      ++ fault_when (wants_pointer w && is_datum m) (Rule 7 at)
+      ++ fault_when (wants_datum w && is_pointer m) (Rule 8 at)
   at-Stands w at m = three (Rule 6) (Rule 7) (Rule 8) _ _ _ at
 
-  pub at-Chooses : (w : Want) (at : Place) → breaches_at g (site.Chooses w at) ≡ fault_when (wants_pointer w) (Rule 7 at)
+  pub at-Chooses : (w : Want) (at : Place) → breaches_at g (site.Chooses w at)
+      ≡ fault_when (wants_pointer w) (Rule 7 at)
   at-Chooses w at = one (Rule 7) _ at
 
-  pub at-Allocates : (w : Want) (at : Place) → breaches_at g (site.Allocates w at) ≡ fault_when (wants_datum w) (Rule 8 at)
+  pub at-Allocates : (w : Want) (at : Place) → breaches_at g (site.Allocates w at)
+      ≡ fault_when (wants_datum w) (Rule 8 at)
   at-Allocates w at = one (Rule 8) _ at
 
-  pub at-Casts : (w : Want) (n : Name) → breaches_at g (site.Casts w n) ≡ fault_when (differ (wanted_struct w) (struct_number g n.text)) (Rule 6 n.at)
+  pub at-Casts : (w : Want) (n : Name) → breaches_at g (site.Casts w n)
+      ≡ fault_when (differ (wanted_struct w) (struct_number g n.text)) (Rule 6 n.at)
   at-Casts w n = one (Rule 6) _ n.at
 
-  pub at-Sizes : (w : Want) (at : Place) (shape : Option ℕ) → breaches_at g (site.Sizes w at shape) ≡ fault_when (differ (wanted_struct w) shape) (Rule 10 at)
+  pub at-Sizes : (w : Want) (at : Place) (shape : Option ℕ) → breaches_at g (site.Sizes w at shape)
+      ≡ fault_when (differ (wanted_struct w) shape) (Rule 10 at)
   at-Sizes w at shape = one (Rule 10) _ at
 
-  pub at-Calls : (scope : Scope) (spot : Spot) (n : Name) (os : List Operand) → breaches_at g (site.Calls scope spot n os) ≡ fault_when (not (is_allowed g scope spot n.text os)) (Rule 15 n.at)
+  pub at-Calls : (scope : Scope) (spot : Spot) (n : Name) (os : List Operand)
+      → breaches_at g (site.Calls scope spot n os) ≡ fault_when (not (is_allowed g scope spot n.text os)) (Rule 15 n.at)
   at-Calls scope spot n os = one (Rule 15) _ n.at
 
   pub at-Jumps : (b : Bool) (at : Place) → breaches_at g (site.Jumps b at) ≡ fault_when (not b) (Rule 11 at)
   at-Jumps b at = one (Rule 11) _ at
 
-  pub at-Counts : (places : List Place) → breaches_at g (site.Counts places) ≡ fault_at (Limit 7) (slice_get places STATEMENTS)
+  pub at-Counts : (places : List Place) → breaches_at g (site.Counts places)
+      ≡ fault_at (Limit 7) (slice_get places STATEMENTS)
   at-Counts places = maybe (Limit 7) _
 
-  pub at-Declares : (h : Head) → breaches_at g (site.Declares h) ≡ fault_when (not (is_allowed_head h)) (Rule 15 h.name.at)
+  pub at-Declares : (h : Head) → breaches_at g (site.Declares h)
+      ≡ fault_when (not (is_allowed_head h)) (Rule 15 h.name.at)
   at-Declares h = one (Rule 15) _ h.name.at
 
-  pub at-Functions : (b : Bool) (h : Head) → breaches_at g (site.Functions b h) ≡ fault_when (b || not (is_main h)) (Rule 13 h.name.at) ++ fault_when (not b && (is_main h && not (is_main_head h))) (Rule 15 h.name.at)
+  pub at-Functions : (b : Bool) (h : Head) → breaches_at g (site.Functions b h)
+      ≡ fault_when (b || not (is_main h)) (Rule 13 h.name.at)
+      ++ fault_when (not b && (is_main h && not (is_main_head h))) (Rule 15 h.name.at)
   at-Functions b h = two (Rule 13) (Rule 15) _ _ h.name.at
 
   pub at-Globally : (n : Name) → breaches_at g (site.Globally n) ≡ Rule 14 n.at ∷ []
@@ -153,4 +185,36 @@ module _ (g : Globals) where
   pub at-Overflows : (over : Option Place) → breaches_at g (site.Overflows over) ≡ fault_at (Limit 8) over
   at-Overflows over = maybe (Limit 8) over
 
-pub ruleset breaching = (breaches-append, at-UsesStruct, at-UsesEnum, at-Struct, at-Member, at-Variable, at-Value, at-Enum, at-Begins, at-Follows-Pointer, at-Follows-Undefined, at-Follows-Datum, at-Follows-Known, at-Follows-Zero, at-Follows-Null, at-Follows-Call, at-Follows-Broken, at-Measures, at-Stands, at-Chooses, at-Allocates, at-Casts, at-Sizes, at-Calls, at-Jumps, at-Counts, at-Declares, at-Functions, at-Globally, at-Ends, at-Overflows)
+pub ruleset breaching = (
+  breaches-append,
+  at-UsesStruct,
+  at-UsesEnum,
+  at-Struct,
+  at-Member,
+  at-Variable,
+  at-Value,
+  at-Enum,
+  at-Begins,
+  at-Follows-Pointer,
+  at-Follows-Undefined,
+  at-Follows-Datum,
+  at-Follows-Known,
+  at-Follows-Zero,
+  at-Follows-Null,
+  at-Follows-Call,
+  at-Follows-Broken,
+  at-Measures,
+  at-Stands,
+  at-Chooses,
+  at-Allocates,
+  at-Casts,
+  at-Sizes,
+  at-Calls,
+  at-Jumps,
+  at-Counts,
+  at-Declares,
+  at-Functions,
+  at-Globally,
+  at-Ends,
+  at-Overflows,
+)

@@ -39,7 +39,8 @@ module _ (g : Globals) where
   struct_there n c = not-false (is_some (struct_number g n.text)) (never _ (Rule 1 n.at) (sym (at-UsesStruct g n) ∙ c))
 
   -- a pointer where one is wanted points to the same struct
-  pub no_other : (w : Want) (at : Place) (m : Meaning) → breaches_at g (site.Stands w at m) ≡ [] → differ (wanted_struct w) (struct_at m) ≡ false
+  pub no_other : (w : Want) (at : Place) (m : Meaning) → breaches_at g (site.Stands w at m) ≡ []
+      → differ (wanted_struct w) (struct_at m) ≡ false
   no_other w at m c = never _ (Rule 6 at) (empty_parts _ _ (empty_parts _ _ (sym (at-Stands g w at m) ∙ c)).0).0
 
   -- a jump stands in a loop

@@ -20,38 +20,48 @@ pub record CondCases (T : Test → Type 0) (U : Unary → Type 0) (A : And → T
   pub of_tests : (tests : List Test) → Every T tests → A (roll-And (record { tests = tests }))
   pub of_ands : (ands : List And) → Every A ands → C (roll-Cond (record { ands = ands }))
 
-module _ (T : Test → Type 0) (U : Unary → Type 0) (A : And → Type 0) (C : Cond → Type 0) (cases : CondCases T U A C) where
-  abbrev TestHeld : Type 0
-  TestHeld = (t : Test) × T t
+module _ (T : Test → Type 0) (U : Unary → Type 0) (A : And → Type 0) (C : Cond → Type 0) (cases : CondCases T U A C)
+  where
+    abbrev TestHeld : Type 0
+    TestHeld = (t : Test) × T t
 
-  abbrev UnaryHeld : Type 0
-  UnaryHeld = (u : Unary) × U u
+    abbrev UnaryHeld : Type 0
+    UnaryHeld = (u : Unary) × U u
 
-  abbrev AndHeld : Type 0
-  AndHeld = (a : And) × A a
+    abbrev AndHeld : Type 0
+    AndHeld = (a : And) × A a
 
-  abbrev CondHeld : Type 0
-  CondHeld = (c : Cond) × C c
+    abbrev CondHeld : Type 0
+    CondHeld = (c : Cond) × C c
 
-  tests_held : (ts : List TestHeld) → Every T (map (λ e. e.0) ts)
-  tests_held [] = tt
-  tests_held (t ∷ ts) = (t.1, tests_held ts)
+    tests_held : (ts : List TestHeld) → Every T (map (λ e. e.0) ts)
+    tests_held [] = tt
+    tests_held (t ∷ ts) = (t.1, tests_held ts)
 
-  ands_held : (xs : List AndHeld) → Every A (map (λ e. e.0) xs)
-  ands_held [] = tt
-  ands_held (x ∷ xs) = (x.1, ands_held xs)
+    ands_held : (xs : List AndHeld) → Every A (map (λ e. e.0) xs)
+    ands_held [] = tt
+    ands_held (x ∷ xs) = (x.1, ands_held xs)
 
-  test_layer : (y : Test-F TestHeld UnaryHeld AndHeld CondHeld) → T (roll-Test (map-Test TestHeld UnaryHeld AndHeld CondHeld Test Unary And Cond (λ e. e.0) (λ e. e.0) (λ e. e.0) (λ e. e.0) y))
-  test_layer (layer.Compare l e r) = subst T (sym (test.rolls-Compare l e r)) (cases.of_Compare l e r)
-  test_layer (layer.Unary u) = subst T (sym (test.rolls-Unary u.0)) (cases.of_Unary u.0 u.1)
+    test_layer : (y : Test-F TestHeld UnaryHeld AndHeld CondHeld)
+        → T
+        (roll-Test
+        (map-Test TestHeld UnaryHeld AndHeld CondHeld Test Unary And Cond (λ e. e.0) (λ e. e.0) (λ e. e.0) (λ e. e.0)
+        y))
+    test_layer (layer.Compare l e r) = subst T (sym (test.rolls-Compare l e r)) (cases.of_Compare l e r)
+    test_layer (layer.Unary u) = subst T (sym (test.rolls-Unary u.0)) (cases.of_Unary u.0 u.1)
 
-  unary_layer : (y : Unary-F TestHeld UnaryHeld AndHeld CondHeld) → U (roll-Unary (map-Unary TestHeld UnaryHeld AndHeld CondHeld Test Unary And Cond (λ e. e.0) (λ e. e.0) (λ e. e.0) (λ e. e.0) y))
-  unary_layer (layer.Not at u) = subst U (sym (unary.rolls-Not at u.0)) (cases.of_Not at u.0 u.1)
-  unary_layer (layer.Bracket at c) = subst U (sym (unary.rolls-Bracket at c.0)) (cases.of_Bracket at c.0 c.1)
-  unary_layer (layer.Operand o) = subst U (sym (unary.rolls-Operand o)) (cases.of_Operand o)
+    unary_layer : (y : Unary-F TestHeld UnaryHeld AndHeld CondHeld)
+        → U
+        (roll-Unary
+        (map-Unary TestHeld UnaryHeld AndHeld CondHeld Test Unary And Cond (λ e. e.0) (λ e. e.0) (λ e. e.0) (λ e. e.0)
+        y))
+    unary_layer (layer.Not at u) = subst U (sym (unary.rolls-Not at u.0)) (cases.of_Not at u.0 u.1)
+    unary_layer (layer.Bracket at c) = subst U (sym (unary.rolls-Bracket at c.0)) (cases.of_Bracket at c.0 c.1)
+    unary_layer (layer.Operand o) = subst U (sym (unary.rolls-Operand o)) (cases.of_Operand o)
 
-  pub cond_holds : (c : Cond) → C c
-  cond_holds = ind-Cond T U A C
-      (λ x y is. subst (λ z. T (roll-Test z)) is (test_layer y)) (λ x y is. subst (λ z. U (roll-Unary z)) is (unary_layer y))
-      (λ x y is. subst (λ z. A (roll-And z)) is (cases.of_tests (map (λ e. e.0) y.tests) (tests_held y.tests)))
-      (λ x y is. subst (λ z. C (roll-Cond z)) is (cases.of_ands (map (λ e. e.0) y.ands) (ands_held y.ands)))
+    pub cond_holds : (c : Cond) → C c
+    cond_holds = ind-Cond T U A C
+        (λ x y is. subst (λ z. T (roll-Test z)) is (test_layer y))
+        (λ x y is. subst (λ z. U (roll-Unary z)) is (unary_layer y))
+        (λ x y is. subst (λ z. A (roll-And z)) is (cases.of_tests (map (λ e. e.0) y.tests) (tests_held y.tests)))
+        (λ x y is. subst (λ z. C (roll-Cond z)) is (cases.of_ands (map (λ e. e.0) y.ands) (ands_held y.ands)))

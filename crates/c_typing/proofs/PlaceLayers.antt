@@ -12,50 +12,102 @@ use Rattle.c_ast.specs.declared.statements.Part.TheOpen as layer
 use Rattle.c_ast.specs.declared.statements.Part.TheVariants as part'
 use Rattle.c_ast.specs.declared.statements.Stmt.{Stmt, fold-roll-Stmt}
 use Rattle.c_ast.specs.declared.statements.Stmt.TheVariants as stmt
-use Rattle.c_typing.specs.BodySites.{declare_place, simple_place, first_places, BlockPlaces, part_places_step, block_places_step, stmt_places_step, part_places, stmt_places, block_places, other_places}
+use Rattle.c_typing.specs.BodySites.{declare_place, simple_place, first_places, BlockPlaces, part_places_step}
+use Rattle.c_typing.specs.BodySites.{block_places_step, stmt_places_step, part_places, stmt_places, block_places}
+use Rattle.c_typing.specs.BodySites.{other_places}
 use Rattle.c_typing.specs.Texts.{joined}
 
 pub places-Declare : (d : Declare) → part_places (part'.Declare d) ≡ declare_place d ∷ []
-places-Declare d = ap part_places (sym (part'.rolls-Declare d)) ∙ part.fold-roll-Part (List Place) (List Place) BlockPlaces part_places_step stmt_places_step block_places_step (layer.Declare d)
+places-Declare d = ap part_places (sym (part'.rolls-Declare d))
+    ∙ part.fold-roll-Part (List Place) (List Place) BlockPlaces part_places_step stmt_places_step block_places_step
+    (layer.Declare d)
 
 pub places-Stmt : (s : Stmt) → part_places (part'.Stmt s) ≡ stmt_places s
-places-Stmt s = ap part_places (sym (part'.rolls-Stmt s)) ∙ part.fold-roll-Part (List Place) (List Place) BlockPlaces part_places_step stmt_places_step block_places_step (layer.Stmt s)
+places-Stmt s = ap part_places (sym (part'.rolls-Stmt s))
+    ∙ part.fold-roll-Part (List Place) (List Place) BlockPlaces part_places_step stmt_places_step block_places_step
+    (layer.Stmt s)
 
-pub places-parts : (at close : Place) (parts : List part.Part) → block_places (roll-Block (record { at = at; parts = parts; close = close })) ≡ record { at = at; within = joined (map part_places parts) }
-places-parts at close parts = fold-roll-Block (List Place) (List Place) BlockPlaces part_places_step stmt_places_step block_places_step (record { at = at; parts = parts; close = close })
+pub places-parts : (at close : Place) (parts : List part.Part)
+    → block_places (roll-Block (record { at = at; parts = parts; close = close }))
+    ≡ record { at = at; within = joined (map part_places parts) }
+places-parts at close parts =
+    fold-roll-Block (List Place) (List Place) BlockPlaces part_places_step stmt_places_step block_places_step
+    (record { at = at; parts = parts; close = close })
 
 pub places-Empty-stmt : (at : Place) → stmt_places (stmt.Empty at) ≡ at ∷ []
-places-Empty-stmt at = ap stmt_places (sym (stmt.rolls-Empty at)) ∙ fold-roll-Stmt (List Place) (List Place) BlockPlaces part_places_step stmt_places_step block_places_step (layer.Empty at)
+places-Empty-stmt at = ap stmt_places (sym (stmt.rolls-Empty at))
+    ∙ fold-roll-Stmt (List Place) (List Place) BlockPlaces part_places_step stmt_places_step block_places_step
+    (layer.Empty at)
 
 pub places-Block-stmt : (b : Block) → stmt_places (stmt.Block b) ≡ (block_places b).at ∷ (block_places b).within
-places-Block-stmt b = ap stmt_places (sym (stmt.rolls-Block b)) ∙ fold-roll-Stmt (List Place) (List Place) BlockPlaces part_places_step stmt_places_step block_places_step (layer.Block b)
+places-Block-stmt b = ap stmt_places (sym (stmt.rolls-Block b))
+    ∙ fold-roll-Stmt (List Place) (List Place) BlockPlaces part_places_step stmt_places_step block_places_step
+    (layer.Block b)
 
 pub places-Simple-stmt : (s : Simple) → stmt_places (stmt.Simple s) ≡ simple_place s ∷ []
-places-Simple-stmt s = ap stmt_places (sym (stmt.rolls-Simple s)) ∙ fold-roll-Stmt (List Place) (List Place) BlockPlaces part_places_step stmt_places_step block_places_step (layer.Simple s)
+places-Simple-stmt s = ap stmt_places (sym (stmt.rolls-Simple s))
+    ∙ fold-roll-Stmt (List Place) (List Place) BlockPlaces part_places_step stmt_places_step block_places_step
+    (layer.Simple s)
 
-pub places-While-stmt : (at : Place) (c : Cond) (body : Stmt) → stmt_places (stmt.While at c body) ≡ at ∷ stmt_places body
-places-While-stmt at c body = ap stmt_places (sym (stmt.rolls-While at c body)) ∙ fold-roll-Stmt (List Place) (List Place) BlockPlaces part_places_step stmt_places_step block_places_step (layer.While at c body)
+pub places-While-stmt : (at : Place) (c : Cond) (body : Stmt) → stmt_places (stmt.While at c body)
+    ≡ at ∷ stmt_places body
+places-While-stmt at c body = ap stmt_places (sym (stmt.rolls-While at c body))
+    ∙ fold-roll-Stmt (List Place) (List Place) BlockPlaces part_places_step stmt_places_step block_places_step
+    (layer.While at c body)
 
 pub places-Do-stmt : (at : Place) (body : Stmt) (c : Cond) → stmt_places (stmt.Do at body c) ≡ at ∷ stmt_places body
-places-Do-stmt at body c = ap stmt_places (sym (stmt.rolls-Do at body c)) ∙ fold-roll-Stmt (List Place) (List Place) BlockPlaces part_places_step stmt_places_step block_places_step (layer.Do at body c)
+places-Do-stmt at body c = ap stmt_places (sym (stmt.rolls-Do at body c))
+    ∙ fold-roll-Stmt (List Place) (List Place) BlockPlaces part_places_step stmt_places_step block_places_step
+    (layer.Do at body c)
 
-pub places-For-stmt : (at : Place) (f : First) (c : Option Cond) (next : Option Simple) (body : Stmt) → stmt_places (stmt.For at f c next body) ≡ at ∷ first_places f ++ stmt_places body
-places-For-stmt at f c next body = ap stmt_places (sym (stmt.rolls-For at f c next body)) ∙ fold-roll-Stmt (List Place) (List Place) BlockPlaces part_places_step stmt_places_step block_places_step (layer.For at f c next body)
+pub places-For-stmt : (at : Place) (f : First) (c : Option Cond) (next : Option Simple) (body : Stmt)
+    → stmt_places (stmt.For at f c next body) ≡ at ∷ first_places f ++ stmt_places body
+places-For-stmt at f c next body = ap stmt_places (sym (stmt.rolls-For at f c next body))
+    ∙ fold-roll-Stmt (List Place) (List Place) BlockPlaces part_places_step stmt_places_step block_places_step
+    (layer.For at f c next body)
 
 pub places-Return-stmt : (at : Place) (o : Option Operand) → stmt_places (stmt.Return at o) ≡ at ∷ []
-places-Return-stmt at o = ap stmt_places (sym (stmt.rolls-Return at o)) ∙ fold-roll-Stmt (List Place) (List Place) BlockPlaces part_places_step stmt_places_step block_places_step (layer.Return at o)
+places-Return-stmt at o = ap stmt_places (sym (stmt.rolls-Return at o))
+    ∙ fold-roll-Stmt (List Place) (List Place) BlockPlaces part_places_step stmt_places_step block_places_step
+    (layer.Return at o)
 
 pub places-Break-stmt : (at : Place) → stmt_places (stmt.Break at) ≡ at ∷ []
-places-Break-stmt at = ap stmt_places (sym (stmt.rolls-Break at)) ∙ fold-roll-Stmt (List Place) (List Place) BlockPlaces part_places_step stmt_places_step block_places_step (layer.Break at)
+places-Break-stmt at = ap stmt_places (sym (stmt.rolls-Break at))
+    ∙ fold-roll-Stmt (List Place) (List Place) BlockPlaces part_places_step stmt_places_step block_places_step
+    (layer.Break at)
 
 pub places-Continue-stmt : (at : Place) → stmt_places (stmt.Continue at) ≡ at ∷ []
-places-Continue-stmt at = ap stmt_places (sym (stmt.rolls-Continue at)) ∙ fold-roll-Stmt (List Place) (List Place) BlockPlaces part_places_step stmt_places_step block_places_step (layer.Continue at)
+places-Continue-stmt at = ap stmt_places (sym (stmt.rolls-Continue at))
+    ∙ fold-roll-Stmt (List Place) (List Place) BlockPlaces part_places_step stmt_places_step block_places_step
+    (layer.Continue at)
 
 pub places-Assert-stmt : (at : Place) (c : Cond) → stmt_places (stmt.Assert at c) ≡ at ∷ []
-places-Assert-stmt at c = ap stmt_places (sym (stmt.rolls-Assert at c)) ∙ fold-roll-Stmt (List Place) (List Place) BlockPlaces part_places_step stmt_places_step block_places_step (layer.Assert at c)
+places-Assert-stmt at c = ap stmt_places (sym (stmt.rolls-Assert at c))
+    ∙ fold-roll-Stmt (List Place) (List Place) BlockPlaces part_places_step stmt_places_step block_places_step
+    (layer.Assert at c)
 
-pub places-If-stmt : (at : Place) (c : Cond) (s : Stmt) (other : Option Stmt) → stmt_places (stmt.If at c s other) ≡ at ∷ stmt_places s ++ other_places other
-places-If-stmt at c s None = ap stmt_places (sym (stmt.rolls-If at c s None)) ∙ fold-roll-Stmt (List Place) (List Place) BlockPlaces part_places_step stmt_places_step block_places_step (layer.If at c s None)
-places-If-stmt at c s (Some o) = ap stmt_places (sym (stmt.rolls-If at c s (Some o))) ∙ fold-roll-Stmt (List Place) (List Place) BlockPlaces part_places_step stmt_places_step block_places_step (layer.If at c s (Some o))
+pub places-If-stmt : (at : Place) (c : Cond) (s : Stmt) (other : Option Stmt) → stmt_places (stmt.If at c s other)
+    ≡ at ∷ stmt_places s ++ other_places other
+places-If-stmt at c s None = ap stmt_places (sym (stmt.rolls-If at c s None))
+    ∙ fold-roll-Stmt (List Place) (List Place) BlockPlaces part_places_step stmt_places_step block_places_step
+    (layer.If at c s None)
+places-If-stmt at c s (Some o) = ap stmt_places (sym (stmt.rolls-If at c s (Some o)))
+    ∙ fold-roll-Stmt (List Place) (List Place) BlockPlaces part_places_step stmt_places_step block_places_step
+    (layer.If at c s (Some o))
 
-pub ruleset place_layers = (places-Declare, places-Stmt, places-parts, places-Empty-stmt, places-Block-stmt, places-Simple-stmt, places-While-stmt, places-Do-stmt, places-For-stmt, places-Return-stmt, places-Break-stmt, places-Continue-stmt, places-Assert-stmt, places-If-stmt)
+pub ruleset place_layers = (
+  places-Declare,
+  places-Stmt,
+  places-parts,
+  places-Empty-stmt,
+  places-Block-stmt,
+  places-Simple-stmt,
+  places-While-stmt,
+  places-Do-stmt,
+  places-For-stmt,
+  places-Return-stmt,
+  places-Break-stmt,
+  places-Continue-stmt,
+  places-Assert-stmt,
+  places-If-stmt,
+)

@@ -12,7 +12,9 @@ use Rattle.c_ast.specs.declared.statements.Part.TheOpen as layer
 use Rattle.c_ast.specs.declared.statements.Part.TheVariants as part'
 use Rattle.c_ast.specs.declared.statements.Stmt.{Stmt, para-roll-Stmt}
 use Rattle.c_ast.specs.declared.statements.Stmt.TheVariants as stmt
-use Rattle.c_typing.specs.BodySites.{maybe_sites, declare_sites, first_sites, rest_sites, Sites, part_step, each_sites, block_step, stmt_step, part_sites, stmt_sites, block_sites, parts_sites, other_sites}
+use Rattle.c_typing.specs.BodySites.{maybe_sites, declare_sites, first_sites, rest_sites, Sites, part_step, each_sites}
+use Rattle.c_typing.specs.BodySites.{block_step, stmt_step, part_sites, stmt_sites, block_sites, parts_sites}
+use Rattle.c_typing.specs.BodySites.{other_sites}
 use Rattle.c_typing.specs.Globals.{Globals}
 use Rattle.c_typing.specs.Scopes.{Scope, opened, past_first, past_part, past_stmt}
 use Rattle.c_typing.specs.Sites.{Jumps, wanted_sites, simple_sites, cond_sites}
@@ -20,51 +22,116 @@ use Rattle.c_typing.specs.declared.meaning.Want.TheVariants.{Datum as ADatum}
 use Rattle.c_typing.specs.declared.meaning.Spot.TheVariants.{Elsewhere}
 
 module _ (g : Globals) where
-  each_parts : (parts : List part.Part) (loop : Bool) (scope : Scope) → each_sites g (map (λ p. (p, part_sites g p)) parts) loop scope ≡ parts_sites g parts loop scope
+  each_parts : (parts : List part.Part) (loop : Bool) (scope : Scope)
+      → each_sites g (map (λ p. (p, part_sites g p)) parts) loop scope ≡ parts_sites g parts loop scope
   each_parts [] loop scope = refl
   each_parts (p ∷ ps) loop scope = ap (λ k. part_sites g p loop scope ++ k) (each_parts ps loop (past_part g p scope))
 
-  pub part-Declare : (d : Declare) (loop : Bool) (scope : Scope) → part_sites g (part'.Declare d) loop scope ≡ declare_sites g d scope
-  part-Declare d loop scope = ap (λ p. part_sites g p loop scope) (sym (part'.rolls-Declare d)) ∙ ap (λ f. f loop scope) (part.para-roll-Part (Sites g) (Sites g) (Sites g) (part_step g) (stmt_step g) (block_step g) (layer.Declare d))
+  pub part-Declare : (d : Declare) (loop : Bool) (scope : Scope) → part_sites g (part'.Declare d) loop scope
+      ≡ declare_sites g d scope
+  part-Declare d loop scope = ap (λ p. part_sites g p loop scope) (sym (part'.rolls-Declare d))
+      ∙ ap (λ f. f loop scope)
+      (part.para-roll-Part (Sites g) (Sites g) (Sites g) (part_step g) (stmt_step g) (block_step g) (layer.Declare d))
 
-  pub part-Stmt : (s : Stmt) (loop : Bool) (scope : Scope) → part_sites g (part'.Stmt s) loop scope ≡ stmt_sites g s loop scope
-  part-Stmt s loop scope = ap (λ p. part_sites g p loop scope) (sym (part'.rolls-Stmt s)) ∙ ap (λ f. f loop scope) (part.para-roll-Part (Sites g) (Sites g) (Sites g) (part_step g) (stmt_step g) (block_step g) (layer.Stmt s))
+  pub part-Stmt : (s : Stmt) (loop : Bool) (scope : Scope) → part_sites g (part'.Stmt s) loop scope
+      ≡ stmt_sites g s loop scope
+  part-Stmt s loop scope = ap (λ p. part_sites g p loop scope) (sym (part'.rolls-Stmt s))
+      ∙ ap (λ f. f loop scope)
+      (part.para-roll-Part (Sites g) (Sites g) (Sites g) (part_step g) (stmt_step g) (block_step g) (layer.Stmt s))
 
-  pub block-parts : (at close : Place) (parts : List part.Part) (loop : Bool) (scope : Scope) → block_sites g (roll-Block (record { at = at; parts = parts; close = close })) loop scope ≡ parts_sites g parts loop (opened scope)
-  block-parts at close parts loop scope = ap (λ f. f loop scope) (para-roll-Block (Sites g) (Sites g) (Sites g) (part_step g) (stmt_step g) (block_step g) (record { at = at; parts = parts; close = close })) ∙ each_parts parts loop (opened scope)
+  pub block-parts : (at close : Place) (parts : List part.Part) (loop : Bool) (scope : Scope)
+      → block_sites g (roll-Block (record { at = at; parts = parts; close = close })) loop scope
+      ≡ parts_sites g parts loop (opened scope)
+  block-parts at close parts loop scope =
+      ap (λ f. f loop scope)
+      (para-roll-Block (Sites g) (Sites g) (Sites g) (part_step g) (stmt_step g) (block_step g)
+      (record { at = at; parts = parts; close = close })) ∙ each_parts parts loop (opened scope)
 
   pub stmt-Empty : (at : Place) (loop : Bool) (scope : Scope) → stmt_sites g (stmt.Empty at) loop scope ≡ []
-  stmt-Empty at loop scope = ap (λ s. stmt_sites g s loop scope) (sym (stmt.rolls-Empty at)) ∙ ap (λ f. f loop scope) (para-roll-Stmt (Sites g) (Sites g) (Sites g) (part_step g) (stmt_step g) (block_step g) (layer.Empty at))
+  stmt-Empty at loop scope = ap (λ s. stmt_sites g s loop scope) (sym (stmt.rolls-Empty at))
+      ∙ ap (λ f. f loop scope)
+      (para-roll-Stmt (Sites g) (Sites g) (Sites g) (part_step g) (stmt_step g) (block_step g) (layer.Empty at))
 
-  pub stmt-Block : (b : Block) (loop : Bool) (scope : Scope) → stmt_sites g (stmt.Block b) loop scope ≡ block_sites g b loop scope
-  stmt-Block b loop scope = ap (λ s. stmt_sites g s loop scope) (sym (stmt.rolls-Block b)) ∙ ap (λ f. f loop scope) (para-roll-Stmt (Sites g) (Sites g) (Sites g) (part_step g) (stmt_step g) (block_step g) (layer.Block b))
+  pub stmt-Block : (b : Block) (loop : Bool) (scope : Scope) → stmt_sites g (stmt.Block b) loop scope
+      ≡ block_sites g b loop scope
+  stmt-Block b loop scope = ap (λ s. stmt_sites g s loop scope) (sym (stmt.rolls-Block b))
+      ∙ ap (λ f. f loop scope)
+      (para-roll-Stmt (Sites g) (Sites g) (Sites g) (part_step g) (stmt_step g) (block_step g) (layer.Block b))
 
-  pub stmt-Simple : (s : Simple) (loop : Bool) (scope : Scope) → stmt_sites g (stmt.Simple s) loop scope ≡ simple_sites g scope s
-  stmt-Simple s loop scope = ap (λ s. stmt_sites g s loop scope) (sym (stmt.rolls-Simple s)) ∙ ap (λ f. f loop scope) (para-roll-Stmt (Sites g) (Sites g) (Sites g) (part_step g) (stmt_step g) (block_step g) (layer.Simple s))
+  pub stmt-Simple : (s : Simple) (loop : Bool) (scope : Scope) → stmt_sites g (stmt.Simple s) loop scope
+      ≡ simple_sites g scope s
+  stmt-Simple s loop scope = ap (λ s. stmt_sites g s loop scope) (sym (stmt.rolls-Simple s))
+      ∙ ap (λ f. f loop scope)
+      (para-roll-Stmt (Sites g) (Sites g) (Sites g) (part_step g) (stmt_step g) (block_step g) (layer.Simple s))
 
-  pub stmt-While : (at : Place) (c : Cond) (body : Stmt) (loop : Bool) (scope : Scope) → stmt_sites g (stmt.While at c body) loop scope ≡ cond_sites g scope c ++ stmt_sites g body true scope
-  stmt-While at c body loop scope = ap (λ s. stmt_sites g s loop scope) (sym (stmt.rolls-While at c body)) ∙ ap (λ f. f loop scope) (para-roll-Stmt (Sites g) (Sites g) (Sites g) (part_step g) (stmt_step g) (block_step g) (layer.While at c body))
+  pub stmt-While : (at : Place) (c : Cond) (body : Stmt) (loop : Bool) (scope : Scope)
+      → stmt_sites g (stmt.While at c body) loop scope ≡ cond_sites g scope c ++ stmt_sites g body true scope
+  stmt-While at c body loop scope = ap (λ s. stmt_sites g s loop scope) (sym (stmt.rolls-While at c body))
+      ∙ ap (λ f. f loop scope)
+      (para-roll-Stmt (Sites g) (Sites g) (Sites g) (part_step g) (stmt_step g) (block_step g) (layer.While at c body))
 
-  pub stmt-Do : (at : Place) (body : Stmt) (c : Cond) (loop : Bool) (scope : Scope) → stmt_sites g (stmt.Do at body c) loop scope ≡ stmt_sites g body true scope ++ cond_sites g scope c
-  stmt-Do at body c loop scope = ap (λ s. stmt_sites g s loop scope) (sym (stmt.rolls-Do at body c)) ∙ ap (λ f. f loop scope) (para-roll-Stmt (Sites g) (Sites g) (Sites g) (part_step g) (stmt_step g) (block_step g) (layer.Do at body c))
+  pub stmt-Do : (at : Place) (body : Stmt) (c : Cond) (loop : Bool) (scope : Scope)
+      → stmt_sites g (stmt.Do at body c) loop scope ≡ stmt_sites g body true scope ++ cond_sites g scope c
+  stmt-Do at body c loop scope = ap (λ s. stmt_sites g s loop scope) (sym (stmt.rolls-Do at body c))
+      ∙ ap (λ f. f loop scope)
+      (para-roll-Stmt (Sites g) (Sites g) (Sites g) (part_step g) (stmt_step g) (block_step g) (layer.Do at body c))
 
-  pub stmt-For : (at : Place) (f : First) (c : Option Cond) (next : Option Simple) (body : Stmt) (loop : Bool) (scope : Scope) → stmt_sites g (stmt.For at f c next body) loop scope ≡ first_sites g f (opened scope) ++ rest_sites g c next (body, stmt_sites g body) (past_first g f (opened scope))
-  stmt-For at f c next body loop scope = ap (λ s. stmt_sites g s loop scope) (sym (stmt.rolls-For at f c next body)) ∙ ap (λ f. f loop scope) (para-roll-Stmt (Sites g) (Sites g) (Sites g) (part_step g) (stmt_step g) (block_step g) (layer.For at f c next body))
+  pub stmt-For : (at : Place) (f : First) (c : Option Cond) (next : Option Simple) (body : Stmt) (loop : Bool)
+      (scope : Scope) → stmt_sites g (stmt.For at f c next body) loop scope ≡ first_sites g f (opened scope)
+      ++ rest_sites g c next (body, stmt_sites g body) (past_first g f (opened scope))
+  stmt-For at f c next body loop scope = ap (λ s. stmt_sites g s loop scope) (sym (stmt.rolls-For at f c next body))
+      ∙ ap (λ f. f loop scope)
+      (para-roll-Stmt (Sites g) (Sites g) (Sites g) (part_step g) (stmt_step g) (block_step g)
+      (layer.For at f c next body))
 
-  pub stmt-Return : (at : Place) (o : Option Operand) (loop : Bool) (scope : Scope) → stmt_sites g (stmt.Return at o) loop scope ≡ maybe_sites (wanted_sites g scope Elsewhere ADatum) o
-  stmt-Return at o loop scope = ap (λ s. stmt_sites g s loop scope) (sym (stmt.rolls-Return at o)) ∙ ap (λ f. f loop scope) (para-roll-Stmt (Sites g) (Sites g) (Sites g) (part_step g) (stmt_step g) (block_step g) (layer.Return at o))
+  pub stmt-Return : (at : Place) (o : Option Operand) (loop : Bool) (scope : Scope)
+      → stmt_sites g (stmt.Return at o) loop scope ≡ maybe_sites (wanted_sites g scope Elsewhere ADatum) o
+  stmt-Return at o loop scope = ap (λ s. stmt_sites g s loop scope) (sym (stmt.rolls-Return at o))
+      ∙ ap (λ f. f loop scope)
+      (para-roll-Stmt (Sites g) (Sites g) (Sites g) (part_step g) (stmt_step g) (block_step g) (layer.Return at o))
 
-  pub stmt-Break : (at : Place) (loop : Bool) (scope : Scope) → stmt_sites g (stmt.Break at) loop scope ≡ Jumps loop at ∷ []
-  stmt-Break at loop scope = ap (λ s. stmt_sites g s loop scope) (sym (stmt.rolls-Break at)) ∙ ap (λ f. f loop scope) (para-roll-Stmt (Sites g) (Sites g) (Sites g) (part_step g) (stmt_step g) (block_step g) (layer.Break at))
+  pub stmt-Break : (at : Place) (loop : Bool) (scope : Scope) → stmt_sites g (stmt.Break at) loop scope ≡ Jumps loop at
+      ∷ []
+  stmt-Break at loop scope = ap (λ s. stmt_sites g s loop scope) (sym (stmt.rolls-Break at))
+      ∙ ap (λ f. f loop scope)
+      (para-roll-Stmt (Sites g) (Sites g) (Sites g) (part_step g) (stmt_step g) (block_step g) (layer.Break at))
 
-  pub stmt-Continue : (at : Place) (loop : Bool) (scope : Scope) → stmt_sites g (stmt.Continue at) loop scope ≡ Jumps loop at ∷ []
-  stmt-Continue at loop scope = ap (λ s. stmt_sites g s loop scope) (sym (stmt.rolls-Continue at)) ∙ ap (λ f. f loop scope) (para-roll-Stmt (Sites g) (Sites g) (Sites g) (part_step g) (stmt_step g) (block_step g) (layer.Continue at))
+  pub stmt-Continue : (at : Place) (loop : Bool) (scope : Scope) → stmt_sites g (stmt.Continue at) loop scope
+      ≡ Jumps loop at ∷ []
+  stmt-Continue at loop scope = ap (λ s. stmt_sites g s loop scope) (sym (stmt.rolls-Continue at))
+      ∙ ap (λ f. f loop scope)
+      (para-roll-Stmt (Sites g) (Sites g) (Sites g) (part_step g) (stmt_step g) (block_step g) (layer.Continue at))
 
-  pub stmt-Assert : (at : Place) (c : Cond) (loop : Bool) (scope : Scope) → stmt_sites g (stmt.Assert at c) loop scope ≡ cond_sites g scope c
-  stmt-Assert at c loop scope = ap (λ s. stmt_sites g s loop scope) (sym (stmt.rolls-Assert at c)) ∙ ap (λ f. f loop scope) (para-roll-Stmt (Sites g) (Sites g) (Sites g) (part_step g) (stmt_step g) (block_step g) (layer.Assert at c))
+  pub stmt-Assert : (at : Place) (c : Cond) (loop : Bool) (scope : Scope) → stmt_sites g (stmt.Assert at c) loop scope
+      ≡ cond_sites g scope c
+  stmt-Assert at c loop scope = ap (λ s. stmt_sites g s loop scope) (sym (stmt.rolls-Assert at c))
+      ∙ ap (λ f. f loop scope)
+      (para-roll-Stmt (Sites g) (Sites g) (Sites g) (part_step g) (stmt_step g) (block_step g) (layer.Assert at c))
 
-  pub stmt-If : (at : Place) (c : Cond) (s : Stmt) (other : Option Stmt) (loop : Bool) (scope : Scope) → stmt_sites g (stmt.If at c s other) loop scope ≡ cond_sites g scope c ++ stmt_sites g s loop scope ++ other_sites g other loop (past_stmt g s scope)
-  stmt-If at c s None loop scope = ap (λ s. stmt_sites g s loop scope) (sym (stmt.rolls-If at c s None)) ∙ ap (λ f. f loop scope) (para-roll-Stmt (Sites g) (Sites g) (Sites g) (part_step g) (stmt_step g) (block_step g) (layer.If at c s None))
-  stmt-If at c s (Some o) loop scope = ap (λ s. stmt_sites g s loop scope) (sym (stmt.rolls-If at c s (Some o))) ∙ ap (λ f. f loop scope) (para-roll-Stmt (Sites g) (Sites g) (Sites g) (part_step g) (stmt_step g) (block_step g) (layer.If at c s (Some o)))
+  pub stmt-If : (at : Place) (c : Cond) (s : Stmt) (other : Option Stmt) (loop : Bool) (scope : Scope)
+      → stmt_sites g (stmt.If at c s other) loop scope ≡ cond_sites g scope c ++ stmt_sites g s loop scope
+      ++ other_sites g other loop (past_stmt g s scope)
+  stmt-If at c s None loop scope = ap (λ s. stmt_sites g s loop scope) (sym (stmt.rolls-If at c s None))
+      ∙ ap (λ f. f loop scope)
+      (para-roll-Stmt (Sites g) (Sites g) (Sites g) (part_step g) (stmt_step g) (block_step g) (layer.If at c s None))
+  stmt-If at c s (Some o) loop scope = ap (λ s. stmt_sites g s loop scope) (sym (stmt.rolls-If at c s (Some o)))
+      ∙ ap (λ f. f loop scope)
+      (para-roll-Stmt (Sites g) (Sites g) (Sites g) (part_step g) (stmt_step g) (block_step g)
+      (layer.If at c s (Some o)))
 
-pub ruleset site_layers = (part-Declare, part-Stmt, block-parts, stmt-Empty, stmt-Block, stmt-Simple, stmt-While, stmt-Do, stmt-For, stmt-Return, stmt-Break, stmt-Continue, stmt-Assert, stmt-If)
+pub ruleset site_layers = (
+  part-Declare,
+  part-Stmt,
+  block-parts,
+  stmt-Empty,
+  stmt-Block,
+  stmt-Simple,
+  stmt-While,
+  stmt-Do,
+  stmt-For,
+  stmt-Return,
+  stmt-Break,
+  stmt-Continue,
+  stmt-Assert,
+  stmt-If,
+)

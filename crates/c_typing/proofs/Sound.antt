@@ -1,5 +1,7 @@
--- What names, fields and operands mean, in numbers of the program: a pointer is one of its paths, and a datum one of its data.
-use Rattle.std.proofs.Common.{◌≡◌, ◌<◌, ◌≤◌, ℕ, zero, suc, ◌+◌, Bool, true, false, cond, nat_lt, nat_le, List, [], ◌∷◌, ◌++◌, length, map, Option, Some, None, slice_get, refl, sym, ap, ◌∙◌, subst, arith}
+-- What names, fields and operands mean, in numbers of the program: a pointer is one of its paths, and a datum one of
+-- its data.
+use Rattle.std.proofs.Common.{◌≡◌, ◌<◌, ◌≤◌, ℕ, zero, suc, ◌+◌, Bool, true, false, cond, nat_lt, nat_le, List, [], ◌∷◌}
+use Rattle.std.proofs.Common.{◌++◌, length, map, Option, Some, None, slice_get, refl, sym, ap, ◌∙◌, subst, arith}
 use Rattle.std.proofs.lemmas.Bool.{le-leb, lt-ltb}
 use Rattle.fore_base.specs.Lists.{Every}
 use Rattle.fore_base.specs.Shapes.{target_before, datum_before, targets_in, datums_in, targets_of, datums_of}
@@ -13,8 +15,11 @@ use Rattle.c_ast.specs.declared.operands.Path as tree
 use Rattle.c_types.specs.Program.{var_target, field_target, target_after, has_datum, path_target, data_typed}
 use Rattle.c_types.specs.declared.program.Path.{Path}
 use Rattle.c_types.specs.declared.program.VarDef.{VarDef}
-use Rattle.c_typing.specs.Globals.{Globals, value_in, value_of, fields_of, use_as, one_pointer_more, one_datum_more, use_in, field_use}
-use Rattle.c_typing.specs.Meanings.{variable, name_meaning, meaning_of_name, field_meaning, followed, all_followed, meaning_of_path, numerals, numeral, number_meaning, operand_meaning, meaning_of_operand}
+use Rattle.c_typing.specs.Globals.{Globals, value_in, value_of, fields_of, use_as, one_pointer_more, one_datum_more}
+use Rattle.c_typing.specs.Globals.{use_in, field_use}
+use Rattle.c_typing.specs.Meanings.{variable, name_meaning, meaning_of_name, field_meaning, followed, all_followed}
+use Rattle.c_typing.specs.Meanings.{meaning_of_path, numerals, numeral, number_meaning, operand_meaning}
+use Rattle.c_typing.specs.Meanings.{meaning_of_operand}
 use Rattle.c_typing.specs.Programs.{field_kind_of, field_of, shape_of}
 use Rattle.c_typing.specs.Scopes.{Var, Scope, var_in, look_up, or_zero}
 use Rattle.c_typing.specs.Texts.{Text, same, number_of, one_more, joined}
@@ -24,7 +29,8 @@ use Rattle.c_typing.specs.declared.meaning.FieldUse.TheVariants as use_of
 use Rattle.c_typing.specs.declared.meaning.Kind.{Kind}
 use Rattle.c_typing.specs.declared.meaning.Kind.TheVariants.{Points, Datum as DatumKind}
 use Rattle.c_typing.specs.declared.meaning.Meaning.{Meaning}
-use Rattle.c_typing.specs.declared.meaning.Meaning.TheVariants.{Pointer, Datum, Known, Zero, Null, Call as CallThere, Broken}
+use Rattle.c_typing.specs.declared.meaning.Meaning.TheVariants.{Pointer, Datum, Known, Zero, Null, Call as CallThere}
+use Rattle.c_typing.specs.declared.meaning.Meaning.TheVariants.{Broken}
 use Rattle.c_typing.specs.declared.meaning.Member.{Member}
 use Rattle.c_typing.specs.declared.meaning.StructDef.{StructDef}
 use Rattle.c_typing.proofs.Trees.{OfOption}
@@ -55,12 +61,14 @@ fields_good n [] s all = tt
 fields_good n (d ∷ ds) zero all = all.0
 fields_good n (d ∷ ds) (suc s) all = fields_good n ds s all.1
 
-targets-shapes : (ss : List StructDef) (s : ℕ) → targets_of (map shape_of ss) s ≡ targets_in (map field_of (fields_of ss s))
+targets-shapes : (ss : List StructDef) (s : ℕ) → targets_of (map shape_of ss) s
+    ≡ targets_in (map field_of (fields_of ss s))
 targets-shapes [] s = refl
 targets-shapes (d ∷ ds) zero = refl
 targets-shapes (d ∷ ds) (suc s) = targets-shapes ds s
 
-datums-shapes : (ss : List StructDef) (s : ℕ) → datums_of (map shape_of ss) s ≡ datums_in (map field_of (fields_of ss s))
+datums-shapes : (ss : List StructDef) (s : ℕ) → datums_of (map shape_of ss) s
+    ≡ datums_in (map field_of (fields_of ss s))
 datums-shapes [] s = refl
 datums-shapes (d ∷ ds) zero = refl
 datums-shapes (d ∷ ds) (suc s) = datums-shapes ds s
@@ -73,29 +81,38 @@ GoodUse a b ts d (Some (use_of.Pointer number (Some s))) = (k : ℕ) × ((number
 GoodUse a b ts d (Some (use_of.Datum number)) = (k : ℕ) × ((number ≡ b + k) × (k < d))
 
 -- with one field more in front
-later : (k : Kind) (ts : List ℕ) (d a b : ℕ) (u : Option FieldUse) → GoodUse (one_pointer_more k a) (one_datum_more k b) ts d u
+later : (k : Kind) (ts : List ℕ) (d a b : ℕ) (u : Option FieldUse)
+    → GoodUse (one_pointer_more k a) (one_datum_more k b) ts d u
     → GoodUse a b (target_before (field_kind_of k) ts) (datum_before (field_kind_of k) d) u
 later k ts d a b None good = tt
 later k ts d a b (Some (use_of.Pointer number None)) good = absurd good
-later (Points to) ts d a b (Some (use_of.Pointer number (Some s))) good = (suc good.0, (omega (arith, good.1.0), good.1.1))
+later (Points to) ts d a b (Some (use_of.Pointer number (Some s))) good =
+    (suc good.0, (omega (arith, good.1.0), good.1.1))
 later DatumKind ts d a b (Some (use_of.Pointer number (Some s))) good = good
 later (Points to) ts d a b (Some (use_of.Datum number)) good = good
-later DatumKind ts d a b (Some (use_of.Datum number)) good = (suc good.0, (omega (arith, good.1.0), omega (arith, good.1.1)))
+later DatumKind ts d a b (Some (use_of.Datum number)) good =
+    (suc good.0, (omega (arith, good.1.0), omega (arith, good.1.1)))
 
-here : (n : ℕ) (k : Kind) (ts : List ℕ) (d a b : ℕ) → GoodKind n k → GoodUse a b (target_before (field_kind_of k) ts) (datum_before (field_kind_of k) d) (Some (use_as k a b))
+here : (n : ℕ) (k : Kind) (ts : List ℕ) (d a b : ℕ) → GoodKind n k
+    → GoodUse a b (target_before (field_kind_of k) ts) (datum_before (field_kind_of k) d) (Some (use_as k a b))
 here n (Points None) ts d a b good = absurd good
 here n (Points (Some s)) ts d a b good = (0, (omega (arith), refl))
 here n DatumKind ts d a b good = (0, (omega (arith), omega (arith)))
 
-use_good : (n : ℕ) (x : Text) (a b : ℕ) (ms : List Member) → Every (GoodMember n) ms → GoodUse a b (targets_in (map field_of ms)) (datums_in (map field_of ms)) (use_in x a b ms)
+use_good : (n : ℕ) (x : Text) (a b : ℕ) (ms : List Member) → Every (GoodMember n) ms
+    → GoodUse a b (targets_in (map field_of ms)) (datums_in (map field_of ms)) (use_in x a b ms)
 use_good n x a b [] all = tt
 use_good n x a b (m ∷ ms) all =
     either (same x m.name) (use_good n x (one_pointer_more m.kind a) (one_datum_more m.kind b) ms all.1)
   where
-    either : (found : Bool) → GoodUse (one_pointer_more m.kind a) (one_datum_more m.kind b) (targets_in (map field_of ms)) (datums_in (map field_of ms)) (use_in x (one_pointer_more m.kind a) (one_datum_more m.kind b) ms)
-        → GoodUse a b (targets_in (map field_of (m ∷ ms))) (datums_in (map field_of (m ∷ ms))) (cond found (Some (use_as m.kind a b)) (use_in x (one_pointer_more m.kind a) (one_datum_more m.kind b) ms))
+    either : (found : Bool) → GoodUse (one_pointer_more m.kind a) (one_datum_more m.kind b)
+        (targets_in (map field_of ms)) (datums_in (map field_of ms))
+        (use_in x (one_pointer_more m.kind a) (one_datum_more m.kind b) ms)
+        → GoodUse a b (targets_in (map field_of (m ∷ ms))) (datums_in (map field_of (m ∷ ms)))
+        (cond found (Some (use_as m.kind a b)) (use_in x (one_pointer_more m.kind a) (one_datum_more m.kind b) ms))
     either true rest = here n m.kind (targets_in (map field_of ms)) (datums_in (map field_of ms)) a b all.0
-    either false rest = later m.kind (targets_in (map field_of ms)) (datums_in (map field_of ms)) a b (use_in x (one_pointer_more m.kind a) (one_datum_more m.kind b) ms) rest
+    either false rest = later m.kind (targets_in (map field_of ms)) (datums_in (map field_of ms)) a b
+        (use_in x (one_pointer_more m.kind a) (one_datum_more m.kind b) ms) rest
 
 -- Numbers that are written are at most 15
 
@@ -107,7 +124,8 @@ number_below x (y ∷ ys) = either (same x y) (number_of x ys) (number_below x y
     raised None h = tt
     raised (Some k) h = omega (arith, h)
 
-    either : (found : Bool) (o : Option ℕ) → OfOption (λ k. k < length ys) o → OfOption (λ k. k < suc (length ys)) (cond found (Some 0) (one_more o))
+    either : (found : Bool) (o : Option ℕ) → OfOption (λ k. k < length ys) o
+        → OfOption (λ k. k < suc (length ys)) (cond found (Some 0) (one_more o))
     either true o h = omega (arith)
     either false o h = raised o h
 
@@ -148,25 +166,30 @@ module _ (g : Globals) (V : List VarDef) (D : ℕ) where
       either true rest = all.0
       either false rest = rest
 
-  value_good : (x : Text) (vs : List Enumerator) → Every GoodValue vs → OfOption (λ k. nat_le k DATUM ≡ true) (value_in x vs)
+  value_good : (x : Text) (vs : List Enumerator) → Every GoodValue vs
+      → OfOption (λ k. nat_le k DATUM ≡ true) (value_in x vs)
   value_good x [] all = tt
   value_good x (v ∷ vs) all = either (same x v.name) (value_good x vs all.1)
     where
-      either : (found : Bool) → OfOption (λ k. nat_le k DATUM ≡ true) (value_in x vs) → OfOption (λ k. nat_le k DATUM ≡ true) (cond found (Some v.value) (value_in x vs))
+      either : (found : Bool) → OfOption (λ k. nat_le k DATUM ≡ true) (value_in x vs)
+          → OfOption (λ k. nat_le k DATUM ≡ true) (cond found (Some v.value) (value_in x vs))
       either true rest = all.0
       either false rest = rest
 
-  name_good : (v : Option Var) (k : Option ℕ) → OfOption GoodVar v → OfOption (λ n. nat_le n DATUM ≡ true) k → GoodMeaning (name_meaning v k)
+  name_good : (v : Option Var) (k : Option ℕ) → OfOption GoodVar v → OfOption (λ n. nat_le n DATUM ≡ true) k
+      → GoodMeaning (name_meaning v k)
   name_good (Some v) k good value = good
   name_good None None good value = tt
   name_good None (Some k) good value = value
 
-  target_after-snoc : (t : Option ℕ) (fs : List ℕ) (f : ℕ) → target_after shapes t (fs ++ f ∷ []) ≡ target_after shapes (target_after shapes t fs) (f ∷ [])
+  target_after-snoc : (t : Option ℕ) (fs : List ℕ) (f : ℕ) → target_after shapes t (fs ++ f ∷ [])
+      ≡ target_after shapes (target_after shapes t fs) (f ∷ [])
   target_after-snoc t [] f = refl
   target_after-snoc None (e ∷ fs) f = refl
   target_after-snoc (Some s) (e ∷ fs) f = target_after-snoc (field_target shapes s e) fs f
 
-  field_good : (p : Path) (s : ℕ) (u : Option FieldUse) → path_target shapes V D p ≡ Some s → GoodUse 0 0 (targets_of shapes s) (datums_of shapes s) u → GoodMeaning (field_meaning p u)
+  field_good : (p : Path) (s : ℕ) (u : Option FieldUse) → path_target shapes V D p ≡ Some s
+      → GoodUse 0 0 (targets_of shapes s) (datums_of shapes s) u → GoodMeaning (field_meaning p u)
   field_good p s None is good = tt
   field_good p s (Some (use_of.Pointer number None)) is good = absurd good
   field_good p s (Some (use_of.Pointer number (Some t))) is good =
@@ -181,7 +204,8 @@ module _ (g : Globals) (V : List VarDef) (D : ℕ) where
     followed_good (Pointer p None) x good = absurd good
     followed_good (Pointer p (Some s)) x good = field_good p s (field_use g s x) good
         (subst (λ d. GoodUse 0 0 (targets_of shapes s) d (field_use g s x)) (sym (datums-shapes g.structs s))
-        (subst (λ ts. GoodUse 0 0 ts (datums_in (map field_of (fields_of g.structs s))) (field_use g s x)) (sym (targets-shapes g.structs s))
+        (subst (λ ts. GoodUse 0 0 ts (datums_in (map field_of (fields_of g.structs s))) (field_use g s x))
+        (sym (targets-shapes g.structs s))
         (use_good n x 0 0 (fields_of g.structs s) (fields_good n g.structs s globals.0))))
     followed_good (Datum d) x good = tt
     followed_good (Known k) x good = tt
@@ -197,7 +221,8 @@ module _ (g : Globals) (V : List VarDef) (D : ℕ) where
     module _ (scope : Scope) (blocks : GoodBlocks scope.blocks) where
       pub path_good : (p : tree.Path) → GoodMeaning (meaning_of_path g scope p)
       path_good p = all_good (meaning_of_name g scope p.head.text) p.arrows
-          (name_good (look_up scope p.head.text) (value_of g p.head.text) (var_good p.head.text (joined scope.blocks) blocks) (value_good p.head.text g.values globals.1))
+          (name_good (look_up scope p.head.text) (value_of g p.head.text)
+          (var_good p.head.text (joined scope.blocks) blocks) (value_good p.head.text g.values globals.1))
 
       number_good : (k : ℕ) → nat_le k DATUM ≡ true → GoodMeaning (number_meaning k)
       number_good zero small = tt

@@ -1,25 +1,32 @@
 -- Assignments, comparisons and truths of what is good are typed.
-use Rattle.std.proofs.Common.{◌≡◌, ℕ, Bool, true, false, ◌&&◌, nat_eq, List, Option, Some, None, is_some, refl, sym, ap, ◌∙◌}
+use Rattle.std.proofs.Common.{◌≡◌, ℕ, Bool, true, false, ◌&&◌, nat_eq, List, Option, Some, None, is_some, refl, sym, ap}
+use Rattle.std.proofs.Common.{◌∙◌}
 use Rattle.std.proofs.lemmas.Bool.{eq-eqb, eqb-true, not-false}
-use Rattle.c_types.specs.Program.{Spot, is_target, both_targets, path_target, rhs_typed, data_rhs_typed, act_typed, ops_typed, data_op_typed, atom_typed}
+use Rattle.c_types.specs.Program.{Spot, is_target, both_targets, path_target, rhs_typed, data_rhs_typed, act_typed}
+use Rattle.c_types.specs.Program.{ops_typed, data_op_typed, atom_typed}
 use Rattle.c_types.specs.declared.program.Act.TheVariants as act
 use Rattle.c_types.specs.declared.program.DataRhs.TheVariants as data_rhs
 use Rattle.c_types.specs.declared.program.PtrRhs.TheVariants as ptr_rhs
 use Rattle.c_types.specs.declared.program.VarDef.{VarDef}
 use Rattle.c_typing.specs.Globals.{Globals}
-use Rattle.c_typing.specs.Programs.{ptr_rhs_of, data_rhs_of, assigned, target_struct, ptr_op_of, data_op_of, comparison, truth, returned, freed}
+use Rattle.c_typing.specs.Programs.{ptr_rhs_of, data_rhs_of, assigned, target_struct, ptr_op_of, data_op_of, comparison}
+use Rattle.c_typing.specs.Programs.{truth, returned, freed}
 use Rattle.c_typing.specs.Rules.{differ, wanted_struct}
 use Rattle.c_typing.specs.Sites.{want_of_left, struct_at}
 use Rattle.c_typing.specs.declared.meaning.Meaning.{Meaning}
-use Rattle.c_typing.specs.declared.meaning.Meaning.TheVariants.{Pointer, Datum, Known, Zero, Null, Call as CallThere, Broken}
+use Rattle.c_typing.specs.declared.meaning.Meaning.TheVariants.{Pointer, Datum, Known, Zero, Null, Call as CallThere}
+use Rattle.c_typing.specs.declared.meaning.Meaning.TheVariants.{Broken}
 use Rattle.c_typing.proofs.Sound.{shapes, GoodMeaning}
 
-one_struct : (s t : ℕ) (a b : Option ℕ) → a ≡ Some s → b ≡ Some t → differ (Some s) (Some t) ≡ false → both_targets a b ≡ true
+one_struct : (s t : ℕ) (a b : Option ℕ) → a ≡ Some s → b ≡ Some t → differ (Some s) (Some t) ≡ false → both_targets a b
+    ≡ true
 one_struct s t a b left right same =
-    ap (λ o. both_targets o b) left ∙ ap (λ o. is_target o s) right ∙ eq-eqb t s (sym (eqb-true s t (not-false (nat_eq s t) same)))
+    ap (λ o. both_targets o b) left ∙ ap (λ o. is_target o s) right
+    ∙ eq-eqb t s (sym (eqb-true s t (not-false (nat_eq s t) same)))
 
 module _ (g : Globals) (V : List VarDef) (D : ℕ) where
-  some_target : (p : _) (s : ℕ) → path_target (shapes g V D) V D p ≡ Some s → is_some (path_target (shapes g V D) V D p) ≡ true
+  some_target : (p : _) (s : ℕ) → path_target (shapes g V D) V D p ≡ Some s → is_some (path_target (shapes g V D) V D p)
+      ≡ true
   some_target p s is = ap is_some is
 
   data_op_good : (m : Meaning) → GoodMeaning g V D m → data_op_typed (shapes g V D) V D (data_op_of m) ≡ true
@@ -40,7 +47,8 @@ module _ (g : Globals) (V : List VarDef) (D : ℕ) where
   data_rhs_good CallThere good = refl
   data_rhs_good Broken good = refl
 
-  ptr_rhs_good : (a : Option ℕ) (s : ℕ) (m : Meaning) → a ≡ Some s → GoodMeaning g V D m → differ (Some s) (struct_at m) ≡ false → rhs_typed (shapes g V D) V D a (ptr_rhs_of m) ≡ true
+  ptr_rhs_good : (a : Option ℕ) (s : ℕ) (m : Meaning) → a ≡ Some s → GoodMeaning g V D m → differ (Some s) (struct_at m)
+      ≡ false → rhs_typed (shapes g V D) V D a (ptr_rhs_of m) ≡ true
   ptr_rhs_good a s (Pointer q None) is good same = absurd good
   ptr_rhs_good a s (Pointer q (Some t)) is good same = one_struct s t a (path_target (shapes g V D) V D q) is good same
   ptr_rhs_good a s (Datum d) is good same = ap is_some is
@@ -51,11 +59,14 @@ module _ (g : Globals) (V : List VarDef) (D : ℕ) where
   ptr_rhs_good a s Broken is good same = ap is_some is
 
   -- what is assigned to a good target
-  pub assigned_typed : (target m : Meaning) (spot : Spot) → GoodMeaning g V D target → GoodMeaning g V D m → differ (struct_at target) (struct_at m) ≡ false
+  pub assigned_typed : (target m : Meaning) (spot : Spot) → GoodMeaning g V D target → GoodMeaning g V D m
+      → differ (struct_at target) (struct_at m) ≡ false
       → act_typed (shapes g V D) V D (assigned target (ptr_rhs_of m) (data_rhs_of m)) spot ≡ true
   assigned_typed (Pointer p None) m spot good other same = absurd good
-  assigned_typed (Pointer p (Some s)) m spot good other same = ptr_rhs_good (path_target (shapes g V D) V D p) s m good other same
-  assigned_typed (Datum d) m spot good other same = ap (λ b. b && data_rhs_typed (shapes g V D) V D (data_rhs_of m)) good ∙ data_rhs_good m other
+  assigned_typed (Pointer p (Some s)) m spot good other same =
+      ptr_rhs_good (path_target (shapes g V D) V D p) s m good other same
+  assigned_typed (Datum d) m spot good other same =
+      ap (λ b. b && data_rhs_typed (shapes g V D) V D (data_rhs_of m)) good ∙ data_rhs_good m other
   assigned_typed (Known k) m spot good other same = refl
   assigned_typed Zero m spot good other same = refl
   assigned_typed Null m spot good other same = refl
@@ -64,7 +75,8 @@ module _ (g : Globals) (V : List VarDef) (D : ℕ) where
 
   -- a new cell is of the target's struct
   pub new_typed : (target : Meaning) (spot : Spot) → GoodMeaning g V D target
-      → act_typed (shapes g V D) V D (assigned target (ptr_rhs.New (target_struct target)) (data_rhs.Known 0)) spot ≡ true
+      → act_typed (shapes g V D) V D (assigned target (ptr_rhs.New (target_struct target)) (data_rhs.Known 0)) spot
+      ≡ true
   new_typed (Pointer p None) spot good = absurd good
   new_typed (Pointer p (Some s)) spot good = ap (λ o. is_target o s) good ∙ eq-eqb s s refl
   new_typed (Datum d) spot good = ap (λ b. b && true) good
@@ -74,7 +86,8 @@ module _ (g : Globals) (V : List VarDef) (D : ℕ) where
   new_typed CallThere spot good = refl
   new_typed Broken spot good = refl
 
-  pub freed_typed : (m : Meaning) (spot : Spot) → GoodMeaning g V D m → act_typed (shapes g V D) V D (freed m) spot ≡ true
+  pub freed_typed : (m : Meaning) (spot : Spot) → GoodMeaning g V D m → act_typed (shapes g V D) V D (freed m) spot
+      ≡ true
   freed_typed (Pointer p None) spot good = absurd good
   freed_typed (Pointer p (Some s)) spot good = ap is_some good
   freed_typed (Datum d) spot good = refl
@@ -84,7 +97,8 @@ module _ (g : Globals) (V : List VarDef) (D : ℕ) where
   freed_typed CallThere spot good = refl
   freed_typed Broken spot good = refl
 
-  pub returned_good : (m : Meaning) (spot : Spot) → GoodMeaning g V D m → act_typed (shapes g V D) V D (act.Return (returned m)) spot ≡ true
+  pub returned_good : (m : Meaning) (spot : Spot) → GoodMeaning g V D m
+      → act_typed (shapes g V D) V D (act.Return (returned m)) spot ≡ true
   returned_good (Pointer p to) spot good = refl
   returned_good (Datum d) spot good = good
   returned_good (Known k) spot good = refl
@@ -116,7 +130,8 @@ module _ (g : Globals) (V : List VarDef) (D : ℕ) where
   null_left CallThere good = refl
   null_left Broken good = refl
 
-  pointer_left : (p : _) (s : ℕ) (r : Meaning) → path_target (shapes g V D) V D p ≡ Some s → GoodMeaning g V D r → differ (Some s) (struct_at r) ≡ false
+  pointer_left : (p : _) (s : ℕ) (r : Meaning) → path_target (shapes g V D) V D p ≡ Some s → GoodMeaning g V D r
+      → differ (Some s) (struct_at r) ≡ false
       → ops_typed (shapes g V D) V D (ptr_op_of (Pointer p (Some s))) (ptr_op_of r) ≡ true
   pointer_left p s (Pointer q None) is good same = absurd good
   pointer_left p s (Pointer q (Some t)) is good same = one_struct s t _ _ is good same
@@ -127,10 +142,13 @@ module _ (g : Globals) (V : List VarDef) (D : ℕ) where
   pointer_left p s CallThere is good same = ap is_some is
   pointer_left p s Broken is good same = ap is_some is
 
-  both_data : (l r : Meaning) → GoodMeaning g V D l → GoodMeaning g V D r → (data_op_typed (shapes g V D) V D (data_op_of l) && data_op_typed (shapes g V D) V D (data_op_of r)) ≡ true
-  both_data l r left right = ap (λ b. b && data_op_typed (shapes g V D) V D (data_op_of r)) (data_op_good l left) ∙ data_op_good r right
+  both_data : (l r : Meaning) → GoodMeaning g V D l → GoodMeaning g V D r
+      → (data_op_typed (shapes g V D) V D (data_op_of l) && data_op_typed (shapes g V D) V D (data_op_of r)) ≡ true
+  both_data l r left right = ap (λ b. b && data_op_typed (shapes g V D) V D (data_op_of r)) (data_op_good l left)
+      ∙ data_op_good r right
 
-  zero_left : (e : Bool) (r : Meaning) → GoodMeaning g V D r → atom_typed (shapes g V D) V D (comparison e Zero r) ≡ true
+  zero_left : (e : Bool) (r : Meaning) → GoodMeaning g V D r → atom_typed (shapes g V D) V D (comparison e Zero r)
+      ≡ true
   zero_left e (Pointer q None) good = absurd good
   zero_left e (Pointer q (Some t)) good = ap is_some good
   zero_left e (Datum d) good = good
@@ -140,7 +158,8 @@ module _ (g : Globals) (V : List VarDef) (D : ℕ) where
   zero_left e CallThere good = refl
   zero_left e Broken good = refl
 
-  pub comparison_typed : (e : Bool) (l r : Meaning) → GoodMeaning g V D l → GoodMeaning g V D r → differ (wanted_struct (want_of_left l)) (struct_at r) ≡ false
+  pub comparison_typed : (e : Bool) (l r : Meaning) → GoodMeaning g V D l → GoodMeaning g V D r
+      → differ (wanted_struct (want_of_left l)) (struct_at r) ≡ false
       → atom_typed (shapes g V D) V D (comparison e l r) ≡ true
   comparison_typed e (Pointer p None) r left right same = absurd left
   comparison_typed e (Pointer p (Some s)) r left right same = pointer_left p s r left right same

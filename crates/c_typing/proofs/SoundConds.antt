@@ -1,5 +1,6 @@
 -- Where nothing is broken, conditions and statements without parts are typed.
-use Rattle.std.proofs.Common.{◌≡◌, ℕ, cond, Bool, true, false, ◌&&◌, List, [], ◌∷◌, ◌++◌, map, Option, Some, None, refl, ap, ◌∙◌, subst}
+use Rattle.std.proofs.Common.{◌≡◌, ℕ, cond, Bool, true, false, ◌&&◌, List, [], ◌∷◌, ◌++◌, map, Option, Some, None, refl}
+use Rattle.std.proofs.Common.{ap, ◌∙◌, subst}
 use Rattle.std.proofs.lemmas.Bool.{and_parts}
 use Rattle.fore_base.specs.Lists.{Every}
 use Rattle.c_ast.specs.declared.conditions.And.{And}
@@ -26,20 +27,26 @@ use Rattle.c_typing.specs.BodySites.{maybe_sites}
 use Rattle.c_typing.specs.Globals.{Globals}
 use Rattle.c_typing.specs.Meanings.{meaning_of_path, meaning_of_operand, place_of_operand}
 use Rattle.c_typing.specs.Profile.{errors}
-use Rattle.c_typing.specs.Programs.{assignment, simple_stmts, all_of, any_of, test_of, unary_of, and_of, cond_of, maybe_cond, maybe_simple, returned_operand, comparison, truth, call_act}
+use Rattle.c_typing.specs.Programs.{assignment, simple_stmts, all_of, any_of, test_of, unary_of, and_of, cond_of}
+use Rattle.c_typing.specs.Programs.{maybe_cond, maybe_simple, returned_operand, comparison, truth, call_act}
 use Rattle.c_typing.specs.Rules.{differ, wanted_struct}
 use Rattle.c_typing.specs.Scopes.{Scope}
-use Rattle.c_typing.specs.Sites.{Site, want_of_left, want_of_target, struct_at, choice_sites, operand_sites, wanted_sites, stands, rhs_sites, target_sites, simple_sites, test_sites, unary_sites, and_sites, cond_sites}
+use Rattle.c_typing.specs.Sites.{Site, want_of_left, want_of_target, struct_at, choice_sites, operand_sites}
+use Rattle.c_typing.specs.Sites.{wanted_sites, stands, rhs_sites, target_sites, simple_sites, test_sites, unary_sites}
+use Rattle.c_typing.specs.Sites.{and_sites, cond_sites}
 use Rattle.c_typing.specs.Texts.{Text, has, joined}
 use Rattle.c_typing.specs.declared.meaning.Meaning.{Meaning}
 use Rattle.c_typing.specs.declared.meaning.Meaning.TheVariants as meaning
 use Rattle.c_typing.specs.declared.meaning.Spot.TheVariants.{Right, Elsewhere}
 use Rattle.c_typing.specs.declared.meaning.Want.{Want}
 use Rattle.c_typing.proofs.Clean.{IsClean, clean_parts, clean_first, no_other}
-use Rattle.c_typing.proofs.ConditionLayers.{sites-Compare, sites-Unary, sites-Not, sites-Bracket, sites-tests, sites-ands, made-Compare, made-Unary, made-Not, made-Bracket, made-Operand, made-tests, made-ands}
+use Rattle.c_typing.proofs.ConditionLayers.{sites-Compare, sites-Unary, sites-Not, sites-Bracket, sites-tests}
+use Rattle.c_typing.proofs.ConditionLayers.{sites-ands, made-Compare, made-Unary, made-Not, made-Bracket, made-Operand}
+use Rattle.c_typing.proofs.ConditionLayers.{made-tests, made-ands}
 use Rattle.c_typing.proofs.Formulas.{CondCases, cond_holds}
 use Rattle.c_typing.proofs.Sound.{GoodGlobals, shapes, GoodMeaning, GoodBlocks, path_good, operand_good}
-use Rattle.c_typing.proofs.SoundActs.{assigned_typed, new_typed, freed_typed, returned_good, truth_typed, comparison_typed}
+use Rattle.c_typing.proofs.SoundActs.{assigned_typed, new_typed, freed_typed, returned_good, truth_typed}
+use Rattle.c_typing.proofs.SoundActs.{comparison_typed}
 
 wanted-target : (m : Meaning) → wanted_struct (want_of_target m) ≡ struct_at m
 wanted-target (meaning.Pointer p to) = refl
@@ -61,21 +68,26 @@ module _ (g : Globals) (V : List VarDef) (D : ℕ) where
   pub typed_one : (s : Stmt) (spot : Spot) → stmt_typed (shapes g V D) V D s spot ≡ true → Typed (s ∷ []) spot
   typed_one s spot e = ap (λ b. b && true) e
 
-  pub typed_act : (a : Act) (line : ℕ) (spot : Spot) → act_typed (shapes g V D) V D a spot ≡ true → Typed (Do a line ∷ []) spot
+  pub typed_act : (a : Act) (line : ℕ) (spot : Spot) → act_typed (shapes g V D) V D a spot ≡ true
+      → Typed (Do a line ∷ []) spot
   typed_act a line spot e = typed_one (Do a line) spot (typed-Do (shapes g V D) V D a line spot ∙ e)
 
   pub typed_append : (xs ys : List Stmt) (spot : Spot) → Typed xs spot → Typed ys spot → Typed (xs ++ ys) spot
   typed_append [] ys spot left right = right
   typed_append (x ∷ xs) ys spot left right =
-      let halves : (stmt_typed (shapes g V D) V D x spot ≡ true) × Typed xs spot = and_parts (stmt_typed (shapes g V D) V D x spot) _ left in
+      let halves : (stmt_typed (shapes g V D) V D x spot ≡ true) × Typed xs spot =
+      and_parts (stmt_typed (shapes g V D) V D x spot) _ left in
       both (stmt_typed (shapes g V D) V D x spot) _ halves.0 (typed_append xs ys spot halves.1 right)
 
   -- parts of a condition
-  each_part : {X : Type 0} (sites : X → List Site) (made : X → Cond) (xs : List X) → Every (λ x. IsClean g (sites x) → cond_typed (shapes g V D) V D (made x) ≡ true) xs
-      → IsClean g (joined (map sites xs)) → all_typed (shapes g V D) V D (map (cond_typed (shapes g V D) V D) (map made xs)) ≡ true
+  each_part : {X : Type 0} (sites : X → List Site) (made : X → Cond) (xs : List X)
+      → Every (λ x. IsClean g (sites x) → cond_typed (shapes g V D) V D (made x) ≡ true) xs
+      → IsClean g (joined (map sites xs))
+      → all_typed (shapes g V D) V D (map (cond_typed (shapes g V D) V D) (map made xs)) ≡ true
   each_part sites made [] all c = refl
   each_part sites made (x ∷ xs) all c =
-      let halves : IsClean g (sites x) × IsClean g (joined (map sites xs)) = clean_parts g (sites x) (joined (map sites xs)) c in
+      let halves : IsClean g (sites x) × IsClean g (joined (map sites xs)) =
+      clean_parts g (sites x) (joined (map sites xs)) c in
       both (cond_typed (shapes g V D) V D (made x)) _ (all.0 halves.0) (each_part sites made xs all.1 halves.1)
 
   module _ (n : ℕ) (globals : GoodGlobals n g) (scope : Scope) (blocks : GoodBlocks g V D scope.blocks) where
@@ -85,13 +97,19 @@ module _ (g : Globals) (V : List VarDef) (D : ℕ) where
     leads : (p : _) → GoodMeaning g V D (meaning_of_path g scope p)
     leads p = path_good g V D n globals scope blocks p
 
-    pub assignment_typed : (target : Meaning) (w : Want) (r : Rhs) (spot : Spot) → GoodMeaning g V D target → wanted_struct w ≡ struct_at target → IsClean g (rhs_sites g scope w r)
+    pub assignment_typed : (target : Meaning) (w : Want) (r : Rhs) (spot : Spot) → GoodMeaning g V D target
+        → wanted_struct w ≡ struct_at target → IsClean g (rhs_sites g scope w r)
         → act_typed (shapes g V D) V D (assignment g scope target r) spot ≡ true
     assignment_typed target w (rhs.Operand o) spot good same c =
-        let wanted : IsClean g (wanted_sites g scope Right w o) = (clean_parts g (choice_sites g scope w (out-Operand o)) (wanted_sites g scope Right w o) c).1 in
-        let last : IsClean g (stands g scope w o ∷ []) = (clean_parts g (operand_sites g scope Right o) (stands g scope w o ∷ []) wanted).1 in
-        let agree : differ (wanted_struct w) (struct_at (meaning_of_operand g scope o)) ≡ false = no_other g w (place_of_operand o) (meaning_of_operand g scope o) (clean_first g (stands g scope w o) [] last).0 in
-        assigned_typed g V D target (meaning_of_operand g scope o) spot good (means o) (subst (λ t. differ t (struct_at (meaning_of_operand g scope o)) ≡ false) same agree)
+        let wanted : IsClean g (wanted_sites g scope Right w o) =
+        (clean_parts g (choice_sites g scope w (out-Operand o)) (wanted_sites g scope Right w o) c).1 in
+        let last : IsClean g (stands g scope w o ∷ []) =
+        (clean_parts g (operand_sites g scope Right o) (stands g scope w o ∷ []) wanted).1 in
+        let agree : differ (wanted_struct w) (struct_at (meaning_of_operand g scope o)) ≡ false =
+        no_other g w (place_of_operand o) (meaning_of_operand g scope o)
+        (clean_first g (stands g scope w o) [] last).0 in
+        assigned_typed g V D target (meaning_of_operand g scope o) spot good (means o)
+        (subst (λ t. differ t (struct_at (meaning_of_operand g scope o)) ≡ false) same agree)
     assignment_typed target w (rhs.Malloc cast at size) spot good same c = new_typed g V D target spot good
 
     call_typed : (x : Text) (spot : Spot) → act_typed (shapes g V D) V D (call_act x) spot ≡ true
@@ -101,18 +119,27 @@ module _ (g : Globals) (V : List VarDef) (D : ℕ) where
         either true = refl
         either false = refl
 
-    pub simple_typed : (s : Simple) (spot : Spot) → IsClean g (simple_sites g scope s) → Typed (simple_stmts g scope s) spot
-    simple_typed (simple.Assign to from) spot c = typed_act (assignment g scope (meaning_of_path g scope to) from) to.head.at.line spot
-        (assignment_typed (meaning_of_path g scope to) (want_of_target (meaning_of_path g scope to)) from spot (leads to) (wanted-target (meaning_of_path g scope to))
-        (clean_parts g (target_sites g scope to) (rhs_sites g scope (want_of_target (meaning_of_path g scope to)) from) c).1)
-    simple_typed (simple.Call call) spot c = typed_act (call_act (out-Call call).name.text) (out-Call call).name.at.line spot (call_typed (out-Call call).name.text spot)
-    simple_typed (simple.Free at p) spot c = typed_act _ at.line spot (freed_typed g V D (meaning_of_path g scope p) spot (leads p))
+    pub simple_typed : (s : Simple) (spot : Spot) → IsClean g (simple_sites g scope s)
+        → Typed (simple_stmts g scope s) spot
+    simple_typed (simple.Assign to from) spot c =
+        typed_act (assignment g scope (meaning_of_path g scope to) from) to.head.at.line spot
+        (assignment_typed (meaning_of_path g scope to) (want_of_target (meaning_of_path g scope to)) from spot
+        (leads to) (wanted-target (meaning_of_path g scope to))
+        (clean_parts g (target_sites g scope to) (rhs_sites g scope (want_of_target (meaning_of_path g scope to)) from)
+        c).1)
+    simple_typed (simple.Call call) spot c =
+        typed_act (call_act (out-Call call).name.text) (out-Call call).name.at.line spot
+        (call_typed (out-Call call).name.text spot)
+    simple_typed (simple.Free at p) spot c =
+        typed_act _ at.line spot (freed_typed g V D (meaning_of_path g scope p) spot (leads p))
 
-    pub maybe_simple_typed : (s : Option Simple) (spot : Spot) → IsClean g (maybe_sites (simple_sites g scope) s) → Typed (maybe_simple g scope s) spot
+    pub maybe_simple_typed : (s : Option Simple) (spot : Spot) → IsClean g (maybe_sites (simple_sites g scope) s)
+        → Typed (maybe_simple g scope s) spot
     maybe_simple_typed None spot c = refl
     maybe_simple_typed (Some s) spot c = simple_typed s spot c
 
-    pub returned_typed : (o : Option Operand) (spot : Spot) → act_typed (shapes g V D) V D (act.Return (returned_operand g scope o)) spot ≡ true
+    pub returned_typed : (o : Option Operand) (spot : Spot)
+        → act_typed (shapes g V D) V D (act.Return (returned_operand g scope o)) spot ≡ true
     returned_typed None spot = refl
     returned_typed (Some o) spot = returned_good g V D (meaning_of_operand g scope o) spot (means o)
 
@@ -136,36 +163,53 @@ module _ (g : Globals) (V : List VarDef) (D : ℕ) where
     compare_typed : (l : Operand) (e : Bool) (r : Operand) → TestOk (test.Compare l e r)
     compare_typed l e r c =
         let w : Want = want_of_left (meaning_of_operand g scope l) in
-        let sides : IsClean g (wanted_sites g scope Elsewhere w r) = (clean_parts g (operand_sites g scope Elsewhere l) (wanted_sites g scope Elsewhere w r) (subst (IsClean g) (sites-Compare g scope l e r) c)).1 in
-        let last : IsClean g (stands g scope w r ∷ []) = (clean_parts g (operand_sites g scope Elsewhere r) (stands g scope w r ∷ []) sides).1 in
+        let sides : IsClean g (wanted_sites g scope Elsewhere w r) =
+        (clean_parts g (operand_sites g scope Elsewhere l) (wanted_sites g scope Elsewhere w r)
+        (subst (IsClean g) (sites-Compare g scope l e r) c)).1 in
+        let last : IsClean g (stands g scope w r ∷ []) =
+        (clean_parts g (operand_sites g scope Elsewhere r) (stands g scope w r ∷ []) sides).1 in
         ap (cond_typed (shapes g V D) V D) (made-Compare g scope l e r)
-        ∙ typed-Atom (shapes g V D) V D (comparison e (meaning_of_operand g scope l) (meaning_of_operand g scope r)) (place_of_operand l).line
+        ∙ typed-Atom (shapes g V D) V D (comparison e (meaning_of_operand g scope l) (meaning_of_operand g scope r))
+        (place_of_operand l).line
         ∙ comparison_typed g V D e (meaning_of_operand g scope l) (meaning_of_operand g scope r) (means l) (means r)
-        (no_other g w (place_of_operand r) (meaning_of_operand g scope r) (clean_first g (stands g scope w r) [] last).0)
+        (no_other g w (place_of_operand r) (meaning_of_operand g scope r)
+        (clean_first g (stands g scope w r) [] last).0)
 
-    tests_typed : (ts : List Test) → Every TestOk ts → IsClean g (joined (map (test_sites g scope) ts)) → Cok (all_of (map (test_of g scope) ts))
+    tests_typed : (ts : List Test) → Every TestOk ts → IsClean g (joined (map (test_sites g scope) ts))
+        → Cok (all_of (map (test_of g scope) ts))
     tests_typed [] all c = typed-Atom (shapes g V D) V D (atom.Known true) 0
-    tests_typed (t ∷ ts) all c = typed-All (shapes g V D) V D (map (test_of g scope) (t ∷ ts)) ∙ each_part (test_sites g scope) (test_of g scope) (t ∷ ts) all c
+    tests_typed (t ∷ ts) all c = typed-All (shapes g V D) V D (map (test_of g scope) (t ∷ ts))
+        ∙ each_part (test_sites g scope) (test_of g scope) (t ∷ ts) all c
 
-    ands_typed : (xs : List And) → Every AndOk xs → IsClean g (joined (map (and_sites g scope) xs)) → Cok (any_of (map (and_of g scope) xs))
+    ands_typed : (xs : List And) → Every AndOk xs → IsClean g (joined (map (and_sites g scope) xs))
+        → Cok (any_of (map (and_of g scope) xs))
     ands_typed [] all c = typed-Atom (shapes g V D) V D (atom.Known false) 0
-    ands_typed (x ∷ xs) all c = typed-Any (shapes g V D) V D (map (and_of g scope) (x ∷ xs)) ∙ each_part (and_sites g scope) (and_of g scope) (x ∷ xs) all c
+    ands_typed (x ∷ xs) all c = typed-Any (shapes g V D) V D (map (and_of g scope) (x ∷ xs))
+        ∙ each_part (and_sites g scope) (and_of g scope) (x ∷ xs) all c
 
     cond_cases : CondCases TestOk UnaryOk AndOk CondOk
     cond_cases = record {
       of_Compare = compare_typed;
-      of_Unary = λ u ok c. ap (cond_typed (shapes g V D) V D) (made-Unary g scope u) ∙ ok (subst (IsClean g) (sites-Unary g scope u) c);
-      of_Not = λ at u ok c. ap (cond_typed (shapes g V D) V D) (made-Not g scope at u) ∙ typed-Not (shapes g V D) V D (unary_of g scope u) ∙ ok (subst (IsClean g) (sites-Not g scope at u) c);
-      of_Bracket = λ at x ok c. ap (cond_typed (shapes g V D) V D) (made-Bracket g scope at x) ∙ ok (subst (IsClean g) (sites-Bracket g scope at x) c);
-      of_Operand = λ o c. ap (cond_typed (shapes g V D) V D) (made-Operand g scope o) ∙ typed-Atom (shapes g V D) V D (truth (meaning_of_operand g scope o)) (place_of_operand o).line
+      of_Unary = λ u ok c. ap (cond_typed (shapes g V D) V D) (made-Unary g scope u)
+          ∙ ok (subst (IsClean g) (sites-Unary g scope u) c);
+      of_Not = λ at u ok c. ap (cond_typed (shapes g V D) V D) (made-Not g scope at u)
+          ∙ typed-Not (shapes g V D) V D (unary_of g scope u) ∙ ok (subst (IsClean g) (sites-Not g scope at u) c);
+      of_Bracket = λ at x ok c. ap (cond_typed (shapes g V D) V D) (made-Bracket g scope at x)
+          ∙ ok (subst (IsClean g) (sites-Bracket g scope at x) c);
+      of_Operand = λ o c. ap (cond_typed (shapes g V D) V D) (made-Operand g scope o)
+          ∙ typed-Atom (shapes g V D) V D (truth (meaning_of_operand g scope o)) (place_of_operand o).line
           ∙ truth_typed g V D (meaning_of_operand g scope o) (means o);
-      of_tests = λ ts all c. ap (cond_typed (shapes g V D) V D) (made-tests g scope ts) ∙ tests_typed ts all (subst (IsClean g) (sites-tests g scope ts) c);
-      of_ands = λ xs all c. ap (cond_typed (shapes g V D) V D) (made-ands g scope xs) ∙ ands_typed xs all (subst (IsClean g) (sites-ands g scope xs) c);
+      of_tests = λ ts all c. ap (cond_typed (shapes g V D) V D) (made-tests g scope ts)
+          ∙ tests_typed ts all (subst (IsClean g) (sites-tests g scope ts) c);
+      of_ands = λ xs all c. ap (cond_typed (shapes g V D) V D) (made-ands g scope xs)
+          ∙ ands_typed xs all (subst (IsClean g) (sites-ands g scope xs) c);
     }
 
-    pub cond_is_typed : (c : tree.Cond) → IsClean g (cond_sites g scope c) → cond_typed (shapes g V D) V D (cond_of g scope c) ≡ true
+    pub cond_is_typed : (c : tree.Cond) → IsClean g (cond_sites g scope c)
+        → cond_typed (shapes g V D) V D (cond_of g scope c) ≡ true
     cond_is_typed = cond_holds TestOk UnaryOk AndOk CondOk cond_cases
 
-    pub maybe_cond_typed : (c : Option tree.Cond) (line : ℕ) → IsClean g (maybe_sites (cond_sites g scope) c) → cond_typed (shapes g V D) V D (maybe_cond g scope line c) ≡ true
+    pub maybe_cond_typed : (c : Option tree.Cond) (line : ℕ) → IsClean g (maybe_sites (cond_sites g scope) c)
+        → cond_typed (shapes g V D) V D (maybe_cond g scope line c) ≡ true
     maybe_cond_typed None line c = typed-Atom (shapes g V D) V D (atom.Known true) line
     maybe_cond_typed (Some x) line c = cond_is_typed x c

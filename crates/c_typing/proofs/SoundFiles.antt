@@ -1,5 +1,6 @@
 -- The program of a file where nothing is broken is typed.
-use Rattle.std.proofs.Common.{◌≡◌, ℕ, suc, Bool, true, false, not, ◌&&◌, ◌||◌, cond, nat_le, List, [], ◌∷◌, ◌++◌, length, map, Option, Some, None, refl, sym, ap, ◌∙◌, subst, arith}
+use Rattle.std.proofs.Common.{◌≡◌, ℕ, suc, Bool, true, false, not, ◌&&◌, ◌||◌, cond, nat_le, List, [], ◌∷◌, ◌++◌}
+use Rattle.std.proofs.Common.{length, map, Option, Some, None, refl, sym, ap, ◌∙◌, subst, arith}
 use Rattle.std.proofs.lemmas.List.{append-nil, length-map}
 use Rattle.fore_base.specs.Lists.{Every}
 use Rattle.fore_base.specs.Shapes.{targets_in, target_before}
@@ -15,10 +16,14 @@ use Rattle.c_ast.specs.declared.statements.Block.{Block}
 use Rattle.c_types.specs.Program.{Outside, all_below, shapes_typed, vars_typed, each_typed, stmt_typed, is_typed}
 use Rattle.c_types.specs.declared.program.VarDef.{VarDef}
 use Rattle.c_typing.specs.BodySites.{block_sites, block_places}
-use Rattle.c_typing.specs.Globals.{Globals, Definition, defined_name, maybe_defined, structs_in, struct_definitions, pointer_member, datum_member, members_in, struct_of, datum_of, values_from, values_in, value_name, globals_of, struct_name}
-use Rattle.c_typing.specs.ItemSites.{Seen, nothing_seen, seen_after, names_of, member_sites, field_type_sites, fields_sites, struct_sites, head_sites, body_sites, item_sites, items_sites}
+use Rattle.c_typing.specs.Globals.{Globals, Definition, defined_name, maybe_defined, structs_in, struct_definitions}
+use Rattle.c_typing.specs.Globals.{pointer_member, datum_member, members_in, struct_of, datum_of, values_from}
+use Rattle.c_typing.specs.Globals.{values_in, value_name, globals_of, struct_name}
+use Rattle.c_typing.specs.ItemSites.{Seen, nothing_seen, seen_after, names_of, member_sites, field_type_sites}
+use Rattle.c_typing.specs.ItemSites.{fields_sites, struct_sites, head_sites, body_sites, item_sites, items_sites}
 use Rattle.c_typing.specs.Profile.{is_main}
-use Rattle.c_typing.specs.Programs.{field_of, field_kind_of, shape_of, program_with, program_without, program_in, program_of, block_stmts}
+use Rattle.c_typing.specs.Programs.{field_of, field_kind_of, shape_of, program_with, program_without, program_in}
+use Rattle.c_typing.specs.Programs.{program_of, block_stmts}
 use Rattle.c_typing.specs.Scopes.{empty_scope, past_block}
 use Rattle.c_typing.specs.Sites as site
 use Rattle.c_typing.specs.Sites.{Site}
@@ -32,11 +37,14 @@ use Rattle.c_typing.proofs.Clean.{IsClean, clean_parts, clean_first, struct_ther
 use Rattle.c_typing.proofs.Sound.{GoodKind, GoodMember, GoodStruct, GoodValue, GoodGlobals}
 use Rattle.c_typing.proofs.SoundStmts.{struct_kind, block_typed}
 
-firsts_every : {X : Type 0} (P : X → Type 0) (name : X → Text) (seen : List Text) (xs : List X) → Every P xs → Every P (firsts name seen xs)
+firsts_every : {X : Type 0} (P : X → Type 0) (name : X → Text) (seen : List Text) (xs : List X) → Every P xs
+    → Every P (firsts name seen xs)
 firsts_every P name seen [] all = tt
-firsts_every P name seen (x ∷ xs) all = either (has (name x) seen) (firsts_every P name seen xs all.1) (firsts_every P name (seen ++ name x ∷ []) xs all.1)
+firsts_every P name seen (x ∷ xs) all =
+    either (has (name x) seen) (firsts_every P name seen xs all.1) (firsts_every P name (seen ++ name x ∷ []) xs all.1)
   where
-    either : (there : Bool) → Every P (firsts name seen xs) → Every P (firsts name (seen ++ name x ∷ []) xs) → Every P (cond there (firsts name seen xs) (x ∷ firsts name (seen ++ name x ∷ []) xs))
+    either : (there : Bool) → Every P (firsts name seen xs) → Every P (firsts name (seen ++ name x ∷ []) xs)
+        → Every P (cond there (firsts name seen xs) (x ∷ firsts name (seen ++ name x ∷ []) xs))
     either true old new = old
     either false old new = (all.0, new)
 
@@ -70,7 +78,8 @@ all_values (i ∷ is) = every_append GoodValue (values_in i) (each_of values_in 
 
 -- Structs
 
-names-same : (names : List Text) (ds : List Definition) → map struct_name (map (struct_of names) ds) ≡ map defined_name ds
+names-same : (names : List Text) (ds : List Definition) → map struct_name (map (struct_of names) ds)
+    ≡ map defined_name ds
 names-same names [] = refl
 names-same names (d ∷ ds) = ap (λ k. defined_name d ∷ k) (names-same names ds)
 
@@ -84,13 +93,19 @@ module _ (g : Globals) where
   fields_clean : (earlier : List Text) (fs : List Field) → IsClean g (fields_sites earlier fs) → Every FieldClean fs
   fields_clean earlier [] c = tt
   fields_clean earlier (f ∷ fs) c =
-      let halves : IsClean g (field_type_sites f ++ member_sites earlier (names_of f)) × IsClean g (fields_sites (earlier ++ map _ (names_of f)) fs) =
+      let halves : IsClean g (field_type_sites f ++ member_sites earlier (names_of f))
+      × IsClean g (fields_sites (earlier ++ map _ (names_of f)) fs) =
       clean_parts g (field_type_sites f ++ member_sites earlier (names_of f)) _ c in
       ((clean_parts g (field_type_sites f) (member_sites earlier (names_of f)) halves.0).0, fields_clean _ fs halves.1)
 
-  struct_clean : (s : Seen) (name : Name) (fields : Option (List Field)) → IsClean g (struct_sites s name fields) → Every DefinitionClean (maybe_defined name fields)
+  struct_clean : (s : Seen) (name : Name) (fields : Option (List Field)) → IsClean g (struct_sites s name fields)
+      → Every DefinitionClean (maybe_defined name fields)
   struct_clean s name None c = tt
-  struct_clean s name (Some fields) c = (fields_clean [] fields (clean_first g (site.Defines site.Struct name s.structs (length s.structs)) (fields_sites [] fields) c).1, tt)
+  struct_clean s name (Some fields) c = (
+    fields_clean [] fields
+        (clean_first g (site.Defines site.Struct name s.structs (length s.structs)) (fields_sites [] fields) c).1,
+    tt,
+  )
 
   item_clean : (s : Seen) (i : Item) → IsClean g (item_sites g s i) → Every DefinitionClean (structs_in i)
   item_clean s (item.Struct at name fields) c = struct_clean s name fields c
@@ -99,15 +114,19 @@ module _ (g : Globals) where
   item_clean s (item.Function head body) c = tt
   item_clean s (item.Declare d) c = tt
 
-  items_clean : (s : Seen) (is : List Item) → IsClean g (items_sites g s is) → Every DefinitionClean (each_of structs_in is)
+  items_clean : (s : Seen) (is : List Item) → IsClean g (items_sites g s is)
+      → Every DefinitionClean (each_of structs_in is)
   items_clean s [] c = tt
   items_clean s (i ∷ is) c =
-      let halves : IsClean g (item_sites g s i) × IsClean g (items_sites g (seen_after s i) is) = clean_parts g (item_sites g s i) (items_sites g (seen_after s i) is) c in
-      every_append DefinitionClean (structs_in i) (each_of structs_in is) (item_clean s i halves.0) (items_clean (seen_after s i) is halves.1)
+      let halves : IsClean g (item_sites g s i) × IsClean g (items_sites g (seen_after s i) is) =
+      clean_parts g (item_sites g s i) (items_sites g (seen_after s i) is) c in
+      every_append DefinitionClean (structs_in i) (each_of structs_in is) (item_clean s i halves.0)
+      (items_clean (seen_after s i) is halves.1)
 
   -- the fields of a struct, given the names of all structs
   module _ (names : List Text) (known : map struct_name g.structs ≡ names) where
-    kinds_good : (to : Option ℕ) (ns : List Name) → GoodKind (length g.structs) (Points to) → Every (GoodMember (length g.structs)) (map (pointer_member to) ns)
+    kinds_good : (to : Option ℕ) (ns : List Name) → GoodKind (length g.structs) (Points to)
+        → Every (GoodMember (length g.structs)) (map (pointer_member to) ns)
     kinds_good to [] good = tt
     kinds_good to (x ∷ xs) good = (good, kinds_good to xs good)
 
@@ -118,28 +137,36 @@ module _ (g : Globals) where
     members_good : (f : Field) → FieldClean f → Every (GoodMember (length g.structs)) (members_in names f)
     members_good (field.Pointers at shape fields) c = kinds_good (number_of shape.text names) fields
         (subst (λ ns. GoodKind (length g.structs) (Points (number_of shape.text ns))) known
-        (struct_kind g (length g.structs) shape.text refl (struct_there g shape (clean_first g (site.UsesStruct shape) [] c).0)))
+        (struct_kind g (length g.structs) shape.text refl
+        (struct_there g shape (clean_first g (site.UsesStruct shape) [] c).0)))
     members_good (field.Datums base fields) c = data_good fields
 
-    each_member : (fs : List Field) → Every FieldClean fs → Every (GoodMember (length g.structs)) (each_of (members_in names) fs)
+    each_member : (fs : List Field) → Every FieldClean fs
+        → Every (GoodMember (length g.structs)) (each_of (members_in names) fs)
     each_member [] all = tt
-    each_member (f ∷ fs) all = every_append (GoodMember (length g.structs)) (members_in names f) (each_of (members_in names) fs) (members_good f all.0) (each_member fs all.1)
+    each_member (f ∷ fs) all =
+        every_append (GoodMember (length g.structs)) (members_in names f) (each_of (members_in names) fs)
+        (members_good f all.0) (each_member fs all.1)
 
-    structs_good : (ds : List Definition) → Every DefinitionClean ds → Every (GoodStruct (length g.structs)) (map (struct_of names) ds)
+    structs_good : (ds : List Definition) → Every DefinitionClean ds
+        → Every (GoodStruct (length g.structs)) (map (struct_of names) ds)
     structs_good [] all = tt
     structs_good (d ∷ ds) all = (each_member d.1 all.0, structs_good ds all.1)
 
-globals_good : (is : List Item) → IsClean (globals_of is) (items_sites (globals_of is) nothing_seen is) → GoodGlobals (length (globals_of is).structs) (globals_of is)
+globals_good : (is : List Item) → IsClean (globals_of is) (items_sites (globals_of is) nothing_seen is)
+    → GoodGlobals (length (globals_of is).structs) (globals_of is)
 globals_good is c =
     let names : List Text = map defined_name (struct_definitions is) in (
       structs_good (globals_of is) names (names-same names (struct_definitions is)) (struct_definitions is)
-          (firsts_every (DefinitionClean (globals_of is)) defined_name [] (each_of structs_in is) (items_clean (globals_of is) nothing_seen is c)),
+          (firsts_every (DefinitionClean (globals_of is)) defined_name [] (each_of structs_in is)
+          (items_clean (globals_of is) nothing_seen is c)),
       firsts_every GoodValue value_name [] (each_of values_in is) (all_values is),
     )
 
 -- Shapes
 
-target_below : (n : ℕ) (k : Kind) (ts : List ℕ) → GoodKind n k → all_below n ts ≡ true → all_below n (target_before (field_kind_of k) ts) ≡ true
+target_below : (n : ℕ) (k : Kind) (ts : List ℕ) → GoodKind n k → all_below n ts ≡ true
+    → all_below n (target_before (field_kind_of k) ts) ≡ true
 target_below n (Points None) ts good rest = absurd good
 target_below n (Points (Some s)) ts good rest = ap (λ b. b && all_below n ts) good ∙ rest
 target_below n Datum ts good rest = rest
@@ -150,13 +177,15 @@ targets_below n (m ∷ ms) all = target_below n m.kind (targets_in (map field_of
 
 shapes_good : (n : ℕ) (ss : List StructDef) → Every (GoodStruct n) ss → shapes_typed n (map shape_of ss) ≡ true
 shapes_good n [] all = refl
-shapes_good n (s ∷ ss) all = ap (λ b. b && shapes_typed n (map shape_of ss)) (targets_below n s.fields all.0) ∙ shapes_good n ss all.1
+shapes_good n (s ∷ ss) all = ap (λ b. b && shapes_typed n (map shape_of ss)) (targets_below n s.fields all.0)
+    ∙ shapes_good n ss all.1
 
 -- Programs
 
 module _ (g : Globals) (globals : GoodGlobals (length g.structs) g) where
   all_shapes : shapes_typed (length (map shape_of g.structs)) (map shape_of g.structs) ≡ true
-  all_shapes = subst (λ n. shapes_typed n (map shape_of g.structs) ≡ true) (sym (length-map g.structs shape_of)) (shapes_good (length g.structs) g.structs globals.0)
+  all_shapes = subst (λ n. shapes_typed n (map shape_of g.structs) ≡ true) (sym (length-map g.structs shape_of))
+      (shapes_good (length g.structs) g.structs globals.0)
 
   abbrev vars_of : Block → List VarDef
   vars_of b = (past_block g b empty_scope).vars
@@ -165,45 +194,65 @@ module _ (g : Globals) (globals : GoodGlobals (length g.structs) g) where
   count_of b = length (past_block g b empty_scope).data_vars
 
   abbrev body_typed : Block → Bool
-  body_typed b = each_typed (map shape_of g.structs) (vars_of b) (count_of b) (map (stmt_typed (map shape_of g.structs) (vars_of b) (count_of b)) (block_stmts g b empty_scope)) Outside
+  body_typed b = each_typed (map shape_of g.structs) (vars_of b) (count_of b)
+      (map (stmt_typed (map shape_of g.structs) (vars_of b) (count_of b)) (block_stmts g b empty_scope)) Outside
 
   with_typed : (b : Block) → IsClean g (block_sites g b false empty_scope) → is_typed (program_with g b) ≡ true
   unfolding is_typed
   with_typed b c =
       let r : (body_typed b ≡ true) × (vars_typed (length g.structs) (vars_of b) ≡ true) =
-      block_typed g (vars_of b) (count_of b) (length g.structs) refl globals b false empty_scope (([], sym (append-nil (vars_of b))), omega (arith)) (tt, refl) c in
-      let vars : vars_typed (length (map shape_of g.structs)) (vars_of b) ≡ true = subst (λ n. vars_typed n (vars_of b) ≡ true) (sym (length-map g.structs shape_of)) r.1 in
-      ap (λ k. (k && vars_typed (length (map shape_of g.structs)) (vars_of b)) && body_typed b) all_shapes ∙ ap (λ k. k && body_typed b) vars ∙ r.0
+      block_typed g (vars_of b) (count_of b) (length g.structs) refl globals b false empty_scope
+      (([], sym (append-nil (vars_of b))), omega (arith)) (tt, refl) c in
+      let vars : vars_typed (length (map shape_of g.structs)) (vars_of b) ≡ true =
+      subst (λ n. vars_typed n (vars_of b) ≡ true) (sym (length-map g.structs shape_of)) r.1 in
+      ap (λ k. (k && vars_typed (length (map shape_of g.structs)) (vars_of b)) && body_typed b) all_shapes
+      ∙ ap (λ k. k && body_typed b) vars ∙ r.0
 
   without_typed : is_typed (program_without g) ≡ true
   unfolding is_typed
   without_typed = ap (λ k. (k && true) && true) all_shapes
 
   -- the first main is the one whose body is looked at
-  rest : (s : Seen) (i : Item) (is : List Item) → IsClean g (items_sites g s (i ∷ is)) → IsClean g (items_sites g (seen_after s i) is)
+  rest : (s : Seen) (i : Item) (is : List Item) → IsClean g (items_sites g s (i ∷ is))
+      → IsClean g (items_sites g (seen_after s i) is)
   rest s i is c = (clean_parts g (item_sites g s i) (items_sites g (seen_after s i) is) c).1
 
-  main_clean : (s : Seen) (h : Head) (b : Block) → s.main ≡ false → is_main h ≡ true → IsClean g (item_sites g s (item.Function h b)) → IsClean g (block_sites g b false empty_scope)
+  main_clean : (s : Seen) (h : Head) (b : Block) → s.main ≡ false → is_main h ≡ true
+      → IsClean g (item_sites g s (item.Function h b)) → IsClean g (block_sites g b false empty_scope)
   main_clean s h b none is c =
-      let body : IsClean g (body_sites g (not s.main && is_main h) b) = (clean_parts g (head_sites (site.Functions s.main h) h) (body_sites g (not s.main && is_main h) b) c).1 in
-      let first : IsClean g (body_sites g true b) = subst (λ k. IsClean g (body_sites g k b)) (ap (λ k. not k && is_main h) none ∙ is) body in
+      let body : IsClean g (body_sites g (not s.main && is_main h) b) =
+      (clean_parts g (head_sites (site.Functions s.main h) h) (body_sites g (not s.main && is_main h) b) c).1 in
+      let first : IsClean g (body_sites g true b) =
+      subst (λ k. IsClean g (body_sites g k b)) (ap (λ k. not k && is_main h) none ∙ is) body in
       (clean_parts g (block_sites g b false empty_scope) (site.Counts (block_places b).within ∷ []) first).0
 
-  items_typed : (s : Seen) (is : List Item) → s.main ≡ false → IsClean g (items_sites g s is) → is_typed (program_in g is) ≡ true
+  items_typed : (s : Seen) (is : List Item) → s.main ≡ false → IsClean g (items_sites g s is)
+      → is_typed (program_in g is) ≡ true
   items_typed s [] none c = without_typed
-  items_typed s (item.Struct at name fields ∷ is) none c = items_typed (seen_after s (item.Struct at name fields)) is none (rest s (item.Struct at name fields) is c)
-  items_typed s (item.Enum at name values ∷ is) none c = items_typed (seen_after s (item.Enum at name values)) is none (rest s (item.Enum at name values) is c)
-  items_typed s (item.Proto outer head ∷ is) none c = items_typed (seen_after s (item.Proto outer head)) is none (rest s (item.Proto outer head) is c)
-  items_typed s (item.Declare d ∷ is) none c = items_typed (seen_after s (item.Declare d)) is none (rest s (item.Declare d) is c)
+  items_typed s (item.Struct at name fields ∷ is) none c =
+      items_typed (seen_after s (item.Struct at name fields)) is none (rest s (item.Struct at name fields) is c)
+  items_typed s (item.Enum at name values ∷ is) none c =
+      items_typed (seen_after s (item.Enum at name values)) is none (rest s (item.Enum at name values) is c)
+  items_typed s (item.Proto outer head ∷ is) none c =
+      items_typed (seen_after s (item.Proto outer head)) is none (rest s (item.Proto outer head) is c)
+  items_typed s (item.Declare d ∷ is) none c =
+      items_typed (seen_after s (item.Declare d)) is none (rest s (item.Declare d) is c)
   items_typed s (item.Function h b ∷ is) none c =
-      either (is_main h) refl (λ none'. items_typed (seen_after s (item.Function h b)) is none' (rest s (item.Function h b) is c))
+      either (is_main h) refl
+      (λ none'. items_typed (seen_after s (item.Function h b)) is none' (rest s (item.Function h b) is c))
     where
-      either : (k : Bool) → is_main h ≡ k → ((s.main || is_main h) ≡ false → is_typed (program_in g is) ≡ true) → is_typed (cond k (program_with g b) (program_in g is)) ≡ true
-      either true main later = with_typed b (main_clean s h b none main (clean_parts g (item_sites g s (item.Function h b)) (items_sites g (seen_after s (item.Function h b)) is) c).0)
+      either : (k : Bool) → is_main h ≡ k → ((s.main || is_main h) ≡ false → is_typed (program_in g is) ≡ true)
+          → is_typed (cond k (program_with g b) (program_in g is)) ≡ true
+      either true main later =
+          with_typed b
+          (main_clean s h b none main
+          (clean_parts g (item_sites g s (item.Function h b)) (items_sites g (seen_after s (item.Function h b)) is)
+          c).0)
       either false main later = later (ap (λ k. k || is_main h) none ∙ main)
 
 pub file_typed : (u : whole.Unit) → breaches u ≡ [] → is_typed (program_of u) ≡ true
 unfolding breaches program_of
 file_typed u c =
-    let items : IsClean (globals_of u.items) (items_sites (globals_of u.items) nothing_seen u.items) = (clean_parts (globals_of u.items) (items_sites (globals_of u.items) nothing_seen u.items) _ c).0 in
+    let items : IsClean (globals_of u.items) (items_sites (globals_of u.items) nothing_seen u.items) =
+    (clean_parts (globals_of u.items) (items_sites (globals_of u.items) nothing_seen u.items) _ c).0 in
     items_typed (globals_of u.items) (globals_good u.items items) nothing_seen u.items refl items

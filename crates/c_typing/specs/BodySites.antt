@@ -17,8 +17,10 @@ use Rattle.c_ast.specs.declared.statements.Part as part
 use Rattle.c_ast.specs.declared.statements.Part.TheOpen as stmt
 use Rattle.c_ast.specs.declared.statements.Stmt.{Stmt, para-Stmt, fold-Stmt, Stmt-F}
 use Rattle.c_typing.specs.Globals.{Globals}
-use Rattle.c_typing.specs.Scopes.{Scope, innermost, var_name, declared_so_far, opened, declared, kind_of, declarators_of, past_first, past_part, past_stmt}
-use Rattle.c_typing.specs.Sites.{Site, UsesStruct, UsesEnum, Defines, Jumps, Variable, want_of_kind, wanted_sites, rhs_sites, simple_sites, cond_sites}
+use Rattle.c_typing.specs.Scopes.{Scope, innermost, var_name, declared_so_far, opened, declared, kind_of}
+use Rattle.c_typing.specs.Scopes.{declarators_of, past_first, past_part, past_stmt}
+use Rattle.c_typing.specs.Sites.{Site, UsesStruct, UsesEnum, Defines, Jumps, Variable, want_of_kind, wanted_sites}
+use Rattle.c_typing.specs.Sites.{rhs_sites, simple_sites, cond_sites}
 use Rattle.c_typing.specs.Texts.{joined}
 use Rattle.c_typing.specs.declared.meaning.Kind.{Kind}
 use Rattle.c_typing.specs.declared.meaning.Want.TheVariants.{Datum as ADatum}
@@ -49,7 +51,8 @@ module _ (g : Globals) where
 
   abbrev pub declarators_sites : Kind → List Declarator → Scope → List Site
   declarators_sites kind [] scope = []
-  declarators_sites kind (d ∷ ds) scope = declarator_sites kind scope d ++ declarators_sites kind ds (declared scope d.name.text kind)
+  declarators_sites kind (d ∷ ds) scope = declarator_sites kind scope d
+      ++ declarators_sites kind ds (declared scope d.name.text kind)
 
   abbrev pub declare_sites : Declare → Scope → List Site
   declare_sites d scope = type_sites d ++ declarators_sites (kind_of g d) (declarators_of d) scope
@@ -82,7 +85,8 @@ module _ (g : Globals) where
 
   -- the parts of a `for` after what stands first in its head
   abbrev pub rest_sites : Option Cond → Option Simple → (Stmt × Sites) → Scope → List Site
-  rest_sites c next body scope = maybe_sites (cond_sites g scope) c ++ maybe_sites (simple_sites g scope) next ++ body.1 true scope
+  rest_sites c next body scope = maybe_sites (cond_sites g scope) c ++ maybe_sites (simple_sites g scope) next
+      ++ body.1 true scope
 
   -- `return` wants a datum or nothing
   abbrev pub stmt_step : Stmt-F (part.Part × Sites) (Stmt × Sites) (Block × Sites) → Sites
@@ -117,7 +121,8 @@ module _ (g : Globals) where
   other_sites None loop scope = []
   other_sites (Some s) loop scope = stmt_sites s loop scope
 
--- Where statements and declarations begin, outer ones first. A declaration in the head of a `for` counts; what else stands there does not.
+-- Where statements and declarations begin, outer ones first. A declaration in the head of a `for` counts; what else
+-- stands there does not.
 
 abbrev pub data_place : Data → Place
 data_place (data'.Int at) = at

@@ -1,4 +1,5 @@
--- What the items of a file define: structs, enumerations and enumerators. They are known in the whole file. Of two definitions of one name
+-- What the items of a file define: structs, enumerations and enumerators. They are known in the whole file. Of two
+-- definitions of one name
 -- the first counts.
 use Rattle.std.specs.Prelude.{ℕ, zero, suc, cond, nat_le, List, [], ◌∷◌, map, Option, Some, None}
 use Rattle.fore_base.specs.declared.limits.TheConstants.{DATUM}
@@ -143,7 +144,8 @@ one_datum_more Datum n = suc n
 abbrev pub use_in : Text → ℕ → ℕ → List Member → Option FieldUse
 use_in x ptrs datums [] = None
 use_in x ptrs datums (m ∷ ms) =
-    cond (same x m.name) (Some (use_as m.kind ptrs datums)) (use_in x (one_pointer_more m.kind ptrs) (one_datum_more m.kind datums) ms)
+    cond (same x m.name) (Some (use_as m.kind ptrs datums))
+    (use_in x (one_pointer_more m.kind ptrs) (one_datum_more m.kind datums) ms)
 
 -- the field of this name of the struct of this number; pointers and data are numbered apart
 abbrev pub field_use : Globals → ℕ → Text → Option FieldUse

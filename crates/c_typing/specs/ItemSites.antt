@@ -1,5 +1,6 @@
 -- The places of a file where a rule may be broken, in the order of the text.
-use Rattle.std.specs.Prelude.{ℕ, suc, Bool, true, false, not, ◌&&◌, ◌||◌, List, [], ◌∷◌, ◌++◌, map, length, Option, Some, None}
+use Rattle.std.specs.Prelude.{ℕ, suc, Bool, true, false, not, ◌&&◌, ◌||◌, List, [], ◌∷◌, ◌++◌, map, length, Option}
+use Rattle.std.specs.Prelude.{Some, None}
 use Rattle.c_ast.specs.declared.items.Field.{Field}
 use Rattle.c_ast.specs.declared.items.Field.TheVariants as field
 use Rattle.c_ast.specs.declared.items.Head.{Head}
@@ -19,10 +20,12 @@ use Rattle.c_typing.specs.BodySites.{maybe_sites, data_sites, type_sites, block_
 use Rattle.c_typing.specs.Globals.{Globals, text_of}
 use Rattle.c_typing.specs.Profile.{is_main}
 use Rattle.c_typing.specs.Scopes.{empty_scope, declarators_of}
-use Rattle.c_typing.specs.Sites.{Struct, Enum, Value, Member, Site, UsesStruct, Defines, Counts, Declares, Functions, Globally, Ends, Overflows}
+use Rattle.c_typing.specs.Sites.{Struct, Enum, Value, Member, Site, UsesStruct, Defines, Counts, Declares, Functions}
+use Rattle.c_typing.specs.Sites.{Globally, Ends, Overflows}
 use Rattle.c_typing.specs.Texts.{Text, each_of}
 
--- what the items so far define: the names of structs with braces, of enumerations and of enumerators, each as often as it comes, and whether one is main
+-- what the items so far define: the names of structs with braces, of enumerations and of enumerators, each as often as
+-- it comes, and whether one is main
 pub record Seen : Type 0 where
   pub structs : List Text
   pub enums : List Text
@@ -38,11 +41,18 @@ structs_seen seen name None = seen
 structs_seen seen name (Some fields) = seen ++ name.text ∷ []
 
 abbrev pub seen_after : Seen → Item → Seen
-seen_after s (item.Struct at name fields) = record { structs = structs_seen s.structs name fields; enums = s.enums; values = s.values; main = s.main }
+seen_after s (item.Struct at name fields) =
+    record { structs = structs_seen s.structs name fields; enums = s.enums; values = s.values; main = s.main }
 seen_after s (item.Enum at name values) =
-    record { structs = s.structs; enums = s.enums ++ name.text ∷ []; values = s.values ++ map text_of values; main = s.main }
+    record {
+      structs = s.structs;
+      enums = s.enums ++ name.text ∷ [];
+      values = s.values ++ map text_of values;
+      main = s.main;
+    }
 seen_after s (item.Proto outer head) = s
-seen_after s (item.Function head body) = record { structs = s.structs; enums = s.enums; values = s.values; main = s.main || is_main head }
+seen_after s (item.Function head body) =
+    record { structs = s.structs; enums = s.enums; values = s.values; main = s.main || is_main head }
 seen_after s (item.Declare d) = s
 
 -- Definitions: names of one family, one after the other, each counted with those before it
@@ -61,7 +71,8 @@ names_of (field.Datums base fields) = fields
 
 abbrev pub fields_sites : List Text → List Field → List Site
 fields_sites earlier [] = []
-fields_sites earlier (f ∷ fs) = (field_type_sites f ++ member_sites earlier (names_of f)) ++ fields_sites (earlier ++ map text_of (names_of f)) fs
+fields_sites earlier (f ∷ fs) = (field_type_sites f ++ member_sites earlier (names_of f))
+    ++ fields_sites (earlier ++ map text_of (names_of f)) fs
 
 -- enumerators: none may repeat one of the file, and those of one enumeration are counted
 abbrev pub value_sites : List Text → ℕ → List Name → List Site
@@ -109,7 +120,8 @@ module _ (g : Globals) where
   item_sites s (item.Struct at name fields) = struct_sites s name fields
   item_sites s (item.Enum at name values) = Defines Enum name s.enums (length s.enums) ∷ value_sites s.values 0 values
   item_sites s (item.Proto outer head) = head_sites (Declares head) head
-  item_sites s (item.Function head body) = head_sites (Functions s.main head) head ++ body_sites (is_first_main s head) body
+  item_sites s (item.Function head body) = head_sites (Functions s.main head) head
+      ++ body_sites (is_first_main s head) body
   item_sites s (item.Declare d) = type_sites d ++ global_sites (declarators_of d)
 
   -- what the items so far define is handed on
@@ -123,4 +135,5 @@ all_seen s (i ∷ is) = all_seen (seen_after s i) is
 
 -- all places of a file
 abbrev pub unit_sites : Globals → whole.Unit → List Site
-unit_sites g u = items_sites g nothing_seen u.items ++ Ends (all_seen nothing_seen u.items).main u.end ∷ Overflows u.over ∷ []
+unit_sites g u = items_sites g nothing_seen u.items ++ Ends (all_seen nothing_seen u.items).main u.end
+    ∷ Overflows u.over ∷ []

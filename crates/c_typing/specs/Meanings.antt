@@ -16,7 +16,8 @@ use Rattle.c_typing.specs.declared.meaning.FieldUse.TheVariants as use_of
 use Rattle.c_typing.specs.declared.meaning.Kind.{Kind}
 use Rattle.c_typing.specs.declared.meaning.Kind.TheVariants.{Points, Datum as DatumKind}
 use Rattle.c_typing.specs.declared.meaning.Meaning.{Meaning}
-use Rattle.c_typing.specs.declared.meaning.Meaning.TheVariants.{Pointer, Datum, Known, Zero, Null, Call as CallThere, Broken}
+use Rattle.c_typing.specs.declared.meaning.Meaning.TheVariants.{Pointer, Datum, Known, Zero, Null, Call as CallThere}
+use Rattle.c_typing.specs.declared.meaning.Meaning.TheVariants.{Broken}
 
 -- the variable of this kind and number
 abbrev pub variable : Kind → ℕ → Meaning
@@ -66,7 +67,8 @@ meaning_of_path g scope p = all_followed g (meaning_of_name g scope p.head.text)
 -- the numbers that may be written, 0 to 15
 abbrev pub numerals : List Text
 numerals =
-    codes "0" ∷ codes "1" ∷ codes "2" ∷ codes "3" ∷ codes "4" ∷ codes "5" ∷ codes "6" ∷ codes "7" ∷ codes "8" ∷ codes "9" ∷ codes "10" ∷ codes "11"
+    codes "0" ∷ codes "1" ∷ codes "2" ∷ codes "3" ∷ codes "4" ∷ codes "5" ∷ codes "6" ∷ codes "7" ∷ codes "8"
+    ∷ codes "9" ∷ codes "10" ∷ codes "11"
     ∷ codes "12" ∷ codes "13" ∷ codes "14" ∷ codes "15" ∷ []
 
 -- the number that is written so

@@ -1,4 +1,5 @@
--- The functions that a program may call and declare, and the head of `main`. They go by their names alone: a variable hides none of them.
+-- The functions that a program may call and declare, and the head of `main`. They go by their names alone: a variable
+-- hides none of them.
 use Rattle.std.specs.Prelude.{Bool, true, false, ◌&&◌, ◌||◌, List, [], ◌∷◌, codes, Option, Some, None}
 use Rattle.c_ast.specs.declared.items.Head.{Head}
 use Rattle.c_ast.specs.declared.items.Params.{Params}
@@ -38,7 +39,8 @@ errors = codes "__VERIFIER_error" ∷ codes "reach_error" ∷ []
 abbrev pub is_allowed : Globals → Scope → Spot → Text → List Operand → Bool
 is_allowed g scope Statement x os =
     (has x (codes "abort" ∷ errors) && is_empty os) || (same x (codes "exit") && is_one_constant g scope os)
-is_allowed g scope Condition x os = has x (codes "__VERIFIER_nondet_int" ∷ codes "__VERIFIER_nondet_bool" ∷ []) && is_empty os
+is_allowed g scope Condition x os = has x (codes "__VERIFIER_nondet_int" ∷ codes "__VERIFIER_nondet_bool" ∷ [])
+    && is_empty os
 is_allowed g scope Right x os = same x (codes "__VERIFIER_nondet_bool") && is_empty os
 is_allowed g scope Elsewhere x os = false
 
@@ -69,7 +71,8 @@ is_main h = same h.name.text (codes "main")
 abbrev pub is_main_head : Head → Bool
 is_main_head h = gives_int h.gives && has_no_params h.params
 
--- `int __VERIFIER_nondet_int()`, `int __VERIFIER_nondet_bool()`, `void __VERIFIER_error()`, `void reach_error()`, `void abort()`
+-- `int __VERIFIER_nondet_int()`, `int __VERIFIER_nondet_bool()`, `void __VERIFIER_error()`, `void reach_error()`, `void
+-- abort()`
 abbrev pub is_allowed_head : Head → Bool
 is_allowed_head h =
     ((has h.name.text (codes "__VERIFIER_nondet_int" ∷ codes "__VERIFIER_nondet_bool" ∷ []) && gives_int h.gives)

@@ -1,6 +1,8 @@
--- The program that a file is. It is one for each file; where a rule is broken it has 0 or a null pointer in the place of what is not there, and
+-- The program that a file is. It is one for each file; where a rule is broken it has 0 or a null pointer in the place
+-- of what is not there, and
 -- nobody sees it.
-use Rattle.std.specs.Prelude.{ℕ, Bool, true, false, not, cond, nat_eq, List, [], ◌∷◌, ◌++◌, map, length, Option, Some, None}
+use Rattle.std.specs.Prelude.{ℕ, Bool, true, false, not, cond, nat_eq, List, [], ◌∷◌, ◌++◌, map, length, Option, Some}
+use Rattle.std.specs.Prelude.{None}
 use Rattle.fore_base.specs.declared.place.Place.{Place}
 use Rattle.fore_base.specs.declared.shape.FieldDef.{FieldDef}
 use Rattle.fore_base.specs.declared.shape.FieldKind.{FieldKind}
@@ -49,7 +51,8 @@ use Rattle.c_types.specs.declared.program.Stmt.TheVariants.{Do, Branch, While, D
 use Rattle.c_typing.specs.Globals.{Globals, globals_of}
 use Rattle.c_typing.specs.Meanings.{variable, meaning_of_path, meaning_of_operand, place_of_operand}
 use Rattle.c_typing.specs.Profile.{errors, is_main}
-use Rattle.c_typing.specs.Scopes.{Var, Scope, empty_scope, innermost, or_zero, opened, declared, kind_of, declarators_of, past_declare, past_part, past_stmt, past_block}
+use Rattle.c_typing.specs.Scopes.{Var, Scope, empty_scope, innermost, or_zero, opened, declared, kind_of}
+use Rattle.c_typing.specs.Scopes.{declarators_of, past_declare, past_part, past_stmt, past_block}
 use Rattle.c_typing.specs.Rules.{is_pointer}
 use Rattle.c_typing.specs.Texts.{Text, has}
 use Rattle.c_typing.specs.declared.meaning.Kind.{Kind}
@@ -120,7 +123,8 @@ data_op_of meaning.Null = data_op.Known 0
 data_op_of meaning.Call = data_op.Known 0
 data_op_of meaning.Broken = data_op.Known 0
 
--- The left operand says what is compared, and if it is 0 the right one does: pointers, or data. 0 with 0 is a comparison of data.
+-- The left operand says what is compared, and if it is 0 the right one does: pointers, or data. 0 with 0 is a
+-- comparison of data.
 abbrev pub compares_pointers : Meaning → Meaning → Bool
 compares_pointers (meaning.Pointer p to) r = true
 compares_pointers (meaning.Datum d) r = false
@@ -131,9 +135,11 @@ compares_pointers meaning.Call r = false
 compares_pointers meaning.Broken r = false
 
 abbrev pub comparison : Bool → Meaning → Meaning → Atom
-comparison equal l r = cond (compares_pointers l r) (atom.Ptr (ptr_op_of l) (ptr_op_of r) equal) (atom.Data (data_op_of l) (data_op_of r) equal)
+comparison equal l r = cond (compares_pointers l r) (atom.Ptr (ptr_op_of l) (ptr_op_of r) equal)
+    (atom.Data (data_op_of l) (data_op_of r) equal)
 
--- What stands alone as a condition: a pointer is true if it is not null, a datum if it is not 0; constants are literals, and NULL is a false one.
+-- What stands alone as a condition: a pointer is true if it is not null, a datum if it is not 0; constants are
+-- literals, and NULL is a false one.
 abbrev pub truth : Meaning → Atom
 truth (meaning.Pointer p to) = atom.Ptr (ptr_op.Path p) ptr_op.Null false
 truth (meaning.Datum d) = atom.Data (data_op.Path d) (data_op.Known 0) false
@@ -204,8 +210,10 @@ next_variable scope kind.Datum = variable kind.Datum (length scope.data_vars)
 
 module _ (g : Globals) where
   abbrev pub assignment : Scope → Meaning → Rhs → Act
-  assignment scope target (rhs.Operand o) = assigned target (ptr_rhs_of (meaning_of_operand g scope o)) (data_rhs_of (meaning_of_operand g scope o))
-  assignment scope target (rhs.Malloc cast at size) = assigned target (ptr_rhs.New (target_struct target)) (data_rhs.Known 0)
+  assignment scope target (rhs.Operand o) =
+      assigned target (ptr_rhs_of (meaning_of_operand g scope o)) (data_rhs_of (meaning_of_operand g scope o))
+  assignment scope target (rhs.Malloc cast at size) =
+      assigned target (ptr_rhs.New (target_struct target)) (data_rhs.Known 0)
 
   module _ (scope : Scope) where
     abbrev pub simple_stmts : Simple → List Stmt
@@ -217,7 +225,8 @@ module _ (g : Globals) where
 
     abbrev pub test_step : Test-F Cond Cond Cond Cond → Cond
     test_step (test.Compare left equal right) =
-        formula.Atom (comparison equal (meaning_of_operand g scope left) (meaning_of_operand g scope right)) (place_of_operand left).line
+        formula.Atom (comparison equal (meaning_of_operand g scope left) (meaning_of_operand g scope right))
+        (place_of_operand left).line
     test_step (test.Unary u) = u
 
     abbrev pub unary_step : Unary-F Cond Cond Cond Cond → Cond
@@ -299,11 +308,14 @@ module _ (g : Globals) where
   abbrev pub loop_of : Place → Option tree.Cond → Option Simple → (stmts.Stmt × Stmts) → Scope → Stmt
   loop_of at c next body scope = For (maybe_cond scope at.line c) (maybe_simple scope next) (body.1 scope)
 
-  -- A `for` that declares is a block of its own, whose variables die on its line. What stands first otherwise stands before the loop.
+  -- A `for` that declares is a block of its own, whose variables die on its line. What stands first otherwise stands
+  -- before the loop.
   abbrev pub for_stmts : First → Place → Option tree.Cond → Option Simple → (stmts.Stmt × Stmts) → Stmts
   for_stmts (first.Declare d) at c next body scope =
-      grouped (declare_stmts d (opened scope) ++ loop_of at c next body (past_declare g d (opened scope)) ∷ []) (past_declare g d (opened scope)) at.line ∷ []
-  for_stmts (first.Simple s) at c next body scope = simple_stmts (opened scope) s ++ loop_of at c next body (opened scope) ∷ []
+      grouped (declare_stmts d (opened scope) ++ loop_of at c next body (past_declare g d (opened scope)) ∷ [])
+      (past_declare g d (opened scope)) at.line ∷ []
+  for_stmts (first.Simple s) at c next body scope = simple_stmts (opened scope) s
+      ++ loop_of at c next body (opened scope) ∷ []
   for_stmts first.Nothing at c next body scope = loop_of at c next body (opened scope) ∷ []
 
   abbrev pub stmt_step : stmts.Stmt-F (part.Part × Stmts) (stmts.Stmt × Stmts) (Block × Stmts) → Stmts
@@ -359,7 +371,8 @@ program_with g b = record {
 }
 
 abbrev pub program_without : Globals → Program
-program_without g = record { shapes = record { structs = map shape_of g.structs }; vars = []; data_vars = []; body = [] }
+program_without g = record
+    { shapes = record { structs = map shape_of g.structs }; vars = []; data_vars = []; body = [] }
 
 -- the program of the first main
 abbrev pub program_in : Globals → List Item → Program

@@ -1,11 +1,14 @@
 -- The rules: for each, the places at which a site breaks it. `g` is what the file defines.
-use Rattle.std.specs.Prelude.{ℕ, Bool, true, false, not, ◌&&◌, ◌||◌, nat_eq, List, [], ◌∷◌, Option, Some, None, is_some, slice_get}
+use Rattle.std.specs.Prelude.{ℕ, Bool, true, false, not, ◌&&◌, ◌||◌, nat_eq, List, [], ◌∷◌, Option, Some, None, is_some}
+use Rattle.std.specs.Prelude.{slice_get}
 use Rattle.fore_base.specs.declared.limits.TheConstants.{STRUCTS, FIELDS, VARIABLES, ENUMERATORS, STATEMENTS}
 use Rattle.fore_base.specs.declared.place.Place.{Place}
 use Rattle.c_typing.specs.Globals.{Globals, struct_number, value_of, field_use}
 use Rattle.c_typing.specs.Profile.{is_allowed, is_allowed_head, is_main, is_main_head}
 use Rattle.c_typing.specs.Scopes.{look_up}
-use Rattle.c_typing.specs.Sites.{Struct, Value, Member, Variable, Site, UsesStruct, UsesEnum, Defines, Begins, Follows, Measures, Stands, Chooses, Allocates, Casts, Sizes, Calls, Jumps, Counts, Declares, Functions, Globally, Ends, Overflows, struct_at}
+use Rattle.c_typing.specs.Sites.{Struct, Value, Member, Variable, Site, UsesStruct, UsesEnum, Defines, Begins, Follows}
+use Rattle.c_typing.specs.Sites.{Measures, Stands, Chooses, Allocates, Casts, Sizes, Calls, Jumps, Counts, Declares}
+use Rattle.c_typing.specs.Sites.{Functions, Globally, Ends, Overflows, struct_at}
 use Rattle.c_typing.specs.Texts.{has}
 use Rattle.c_typing.specs.declared.meaning.Meaning.{Meaning}
 use Rattle.c_typing.specs.declared.meaning.Meaning.TheVariants as meaning
@@ -78,7 +81,8 @@ module _ (g : Globals) where
   t2 (Follows m a) = when (lacks_field g m a.field.text) a.field.at
   t2 _ = []
 
-  -- T3: a name that is neither a variable in scope nor an enumerator; an enumerator as the head of an arrow or as a target; at the name
+  -- T3: a name that is neither a variable in scope nor an enumerator; an enumerator as the head of an arrow or as a
+  -- target; at the name
   abbrev pub t3 : Site → List Place
   t3 (Begins scope to_be_variable name) =
       when (not (is_some (look_up scope name.text) || (not to_be_variable && is_some (value_of g name.text)))) name.at
@@ -89,12 +93,14 @@ module _ (g : Globals) where
   t4 (UsesEnum name) = when (not (has name.text g.enums)) name.at
   t4 _ = []
 
-  -- T5: a second struct, enumeration or enumerator of one name, a second field of one struct, a second variable of one block, at the second name
+  -- T5: a second struct, enumeration or enumerator of one name, a second field of one struct, a second variable of one
+  -- block, at the second name
   abbrev pub t5 : Site → List Place
   t5 (Defines family name earlier count) = when (has name.text earlier) name.at
   t5 _ = []
 
-  -- T6: pointers to different structs in an assignment or comparison, at the right operand; or a cast to another struct than the target's, at the
+  -- T6: pointers to different structs in an assignment or comparison, at the right operand; or a cast to another struct
+  -- than the target's, at the
   -- struct's name in the cast
   abbrev pub t6 : Site → List Place
   t6 (Stands want at m) = when (differ (wanted_struct want) (struct_at m)) at

@@ -1,4 +1,5 @@
--- The variables that are in scope at a place of a body, and those that were declared before it (ISO/IEC 9899:2011, 6.2.1).
+-- The variables that are in scope at a place of a body, and those that were declared before it (ISO/IEC 9899:2011,
+-- 6.2.1).
 use Rattle.std.specs.Prelude.{ℕ, ◌+◌, cond, List, [], ◌∷◌, ◌++◌, map, length, Option, Some, None}
 use Rattle.c_ast.specs.declared.statements.Block.{Block, fold-Block, Block-F}
 use Rattle.c_ast.specs.declared.statements.Declarator.{Declarator}
@@ -21,7 +22,8 @@ pub record Var : Type 0 where
   pub kind : Kind
   pub number : ℕ
 
--- The blocks that are open, innermost first, each with the variables that it has declared so far, the last one first. And all variables of the
+-- The blocks that are open, innermost first, each with the variables that it has declared so far, the last one first.
+-- And all variables of the
 -- file so far, also those of blocks that are closed: pointers and data apart, in order.
 pub record Scope : Type 0 where
   pub blocks : List (List Var)
@@ -137,7 +139,8 @@ module _ (g : Globals) where
 
   -- after a part of a block, after a statement, and after a block: what is in scope, and what was declared
   abbrev pub past_part : part.Part → Scope → Scope
-  past_part = part.fold-Part (Scope → Scope) (Scope → Scope) (Scope → Scope) past_part_step past_stmt_step past_block_step
+  past_part = part.fold-Part (Scope → Scope) (Scope → Scope) (Scope → Scope) past_part_step past_stmt_step
+      past_block_step
 
   abbrev pub past_stmt : Stmt → Scope → Scope
   past_stmt = fold-Stmt (Scope → Scope) (Scope → Scope) (Scope → Scope) past_part_step past_stmt_step past_block_step

@@ -1,4 +1,5 @@
--- The places of a file where a rule may be broken, each with what is known there; and those of paths, operands, right sides and conditions, about in the
+-- The places of a file where a rule may be broken, each with what is known there; and those of paths, operands, right
+-- sides and conditions, about in the
 -- order of the text.
 use Rattle.std.specs.Prelude.{ℕ, Bool, true, false, not, List, [], ◌∷◌, ◌++◌, Option, Some, None}
 use Rattle.fore_base.specs.declared.place.Place.{Place}
@@ -128,7 +129,8 @@ module _ (g : Globals) where
 
   module _ (scope : Scope) where
     abbrev pub path_sites : Bool → Path → List Site
-    path_sites to_be_variable p = Begins scope to_be_variable p.head ∷ arrow_sites (meaning_of_name g scope p.head.text) p.arrows
+    path_sites to_be_variable p = Begins scope to_be_variable p.head
+        ∷ arrow_sites (meaning_of_name g scope p.head.text) p.arrows
 
     -- a path that is read; the head of an arrow is a variable
     abbrev pub read_sites : Path → List Site
@@ -186,7 +188,8 @@ module _ (g : Globals) where
 
     abbrev pub starred_sites : Want → Place → Place → Path → List Site
     starred_sites want at star p =
-        read_sites p ++ Measures star (meaning_of_path g scope p) ∷ Sizes want at (struct_at (meaning_of_path g scope p)) ∷ []
+        read_sites p ++ Measures star (meaning_of_path g scope p)
+        ∷ Sizes want at (struct_at (meaning_of_path g scope p)) ∷ []
 
     abbrev pub size_sites : Want → Size → List Site
     size_sites want (size.Struct at name) = Sizes want at (struct_number g name.text) ∷ UsesStruct name ∷ []
@@ -200,14 +203,16 @@ module _ (g : Globals) where
     -- Statements without parts
 
     abbrev pub simple_sites : Simple → List Site
-    simple_sites (simple.Assign to from) = target_sites to ++ rhs_sites (want_of_target (meaning_of_path g scope to)) from
+    simple_sites (simple.Assign to from) =
+        target_sites to ++ rhs_sites (want_of_target (meaning_of_path g scope to)) from
     simple_sites (simple.Call c) = call_sites Statement c
     simple_sites (simple.Free at p) = read_sites p ++ Stands (APointer None) p.head.at (meaning_of_path g scope p) ∷ []
 
     -- Conditions: anything but a call that gives no choice may stand alone
 
     abbrev pub compare_sites : Operand → Operand → List Site
-    compare_sites left right = operand_sites Elsewhere left ++ wanted_sites Elsewhere (want_of_left (meaning_of_operand g scope left)) right
+    compare_sites left right = operand_sites Elsewhere left
+        ++ wanted_sites Elsewhere (want_of_left (meaning_of_operand g scope left)) right
 
     abbrev pub test_step : Test-F (List Site) (List Site) (List Site) (List Site) → List Site
     test_step (test.Compare left equal right) = compare_sites left right

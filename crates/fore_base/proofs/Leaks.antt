@@ -1,12 +1,14 @@
 -- The leak test is true exactly where some cell cannot be reached.
-use Rattle.std.proofs.Common.{◌≡◌, ◌≤◌, ◌<◌, ◌⊎◌, inl, inr, ℕ, zero, suc, Bool, true, false, ◌||◌, nat_eq, List, [], ◌∷◌, ◌++◌, length, refl, sym, ap, ◌∙◌, subst, true≢false, arith}
+use Rattle.std.proofs.Common.{◌≡◌, ◌≤◌, ◌<◌, ◌⊎◌, inl, inr, ℕ, zero, suc, Bool, true, false, ◌||◌, nat_eq, List, []}
+use Rattle.std.proofs.Common.{◌∷◌, ◌++◌, length, refl, sym, ap, ◌∙◌, subst, true≢false, arith}
 use Rattle.std.proofs.lemmas.Bool.{eqb-true, eq-eqb}
 use Rattle.fore_base.specs.declared.store.Value.{Value}
 use Rattle.fore_base.specs.declared.store.Value.TheVariants.{Null, Uninit, Dangling, Cell}
 use Rattle.fore_base.specs.declared.store.CellRec.{CellRec}
 use Rattle.fore_base.specs.declared.store.Store.{Store}
 use Rattle.fore_base.specs.Lists.{IsIn}
-use Rattle.fore_base.specs.Heap.{Reach, by_var, by_field, Leaked, is_named, fields_named, cells_unnamed, left_after, is_some_left, leaks}
+use Rattle.fore_base.specs.Heap.{Reach, by_var, by_field, Leaked, is_named, fields_named, cells_unnamed, left_after}
+use Rattle.fore_base.specs.Heap.{is_some_left, leaks}
 
 -- a number that is named is that of a value, and the other way
 
@@ -66,15 +68,18 @@ pub field_of : (vs : List Value) (cs : List CellRec) (v : Value) → IsIn v (fie
 field_of vs [] v h = absurd h
 field_of vs (c ∷ cs) v h = here (is_named c.number vs) refl (field_of vs cs v)
   where
-    either : is_named c.number vs ≡ true → (IsIn v (fields_named vs cs) → FieldOf vs cs v) → IsIn v c.fields ⊎ IsIn v (fields_named vs cs) → FieldOf vs (c ∷ cs) v
+    either : is_named c.number vs ≡ true → (IsIn v (fields_named vs cs) → FieldOf vs cs v) → IsIn v c.fields
+        ⊎ IsIn v (fields_named vs cs) → FieldOf vs (c ∷ cs) v
     either is rest (inl g) = record { cell = c; is_there = inl refl; is_field = g; named = is }
     either is rest (inr g) = further (rest g)
 
-    here : (b : Bool) → is_named c.number vs ≡ b → (IsIn v (fields_named vs cs) → FieldOf vs cs v) → FieldOf vs (c ∷ cs) v
+    here : (b : Bool) → is_named c.number vs ≡ b → (IsIn v (fields_named vs cs) → FieldOf vs cs v)
+        → FieldOf vs (c ∷ cs) v
     here true is rest = either is rest (in_either v c.fields (fields_named vs cs) (rw is at h))
     here false is rest = further (rest (rw is at h))
 
-pub field_named : (vs : List Value) (cs : List CellRec) (d : CellRec) (v : Value) → IsIn d cs → is_named d.number vs ≡ true → IsIn v d.fields → IsIn v (fields_named vs cs)
+pub field_named : (vs : List Value) (cs : List CellRec) (d : CellRec) (v : Value) → IsIn d cs → is_named d.number vs
+    ≡ true → IsIn v d.fields → IsIn v (fields_named vs cs)
 field_named vs [] d v h named field = absurd h
 field_named vs (c ∷ cs) d v (inl e) named field =
     let this : is_named c.number vs ≡ true = subst (λ (x : CellRec). is_named x.number vs ≡ true) e named in
@@ -86,22 +91,27 @@ field_named vs (c ∷ cs) d v (inr h) named field = here (is_named c.number vs) 
     here false is rest = rw is rest
 
 -- a cell that is left was there, and is not named
-pub left_was : (vs : List Value) (cs : List CellRec) (d : CellRec) → IsIn d (cells_unnamed vs cs) → IsIn d cs × (is_named d.number vs ≡ false)
+pub left_was : (vs : List Value) (cs : List CellRec) (d : CellRec) → IsIn d (cells_unnamed vs cs) → IsIn d cs
+    × (is_named d.number vs ≡ false)
 left_was vs [] d h = absurd h
 left_was vs (c ∷ cs) d h = here (is_named c.number vs) refl (left_was vs cs d)
   where
     later : IsIn d cs × (is_named d.number vs ≡ false) → IsIn d (c ∷ cs) × (is_named d.number vs ≡ false)
     later was = (inr was.0, was.1)
 
-    first : is_named c.number vs ≡ false → (IsIn d (cells_unnamed vs cs) → IsIn d cs × (is_named d.number vs ≡ false)) → IsIn d (c ∷ cells_unnamed vs cs) → IsIn d (c ∷ cs) × (is_named d.number vs ≡ false)
+    first : is_named c.number vs ≡ false → (IsIn d (cells_unnamed vs cs) → IsIn d cs × (is_named d.number vs ≡ false))
+        → IsIn d (c ∷ cells_unnamed vs cs) → IsIn d (c ∷ cs) × (is_named d.number vs ≡ false)
     first is rest (inl e) = (inl e, subst (λ (x : CellRec). is_named x.number vs ≡ false) (sym e) is)
     first is rest (inr g) = later (rest g)
 
-    here : (b : Bool) → is_named c.number vs ≡ b → (IsIn d (cells_unnamed vs cs) → IsIn d cs × (is_named d.number vs ≡ false)) → IsIn d (c ∷ cs) × (is_named d.number vs ≡ false)
+    here : (b : Bool) → is_named c.number vs ≡ b
+        → (IsIn d (cells_unnamed vs cs) → IsIn d cs × (is_named d.number vs ≡ false)) → IsIn d (c ∷ cs)
+        × (is_named d.number vs ≡ false)
     here true is rest = later (rest (rw is at h))
     here false is rest = first is rest (rw is at h)
 
-pub left_is : (vs : List Value) (cs : List CellRec) (d : CellRec) → IsIn d cs → is_named d.number vs ≡ false → IsIn d (cells_unnamed vs cs)
+pub left_is : (vs : List Value) (cs : List CellRec) (d : CellRec) → IsIn d cs → is_named d.number vs ≡ false
+    → IsIn d (cells_unnamed vs cs)
 left_is vs [] d h unnamed = absurd h
 left_is vs (c ∷ cs) d (inl e) unnamed =
     let this : is_named c.number vs ≡ false = subst (λ (x : CellRec). is_named x.number vs ≡ false) e unnamed in
@@ -113,11 +123,15 @@ left_is vs (c ∷ cs) d (inr h) unnamed = here (is_named c.number vs) refl (left
     here false is rest = rw is (inr rest)
 
 -- either a round takes a cell out, or it names none
-shorter : (vs : List Value) (cs : List CellRec) → (length (cells_unnamed vs cs) < length cs) ⊎ ((cells_unnamed vs cs ≡ cs) × (fields_named vs cs ≡ []))
+shorter : (vs : List Value) (cs : List CellRec) → (length (cells_unnamed vs cs) < length cs)
+    ⊎ ((cells_unnamed vs cs ≡ cs) × (fields_named vs cs ≡ []))
 shorter vs [] = inr (refl, refl)
 shorter vs (c ∷ cs) = here (is_named c.number vs) refl (shorter vs cs)
   where
-    here : (b : Bool) → is_named c.number vs ≡ b → ((length (cells_unnamed vs cs) < length cs) ⊎ ((cells_unnamed vs cs ≡ cs) × (fields_named vs cs ≡ []))) → (length (cells_unnamed vs (c ∷ cs)) < length (c ∷ cs)) ⊎ ((cells_unnamed vs (c ∷ cs) ≡ c ∷ cs) × (fields_named vs (c ∷ cs) ≡ []))
+    here : (b : Bool) → is_named c.number vs ≡ b
+        → ((length (cells_unnamed vs cs) < length cs) ⊎ ((cells_unnamed vs cs ≡ cs) × (fields_named vs cs ≡ [])))
+        → (length (cells_unnamed vs (c ∷ cs)) < length (c ∷ cs))
+        ⊎ ((cells_unnamed vs (c ∷ cs) ≡ c ∷ cs) × (fields_named vs (c ∷ cs) ≡ []))
     here true is (inl less) = inl (rw is (omega arith))
     here true is (inr same) = inl (rw (is, same.0) (omega arith))
     here false is (inl less) = inl (rw is (omega arith))
@@ -139,19 +153,26 @@ left_after_none (suc n) cs = rw (no_fields cs, none_named cs) (left_after_none n
 -- All rounds
 
 -- the fields of reached cells name cells that are reached
-by_fields : (s : Store) (vs : List Value) (cs : List CellRec) → ((m : ℕ) → IsIn (Cell m) vs → Reach s m) → ((d : CellRec) → IsIn d cs → IsIn d s.cells) → (m : ℕ) → IsIn (Cell m) (fields_named vs cs) → Reach s m
+by_fields : (s : Store) (vs : List Value) (cs : List CellRec) → ((m : ℕ) → IsIn (Cell m) vs → Reach s m)
+    → ((d : CellRec) → IsIn d cs → IsIn d s.cells) → (m : ℕ) → IsIn (Cell m) (fields_named vs cs) → Reach s m
 by_fields s vs cs reached there m g =
     let f : FieldOf vs cs (Cell m) = field_of vs cs (Cell m) g in
     by_field f.cell (there f.cell f.is_there) (reached f.cell.number (named_is_in f.cell.number vs f.named)) f.is_field
 
 -- where the values name only cells that are reached, each cell is reached or left
-pub reached_or_left : (s : Store) (n : ℕ) (vs : List Value) (cs : List CellRec) → ((m : ℕ) → IsIn (Cell m) vs → Reach s m) → ((d : CellRec) → IsIn d cs → IsIn d s.cells) → (c : CellRec) → IsIn c cs → Reach s c.number ⊎ IsIn c (left_after n vs cs)
+pub reached_or_left : (s : Store) (n : ℕ) (vs : List Value) (cs : List CellRec)
+    → ((m : ℕ) → IsIn (Cell m) vs → Reach s m) → ((d : CellRec) → IsIn d cs → IsIn d s.cells) → (c : CellRec)
+    → IsIn c cs → Reach s c.number ⊎ IsIn c (left_after n vs cs)
 reached_or_left s zero vs cs reached there c h = inr h
 reached_or_left s (suc n) vs cs reached there c h =
     here (is_named c.number vs) refl
-    (reached_or_left s n (fields_named vs cs) (cells_unnamed vs cs) (by_fields s vs cs reached there) (λ d g. there d (left_was vs cs d g).0) c)
+    (reached_or_left s n (fields_named vs cs) (cells_unnamed vs cs) (by_fields s vs cs reached there)
+    (λ d g. there d (left_was vs cs d g).0) c)
   where
-    here : (b : Bool) → is_named c.number vs ≡ b → (IsIn c (cells_unnamed vs cs) → Reach s c.number ⊎ IsIn c (left_after n (fields_named vs cs) (cells_unnamed vs cs))) → Reach s c.number ⊎ IsIn c (left_after n (fields_named vs cs) (cells_unnamed vs cs))
+    here : (b : Bool) → is_named c.number vs ≡ b
+        → (IsIn c (cells_unnamed vs cs) → Reach s c.number
+        ⊎ IsIn c (left_after n (fields_named vs cs) (cells_unnamed vs cs))) → Reach s c.number
+        ⊎ IsIn c (left_after n (fields_named vs cs) (cells_unnamed vs cs))
     here true is rest = inl (reached c.number (named_is_in c.number vs is))
     here false is rest = rest (left_is vs cs c h is)
 
@@ -162,15 +183,20 @@ pub record IsClosed (vs : List Value) (cs left : List CellRec) : Type 0 where
   pub kept : (c d : CellRec) → IsIn c left → IsIn d cs → IsIn (Cell c.number) d.fields → IsIn d left
 
 -- one round before
-one_more : (vs : List Value) (cs left : List CellRec) → IsClosed (fields_named vs cs) (cells_unnamed vs cs) left → IsClosed vs cs left
+one_more : (vs : List Value) (cs left : List CellRec) → IsClosed (fields_named vs cs) (cells_unnamed vs cs) left
+    → IsClosed vs cs left
 one_more vs cs left rest = record {
   was = λ c h. (left_was vs cs c (rest.was c h)).0;
   unnamed = λ c h. (left_was vs cs c (rest.was c h)).1;
   kept = λ c d h g f. by_name c d h g f (is_named d.number vs) refl;
 }
   where
-    by_name : (c d : CellRec) → IsIn c left → IsIn d cs → IsIn (Cell c.number) d.fields → (b : Bool) → is_named d.number vs ≡ b → IsIn d left
-    by_name c d h g f true is = absurd (true≢false (sym (in_is_named c.number (fields_named vs cs) (field_named vs cs d (Cell c.number) g is f)) ∙ rest.unnamed c h))
+    by_name : (c d : CellRec) → IsIn c left → IsIn d cs → IsIn (Cell c.number) d.fields → (b : Bool)
+        → is_named d.number vs ≡ b → IsIn d left
+    by_name c d h g f true is =
+        absurd
+        (true≢false (sym (in_is_named c.number (fields_named vs cs) (field_named vs cs d (Cell c.number) g is f))
+        ∙ rest.unnamed c h))
     by_name c d h g f false is = rest.kept c d h (left_is vs cs d g is) f
 
 pub left_is_closed : (n : ℕ) (vs : List Value) (cs : List CellRec) → length cs ≤ n → IsClosed vs cs (left_after n vs cs)
@@ -178,10 +204,14 @@ left_is_closed zero vs [] short = record { was = λ c h. h; unnamed = λ c h. ab
 left_is_closed zero vs (c ∷ cs) short = absurd (omega (arith, short))
 left_is_closed (suc n) vs cs short = here (shorter vs cs) (left_is_closed n (fields_named vs cs) (cells_unnamed vs cs))
   where
-    here : (length (cells_unnamed vs cs) < length cs) ⊎ ((cells_unnamed vs cs ≡ cs) × (fields_named vs cs ≡ [])) → (length (cells_unnamed vs cs) ≤ n → IsClosed (fields_named vs cs) (cells_unnamed vs cs) (left_after (suc n) vs cs)) → IsClosed vs cs (left_after (suc n) vs cs)
+    here : (length (cells_unnamed vs cs) < length cs) ⊎ ((cells_unnamed vs cs ≡ cs) × (fields_named vs cs ≡ []))
+        → (length (cells_unnamed vs cs) ≤ n
+        → IsClosed (fields_named vs cs) (cells_unnamed vs cs) (left_after (suc n) vs cs))
+        → IsClosed vs cs (left_after (suc n) vs cs)
     here (inl less) rest = one_more vs cs (left_after (suc n) vs cs) (rest (omega (arith, less, short)))
     here (inr same) rest =
-        let all_left : left_after n (fields_named vs cs) (cells_unnamed vs cs) ≡ cs = rw (same.0, same.1) (left_after_none n cs) in
+        let all_left : left_after n (fields_named vs cs) (cells_unnamed vs cs) ≡ cs =
+        rw (same.0, same.1) (left_after_none n cs) in
         subst (IsClosed vs cs) (sym all_left) (record {
           was = λ c h. h;
           unnamed = λ c h. (left_was vs cs c (subst (IsIn c) (sym same.0) h)).1;
@@ -190,23 +220,32 @@ left_is_closed (suc n) vs cs short = here (shorter vs cs) (left_is_closed n (fie
 
 -- The law
 
-unreached : (s : Store) (left : List CellRec) → IsClosed s.vars s.cells left → (n : ℕ) → Reach s n → (c : CellRec) → IsIn c left → c.number ≡ n → ⊥
+unreached : (s : Store) (left : List CellRec) → IsClosed s.vars s.cells left → (n : ℕ) → Reach s n → (c : CellRec)
+    → IsIn c left → c.number ≡ n → ⊥
 unreached s left closed n (by_var h) c g e =
     true≢false (sym (in_is_named n s.vars h) ∙ subst (λ m. is_named m s.vars ≡ false) e (closed.unnamed c g))
 unreached s left closed n (by_field d there reached field) c g e =
-    unreached s left closed d.number reached d (closed.kept c d g there (subst (λ m. IsIn (Cell m) d.fields) (sym e) field)) refl
+    unreached s left closed d.number reached d
+    (closed.kept c d g there (subst (λ m. IsIn (Cell m) d.fields) (sym e) field)) refl
 
 pub leaks_leaked : (s : Store) → leaks s ≡ true → Leaked s
 unfolding leaks
-leaks_leaked s e = here (left_after (length s.cells) s.vars s.cells) (left_is_closed (length s.cells) s.vars s.cells (omega arith)) e
+leaks_leaked s e = here (left_after (length s.cells) s.vars s.cells)
+    (left_is_closed (length s.cells) s.vars s.cells (omega arith)) e
   where
     here : (left : List CellRec) → IsClosed s.vars s.cells left → is_some_left left ≡ true → Leaked s
     here [] closed e = absurd (true≢false (sym e))
-    here (c ∷ cs) closed e = record { cell = c; is_there = closed.was c (inl refl); unreached = λ r. unreached s (c ∷ cs) closed c.number r c (inl refl) refl }
+    here (c ∷ cs) closed e =
+        record {
+          cell = c;
+          is_there = closed.was c (inl refl);
+          unreached = λ r. unreached s (c ∷ cs) closed c.number r c (inl refl) refl;
+        }
 
 pub sound_reached : (s : Store) → leaks s ≡ false → (c : CellRec) → IsIn c s.cells → Reach s c.number
 unfolding leaks
-sound_reached s e c h = here (left_after (length s.cells) s.vars s.cells) e (reached_or_left s (length s.cells) s.vars s.cells (λ m g. by_var g) (λ d g. g) c h)
+sound_reached s e c h = here (left_after (length s.cells) s.vars s.cells) e
+    (reached_or_left s (length s.cells) s.vars s.cells (λ m g. by_var g) (λ d g. g) c h)
   where
     here : (left : List CellRec) → is_some_left left ≡ false → Reach s c.number ⊎ IsIn c left → Reach s c.number
     here left e (inl r) = r

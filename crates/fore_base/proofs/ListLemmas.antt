@@ -1,5 +1,7 @@
 -- What lists of all kinds have in common: their items, facts of each item, places, and lists paired place by place.
-use Rattle.std.proofs.Common.{◌≡◌, ◌⊎◌, inl, inr, ℕ, zero, suc, ◌<◌, ◌≤◌, ◌+◌, Bool, true, true≢false, List, [], ◌∷◌, ◌++◌, Some, length, map, get_or, set, take, drop, replicate, eqb, refl, sym, ap, subst, ◌∙◌, arith}
+use Rattle.std.proofs.Common.{◌≡◌, ◌⊎◌, inl, inr, ℕ, zero, suc, ◌<◌, ◌≤◌, ◌+◌, Bool, true, true≢false, List, [], ◌∷◌}
+use Rattle.std.proofs.Common.{◌++◌, Some, length, map, get_or, set, take, drop, replicate, eqb, refl, sym, ap, subst}
+use Rattle.std.proofs.Common.{◌∙◌, arith}
 use Rattle.std.specs.List.{All, Contains, list_any, list_all, slice_get, remove}
 use Rattle.std.proofs.lemmas.Bool.{and_parts, and_from, or_cases, or_right, eqb-true, eq-eqb}
 use Rattle.std.proofs.lemmas.List.{take_more, drop_more}
@@ -27,7 +29,8 @@ module _ {X : Type 0} where
   in_last x xs = in_right x xs (x ∷ []) (inl refl)
 
   pub in_push : (x y : X) (xs : List X) → IsIn y (xs ++ x ∷ []) → IsIn y xs ⊎ (y ≡ x)
-  in_push x y xs h = elim (in_append y xs (x ∷ []) h) [ inl i ↦ inl i | inr i ↦ (elim i [ inl e ↦ inr e | inr n ↦ absurd n ]) ]
+  in_push x y xs h = elim (in_append y xs (x ∷ []) h)
+      [ inl i ↦ inl i | inr i ↦ (elim i [ inl e ↦ inr e | inr n ↦ absurd n ]) ]
 
   pub in_middle : (x : X) (xs ys : List X) → IsIn x (xs ++ x ∷ ys)
   in_middle x xs ys = in_right x xs (x ∷ ys) (inl refl)
@@ -50,7 +53,8 @@ module _ {X : Type 0} where
   in_take (suc n) x (y ∷ ys) (inr i) = inr (in_take n x ys i)
 
   -- an item of the rest is the first of it, or one of the rest behind that
-  pub in_drop_here : (k : ℕ) (xs : List X) (x d : X) → k < length xs → IsIn x (drop k xs) → (x ≡ get_or xs k d) ⊎ IsIn x (drop (suc k) xs)
+  pub in_drop_here : (k : ℕ) (xs : List X) (x d : X) → k < length xs → IsIn x (drop k xs) → (x ≡ get_or xs k d)
+      ⊎ IsIn x (drop (suc k) xs)
   in_drop_here k [] x d l i = absurd (omega (arith, l))
   in_drop_here zero (y ∷ ys) x d l i = i
   in_drop_here (suc k) (y ∷ ys) x d l i = in_drop_here k ys x d (omega (arith, l)) i
@@ -63,7 +67,8 @@ module _ {X : Type 0} where
   past_end (suc k) (y ∷ ys) x l i = past_end k ys x (omega (arith, l)) i
 
   -- one more item, read at place i
-  pub take_item : (xs : List X) (i : ℕ) (x : X) → i < length xs → x ≡ get_or xs i x → take (i + 1) xs ≡ take i xs ++ x ∷ []
+  pub take_item : (xs : List X) (i : ℕ) (x : X) → i < length xs → x ≡ get_or xs i x → take (i + 1) xs ≡ take i xs
+      ++ x ∷ []
   take_item xs i x h e = take_more xs i x h ∙ ap (λ (y : X). take i xs ++ y ∷ []) (sym e)
 
   pub drop_item : (xs : List X) (i : ℕ) (x : X) → i < length xs → x ≡ get_or xs i x → drop i xs ≡ x ∷ drop (i + 1) xs
@@ -170,8 +175,10 @@ module _ {X : Type 0} where
 
   pub distinct_push : (xs : List X) (x : X) → IsDistinct xs → (IsIn x xs → ⊥) → IsDistinct (xs ++ x ∷ [])
   distinct_push [] x d absent = (λ h. h, tt)
-  distinct_push (y ∷ ys) x d absent =
-      (λ h. elim (in_push x y ys h) [ inl k ↦ d.0 k | inr e ↦ absent (inl (sym e)) ], distinct_push ys x d.1 (λ h. absent (inr h)))
+  distinct_push (y ∷ ys) x d absent = (
+    λ h. elim (in_push x y ys h) [ inl k ↦ d.0 k | inr e ↦ absent (inl (sym e)) ],
+    distinct_push ys x d.1 (λ h. absent (inr h)),
+  )
 
   -- an item that stands twice
   pub twice : (xs ys : List X) (x : X) → IsIn x xs → IsDistinct (xs ++ x ∷ ys) → ⊥
@@ -246,7 +253,8 @@ module _ {X Y : Type 0} (f : X → Y) where
 
 module _ {X Y : Type 0} (R : X → Y → Type 0) where
   -- one more item behind both lists
-  pub paired_push : (xs : List X) (ys : List Y) (x : X) (y : Y) → Paired R xs ys → R x y → Paired R (xs ++ x ∷ []) (ys ++ y ∷ [])
+  pub paired_push : (xs : List X) (ys : List Y) (x : X) (y : Y) → Paired R xs ys → R x y
+      → Paired R (xs ++ x ∷ []) (ys ++ y ∷ [])
   paired_push [] [] x y h r = (r, tt)
   paired_push [] (b ∷ ys) x y h r = absurd h
   paired_push (a ∷ xs) [] x y h r = absurd h
@@ -258,7 +266,8 @@ module _ {X Y : Type 0} (R : X → Y → Type 0) where
   paired_long (x ∷ xs) [] h = absurd h
   paired_long (x ∷ xs) (y ∷ ys) h = ap suc (paired_long xs ys h.1)
 
-  pub paired_weaker : (S : X → Y → Type 0) (xs : List X) (ys : List Y) → ((x : X) (y : Y) → R x y → S x y) → Paired R xs ys → Paired S xs ys
+  pub paired_weaker : (S : X → Y → Type 0) (xs : List X) (ys : List Y) → ((x : X) (y : Y) → R x y → S x y)
+      → Paired R xs ys → Paired S xs ys
   paired_weaker S [] [] f h = tt
   paired_weaker S [] (y ∷ ys) f h = absurd h
   paired_weaker S (x ∷ xs) [] f h = absurd h
@@ -280,7 +289,8 @@ module _ {X Y : Type 0} (R : X → Y → Type 0) where
   partner_for (z ∷ xs) (y ∷ ys) x h (inr i) = let p = partner_for xs ys x h.1 i in (p.0, inr p.1, p.2)
 
 -- lists that are related place by place, where the first one's items meet P and the second one's Q
-pub paired_carried : {X Y : Type 0} (P : X → Type 0) (Q : Y → Type 0) (R S : X → Y → Type 0) → ((x : X) (y : Y) → P x → Q y → R x y → S x y) →
+pub paired_carried : {X Y : Type 0} (P : X → Type 0) (Q : Y → Type 0) (R S : X → Y → Type 0)
+    → ((x : X) (y : Y) → P x → Q y → R x y → S x y) →
     (xs : List X) (ys : List Y) → Every P xs → Every Q ys → Paired R xs ys → Paired S xs ys
 paired_carried P Q R S f [] [] l k h = tt
 paired_carried P Q R S f [] (y ∷ ys) l k h = absurd h

@@ -1,5 +1,6 @@
 -- What marks say after a mark is set, and how many there are.
-use Rattle.std.proofs.Common.{◌≡◌, ◌⊎◌, inl, inr, ℕ, zero, suc, ◌<◌, ◌≤◌, ◌+◌, Bool, true, false, true≢false, List, [], ◌∷◌, ◌++◌, length, get_or, set, replicate, refl, sym, ap, subst, ◌∙◌, arith}
+use Rattle.std.proofs.Common.{◌≡◌, ◌⊎◌, inl, inr, ℕ, zero, suc, ◌<◌, ◌≤◌, ◌+◌, Bool, true, false, true≢false, List, []}
+use Rattle.std.proofs.Common.{◌∷◌, ◌++◌, length, get_or, set, replicate, refl, sym, ap, subst, ◌∙◌, arith}
 use Rattle.std.proofs.lemmas.Bool.{and_parts, and_from, or_cases, or_right, cases_lt}
 use Rattle.std.proofs.lemmas.List.{get_or_push, get_or_append_left, length-append}
 use Rattle.fore_base.specs.Lists.{IsIn, Every}
@@ -53,7 +54,8 @@ unmarked_within (b ∷ bs) (suc i) e = let l = unmarked_within bs i e in omega (
 
 pub all_from : (marks : List Bool) (qs : List ℕ) → all_marked marks qs ≡ true → Every (IsMarked marks) qs
 all_from marks [] h = tt
-all_from marks (q ∷ qs) h = let parts = and_parts (get_or marks q false) (all_marked marks qs) h in (parts.0, all_from marks qs parts.1)
+all_from marks (q ∷ qs) h = let parts = and_parts (get_or marks q false) (all_marked marks qs) h in
+    (parts.0, all_from marks qs parts.1)
 
 pub all_to : (marks : List Bool) (qs : List ℕ) → Every (IsMarked marks) qs → all_marked marks qs ≡ true
 all_to marks [] h = refl
@@ -83,7 +85,8 @@ count_none zero = refl
 count_none (suc n) = count_none n
 
 -- one more, where there was none
-pub count_set : (marks : List Bool) (i : ℕ) → get_or marks i true ≡ false → marked_count (set marks i true) ≡ marked_count marks + 1
+pub count_set : (marks : List Bool) (i : ℕ) → get_or marks i true ≡ false → marked_count (set marks i true)
+    ≡ marked_count marks + 1
 count_set [] i e = absurd (true≢false e)
 count_set (true ∷ bs) zero e = absurd (true≢false e)
 count_set (false ∷ bs) zero e = refl
@@ -91,13 +94,15 @@ count_set (true ∷ bs) (suc i) e = let rest = count_set bs i e in omega (arith,
 count_set (false ∷ bs) (suc i) e = count_set bs i e
 
 -- where each mark of the new list is one of the old, they are equal or the new list has fewer
-pub marks_fall : (new old : List Bool) → length new ≡ length old → ((q : ℕ) → IsMarked new q → IsMarked old q) → (new ≡ old) ⊎ (marked_count new < marked_count old)
+pub marks_fall : (new old : List Bool) → length new ≡ length old → ((q : ℕ) → IsMarked new q → IsMarked old q)
+    → (new ≡ old) ⊎ (marked_count new < marked_count old)
 marks_fall [] [] e f = inl refl
 marks_fall [] (c ∷ cs) e f = absurd (omega (arith, e))
 marks_fall (b ∷ bs) [] e f = absurd (omega (arith, e))
 marks_fall (b ∷ bs) (c ∷ cs) e f = here b c (f 0) (marks_fall bs cs (omega (arith, e)) (λ q. f (suc q)))
   where
-    here : (x y : Bool) → (x ≡ true → y ≡ true) → ((bs ≡ cs) ⊎ (marked_count bs < marked_count cs)) → (x ∷ bs ≡ y ∷ cs) ⊎ (marked_count (x ∷ bs) < marked_count (y ∷ cs))
+    here : (x y : Bool) → (x ≡ true → y ≡ true) → ((bs ≡ cs) ⊎ (marked_count bs < marked_count cs)) → (x ∷ bs ≡ y ∷ cs)
+        ⊎ (marked_count (x ∷ bs) < marked_count (y ∷ cs))
     here true true g (inl k) = inl (ap (λ (l : List Bool). true ∷ l) k)
     here true true g (inr k) = inr (omega (arith, k))
     here true false g k = absurd (true≢false (sym (g refl)))
@@ -107,7 +112,8 @@ marks_fall (b ∷ bs) (c ∷ cs) e f = here b c (f 0) (marks_fall bs cs (omega (
     here false false g (inr k) = inr k
 
 -- one more mark, by a test
-pub marks_push : (P : ℕ → Type 0) (marks : List Bool) (k : ℕ) (b : Bool) → MarksOf k (λ q. (q < k) × P q) marks → (b ≡ true → P k) → (P k → b ≡ true) → MarksOf (k + 1) (λ q. (q < k + 1) × P q) (marks ++ b ∷ [])
+pub marks_push : (P : ℕ → Type 0) (marks : List Bool) (k : ℕ) (b : Bool) → MarksOf k (λ q. (q < k) × P q) marks
+    → (b ≡ true → P k) → (P k → b ≡ true) → MarksOf (k + 1) (λ q. (q < k + 1) × P q) (marks ++ b ∷ [])
 marks_push P marks k b m f g = record {
   long = length-append marks (b ∷ []) ∙ (let l = m.long in omega (arith, l));
   only = λ q h. only q h;
@@ -121,7 +127,8 @@ marks_push P marks k b m f g = record {
     before q l = get_or_append_left marks (b ∷ []) false q (rw m.long l)
 
     low : (q : ℕ) → IsMarked (marks ++ b ∷ []) q → q < k + 1
-    low q h = let a = marked_below (marks ++ b ∷ []) q h in let l = length-append marks (b ∷ []) in let n = m.long in omega (arith, a, l, n)
+    low q h = let a = marked_below (marks ++ b ∷ []) q h in let l = length-append marks (b ∷ []) in let n = m.long in
+        omega (arith, a, l, n)
 
     last : (q : ℕ) → k ≤ q → q < k + 1 → q ≡ k
     last q g l = omega (arith, g, l)
@@ -129,11 +136,13 @@ marks_push P marks k b m f g = record {
     only : (q : ℕ) → IsMarked (marks ++ b ∷ []) q → (q < k + 1) × P q
     only q h = elim (cases_lt q k) [
       | inl l ↦ (low q h, (m.only q (sym (before q l) ∙ h)).1)
-      | inr g ↦ (let e = last q g (low q h) in (low q h, subst P (sym e) (f (sym at_end ∙ subst (λ (i : ℕ). get_or (marks ++ b ∷ []) i false ≡ true) e h))))
+      | inr g ↦ (let e = last q g (low q h) in
+          (low q h, subst P (sym e) (f (sym at_end ∙ subst (λ (i : ℕ). get_or (marks ++ b ∷ []) i false ≡ true) e h))))
     ]
 
     each : (q : ℕ) → ((q < k + 1) × P q) → IsMarked (marks ++ b ∷ []) q
     each q h = elim (cases_lt q k) [
       | inl l ↦ before q l ∙ m.each q (l, h.1)
-      | inr u ↦ (let e = last q u h.0 in subst (λ (i : ℕ). get_or (marks ++ b ∷ []) i false ≡ true) (sym e) (at_end ∙ g (subst P e h.1)))
+      | inr u ↦ (let e = last q u h.0 in
+          subst (λ (i : ℕ). get_or (marks ++ b ∷ []) i false ≡ true) (sym e) (at_end ∙ g (subst P e h.1)))
     ]

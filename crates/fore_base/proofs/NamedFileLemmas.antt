@@ -1,5 +1,6 @@
 -- A file that is put among others is found there, and every other path reads as before.
-use Rattle.std.proofs.Common.{◌≡◌, ◌≢◌, ◌++◌, ◌∷◌, [], ℕ, List, Option, Some, None, Bool, true, false, cond, length, find, position, slice_set, nat_lt, get_or, refl, sym, ap, ◌∙◌, arith}
+use Rattle.std.proofs.Common.{◌≡◌, ◌≢◌, ◌++◌, ◌∷◌, [], ℕ, List, Option, Some, None, Bool, true, false, cond, length}
+use Rattle.std.proofs.Common.{find, position, slice_set, nat_lt, get_or, refl, sym, ap, ◌∙◌, arith}
 use Rattle.std.specs.List.{position_or_len}
 use Rattle.std.specs.Option.{option_or, option_map}
 use Rattle.std.specs.Cmp.Lexicographic.{same_text}
@@ -31,10 +32,13 @@ or_none (Some file) = refl
 
 -- a file of one name is not found by another
 apart : (file : NamedFile) (name other : List ℕ) → file.name ≡ name → other ≢ name → is_named other file ≡ false
-apart file name other is differs = not_true (is_named other file) (λ (same : is_named other file ≡ true). differs (sym (same_text file.name other (sym same)) ∙ is))
+apart file name other is differs =
+    not_true (is_named other file)
+    (λ (same : is_named other file ≡ true). differs (sym (same_text file.name other (sym same)) ∙ is))
 
 -- where there is no place for a name, no file is found by it
-not_found : (files : List NamedFile) (name : List ℕ) → position (is_named name) files ≡ None → find (is_named name) files ≡ None
+not_found : (files : List NamedFile) (name : List ℕ) → position (is_named name) files ≡ None
+    → find (is_named name) files ≡ None
 not_found files name is =
     let at : ℕ = position_or_len (is_named name) files in
     let past : nat_lt at (length files) ≡ false = refused (nat_lt at (length files)) at is in
@@ -44,27 +48,44 @@ pub set_held : (files : List NamedFile) (at : ℕ) (file : NamedFile) → positi
     → bytes_of (slice_set files at file) file.name ≡ Some file.bytes
 set_held files at file is =
     let there = position-Some (is_named file.name) files at file is in
-    ap (option_map (λ f. f.bytes)) (find-set (is_named file.name) files at file (chosen (nat_lt (position_or_len (is_named file.name) files) (length files)) (position_or_len (is_named file.name) files) at is) there.0 (nat_list_eq_equiv.refl file.name))
+    ap (option_map (λ f. f.bytes))
+    (find-set (is_named file.name) files at file
+    (chosen (nat_lt (position_or_len (is_named file.name) files) (length files))
+    (position_or_len (is_named file.name) files) at is) there.0 (nat_list_eq_equiv.refl file.name))
 
-pub set_others : (files : List NamedFile) (at : ℕ) (file : NamedFile) (other : List ℕ) → position (is_named file.name) files ≡ Some at
+pub set_others : (files : List NamedFile) (at : ℕ) (file : NamedFile) (other : List ℕ)
+    → position (is_named file.name) files ≡ Some at
     → other ≢ file.name → bytes_of (slice_set files at file) other ≡ bytes_of files other
 set_others files at file other is differs =
     let there = position-Some (is_named file.name) files at file is in
-    let same : (get_or files at file).name ≡ file.name = same_text (get_or files at file).name file.name (sym there.1) in
-    ap (option_map (λ f. f.bytes)) (find_past (is_named other) files at file file (apart (get_or files at file) file.name other same differs) (apart file file.name other refl differs))
+    let same : (get_or files at file).name ≡ file.name =
+    same_text (get_or files at file).name file.name (sym there.1) in
+    ap (option_map (λ f. f.bytes))
+    (find_past (is_named other) files at file file (apart (get_or files at file) file.name other same differs)
+    (apart file file.name other refl differs))
 
 pub pushed_held : (files : List NamedFile) (file : NamedFile) → position (is_named file.name) files ≡ None
     → bytes_of (files ++ file ∷ []) file.name ≡ Some file.bytes
 pushed_held files file is =
-    rw (find-append (is_named file.name) files (file ∷ []), not_found files file.name is, nat_list_eq_equiv.refl file.name) refl
+    rw (
+      find-append (is_named file.name) files (file ∷ []),
+      not_found files file.name is,
+      nat_list_eq_equiv.refl file.name,
+    ) refl
 
 pub pushed_others : (files : List NamedFile) (file : NamedFile) (other : List ℕ) → other ≢ file.name
     → bytes_of (files ++ file ∷ []) other ≡ bytes_of files other
 pushed_others files file other differs =
-    rw (find-append (is_named other) files (file ∷ []), apart file file.name other refl differs, or_none (find (is_named other) files)) refl
+    rw (
+      find-append (is_named other) files (file ∷ []),
+      apart file file.name other refl differs,
+      or_none (find (is_named other) files),
+    ) refl
 
 -- a place that was looked for under equal names in equal lists
-pub same_place : (files read : List NamedFile) (name sought : List ℕ) (place answer : Option ℕ) → place ≡ position (is_named sought) read
+pub same_place : (files read : List NamedFile) (name sought : List ℕ) (place answer : Option ℕ)
+    → place ≡ position (is_named sought) read
     → sought ≡ name → read ≡ files → place ≡ answer → position (is_named name) files ≡ answer
 same_place files read name sought place answer is same_name same_files answered =
-    ap (λ (n : List ℕ). position (is_named n) files) (sym same_name) ∙ ap (λ (fs : List NamedFile). position (is_named sought) fs) (sym same_files) ∙ sym is ∙ answered
+    ap (λ (n : List ℕ). position (is_named n) files) (sym same_name)
+    ∙ ap (λ (fs : List NamedFile). position (is_named sought) fs) (sym same_files) ∙ sym is ∙ answered

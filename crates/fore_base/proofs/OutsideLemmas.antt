@@ -13,4 +13,9 @@ grew_further None b c bytes done more first then =
 grew_further (Some held) b c bytes done more first then =
     let P : Option (List ℕ) → Type 0 = λ x. Grew x c (take more (take (length bytes - done) (drop done bytes))) in
     let grown : P (Some (held ++ take done bytes)) = subst P first then in
-    cc (grown, take_rest bytes done, take-add done more bytes, append_assoc held (take done bytes) (take more (drop done bytes)))
+    cc (
+      grown,
+      take_rest bytes done,
+      take-add done more bytes,
+      append_assoc held (take done bytes) (take more (drop done bytes)),
+    )

@@ -1,5 +1,6 @@
 -- Worked values of the words on shelves, sinks and counts, each worked out by hand from what they mean.
-use Rattle.std.proofs.Common.{◌≡◌, inl, inr, ℕ, true, false, true≢false, Option, Some, None, List, [], ◌∷◌, refl, sym, arith, codes}
+use Rattle.std.proofs.Common.{◌≡◌, inl, inr, ℕ, true, false, true≢false, Option, Some, None, List, [], ◌∷◌, refl, sym}
+use Rattle.std.proofs.Common.{arith, codes}
 use Rattle.fore_base.specs.declared.named_files.NamedFile.{NamedFile}
 use Rattle.fore_base.specs.Counts.{one_more, is_listed}
 use Rattle.fore_base.specs.MemShelves.{ShelfState, found}
@@ -80,7 +81,8 @@ not_found_then = refl
 
 -- a sink that holds five bytes and has room for eight, of which a call takes two at most, and the second is to fail
 abbrev sink : ℕ → ℕ → ℕ → SinkState
-sink room most calls = record { held = codes "hello"; room = room; most = most; fails = 2 ∷ []; calls = calls; faults = 0 }
+sink room most calls = record
+    { held = codes "hello"; room = room; most = most; fails = 2 ∷ []; calls = calls; faults = 0 }
 
 as_much_as_a_call_takes : taken (sink 8 2 0) (codes "abcd") ≡ 2
 as_much_as_a_call_takes = refl

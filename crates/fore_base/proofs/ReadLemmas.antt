@@ -1,9 +1,11 @@
 -- A reader that gives fewer bytes than it is asked for has given all that it had.
-use Rattle.std.proofs.Common.{◌≡◌, ◌<◌, ℕ, List, [], ◌++◌, Option, Some, None, IfSome, length, take, ap, subst, ◌∙◌, arith}
+use Rattle.std.proofs.Common.{◌≡◌, ◌<◌, ℕ, List, [], ◌++◌, Option, Some, None, IfSome, length, take, ap, subst, ◌∙◌}
+use Rattle.std.proofs.Common.{arith}
 use Rattle.std.specs.Option.{option_map}
 use Rattle.std.proofs.lemmas.List.{take_all, length-take}
 
-whole_given : (left : Option (List ℕ)) (most : ℕ) (before after : List ℕ) → IfSome (option_map (take most) left) (λ given. after ≡ before ++ given)
+whole_given : (left : Option (List ℕ)) (most : ℕ) (before after : List ℕ)
+    → IfSome (option_map (take most) left) (λ given. after ≡ before ++ given)
     → before ≡ [] → length after < most → IfSome left (λ all. after ≡ all)
 whole_given None most before after is empty short = tt
 whole_given (Some all) most before after is empty short =

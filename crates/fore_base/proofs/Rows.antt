@@ -1,7 +1,8 @@
 -- Worked values of stores, faults and structs, each worked out by hand from what the words mean.
 use Rattle.std.proofs.Common.{◌≡◌, inl, inr, ◌+◌, ℕ, true, false, List, [], ◌∷◌, refl, sym, ◌∙◌, arith}
 use Rattle.std.specs.Prelude.{Ok, Err}
-use Rattle.fore_base.specs.declared.fault.Fault.TheVariants.{NullDeref, UninitDeref, DanglingDeref, InvalidFree, DoubleFree, Leak, Assertion, IndetTest}
+use Rattle.fore_base.specs.declared.fault.Fault.TheVariants.{NullDeref, UninitDeref, DanglingDeref, InvalidFree}
+use Rattle.fore_base.specs.declared.fault.Fault.TheVariants.{DoubleFree, Leak, Assertion, IndetTest}
 use Rattle.fore_base.specs.declared.store.Value.{Value}
 use Rattle.fore_base.specs.declared.store.Value.TheVariants.{Null, Uninit, Dangling, Cell}
 use Rattle.fore_base.specs.declared.store.Datum.{Datum}
@@ -15,7 +16,9 @@ use Rattle.fore_base.specs.declared.shape.Shape.{Shape}
 use Rattle.fore_base.specs.Faults.{number_of}
 use Rattle.fore_base.specs.Heap.{IsProper, Reach, by_var, by_field, Leaked, leaks, IsAlike}
 use Rattle.fore_base.specs.Shapes.{fields_at, targets_of, datums_of}
-use Rattle.fore_base.specs.Stores.{var_of, datum_of, set_var, set_datum, set_each, kill, field_in, datum_in, with_field, with_datum, followed, load, load_datum, store_at, store_datum, walk, write_from, grown, dangle, freed}
+use Rattle.fore_base.specs.Stores.{var_of, datum_of, set_var, set_datum, set_each, kill, field_in, datum_in, with_field}
+use Rattle.fore_base.specs.Stores.{with_datum, followed, load, load_datum, store_at, store_datum, walk, write_from}
+use Rattle.fore_base.specs.Stores.{grown, dangle, freed}
 
 -- The numbers that reports print
 
@@ -43,7 +46,8 @@ seventh = refl
 eighth : number_of IndetTest ≡ 8
 eighth = refl
 
--- A store: the variables point to cell 4, to nothing, to an object that has ended, and nowhere yet. Cell 4 leads to cell 2 and to nothing; cell 2
+-- A store: the variables point to cell 4, to nothing, to an object that has ended, and nowhere yet. Cell 4 leads to
+-- cell 2 and to nothing; cell 2
 -- leads back to cell 4 and to an object that has ended. Cell 4 has the data 7 and nothing yet, cell 2 the datum 1.
 
 abbrev cell : ℕ → List Datum → List Value → CellRec
@@ -88,7 +92,8 @@ some_places_are_set : set_each {A = ℕ} (6 ∷ 7 ∷ 8 ∷ []) (0 ∷ 2 ∷ [])
 some_places_are_set = refl
 
 -- the pointers 0 and 2 and the datum 0 die
-variables_die : kill (0 ∷ 2 ∷ []) (0 ∷ []) s ≡ record s { vars = Uninit ∷ Null ∷ Uninit ∷ Uninit ∷ []; data_vars = Undefined ∷ Undefined ∷ [] }
+variables_die : kill (0 ∷ 2 ∷ []) (0 ∷ []) s
+    ≡ record s { vars = Uninit ∷ Null ∷ Uninit ∷ Uninit ∷ []; data_vars = Undefined ∷ Undefined ∷ [] }
 variables_die = refl
 
 -- Fields
@@ -124,7 +129,8 @@ a_field_is_written = refl
 nothing_is_written : with_field s.cells 5 0 Null ≡ four ∷ two ∷ []
 nothing_is_written = refl
 
-a_data_field_is_written : with_datum s.cells 4 1 (Known 15) ≡ cell 4 (Known 7 ∷ Known 15 ∷ []) (Cell 2 ∷ Null ∷ []) ∷ two ∷ []
+a_data_field_is_written : with_datum s.cells 4 1 (Known 15) ≡ cell 4 (Known 7 ∷ Known 15 ∷ []) (Cell 2 ∷ Null ∷ [])
+    ∷ two ∷ []
 a_data_field_is_written = refl
 
 no_datum_is_written : with_datum s.cells 5 0 Undefined ≡ four ∷ two ∷ []
@@ -156,13 +162,15 @@ a_load_of_a_datum = refl
 a_load_of_a_datum_from_ended : load_datum s Dangling 0 ≡ Err DanglingDeref
 a_load_of_a_datum_from_ended = refl
 
-a_write : store_at s (Cell 4) 1 (Cell 4) ≡ Ok (store vars (cell 4 (Known 7 ∷ Undefined ∷ []) (Cell 2 ∷ Cell 4 ∷ []) ∷ two ∷ []))
+a_write : store_at s (Cell 4) 1 (Cell 4)
+    ≡ Ok (store vars (cell 4 (Known 7 ∷ Undefined ∷ []) (Cell 2 ∷ Cell 4 ∷ []) ∷ two ∷ []))
 a_write = refl
 
 a_write_through_unset : store_at s Uninit 0 Null ≡ Err UninitDeref
 a_write_through_unset = refl
 
-a_write_of_a_datum : store_datum s (Cell 2) 0 (Known 9) ≡ Ok (store vars (four ∷ cell 2 (Known 9 ∷ []) (Cell 4 ∷ Dangling ∷ []) ∷ []))
+a_write_of_a_datum : store_datum s (Cell 2) 0 (Known 9)
+    ≡ Ok (store vars (four ∷ cell 2 (Known 9 ∷ []) (Cell 4 ∷ Dangling ∷ []) ∷ []))
 a_write_of_a_datum = refl
 
 a_write_of_a_datum_through_null : store_datum s Null 0 (Known 9) ≡ Err NullDeref
@@ -179,7 +187,8 @@ an_arrow_too_many : walk s (Cell 4) (1 ∷ 0 ∷ []) ≡ Err NullDeref
 an_arrow_too_many = refl
 
 -- x->0->1 = null, and x->1->0 = null
-a_write_behind_an_arrow : write_from s (Cell 4) 0 (1 ∷ []) Null ≡ Ok (store vars (four ∷ cell 2 (Known 1 ∷ []) (Cell 4 ∷ Null ∷ []) ∷ []))
+a_write_behind_an_arrow : write_from s (Cell 4) 0 (1 ∷ []) Null
+    ≡ Ok (store vars (four ∷ cell 2 (Known 1 ∷ []) (Cell 4 ∷ Null ∷ []) ∷ []))
 a_write_behind_an_arrow = refl
 
 a_write_behind_null : write_from s (Cell 4) 1 (0 ∷ []) Null ≡ Err NullDeref
@@ -217,10 +226,12 @@ free_of_ended : freed s Dangling ≡ Err DoubleFree
 free_of_ended = refl
 
 -- the cell goes; the field of cell 2 that led to it dangles, and so does the variable
-free_of_a_cell : freed s (Cell 4) ≡ Ok (store (Dangling ∷ Null ∷ Dangling ∷ Uninit ∷ []) (cell 2 (Known 1 ∷ []) (Dangling ∷ Dangling ∷ []) ∷ []))
+free_of_a_cell : freed s (Cell 4)
+    ≡ Ok (store (Dangling ∷ Null ∷ Dangling ∷ Uninit ∷ []) (cell 2 (Known 1 ∷ []) (Dangling ∷ Dangling ∷ []) ∷ []))
 free_of_a_cell = refl
 
-free_of_the_second_cell : freed s (Cell 2) ≡ Ok (store vars (cell 4 (Known 7 ∷ Undefined ∷ []) (Dangling ∷ Null ∷ []) ∷ []))
+free_of_the_second_cell : freed s (Cell 2)
+    ≡ Ok (store vars (cell 4 (Known 7 ∷ Undefined ∷ []) (Dangling ∷ Null ∷ []) ∷ []))
 free_of_the_second_cell = refl
 
 -- Reaching and leaks
@@ -259,7 +270,8 @@ unfolding leaks
 half_a_leak = refl
 
 -- a chain of three, whose last cell is found in the third round
-no_leak_in_a_chain : leaks (store (Cell 0 ∷ []) (cell 2 [] (Null ∷ []) ∷ cell 1 [] (Cell 2 ∷ []) ∷ cell 0 [] (Cell 1 ∷ []) ∷ [])) ≡ false
+no_leak_in_a_chain : leaks
+    (store (Cell 0 ∷ []) (cell 2 [] (Null ∷ []) ∷ cell 1 [] (Cell 2 ∷ []) ∷ cell 0 [] (Cell 1 ∷ []) ∷ [])) ≡ false
 unfolding leaks
 no_leak_in_a_chain = refl
 
@@ -294,7 +306,11 @@ a_variable_to_no_cell p = p.vars.0
 
 -- the same cells as those of s, by the numbers 5 and 3 and the other way round; the next number is another
 abbrev t : Store
-t = record (store (Cell 5 ∷ Null ∷ Dangling ∷ Uninit ∷ []) (cell 3 (Known 1 ∷ []) (Cell 5 ∷ Dangling ∷ []) ∷ cell 5 (Known 7 ∷ Undefined ∷ []) (Cell 3 ∷ Null ∷ []) ∷ [])) { next = 6 }
+t =
+    record
+    (store (Cell 5 ∷ Null ∷ Dangling ∷ Uninit ∷ [])
+    (cell 3 (Known 1 ∷ []) (Cell 5 ∷ Dangling ∷ []) ∷ cell 5 (Known 7 ∷ Undefined ∷ []) (Cell 3 ∷ Null ∷ []) ∷ []))
+    { next = 6 }
 
 they_are_alike : IsAlike s t
 they_are_alike = record {
@@ -306,7 +322,8 @@ they_are_alike = record {
 }
 
 -- two cells are not made into one
-not_one_cell : IsAlike (store (Cell 0 ∷ Cell 1 ∷ []) (cell 0 [] [] ∷ cell 1 [] [] ∷ [])) (store (Cell 5 ∷ Cell 5 ∷ []) (cell 5 [] [] ∷ cell 5 [] [] ∷ [])) → ⊥
+not_one_cell : IsAlike (store (Cell 0 ∷ Cell 1 ∷ []) (cell 0 [] [] ∷ cell 1 [] [] ∷ []))
+    (store (Cell 5 ∷ Cell 5 ∷ []) (cell 5 [] [] ∷ cell 5 [] [] ∷ [])) → ⊥
 not_one_cell h =
     let zero_to : h.to 0 ≡ 5 = let e = h.vars in cc in
     let one_to : h.to 1 ≡ 5 = let e = h.vars in cc in
@@ -326,7 +343,8 @@ abbrev field : FieldKind → FieldDef
 field kind = record { name = []; kind = kind }
 
 abbrev shapes : List Shape
-shapes = record { name = []; fields = field DatumField ∷ field (Pointer 1) ∷ field DatumField ∷ [] } ∷ record { name = []; fields = field (Pointer 0) ∷ field (Pointer 1) ∷ [] } ∷ []
+shapes = record { name = []; fields = field DatumField ∷ field (Pointer 1) ∷ field DatumField ∷ [] }
+    ∷ record { name = []; fields = field (Pointer 0) ∷ field (Pointer 1) ∷ [] } ∷ []
 
 one_pointer : targets_of shapes 0 ≡ 1 ∷ []
 one_pointer = refl

@@ -21,7 +21,8 @@ pub fields_split : (fs : List FieldDef) → length fs ≡ length (targets_in fs)
 fields_split [] = omega arith
 fields_split (f ∷ fs) = here f.kind (fields_split fs)
   where
-    here : (k : FieldKind) → length fs ≡ length (targets_in fs) + datums_in fs → suc (length fs) ≡ length (target_before k (targets_in fs)) + datum_before k (datums_in fs)
+    here : (k : FieldKind) → length fs ≡ length (targets_in fs) + datums_in fs → suc (length fs)
+        ≡ length (target_before k (targets_in fs)) + datum_before k (datums_in fs)
     here (Pointer s) rest = omega (arith, rest)
     here Datum rest = omega (arith, rest)
 

@@ -1,7 +1,8 @@
 -- The numbers of faults.
 use Rattle.std.specs.Prelude.{ℕ}
 use Rattle.fore_base.specs.declared.fault.Fault.{Fault}
-use Rattle.fore_base.specs.declared.fault.Fault.TheVariants.{NullDeref, UninitDeref, DanglingDeref, InvalidFree, DoubleFree, Leak, Assertion, IndetTest}
+use Rattle.fore_base.specs.declared.fault.Fault.TheVariants.{NullDeref, UninitDeref, DanglingDeref, InvalidFree}
+use Rattle.fore_base.specs.declared.fault.Fault.TheVariants.{DoubleFree, Leak, Assertion, IndetTest}
 
 -- the number by which a fault is printed
 abbrev pub number_of : Fault → ℕ

@@ -20,4 +20,5 @@ taken sink bytes = min (min sink.most (sink.room - length sink.held)) (length by
 
 -- the next put fails: it is one that is to fail, or no byte of the piece has room
 abbrev pub PutFails : SinkState → List ℕ → Type 0
-PutFails sink bytes = IsTrue (is_listed sink.fails (one_more sink.calls)) ⊎ ((0 < length bytes) × (sink.room ≤ length sink.held))
+PutFails sink bytes = IsTrue (is_listed sink.fails (one_more sink.calls))
+    ⊎ ((0 < length bytes) × (sink.room ≤ length sink.held))

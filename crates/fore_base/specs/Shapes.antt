@@ -1,4 +1,5 @@
--- The fields of structs by number. A struct's pointer fields and data fields are numbered apart, each kind in order of declaration.
+-- The fields of structs by number. A struct's pointer fields and data fields are numbered apart, each kind in order of
+-- declaration.
 use Rattle.std.specs.Prelude.{ℕ, zero, suc, List, [], ◌∷◌}
 use Rattle.fore_base.specs.declared.shape.FieldKind.{FieldKind}
 use Rattle.fore_base.specs.declared.shape.FieldKind.TheVariants.{Pointer, Datum}

@@ -1,7 +1,9 @@
 -- Reading and writing a store. What meets a fault gives it in place of a value.
-use Rattle.std.specs.Prelude.{ℕ, ◌+◌, List, [], ◌∷◌, ◌++◌, map, nat_eq, if◌then◌else◌, Result, Ok, Err, slice_index_or, slice_set}
+use Rattle.std.specs.Prelude.{ℕ, ◌+◌, List, [], ◌∷◌, ◌++◌, map, nat_eq, if◌then◌else◌, Result, Ok, Err, slice_index_or}
+use Rattle.std.specs.Prelude.{slice_set}
 use Rattle.fore_base.specs.declared.fault.Fault.{Fault}
-use Rattle.fore_base.specs.declared.fault.Fault.TheVariants.{NullDeref, UninitDeref, DanglingDeref, InvalidFree, DoubleFree}
+use Rattle.fore_base.specs.declared.fault.Fault.TheVariants.{NullDeref, UninitDeref, DanglingDeref, InvalidFree}
+use Rattle.fore_base.specs.declared.fault.Fault.TheVariants.{DoubleFree}
 use Rattle.fore_base.specs.declared.store.Value.{Value}
 use Rattle.fore_base.specs.declared.store.Value.TheVariants.{Null, Uninit, Dangling, Cell}
 use Rattle.fore_base.specs.declared.store.Datum.{Datum}
@@ -61,12 +63,14 @@ datum_in (c ∷ cs) n f = if nat_eq c.number n then slice_index_or c.datums f Un
 -- the cells with another value in a pointer field of the cell of this number
 abbrev pub with_field : List CellRec → ℕ → ℕ → Value → List CellRec
 with_field [] n f v = []
-with_field (c ∷ cs) n f v = if nat_eq c.number n then record c { fields = slice_set c.fields f v } ∷ cs else c ∷ with_field cs n f v
+with_field (c ∷ cs) n f v = if nat_eq c.number n then record c { fields = slice_set c.fields f v } ∷ cs
+    else c ∷ with_field cs n f v
 
 -- the same of a data field
 abbrev pub with_datum : List CellRec → ℕ → ℕ → Datum → List CellRec
 with_datum [] n f d = []
-with_datum (c ∷ cs) n f d = if nat_eq c.number n then record c { datums = slice_set c.datums f d } ∷ cs else c ∷ with_datum cs n f d
+with_datum (c ∷ cs) n f d = if nat_eq c.number n then record c { datums = slice_set c.datums f d } ∷ cs
+    else c ∷ with_datum cs n f d
 
 -- Arrows. Only a pointer to a live object may be followed (6.5.3.2).
 

@@ -13,7 +13,8 @@ use crate::sink::SinkFault;
 use crate::store::Store;
 use crate::text::Text;
 
-/// A value of this type may be shared between threads, and moved to another: where this call is accepted, that is proved.
+/// A value of this type may be shared between threads, and moved to another: where this call is accepted, that is
+/// proved.
 pub fn crosses<T: Send + Sync>(_value: &T) {}
 
 /// A list crosses threads where its items do.

@@ -13,7 +13,8 @@ use std::io::Read;
 use std::rt::Files;
 use std::{fs, io};
 
-/// A shelf that reads real files. It does not tell what they hold; it keeps each reading that was answered, and one count of faults for all
+/// A shelf that reads real files. It does not tell what they hold; it keeps each reading that was answered, and one
+/// count of faults for all
 /// paths.
 #[derive(Drop)]
 pub struct FileShelf<'r, R: Files> {
@@ -50,11 +51,13 @@ impl<'r, R: Files> Shelf for FileShelf<'r, R> {
 
     ghost faults = { λ shelf _. shelf.faults };
 
-    /// Reads a real file, and keeps a copy of what it gives. At most `limit + 1` bytes are read; a read that a signal interrupts is tried again.
+    /// Reads a real file, and keeps a copy of what it gives. At most `limit + 1` bytes are read; a read that a signal
+    /// interrupts is tried again.
     ///
     /// # Errors
     ///
-    /// `Failed` where the file cannot be opened or read. `TooLong` where it has more than `limit` bytes. `Memory` for want of memory.
+    /// `Failed` where the file cannot be opened or read. `TooLong` where it has more than `limit` bytes. `Memory` for
+    /// want of memory.
     fn read_all(&mut self, alloc: Global, path: &str, limit: usize) -> Result<List<u8>, ShelfFault>
         ensures keeps { List ℕ → untold ≡ untold }
         ensures never_falls { List ℕ → self.old.faults ≤ self.new.faults }
@@ -62,7 +65,8 @@ impl<'r, R: Files> Shelf for FileShelf<'r, R> {
         ensures content { IfOk result (λ bytes. IfSome untold (λ held. bytes ≡ held)) }
         ensures long { IsErrOf result ShelfFault.TooLong → IfSome untold (λ held. limit < length held) }
         ensures failed { IsErrOf result ShelfFault.Failed → Rose self.old.faults self.new.faults }
-        ensures counts_failed_alone { (IsErrOf result ShelfFault.Failed → ⊥) → (p : List ℕ) → self.new.faults ≡ self.old.faults }
+        ensures counts_failed_alone { (IsErrOf result ShelfFault.Failed → ⊥) → (p : List ℕ)
+            → self.new.faults ≡ self.old.faults }
         ensures gives { IfOk result (λ bytes. self.new.given ≡ self.old.given ++ reading path.now bytes ∷ []) }
         ensures gives_nothing { OnErr result (self.new.given ≡ self.old.given) }
         ensures counted { IsErrOf result ShelfFault.Failed → self.new.faults ≡ one_more self.old.faults }

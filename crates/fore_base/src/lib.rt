@@ -1,7 +1,9 @@
 //! What every other crate stands on.
 //!
-//! - `List`, `Text` and `Boxed` hold values in memory that may be wanting; contracts see the lists, texts and values themselves.
-//! - `Place`, `Value`, `Datum`, `CellRec`, `Store`, `Shape` and `Fault` are the words of the programs that are verified.
+//! - `List`, `Text` and `Boxed` hold values in memory that may be wanting; contracts see the lists, texts and values
+//! themselves.
+//! - `Place`, `Value`, `Datum`, `CellRec`, `Store`, `Shape` and `Fault` are the words of the programs that are
+//! verified.
 //! - `Names` numbers texts; `marks` are sets of numbers; `limits` are the numbers that are rules.
 //! - `Shelf` and `Sink` are where files are read from and texts are written to, in memory and for real.
 //! - `crossing::crosses` shows that a value may be shared between threads.

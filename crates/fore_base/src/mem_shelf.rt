@@ -1,5 +1,6 @@
 // A shelf in memory, for tests: what it holds is known, and calls fail where they are to.
-ghost use Rattle.std.specs.Prelude.{◌≡◌, ◌≢◌, ◌≤◌, ◌<◌, ◌↔◌, ◌++◌, [], ◌∷◌, ℕ, List, Some, None, length, is_none, if◌then◌else◌, IsNone, IsSomeAnd, IfOk, IfSome, IsErrOf, OnOk, OnErr};
+ghost use Rattle.std.specs.Prelude.{◌≡◌, ◌≢◌, ◌≤◌, ◌<◌, ◌↔◌, ◌++◌, [], ◌∷◌, ℕ, List, Some, None, length, is_none};
+ghost use Rattle.std.specs.Prelude.{if◌then◌else◌, IsNone, IsSomeAnd, IfOk, IfSome, IsErrOf, OnOk, OnErr};
 ghost use Rattle.std.specs.Option.{option_copied};
 ghost use Rattle.fore_base.specs.NamedFiles.{bytes_of, reading};
 ghost use Rattle.fore_base.specs.declared.shelf.ShelfFault.TheVariants as ShelfFault;
@@ -29,7 +30,14 @@ impl Model for MemShelf {
 
     ghost Value = { ShelfState };
 
-    ghost view = { λ s. record { files = s.files; given = s.given; fails = s.fails; calls = s.calls; faults = s.faults } };
+    ghost view = { λ s.
+        record {
+          files = s.files;
+          given = s.given;
+          fails = s.fails;
+          calls = s.calls;
+          faults = s.faults;
+        } };
 }
 
 impl MemShelf {
@@ -56,7 +64,8 @@ impl MemShelf {
     /// Want of memory; the shelf stays as it was.
     pub fn add(&mut self, path: &str, bytes: &[u8]) -> Mem<()>
         ensures held { OnOk result (bytes_of self.new.files path.now ≡ Some bytes.now) }
-        ensures others { OnOk result ((other : List ℕ) → other ≢ path.now → bytes_of self.new.files other ≡ bytes_of self.old.files other) }
+        ensures others { OnOk result ((other : List ℕ) → other ≢ path.now → bytes_of self.new.files other
+            ≡ bytes_of self.old.files other) }
         ensures rest { OnOk result (self.new ≡ record self.old { files = self.new.files }) }
         ensures err { OnErr result (self.new ≡ self.old) }
     {
@@ -100,22 +109,30 @@ impl Shelf for MemShelf {
     ///
     /// # Errors
     ///
-    /// `Failed` in a call that is to fail, and for a path that is not there; both take no memory. `TooLong` where the file has more than `limit` bytes.
+    /// `Failed` in a call that is to fail, and for a path that is not there; both take no memory. `TooLong` where the
+    /// file has more than `limit` bytes.
     /// `Memory` for want of memory.
     fn read_all(&mut self, alloc: Global, path: &str, limit: usize) -> Result<List<u8>, ShelfFault>
         ensures keeps { (p : List ℕ) → bytes_of self.new.files p ≡ bytes_of self.old.files p }
         ensures never_falls { (p : List ℕ) → self.old.faults ≤ self.new.faults }
         ensures within { IfOk result (λ bytes. length bytes ≤ limit) }
         ensures content { IfOk result (λ bytes. IfSome (bytes_of self.old.files path.now) (λ held. bytes ≡ held)) }
-        ensures long { IsErrOf result ShelfFault.TooLong → IfSome (bytes_of self.old.files path.now) (λ held. limit < length held) }
+        ensures long { IsErrOf result ShelfFault.TooLong
+            → IfSome (bytes_of self.old.files path.now) (λ held. limit < length held) }
         ensures failed { IsErrOf result ShelfFault.Failed → Rose self.old.faults self.new.faults }
-        ensures counts_failed_alone { (IsErrOf result ShelfFault.Failed → ⊥) → (p : List ℕ) → self.new.faults ≡ self.old.faults }
+        ensures counts_failed_alone { (IsErrOf result ShelfFault.Failed → ⊥) → (p : List ℕ)
+            → self.new.faults ≡ self.old.faults }
         ensures gives { IfOk result (λ bytes. self.new.given ≡ self.old.given ++ reading path.now bytes ∷ []) }
         ensures gives_nothing { OnErr result (self.new.given ≡ self.old.given) }
         ensures exactly_failed { IsErrOf result ShelfFault.Failed ↔ IsNone (found self.old path.now) }
-        ensures exactly_long { IsErrOf result ShelfFault.TooLong ↔ IsSomeAnd (found self.old path.now) (λ held. limit < length held) }
+        ensures exactly_long { IsErrOf result ShelfFault.TooLong
+            ↔ IsSomeAnd (found self.old path.now) (λ held. limit < length held) }
         ensures whole { IfOk result (λ bytes. found self.old path.now ≡ Some bytes) }
-        ensures after { self.new ≡ record self.old { calls = one_more self.old.calls; given = self.new.given; faults = (if is_none (found self.old path.now) then one_more self.old.faults else self.old.faults) } }
+        ensures after { self.new ≡ record self.old {
+          calls = one_more self.old.calls;
+          given = self.new.given;
+          faults = (if is_none (found self.old path.now) then one_more self.old.faults else self.old.faults);
+        } }
     {
         self.calls = self.calls.saturating_add(1);
         match find_bytes(

@@ -28,13 +28,21 @@ impl Model for MemSink {
 
     ghost Value = { SinkState };
 
-    ghost view = { λ s. record { held = s.held.items; room = s.room; most = s.most; fails = s.fails; calls = s.calls; faults = s.faults } };
+    ghost view = { λ s. record {
+      held = s.held.items;
+      room = s.room;
+      most = s.most;
+      fails = s.fails;
+      calls = s.calls;
+      faults = s.faults;
+    } };
 
     ghost invariant = { λ s. (s.room ≤ vec_capacity s.held) × (vec_len s.held ≤ s.room) × (0 < s.most) };
 }
 
 impl MemSink {
-    /// A sink with room for `room` bytes, of which a call takes `most` at most, which is at least 1. The memory of the whole room is taken here.
+    /// A sink with room for `room` bytes, of which a call takes `most` at most, which is at least 1. The memory of the
+    /// whole room is taken here.
     ///
     /// # Errors
     ///
@@ -102,8 +110,10 @@ impl Sink for MemSink {
         ensures counts_failed_alone { OnOk result (self.new.faults ≡ self.old.faults) }
         ensures fails { IsErr result ↔ PutFails self.old bytes.now }
         ensures count { IfOk result (λ count. count ≡ taken self.old bytes.now) }
-        ensures after { IfOk result (λ count. self.new ≡ record self.old { held = self.old.held ++ take count bytes.now; calls = one_more self.old.calls }) }
-        ensures fault { OnErr result (self.new ≡ record self.old { calls = one_more self.old.calls; faults = one_more self.old.faults }) }
+        ensures after { IfOk result (λ count. self.new
+            ≡ record self.old { held = self.old.held ++ take count bytes.now; calls = one_more self.old.calls }) }
+        ensures fault { OnErr result
+            (self.new ≡ record self.old { calls = one_more self.old.calls; faults = one_more self.old.faults }) }
     {
         self.calls = self.calls.saturating_add(1);
         let count = self.most.min(self.room - self.held.len()).min(bytes.len());

@@ -24,7 +24,8 @@ pub struct NamedFile {
 /// Want of memory; then the files are as they were.
 pub fn put_bytes(alloc: Global, files: &mut List<NamedFile>, path: &str, bytes: &[u8]) -> Mem<()>
     ensures held { OnOk result (bytes_of files.new path.now ≡ Some bytes.now) }
-    ensures others { OnOk result ((other : List ℕ) → other ≢ path.now → bytes_of files.new other ≡ bytes_of files.old other) }
+    ensures others { OnOk result ((other : List ℕ) → other ≢ path.now → bytes_of files.new other
+        ≡ bytes_of files.old other) }
     ensures err { OnErr result (files.new ≡ files.old) }
 {
     let file = copy_file(alloc, path, bytes)?;
@@ -76,7 +77,8 @@ fn place_of(files: &[NamedFile], name: &[u8]) -> Option<usize>
 // Puts a file in the place of the first of its path, or last.
 fn put_file(files: &mut List<NamedFile>, file: NamedFile) -> Mem<()>
     ensures held { OnOk result (bytes_of files.new file.name ≡ Some file.bytes) }
-    ensures others { OnOk result ((other : List ℕ) → other ≢ file.name → bytes_of files.new other ≡ bytes_of files.old other) }
+    ensures others { OnOk result ((other : List ℕ) → other ≢ file.name → bytes_of files.new other
+        ≡ bytes_of files.old other) }
     ensures err { OnErr result (files.new ≡ files.old) }
 {
     match place_of(files.as_slice(), file.name.as_slice()) {

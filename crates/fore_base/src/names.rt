@@ -1,5 +1,6 @@
 // Texts that are numbered in the order in which they first come.
-ghost use Rattle.std.specs.Prelude.{◌≡◌, ◌↔◌, ◌<◌, [], ◌∷◌, ◌++◌, length, slice_get, IfOk, IsTrue, OnOk, OnErr, MatchOption};
+ghost use Rattle.std.specs.Prelude.{◌≡◌, ◌↔◌, ◌<◌, [], ◌∷◌, ◌++◌, length, slice_get, IfOk, IsTrue, OnOk, OnErr};
+ghost use Rattle.std.specs.Prelude.{MatchOption};
 ghost use Rattle.fore_base.specs.Lists.{IsIn};
 ghost use Rattle.fore_base.specs.Names.{IsDistinct};
 
@@ -8,7 +9,8 @@ use indexmap::IndexSet;
 use std::alloc::Global;
 use std::marker::Model;
 
-/// Texts with their numbers. Contracts see the list of the texts, none twice and at most 4,294,967,295; a text's number is its position there.
+/// Texts with their numbers. Contracts see the list of the texts, none twice and at most 4,294,967,295; a text's number
+/// is its position there.
 #[derive(Drop)]
 pub struct Names {
     texts: IndexSet<Vec<u8>>,
@@ -63,7 +65,8 @@ impl Names {
 
     /// The number of the text; None exactly where it is not there.
     pub fn find(&self, text: &[u8]) -> Option<u32>
-        ensures { MatchOption result (IsIn text.now self.now → ⊥) (λ number. slice_get self.now number ≡ Some text.now) }
+        ensures { MatchOption result (IsIn text.now self.now → ⊥)
+            (λ number. slice_get self.now number ≡ Some text.now) }
     {
         match self.texts.get_index_of(text) {
             Some(index) => Some(index as u32),

@@ -1,5 +1,6 @@
 // Where files are read from.
-ghost use Rattle.std.specs.Prelude.{◌≡◌, ◌≤◌, ◌<◌, ◌++◌, ◌∷◌, [], ℕ, List, Option, length, IfOk, IfSome, OnErr, IsErrOf};
+ghost use Rattle.std.specs.Prelude.{◌≡◌, ◌≤◌, ◌<◌, ◌++◌, ◌∷◌, [], ℕ, List, Option, length, IfOk, IfSome, OnErr};
+ghost use Rattle.std.specs.Prelude.{IsErrOf};
 ghost use Rattle.fore_base.specs.Outside.{Rose};
 ghost use Rattle.fore_base.specs.NamedFiles.{reading};
 ghost use Rattle.fore_base.specs.declared.named_files.NamedFile.{NamedFile};
@@ -57,9 +58,11 @@ pub trait Shelf {
         ensures never_falls { (p : List ℕ) → faults self.old p ≤ faults self.new p }
         ensures within { IfOk result (λ bytes. length bytes ≤ limit) }
         ensures content { IfOk result (λ bytes. IfSome (holds self.old path.now) (λ held. bytes ≡ held)) }
-        ensures long { IsErrOf result ShelfFault.TooLong → IfSome (holds self.old path.now) (λ held. limit < length held) }
+        ensures long { IsErrOf result ShelfFault.TooLong
+            → IfSome (holds self.old path.now) (λ held. limit < length held) }
         ensures failed { IsErrOf result ShelfFault.Failed → Rose (faults self.old path.now) (faults self.new path.now) }
-        ensures counts_failed_alone { (IsErrOf result ShelfFault.Failed → ⊥) → (p : List ℕ) → faults self.new p ≡ faults self.old p }
+        ensures counts_failed_alone { (IsErrOf result ShelfFault.Failed → ⊥) → (p : List ℕ)
+            → faults self.new p ≡ faults self.old p }
         ensures gives { IfOk result (λ bytes. given self.new ≡ given self.old ++ reading path.now bytes ∷ []) }
         ensures gives_nothing { OnErr result (given self.new ≡ given self.old) };
 }

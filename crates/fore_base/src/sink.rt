@@ -35,11 +35,13 @@ pub trait Sink {
         ensures counts_failed_alone { OnOk result (faults self.new ≡ faults self.old) };
 }
 
-/// Appends all bytes of a piece, in as many turns as the sink needs; each turn takes at least one byte, and an empty piece is not put at all.
+/// Appends all bytes of a piece, in as many turns as the sink needs; each turn takes at least one byte, and an empty
+/// piece is not put at all.
 ///
 /// # Errors
 ///
-/// `Failed` where the sink's count of faults rose in this call; then a prefix of the piece was appended, and not all of it.
+/// `Failed` where the sink's count of faults rose in this call; then a prefix of the piece was appended, and not all of
+/// it.
 pub fn put_all<K: Sink>(sink: &mut K, bytes: &[u8]) -> Result<(), SinkFault>
     ensures never_falls { K.faults sink.old ≤ K.faults sink.new }
     ensures whole { OnOk result (Grew (K.held sink.old) (K.held sink.new) bytes.now) }

@@ -24,7 +24,8 @@ pub enum Datum {
     Known(u8),
 }
 
-/// An allocated object: its number, which no other cell ever has, its struct, and its data and pointer fields, each kind in order of declaration.
+/// An allocated object: its number, which no other cell ever has, its struct, and its data and pointer fields, each
+/// kind in order of declaration.
 #[derive(PartialEq, Eq, Debug, Drop)]
 pub struct CellRec {
     /// Cells are numbered in the order in which they are made, from 0.

@@ -48,7 +48,9 @@ impl<W: io::Write + Drop> Sink for StreamSink<W> {
         ensures took { IfOk result (λ count. Grew untold untold (take count bytes.now)) }
         ensures kept { OnErr result (untold ≡ untold) }
         ensures failed { OnErr result (Rose self.old.faults self.new.faults) }
-        ensures written { IfOk result (λ count. Appends (W.contents self.old.to) (W.contents self.new.to) (take count bytes.now)) }
+        ensures written { IfOk result
+            (λ count. Appends (W.contents self.old.to) (W.contents self.new.to)
+            (take count bytes.now)) }
         ensures untouched { OnErr result (Keeps (W.contents self.old.to) (W.contents self.new.to)) }
         ensures counted { OnErr result (self.new.faults ≡ one_more self.old.faults) }
         ensures counts_failed_alone { OnOk result (self.new.faults ≡ self.old.faults) }
@@ -85,7 +87,8 @@ mod tests {
     use crate::sink::put_all;
     use std::test::Fail;
 
-    // A stream that takes two bytes in a call and five in all; then a call fails, or takes nothing. A signal comes before the first.
+    // A stream that takes two bytes in a call and five in all; then a call fails, or takes nothing. A signal comes
+    // before the first.
     #[derive(Drop)]
     struct Reluctant {
         taken: Vec<u8>,

@@ -22,7 +22,8 @@ parts (t ∷ ts) (u ∷ us) xs ys l e =
     (h, p.1)
 
 -- a tree is its symbol over its children
-one_tree : (t u : Tree) → (out-Tree t).symbol ≡ (out-Tree u).symbol → (out-Tree t).children ≡ (out-Tree u).children → t ≡ u
+one_tree : (t u : Tree) → (out-Tree t).symbol ≡ (out-Tree u).symbol → (out-Tree t).children ≡ (out-Tree u).children
+    → t ≡ u
 one_tree t u y c =
     let a : tree_of (out-Tree t).symbol (out-Tree t).children ≡ t = roll-out-Tree t in
     let b : tree_of (out-Tree u).symbol (out-Tree u).children ≡ u = roll-out-Tree u in
@@ -31,7 +32,8 @@ one_tree t u y c =
 module _ (t u : Tree) where
   module _ (ts us : List Tree) (v w : Tree) (h : AreLeft t u (ts ++ v ∷ []) (us ++ w ∷ [])) where
     as_long : length ts ≡ length us
-    as_long = let l = h.long in let a = length-append ts (v ∷ []) in let b = length-append us (w ∷ []) in omega (arith, l, a, b)
+    as_long = let l = h.long in let a = length-append ts (v ∷ []) in let b = length-append us (w ∷ []) in
+        omega (arith, l, a, b)
 
     -- the last two trees are one where the two whole ones are
     last_too : t ≡ u → (ts ≡ us) × (v ≡ w)
@@ -43,8 +45,13 @@ module _ (t u : Tree) where
     -- where the last two have one node at the top, their children are compared
     go_on : IsSameNode v w → AreLeft t u (ts ++ (out-Tree v).children) (us ++ (out-Tree w).children)
     go_on n = record {
-      long = (let l = as_long in let k = n.1 in let a = length-append ts (out-Tree v).children in let b = length-append us (out-Tree w).children in omega (arith, l, k, a, b));
-      same = (λ e. h.same.0 (back (parts ts us (out-Tree v).children (out-Tree w).children as_long e)), λ e. on (last_too e));
+      long =
+          (let l = as_long in let k = n.1 in let a = length-append ts (out-Tree v).children in
+          let b = length-append us (out-Tree w).children in omega (arith, l, k, a, b));
+      same = (
+        λ e. h.same.0 (back (parts ts us (out-Tree v).children (out-Tree w).children as_long e)),
+        λ e. on (last_too e),
+      );
     }
       where
         back : (ts ≡ us) × ((out-Tree v).children ≡ (out-Tree w).children) → ts ++ v ∷ [] ≡ us ++ w ∷ []
@@ -62,9 +69,13 @@ fewer_nodes ts v =
     omega (arith, a, b, n)
 
 -- a step from the trees that are left to those that are left after it
-module _ (v : Tree) (old mid new children : List Tree) (last : old ≡ mid ++ v ∷ []) (add : new ≡ mid ++ children) (below : children ≡ (out-Tree v).children) where
+module _ (v : Tree) (old mid new children : List Tree) (last : old ≡ mid ++ v ∷ []) (add : new ≡ mid ++ children)
+    (below : children ≡ (out-Tree v).children) where
   pub step_less : all_nodes new < all_nodes old
   step_less = let h = fewer_nodes mid v in rw (last, add, below) h
 
-pub step_keeps : (t u v w : Tree) (vs vs2 vs1 cs ws ws2 ws1 ds : List Tree) → vs ≡ vs1 ++ v ∷ [] → vs2 ≡ vs1 ++ cs → cs ≡ (out-Tree v).children → ws ≡ ws1 ++ w ∷ [] → ws2 ≡ ws1 ++ ds → ds ≡ (out-Tree w).children → IsSameNode v w → AreLeft t u vs ws → AreLeft t u vs2 ws2
-step_keeps t u v w vs vs2 vs1 cs ws ws2 ws1 ds a b c d e f n h = rw (b, c, e, f) (go_on t u vs1 ws1 v w (rw (a, d) at h) n)
+pub step_keeps : (t u v w : Tree) (vs vs2 vs1 cs ws ws2 ws1 ds : List Tree) → vs ≡ vs1 ++ v ∷ [] → vs2 ≡ vs1 ++ cs
+    → cs ≡ (out-Tree v).children → ws ≡ ws1 ++ w ∷ [] → ws2 ≡ ws1 ++ ds → ds ≡ (out-Tree w).children → IsSameNode v w
+    → AreLeft t u vs ws → AreLeft t u vs2 ws2
+step_keeps t u v w vs vs2 vs1 cs ws ws2 ws1 ds a b c d e f n h =
+    rw (b, c, e, f) (go_on t u vs1 ws1 v w (rw (a, d) at h) n)

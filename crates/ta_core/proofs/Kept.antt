@@ -1,5 +1,6 @@
 -- The marked states under their new numbers.
-use Rattle.std.proofs.Common.{◌≡◌, ℕ, zero, suc, ◌<◌, ◌+◌, Bool, true, false, true≢false, cond, List, [], ◌∷◌, ◌++◌, length, map, get_or, slice_index, refl, sym, ap, ◌∙◌, arith, append_assoc}
+use Rattle.std.proofs.Common.{◌≡◌, ℕ, zero, suc, ◌<◌, ◌+◌, Bool, true, false, true≢false, cond, List, [], ◌∷◌, ◌++◌}
+use Rattle.std.proofs.Common.{length, map, get_or, slice_index, refl, sym, ap, ◌∙◌, arith, append_assoc}
 use Rattle.std.proofs.lemmas.List.{length-map}
 use Rattle.fore_base.specs.Lists.{Every}
 use Rattle.ta_core.specs.declared.auto.Rule.{Rule}
@@ -46,7 +47,8 @@ nth_is_marked (false ∷ bs) i h = let m = nth_is_marked bs i h in rw (plus_one 
 pub rank_nth : (bs : List Bool) (i : ℕ) → i < marked_count bs → rank bs (nth_marked bs i) ≡ i
 rank_nth [] i h = absurd (omega arith)
 rank_nth (true ∷ bs) zero h = refl
-rank_nth (true ∷ bs) (suc i) h = let e = rank_nth bs i (omega arith) in rw (plus_one (nth_marked bs i)) (omega (arith, e))
+rank_nth (true ∷ bs) (suc i) h = let e = rank_nth bs i (omega arith) in
+    rw (plus_one (nth_marked bs i)) (omega (arith, e))
 rank_nth (false ∷ bs) i h = let e = rank_nth bs i h in rw (plus_one (nth_marked bs i)) e
 
 -- the table has the new number of each state
@@ -67,21 +69,26 @@ module _ (marks : List Bool) (f g : ℕ → ℕ) (same : (q : ℕ) → IsMarked 
   kept_states_same [] = refl
   kept_states_same (q ∷ qs) = here (get_or marks q false) refl (kept_states_same qs)
     where
-      here : (b : Bool) → get_or marks q false ≡ b → kept_states marks f qs ≡ kept_states marks g qs → cond b (f q ∷ kept_states marks f qs) (kept_states marks f qs) ≡ cond b (g q ∷ kept_states marks g qs) (kept_states marks g qs)
+      here : (b : Bool) → get_or marks q false ≡ b → kept_states marks f qs ≡ kept_states marks g qs
+          → cond b (f q ∷ kept_states marks f qs) (kept_states marks f qs)
+          ≡ cond b (g q ∷ kept_states marks g qs) (kept_states marks g qs)
       here true e k = let a = same q e in rw (a, k) refl
       here false e k = k
 
   renumbered_same : (r : Rule) → keeps marks r ≡ true → renumbered f r ≡ renumbered g r
   renumbered_same r h =
       let a = same r.state (and_parts (get_or marks r.state false) (all_marked marks r.children) h).0 in
-      let b = map_same r.children (all_from marks r.children (and_parts (get_or marks r.state false) (all_marked marks r.children) h).1) in
+      let b = map_same r.children
+      (all_from marks r.children (and_parts (get_or marks r.state false) (all_marked marks r.children) h).1) in
       rw (a, b) refl
 
   pub kept_rules_same : (rs : List Rule) → kept_rules marks f rs ≡ kept_rules marks g rs
   kept_rules_same [] = refl
   kept_rules_same (r ∷ rs) = here (keeps marks r) refl (kept_rules_same rs)
     where
-      here : (b : Bool) → keeps marks r ≡ b → kept_rules marks f rs ≡ kept_rules marks g rs → cond b (renumbered f r ∷ kept_rules marks f rs) (kept_rules marks f rs) ≡ cond b (renumbered g r ∷ kept_rules marks g rs) (kept_rules marks g rs)
+      here : (b : Bool) → keeps marks r ≡ b → kept_rules marks f rs ≡ kept_rules marks g rs
+          → cond b (renumbered f r ∷ kept_rules marks f rs) (kept_rules marks f rs)
+          ≡ cond b (renumbered g r ∷ kept_rules marks g rs) (kept_rules marks g rs)
       here true e k = let a = renumbered_same r e in rw (a, k) refl
       here false e k = k
 
@@ -94,11 +101,16 @@ table_rank marks q h = let e = ranks_at marks 0 q (marked_below marks q h) in om
 
 -- one more rule is kept, or left out
 module _ (marks : List Bool) (f : ℕ → ℕ) (kept : List Rule) (r : Rule) (rest all : List Rule) where
-  pub kept_push : keeps marks r ≡ true → kept ++ kept_rules marks f (r ∷ rest) ≡ all → (kept ++ renumbered f r ∷ []) ++ kept_rules marks f rest ≡ all
-  kept_push h e = append_assoc kept (renumbered f r ∷ []) (kept_rules marks f rest) ∙ ap (λ (b : Bool). kept ++ cond b (renumbered f r ∷ kept_rules marks f rest) (kept_rules marks f rest)) (sym h) ∙ e
+  pub kept_push : keeps marks r ≡ true → kept ++ kept_rules marks f (r ∷ rest) ≡ all → (kept ++ renumbered f r ∷ [])
+      ++ kept_rules marks f rest ≡ all
+  kept_push h e = append_assoc kept (renumbered f r ∷ []) (kept_rules marks f rest)
+      ∙ ap (λ (b : Bool). kept ++ cond b (renumbered f r ∷ kept_rules marks f rest) (kept_rules marks f rest)) (sym h)
+      ∙ e
 
-  pub kept_skip : keeps marks r ≡ false → kept ++ kept_rules marks f (r ∷ rest) ≡ all → kept ++ kept_rules marks f rest ≡ all
-  kept_skip h e = ap (λ (b : Bool). kept ++ cond b (renumbered f r ∷ kept_rules marks f rest) (kept_rules marks f rest)) (sym h) ∙ e
+  pub kept_skip : keeps marks r ≡ false → kept ++ kept_rules marks f (r ∷ rest) ≡ all → kept ++ kept_rules marks f rest
+      ≡ all
+  kept_skip h e = ap (λ (b : Bool). kept ++ cond b (renumbered f r ∷ kept_rules marks f rest) (kept_rules marks f rest))
+      (sym h) ∙ e
 
 -- what is kept is in range again
 module _ (marks : List Bool) (f : ℕ → ℕ) (n : ℕ) (low : (q : ℕ) → IsMarked marks q → f q < n) where
@@ -110,28 +122,36 @@ module _ (marks : List Bool) (f : ℕ → ℕ) (n : ℕ) (low : (q : ℕ) → Is
   kept_states_low [] = tt
   kept_states_low (q ∷ qs) = here (get_or marks q false) refl (kept_states_low qs)
     where
-      here : (b : Bool) → get_or marks q false ≡ b → Every (λ q. q < n) (kept_states marks f qs) → Every (λ q. q < n) (cond b (f q ∷ kept_states marks f qs) (kept_states marks f qs))
+      here : (b : Bool) → get_or marks q false ≡ b → Every (λ q. q < n) (kept_states marks f qs)
+          → Every (λ q. q < n) (cond b (f q ∷ kept_states marks f qs) (kept_states marks f qs))
       here true e k = (low q e, k)
       here false e k = k
 
   renumbered_proper : (m : ℕ) (r : Rule) → keeps marks r ≡ true → IsRankedRule m r → IsRankedRule n (renumbered f r)
   renumbered_proper m r h p = (
     low r.state (and_parts (get_or marks r.state false) (all_marked marks r.children) h).0,
-    map_low r.children (all_from marks r.children (and_parts (get_or marks r.state false) (all_marked marks r.children) h).1),
+    map_low r.children
+        (all_from marks r.children (and_parts (get_or marks r.state false) (all_marked marks r.children) h).1),
     length-map r.children f ∙ p.2,
   )
 
-  pub kept_rules_proper : (m : ℕ) (rs : List Rule) → Every (IsRankedRule m) rs → Every (IsRankedRule n) (kept_rules marks f rs)
+  pub kept_rules_proper : (m : ℕ) (rs : List Rule) → Every (IsRankedRule m) rs
+      → Every (IsRankedRule n) (kept_rules marks f rs)
   kept_rules_proper m [] h = tt
   kept_rules_proper m (r ∷ rs) h = here (keeps marks r) refl (kept_rules_proper m rs h.1)
     where
-      here : (b : Bool) → keeps marks r ≡ b → Every (IsRankedRule n) (kept_rules marks f rs) → Every (IsRankedRule n) (cond b (renumbered f r ∷ kept_rules marks f rs) (kept_rules marks f rs))
+      here : (b : Bool) → keeps marks r ≡ b → Every (IsRankedRule n) (kept_rules marks f rs)
+          → Every (IsRankedRule n) (cond b (renumbered f r ∷ kept_rules marks f rs) (kept_rules marks f rs))
       here true e k = (renumbered_proper m r e h.0, k)
       here false e k = k
 
 -- by the table the states are kept under their ranks
-pub table_states : (marks : List Bool) (table : List ℕ) (qs kept : List ℕ) → table ≡ ranks 0 marks → kept ≡ kept_states marks (λ q. slice_index table q) qs → kept ≡ kept_states marks (rank marks) qs
-table_states marks table qs kept e k = (rw e at k) ∙ kept_states_same marks (λ q. slice_index (ranks 0 marks) q) (rank marks) (table_rank marks) qs
+pub table_states : (marks : List Bool) (table : List ℕ) (qs kept : List ℕ) → table ≡ ranks 0 marks
+    → kept ≡ kept_states marks (λ q. slice_index table q) qs → kept ≡ kept_states marks (rank marks) qs
+table_states marks table qs kept e k = (rw e at k)
+    ∙ kept_states_same marks (λ q. slice_index (ranks 0 marks) q) (rank marks) (table_rank marks) qs
 
-pub table_rules : (marks : List Bool) (table : List ℕ) (rs kept : List Rule) → table ≡ ranks 0 marks → kept ≡ kept_rules marks (λ q. slice_index table q) rs → kept ≡ kept_rules marks (rank marks) rs
-table_rules marks table rs kept e k = (rw e at k) ∙ kept_rules_same marks (λ q. slice_index (ranks 0 marks) q) (rank marks) (table_rank marks) rs
+pub table_rules : (marks : List Bool) (table : List ℕ) (rs kept : List Rule) → table ≡ ranks 0 marks
+    → kept ≡ kept_rules marks (λ q. slice_index table q) rs → kept ≡ kept_rules marks (rank marks) rs
+table_rules marks table rs kept e k = (rw e at k)
+    ∙ kept_rules_same marks (λ q. slice_index (ranks 0 marks) q) (rank marks) (table_rank marks) rs

@@ -1,5 +1,6 @@
 -- Each step by which trees are let go leaves less to do.
-use Rattle.std.proofs.Common.{◌≡◌, ℕ, ◌<◌, ◌≤◌, ◌+◌, ◌*◌, nat_eq, Bool, true, false, true≢false, List, [], ◌∷◌, ◌++◌, length, map, set, get_or, Option, Some, refl, sym, ap, ◌∙◌, arith}
+use Rattle.std.proofs.Common.{◌≡◌, ℕ, ◌<◌, ◌≤◌, ◌+◌, ◌*◌, nat_eq, Bool, true, false, true≢false, List, [], ◌∷◌, ◌++◌}
+use Rattle.std.proofs.Common.{length, map, set, get_or, Option, Some, refl, sym, ap, ◌∙◌, arith}
 use Rattle.std.proofs.lemmas.Bool.{eqb-true, eq-eqb}
 use Rattle.std.specs.Option.{option_to_list}
 use Rattle.ta_core.specs.declared.symbol.Symbol.{Symbol}
@@ -19,14 +20,16 @@ by_pairs (t ∷ ts) = ap (λ (us : List Tree). alone t + 2 * all_nodes us) (pair
 
 -- a tree alone costs 1 more than its children
 alone_out : (t : Tree) → alone t ≡ toll (out-Tree t).children + 1
-alone_out t = ap alone (sym (roll-out-Tree t)) ∙ para-roll-Tree ℕ alone_step (out-Tree t) ∙ ap (λ (n : ℕ). n + 1) (by_pairs (out-Tree t).children)
+alone_out t = ap alone (sym (roll-out-Tree t)) ∙ para-roll-Tree ℕ alone_step (out-Tree t)
+    ∙ ap (λ (n : ℕ). n + 1) (by_pairs (out-Tree t).children)
 
 pub nodes_append : (ts us : List Tree) → all_nodes (ts ++ us) ≡ all_nodes ts + all_nodes us
 nodes_append [] us = omega arith
 nodes_append (t ∷ ts) us = let h = nodes_append ts us in omega (arith, h)
 
 -- the last one is taken
-pub toll_pop : (all rest left : List Tree) (o : Option Tree) (t : Tree) → all ≡ rest ++ option_to_list o → o ≡ Some t → toll left < toll_with t rest → toll left < toll all
+pub toll_pop : (all rest left : List Tree) (o : Option Tree) (t : Tree) → all ≡ rest ++ option_to_list o → o ≡ Some t
+    → toll left < toll_with t rest → toll left < toll all
 toll_pop all rest left o t e d l =
     let h = last rest t in
     let k = ap toll (e ∙ ap (λ (p : Option Tree). rest ++ option_to_list p) d) in
@@ -56,16 +59,22 @@ module _ (t : Tree) (below : List Tree) (is : below ≡ (out-Tree t).children) w
   toll_alone others e = let h = alone_out t in let k = ap toll is in rw e (omega (arith, h, k))
 
   -- a node is let go, and a tree over the others takes the place of its first child
-  pub toll_over : (y : Symbol) (over first x : Tree) (others from : List Tree) → 0 < length below → 0 < length others → over ≡ tree_of y from → from ≡ others → first ≡ x → x ≡ get_or below 0 x → toll_with first (set below 0 over) < toll_with t others
+  pub toll_over : (y : Symbol) (over first x : Tree) (others from : List Tree) → 0 < length below → 0 < length others
+      → over ≡ tree_of y from → from ≡ others → first ≡ x → x ≡ get_or below 0 x → toll_with first (set below 0 over)
+      < toll_with t others
   toll_over y over first x others from l k o f g h =
-      let c : (out-Tree over).children ≡ others = ap (λ (u : Tree). (out-Tree u).children) o ∙ ap (λ (u : Tree-F Tree). u.children) (out-roll-Tree (record { symbol = y; children = from })) ∙ f in
+      let c : (out-Tree over).children ≡ others = ap (λ (u : Tree). (out-Tree u).children) o
+      ∙ ap (λ (u : Tree-F Tree). u.children) (out-roll-Tree (record { symbol = y; children = from })) ∙ f in
       let a = alone_out over in
       let b = ap toll c in
       let n = nodes_out t ∙ ap (λ (ts : List Tree). all_nodes ts + 1) (sym is) in
       let m = ap nodes g in
       step others below l k h a b n m
     where
-      step : (others below : List Tree) → 0 < length below → 0 < length others → x ≡ get_or below 0 x → alone over ≡ toll (out-Tree over).children + 1 → toll (out-Tree over).children ≡ toll others → nodes t ≡ all_nodes below + 1 → nodes first ≡ nodes x → toll_with first (set below 0 over) < toll_with t others
+      step : (others below : List Tree) → 0 < length below → 0 < length others → x ≡ get_or below 0 x
+          → alone over ≡ toll (out-Tree over).children + 1 → toll (out-Tree over).children ≡ toll others
+          → nodes t ≡ all_nodes below + 1 → nodes first ≡ nodes x → toll_with first (set below 0 over)
+          < toll_with t others
       step [] bs l k h a b n m = absurd (omega (arith, k))
       step (u ∷ us) [] l k h a b n m = absurd (omega (arith, l))
       step (u ∷ us) (c ∷ cs) l k h a b n m = let d = ap nodes h in omega (arith, a, b, n, m, d)

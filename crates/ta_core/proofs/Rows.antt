@@ -5,7 +5,9 @@ use Rattle.ta_core.specs.declared.auto.Rule.{Rule}
 use Rattle.ta_core.specs.declared.symbol.Slot.TheVariants.{Field, Link, Hook}
 use Rattle.ta_core.specs.declared.symbol.Symbol.{Symbol}
 use Rattle.ta_core.specs.declared.symbol.Symbol.TheVariants.{Null, Uninit, Dangling, Ref, Cell}
-use Rattle.ta_core.specs.declared.tables.Sign.TheVariants.{Null as NullSign, Uninit as UninitSign, Dangling as DanglingSign, Ref as RefSign, ListCell, Fork, Datum as DatumSign, Slots}
+use Rattle.ta_core.specs.declared.tables.Sign.TheVariants.{Null as NullSign, Uninit as UninitSign}
+use Rattle.ta_core.specs.declared.tables.Sign.TheVariants.{Dangling as DanglingSign, Ref as RefSign, ListCell, Fork}
+use Rattle.ta_core.specs.declared.tables.Sign.TheVariants.{Datum as DatumSign, Slots}
 use Rattle.ta_core.specs.declared.tree.Tree.{Tree}
 use Rattle.ta_core.specs.Arity.{arity}
 use Rattle.ta_core.specs.Auto.{Automaton, automaton, IsRanked}
@@ -85,7 +87,8 @@ lists_shifted : shifted 3 lists ≡ automaton 4 (3 ∷ []) (rule 3 n (3 ∷ []) 
 lists_shifted = refl
 
 -- the lists beside a second automaton with one leaf: its states come behind
-lists_united : united lists (automaton 2 (1 ∷ []) (rule 1 Uninit [] ∷ [])) ≡ automaton 3 (0 ∷ 2 ∷ []) (rule 0 n (0 ∷ []) ∷ rule 0 Null [] ∷ rule 2 Uninit [] ∷ [])
+lists_united : united lists (automaton 2 (1 ∷ []) (rule 1 Uninit [] ∷ []))
+    ≡ automaton 3 (0 ∷ 2 ∷ []) (rule 0 n (0 ∷ []) ∷ rule 0 Null [] ∷ rule 2 Uninit [] ∷ [])
 lists_united = refl
 
 -- a number for each state: here 5
@@ -108,13 +111,15 @@ one_by_value = record {
 }
 
 not_by_place : HasOneTop double → ⊥
-not_by_place h = let p = h.only 0 (rule 0 Null []) refl in let q = h.only 1 (rule 0 Null []) refl in let a = double_root h in absurd (omega (arith, p a, q a))
+not_by_place h = let p = h.only 0 (rule 0 Null []) refl in let q = h.only 1 (rule 0 Null []) refl in
+    let a = double_root h in absurd (omega (arith, p a, q a))
   where
     double_root : (k : HasOneTop double) → 0 ≡ k.root
     double_root k = ap (λ (qs : List ℕ). get_or qs 0 0) k.alone
 
 -- the symbols that tables write
-signs : (sign_symbol NullSign ≡ Null) × (sign_symbol UninitSign ≡ Uninit) × (sign_symbol DanglingSign ≡ Dangling) × (sign_symbol (RefSign 4) ≡ Ref 4)
+signs : (sign_symbol NullSign ≡ Null) × (sign_symbol UninitSign ≡ Uninit) × (sign_symbol DanglingSign ≡ Dangling)
+    × (sign_symbol (RefSign 4) ≡ Ref 4)
 signs = (refl, refl, refl, refl)
 
 list_cell_sign : sign_symbol ListCell ≡ Cell 0 [] (Field 0 ∷ [])
@@ -134,5 +139,6 @@ a_line : (l : Line) → l.0 ≡ 3 → l.1 ≡ ListCell → l.2.now ≡ 1 ∷ [] 
 a_line l p q r = rw (p, q, r) refl
 
 -- a plan: two states, the second of which is a root, and one line
-a_plan : (p : Plan) (l : Line) → p.0 ≡ 2 → p.1.now ≡ 1 ∷ [] → p.2.now ≡ l ∷ [] → line_rule l ≡ rule 1 Null [] → planned p ≡ automaton 2 (1 ∷ []) (rule 1 Null [] ∷ [])
+a_plan : (p : Plan) (l : Line) → p.0 ≡ 2 → p.1.now ≡ 1 ∷ [] → p.2.now ≡ l ∷ [] → line_rule l ≡ rule 1 Null []
+    → planned p ≡ automaton 2 (1 ∷ []) (rule 1 Null [] ∷ [])
 a_plan p l d e f h = rw (d, e, f) (ap (λ (r : Rule). automaton 2 (1 ∷ []) (r ∷ [])) h)

@@ -7,7 +7,9 @@ use Rattle.ta_core.specs.declared.symbol.Symbol.{Symbol}
 use Rattle.ta_core.specs.declared.symbol.Symbol.TheVariants.{Null, Uninit, Dangling, Ref, Cell}
 use Rattle.ta_core.specs.declared.tree.Tree.{Tree, out-Tree, out-roll-Tree}
 use Rattle.ta_core.specs.Auto.{Automaton, automaton}
-use Rattle.ta_core.specs.Language.{RunOf, run, RunEach, run_none, run_more, InLanguage, IsBarren, IsWithin, HasSameLanguage, HasTree, PassesBy, at_top, below, OnePasses, this_one, later_one, TakesPart, IsTrim, nodes, IsSmallest}
+use Rattle.ta_core.specs.Language.{RunOf, run, RunEach, run_none, run_more, InLanguage, IsBarren, IsWithin}
+use Rattle.ta_core.specs.Language.{HasSameLanguage, HasTree, PassesBy, at_top, below, OnePasses, this_one, later_one}
+use Rattle.ta_core.specs.Language.{TakesPart, IsTrim, nodes, IsSmallest}
 use Rattle.ta_core.proofs.Runs.{tree_of, run_tree}
 use Rattle.ta_core.proofs.Sizing.{nodes_tree, nodes_out}
 
@@ -36,7 +38,8 @@ abbrev pub uninit : Tree
 uninit = tree_of Uninit []
 
 -- the rule at the top of a run
-pub top : {rules : List Rule} {q : ℕ} (y : Symbol) (ts : List Tree) → RunOf rules q (tree_of y ts) → (r : Rule) × IsIn r rules × (r.state ≡ q) × (r.symbol ≡ y) × RunEach rules r.children ts
+pub top : {rules : List Rule} {q : ℕ} (y : Symbol) (ts : List Tree) → RunOf rules q (tree_of y ts) → (r : Rule)
+    × IsIn r rules × (r.state ≡ q) × (r.symbol ≡ y) × RunEach rules r.children ts
 top {rules} y ts (run r i e s k) =
     let o = out-roll-Tree (record { symbol = y; children = ts }) in
     (r, i, e, rw o at s, rw o at k)
@@ -77,7 +80,8 @@ abbrev pub both : Tree
 both = tree_of f (null ∷ uninit ∷ [])
 
 both_0 : RunOf sides.rules 0 both
-both_0 = run_tree sides.rules (rule 0 f (1 ∷ 2 ∷ [])) (null ∷ uninit ∷ []) (inl refl) (run_more null_1 (run_more uninit_2 run_none))
+both_0 = run_tree sides.rules (rule 0 f (1 ∷ 2 ∷ [])) (null ∷ uninit ∷ []) (inl refl)
+    (run_more null_1 (run_more uninit_2 run_none))
 
 -- a leaf has no run to the state of another leaf
 not_uninit_1 : RunOf sides.rules 1 uninit → ⊥
@@ -87,7 +91,8 @@ not_uninit_1 r =
     omega (arith, s)
 
 -- the runs of the children of a tree with a run to 0
-below_0 : (y : Symbol) (ts : List Tree) → RunOf sides.rules 0 (tree_of y ts) → (f ≡ y) × RunEach sides.rules (1 ∷ 2 ∷ []) ts
+below_0 : (y : Symbol) (ts : List Tree) → RunOf sides.rules 0 (tree_of y ts) → (f ≡ y)
+    × RunEach sides.rules (1 ∷ 2 ∷ []) ts
 below_0 y ts r =
     let t = top y ts r in
     let o = of_0 t.0 t.1 t.2 in
@@ -143,7 +148,8 @@ no_tree h = endless_run h.1
 a_tree : HasTree sides.rules 2
 a_tree = (uninit, uninit_2)
 
--- the one tree of sides is one of its own, and none where 2 is not Uninit: no other language is within, and the same languages are within each other
+-- the one tree of sides is one of its own, and none where 2 is not Uninit: no other language is within, and the same
+-- languages are within each other
 within : IsWithin endless sides
 within t l = absurd (endless_run l.2)
 
@@ -163,12 +169,14 @@ passes_0 = at_top refl both_0
 passes_1 : PassesBy sides.rules 1 0 both
 passes_1 =
     let o = out-roll-Tree (record { symbol = f; children = null ∷ uninit ∷ [] }) in
-    below (rule 0 f (1 ∷ 2 ∷ [])) (inl refl) refl (rw o refl) (rw o (this_one (at_top refl null_1) (run_more uninit_2 run_none)))
+    below (rule 0 f (1 ∷ 2 ∷ [])) (inl refl) refl (rw o refl)
+    (rw o (this_one (at_top refl null_1) (run_more uninit_2 run_none)))
 
 passes_2 : PassesBy sides.rules 2 0 both
 passes_2 =
     let o = out-roll-Tree (record { symbol = f; children = null ∷ uninit ∷ [] }) in
-    below (rule 0 f (1 ∷ 2 ∷ [])) (inl refl) refl (rw o refl) (rw o (later_one null_1 (this_one (at_top refl uninit_2) run_none)))
+    below (rule 0 f (1 ∷ 2 ∷ [])) (inl refl) refl (rw o refl)
+    (rw o (later_one null_1 (this_one (at_top refl uninit_2) run_none)))
 
 takes_part : TakesPart sides 2
 takes_part = (0, both, inl refl, passes_2)
@@ -178,11 +186,13 @@ none_pass h = elim h [ ]
 
 not_3_at_1 : {t : Tree} → PassesBy sides.rules 3 1 t → ⊥
 not_3_at_1 (at_top e r) = omega (arith, e)
-not_3_at_1 {t} (below r i e s k) = none_pass (subst (λ (x : Rule). OnePasses sides.rules 3 x.children (out-Tree t).children) (of_1 r i e) k)
+not_3_at_1 {t} (below r i e s k) =
+    none_pass (subst (λ (x : Rule). OnePasses sides.rules 3 x.children (out-Tree t).children) (of_1 r i e) k)
 
 not_3_at_2 : {t : Tree} → PassesBy sides.rules 3 2 t → ⊥
 not_3_at_2 (at_top e r) = omega (arith, e)
-not_3_at_2 {t} (below r i e s k) = none_pass (subst (λ (x : Rule). OnePasses sides.rules 3 x.children (out-Tree t).children) (of_2 r i e) k)
+not_3_at_2 {t} (below r i e s k) =
+    none_pass (subst (λ (x : Rule). OnePasses sides.rules 3 x.children (out-Tree t).children) (of_2 r i e) k)
 
 not_3_below : {ts : List Tree} → OnePasses sides.rules 3 (1 ∷ 2 ∷ []) ts → ⊥
 not_3_below (this_one p rs) = not_3_at_1 p
@@ -191,7 +201,8 @@ not_3_below (later_one r (later_one s o)) = none_pass o
 
 not_3_at_0 : {t : Tree} → PassesBy sides.rules 3 0 t → ⊥
 not_3_at_0 (at_top e r) = omega (arith, e)
-not_3_at_0 {t} (below r i e s k) = not_3_below (subst (λ (x : Rule). OnePasses sides.rules 3 x.children (out-Tree t).children) (of_0 r i e) k)
+not_3_at_0 {t} (below r i e s k) =
+    not_3_below (subst (λ (x : Rule). OnePasses sides.rules 3 x.children (out-Tree t).children) (of_0 r i e) k)
 
 takes_no_part : TakesPart sides 3 → ⊥
 takes_no_part (p, t, inl e, h) = not_3_at_0 (subst (λ (x : ℕ). PassesBy sides.rules 3 x t) e h)
@@ -208,7 +219,8 @@ three_nodes =
     let c = nodes_tree f (null ∷ uninit ∷ []) in
     omega (arith, a, b, c)
 
--- of the lists of cells that end in Null, Null is a smallest one; n(Null) is a tree, and none; Uninit is small, and no tree
+-- of the lists of cells that end in Null, Null is a smallest one; n(Null) is a tree, and none; Uninit is small, and no
+-- tree
 abbrev pub lists : Automaton
 lists = automaton 1 (0 ∷ []) (rule 0 n (0 ∷ []) ∷ rule 0 Null [] ∷ [])
 
@@ -231,7 +243,8 @@ not_smallest h =
 not_a_list : IsSmallest lists uninit → ⊥
 not_a_list h = no (top Uninit [] h.0.2)
   where
-    no : (r : Rule) × IsIn r lists.rules × (r.state ≡ h.0.0) × (r.symbol ≡ Uninit) × RunEach lists.rules r.children [] → ⊥
+    no : (r : Rule) × IsIn r lists.rules × (r.state ≡ h.0.0) × (r.symbol ≡ Uninit) × RunEach lists.rules r.children []
+        → ⊥
     no (r, inl e, s, y, k) = let d = ap kind (sym (ap (λ (x : Rule). x.symbol) e) ∙ y) in omega (arith, d)
     no (r, inr (inl e), s, y, k) = let d = ap kind (sym (ap (λ (x : Rule). x.symbol) e) ∙ y) in omega (arith, d)
     no (r, inr (inr i), s, y, k) = absurd i

@@ -1,5 +1,6 @@
 -- Worked values of simulations and reduced automata, each made by hand.
-use Rattle.std.proofs.Common.{◌≡◌, inl, inr, ℕ, zero, suc, Bool, true, false, true≢false, ◌&&◌, ◌||◌, ◌⊎◌, cond, nat_eq, List, [], ◌∷◌, slice_get, Some, refl, sym, ap, subst, ◌∙◌, arith}
+use Rattle.std.proofs.Common.{◌≡◌, inl, inr, ℕ, zero, suc, Bool, true, false, true≢false, ◌&&◌, ◌||◌, ◌⊎◌, cond, nat_eq}
+use Rattle.std.proofs.Common.{List, [], ◌∷◌, slice_get, Some, refl, sym, ap, subst, ◌∙◌, arith}
 use Rattle.std.proofs.lemmas.Bool.{eq-eqb, eqb-true, or_cases, and_parts}
 use Rattle.std.proofs.lemmas.Option.{none-some, same_Some}
 use Rattle.fore_base.specs.Lists.{IsIn, Every, Paired, PairedBut}
@@ -8,7 +9,8 @@ use Rattle.ta_core.specs.declared.auto.Rule.{Rule}
 use Rattle.ta_core.specs.declared.symbol.Symbol.TheVariants.{Null, Uninit}
 use Rattle.ta_core.specs.Auto.{Automaton, automaton}
 use Rattle.ta_core.specs.Language.{run_none, at_top}
-use Rattle.ta_core.specs.Simulations.{IsMatched, IsDownward, IsSimulated, KeepsRoots, IsUpward, IsSimulatedUpward, IsNeedless, AutoReduced}
+use Rattle.ta_core.specs.Simulations.{IsMatched, IsDownward, IsSimulated, KeepsRoots, IsUpward, IsSimulatedUpward}
+use Rattle.ta_core.specs.Simulations.{IsNeedless, AutoReduced}
 use Rattle.ta_core.proofs.Runs.{run_tree}
 use Rattle.ta_core.proofs.RunRows.{rule, kind, n, f, null, sides, not_trim}
 
@@ -28,7 +30,8 @@ in_state q (s ∷ rs) r (inr i) e = here (nat_eq s.state q) (in_state q rs r i e
 
 -- 0 = Null, 1 = Null, 1 = Uninit, 2 = n(0), 3 = n(1), 3 = n(0)
 abbrev steps : List Rule
-steps = rule 0 Null [] ∷ rule 1 Null [] ∷ rule 1 Uninit [] ∷ rule 2 n (0 ∷ []) ∷ rule 3 n (1 ∷ []) ∷ rule 3 n (0 ∷ []) ∷ []
+steps = rule 0 Null [] ∷ rule 1 Null [] ∷ rule 1 Uninit [] ∷ rule 2 n (0 ∷ []) ∷ rule 3 n (1 ∷ []) ∷ rule 3 n (0 ∷ [])
+    ∷ []
 
 abbrev Any : ℕ → ℕ → Type 0
 Any p q = Unit {0}
@@ -78,23 +81,33 @@ related_in (x ∷ xs) p q h = elim (or_cases (nat_eq p x.0 && nat_eq q x.1) (rel
 
 -- it is a simulation where for each pair each rule of the first state is matched by one of the second
 abbrev AreMatched : List Rule → List (ℕ × ℕ) → Type 0
-AreMatched rules xs = Every (λ (x : ℕ × ℕ). Every (λ r. IsMatched rules (λ p q. related xs p q ≡ true) r x.1) (of_state x.0 rules)) xs
+AreMatched rules xs = Every
+    (λ (x : ℕ × ℕ). Every (λ r. IsMatched rules (λ p q. related xs p q ≡ true) r x.1) (of_state x.0 rules)) xs
 
-simulates : (rules : List Rule) (xs : List (ℕ × ℕ)) (p q : ℕ) → AreMatched rules xs → related xs p q ≡ true → IsSimulated rules p q
+simulates : (rules : List Rule) (xs : List (ℕ × ℕ)) (p q : ℕ) → AreMatched rules xs → related xs p q ≡ true
+    → IsSimulated rules p q
 simulates rules xs p q m e = (related xs, down, e)
   where
     down : IsDownward rules (λ p q. related xs p q ≡ true)
     down r q i h =
         let w = related_in xs r.state q h in
-        let each = every_in (λ (x : ℕ × ℕ). Every (λ r. IsMatched rules (λ p q. related xs p q ≡ true) r x.1) (of_state x.0 rules)) xs w.0 m w.1 in
-        subst (λ (y : ℕ). IsMatched rules (λ p q. related xs p q ≡ true) r y) (sym w.3) (every_in (λ (r : Rule). IsMatched rules (λ p q. related xs p q ≡ true) r w.0.1) (of_state w.0.0 rules) r each (in_state w.0.0 rules r i w.2))
+        let each =
+        every_in
+        (λ (x : ℕ × ℕ). Every (λ r. IsMatched rules (λ p q. related xs p q ≡ true) r x.1) (of_state x.0 rules))
+        xs w.0 m w.1 in
+        subst (λ (y : ℕ). IsMatched rules (λ p q. related xs p q ≡ true) r y) (sym w.3)
+        (every_in (λ (r : Rule). IsMatched rules (λ p q. related xs p q ≡ true) r w.0.1) (of_state w.0.0 rules) r
+        each (in_state w.0.0 rules r i w.2))
 
 -- 1 simulates 0, and 3 simulates 2, whose child is simulated by that of one of 3's rules; not the other way
 abbrev ups : List (ℕ × ℕ)
 ups = (0, 1) ∷ (2, 3) ∷ []
 
 ups_matched : AreMatched steps ups
-ups_matched = (((rule 1 Null [], inr (inl refl), refl, refl, tt), tt), (((rule 3 n (1 ∷ []), inr (inr (inr (inr (inl refl)))), refl, refl, (refl, tt)), tt), tt))
+ups_matched = (
+  ((rule 1 Null [], inr (inl refl), refl, refl, tt), tt),
+  (((rule 3 n (1 ∷ []), inr (inr (inr (inr (inl refl)))), refl, refl, (refl, tt)), tt), tt),
+)
 
 simulated_0 : IsSimulated steps 0 1
 simulated_0 = simulates steps ups 0 1 ups_matched refl
@@ -110,7 +123,8 @@ not_simulated_3 h = no (h.1 (rule 3 n (1 ∷ [])) 2 (inr (inr (inr (inr (inl ref
   where
     no : IsMatched steps (λ p q. h.0 p q ≡ true) (rule 3 n (1 ∷ [])) 2 → ⊥
     no (s, i, e, y, k) = elim (in_state 2 steps s i e) [
-      | inl d ↦ not_simulated_1 (h.0, h.1, (subst (λ (x : Rule). Paired (λ p q. h.0 p q ≡ true) (1 ∷ []) x.children) d k).0)
+      | inl d ↦ not_simulated_1
+          (h.0, h.1, (subst (λ (x : Rule). Paired (λ p q. h.0 p q ≡ true) (1 ∷ []) x.children) d k).0)
       | inr j ↦ absurd j
     ]
 
@@ -121,9 +135,11 @@ roots_kept p q i e = subst (λ (x : ℕ). IsIn x (0 ∷ 2 ∷ [])) e i
 roots_not_kept : KeepsRoots (automaton 4 (0 ∷ []) steps) Any → ⊥
 roots_not_kept k = elim (k 0 1 (inl refl) tt) [ inl e ↦ absurd (omega (arith, e)) | inr i ↦ absurd i ]
 
--- 0 = Null, 1 = Null, 2 = n(0), 2 = n(1), 3 = n(1), with root 3: what stands over 0 leads to no root state; what stands over 1 does
+-- 0 = Null, 1 = Null, 2 = n(0), 2 = n(1), 3 = n(1), with root 3: what stands over 0 leads to no root state; what stands
+-- over 1 does
 abbrev tops : Automaton
-tops = automaton 4 (3 ∷ []) (rule 0 Null [] ∷ rule 1 Null [] ∷ rule 2 n (0 ∷ []) ∷ rule 2 n (1 ∷ []) ∷ rule 3 n (1 ∷ []) ∷ [])
+tops = automaton 4 (3 ∷ [])
+    (rule 0 Null [] ∷ rule 1 Null [] ∷ rule 2 n (0 ∷ []) ∷ rule 2 n (1 ∷ []) ∷ rule 3 n (1 ∷ []) ∷ [])
 
 only_child : (c i p : ℕ) → slice_get (c ∷ []) i ≡ Some p → (i ≡ 0) × (c ≡ p)
 only_child c zero p e = (refl, same_Some c p e)
@@ -143,49 +159,74 @@ simulated_upward : IsSimulatedUpward tops Same 0 1
 simulated_upward = (related overs, (roots, step), refl)
   where
     roots : KeepsRoots tops (λ p q. related overs p q ≡ true)
-    roots p q (inl e) h = elim (no_pair p q h) [ inl w ↦ (let k = w.0 in absurd (omega (arith, e, k))) | inr k ↦ absurd (omega (arith, e, k)) ]
+    roots p q (inl e) h = elim (no_pair p q h)
+        [ inl w ↦ (let k = w.0 in absurd (omega (arith, e, k))) | inr k ↦ absurd (omega (arith, e, k)) ]
     roots p q (inr i) h = absurd i
 
-    over_0 : (i p q : ℕ) → slice_get (0 ∷ []) i ≡ Some p → related overs p q ≡ true → (s : Rule) × IsIn s tops.rules × (s.symbol ≡ n) × PairedBut Same i p q (0 ∷ []) s.children × (related overs 2 s.state ≡ true)
+    over_0 : (i p q : ℕ) → slice_get (0 ∷ []) i ≡ Some p → related overs p q ≡ true → (s : Rule) × IsIn s tops.rules
+        × (s.symbol ≡ n) × PairedBut Same i p q (0 ∷ []) s.children × (related overs 2 s.state ≡ true)
     over_0 i p q e h =
         let c = only_child 0 i p e in
         elim (no_pair p q h) [
-          | inl w ↦ (rule 2 n (1 ∷ []), inr (inr (inr (inl refl))), refl, subst (λ (x : ℕ). PairedBut Same x p q (0 ∷ []) (1 ∷ [])) (sym c.0) (c.1, sym w.1, tt), refl)
+          | inl w ↦ (
+            rule 2 n (1 ∷ []),
+            inr (inr (inr (inl refl))),
+            refl,
+            subst (λ (x : ℕ). PairedBut Same x p q (0 ∷ []) (1 ∷ [])) (sym c.0) (c.1, sym w.1, tt),
+            refl,
+          )
           | inr k ↦ (let d = c.1 in absurd (omega (arith, d, k)))
         ]
 
     over_1 : (i p q : ℕ) → slice_get (1 ∷ []) i ≡ Some p → related overs p q ≡ true → ⊥
-    over_1 i p q e h = let c = (only_child 1 i p e).1 in elim (no_pair p q h) [ inl w ↦ (let k = w.0 in absurd (omega (arith, c, k))) | inr k ↦ absurd (omega (arith, c, k)) ]
+    over_1 i p q e h = let c = (only_child 1 i p e).1 in
+        elim (no_pair p q h)
+        [ inl w ↦ (let k = w.0 in absurd (omega (arith, c, k))) | inr k ↦ absurd (omega (arith, c, k)) ]
 
     Over : Rule → ℕ → ℕ → ℕ → Type 0
-    Over r i p q = (s : Rule) × IsIn s tops.rules × (s.symbol ≡ r.symbol) × PairedBut Same i p q r.children s.children × (related overs r.state s.state ≡ true)
+    Over r i p q = (s : Rule) × IsIn s tops.rules × (s.symbol ≡ r.symbol) × PairedBut Same i p q r.children s.children
+        × (related overs r.state s.state ≡ true)
 
-    step : (r : Rule) (i p q : ℕ) → IsIn r tops.rules → slice_get r.children i ≡ Some p → related overs p q ≡ true → Over r i p q
+    step : (r : Rule) (i p q : ℕ) → IsIn r tops.rules → slice_get r.children i ≡ Some p → related overs p q ≡ true
+        → Over r i p q
     step r i p q (inl d) e h = absurd (none-some p (subst (λ (x : Rule). slice_get x.children i ≡ Some p) d e))
     step r i p q (inr (inl d)) e h = absurd (none-some p (subst (λ (x : Rule). slice_get x.children i ≡ Some p) d e))
-    step r i p q (inr (inr (inl d))) e h = subst (λ (x : Rule). Over x i p q) (sym d) (over_0 i p q (subst (λ (x : Rule). slice_get x.children i ≡ Some p) d e) h)
-    step r i p q (inr (inr (inr (inl d)))) e h = absurd (over_1 i p q (subst (λ (x : Rule). slice_get x.children i ≡ Some p) d e) h)
-    step r i p q (inr (inr (inr (inr (inl d))))) e h = absurd (over_1 i p q (subst (λ (x : Rule). slice_get x.children i ≡ Some p) d e) h)
+    step r i p q (inr (inr (inl d))) e h =
+        subst (λ (x : Rule). Over x i p q) (sym d)
+        (over_0 i p q (subst (λ (x : Rule). slice_get x.children i ≡ Some p) d e) h)
+    step r i p q (inr (inr (inr (inl d)))) e h =
+        absurd (over_1 i p q (subst (λ (x : Rule). slice_get x.children i ≡ Some p) d e) h)
+    step r i p q (inr (inr (inr (inr (inl d))))) e h =
+        absurd (over_1 i p q (subst (λ (x : Rule). slice_get x.children i ≡ Some p) d e) h)
     step r i p q (inr (inr (inr (inr (inr j))))) e h = absurd j
 
 not_simulated_upward : IsSimulatedUpward tops Same 1 0 → ⊥
 not_simulated_upward (U, u, e) = no (u.1 (rule 3 n (1 ∷ [])) 0 1 0 (inr (inr (inr (inr (inl refl))))) refl e)
   where
-    no : (s : Rule) × IsIn s tops.rules × (s.symbol ≡ n) × PairedBut Same 0 1 0 (1 ∷ []) s.children × (U 3 s.state ≡ true) → ⊥
+    no : (s : Rule) × IsIn s tops.rules × (s.symbol ≡ n) × PairedBut Same 0 1 0 (1 ∷ []) s.children
+        × (U 3 s.state ≡ true) → ⊥
     no (s, inl d, y, b, k) = let c = ap kind (sym (ap (λ (x : Rule). x.symbol) d) ∙ y) in omega (arith, c)
     no (s, inr (inl d), y, b, k) = let c = ap kind (sym (ap (λ (x : Rule). x.symbol) d) ∙ y) in omega (arith, c)
-    no (s, inr (inr (inl d)), y, b, k) = elim (u.0 3 2 (inl refl) (subst (λ (x : Rule). U 3 x.state ≡ true) d k)) [ inl c ↦ absurd (omega (arith, c)) | inr j ↦ absurd j ]
-    no (s, inr (inr (inr (inl d))), y, b, k) = let c = (subst (λ (x : Rule). PairedBut Same 0 1 0 (1 ∷ []) x.children) d b).1 in omega (arith, c)
-    no (s, inr (inr (inr (inr (inl d)))), y, b, k) = let c = (subst (λ (x : Rule). PairedBut Same 0 1 0 (1 ∷ []) x.children) d b).1 in omega (arith, c)
+    no (s, inr (inr (inl d)), y, b, k) =
+        elim (u.0 3 2 (inl refl) (subst (λ (x : Rule). U 3 x.state ≡ true) d k))
+        [ inl c ↦ absurd (omega (arith, c)) | inr j ↦ absurd j ]
+    no (s, inr (inr (inr (inl d))), y, b, k) =
+        let c = (subst (λ (x : Rule). PairedBut Same 0 1 0 (1 ∷ []) x.children) d b).1 in omega (arith, c)
+    no (s, inr (inr (inr (inr (inl d)))), y, b, k) =
+        let c = (subst (λ (x : Rule). PairedBut Same 0 1 0 (1 ∷ []) x.children) d b).1 in omega (arith, c)
     no (s, inr (inr (inr (inr (inr j)))), y, b, k) = absurd j
 
 -- 0 = Null, 1 = Null, 2 = f(0, 0), 2 = f(1, 1): the other child has to be related too
-not_upward_beside : (U : ℕ → ℕ → Type 0) → U 0 1 → IsUpward (automaton 3 (2 ∷ []) (rule 2 f (0 ∷ 0 ∷ []) ∷ rule 2 f (1 ∷ 1 ∷ []) ∷ [])) Same U → ⊥
+not_upward_beside : (U : ℕ → ℕ → Type 0) → U 0 1
+    → IsUpward (automaton 3 (2 ∷ []) (rule 2 f (0 ∷ 0 ∷ []) ∷ rule 2 f (1 ∷ 1 ∷ []) ∷ [])) Same U → ⊥
 not_upward_beside U u h = no (h.1 (rule 2 f (0 ∷ 0 ∷ [])) 0 0 1 (inl refl) refl u)
   where
-    no : (s : Rule) × IsIn s (rule 2 f (0 ∷ 0 ∷ []) ∷ rule 2 f (1 ∷ 1 ∷ []) ∷ []) × (s.symbol ≡ f) × PairedBut Same 0 0 1 (0 ∷ 0 ∷ []) s.children × U 2 s.state → ⊥
-    no (s, inl d, y, b, k) = let c = (subst (λ (x : Rule). PairedBut Same 0 0 1 (0 ∷ 0 ∷ []) x.children) d b).1 in omega (arith, c)
-    no (s, inr (inl d), y, b, k) = let c = (subst (λ (x : Rule). PairedBut Same 0 0 1 (0 ∷ 0 ∷ []) x.children) d b).2.0 in omega (arith, c)
+    no : (s : Rule) × IsIn s (rule 2 f (0 ∷ 0 ∷ []) ∷ rule 2 f (1 ∷ 1 ∷ []) ∷ []) × (s.symbol ≡ f)
+        × PairedBut Same 0 0 1 (0 ∷ 0 ∷ []) s.children × U 2 s.state → ⊥
+    no (s, inl d, y, b, k) = let c = (subst (λ (x : Rule). PairedBut Same 0 0 1 (0 ∷ 0 ∷ []) x.children) d b).1 in
+        omega (arith, c)
+    no (s, inr (inl d), y, b, k) =
+        let c = (subst (λ (x : Rule). PairedBut Same 0 0 1 (0 ∷ 0 ∷ []) x.children) d b).2.0 in omega (arith, c)
     no (s, inr (inr j), y, b, k) = absurd j
 
 -- 3 = n(0) is needless beside 3 = n(1), and not the other way; nor is a rule beside one of another state or symbol
@@ -193,7 +234,11 @@ needless : IsNeedless steps 5 4
 needless = (rule 3 n (0 ∷ []), rule 3 n (1 ∷ []), refl, refl, refl, refl, (simulated_0, tt))
 
 not_needless : IsNeedless steps 4 5 → ⊥
-not_needless (r, s, e, d, q, y, k) = not_simulated_1 (subst (λ (x : Rule). Paired (IsSimulated steps) (1 ∷ []) x.children) (sym (same_Some (rule 3 n (0 ∷ [])) s d)) (subst (λ (x : Rule). Paired (IsSimulated steps) x.children s.children) (sym (same_Some (rule 3 n (1 ∷ [])) r e)) k)).0
+not_needless (r, s, e, d, q, y, k) =
+    not_simulated_1
+    (subst (λ (x : Rule). Paired (IsSimulated steps) (1 ∷ []) x.children) (sym (same_Some (rule 3 n (0 ∷ [])) s d))
+    (subst (λ (x : Rule). Paired (IsSimulated steps) x.children s.children) (sym (same_Some (rule 3 n (1 ∷ [])) r e))
+    k)).0
 
 not_needless_elsewhere : IsNeedless steps 3 4 → ⊥
 not_needless_elsewhere (r, s, e, d, q, y, k) =
@@ -211,7 +256,14 @@ not_needless_otherwise (r, s, e, d, q, y, k) =
 -- one state with one leaf is reduced
 reduced : AutoReduced (automaton 1 (0 ∷ []) (rule 0 Null [] ∷ []))
 reduced = record {
-  trim = λ q l. (0, null, inl refl, at_top (omega (arith, l)) (run_tree (rule 0 Null [] ∷ []) (rule 0 Null []) [] (inl refl) run_none));
+  trim =
+      λ q l. (
+        0,
+        null,
+        inl refl,
+        at_top (omega (arith, l))
+            (run_tree (rule 0 Null [] ∷ []) (rule 0 Null []) [] (inl refl) run_none),
+      );
   apart = λ p q l k s t. omega (arith, l, k);
   needed = λ i j h. first i h.0 h.2 ∙ sym (first j h.1 h.3);
 }
@@ -233,4 +285,5 @@ not_reduced_twins h =
     omega (arith, e)
 
 not_reduced_doubled : AutoReduced (automaton 1 (0 ∷ []) (rule 0 Null [] ∷ rule 0 Null [] ∷ [])) → ⊥
-not_reduced_doubled h = let e = h.needed 0 1 (rule 0 Null [], rule 0 Null [], refl, refl, refl, refl, tt) in omega (arith, e)
+not_reduced_doubled h = let e = h.needed 0 1 (rule 0 Null [], rule 0 Null [], refl, refl, refl, refl, tt) in
+    omega (arith, e)

@@ -1,5 +1,7 @@
 -- Sizes are those of trees, and no tree is smaller.
-use Rattle.std.proofs.Common.{◌≡◌, ◌⊎◌, inl, inr, ℕ, zero, suc, ◌<◌, ◌≤◌, ◌+◌, ◌^◌, Bool, true, false, true≢false, nat_lt, cond, List, [], ◌∷◌, ◌++◌, length, map, set, replicate, Option, Some, None, refl, sym, ap, subst, ◌∙◌, arith, length-set}
+use Rattle.std.proofs.Common.{◌≡◌, ◌⊎◌, inl, inr, ℕ, zero, suc, ◌<◌, ◌≤◌, ◌+◌, ◌^◌, Bool, true, false, true≢false}
+use Rattle.std.proofs.Common.{nat_lt, cond, List, [], ◌∷◌, ◌++◌, length, map, set, replicate, Option, Some, None, refl}
+use Rattle.std.proofs.Common.{sym, ap, subst, ◌∙◌, arith, length-set}
 use Rattle.std.proofs.lemmas.Bool.{ltb-true, lt-ltb, ltb-false}
 use Rattle.std.specs.Bool.{MatchBool}
 use Rattle.std.specs.Option.{IsSome}
@@ -8,7 +10,8 @@ use Rattle.ta_core.specs.declared.auto.Rule.{Rule}
 use Rattle.ta_core.specs.declared.symbol.Symbol.{Symbol}
 use Rattle.ta_core.specs.declared.tree.Tree.{Tree, out-Tree, fold-roll-Tree, fold_out-Tree}
 use Rattle.ta_core.specs.Language.{RunOf, run, RunEach, run_none, run_more, nodes, nodes_step}
-use Rattle.ta_core.specs.inner.Sizes.{size_at, capped, plus, total, rule_size, is_less, IsSettled, HasTreeOf, AreReal, Improves, size_sum, IsLeastRule, number, sum_at}
+use Rattle.ta_core.specs.inner.Sizes.{size_at, capped, plus, total, rule_size, is_less, IsSettled, HasTreeOf, AreReal}
+use Rattle.ta_core.specs.inner.Sizes.{Improves, size_sum, IsLeastRule, number, sum_at}
 use Rattle.fore_base.proofs.ListLemmas.{every_in, every_push}
 use Rattle.ta_core.proofs.Runs.{tree_of, run_tree}
 
@@ -30,13 +33,15 @@ total_none : (sizes : List (Option ℕ)) (qs : List ℕ) → total sizes None qs
 total_none sizes [] = refl
 total_none sizes (q ∷ qs) = total_none sizes qs
 
-pub total_sum : (sizes : List (Option ℕ)) (qs : List ℕ) (n a : ℕ) → Sums sizes qs n → a + n < 2 ^ 64 → total sizes (Some a) qs ≡ Some (a + n)
+pub total_sum : (sizes : List (Option ℕ)) (qs : List ℕ) (n a : ℕ) → Sums sizes qs n → a + n < 2 ^ 64
+    → total sizes (Some a) qs ≡ Some (a + n)
 total_sum sizes [] n a h l = ap Some (omega (arith, h))
 total_sum sizes (q ∷ qs) n a (b, m, e, r, d) l =
     let c = capped_some (a + b) (omega (arith, d, l)) in
     let t = total_sum sizes qs m (a + b) r (omega (arith, d, l)) in
     let s : (a + b) + m ≡ a + n = omega (arith, d) in
-    ap (λ (o : Option ℕ). total sizes (plus (Some a) o) qs) e ∙ ap (λ (o : Option ℕ). total sizes o qs) c ∙ t ∙ ap Some s
+    ap (λ (o : Option ℕ). total sizes (plus (Some a) o) qs) e ∙ ap (λ (o : Option ℕ). total sizes o qs) c ∙ t
+    ∙ ap Some s
 
 pub none_some : {X : Type 0} (x : X) → None ≡ Some x → ⊥
 none_some x h = cc
@@ -46,15 +51,22 @@ some_same m n h = cc
 
 module _ (sizes : List (Option ℕ)) where
   -- a total is a sum of sizes, and 64 bits count it
-  pub sum_total : (qs : List ℕ) (n a : ℕ) → a < 2 ^ 64 → total sizes (Some a) qs ≡ Some n → (m : ℕ) × Sums sizes qs m × (n ≡ a + m) × (n < 2 ^ 64)
+  pub sum_total : (qs : List ℕ) (n a : ℕ) → a < 2 ^ 64 → total sizes (Some a) qs ≡ Some n → (m : ℕ) × Sums sizes qs m
+      × (n ≡ a + m) × (n < 2 ^ 64)
   sum_total [] n a l h = let e = some_same a n h in (0, refl, omega (arith, e), omega (arith, e))
   sum_total (q ∷ qs) n a l h = there (size_at sizes q) refl h (sum_total qs n)
     where
-      fits : (b : ℕ) → size_at sizes q ≡ Some b → (c : Bool) → nat_lt (a + b) (2 ^ 64) ≡ c → total sizes (cond c (Some (a + b)) None) qs ≡ Some n → ((x : ℕ) → x < 2 ^ 64 → total sizes (Some x) qs ≡ Some n → (m : ℕ) × Sums sizes qs m × (n ≡ x + m) × (n < 2 ^ 64)) → (m : ℕ) × Sums sizes (q ∷ qs) m × (n ≡ a + m) × (n < 2 ^ 64)
-      fits b e true c g k = let w = k (a + b) (ltb-true (a + b) (2 ^ 64) c) g in let d = w.2 in (b + w.0, (b, w.0, e, w.1, refl), omega (arith, d), w.3)
+      fits : (b : ℕ) → size_at sizes q ≡ Some b → (c : Bool) → nat_lt (a + b) (2 ^ 64) ≡ c
+          → total sizes (cond c (Some (a + b)) None) qs ≡ Some n
+          → ((x : ℕ) → x < 2 ^ 64 → total sizes (Some x) qs ≡ Some n → (m : ℕ) × Sums sizes qs m × (n ≡ x + m)
+          × (n < 2 ^ 64)) → (m : ℕ) × Sums sizes (q ∷ qs) m × (n ≡ a + m) × (n < 2 ^ 64)
+      fits b e true c g k = let w = k (a + b) (ltb-true (a + b) (2 ^ 64) c) g in let d = w.2 in
+          (b + w.0, (b, w.0, e, w.1, refl), omega (arith, d), w.3)
       fits b e false c g k = absurd (none_some n (sym (total_none sizes qs) ∙ g))
 
-      there : (o : Option ℕ) → size_at sizes q ≡ o → total sizes (plus (Some a) o) qs ≡ Some n → ((x : ℕ) → x < 2 ^ 64 → total sizes (Some x) qs ≡ Some n → (m : ℕ) × Sums sizes qs m × (n ≡ x + m) × (n < 2 ^ 64)) → (m : ℕ) × Sums sizes (q ∷ qs) m × (n ≡ a + m) × (n < 2 ^ 64)
+      there : (o : Option ℕ) → size_at sizes q ≡ o → total sizes (plus (Some a) o) qs ≡ Some n
+          → ((x : ℕ) → x < 2 ^ 64 → total sizes (Some x) qs ≡ Some n → (m : ℕ) × Sums sizes qs m × (n ≡ x + m)
+          × (n < 2 ^ 64)) → (m : ℕ) × Sums sizes (q ∷ qs) m × (n ≡ a + m) × (n < 2 ^ 64)
       there None e g k = absurd (none_some n (sym (total_none sizes qs) ∙ g))
       there (Some b) e g k = fits b e (nat_lt (a + b) (2 ^ 64)) refl g k
 
@@ -64,7 +76,8 @@ module _ (sizes : List (Option ℕ)) where
 
   pub sums_there : (qs : List ℕ) (n : ℕ) → Sums sizes qs n → Every (λ q. IsSome (size_at sizes q)) qs
   sums_there [] n h = tt
-  sums_there (q ∷ qs) n (a, m, e, r, d) = (let P : Option ℕ → Type 0 = λ o. IsSome o in subst P (sym e) refl, sums_there qs m r)
+  sums_there (q ∷ qs) n (a, m, e, r, d) =
+      (let P : Option ℕ → Type 0 = λ o. IsSome o in subst P (sym e) refl, sums_there qs m r)
 
   pub sum_at_in : (qs : List ℕ) (q : ℕ) → IsIn q qs → number (size_at sizes q) ≤ sum_at sizes qs
   sum_at_in (p ∷ qs) q (inl e) = let f = ap (λ (x : ℕ). number (size_at sizes x)) e in omega (arith, f)
@@ -72,7 +85,8 @@ module _ (sizes : List (Option ℕ)) where
   sum_at_in [] q i = absurd i
 
 module _ (rules : List Rule) (sizes : List (Option ℕ)) where
-  each_real : AreReal rules sizes → (qs : List ℕ) (n : ℕ) → Sums sizes qs n → (ts : List Tree) × RunEach rules qs ts × (sum_of (map nodes ts) ≡ n)
+  each_real : AreReal rules sizes → (qs : List ℕ) (n : ℕ) → Sums sizes qs n → (ts : List Tree) × RunEach rules qs ts
+      × (sum_of (map nodes ts) ≡ n)
   each_real real [] n h = ([], run_none, sym h)
   each_real real (q ∷ qs) n (a, m, e, r, d) =
       let t = real q a e in
@@ -81,7 +95,8 @@ module _ (rules : List Rule) (sizes : List (Option ℕ)) where
       (t.0 ∷ ts.0, run_more t.1 ts.1, omega (arith, x, y, d))
 
   -- a rule's size is that of some tree
-  pub rule_real : AreReal rules sizes → (r : Rule) (s : ℕ) → IsIn r rules → rule_size sizes r ≡ Some s → HasTreeOf rules r.state s
+  pub rule_real : AreReal rules sizes → (r : Rule) (s : ℕ) → IsIn r rules → rule_size sizes r ≡ Some s
+      → HasTreeOf rules r.state s
   rule_real real r s i h =
       let w = sum_total sizes r.children s 1 (omega arith) h in
       let ts = each_real real r.children w.0 w.1 in
@@ -89,14 +104,16 @@ module _ (rules : List Rule) (sizes : List (Option ℕ)) where
       (tree_of r.symbol ts.0, run_tree rules r ts.0 i ts.1, omega (arith, x, y, z), w.3)
 
 -- what a table says after a write
-size_new : (sizes : List (Option ℕ)) (i q : ℕ) (o : Option ℕ) → ((q ≡ i) × (size_at (set sizes i o) q ≡ o)) ⊎ (size_at (set sizes i o) q ≡ size_at sizes q)
+size_new : (sizes : List (Option ℕ)) (i q : ℕ) (o : Option ℕ) → ((q ≡ i) × (size_at (set sizes i o) q ≡ o))
+    ⊎ (size_at (set sizes i o) q ≡ size_at sizes q)
 size_new [] i q o = inr refl
 size_new (x ∷ xs) zero zero o = inl (refl, refl)
 size_new (x ∷ xs) zero (suc q) o = inr refl
 size_new (x ∷ xs) (suc i) zero o = inr refl
 size_new (x ∷ xs) (suc i) (suc q) o = elim (size_new xs i q o) [ inl h ↦ inl (ap suc h.0, h.1) | inr h ↦ inr h ]
 
-pub real_set : (rules : List Rule) (sizes : List (Option ℕ)) (r : Rule) → IsIn r rules → AreReal rules sizes → AreReal rules (set sizes r.state (rule_size sizes r))
+pub real_set : (rules : List Rule) (sizes : List (Option ℕ)) (r : Rule) → IsIn r rules → AreReal rules sizes
+    → AreReal rules (set sizes r.state (rule_size sizes r))
 real_set rules sizes r i real q s h = elim (size_new sizes r.state q (rule_size sizes r)) [
   | inl n ↦ subst (λ (p : ℕ). HasTreeOf rules p s) (sym n.0) (rule_real rules sizes real r s i (sym n.1 ∙ h))
   | inr o ↦ real q s (sym o ∙ h)
@@ -115,7 +132,8 @@ pub less_some : (o p : Option ℕ) → is_less o p ≡ true → (s : ℕ) × (o 
 less_some None p h = absurd (true≢false (sym h))
 less_some (Some s) p h = (s, refl)
 
-size_sum_falls : (sizes : List (Option ℕ)) (i s : ℕ) → i < length sizes → s < 2 ^ 64 → is_less (Some s) (size_at sizes i) ≡ true → size_sum (set sizes i (Some s)) < size_sum sizes
+size_sum_falls : (sizes : List (Option ℕ)) (i s : ℕ) → i < length sizes → s < 2 ^ 64
+    → is_less (Some s) (size_at sizes i) ≡ true → size_sum (set sizes i (Some s)) < size_sum sizes
 size_sum_falls [] i s l k h = absurd (omega arith)
 size_sum_falls (None ∷ xs) zero s l k h = omega (arith, k)
 size_sum_falls (Some o ∷ xs) zero s l k h = let m = ltb-true s o h in omega (arith, m)
@@ -124,26 +142,38 @@ size_sum_falls (Some o ∷ xs) (suc i) s l k h = let w = size_sum_falls xs i s (
 
 module _ (rules : List Rule) (r : Rule) (start now new : List (Option ℕ)) where
   -- the rule at hand gives a smaller size
-  pub rule_betters : (was : Bool) (done : List Rule) → IsIn r rules → r.state < length now → MatchBool was (size_sum now < size_sum start) ((now ≡ start) × Every (IsSettled start) done) → Improves r now new true → (length new ≡ length now) × (AreReal rules now → AreReal rules new) × (size_sum new < size_sum start)
+  pub rule_betters : (was : Bool) (done : List Rule) → IsIn r rules → r.state < length now
+      → MatchBool was (size_sum now < size_sum start) ((now ≡ start) × Every (IsSettled start) done)
+      → Improves r now new true → (length new ≡ length now) × (AreReal rules now → AreReal rules new)
+      × (size_sum new < size_sum start)
   rule_betters was done i low before better = (
     ap length better.1 ∙ length-set now r.state (rule_size now r),
     λ real. subst (AreReal rules) (sym better.1) (real_set rules now r i real),
     (let o = less_some (rule_size now r) (size_at now r.state) better.0 in
         let w = sum_total now r.children o.0 1 (omega arith) o.1 in
-        let f = size_sum_falls now r.state o.0 low w.3 (subst (λ (x : Option ℕ). is_less x (size_at now r.state) ≡ true) o.1 better.0) in
+        let f = size_sum_falls now r.state o.0 low w.3
+        (subst (λ (x : Option ℕ). is_less x (size_at now r.state) ≡ true) o.1 better.0) in
         let e = ap size_sum (better.1 ∙ ap (λ (x : Option ℕ). set now r.state x) o.1) in
         let l = under was before in
         omega (arith, f, e, l)),
   )
     where
-      under : (was : Bool) → MatchBool was (size_sum now < size_sum start) ((now ≡ start) × Every (IsSettled start) done) → size_sum now ≤ size_sum start
+      under : (was : Bool) → MatchBool was (size_sum now < size_sum start)
+          ((now ≡ start) × Every (IsSettled start) done) → size_sum now ≤ size_sum start
       under true h = omega arith
       under false h = let e = ap size_sum h.0 in omega (arith, e)
 
   -- it gives none
-  pub rule_keeps : (was : Bool) (done : List Rule) → MatchBool was (size_sum now < size_sum start) ((now ≡ start) × Every (IsSettled start) done) → Improves r now new false → MatchBool was (size_sum new < size_sum start) ((new ≡ start) × Every (IsSettled start) (done ++ r ∷ []))
+  pub rule_keeps : (was : Bool) (done : List Rule)
+      → MatchBool was (size_sum now < size_sum start) ((now ≡ start) × Every (IsSettled start) done)
+      → Improves r now new false
+      → MatchBool was (size_sum new < size_sum start) ((new ≡ start) × Every (IsSettled start) (done ++ r ∷ []))
   rule_keeps true done before kept = subst (λ (m : List (Option ℕ)). size_sum m < size_sum start) (sym kept.0) before
-  rule_keeps false done before kept = (kept.0 ∙ before.0, every_push (IsSettled start) done r before.1 (subst (λ (m : List (Option ℕ)). IsSettled m r) before.0 kept.1))
+  rule_keeps false done before kept = (
+    kept.0 ∙ before.0,
+    every_push (IsSettled start) done r before.1
+        (subst (λ (m : List (Option ℕ)). IsSettled m r) before.0 kept.1),
+  )
 
 at_most : (m : ℕ) (o : Option ℕ) → is_less (Some m) o ≡ false → (s : ℕ) × (o ≡ Some s) × (s ≤ m)
 at_most m None h = absurd (true≢false h)
@@ -152,19 +182,22 @@ at_most m (Some s) h = (s, refl, ltb-false m s h)
 module _ (rules : List Rule) (sizes : List (Option ℕ)) (settled : Every (IsSettled sizes) rules) where
   mutual
     -- a tree that 64 bits count has no fewer nodes than the table says
-    pub lower : {q : ℕ} {t : Tree} → RunOf rules q t → nodes t < 2 ^ 64 → (s : ℕ) × (size_at sizes q ≡ Some s) × (s ≤ nodes t)
+    pub lower : {q : ℕ} {t : Tree} → RunOf rules q t → nodes t < 2 ^ 64 → (s : ℕ) × (size_at sizes q ≡ Some s)
+        × (s ≤ nodes t)
     lower {q} {t} (run r i e y k) l =
         let d = nodes_out t in
         let w = lower_each k (omega (arith, d, l)) in
         let b = w.2 in
         let z = total_sum sizes r.children w.0 1 w.1 (omega (arith, d, l, b)) in
         let f = every_in (IsSettled sizes) rules r settled i in
-        let g : is_less (Some (1 + w.0)) (size_at sizes r.state) ≡ false = subst (λ (o : Option ℕ). is_less o (size_at sizes r.state) ≡ false) z f in
+        let g : is_less (Some (1 + w.0)) (size_at sizes r.state) ≡ false =
+        subst (λ (o : Option ℕ). is_less o (size_at sizes r.state) ≡ false) z f in
         let m = at_most (1 + w.0) (size_at sizes r.state) g in
         let c = m.2 in
         (m.0, ap (size_at sizes) (sym e) ∙ m.1, omega (arith, b, c, d))
 
-    lower_each : {qs : List ℕ} {ts : List Tree} → RunEach rules qs ts → sum_of (map nodes ts) < 2 ^ 64 → (n : ℕ) × Sums sizes qs n × (n ≤ sum_of (map nodes ts))
+    lower_each : {qs : List ℕ} {ts : List Tree} → RunEach rules qs ts → sum_of (map nodes ts) < 2 ^ 64 → (n : ℕ)
+        × Sums sizes qs n × (n ≤ sum_of (map nodes ts))
     lower_each run_none l = (0, refl, omega arith)
     lower_each (run_more {t = t} {ts = ts} r rs) l =
         let a = lower r (omega arith) in
@@ -173,17 +206,20 @@ module _ (rules : List Rule) (sizes : List (Option ℕ)) (settled : Every (IsSet
         (a.0 + w.0, (a.0, w.0, a.1, w.1, refl), omega (arith, b, c))
 
   -- some rule gives the size
-  pub has_rule : AreReal rules sizes → (q s : ℕ) → size_at sizes q ≡ Some s → (r : Rule) × IsIn r rules × IsLeastRule sizes q r
+  pub has_rule : AreReal rules sizes → (q s : ℕ) → size_at sizes q ≡ Some s → (r : Rule) × IsIn r rules
+      × IsLeastRule sizes q r
   has_rule real q s h = let t = real q s h in there t.0 t.1 t.2 t.3
     where
-      there : (t : Tree) → RunOf rules q t → nodes t ≡ s → s < 2 ^ 64 → (r : Rule) × IsIn r rules × IsLeastRule sizes q r
+      there : (t : Tree) → RunOf rules q t → nodes t ≡ s → s < 2 ^ 64 → (r : Rule) × IsIn r rules
+          × IsLeastRule sizes q r
       there t (run r i e y k) n l =
           let d = nodes_out t in
           let w = lower_each k (omega (arith, d, n, l)) in
           let b = w.2 in
           let z = total_sum sizes r.children w.0 1 w.1 (omega (arith, d, n, l, b)) in
           let f = every_in (IsSettled sizes) rules r settled i in
-          let g : is_less (Some (1 + w.0)) (size_at sizes r.state) ≡ false = subst (λ (o : Option ℕ). is_less o (size_at sizes r.state) ≡ false) z f in
+          let g : is_less (Some (1 + w.0)) (size_at sizes r.state) ≡ false =
+          subst (λ (o : Option ℕ). is_less o (size_at sizes r.state) ≡ false) z f in
           let m = at_most (1 + w.0) (size_at sizes r.state) g in
           let c = m.2 in
           let x : m.0 ≡ s = some_same m.0 s (sym m.1 ∙ ap (size_at sizes) e ∙ h) in

@@ -1,5 +1,7 @@
--- Worked values of what automata keep of the trees of each state, and of the states to which a symbol leads, each made by hand.
-use Rattle.std.proofs.Common.{◌≡◌, inl, inr, ℕ, zero, suc, true, false, true≢false, List, [], ◌∷◌, refl, sym, ap, subst, ◌∙◌, arith}
+-- Worked values of what automata keep of the trees of each state, and of the states to which a symbol leads, each made
+-- by hand.
+use Rattle.std.proofs.Common.{◌≡◌, inl, inr, ℕ, zero, suc, true, false, true≢false, List, [], ◌∷◌, refl, sym, ap, subst}
+use Rattle.std.proofs.Common.{◌∙◌, arith}
 use Rattle.fore_base.specs.Lists.{IsIn, Paired}
 use Rattle.fore_base.specs.Marks.{IsMarked, marked_each}
 use Rattle.ta_core.specs.declared.auto.Rule.{Rule}
@@ -29,7 +31,8 @@ null_of_two q r = no (top Null [] r)
   where
     no : (r : Rule) × IsIn r two.rules × (r.state ≡ q) × (r.symbol ≡ Null) × RunEach two.rules r.children [] → q ≡ 0
     no (r, inl d, e, y, k) = sym e ∙ ap (λ (x : Rule). x.state) d
-    no (r, inr (inl d), e, y, k) = let c = ap kind (sym (ap (λ (x : Rule). x.symbol) d) ∙ y) in absurd (omega (arith, c))
+    no (r, inr (inl d), e, y, k) = let c = ap kind (sym (ap (λ (x : Rule). x.symbol) d) ∙ y) in
+        absurd (omega (arith, c))
     no (r, inr (inr j), e, y, k) = absurd j
 
 uninit_of_two : (q : ℕ) → RunOf two.rules q uninit → q ≡ 1
@@ -74,8 +77,10 @@ second_uninit = run_tree second.rules (rule 0 Uninit []) [] (inl refl) run_none
 -- state 0 of second has the trees of state 1 of two; state 0 of joined has those of no state of two
 same_trees : SameTrees two 1 second 0
 same_trees t = (
-  λ r. along second.rules two.rules (λ (p q : ℕ). q ≡ 1) (λ r q ts i e k. (rule 1 Uninit [], inr (inl refl), sym e, symbol_there r i, none_there r i)) 1 refl r,
-  λ r. along two.rules second.rules (λ (p q : ℕ). (p ≡ 1) × (q ≡ 0)) (λ r q ts i e k. (rule 0 Uninit [], inl refl, sym e.1, symbol_here r i e.0, none_here r i)) 0 (refl, refl) r,
+  λ r. along second.rules two.rules (λ (p q : ℕ). q ≡ 1)
+      (λ r q ts i e k. (rule 1 Uninit [], inr (inl refl), sym e, symbol_there r i, none_there r i)) 1 refl r,
+  λ r. along two.rules second.rules (λ (p q : ℕ). (p ≡ 1) × (q ≡ 0))
+      (λ r q ts i e k. (rule 0 Uninit [], inl refl, sym e.1, symbol_here r i e.0, none_here r i)) 0 (refl, refl) r,
 )
   where
     symbol_there : (r : Rule) → IsIn r second.rules → Uninit ≡ r.symbol
@@ -97,7 +102,8 @@ same_trees t = (
     none_here r (inr (inr j)) = absurd j
 
 kept : KeepsStates two second
-kept p l = (1, omega arith, subst (λ (x : ℕ). SameTrees two 1 second x) (let e : 0 ≡ p = omega (arith, l) in e) same_trees)
+kept p l =
+    (1, omega arith, subst (λ (x : ℕ). SameTrees two 1 second x) (let e : 0 ≡ p = omega (arith, l) in e) same_trees)
 
 not_kept : KeepsStates two joined → ⊥
 not_kept h =
@@ -144,12 +150,16 @@ not_turned (sub_skip s) = no s
     no (sub_skip s) = elim s [ ]
     no (sub_keep s) = elim s [ ]
 
--- second stands for two with root 1 alone, whose state 0 takes no part; with root 0 it does not, since Null is a tree then
+-- second stands for two with root 1 alone, whose state 0 takes no part; with root 0 it does not, since Null is a tree
+-- then
 stands_for : StandsFor (automaton 2 (1 ∷ []) two.rules) second
 stands_for = record {
   of = λ q. 1;
   apart = λ p q l k e. omega (arith, l, k);
-  runs = λ q t l. subst (λ (x : ℕ). (RunOf second.rules x t → RunOf two.rules 1 t) × (RunOf two.rules 1 t → RunOf second.rules x t)) (let e : 0 ≡ q = omega (arith, l) in e) (same_trees t);
+  runs =
+      λ q t l.
+      subst (λ (x : ℕ). (RunOf second.rules x t → RunOf two.rules 1 t) × (RunOf two.rules 1 t → RunOf second.rules x t))
+      (let e : 0 ≡ q = omega (arith, l) in e) (same_trees t);
   rules = sub_skip (sub_keep sub_none);
   roots = sub_keep sub_none;
   whole = λ q i h. elim i [ inl e ↦ (0, inl refl, sym e) | inr j ↦ absurd j ];
@@ -164,7 +174,10 @@ not_stands_for : StandsFor two second → ⊥
 not_stands_for s = no (s.whole 0 (inl refl) (null, null_0))
   where
     no : (p : ℕ) × IsIn p (0 ∷ []) × (s.of p ≡ 0) → ⊥
-    no (p, inl e, o) = let k = uninit_of_two (s.of p) ((s.runs p uninit (omega (arith, e))).0 (subst (λ (x : ℕ). RunOf second.rules x uninit) (sym e) second_uninit)) in omega (arith, o, k)
+    no (p, inl e, o) =
+        let k = uninit_of_two (s.of p)
+        ((s.runs p uninit (omega (arith, e))).0 (subst (λ (x : ℕ). RunOf second.rules x uninit) (sym e) second_uninit))
+        in omega (arith, o, k)
     no (p, inr j, o) = absurd j
 
 -- from the set of 0 alone a list cell leads to 2 in 1 = n(1), 2 = n(0), and not to 1; from no set at all nowhere
@@ -175,16 +188,20 @@ leads : Tops cells n ((true ∷ false ∷ []) ∷ []) 2
 leads = (rule 2 n (0 ∷ []), inr (inl refl), refl, (refl, refl))
 
 leads_not : Tops cells n ((true ∷ false ∷ []) ∷ []) 1 → ⊥
-leads_not (r, inl d, e, (y, m)) = let c = sym (ap (λ (x : Rule). marked_each x.children ((true ∷ false ∷ []) ∷ [])) d) ∙ m in true≢false (sym c)
+leads_not (r, inl d, e, (y, m)) =
+    let c = sym (ap (λ (x : Rule). marked_each x.children ((true ∷ false ∷ []) ∷ [])) d) ∙ m in true≢false (sym c)
 leads_not (r, inr (inl d), e, (y, m)) = let c = ap (λ (x : Rule). x.state) d in omega (arith, c, e)
 leads_not (r, inr (inr j), e, (y, m)) = absurd j
 
 leads_nowhere : Tops cells n [] 2 → ⊥
 leads_nowhere (r, inl d, e, (y, m)) = let c = ap (λ (x : Rule). x.state) d in omega (arith, c, e)
-leads_nowhere (r, inr (inl d), e, (y, m)) = let c = sym (ap (λ (x : Rule). marked_each x.children []) d) ∙ m in true≢false (sym c)
+leads_nowhere (r, inr (inl d), e, (y, m)) = let c = sym (ap (λ (x : Rule). marked_each x.children []) d) ∙ m in
+    true≢false (sym c)
 leads_nowhere (r, inr (inr j), e, (y, m)) = absurd j
 
 leads_by_no_other_symbol : Tops cells Null ((true ∷ false ∷ []) ∷ []) 2 → ⊥
-leads_by_no_other_symbol (r, inl d, e, (y, m)) = let c = ap kind (sym (ap (λ (x : Rule). x.symbol) d) ∙ y) in omega (arith, c)
-leads_by_no_other_symbol (r, inr (inl d), e, (y, m)) = let c = ap kind (sym (ap (λ (x : Rule). x.symbol) d) ∙ y) in omega (arith, c)
+leads_by_no_other_symbol (r, inl d, e, (y, m)) = let c = ap kind (sym (ap (λ (x : Rule). x.symbol) d) ∙ y) in
+    omega (arith, c)
+leads_by_no_other_symbol (r, inr (inl d), e, (y, m)) = let c = ap kind (sym (ap (λ (x : Rule). x.symbol) d) ∙ y) in
+    omega (arith, c)
 leads_by_no_other_symbol (r, inr (inr j), e, (y, m)) = absurd j

@@ -38,22 +38,38 @@ a_union t = (split, join)
     bare rules others [] k = run_none
     bare rules others (t ∷ ts) k = elim k [ ]
 
-    under : (y : Rule) (r : Rule) (others : List Rule) → y.children ≡ [] → r ≡ y → RunEach both.rules r.children (out-Tree t).children → RunEach others y.children (out-Tree t).children
+    under : (y : Rule) (r : Rule) (others : List Rule) → y.children ≡ [] → r ≡ y
+        → RunEach both.rules r.children (out-Tree t).children → RunEach others y.children (out-Tree t).children
     under y r others e d k = rw e (bare both.rules others (out-Tree t).children (rw (d, e) at k))
 
     split : InLanguage both t → InLanguage first t ⊎ InLanguage second t
     split (q, inr j, r) = absurd j
-    split (q, inl e, run r (inl d) s y k) = inl (0, inl refl, run (rule 0 Null []) (inl refl) refl (sym (ap (λ (x : Rule). x.symbol) d) ∙ y) (under (rule 0 Null []) r first.rules refl d k))
-    split (q, inl e, run r (inr (inl d)) s y k) = inr (0, inl refl, run (rule 0 Uninit []) (inl refl) refl (sym (ap (λ (x : Rule). x.symbol) d) ∙ y) (under (rule 0 Uninit []) r second.rules refl d k))
+    split (q, inl e, run r (inl d) s y k) =
+        inl (
+          0,
+          inl refl,
+          run (rule 0 Null []) (inl refl) refl (sym (ap (λ (x : Rule). x.symbol) d) ∙ y)
+              (under (rule 0 Null []) r first.rules refl d k),
+        )
+    split (q, inl e, run r (inr (inl d)) s y k) =
+        inr (
+          0,
+          inl refl,
+          run (rule 0 Uninit []) (inl refl) refl (sym (ap (λ (x : Rule). x.symbol) d) ∙ y)
+              (under (rule 0 Uninit []) r second.rules refl d k),
+        )
     split (q, inl e, run r (inr (inr j)) s y k) = absurd j
 
     join : InLanguage first t ⊎ InLanguage second t → InLanguage both t
-    join (inl (q, i, r)) = (q, i, widened first.rules both.rules (λ (x : Rule) j. elim j [ inl d ↦ inl d | inr k ↦ absurd k ]) r)
-    join (inr (q, i, r)) = (q, i, widened second.rules both.rules (λ (x : Rule) j. elim j [ inl d ↦ inr (inl d) | inr k ↦ absurd k ]) r)
+    join (inl (q, i, r)) =
+        (q, i, widened first.rules both.rules (λ (x : Rule) j. elim j [ inl d ↦ inl d | inr k ↦ absurd k ]) r)
+    join (inr (q, i, r)) =
+        (q, i, widened second.rules both.rules (λ (x : Rule) j. elim j [ inl d ↦ inr (inl d) | inr k ↦ absurd k ]) r)
 
 -- one that lacks trees of the second is no union, nor is one with a tree that neither has
 lacks_trees : IsUnion first second first → ⊥
-lacks_trees h = no_uninit ((h uninit).1 (inr (0, inl refl, run_tree second.rules (rule 0 Uninit []) [] (inl refl) run_none)))
+lacks_trees h = no_uninit
+    ((h uninit).1 (inr (0, inl refl, run_tree second.rules (rule 0 Uninit []) [] (inl refl) run_none)))
 
 has_more_trees : IsUnion first first both → ⊥
 has_more_trees h = elim ((h uninit).0 uninit_of_both) [ inl i ↦ no_uninit i | inr i ↦ no_uninit i ]

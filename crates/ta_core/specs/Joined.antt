@@ -13,11 +13,18 @@ shift n q = q + n
 
 -- n is added to each state
 abbrev pub shifted : ℕ → Automaton → Automaton
-shifted n a = record { states = a.states + n; roots = map (shift n) a.roots; rules = map (renumbered (shift n)) a.rules }
+shifted n a =
+    record { states = a.states + n; roots = map (shift n) a.roots; rules = map (renumbered (shift n)) a.rules }
 
 -- the states of a, and behind them those of b
 abbrev pub united : Automaton → Automaton → Automaton
-united a b = record { states = a.states + b.states; roots = a.roots ++ map (shift a.states) b.roots; rules = a.rules ++ map (renumbered (shift a.states)) b.rules }
+united a b =
+    record {
+      states = a.states + b.states;
+      roots = a.roots ++ map (shift a.states) b.roots;
+      rules = a.rules
+          ++ map (renumbered (shift a.states)) b.rules;
+    }
 
 -- the trees of c are those of a and those of b
 abbrev pub IsUnion : Automaton → Automaton → Automaton → Type 0

@@ -6,14 +6,17 @@ use Rattle.ta_core.specs.declared.auto.Rule.{Rule}
 use Rattle.ta_core.specs.declared.tree.Tree.{Tree, Tree-F, out-Tree, fold-Tree}
 
 mutual
-  -- the tree has a run to state q: some rule has state q and the tree's symbol, and each child has a run to the rule's child in its place
+  -- the tree has a run to state q: some rule has state q and the tree's symbol, and each child has a run to the rule's
+  -- child in its place
   pub data RunOf (rules : List Rule) : ℕ → Tree → Type 0 where
-    run : {q : ℕ} {t : Tree} (r : Rule) → IsIn r rules → r.state ≡ q → r.symbol ≡ (out-Tree t).symbol → RunEach rules r.children (out-Tree t).children → RunOf rules q t
+    run : {q : ℕ} {t : Tree} (r : Rule) → IsIn r rules → r.state ≡ q → r.symbol ≡ (out-Tree t).symbol
+        → RunEach rules r.children (out-Tree t).children → RunOf rules q t
 
   -- the trees are as many as the states, and each has a run to the state in its place
   pub data RunEach (rules : List Rule) : List ℕ → List Tree → Type 0 where
     run_none : RunEach rules [] []
-    run_more : {q : ℕ} {qs : List ℕ} {t : Tree} {ts : List Tree} → RunOf rules q t → RunEach rules qs ts → RunEach rules (q ∷ qs) (t ∷ ts)
+    run_more : {q : ℕ} {qs : List ℕ} {t : Tree} {ts : List Tree} → RunOf rules q t → RunEach rules qs ts
+        → RunEach rules (q ∷ qs) (t ∷ ts)
 
 -- the tree is in the automaton's language: it has a run to a root state
 abbrev pub InLanguage : Automaton → Tree → Type 0
@@ -39,12 +42,15 @@ mutual
   -- some run of the tree to state p has state q at some node
   pub data PassesBy (rules : List Rule) (q : ℕ) : ℕ → Tree → Type 0 where
     at_top : {p : ℕ} {t : Tree} → p ≡ q → RunOf rules p t → PassesBy rules q p t
-    below : {p : ℕ} {t : Tree} (r : Rule) → IsIn r rules → r.state ≡ p → r.symbol ≡ (out-Tree t).symbol → OnePasses rules q r.children (out-Tree t).children → PassesBy rules q p t
+    below : {p : ℕ} {t : Tree} (r : Rule) → IsIn r rules → r.state ≡ p → r.symbol ≡ (out-Tree t).symbol
+        → OnePasses rules q r.children (out-Tree t).children → PassesBy rules q p t
 
   -- each tree has a run to the state in its place, and some run of one of them has state q at some node
   pub data OnePasses (rules : List Rule) (q : ℕ) : List ℕ → List Tree → Type 0 where
-    this_one : {p : ℕ} {ps : List ℕ} {t : Tree} {ts : List Tree} → PassesBy rules q p t → RunEach rules ps ts → OnePasses rules q (p ∷ ps) (t ∷ ts)
-    later_one : {p : ℕ} {ps : List ℕ} {t : Tree} {ts : List Tree} → RunOf rules p t → OnePasses rules q ps ts → OnePasses rules q (p ∷ ps) (t ∷ ts)
+    this_one : {p : ℕ} {ps : List ℕ} {t : Tree} {ts : List Tree} → PassesBy rules q p t → RunEach rules ps ts
+        → OnePasses rules q (p ∷ ps) (t ∷ ts)
+    later_one : {p : ℕ} {ps : List ℕ} {t : Tree} {ts : List Tree} → RunOf rules p t → OnePasses rules q ps ts
+        → OnePasses rules q (p ∷ ps) (t ∷ ts)
 
 -- the state takes part in the run of some tree of the language
 abbrev pub TakesPart : Automaton → ℕ → Type 0

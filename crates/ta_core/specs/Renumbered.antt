@@ -20,7 +20,9 @@ pub data IsSublist {X : Type 0} : List X → List X → Type 0 where
   sub_skip : {y : X} {xs ys : List X} → IsSublist xs ys → IsSublist xs (y ∷ ys)
   sub_keep : {y : X} {xs ys : List X} → IsSublist xs ys → IsSublist (y ∷ xs) (y ∷ ys)
 
--- the states of b stand for different states of a, with the same trees; the rules and root states of b stand for some of a's, in a's order; each root state of a that has a tree is stood for, and each rule that some tree can use of a state that is stood for
+-- the states of b stand for different states of a, with the same trees; the rules and root states of b stand for some
+-- of a's, in a's order; each root state of a that has a tree is stood for, and each rule that some tree can use of a
+-- state that is stood for
 pub record StandsFor (a b : Automaton) : Type 0 where
   pub of : ℕ → ℕ
   pub apart : (p q : ℕ) → p < b.states → q < b.states → of p ≡ of q → p ≡ q
@@ -28,4 +30,5 @@ pub record StandsFor (a b : Automaton) : Type 0 where
   pub rules : IsSublist (map (renumbered of) b.rules) a.rules
   pub roots : IsSublist (map of b.roots) a.roots
   pub whole : (q : ℕ) → IsIn q a.roots → HasTree a.rules q → (p : ℕ) × IsIn p b.roots × (of p ≡ q)
-  pub used : (q : ℕ) (r : Rule) (ts : List Tree) → q < b.states → IsIn r a.rules → r.state ≡ of q → RunEach a.rules r.children ts → IsIn r (map (renumbered of) b.rules)
+  pub used : (q : ℕ) (r : Rule) (ts : List Tree) → q < b.states → IsIn r a.rules → r.state ≡ of q
+      → RunEach a.rules r.children ts → IsIn r (map (renumbered of) b.rules)

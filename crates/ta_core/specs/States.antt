@@ -15,4 +15,5 @@ KeepsStates a b = (p : ℕ) → p < b.states → (q : ℕ) × (q < a.states) × 
 
 -- each root state of b has the trees of one of a, and each root state of a that has a tree those of one of b
 abbrev pub SameRootRuns : Automaton → Automaton → Type 0
-SameRootRuns a b = ((p : ℕ) → IsIn p b.roots → (q : ℕ) × IsIn q a.roots × SameTrees a q b p) × ((q : ℕ) → IsIn q a.roots → HasTree a.rules q → (p : ℕ) × IsIn p b.roots × SameTrees a q b p)
+SameRootRuns a b = ((p : ℕ) → IsIn p b.roots → (q : ℕ) × IsIn q a.roots × SameTrees a q b p)
+    × ((q : ℕ) → IsIn q a.roots → HasTree a.rules q → (p : ℕ) × IsIn p b.roots × SameTrees a q b p)

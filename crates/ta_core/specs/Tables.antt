@@ -10,7 +10,9 @@ use Rattle.ta_core.specs.declared.symbol.Symbol.TheVariants.{Null, Uninit, Dangl
 use Rattle.ta_core.specs.declared.tables.Line.{Line}
 use Rattle.ta_core.specs.declared.tables.Plan.{Plan}
 use Rattle.ta_core.specs.declared.tables.Sign.{Sign}
-use Rattle.ta_core.specs.declared.tables.Sign.TheVariants.{Null as NullSign, Uninit as UninitSign, Dangling as DanglingSign, Ref as RefSign, ListCell, Fork, Datum as DatumSign, Slots}
+use Rattle.ta_core.specs.declared.tables.Sign.TheVariants.{Null as NullSign, Uninit as UninitSign}
+use Rattle.ta_core.specs.declared.tables.Sign.TheVariants.{Dangling as DanglingSign, Ref as RefSign, ListCell, Fork}
+use Rattle.ta_core.specs.declared.tables.Sign.TheVariants.{Datum as DatumSign, Slots}
 
 -- a cell of struct 0 without data
 abbrev pub cell : List Slot → Symbol

@@ -16,7 +16,8 @@ pub struct Rule {
     pub children: List<u32>,
 }
 
-/// A tree automaton. Its states are the numbers below `states`. It keeps that each state in it is one of these, and that each rule has as many children as its symbol has `Field` and `Link` slots, a leaf none.
+/// A tree automaton. Its states are the numbers below `states`. It keeps that each state in it is one of these, and
+/// that each rule has as many children as its symbol has `Field` and `Link` slots, a leaf none.
 #[derive(Debug, Drop)]
 pub struct Auto {
     pub states: u32,
@@ -44,7 +45,8 @@ impl Auto {
         let _states = self.states;
     }
 
-    /// The automaton of these parts. None exactly where a state is not below `states`, or a rule has more or fewer children than its symbol. Takes no memory.
+    /// The automaton of these parts. None exactly where a state is not below `states`, or a rule has more or fewer
+    /// children than its symbol. Takes no memory.
     pub fn from_parts(states: u32, roots: List<u32>, rules: List<Rule>) -> Option<Auto>
         ensures { SomeIff result (IsRanked (automaton states roots rules)) (automaton states roots rules) }
     {

@@ -35,7 +35,8 @@ impl Rounds<List<bool>> for Marking<'_> {
     ghost use Rattle.fore_base.specs.Lists.{Every};
     ghost use Rattle.ta_core.specs.inner.Closing.{AreReached, IsTaken, gaps};
 
-    ghost keeps = { λ m marks. Every (λ s. s.to < m.states) m.arcs.now × (length marks ≡ m.states) × AreReached m.arcs.now marks };
+    ghost keeps = { λ m marks. Every (λ s. s.to < m.states) m.arcs.now × (length marks ≡ m.states)
+        × AreReached m.arcs.now marks };
 
     ghost is_settled = { λ m marks. Every (IsTaken marks) m.arcs.now };
 
@@ -51,7 +52,8 @@ fn take_all(marks: &mut List<bool>, arcs: &[Arc]) -> bool
     requires { Every (λ s. s.to < length marks.old) arcs.now }
     ensures long { length marks.new ≡ length marks.old }
     ensures only { AreReached arcs.now marks.old → AreReached arcs.now marks.new }
-    ensures added { MatchBool result (gaps marks.new < gaps marks.old) ((marks.new ≡ marks.old) × Every (IsTaken marks.old) arcs.now) }
+    ensures added { MatchBool result (gaps marks.new < gaps marks.old)
+        ((marks.new ≡ marks.old) × Every (IsTaken marks.old) arcs.now) }
 {
     let mut added = false;
     for arc in arcs {

@@ -1,4 +1,5 @@
-// Whether two trees are one. The nodes that are still to be compared stand in lists, so that no call goes as deep as the trees.
+// Whether two trees are one. The nodes that are still to be compared stand in lists, so that no call goes as deep as
+// the trees.
 
 ghost use Rattle.std.specs.Prelude.{◌≡◌, ◌↔◌, ◌++◌, map, IsTrue, IfOk, OnOk};
 ghost use Rattle.ta_core.specs.inner.Comparing.{seen, IsSameNode};

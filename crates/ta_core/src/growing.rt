@@ -1,4 +1,5 @@
-// The tree of the size at a state. What is still to be done for it stands in a list, so that no call goes as deep as the tree.
+// The tree of the size at a state. What is still to be done for it stands in a list, so that no call goes as deep as
+// the tree.
 
 ghost use Rattle.std.specs.Prelude.{◌≡◌, ◌++◌, ◌≤◌, length, map, IfOk, IsSome, MatchOption, OnOk, IsTrue, ◌↔◌};
 ghost use Rattle.fore_base.specs.Lists.{IsIn, Every};
@@ -84,7 +85,8 @@ fn close(alloc: Global, rule: &Rule, trees: &mut List<Tree>) -> Mem<()>
 
 /// The first rule that gives a tree of the size at the state.
 fn least_rule<'a>(rules: &'a [Rule], sizes: &[Option<u64>], state: u32) -> Option<&'a Rule>
-    ensures { MatchOption result (Every (λ r. IsLeastRule sizes.now state r → ⊥) rules.entry.now) (λ r. IsIn r.now rules.entry.now × IsLeastRule sizes.now state r.now) }
+    ensures { MatchOption result (Every (λ r. IsLeastRule sizes.now state r → ⊥) rules.entry.now)
+        (λ r. IsIn r.now rules.entry.now × IsLeastRule sizes.now state r.now) }
 {
     for rule in rules {
         if is_least(sizes, state, rule) {

@@ -25,7 +25,8 @@ pub fn room(auto: &Auto, more: u32) -> Mem<u32>
     }
 }
 
-/// The automaton with `by` added to each state. Its states are all below the new number, and those below `by` have no rule.
+/// The automaton with `by` added to each state. Its states are all below the new number, and those below `by` have no
+/// rule.
 ///
 /// # Errors
 ///

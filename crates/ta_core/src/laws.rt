@@ -22,7 +22,8 @@ pub fn union_joins()
 
 /// What has a run has one where there are more rules.
 pub fn runs_grow()
-    ensures { (few many : List Rule) → ((r : Rule) → IsIn r few → IsIn r many) → (q : ℕ) (t : Tree) → RunOf few q t → RunOf many q t }
+    ensures { (few many : List Rule) → ((r : Rule) → IsIn r few → IsIn r many) → (q : ℕ) (t : Tree) → RunOf few q t
+        → RunOf many q t }
 {}
 
 /// The root states of a trimmed automaton have the runs of the root states of the whole one.

@@ -1,10 +1,14 @@
 //! Tree automata over the symbols of cells: their runs and languages, and what is computed of them.
 //!
 //! - `Tree`, `Symbol` and `Slot` are the trees, which can be deeper than calls can go; `Auto` and `Rule` the automata.
-//! - `accepts`, `is_empty`, `smallest_tree` and `top_states` look at languages; `inhabited::inhabited` says which states have trees.
-//! - `trim`, `rename`, `union` and `renumber` make automata; `room` says whether there are numbers left for more states.
-//! - `tables` has automata written as tables; `laws` says what runs keep; `crossing` that all this is shared between threads.
-//! - `rounds` and `results` are for the crates above: rounds until nothing changes, and results that are taken off a list's end.
+//! - `accepts`, `is_empty`, `smallest_tree` and `top_states` look at languages; `inhabited::inhabited` says which
+//! states have trees.
+//! - `trim`, `rename`, `union` and `renumber` make automata; `room` says whether there are numbers left for more
+//! states.
+//! - `tables` has automata written as tables; `laws` says what runs keep; `crossing` that all this is shared between
+//! threads.
+//! - `rounds` and `results` are for the crates above: rounds until nothing changes, and results that are taken off a
+//! list's end.
 #![tactic(auto)]
 
 pub mod accepting;

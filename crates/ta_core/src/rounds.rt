@@ -23,7 +23,9 @@ pub trait Rounds<T> {
     fn round(&self, value: &mut T) -> Mem<bool>
         requires { keeps self.now value.old }
         ensures keeps { OnOk result (keeps self.now value.new) }
-        ensures changes { IfOk result (λ changed. MatchBool changed (left self.now value.new < left self.now value.old) (is_settled self.now value.new)) };
+        ensures changes { IfOk result
+            (λ changed. MatchBool changed (left self.now value.new < left self.now value.old)
+            (is_settled self.now value.new)) };
 }
 
 /// Takes rounds until one changes nothing.

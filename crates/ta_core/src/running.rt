@@ -1,4 +1,5 @@
-// The states to which a tree has a run. What is still to be done for it stands in a list, so that no call goes as deep as the tree.
+// The states to which a tree has a run. What is still to be done for it stands in a list, so that no call goes as deep
+// as the tree.
 
 ghost use Rattle.std.specs.Prelude.{◌≡◌, ◌++◌, ◌∷◌, ◌<◌, ◌≤◌, length, map, IfOk, OnOk};
 ghost use Rattle.fore_base.specs.Lists.{Every};
@@ -44,7 +45,8 @@ pub fn run_states(alloc: Global, rules: &[Rule], states: u32, tree: &Tree) -> Me
 
 /// Asks for the states of the children, and then for those of the tree.
 fn open<'a>(node: &'a Tree, tasks: &mut List<Task<'a>>) -> Mem<()>
-    ensures { OnOk result (map seen tasks.new ≡ map seen tasks.old ++ build node.entry.now ∷ map visit (out-Tree node.entry.now).children) }
+    ensures { OnOk result (map seen tasks.new ≡ map seen tasks.old ++ build node.entry.now
+        ∷ map visit (out-Tree node.entry.now).children) }
 {
     tasks.push(Task::Build(node))?;
     ask(node.children.as_slice(), tasks)
@@ -70,7 +72,8 @@ fn close(
 ) -> Mem<()>
     requires low { Every (λ r. r.state < states) rules.now }
     requires enough { length (out-Tree node.now).children ≤ length sets.old }
-    ensures { OnOk result (Reduces (length (out-Tree node.now).children) (MarksTops rules.now states node.now) sets.old sets.new) }
+    ensures { OnOk result
+        (Reduces (length (out-Tree node.now).children) (MarksTops rules.now states node.now) sets.old sets.new) }
 {
     let parts = last(alloc, sets, node.children.len())?;
     let set = top_states(alloc, rules, states, &node.symbol, &parts)?;

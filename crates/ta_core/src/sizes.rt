@@ -2,7 +2,8 @@
 
 ghost use Rattle.std.specs.Prelude.{◌≡◌, ◌<◌, length, Some, None, replicate, IfOk, MatchBool};
 ghost use Rattle.fore_base.specs.Lists.{Every};
-ghost use Rattle.ta_core.specs.inner.Sizes.{size_at, plus, rule_size, is_less, IsSettled, AreReal, AreLeast, Improves, size_sum};
+ghost use Rattle.ta_core.specs.inner.Sizes.{size_at, plus, rule_size, is_less, IsSettled, AreReal, AreLeast, Improves};
+ghost use Rattle.ta_core.specs.inner.Sizes.{size_sum};
 
 use crate::auto::Rule;
 use crate::rounds::{Rounds, settle};
@@ -33,7 +34,8 @@ impl Rounds<List<Option<u64>>> for Improving<'_> {
     ghost use Rattle.fore_base.specs.Lists.{Every};
     ghost use Rattle.ta_core.specs.inner.Sizes.{AreReal, IsSettled, size_sum};
 
-    ghost keeps = { λ i sizes. Every (λ r. r.state < i.states) i.rules.now × (length sizes ≡ i.states) × AreReal i.rules.now sizes };
+    ghost keeps = { λ i sizes. Every (λ r. r.state < i.states) i.rules.now
+        × (length sizes ≡ i.states) × AreReal i.rules.now sizes };
 
     ghost is_settled = { λ i sizes. Every (IsSettled sizes) i.rules.now };
 
@@ -56,7 +58,8 @@ fn improve_all(sizes: &mut List<Option<u64>>, rules: &[Rule]) -> bool
     requires { Every (λ r. r.state < length sizes.old) rules.now }
     ensures long { length sizes.new ≡ length sizes.old }
     ensures real { AreReal rules.now sizes.old → AreReal rules.now sizes.new }
-    ensures better { MatchBool result (size_sum sizes.new < size_sum sizes.old) ((sizes.new ≡ sizes.old) × Every (IsSettled sizes.old) rules.now) }
+    ensures better { MatchBool result (size_sum sizes.new < size_sum sizes.old)
+        ((sizes.new ≡ sizes.old) × Every (IsSettled sizes.old) rules.now) }
 {
     let mut better = false;
     for rule in rules {

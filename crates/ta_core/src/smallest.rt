@@ -16,7 +16,8 @@ use std::alloc::{AllocError, Global};
 ///
 /// # Errors
 ///
-/// Want of memory. Each tree that has more nodes than 64 bits count is more than memory holds, so this is the answer where there are only such ones.
+/// Want of memory. Each tree that has more nodes than 64 bits count is more than memory holds, so this is the answer
+/// where there are only such ones.
 pub fn smallest_tree(alloc: Global, auto: &Auto) -> Mem<Option<Tree>>
     ensures { IfOk result (λ found. MatchOption found (IsBarren auto.now) (IsSmallest auto.now)) }
 {

@@ -36,7 +36,8 @@ pub struct Line<'a>(pub u32, pub Sign, pub &'a [u32]);
 #[derive(Clone, Copy, Debug)]
 pub struct Plan<'a>(pub u32, pub &'a [u32], pub &'a [Line<'a>]);
 
-/// The automaton of the plan. None exactly where a state is not below the number of states, or a rule has more or fewer children than its symbol.
+/// The automaton of the plan. None exactly where a state is not below the number of states, or a rule has more or fewer
+/// children than its symbol.
 ///
 /// # Errors
 ///

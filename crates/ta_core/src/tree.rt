@@ -14,14 +14,16 @@ use std::mem::replace;
 
 /// A tree of symbols. Nothing keeps the number of children: a tree with another number than its symbol's has no run.
 ///
-/// It can be as deep as memory holds: letting it go takes neither memory nor calls that go as deep as it. So there is no `==`, which could not take the memory that a comparison needs.
+/// It can be as deep as memory holds: letting it go takes neither memory nor calls that go as deep as it. So there is
+/// no `==`, which could not take the memory that a comparison needs.
 pub struct Tree {
     pub symbol: Symbol,
     pub children: List<Tree>,
 }
 
 impl fmt::Debug for Tree {
-    /// Writes the symbol at the top and the number of its children, not the whole tree, which can be deeper than calls can go.
+    /// Writes the symbol at the top and the number of its children, not the whole tree, which can be deeper than calls
+    /// can go.
     fn fmt<W: fmt::Write>(&self, f: &mut fmt::Formatter<W>) -> fmt::Result {
         f.debug_struct("Tree")
             .field("symbol", &self.symbol)
@@ -63,9 +65,11 @@ impl Tree {
         children.into_vec()
     }
 
-    /// Lets go of nodes of the tree, from the top down to a leaf. The result has what is left of it, and the other trees.
+    /// Lets go of nodes of the tree, from the top down to a leaf. The result has what is left of it, and the other
+    /// trees.
     ///
-    /// Where both a node's children and the others are some, the first child's place is taken by a tree over the others, which so come last.
+    /// Where both a node's children and the others are some, the first child's place is taken by a tree over the
+    /// others, which so come last.
     fn let_go_down(mut self, mut others: Vec<Tree>) -> Vec<Tree>
         ensures { toll result.items < toll_with self others.items }
     {

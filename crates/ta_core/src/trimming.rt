@@ -16,7 +16,8 @@ use fore_base::marks::{are_all_marked, is_marked};
 use fore_base::memory::Mem;
 use std::alloc::Global;
 
-/// The automaton with the states alone that take part in the run of some accepted tree, numbered anew in their order, and the rules over these.
+/// The automaton with the states alone that take part in the run of some accepted tree, numbered anew in their order,
+/// and the rules over these.
 ///
 /// # Errors
 ///

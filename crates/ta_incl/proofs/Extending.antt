@@ -1,5 +1,6 @@
 -- The choices of pairs for a rule's children.
-use Rattle.std.proofs.Common.{◌≡◌, inl, inr, ℕ, ◌+◌, ◌<◌, ◌≤◌, true, false, true≢false, List, [], ◌∷◌, ◌++◌, length, slice_get, Some, refl, sym, ap, subst, ◌∙◌, arith}
+use Rattle.std.proofs.Common.{◌≡◌, inl, inr, ℕ, ◌+◌, ◌<◌, ◌≤◌, true, false, true≢false, List, [], ◌∷◌, ◌++◌, length}
+use Rattle.std.proofs.Common.{slice_get, Some, refl, sym, ap, subst, ◌∙◌, arith}
 use Rattle.std.proofs.lemmas.List.{append_assoc, append-nil, length-append, nil_from_length}
 use Rattle.std.proofs.lemmas.Option.{same_Some, slice_get_within, get_or_from_slice_get}
 use Rattle.fore_base.specs.Lists.{Every}
@@ -13,16 +14,21 @@ use Rattle.ta_incl.specs.inner.Founds.{AreAt, HaveStates, IsBegun, are_old, IsCo
 use Rattle.ta_incl.proofs.Covering.{covered_still}
 use Rattle.ta_incl.proofs.Places.{below_more, get_middle, paired_get, places_low}
 
--- what the rule gives over the pairs at the places, then one at a place below n and further ones, each of these with a mark, found covers
+-- what the rule gives over the pairs at the places, then one at a place below n and further ones, each of these with a
+-- mark, found covers
 abbrev pub CoversNext : Automaton → List Found → Recent → List Found → Rule → List ℕ → ℕ → Type 0
-CoversNext b old recent found r places n = (k : ℕ) (rest : List ℕ) (items : List Found) → k < n → AreAt old (places ++ k ∷ rest) items → Every (IsMarked recent.marks) (k ∷ rest) → HaveStates r.children items → are_old recent.start (places ++ k ∷ rest) ≡ false → IsCovered b found r items
+CoversNext b old recent found r places n = (k : ℕ) (rest : List ℕ) (items : List Found) → k < n
+    → AreAt old (places ++ k ∷ rest) items → Every (IsMarked recent.marks) (k ∷ rest) → HaveStates r.children items
+    → are_old recent.start (places ++ k ∷ rest) ≡ false → IsCovered b found r items
 
 module _ (old : List Found) (r : Rule) (places : List ℕ) where
   -- one more place
-  pub begun_more : (k q : ℕ) (x : Found) → IsBegun old r places → slice_get old k ≡ Some x → slice_get r.children (length places) ≡ Some q → x.state ≡ q → IsBegun old r (places ++ k ∷ [])
+  pub begun_more : (k q : ℕ) (x : Found) → IsBegun old r places → slice_get old k ≡ Some x
+      → slice_get r.children (length places) ≡ Some q → x.state ≡ q → IsBegun old r (places ++ k ∷ [])
   begun_more k q x h e at s =
       let l : length (places ++ k ∷ []) ≡ length places + 1 = length-append places (k ∷ []) in
-      let t = take_item r.children (length places) q (slice_get_within r.children (length places) q at) (sym (get_or_from_slice_get r.children (length places) q q at)) in
+      let t = take_item r.children (length places) q (slice_get_within r.children (length places) q at)
+      (sym (get_or_from_slice_get r.children (length places) q q at)) in
       (h.0 ++ x ∷ [], paired_push _ places h.0 k x h.1 e, rw (l, t) (paired_push _ _ h.0 q x h.2 s))
 
   -- the items at the places are as many
@@ -33,9 +39,12 @@ module _ (old : List Found) (r : Rule) (places : List ℕ) where
   states_long items h = paired_long (λ (q : ℕ) (f : Found). f.state ≡ q) r.children items h
 
   -- the pair behind the places has the state of the child in its place
-  next_state : (k q : ℕ) (rest : List ℕ) (items : List Found) (x : Found) → AreAt old (places ++ k ∷ rest) items → HaveStates r.children items → slice_get r.children (length places) ≡ Some q → slice_get old k ≡ Some x → x.state ≡ q
+  next_state : (k q : ℕ) (rest : List ℕ) (items : List Found) (x : Found) → AreAt old (places ++ k ∷ rest) items
+      → HaveStates r.children items → slice_get r.children (length places) ≡ Some q → slice_get old k ≡ Some x
+      → x.state ≡ q
   next_state k q rest items x a h at e =
-      let y = paired_get (λ (i : ℕ) (f : Found). slice_get old i ≡ Some f) (places ++ k ∷ rest) items (length places) k a (get_middle places k rest) in
+      let y = paired_get (λ (i : ℕ) (f : Found). slice_get old i ≡ Some f) (places ++ k ∷ rest) items (length places) k
+      a (get_middle places k rest) in
       let z = paired_get (λ (p : ℕ) (f : Found). f.state ≡ p) r.children items (length places) q h at in
       let s : x ≡ y.0 = same_Some x y.0 (sym e ∙ y.2) in
       let t : y.0 ≡ z.0 = same_Some y.0 z.0 (sym y.1 ∙ z.1) in
@@ -43,47 +52,59 @@ module _ (old : List Found) (r : Rule) (places : List ℕ) where
 
   module _ (b : Automaton) (recent : Recent) where
     -- where each child has its pair, there is no further one
-    none_more : (rest : List ℕ) (items : List Found) → length r.children ≤ length places → AreAt old (places ++ rest) items → HaveStates r.children items → rest ≡ []
+    none_more : (rest : List ℕ) (items : List Found) → length r.children ≤ length places
+        → AreAt old (places ++ rest) items → HaveStates r.children items → rest ≡ []
     none_more rest items l a h =
         let m = items_long (places ++ rest) items a in
         let n = states_long items h in
         let k = length-append places rest in
         nil_from_length rest (omega (arith, l, m, n, k))
 
-    pub covers_full : (found : List Found) → length r.children ≤ length places → CoversAt b old found r places → CoversFrom b old recent found r places
+    pub covers_full : (found : List Found) → length r.children ≤ length places → CoversAt b old found r places
+        → CoversFrom b old recent found r places
     covers_full found l f rest items a m h o =
         let none = none_more rest items l a h in
         f items (rw (none, append-nil places) at a)
 
     -- none of them is of the last round
-    pub covers_old : (found : List Found) → length r.children ≤ length places → are_old recent.start places ≡ true → CoversFrom b old recent found r places
+    pub covers_old : (found : List Found) → length r.children ≤ length places → are_old recent.start places ≡ true
+        → CoversFrom b old recent found r places
     covers_old found l e rest items a m h o =
         let none = none_more rest items l a h in
         absurd (true≢false (sym e ∙ rw (none, append-nil places) at o))
 
     -- each old pair was taken for the next child
-    pub covers_all : (found : List Found) → length places < length r.children → CoversNext b old recent found r places (length old) → CoversFrom b old recent found r places
+    pub covers_all : (found : List Found) → length places < length r.children
+        → CoversNext b old recent found r places (length old) → CoversFrom b old recent found r places
     covers_all found l f [] items a m h o =
         let k = items_long (places ++ []) items a in
         let n = states_long items h in
         let j = length-append places [] in
         absurd (omega (arith, l, k, n, j))
     covers_all found l f (k ∷ rest) items a m h o =
-        let low = every_in (λ (i : ℕ). i < length old) (places ++ k ∷ rest) k (places_low old (places ++ k ∷ rest) items a) (in_right k places (k ∷ rest) (inl refl)) in
+        let low = every_in (λ (i : ℕ). i < length old) (places ++ k ∷ rest) k
+        (places_low old (places ++ k ∷ rest) items a) (in_right k places (k ∷ rest) (inl refl)) in
         f k rest items low a m h o
 
     -- one more was taken
-    pub next_push : (P : Found → Type 0) (before after : List Found) (n : ℕ) → CoversNext b old recent (old ++ before) r places n → Widens P old before after → CoversFrom b old recent (old ++ after) r (places ++ n ∷ []) → CoversNext b old recent (old ++ after) r places (n + 1)
+    pub next_push : (P : Found → Type 0) (before after : List Found) (n : ℕ)
+        → CoversNext b old recent (old ++ before) r places n → Widens P old before after
+        → CoversFrom b old recent (old ++ after) r (places ++ n ∷ [])
+        → CoversNext b old recent (old ++ after) r places (n + 1)
     next_push P before after n f w g k rest items l a m h o = elim (below_more k n l) [
       | inl low ↦ covered_still b P old before after r items w (f k rest items low a m h o)
       | inr same ↦ (
           let s = append_assoc places (n ∷ []) rest in
-          g rest items (rw s (rw same at a)) m.1 h (ap (are_old recent.start) (s ∙ ap (λ (i : ℕ). places ++ i ∷ rest) (sym same)) ∙ o))
+          g rest items (rw s (rw same at a)) m.1 h
+          (ap (are_old recent.start) (s ∙ ap (λ (i : ℕ). places ++ i ∷ rest) (sym same)) ∙ o))
     ]
 
     -- one that has not the child's state, or has no mark, was left out
-    pub next_skip : (found : List Found) (n q : ℕ) (x : Found) → CoversNext b old recent found r places n → slice_get r.children (length places) ≡ Some q → slice_get old n ≡ Some x → ((x.state ≡ q) × IsMarked recent.marks n → ⊥) → CoversNext b old recent found r places (n + 1)
+    pub next_skip : (found : List Found) (n q : ℕ) (x : Found) → CoversNext b old recent found r places n
+        → slice_get r.children (length places) ≡ Some q → slice_get old n ≡ Some x
+        → ((x.state ≡ q) × IsMarked recent.marks n → ⊥) → CoversNext b old recent found r places (n + 1)
     next_skip found n q x f at e differ k rest items l a m h o = elim (below_more k n l) [
       | inl low ↦ f k rest items low a m h o
-      | inr same ↦ absurd (differ (next_state k q rest items x a h at (rw same e), subst (IsMarked recent.marks) same m.0))
+      | inr same ↦ absurd
+          (differ (next_state k q rest items x a h at (rw same e), subst (IsMarked recent.marks) same m.0))
     ]

@@ -18,9 +18,11 @@ pub record Thinning (found rest kept : List Found) : Type 0 where
   pub cover : (f : Found) → IsIn f found → IsIn f rest ⊎ HasCover kept f.state f.marks
 
 pub thin_start : (found : List Found) → AreFresh found → Thinning found found []
-thin_start found h = record { of = tt; left = in_every _ found (λ f i. i); fresh = h; apart = tt; ahead = tt; cover = λ f i. inl i }
+thin_start found h = record
+    { of = tt; left = in_every _ found (λ f i. i); fresh = h; apart = tt; ahead = tt; cover = λ f i. inl i }
 
-apart_push : (kept : List Found) (x : Found) → AreApart kept → Every (λ g. (IsCover g x.state x.marks → ⊥) × (IsCover x g.state g.marks → ⊥)) kept → AreApart (kept ++ x ∷ [])
+apart_push : (kept : List Found) (x : Found) → AreApart kept
+    → Every (λ g. (IsCover g x.state x.marks → ⊥) × (IsCover x g.state g.marks → ⊥)) kept → AreApart (kept ++ x ∷ [])
 apart_push [] x h k = (tt, tt)
 apart_push (g ∷ kept) x h k = (every_push _ kept x h.0 k.0, apart_push kept x h.1 k.1)
 
@@ -42,7 +44,11 @@ module _ (found rest kept : List Found) (x : Found) (h : Thinning found (rest ++
     cover = λ g i. elim (h.cover g i) [
       | inl j ↦ (elim (in_append g rest (x ∷ []) j) [
         | inl k ↦ inl k
-        | inr (inl e) ↦ inr (x, in_right x kept (x ∷ []) (inl refl), subst (λ (y : Found). IsCover x y.state y.marks) (sym e) (refl, λ q m. m))
+        | inr (inl e) ↦ inr (
+          x,
+          in_right x kept (x ∷ []) (inl refl),
+          subst (λ (y : Found). IsCover x y.state y.marks) (sym e) (refl, λ q m. m),
+        )
         | inr (inr k) ↦ absurd k
       ])
       | inr c ↦ inr (cover_left kept (x ∷ []) g.state g.marks c)

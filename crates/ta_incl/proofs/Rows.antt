@@ -10,10 +10,12 @@ use Rattle.ta_core.specs.declared.symbol.Symbol.TheVariants.{Null, Ref}
 use Rattle.ta_core.specs.declared.tree.Tree.{Tree}
 use Rattle.ta_incl.specs.declared.inclusion.Pair.{Pair}
 use Rattle.ta_incl.specs.declared.inclusion.Inclusion.TheVariants.{Yes, No}
-use Rattle.ta_incl.specs.Inclusions.{IsSubset, IsAntichain, IsBelow, Subsumes, Leads, Gives, AreFor, IsClosed, MeetsRoots, IsMissing, IfYes, IfNo}
+use Rattle.ta_incl.specs.Inclusions.{IsSubset, IsAntichain, IsBelow, Subsumes, Leads, Gives, AreFor, IsClosed}
+use Rattle.ta_incl.specs.Inclusions.{MeetsRoots, IsMissing, IfYes, IfNo}
 use Rattle.ta_incl.proofs.Answering.{below_same}
 
--- a rule q = y for a leaf, and q = n(p), with a reference in place of a cell's symbol, whose number of children nothing here looks at
+-- a rule q = y for a leaf, and q = n(p), with a reference in place of a cell's symbol, whose number of children nothing
+-- here looks at
 abbrev leaf : ℕ → Symbol → Rule
 leaf q y = record { state = q; symbol = y; children = [] }
 
@@ -42,13 +44,16 @@ empty_subset = tt
 
 -- (0, {1}) and (0, {1, 2}) are no antichain, in either order; nor is a pair that stands twice
 no_antichain : IsAntichain (pair 0 (1 ∷ []) ∷ pair 0 (1 ∷ 2 ∷ []) ∷ []) → ⊥
-no_antichain h = let e = h 0 1 (pair 0 (1 ∷ [])) (pair 0 (1 ∷ 2 ∷ [])) refl refl refl (inl refl, tt) in absurd (omega (arith, e))
+no_antichain h = let e = h 0 1 (pair 0 (1 ∷ [])) (pair 0 (1 ∷ 2 ∷ [])) refl refl refl (inl refl, tt) in
+    absurd (omega (arith, e))
 
 no_antichain_turned : IsAntichain (pair 0 (1 ∷ 2 ∷ []) ∷ pair 0 (1 ∷ []) ∷ []) → ⊥
-no_antichain_turned h = let e = h 1 0 (pair 0 (1 ∷ [])) (pair 0 (1 ∷ 2 ∷ [])) refl refl refl (inl refl, tt) in absurd (omega (arith, e))
+no_antichain_turned h = let e = h 1 0 (pair 0 (1 ∷ [])) (pair 0 (1 ∷ 2 ∷ [])) refl refl refl (inl refl, tt) in
+    absurd (omega (arith, e))
 
 not_twice : IsAntichain (pair 0 (1 ∷ []) ∷ pair 0 (1 ∷ []) ∷ []) → ⊥
-not_twice h = let e = h 0 1 (pair 0 (1 ∷ [])) (pair 0 (1 ∷ [])) refl refl refl (inl refl, tt) in absurd (omega (arith, e))
+not_twice h = let e = h 0 1 (pair 0 (1 ∷ [])) (pair 0 (1 ∷ [])) refl refl refl (inl refl, tt) in
+    absurd (omega (arith, e))
 
 -- over the pair (0, {0}) the rule 2 = n(0) of three leads to 2; nothing leads to 1 in one
 leads : Leads three (above 0 0) (pair 0 (0 ∷ []) ∷ []) 2
@@ -72,11 +77,13 @@ gives = (refl, λ p. (from p, to p))
     to : (p : ℕ) → Leads three (leaf 0 Null) [] p → IsIn p (0 ∷ 1 ∷ [])
     to p (r, inl e, s, k, m) = inl (sym s ∙ ap (λ (x : Rule). x.state) e)
     to p (r, inr (inl e), s, k, m) = inr (inl (sym s ∙ ap (λ (x : Rule). x.state) e))
-    to p (r, inr (inr (inl e)), s, k, m) = absurd (subst (λ (x : Rule). Paired (λ (q : ℕ) (y : Pair). IsIn q y.set) x.children []) e m)
+    to p (r, inr (inr (inl e)), s, k, m) =
+        absurd (subst (λ (x : Rule). Paired (λ (q : ℕ) (y : Pair). IsIn q y.set) x.children []) e m)
     to p (r, inr (inr (inr i)), s, k, m) = absurd i
 
 not_gives : Gives three (leaf 0 Null) [] (pair 0 (0 ∷ [])) → ⊥
-not_gives h = elim ((h.1 1).1 (leaf 1 Null, inr (inl refl), refl, refl, tt)) [ inl e ↦ absurd (omega (arith, e)) | inr i ↦ absurd i ]
+not_gives h = elim ((h.1 1).1 (leaf 1 Null, inr (inl refl), refl, refl, tt))
+    [ inl e ↦ absurd (omega (arith, e)) | inr i ↦ absurd i ]
 
 -- the child of n(0) is the state of a pair of the list; one that is not of the list serves not
 are_for : AreFor (pair 0 [] ∷ []) (above 1 0) (pair 0 [] ∷ [])

@@ -1,5 +1,6 @@
 -- The tree by which a pair was found is made by tasks.
-use Rattle.std.proofs.Common.{◌≡◌, ◌⊎◌, inl, inr, ℕ, zero, suc, ◌+◌, ◌<◌, ◌≤◌, max, List, [], ◌∷◌, ◌++◌, length, map, slice_get, Some, refl, sym, ap, subst, ◌∙◌, arith}
+use Rattle.std.proofs.Common.{◌≡◌, ◌⊎◌, inl, inr, ℕ, zero, suc, ◌+◌, ◌<◌, ◌≤◌, max, List, [], ◌∷◌, ◌++◌, length, map}
+use Rattle.std.proofs.Common.{slice_get, Some, refl, sym, ap, subst, ◌∙◌, arith}
 use Rattle.std.proofs.lemmas.Option.{none-some, same_Some, slice_get_within}
 use Rattle.fore_base.specs.Lists.{Every, Paired, sum_of}
 use Rattle.fore_base.proofs.ListLemmas.{every_weaker, paired_weaker}
@@ -57,15 +58,18 @@ widest_at (g ∷ found) (suc p) f e = let h = widest_at found p f e in omega (ar
 abbrev pub weight : List Found → ℕ → ℕ
 weight found p = level (widest found) (suc p)
 
-lighter : (n p : ℕ) (qs : List ℕ) → Every (λ q. q < p) qs → sum_of (map (λ q. level n (suc q)) qs) ≤ times (length qs) (level n p)
+lighter : (n p : ℕ) (qs : List ℕ) → Every (λ q. q < p) qs → sum_of (map (λ q. level n (suc q)) qs)
+    ≤ times (length qs) (level n p)
 lighter n p [] h = omega arith
 lighter n p (q ∷ qs) h = let k = lighter n p qs h.1 in let l = level_more n (suc q) p h.0 in omega (arith, k, l)
 
-module _ (rules : List Rule) (found : List Found) (derived : (b : Automaton) × AreDerived rules b found) (old rest : List (Todo ℕ ℕ)) (p : ℕ) where
+module _ (rules : List Rule) (found : List Found) (derived : (b : Automaton) × AreDerived rules b found)
+    (old rest : List (Todo ℕ ℕ)) (p : ℕ) where
   pub rule_within : (f : Found) → slice_get found p ≡ Some f → f.rule < length rules
   rule_within f e = let g = (derived.1 p f e).0 in slice_get_within rules f.rule g.0 g.1
 
-  pub opens_lighter : (new : List (Todo ℕ ℕ)) → old ≡ rest ++ visit p ∷ [] → Opens found p rest new → work (weight found) new < work (weight found) old
+  pub opens_lighter : (new : List (Todo ℕ ℕ)) → old ≡ rest ++ visit p ∷ [] → Opens found p rest new
+      → work (weight found) new < work (weight found) old
   opens_lighter new e o =
       let l = lighter (widest found) p o.0.from (derived.1 p o.0 o.1).1 in
       let k = times_more (length o.0.from) (widest found) (level (widest found) p) (widest_at found p o.0 o.1) in
@@ -75,18 +79,24 @@ module _ (rules : List Rule) (found : List Found) (derived : (b : Automaton) × 
   pub closes_lighter : old ≡ rest ++ build p ∷ [] → work (weight found) rest < work (weight found) old
   closes_lighter e = rw e (builds_less (weight found) rest p)
 
-  module _ (place : ℕ) (trees : List Tree) (u : IsUnderway (IsPlace found) (IsOver found) (GivesTree rules found) place old trees) where
+  module _ (place : ℕ) (trees : List Tree)
+      (u : IsUnderway (IsPlace found) (IsOver found) (GivesTree rules found) place old trees) where
     pub is_place : old ≡ rest ++ visit p ∷ [] → p < length found
     is_place e = visited (IsPlace found) (IsOver found) (GivesTree rules found) place rest p trees (rw e at u)
 
-    pub opens : (new : List (Todo ℕ ℕ)) → old ≡ rest ++ visit p ∷ [] → Opens found p rest new → IsUnderway (IsPlace found) (IsOver found) (GivesTree rules found) place new trees
+    pub opens : (new : List (Todo ℕ ℕ)) → old ≡ rest ++ visit p ∷ [] → Opens found p rest new
+        → IsUnderway (IsPlace found) (IsOver found) (GivesTree rules found) place new trees
     opens new e o =
         let l = is_place e in
-        let low = every_weaker (λ (i : ℕ). i < p) (IsPlace found) o.0.from (λ i k. omega (arith, k, l)) (derived.1 p o.0 o.1).1 in
-        rw o.2 (opened (IsPlace found) (IsOver found) (GivesTree rules found) place rest p p o.0.from trees (o.0, refl, o.1, refl) low (rw e at u))
+        let low = every_weaker (λ (i : ℕ). i < p) (IsPlace found) o.0.from (λ i k. omega (arith, k, l))
+        (derived.1 p o.0 o.1).1 in
+        rw o.2
+        (opened (IsPlace found) (IsOver found) (GivesTree rules found) place rest p p o.0.from trees
+        (o.0, refl, o.1, refl) low (rw e at u))
 
     pub has_pair : old ≡ rest ++ build p ∷ [] → p < length found
-    has_pair e = let w = enough (IsPlace found) (IsOver found) (GivesTree rules found) place rest p trees (rw e at u) in slice_get_within found p w.2.0 w.2.2
+    has_pair e = let w = enough (IsPlace found) (IsOver found) (GivesTree rules found) place rest p trees (rw e at u) in
+        slice_get_within found p w.2.0 w.2.2
 
     pub has_trees : old ≡ rest ++ build p ∷ [] → (f : Found) → slice_get found p ≡ Some f → length f.from ≤ length trees
     has_trees e f d =
@@ -96,8 +106,16 @@ module _ (rules : List Rule) (found : List Found) (derived : (b : Automaton) × 
         let s = ap (λ (g : Found). length g.from) (same_Some w.2.0 f (sym w.2.2 ∙ d)) in
         omega (arith, l, k, s)
 
-    pub closes : (new : List Tree) → old ≡ rest ++ build p ∷ [] → Closes rules found p trees new → IsUnderway (IsPlace found) (IsOver found) (GivesTree rules found) place rest new
-    closes new e m = built (IsPlace found) (IsOver found) (GivesTree rules found) place rest p (length m.0.from) _ trees new (λ q below o. ap length (from_of q below o)) (λ q below parts made o h t b d. subst (λ (x : ℕ). IsTreeAt rules b found x made) (sym o.1) (subst (λ (x : Tree). IsTreeAt rules b found p x) (sym t) (tree_here rules b found p m.0 m.1 parts d m.2 m.3 (paired_weaker (GivesTree rules found) (IsTreeAt rules b found) m.0.from parts (λ i x g. g b d) (subst (λ (is : List ℕ). Paired (GivesTree rules found) is parts) (from_of q below o) h))))) (rw e at u) m.4
+    pub closes : (new : List Tree) → old ≡ rest ++ build p ∷ [] → Closes rules found p trees new
+        → IsUnderway (IsPlace found) (IsOver found) (GivesTree rules found) place rest new
+    closes new e m = built (IsPlace found) (IsOver found) (GivesTree rules found) place rest p (length m.0.from) _ trees
+        new (λ q below o. ap length (from_of q below o))
+        (λ q below parts made o h t b d.
+        subst (λ (x : ℕ). IsTreeAt rules b found x made) (sym o.1)
+        (subst (λ (x : Tree). IsTreeAt rules b found p x) (sym t)
+        (tree_here rules b found p m.0 m.1 parts d m.2 m.3
+        (paired_weaker (GivesTree rules found) (IsTreeAt rules b found) m.0.from parts (λ i x g. g b d)
+        (subst (λ (is : List ℕ). Paired (GivesTree rules found) is parts) (from_of q below o) h))))) (rw e at u) m.4
       where
         from_of : (q : ℕ) (below : List ℕ) → IsOver found q p below → below ≡ m.0.from
         from_of q below o = o.3 ∙ ap (λ (g : Found). g.from) (same_Some o.0 m.0 (sym o.2 ∙ m.2))

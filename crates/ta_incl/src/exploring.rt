@@ -3,7 +3,8 @@
 ghost use Rattle.std.specs.Prelude.{◌≡◌, ◌↔◌, ◌<◌, List, [], ◌++◌, ◌∷◌, length, take, IsTrue, IfOk, OnOk};
 ghost use Rattle.fore_base.specs.Lists.{Every};
 ghost use Rattle.fore_base.specs.Marks.{IsMarked};
-ghost use Rattle.ta_incl.specs.inner.Founds.{AreAt, sets_of, IsBegun, IsFull, IsFrom, IsDerived, AreLasting, all_below, are_old, CoversAt, CoversFrom, CoversRules, Widens, Grows, IsExplored};
+ghost use Rattle.ta_incl.specs.inner.Founds.{AreAt, sets_of, IsBegun, IsFull, IsFrom, IsDerived, AreLasting, all_below};
+ghost use Rattle.ta_incl.specs.inner.Founds.{are_old, CoversAt, CoversFrom, CoversRules, Widens, Grows, IsExplored};
 
 use crate::found::{Found, is_covered, lasting, mark_at};
 use fore_base::list::{Copies, List};
@@ -12,7 +13,8 @@ use std::alloc::Global;
 use ta_core::accepting::top_states;
 use ta_core::auto::{Auto, Rule};
 
-/// Takes each rule once over the pairs that are there, those from `start` on being the pairs of the last round, and says whether this gave a further one. `start` is moved to the first further one.
+/// Takes each rule once over the pairs that are there, those from `start` on being the pairs of the last round, and
+/// says whether this gave a further one. `start` is moved to the first further one.
 pub fn grow(
     alloc: Global,
     rules: &[Rule],
@@ -51,7 +53,8 @@ fn round(
     recent: &Recent,
 ) -> Mem<List<Found>>
     ensures widens { IfOk result (Widens (IsDerived rules.now right.now found.now) found.now []) }
-    ensures covers { IfOk result (λ added. Every (λ r. CoversFrom right.now found.now recent.now (found.now ++ added) r []) rules.now) }
+    ensures covers { IfOk result
+        (λ added. Every (λ r. CoversFrom right.now found.now recent.now (found.now ++ added) r []) rules.now) }
 {
     let mut added = List::new(alloc);
     for (place, rule) in rules.iter().enumerate() {
@@ -60,7 +63,8 @@ fn round(
     Ok(added)
 }
 
-/// Adds what the rule, which has this place, gives over the pairs at these places and each choice of pairs for the further children.
+/// Adds what the rule, which has this place, gives over the pairs at these places and each choice of pairs for the
+/// further children.
 fn extend(
     alloc: Global,
     place: usize,
@@ -73,7 +77,9 @@ fn extend(
 ) -> Mem<()>
     requires { IsBegun found.now rule.now from.now }
     ensures widens { OnOk result (Widens (IsFrom right.now found.now place rule.now) found.now added.old added.new) }
-    ensures covers { OnOk result (CoversFrom right.now found.now recent.now (found.now ++ added.new) rule.now from.now) }
+    ensures covers { OnOk result
+        (CoversFrom right.now found.now recent.now (found.now ++ added.new)
+        rule.now from.now) }
 {
     if from.len() >= rule.children.len() {
         if is_old(recent.start, from) {

@@ -9,7 +9,8 @@ use fore_base::marks::is_some_marked;
 
 /// The first pair with one of the left root states and none of the right ones.
 pub fn failing(lefts: &[u32], rights: &[u32], found: &[Found]) -> Option<usize>
-    ensures { MatchOption result (Every (λ f. IsFailing lefts.now rights.now f → ⊥) found.now) (λ place. (f : Found) × (slice_get found.now place ≡ Some f) × IsFailing lefts.now rights.now f) }
+    ensures { MatchOption result (Every (λ f. IsFailing lefts.now rights.now f → ⊥) found.now)
+        (λ place. (f : Found) × (slice_get found.now place ≡ Some f) × IsFailing lefts.now rights.now f) }
 {
     for (place, pair) in found.iter().enumerate() {
         if is_failing(lefts, rights, pair) {

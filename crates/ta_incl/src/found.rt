@@ -7,7 +7,9 @@ use fore_base::list::List;
 use fore_base::memory::Mem;
 use std::alloc::Global;
 
-/// A state of the left automaton with a set of states of the right one, as one mark for each; and what it was derived from: the place of a rule of the left automaton, and for each child of it the place of the found pair that stands there.
+/// A state of the left automaton with a set of states of the right one, as one mark for each; and what it was derived
+/// from: the place of a rule of the left automaton, and for each child of it the place of the found pair that stands
+/// there.
 #[derive(Debug, Drop)]
 pub struct Found {
     pub state: u32,

@@ -1,4 +1,5 @@
-// The tree by which a pair was found. What is still to be done for it stands in a list, so that no call goes as deep as the tree.
+// The tree by which a pair was found. What is still to be done for it stands in a list, so that no call goes as deep as
+// the tree.
 
 ghost use Rattle.std.specs.Prelude.{◌≡◌, ◌++◌, ◌<◌, ◌≤◌, Some, slice_get, length, map, IfOk, OnOk};
 ghost use Rattle.ta_core.specs.Auto.{Automaton};
@@ -25,7 +26,8 @@ enum Task {
 pub fn tree_at(alloc: Global, rules: &List<Rule>, found: &[Found], place: usize) -> Mem<Tree>
     requires there { place < length found.now }
     requires derived { (b : Automaton) × AreDerived rules.now b found.now }
-    ensures { IfOk result (λ t. (b : Automaton) → AreDerived rules.now b found.now → IsTreeAt rules.now b found.now place t) }
+    ensures { IfOk result (λ t. (b : Automaton) → AreDerived rules.now b found.now
+        → IsTreeAt rules.now b found.now place t) }
 {
     let mut tasks = List::new(alloc);
     tasks.push(Task::Open(place))?;

@@ -14,7 +14,8 @@ use fore_base::memory::Mem;
 use std::alloc::Global;
 use ta_core::auto::Auto;
 
-/// Whether each tree of the left automaton is one of the right one, with what shows it: pairs, or a tree. The tree can be exponentially larger than the automata.
+/// Whether each tree of the left automaton is one of the right one, with what shows it: pairs, or a tree. The tree can
+/// be exponentially larger than the automata.
 ///
 /// # Errors
 ///

@@ -1,8 +1,11 @@
 //! Inclusion of the languages of tree automata (CAV 2011, section 4).
 //!
-//! - `included` says whether each tree of one automaton is one of another, with pairs that show it or a tree that refutes it; `is_included` says it alone, and makes no tree.
-//! - `Inclusion` is the answer, and `Pair` what a Yes carries: a state of the left automaton with a set of states of the right one.
-//! - The search (`searching`) finds pairs from the leaves upward, round by round (`exploring`); `failing` finds one that shows a No, `growing` makes its tree, and `thinning` keeps the pairs of a Yes.
+//! - `included` says whether each tree of one automaton is one of another, with pairs that show it or a tree that
+//! refutes it; `is_included` says it alone, and makes no tree.
+//! - `Inclusion` is the answer, and `Pair` what a Yes carries: a state of the left automaton with a set of states of
+//! the right one.
+//! - The search (`searching`) finds pairs from the leaves upward, round by round (`exploring`); `failing` finds one
+//! that shows a No, `growing` makes its tree, and `thinning` keeps the pairs of a Yes.
 #![tactic(auto)]
 
 pub mod crossing;

@@ -53,7 +53,8 @@ impl Rounds<Search> for Searching<'_> {
     ghost use Rattle.std.specs.Prelude.{◌<◌, ◌-◌, ◌^◌, length, take};
     ghost use Rattle.ta_incl.specs.inner.Founds.{AreDerived, AreFresh, CoversRules, IsExplored};
 
-    ghost keeps = { λ s x. AreDerived s.left.now.rules s.right.now x.found × AreFresh x.found × (0 < x.start → CoversRules s.right.now (take x.start x.found) x.found s.left.now.rules) };
+    ghost keeps = { λ s x. AreDerived s.left.now.rules s.right.now x.found × AreFresh x.found
+        × (0 < x.start → CoversRules s.right.now (take x.start x.found) x.found s.left.now.rules) };
 
     ghost is_settled = { λ s x. IsExplored s.left.now s.right.now x.found };
 

@@ -1,4 +1,5 @@
--- A trim automaton that is bottom-up deterministic is reduced: each of its states has a tree, and no tree has runs to two of them.
+-- A trim automaton that is bottom-up deterministic is reduced: each of its states has a tree, and no tree has runs to
+-- two of them.
 use Rattle.std.proofs.Common.{◌≡◌, inl, inr, ℕ, ◌<◌, List, [], ◌∷◌, Some, refl, sym, ap, subst, ◌∙◌}
 use Rattle.std.specs.List.{slice_get}
 use Rattle.std.proofs.lemmas.Bool.{cases_order}
@@ -17,7 +18,8 @@ use Rattle.ta_reduce.proofs.Trimmed.{part_tree}
 
 module _ (rules : List Rule) (deterministic : IsDeterministic rules) where
   -- a left side has one place
-  same_place : (i j : ℕ) (r s : Rule) → slice_get rules i ≡ Some r → slice_get rules j ≡ Some s → HasSameLeft r s → i ≡ j
+  same_place : (i j : ℕ) (r s : Rule) → slice_get rules i ≡ Some r → slice_get rules j ≡ Some s → HasSameLeft r s
+      → i ≡ j
   same_place i j r s e f h = elim (cases_order i j) [
     | inl k ↦ k
     | inr o ↦ elim o [
@@ -35,11 +37,13 @@ module _ (rules : List Rule) (deterministic : IsDeterministic rules) where
   mutual
     -- no tree has runs to two states
     one_state : {p q : ℕ} {t : Tree} → RunOf rules p t → RunOf rules q t → p ≡ q
-    one_state (run r i e y k) (run s j f z h) = sym e ∙ ap (λ (x : Rule). x.state) (same_rule r s i j (y ∙ sym z, one_each k h)) ∙ f
+    one_state (run r i e y k) (run s j f z h) =
+        sym e ∙ ap (λ (x : Rule). x.state) (same_rule r s i j (y ∙ sym z, one_each k h)) ∙ f
 
     one_each : {ps qs : List ℕ} {ts : List Tree} → RunEach rules ps ts → RunEach rules qs ts → ps ≡ qs
     one_each run_none run_none = refl
-    one_each (run_more {q = p} {qs = ps} r rs) (run_more {q = q} {qs = qs} s ss) = ap (λ (x : ℕ). x ∷ ps) (one_state r s) ∙ ap (λ (xs : List ℕ). q ∷ xs) (one_each rs ss)
+    one_each (run_more {q = p} {qs = ps} r rs) (run_more {q = q} {qs = qs} s ss) =
+        ap (λ (x : ℕ). x ∷ ps) (one_state r s) ∙ ap (λ (xs : List ℕ). q ∷ xs) (one_each rs ss)
 
 module _ (a : Automaton) (proper : IsRanked a) (trim : IsTrim a) (deterministic : IsDeterministic a.rules) where
   -- a state is simulated by itself alone
@@ -52,13 +56,16 @@ module _ (a : Automaton) (proper : IsRanked a) (trim : IsTrim a) (deterministic 
   simulated_lists [] [] l h = refl
   simulated_lists [] (q ∷ qs) l h = absurd h
   simulated_lists (p ∷ ps) [] l h = absurd h
-  simulated_lists (p ∷ ps) (q ∷ qs) l h = ap (λ (x : ℕ). x ∷ ps) (simulated_one p q l.0 h.0) ∙ ap (λ (xs : List ℕ). q ∷ xs) (simulated_lists ps qs l.1 h.1)
+  simulated_lists (p ∷ ps) (q ∷ qs) l h = ap (λ (x : ℕ). x ∷ ps) (simulated_one p q l.0 h.0)
+      ∙ ap (λ (xs : List ℕ). q ∷ xs) (simulated_lists ps qs l.1 h.1)
 
   -- so a rule that another one matches is that rule
   none_needless : HasNoneNeedless a.rules
   none_needless i j n =
-      let low : Every (λ p. p < a.states) n.0.children = (every_in (IsRankedRule a.states) a.rules n.0 proper.1 (in_from_place a.rules i n.0 n.2)).1 in
+      let low : Every (λ p. p < a.states) n.0.children =
+      (every_in (IsRankedRule a.states) a.rules n.0 proper.1 (in_from_place a.rules i n.0 n.2)).1 in
       same_place a.rules deterministic i j n.0 n.1 n.2 n.3 (n.5, simulated_lists n.0.children n.1.children low n.6)
 
   pub deterministic_reduced : AutoReduced a
-  deterministic_reduced = record { trim = trim; apart = λ p q l k up down. simulated_one p q l up; needed = none_needless }
+  deterministic_reduced = record
+      { trim = trim; apart = λ p q l k up down. simulated_one p q l up; needed = none_needless }

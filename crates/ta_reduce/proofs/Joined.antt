@@ -1,5 +1,6 @@
 -- Where states that simulate each other get one number, the language is the same.
-use Rattle.std.proofs.Common.{◌≡◌, ℕ, ◌<◌, Bool, true, ◌&&◌, List, [], ◌∷◌, length, map, nat_lt, slice_index, refl, sym, ap, subst, ◌∙◌, arith}
+use Rattle.std.proofs.Common.{◌≡◌, ℕ, ◌<◌, Bool, true, ◌&&◌, List, [], ◌∷◌, length, map, nat_lt, slice_index, refl, sym}
+use Rattle.std.proofs.Common.{ap, subst, ◌∙◌, arith}
 use Rattle.std.proofs.lemmas.Bool.{ltb-true, lt-ltb, and_parts, and_from}
 use Rattle.std.proofs.lemmas.List.{length-map}
 use Rattle.fore_base.specs.Lists.{IsIn, Every, Paired}
@@ -18,7 +19,8 @@ use Rattle.ta_reduce.specs.inner.Leading.{KeepsLead}
 use Rattle.ta_reduce.specs.inner.Smaller.{IsGreatest, AreClasses, IsSmaller}
 use Rattle.ta_reduce.proofs.Leads.{tree_kept}
 
-module _ (a : Automaton) (m : ℕ) (f : ℕ → ℕ) (proper : IsRanked a) (one : (x y : ℕ) → x < a.states → y < a.states → f x ≡ f y → IsSimulated a.rules x y) where
+module _ (a : Automaton) (m : ℕ) (f : ℕ → ℕ) (proper : IsRanked a)
+    (one : (x y : ℕ) → x < a.states → y < a.states → f x ≡ f y → IsSimulated a.rules x y) where
   abbrev IsNumber : ℕ → ℕ → Type 0
   IsNumber x y = f x ≡ y
 
@@ -26,14 +28,16 @@ module _ (a : Automaton) (m : ℕ) (f : ℕ → ℕ) (proper : IsRanked a) (one 
   numbers_each [] = tt
   numbers_each (q ∷ qs) = (refl, numbers_each qs)
 
-  match_image : (r : Rule) (y : ℕ) (ts : List Tree) → IsIn r a.rules → IsNumber r.state y → RunEach a.rules r.children ts → IsMatched (image m f a).rules IsNumber r y
+  match_image : (r : Rule) (y : ℕ) (ts : List Tree) → IsIn r a.rules → IsNumber r.state y
+      → RunEach a.rules r.children ts → IsMatched (image m f a).rules IsNumber r y
   match_image r y ts i e k = (renumbered f r, in_map (renumbered f) r a.rules i, e, refl, numbers_each r.children)
 
   -- y is the number of a state that x simulates
   abbrev IsBelow : ℕ → ℕ → Type 0
   IsBelow y x = (z : ℕ) × (z < a.states) × (x < a.states) × (f z ≡ y) × IsSimulated a.rules z x
 
-  below_each : (ps qs : List ℕ) → Every (λ q. q < a.states) ps → Every (λ q. q < a.states) qs → Paired (IsSimulated a.rules) ps qs → Paired IsBelow (map f ps) qs
+  below_each : (ps qs : List ℕ) → Every (λ q. q < a.states) ps → Every (λ q. q < a.states) qs
+      → Paired (IsSimulated a.rules) ps qs → Paired IsBelow (map f ps) qs
   below_each [] [] l k h = tt
   below_each [] (q ∷ qs) l k h = absurd h
   below_each (p ∷ ps) [] l k h = absurd h
@@ -42,25 +46,32 @@ module _ (a : Automaton) (m : ℕ) (f : ℕ → ℕ) (proper : IsRanked a) (one 
   low : (r : Rule) → IsIn r a.rules → IsRankedRule a.states r
   low r i = every_in (IsRankedRule a.states) a.rules r proper.1 i
 
-  match_below : (o : Rule) (x : ℕ) (ts : List Tree) → IsIn o (image m f a).rules → IsBelow o.state x → RunEach (image m f a).rules o.children ts → IsMatched a.rules IsBelow o x
+  match_below : (o : Rule) (x : ℕ) (ts : List Tree) → IsIn o (image m f a).rules → IsBelow o.state x
+      → RunEach (image m f a).rules o.children ts → IsMatched a.rules IsBelow o x
   match_below o x ts i b k =
       let w = in_mapped (renumbered f) o a.rules i in
       let e : f w.0.state ≡ f b.0 = sym (ap (λ (y : Rule). y.state) w.2) ∙ sym b.3 in
-      let up = simulated_through a.states a.rules proper.1 w.0.state b.0 x b.1 (one w.0.state b.0 (low w.0 w.1).0 b.1 e) b.4 in
+      let up = simulated_through a.states a.rules proper.1 w.0.state b.0 x b.1 (one w.0.state b.0 (low w.0 w.1).0 b.1 e)
+      b.4 in
       let s = simulated_downward a.rules w.0 x w.1 up in (
         s.0,
         s.1,
         s.2,
         s.3 ∙ sym (ap (λ (y : Rule). y.symbol) w.2),
-        subst (λ (y : Rule). Paired IsBelow y.children s.0.children) (sym w.2) (below_each w.0.children s.0.children (low w.0 w.1).1 (low s.0 s.1).1 s.4),
+        subst (λ (y : Rule). Paired IsBelow y.children s.0.children) (sym w.2)
+            (below_each w.0.children s.0.children (low w.0 w.1).1 (low s.0 s.1).1 s.4),
       )
 
   pub image_same_language : HasSameLanguage a (image m f a)
   image_same_language t = (
     λ l. (f l.0, in_map f l.0 a.roots l.1, along a.rules (image m f a).rules IsNumber match_image (f l.0) refl l.2),
     λ l. (let w = in_mapped f l.0 a.roots l.1 in
-        let k = every_in (λ (q : ℕ). q < a.states) a.roots w.0 proper.0 w.1 in
-        (w.0, w.1, along (image m f a).rules a.rules IsBelow match_below w.0 (w.0, k, k, sym w.2, simulated_same a.rules w.0) l.2)),
+        let k = every_in (λ (q : ℕ). q < a.states) a.roots w.0 proper.0 w.1 in (
+          w.0,
+          w.1,
+          along (image m f a).rules a.rules IsBelow match_below w.0
+              (w.0, k, k, sym w.2, simulated_same a.rules w.0) l.2,
+        )),
   )
 
   -- each number has the trees of a state of which it is the number
@@ -71,7 +82,10 @@ module _ (a : Automaton) (m : ℕ) (f : ℕ → ℕ) (proper : IsRanked a) (one 
   )
 
 -- the numbers as far as they are simulated: each number stands for a state, which back gives
-module _ (a : Automaton) (m : ℕ) (f back : ℕ → ℕ) (proper : IsRanked a) (one : (x y : ℕ) → x < a.states → y < a.states → f x ≡ f y → IsSimulated a.rules x y) (rel : Table) (greatest : IsGreatest a rel) (fits : (x : ℕ) → x < a.states → f x < m) (back_low : (v : ℕ) → v < m → back v < a.states) (back_is : (v : ℕ) → v < m → f (back v) ≡ v) where
+module _ (a : Automaton) (m : ℕ) (f back : ℕ → ℕ) (proper : IsRanked a)
+    (one : (x y : ℕ) → x < a.states → y < a.states → f x ≡ f y → IsSimulated a.rules x y) (rel : Table)
+    (greatest : IsGreatest a rel) (fits : (x : ℕ) → x < a.states → f x < m)
+    (back_low : (v : ℕ) → v < m → back v < a.states) (back_is : (v : ℕ) → v < m → f (back v) ≡ v) where
   abbrev numbers_relate : ℕ → ℕ → Bool
   numbers_relate u v = nat_lt v m && entry rel.rows (back u) (back v)
 
@@ -91,9 +105,13 @@ module _ (a : Automaton) (m : ℕ) (f back : ℕ → ℕ) (proper : IsRanked a) 
       let by = back_low (f y) (fits y k) in
       let first = simulated_through a.states a.rules proper.1 (back (f x)) x y l (come_back x l) h in
       let all = simulated_through a.states a.rules proper.1 (back (f x)) y (back (f y)) k first (go_back y k) in
-      and_from (nat_lt (f y) m) (entry rel.rows (back (f x)) (back (f y))) (lt-ltb (f y) m (fits y k)) (greatest.each (back (f x)) (back (f y)) bx by all)
+      and_from (nat_lt (f y) m) (entry rel.rows (back (f x)) (back (f y))) (lt-ltb (f y) m (fits y k))
+      (greatest.each (back (f x)) (back (f y)) bx by all)
 
-  relate_each : (R : ℕ → ℕ → Type 0) → ((x y : ℕ) → x < a.states → y < a.states → IsSimulated a.rules x y → R (f x) (f y)) → (ps qs : List ℕ) → Every (λ q. q < a.states) ps → Every (λ q. q < a.states) qs → Paired (IsSimulated a.rules) ps qs → Paired R (map f ps) (map f qs)
+  relate_each : (R : ℕ → ℕ → Type 0)
+      → ((x y : ℕ) → x < a.states → y < a.states → IsSimulated a.rules x y → R (f x) (f y)) → (ps qs : List ℕ)
+      → Every (λ q. q < a.states) ps → Every (λ q. q < a.states) qs → Paired (IsSimulated a.rules) ps qs
+      → Paired R (map f ps) (map f qs)
   relate_each R g [] [] l k h = tt
   relate_each R g [] (q ∷ qs) l k h = absurd h
   relate_each R g (p ∷ ps) [] l k h = absurd h
@@ -104,19 +122,25 @@ module _ (a : Automaton) (m : ℕ) (f back : ℕ → ℕ) (proper : IsRanked a) 
       let w = in_mapped (renumbered f) o a.rules i in
       let l = ltb-true v m (and_parts (nat_lt v m) (entry rel.rows (back o.state) (back v)) h).0 in
       let e : o.state ≡ f w.0.state = ap (λ (x : Rule). x.state) w.2 in
-      let g = greatest.only (back (f w.0.state)) (back v) (subst (λ (x : ℕ). entry rel.rows (back x) (back v) ≡ true) e (and_parts (nat_lt v m) (entry rel.rows (back o.state) (back v)) h).1) in
+      let g = greatest.only (back (f w.0.state)) (back v)
+      (subst (λ (x : ℕ). entry rel.rows (back x) (back v) ≡ true) e
+      (and_parts (nat_lt v m) (entry rel.rows (back o.state) (back v)) h).1) in
       let lw = (rule_low w.0 w.1).0 in
-      let up = simulated_through a.states a.rules proper.1 w.0.state (back (f w.0.state)) (back v) (back_low (f w.0.state) (fits w.0.state lw)) (go_back w.0.state lw) g in
+      let up = simulated_through a.states a.rules proper.1 w.0.state (back (f w.0.state)) (back v)
+      (back_low (f w.0.state) (fits w.0.state lw)) (go_back w.0.state lw) g in
       let s = simulated_downward a.rules w.0 (back v) w.1 up in (
         renumbered f s.0,
         in_map (renumbered f) s.0 a.rules s.1,
         ap f s.2 ∙ back_is v l,
         s.3 ∙ sym (ap (λ (x : Rule). x.symbol) w.2),
-        subst (λ (x : Rule). Paired (λ u v. numbers_relate u v ≡ true) x.children (map f s.0.children)) (sym w.2) (relate_each (λ u v. numbers_relate u v ≡ true) relate w.0.children s.0.children (rule_low w.0 w.1).1 (rule_low s.0 s.1).1 s.4),
+        subst (λ (x : Rule). Paired (λ u v. numbers_relate u v ≡ true) x.children (map f s.0.children)) (sym w.2)
+            (relate_each (λ u v. numbers_relate u v ≡ true) relate w.0.children s.0.children (rule_low w.0 w.1).1
+            (rule_low s.0 s.1).1 s.4),
       )
 
   -- what is simulated, is so with the numbers
-  numbers_simulated : (x y : ℕ) → x < a.states → y < a.states → IsSimulated a.rules x y → IsSimulated (image m f a).rules (f x) (f y)
+  numbers_simulated : (x y : ℕ) → x < a.states → y < a.states → IsSimulated a.rules x y
+      → IsSimulated (image m f a).rules (f x) (f y)
   numbers_simulated x y l k h = (numbers_relate, numbers_downward, relate x y l k h)
 
   pub image_led : KeepsLead a (image m f a)
@@ -124,7 +148,8 @@ module _ (a : Automaton) (m : ℕ) (f back : ℕ → ℕ) (proper : IsRanked a) 
       let c = image m f a in
       let lr = every_in (λ q. q < a.states) a.roots l.root proper.0 l.listed in
       let listed = in_map f l.root a.roots l.listed in
-      let alone = every_map f (λ v. v ≡ f l.root) a.roots (every_weaker (λ x. x ≡ l.root) (λ x. f x ≡ f l.root) a.roots (λ x e. ap f e) l.alone) in
+      let alone = every_map f (λ v. v ≡ f l.root) a.roots
+      (every_weaker (λ x. x ≡ l.root) (λ x. f x ≡ f l.root) a.roots (λ x e. ap f e) l.alone) in
       record {
         root = f l.root;
         listed = listed;
@@ -137,14 +162,18 @@ module _ (a : Automaton) (m : ℕ) (f back : ℕ → ℕ) (proper : IsRanked a) 
             let up = one w.0.state l.root (rule_low w.0 w.1).0 lr (sym (ap (λ (x : Rule). x.state) w.2) ∙ e) in
             let s = simulated_downward a.rules w.0 l.root w.1 up in
             let k = l.leads s.0 s.1 s.2 in
-            let below = paired_through a.states a.rules proper.1 w.0.children s.0.children l.rule.children (rule_low s.0 s.1).1 s.4 k.1 in (
+            let below = paired_through a.states a.rules proper.1 w.0.children s.0.children l.rule.children
+            (rule_low s.0 s.1).1 s.4 k.1 in (
               k.0 ∙ s.3 ∙ sym (ap (λ (x : Rule). x.symbol) w.2),
-              subst (λ (x : Rule). Paired (IsSimulated c.rules) x.children (map f l.rule.children)) (sym w.2) (relate_each (IsSimulated c.rules) numbers_simulated w.0.children l.rule.children (rule_low w.0 w.1).1 (rule_low l.rule l.there).1 below),
+              subst (λ (x : Rule). Paired (IsSimulated c.rules) x.children (map f l.rule.children)) (sym w.2)
+                  (relate_each (IsSimulated c.rules) numbers_simulated w.0.children l.rule.children (rule_low w.0 w.1).1
+                  (rule_low l.rule l.there).1 below),
             ));
       }
 
 -- a table of classes gives such numbers
-module _ (a : Automaton) (rel : Table) (proper : IsRanked a) (greatest : IsGreatest a rel) (numbers firsts : List ℕ) (h : AreClasses rel a.states numbers firsts) where
+module _ (a : Automaton) (rel : Table) (proper : IsRanked a) (greatest : IsGreatest a rel) (numbers firsts : List ℕ)
+    (h : AreClasses rel a.states numbers firsts) where
   abbrev number : ℕ → ℕ
   number x = slice_index numbers x
 
@@ -163,8 +192,14 @@ module _ (a : Automaton) (rel : Table) (proper : IsRanked a) (greatest : IsGreat
   joined_smaller fewer = (
     record {
       language = image_same_language a (length firsts) number proper same_class;
-      states = λ v l. (slice_index firsts v, h.low v l, image_runs a (length firsts) number proper same_class v (slice_index firsts v) (h.low v l) (h.first v l));
-      lead = image_led a (length firsts) number (λ v. slice_index firsts v) proper same_class rel greatest h.fits h.low h.first;
+      states =
+          λ v l. (
+            slice_index firsts v,
+            h.low v l,
+            image_runs a (length firsts) number proper same_class v (slice_index firsts v) (h.low v l) (h.first v l),
+          );
+      lead = image_led a (length firsts) number (λ v. slice_index firsts v) proper same_class rel greatest h.fits h.low
+          h.first;
     },
     (let e = length-map a.rules (renumbered number) in omega (arith, e, fewer)),
   )

@@ -12,7 +12,8 @@ use Rattle.ta_sim.proofs.Simulated.{simulated_same}
 use Rattle.ta_reduce.specs.inner.Leading.{IsLed}
 
 -- a root state that has a tree: where the language is the same, and there is one root state, that one has it
-pub tree_kept : (a b : Automaton) (p q : ℕ) → HasSameLanguage a b → IsIn p a.roots → Every (λ x. x ≡ q) b.roots → HasTree a.rules p → HasTree b.rules q
+pub tree_kept : (a b : Automaton) (p q : ℕ) → HasSameLanguage a b → IsIn p a.roots → Every (λ x. x ≡ q) b.roots
+    → HasTree a.rules p → HasTree b.rules q
 tree_kept a b p q h i d t =
     let w = (h t.0).0 (p, i, t.1) in
     (t.0, subst (λ (x : ℕ). RunOf b.rules x t.0) (every_in (λ (x : ℕ). x ≡ q) b.roots w.0 d w.1) w.2)
@@ -27,7 +28,11 @@ led_from a t l h = record {
   rule = h.rule;
   there = h.there;
   top = h.top;
-  leads = λ r i e. (let s = h.only r i e in subst (λ (x : Rule). (h.rule.symbol ≡ x.symbol) × Paired (IsSimulated a.rules) x.children h.rule.children) (sym s) (refl, paired_same (IsSimulated a.rules) (simulated_same a.rules) h.rule.children));
+  leads =
+      λ r i e.
+      (let s = h.only r i e in
+      subst (λ (x : Rule). (h.rule.symbol ≡ x.symbol) × Paired (IsSimulated a.rules) x.children h.rule.children) (sym s)
+      (refl, paired_same (IsSimulated a.rules) (simulated_same a.rules) h.rule.children));
 }
 
 -- an only item, listed once
@@ -47,5 +52,8 @@ top_from a n d l =
       rule = l.rule;
       there = w.1;
       top = l.top;
-      only = λ i r e s. (let k = l.leads r (in_from_place a.rules i r e) s in n.needed i w.0 (r, l.rule, e, w.1, s ∙ sym l.top, sym k.0, k.1));
+      only =
+          λ i r e s.
+          (let k = l.leads r (in_from_place a.rules i r e) s in
+          n.needed i w.0 (r, l.rule, e, w.1, s ∙ sym l.top, sym k.0, k.1));
     }

@@ -1,5 +1,6 @@
 -- Lists of which items are left out, and lists of which each item is related to those behind it.
-use Rattle.std.proofs.Common.{◌≡◌, inl, inr, ℕ, zero, suc, ◌<◌, ◌≤◌, List, [], ◌∷◌, ◌++◌, length, reverse, Some, refl, ap, subst, arith}
+use Rattle.std.proofs.Common.{◌≡◌, inl, inr, ℕ, zero, suc, ◌<◌, ◌≤◌, List, [], ◌∷◌, ◌++◌, length, reverse, Some, refl}
+use Rattle.std.proofs.Common.{ap, subst, arith}
 use Rattle.std.specs.List.{slice_get}
 use Rattle.std.proofs.lemmas.List.{reverse-append, reverse-reverse}
 use Rattle.fore_base.specs.Lists.{IsIn, Every}
@@ -48,7 +49,8 @@ module _ {X : Type 0} where
   pub sub_reverse : {xs ys : List X} → IsSublist xs ys → IsSublist (reverse xs) (reverse ys)
   sub_reverse sub_none = sub_none
   sub_reverse (sub_skip {y = y} {ys = ys} s) = rw (reverse_cons y ys) (sub_drop y (sub_reverse s))
-  sub_reverse (sub_keep {y = y} {xs = xs} {ys = ys} s) = rw (reverse_cons y xs, reverse_cons y ys) (sub_push y (sub_reverse s))
+  sub_reverse (sub_keep {y = y} {xs = xs} {ys = ys} s) =
+      rw (reverse_cons y xs, reverse_cons y ys) (sub_push y (sub_reverse s))
 
   -- sublists of the turned list, turned
   pub sub_turned : (xs ys : List X) → IsSublist xs (reverse ys) → IsSublist (reverse xs) ys
@@ -70,18 +72,23 @@ module _ {X : Type 0} (R : X → X → Type 0) where
       every_sub P (sub_keep t) k = (k.0, every_sub P t k.1)
 
   -- of two places the lower one's item is related to the other's
-  pub later_at : (xs : List X) (i j : ℕ) (x y : X) → EachLater R xs → i < j → slice_get xs i ≡ Some x → slice_get xs j ≡ Some y → R x y
+  pub later_at : (xs : List X) (i j : ℕ) (x y : X) → EachLater R xs → i < j → slice_get xs i ≡ Some x
+      → slice_get xs j ≡ Some y → R x y
   later_at [] i j x y h l e f = absurd cc
   later_at (z ∷ zs) i zero x y h l e f = absurd (omega (arith, l))
-  later_at (z ∷ zs) zero (suc j) x y h l e f = let d : z ≡ x = cc in subst (λ (w : X). R w y) d (every_in (R z) zs y h.0 (in_from_place zs j y f))
+  later_at (z ∷ zs) zero (suc j) x y h l e f = let d : z ≡ x = cc in
+      subst (λ (w : X). R w y) d (every_in (R z) zs y h.0 (in_from_place zs j y f))
   later_at (z ∷ zs) (suc i) (suc j) x y h l e f = later_at zs i j x y h.1 (omega (arith, l)) e f
 
 module _ {X : Type 0} (R S : X → X → Type 0) (turn : (x y : X) → R x y → S y x) where
   every_turned : (x : X) (xs : List X) → Every (R x) xs → Every (λ y. S y x) (reverse xs)
   every_turned x [] h = tt
-  every_turned x (y ∷ ys) h = rw (reverse_cons y ys) (every_append (λ z. S z x) (reverse ys) (y ∷ []) (every_turned x ys h.1) (turn x y h.0, tt))
+  every_turned x (y ∷ ys) h =
+      rw (reverse_cons y ys)
+      (every_append (λ z. S z x) (reverse ys) (y ∷ []) (every_turned x ys h.1) (turn x y h.0, tt))
 
   -- in the turned list it is the other way round
   pub later_turned : (xs : List X) → EachLater R xs → EachLater S (reverse xs)
   later_turned [] h = tt
-  later_turned (x ∷ xs) h = rw (reverse_cons x xs) (later_push S (reverse xs) x (later_turned xs h.1) (every_turned x xs h.0))
+  later_turned (x ∷ xs) h =
+      rw (reverse_cons x xs) (later_push S (reverse xs) x (later_turned xs h.1) (every_turned x xs h.0))

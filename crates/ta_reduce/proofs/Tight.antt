@@ -16,11 +16,13 @@ use Rattle.ta_reduce.specs.inner.Thinned.{Matches, Misses, EachLater, AreNeeded}
 use Rattle.ta_reduce.proofs.Sublists.{later_at, sub_same}
 
 -- a downward simulation that has each one in it is the greatest
-pub greatest_from : (a : Automaton) (rel : Table) → rel.size ≡ a.states → IsDownward a.rules (Holds rel) → ((p q : ℕ) → p < a.states → q < a.states → IsSimulated a.rules p q → Holds rel p q) → IsGreatest a rel
+pub greatest_from : (a : Automaton) (rel : Table) → rel.size ≡ a.states → IsDownward a.rules (Holds rel)
+    → ((p q : ℕ) → p < a.states → q < a.states → IsSimulated a.rules p q → Holds rel p q) → IsGreatest a rel
 greatest_from a rel s d g = record { size = s; only = λ p q h. (entry rel.rows, d, h); each = g }
 
 module _ (a : Automaton) (rel : Table) (proper : IsRanked a) (greatest : IsGreatest a rel) where
-  pub related_each : (ps qs : List ℕ) → Every (λ q. q < a.states) ps → Every (λ q. q < a.states) qs → Paired (IsSimulated a.rules) ps qs → Paired (Holds rel) ps qs
+  pub related_each : (ps qs : List ℕ) → Every (λ q. q < a.states) ps → Every (λ q. q < a.states) qs
+      → Paired (IsSimulated a.rules) ps qs → Paired (Holds rel) ps qs
   related_each = paired_carried (λ q. q < a.states) (λ q. q < a.states) (IsSimulated a.rules) (Holds rel) greatest.each
 
   -- the greatest simulation is a preorder
@@ -30,20 +32,31 @@ module _ (a : Automaton) (rel : Table) (proper : IsRanked a) (greatest : IsGreat
     λ p q r h k. (let lp : p < a.states = rw (← greatest.size) (rw square.0 at (row_there rel.rows p q h)) in
         let lq : q < a.states = rw (← greatest.size) (related_low rel.size rel.rows p q square h) in
         let lr : r < a.states = rw (← greatest.size) (related_low rel.size rel.rows q r square k) in
-        greatest.each p r lp lr (simulated_through a.states a.rules proper.1 p q r lq (greatest.only p q h) (greatest.only q r k))),
+        greatest.each p r lp lr
+        (simulated_through a.states a.rules proper.1 p q r lq (greatest.only p q h) (greatest.only q r k))),
   )
 
   -- each rule matches itself
   pub match_same : Every (λ r. Matches rel r r) a.rules
-  match_same = in_every (λ r. Matches rel r r) a.rules (λ r i. (refl, refl, (let l = (every_in (IsRankedRule a.states) a.rules r proper.1 i).1 in related_each r.children r.children l l (paired_same (IsSimulated a.rules) (simulated_same a.rules) r.children))))
+  match_same = in_every (λ r. Matches rel r r) a.rules
+      (λ r i. (
+        refl,
+        refl,
+        (let l = (every_in (IsRankedRule a.states) a.rules r proper.1 i).1 in
+            related_each r.children r.children l l
+            (paired_same (IsSimulated a.rules) (simulated_same a.rules) r.children)),
+      ))
 
   children_low : (r : Rule) (i : ℕ) → slice_get a.rules i ≡ Some r → Every (λ q. q < a.states) r.children
   children_low r i e = (every_in (IsRankedRule a.states) a.rules r proper.1 (in_from_place a.rules i r e)).1
 
   -- where no rule matches another, none is needless
-  pub needless_same : EachLater (λ r s. Misses rel s r) a.rules → EachLater (λ r s. Misses rel r s) a.rules → HasNoneNeedless a.rules
+  pub needless_same : EachLater (λ r s. Misses rel s r) a.rules → EachLater (λ r s. Misses rel r s) a.rules
+      → HasNoneNeedless a.rules
   needless_same ahead behind i j s =
-      let m : Matches rel s.1 s.0 = (s.4, s.5, related_each s.0.children s.1.children (children_low s.0 i s.2) (children_low s.1 j s.3) s.6) in
+      let m : Matches rel s.1 s.0 =
+      (s.4, s.5, related_each s.0.children s.1.children (children_low s.0 i s.2) (children_low s.1 j s.3) s.6)
+      in
       elim (cases_order i j) [
         | inl e ↦ e
         | inr o ↦ elim o [
@@ -53,14 +66,17 @@ module _ (a : Automaton) (rel : Table) (proper : IsRanked a) (greatest : IsGreat
       ]
 
   -- so it is where nothing was left out
-  pub needless_none : (kept : List Rule) → AreNeeded rel a.rules kept → length kept ≡ length a.rules → HasNoneNeedless a.rules
+  pub needless_none : (kept : List Rule) → AreNeeded rel a.rules kept → length kept ≡ length a.rules
+      → HasNoneNeedless a.rules
   needless_none kept n e =
       let same = sub_same n.part e in
-      needless_same (subst (EachLater (λ r s. Misses rel s r)) same n.ahead) (subst (EachLater (λ r s. Misses rel r s)) same n.behind)
+      needless_same (subst (EachLater (λ r s. Misses rel s r)) same n.ahead)
+      (subst (EachLater (λ r s. Misses rel r s)) same n.behind)
 
 module _ (a : Automaton) (rel : Table) (greatest : IsGreatest a rel) where
   -- states that simulate each other are one
-  apart_same : HasNoTwins rel → (p q : ℕ) → p < a.states → q < a.states → IsSimulated a.rules p q → IsSimulated a.rules q p → p ≡ q
+  apart_same : HasNoTwins rel → (p q : ℕ) → p < a.states → q < a.states → IsSimulated a.rules p q
+      → IsSimulated a.rules q p → p ≡ q
   apart_same none p q k l up down =
       let h = greatest.each p q k l up in
       let g = greatest.each q p l k down in

@@ -1,6 +1,7 @@
 // Classes of states that simulate each other.
 
-ghost use Rattle.std.specs.Prelude.{◌≡◌, [], ◌∷◌, ◌++◌, ◌<◌, ◌+◌, ◌^◌, ◌↔◌, ℕ, IsTrue, IfOk, OnOk, MatchOption, length, slice_index};
+ghost use Rattle.std.specs.Prelude.{◌≡◌, [], ◌∷◌, ◌++◌, ◌<◌, ◌+◌, ◌^◌, ◌↔◌, ℕ, IsTrue, IfOk, OnOk, MatchOption, length};
+ghost use Rattle.std.specs.Prelude.{slice_index};
 ghost use Rattle.ta_reduce.specs.inner.Smaller.{AreMutual, AreClasses, IsPreorder};
 
 use fore_base::list::List;
@@ -63,7 +64,8 @@ fn begin(made: &mut Classes, state: u32) -> Mem<()>
 /// The number of the first state that is related to this one both ways, if there is one.
 fn class_of(relation: &Relation, firsts: &[u32], state: u32) -> Option<u32>
     requires { length firsts.now < 2 ^ 32 }
-    ensures { MatchOption result ((v : ℕ) → v < length firsts.now → AreMutual relation.now (slice_index firsts.now v) state → ⊥) (λ v. (v < length firsts.now) × AreMutual relation.now (slice_index firsts.now v) state) }
+    ensures { MatchOption result ((v : ℕ) → v < length firsts.now → AreMutual relation.now (slice_index firsts.now v) state
+        → ⊥) (λ v. (v < length firsts.now) × AreMutual relation.now (slice_index firsts.now v) state) }
 {
     for (number, first) in firsts.iter().enumerate() {
         if are_mutual(relation, *first, state) {

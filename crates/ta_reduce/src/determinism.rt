@@ -38,7 +38,8 @@ fn is_apart_from(rule: &Rule, others: &[Rule]) -> bool
     true
 }
 
-/// Whether both rules have one left side. Most that differ do so in the children, which are quicker to compare than symbols.
+/// Whether both rules have one left side. Most that differ do so in the children, which are quicker to compare than
+/// symbols.
 fn has_same_left(left: &Rule, right: &Rule) -> bool
     ensures { IsTrue result ↔ HasSameLeft left.now right.now }
 {

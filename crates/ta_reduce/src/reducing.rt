@@ -25,7 +25,11 @@ use ta_core::trimming::trim;
 use ta_sim::downward::downward;
 use ta_sim::relation::Relation;
 
-/// A reduced automaton with the same language: each of its states takes part in the run of some accepted tree, no two of them simulate each other downward, and no state has a rule of which another rule of its symbol simulates each child. Each of its states has exactly the trees of some state of the argument, and each root state is listed once. Where some tree is accepted, and there is one root state with one rule, however often each is listed, the result has one root state with one rule, each listed once. The crew runs 1 to 64 jobs and has no bearing on the answer.
+/// A reduced automaton with the same language: each of its states takes part in the run of some accepted tree, no two
+/// of them simulate each other downward, and no state has a rule of which another rule of its symbol simulates each
+/// child. Each of its states has exactly the trees of some state of the argument, and each root state is listed once.
+/// Where some tree is accepted, and there is one root state with one rule, however often each is listed, the result has
+/// one root state with one rule, each listed once. The crew runs 1 to 64 jobs and has no bearing on the answer.
 ///
 /// # Errors
 ///
@@ -52,7 +56,8 @@ pub fn reduce<R: Threads + Sync, G: Gate>(
     with_roots_once(alloc, &made)
 }
 
-/// A trimmed automaton that has fewer states and rules, taken together; None where the automaton is reduced. A deterministic one is, so no simulation is computed for it.
+/// A trimmed automaton that has fewer states and rules, taken together; None where the automaton is reduced. A
+/// deterministic one is, so no simulation is computed for it.
 fn round<R: Threads + Sync, G: Gate>(
     rt: &R,
     alloc: Global,
@@ -80,7 +85,8 @@ fn round<R: Threads + Sync, G: Gate>(
     }
 }
 
-/// The automaton with all classes of states joined, else without its needless rules; None where it is reduced, if each of its states takes part.
+/// The automaton with all classes of states joined, else without its needless rules; None where it is reduced, if each
+/// of its states takes part.
 fn smaller(alloc: Global, auto: &Auto, relation: &Relation) -> Mem<Option<Auto>>
     requires greatest { IsGreatest auto.now relation.now }
     requires preorder { IsPreorder relation.now }

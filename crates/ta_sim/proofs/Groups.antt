@@ -1,5 +1,6 @@
 -- Rules state by state, one rule after another.
-use Rattle.std.proofs.Common.{◌≡◌, ◌⊎◌, inl, inr, ℕ, zero, suc, ◌<◌, List, [], ◌∷◌, ◌++◌, length, get_or, set, replicate, refl, sym, ap, subst, ◌∙◌, arith, length-set}
+use Rattle.std.proofs.Common.{◌≡◌, ◌⊎◌, inl, inr, ℕ, zero, suc, ◌<◌, List, [], ◌∷◌, ◌++◌, length, get_or, set}
+use Rattle.std.proofs.Common.{replicate, refl, sym, ap, subst, ◌∙◌, arith, length-set}
 use Rattle.std.proofs.lemmas.Bool.{cases_order}
 use Rattle.std.proofs.lemmas.List.{length-replicate}
 use Rattle.fore_base.specs.Lists.{IsIn}
@@ -43,7 +44,8 @@ same_or_not i j = elim (cases_order i j) [
 ]
 
 -- one more rule
-module _ (rules : List Rule) (n : ℕ) (groups : List (List Rule)) (r : Rule) (low : r.state < n) (h : AreByState rules n groups) where
+module _ (rules : List Rule) (n : ℕ) (groups : List (List Rule)) (r : Rule) (low : r.state < n)
+    (h : AreByState rules n groups) where
   abbrev own : List Rule
   own = rules_at groups r.state ++ r ∷ []
 
@@ -53,15 +55,23 @@ module _ (rules : List Rule) (n : ℕ) (groups : List (List Rule)) (r : Rule) (l
   here : rules_at new r.state ≡ own
   here = at_same groups r.state own (let e = h.long in omega (arith, e, low))
 
-  only_new : (q : ℕ) (s : Rule) → (q ≡ r.state) ⊎ (q ≡ r.state → ⊥) → IsIn s (rules_at new q) → IsIn s (rules ++ r ∷ []) × (s.state ≡ q)
-  only_new q s (inl e) i = elim (in_push r s (rules_at groups r.state) (subst (IsIn s) (ap (rules_at new) e ∙ here) i)) [
-    | inl j ↦ (let w = h.only r.state s j in (in_left s rules (r ∷ []) w.0, w.1 ∙ sym e))
-    | inr d ↦ (subst (λ (x : Rule). IsIn x (rules ++ r ∷ [])) (sym d) (in_last r rules), ap (λ (x : Rule). x.state) d ∙ sym e)
-  ]
-  only_new q s (inr d) i = let w = h.only q s (subst (IsIn s) (at_other groups r.state q own d) i) in (in_left s rules (r ∷ []) w.0, w.1)
+  only_new : (q : ℕ) (s : Rule) → (q ≡ r.state) ⊎ (q ≡ r.state → ⊥) → IsIn s (rules_at new q) → IsIn s (rules ++ r ∷ [])
+      × (s.state ≡ q)
+  only_new q s (inl e) i =
+      elim (in_push r s (rules_at groups r.state) (subst (IsIn s) (ap (rules_at new) e ∙ here) i)) [
+        | inl j ↦ (let w = h.only r.state s j in (in_left s rules (r ∷ []) w.0, w.1 ∙ sym e))
+        | inr d ↦ (
+          subst (λ (x : Rule). IsIn x (rules ++ r ∷ [])) (sym d) (in_last r rules),
+          ap (λ (x : Rule). x.state) d
+              ∙ sym e,
+        )
+      ]
+  only_new q s (inr d) i = let w = h.only q s (subst (IsIn s) (at_other groups r.state q own d) i) in
+      (in_left s rules (r ∷ []) w.0, w.1)
 
   old_one : (s : Rule) → (s.state ≡ r.state) ⊎ (s.state ≡ r.state → ⊥) → IsIn s rules → IsIn s (rules_at new s.state)
-  old_one s (inl e) j = subst (IsIn s) (sym (ap (rules_at new) e ∙ here)) (in_left s (rules_at groups r.state) (r ∷ []) (subst (λ (q : ℕ). IsIn s (rules_at groups q)) e (h.each s j)))
+  old_one s (inl e) j = subst (IsIn s) (sym (ap (rules_at new) e ∙ here))
+      (in_left s (rules_at groups r.state) (r ∷ []) (subst (λ (q : ℕ). IsIn s (rules_at groups q)) e (h.each s j)))
   old_one s (inr d) j = subst (IsIn s) (sym (at_other groups r.state s.state own d)) (h.each s j)
 
   pub by_state_push : AreByState (rules ++ r ∷ []) n new
@@ -70,6 +80,7 @@ module _ (rules : List Rule) (n : ℕ) (groups : List (List Rule)) (r : Rule) (l
     only = λ q s i. only_new q s (same_or_not q r.state) i;
     each = λ s i. elim (in_push r s rules i) [
       | inl j ↦ old_one s (same_or_not s.state r.state) j
-      | inr e ↦ subst (λ (x : Rule). IsIn x (rules_at new x.state)) (sym e) (subst (IsIn r) (sym here) (in_last r (rules_at groups r.state)))
+      | inr e ↦ subst (λ (x : Rule). IsIn x (rules_at new x.state)) (sym e)
+          (subst (IsIn r) (sym here) (in_last r (rules_at groups r.state)))
     ];
   }

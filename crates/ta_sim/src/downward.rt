@@ -16,7 +16,8 @@ use std::thread::Threads;
 use ta_core::auto::Auto;
 use ta_core::rounds::settle;
 
-/// The greatest downward simulation on the automaton's states: it is a simulation, and each simulation is within it. The crew runs 1 to 64 jobs and has no bearing on the answer.
+/// The greatest downward simulation on the automaton's states: it is a simulation, and each simulation is within it.
+/// The crew runs 1 to 64 jobs and has no bearing on the answer.
 ///
 /// # Errors
 ///
@@ -30,7 +31,8 @@ pub fn downward<R: Threads + Sync, G: Gate>(
     requires { IsJobs _crew.now.jobs }
     ensures size { IfOk result (λ made. made.size ≡ auto.now.states) }
     ensures simulation { IfOk result (λ made. IsDownward auto.now.rules (Holds made)) }
-    ensures greatest { IfOk result (λ made. (p q : ℕ) → p < auto.now.states → q < auto.now.states → IsSimulated auto.now.rules p q → Holds made p q) }
+    ensures greatest { IfOk result (λ made. (p q : ℕ) → p < auto.now.states → q < auto.now.states → IsSimulated auto.now.rules p q
+        → Holds made p q) }
 {
     let rules = auto.rules.as_slice();
     let groups = by_state(alloc, rules, auto.states)?;

@@ -25,5 +25,6 @@ pub fn simulated_is_reflexive()
 
 /// What simulates a state also simulates those that it simulates.
 pub fn simulated_is_transitive()
-    ensures { (n : ℕ) (rules : List Rule) → Every (IsRankedRule n) rules → (p q r : ℕ) → q < n → IsSimulated rules p q → IsSimulated rules q r → IsSimulated rules p r }
+    ensures { (n : ℕ) (rules : List Rule) → Every (IsRankedRule n) rules → (p q r : ℕ) → q < n → IsSimulated rules p q
+        → IsSimulated rules q r → IsSimulated rules p r }
 {}

@@ -43,7 +43,8 @@ impl Rounds<List<List<bool>>> for Refining<'_> {
     ghost use Rattle.ta_sim.specs.inner.Matching.{AreByState};
     ghost use Rattle.ta_sim.specs.inner.Refining.{AreSquare, Includes, pair_count};
 
-    ghost keeps = { λ r rows. Every (IsRankedRule r.states) r.rules.now × AreByState r.rules.now r.states r.groups.now × AreSquare r.states rows × Includes r.states r.rules.now rows };
+    ghost keeps = { λ r rows. Every (IsRankedRule r.states) r.rules.now × AreByState r.rules.now r.states r.groups.now
+        × AreSquare r.states rows × Includes r.states r.rules.now rows };
 
     ghost is_settled = { λ r rows. IsDownward r.rules.now (Relates rows) };
 
@@ -54,7 +55,8 @@ impl Rounds<List<List<bool>>> for Refining<'_> {
     }
 }
 
-/// Takes away each pair of which the second state has no rule that matches one of the first, by the relation as it was, and says whether there was one.
+/// Takes away each pair of which the second state has no rule that matches one of the first, by the relation as it was,
+/// and says whether there was one.
 fn refine(
     alloc: Global,
     _rules: &[Rule],

@@ -8,7 +8,8 @@ ghost use Rattle.ta_sim.specs.Relations.{entry, Relates};
 use fore_base::list::List;
 use std::marker::Model;
 
-/// A relation on the numbers below `size`. It keeps that there are `size` rows of `size` entries; the entry of row `left` at place `right` says whether `left` is related to `right`.
+/// A relation on the numbers below `size`. It keeps that there are `size` rows of `size` entries; the entry of row
+/// `left` at place `right` says whether `left` is related to `right`.
 #[derive(Debug, Drop)]
 pub struct Relation {
     pub size: u32,

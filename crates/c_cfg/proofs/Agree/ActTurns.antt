@@ -1,5 +1,6 @@
 -- Each act's edges do what the act does.
-use Rattle.std.proofs.Common.{◌≡◌, ℕ, Bool, true, false, Option, Some, None, Result, Ok, Err, List, [], ◌∷◌, length, refl, sym, ap, ◌∙◌}
+use Rattle.std.proofs.Common.{◌≡◌, ℕ, Bool, true, false, Option, Some, None, Result, Ok, Err, List, [], ◌∷◌, length}
+use Rattle.std.proofs.Common.{refl, sym, ap, ◌∙◌}
 use Rattle.fore_base.specs.declared.fault.Fault.{Fault}
 use Rattle.fore_base.specs.declared.store.Datum.{Datum}
 use Rattle.fore_base.specs.declared.shape.Shape.{Shape}
@@ -11,7 +12,8 @@ use Rattle.c_types.specs.declared.program.Act.{Act}
 use Rattle.c_types.specs.declared.program.Act.TheVariants.{SetPtr, SetData, Free, Error, Halt, Return, Break, Continue}
 use Rattle.c_types.specs.Program.{Program, is_typed}
 use Rattle.c_types.specs.Control.{Items, after_again, from_again, closed_ptrs, closed_datums}
-use Rattle.c_types.specs.Steps.{Turn, Goes, Stops, Faults, read_data, look_at, assign, assign_data, free_path, all_dead, settle, settled, finished, act_turn}
+use Rattle.c_types.specs.Steps.{Turn, Goes, Stops, Faults, read_data, look_at, assign, assign_data, free_path, all_dead}
+use Rattle.c_types.specs.Steps.{settle, settled, finished, act_turn}
 use Rattle.c_types.specs.Fits.{ActFits}
 use Rattle.c_types.proofs.Fitting.{Sound}
 use Rattle.c_cfg.specs.declared.graph.Instr.TheVariants.{Kill}
@@ -60,28 +62,39 @@ look_same s (Some q) t e = here (read_data s q) e
     here (Ok d) e = cc
     here (Err k) e = cc
 
-return_turn : (s : Store) (r : Result Store Fault) → ((t : Store) → r ≡ Ok t → s ≡ t) → onto r (λ t. settled_pass (all_dead t)) ≡ turn_pass (Passed (ext0 (all_dead s))) (finished r)
+return_turn : (s : Store) (r : Result Store Fault) → ((t : Store) → r ≡ Ok t → s ≡ t)
+    → onto r (λ t. settled_pass (all_dead t)) ≡ turn_pass (Passed (ext0 (all_dead s))) (finished r)
 return_turn s (Err k) same = refl
 return_turn s (Ok t) same = here (leaks (all_dead t)) refl
   where
-    here : (b : Bool) → leaks (all_dead t) ≡ b → settled_pass (all_dead t) ≡ turn_pass (Passed (ext0 (all_dead s))) (finished (Ok t))
+    here : (b : Bool) → leaks (all_dead t) ≡ b → settled_pass (all_dead t)
+        ≡ turn_pass (Passed (ext0 (all_dead s))) (finished (Ok t))
     here true leak = rw (leaks_ext0 (all_dead t), leak) refl
     here false fine = rw (leaks_ext0 (all_dead t), fine) (ap (λ u. Passed (ext0 (all_dead u))) (sym (same t refl)))
 
-module _ (p : Program) (typed : is_typed p ≡ true) (choice : ℕ) (s : Store) (sound : Sound p s) (whole : leaks s ≡ false) where
+module _ (p : Program) (typed : is_typed p ≡ true) (choice : ℕ) (s : Store) (sound : Sound p s)
+    (whole : leaks s ≡ false) where
   abbrev pass : List Link → Store → Pass
   pass ls g = links_pass p.shapes.structs choice ls g
 
-  pub kill_passes : (ps ds : List ℕ) (stop : Pass) (is : Items) → pass (One (Kill ps ds) ∷ []) (ext0 s) ≡ turn_pass stop (settle (kill ps ds s) is)
-  kill_passes ps ds stop is = one_link p.shapes.structs choice (Kill ps ds) (ext0 s) (kill ps ds s) (ap (λ g. Passed g) (kill_ext0 ps ds s)) ∙ settle_pass stop (kill ps ds s) is
+  pub kill_passes : (ps ds : List ℕ) (stop : Pass) (is : Items) → pass (One (Kill ps ds) ∷ []) (ext0 s)
+      ≡ turn_pass stop (settle (kill ps ds s) is)
+  kill_passes ps ds stop is =
+      one_link p.shapes.structs choice (Kill ps ds) (ext0 s) (kill ps ds s) (ap (λ g. Passed g) (kill_ext0 ps ds s))
+      ∙ settle_pass stop (kill ps ds s) is
 
-  pub act_passes : (a : Act) (is : Items) → ActFits p a → pass (act_row (length p.vars) (length p.data_vars) a is) (ext0 s) ≡ turn_pass (stop_of a s) (act_turn p.shapes.structs a is s choice)
-  act_passes (SetPtr to from) is fits = set_ptr_passes p choice s sound whole typed to from fits ∙ done_turn Halted (assign p.shapes.structs s to from) is
-  act_passes (SetData to from) is fits = set_data_passes p choice s sound whole to from fits ∙ done_turn Halted (assign_data s to from choice) is
+  pub act_passes : (a : Act) (is : Items) → ActFits p a
+      → pass (act_row (length p.vars) (length p.data_vars) a is) (ext0 s)
+      ≡ turn_pass (stop_of a s) (act_turn p.shapes.structs a is s choice)
+  act_passes (SetPtr to from) is fits = set_ptr_passes p choice s sound whole typed to from fits
+      ∙ done_turn Halted (assign p.shapes.structs s to from) is
+  act_passes (SetData to from) is fits = set_data_passes p choice s sound whole to from fits
+      ∙ done_turn Halted (assign_data s to from choice) is
   act_passes (Free q) is fits = free_passes p choice s sound whole q fits ∙ done_turn Halted (free_path s q) is
   act_passes Error is fits = refl
   act_passes Halt is fits = refl
-  act_passes (Return operand) is fits = return_passes p choice s sound whole operand fits ∙ return_turn s (look_at s operand) (look_same s operand)
+  act_passes (Return operand) is fits = return_passes p choice s sound whole operand fits
+      ∙ return_turn s (look_at s operand) (look_same s operand)
   act_passes Break is fits = kill_passes (closed_ptrs is) (closed_datums is) Halted (after_again is)
   act_passes Continue is fits = kill_passes (closed_ptrs is) (closed_datums is) Halted (from_again is)
 
@@ -110,7 +123,8 @@ finished_to (Ok t) is = here (leaks (all_dead t)) refl
     here true leak = rw leak tt
     here false fine = rw fine tt
 
-pub act_to : (shapes : List Shape) (a : Act) (is : Items) (s : Store) (x : ℕ) → GoesTo (followed_by a is) (act_turn shapes a is s x)
+pub act_to : (shapes : List Shape) (a : Act) (is : Items) (s : Store) (x : ℕ)
+    → GoesTo (followed_by a is) (act_turn shapes a is s x)
 act_to shapes (SetPtr to from) is s x = settled_to (assign shapes s to from) is
 act_to shapes (SetData to from) is s x = settled_to (assign_data s to from x) is
 act_to shapes (Free p) is s x = settled_to (free_path s p) is

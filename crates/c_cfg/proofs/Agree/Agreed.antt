@@ -1,5 +1,6 @@
 -- A program and its graph agree.
-use Rattle.std.proofs.Common.{◌≡◌, ◌<◌, ◌≤◌, ◌+◌, ℕ, zero, suc, true, false, List, [], ◌∷◌, ◌++◌, length, replicate, refl, sym, ap, ◌∙◌, subst, arith}
+use Rattle.std.proofs.Common.{◌≡◌, ◌<◌, ◌≤◌, ◌+◌, ℕ, zero, suc, true, false, List, [], ◌∷◌, ◌++◌, length, replicate}
+use Rattle.std.proofs.Common.{refl, sym, ap, ◌∙◌, subst, arith}
 use Rattle.fore_base.specs.declared.fault.Fault.{Fault as Kind}
 use Rattle.fore_base.specs.declared.store.Value.{Value}
 use Rattle.fore_base.specs.declared.store.Value.TheVariants.{Uninit}
@@ -32,7 +33,8 @@ use Rattle.c_cfg.proofs.Landing.{each}
 
 -- one bound of all sizes
 
-bound_more : {A : Type 0} (P Q : A → Type 0) (g : A → ℕ) (v w : ℕ) → v ≤ w → (xs : List A) → Every (λ x. P x × Q x × (g x ≤ v)) xs → Every (λ x. P x × Q x × (g x ≤ w)) xs
+bound_more : {A : Type 0} (P Q : A → Type 0) (g : A → ℕ) (v w : ℕ) → v ≤ w → (xs : List A)
+    → Every (λ x. P x × Q x × (g x ≤ v)) xs → Every (λ x. P x × Q x × (g x ≤ w)) xs
 bound_more P Q g v w h [] e = tt
 bound_more P Q g v w h (x ∷ xs) e = ((e.0.0, e.0.1, omega (arith, e.0.2, h)), bound_more P Q g v w h xs e.1)
 
@@ -45,13 +47,19 @@ bounded : {A : Type 0} (P Q : A → Type 0) (g : A → ℕ) (xs : List A) → Ev
 bounded P Q g [] h k = record { most = 1; positive = omega arith; each_most = tt }
 bounded P Q g (x ∷ xs) h k =
     let rest : Bounded P Q g xs = bounded P Q g xs h.1 k.1 in
-    record { most = g x + rest.most; positive = omega (arith, rest.positive); each_most = ((h.0, k.0, omega arith), bound_more P Q g rest.most (g x + rest.most) (omega arith) xs rest.each_most) }
+    record {
+      most = g x + rest.most;
+      positive = omega (arith, rest.positive);
+      each_most =
+          ((h.0, k.0, omega arith), bound_more P Q g rest.most (g x + rest.most) (omega arith) xs rest.each_most);
+    }
 
 -- The empty stores
 
 two_more : {A : Type 0} (n : ℕ) (x : A) → replicate n x ++ x ∷ x ∷ [] ≡ replicate (n + 2) x
 two_more zero x = refl
-two_more (suc n) x = let more : suc n + 2 ≡ suc (n + 2) = omega arith in ap (λ xs. x ∷ xs) (two_more n x) ∙ sym (ap (λ k. replicate k x) more)
+two_more (suc n) x = let more : suc n + 2 ≡ suc (n + 2) = omega arith in ap (λ xs. x ∷ xs) (two_more n x)
+    ∙ sym (ap (λ k. replicate k x) more)
 
 empty_clear : (ptrs datums : ℕ) → leaks (empty_store ptrs datums) ≡ false
 unfolding leaks
@@ -75,7 +83,8 @@ of_kind other StillRunning = other
 
 fault_from : (o : Outcome) (kind : Kind) (line : ℕ) → stepless o ≡ Fault kind line 0 → IsFaultAt kind line o
 fault_from (Ended step) kind line e = absurd (cc e)
-fault_from (Fault k l step) kind line e = (step, ap (λ z. Fault z l step) (ap (of_kind kind) e) ∙ ap (λ z. Fault kind z step) (ap (at_line line) e))
+fault_from (Fault k l step) kind line e =
+    (step, ap (λ z. Fault z l step) (ap (of_kind kind) e) ∙ ap (λ z. Fault kind z step) (ap (at_line line) e))
 fault_from (Starved step) kind line e = absurd (cc e)
 fault_from (BadChoice index) kind line e = absurd (cc e)
 fault_from StillRunning kind line e = absurd (cc e)
@@ -123,8 +132,11 @@ module _ (p : Program) (typed : is_typed p ≡ true) (g : ControlGraph) (low : L
   abbrev sizes : Items → ℕ
   sizes c = size (length p.vars) (length p.data_vars) c
 
-  pub rowed : Bounded (IsRow (length p.vars) (length p.data_vars) g.edges low.line low.at low.mids) (Ranged p) sizes (places low.items Done)
-  rowed = bounded _ (Ranged p) sizes (places low.items Done) low.rows (places_ranged p low.items Done (unmarked p low.line low.items (subst (Ranged p) (sym low.is_program) (start_ranged p typed))) tt)
+  pub rowed : Bounded (IsRow (length p.vars) (length p.data_vars) g.edges low.line low.at low.mids) (Ranged p) sizes
+      (places low.items Done)
+  rowed = bounded _ (Ranged p) sizes (places low.items Done) low.rows
+      (places_ranged p low.items Done
+      (unmarked p low.line low.items (subst (Ranged p) (sym low.is_program) (start_ranged p typed))) tt)
 
   pub ready : Ready p typed g.edges low.line low.at low.mids rowed.most low.exit low.items first
   ready = record {
@@ -140,19 +152,25 @@ module _ (p : Program) (typed : is_typed p ≡ true) (g : ControlGraph) (low : L
   pub begins : ext0 first ≡ empty_store g.ptrs g.datums
   unfolding made
   begins =
-      ap (λ vs. made vs (replicate (length p.data_vars) Undefined ++ Undefined ∷ Undefined ∷ [])) (two_more (length p.vars) Uninit ∙ ap (λ k. replicate k Uninit) (sym low.ptrs))
-      ∙ ap (λ ds. made (replicate g.ptrs Uninit) ds) (two_more (length p.data_vars) Undefined ∙ ap (λ k. replicate k Undefined) (sym low.datums))
+      ap (λ vs. made vs (replicate (length p.data_vars) Undefined ++ Undefined ∷ Undefined ∷ []))
+      (two_more (length p.vars) Uninit ∙ ap (λ k. replicate k Uninit) (sym low.ptrs))
+      ∙ ap (λ ds. made (replicate g.ptrs Uninit) ds)
+      (two_more (length p.data_vars) Undefined ∙ ap (λ k. replicate k Undefined) (sym low.datums))
 
   source_is : (cs : List ℕ) (n : ℕ) → go p.shapes.structs low.line at_end n 0 low.items first cs 0 ≡ run p cs n
   unfolding run
-  source_is cs n = sym (go_same low.line p.shapes.structs n 0 low.items first cs 0) ∙ ap (λ c. go p.shapes.structs own_line at_end n 0 c first cs 0) low.is_program
+  source_is cs n = sym (go_same low.line p.shapes.structs n 0 low.items first cs 0)
+      ∙ ap (λ c. go p.shapes.structs own_line at_end n 0 c first cs 0) low.is_program
 
-  target_is : (cs : List ℕ) (m : ℕ) → ggo p.shapes.structs g.edges (at_location g.edges) m 0 (low.at (opened low.items)) (ext0 first) cs 0 ≡ grun g cs m
+  target_is : (cs : List ℕ) (m : ℕ)
+      → ggo p.shapes.structs g.edges (at_location g.edges) m 0 (low.at (opened low.items)) (ext0 first) cs 0
+      ≡ grun g cs m
   unfolding grun
   target_is cs m =
       ap (λ k. ggo p.shapes.structs g.edges (at_location g.edges) m 0 k (ext0 first) cs 0) low.entry
       ∙ ap (λ s. ggo p.shapes.structs g.edges (at_location g.edges) m 0 0 s cs 0) begins
-      ∙ ap (λ shapes. ggo shapes g.edges (at_location g.edges) m 0 0 (empty_store g.ptrs g.datums) cs 0) (sym (ap (λ z. z.structs) low.shapes))
+      ∙ ap (λ shapes. ggo shapes g.edges (at_location g.edges) m 0 0 (empty_store g.ptrs g.datums) cs 0)
+      (sym (ap (λ z. z.structs) low.shapes))
 
   forth : (cs : List ℕ) (n m : ℕ) → fuel rowed.most n ≤ m → Follows (run p cs n) (grun g cs m)
   forth cs n m h =
@@ -172,25 +190,50 @@ module _ (p : Program) (typed : is_typed p ≡ true) (g : ControlGraph) (low : L
 
   back : (cs : List ℕ) (m : ℕ) → IsOver (grun g cs m) → stepless (run p cs m) ≡ stepless (grun g cs m)
   back cs m v =
-      from_graph (run p cs m) (grun g cs m) (grun g cs (fuel rowed.most m)) (forth cs m (fuel rowed.most m) (omega arith)) (going cs m)
+      from_graph (run p cs m) (grun g cs m) (grun g cs (fuel rowed.most m))
+      (forth cs m (fuel rowed.most m) (omega arith)) (going cs m)
       (stays cs m (fuel rowed.most m) (fuel_least rowed.most m rowed.positive)) v
 
   pub agree : Agrees p g
   agree = record {
     faults = λ cs kind line. record {
-      there = λ n h. (fuel rowed.most n, fault_from _ kind line (subst (λ o. Follows o (grun g cs (fuel rowed.most n))) h.1 (forth cs n (fuel rowed.most n) (omega arith))));
+      there =
+          λ n h. (
+            fuel rowed.most n,
+            fault_from _ kind line
+                (subst (λ o. Follows o (grun g cs (fuel rowed.most n))) h.1
+                (forth cs n (fuel rowed.most n) (omega arith))),
+          );
       back = λ m h. (m, omega arith, fault_from _ kind line (back cs m (subst IsOver (sym h.1) tt) ∙ ap stepless h.1));
     };
     ends = λ cs. record {
-      there = λ n h. (fuel rowed.most n, ended_from _ (subst (λ o. Follows o (grun g cs (fuel rowed.most n))) h.1 (forth cs n (fuel rowed.most n) (omega arith))));
+      there =
+          λ n h. (
+            fuel rowed.most n,
+            ended_from _
+                (subst (λ o. Follows o (grun g cs (fuel rowed.most n))) h.1
+                (forth cs n (fuel rowed.most n) (omega arith))),
+          );
       back = λ m h. (m, omega arith, ended_from _ (back cs m (subst IsOver (sym h.1) tt) ∙ ap stepless h.1));
     };
     starves = λ cs. record {
-      there = λ n h. (fuel rowed.most n, starved_from _ (subst (λ o. Follows o (grun g cs (fuel rowed.most n))) h.1 (forth cs n (fuel rowed.most n) (omega arith))));
+      there =
+          λ n h. (
+            fuel rowed.most n,
+            starved_from _
+                (subst (λ o. Follows o (grun g cs (fuel rowed.most n))) h.1
+                (forth cs n (fuel rowed.most n) (omega arith))),
+          );
       back = λ m h. (m, omega arith, starved_from _ (back cs m (subst IsOver (sym h.1) tt) ∙ ap stepless h.1));
     };
     bad_choices = λ cs index. record {
-      there = λ n h. (fuel rowed.most n, bad_from _ index (subst (λ o. Follows o (grun g cs (fuel rowed.most n))) h (forth cs n (fuel rowed.most n) (omega arith))));
+      there =
+          λ n h. (
+            fuel rowed.most n,
+            bad_from _ index
+                (subst (λ o. Follows o (grun g cs (fuel rowed.most n))) h
+                (forth cs n (fuel rowed.most n) (omega arith))),
+          );
       back = λ m h. (m, omega arith, bad_from _ index (back cs m (subst IsOver (sym h) tt) ∙ ap stepless h));
     };
   }

@@ -1,5 +1,7 @@
--- Each location is numbered once, so that of a place is in the middle of no step. Where a run comes there, the temporaries hold nothing.
-use Rattle.std.proofs.Common.{◌≡◌, ◌<◌, ◌≤◌, ◌⊎◌, inl, inr, ◌+◌, ℕ, zero, suc, true, List, [], ◌∷◌, ◌++◌, length, refl, subst, arith}
+-- Each location is numbered once, so that of a place is in the middle of no step. Where a run comes there, the
+-- temporaries hold nothing.
+use Rattle.std.proofs.Common.{◌≡◌, ◌<◌, ◌≤◌, ◌⊎◌, inl, inr, ◌+◌, ℕ, zero, suc, true, List, [], ◌∷◌, ◌++◌, length, refl}
+use Rattle.std.proofs.Common.{subst, arith}
 use Rattle.std.specs.List.Sorted.{IsPermutation}
 use Rattle.std.specs.List.{sum_by}
 use Rattle.std.proofs.lemmas.List.Sorted.{sum_by-IsPermutation}
@@ -63,7 +65,8 @@ often_same k xs ys h = sum_by-IsPermutation (one_if k) xs ys h
 
 often_in : (k : ℕ) (xs : List ℕ) → IsIn k xs → 1 ≤ often k xs
 often_in k [] h = absurd h
-often_in k (x ∷ xs) (inl e) = let one : one_if k x ≡ 1 = subst (λ z. one_if k z ≡ 1) e (one_same k) in omega (arith, often_cons k x xs, one)
+often_in k (x ∷ xs) (inl e) = let one : one_if k x ≡ 1 = subst (λ z. one_if k z ≡ 1) e (one_same k) in
+    omega (arith, often_cons k x xs, one)
 often_in k (x ∷ xs) (inr h) = omega (arith, often_cons k x xs, often_in k xs h)
 
 last_often : (k n : ℕ) → often k (n ∷ []) ≡ one_if k n
@@ -71,7 +74,14 @@ last_often k n = omega (arith, often_cons k n [], often_none k)
 
 below_none : (k n : ℕ) → n ≤ k → often k (below n) ≡ 0
 below_none k zero h = often_none k
-below_none k (suc n) h = omega (arith, often_append k (below n) (n ∷ []), last_often k n, one_above k n (omega (arith, h)), below_none k n (omega (arith, h)))
+below_none k (suc n) h =
+    omega (
+      arith,
+      often_append k (below n) (n ∷ []),
+      last_often k n,
+      one_above k n (omega (arith, h)),
+      below_none k n (omega (arith, h)),
+    )
 
 one_least : (n m k : ℕ) → one_if n m ≡ suc k → m ≤ n
 one_least zero zero k e = omega arith
@@ -85,30 +95,44 @@ below_once k (suc n) = by (one_if k n) refl (below_once k n)
   where
     by : (m : ℕ) → one_if k n ≡ m → often k (below n) ≤ 1 → often k (below (suc n)) ≤ 1
     by zero e before = omega (arith, often_append k (below n) (n ∷ []), last_often k n, e, before)
-    by (suc m) e before = omega (arith, often_append k (below n) (n ∷ []), last_often k n, one_most k n, below_none k n (one_least k n m e))
+    by (suc m) e before = omega
+        (arith, often_append k (below n) (n ∷ []), last_often k n, one_most k n, below_none k n (one_least k n m e))
 
 -- The locations of places, and those in the middle of their steps
 
 module _ (at : Items → ℕ) (mids : Items → List ℕ) where
-  often_numbers : (k : ℕ) (c : Items) (cs : List Items) → often k (numbers at mids (c ∷ cs)) ≡ one_if k (at c) + (often k (mids c) + often k (numbers at mids cs))
-  often_numbers k c cs = omega (arith, often_cons k (at c) (mids c ++ numbers at mids cs), often_append k (mids c) (numbers at mids cs))
+  often_numbers : (k : ℕ) (c : Items) (cs : List Items) → often k (numbers at mids (c ∷ cs))
+      ≡ one_if k (at c) + (often k (mids c) + often k (numbers at mids cs))
+  often_numbers k c cs = omega
+      (arith, often_cons k (at c) (mids c ++ numbers at mids cs), often_append k (mids c) (numbers at mids cs))
 
   at_counts : (c : Items) (cs : List Items) → IsIn c (Done ∷ cs) → 1 ≤ often (at c) (numbers at mids cs)
-  at_counts c [] (inl e) = let one : one_if (at c) (at Done) ≡ 1 = subst (λ z. one_if (at c) (at z) ≡ 1) e (one_same (at c)) in omega (arith, last_often (at c) (at Done), one)
+  at_counts c [] (inl e) =
+      let one : one_if (at c) (at Done) ≡ 1 = subst (λ z. one_if (at c) (at z) ≡ 1) e (one_same (at c)) in
+      omega (arith, last_often (at c) (at Done), one)
   at_counts c [] (inr h) = absurd h
   at_counts c (d ∷ ds) (inl e) = omega (arith, often_numbers (at c) d ds, at_counts c ds (inl e))
-  at_counts c (d ∷ ds) (inr (inl e)) = let one : one_if (at c) (at d) ≡ 1 = subst (λ z. one_if (at c) (at z) ≡ 1) e (one_same (at c)) in omega (arith, often_numbers (at c) d ds, one)
+  at_counts c (d ∷ ds) (inr (inl e)) =
+      let one : one_if (at c) (at d) ≡ 1 = subst (λ z. one_if (at c) (at z) ≡ 1) e (one_same (at c)) in
+      omega (arith, often_numbers (at c) d ds, one)
   at_counts c (d ∷ ds) (inr (inr h)) = omega (arith, often_numbers (at c) d ds, at_counts c ds (inr h))
 
   mid_counts : (k : ℕ) (d : Items) (cs : List Items) → IsIn d cs → IsIn k (mids d) → 1 ≤ often k (numbers at mids cs)
   mid_counts k d [] h i = absurd h
-  mid_counts k d (c ∷ cs) (inl e) i = omega (arith, often_numbers k c cs, often_in k (mids c) (subst (λ z. IsIn k (mids z)) e i))
+  mid_counts k d (c ∷ cs) (inl e) i =
+      omega (arith, often_numbers k c cs, often_in k (mids c) (subst (λ z. IsIn k (mids z)) e i))
   mid_counts k d (c ∷ cs) (inr h) i = omega (arith, often_numbers k c cs, mid_counts k d cs h i)
 
-  both_count : (c d : Items) (cs : List Items) → IsIn c (Done ∷ cs) → IsIn d cs → IsIn (at c) (mids d) → 2 ≤ often (at c) (numbers at mids cs)
+  both_count : (c d : Items) (cs : List Items) → IsIn c (Done ∷ cs) → IsIn d cs → IsIn (at c) (mids d)
+      → 2 ≤ often (at c) (numbers at mids cs)
   both_count c d [] h j i = absurd j
   both_count c d (e ∷ es) (inl h) (inl j) i =
-      omega (arith, often_numbers (at c) e es, often_in (at c) (mids e) (subst (λ z. IsIn (at c) (mids z)) j i), at_counts c es (inl h))
+      omega (
+        arith,
+        often_numbers (at c) e es,
+        often_in (at c) (mids e) (subst (λ z. IsIn (at c) (mids z)) j i),
+        at_counts c es (inl h),
+      )
   both_count c d (e ∷ es) (inl h) (inr j) i = omega (arith, often_numbers (at c) e es, both_count c d es (inl h) j i)
   both_count c d (e ∷ es) (inr (inl h)) (inl j) i =
       let one : one_if (at c) (at e) ≡ 1 = subst (λ z. one_if (at c) (at z) ≡ 1) h (one_same (at c)) in
@@ -117,17 +141,31 @@ module _ (at : Items → ℕ) (mids : Items → List ℕ) where
       let one : one_if (at c) (at e) ≡ 1 = subst (λ z. one_if (at c) (at z) ≡ 1) h (one_same (at c)) in
       omega (arith, often_numbers (at c) e es, one, mid_counts (at c) d es j i)
   both_count c d (e ∷ es) (inr (inr h)) (inl j) i =
-      omega (arith, often_numbers (at c) e es, often_in (at c) (mids e) (subst (λ z. IsIn (at c) (mids z)) j i), at_counts c es (inr h))
-  both_count c d (e ∷ es) (inr (inr h)) (inr j) i = omega (arith, often_numbers (at c) e es, both_count c d es (inr h) j i)
+      omega (
+        arith,
+        often_numbers (at c) e es,
+        often_in (at c) (mids e) (subst (λ z. IsIn (at c) (mids z)) j i),
+        at_counts c es (inr h),
+      )
+  both_count c d (e ∷ es) (inr (inr h)) (inr j) i =
+      omega (arith, often_numbers (at c) e es, both_count c d es (inr h) j i)
 
 module _ (p : Program) (typed : is_typed p ≡ true) (g : ControlGraph) (low : LowerOf p g) where
-  in_no_middle : (c d : Items) → IsIn c (Done ∷ places low.items Done) → IsIn d (places low.items Done) → IsIn (low.at c) (low.mids d) → ⊥
+  in_no_middle : (c d : Items) → IsIn c (Done ∷ places low.items Done) → IsIn d (places low.items Done)
+      → IsIn (low.at c) (low.mids d) → ⊥
   in_no_middle c d h j i =
-      absurd (omega (arith, both_count low.at low.mids c d (places low.items Done) h j i, often_same (low.at c) _ _ low.all_numbers, below_once (low.at c) g.locations))
+      absurd
+      (omega (
+        arith,
+        both_count low.at low.mids c d (places low.items Done) h j i,
+        often_same (low.at c) _ _ low.all_numbers,
+        below_once (low.at c) g.locations,
+      ))
 
   pub unset_between_steps : UnsetBetweenSteps p g low
   unset_between_steps c h s visits = by (middle_or_unset p typed g low (low.at c) s visits)
     where
-      by : Middle p typed g low (low.at c) ⊎ TemporariesUnset (length p.vars) (length p.data_vars) s → TemporariesUnset (length p.vars) (length p.data_vars) s
+      by : Middle p typed g low (low.at c) ⊎ TemporariesUnset (length p.vars) (length p.data_vars) s
+          → TemporariesUnset (length p.vars) (length p.data_vars) s
       by (inl mid) = absurd (in_no_middle c mid.items h mid.is_there mid.is_mid)
       by (inr unset) = unset

@@ -22,24 +22,32 @@ IsCleared t u [] x = x ≡ u
 IsCleared t u (n ∷ []) x = n ≡ t
 IsCleared t u (n ∷ m ∷ ns) x = ⊥
 
-both_cleared : {A : Type 0} (m : ℕ) (xs : List A) (u : A) → length xs ≡ m → (ps qs : List ℕ) (x y : A) → IsCleared m u ps x → IsCleared (m + 1) u qs y → set_each (xs ++ x ∷ y ∷ []) (ps ++ qs) u ≡ xs ++ u ∷ u ∷ []
+both_cleared : {A : Type 0} (m : ℕ) (xs : List A) (u : A) → length xs ≡ m → (ps qs : List ℕ) (x y : A)
+    → IsCleared m u ps x → IsCleared (m + 1) u qs y → set_each (xs ++ x ∷ y ∷ []) (ps ++ qs) u ≡ xs ++ u ∷ u ∷ []
 both_cleared m xs u e [] [] x y a b = ap (λ z. xs ++ z ∷ y ∷ []) a ∙ ap (λ z. xs ++ u ∷ z ∷ []) b
 both_cleared m xs u e [] (n ∷ []) x y a b = set_second xs x y n u (omega (arith, e, b)) ∙ ap (λ z. xs ++ z ∷ u ∷ []) a
 both_cleared m xs u e (n ∷ []) [] x y a b = set_first xs x y n u (omega (arith, e, a)) ∙ ap (λ z. xs ++ u ∷ z ∷ []) b
-both_cleared m xs u e (n ∷ []) (k ∷ []) x y a b = ap (λ zs. slice_set zs k u) (set_first xs x y n u (omega (arith, e, a))) ∙ set_second xs u y k u (omega (arith, e, b))
+both_cleared m xs u e (n ∷ []) (k ∷ []) x y a b =
+    ap (λ zs. slice_set zs k u) (set_first xs x y n u (omega (arith, e, a)))
+    ∙ set_second xs u y k u (omega (arith, e, b))
 both_cleared m xs u e [] (n ∷ k ∷ ns) x y a b = absurd b
 both_cleared m xs u e (n ∷ []) (k ∷ j ∷ ns) x y a b = absurd b
 both_cleared m xs u e (n ∷ k ∷ ns) qs x y a b = absurd a
 
 module _ (nv nd : ℕ) where
   -- the lists of the Kill, as they are made up of those of each temporary
-  pub all_cleared : (t : Store) → Sized nv nd t → (x y : Value) (d e : Datum) (ps qs ds es killed killed_datums : List ℕ) → killed ≡ ps ++ qs → killed_datums ≡ ds ++ es
-      → IsCleared nv Uninit ps x → IsCleared (nv + 1) Uninit qs y → IsCleared nd Undefined ds d → IsCleared (nd + 1) Undefined es e → kill killed killed_datums (ext t x y d e) ≡ ext0 t
+  pub all_cleared : (t : Store) → Sized nv nd t
+      → (x y : Value) (d e : Datum) (ps qs ds es killed killed_datums : List ℕ) → killed ≡ ps ++ qs → killed_datums ≡ ds
+      ++ es
+      → IsCleared nv Uninit ps x → IsCleared (nv + 1) Uninit qs y → IsCleared nd Undefined ds d
+      → IsCleared (nd + 1) Undefined es e → kill killed killed_datums (ext t x y d e) ≡ ext0 t
   all_cleared t z x y d e ps qs ds es killed killed_datums ep ed a b c f =
       ap (λ ks. kill ks killed_datums (ext t x y d e)) ep
       ∙ ap (λ ks. kill (ps ++ qs) ks (ext t x y d e)) ed
-      ∙ ap (λ vs. with_vars t vs (set_each (t.data_vars ++ d ∷ e ∷ []) (ds ++ es) Undefined)) (both_cleared nv t.vars Uninit z.ptrs ps qs x y a b)
-      ∙ ap (λ us. with_vars t (t.vars ++ Uninit ∷ Uninit ∷ []) us) (both_cleared nd t.data_vars Undefined z.datums ds es d e c f)
+      ∙ ap (λ vs. with_vars t vs (set_each (t.data_vars ++ d ∷ e ∷ []) (ds ++ es) Undefined))
+      (both_cleared nv t.vars Uninit z.ptrs ps qs x y a b)
+      ∙ ap (λ us. with_vars t (t.vars ++ Uninit ∷ Uninit ∷ []) us)
+      (both_cleared nd t.data_vars Undefined z.datums ds es d e c f)
 
 pub held_cleared : (t : ℕ) (fs : List ℕ) (v : Value) → IsCleared t Uninit (used t fs) (held fs v)
 held_cleared t [] v = refl

@@ -1,14 +1,18 @@
--- Where a program's run is over, the graph's is, alike; while the program's run goes on, so does the graph's; and a run of a graph that is over stays so.
-use Rattle.std.proofs.Common.{◌≡◌, ◌<◌, ◌≤◌, ◌+◌, ◌-◌, ℕ, zero, suc, Bool, true, false, if◌then◌else◌, List, [], ◌∷◌, length, refl, sym, ap, ◌∙◌, subst, arith}
+-- Where a program's run is over, the graph's is, alike; while the program's run goes on, so does the graph's; and a run
+-- of a graph that is over stays so.
+use Rattle.std.proofs.Common.{◌≡◌, ◌<◌, ◌≤◌, ◌+◌, ◌-◌, ℕ, zero, suc, Bool, true, false, if◌then◌else◌, List, [], ◌∷◌}
+use Rattle.std.proofs.Common.{length, refl, sym, ap, ◌∙◌, subst, arith}
 use Rattle.fore_base.specs.declared.shape.Shape.{Shape}
 use Rattle.fore_base.specs.declared.store.Store.{Store}
 use Rattle.fore_base.specs.Heap.{IsProper, leaks}
 use Rattle.c_types.specs.declared.outcome.Outcome.{Outcome}
 use Rattle.c_types.specs.declared.outcome.Outcome.TheVariants.{Ended, Fault, Starved, BadChoice, StillRunning}
 use Rattle.c_types.specs.declared.program.Atom.{Atom}
-use Rattle.c_types.specs.declared.program.Atom.TheVariants.{Choice as ChoiceAtom, Known as KnownAtom, Ptr as PtrAtom, Data as DataAtom}
+use Rattle.c_types.specs.declared.program.Atom.TheVariants.{Choice as ChoiceAtom, Known as KnownAtom, Ptr as PtrAtom}
+use Rattle.c_types.specs.declared.program.Atom.TheVariants.{Data as DataAtom}
 use Rattle.c_types.specs.Program.{Program, is_typed}
-use Rattle.c_types.specs.Control.{Items, Done, Do, Close, If, Loop, Again, DoLoop, DoAgain, Ask, Not, Both, Either, ◌then◌, opened}
+use Rattle.c_types.specs.Control.{Items, Done, Do, Close, If, Loop, Again, DoLoop, DoAgain, Ask, Not, Both, Either}
+use Rattle.c_types.specs.Control.{◌then◌, opened}
 use Rattle.c_types.specs.Steps.{Goes, turn_of}
 use Rattle.c_types.specs.Runs.{supply, at_end, advance, go}
 use Rattle.c_types.specs.Fits.{FitsProgram, ItemsFit}
@@ -102,13 +106,15 @@ shorter StillRunning r t h k = went_on t r k h
 abbrev Rest : Type 0
 Rest = ℕ → ℕ → Store → List ℕ → ℕ → Outcome
 
-pass_stays : (z : Pass) (line q : ℕ) (f g : Store → Outcome) (a b : Outcome) → ((t : Store) → Stays (f t) (g t)) → Stays a b → Stays (after_pass z line q f a) (after_pass z line q g b)
+pass_stays : (z : Pass) (line q : ℕ) (f g : Store → Outcome) (a b : Outcome) → ((t : Store) → Stays (f t) (g t))
+    → Stays a b → Stays (after_pass z line q f a) (after_pass z line q g b)
 pass_stays (Passed t) line q f g a b h k = h t
 pass_stays (Faulted j) line q f g a b h k = refl
 pass_stays Halted line q f g a b h k = refl
 pass_stays NotPassed line q f g a b h k = k
 
-supply_stays : (b : Bool) (cs : List ℕ) (q u : ℕ) (f g : ℕ → List ℕ → ℕ → Outcome) → ((x : ℕ) (ds : List ℕ) (v : ℕ) → Stays (f x ds v) (g x ds v)) → Stays (supply b cs q u f) (supply b cs q u g)
+supply_stays : (b : Bool) (cs : List ℕ) (q u : ℕ) (f g : ℕ → List ℕ → ℕ → Outcome)
+    → ((x : ℕ) (ds : List ℕ) (v : ℕ) → Stays (f x ds v) (g x ds v)) → Stays (supply b cs q u f) (supply b cs q u g)
 supply_stays false cs q u f g k = k 0 cs u
 supply_stays true [] q u f g k = refl
 supply_stays true (zero ∷ cs) q u f g k = k 0 cs (u + 1)
@@ -116,28 +122,40 @@ supply_stays true (suc zero ∷ cs) q u f g k = k 1 cs (u + 1)
 supply_stays true (suc (suc n) ∷ cs) q u f g k = refl
 
 module _ (shapes : List Shape) where
-  first_stays : (es : List Edge) (x : ℕ) (f g : ℕ → Store → Outcome) → ((k : ℕ) (t : Store) → Stays (f k t) (g k t)) → (q : ℕ) (s : Store) → Stays (first_pass shapes es x f q s) (first_pass shapes es x g q s)
+  first_stays : (es : List Edge) (x : ℕ) (f g : ℕ → Store → Outcome) → ((k : ℕ) (t : Store) → Stays (f k t) (g k t))
+      → (q : ℕ) (s : Store) → Stays (first_pass shapes es x f q s) (first_pass shapes es x g q s)
   first_stays [] x f g h q s = tt
   first_stays (e ∷ es) x f g h q s = by (first_stays es x f g h q s) (is_taken_on x e.choice)
     where
       by : Stays (first_pass shapes es x f q s) (first_pass shapes es x g q s) → (b : Bool)
-          → Stays (if b then after_pass (gstep shapes e s) e.line q (f e.to) (first_pass shapes es x f q s) else first_pass shapes es x f q s) (if b then after_pass (gstep shapes e s) e.line q (g e.to) (first_pass shapes es x g q s) else first_pass shapes es x g q s)
+          → Stays (if b then after_pass (gstep shapes e s) e.line q (f e.to) (first_pass shapes es x f q s)
+          else first_pass shapes es x f q s)
+          (if b then after_pass (gstep shapes e s) e.line q (g e.to) (first_pass shapes es x g q s)
+          else first_pass shapes es x g q s)
       by rest true = pass_stays (gstep shapes e s) e.line q (f e.to) (g e.to) _ _ (λ t. h e.to t) rest
       by rest false = rest
 
-  leave_stays : (f g : Rest) → ((q k : ℕ) (t : Store) (ds : List ℕ) (v : ℕ) → Stays (f q k t ds v) (g q k t ds v)) → (es : List Edge) (q : ℕ) (s : Store) (cs : List ℕ) (u : ℕ) → Stays (leave shapes es f q s cs u) (leave shapes es g q s cs u)
+  leave_stays : (f g : Rest) → ((q k : ℕ) (t : Store) (ds : List ℕ) (v : ℕ) → Stays (f q k t ds v) (g q k t ds v))
+      → (es : List Edge) (q : ℕ) (s : Store) (cs : List ℕ) (u : ℕ)
+      → Stays (leave shapes es f q s cs u) (leave shapes es g q s cs u)
   leave_stays f g h [] q s cs u = refl
-  leave_stays f g h (e ∷ es) q s cs u = supply_stays (has_choice e.choice) cs (q + 1) u _ _ (λ x ds v. first_stays (e ∷ es) x (λ k t. f (q + 1) k t ds v) (λ k t. g (q + 1) k t ds v) (λ k t. h (q + 1) k t ds v) (q + 1) s)
+  leave_stays f g h (e ∷ es) q s cs u =
+      supply_stays (has_choice e.choice) cs (q + 1) u _ _
+      (λ x ds v. first_stays (e ∷ es) x (λ k t. f (q + 1) k t ds v) (λ k t. g (q + 1) k t ds v)
+      (λ k t. h (q + 1) k t ds v) (q + 1) s)
 
-  left_stays : (es : List Edge) (f : Rest) (q : ℕ) (s : Store) (cs : List ℕ) (u : ℕ) → Stays (unless_left es q StillRunning) (leave shapes es f q s cs u)
+  left_stays : (es : List Edge) (f : Rest) (q : ℕ) (s : Store) (cs : List ℕ) (u : ℕ)
+      → Stays (unless_left es q StillRunning) (leave shapes es f q s cs u)
   left_stays [] f q s cs u = refl
   left_stays (e ∷ es) f q s cs u = tt
 
-  pub longer : (edges : List Edge) (n m : ℕ) → n ≤ m → (q k : ℕ) (s : Store) (cs : List ℕ) (u : ℕ) → Stays (ggo shapes edges (at_location edges) n q k s cs u) (ggo shapes edges (at_location edges) m q k s cs u)
+  pub longer : (edges : List Edge) (n m : ℕ) → n ≤ m → (q k : ℕ) (s : Store) (cs : List ℕ) (u : ℕ)
+      → Stays (ggo shapes edges (at_location edges) n q k s cs u) (ggo shapes edges (at_location edges) m q k s cs u)
   longer edges zero zero h q k s cs u = stays_same (at_location edges k q)
   longer edges zero (suc m) h q k s cs u = left_stays (out_of edges k) _ q s cs u
   longer edges (suc n) zero h q k s cs u = absurd (omega (arith, h))
-  longer edges (suc n) (suc m) h q k s cs u = leave_stays _ _ (λ r j t ds v. longer edges n m (omega (arith, h)) r j t ds v) (out_of edges k) q s cs u
+  longer edges (suc n) (suc m) h q k s cs u =
+      leave_stays _ _ (λ r j t ds v. longer edges n m (omega (arith, h)) r j t ds v) (out_of edges k) q s cs u
 
 -- Each place's step has an edge
 
@@ -149,18 +167,23 @@ module _ (nv nd : ℕ) where
   atom_size_least (DataAtom l r e) m x y is = omega arith
 
 -- some edge begins where a way does
-begun : (edges : List Edge) (line : ℕ) (ls : List Link) (k : ℕ) (ms : List ℕ) (to : ℕ) → Filled ls → IsWay edges line ls k ms to → (q : ℕ) → at_location edges k q ≡ StillRunning
+begun : (edges : List Edge) (line : ℕ) (ls : List Link) (k : ℕ) (ms : List ℕ) (to : ℕ) → Filled ls
+    → IsWay edges line ls k ms to → (q : ℕ) → at_location edges k q ≡ StillRunning
 begun edges line [] k ms to h w q = absurd h
 begun edges line (l ∷ ls) k [] to h w q = absurd w
 begun edges line (One i ∷ ls) k (m ∷ ms) to h w q = ap (λ es. unless_left es q StillRunning) w.0
 begun edges line (Two i j ∷ ls) k (m ∷ ms) to h w q = ap (λ es. unless_left es q StillRunning) w.0
 
-test_begun : (edges : List Edge) (line : ℕ) (pre : List Link) (test : Bool → Instr) (post : List Link) (k : ℕ) (ms : List ℕ) (same other : ℕ) → IsTestRow edges line pre test post k ms same other → (q : ℕ) → at_location edges k q ≡ StillRunning
-test_begun edges line (l ∷ pre) test post k ms same other row q = begun edges line (l ∷ pre) k row.front row.tested tt row.reads q
+test_begun : (edges : List Edge) (line : ℕ) (pre : List Link) (test : Bool → Instr) (post : List Link) (k : ℕ)
+    (ms : List ℕ) (same other : ℕ) → IsTestRow edges line pre test post k ms same other → (q : ℕ)
+    → at_location edges k q ≡ StillRunning
+test_begun edges line (l ∷ pre) test post k ms same other row q =
+    begun edges line (l ∷ pre) k row.front row.tested tt row.reads q
 test_begun edges line [] test post k ms same other row q = by row.front row.reads
   where
     by : (front : List ℕ) → IsWay edges line [] k front row.tested → at_location edges k q ≡ StillRunning
-    by [] e = ap (λ j. unless_left (out_of edges j) q StillRunning) e ∙ ap (λ es. unless_left es q StillRunning) row.compares
+    by [] e = ap (λ j. unless_left (out_of edges j) q StillRunning) e
+        ∙ ap (λ es. unless_left es q StillRunning) row.compares
     by (m ∷ ms) e = absurd e
 
 -- as many edges as n steps need, where no step needs more than most
@@ -172,7 +195,8 @@ pub fuel_least : (most n : ℕ) → 0 < most → n ≤ fuel most n
 fuel_least most zero h = omega arith
 fuel_least most (suc n) h = omega (arith, h, fuel_least most n h)
 
-module _ (p : Program) (typed : is_typed p ≡ true) (edges : List Edge) (line : ℕ → ℕ) (at : Items → ℕ) (mids : Items → List ℕ) (most : ℕ) (exit : out_of edges (at Done) ≡ []) where
+module _ (p : Program) (typed : is_typed p ≡ true) (edges : List Edge) (line : ℕ → ℕ) (at : Items → ℕ)
+    (mids : Items → List ℕ) (most : ℕ) (exit : out_of edges (at Done) ≡ []) where
   abbrev Place : Items → Type 0
   Place c = IsKnown p edges line at mids most c
 
@@ -189,15 +213,18 @@ module _ (p : Program) (typed : is_typed p ≡ true) (edges : List Edge) (line :
     pub sound : Sound p s
     pub clear : leaks s ≡ false
 
-  pub next_ready : (c js : Items) (s t : Store) (x : ℕ) → Ready c s → turn_of p.shapes.structs (opened c) s x ≡ Goes js t → leaks t ≡ false → Each Place js Done → Ready js t
+  pub next_ready : (c js : Items) (s t : Store) (x : ℕ) → Ready c s → turn_of p.shapes.structs (opened c) s x
+      ≡ Goes js t → leaks t ≡ false → Each Place js Done → Ready js t
   next_ready c js s t x ready e clear each =
-      let kept : ItemsFit p js × IsProper t × FitsProgram p t = step_keeps p typed c js s t x ready.fits (sound_proper p s ready.sound) (sound_fits p s ready.sound) e in
+      let kept : ItemsFit p js × IsProper t × FitsProgram p t =
+      step_keeps p typed c js s t x ready.fits (sound_proper p s ready.sound) (sound_fits p s ready.sound) e in
       record { places = each; fits = kept.0; sound = is_sound p t kept.1 kept.2; clear = clear }
 
   pub front_of : (c : Items) (s : Store) → Ready c s → Front Place (opened c)
   front_of c s ready = each_opened Place c (exit, tt, omega arith) ready.places
 
-  over_start : (o : Items) (st m q : ℕ) (g : Store) (cs : List ℕ) (u : ℕ) → Follows (at_end o st) (graph m q (at o) g cs u)
+  over_start : (o : Items) (st m q : ℕ) (g : Store) (cs : List ℕ) (u : ℕ)
+      → Follows (at_end o st) (graph m q (at o) g cs u)
   over_start Done st m q g cs u = exit_ends p typed Follows follows_equal edges line at mids most exit m q g cs u
   over_start (Do a k is) st m q g cs u = tt
   over_start (Close ps ds k is) st m q g cs u = tt
@@ -208,7 +235,8 @@ module _ (p : Program) (typed : is_typed p ≡ true) (edges : List Edge) (line :
   over_start (DoAgain c b is) st m q g cs u = tt
 
   -- where the program's run is over, so is the graph's
-  pub over : (n m : ℕ) → fuel most n ≤ m → (c : Items) (s : Store) → Ready c s → (st q : ℕ) (cs : List ℕ) (u : ℕ) → Follows (source n st c s cs u) (graph m q (at (opened c)) (ext0 s) cs u)
+  pub over : (n m : ℕ) → fuel most n ≤ m → (c : Items) (s : Store) → Ready c s → (st q : ℕ) (cs : List ℕ) (u : ℕ)
+      → Follows (source n st c s cs u) (graph m q (at (opened c)) (ext0 s) cs u)
   over zero m h c s ready st q cs u = over_start (opened c) st m q (ext0 s) cs u
   over (suc n) m h c s ready st q cs u =
       let front : Front Place (opened c) = front_of c s ready in
@@ -216,10 +244,15 @@ module _ (p : Program) (typed : is_typed p ≡ true) (edges : List Edge) (line :
       let least : size (length p.vars) (length p.data_vars) (opened c) ≤ most = front.0.2 in
       let split : m ≡ k + (m - k) = omega (arith, h, least) in
       subst (λ z. Follows (source (suc n) st c s cs u) (graph z q (at (opened c)) (ext0 s) cs u)) (sym split)
-      (step_alike p typed Follows follows_equal edges line at mids most exit (m - k) (λ st js t ds v. source n st js t ds v) st q s ready.sound ready.clear cs u (opened c) front (opened_fit p c ready.fits)
-      (λ x ds v js t e clear each st r. over n (m - k) (omega (arith, h, least)) js t (next_ready c js s t x ready e clear each) st r ds v))
+      (step_alike p typed Follows follows_equal edges line at mids most exit (m - k)
+      (λ st js t ds v. source n st js t ds v) st q s ready.sound ready.clear cs u (opened c) front
+      (opened_fit p c ready.fits)
+      (λ x ds v js t e clear each st r.
+      over n (m - k) (omega (arith, h, least)) js t (next_ready c js s t x ready e clear each) st r ds v))
 
-  atom_begun : (a : Atom) (m : ℕ) (x y is : Items) → IsRow (length p.vars) (length p.data_vars) edges line at mids (If (Ask a m) x y is) → (q : ℕ) → at_location edges (at (If (Ask a m) x y is)) q ≡ StillRunning
+  atom_begun : (a : Atom) (m : ℕ) (x y is : Items)
+      → IsRow (length p.vars) (length p.data_vars) edges line at mids (If (Ask a m) x y is) → (q : ℕ)
+      → at_location edges (at (If (Ask a m) x y is)) q ≡ StillRunning
   atom_begun ChoiceAtom m x y is h q = ap (λ es. unless_left es q StillRunning) h.0
   atom_begun (KnownAtom true) m x y is h q = ap (λ es. unless_left es q StillRunning) h.0
   atom_begun (KnownAtom false) m x y is h q = ap (λ es. unless_left es q StillRunning) h.0
@@ -230,7 +263,9 @@ module _ (p : Program) (typed : is_typed p ≡ true) (edges : List Edge) (line :
 
   still_start : (o : Items) → Place o → (st q : ℕ) → Still (at_end o st) (at_location edges (at o) q)
   still_start Done h st q = tt
-  still_start (Do a m is) h st q = begun edges (line m) (act_row (length p.vars) (length p.data_vars) a is) _ h.0.way _ (act_filled (length p.vars) (length p.data_vars) a is) h.0.leads q
+  still_start (Do a m is) h st q =
+      begun edges (line m) (act_row (length p.vars) (length p.data_vars) a is) _ h.0.way _
+      (act_filled (length p.vars) (length p.data_vars) a is) h.0.leads q
   still_start (Close ps ds m is) h st q = begun edges (line m) (One _ ∷ []) _ h.0.way _ tt h.0.leads q
   still_start (If (Ask a m) x y is) h st q = atom_begun a m x y is h.0 q
   still_start (If (Not c) x y is) h st q = absurd h.0
@@ -242,27 +277,43 @@ module _ (p : Program) (typed : is_typed p ≡ true) (edges : List Edge) (line :
   still_start (DoAgain c b is) h st q = absurd h.0
 
   -- one step, given the runs after it
-  module _ (n : ℕ) (later : (c : Items) (s : Store) → Ready c s → (st q : ℕ) (cs : List ℕ) (u : ℕ) → Still (source n st c s cs u) (graph n q (at (opened c)) (ext0 s) cs u))
+  module _ (n : ℕ) (later : (c : Items) (s : Store) → Ready c s → (st q : ℕ) (cs : List ℕ) (u : ℕ)
+      → Still (source n st c s cs u) (graph n q (at (opened c)) (ext0 s) cs u))
       (c : Items) (s : Store) (ready : Ready c s) (st q : ℕ) (cs : List ℕ) (u : ℕ) where
-    cut : (o : Items) → opened c ≡ o → 0 < size (length p.vars) (length p.data_vars) (opened c) → Still (advance p.shapes.structs line at_end (opened c) (λ st js t ds v. source n st js t ds v) st s cs u) (graph (suc n) q (at (opened c)) (ext0 s) cs u)
+    cut : (o : Items) → opened c ≡ o → 0 < size (length p.vars) (length p.data_vars) (opened c)
+        → Still (advance p.shapes.structs line at_end (opened c) (λ st js t ds v. source n st js t ds v) st s cs u)
+        (graph (suc n) q (at (opened c)) (ext0 s) cs u)
     cut o is h =
         let k : ℕ = size (length p.vars) (length p.data_vars) (opened c) in
         shorter _ (graph (k + n) q (at (opened c)) (ext0 s) cs u) _
-        (step_alike p typed Still still_equal edges line at mids most exit n (λ st js t ds v. source n st js t ds v) st q s ready.sound ready.clear cs u (opened c) (front_of c s ready) (opened_fit p c ready.fits)
+        (step_alike p typed Still still_equal edges line at mids most exit n (λ st js t ds v. source n st js t ds v) st
+        q s ready.sound ready.clear cs u (opened c) (front_of c s ready) (opened_fit p c ready.fits)
         (λ x ds v js t e clear each st r. later js t (next_ready c js s t x ready e clear each) st r ds v))
         (longer p.shapes.structs edges (suc n) (k + n) (omega (arith, h)) q (at (opened c)) (ext0 s) cs u)
 
-    ended_at_once : (o : Items) → o ≡ Done → Still (advance p.shapes.structs line at_end o (λ st js t ds v. source n st js t ds v) st s cs u) (graph (suc n) q (at o) (ext0 s) cs u)
-    ended_at_once o is = subst (λ z. Still (advance p.shapes.structs line at_end z (λ st js t ds v. source n st js t ds v) st s cs u) (graph (suc n) q (at z) (ext0 s) cs u)) (sym is) tt
+    ended_at_once : (o : Items) → o ≡ Done
+        → Still (advance p.shapes.structs line at_end o (λ st js t ds v. source n st js t ds v) st s cs u)
+        (graph (suc n) q (at o) (ext0 s) cs u)
+    ended_at_once o is = subst
+        (λ z. Still (advance p.shapes.structs line at_end z (λ st js t ds v. source n st js t ds v) st s cs u)
+        (graph (suc n) q (at z) (ext0 s) cs u)) (sym is) tt
 
-    long : (o : Items) → Place o → opened c ≡ o → 0 < size (length p.vars) (length p.data_vars) o → Still (advance p.shapes.structs line at_end (opened c) (λ st js t ds v. source n st js t ds v) st s cs u) (graph (suc n) q (at (opened c)) (ext0 s) cs u)
+    long : (o : Items) → Place o → opened c ≡ o → 0 < size (length p.vars) (length p.data_vars) o
+        → Still (advance p.shapes.structs line at_end (opened c) (λ st js t ds v. source n st js t ds v) st s cs u)
+        (graph (suc n) q (at (opened c)) (ext0 s) cs u)
     long o h is least = cut o is (subst (λ z. 0 < size (length p.vars) (length p.data_vars) z) (sym is) least)
 
-    step_goes : (o : Items) → Place o → opened c ≡ o → Still (advance p.shapes.structs line at_end (opened c) (λ st js t ds v. source n st js t ds v) st s cs u) (graph (suc n) q (at (opened c)) (ext0 s) cs u)
+    step_goes : (o : Items) → Place o → opened c ≡ o
+        → Still (advance p.shapes.structs line at_end (opened c) (λ st js t ds v. source n st js t ds v) st s cs u)
+        (graph (suc n) q (at (opened c)) (ext0 s) cs u)
     step_goes Done h is = ended_at_once (opened c) is
-    step_goes (Do a m js) h is = long (Do a m js) h is (filled_length (act_row (length p.vars) (length p.data_vars) a js) (act_filled (length p.vars) (length p.data_vars) a js))
+    step_goes (Do a m js) h is =
+        long (Do a m js) h is
+        (filled_length (act_row (length p.vars) (length p.data_vars) a js)
+        (act_filled (length p.vars) (length p.data_vars) a js))
     step_goes (Close ps ds m js) h is = long (Close ps ds m js) h is (omega arith)
-    step_goes (If (Ask a m) x y js) h is = long (If (Ask a m) x y js) h is (atom_size_least (length p.vars) (length p.data_vars) a m x y js)
+    step_goes (If (Ask a m) x y js) h is =
+        long (If (Ask a m) x y js) h is (atom_size_least (length p.vars) (length p.data_vars) a m x y js)
     step_goes (If (Not d) x y js) h is = absurd h.0
     step_goes (If (Both d e) x y js) h is = absurd h.0
     step_goes (If (Either d e) x y js) h is = absurd h.0
@@ -272,6 +323,9 @@ module _ (p : Program) (typed : is_typed p ≡ true) (edges : List Edge) (line :
     step_goes (DoAgain d b js) h is = absurd h.0
 
   -- while the program's run goes on, so does the graph's
-  pub goes_on : (n : ℕ) (c : Items) (s : Store) → Ready c s → (st q : ℕ) (cs : List ℕ) (u : ℕ) → Still (source n st c s cs u) (graph n q (at (opened c)) (ext0 s) cs u)
+  pub goes_on : (n : ℕ) (c : Items) (s : Store) → Ready c s → (st q : ℕ) (cs : List ℕ) (u : ℕ)
+      → Still (source n st c s cs u) (graph n q (at (opened c)) (ext0 s) cs u)
   goes_on zero c s ready st q cs u = still_start (opened c) (front_of c s ready).0 st q
-  goes_on (suc n) c s ready st q cs u = step_goes n (λ c s ready st q cs u. goes_on n c s ready st q cs u) c s ready st q cs u (opened c) (front_of c s ready).0 refl
+  goes_on (suc n) c s ready st q cs u =
+      step_goes n (λ c s ready st q cs u. goes_on n c s ready st q cs u) c s ready st q cs u (opened c)
+      (front_of c s ready).0 refl

@@ -1,5 +1,6 @@
 -- One step of a program, at a place, is the run of the graph along the place's edges.
-use Rattle.std.proofs.Common.{◌≡◌, ◌≤◌, ◌+◌, ℕ, zero, suc, Bool, true, false, Some, None, Result, Ok, Err, List, [], ◌∷◌, length, refl, sym, ap, ◌∙◌, subst, arith}
+use Rattle.std.proofs.Common.{◌≡◌, ◌≤◌, ◌+◌, ℕ, zero, suc, Bool, true, false, Some, None, Result, Ok, Err, List, []}
+use Rattle.std.proofs.Common.{◌∷◌, length, refl, sym, ap, ◌∙◌, subst, arith}
 use Rattle.fore_base.specs.declared.fault.Fault.{Fault as Kind}
 use Rattle.fore_base.specs.declared.store.Value.{Value}
 use Rattle.fore_base.specs.declared.store.Datum.{Datum}
@@ -13,10 +14,13 @@ use Rattle.c_types.specs.declared.program.Act.TheVariants.{SetPtr, SetData, Free
 use Rattle.c_types.specs.declared.program.PtrOp.{PtrOp}
 use Rattle.c_types.specs.declared.program.DataOp.{DataOp}
 use Rattle.c_types.specs.declared.program.Atom.{Atom}
-use Rattle.c_types.specs.declared.program.Atom.TheVariants.{Choice as ChoiceAtom, Known as KnownAtom, Ptr as PtrAtom, Data as DataAtom}
+use Rattle.c_types.specs.declared.program.Atom.TheVariants.{Choice as ChoiceAtom, Known as KnownAtom, Ptr as PtrAtom}
+use Rattle.c_types.specs.declared.program.Atom.TheVariants.{Data as DataAtom}
 use Rattle.c_types.specs.Program.{Program, is_typed}
-use Rattle.c_types.specs.Control.{Items, Done, Do, Close, If, Loop, Again, DoLoop, DoAgain, Ask, Not, Both, Either, ◌then◌, opened}
-use Rattle.c_types.specs.Steps.{Turn, Goes, Stops, Faults, read_op, read_data_op, same_values, same_datums, agrees, atom_of, act_takes, all_dead, settle, act_turn, test_turn, turn_of}
+use Rattle.c_types.specs.Control.{Items, Done, Do, Close, If, Loop, Again, DoLoop, DoAgain, Ask, Not, Both, Either}
+use Rattle.c_types.specs.Control.{◌then◌, opened}
+use Rattle.c_types.specs.Steps.{Turn, Goes, Stops, Faults, read_op, read_data_op, same_values, same_datums, agrees}
+use Rattle.c_types.specs.Steps.{atom_of, act_takes, all_dead, settle, act_turn, test_turn, turn_of}
 use Rattle.c_types.specs.Runs.{supply, after_turn, at_end, advance}
 use Rattle.c_types.specs.Fits.{ItemsFit}
 use Rattle.c_types.proofs.Fitting.{Sound}
@@ -31,7 +35,8 @@ use Rattle.c_cfg.specs.Lowering.{edge, IsTestRow, IsRow, followed_by}
 use Rattle.c_cfg.proofs.Agree.Temporaries.{ext0}
 use Rattle.c_cfg.proofs.Agree.Passing.{settled_pass, onward_onward}
 use Rattle.c_cfg.proofs.Agree.Tested.{Tests, ptr_tests, data_tests}
-use Rattle.c_cfg.proofs.Agree.ActTurns.{turn_pass, settle_pass, stop_of, kill_passes, act_passes, GoesTo, settle_to, act_to}
+use Rattle.c_cfg.proofs.Agree.ActTurns.{turn_pass, settle_pass, stop_of, kill_passes, act_passes, GoesTo, settle_to}
+use Rattle.c_cfg.proofs.Agree.ActTurns.{act_to}
 use Rattle.c_cfg.proofs.Agree.Ways.{stepless, AreOnes, graph_run, Meets, after_meets, along, row_alike, test_alike}
 use Rattle.c_cfg.proofs.Agree.LinksOnes.{ends_ones, ptr_ones, cmp_ones, act_row_takes}
 use Rattle.c_cfg.proofs.Ranged.{Ranged}
@@ -65,28 +70,38 @@ side x y is false = y then is
 
 -- an atom that compares, and what it compares
 
-ptr_compared : (s : Store) (l r : PtrOp) (equal : Bool) (x : ℕ) → atom_of (PtrAtom l r equal) s x ≡ onward (onward (read_op s l) (λ v. onward (read_op s r) (λ w. same_values v w))) (λ same. Ok (agrees equal same))
+ptr_compared : (s : Store) (l r : PtrOp) (equal : Bool) (x : ℕ) → atom_of (PtrAtom l r equal) s x
+    ≡ onward (onward (read_op s l) (λ v. onward (read_op s r) (λ w. same_values v w))) (λ same. Ok (agrees equal same))
 ptr_compared s l r equal x =
     sym (onward_onward (read_op s l) (λ v. onward (read_op s r) (λ w. same_values v w)) (λ same. Ok (agrees equal same))
     ∙ inner (read_op s l))
   where
-    inner : (a : Result Value Kind) → onward a (λ v. onward (onward (read_op s r) (λ w. same_values v w)) (λ same. Ok (agrees equal same))) ≡ onward a (λ v. onward (read_op s r) (λ w. onward (same_values v w) (λ same. Ok (agrees equal same))))
+    inner : (a : Result Value Kind)
+        → onward a (λ v. onward (onward (read_op s r) (λ w. same_values v w)) (λ same. Ok (agrees equal same)))
+        ≡ onward a (λ v. onward (read_op s r) (λ w. onward (same_values v w) (λ same. Ok (agrees equal same))))
     inner (Ok v) = onward_onward (read_op s r) (λ w. same_values v w) (λ same. Ok (agrees equal same))
     inner (Err k) = refl
 
-data_compared : (s : Store) (l r : DataOp) (equal : Bool) (x : ℕ) → atom_of (DataAtom l r equal) s x ≡ onward (onward (read_data_op s l) (λ v. onward (read_data_op s r) (λ w. same_datums v w))) (λ same. Ok (agrees equal same))
+data_compared : (s : Store) (l r : DataOp) (equal : Bool) (x : ℕ) → atom_of (DataAtom l r equal) s x
+    ≡ onward (onward (read_data_op s l) (λ v. onward (read_data_op s r) (λ w. same_datums v w)))
+    (λ same. Ok (agrees equal same))
 data_compared s l r equal x =
-    sym (onward_onward (read_data_op s l) (λ v. onward (read_data_op s r) (λ w. same_datums v w)) (λ same. Ok (agrees equal same))
+    sym
+    (onward_onward (read_data_op s l) (λ v. onward (read_data_op s r) (λ w. same_datums v w))
+    (λ same. Ok (agrees equal same))
     ∙ inner (read_data_op s l))
   where
-    inner : (a : Result Datum Kind) → onward a (λ v. onward (onward (read_data_op s r) (λ w. same_datums v w)) (λ same. Ok (agrees equal same))) ≡ onward a (λ v. onward (read_data_op s r) (λ w. onward (same_datums v w) (λ same. Ok (agrees equal same))))
+    inner : (a : Result Datum Kind)
+        → onward a (λ v. onward (onward (read_data_op s r) (λ w. same_datums v w)) (λ same. Ok (agrees equal same)))
+        ≡ onward a (λ v. onward (read_data_op s r) (λ w. onward (same_datums v w) (λ same. Ok (agrees equal same))))
     inner (Ok v) = onward_onward (read_data_op s r) (λ w. same_datums v w) (λ same. Ok (agrees equal same))
     inner (Err k) = refl
 
 module _ (p : Program) (edges : List Edge) (line : ℕ → ℕ) (at : Items → ℕ) (mids : Items → List ℕ) (most : ℕ) where
   -- what is known of a place: its row, that its numbers are in range, and that it takes no more edges than these
   abbrev pub IsKnown : Items → Type 0
-  IsKnown c = IsRow (length p.vars) (length p.data_vars) edges line at mids c × Ranged p c × (size (length p.vars) (length p.data_vars) c ≤ most)
+  IsKnown c = IsRow (length p.vars) (length p.data_vars) edges line at mids c × Ranged p c
+      × (size (length p.vars) (length p.data_vars) c ≤ most)
 
   pub each_followed : (a : Act) (is : Items) → Each IsKnown is Done → Each IsKnown (followed_by a is) Done
   each_followed (SetPtr to from) is h = h
@@ -98,7 +113,9 @@ module _ (p : Program) (edges : List Edge) (line : ℕ → ℕ) (at : Items → 
   each_followed Break is h = each_after IsKnown is h
   each_followed Continue is h = each_from IsKnown is h
 
-module _ (p : Program) (typed : is_typed p ≡ true) (Rel : Outcome → Outcome → Type 0) (equal : (o r : Outcome) → stepless o ≡ stepless r → Rel o r) (edges : List Edge) (line : ℕ → ℕ) (at : Items → ℕ) (mids : Items → List ℕ) (most : ℕ) where
+module _ (p : Program) (typed : is_typed p ≡ true) (Rel : Outcome → Outcome → Type 0)
+    (equal : (o r : Outcome) → stepless o ≡ stepless r → Rel o r) (edges : List Edge) (line : ℕ → ℕ) (at : Items → ℕ)
+    (mids : Items → List ℕ) (most : ℕ) where
   abbrev Place : Items → Type 0
   Place c = IsKnown p edges line at mids most c
 
@@ -106,28 +123,40 @@ module _ (p : Program) (typed : is_typed p ≡ true) (Rel : Outcome → Outcome 
   graph n q k g cs u = graph_run Rel equal p.shapes.structs edges n q k g cs u
 
   -- no edge begins at the exit
-  pub exit_ends : out_of edges (at Done) ≡ [] → (n q : ℕ) (g : Store) (cs : List ℕ) (u : ℕ) → stepless (graph n q (at Done) g cs u) ≡ Ended 0
+  pub exit_ends : out_of edges (at Done) ≡ [] → (n q : ℕ) (g : Store) (cs : List ℕ) (u : ℕ)
+      → stepless (graph n q (at Done) g cs u) ≡ Ended 0
   exit_ends e zero q g cs u = ap (λ es. stepless (unless_left es q StillRunning)) e
-  exit_ends e (suc n) q g cs u = ap (λ es. stepless (leave p.shapes.structs es (λ st j t ds v. graph n st j t ds v) q g cs u)) e
+  exit_ends e (suc n) q g cs u =
+      ap (λ es. stepless (leave p.shapes.structs es (λ st j t ds v. graph n st j t ds v) q g cs u)) e
 
-  module _ (exit : out_of edges (at Done) ≡ []) (n : ℕ) (next : ℕ → Items → Store → List ℕ → ℕ → Outcome) (step q : ℕ) (s : Store) (sound : Sound p s) (clear : leaks s ≡ false) (cs : List ℕ) (u : ℕ) where
+  module _ (exit : out_of edges (at Done) ≡ []) (n : ℕ) (next : ℕ → Items → Store → List ℕ → ℕ → Outcome) (step q : ℕ)
+      (s : Store) (sound : Sound p s) (clear : leaks s ≡ false) (cs : List ℕ) (u : ℕ) where
     -- what comes after the step
     abbrev pub Then : Turn → List ℕ → ℕ → Type 0
-    Then turn ds v = (js : Items) (t : Store) → turn ≡ Goes js t → leaks t ≡ false → Each Place js Done → (st r : ℕ) → Rel (next st js t ds v) (graph n r (at (opened js)) (ext0 t) ds v)
+    Then turn ds v = (js : Items) (t : Store) → turn ≡ Goes js t → leaks t ≡ false → Each Place js Done → (st r : ℕ)
+        → Rel (next st js t ds v) (graph n r (at (opened js)) (ext0 t) ds v)
 
     abbrev out : Turn → ℕ → List ℕ → ℕ → Outcome
     out turn l ds v = after_turn turn l (step + 1) (λ js t. next (step + 1) js t ds v)
 
-    turn_meets : (turn : Turn) (is : Items) (l : ℕ) (stop : Pass) (ds : List ℕ) (v : ℕ) → GoesTo is turn → Each Place is Done → Then turn ds v → Meets Rel equal p.shapes.structs edges (Ended (step + 1)) l (λ r t. graph n r (at (opened is)) t ds v) stop
-        → Meets Rel equal p.shapes.structs edges (out turn l ds v) l (λ r t. graph n r (at (opened is)) t ds v) (turn_pass stop turn)
-    turn_meets (Goes js t) is l stop ds v to each on stops = λ r. subst (λ z. Rel (next (step + 1) js t ds v) (graph n r (at (opened z)) (ext0 t) ds v)) to.0 (on js t refl to.1 (subst (λ z. Each Place z Done) (sym to.0) each) (step + 1) r)
+    turn_meets : (turn : Turn) (is : Items) (l : ℕ) (stop : Pass) (ds : List ℕ) (v : ℕ) → GoesTo is turn
+        → Each Place is Done → Then turn ds v
+        → Meets Rel equal p.shapes.structs edges (Ended (step + 1)) l (λ r t. graph n r (at (opened is)) t ds v) stop
+        → Meets Rel equal p.shapes.structs edges (out turn l ds v) l (λ r t. graph n r (at (opened is)) t ds v)
+        (turn_pass stop turn)
+    turn_meets (Goes js t) is l stop ds v to each on stops =
+        λ r. subst (λ z. Rel (next (step + 1) js t ds v) (graph n r (at (opened z)) (ext0 t) ds v)) to.0
+        (on js t refl to.1 (subst (λ z. Each Place z Done) (sym to.0) each) (step + 1) r)
     turn_meets Stops is l stop ds v to each on stops = stops
     turn_meets (Faults k) is l stop ds v to each on stops = λ r. equal _ _ refl
 
-    halts : (l : ℕ) (is : Items) (ds : List ℕ) (v : ℕ) → Meets Rel equal p.shapes.structs edges (Ended (step + 1)) l (λ r t. graph n r (at (opened is)) t ds v) Halted
+    halts : (l : ℕ) (is : Items) (ds : List ℕ) (v : ℕ)
+        → Meets Rel equal p.shapes.structs edges (Ended (step + 1)) l (λ r t. graph n r (at (opened is)) t ds v) Halted
     halts l is ds v = λ r. equal _ _ refl
 
-    act_stops : (a : Act) (is : Items) (l : ℕ) (ds : List ℕ) (v : ℕ) → Meets Rel equal p.shapes.structs edges (Ended (step + 1)) l (λ r t. graph n r (at (opened (followed_by a is))) t ds v) (stop_of a s)
+    act_stops : (a : Act) (is : Items) (l : ℕ) (ds : List ℕ) (v : ℕ)
+        → Meets Rel equal p.shapes.structs edges (Ended (step + 1)) l
+        (λ r t. graph n r (at (opened (followed_by a is))) t ds v) (stop_of a s)
     act_stops (SetPtr to from) is l ds v = λ r. equal _ _ refl
     act_stops (SetData to from) is l ds v = λ r. equal _ _ refl
     act_stops (Free g) is l ds v = λ r. equal _ _ refl
@@ -141,92 +170,167 @@ module _ (p : Program) (typed : is_typed p ≡ true) (Rel : Outcome → Outcome 
     Cont o = (x : ℕ) (ds : List ℕ) (v : ℕ) → Then (turn_of p.shapes.structs o s x) ds v
 
     abbrev Goal : Items → Type 0
-    Goal o = Rel (advance p.shapes.structs line at_end o next step s cs u) (graph (size (length p.vars) (length p.data_vars) o + n) q (at o) (ext0 s) cs u)
+    Goal o = Rel (advance p.shapes.structs line at_end o next step s cs u)
+        (graph (size (length p.vars) (length p.data_vars) o + n) q (at o) (ext0 s) cs u)
 
     -- one side of a test is taken
-    side_on : (o : Items) (l : ℕ) (is : Items) → turn_of p.shapes.structs o s 0 ≡ settle s is → Each Place is Done → Cont o → (r : ℕ) → Rel (out (turn_of p.shapes.structs o s 0) l cs u) (graph n r (at (opened is)) (ext0 s) cs u)
+    side_on : (o : Items) (l : ℕ) (is : Items) → turn_of p.shapes.structs o s 0 ≡ settle s is → Each Place is Done
+        → Cont o → (r : ℕ) → Rel (out (turn_of p.shapes.structs o s 0) l cs u)
+        (graph n r (at (opened is)) (ext0 s) cs u)
     side_on o l is e each on r =
         let goes : turn_of p.shapes.structs o s 0 ≡ Goes is s = e ∙ rw clear refl in
-        subst (λ z. Rel (out z l cs u) (graph n r (at (opened is)) (ext0 s) cs u)) (sym goes) (on 0 cs u is s goes clear each (step + 1) r)
+        subst (λ z. Rel (out z l cs u) (graph n r (at (opened is)) (ext0 s) cs u)) (sym goes)
+        (on 0 cs u is s goes clear each (step + 1) r)
 
     -- a side that is taken by one edge which changes nothing
-    settles : (o : Items) (l : ℕ) (is : Items) (x : ℕ) (ds : List ℕ) (v : ℕ) → turn_of p.shapes.structs o s x ≡ settle s is → Each Place is Done → Cont o
-        → Meets Rel equal p.shapes.structs edges (out (turn_of p.shapes.structs o s x) l ds v) l (λ r t. graph n r (at (opened is)) t ds v) (settled_pass s)
+    settles : (o : Items) (l : ℕ) (is : Items) (x : ℕ) (ds : List ℕ) (v : ℕ) → turn_of p.shapes.structs o s x
+        ≡ settle s is → Each Place is Done → Cont o
+        → Meets Rel equal p.shapes.structs edges (out (turn_of p.shapes.structs o s x) l ds v) l
+        (λ r t. graph n r (at (opened is)) t ds v) (settled_pass s)
     settles o l is x ds v e each on =
-        subst (λ z. Meets Rel equal p.shapes.structs edges (out (turn_of p.shapes.structs o s x) l ds v) l (λ r t. graph n r (at (opened is)) t ds v) z) (sym (settle_pass Halted s is ∙ ap (λ z. turn_pass Halted z) (sym e)))
-        (turn_meets (turn_of p.shapes.structs o s x) is l Halted ds v (subst (GoesTo is) (sym e) (settle_to s is)) each (on x ds v) (halts l is ds v))
+        subst
+        (λ z. Meets Rel equal p.shapes.structs edges (out (turn_of p.shapes.structs o s x) l ds v) l
+        (λ r t. graph n r (at (opened is)) t ds v) z)
+        (sym (settle_pass Halted s is ∙ ap (λ z. turn_pass Halted z) (sym e)))
+        (turn_meets (turn_of p.shapes.structs o s x) is l Halted ds v (subst (GoesTo is) (sym e) (settle_to s is)) each
+        (on x ds v) (halts l is ds v))
 
     one_more : (o : Outcome) (k : ℕ) → Rel o (graph (suc n) q k (ext0 s) cs u) → Rel o (graph (1 + n) q k (ext0 s) cs u)
-    one_more o k h = let same : 1 + n ≡ suc n = omega arith in subst (λ z. Rel o (graph z q k (ext0 s) cs u)) (sym same) h
+    one_more o k h = let same : 1 + n ≡ suc n = omega arith in
+        subst (λ z. Rel o (graph z q k (ext0 s) cs u)) (sym same) h
 
-    module _ (m : ℕ) (x y is : Items) (yes_each : Each Place (x then is) Done) (no_each : Each Place (y then is) Done) where
-      choose_step : (k : ℕ) → out_of edges k ≡ edge (line m) k (at (opened (y then is))) (Choose None) (Some 0) ∷ edge (line m) k (at (opened (x then is))) (Choose None) (Some 1) ∷ [] → Cont (If (Ask ChoiceAtom m) x y is)
-          → Rel (supply true cs (step + 1) u (λ c ds v. out (turn_of p.shapes.structs (If (Ask ChoiceAtom m) x y is) s c) (line m) ds v)) (graph (suc n) q k (ext0 s) cs u)
-      choose_step k w on =
-          subst (λ z. Rel (supply true cs (step + 1) u (λ c ds v. out (turn_of p.shapes.structs (If (Ask ChoiceAtom m) x y is) s c) (line m) ds v)) z)
-          (sym (ap (λ es. leave p.shapes.structs es (λ st j t ds v. graph n st j t ds v) q (ext0 s) cs u) w)) (by cs)
-        where
-          by : (cs : List ℕ) → Rel (supply true cs (step + 1) u (λ c ds v. out (turn_of p.shapes.structs (If (Ask ChoiceAtom m) x y is) s c) (line m) ds v))
-              (leave p.shapes.structs (edge (line m) k (at (opened (y then is))) (Choose None) (Some 0) ∷ edge (line m) k (at (opened (x then is))) (Choose None) (Some 1) ∷ []) (λ st j t ds v. graph n st j t ds v) q (ext0 s) cs u)
-          by [] = equal _ _ refl
-          by (zero ∷ ds) =
-              after_meets Rel equal p.shapes.structs edges (out (settle s (y then is)) (line m) ds (u + 1)) (line m) (λ r t. graph n r (at (opened (y then is))) t ds (u + 1)) (settled_pass s)
-              (settles (If (Ask ChoiceAtom m) x y is) (line m) (y then is) 0 ds (u + 1) refl no_each on) (q + 1)
-          by (suc zero ∷ ds) =
-              after_meets Rel equal p.shapes.structs edges (out (settle s (x then is)) (line m) ds (u + 1)) (line m) (λ r t. graph n r (at (opened (x then is))) t ds (u + 1)) (settled_pass s)
-              (settles (If (Ask ChoiceAtom m) x y is) (line m) (x then is) 1 ds (u + 1) refl yes_each on) (q + 1)
-          by (suc (suc c) ∷ ds) = equal _ _ refl
+    module _ (m : ℕ) (x y is : Items) (yes_each : Each Place (x then is) Done) (no_each : Each Place (y then is) Done)
+      where
+        choose_step : (k : ℕ) → out_of edges k ≡ edge (line m) k (at (opened (y then is))) (Choose None) (Some 0)
+            ∷ edge (line m) k (at (opened (x then is))) (Choose None) (Some 1) ∷ []
+            → Cont (If (Ask ChoiceAtom m) x y is)
+            → Rel
+            (supply true cs (step + 1) u
+            (λ c ds v. out (turn_of p.shapes.structs (If (Ask ChoiceAtom m) x y is) s c) (line m) ds v))
+            (graph (suc n) q k (ext0 s) cs u)
+        choose_step k w on =
+            subst
+            (λ z.
+            Rel
+            (supply true cs (step + 1) u
+            (λ c ds v. out (turn_of p.shapes.structs (If (Ask ChoiceAtom m) x y is) s c) (line m) ds v)) z)
+            (sym (ap (λ es. leave p.shapes.structs es (λ st j t ds v. graph n st j t ds v) q (ext0 s) cs u) w)) (by cs)
+          where
+            by : (cs : List ℕ) → Rel
+                (supply true cs (step + 1) u
+                (λ c ds v. out (turn_of p.shapes.structs (If (Ask ChoiceAtom m) x y is) s c) (line m) ds v))
+                (leave p.shapes.structs (edge (line m) k (at (opened (y then is))) (Choose None) (Some 0)
+                ∷ edge (line m) k (at (opened (x then is))) (Choose None) (Some 1) ∷ [])
+                (λ st j t ds v. graph n st j t ds v) q (ext0 s) cs u)
+            by [] = equal _ _ refl
+            by (zero ∷ ds) =
+                after_meets Rel equal p.shapes.structs edges (out (settle s (y then is)) (line m) ds (u + 1)) (line m)
+                (λ r t. graph n r (at (opened (y then is))) t ds (u + 1)) (settled_pass s)
+                (settles (If (Ask ChoiceAtom m) x y is) (line m) (y then is) 0 ds (u + 1) refl no_each on) (q + 1)
+            by (suc zero ∷ ds) =
+                after_meets Rel equal p.shapes.structs edges (out (settle s (x then is)) (line m) ds (u + 1)) (line m)
+                (λ r t. graph n r (at (opened (x then is))) t ds (u + 1)) (settled_pass s)
+                (settles (If (Ask ChoiceAtom m) x y is) (line m) (x then is) 1 ds (u + 1) refl yes_each on) (q + 1)
+            by (suc (suc c) ∷ ds) = equal _ _ refl
 
-      known_way : (o : Items) (k : ℕ) (js : Items) → out_of edges k ≡ edge (line m) k (at (opened js)) (Kill [] []) None ∷ [] → turn_of p.shapes.structs o s 0 ≡ settle s js → Each Place js Done → Cont o
-          → Rel (out (turn_of p.shapes.structs o s 0) (line m) cs u) (graph (1 + n) q k (ext0 s) cs u)
-      known_way o k js w e each on =
-          along Rel equal p.shapes.structs edges (out (turn_of p.shapes.structs o s 0) (line m) cs u) (line m) (One (Kill [] []) ∷ []) k (at (opened js) ∷ []) (at (opened js)) (w, refl) tt 0 n q (ext0 s) cs u
-          (subst (λ z. Meets Rel equal p.shapes.structs edges (out (turn_of p.shapes.structs o s 0) (line m) cs u) (line m) (λ r t. graph n r (at (opened js)) t cs u) z)
-          (settle_pass Halted s js ∙ sym (kill_passes p typed 0 s sound clear [] [] Halted js)) (settles o (line m) js 0 cs u e each on))
+        known_way : (o : Items) (k : ℕ) (js : Items)
+            → out_of edges k ≡ edge (line m) k (at (opened js)) (Kill [] []) None
+            ∷ [] → turn_of p.shapes.structs o s 0 ≡ settle s js → Each Place js Done → Cont o
+            → Rel (out (turn_of p.shapes.structs o s 0) (line m) cs u) (graph (1 + n) q k (ext0 s) cs u)
+        known_way o k js w e each on =
+            along Rel equal p.shapes.structs edges (out (turn_of p.shapes.structs o s 0) (line m) cs u) (line m)
+            (One (Kill [] []) ∷ []) k (at (opened js) ∷ []) (at (opened js)) (w, refl) tt 0 n q (ext0 s) cs u
+            (subst
+            (λ z. Meets Rel equal p.shapes.structs edges (out (turn_of p.shapes.structs o s 0) (line m) cs u) (line m)
+            (λ r t. graph n r (at (opened js)) t cs u) z)
+            (settle_pass Halted s js ∙ sym (kill_passes p typed 0 s sound clear [] [] Halted js))
+            (settles o (line m) js 0 cs u e each on))
 
-      -- a comparison
-      compare_step : (a : Atom) (e : Bool) (loads : List Link) (test : Bool → Instr) (ends : List Link) (compared : Result Bool Kind) → atom_of a s 0 ≡ onward compared (λ same. Ok (agrees e same)) → Tests p 0 s loads test ends compared
-          → AreOnes loads → AreOnes ends → (k : ℕ) (ms : List ℕ) → IsTestRow edges (line m) loads test ends k ms (at (opened (side x y is (agrees e true)))) (at (opened (side x y is (agrees e false)))) → Cont (If (Ask a m) x y is)
-          → Rel (out (test_turn (atom_of a s 0) x y is s) (line m) cs u) (graph (length loads + suc (length ends) + n) q k (ext0 s) cs u)
-      compare_step a e loads test ends compared is_compared tests loads_ones ends_ones' k ms row on =
-          let same : length loads + suc (length ends) + n ≡ length loads + suc (length ends + n) = omega arith in
-          subst (λ z. Rel (out (test_turn (atom_of a s 0) x y is s) (line m) cs u) (graph z q k (ext0 s) cs u)) (sym same)
-          (test_alike Rel equal p.shapes.structs edges p refl s (out (test_turn (atom_of a s 0) x y is s) (line m) cs u) (line m) loads test ends k ms
-          (at (opened (side x y is (agrees e true)))) (at (opened (side x y is (agrees e false)))) row loads_ones ends_ones' compared tests n q cs u
-          (λ f got r. subst (λ z. Rel (out (test_turn z x y is s) (line m) cs u) (Fault f (line m) r)) (sym (is_compared ∙ ap (λ z. onward z (λ same. Ok (agrees e same))) got)) (equal _ _ refl))
-          (λ got. taken (agrees e true) (is_compared ∙ ap (λ z. onward z (λ same. Ok (agrees e same))) got))
-          (λ got. taken (agrees e false) (is_compared ∙ ap (λ z. onward z (λ same. Ok (agrees e same))) got)))
-        where
-          taken : (b : Bool) → atom_of a s 0 ≡ Ok b → (r : ℕ) → Rel (out (test_turn (atom_of a s 0) x y is s) (line m) cs u) (graph n r (at (opened (side x y is b))) (ext0 s) cs u)
-          taken true e = side_on (If (Ask a m) x y is) (line m) (x then is) (ap (λ z. test_turn z x y is s) e) yes_each on
-          taken false e = side_on (If (Ask a m) x y is) (line m) (y then is) (ap (λ z. test_turn z x y is s) e) no_each on
+        -- a comparison
+        compare_step : (a : Atom) (e : Bool) (loads : List Link) (test : Bool → Instr) (ends : List Link)
+            (compared : Result Bool Kind) → atom_of a s 0 ≡ onward compared (λ same. Ok (agrees e same))
+            → Tests p 0 s loads test ends compared
+            → AreOnes loads → AreOnes ends → (k : ℕ) (ms : List ℕ)
+            → IsTestRow edges (line m) loads test ends k ms (at (opened (side x y is (agrees e true))))
+            (at (opened (side x y is (agrees e false)))) → Cont (If (Ask a m) x y is)
+            → Rel (out (test_turn (atom_of a s 0) x y is s) (line m) cs u)
+            (graph (length loads + suc (length ends) + n) q k (ext0 s) cs u)
+        compare_step a e loads test ends compared is_compared tests loads_ones ends_ones' k ms row on =
+            let same : length loads + suc (length ends) + n ≡ length loads + suc (length ends + n) = omega arith in
+            subst (λ z. Rel (out (test_turn (atom_of a s 0) x y is s) (line m) cs u) (graph z q k (ext0 s) cs u))
+            (sym same)
+            (test_alike Rel equal p.shapes.structs edges p refl s
+            (out (test_turn (atom_of a s 0) x y is s) (line m) cs u)
+            (line m) loads test ends k ms
+            (at (opened (side x y is (agrees e true)))) (at (opened (side x y is (agrees e false)))) row loads_ones
+            ends_ones' compared tests n q cs u
+            (λ f got r. subst (λ z. Rel (out (test_turn z x y is s) (line m) cs u) (Fault f (line m) r))
+            (sym (is_compared ∙ ap (λ z. onward z (λ same. Ok (agrees e same))) got)) (equal _ _ refl))
+            (λ got. taken (agrees e true) (is_compared ∙ ap (λ z. onward z (λ same. Ok (agrees e same))) got))
+            (λ got. taken (agrees e false) (is_compared ∙ ap (λ z. onward z (λ same. Ok (agrees e same))) got)))
+          where
+            taken : (b : Bool) → atom_of a s 0 ≡ Ok b → (r : ℕ)
+                → Rel (out (test_turn (atom_of a s 0) x y is s) (line m) cs u)
+                (graph n r (at (opened (side x y is b))) (ext0 s) cs u)
+            taken true e = side_on (If (Ask a m) x y is) (line m) (x then is) (ap (λ z. test_turn z x y is s) e)
+                yes_each
+                on
+            taken false e = side_on (If (Ask a m) x y is) (line m) (y then is) (ap (λ z. test_turn z x y is s) e)
+                no_each
+                on
 
-      atom_step : (a : Atom) → Place (If (Ask a m) x y is) → Cont (If (Ask a m) x y is) → Goal (If (Ask a m) x y is)
-      atom_step ChoiceAtom h on = one_more _ _ (choose_step _ h.0.0 on)
-      atom_step (KnownAtom true) h on = known_way (If (Ask (KnownAtom true) m) x y is) _ (x then is) h.0.0 refl yes_each on
-      atom_step (KnownAtom false) h on = known_way (If (Ask (KnownAtom false) m) x y is) _ (y then is) h.0.0 refl no_each on
-      atom_step (PtrAtom l r true) h on =
-          compare_step (PtrAtom l r true) true _ _ _ _ (ptr_compared s l r true 0) (ptr_tests p 0 s sound clear l r h.1.0) (ptr_ones (length p.vars) (length p.data_vars) l r) (ends_ones _ _) _ _ h.0 on
-      atom_step (PtrAtom l r false) h on =
-          compare_step (PtrAtom l r false) false _ _ _ _ (ptr_compared s l r false 0) (ptr_tests p 0 s sound clear l r h.1.0) (ptr_ones (length p.vars) (length p.data_vars) l r) (ends_ones _ _) _ _ h.0 on
-      atom_step (DataAtom l r true) h on =
-          compare_step (DataAtom l r true) true _ _ _ _ (data_compared s l r true 0) (data_tests p 0 s sound clear l r h.1.0) (cmp_ones (length p.vars) (length p.data_vars) l r) (ends_ones _ _) _ _ h.0 on
-      atom_step (DataAtom l r false) h on =
-          compare_step (DataAtom l r false) false _ _ _ _ (data_compared s l r false 0) (data_tests p 0 s sound clear l r h.1.0) (cmp_ones (length p.vars) (length p.data_vars) l r) (ends_ones _ _) _ _ h.0 on
+        atom_step : (a : Atom) → Place (If (Ask a m) x y is) → Cont (If (Ask a m) x y is) → Goal (If (Ask a m) x y is)
+        atom_step ChoiceAtom h on = one_more _ _ (choose_step _ h.0.0 on)
+        atom_step (KnownAtom true) h on =
+            known_way (If (Ask (KnownAtom true) m) x y is) _ (x then is) h.0.0 refl yes_each on
+        atom_step (KnownAtom false) h on =
+            known_way (If (Ask (KnownAtom false) m) x y is) _ (y then is) h.0.0 refl no_each on
+        atom_step (PtrAtom l r true) h on =
+            compare_step (PtrAtom l r true) true _ _ _ _ (ptr_compared s l r true 0)
+            (ptr_tests p 0 s sound clear l r h.1.0) (ptr_ones (length p.vars) (length p.data_vars) l r)
+            (ends_ones _ _) _ _ h.0 on
+        atom_step (PtrAtom l r false) h on =
+            compare_step (PtrAtom l r false) false _ _ _ _ (ptr_compared s l r false 0)
+            (ptr_tests p 0 s sound clear l r h.1.0) (ptr_ones (length p.vars) (length p.data_vars) l r)
+            (ends_ones _ _) _ _ h.0 on
+        atom_step (DataAtom l r true) h on =
+            compare_step (DataAtom l r true) true _ _ _ _ (data_compared s l r true 0)
+            (data_tests p 0 s sound clear l r h.1.0) (cmp_ones (length p.vars) (length p.data_vars) l r)
+            (ends_ones _ _) _ _ h.0 on
+        atom_step (DataAtom l r false) h on =
+            compare_step (DataAtom l r false) false _ _ _ _ (data_compared s l r false 0)
+            (data_tests p 0 s sound clear l r h.1.0) (cmp_ones (length p.vars) (length p.data_vars) l r)
+            (ends_ones _ _) _ _ h.0 on
 
     pub step_alike : (o : Items) → Front Place o → ItemsFit p o → Cont o → Goal o
     step_alike Done h fits on = equal _ _ (sym (exit_ends exit (0 + n) q (ext0 s) cs u))
     step_alike (Do a m is) h fits on =
-        row_alike Rel equal p.shapes.structs edges (act_takes a) (λ x ds v. out (act_turn p.shapes.structs a is s x) (line m) ds v) (step + 1) (line m) (act_row (length p.vars) (length p.data_vars) a is) (at (Do a m is)) h.0.0.way (at (opened (followed_by a is))) h.0.0.leads
+        row_alike Rel equal p.shapes.structs edges (act_takes a)
+        (λ x ds v. out (act_turn p.shapes.structs a is s x) (line m) ds v) (step + 1) (line m)
+        (act_row (length p.vars) (length p.data_vars) a is) (at (Do a m is)) h.0.0.way
+        (at (opened (followed_by a is))) h.0.0.leads
         (act_row_takes (length p.vars) (length p.data_vars) a is) n q (ext0 s) cs u
-        (λ x ds v. subst (λ z. Meets Rel equal p.shapes.structs edges (out (act_turn p.shapes.structs a is s x) (line m) ds v) (line m) (λ r t. graph n r (at (opened (followed_by a is))) t ds v) z) (sym (act_passes p typed x s sound clear a is fits.0))
-        (turn_meets (act_turn p.shapes.structs a is s x) (followed_by a is) (line m) (stop_of a s) ds v (act_to p.shapes.structs a is s x) (each_followed p edges line at mids most a is h.1.1) (on x ds v) (act_stops a is (line m) ds v)))
+        (λ x ds v.
+        subst
+        (λ z. Meets Rel equal p.shapes.structs edges (out (act_turn p.shapes.structs a is s x) (line m) ds v)
+        (line m) (λ r t. graph n r (at (opened (followed_by a is))) t ds v) z)
+        (sym (act_passes p typed x s sound clear a is fits.0))
+        (turn_meets (act_turn p.shapes.structs a is s x) (followed_by a is) (line m) (stop_of a s) ds v
+        (act_to p.shapes.structs a is s x) (each_followed p edges line at mids most a is h.1.1) (on x ds v)
+        (act_stops a is (line m) ds v)))
     step_alike (Close ps ds m is) h fits on =
-        row_alike Rel equal p.shapes.structs edges false (λ x cs v. out (settle (kill ps ds s) is) (line m) cs v) (step + 1) (line m) (One (Kill ps ds) ∷ []) (at (Close ps ds m is)) h.0.0.way (at (opened is)) h.0.0.leads
+        row_alike Rel equal p.shapes.structs edges false (λ x cs v. out (settle (kill ps ds s) is) (line m) cs v)
+        (step + 1) (line m) (One (Kill ps ds) ∷ []) (at (Close ps ds m is)) h.0.0.way (at (opened is)) h.0.0.leads
         tt n q (ext0 s) cs u
-        (λ x cs v. subst (λ z. Meets Rel equal p.shapes.structs edges (out (settle (kill ps ds s) is) (line m) cs v) (line m) (λ r t. graph n r (at (opened is)) t cs v) z) (sym (kill_passes p typed x s sound clear ps ds Halted is))
-        (turn_meets (settle (kill ps ds s) is) is (line m) Halted cs v (settle_to (kill ps ds s) is) h.1.1 (on x cs v) (halts (line m) is cs v)))
-    step_alike (If (Ask a m) x y is) h fits on = atom_step m x y is (whole Place x is (rw (then_done is) at h.1.1) h.1.3) (whole Place y is (rw (then_done is) at h.1.2) h.1.3) a h.0 on
+        (λ x cs v.
+        subst
+        (λ z. Meets Rel equal p.shapes.structs edges (out (settle (kill ps ds s) is) (line m) cs v) (line m)
+        (λ r t. graph n r (at (opened is)) t cs v) z) (sym (kill_passes p typed x s sound clear ps ds Halted is))
+        (turn_meets (settle (kill ps ds s) is) is (line m) Halted cs v (settle_to (kill ps ds s) is) h.1.1 (on x cs v)
+        (halts (line m) is cs v)))
+    step_alike (If (Ask a m) x y is) h fits on =
+        atom_step m x y is (whole Place x is (rw (then_done is) at h.1.1) h.1.3)
+        (whole Place y is (rw (then_done is) at h.1.2) h.1.3) a h.0 on
     step_alike (If (Not c) x y is) h fits on = absurd h.0.0
     step_alike (If (Both c d) x y is) h fits on = absurd h.0.0
     step_alike (If (Either c d) x y is) h fits on = absurd h.0.0

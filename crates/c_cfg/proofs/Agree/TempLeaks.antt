@@ -25,7 +25,9 @@ same_cells cs = paired_same KeptCell (λ c. (refl, λ n h. h)) cs
 
 -- temporaries hide cells, and show none
 pub hidden : (s : Store) (x y : Value) (d e : Datum) → leaks s ≡ false → leaks (ext s x y d e) ≡ false
-hidden s x y d e sound = kept_sound s (ext s x y d e) (record { vars = λ n h. front_in (Cell n) s.vars (x ∷ y ∷ []) h; cells = same_cells s.cells }) sound
+hidden s x y d e sound =
+    kept_sound s (ext s x y d e)
+    (record { vars = λ n h. front_in (Cell n) s.vars (x ∷ y ∷ []) h; cells = same_cells s.cells }) sound
 
 unset_in : (n : ℕ) (vs : List Value) → IsIn (Cell n) (vs ++ Uninit ∷ Uninit ∷ []) → IsIn (Cell n) vs
 unset_in n [] (inl e) = cc
@@ -41,7 +43,9 @@ leaks_ext0 s = here (leaks s) (leaks (ext0 s)) refl refl
     here : (b c : Bool) → leaks s ≡ b → leaks (ext0 s) ≡ c → leaks (ext0 s) ≡ leaks s
     here false c is other = hidden s Uninit Uninit _ _ is ∙ sym is
     here true true is other = other ∙ sym is
-    here true false is other = other ∙ sym (kept_sound (ext0 s) s (record { vars = λ n h. unset_in n s.vars h; cells = same_cells s.cells }) other)
+    here true false is other =
+        other
+        ∙ sym (kept_sound (ext0 s) s (record { vars = λ n h. unset_in n s.vars h; cells = same_cells s.cells }) other)
 
 -- a new cell that p0 names
 module _ (shapes : List Shape) (s : Store) (shape : ℕ) (y : Value) (d e : Datum) where
@@ -57,7 +61,8 @@ module _ (shapes : List Shape) (s : Store) (shape : ℕ) (y : Value) (d e : Datu
 
   still : {n : ℕ} → Reach s n → Reach with_new n
   still {n} (by_var h) = by_var (front_in (Cell n) s.vars (Cell s.next ∷ y ∷ []) h)
-  still {n} (by_field b there reached field) = by_field b (front_in b s.cells (new_cell ∷ []) there) (still reached) field
+  still {n} (by_field b there reached field) =
+      by_field b (front_in b s.cells (new_cell ∷ []) there) (still reached) field
 
   either : (b : CellRec) (bs : List CellRec) → IsIn b (bs ++ new_cell ∷ []) → IsIn b bs ⊎ (b ≡ new_cell)
   either b [] (inl e) = inr e

@@ -1,5 +1,7 @@
--- No run of a program's graph is stuck: wherever it comes, it is at a place between two steps, on the way through a step, or at a test.
-use Rattle.std.proofs.Common.{◌≡◌, ◌<◌, ◌⊎◌, inl, inr, ℕ, zero, suc, Bool, true, false, Some, None, Result, Ok, Err, List, [], ◌∷◌, length, refl, sym, ap, ◌∙◌, subst, arith}
+-- No run of a program's graph is stuck: wherever it comes, it is at a place between two steps, on the way through a
+-- step, or at a test.
+use Rattle.std.proofs.Common.{◌≡◌, ◌<◌, ◌⊎◌, inl, inr, ℕ, zero, suc, Bool, true, false, Some, None, Result, Ok, Err}
+use Rattle.std.proofs.Common.{List, [], ◌∷◌, length, refl, sym, ap, ◌∙◌, subst, arith}
 use Rattle.fore_base.specs.declared.fault.Fault.{Fault as Kind}
 use Rattle.fore_base.specs.declared.store.Value.TheVariants.{Uninit}
 use Rattle.fore_base.specs.declared.store.Datum.TheVariants.{Undefined}
@@ -11,9 +13,11 @@ use Rattle.fore_base.proofs.ListLemmas.{every_in, every_parts}
 use Rattle.c_types.specs.declared.program.Act.{Act}
 use Rattle.c_types.specs.declared.program.Act.TheVariants.{SetPtr, SetData, Free, Error, Halt, Return, Break, Continue}
 use Rattle.c_types.specs.declared.program.Atom.{Atom}
-use Rattle.c_types.specs.declared.program.Atom.TheVariants.{Choice as ChoiceAtom, Known as KnownAtom, Ptr as PtrAtom, Data as DataAtom}
+use Rattle.c_types.specs.declared.program.Atom.TheVariants.{Choice as ChoiceAtom, Known as KnownAtom, Ptr as PtrAtom}
+use Rattle.c_types.specs.declared.program.Atom.TheVariants.{Data as DataAtom}
 use Rattle.c_types.specs.Program.{Program, is_typed}
-use Rattle.c_types.specs.Control.{Items, Done, Do, Close, If, Loop, Again, DoLoop, DoAgain, Ask, Not, Both, Either, ◌then◌, opened}
+use Rattle.c_types.specs.Control.{Items, Done, Do, Close, If, Loop, Again, DoLoop, DoAgain, Ask, Not, Both, Either}
+use Rattle.c_types.specs.Control.{◌then◌, opened}
 use Rattle.c_types.specs.Steps.{Turn, Goes, Stops, Faults, act_takes, settle, act_turn, turn_of, all_dead, below}
 use Rattle.c_types.specs.Fits.{ItemsFit}
 use Rattle.c_types.proofs.ItemsTyped.{then_fit, opened_fit}
@@ -45,7 +49,10 @@ use Rattle.c_cfg.proofs.Agree.Simulated.{Ready, next_ready, front_of}
 use Rattle.c_cfg.proofs.Agree.Agreed.{first, rowed, ready, begins}
 
 dead_sized : (nv nd : ℕ) (s : Store) → Sized nv nd s → Sized nv nd (all_dead s)
-dead_sized nv nd s z = record { ptrs = length_set_each s.vars (below (length s.vars)) Uninit ∙ z.ptrs; datums = length_set_each s.data_vars (below (length s.data_vars)) Undefined ∙ z.datums }
+dead_sized nv nd s z = record {
+  ptrs = length_set_each s.vars (below (length s.vars)) Uninit ∙ z.ptrs;
+  datums = length_set_each s.data_vars (below (length s.data_vars)) Undefined ∙ z.datums;
+}
 
 every_own : (cs : List Items) → Every (λ c. IsIn c (Done ∷ cs)) cs
 every_own cs = here cs (λ c i. inr i)
@@ -54,7 +61,8 @@ every_own cs = here cs (λ c i. inr i)
     here [] sub = tt
     here (d ∷ ds) sub = (sub d (inl refl), here ds (λ c i. sub c (inr i)))
 
-module _ (p : Program) (typed : is_typed p ≡ true) (edges : List Edge) (line : ℕ → ℕ) (at : Items → ℕ) (mids : Items → List ℕ) (most : ℕ) (exit : out_of edges (at Done) ≡ []) (all : List Items) where
+module _ (p : Program) (typed : is_typed p ≡ true) (edges : List Edge) (line : ℕ → ℕ) (at : Items → ℕ)
+    (mids : Items → List ℕ) (most : ℕ) (exit : out_of edges (at Done) ≡ []) (all : List Items) where
   abbrev pass : ℕ → List Link → Store → Pass
   pass x ls s = links_pass p.shapes.structs x ls s
 
@@ -144,7 +152,8 @@ module _ (p : Program) (typed : is_typed p ≡ true) (edges : List Edge) (line :
 
   each_mid : (c : Items) → IsIn c all → (ks : List ℕ) → ((k : ℕ) → IsIn k ks → IsIn k (mids c)) → Every IsMid ks
   each_mid c h [] sub = tt
-  each_mid c h (k ∷ ks) sub = (record { items = c; is_there = h; is_mid = sub k (inl refl) }, each_mid c h ks (λ j i. sub j (inr i)))
+  each_mid c h (k ∷ ks) sub =
+      (record { items = c; is_there = h; is_mid = sub k (inl refl) }, each_mid c h ks (λ j i. sub j (inr i)))
 
   place_mids : (c : Items) → Among c → (c ≡ Done → ⊥) → Every IsMid (mids c)
   place_mids c (inl e) other = absurd (other e)
@@ -155,7 +164,8 @@ module _ (p : Program) (typed : is_typed p ≡ true) (edges : List Edge) (line :
   but_mid (k ∷ []) h = tt
   but_mid (k ∷ m ∷ ms) h = (h.0, but_mid (m ∷ ms) h.1)
 
-  last_mid : (l : ℕ) (ls : List Link) (m : ℕ) (ms : List ℕ) (to : ℕ) → IsWay edges l ls m ms to → Every IsMid (m ∷ ms) → IsMid to
+  last_mid : (l : ℕ) (ls : List Link) (m : ℕ) (ms : List ℕ) (to : ℕ) → IsWay edges l ls m ms to → Every IsMid (m ∷ ms)
+      → IsMid to
   last_mid l [] m [] to w h = subst IsMid w h.0
   last_mid l [] m (n ∷ ms) to w h = absurd w
   last_mid l (x ∷ ls) m [] to w h = absurd w
@@ -173,32 +183,48 @@ module _ (p : Program) (typed : is_typed p ≡ true) (edges : List Edge) (line :
 
   -- Landing
 
-  lands_mid : (T : ℕ → Store → Type 0) (to : ℕ) (z : Pass) → IsMid to → Lands T to z → Lands (λ k s. T k s × IsMid k) to z
+  lands_mid : (T : ℕ → Store → Type 0) (to : ℕ) (z : Pass) → IsMid to → Lands T to z
+      → Lands (λ k s. T k s × IsMid k) to z
   lands_mid T to (Passed u) mid h = (h, mid)
   lands_mid T to (Faulted f) mid h = tt
   lands_mid T to Halted mid h = tt
   lands_mid T to NotPassed mid h = h
 
-  lands_more : (T U : ℕ → Store → Type 0) → ((k : ℕ) (s : Store) → T k s → U k s) → (to : ℕ) (z : Pass) → Lands T to z → Lands U to z
+  lands_more : (T U : ℕ → Store → Type 0) → ((k : ℕ) (s : Store) → T k s → U k s) → (to : ℕ) (z : Pass) → Lands T to z
+      → Lands U to z
   lands_more T U more to (Passed u) h = more to u h
   lands_more T U more to (Faulted f) h = tt
   lands_more T U more to Halted h = tt
   lands_more T U more to NotPassed h = h
 
-  on_way_more : (T U : ℕ → Store → Type 0) → ((k : ℕ) (s : Store) → T k s → U k s) → (k : ℕ) (s : Store) → OnWay T k s → OnWay U k s
-  on_way_more T U more k s w = record { at_line = w.at_line; links = w.links; way = w.way; to = w.to; leads = w.leads; ones = w.ones; lands = lands_more T U more w.to (pass 0 w.links s) w.lands; insides = w.insides }
+  on_way_more : (T U : ℕ → Store → Type 0) → ((k : ℕ) (s : Store) → T k s → U k s) → (k : ℕ) (s : Store) → OnWay T k s
+      → OnWay U k s
+  on_way_more T U more k s w =
+      record {
+        at_line = w.at_line;
+        links = w.links;
+        way = w.way;
+        to = w.to;
+        leads = w.leads;
+        ones = w.ones;
+        lands = lands_more T U more w.to (pass 0 w.links s) w.lands;
+        insides = w.insides;
+      }
 
   settled_seen : (k : ℕ) (s : Store) → OnWay Settled k s → Seen k s
   settled_seen k s w = on_way_more Settled Reached (λ k s h. inl h) k s w
 
   here_seen : (k : ℕ) (s : Store) → Reached k s → Seen k s
-  here_seen k s h = record { at_line = 0; links = []; way = []; to = k; leads = refl; ones = tt; lands = h; insides = tt }
+  here_seen k s h = record
+      { at_line = 0; links = []; way = []; to = k; leads = refl; ones = tt; lands = h; insides = tt }
 
   -- what is left of a way after its first edge
-  after_edge : (T : ℕ → Store → Type 0) (to : ℕ) (z : Pass) (rest : Store → Pass) → Lands T to (then_pass z rest) → (t : Store) → z ≡ Passed t → Lands T to (rest t)
+  after_edge : (T : ℕ → Store → Type 0) (to : ℕ) (z : Pass) (rest : Store → Pass) → Lands T to (then_pass z rest)
+      → (t : Store) → z ≡ Passed t → Lands T to (rest t)
   after_edge T to z rest h t e = subst (λ y. Lands T to (then_pass y rest)) e h
 
-  no_stop : (T : ℕ → Store → Type 0) (to : ℕ) (z : Pass) (rest : Store → Pass) → Lands T to (then_pass z rest) → z ≡ NotPassed → ⊥
+  no_stop : (T : ℕ → Store → Type 0) (to : ℕ) (z : Pass) (rest : Store → Pass) → Lands T to (then_pass z rest)
+      → z ≡ NotPassed → ⊥
   no_stop T to z rest h e = subst (λ y. Lands T to (then_pass y rest)) e h
 
   -- Edges
@@ -206,17 +232,28 @@ module _ (p : Program) (typed : is_typed p ≡ true) (edges : List Edge) (line :
   no_edges : (s : Store) → StepsOn [] s
   no_edges s = record { each_good = tt; some_goes = λ x less. inl refl }
 
-  one_edge : (l k m : ℕ) (i : Instr) (s : Store) → (leak_tested (raw_step p.shapes.structs i 0 s) ≡ NotPassed → ⊥) → ((t : Store) → leak_tested (raw_step p.shapes.structs i 0 s) ≡ Passed t → Seen m t) → StepsOn (edge l k m i None ∷ []) s
-  one_edge l k m i s goes good = record { each_good = (good, tt); some_goes = λ x less. inr (record { edge = edge l k m i None; is_there = inl refl; taken = refl; goes = goes }) }
+  one_edge : (l k m : ℕ) (i : Instr) (s : Store) → (leak_tested (raw_step p.shapes.structs i 0 s) ≡ NotPassed → ⊥)
+      → ((t : Store) → leak_tested (raw_step p.shapes.structs i 0 s) ≡ Passed t → Seen m t)
+      → StepsOn (edge l k m i None ∷ []) s
+  one_edge l k m i s goes good =
+      record {
+        each_good = (good, tt);
+        some_goes = λ x less. inr (record { edge = edge l k m i None; is_there = inl refl; taken = refl; goes = goes });
+      }
 
-  two_choices : (l k a b : ℕ) (i j : Instr) (s : Store) → (leak_tested (raw_step p.shapes.structs i 0 s) ≡ NotPassed → ⊥) → (leak_tested (raw_step p.shapes.structs j 1 s) ≡ NotPassed → ⊥)
-      → ((t : Store) → leak_tested (raw_step p.shapes.structs i 0 s) ≡ Passed t → Seen a t) → ((t : Store) → leak_tested (raw_step p.shapes.structs j 1 s) ≡ Passed t → Seen b t)
+  two_choices : (l k a b : ℕ) (i j : Instr) (s : Store)
+      → (leak_tested (raw_step p.shapes.structs i 0 s) ≡ NotPassed → ⊥)
+      → (leak_tested (raw_step p.shapes.structs j 1 s) ≡ NotPassed → ⊥)
+      → ((t : Store) → leak_tested (raw_step p.shapes.structs i 0 s) ≡ Passed t → Seen a t)
+      → ((t : Store) → leak_tested (raw_step p.shapes.structs j 1 s) ≡ Passed t → Seen b t)
       → StepsOn (edge l k a i (Some 0) ∷ edge l k b j (Some 1) ∷ []) s
   two_choices l k a b i j s goes0 goes1 good0 good1 = record { each_good = (good0, (good1, tt)); some_goes = by }
     where
-      by : (x : ℕ) → x < 2 → ((edge l k a i (Some 0) ∷ edge l k b j (Some 1) ∷ []) ≡ []) ⊎ HasWay p.shapes.structs (edge l k a i (Some 0) ∷ edge l k b j (Some 1) ∷ []) x s
+      by : (x : ℕ) → x < 2 → ((edge l k a i (Some 0) ∷ edge l k b j (Some 1) ∷ []) ≡ [])
+          ⊎ HasWay p.shapes.structs (edge l k a i (Some 0) ∷ edge l k b j (Some 1) ∷ []) x s
       by zero less = inr (record { edge = edge l k a i (Some 0); is_there = inl refl; taken = refl; goes = goes0 })
-      by (suc zero) less = inr (record { edge = edge l k b j (Some 1); is_there = inr (inl refl); taken = refl; goes = goes1 })
+      by (suc zero) less = inr
+          (record { edge = edge l k b j (Some 1); is_there = inr (inl refl); taken = refl; goes = goes1 })
       by (suc (suc x)) less = absurd (omega (arith, less))
 
   on_edges : (k : ℕ) (es : List Edge) (s : Store) → out_of edges k ≡ es → StepsOn es s → Steps k s
@@ -228,53 +265,100 @@ module _ (p : Program) (typed : is_typed p ≡ true) (edges : List Edge) (line :
       passed_same : (a : Pass) (g t : Store) → a ≡ Passed g → a ≡ Passed t → g ≡ t
       passed_same a g t u v = let both : Passed g ≡ Passed t = sym u ∙ v in cc
 
-      by : (r : Result Bool Kind) → raw_step p.shapes.structs h.same_test 0 s ≡ onto r (λ same. if_agreed true same s) → raw_step p.shapes.structs h.other_test 0 s ≡ onto r (λ same. if_agreed false same s)
+      by : (r : Result Bool Kind) → raw_step p.shapes.structs h.same_test 0 s ≡ onto r (λ same. if_agreed true same s)
+          → raw_step p.shapes.structs h.other_test 0 s ≡ onto r (λ same. if_agreed false same s)
           → StepsOn (edge h.at_line k h.if_same h.same_test None ∷ edge h.at_line k h.if_other h.other_test None ∷ []) s
       by (Err x) same other =
           let p1 : leak_tested (raw_step p.shapes.structs h.same_test 0 s) ≡ Faulted x = ap (λ z. leak_tested z) same in
-          let p2 : leak_tested (raw_step p.shapes.structs h.other_test 0 s) ≡ Faulted x = ap (λ z. leak_tested z) other in
+          let p2 : leak_tested (raw_step p.shapes.structs h.other_test 0 s) ≡ Faulted x =
+          ap (λ z. leak_tested z) other in
           record {
             each_good = ((λ t q. absurd (cc (p1, q))), ((λ t q. absurd (cc (p2, q))), tt));
-            some_goes = λ y less. inr (record { edge = edge h.at_line k h.if_same h.same_test None; is_there = inl refl; taken = refl; goes = λ q. cc (p1, q) });
+            some_goes = λ y less. inr
+                (record {
+                  edge = edge h.at_line k h.if_same h.same_test None;
+                  is_there = inl refl;
+                  taken = refl;
+                  goes = λ q. cc (p1, q);
+                });
           }
       by (Ok true) same other =
-          let p1 : leak_tested (raw_step p.shapes.structs h.same_test 0 s) ≡ Passed s = ap (λ z. leak_tested z) same ∙ rw h.clear refl in
-          let p2 : leak_tested (raw_step p.shapes.structs h.other_test 0 s) ≡ NotPassed = ap (λ z. leak_tested z) other in
+          let p1 : leak_tested (raw_step p.shapes.structs h.same_test 0 s) ≡ Passed s = ap (λ z. leak_tested z) same
+          ∙ rw h.clear refl in
+          let p2 : leak_tested (raw_step p.shapes.structs h.other_test 0 s) ≡ NotPassed =
+          ap (λ z. leak_tested z) other in
           record {
-            each_good = ((λ t q. subst (Seen h.if_same) (passed_same _ s t p1 q) (settled_seen h.if_same s h.same_on)), ((λ t q. absurd (cc (p2, q))), tt));
-            some_goes = λ y less. inr (record { edge = edge h.at_line k h.if_same h.same_test None; is_there = inl refl; taken = refl; goes = λ q. cc (p1, q) });
+            each_good = (
+              (λ t q. subst (Seen h.if_same) (passed_same _ s t p1 q) (settled_seen h.if_same s h.same_on)),
+              ((λ t q. absurd (cc (p2, q))), tt),
+            );
+            some_goes = λ y less. inr
+                (record {
+                  edge = edge h.at_line k h.if_same h.same_test None;
+                  is_there = inl refl;
+                  taken = refl;
+                  goes = λ q. cc (p1, q);
+                });
           }
       by (Ok false) same other =
           let p1 : leak_tested (raw_step p.shapes.structs h.same_test 0 s) ≡ NotPassed = ap (λ z. leak_tested z) same in
-          let p2 : leak_tested (raw_step p.shapes.structs h.other_test 0 s) ≡ Passed s = ap (λ z. leak_tested z) other ∙ rw h.clear refl in
+          let p2 : leak_tested (raw_step p.shapes.structs h.other_test 0 s) ≡ Passed s = ap (λ z. leak_tested z) other
+          ∙ rw h.clear refl in
           record {
-            each_good = ((λ t q. absurd (cc (p1, q))), ((λ t q. subst (Seen h.if_other) (passed_same _ s t p2 q) (settled_seen h.if_other s h.other_on)), tt));
-            some_goes = λ y less. inr (record { edge = edge h.at_line k h.if_other h.other_test None; is_there = inr (inl refl); taken = refl; goes = λ q. cc (p2, q) });
+            each_good = (
+              (λ t q. absurd (cc (p1, q))),
+              ((λ t q. subst (Seen h.if_other) (passed_same _ s t p2 q) (settled_seen h.if_other s h.other_on)), tt),
+            );
+            some_goes = λ y less. inr
+                (record {
+                  edge = edge h.at_line k h.if_other h.other_test None;
+                  is_there = inr (inl refl);
+                  taken = refl;
+                  goes = λ q. cc (p2, q);
+                });
           }
 
   -- the first edge of a way
-  way_on : (T : ℕ → Store → Type 0) → ((k : ℕ) (s : Store) → T k s → Reached k s) → (l : ℕ) (i : Instr) (ls : List Link) (k : ℕ) (ms : List ℕ) (to : ℕ) (s : Store) → IsWay edges l (One i ∷ ls) k ms to → AreOnes ls → Lands T to (pass 0 (One i ∷ ls) s) → Every IsMid (but_last ms) → Steps k s
+  way_on : (T : ℕ → Store → Type 0) → ((k : ℕ) (s : Store) → T k s → Reached k s)
+      → (l : ℕ) (i : Instr) (ls : List Link) (k : ℕ) (ms : List ℕ) (to : ℕ) (s : Store)
+      → IsWay edges l (One i ∷ ls) k ms to → AreOnes ls → Lands T to (pass 0 (One i ∷ ls) s) → Every IsMid (but_last ms)
+      → Steps k s
   way_on T more l i ls k [] to s w ones h inside = absurd w
   way_on T more l i ls k (m ∷ ms) to s w ones h inside =
       on_edges k (edge l k m i None ∷ []) s w.0
       (one_edge l k m i s (no_stop T to (leak_tested (raw_step p.shapes.structs i 0 s)) (λ t. pass 0 ls t) h)
-      (λ t e. on_way_more T Reached more m t (record { at_line = l; links = ls; way = ms; to = to; leads = w.1; ones = ones; lands = after_edge T to (leak_tested (raw_step p.shapes.structs i 0 s)) (λ t. pass 0 ls t) h t e; insides = inside })))
+      (λ t e. on_way_more T Reached more m t
+      (record {
+        at_line = l;
+        links = ls;
+        way = ms;
+        to = to;
+        leads = w.1;
+        ones = ones;
+        lands = after_edge T to (leak_tested (raw_step p.shapes.structs i 0 s)) (λ t. pass 0 ls t) h t e;
+        insides =
+            inside;
+      })))
 
   ones_same : (ls : List Link) (x y : ℕ) (s : Store) → AreOnes ls → pass x ls s ≡ pass y ls s
   ones_same [] x y s h = refl
   ones_same (Two i j ∷ ls) x y s h = absurd h
   ones_same (One i ∷ ls) x y s h = here (leak_tested (raw_step p.shapes.structs i 0 s)) (λ t. ones_same ls x y t h)
     where
-      here : (z : Pass) → ((t : Store) → pass x ls t ≡ pass y ls t) → then_pass z (λ t. pass x ls t) ≡ then_pass z (λ t. pass y ls t)
+      here : (z : Pass) → ((t : Store) → pass x ls t ≡ pass y ls t) → then_pass z (λ t. pass x ls t)
+          ≡ then_pass z (λ t. pass y ls t)
       here (Passed t) same = same t
       here (Faulted f) same = refl
       here Halted same = refl
       here NotPassed same = refl
 
   -- the links of a step
-  row_steps : (takes : Bool) (l : ℕ) (ls : List Link) (k : ℕ) (ms : List ℕ) (to : ℕ) (s : Store) → IsWay edges l ls k ms to → TakesAs takes ls → Filled ls → ((x : ℕ) → Lands Settled to (pass x ls s)) → Every IsMid (but_last ms) → Steps k s
+  row_steps : (takes : Bool) (l : ℕ) (ls : List Link) (k : ℕ) (ms : List ℕ) (to : ℕ) (s : Store)
+      → IsWay edges l ls k ms to → TakesAs takes ls → Filled ls → ((x : ℕ) → Lands Settled to (pass x ls s))
+      → Every IsMid (but_last ms) → Steps k s
   row_steps takes l [] k ms to s w taking filled h inside = absurd filled
-  row_steps false l (One i ∷ ls) k ms to s w taking filled h inside = way_on Settled (λ k s u. inl u) l i ls k ms to s w taking (h 0) inside
+  row_steps false l (One i ∷ ls) k ms to s w taking filled h inside =
+      way_on Settled (λ k s u. inl u) l i ls k ms to s w taking (h 0) inside
   row_steps false l (Two i j ∷ ls) k ms to s w taking filled h inside = absurd taking
   row_steps true l (One i ∷ ls) k ms to s w taking filled h inside = absurd taking
   row_steps true l (Two i j ∷ ls) k [] to s w taking filled h inside = absurd w
@@ -283,15 +367,40 @@ module _ (p : Program) (typed : is_typed p ≡ true) (edges : List Edge) (line :
       (two_choices l k m m i j s
       (no_stop Settled to (leak_tested (raw_step p.shapes.structs i 0 s)) (λ t. pass 0 ls t) (h 0))
       (no_stop Settled to (leak_tested (raw_step p.shapes.structs j 1 s)) (λ t. pass 1 ls t) (h 1))
-      (λ t e. settled_seen m t (record { at_line = l; links = ls; way = ms; to = to; leads = w.1; ones = taking; lands = after_edge Settled to (leak_tested (raw_step p.shapes.structs i 0 s)) (λ t. pass 0 ls t) (h 0) t e; insides = inside }))
-      (λ t e. settled_seen m t (record { at_line = l; links = ls; way = ms; to = to; leads = w.1; ones = taking; lands = subst (Lands Settled to) (ones_same ls 1 0 t taking) (after_edge Settled to (leak_tested (raw_step p.shapes.structs j 1 s)) (λ t. pass 1 ls t) (h 1) t e); insides = inside })))
+      (λ t e. settled_seen m t
+      (record {
+        at_line = l;
+        links = ls;
+        way = ms;
+        to = to;
+        leads = w.1;
+        ones = taking;
+        lands = after_edge Settled to (leak_tested (raw_step p.shapes.structs i 0 s)) (λ t. pass 0 ls t) (h 0) t e;
+        insides = inside;
+      }))
+      (λ t e. settled_seen m t
+      (record {
+        at_line = l;
+        links = ls;
+        way = ms;
+        to = to;
+        leads = w.1;
+        ones = taking;
+        lands = subst (Lands Settled to) (ones_same ls 1 0 t taking)
+            (after_edge Settled to (leak_tested (raw_step p.shapes.structs j 1 s)) (λ t. pass 1 ls t) (h 1) t e);
+        insides = inside;
+      })))
 
   -- a comparison's row
-  test_row : (l : ℕ) (loads : List Link) (test : Bool → Instr) (ends : List Link) (k : ℕ) (ms : List ℕ) (same other : ℕ) (t : Store) → IsTestRow edges l loads test ends k ms same other → AreOnes loads → AreOnes ends → (compared : Result Bool Kind) → Tests p 0 t loads test ends compared
+  test_row : (l : ℕ) (loads : List Link) (test : Bool → Instr) (ends : List Link) (k : ℕ) (ms : List ℕ) (same other : ℕ)
+      (t : Store) → IsTestRow edges l loads test ends k ms same other → AreOnes loads → AreOnes ends
+      → (compared : Result Bool Kind) → Tests p 0 t loads test ends compared
       → Settled same (ext0 t) → Settled other (ext0 t) → Every IsMid ms → Steps k (ext0 t)
-  test_row l loads test ends k ms same other t row loads_ones ends_ones' compared tests on_same on_other inside = go_on loads row.front row.reads loads_ones (lands tests) parts.0
+  test_row l loads test ends k ms same other t row loads_ones ends_ones' compared tests on_same on_other inside =
+      go_on loads row.front row.reads loads_ones (lands tests) parts.0
     where
-      parts : Every IsMid row.front × Every IsMid (but_last (row.if_same ∷ row.after_same)) × Every IsMid (but_last (row.if_other ∷ row.after_other))
+      parts : Every IsMid row.front × Every IsMid (but_last (row.if_same ∷ row.after_same))
+          × Every IsMid (but_last (row.if_other ∷ row.after_other))
       parts =
           let h1 = every_parts IsMid row.front _ (subst (λ ks. Every IsMid ks) row.middle inside) in
           let h2 = every_parts IsMid (but_last (row.if_same ∷ row.after_same)) _ h1.1 in
@@ -312,26 +421,59 @@ module _ (p : Program) (typed : is_typed p ≡ true) (edges : List Edge) (line :
             clear = clear;
             same_raw = tests true;
             other_raw = tests false;
-            same_on = record { at_line = l; links = ends; way = row.after_same; to = same; leads = row.same_ends; ones = ends_ones'; lands = subst (Lands Settled same) (sym ended) on_same; insides = parts.1 };
-            other_on = record { at_line = l; links = ends; way = row.after_other; to = other; leads = row.other_ends; ones = ends_ones'; lands = subst (Lands Settled other) (sym ended) on_other; insides = parts.2 };
+            same_on =
+                record {
+                  at_line = l;
+                  links = ends;
+                  way = row.after_same;
+                  to = same;
+                  leads = row.same_ends;
+                  ones = ends_ones';
+                  lands = subst (Lands Settled same) (sym ended) on_same;
+                  insides = parts.1;
+                };
+            other_on =
+                record {
+                  at_line = l;
+                  links = ends;
+                  way = row.after_other;
+                  to = other;
+                  leads = row.other_ends;
+                  ones = ends_ones';
+                  lands = subst (Lands Settled other) (sym ended) on_other;
+                  insides = parts.2;
+                };
           })
 
-      go_on : (ls : List Link) (front : List ℕ) → IsWay edges l ls k front row.tested → AreOnes ls → Lands AtTest row.tested (pass 0 ls (ext0 t)) → Every IsMid front → Steps k (ext0 t)
+      go_on : (ls : List Link) (front : List ℕ) → IsWay edges l ls k front row.tested → AreOnes ls
+          → Lands AtTest row.tested (pass 0 ls (ext0 t)) → Every IsMid front → Steps k (ext0 t)
       go_on [] [] w ones h front_mid = test_steps k (ext0 t) (subst (λ j. AtTest j (ext0 t)) (sym w) h)
       go_on [] (m ∷ front) w ones h front_mid = absurd w
       go_on (One i ∷ ls) [] w ones h front_mid = absurd w
       go_on (One i ∷ ls) (m ∷ front) w ones h front_mid =
           way_on (λ k s. AtTest k s × IsMid k) (λ k s u. inr u) l i ls k (m ∷ front) row.tested (ext0 t) w ones
-          (lands_mid AtTest row.tested (pass 0 (One i ∷ ls) (ext0 t)) (last_mid l ls m front row.tested w.1 front_mid) h) (but_mid (m ∷ front) front_mid)
+          (lands_mid AtTest row.tested (pass 0 (One i ∷ ls) (ext0 t)) (last_mid l ls m front row.tested w.1 front_mid)
+          h) (but_mid (m ∷ front) front_mid)
       go_on (Two i j ∷ ls) front w ones h front_mid = absurd ones
 
   -- A place
 
   module _ (c : Items) (t : Store) (r : IsReady c t) where
     -- where a turn leads
-    turn_lands : (turn : Turn) (x : ℕ) (is : Items) (stop : Pass) → turn_of p.shapes.structs (opened c) t x ≡ turn → GoesTo is turn → Each Place is Done → Each Among is Done → Lands Settled (at (opened is)) stop → Lands Settled (at (opened is)) (turn_pass stop turn)
+    turn_lands : (turn : Turn) (x : ℕ) (is : Items) (stop : Pass) → turn_of p.shapes.structs (opened c) t x ≡ turn
+        → GoesTo is turn → Each Place is Done → Each Among is Done → Lands Settled (at (opened is)) stop
+        → Lands Settled (at (opened is)) (turn_pass stop turn)
     turn_lands (Goes js u) x is stop e to each among stops =
-        inr (record { items = js; store = u; is_at = ap (λ z. at (opened z)) (sym to.0); is_ext = refl; is_ready = next_ready p typed edges line at mids most exit c js t u x r e to.1 (subst (λ z. Each Place z Done) (sym to.0) each); among = subst (λ z. Each Among z Done) (sym to.0) among })
+        inr
+        (record {
+          items = js;
+          store = u;
+          is_at = ap (λ z. at (opened z)) (sym to.0);
+          is_ext = refl;
+          is_ready = next_ready p typed edges line at mids most exit c js t u x r e to.1
+              (subst (λ z. Each Place z Done) (sym to.0) each);
+          among = subst (λ z. Each Among z Done) (sym to.0) among;
+        })
     turn_lands Stops x is stop e to each among stops = stops
     turn_lands (Faults f) x is stop e to each among stops = tt
 
@@ -341,19 +483,31 @@ module _ (p : Program) (typed : is_typed p ≡ true) (edges : List Edge) (line :
     act_stops (Free q) is = tt
     act_stops Error is = tt
     act_stops Halt is = tt
-    act_stops (Return operand) is = inl (record { store = all_dead t; is_at = refl; is_ext = refl; sized = dead_sized _ _ t (sound_sized p t r.sound) })
+    act_stops (Return operand) is =
+        inl
+        (record { store = all_dead t; is_at = refl; is_ext = refl; sized = dead_sized _ _ t (sound_sized p t r.sound) })
     act_stops Break is = tt
     act_stops Continue is = tt
 
     -- a side of a test
     on_side : (js : Items) → Each Place js Done → Each Among js Done → ItemsFit p js → Settled (at (opened js)) (ext0 t)
-    on_side js each among fits = inr (record { items = js; store = t; is_at = refl; is_ext = refl; is_ready = record { places = each; fits = fits; sound = r.sound; clear = r.clear }; among = among })
+    on_side js each among fits =
+        inr
+        (record {
+          items = js;
+          store = t;
+          is_at = refl;
+          is_ext = refl;
+          is_ready = record { places = each; fits = fits; sound = r.sound; clear = r.clear };
+          among = among;
+        })
 
     ext_clear : leak_tested (Passed (ext0 t)) ≡ Passed (ext0 t)
     ext_clear = rw (leaks_ext0 t, r.clear) refl
 
     -- by an edge that changes nothing
-    taken : (js : Items) → Settled (at (opened js)) (ext0 t) → (u : Store) → leak_tested (Passed (ext0 t)) ≡ Passed u → Seen (at (opened js)) u
+    taken : (js : Items) → Settled (at (opened js)) (ext0 t) → (u : Store) → leak_tested (Passed (ext0 t)) ≡ Passed u
+        → Seen (at (opened js)) u
     taken js settled u got =
         let both : Passed (ext0 t) ≡ Passed u = sym ext_clear ∙ got in
         let same : ext0 t ≡ u = cc in
@@ -362,34 +516,61 @@ module _ (p : Program) (typed : is_typed p ≡ true) (edges : List Edge) (line :
     goes_somewhere : leak_tested (Passed (ext0 t)) ≡ NotPassed → ⊥
     goes_somewhere e = cc (ext_clear, e)
 
-    module _ (m : ℕ) (x y is : Items) (yes_on : Settled (at (opened (x then is))) (ext0 t)) (no_on : Settled (at (opened (y then is))) (ext0 t)) where
-      atom_steps : (a : Atom) → Place (If (Ask a m) x y is) → Every IsMid (mids (If (Ask a m) x y is)) → Steps (at (If (Ask a m) x y is)) (ext0 t)
+    module _ (m : ℕ) (x y is : Items) (yes_on : Settled (at (opened (x then is))) (ext0 t))
+        (no_on : Settled (at (opened (y then is))) (ext0 t)) where
+      atom_steps : (a : Atom) → Place (If (Ask a m) x y is) → Every IsMid (mids (If (Ask a m) x y is))
+          → Steps (at (If (Ask a m) x y is)) (ext0 t)
       atom_steps ChoiceAtom h inside =
           on_edges _ _ (ext0 t) h.0.0
-          (two_choices (line m) _ (at (opened (y then is))) (at (opened (x then is))) (Choose None) (Choose None) (ext0 t) goes_somewhere goes_somewhere (taken (y then is) no_on) (taken (x then is) yes_on))
-      atom_steps (KnownAtom true) h inside = on_edges _ _ (ext0 t) h.0.0 (one_edge (line m) _ (at (opened (x then is))) (Kill [] []) (ext0 t) goes_somewhere (taken (x then is) yes_on))
-      atom_steps (KnownAtom false) h inside = on_edges _ _ (ext0 t) h.0.0 (one_edge (line m) _ (at (opened (y then is))) (Kill [] []) (ext0 t) goes_somewhere (taken (y then is) no_on))
-      atom_steps (PtrAtom l q true) h inside = test_row (line m) _ _ _ _ _ _ _ t h.0 (ptr_ones (length p.vars) (length p.data_vars) l q) (ends_ones _ _) _ (ptr_tests p 0 t r.sound r.clear l q h.1.0) yes_on no_on inside
-      atom_steps (PtrAtom l q false) h inside = test_row (line m) _ _ _ _ _ _ _ t h.0 (ptr_ones (length p.vars) (length p.data_vars) l q) (ends_ones _ _) _ (ptr_tests p 0 t r.sound r.clear l q h.1.0) no_on yes_on inside
-      atom_steps (DataAtom l q true) h inside = test_row (line m) _ _ _ _ _ _ _ t h.0 (cmp_ones (length p.vars) (length p.data_vars) l q) (ends_ones _ _) _ (data_tests p 0 t r.sound r.clear l q h.1.0) yes_on no_on inside
-      atom_steps (DataAtom l q false) h inside = test_row (line m) _ _ _ _ _ _ _ t h.0 (cmp_ones (length p.vars) (length p.data_vars) l q) (ends_ones _ _) _ (data_tests p 0 t r.sound r.clear l q h.1.0) no_on yes_on inside
+          (two_choices (line m) _ (at (opened (y then is))) (at (opened (x then is))) (Choose None) (Choose None)
+          (ext0 t) goes_somewhere goes_somewhere (taken (y then is) no_on) (taken (x then is) yes_on))
+      atom_steps (KnownAtom true) h inside =
+          on_edges _ _ (ext0 t) h.0.0
+          (one_edge (line m) _ (at (opened (x then is))) (Kill [] []) (ext0 t) goes_somewhere
+          (taken (x then is) yes_on))
+      atom_steps (KnownAtom false) h inside =
+          on_edges _ _ (ext0 t) h.0.0
+          (one_edge (line m) _ (at (opened (y then is))) (Kill [] []) (ext0 t) goes_somewhere (taken (y then is) no_on))
+      atom_steps (PtrAtom l q true) h inside =
+          test_row (line m) _ _ _ _ _ _ _ t h.0 (ptr_ones (length p.vars) (length p.data_vars) l q) (ends_ones _ _) _
+          (ptr_tests p 0 t r.sound r.clear l q h.1.0) yes_on no_on inside
+      atom_steps (PtrAtom l q false) h inside =
+          test_row (line m) _ _ _ _ _ _ _ t h.0 (ptr_ones (length p.vars) (length p.data_vars) l q) (ends_ones _ _) _
+          (ptr_tests p 0 t r.sound r.clear l q h.1.0) no_on yes_on inside
+      atom_steps (DataAtom l q true) h inside =
+          test_row (line m) _ _ _ _ _ _ _ t h.0 (cmp_ones (length p.vars) (length p.data_vars) l q) (ends_ones _ _) _
+          (data_tests p 0 t r.sound r.clear l q h.1.0) yes_on no_on inside
+      atom_steps (DataAtom l q false) h inside =
+          test_row (line m) _ _ _ _ _ _ _ t h.0 (cmp_ones (length p.vars) (length p.data_vars) l q) (ends_ones _ _) _
+          (data_tests p 0 t r.sound r.clear l q h.1.0) no_on yes_on inside
 
     place_steps : (o : Items) → opened c ≡ o → Front Place o → Front Among o → ItemsFit p o → Steps (at o) (ext0 t)
     place_steps Done e h among fits = on_edges (at Done) [] (ext0 t) exit (no_edges (ext0 t))
     place_steps (Do a m is) e h among fits =
-        row_steps (act_takes a) (line m) (act_row (length p.vars) (length p.data_vars) a is) (at (Do a m is)) h.0.0.way (at (opened (followed_by a is))) (ext0 t) h.0.0.leads (act_row_takes (length p.vars) (length p.data_vars) a is) (act_filled (length p.vars) (length p.data_vars) a is)
-        (λ x. subst (Lands Settled (at (opened (followed_by a is)))) (sym (act_passes p typed x t r.sound r.clear a is fits.0))
-        (turn_lands (act_turn p.shapes.structs a is t x) x (followed_by a is) (stop_of a t) (ap (λ z. turn_of p.shapes.structs z t x) e) (act_to p.shapes.structs a is t x) (each_followed p edges line at mids most a is h.1.1) (among_followed a is among.1.1) (act_stops a is)))
+        row_steps (act_takes a) (line m) (act_row (length p.vars) (length p.data_vars) a is) (at (Do a m is)) h.0.0.way
+        (at (opened (followed_by a is))) (ext0 t) h.0.0.leads
+        (act_row_takes (length p.vars) (length p.data_vars) a is)
+        (act_filled (length p.vars) (length p.data_vars) a is)
+        (λ x. subst (Lands Settled (at (opened (followed_by a is))))
+        (sym (act_passes p typed x t r.sound r.clear a is fits.0))
+        (turn_lands (act_turn p.shapes.structs a is t x) x (followed_by a is) (stop_of a t)
+        (ap (λ z. turn_of p.shapes.structs z t x) e) (act_to p.shapes.structs a is t x)
+        (each_followed p edges line at mids most a is h.1.1) (among_followed a is among.1.1) (act_stops a is)))
         (subst (λ ks. Every IsMid ks) h.0.0.middle (place_mids (Do a m is) among.0 (λ e. cc e)))
     place_steps (Close ps ds m is) e h among fits =
-        row_steps false (line m) (One (Kill ps ds) ∷ []) (at (Close ps ds m is)) h.0.0.way (at (opened is)) (ext0 t) h.0.0.leads tt tt
+        row_steps false (line m) (One (Kill ps ds) ∷ []) (at (Close ps ds m is)) h.0.0.way (at (opened is)) (ext0 t)
+        h.0.0.leads tt tt
         (λ x. subst (Lands Settled (at (opened is))) (sym (kill_passes p typed x t r.sound r.clear ps ds Halted is))
-        (turn_lands (settle (kill ps ds t) is) x is Halted (ap (λ z. turn_of p.shapes.structs z t x) e) (settle_to (kill ps ds t) is) h.1.1 among.1.1 tt))
+        (turn_lands (settle (kill ps ds t) is) x is Halted (ap (λ z. turn_of p.shapes.structs z t x) e)
+        (settle_to (kill ps ds t) is) h.1.1 among.1.1 tt))
         (subst (λ ks. Every IsMid ks) h.0.0.middle (place_mids (Close ps ds m is) among.0 (λ e. cc e)))
     place_steps (If (Ask a m) x y is) e h among fits =
         atom_steps m x y is
-        (on_side (x then is) (whole Place x is (rw (then_done is) at h.1.1) h.1.3) (whole Among x is (rw (then_done is) at among.1.1) among.1.3) (then_fit p x is fits.0 fits.2))
-        (on_side (y then is) (whole Place y is (rw (then_done is) at h.1.2) h.1.3) (whole Among y is (rw (then_done is) at among.1.2) among.1.3) (then_fit p y is fits.1 fits.2)) a h.0 (place_mids (If (Ask a m) x y is) among.0 (λ e. cc e))
+        (on_side (x then is) (whole Place x is (rw (then_done is) at h.1.1) h.1.3)
+        (whole Among x is (rw (then_done is) at among.1.1) among.1.3) (then_fit p x is fits.0 fits.2))
+        (on_side (y then is) (whole Place y is (rw (then_done is) at h.1.2) h.1.3)
+        (whole Among y is (rw (then_done is) at among.1.2) among.1.3) (then_fit p y is fits.1 fits.2)) a h.0
+        (place_mids (If (Ask a m) x y is) among.0 (λ e. cc e))
     place_steps (If (Not d) x y is) e h among fits = absurd h.0.0
     place_steps (If (Both d f) x y is) e h among fits = absurd h.0.0
     place_steps (If (Either d f) x y is) e h among fits = absurd h.0.0
@@ -404,18 +585,22 @@ module _ (p : Program) (typed : is_typed p ≡ true) (edges : List Edge) (line :
   reached_steps k s (inl (inl h)) = on_edges k [] s (ap (out_of edges) h.is_at ∙ exit) (no_edges s)
   reached_steps k s (inl (inr h)) =
       let base : Steps (at (opened h.items)) (ext0 h.store) =
-      place_steps h.items h.store h.is_ready (opened h.items) refl (front_of p typed edges line at mids most exit h.items h.store h.is_ready) (each_opened Among h.items (inl refl) h.among) (opened_fit p h.items h.is_ready.fits) in
+      place_steps h.items h.store h.is_ready (opened h.items) refl
+      (front_of p typed edges line at mids most exit h.items h.store h.is_ready)
+      (each_opened Among h.items (inl refl) h.among) (opened_fit p h.items h.is_ready.fits) in
       subst (λ j. Steps j s) (sym h.is_at) (subst (λ u. Steps (at (opened h.items)) u) (sym h.is_ext) base)
   reached_steps k s (inr h) = test_steps k s h.0
 
   seen_steps : (k : ℕ) (s : Store) → Seen k s → Steps k s
   seen_steps k s w = here w.links w.way w.leads w.ones w.lands w.insides
     where
-      here : (ls : List Link) (ms : List ℕ) → IsWay edges w.at_line ls k ms w.to → AreOnes ls → Lands Reached w.to (pass 0 ls s) → Every IsMid (but_last (k ∷ ms)) → Steps k s
+      here : (ls : List Link) (ms : List ℕ) → IsWay edges w.at_line ls k ms w.to → AreOnes ls
+          → Lands Reached w.to (pass 0 ls s) → Every IsMid (but_last (k ∷ ms)) → Steps k s
       here [] [] e ones h inside = subst (λ j. Steps j s) (sym e) (reached_steps w.to s h)
       here [] (m ∷ ms) e ones h inside = absurd e
       here (One i ∷ ls) [] e ones h inside = absurd e
-      here (One i ∷ ls) (m ∷ ms) e ones h inside = way_on Reached (λ k s u. u) w.at_line i ls k (m ∷ ms) w.to s e ones h inside.1
+      here (One i ∷ ls) (m ∷ ms) e ones h inside =
+          way_on Reached (λ k s u. u) w.at_line i ls k (m ∷ ms) w.to s e ones h inside.1
       here (Two i j ∷ ls) ms e ones h inside = absurd ones
 
   -- in the middle of a step, or with temporaries that hold nothing
@@ -427,7 +612,8 @@ module _ (p : Program) (typed : is_typed p ≡ true) (edges : List Edge) (line :
   seen_unset : (k : ℕ) (s : Store) → Seen k s → IsMid k ⊎ TemporariesUnset (length p.vars) (length p.data_vars) s
   seen_unset k s w = here w.links w.way w.leads w.lands w.insides
     where
-      here : (ls : List Link) (ms : List ℕ) → IsWay edges w.at_line ls k ms w.to → Lands Reached w.to (pass 0 ls s) → Every IsMid (but_last (k ∷ ms)) → IsMid k ⊎ TemporariesUnset (length p.vars) (length p.data_vars) s
+      here : (ls : List Link) (ms : List ℕ) → IsWay edges w.at_line ls k ms w.to → Lands Reached w.to (pass 0 ls s)
+          → Every IsMid (but_last (k ∷ ms)) → IsMid k ⊎ TemporariesUnset (length p.vars) (length p.data_vars) s
       here [] [] e h inside = reached_unset k s (subst (λ j. Reached j s) (sym e) h)
       here [] (m ∷ ms) e h inside = absurd e
       here (l ∷ ls) [] e h inside = absurd e
@@ -435,10 +621,14 @@ module _ (p : Program) (typed : is_typed p ≡ true) (edges : List Edge) (line :
 
 module _ (p : Program) (typed : is_typed p ≡ true) (g : ControlGraph) (low : LowerOf p g) where
   abbrev IsSeen : ℕ → Store → Type 0
-  IsSeen k s = Seen p typed g.edges low.line low.at low.mids (rowed p typed g low).most low.exit (places low.items Done) k s
+  IsSeen k s = Seen p typed g.edges low.line low.at low.mids (rowed p typed g low).most low.exit (places low.items Done)
+      k s
 
-  steps : (k : ℕ) (s : Store) → IsSeen k s → StepsOn p typed g.edges low.line low.at low.mids (rowed p typed g low).most low.exit (places low.items Done) (out_of g.edges k) s
-  steps k s h = seen_steps p typed g.edges low.line low.at low.mids (rowed p typed g low).most low.exit (places low.items Done) k s h
+  steps : (k : ℕ) (s : Store) → IsSeen k s
+      → StepsOn p typed g.edges low.line low.at low.mids (rowed p typed g low).most low.exit (places low.items Done)
+      (out_of g.edges k) s
+  steps k s h = seen_steps p typed g.edges low.line low.at low.mids (rowed p typed g low).most low.exit
+      (places low.items Done) k s h
 
   same_shapes : g.shapes.structs ≡ p.shapes.structs
   same_shapes = ap (λ z. z.structs) low.shapes
@@ -446,16 +636,35 @@ module _ (p : Program) (typed : is_typed p ≡ true) (g : ControlGraph) (low : L
   visits_seen : {k : ℕ} {s : Store} → Visits g k s → IsSeen k s
   visits_seen begin =
       here_seen p typed g.edges low.line low.at low.mids (rowed p typed g low).most low.exit (places low.items Done) 0 _
-      (inl (inr (record { items = low.items; store = first p typed g low; is_at = sym low.entry; is_ext = sym (begins p typed g low); is_ready = ready p typed g low; among = each _ low.items Done (every_own (places low.items Done)) })))
+      (inl
+      (inr
+      (record {
+        items = low.items;
+        store = first p typed g low;
+        is_at = sym low.entry;
+        is_ext = sym (begins p typed g low);
+        is_ready = ready p typed g low;
+        among =
+            each _ low.items Done (every_own (places low.items Done));
+      })))
   visits_seen (by_edge {k} {s} {t} e before there got) =
-      every_in (Good p typed g.edges low.line low.at low.mids (rowed p typed g low).most low.exit (places low.items Done) s) (out_of g.edges k) e ((steps k s (visits_seen before)).each_good) there t (subst (λ shapes. gstep shapes e s ≡ Passed t) same_shapes got)
+      every_in
+      (Good p typed g.edges low.line low.at low.mids (rowed p typed g low).most low.exit (places low.items Done) s)
+      (out_of g.edges k) e ((steps k s (visits_seen before)).each_good) there t
+      (subst (λ shapes. gstep shapes e s ≡ Passed t) same_shapes got)
 
   pub never_stuck : IsNeverStuck g
-  never_stuck k s visits x less = subst (λ shapes. (out_of g.edges k ≡ []) ⊎ HasWay shapes (out_of g.edges k) x s) (sym same_shapes) ((steps k s (visits_seen visits)).some_goes x less)
+  never_stuck k s visits x less =
+      subst (λ shapes. (out_of g.edges k ≡ []) ⊎ HasWay shapes (out_of g.edges k) x s) (sym same_shapes)
+      ((steps k s (visits_seen visits)).some_goes x less)
 
   -- in the middle of the step of a place
   abbrev pub Middle : ℕ → Type 0
-  Middle k = IsMid p typed g.edges low.line low.at low.mids (rowed p typed g low).most low.exit (places low.items Done) k
+  Middle k = IsMid p typed g.edges low.line low.at low.mids (rowed p typed g low).most low.exit (places low.items Done)
+      k
 
-  pub middle_or_unset : (k : ℕ) (s : Store) → Visits g k s → Middle k ⊎ TemporariesUnset (length p.vars) (length p.data_vars) s
-  middle_or_unset k s visits = seen_unset p typed g.edges low.line low.at low.mids (rowed p typed g low).most low.exit (places low.items Done) k s (visits_seen visits)
+  pub middle_or_unset : (k : ℕ) (s : Store) → Visits g k s → Middle k
+      ⊎ TemporariesUnset (length p.vars) (length p.data_vars) s
+  middle_or_unset k s visits =
+      seen_unset p typed g.edges low.line low.at low.mids (rowed p typed g low).most low.exit (places low.items Done) k
+      s (visits_seen visits)

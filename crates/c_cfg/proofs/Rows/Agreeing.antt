@@ -1,4 +1,5 @@
--- Rows on agreement: outcomes of each kind, a program and a graph that agree, and graphs that do not agree with a program.
+-- Rows on agreement: outcomes of each kind, a program and a graph that agree, and graphs that do not agree with a
+-- program.
 use Rattle.std.proofs.Common.{◌≡◌, ◌≤◌, ℕ, zero, suc, true, false, List, [], ◌∷◌, refl, sym, subst, arith}
 use Rattle.fore_base.specs.declared.fault.Fault.TheVariants.{Leak, Assertion}
 use Rattle.fore_base.specs.Heap.{leaks}
@@ -76,7 +77,8 @@ unfolding leaks grun
 graph_ends choices m = refl
 
 -- what neither comes to
-neither : (Is : Outcome → Type 0) → (Is StillRunning → ⊥) → (Is (Ended 1) → ⊥) → (choices : List ℕ) → BothCome halting stopping choices Is
+neither : (Is : Outcome → Type 0) → (Is StillRunning → ⊥) → (Is (Ended 1) → ⊥) → (choices : List ℕ)
+    → BothCome halting stopping choices Is
 neither Is running ended choices = record { there = λ n h. absurd (program n h); back = λ m h. absurd (graph_too m h) }
   where
     program : (n : ℕ) → Is (run halting choices n) → ⊥
@@ -126,7 +128,8 @@ never_ends (suc (suc n)) h = let e : IsEnded (Fault Assertion 4 2) = subst IsEnd
 
 not_in_one : (n : ℕ) → n ≤ 1 → IsFaultAt Assertion 4 (run failing [] n) → ⊥
 not_in_one zero less h = let e : IsFaultAt Assertion 4 StillRunning = subst (IsFaultAt Assertion 4) goes_on h in cc e.1
-not_in_one (suc zero) less h = let e : IsFaultAt Assertion 4 StillRunning = subst (IsFaultAt Assertion 4) goes_on_still h in cc e.1
+not_in_one (suc zero) less h =
+    let e : IsFaultAt Assertion 4 StillRunning = subst (IsFaultAt Assertion 4) goes_on_still h in cc e.1
 not_in_one (suc (suc n)) less h = omega (arith, less)
 
 -- a graph whose error is in another line

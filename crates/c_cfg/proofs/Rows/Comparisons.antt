@@ -1,4 +1,5 @@
--- Rows on the edges of comparisons: the loads before the test, the test, and what ends each branch. The temporaries are p0 = 10 and p1 = 11, d0 = 20
+-- Rows on the edges of comparisons: the loads before the test, the test, and what ends each branch. The temporaries are
+-- p0 = 10 and p1 = 11, d0 = 20
 -- and d1 = 21.
 use Rattle.std.proofs.Common.{◌≡◌, Bool, true, false, List, [], ◌∷◌, refl}
 use Rattle.c_types.specs.declared.program.DataPath.TheVariants.{Var as DataVar, Field as DataField}
@@ -38,25 +39,30 @@ two_nulls : ptrs OpNull OpNull true ≡ parts [] (TestPtr PtrNull PtrNull true) 
 two_nulls = refl
 
 -- x1->5 == NULL
-left_arrow : ptrs (OpPath (arrow 1 5)) OpNull true ≡ parts (One (LoadPtr 10 1 5) ∷ []) (TestPtr (PtrVar 10) PtrNull true) (One (Kill (10 ∷ []) []) ∷ [])
+left_arrow : ptrs (OpPath (arrow 1 5)) OpNull true
+    ≡ parts (One (LoadPtr 10 1 5) ∷ []) (TestPtr (PtrVar 10) PtrNull true) (One (Kill (10 ∷ []) []) ∷ [])
 left_arrow = refl
 
 -- x1 == x2->5->6
 right_arrows : ptrs (OpPath (var 1)) (OpPath (arrows 2 5 6)) true
-    ≡ parts (One (LoadPtr 11 2 5) ∷ One (LoadPtr 11 11 6) ∷ []) (TestPtr (PtrVar 1) (PtrVar 11) true) (One (Kill (11 ∷ []) []) ∷ [])
+    ≡ parts (One (LoadPtr 11 2 5) ∷ One (LoadPtr 11 11 6) ∷ []) (TestPtr (PtrVar 1) (PtrVar 11) true)
+    (One (Kill (11 ∷ []) []) ∷ [])
 right_arrows = refl
 
 -- x1->5->6 == x2->7
 arrows_on_both_sides : ptrs (OpPath (arrows 1 5 6)) (OpPath (arrow 2 7)) true
-    ≡ parts (One (LoadPtr 10 1 5) ∷ One (LoadPtr 10 10 6) ∷ One (LoadPtr 11 2 7) ∷ []) (TestPtr (PtrVar 10) (PtrVar 11) true) (One (Kill (10 ∷ 11 ∷ []) []) ∷ [])
+    ≡ parts (One (LoadPtr 10 1 5) ∷ One (LoadPtr 10 10 6) ∷ One (LoadPtr 11 2 7) ∷ [])
+    (TestPtr (PtrVar 10) (PtrVar 11) true) (One (Kill (10 ∷ 11 ∷ []) []) ∷ [])
 arrows_on_both_sides = refl
 
 -- d1 == 3
-data_variable : data' (DataOpPath (DataVar 1)) (DataOpKnown 3) true ≡ parts [] (TestData (ArgVar 1) (ArgKnown 3) true) []
+data_variable : data' (DataOpPath (DataVar 1)) (DataOpKnown 3) true
+    ≡ parts [] (TestData (ArgVar 1) (ArgKnown 3) true) []
 data_variable = refl
 
 -- 3 == d1
-number_on_the_left : data' (DataOpKnown 3) (DataOpPath (DataVar 1)) false ≡ parts [] (TestData (ArgKnown 3) (ArgVar 1) false) []
+number_on_the_left : data' (DataOpKnown 3) (DataOpPath (DataVar 1)) false
+    ≡ parts [] (TestData (ArgKnown 3) (ArgVar 1) false) []
 number_on_the_left = refl
 
 -- x1->datum 6 == d2
@@ -66,10 +72,13 @@ left_field = refl
 
 -- 0 == x1->5->datum 6
 right_field_behind : data' (DataOpKnown 0) (DataOpPath (DataField (arrow 1 5) 6)) true
-    ≡ parts (One (LoadPtr 11 1 5) ∷ One (LoadData 21 11 6) ∷ []) (TestData (ArgKnown 0) (ArgVar 21) true) (One (Kill (11 ∷ []) (21 ∷ [])) ∷ [])
+    ≡ parts (One (LoadPtr 11 1 5) ∷ One (LoadData 21 11 6) ∷ []) (TestData (ArgKnown 0) (ArgVar 21) true)
+    (One (Kill (11 ∷ []) (21 ∷ [])) ∷ [])
 right_field_behind = refl
 
 -- x1->5->datum 6 == x2->7->8->datum 9
 fields_on_both_sides : data' (DataOpPath (DataField (arrow 1 5) 6)) (DataOpPath (DataField (arrows 2 7 8) 9)) true
-    ≡ parts (One (LoadPtr 10 1 5) ∷ One (LoadData 20 10 6) ∷ One (LoadPtr 11 2 7) ∷ One (LoadPtr 11 11 8) ∷ One (LoadData 21 11 9) ∷ []) (TestData (ArgVar 20) (ArgVar 21) true) (One (Kill (10 ∷ 11 ∷ []) (20 ∷ 21 ∷ [])) ∷ [])
+    ≡ parts (One (LoadPtr 10 1 5) ∷ One (LoadData 20 10 6) ∷ One (LoadPtr 11 2 7) ∷ One (LoadPtr 11 11 8)
+    ∷ One (LoadData 21 11 9) ∷ []) (TestData (ArgVar 20) (ArgVar 21) true)
+    (One (Kill (10 ∷ 11 ∷ []) (20 ∷ 21 ∷ [])) ∷ [])
 fields_on_both_sides = refl

@@ -8,7 +8,8 @@ use Rattle.c_cfg.specs.declared.graph.PtrArg.TheVariants.{Var as PtrVar, Null as
 use Rattle.c_cfg.specs.declared.graph.DataArg.TheVariants.{Known as ArgKnown}
 use Rattle.c_cfg.specs.declared.graph.Const.TheVariants.{Known as ConstKnown}
 use Rattle.c_cfg.specs.declared.graph.Instr.{Instr}
-use Rattle.c_cfg.specs.declared.graph.Instr.TheVariants.{CopyPtr, LoadPtr, StoreConst, New, Kill, CopyData, Choose, Stop}
+use Rattle.c_cfg.specs.declared.graph.Instr.TheVariants.{CopyPtr, LoadPtr, StoreConst, New, Kill, CopyData, Choose}
+use Rattle.c_cfg.specs.declared.graph.Instr.TheVariants.{Stop}
 use Rattle.c_cfg.specs.declared.graph.Edge.{Edge}
 use Rattle.c_cfg.specs.Edges.{Passed, Faulted, Halted, NotPassed}
 use Rattle.c_cfg.specs.Lowering.{edge}

@@ -25,7 +25,8 @@ datum = record { name = []; kind = DatumKind }
 
 -- struct node { struct node *next; int key; struct leaf *leaf; };  struct leaf { int low; int high; };
 abbrev pub two : List Shape
-two = record { name = []; fields = pointer_to 0 ∷ datum ∷ pointer_to 1 ∷ [] } ∷ record { name = []; fields = datum ∷ datum ∷ [] } ∷ []
+two = record { name = []; fields = pointer_to 0 ∷ datum ∷ pointer_to 1 ∷ [] }
+    ∷ record { name = []; fields = datum ∷ datum ∷ [] } ∷ []
 
 -- Cells: a node of a number, and a leaf
 
@@ -63,9 +64,22 @@ takes from to instr x line = record { from = from; to = to; instr = instr; choic
 -- a graph over the structs above
 abbrev pub graph : ℕ → ℕ → ℕ → List Edge → List Bool → ControlGraph
 graph locations ptrs datums edges heads =
-    record { locations = locations; ptrs = ptrs; datums = datums; edges = edges; heads = heads; shapes = record { structs = two } }
+    record {
+      locations = locations;
+      ptrs = ptrs;
+      datums = datums;
+      edges = edges;
+      heads = heads;
+      shapes = record { structs = two };
+    }
 
--- a program over the structs above, with so many pointer variables to nodes and data variables, whose block declares nothing
+-- a program over the structs above, with so many pointer variables to nodes and data variables, whose block declares
+-- nothing
 abbrev pub main : ℕ → ℕ → List Stmt → Program
 main ptrs datums body =
-    record { shapes = record { structs = two }; vars = replicate ptrs (record { name = []; shape = 0 }); data_vars = replicate datums []; body = Group body [] [] 0 ∷ [] }
+    record {
+      shapes = record { structs = two };
+      vars = replicate ptrs (record { name = []; shape = 0 });
+      data_vars = replicate datums [];
+      body = Group body [] [] 0 ∷ [];
+    }

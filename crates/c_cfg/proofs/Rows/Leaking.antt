@@ -22,7 +22,8 @@ lost = store (Null ∷ Null ∷ []) (Undefined ∷ []) (node 1 Undefined Null Nu
 abbrev on : Store → Instr → Pass
 on s i = gstep two (goes 0 1 i 5) s
 
-keeps_its_cell : on held (CopyPtr 1 (PtrVar 0)) ≡ Passed (store (Cell 1 ∷ Cell 1 ∷ []) (Undefined ∷ []) (node 1 Undefined Null Null ∷ []) 2)
+keeps_its_cell : on held (CopyPtr 1 (PtrVar 0))
+    ≡ Passed (store (Cell 1 ∷ Cell 1 ∷ []) (Undefined ∷ []) (node 1 Undefined Null Null ∷ []) 2)
 unfolding leaks
 keeps_its_cell = refl
 
@@ -65,10 +66,12 @@ unfolding leaks
 the_end_makes_none = refl
 
 -- an edge gives its own choice
-gives_its_one : gstep two (takes 0 1 (Choose (Some 0)) 1 5) held ≡ Passed (store (Cell 1 ∷ Null ∷ []) (Known 1 ∷ []) (node 1 Undefined Null Null ∷ []) 2)
+gives_its_one : gstep two (takes 0 1 (Choose (Some 0)) 1 5) held
+    ≡ Passed (store (Cell 1 ∷ Null ∷ []) (Known 1 ∷ []) (node 1 Undefined Null Null ∷ []) 2)
 unfolding leaks
 gives_its_one = refl
 
-gives_its_zero : gstep two (takes 0 1 (Choose (Some 0)) 0 5) held ≡ Passed (store (Cell 1 ∷ Null ∷ []) (Known 0 ∷ []) (node 1 Undefined Null Null ∷ []) 2)
+gives_its_zero : gstep two (takes 0 1 (Choose (Some 0)) 0 5) held
+    ≡ Passed (store (Cell 1 ∷ Null ∷ []) (Known 0 ∷ []) (node 1 Undefined Null Null ∷ []) 2)
 unfolding leaks
 gives_its_zero = refl

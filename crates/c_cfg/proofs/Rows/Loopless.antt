@@ -6,7 +6,8 @@ use Rattle.c_types.specs.declared.program.Atom.TheVariants.{Choice}
 use Rattle.c_types.specs.declared.program.Cond.{Cond}
 use Rattle.c_types.specs.declared.program.Cond.TheVariants.{Atom}
 use Rattle.c_types.specs.declared.program.Stmt.{Stmt}
-use Rattle.c_types.specs.declared.program.Stmt.TheVariants.{Do, Branch, While, DoWhile, For, Group, outs-Do, outs-Branch, outs-While, outs-DoWhile, outs-For, outs-Group}
+use Rattle.c_types.specs.declared.program.Stmt.TheVariants.{Do, Branch, While, DoWhile, For, Group, outs-Do}
+use Rattle.c_types.specs.declared.program.Stmt.TheVariants.{outs-Branch, outs-While, outs-DoWhile, outs-For, outs-Group}
 use Rattle.c_types.proofs.Layers.{stmt_folded}
 use Rattle.c_cfg.specs.LoopFree.{all_free, free_step, stmt_free, has_no_loop}
 use Rattle.c_cfg.proofs.Rows.Forms.{main}
@@ -14,7 +15,8 @@ use Rattle.c_cfg.proofs.Rows.Forms.{main}
 free-Do : (a : Act) (line : ℕ) → stmt_free (Do a line) ≡ true
 free-Do a line = stmt_folded Bool free_step (Do a line) _ (outs-Do a line)
 
-free-Branch : (c : Cond) (x y : List Stmt) → stmt_free (Branch c x y) ≡ (all_free (map stmt_free x) && all_free (map stmt_free y))
+free-Branch : (c : Cond) (x y : List Stmt) → stmt_free (Branch c x y)
+    ≡ (all_free (map stmt_free x) && all_free (map stmt_free y))
 free-Branch c x y = stmt_folded Bool free_step (Branch c x y) _ (outs-Branch c x y)
 
 free-While : (c : Cond) (b : List Stmt) → stmt_free (While c b) ≡ false

@@ -3,7 +3,8 @@ use Rattle.std.proofs.Common.{◌≡◌, ℕ, ◌+◌, [], ◌∷◌, refl}
 use Rattle.c_types.specs.declared.program.PtrRhs.TheVariants.{Null as RhsNull}
 use Rattle.c_types.specs.declared.program.Act.TheVariants.{SetPtr}
 use Rattle.c_types.specs.declared.program.Atom.TheVariants.{Choice}
-use Rattle.c_types.specs.Control.{Items, Done, Do, Close, If, Loop, Again, DoLoop, DoAgain, Test, Ask, Not, Both, Either}
+use Rattle.c_types.specs.Control.{Items, Done, Do, Close, If, Loop, Again, DoLoop, DoAgain, Test, Ask, Not, Both}
+use Rattle.c_types.specs.Control.{Either}
 use Rattle.c_cfg.specs.Places.{places, heads, remark}
 use Rattle.c_cfg.proofs.Rows.Forms.{var}
 
@@ -49,7 +50,8 @@ of_a_loop = refl
 
 -- do 2 while (1)
 of_a_do : places (DoLoop (asks 1) (act 2 Done) Done) after
-    ≡ act 2 (DoAgain (asks 1) (act 2 Done) after) ∷ If (asks 1) (act 2 (DoAgain (asks 1) (act 2 Done) Done)) Done after ∷ []
+    ≡ act 2 (DoAgain (asks 1) (act 2 Done) after) ∷ If (asks 1) (act 2 (DoAgain (asks 1) (act 2 Done) Done)) Done after
+    ∷ []
 of_a_do = refl
 
 -- Loop heads
@@ -59,16 +61,23 @@ of_no_loop = refl
 
 -- for (; 1 && 4; 3) 2: where the first atom is tested
 of_for : heads (Loop (Both (asks 1) (asks 4)) (act 3 Done) (act 2 Done) Done) after
-    ≡ If (asks 1) (If (asks 4) (act 2 (Again (Both (asks 1) (asks 4)) (act 3 Done) (act 2 Done) Done)) Done Done) Done after ∷ []
+    ≡ If (asks 1) (If (asks 4) (act 2 (Again (Both (asks 1) (asks 4)) (act 3 Done) (act 2 Done) Done)) Done Done) Done
+    after ∷ []
 of_for = refl
 
-of_do : heads (DoLoop (asks 1) (act 2 Done) Done) after ≡ If (asks 1) (act 2 (DoAgain (asks 1) (act 2 Done) Done)) Done after ∷ []
+of_do : heads (DoLoop (asks 1) (act 2 Done) Done) after
+    ≡ If (asks 1) (act 2 (DoAgain (asks 1) (act 2 Done) Done)) Done after ∷ []
 of_do = refl
 
 -- if (5) while (1) do {} while (2); else while (3) {}  while (4) {}
-of_nested : heads (If (asks 5) (Loop (asks 1) Done (DoLoop (asks 2) Done Done) Done) (Loop (asks 3) Done Done Done) (Loop (asks 4) Done Done Done)) Done
-    ≡ If (asks 1) (DoLoop (asks 2) Done (Again (asks 1) Done (DoLoop (asks 2) Done Done) Done)) Done (Loop (asks 4) Done Done Done)
-    ∷ If (asks 2) (DoAgain (asks 2) Done Done) Done (Again (asks 1) Done (DoLoop (asks 2) Done Done) (Loop (asks 4) Done Done Done))
+of_nested :
+    heads
+    (If (asks 5) (Loop (asks 1) Done (DoLoop (asks 2) Done Done) Done) (Loop (asks 3) Done Done Done)
+    (Loop (asks 4) Done Done Done)) Done
+    ≡ If (asks 1) (DoLoop (asks 2) Done (Again (asks 1) Done (DoLoop (asks 2) Done Done) Done)) Done
+    (Loop (asks 4) Done Done Done)
+    ∷ If (asks 2) (DoAgain (asks 2) Done Done) Done
+    (Again (asks 1) Done (DoLoop (asks 2) Done Done) (Loop (asks 4) Done Done Done))
     ∷ If (asks 3) (Again (asks 3) Done Done Done) Done (Loop (asks 4) Done Done Done)
     ∷ If (asks 4) (Again (asks 4) Done Done Done) Done Done ∷ []
 of_nested = refl
@@ -81,6 +90,13 @@ of_next = refl
 
 -- Marks
 
-of_marks : remark (λ m. m + 10) (act 1 (Close [] [] 2 (If (Not (Both (asks 3) (Either (asks 4) (asks 5)))) (act 6 Done) (act 7 Done) (Loop (asks 8) (act 1 Done) (act 2 Done) (DoLoop (asks 3) (act 4 Done) Done)))))
-    ≡ act 11 (Close [] [] 12 (If (Not (Both (asks 13) (Either (asks 14) (asks 15)))) (act 16 Done) (act 17 Done) (Loop (asks 18) (act 11 Done) (act 12 Done) (DoLoop (asks 13) (act 14 Done) Done))))
+of_marks : remark (λ m. m + 10)
+    (act 1
+    (Close [] [] 2
+    (If (Not (Both (asks 3) (Either (asks 4) (asks 5)))) (act 6 Done) (act 7 Done)
+    (Loop (asks 8) (act 1 Done) (act 2 Done) (DoLoop (asks 3) (act 4 Done) Done)))))
+    ≡ act 11
+    (Close [] [] 12
+    (If (Not (Both (asks 13) (Either (asks 14) (asks 15)))) (act 16 Done) (act 17 Done)
+    (Loop (asks 18) (act 11 Done) (act 12 Done) (DoLoop (asks 13) (act 14 Done) Done))))
 of_marks = refl

@@ -1,6 +1,8 @@
--- Rows on graphs of programs: whole graphs, each shown to be one of its program. Marks are the numbers of locations, so a location is the mark of a place,
+-- Rows on graphs of programs: whole graphs, each shown to be one of its program. Marks are the numbers of locations, so
+-- a location is the mark of a place,
 -- and the exit is the last one.
-use Rattle.std.proofs.Common.{◌≡◌, ℕ, Bool, true, false, true≢false, not, ◌&&◌, Some, None, List, [], ◌∷◌, map, arith, refl, sym}
+use Rattle.std.proofs.Common.{◌≡◌, ℕ, Bool, true, false, true≢false, not, ◌&&◌, Some, None, List, [], ◌∷◌, map, arith}
+use Rattle.std.proofs.Common.{refl, sym}
 use Rattle.std.specs.Prelude.{slice_index_or}
 use Rattle.std.proofs.lemmas.Bool.{and_parts}
 use Rattle.fore_base.specs.Lists.{IsDistinct}
@@ -11,16 +13,20 @@ use Rattle.c_types.specs.declared.program.DataRhs.TheVariants.{Choice as DataRhs
 use Rattle.c_types.specs.declared.program.Act.TheVariants.{SetPtr, SetData, Free, Error, Halt, Return, Break, Continue}
 use Rattle.c_types.specs.declared.program.PtrOp.TheVariants.{Path as OpPath, Null as OpNull}
 use Rattle.c_types.specs.declared.program.DataOp.TheVariants.{Path as DataOpPath, Known as DataOpKnown}
-use Rattle.c_types.specs.declared.program.Atom.TheVariants.{Choice as ChoiceAtom, Known as KnownAtom, Ptr as PtrAtom, Data as DataAtom}
-use Rattle.c_types.specs.declared.program.Cond.TheVariants.{Atom as AtomCond, Not as NotCond, All as AllCond, Any as AnyCond}
+use Rattle.c_types.specs.declared.program.Atom.TheVariants.{Choice as ChoiceAtom, Known as KnownAtom, Ptr as PtrAtom}
+use Rattle.c_types.specs.declared.program.Atom.TheVariants.{Data as DataAtom}
+use Rattle.c_types.specs.declared.program.Cond.TheVariants.{Atom as AtomCond, Not as NotCond, All as AllCond}
+use Rattle.c_types.specs.declared.program.Cond.TheVariants.{Any as AnyCond}
 use Rattle.c_types.specs.declared.program.Stmt.TheVariants.{Do as DoStmt, Branch, While, DoWhile, For, Group}
 use Rattle.c_types.specs.Program.{Program}
-use Rattle.c_types.specs.Control.{Items, Done, Do, Close, If, Loop, Again, DoLoop, DoAgain, Ask, Not, Both, Either, start_of}
+use Rattle.c_types.specs.Control.{Items, Done, Do, Close, If, Loop, Again, DoLoop, DoAgain, Ask, Not, Both, Either}
+use Rattle.c_types.specs.Control.{start_of}
 use Rattle.c_types.specs.Steps.{mark_of}
 use Rattle.c_types.proofs.Layers.{layers}
 use Rattle.c_cfg.specs.declared.graph.PtrArg.TheVariants.{Var as PtrVar, Null as PtrNull}
 use Rattle.c_cfg.specs.declared.graph.DataArg.TheVariants.{Var as ArgVar, Known as ArgKnown}
-use Rattle.c_cfg.specs.declared.graph.Instr.TheVariants.{LoadPtr, StorePtr, New, Free as FreeEdge, Kill, LoadData, StoreData, TestPtr, TestData, Choose, Stop}
+use Rattle.c_cfg.specs.declared.graph.Instr.TheVariants.{LoadPtr, StorePtr, New, Free as FreeEdge, Kill, LoadData}
+use Rattle.c_cfg.specs.declared.graph.Instr.TheVariants.{StoreData, TestPtr, TestData, Choose, Stop}
 use Rattle.c_cfg.specs.Graphs.{ControlGraph}
 use Rattle.c_cfg.specs.Places.{remark, places}
 use Rattle.c_cfg.specs.Lowering.{LowerOf, is_one_of}
@@ -44,7 +50,8 @@ all_differ (n ∷ ns) = not (is_one_of ns n) && all_differ ns
 
 differ : (ns : List ℕ) → all_differ ns ≡ true → IsDistinct ns
 differ [] e = tt
-differ (n ∷ ns) e = let both = and_parts (not (is_one_of ns n)) (all_differ ns) e in (λ h. clash (is_one_of ns n) (in_number n ns h) both.0, differ ns both.1)
+differ (n ∷ ns) e = let both = and_parts (not (is_one_of ns n)) (all_differ ns) e in
+    (λ h. clash (is_one_of ns n) (in_number n ns h) both.0, differ ns both.1)
   where
     clash : (b : Bool) → b ≡ true → not b ≡ true → ⊥
     clash true e f = true≢false (sym f)
@@ -59,7 +66,9 @@ differ (n ∷ ns) e = let both = and_parts (not (is_one_of ns n)) (all_differ ns
 abbrev breaking : Program
 breaking = main 2 1
     (While (AtomCond (PtrAtom (OpPath (arrow 0 0)) (OpPath (var 1)) false) 1)
-    (Branch (AllCond (AtomCond ChoiceAtom 2 ∷ AtomCond (DataAtom (DataOpPath (DataVar 0)) (DataOpKnown 0) false) 2 ∷ [])) (DoStmt Break 2 ∷ []) [] ∷ [])
+    (Branch
+    (AllCond (AtomCond ChoiceAtom 2 ∷ AtomCond (DataAtom (DataOpPath (DataVar 0)) (DataOpKnown 0) false) 2 ∷ []))
+    (DoStmt Break 2 ∷ []) [] ∷ [])
     ∷ DoStmt (SetPtr (arrow 0 0) (RhsNew 0)) 3 ∷ DoStmt (Return None) 4 ∷ [])
 
 abbrev breaking_graph : ControlGraph
@@ -78,7 +87,8 @@ breaking_graph = graph 12 4 3
 abbrev breaking_items : Items
 breaking_items =
     Loop (Ask (PtrAtom (OpPath (arrow 0 0)) (OpPath (var 1)) false) 0) Done
-    (If (Both (Ask ChoiceAtom 4) (Ask (DataAtom (DataOpPath (DataVar 0)) (DataOpKnown 0) false) 5)) (Do Break 6 Done) Done Done)
+    (If (Both (Ask ChoiceAtom 4) (Ask (DataAtom (DataOpPath (DataVar 0)) (DataOpKnown 0) false) 5)) (Do Break 6 Done)
+    Done Done)
     (Do (SetPtr (arrow 0 0) (RhsNew 0)) 7 (Do (Return None) 10 Done))
 
 abbrev breaking_line : ℕ → ℕ
@@ -98,11 +108,35 @@ breaking_lowers = record {
   entry = refl;
   exit = refl;
   rows = (
-    record { tested = 1; if_same = 2; if_other = 3; front = 1 ∷ []; after_same = 7 ∷ []; after_other = 4 ∷ []; reads = (refl, refl); compares = refl; same_ends = (refl, refl); other_ends = (refl, refl); middle = refl },
+    record {
+      tested = 1;
+      if_same = 2;
+      if_other = 3;
+      front = 1 ∷ [];
+      after_same = 7 ∷ [];
+      after_other = 4 ∷ [];
+      reads = (refl, refl);
+      compares = refl;
+      same_ends = (refl, refl);
+      other_ends = (refl, refl);
+      middle = refl;
+    },
     (
       (refl, refl),
       (
-        record { tested = 5; if_same = 0; if_other = 6; front = []; after_same = []; after_other = []; reads = refl; compares = refl; same_ends = refl; other_ends = refl; middle = refl },
+        record {
+          tested = 5;
+          if_same = 0;
+          if_other = 6;
+          front = [];
+          after_same = [];
+          after_other = [];
+          reads = refl;
+          compares = refl;
+          same_ends = refl;
+          other_ends = refl;
+          middle = refl;
+        },
         (
           record { way = 7 ∷ []; leads = (refl, refl); middle = refl },
           (
@@ -161,7 +195,8 @@ going_on_graph = graph 11 4 3
 abbrev going_on_items : Items
 going_on_items =
     Loop (Ask (KnownAtom true) 0) (Do (SetData (DataVar 0) DataRhsChoice) 7 Done)
-    (DoLoop (Not (Ask ChoiceAtom 2)) (Do Continue 1 Done) (If (Ask (KnownAtom false) 3) (Do Halt 4 Done) Done (Do Continue 5 (Close (1 ∷ []) [] 6 Done))))
+    (DoLoop (Not (Ask ChoiceAtom 2)) (Do Continue 1 Done)
+    (If (Ask (KnownAtom false) 3) (Do Halt 4 Done) Done (Do Continue 5 (Close (1 ∷ []) [] 6 Done))))
     (Do Error 8 (Do (Return (Some (DataVar 0))) 9 Done))
 
 abbrev going_on_line : ℕ → ℕ
@@ -227,13 +262,16 @@ going_on_lowers = record {
 -- 1 { int e;
 -- 2   if (x == NULL || x->key == 3) free(x->next); else x->key = nondet_bool();
 -- 3 }
--- Both sides join at the end of the block, and the left side of the condition shares the yes side. The location 11 is one in the middle of a step that begins
+-- Both sides join at the end of the block, and the left side of the condition shares the yes side. The location 11 is
+-- one in the middle of a step that begins
 -- at 8: the numbers are free.
 
 abbrev sharing : Program
 sharing = main 1 1
     (Group
-    (Branch (AnyCond (AtomCond (PtrAtom (OpPath (var 0)) OpNull true) 2 ∷ AtomCond (DataAtom (DataOpPath (DataField (var 0) 0)) (DataOpKnown 3) true) 2 ∷ []))
+    (Branch
+    (AnyCond (AtomCond (PtrAtom (OpPath (var 0)) OpNull true) 2
+    ∷ AtomCond (DataAtom (DataOpPath (DataField (var 0) 0)) (DataOpKnown 3) true) 2 ∷ []))
     (DoStmt (Free (arrow 0 0)) 2 ∷ []) (DoStmt (SetData (DataField (var 0) 0) DataRhsChoice) 2 ∷ []) ∷ [])
     [] (0 ∷ []) 3 ∷ [])
 
@@ -253,7 +291,9 @@ sharing_graph = graph 13 3 3
 
 abbrev sharing_items : Items
 sharing_items =
-    If (Either (Ask (PtrAtom (OpPath (var 0)) OpNull true) 0) (Ask (DataAtom (DataOpPath (DataField (var 0) 0)) (DataOpKnown 3) true) 1))
+    If
+    (Either (Ask (PtrAtom (OpPath (var 0)) OpNull true) 0)
+    (Ask (DataAtom (DataOpPath (DataField (var 0) 0)) (DataOpKnown 3) true) 1))
     (Do (Free (arrow 0 0)) 5 Done) (Do (SetData (DataField (var 0) 0) DataRhsChoice) 8 Done) (Close [] (0 ∷ []) 10 Done)
 
 abbrev sharing_line : ℕ → ℕ
@@ -269,13 +309,38 @@ sharing_lowers = record {
   is_program = sharing_is;
   own_marks = differ (map mark_of (places sharing_items Done)) refl;
   at = located 12;
-  mids = λ c. slice_index_or ([] ∷ (2 ∷ 3 ∷ 4 ∷ []) ∷ [] ∷ [] ∷ [] ∷ (6 ∷ 7 ∷ []) ∷ [] ∷ [] ∷ (9 ∷ 11 ∷ []) ∷ []) (mark_of c) [];
+  mids = λ c. slice_index_or ([] ∷ (2 ∷ 3 ∷ 4 ∷ []) ∷ [] ∷ [] ∷ [] ∷ (6 ∷ 7 ∷ []) ∷ [] ∷ [] ∷ (9 ∷ 11 ∷ []) ∷ [])
+      (mark_of c) [];
   entry = refl;
   exit = refl;
   rows = (
-    record { tested = 0; if_same = 5; if_other = 1; front = []; after_same = []; after_other = []; reads = refl; compares = refl; same_ends = refl; other_ends = refl; middle = refl },
+    record {
+      tested = 0;
+      if_same = 5;
+      if_other = 1;
+      front = [];
+      after_same = [];
+      after_other = [];
+      reads = refl;
+      compares = refl;
+      same_ends = refl;
+      other_ends = refl;
+      middle = refl;
+    },
     (
-      record { tested = 2; if_same = 3; if_other = 4; front = 2 ∷ []; after_same = 5 ∷ []; after_other = 8 ∷ []; reads = (refl, refl); compares = refl; same_ends = (refl, refl); other_ends = (refl, refl); middle = refl },
+      record {
+        tested = 2;
+        if_same = 3;
+        if_other = 4;
+        front = 2 ∷ [];
+        after_same = 5 ∷ [];
+        after_other = 8 ∷ [];
+        reads = (refl, refl);
+        compares = refl;
+        same_ends = (refl, refl);
+        other_ends = (refl, refl);
+        middle = refl;
+      },
       (
         record { way = 6 ∷ 7 ∷ 10 ∷ []; leads = (refl, (refl, (refl, refl))); middle = refl },
         (

@@ -1,6 +1,7 @@
 -- Rows on one edge, without its leak test.
 use Rattle.std.proofs.Common.{◌≡◌, true, false, Some, None, List, [], ◌∷◌, refl}
-use Rattle.fore_base.specs.declared.fault.Fault.TheVariants.{NullDeref, UninitDeref, DanglingDeref, InvalidFree, DoubleFree, Assertion, IndetTest}
+use Rattle.fore_base.specs.declared.fault.Fault.TheVariants.{NullDeref, UninitDeref, DanglingDeref, InvalidFree}
+use Rattle.fore_base.specs.declared.fault.Fault.TheVariants.{DoubleFree, Assertion, IndetTest}
 use Rattle.fore_base.specs.declared.store.Value.{Value}
 use Rattle.fore_base.specs.declared.store.Value.TheVariants.{Null, Uninit, Dangling, Cell}
 use Rattle.fore_base.specs.declared.store.Datum.{Datum}
@@ -11,11 +12,13 @@ use Rattle.c_cfg.specs.declared.graph.PtrArg.TheVariants.{Var as PtrVar, Null as
 use Rattle.c_cfg.specs.declared.graph.DataArg.TheVariants.{Var as ArgVar, Known as ArgKnown}
 use Rattle.c_cfg.specs.declared.graph.Const.TheVariants.{Null as ConstNull, Known as ConstKnown}
 use Rattle.c_cfg.specs.declared.graph.Instr.{Instr}
-use Rattle.c_cfg.specs.declared.graph.Instr.TheVariants.{CopyPtr, LoadPtr, StorePtr, StoreConst, New, Free, Kill, CopyData, LoadData, StoreData, TestPtr, TestData, Choose, Stop}
+use Rattle.c_cfg.specs.declared.graph.Instr.TheVariants.{CopyPtr, LoadPtr, StorePtr, StoreConst, New, Free, Kill}
+use Rattle.c_cfg.specs.declared.graph.Instr.TheVariants.{CopyData, LoadData, StoreData, TestPtr, TestData, Choose, Stop}
 use Rattle.c_cfg.specs.Edges.{Pass, Passed, Faulted, Halted, NotPassed, raw_step}
 use Rattle.c_cfg.proofs.Rows.Forms.{two, node, leaf, store}
 
--- Variables 0 to 2 hold no cell, 3 and 4 nodes, 5 a leaf, 6 a cell that is not there. Node 4 points to node 6, which points nowhere yet.
+-- Variables 0 to 2 hold no cell, 3 and 4 nodes, 5 a leaf, 6 a cell that is not there. Node 4 points to node 6, which
+-- points nowhere yet.
 
 abbrev cells : List CellRec
 cells = node 4 (Known 2) (Cell 6) (Cell 7) ∷ node 6 Undefined Null Uninit ∷ leaf 7 Undefined (Known 9) ∷ []
@@ -42,7 +45,8 @@ cells_are cs = Passed (store (vars Null (Cell 6)) (Undefined ∷ Known 3 ∷ Kno
 
 -- the two nodes with other fields
 abbrev nodes_are : Value → Value → Value → Value → Pass
-nodes_are next leaf' next' leaf'' = cells_are (node 4 (Known 2) next leaf' ∷ node 6 Undefined next' leaf'' ∷ leaf 7 Undefined (Known 9) ∷ [])
+nodes_are next leaf' next' leaf'' =
+    cells_are (node 4 (Known 2) next leaf' ∷ node 6 Undefined next' leaf'' ∷ leaf 7 Undefined (Known 9) ∷ [])
 
 -- CopyPtr: any value may be copied
 
@@ -138,7 +142,8 @@ stores_no_cell = refl
 sets_null : by (StoreConst 3 1 ConstNull) ≡ nodes_are (Cell 6) Null Null Uninit
 sets_null = refl
 
-sets_a_number : by (StoreConst 5 1 (ConstKnown 4)) ≡ cells_are (node 4 (Known 2) (Cell 6) (Cell 7) ∷ node 6 Undefined Null Uninit ∷ leaf 7 Undefined (Known 4) ∷ [])
+sets_a_number : by (StoreConst 5 1 (ConstKnown 4))
+    ≡ cells_are (node 4 (Known 2) (Cell 6) (Cell 7) ∷ node 6 Undefined Null Uninit ∷ leaf 7 Undefined (Known 4) ∷ [])
 sets_a_number = refl
 
 sets_at_null : by (StoreConst 0 0 ConstNull) ≡ Faulted NullDeref
@@ -158,10 +163,18 @@ sets_a_number_in_no_field = refl
 
 -- New: a node has two pointers and a datum, a leaf two data
 
-makes_a_node : by (New 0 0) ≡ Passed (store (vars (Cell 9) (Cell 6)) (Undefined ∷ Known 3 ∷ Known 5 ∷ []) (node 4 (Known 2) (Cell 6) (Cell 7) ∷ node 6 Undefined Null Uninit ∷ leaf 7 Undefined (Known 9) ∷ node 9 Undefined Uninit Uninit ∷ []) 10)
+makes_a_node : by (New 0 0)
+    ≡ Passed
+    (store (vars (Cell 9) (Cell 6)) (Undefined ∷ Known 3 ∷ Known 5 ∷ [])
+    (node 4 (Known 2) (Cell 6) (Cell 7) ∷ node 6 Undefined Null Uninit ∷ leaf 7 Undefined (Known 9)
+    ∷ node 9 Undefined Uninit Uninit ∷ []) 10)
 makes_a_node = refl
 
-makes_a_leaf : by (New 4 1) ≡ Passed (store (vars Null (Cell 9)) (Undefined ∷ Known 3 ∷ Known 5 ∷ []) (node 4 (Known 2) (Cell 6) (Cell 7) ∷ node 6 Undefined Null Uninit ∷ leaf 7 Undefined (Known 9) ∷ leaf 9 Undefined Undefined ∷ []) 10)
+makes_a_leaf : by (New 4 1)
+    ≡ Passed
+    (store (vars Null (Cell 9)) (Undefined ∷ Known 3 ∷ Known 5 ∷ [])
+    (node 4 (Known 2) (Cell 6) (Cell 7) ∷ node 6 Undefined Null Uninit ∷ leaf 7 Undefined (Known 9)
+    ∷ leaf 9 Undefined Undefined ∷ []) 10)
 makes_a_leaf = refl
 
 -- Free
@@ -176,12 +189,16 @@ frees_dangling : by (Free 2) ≡ Faulted DoubleFree
 frees_dangling = refl
 
 -- variable 4 and the first field of node 4 named it
-frees_a_node : by (Free 4) ≡ Passed (store (vars Null Dangling) (Undefined ∷ Known 3 ∷ Known 5 ∷ []) (node 4 (Known 2) Dangling (Cell 7) ∷ leaf 7 Undefined (Known 9) ∷ []) 9)
+frees_a_node : by (Free 4)
+    ≡ Passed
+    (store (vars Null Dangling) (Undefined ∷ Known 3 ∷ Known 5 ∷ [])
+    (node 4 (Known 2) Dangling (Cell 7) ∷ leaf 7 Undefined (Known 9) ∷ []) 9)
 frees_a_node = refl
 
 -- Kill
 
-kills_two_of_each : by (Kill (0 ∷ 4 ∷ []) (1 ∷ 2 ∷ [])) ≡ Passed (store (vars Uninit Uninit) (Undefined ∷ Undefined ∷ Undefined ∷ []) cells 9)
+kills_two_of_each : by (Kill (0 ∷ 4 ∷ []) (1 ∷ 2 ∷ []))
+    ≡ Passed (store (vars Uninit Uninit) (Undefined ∷ Undefined ∷ Undefined ∷ []) cells 9)
 kills_two_of_each = refl
 
 kills_nothing : by (Kill [] []) ≡ Passed start
@@ -195,7 +212,8 @@ copies_a_datum = refl
 copies_a_number : by (CopyData 0 (ArgKnown 7)) ≡ datum_is (Known 7)
 copies_a_number = refl
 
-copies_undefined : by (CopyData 1 (ArgVar 0)) ≡ Passed (store (vars Null (Cell 6)) (Undefined ∷ Undefined ∷ Known 5 ∷ []) cells 9)
+copies_undefined : by (CopyData 1 (ArgVar 0))
+    ≡ Passed (store (vars Null (Cell 6)) (Undefined ∷ Undefined ∷ Known 5 ∷ []) cells 9)
 copies_undefined = refl
 
 -- LoadData
@@ -203,7 +221,8 @@ copies_undefined = refl
 loads_a_datum : by (LoadData 0 5 1) ≡ datum_is (Known 9)
 loads_a_datum = refl
 
-loads_undefined : by (LoadData 1 5 0) ≡ Passed (store (vars Null (Cell 6)) (Undefined ∷ Undefined ∷ Known 5 ∷ []) cells 9)
+loads_undefined : by (LoadData 1 5 0)
+    ≡ Passed (store (vars Null (Cell 6)) (Undefined ∷ Undefined ∷ Known 5 ∷ []) cells 9)
 loads_undefined = refl
 
 loads_a_datum_from_null : by (LoadData 0 0 0) ≡ Faulted NullDeref
@@ -223,10 +242,12 @@ loads_a_datum_from_no_cell = refl
 
 -- StoreData
 
-stores_a_datum : by (StoreData 4 0 2) ≡ cells_are (node 4 (Known 2) (Cell 6) (Cell 7) ∷ node 6 (Known 5) Null Uninit ∷ leaf 7 Undefined (Known 9) ∷ [])
+stores_a_datum : by (StoreData 4 0 2)
+    ≡ cells_are (node 4 (Known 2) (Cell 6) (Cell 7) ∷ node 6 (Known 5) Null Uninit ∷ leaf 7 Undefined (Known 9) ∷ [])
 stores_a_datum = refl
 
-stores_undefined : by (StoreData 5 1 0) ≡ cells_are (node 4 (Known 2) (Cell 6) (Cell 7) ∷ node 6 Undefined Null Uninit ∷ leaf 7 Undefined Undefined ∷ [])
+stores_undefined : by (StoreData 5 1 0)
+    ≡ cells_are (node 4 (Known 2) (Cell 6) (Cell 7) ∷ node 6 Undefined Null Uninit ∷ leaf 7 Undefined Undefined ∷ [])
 stores_undefined = refl
 
 stores_a_datum_at_null : by (StoreData 0 0 1) ≡ Faulted NullDeref

@@ -5,14 +5,16 @@ use Rattle.fore_base.specs.Heap.{leaks}
 use Rattle.c_types.specs.declared.outcome.Outcome.TheVariants.{Ended, Fault, Starved, BadChoice, StillRunning}
 use Rattle.c_cfg.specs.declared.graph.PtrArg.TheVariants.{Var as PtrVar, Null as PtrNull}
 use Rattle.c_cfg.specs.declared.graph.DataArg.TheVariants.{Var as ArgVar, Known as ArgKnown}
-use Rattle.c_cfg.specs.declared.graph.Instr.TheVariants.{CopyPtr, LoadPtr, New, Kill, CopyData, TestPtr, TestData, Choose, Stop}
+use Rattle.c_cfg.specs.declared.graph.Instr.TheVariants.{CopyPtr, LoadPtr, New, Kill, CopyData, TestPtr, TestData}
+use Rattle.c_cfg.specs.declared.graph.Instr.TheVariants.{Choose, Stop}
 use Rattle.c_cfg.specs.declared.graph.Edge.{Edge}
 use Rattle.c_cfg.specs.Graphs.{ControlGraph}
 use Rattle.c_cfg.specs.GraphRuns.{out_of, grun}
 use Rattle.c_cfg.proofs.Rows.Forms.{graph, goes, takes}
 
 -- the edges of a location, in the order of the list
-leaving : out_of (goes 1 2 (Stop true) 5 ∷ goes 0 1 (Stop false) 6 ∷ goes 1 0 (Stop false) 7 ∷ []) 1 ≡ goes 1 2 (Stop true) 5 ∷ goes 1 0 (Stop false) 7 ∷ []
+leaving : out_of (goes 1 2 (Stop true) 5 ∷ goes 0 1 (Stop false) 6 ∷ goes 1 0 (Stop false) 7 ∷ []) 1
+    ≡ goes 1 2 (Stop true) 5 ∷ goes 1 0 (Stop false) 7 ∷ []
 leaving = refl
 
 leaving_nowhere : out_of (goes 1 2 (Stop true) 5 ∷ []) 2 ≡ []
@@ -49,7 +51,8 @@ starts_unset : grun (graph 2 1 0 (goes 0 1 (LoadPtr 0 0 0) 7 ∷ []) []) [] 1 �
 unfolding leaks grun
 starts_unset = refl
 
-starts_undefined : grun (graph 2 0 1 (goes 0 1 (TestData (ArgVar 0) (ArgKnown 0) true) 7 ∷ []) []) [] 1 ≡ Fault IndetTest 7 1
+starts_undefined : grun (graph 2 0 1 (goes 0 1 (TestData (ArgVar 0) (ArgKnown 0) true) 7 ∷ []) []) [] 1
+    ≡ Fault IndetTest 7 1
 unfolding leaks grun
 starts_undefined = refl
 
@@ -105,7 +108,10 @@ unfolding leaks grun
 one_first_takes_zero = refl
 
 -- an edge without a choice takes none
-keeps_choices : grun (graph 3 0 1 (goes 0 1 (CopyData 0 (ArgKnown 1)) 2 ∷ takes 1 0 (Choose None) 0 3 ∷ takes 1 2 (Choose None) 1 3 ∷ []) []) (1 ∷ []) 4 ≡ Ended 2
+keeps_choices :
+    grun
+    (graph 3 0 1 (goes 0 1 (CopyData 0 (ArgKnown 1)) 2 ∷ takes 1 0 (Choose None) 0 3 ∷ takes 1 2 (Choose None) 1 3 ∷ [])
+    []) (1 ∷ []) 4 ≡ Ended 2
 unfolding leaks grun
 keeps_choices = refl
 
@@ -114,15 +120,21 @@ keeps_choices = refl
 abbrev tests : Edge → Edge → ControlGraph
 tests first second = graph 4 1 0 (goes 0 1 (CopyPtr 0 PtrNull) 2 ∷ first ∷ second ∷ goes 3 0 (Stop true) 6 ∷ []) []
 
-passes_the_first : grun (tests (goes 1 2 (TestPtr (PtrVar 0) PtrNull true) 5) (goes 1 3 (TestPtr (PtrVar 0) PtrNull false) 5)) [] 9 ≡ Ended 2
+passes_the_first :
+    grun (tests (goes 1 2 (TestPtr (PtrVar 0) PtrNull true) 5) (goes 1 3 (TestPtr (PtrVar 0) PtrNull false) 5)) [] 9
+    ≡ Ended 2
 unfolding leaks grun
 passes_the_first = refl
 
-passes_the_second : grun (tests (goes 1 2 (TestPtr (PtrVar 0) PtrNull false) 5) (goes 1 3 (TestPtr (PtrVar 0) PtrNull true) 5)) [] 9 ≡ Fault Assertion 6 3
+passes_the_second : grun
+    (tests (goes 1 2 (TestPtr (PtrVar 0) PtrNull false) 5) (goes 1 3 (TestPtr (PtrVar 0) PtrNull true) 5)) [] 9
+    ≡ Fault Assertion 6 3
 unfolding leaks grun
 passes_the_second = refl
 
 -- neither passes: the run is stuck
-passes_neither : grun (tests (goes 1 2 (TestPtr (PtrVar 0) PtrNull false) 5) (goes 1 3 (TestPtr (PtrVar 0) PtrNull false) 5)) [] 9 ≡ StillRunning
+passes_neither :
+    grun (tests (goes 1 2 (TestPtr (PtrVar 0) PtrNull false) 5) (goes 1 3 (TestPtr (PtrVar 0) PtrNull false) 5)) [] 9
+    ≡ StillRunning
 unfolding leaks grun
 passes_neither = refl

@@ -37,11 +37,13 @@ module _ (n : Counts) where
   }
 
 abbrev pub parts_edges : Comparison → ℕ → ℕ → ℕ → ℕ → List Edge
-parts_edges parts line k same other = test_edges line parts.loads (test_of parts.compared) (ends parts.ptrs parts.datums) k same other
+parts_edges parts line k same other =
+    test_edges line parts.loads (test_of parts.compared) (ends parts.ptrs parts.datums) k same other
 
 -- the two edges of the test
 abbrev pub tests_of : Compared → ℕ → ℕ → ℕ → ℕ → List Edge
-tests_of compared line k same other = edge line k same (test_of compared true) None ∷ edge line k other (test_of compared false) None ∷ []
+tests_of compared line k same other = edge line k same (test_of compared true) None
+    ∷ edge line k other (test_of compared false) None ∷ []
 
 -- what ends a branch
 abbrev pub end_of : Comparison → ℕ → ℕ → ℕ → List Edge

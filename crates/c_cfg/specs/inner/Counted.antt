@@ -10,7 +10,8 @@ use Rattle.c_types.specs.Steps.{below}
 use Rattle.c_cfg.specs.declared.graph.Instr.TheVariants.{Kill, StoreData, Choose}
 use Rattle.c_cfg.specs.declared.around.Around.{Around}
 use Rattle.c_cfg.specs.declared.counts.Counts.{Counts}
-use Rattle.c_cfg.specs.Links.{Link, One, Two, loads, holder, var_row, path_row, ptr_row, data_var_row, data_field_row, data_row, return_row, cmp_loads}
+use Rattle.c_cfg.specs.Links.{Link, One, Two, loads, holder, var_row, path_row, ptr_row, data_var_row, data_field_row}
+use Rattle.c_cfg.specs.Links.{data_row, return_row, cmp_loads}
 use Rattle.c_cfg.specs.inner.Emitting.{act_links}
 
 module _ (n : Counts) where
@@ -34,7 +35,8 @@ module _ (n : Counts) where
 
   -- the arrows of the left base, and the store
   abbrev pub store_links : Path → ℕ → ℕ → List Link
-  store_links base f from = loads (n.ptrs + 1) base.var base.fields ++ One (StoreData (holder (n.ptrs + 1) base.var base.fields) f from) ∷ []
+  store_links base f from = loads (n.ptrs + 1) base.var base.fields
+      ++ One (StoreData (holder (n.ptrs + 1) base.var base.fields) f from) ∷ []
 
   abbrev pub return_links : Option DataPath → List Link
   return_links operand = return_row n.ptrs n.datums operand

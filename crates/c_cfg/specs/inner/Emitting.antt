@@ -1,10 +1,12 @@
 -- The edges of a program by recursion over its items, with numbers alone.
 use Rattle.std.specs.Prelude.{ℕ, zero, suc, ◌+◌, List, [], ◌∷◌, ◌++◌, None, map}
 use Rattle.c_types.specs.declared.program.Act.{Act}
-use Rattle.c_types.specs.declared.program.Act.TheVariants.{SetPtr, SetData, Free as FreeAct, Error, Halt, Return, Break, Continue}
+use Rattle.c_types.specs.declared.program.Act.TheVariants.{SetPtr, SetData, Free as FreeAct, Error, Halt, Return, Break}
+use Rattle.c_types.specs.declared.program.Act.TheVariants.{Continue}
 use Rattle.c_types.specs.declared.program.Cond.{Cond}
 use Rattle.c_types.specs.declared.program.Stmt.{Stmt}
-use Rattle.c_types.specs.Control.{Items, Done, Do, Close, If, Loop, Again, DoLoop, DoAgain, Test, Ask, Not, Both, Either, joined, merged, test_of, items_of, all_before}
+use Rattle.c_types.specs.Control.{Items, Done, Do, Close, If, Loop, Again, DoLoop, DoAgain, Test, Ask, Not, Both}
+use Rattle.c_types.specs.Control.{Either, joined, merged, test_of, items_of, all_before}
 use Rattle.c_cfg.specs.declared.graph.Instr.TheVariants.{Kill}
 use Rattle.c_cfg.specs.declared.graph.Edge.{Edge}
 use Rattle.c_cfg.specs.declared.around.Around.{Around}
@@ -100,7 +102,8 @@ module _ (nv nd exit : ℕ) where
   abbrev pub emit : Items → Around → ℕ → ℕ → List Edge
   emit Done w i k = []
   emit (Do a m is) w i k =
-      chain m (act_links nv nd (inside w is) a) i (act_to exit w a (first_of (width nv nd is) (i + act_width nv nd a) k)) ++ emit is w (i + act_width nv nd a) k
+      chain m (act_links nv nd (inside w is) a) i
+      (act_to exit w a (first_of (width nv nd is) (i + act_width nv nd a) k)) ++ emit is w (i + act_width nv nd a) k
   emit (Close ps ds m is) w i k = edge m i (first_of (width nv nd is) (i + 1) k) (Kill ps ds) None ∷ emit is w (i + 1) k
   emit (If c x y is) w i k =
       let i1 = i + test_width nv nd c in let i2 = i1 + width nv nd x in let i3 = i2 + width nv nd y in

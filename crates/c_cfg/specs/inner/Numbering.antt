@@ -1,10 +1,14 @@
--- One lowering: locations are numbered in order of the text, those in the middle of a step after the one at which it begins, and the exit last.
-use Rattle.std.specs.Prelude.{ℕ, zero, suc, pred, ◌+◌, List, [], ◌∷◌, ◌++◌, length, map, replicate, Bool, true, false, Some, None, slice_index_or}
+-- One lowering: locations are numbered in order of the text, those in the middle of a step after the one at which it
+-- begins, and the exit last.
+use Rattle.std.specs.Prelude.{ℕ, zero, suc, pred, ◌+◌, List, [], ◌∷◌, ◌++◌, length, map, replicate, Bool, true, false}
+use Rattle.std.specs.Prelude.{Some, None, slice_index_or}
 use Rattle.c_types.specs.declared.program.Act.{Act}
 use Rattle.c_types.specs.declared.program.Atom.{Atom}
-use Rattle.c_types.specs.declared.program.Atom.TheVariants.{Choice as ChoiceAtom, Known as KnownAtom, Ptr as PtrAtom, Data as DataAtom}
+use Rattle.c_types.specs.declared.program.Atom.TheVariants.{Choice as ChoiceAtom, Known as KnownAtom, Ptr as PtrAtom}
+use Rattle.c_types.specs.declared.program.Atom.TheVariants.{Data as DataAtom}
 use Rattle.c_types.specs.Program.{Program}
-use Rattle.c_types.specs.Control.{Items, Done, Do, Close, If, Loop, Again, DoLoop, DoAgain, Test, Ask, Not, Both, Either, ◌then◌, opened, start_of}
+use Rattle.c_types.specs.Control.{Items, Done, Do, Close, If, Loop, Again, DoLoop, DoAgain, Test, Ask, Not, Both}
+use Rattle.c_types.specs.Control.{Either, ◌then◌, opened, start_of}
 use Rattle.c_types.specs.Steps.{below, mark_of}
 use Rattle.c_cfg.specs.declared.graph.Instr.{Instr}
 use Rattle.c_cfg.specs.declared.graph.Instr.TheVariants.{Kill, Choose}
@@ -32,7 +36,9 @@ test_edges line loads test [] k same other =
     ++ edge line (k + length loads) same (test true) None ∷ edge line (k + length loads) other (test false) None ∷ []
 test_edges line loads test (l ∷ ls) k same other =
     chain line loads k (k + length loads)
-    ++ ((edge line (k + length loads) (k + length loads + 1) (test true) None ∷ edge line (k + length loads) (k + length loads + 2) (test false) None ∷ [])
+    ++
+    ((edge line (k + length loads) (k + length loads + 1) (test true) None
+    ∷ edge line (k + length loads) (k + length loads + 2) (test false) None ∷ [])
     ++ (link_edges line (k + length loads + 1) same l ++ link_edges line (k + length loads + 2) other l))
 
 -- how many locations a comparison takes
@@ -77,11 +83,18 @@ module _ (nv nd : ℕ) where
   number Done i = Done
   number (Do a m is) i = Do a i (number is (i + act_width a))
   number (Close ps ds m is) i = Close ps ds i (number is (i + 1))
-  number (If c x y is) i = If (number_test c i) (number x (i + test_width c)) (number y (i + test_width c + width x)) (number is (i + test_width c + width x + width y))
-  number (Loop c n b is) i = Loop (number_test c i) (number n (i + test_width c + width b)) (number b (i + test_width c)) (number is (i + test_width c + width b + width n))
-  number (Again c n b is) i = Again (number_test c (i + width n)) (number n i) (number b (i + width n + test_width c)) (number is (i + width n + test_width c + width b))
+  number (If c x y is) i =
+      If (number_test c i) (number x (i + test_width c)) (number y (i + test_width c + width x))
+      (number is (i + test_width c + width x + width y))
+  number (Loop c n b is) i =
+      Loop (number_test c i) (number n (i + test_width c + width b)) (number b (i + test_width c))
+      (number is (i + test_width c + width b + width n))
+  number (Again c n b is) i =
+      Again (number_test c (i + width n)) (number n i) (number b (i + width n + test_width c))
+      (number is (i + width n + test_width c + width b))
   number (DoLoop c b is) i = DoLoop (number_test c (i + width b)) (number b i) (number is (i + width b + test_width c))
-  number (DoAgain c b is) i = DoAgain (number_test c i) (number b (i + test_width c)) (number is (i + test_width c + width b))
+  number (DoAgain c b is) i =
+      DoAgain (number_test c i) (number b (i + test_width c)) (number is (i + test_width c + width b))
 
   -- each location's line
   abbrev pub test_lines : Test → List ℕ
@@ -117,13 +130,18 @@ module _ (nv nd : ℕ) where
   mids_of c = span (mark_of c + 1) (pred (place_width c))
 
   abbrev pub atom_edges : Atom → ℕ → ℕ → ℕ → ℕ → List Edge
-  atom_edges ChoiceAtom line k yes' no' = edge line k no' (Choose None) (Some 0) ∷ edge line k yes' (Choose None) (Some 1) ∷ []
+  atom_edges ChoiceAtom line k yes' no' = edge line k no' (Choose None) (Some 0)
+      ∷ edge line k yes' (Choose None) (Some 1) ∷ []
   atom_edges (KnownAtom true) line k yes' no' = edge line k yes' (Kill [] []) None ∷ []
   atom_edges (KnownAtom false) line k yes' no' = edge line k no' (Kill [] []) None ∷ []
-  atom_edges (PtrAtom l r true) line k yes' no' = test_edges line (ptr_loads nv nd l r) (ptr_test nv nd l r) (ptr_ends nv nd l r) k yes' no'
-  atom_edges (PtrAtom l r false) line k yes' no' = test_edges line (ptr_loads nv nd l r) (ptr_test nv nd l r) (ptr_ends nv nd l r) k no' yes'
-  atom_edges (DataAtom l r true) line k yes' no' = test_edges line (cmp_loads nv nd l r) (data_test nv nd l r) (data_ends nv nd l r) k yes' no'
-  atom_edges (DataAtom l r false) line k yes' no' = test_edges line (cmp_loads nv nd l r) (data_test nv nd l r) (data_ends nv nd l r) k no' yes'
+  atom_edges (PtrAtom l r true) line k yes' no' =
+      test_edges line (ptr_loads nv nd l r) (ptr_test nv nd l r) (ptr_ends nv nd l r) k yes' no'
+  atom_edges (PtrAtom l r false) line k yes' no' =
+      test_edges line (ptr_loads nv nd l r) (ptr_test nv nd l r) (ptr_ends nv nd l r) k no' yes'
+  atom_edges (DataAtom l r true) line k yes' no' =
+      test_edges line (cmp_loads nv nd l r) (data_test nv nd l r) (data_ends nv nd l r) k yes' no'
+  atom_edges (DataAtom l r false) line k yes' no' =
+      test_edges line (cmp_loads nv nd l r) (data_test nv nd l r) (data_ends nv nd l r) k no' yes'
 
   module _ (exit : ℕ) where
     -- the location of an opened list whose marks are the locations
@@ -145,7 +163,8 @@ module _ (nv nd : ℕ) where
     place_edges line Done = []
     place_edges line (Do a m is) = chain (line m) (act_row nv nd a is) m (loc (opened (followed_by a is)))
     place_edges line (Close ps ds m is) = edge (line m) m (loc (opened is)) (Kill ps ds) None ∷ []
-    place_edges line (If (Ask a m) x y is) = atom_edges a (line m) m (loc (opened (x then is))) (loc (opened (y then is)))
+    place_edges line (If (Ask a m) x y is) =
+        atom_edges a (line m) m (loc (opened (x then is))) (loc (opened (y then is)))
     place_edges line (If (Not c) x y is) = []
     place_edges line (If (Both c d) x y is) = []
     place_edges line (If (Either c d) x y is) = []

@@ -10,7 +10,8 @@ use Rattle.c_cfg.specs.declared.site.Site.{Site}
 use Rattle.c_cfg.specs.declared.site.Span.{Span}
 use Rattle.c_cfg.specs.declared.site.TwoSpans.{TwoSpans}
 use Rattle.c_cfg.specs.inner.Numbering.{chain, test_width}
-use Rattle.c_cfg.specs.inner.Emitting.{first_of, in_loop, close_width, act_to, act_links, emit_test, wide_all, emit_stmt, emit_all, heads_stmt, heads_all}
+use Rattle.c_cfg.specs.inner.Emitting.{first_of, in_loop, close_width, act_to, act_links, emit_test, wide_all}
+use Rattle.c_cfg.specs.inner.Emitting.{emit_stmt, emit_all, heads_stmt, heads_all}
 use Rattle.std.specs.Prelude.{Bool, true, false, replicate}
 use Rattle.fore_base.specs.Stores.{set_each}
 use Rattle.c_types.specs.declared.program.Atom.{Atom}
@@ -49,7 +50,8 @@ abbrev pub edges_at : Site → List Stmt → Around → ℕ → ℕ → List Edg
 edges_at site body w i k = emit_all site.counts.ptrs site.counts.datums site.exit body w i k
 
 abbrev pub act_edges : Site → Act → ℕ → Around → Span → List Edge
-act_edges site a line w span = chain line (act_links site.counts.ptrs site.counts.datums w a) span.from (act_to site.exit w a span.then)
+act_edges site a line w span =
+    chain line (act_links site.counts.ptrs site.counts.datums w a) span.from (act_to site.exit w a span.then)
 
 abbrev pub stmt_edges : Site → Stmt → Around → Span → List Edge
 stmt_edges site s w span = emit_stmt site.counts.ptrs site.counts.datums site.exit s w span.from span.then
@@ -64,18 +66,24 @@ span_of from then' = record { from = from; then = then' }
 
 abbrev pub branch_test : Site → Cond → List Stmt → List Stmt → Span → List Edge
 branch_test site c x y span =
-    test_edges site c span.from (first_of (room site x) (span.from + test_room site c) span.then) (first_of (room site y) (span.from + test_room site c + room site x) span.then)
+    test_edges site c span.from (first_of (room site x) (span.from + test_room site c) span.then)
+    (first_of (room site y) (span.from + test_room site c + room site x) span.then)
 
 abbrev pub branch_spans : Site → Cond → List Stmt → Span → TwoSpans
 branch_spans site c x span =
-    record { first = span_of (span.from + test_room site c) span.then; second = span_of (span.from + test_room site c + room site x) span.then }
+    record {
+      first = span_of (span.from + test_room site c) span.then;
+      second = span_of (span.from + test_room site c + room site x) span.then;
+    }
 
 -- where a round of a loop goes on after its body
 abbrev pub again_at : Site → Cond → List Stmt → List Stmt → Span → ℕ
 again_at site c n b span = first_of (room site n) (span.from + test_room site c + room site b) span.from
 
 abbrev pub loop_test : Site → Cond → List Stmt → List Stmt → Span → List Edge
-loop_test site c n b span = test_edges site c span.from (first_of (room site b) (span.from + test_room site c) (again_at site c n b span)) span.then
+loop_test site c n b span =
+    test_edges site c span.from (first_of (room site b) (span.from + test_room site c) (again_at site c n b span))
+    span.then
 
 abbrev pub loop_spans : Site → Cond → List Stmt → List Stmt → Span → TwoSpans
 loop_spans site c n b span = record {

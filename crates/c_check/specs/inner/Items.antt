@@ -1,5 +1,7 @@
--- The places of a file where a rule may be broken, where of the names that were defined before each is kept once, with how many there were.
-use Rattle.std.specs.Prelude.{ℕ, ◌+◌, Bool, false, not, ◌&&◌, ◌||◌, cond, List, [], ◌∷◌, ◌++◌, length, Option, Some, None}
+-- The places of a file where a rule may be broken, where of the names that were defined before each is kept once, with
+-- how many there were.
+use Rattle.std.specs.Prelude.{ℕ, ◌+◌, Bool, false, not, ◌&&◌, ◌||◌, cond, List, [], ◌∷◌, ◌++◌, length, Option, Some}
+use Rattle.std.specs.Prelude.{None}
 use Rattle.c_ast.specs.declared.items.Field.{Field}
 use Rattle.c_ast.specs.declared.items.Head.{Head}
 use Rattle.c_ast.specs.declared.items.Item.{Item}
@@ -25,16 +27,19 @@ with_names names (n ∷ ns) = with_names (with_name names n.text) ns
 
 abbrev pub kept_member_sites : List Text → ℕ → List Name → List Site
 kept_member_sites names count [] = []
-kept_member_sites names count (n ∷ ns) = Defines Member n names count ∷ kept_member_sites (with_name names n.text) (count + 1) ns
+kept_member_sites names count (n ∷ ns) =
+    Defines Member n names count ∷ kept_member_sites (with_name names n.text) (count + 1) ns
 
 abbrev pub kept_fields_sites : List Text → ℕ → List Field → List Site
 kept_fields_sites names count [] = []
 kept_fields_sites names count (f ∷ fs) =
-    (field_type_sites f ++ kept_member_sites names count (names_of f)) ++ kept_fields_sites (with_names names (names_of f)) (count + length (names_of f)) fs
+    (field_type_sites f ++ kept_member_sites names count (names_of f))
+    ++ kept_fields_sites (with_names names (names_of f)) (count + length (names_of f)) fs
 
 abbrev pub kept_value_sites : List Text → ℕ → List Name → List Site
 kept_value_sites names count [] = []
-kept_value_sites names count (n ∷ ns) = Defines Value n names count ∷ kept_value_sites (with_name names n.text) (count + 1) ns
+kept_value_sites names count (n ∷ ns) =
+    Defines Value n names count ∷ kept_value_sites (with_name names n.text) (count + 1) ns
 
 abbrev pub kept_struct_sites : Seen → Name → Option (List Field) → List Site
 kept_struct_sites s name None = UsesStruct name ∷ []
@@ -42,10 +47,17 @@ kept_struct_sites s name (Some fields) = Defines Struct name s.structs s.count �
 
 abbrev pub kept_structs : Seen → Name → Option (List Field) → Seen
 kept_structs s name None = s
-kept_structs s name (Some fields) = record { structs = with_name s.structs name.text; count = s.count + 1; enums = s.enums; values = s.values }
+kept_structs s name (Some fields) =
+    record { structs = with_name s.structs name.text; count = s.count + 1; enums = s.enums; values = s.values }
 
 abbrev pub kept_enums : Seen → Name → List Name → Seen
-kept_enums s name values = record { structs = s.structs; count = s.count; enums = with_name s.enums name.text; values = with_names s.values values }
+kept_enums s name values =
+    record {
+      structs = s.structs;
+      count = s.count;
+      enums = with_name s.enums name.text;
+      values = with_names s.values values;
+    }
 
 -- what is kept after an item
 abbrev pub kept_after : Seen → Item → Seen
@@ -65,7 +77,8 @@ is_main_item (item.Declare d) = false
 
 module _ (g : Globals) where
   abbrev pub kept_function_sites : Bool → Head → Block → List Site
-  kept_function_sites main head body = head_sites (Functions main head) head ++ body_sites g (not main && is_main head) body
+  kept_function_sites main head body = head_sites (Functions main head) head
+      ++ body_sites g (not main && is_main head) body
 
   abbrev pub kept_item_sites : Bool → Seen → Item → List Site
   kept_item_sites main s (item.Struct at name fields) = kept_struct_sites s name fields
@@ -76,7 +89,8 @@ module _ (g : Globals) where
 
   abbrev pub kept_items_sites : Bool → Seen → List Item → List Site
   kept_items_sites main s [] = []
-  kept_items_sites main s (i ∷ is) = kept_item_sites main s i ++ kept_items_sites (main || is_main_item i) (kept_after s i) is
+  kept_items_sites main s (i ∷ is) =
+      kept_item_sites main s i ++ kept_items_sites (main || is_main_item i) (kept_after s i) is
 
 abbrev pub any_main : List Item → Bool
 any_main [] = false

@@ -25,7 +25,8 @@ group_first first.Nothing body scope line = body
 
 -- the loop
 abbrev pub for_body : Globals → ℕ → Option tree.Cond → Option Simple → stmts.Stmt → Scope → Stmt
-for_body g line c next body scope = For (maybe_cond g scope line c) (maybe_simple g scope next) (stmt_stmts g body scope)
+for_body g line c next body scope =
+    For (maybe_cond g scope line c) (maybe_simple g scope next) (stmt_stmts g body scope)
 
 -- the whole `for`, which is a block of its own
 abbrev pub past_for : Globals → First → stmts.Stmt → Scope → Scope
@@ -33,4 +34,5 @@ past_for g f body scope = closed scope (past_stmt g body (past_first g f (opened
 
 abbrev pub for_made : Globals → ℕ → First → Option tree.Cond → Option Simple → stmts.Stmt → Scope → List Stmt
 for_made g line f c next body scope =
-    group_first f (first_stmts g f (opened scope) ++ for_body g line c next body (past_first g f (opened scope)) ∷ []) (past_first g f (opened scope)) line
+    group_first f (first_stmts g f (opened scope) ++ for_body g line c next body (past_first g f (opened scope)) ∷ [])
+    (past_first g f (opened scope)) line

@@ -1,5 +1,6 @@
 -- The table of what is in scope, and the scope that it stands for.
-use Rattle.std.specs.Prelude.{◌≡◌, ◌<◌, ◌≤◌, ◌⊎◌, ℕ, Bool, false, List, [], ◌∷◌, ◌++◌, Option, Some, None, map, length, reverse, nat_eq, ◌||◌, slice_set, slice_index_or}
+use Rattle.std.specs.Prelude.{◌≡◌, ◌<◌, ◌≤◌, ◌⊎◌, ℕ, Bool, false, List, [], ◌∷◌, ◌++◌, Option, Some, None, map, length}
+use Rattle.std.specs.Prelude.{reverse, nat_eq, ◌||◌, slice_set, slice_index_or}
 use Rattle.fore_base.specs.Lists.{Every}
 use Rattle.c_typing.specs.declared.meaning.Kind.{Kind}
 use Rattle.c_typing.specs.declared.meaning.Kind.TheVariants.{Points, Datum}
@@ -17,7 +18,8 @@ Grew old new x = (new ≡ old) ⊎ (new ≡ old ++ x ∷ [])
 
 -- the variable of an entry
 abbrev pub var_of : List (List ℕ) → Entry → Var
-var_of names e = record { name = slice_index_or names e.name []; kind = e.meant.what.kind; number = e.meant.what.number }
+var_of names e =
+    record { name = slice_index_or names e.name []; kind = e.meant.what.kind; number = e.meant.what.number }
 
 abbrev pub vars_of : List (List ℕ) → List Entry → List Var
 vars_of names es = map (var_of names) es
@@ -95,7 +97,8 @@ name_at names n = slice_index_or names n []
 
 -- the name means this, where it is not yet taken
 abbrev pub bound : List ℕ → Found → Scope → Scope
-bound name what scope = record scope { blocks = with_var (record { name = name; kind = what.kind; number = what.number }) scope.blocks }
+bound name what scope = record scope
+    { blocks = with_var (record { name = name; kind = what.kind; number = what.number }) scope.blocks }
 
 -- no block is open, or the meaning is of the innermost one
 abbrev pub is_shut : Option Meant → ℕ → Bool
@@ -115,7 +118,8 @@ with_pushed v [] = []
 with_pushed v (b ∷ bs) = (v ∷ b) ∷ bs
 
 abbrev pub pushed : List ℕ → Found → Scope → Scope
-pushed name what scope = record scope { blocks = with_pushed (record { name = name; kind = what.kind; number = what.number }) scope.blocks }
+pushed name what scope =
+    record scope { blocks = with_pushed (record { name = name; kind = what.kind; number = what.number }) scope.blocks }
 
 -- the innermost block
 abbrev pub first_block : List (List Entry) → List Entry

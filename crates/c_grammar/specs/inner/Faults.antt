@@ -17,10 +17,13 @@ pub record Alive {X : Type 0} (A : Rule X) (bars : Signs) (n : ℕ) (pre : List 
 
 -- with a token of the sign of the next one they begin nothing that the rule reads
 abbrev pub Dead : {X : Type 0} → Rule X → Signs → ℕ → List Token → List Token → Type 0
-Dead {X} A cont n pre post = (z y : List Token) (x : X) → sign_at z ≡ sign_at post → cont (sign_at y) ≡ false → A n (pre ++ z) y x → ⊥
+Dead {X} A cont n pre post = (z y : List Token) (x : X) → sign_at z ≡ sign_at post → cont (sign_at y) ≡ false
+    → A n (pre ++ z) y x → ⊥
 
--- the next token is the first with which these tokens begin nothing that the rule reads, however many levels may be opened
-pub record IsSyntax {X : Type 0} (A : Rule X) (cont bars : Signs) (n : ℕ) (end : Place) (ts : List Token) (at : Place) : Type 0 where
+-- the next token is the first with which these tokens begin nothing that the rule reads, however many levels may be
+-- opened
+pub record IsSyntax {X : Type 0} (A : Rule X) (cont bars : Signs) (n : ℕ) (end : Place) (ts : List Token) (at : Place) :
+    Type 0 where
   pub pre : List Token
   pub post : List Token
   pub is : ts ≡ pre ++ post
@@ -28,9 +31,11 @@ pub record IsSyntax {X : Type 0} (A : Rule X) (cont bars : Signs) (n : ℕ) (end
   pub alive : Alive A bars n pre
   pub dead : (m : ℕ) → Dead A cont m pre post
 
--- the next token is the first with which these tokens begin nothing that the rule reads with so many levels, but something with more;
+-- the next token is the first with which these tokens begin nothing that the rule reads with so many levels, but
+-- something with more;
 -- where it is the first of all, its sign is one of `heads`
-pub record Sinks {X : Type 0} (A : Rule X) (cont bars heads : Signs) (n : ℕ) (ts : List Token) (at : Place) : Type 0 where
+pub record Sinks {X : Type 0} (A : Rule X) (cont bars heads : Signs) (n : ℕ) (ts : List Token) (at : Place) :
+    Type 0 where
   pub pre : List Token
   pub next : Token
   pub post : List Token
@@ -44,7 +49,8 @@ pub record Sinks {X : Type 0} (A : Rule X) (cont bars heads : Signs) (n : ℕ) (
   pub deeper : Alive A bars room (pre ++ next ∷ [])
 
 -- where the reading of these tokens by a rule stops
-pub data Fails {X : Type 0} (A : Rule X) (cont bars heads : Signs) (n : ℕ) (end : Place) (ts : List Token) : SyntaxFault → Type 0 where
+pub data Fails {X : Type 0} (A : Rule X) (cont bars heads : Signs) (n : ℕ) (end : Place) (ts : List Token) : SyntaxFault
+    → Type 0 where
   stuck : {at : Place} → IsSyntax A cont bars n end ts at → Fails A cont bars heads n end ts (Syntax at)
   sunk : {at : Place} → Sinks A cont bars heads n ts at → Fails A cont bars heads n end ts (Deep at)
   no_memory : Fails A cont bars heads n end ts Memory
@@ -54,4 +60,5 @@ pub record Takes {X : Type 0} (A : Rule X) (cont bars : Signs) (n : ℕ) (ts res
   pub front : List Token
   pub is : ts ≡ front ++ rest
   pub alike : (y : List Token) → (sign_at y ≡ sign_at rest) ⊎ (bars (sign_at y) ≡ false) → A n (front ++ y) y x
-  pub only : (m : ℕ) (z y : List Token) (t : X) → sign_at z ≡ sign_at rest → cont (sign_at y) ≡ false → A m (front ++ z) y t → z ≡ y
+  pub only : (m : ℕ) (z y : List Token) (t : X) → sign_at z ≡ sign_at rest → cont (sign_at y) ≡ false
+      → A m (front ++ z) y t → z ≡ y

@@ -1,4 +1,5 @@
--- Rules whose alternatives begin alike, parted where they part: what the parser reads in each step, with what the whole makes of it.
+-- Rules whose alternatives begin alike, parted where they part: what the parser reads in each step, with what the whole
+-- makes of it.
 use Rattle.std.specs.Prelude.{◌⊎◌, List, [], ◌∷◌, Option, Some, None}
 use Rattle.std.proofs.Common.{inl, inr}
 use Rattle.fore_base.specs.declared.place.Place.{Place}
@@ -31,7 +32,8 @@ use Rattle.c_grammar.specs.Items as i
 use Rattle.c_grammar.specs.Items.{braced_fields, Enumerated, enum_body, closed_params, head, head_of}
 use Rattle.c_grammar.specs.Signs.{or_on}
 use Rattle.c_grammar.specs.Syntax as s
-use Rattle.c_grammar.specs.Syntax.{at, name, path, arrow, second, bracketed, optional, declarator, declarator_of, declare, simple, cond, first_part, block, rhs}
+use Rattle.c_grammar.specs.Syntax.{at, name, path, arrow, second, bracketed, optional, declarator, declarator_of}
+use Rattle.c_grammar.specs.Syntax.{declare, simple, cond, first_part, block, rhs}
 use Rattle.c_grammar.specs.declared.signs.Sign.TheVariants as sign
 use Rattle.c_grammar.specs.inner.Sets.{Signs, among, commas, begins_declare, begins_stmt, begins_cond, cond_goes_on}
 
@@ -49,7 +51,12 @@ abbrev pub sized_part : Part Sized
 sized_part = Made inl (bracketed inside_part) or Made inr (at sign.Star then path)
 
 abbrev pub size_of : Place × Sized → Size
-size_of p = elim p.1 [ inl i ↦ (elim i [ inl x ↦ size'.Struct p.0 x | inr q ↦ size'.Bracketed p.0 q.0 q.1 ]) | inr q ↦ size'.Bare p.0 q.0 q.1 ]
+size_of p =
+    elim p.1 [
+      | inl i ↦ (elim i [ inl x ↦ size'.Struct p.0 x | inr q ↦ size'.Bracketed p.0 q.0 q.1 ])
+      | inr q ↦ size'.Bare p.0 q.0
+          q.1
+    ]
 
 -- simple statements: an assignment and a call begin alike
 abbrev pub After : Type 0
@@ -59,7 +66,8 @@ abbrev pub after_part : Part (List Operand) → Part Rhs → Part After
 after_part os r = Made inl os or Made inr (Many arrow then token sign.Assign then r)
 
 abbrev pub simple_word : Name × After → Simple
-simple_word p = elim p.1 [ inl os ↦ simple'.Call (s.call_of (p.0, os)) | inr q ↦ simple'.Assign (s.path_of (p.0, q.0)) q.1.1 ]
+simple_word p = elim p.1
+    [ inl os ↦ simple'.Call (s.call_of (p.0, os)) | inr q ↦ simple'.Assign (s.path_of (p.0, q.0)) q.1.1 ]
 
 abbrev pub declarator_goes_on : Signs
 declarator_goes_on = among (sign.Assign ∷ (sign.Arrow ∷ (sign.Open ∷ [])))
@@ -69,7 +77,9 @@ declarators_go_on = among (sign.Assign ∷ (sign.Arrow ∷ (sign.Open ∷ (sign.
 
 -- statements that are no level
 abbrev pub begins_flat : Signs
-begins_flat = among (sign.Semicolon ∷ (sign.Id ∷ (sign.Free ∷ (sign.Return ∷ (sign.Break ∷ (sign.Continue ∷ (sign.Assert ∷ [])))))))
+begins_flat =
+    among
+    (sign.Semicolon ∷ (sign.Id ∷ (sign.Free ∷ (sign.Return ∷ (sign.Break ∷ (sign.Continue ∷ (sign.Assert ∷ [])))))))
 
 abbrev pub begins_part : Signs
 begins_part s = or_on (begins_declare s) (begins_stmt s)
@@ -126,10 +136,13 @@ abbrev pub Rest : Type 0
 Rest = Called ⊎ Declared
 
 abbrev pub data_rest : Rule Rest
-data_rest n = Made inl (called n) or Made inr (maybe_from n then Many (Made second (token sign.Comma then declarator n)) then token sign.Semicolon)
+data_rest n = Made inl (called n) or Made inr
+    (maybe_from n then Many (Made second (token sign.Comma then declarator n)) then token sign.Semicolon)
 
 abbrev pub pointer_rest : Rule Rest
-pointer_rest n = Made inl (called n) or Made inr (maybe_from n then Many (Made second (token sign.Comma then Made second (token sign.Star then declarator n))) then token sign.Semicolon)
+pointer_rest n = Made inl (called n) or Made inr
+    (maybe_from n then Many (Made second (token sign.Comma then Made second (token sign.Star then declarator n)))
+    then token sign.Semicolon)
 
 abbrev pub begins_rest : Signs
 begins_rest = among (sign.Open ∷ (sign.Assign ∷ (sign.Comma ∷ (sign.Semicolon ∷ []))))
@@ -141,17 +154,28 @@ abbrev pub data_declared : Rule Declared
 data_declared n = maybe_from n then Many (Made second (token sign.Comma then declarator n)) then token sign.Semicolon
 
 abbrev pub pointer_declared : Rule Declared
-pointer_declared n = maybe_from n then Many (Made second (token sign.Comma then Made second (token sign.Star then declarator n))) then token sign.Semicolon
+pointer_declared n = maybe_from n
+    then Many (Made second (token sign.Comma then Made second (token sign.Star then declarator n)))
+    then token sign.Semicolon
 
 -- the five beginnings of an item
 abbrev pub head_item : ReturnType → Name → Called → Item
-head_item g v q = elim q.1 [ None ↦ item'.Proto None (head_of (g, (v, q.0))) | Some b ↦ item'.Function (head_of (g, (v, q.0))) b ]
+head_item g v q = elim q.1
+    [ None ↦ item'.Proto None (head_of (g, (v, q.0))) | Some b ↦ item'.Function (head_of (g, (v, q.0))) b ]
 
 abbrev pub data_item : Data → Name → Rest → Item
-data_item d v q = elim q [ inl c ↦ head_item (return'.Data d) v c | inr r ↦ item'.Declare (declare'.Datums d (declarator_of (v, r.0) ∷ r.1.0)) ]
+data_item d v q = elim q [
+  | inl c ↦ head_item (return'.Data d) v c
+  | inr r ↦ item'.Declare
+      (declare'.Datums d (declarator_of (v, r.0) ∷ r.1.0))
+]
 
 abbrev pub pointer_item : Place → Name → Name → Rest → Item
-pointer_item p t v q = elim q [ inl c ↦ head_item (return'.Pointer p t) v c | inr r ↦ item'.Declare (declare'.Pointers p t (declarator_of (v, r.0) ∷ r.1.0)) ]
+pointer_item p t v q = elim q [
+  | inl c ↦ head_item (return'.Pointer p t) v c
+  | inr r ↦ item'.Declare
+      (declare'.Pointers p t (declarator_of (v, r.0) ∷ r.1.0))
+]
 
 abbrev pub extern_of : Place × (Head × Token) → Item
 extern_of p = item'.Proto (Some p.0) p.1.0
@@ -175,14 +199,17 @@ abbrev pub StructRest : Type 0
 StructRest = (Option (List Field) × Token) ⊎ (Token × (Name × Rest))
 
 abbrev pub struct_rest : Rule StructRest
-struct_rest n = Made inl (optional braced_fields then token sign.Semicolon) or Made inr (token sign.Star then name then pointer_rest n)
+struct_rest n = Made inl (optional braced_fields then token sign.Semicolon) or Made inr
+    (token sign.Star then name then pointer_rest n)
 
 abbrev pub struct_item_of : Place × (Name × StructRest) → Item
 struct_item_of p = elim p.1.1 [ inl q ↦ i.struct_of (p.0, (p.1.0, q)) | inr q ↦ pointer_item p.0 p.1.0 q.1.0 q.1.1 ]
 
 abbrev pub parted_item : Rule Item
-parted_item n = Made extern_of (at sign.Extern then head then token sign.Semicolon) or Made void_of (at sign.Void then name then called n)
-    or Made int_of (at sign.Int then name then data_rest n) or Made enum_item_of (at sign.Enum then name then enum_rest n)
+parted_item n = Made extern_of (at sign.Extern then head then token sign.Semicolon) or Made void_of
+    (at sign.Void then name then called n)
+    or Made int_of (at sign.Int then name then data_rest n) or Made enum_item_of
+    (at sign.Enum then name then enum_rest n)
     or Made struct_item_of (at sign.Struct then name then struct_rest n)
 
 abbrev pub begins_item : Signs
@@ -205,4 +232,6 @@ abbrev pub for_head_of : Place × (Token × (First × (Option Cond × (Token × 
 for_head_of p = (p.0, p.1.1.0, p.1.1.1.0, p.1.1.1.1.1.0)
 
 abbrev pub for_head : Rule HeadOfFor
-for_head n = Made for_head_of (at sign.For then token sign.Open then first_part (declare n) (simple n) then optional (cond n) then token sign.Semicolon then optional (simple n) then token sign.Close)
+for_head n = Made for_head_of
+    (at sign.For then token sign.Open then first_part (declare n) (simple n) then optional (cond n)
+    then token sign.Semicolon then optional (simple n) then token sign.Close)

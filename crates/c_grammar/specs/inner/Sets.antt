@@ -2,7 +2,10 @@
 use Rattle.std.specs.Prelude.{Bool, false, List, [], ◌∷◌}
 use Rattle.c_grammar.specs.declared.signs.Sign.{Sign}
 use Rattle.c_grammar.specs.Signs.{or_on, same_sign}
-use Rattle.c_grammar.specs.declared.signs.Sign.TheVariants.{Id, Number, Struct, Enum, Int, If, Else, While, Do, For, Return, Break, Continue, Malloc, Free, Assert, Null, True, False, Arrow, Equal, Unequal, And, Or, OpenBrace, Open, Semicolon, Comma, Not}
+use Rattle.c_grammar.specs.declared.signs.Sign.TheVariants.{Id, Number, Struct, Enum, Int, If, Else, While, Do, For}
+use Rattle.c_grammar.specs.declared.signs.Sign.TheVariants.{Return, Break, Continue, Malloc, Free, Assert, Null, True}
+use Rattle.c_grammar.specs.declared.signs.Sign.TheVariants.{False, Arrow, Equal, Unequal, And, Or, OpenBrace, Open}
+use Rattle.c_grammar.specs.declared.signs.Sign.TheVariants.{Semicolon, Comma, Not}
 
 abbrev pub Signs : Type 0
 Signs = Sign → Bool
@@ -78,4 +81,7 @@ abbrev pub begins_declare : Signs
 begins_declare = among (Struct ∷ (Enum ∷ (Int ∷ [])))
 
 abbrev pub begins_stmt : Signs
-begins_stmt = among (OpenBrace ∷ (If ∷ (While ∷ (Do ∷ (For ∷ (Semicolon ∷ (Id ∷ (Free ∷ (Return ∷ (Break ∷ (Continue ∷ (Assert ∷ []))))))))))))
+begins_stmt =
+    among
+    (OpenBrace
+    ∷ (If ∷ (While ∷ (Do ∷ (For ∷ (Semicolon ∷ (Id ∷ (Free ∷ (Return ∷ (Break ∷ (Continue ∷ (Assert ∷ []))))))))))))

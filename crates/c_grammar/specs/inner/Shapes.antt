@@ -12,7 +12,8 @@ use Rattle.c_ast.specs.declared.operands.Path.{Path}
 use Rattle.c_lexer.specs.declared.token.Token.{Token}
 use Rattle.c_grammar.specs.Grammar.{Rule, Many, Made, token, empty, ◌then◌, ◌or◌}
 use Rattle.c_grammar.specs.Signs.{sign_of, sign_at}
-use Rattle.c_grammar.specs.inner.Sets.{Signs, begins_nested, no_sign, test_goes_on, and_goes_on, cond_goes_on, arrows, operand_goes_on, operands_go_on, arguments_go_on}
+use Rattle.c_grammar.specs.inner.Sets.{Signs, begins_nested, no_sign, test_goes_on, and_goes_on, cond_goes_on, arrows}
+use Rattle.c_grammar.specs.inner.Sets.{operand_goes_on, operands_go_on, arguments_go_on}
 use Rattle.c_grammar.specs.Syntax as syntax
 use Rattle.c_grammar.specs.declared.signs.Sign.TheVariants as sign
 use Rattle.c_grammar.specs.declared.fault.SyntaxFault.{SyntaxFault}
@@ -46,16 +47,35 @@ abbrev pub an_argument : Shape Operand
 an_argument = record { rule = syntax.argument; cont = operand_goes_on; bars = no_sign; heads = no_sign }
 
 abbrev pub next_argument : Shape Operand
-next_argument = record { rule = λ n. Made syntax.second (token sign.Comma then syntax.argument n); cont = operand_goes_on; bars = no_sign; heads = no_sign }
+next_argument =
+    record {
+      rule = λ n. Made syntax.second (token sign.Comma then syntax.argument n);
+      cont = operand_goes_on;
+      bars = no_sign;
+      heads = no_sign;
+    }
 
 abbrev pub more_arguments : Shape (List Operand)
-more_arguments = record { rule = λ n. Many (Made syntax.second (token sign.Comma then syntax.argument n)); cont = operands_go_on; bars = no_sign; heads = no_sign }
+more_arguments =
+    record {
+      rule = λ n. Many (Made syntax.second (token sign.Comma then syntax.argument n));
+      cont = operands_go_on;
+      bars = no_sign;
+      heads = no_sign;
+    }
 
 abbrev pub some_arguments : Shape (List Operand)
-some_arguments = record { rule = λ n. syntax.series sign.Comma (syntax.argument n) or empty []; cont = arguments_go_on; bars = no_sign; heads = no_sign }
+some_arguments =
+    record {
+      rule = λ n. syntax.series sign.Comma (syntax.argument n) or empty [];
+      cont = arguments_go_on;
+      bars = no_sign;
+      heads = no_sign;
+    }
 
 abbrev pub all_arguments : Shape (List Operand)
-all_arguments = record { rule = λ n. syntax.arguments (syntax.argument n); cont = no_sign; bars = no_sign; heads = no_sign }
+all_arguments =
+    record { rule = λ n. syntax.arguments (syntax.argument n); cont = no_sign; bars = no_sign; heads = no_sign }
 
 abbrev pub an_operand : Shape Operand
 an_operand = record { rule = syntax.operand; cont = operand_goes_on; bars = no_sign; heads = no_sign }
@@ -65,7 +85,8 @@ a_literal = record { rule = λ n. syntax.literal_part; cont = no_sign; bars = no
 
 -- conditions
 abbrev pub a_comparison : Shape Test
-a_comparison = record { rule = λ n. syntax.compared_part (syntax.operand n); cont = test_goes_on; bars = no_sign; heads = no_sign }
+a_comparison =
+    record { rule = λ n. syntax.compared_part (syntax.operand n); cont = test_goes_on; bars = no_sign; heads = no_sign }
 
 abbrev pub two_sides : Shape Bool
 two_sides = record { rule = λ n. syntax.sides; cont = no_sign; bars = no_sign; heads = no_sign }
@@ -75,25 +96,56 @@ an_inner_unary = record { rule = syntax.inner_unary; cont = operand_goes_on; bar
 
 -- a level that begins with one of these signs may not be opened here: none stands here, or none is left
 abbrev pub StaysOut : Signs → ℕ → Place → List Token → SyntaxFault → Type 0
-StaysOut begins n end ts e = ((e ≡ Syntax (place_at end ts)) × (begins (sign_at ts) ≡ false)) ⊎ ((e ≡ Deep (place_at end ts)) × (n ≡ 0) × (begins (sign_at ts) ≡ true))
+StaysOut begins n end ts e = ((e ≡ Syntax (place_at end ts)) × (begins (sign_at ts) ≡ false))
+    ⊎ ((e ≡ Deep (place_at end ts)) × (n ≡ 0) × (begins (sign_at ts) ≡ true))
 
 abbrev pub a_unary : Shape Unary
 a_unary = record { rule = syntax.unary; cont = operand_goes_on; bars = no_sign; heads = begins_nested }
 
 abbrev pub a_test : Shape Test
-a_test = record { rule = λ n. syntax.test_with (syntax.operand n) (syntax.unary n); cont = test_goes_on; bars = no_sign; heads = begins_nested }
+a_test =
+    record {
+      rule = λ n. syntax.test_with (syntax.operand n) (syntax.unary n);
+      cont = test_goes_on;
+      bars = no_sign;
+      heads = begins_nested;
+    }
 
 abbrev pub next_test : Shape Test
-next_test = record { rule = λ n. Made syntax.second (token sign.And then syntax.test_with (syntax.operand n) (syntax.unary n)); cont = test_goes_on; bars = no_sign; heads = no_sign }
+next_test =
+    record {
+      rule = λ n. Made syntax.second (token sign.And then syntax.test_with (syntax.operand n) (syntax.unary n));
+      cont = test_goes_on;
+      bars = no_sign;
+      heads = no_sign;
+    }
 
 abbrev pub some_tests : Shape (List Test)
-some_tests = record { rule = λ n. syntax.series sign.And (syntax.test_with (syntax.operand n) (syntax.unary n)); cont = and_goes_on; bars = no_sign; heads = begins_nested }
+some_tests =
+    record {
+      rule = λ n. syntax.series sign.And (syntax.test_with (syntax.operand n) (syntax.unary n));
+      cont = and_goes_on;
+      bars = no_sign;
+      heads = begins_nested;
+    }
 
 abbrev pub next_and : Shape And
-next_and = record { rule = λ n. Made syntax.second (token sign.Or then syntax.and_with (syntax.operand n) (syntax.unary n)); cont = and_goes_on; bars = no_sign; heads = no_sign }
+next_and =
+    record {
+      rule = λ n. Made syntax.second (token sign.Or then syntax.and_with (syntax.operand n) (syntax.unary n));
+      cont = and_goes_on;
+      bars = no_sign;
+      heads = no_sign;
+    }
 
 abbrev pub some_ands : Shape (List And)
-some_ands = record { rule = λ n. syntax.series sign.Or (syntax.and_with (syntax.operand n) (syntax.unary n)); cont = cond_goes_on; bars = no_sign; heads = begins_nested }
+some_ands =
+    record {
+      rule = λ n. syntax.series sign.Or (syntax.and_with (syntax.operand n) (syntax.unary n));
+      cont = cond_goes_on;
+      bars = no_sign;
+      heads = begins_nested;
+    }
 
 abbrev pub a_cond : Shape Cond
 a_cond = record { rule = syntax.cond; cont = cond_goes_on; bars = no_sign; heads = begins_nested }

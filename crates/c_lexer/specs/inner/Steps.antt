@@ -1,7 +1,9 @@
 -- What the reader finds at a place, as functions: the contracts of its parts.
-use Rattle.std.specs.Prelude.{ℕ, ◌+◌, ◌==◌, ◌&&◌, ◌||◌, Bool, true, false, cond, Option, Some, None, List, [], ◌∷◌, drop, filter, slice_index, codes}
+use Rattle.std.specs.Prelude.{ℕ, ◌+◌, ◌==◌, ◌&&◌, ◌||◌, Bool, true, false, cond, Option, Some, None, List, [], ◌∷◌}
+use Rattle.std.specs.Prelude.{drop, filter, slice_index, codes}
 use Rattle.std.specs.List.{prefix_len, list_any}
-use Rattle.c_lexer.specs.Bytes.{is_letter, is_digit, is_word_byte, is_number_byte, is_gap, is_space, is_quote, is_newline, is_no_newline, is_solid}
+use Rattle.c_lexer.specs.Bytes.{is_letter, is_digit, is_word_byte, is_number_byte, is_gap, is_space, is_quote}
+use Rattle.c_lexer.specs.Bytes.{is_newline, is_no_newline, is_solid}
 use Rattle.c_lexer.specs.Lexemes.{short_marks, refused_marks}
 use Rattle.c_lexer.specs.Places.{place_after, is_fresh}
 use Rattle.c_lexer.specs.Skips.{first_line}
@@ -13,7 +15,8 @@ use Rattle.c_lexer.specs.declared.step.Step.TheVariants.{Skip, Take, Unclosed, N
 use Rattle.c_lexer.specs.declared.token.TokKind.TheVariants.{Word, Number, Mark, Quoted, Hash, Refused}
 
 abbrev pub class_of : ℕ → Class
-class_of b = cond (is_space b) Space (cond (is_letter b) Letter (cond (is_digit b) Digit (cond (is_quote b) Quote (cond (b == 35) Sharp Sign))))
+class_of b = cond (is_space b) Space
+    (cond (is_letter b) Letter (cond (is_digit b) Digit (cond (is_quote b) Quote (cond (b == 35) Sharp Sign))))
 
 abbrev pub cursor_after : List ℕ → Cursor
 cursor_after front = record { place = place_after front; fresh = is_fresh front }
@@ -21,8 +24,18 @@ cursor_after front = record { place = place_after front; fresh = is_fresh front 
 -- the cursor behind one more byte
 abbrev pub moved : Cursor → ℕ → Cursor
 moved cursor b = cond (is_newline b)
-    (record { place = record { offset = cursor.place.offset + 1; line = cursor.place.line + 1; column = 1 }; fresh = true })
-    (record { place = record { offset = cursor.place.offset + 1; line = cursor.place.line; column = cursor.place.column + 1 }; fresh = cursor.fresh && is_gap b })
+    (record {
+      place = record { offset = cursor.place.offset + 1; line = cursor.place.line + 1; column = 1 };
+      fresh = true;
+    })
+    (record {
+      place = record {
+        offset = cursor.place.offset + 1;
+        line = cursor.place.line;
+        column = cursor.place.column + 1;
+      };
+      fresh = cursor.fresh && is_gap b;
+    })
 
 -- where a quotation ends, counted from i on; escaped says that a backslash stands before
 abbrev pub quote_end : ℕ → Bool → ℕ → List ℕ → Option ℕ
@@ -53,7 +66,8 @@ is_include line = (spells line (codes "#include<stdlib.h>") || spells line (code
 
 -- whether the two bytes are a mark
 abbrev pub is_long_mark : ℕ → ℕ → Bool
-is_long_mark a b = cond (a == 45) (b == 62) (cond (a == 61 || a == 33) (b == 61) (cond (a == 38) (b == 38) (cond (a == 124) (b == 124) false)))
+is_long_mark a b = cond (a == 45) (b == 62)
+    (cond (a == 61 || a == 33) (b == 61) (cond (a == 38) (b == 38) (cond (a == 124) (b == 124) false)))
 
 abbrev pub quote_step : Option ℕ → Step
 quote_step None = Nothing
@@ -78,7 +92,8 @@ sign_step rest =
 
 -- what stands at a number sign
 abbrev pub sharp_step : Bool → List ℕ → Step
-sharp_step fresh rest = cond (fresh && is_include (first_line rest)) (Skip (prefix_len is_no_newline rest)) (Take Hash 1)
+sharp_step fresh rest = cond (fresh && is_include (first_line rest)) (Skip (prefix_len is_no_newline rest))
+    (Take Hash 1)
 
 abbrev pub class_step : Class → Bool → List ℕ → Step
 class_step Space fresh rest = Skip 1

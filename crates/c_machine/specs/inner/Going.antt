@@ -9,7 +9,8 @@ use Rattle.c_types.specs.Runs.{advance, go, at_end, own_line}
 -- at most n further steps, after `step` steps
 abbrev pub going : List Shape → ℕ → ℕ → Items → Store → List ℕ → ℕ → Outcome
 going shapes zero step is s cs used = at_end is step
-going shapes (suc n) step is s cs used = advance shapes own_line at_end is (λ step' js t ds u. go shapes own_line at_end n step' js t ds u) step s cs used
+going shapes (suc n) step is s cs used =
+    advance shapes own_line at_end is (λ step' js t ds u. go shapes own_line at_end n step' js t ds u) step s cs used
 
 -- the choice, or 0 where there is none
 abbrev pub or_none : Option ℕ → ℕ

@@ -2,7 +2,8 @@
 use Rattle.std.specs.Prelude.{List, [], ◌∷◌, map, Bool, false, ◌||◌}
 use Rattle.fore_base.specs.declared.store.Value.{Value}
 use Rattle.c_types.specs.declared.program.Stmt.{Stmt, Stmt-F, fold-Stmt}
-use Rattle.c_types.specs.declared.program.Stmt.TheOpen.{Do as Do-F, Branch as Branch-F, While as While-F, DoWhile as DoWhile-F, For as For-F, Group as Group-F}
+use Rattle.c_types.specs.declared.program.Stmt.TheOpen.{Do as Do-F, Branch as Branch-F, While as While-F}
+use Rattle.c_types.specs.declared.program.Stmt.TheOpen.{DoWhile as DoWhile-F, For as For-F, Group as Group-F}
 use Rattle.c_types.specs.Losses.{hold_cell}
 
 -- one of them is true

@@ -1,5 +1,6 @@
 -- Marking the cells that values name.
-use Rattle.std.specs.Prelude.{◌≡◌, ◌≤◌, ℕ, suc, Bool, true, false, length, List, [], ◌∷◌, ◌++◌, if◌then◌else◌, Option, Some, None, slice_index_or, slice_set}
+use Rattle.std.specs.Prelude.{◌≡◌, ◌≤◌, ℕ, suc, Bool, true, false, length, List, [], ◌∷◌, ◌++◌, if◌then◌else◌, Option}
+use Rattle.std.specs.Prelude.{Some, None, slice_index_or, slice_set}
 use Rattle.fore_base.specs.declared.store.Value.{Value}
 use Rattle.fore_base.specs.declared.store.Value.TheVariants.{Null, Uninit, Dangling, Cell}
 use Rattle.fore_base.specs.declared.store.CellRec.{CellRec}
@@ -30,12 +31,14 @@ abbrev pub HasRoomFor : ℕ → Marks → Type 0
 HasRoomFor count m = (count ≤ vec_capacity m.reached) × (count ≤ vec_capacity m.order)
 
 abbrev pub IsAsRoomy : Marks → Marks → Type 0
-IsAsRoomy old new = (vec_capacity old.reached ≤ vec_capacity new.reached) × (vec_capacity old.order ≤ vec_capacity new.order)
+IsAsRoomy old new = (vec_capacity old.reached ≤ vec_capacity new.reached)
+    × (vec_capacity old.order ≤ vec_capacity new.order)
 
 -- the marks with the cell at a position marked, if there is one and it was not
 abbrev pub noted_at : Option ℕ → Marked → Marked
 noted_at None m = m
-noted_at (Some i) m = if slice_index_or m.reached i true then m else record { reached = slice_set m.reached i true; order = m.order ++ i ∷ [] }
+noted_at (Some i) m = if slice_index_or m.reached i true then m
+    else record { reached = slice_set m.reached i true; order = m.order ++ i ∷ [] }
 
 -- with the cell marked that a value names
 abbrev pub noted : List CellRec → Value → Marked → Marked

@@ -10,7 +10,8 @@ use Rattle.c_types.specs.declared.program.Act.{Act}
 use Rattle.c_types.specs.declared.program.Act.TheVariants.{SetPtr, SetData, Free, Error, Halt, Return, Break, Continue}
 use Rattle.c_types.specs.Steps.{blank}
 use Rattle.c_machine.specs.declared.items.Front.{Front}
-use Rattle.c_machine.specs.declared.items.Front.TheVariants.{Shut, Asked, Act as FrontAct, Test as FrontTest, Truth, Close as FrontClose, Nothing}
+use Rattle.c_machine.specs.declared.items.Front.TheVariants.{Shut, Asked, Act as FrontAct, Test as FrontTest, Truth}
+use Rattle.c_machine.specs.declared.items.Front.TheVariants.{Close as FrontClose, Nothing}
 use Rattle.c_machine.specs.declared.spares.Rooms.{Rooms}
 use Rattle.c_machine.specs.inner.Marking.{HasRoomFor}
 

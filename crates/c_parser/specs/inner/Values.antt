@@ -13,8 +13,10 @@ use Rattle.c_grammar.specs.inner.Sets.{no_sign}
 
 -- the end of the names, or a comma and one more
 abbrev pub ValueStep : ℕ → List Token → List Token → Option Name → Type 0
-ValueStep n ts rest None = (p : List Name × (Option Token × Token)) × (p.0 ≡ []) × Takes (λ n. more_names) no_sign no_sign n ts rest p
-ValueStep n ts rest (Some x) = (t : Token) × (w : Token) × (ts ≡ t ∷ (w ∷ rest)) × (sign_of t ≡ sign.Comma) × (sign_of w ≡ sign.Id) × (x ≡ name_of w)
+ValueStep n ts rest None = (p : List Name × (Option Token × Token)) × (p.0 ≡ [])
+    × Takes (λ n. more_names) no_sign no_sign n ts rest p
+ValueStep n ts rest (Some x) = (t : Token) × (w : Token) × (ts ≡ t ∷ (w ∷ rest)) × (sign_of t ≡ sign.Comma)
+    × (sign_of w ≡ sign.Id) × (x ≡ name_of w)
 
 -- neither
 abbrev pub ValueStops : ℕ → Place → List Token → SyntaxFault → Type 0

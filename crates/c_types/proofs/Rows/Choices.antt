@@ -9,7 +9,8 @@ use Rattle.c_types.specs.declared.outcome.Outcome.TheVariants.{Ended, Fault, Sta
 use Rattle.c_types.specs.Program.{Program}
 use Rattle.c_types.specs.Runs.{run}
 use Rattle.c_types.proofs.Layers.{layers}
-use Rattle.c_types.proofs.Rows.Forms.{items, var, key, choice, literal, is_set, has, null, new, copy, free, put, copy_data, choose, error, halt, leave, break, continue, main}
+use Rattle.c_types.proofs.Rows.Forms.{items, var, key, choice, literal, is_set, has, null, new, copy, free, put}
+use Rattle.c_types.proofs.Rows.Forms.{copy_data, choose, error, halt, leave, break, continue, main}
 
 -- 2 x = nondet_bool();  if (x == 1 3) 4 error();  5 return 0;
 abbrev chosen : Program
@@ -33,7 +34,9 @@ two_is_bad = simp layers refl
 
 -- 2 x = nondet_bool();  3 y = nondet_bool();  if (x == 1 4 && y == 0 5) 6 error();  7 return 0;
 abbrev chosen_twice : Program
-chosen_twice = main [] 0 2 (choose (DataVar 0) 2 ∷ choose (DataVar 1) 3 ∷ Branch (All (has 0 1 4 ∷ has 1 0 5 ∷ [])) (error 6 ∷ []) [] ∷ leave 7 ∷ []) 8
+chosen_twice = main [] 0 2
+    (choose (DataVar 0) 2 ∷ choose (DataVar 1) 3 ∷ Branch (All (has 0 1 4 ∷ has 1 0 5 ∷ [])) (error 6 ∷ []) [] ∷ leave 7
+    ∷ []) 8
 
 in_their_order : run (chosen_twice) (1 ∷ 0 ∷ []) 20 ≡ Fault Assertion 6 5
 unfolding leaks run
@@ -105,7 +108,13 @@ unfolding leaks run
 then_the_target = simp layers refl
 
 -- what takes no choice leaves the list alone: one of each, then 9 x = nondet_bool();  if (x == 1 10) 11 error();
-untouched : run (main items 1 2 (null (var 0) 1 ∷ new (var 0) 2 ∷ copy (var 0) (var 0) 3 ∷ put (DataVar 1) 5 4 ∷ copy_data (DataVar 1) (DataVar 1) 5 ∷ Branch (literal true 6) [] [] ∷ Branch (is_set 0 7) [] [] ∷ Branch (has 1 5 8) [] [] ∷ free (var 0) 9 ∷ Group [] [] (1 ∷ []) 9 ∷ While (literal true 9) (break 9 ∷ []) ∷ DoWhile (literal false 9) (continue 9 ∷ []) ∷ choose (DataVar 0) 9 ∷ Branch (has 0 1 10) (error 11 ∷ []) [] ∷ []) 12) (1 ∷ []) 30 ≡ Fault Assertion 11 17
+untouched :
+    run
+    (main items 1 2 (null (var 0) 1 ∷ new (var 0) 2 ∷ copy (var 0) (var 0) 3 ∷ put (DataVar 1) 5 4
+    ∷ copy_data (DataVar 1) (DataVar 1) 5 ∷ Branch (literal true 6) [] [] ∷ Branch (is_set 0 7) [] []
+    ∷ Branch (has 1 5 8) [] [] ∷ free (var 0) 9 ∷ Group [] [] (1 ∷ []) 9 ∷ While (literal true 9) (break 9 ∷ [])
+    ∷ DoWhile (literal false 9) (continue 9 ∷ []) ∷ choose (DataVar 0) 9 ∷ Branch (has 0 1 10) (error 11 ∷ []) [] ∷ [])
+    12) (1 ∷ []) 30 ≡ Fault Assertion 11 17
 unfolding leaks run
 untouched = simp layers refl
 

@@ -11,7 +11,8 @@ use Rattle.c_types.specs.declared.outcome.Outcome.TheVariants.{Ended, Fault, Sta
 use Rattle.c_types.specs.Program.{Program}
 use Rattle.c_types.specs.Runs.{run}
 use Rattle.c_types.proofs.Layers.{layers}
-use Rattle.c_types.proofs.Rows.Forms.{nodes, var, arrow, choice, literal, compare, is_set, has, null, put, error, leave, main}
+use Rattle.c_types.proofs.Rows.Forms.{nodes, var, arrow, choice, literal, compare, is_set, has, null, put, error, leave}
+use Rattle.c_types.proofs.Rows.Forms.{main}
 
 -- 2 .. 7 if (c) 8 error();  else 9 return 0;
 abbrev if_so : Cond → Program
@@ -148,19 +149,29 @@ unfolding leaks run
 and_in_or_skips = simp layers refl
 
 -- 2 p = NULL;  if (p != NULL 3 && p->next == NULL 4) 8 error();  9 return 0;
-and_guards : run (main nodes 1 0 (null (var 0) 2 ∷ Branch (All (is_set 0 3 ∷ compare (OpPath (arrow 0 0)) OpNull true 4 ∷ [])) (error 8 ∷ []) [] ∷ leave 9 ∷ []) 10) [] 20 ≡ Ended 3
+and_guards :
+    run
+    (main nodes 1 0
+    (null (var 0) 2 ∷ Branch (All (is_set 0 3 ∷ compare (OpPath (arrow 0 0)) OpNull true 4 ∷ [])) (error 8 ∷ []) []
+    ∷ leave 9 ∷ []) 10) [] 20 ≡ Ended 3
 unfolding leaks run
 and_guards = simp layers refl
 
 -- the same with ||: the second atom meets its fault in its own line
-or_does_not : run (main nodes 1 0 (null (var 0) 2 ∷ Branch (Any (is_set 0 3 ∷ compare (OpPath (arrow 0 0)) OpNull true 4 ∷ [])) (error 8 ∷ []) [] ∷ leave 9 ∷ []) 10) [] 20 ≡ Fault NullDeref 4 3
+or_does_not :
+    run
+    (main nodes 1 0
+    (null (var 0) 2 ∷ Branch (Any (is_set 0 3 ∷ compare (OpPath (arrow 0 0)) OpNull true 4 ∷ [])) (error 8 ∷ []) []
+    ∷ leave 9 ∷ []) 10) [] 20 ≡ Fault NullDeref 4 3
 unfolding leaks run
 or_does_not = simp layers refl
 
 -- the side that is taken stands before what follows, the other is gone
 -- if (nondet() 2) 3 x = 1; else 4 x = 2;  assert(x == 1); 5  6 return 0;
 abbrev sides : Program
-sides = main [] 0 1 (Branch (choice 2) (put (DataVar 0) 1 3 ∷ []) (put (DataVar 0) 2 4 ∷ []) ∷ Branch (has 0 1 5) [] (error 5 ∷ []) ∷ leave 6 ∷ []) 7
+sides =
+    main [] 0 1 (Branch (choice 2) (put (DataVar 0) 1 3 ∷ []) (put (DataVar 0) 2 4 ∷ [])
+    ∷ Branch (has 0 1 5) [] (error 5 ∷ []) ∷ leave 6 ∷ []) 7
 
 yes_side : run (sides) (1 ∷ []) 20 ≡ Ended 4
 unfolding leaks run

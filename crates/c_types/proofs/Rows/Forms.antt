@@ -7,13 +7,15 @@ use Rattle.c_types.specs.declared.program.Path.{Path}
 use Rattle.c_types.specs.declared.program.DataPath.{DataPath}
 use Rattle.c_types.specs.declared.program.DataPath.TheVariants.{Var as DataVar, Field as DataField}
 use Rattle.c_types.specs.declared.program.PtrRhs.TheVariants.{Path as RhsPath, Null as RhsNull, New as RhsNew}
-use Rattle.c_types.specs.declared.program.DataRhs.TheVariants.{Path as DataRhsPath, Known as DataRhsKnown, Choice as DataRhsChoice}
+use Rattle.c_types.specs.declared.program.DataRhs.TheVariants.{Path as DataRhsPath, Known as DataRhsKnown}
+use Rattle.c_types.specs.declared.program.DataRhs.TheVariants.{Choice as DataRhsChoice}
 use Rattle.c_types.specs.declared.program.Act.TheVariants.{SetPtr, SetData, Free, Error, Halt, Return, Break, Continue}
 use Rattle.c_types.specs.declared.program.PtrOp.{PtrOp}
 use Rattle.c_types.specs.declared.program.PtrOp.TheVariants.{Path as OpPath, Null as OpNull}
 use Rattle.c_types.specs.declared.program.DataOp.{DataOp}
 use Rattle.c_types.specs.declared.program.DataOp.TheVariants.{Path as DataOpPath, Known as DataOpKnown}
-use Rattle.c_types.specs.declared.program.Atom.TheVariants.{Choice as ChoiceAtom, Known as KnownAtom, Ptr as PtrAtom, Data as DataAtom}
+use Rattle.c_types.specs.declared.program.Atom.TheVariants.{Choice as ChoiceAtom, Known as KnownAtom, Ptr as PtrAtom}
+use Rattle.c_types.specs.declared.program.Atom.TheVariants.{Data as DataAtom}
 use Rattle.c_types.specs.declared.program.Cond.{Cond}
 use Rattle.c_types.specs.declared.program.Cond.TheVariants.{Atom}
 use Rattle.c_types.specs.declared.program.Stmt.{Stmt}
@@ -131,9 +133,19 @@ block body = Group body [] [] 0
 -- a program over structs, with so many pointer and data variables, whose block ends in the line given
 abbrev pub main : List Shape → ℕ → ℕ → List Stmt → ℕ → Program
 main shapes ptrs datums body close =
-    record { shapes = record { structs = shapes }; vars = replicate ptrs (record { name = []; shape = 0 }); data_vars = replicate datums []; body = Group body [] [] close ∷ [] }
+    record {
+      shapes = record { structs = shapes };
+      vars = replicate ptrs (record { name = []; shape = 0 });
+      data_vars = replicate datums [];
+      body = Group body [] [] close ∷ [];
+    }
 
 -- the same, whose block declares these variables
 abbrev pub main_with : List Shape → ℕ → ℕ → List Stmt → List ℕ → List ℕ → ℕ → Program
 main_with shapes ptrs datums body ps ds close =
-    record { shapes = record { structs = shapes }; vars = replicate ptrs (record { name = []; shape = 0 }); data_vars = replicate datums []; body = Group body ps ds close ∷ [] }
+    record {
+      shapes = record { structs = shapes };
+      vars = replicate ptrs (record { name = []; shape = 0 });
+      data_vars = replicate datums [];
+      body = Group body ps ds close ∷ [];
+    }

@@ -142,7 +142,9 @@ no_close = simp size_layers refl
 
 -- the bound is met: 2 x = 1;  if (x == 1 3 && x == 1 4) 5 x = 2;  { int y; } 6  return 0; 7
 abbrev six : Program
-six = main [] 0 2 (put (DataVar 0) 1 2 ∷ Branch (All (has 0 1 3 ∷ has 0 1 4 ∷ [])) (put (DataVar 0) 2 5 ∷ []) [] ∷ Group [] [] (1 ∷ []) 6 ∷ leave 7 ∷ []) 8
+six =
+    main [] 0 2 (put (DataVar 0) 1 2 ∷ Branch (All (has 0 1 3 ∷ has 0 1 4 ∷ [])) (put (DataVar 0) 2 5 ∷ []) []
+    ∷ Group [] [] (1 ∷ []) 6 ∷ leave 7 ∷ []) 8
 
 six_at_most : most_steps six ≡ 6
 unfolding most_steps

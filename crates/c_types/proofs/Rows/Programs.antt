@@ -15,15 +15,20 @@ empty_program : is_typed (of [] [] []) ≡ true
 unfolding is_typed
 empty_program = refl
 
-field_of_no_struct : is_typed (of (record { name = []; fields = (pointer_to 0 ∷ pointer_to 1 ∷ []) } ∷ []) [] []) ≡ false
+field_of_no_struct : is_typed (of (record { name = []; fields = (pointer_to 0 ∷ pointer_to 1 ∷ []) } ∷ []) [] [])
+    ≡ false
 unfolding is_typed
 field_of_no_struct = refl
 
-field_of_the_other_struct : is_typed (of (record { name = []; fields = (pointer_to 1 ∷ []) } ∷ record { name = []; fields = (datum ∷ []) } ∷ []) [] []) ≡ true
+field_of_the_other_struct :
+    is_typed
+    (of (record { name = []; fields = (pointer_to 1 ∷ []) } ∷ record { name = []; fields = (datum ∷ []) } ∷ []) [] [])
+    ≡ true
 unfolding is_typed
 field_of_the_other_struct = refl
 
-second_struct_wrong : is_typed (of (record { name = []; fields = [] } ∷ record { name = []; fields = (pointer_to 2 ∷ []) } ∷ []) [] []) ≡ false
+second_struct_wrong : is_typed
+    (of (record { name = []; fields = [] } ∷ record { name = []; fields = (pointer_to 2 ∷ []) } ∷ []) [] []) ≡ false
 unfolding is_typed
 second_struct_wrong = refl
 

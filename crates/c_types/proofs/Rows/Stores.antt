@@ -1,4 +1,5 @@
--- Rows on steps that take a reference away, on stores that fit a program, and on runs that are over. A relation is shown by a derivation, or
+-- Rows on steps that take a reference away, on stores that fit a program, and on runs that are over. A relation is
+-- shown by a derivation, or
 -- refuted.
 use Rattle.std.proofs.Common.{◌≡◌, inl, inr, ℕ, Bool, true, false, None, List, [], ◌∷◌, refl, subst, true≢false, arith}
 use Rattle.fore_base.specs.declared.fault.Fault.TheVariants.{Leak}
@@ -119,10 +120,15 @@ nothing_is_none = refl
 
 -- Stores that fit
 
--- struct node { struct node *next; };  struct item { struct node *head; int key; };  struct node *p; struct item *q; int x;
+-- struct node { struct node *next; };  struct item { struct node *head; int key; };  struct node *p; struct item *q;
+-- int x;
 abbrev both : Program
 both = record {
-  shapes = record { structs = record { name = []; fields = pointer_to 0 ∷ [] } ∷ record { name = []; fields = pointer_to 0 ∷ datum ∷ [] } ∷ [] };
+  shapes =
+      record {
+        structs = record { name = []; fields = pointer_to 0 ∷ [] }
+            ∷ record { name = []; fields = pointer_to 0 ∷ datum ∷ [] } ∷ [];
+      };
   vars = record { name = []; shape = 0 } ∷ record { name = []; shape = 1 } ∷ [];
   data_vars = [] ∷ [];
   body = [];
@@ -142,7 +148,10 @@ it_fits : FitsProgram both (with (Dangling ∷ Cell 7 ∷ []) (Undefined ∷ [])
 it_fits = record {
   vars = (tt, (inr (inl (refl, refl)), tt));
   data_vars = refl;
-  cells = (record { shape = omega arith; fields = (tt, tt); datums = refl }, (record { shape = omega arith; fields = (inl (refl, refl), tt); datums = refl }, tt));
+  cells = (
+    record { shape = omega arith; fields = (tt, tt); datums = refl },
+    (record { shape = omega arith; fields = (inl (refl, refl), tt); datums = refl }, tt),
+  );
 }
 
 no_cells_fit : FitsProgram both (with (Null ∷ Uninit ∷ []) (Known 1 ∷ []) [])
@@ -174,8 +183,14 @@ no_datum f = let wrong : 0 ≡ 1 = f.cells.0.datums in omega (arith, wrong)
 no_field : FitsProgram both (with (Null ∷ Null ∷ []) (Undefined ∷ []) (cell_of 4 0 [] [] ∷ [])) → ⊥
 no_field f = f.cells.0.fields
 
-field_of_another_struct : FitsProgram both (with (Null ∷ Null ∷ []) (Undefined ∷ []) (cell_of 4 0 [] (Cell 7 ∷ []) ∷ an_item ∷ [])) → ⊥
-field_of_another_struct f = elim f.cells.0.fields.0 [ inl e ↦ (let wrong : 4 ≡ 7 = e.0 in omega (arith, wrong)) | inr g ↦ (elim g [ inl e ↦ (let wrong : 1 ≡ 0 = e.1 in omega (arith, wrong)) | inr n ↦ n ]) ]
+field_of_another_struct :
+    FitsProgram both (with (Null ∷ Null ∷ []) (Undefined ∷ []) (cell_of 4 0 [] (Cell 7 ∷ []) ∷ an_item ∷ [])) → ⊥
+field_of_another_struct f =
+    elim f.cells.0.fields.0 [
+      | inl e ↦ (let wrong : 4 ≡ 7 = e.0 in omega (arith, wrong))
+      | inr g ↦
+          (elim g [ inl e ↦ (let wrong : 1 ≡ 0 = e.1 in omega (arith, wrong)) | inr n ↦ n ])
+    ]
 
 -- Typed items
 
@@ -237,10 +252,13 @@ makes = main nodes 1 0 (new (var 0) 2 ∷ []) 3
 makes_items : start_of makes ≡ Do (SetPtr (var 0) (RhsNew 0)) 2 Done
 makes_items = simp layers refl
 
-at_first : Visited makes (Do (SetPtr (var 0) (RhsNew 0)) 2 Done) (record { vars = Uninit ∷ []; data_vars = []; cells = []; next = 1 })
-at_first = subst (λ is. Visited makes is (record { vars = Uninit ∷ []; data_vars = []; cells = []; next = 1 })) makes_items start
+at_first : Visited makes (Do (SetPtr (var 0) (RhsNew 0)) 2 Done)
+    (record { vars = Uninit ∷ []; data_vars = []; cells = []; next = 1 })
+at_first = subst (λ is. Visited makes is (record { vars = Uninit ∷ []; data_vars = []; cells = []; next = 1 }))
+    makes_items start
 
-after_one : Visited makes Done (record { vars = Cell 1 ∷ []; data_vars = []; cells = cell_of 1 0 [] (Uninit ∷ []) ∷ []; next = 2 })
+after_one : Visited makes Done
+    (record { vars = Cell 1 ∷ []; data_vars = []; cells = cell_of 1 0 [] (Uninit ∷ []) ∷ []; next = 2 })
 unfolding leaks
 after_one = step 0 at_first refl
 

@@ -13,18 +13,27 @@ use Rattle.c_types.specs.declared.program.Stmt.{Stmt}
 use Rattle.c_types.specs.declared.program.Stmt.TheVariants.{Do, Branch, While, DoWhile, For, Group}
 use Rattle.c_types.specs.Program.{Program, is_typed}
 use Rattle.c_types.proofs.Layers.{typed_layers}
-use Rattle.c_types.proofs.Rows.Forms.{pointer_to, datum, var, arrow, arrows, key, choice, literal, compare, compare_data, has, null, copy, free, put, copy_data, choose, error, halt, leave, break, continue, block}
+use Rattle.c_types.proofs.Rows.Forms.{pointer_to, datum, var, arrow, arrows, key, choice, literal, compare}
+use Rattle.c_types.proofs.Rows.Forms.{compare_data, has, null, copy, free, put, copy_data, choose, error, halt, leave}
+use Rattle.c_types.proofs.Rows.Forms.{break, continue, block}
 
 -- struct node { struct node *next; };  struct item { struct node *head; int key; struct item *twin; int mark; };
 abbrev pub both : List Shape
-both = record { name = []; fields = (pointer_to 0 ∷ []) } ∷ record { name = []; fields = (pointer_to 0 ∷ datum ∷ pointer_to 1 ∷ datum ∷ []) } ∷ []
+both = record { name = []; fields = (pointer_to 0 ∷ []) }
+    ∷ record { name = []; fields = (pointer_to 0 ∷ datum ∷ pointer_to 1 ∷ datum ∷ []) } ∷ []
 
 abbrev pub variable : ℕ → VarDef
 variable shape = record { name = []; shape = shape }
 
 -- struct node *p; struct item *q, *r; int x, y;
 abbrev pub program : List Stmt → Program
-program body = record { shapes = record { structs = both }; vars = (variable 0 ∷ variable 1 ∷ variable 1 ∷ []); data_vars = ([] ∷ [] ∷ []); body = body }
+program body =
+    record {
+      shapes = record { structs = both };
+      vars = (variable 0 ∷ variable 1 ∷ variable 1 ∷ []);
+      data_vars = ([] ∷ [] ∷ []);
+      body = body;
+    }
 
 -- a statement in main's block is typed
 abbrev accepts : Stmt → Bool

@@ -8,13 +8,38 @@ use Rattle.c_typing.specs.Globals.{globals_of, struct_number, value_of, field_us
 use Rattle.c_typing.specs.declared.meaning.FieldUse.TheVariants as use_of
 use Rattle.c_typing.proofs.Rows.Forms.{at, name, file}
 
--- struct none; struct node { struct node *next; int key; }; struct item { struct node *head; struct item *twin; struct none *lost; int mark; }; enum color { RED, BLUE };
-file_of_the_rows : globals_of (item.Struct (at 200) (name (codes "none") 201) None ∷ item.Struct (at 203) (name (codes "node") 204) (Some (field.Pointers (at 206) (name (codes "node") 207) ((name (codes "next") 209) ∷ []) ∷ field.Datums (data'.Int (at 211)) ((name (codes "key") 212) ∷ []) ∷ [])) ∷ item.Struct (at 216) (name (codes "item") 217) (Some (field.Pointers (at 219) (name (codes "node") 220) ((name (codes "head") 222) ∷ []) ∷ field.Pointers (at 224) (name (codes "item") 225) ((name (codes "twin") 227) ∷ []) ∷ field.Pointers (at 229) (name (codes "none") 230) ((name (codes "lost") 232) ∷ []) ∷ field.Datums (data'.Int (at 234)) ((name (codes "mark") 235) ∷ []) ∷ [])) ∷ item.Enum (at 239) (name (codes "color") 240) ((name (codes "RED") 242) ∷ (name (codes "BLUE") 244) ∷ []) ∷ []) ≡ file
+-- struct none; struct node { struct node *next; int key; }; struct item { struct node *head; struct item *twin; struct
+-- none *lost; int mark; }; enum color { RED, BLUE };
+file_of_the_rows : globals_of
+    (item.Struct (at 200) (name (codes "none") 201) None
+    ∷ item.Struct (at 203) (name (codes "node") 204)
+    (Some (field.Pointers (at 206) (name (codes "node") 207) ((name (codes "next") 209) ∷ [])
+    ∷ field.Datums (data'.Int (at 211)) ((name (codes "key") 212) ∷ []) ∷ []))
+    ∷ item.Struct (at 216) (name (codes "item") 217)
+    (Some (field.Pointers (at 219) (name (codes "node") 220) ((name (codes "head") 222) ∷ [])
+    ∷ field.Pointers (at 224) (name (codes "item") 225) ((name (codes "twin") 227) ∷ [])
+    ∷ field.Pointers (at 229) (name (codes "none") 230) ((name (codes "lost") 232) ∷ [])
+    ∷ field.Datums (data'.Int (at 234)) ((name (codes "mark") 235) ∷ []) ∷ []))
+    ∷ item.Enum (at 239) (name (codes "color") 240) ((name (codes "RED") 242) ∷ (name (codes "BLUE") 244) ∷ []) ∷ [])
+    ≡ file
 file_of_the_rows = refl
 
--- struct a { int x; struct b *y; int x; struct a *z; }; struct b { int w; }; struct a { int q; struct a *y; }; enum e { A, B, A }; enum e { B, C };
+-- struct a { int x; struct b *y; int x; struct a *z; }; struct b { int w; }; struct a { int q; struct a *y; }; enum e {
+-- A, B, A }; enum e { B, C };
 abbrev repeated : List Item
-repeated = item.Struct (at 200) (name (codes "a") 201) (Some (field.Datums (data'.Int (at 203)) ((name (codes "x") 204) ∷ []) ∷ field.Pointers (at 206) (name (codes "b") 207) ((name (codes "y") 209) ∷ []) ∷ field.Datums (data'.Int (at 211)) ((name (codes "x") 212) ∷ []) ∷ field.Pointers (at 214) (name (codes "a") 215) ((name (codes "z") 217) ∷ []) ∷ [])) ∷ item.Struct (at 221) (name (codes "b") 222) (Some (field.Datums (data'.Int (at 224)) ((name (codes "w") 225) ∷ []) ∷ [])) ∷ item.Struct (at 229) (name (codes "a") 230) (Some (field.Datums (data'.Int (at 232)) ((name (codes "q") 233) ∷ []) ∷ field.Pointers (at 235) (name (codes "a") 236) ((name (codes "y") 238) ∷ []) ∷ [])) ∷ item.Enum (at 242) (name (codes "e") 243) ((name (codes "A") 245) ∷ (name (codes "B") 247) ∷ (name (codes "A") 249) ∷ []) ∷ item.Enum (at 252) (name (codes "e") 253) ((name (codes "B") 255) ∷ (name (codes "C") 257) ∷ []) ∷ []
+repeated = item.Struct (at 200) (name (codes "a") 201)
+    (Some (field.Datums (data'.Int (at 203)) ((name (codes "x") 204) ∷ [])
+    ∷ field.Pointers (at 206) (name (codes "b") 207) ((name (codes "y") 209) ∷ [])
+    ∷ field.Datums (data'.Int (at 211)) ((name (codes "x") 212) ∷ [])
+    ∷ field.Pointers (at 214) (name (codes "a") 215) ((name (codes "z") 217) ∷ []) ∷ []))
+    ∷ item.Struct (at 221) (name (codes "b") 222)
+    (Some (field.Datums (data'.Int (at 224)) ((name (codes "w") 225) ∷ []) ∷ []))
+    ∷ item.Struct (at 229) (name (codes "a") 230)
+    (Some (field.Datums (data'.Int (at 232)) ((name (codes "q") 233) ∷ [])
+    ∷ field.Pointers (at 235) (name (codes "a") 236) ((name (codes "y") 238) ∷ []) ∷ []))
+    ∷ item.Enum (at 242) (name (codes "e") 243)
+    ((name (codes "A") 245) ∷ (name (codes "B") 247) ∷ (name (codes "A") 249) ∷ [])
+    ∷ item.Enum (at 252) (name (codes "e") 253) ((name (codes "B") 255) ∷ (name (codes "C") 257) ∷ []) ∷ []
 
 -- Of two definitions of one name the first counts.
 first_struct : struct_number (globals_of repeated) (codes "a") ≡ Some 0
@@ -65,7 +90,12 @@ values_once = refl
 
 -- enum e { A0, .., A16 };: a datum is at most 15
 abbrev many : List Item
-many = item.Enum (at 200) (name (codes "e") 201) ((name (codes "A0") 203) ∷ (name (codes "A1") 205) ∷ (name (codes "A2") 207) ∷ (name (codes "A3") 209) ∷ (name (codes "A4") 211) ∷ (name (codes "A5") 213) ∷ (name (codes "A6") 215) ∷ (name (codes "A7") 217) ∷ (name (codes "A8") 219) ∷ (name (codes "A9") 221) ∷ (name (codes "A10") 223) ∷ (name (codes "A11") 225) ∷ (name (codes "A12") 227) ∷ (name (codes "A13") 229) ∷ (name (codes "A14") 231) ∷ (name (codes "A15") 233) ∷ (name (codes "A16") 235) ∷ []) ∷ []
+many = item.Enum (at 200) (name (codes "e") 201)
+    ((name (codes "A0") 203) ∷ (name (codes "A1") 205) ∷ (name (codes "A2") 207) ∷ (name (codes "A3") 209)
+    ∷ (name (codes "A4") 211) ∷ (name (codes "A5") 213) ∷ (name (codes "A6") 215) ∷ (name (codes "A7") 217)
+    ∷ (name (codes "A8") 219) ∷ (name (codes "A9") 221) ∷ (name (codes "A10") 223) ∷ (name (codes "A11") 225)
+    ∷ (name (codes "A12") 227) ∷ (name (codes "A13") 229) ∷ (name (codes "A14") 231) ∷ (name (codes "A15") 233)
+    ∷ (name (codes "A16") 235) ∷ []) ∷ []
 
 greatest_value : value_of (globals_of many) (codes "A15") ≡ Some 15
 greatest_value = refl

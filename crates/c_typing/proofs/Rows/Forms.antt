@@ -77,10 +77,16 @@ unit items n = record { items = items; over = None; end = at n }
 -- enum color { RED, BLUE };
 abbrev pub file : Globals
 file = record {
-  structs = record { name = codes "node"; fields = record { name = codes "next"; kind = Points (Some 0) } ∷ record { name = codes "key"; kind = Datum } ∷ [] }
+  structs =
+      record {
+        name = codes "node";
+        fields = record { name = codes "next"; kind = Points (Some 0) }
+            ∷ record { name = codes "key"; kind = Datum } ∷ [];
+      }
       ∷ record {
         name = codes "item";
-        fields = record { name = codes "head"; kind = Points (Some 0) } ∷ record { name = codes "twin"; kind = Points (Some 1) }
+        fields = record { name = codes "head"; kind = Points (Some 0) }
+            ∷ record { name = codes "twin"; kind = Points (Some 1) }
             ∷ record { name = codes "lost"; kind = Points None } ∷ record { name = codes "mark"; kind = Datum } ∷ [];
       } ∷ [];
   enums = codes "color" ∷ [];
@@ -90,10 +96,13 @@ file = record {
 -- in a block: struct node *p; struct item *q, *r; int x, y;
 abbrev pub here : Scope
 here = record {
-  blocks = (record { name = codes "y"; kind = Datum; number = 1 } ∷ record { name = codes "x"; kind = Datum; number = 0 }
-      ∷ record { name = codes "r"; kind = Points (Some 1); number = 2 } ∷ record { name = codes "q"; kind = Points (Some 1); number = 1 }
+  blocks =
+      (record { name = codes "y"; kind = Datum; number = 1 } ∷ record { name = codes "x"; kind = Datum; number = 0 }
+      ∷ record { name = codes "r"; kind = Points (Some 1); number = 2 }
+      ∷ record { name = codes "q"; kind = Points (Some 1); number = 1 }
       ∷ record { name = codes "p"; kind = Points (Some 0); number = 0 } ∷ []) ∷ [];
-  vars = record { name = codes "p"; shape = 0 } ∷ record { name = codes "q"; shape = 1 } ∷ record { name = codes "r"; shape = 1 } ∷ [];
+  vars = record { name = codes "p"; shape = 0 } ∷ record { name = codes "q"; shape = 1 }
+      ∷ record { name = codes "r"; shape = 1 } ∷ [];
   data_vars = codes "x" ∷ codes "y" ∷ [];
 }
 

@@ -47,5 +47,6 @@ by_column : before (Rule 5 (place 3 1 9)) (Rule 5 (place 3 1 4)) ≡ false
 by_column = refl
 
 -- the first of three
-first_of_three : IsFirst (Rule 5 (place 3 1 4)) (Limit 4 (place 3 1 4) ∷ Rule 5 (place 3 1 4) ∷ Rule 1 (place 7 1 8) ∷ [])
+first_of_three : IsFirst (Rule 5 (place 3 1 4))
+    (Limit 4 (place 3 1 4) ∷ Rule 5 (place 3 1 4) ∷ Rule 1 (place 7 1 8) ∷ [])
 first_of_three = (inr (inl refl), (refl, (refl, (refl, tt))))

@@ -24,4 +24,5 @@ root_arcs marks (q ∷ qs) = if slice_index_or marks q false then first_arc q �
 -- from the state of each rule to each of its children, where all these have marks
 abbrev pub rule_arcs : List Bool → List Rule → List Arc
 rule_arcs marks [] = []
-rule_arcs marks (r ∷ rs) = (if all_marked marks r.children then map (down_arc r.state) r.children else []) ++ rule_arcs marks rs
+rule_arcs marks (r ∷ rs) = (if all_marked marks r.children then map (down_arc r.state) r.children else [])
+    ++ rule_arcs marks rs

@@ -23,7 +23,9 @@ IsTaken marks s = all_marked marks s.from ≡ true → IsMarked marks s.to
 
 -- the state to which the arc leads got a mark, which it did not have; or the arc was taken already
 abbrev pub Takes : Arc → List Bool → List Bool → Bool → Type 0
-Takes s old new added = MatchBool added ((slice_index_or old s.to false ≡ false) × (all_marked old s.from ≡ true) × (new ≡ slice_set old s.to true)) ((new ≡ old) × IsTaken old s)
+Takes s old new added = MatchBool added
+    ((slice_index_or old s.to false ≡ false) × (all_marked old s.from ≡ true) × (new ≡ slice_set old s.to true))
+    ((new ≡ old) × IsTaken old s)
 
 -- how many states have no mark
 abbrev pub gaps : List Bool → ℕ

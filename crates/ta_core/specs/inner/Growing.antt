@@ -23,7 +23,8 @@ IsOver rules sizes q r below = IsIn r rules × IsLeastRule sizes q r × IsSized 
 
 -- a task for the tree of a least rule of the state, and behind it, so that they come first, one for each child
 abbrev pub Asks : List Rule → List (Option ℕ) → ℕ → List (Todo ℕ Rule) → List (Todo ℕ Rule) → Type 0
-Asks rules sizes q old new = (r : Rule) × IsIn r rules × IsLeastRule sizes q r × (new ≡ old ++ build r ∷ map visit r.children)
+Asks rules sizes q old new = (r : Rule) × IsIn r rules × IsLeastRule sizes q r
+    × (new ≡ old ++ build r ∷ map visit r.children)
 
 -- the tree of the rule over these children
 abbrev pub IsTreeOf : Rule → List Tree → Tree → Type 0

@@ -25,7 +25,8 @@ keeps marks r = slice_index_or marks r.state false && all_marked marks r.childre
 -- those of the states that have marks, by f
 abbrev pub kept_states : List Bool → (ℕ → ℕ) → List ℕ → List ℕ
 kept_states marks f [] = []
-kept_states marks f (q ∷ qs) = if slice_index_or marks q false then f q ∷ kept_states marks f qs else kept_states marks f qs
+kept_states marks f (q ∷ qs) = if slice_index_or marks q false then f q ∷ kept_states marks f qs
+    else kept_states marks f qs
 
 -- those of the rules whose states have marks, by f
 abbrev pub kept_rules : List Bool → (ℕ → ℕ) → List Rule → List Rule
@@ -34,4 +35,5 @@ kept_rules marks f (r ∷ rs) = if keeps marks r then renumbered f r ∷ kept_ru
 
 -- the automaton with the marked states alone
 abbrev pub restricted : List Bool → (ℕ → ℕ) → Automaton → Automaton
-restricted marks f a = record { states = marked_count marks; roots = kept_states marks f a.roots; rules = kept_rules marks f a.rules }
+restricted marks f a = record
+    { states = marked_count marks; roots = kept_states marks f a.roots; rules = kept_rules marks f a.rules }

@@ -1,5 +1,6 @@
 -- For each state the least number of nodes of a tree that has a run to it, as far as 64 bits count.
-use Rattle.std.specs.Prelude.{◌≡◌, ℕ, ◌+◌, ◌<◌, ◌^◌, Bool, true, false, nat_lt, List, [], ◌∷◌, Option, Some, None, if◌then◌else◌, slice_index_or, slice_set, MatchBool, MatchOption, IsSome}
+use Rattle.std.specs.Prelude.{◌≡◌, ℕ, ◌+◌, ◌<◌, ◌^◌, Bool, true, false, nat_lt, List, [], ◌∷◌, Option, Some, None}
+use Rattle.std.specs.Prelude.{if◌then◌else◌, slice_index_or, slice_set, MatchBool, MatchOption, IsSome}
 use Rattle.fore_base.specs.Lists.{IsIn, Every}
 use Rattle.ta_core.specs.declared.auto.Rule.{Rule}
 use Rattle.ta_core.specs.declared.tree.Tree.{Tree}
@@ -53,7 +54,9 @@ pub record AreLeast (rules : List Rule) (sizes : List (Option ℕ)) : Type 0 whe
 
 -- the rule gave its state a smaller size, or gives none
 abbrev pub Improves : Rule → List (Option ℕ) → List (Option ℕ) → Bool → Type 0
-Improves r old new better = MatchBool better ((is_less (rule_size old r) (size_at old r.state) ≡ true) × (new ≡ slice_set old r.state (rule_size old r))) ((new ≡ old) × IsSettled old r)
+Improves r old new better =
+    MatchBool better ((is_less (rule_size old r) (size_at old r.state) ≡ true)
+    × (new ≡ slice_set old r.state (rule_size old r))) ((new ≡ old) × IsSettled old r)
 
 -- the sum of the sizes, a missing one counted as more than any
 abbrev pub size_sum : List (Option ℕ) → ℕ
@@ -71,7 +74,8 @@ IsTreeAt rules sizes q t = RunOf rules q t × (size_at sizes q ≡ Some (nodes t
 
 -- one of the states has the least size, or none has a size
 abbrev pub IsBest : List (Option ℕ) → List ℕ → Option ℕ → Type 0
-IsBest sizes qs best = MatchOption best (Every (λ q. size_at sizes q ≡ None) qs) (λ p. IsIn p qs × IsSome (size_at sizes p) × Every (λ q. is_less (size_at sizes q) (size_at sizes p) ≡ false) qs)
+IsBest sizes qs best = MatchOption best (Every (λ q. size_at sizes q ≡ None) qs)
+    (λ p. IsIn p qs × IsSome (size_at sizes p) × Every (λ q. is_less (size_at sizes q) (size_at sizes p) ≡ false) qs)
 
 -- the size as a number
 abbrev pub number : Option ℕ → ℕ

@@ -1,5 +1,6 @@
 -- The pairs of a search for inclusion, from what they are derived, and which of them cover which.
-use Rattle.std.specs.Prelude.{◌≡◌, ◌↔◌, ℕ, ◌<◌, ◌^◌, Bool, true, false, ◌&&◌, nat_lt, List, [], ◌∷◌, ◌++◌, length, map, take, slice_get, Some, MatchBool}
+use Rattle.std.specs.Prelude.{◌≡◌, ◌↔◌, ℕ, ◌<◌, ◌^◌, Bool, true, false, ◌&&◌, nat_lt, List, [], ◌∷◌, ◌++◌, length, map}
+use Rattle.std.specs.Prelude.{take, slice_get, Some, MatchBool}
 use Rattle.fore_base.specs.Lists.{IsIn, Every, Paired}
 use Rattle.ta_core.specs.Auto.{Automaton}
 use Rattle.ta_core.specs.Language.{RunOf}
@@ -47,13 +48,15 @@ sets_of = map (λ f. f.marks)
 
 -- the pairs at the places have the states of the rule's first children
 abbrev pub IsBegun : List Found → Rule → List ℕ → Type 0
-IsBegun found r places = (items : List Found) × AreAt found places items × HaveStates (take (length places) r.children) items
+IsBegun found r places = (items : List Found) × AreAt found places items
+    × HaveStates (take (length places) r.children) items
 
 -- those at the places have the states of all its children
 abbrev pub IsFull : List Found → Rule → List ℕ → Type 0
 IsFull found r places = (items : List Found) × AreAt found places items × HaveStates r.children items
 
--- f is what the rule, which has this place, gives over the pairs at f's places: its state, with all the states to which rules of b lead from their sets
+-- f is what the rule, which has this place, gives over the pairs at f's places: its state, with all the states to which
+-- rules of b lead from their sets
 pub record IsFrom (b : Automaton) (found : List Found) (place : ℕ) (r : Rule) (f : Found) : Type 0 where
   pub rule : f.rule ≡ place
   pub state : f.state ≡ r.state
@@ -68,11 +71,14 @@ IsDerived rules b found f = (r : Rule) × (slice_get rules f.rule ≡ Some r) ×
 
 -- each pair is derived from pairs at earlier places
 abbrev pub AreDerived : List Rule → Automaton → List Found → Type 0
-AreDerived rules b found = (place : ℕ) (f : Found) → slice_get found place ≡ Some f → IsDerived rules b found f × Every (λ i. i < place) f.from
+AreDerived rules b found = (place : ℕ) (f : Found) → slice_get found place ≡ Some f → IsDerived rules b found f
+    × Every (λ i. i < place) f.from
 
--- one of the pairs has the rule's state, and only states in its set to which rules of b with the symbol lead from the sets of the items
+-- one of the pairs has the rule's state, and only states in its set to which rules of b with the symbol lead from the
+-- sets of the items
 abbrev pub IsCovered : Automaton → List Found → Rule → List Found → Type 0
-IsCovered b found r items = (f : Found) × IsIn f found × (f.state ≡ r.state) × ((q : ℕ) → IsMarked f.marks q → Tops b.rules r.symbol (sets_of items) q)
+IsCovered b found r items = (f : Found) × IsIn f found × (f.state ≡ r.state)
+    × ((q : ℕ) → IsMarked f.marks q → Tops b.rules r.symbol (sets_of items) q)
 
 -- what the rule gives over the items at the places, found covers
 abbrev pub CoversAt : Automaton → List Found → List Found → Rule → List ℕ → Type 0
@@ -92,15 +98,20 @@ abbrev pub AreLasting : List Found → List Bool → Type 0
 AreLasting [] [] = Unit {0}
 AreLasting [] (m ∷ ms) = ⊥
 AreLasting (f ∷ fs) [] = ⊥
-AreLasting (f ∷ fs) (m ∷ ms) = MatchBool m (HasCover fs f.state f.marks → ⊥) (HasCover fs f.state f.marks) × AreLasting fs ms
+AreLasting (f ∷ fs) (m ∷ ms) = MatchBool m (HasCover fs f.state f.marks → ⊥) (HasCover fs f.state f.marks)
+    × AreLasting fs ms
 
--- what the rule gives over the pairs at the places and at further ones with marks, not all of which are old, found covers
+-- what the rule gives over the pairs at the places and at further ones with marks, not all of which are old, found
+-- covers
 abbrev pub CoversFrom : Automaton → List Found → Recent → List Found → Rule → List ℕ → Type 0
-CoversFrom b old recent found r places = (rest : List ℕ) (items : List Found) → AreAt old (places ++ rest) items → Every (IsMarked recent.marks) rest → HaveStates r.children items → are_old recent.start (places ++ rest) ≡ false → IsCovered b found r items
+CoversFrom b old recent found r places = (rest : List ℕ) (items : List Found) → AreAt old (places ++ rest) items
+    → Every (IsMarked recent.marks) rest → HaveStates r.children items → are_old recent.start (places ++ rest) ≡ false
+    → IsCovered b found r items
 
 -- what the rule gives over old pairs, found covers
 abbrev pub CoversRule : Automaton → List Found → List Found → Rule → Type 0
-CoversRule b old found r = (items : List Found) → Every (λ f. IsIn f old) items → HaveStates r.children items → IsCovered b found r items
+CoversRule b old found r = (items : List Found) → Every (λ f. IsIn f old) items → HaveStates r.children items
+    → IsCovered b found r items
 
 -- so for each of the rules
 abbrev pub CoversRules : Automaton → List Found → List Found → List Rule → Type 0
@@ -113,23 +124,29 @@ pub record Widens (P : Found → Type 0) (old before after : List Found) : Type 
   pub each : Every P more
   pub fresh : AreFresh (old ++ before) → AreFresh (old ++ after)
 
--- the list got pairs that the rules give over it, or it stayed; further ones would stand from this place on. It covers what the rules give over the old one
+-- the list got pairs that the rules give over it, or it stayed; further ones would stand from this place on. It covers
+-- what the rules give over the old one
 abbrev pub Grows : List Rule → Automaton → List Found → List Found → ℕ → Bool → Type 0
-Grows rules b old new start grew = MatchBool grew (Widens (IsDerived rules b old) [] old new × (length old < length new) × (length new < 2 ^ 64)) (new ≡ old) × (start ≡ length old) × CoversRules b old new rules
+Grows rules b old new start grew =
+    MatchBool grew (Widens (IsDerived rules b old) [] old new × (length old < length new) × (length new < 2 ^ 64))
+    (new ≡ old) × (start ≡ length old) × CoversRules b old new rules
 
 -- the pair has a root state of the left automaton, and none of the right one in its set
 abbrev pub IsFailing : List ℕ → List ℕ → Found → Type 0
 IsFailing lefts rights f = IsIn f.state lefts × (some_marked f.marks rights ≡ false)
 
--- the pairs are derived, and none is covered by an earlier one; and where none fails, they cover what the rules give over them
+-- the pairs are derived, and none is covered by an earlier one; and where none fails, they cover what the rules give
+-- over them
 pub record IsExplored (a b : Automaton) (found : List Found) : Type 0 where
   pub derived : AreDerived a.rules b found
   pub fresh : AreFresh found
   pub closed : Every (λ f. IsFailing a.roots b.roots f → ⊥) found → CoversRules b found found a.rules
 
--- the tree has a run of the left rules to the state of the pair at the place, and runs of b to the states of its set alone
+-- the tree has a run of the left rules to the state of the pair at the place, and runs of b to the states of its set
+-- alone
 abbrev pub IsTreeAt : List Rule → Automaton → List Found → ℕ → Tree → Type 0
-IsTreeAt rules b found place t = (f : Found) × (slice_get found place ≡ Some f) × RunOf rules f.state t × AreStatesOf b.rules b.states t f.marks
+IsTreeAt rules b found place t = (f : Found) × (slice_get found place ≡ Some f) × RunOf rules f.state t
+    × AreStatesOf b.rules b.states t f.marks
 
 -- the kept ones are of the found pairs, none is covered by another one, and each found pair is covered by one of them
 pub record IsThinned (found kept : List Found) : Type 0 where

@@ -32,4 +32,6 @@ Opens found p old new = (f : Found) × (slice_get found p ≡ Some f) × (new �
 
 -- the tree of the symbol of the pair's rule came in the place of those of the pairs from which it is derived
 abbrev pub Closes : List Rule → List Found → ℕ → List Tree → List Tree → Type 0
-Closes rules found p old new = (f : Found) × (r : Rule) × (slice_get found p ≡ Some f) × (slice_get rules f.rule ≡ Some r) × Reduces (length f.from) (λ ts t. t ≡ roll-Tree (record { symbol = r.symbol; children = ts })) old new
+Closes rules found p old new = (f : Found) × (r : Rule) × (slice_get found p ≡ Some f)
+    × (slice_get rules f.rule ≡ Some r)
+    × Reduces (length f.from) (λ ts t. t ≡ roll-Tree (record { symbol = r.symbol; children = ts })) old new

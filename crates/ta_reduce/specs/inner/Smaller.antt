@@ -19,13 +19,15 @@ pub record IsGreatest (a : Automaton) (rel : Table) : Type 0 where
 
 -- each number below its size is related to itself, and what is related is so through others
 abbrev pub IsPreorder : Table → Type 0
-IsPreorder rel = ((p : ℕ) → p < rel.size → Holds rel p p) × ((p q r : ℕ) → Holds rel p q → Holds rel q r → Holds rel p r)
+IsPreorder rel = ((p : ℕ) → p < rel.size → Holds rel p p)
+    × ((p q r : ℕ) → Holds rel p q → Holds rel q r → Holds rel p r)
 
 -- p and q are related both ways
 abbrev pub AreMutual : Table → ℕ → ℕ → Type 0
 AreMutual rel p q = Holds rel p q × Holds rel q p
 
--- numbers for the first k states: those that are related both ways have one number, and `firsts` has the first state of each number
+-- numbers for the first k states: those that are related both ways have one number, and `firsts` has the first state of
+-- each number
 pub record AreClasses (rel : Table) (k : ℕ) (numbers firsts : List ℕ) : Type 0 where
   pub long : length numbers ≡ k
   pub few : length firsts ≤ k
@@ -63,7 +65,8 @@ HasNoneNeedless rules = (i j : ℕ) → IsNeedless rules i j → i ≡ j
 
 -- b is a with each root state listed once
 abbrev pub HasRootsOnce : Automaton → Automaton → Type 0
-HasRootsOnce a b = (qs : List ℕ) × (b ≡ automaton a.states qs a.rules) × IsDistinct qs × ((q : ℕ) → IsIn q qs ↔ IsIn q a.roots)
+HasRootsOnce a b = (qs : List ℕ) × (b ≡ automaton a.states qs a.rules) × IsDistinct qs
+    × ((q : ℕ) → IsIn q qs ↔ IsIn q a.roots)
 
 -- what reduction promises of a and its answer
 pub record IsReduction (a b : Automaton) : Type 0 where

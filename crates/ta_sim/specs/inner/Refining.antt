@@ -26,4 +26,5 @@ pair_count (row ∷ rows) = marked_count row + pair_count rows
 
 -- there are fewer pairs; or the rows are as before, and a simulation
 abbrev pub Refines : List Rule → List (List Bool) → List (List Bool) → Bool → Type 0
-Refines rules old new changed = MatchBool changed (pair_count new < pair_count old) ((new ≡ old) × IsDownward rules (Relates old))
+Refines rules old new changed =
+    MatchBool changed (pair_count new < pair_count old) ((new ≡ old) × IsDownward rules (Relates old))

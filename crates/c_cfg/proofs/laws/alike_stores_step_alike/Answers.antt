@@ -10,7 +10,10 @@ pub returns-clause-keeps : goal.returns-clause-keeps
 returns-clause-keeps c = steps_proper c.args.graph.now.shapes.structs
 
 pub returns-clause-begins : goal.returns-clause-begins
-returns-clause-begins c = (empty_proper c.args.graph.now.ptrs c.args.graph.now.datums, unset_alike c.args.graph.now.ptrs c.args.graph.now.datums)
+returns-clause-begins c = (
+  empty_proper c.args.graph.now.ptrs c.args.graph.now.datums,
+  unset_alike c.args.graph.now.ptrs c.args.graph.now.datums,
+)
 
 pub returns-clause-chain : goal.returns-clause-chain
 returns-clause-chain c = alike_chain

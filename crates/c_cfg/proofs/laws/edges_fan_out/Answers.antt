@@ -6,4 +6,6 @@ pub returns-clause-fans : goal.returns-clause-fans
 returns-clause-fans c = fans c.args.program.now c.args.graph.now
 
 pub returns-clause-one : goal.returns-clause-one
-returns-clause-one c low k = one_passed c.args.graph.now.shapes.structs (out_of c.args.graph.now.edges k) (fans c.args.program.now c.args.graph.now low k)
+returns-clause-one c low k =
+    one_passed c.args.graph.now.shapes.structs (out_of c.args.graph.now.edges k)
+    (fans c.args.program.now c.args.graph.now low k)

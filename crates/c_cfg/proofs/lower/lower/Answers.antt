@@ -10,8 +10,11 @@ pub invariant_of-result : goal.invariant_of-result
 invariant_of-result c =
     let p = c.args.program.now in let e = c.in_ok-exit.exit in
     let exit : e ≡ wide_all (length p.vars) (length p.data_vars) p.body = search rules in
-    let edges : c.in_ok-edges.edges ≡ emit_all (length p.vars) (length p.data_vars) e p.body (in_loop e e) 0 e = search rules in
-    let heads : c.in_ok-heads.heads ≡ set_each (replicate (e + 1) false) (heads_all (length p.vars) (length p.data_vars) p.body 0) true = search rules in
+    let edges : c.in_ok-edges.edges ≡ emit_all (length p.vars) (length p.data_vars) e p.body (in_loop e e) 0 e =
+    search rules in
+    let heads : c.in_ok-heads.heads
+    ≡ set_each (replicate (e + 1) false) (heads_all (length p.vars) (length p.data_vars) p.body 0) true =
+    search rules in
     let locations : c.in_ok-locations.locations ≡ e + 1 = search rules in
     let few : length c.in_ok-edges.edges < 2 ^ 32 = search rules in
     record {
@@ -25,11 +28,19 @@ pub returns : goal.returns
 returns c =
     let p = c.args.program.now in let e = c.in_ok-exit.exit in
     let exit : e ≡ wide_all (length p.vars) (length p.data_vars) p.body = search rules in
-    let edges : c.in_ok-edges.edges ≡ emit_all (length p.vars) (length p.data_vars) e p.body (in_loop e e) 0 e = search rules in
-    let heads : c.in_ok-heads.heads ≡ set_each (replicate (e + 1) false) (heads_all (length p.vars) (length p.data_vars) p.body 0) true = search rules in
+    let edges : c.in_ok-edges.edges ≡ emit_all (length p.vars) (length p.data_vars) e p.body (in_loop e e) 0 e =
+    search rules in
+    let heads : c.in_ok-heads.heads
+    ≡ set_each (replicate (e + 1) false) (heads_all (length p.vars) (length p.data_vars) p.body 0) true =
+    search rules in
     let locations : c.in_ok-locations.locations ≡ e + 1 = search rules in
     let ptrs : c.all_ptrs.result ≡ length p.vars + 2 = search rules in
     let datums : c.all_datums.result ≡ length p.data_vars + 2 = search rules in
     let shapes : c.in_ok-shapes.shapes ≡ p.shapes = search rules in
-    let low = built p e exit c.in_ok-locations.locations c.all_ptrs.result c.all_datums.result c.in_ok-edges.edges c.in_ok-heads.heads c.in_ok-shapes.shapes locations ptrs datums edges heads shapes in
-    record { lowers = low; agrees = agree p (subst (λ (q : Program). is_typed q ≡ true) c.program.view_is c.program.invariant) _ low }
+    let low = built p e exit c.in_ok-locations.locations c.all_ptrs.result c.all_datums.result c.in_ok-edges.edges
+    c.in_ok-heads.heads c.in_ok-shapes.shapes locations ptrs datums edges heads shapes in
+    record {
+      lowers = low;
+      agrees =
+          agree p (subst (λ (q : Program). is_typed q ≡ true) c.program.view_is c.program.invariant) _ low;
+    }

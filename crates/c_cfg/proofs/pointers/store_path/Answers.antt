@@ -5,5 +5,6 @@ use Rattle.c_cfg.proofs.pointers.store_path.Goals as goal
 
 pub returns : goal.returns
 returns c =
-    let held : c.holder.result ≡ holder c.args.counts.now.ptrs c.args.path.now.var c.args.path.now.fields = search rules in
+    let held : c.holder.result ≡ holder c.args.counts.now.ptrs c.args.path.now.var c.args.path.now.fields =
+    search rules in
     rw (← held) (grind (arith, common_steps))

@@ -9,5 +9,6 @@ abbrev pub invariant-parts_faults-loop-part : goal.invariant-parts_faults-loop-p
 invariant-parts_faults-loop-part l = record {
   past : past_parts l.tables (drop l.part-index l.parts) l.scope ≡ past_parts l.tables l.parts l.initial.scope;
   outer : outer l.scope.blocks ≡ outer l.initial.scope.blocks;
-  found : met l.tables l.found (parts_sites l.tables (drop l.part-index l.parts) l.looping l.scope) ≡ met l.tables l.initial.found (parts_sites l.tables l.parts l.looping l.initial.scope);
+  found : met l.tables l.found (parts_sites l.tables (drop l.part-index l.parts) l.looping l.scope)
+      ≡ met l.tables l.initial.found (parts_sites l.tables l.parts l.looping l.initial.scope);
 }

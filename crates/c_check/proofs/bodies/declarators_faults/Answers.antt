@@ -18,12 +18,18 @@ loop-var-preserved c =
           ∙ sym (declared_step kind vars i var c.loop-var-test.true c.var-item.is c.loop-var.scope)
           ∙ c.loop-var.invariant.past;
       found =
-          ap (λ f. met g f (declarators_sites g kind (drop (i + 1) vars) c.declarator_faults.new.scope)) c.in_ok-declarator_faults.ensures.found
-          ∙ ap (λ s. met g (met g c.loop-var.found (declarator_sites g kind c.loop-var.scope var)) (declarators_sites g kind (drop (i + 1) vars) s)) c.in_ok-declarator_faults.ensures.past
-          ∙ sym (declarators_step kind vars i var c.loop-var-test.true c.var-item.is g c.loop-var.found c.loop-var.scope)
+          ap (λ f. met g f (declarators_sites g kind (drop (i + 1) vars) c.declarator_faults.new.scope))
+          c.in_ok-declarator_faults.ensures.found
+          ∙ ap
+          (λ s. met g (met g c.loop-var.found (declarator_sites g kind c.loop-var.scope var))
+          (declarators_sites g kind (drop (i + 1) vars) s)) c.in_ok-declarator_faults.ensures.past
+          ∙ sym
+          (declarators_step kind vars i var c.loop-var-test.true c.var-item.is g c.loop-var.found c.loop-var.scope)
           ∙ c.loop-var.invariant.found;
     }
 
 pub returns-clause-found : goal.returns-clause-found
 returns-clause-found c =
-    sym (declarators_end c.args.kind c.args.vars.now c.loop-var.var-index c.loop-var-test.false c.args.tables.now c.loop-var.found c.loop-var.scope) ∙ c.loop-var.invariant.found
+    sym
+    (declarators_end c.args.kind c.args.vars.now c.loop-var.var-index c.loop-var-test.false c.args.tables.now
+    c.loop-var.found c.loop-var.scope) ∙ c.loop-var.invariant.found

@@ -17,7 +17,9 @@ tests_faults-loop-test-preserved t c =
 pub tests_faults-returns : goal.tests_faults-returns
 tests_faults-returns t c =
     let g = c.args.tables.now in
-    sym (each_end g c.loop-test.found (test_sites g c.args.scope.now) c.args.tests.now c.loop-test.test-index c.loop-test-test.false) ∙ c.loop-test.invariant
+    sym
+    (each_end g c.loop-test.found (test_sites g c.args.scope.now) c.args.tests.now c.loop-test.test-index
+    c.loop-test-test.false) ∙ c.loop-test.invariant
 
 pub ands_faults-loop-and-preserved : goal.ands_faults-loop-and-preserved
 ands_faults-loop-and-preserved t c =
@@ -31,4 +33,6 @@ ands_faults-loop-and-preserved t c =
 pub ands_faults-returns : goal.ands_faults-returns
 ands_faults-returns t c =
     let g = c.args.tables.now in
-    sym (each_end g c.loop-and.found (and_sites g c.args.scope.now) c.args.ands.now c.loop-and.and-index c.loop-and-test.false) ∙ c.loop-and.invariant
+    sym
+    (each_end g c.loop-and.found (and_sites g c.args.scope.now) c.args.ands.now c.loop-and.and-index
+    c.loop-and-test.false) ∙ c.loop-and.invariant

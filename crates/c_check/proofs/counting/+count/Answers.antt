@@ -15,12 +15,16 @@ pass_parts-loop-part-preserved t c =
     ∙ c.loop-part.invariant
 
 pub pass_parts-returns : goal.pass_parts-returns
-pass_parts-returns t c = sym (parts_over c.loop-part.count c.args.parts.now c.loop-part.part-index c.loop-part-test.false) ∙ c.loop-part.invariant
+pass_parts-returns t c =
+    sym (parts_over c.loop-part.count c.args.parts.now c.loop-part.part-index c.loop-part-test.false)
+    ∙ c.loop-part.invariant
 
 pub pass_stmt-returns-in-If : goal.pass_stmt-returns-in-If
 pass_stmt-returns-in-If t c =
-    passed_two c.args.count.now c.pass-in-If.new.count c.pass_stmt.new.count c.pass_other.new.count c.in-If.at _ (other_places c.in-If.other)
+    passed_two c.args.count.now c.pass-in-If.new.count c.pass_stmt.new.count c.pass_other.new.count c.in-If.at _
+    (other_places c.in-If.other)
     c.pass-in-If.ensures
     (c.pass_stmt.ensures ∙ ap (λ s. all_passed c.pass-in-If.new.count (stmt_places s)) c.get-in-If.ensures)
     c.pass_other.ensures
-    ∙ ap (all_passed c.args.count.now) (sym (ap stmt_places c.in-If.is ∙ places-If-stmt c.in-If.at c.in-If.cond c.in-If.then c.in-If.other))
+    ∙ ap (all_passed c.args.count.now)
+    (sym (ap stmt_places c.in-If.is ∙ places-If-stmt c.in-If.at c.in-If.cond c.in-If.then c.in-If.other))

@@ -11,9 +11,13 @@ pub returns-in-Some : goal.returns-in-Some
 returns-in-Some c =
     c.note_limit.ensures
     ∙ ap (λ (at : Option Place). first_from c.args.found.now (fault_at (Limit 7) at)) (sym c.in-Some.is)
-    ∙ sym (counted c.args.tables.now c.args.found.now c.pass_block.new.count (block_places c.args.block.now).within c.pass_block.ensures)
+    ∙ sym
+    (counted c.args.tables.now c.args.found.now c.pass_block.new.count (block_places c.args.block.now).within
+    c.pass_block.ensures)
 
 pub returns-in-None : goal.returns-in-None
 returns-in-None c =
     ap (λ (at : Option Place). first_from c.args.found.now (fault_at (Limit 7) at)) (sym c.in-None.is)
-    ∙ sym (counted c.args.tables.now c.args.found.now c.pass_block.new.count (block_places c.args.block.now).within c.pass_block.ensures)
+    ∙ sym
+    (counted c.args.tables.now c.args.found.now c.pass_block.new.count (block_places c.args.block.now).within
+    c.pass_block.ensures)

@@ -5,4 +5,5 @@ use Rattle.c_check.specs.inner.Definitions.{names_in}
 use Rattle.c_check.proofs.defined.all_names.Given as goal
 
 abbrev pub invariant-loop-item : goal.invariant-loop-item
-invariant-loop-item l = l.names ++ firsts itself l.names (each_of names_in (drop l.item-index l.items)) ≡ firsts itself [] (each_of names_in l.items)
+invariant-loop-item l = l.names ++ firsts itself l.names (each_of names_in (drop l.item-index l.items))
+    ≡ firsts itself [] (each_of names_in l.items)

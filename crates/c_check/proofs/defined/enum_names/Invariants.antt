@@ -4,4 +4,5 @@ use Rattle.c_typing.specs.Texts.{each_of, firsts}
 use Rattle.c_check.proofs.defined.enum_names.Given as goal
 
 abbrev pub invariant-loop-item : goal.invariant-loop-item
-invariant-loop-item l = l.names ++ firsts itself l.names (each_of enums_in (drop l.item-index l.items)) ≡ enums_of l.items
+invariant-loop-item l = l.names ++ firsts itself l.names (each_of enums_in (drop l.item-index l.items))
+    ≡ enums_of l.items

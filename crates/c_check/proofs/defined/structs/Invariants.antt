@@ -4,4 +4,6 @@ use Rattle.c_typing.specs.Texts.{each_of, firsts}
 use Rattle.c_check.proofs.defined.structs.Given as goal
 
 abbrev pub invariant-loop-item : goal.invariant-loop-item
-invariant-loop-item l = l.structs ++ map (struct_of l.names) (firsts defined_name l.seen (each_of structs_in (drop l.item-index l.items))) ≡ map (struct_of l.names) (struct_definitions l.items)
+invariant-loop-item l = l.structs
+    ++ map (struct_of l.names) (firsts defined_name l.seen (each_of structs_in (drop l.item-index l.items)))
+    ≡ map (struct_of l.names) (struct_definitions l.items)

@@ -17,16 +17,21 @@ loop-field-preserved c =
     let field = c.field-item.result in
     let types = field_type_sites field in
     let members = kept_member_sites names count (names_of field) in
-    let rest = kept_fields_sites (with_names names (names_of field)) (count + length (names_of field)) (drop (c.loop-field.field-index + 1) c.args.fields.now) in
+    let rest = kept_fields_sites (with_names names (names_of field)) (count + length (names_of field))
+    (drop (c.loop-field.field-index + 1) c.args.fields.now) in
     rw (c.in_ok-count.ensures.names, c.in_ok-count.ensures.found, c.in_ok-count.ensures.count)
     (ap (λ o. met g o rest) (sym (met-append g found types members))
     ∙ sym (met-append g found (types ++ members) rest)
-    ∙ turn (λ (fs : List Field). met g found (kept_fields_sites names count fs)) c.args.fields.now c.loop-field.field-index field c.loop-field-test.true c.field-item.is
+    ∙ turn (λ (fs : List Field). met g found (kept_fields_sites names count fs)) c.args.fields.now
+    c.loop-field.field-index field c.loop-field-test.true c.field-item.is
     ∙ c.loop-field.invariant)
 
 pub returns : goal.returns
 returns c =
     let g = c.args.tables.now in
-    sym (at_drop_all (λ (fs : List Field). met g c.loop-field.found (kept_fields_sites c.loop-field.names c.loop-field.count fs)) c.args.fields.now c.loop-field.field-index c.loop-field-test.false
+    sym
+    (at_drop_all (λ (fs : List Field).
+    met g c.loop-field.found (kept_fields_sites c.loop-field.names c.loop-field.count fs)) c.args.fields.now
+    c.loop-field.field-index c.loop-field-test.false
     ∙ met-nil g c.loop-field.found)
     ∙ c.loop-field.invariant

@@ -17,17 +17,22 @@ loop-name-preserved c =
     record {
       count = omega (arith, c.in_ok-count.ensures, c.loop-name.invariant.count);
       names = ap (λ ns. with_names ns rest) c.in_ok-defines_member.ensures.names
-          ∙ turn (with_names names) fields c.loop-name.name-index c.name-item.result c.loop-name-test.true c.name-item.is
+          ∙ turn (with_names names) fields c.loop-name.name-index c.name-item.result c.loop-name-test.true
+          c.name-item.is
           ∙ c.loop-name.invariant.names;
       found = rw (c.in_ok-defines_member.ensures.names, c.in_ok-defines_member.ensures.found, c.in_ok-count.ensures)
           (sym (met-cons g c.loop-name.found _ _)
-          ∙ turn (λ (ns : List Name). met g c.loop-name.found (kept_member_sites names count ns)) fields c.loop-name.name-index c.name-item.result c.loop-name-test.true c.name-item.is
+          ∙ turn (λ (ns : List Name). met g c.loop-name.found (kept_member_sites names count ns)) fields
+          c.loop-name.name-index c.name-item.result c.loop-name-test.true c.name-item.is
           ∙ c.loop-name.invariant.found);
     }
 
 pub returns-clause-found : goal.returns-clause-found
 returns-clause-found c =
     let g = c.args.tables.now in
-    sym (at_drop_all (λ (ns : List Name). met g c.loop-name.found (kept_member_sites c.loop-name.names c.loop-name.count ns)) c.args.fields.now c.loop-name.name-index c.loop-name-test.false
+    sym
+    (at_drop_all (λ (ns : List Name).
+    met g c.loop-name.found (kept_member_sites c.loop-name.names c.loop-name.count ns)) c.args.fields.now
+    c.loop-name.name-index c.loop-name-test.false
     ∙ met-nil g c.loop-name.found)
     ∙ c.loop-name.invariant.found

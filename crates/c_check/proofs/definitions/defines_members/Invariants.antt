@@ -7,5 +7,6 @@ abbrev pub invariant-loop-name : goal.invariant-loop-name
 invariant-loop-name l = record {
   count : l.count ≡ l.initial.count + l.name-index;
   names : with_names l.names (drop l.name-index l.fields) ≡ with_names l.initial.names l.fields;
-  found : met l.tables l.found (kept_member_sites l.names l.count (drop l.name-index l.fields)) ≡ met l.tables l.initial.found (kept_member_sites l.initial.names l.initial.count l.fields);
+  found : met l.tables l.found (kept_member_sites l.names l.count (drop l.name-index l.fields))
+      ≡ met l.tables l.initial.found (kept_member_sites l.initial.names l.initial.count l.fields);
 }

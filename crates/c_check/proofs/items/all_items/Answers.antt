@@ -27,8 +27,11 @@ loop-item-preserved c =
     let rest : List Item = drop (i + 1) items in
     record {
       found = rw (c.in_ok-main.ensures.seen, c.in_ok-main.ensures.found, c.in_ok-main.ensures.main)
-          (sym (met-append g found (kept_item_sites g main seen item) (kept_items_sites g (main || is_main_item item) (kept_after seen item) rest))
-          ∙ turn (λ (is : List Item). met g found (kept_items_sites g main seen is)) items i item c.loop-item-test.true c.item-item.is
+          (sym
+          (met-append g found (kept_item_sites g main seen item)
+          (kept_items_sites g (main || is_main_item item) (kept_after seen item) rest))
+          ∙ turn (λ (is : List Item). met g found (kept_items_sites g main seen is)) items i item c.loop-item-test.true
+          c.item-item.is
           ∙ c.loop-item.invariant.found);
       main = ap (λ b. b || any_main rest) c.in_ok-main.ensures.main
           ∙ or_or main (is_main_item item) (any_main rest)
@@ -39,12 +42,17 @@ loop-item-preserved c =
 pub returns-clause-found : goal.returns-clause-found
 returns-clause-found c =
     let g = c.args.tables.now in
-    sym (at_drop_all (λ (is : List Item). met g c.loop-item.found (kept_items_sites g c.loop-item.main c.loop-item.seen is)) c.args.items.now c.loop-item.item-index c.loop-item-test.false
+    sym
+    (at_drop_all (λ (is : List Item).
+    met g c.loop-item.found (kept_items_sites g c.loop-item.main c.loop-item.seen is)) c.args.items.now
+    c.loop-item.item-index c.loop-item-test.false
     ∙ met-nil g c.loop-item.found)
     ∙ c.loop-item.invariant.found
 
 pub returns-clause-main : goal.returns-clause-main
 returns-clause-main c =
-    sym (at_drop_all (λ (is : List Item). c.loop-item.main || any_main is) c.args.items.now c.loop-item.item-index c.loop-item-test.false
+    sym
+    (at_drop_all (λ (is : List Item). c.loop-item.main || any_main is) c.args.items.now c.loop-item.item-index
+    c.loop-item-test.false
     ∙ or_false c.loop-item.main)
     ∙ c.loop-item.invariant.main

@@ -5,6 +5,7 @@ use Rattle.c_check.proofs.items.all_items.Given as goal
 
 abbrev pub invariant-loop-item : goal.invariant-loop-item
 invariant-loop-item l = record {
-  found : met l.tables l.found (kept_items_sites l.tables l.main l.seen (drop l.item-index l.items)) ≡ met l.tables l.initial.found (kept_items_sites l.tables false nothing_kept l.items);
+  found : met l.tables l.found (kept_items_sites l.tables l.main l.seen (drop l.item-index l.items))
+      ≡ met l.tables l.initial.found (kept_items_sites l.tables false nothing_kept l.items);
   main : (l.main || any_main (drop l.item-index l.items)) ≡ any_main l.items;
 }

@@ -8,5 +8,6 @@ abbrev pub invariant-parts_stmts-loop-part : goal.invariant-parts_stmts-loop-par
 invariant-parts_stmts-loop-part l = record {
   past : past_parts l.tables (drop l.part-index l.parts) l.scope ≡ past_parts l.tables l.parts l.initial.scope;
   outer : outer l.scope.blocks ≡ outer l.initial.scope.blocks;
-  stmts : l.all ++ parts_stmts l.tables (drop l.part-index l.parts) l.scope ≡ parts_stmts l.tables l.parts l.initial.scope;
+  stmts : l.all ++ parts_stmts l.tables (drop l.part-index l.parts) l.scope
+      ≡ parts_stmts l.tables l.parts l.initial.scope;
 }

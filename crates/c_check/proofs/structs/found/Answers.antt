@@ -4,7 +4,8 @@ use Rattle.c_check.proofs.structs.found.Goals as goal
 
 pub returns-in-Some : goal.returns-in-Some
 returns-in-Some c =
-    let found = look_up_at c.args.name.now c.args.names.now c.args.uses.now _ c.known_distinct.ensures c.in-Some.ensures in
+    let found = look_up_at c.args.name.now c.args.names.now c.args.uses.now _ c.known_distinct.ensures c.in-Some.ensures
+    in
     cc
 
 pub returns-in-None : goal.returns-in-None

@@ -9,8 +9,12 @@ pub loop-param-preserved : goal.loop-param-preserved
 loop-param-preserved c =
     let rest = each_of param_sites (drop (c.loop-param.param-index + 1) c.args.params.now) in
     ap (λ found. met c.args.tables.now found rest) c.uses_param.ensures
-    ∙ met_each c.args.tables.now param_sites c.loop-param.found c.args.params.now c.loop-param.param-index c.param-item.result c.loop-param-test.true c.param-item.is
+    ∙ met_each c.args.tables.now param_sites c.loop-param.found c.args.params.now c.loop-param.param-index
+    c.param-item.result c.loop-param-test.true c.param-item.is
     ∙ c.loop-param.invariant
 
 pub returns : goal.returns
-returns c = sym (met_end c.args.tables.now param_sites c.loop-param.found c.args.params.now c.loop-param.param-index c.loop-param-test.false) ∙ c.loop-param.invariant
+returns c =
+    sym
+    (met_end c.args.tables.now param_sites c.loop-param.found c.args.params.now c.loop-param.param-index
+    c.loop-param-test.false) ∙ c.loop-param.invariant

@@ -13,5 +13,6 @@ returns c =
     c.overflows.ensures
     ∙ ap (λ o. noted g o (Overflows u.over)) c.ends.ensures
     ∙ ap (λ o. noted g (noted g o (Ends main u.end)) (Overflows u.over))
-    (c.in_ok-main.ensures.found ∙ ap (λ is. met g c.args.found.now (kept_items_sites g false nothing_kept is)) c.as_slice.ensures)
+    (c.in_ok-main.ensures.found
+    ∙ ap (λ is. met g c.args.found.now (kept_items_sites g false nothing_kept is)) c.as_slice.ensures)
     ∙ whole_met g c.args.found.now u main (c.in_ok-main.ensures.main ∙ ap any_main c.as_slice.ensures)

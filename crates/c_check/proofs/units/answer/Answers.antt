@@ -6,13 +6,15 @@ use Rattle.c_check.proofs.Answering.{memory_passed, typed_unit, ok_unit, err_uni
 use Rattle.c_check.proofs.units.answer.Goals as goal
 
 pub returns-in_err-all_places-clause-err : goal.returns-in_err-all_places-clause-err
-returns-in_err-all_places-clause-err c = memory_passed c.args.unit.now c.from_residual-in_err-all_places.result c.from_residual-in_err-all_places.ensures.1
+returns-in_err-all_places-clause-err c =
+    memory_passed c.args.unit.now c.from_residual-in_err-all_places.result c.from_residual-in_err-all_places.ensures.1
 
 pub outcome-requires : goal.outcome-requires
 outcome-requires c =
     let g = c.in_ok-tables.tables in
     let tables = c.in_ok-tables.ensures ∙ ap globals_of c.as_slice.ensures in
-    λ none. ap (λ is. is_typed (program_in g is)) c.as_slice-2.ensures ∙ typed_unit c.args.unit.now g tables _ c.in_ok-all_places.ensures none
+    λ none. ap (λ is. is_typed (program_in g is)) c.as_slice-2.ensures
+    ∙ typed_unit c.args.unit.now g tables _ c.in_ok-all_places.ensures none
 
 pub returns-clause-ok : goal.returns-clause-ok
 returns-clause-ok c =
@@ -20,9 +22,11 @@ returns-clause-ok c =
     let o = c.all_places.new.found in
     let tables = c.in_ok-tables.ensures ∙ ap globals_of c.as_slice.ensures in
     ok_unit c.args.unit.now g tables o c.outcome.result c.in_ok-all_places.ensures
-    (subst (λ is. IfOk c.outcome.result (λ p. (o ≡ None) × (p ≡ program_in g is))) c.as_slice-2.ensures c.outcome.ensures.ok)
+    (subst (λ is. IfOk c.outcome.result (λ p. (o ≡ None) × (p ≡ program_in g is))) c.as_slice-2.ensures
+    c.outcome.ensures.ok)
 
 pub returns-clause-err : goal.returns-clause-err
 returns-clause-err c =
     let tables = c.in_ok-tables.ensures ∙ ap globals_of c.as_slice.ensures in
-    err_unit c.args.unit.now c.in_ok-tables.tables tables _ c.outcome.result c.in_ok-all_places.ensures c.outcome.ensures.err
+    err_unit c.args.unit.now c.in_ok-tables.tables tables _ c.outcome.result c.in_ok-all_places.ensures
+    c.outcome.ensures.err

@@ -5,7 +5,8 @@ use Rattle.c_lexer.proofs.place.advance.Goals as goal
 
 pub behind-cursor-requires : goal.behind-cursor-requires
 behind-cursor-requires c =
-    cursor_bounds c.loop-i.cursor (take c.loop-i.i c.args.text.now) c.loop-i.invariant (omega (arith, length-take c.loop-i.i c.args.text.now))
+    cursor_bounds c.loop-i.cursor (take c.loop-i.i c.args.text.now) c.loop-i.invariant
+    (omega (arith, length-take c.loop-i.i c.args.text.now))
 
 pub loop-i-preserved : goal.loop-i-preserved
 loop-i-preserved c =

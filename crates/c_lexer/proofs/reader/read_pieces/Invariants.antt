@@ -5,7 +5,11 @@ use Rattle.c_lexer.proofs.reader.read_pieces.Given as goal
 
 abbrev pub invariant-pieces : goal.invariant-pieces
 invariant-pieces l =
-    record { within : l.at ≤ length l.text; here : l.cursor ≡ cursor_after (take l.at l.text); leads : ReadsOn l.text 0 [] l.at l.found }
+    record {
+      within : l.at ≤ length l.text;
+      here : l.cursor ≡ cursor_after (take l.at l.text);
+      leads : ReadsOn l.text 0 [] l.at l.found;
+    }
 
 abbrev pub decreases-pieces : goal.decreases-pieces
 decreases-pieces l = length l.text - l.at

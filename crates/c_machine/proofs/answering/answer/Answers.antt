@@ -12,7 +12,10 @@ loop-part-preserved c =
     record {
       left = ap (λ ps. way c.in-Known.known (through w ps)) c.in-Known.ensures.0
           ∙ sym (c.in-Known.ensures.1 (through w c.take_part.new.parts.items))
-          ∙ ap (way c.loop-part.outcome) (sym (through_parts w c.loop-part.control.parts.items c.take_part.new.parts.items c.in-Some.part c.in-Some.ensures.front))
+          ∙ ap (way c.loop-part.outcome)
+          (sym
+          (through_parts w c.loop-part.control.parts.items c.take_part.new.parts.items c.in-Some.part
+          c.in-Some.ensures.front))
           ∙ c.loop-part.invariant.left;
       stack = c.loop-part.invariant.stack;
     }
@@ -22,9 +25,14 @@ returns-in-Asks c =
     let w : Ways = ways_of c.args.sides in
     let r : Items = pending c.loop-part.control.stack.items in
     c.in-Asks.ensures w r
-    ∙ ap (λ v. opened (way c.loop-part.outcome v then r)) (sym (through_parts w c.loop-part.control.parts.items c.take_part.new.parts.items c.in-Some.part c.in-Some.ensures.front))
+    ∙ ap (λ v. opened (way c.loop-part.outcome v then r))
+    (sym
+    (through_parts w c.loop-part.control.parts.items c.take_part.new.parts.items c.in-Some.part
+    c.in-Some.ensures.front))
     ∙ ap (λ is. opened (is then r)) c.loop-part.invariant.left
-    ∙ ap (λ (s : Vec Item Global). opened (way c.args.outcome (through w c.args.control.now.parts.items) then pending s.items)) c.loop-part.invariant.stack
+    ∙ ap (λ (s : Vec Item Global).
+    opened (way c.args.outcome (through w c.args.control.now.parts.items) then pending s.items))
+    c.loop-part.invariant.stack
 
 pub returns : goal.returns
 returns c =
@@ -33,4 +41,6 @@ returns c =
     ap (λ ps. way c.loop-part.outcome (through w ps)) (sym c.in_default.ensures.front) ∙ c.loop-part.invariant.left in
     ap opened c.turn_to.ensures
     ∙ ap (λ is. opened (is then pending c.loop-part.control.stack.items)) done
-    ∙ ap (λ (s : Vec Item Global). opened (way c.args.outcome (through w c.args.control.now.parts.items) then pending s.items)) c.loop-part.invariant.stack
+    ∙ ap (λ (s : Vec Item Global).
+    opened (way c.args.outcome (through w c.args.control.now.parts.items) then pending s.items))
+    c.loop-part.invariant.stack

@@ -4,7 +4,8 @@ use Rattle.c_machine.proofs.answering.answer.Given as goal
 
 abbrev pub invariant-loop-part : goal.invariant-loop-part
 invariant-loop-part l = record {
-  left : way l.outcome (through (ways_of l.sides) l.control.parts.items) ≡ way l.outcome-2 (through (ways_of l.sides) l.initial.control.parts.items);
+  left : way l.outcome (through (ways_of l.sides) l.control.parts.items)
+      ≡ way l.outcome-2 (through (ways_of l.sides) l.initial.control.parts.items);
   stack : l.control.stack ≡ l.initial.control.stack;
 }
 

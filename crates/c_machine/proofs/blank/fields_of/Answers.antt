@@ -8,7 +8,9 @@ pub returns-in-Some : goal.returns-in-Some
 returns-in-Some c =
     let shape = c.in-Some.found.now in
     let within : c.args.shape < length c.args.shapes.now = grind (arith, nat_tests, c.in-Some.ensures.lookup.0) in
-    c.as_slice.ensures ∙ sym (fields_there c.args.shapes.now c.args.shape shape c.in-Some.ensures.lookup.1 (fields_within c.args.shapes.now c.args.shape shape within))
+    c.as_slice.ensures ∙ sym
+    (fields_there c.args.shapes.now c.args.shape shape c.in-Some.ensures.lookup.1
+    (fields_within c.args.shapes.now c.args.shape shape within))
 
 pub returns-in-None : goal.returns-in-None
 returns-in-None c =

@@ -10,6 +10,7 @@ pub loop-i-preserved : goal.loop-i-preserved
 loop-i-preserved c =
     let cell = c.at_mut-cell.result.now in
     let within : c.loop-i.i < length c.args.cells.now = omega arith in
-    ap (λ (fields : List Value). slice_set c.loop-i.cells c.loop-i.i (record cell { fields = fields })) c.dangle_all.ensures
+    ap (λ (fields : List Value). slice_set c.loop-i.cells c.loop-i.i (record cell { fields = fields }))
+    c.dangle_all.ensures
     ∙ map_over_more (dangle_in c.args.number) c.args.cells.now c.loop-i.cells c.loop-i.i cell within c.loop-i.invariant
     (sym (get_or_from_slice_get c.loop-i.cells c.loop-i.i cell cell c.at_mut-cell.ensures.value))

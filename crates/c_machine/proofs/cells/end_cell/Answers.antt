@@ -7,11 +7,16 @@ use Rattle.c_machine.proofs.cells.end_cell.Goals.{in-Some, in_default}
 
 pub returns : goal.returns
 returns c =
-    let position : c.position_of.result ≡ position_in c.args.cells.now c.args.number = rw c.as_slice.ensures at c.position_of.ensures.position in
+    let position : c.position_of.result ≡ position_in c.args.cells.now c.args.number =
+    rw c.as_slice.ensures at c.position_of.ensures.position in
     c.dangle_cells.ensures
     ∙ (elim c.match-position_of.branch [
       | in-Some w ↦ ap (map (dangle_in c.args.number)) (w.cells-is ∙ w.remove-ended.ensures.rest)
-          ∙ sym (without_some c.args.number w.in-Some.at c.args.cells.now c.requires (placed c.args.number c.args.cells.now c.position_of.result (Some w.in-Some.at) position w.in-Some.is))
+          ∙ sym
+          (without_some c.args.number w.in-Some.at c.args.cells.now c.requires
+          (placed c.args.number c.args.cells.now c.position_of.result (Some w.in-Some.at) position w.in-Some.is))
       | in_default w ↦ ap (map (dangle_in c.args.number)) w.cells-is
-          ∙ sym (without_none c.args.number c.args.cells.now (placed c.args.number c.args.cells.now c.position_of.result None position w.in_default.is))
+          ∙ sym
+          (without_none c.args.number c.args.cells.now
+          (placed c.args.number c.args.cells.now c.position_of.result None position w.in_default.is))
     ])

@@ -10,11 +10,16 @@ loop-step-init c =
     let g = c.args.graph.now in
     let heap : c.in_ok-heap.heap ≡ empty_store g.ptrs g.datums = search rules in
     let first : c.in_ok-heap.heap.next ≡ 1 = ap (λ (t : Store). t.next) heap in
-    record { goes = run_rest g c.args.choices.now c.args.limit (c.args.limit - 0) c.in_ok-heap.heap (omega arith) heap; next = omega (arith, first); used = omega arith }
+    record {
+      goes = run_rest g c.args.choices.now c.args.limit (c.args.limit - 0) c.in_ok-heap.heap (omega arith) heap;
+      next = omega (arith, first);
+      used = omega arith;
+    }
 
 pub loop-step-preserved : goal.loop-step-preserved
 loop-step-preserved c =
-    let g = c.args.graph.now in let cs = c.args.choices.now in let old = c.loop-step.walk in let new = c.go_on.new.self in
+    let g = c.args.graph.now in let cs = c.args.choices.now in let old = c.loop-step.walk in let new =
+    c.go_on.new.self in
     let step = c.loop-step.step in
     let left : ℕ = c.args.limit - (step + 1) in
     let number : c.args.limit - step ≡ suc left = omega arith in

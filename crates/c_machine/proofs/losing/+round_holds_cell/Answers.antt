@@ -11,7 +11,9 @@ returns-then-blocks_hold_cell t c =
     let others = hold_cell vs (closed_ptrs (pending c.in-Some.others.now)) in
     c.if-blocks_hold_cell.true
     ∙ ap (λ b. b || others) (sym c.if-blocks_hold_cell.true ∙ c.blocks_hold_cell.ensures)
-    ∙ sym (round_block vs c.in-Some.others.now c.args.stack.now c.in-Some.item.now c.in-Block.stmts c.in-Some.ensures.cases.0 c.in-Block.is)
+    ∙ sym
+    (round_block vs c.in-Some.others.now c.args.stack.now c.in-Some.item.now c.in-Block.stmts
+    c.in-Some.ensures.cases.0 c.in-Block.is)
 
 pub returns-else-blocks_hold_cell : goal.returns-else-blocks_hold_cell
 returns-else-blocks_hold_cell t c =
@@ -19,4 +21,6 @@ returns-else-blocks_hold_cell t c =
     let others = hold_cell vs (closed_ptrs (pending c.in-Some.others.now)) in
     c.round_holds_cell.ensures
     ∙ ap (λ b. b || others) (sym c.if-blocks_hold_cell.false ∙ c.blocks_hold_cell.ensures)
-    ∙ sym (round_block vs c.in-Some.others.now c.args.stack.now c.in-Some.item.now c.in-Block.stmts c.in-Some.ensures.cases.0 c.in-Block.is)
+    ∙ sym
+    (round_block vs c.in-Some.others.now c.args.stack.now c.in-Some.item.now c.in-Block.stmts
+    c.in-Some.ensures.cases.0 c.in-Block.is)

@@ -7,5 +7,7 @@ use Rattle.c_machine.proofs.outgoing.take_first.Given as goal
 abbrev pub invariant-loop-edge : goal.invariant-loop-edge
 invariant-loop-edge l = record {
   heap : l.heap ≡ l.initial.heap;
-  goes : (next : ℕ → Store → Outcome) (step : ℕ) → first_pass l.shapes (out_of (drop l.edge-index l.edges) l.location) l.choice next step l.initial.heap ≡ first_pass l.shapes (out_of l.edges l.location) l.choice next step l.initial.heap;
+  goes : (next : ℕ → Store → Outcome) (step : ℕ)
+      → first_pass l.shapes (out_of (drop l.edge-index l.edges) l.location) l.choice next step l.initial.heap
+      ≡ first_pass l.shapes (out_of l.edges l.location) l.choice next step l.initial.heap;
 }

@@ -18,7 +18,9 @@ loop-step-init c =
     let first : (store_of m).next ≡ 1 = ap (λ (t : Store). t.next) c.in_ok-machine.ensures.store in
     record {
       goes = run_going p cs c.args.limit
-          ∙ same_going p.shapes.structs p.shapes.structs c.args.limit (c.args.limit - 0) 0 (opened (start_of p)) (todo m) s (store_of m) cs 0 refl (omega arith) (sym c.in_ok-machine.ensures.items) (sym c.in_ok-machine.ensures.store);
+          ∙ same_going p.shapes.structs p.shapes.structs c.args.limit (c.args.limit - 0) 0 (opened (start_of p))
+          (todo m) s (store_of m) cs 0 refl (omega arith) (sym c.in_ok-machine.ensures.items)
+          (sym c.in_ok-machine.ensures.store);
       over = c.in_ok-machine.ensures.over;
       program = c.in_ok-machine.ensures.program;
       next = omega (arith, first);
@@ -34,14 +36,18 @@ loop-step-preserved c =
     let step = c.loop-step.step in
     let left : ℕ = c.args.limit - (step + 1) in
     let number : c.args.limit - step ≡ suc left = omega arith in
-    let shapes : (program_of ready).shapes.structs ≡ p.shapes.structs = ap (λ (q : Program). q.shapes.structs) (c.reserve.ensures.program ∙ c.loop-step.invariant.program) in
+    let shapes : (program_of ready).shapes.structs ≡ p.shapes.structs =
+    ap (λ (q : Program). q.shapes.structs) (c.reserve.ensures.program ∙ c.loop-step.invariant.program) in
     let reserved : (store_of ready).next ≡ (store_of m).next = ap (λ (t : Store). t.next) c.reserve.ensures.store in
     record {
       goes = c.loop-step.invariant.goes
-          ∙ same_going p.shapes.structs (program_of ready).shapes.structs (c.args.limit - step) (suc left) step (todo m) (todo ready) (store_of m) (store_of ready) (drop c.loop-step.used c.args.choices.now) c.loop-step.used
+          ∙ same_going p.shapes.structs (program_of ready).shapes.structs (c.args.limit - step) (suc left) step (todo m)
+          (todo ready) (store_of m) (store_of ready) (drop c.loop-step.used c.args.choices.now) c.loop-step.used
           (sym shapes) number (sym c.reserve.ensures.items) (sym c.reserve.ensures.store)
           ∙ c.in-Ok.ensures.goes left
-          ∙ ap (λ (ss : List Shape). going ss left (step + 1) (todo after) (store_of after) (drop c.take_one.new.used c.args.choices.now) c.take_one.new.used) shapes;
+          ∙ ap (λ (ss : List Shape).
+          going ss left (step + 1) (todo after) (store_of after) (drop c.take_one.new.used c.args.choices.now)
+          c.take_one.new.used) shapes;
       over = c.in-Ok.ensures.over;
       program = c.take_one.ensures.program ∙ c.reserve.ensures.program ∙ c.loop-step.invariant.program;
       next = omega (arith, c.take_one.ensures.next, reserved, c.loop-step.invariant.next);

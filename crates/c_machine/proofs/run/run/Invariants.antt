@@ -6,7 +6,9 @@ use Rattle.c_machine.proofs.run.run.Given as goal
 
 abbrev pub invariant-loop-step : goal.invariant-loop-step
 invariant-loop-step l = record {
-  goes : run l.program l.choices l.limit ≡ going l.program.shapes.structs (l.limit - l.step) l.step (todo l.machine) (store_of l.machine) (drop l.used l.choices) l.used;
+  goes : run l.program l.choices l.limit
+      ≡ going l.program.shapes.structs (l.limit - l.step) l.step (todo l.machine) (store_of l.machine)
+      (drop l.used l.choices) l.used;
   over : over_of l.machine ≡ None;
   program : program_of l.machine ≡ l.program;
   next : (store_of l.machine).next ≤ l.step + 1;

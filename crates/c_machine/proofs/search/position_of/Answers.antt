@@ -12,4 +12,6 @@ returns-in-Some-clause-position c =
     let h = c.in-Some.ensures.lookup in
     let within : at < length cells = grind (arith, nat_tests, h) in
     let there : cell ≡ get_or cells at cell = grind (arith, h) in
-    sym (position_at 0 cells c.args.number at cell c.requires within (ap (λ (x : CellRec). x.number) (sym there) ∙ c.if-cell-number.true))
+    sym
+    (position_at 0 cells c.args.number at cell c.requires within
+    (ap (λ (x : CellRec). x.number) (sym there) ∙ c.if-cell-number.true))

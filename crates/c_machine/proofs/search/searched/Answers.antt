@@ -6,5 +6,6 @@ use Rattle.c_machine.proofs.search.searched.Goals as goal
 pub returns-clause-position : goal.returns-clause-position
 returns-clause-position c =
     c.ok.ensures.value
-    ∙ searched_cells c.args.cells.now c.args.number c.binary_search_by_key.result c.requires c.binary_search_by_key.ensures.bound
+    ∙ searched_cells c.args.cells.now c.args.number c.binary_search_by_key.result c.requires
+    c.binary_search_by_key.ensures.bound
     (c.binary_search_by_key.ensures.position (λ cell. cell.number) (answers_always _ _ _ (λ f a r g h. search rules)))

@@ -33,13 +33,23 @@ abbrev pub decreases-brackets : goal.decreases-brackets
 decreases-brackets l = 16 * l.bounds.now.room + 14
 
 abbrev pub invariant-all_ands-ands : goal.invariant-all_ands-ands
-invariant-all_ands-ands l = record { shorter : length l.rest < length l.left; leads : Leads next_and.rule ors and_goes_on no_sign no_sign some_ands.rule cond_goes_on no_sign begins_nested l.bounds.room l.bounds.end l.left l.rest l.all }
+invariant-all_ands-ands l =
+    record {
+      shorter : length l.rest < length l.left;
+      leads : Leads next_and.rule ors and_goes_on no_sign no_sign some_ands.rule cond_goes_on no_sign begins_nested
+          l.bounds.room l.bounds.end l.left l.rest l.all;
+    }
 
 abbrev pub decreases-all_ands-ands : goal.decreases-all_ands-ands
 decreases-all_ands-ands l = length l.rest
 
 abbrev pub invariant-all_tests-tests : goal.invariant-all_tests-tests
-invariant-all_tests-tests l = record { shorter : length l.rest < length l.left; leads : Leads next_test.rule ands test_goes_on no_sign no_sign some_tests.rule and_goes_on no_sign begins_nested l.bounds.room l.bounds.end l.left l.rest l.all }
+invariant-all_tests-tests l =
+    record {
+      shorter : length l.rest < length l.left;
+      leads : Leads next_test.rule ands test_goes_on no_sign no_sign some_tests.rule and_goes_on no_sign begins_nested
+          l.bounds.room l.bounds.end l.left l.rest l.all;
+    }
 
 abbrev pub decreases-all_tests-tests : goal.decreases-all_tests-tests
 decreases-all_tests-tests l = length l.rest

@@ -7,7 +7,11 @@ use Rattle.c_grammar.proofs.Lists.{Leads}
 use Rattle.c_parser.proofs.declarations.pointers.Given as goal
 
 abbrev pub invariant-pointers : goal.invariant-pointers
-invariant-pointers l = record { shorter : length l.rest < length l.left; leads : Leads read_next_pointer.rule (among (sign.Comma ∷ [])) declarator_goes_on no_sign no_sign read_pointers.rule declarators_go_on no_sign no_sign l.bounds.room l.bounds.end l.left l.rest l.all }
+invariant-pointers l = record {
+  shorter : length l.rest < length l.left;
+  leads : Leads read_next_pointer.rule (among (sign.Comma ∷ [])) declarator_goes_on no_sign no_sign read_pointers.rule
+      declarators_go_on no_sign no_sign l.bounds.room l.bounds.end l.left l.rest l.all;
+}
 
 abbrev pub decreases-pointers : goal.decreases-pointers
 decreases-pointers l = length l.rest

@@ -17,16 +17,41 @@ use Rattle.c_grammar.proofs.Tokens.{fails_one, real}
 use Rattle.c_parser.proofs.fields.datum_field.Goals as goal
 
 pub returns-in_err-data-clause-err : goal.returns-in_err-data-clause-err
-returns-in_err-data-clause-err c = passed c.from_residual.result (Stops read_datum_field c.args.bounds.now c.args.left.now) c.in_err-data.field-0.0 c.from_residual.ensures.1
-    (widen_fails _ _ _ refl refl refl (fails_made i.datum_fields_of _ (in_front good_data (good_pair good_names (good_one sign.Semicolon) refl) refl refl (least_pair good_names (good_one sign.Semicolon) refl refl _ (alive_made s.joined (least_pair good_name good_more_names refl refl _ (least_name _) (least_many read_next_name.rule no_sign _))) (least_one sign.Semicolon (real sign.Semicolon tt) _)) c.in_err-data.ensures.err)))
+returns-in_err-data-clause-err c =
+    passed c.from_residual.result (Stops read_datum_field c.args.bounds.now c.args.left.now) c.in_err-data.field-0.0
+    c.from_residual.ensures.1
+    (widen_fails _ _ _ refl refl refl
+    (fails_made i.datum_fields_of _
+    (in_front good_data (good_pair good_names (good_one sign.Semicolon) refl) refl refl
+    (least_pair good_names (good_one sign.Semicolon) refl refl _
+    (alive_made s.joined
+    (least_pair good_name good_more_names refl refl _ (least_name _) (least_many read_next_name.rule no_sign _)))
+    (least_one sign.Semicolon (real sign.Semicolon tt) _)) c.in_err-data.ensures.err)))
 
 pub returns-in_err-fields-clause-err : goal.returns-in_err-fields-clause-err
-returns-in_err-fields-clause-err c = passed c.from_residual-in_err-fields.result (Stops read_datum_field c.args.bounds.now c.args.left.now) c.in_err-fields.field-0.0 c.from_residual-in_err-fields.ensures.1
-    (widen_fails _ _ _ refl refl refl (fails_made i.datum_fields_of _ (in_back good_data (good_pair good_names (good_one sign.Semicolon) refl) refl refl refl c.in_ok-data.ensures.ok (in_front good_names (good_one sign.Semicolon) refl refl (least_one sign.Semicolon (real sign.Semicolon tt) _) c.in_err-fields.ensures.err))))
+returns-in_err-fields-clause-err c =
+    passed c.from_residual-in_err-fields.result (Stops read_datum_field c.args.bounds.now c.args.left.now)
+    c.in_err-fields.field-0.0 c.from_residual-in_err-fields.ensures.1
+    (widen_fails _ _ _ refl refl refl
+    (fails_made i.datum_fields_of _
+    (in_back good_data (good_pair good_names (good_one sign.Semicolon) refl) refl refl refl c.in_ok-data.ensures.ok
+    (in_front good_names (good_one sign.Semicolon) refl refl (least_one sign.Semicolon (real sign.Semicolon tt) _)
+    c.in_err-fields.ensures.err))))
 
 pub returns-in_err-rest-clause-err : goal.returns-in_err-rest-clause-err
-returns-in_err-rest-clause-err c = passed c.from_residual-in_err-rest.result (Stops read_datum_field c.args.bounds.now c.args.left.now) c.in_err-rest.field-0.0 c.from_residual-in_err-rest.ensures.1
-    (widen_fails _ _ _ refl refl refl (fails_made i.datum_fields_of _ (in_back good_data (good_pair good_names (good_one sign.Semicolon) refl) refl refl refl c.in_ok-data.ensures.ok (in_back good_names (good_one sign.Semicolon) refl refl refl c.in_ok-fields.ensures.ok (fails_one sign.Semicolon (real sign.Semicolon tt) _ _ _ _ c.in_err-rest.ensures.err.0 c.in_err-rest.ensures.err.1)))))
+returns-in_err-rest-clause-err c =
+    passed c.from_residual-in_err-rest.result (Stops read_datum_field c.args.bounds.now c.args.left.now)
+    c.in_err-rest.field-0.0 c.from_residual-in_err-rest.ensures.1
+    (widen_fails _ _ _ refl refl refl
+    (fails_made i.datum_fields_of _
+    (in_back good_data (good_pair good_names (good_one sign.Semicolon) refl) refl refl refl c.in_ok-data.ensures.ok
+    (in_back good_names (good_one sign.Semicolon) refl refl refl c.in_ok-fields.ensures.ok
+    (fails_one sign.Semicolon (real sign.Semicolon tt) _ _ _ _ c.in_err-rest.ensures.err.0
+    c.in_err-rest.ensures.err.1)))))
 
 pub returns-clause-ok : goal.returns-clause-ok
-returns-clause-ok c = widen_takes _ _ refl refl (takes_made i.datum_fields_of (pair good_data (good_pair good_names (good_one sign.Semicolon) refl) refl c.in_ok-data.ensures.ok (pair good_names (good_one sign.Semicolon) refl c.in_ok-fields.ensures.ok (takes_token sign.Semicolon _ _ _ _ c.in_ok-rest.ensures.ok.0 c.in_ok-rest.ensures.ok.1))))
+returns-clause-ok c = widen_takes _ _ refl refl
+    (takes_made i.datum_fields_of
+    (pair good_data (good_pair good_names (good_one sign.Semicolon) refl) refl c.in_ok-data.ensures.ok
+    (pair good_names (good_one sign.Semicolon) refl c.in_ok-fields.ensures.ok
+    (takes_token sign.Semicolon _ _ _ _ c.in_ok-rest.ensures.ok.0 c.in_ok-rest.ensures.ok.1))))

@@ -6,7 +6,11 @@ use Rattle.c_grammar.proofs.Lists.{Leads}
 use Rattle.c_parser.proofs.fields.names.Given as goal
 
 abbrev pub invariant-names : goal.invariant-names
-invariant-names l = record { shorter : length l.rest < length l.left; leads : Leads read_next_name.rule (among (sign.Comma ∷ [])) no_sign no_sign no_sign read_names.rule commas no_sign no_sign l.bounds.room l.bounds.end l.left l.rest l.all }
+invariant-names l = record {
+  shorter : length l.rest < length l.left;
+  leads : Leads read_next_name.rule (among (sign.Comma ∷ [])) no_sign no_sign no_sign read_names.rule commas no_sign
+      no_sign l.bounds.room l.bounds.end l.left l.rest l.all;
+}
 
 abbrev pub decreases-names : goal.decreases-names
 decreases-names l = length l.rest

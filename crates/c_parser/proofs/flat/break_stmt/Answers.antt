@@ -12,12 +12,31 @@ use Rattle.c_grammar.proofs.Tokens.{fails_one, takes_at, real}
 use Rattle.c_parser.proofs.flat.break_stmt.Goals as goal
 
 pub returns-in_err-token-clause-err : goal.returns-in_err-token-clause-err
-returns-in_err-token-clause-err c = passed c.from_residual.result (Stops read_break_stmt c.args.bounds.now c.args.left.now) c.in_err-token.field-0.0 c.from_residual.ensures.1
-    (widen_fails _ _ _ refl refl refl (fails_made s.break_of _ (in_front (good_at sign.Break) (good_one sign.Semicolon) refl refl (least_one sign.Semicolon (real sign.Semicolon tt) _) (fails_made at_of _ (fails_one sign.Break (real sign.Break tt) _ _ _ _ c.in_err-token.ensures.err.0 c.in_err-token.ensures.err.1)))))
+returns-in_err-token-clause-err c =
+    passed c.from_residual.result (Stops read_break_stmt c.args.bounds.now c.args.left.now) c.in_err-token.field-0.0
+    c.from_residual.ensures.1
+    (widen_fails _ _ _ refl refl refl
+    (fails_made s.break_of _
+    (in_front (good_at sign.Break) (good_one sign.Semicolon) refl refl
+    (least_one sign.Semicolon (real sign.Semicolon tt) _)
+    (fails_made at_of _
+    (fails_one sign.Break (real sign.Break tt) _ _ _ _ c.in_err-token.ensures.err.0
+    c.in_err-token.ensures.err.1)))))
 
 pub returns-in_err-rest-clause-err : goal.returns-in_err-rest-clause-err
-returns-in_err-rest-clause-err c = passed c.from_residual-in_err-rest.result (Stops read_break_stmt c.args.bounds.now c.args.left.now) c.in_err-rest.field-0.0 c.from_residual-in_err-rest.ensures.1
-    (widen_fails _ _ _ refl refl refl (fails_made s.break_of _ (in_back (good_at sign.Break) (good_one sign.Semicolon) refl refl refl (takes_at sign.Break _ _ _ _ c.in_ok-token.ensures.ok.0 c.in_ok-token.ensures.ok.1) (fails_one sign.Semicolon (real sign.Semicolon tt) _ _ _ _ c.in_err-rest.ensures.err.0 c.in_err-rest.ensures.err.1))))
+returns-in_err-rest-clause-err c =
+    passed c.from_residual-in_err-rest.result (Stops read_break_stmt c.args.bounds.now c.args.left.now)
+    c.in_err-rest.field-0.0 c.from_residual-in_err-rest.ensures.1
+    (widen_fails _ _ _ refl refl refl
+    (fails_made s.break_of _
+    (in_back (good_at sign.Break) (good_one sign.Semicolon) refl refl refl
+    (takes_at sign.Break _ _ _ _ c.in_ok-token.ensures.ok.0 c.in_ok-token.ensures.ok.1)
+    (fails_one sign.Semicolon (real sign.Semicolon tt) _ _ _ _ c.in_err-rest.ensures.err.0
+    c.in_err-rest.ensures.err.1))))
 
 pub returns-clause-ok : goal.returns-clause-ok
-returns-clause-ok c = widen_takes _ _ refl refl (takes_made s.break_of (pair (good_at sign.Break) (good_one sign.Semicolon) refl (takes_at sign.Break _ _ _ _ c.in_ok-token.ensures.ok.0 c.in_ok-token.ensures.ok.1) (takes_token sign.Semicolon _ _ _ _ c.in_ok-rest.ensures.ok.0 c.in_ok-rest.ensures.ok.1)))
+returns-clause-ok c = widen_takes _ _ refl refl
+    (takes_made s.break_of
+    (pair (good_at sign.Break) (good_one sign.Semicolon) refl
+    (takes_at sign.Break _ _ _ _ c.in_ok-token.ensures.ok.0 c.in_ok-token.ensures.ok.1)
+    (takes_token sign.Semicolon _ _ _ _ c.in_ok-rest.ensures.ok.0 c.in_ok-rest.ensures.ok.1)))

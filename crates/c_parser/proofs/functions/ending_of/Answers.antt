@@ -15,17 +15,68 @@ use Rattle.c_grammar.proofs.Steps.{widen_takes, widen_fails}
 use Rattle.c_parser.proofs.functions.ending_of.Goals as goal
 
 pub returns-then-is_next-clause-ok : goal.returns-then-is_next-clause-ok
-returns-then-is_next-clause-ok c = IfOk-weaker c.proto_end.result (λ r. Reads (read_proto_end c.args.gives c.args.name c.args.params) c.args.bounds.now c.args.left.now r.1.now r.0) (λ r. Reads (read_ending_of c.args.gives c.args.name c.args.params) c.args.bounds.now c.args.left.now r.1.now r.0)
-    (λ r t. takes_same (same_forks no_block Some (λ (e : Option Block). head_item c.args.gives c.args.name (c.args.params, e))) (widen_takes _ _ refl refl (left_takes (named (among (sign.Semicolon ∷ [])) no_sign no_sign (good_made (good_one sign.Semicolon) (λ (t : Token). head_item c.args.gives c.args.name (c.args.params, None))) refl refl refl) (contd no_sign elses (good_made good_block (λ (b : Block). head_item c.args.gives c.args.name (c.args.params, Some b))) refl refl) refl refl (sym c.is_next.ensures ∙ c.if-is_next.true) t))) c.proto_end.ensures.ok
+returns-then-is_next-clause-ok c =
+    IfOk-weaker c.proto_end.result
+    (λ r. Reads (read_proto_end c.args.gives c.args.name c.args.params) c.args.bounds.now c.args.left.now r.1.now r.0)
+    (λ r. Reads (read_ending_of c.args.gives c.args.name c.args.params) c.args.bounds.now c.args.left.now r.1.now r.0)
+    (λ r t.
+    takes_same
+    (same_forks no_block Some (λ (e : Option Block). head_item c.args.gives c.args.name (c.args.params, e)))
+    (widen_takes _ _ refl refl
+    (left_takes
+    (named (among (sign.Semicolon ∷ [])) no_sign no_sign
+    (good_made (good_one sign.Semicolon) (λ (t : Token). head_item c.args.gives c.args.name (c.args.params, None)))
+    refl refl refl)
+    (contd no_sign elses
+    (good_made good_block (λ (b : Block). head_item c.args.gives c.args.name (c.args.params, Some b))) refl refl)
+    refl refl (sym c.is_next.ensures ∙ c.if-is_next.true) t))) c.proto_end.ensures.ok
 
 pub returns-then-is_next-clause-err : goal.returns-then-is_next-clause-err
-returns-then-is_next-clause-err c = IfErr-weaker c.proto_end.result (Stops (read_proto_end c.args.gives c.args.name c.args.params) c.args.bounds.now c.args.left.now) (Stops (read_ending_of c.args.gives c.args.name c.args.params) c.args.bounds.now c.args.left.now)
-    (λ e x. fails_same (same_forks no_block Some (λ (e : Option Block). head_item c.args.gives c.args.name (c.args.params, e))) _ (widen_fails _ _ _ refl refl refl (left_fails (named (among (sign.Semicolon ∷ [])) no_sign no_sign (good_made (good_one sign.Semicolon) (λ (t : Token). head_item c.args.gives c.args.name (c.args.params, None))) refl refl refl) (contd no_sign elses (good_made good_block (λ (b : Block). head_item c.args.gives c.args.name (c.args.params, Some b))) refl refl) refl refl (sym c.is_next.ensures ∙ c.if-is_next.true) x))) c.proto_end.ensures.err
+returns-then-is_next-clause-err c =
+    IfErr-weaker c.proto_end.result
+    (Stops (read_proto_end c.args.gives c.args.name c.args.params) c.args.bounds.now c.args.left.now)
+    (Stops (read_ending_of c.args.gives c.args.name c.args.params) c.args.bounds.now c.args.left.now)
+    (λ e x.
+    fails_same
+    (same_forks no_block Some (λ (e : Option Block). head_item c.args.gives c.args.name (c.args.params, e))) _
+    (widen_fails _ _ _ refl refl refl
+    (left_fails
+    (named (among (sign.Semicolon ∷ [])) no_sign no_sign
+    (good_made (good_one sign.Semicolon) (λ (t : Token). head_item c.args.gives c.args.name (c.args.params, None)))
+    refl refl refl)
+    (contd no_sign elses
+    (good_made good_block (λ (b : Block). head_item c.args.gives c.args.name (c.args.params, Some b))) refl refl)
+    refl refl (sym c.is_next.ensures ∙ c.if-is_next.true) x))) c.proto_end.ensures.err
 
 pub returns-clause-ok : goal.returns-clause-ok
-returns-clause-ok c = IfOk-weaker c.function_end.result (λ r. Reads (read_function_end c.args.gives c.args.name c.args.params) c.args.bounds.now c.args.left.now r.1.now r.0) (λ r. Reads (read_ending_of c.args.gives c.args.name c.args.params) c.args.bounds.now c.args.left.now r.1.now r.0)
-    (λ r t. takes_same (same_forks no_block Some (λ (e : Option Block). head_item c.args.gives c.args.name (c.args.params, e))) (widen_takes _ _ refl refl (right_takes (named (among (sign.Semicolon ∷ [])) no_sign no_sign (good_made (good_one sign.Semicolon) (λ (t : Token). head_item c.args.gives c.args.name (c.args.params, None))) refl refl refl) (contd no_sign elses (good_made good_block (λ (b : Block). head_item c.args.gives c.args.name (c.args.params, Some b))) refl refl) refl refl refl (sym c.is_next.ensures ∙ c.if-is_next.false) t))) c.function_end.ensures.ok
+returns-clause-ok c = IfOk-weaker c.function_end.result
+    (λ r. Reads (read_function_end c.args.gives c.args.name c.args.params) c.args.bounds.now c.args.left.now r.1.now
+    r.0)
+    (λ r. Reads (read_ending_of c.args.gives c.args.name c.args.params) c.args.bounds.now c.args.left.now r.1.now r.0)
+    (λ r t.
+    takes_same
+    (same_forks no_block Some (λ (e : Option Block). head_item c.args.gives c.args.name (c.args.params, e)))
+    (widen_takes _ _ refl refl
+    (right_takes
+    (named (among (sign.Semicolon ∷ [])) no_sign no_sign
+    (good_made (good_one sign.Semicolon) (λ (t : Token). head_item c.args.gives c.args.name (c.args.params, None)))
+    refl refl refl)
+    (contd no_sign elses
+    (good_made good_block (λ (b : Block). head_item c.args.gives c.args.name (c.args.params, Some b))) refl refl)
+    refl refl refl (sym c.is_next.ensures ∙ c.if-is_next.false) t))) c.function_end.ensures.ok
 
 pub returns-clause-err : goal.returns-clause-err
-returns-clause-err c = IfErr-weaker c.function_end.result (Stops (read_function_end c.args.gives c.args.name c.args.params) c.args.bounds.now c.args.left.now) (Stops (read_ending_of c.args.gives c.args.name c.args.params) c.args.bounds.now c.args.left.now)
-    (λ e x. fails_same (same_forks no_block Some (λ (e : Option Block). head_item c.args.gives c.args.name (c.args.params, e))) _ (widen_fails _ _ _ refl refl refl (right_fails (named (among (sign.Semicolon ∷ [])) no_sign no_sign (good_made (good_one sign.Semicolon) (λ (t : Token). head_item c.args.gives c.args.name (c.args.params, None))) refl refl refl) (contd no_sign elses (good_made good_block (λ (b : Block). head_item c.args.gives c.args.name (c.args.params, Some b))) refl refl) refl refl refl (sym c.is_next.ensures ∙ c.if-is_next.false) x))) c.function_end.ensures.err
+returns-clause-err c = IfErr-weaker c.function_end.result
+    (Stops (read_function_end c.args.gives c.args.name c.args.params) c.args.bounds.now c.args.left.now)
+    (Stops (read_ending_of c.args.gives c.args.name c.args.params) c.args.bounds.now c.args.left.now)
+    (λ e x.
+    fails_same
+    (same_forks no_block Some (λ (e : Option Block). head_item c.args.gives c.args.name (c.args.params, e))) _
+    (widen_fails _ _ _ refl refl refl
+    (right_fails
+    (named (among (sign.Semicolon ∷ [])) no_sign no_sign
+    (good_made (good_one sign.Semicolon) (λ (t : Token). head_item c.args.gives c.args.name (c.args.params, None)))
+    refl refl refl)
+    (contd no_sign elses
+    (good_made good_block (λ (b : Block). head_item c.args.gives c.args.name (c.args.params, Some b))) refl refl)
+    refl refl refl (sym c.is_next.ensures ∙ c.if-is_next.false) x))) c.function_end.ensures.err

@@ -18,19 +18,51 @@ use Rattle.c_grammar.proofs.Tokens.{fails_one, real}
 use Rattle.c_parser.proofs.globals.declared_data.Goals as goal
 
 pub returns-in_err-from-clause-err : goal.returns-in_err-from-clause-err
-returns-in_err-from-clause-err c = passed c.from_residual.result (Stops (read_declared_data c.args.kind c.args.name) c.args.bounds.now c.args.left.now) c.in_err-from.field-0.0 c.from_residual.ensures.1
-    (widen_fails _ _ _ refl refl refl (fails_made (λ (r : Declared). data_item c.args.kind c.args.name (inr r)) _ (in_front good_maybe_from (good_pair good_more_declarators (good_one sign.Semicolon) refl) refl refl (least_pair good_more_declarators (good_one sign.Semicolon) refl refl _ (least_many read_next_declarator.rule no_sign _) (least_one sign.Semicolon (real sign.Semicolon tt) _)) c.in_err-from.ensures.err)))
+returns-in_err-from-clause-err c =
+    passed c.from_residual.result (Stops (read_declared_data c.args.kind c.args.name) c.args.bounds.now c.args.left.now)
+    c.in_err-from.field-0.0 c.from_residual.ensures.1
+    (widen_fails _ _ _ refl refl refl
+    (fails_made (λ (r : Declared). data_item c.args.kind c.args.name (inr r)) _
+    (in_front good_maybe_from (good_pair good_more_declarators (good_one sign.Semicolon) refl) refl refl
+    (least_pair good_more_declarators (good_one sign.Semicolon) refl refl _
+    (least_many read_next_declarator.rule no_sign _) (least_one sign.Semicolon (real sign.Semicolon tt) _))
+    c.in_err-from.ensures.err)))
 
 pub returns-in_err-more-clause-err : goal.returns-in_err-more-clause-err
-returns-in_err-more-clause-err c = passed c.from_residual-in_err-more.result (Stops (read_declared_data c.args.kind c.args.name) c.args.bounds.now c.args.left.now) c.in_err-more.field-0.0 c.from_residual-in_err-more.ensures.1
-    (widen_fails _ _ _ refl refl refl (fails_made (λ (r : Declared). data_item c.args.kind c.args.name (inr r)) _ (in_back good_maybe_from (good_pair good_more_declarators (good_one sign.Semicolon) refl) refl refl refl c.in_ok-from.ensures.ok (in_front good_more_declarators (good_one sign.Semicolon) refl refl (least_one sign.Semicolon (real sign.Semicolon tt) _) c.in_err-more.ensures.err))))
+returns-in_err-more-clause-err c =
+    passed c.from_residual-in_err-more.result
+    (Stops (read_declared_data c.args.kind c.args.name) c.args.bounds.now c.args.left.now) c.in_err-more.field-0.0
+    c.from_residual-in_err-more.ensures.1
+    (widen_fails _ _ _ refl refl refl
+    (fails_made (λ (r : Declared). data_item c.args.kind c.args.name (inr r)) _
+    (in_back good_maybe_from (good_pair good_more_declarators (good_one sign.Semicolon) refl) refl refl refl
+    c.in_ok-from.ensures.ok
+    (in_front good_more_declarators (good_one sign.Semicolon) refl refl
+    (least_one sign.Semicolon (real sign.Semicolon tt) _) c.in_err-more.ensures.err))))
 
 pub returns-in_err-rest-clause-err : goal.returns-in_err-rest-clause-err
-returns-in_err-rest-clause-err c = passed c.from_residual-in_err-rest.result (Stops (read_declared_data c.args.kind c.args.name) c.args.bounds.now c.args.left.now) c.in_err-rest.field-0.0 c.from_residual-in_err-rest.ensures.1
-    (widen_fails _ _ _ refl refl refl (fails_made (λ (r : Declared). data_item c.args.kind c.args.name (inr r)) _ (in_back good_maybe_from (good_pair good_more_declarators (good_one sign.Semicolon) refl) refl refl refl c.in_ok-from.ensures.ok (in_back good_more_declarators (good_one sign.Semicolon) refl refl refl c.in_ok-more.ensures.ok (fails_one sign.Semicolon (real sign.Semicolon tt) _ _ _ _ c.in_err-rest.ensures.err.0 c.in_err-rest.ensures.err.1)))))
+returns-in_err-rest-clause-err c =
+    passed c.from_residual-in_err-rest.result
+    (Stops (read_declared_data c.args.kind c.args.name) c.args.bounds.now c.args.left.now) c.in_err-rest.field-0.0
+    c.from_residual-in_err-rest.ensures.1
+    (widen_fails _ _ _ refl refl refl
+    (fails_made (λ (r : Declared). data_item c.args.kind c.args.name (inr r)) _
+    (in_back good_maybe_from (good_pair good_more_declarators (good_one sign.Semicolon) refl) refl refl refl
+    c.in_ok-from.ensures.ok
+    (in_back good_more_declarators (good_one sign.Semicolon) refl refl refl c.in_ok-more.ensures.ok
+    (fails_one sign.Semicolon (real sign.Semicolon tt) _ _ _ _ c.in_err-rest.ensures.err.0
+    c.in_err-rest.ensures.err.1)))))
 
 pub returns-in_err-vars-clause-err : goal.returns-in_err-vars-clause-err
-returns-in_err-vars-clause-err c = passed c.from_residual-in_err-vars.result (Stops (read_declared_data c.args.kind c.args.name) c.args.bounds.now c.args.left.now) _ c.from_residual-in_err-vars.ensures.1 no_memory
+returns-in_err-vars-clause-err c =
+    passed c.from_residual-in_err-vars.result
+    (Stops (read_declared_data c.args.kind c.args.name) c.args.bounds.now c.args.left.now) _
+    c.from_residual-in_err-vars.ensures.1 no_memory
 
 pub returns-clause-ok : goal.returns-clause-ok
-returns-clause-ok c = takes_as _ (ap (λ l. item'.Declare (declare'.Datums c.args.kind l)) c.in_ok-vars.ensures) (widen_takes _ _ refl refl (takes_made (λ (r : Declared). data_item c.args.kind c.args.name (inr r)) (pair good_maybe_from (good_pair good_more_declarators (good_one sign.Semicolon) refl) refl c.in_ok-from.ensures.ok (pair good_more_declarators (good_one sign.Semicolon) refl c.in_ok-more.ensures.ok (takes_token sign.Semicolon _ _ _ _ c.in_ok-rest.ensures.ok.0 c.in_ok-rest.ensures.ok.1)))))
+returns-clause-ok c = takes_as _ (ap (λ l. item'.Declare (declare'.Datums c.args.kind l)) c.in_ok-vars.ensures)
+    (widen_takes _ _ refl refl
+    (takes_made (λ (r : Declared). data_item c.args.kind c.args.name (inr r))
+    (pair good_maybe_from (good_pair good_more_declarators (good_one sign.Semicolon) refl) refl c.in_ok-from.ensures.ok
+    (pair good_more_declarators (good_one sign.Semicolon) refl c.in_ok-more.ensures.ok
+    (takes_token sign.Semicolon _ _ _ _ c.in_ok-rest.ensures.ok.0 c.in_ok-rest.ensures.ok.1)))))

@@ -7,7 +7,12 @@ use Rattle.c_grammar.proofs.Repeats.{cont_many}
 use Rattle.c_parser.proofs.globals.more_declarators.Given as goal
 
 abbrev pub invariant-declarators : goal.invariant-declarators
-invariant-declarators l = record { shorter : length l.rest ≤ length l.left; leads : Leads read_next_declarator.rule commas declarator_goes_on no_sign no_sign read_more_declarators.rule (cont_many commas declarator_goes_on) no_sign no_sign l.bounds.room l.bounds.end l.left l.rest l.all }
+invariant-declarators l =
+    record {
+      shorter : length l.rest ≤ length l.left;
+      leads : Leads read_next_declarator.rule commas declarator_goes_on no_sign no_sign read_more_declarators.rule
+          (cont_many commas declarator_goes_on) no_sign no_sign l.bounds.room l.bounds.end l.left l.rest l.all;
+    }
 
 abbrev pub decreases-declarators : goal.decreases-declarators
 decreases-declarators l = length l.rest

@@ -7,7 +7,11 @@ use Rattle.c_grammar.proofs.Repeats.{cont_many}
 use Rattle.c_parser.proofs.globals.more_pointers.Given as goal
 
 abbrev pub invariant-pointers : goal.invariant-pointers
-invariant-pointers l = record { shorter : length l.rest ≤ length l.left; leads : Leads read_next_pointer.rule commas declarator_goes_on no_sign no_sign read_more_pointers.rule (cont_many commas declarator_goes_on) no_sign no_sign l.bounds.room l.bounds.end l.left l.rest l.all }
+invariant-pointers l = record {
+  shorter : length l.rest ≤ length l.left;
+  leads : Leads read_next_pointer.rule commas declarator_goes_on no_sign no_sign read_more_pointers.rule
+      (cont_many commas declarator_goes_on) no_sign no_sign l.bounds.room l.bounds.end l.left l.rest l.all;
+}
 
 abbrev pub decreases-pointers : goal.decreases-pointers
 decreases-pointers l = length l.rest

@@ -13,17 +13,55 @@ use Rattle.c_grammar.proofs.Steps.{widen_takes, widen_fails}
 use Rattle.c_parser.proofs.globals.rest_of_data.Goals as goal
 
 pub returns-then-is_next-clause-ok : goal.returns-then-is_next-clause-ok
-returns-then-is_next-clause-ok c = IfOk-weaker c.data_called.result (λ r. Reads (read_data_called c.args.kind c.args.name) c.args.bounds.now c.args.left.now r.1.now r.0) (λ r. Reads (read_rest_of_data c.args.kind c.args.name) c.args.bounds.now c.args.left.now r.1.now r.0)
-    (λ r t. takes_same (same_fork (λ (q : Rest). data_item c.args.kind c.args.name q)) (widen_takes _ _ refl refl (left_takes (named (among (sign.Open ∷ [])) no_sign elses (good_made good_called (λ (q : Called). data_item c.args.kind c.args.name (inl q))) refl refl refl) (contd no_sign no_sign (good_made good_data_declared (λ (r : Declared). data_item c.args.kind c.args.name (inr r))) refl refl) refl refl (sym c.is_next.ensures ∙ c.if-is_next.true) t))) c.data_called.ensures.ok
+returns-then-is_next-clause-ok c =
+    IfOk-weaker c.data_called.result
+    (λ r. Reads (read_data_called c.args.kind c.args.name) c.args.bounds.now c.args.left.now r.1.now r.0)
+    (λ r. Reads (read_rest_of_data c.args.kind c.args.name) c.args.bounds.now c.args.left.now r.1.now r.0)
+    (λ r t. takes_same (same_fork (λ (q : Rest). data_item c.args.kind c.args.name q))
+    (widen_takes _ _ refl refl
+    (left_takes
+    (named (among (sign.Open ∷ [])) no_sign elses
+    (good_made good_called (λ (q : Called). data_item c.args.kind c.args.name (inl q))) refl refl refl)
+    (contd no_sign no_sign
+    (good_made good_data_declared (λ (r : Declared). data_item c.args.kind c.args.name (inr r))) refl refl) refl
+    refl (sym c.is_next.ensures ∙ c.if-is_next.true) t))) c.data_called.ensures.ok
 
 pub returns-then-is_next-clause-err : goal.returns-then-is_next-clause-err
-returns-then-is_next-clause-err c = IfErr-weaker c.data_called.result (Stops (read_data_called c.args.kind c.args.name) c.args.bounds.now c.args.left.now) (Stops (read_rest_of_data c.args.kind c.args.name) c.args.bounds.now c.args.left.now)
-    (λ e x. fails_same (same_fork (λ (q : Rest). data_item c.args.kind c.args.name q)) _ (widen_fails _ _ _ refl refl refl (left_fails (named (among (sign.Open ∷ [])) no_sign elses (good_made good_called (λ (q : Called). data_item c.args.kind c.args.name (inl q))) refl refl refl) (contd no_sign no_sign (good_made good_data_declared (λ (r : Declared). data_item c.args.kind c.args.name (inr r))) refl refl) refl refl (sym c.is_next.ensures ∙ c.if-is_next.true) x))) c.data_called.ensures.err
+returns-then-is_next-clause-err c =
+    IfErr-weaker c.data_called.result
+    (Stops (read_data_called c.args.kind c.args.name) c.args.bounds.now c.args.left.now)
+    (Stops (read_rest_of_data c.args.kind c.args.name) c.args.bounds.now c.args.left.now)
+    (λ e x. fails_same (same_fork (λ (q : Rest). data_item c.args.kind c.args.name q)) _
+    (widen_fails _ _ _ refl refl refl
+    (left_fails
+    (named (among (sign.Open ∷ [])) no_sign elses
+    (good_made good_called (λ (q : Called). data_item c.args.kind c.args.name (inl q))) refl refl refl)
+    (contd no_sign no_sign
+    (good_made good_data_declared (λ (r : Declared). data_item c.args.kind c.args.name (inr r))) refl refl) refl
+    refl (sym c.is_next.ensures ∙ c.if-is_next.true) x))) c.data_called.ensures.err
 
 pub returns-clause-ok : goal.returns-clause-ok
-returns-clause-ok c = IfOk-weaker c.declared_data.result (λ r. Reads (read_declared_data c.args.kind c.args.name) c.args.bounds.now c.args.left.now r.1.now r.0) (λ r. Reads (read_rest_of_data c.args.kind c.args.name) c.args.bounds.now c.args.left.now r.1.now r.0)
-    (λ r t. takes_same (same_fork (λ (q : Rest). data_item c.args.kind c.args.name q)) (widen_takes _ _ refl refl (right_takes (named (among (sign.Open ∷ [])) no_sign elses (good_made good_called (λ (q : Called). data_item c.args.kind c.args.name (inl q))) refl refl refl) (contd no_sign no_sign (good_made good_data_declared (λ (r : Declared). data_item c.args.kind c.args.name (inr r))) refl refl) refl refl refl (sym c.is_next.ensures ∙ c.if-is_next.false) t))) c.declared_data.ensures.ok
+returns-clause-ok c = IfOk-weaker c.declared_data.result
+    (λ r. Reads (read_declared_data c.args.kind c.args.name) c.args.bounds.now c.args.left.now r.1.now r.0)
+    (λ r. Reads (read_rest_of_data c.args.kind c.args.name) c.args.bounds.now c.args.left.now r.1.now r.0)
+    (λ r t. takes_same (same_fork (λ (q : Rest). data_item c.args.kind c.args.name q))
+    (widen_takes _ _ refl refl
+    (right_takes
+    (named (among (sign.Open ∷ [])) no_sign elses
+    (good_made good_called (λ (q : Called). data_item c.args.kind c.args.name (inl q))) refl refl refl)
+    (contd no_sign no_sign
+    (good_made good_data_declared (λ (r : Declared). data_item c.args.kind c.args.name (inr r))) refl refl) refl
+    refl refl (sym c.is_next.ensures ∙ c.if-is_next.false) t))) c.declared_data.ensures.ok
 
 pub returns-clause-err : goal.returns-clause-err
-returns-clause-err c = IfErr-weaker c.declared_data.result (Stops (read_declared_data c.args.kind c.args.name) c.args.bounds.now c.args.left.now) (Stops (read_rest_of_data c.args.kind c.args.name) c.args.bounds.now c.args.left.now)
-    (λ e x. fails_same (same_fork (λ (q : Rest). data_item c.args.kind c.args.name q)) _ (widen_fails _ _ _ refl refl refl (right_fails (named (among (sign.Open ∷ [])) no_sign elses (good_made good_called (λ (q : Called). data_item c.args.kind c.args.name (inl q))) refl refl refl) (contd no_sign no_sign (good_made good_data_declared (λ (r : Declared). data_item c.args.kind c.args.name (inr r))) refl refl) refl refl refl (sym c.is_next.ensures ∙ c.if-is_next.false) x))) c.declared_data.ensures.err
+returns-clause-err c = IfErr-weaker c.declared_data.result
+    (Stops (read_declared_data c.args.kind c.args.name) c.args.bounds.now c.args.left.now)
+    (Stops (read_rest_of_data c.args.kind c.args.name) c.args.bounds.now c.args.left.now)
+    (λ e x. fails_same (same_fork (λ (q : Rest). data_item c.args.kind c.args.name q)) _
+    (widen_fails _ _ _ refl refl refl
+    (right_fails
+    (named (among (sign.Open ∷ [])) no_sign elses
+    (good_made good_called (λ (q : Called). data_item c.args.kind c.args.name (inl q))) refl refl refl)
+    (contd no_sign no_sign
+    (good_made good_data_declared (λ (r : Declared). data_item c.args.kind c.args.name (inr r))) refl refl) refl
+    refl refl (sym c.is_next.ensures ∙ c.if-is_next.false) x))) c.declared_data.ensures.err

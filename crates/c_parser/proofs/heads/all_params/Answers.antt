@@ -12,32 +12,54 @@ use Rattle.c_grammar.proofs.Tokens.{real}
 use Rattle.c_parser.proofs.heads.all_params.Goals as goal
 
 pub returns-in_err-first-clause-err : goal.returns-in_err-first-clause-err
-returns-in_err-first-clause-err c = passed c.from_residual.result (Stops read_all_params c.args.bounds.now c.args.left.now) c.in_err-first.field-0.0 c.from_residual.ensures.1
-    (series_fails sign.Comma (real sign.Comma tt) refl commas no_sign good_param good_more_params refl refl refl refl refl refl refl _ _ _ _ c.in_err-first.ensures.err)
+returns-in_err-first-clause-err c =
+    passed c.from_residual.result (Stops read_all_params c.args.bounds.now c.args.left.now) c.in_err-first.field-0.0
+    c.from_residual.ensures.1
+    (series_fails sign.Comma (real sign.Comma tt) refl commas no_sign good_param good_more_params refl refl refl refl
+    refl refl refl _ _ _ _ c.in_err-first.ensures.err)
 
 pub returns-in_err-push-clause-err : goal.returns-in_err-push-clause-err
-returns-in_err-push-clause-err c = passed c.from_residual-in_err-push.result (Stops read_all_params c.args.bounds.now c.args.left.now) _ c.from_residual-in_err-push.ensures.1 no_memory
+returns-in_err-push-clause-err c =
+    passed c.from_residual-in_err-push.result (Stops read_all_params c.args.bounds.now c.args.left.now) _
+    c.from_residual-in_err-push.ensures.1 no_memory
 
 pub params-init : goal.params-init
 params-init c = record {
   shorter = c.in_ok-first.ensures.shorter;
-  leads = subst (λ all. Leads read_next_param.rule (among (sign.Comma ∷ [])) no_sign no_sign no_sign read_all_params.rule commas no_sign no_sign c.args.bounds.now.room c.args.bounds.now.end c.args.left.now c.in_ok-first.rest.now all)
-      (sym (c.in_ok-push.ensures.ok ∙ ap (λ l. l ++ c.in_ok-first.first ∷ []) c.new-all.ensures)) (series_begun sign.Comma (real sign.Comma tt) refl commas no_sign good_param good_more_params refl refl refl refl refl refl refl _ _ _ _ _ c.in_ok-first.ensures.ok);
+  leads =
+      subst
+      (λ all. Leads read_next_param.rule (among (sign.Comma ∷ [])) no_sign no_sign no_sign read_all_params.rule commas
+      no_sign no_sign c.args.bounds.now.room c.args.bounds.now.end c.args.left.now c.in_ok-first.rest.now all)
+      (sym (c.in_ok-push.ensures.ok ∙ ap (λ l. l ++ c.in_ok-first.first ∷ []) c.new-all.ensures))
+      (series_begun sign.Comma (real sign.Comma tt) refl commas no_sign good_param good_more_params refl refl refl
+      refl refl refl refl _ _ _ _ _ c.in_ok-first.ensures.ok);
 }
 
 pub returns-in_err-next-clause-err : goal.returns-in_err-next-clause-err
-returns-in_err-next-clause-err c = passed c.from_residual-in_err-next.result (Stops read_all_params c.args.bounds.now c.args.left.now) c.in_err-next.field-0.0 c.from_residual-in_err-next.ensures.1
-    (leads_stuck good_next_param (lists (among (sign.Comma ∷ [])) no_sign no_sign no_sign refl refl refl refl refl) c.params.invariant.leads (sym c.is_next.ensures ∙ c.params-test.true) _ c.in_err-next.ensures.err)
+returns-in_err-next-clause-err c =
+    passed c.from_residual-in_err-next.result (Stops read_all_params c.args.bounds.now c.args.left.now)
+    c.in_err-next.field-0.0 c.from_residual-in_err-next.ensures.1
+    (leads_stuck good_next_param (lists (among (sign.Comma ∷ [])) no_sign no_sign no_sign refl refl refl refl refl)
+    c.params.invariant.leads (sym c.is_next.ensures ∙ c.params-test.true) _ c.in_err-next.ensures.err)
 
 pub returns-in_err-push-2-clause-err : goal.returns-in_err-push-2-clause-err
-returns-in_err-push-2-clause-err c = passed c.from_residual-in_err-push-2.result (Stops read_all_params c.args.bounds.now c.args.left.now) _ c.from_residual-in_err-push-2.ensures.1 no_memory
+returns-in_err-push-2-clause-err c =
+    passed c.from_residual-in_err-push-2.result (Stops read_all_params c.args.bounds.now c.args.left.now) _
+    c.from_residual-in_err-push-2.ensures.1 no_memory
 
 pub params-preserved : goal.params-preserved
 params-preserved c = record {
   shorter = omega (arith, c.params.invariant.shorter, c.in_ok-next.ensures.shorter);
-  leads = subst (λ all. Leads read_next_param.rule (among (sign.Comma ∷ [])) no_sign no_sign no_sign read_all_params.rule commas no_sign no_sign c.args.bounds.now.room c.args.bounds.now.end c.args.left.now c.in_ok-next.after.now all)
-      (sym c.in_ok-push-2.ensures.ok) (leads_more good_next_param (lists (among (sign.Comma ∷ [])) no_sign no_sign no_sign refl refl refl refl refl) c.params.invariant.leads _ _ (sym c.is_next.ensures ∙ c.params-test.true) c.in_ok-next.ensures.ok);
+  leads =
+      subst
+      (λ all. Leads read_next_param.rule (among (sign.Comma ∷ [])) no_sign no_sign no_sign read_all_params.rule commas
+      no_sign no_sign c.args.bounds.now.room c.args.bounds.now.end c.args.left.now c.in_ok-next.after.now all)
+      (sym c.in_ok-push-2.ensures.ok)
+      (leads_more good_next_param (lists (among (sign.Comma ∷ [])) no_sign no_sign no_sign refl refl refl refl refl)
+      c.params.invariant.leads _ _ (sym c.is_next.ensures ∙ c.params-test.true) c.in_ok-next.ensures.ok);
 }
 
 pub returns-clause-ok : goal.returns-clause-ok
-returns-clause-ok c = leads_end good_next_param (lists (among (sign.Comma ∷ [])) no_sign no_sign no_sign refl refl refl refl refl) c.params.invariant.leads (sym c.is_next.ensures ∙ c.params-test.false)
+returns-clause-ok c = leads_end good_next_param
+    (lists (among (sign.Comma ∷ [])) no_sign no_sign no_sign refl refl refl refl refl) c.params.invariant.leads
+    (sym c.is_next.ensures ∙ c.params-test.false)

@@ -7,7 +7,9 @@ use Rattle.c_grammar.proofs.Steps.{passed, widen_takes, widen_fails}
 use Rattle.c_parser.proofs.heads.data_type.Goals as goal
 
 pub returns-in_err-data-clause-err : goal.returns-in_err-data-clause-err
-returns-in_err-data-clause-err c = passed c.from_residual.result (Stops read_data_type c.args.bounds.now c.args.left.now) c.in_err-data.field-0.0 c.from_residual.ensures.1
+returns-in_err-data-clause-err c =
+    passed c.from_residual.result (Stops read_data_type c.args.bounds.now c.args.left.now) c.in_err-data.field-0.0
+    c.from_residual.ensures.1
     (widen_fails _ _ _ refl refl refl (fails_made return'.Data _ c.in_err-data.ensures.err))
 
 pub returns-clause-ok : goal.returns-clause-ok

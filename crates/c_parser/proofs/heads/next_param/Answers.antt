@@ -12,12 +12,26 @@ use Rattle.c_grammar.proofs.Tokens.{fails_one, real}
 use Rattle.c_parser.proofs.heads.next_param.Goals as goal
 
 pub returns-in_err-rest-clause-err : goal.returns-in_err-rest-clause-err
-returns-in_err-rest-clause-err c = passed c.from_residual.result (Stops read_next_param c.args.bounds.now c.args.left.now) c.in_err-rest.field-0.0 c.from_residual.ensures.1
-    (widen_fails _ _ _ refl refl refl (fails_made s.second _ (in_front (good_one sign.Comma) good_param refl refl (least_param _) (fails_one sign.Comma (real sign.Comma tt) _ _ _ _ c.in_err-rest.ensures.err.0 c.in_err-rest.ensures.err.1))))
+returns-in_err-rest-clause-err c =
+    passed c.from_residual.result (Stops read_next_param c.args.bounds.now c.args.left.now) c.in_err-rest.field-0.0
+    c.from_residual.ensures.1
+    (widen_fails _ _ _ refl refl refl
+    (fails_made s.second _
+    (in_front (good_one sign.Comma) good_param refl refl (least_param _)
+    (fails_one sign.Comma (real sign.Comma tt) _ _ _ _ c.in_err-rest.ensures.err.0 c.in_err-rest.ensures.err.1))))
 
 pub returns-in_err-param-clause-err : goal.returns-in_err-param-clause-err
-returns-in_err-param-clause-err c = passed c.from_residual-in_err-param.result (Stops read_next_param c.args.bounds.now c.args.left.now) c.in_err-param.field-0.0 c.from_residual-in_err-param.ensures.1
-    (widen_fails _ _ _ refl refl refl (fails_made s.second _ (in_back (good_one sign.Comma) good_param refl refl refl (takes_token sign.Comma _ _ _ _ c.in_ok-rest.ensures.ok.0 c.in_ok-rest.ensures.ok.1) c.in_err-param.ensures.err)))
+returns-in_err-param-clause-err c =
+    passed c.from_residual-in_err-param.result (Stops read_next_param c.args.bounds.now c.args.left.now)
+    c.in_err-param.field-0.0 c.from_residual-in_err-param.ensures.1
+    (widen_fails _ _ _ refl refl refl
+    (fails_made s.second _
+    (in_back (good_one sign.Comma) good_param refl refl refl
+    (takes_token sign.Comma _ _ _ _ c.in_ok-rest.ensures.ok.0 c.in_ok-rest.ensures.ok.1)
+    c.in_err-param.ensures.err)))
 
 pub returns-clause-ok : goal.returns-clause-ok
-returns-clause-ok c = widen_takes _ _ refl refl (takes_made s.second (pair (good_one sign.Comma) good_param refl (takes_token sign.Comma _ _ _ _ c.in_ok-rest.ensures.ok.0 c.in_ok-rest.ensures.ok.1) c.in_ok-param.ensures.ok))
+returns-clause-ok c = widen_takes _ _ refl refl
+    (takes_made s.second
+    (pair (good_one sign.Comma) good_param refl
+    (takes_token sign.Comma _ _ _ _ c.in_ok-rest.ensures.ok.0 c.in_ok-rest.ensures.ok.1) c.in_ok-param.ensures.ok))

@@ -13,16 +13,44 @@ use Rattle.c_grammar.proofs.Tokens.{fails_one, takes_at, takes_name, real}
 use Rattle.c_parser.proofs.heads.pointer_type.Goals as goal
 
 pub returns-in_err-token-clause-err : goal.returns-in_err-token-clause-err
-returns-in_err-token-clause-err c = passed c.from_residual.result (Stops read_pointer_type c.args.bounds.now c.args.left.now) c.in_err-token.field-0.0 c.from_residual.ensures.1
-    (widen_fails _ _ _ refl refl refl (fails_made i.return_pointer_of _ (in_front (good_at sign.Struct) (good_pair good_name (good_one sign.Star) refl) refl refl (least_pair good_name (good_one sign.Star) refl refl _ (least_name _) (least_one sign.Star (real sign.Star tt) _)) (fails_made at_of _ (fails_one sign.Struct (real sign.Struct tt) _ _ _ _ c.in_err-token.ensures.err.0 c.in_err-token.ensures.err.1)))))
+returns-in_err-token-clause-err c =
+    passed c.from_residual.result (Stops read_pointer_type c.args.bounds.now c.args.left.now) c.in_err-token.field-0.0
+    c.from_residual.ensures.1
+    (widen_fails _ _ _ refl refl refl
+    (fails_made i.return_pointer_of _
+    (in_front (good_at sign.Struct) (good_pair good_name (good_one sign.Star) refl) refl refl
+    (least_pair good_name (good_one sign.Star) refl refl _ (least_name _)
+    (least_one sign.Star (real sign.Star tt) _))
+    (fails_made at_of _
+    (fails_one sign.Struct (real sign.Struct tt) _ _ _ _ c.in_err-token.ensures.err.0
+    c.in_err-token.ensures.err.1)))))
 
 pub returns-in_err-shape-clause-err : goal.returns-in_err-shape-clause-err
-returns-in_err-shape-clause-err c = passed c.from_residual-in_err-shape.result (Stops read_pointer_type c.args.bounds.now c.args.left.now) c.in_err-shape.field-0.0 c.from_residual-in_err-shape.ensures.1
-    (widen_fails _ _ _ refl refl refl (fails_made i.return_pointer_of _ (in_back (good_at sign.Struct) (good_pair good_name (good_one sign.Star) refl) refl refl refl (takes_at sign.Struct _ _ _ _ c.in_ok-token.ensures.ok.0 c.in_ok-token.ensures.ok.1) (in_front good_name (good_one sign.Star) refl refl (least_one sign.Star (real sign.Star tt) _) c.in_err-shape.ensures.err))))
+returns-in_err-shape-clause-err c =
+    passed c.from_residual-in_err-shape.result (Stops read_pointer_type c.args.bounds.now c.args.left.now)
+    c.in_err-shape.field-0.0 c.from_residual-in_err-shape.ensures.1
+    (widen_fails _ _ _ refl refl refl
+    (fails_made i.return_pointer_of _
+    (in_back (good_at sign.Struct) (good_pair good_name (good_one sign.Star) refl) refl refl refl
+    (takes_at sign.Struct _ _ _ _ c.in_ok-token.ensures.ok.0 c.in_ok-token.ensures.ok.1)
+    (in_front good_name (good_one sign.Star) refl refl (least_one sign.Star (real sign.Star tt) _)
+    c.in_err-shape.ensures.err))))
 
 pub returns-in_err-rest-clause-err : goal.returns-in_err-rest-clause-err
-returns-in_err-rest-clause-err c = passed c.from_residual-in_err-rest.result (Stops read_pointer_type c.args.bounds.now c.args.left.now) c.in_err-rest.field-0.0 c.from_residual-in_err-rest.ensures.1
-    (widen_fails _ _ _ refl refl refl (fails_made i.return_pointer_of _ (in_back (good_at sign.Struct) (good_pair good_name (good_one sign.Star) refl) refl refl refl (takes_at sign.Struct _ _ _ _ c.in_ok-token.ensures.ok.0 c.in_ok-token.ensures.ok.1) (in_back good_name (good_one sign.Star) refl refl refl (takes_name _ _ _ _ c.in_ok-shape.ensures.ok) (fails_one sign.Star (real sign.Star tt) _ _ _ _ c.in_err-rest.ensures.err.0 c.in_err-rest.ensures.err.1)))))
+returns-in_err-rest-clause-err c =
+    passed c.from_residual-in_err-rest.result (Stops read_pointer_type c.args.bounds.now c.args.left.now)
+    c.in_err-rest.field-0.0 c.from_residual-in_err-rest.ensures.1
+    (widen_fails _ _ _ refl refl refl
+    (fails_made i.return_pointer_of _
+    (in_back (good_at sign.Struct) (good_pair good_name (good_one sign.Star) refl) refl refl refl
+    (takes_at sign.Struct _ _ _ _ c.in_ok-token.ensures.ok.0 c.in_ok-token.ensures.ok.1)
+    (in_back good_name (good_one sign.Star) refl refl refl (takes_name _ _ _ _ c.in_ok-shape.ensures.ok)
+    (fails_one sign.Star (real sign.Star tt) _ _ _ _ c.in_err-rest.ensures.err.0 c.in_err-rest.ensures.err.1)))))
 
 pub returns-clause-ok : goal.returns-clause-ok
-returns-clause-ok c = widen_takes _ _ refl refl (takes_made i.return_pointer_of (pair (good_at sign.Struct) (good_pair good_name (good_one sign.Star) refl) refl (takes_at sign.Struct _ _ _ _ c.in_ok-token.ensures.ok.0 c.in_ok-token.ensures.ok.1) (pair good_name (good_one sign.Star) refl (takes_name _ _ _ _ c.in_ok-shape.ensures.ok) (takes_token sign.Star _ _ _ _ c.in_ok-rest.ensures.ok.0 c.in_ok-rest.ensures.ok.1))))
+returns-clause-ok c = widen_takes _ _ refl refl
+    (takes_made i.return_pointer_of
+    (pair (good_at sign.Struct) (good_pair good_name (good_one sign.Star) refl) refl
+    (takes_at sign.Struct _ _ _ _ c.in_ok-token.ensures.ok.0 c.in_ok-token.ensures.ok.1)
+    (pair good_name (good_one sign.Star) refl (takes_name _ _ _ _ c.in_ok-shape.ensures.ok)
+    (takes_token sign.Star _ _ _ _ c.in_ok-rest.ensures.ok.0 c.in_ok-rest.ensures.ok.1))))

@@ -10,8 +10,14 @@ use Rattle.c_grammar.proofs.Tokens.{fails_one, takes_at, real}
 use Rattle.c_parser.proofs.heads.void_type.Goals as goal
 
 pub returns-in_err-token-clause-err : goal.returns-in_err-token-clause-err
-returns-in_err-token-clause-err c = passed c.from_residual.result (Stops read_void_type c.args.bounds.now c.args.left.now) c.in_err-token.field-0.0 c.from_residual.ensures.1
-    (widen_fails _ _ _ refl refl refl (fails_made return'.Void _ (fails_made at_of _ (fails_one sign.Void (real sign.Void tt) _ _ _ _ c.in_err-token.ensures.err.0 c.in_err-token.ensures.err.1))))
+returns-in_err-token-clause-err c =
+    passed c.from_residual.result (Stops read_void_type c.args.bounds.now c.args.left.now) c.in_err-token.field-0.0
+    c.from_residual.ensures.1
+    (widen_fails _ _ _ refl refl refl
+    (fails_made return'.Void _
+    (fails_made at_of _
+    (fails_one sign.Void (real sign.Void tt) _ _ _ _ c.in_err-token.ensures.err.0 c.in_err-token.ensures.err.1))))
 
 pub returns-clause-ok : goal.returns-clause-ok
-returns-clause-ok c = widen_takes _ _ refl refl (takes_made return'.Void (takes_at sign.Void _ _ _ _ c.in_ok-token.ensures.ok.0 c.in_ok-token.ensures.ok.1))
+returns-clause-ok c = widen_takes _ _ refl refl
+    (takes_made return'.Void (takes_at sign.Void _ _ _ _ c.in_ok-token.ensures.ok.0 c.in_ok-token.ensures.ok.1))

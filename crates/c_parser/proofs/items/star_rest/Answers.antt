@@ -16,16 +16,47 @@ use Rattle.c_grammar.proofs.Tokens.{fails_one, takes_name, real}
 use Rattle.c_parser.proofs.items.star_rest.Goals as goal
 
 pub returns-in_err-rest-clause-err : goal.returns-in_err-rest-clause-err
-returns-in_err-rest-clause-err c = passed c.from_residual.result (Stops (read_star_rest c.args.at c.args.shape) c.args.bounds.now c.args.left.now) c.in_err-rest.field-0.0 c.from_residual.ensures.1
-    (widen_fails _ _ _ refl refl refl (fails_made (λ (q : Token × (Name × Rest)). struct_item_of (c.args.at, (c.args.shape, inr q))) _ (in_front (good_one sign.Star) (good_pair good_name good_pointer_rest refl) refl refl (least_pair good_name good_pointer_rest refl refl _ (least_name _) (least_pointer_rest _)) (fails_one sign.Star (real sign.Star tt) _ _ _ _ c.in_err-rest.ensures.err.0 c.in_err-rest.ensures.err.1))))
+returns-in_err-rest-clause-err c =
+    passed c.from_residual.result (Stops (read_star_rest c.args.at c.args.shape) c.args.bounds.now c.args.left.now)
+    c.in_err-rest.field-0.0 c.from_residual.ensures.1
+    (widen_fails _ _ _ refl refl refl
+    (fails_made (λ (q : Token × (Name × Rest)). struct_item_of (c.args.at, (c.args.shape, inr q))) _
+    (in_front (good_one sign.Star) (good_pair good_name good_pointer_rest refl) refl refl
+    (least_pair good_name good_pointer_rest refl refl _ (least_name _) (least_pointer_rest _))
+    (fails_one sign.Star (real sign.Star tt) _ _ _ _ c.in_err-rest.ensures.err.0 c.in_err-rest.ensures.err.1))))
 
 pub returns-in_err-name-clause-err : goal.returns-in_err-name-clause-err
-returns-in_err-name-clause-err c = passed c.from_residual-in_err-name.result (Stops (read_star_rest c.args.at c.args.shape) c.args.bounds.now c.args.left.now) c.in_err-name.field-0.0 c.from_residual-in_err-name.ensures.1
-    (widen_fails _ _ _ refl refl refl (fails_made (λ (q : Token × (Name × Rest)). struct_item_of (c.args.at, (c.args.shape, inr q))) _ (in_back (good_one sign.Star) (good_pair good_name good_pointer_rest refl) refl refl refl (takes_token sign.Star _ _ _ _ c.in_ok-rest.ensures.ok.0 c.in_ok-rest.ensures.ok.1) (in_front good_name good_pointer_rest refl refl (least_pointer_rest _) c.in_err-name.ensures.err))))
+returns-in_err-name-clause-err c =
+    passed c.from_residual-in_err-name.result
+    (Stops (read_star_rest c.args.at c.args.shape) c.args.bounds.now c.args.left.now) c.in_err-name.field-0.0
+    c.from_residual-in_err-name.ensures.1
+    (widen_fails _ _ _ refl refl refl
+    (fails_made (λ (q : Token × (Name × Rest)). struct_item_of (c.args.at, (c.args.shape, inr q))) _
+    (in_back (good_one sign.Star) (good_pair good_name good_pointer_rest refl) refl refl refl
+    (takes_token sign.Star _ _ _ _ c.in_ok-rest.ensures.ok.0 c.in_ok-rest.ensures.ok.1)
+    (in_front good_name good_pointer_rest refl refl (least_pointer_rest _) c.in_err-name.ensures.err))))
 
 pub returns-in_err-item-clause-err : goal.returns-in_err-item-clause-err
-returns-in_err-item-clause-err c = passed c.from_residual-in_err-item.result (Stops (read_star_rest c.args.at c.args.shape) c.args.bounds.now c.args.left.now) c.in_err-item.field-0.0 c.from_residual-in_err-item.ensures.1
-    (widen_fails _ _ _ refl refl refl (fails_made (λ (q : Token × (Name × Rest)). struct_item_of (c.args.at, (c.args.shape, inr q))) _ (in_back (good_one sign.Star) (good_pair good_name good_pointer_rest refl) refl refl refl (takes_token sign.Star _ _ _ _ c.in_ok-rest.ensures.ok.0 c.in_ok-rest.ensures.ok.1) (in_back good_name good_pointer_rest refl refl refl (takes_name _ _ _ _ c.in_ok-name.ensures.ok) (fails_unmade good_pointer_rest (λ (q : Rest). pointer_item c.args.at c.args.shape c.in_ok-name.name q) refl _ c.in_err-item.ensures.err)))))
+returns-in_err-item-clause-err c =
+    passed c.from_residual-in_err-item.result
+    (Stops (read_star_rest c.args.at c.args.shape) c.args.bounds.now c.args.left.now) c.in_err-item.field-0.0
+    c.from_residual-in_err-item.ensures.1
+    (widen_fails _ _ _ refl refl refl
+    (fails_made (λ (q : Token × (Name × Rest)). struct_item_of (c.args.at, (c.args.shape, inr q))) _
+    (in_back (good_one sign.Star) (good_pair good_name good_pointer_rest refl) refl refl refl
+    (takes_token sign.Star _ _ _ _ c.in_ok-rest.ensures.ok.0 c.in_ok-rest.ensures.ok.1)
+    (in_back good_name good_pointer_rest refl refl refl (takes_name _ _ _ _ c.in_ok-name.ensures.ok)
+    (fails_unmade good_pointer_rest (λ (q : Rest). pointer_item c.args.at c.args.shape c.in_ok-name.name q) refl _
+    c.in_err-item.ensures.err)))))
 
 pub returns-clause-ok : goal.returns-clause-ok
-returns-clause-ok c = takes_as _ (takes_unmade good_pointer_rest (λ (q : Rest). pointer_item c.args.at c.args.shape c.in_ok-name.name q) c.in_ok-item.ensures.ok).1 (widen_takes _ _ refl refl (takes_made (λ (q : Token × (Name × Rest)). struct_item_of (c.args.at, (c.args.shape, inr q))) (pair (good_one sign.Star) (good_pair good_name good_pointer_rest refl) refl (takes_token sign.Star _ _ _ _ c.in_ok-rest.ensures.ok.0 c.in_ok-rest.ensures.ok.1) (pair good_name good_pointer_rest refl (takes_name _ _ _ _ c.in_ok-name.ensures.ok) (takes_unmade good_pointer_rest (λ (q : Rest). pointer_item c.args.at c.args.shape c.in_ok-name.name q) c.in_ok-item.ensures.ok).2))))
+returns-clause-ok c = takes_as _
+    (takes_unmade good_pointer_rest (λ (q : Rest). pointer_item c.args.at c.args.shape c.in_ok-name.name q)
+    c.in_ok-item.ensures.ok).1
+    (widen_takes _ _ refl refl
+    (takes_made (λ (q : Token × (Name × Rest)). struct_item_of (c.args.at, (c.args.shape, inr q)))
+    (pair (good_one sign.Star) (good_pair good_name good_pointer_rest refl) refl
+    (takes_token sign.Star _ _ _ _ c.in_ok-rest.ensures.ok.0 c.in_ok-rest.ensures.ok.1)
+    (pair good_name good_pointer_rest refl (takes_name _ _ _ _ c.in_ok-name.ensures.ok)
+    (takes_unmade good_pointer_rest (λ (q : Rest). pointer_item c.args.at c.args.shape c.in_ok-name.name q)
+    c.in_ok-item.ensures.ok).2))))

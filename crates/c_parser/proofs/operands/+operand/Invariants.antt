@@ -17,7 +17,9 @@ abbrev pub decreases-argument : goal.decreases-argument
 decreases-argument l = 8 * l.bounds.now.room + 1
 
 abbrev pub invariant-some_operands-operands : goal.invariant-some_operands-operands
-invariant-some_operands-operands l = Leads next_argument.rule commas operand_goes_on no_sign no_sign some_arguments.rule arguments_go_on no_sign no_sign l.bounds.room l.bounds.end l.left l.rest l.all
+invariant-some_operands-operands l =
+    Leads next_argument.rule commas operand_goes_on no_sign no_sign some_arguments.rule arguments_go_on no_sign no_sign
+    l.bounds.room l.bounds.end l.left l.rest l.all
 
 abbrev pub decreases-some_operands-operands : goal.decreases-some_operands-operands
 decreases-some_operands-operands l = length l.rest

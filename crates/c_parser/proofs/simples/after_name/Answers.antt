@@ -17,17 +17,58 @@ use Rattle.c_grammar.proofs.Steps.{widen_takes, widen_fails}
 use Rattle.c_parser.proofs.simples.after_name.Goals as goal
 
 pub returns-then-is_next-clause-ok : goal.returns-then-is_next-clause-ok
-returns-then-is_next-clause-ok c = IfOk-weaker c.called_simple.result (λ r. Reads (read_called_simple c.args.name) c.args.bounds.now c.args.left.now r.1.now r.0) (λ r. Reads (read_after_name c.args.name) c.args.bounds.now c.args.left.now r.1.now r.0)
-    (λ r t. takes_same (same_fork (λ (a : After). simple_word (c.args.name, a))) (widen_takes _ _ refl refl (left_takes (named (among (sign.Open ∷ [])) no_sign no_sign (good_made (good_arguments good_argument) (λ (os : List Operand). simple_word (c.args.name, inl os))) refl refl refl) (contd operand_goes_on no_sign (good_made good_assigned (λ (q : List Arrow × (Token × Rhs)). simple_word (c.args.name, inr q))) refl refl) refl refl (sym c.is_next.ensures ∙ c.if-is_next.true) t))) c.called_simple.ensures.ok
+returns-then-is_next-clause-ok c =
+    IfOk-weaker c.called_simple.result
+    (λ r. Reads (read_called_simple c.args.name) c.args.bounds.now c.args.left.now r.1.now r.0)
+    (λ r. Reads (read_after_name c.args.name) c.args.bounds.now c.args.left.now r.1.now r.0)
+    (λ r t. takes_same (same_fork (λ (a : After). simple_word (c.args.name, a)))
+    (widen_takes _ _ refl refl
+    (left_takes
+    (named (among (sign.Open ∷ [])) no_sign no_sign
+    (good_made (good_arguments good_argument) (λ (os : List Operand). simple_word (c.args.name, inl os))) refl refl
+    refl)
+    (contd operand_goes_on no_sign
+    (good_made good_assigned (λ (q : List Arrow × (Token × Rhs)). simple_word (c.args.name, inr q))) refl refl) refl
+    refl (sym c.is_next.ensures ∙ c.if-is_next.true) t))) c.called_simple.ensures.ok
 
 pub returns-then-is_next-clause-err : goal.returns-then-is_next-clause-err
-returns-then-is_next-clause-err c = IfErr-weaker c.called_simple.result (Stops (read_called_simple c.args.name) c.args.bounds.now c.args.left.now) (Stops (read_after_name c.args.name) c.args.bounds.now c.args.left.now)
-    (λ e x. fails_same (same_fork (λ (a : After). simple_word (c.args.name, a))) _ (widen_fails _ _ _ refl refl refl (left_fails (named (among (sign.Open ∷ [])) no_sign no_sign (good_made (good_arguments good_argument) (λ (os : List Operand). simple_word (c.args.name, inl os))) refl refl refl) (contd operand_goes_on no_sign (good_made good_assigned (λ (q : List Arrow × (Token × Rhs)). simple_word (c.args.name, inr q))) refl refl) refl refl (sym c.is_next.ensures ∙ c.if-is_next.true) x))) c.called_simple.ensures.err
+returns-then-is_next-clause-err c =
+    IfErr-weaker c.called_simple.result (Stops (read_called_simple c.args.name) c.args.bounds.now c.args.left.now)
+    (Stops (read_after_name c.args.name) c.args.bounds.now c.args.left.now)
+    (λ e x. fails_same (same_fork (λ (a : After). simple_word (c.args.name, a))) _
+    (widen_fails _ _ _ refl refl refl
+    (left_fails
+    (named (among (sign.Open ∷ [])) no_sign no_sign
+    (good_made (good_arguments good_argument) (λ (os : List Operand). simple_word (c.args.name, inl os))) refl refl
+    refl)
+    (contd operand_goes_on no_sign
+    (good_made good_assigned (λ (q : List Arrow × (Token × Rhs)). simple_word (c.args.name, inr q))) refl refl) refl
+    refl (sym c.is_next.ensures ∙ c.if-is_next.true) x))) c.called_simple.ensures.err
 
 pub returns-clause-ok : goal.returns-clause-ok
-returns-clause-ok c = IfOk-weaker c.assigned.result (λ r. Reads (read_assigned c.args.name) c.args.bounds.now c.args.left.now r.1.now r.0) (λ r. Reads (read_after_name c.args.name) c.args.bounds.now c.args.left.now r.1.now r.0)
-    (λ r t. takes_same (same_fork (λ (a : After). simple_word (c.args.name, a))) (widen_takes _ _ refl refl (right_takes (named (among (sign.Open ∷ [])) no_sign no_sign (good_made (good_arguments good_argument) (λ (os : List Operand). simple_word (c.args.name, inl os))) refl refl refl) (contd operand_goes_on no_sign (good_made good_assigned (λ (q : List Arrow × (Token × Rhs)). simple_word (c.args.name, inr q))) refl refl) refl refl refl (sym c.is_next.ensures ∙ c.if-is_next.false) t))) c.assigned.ensures.ok
+returns-clause-ok c = IfOk-weaker c.assigned.result
+    (λ r. Reads (read_assigned c.args.name) c.args.bounds.now c.args.left.now r.1.now r.0)
+    (λ r. Reads (read_after_name c.args.name) c.args.bounds.now c.args.left.now r.1.now r.0)
+    (λ r t. takes_same (same_fork (λ (a : After). simple_word (c.args.name, a)))
+    (widen_takes _ _ refl refl
+    (right_takes
+    (named (among (sign.Open ∷ [])) no_sign no_sign
+    (good_made (good_arguments good_argument) (λ (os : List Operand). simple_word (c.args.name, inl os))) refl refl
+    refl)
+    (contd operand_goes_on no_sign
+    (good_made good_assigned (λ (q : List Arrow × (Token × Rhs)). simple_word (c.args.name, inr q))) refl refl) refl
+    refl refl (sym c.is_next.ensures ∙ c.if-is_next.false) t))) c.assigned.ensures.ok
 
 pub returns-clause-err : goal.returns-clause-err
-returns-clause-err c = IfErr-weaker c.assigned.result (Stops (read_assigned c.args.name) c.args.bounds.now c.args.left.now) (Stops (read_after_name c.args.name) c.args.bounds.now c.args.left.now)
-    (λ e x. fails_same (same_fork (λ (a : After). simple_word (c.args.name, a))) _ (widen_fails _ _ _ refl refl refl (right_fails (named (among (sign.Open ∷ [])) no_sign no_sign (good_made (good_arguments good_argument) (λ (os : List Operand). simple_word (c.args.name, inl os))) refl refl refl) (contd operand_goes_on no_sign (good_made good_assigned (λ (q : List Arrow × (Token × Rhs)). simple_word (c.args.name, inr q))) refl refl) refl refl refl (sym c.is_next.ensures ∙ c.if-is_next.false) x))) c.assigned.ensures.err
+returns-clause-err c = IfErr-weaker c.assigned.result
+    (Stops (read_assigned c.args.name) c.args.bounds.now c.args.left.now)
+    (Stops (read_after_name c.args.name) c.args.bounds.now c.args.left.now)
+    (λ e x. fails_same (same_fork (λ (a : After). simple_word (c.args.name, a))) _
+    (widen_fails _ _ _ refl refl refl
+    (right_fails
+    (named (among (sign.Open ∷ [])) no_sign no_sign
+    (good_made (good_arguments good_argument) (λ (os : List Operand). simple_word (c.args.name, inl os))) refl refl
+    refl)
+    (contd operand_goes_on no_sign
+    (good_made good_assigned (λ (q : List Arrow × (Token × Rhs)). simple_word (c.args.name, inr q))) refl refl) refl
+    refl refl (sym c.is_next.ensures ∙ c.if-is_next.false) x))) c.assigned.ensures.err

@@ -16,16 +16,40 @@ use Rattle.c_grammar.proofs.Tokens.{fails_one, real}
 use Rattle.c_parser.proofs.simples.assigned.Goals as goal
 
 pub returns-in_err-arrows-clause-err : goal.returns-in_err-arrows-clause-err
-returns-in_err-arrows-clause-err c = passed c.from_residual.result (Stops (read_assigned c.args.name) c.args.bounds.now c.args.left.now) c.in_err-arrows.field-0.0 c.from_residual.ensures.1
-    (widen_fails _ _ _ refl refl refl (fails_made (λ (q : List Arrow × (Token × Rhs)). simple_word (c.args.name, inr q)) _ (in_front good_arrows (good_pair (good_one sign.Assign) good_rhs refl) refl refl (least_pair (good_one sign.Assign) good_rhs refl refl _ (least_one sign.Assign (real sign.Assign tt) _) (least_rhs _)) c.in_err-arrows.ensures.err)))
+returns-in_err-arrows-clause-err c =
+    passed c.from_residual.result (Stops (read_assigned c.args.name) c.args.bounds.now c.args.left.now)
+    c.in_err-arrows.field-0.0 c.from_residual.ensures.1
+    (widen_fails _ _ _ refl refl refl
+    (fails_made (λ (q : List Arrow × (Token × Rhs)). simple_word (c.args.name, inr q)) _
+    (in_front good_arrows (good_pair (good_one sign.Assign) good_rhs refl) refl refl
+    (least_pair (good_one sign.Assign) good_rhs refl refl _ (least_one sign.Assign (real sign.Assign tt) _)
+    (least_rhs _)) c.in_err-arrows.ensures.err)))
 
 pub returns-in_err-rest-clause-err : goal.returns-in_err-rest-clause-err
-returns-in_err-rest-clause-err c = passed c.from_residual-in_err-rest.result (Stops (read_assigned c.args.name) c.args.bounds.now c.args.left.now) c.in_err-rest.field-0.0 c.from_residual-in_err-rest.ensures.1
-    (widen_fails _ _ _ refl refl refl (fails_made (λ (q : List Arrow × (Token × Rhs)). simple_word (c.args.name, inr q)) _ (in_back good_arrows (good_pair (good_one sign.Assign) good_rhs refl) refl refl refl c.in_ok-arrows.ensures.ok (in_front (good_one sign.Assign) good_rhs refl refl (least_rhs _) (fails_one sign.Assign (real sign.Assign tt) _ _ _ _ c.in_err-rest.ensures.err.0 c.in_err-rest.ensures.err.1)))))
+returns-in_err-rest-clause-err c =
+    passed c.from_residual-in_err-rest.result (Stops (read_assigned c.args.name) c.args.bounds.now c.args.left.now)
+    c.in_err-rest.field-0.0 c.from_residual-in_err-rest.ensures.1
+    (widen_fails _ _ _ refl refl refl
+    (fails_made (λ (q : List Arrow × (Token × Rhs)). simple_word (c.args.name, inr q)) _
+    (in_back good_arrows (good_pair (good_one sign.Assign) good_rhs refl) refl refl refl c.in_ok-arrows.ensures.ok
+    (in_front (good_one sign.Assign) good_rhs refl refl (least_rhs _)
+    (fails_one sign.Assign (real sign.Assign tt) _ _ _ _ c.in_err-rest.ensures.err.0
+    c.in_err-rest.ensures.err.1)))))
 
 pub returns-in_err-from-clause-err : goal.returns-in_err-from-clause-err
-returns-in_err-from-clause-err c = passed c.from_residual-in_err-from.result (Stops (read_assigned c.args.name) c.args.bounds.now c.args.left.now) c.in_err-from.field-0.0 c.from_residual-in_err-from.ensures.1
-    (widen_fails _ _ _ refl refl refl (fails_made (λ (q : List Arrow × (Token × Rhs)). simple_word (c.args.name, inr q)) _ (in_back good_arrows (good_pair (good_one sign.Assign) good_rhs refl) refl refl refl c.in_ok-arrows.ensures.ok (in_back (good_one sign.Assign) good_rhs refl refl refl (takes_token sign.Assign _ _ _ _ c.in_ok-rest.ensures.ok.0 c.in_ok-rest.ensures.ok.1) c.in_err-from.ensures.err))))
+returns-in_err-from-clause-err c =
+    passed c.from_residual-in_err-from.result (Stops (read_assigned c.args.name) c.args.bounds.now c.args.left.now)
+    c.in_err-from.field-0.0 c.from_residual-in_err-from.ensures.1
+    (widen_fails _ _ _ refl refl refl
+    (fails_made (λ (q : List Arrow × (Token × Rhs)). simple_word (c.args.name, inr q)) _
+    (in_back good_arrows (good_pair (good_one sign.Assign) good_rhs refl) refl refl refl c.in_ok-arrows.ensures.ok
+    (in_back (good_one sign.Assign) good_rhs refl refl refl
+    (takes_token sign.Assign _ _ _ _ c.in_ok-rest.ensures.ok.0 c.in_ok-rest.ensures.ok.1)
+    c.in_err-from.ensures.err))))
 
 pub returns-clause-ok : goal.returns-clause-ok
-returns-clause-ok c = widen_takes _ _ refl refl (takes_made (λ (q : List Arrow × (Token × Rhs)). simple_word (c.args.name, inr q)) (pair good_arrows (good_pair (good_one sign.Assign) good_rhs refl) refl c.in_ok-arrows.ensures.ok (pair (good_one sign.Assign) good_rhs refl (takes_token sign.Assign _ _ _ _ c.in_ok-rest.ensures.ok.0 c.in_ok-rest.ensures.ok.1) c.in_ok-from.ensures.ok)))
+returns-clause-ok c = widen_takes _ _ refl refl
+    (takes_made (λ (q : List Arrow × (Token × Rhs)). simple_word (c.args.name, inr q))
+    (pair good_arrows (good_pair (good_one sign.Assign) good_rhs refl) refl c.in_ok-arrows.ensures.ok
+    (pair (good_one sign.Assign) good_rhs refl
+    (takes_token sign.Assign _ _ _ _ c.in_ok-rest.ensures.ok.0 c.in_ok-rest.ensures.ok.1) c.in_ok-from.ensures.ok)))

@@ -16,17 +16,51 @@ use Rattle.c_grammar.proofs.Steps.{widen_takes, widen_fails}
 use Rattle.c_parser.proofs.simples.sized.Goals as goal
 
 pub returns-then-is_next-clause-ok : goal.returns-then-is_next-clause-ok
-returns-then-is_next-clause-ok c = IfOk-weaker c.closed_size_inside.result (λ r. Reads (read_closed_size_inside c.args.at) c.args.bounds.now c.args.left.now r.1.now r.0) (λ r. Reads (read_sized c.args.at) c.args.bounds.now c.args.left.now r.1.now r.0)
-    (λ r t. takes_same (same_fork (λ (v : Sized). size_of (c.args.at, v))) (widen_takes _ _ refl refl (left_takes (named (among (sign.Open ∷ [])) no_sign no_sign (good_made good_closed_inside (λ (i : Inside). size_of (c.args.at, inl i))) refl refl refl) (contd arrows no_sign (good_made good_star_path (λ (q : Place × Path). size'.Bare c.args.at q.0 q.1)) refl refl) refl refl (sym c.is_next.ensures ∙ c.if-is_next.true) t))) c.closed_size_inside.ensures.ok
+returns-then-is_next-clause-ok c =
+    IfOk-weaker c.closed_size_inside.result
+    (λ r. Reads (read_closed_size_inside c.args.at) c.args.bounds.now c.args.left.now r.1.now r.0)
+    (λ r. Reads (read_sized c.args.at) c.args.bounds.now c.args.left.now r.1.now r.0)
+    (λ r t. takes_same (same_fork (λ (v : Sized). size_of (c.args.at, v)))
+    (widen_takes _ _ refl refl
+    (left_takes
+    (named (among (sign.Open ∷ [])) no_sign no_sign
+    (good_made good_closed_inside (λ (i : Inside). size_of (c.args.at, inl i))) refl refl refl)
+    (contd arrows no_sign (good_made good_star_path (λ (q : Place × Path). size'.Bare c.args.at q.0 q.1)) refl refl)
+    refl refl (sym c.is_next.ensures ∙ c.if-is_next.true) t))) c.closed_size_inside.ensures.ok
 
 pub returns-then-is_next-clause-err : goal.returns-then-is_next-clause-err
-returns-then-is_next-clause-err c = IfErr-weaker c.closed_size_inside.result (Stops (read_closed_size_inside c.args.at) c.args.bounds.now c.args.left.now) (Stops (read_sized c.args.at) c.args.bounds.now c.args.left.now)
-    (λ e x. fails_same (same_fork (λ (v : Sized). size_of (c.args.at, v))) _ (widen_fails _ _ _ refl refl refl (left_fails (named (among (sign.Open ∷ [])) no_sign no_sign (good_made good_closed_inside (λ (i : Inside). size_of (c.args.at, inl i))) refl refl refl) (contd arrows no_sign (good_made good_star_path (λ (q : Place × Path). size'.Bare c.args.at q.0 q.1)) refl refl) refl refl (sym c.is_next.ensures ∙ c.if-is_next.true) x))) c.closed_size_inside.ensures.err
+returns-then-is_next-clause-err c =
+    IfErr-weaker c.closed_size_inside.result
+    (Stops (read_closed_size_inside c.args.at) c.args.bounds.now c.args.left.now)
+    (Stops (read_sized c.args.at) c.args.bounds.now c.args.left.now)
+    (λ e x. fails_same (same_fork (λ (v : Sized). size_of (c.args.at, v))) _
+    (widen_fails _ _ _ refl refl refl
+    (left_fails
+    (named (among (sign.Open ∷ [])) no_sign no_sign
+    (good_made good_closed_inside (λ (i : Inside). size_of (c.args.at, inl i))) refl refl refl)
+    (contd arrows no_sign (good_made good_star_path (λ (q : Place × Path). size'.Bare c.args.at q.0 q.1)) refl refl)
+    refl refl (sym c.is_next.ensures ∙ c.if-is_next.true) x))) c.closed_size_inside.ensures.err
 
 pub returns-clause-ok : goal.returns-clause-ok
-returns-clause-ok c = IfOk-weaker c.bare_size.result (λ r. Reads (read_bare_size c.args.at) c.args.bounds.now c.args.left.now r.1.now r.0) (λ r. Reads (read_sized c.args.at) c.args.bounds.now c.args.left.now r.1.now r.0)
-    (λ r t. takes_same (same_fork (λ (v : Sized). size_of (c.args.at, v))) (widen_takes _ _ refl refl (right_takes (named (among (sign.Open ∷ [])) no_sign no_sign (good_made good_closed_inside (λ (i : Inside). size_of (c.args.at, inl i))) refl refl refl) (contd arrows no_sign (good_made good_star_path (λ (q : Place × Path). size'.Bare c.args.at q.0 q.1)) refl refl) refl refl refl (sym c.is_next.ensures ∙ c.if-is_next.false) t))) c.bare_size.ensures.ok
+returns-clause-ok c = IfOk-weaker c.bare_size.result
+    (λ r. Reads (read_bare_size c.args.at) c.args.bounds.now c.args.left.now r.1.now r.0)
+    (λ r. Reads (read_sized c.args.at) c.args.bounds.now c.args.left.now r.1.now r.0)
+    (λ r t. takes_same (same_fork (λ (v : Sized). size_of (c.args.at, v)))
+    (widen_takes _ _ refl refl
+    (right_takes
+    (named (among (sign.Open ∷ [])) no_sign no_sign
+    (good_made good_closed_inside (λ (i : Inside). size_of (c.args.at, inl i))) refl refl refl)
+    (contd arrows no_sign (good_made good_star_path (λ (q : Place × Path). size'.Bare c.args.at q.0 q.1)) refl refl)
+    refl refl refl (sym c.is_next.ensures ∙ c.if-is_next.false) t))) c.bare_size.ensures.ok
 
 pub returns-clause-err : goal.returns-clause-err
-returns-clause-err c = IfErr-weaker c.bare_size.result (Stops (read_bare_size c.args.at) c.args.bounds.now c.args.left.now) (Stops (read_sized c.args.at) c.args.bounds.now c.args.left.now)
-    (λ e x. fails_same (same_fork (λ (v : Sized). size_of (c.args.at, v))) _ (widen_fails _ _ _ refl refl refl (right_fails (named (among (sign.Open ∷ [])) no_sign no_sign (good_made good_closed_inside (λ (i : Inside). size_of (c.args.at, inl i))) refl refl refl) (contd arrows no_sign (good_made good_star_path (λ (q : Place × Path). size'.Bare c.args.at q.0 q.1)) refl refl) refl refl refl (sym c.is_next.ensures ∙ c.if-is_next.false) x))) c.bare_size.ensures.err
+returns-clause-err c = IfErr-weaker c.bare_size.result
+    (Stops (read_bare_size c.args.at) c.args.bounds.now c.args.left.now)
+    (Stops (read_sized c.args.at) c.args.bounds.now c.args.left.now)
+    (λ e x. fails_same (same_fork (λ (v : Sized). size_of (c.args.at, v))) _
+    (widen_fails _ _ _ refl refl refl
+    (right_fails
+    (named (among (sign.Open ∷ [])) no_sign no_sign
+    (good_made good_closed_inside (λ (i : Inside). size_of (c.args.at, inl i))) refl refl refl)
+    (contd arrows no_sign (good_made good_star_path (λ (q : Place × Path). size'.Bare c.args.at q.0 q.1)) refl refl)
+    refl refl refl (sym c.is_next.ensures ∙ c.if-is_next.false) x))) c.bare_size.ensures.err

@@ -7,7 +7,13 @@ use Rattle.c_grammar.proofs.Repeats.{cont_many}
 use Rattle.c_parser.proofs.statements.«+stmt».Given as goal
 
 abbrev pub invariant-parts-parts : goal.invariant-parts-parts
-invariant-parts-parts l = record { shorter : length l.rest ≤ length l.left; leads : Leads read_part.rule begins_part no_sign elses begins_level read_parts.rule (cont_many begins_part no_sign) elses begins_level l.bounds.room l.bounds.end l.left l.rest l.all }
+invariant-parts-parts l =
+    record {
+      shorter : length l.rest ≤ length l.left;
+      leads : Leads read_part.rule begins_part no_sign elses begins_level read_parts.rule
+          (cont_many begins_part no_sign)
+          elses begins_level l.bounds.room l.bounds.end l.left l.rest l.all;
+    }
 
 abbrev pub decreases-parts-parts : goal.decreases-parts-parts
 decreases-parts-parts l = length l.rest

@@ -11,7 +11,9 @@ returns-in-Some c =
       before = take i ts;
       token = c.token-item.result;
       after = drop (i + 1) ts;
-      are = sym (take-append-drop i ts) ∙ ap (λ (rest : List Token). take i ts ++ rest) (drop_more ts i c.token-item.result c.loop-token-test.true) ∙ ap (λ (t : Token). take i ts ++ t ∷ drop (i + 1) ts) (sym c.token-item.is);
+      are = sym (take-append-drop i ts)
+          ∙ ap (λ (rest : List Token). take i ts ++ rest) (drop_more ts i c.token-item.result c.loop-token-test.true)
+          ∙ ap (λ (t : Token). take i ts ++ t ∷ drop (i + 1) ts) (sym c.token-item.is);
       none = c.loop-token.invariant;
       rule = sym c.rule_of.ensures ∙ c.in-Some.is;
       at = refl;

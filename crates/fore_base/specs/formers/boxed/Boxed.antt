@@ -48,16 +48,26 @@ module _ (R S : RattleType) (h : R.Denot → S.Denot) where
   unfolding part_of
   item_places alike = record {
     mir_same = λ i. (row_of (one_value R (alike.mir_same i) (λ _. ftrue) (λ _ _. nothing) gnil)).mir;
-    own_same = λ there i. (row_of (one_value R (alike.mir_same i) (alike.own_same there.value i) (alike.shr_same there.value i) gnil)).own_val (holding there tt);
-    shr_same = λ there i. (row_of (one_value R (alike.mir_same i) (alike.own_same there.value i) (alike.shr_same there.value i) gnil)).shr_at (holding there tt);
+    own_same =
+        λ there i.
+        (row_of
+        (one_value R (alike.mir_same i) (alike.own_same there.value i) (alike.shr_same there.value i) gnil)).own_val
+        (holding there tt);
+    shr_same =
+        λ there i.
+        (row_of
+        (one_value R (alike.mir_same i) (alike.own_same there.value i) (alike.shr_same there.value i) gnil)).shr_at
+        (holding there tt);
   }
 
   pub the_places : Alike R S h → Alike (outer.the_row R) (outer.the_row S) ((the_former this).map R.Denot S.Denot h)
   the_places alike = view_places stored this view (λ X Y k u. refl) (λ X u. refl) R.Denot S.Denot h
       (outer.the_row R).coded (outer.the_row S).coded (invariant R.Denot) (invariant S.Denot)
       (λ u p q. refl) (λ u p q. refl) (λ u e. tt) (λ u e. tt) (over (inner.the_row R)) (over (inner.the_row S))
-      (struct_places (inner.the_type R) (inner.the_type S) ((λ there. holding there (h there.value)), tt) _ (λ item. refl) refl
+      (struct_places (inner.the_type R) (inner.the_type S) ((λ there. holding there (h there.value)), tt) _
+      (λ item. refl) refl
       (laid _ _ _ (item_places alike), tt))
 
-  pub the_codes_placed : Recodes R S h → Recodes (outer.the_row R) (outer.the_row S) ((the_former this).map R.Denot S.Denot h)
+  pub the_codes_placed : Recodes R S h
+      → Recodes (outer.the_row R) (outer.the_row S) ((the_former this).map R.Denot S.Denot h)
   the_codes_placed recodes item = recodes item

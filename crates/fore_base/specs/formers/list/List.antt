@@ -37,7 +37,8 @@ the_items_listed X items = list-listed X items
 
 -- the one field, a `Vec`
 abbrev stored : Former {0}
-stored = via (vec.the_former this Global) Inside (λ X list. list.items) (λ X items. record { items = items }) (λ X list. refl) (λ X items. refl)
+stored = via (vec.the_former this Global) Inside (λ X list. list.items) (λ X items. record { items = items })
+    (λ X list. refl) (λ X items. refl)
 
 module _ (R S : RattleType) (h : R.Denot → S.Denot) where
   pub the_places : Alike R S h → Alike (outer.the_row R) (outer.the_row S) ((the_former this).map R.Denot S.Denot h)
@@ -47,5 +48,6 @@ module _ (R S : RattleType) (h : R.Denot → S.Denot) where
       (struct_places (inner.the_type R) (inner.the_type S) (vec.mapped h, tt) _ (λ items. refl) refl
       (laid _ _ _ (vec.the_places heap.the_row ghosts R S h alike), tt))
 
-  pub the_codes_placed : Recodes R S h → Recodes (outer.the_row R) (outer.the_row S) ((the_former this).map R.Denot S.Denot h)
+  pub the_codes_placed : Recodes R S h
+      → Recodes (outer.the_row R) (outer.the_row S) ((the_former this).map R.Denot S.Denot h)
   the_codes_placed recodes items = sym (code_map R.coded.code S.coded.code h (λ x. sym (recodes x)) items)

@@ -8,5 +8,6 @@ abbrev pub invariant-loop-arc : goal.invariant-loop-arc
 invariant-loop-arc l = record {
   long : length l.marks ≡ length l.initial.marks;
   only : AreReached l.arcs l.initial.marks → AreReached l.arcs l.marks;
-  added : MatchBool l.added (gaps l.marks < gaps l.initial.marks) ((l.marks ≡ l.initial.marks) × Every (IsTaken l.initial.marks) (take l.arc-index l.arcs));
+  added : MatchBool l.added (gaps l.marks < gaps l.initial.marks)
+      ((l.marks ≡ l.initial.marks) × Every (IsTaken l.initial.marks) (take l.arc-index l.arcs));
 }

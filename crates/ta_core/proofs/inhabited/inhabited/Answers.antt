@@ -8,7 +8,8 @@ use Rattle.ta_core.proofs.Climbing.{up_low, inhabited_marks}
 use Rattle.ta_core.proofs.inhabited.inhabited.Goals as goal
 
 pub reached-requires : goal.reached-requires
-reached-requires c = rw (c.as_slice-2.ensures, c.in_ok-arcs.ensures, c.as_slice.ensures) (up_low _ c.auto.inside.rules c.auto.invariant.1)
+reached-requires c = rw (c.as_slice-2.ensures, c.in_ok-arcs.ensures, c.as_slice.ensures)
+    (up_low _ c.auto.inside.rules c.auto.invariant.1)
 
 pub returns : goal.returns
 returns c =

@@ -10,8 +10,11 @@ pub loop-rule-preserved : goal.loop-rule-preserved
 loop-rule-preserved c =
     let f = λ (q : ℕ). slice_index c.args.numbers.now q in
     let d = drop_item c.args.rules.now c.loop-rule.rule-index c.rule-item.result c.loop-rule-test.true c.rule-item.is in
-    let e = ap (λ (rest : List Rule). c.loop-rule.kept ++ kept_rules c.args.marks.now f rest) (sym d) ∙ c.loop-rule.invariant in
+    let e = ap (λ (rest : List Rule). c.loop-rule.kept ++ kept_rules c.args.marks.now f rest) (sym d)
+    ∙ c.loop-rule.invariant in
     elim c.if-is_kept.branch [
-      | then-is_kept+in_ok-rule+in_ok-push w ↦ rw (w.kept-is, w.in_ok-push.ensures.ok, w.in_ok-rule.ensures) (kept_push c.args.marks.now f _ _ _ _ (sym c.is_kept.ensures ∙ w.if-is_kept.true) e)
-      | else-is_kept w ↦ rw w.kept-is (kept_skip c.args.marks.now f _ _ _ _ (sym c.is_kept.ensures ∙ w.if-is_kept.false) e)
+      | then-is_kept+in_ok-rule+in_ok-push w ↦ rw (w.kept-is, w.in_ok-push.ensures.ok, w.in_ok-rule.ensures)
+          (kept_push c.args.marks.now f _ _ _ _ (sym c.is_kept.ensures ∙ w.if-is_kept.true) e)
+      | else-is_kept w ↦ rw w.kept-is
+          (kept_skip c.args.marks.now f _ _ _ _ (sym c.is_kept.ensures ∙ w.if-is_kept.false) e)
     ]

@@ -12,4 +12,6 @@ returns-in-Some c =
     let l = rw c.as_slice-rules.ensures at c.in_ok-sizes.ensures in
     let b = rw (c.as_slice.ensures, c.as_slice-2.ensures) at c.in-Some.ensures in
     let h = rw (c.as_slice-rules.ensures, c.as_slice-in-Some.ensures) at c.in_ok-tree-in-Some.ensures in
-    rw (← c.auto.view_is) (smallest (record { states = c.auto.inside.states; roots = c.auto.inside.roots; rules = c.auto.inside.rules }) c.in_ok-sizes.sizes c.in-Some.root c.in_ok-tree-in-Some.tree l b h)
+    rw (← c.auto.view_is)
+    (smallest (record { states = c.auto.inside.states; roots = c.auto.inside.roots; rules = c.auto.inside.rules })
+    c.in_ok-sizes.sizes c.in-Some.root c.in_ok-tree-in-Some.tree l b h)

@@ -3,4 +3,5 @@ use Rattle.ta_core.specs.Arity.{child_slots}
 use Rattle.ta_core.proofs.symbol.count_children.Given as goal
 
 abbrev pub invariant-loop-slot : goal.invariant-loop-slot
-invariant-loop-slot l = (l.count ≤ l.slot-index) × (l.count + child_slots (drop l.slot-index l.slots) ≡ child_slots l.slots)
+invariant-loop-slot l = (l.count ≤ l.slot-index)
+    × (l.count + child_slots (drop l.slot-index l.slots) ≡ child_slots l.slots)

@@ -12,25 +12,36 @@ use Rattle.ta_core.proofs.trimming.trim.Goals as goal
 pub returns-clause-language : goal.returns-clause-language
 returns-clause-language c =
     let h = rw c.as_slice-2.ensures at c.restrict.ensures in
-    IfOk-weaker c.restrict.result (λ (made : Automaton). made ≡ restricted c.in_ok-used.used (rank c.in_ok-used.used) c.args.auto.now) (λ (made : Automaton). HasSameLanguage c.args.auto.now made)
-    (λ made e. subst (HasSameLanguage c.args.auto.now) (sym e) (alike c.args.auto.now c.in_ok-used.used c.in_ok-used.ensures)) h
+    IfOk-weaker c.restrict.result
+    (λ (made : Automaton). made ≡ restricted c.in_ok-used.used (rank c.in_ok-used.used) c.args.auto.now)
+    (λ (made : Automaton). HasSameLanguage c.args.auto.now made)
+    (λ made e. subst (HasSameLanguage c.args.auto.now) (sym e)
+    (alike c.args.auto.now c.in_ok-used.used c.in_ok-used.ensures)) h
 
 pub returns-clause-trim : goal.returns-clause-trim
 returns-clause-trim c =
     let h = rw c.as_slice-2.ensures at c.restrict.ensures in
-    IfOk-weaker c.restrict.result (λ (made : Automaton). made ≡ restricted c.in_ok-used.used (rank c.in_ok-used.used) c.args.auto.now) (λ (made : Automaton). IsTrim made)
+    IfOk-weaker c.restrict.result
+    (λ (made : Automaton). made ≡ restricted c.in_ok-used.used (rank c.in_ok-used.used) c.args.auto.now)
+    (λ (made : Automaton). IsTrim made)
     (λ made e. subst IsTrim (sym e) (trimmed c.args.auto.now c.in_ok-used.used c.in_ok-used.ensures)) h
 
 pub returns-clause-parts : goal.returns-clause-parts
 returns-clause-parts c =
     let h = rw c.as_slice-2.ensures at c.restrict.ensures in
-    IfOk-weaker c.restrict.result (λ (made : Automaton). made ≡ restricted c.in_ok-used.used (rank c.in_ok-used.used) c.args.auto.now) (λ (made : Automaton). StandsFor c.args.auto.now made)
-    (λ made e. subst (StandsFor c.args.auto.now) (sym e) (standing c.args.auto.now c.in_ok-used.used c.in_ok-used.ensures)) h
+    IfOk-weaker c.restrict.result
+    (λ (made : Automaton). made ≡ restricted c.in_ok-used.used (rank c.in_ok-used.used) c.args.auto.now)
+    (λ (made : Automaton). StandsFor c.args.auto.now made)
+    (λ made e. subst (StandsFor c.args.auto.now) (sym e)
+    (standing c.args.auto.now c.in_ok-used.used c.in_ok-used.ensures)) h
 
 pub returns-clause-size : goal.returns-clause-size
 returns-clause-size c =
     let h = rw c.as_slice-2.ensures at c.restrict.ensures in
     let l = count_within c.in_ok-used.used in
     let n = c.in_ok-used.ensures.long in
-    IfOk-weaker c.restrict.result (λ (made : Automaton). made ≡ restricted c.in_ok-used.used (rank c.in_ok-used.used) c.args.auto.now) (λ (made : Automaton). made.states ≤ c.args.auto.now.states)
-    (λ made e. (let s : made.states ≡ marked_count c.in_ok-used.used = ap (λ (a : Automaton). a.states) e in omega (arith, s, l, n))) h
+    IfOk-weaker c.restrict.result
+    (λ (made : Automaton). made ≡ restricted c.in_ok-used.used (rank c.in_ok-used.used) c.args.auto.now)
+    (λ (made : Automaton). made.states ≤ c.args.auto.now.states)
+    (λ made e. (let s : made.states ≡ marked_count c.in_ok-used.used = ap (λ (a : Automaton). a.states) e in
+    omega (arith, s, l, n))) h

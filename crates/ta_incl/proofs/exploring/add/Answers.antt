@@ -17,11 +17,19 @@ returns-clause-widens c =
     let m = rw c.as_slice.ensures at c.in_ok-marks.ensures in
     let v = rw (c.as_slice-2.ensures, c.as_slice-3.ensures) at c.is_covered.ensures in
     let a = subst (λ (is : List ℕ). AreAt c.args.found.now is c.requires.0) (sym c.in_ok-from.ensures) c.requires.1 in
-    rw (← c.right.view_is) (on_ok_weaker c.push.result (λ e. widens_push _ c.args.found.now c.args.added.now c.push.new.self _ e
-    (given_here (record { states = c.right.inside.states; roots = c.right.inside.roots; rules = c.right.inside.rules }) c.args.found.now c.args.place c.args.rule.now c.in_ok-from.from c.requires.0 c.in_ok-marks.marks c.in_ok-sets.sets a c.requires.2 m (c.in_ok-sets.ensures c.requires.0 c.requires.1))
+    rw (← c.right.view_is)
+    (on_ok_weaker c.push.result (λ e. widens_push _ c.args.found.now c.args.added.now c.push.new.self _ e
+    (given_here (record { states = c.right.inside.states; roots = c.right.inside.roots; rules = c.right.inside.rules })
+    c.args.found.now c.args.place c.args.rule.now c.in_ok-from.from c.requires.0 c.in_ok-marks.marks
+    c.in_ok-sets.sets a c.requires.2 m (c.in_ok-sets.ensures c.requires.0 c.requires.1))
     (λ h. true≢false (sym (v.1 h) ∙ c.if-is_covered.false))) c.push.ensures.ok)
 
 pub returns-clause-covers : goal.returns-clause-covers
 returns-clause-covers c =
     let m = rw c.as_slice.ensures at c.in_ok-marks.ensures in
-    rw (← c.right.view_is) (on_ok_weaker c.push.result (λ e items a. covered_by (record { states = c.right.inside.states; roots = c.right.inside.roots; rules = c.right.inside.rules }) _ c.args.rule.now items c.in_ok-marks.marks c.in_ok-sets.sets m (c.in_ok-sets.ensures items a) (cover_new c.args.found.now c.args.added.now c.push.new.self _ e)) c.push.ensures.ok)
+    rw (← c.right.view_is)
+    (on_ok_weaker c.push.result
+    (λ e items a. covered_by
+    (record { states = c.right.inside.states; roots = c.right.inside.roots; rules = c.right.inside.rules }) _
+    c.args.rule.now items c.in_ok-marks.marks c.in_ok-sets.sets m (c.in_ok-sets.ensures items a)
+    (cover_new c.args.found.now c.args.added.now c.push.new.self _ e)) c.push.ensures.ok)

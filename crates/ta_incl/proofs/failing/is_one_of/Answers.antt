@@ -5,8 +5,11 @@ use Rattle.fore_base.proofs.ListLemmas.{in_append, in_place}
 use Rattle.ta_incl.proofs.failing.is_one_of.Goals as goal
 
 pub returns-then-other-state : goal.returns-then-other-state
-returns-then-other-state c =
-    (λ _. subst (λ (q : ℕ). IsIn q c.args.states.now) c.if-other-state.true (in_place c.args.states.now c.loop-other.other-index 0 c.loop-other-test.true), λ _. refl)
+returns-then-other-state c = (
+  λ _. subst (λ (q : ℕ). IsIn q c.args.states.now) c.if-other-state.true
+      (in_place c.args.states.now c.loop-other.other-index 0 c.loop-other-test.true),
+  λ _. refl,
+)
 
 pub loop-other-preserved : goal.loop-other-preserved
 loop-other-preserved c =

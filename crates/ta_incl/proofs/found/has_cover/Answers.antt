@@ -13,4 +13,6 @@ returns-then-covers c =
 pub loop-pair-preserved : goal.loop-pair-preserved
 loop-pair-preserved c =
     let e = take_item c.args.found.now c.loop-pair.pair-index c.pair-item.result c.loop-pair-test.true c.pair-item.is in
-    λ h. none_push (λ (f : Found). IsCover f c.args.state c.args.marks.now) _ c.pair-item.result c.loop-pair.invariant (λ k. true≢false (sym (c.covers.ensures.1 k) ∙ c.if-covers.false)) (subst (λ (xs : List Found). HasCover xs c.args.state c.args.marks.now) e h)
+    λ h. none_push (λ (f : Found). IsCover f c.args.state c.args.marks.now) _ c.pair-item.result c.loop-pair.invariant
+    (λ k. true≢false (sym (c.covers.ensures.1 k) ∙ c.if-covers.false))
+    (subst (λ (xs : List Found). HasCover xs c.args.state c.args.marks.now) e h)

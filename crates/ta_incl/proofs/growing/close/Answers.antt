@@ -7,7 +7,8 @@ use Rattle.ta_incl.proofs.growing.close.Goals as goal
 
 pub returns : goal.returns
 returns c =
-    let at = slice_get_read c.args.found.now _ c.args.place c.index-found-place.result refl c.requires.there c.index-found-place.is in
+    let at = slice_get_read c.args.found.now _ c.args.place c.index-found-place.result refl c.requires.there
+    c.index-found-place.is in
     on_ok_weaker c.push.result (λ e. (
       c.index-found-place.result,
       c.at.result.now,

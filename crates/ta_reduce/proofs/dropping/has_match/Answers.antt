@@ -6,12 +6,23 @@ use Rattle.ta_reduce.specs.inner.Thinned.{Matches}
 use Rattle.ta_reduce.proofs.dropping.has_match.Goals as goal
 
 pub returns-then-does_match : goal.returns-then-does_match
-returns-then-does_match c = (λ e. (c.other-item.result, in_at c.args.rules.now c.loop-other.other-index c.other-item.result c.loop-other-test.true c.other-item.is, c.does_match.ensures.0 c.if-does_match.true), λ h. refl)
+returns-then-does_match c = (
+  λ e. (
+    c.other-item.result,
+    in_at c.args.rules.now c.loop-other.other-index c.other-item.result c.loop-other-test.true
+        c.other-item.is,
+    c.does_match.ensures.0 c.if-does_match.true,
+  ),
+  λ h. refl,
+)
 
 pub loop-other-preserved : goal.loop-other-preserved
 loop-other-preserved c = λ h.
-    let t = take_item c.args.rules.now c.loop-other.other-index c.other-item.result c.loop-other-test.true c.other-item.is in
+    let t = take_item c.args.rules.now c.loop-other.other-index c.other-item.result c.loop-other-test.true
+    c.other-item.is in
     elim (in_push c.other-item.result h.0 (take c.loop-other.other-index c.args.rules.now) (subst (IsIn h.0) t h.1)) [
       | inl j ↦ c.loop-other.invariant (h.0, j, h.2)
-      | inr d ↦ true≢false (sym (c.does_match.ensures.1 (subst (λ (y : Rule). Matches c.args.relation.now y c.args.rule.now) d h.2)) ∙ c.if-does_match.false)
+      | inr d ↦ true≢false
+          (sym (c.does_match.ensures.1 (subst (λ (y : Rule). Matches c.args.relation.now y c.args.rule.now) d h.2))
+          ∙ c.if-does_match.false)
     ]

@@ -11,7 +11,9 @@ renumber-requires-clause-low c =
     let a = automaton c.auto.inside.states c.auto.inside.roots c.auto.inside.rules in
     let greatest = rw (← c.auto.view_is) at c.requires.greatest in
     let classes = rw (← c.auto.view_is) at c.requires.classes in
-    rw (c.as_slice-2.ensures, c.number_of-states.ensures, c.as_slice.ensures) (numbers_low a c.args.relation.now c.auto.invariant greatest c.args.classes.now.numbers c.args.classes.now.firsts classes)
+    rw (c.as_slice-2.ensures, c.number_of-states.ensures, c.as_slice.ensures)
+    (numbers_low a c.args.relation.now c.auto.invariant greatest c.args.classes.now.numbers
+    c.args.classes.now.firsts classes)
 
 pub returns : goal.returns
 returns c =
@@ -22,5 +24,9 @@ returns c =
     let classes = rw (← c.auto.view_is) at c.requires.classes in
     let fewer = rw (← c.auto.view_is) at c.requires.fewer in
     let k = joined_smaller a c.args.relation.now c.auto.invariant greatest numbers firsts classes fewer in
-    let h = rw (c.as_slice-2.ensures, c.number_of-states.ensures, c.as_slice.ensures, ← c.auto.view_is) at c.renumber.ensures in
-    rw (← c.auto.view_is) (IfOk-weaker c.renumber.result (λ (made : Automaton). made ≡ image (length firsts) (λ q. slice_index numbers q) a) (IsSmaller a) (λ made e. subst (IsSmaller a) (sym e) k) h)
+    let h = rw (c.as_slice-2.ensures, c.number_of-states.ensures, c.as_slice.ensures, ← c.auto.view_is) at
+    c.renumber.ensures in
+    rw (← c.auto.view_is)
+    (IfOk-weaker c.renumber.result
+    (λ (made : Automaton). made ≡ image (length firsts) (λ q. slice_index numbers q) a) (IsSmaller a)
+    (λ made e. subst (IsSmaller a) (sym e) k) h)

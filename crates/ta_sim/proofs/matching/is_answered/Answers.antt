@@ -8,11 +8,23 @@ use Rattle.ta_sim.proofs.matching.is_answered.Goals as goal
 
 pub returns-then-is_match : goal.returns-then-is_match
 returns-then-is_match c =
-    let m = c.is_match.ensures.0 c.if-is_match.true in
-    ((λ y. (c.other-item.result, in_at c.args.others.now c.loop-other.other-index c.other-item.result c.loop-other-test.true c.other-item.is, m)), λ w. refl)
+    let m = c.is_match.ensures.0 c.if-is_match.true in (
+      (λ y. (
+        c.other-item.result,
+        in_at c.args.others.now c.loop-other.other-index c.other-item.result
+            c.loop-other-test.true c.other-item.is,
+        m,
+      )),
+      λ w. refl,
+    )
 
 pub returns : goal.returns
 returns c =
     let end : length c.args.others.now ≤ c.loop-other.other-index = omega (arith, c.loop-other-test.false) in
-    let none = subst (Every (λ s. IsMatch c.args.rows.now c.args.rule.now s → ⊥)) (take_all c.loop-other.other-index c.args.others.now end) c.loop-other.invariant in
-    ((λ y. absurd (true≢false (sym y))), λ w. absurd (every_in (λ (s : Rule). IsMatch c.args.rows.now c.args.rule.now s → ⊥) c.args.others.now w.0 none w.1 w.2))
+    let none = subst (Every (λ s. IsMatch c.args.rows.now c.args.rule.now s → ⊥))
+    (take_all c.loop-other.other-index c.args.others.now end) c.loop-other.invariant in (
+      (λ y. absurd (true≢false (sym y))),
+      λ w.
+          absurd
+          (every_in (λ (s : Rule). IsMatch c.args.rows.now c.args.rule.now s → ⊥) c.args.others.now w.0 none w.1 w.2),
+    )

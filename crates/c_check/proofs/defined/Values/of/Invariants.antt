@@ -6,5 +6,6 @@ use Rattle.c_check.proofs.defined.Values.of.Given as goal
 abbrev pub invariant-loop-item : goal.invariant-loop-item
 invariant-loop-item l = record {
   names : l.all.names ≡ map value_name l.all.values;
-  rest : l.all.values ++ firsts value_name l.all.names (each_of values_in (drop l.item-index l.items)) ≡ values_of l.items;
+  rest : l.all.values ++ firsts value_name l.all.names (each_of values_in (drop l.item-index l.items))
+      ≡ values_of l.items;
 }

@@ -4,4 +4,5 @@ use Rattle.c_check.proofs.scopes.Table.ptrs.Goals as goal
 
 pub returns : goal.returns
 returns c =
-    subst (λ (ns : List ℕ). IfOk c.ptrs_in.result (λ numbers. numbers ≡ ns)) (inner_ptrs c.args.self.now c.innermost.result.now c.innermost.ensures) c.ptrs_in.ensures
+    subst (λ (ns : List ℕ). IfOk c.ptrs_in.result (λ numbers. numbers ≡ ns))
+    (inner_ptrs c.args.self.now c.innermost.result.now c.innermost.ensures) c.ptrs_in.ensures
