@@ -1,9 +1,10 @@
 -- The forest of node 0: its members are the stores with which a run begins.
-use Rattle.std.proofs.Common.{◌≡◌, ◌↔◌, ◌<◌, ℕ, suc, zero, List, [], ◌∷◌, map, length, replicate, slice_get, Some, None, refl, sym, ap, ap₂, ◌∙◌, subst, arith, inl, inr}
+use Rattle.std.proofs.Common.{◌≡◌, ◌↔◌, ◌<◌, ℕ, suc, zero, List, [], ◌∷◌, map, length, replicate, slice_get, Some, None}
+use Rattle.std.proofs.Common.{refl, sym, ap, ◌∙◌, subst, arith}
 use Rattle.std.proofs.lemmas.List.{length-replicate}
 use Rattle.std.proofs.lemmas.Option.{none-some}
 use Rattle.fore_base.specs.Heap.{IsProper, NamesCell}
-use Rattle.fore_base.specs.Lists.{IsIn, Every}
+use Rattle.fore_base.specs.Lists.{Every}
 use Rattle.fore_base.specs.declared.shape.Shape.{Shape}
 use Rattle.fore_base.specs.declared.store.CellRec.{CellRec}
 use Rattle.fore_base.specs.declared.store.Datum.TheVariants.{Undefined}
@@ -14,22 +15,18 @@ use Rattle.ta_core.specs.declared.tree.Tree.{Tree}
 use Rattle.fa_core.specs.Boxes.{Boxes}
 use Rattle.fa_core.specs.Canonical.{IsCanonical, Walks, ended, GoesOn, refs_at, var_roots, IsRootKind, IsUntied}
 use Rattle.fa_core.specs.Dressed.{Nodes, no_nodes, more, value_in}
-use Rattle.fa_core.specs.Filled.{Choice, ChoiceFilled, DatumFits, IsFilled, IsRoot, IsSound, IsWellFormed}
+use Rattle.fa_core.specs.Filled.{Choice, ChoiceFilled, DatumFits, IsFilled, IsRoot, IsSound}
 use Rattle.fa_core.specs.Member.{Stands, StandsBy, store_facts}
 use Rattle.fa_core.specs.Rearranged.{Rearranged, empty, keep, swap, chain}
 use Rattle.fa_core.specs.declared.boxes.BoxDef.{BoxDef}
-use Rattle.fa_core.specs.declared.faces.BoxFace.{BoxFace}
 use Rattle.fa_core.specs.declared.faces.Face.{Face}
 use Rattle.fa_core.specs.declared.forest.Forest.{Forest}
-use Rattle.fa_core.specs.declared.forest.Target.{Target}
 use Rattle.fa_core.specs.declared.forest.Target.TheVariants.{Uninit, At}
-use Rattle.fa_sound.specs.Soundness.{SoundForest}
 use Rattle.c_cfg.specs.Alike.{IsUnset}
 use Rattle.c_cfg.specs.Graphs.{ControlGraph}
 use Rattle.fix_engine.specs.declared.nodes.Node.{Node}
 use Rattle.fix_engine.specs.Explorations.{IsNode, IsFirst, Exploration}
-use Rattle.fix_engine.specs.Follows.{HasItsVars, IsMember}
-use Rattle.fix_engine.specs.inner.Arriving.{carried}
+use Rattle.fix_engine.specs.Follows.{IsMember}
 use Rattle.fix_engine.specs.inner.Starting.{no_components}
 use Rattle.fix_engine.specs.inner.Taking.{IsFront}
 use Rattle.fix_engine.proofs.Lists.{some_same}
@@ -55,7 +52,8 @@ start_filled face ptrs datums = record {
     trees (t ∷ ts) c = absurd c
 
 pub start_sound : (face : Face) (ptrs datums : ℕ) → IsSound face (no_components ptrs datums)
-start_sound face ptrs datums = record { well_formed = record { filled = start_filled face ptrs datums; signatures = tt }; full = tt }
+start_sound face ptrs datums =
+    record { well_formed = record { filled = start_filled face ptrs datums; signatures = tt }; full = tt }
 
 no_var_roots : (n : ℕ) → var_roots (replicate n Uninit) ≡ []
 no_var_roots zero = refl
@@ -70,7 +68,8 @@ start_canonical face ptrs datums = record {
   order = λ ts c. order ts c;
 }
   where
-    kinds : (ts : List Tree) → Choice [] ts → (r : ℕ) → r < length ts → IsRootKind face.boxes (replicate ptrs Uninit) ts r
+    kinds : (ts : List Tree) → Choice [] ts → (r : ℕ) → r < length ts
+        → IsRootKind face.boxes (replicate ptrs Uninit) ts r
     kinds [] c r less = absurd (omega (arith, less))
     kinds (t ∷ ts) c r less = absurd c
 
@@ -81,7 +80,8 @@ start_canonical face ptrs datums = record {
         none r t is = cc
     untied (t ∷ ts) c = absurd c
 
-    order : (ts : List Tree) → Choice [] ts → Walks (refs_at ts) (GoesOn face.boxes ts) (var_roots (replicate ptrs Uninit)) 0 (length ts)
+    order : (ts : List Tree) → Choice [] ts
+        → Walks (refs_at ts) (GoesOn face.boxes ts) (var_roots (replicate ptrs Uninit)) 0 (length ts)
     order [] c = rw (no_var_roots ptrs) ended
     order (t ∷ ts) c = absurd c
 
@@ -106,11 +106,15 @@ module _ (hs : List Shape) (T : List BoxDef) (ptrs datums : ℕ) where
   unset_of s m = here m.0 m.1
     where
       here : (d : Nodes) → StandsBy hs T (no_components ptrs datums) d s → IsUnset ptrs datums s
-      here no_nodes b = record { vars = b.vars ∙ values_unset [] ptrs; data_vars = b.data_vars; cells = no_cells s.cells (nothing [] (store_facts s.cells) b.same_facts refl) }
+      here no_nodes b = record
+          { vars = b.vars ∙ values_unset [] ptrs; data_vars = b.data_vars;
+          cells = no_cells s.cells (nothing [] (store_facts s.cells) b.same_facts refl) }
       here (more n ns) b = absurd b.of
 
   proper_unset : (s : Store) → IsUnset ptrs datums s → IsProper s
-  proper_unset s u = record { differ = rw u.cells tt; below = rw u.cells tt; vars = rw (u.vars, u.cells) (every_copy (NamesCell []) ptrs UninitValue tt); fields = rw u.cells tt }
+  proper_unset s u = record
+      { differ = rw u.cells tt; below = rw u.cells tt;
+      vars = rw (u.vars, u.cells) (every_copy (NamesCell []) ptrs UninitValue tt); fields = rw u.cells tt }
 
   member_of : (s : Store) → IsUnset ptrs datums s → Stands hs T (no_components ptrs datums) s
   member_of s u = (
@@ -130,8 +134,10 @@ module _ (hs : List Shape) (T : List BoxDef) (ptrs datums : ℕ) where
 
 -- node 0 alone
 
-module _ (T : Boxes) (g : ControlGraph) (n : Node) (forest : n.state.forest ≡ no_components g.ptrs g.datums) (face : n.state.face ≡ T.face)
-    (entry : n.head.location ≡ 0) (no_parent : n.head.parent ≡ None) (no_edge : n.head.edge ≡ None) (no_choice : n.head.choice ≡ None)
+module _ (T : Boxes) (g : ControlGraph) (n : Node) (forest : n.state.forest ≡ no_components g.ptrs g.datums)
+    (face : n.state.face ≡ T.face)
+    (entry : n.head.location ≡ 0) (no_parent : n.head.parent ≡ None) (no_edge : n.head.edge ≡ None)
+        (no_choice : n.head.choice ≡ None)
     (no_middle : n.state.middle ≡ None) (no_folds : n.state.folds ≡ []) where
   first_is : IsFirst T g (n ∷ [])
   first_is = record {
@@ -147,8 +153,11 @@ module _ (T : Boxes) (g : ControlGraph) (n : Node) (forest : n.state.forest ≡ 
     sound = rw forest (start_sound T.face g.ptrs g.datums);
     canonical = rw forest (start_canonical T.face g.ptrs g.datums);
     reduced = rw forest tt;
-    vars = record { vars = rw forest (length-replicate g.ptrs Uninit); data_vars = rw forest (length-replicate g.datums Undefined) };
-    members = λ s. subst (λ z. IsMember T z s ↔ IsUnset g.ptrs g.datums s) (sym forest) (start_members T.face.shapes.structs T.defs g.ptrs g.datums s);
+    vars =
+        record { vars = rw forest (length-replicate g.ptrs Uninit);
+        data_vars = rw forest (length-replicate g.datums Undefined) };
+    members = λ s. subst (λ z. IsMember T z s ↔ IsUnset g.ptrs g.datums s) (sym forest)
+        (start_members T.face.shapes.structs T.defs g.ptrs g.datums s);
   }
 
   only : (j : ℕ) (m : Node) → IsNode (n ∷ []) j m → j ≡ 0

@@ -1,12 +1,13 @@
 -- The states of an edge, the edges of a node and the nodes, taken up one by one.
-use Rattle.std.proofs.Common.{◌≡◌, ◌⊎◌, ℕ, suc, zero, ◌+◌, ◌<◌, ◌≤◌, List, [], ◌∷◌, ◌++◌, map, length, take, drop, slice_get, Option, Some, None, Bool, true, false, refl, sym, ap, ◌∙◌, subst, arith, inl, inr}
+use Rattle.std.proofs.Common.{◌≡◌, ◌⊎◌, ℕ, suc, zero, ◌+◌, ◌<◌, ◌≤◌, List, [], ◌∷◌, ◌++◌, length, take}
+use Rattle.std.proofs.Common.{slice_get, Some, None, Bool, true, false, refl, sym, ap, ◌∙◌, subst, arith, inl}
+use Rattle.std.proofs.Common.{inr}
 use Rattle.std.proofs.lemmas.Option.{slice_get_within}
 use Rattle.fore_base.specs.declared.fault.Fault.{Fault as Kind}
 use Rattle.fore_base.specs.declared.store.Store.{Store}
 use Rattle.fore_base.specs.Lists.{IsIn, Every}
 use Rattle.fore_base.proofs.ListLemmas.{place_of}
 use Rattle.fa_core.specs.Boxes.{Boxes}
-use Rattle.fa_core.specs.Covering.{Covers}
 use Rattle.fa_core.specs.Filled.{IsSound}
 use Rattle.fa_core.specs.declared.forest.Forest.{Forest}
 use Rattle.fa_sound.specs.Soundness.{SoundForest}
@@ -15,28 +16,33 @@ use Rattle.c_cfg.specs.Ranges.{IsEdgeOf}
 use Rattle.c_cfg.specs.declared.graph.Edge.{Edge}
 use Rattle.c_cfg.specs.Edges.{Pass, Passed, Faulted, Halted, NotPassed}
 use Rattle.c_cfg.specs.Graphs.{ControlGraph}
-use Rattle.sym_core.specs.Cases.{AllCases, BadAt, IsMet, IsTrueBad, StandsInOne}
+use Rattle.sym_core.specs.Cases.{BadAt, IsMet, IsTrueBad, StandsInOne}
 use Rattle.sym_step.specs.Posts.{bads}
 use Rattle.sym_step.specs.declared.posts.Bad.{Bad}
 use Rattle.fix_engine.specs.declared.explored.AbsTrace.{AbsTrace}
-use Rattle.fix_engine.specs.declared.explored.Explored.TheVariants.{Closed, Faulty, Spent}
+use Rattle.fix_engine.specs.declared.explored.Explored.TheVariants.{Closed}
 use Rattle.fix_engine.specs.declared.nodes.Node.{Node}
 use Rattle.fix_engine.specs.declared.posts.Made.{Made}
 use Rattle.fix_engine.specs.declared.taking.Taken.{Taken}
 use Rattle.fix_engine.specs.declared.taking.Taken.TheVariants.{All, Fault, Full as Over}
-use Rattle.fix_engine.specs.Explorations.{IsNode, IsEdge, is_head, IsChild, NoLater, IsHoused, IsCared, IsCalm, EdgeDone, EarlierDone, Done, Exploration, Full, IsExplored, AbstractTrace}
-use Rattle.fix_engine.specs.Follows.{IsMember, passed_by, Arrives, HasItsVars}
+use Rattle.fix_engine.specs.Explorations.{IsNode, IsEdge, is_head, IsChild, NoLater, IsHoused, IsCared, IsCalm}
+use Rattle.fix_engine.specs.Explorations.{EdgeDone, EarlierDone, Done, Exploration, Full, IsExplored, AbstractTrace}
+use Rattle.fix_engine.specs.Follows.{IsMember, passed_by, Arrives}
 use Rattle.fix_engine.specs.States.{AbstractState}
-use Rattle.fix_engine.specs.inner.Arriving.{EachTwo, AreCases, AreOfTwoCases, AreArrivals, IsHeld, IsRawCase, StandsInCase}
-use Rattle.fix_engine.specs.Covered.{IsCovered, CoversOrNot, NoneCovers}
+use Rattle.fix_engine.specs.inner.Arriving.{AreCases, AreOfTwoCases, AreArrivals, IsHeld, IsRawCase}
+use Rattle.fix_engine.specs.inner.Arriving.{StandsInCase}
+use Rattle.fix_engine.specs.Covered.{IsCovered, NoneCovers}
 use Rattle.fix_engine.specs.inner.Exits.{Rises}
-use Rattle.fix_engine.specs.inner.Posting.{IsPost, IsMade, IsMadeAt, AreMade, edge_numbers}
+use Rattle.fix_engine.specs.inner.Posting.{IsMade, IsMadeAt, AreMade, edge_numbers}
 use Rattle.fix_engine.specs.inner.Ready.{IsNormal}
-use Rattle.fix_engine.specs.inner.Taking.{child, Grows, AreHoused, AreDue, IsMid, AreTaken, IsEdgeTaken, IsStage, IsFront, IsFault, IsTakenEdge, IsTakenNode}
-use Rattle.fix_engine.specs.inner.Tracing.{HasParent, HasWays, IsTraceTo}
-use Rattle.fix_engine.proofs.Lists.{some_same, length_push, get_more, get_last, get_push, in_at, in_left, in_right, in_map, every_in, every_of, every_both, take_at, at_within, before_each}
+use Rattle.fix_engine.specs.inner.Taking.{child, Grows, AreHoused, AreDue, IsMid, AreTaken, IsEdgeTaken, IsStage}
+use Rattle.fix_engine.specs.inner.Taking.{IsFront, IsFault, IsTakenEdge, IsTakenNode}
+use Rattle.fix_engine.specs.inner.Tracing.{HasWays, IsTraceTo}
+use Rattle.fix_engine.proofs.Lists.{some_same, length_push, get_last, in_at, in_left}
+use Rattle.fix_engine.proofs.Lists.{in_map, every_in, every_of, every_both, take_at, at_within, before_each}
 use Rattle.fix_engine.proofs.Covering.{covered_member}
-use Rattle.fix_engine.proofs.Growing.{grows_push, grows_same, grows_then, housed_more, edge_more, earlier_more, one_node, done_more, grown, mid_grown}
+use Rattle.fix_engine.proofs.Growing.{grows_push, grows_same, grows_then, housed_more, edge_more}
+use Rattle.fix_engine.proofs.Growing.{one_node, grown, mid_grown}
 
 -- the fault, at its forest
 abbrev at_forest : Bad → BadAt
@@ -45,29 +51,41 @@ at_forest b = record { fault = b.fault; at = b.at.forest }
 module _ (T : Boxes) (g : ControlGraph) (k : ℕ) where
   -- the states of an edge
 
-  pub taken_start : (nodes : List Node) (at c budget : ℕ) → IsMid T g k nodes at c [] → length nodes ≤ budget → AreTaken T g k nodes at c budget [] nodes true
+  pub taken_start : (nodes : List Node) (at c budget : ℕ) → IsMid T g k nodes at c [] → length nodes ≤ budget
+      → AreTaken T g k nodes at c budget [] nodes true
   taken_start nodes at c budget mid within = (mid, grows_same nodes, within, λ e ie. tt)
 
-  housed_all : (nodes more : List Node) (location : ℕ) (states : List AbstractState) → Grows nodes more → AreHoused T g nodes location states → AreHoused T g more location states
+  housed_all : (nodes more : List Node) (location : ℕ) (states : List AbstractState) → Grows nodes more
+      → AreHoused T g nodes location states → AreHoused T g more location states
   housed_all nodes more location [] gr h = tt
-  housed_all nodes more location (a ∷ as') gr h = (λ s m. housed_more T g nodes more gr location s (h.0 s m), housed_all nodes more location as' gr h.1)
+  housed_all nodes more location (a ∷ as') gr h =
+      (λ s m. housed_more T g nodes more gr location s (h.0 s m), housed_all nodes more location as' gr h.1)
 
-  mid_weaker : (nodes : List Node) (at c : ℕ) (before more : List AbstractState) → IsMid T g k nodes at c before → IsMid T g k nodes at c (before ++ more)
-  mid_weaker nodes at c before more m = record { explored = m.explored; inside = m.inside; done = m.done; earlier = m.earlier; last = m.last; those = λ j n is ch. in_left before more n.state (m.those j n is ch) }
+  mid_weaker : (nodes : List Node) (at c : ℕ) (before more : List AbstractState) → IsMid T g k nodes at c before
+      → IsMid T g k nodes at c (before ++ more)
+  mid_weaker nodes at c before more m =
+      record { explored = m.explored; inside = m.inside; done = m.done; earlier = m.earlier; last = m.last;
+      those = λ j n is ch. in_left before more n.state (m.those j n is ch) }
 
-  module _ (start nodes : List Node) (at c budget : ℕ) (states : List AbstractState) (i : ℕ) (a : AbstractState) (e : Edge)
-      (is : slice_get states i ≡ Some a) (is_edge : IsEdge g c e) (before : AreTaken T g k start at c budget (take i states) nodes true) where
+  module _ (start nodes : List Node) (at c budget : ℕ) (states : List AbstractState) (i : ℕ) (a : AbstractState)
+      (e : Edge)
+      (is : slice_get states i ≡ Some a) (is_edge : IsEdge g c e)
+          (before : AreTaken T g k start at c budget (take i states) nodes true) where
     same_edge : (f : Edge) → IsEdge g c f → e ≡ f
     same_edge f h = some_same e f (sym is_edge ∙ h)
 
-    pub taken_covered : IsCovered nodes e.to a.forest → AreTaken T g k start at c budget (take (i + 1) states) nodes true
+    pub taken_covered : IsCovered nodes e.to a.forest
+        → AreTaken T g k start at c budget (take (i + 1) states) nodes true
     taken_covered cov = rw (take_at states i a is) (
       mid_weaker nodes at c (take i states) (a ∷ []) before.0,
       before.1,
       before.2,
       λ f ie.
-          every_both (λ (z : AbstractState). (s : Store) → IsMember T z.forest s → IsHoused T g nodes f.to s) (take i states) (a ∷ []) (before.3 f ie)
-          (λ s m. record { at = cov.at; node = cov.node; is = cov.is; there = cov.there ∙ ap (λ z. z.to) (same_edge f ie); member = covered_member T.face.shapes.structs T.defs cov.node.state.forest a.forest s cov.covers m }, tt),
+          every_both (λ (z : AbstractState). (s : Store) → IsMember T z.forest s → IsHoused T g nodes f.to s)
+              (take i states) (a ∷ []) (before.3 f ie)
+          (λ s m.
+              record { at = cov.at; node = cov.node; is = cov.is; there = cov.there ∙ ap (λ z. z.to) (same_edge f ie);
+              member = covered_member T.face.shapes.structs T.defs cov.node.state.forest a.forest s cov.covers m }, tt),
     )
 
     module _ (due : AreDue T g k start at c states) (none : NoneCovers nodes e.to a.forest) where
@@ -75,10 +93,13 @@ module _ (T : Boxes) (g : ControlGraph) (k : ℕ) where
       due_edge = sym (same_edge due.edge due.is_edge)
 
       arrives : Arrives T g (is_head g e.to) k due.parent.state.forest e a
-      arrives = subst (λ z. Arrives T g (is_head g z.to) k due.parent.state.forest z a) due_edge (every_in (Arrives T g (is_head g due.edge.to) k due.parent.state.forest due.edge) states a due.each (in_at states i a is))
+      arrives = subst (λ z. Arrives T g (is_head g z.to) k due.parent.state.forest z a) due_edge
+          (every_in (Arrives T g (is_head g due.edge.to) k due.parent.state.forest due.edge) states a due.each
+          (in_at states i a is))
 
       apart : Every (λ b. AreOfTwoCases T g e b a) (take i states)
-      apart = subst (λ z. Every (λ b. AreOfTwoCases T g z b a) (take i states)) due_edge (before_each (AreOfTwoCases T g due.edge) states i a due.apart is)
+      apart = subst (λ z. Every (λ b. AreOfTwoCases T g z b a) (take i states)) due_edge
+          (before_each (AreOfTwoCases T g due.edge) states i a due.apart is)
 
       calm : IsCalm T due.parent e
       calm = subst (IsCalm T due.parent) due_edge due.calm
@@ -99,19 +120,27 @@ module _ (T : Boxes) (g : ControlGraph) (k : ℕ) where
         record {
           many = many;
           further = child at c e a;
-          again = grown T g k nodes at c (take i states) before.0 due.parent parent_is e is_edge from calm a arrives apart none;
+          again = grown T g k nodes at c (take i states) before.0 due.parent parent_is e is_edge from calm a arrives
+              apart none;
         },
       )
 
-      pub taken_pushed : (length nodes ≡ budget → ⊥) → (n : Node) → n ≡ child at c e a → AreTaken T g k start at c budget (take (i + 1) states) (nodes ++ n ∷ []) true
+      pub taken_pushed : (length nodes ≡ budget → ⊥) → (n : Node) → n ≡ child at c e a
+          → AreTaken T g k start at c budget (take (i + 1) states) (nodes ++ n ∷ []) true
       unfolding more
       taken_pushed room n same = rw (same, take_at states i a is) (
-        mid_grown T g k nodes at c (take i states) before.0 due.parent parent_is e is_edge from calm a arrives apart none,
+        mid_grown T g k nodes at c (take i states) before.0 due.parent parent_is e is_edge from calm a arrives apart
+            none,
         grows_then start nodes (nodes ++ child at c e a ∷ []) before.1 (grows_push nodes (child at c e a)),
         fits,
-        λ f ie. every_both (λ (z : AbstractState). (s : Store) → IsMember T z.forest s → IsHoused T g (nodes ++ child at c e a ∷ []) f.to s) (take i states) (a ∷ [])
-            (housed_all nodes (nodes ++ child at c e a ∷ []) f.to (take i states) (grows_push nodes (child at c e a)) (before.3 f ie))
-            (λ s m. record { at = length nodes; node = child at c e a; is = get_last nodes (child at c e a); there = ap (λ z. z.to) (same_edge f ie); member = m }, tt),
+        λ f ie.
+            every_both (λ (z : AbstractState). (s : Store) → IsMember T z.forest s
+            → IsHoused T g (nodes ++ child at c e a ∷ []) f.to s) (take i states) (a ∷ [])
+            (housed_all nodes (nodes ++ child at c e a ∷ []) f.to (take i states) (grows_push nodes (child at c e a))
+                (before.3 f ie))
+            (λ s m.
+                record { at = length nodes; node = child at c e a; is = get_last nodes (child at c e a);
+                there = ap (λ z. z.to) (same_edge f ie); member = m }, tt),
       )
         where
           fits : length (nodes ++ child at c e a ∷ []) ≤ budget
@@ -119,7 +148,9 @@ module _ (T : Boxes) (g : ControlGraph) (k : ℕ) where
 
   -- an edge
 
-  pub edge_fault : (nodes : List Node) (at : ℕ) (x : Made) (bad : Bad) → IsMid T g k nodes at x.edge [] → IsMadeAt T g nodes at x → slice_get x.post.faults 0 ≡ Some bad → IsSound bad.at.face bad.at.forest → IsFault T g nodes at x.edge bad
+  pub edge_fault : (nodes : List Node) (at : ℕ) (x : Made) (bad : Bad) → IsMid T g k nodes at x.edge []
+      → IsMadeAt T g nodes at x → slice_get x.post.faults 0 ≡ Some bad → IsSound bad.at.face bad.at.forest
+      → IsFault T g nodes at x.edge bad
   edge_fault nodes at x bad mid m h sound =
       let listed = in_at x.post.faults 0 bad h in
       let face = every_in (λ (b : Bad). b.at.face ≡ T.face) x.post.faults bad m.made.post.faces listed in
@@ -129,30 +160,37 @@ module _ (T : Boxes) (g : ControlGraph) (k : ℕ) where
         edge = m.made.edge;
         is_edge = m.made.is;
         from = m.made.from;
-        members = every_in (IsTrueBad T.face T.defs m.node.state.forest m.made.edge) (bads x.post.faults) (at_forest bad) m.made.post.true_bads (in_map at_forest x.post.faults bad listed);
+        members = every_in (IsTrueBad T.face T.defs m.node.state.forest m.made.edge) (bads x.post.faults)
+            (at_forest bad) m.made.post.true_bads (in_map at_forest x.post.faults bad listed);
         face = face;
         sound = subst (λ z. IsSound z bad.at.forest) face sound;
         earlier = mid.earlier m.node m.is;
       }
 
   -- what the cases of the edge become; e is the edge as the code has it
-  pub edge_arrivals : (nodes : List Node) (at : ℕ) (x : Made) (e : Edge) (states : List AbstractState) → (m : IsMadeAt T g nodes at x) → IsEdge g x.edge e
-      → ((F : Forest) → AreCases T g F e x.post.next → AreArrivals T g k F e x.post.next states) → AreArrivals T g k m.node.state.forest m.made.edge x.post.next states
+  pub edge_arrivals : (nodes : List Node) (at : ℕ) (x : Made) (e : Edge) (states : List AbstractState)
+      → (m : IsMadeAt T g nodes at x) → IsEdge g x.edge e
+      → ((F : Forest) → AreCases T g F e x.post.next → AreArrivals T g k F e x.post.next states)
+          → AreArrivals T g k m.node.state.forest m.made.edge x.post.next states
   edge_arrivals nodes at x e states m ie f =
       let same : e ≡ m.made.edge = some_same e m.made.edge (sym ie ∙ m.made.is) in
       subst (λ z. AreArrivals T g k m.node.state.forest z x.post.next states) same
       (f m.node.state.forest (subst (λ z. AreCases T g m.node.state.forest z x.post.next) (sym same) m.made.post.nexts))
 
-  fault_met : (p : Pass) (s : Store) (kind : Kind) (Ms : List Forest) (bs : List Bad) → bs ≡ [] → IsMet T.face T.defs Ms (bads bs) s p → p ≡ Faulted kind → ⊥
+  fault_met : (p : Pass) (s : Store) (kind : Kind) (Ms : List Forest) (bs : List Bad) → bs ≡ []
+      → IsMet T.face T.defs Ms (bads bs) s p → p ≡ Faulted kind → ⊥
   fault_met p s kind Ms [] none met is = (subst (IsMet T.face T.defs Ms [] s) is met).1
   fault_met p s kind Ms (b ∷ bs) none met is = cc
 
   -- where the post has no fault, no member of the node meets one
-  edge_calm : (nodes : List Node) (at : ℕ) (x : Made) (m : IsMadeAt T g nodes at x) → x.post.faults ≡ [] → IsCalm T m.node m.made.edge
+  edge_calm : (nodes : List Node) (at : ℕ) (x : Made) (m : IsMadeAt T g nodes at x) → x.post.faults ≡ []
+      → IsCalm T m.node m.made.edge
   edge_calm nodes at x m no_fault = λ s kind st is.
-      fault_met (passed_by T m.made.edge s) s kind (forests x.post.next) x.post.faults no_fault (m.made.post.all s st) is
+      fault_met (passed_by T m.made.edge s) s kind (forests x.post.next) x.post.faults no_fault (m.made.post.all s st)
+          is
 
-  pub edge_due : (nodes : List Node) (at : ℕ) (x : Made) (states : List AbstractState) (m : IsMadeAt T g nodes at x) → x.post.faults ≡ []
+  pub edge_due : (nodes : List Node) (at : ℕ) (x : Made) (states : List AbstractState) (m : IsMadeAt T g nodes at x)
+      → x.post.faults ≡ []
       → AreArrivals T g k m.node.state.forest m.made.edge x.post.next states → AreDue T g k nodes at x.edge states
   edge_due nodes at x states m no_fault arr = record {
     parent = m.node;
@@ -166,10 +204,12 @@ module _ (T : Boxes) (g : ControlGraph) (k : ℕ) where
   }
 
   -- the cases of an edge are normal
-  pub edge_normal : (nodes : List Node) (at : ℕ) (x : Made) (m : IsMadeAt T g nodes at x) → Every (IsNormal T g) x.post.next
+  pub edge_normal : (nodes : List Node) (at : ℕ) (x : Made) (m : IsMadeAt T g nodes at x)
+      → Every (IsNormal T g) x.post.next
   edge_normal nodes at x m = normal x.post.next m.made.post.nexts.each
     where
-      normal : (Ms : List SoundForest) → Every (IsRawCase T g m.node.state.forest m.made.edge) Ms → Every (IsNormal T g) Ms
+      normal : (Ms : List SoundForest) → Every (IsRawCase T g m.node.state.forest m.made.edge) Ms
+          → Every (IsNormal T g) Ms
       normal [] h = tt
       normal (M ∷ Ms) h = (h.0.normal, normal Ms h.1)
 
@@ -177,19 +217,25 @@ module _ (T : Boxes) (g : ControlGraph) (k : ℕ) where
   in_case [] t h = absurd h.1
   in_case (M ∷ Ms) t h = elim h.1 [
     | inl is ↦ record { case_of = M; listed = inl refl; member = subst (λ z. IsMember T z t) is h.2 }
-    | inr later ↦ let r = in_case Ms t (h.0, later, h.2) in record { case_of = r.case_of; listed = inr r.listed; member = r.member }
+    | inr later ↦ let r = in_case Ms t (h.0, later, h.2) in
+        record { case_of = r.case_of; listed = inr r.listed; member = r.member }
   ]
 
-  cared_of : (ns : List Node) (to : ℕ) (p : Pass) (s : Store) (Ms : List SoundForest) (bs : List Bad) (states : List AbstractState) → bs ≡ [] → IsMet T.face T.defs (forests Ms) (bads bs) s p
+  cared_of : (ns : List Node) (to : ℕ) (p : Pass) (s : Store) (Ms : List SoundForest) (bs : List Bad)
+      (states : List AbstractState) → bs ≡ [] → IsMet T.face T.defs (forests Ms) (bads bs) s p
       → ((t : Store) → StandsInCase T Ms t → IsHeld T states t) → AreHoused T g ns to states → IsCared T g ns to p
   cared_of ns to (Passed t) s Ms bs states none met kept housed =
-      let h = kept t (in_case Ms t met) in every_in (λ (z : AbstractState). (u : Store) → IsMember T z.forest u → IsHoused T g ns to u) states h.state housed h.listed t h.member
+      let h = kept t (in_case Ms t met) in
+              every_in (λ (z : AbstractState). (u : Store) → IsMember T z.forest u → IsHoused T g ns to u) states
+              h.state housed h.listed t h.member
   cared_of ns to (Faulted f) s Ms [] states none met kept housed = met.1
   cared_of ns to (Faulted f) s Ms (b ∷ bs) states none met kept housed = cc
   cared_of ns to Halted s Ms bs states none met kept housed = tt
   cared_of ns to NotPassed s Ms bs states none met kept housed = tt
 
-  pub edge_taken : (nodes more : List Node) (at budget : ℕ) (x : Made) (states : List AbstractState) (m : IsMadeAt T g nodes at x) → x.post.faults ≡ [] → AreArrivals T g k m.node.state.forest m.made.edge x.post.next states
+  pub edge_taken : (nodes more : List Node) (at budget : ℕ) (x : Made) (states : List AbstractState)
+      (m : IsMadeAt T g nodes at x) → x.post.faults ≡ []
+      → AreArrivals T g k m.node.state.forest m.made.edge x.post.next states
       → AreTaken T g k nodes at x.edge budget states more true → IsEdgeTaken T g k nodes more at x.edge
   edge_taken nodes more at budget x states m no_fault arr t = record {
     states = states;
@@ -205,31 +251,39 @@ module _ (T : Boxes) (g : ControlGraph) (k : ℕ) where
         subst (λ z. IsCared T g more z.to (passed_by T z s)) same one;
   }
 
-  pub taken_room : (nodes more : List Node) (at budget : ℕ) (x : Made) (states : List AbstractState) (room : Bool) (m : IsMadeAt T g nodes at x) → x.post.faults ≡ [] → AreArrivals T g k m.node.state.forest m.made.edge x.post.next states
-      → room ≡ true → AreTaken T g k nodes at x.edge budget states more room → IsEdgeTaken T g k nodes more at x.edge × (length more ≤ budget)
+  pub taken_room : (nodes more : List Node) (at budget : ℕ) (x : Made) (states : List AbstractState) (room : Bool)
+      (m : IsMadeAt T g nodes at x) → x.post.faults ≡ []
+      → AreArrivals T g k m.node.state.forest m.made.edge x.post.next states
+      → room ≡ true → AreTaken T g k nodes at x.edge budget states more room → IsEdgeTaken T g k nodes more at x.edge
+          × (length more ≤ budget)
   taken_room nodes more at budget x states room m no_fault arr is t =
       let u = subst (AreTaken T g k nodes at x.edge budget states more) is t in
       (edge_taken nodes more at budget x states m no_fault arr u, u.2)
 
   pub taken_no_room : (nodes more : List Node) (at budget : ℕ) (x : Made) (states : List AbstractState) (room : Bool)
-      → room ≡ false → AreTaken T g k nodes at x.edge budget states more room → Exploration T g k more × Full T g k more budget
+      → room ≡ false → AreTaken T g k nodes at x.edge budget states more room → Exploration T g k more
+          × Full T g k more budget
   taken_no_room nodes more at budget x states room is t = subst (AreTaken T g k nodes at x.edge budget states more) is t
 
   -- a node
 
-  pub stage_mid : (nodes : List Node) (at c : ℕ) (cs : List ℕ) → Rises (c ∷ cs) → IsStage T g k nodes at (c ∷ cs) → IsMid T g k nodes at c []
+  pub stage_mid : (nodes : List Node) (at c : ℕ) (cs : List ℕ) → Rises (c ∷ cs) → IsStage T g k nodes at (c ∷ cs)
+      → IsMid T g k nodes at c []
   stage_mid nodes at c cs rises st = record {
     explored = st.explored;
     inside = st.inside;
     done = st.done;
     earlier = λ n is d e less ie fr. taken_before n d e less (st.taken n d e is ie fr);
-    last = λ j n p d is ch. before_or_at p d (st.upto j n p d is ch) (λ e. (st.early j n d is (subst (λ z. IsChild n z d) e ch)).0);
+    last = λ j n p d is ch. before_or_at p d (st.upto j n p d is ch)
+        (λ e. (st.early j n d is (subst (λ z. IsChild n z d) e ch)).0);
     those = λ j n is ch. absurd (omega (arith, (st.early j n c is ch).0));
   }
     where
-      taken_before : (n : Node) (d : ℕ) (e : Edge) → d < c → IsIn d (c ∷ cs) ⊎ EdgeDone T g nodes n e → EdgeDone T g nodes n e
+      taken_before : (n : Node) (d : ℕ) (e : Edge) → d < c → IsIn d (c ∷ cs) ⊎ EdgeDone T g nodes n e
+          → EdgeDone T g nodes n e
       taken_before n d e less (inl (inl same)) = absurd (omega (arith, less, same))
-      taken_before n d e less (inl (inr later)) = let more : c < d = every_in (λ z. c < z) cs d rises.0 later in absurd (omega (arith, less, more))
+      taken_before n d e less (inl (inr later)) = let more : c < d = every_in (λ z. c < z) cs d rises.0 later in
+          absurd (omega (arith, less, more))
       taken_before n d e less (inr done) = done
 
       before_or_at : (p d : ℕ) → p ≤ at → (p ≡ at → d < c) → NoLater p d at c
@@ -239,18 +293,23 @@ module _ (T : Boxes) (g : ControlGraph) (k : ℕ) where
           nat_cases zero zero h = inr refl
           nat_cases zero (suc b) h = inl (omega arith)
           nat_cases (suc a) zero h = absurd (omega (arith, h))
-          nat_cases (suc a) (suc b) h = elim (nat_cases a b (omega (arith, h))) [ inl l ↦ inl (omega (arith, l)) | inr e ↦ inr (ap suc e) ]
+          nat_cases (suc a) (suc b) h =
+              elim (nat_cases a b (omega (arith, h))) [ inl l ↦ inl (omega (arith, l)) | inr e ↦ inr (ap suc e) ]
 
           cases : (p < at) ⊎ (p ≡ at) → NoLater p d at c
           cases (inl l) = inl l
           cases (inr e) = inr (e, omega (arith, f e))
 
-  pub stage_next : (nodes more : List Node) (at c : ℕ) (cs : List ℕ) → Rises (c ∷ cs) → IsStage T g k nodes at (c ∷ cs) → IsEdgeTaken T g k nodes more at c → IsStage T g k more at cs
+  pub stage_next : (nodes more : List Node) (at c : ℕ) (cs : List ℕ) → Rises (c ∷ cs) → IsStage T g k nodes at (c ∷ cs)
+      → IsEdgeTaken T g k nodes more at c → IsStage T g k more at cs
   stage_next nodes more at c cs rises st t = record {
     explored = t.mid.explored;
     inside = t.mid.inside;
     done = t.mid.done;
-    taken = λ n d e is ie fr. taken_of n d e is ie fr (st.taken (before_node n is).0 d e (before_node n is).1 ie (fr ∙ ap (λ z. z.head.location) (sym (same_before n is))));
+    taken = λ n d e is ie fr.
+        taken_of n d e is ie fr
+        (st.taken (before_node n is).0 d e (before_node n is).1 ie
+        (fr ∙ ap (λ z. z.head.location) (sym (same_before n is))));
     upto = λ j n p d is ch. elim (t.mid.last j n p d is ch) [ inl l ↦ omega (arith, l) | inr w ↦ omega (arith, w.0) ];
     early = λ j n d is ch. every_of (λ f. d < f) cs (λ f h.
         let less : c < f = every_in (λ z. c < z) cs f rises.0 h in
@@ -261,14 +320,18 @@ module _ (T : Boxes) (g : ControlGraph) (k : ℕ) where
       before_node n is = at_within nodes at st.inside
 
       same_before : (n : Node) (is : IsNode more at n) → (before_node n is).0 ≡ n
-      same_before n is = one_node more at (before_node n is).0 n (t.grows at (before_node n is).0 (before_node n is).1) is
+      same_before n is = one_node more at (before_node n is).0 n (t.grows at (before_node n is).0 (before_node n is).1)
+          is
 
-      taken_of : (n : Node) (d : ℕ) (e : Edge) (is : IsNode more at n) → IsEdge g d e → e.from ≡ n.head.location → IsIn d (c ∷ cs) ⊎ EdgeDone T g nodes (before_node n is).0 e → IsIn d cs ⊎ EdgeDone T g more n e
+      taken_of : (n : Node) (d : ℕ) (e : Edge) (is : IsNode more at n) → IsEdge g d e → e.from ≡ n.head.location
+          → IsIn d (c ∷ cs) ⊎ EdgeDone T g nodes (before_node n is).0 e → IsIn d cs ⊎ EdgeDone T g more n e
       taken_of n d e is ie fr (inl (inl same)) = inr (t.edge n e is (subst (λ z. IsEdge g z e) same ie) fr)
       taken_of n d e is ie fr (inl (inr later)) = inl later
-      taken_of n d e is ie fr (inr done) = inr (edge_more T g nodes more t.grows n e (subst (λ z. EdgeDone T g nodes z e) (same_before n is) done))
+      taken_of n d e is ie fr (inr done) =
+          inr (edge_more T g nodes more t.grows n e (subst (λ z. EdgeDone T g nodes z e) (same_before n is) done))
 
-  pub stage_done : (nodes : List Node) (at budget : ℕ) → IsStage T g k nodes at [] → length nodes ≤ budget → IsFront T g k nodes (at + 1) budget
+  pub stage_done : (nodes : List Node) (at budget : ℕ) → IsStage T g k nodes at [] → length nodes ≤ budget
+      → IsFront T g k nodes (at + 1) budget
   stage_done nodes at budget st within = record {
     explored = st.explored;
     upto = omega (arith, st.inside);
@@ -281,21 +344,29 @@ module _ (T : Boxes) (g : ControlGraph) (k : ℕ) where
       lt_or zero zero h = inr refl
       lt_or zero (suc b) h = inl (omega arith)
       lt_or (suc j) zero h = absurd (omega (arith, h))
-      lt_or (suc j) (suc b) h = elim (lt_or j b (omega (arith, h))) [ inl l ↦ inl (omega (arith, l)) | inr e ↦ inr (ap suc e) ]
+      lt_or (suc j) (suc b) h =
+          elim (lt_or j b (omega (arith, h))) [ inl l ↦ inl (omega (arith, l)) | inr e ↦ inr (ap suc e) ]
 
       done_of : (j : ℕ) → (j < at) ⊎ (j ≡ at) → Done T g nodes j
       done_of j (inl less) = st.done j less
-      done_of j (inr same) = λ n is c e ie fr. elim (st.taken n c e (subst (λ z. IsNode nodes z n) same is) ie fr) [ inl none ↦ absurd none | inr d ↦ d ]
+      done_of j (inr same) = λ n is c e ie fr.
+          elim (st.taken n c e (subst (λ z. IsNode nodes z n) same is) ie fr) [ inl none ↦ absurd none | inr d ↦ d ]
 
-  pub made_more : (nodes later : List Node) (at : ℕ) (x : Made) → Grows nodes later → IsMadeAt T g nodes at x → IsMadeAt T g later at x
+  pub made_more : (nodes later : List Node) (at : ℕ) (x : Made) → Grows nodes later → IsMadeAt T g nodes at x
+      → IsMadeAt T g later at x
   made_more nodes later at x gr m = record { node = m.node; is = gr at m.node m.is; made = m.made }
 
   -- the work list
 
-  pub made_at : (nodes : List Node) (at : ℕ) (n : Node) (made : List Made) → IsNode nodes at n → AreMade T g n.head.location n.state.forest made → Every (IsMadeAt T g nodes at) made
-  made_at nodes at n made is all = every_of (IsMadeAt T g nodes at) made (λ x h. record { node = n; is = is; made = every_in (IsMade T g n.head.location n.state.forest) made x all.each h })
+  pub made_at : (nodes : List Node) (at : ℕ) (n : Node) (made : List Made) → IsNode nodes at n
+      → AreMade T g n.head.location n.state.forest made → Every (IsMadeAt T g nodes at) made
+  made_at nodes at n made is all =
+      every_of (IsMadeAt T g nodes at) made
+      (λ x h.
+      record { node = n; is = is; made = every_in (IsMade T g n.head.location n.state.forest) made x all.each h })
 
-  pub front_stage : (nodes : List Node) (at budget : ℕ) (n : Node) (made : List Made) → IsFront T g k nodes at budget → IsNode nodes at n → AreMade T g n.head.location n.state.forest made → IsStage T g k nodes at (edge_numbers made)
+  pub front_stage : (nodes : List Node) (at budget : ℕ) (n : Node) (made : List Made) → IsFront T g k nodes at budget
+      → IsNode nodes at n → AreMade T g n.head.location n.state.forest made → IsStage T g k nodes at (edge_numbers made)
   front_stage nodes at budget n made f is all = record {
     explored = f.explored;
     inside = slice_get_within nodes at n is;
@@ -305,43 +376,55 @@ module _ (T : Boxes) (g : ControlGraph) (k : ℕ) where
     early = λ j m d im ch. absurd (omega (arith, f.early j m at d im ch));
   }
 
-  pub node_normal : (nodes : List Node) (j : ℕ) (n : Node) (s : SoundForest) → Exploration T g k nodes → IsNode nodes j n → s.forest ≡ n.state.forest → s.face ≡ n.state.face → IsNormal T g s
+  pub node_normal : (nodes : List Node) (j : ℕ) (n : Node) (s : SoundForest) → Exploration T g k nodes
+      → IsNode nodes j n → s.forest ≡ n.state.forest → s.face ≡ n.state.face → IsNormal T g s
   node_normal nodes zero n s x is forest face =
       let f = x.first in
       let same : n ≡ f.node = one_node nodes 0 n f.node is f.is in
       let here : s.forest ≡ f.node.state.forest = forest ∙ ap (λ z. z.state.forest) same in
-      record { face = face ∙ ap (λ z. z.state.face) same ∙ f.face; canonical = rw here f.canonical; reduced = rw here f.reduced; vars = rw here f.vars }
+      record { face = face ∙ ap (λ z. z.state.face) same ∙ f.face; canonical = rw here f.canonical;
+          reduced = rw here f.reduced; vars = rw here f.vars }
   node_normal nodes (suc j) n s x is forest face =
       let a = (x.follow (suc j) n (omega arith) is).follows.state in
-      record { face = face ∙ a.face; canonical = rw forest a.canonical; reduced = rw forest a.reduced; vars = rw forest a.vars }
+      record { face = face ∙ a.face; canonical = rw forest a.canonical; reduced = rw forest a.reduced;
+          vars = rw forest a.vars }
 
-  pub node_face : (nodes : List Node) (j : ℕ) (n : Node) → Exploration T g k nodes → IsNode nodes j n → n.state.face ≡ T.face
+  pub node_face : (nodes : List Node) (j : ℕ) (n : Node) → Exploration T g k nodes → IsNode nodes j n
+      → n.state.face ≡ T.face
   node_face nodes zero n x is = ap (λ z. z.state.face) (one_node nodes 0 n x.first.node is x.first.is) ∙ x.first.face
   node_face nodes (suc j) n x is = (x.follow (suc j) n (omega arith) is).follows.state.face
 
   pub node_over : (nodes : List Node) (n : Node) → Exploration T g k nodes → IsIn n nodes → n.state.face ≡ T.face
   node_over nodes n x h = let w = place_of nodes n h in node_face nodes w.0 n x w.1
 
-  pub due_over : (nodes : List Node) (at c : ℕ) (states : List AbstractState) (a : AbstractState) → AreDue T g k nodes at c states → IsIn a states → a.face ≡ T.face
-  due_over nodes at c states a due h = (every_in (Arrives T g (is_head g due.edge.to) k due.parent.state.forest due.edge) states a due.each h).face
+  pub due_over : (nodes : List Node) (at c : ℕ) (states : List AbstractState) (a : AbstractState)
+      → AreDue T g k nodes at c states → IsIn a states → a.face ≡ T.face
+  due_over nodes at c states a due h =
+      (every_in (Arrives T g (is_head g due.edge.to) k due.parent.state.forest due.edge) states a due.each h).face
 
   -- each node stands at a location of the graph
-  pub node_inside : (nodes : List Node) (j : ℕ) (n : Node) → Every (IsEdgeOf g) g.edges → 0 < g.locations → Exploration T g k nodes → IsNode nodes j n → n.head.location < g.locations
-  node_inside nodes zero n edges entry x is = rw (ap (λ z. z.head.location) (one_node nodes 0 n x.first.node is x.first.is) ∙ x.first.entry) entry
+  pub node_inside : (nodes : List Node) (j : ℕ) (n : Node) → Every (IsEdgeOf g) g.edges → 0 < g.locations
+      → Exploration T g k nodes → IsNode nodes j n → n.head.location < g.locations
+  node_inside nodes zero n edges entry x is =
+      rw (ap (λ z. z.head.location) (one_node nodes 0 n x.first.node is x.first.is) ∙ x.first.entry) entry
   node_inside nodes (suc j) n edges entry x is =
       let f = x.follow (suc j) n (omega arith) is in
       rw f.follows.to (every_in (IsEdgeOf g) g.edges f.edge edges (in_at g.edges f.number f.edge f.is_edge)).to
 
-  pub front_closed : (nodes : List Node) (at budget : ℕ) → IsFront T g k nodes at budget → length nodes ≤ at → IsExplored T g k budget (Closed nodes)
-  front_closed nodes at budget f over = (f.explored, record { first = f.explored.first; done = λ j less. f.done j (omega (arith, less, over)) }, f.within)
+  pub front_closed : (nodes : List Node) (at budget : ℕ) → IsFront T g k nodes at budget → length nodes ≤ at
+      → IsExplored T g k budget (Closed nodes)
+  front_closed nodes at budget f over =
+      (f.explored, record { first = f.explored.first; done = λ j less. f.done j (omega (arith, less, over)) }, f.within)
 
   pub has_ways : (nodes : List Node) → Exploration T g k nodes → HasWays nodes
   has_ways nodes x = record {
     none = λ n is. subst (λ z. z.head.parent ≡ None) (one_node nodes 0 x.first.node n x.first.is is) x.first.no_parent;
-    each = λ j n pos is. let f = x.follow j n pos is in record { parent = f.at; is = f.follows.child.parent; earlier = f.earlier };
+    each = λ j n pos is. let f = x.follow j n pos is in
+        record { parent = f.at; is = f.follows.child.parent; earlier = f.earlier };
   }
 
-  pub trace_is : (nodes : List Node) (at c : ℕ) (bad : Bad) (tr : AbsTrace) → IsFault T g nodes at c bad → ((j : ℕ) → j < at → Done T g nodes j) → IsTraceTo g nodes at c bad tr → AbstractTrace T g nodes tr
+  pub trace_is : (nodes : List Node) (at c : ℕ) (bad : Bad) (tr : AbsTrace) → IsFault T g nodes at c bad
+      → ((j : ℕ) → j < at → Done T g nodes j) → IsTraceTo g nodes at c bad tr → AbstractTrace T g nodes tr
   trace_is nodes at c bad tr f done t =
       let same : t.edge ≡ f.edge = some_same t.edge f.edge (sym t.is_edge ∙ f.is_edge) in
       record {
@@ -364,12 +447,18 @@ module _ (T : Boxes) (g : ControlGraph) (k : ℕ) where
         earlier_edges = subst (EarlierDone T g nodes f.node) (sym t.number_is) f.earlier;
       }
 
-  pub front_wider : (nodes : List Node) (at budget : ℕ) → 1 ≤ budget → IsFront T g k nodes at 1 → IsFront T g k nodes at budget
-  front_wider nodes at budget one f = record { explored = f.explored; upto = f.upto; within = omega (arith, one, f.within); done = f.done; early = f.early }
+  pub front_wider : (nodes : List Node) (at budget : ℕ) → 1 ≤ budget → IsFront T g k nodes at 1
+      → IsFront T g k nodes at budget
+  front_wider nodes at budget one f =
+      record { explored = f.explored; upto = f.upto; within = omega (arith, one, f.within); done = f.done;
+      early = f.early }
 
   -- what ends the work on an edge ends that on its node
-  pub edge_ends : (start nodes later : List Node) (at c budget : ℕ) (t : Taken) → (t ≡ All → ⊥) → Exploration T g k nodes → ((j : ℕ) → j < at → Done T g nodes j) → length nodes ≤ budget → IsTakenEdge T g k nodes at c budget later t → IsTakenNode T g k start at budget later t
+  pub edge_ends : (start nodes later : List Node) (at c budget : ℕ) (t : Taken) → (t ≡ All → ⊥)
+      → Exploration T g k nodes → ((j : ℕ) → j < at → Done T g nodes j) → length nodes ≤ budget
+      → IsTakenEdge T g k nodes at c budget later t → IsTakenNode T g k start at budget later t
   edge_ends start nodes later at c budget All not_all x done within t = absurd (not_all refl)
   edge_ends start nodes later at c budget (Fault d bad) not_all x done within t =
-      (t.0, subst (λ z. Exploration T g k z) (sym t.1) x, subst (λ z. (j : ℕ) → j < at → Done T g z j) (sym t.1) done, subst (λ z. length z ≤ budget) (sym t.1) within)
+      (t.0, subst (λ z. Exploration T g k z) (sym t.1) x, subst (λ z. (j : ℕ) → j < at → Done T g z j) (sym t.1) done,
+          subst (λ z. length z ≤ budget) (sym t.1) within)
   edge_ends start nodes later at c budget Over not_all x done within t = t

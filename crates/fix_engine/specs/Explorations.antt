@@ -1,5 +1,6 @@
 -- Explorations of a control graph by abstract states, and the three ways in which they end.
-use Rattle.std.specs.Prelude.{◌≡◌, ◌↔◌, ◌⊎◌, ◌<◌, ◌≤◌, ◌+◌, ◌++◌, ℕ, List, [], ◌∷◌, length, slice_get, slice_index_or, Bool, true, false, Option, Some, None}
+use Rattle.std.specs.Prelude.{◌≡◌, ◌↔◌, ◌⊎◌, ◌<◌, ◌≤◌, ◌+◌, ◌++◌, ℕ, List, [], ◌∷◌, length, slice_get, slice_index_or}
+use Rattle.std.specs.Prelude.{Bool, true, false, Some, None}
 use Rattle.fore_base.specs.declared.fault.Fault.{Fault}
 use Rattle.fore_base.specs.declared.store.Store.{Store}
 use Rattle.fa_core.specs.Boxes.{Boxes}
@@ -42,10 +43,12 @@ pub record IsChild (n : Node) (p c : ℕ) : Type 0 where
 abbrev pub NoLater : ℕ → ℕ → ℕ → ℕ → Type 0
 NoLater p c q d = (p < q) ⊎ ((p ≡ q) × (c ≤ d))
 
--- The way to node j and its choices: it begins with node 0, the head of each next node names the one before, and the choices are those of the heads.
+-- The way to node j and its choices: it begins with node 0, the head of each next node names the one before, and the
+-- choices are those of the heads.
 pub data IsWay (nodes : List Node) : ℕ → List ℕ → List ℕ → Type 0 where
   begins : IsWay nodes 0 (0 ∷ []) []
-  goes : {p j : ℕ} {way choices : List ℕ} (n : Node) (more used : List ℕ) → IsWay nodes p way choices → IsNode nodes j n → n.head.parent ≡ Some p
+  goes : {p j : ℕ} {way choices : List ℕ} (n : Node) (more used : List ℕ) → IsWay nodes p way choices → IsNode nodes j n
+      → n.head.parent ≡ Some p
       → more ≡ way ++ j ∷ [] → used ≡ choices ++ choice_list n.head.choice → IsWay nodes j more used
 
 -- by the table T, no member of the node meets a fault on the edge
@@ -75,7 +78,8 @@ module _ (T : Boxes) (g : ControlGraph) where
 
   -- so it is with each edge from the node's location
   abbrev pub Done : List Node → ℕ → Type 0
-  Done nodes j = (n : Node) → IsNode nodes j n → (c : ℕ) (e : Edge) → IsEdge g c e → e.from ≡ n.head.location → EdgeDone nodes n e
+  Done nodes j = (n : Node) → IsNode nodes j n → (c : ℕ) (e : Edge) → IsEdge g c e → e.from ≡ n.head.location
+      → EdgeDone nodes n e
 
   -- node 0 is at the entry, and its members are the stores with which a run begins: no cell, and no variable set
   pub record IsFirst (nodes : List Node) : Type 0 where
@@ -107,8 +111,8 @@ module _ (T : Boxes) (g : ControlGraph) where
   abbrev pub CalmUpTo : Node → ℕ → Type 0
   CalmUpTo n c = (d : ℕ) (e : Edge) → d ≤ c → IsEdge g d e → e.from ≡ n.head.location → IsCalm T n e
 
-  -- An abstract trace: the way to a node, and an edge on which each member of `last`, which are members of the node, meets the fault.
-  -- The nodes before that node are done, and the edges before that edge.
+  -- An abstract trace: the way to a node, and an edge on which each member of `last`, which are members of the node,
+  -- meets the fault. The nodes before that node are done, and the edges before that edge.
   pub record AbstractTrace (nodes : List Node) (tr : AbsTrace) : Type 0 where
     pub at : ℕ
     pub node : Node
@@ -119,7 +123,8 @@ module _ (T : Boxes) (g : ControlGraph) where
     pub choices : List ℕ
     pub way : IsWay nodes at tr.nodes choices
     pub all_choices : tr.choices ≡ choices ++ choice_list edge.choice
-    pub members : (s : Store) → IsMember T tr.last.forest s → IsMember T node.state.forest s × (passed_by T edge s ≡ Faulted tr.fault)
+    pub members : (s : Store) → IsMember T tr.last.forest s → IsMember T node.state.forest s
+        × (passed_by T edge s ≡ Faulted tr.fault)
     pub face : tr.last.face ≡ T.face
     pub sound : IsSound T.face tr.last.forest
     pub line : tr.line ≡ edge.line
@@ -148,41 +153,49 @@ module _ (T : Boxes) (g : ControlGraph) where
       pub is_edge : IsEdge g number edge
       pub follows : Follows at parent number edge n
 
-    -- Two states of one case, with the middle forests M and N: these have the same trees, the same folds were made, and G and H, into
-    -- which they were regrouped, are not joinable.
+    -- Two states of one case, with the middle forests M and N: these have the same trees, the same folds were made, and
+    -- G and H, into which they were regrouped, are not joinable.
     pub record AreOfOneCase (a b : AbstractState) (M N G H : Forest) : Type 0 where
       pub middles : SameLanguages M N
       pub folds : b.folds ≡ a.folds
       pub joinable : Joinable T.face.boxes G H → ⊥
 
-    -- Two states to which one edge leads from one node, at a loop head regrouped into G and H. Elsewhere than at loop heads they are
-    -- not joinable. Where the edge is quiet they are at a loop head, and were alike before they were folded. At a loop head they are
-    -- of one case, or of two that are not joinable: so no case is cut in one child.
+    -- Two states to which one edge leads from one node, at a loop head regrouped into G and H. Elsewhere than at loop
+    -- heads they are not joinable. Where the edge is quiet they are at a loop head, and were alike before they were
+    -- folded. At a loop head they are of one case, or of two that are not joinable: so no case is cut in one child.
     pub record IsApart (e : Edge) (a b : AbstractState) (G H : Forest) : Type 0 where
       pub joinable : is_head g e.to ≡ false → Joinable T.face.boxes a.forest b.forest → ⊥
       pub quiet_at : is_quiet e.instr ≡ true → is_head g e.to ≡ true
-      pub quiet_same : is_quiet e.instr ≡ true → (M N : Forest) → a.middle ≡ Some M → b.middle ≡ Some N → SameLanguages M N
+      pub quiet_same : is_quiet e.instr ≡ true → (M N : Forest) → a.middle ≡ Some M → b.middle ≡ Some N
+          → SameLanguages M N
       pub middles : (M N : Forest) → a.middle ≡ Some M → b.middle ≡ Some N
           → AreOfOneCase a b M N G H ⊎ (Joinable T.face.boxes M N → ⊥)
 
-    -- An exploration: nodes that begin at the entry, each other one following an earlier one. No earlier node of its location covers
-    -- a node. The pairs of parent and edge never fall. Each node before the parent of the last one is done, and of this parent the
-    -- edges before that to the last node. Where an edge leads to a node, no member of its parent meets a fault on it, nor on an edge
-    -- before it. `grouped` is, for each node at a loop head, what its middle forest was folded and regrouped into.
+    -- An exploration: nodes that begin at the entry, each other one following an earlier one. No earlier node of its
+    -- location covers a node. The pairs of parent and edge never fall. Each node before the parent of the last one is
+    -- done, and of this parent the edges before that to the last node. Where an edge leads to a node, no member of its
+    -- parent meets a fault on it, nor on an edge before it. `grouped` is, for each node at a loop head, what its middle
+    -- forest was folded and regrouped into.
     pub record Exploration (nodes : List Node) : Type 0 where
       pub first : IsFirst nodes
       pub follow : (j : ℕ) (n : Node) → 0 < j → IsNode nodes j n → FollowsEarlier nodes j n
-      pub fresh : (i j : ℕ) (m n : Node) → i < j → IsNode nodes i m → IsNode nodes j n → m.head.location ≡ n.head.location
+      pub fresh : (i j : ℕ) (m n : Node) → i < j → IsNode nodes i m → IsNode nodes j n → m.head.location
+          ≡ n.head.location
           → Covers m.state.forest n.state.forest → ⊥
-      pub order : (i j : ℕ) (m n : Node) (p c q d : ℕ) → i < j → IsNode nodes i m → IsNode nodes j n → IsChild m p c → IsChild n q d
+      pub order : (i j : ℕ) (m n : Node) (p c q d : ℕ) → i < j → IsNode nodes i m → IsNode nodes j n → IsChild m p c
+          → IsChild n q d
           → NoLater p c q d
-      pub done : (j : ℕ) (n : Node) (p c : ℕ) → length nodes ≡ j + 1 → IsNode nodes j n → IsChild n p c → (i : ℕ) → i < p → Done nodes i
+      pub done : (j : ℕ) (n : Node) (p c : ℕ) → length nodes ≡ j + 1 → IsNode nodes j n → IsChild n p c → (i : ℕ)
+          → i < p → Done nodes i
       pub earlier_edges : (j : ℕ) (n parent : Node) (p c : ℕ) → length nodes ≡ j + 1 → IsNode nodes j n → IsChild n p c
           → IsNode nodes p parent → EarlierDone nodes parent c
-      pub calm : (j : ℕ) (n parent : Node) (p c : ℕ) → IsNode nodes j n → IsChild n p c → IsNode nodes p parent → CalmUpTo parent c
+      pub calm : (j : ℕ) (n parent : Node) (p c : ℕ) → IsNode nodes j n → IsChild n p c → IsNode nodes p parent
+          → CalmUpTo parent c
       pub grouped : ℕ → Forest
-      pub groups : (j : ℕ) (n : Node) (M : Forest) → IsNode nodes j n → n.state.middle ≡ Some M → Settles T k M (grouped j) n.state
-      pub apart : (i j : ℕ) (m n : Node) (p c : ℕ) (e : Edge) → i < j → IsNode nodes i m → IsNode nodes j n → IsChild m p c
+      pub groups : (j : ℕ) (n : Node) (M : Forest) → IsNode nodes j n → n.state.middle ≡ Some M
+          → Settles T k M (grouped j) n.state
+      pub apart : (i j : ℕ) (m n : Node) (p c : ℕ) (e : Edge) → i < j → IsNode nodes i m → IsNode nodes j n
+          → IsChild m p c
           → IsChild n p c → IsEdge g c e → IsApart e m.state n.state (grouped i) (grouped j)
 
     -- The nodes are as many as the budget, and with some further node at the end they would be an exploration again.

@@ -1,5 +1,6 @@
 -- Which abstract states follow one another: what an edge makes of a forest, folded and abstracted at loop heads.
-use Rattle.std.specs.Prelude.{◌≡◌, ◌⊎◌, ◌<◌, ◌≤◌, ℕ, List, [], ◌∷◌, length, slice_get, Bool, true, false, Option, Some, None}
+use Rattle.std.specs.Prelude.{◌≡◌, ◌⊎◌, ◌<◌, ◌≤◌, ℕ, List, [], ◌∷◌, length, slice_get, Bool, true, false, Option, Some}
+use Rattle.std.specs.Prelude.{None}
 use Rattle.fore_base.specs.Lists.{Paired}
 use Rattle.fore_base.specs.declared.store.Store.{Store}
 use Rattle.ta_core.specs.Language.{HasSameLanguage}
@@ -51,7 +52,8 @@ module _ (T : Boxes) where
   abbrev pub passed_by : Edge → Store → Pass
   passed_by e s = gstep T.face.shapes.structs e s
 
-  -- M is a case of the edge from F, sound and canonical: its members come from F by the edge, and it keeps the box edges that the edge does not need
+  -- M is a case of the edge from F, sound and canonical: its members come from F by the edge, and it keeps the box
+  -- edges that the edge does not need
   pub record IsCase (F : Forest) (e : Edge) (M : Forest) : Type 0 where
     pub sound : IsSound T.face M
     pub canonical : IsCanonical T.face M
@@ -77,8 +79,8 @@ module _ (T : Boxes) where
   FoldsTo F [] G = F ≡ G
   FoldsTo F (x ∷ xs) G = (H : Forest) × IsLeastFold F x H × FoldsTo H xs G
 
-  -- The state is M folded until nothing can be folded, regrouped into `grouped`, which is canonical and reduced, and abstracted
-  -- to height k. Where nothing was folded, `grouped` has the trees of M.
+  -- The state is M folded until nothing can be folded, regrouped into `grouped`, which is canonical and reduced, and
+  -- abstracted to height k. Where nothing was folded, `grouped` has the trees of M.
   pub record Settles (k : ℕ) (M grouped : Forest) (a : AbstractState) : Type 0 where
     pub middle : a.middle ≡ Some M
     pub folded : Forest
@@ -108,8 +110,10 @@ module _ (T : Boxes) where
   IsStateAt true k F e a = IsSettled k F e a
   IsStateAt false k F e a = IsCarried F e a
 
-  -- the edge leads from F to the state, which is one of a loop head or not; its forest is sound, canonical and reduced, and has the graph's variables
-  pub record Arrives (g : ControlGraph) (is_head : Bool) (k : ℕ) (F : Forest) (e : Edge) (a : AbstractState) : Type 0 where
+  -- the edge leads from F to the state, which is one of a loop head or not; its forest is sound, canonical and reduced,
+  -- and has the graph's variables
+  pub record Arrives (g : ControlGraph) (is_head : Bool) (k : ℕ) (F : Forest) (e : Edge) (a : AbstractState) :
+      Type 0 where
     pub face : a.face ≡ T.face
     pub state : IsStateAt is_head k F e a
     pub sound : IsSound T.face a.forest

@@ -2,7 +2,8 @@
 use Rattle.std.specs.Prelude.{Bool, true, false, [], ◌∷◌}
 use Rattle.c_cfg.specs.declared.graph.Const.TheVariants.{Null as ConstNull, Known as ConstKnown}
 use Rattle.c_cfg.specs.declared.graph.Instr.{Instr}
-use Rattle.c_cfg.specs.declared.graph.Instr.TheVariants.{CopyPtr, LoadPtr, StorePtr, StoreConst, New, Free, Kill, CopyData, LoadData, StoreData, TestPtr, TestData, Choose, Stop}
+use Rattle.c_cfg.specs.declared.graph.Instr.TheVariants.{CopyPtr, LoadPtr, StorePtr, StoreConst, New, Free, Kill}
+use Rattle.c_cfg.specs.declared.graph.Instr.TheVariants.{CopyData, LoadData, StoreData, TestPtr, TestData, Choose, Stop}
 
 -- a Kill is quiet where no pointer variable dies, and a StoreConst where it stores a number
 abbrev pub is_quiet : Instr → Bool

@@ -1,5 +1,6 @@
 -- Forests without cells, of one pointer variable that is null or was never set, and their members.
-use Rattle.std.proofs.Common.{◌≡◌, ◌<◌, ℕ, List, [], ◌∷◌, length, slice_get, Option, None, Some, true, false, refl, sym, ◌∙◌, ap, subst, arith}
+use Rattle.std.proofs.Common.{◌≡◌, ◌<◌, ℕ, List, [], ◌∷◌, length, slice_get, None, Some, true, false, refl, sym}
+use Rattle.std.proofs.Common.{◌∙◌, ap, arith}
 use Rattle.fore_base.specs.declared.store.CellRec.{CellRec}
 use Rattle.fore_base.specs.declared.store.Datum.{Datum}
 use Rattle.fore_base.specs.declared.store.Store.{Store}
@@ -10,10 +11,9 @@ use Rattle.ta_core.specs.declared.tree.Tree.{Tree}
 use Rattle.fa_core.specs.Boxes.{Boxes}
 use Rattle.fa_core.specs.Canonical.{IsCanonical, Walks, ended, GoesOn, refs_at, var_roots, IsRootKind, IsUntied}
 use Rattle.fa_core.specs.Dressed.{Nodes, no_nodes, more, value_in}
-use Rattle.fa_core.specs.Filled.{Choice, ChoiceFilled, IsFilled, IsRoot, IsSound, IsWellFormed}
+use Rattle.fa_core.specs.Filled.{Choice, ChoiceFilled, IsFilled, IsSound, IsWellFormed}
 use Rattle.fa_core.specs.Member.{StandsBy, store_facts}
 use Rattle.fa_core.specs.Rearranged.{empty}
-use Rattle.fa_core.specs.declared.faces.Face.{Face}
 use Rattle.fa_core.specs.declared.forest.Forest.{Forest}
 use Rattle.fa_core.specs.declared.forest.Target.{Target}
 use Rattle.fa_core.specs.declared.forest.Target.TheVariants.{Null, Uninit, At}
@@ -46,11 +46,13 @@ abbrev pub from_case : Forest → Forest → AbstractState
 from_case M F = record { face = table.face; forest = F; middle = Some M; folds = [] }
 
 abbrev pub entry : Node
-entry = record { head = record { location = 0; parent = None; edge = None; choice = None }; state = as_it_is (bare Uninit) }
+entry =
+    record { head = record { location = 0; parent = None; edge = None; choice = None }; state = as_it_is (bare Uninit) }
 
 -- a node at the location, reached from node p by edge c, which has no choice
 abbrev pub reached : ℕ → ℕ → ℕ → AbstractState → Node
-reached location p c a = record { head = record { location = location; parent = Some p; edge = Some c; choice = None }; state = a }
+reached location p c a =
+    record { head = record { location = location; parent = Some p; edge = Some c; choice = None }; state = a }
 
 -- an edge without a choice
 abbrev pub edge : ℕ → ℕ → ℕ → Instr → Edge
@@ -75,9 +77,11 @@ store_is s v a b c =
 
 -- a store is alike to itself
 pub alike_null : (next : ℕ) → IsAlike (holding NullValue next) (holding NullValue next)
-alike_null next = record { to = λ n. n; one_to_one = λ m n h k e. e; vars = refl; data_vars = refl; cells = permuted none }
+alike_null next = record
+    { to = λ n. n; one_to_one = λ m n h k e. e; vars = refl; data_vars = refl; cells = permuted none }
 
-module _ (t : Target) (v : Value) (no_root : (r : ℕ) → t ≡ At r → ⊥) (value : value_in [] t ≡ v) (named : NamesCell [] v)
+module _ (t : Target) (v : Value) (no_root : (r : ℕ) → t ≡ At r → ⊥) (value : value_in [] t ≡ v)
+    (named : NamesCell [] v)
     (no_roots : var_roots (t ∷ []) ≡ []) where
   filled : IsFilled table.face (bare t)
   filled = record { data_vars = tt; rules = tt; trees = λ ts c. trees ts c }
@@ -132,7 +136,8 @@ module _ (t : Target) (v : Value) (no_root : (r : ℕ) → t ≡ At r → ⊥) (
 
   pub is_holding_by : (d : Nodes) (s : Store) → StandsBy [] [] (bare t) d s → (s ≡ holding v s.next) × (d ≡ no_nodes)
   is_holding_by no_nodes s b =
-      (store_is s v (b.vars ∙ ap (λ z. z ∷ []) value) b.data_vars (no_cells s.cells (nothing [] (store_facts s.cells) b.same_facts refl)), refl)
+      (store_is s v (b.vars ∙ ap (λ z. z ∷ []) value) b.data_vars
+          (no_cells s.cells (nothing [] (store_facts s.cells) b.same_facts refl)), refl)
   is_holding_by (more n ns) s b = absurd b.of
 
   pub is_holding : (s : Store) → IsMember table (bare t) s → s ≡ holding v s.next

@@ -1,5 +1,6 @@
 -- Cases that are cut, and quiet edges with two nodes: no exploration.
-use Rattle.std.proofs.Common.{◌≡◌, ◌⊎◌, ◌<◌, ℕ, List, [], ◌∷◌, length, true, false, None, Some, refl, sym, ◌∙◌, ap, subst, arith, inl, inr, lit<, true≢false}
+use Rattle.std.proofs.Common.{◌≡◌, ℕ, List, [], ◌∷◌, length, None, Some, refl, sym, ◌∙◌, ap}
+use Rattle.std.proofs.Common.{subst, arith, inl, inr, lit<, true≢false}
 use Rattle.fore_base.specs.Lists.{Paired}
 use Rattle.ta_core.proofs.Runs.{run_tree, tree_of}
 use Rattle.ta_core.specs.Auto.{Automaton, automaton}
@@ -16,10 +17,9 @@ use Rattle.fa_core.specs.declared.forest.Target.TheVariants.{Null, Uninit, At}
 use Rattle.fa_join.specs.Joinable.{Joinable, PairedButOne}
 use Rattle.c_cfg.specs.Graphs.{ControlGraph}
 use Rattle.c_cfg.specs.declared.graph.Const.TheVariants.{Known as ConstKnown}
-use Rattle.c_cfg.specs.declared.graph.Edge.{Edge}
 use Rattle.c_cfg.specs.declared.graph.Instr.{Instr}
 use Rattle.c_cfg.specs.declared.graph.Instr.TheVariants.{New, StoreConst}
-use Rattle.fix_engine.specs.Explorations.{AreOfOneCase, IsApart, IsChild, Exploration}
+use Rattle.fix_engine.specs.Explorations.{IsApart, Exploration}
 use Rattle.fix_engine.specs.Follows.{SameLanguages, Settles}
 use Rattle.fix_engine.specs.States.{AbstractState}
 use Rattle.fix_engine.specs.declared.nodes.Node.{Node}
@@ -33,7 +33,8 @@ all_but_one R S [] (y ∷ ys) p = absurd p
 all_but_one R S (x ∷ xs) [] p = absurd p
 all_but_one R S (x ∷ xs) (y ∷ ys) p = inl (p.0, all_but_one R S xs ys p.1)
 
-same_too : (as' bs cs : List Automaton) → Paired HasSameLanguage as' bs → Paired HasSameLanguage as' cs → Paired HasSameLanguage bs cs
+same_too : (as' bs cs : List Automaton) → Paired HasSameLanguage as' bs → Paired HasSameLanguage as' cs
+    → Paired HasSameLanguage bs cs
 same_too [] [] [] p q = tt
 same_too [] [] (c ∷ cs) p q = absurd q
 same_too [] (b ∷ bs) cs p q = absurd p
@@ -125,7 +126,8 @@ two_at location a b = entry ∷ reached location 0 0 a ∷ reached location 0 0 
 abbrev by : ℕ → Instr → ControlGraph
 by location instr = graph_of (edge 0 location 1 instr ∷ [])
 
-apart_of : (location : ℕ) (instr : Instr) (a b : AbstractState) (x : Exploration table (by location instr) 1 (two_at location a b))
+apart_of : (location : ℕ) (instr : Instr) (a b : AbstractState)
+    (x : Exploration table (by location instr) 1 (two_at location a b))
     → IsApart table (by location instr) 1 (edge 0 location 1 instr) a b (x.grouped 1) (x.grouped 2)
 apart_of location instr a b x =
     x.apart 1 2 (reached location 0 0 a) (reached location 0 0 b) 0 0 (edge 0 location 1 instr) (lit< tt) refl refl
@@ -134,7 +136,9 @@ apart_of location instr a b x =
 -- The case cut in one child, at the loop head 2
 case_cut : Exploration table (by 2 (New 0 0)) 1 (two_at 2 (from_case either at_null) (from_case either never_set)) → ⊥
 case_cut x =
-    elim ((apart_of 2 (New 0 0) (from_case either at_null) (from_case either never_set) x).middles either either refl refl) [
+    elim
+        ((apart_of 2 (New 0 0) (from_case either at_null) (from_case either never_set) x).middles either either refl
+        refl) [
       | inl one ↦ one.joinable (joined either (x.grouped 1) (x.grouped 2)
           ((x.groups 1 (reached 2 0 0 (from_case either at_null)) either refl refl).unfolded refl)
           ((x.groups 2 (reached 2 0 0 (from_case either never_set)) either refl refl).unfolded refl))
@@ -142,9 +146,12 @@ case_cut x =
     ]
 
 -- Two cases that differ in one child
-cases_joinable : Exploration table (by 2 (New 0 0)) 1 (two_at 2 (from_case at_null at_null) (from_case no_trees no_trees)) → ⊥
+cases_joinable : Exploration table (by 2 (New 0 0)) 1
+    (two_at 2 (from_case at_null at_null) (from_case no_trees no_trees)) → ⊥
 cases_joinable x =
-    elim ((apart_of 2 (New 0 0) (from_case at_null at_null) (from_case no_trees no_trees) x).middles at_null no_trees refl refl) [
+    elim
+        ((apart_of 2 (New 0 0) (from_case at_null at_null) (from_case no_trees no_trees) x).middles at_null no_trees
+        refl refl) [
       | inl one ↦ other_trees_there one.middles
       | inr apart ↦ apart differ_in_one_child
     ]
@@ -156,11 +163,16 @@ joinable_elsewhere x = (apart_of 1 (New 0 0) (as_it_is at_null) (as_it_is no_tre
 -- One case, of which one node was folded, and the other one not
 module _ (part : BoxDef) where
   abbrev folded : Forest → Forest → AbstractState
-  folded M F = record { face = table.face; forest = F; middle = Some M; folds = record { box_no = 0; input = 0; output = None; part = part } ∷ [] }
+  folded M F =
+      record { face = table.face; forest = F; middle = Some M;
+      folds = record { box_no = 0; input = 0; output = None; part = part } ∷ [] }
 
-  folded_and_not : Exploration table (by 2 (New 0 0)) 1 (two_at 2 (folded either at_null) (from_case either never_set)) → ⊥
+  folded_and_not : Exploration table (by 2 (New 0 0)) 1 (two_at 2 (folded either at_null) (from_case either never_set))
+      → ⊥
   folded_and_not x =
-      elim ((apart_of 2 (New 0 0) (folded either at_null) (from_case either never_set) x).middles either either refl refl) [
+      elim
+          ((apart_of 2 (New 0 0) (folded either at_null) (from_case either never_set) x).middles either either refl
+          refl) [
         | inl one ↦ omega (arith, ap (λ (z : List FoldStep). length z) one.folds)
         | inr apart ↦ apart (joined_itself either)
       ]
@@ -174,14 +186,19 @@ other_trees a none s = differ (s.unfolded none).vars
 
 -- A second node of a quiet edge, which stores a number: at location 1; and at the loop head from another case
 
-second_of_a_quiet_edge : Exploration table (by 1 (StoreConst 0 0 (ConstKnown 1))) 1 (two_at 1 (as_it_is (bare Null)) (as_it_is (bare Uninit))) → ⊥
+second_of_a_quiet_edge : Exploration table (by 1 (StoreConst 0 0 (ConstKnown 1))) 1
+    (two_at 1 (as_it_is (bare Null)) (as_it_is (bare Uninit))) → ⊥
 second_of_a_quiet_edge x =
-    true≢false (sym ((apart_of 1 (StoreConst 0 0 (ConstKnown 1)) (as_it_is (bare Null)) (as_it_is (bare Uninit)) x).quiet_at refl))
+    true≢false
+        (sym
+        ((apart_of 1 (StoreConst 0 0 (ConstKnown 1)) (as_it_is (bare Null)) (as_it_is (bare Uninit)) x).quiet_at refl))
 
 second_case_of_a_quiet_edge : Exploration table (by 2 (StoreConst 0 0 (ConstKnown 1))) 1
     (two_at 2 (from_case (bare Null) (bare Null)) (from_case (bare Uninit) (bare Uninit))) → ⊥
 second_case_of_a_quiet_edge x =
-    differ ((apart_of 2 (StoreConst 0 0 (ConstKnown 1)) (from_case (bare Null) (bare Null)) (from_case (bare Uninit) (bare Uninit)) x).quiet_same
+    differ
+        ((apart_of 2 (StoreConst 0 0 (ConstKnown 1)) (from_case (bare Null) (bare Null))
+        (from_case (bare Uninit) (bare Uninit)) x).quiet_same
     refl (bare Null) (bare Uninit) refl refl).vars
   where
     differ : Uninit ∷ [] ≡ Null ∷ [] → ⊥

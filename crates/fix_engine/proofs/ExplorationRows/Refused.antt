@@ -1,5 +1,6 @@
 -- Nodes that are no exploration, each by one clause.
-use Rattle.std.proofs.Common.{◌≡◌, ◌<◌, ◌≤◌, ◌+◌, ℕ, zero, suc, List, [], ◌∷◌, length, slice_get, true, false, None, Some, refl, sym, ◌∙◌, ap, subst, arith, inl, inr, lit<, lit≤}
+use Rattle.std.proofs.Common.{◌≡◌, ◌<◌, ℕ, zero, suc, List, [], ◌∷◌, slice_get, None}
+use Rattle.std.proofs.Common.{Some, refl, sym, ◌∙◌, ap, subst, arith, inl, inr, lit<, lit≤}
 use Rattle.std.proofs.lemmas.Option.{none-some, same_Some}
 use Rattle.fore_base.specs.declared.fault.Fault.TheVariants.{UninitDeref}
 use Rattle.fore_base.specs.declared.store.Value.TheVariants.{Null as NullValue, Uninit as UninitValue}
@@ -11,10 +12,12 @@ use Rattle.c_cfg.specs.declared.graph.Edge.{Edge}
 use Rattle.c_cfg.specs.declared.graph.Instr.TheVariants.{CopyPtr, LoadPtr}
 use Rattle.c_cfg.specs.declared.graph.PtrArg.TheVariants.{Null as PtrNull}
 use Rattle.fix_engine.specs.declared.explored.AbsTrace.{AbsTrace}
-use Rattle.fix_engine.specs.Explorations.{IsNode, IsChild, IsHoused, IsCared, EarlierDone, IsFirst, NoLater, AbstractTrace, Exploration}
+use Rattle.fix_engine.specs.Explorations.{IsNode, IsChild, IsHoused, IsCared, EarlierDone, IsFirst, NoLater}
+use Rattle.fix_engine.specs.Explorations.{AbstractTrace, Exploration}
 use Rattle.fix_engine.specs.Follows.{passed_by}
 use Rattle.fix_engine.specs.declared.nodes.Node.{Node}
-use Rattle.fix_engine.proofs.ExplorationRows.Bare.{table, bare, holding, as_it_is, entry, reached, edge, graph_of, unset_member}
+use Rattle.fix_engine.proofs.ExplorationRows.Bare.{table, bare, holding, as_it_is, entry, reached, edge, graph_of}
+use Rattle.fix_engine.proofs.ExplorationRows.Bare.{unset_member}
 use Rattle.fix_engine.proofs.ExplorationRows.Whole.{e0, graph, n1}
 
 -- a node whose variable is null, and its head
@@ -28,7 +31,8 @@ own location p c = record { parent = refl; edge = refl }
 abbrev null_edge : ℕ → ℕ → Edge
 null_edge from to = edge from to 1 (CopyPtr 0 PtrNull)
 
-sets_null : (from to next : ℕ) → passed_by table (null_edge from to) (holding UninitValue next) ≡ Passed (holding NullValue next)
+sets_null : (from to next : ℕ) → passed_by table (null_edge from to) (holding UninitValue next)
+    ≡ Passed (holding NullValue next)
 unfolding leaks
 sets_null from to next = refl
 
@@ -37,7 +41,8 @@ abbrev Elsewhere : List Node → ℕ → Type 0
 Elsewhere [] location = Unit {0}
 Elsewhere (n ∷ ns) location = (n.head.location ≡ location → ⊥) × Elsewhere ns location
 
-nobody : (ns : List Node) (location at : ℕ) (n : Node) → Elsewhere ns location → slice_get ns at ≡ Some n → n.head.location ≡ location → ⊥
+nobody : (ns : List Node) (location at : ℕ) (n : Node) → Elsewhere ns location → slice_get ns at ≡ Some n
+    → n.head.location ≡ location → ⊥
 nobody [] location at n e is there = none-some n is
 nobody (m ∷ ms) location zero n e is there = e.0 (ap (λ z. z.head.location) (same_Some m n is) ∙ there)
 nobody (m ∷ ms) location (suc at) n e is there = nobody ms location at n e.1 is there
@@ -48,13 +53,17 @@ not_one_of a b less is = omega (arith, less, is)
 -- Node 0 was reached by no edge, on no choice
 
 abbrev entry_by : Node
-entry_by = record { head = record { location = 0; parent = None; edge = Some 0; choice = None }; state = as_it_is (bare Uninit) }
+entry_by =
+    record { head = record { location = 0; parent = None; edge = Some 0; choice = None };
+    state = as_it_is (bare Uninit) }
 
 entry_has_an_edge : IsFirst table graph (entry_by ∷ []) → ⊥
 entry_has_an_edge f = none-some 0 (sym f.no_edge ∙ ap (λ z. z.head.edge) (sym (same_Some entry_by f.node f.is)))
 
 abbrev entry_on : Node
-entry_on = record { head = record { location = 0; parent = None; edge = None; choice = Some 1 }; state = as_it_is (bare Uninit) }
+entry_on =
+    record { head = record { location = 0; parent = None; edge = None; choice = Some 1 };
+    state = as_it_is (bare Uninit) }
 
 entry_has_a_choice : IsFirst table graph (entry_on ∷ []) → ⊥
 entry_has_a_choice f = none-some 1 (sym f.no_choice ∙ ap (λ z. z.head.choice) (sym (same_Some entry_on f.node f.is)))
@@ -62,7 +71,9 @@ entry_has_a_choice f = none-some 1 (sym f.no_choice ∙ ap (λ z. z.head.choice)
 -- A choice in a head that its edge has not
 
 abbrev chosen : Node
-chosen = record { head = record { location = 1; parent = Some 0; edge = Some 0; choice = Some 1 }; state = as_it_is (bare Null) }
+chosen =
+    record { head = record { location = 1; parent = Some 0; edge = Some 0; choice = Some 1 };
+    state = as_it_is (bare Null) }
 
 wrong_choice : Exploration table graph 1 (entry ∷ chosen ∷ []) → ⊥
 wrong_choice x =
@@ -116,7 +127,8 @@ fork = graph_of (null_edge 0 1 ∷ null_edge 0 3 ∷ null_edge 1 2 ∷ [])
 -- at location 1 no node of these is
 housed_at_1 : IsHoused table fork (entry ∷ at 3 0 1 ∷ []) 1 (holding NullValue 0) → ⊥
 housed_at_1 h =
-    nobody (entry ∷ at 3 0 1 ∷ []) 1 h.at h.node (not_one_of 0 1 (lit< tt), ((λ e. not_one_of 1 3 (lit< tt) (sym e)), tt)) h.is h.there
+    nobody (entry ∷ at 3 0 1 ∷ []) 1 h.at h.node
+        (not_one_of 0 1 (lit< tt), ((λ e. not_one_of 1 3 (lit< tt) (sym e)), tt)) h.is h.there
 
 -- An earlier edge left out: node 1 was reached by edge 1, and no node by edge 0
 earlier_edge_left_out : Exploration table fork 1 (entry ∷ at 3 0 1 ∷ []) → ⊥

@@ -1,13 +1,13 @@
--- A whole exploration. The variable is set to null by edge 0. At location 1 edge 1 is for a pointer that is not null, and is never
--- passed; edge 2 leads to the loop head 2, from which edge 3 follows the pointer.
-use Rattle.std.proofs.Common.{◌≡◌, ◌⊎◌, ◌↔◌, ◌<◌, ◌≤◌, ◌+◌, ℕ, zero, suc, List, [], ◌∷◌, length, slice_get, true, false, None, Some, refl, sym, ◌∙◌, ap, subst, arith, inl, inr, lit<, lit≤}
+-- A whole exploration. The variable is set to null by edge 0. At location 1 edge 1 is for a pointer that is not null,
+-- and is never passed; edge 2 leads to the loop head 2, from which edge 3 follows the pointer.
+use Rattle.std.proofs.Common.{◌≡◌, ◌<◌, ◌+◌, ℕ, zero, suc, List, [], ◌∷◌, true, false}
+use Rattle.std.proofs.Common.{Some, refl, sym, ◌∙◌, ap, subst, arith, inl, lit<}
 use Rattle.std.proofs.lemmas.Option.{none-some, same_Some}
 use Rattle.fore_base.specs.declared.fault.Fault.{Fault}
 use Rattle.fore_base.specs.declared.fault.Fault.TheVariants.{NullDeref}
 use Rattle.fore_base.specs.declared.store.Store.{Store}
 use Rattle.fore_base.specs.declared.store.Value.TheVariants.{Null as NullValue, Uninit as UninitValue}
-use Rattle.fore_base.specs.Heap.{leaks, IsAlike}
-use Rattle.fa_core.specs.Covering.{Covers}
+use Rattle.fore_base.specs.Heap.{leaks}
 use Rattle.fa_core.specs.Dressed.{Nodes, no_nodes}
 use Rattle.fa_core.specs.Member.{StandsBy}
 use Rattle.fa_core.specs.declared.forest.Forest.{Forest}
@@ -19,14 +19,17 @@ use Rattle.c_cfg.specs.Graphs.{ControlGraph}
 use Rattle.c_cfg.specs.declared.graph.Edge.{Edge}
 use Rattle.c_cfg.specs.declared.graph.Instr.TheVariants.{CopyPtr, LoadPtr, TestPtr}
 use Rattle.c_cfg.specs.declared.graph.PtrArg.TheVariants.{Var as PtrVar, Null as PtrNull}
-use Rattle.sym_core.specs.Cases.{CaseOf, ComesFrom}
-use Rattle.sym_core.specs.Kept.{Comes, Keeps}
-use Rattle.fix_engine.specs.Explorations.{IsNode, IsEdge, IsChild, NoLater, IsCared, IsCalm, EdgeDone, EarlierDone, CalmUpTo, Done}
-use Rattle.fix_engine.specs.Explorations.{IsFirst, Follows, FollowsEarlier, IsApart, Exploration}
-use Rattle.fix_engine.specs.Follows.{IsMember, passed_by, SameLanguages, Settles, IsCase, Arrives}
+use Rattle.sym_core.specs.Cases.{ComesFrom}
+use Rattle.sym_core.specs.Kept.{Comes}
+use Rattle.fix_engine.specs.Explorations.{IsNode, IsEdge, IsChild, IsCared, IsCalm, EdgeDone}
+use Rattle.fix_engine.specs.Explorations.{CalmUpTo, Done}
+use Rattle.fix_engine.specs.Explorations.{IsFirst, FollowsEarlier, Exploration}
+use Rattle.fix_engine.specs.Follows.{IsMember, passed_by, Settles, IsCase, Arrives}
 use Rattle.fix_engine.specs.declared.nodes.Node.{Node}
-use Rattle.fix_engine.proofs.ExplorationRows.Bare.{table, bare, holding, as_it_is, from_case, entry, reached, edge, graph_of, alike_null}
-use Rattle.fix_engine.proofs.ExplorationRows.Bare.{null_sound, null_canonical, null_stands, null_member, null_by, null_only}
+use Rattle.fix_engine.proofs.ExplorationRows.Bare.{table, bare, holding, as_it_is, from_case, entry, reached, edge}
+use Rattle.fix_engine.proofs.ExplorationRows.Bare.{graph_of, alike_null}
+use Rattle.fix_engine.proofs.ExplorationRows.Bare.{null_sound, null_canonical, null_stands, null_member, null_by}
+use Rattle.fix_engine.proofs.ExplorationRows.Bare.{null_only}
 use Rattle.fix_engine.proofs.ExplorationRows.Bare.{unset_sound, unset_canonical, unset_stands, unset_member, unset_only}
 
 abbrev pub e0 : Edge
@@ -103,7 +106,9 @@ first = record {
 -- The cases
 
 to_null : IsCase table (bare Uninit) e0 (bare Null)
-to_null = record { sound = null_sound; canonical = null_canonical; true_case = λ u m. true_case u m; keeps = λ d u b. keeps d u b }
+to_null =
+    record { sound = null_sound; canonical = null_canonical; true_case = λ u m. true_case u m;
+    keeps = λ d u b. keeps d u b }
   where
     true_case : (u : Store) → IsMember table (bare Null) u → ComesFrom table.face [] (bare Uninit) e0 u
     true_case u m = subst (ComesFrom table.face [] (bare Uninit) e0) (sym (null_only u m)) (record {
@@ -128,7 +133,9 @@ to_null = record { sound = null_sound; canonical = null_canonical; true_case = �
         })
 
 still_null : IsCase table (bare Null) e2 (bare Null)
-still_null = record { sound = null_sound; canonical = null_canonical; true_case = λ u m. true_case u m; keeps = λ d u b. keeps d u b }
+still_null =
+    record { sound = null_sound; canonical = null_canonical; true_case = λ u m. true_case u m;
+    keeps = λ d u b. keeps d u b }
   where
     true_case : (u : Store) → IsMember table (bare Null) u → ComesFrom table.face [] (bare Null) e2 u
     true_case u m = subst (ComesFrom table.face [] (bare Null) e2) (sym (null_only u m)) (record {
@@ -202,7 +209,9 @@ follow (suc zero) n pos is = subst (FollowsEarlier table graph 1 nodes 1) (same_
   number = 0;
   edge = e0;
   is_edge = refl;
-  follows = record { from = refl; to = refl; child = record { parent = refl; edge = refl }; choice = refl; state = arrives_1 };
+  follows =
+      record { from = refl; to = refl; child = record { parent = refl; edge = refl }; choice = refl;
+      state = arrives_1 };
 })
 follow (suc (suc zero)) n pos is = subst (FollowsEarlier table graph 1 nodes 2) (same_Some n2 n is) (record {
   at = 1;
@@ -212,7 +221,9 @@ follow (suc (suc zero)) n pos is = subst (FollowsEarlier table graph 1 nodes 2) 
   number = 2;
   edge = e2;
   is_edge = refl;
-  follows = record { from = refl; to = refl; child = record { parent = refl; edge = refl }; choice = refl; state = arrives_2 };
+  follows =
+      record { from = refl; to = refl; child = record { parent = refl; edge = refl }; choice = refl;
+      state = arrives_2 };
 })
 follow (suc (suc (suc j))) n pos is = absurd (none-some n is)
 
@@ -258,15 +269,18 @@ done_e2 s m =
 from_0 : (P : Edge → Type 0) → P e0 → (c : ℕ) (e : Edge) → IsEdge graph c e → e.from ≡ 0 → P e
 from_0 P h zero e is fr = subst P (same_Some e0 e is) h
 from_0 P h (suc zero) e is fr = let f : 1 ≡ 0 = ap (λ z. z.from) (same_Some e1 e is) ∙ fr in absurd (omega (arith, f))
-from_0 P h (suc (suc zero)) e is fr = let f : 1 ≡ 0 = ap (λ z. z.from) (same_Some e2 e is) ∙ fr in absurd (omega (arith, f))
-from_0 P h (suc (suc (suc zero))) e is fr = let f : 2 ≡ 0 = ap (λ z. z.from) (same_Some e3 e is) ∙ fr in absurd (omega (arith, f))
+from_0 P h (suc (suc zero)) e is fr = let f : 1 ≡ 0 = ap (λ z. z.from) (same_Some e2 e is) ∙ fr in
+    absurd (omega (arith, f))
+from_0 P h (suc (suc (suc zero))) e is fr = let f : 2 ≡ 0 = ap (λ z. z.from) (same_Some e3 e is) ∙ fr in
+    absurd (omega (arith, f))
 from_0 P h (suc (suc (suc (suc c)))) e is fr = absurd (none-some e is)
 
 from_1 : (P : Edge → Type 0) → P e1 → P e2 → (c : ℕ) (e : Edge) → IsEdge graph c e → e.from ≡ 1 → P e
 from_1 P h i zero e is fr = let f : 0 ≡ 1 = ap (λ z. z.from) (same_Some e0 e is) ∙ fr in absurd (omega (arith, f))
 from_1 P h i (suc zero) e is fr = subst P (same_Some e1 e is) h
 from_1 P h i (suc (suc zero)) e is fr = subst P (same_Some e2 e is) i
-from_1 P h i (suc (suc (suc zero))) e is fr = let f : 2 ≡ 1 = ap (λ z. z.from) (same_Some e3 e is) ∙ fr in absurd (omega (arith, f))
+from_1 P h i (suc (suc (suc zero))) e is fr = let f : 2 ≡ 1 = ap (λ z. z.from) (same_Some e3 e is) ∙ fr in
+    absurd (omega (arith, f))
 from_1 P h i (suc (suc (suc (suc c)))) e is fr = absurd (none-some e is)
 
 pub done_0 : Done table graph nodes 0
@@ -288,7 +302,8 @@ cared_calm to p kind h is = subst (IsCared table graph nodes to) is h
 calm_of : (n : Node) (e : Edge) → EdgeDone table graph nodes n e → IsCalm table n e
 calm_of n e done s kind m is = cared_calm e.to (passed_by table e s) kind (done s m) is
 
-calm : (j : ℕ) (n parent : Node) (p c : ℕ) → IsNode nodes j n → IsChild n p c → IsNode nodes p parent → CalmUpTo table graph parent c
+calm : (j : ℕ) (n parent : Node) (p c : ℕ) → IsNode nodes j n → IsChild n p c → IsNode nodes p parent
+    → CalmUpTo table graph parent c
 calm j n parent p c is ch par = here p (own_parent j n p c is ch) par
   where
     few : (p : ℕ) → p + 1 ≡ j → j < 3 → p < 2
@@ -310,13 +325,16 @@ whole = record {
   first = first;
   follow = follow;
   fresh = λ i j m n less im jn there cov. fresh i j m n less im jn there;
-  order = λ i j m n p c q d less im jn cm cn. inl (before i j p q less (own_parent i m p c im cm) (own_parent j n q d jn cn));
+  order = λ i j m n p c q d less im jn cm cn.
+      inl (before i j p q less (own_parent i m p c im cm) (own_parent j n q d jn cn));
   done = λ j n p c len is ch i less. done i (before_1 j p i len (own_parent j n p c is ch) less);
-  earlier_edges = λ j n parent p c len is ch par d e less ie fr. earlier p (last_parent j p len (own_parent j n p c is ch)) parent par d e ie fr;
+  earlier_edges = λ j n parent p c len is ch par d e less ie fr.
+      earlier p (last_parent j p len (own_parent j n p c is ch)) parent par d e ie fr;
   calm = calm;
   grouped = λ j. bare Null;
   groups = groups;
-  apart = λ i j m n p c e less im jn cm cn ie. absurd (one_child i j p less (own_parent i m p c im cm) (own_parent j n p c jn cn));
+  apart = λ i j m n p c e less im jn cm cn ie.
+      absurd (one_child i j p less (own_parent i m p c im cm) (own_parent j n p c jn cn));
 }
   where
     fresh : (i j : ℕ) (m n : Node) → i < j → IsNode nodes i m → IsNode nodes j n → m.head.location ≡ n.head.location → ⊥
@@ -339,13 +357,15 @@ whole = record {
         → e.from ≡ parent.head.location → EdgeDone table graph nodes parent e
     earlier p is parent par = done_1 parent (subst (λ z. IsNode nodes z parent) is par)
 
-    groups : (j : ℕ) (n : Node) (M : Forest) → IsNode nodes j n → n.state.middle ≡ Some M → Settles table 1 M (bare Null) n.state
+    groups : (j : ℕ) (n : Node) (M : Forest) → IsNode nodes j n → n.state.middle ≡ Some M
+        → Settles table 1 M (bare Null) n.state
     groups zero n M is has = absurd (none-some M (ap (λ z. z.state.middle) (same_Some entry n is) ∙ has))
     groups (suc zero) n M is has = absurd (none-some M (ap (λ z. z.state.middle) (same_Some n1 n is) ∙ has))
     groups (suc (suc zero)) n M is has =
         let same : n2 ≡ n = same_Some n2 n is in
         let m : bare Null ≡ M = same_Some (bare Null) M (ap (λ z. z.state.middle) same ∙ has) in
-        subst (λ z. Settles table 1 z (bare Null) n.state) m (subst (λ z. Settles table 1 (bare Null) (bare Null) z.state) same settled)
+        subst (λ z. Settles table 1 z (bare Null) n.state) m
+            (subst (λ z. Settles table 1 (bare Null) (bare Null) z.state) same settled)
     groups (suc (suc (suc j))) n M is has = absurd (none-some n is)
 
     one_child : (i j p : ℕ) → i < j → p + 1 ≡ i → p + 1 ≡ j → ⊥

@@ -7,19 +7,20 @@ use Rattle.fa_core.specs.Filled.{IsSound}
 use Rattle.c_cfg.specs.Edges.{Faulted}
 use Rattle.c_cfg.specs.Graphs.{ControlGraph}
 use Rattle.c_cfg.specs.declared.graph.Edge.{Edge}
-use Rattle.sym_core.specs.Cases.{IsTrueBad}
 use Rattle.sym_step.specs.declared.posts.Bad.{Bad}
 use Rattle.fix_engine.specs.declared.nodes.Node.{Node}
 use Rattle.fix_engine.specs.declared.taking.Taken.{Taken}
 use Rattle.fix_engine.specs.declared.taking.Taken.TheVariants.{All, Fault, Full as Over}
-use Rattle.fix_engine.specs.Explorations.{IsNode, IsEdge, is_head, IsChild, NoLater, IsHoused, IsCalm, EdgeDone, EarlierDone, Done, Exploration, Full}
+use Rattle.fix_engine.specs.Explorations.{IsNode, IsEdge, is_head, IsChild, NoLater, IsHoused, IsCalm, EdgeDone}
+use Rattle.fix_engine.specs.Explorations.{EarlierDone, Done, Exploration, Full}
 use Rattle.fix_engine.specs.Follows.{IsMember, passed_by, Arrives}
 use Rattle.fix_engine.specs.States.{AbstractState}
 use Rattle.fix_engine.specs.inner.Arriving.{EachTwo, AreOfTwoCases}
 
 -- the node that an edge leads to
 abbrev pub child : ℕ → ℕ → Edge → AbstractState → Node
-child p c e a = record { head = record { location = e.to; parent = Some p; edge = Some c; choice = e.choice }; state = a }
+child p c e a =
+    record { head = record { location = e.to; parent = Some p; edge = Some c; choice = e.choice }; state = a }
 
 -- each node keeps its number
 abbrev pub Grows : List Node → List Node → Type 0
@@ -28,7 +29,8 @@ Grows nodes more = (j : ℕ) (n : Node) → IsNode nodes j n → IsNode more j n
 module _ (T : Boxes) (g : ControlGraph) where
   -- each member of the states is a member of a node of the location
   abbrev pub AreHoused : List Node → ℕ → List AbstractState → Type 0
-  AreHoused nodes location states = Every (λ (a : AbstractState). (s : Store) → IsMember T a.forest s → IsHoused T g nodes location s) states
+  AreHoused nodes location states =
+      Every (λ (a : AbstractState). (s : Store) → IsMember T a.forest s → IsHoused T g nodes location s) states
 
   -- a fault on an edge of node `at`, of which the edges before are done
   pub record IsFault (nodes : List Node) (at c : ℕ) (bad : Bad) : Type 0 where
@@ -37,7 +39,8 @@ module _ (T : Boxes) (g : ControlGraph) where
     pub edge : Edge
     pub is_edge : IsEdge g c edge
     pub from : edge.from ≡ node.head.location
-    pub members : (s : Store) → IsMember T bad.at.forest s → IsMember T node.state.forest s × (passed_by T edge s ≡ Faulted bad.fault)
+    pub members : (s : Store) → IsMember T bad.at.forest s → IsMember T node.state.forest s
+        × (passed_by T edge s ≡ Faulted bad.fault)
     pub face : bad.at.face ≡ T.face
     pub sound : IsSound T.face bad.at.forest
     pub earlier : EarlierDone T g nodes node c
@@ -54,8 +57,8 @@ module _ (T : Boxes) (g : ControlGraph) where
       pub each : Every (Arrives T g (is_head g edge.to) k parent.state.forest edge) states
       pub apart : EachTwo (AreOfTwoCases T g edge) states
 
-    -- In the middle of edge c of node `at`, of whose states these were taken up: the nodes before are done, and the edges before; and
-    -- no node is a child of a later edge.
+    -- In the middle of edge c of node `at`, of whose states these were taken up: the nodes before are done, and the
+    -- edges before; and no node is a child of a later edge.
     pub record IsMid (nodes : List Node) (at c : ℕ) (before : List AbstractState) : Type 0 where
       pub explored : Exploration T g k nodes
       pub inside : at < length nodes
@@ -66,7 +69,8 @@ module _ (T : Boxes) (g : ControlGraph) where
 
     -- the states of edge c of node `at` were taken up: all, or so many that a further node would go past the budget
     abbrev pub AreTaken : List Node → ℕ → ℕ → ℕ → List AbstractState → List Node → Bool → Type 0
-    AreTaken nodes at c budget states more true = IsMid more at c states × Grows nodes more × (length more ≤ budget) × ((e : Edge) → IsEdge g c e → AreHoused more e.to states)
+    AreTaken nodes at c budget states more true = IsMid more at c states × Grows nodes more × (length more ≤ budget)
+        × ((e : Edge) → IsEdge g c e → AreHoused more e.to states)
     AreTaken nodes at c budget states more false = Exploration T g k more × Full T g k more budget
 
     -- Edge c of node `at` was taken up whole.
@@ -74,14 +78,17 @@ module _ (T : Boxes) (g : ControlGraph) where
       pub states : List AbstractState
       pub mid : IsMid more at c states
       pub grows : Grows nodes more
-      pub edge : (n : Node) (e : Edge) → IsNode more at n → IsEdge g c e → e.from ≡ n.head.location → EdgeDone T g more n e
+      pub edge : (n : Node) (e : Edge) → IsNode more at n → IsEdge g c e → e.from ≡ n.head.location
+          → EdgeDone T g more n e
 
-    -- Between two edges of node `at`, of which those with the numbers `left` are to come: no node is a child of one of these.
+    -- Between two edges of node `at`, of which those with the numbers `left` are to come: no node is a child of one of
+    -- these.
     pub record IsStage (nodes : List Node) (at : ℕ) (left : List ℕ) : Type 0 where
       pub explored : Exploration T g k nodes
       pub inside : at < length nodes
       pub done : (j : ℕ) → j < at → Done T g nodes j
-      pub taken : (n : Node) (c : ℕ) (e : Edge) → IsNode nodes at n → IsEdge g c e → e.from ≡ n.head.location → IsIn c left ⊎ EdgeDone T g nodes n e
+      pub taken : (n : Node) (c : ℕ) (e : Edge) → IsNode nodes at n → IsEdge g c e → e.from ≡ n.head.location
+          → IsIn c left ⊎ EdgeDone T g nodes n e
       pub upto : (j : ℕ) (n : Node) (p d : ℕ) → IsNode nodes j n → IsChild n p d → p ≤ at
       pub early : (j : ℕ) (n : Node) (d : ℕ) → IsNode nodes j n → IsChild n at d → Every (λ c. d < c) left
 
@@ -102,5 +109,6 @@ module _ (T : Boxes) (g : ControlGraph) where
     -- how a node was taken up
     abbrev pub IsTakenNode : List Node → ℕ → ℕ → List Node → Taken → Type 0
     IsTakenNode nodes at budget more All = IsFront more (at + 1) budget × Grows nodes more
-    IsTakenNode nodes at budget more (Fault d bad) = IsFault more at d bad × Exploration T g k more × ((j : ℕ) → j < at → Done T g more j) × (length more ≤ budget)
+    IsTakenNode nodes at budget more (Fault d bad) = IsFault more at d bad × Exploration T g k more
+        × ((j : ℕ) → j < at → Done T g more j) × (length more ≤ budget)
     IsTakenNode nodes at budget more Over = Exploration T g k more × Full T g k more budget
