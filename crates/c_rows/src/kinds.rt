@@ -1,8 +1,10 @@
 // What each kind of row asks.
 ghost use Rattle.std.specs.Prelude.{◌≤◌, length};
 
+use crate::graphs::{put_edges, put_sizes};
 use crate::lexing::{put_count, put_places, put_refused, put_tokens};
 use crate::positions::{Change, put_answers};
+use crate::running::{put_alike, put_graph_run, put_run, put_steps};
 use crate::syntax::{put_over, put_parsed, put_tree};
 use crate::texts::read_text;
 use crate::whole::{put_checked, put_read};
@@ -51,6 +53,17 @@ fn put_said(alloc: Global, out: &mut Text, kind: &str, words: &str, row: &str) -
         "doubled" => put_answers(alloc, out, words, row, Change::Doubled),
         "swapped" => put_answers(alloc, out, words, row, Change::Swapped),
         "ended" => put_answers(alloc, out, words, row, Change::Ended),
+        _ => put_course(alloc, out, kind, words, row),
+    }
+}
+
+/// Puts what a program or its graph does on choices.
+fn put_course(alloc: Global, out: &mut Text, kind: &str, words: &str, row: &str) -> Result<()> {
+    let text = read_text(alloc, row)?;
+    match kind {
+        "run" => put_run(alloc, out, words, text.as_slice()),
+        "graph_run" => put_graph_run(alloc, out, words, text.as_slice()),
+        "steps" => put_steps(alloc, out, words, text.as_slice()),
         _ => bail!("no such kind"),
     }
 }
@@ -61,10 +74,17 @@ fn put_plain(alloc: Global, out: &mut Text, kind: &str, row: &str) -> Result<()>
     if text.len() > FILE_BYTES {
         bail!("too long");
     }
-    if !is_put(alloc, out, kind, text.as_slice())? {
-        bail!("no such kind");
+    match kind {
+        "edges" => put_edges(alloc, out, text.as_slice()),
+        "sizes" => put_sizes(alloc, out, text.as_slice()),
+        "alike" => put_alike(alloc, out, text.as_slice()),
+        _ => {
+            if !is_put(alloc, out, kind, text.as_slice())? {
+                bail!("no such kind");
+            }
+            Ok(())
+        }
     }
-    Ok(())
 }
 
 /// Puts what the front end answers; false for another kind.

@@ -3,9 +3,14 @@
 //! `kinds` says what each kind of row asks, and `texts` how a C text stands in a row.
 #![tactic(auto)]
 
+mod graphs;
 mod kinds;
 mod lexing;
+mod outcomes;
 mod positions;
+mod printing;
+mod programs;
+mod running;
 mod syntax;
 mod texts;
 mod trees;
