@@ -13,8 +13,6 @@ mod merging;
 mod orders;
 mod placing;
 mod signing;
-#[cfg(test)]
-mod tests;
 
 pub use counting::can_merge;
 pub use dead::drop_dead;

@@ -8,8 +8,6 @@ pub mod reducing;
 mod referring;
 pub mod roots;
 mod showing;
-#[cfg(test)]
-mod tests;
 mod walking;
 
 pub use deciding::{has_root_kinds, is_canonical};

@@ -1,4 +1,0 @@
-use Rattle.fa_order.proofs.tests.placing.placed.Goals as goal
-
-pub place_roots-requires-clause-tight : goal.place_roots-requires-clause-tight
-place_roots-requires-clause-tight c = rw c.in-None.is at (c.in_ok-leak.ensures.leaks c.requires)

@@ -1,0 +1,8 @@
+use Rattle.std.proofs.Common.{◌∷◌, [], ℕ, sym, subst}
+use Rattle.fa_core.specs.Rearranged.{Rearranged, swap}
+use Rattle.fa_merge.specs.Reordered.{counted}
+use Rattle.fa_rows.proofs.roots.exchange.Goals as goal
+
+pub reorder-requires-clause-all : goal.reorder-requires-clause-all
+reorder-requires-clause-all c =
+    subst (λ (n : ℕ). Rearranged (1 ∷ 0 ∷ []) (counted 0 n)) (sym c.requires.two) (swap 1 0 [])

@@ -1,0 +1,63 @@
+// The kinds of rows. A head is a kind and numbers; the first text is the forest, and the others are the wanted ones.
+
+use crate::canonizing::{canonical_letters, turned_letters};
+use crate::deciding::decided;
+use crate::placing::{placed, reduced};
+use crate::roots::{dropped, exchanged, leaking, merged};
+use crate::signatures::cut_letters;
+use crate::splitting::{chosen_letters, split_letters};
+use anyhow::{Context, Result, bail};
+use row_kit::Answers;
+use std::alloc::Global;
+use std::thread::Threads;
+
+pub struct ForestRows;
+
+impl Answers for ForestRows {
+    fn answer<R: Threads + Sync>(
+        &self,
+        rt: &R,
+        alloc: Global,
+        head: &str,
+        texts: &[&str],
+    ) -> Result<String> {
+        let (text, wanted) = texts.split_first().context("no forest")?;
+        match head {
+            "canonical" => canonical_letters(rt, alloc, text, wanted),
+            "turned" => turned_letters(rt, alloc, text, wanted),
+            "reduced" => reduced(rt, alloc, text),
+            _ => answer_alone(alloc, head, text, wanted),
+        }
+    }
+}
+
+// The kinds that want no threads.
+fn answer_alone(alloc: Global, head: &str, text: &str, wanted: &[&str]) -> Result<String> {
+    match head {
+        "canonical?" => decided(alloc, text),
+        "placed" => placed(alloc, text),
+        "leaking" => leaking(alloc, text),
+        "exchanged" => exchanged(alloc, text),
+        "cut" => cut_letters(alloc, text, wanted),
+        _ => answer_at(alloc, head, text, wanted),
+    }
+}
+
+// The kinds that have a root.
+fn answer_at(alloc: Global, head: &str, text: &str, wanted: &[&str]) -> Result<String> {
+    let kind = head.split(' ').next().context("no kind")?;
+    let root = number_at(head, 1)?;
+    match kind {
+        "dropped" => dropped(alloc, text, root),
+        "merged" => merged(alloc, text, root, wanted),
+        "chosen" => chosen_letters(alloc, text, root, wanted),
+        "split" => split_letters(alloc, text, root, number_at(head, 2)?, wanted),
+        _ => bail!("no such kind"),
+    }
+}
+
+// The number that is this word of the head.
+fn number_at(head: &str, place: usize) -> Result<u32> {
+    let word = head.split(' ').nth(place).context("no number")?;
+    Ok(word.parse::<u32>()?)
+}

@@ -1,0 +1,19 @@
+//! Rows of forests: merged, split, put in order, cut by signature, and made canonical.
+#![tactic(auto)]
+
+mod canonizing;
+mod deciding;
+mod kinds;
+mod placing;
+mod roots;
+mod signatures;
+mod splitting;
+mod turning;
+
+use anyhow::Result;
+use kinds::ForestRows;
+use row_kit::answer_files;
+
+fn main(rt: HostRuntime) -> Result<()> {
+    answer_files(&rt, &ForestRows)
+}

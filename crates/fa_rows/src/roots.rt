@@ -1,0 +1,93 @@
+// Roots that leak, that are dropped or merged, and that change places.
+
+ghost use Rattle.std.specs.Prelude.{◌≡◌, ◌<◌, length};
+ghost use Rattle.fore_base.specs.Lists.{Every};
+ghost use Rattle.fa_core.specs.Boxless.{HasNoBoxes};
+
+use crate::splitting::has_root;
+use anyhow::{Result, bail};
+use fa_merge::{can_merge, drop_dead, leaking_root, merge_root, reorder};
+use fa_sound::Sound;
+use fore_base::memory::Mem;
+use row_forests::{letter, put_forest, sound};
+use std::alloc::Global;
+
+// The order in which the first two roots have changed places.
+const ORDER: &[u32] = &[1, 0];
+
+// leaking: the least root that leaks.
+pub fn leaking(alloc: Global, text: &str) -> Result<String> {
+    let forest = sound(alloc, text)?;
+    match leaking_root(alloc, &forest)? {
+        Some(root) => Ok(format!(in alloc; "{root}")?),
+        None => Ok(String::from_str(alloc, "none")?),
+    }
+}
+
+// dropped ROOT: the forest without the root.
+pub fn dropped(alloc: Global, text: &str, root: u32) -> Result<String> {
+    let forest = sound(alloc, text)?;
+    if !has_root(&forest, root) {
+        bail!("no such root");
+    }
+    let made = drop_dead(alloc, &forest, root)?;
+    shown(alloc, &made)
+}
+
+// The text of the forest.
+pub fn shown(alloc: Global, forest: &Sound) -> Result<String> {
+    let mut text = String::new(alloc);
+    put_forest(alloc, &mut text, forest.forest())?;
+    Ok(text)
+}
+
+// exchanged: the forest whose two roots have changed places.
+pub fn exchanged(alloc: Global, text: &str) -> Result<String> {
+    let forest = sound(alloc, text)?;
+    if forest.forest().autos.len() != 2 {
+        bail!("not two roots");
+    }
+    let made = exchange(alloc, &forest)?;
+    shown(alloc, &made)
+}
+
+fn exchange(alloc: Global, forest: &Sound) -> Mem<Sound>
+    requires plain { Every HasNoBoxes forest.now.forest.autos }
+    requires two { length forest.now.forest.autos ≡ 2 }
+{
+    reorder(alloc, forest, ORDER)
+}
+
+// merged ROOT: which of the wanted forests that is in which the root is merged.
+pub fn merged(alloc: Global, text: &str, root: u32, wanted: &[&str]) -> Result<String> {
+    let forest = sound(alloc, text)?;
+    if !has_root(&forest, root) {
+        bail!("no such root");
+    }
+    merged_letters(alloc, &forest, root, wanted)
+}
+
+fn merged_letters(alloc: Global, forest: &Sound, root: u32, wanted: &[&str]) -> Result<String>
+    requires plain { Every HasNoBoxes forest.now.forest.autos }
+    requires root { root < length forest.now.forest.autos }
+{
+    let can = can_merge(alloc, forest, root)?;
+    if can {
+        let made = merge_root(alloc, forest, root)?;
+        letter_of(alloc, &made, wanted)
+    } else {
+        refused(alloc)
+    }
+}
+
+fn letter_of(alloc: Global, forest: &Sound, wanted: &[&str]) -> Result<String> {
+    let letter = letter(alloc, forest.forest(), wanted)?;
+    let mut text = String::new(alloc);
+    text.push(letter)?;
+    Ok(text)
+}
+
+// The answer where what is asked for cannot be done.
+pub fn refused(alloc: Global) -> Result<String> {
+    Ok(String::from_str(alloc, "refused")?)
+}
