@@ -23,6 +23,10 @@ store_ptr = refl
 store_null : is_quiet (StoreConst 0 1 ConstNull) ≡ false
 store_null = refl
 
+-- a number goes into a data field
+store_number : is_quiet (StoreConst 0 1 (ConstKnown 3)) ≡ true
+store_number = refl
+
 new_cell : is_quiet (New 0 1) ≡ false
 new_cell = refl
 
