@@ -15,8 +15,8 @@ use fa_core::forest::{Forest, Target};
 use fa_edit::{
     datum_of, is_plain_at, leaf_fits, leaf_of, with_cell, with_datum, with_leaf, with_vars,
 };
-use fa_sound::{Sound, have_no_boxes};
-use fa_split::{component, has_one_top};
+use fa_sound::{Sound, component, have_no_boxes};
+use fa_split::has_one_top;
 use fore_base::list::List;
 use fore_base::shape::{FieldDef, FieldKind, Shape, Shapes};
 use fore_base::store::Datum;
