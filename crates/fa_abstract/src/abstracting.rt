@@ -25,7 +25,9 @@ use std::alloc::Global;
 use std::thread::Threads;
 use ta_core::auto::Auto;
 
-/// The forest abstracted by a height of at least 1, with its components reduced: it is canonical again, and each member of the forest is one of it. The forest is canonical and reduced. The crew runs 1 to 64 jobs and has no bearing on the answer.
+/// The forest abstracted by a height of at least 1, with its components reduced: it is canonical again, and each member
+/// of the forest is one of it. The forest is canonical and reduced. The crew runs 1 to 64 jobs and has no bearing on
+/// the answer.
 ///
 /// # Errors
 ///
@@ -42,10 +44,13 @@ pub fn abstracted<R: Threads + Sync, G: Gate>(
     requires canonical { IsCanonical forest.now.face forest.now.forest }
     requires reduced { Reduced forest.now.forest }
     requires height { 1 ≤ height }
-    ensures abstraction { IfOk result (λ made. IsAbstraction forest.now.face.boxes forest.now.forest height made.forest) }
+    ensures abstraction { IfOk result
+        (λ made. IsAbstraction forest.now.face.boxes forest.now.forest
+        height made.forest) }
     ensures canonical { IfOk result (λ made. IsCanonical made.face made.forest) }
     ensures reduced { IfOk result (λ made. Reduced made.forest) }
-    ensures members { IfOk result (λ made. (hs : List Shape) (T : List BoxDef) (s : Store) → Stands hs T forest.now.forest s → Stands hs T made.forest s) }
+    ensures members { IfOk result (λ made. (hs : List Shape) (T : List BoxDef) (s : Store) → Stands hs T forest.now.forest s
+        → Stands hs T made.forest s) }
     ensures face { IfOk result (λ made. made.face ≡ forest.now.face) }
     ensures plain { IfOk result (λ made. Every HasNoBoxes made.forest.autos) }
     ensures vars { IfOk result (λ made. made.forest.vars ≡ forest.now.forest.vars) }

@@ -1,5 +1,6 @@
 -- The steps that cut knots, on forests: whichever trees are taken.
-use Rattle.std.proofs.Common.{◌≡◌, ◌≢◌, inl, inr, ℕ, suc, ◌<◌, ◌≤◌, ◌+◌, false, true≢false, length, List, sym, ap, subst, ◌∙◌, slice_get, slice_set, Some, length-set, arith}
+use Rattle.std.proofs.Common.{◌≡◌, ◌≢◌, inl, inr, ℕ, suc, ◌<◌, ◌≤◌, ◌+◌, false, true≢false, length, List, sym, ap}
+use Rattle.std.proofs.Common.{subst, ◌∙◌, slice_get, slice_set, Some, length-set, arith}
 use Rattle.std.proofs.lemmas.Option.{same_Some}
 use Rattle.fore_base.specs.Lists.{IsIn, Every}
 use Rattle.ta_core.specs.Auto.{IsRanked}
@@ -35,7 +36,8 @@ use Rattle.fa_canon.proofs.RootTrees.{root_cell}
 use Rattle.fa_canon.proofs.SplitTrees.{cells_choice, covers_choice, leaf_choice}
 
 -- fewer trees
-pub within_cutting : (n r p : ℕ) (F G : Forest) → Covers F G → length G.autos ≡ length F.autos → IsCutting n r p F → IsCutting n r p G
+pub within_cutting : (n r p : ℕ) (F G : Forest) → Covers F G → length G.autos ≡ length F.autos → IsCutting n r p F
+    → IsCutting n r p G
 within_cutting n r p F G h e c = record {
   few = rw e c.few;
   vars = rw h.vars c.vars;
@@ -46,7 +48,8 @@ pub within_width : (r m : ℕ) (F G : Forest) → Covers F G → HasWidth F r m 
 within_width r m F G h w ts t c e = w ts t (covers_choice F G h ts c) e
 
 -- nothing is cut
-pub start_cutting : (face : Face) (F : Forest) → ((k : ℕ) → IsIn (At k) F.vars → k < length F.autos) → AreShared F → IsCutting (length F.autos) 0 0 F
+pub start_cutting : (face : Face) (F : Forest) → ((k : ℕ) → IsIn (At k) F.vars → k < length F.autos) → AreShared F
+    → IsCutting (length F.autos) 0 0 F
 start_cutting face F vars shared = record {
   few = omega arith;
   vars = vars;
@@ -62,7 +65,9 @@ root_cutting n r m F w c = record {
 }
 
 -- a child that does not refer to the root
-pub skip_cutting : (n r p : ℕ) (F : Forest) → ((ts : List Tree) (t u : Tree) → Choice F.autos ts → slice_get ts r ≡ Some t → child_at t p ≡ Some u → RefersTo u r → ⊥) → IsCutting n r p F → IsCutting n r (p + 1) F
+pub skip_cutting : (n r p : ℕ) (F : Forest)
+    → ((ts : List Tree) (t u : Tree) → Choice F.autos ts → slice_get ts r ≡ Some t → child_at t p ≡ Some u
+    → RefersTo u r → ⊥) → IsCutting n r p F → IsCutting n r (p + 1) F
 skip_cutting n r p F none c = record {
   few = c.few;
   vars = c.vars;
@@ -83,7 +88,9 @@ leaf_names y r h = leaf_top y ∙ here y (subst (λ (ks : List ℕ). IsIn r ks) 
 cell_no_ref : (y : Symbol) → is_leaf y ≡ false → (i : ℕ) → y ≢ Ref i
 cell_no_ref y e i w = true≢false (sym (ap is_leaf w) ∙ e)
 
-module _ (face : Face) (n r p m : ℕ) (F : Forest) (sound : IsSound face F) (ranked : Every IsRanked F.autos) (plain : Every HasNoBoxes F.autos) (can : CanSplit F r p) (less : r < n) (width : HasWidth F r m) (c : IsCutting n r p F) where
+module _ (face : Face) (n r p m : ℕ) (F : Forest) (sound : IsSound face F) (ranked : Every IsRanked F.autos)
+    (plain : Every HasNoBoxes F.autos) (can : CanSplit F r p) (less : r < n) (width : HasWidth F r m)
+    (c : IsCutting n r p F) where
   abbrev q : ℕ
   q = child_state (component_at F.autos r) p
 
@@ -93,7 +100,8 @@ module _ (face : Face) (n r p m : ℕ) (F : Forest) (sound : IsSound face F) (ra
       let right = component_has IsRanked F.autos r ranked can.root in
       child_run (component_at F.autos r) p y right can.top can.place h.0 (bare_end (leaf y)) h.1 h.2
 
-  pub leaf_cutting : (y : Target) → MayBeLeaf F r p y → IsCutting n r (p + 1) (split_leaf F r p y) × HasWidth (split_leaf F r p y) r m
+  pub leaf_cutting : (y : Target) → MayBeLeaf F r p y → IsCutting n r (p + 1) (split_leaf F r p y)
+      × HasWidth (split_leaf F r p y) r m
   leaf_cutting y may =
       let back = leaf_choice F r p ranked can y (leaf_runs y may) in (
         record {
@@ -101,38 +109,54 @@ module _ (face : Face) (n r p m : ℕ) (F : Forest) (sound : IsSound face F) (ra
           vars = c.vars;
           trees = λ us d. loose_step F.vars n r us p (λ t u e f x h. (let w = back us d in
               let is : bare_end (leaf y) ≡ u = same_Some (bare_end (leaf y)) u (sym (w.1 t e) ∙ f) in
-              x (subst (λ (z : Tree). (out-Tree z).symbol ≡ Ref r) is (leaf_names y r (subst (λ (z : Tree). RefersTo z r) (sym is) h))))) (c.trees us (back us d).0);
+              x
+              (subst (λ (z : Tree). (out-Tree z).symbol ≡ Ref r) is
+              (leaf_names y r (subst (λ (z : Tree). RefersTo z r) (sym is) h))))) (c.trees us (back us d).0);
         },
         (λ us t d e. width us t (back us d).0 e),
       )
 
   -- the child is a cell, and refers to the root
-  pub cells_cutting : ((u : Tree) → RunOf (component_at F.autos r).rules q u → RefersTo u r) → IsCutting n r (p + 1) (split_cells F r p) × HasWidth (split_cells F r p) r m
+  pub cells_cutting : ((u : Tree) → RunOf (component_at F.autos r).rules q u → RefersTo u r)
+      → IsCutting n r (p + 1) (split_cells F r p) × HasWidth (split_cells F r p) r m
   cells_cutting ties = (
     record {
-      few = (let z : length (split_cells F r p).autos ≡ suc (length F.autos) = push_long (slice_set F.autos r _) _ ∙ ap (λ (x : ℕ). suc x) (length-set F.autos r _) in let s = c.few in rw z (omega (arith, s)));
+      few =
+          (let z : length (split_cells F r p).autos ≡ suc (length F.autos) = push_long (slice_set F.autos r _) _
+          ∙ ap (λ (x : ℕ). suc x) (length-set F.autos r _) in let s = c.few in rw z (omega (arith, s)));
       vars = c.vars;
       trees = λ us d. (let w = cells_choice F r p ranked can us d in
-          cut_step r p w.0 us w.2.0 (root_cell face F sound ranked plain w.0 w.1 r w.2.0.above w.2.0.is_above) (below w.0 w.1) F.vars n (long w.0 w.1) less
+          cut_step r p w.0 us w.2.0 (root_cell face F sound ranked plain w.0 w.1 r w.2.0.above w.2.0.is_above)
+          (below w.0 w.1) F.vars n (long w.0 w.1) less
           (cell_no_ref (out-Tree w.2.0.child).symbol w.2.1) (ties w.2.0.child w.2.2) (c.trees w.0 w.1));
     },
     (λ us t d e. (let w = cells_choice F r p ranked can us d in
         let k = w.2.0 in
-        let is : with_child k.above p (ref_leaf (length w.0)) ≡ t = same_Some (with_child k.above p (ref_leaf (length w.0))) t (sym (cut_tree r p w.0 us k (root_cell face F sound ranked plain w.0 w.1 r k.above k.is_above) (below w.0 w.1)) ∙ e) in
-        sym (ap (λ (z : Tree). length (out-Tree z).children) is) ∙ ap length (put_children k.above p (ref_leaf (length w.0))) ∙ length-set (out-Tree k.above).children p (ref_leaf (length w.0)) ∙ width w.0 k.above w.1 k.is_above)),
+        let is : with_child k.above p (ref_leaf (length w.0)) ≡ t =
+        same_Some (with_child k.above p (ref_leaf (length w.0))) t
+        (sym
+        (cut_tree r p w.0 us k (root_cell face F sound ranked plain w.0 w.1 r k.above k.is_above)
+        (below w.0 w.1)) ∙ e) in
+        sym (ap (λ (z : Tree). length (out-Tree z).children) is)
+        ∙ ap length (put_children k.above p (ref_leaf (length w.0)))
+        ∙ length-set (out-Tree k.above).children p (ref_leaf (length w.0)) ∙ width w.0 k.above w.1 k.is_above)),
   )
     where
-      below : (ts : List Tree) → Choice F.autos ts → (i j : ℕ) (t : Tree) → slice_get ts i ≡ Some t → RefersTo t j → j < length ts
-      below ts d i j t e h = subst (λ (x : ℕ). j < x) (sym (choice_length F.autos ts d)) (refers_below face F sound.well_formed.filled ts d i j t e h)
+      below : (ts : List Tree) → Choice F.autos ts → (i j : ℕ) (t : Tree) → slice_get ts i ≡ Some t → RefersTo t j
+          → j < length ts
+      below ts d i j t e h = subst (λ (x : ℕ). j < x) (sym (choice_length F.autos ts d))
+          (refers_below face F sound.well_formed.filled ts d i j t e h)
 
       long : (ts : List Tree) → Choice F.autos ts → n ≤ length ts
       long ts d = let l = choice_length F.autos ts d in let s = c.few in omega (arith, l, s)
 
 -- At the end.
 
-module _ (face : Face) (n : ℕ) (F : Forest) (sound : IsSound face F) (ranked : Every IsRanked F.autos) (plain : Every HasNoBoxes F.autos) (c : IsCutting n n 0 F) where
+module _ (face : Face) (n : ℕ) (F : Forest) (sound : IsSound face F) (ranked : Every IsRanked F.autos)
+    (plain : Every HasNoBoxes F.autos) (c : IsCutting n n 0 F) where
   pub cut_kinds : (ts : List Tree) → Choice F.autos ts → (r : ℕ) → r < length ts → IsRootKind face.boxes F.vars ts r
   cut_kinds ts d = end_kinds face.boxes F.vars n ts c.vars (c.trees ts d)
 
   pub cut_untied : (ts : List Tree) → Choice F.autos ts → IsUntied F.vars ts
-  cut_untied ts d = end_untied face.boxes F.vars n ts c.vars (c.trees ts d) (λ i t e. root_cell face F sound ranked plain ts d i t e)
+  cut_untied ts d = end_untied face.boxes F.vars n ts c.vars (c.trees ts d)
+      (λ i t e. root_cell face F sound ranked plain ts d i t e)

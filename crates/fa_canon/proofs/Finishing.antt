@@ -36,25 +36,39 @@ the_forest s = s.forest
 
 -- what is covered is regrouped
 pub covered_regroups : (F G : Forest) → Covers F G → (T : List BoxDef) → Regroups T F G
-covered_regroups F G h T d o = (d, record { of = within_trees T G.autos F.autos h.within d o; same_cells = same (cells d); vars = rw h.vars refl; data_vars = h.data_vars })
+covered_regroups F G h T d o = (
+  d,
+  record {
+    of = within_trees T G.autos F.autos h.within d o;
+    same_cells = same (cells d);
+    vars = rw h.vars refl;
+    data_vars = h.data_vars;
+  },
+)
 
 -- where no member of F leaks no member of what it regroups does
 pub never_leaks : (F G : Forest) → ((T : List BoxDef) → Regroups T F G) → NeverLeaks F → NeverLeaks G
 never_leaks F G w tight hs T s h = tight hs T s (members_regrouped hs T F G (w T) s h)
 
 -- Where no root can be merged, and one rule is chosen at each.
-pub ready_start : (n : ℕ) (M C : SoundForest) → n ≡ length M.forest.autos → IsSound M.face M.forest → Every IsRanked M.forest.autos → Every HasNoBoxes M.forest.autos → NoneMerges M.forest → NeverLeaks M.forest → IsPiece M C → HasChosen (length M.forest.autos) M C → IsReady n 0 0 C
+pub ready_start : (n : ℕ) (M C : SoundForest) → n ≡ length M.forest.autos → IsSound M.face M.forest
+    → Every IsRanked M.forest.autos → Every HasNoBoxes M.forest.autos → NoneMerges M.forest → NeverLeaks M.forest
+    → IsPiece M C → HasChosen (length M.forest.autos) M C → IsReady n 0 0 C
 ready_start n M C e sound ranked plain none tight piece chosen =
     let long : length C.forest.autos ≡ length M.forest.autos = covers_long M.forest C.forest chosen.0 in
     let c = some_choice M.forest.autos sound.full in
-    let start : IsCutting (length M.forest.autos) 0 0 M.forest = start_cutting M.face M.forest (λ k i. var_below M.face M.forest sound.well_formed.filled c.0 c.1 k i) (all_shared M.face M.forest sound ranked plain none tight) in (
+    let start : IsCutting (length M.forest.autos) 0 0 M.forest =
+    start_cutting M.face M.forest (λ k i. var_below M.face M.forest sound.well_formed.filled c.0 c.1 k i)
+    (all_shared M.face M.forest sound ranked plain none tight) in (
       piece.plain,
       all_tops C.forest.autos (λ k l. chosen.1 k (omega (arith, l, long))),
-      subst (λ (m : ℕ). IsCutting m 0 0 C.forest) (sym e) (within_cutting (length M.forest.autos) 0 0 M.forest C.forest chosen.0 long start),
+      subst (λ (m : ℕ). IsCutting m 0 0 C.forest) (sym e)
+          (within_cutting (length M.forest.autos) 0 0 M.forest C.forest chosen.0 long start),
     )
 
 -- What is left has the kinds of roots.
-pub root_kinds : (n : ℕ) (F : SoundForest) → IsSound F.face F.forest → Every IsRanked F.forest.autos → CanFinish n F → HasRootKinds F.face F.forest
+pub root_kinds : (n : ℕ) (F : SoundForest) → IsSound F.face F.forest → Every IsRanked F.forest.autos → CanFinish n F
+    → HasRootKinds F.face F.forest
 root_kinds n F sound ranked can = record {
   tops = can.0.1;
   kinds = cut_kinds F.face n F.forest sound ranked can.0.0 can.0.2;
@@ -72,24 +86,39 @@ pub same_alone : (F G : Forest) → Covers F G → Covers G F → IsSameAlone F 
 same_alone F G a b = (G, refl, (a.vars, a.data_vars), both_ways F.autos G.autos b.within a.within)
 
 -- The union of the pieces.
-pub union_of : (R : SoundForest → SoundForest → Type 0) (F : SoundForest) (Gs : List SoundForest) → IsSplitEach R (F ∷ []) Gs → IsUnionOf F.forest (forests Gs)
+pub union_of : (R : SoundForest → SoundForest → Type 0) (F : SoundForest) (Gs : List SoundForest)
+    → IsSplitEach R (F ∷ []) Gs → IsUnionOf F.forest (forests Gs)
 union_of R F Gs w hs T s = (
   members_split hs T F.forest (forests Gs) (w.whole F (inl refl) T) s,
   λ h. (let k = in_mapped the_forest h.0 Gs h.1 in
       let p = w.each k.0 k.1 in
-      let r : Regroups T F.forest h.0 = subst (λ (z : Forest). Regroups T F.forest z) (sym k.2) (subst (λ (z : SoundForest). Regroups T z.forest k.0.forest) (only_one p.0 F p.1) (p.2.regroups T)) in
+      let r : Regroups T F.forest h.0 =
+      subst (λ (z : Forest). Regroups T F.forest z) (sym k.2)
+      (subst (λ (z : SoundForest). Regroups T z.forest k.0.forest) (only_one p.0 F p.1) (p.2.regroups T)) in
       members_regrouped hs T F.forest h.0 r s h.2),
 )
 
 -- a forest regrouped both ways, as a step
-pub regrouped_step : (R : SoundForest → SoundForest → Type 0) (F G : SoundForest) → IsRegrouped F G → R F G → IsSplitEach R (F ∷ []) (G ∷ [])
+pub regrouped_step : (R : SoundForest → SoundForest → Type 0) (F G : SoundForest) → IsRegrouped F G → R F G
+    → IsSplitEach R (F ∷ []) (G ∷ [])
 regrouped_step R F G w r = record {
-  each = λ H i. (F, inl refl, subst (λ (z : SoundForest). IsPiece F z) (sym (only_one H G i)) (record { plain = w.plain; face = w.face; vars = w.vars; data_vars = w.data_vars; regroups = w.regroups }), subst (λ (z : SoundForest). R F z) (sym (only_one H G i)) r);
-  whole = λ H i T d h. (let e = only_one H F i in let k = w.whole T d (subst (λ (z : SoundForest). OfForest T z.forest d) e h) in (G.forest, inl refl, (k.0, subst (λ (z : SoundForest). Regrouping T G.forest z.forest d k.0) (sym e) k.1)));
+  each =
+      λ H i. (
+        F,
+        inl refl,
+        subst (λ (z : SoundForest). IsPiece F z) (sym (only_one H G i))
+            (record { plain = w.plain; face = w.face; vars = w.vars; data_vars = w.data_vars; regroups = w.regroups }),
+        subst (λ (z : SoundForest). R F z) (sym (only_one H G i)) r,
+      );
+  whole =
+      λ H i T d h.
+      (let e = only_one H F i in let k = w.whole T d (subst (λ (z : SoundForest). OfForest T z.forest d) e h) in
+      (G.forest, inl refl, (k.0, subst (λ (z : SoundForest). Regrouping T G.forest z.forest d k.0) (sym e) k.1)));
 }
 
 -- both ways covered is both ways regrouped
-pub covered_both : (F G : SoundForest) → G.face ≡ F.face → Every HasNoBoxes G.forest.autos → Covers F.forest G.forest → Covers G.forest F.forest → IsRegrouped F G
+pub covered_both : (F G : SoundForest) → G.face ≡ F.face → Every HasNoBoxes G.forest.autos → Covers F.forest G.forest
+    → Covers G.forest F.forest → IsRegrouped F G
 covered_both F G f p a b = record {
   plain = p;
   face = f;

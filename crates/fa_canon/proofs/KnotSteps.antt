@@ -1,5 +1,6 @@
 -- The steps that cut knots, on sound forests.
-use Rattle.std.proofs.Common.{◌≡◌, ◌⊎◌, inl, inr, ℕ, ◌<◌, ◌+◌, Bool, true, false, length, List, [], ◌∷◌, refl, sym, subst, ◌∙◌, slice_get, Some, arith}
+use Rattle.std.proofs.Common.{◌≡◌, ◌⊎◌, inl, inr, ℕ, ◌<◌, ◌+◌, Bool, true, false, length, List, [], ◌∷◌, refl, sym}
+use Rattle.std.proofs.Common.{subst, ◌∙◌, slice_get, Some, arith}
 use Rattle.std.specs.Bool.{MatchBool}
 use Rattle.std.proofs.lemmas.Option.{same_Some}
 use Rattle.fore_base.specs.Lists.{Every}
@@ -34,13 +35,17 @@ use Rattle.fa_canon.proofs.SplitTrees.{child_runs}
 
 -- How many children the trees of a root have.
 
-top_length : (F : Forest) (r : ℕ) (ts : List Tree) (t : Tree) → r < length F.autos → HasOneTop (component_at F.autos r) → Choice F.autos ts → slice_get ts r ≡ Some t → length (top_rule (component_at F.autos r)).children ≡ length (out-Tree t).children
+top_length : (F : Forest) (r : ℕ) (ts : List Tree) (t : Tree) → r < length F.autos → HasOneTop (component_at F.autos r)
+    → Choice F.autos ts → slice_get ts r ≡ Some t → length (top_rule (component_at F.autos r)).children
+    ≡ length (out-Tree t).children
 top_length F r ts t l one c e =
     let a = component_at F.autos r in
     let k = choice_at F.autos ts r c l in
-    each_length a.rules (tree_by_top a one t (subst (λ (z : Tree). InLanguage a z) (same_Some k.0 t (sym k.1 ∙ e)) k.2)).1
+    each_length a.rules
+    (tree_by_top a one t (subst (λ (z : Tree). InLanguage a z) (same_Some k.0 t (sym k.1 ∙ e)) k.2)).1
 
-pub width_is : (F : Forest) (r : ℕ) → r < length F.autos → HasOneTop (component_at F.autos r) → HasWidth F r (length (top_rule (component_at F.autos r)).children)
+pub width_is : (F : Forest) (r : ℕ) → r < length F.autos → HasOneTop (component_at F.autos r)
+    → HasWidth F r (length (top_rule (component_at F.autos r)).children)
 width_is F r l one ts t c e = sym (top_length F r ts t l one c e)
 
 module _ (n r p m : ℕ) (F : SoundForest) (sound : IsSound F.face F.forest) (can : CanCut n r p m F) where
@@ -69,7 +74,8 @@ module _ (n r p m : ℕ) (F : SoundForest) (sound : IsSound F.face F.forest) (ca
     )
 
     -- it is split, and one rule chosen for the new root
-    pub knot_cut : AreTied r p F → (G H : SoundForest) → IsSplitAt r p F G → HasChosen (length G.forest.autos) G H → HasCutAt n r (p + 1) m F H
+    pub knot_cut : AreTied r p F → (G H : SoundForest) → IsSplitAt r p F G → HasChosen (length G.forest.autos) G H
+        → HasCutAt n r (p + 1) m F H
     knot_cut ties G H s c = by_case s.0
       where
         long : length H.forest.autos ≡ length G.forest.autos
@@ -79,15 +85,27 @@ module _ (n r p m : ℕ) (F : SoundForest) (sound : IsSound F.face F.forest) (ca
         tops = all_tops H.forest.autos (λ k l. c.1 k (omega (arith, l, long)))
 
         after : IsCutting n r (p + 1) G.forest × HasWidth G.forest r m → HasCutAt n r (p + 1) m F H
-        after w = (tops, within_cutting n r (p + 1) G.forest H.forest c.0 long w.0, within_width r m G.forest H.forest c.0 w.1)
+        after w = (
+          tops,
+          within_cutting n r (p + 1) G.forest H.forest c.0 long w.0,
+          within_width r m G.forest H.forest c.0 w.1,
+        )
 
-        by_case : (((y : Target) × MayBeLeaf F.forest r p y × (G.forest ≡ split_leaf F.forest r p y)) ⊎ (G.forest ≡ split_cells F.forest r p)) → HasCutAt n r (p + 1) m F H
-        by_case (inl (y, may, e)) = after (subst (λ (z : Forest). IsCutting n r (p + 1) z × HasWidth z r m) (sym e) (leaf_cutting F.face n r p m F.forest sound ranked can.0.0 can_split can.2 can.1 can.0.2 y may))
-        by_case (inr e) = after (subst (λ (z : Forest). IsCutting n r (p + 1) z × HasWidth z r m) (sym e) (cells_cutting F.face n r p m F.forest sound ranked can.0.0 can_split can.2 can.1 can.0.2 ties))
+        by_case : (((y : Target) × MayBeLeaf F.forest r p y × (G.forest ≡ split_leaf F.forest r p y))
+            ⊎ (G.forest ≡ split_cells F.forest r p)) → HasCutAt n r (p + 1) m F H
+        by_case (inl (y, may, e)) =
+            after
+            (subst (λ (z : Forest). IsCutting n r (p + 1) z × HasWidth z r m) (sym e)
+            (leaf_cutting F.face n r p m F.forest sound ranked can.0.0 can_split can.2 can.1 can.0.2 y may))
+        by_case (inr e) =
+            after
+            (subst (λ (z : Forest). IsCutting n r (p + 1) z × HasWidth z r m) (sym e)
+            (cells_cutting F.face n r p m F.forest sound ranked can.0.0 can_split can.2 can.1 can.0.2 ties))
 
 -- Whether what may be the child refers to the root, by the signature of its state.
 
-module _ (bs : List BoxFace) (a : Automaton) (q r : ℕ) (s : Signature) (signed : (t : Tree) → RunOf a.rules q t → s.refs ≡ signature bs t) where
+module _ (bs : List BoxFace) (a : Automaton) (q r : ℕ) (s : Signature)
+    (signed : (t : Tree) → RunOf a.rules q t → s.refs ≡ signature bs t) where
   abbrev state_alone : Automaton
   state_alone = automaton a.states (q ∷ []) a.rules
 
@@ -95,10 +113,16 @@ module _ (bs : List BoxFace) (a : Automaton) (q r : ℕ) (s : Signature) (signed
   of_state t (z, inl e, h) = sym (signed t (subst (λ (n : ℕ). RunOf a.rules n t) e h))
   of_state t (z, inr e, h) = absurd e
 
-  pub tied_or_not : (yes_or_no : Bool) → yes_or_no ≡ has r (roots_in s.refs) → MatchBool yes_or_no ((u : Tree) → RunOf a.rules q u → RefersTo u r) ((u : Tree) → RunOf a.rules q u → RefersTo u r → ⊥)
+  pub tied_or_not : (yes_or_no : Bool) → yes_or_no ≡ has r (roots_in s.refs)
+      → MatchBool yes_or_no ((u : Tree) → RunOf a.rules q u → RefersTo u r)
+      ((u : Tree) → RunOf a.rules q u → RefersTo u r → ⊥)
   tied_or_not true e = λ u h. named_refer bs state_alone s r of_state (sym e) u (q, inl refl, h)
   tied_or_not false e = λ u h. unnamed_refer bs state_alone s r of_state (sym e) u (q, inl refl, h)
 
 -- the state of a child is one of the automaton
-pub child_below : (a : Automaton) (p : ℕ) → IsRanked a → HasOneTop a → p < length (top_rule a).children → child_state a p < a.states
-child_below a p ranked one l = every_in (λ (z : ℕ). z < a.states) (top_rule a).children (child_state a p) (every_in (IsRankedRule a.states) a.rules (top_rule a) ranked.1 (top_in a one)).1 (in_from_place (top_rule a).children p (child_state a p) (at_index (top_rule a).children p l))
+pub child_below : (a : Automaton) (p : ℕ) → IsRanked a → HasOneTop a → p < length (top_rule a).children
+    → child_state a p < a.states
+child_below a p ranked one l =
+    every_in (λ (z : ℕ). z < a.states) (top_rule a).children (child_state a p)
+    (every_in (IsRankedRule a.states) a.rules (top_rule a) ranked.1 (top_in a one)).1
+    (in_from_place (top_rule a).children p (child_state a p) (at_index (top_rule a).children p l))

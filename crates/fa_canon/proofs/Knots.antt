@@ -1,5 +1,6 @@
 -- The steps that cut knots, and what holds at their end.
-use Rattle.std.proofs.Common.{◌≡◌, ◌⊎◌, inl, inr, ℕ, zero, suc, ◌<◌, ◌≤◌, ◌+◌, length, List, sym, ap, subst, ◌∙◌, slice_get, Some, arith}
+use Rattle.std.proofs.Common.{◌≡◌, ◌⊎◌, inl, inr, ℕ, zero, suc, ◌<◌, ◌≤◌, ◌+◌, length, List, sym, ap, subst, ◌∙◌}
+use Rattle.std.proofs.Common.{slice_get, Some, arith}
 use Rattle.fore_base.specs.Lists.{IsIn}
 use Rattle.fore_base.proofs.ListLemmas.{place_of}
 use Rattle.ta_core.specs.declared.tree.Tree.{Tree, out-Tree}
@@ -38,23 +39,39 @@ module _ (vars : List Target) (n r : ℕ) (ts : List Tree) where
       ]
 
   -- the next root, where no child is left
-  pub next_root : (m : ℕ) → ((t : Tree) → slice_get ts r ≡ Some t → length (out-Tree t).children ≡ m) → AreCut vars n r m ts → AreCut vars n (r + 1) 0 ts
+  pub next_root : (m : ℕ) → ((t : Tree) → slice_get ts r ≡ Some t → length (out-Tree t).children ≡ m)
+      → AreCut vars n r m ts → AreCut vars n (r + 1) 0 ts
   next_root m w c = record { shared = c.shared; knots = c.knots; loose = here }
     where
       here : (k q : ℕ) → IsBefore k q (r + 1) 0 → IsLoose ts k q
       here k q (inr l) = absurd (let z = l.1 in omega (arith, z))
       here k q (inl l) = elim (same_or_not k r) [
-        | inl e ↦ (λ t u g f. c.loose k q (inr (e, (let a = place_less (out-Tree t).children q u f in let b = w t (ap (λ (j : ℕ). slice_get ts j) (sym e) ∙ g) in omega (arith, a, b)))) t u g f)
+        | inl e ↦
+            (λ t u g f.
+            c.loose k q
+            (inr (
+              e,
+              (let a = place_less (out-Tree t).children q u f in
+                  let b = w t (ap (λ (j : ℕ). slice_get ts j) (sym e) ∙ g) in omega (arith, a, b)),
+            )) t u g f)
         | inr d ↦ c.loose k q (inl (omega (arith, l, d)))
       ]
 
 -- at the end each root is shared or a knot, and no other cell is a knot
-module _ (bs : List BoxFace) (vars : List Target) (n : ℕ) (ts : List Tree) (few : (k : ℕ) → IsIn (At k) vars → k < n) (c : AreCut vars n n 0 ts) where
+module _ (bs : List BoxFace) (vars : List Target) (n : ℕ) (ts : List Tree) (few : (k : ℕ) → IsIn (At k) vars → k < n)
+    (c : AreCut vars n n 0 ts) where
   pub end_kinds : (r : ℕ) → r < length ts → IsRootKind bs vars ts r
   end_kinds r l = elim (less_or r n) [ inl i ↦ inl (c.shared r i) | inr i ↦ inr (inr (c.knots r i l)) ]
 
   shared_less : (r : ℕ) → r < length ts → IsShared vars ts r → r < n
-  shared_less r l s = elim (less_or r n) [ inl i ↦ i | inr i ↦ absurd (elim s [ inl v ↦ (let w = few r v in omega (arith, w, i)) | inr v ↦ (let w = (c.knots r i l).one in omega (arith, w, v)) ]) ]
+  shared_less r l s = elim (less_or r n) [
+    | inl i ↦ i
+    | inr i ↦ absurd
+        (elim s [
+          | inl v ↦ (let w = few r v in omega (arith, w, i))
+          | inr v ↦ (let w = (c.knots r i l).one in omega (arith, w, v))
+        ])
+  ]
 
   pub end_untied : ((i : ℕ) (t : Tree) → slice_get ts i ≡ Some t → IsFieldCell t) → IsUntied vars ts
   end_untied cells r t u s e f d h =

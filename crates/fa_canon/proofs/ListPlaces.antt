@@ -1,5 +1,6 @@
 -- Items at the places of lists of which one is set, or one more stands behind.
-use Rattle.std.proofs.Common.{◌≡◌, ◌≢◌, ℕ, zero, suc, ◌<◌, length, List, [], ◌∷◌, ◌++◌, refl, ap, slice_get, slice_set, Some, arith}
+use Rattle.std.proofs.Common.{◌≡◌, ◌≢◌, ℕ, zero, suc, ◌<◌, length, List, [], ◌∷◌, ◌++◌, refl, ap, slice_get, slice_set}
+use Rattle.std.proofs.Common.{Some, arith}
 use Rattle.std.proofs.lemmas.Option.{none-some}
 
 module _ {X : Type 0} where

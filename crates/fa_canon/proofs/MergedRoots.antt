@@ -15,24 +15,35 @@ use Rattle.fa_merge.proofs.MergedSound.{merged_plain}
 use Rattle.fa_sound.specs.Soundness.{SoundForest}
 use Rattle.fa_canon.specs.inner.Merges.{IsRegrouped}
 
-module _ (face : Face) (F G : Forest) (r : ℕ) (sound : IsSound face F) (ranked : Every IsRanked F.autos) (plain : Every HasNoBoxes F.autos) (can : CanMerge F r) (is : IsMergedInto F r G) where
+module _ (face : Face) (F G : Forest) (r : ℕ) (sound : IsSound face F) (ranked : Every IsRanked F.autos)
+    (plain : Every HasNoBoxes F.autos) (can : CanMerge F r) (is : IsMergedInto F r G) where
   -- the forest with the root merged has no box edges
   pub no_boxes : Every HasNoBoxes G.autos
-  no_boxes = let h = lone_refers face F r is.0 sound ranked can is.1 in subst (λ (z : Forest). Every HasNoBoxes z.autos) (sym is.2) (merged_plain face F r is.0 h plain sound)
+  no_boxes = let h = lone_refers face F r is.0 sound ranked can is.1 in
+      subst (λ (z : Forest). Every HasNoBoxes z.autos) (sym is.2) (merged_plain face F r is.0 h plain sound)
 
   -- and fewer roots
   pub fewer_roots : length G.autos < length F.autos
   fewer_roots =
       let h = lone_refers face F r is.0 sound ranked can is.1 in
       let R = length (others_new F r is.0 h) in
-      let a : length G.autos ≡ R = ap (λ (z : Forest). length z.autos) is.2 ∙ length-set (others_new F r is.0 h) (to_last (length F.autos) r is.0) (merged R (new F r is.0 h is.0) (new F r is.0 h r)) in
+      let a : length G.autos ≡ R = ap (λ (z : Forest). length z.autos) is.2
+      ∙ length-set (others_new F r is.0 h) (to_last (length F.autos) r is.0)
+      (merged R (new F r is.0 h is.0) (new F r is.0 h r)) in
       let b : to_last (length F.autos) r r ≡ R = last_new F r is.0 h in
       let c = size_is F r is.0 h in
       omega (arith, a, b, c)
 
 -- each forest is regrouped with itself, and what is regrouped twice is regrouped
 pub regrouped_same : (F : SoundForest) → Every HasNoBoxes F.forest.autos → IsRegrouped F F
-regrouped_same F p = record { plain = p; face = refl; vars = refl; data_vars = refl; regroups = λ T. regroups_same T F.forest; whole = λ T. regroups_same T F.forest }
+regrouped_same F p = record {
+  plain = p;
+  face = refl;
+  vars = refl;
+  data_vars = refl;
+  regroups = λ T. regroups_same T F.forest;
+  whole = λ T. regroups_same T F.forest;
+}
 
 pub regrouped_on : (F G H : SoundForest) → IsRegrouped F G → IsRegrouped G H → IsRegrouped F H
 regrouped_on F G H a b = record {

@@ -18,7 +18,8 @@ use Rattle.fa_merge.proofs.LoneFound.{choice_component}
 use Rattle.fa_merge.proofs.PlacedForests.{component_got, component_has}
 use Rattle.fa_canon.specs.inner.Cutting.{IsFieldCell}
 
-field_cell : (a : Automaton) → IsRanked a → HasNoBoxes a → (q s : ℕ) (t : Tree) → IsTopped s t → RunOf a.rules q t → IsFieldCell t
+field_cell : (a : Automaton) → IsRanked a → HasNoBoxes a → (q s : ℕ) (t : Tree) → IsTopped s t → RunOf a.rules q t
+    → IsFieldCell t
 field_cell a ranked plain q s t h (run r i e y k) =
     let same : r.symbol ≡ _ = y ∙ h.2 in
     record {
@@ -30,9 +31,11 @@ field_cell a ranked plain q s t h (run r i e y k) =
       many = sym (each_length a.rules k) ∙ (every_in (IsRankedRule a.states) a.rules r ranked.1 i).2 ∙ ap arity same;
     }
 
-pub root_cell : (face : Face) (F : Forest) → IsSound face F → Every IsRanked F.autos → Every HasNoBoxes F.autos → (ts : List Tree) → Choice F.autos ts → (i : ℕ) (t : Tree) → slice_get ts i ≡ Some t → IsFieldCell t
+pub root_cell : (face : Face) (F : Forest) → IsSound face F → Every IsRanked F.autos → Every HasNoBoxes F.autos
+    → (ts : List Tree) → Choice F.autos ts → (i : ℕ) (t : Tree) → slice_get ts i ≡ Some t → IsFieldCell t
 root_cell face F sound ranked plain ts c i t e =
     let k = choice_component F.autos ts i t c e in
     let a = component_at F.autos i in
     let top = top_of_filled face F sound.well_formed.filled sound.full i a t (component_got F.autos i k.0) k.1 in
-    field_cell a (component_has IsRanked F.autos i ranked k.0) (component_has HasNoBoxes F.autos i plain k.0) k.1.0 top.0 t top.1 k.1.2
+    field_cell a (component_has IsRanked F.autos i ranked k.0) (component_has HasNoBoxes F.autos i plain k.0) k.1.0
+    top.0 t top.1 k.1.2

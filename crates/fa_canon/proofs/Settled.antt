@@ -1,5 +1,7 @@
--- Where no root is left to merge, each root is shared, or no other tree refers to it. Where besides no member leaks, each is shared.
-use Rattle.std.proofs.Common.{◌≡◌, ◌≢◌, ◌⊎◌, inl, inr, ℕ, zero, suc, ◌<◌, ◌≤◌, ◌+◌, Bool, true, false, true≢false, nat_eq, length, List, [], ◌∷◌, refl, sym, ap, ap₂, subst, ◌∙◌, slice_get, Some, arith}
+-- Where no root is left to merge, each root is shared, or no other tree refers to it. Where besides no member leaks,
+-- each is shared.
+use Rattle.std.proofs.Common.{◌≡◌, ◌≢◌, ◌⊎◌, inl, inr, ℕ, zero, suc, ◌<◌, ◌≤◌, ◌+◌, Bool, true, false, true≢false}
+use Rattle.std.proofs.Common.{nat_eq, length, List, [], ◌∷◌, refl, sym, ap, ap₂, subst, ◌∙◌, slice_get, Some, arith}
 use Rattle.std.proofs.lemmas.Bool.{eqb-true, eq-eqb}
 use Rattle.std.proofs.lemmas.Option.{none-some, same_Some}
 use Rattle.fore_base.specs.Lists.{IsIn, Every}
@@ -35,12 +37,14 @@ use Rattle.fa_canon.proofs.RootCounts.{count_first, count_two, refer_count, refe
 
 -- Two choices of trees.
 
-pub each_alike : (bs : List BoxFace) (autos : List Automaton) → Every HasNoBoxes autos → Every (HasSignatures bs) autos → Every RefersAlike autos
+pub each_alike : (bs : List BoxFace) (autos : List Automaton) → Every HasNoBoxes autos → Every (HasSignatures bs) autos
+    → Every RefersAlike autos
 each_alike bs [] p s = tt
 each_alike bs (a ∷ autos) p s = (signed_alike bs a p.0 s.0, each_alike bs autos p.1 s.1)
 
 -- they have as many references to a root, as far as two
-pub counts_alike : (r : ℕ) (autos : List Automaton) (ts us : List Tree) → Every RefersAlike autos → Choice autos ts → Choice autos us → to_two (references ts r) ≡ to_two (references us r)
+pub counts_alike : (r : ℕ) (autos : List Automaton) (ts us : List Tree) → Every RefersAlike autos → Choice autos ts
+    → Choice autos us → to_two (references ts r) ≡ to_two (references us r)
 counts_alike r [] [] [] h c d = refl
 counts_alike r [] [] (u ∷ us) h c d = absurd d
 counts_alike r [] (t ∷ ts) us h c d = absurd c
@@ -52,7 +56,9 @@ counts_alike r (a ∷ autos) (t ∷ ts) (u ∷ us) h c d =
     ∙ both_to_two (often r (tree_refs u)) (references us r) ∙ ap to_two (sym (count_first r u us))
 
 -- the trees at one place refer to the same roots
-pub own_alike : (r : ℕ) (autos : List Automaton) (ts us : List Tree) (i : ℕ) (t u : Tree) → Every RefersAlike autos → Choice autos ts → Choice autos us → slice_get ts i ≡ Some t → slice_get us i ≡ Some u → RefersTo u r → RefersTo t r
+pub own_alike : (r : ℕ) (autos : List Automaton) (ts us : List Tree) (i : ℕ) (t u : Tree) → Every RefersAlike autos
+    → Choice autos ts → Choice autos us → slice_get ts i ≡ Some t → slice_get us i ≡ Some u → RefersTo u r
+    → RefersTo t r
 own_alike r [] [] us i t u h c d e f w = absurd (none-some t e)
 own_alike r [] (x ∷ ts) us i t u h c d e f w = absurd c
 own_alike r (a ∷ autos) [] us i t u h c d e f w = absurd c
@@ -63,7 +69,9 @@ own_alike r (a ∷ autos) (x ∷ ts) (y ∷ us) zero t u h c d e f w =
       | inl g ↦ g
       | inr g ↦ (let p : InLanguage a t = subst (λ (z : Tree). InLanguage a z) (same_Some x t e) c.0 in
           let q : InLanguage a u = subst (λ (z : Tree). InLanguage a z) (same_Some y u f) d.0 in
-          absurd (some_not_none (often r (tree_refs t)) (often r (tree_refs u)) ((h.0.component t u p q).times r) (often_out r (tree_refs t) g) (refer_count u r w)))
+          absurd
+          (some_not_none (often r (tree_refs t)) (often r (tree_refs u)) ((h.0.component t u p q).times r)
+          (often_out r (tree_refs t) g) (refer_count u r w)))
     ]
   where
     some_not_none : (m n : ℕ) → to_two m ≡ to_two n → m ≡ 0 → 1 ≤ n → ⊥
@@ -78,7 +86,8 @@ one_of_two m (suc (suc n)) e h = let z : 1 ≡ 2 = sym (ap to_two h) ∙ e in ab
 
 -- a variable is at the root, or none is
 pub var_or_not : (vs : List Target) (r : ℕ) → IsIn (At r) vs ⊎ (IsIn (At r) vs → ⊥)
-var_or_not vs r = elim (in_or_out r (var_roots vs)) [ inl h ↦ inl (var_roots_in vs r h) | inr h ↦ inr (λ w. h (in_var_roots vs r w)) ]
+var_or_not vs r = elim (in_or_out r (var_roots vs))
+    [ inl h ↦ inl (var_roots_in vs r h) | inr h ↦ inr (λ w. h (in_var_roots vs r w)) ]
 
 counted : (n : ℕ) → (n ≡ 0) ⊎ (n ≡ 1) ⊎ (2 ≤ n)
 counted zero = inl refl
@@ -97,43 +106,54 @@ tree_there [] r l = absurd (omega (arith, l))
 tree_there (t ∷ ts) zero l = (t, refl)
 tree_there (t ∷ ts) (suc r) l = tree_there ts r (omega (arith, l))
 
-module _ (face : Face) (F : Forest) (sound : IsSound face F) (plain : Every HasNoBoxes F.autos) (none : NoneMerges F) where
-  abbrev Alike : Every RefersAlike F.autos
-  Alike = each_alike face.boxes F.autos plain sound.well_formed.signatures
+module _ (face : Face) (F : Forest) (sound : IsSound face F) (plain : Every HasNoBoxes F.autos) (none : NoneMerges F)
+  where
+    abbrev Alike : Every RefersAlike F.autos
+    Alike = each_alike face.boxes F.autos plain sound.well_formed.signatures
 
-  pub settled : (ts : List Tree) → Choice F.autos ts → (r : ℕ) → r < length ts → IsShared F.vars ts r ⊎ IsAlone F.vars ts r
-  settled ts c r l = by_var (var_or_not F.vars r)
-    where
-      by_own : (IsIn (At r) F.vars → ⊥) → references ts r ≡ 1 → (t : Tree) → slice_get ts r ≡ Some t → RefersTo t r ⊎ (RefersTo t r → ⊥) → IsShared F.vars ts r ⊎ IsAlone F.vars ts r
-      by_own v one t e (inl w) = inr (record {
-        no_var = v;
-        none = λ j u f d z. (let s = count_two r ts j r u t d f e in let a = refer_count u r z in let b = refer_count t r w in omega (arith, one, s, a, b));
-      })
-      by_own v one t e (inr w) = absurd (none r (record {
-        root = (let k = choice_length F.autos ts c in omega (arith, k, l));
-        no_var = v;
-        one = λ us d. one_of_two (references ts r) (references us r) (counts_alike r F.autos ts us Alike c d) one;
-        other = λ us u d f z. w (own_alike r F.autos ts us r t u Alike c d e f z);
-      }))
+    pub settled : (ts : List Tree) → Choice F.autos ts → (r : ℕ) → r < length ts → IsShared F.vars ts r
+        ⊎ IsAlone F.vars ts r
+    settled ts c r l = by_var (var_or_not F.vars r)
+      where
+        by_own : (IsIn (At r) F.vars → ⊥) → references ts r ≡ 1 → (t : Tree) → slice_get ts r ≡ Some t → RefersTo t r
+            ⊎ (RefersTo t r → ⊥) → IsShared F.vars ts r ⊎ IsAlone F.vars ts r
+        by_own v one t e (inl w) = inr (record {
+          no_var = v;
+          none =
+              λ j u f d z.
+              (let s = count_two r ts j r u t d f e in let a = refer_count u r z in let b = refer_count t r w in
+              omega (arith, one, s, a, b));
+        })
+        by_own v one t e (inr w) = absurd (none r (record {
+          root = (let k = choice_length F.autos ts c in omega (arith, k, l));
+          no_var = v;
+          one = λ us d. one_of_two (references ts r) (references us r) (counts_alike r F.autos ts us Alike c d) one;
+          other = λ us u d f z. w (own_alike r F.autos ts us r t u Alike c d e f z);
+        }))
 
-      by_count : (IsIn (At r) F.vars → ⊥) → (references ts r ≡ 0) ⊎ (references ts r ≡ 1) ⊎ (2 ≤ references ts r) → IsShared F.vars ts r ⊎ IsAlone F.vars ts r
-      by_count v (inr (inr two)) = inl (inr two)
-      by_count v (inl no_one) = inr (record { no_var = v; none = λ j u f d z. none_counted r ts no_one j u f z })
-      by_count v (inr (inl one)) = (let t = tree_there ts r l in by_own v one t.0 t.1 (refer_or_not t.0 r))
+        by_count : (IsIn (At r) F.vars → ⊥) → (references ts r ≡ 0) ⊎ (references ts r ≡ 1) ⊎ (2 ≤ references ts r)
+            → IsShared F.vars ts r ⊎ IsAlone F.vars ts r
+        by_count v (inr (inr two)) = inl (inr two)
+        by_count v (inl no_one) = inr (record { no_var = v; none = λ j u f d z. none_counted r ts no_one j u f z })
+        by_count v (inr (inl one)) = (let t = tree_there ts r l in by_own v one t.0 t.1 (refer_or_not t.0 r))
 
-      by_var : IsIn (At r) F.vars ⊎ (IsIn (At r) F.vars → ⊥) → IsShared F.vars ts r ⊎ IsAlone F.vars ts r
-      by_var (inl v) = inl (inl v)
-      by_var (inr v) = by_count v (counted (references ts r))
+        by_var : IsIn (At r) F.vars ⊎ (IsIn (At r) F.vars → ⊥) → IsShared F.vars ts r ⊎ IsAlone F.vars ts r
+        by_var (inl v) = inl (inl v)
+        by_var (inr v) = by_count v (counted (references ts r))
 
 -- Without box edges no way back leads anywhere.
-never_led : (bs : List BoxFace) (F : Forest) → Every HasNoBoxes F.autos → (ts : List Tree) → Choice F.autos ts → (i j r : ℕ) → LeadsBack bs ts i j r → ⊥
+never_led : (bs : List BoxFace) (F : Forest) → Every HasNoBoxes F.autos → (ts : List Tree) → Choice F.autos ts
+    → (i j r : ℕ) → LeadsBack bs ts i j r → ⊥
 never_led bs F plain ts c i j r (t, e, (w, h, q, z)) =
     let k = choice_component F.autos ts j t c e in
-    let p : IsPlainWay bs w = every_in (IsPlainWay bs) (ways t) w (run_plain bs (component_at F.autos j).rules (component_has HasNoBoxes F.autos j plain k.0) k.1.2) h in
+    let p : IsPlainWay bs w =
+    every_in (IsPlainWay bs) (ways t) w
+    (run_plain bs (component_at F.autos j).rules (component_has HasNoBoxes F.autos j plain k.0) k.1.2) h in
     elim z [ inl l ↦ true≢false (sym l.1 ∙ p.1) | inr l ↦ subst (λ (ks : List ℕ). IsIn r ks) p.2 l ]
 
 -- a root to which only its own tree refers is not reached
-alone_unreached : (bs : List BoxFace) (F : Forest) → Every HasNoBoxes F.autos → (ts : List Tree) → Choice F.autos ts → (r k : ℕ) → IsAlone F.vars ts r → RootReached bs F.vars ts k → k ≡ r → ⊥
+alone_unreached : (bs : List BoxFace) (F : Forest) → Every HasNoBoxes F.autos → (ts : List Tree) → Choice F.autos ts
+    → (r k : ℕ) → IsAlone F.vars ts r → RootReached bs F.vars ts k → k ≡ r → ⊥
 alone_unreached bs F plain ts c r k a (by_var i) e = a.no_var (subst (λ (n : ℕ). IsIn (At n) F.vars) e i)
 alone_unreached bs F plain ts c r k a (by_tree j t h g i) e =
     elim (same_or_not j r) [
@@ -143,16 +163,21 @@ alone_unreached bs F plain ts c r k a (by_tree j t h g i) e =
 alone_unreached bs F plain ts c r k a (by_way i j h l) e = never_led bs F plain ts c i j k l
 
 -- where no member leaks each root is reached
-pub all_reached : (face : Face) (F : Forest) → IsSound face F → Every IsRanked F.autos → Every HasNoBoxes F.autos → NeverLeaks F → AreAllReached face F
+pub all_reached : (face : Face) (F : Forest) → IsSound face F → Every IsRanked F.autos → Every HasNoBoxes F.autos
+    → NeverLeaks F → AreAllReached face F
 all_reached face F sound ranked plain tight = elim (roots_decided face F sound) [
   | inl all ↦ all
   | inr h ↦ absurd (not_both face F sound ranked plain (unreached_leaks face F plain h.0 h.1.root h.1.unreached) tight)
 ]
 
 -- where no root is left to merge, and no member leaks, each root is shared
-pub all_shared : (face : Face) (F : Forest) → IsSound face F → Every IsRanked F.autos → Every HasNoBoxes F.autos → NoneMerges F → NeverLeaks F → AreShared F
+pub all_shared : (face : Face) (F : Forest) → IsSound face F → Every IsRanked F.autos → Every HasNoBoxes F.autos
+    → NoneMerges F → NeverLeaks F → AreShared F
 all_shared face F sound ranked plain none tight ts c r l =
     elim (settled face F sound plain none ts c r l) [
       | inl s ↦ s
-      | inr a ↦ absurd (alone_unreached face.boxes F plain ts c r r a (all_reached face F sound ranked plain tight r (let k = choice_length F.autos ts c in omega (arith, k, l)) ts c) refl)
+      | inr a ↦ absurd
+          (alone_unreached face.boxes F plain ts c r r a
+          (all_reached face F sound ranked plain tight r (let k = choice_length F.autos ts c in omega (arith, k, l)) ts
+          c) refl)
     ]

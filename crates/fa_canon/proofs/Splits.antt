@@ -15,7 +15,8 @@ abbrev the_forest : SoundForest → Forest
 the_forest s = s.forest
 
 pub piece_same : (F : SoundForest) → Every HasNoBoxes F.forest.autos → IsPiece F F
-piece_same F p = record { plain = p; face = refl; vars = refl; data_vars = refl; regroups = λ T. regroups_same T F.forest }
+piece_same F p =
+    record { plain = p; face = refl; vars = refl; data_vars = refl; regroups = λ T. regroups_same T F.forest }
 
 pub piece_on : (F G H : SoundForest) → IsPiece F G → IsPiece G H → IsPiece F H
 piece_on F G H a b = record {
@@ -27,7 +28,8 @@ piece_on F G H a b = record {
 }
 
 -- more forests on the right side lose nothing
-into_more : (T : List BoxDef) (F : Forest) (Gs Hs : List Forest) → ((G : Forest) → IsIn G Gs → IsIn G Hs) → RegroupsInto T F Gs → RegroupsInto T F Hs
+into_more : (T : List BoxDef) (F : Forest) (Gs Hs : List Forest) → ((G : Forest) → IsIn G Gs → IsIn G Hs)
+    → RegroupsInto T F Gs → RegroupsInto T F Hs
 into_more T F Gs Hs m w d h = let k = w d h in (k.0, m k.0 k.1, k.2)
 
 -- into itself alone
@@ -44,20 +46,30 @@ module _ (R : SoundForest → SoundForest → Type 0) where
 
   pub split_same : (F : SoundForest) → Every HasNoBoxes F.forest.autos → R F F → IsSplitEach R (F ∷ []) (F ∷ [])
   split_same F p r = record {
-    each = λ G i. (F, inl refl, subst (λ (z : SoundForest). IsPiece F z) (sym (only_one G F i)) (piece_same F p), subst (λ (z : SoundForest). R F z) (sym (only_one G F i)) r);
+    each =
+        λ G i. (
+          F,
+          inl refl,
+          subst (λ (z : SoundForest). IsPiece F z) (sym (only_one G F i)) (piece_same F p),
+          subst (λ (z : SoundForest). R F z) (sym (only_one G F i)) r,
+        );
     whole = λ G i T. into_same T G.forest (F.forest ∷ []) (inl (let e = only_one G F i in rw e refl));
   }
 
-  pub split_both : (Fs Gs Hs : List SoundForest) (F : SoundForest) → IsSplitEach R Fs Gs → IsSplitEach R (F ∷ []) Hs → IsSplitEach R (Fs ++ F ∷ []) (Gs ++ Hs)
+  pub split_both : (Fs Gs Hs : List SoundForest) (F : SoundForest) → IsSplitEach R Fs Gs → IsSplitEach R (F ∷ []) Hs
+      → IsSplitEach R (Fs ++ F ∷ []) (Gs ++ Hs)
   split_both Fs Gs Hs F a b = record {
     each = λ G i. elim (in_append G Gs Hs i) [
       | inl j ↦ (let k = a.each G j in (k.0, in_left k.0 Fs (F ∷ []) k.1, k.2, k.3))
       | inr j ↦ (let k = b.each G j in (k.0, in_right k.0 Fs (F ∷ []) k.1, k.2, k.3))
     ];
-    whole = λ G i T. subst (λ (z : List Forest). RegroupsInto T G.forest z) (sym (map-append the_forest Gs Hs)) (elim (in_append G Fs (F ∷ []) i) [
-      | inl j ↦ into_more T G.forest (map the_forest Gs) (map the_forest Gs ++ map the_forest Hs) (λ x m. in_left x (map the_forest Gs) (map the_forest Hs) m) (a.whole G j T)
-      | inr j ↦ into_more T G.forest (map the_forest Hs) (map the_forest Gs ++ map the_forest Hs) (λ x m. in_right x (map the_forest Gs) (map the_forest Hs) m) (b.whole G j T)
-    ]);
+    whole = λ G i T. subst (λ (z : List Forest). RegroupsInto T G.forest z) (sym (map-append the_forest Gs Hs))
+        (elim (in_append G Fs (F ∷ []) i) [
+          | inl j ↦ into_more T G.forest (map the_forest Gs) (map the_forest Gs ++ map the_forest Hs)
+              (λ x m. in_left x (map the_forest Gs) (map the_forest Hs) m) (a.whole G j T)
+          | inr j ↦ into_more T G.forest (map the_forest Hs) (map the_forest Gs ++ map the_forest Hs)
+              (λ x m. in_right x (map the_forest Gs) (map the_forest Hs) m) (b.whole G j T)
+        ]);
   }
 
 -- taken apart twice
@@ -65,16 +77,28 @@ pub split_twice : (R S Q : SoundForest → SoundForest → Type 0) (Fs Gs Hs : L
     → ((F G H : SoundForest) → IsIn F Fs → IsPiece F G → R F G → IsPiece G H → S G H → Q F H)
     → IsSplitEach R Fs Gs → IsSplitEach S Gs Hs → IsSplitEach Q Fs Hs
 split_twice R S Q Fs Gs Hs m a b = record {
-  each = λ H i. (let k = b.each H i in let l = a.each k.0 k.1 in (l.0, l.1, piece_on l.0 k.0 H l.2 k.2, m l.0 k.0 H l.1 l.2 l.3 k.2 k.3));
-  whole = λ F i T. split_on T F.forest (map the_forest Gs) (map the_forest Hs) (a.whole F i T) (λ G j. (let k = in_mapped the_forest G Gs j in subst (λ (z : Forest). RegroupsInto T z (map the_forest Hs)) (sym k.2) (b.whole k.0 k.1 T)));
+  each =
+      λ H i.
+      (let k = b.each H i in let l = a.each k.0 k.1 in
+      (l.0, l.1, piece_on l.0 k.0 H l.2 k.2, m l.0 k.0 H l.1 l.2 l.3 k.2 k.3));
+  whole = λ F i T. split_on T F.forest (map the_forest Gs) (map the_forest Hs) (a.whole F i T)
+      (λ G j.
+      (let k = in_mapped the_forest G Gs j in
+      subst (λ (z : Forest). RegroupsInto T z (map the_forest Hs)) (sym k.2) (b.whole k.0 k.1 T)));
 }
 
-pub split_weaker : (R S : SoundForest → SoundForest → Type 0) (Fs Gs : List SoundForest) → ((F G : SoundForest) → IsIn F Fs → IsPiece F G → R F G → S F G) → IsSplitEach R Fs Gs → IsSplitEach S Fs Gs
+pub split_weaker : (R S : SoundForest → SoundForest → Type 0) (Fs Gs : List SoundForest)
+    → ((F G : SoundForest) → IsIn F Fs → IsPiece F G → R F G → S F G) → IsSplitEach R Fs Gs → IsSplitEach S Fs Gs
 split_weaker R S Fs Gs m a = record {
   each = λ G i. (let k = a.each G i in (k.0, k.1, k.2, m k.0 G k.1 k.2 k.3));
   whole = a.whole;
 }
 
 -- what each forest of the list is by the one that was taken apart
-pub each_piece : (R : SoundForest → SoundForest → Type 0) (P : SoundForest → Type 0) (F : SoundForest) (Gs : List SoundForest) → IsSplitEach R (F ∷ []) Gs → ((G : SoundForest) → IsPiece F G → R F G → P G) → Every P Gs
-each_piece R P F Gs a m = in_every P Gs (λ G i. (let k = a.each G i in m G (subst (λ (z : SoundForest). IsPiece z G) (only_one k.0 F k.1) k.2) (subst (λ (z : SoundForest). R z G) (only_one k.0 F k.1) k.3)))
+pub each_piece : (R : SoundForest → SoundForest → Type 0) (P : SoundForest → Type 0) (F : SoundForest)
+    (Gs : List SoundForest) → IsSplitEach R (F ∷ []) Gs → ((G : SoundForest) → IsPiece F G → R F G → P G) → Every P Gs
+each_piece R P F Gs a m =
+    in_every P Gs
+    (λ G i.
+    (let k = a.each G i in m G (subst (λ (z : SoundForest). IsPiece z G) (only_one k.0 F k.1) k.2)
+    (subst (λ (z : SoundForest). R z G) (only_one k.0 F k.1) k.3)))

@@ -40,7 +40,8 @@ impl Step for Choose {
     }
 }
 
-/// Forests in which each root has one root state with one rule: one for each way to choose a rule of each root from this one on, where the roots before it have one rule. Err is want of memory.
+/// Forests in which each root has one root state with one rule: one for each way to choose a rule of each root from
+/// this one on, where the roots before it have one rule. Err is want of memory.
 pub fn choose_rules(alloc: Global, forest: Sound, from: u32) -> Mem<List<Sound>>
     requires plain { Every HasNoBoxes forest.forest.autos }
     requires tops { HaveTops from forest.forest }

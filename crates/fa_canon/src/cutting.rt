@@ -18,7 +18,8 @@ use fore_base::list::List;
 use fore_base::memory::Mem;
 use std::alloc::Global;
 
-/// Forests without knots in the trees of their first `count` roots, which are shared: each cell that was one is a root. Err is want of memory.
+/// Forests without knots in the trees of their first `count` roots, which are shared: each cell that was one is a root.
+/// Err is want of memory.
 pub fn cut_knots(alloc: Global, forest: Sound, count: u32) -> Mem<List<Sound>>
     requires { IsReady count 0 0 forest }
     ensures { IfOk result (λ made. IsSplitEach (HasCut count count 0) (forest ∷ []) made) }
@@ -112,7 +113,9 @@ impl Step for CutChild {
 
 fn cut_child(alloc: Global, forest: Sound, step: &CutChild) -> Mem<List<Sound>>
     requires { CanCut step.now.count step.now.root step.now.place step.now.width forest }
-    ensures { IfOk result (λ made. IsSplitEach (HasCutAt step.now.count step.now.root (step.now.place + 1) step.now.width) (forest ∷ []) made) }
+    ensures { IfOk result
+        (λ made. IsSplitEach (HasCutAt step.now.count step.now.root (step.now.place + 1) step.now.width)
+        (forest ∷ []) made) }
 {
     forest.known();
     ranked_components(forest.forest());
@@ -140,7 +143,9 @@ fn is_tied(forest: &Sound, root: u32, place: usize) -> bool
 fn cut_knot(alloc: Global, forest: &Sound, step: &CutChild) -> Mem<List<Sound>>
     requires can { CanCut step.now.count step.now.root step.now.place step.now.width forest.now }
     requires tied { AreTied step.now.root step.now.place forest.now }
-    ensures { IfOk result (λ made. IsSplitEach (HasCutAt step.now.count step.now.root (step.now.place + 1) step.now.width) (forest.now ∷ []) made) }
+    ensures { IfOk result
+        (λ made. IsSplitEach (HasCutAt step.now.count step.now.root (step.now.place + 1) step.now.width)
+        (forest.now ∷ []) made) }
 {
     forest.known();
     ranked_components(forest.forest());

@@ -29,7 +29,9 @@ use par_kit::gate::Gate;
 use std::alloc::Global;
 use std::thread::Threads;
 
-/// Canonical forests whose components are reduced, and whose members together are those of the forest. A canonical forest gives one, with its targets, its data and the languages of its components. The crew runs 1 to 64 jobs and has no bearing on the answer. Err is want of memory. So far only for forests without box edges.
+/// Canonical forests whose components are reduced, and whose members together are those of the forest. A canonical
+/// forest gives one, with its targets, its data and the languages of its components. The crew runs 1 to 64 jobs and has
+/// no bearing on the answer. Err is want of memory. So far only for forests without box edges.
 pub fn canonical<R: Threads + Sync, G: Gate>(
     rt: &R,
     alloc: Global,
@@ -49,7 +51,8 @@ pub fn canonical<R: Threads + Sync, G: Gate>(
     ensures face { IfOk result (λ made. Every (λ s. s.face ≡ forest.now.face) made) }
     ensures vars { IfOk result (λ made. Every (λ s. length s.forest.vars ≡ length forest.now.forest.vars) made) }
     ensures data_vars { IfOk result (λ made. Every (λ s. s.forest.data_vars ≡ forest.now.forest.data_vars) made) }
-    ensures same { IsCanonical forest.now.face forest.now.forest → IfOk result (λ made. IsSameAlone forest.now.forest (forests made)) }
+    ensures same { IsCanonical forest.now.face forest.now.forest
+        → IfOk result (λ made. IsSameAlone forest.now.forest (forests made)) }
 {
     let made = canonical_forests(rt, alloc, forest, crew)?;
     Ok(made)
@@ -66,7 +69,8 @@ fn canonical_forests<R: Threads + Sync, G: Gate>(
     requires plain { Every HasNoBoxes forest.now.forest.autos }
     requires tight { NeverLeaks forest.now.forest }
     ensures split { IfOk result (λ made. IsSplitEach IsFinished (forest.now ∷ []) made) }
-    ensures same { IsCanonical forest.now.face forest.now.forest → IfOk result (λ made. IsSameAlone forest.now.forest (forests made)) }
+    ensures same { IsCanonical forest.now.face forest.now.forest
+        → IfOk result (λ made. IsSameAlone forest.now.forest (forests made)) }
 {
     if is_canonical(alloc, forest)? {
         return reduced_alone(rt, alloc, forest, crew);

@@ -1,5 +1,6 @@
 -- References that give one signature where there is no box edge.
-use Rattle.std.proofs.Common.{◌≡◌, inl, inr, ℕ, zero, suc, ◌≤◌, ◌+◌, Bool, true, false, true≢false, cond, ◌||◌, nat_eq, nat_le, List, [], ◌∷◌, ◌++◌, map, refl, sym, ap, ap₂, ◌∙◌, arith, append-nil}
+use Rattle.std.proofs.Common.{◌≡◌, inl, inr, ℕ, zero, suc, ◌≤◌, ◌+◌, Bool, true, false, true≢false, cond, ◌||◌, nat_eq}
+use Rattle.std.proofs.Common.{nat_le, List, [], ◌∷◌, ◌++◌, map, refl, sym, ap, ap₂, ◌∙◌, arith, append-nil}
 use Rattle.std.proofs.lemmas.Bool.{eqb-true, le-leb}
 use Rattle.fa_core.specs.declared.signature.RefMark.{RefMark}
 use Rattle.fa_core.specs.Rearranged.{often}
@@ -39,9 +40,12 @@ suc_to_two (suc (suc n)) = refl
 
 -- the count of two lists is that of both counts
 pub both_to_two : (a b : ℕ) → to_two (to_two a + to_two b) ≡ to_two (a + b)
-both_to_two zero b = let e : 0 + to_two b ≡ to_two b = omega arith in let g : 0 + b ≡ b = omega arith in ap to_two e ∙ twice_to_two b ∙ ap to_two (sym g)
-both_to_two (suc zero) b = let e : 1 + to_two b ≡ suc (to_two b) = omega arith in let g : suc zero + b ≡ suc b = omega arith in ap to_two e ∙ suc_to_two b ∙ ap to_two (sym g)
-both_to_two (suc (suc a)) b = let e : 2 + to_two b ≡ suc (suc (to_two b)) = omega arith in let g : suc (suc a) + b ≡ suc (suc (a + b)) = omega arith in ap to_two e ∙ ap to_two (sym g)
+both_to_two zero b = let e : 0 + to_two b ≡ to_two b = omega arith in let g : 0 + b ≡ b = omega arith in ap to_two e
+    ∙ twice_to_two b ∙ ap to_two (sym g)
+both_to_two (suc zero) b = let e : 1 + to_two b ≡ suc (to_two b) = omega arith in
+    let g : suc zero + b ≡ suc b = omega arith in ap to_two e ∙ suc_to_two b ∙ ap to_two (sym g)
+both_to_two (suc (suc a)) b = let e : 2 + to_two b ≡ suc (suc (to_two b)) = omega arith in
+    let g : suc (suc a) + b ≡ suc (suc (a + b)) = omega arith in ap to_two e ∙ ap to_two (sym g)
 
 -- Counts of numbers that a list has.
 
@@ -49,7 +53,8 @@ has_often : (k : ℕ) (xs : List ℕ) → has k xs ≡ true → 1 ≤ often k xs
 has_often k [] h = absurd (true≢false (sym h))
 has_often k (x ∷ xs) h = here (nat_eq k x) h (has_often k xs)
   where
-    here : (b : Bool) → (b || has k xs) ≡ true → (has k xs ≡ true → 1 ≤ often k xs) → 1 ≤ cond b (often k xs + 1) (often k xs)
+    here : (b : Bool) → (b || has k xs) ≡ true → (has k xs ≡ true → 1 ≤ often k xs)
+        → 1 ≤ cond b (often k xs + 1) (often k xs)
     here true h f = omega arith
     here false h f = f h
 
@@ -57,7 +62,8 @@ no_often : (k : ℕ) (xs : List ℕ) → has k xs ≡ false → often k xs ≡ 0
 no_often k [] h = refl
 no_often k (x ∷ xs) h = here (nat_eq k x) h (no_often k xs)
   where
-    here : (b : Bool) → (b || has k xs) ≡ false → (has k xs ≡ false → often k xs ≡ 0) → cond b (often k xs + 1) (often k xs) ≡ 0
+    here : (b : Bool) → (b || has k xs) ≡ false → (has k xs ≡ false → often k xs ≡ 0)
+        → cond b (often k xs + 1) (often k xs) ≡ 0
     here true h f = absurd (true≢false h)
     here false h f = f h
 
@@ -66,7 +72,9 @@ no_often k (x ∷ xs) h = here (nat_eq k x) h (no_often k xs)
 -- references that are alike give one signature
 pub alike_marks : (xs ys : List ℕ) → AreAlike xs ys → plain_marks xs ≡ plain_marks ys
 alike_marks xs ys h =
-    map_same (plain_mark xs) (plain_mark ys) (once xs) (λ r. ap (λ (b : Bool). record { root = r; many = b; provided = []; back = false; reach = [] }) (many_to_two (often r xs) ∙ ap (λ (n : ℕ). nat_le 2 n) (h.times r) ∙ sym (many_to_two (often r ys))))
+    map_same (plain_mark xs) (plain_mark ys) (once xs)
+    (λ r. ap (λ (b : Bool). record { root = r; many = b; provided = []; back = false; reach = [] })
+    (many_to_two (often r xs) ∙ ap (λ (n : ℕ). nat_le 2 n) (h.times r) ∙ sym (many_to_two (often r ys))))
     ∙ ap (λ (z : List ℕ). map (plain_mark ys) z) h.order
 
 abbrev mark_root : RefMark → ℕ
@@ -106,14 +114,16 @@ marks_alike xs ys e = record { order = o; times = λ k. by k (has k xs) refl }
     o = sym (roots_again xs (once xs)) ∙ ap (λ (z : List RefMark). map mark_root z) e ∙ roots_again ys (once ys)
 
     m : map (λ k. nat_le 2 (often k xs)) (once xs) ≡ map (λ k. nat_le 2 (often k ys)) (once xs)
-    m = sym (many_again xs (once xs)) ∙ ap (λ (z : List RefMark). map mark_many z) e ∙ many_again ys (once ys) ∙ ap (λ (z : List ℕ). map (λ k. nat_le 2 (often k ys)) z) (sym o)
+    m = sym (many_again xs (once xs)) ∙ ap (λ (z : List RefMark). map mark_many z) e ∙ many_again ys (once ys)
+        ∙ ap (λ (z : List ℕ). map (λ k. nat_le 2 (often k ys)) z) (sym o)
 
     -- both lists have the number, or neither
     both : (k : ℕ) → has k xs ≡ has k ys
     both k = sym (has_once k xs) ∙ ap (λ (z : List ℕ). has k z) o ∙ has_once k ys
 
     by : (k : ℕ) (b : Bool) → has k xs ≡ b → to_two (often k xs) ≡ to_two (often k ys)
-    by k true h = same_to_two (often k xs) (often k ys) (has_often k xs h) (has_often k ys (sym (both k) ∙ h)) (same_at (λ k. nat_le 2 (often k xs)) (λ k. nat_le 2 (often k ys)) (once xs) k m (has_once k xs ∙ h))
+    by k true h = same_to_two (often k xs) (often k ys) (has_often k xs h) (has_often k ys (sym (both k) ∙ h))
+        (same_at (λ k. nat_le 2 (often k xs)) (λ k. nat_le 2 (often k ys)) (once xs) k m (has_once k xs ∙ h))
     by k false h = ap to_two (no_often k xs h ∙ sym (no_often k ys (sym (both k) ∙ h)))
 
 -- Laws of references that are alike.
@@ -132,11 +142,14 @@ once_both : (xs ys : List ℕ) → once (once xs ++ once ys) ≡ once (xs ++ ys)
 once_both xs ys =
     let a : once ys ++ [] ≡ once ys = append-nil (once ys) in
     let b : ys ++ [] ≡ ys = append-nil ys in
-    ap (λ (z : List ℕ). once (once xs ++ z)) (sym a) ∙ once_flat once (λ z. z) (xs ∷ ys ∷ []) (λ z. refl) [] ∙ ap (λ (z : List ℕ). once (xs ++ z)) b
+    ap (λ (z : List ℕ). once (once xs ++ z)) (sym a) ∙ once_flat once (λ z. z) (xs ∷ ys ∷ []) (λ z. refl) []
+    ∙ ap (λ (z : List ℕ). once (xs ++ z)) b
 
 -- one list after the other
 pub alike_both : (xs us ys ws : List ℕ) → AreAlike xs us → AreAlike ys ws → AreAlike (xs ++ ys) (us ++ ws)
 alike_both xs us ys ws a b = record {
   order = sym (once_both xs ys) ∙ ap₂ (λ (x y : List ℕ). once (x ++ y)) a.order b.order ∙ once_both us ws;
-  times = λ k. ap to_two (often_both k xs ys) ∙ sym (both_to_two (often k xs) (often k ys)) ∙ ap₂ (λ (x y : ℕ). to_two (x + y)) (a.times k) (b.times k) ∙ both_to_two (often k us) (often k ws) ∙ ap to_two (sym (often_both k us ws));
+  times = λ k. ap to_two (often_both k xs ys) ∙ sym (both_to_two (often k xs) (often k ys))
+      ∙ ap₂ (λ (x y : ℕ). to_two (x + y)) (a.times k) (b.times k) ∙ both_to_two (often k us) (often k ws)
+      ∙ ap to_two (sym (often_both k us ws));
 }

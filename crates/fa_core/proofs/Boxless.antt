@@ -33,7 +33,8 @@ module _ (face : Face) (none : face.boxes ≡ []) where
   plain_symbol (Ref r) h = tt
   plain_symbol (Cell s ds ss) h = plain_slots s ss h.3
 
-  plain_rules : (rs : List Rule) → Every (λ (r : Rule). SymbolFits face r.symbol) rs → Every (λ (r : Rule). IsPlain r.symbol) rs
+  plain_rules : (rs : List Rule) → Every (λ (r : Rule). SymbolFits face r.symbol) rs
+      → Every (λ (r : Rule). IsPlain r.symbol) rs
   plain_rules [] h = tt
   plain_rules (r ∷ rs) h = (plain_symbol r.symbol h.0, plain_rules rs h.1)
 

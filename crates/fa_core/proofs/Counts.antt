@@ -1,5 +1,6 @@
 -- How often a number stands in a list, and lists of numbers below a bound.
-use Rattle.std.proofs.Common.{◌≡◌, ◌⊎◌, inl, inr, ℕ, ◌≤◌, ◌+◌, Bool, true, false, true≢false, cond, nat_eq, List, [], ◌∷◌, ◌++◌, refl, sym, ap, ◌∙◌, arith}
+use Rattle.std.proofs.Common.{◌≡◌, ◌⊎◌, inl, inr, ℕ, ◌≤◌, ◌+◌, Bool, true, false, true≢false, cond, nat_eq, List, []}
+use Rattle.std.proofs.Common.{◌∷◌, ◌++◌, refl, sym, ap, ◌∙◌, arith}
 use Rattle.std.proofs.lemmas.Bool.{eqb-true, eq-eqb}
 use Rattle.fore_base.specs.Lists.{IsIn}
 use Rattle.fa_core.specs.Rearranged.{Rearranged, empty, keep, swap, chain, often}
@@ -7,7 +8,8 @@ use Rattle.fa_core.specs.References.{AllBelow, IsNever, IsOnce}
 
 -- Counts.
 
-two_swapped : (n : ℕ) (a b : Bool) → cond a (cond b (n + 1) n + 1) (cond b (n + 1) n) ≡ cond b (cond a (n + 1) n + 1) (cond a (n + 1) n)
+two_swapped : (n : ℕ) (a b : Bool) → cond a (cond b (n + 1) n + 1) (cond b (n + 1) n)
+    ≡ cond b (cond a (n + 1) n + 1) (cond a (n + 1) n)
 two_swapped n true true = refl
 two_swapped n true false = refl
 two_swapped n false true = refl
@@ -24,7 +26,8 @@ pub often_both : (k : ℕ) (xs ys : List ℕ) → often k (xs ++ ys) ≡ often k
 often_both k [] ys = omega arith
 often_both k (x ∷ xs) ys = here (nat_eq k x) (often_both k xs ys)
   where
-    here : (b : Bool) → often k (xs ++ ys) ≡ often k xs + often k ys → cond b (often k (xs ++ ys) + 1) (often k (xs ++ ys)) ≡ cond b (often k xs + 1) (often k xs) + often k ys
+    here : (b : Bool) → often k (xs ++ ys) ≡ often k xs + often k ys
+        → cond b (often k (xs ++ ys) + 1) (often k (xs ++ ys)) ≡ cond b (often k xs + 1) (often k xs) + often k ys
     here true e = omega (arith, e)
     here false e = e
 
@@ -34,7 +37,8 @@ pub never_often : (k : ℕ) (xs : List ℕ) → often k xs ≡ 0 → IsNever k x
 never_often k [] e = tt
 never_often k (x ∷ xs) e = here (nat_eq k x) refl e (never_often k xs)
   where
-    here : (b : Bool) → nat_eq k x ≡ b → cond b (often k xs + 1) (often k xs) ≡ 0 → (often k xs ≡ 0 → IsNever k xs) → (nat_eq k x ≡ false) × IsNever k xs
+    here : (b : Bool) → nat_eq k x ≡ b → cond b (often k xs + 1) (often k xs) ≡ 0 → (often k xs ≡ 0 → IsNever k xs)
+        → (nat_eq k x ≡ false) × IsNever k xs
     here true w e r = let z : often k xs + 1 ≡ 0 = e in absurd (omega (arith, z))
     here false w e r = (w, r e)
 
@@ -50,7 +54,8 @@ pub once_often : (k : ℕ) (xs : List ℕ) → often k xs ≡ 1 → IsOnce k xs
 once_often k [] e = let z : 0 ≡ 1 = e in absurd (omega (arith, z))
 once_often k (x ∷ xs) e = here (nat_eq k x) refl e (once_often k xs)
   where
-    here : (b : Bool) → nat_eq k x ≡ b → cond b (often k xs + 1) (often k xs) ≡ 1 → (often k xs ≡ 1 → IsOnce k xs) → IsOnce k (x ∷ xs)
+    here : (b : Bool) → nat_eq k x ≡ b → cond b (often k xs + 1) (often k xs) ≡ 1 → (often k xs ≡ 1 → IsOnce k xs)
+        → IsOnce k (x ∷ xs)
     here true w e r = inl (w, never_often k xs (let z : often k xs + 1 ≡ 1 = e in omega (arith, z)))
     here false w e r = inr (w, r e)
 
@@ -80,12 +85,14 @@ never_both k [] ys h l = l
 never_both k (x ∷ xs) ys h l = (h.0, never_both k xs ys h.1 l)
 
 -- a number of two lists stands in one of them, and not in the other
-pub once_cases : (k : ℕ) (xs ys : List ℕ) → IsOnce k (xs ++ ys) → (IsOnce k xs × IsNever k ys) ⊎ (IsNever k xs × IsOnce k ys)
+pub once_cases : (k : ℕ) (xs ys : List ℕ) → IsOnce k (xs ++ ys) → (IsOnce k xs × IsNever k ys)
+    ⊎ (IsNever k xs × IsOnce k ys)
 once_cases k [] ys h = inr (tt, h)
 once_cases k (x ∷ xs) ys (inl h) = inl (inl (h.0, never_left k xs ys h.1), never_right k xs ys h.1)
 once_cases k (x ∷ xs) ys (inr h) = more (once_cases k xs ys h.1)
   where
-    more : (IsOnce k xs × IsNever k ys) ⊎ (IsNever k xs × IsOnce k ys) → (IsOnce k (x ∷ xs) × IsNever k ys) ⊎ (IsNever k (x ∷ xs) × IsOnce k ys)
+    more : (IsOnce k xs × IsNever k ys) ⊎ (IsNever k xs × IsOnce k ys) → (IsOnce k (x ∷ xs) × IsNever k ys)
+        ⊎ (IsNever k (x ∷ xs) × IsOnce k ys)
     more (inl p) = inl (inr (h.0, p.0), p.1)
     more (inr p) = inr ((h.0, p.0), p.1)
 
@@ -95,7 +102,8 @@ pub often_in : (k : ℕ) (xs : List ℕ) → IsIn k xs → 1 ≤ often k xs
 often_in k [] h = absurd h
 often_in k (x ∷ xs) h = here (nat_eq k x) refl h (often_in k xs)
   where
-    here : (b : Bool) → nat_eq k x ≡ b → IsIn k (x ∷ xs) → (IsIn k xs → 1 ≤ often k xs) → 1 ≤ cond b (often k xs + 1) (often k xs)
+    here : (b : Bool) → nat_eq k x ≡ b → IsIn k (x ∷ xs) → (IsIn k xs → 1 ≤ often k xs)
+        → 1 ≤ cond b (often k xs + 1) (often k xs)
     here true e h f = omega arith
     here false e (inl w) f = absurd (true≢false (sym (eq-eqb k x w) ∙ e))
     here false e (inr w) f = f w

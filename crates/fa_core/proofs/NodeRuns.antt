@@ -11,7 +11,8 @@ use Rattle.fa_core.specs.Member.{bare, bare_parts, bare_end, slots_of, leaf_symb
 abbrev mutual
   -- the tree under the node has a run to the state
   pub NodeRun : List Rule → ℕ → Node → Type 0
-  NodeRun rules q (node c s ds ps) = (r : Rule) × IsIn r rules × (r.state ≡ q) × (r.symbol ≡ CellSymbol s ds (slots_of ps)) × PartsRun rules r.children ps
+  NodeRun rules q (node c s ds ps) = (r : Rule) × IsIn r rules × (r.state ≡ q)
+      × (r.symbol ≡ CellSymbol s ds (slots_of ps)) × PartsRun rules r.children ps
 
   pub PartsRun : List Rule → List ℕ → Parts → Type 0
   PartsRun rules [] no_parts = Unit {0}
@@ -27,10 +28,12 @@ abbrev mutual
   EndRun rules q (leaf t) = (r : Rule) × IsIn r rules × (r.state ≡ q) × (r.symbol ≡ leaf_symbol t) × (r.children ≡ [])
 
 -- a run by a rule over the parts of a rolled tree
-rolled_run : (rules : List Rule) (q : ℕ) (x : Tree-F Tree) (r : Rule) → IsIn r rules → r.state ≡ q → r.symbol ≡ x.symbol → RunEach rules r.children x.children → RunOf rules q (roll-Tree x)
+rolled_run : (rules : List Rule) (q : ℕ) (x : Tree-F Tree) (r : Rule) → IsIn r rules → r.state ≡ q → r.symbol ≡ x.symbol
+    → RunEach rules r.children x.children → RunOf rules q (roll-Tree x)
 rolled_run rules q x r i e s k = run r i e (rw (out-roll-Tree x) s) (rw (out-roll-Tree x) k)
 
-rolled_rule : (rules : List Rule) (q : ℕ) (x : Tree-F Tree) → RunOf rules q (roll-Tree x) → (r : Rule) × IsIn r rules × (r.state ≡ q) × (r.symbol ≡ x.symbol) × RunEach rules r.children x.children
+rolled_rule : (rules : List Rule) (q : ℕ) (x : Tree-F Tree) → RunOf rules q (roll-Tree x) → (r : Rule) × IsIn r rules
+    × (r.state ≡ q) × (r.symbol ≡ x.symbol) × RunEach rules r.children x.children
 rolled_rule rules q x (run r i e s k) = (r, i, e, rw (out-roll-Tree x) at s, rw (out-roll-Tree x) at k)
 
 no_more : (rules : List Rule) (qs : List ℕ) → RunEach rules qs [] → qs ≡ []
@@ -43,14 +46,17 @@ no_none rules q qs h = elim h [ ]
 no_first : (rules : List Rule) (t : Tree) (ts : List Tree) → RunEach rules [] (t ∷ ts) → ⊥
 no_first rules t ts h = elim h [ ]
 
-first_of_more : (rules : List Rule) (qs : List ℕ) (t : Tree) (ts : List Tree) → RunEach rules qs (t ∷ ts) → (q : ℕ) × (ps : List ℕ) × (qs ≡ q ∷ ps) × RunOf rules q t × RunEach rules ps ts
+first_of_more : (rules : List Rule) (qs : List ℕ) (t : Tree) (ts : List Tree) → RunEach rules qs (t ∷ ts) → (q : ℕ)
+    × (ps : List ℕ) × (qs ≡ q ∷ ps) × RunOf rules q t × RunEach rules ps ts
 first_of_more rules [] t ts h = elim h [ ]
 first_of_more rules (q ∷ ps) t ts (run_more a b) = (q, ps, refl, a, b)
 
 module _ (rules : List Rule) where
   mutual
     pub node_bare : (q : ℕ) (n : Node) → NodeRun rules q n → RunOf rules q (bare n)
-    node_bare q (node c s ds ps) h = rolled_run rules q (record { symbol = CellSymbol s ds (slots_of ps); children = bare_parts ps }) h.0 h.1 h.2 h.3 (parts_bare h.0.children ps h.4)
+    node_bare q (node c s ds ps) h =
+        rolled_run rules q (record { symbol = CellSymbol s ds (slots_of ps); children = bare_parts ps }) h.0 h.1 h.2 h.3
+        (parts_bare h.0.children ps h.4)
 
     pub parts_bare : (qs : List ℕ) (ps : Parts) → PartsRun rules qs ps → RunEach rules qs (bare_parts ps)
     parts_bare [] no_parts h = run_none
@@ -63,7 +69,8 @@ module _ (rules : List Rule) where
 
     pub end_bare : (q : ℕ) (e : End) → EndRun rules q e → RunOf rules q (bare_end e)
     end_bare q (under n) h = node_bare q n h
-    end_bare q (leaf t) h = rolled_run rules q (record { symbol = leaf_symbol t; children = [] }) h.0 h.1 h.2 h.3 (rw h.4 run_none)
+    end_bare q (leaf t) h = rolled_run rules q (record { symbol = leaf_symbol t; children = [] }) h.0 h.1 h.2 h.3
+        (rw h.4 run_none)
 
   mutual
     pub bare_node : (q : ℕ) (n : Node) → RunOf rules q (bare n) → NodeRun rules q n

@@ -14,10 +14,12 @@ module _ {X : Type 0} where
   pub out_is : (x : X) (xs us : List X) → Out x xs us → Rearranged xs (x ∷ us)
   out_is x [] us o = absurd o
   out_is x (y ∷ ys) us (inl (e, f)) = rw (e, f) (same (y ∷ ys))
-  out_is x (y ∷ ys) us (inr (vs, f, o)) = subst (λ (w : List X). Rearranged (y ∷ ys) (x ∷ w)) (sym f) (chain (keep y (out_is x ys vs o)) (swap y x vs))
+  out_is x (y ∷ ys) us (inr (vs, f, o)) =
+      subst (λ (w : List X). Rearranged (y ∷ ys) (x ∷ w)) (sym f) (chain (keep y (out_is x ys vs o)) (swap y x vs))
 
   -- where an item is taken out of a list, it is taken out of the rearranged list
-  pub carry : (x : X) {xs ys : List X} (us : List X) → Rearranged xs ys → Out x xs us → (vs : List X) × Out x ys vs × Rearranged us vs
+  pub carry : (x : X) {xs ys : List X} (us : List X) → Rearranged xs ys → Out x xs us → (vs : List X) × Out x ys vs
+      × Rearranged us vs
   carry x us empty o = absurd o
   carry x us (keep y {ys = ys} r) (inl (e, f)) = (ys, inl (e, refl), subst (λ (w : List X). Rearranged w ys) (sym f) r)
   carry x us (keep y r) (inr (vs, f, o)) =
@@ -25,7 +27,11 @@ module _ {X : Type 0} where
       (y ∷ k.0, inr (k.0, refl, k.1), subst (λ (w : List X). Rearranged w (y ∷ k.0)) (sym f) (keep y k.2))
   carry x us (swap a b l) (inl (e, f)) = (b ∷ l, inr (l, refl, inl (e, refl)), equal f)
   carry x us (swap a b l) (inr (vs, f, inl (e, g))) = (a ∷ l, inl (e, refl), equal (f ∙ ap (λ (w : List X). a ∷ w) g))
-  carry x us (swap a b l) (inr (vs, f, inr (ws, g, o))) = (b ∷ (a ∷ ws), inr (a ∷ ws, refl, inr (ws, refl, o)), subst (λ (w : List X). Rearranged w (b ∷ (a ∷ ws))) (sym (f ∙ ap (λ (w : List X). a ∷ w) g)) (swap a b ws))
+  carry x us (swap a b l) (inr (vs, f, inr (ws, g, o))) = (
+    b ∷ (a ∷ ws),
+    inr (a ∷ ws, refl, inr (ws, refl, o)),
+    subst (λ (w : List X). Rearranged w (b ∷ (a ∷ ws))) (sym (f ∙ ap (λ (w : List X). a ∷ w) g)) (swap a b ws),
+  )
   carry x us (chain p q) o =
       let k = carry x us p o in
       let l = carry x k.0 q k.1 in
@@ -35,9 +41,12 @@ module _ {X : Type 0} where
   pub two_out : (x : X) (xs us vs : List X) → Out x xs us → Out x xs vs → Rearranged us vs
   two_out x [] us vs o p = absurd o
   two_out x (y ∷ ys) us vs (inl (e, f)) (inl (g, h)) = equal (f ∙ sym h)
-  two_out x (y ∷ ys) us vs (inl (e, f)) (inr (ws, g, p)) = chain (equal f) (chain (out_is x ys ws p) (equal (ap (λ (z : X). z ∷ ws) e ∙ sym g)))
-  two_out x (y ∷ ys) us vs (inr (ws, g, p)) (inl (e, f)) = back (chain (equal f) (chain (out_is x ys ws p) (equal (ap (λ (z : X). z ∷ ws) e ∙ sym g))))
-  two_out x (y ∷ ys) us vs (inr (ws, g, p)) (inr (zs, h, q)) = chain (equal g) (chain (keep y (two_out x ys ws zs p q)) (equal (sym h)))
+  two_out x (y ∷ ys) us vs (inl (e, f)) (inr (ws, g, p)) =
+      chain (equal f) (chain (out_is x ys ws p) (equal (ap (λ (z : X). z ∷ ws) e ∙ sym g)))
+  two_out x (y ∷ ys) us vs (inr (ws, g, p)) (inl (e, f)) =
+      back (chain (equal f) (chain (out_is x ys ws p) (equal (ap (λ (z : X). z ∷ ws) e ∙ sym g))))
+  two_out x (y ∷ ys) us vs (inr (ws, g, p)) (inr (zs, h, q)) =
+      chain (equal g) (chain (keep y (two_out x ys ws zs p q)) (equal (sym h)))
 
   -- one item less on both sides
   pub cancel : (x : X) (xs ys : List X) → Rearranged (x ∷ xs) (x ∷ ys) → Rearranged xs ys

@@ -6,7 +6,8 @@ use Rattle.ta_core.specs.Auto.{Automaton}
 use Rattle.ta_core.specs.declared.auto.Rule.{Rule}
 use Rattle.fa_core.specs.declared.boxes.BoxDef.{BoxDef}
 use Rattle.fa_core.specs.Boxless.{IsField, IsPlain, HasNoBoxes}
-use Rattle.fa_core.specs.Dressed.{Node, Parts, End, Nodes, node, no_parts, field, link, hook, under, leaf, no_nodes, more}
+use Rattle.fa_core.specs.Dressed.{Node, Parts, End, Nodes, node, no_parts, field, link, hook, under, leaf, no_nodes}
+use Rattle.fa_core.specs.Dressed.{more}
 use Rattle.fa_core.specs.Member.{TreesOf, InsidesOf, InsidesOfParts, InsidesOfEnd, slots_of}
 use Rattle.fa_core.proofs.NodeRuns.{NodeRun, PartsRun, EndRun, bare_node}
 
@@ -36,7 +37,9 @@ NoEdgesIn (more n ns) = NoEdges n × NoEdgesIn ns
 module _ (rules : List Rule) (plain : Every (λ (r : Rule). IsPlain r.symbol) rules) where
   mutual
     pub run_no_edges : (q : ℕ) (n : Node) → NodeRun rules q n → NoEdges n
-    run_no_edges q (node c s ds ps) h = parts_no_edges h.0.children ps (subst IsPlain h.3 (every_in (λ (r : Rule). IsPlain r.symbol) rules h.0 plain h.1)) h.4
+    run_no_edges q (node c s ds ps) h =
+        parts_no_edges h.0.children ps
+        (subst IsPlain h.3 (every_in (λ (r : Rule). IsPlain r.symbol) rules h.0 plain h.1)) h.4
 
     pub parts_no_edges : (qs : List ℕ) (ps : Parts) → Every IsField (slots_of ps) → PartsRun rules qs ps → NoEdgesOf ps
     parts_no_edges qs no_parts f h = tt
@@ -50,11 +53,13 @@ module _ (rules : List Rule) (plain : Every (λ (r : Rule). IsPlain r.symbol) ru
     end_no_edges q (leaf t) h = tt
 
 -- no dressed forest of a forest without box edges has one
-pub trees_no_edges : (T : List BoxDef) (autos : List Automaton) (d : Nodes) → Every HasNoBoxes autos → TreesOf T autos d → NoEdgesIn d
+pub trees_no_edges : (T : List BoxDef) (autos : List Automaton) (d : Nodes) → Every HasNoBoxes autos → TreesOf T autos d
+    → NoEdgesIn d
 trees_no_edges T [] no_nodes b h = tt
 trees_no_edges T [] (more n ns) b h = absurd h
 trees_no_edges T (a ∷ autos) no_nodes b h = absurd h
-trees_no_edges T (a ∷ autos) (more n ns) b h = (run_no_edges a.rules b.0 h.0.0 n (bare_node a.rules h.0.0 n h.0.2), trees_no_edges T autos ns b.1 h.2)
+trees_no_edges T (a ∷ autos) (more n ns) b h =
+    (run_no_edges a.rules b.0 h.0.0 n (bare_node a.rules h.0.0 n h.0.2), trees_no_edges T autos ns b.1 h.2)
 
 -- a tree without box edges has no insides, so that each is of its box
 module _ (T : List BoxDef) where

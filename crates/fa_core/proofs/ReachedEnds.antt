@@ -45,4 +45,5 @@ in_named n (Cell m ∷ vs) (inr i) = inr (in_named n vs i)
 pub reached_ends : (from : List Value) (facts : List Fact) (n : ℕ) → Reaches from facts n
     → IsIn n (cells_named from) ⊎ IsIn n (cells_named (map fact_value facts))
 reached_ends from facts n (named i) = inl (in_named n from i)
-reached_ends from facts n (through m f r i) = inr (in_named n (map fact_value facts) (in_map fact_value (Points m f (Cell n)) facts i))
+reached_ends from facts n (through m f r i) =
+    inr (in_named n (map fact_value facts) (in_map fact_value (Points m f (Cell n)) facts i))

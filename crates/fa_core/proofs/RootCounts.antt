@@ -13,6 +13,7 @@ use Rattle.fa_core.proofs.WaysOf.{tree_roots}
 pub references_are : (d : Nodes) (r : ℕ) → references (bares d) r ≡ often r (all_refs d)
 references_are no_nodes r = refl
 references_are (more n ns) r =
-    let a : length (to_root r (ways (bare n))) ≡ often r (refs n) = to_often r (ways (bare n)) ∙ ap (often r) (tree_roots n) in
+    let a : length (to_root r (ways (bare n))) ≡ often r (refs n) = to_often r (ways (bare n))
+    ∙ ap (often r) (tree_roots n) in
     length-append (to_root r (ways (bare n))) (flat_map (λ t. to_root r (ways t)) (bares ns))
     ∙ ap₂ (λ (x y : ℕ). x + y) a (references_are ns r) ∙ sym (often_both r (refs n) (all_refs ns))

@@ -1,5 +1,6 @@
 -- Worked values of the definitions: orders, facts, members, signatures, filled cells, kinds of roots, walks, parts.
-use Rattle.std.proofs.Common.{◌≡◌, inl, inr, ℕ, zero, suc, Bool, true, false, true≢false, List, [], ◌∷◌, map, refl, sym, ap, ◌∙◌, length, Option, Some, None, arith}
+use Rattle.std.proofs.Common.{◌≡◌, inl, inr, ℕ, zero, suc, Bool, true, false, true≢false, List, [], ◌∷◌, map, refl, sym}
+use Rattle.std.proofs.Common.{ap, ◌∙◌, length, Option, Some, None, arith}
 use Rattle.std.proofs.lemmas.Option.{none-some}
 use Rattle.fore_base.specs.declared.shape.FieldDef.{FieldDef}
 use Rattle.fore_base.specs.declared.shape.FieldKind.TheVariants.{Pointer, Datum as DatumField}
@@ -7,7 +8,8 @@ use Rattle.fore_base.specs.declared.shape.Shape.{Shape}
 use Rattle.fore_base.specs.declared.store.CellRec.{CellRec}
 use Rattle.fore_base.specs.declared.store.Datum.TheVariants.{Undefined, Known}
 use Rattle.fore_base.specs.declared.store.Value.{Value}
-use Rattle.fore_base.specs.declared.store.Value.TheVariants.{Null as NullValue, Dangling as DanglingValue, Cell as CellValue}
+use Rattle.fore_base.specs.declared.store.Value.TheVariants.{Null as NullValue, Dangling as DanglingValue}
+use Rattle.fore_base.specs.declared.store.Value.TheVariants.{Cell as CellValue}
 use Rattle.ta_core.specs.declared.symbol.Slot.{Slot}
 use Rattle.ta_core.specs.declared.symbol.Slot.TheVariants.{Field, Link, Hook}
 use Rattle.ta_core.specs.declared.symbol.Symbol.{Symbol}
@@ -18,7 +20,8 @@ use Rattle.fa_core.specs.declared.faces.Face.{Face}
 use Rattle.fa_core.specs.declared.forest.Target.TheVariants.{Null as NullTarget, Dangling as DanglingTarget, At}
 use Rattle.fa_core.specs.declared.signature.RefMark.{RefMark}
 use Rattle.fa_core.specs.Canonical.{IsShared, Walks, ended, old, new, again, var_roots}
-use Rattle.fa_core.specs.Dressed.{Nodes, node, no_parts, field, link, hook, under, leaf, no_nodes, more, Head, Points, facts, cells, all_refs}
+use Rattle.fa_core.specs.Dressed.{Nodes, node, no_parts, field, link, hook, under, leaf, no_nodes, more, Head, Points}
+use Rattle.fa_core.specs.Dressed.{facts, cells, all_refs}
 use Rattle.fa_core.specs.Filled.{Spot, IsFilledSpot, SymbolFits, fields_of}
 use Rattle.fa_core.specs.Folding.{position, number_without, taken_at, Placing, all_placed, is_placed, place_now}
 use Rattle.fa_core.specs.Member.{HasItsFields, cell_facts}
@@ -53,7 +56,8 @@ ring_facts = refl
 
 -- the same two cells as two trees: other trees, the same cells
 abbrev parted : Nodes
-parted = more (node 7 0 [] (field 0 (leaf (At 1)) no_parts)) (more (node 4 0 [] (field 0 (leaf (At 0)) no_parts)) no_nodes)
+parted = more (node 7 0 [] (field 0 (leaf (At 1)) no_parts))
+    (more (node 4 0 [] (field 0 (leaf (At 0)) no_parts)) no_nodes)
 
 same_cells : cells parted ≡ cells ring
 same_cells = refl
@@ -63,26 +67,42 @@ parted_refs = refl
 
 -- an edge whose inside has one field at each port: the ports are the cells outside, and have no heads
 abbrev edge : Nodes
-edge = more (node 7 0 [] (link 0 (more (node 1 0 [] (field 0 (leaf (At 1)) no_parts)) (more (node 2 0 [] (field 1 (leaf (At 0)) no_parts)) no_nodes)) (leaf (At 1)) no_parts)) (more (node 4 0 [] no_parts) no_nodes)
+edge =
+    more
+    (node 7 0 []
+    (link 0
+    (more (node 1 0 [] (field 0 (leaf (At 1)) no_parts)) (more (node 2 0 [] (field 1 (leaf (At 0)) no_parts)) no_nodes))
+    (leaf (At 1)) no_parts)) (more (node 4 0 [] no_parts) no_nodes)
 
 edge_facts : facts edge ≡ Head 7 0 [] ∷ Points 7 0 (CellValue 4) ∷ Points 4 1 (CellValue 7) ∷ Head 4 0 [] ∷ []
 edge_facts = refl
 
 -- an edge that ends in Dangling: its output has no facts, and a reference to the output is Dangling
 abbrev open_edge : Nodes
-open_edge = more (node 7 0 [] (link 0 (more (node 1 0 [] (field 0 (leaf (At 1)) no_parts)) (more (node 2 0 [] (field 1 (leaf (At 0)) no_parts)) no_nodes)) (leaf DanglingTarget) no_parts)) no_nodes
+open_edge =
+    more
+    (node 7 0 []
+    (link 0
+    (more (node 1 0 [] (field 0 (leaf (At 1)) no_parts)) (more (node 2 0 [] (field 1 (leaf (At 0)) no_parts)) no_nodes))
+    (leaf DanglingTarget) no_parts)) no_nodes
 
 open_edge_facts : facts open_edge ≡ Head 7 0 [] ∷ Points 7 0 DanglingValue ∷ []
 open_edge_facts = refl
 
 -- a box edge without an end, with an inner root: a ring of two cells
 abbrev hooked : Nodes
-hooked = more (node 7 0 [] (hook 1 (more (node 1 0 [] (field 0 (leaf (At 1)) no_parts)) (more (node 4 0 [] (field 0 (leaf (At 0)) no_parts)) no_nodes)) no_parts)) no_nodes
+hooked =
+    more
+    (node 7 0 []
+    (hook 1
+    (more (node 1 0 [] (field 0 (leaf (At 1)) no_parts)) (more (node 4 0 [] (field 0 (leaf (At 0)) no_parts)) no_nodes))
+    no_parts)) no_nodes
 
 hooked_facts : facts hooked ≡ Head 7 0 [] ∷ Points 7 0 (CellValue 4) ∷ Head 4 0 [] ∷ Points 4 0 (CellValue 7) ∷ []
 hooked_facts = refl
 
--- Structs: the first has pointer field 0 to itself, a data field, and pointer field 1 to itself; the second one pointer to itself.
+-- Structs: the first has pointer field 0 to itself, a data field, and pointer field 1 to itself; the second one pointer
+-- to itself.
 
 abbrev pointer_to : ℕ → FieldDef
 pointer_to s = record { name = []; kind = Pointer s }
@@ -91,7 +111,8 @@ abbrev datum_field : FieldDef
 datum_field = record { name = []; kind = DatumField }
 
 abbrev structs : List Shape
-structs = record { name = []; fields = pointer_to 0 ∷ datum_field ∷ pointer_to 0 ∷ [] } ∷ record { name = []; fields = pointer_to 1 ∷ [] } ∷ []
+structs = record { name = []; fields = pointer_to 0 ∷ datum_field ∷ pointer_to 0 ∷ [] }
+    ∷ record { name = []; fields = pointer_to 1 ∷ [] } ∷ []
 
 two_fields : fields_of structs 0 ≡ 0 ∷ 1 ∷ []
 two_fields = refl
@@ -101,7 +122,8 @@ two_fields = refl
 abbrev with_fields : List Value → CellRec
 with_fields vs = record { number = 7; shape = 0; datums = Known 3 ∷ []; fields = vs }
 
-cell_has_facts : cell_facts (with_fields (CellValue 4 ∷ NullValue ∷ [])) ≡ Head 7 0 (Known 3 ∷ []) ∷ Points 7 0 (CellValue 4) ∷ Points 7 1 NullValue ∷ []
+cell_has_facts : cell_facts (with_fields (CellValue 4 ∷ NullValue ∷ [])) ≡ Head 7 0 (Known 3 ∷ [])
+    ∷ Points 7 0 (CellValue 4) ∷ Points 7 1 NullValue ∷ []
 cell_has_facts = refl
 
 has_its_fields : HasItsFields structs (with_fields (CellValue 4 ∷ NullValue ∷ []))
@@ -113,7 +135,9 @@ has_one_more h = omega (arith, h)
 -- Filled cells. Box 0 leads from field 0 of the first struct to its field 1, box 1 has no output, box 2 covers nothing.
 
 abbrev boxes : List BoxFace
-boxes = record { input = 0; output = Some 0; gives_in = 0 ∷ []; gives_out = 1 ∷ []; back = true } ∷ record { input = 0; output = None; gives_in = 0 ∷ []; gives_out = []; back = false } ∷ record { input = 0; output = Some 0; gives_in = []; gives_out = []; back = false } ∷ []
+boxes = record { input = 0; output = Some 0; gives_in = 0 ∷ []; gives_out = 1 ∷ []; back = true }
+    ∷ record { input = 0; output = None; gives_in = 0 ∷ []; gives_out = []; back = false }
+    ∷ record { input = 0; output = Some 0; gives_in = []; gives_out = []; back = false } ∷ []
 
 abbrev face : Face
 face = record { shapes = record { structs = structs }; boxes = boxes }
@@ -126,14 +150,25 @@ abbrev spot : ℕ → List Slot → List Symbol → List ℕ → Spot
 spot s ss ys fs = record { shape = s; slots = ss; ends = ys; given = fs }
 
 filled_fields : IsFilledSpot face tops (spot 0 (Field 0 ∷ Field 1 ∷ []) (Ref 0 ∷ Null ∷ []) [])
-filled_fields = record { ends = ((0, refl, refl), ((0, refl, tt), tt)); order = ((tt, (tt, tt)), (omega arith, tt)); once = keep 0 (keep 1 empty) }
+filled_fields =
+    record {
+      ends = ((0, refl, refl), ((0, refl, tt), tt));
+      order = ((tt, (tt, tt)), (omega arith, tt));
+      once = keep 0 (keep 1 empty);
+    }
 
 -- an edge covers field 0, and the edge above gives field 1
 filled_edge : IsFilledSpot face tops (spot 0 (Link 0 ∷ []) (Ref 0 ∷ []) (1 ∷ []))
-filled_edge = record { ends = ((_, 0, refl, refl, refl, inl refl), tt); order = ((tt, tt), tt); once = keep 0 (keep 1 empty) }
+filled_edge =
+    record { ends = ((_, 0, refl, refl, refl, inl refl), tt); order = ((tt, tt), tt); once = keep 0 (keep 1 empty) }
 
 filled_hook : IsFilledSpot face tops (spot 0 (Hook 1 ∷ Field 1 ∷ []) (Uninit ∷ []) [])
-filled_hook = record { ends = ((_, refl, refl, refl), ((0, refl, tt), tt)); order = ((tt, (tt, tt)), (omega arith, tt)); once = keep 0 (keep 1 empty) }
+filled_hook =
+    record {
+      ends = ((_, refl, refl, refl), ((0, refl, tt), tt));
+      order = ((tt, (tt, tt)), (omega arith, tt));
+      once = keep 0 (keep 1 empty);
+    }
 
 rearranged_long : {xs ys : List ℕ} → Rearranged xs ys → length xs ≡ length ys
 rearranged_long empty = refl
@@ -158,7 +193,8 @@ said None = 9
 said (Some n) = n
 
 names_another_struct : IsFilledSpot face tops (spot 0 (Field 0 ∷ Field 1 ∷ []) (Ref 1 ∷ Null ∷ []) []) → ⊥
-names_another_struct h = let e : 0 ≡ h.ends.0.0 = ap said h.ends.0.1 in let f : 1 ≡ h.ends.0.0 = ap said h.ends.0.2 in omega (arith, e, f)
+names_another_struct h = let e : 0 ≡ h.ends.0.0 = ap said h.ends.0.1 in let f : 1 ≡ h.ends.0.0 = ap said h.ends.0.2 in
+    omega (arith, e, f)
 
 names_no_root : IsFilledSpot face tops (spot 0 (Field 0 ∷ Field 1 ∷ []) (Ref 2 ∷ Null ∷ []) []) → ⊥
 names_no_root h = none-some h.ends.0.0 h.ends.0.2
@@ -174,7 +210,8 @@ ends_in_dangling h = elim h.ends.0.5 [ inl n ↦ n | inr d ↦ gives d.1 ]
     sizes x = length x.gives_out
 
     gives : h.ends.0.0.gives_out ≡ [] → ⊥
-    gives e = let a : length h.ends.0.0.gives_out ≡ 0 = ap (λ (xs : List ℕ). length xs) e in let b : 1 ≡ sizes h.ends.0.0 = ap (λ (o : Option BoxFace). sizes_in o) h.ends.0.2 in omega (arith, a, b)
+    gives e = let a : length h.ends.0.0.gives_out ≡ 0 = ap (λ (xs : List ℕ). length xs) e in
+        let b : 1 ≡ sizes h.ends.0.0 = ap (λ (o : Option BoxFace). sizes_in o) h.ends.0.2 in omega (arith, a, b)
       where
         sizes_in : Option BoxFace → ℕ
         sizes_in None = 9
@@ -227,11 +264,13 @@ one_edge : signature boxes (cell (Link 0 ∷ []) (ref 2 ∷ [])) ≡ marked 2 fa
 one_edge = simp opened
 
 -- two such edges, one below the other, and a field beside them: the highest cell is the top
-two_edges : signature boxes (cell (Field 2 ∷ Link 0 ∷ []) (ref 3 ∷ cell (Link 0 ∷ []) (ref 2 ∷ []) ∷ [])) ≡ marked 3 false [] false [] ∷ marked 2 false (1 ∷ []) true (3 ∷ 2 ∷ []) ∷ []
+two_edges : signature boxes (cell (Field 2 ∷ Link 0 ∷ []) (ref 3 ∷ cell (Link 0 ∷ []) (ref 2 ∷ []) ∷ []))
+    ≡ marked 3 false [] false [] ∷ marked 2 false (1 ∷ []) true (3 ∷ 2 ∷ []) ∷ []
 two_edges = simp opened
 
 -- a field above the edge: the highest cell is the one below it
-below_field : signature boxes (cell (Field 2 ∷ Field 0 ∷ []) (ref 3 ∷ cell (Link 0 ∷ []) (ref 2 ∷ []) ∷ [])) ≡ marked 3 false [] false [] ∷ marked 2 false (1 ∷ []) false (2 ∷ []) ∷ []
+below_field : signature boxes (cell (Field 2 ∷ Field 0 ∷ []) (ref 3 ∷ cell (Link 0 ∷ []) (ref 2 ∷ []) ∷ []))
+    ≡ marked 3 false [] false [] ∷ marked 2 false (1 ∷ []) false (2 ∷ []) ∷ []
 below_field = simp opened
 
 -- two references to one root, one of them by an edge
@@ -239,14 +278,17 @@ twice : signature boxes (cell (Link 0 ∷ Field 2 ∷ []) (ref 2 ∷ ref 2 ∷ [
 twice = simp opened
 
 -- an edge of a box that does not lead back
-not_back : signature boxes (cell (Link 2 ∷ Field 1 ∷ []) (ref 2 ∷ ref 0 ∷ [])) ≡ marked 2 false [] false [] ∷ marked 0 false [] false [] ∷ []
+not_back : signature boxes (cell (Link 2 ∷ Field 1 ∷ []) (ref 2 ∷ ref 0 ∷ [])) ≡ marked 2 false [] false []
+    ∷ marked 0 false [] false [] ∷ []
 not_back = simp opened
 
 -- the provided fields stand in rising order, whichever edge comes first
 abbrev givers : List BoxFace
-givers = record { input = 0; output = Some 0; gives_in = 0 ∷ []; gives_out = 4 ∷ []; back = false } ∷ record { input = 0; output = Some 0; gives_in = 1 ∷ []; gives_out = 3 ∷ []; back = false } ∷ []
+givers = record { input = 0; output = Some 0; gives_in = 0 ∷ []; gives_out = 4 ∷ []; back = false }
+    ∷ record { input = 0; output = Some 0; gives_in = 1 ∷ []; gives_out = 3 ∷ []; back = false } ∷ []
 
-in_rising_order : signature givers (cell (Link 0 ∷ Link 1 ∷ []) (ref 2 ∷ ref 2 ∷ [])) ≡ marked 2 true (3 ∷ 4 ∷ []) false [] ∷ []
+in_rising_order : signature givers (cell (Link 0 ∷ Link 1 ∷ []) (ref 2 ∷ ref 2 ∷ []))
+    ≡ marked 2 true (3 ∷ 4 ∷ []) false [] ∷ []
 in_rising_order = simp opened
 
 -- Roots and walks.
@@ -291,7 +333,16 @@ part_refers (suc (suc zero)) = 0 ∷ []
 part_refers (suc (suc (suc k))) = 2 ∷ 1 ∷ []
 
 inner_roots : Placing part_refers (1 ∷ 3 ∷ []) (0 ∷ 1 ∷ []) (0 ∷ 1 ∷ 3 ∷ 2 ∷ [])
-inner_roots = is_placed (inr (inl refl)) (place_now (λ i. elim i [ inl e ↦ omega (arith, e) | inr j ↦ elim j [ inl e ↦ omega (arith, e) | inr x ↦ x ] ]) (place_now (λ i. elim i [ inl e ↦ omega (arith, e) | inr j ↦ elim j [ inl e ↦ omega (arith, e) | inr k ↦ elim k [ inl e ↦ omega (arith, e) | inr x ↦ x ] ] ]) (is_placed (inl refl) (is_placed (inr (inl refl)) all_placed))))
+inner_roots = is_placed (inr (inl refl))
+    (place_now (λ i. elim i [ inl e ↦ omega (arith, e) | inr j ↦ elim j [ inl e ↦ omega (arith, e) | inr x ↦ x ] ])
+    (place_now
+    (λ i.
+    elim i [
+      | inl e ↦ omega (arith, e)
+      | inr j ↦ elim j
+          [ inl e ↦ omega (arith, e) | inr k ↦ elim k [ inl e ↦ omega (arith, e) | inr x ↦ x ] ]
+    ])
+    (is_placed (inl refl) (is_placed (inr (inl refl)) all_placed))))
 
 -- a root that is both ports has the first number
 both_ports : position (4 ∷ 4 ∷ 5 ∷ []) 4 ≡ 0

@@ -24,7 +24,8 @@ use Rattle.fa_core.specs.Boxes.{PortRulesFit, IsChild, CoverSome, IsPortFilled, 
 use Rattle.fa_core.specs.Boxes.{OutFits, IsReached, LeadsNowhere, SoundBox, AreSoundOver, IsBoxTable}
 use Rattle.fa_core.specs.Canonical.{RefersTo}
 use Rattle.fa_core.specs.Choices.{bares}
-use Rattle.fa_core.specs.Dressed.{Fact, Head, Points, Node, Nodes, node, no_parts, field, link, under, leaf, no_nodes, more}
+use Rattle.fa_core.specs.Dressed.{Fact, Head, Points, Node, Nodes, node, no_parts, field, link, under, leaf, no_nodes}
+use Rattle.fa_core.specs.Dressed.{more}
 use Rattle.fa_core.specs.Dressed.{inside_facts}
 use Rattle.fa_core.specs.Filled.{Choice, IsFilledSpot, HasField, spots, given_at, RulesFit}
 use Rattle.fa_core.specs.Folding.{covered_fields}
@@ -36,10 +37,12 @@ use Rattle.fa_core.proofs.GivenTips.{given_tips}
 use Rattle.fa_core.proofs.NodeRuns.{NodeRun, node_bare}
 use Rattle.fa_core.proofs.NodeSpots.{spots_are}
 use Rattle.fa_core.proofs.ReachedEnds.{reached_ends, cell_of_value}
-use Rattle.fa_core.proofs.RowsBoxes.{port, port_node, port_runs, port_single, port_rules, single_covers, box_face, dll_box}
+use Rattle.fa_core.proofs.RowsBoxes.{port, port_node, port_runs, port_single, port_rules, single_covers, box_face}
+use Rattle.fa_core.proofs.RowsBoxes.{dll_box}
 use Rattle.fa_core.proofs.RowsBoxes.{dll_sound, inside_is}
 use Rattle.fa_core.proofs.RowsCanonical.{rule}
-use Rattle.fa_core.proofs.SameTrees.{NodesOf, one_more, no_more, node_of, field_of, link_of, none_of, under_of, leaf_of, single_nodes}
+use Rattle.fa_core.proofs.SameTrees.{NodesOf, one_more, no_more, node_of, field_of, link_of, none_of, under_of, leaf_of}
+use Rattle.fa_core.proofs.SameTrees.{single_nodes}
 use Rattle.fa_core.proofs.SeenCells.{structs_tops}
 use Rattle.fa_core.proofs.SingleTrees.{IsSingle, same_tree, single_tree, single_choice}
 use Rattle.fa_core.proofs.WaysOf.{tree_roots}
@@ -92,7 +95,16 @@ chain_nodes = more (head_node 0 1 no_nodes) (more (port_node 2 1 2) (more (port_
 
 head_runs : InLanguage head_port (bare (head_node 0 1 no_nodes))
 head_runs =
-    let low : NodeRun head_port.rules 1 (low_node 1 no_nodes) = (low_rule, inr (inl refl), refl, refl, ((rule 2 (Ref 2) [], inr (inr (inl refl)), refl, refl, refl), ((rule 3 Null [], inr (inr (inr (inl refl))), refl, refl, refl), tt))) in
+    let low : NodeRun head_port.rules 1 (low_node 1 no_nodes) = (
+      low_rule,
+      inr (inl refl),
+      refl,
+      refl,
+      (
+        (rule 2 (Ref 2) [], inr (inr (inl refl)), refl, refl, refl),
+        ((rule 3 Null [], inr (inr (inr (inl refl))), refl, refl, refl), tt),
+      ),
+    ) in
     (0, inl refl, node_bare head_port.rules 0 (head_node 0 1 no_nodes) (top_rule, inl refl, refl, refl, (low, tt)))
 
 head_single : IsSingle head_port
@@ -107,7 +119,8 @@ chain_choice = (head_runs, (port_runs 2 1 2, (port_runs 3 0 1, tt)))
 -- Rules: no state stands at the top of the head's tree and below.
 
 no_head_child : IsChild head_port 0 → ⊥
-no_head_child (o, inl e, j) = elim (subst (λ (x : Rule). IsIn 0 x.children) e j) [ inl i ↦ omega (arith, i) | inr x ↦ x ]
+no_head_child (o, inl e, j) =
+    elim (subst (λ (x : Rule). IsIn 0 x.children) e j) [ inl i ↦ omega (arith, i) | inr x ↦ x ]
 no_head_child (o, inr (inl e), j) = elim (subst (λ (x : Rule). IsIn 0 x.children) e j) [
   | inl i ↦ omega (arith, i)
   | inr k ↦ elim k [ inl i ↦ omega (arith, i) | inr x ↦ x ]
@@ -149,7 +162,8 @@ module _ (others : List BoxFace) (defs : List BoxDef) where
   abbrev tops : List ℕ
   tops = 1 ∷ 0 ∷ 0 ∷ []
 
-  head_filled : IsPortFilled face tops (0 ∷ []) (spots bs (bare (head_node 0 1 no_nodes)) (given_at bs (bares chain_nodes) 0))
+  head_filled : IsPortFilled face tops (0 ∷ [])
+      (spots bs (bare (head_node 0 1 no_nodes)) (given_at bs (bares chain_nodes) 0))
   head_filled =
       let e = spots_are bs (head_node 0 1 no_nodes) (given_at bs (bares chain_nodes) 0) in
       let g = given_tips bs 0 chain_nodes in
@@ -168,7 +182,8 @@ module _ (others : List BoxFace) (defs : List BoxDef) where
         ),
       )
 
-  output_filled : IsPortFilled face tops (1 ∷ []) (spots bs (bare (port_node 2 1 2)) (given_at bs (bares chain_nodes) 1))
+  output_filled : IsPortFilled face tops (1 ∷ [])
+      (spots bs (bare (port_node 2 1 2)) (given_at bs (bares chain_nodes) 1))
   output_filled =
       let e = spots_are bs (port_node 2 1 2) (given_at bs (bares chain_nodes) 1) in
       let g = given_tips bs 1 chain_nodes in
@@ -180,12 +195,21 @@ module _ (others : List BoxFace) (defs : List BoxDef) where
       let e = spots_are bs (port_node 3 0 1) (given_at bs (bares chain_nodes) 2) in
       let g = given_tips bs 2 chain_nodes in
       let l = leaf_top (At 1) in
-      rw e (record { ends = ((0, refl, rw l refl), tt); order = ((tt, tt), tt); once = rw g (keep 0 (keep 1 empty)) }, tt)
+      rw e (
+        record { ends = ((0, refl, rw l refl), tt); order = ((tt, tt), tt); once = rw g (keep 0 (keep 1 empty)) },
+        tt,
+      )
 
   chain_refers : (t : Tree) (k : ℕ) → IsIn t (bares chain_nodes) → RefersTo t k → k < 3
-  chain_refers t k (inl e) h = elim (rw (tree_roots (head_node 0 1 no_nodes)) at (subst (λ (x : Tree). RefersTo x k) e h)) [ inl i ↦ omega (arith, i) | inr x ↦ absurd x ]
-  chain_refers t k (inr (inl e)) h = elim (rw (tree_roots (port_node 2 1 2)) at (subst (λ (x : Tree). RefersTo x k) e h)) [ inl i ↦ omega (arith, i) | inr x ↦ absurd x ]
-  chain_refers t k (inr (inr (inl e))) h = elim (rw (tree_roots (port_node 3 0 1)) at (subst (λ (x : Tree). RefersTo x k) e h)) [ inl i ↦ omega (arith, i) | inr x ↦ absurd x ]
+  chain_refers t k (inl e) h =
+      elim (rw (tree_roots (head_node 0 1 no_nodes)) at (subst (λ (x : Tree). RefersTo x k) e h))
+      [ inl i ↦ omega (arith, i) | inr x ↦ absurd x ]
+  chain_refers t k (inr (inl e)) h =
+      elim (rw (tree_roots (port_node 2 1 2)) at (subst (λ (x : Tree). RefersTo x k) e h))
+      [ inl i ↦ omega (arith, i) | inr x ↦ absurd x ]
+  chain_refers t k (inr (inr (inl e))) h =
+      elim (rw (tree_roots (port_node 3 0 1)) at (subst (λ (x : Tree). RefersTo x k) e h))
+      [ inl i ↦ omega (arith, i) | inr x ↦ absurd x ]
   chain_refers t k (inr (inr (inr e))) h = absurd e
 
   chain_fits : InsideFits face chain_face (bares chain_nodes)
@@ -205,7 +229,8 @@ module _ (others : List BoxFace) (defs : List BoxDef) where
   -- l is the cell below the input, k the inner root
   abbrev chain_facts : ℕ → ℕ → ℕ → ℕ → List Fact
   chain_facts c m l k =
-      Points c 0 (CellValue l) ∷ Head l 0 [] ∷ Points l 0 (CellValue k) ∷ Points k 1 (CellValue l) ∷ Points l 1 NullValue
+      Points c 0 (CellValue l) ∷ Head l 0 [] ∷ Points l 0 (CellValue k) ∷ Points k 1 (CellValue l)
+      ∷ Points l 1 NullValue
       ∷ Points m 1 (CellValue k) ∷ Head k 0 [] ∷ Points k 0 (CellValue m) ∷ []
 
   -- the facts are those, whichever numbers the ports have
@@ -218,8 +243,11 @@ module _ (others : List BoxFace) (defs : List BoxDef) where
   known d o = from (single_nodes T chain_autos d chain_nodes chain_single chain_choice o) o
     where
       from : {d : Nodes} → NodesOf d chain_nodes → TreesOf T chain_autos d → Known d
-      from (one_more (node_of (field_of (under_of (node_of {c = l} (link_of {i = i} leaf_of (field_of leaf_of none_of)))) none_of))
-          (one_more (node_of (field_of leaf_of none_of)) (one_more (node_of {c = k} (field_of leaf_of none_of)) no_more))) o =
+      from
+          (one_more
+          (node_of (field_of (under_of (node_of {c = l} (link_of {i = i} leaf_of (field_of leaf_of none_of)))) none_of))
+          (one_more (node_of (field_of leaf_of none_of))
+          (one_more (node_of {c = k} (field_of leaf_of none_of)) no_more))) o =
           let low = o.1.0.0 in
           let same = same_Some dll_box.inside.autos low.0 low.1 in
           let inside = inside_is T i (subst (λ (autos : List Automaton). TreesOf T autos i) (sym same) low.2) in
@@ -245,7 +273,8 @@ module _ (others : List BoxFace) (defs : List BoxDef) where
           out : Reaches (CellValue c ∷ []) (chain_facts c m w.l w.k) m
           out = through w.k 0 inner (inr (inr (inr (inr (inr (inr (inr (inl refl))))))))
 
-          here : IsIn n (w.l ∷ w.k ∷ []) ⊎ IsIn (CellValue n) (CellValue c ∷ CellValue m ∷ []) → Reaches (CellValue c ∷ []) (chain_facts c m w.l w.k) n
+          here : IsIn n (w.l ∷ w.k ∷ []) ⊎ IsIn (CellValue n) (CellValue c ∷ CellValue m ∷ [])
+              → Reaches (CellValue c ∷ []) (chain_facts c m w.l w.k) n
           here (inl (inl e)) = rw e low
           here (inl (inr (inl e))) = rw e inner
           here (inl (inr (inr x))) = absurd x
@@ -253,7 +282,8 @@ module _ (others : List BoxFace) (defs : List BoxDef) where
           here (inr (inr (inl e))) = let z : n ≡ m = ap (λ (v : Value). cell_of_value v) e in rw z out
           here (inr (inr (inr x))) = absurd x
 
-      by : (v : Value) → ports ≡ CellValue c ∷ (v ∷ []) → OutFits chain_face v → Reaches (CellValue c ∷ []) (inside_facts ports d) n
+      by : (v : Value) → ports ≡ CellValue c ∷ (v ∷ []) → OutFits chain_face v
+          → Reaches (CellValue c ∷ []) (inside_facts ports d) n
       by v e (inl (m, x)) = at m (e ∙ ap (λ (u : Value). CellValue c ∷ (u ∷ [])) x)
       by v e (inr x) = absurd (let z : 1 ≡ 0 = ap (λ (l : List ℕ). length l) x.1 in omega (arith, z))
 
@@ -290,7 +320,10 @@ module _ (others : List BoxFace) (defs : List BoxDef) where
   pub chain_sound : (name : List ℕ) → SoundBox face T (named_chain name)
   chain_sound name = record {
     rules = (head_rules, (port_rules face 1 2 (omega arith, refl, (refl, tt)), (inner_rules, tt)));
-    full = ((bare (head_node 0 1 no_nodes), head_runs), ((bare (port_node 2 1 2), port_runs 2 1 2), ((bare (port_node 3 0 1), port_runs 3 0 1), tt)));
+    full = (
+      (bare (head_node 0 1 no_nodes), head_runs),
+      ((bare (port_node 2 1 2), port_runs 2 1 2), ((bare (port_node 3 0 1), port_runs 3 0 1), tt)),
+    );
     fits = λ ts c. subst (λ (us : List Tree). InsideFits face chain_face us) (chain_choices ts c) chain_fits;
     covers = λ e. (let z : 1 ≡ 0 = ap (λ (l : List ℕ). length l) e in omega (arith, z));
     ports = (single_covers bs head_port head_single, head_covers, single_covers bs (port 1 2) (port_single 1 2));
@@ -343,7 +376,10 @@ chain_table = record {
     ((λ i. elim i [ inl e ↦ (let z : 49 ≡ 50 = ap second_byte e in omega (arith, z)) | inr x ↦ x ]), ((λ i. i), tt)),
   );
   words = (
-    (inl (omega arith, omega arith), (inl (inl (omega arith, omega arith)), (inl (inl (omega arith, omega arith)), tt))),
+    (
+      inl (omega arith, omega arith),
+      (inl (inl (omega arith, omega arith)), (inl (inl (omega arith, omega arith)), tt)),
+    ),
     (
       (inl (omega arith, omega arith), (inr (omega arith, omega arith), tt)),
       ((inl (omega arith, omega arith), (inr (omega arith, omega arith), tt)), tt),

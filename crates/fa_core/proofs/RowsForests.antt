@@ -41,7 +41,8 @@ list_face = record { shapes = record { structs = list_struct }; boxes = one_poin
 
 -- the lists of one cell
 abbrev one_cell : Automaton
-one_cell = record { states = 2; roots = 0 ∷ []; rules = rule 0 (Cell 0 [] (Field 0 ∷ [])) (1 ∷ []) ∷ rule 1 Null [] ∷ [] }
+one_cell =
+    record { states = 2; roots = 0 ∷ []; rules = rule 0 (Cell 0 [] (Field 0 ∷ [])) (1 ∷ []) ∷ rule 1 Null [] ∷ [] }
 
 abbrev only : List Target → List Automaton → Forest
 only vars autos = record { autos = autos; vars = vars; data_vars = [] }
@@ -53,7 +54,17 @@ abbrev one_node : ℕ → Node
 one_node c = node c 0 [] (field 0 (leaf NullTarget) no_parts)
 
 one_runs : (c : ℕ) → InLanguage one_cell (bare (one_node c))
-one_runs c = (0, inl refl, node_bare one_cell.rules 0 (one_node c) (rule 0 (Cell 0 [] (Field 0 ∷ [])) (1 ∷ []), inl refl, refl, refl, ((rule 1 Null [], inr (inl refl), refl, refl, refl), tt)))
+one_runs c = (
+  0,
+  inl refl,
+  node_bare one_cell.rules 0 (one_node c) (
+    rule 0 (Cell 0 [] (Field 0 ∷ [])) (1 ∷ []),
+    inl refl,
+    refl,
+    refl,
+    ((rule 1 Null [], inr (inl refl), refl, refl, refl), tt),
+  ),
+)
 
 -- one cell and no variable: sound
 one_worked : IsWorked list_face (only [] (one_cell ∷ [])) (more (one_node 0) no_nodes)
@@ -69,7 +80,11 @@ one_worked = record {
 }
 
 one_sound : IsSound list_face (only [] (one_cell ∷ []))
-one_sound = record { well_formed = worked_well_formed list_face (only [] (one_cell ∷ [])) (more (one_node 0) no_nodes) one_worked; full = ((bare (one_node 0), one_runs 0), tt) }
+one_sound =
+    record {
+      well_formed = worked_well_formed list_face (only [] (one_cell ∷ [])) (more (one_node 0) no_nodes) one_worked;
+      full = ((bare (one_node 0), one_runs 0), tt);
+    }
 
 -- a cell that gives no field: not filled
 abbrev pub bare_cell : Automaton
@@ -125,18 +140,30 @@ leaf_at_the_top : IsFilled list_face (only [] (null_leaf ∷ [])) → ⊥
 leaf_at_the_top h = let f = h.trees (null_tree ∷ []) (null_runs, tt) in no_top f.tops f.are
 
 target_beyond : IsFilled list_face (only (At 1 ∷ []) (one_cell ∷ [])) → ⊥
-target_beyond h = let f = h.trees (bare (one_node 0) ∷ []) (one_runs 0, tt) in let l = f.vars.0 1 refl in omega (arith, l)
+target_beyond h = let f = h.trees (bare (one_node 0) ∷ []) (one_runs 0, tt) in let l = f.vars.0 1 refl in
+    omega (arith, l)
 
 -- A box edge from root 0 to root 1, a variable at each: sound.
 
 abbrev edge_cell : Automaton
-edge_cell = record { states = 2; roots = 0 ∷ []; rules = rule 0 (Cell 0 [] (Link 0 ∷ [])) (1 ∷ []) ∷ rule 1 (Ref 1) [] ∷ [] }
+edge_cell =
+    record { states = 2; roots = 0 ∷ []; rules = rule 0 (Cell 0 [] (Link 0 ∷ [])) (1 ∷ []) ∷ rule 1 (Ref 1) [] ∷ [] }
 
 abbrev edge_node : ℕ → Node
 edge_node c = node c 0 [] (link 0 no_nodes (leaf (At 1)) no_parts)
 
 edge_runs : (c : ℕ) → InLanguage edge_cell (bare (edge_node c))
-edge_runs c = (0, inl refl, node_bare edge_cell.rules 0 (edge_node c) (rule 0 (Cell 0 [] (Link 0 ∷ [])) (1 ∷ []), inl refl, refl, refl, ((rule 1 (Ref 1) [], inr (inl refl), refl, refl, refl), tt)))
+edge_runs c = (
+  0,
+  inl refl,
+  node_bare edge_cell.rules 0 (edge_node c) (
+    rule 0 (Cell 0 [] (Link 0 ∷ [])) (1 ∷ []),
+    inl refl,
+    refl,
+    refl,
+    ((rule 1 (Ref 1) [], inr (inl refl), refl, refl, refl), tt),
+  ),
+)
 
 abbrev edge_forest : Forest
 edge_forest = only (At 0 ∷ At 1 ∷ []) (edge_cell ∷ one_cell ∷ [])
@@ -154,14 +181,25 @@ edge_worked = record {
   choice = (edge_runs 0, (one_runs 1, tt));
   differ = ((λ i. elim i [ inl e ↦ omega (arith, e) | inr x ↦ x ]), ((λ i. i), tt));
   refers = (omega arith, tt);
-  vars = ((λ r e. (let z = ap target_root e in omega (arith, z))), ((λ r e. (let z = ap target_root e in omega (arith, z))), tt));
+  vars = (
+    (λ r e. (let z = ap target_root e in omega (arith, z))),
+    ((λ r e. (let z = ap target_root e in omega (arith, z))), tt),
+  );
   data_vars = tt;
   rules = (((omega arith, refl, tt, (refl, tt)), (tt, tt)), (((omega arith, refl, tt, (refl, tt)), (tt, tt)), tt));
   cells = (
-    record { slots = ((one_pointer, 0, refl, refl, refl, inl (inr (inl (refl, refl)))), tt); order = ((tt, tt), tt); once = keep 0 empty },
+    record {
+      slots = ((one_pointer, 0, refl, refl, refl, inl (inr (inl (refl, refl)))), tt);
+      order = ((tt, tt), tt);
+      once = keep 0 empty;
+    },
     (record { slots = ((0, refl, tt), tt); order = ((tt, tt), tt); once = keep 0 empty }, tt),
   );
 }
 
 edge_sound : IsSound list_face edge_forest
-edge_sound = record { well_formed = worked_well_formed list_face edge_forest edge_nodes edge_worked; full = ((bare (edge_node 0), edge_runs 0), ((bare (one_node 0), one_runs 0), tt)) }
+edge_sound =
+    record {
+      well_formed = worked_well_formed list_face edge_forest edge_nodes edge_worked;
+      full = ((bare (edge_node 0), edge_runs 0), ((bare (one_node 0), one_runs 0), tt));
+    }

@@ -1,11 +1,13 @@
 -- Worked values of references, numbers, forms and leaves put in the place of references.
-use Rattle.std.proofs.Common.{◌≡◌, inl, inr, ℕ, zero, suc, true, false, true≢false, List, [], ◌∷◌, map, refl, sym, ap, arith}
+use Rattle.std.proofs.Common.{◌≡◌, inl, inr, ℕ, zero, suc, true, false, true≢false, List, [], ◌∷◌, map, refl, sym, ap}
+use Rattle.std.proofs.Common.{arith}
 use Rattle.std.proofs.lemmas.Option.{none-some}
 use Rattle.ta_core.specs.declared.symbol.Slot.TheVariants.{Field, Link}
 use Rattle.ta_core.specs.declared.symbol.Symbol.TheVariants.{Dangling, Ref, Cell}
 use Rattle.ta_core.specs.declared.tree.Tree.{roll-Tree, fold-roll-Tree}
 use Rattle.fa_core.specs.declared.forest.Target.{Target}
-use Rattle.fa_core.specs.declared.forest.Target.TheVariants.{Null as NullTarget, Uninit as UninitTarget, Dangling as DanglingTarget, At}
+use Rattle.fa_core.specs.declared.forest.Target.TheVariants.{Null as NullTarget, Uninit as UninitTarget}
+use Rattle.fa_core.specs.declared.forest.Target.TheVariants.{Dangling as DanglingTarget, At}
 use Rattle.fa_core.specs.Choices.{count, all_numbers, IsNumbered, SymbolHasInsides}
 use Rattle.fa_core.specs.Dressed.{Nodes, node, no_parts, field, link, hook, under, leaf, no_nodes, more}
 use Rattle.fa_core.specs.Placed.{placed, placed_all, placed_auto}
@@ -62,17 +64,23 @@ more_are_alike = refl
 
 -- two references to root 3, one to root 0, in the order of first visit
 marks_of_three : plain_marks (3 ∷ 0 ∷ 3 ∷ []) ≡
-    record { root = 3; many = true; provided = []; back = false; reach = [] } ∷ record { root = 0; many = false; provided = []; back = false; reach = [] } ∷ []
+    record { root = 3; many = true; provided = []; back = false; reach = [] }
+    ∷ record { root = 0; many = false; provided = []; back = false; reach = [] } ∷ []
 marks_of_three = refl
 
 leaf_tree_refs : tree_refs (roll-Tree (record { symbol = Ref 5; children = [] })) ≡ 5 ∷ []
-leaf_tree_refs = ap (λ (ws : List Way). map (λ w. w.root) ws) (fold-roll-Tree (List Way) (λ t. ways_at t.symbol t.children) (record { symbol = Ref 5; children = [] }))
+leaf_tree_refs = ap (λ (ws : List Way). map (λ w. w.root) ws)
+    (fold-roll-Tree (List Way) (λ t. ways_at t.symbol t.children) (record { symbol = Ref 5; children = [] }))
 
 -- Numbers.
 
 -- a cell over another and a reference, and a root with a box edge whose inside has a cell 9
 abbrev two_trees : Nodes
-two_trees = more (node 5 0 [] (field 0 (under (node 3 0 [] (field 0 (leaf NullTarget) no_parts))) (field 1 (leaf (At 1)) no_parts))) (more (node 8 1 [] (link 0 (more (node 9 0 [] no_parts) no_nodes) (leaf (At 0)) (hook 1 no_nodes no_parts))) no_nodes)
+two_trees =
+    more
+    (node 5 0 [] (field 0 (under (node 3 0 [] (field 0 (leaf NullTarget) no_parts))) (field 1 (leaf (At 1)) no_parts)))
+    (more (node 8 1 [] (link 0 (more (node 9 0 [] no_parts) no_nodes) (leaf (At 0)) (hook 1 no_nodes no_parts)))
+    no_nodes)
 
 two_trees_count : count two_trees ≡ 2
 two_trees_count = refl
@@ -102,14 +110,38 @@ joined zero = At 0
 joined (suc zero) = At 0
 joined (suc (suc k)) = DanglingTarget
 
-two_placed : placed_all joined two_trees ≡ more (node 5 0 [] (field 0 (under (node 3 0 [] (field 0 (leaf NullTarget) no_parts))) (field 1 (leaf (At 0)) no_parts))) (more (node 8 1 [] (link 0 (more (node 9 0 [] no_parts) no_nodes) (leaf (At 0)) (hook 1 no_nodes no_parts))) no_nodes)
+two_placed : placed_all joined two_trees
+    ≡ more
+    (node 5 0 [] (field 0 (under (node 3 0 [] (field 0 (leaf NullTarget) no_parts))) (field 1 (leaf (At 0)) no_parts)))
+    (more (node 8 1 [] (link 0 (more (node 9 0 [] no_parts) no_nodes) (leaf (At 0)) (hook 1 no_nodes no_parts)))
+    no_nodes)
 two_placed = refl
 
 -- a reference to a root that is gone dangles; other leaves stay; references inside a box edge stay
-gone : placed joined (node 1 0 [] (field 0 (leaf (At 2)) (field 1 (leaf UninitTarget) (hook 0 (more (node 2 0 [] (field 0 (leaf (At 1)) no_parts)) no_nodes) no_parts)))) ≡
-    node 1 0 [] (field 0 (leaf DanglingTarget) (field 1 (leaf UninitTarget) (hook 0 (more (node 2 0 [] (field 0 (leaf (At 1)) no_parts)) no_nodes) no_parts)))
+gone :
+    placed joined
+    (node 1 0 []
+    (field 0 (leaf (At 2))
+    (field 1 (leaf UninitTarget) (hook 0 (more (node 2 0 [] (field 0 (leaf (At 1)) no_parts)) no_nodes) no_parts)))) ≡
+    node 1 0 []
+    (field 0 (leaf DanglingTarget)
+    (field 1 (leaf UninitTarget) (hook 0 (more (node 2 0 [] (field 0 (leaf (At 1)) no_parts)) no_nodes) no_parts)))
 gone = refl
 
-auto_placed : placed_auto joined (record { states = 2; roots = 0 ∷ []; rules = record { state = 0; symbol = Cell 0 [] (Field 0 ∷ []); children = 1 ∷ [] } ∷ record { state = 1; symbol = Ref 1; children = [] } ∷ record { state = 1; symbol = Ref 2; children = [] } ∷ [] }) ≡
-    record { states = 2; roots = 0 ∷ []; rules = record { state = 0; symbol = Cell 0 [] (Field 0 ∷ []); children = 1 ∷ [] } ∷ record { state = 1; symbol = Ref 0; children = [] } ∷ record { state = 1; symbol = Dangling; children = [] } ∷ [] }
+auto_placed : placed_auto joined
+    (record {
+      states = 2;
+      roots = 0 ∷ [];
+      rules = record { state = 0; symbol = Cell 0 [] (Field 0 ∷ []); children = 1 ∷ [] }
+          ∷ record { state = 1; symbol = Ref 1; children = [] } ∷ record { state = 1; symbol = Ref 2; children = [] }
+          ∷ [];
+    })
+    ≡
+    record {
+      states = 2;
+      roots = 0 ∷ [];
+      rules = record { state = 0; symbol = Cell 0 [] (Field 0 ∷ []); children = 1 ∷ [] }
+          ∷ record { state = 1; symbol = Ref 0; children = [] } ∷ record { state = 1; symbol = Dangling; children = [] }
+          ∷ [];
+    }
 auto_placed = refl

@@ -13,10 +13,12 @@ use Rattle.fa_core.specs.declared.boxes.BoxDef.{BoxDef}
 use Rattle.fa_core.specs.declared.faces.BoxFace.{BoxFace}
 use Rattle.fa_core.specs.declared.faces.Face.{Face}
 use Rattle.fa_core.specs.declared.forest.Target.TheVariants.{Null as NullTarget, At}
-use Rattle.fa_core.specs.Boxes.{IsPortFilled, InsideFits, Reaches, named, through, PortsFit, IsReached, BackHolds, SoundBox}
+use Rattle.fa_core.specs.Boxes.{IsPortFilled, InsideFits, Reaches, named, through, PortsFit, IsReached, BackHolds}
+use Rattle.fa_core.specs.Boxes.{SoundBox}
 use Rattle.fa_core.specs.Canonical.{RefersTo}
 use Rattle.fa_core.specs.Choices.{bares}
-use Rattle.fa_core.specs.Dressed.{Fact, Head, Points, Node, Nodes, node, no_parts, field, leaf, no_nodes, more, inside_facts}
+use Rattle.fa_core.specs.Dressed.{Fact, Head, Points, Node, Nodes, node, no_parts, field, leaf, no_nodes, more}
+use Rattle.fa_core.specs.Dressed.{inside_facts}
 use Rattle.fa_core.specs.Filled.{Choice, IsFilledSpot, spots, given_at}
 use Rattle.fa_core.specs.Member.{TreesOf, bare}
 use Rattle.fa_core.specs.Rearranged.{empty, keep}
@@ -25,7 +27,8 @@ use Rattle.fa_core.proofs.Dressing.{leaf_top}
 use Rattle.fa_core.proofs.GivenTips.{given_tips}
 use Rattle.fa_core.proofs.NodeRuns.{node_bare}
 use Rattle.fa_core.proofs.NodeSpots.{spots_are}
-use Rattle.fa_core.proofs.RowsBoxes.{port, port_node, port_runs, port_single, port_rules, single_covers, port_covers_some, box_face}
+use Rattle.fa_core.proofs.RowsBoxes.{port, port_node, port_runs, port_single, port_rules, single_covers}
+use Rattle.fa_core.proofs.RowsBoxes.{port_covers_some, box_face}
 use Rattle.fa_core.proofs.RowsCanonical.{rule}
 use Rattle.fa_core.proofs.RowsChains.{chain_structs}
 use Rattle.fa_core.proofs.SameTrees.{NodesOf, one_more, no_more, node_of, field_of, none_of, leaf_of, single_nodes}
@@ -58,7 +61,10 @@ item_runs c r = (
     inl refl,
     refl,
     refl,
-    ((rule 1 (Ref r) [], inr (inl refl), refl, refl, refl), ((rule 2 Null [], inr (inr (inl refl)), refl, refl, refl), tt)),
+    (
+      (rule 1 (Ref r) [], inr (inl refl), refl, refl, refl),
+      ((rule 2 Null [], inr (inr (inl refl)), refl, refl, refl), tt),
+    ),
   ),
 )
 
@@ -85,22 +91,28 @@ ring_choice : Choice ring_autos (bares ring_nodes)
 ring_choice = (port_runs 0 0 1, (item_runs 1 0, tt))
 
 ring_refers : (t : Tree) (k : ℕ) → IsIn t (bares ring_nodes) → RefersTo t k → k < 2
-ring_refers t k (inl e) h = elim (rw (tree_roots (port_node 0 0 1)) at (subst (λ (x : Tree). RefersTo x k) e h)) [ inl i ↦ omega (arith, i) | inr x ↦ absurd x ]
-ring_refers t k (inr (inl e)) h = elim (rw (tree_roots (item_node 1 0)) at (subst (λ (x : Tree). RefersTo x k) e h)) [ inl i ↦ omega (arith, i) | inr x ↦ absurd x ]
+ring_refers t k (inl e) h =
+    elim (rw (tree_roots (port_node 0 0 1)) at (subst (λ (x : Tree). RefersTo x k) e h))
+    [ inl i ↦ omega (arith, i) | inr x ↦ absurd x ]
+ring_refers t k (inr (inl e)) h =
+    elim (rw (tree_roots (item_node 1 0)) at (subst (λ (x : Tree). RefersTo x k) e h))
+    [ inl i ↦ omega (arith, i) | inr x ↦ absurd x ]
 ring_refers t k (inr (inr e)) h = absurd e
 
 module _ (bs : List BoxFace) (T : List BoxDef) where
   abbrev face : Face
   face = record { shapes = record { structs = chain_structs }; boxes = bs }
 
-  input_filled : IsPortFilled face (0 ∷ 0 ∷ []) (0 ∷ []) (spots bs (bare (port_node 0 0 1)) (given_at bs (bares ring_nodes) 0))
+  input_filled : IsPortFilled face (0 ∷ 0 ∷ []) (0 ∷ [])
+      (spots bs (bare (port_node 0 0 1)) (given_at bs (bares ring_nodes) 0))
   input_filled =
       let e = spots_are bs (port_node 0 0 1) (given_at bs (bares ring_nodes) 0) in
       let g = given_tips bs 0 ring_nodes in
       let l = leaf_top (At 1) in
       rw e (record { ends = ((0, refl, rw l refl), tt); order = ((tt, tt), tt); once = rw g (keep 0 empty) }, tt)
 
-  inner_filled : Every (IsFilledSpot face (0 ∷ 0 ∷ [])) (spots bs (bare (item_node 1 0)) (given_at bs (bares ring_nodes) 1))
+  inner_filled : Every (IsFilledSpot face (0 ∷ 0 ∷ []))
+      (spots bs (bare (item_node 1 0)) (given_at bs (bares ring_nodes) 1))
   inner_filled =
       let e = spots_are bs (item_node 1 0) (given_at bs (bares ring_nodes) 1) in
       let g = given_tips bs 1 ring_nodes in
@@ -128,11 +140,15 @@ module _ (bs : List BoxFace) (T : List BoxDef) where
   abbrev ring_facts : ℕ → ℕ → List Fact
   ring_facts c k = Points c 0 (CellValue k) ∷ Head k 0 [] ∷ Points k 0 (CellValue c) ∷ Points k 1 NullValue ∷ []
 
-  ring_known : (d : Nodes) → TreesOf T ring_autos d → (k : ℕ) × ((c : ℕ) → inside_facts (CellValue c ∷ []) d ≡ ring_facts c k)
+  ring_known : (d : Nodes) → TreesOf T ring_autos d → (k : ℕ)
+      × ((c : ℕ) → inside_facts (CellValue c ∷ []) d ≡ ring_facts c k)
   ring_known d o = from (single_nodes T ring_autos d ring_nodes ring_single ring_choice o)
     where
-      from : {d : Nodes} → NodesOf d ring_nodes → (k : ℕ) × ((c : ℕ) → inside_facts (CellValue c ∷ []) d ≡ ring_facts c k)
-      from (one_more (node_of (field_of leaf_of none_of)) (one_more (node_of {c = k} (field_of leaf_of (field_of leaf_of none_of))) no_more)) =
+      from : {d : Nodes} → NodesOf d ring_nodes → (k : ℕ)
+          × ((c : ℕ) → inside_facts (CellValue c ∷ []) d ≡ ring_facts c k)
+      from
+          (one_more (node_of (field_of leaf_of none_of))
+          (one_more (node_of {c = k} (field_of leaf_of (field_of leaf_of none_of))) no_more)) =
           (k, λ c. refl)
 
   ring_reached : IsReached T ring_face ring_autos
@@ -141,7 +157,8 @@ module _ (bs : List BoxFace) (T : List BoxDef) where
       let f = w.1 c in
       rw (e, f) (here w.0 (rw (e, f) at i))
     where
-      here : (k : ℕ) → IsIn n (k ∷ []) ⊎ IsIn (CellValue n) (CellValue c ∷ []) → Reaches (CellValue c ∷ []) (ring_facts c k) n
+      here : (k : ℕ) → IsIn n (k ∷ []) ⊎ IsIn (CellValue n) (CellValue c ∷ [])
+          → Reaches (CellValue c ∷ []) (ring_facts c k) n
       here k (inl (inl x)) = rw x (through c 0 (named (inl refl)) (inl refl))
       here k (inl (inr x)) = absurd x
       here k (inr (inl x)) = named (inl x)
@@ -150,7 +167,10 @@ module _ (bs : List BoxFace) (T : List BoxDef) where
   -- the ring is sound
   pub ring_sound : SoundBox face T ring_box
   ring_sound = record {
-    rules = (port_rules face 0 1 (omega arith, refl, (refl, tt)), (((omega arith, refl, tt, (refl, (refl, tt))), (tt, (tt, tt))), tt));
+    rules = (
+      port_rules face 0 1 (omega arith, refl, (refl, tt)),
+      (((omega arith, refl, tt, (refl, (refl, tt))), (tt, (tt, tt))), tt),
+    );
     full = ((bare (port_node 0 0 1), port_runs 0 0 1), ((bare (item_node 1 0), item_runs 1 0), tt));
     fits = λ ts c. subst (λ (us : List Tree). InsideFits face ring_face us)
         (single_choice ring_autos (bares ring_nodes) ts ring_single ring_choice c) ring_fits;
@@ -182,5 +202,6 @@ gives_something : (T : List BoxDef) → BackHolds T (record ring_face { gives_ou
 gives_something T h = let z : 1 ≡ 0 = ap (λ (l : List ℕ). length l) h.0 in omega (arith, z)
 
 -- an edge that leads back gives its output something
-gives_nothing : (T : List BoxDef) (autos : List Automaton) → BackHolds T (record box_face { gives_out = [] }) (Some 0) autos → ⊥
+gives_nothing : (T : List BoxDef) (autos : List Automaton)
+    → BackHolds T (record box_face { gives_out = [] }) (Some 0) autos → ⊥
 gives_nothing T autos h = (h.0 refl).0 refl

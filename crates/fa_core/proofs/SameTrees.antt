@@ -11,7 +11,8 @@ use Rattle.ta_core.specs.declared.tree.Tree.{Tree, out-Tree, out-roll-Tree}
 use Rattle.fa_core.specs.declared.boxes.BoxDef.{BoxDef}
 use Rattle.fa_core.specs.declared.forest.Target.{Target}
 use Rattle.fa_core.specs.Choices.{bares}
-use Rattle.fa_core.specs.Dressed.{Node, Parts, End, Nodes, node, no_parts, field, link, hook, under, leaf, no_nodes, more}
+use Rattle.fa_core.specs.Dressed.{Node, Parts, End, Nodes, node, no_parts, field, link, hook, under, leaf, no_nodes}
+use Rattle.fa_core.specs.Dressed.{more}
 use Rattle.fa_core.specs.Filled.{Choice}
 use Rattle.fa_core.specs.Folding.{symbol_slots}
 use Rattle.fa_core.specs.Member.{TreesOf, bare, bare_parts, bare_end, slots_of}
@@ -75,7 +76,8 @@ symbol_data (Cell s ds ss) = ds
 symbol_data y = []
 
 cell_children : (c s : ℕ) (ds : List Datum) (ps : Parts) → (out-Tree (bare (node c s ds ps))).children ≡ bare_parts ps
-cell_children c s ds ps = rw (out-roll-Tree (record { symbol = Cell s ds (slots_of ps); children = bare_parts ps })) refl
+cell_children c s ds ps =
+    rw (out-roll-Tree (record { symbol = Cell s ds (slots_of ps); children = bare_parts ps })) refl
 
 kinds_differ : (ss us : List Slot) (P : Type 0) → ss ≡ us → (slot_kind ss ≡ slot_kind us → ⊥) → P
 kinds_differ ss us P e n = absurd (n (ap slot_kind e))

@@ -5,7 +5,8 @@ use Rattle.ta_core.specs.declared.symbol.Slot.TheVariants.{Field, Link}
 use Rattle.ta_core.specs.declared.symbol.Symbol.TheVariants.{Cell as CellSymbol}
 use Rattle.ta_core.specs.declared.tree.Tree.{Tree, Tree-F, roll-Tree, fold-roll-Tree}
 use Rattle.fa_core.specs.declared.forest.Target.TheVariants.{Null, Uninit, Dangling, At}
-use Rattle.fa_core.specs.Dressed.{Node, Parts, End, node, no_parts, field, link, hook, under, leaf, refs, refs_of, end_refs}
+use Rattle.fa_core.specs.Dressed.{Node, Parts, End, node, no_parts, field, link, hook, under, leaf, refs, refs_of}
+use Rattle.fa_core.specs.Dressed.{end_refs}
 use Rattle.fa_core.specs.Member.{bare, bare_parts, bare_end, slots_of, leaf_symbol}
 use Rattle.fa_core.specs.Ways.{Way, ways, ways_at, child_ways, longer}
 
@@ -34,15 +35,18 @@ rolled_ways x = fold-roll-Tree (List Way) (λ t. ways_at t.symbol t.children) x
 mutual
   pub tree_roots : (n : Node) → map way_root (ways (bare n)) ≡ refs n
   tree_roots (node c s ds ps) =
-      rw (rolled_ways (record { symbol = CellSymbol s ds (slots_of ps); children = bare_parts ps })) (longer_roots _ (child_ways (slots_of ps) (map ways (bare_parts ps))) ∙ parts_roots ps)
+      rw (rolled_ways (record { symbol = CellSymbol s ds (slots_of ps); children = bare_parts ps }))
+      (longer_roots _ (child_ways (slots_of ps) (map ways (bare_parts ps))) ∙ parts_roots ps)
 
   pub parts_roots : (ps : Parts) → map pair_root (child_ways (slots_of ps) (map ways (bare_parts ps))) ≡ refs_of ps
   parts_roots no_parts = refl
   parts_roots (field f e ps) =
-      map-append pair_root (map (λ (w : Way). (Field f, w)) (ways (bare_end e))) (child_ways (slots_of ps) (map ways (bare_parts ps)))
+      map-append pair_root (map (λ (w : Way). (Field f, w)) (ways (bare_end e)))
+      (child_ways (slots_of ps) (map ways (bare_parts ps)))
       ∙ ap₂ (λ (x y : List ℕ). x ++ y) (paired_roots (Field f) (ways (bare_end e)) ∙ end_roots e) (parts_roots ps)
   parts_roots (link b inside e ps) =
-      map-append pair_root (map (λ (w : Way). (Link b, w)) (ways (bare_end e))) (child_ways (slots_of ps) (map ways (bare_parts ps)))
+      map-append pair_root (map (λ (w : Way). (Link b, w)) (ways (bare_end e)))
+      (child_ways (slots_of ps) (map ways (bare_parts ps)))
       ∙ ap₂ (λ (x y : List ℕ). x ++ y) (paired_roots (Link b) (ways (bare_end e)) ∙ end_roots e) (parts_roots ps)
   parts_roots (hook b inside ps) = parts_roots ps
 

@@ -1,5 +1,6 @@
 -- Sound boxes, and tables of them.
-use Rattle.std.specs.Prelude.{◌≡◌, ◌≢◌, ◌<◌, ◌≤◌, ◌⊎◌, ℕ, suc, true, false, List, [], ◌∷◌, ◌++◌, map, length, flat_map, Option, Some, None}
+use Rattle.std.specs.Prelude.{◌≡◌, ◌≢◌, ◌<◌, ◌≤◌, ◌⊎◌, ℕ, suc, true, false, List, [], ◌∷◌, ◌++◌, map, length, flat_map}
+use Rattle.std.specs.Prelude.{Option, Some, None}
 use Rattle.fore_base.specs.Lists.{IsIn, Every, IsDistinct}
 use Rattle.fore_base.specs.declared.shape.Shapes.{Shapes}
 use Rattle.fore_base.specs.declared.store.Value.{Value}
@@ -15,7 +16,8 @@ use Rattle.fa_core.specs.declared.faces.BoxFace.{BoxFace}
 use Rattle.fa_core.specs.declared.faces.Face.{Face}
 use Rattle.fa_core.specs.Canonical.{RefersTo}
 use Rattle.fa_core.specs.Dressed.{Nodes, Fact, Head, Points, inside_facts}
-use Rattle.fa_core.specs.Filled.{Choice, TopsAre, Spot, spots, given_at, covers, HasField, IsFilledSpot, EndsFit, IsInOrder, HasSome, SlotFits, SymbolFits, RulesFit}
+use Rattle.fa_core.specs.Filled.{Choice, TopsAre, Spot, spots, given_at, covers, HasField, IsFilledSpot, EndsFit}
+use Rattle.fa_core.specs.Filled.{IsInOrder, HasSome, SlotFits, SymbolFits, RulesFit}
 use Rattle.fa_core.specs.Folding.{covered_fields}
 use Rattle.fa_core.specs.Member.{TreesOf}
 use Rattle.fa_core.specs.Rearranged.{Rearranged, IsRising}
@@ -49,7 +51,8 @@ InsideRulesFit face (p ∷ ports) (a ∷ autos) = PortRulesFit face a × InsideR
 
 -- Trees of an inside.
 
--- the cell at the top of a port's tree: its ends fit, its slots stand in order, and it is given these fields, each once, by its slots and by the box edges of the inside that end at it
+-- the cell at the top of a port's tree: its ends fit, its slots stand in order, and it is given these fields, each
+-- once, by its slots and by the box edges of the inside that end at it
 pub record IsPortSpot (face : Face) (tops fields : List ℕ) (p : Spot) : Type 0 where
   pub ends : EndsFit face tops p.shape p.slots p.ends
   pub order : IsInOrder face.boxes p.slots
@@ -63,8 +66,12 @@ IsPortFilled face tops fields (p ∷ ps) = IsPortSpot face tops fields p × Ever
 -- the trees of the roots from r on, among all: first the ports, each with the fields of its face, then the inner roots
 abbrev pub InsideFilled : Face → List Tree → List ℕ → ℕ → List (List ℕ) → List Tree → Type 0
 InsideFilled face all tops r ports [] = ports ≡ []
-InsideFilled face all tops r [] (t ∷ ts) = Every (IsFilledSpot face tops) (spots face.boxes t (given_at face.boxes all r)) × InsideFilled face all tops (suc r) [] ts
-InsideFilled face all tops r (fields ∷ ports) (t ∷ ts) = IsPortFilled face tops fields (spots face.boxes t (given_at face.boxes all r)) × InsideFilled face all tops (suc r) ports ts
+InsideFilled face all tops r [] (t ∷ ts) =
+    Every (IsFilledSpot face tops) (spots face.boxes t (given_at face.boxes all r))
+    × InsideFilled face all tops (suc r) [] ts
+InsideFilled face all tops r (fields ∷ ports) (t ∷ ts) =
+    IsPortFilled face tops fields (spots face.boxes t (given_at face.boxes all r))
+    × InsideFilled face all tops (suc r) ports ts
 
 -- the structs of the ports, and the fields that the face says of each
 abbrev pub port_structs : BoxFace → Option ℕ → List ℕ
@@ -79,7 +86,8 @@ port_fields x (Some t) = x.gives_in ∷ (x.gives_out ∷ [])
 abbrev pub Begins : List ℕ → List ℕ → Type 0
 Begins xs ys = (zs : List ℕ) × (ys ≡ xs ++ zs)
 
--- for this choice of trees each tree has a cell at its top, the ports' are of the face's structs, each reference is to a component, and the fields are given as the face says
+-- for this choice of trees each tree has a cell at its top, the ports' are of the face's structs, each reference is to
+-- a component, and the fields are given as the face says
 pub record InsideFits (face : Face) (x : BoxFace) (ts : List Tree) : Type 0 where
   pub tops : List ℕ
   pub are : TopsAre ts tops
@@ -132,20 +140,27 @@ PortsFit x (Some t) c ports = (w : Value) × (ports ≡ CellValue c ∷ (w ∷ [
 
 -- from the input each inner cell and each port is reached, in each dressed inside and for all ports
 abbrev pub IsReached : List BoxDef → BoxFace → List Automaton → Type 0
-IsReached T x autos = (d : Nodes) → TreesOf T autos d → (c : ℕ) (ports : List Value) → PortsFit x x.output c ports → (n : ℕ) → IsIn n (heads (inside_facts ports d)) ⊎ IsIn (CellValue n) ports → Reaches (CellValue c ∷ []) (inside_facts ports d) n
+IsReached T x autos = (d : Nodes) → TreesOf T autos d → (c : ℕ) (ports : List Value) → PortsFit x x.output c ports
+    → (n : ℕ) → IsIn n (heads (inside_facts ports d)) ⊎ IsIn (CellValue n) ports
+    → Reaches (CellValue c ∷ []) (inside_facts ports d) n
 
 -- from the output the input is reached, in each dressed inside and for all ports
 abbrev pub LeadsUp : List BoxDef → List Automaton → Type 0
-LeadsUp T autos = (d : Nodes) → TreesOf T autos d → (c m : ℕ) → Reaches (CellValue m ∷ []) (inside_facts (CellValue c ∷ (CellValue m ∷ [])) d) c
+LeadsUp T autos = (d : Nodes) → TreesOf T autos d → (c m : ℕ)
+    → Reaches (CellValue m ∷ []) (inside_facts (CellValue c ∷ (CellValue m ∷ [])) d) c
 
 -- from the output the input is not reached, in each dressed inside whose cells and ports all differ
 abbrev pub LeadsNowhere : List BoxDef → List Automaton → Type 0
-LeadsNowhere T autos = (d : Nodes) → TreesOf T autos d → (c m : ℕ) → IsDistinct (c ∷ (m ∷ heads (inside_facts (CellValue c ∷ (CellValue m ∷ [])) d))) → Reaches (CellValue m ∷ []) (inside_facts (CellValue c ∷ (CellValue m ∷ [])) d) c → ⊥
+LeadsNowhere T autos = (d : Nodes) → TreesOf T autos d → (c m : ℕ)
+    → IsDistinct (c ∷ (m ∷ heads (inside_facts (CellValue c ∷ (CellValue m ∷ [])) d)))
+    → Reaches (CellValue m ∷ []) (inside_facts (CellValue c ∷ (CellValue m ∷ [])) d) c → ⊥
 
--- `back` says whether the input is reached from the output; a box that leads back gives its output something, and a box without an output gives nothing and does not lead back
+-- `back` says whether the input is reached from the output; a box that leads back gives its output something, and a box
+-- without an output gives nothing and does not lead back
 abbrev pub BackHolds : List BoxDef → BoxFace → Option ℕ → List Automaton → Type 0
 BackHolds T x None autos = (x.gives_out ≡ []) × (x.back ≡ false)
-BackHolds T x (Some t) autos = (x.back ≡ true → (x.gives_out ≢ []) × LeadsUp T autos) × (x.back ≡ false → LeadsNowhere T autos)
+BackHolds T x (Some t) autos = (x.back ≡ true → (x.gives_out ≢ []) × LeadsUp T autos)
+    × (x.back ≡ false → LeadsNowhere T autos)
 
 -- Sound boxes.
 
@@ -159,7 +174,8 @@ pub record SoundBox (face : Face) (T : List BoxDef) (b : BoxDef) : Type 0 where
   pub ports : PortsCover face.boxes b.face.output b.inside.autos
   pub in_order : IsRising b.face.gives_in × IsRising b.face.gives_out
   -- all trees of a state that takes part have one signature; a component may have several
-  pub signatures : Every (λ (a : Automaton). (q : ℕ) → TakesPart a q → (t u : Tree) → RunOf a.rules q t → RunOf a.rules q u → signature face.boxes t ≡ signature face.boxes u) b.inside.autos
+  pub signatures : Every (λ (a : Automaton). (q : ℕ) → TakesPart a q → (t u : Tree) → RunOf a.rules q t
+      → RunOf a.rules q u → signature face.boxes t ≡ signature face.boxes u) b.inside.autos
   pub reached : IsReached T b.face b.inside.autos
   pub back : BackHolds T b.face b.face.output b.inside.autos
 
@@ -177,7 +193,8 @@ faces_of defs = map (λ (b : BoxDef). b.face) defs
 -- each box of the list is sound over those before it, the first over `before`: so it uses earlier boxes only
 abbrev pub AreSoundOver : Shapes → List BoxDef → List BoxDef → Type 0
 AreSoundOver shapes before [] = Unit {0}
-AreSoundOver shapes before (b ∷ defs) = SoundBox (record { shapes = shapes; boxes = faces_of before }) before b × AreSoundOver shapes (before ++ b ∷ []) defs
+AreSoundOver shapes before (b ∷ defs) = SoundBox (record { shapes = shapes; boxes = faces_of before }) before b
+    × AreSoundOver shapes (before ++ b ∷ []) defs
 
 -- the names of the boxes
 abbrev pub names_of : List BoxDef → List (List ℕ)

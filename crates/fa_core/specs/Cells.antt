@@ -1,5 +1,6 @@
 -- The signature of a tree by its symbol and what stands below it.
-use Rattle.std.specs.Prelude.{ℕ, Bool, true, false, ◌&&◌, ◌||◌, nat_eq, if◌then◌else◌, List, [], ◌∷◌, map, filter, flat_map, Option, Some, None}
+use Rattle.std.specs.Prelude.{ℕ, Bool, true, false, ◌&&◌, ◌||◌, nat_eq, if◌then◌else◌, List, [], ◌∷◌, map, filter}
+use Rattle.std.specs.Prelude.{flat_map, Option, Some, None}
 use Rattle.ta_core.specs.declared.symbol.Slot.{Slot}
 use Rattle.ta_core.specs.declared.symbol.Slot.TheVariants.{Field, Link, Hook}
 use Rattle.ta_core.specs.declared.symbol.Symbol.{Symbol}
@@ -37,7 +38,8 @@ abbrev pub mark_of : ℕ → List RefMark → Option RefMark
 mark_of r [] = None
 mark_of r (m ∷ ms) = if nat_eq r m.root then Some m else mark_of r ms
 
--- whether the mark and what follows stand for two references: `same` is the answer of what follows where the mark adds none, `next` where it adds one; `one` says that there is one already
+-- whether the mark and what follows stand for two references: `same` is the answer of what follows where the mark adds
+-- none, `next` where it adds one; `one` says that there is one already
 abbrev pub many_with : Bool → Option RefMark → Bool → Bool → Bool
 many_with one None same next = same
 many_with one (Some m) same next = m.many || (one || next)
@@ -47,7 +49,8 @@ abbrev pub many_from : Bool → ℕ → List (Slot × Below) → Bool
 many_from one r [] = false
 many_from one r (e ∷ es) = many_with one (mark_of r e.1.marks) (many_from one r es) (many_from true r es)
 
--- the fields that are provided at the root, where the mark stands below the slot: a Link whose child is the reference gives its own
+-- the fields that are provided at the root, where the mark stands below the slot: a Link whose child is the reference
+-- gives its own
 abbrev pub provided_in : List BoxFace → Option RefMark → Slot → Bool → List ℕ
 provided_in bs None s leaf = []
 provided_in bs (Some m) (Field f) leaf = m.provided

@@ -8,7 +8,8 @@ use Rattle.ta_core.specs.declared.symbol.Symbol.{Symbol}
 use Rattle.ta_core.specs.declared.symbol.Symbol.TheVariants.{Null, Uninit, Dangling, Ref, Cell}
 use Rattle.ta_core.specs.declared.tree.Tree.{Tree}
 use Rattle.fa_core.specs.declared.boxes.BoxDef.{BoxDef}
-use Rattle.fa_core.specs.Dressed.{Node, Parts, End, Nodes, node, no_parts, field, link, hook, under, leaf, no_nodes, more}
+use Rattle.fa_core.specs.Dressed.{Node, Parts, End, Nodes, node, no_parts, field, link, hook, under, leaf, no_nodes}
+use Rattle.fa_core.specs.Dressed.{more}
 use Rattle.fa_core.specs.Filled.{numbered}
 use Rattle.fa_core.specs.Member.{inside_of, TreesOf, bare}
 

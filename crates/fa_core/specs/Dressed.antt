@@ -1,7 +1,8 @@
 -- Dressed forests: trees of numbered cells, with a dressed forest inside each box edge; and the facts that they state.
 use Rattle.std.specs.Prelude.{ℕ, zero, suc, List, [], ◌∷◌, ◌++◌}
 use Rattle.fore_base.specs.declared.store.Value.{Value}
-use Rattle.fore_base.specs.declared.store.Value.TheVariants.{Null as NullValue, Uninit as UninitValue, Dangling as DanglingValue, Cell}
+use Rattle.fore_base.specs.declared.store.Value.TheVariants.{Null as NullValue, Uninit as UninitValue}
+use Rattle.fore_base.specs.declared.store.Value.TheVariants.{Dangling as DanglingValue, Cell}
 use Rattle.fore_base.specs.declared.store.Datum.{Datum}
 use Rattle.fa_core.specs.declared.forest.Target.{Target}
 use Rattle.fa_core.specs.declared.forest.Target.TheVariants.{Null, Uninit, Dangling, At}
@@ -11,7 +12,8 @@ mutual
   pub data Node : Type 0 where
     node : (cell shape : ℕ) → List Datum → Parts → Node
 
-  -- the slots of a cell in order: a field with its end; a box edge with its inside and its end; a box edge of a box without an output, with its inside
+  -- the slots of a cell in order: a field with its end; a box edge with its inside and its end; a box edge of a box
+  -- without an output, with its inside
   pub data Parts : Type 0 where
     no_parts : Parts
     field : (f : ℕ) → End → Parts → Parts
@@ -32,7 +34,8 @@ mutual
 abbrev pub number : Node → ℕ
 number (node c s ds ps) = c
 
--- What a root is: a list of values says it of each root. Inside a box edge the first roots are the ports, and what a port is comes from outside.
+-- What a root is: a list of values says it of each root. Inside a box edge the first roots are the ports, and what a
+-- port is comes from outside.
 
 -- each root is its cell
 abbrev pub roots_of : Nodes → List Value
@@ -77,8 +80,11 @@ abbrev mutual
   pub slot_facts : List Value → ℕ → Parts → List Fact
   slot_facts vs c no_parts = []
   slot_facts vs c (field f e ps) = Points c f (end_value vs e) ∷ (end_facts vs e ++ slot_facts vs c ps)
-  slot_facts vs c (link b inside e ps) = forest_facts (with_ports (Cell c ∷ (end_value vs e ∷ [])) inside) (Cell c ∷ (end_value vs e ∷ [])) inside ++ (end_facts vs e ++ slot_facts vs c ps)
-  slot_facts vs c (hook b inside ps) = forest_facts (with_ports (Cell c ∷ []) inside) (Cell c ∷ []) inside ++ slot_facts vs c ps
+  slot_facts vs c (link b inside e ps) =
+      forest_facts (with_ports (Cell c ∷ (end_value vs e ∷ [])) inside) (Cell c ∷ (end_value vs e ∷ [])) inside
+      ++ (end_facts vs e ++ slot_facts vs c ps)
+  slot_facts vs c (hook b inside ps) = forest_facts (with_ports (Cell c ∷ []) inside) (Cell c ∷ []) inside
+      ++ slot_facts vs c ps
 
   -- the facts below an end
   pub end_facts : List Value → End → List Fact
@@ -91,7 +97,8 @@ abbrev mutual
   forest_facts vs [] (more n ns) = tree_facts vs n ++ forest_facts vs [] ns
   forest_facts vs (v ∷ ports) (more n ns) = port_facts vs v n ++ forest_facts vs ports ns
 
-  -- the facts of a port that is the value v: it has no head here, and its slots are those of the cell that v names; it has none where v names no cell
+  -- the facts of a port that is the value v: it has no head here, and its slots are those of the cell that v names; it
+  -- has none where v names no cell
   pub port_facts : List Value → Value → Node → List Fact
   port_facts vs (Cell m) (node c s ds ps) = slot_facts vs m ps
   port_facts vs NullValue (node c s ds ps) = []

@@ -1,5 +1,6 @@
 -- Forests in which each field of each cell is given exactly once, and well-formed forests.
-use Rattle.std.specs.Prelude.{min, ◌≡◌, ◌<◌, ◌≤◌, ◌⊎◌, ℕ, suc, List, [], ◌∷◌, ◌++◌, map, length, flat_map, Option, Some, None, IsSome, IsNone, slice_get}
+use Rattle.std.specs.Prelude.{min, ◌≡◌, ◌<◌, ◌≤◌, ◌⊎◌, ℕ, suc, List, [], ◌∷◌, ◌++◌, map, length, flat_map, Option, Some}
+use Rattle.std.specs.Prelude.{None, IsSome, IsNone, slice_get}
 use Rattle.fore_base.specs.Lists.{Every}
 use Rattle.fore_base.specs.Shapes.{targets_of, datums_of}
 use Rattle.fore_base.specs.declared.shape.Shape.{Shape}
@@ -23,7 +24,8 @@ use Rattle.fa_core.specs.Ways.{ways, gives_out_of, given, to_root, signature}
 
 -- The cells of a tree.
 
--- a cell of a tree: its struct, its slots, what stands at the end of each child, and the fields that the edge above gives it
+-- a cell of a tree: its struct, its slots, what stands at the end of each child, and the fields that the edge above
+-- gives it
 pub record Spot : Type 0 where
   pub shape : ℕ
   pub slots : List Slot
@@ -45,7 +47,9 @@ spots_at bs Null cs above = []
 spots_at bs Uninit cs above = []
 spots_at bs Dangling cs above = []
 spots_at bs (Ref r) cs above = []
-spots_at bs (Cell s ds ss) cs above = record { shape = s; slots = ss; ends = map (λ c. (out-Tree c.0).symbol) cs; given = above } ∷ child_spots bs ss (map (λ c. c.1) cs)
+spots_at bs (Cell s ds ss) cs above =
+    record { shape = s; slots = ss; ends = map (λ c. (out-Tree c.0).symbol) cs; given = above }
+    ∷ child_spots bs ss (map (λ c. c.1) cs)
 
 -- the cells of a tree, where the fields `above` are given to its top
 abbrev pub spots : List BoxFace → Tree → List ℕ → List Spot
@@ -80,7 +84,8 @@ FieldEnds tops s (Cell t ds ss) = NamesStruct tops (Cell t ds ss) s
 -- the child stands at the end of the slot as the slot allows
 abbrev pub EndFits : Face → List ℕ → ℕ → Slot → Symbol → Type 0
 EndFits face tops s (Field f) y = (t : ℕ) × (target_of face.shapes.structs s f ≡ Some t) × FieldEnds tops t y
-EndFits face tops s (Link b) y = (x : BoxFace) × (t : ℕ) × (face_of face.boxes b ≡ Some x) × (x.input ≡ s) × (x.output ≡ Some t) × (NamesStruct tops y t ⊎ ((y ≡ Dangling) × (x.gives_out ≡ [])))
+EndFits face tops s (Link b) y = (x : BoxFace) × (t : ℕ) × (face_of face.boxes b ≡ Some x) × (x.input ≡ s)
+    × (x.output ≡ Some t) × (NamesStruct tops y t ⊎ ((y ≡ Dangling) × (x.gives_out ≡ [])))
 EndFits face tops s (Hook b) y = ⊥
 
 -- the slot without a child is of a box without an output
@@ -175,7 +180,8 @@ given_at bs ts r = flat_map (λ t. flat_map (λ w. given bs w.steps) (to_root r 
 -- each cell of each tree is filled; the trees are those of the roots from r on, among all trees
 abbrev pub TreesFilled : Face → List Tree → List ℕ → ℕ → List Tree → Type 0
 TreesFilled face all tops r [] = Unit {0}
-TreesFilled face all tops r (t ∷ ts) = Every (IsFilledSpot face tops) (spots face.boxes t (given_at face.boxes all r)) × TreesFilled face all tops (suc r) ts
+TreesFilled face all tops r (t ∷ ts) = Every (IsFilledSpot face tops) (spots face.boxes t (given_at face.boxes all r))
+    × TreesFilled face all tops (suc r) ts
 
 -- a target that names a root names one below n
 abbrev pub IsRoot : ℕ → Target → Type 0
@@ -217,13 +223,15 @@ SymbolFits face Null = Unit {0}
 SymbolFits face Uninit = Unit {0}
 SymbolFits face Dangling = Unit {0}
 SymbolFits face (Ref r) = Unit {0}
-SymbolFits face (Cell s ds slots) = (s < length face.shapes.structs) × (length ds ≡ datums_of face.shapes.structs s) × Every DatumFits ds × Every (SlotFits face s) slots
+SymbolFits face (Cell s ds slots) = (s < length face.shapes.structs) × (length ds ≡ datums_of face.shapes.structs s)
+    × Every DatumFits ds × Every (SlotFits face s) slots
 
 -- the symbol of each rule fits
 abbrev pub RulesFit : Face → Automaton → Type 0
 RulesFit face a = Every (λ (r : Rule). SymbolFits face r.symbol) a.rules
 
--- each field of each cell is given exactly once: no datum is above 15, each rule fits, and each choice of trees is filled
+-- each field of each cell is given exactly once: no datum is above 15, each rule fits, and each choice of trees is
+-- filled
 pub record IsFilled (face : Face) (F : Forest) : Type 0 where
   pub data_vars : Every DatumFits F.data_vars
   pub rules : Every (RulesFit face) F.autos

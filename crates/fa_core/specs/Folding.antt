@@ -1,5 +1,6 @@
 -- Parts of forests, and folds: a part that a box edge takes the place of.
-use Rattle.std.specs.Prelude.{◌≡◌, ◌↔◌, ◌<◌, ℕ, zero, suc, ◌+◌, ◌-◌, Bool, false, not, nat_eq, nat_lt, if◌then◌else◌, List, [], ◌∷◌, ◌++◌, map, filter, flat_map, length, Option, Some, None, slice_get}
+use Rattle.std.specs.Prelude.{◌≡◌, ◌↔◌, ◌<◌, ℕ, zero, suc, ◌+◌, ◌-◌, Bool, false, not, nat_eq, nat_lt, if◌then◌else◌}
+use Rattle.std.specs.Prelude.{List, [], ◌∷◌, ◌++◌, map, filter, flat_map, length, Option, Some, None, slice_get}
 use Rattle.fore_base.specs.Lists.{IsIn, IsDistinct, Paired}
 use Rattle.fore_base.specs.declared.store.Datum.{Datum}
 use Rattle.ta_core.specs.Auto.{Automaton}
@@ -15,7 +16,8 @@ use Rattle.fa_core.specs.declared.faces.BoxFace.{BoxFace}
 use Rattle.fa_core.specs.declared.folds.FoldStep.{FoldStep}
 use Rattle.fa_core.specs.declared.forest.Forest.{Forest}
 use Rattle.fa_core.specs.declared.forest.Target.{Target}
-use Rattle.fa_core.specs.declared.forest.Target.TheVariants.{Null as NullTarget, Uninit as UninitTarget, Dangling as DanglingTarget, At}
+use Rattle.fa_core.specs.declared.forest.Target.TheVariants.{Null as NullTarget, Uninit as UninitTarget}
+use Rattle.fa_core.specs.declared.forest.Target.TheVariants.{Dangling as DanglingTarget, At}
 use Rattle.fa_core.specs.Canonical.{refs_at}
 use Rattle.fa_core.specs.Filled.{Choice, covers, IsInOrder}
 use Rattle.fa_core.specs.Rearranged.{Rearranged, IsRising}
@@ -93,8 +95,10 @@ moved_target f (At r) = At (f r)
 -- the walk from `todo`, where the roots of `placed` are placed, ends with `order` placed
 pub data Placing (refers : ℕ → List ℕ) : List ℕ → List ℕ → List ℕ → Type 0 where
   all_placed : {order : List ℕ} → Placing refers [] order order
-  is_placed : {r : ℕ} {todo placed order : List ℕ} → IsIn r placed → Placing refers todo placed order → Placing refers (r ∷ todo) placed order
-  place_now : {r : ℕ} {todo placed order : List ℕ} → (IsIn r placed → ⊥) → Placing refers (refers r ++ todo) (placed ++ r ∷ []) order → Placing refers (r ∷ todo) placed order
+  is_placed : {r : ℕ} {todo placed order : List ℕ} → IsIn r placed → Placing refers todo placed order
+      → Placing refers (r ∷ todo) placed order
+  place_now : {r : ℕ} {todo placed order : List ℕ} → (IsIn r placed → ⊥)
+      → Placing refers (refers r ++ todo) (placed ++ r ∷ []) order → Placing refers (r ∷ todo) placed order
 
 -- the place of the number in the list, where it stands first
 abbrev pub position : List ℕ → ℕ → ℕ
@@ -110,7 +114,8 @@ pub record ArePortFields (bs : List BoxFace) (a : Automaton) (fs : List ℕ) : T
   pub rising : IsRising fs
   pub are : (f : ℕ) → IsIn f fs ↔ ((t : Tree) × InLanguage a t × IsIn f (covered_fields bs t))
 
--- the root is there, one rule stands at the top of its trees, and that is a cell of this struct with a slot for each of the fields
+-- the root is there, one rule stands at the top of its trees, and that is a cell of this struct with a slot for each of
+-- the fields
 pub record IsPortRoot (autos : List Automaton) (r shape : ℕ) (fs : List ℕ) : Type 0 where
   pub auto : Automaton
   pub there : slice_get autos r ≡ Some auto
@@ -120,7 +125,8 @@ pub record IsPortRoot (autos : List Automaton) (r shape : ℕ) (fs : List ℕ) :
   pub symbol : one.rule.symbol ≡ Cell shape datums slots
   pub fields : (f : ℕ) → IsIn f fs → IsIn (Field f) slots
 
--- the ports of a part: the root of the input, with the fields that are taken there, and then that of the output, where there is one
+-- the ports of a part: the root of the input, with the fields that are taken there, and then that of the output, where
+-- there is one
 abbrev pub Ports : Type 0
 Ports = List (ℕ × List ℕ)
 
@@ -143,7 +149,8 @@ port_refs ts ps = flat_map (λ p. place_refs (taken p.1 (places_at ts p.0))) ps
 abbrev pub left_refs : List Tree → Ports → ℕ → List ℕ
 left_refs ts ps r = place_refs (left (taken_at ps r) (places_at ts r))
 
--- for one tree of each component: the inner roots are those that are reached from the taken fields without passing the ports, in order of first visit; no variable is at one of them, and no slot outside of the part refers to one
+-- for one tree of each component: the inner roots are those that are reached from the taken fields without passing the
+-- ports, in order of first visit; no variable is at one of them, and no slot outside of the part refers to one
 pub record ArePartRoots (vars : List Target) (ts : List Tree) (ps : Ports) (inner : List ℕ) : Type 0 where
   pub order : List ℕ
   pub reached : Placing (refs_at ts) (port_refs ts ps) (map (λ p. p.0) ps) order
@@ -166,22 +173,31 @@ abbrev pub ArePortAutos : (ℕ → ℕ) → List Automaton → Ports → List �
 ArePortAutos f autos [] shapes made = made ≡ []
 ArePortAutos f autos (p ∷ ps) [] made = ⊥
 ArePortAutos f autos (p ∷ ps) (s ∷ shapes) [] = ⊥
-ArePortAutos f autos (p ∷ ps) (s ∷ shapes) (b ∷ made) = ((a : Automaton) × (slice_get autos p.0 ≡ Some a) × IsLanguageOf (port_tree f s p.1) a b) × ArePortAutos f autos ps shapes made
+ArePortAutos f autos (p ∷ ps) (s ∷ shapes) (b ∷ made) =
+    ((a : Automaton) × (slice_get autos p.0 ≡ Some a) × IsLanguageOf (port_tree f s p.1) a b)
+    × ArePortAutos f autos ps shapes made
 
 -- the components of its inner roots
 abbrev pub AreInnerAutos : (ℕ → ℕ) → List Automaton → List ℕ → List Automaton → Type 0
-AreInnerAutos f autos inner made = Paired (λ r b. (a : Automaton) × (slice_get autos r ≡ Some a) × IsLanguageOf (moved_tree f) a b) inner made
+AreInnerAutos f autos inner made =
+    Paired (λ r b. (a : Automaton) × (slice_get autos r ≡ Some a) × IsLanguageOf (moved_tree f) a b) inner made
 
 -- the ports of a part for a box
 abbrev pub PortsAre : List BoxFace → BoxDef → ℕ → Option ℕ → Ports → List ℕ → Type 0
-PortsAre bs b i None ps shapes = (a : Automaton) × (ins : List ℕ) × (slice_get b.inside.autos 0 ≡ Some a) × ArePortFields bs a ins × (ps ≡ (i, ins) ∷ []) × (b.face.output ≡ None) × (shapes ≡ b.face.input ∷ [])
-PortsAre bs b i (Some j) ps shapes = (a c : Automaton) × (ins outs : List ℕ) × (t : ℕ) × (slice_get b.inside.autos 0 ≡ Some a) × (slice_get b.inside.autos 1 ≡ Some c) × ArePortFields bs a ins × ArePortFields bs c outs × (ps ≡ (i, ins) ∷ ((j, outs) ∷ [])) × (b.face.output ≡ Some t) × (shapes ≡ b.face.input ∷ (t ∷ []))
+PortsAre bs b i None ps shapes = (a : Automaton) × (ins : List ℕ) × (slice_get b.inside.autos 0 ≡ Some a)
+    × ArePortFields bs a ins × (ps ≡ (i, ins) ∷ []) × (b.face.output ≡ None) × (shapes ≡ b.face.input ∷ [])
+PortsAre bs b i (Some j) ps shapes = (a c : Automaton) × (ins outs : List ℕ) × (t : ℕ)
+    × (slice_get b.inside.autos 0 ≡ Some a) × (slice_get b.inside.autos 1 ≡ Some c) × ArePortFields bs a ins
+    × ArePortFields bs c outs × (ps ≡ (i, ins) ∷ ((j, outs) ∷ [])) × (b.face.output ≡ Some t)
+    × (shapes ≡ b.face.input ∷ (t ∷ []))
 
 -- each port is a root with one rule, of its struct and with its fields
 abbrev pub ArePortRoots : List Automaton → Ports → List ℕ → Type 0
 ArePortRoots autos ps shapes = Paired (λ p s. IsPortRoot autos p.0 s p.1) ps shapes
 
--- g is the part of F for box b at root i and, where the box has an output, root j: the fields that the slots of the box's ports cover, with the trees under them and the roots that are reached only through them. References go to the places in the part; where i and j are one root, they go to 0
+-- g is the part of F for box b at root i and, where the box has an output, root j: the fields that the slots of the
+-- box's ports cover, with the trees under them and the roots that are reached only through them. References go to the
+-- places in the part; where i and j are one root, they go to 0
 pub record IsPart (bs : List BoxFace) (F : Forest) (b : BoxDef) (i : ℕ) (out : Option ℕ) (g : BoxDef) : Type 0 where
   pub ports : Ports
   pub shapes : List ℕ
@@ -224,8 +240,10 @@ box_slot f n (Some j) = (Link n, roll-Tree (record { symbol = Ref (f j); childre
 abbrev pub gained : Slot × List Tree → ℕ → ℕ → List (Slot × List Tree)
 gained p i r = if nat_eq i r then p ∷ [] else []
 
--- u is the tree t of root r after the fold: the slots that are not taken and the one that is gained, in order, with the new numbers of the roots
-pub record IsFoldedTree (bs : List BoxFace) (f : ℕ → ℕ) (more : List (Slot × List Tree)) (fs : List ℕ) (t u : Tree) : Type 0 where
+-- u is the tree t of root r after the fold: the slots that are not taken and the one that is gained, in order, with the
+-- new numbers of the roots
+pub record IsFoldedTree (bs : List BoxFace) (f : ℕ → ℕ) (more : List (Slot × List Tree)) (fs : List ℕ) (t u : Tree) :
+    Type 0 where
   pub shape : ℕ
   pub datums : List Datum
   pub slots : List Slot
@@ -237,10 +255,14 @@ pub record IsFoldedTree (bs : List BoxFace) (f : ℕ → ℕ) (more : List (Slot
 
 -- the trees of c are those of a after the fold
 abbrev pub IsFoldedAuto : List BoxFace → (ℕ → ℕ) → List (Slot × List Tree) → List ℕ → Automaton → Automaton → Type 0
-IsFoldedAuto bs f more fs a c = (u : Tree) → InLanguage c u ↔ ((t : Tree) × InLanguage a t × IsFoldedTree bs f more fs t u)
+IsFoldedAuto bs f more fs a c = (u : Tree) → InLanguage c u
+    ↔ ((t : Tree) × InLanguage a t × IsFoldedTree bs f more fs t u)
 
--- G is F after the fold of the part g, which is within box n of the table: it has the Link or Hook of the box at root i in place of the fields of the part, and the part's inner roots are taken away. So the members of F are those of G with the inside of that one edge within g
-pub record FoldOf (bs : List BoxFace) (T : List BoxDef) (F G : Forest) (n i : ℕ) (out : Option ℕ) (g : BoxDef) : Type 0 where
+-- G is F after the fold of the part g, which is within box n of the table: it has the Link or Hook of the box at root i
+-- in place of the fields of the part, and the part's inner roots are taken away. So the members of F are those of G
+-- with the inside of that one edge within g
+pub record FoldOf (bs : List BoxFace) (T : List BoxDef) (F G : Forest) (n i : ℕ) (out : Option ℕ) (g : BoxDef) :
+    Type 0 where
   pub def : BoxDef
   pub there : slice_get T n ≡ Some def
   pub part : IsPart bs F def i out g
@@ -248,7 +270,10 @@ pub record FoldOf (bs : List BoxFace) (T : List BoxDef) (F G : Forest) (n i : �
   pub vars : G.vars ≡ map (moved_target (number_without part.inner)) F.vars
   pub data_vars : G.data_vars ≡ F.data_vars
   pub count : length G.autos + length part.inner ≡ length F.autos
-  pub autos : (r : ℕ) (a : Automaton) → slice_get F.autos r ≡ Some a → (IsIn r part.inner → ⊥) → (c : Automaton) × (slice_get G.autos (number_without part.inner r) ≡ Some c) × IsFoldedAuto bs (number_without part.inner) (gained (box_slot (number_without part.inner) n out) i r) (taken_at part.ports r) a c
+  pub autos : (r : ℕ) (a : Automaton) → slice_get F.autos r ≡ Some a → (IsIn r part.inner → ⊥) → (c : Automaton)
+      × (slice_get G.autos (number_without part.inner r) ≡ Some c)
+      × IsFoldedAuto bs (number_without part.inner) (gained (box_slot (number_without part.inner) n out) i r)
+      (taken_at part.ports r) a c
 
 -- the recorded fold leads from F to G
 abbrev pub IsFold : List BoxFace → List BoxDef → Forest → FoldStep → Forest → Type 0

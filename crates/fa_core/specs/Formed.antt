@@ -1,4 +1,5 @@
--- What is asked of a forest beside the fields of its cells: what an operation owes so that its result is filled where it regroups a filled forest.
+-- What is asked of a forest beside the fields of its cells: what an operation owes so that its result is filled where
+-- it regroups a filled forest.
 use Rattle.std.specs.Prelude.{ℕ, List, length}
 use Rattle.fore_base.specs.Lists.{Every}
 use Rattle.ta_core.specs.Auto.{IsRanked}

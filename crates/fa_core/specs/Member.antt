@@ -12,13 +12,15 @@ use Rattle.ta_core.specs.Language.{InLanguage}
 use Rattle.ta_core.specs.declared.symbol.Slot.{Slot}
 use Rattle.ta_core.specs.declared.symbol.Slot.TheVariants.{Field, Link, Hook}
 use Rattle.ta_core.specs.declared.symbol.Symbol.{Symbol}
-use Rattle.ta_core.specs.declared.symbol.Symbol.TheVariants.{Null as NullSymbol, Uninit as UninitSymbol, Dangling as DanglingSymbol, Ref, Cell as CellSymbol}
+use Rattle.ta_core.specs.declared.symbol.Symbol.TheVariants.{Null as NullSymbol, Uninit as UninitSymbol}
+use Rattle.ta_core.specs.declared.symbol.Symbol.TheVariants.{Dangling as DanglingSymbol, Ref, Cell as CellSymbol}
 use Rattle.ta_core.specs.declared.tree.Tree.{Tree, roll-Tree}
 use Rattle.fa_core.specs.declared.boxes.BoxDef.{BoxDef}
 use Rattle.fa_core.specs.declared.forest.Target.{Target}
 use Rattle.fa_core.specs.declared.forest.Target.TheVariants.{Null, Uninit, Dangling, At}
 use Rattle.fa_core.specs.declared.forest.Forest.{Forest}
-use Rattle.fa_core.specs.Dressed.{Node, Parts, End, Nodes, node, no_parts, field, link, hook, under, leaf, no_nodes, more, Fact, Head, Points, facts, cells, roots_of, value_in}
+use Rattle.fa_core.specs.Dressed.{Node, Parts, End, Nodes, node, no_parts, field, link, hook, under, leaf, no_nodes}
+use Rattle.fa_core.specs.Dressed.{more, Fact, Head, Points, facts, cells, roots_of, value_in}
 use Rattle.fa_core.specs.Rearranged.{Rearranged}
 
 -- Trees without numbers and insides.
@@ -71,15 +73,19 @@ abbrev mutual
   pub InsidesOfParts : List BoxDef → Parts → Type 0
   InsidesOfParts T no_parts = Unit {0}
   InsidesOfParts T (field f e ps) = InsidesOfEnd T e × InsidesOfParts T ps
-  InsidesOfParts T (link b inside e ps) = ((autos : List Automaton) × (inside_of T b ≡ Some autos) × TreesOf T autos inside) × InsidesOfEnd T e × InsidesOfParts T ps
-  InsidesOfParts T (hook b inside ps) = ((autos : List Automaton) × (inside_of T b ≡ Some autos) × TreesOf T autos inside) × InsidesOfParts T ps
+  InsidesOfParts T (link b inside e ps) =
+      ((autos : List Automaton) × (inside_of T b ≡ Some autos) × TreesOf T autos inside) × InsidesOfEnd T e
+      × InsidesOfParts T ps
+  InsidesOfParts T (hook b inside ps) =
+      ((autos : List Automaton) × (inside_of T b ≡ Some autos) × TreesOf T autos inside) × InsidesOfParts T ps
 
   -- each inside below the end is of its box
   pub InsidesOfEnd : List BoxDef → End → Type 0
   InsidesOfEnd T (under n) = InsidesOf T n
   InsidesOfEnd T (leaf t) = Unit {0}
 
-  -- one tree for each component: without numbers and insides it is in the component's language, and each inside in it is of its box
+  -- one tree for each component: without numbers and insides it is in the component's language, and each inside in it
+  -- is of its box
   pub TreesOf : List BoxDef → List Automaton → Nodes → Type 0
   TreesOf T [] no_nodes = Unit {0}
   TreesOf T [] (more n ns) = ⊥
@@ -110,7 +116,8 @@ store_facts (c ∷ cs) = cell_facts c ++ store_facts cs
 abbrev pub HasItsFields : List Shape → CellRec → Type 0
 HasItsFields hs c = length c.fields ≡ length (targets_of hs c.shape)
 
--- F stands for the store s by the dressed forest d: d is one of F, its facts are the heads and fields of s, each target is its variable, and the data are equal
+-- F stands for the store s by the dressed forest d: d is one of F, its facts are the heads and fields of s, each target
+-- is its variable, and the data are equal
 pub record StandsBy (hs : List Shape) (T : List BoxDef) (F : Forest) (d : Nodes) (s : Store) : Type 0 where
   pub proper : IsProper s
   pub fields : Every (HasItsFields hs) s.cells
@@ -125,7 +132,8 @@ Stands hs T F s = (d : Nodes) × StandsBy hs T F d s
 
 -- Regrouping.
 
--- e is a dressed forest of F with the cells of the dressed forest d of G: the same symbols and insides, each slot with the same value at its end, and each variable with the same value
+-- e is a dressed forest of F with the cells of the dressed forest d of G: the same symbols and insides, each slot with
+-- the same value at its end, and each variable with the same value
 pub record Regrouping (T : List BoxDef) (F G : Forest) (d e : Nodes) : Type 0 where
   pub of : OfForest T F e
   pub same_cells : Rearranged (cells d) (cells e)

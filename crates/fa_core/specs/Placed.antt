@@ -1,12 +1,15 @@
--- Leaves put in the place of references: for any map from the numbers of roots to leaves, also one that sends two numbers to one leaf.
+-- Leaves put in the place of references: for any map from the numbers of roots to leaves, also one that sends two
+-- numbers to one leaf.
 use Rattle.std.specs.Prelude.{ℕ, map}
 use Rattle.ta_core.specs.Auto.{Automaton}
 use Rattle.ta_core.specs.declared.auto.Rule.{Rule}
 use Rattle.ta_core.specs.declared.symbol.Symbol.{Symbol}
-use Rattle.ta_core.specs.declared.symbol.Symbol.TheVariants.{Null as NullSymbol, Uninit as UninitSymbol, Dangling as DanglingSymbol, Ref, Cell as CellSymbol}
+use Rattle.ta_core.specs.declared.symbol.Symbol.TheVariants.{Null as NullSymbol, Uninit as UninitSymbol}
+use Rattle.ta_core.specs.declared.symbol.Symbol.TheVariants.{Dangling as DanglingSymbol, Ref, Cell as CellSymbol}
 use Rattle.fa_core.specs.declared.forest.Target.{Target}
 use Rattle.fa_core.specs.declared.forest.Target.TheVariants.{Null, Uninit, Dangling, At}
-use Rattle.fa_core.specs.Dressed.{Node, Parts, End, Nodes, node, no_parts, field, link, hook, under, leaf, no_nodes, more}
+use Rattle.fa_core.specs.Dressed.{Node, Parts, End, Nodes, node, no_parts, field, link, hook, under, leaf, no_nodes}
+use Rattle.fa_core.specs.Dressed.{more}
 use Rattle.fa_core.specs.Member.{leaf_symbol}
 
 -- a reference becomes the leaf of its root; another leaf stays

@@ -1,5 +1,6 @@
 -- The ways from the top of a tree to its references, and the signature that they give.
-use Rattle.std.specs.Prelude.{ℕ, Bool, true, false, ◌&&◌, ◌||◌, nat_eq, nat_le, if◌then◌else◌, List, [], ◌∷◌, ◌++◌, map, filter, length, flat_map, Option, Some, None, slice_get}
+use Rattle.std.specs.Prelude.{ℕ, Bool, true, false, ◌&&◌, ◌||◌, nat_eq, nat_le, if◌then◌else◌, List, [], ◌∷◌, ◌++◌, map}
+use Rattle.std.specs.Prelude.{filter, length, flat_map, Option, Some, None, slice_get}
 use Rattle.ta_core.specs.declared.symbol.Slot.{Slot}
 use Rattle.ta_core.specs.declared.symbol.Slot.TheVariants.{Field, Link, Hook}
 use Rattle.ta_core.specs.declared.symbol.Symbol.{Symbol}
@@ -82,7 +83,8 @@ abbrev pub leads_back : List BoxFace → List Step → Bool
 leads_back bs [] = false
 leads_back bs (s ∷ ss) = all_back bs (s ∷ ss)
 
--- the roots to which the way back leads: those to which the tree refers under the highest cell from which the rest of the way leads back
+-- the roots to which the way back leads: those to which the tree refers under the highest cell from which the rest of
+-- the way leads back
 abbrev pub led_to : List BoxFace → List Step → List ℕ
 led_to bs [] = []
 led_to bs (s ∷ ss) = if all_back bs (s ∷ ss) then s.refers else led_to bs ss

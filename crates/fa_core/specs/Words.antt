@@ -1,4 +1,5 @@
--- Words, as names of C are written: a letter or the underscore, then letters, digits and underscores (ISO/IEC 9899:2011, 6.4.2.1).
+-- Words, as names of C are written: a letter or the underscore, then letters, digits and underscores (ISO/IEC
+-- 9899:2011, 6.4.2.1).
 use Rattle.std.specs.Prelude.{◌≡◌, ◌≤◌, ◌⊎◌, ℕ, List, [], ◌∷◌}
 use Rattle.fore_base.specs.Lists.{Every}
 

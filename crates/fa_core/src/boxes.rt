@@ -6,7 +6,8 @@ use fore_base::list::{Copies, List};
 use fore_base::text::Text;
 use std::alloc::{AllocError, Global};
 
-/// A box: its name, its face, and the forest that stands for an edge of it. Root 0 of the inside is the input, root 1 the output where there is one, and further roots are inner cells.
+/// A box: its name, its face, and the forest that stands for an edge of it. Root 0 of the inside is the input, root 1
+/// the output where there is one, and further roots are inner cells.
 #[derive(Debug, Drop)]
 pub struct BoxDef {
     pub name: Text,

@@ -17,7 +17,8 @@ pub enum Target {
     At(u32),
 }
 
-/// A forest: its components, of which the number is that of their root, and what the pointer variables and the data variables are (CAV 2011, section 3).
+/// A forest: its components, of which the number is that of their root, and what the pointer variables and the data
+/// variables are (CAV 2011, section 3).
 #[derive(Debug, Drop)]
 pub struct Forest {
     pub autos: List<Auto>,

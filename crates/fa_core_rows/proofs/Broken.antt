@@ -236,8 +236,10 @@ third_null = end_bare third.rules 2 (leaf NullTarget) (rule 2 Null [], inr (inr 
 
 third_takes_part : TakesPart third 2
 third_takes_part =
-    let e = out-roll-Tree (record { symbol = Cell 0 [] (Field 0 ∷ Field 1 ∷ Field 2 ∷ []);
-        children = ref ∷ ref ∷ ref ∷ [] }) in (
+    let e = out-roll-Tree (record {
+      symbol = Cell 0 [] (Field 0 ∷ Field 1 ∷ Field 2 ∷ []);
+      children = ref ∷ ref ∷ ref ∷ [];
+    }) in (
       0,
       roll-Tree (record { symbol = Cell 0 [] (Field 0 ∷ Field 1 ∷ Field 2 ∷ []); children = ref ∷ ref ∷ ref ∷ [] }),
       inl refl,
@@ -269,8 +271,11 @@ two_signatures T h =
 
 -- an item whose next is null
 abbrev null_port : Automaton
-null_port = record { states = 2; roots = 0 ∷ [];
-    rules = rule 0 (Cell 0 [] (Field 0 ∷ [])) (1 ∷ []) ∷ rule 1 Null [] ∷ [] }
+null_port = record {
+  states = 2;
+  roots = 0 ∷ [];
+  rules = rule 0 (Cell 0 [] (Field 0 ∷ [])) (1 ∷ []) ∷ rule 1 Null [] ∷ [];
+}
 
 abbrev null_node : Node
 null_node = node 5 0 [] (field 0 (leaf NullTarget) no_parts)
@@ -291,7 +296,7 @@ null_runs = (
 output_unreached : (T : List BoxDef) → IsReached T (record box_face { gives_out = [] }) (null_port ∷ bare_cell ∷ []) → ⊥
 output_unreached T h =
     let r = h (more null_node (more bare_node no_nodes)) (null_runs, (tt, tt), (bare_runs, tt, tt)) 1
-        (CellValue 1 ∷ CellValue 2 ∷ [])
+    (CellValue 1 ∷ CellValue 2 ∷ [])
     (CellValue 2, refl, inl (2, refl)) 2 (inr (inr (inl refl))) in
     elim (reached_ends _ _ 2 r) [
       | inl i ↦ elim i [ inl e ↦ omega (arith, e) | inr x ↦ x ]
@@ -302,7 +307,7 @@ output_unreached T h =
 inner_unreached : (T : List BoxDef) → IsReached T ring_face (port 0 0 ∷ item 0 ∷ []) → ⊥
 inner_unreached T h =
     let r = h (more (port_node 0 0 0) (more (item_node 3 0) no_nodes))
-        (port_runs 0 0 0, (tt, tt), (item_runs 3 0, (tt, (tt, tt)), tt)) 1
+    (port_runs 0 0 0, (tt, tt), (item_runs 3 0, (tt, (tt, tt)), tt)) 1
     (CellValue 1 ∷ []) refl 3 (inl (inl refl)) in
     elim (reached_ends _ _ 3 r) [
       | inl i ↦ elim i [ inl e ↦ omega (arith, e) | inr x ↦ x ]

@@ -159,7 +159,7 @@ part_roots = record { order = 2 ∷ 0 ∷ []; reached = walk; are = refl; no_var
         let e = from_ports in
         let f = inner_refs in
         let last : Placing (refs_at trees) (refs_at trees 0 ++ []) (2 ∷ 0 ∷ []) (2 ∷ 0 ∷ []) =
-            rw f (is_placed (inl refl) all_placed) in
+        rw f (is_placed (inl refl) all_placed) in
         rw e (place_now {r = 0} not_a_port last)
 
     no_var : (r : ℕ) → IsIn r (0 ∷ []) → IsIn (At r) (At 1 ∷ At 2 ∷ []) → ⊥
@@ -194,8 +194,15 @@ is_part = record {
   ports = ports;
   shapes = 0 ∷ [];
   inner = 0 ∷ [];
-  are_ports = (in_port, 0 ∷ [], refl,
-      single_fields bs in_port (bare in_node) (0 ∷ []) (over_single _ _ _) in_runs in_fields tt, refl, refl, refl);
+  are_ports = (
+    in_port,
+    0 ∷ [],
+    refl,
+    single_fields bs in_port (bare in_node) (0 ∷ []) (over_single _ _ _) in_runs in_fields tt,
+    refl,
+    refl,
+    refl,
+  );
   roots = (
     record {
       auto = next_auto 0;
@@ -295,8 +302,12 @@ fold = record {
         → (c : Automaton) × (slice_get (lone_auto ∷ hooked ∷ []) (numbers r) ≡ Some c)
         × IsFoldedAuto bs numbers (gained (box_slot numbers 0 None) 2 r) (taken_at ports r) a c
     all zero a e n = absurd (n (inl refl))
-    all (suc zero) a e n = (lone_auto, refl, subst (λ (x : Automaton). IsFoldedAuto bs numbers [] [] x lone_auto)
-        (same_Some lone_auto a e) lone_stays)
+    all (suc zero) a e n = (
+      lone_auto,
+      refl,
+      subst (λ (x : Automaton). IsFoldedAuto bs numbers [] [] x lone_auto)
+          (same_Some lone_auto a e) lone_stays,
+    )
     all (suc (suc zero)) a e n = (
       hooked,
       refl,
@@ -368,10 +379,15 @@ no_part_at_one_root F g h = by h.are_ports.0 h.are_ports.1 h.are_ports.2 h.are_p
     by a c ins outs ea ec fa fc e =
         let u = front_fields in
         let v = back_fields in
-        let i = (fa.are 0).1 (bare in_node,
-            subst (λ (x : Automaton). InLanguage x (bare in_node)) (same_Some in_port a ea) in_runs, rw u (inl refl)) in
-        let j = (fc.are 0).1 (bare back_node,
-            subst (λ (x : Automaton). InLanguage x (bare back_node)) (same_Some back_port c ec) back_runs,
-            rw v (inl refl)) in
+        let i = (fa.are 0).1 (
+          bare in_node,
+          subst (λ (x : Automaton). InLanguage x (bare in_node)) (same_Some in_port a ea) in_runs,
+          rw u (inl refl),
+        ) in
+        let j = (fc.are 0).1 (
+          bare back_node,
+          subst (λ (x : Automaton). InLanguage x (bare back_node)) (same_Some back_port c ec) back_runs,
+          rw v (inl refl),
+        ) in
         let d = subst (λ (ps : Ports). IsDistinct (taken_at ps 0)) e (h.once 0) in
         twice_there ins (outs ++ []) 0 i (in_left 0 outs [] j) d

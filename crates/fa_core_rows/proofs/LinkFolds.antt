@@ -389,8 +389,10 @@ wide_runs = (
     inl refl,
     refl,
     refl,
-    ((rule 1 (Ref 1) [], inr (inl refl), refl, refl, refl),
-        ((rule 2 Null [], inr (inr (inl refl)), refl, refl, refl), tt)),
+    (
+      (rule 1 (Ref 1) [], inr (inl refl), refl, refl, refl),
+      ((rule 2 Null [], inr (inr (inl refl)), refl, refl, refl), tt),
+    ),
   ),
 )
 
@@ -414,8 +416,12 @@ fold = record {
         → (c : Automaton) × (slice_get (kept_out ∷ kept_head ∷ []) (numbers r) ≡ Some c)
         × IsFoldedAuto bs numbers (gained (box_slot numbers 0 (Some 1)) 2 r) (taken_at ports r) a c
     all zero a e n = absurd (n (inl refl))
-    all (suc zero) a e n = (kept_out, refl, subst (λ (x : Automaton). IsFoldedAuto bs numbers [] (1 ∷ []) x kept_out)
-        (same_Some out_auto a e) out_folded)
+    all (suc zero) a e n = (
+      kept_out,
+      refl,
+      subst (λ (x : Automaton). IsFoldedAuto bs numbers [] (1 ∷ []) x kept_out)
+          (same_Some out_auto a e) out_folded,
+    )
     all (suc (suc zero)) a e n = (
       kept_head,
       refl,

@@ -74,7 +74,7 @@ over_runs c s ds ps qs r h =
 
 pub moved_rolled : (f : ℕ → ℕ) (x : Tree-F Tree)
     → moved_tree f (roll-Tree x) ≡ roll-Tree
-        (record { symbol = moved_symbol f x.symbol; children = map (moved_tree f) x.children })
+    (record { symbol = moved_symbol f x.symbol; children = map (moved_tree f) x.children })
 moved_rolled f x = fold-roll-Tree Tree
     (λ t. roll-Tree (record { symbol = moved_symbol f t.symbol; children = t.children })) x
 

@@ -51,7 +51,7 @@ given_by_ways : (ts : List Tree) (j f : ℕ) (t : Tree) (ws : List Way) → slic
 given_by_ways ts j f t ws g e p =
     let same : t ≡ p.0 = same_Some t p.0 (sym g ∙ p.1) in
     let here = subst (λ (x : Tree). IsIn f (flat_map (λ (w : Way). given pair w.steps) (to_root 0 (ways x))))
-        (sym same) p.2 in
+    (sym same) p.2 in
     subst (λ (us : List Way). IsIn f (flat_map (λ (w : Way). given pair w.steps) (to_root 0 us))) e here
 
 -- to which roots a way back from root 0 into a tree with one edge leads
@@ -60,7 +60,7 @@ led_by_box : (ts : List Tree) (j r b : ℕ) → slice_get ts j ≡ Some (by_box 
 led_by_box ts j r b g l =
     let same : by_box b ≡ l.0 = same_Some (by_box b) l.0 (sym g ∙ l.1) in
     let at = subst (λ (us : List Way). IsIn l.2.0 us) (box_ways b)
-        (subst (λ (x : Tree). IsIn l.2.0 (ways x)) (sym same) l.2.1) in
+    (subst (λ (x : Tree). IsIn l.2.0 (ways x)) (sym same) l.2.1) in
     elim at [ inl e ↦ by l.2.0 e l.2.3 | inr x ↦ absurd x ]
   where
     to_start : (c : ℕ) → IsIn r (led_to pair (back_way c).steps) → r ≡ 0
@@ -145,7 +145,7 @@ two_walk =
     let b = box_refers 0 in
     let c = box_refers 1 in
     let last : Walks (refs_at two) (GoesOn pair two) (refs_at two 2 ++ []) 3 3 =
-        rw c (old {r = 0} {k = 3} (omega arith) ended) in
+    rw c (old {r = 0} {k = 3} (omega arith) ended) in
     let on : Walks (refs_at two) (GoesOn pair two) (refs_at two 1 ++ []) 2 3 =
     rw b (old {r = 0} {k = 2} (omega arith) (again {k = 2} {n = 3} (omega arith) second_on (new {k = 2} last))) in
     new {k = 0} (rw a (again {k = 1} {n = 3} (omega arith) first_on (new {k = 1} on)))
@@ -167,9 +167,9 @@ not_the_greater h = by h.from h.into h.field h.open_way h.provided h.least h.own
     by zero zero f o p l w = given_by_ways turned 0 f start [] refl no_ways p
     by zero (suc zero) f o p l w =
         let z = l 2 1 (2, omega arith, omega arith, turned_led)
-            (by_box 0, refl, (let e = box_ways 0 in rw e (inl refl))) in
+        (by_box 0, refl, (let e = box_ways 0 in rw e (inl refl))) in
         elim (given_by_ways turned 1 f (by_box 1) (back_way 1 ∷ []) refl (box_ways 1) p)
-            [ inl e ↦ omega (arith, e, z) | inr x ↦ x ]
+        [ inl e ↦ omega (arith, e, z) | inr x ↦ x ]
     by zero (suc (suc zero)) f o p l w = let z = w (omega arith) turned_led in omega (arith, z)
     by zero (suc (suc (suc j))) f o p l w = none-some p.0 p.1
 
@@ -221,7 +221,7 @@ not_led_to_own : LeadsBack pair listed 0 2 2 → ⊥
 not_led_to_own l =
     let same : far ≡ l.0 = same_Some far l.0 l.1 in
     let at = subst (λ (us : List Way). IsIn l.2.0 us) far_ways
-        (subst (λ (x : Tree). IsIn l.2.0 (ways x)) (sym same) l.2.1) in
+    (subst (λ (x : Tree). IsIn l.2.0 (ways x)) (sym same) l.2.1) in
     by l.2.0 at l.2.2 l.2.3
   where
     by : (w : Way) → IsIn w (far_back ∷ far_beside ∷ []) → w.root ≡ 0
@@ -266,7 +266,7 @@ listed_walk =
     let b = on_refers in
     let c = far_refers in
     let last : Walks (refs_at listed) (GoesOn pair listed) (refs_at listed 2 ++ []) 3 3 =
-        rw c (old {r = 0} {k = 3} (omega arith) (old {r = 1} {k = 3} (omega arith) ended)) in
+    rw c (old {r = 0} {k = 3} (omega arith) (old {r = 1} {k = 3} (omega arith) ended)) in
     let next : Walks (refs_at listed) (GoesOn pair listed) (refs_at listed 1 ++ []) 2 3 = rw b (new {k = 2} last) in
     new {k = 0} (rw a (again {k = 1} {n = 3} (omega arith) listed_on (new {k = 1} next)))
   where
@@ -332,5 +332,5 @@ own_root_placed = record {
   own_first = λ l w. absurd (omega (arith, l));
   then_list = λ h t e. (let w = both_ways in
       subst (λ (x : Tree). IsFirstOpen (λ r. LeadsBack pair own 0 1 r) 2 (roots_met (ways x))) (same_Some both t e)
-          (rw w (inl (refl, led_to_other))));
+      (rw w (inl (refl, led_to_other))));
 }

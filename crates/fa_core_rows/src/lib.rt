@@ -1,2 +1,3 @@
-//! Worked values of the definitions of forests: rows in proofs/, one subject a file, that fail where a definition is wrong.
+//! Worked values of the definitions of forests: rows in proofs/, one subject a file, that fail where a definition is
+//! wrong.
 #![tactic(auto)]

@@ -7,7 +7,8 @@ use Rattle.fore_base.proofs.ListLemmas.{drop_item}
 abbrev pub IsUpTo : {X : Type 0} → (X → X → Type 0) → List X → List X → ℕ → Type 0
 IsUpTo R xs ys i = (length xs ≡ length ys) × (Paired R (drop i xs) (drop i ys) ↔ Paired R xs ys)
 
-module _ {X : Type 0} (R : X → X → Type 0) (xs ys : List X) (i : ℕ) (x y : X) (low : i < length xs) (at : x ≡ get_or xs i x) (with : y ≡ get_or ys i y) (left : IsUpTo R xs ys i) where
+module _ {X : Type 0} (R : X → X → Type 0) (xs ys : List X) (i : ℕ) (x y : X) (low : i < length xs)
+    (at : x ≡ get_or xs i x) (with : y ≡ get_or ys i y) (left : IsUpTo R xs ys i) where
   first_left : Paired R (drop (i + 1) xs) (drop (i + 1) ys) × R x y ↔ Paired R xs ys
   first_left =
       let d = drop_item xs i x low at in

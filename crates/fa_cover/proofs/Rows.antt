@@ -13,7 +13,8 @@ abbrev none : List Target → Forest
 none vars = record { autos = []; vars = vars; data_vars = [] }
 
 abbrev node : List Target → SoundForest
-node vars = record { forest = none vars; face = record { shapes = record { structs = [] }; boxes = [] }; signatures = [] }
+node vars =
+    record { forest = none vars; face = record { shapes = record { structs = [] }; boxes = [] }; signatures = [] }
 
 same : (vars : List Target) → Covers (none vars) (none vars)
 same vars = record { vars = refl; data_vars = refl; within = tt }
@@ -47,4 +48,5 @@ not_the_second h = h.3.1.0 (same (Null ∷ []))
 
 -- a place whose node does not cover it is none
 not_another : FirstCover (node [] ∷ node (Null ∷ []) ∷ []) (none (Null ∷ [])) (Some 0) → ⊥
-not_another h = other (subst (λ (x : SoundForest). Covers x.forest (none (Null ∷ []))) (sym (same_Some (node []) h.0 h.1)) h.2)
+not_another h =
+    other (subst (λ (x : SoundForest). Covers x.forest (none (Null ∷ []))) (sym (same_Some (node []) h.0 h.1)) h.2)

@@ -11,7 +11,8 @@ NoneCovers nodes G = Every (λ node. Covers node.forest G → ⊥) nodes
 
 -- the node at place i covers G, and none before it does
 abbrev pub IsFirstCover : List SoundForest → Forest → ℕ → Type 0
-IsFirstCover nodes G i = (node : SoundForest) × (slice_get nodes i ≡ Some node) × Covers node.forest G × NoneCovers (take i nodes) G
+IsFirstCover nodes G i = (node : SoundForest) × (slice_get nodes i ≡ Some node) × Covers node.forest G
+    × NoneCovers (take i nodes) G
 
 -- the answer is the least place whose node covers G, and None where no node does
 abbrev pub FirstCover : List SoundForest → Forest → Option ℕ → Type 0

@@ -19,7 +19,9 @@ use par_kit::gate::Gate;
 use std::alloc::Global;
 use std::thread::Threads;
 
-/// Whether the one forest covers the other: equal targets and data, as many roots, and each component's language within that in its place. Where it does, each member of the other is one of it. Both stand over one face; boxes are symbols.
+/// Whether the one forest covers the other: equal targets and data, as many roots, and each component's language within
+/// that in its place. Where it does, each member of the other is one of it. Both stand over one face; boxes are
+/// symbols.
 ///
 /// # Errors
 ///
@@ -27,13 +29,15 @@ use std::thread::Threads;
 pub fn covers(alloc: Global, wide: &Sound, narrow: &Sound) -> Mem<bool>
     requires { wide.now.face ≡ narrow.now.face }
     ensures exact { IfOk result (λ yes. IsTrue yes ↔ Covers wide.now.forest narrow.now.forest) }
-    ensures members { IfOk result (λ yes. IsTrue yes → (hs : List Shape) (T : List BoxDef) (s : Store) → Stands hs T narrow.now.forest s → Stands hs T wide.now.forest s) }
+    ensures members { IfOk result (λ yes. IsTrue yes → (hs : List Shape) (T : List BoxDef) (s : Store)
+        → Stands hs T narrow.now.forest s → Stands hs T wide.now.forest s) }
 {
     covered_members();
     is_covered(alloc, wide.forest(), narrow.forest())
 }
 
-/// The least index whose node covers the forest, None exactly where no node does. All stand over one face. The crew runs 1 to 64 jobs and has no bearing on the answer.
+/// The least index whose node covers the forest, None exactly where no node does. All stand over one face. The crew
+/// runs 1 to 64 jobs and has no bearing on the answer.
 ///
 /// # Errors
 ///

@@ -13,7 +13,8 @@ use std::alloc::Global;
 use ta_core::auto::Auto;
 use ta_incl::is_included;
 
-/// Whether the one forest covers the other. Targets, data, the number of roots and the symbols of the roots' rules are compared before any language. Err is want of memory.
+/// Whether the one forest covers the other. Targets, data, the number of roots and the symbols of the roots' rules are
+/// compared before any language. Err is want of memory.
 pub fn is_covered(alloc: Global, wide: &Forest, narrow: &Forest) -> Mem<bool>
     ensures { IfOk result (λ yes. IsTrue yes ↔ Covers wide.now narrow.now) }
 {

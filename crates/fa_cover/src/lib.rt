@@ -1,6 +1,7 @@
 //! When one forest covers another: whether it does, and the first node of a list that does.
 //!
-//! - `covers` decides the definition `Covers` of `fa_core`: equal targets and data, as many roots, and each component within that in its place.
+//! - `covers` decides the definition `Covers` of `fa_core`: equal targets and data, as many roots, and each component
+//! within that in its place.
 //! - `first_cover` is the least index of a list whose node covers a forest.
 #![tactic(auto)]
 

@@ -12,7 +12,8 @@ use ta_core::auto::{Auto, Rule};
 use ta_core::inhabited::inhabited;
 use ta_core::symbol::Symbol;
 
-/// Whether there are as many automata, and the symbol at the top of each tree is that of a rule of a root state in its place. Where it is not, some tree is none of the wide automaton. Err is want of memory.
+/// Whether there are as many automata, and the symbol at the top of each tree is that of a rule of a root state in its
+/// place. Where it is not, some tree is none of the wide automaton. Err is want of memory.
 pub fn keep_tops(alloc: Global, narrow: &[Auto], wide: &[Auto]) -> Mem<bool>
     ensures { IfOk result (λ yes. IsTrue yes ↔ Paired KeepsTops narrow.now wide.now) }
 {

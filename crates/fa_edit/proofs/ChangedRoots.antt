@@ -13,7 +13,8 @@ use Rattle.fa_split.specs.Split.{set_node}
 use Rattle.fa_split.proofs.OtherComponent.{trees_set, set_components}
 
 -- the tree there is the changed one
-pub put_node : (r : ℕ) (g : Node → Node) (d : Nodes) (n : Node) → node_at d r ≡ Some n → node_at (put_at r g d) r ≡ Some (g n)
+pub put_node : (r : ℕ) (g : Node → Node) (d : Nodes) (n : Node) → node_at d r ≡ Some n → node_at (put_at r g d) r
+    ≡ Some (g n)
 put_node r g no_nodes n e = absurd (none-some n e)
 put_node zero g (more m ns) n e = ap (λ (z : Node). Some (g z)) (same_Some m n e)
 put_node (suc r) g (more m ns) n e = put_node r g ns n e
@@ -23,13 +24,18 @@ put_set r g no_nodes n e = absurd (none-some n e)
 put_set zero g (more m ns) n e = ap (λ (z : Node). more (g z) ns) (same_Some m n e)
 put_set (suc r) g (more m ns) n e = ap (more m) (put_set r g ns n e)
 
-module _ (T : List BoxDef) (autos : List Automaton) (r : ℕ) (b : Automaton) (g : Node → Node) (d : Nodes) (n : Node) (there : node_at d r ≡ Some n) where
+module _ (T : List BoxDef) (autos : List Automaton) (r : ℕ) (b : Automaton) (g : Node → Node) (d : Nodes) (n : Node)
+    (there : node_at d r ≡ Some n) where
   -- where the changed tree is one of b, with b as the component
-  pub put_forth : TreesOf T autos d → InLanguage b (bare (g n)) → InsidesOf T (g n) → TreesOf T (slice_set autos r b) (put_at r g d)
-  put_forth h l i = subst (λ (z : Nodes). TreesOf T (slice_set autos r b) z) (sym (put_set r g d n there)) (trees_set T autos r b d (g n) h l i)
+  pub put_forth : TreesOf T autos d → InLanguage b (bare (g n)) → InsidesOf T (g n)
+      → TreesOf T (slice_set autos r b) (put_at r g d)
+  put_forth h l i = subst (λ (z : Nodes). TreesOf T (slice_set autos r b) z) (sym (put_set r g d n there))
+      (trees_set T autos r b d (g n) h l i)
 
   -- and back
-  pub put_back : r < length autos → TreesOf T (slice_set autos r b) d → InLanguage (component_at autos r) (bare (g n)) → InsidesOf T (g n) → TreesOf T autos (put_at r g d)
+  pub put_back : r < length autos → TreesOf T (slice_set autos r b) d → InLanguage (component_at autos r) (bare (g n))
+      → InsidesOf T (g n) → TreesOf T autos (put_at r g d)
   put_back w h l i =
       subst (λ (z : List Automaton). TreesOf T z (put_at r g d)) (set_components autos r b w)
-      (subst (λ (z : Nodes). TreesOf T (slice_set (slice_set autos r b) r (component_at autos r)) z) (sym (put_set r g d n there)) (trees_set T (slice_set autos r b) r (component_at autos r) d (g n) h l i))
+      (subst (λ (z : Nodes). TreesOf T (slice_set (slice_set autos r b) r (component_at autos r)) z)
+      (sym (put_set r g d n there)) (trees_set T (slice_set autos r b) r (component_at autos r) d (g n) h l i))

@@ -1,5 +1,6 @@
 -- The forest with another datum in a data field of a root: its dressed forests are those with that datum there.
-use Rattle.std.proofs.Common.{◌≡◌, ℕ, zero, suc, ◌<◌, length, List, [], ◌∷◌, refl, sym, ap, subst, ◌∙◌, slice_get, Option, Some, None, MatchOption, arith}
+use Rattle.std.proofs.Common.{◌≡◌, ℕ, zero, suc, ◌<◌, length, List, [], ◌∷◌, refl, sym, ap, subst, ◌∙◌, slice_get}
+use Rattle.std.proofs.Common.{Option, Some, None, MatchOption, arith}
 use Rattle.std.proofs.lemmas.Option.{same_Some}
 use Rattle.fore_base.specs.Lists.{Every}
 use Rattle.fore_base.specs.declared.store.Datum.{Datum}
@@ -10,7 +11,8 @@ use Rattle.fa_core.specs.declared.boxes.BoxDef.{BoxDef}
 use Rattle.fa_core.specs.declared.forest.Forest.{Forest}
 use Rattle.fa_core.specs.Dressed.{Node, Nodes, node}
 use Rattle.fa_core.specs.Member.{OfForest, InsidesOf, bare}
-use Rattle.fa_edit.specs.Data.{AllHaveDatum, AllLackDatum, HasDatum, IsDatumPut, datum_put, datums_at, symbol_datums, top_datums, with_datum}
+use Rattle.fa_edit.specs.Data.{AllHaveDatum, AllLackDatum, HasDatum, IsDatumPut, datum_put, datums_at, symbol_datums}
+use Rattle.fa_edit.specs.Data.{top_datums, with_datum}
 use Rattle.fa_edit.specs.inner.Edited.{dated, dated_at}
 use Rattle.fa_edit.proofs.ChangedRoots.{put_forth, put_back}
 use Rattle.fa_edit.proofs.DatumTrees.{datums_top, put_dated, dated_has, from_dated}
@@ -37,13 +39,18 @@ module _ (F : Forest) (r f : ℕ) (root : r < length F.autos) (one : HasOneTop (
   data_are n l = ap symbol_datums (tree_by_top a one (bare n) l).0 ∙ datums_top n
 
   pub data_have : (y : Datum) → slice_get (datums_at F r) f ≡ Some y → (T : List BoxDef) → AllHaveDatum T F r f y
-  data_have y e T d o = (let n = tree_at T F.autos r d root o in (n.0, n.1, subst (λ (ds : List Datum). slice_get ds f ≡ Some y) (data_are n.0 n.2) e))
+  data_have y e T d o =
+      (let n = tree_at T F.autos r d root o in
+      (n.0, n.1, subst (λ (ds : List Datum). slice_get ds f ≡ Some y) (data_are n.0 n.2) e))
 
   pub data_lack : slice_get (datums_at F r) f ≡ None → (T : List BoxDef) → AllLackDatum T F r f
-  data_lack e T d o = (let n = tree_at T F.autos r d root o in (n.0, n.1, subst (λ (ds : List Datum). slice_get ds f ≡ None) (data_are n.0 n.2) e))
+  data_lack e T d o =
+      (let n = tree_at T F.autos r d root o in
+      (n.0, n.1, subst (λ (ds : List Datum). slice_get ds f ≡ None) (data_are n.0 n.2) e))
 
   -- what is read of the one rule, each dressed forest has
-  pub data_held : (o : Option Datum) → o ≡ slice_get (datums_at F r) f → MatchOption o ((T : List BoxDef) → AllLackDatum T F r f) (λ y. (T : List BoxDef) → AllHaveDatum T F r f y)
+  pub data_held : (o : Option Datum) → o ≡ slice_get (datums_at F r) f
+      → MatchOption o ((T : List BoxDef) → AllLackDatum T F r f) (λ y. (T : List BoxDef) → AllHaveDatum T F r f y)
   data_held None e = data_lack (sym e)
   data_held (Some y) e = data_have y (sym e)
 
@@ -61,7 +68,8 @@ module _ (F : Forest) (r f : ℕ) (root : r < length F.autos) (one : HasOneTop (
       forth : (d : Nodes) → OfForest T F d → OfForest T G (datum_put r f z d)
       forth d o =
           let n = tree_at T F.autos r d root o in
-          put_forth T F.autos r b (with_datum f z) d n.0 n.1 o (put_dated a a_ranked one f z n.0 n.2) (datum_insides T f z n.0 n.3)
+          put_forth T F.autos r b (with_datum f z) d n.0 n.1 o (put_dated a a_ranked one f z n.0 n.2)
+          (datum_insides T f z n.0 n.3)
 
       has : AllHaveDatum T G r f z
       has d o = (let n = tree_in T F.autos r b d root o in (n.0, n.1, dated_has a a_ranked one f z y is n.0 n.2))
@@ -69,7 +77,8 @@ module _ (F : Forest) (r f : ℕ) (root : r < length F.autos) (one : HasOneTop (
       back : (d : Nodes) → OfForest T G d → OfForest T F (datum_put r f y d)
       back d o =
           let n = tree_in T F.autos r b d root o in
-          put_back T F.autos r b (with_datum f y) d n.0 n.1 root o (from_dated a a_ranked one f z y is n.0 n.2) (datum_insides T f y n.0 n.3)
+          put_back T F.autos r b (with_datum f y) d n.0 n.1 root o (from_dated a a_ranked one f z y is n.0 n.2)
+          (datum_insides T f y n.0 n.3)
 
       same_datum : (v : Datum) (d : Nodes) → HasDatum d r f y → HasDatum d r f v → y ≡ v
       same_datum v d (n, e, h) (m, k, j) =
@@ -84,6 +93,7 @@ module _ (F : Forest) (r f : ℕ) (root : r < length F.autos) (one : HasOneTop (
         forth = forth;
         new = has;
         back = λ d o. (let e = back d o in
-            let s : y ≡ v = same_datum v (datum_put r f y d) (data_have y is T (datum_put r f y d) e) (old (datum_put r f y d) e) in
+            let s : y ≡ v = same_datum v (datum_put r f y d) (data_have y is T (datum_put r f y d) e)
+            (old (datum_put r f y d) e) in
             subst (λ (x : Datum). OfForest T F (datum_put r f x d)) s e);
       }

@@ -1,5 +1,6 @@
 -- The forest with another datum in a data field of a root is sound, and canonical where the forest was.
-use Rattle.std.proofs.Common.{◌≡◌, inl, inr, ℕ, zero, suc, ◌<◌, length, List, [], ◌∷◌, map, refl, sym, ap, ap₂, subst, ◌∙◌, slice_set, length-set}
+use Rattle.std.proofs.Common.{◌≡◌, inl, inr, ℕ, zero, suc, ◌<◌, length, List, [], ◌∷◌, map, refl, sym, ap, ap₂, subst}
+use Rattle.std.proofs.Common.{◌∙◌, slice_set, length-set}
 use Rattle.fore_base.specs.Lists.{Every, Paired}
 use Rattle.fore_base.specs.declared.store.Datum.{Datum}
 use Rattle.fore_base.proofs.ListLemmas.{every_set, paired_same}
@@ -8,13 +9,15 @@ use Rattle.ta_core.specs.Language.{RunEach, InLanguage}
 use Rattle.ta_core.specs.Single.{HasOneTop}
 use Rattle.ta_core.specs.declared.symbol.Symbol.{Symbol}
 use Rattle.ta_core.specs.declared.symbol.Symbol.TheVariants.{Null, Uninit, Dangling, Ref, Cell}
-use Rattle.ta_core.specs.declared.tree.Tree.{Tree, Tree-F, out-Tree, roll-Tree, out-roll-Tree, roll-out-Tree, para-roll-Tree}
+use Rattle.ta_core.specs.declared.tree.Tree.{Tree, Tree-F, out-Tree, roll-Tree, out-roll-Tree, roll-out-Tree}
+use Rattle.ta_core.specs.declared.tree.Tree.{para-roll-Tree}
 use Rattle.fa_core.specs.declared.faces.BoxFace.{BoxFace}
 use Rattle.fa_core.specs.declared.faces.Face.{Face}
 use Rattle.fa_core.specs.declared.forest.Forest.{Forest}
 use Rattle.fa_core.specs.Boxless.{IsPlain, HasNoBoxes}
 use Rattle.fa_core.specs.Canonical.{IsCanonical, field_trees, fields_under, var_roots}
-use Rattle.fa_core.specs.Filled.{Choice, IsTopped, Spot, spots, spots_at, DatumFits, SymbolFits, RulesFit, HasSignatures, HasSome, IsSound, IsFilledSpot}
+use Rattle.fa_core.specs.Filled.{Choice, IsTopped, Spot, spots, spots_at, DatumFits, SymbolFits, RulesFit}
+use Rattle.fa_core.specs.Filled.{HasSignatures, HasSome, IsSound, IsFilledSpot}
 use Rattle.fa_core.specs.Ways.{Way, ways, ways_at, mark, roots_met, signature}
 use Rattle.fa_core.proofs.WayParts.{ways_out}
 use Rattle.fa_edit.specs.inner.Edited.{symbol_with, dated, dated_at}
@@ -49,7 +52,8 @@ module _ (f : ℕ) (z : Datum) where
   same_ways (Ref r) ws = refl
   same_ways (Cell s ds ss) ws = refl
 
-  same_spots : (bs : List BoxFace) (y : Symbol) (cs : List (Tree × (List ℕ → List Spot))) (above : List ℕ) → spots_at bs (symbol_with f z y) cs above ≡ spots_at bs y cs above
+  same_spots : (bs : List BoxFace) (y : Symbol) (cs : List (Tree × (List ℕ → List Spot))) (above : List ℕ)
+      → spots_at bs (symbol_with f z y) cs above ≡ spots_at bs y cs above
   same_spots bs Null cs above = refl
   same_spots bs Uninit cs above = refl
   same_spots bs Dangling cs above = refl
@@ -63,7 +67,8 @@ module _ (f : ℕ) (z : Datum) where
   same_fields (Ref r) ts = refl
   same_fields (Cell s ds ss) ts = refl
 
-  symbol_topped : (s : ℕ) (y : Symbol) (t u : Tree) → (out-Tree u).symbol ≡ y → symbol_with f z y ≡ (out-Tree t).symbol → IsTopped s u → IsTopped s t
+  symbol_topped : (s : ℕ) (y : Symbol) (t u : Tree) → (out-Tree u).symbol ≡ y → symbol_with f z y ≡ (out-Tree t).symbol
+      → IsTopped s u → IsTopped s t
   symbol_topped s y t u e w h = (slice_set h.0 f z, h.1, sym w ∙ ap (symbol_with f z) (sym e ∙ h.2))
 
   symbol_fits : (face : Face) (y : Symbol) → DatumFits z → SymbolFits face y → SymbolFits face (symbol_with f z y)
@@ -107,8 +112,10 @@ module _ (f : ℕ) (z : Datum) where
         ∙ sym (rolled (out-Tree t))
         ∙ ap (λ (u : Tree). spots bs u above) (roll-out-Tree t)
       where
-        rolled : (x : Tree-F Tree) → spots bs (roll-Tree x) above ≡ spots_at bs x.symbol (map (λ (c : Tree). (c, spots bs c)) x.children) above
-        rolled x = ap (λ (g : List ℕ → List Spot). g above) (para-roll-Tree (List ℕ → List Spot) (λ u. spots_at bs u.symbol u.children) x)
+        rolled : (x : Tree-F Tree) → spots bs (roll-Tree x) above
+            ≡ spots_at bs x.symbol (map (λ (c : Tree). (c, spots bs c)) x.children) above
+        rolled x = ap (λ (g : List ℕ → List Spot). g above)
+            (para-roll-Tree (List ℕ → List Spot) (λ u. spots_at bs u.symbol u.children) x)
 
 -- The component.
 
@@ -124,7 +131,10 @@ module _ (a : Automaton) (ranked : IsRanked a) (one : HasOneTop a) (f : ℕ) (z 
   old t = with_symbol y t
 
   by_old : (t : Tree) → RunEach a.rules (top_rule a).children (out-Tree t).children → InLanguage a (old t)
-  by_old t k = top_by_tree a one (old t) (sym (symbol_there y t), subst (λ (ts : List Tree). RunEach a.rules (top_rule a).children ts) (sym (children_there y t)) k)
+  by_old t k = top_by_tree a one (old t) (
+    sym (symbol_there y t),
+    subst (λ (ts : List Tree). RunEach a.rules (top_rule a).children ts) (sym (children_there y t)) k,
+  )
 
   pub low : (t : Tree) → InLanguage b t → InLanguage a (old t)
   low t l = by_old t (dated_of a ranked one f z t l).1
@@ -138,17 +148,25 @@ module _ (a : Automaton) (ranked : IsRanked a) (one : HasOneTop a) (f : ℕ) (z 
     component = λ t u v w. between t u (dated_of a ranked one f z t v) (dated_of a ranked one f z u w);
   }
     where
-      between : (t u : Tree) → (symbol_with f z y ≡ (out-Tree t).symbol) × RunEach a.rules (top_rule a).children (out-Tree t).children → (symbol_with f z y ≡ (out-Tree u).symbol) × RunEach a.rules (top_rule a).children (out-Tree u).children → signature bs t ≡ signature bs u
-      between t u v w = sym (signature_with f z y t v.0 bs) ∙ h.component (old t) (old u) (by_old t v.1) (by_old u w.1) ∙ signature_with f z y u w.0 bs
+      between : (t u : Tree) → (symbol_with f z y ≡ (out-Tree t).symbol)
+          × RunEach a.rules (top_rule a).children (out-Tree t).children → (symbol_with f z y ≡ (out-Tree u).symbol)
+          × RunEach a.rules (top_rule a).children (out-Tree u).children → signature bs t ≡ signature bs u
+      between t u v w = sym (signature_with f z y t v.0 bs) ∙ h.component (old t) (old u) (by_old t v.1) (by_old u w.1)
+          ∙ signature_with f z y u w.0 bs
 
   pub some : HasSome a → HasSome b
   some h =
-      let t = with_symbol (symbol_with f z y) h.0 in
-      (t, to_dated a ranked one f z t (sym (symbol_there (symbol_with f z y) h.0)) (subst (λ (ts : List Tree). RunEach a.rules (top_rule a).children ts) (sym (children_there (symbol_with f z y) h.0)) (tree_by_top a one h.0 h.1).1))
+      let t = with_symbol (symbol_with f z y) h.0 in (
+        t,
+        to_dated a ranked one f z t (sym (symbol_there (symbol_with f z y) h.0))
+            (subst (λ (ts : List Tree). RunEach a.rules (top_rule a).children ts)
+            (sym (children_there (symbol_with f z y) h.0)) (tree_by_top a one h.0 h.1).1),
+      )
 
 -- The forest.
 
-module _ (face : Face) (F : Forest) (r f : ℕ) (z : Datum) (ranked : Every IsRanked F.autos) (plain : Every HasNoBoxes F.autos) (root : r < length F.autos) (one : HasOneTop (component_at F.autos r)) where
+module _ (face : Face) (F : Forest) (r f : ℕ) (z : Datum) (ranked : Every IsRanked F.autos)
+    (plain : Every HasNoBoxes F.autos) (root : r < length F.autos) (one : HasOneTop (component_at F.autos r)) where
   abbrev own : Automaton
   own = component_at F.autos r
 
@@ -164,7 +182,8 @@ module _ (face : Face) (F : Forest) (r f : ℕ) (z : Datum) (ranked : Every IsRa
   fresh_plain : HasNoBoxes (dated own f z)
   fresh_plain =
       let p = component_has HasNoBoxes F.autos r plain root in
-      dated_symbols own own_ranked one f z IsPlain (symbol_plain f z (top_rule own).symbol (at_top own own_ranked one f z IsPlain p)) p
+      dated_symbols own own_ranked one f z IsPlain
+      (symbol_plain f z (top_rule own).symbol (at_top own own_ranked one f z IsPlain p)) p
 
   pub datum_plain : Every HasNoBoxes G.autos
   datum_plain = edited_plain face F r (dated own f z) before plain fresh_plain
@@ -173,16 +192,20 @@ module _ (face : Face) (F : Forest) (r f : ℕ) (z : Datum) (ranked : Every IsRa
     fresh_fits : RulesFit face (dated own f z)
     fresh_fits =
         let p = component_has (RulesFit face) F.autos r sound.well_formed.filled.rules root in
-        dated_symbols own own_ranked one f z (SymbolFits face) (symbol_fits f z face (top_rule own).symbol fits (at_top own own_ranked one f z (SymbolFits face) p)) p
+        dated_symbols own own_ranked one f z (SymbolFits face)
+        (symbol_fits f z face (top_rule own).symbol fits (at_top own own_ranked one f z (SymbolFits face) p)) p
 
     pub datum_sound : IsSound face G
     datum_sound = edited_sound face F r (dated own f z) before plain fresh_plain sound
         fresh_fits
-        (signed own own_ranked one f z face.boxes (component_has (HasSignatures face.boxes) F.autos r sound.well_formed.signatures root))
+        (signed own own_ranked one f z face.boxes
+        (component_has (HasSignatures face.boxes) F.autos r sound.well_formed.signatures root))
         (some own own_ranked one f z (component_has HasSome F.autos r sound.full root))
         (low own own_ranked one f z)
-        (λ t s l h. symbol_topped f z s (top_rule own).symbol t (before t) (symbol_there (top_rule own).symbol t) (dated_of own own_ranked one f z t l).0 h)
-        (λ us tops c h t l k. subst (λ (ps : List Spot). Every (IsFilledSpot face tops) ps) (spots_with f z (top_rule own).symbol t (dated_of own own_ranked one f z t l).0 face.boxes []) k)
+        (λ t s l h. symbol_topped f z s (top_rule own).symbol t (before t) (symbol_there (top_rule own).symbol t)
+        (dated_of own own_ranked one f z t l).0 h)
+        (λ us tops c h t l k. subst (λ (ps : List Spot). Every (IsFilledSpot face tops) ps)
+        (spots_with f z (top_rule own).symbol t (dated_of own own_ranked one f z t l).0 face.boxes []) k)
 
     same_ends : (ts : List Tree) → Paired (EndFollows (λ k. k)) ts ts
     same_ends = paired_same (EndFollows (λ k. k)) (λ t. ((λ k. ((λ h. h), (λ h. h))), (λ k e. e)))
@@ -191,23 +214,33 @@ module _ (face : Face) (F : Forest) (r f : ℕ) (z : Datum) (ranked : Every IsRa
     same_tame t = (refl, same_ends (field_trees t))
 
     -- the trees with the old data show what theirs show
-    tame : (autos : List Automaton) (k : ℕ) (ts : List Tree) → Choice (slice_set autos k (dated own f z)) ts → Paired (StaysTame face.boxes) (changed before k ts) ts
+    tame : (autos : List Automaton) (k : ℕ) (ts : List Tree) → Choice (slice_set autos k (dated own f z)) ts
+        → Paired (StaysTame face.boxes) (changed before k ts) ts
     tame [] k [] c = tt
     tame [] k (t ∷ ts) c = absurd c
     tame (x ∷ autos) zero [] c = absurd c
     tame (x ∷ autos) (suc k) [] c = absurd c
     tame (x ∷ autos) zero (t ∷ ts) c =
-        let e = (dated_of own own_ranked one f z t c.0).0 in
-        ((signature_with f z (top_rule own).symbol t e face.boxes, subst (λ (us : List Tree). Paired (EndFollows (λ k. k)) us (field_trees t)) (sym (fields_with f z (top_rule own).symbol t e)) (same_ends (field_trees t))), paired_same (StaysTame face.boxes) same_tame ts)
+        let e = (dated_of own own_ranked one f z t c.0).0 in (
+          (
+            signature_with f z (top_rule own).symbol t e face.boxes,
+            subst (λ (us : List Tree). Paired (EndFollows (λ k. k)) us (field_trees t))
+                (sym (fields_with f z (top_rule own).symbol t e)) (same_ends (field_trees t)),
+          ),
+          paired_same (StaysTame face.boxes) same_tame ts,
+        )
     tame (x ∷ autos) (suc k) (t ∷ ts) c = (same_tame t, tame autos k ts c.1)
 
     pub datum_canonical : IsCanonical face F → IsCanonical face G
     datum_canonical can = record {
       well_formed = datum_sound.well_formed;
       tops = every_put HasOneTop F.autos r (dated own f z) can.tops (dated_one own own_ranked one f z);
-      kinds = λ ts c. kinds_too face.boxes F.vars (changed before r ts) ts (tame F.autos r ts c) (can.kinds (changed before r ts) (olds ts c));
-      untied = λ ts c. untied_too face.boxes F.vars (changed before r ts) ts (tame F.autos r ts c) (can.untied (changed before r ts) (olds ts c));
-      order = λ ts c. order_too face.boxes F.vars (changed before r ts) ts (tame F.autos r ts c) (var_roots F.vars) (can.order (changed before r ts) (olds ts c));
+      kinds = λ ts c. kinds_too face.boxes F.vars (changed before r ts) ts (tame F.autos r ts c)
+          (can.kinds (changed before r ts) (olds ts c));
+      untied = λ ts c. untied_too face.boxes F.vars (changed before r ts) ts (tame F.autos r ts c)
+          (can.untied (changed before r ts) (olds ts c));
+      order = λ ts c. order_too face.boxes F.vars (changed before r ts) ts (tame F.autos r ts c) (var_roots F.vars)
+          (can.order (changed before r ts) (olds ts c));
     }
       where
         olds : (ts : List Tree) → Choice G.autos ts → Choice F.autos (changed before r ts)

@@ -1,5 +1,6 @@
 -- The automaton with another datum in the one rule at its top.
-use Rattle.std.proofs.Common.{◌≡◌, inl, ℕ, ◌<◌, ◌≤◌, ◌+◌, List, [], ◌∷◌, refl, sym, ap, subst, ◌∙◌, slice_get, slice_set, Some, arith}
+use Rattle.std.proofs.Common.{◌≡◌, inl, ℕ, ◌<◌, ◌≤◌, ◌+◌, List, [], ◌∷◌, refl, sym, ap, subst, ◌∙◌, slice_get}
+use Rattle.std.proofs.Common.{slice_set, Some, arith}
 use Rattle.fore_base.specs.Lists.{IsIn, Every}
 use Rattle.fore_base.specs.declared.store.Datum.{Datum}
 use Rattle.fore_base.proofs.ListLemmas.{in_right, every_in, every_append}
@@ -39,7 +40,8 @@ symbol_same f y Dangling e = refl
 symbol_same f y (Ref r) e = refl
 symbol_same f y (Cell s ds ss) e = ap (λ (es : List Datum). Cell s es ss) (set_same ds f y e)
 
-pub symbol_has : (f : ℕ) (y z : Datum) (s : Symbol) → slice_get (symbol_datums s) f ≡ Some y → slice_get (symbol_datums (symbol_with f z s)) f ≡ Some z
+pub symbol_has : (f : ℕ) (y z : Datum) (s : Symbol) → slice_get (symbol_datums s) f ≡ Some y
+    → slice_get (symbol_datums (symbol_with f z s)) f ≡ Some z
 symbol_has f y z Null e = absurd cc
 symbol_has f y z Uninit e = absurd cc
 symbol_has f y z Dangling e = absurd cc
@@ -58,10 +60,13 @@ symbol_arity f z (Cell s ds ss) = refl
 pub datums_top : (n : Node) → symbol_datums (out-Tree (bare n)).symbol ≡ top_datums n
 datums_top (node c s ds ps) = ap symbol_datums (cell_top c s ds ps)
 
-pub with_datum_symbol : (f : ℕ) (z : Datum) (n : Node) → (out-Tree (bare (with_datum f z n))).symbol ≡ symbol_with f z (out-Tree (bare n)).symbol
-with_datum_symbol f z (node c s ds ps) = cell_top c s (slice_set ds f z) ps ∙ ap (symbol_with f z) (sym (cell_top c s ds ps))
+pub with_datum_symbol : (f : ℕ) (z : Datum) (n : Node) → (out-Tree (bare (with_datum f z n))).symbol
+    ≡ symbol_with f z (out-Tree (bare n)).symbol
+with_datum_symbol f z (node c s ds ps) = cell_top c s (slice_set ds f z) ps
+    ∙ ap (symbol_with f z) (sym (cell_top c s ds ps))
 
-pub with_datum_children : (f : ℕ) (z : Datum) (n : Node) → (out-Tree (bare (with_datum f z n))).children ≡ (out-Tree (bare n)).children
+pub with_datum_children : (f : ℕ) (z : Datum) (n : Node) → (out-Tree (bare (with_datum f z n))).children
+    ≡ (out-Tree (bare n)).children
 with_datum_children f z (node c s ds ps) = cell_children c s (slice_set ds f z) ps ∙ sym (cell_children c s ds ps)
 
 -- The automaton.
@@ -83,19 +88,28 @@ module _ (a : Automaton) (ranked : IsRanked a) (one : HasOneTop a) (f : ℕ) (z 
   above o i = let s : o.state ≡ a.states = ap (λ (x : Rule). x.state) (one_item o fresh i) in omega (arith, s)
 
   -- a run to the new state ends with the new rule
-  pub dated_back : (q : ℕ) (t : Tree) → a.states ≤ q → RunOf new.rules q t → (symbol_with f z top.symbol ≡ (out-Tree t).symbol) × RunEach a.rules top.children (out-Tree t).children
+  pub dated_back : (q : ℕ) (t : Tree) → a.states ≤ q → RunOf new.rules q t
+      → (symbol_with f z top.symbol ≡ (out-Tree t).symbol) × RunEach a.rules top.children (out-Tree t).children
   dated_back q t l w =
       let k = fresh_run a (fresh ∷ []) ranked above q t l w in
       let e : k.0 ≡ fresh = one_item k.0 fresh k.1 in (
         ap (λ (x : Rule). x.symbol) (sym e) ∙ k.3,
-        stay_each a (fresh ∷ []) ranked above top.children (out-Tree t).children right.1 (subst (λ (x : Rule). RunEach new.rules x.children (out-Tree t).children) e k.4),
+        stay_each a (fresh ∷ []) ranked above top.children (out-Tree t).children right.1
+            (subst (λ (x : Rule). RunEach new.rules x.children (out-Tree t).children) e k.4),
       )
 
-  pub dated_of : (t : Tree) → InLanguage new t → (symbol_with f z top.symbol ≡ (out-Tree t).symbol) × RunEach a.rules top.children (out-Tree t).children
+  pub dated_of : (t : Tree) → InLanguage new t → (symbol_with f z top.symbol ≡ (out-Tree t).symbol)
+      × RunEach a.rules top.children (out-Tree t).children
   dated_of t (q, i, w) = let s : q ≡ a.states = one_item q a.states i in dated_back q t (omega (arith, s)) w
 
-  pub to_dated : (t : Tree) → symbol_with f z top.symbol ≡ (out-Tree t).symbol → RunEach a.rules top.children (out-Tree t).children → InLanguage new t
-  to_dated t e k = (a.states, inl refl, run fresh (in_right fresh a.rules (fresh ∷ []) (inl refl)) refl e (widen_each a (fresh ∷ []) ranked above top.children (out-Tree t).children k))
+  pub to_dated : (t : Tree) → symbol_with f z top.symbol ≡ (out-Tree t).symbol
+      → RunEach a.rules top.children (out-Tree t).children → InLanguage new t
+  to_dated t e k = (
+    a.states,
+    inl refl,
+    run fresh (in_right fresh a.rules (fresh ∷ []) (inl refl)) refl e
+        (widen_each a (fresh ∷ []) ranked above top.children (out-Tree t).children k),
+  )
 
   pub dated_one : HasOneTop new
   dated_one = fresh_top_one a.states (a.states + 1) a.rules fresh [] refl (low_rules a.states a.rules ranked.1) tt
@@ -103,11 +117,20 @@ module _ (a : Automaton) (ranked : IsRanked a) (one : HasOneTop a) (f : ℕ) (z 
   pub dated_ranked : IsRanked new
   dated_ranked = (
     (omega arith, tt),
-    every_append (IsRankedRule (a.states + 1)) a.rules (fresh ∷ []) (rules_more a.states (a.states + 1) (omega arith) a.rules ranked.1)
-        ((omega arith, states_more a.states (a.states + 1) (omega arith) top.children right.1, right.2 ∙ sym (symbol_arity f z top.symbol)), tt),
+    every_append (IsRankedRule (a.states + 1)) a.rules (fresh ∷ [])
+        (rules_more a.states (a.states + 1) (omega arith) a.rules ranked.1) (
+          (
+            omega arith,
+            states_more a.states (a.states + 1) (omega arith) top.children right.1,
+            right.2
+                ∙ sym (symbol_arity f z top.symbol),
+          ),
+          tt,
+        ),
   )
 
-  pub dated_symbols : (P : Symbol → Type 0) → P (symbol_with f z top.symbol) → Every (λ (o : Rule). P o.symbol) a.rules → Every (λ (o : Rule). P o.symbol) new.rules
+  pub dated_symbols : (P : Symbol → Type 0) → P (symbol_with f z top.symbol) → Every (λ (o : Rule). P o.symbol) a.rules
+      → Every (λ (o : Rule). P o.symbol) new.rules
   dated_symbols P p h = every_append (λ (o : Rule). P o.symbol) a.rules (fresh ∷ []) h (p, tt)
 
   -- what a symbol of the automaton has, its one at the top has
@@ -122,16 +145,21 @@ module _ (a : Automaton) (ranked : IsRanked a) (one : HasOneTop a) (f : ℕ) (z 
   pub put_dated : (n : Node) → InLanguage a (bare n) → InLanguage new (bare (with_datum f z n))
   put_dated n l =
       let k = tree_by_top a one (bare n) l in
-      to_dated (bare (with_datum f z n)) (ap (symbol_with f z) k.0 ∙ sym (with_datum_symbol f z n)) (subst (λ (ts : List Tree). RunEach a.rules top.children ts) (sym (with_datum_children f z n)) k.1)
+      to_dated (bare (with_datum f z n)) (ap (symbol_with f z) k.0 ∙ sym (with_datum_symbol f z n))
+      (subst (λ (ts : List Tree). RunEach a.rules top.children ts) (sym (with_datum_children f z n)) k.1)
 
-  pub dated_has : (y : Datum) → slice_get (symbol_datums top.symbol) f ≡ Some y → (n : Node) → InLanguage new (bare n) → slice_get (top_datums n) f ≡ Some z
-  dated_has y e n l = subst (λ (ds : List Datum). slice_get ds f ≡ Some z) (ap symbol_datums (dated_of (bare n) l).0 ∙ datums_top n) (symbol_has f y z top.symbol e)
+  pub dated_has : (y : Datum) → slice_get (symbol_datums top.symbol) f ≡ Some y → (n : Node) → InLanguage new (bare n)
+      → slice_get (top_datums n) f ≡ Some z
+  dated_has y e n l = subst (λ (ds : List Datum). slice_get ds f ≡ Some z)
+      (ap symbol_datums (dated_of (bare n) l).0 ∙ datums_top n) (symbol_has f y z top.symbol e)
 
   -- and with the old datum put back, one of the old
-  pub from_dated : (y : Datum) → slice_get (symbol_datums top.symbol) f ≡ Some y → (n : Node) → InLanguage new (bare n) → InLanguage a (bare (with_datum f y n))
+  pub from_dated : (y : Datum) → slice_get (symbol_datums top.symbol) f ≡ Some y → (n : Node) → InLanguage new (bare n)
+      → InLanguage a (bare (with_datum f y n))
   from_dated y e n l =
       let k = dated_of (bare n) l in
       top_by_tree a one (bare (with_datum f y n)) (
-        sym (with_datum_symbol f y n ∙ ap (symbol_with f y) (sym k.0) ∙ symbol_twice f y z top.symbol ∙ symbol_same f y top.symbol e),
+        sym (with_datum_symbol f y n ∙ ap (symbol_with f y) (sym k.0) ∙ symbol_twice f y z top.symbol
+            ∙ symbol_same f y top.symbol e),
         subst (λ (ts : List Tree). RunEach a.rules top.children ts) (sym (with_datum_children f y n)) k.1,
       )

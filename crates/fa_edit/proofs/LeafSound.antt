@@ -1,5 +1,6 @@
 -- The forest with another leaf in a field of a root is sound where the leaf fits.
-use Rattle.std.proofs.Common.{◌≡◌, ℕ, zero, suc, ◌<◌, length, List, [], ◌∷◌, sym, ap, ap₂, subst, ◌∙◌, slice_get, Some, arith}
+use Rattle.std.proofs.Common.{◌≡◌, ℕ, zero, suc, ◌<◌, length, List, [], ◌∷◌, sym, ap, ap₂, subst, ◌∙◌, slice_get, Some}
+use Rattle.std.proofs.Common.{arith}
 use Rattle.std.proofs.lemmas.Option.{same_Some}
 use Rattle.fore_base.specs.Lists.{Every}
 use Rattle.ta_core.specs.Auto.{Automaton, IsRanked}
@@ -13,7 +14,8 @@ use Rattle.fa_core.specs.declared.forest.Target.{Target}
 use Rattle.fa_core.specs.declared.forest.Target.TheVariants.{Null, Uninit, Dangling, At}
 use Rattle.fa_core.specs.Boxless.{HasNoBoxes}
 use Rattle.fa_core.specs.Dressed.{Node, End, node, leaf}
-use Rattle.fa_core.specs.Filled.{Choice, TopsAre, IsTopped, SymbolFits, RulesFit, HasSignatures, HasSome, IsSound, target_of, FieldEnds}
+use Rattle.fa_core.specs.Filled.{Choice, TopsAre, IsTopped, SymbolFits, RulesFit, HasSignatures, HasSome, IsSound}
+use Rattle.fa_core.specs.Filled.{target_of, FieldEnds}
 use Rattle.fa_core.specs.Member.{bare, bare_end, leaf_symbol}
 use Rattle.fa_core.proofs.Dressing.{cell_top}
 use Rattle.fa_core.proofs.FilledKept.{top_of_filled}
@@ -41,18 +43,26 @@ pub shaped_node : (n : Node) → symbol_shape (out-Tree (bare n)).symbol ≡ Som
 shaped_node (node c s ds ps) = ap symbol_shape (cell_top c s ds ps)
 
 -- the top of a root with one rule is of the struct of that rule
-pub top_struct : (autos : List Automaton) (ts : List Tree) (tops : List ℕ) (k s : ℕ) → Choice autos ts → TopsAre ts tops → k < length autos → HasOneTop (component_at autos k) → symbol_shape (top_rule (component_at autos k)).symbol ≡ Some s → slice_get tops k ≡ Some s
+pub top_struct : (autos : List Automaton) (ts : List Tree) (tops : List ℕ) (k s : ℕ) → Choice autos ts → TopsAre ts tops
+    → k < length autos → HasOneTop (component_at autos k) → symbol_shape (top_rule (component_at autos k)).symbol
+    ≡ Some s → slice_get tops k ≡ Some s
 top_struct [] ts tops k s c h l one e = absurd (omega (arith, l))
 top_struct (a ∷ autos) [] tops k s c h l one e = absurd c
 top_struct (a ∷ autos) (t ∷ ts) [] k s c h l one e = absurd h
-top_struct (a ∷ autos) (t ∷ ts) (x ∷ tops) zero s c h l one e = sym (topped_shape x t h.0) ∙ ap symbol_shape (sym (tree_by_top a one t c.0).0) ∙ e
-top_struct (a ∷ autos) (t ∷ ts) (x ∷ tops) (suc k) s c h l one e = top_struct autos ts tops k s c.1 h.1 (omega (arith, l)) one e
+top_struct (a ∷ autos) (t ∷ ts) (x ∷ tops) zero s c h l one e = sym (topped_shape x t h.0)
+    ∙ ap symbol_shape (sym (tree_by_top a one t c.0).0) ∙ e
+top_struct (a ∷ autos) (t ∷ ts) (x ∷ tops) (suc k) s c h l one e =
+    top_struct autos ts tops k s c.1 h.1 (omega (arith, l)) one e
 
 -- a tree with another child is one without numbers of the dressed tree with that end
 with_end_tree : (p : ℕ) (x : End) (n : Node) → bare (with_end p x n) ≡ with_child p (bare_end x) (bare n)
-with_end_tree p x n = sym (ap₂ (λ (y : Symbol) (ts : List Tree). roll-Tree (record { symbol = y; children = ts })) (sym (with_end_symbol p x n)) (sym (with_end_children p x n)) ∙ roll-out-Tree (bare (with_end p x n)))
+with_end_tree p x n = sym
+    (ap₂ (λ (y : Symbol) (ts : List Tree). roll-Tree (record { symbol = y; children = ts }))
+    (sym (with_end_symbol p x n)) (sym (with_end_children p x n)) ∙ roll-out-Tree (bare (with_end p x n)))
 
-module _ (face : Face) (F : Forest) (r f : ℕ) (ranked : Every IsRanked F.autos) (plain : Every HasNoBoxes F.autos) (sound : IsSound face F) (at : IsPlainAt F r f) (p : ℕ) (place : place_at F r f ≡ Some p) (u : Target) (fits : LeafFits face.shapes.structs F r f u) where
+module _ (face : Face) (F : Forest) (r f : ℕ) (ranked : Every IsRanked F.autos) (plain : Every HasNoBoxes F.autos)
+    (sound : IsSound face F) (at : IsPlainAt F r f) (p : ℕ) (place : place_at F r f ≡ Some p) (u : Target)
+    (fits : LeafFits face.shapes.structs F r f u) where
   abbrev t : Target
   t = (at.leaf p place).0
 
@@ -82,13 +92,16 @@ module _ (face : Face) (F : Forest) (r f : ℕ) (ranked : Every IsRanked F.autos
   old x = with_child p (bare_end (leaf t)) x
 
   low : (x : Tree) → InLanguage b x → InLanguage a (old x)
-  low x l = fixed_with a p u a_ranked at.top within x (old x) (bare_end (leaf t)) l (leaf_runs F r f ranked at p place t alone) (with_child_symbol p (bare_end (leaf t)) x) (with_child_children p (bare_end (leaf t)) x)
+  low x l = fixed_with a p u a_ranked at.top within x (old x) (bare_end (leaf t)) l
+      (leaf_runs F r f ranked at p place t alone) (with_child_symbol p (bare_end (leaf t)) x)
+      (with_child_children p (bare_end (leaf t)) x)
 
   top : (x : Tree) (s : ℕ) → InLanguage b x → IsTopped s (old x) → IsTopped s x
   top x s l h = (h.0, h.1, sym (with_child_symbol p (bare_end (leaf t)) x) ∙ h.2)
 
   -- the leaf fits the field of each tree of the root
-  fitting : (us : List Tree) (tops : List ℕ) → Choice F.autos us → TopsAre us tops → (n : Node) → InLanguage a (bare n) → (k : ℕ) → target_of face.shapes.structs (node_shape n) f ≡ Some k → FieldEnds tops k (leaf_symbol u)
+  fitting : (us : List Tree) (tops : List ℕ) → Choice F.autos us → TopsAre us tops → (n : Node) → InLanguage a (bare n)
+      → (k : ℕ) → target_of face.shapes.structs (node_shape n) f ≡ Some k → FieldEnds tops k (leaf_symbol u)
   fitting us tops c h n l k e = by u fits
     where
       by : (u : Target) → LeafFits face.shapes.structs F r f u → FieldEnds tops k (leaf_symbol u)
@@ -96,40 +109,57 @@ module _ (face : Face) (F : Forest) (r f : ℕ) (ranked : Every IsRanked F.autos
       by Uninit w = tt
       by Dangling w = tt
       by (At j) w =
-          let s : w.above ≡ node_shape n = same_Some w.above (node_shape n) (sym w.is_above ∙ ap symbol_shape (tree_by_top a at.top (bare n) l).0 ∙ shaped_node n) in
-          let q : w.below ≡ k = same_Some w.below k (sym w.points ∙ ap (λ (m : ℕ). target_of face.shapes.structs m f) s ∙ e) in
-          subst (λ (m : ℕ). slice_get tops j ≡ Some m) q (top_struct F.autos us tops j w.below c h w.root w.top w.is_below)
+          let s : w.above ≡ node_shape n =
+          same_Some w.above (node_shape n)
+          (sym w.is_above ∙ ap symbol_shape (tree_by_top a at.top (bare n) l).0 ∙ shaped_node n) in
+          let q : w.below ≡ k = same_Some w.below k
+          (sym w.points ∙ ap (λ (m : ℕ). target_of face.shapes.structs m f) s ∙ e) in
+          subst (λ (m : ℕ). slice_get tops j ≡ Some m) q
+          (top_struct F.autos us tops j w.below c h w.root w.top w.is_below)
 
-  node_filled : (us : List Tree) (tops : List ℕ) → Choice F.autos us → TopsAre us tops → (n : Node) → InLanguage b (bare n) → IsFilledTree face F r b old plain b_plain tops (old (bare n)) → IsFilledTree face F r b old plain b_plain tops (bare n)
+  node_filled : (us : List Tree) (tops : List ℕ) → Choice F.autos us → TopsAre us tops → (n : Node)
+      → InLanguage b (bare n) → IsFilledTree face F r b old plain b_plain tops (old (bare n))
+      → IsFilledTree face F r b old plain b_plain tops (bare n)
   node_filled us tops c h n l filled =
       let m : Node = with_leaf f t n in
       let in_a : InLanguage a (bare m) = from_put F r f ranked at p place t alone u n l in
       let is : m ≡ with_end p (leaf t) n = put_old F r f ranked at p place t alone u t n l in
       let before : old (bare n) ≡ bare m = sym (with_end_tree p (leaf t) n) ∙ ap bare (sym is) in
-      let again : with_leaf f u m ≡ n = tree_put F r f ranked at p place u m in_a ∙ ap (with_end p (leaf u)) is ∙ with_end_twice p n (leaf u) (leaf t) ∙ with_end_same p n (leaf u) (put_end F r f ranked at p place t alone u n l) in
+      let again : with_leaf f u m ≡ n = tree_put F r f ranked at p place u m in_a ∙ ap (with_end p (leaf u)) is
+      ∙ with_end_twice p n (leaf u) (leaf t)
+      ∙ with_end_same p n (leaf u) (put_end F r f ranked at p place t alone u n l) in
       subst (λ (z : Node). IsFilledTree face F r b old plain b_plain tops (bare z)) again
-      (put_filled face tops f t u m (tree_has F r f ranked at p place t alone m in_a) (fitting us tops c h m in_a) (subst (λ (z : Tree). IsFilledTree face F r b old plain b_plain tops z) before filled))
+      (put_filled face tops f t u m (tree_has F r f ranked at p place t alone m in_a) (fitting us tops c h m in_a)
+      (subst (λ (z : Tree). IsFilledTree face F r b old plain b_plain tops z) before filled))
 
-  cells : (us : List Tree) (tops : List ℕ) → Choice F.autos us → TopsAre us tops → (x : Tree) → InLanguage b x → IsFilledTree face F r b old plain b_plain tops (old x) → IsFilledTree face F r b old plain b_plain tops x
+  cells : (us : List Tree) (tops : List ℕ) → Choice F.autos us → TopsAre us tops → (x : Tree) → InLanguage b x
+      → IsFilledTree face F r b old plain b_plain tops (old x) → IsFilledTree face F r b old plain b_plain tops x
   cells us tops c h x l filled =
       let e = run_end b (fixed_ranked a p u a_ranked at.top within) b_plain l.0 x l.2 in
-      let s = top_of_filled face F sound.well_formed.filled sound.full r a (old x) (component_got F.autos r at.root) (low x l) in
+      let s = top_of_filled face F sound.well_formed.filled sound.full r a (old x) (component_got F.autos r at.root)
+      (low x l) in
       let n = topped_node e.0 s.0 (subst (λ (z : Tree). IsTopped s.0 z) (sym e.1) (top x s.0 l s.1)) in
       let is : bare n.0 ≡ x = ap bare_end (sym n.1) ∙ e.1 in
       subst (λ (z : Tree). IsFilledTree face F r b old plain b_plain tops z) is
-      (node_filled us tops c h n.0 (subst (λ (z : Tree). InLanguage b z) (sym is) l) (subst (λ (z : Tree). IsFilledTree face F r b old plain b_plain tops (old z)) (sym is) filled))
+      (node_filled us tops c h n.0 (subst (λ (z : Tree). InLanguage b z) (sym is) l)
+      (subst (λ (z : Tree). IsFilledTree face F r b old plain b_plain tops (old z)) (sym is) filled))
 
   some : HasSome b
   some =
       let x = component_has HasSome F.autos r sound.full at.root in
-      let y = bare_end (leaf u) in
-      (with_child p y x.0, to_fixed a p u a_ranked at.top within (with_child p y x.0) x.0 (tree_by_top a at.top x.0 x.1) (with_child_symbol p y x.0) (with_child_children p y x.0))
+      let y = bare_end (leaf u) in (
+        with_child p y x.0,
+        to_fixed a p u a_ranked at.top within (with_child p y x.0) x.0 (tree_by_top a at.top x.0 x.1)
+            (with_child_symbol p y x.0) (with_child_children p y x.0),
+      )
 
   pub put_plain : Every HasNoBoxes (split_leaf F r p u).autos
   put_plain = edited_plain face F r b old plain b_plain
 
   pub put_sound : IsSound face (split_leaf F r p u)
   put_sound = edited_sound face F r b old plain b_plain sound
-      (fixed_symbols a p u a_ranked at.top within (SymbolFits face) (fitting_leaf face u) (component_has (RulesFit face) F.autos r sound.well_formed.filled.rules at.root))
-      (fixed_signed a p u a_ranked at.top within a_plain face.boxes (component_has (HasSignatures face.boxes) F.autos r sound.well_formed.signatures at.root))
+      (fixed_symbols a p u a_ranked at.top within (SymbolFits face) (fitting_leaf face u)
+      (component_has (RulesFit face) F.autos r sound.well_formed.filled.rules at.root))
+      (fixed_signed a p u a_ranked at.top within a_plain face.boxes
+      (component_has (HasSignatures face.boxes) F.autos r sound.well_formed.signatures at.root))
       some low top cells

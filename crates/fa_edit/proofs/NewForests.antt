@@ -1,5 +1,6 @@
 -- The forest with a new cell: its dressed forests, and that it is sound.
-use Rattle.std.proofs.Common.{◌≡◌, inl, inr, ℕ, zero, suc, ◌<◌, ◌+◌, length, replicate, List, [], ◌∷◌, ◌++◌, map, flat_map, refl, sym, ap, subst, ◌∙◌, slice_get, Some, IsSome, length-append, arith}
+use Rattle.std.proofs.Common.{◌≡◌, inl, inr, ℕ, zero, suc, ◌<◌, ◌+◌, length, replicate, List, [], ◌∷◌, ◌++◌, map}
+use Rattle.std.proofs.Common.{flat_map, refl, sym, ap, subst, ◌∙◌, slice_get, Some, IsSome, length-append, arith}
 use Rattle.std.proofs.lemmas.Option.{none-some}
 use Rattle.fore_base.specs.Lists.{IsIn, Every}
 use Rattle.fore_base.specs.Shapes.{targets_of, datums_of}
@@ -11,7 +12,8 @@ use Rattle.ta_core.specs.Language.{InLanguage}
 use Rattle.ta_core.specs.declared.symbol.Slot.{Slot}
 use Rattle.ta_core.specs.declared.symbol.Slot.TheVariants.{Field, Link, Hook}
 use Rattle.ta_core.specs.declared.symbol.Symbol.{Symbol}
-use Rattle.ta_core.specs.declared.symbol.Symbol.TheVariants.{Null as NullSymbol, Uninit as UninitSymbol, Dangling as DanglingSymbol, Ref, Cell}
+use Rattle.ta_core.specs.declared.symbol.Symbol.TheVariants.{Null as NullSymbol, Uninit as UninitSymbol}
+use Rattle.ta_core.specs.declared.symbol.Symbol.TheVariants.{Dangling as DanglingSymbol, Ref, Cell}
 use Rattle.ta_core.specs.declared.tree.Tree.{Tree, out-Tree, out-roll-Tree}
 use Rattle.fa_core.specs.declared.boxes.BoxDef.{BoxDef}
 use Rattle.fa_core.specs.declared.faces.Face.{Face}
@@ -20,7 +22,9 @@ use Rattle.fa_core.specs.declared.forest.Target.{Target}
 use Rattle.fa_core.specs.declared.forest.Target.TheVariants.{Null, Uninit, Dangling, At}
 use Rattle.fa_core.specs.Boxless.{HasNoBoxes}
 use Rattle.fa_core.specs.Dressed.{Nodes, number, all_refs}
-use Rattle.fa_core.specs.Filled.{Spot, spots, target_of, numbered, covers, least, HasField, NamesStruct, FieldEnds, EndFits, EndsFit, IsFilledSpot, Choice, ChoiceFilled, TopsAre, IsTopped, IsRoot, DatumFits, SlotFits, RulesFit, HasSignatures, HasSome, IsSound}
+use Rattle.fa_core.specs.Filled.{Spot, spots, target_of, numbered, covers, least, HasField, NamesStruct, FieldEnds}
+use Rattle.fa_core.specs.Filled.{EndFits, EndsFit, IsFilledSpot, Choice, ChoiceFilled, TopsAre, IsTopped, IsRoot}
+use Rattle.fa_core.specs.Filled.{DatumFits, SlotFits, RulesFit, HasSignatures, HasSome, IsSound}
 use Rattle.fa_core.specs.Member.{TreesOf, slots_of}
 use Rattle.fa_core.specs.Rearranged.{RisesFrom, IsRising}
 use Rattle.fa_core.specs.References.{AllBelow}
@@ -29,7 +33,8 @@ use Rattle.fa_core.proofs.NodeSpots.{end_symbols, parts_spots, spots_are}
 use Rattle.fa_core.proofs.Rearranging.{equal}
 use Rattle.fa_edit.specs.Cells.{IsNewed, blank_parts, new_node}
 use Rattle.fa_edit.specs.inner.News.{field_slots, blank_symbol, blank, newed}
-use Rattle.fa_edit.proofs.NewTrees.{blank_insides, blank_tree, blank_plain, blank_some, blank_signed, bare_new, is_new, new_is, tree_is}
+use Rattle.fa_edit.proofs.NewTrees.{blank_insides, blank_tree, blank_plain, blank_some, blank_signed, bare_new, is_new}
+use Rattle.fa_edit.proofs.NewTrees.{new_is, tree_is}
 use Rattle.fa_merge.proofs.MergedLast.{split_last, join_last}
 use Rattle.fa_merge.proofs.OtherOrders.{count_trees}
 use Rattle.fa_sound.proofs.Choices.{trees_filled, filled_trees}
@@ -64,7 +69,8 @@ module _ (face : Face) (tops others : List ℕ) where
   link_more s b y (x, t, i, j, k, inl h) = (x, t, i, j, k, inl (names_more t y h))
   link_more s b y (x, t, i, j, k, inr h) = (x, t, i, j, k, inr h)
 
-  ends_more : (s : ℕ) (ss : List Slot) (ys : List Symbol) → EndsFit face tops s ss ys → EndsFit face (tops ++ others) s ss ys
+  ends_more : (s : ℕ) (ss : List Slot) (ys : List Symbol) → EndsFit face tops s ss ys
+      → EndsFit face (tops ++ others) s ss ys
   ends_more s [] [] h = tt
   ends_more s [] (y ∷ ys) h = h
   ends_more s (Hook b ∷ ss) ys h = (h.0, ends_more s ss ys h.1)
@@ -76,12 +82,17 @@ module _ (face : Face) (tops others : List ℕ) where
   spot_more : (p : Spot) → IsFilledSpot face tops p → IsFilledSpot face (tops ++ others) p
   spot_more p h = record { ends = ends_more p.shape p.slots p.ends h.ends; order = h.order; once = h.once }
 
-  trees_more : (ts : List Tree) → Every (λ (t : Tree). Every (IsFilledSpot face tops) (spots face.boxes t [])) ts → Every (λ (t : Tree). Every (IsFilledSpot face (tops ++ others)) (spots face.boxes t [])) ts
-  trees_more ts h = every_weaker (λ (t : Tree). Every (IsFilledSpot face tops) (spots face.boxes t [])) (λ (t : Tree). Every (IsFilledSpot face (tops ++ others)) (spots face.boxes t [])) ts (λ t k. every_weaker (IsFilledSpot face tops) (IsFilledSpot face (tops ++ others)) (spots face.boxes t []) spot_more k) h
+  trees_more : (ts : List Tree) → Every (λ (t : Tree). Every (IsFilledSpot face tops) (spots face.boxes t [])) ts
+      → Every (λ (t : Tree). Every (IsFilledSpot face (tops ++ others)) (spots face.boxes t [])) ts
+  trees_more ts h = every_weaker (λ (t : Tree). Every (IsFilledSpot face tops) (spots face.boxes t []))
+      (λ (t : Tree). Every (IsFilledSpot face (tops ++ others)) (spots face.boxes t [])) ts
+      (λ t k. every_weaker (IsFilledSpot face tops) (IsFilledSpot face (tops ++ others)) (spots face.boxes t [])
+      spot_more k) h
 
 -- One more tree.
 
-choice_last : (cs : List Automaton) (l : Automaton) (us : List Tree) → Choice (cs ++ l ∷ []) us → (ts : List Tree) × (t : Tree) × (us ≡ ts ++ t ∷ []) × Choice cs ts × InLanguage l t
+choice_last : (cs : List Automaton) (l : Automaton) (us : List Tree) → Choice (cs ++ l ∷ []) us → (ts : List Tree)
+    × (t : Tree) × (us ≡ ts ++ t ∷ []) × Choice cs ts × InLanguage l t
 choice_last [] l [] c = absurd c
 choice_last [] l (t ∷ []) c = ([], t, refl, tt, c.0)
 choice_last [] l (t ∷ (u ∷ us)) c = absurd c.1
@@ -90,7 +101,8 @@ choice_last (a ∷ cs) l (t ∷ us) c =
     let k = choice_last cs l us c.1 in
     (t ∷ k.0, k.1, ap (λ (ts : List Tree). t ∷ ts) k.2, (c.0, k.3), k.4)
 
-tops_last : (ts : List Tree) (tops : List ℕ) (t : Tree) (s : ℕ) → TopsAre ts tops → IsTopped s t → TopsAre (ts ++ t ∷ []) (tops ++ s ∷ [])
+tops_last : (ts : List Tree) (tops : List ℕ) (t : Tree) (s : ℕ) → TopsAre ts tops → IsTopped s t
+    → TopsAre (ts ++ t ∷ []) (tops ++ s ∷ [])
 tops_last [] [] t s h k = (k, tt)
 tops_last [] (x ∷ tops) t s h k = absurd h
 tops_last (u ∷ ts) [] t s h k = absurd h
@@ -110,7 +122,8 @@ module _ (face : Face) (shape : ℕ) where
   AreRest k ys = (i : ℕ) → slice_get targets (k + i) ≡ slice_get ys i
 
   next_rest : (k y : ℕ) (ys : List ℕ) → AreRest k (y ∷ ys) → AreRest (suc k) ys
-  next_rest k y ys h i = let e : suc k + i ≡ k + suc i = omega arith in ap (λ (n : ℕ). slice_get targets n) e ∙ h (suc i)
+  next_rest k y ys h i = let e : suc k + i ≡ k + suc i = omega arith in ap (λ (n : ℕ). slice_get targets n) e
+      ∙ h (suc i)
 
   first_rest : (k y : ℕ) (ys : List ℕ) → AreRest k (y ∷ ys) → target_of hs shape k ≡ Some y
   first_rest k y ys h = let e : k ≡ k + 0 = omega arith in ap (λ (n : ℕ). slice_get targets n) e ∙ h 0
@@ -118,9 +131,13 @@ module _ (face : Face) (shape : ℕ) where
   all_rest : AreRest 0 targets
   all_rest i = let e : 0 + i ≡ i = omega arith in ap (λ (n : ℕ). slice_get targets n) e
 
-  blank_ends : (tops : List ℕ) (k : ℕ) (ys : List ℕ) → AreRest k ys → EndsFit face tops shape (slots_of (blank_parts k (length ys))) (end_symbols (blank_parts k (length ys)))
+  blank_ends : (tops : List ℕ) (k : ℕ) (ys : List ℕ) → AreRest k ys
+      → EndsFit face tops shape (slots_of (blank_parts k (length ys))) (end_symbols (blank_parts k (length ys)))
   blank_ends tops k [] h = tt
-  blank_ends tops k (y ∷ ys) h = ((y, first_rest k y ys h, subst (λ (x : Symbol). FieldEnds tops y x) (sym (leaf_top Uninit)) tt), blank_ends tops (suc k) ys (next_rest k y ys h))
+  blank_ends tops k (y ∷ ys) h = (
+    (y, first_rest k y ys h, subst (λ (x : Symbol). FieldEnds tops y x) (sym (leaf_top Uninit)) tt),
+    blank_ends tops (suc k) ys (next_rest k y ys h),
+  )
 
   slots_fit : (k : ℕ) (ys : List ℕ) → AreRest k ys → Every (SlotFits face shape) (field_slots k (length ys))
   slots_fit k [] h = tt
@@ -138,7 +155,8 @@ module _ (face : Face) (shape : ℕ) where
   rising k zero = tt
   rising k (suc n) = rises k (suc k) n (omega arith)
 
-  covered : (k : ℕ) (ys : List ℕ) → numbered k ys ≡ flat_map (covers face.boxes) (slots_of (blank_parts k (length ys))) ++ []
+  covered : (k : ℕ) (ys : List ℕ) → numbered k ys ≡ flat_map (covers face.boxes) (slots_of (blank_parts k (length ys)))
+      ++ []
   covered k [] = refl
   covered k (y ∷ ys) = ap (λ (ns : List ℕ). k ∷ ns) (covered (suc k) ys)
 
@@ -164,10 +182,23 @@ module _ (face : Face) (shape : ℕ) where
   data_count (suc n) = ap (λ (k : ℕ). suc k) (data_count n)
 
   pub blank_fits : shape < length hs → RulesFit face (blank hs shape)
-  blank_fits l = ((l, data_count (datums_of hs shape), every_copy DatumFits (datums_of hs shape) Undefined tt, slots_fit 0 targets all_rest), (tt, tt))
+  blank_fits l = (
+    (
+      l,
+      data_count (datums_of hs shape),
+      every_copy DatumFits (datums_of hs shape) Undefined tt,
+      slots_fit 0 targets all_rest,
+    ),
+    (tt, tt),
+  )
 
   pub blank_topped : (t : Tree) → InLanguage (blank hs shape) t → IsTopped shape t
-  blank_topped t l = (replicate (datums_of hs shape) Undefined, field_slots 0 (length targets), ap (λ (u : Tree). (out-Tree u).symbol) (tree_is hs shape t l) ∙ rw (out-roll-Tree (record { symbol = blank_symbol hs shape; children = _ })) refl)
+  blank_topped t l = (
+    replicate (datums_of hs shape) Undefined,
+    field_slots 0 (length targets),
+    ap (λ (u : Tree). (out-Tree u).symbol) (tree_is hs shape t l)
+        ∙ rw (out-roll-Tree (record { symbol = blank_symbol hs shape; children = _ })) refl,
+  )
 
 -- The forest.
 
@@ -205,13 +236,17 @@ module _ (face : Face) (F : Forest) (to shape : ℕ) (plain : Every HasNoBoxes F
     counted = count_trees T F.autos;
     refs = λ d o. subst (λ (n : ℕ). AllBelow n (all_refs d)) (count_trees T F.autos d o) (all_below T F d well o);
     forth = λ d o c. (let n = new_node structs shape c in
-        subst (λ (e : Nodes). TreesOf T G.autos e) (sym (last_is d n)) (join_last T F.autos own d n o (is_new structs shape c) (blank_insides T 0 (length (targets_of structs shape)))));
+        subst (λ (e : Nodes). TreesOf T G.autos e) (sym (last_is d n))
+        (join_last T F.autos own d n o (is_new structs shape c)
+        (blank_insides T 0 (length (targets_of structs shape)))));
     back = λ d o. (let k = split_last T F.autos own d o in
         (k.0, number k.1, k.2 ∙ sym (last_is k.0 k.1) ∙ ap (with_last k.0) (new_is structs shape k.1 k.4), k.3));
   }
 
   new_vars : Every (IsRoot (suc N)) G.vars
-  new_vars = every_set (IsRoot (suc N)) F.vars to (At N) (every_weaker (IsRoot N) (IsRoot (suc N)) F.vars (λ u h k e. (let l = h k e in omega (arith, l))) targets_in) (λ k e. (let s : N ≡ k = ap at_of e in omega (arith, s)))
+  new_vars = every_set (IsRoot (suc N)) F.vars to (At N)
+      (every_weaker (IsRoot N) (IsRoot (suc N)) F.vars (λ u h k e. (let l = h k e in omega (arith, l))) targets_in)
+      (λ k e. (let s : N ≡ k = ap at_of e in omega (arith, s)))
     where
       at_of : Target → ℕ
       at_of Null = 0
@@ -223,15 +258,27 @@ module _ (face : Face) (F : Forest) (to shape : ℕ) (plain : Every HasNoBoxes F
   choice_filled us c =
       let k = choice_last F.autos own us c in
       let f = sound.well_formed.filled.trees k.0 k.3 in
-      let old : Every (λ (t : Tree). Every (IsFilledSpot face f.tops) (spots face.boxes t [])) k.0 = filled_trees face k.0 (nothing_given face.boxes F.autos plain k.0 k.3) f.tops 0 k.0 f.cells in
+      let old : Every (λ (t : Tree). Every (IsFilledSpot face f.tops) (spots face.boxes t [])) k.0 =
+      filled_trees face k.0 (nothing_given face.boxes F.autos plain k.0 k.3) f.tops 0 k.0 f.cells in
       let tops = f.tops ++ shape ∷ [] in
-      let both : Every (λ (t : Tree). Every (IsFilledSpot face tops) (spots face.boxes t [])) (k.0 ++ k.1 ∷ []) = every_append (λ (t : Tree). Every (IsFilledSpot face tops) (spots face.boxes t [])) k.0 (k.1 ∷ []) (trees_more face f.tops (shape ∷ []) k.0 old) (subst (λ (t : Tree). Every (IsFilledSpot face tops) (spots face.boxes t [])) (sym (tree_is structs shape k.1 k.4)) (blank_filled face shape tops), tt) in
-      let long : suc N ≡ length us = (let e = choice_length G.autos us c in let m : length G.autos ≡ N + 1 = length-append F.autos (own ∷ []) in omega (arith, e, m)) in
+      let both : Every (λ (t : Tree). Every (IsFilledSpot face tops) (spots face.boxes t [])) (k.0 ++ k.1 ∷ []) =
+      every_append (λ (t : Tree). Every (IsFilledSpot face tops) (spots face.boxes t [])) k.0 (k.1 ∷ [])
+      (trees_more face f.tops (shape ∷ []) k.0 old) (
+        subst (λ (t : Tree). Every (IsFilledSpot face tops) (spots face.boxes t []))
+            (sym (tree_is structs shape k.1 k.4)) (blank_filled face shape tops),
+        tt,
+      ) in
+      let long : suc N ≡ length us =
+      (let e = choice_length G.autos us c in
+      let m : length G.autos ≡ N + 1 = length-append F.autos (own ∷ []) in omega (arith, e, m)) in
       record {
         tops = tops;
-        are = subst (λ (ts : List Tree). TopsAre ts tops) (sym k.2) (tops_last k.0 f.tops k.1 shape f.are (blank_topped face shape k.1 k.4));
+        are = subst (λ (ts : List Tree). TopsAre ts tops) (sym k.2)
+            (tops_last k.0 f.tops k.1 shape f.are (blank_topped face shape k.1 k.4));
         vars = subst (λ (n : ℕ). Every (IsRoot n) G.vars) long new_vars;
-        cells = trees_filled face us (nothing_given face.boxes G.autos new_plain us c) tops 0 us (subst (λ (ts : List Tree). Every (λ (t : Tree). Every (IsFilledSpot face tops) (spots face.boxes t [])) ts) (sym k.2) both);
+        cells = trees_filled face us (nothing_given face.boxes G.autos new_plain us c) tops 0 us
+            (subst (λ (ts : List Tree). Every (λ (t : Tree). Every (IsFilledSpot face tops) (spots face.boxes t [])) ts)
+            (sym k.2) both);
       }
 
   pub new_sound : shape < length structs → IsSound face G
@@ -242,7 +289,8 @@ module _ (face : Face) (F : Forest) (to shape : ℕ) (plain : Every HasNoBoxes F
         rules = each_more (RulesFit face) sound.well_formed.filled.rules (blank_fits face shape l);
         trees = choice_filled;
       };
-      signatures = each_more (HasSignatures face.boxes) sound.well_formed.signatures (blank_signed structs shape face.boxes);
+      signatures = each_more (HasSignatures face.boxes) sound.well_formed.signatures
+          (blank_signed structs shape face.boxes);
     };
     full = each_more HasSome sound.full (blank_some structs shape);
   }

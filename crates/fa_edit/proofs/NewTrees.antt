@@ -1,5 +1,6 @@
 -- The component of a new cell has one tree, and its dressed trees are the new cells.
-use Rattle.std.proofs.Common.{◌≡◌, inl, inr, ℕ, zero, suc, ◌<◌, ◌+◌, ◌-◌, Bool, true, false, true≢false, length, replicate, List, [], ◌∷◌, ◌++◌, refl, sym, ap, ap₂, subst, ◌∙◌, append_assoc, arith}
+use Rattle.std.proofs.Common.{◌≡◌, inl, inr, ℕ, zero, suc, ◌<◌, ◌+◌, ◌-◌, Bool, true, false, true≢false, length}
+use Rattle.std.proofs.Common.{replicate, List, [], ◌∷◌, ◌++◌, refl, sym, ap, ap₂, subst, ◌∙◌, append_assoc, arith}
 use Rattle.fore_base.specs.Lists.{IsIn, Every}
 use Rattle.fore_base.specs.Shapes.{targets_of, datums_of}
 use Rattle.fore_base.specs.declared.shape.Shape.{Shape}
@@ -12,7 +13,8 @@ use Rattle.ta_core.specs.declared.auto.Rule.{Rule}
 use Rattle.ta_core.specs.declared.symbol.Slot.{Slot}
 use Rattle.ta_core.specs.declared.symbol.Slot.TheVariants.{Field, Link, Hook}
 use Rattle.ta_core.specs.declared.symbol.Symbol.{Symbol}
-use Rattle.ta_core.specs.declared.symbol.Symbol.TheVariants.{Null as NullSymbol, Uninit as UninitSymbol, Dangling as DanglingSymbol, Ref, Cell}
+use Rattle.ta_core.specs.declared.symbol.Symbol.TheVariants.{Null as NullSymbol, Uninit as UninitSymbol}
+use Rattle.ta_core.specs.declared.symbol.Symbol.TheVariants.{Dangling as DanglingSymbol, Ref, Cell}
 use Rattle.ta_core.specs.declared.tree.Tree.{Tree, out-Tree, roll-Tree, out-roll-Tree, roll-out-Tree}
 use Rattle.fa_core.specs.declared.boxes.BoxDef.{BoxDef}
 use Rattle.fa_core.specs.declared.faces.BoxFace.{BoxFace}
@@ -88,7 +90,8 @@ abbrev no_states : List ℕ → Bool
 no_states [] = true
 no_states (q ∷ qs) = false
 
-parts_are : (k n : ℕ) (ps : Parts) → slots_of ps ≡ field_slots k n → bare_parts ps ≡ replicate n uninit → ps ≡ blank_parts k n
+parts_are : (k n : ℕ) (ps : Parts) → slots_of ps ≡ field_slots k n → bare_parts ps ≡ replicate n uninit
+    → ps ≡ blank_parts k n
 parts_are k zero no_parts e h = refl
 parts_are k zero (field g x ps) e h = absurd (true≢false (sym (ap is_empty e)))
 parts_are k zero (link b i x ps) e h = absurd (true≢false (sym (ap is_empty e)))
@@ -101,7 +104,8 @@ parts_are k (suc n) (link b i x ps) e h = absurd (true≢false (sym (ap is_field
 parts_are k (suc n) (hook b i ps) e h = absurd (true≢false (sym (ap is_field_first e)))
 
 -- one slot more
-pub slots_more : (k n : ℕ) (xs : List Slot) → k < n → (xs ++ Field k ∷ []) ++ field_slots (k + 1) (n - (k + 1)) ≡ xs ++ field_slots k (n - k)
+pub slots_more : (k n : ℕ) (xs : List Slot) → k < n → (xs ++ Field k ∷ []) ++ field_slots (k + 1) (n - (k + 1)) ≡ xs
+    ++ field_slots k (n - k)
 slots_more k n xs l =
     let e : n - k ≡ suc (n - (k + 1)) = omega (arith, l) in
     let m : suc k ≡ k + 1 = omega arith in
@@ -137,7 +141,10 @@ module _ (hs : List Shape) (shape : ℕ) where
   blank_tree = roll-Tree (record { symbol = blank_symbol hs shape; children = replicate size uninit })
 
   pub blank_ranked : IsRanked a
-  blank_ranked = ((omega arith, tt), ((omega arith, low_states size, states_count size ∙ slots_count 0 size), ((omega arith, tt, refl), tt)))
+  blank_ranked = (
+    (omega arith, tt),
+    ((omega arith, low_states size, states_count size ∙ slots_count 0 size), ((omega arith, tt, refl), tt)),
+  )
 
   pub blank_plain : HasNoBoxes a
   blank_plain = (fields_only 0 size, (tt, tt))
@@ -150,12 +157,15 @@ module _ (hs : List Shape) (shape : ℕ) where
       one x (inr (inl e)) s = ap (λ (y : Rule). y.symbol) e
       one x (inr (inr e)) s = absurd e
 
-  each_uninit : (n : ℕ) {qs : List ℕ} {ts : List Tree} → qs ≡ replicate n 1 → RunEach a.rules qs ts → ts ≡ replicate n uninit
+  each_uninit : (n : ℕ) {qs : List ℕ} {ts : List Tree} → qs ≡ replicate n 1 → RunEach a.rules qs ts
+      → ts ≡ replicate n uninit
   each_uninit zero e run_none = refl
   each_uninit zero e (run_more h k) = absurd (true≢false (sym (ap no_states e)))
   each_uninit (suc n) e run_none = absurd (true≢false (ap no_states e))
   each_uninit (suc n) e (run_more {q = q} {qs = qs} {t = t} {ts = ts} h k) =
-      ap₂ (λ (u : Tree) (us : List Tree). u ∷ us) (runs_only a blank_ranked 1 Uninit only_uninit t (subst (λ (m : ℕ). RunOf a.rules m t) (ap first_state e) h)) (each_uninit n (ap later_states e) k)
+      ap₂ (λ (u : Tree) (us : List Tree). u ∷ us)
+      (runs_only a blank_ranked 1 Uninit only_uninit t (subst (λ (m : ℕ). RunOf a.rules m t) (ap first_state e) h))
+      (each_uninit n (ap later_states e) k)
 
   uninit_each : (n : ℕ) → RunEach a.rules (replicate n 1) (replicate n uninit)
   uninit_each zero = run_none
@@ -165,16 +175,21 @@ module _ (hs : List Shape) (shape : ℕ) where
   top_is : (q : ℕ) (t : Tree) → q ≡ 0 → RunOf a.rules q t → t ≡ blank_tree
   top_is q t z (run x (inl e) s y k) =
       sym (roll-out-Tree t)
-      ∙ ap₂ (λ (v : Symbol) (ts : List Tree). roll-Tree (record { symbol = v; children = ts })) (sym y ∙ ap (λ (o : Rule). o.symbol) e) (each_uninit size refl (subst (λ (o : Rule). RunEach a.rules o.children (out-Tree t).children) e k))
-  top_is q t z (run x (inr (inl e)) s y k) = absurd (let w : x.state ≡ 1 = ap (λ (o : Rule). o.state) e in omega (arith, w, s, z))
+      ∙ ap₂ (λ (v : Symbol) (ts : List Tree). roll-Tree (record { symbol = v; children = ts }))
+      (sym y ∙ ap (λ (o : Rule). o.symbol) e)
+      (each_uninit size refl (subst (λ (o : Rule). RunEach a.rules o.children (out-Tree t).children) e k))
+  top_is q t z (run x (inr (inl e)) s y k) =
+      absurd (let w : x.state ≡ 1 = ap (λ (o : Rule). o.state) e in omega (arith, w, s, z))
   top_is q t z (run x (inr (inr e)) s y k) = absurd e
 
   other_is : (q : ℕ) (t : Tree) → 0 < q → RunOf a.rules q t → t ≡ uninit
-  other_is q t z (run x (inl e) s y k) = absurd (let w : x.state ≡ 0 = ap (λ (o : Rule). o.state) e in omega (arith, w, s, z))
+  other_is q t z (run x (inl e) s y k) =
+      absurd (let w : x.state ≡ 0 = ap (λ (o : Rule). o.state) e in omega (arith, w, s, z))
   other_is q t z (run x (inr (inl e)) s y k) =
       let w : x.state ≡ 1 = ap (λ (o : Rule). o.state) e in
       let one : q ≡ 1 = omega (arith, w, s) in
-      runs_only a blank_ranked 1 Uninit only_uninit t (subst (λ (n : ℕ). RunOf a.rules n t) one (run x (inr (inl e)) s y k))
+      runs_only a blank_ranked 1 Uninit only_uninit t
+      (subst (λ (n : ℕ). RunOf a.rules n t) one (run x (inr (inl e)) s y k))
   other_is q t z (run x (inr (inr e)) s y k) = absurd e
 
   one_zero : (q : ℕ) → IsIn q (0 ∷ []) → q ≡ 0
@@ -185,7 +200,14 @@ module _ (hs : List Shape) (shape : ℕ) where
   tree_is t (q, i, w) = top_is q t (one_zero q i) w
 
   pub is_tree : InLanguage a blank_tree
-  is_tree = (0, inl refl, run (blank_rule hs shape) (inl refl) refl (rw (out-roll-Tree (record { symbol = blank_symbol hs shape; children = replicate size uninit })) refl) (rw (out-roll-Tree (record { symbol = blank_symbol hs shape; children = replicate size uninit })) (uninit_each size)))
+  is_tree = (
+    0,
+    inl refl,
+    run (blank_rule hs shape) (inl refl) refl
+        (rw (out-roll-Tree (record { symbol = blank_symbol hs shape; children = replicate size uninit })) refl)
+        (rw (out-roll-Tree (record { symbol = blank_symbol hs shape; children = replicate size uninit }))
+        (uninit_each size)),
+  )
 
   pub blank_some : HasSome a
   blank_some = (blank_tree, is_tree)
@@ -198,12 +220,16 @@ module _ (hs : List Shape) (shape : ℕ) where
     where
       states : (q : ℕ) (t u : Tree) → RunOf a.rules q t → RunOf a.rules q u → signature bs t ≡ signature bs u
       states zero t u x y = ap (signature bs) (top_is 0 t refl x ∙ sym (top_is 0 u refl y))
-      states (suc q) t u x y = ap (signature bs) (other_is (suc q) t (omega arith) x ∙ sym (other_is (suc q) u (omega arith) y))
+      states (suc q) t u x y =
+          ap (signature bs) (other_is (suc q) t (omega arith) x ∙ sym (other_is (suc q) u (omega arith) y))
 
   -- Dressed trees.
 
   pub bare_new : (c : ℕ) → bare (new_node hs shape c) ≡ blank_tree
-  bare_new c = ap₂ (λ (ss : List Slot) (ts : List Tree). roll-Tree (record { symbol = Cell shape (replicate (datums_of hs shape) Undefined) ss; children = ts })) (blank_slots 0 size) (blank_children 0 size)
+  bare_new c =
+      ap₂ (λ (ss : List Slot) (ts : List Tree).
+      roll-Tree (record { symbol = Cell shape (replicate (datums_of hs shape) Undefined) ss; children = ts }))
+      (blank_slots 0 size) (blank_children 0 size)
 
   pub is_new : (c : ℕ) → InLanguage a (bare (new_node hs shape c))
   is_new c = subst (λ (t : Tree). InLanguage a t) (sym (bare_new c)) is_tree
@@ -218,7 +244,11 @@ module _ (hs : List Shape) (shape : ℕ) where
   pub new_is : (n : Node) → InLanguage a (bare n) → n ≡ new_node hs shape (number n)
   new_is (node c s ds ps) l =
       let e = tree_is (bare (node c s ds ps)) l in
-      let y : Cell s ds (slots_of ps) ≡ blank_symbol hs shape = sym (cell_top c s ds ps) ∙ ap (λ (t : Tree). (out-Tree t).symbol) e ∙ rw (out-roll-Tree (record { symbol = blank_symbol hs shape; children = replicate size uninit })) refl in
-      let k : bare_parts ps ≡ replicate size uninit = sym (cell_children c s ds ps) ∙ ap (λ (t : Tree). (out-Tree t).children) e ∙ rw (out-roll-Tree (record { symbol = blank_symbol hs shape; children = replicate size uninit })) refl in
+      let y : Cell s ds (slots_of ps) ≡ blank_symbol hs shape = sym (cell_top c s ds ps)
+      ∙ ap (λ (t : Tree). (out-Tree t).symbol) e
+      ∙ rw (out-roll-Tree (record { symbol = blank_symbol hs shape; children = replicate size uninit })) refl in
+      let k : bare_parts ps ≡ replicate size uninit = sym (cell_children c s ds ps)
+      ∙ ap (λ (t : Tree). (out-Tree t).children) e
+      ∙ rw (out-roll-Tree (record { symbol = blank_symbol hs shape; children = replicate size uninit })) refl in
       ap₂ (λ (t : ℕ) (es : List Datum). node c t es ps) (ap shape_in y) (ap symbol_datums y)
       ∙ ap (node c shape (replicate (datums_of hs shape) Undefined)) (parts_are 0 size ps (ap symbol_slots y) k)

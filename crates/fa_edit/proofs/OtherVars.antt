@@ -12,7 +12,8 @@ use Rattle.fa_core.proofs.Dressing.{choice_length}
 abbrev other_vars : Forest → List Target → List Datum → Forest
 other_vars F vs ds = record F { vars = vs; data_vars = ds }
 
-module _ (face : Face) (F : Forest) (vs : List Target) (ds : List Datum) (targets : Every (IsRoot (length F.autos)) vs) (fits : Every DatumFits ds) where
+module _ (face : Face) (F : Forest) (vs : List Target) (ds : List Datum) (targets : Every (IsRoot (length F.autos)) vs)
+    (fits : Every DatumFits ds) where
   vars_well_formed : IsWellFormed face F → IsWellFormed face (other_vars F vs ds)
   vars_well_formed well = record {
     filled = record {
@@ -33,7 +34,10 @@ module _ (face : Face) (F : Forest) (vs : List Target) (ds : List Datum) (target
 
   -- where the targets stay, so does the canonical form
   pub vars_canonical : vs ≡ F.vars → IsCanonical face F → IsCanonical face (other_vars F vs ds)
-  vars_canonical e can = subst (λ (us : List Target). IsWellFormed face (other_vars F us ds) → IsCanonical face (other_vars F us ds)) (sym e) same (vars_well_formed can.well_formed)
+  vars_canonical e can = subst
+      (λ (us : List Target). IsWellFormed face (other_vars F us ds) → IsCanonical face (other_vars F us ds)) (sym e)
+      same (vars_well_formed can.well_formed)
     where
       same : IsWellFormed face (other_vars F F.vars ds) → IsCanonical face (other_vars F F.vars ds)
-      same well = record { well_formed = well; tops = can.tops; kinds = can.kinds; untied = can.untied; order = can.order }
+      same well =
+          record { well_formed = well; tops = can.tops; kinds = can.kinds; untied = can.untied; order = can.order }

@@ -35,7 +35,9 @@ no_field = refl
 -- Leaves: a cell 7 with a box edge, field 1 and field 0, under which stands a cell.
 
 abbrev mixed : Parts
-mixed = hook 5 no_nodes (field 1 (leaf Null) (link 0 no_nodes (leaf (At 4)) (field 0 (under (node 8 0 [] no_parts)) no_parts)))
+mixed =
+    hook 5 no_nodes
+    (field 1 (leaf Null) (link 0 no_nodes (leaf (At 4)) (field 0 (under (node 8 0 [] no_parts)) no_parts)))
 
 end_at_one : end_of_field 1 mixed ≡ Some (leaf Null)
 end_at_one = refl
@@ -46,7 +48,9 @@ end_at_zero = refl
 no_end : end_of_field 2 mixed ≡ None
 no_end = refl
 
-leaf_at_one : put_leaf 1 (At 3) mixed ≡ hook 5 no_nodes (field 1 (leaf (At 3)) (link 0 no_nodes (leaf (At 4)) (field 0 (under (node 8 0 [] no_parts)) no_parts)))
+leaf_at_one : put_leaf 1 (At 3) mixed
+    ≡ hook 5 no_nodes
+    (field 1 (leaf (At 3)) (link 0 no_nodes (leaf (At 4)) (field 0 (under (node 8 0 [] no_parts)) no_parts)))
 leaf_at_one = refl
 
 leaf_at_two : put_leaf 2 (At 3) mixed ≡ mixed
@@ -55,7 +59,8 @@ leaf_at_two = refl
 abbrev pair : Nodes
 pair = more (node 6 0 [] (field 0 (leaf Uninit) no_parts)) (more (node 7 0 [] mixed) no_nodes)
 
-second_tree : leaf_put 1 1 Dangling pair ≡ more (node 6 0 [] (field 0 (leaf Uninit) no_parts)) (more (node 7 0 [] (put_leaf 1 Dangling mixed)) no_nodes)
+second_tree : leaf_put 1 1 Dangling pair
+    ≡ more (node 6 0 [] (field 0 (leaf Uninit) no_parts)) (more (node 7 0 [] (put_leaf 1 Dangling mixed)) no_nodes)
 second_tree = refl
 
 has_null : HasLeaf pair 1 1 Null
@@ -69,7 +74,8 @@ lacks_two = (node 7 0 [] mixed, refl, refl)
 abbrev dated : Nodes
 dated = more (node 5 0 (Undefined ∷ Known 1 ∷ []) no_parts) (more (node 6 0 (Known 2 ∷ []) no_parts) no_nodes)
 
-second_datum : datum_put 0 1 (Known 3) dated ≡ more (node 5 0 (Undefined ∷ Known 3 ∷ []) no_parts) (more (node 6 0 (Known 2 ∷ []) no_parts) no_nodes)
+second_datum : datum_put 0 1 (Known 3) dated
+    ≡ more (node 5 0 (Undefined ∷ Known 3 ∷ []) no_parts) (more (node 6 0 (Known 2 ∷ []) no_parts) no_nodes)
 second_datum = refl
 
 has_undefined : HasDatum dated 0 0 Undefined
@@ -81,7 +87,12 @@ lacks_datum = (node 6 0 (Known 2 ∷ []) no_parts, refl, refl)
 -- New cells: struct 0 has a datum between two pointers, struct 1 has no fields.
 
 abbrev structs : List Shape
-structs = record { name = []; fields = record { name = []; kind = Pointer 1 } ∷ record { name = []; kind = DatumKind } ∷ record { name = []; kind = Pointer 0 } ∷ [] } ∷ record { name = []; fields = [] } ∷ []
+structs =
+    record {
+      name = [];
+      fields = record { name = []; kind = Pointer 1 } ∷ record { name = []; kind = DatumKind }
+          ∷ record { name = []; kind = Pointer 0 } ∷ [];
+    } ∷ record { name = []; fields = [] } ∷ []
 
 new_cell : new_node structs 0 9 ≡ node 9 0 (Undefined ∷ []) (field 0 (leaf Uninit) (field 1 (leaf Uninit) no_parts))
 new_cell = refl
@@ -92,27 +103,64 @@ new_empty = refl
 -- Which leaves fit: root 0 is of struct 0, root 1 of struct 1.
 
 abbrev top : ℕ → Symbol → List ℕ → Automaton
-top n y qs = automaton n (0 ∷ []) (record { state = 0; symbol = y; children = qs } ∷ record { state = 1; symbol = NullSymbol; children = [] } ∷ [])
+top n y qs = automaton n (0 ∷ [])
+    (record { state = 0; symbol = y; children = qs } ∷ record { state = 1; symbol = NullSymbol; children = [] } ∷ [])
 
 abbrev two : Forest
-two = record { autos = top 2 (Cell 0 (Known 4 ∷ []) (Field 0 ∷ Field 1 ∷ [])) (1 ∷ 1 ∷ []) ∷ top 2 (Cell 1 [] []) [] ∷ []; vars = []; data_vars = [] }
+two =
+    record {
+      autos = top 2 (Cell 0 (Known 4 ∷ []) (Field 0 ∷ Field 1 ∷ [])) (1 ∷ 1 ∷ []) ∷ top 2 (Cell 1 [] []) [] ∷ [];
+      vars = [];
+      data_vars = [];
+    }
 
 one_top : (y : Symbol) (qs : List ℕ) → HasOneTop (top 2 y qs)
-one_top y qs = record { root = 0; alone = refl; place = 0; rule = record { state = 0; symbol = y; children = qs }; there = refl; top = refl; only = only }
+one_top y qs =
+    record {
+      root = 0;
+      alone = refl;
+      place = 0;
+      rule = record { state = 0; symbol = y; children = qs };
+      there = refl;
+      top = refl;
+      only = only;
+    }
   where
-    only : (i : ℕ) (r : Rule) → slice_get (record { state = 0; symbol = y; children = qs } ∷ record { state = 1; symbol = NullSymbol; children = [] } ∷ []) i ≡ Some r → r.state ≡ 0 → i ≡ 0
+    only : (i : ℕ) (r : Rule)
+        → slice_get (record { state = 0; symbol = y; children = qs }
+        ∷ record { state = 1; symbol = NullSymbol; children = [] } ∷ []) i ≡ Some r → r.state ≡ 0 → i ≡ 0
     only zero r e s = refl
-    only (suc zero) r e s = absurd (let w : 1 ≡ r.state = ap (λ (x : Rule). x.state) (same_Some (record { state = 1; symbol = NullSymbol; children = [] }) r e) in omega (arith, w, s))
+    only (suc zero) r e s = absurd
+        (let w : 1 ≡ r.state = ap (λ (x : Rule). x.state)
+        (same_Some (record { state = 1; symbol = NullSymbol; children = [] }) r e) in omega (arith, w, s))
     only (suc (suc i)) r e s = absurd (none-some r e)
 
 shapes : (shape_at two 0 ≡ Some 0) × (shape_at two 1 ≡ Some 1)
 shapes = (refl, refl)
 
 fits_first : LeafFits structs two 0 0 (At 1)
-fits_first = record { root = omega arith; top = one_top (Cell 1 [] []) []; above = 0; is_above = refl; below = 1; is_below = refl; points = refl }
+fits_first =
+    record {
+      root = omega arith;
+      top = one_top (Cell 1 [] []) [];
+      above = 0;
+      is_above = refl;
+      below = 1;
+      is_below = refl;
+      points = refl;
+    }
 
 fits_second : LeafFits structs two 0 1 (At 0)
-fits_second = record { root = omega arith; top = one_top (Cell 0 (Known 4 ∷ []) (Field 0 ∷ Field 1 ∷ [])) (1 ∷ 1 ∷ []); above = 0; is_above = refl; below = 0; is_below = refl; points = refl }
+fits_second =
+    record {
+      root = omega arith;
+      top = one_top (Cell 0 (Known 4 ∷ []) (Field 0 ∷ Field 1 ∷ [])) (1 ∷ 1 ∷ []);
+      above = 0;
+      is_above = refl;
+      below = 0;
+      is_below = refl;
+      points = refl;
+    }
 
 -- field 0 points to struct 1
 fits_not : LeafFits structs two 0 0 (At 0) → ⊥

@@ -20,7 +20,8 @@ blank_parts k (suc j) = field k (leaf Uninit) (blank_parts (suc k) j)
 
 -- a cell of the struct that was just made, of number c
 abbrev pub new_node : List Shape → ℕ → ℕ → Node
-new_node hs shape c = node c shape (replicate (datums_of hs shape) Undefined) (blank_parts 0 (length (targets_of hs shape)))
+new_node hs shape c = node c shape (replicate (datums_of hs shape) Undefined)
+    (blank_parts 0 (length (targets_of hs shape)))
 
 -- G is F with a new cell of the struct as its last root, at which variable `to` is
 pub record IsNewed (hs : List Shape) (T : List BoxDef) (F G : Forest) (to shape : ℕ) : Type 0 where
@@ -32,4 +33,5 @@ pub record IsNewed (hs : List Shape) (T : List BoxDef) (F G : Forest) (to shape 
   pub counted : (d : Nodes) → OfForest T F d → count d ≡ roots
   pub refs : (d : Nodes) → OfForest T F d → Every (λ r. r < roots) (all_refs d)
   pub forth : (d : Nodes) → OfForest T F d → (c : ℕ) → OfForest T G (with_last d (new_node hs shape c))
-  pub back : (d : Nodes) → OfForest T G d → (e : Nodes) × (c : ℕ) × (d ≡ with_last e (new_node hs shape c)) × OfForest T F e
+  pub back : (d : Nodes) → OfForest T G d → (e : Nodes) × (c : ℕ) × (d ≡ with_last e (new_node hs shape c))
+      × OfForest T F e

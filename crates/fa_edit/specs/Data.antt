@@ -56,7 +56,8 @@ datums_at F r = symbol_datums (top_rule (component_at F.autos r)).symbol
 abbrev pub HasDatumField : Forest → ℕ → ℕ → Type 0
 HasDatumField F r f = f < length (datums_at F r)
 
--- in each dressed forest of F the datum y is in data field f of root r; with the datum z in its place it is one of G, and the other way
+-- in each dressed forest of F the datum y is in data field f of root r; with the datum z in its place it is one of G,
+-- and the other way
 pub record IsDatumPut (T : List BoxDef) (F G : Forest) (r f : ℕ) (y z : Datum) : Type 0 where
   pub vars : G.vars ≡ F.vars
   pub data_vars : G.data_vars ≡ F.data_vars

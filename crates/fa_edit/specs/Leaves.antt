@@ -52,7 +52,8 @@ AllLackField T F r f = (d : Nodes) → OfForest T F d → LacksField d r f
 abbrev pub leaf_put : ℕ → ℕ → Target → Nodes → Nodes
 leaf_put r f u d = put_at r (with_leaf f u) d
 
--- in each dressed forest of F the leaf t stands in field f of root r; with the leaf u in its place it is one of G, and the other way
+-- in each dressed forest of F the leaf t stands in field f of root r; with the leaf u in its place it is one of G, and
+-- the other way
 pub record IsPut (T : List BoxDef) (F G : Forest) (r f : ℕ) (t u : Target) : Type 0 where
   pub vars : G.vars ≡ F.vars
   pub data_vars : G.data_vars ≡ F.data_vars

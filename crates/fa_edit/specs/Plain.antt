@@ -12,7 +12,8 @@ use Rattle.fa_core.specs.declared.forest.Target.{Target}
 use Rattle.fa_sound.specs.Components.{component_at}
 use Rattle.fa_split.specs.Split.{top_rule, child_state}
 
--- the place of field f among the children of a cell with these slots, of which the first child stands at place k; a Hook has no child
+-- the place of field f among the children of a cell with these slots, of which the first child stands at place k; a
+-- Hook has no child
 abbrev pub field_place_from : ℕ → ℕ → List Slot → Option ℕ
 field_place_from k f [] = None
 field_place_from k f (Field g ∷ ss) = if nat_eq g f then Some k else field_place_from (suc k) f ss

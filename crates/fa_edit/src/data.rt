@@ -29,22 +29,26 @@ pub fn datum_of(forest: &Sound, root: u32, field: u32) -> Option<Datum>
     requires top { HasOneTop (component_at forest.now.forest.autos root) }
     ensures value { result ≡ slice_get (datums_at forest.now.forest root) field }
     ensures has { OnSome result (HasDatumField forest.now.forest root field) }
-    ensures held { MatchOption result ((T : List BoxDef) → AllLackDatum T forest.now.forest root field) (λ datum. (T : List BoxDef) → AllHaveDatum T forest.now.forest root field datum) }
+    ensures held { MatchOption result ((T : List BoxDef) → AllLackDatum T forest.now.forest root field)
+        (λ datum. (T : List BoxDef) → AllHaveDatum T forest.now.forest root field datum) }
 {
     datum_at(component(forest.forest(), root), field)
 }
 
-/// The forest with another datum in a data field of a root that has one rule. A canonical forest stays canonical. Err is want of memory.
+/// The forest with another datum in a data field of a root that has one rule. A canonical forest stays canonical. Err
+/// is want of memory.
 pub fn with_datum(alloc: Global, forest: &Sound, root: u32, field: u32, datum: Datum) -> Mem<Sound>
     requires plain { Every HasNoBoxes forest.now.forest.autos }
     requires root { root < length forest.now.forest.autos }
     requires top { HasOneTop (component_at forest.now.forest.autos root) }
     requires has { HasDatumField forest.now.forest root field }
     requires fits { DatumFits datum }
-    ensures put { IfOk result (λ made. (T : List BoxDef) (old : Datum) → AllHaveDatum T forest.now.forest root field old → IsDatumPut T forest.now.forest made.forest root field old datum) }
+    ensures put { IfOk result (λ made. (T : List BoxDef) (old : Datum) → AllHaveDatum T forest.now.forest root field old
+        → IsDatumPut T forest.now.forest made.forest root field old datum) }
     ensures face { IfOk result (λ made. made.face ≡ forest.now.face) }
     ensures plain { IfOk result (λ made. Every HasNoBoxes made.forest.autos) }
-    ensures canonical { IsCanonical forest.now.face forest.now.forest → IfOk result (λ made. IsCanonical made.face made.forest) }
+    ensures canonical { IsCanonical forest.now.face forest.now.forest
+        → IfOk result (λ made. IsCanonical made.face made.forest) }
 {
     forest.known();
     let made = sound_dated(alloc, forest, root, field, datum)?;
@@ -89,7 +93,8 @@ fn copied_rules(alloc: Global, auto: &Auto) -> Mem<List<Rule>>
 
 /// The rule at this state, with the datum in its cell.
 fn rule_with(alloc: Global, rule: &Rule, state: u32, field: u32, datum: Datum) -> Mem<Rule>
-    ensures { IfOk result (λ made. made ≡ record { state = state; symbol = symbol_with field datum rule.now.symbol; children = rule.now.children }) }
+    ensures { IfOk result (λ made. made
+        ≡ record { state = state; symbol = symbol_with field datum rule.now.symbol; children = rule.now.children }) }
 {
     Ok(Rule {
         state,

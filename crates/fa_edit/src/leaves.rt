@@ -1,6 +1,7 @@
 //! Leaves in pointer fields of roots.
 
-ghost use Rattle.std.specs.Prelude.{◌≡◌, ◌<◌, ◌↔◌, ℕ, List, length, Some, None, IfOk, IsNone, IsTrue, MatchOption, OnSome};
+ghost use Rattle.std.specs.Prelude.{◌≡◌, ◌<◌, ◌↔◌, ℕ, List, length, Some, None, IfOk, IsNone, IsTrue, MatchOption};
+ghost use Rattle.std.specs.Prelude.{OnSome};
 ghost use Rattle.fore_base.specs.Lists.{Every};
 ghost use Rattle.ta_core.specs.Single.{HasOneTop};
 ghost use Rattle.fa_core.specs.Boxless.{HasNoBoxes};
@@ -22,7 +23,8 @@ use fore_base::memory::Mem;
 use fore_base::shape::Shape;
 use std::alloc::Global;
 
-/// Whether the root has one rule, and where that has the field, only one leaf may stand there: the condition of `leaf_of` and `with_leaf`. Takes no memory.
+/// Whether the root has one rule, and where that has the field, only one leaf may stand there: the condition of
+/// `leaf_of` and `with_leaf`. Takes no memory.
 pub fn is_plain_at(forest: &Sound, root: u32, field: u32) -> bool
     ensures { IsTrue result ↔ IsPlainAt forest.now.forest root field }
 {
@@ -39,13 +41,15 @@ pub fn is_plain_at(forest: &Sound, root: u32, field: u32) -> bool
     }
 }
 
-/// The leaf in a pointer field of a root that has one rule, at which only one leaf may stand; None where the root has no such field. Takes no memory.
+/// The leaf in a pointer field of a root that has one rule, at which only one leaf may stand; None where the root has
+/// no such field. Takes no memory.
 pub fn leaf_of(forest: &Sound, root: u32, field: u32) -> Option<Target>
     requires plain { Every HasNoBoxes forest.now.forest.autos }
     requires at { IsPlainAt forest.now.forest root field }
     ensures has { OnSome result (HasPlace forest.now.forest root field) }
     ensures lacks { IsNone result → place_at forest.now.forest root field ≡ None }
-    ensures held { MatchOption result ((T : List BoxDef) → AllLackField T forest.now.forest root field) (λ leaf. (T : List BoxDef) → AllHaveLeaf T forest.now.forest root field leaf) }
+    ensures held { MatchOption result ((T : List BoxDef) → AllLackField T forest.now.forest root field)
+        (λ leaf. (T : List BoxDef) → AllHaveLeaf T forest.now.forest root field leaf) }
 {
     forest.known();
     let auto = component(forest.forest(), root);
@@ -55,7 +59,8 @@ pub fn leaf_of(forest: &Sound, root: u32, field: u32) -> Option<Target>
     }
 }
 
-/// Whether the leaf may stand in a pointer field of a root that has one rule: it names no root, or one that has one rule too and is of the struct to which the field points. Takes no memory.
+/// Whether the leaf may stand in a pointer field of a root that has one rule: it names no root, or one that has one
+/// rule too and is of the struct to which the field points. Takes no memory.
 pub fn leaf_fits(forest: &Sound, root: u32, field: u32, leaf: Target) -> bool
     requires root { root < length forest.now.forest.autos }
     requires top { HasOneTop (component_at forest.now.forest.autos root) }
@@ -104,7 +109,8 @@ pub fn with_leaf(alloc: Global, forest: &Sound, root: u32, field: u32, leaf: Tar
     requires at { IsPlainAt forest.now.forest root field }
     requires has { HasPlace forest.now.forest root field }
     requires fits { LeafFits forest.now.face.shapes.structs forest.now.forest root field leaf }
-    ensures put { IfOk result (λ made. (T : List BoxDef) (old : Target) → AllHaveLeaf T forest.now.forest root field old → IsPut T forest.now.forest made.forest root field old leaf) }
+    ensures put { IfOk result (λ made. (T : List BoxDef) (old : Target) → AllHaveLeaf T forest.now.forest root field old
+        → IsPut T forest.now.forest made.forest root field old leaf) }
     ensures face { IfOk result (λ made. made.face ≡ forest.now.face) }
     ensures plain { IfOk result (λ made. Every HasNoBoxes made.forest.autos) }
 {

@@ -1,7 +1,9 @@
-//! Forests with one thing changed: a leaf in a pointer field of a root, a datum of a root, a new cell as a last root, or what the variables are.
+//! Forests with one thing changed: a leaf in a pointer field of a root, a datum of a root, a new cell as a last root,
+//! or what the variables are.
 //!
-//! Each call says what becomes of the dressed forests, for every table of boxes; the result is a sound forest over the same face. A root state may
-//! stand inside its own component, so the root of a changed component is a new state, and the old states stay below it.
+//! Each call says what becomes of the dressed forests, for every table of boxes; the result is a sound forest over the
+//! same face. A root state may stand inside its own component, so the root of a changed component is a new state, and
+//! the old states stay below it.
 #![tactic(auto)]
 
 pub mod cells;

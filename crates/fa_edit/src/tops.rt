@@ -85,7 +85,8 @@ fn field_place(slots: &[Slot], field: u32) -> Option<usize>
 
 /// The first rule of the state.
 fn first_at<'a>(rules: &'a [Rule], state: u32) -> Option<&'a Rule>
-    ensures { MatchOption result (Every (λ x. x.state ≢ state) rules.entry.now) (λ rule. IsIn rule.now rules.entry.now × (rule.now.state ≡ state)) }
+    ensures { MatchOption result (Every (λ x. x.state ≢ state) rules.entry.now)
+        (λ rule. IsIn rule.now rules.entry.now × (rule.now.state ≡ state)) }
 {
     for rule in rules {
         if rule.state == state {

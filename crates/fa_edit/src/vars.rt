@@ -13,7 +13,8 @@ use fore_base::memory::Mem;
 use fore_base::store::Datum;
 use std::alloc::Global;
 
-/// The forest with these targets, each a root of it or none, and these data. Where the targets stay, a canonical forest stays canonical. Err is want of memory.
+/// The forest with these targets, each a root of it or none, and these data. Where the targets stay, a canonical forest
+/// stays canonical. Err is want of memory.
 pub fn with_vars(
     alloc: Global,
     forest: &Sound,
@@ -23,10 +24,12 @@ pub fn with_vars(
     requires plain { Every HasNoBoxes forest.now.forest.autos }
     requires targets { Every (IsRoot (length forest.now.forest.autos)) vars }
     requires data { Every DatumFits data_vars }
-    ensures value { IfOk result (λ made. made.forest ≡ record forest.now.forest { vars = vars; data_vars = data_vars }) }
+    ensures value { IfOk result (λ made. made.forest
+        ≡ record forest.now.forest { vars = vars; data_vars = data_vars }) }
     ensures face { IfOk result (λ made. made.face ≡ forest.now.face) }
     ensures plain { IfOk result (λ made. Every HasNoBoxes made.forest.autos) }
-    ensures canonical { vars ≡ forest.now.forest.vars → IsCanonical forest.now.face forest.now.forest → IfOk result (λ made. IsCanonical made.face made.forest) }
+    ensures canonical { vars ≡ forest.now.forest.vars → IsCanonical forest.now.face forest.now.forest
+        → IfOk result (λ made. IsCanonical made.face made.forest) }
 {
     forest.known();
     let made = forest.with_vars(alloc, vars, data_vars)?;

@@ -1,5 +1,6 @@
 -- Agreement to a height, one height after another.
-use Rattle.std.proofs.Common.{◌≡◌, inl, inr, ℕ, suc, ◌<◌, ◌+◌, List, [], ◌∷◌, ◌++◌, length, refl, sym, ap, subst, ◌∙◌, arith}
+use Rattle.std.proofs.Common.{◌≡◌, inl, inr, ℕ, suc, ◌<◌, ◌+◌, List, [], ◌∷◌, ◌++◌, length, refl, sym, ap, subst, ◌∙◌}
+use Rattle.std.proofs.Common.{arith}
 use Rattle.std.proofs.lemmas.Bool.{cases_order}
 use Rattle.std.proofs.lemmas.List.{get_or_push, get_or_append_left}
 use Rattle.fore_base.specs.Lists.{IsIn, Every, Paired}
@@ -7,12 +8,14 @@ use Rattle.fore_base.proofs.ListLemmas.{in_left, in_right, in_push, every_in, in
 use Rattle.ta_core.specs.Auto.{IsRankedRule}
 use Rattle.ta_core.specs.declared.auto.Rule.{Rule}
 use Rattle.fa_height.specs.Quotients.{AreMatched, Agree}
-use Rattle.fa_height.specs.inner.Agreeing.{AreRulesOf, AreRulesEach, rules_at, HasMatch, AreMatchedIn, AreAlike, IsRefined, IsAgreement}
+use Rattle.fa_height.specs.inner.Agreeing.{AreRulesOf, AreRulesEach, rules_at, HasMatch, AreMatchedIn, AreAlike}
+use Rattle.fa_height.specs.inner.Agreeing.{IsRefined, IsAgreement}
 use Rattle.fa_height.specs.inner.Classes.{IsEquivalence, IsOneClass}
 
 -- Rules by state.
 
-pub rules_add : (rules list : List Rule) (q : ℕ) (r : Rule) → AreRulesOf rules q list → r.state ≡ q → AreRulesOf (rules ++ r ∷ []) q (list ++ r ∷ [])
+pub rules_add : (rules list : List Rule) (q : ℕ) (r : Rule) → AreRulesOf rules q list → r.state ≡ q
+    → AreRulesOf (rules ++ r ∷ []) q (list ++ r ∷ [])
 rules_add rules list q r h e x = (
   (λ i. elim (in_push r x list i) [
     | inl j ↦ (in_left x rules (r ∷ []) ((h x).0 j).0, ((h x).0 j).1)
@@ -24,7 +27,8 @@ rules_add rules list q r h e x = (
   ]),
 )
 
-pub rules_skip : (rules list : List Rule) (q : ℕ) (r : Rule) → AreRulesOf rules q list → (r.state ≡ q → ⊥) → AreRulesOf (rules ++ r ∷ []) q list
+pub rules_skip : (rules list : List Rule) (q : ℕ) (r : Rule) → AreRulesOf rules q list → (r.state ≡ q → ⊥)
+    → AreRulesOf (rules ++ r ∷ []) q list
 rules_skip rules list q r h f x = (
   (λ i. (in_left x rules (r ∷ []) ((h x).0 i).0, ((h x).0 i).1)),
   (λ k. elim (in_push r x rules k.0) [
@@ -40,7 +44,8 @@ module _ (classes : List ℕ) where
   class_same [] = tt
   class_same (q ∷ qs) = (refl, class_same qs)
 
-  class_through : (ps qs rs : List ℕ) → Paired (IsOneClass classes) ps qs → Paired (IsOneClass classes) qs rs → Paired (IsOneClass classes) ps rs
+  class_through : (ps qs rs : List ℕ) → Paired (IsOneClass classes) ps qs → Paired (IsOneClass classes) qs rs
+      → Paired (IsOneClass classes) ps rs
   class_through [] [] [] h k = tt
   class_through [] [] (r ∷ rs) h k = absurd k
   class_through [] (q ∷ qs) rs h k = absurd h
@@ -50,9 +55,11 @@ module _ (classes : List ℕ) where
 
   module _ (table : List (List Rule)) where
     matched_same : (p : ℕ) → AreMatchedIn table classes p p
-    matched_same p = in_every (HasMatch classes (rules_at table p)) (rules_at table p) (λ r i. (r, i, (refl, class_same r.children)))
+    matched_same p = in_every (HasMatch classes (rules_at table p)) (rules_at table p)
+        (λ r i. (r, i, (refl, class_same r.children)))
 
-    matched_through : (p q r : ℕ) → AreMatchedIn table classes p q → AreMatchedIn table classes q r → AreMatchedIn table classes p r
+    matched_through : (p q r : ℕ) → AreMatchedIn table classes p q → AreMatchedIn table classes q r
+        → AreMatchedIn table classes p r
     matched_through p q r h k = in_every (HasMatch classes (rules_at table r)) (rules_at table p) (λ x i.
         let a = every_in (HasMatch classes (rules_at table q)) (rules_at table p) x h i in
         let b = every_in (HasMatch classes (rules_at table r)) (rules_at table q) a.0 k a.1 in
@@ -67,14 +74,17 @@ module _ (classes : List ℕ) where
 
 -- One height more.
 
-module _ (n : ℕ) (rules : List Rule) (ranked : Every (IsRankedRule n) rules) (table : List (List Rule)) (own : AreRulesEach rules n table) (k : ℕ) (old : List ℕ) (h : IsAgreement rules n k old) where
-  agree_each : (ps qs : List ℕ) → Every (λ q. q < n) ps → Every (λ q. q < n) qs → Paired (IsOneClass old) ps qs → Paired (Agree rules k) ps qs
+module _ (n : ℕ) (rules : List Rule) (ranked : Every (IsRankedRule n) rules) (table : List (List Rule))
+    (own : AreRulesEach rules n table) (k : ℕ) (old : List ℕ) (h : IsAgreement rules n k old) where
+  agree_each : (ps qs : List ℕ) → Every (λ q. q < n) ps → Every (λ q. q < n) qs → Paired (IsOneClass old) ps qs
+      → Paired (Agree rules k) ps qs
   agree_each [] [] l m d = tt
   agree_each [] (q ∷ qs) l m d = absurd d
   agree_each (p ∷ ps) [] l m d = absurd d
   agree_each (p ∷ ps) (q ∷ qs) l m d = ((h p q l.0 m.0).0 d.0, agree_each ps qs l.1 m.1 d.1)
 
-  class_each : (ps qs : List ℕ) → Every (λ q. q < n) ps → Every (λ q. q < n) qs → Paired (Agree rules k) ps qs → Paired (IsOneClass old) ps qs
+  class_each : (ps qs : List ℕ) → Every (λ q. q < n) ps → Every (λ q. q < n) qs → Paired (Agree rules k) ps qs
+      → Paired (IsOneClass old) ps qs
   class_each [] [] l m d = tt
   class_each [] (q ∷ qs) l m d = absurd d
   class_each (p ∷ ps) [] l m d = absurd d
@@ -106,9 +116,11 @@ pub agree_first : (rules : List Rule) (n : ℕ) → IsAgreement rules n 0 []
 agree_first rules n p q l m = ((λ e. tt), (λ h. refl))
 
 -- the rules of one more state
-pub each_add : (rules : List Rule) (k : ℕ) (table : List (List Rule)) (list : List Rule) → length table ≡ k → AreRulesEach rules k table → AreRulesOf rules k list → AreRulesEach rules (k + 1) (table ++ list ∷ [])
+pub each_add : (rules : List Rule) (k : ℕ) (table : List (List Rule)) (list : List Rule) → length table ≡ k
+    → AreRulesEach rules k table → AreRulesOf rules k list → AreRulesEach rules (k + 1) (table ++ list ∷ [])
 each_add rules k table list e h own q l = elim (cases_order q k) [
-  | inl d ↦ subst (λ (n : ℕ). AreRulesOf rules n (rules_at (table ++ list ∷ []) n)) (sym d) (subst (AreRulesOf rules k) (sym (get_or_push table list [] k e)) own)
+  | inl d ↦ subst (λ (n : ℕ). AreRulesOf rules n (rules_at (table ++ list ∷ []) n)) (sym d)
+      (subst (AreRulesOf rules k) (sym (get_or_push table list [] k e)) own)
   | inr o ↦ elim o [
     | inl j ↦ subst (AreRulesOf rules q) (sym (get_or_append_left table (list ∷ []) [] q (rw e j))) (h q j)
     | inr j ↦ absurd (omega (arith, j, l))

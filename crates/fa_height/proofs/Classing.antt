@@ -1,5 +1,6 @@
 -- Classes, one number after another.
-use Rattle.std.proofs.Common.{◌≡◌, ◌↔◌, ◌⊎◌, inl, inr, ℕ, ◌<◌, ◌+◌, List, [], ◌∷◌, ◌++◌, length, slice_index, refl, sym, ap, subst, ◌∙◌, arith}
+use Rattle.std.proofs.Common.{◌≡◌, ◌↔◌, ◌⊎◌, inl, inr, ℕ, ◌<◌, ◌+◌, List, [], ◌∷◌, ◌++◌, length, slice_index, refl, sym}
+use Rattle.std.proofs.Common.{ap, subst, ◌∙◌, arith}
 use Rattle.std.proofs.lemmas.Bool.{cases_order}
 use Rattle.std.proofs.lemmas.List.{length-append, get_or_push, get_or_append_left}
 use Rattle.fa_height.specs.inner.Classes.{IsEquivalence, AreClasses, IsOneClass}
@@ -34,10 +35,12 @@ module _ (R : ℕ → ℕ → Type 0) where
     at p l = let e = h.long in omega (arith, e, l)
 
     -- the next number is in a class that is there
-    pub class_known : (v : ℕ) → v < length firsts → R (slice_index firsts v) k → AreClasses R (k + 1) (numbers ++ v ∷ []) firsts
+    pub class_known : (v : ℕ) → v < length firsts → R (slice_index firsts v) k
+        → AreClasses R (k + 1) (numbers ++ v ∷ []) firsts
     class_known v l m =
         let more = numbers ++ v ∷ [] in
-        let old : (p : ℕ) → p < k → slice_index more p ≡ slice_index numbers p = λ p j. old_entry numbers v p (at p j) in
+        let old : (p : ℕ) → p < k → slice_index more p ≡ slice_index numbers p =
+        λ p j. old_entry numbers v p (at p j) in
         let last : slice_index more k ≡ v = new_entry numbers v k h.long in
         record {
           long = (let e = length-append numbers (v ∷ []) in let n = h.long in omega (arith, e, n));
@@ -49,43 +52,61 @@ module _ (R : ℕ → ℕ → Type 0) where
           low = λ w j. (let b = h.low w j in omega (arith, b));
           first = λ p j. elim (below_or p k j) [
             | inl i ↦ subst (λ (n : ℕ). R (slice_index firsts n) p) (sym (old p i)) (h.first p i)
-            | inr e ↦ subst (λ (y : ℕ). R (slice_index firsts (slice_index more y)) y) (sym e) (subst (λ (n : ℕ). R (slice_index firsts n) k) (sym last) m)
+            | inr e ↦ subst (λ (y : ℕ). R (slice_index firsts (slice_index more y)) y) (sym e)
+                (subst (λ (n : ℕ). R (slice_index firsts n) k) (sym last) m)
           ];
           apart = h.apart;
         }
 
     -- the next number begins a class
-    pub class_begun : IsEquivalence R → ((v : ℕ) → v < length firsts → R (slice_index firsts v) k → ⊥) → AreClasses R (k + 1) (numbers ++ length firsts ∷ []) (firsts ++ k ∷ [])
+    pub class_begun : IsEquivalence R → ((v : ℕ) → v < length firsts → R (slice_index firsts v) k → ⊥)
+        → AreClasses R (k + 1) (numbers ++ length firsts ∷ []) (firsts ++ k ∷ [])
     class_begun equal none =
         let more = numbers ++ length firsts ∷ [] in
         let ahead = firsts ++ k ∷ [] in
         let long : length ahead ≡ length firsts + 1 = length-append firsts (k ∷ []) in
-        let old : (p : ℕ) → p < k → slice_index more p ≡ slice_index numbers p = λ p j. old_entry numbers (length firsts) p (at p j) in
+        let old : (p : ℕ) → p < k → slice_index more p ≡ slice_index numbers p =
+        λ p j. old_entry numbers (length firsts) p (at p j) in
         let last : slice_index more k ≡ length firsts = new_entry numbers (length firsts) k h.long in
-        let early : (v : ℕ) → v < length firsts → slice_index ahead v ≡ slice_index firsts v = λ v j. old_entry firsts k v j in
+        let early : (v : ℕ) → v < length firsts → slice_index ahead v ≡ slice_index firsts v =
+        λ v j. old_entry firsts k v j in
         let late : slice_index ahead (length firsts) ≡ k = new_entry firsts k (length firsts) refl in
         record {
           long = (let e = length-append numbers (length firsts ∷ []) in let n = h.long in omega (arith, e, n));
           few = (let f = h.few in omega (arith, f, long));
           fits = λ p j. elim (below_or p k j) [
             | inl i ↦ (let e = old p i in let f = h.fits p i in omega (arith, e, f, long))
-            | inr e ↦ (let d : slice_index more p ≡ length firsts = ap (λ (y : ℕ). slice_index more y) e ∙ last in omega (arith, d, long))
+            | inr e ↦ (let d : slice_index more p ≡ length firsts = ap (λ (y : ℕ). slice_index more y) e ∙ last in
+                omega (arith, d, long))
           ];
           low = λ v j. elim (below_or v (length firsts) (rw (← long) j)) [
             | inl i ↦ (let e = early v i in let b = h.low v i in omega (arith, e, b))
-            | inr e ↦ (let d : slice_index ahead v ≡ k = ap (λ (y : ℕ). slice_index ahead y) e ∙ late in omega (arith, d))
+            | inr e ↦ (let d : slice_index ahead v ≡ k = ap (λ (y : ℕ). slice_index ahead y) e ∙ late in
+                omega (arith, d))
           ];
           first = λ p j. elim (below_or p k j) [
-            | inl i ↦ subst (λ (n : ℕ). R n p) (sym (ap (λ (y : ℕ). slice_index ahead y) (old p i) ∙ early (slice_index numbers p) (h.fits p i))) (h.first p i)
-            | inr e ↦ subst (λ (y : ℕ). R (slice_index ahead (slice_index more y)) y) (sym e) (subst (λ (n : ℕ). R n k) (sym (ap (λ (y : ℕ). slice_index ahead y) last ∙ late)) (equal.same k))
+            | inl i ↦ subst (λ (n : ℕ). R n p)
+                (sym (ap (λ (y : ℕ). slice_index ahead y) (old p i) ∙ early (slice_index numbers p) (h.fits p i)))
+                (h.first p i)
+            | inr e ↦ subst (λ (y : ℕ). R (slice_index ahead (slice_index more y)) y) (sym e)
+                (subst (λ (n : ℕ). R n k) (sym (ap (λ (y : ℕ). slice_index ahead y) last ∙ late)) (equal.same k))
           ];
           apart = λ v w i j r. elim (below_or v (length firsts) (rw (← long) i)) [
             | inl a ↦ elim (below_or w (length firsts) (rw (← long) j)) [
-              | inl b ↦ h.apart v w a b (subst (λ (n : ℕ). R n (slice_index firsts w)) (early v a) (subst (λ (n : ℕ). R (slice_index ahead v) n) (early w b) r))
-              | inr e ↦ absurd (none v a (subst (λ (n : ℕ). R n k) (early v a) (subst (λ (n : ℕ). R (slice_index ahead v) n) (ap (λ (y : ℕ). slice_index ahead y) e ∙ late) r)))
+              | inl b ↦ h.apart v w a b
+                  (subst (λ (n : ℕ). R n (slice_index firsts w)) (early v a)
+                  (subst (λ (n : ℕ). R (slice_index ahead v) n) (early w b) r))
+              | inr e ↦ absurd
+                  (none v a
+                  (subst (λ (n : ℕ). R n k) (early v a)
+                  (subst (λ (n : ℕ). R (slice_index ahead v) n) (ap (λ (y : ℕ). slice_index ahead y) e ∙ late) r)))
             ]
             | inr d ↦ elim (below_or w (length firsts) (rw (← long) j)) [
-              | inl b ↦ absurd (none w b (equal.turned k (slice_index firsts w) (subst (λ (n : ℕ). R n (slice_index firsts w)) (ap (λ (y : ℕ). slice_index ahead y) d ∙ late) (subst (λ (n : ℕ). R (slice_index ahead v) n) (early w b) r))))
+              | inl b ↦ absurd
+                  (none w b
+                  (equal.turned k (slice_index firsts w)
+                  (subst (λ (n : ℕ). R n (slice_index firsts w)) (ap (λ (y : ℕ). slice_index ahead y) d ∙ late)
+                  (subst (λ (n : ℕ). R (slice_index ahead v) n) (early w b) r))))
               | inr e ↦ d ∙ sym e
             ]
           ];
@@ -94,10 +115,13 @@ module _ (R : ℕ → ℕ → Type 0) where
     -- two numbers are in one class exactly where they are related
     pub one_class : IsEquivalence R → (p q : ℕ) → p < k → q < k → IsOneClass numbers p q ↔ R p q
     one_class equal p q i j = (
-      (λ e. equal.through p (slice_index firsts (slice_index numbers p)) q (equal.turned _ p (h.first p i)) (subst (λ (n : ℕ). R (slice_index firsts n) q) (sym e) (h.first q j))),
-      (λ r. h.apart (slice_index numbers p) (slice_index numbers q) (h.fits p i) (h.fits q j) (equal.through _ q _ (equal.through _ p q (h.first p i) r) (equal.turned _ q (h.first q j)))),
+      (λ e. equal.through p (slice_index firsts (slice_index numbers p)) q (equal.turned _ p (h.first p i))
+          (subst (λ (n : ℕ). R (slice_index firsts n) q) (sym e) (h.first q j))),
+      (λ r. h.apart (slice_index numbers p) (slice_index numbers q) (h.fits p i) (h.fits q j)
+          (equal.through _ q _ (equal.through _ p q (h.first p i) r) (equal.turned _ q (h.first q j)))),
     )
 
     -- the first number of a class is in it
     pub first_in : (v : ℕ) → v < length firsts → slice_index numbers (slice_index firsts v) ≡ v
-    first_in v l = h.apart (slice_index numbers (slice_index firsts v)) v (h.fits (slice_index firsts v) (h.low v l)) l (h.first (slice_index firsts v) (h.low v l))
+    first_in v l = h.apart (slice_index numbers (slice_index firsts v)) v (h.fits (slice_index firsts v) (h.low v l)) l
+        (h.first (slice_index firsts v) (h.low v l))

@@ -1,10 +1,12 @@
 -- The runs of a quotient: each is a run of the component but for the trees that stand below joined states.
-use Rattle.std.proofs.Common.{◌≡◌, ◌⊎◌, inl, inr, ℕ, suc, ◌<◌, eqb, Bool, true, false, List, [], ◌∷◌, map, refl, sym, ap, ap₂, subst, ◌∙◌, true≢false}
+use Rattle.std.proofs.Common.{◌≡◌, ◌⊎◌, inl, inr, ℕ, suc, ◌<◌, eqb, Bool, true, false, List, [], ◌∷◌, map, refl, sym}
+use Rattle.std.proofs.Common.{ap, ap₂, subst, ◌∙◌, true≢false}
 use Rattle.std.specs.List.{list_any}
 use Rattle.fore_base.specs.Lists.{IsIn, Every, Paired}
 use Rattle.fore_base.proofs.ListLemmas.{in_map, in_mapped, every_in, number_in, in_number}
 use Rattle.ta_core.specs.Auto.{Automaton, IsRanked, IsRankedRule}
-use Rattle.ta_core.specs.Language.{RunOf, run, RunEach, run_none, run_more, InLanguage, HasTree, PassesBy, at_top, below, OnePasses, this_one, later_one, IsTrim, IsWithin}
+use Rattle.ta_core.specs.Language.{RunOf, run, RunEach, run_none, run_more, InLanguage, HasTree, PassesBy, at_top}
+use Rattle.ta_core.specs.Language.{below, OnePasses, this_one, later_one, IsTrim, IsWithin}
 use Rattle.ta_core.specs.Renumbered.{renumbered}
 use Rattle.ta_core.specs.declared.auto.Rule.{Rule}
 use Rattle.ta_core.specs.declared.symbol.Symbol.{Symbol}
@@ -23,20 +25,29 @@ abbrev pub LooksLike : List BoxFace → Tree → Tree → Type 0
 LooksLike bs t u = ((out-Tree t).symbol ≡ (out-Tree u).symbol) × (signature bs t ≡ signature bs u)
 
 -- what stands below an edge follows from that
-below_same : (bs : List BoxFace) (ts us : List Tree) → Paired (LooksLike bs) ts us → map (below_of bs) ts ≡ map (below_of bs) us
+below_same : (bs : List BoxFace) (ts us : List Tree) → Paired (LooksLike bs) ts us → map (below_of bs) ts
+    ≡ map (below_of bs) us
 below_same bs [] [] h = refl
 below_same bs [] (u ∷ us) h = absurd h
 below_same bs (t ∷ ts) [] h = absurd h
-below_same bs (t ∷ ts) (u ∷ us) h = ap₂ (λ (x : Below) (xs : List Below). x ∷ xs) (ap₂ (λ (l : Bool) (ms : _). record { leaf = l; marks = ms }) (ap is_leaf h.0.0) h.0.1) (below_same bs ts us h.1)
+below_same bs (t ∷ ts) (u ∷ us) h =
+    ap₂ (λ (x : Below) (xs : List Below). x ∷ xs)
+    (ap₂ (λ (l : Bool) (ms : _). record { leaf = l; marks = ms }) (ap is_leaf h.0.0) h.0.1) (below_same bs ts us h.1)
 
 -- a tree over trees that look like its children looks like it
-pub looks_over : (bs : List BoxFace) (t : Tree) (y : Symbol) (us : List Tree) → y ≡ (out-Tree t).symbol → Paired (LooksLike bs) (out-Tree t).children us → LooksLike bs t (tree_of y us)
+pub looks_over : (bs : List BoxFace) (t : Tree) (y : Symbol) (us : List Tree) → y ≡ (out-Tree t).symbol
+    → Paired (LooksLike bs) (out-Tree t).children us → LooksLike bs t (tree_of y us)
 looks_over bs t y us e h =
     let x : Tree-F Tree = record { symbol = y; children = us } in
     let o = out-roll-Tree x in
-    let below : map (below_of bs) (out-Tree t).children ≡ map (below_of bs) (out-Tree (tree_of y us)).children = below_same bs (out-Tree t).children us h ∙ ap (λ (z : Tree-F Tree). map (below_of bs) z.children) (sym o) in
-    let top : (out-Tree t).symbol ≡ (out-Tree (tree_of y us)).symbol = sym e ∙ ap (λ (z : Tree-F Tree). z.symbol) (sym o) in
-    (top, tree_signature bs t ∙ ap₂ (λ (z : Symbol) (xs : List Below). marks_by bs z xs) top below ∙ sym (tree_signature bs (tree_of y us)))
+    let below : map (below_of bs) (out-Tree t).children ≡ map (below_of bs) (out-Tree (tree_of y us)).children =
+    below_same bs (out-Tree t).children us h ∙ ap (λ (z : Tree-F Tree). map (below_of bs) z.children) (sym o) in
+    let top : (out-Tree t).symbol ≡ (out-Tree (tree_of y us)).symbol =
+    sym e ∙ ap (λ (z : Tree-F Tree). z.symbol) (sym o) in (
+      top,
+      tree_signature bs t ∙ ap₂ (λ (z : Symbol) (xs : List Below). marks_by bs z xs) top below
+          ∙ sym (tree_signature bs (tree_of y us)),
+    )
 
 looks_through : (bs : List BoxFace) (t u v : Tree) → LooksLike bs t u → LooksLike bs u v → LooksLike bs t v
 looks_through bs t u v h k = (h.0 ∙ k.0, h.1 ∙ k.1)
@@ -49,7 +60,8 @@ root_or a q = here (list_any (λ m. eqb m q) a.roots) refl
     here true e = inl (number_in q a.roots e)
     here false e = inr (λ i. true≢false (sym (in_number q a.roots i) ∙ e))
 
-module _ (bs : List BoxFace) (k : ℕ) (a b : Automaton) (ranked : IsRanked a) (trim : IsTrim a) (h : IsQuotient bs (suc k) a b) where
+module _ (bs : List BoxFace) (k : ℕ) (a b : Automaton) (ranked : IsRanked a) (trim : IsTrim a)
+    (h : IsQuotient bs (suc k) a b) where
   abbrev rules : List Rule
   rules = map (renumbered h.to) a.rules
 
@@ -83,7 +95,8 @@ module _ (bs : List BoxFace) (k : ℕ) (a b : Automaton) (ranked : IsRanked a) (
   root_to p i = subst (IsIn (h.to p)) (sym roots_are) (in_map h.to p a.roots i)
 
   -- states with one image are one state, or agree and have equal signatures
-  joined_or : (p q : ℕ) → p < a.states → q < a.states → h.to p ≡ h.to q → (p ≡ q) ⊎ (Agree a.rules (suc k) p q × SameSignature bs a.rules p q)
+  joined_or : (p q : ℕ) → p < a.states → q < a.states → h.to p ≡ h.to q → (p ≡ q)
+      ⊎ (Agree a.rules (suc k) p q × SameSignature bs a.rules p q)
   joined_or p q l m e = elim (root_or a p) [
     | inl i ↦ inl (h.lone p q i m e)
     | inr i ↦ elim (root_or a q) [
@@ -93,7 +106,8 @@ module _ (bs : List BoxFace) (k : ℕ) (a b : Automaton) (ranked : IsRanked a) (
   ]
 
   -- each rule has one with its symbol at each state with the same image
-  pub same_symbol : (r : Rule) (q : ℕ) → IsIn r a.rules → q < a.states → h.to r.state ≡ h.to q → (o : Rule) × IsIn o a.rules × (o.state ≡ q) × (o.symbol ≡ r.symbol)
+  pub same_symbol : (r : Rule) (q : ℕ) → IsIn r a.rules → q < a.states → h.to r.state ≡ h.to q → (o : Rule)
+      × IsIn o a.rules × (o.state ≡ q) × (o.symbol ≡ r.symbol)
   same_symbol r q i l e = elim (joined_or r.state q (right r i).0 l e) [
     | inl d ↦ (r, i, d, refl)
     | inr j ↦ (let m = j.0.0 r i refl in (m.0, m.1, m.2, m.3))
@@ -106,7 +120,8 @@ module _ (bs : List BoxFace) (k : ℕ) (a b : Automaton) (ranked : IsRanked a) (
   images_each (q ∷ qs) = (refl, images_each qs)
 
   pub run_image : {q : ℕ} {t : Tree} → RunOf a.rules q t → RunOf b.rules (h.to q) t
-  run_image {q} r = along a.rules b.rules (λ p q. q ≡ h.to p) (λ r q ts i e w. (renumbered h.to r, rule_to r i, sym e, refl, images_each r.children)) (h.to q) refl r
+  run_image {q} r = along a.rules b.rules (λ p q. q ≡ h.to p)
+      (λ r q ts i e w. (renumbered h.to r, rule_to r i, sym e, refl, images_each r.children)) (h.to q) refl r
 
   pub run_image_each : {qs : List ℕ} {ts : List Tree} → RunEach a.rules qs ts → RunEach b.rules (map h.to qs) ts
   run_image_each run_none = run_none
@@ -120,7 +135,8 @@ module _ (bs : List BoxFace) (k : ℕ) (a b : Automaton) (ranked : IsRanked a) (
     passes_image (at_top e r) = at_top (ap h.to e) (run_image r)
     passes_image (below r i e s o) = below (renumbered h.to r) (rule_to r i) (ap h.to e) s (passes_one o)
 
-    passes_one : {q : ℕ} {ps : List ℕ} {ts : List Tree} → OnePasses a.rules q ps ts → OnePasses b.rules (h.to q) (map h.to ps) ts
+    passes_one : {q : ℕ} {ps : List ℕ} {ts : List Tree} → OnePasses a.rules q ps ts
+        → OnePasses b.rules (h.to q) (map h.to ps) ts
     passes_one (this_one p rs) = this_one (passes_image p) (run_image_each rs)
     passes_one (later_one r o) = later_one (run_image r) (passes_one o)
 
@@ -129,7 +145,8 @@ module _ (bs : List BoxFace) (k : ℕ) (a b : Automaton) (ranked : IsRanked a) (
   image_trim v l =
       let q = h.onto v l in
       let p = trim q.0 q.1 in
-      subst (λ (x : ℕ). (p : ℕ) × (t : Tree) × IsIn p b.roots × PassesBy b.rules x p t) q.2 (h.to p.0, p.1, root_to p.0 p.2, passes_image p.3)
+      subst (λ (x : ℕ). (p : ℕ) × (t : Tree) × IsIn p b.roots × PassesBy b.rules x p t) q.2
+      (h.to p.0, p.1, root_to p.0 p.2, passes_image p.3)
 
   -- Each run of the quotient looks like one of the component.
 
@@ -141,32 +158,45 @@ module _ (bs : List BoxFace) (k : ℕ) (a b : Automaton) (ranked : IsRanked a) (
   stand_for (q ∷ qs) l = ((refl, l.0), stand_for qs l.1)
 
   -- a tree that looks like one of a joined state
-  at_joined : (r : Rule) (us : List Tree) (q : ℕ) → IsIn r a.rules → RunEach a.rules r.children us → q < a.states → h.to r.state ≡ h.to q → (u : Tree) × RunOf a.rules q u × LooksLike bs (tree_of r.symbol us) u
+  at_joined : (r : Rule) (us : List Tree) (q : ℕ) → IsIn r a.rules → RunEach a.rules r.children us → q < a.states
+      → h.to r.state ≡ h.to q → (u : Tree) × RunOf a.rules q u × LooksLike bs (tree_of r.symbol us) u
   at_joined r us q i w l e =
       let first : RunOf a.rules r.state (tree_of r.symbol us) = run_tree a.rules r us i w in
       elim (joined_or r.state q (right r i).0 l e) [
         | inl d ↦ (tree_of r.symbol us, subst (λ (x : ℕ). RunOf a.rules x (tree_of r.symbol us)) d first, (refl, refl))
         | inr j ↦ (let m = j.0.0 r i refl in
             let vs = have_trees m.0.children (right m.0 m.1).1 in
-            let other : RunOf a.rules q (tree_of m.0.symbol vs.0) = subst (λ (x : ℕ). RunOf a.rules x (tree_of m.0.symbol vs.0)) m.2 (run_tree a.rules m.0 vs.0 m.1 vs.1) in (
+            let other : RunOf a.rules q (tree_of m.0.symbol vs.0) =
+            subst (λ (x : ℕ). RunOf a.rules x (tree_of m.0.symbol vs.0)) m.2
+            (run_tree a.rules m.0 vs.0 m.1 vs.1) in (
               tree_of m.0.symbol vs.0,
               other,
               (
-                ap (λ (z : Tree-F Tree). z.symbol) (out-roll-Tree (record { symbol = r.symbol; children = us })) ∙ sym m.3 ∙ ap (λ (z : Tree-F Tree). z.symbol) (sym (out-roll-Tree (record { symbol = m.0.symbol; children = vs.0 }))),
+                ap (λ (z : Tree-F Tree). z.symbol) (out-roll-Tree (record { symbol = r.symbol; children = us }))
+                    ∙ sym m.3 ∙ ap (λ (z : Tree-F Tree). z.symbol)
+                    (sym (out-roll-Tree (record { symbol = m.0.symbol; children = vs.0 }))),
                 sym (j.1.1.0 (tree_of r.symbol us) first) ∙ j.1.2.0 (tree_of m.0.symbol vs.0) other,
               ),
             ))
       ]
 
   mutual
-    pub looked : {v : ℕ} {t : Tree} (q : ℕ) → StandsFor v q → RunOf b.rules v t → (u : Tree) × RunOf a.rules q u × LooksLike bs t u
+    pub looked : {v : ℕ} {t : Tree} (q : ℕ) → StandsFor v q → RunOf b.rules v t → (u : Tree) × RunOf a.rules q u
+        × LooksLike bs t u
     looked {v} {t} q d (run r i e s w) =
         let o = rule_of r i in
-        let us = looked_each o.0.children (subst (λ (x : Rule). Paired StandsFor x.children o.0.children) (sym o.2) (stand_for o.0.children (right o.0 o.1).1)) w in
-        let u = at_joined o.0 us.0 q o.1 us.1 d.1 (sym (ap (λ (x : Rule). x.state) o.2) ∙ e ∙ d.0) in
-        (u.0, u.1, looks_through bs t (tree_of o.0.symbol us.0) u.0 (looks_over bs t o.0.symbol us.0 (sym (ap (λ (x : Rule). x.symbol) o.2) ∙ s) us.2) u.2)
+        let us = looked_each o.0.children
+        (subst (λ (x : Rule). Paired StandsFor x.children o.0.children) (sym o.2)
+        (stand_for o.0.children (right o.0 o.1).1)) w in
+        let u = at_joined o.0 us.0 q o.1 us.1 d.1 (sym (ap (λ (x : Rule). x.state) o.2) ∙ e ∙ d.0) in (
+          u.0,
+          u.1,
+          looks_through bs t (tree_of o.0.symbol us.0) u.0
+              (looks_over bs t o.0.symbol us.0 (sym (ap (λ (x : Rule). x.symbol) o.2) ∙ s) us.2) u.2,
+        )
 
-    pub looked_each : {vs : List ℕ} {ts : List Tree} (qs : List ℕ) → Paired StandsFor vs qs → RunEach b.rules vs ts → (us : List Tree) × RunEach a.rules qs us × Paired (LooksLike bs) ts us
+    pub looked_each : {vs : List ℕ} {ts : List Tree} (qs : List ℕ) → Paired StandsFor vs qs → RunEach b.rules vs ts
+        → (us : List Tree) × RunEach a.rules qs us × Paired (LooksLike bs) ts us
     looked_each [] d run_none = ([], run_none, tt)
     looked_each (q ∷ qs) d run_none = absurd d
     looked_each [] d (run_more r rs) = absurd d
@@ -176,12 +206,21 @@ module _ (bs : List BoxFace) (k : ℕ) (a b : Automaton) (ranked : IsRanked a) (
         (u.0 ∷ us.0, run_more u.1 us.1, (u.2, us.2))
 
   -- so does each tree of the quotient, and so do its children: a root state is joined with none
-  pub outlined : (t : Tree) → InLanguage b t → (u : Tree) × InLanguage a u × LooksLike bs t u × Paired (LooksLike bs) (out-Tree t).children (out-Tree u).children
+  pub outlined : (t : Tree) → InLanguage b t → (u : Tree) × InLanguage a u × LooksLike bs t u
+      × Paired (LooksLike bs) (out-Tree t).children (out-Tree u).children
   outlined t (v, i, run r j e s w) =
       let o = rule_of r j in
       let p = root_of v i in
-      let us = looked_each o.0.children (subst (λ (x : Rule). Paired StandsFor x.children o.0.children) (sym o.2) (stand_for o.0.children (right o.0 o.1).1)) w in
-      let same : p.0 ≡ o.0.state = h.lone p.0 o.0.state p.1 (right o.0 o.1).0 (sym p.2 ∙ sym e ∙ ap (λ (x : Rule). x.state) o.2) in
+      let us = looked_each o.0.children
+      (subst (λ (x : Rule). Paired StandsFor x.children o.0.children) (sym o.2)
+      (stand_for o.0.children (right o.0 o.1).1)) w in
+      let same : p.0 ≡ o.0.state =
+      h.lone p.0 o.0.state p.1 (right o.0 o.1).0 (sym p.2 ∙ sym e ∙ ap (λ (x : Rule). x.state) o.2) in
       let u : Tree = tree_of o.0.symbol us.0 in
-      let top = looks_over bs t o.0.symbol us.0 (sym (ap (λ (x : Rule). x.symbol) o.2) ∙ s) us.2 in
-      (u, (o.0.state, subst (λ (x : ℕ). IsIn x a.roots) same p.1, run_tree a.rules o.0 us.0 o.1 us.1), top, subst (λ (z : Tree-F Tree). Paired (LooksLike bs) (out-Tree t).children z.children) (sym (out-roll-Tree (record { symbol = o.0.symbol; children = us.0 }))) us.2)
+      let top = looks_over bs t o.0.symbol us.0 (sym (ap (λ (x : Rule). x.symbol) o.2) ∙ s) us.2 in (
+        u,
+        (o.0.state, subst (λ (x : ℕ). IsIn x a.roots) same p.1, run_tree a.rules o.0 us.0 o.1 us.1),
+        top,
+        subst (λ (z : Tree-F Tree). Paired (LooksLike bs) (out-Tree t).children z.children)
+            (sym (out-roll-Tree (record { symbol = o.0.symbol; children = us.0 }))) us.2,
+      )

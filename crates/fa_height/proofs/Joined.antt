@@ -1,5 +1,6 @@
 -- Joined states, and the component that they give.
-use Rattle.std.proofs.Common.{◌≡◌, inl, inr, ℕ, zero, suc, ◌<◌, ◌+◌, List, [], ◌∷◌, ◌++◌, Some, slice_get, slice_index, length, take, refl, sym, ap, subst, ◌∙◌, arith}
+use Rattle.std.proofs.Common.{◌≡◌, inl, inr, ℕ, zero, suc, ◌<◌, ◌+◌, List, [], ◌∷◌, ◌++◌, Some, slice_get, slice_index}
+use Rattle.std.proofs.Common.{length, take, refl, sym, ap, subst, ◌∙◌, arith}
 use Rattle.std.proofs.lemmas.Bool.{cases_order}
 use Rattle.std.proofs.lemmas.Option.{none-some, same_Some}
 use Rattle.std.proofs.lemmas.List.{get_or_push, get_or_append_left}
@@ -23,11 +24,14 @@ use Rattle.fa_height.proofs.Classing.{one_class, first_in}
 pub marks_none : (list : List Signature) → AreMarksEach list 0 []
 marks_none list q s l e = absurd (omega (arith, l))
 
-pub marks_add : (list : List Signature) (k : ℕ) (table : List (List RefMark)) (marks : List RefMark) (s : Signature) → length table ≡ k → AreMarksEach list k table → slice_get list k ≡ Some s → marks ≡ s.refs → AreMarksEach list (k + 1) (table ++ marks ∷ [])
+pub marks_add : (list : List Signature) (k : ℕ) (table : List (List RefMark)) (marks : List RefMark) (s : Signature)
+    → length table ≡ k → AreMarksEach list k table → slice_get list k ≡ Some s → marks ≡ s.refs
+    → AreMarksEach list (k + 1) (table ++ marks ∷ [])
 marks_add list k table marks s long h at is q x l e = elim (cases_order q k) [
   | inl d ↦
       (let same : x ≡ s = same_item list k x s (subst (λ (n : ℕ). slice_get list n ≡ Some x) d e) at in
-      ap (λ (n : ℕ). marks_at (table ++ marks ∷ []) n) d ∙ get_or_push table marks [] k long ∙ is ∙ ap (λ (y : Signature). y.refs) (sym same))
+      ap (λ (n : ℕ). marks_at (table ++ marks ∷ []) n) d ∙ get_or_push table marks [] k long ∙ is
+      ∙ ap (λ (y : Signature). y.refs) (sym same))
   | inr o ↦ elim o [
     | inl j ↦ get_or_append_left table (marks ∷ []) [] q (rw long j) ∙ h q x j e
     | inr j ↦ absurd (omega (arith, j, l))
@@ -40,7 +44,8 @@ get_there [] i l = absurd (omega (arith, l))
 get_there (x ∷ xs) zero l = (x, refl)
 get_there (x ∷ xs) (suc i) l = get_there xs i (omega (arith, l))
 
-pub take_there : {X : Type 0} (xs : List X) (i : ℕ) (x : X) → slice_get xs i ≡ Some x → take (i + 1) xs ≡ take i xs ++ x ∷ []
+pub take_there : {X : Type 0} (xs : List X) (i : ℕ) (x : X) → slice_get xs i ≡ Some x → take (i + 1) xs ≡ take i xs
+    ++ x ∷ []
 take_there [] i x e = absurd (none-some x e)
 take_there (y ∷ xs) zero x e = ap (λ (z : _). z ∷ []) (same_Some y x e)
 take_there (y ∷ xs) (suc i) x e =
@@ -68,7 +73,8 @@ module _ (roots classes : List ℕ) (table : List (List RefMark)) where
 
 -- The quotient.
 
-module _ (bs : List BoxFace) (k : ℕ) (a : Automaton) (ranked : IsRanked a) (trees : (q : ℕ) → q < a.states → HasTree a.rules q)
+module _ (bs : List BoxFace) (k : ℕ) (a : Automaton) (ranked : IsRanked a)
+    (trees : (q : ℕ) → q < a.states → HasTree a.rules q)
     (classes : List ℕ) (agreed : IsAgreement a.rules a.states k classes)
     (list : List Signature) (signed : AreSignatures bs a list)
     (table : List (List RefMark)) (marked : AreMarksEach list a.states table)
@@ -82,24 +88,36 @@ module _ (bs : List BoxFace) (k : ℕ) (a : Automaton) (ranked : IsRanked a) (tr
         (λ f. absurd (f (trees q l))),
       )
 
-  joined_to : (p q : ℕ) → IsInner a p → IsInner a q → slice_index numbers p ≡ slice_index numbers q → Agree a.rules k p q × SameSignature bs a.rules p q
-  joined_to p q i j e = elim ((one_class (IsJoined a.roots classes table) a.states numbers firsts joined (joined_equivalence a.roots classes table) p q i.0 j.0).0 e) [
-    | inl d ↦ subst (λ (x : ℕ). Agree a.rules k p x × SameSignature bs a.rules p x) d ((agreed p p i.0 i.0).0 refl, (marks_at table p, marks_are p i.0, marks_are p i.0))
-    | inr h ↦ ((agreed p q i.0 j.0).0 h.2, (marks_at table p, marks_are p i.0, subst (AreMarksOf bs a.rules q) (sym h.3) (marks_are q j.0)))
-  ]
+  joined_to : (p q : ℕ) → IsInner a p → IsInner a q → slice_index numbers p ≡ slice_index numbers q
+      → Agree a.rules k p q × SameSignature bs a.rules p q
+  joined_to p q i j e = elim
+      ((one_class (IsJoined a.roots classes table) a.states numbers firsts joined
+      (joined_equivalence a.roots classes table) p q i.0 j.0).0 e) [
+        | inl d ↦ subst (λ (x : ℕ). Agree a.rules k p x × SameSignature bs a.rules p x) d
+            ((agreed p p i.0 i.0).0 refl, (marks_at table p, marks_are p i.0, marks_are p i.0))
+        | inr h ↦ (
+          (agreed p q i.0 j.0).0 h.2,
+          (marks_at table p, marks_are p i.0, subst (AreMarksOf bs a.rules q) (sym h.3) (marks_are q j.0)),
+        )
+      ]
 
-  to_joined : (p q : ℕ) → IsInner a p → IsInner a q → Agree a.rules k p q × SameSignature bs a.rules p q → slice_index numbers p ≡ slice_index numbers q
+  to_joined : (p q : ℕ) → IsInner a p → IsInner a q → Agree a.rules k p q × SameSignature bs a.rules p q
+      → slice_index numbers p ≡ slice_index numbers q
   to_joined p q i j h =
       let t = trees p i.0 in
       let u = trees q j.0 in
-      let e : marks_at table p ≡ marks_at table q = (marks_are p i.0).0 t.0 t.1 ∙ sym (h.1.1.0 t.0 t.1) ∙ h.1.2.0 u.0 u.1 ∙ sym ((marks_are q j.0).0 u.0 u.1) in
-      (one_class (IsJoined a.roots classes table) a.states numbers firsts joined (joined_equivalence a.roots classes table) p q i.0 j.0).1 (inr (i.1, j.1, (agreed p q i.0 j.0).1 h.0, e))
+      let e : marks_at table p ≡ marks_at table q = (marks_are p i.0).0 t.0 t.1 ∙ sym (h.1.1.0 t.0 t.1)
+      ∙ h.1.2.0 u.0 u.1 ∙ sym ((marks_are q j.0).0 u.0 u.1) in
+      (one_class (IsJoined a.roots classes table) a.states numbers firsts joined
+      (joined_equivalence a.roots classes table) p q i.0 j.0).1 (inr (i.1, j.1, (agreed p q i.0 j.0).1 h.0, e))
 
   root_alone : (p q : ℕ) → IsIn p a.roots → q < a.states → slice_index numbers p ≡ slice_index numbers q → p ≡ q
-  root_alone p q i l e = elim ((one_class (IsJoined a.roots classes table) a.states numbers firsts joined (joined_equivalence a.roots classes table) p q (every_in (λ (x : ℕ). x < a.states) a.roots p ranked.0 i) l).0 e) [
-    | inl d ↦ d
-    | inr h ↦ absurd (h.0 i)
-  ]
+  root_alone p q i l e = elim
+      ((one_class (IsJoined a.roots classes table) a.states numbers firsts joined
+      (joined_equivalence a.roots classes table) p q (every_in (λ (x : ℕ). x < a.states) a.roots p ranked.0 i) l).0 e) [
+        | inl d ↦ d
+        | inr h ↦ absurd (h.0 i)
+      ]
 
   pub joined_quotient : IsQuotient bs k a (image (length firsts) (λ q. slice_index numbers q) a)
   joined_quotient = record {
@@ -107,7 +125,12 @@ module _ (bs : List BoxFace) (k : ℕ) (a : Automaton) (ranked : IsRanked a) (tr
     joins = λ p q i j. (joined_to p q i j, to_joined p q i j);
     lone = root_alone;
     below = joined.fits;
-    onto = λ v l. (slice_index firsts v, joined.low v l, first_in (IsJoined a.roots classes table) a.states numbers firsts joined v l);
+    onto =
+        λ v l. (
+          slice_index firsts v,
+          joined.low v l,
+          first_in (IsJoined a.roots classes table) a.states numbers firsts joined v l,
+        );
     images = refl;
   }
 

@@ -82,14 +82,18 @@ only_3 r (inr (inr (inr (inr i)))) e = absurd i
 -- to height 1 the three cells agree: they have one symbol
 second_and_third : Agree chain 1 1 2
 second_and_third = (
-  (λ r i e. subst (λ (x : Rule). IsMatched chain (λ p q. Unit {0}) x 2) (sym (only_1 r i e)) (rule 2 n (3 ∷ []), inr (inr (inl refl)), refl, refl, (tt, tt))),
-  (λ r i e. subst (λ (x : Rule). IsMatched chain (λ p q. Unit {0}) x 1) (sym (only_2 r i e)) (rule 1 n (2 ∷ []), inr (inl refl), refl, refl, (tt, tt))),
+  (λ r i e. subst (λ (x : Rule). IsMatched chain (λ p q. Unit {0}) x 2) (sym (only_1 r i e))
+      (rule 2 n (3 ∷ []), inr (inr (inl refl)), refl, refl, (tt, tt))),
+  (λ r i e. subst (λ (x : Rule). IsMatched chain (λ p q. Unit {0}) x 1) (sym (only_2 r i e))
+      (rule 1 n (2 ∷ []), inr (inl refl), refl, refl, (tt, tt))),
 )
 
 first_and_second : Agree chain 1 0 1
 first_and_second = (
-  (λ r i e. subst (λ (x : Rule). IsMatched chain (λ p q. Unit {0}) x 1) (sym (only_0 r i e)) (rule 1 n (2 ∷ []), inr (inl refl), refl, refl, (tt, tt))),
-  (λ r i e. subst (λ (x : Rule). IsMatched chain (λ p q. Unit {0}) x 0) (sym (only_1 r i e)) (rule 0 n (1 ∷ []), inl refl, refl, refl, (tt, tt))),
+  (λ r i e. subst (λ (x : Rule). IsMatched chain (λ p q. Unit {0}) x 1) (sym (only_0 r i e))
+      (rule 1 n (2 ∷ []), inr (inl refl), refl, refl, (tt, tt))),
+  (λ r i e. subst (λ (x : Rule). IsMatched chain (λ p q. Unit {0}) x 0) (sym (only_1 r i e))
+      (rule 0 n (1 ∷ []), inl refl, refl, refl, (tt, tt))),
 )
 
 -- the last cell and Null do not: their symbols differ
@@ -118,7 +122,8 @@ wider_0 r (inr (inr (inl d))) e = absurd (let k = sym (ap (λ (x : Rule). x.stat
 wider_0 r (inr (inr (inr i))) e = absurd i
 
 one_side : AreMatched wider (Agree wider 3) 0 1
-one_side r i e = subst (λ (x : Rule). IsMatched wider (Agree wider 3) x 1) (sym (wider_0 r i e)) (rule 1 Null [], inr (inl refl), refl, refl, tt)
+one_side r i e = subst (λ (x : Rule). IsMatched wider (Agree wider 3) x 1) (sym (wider_0 r i e))
+    (rule 1 Null [], inr (inl refl), refl, refl, tt)
 
 not_the_other : AreMatched wider (Agree wider 0) 1 0 → ⊥
 not_the_other h =
@@ -138,14 +143,16 @@ abbrev list : Automaton
 list = automaton 4 (0 ∷ []) chain
 
 -- the marks of a cell over a tree with these marks
-cell_over : (t u : Tree) (ms : List RefMark) → (out-Tree t).symbol ≡ n → (out-Tree t).children ≡ u ∷ [] → signature [] u ≡ ms → signature [] t ≡ marks_by [] n (record { leaf = (below_of [] u).leaf; marks = ms } ∷ [])
+cell_over : (t u : Tree) (ms : List RefMark) → (out-Tree t).symbol ≡ n → (out-Tree t).children ≡ u ∷ []
+    → signature [] u ≡ ms → signature [] t ≡ marks_by [] n (record { leaf = (below_of [] u).leaf; marks = ms } ∷ [])
 cell_over t u ms y c e =
     tree_signature [] t
     ∙ ap₂ (λ (z : Symbol) (ts : List Tree). marks_by [] z (map (below_of []) ts)) y c
     ∙ ap (λ (xs : List RefMark). marks_by [] n (record { leaf = (below_of [] u).leaf; marks = xs } ∷ [])) e
 
 -- a cell over a tree without marks has none
-cell_unmarked : (t u : Tree) → (out-Tree t).symbol ≡ n → (out-Tree t).children ≡ u ∷ [] → signature [] u ≡ [] → signature [] t ≡ []
+cell_unmarked : (t u : Tree) → (out-Tree t).symbol ≡ n → (out-Tree t).children ≡ u ∷ [] → signature [] u ≡ []
+    → signature [] t ≡ []
 cell_unmarked t u y c e = cell_over t u [] y c e
 
 -- the tree below a cell
@@ -153,7 +160,9 @@ single : {q : ℕ} {ts : List Tree} → RunEach chain (q ∷ []) ts → (u : Tre
 single (run_more {t = u} r run_none) = (u, refl, r)
 
 null_unmarked : (t : Tree) → RunOf chain 3 t → signature [] t ≡ []
-null_unmarked t (run r i e s w) = tree_signature [] t ∙ ap (λ (z : Symbol). marks_by [] z (map (below_of []) (out-Tree t).children)) (sym s ∙ ap (λ (x : Rule). x.symbol) (only_3 r i e))
+null_unmarked t (run r i e s w) = tree_signature [] t
+    ∙ ap (λ (z : Symbol). marks_by [] z (map (below_of []) (out-Tree t).children))
+    (sym s ∙ ap (λ (x : Rule). x.symbol) (only_3 r i e))
 
 third_unmarked : (t : Tree) → RunOf chain 2 t → signature [] t ≡ []
 third_unmarked t (run r i e s w) =
@@ -232,10 +241,12 @@ abbrev ref_tree : Tree
 ref_tree = tree_of (Ref 1) []
 
 null_run : RunOf marked 1 (tree_of n (null_tree ∷ []))
-null_run = run_tree marked (rule 1 n (3 ∷ [])) (null_tree ∷ []) (inr (inl refl)) (run_more (run_tree marked (rule 3 Null []) [] (inr (inr (inr (inl refl)))) run_none) run_none)
+null_run = run_tree marked (rule 1 n (3 ∷ [])) (null_tree ∷ []) (inr (inl refl))
+    (run_more (run_tree marked (rule 3 Null []) [] (inr (inr (inr (inl refl)))) run_none) run_none)
 
 ref_run : RunOf marked 2 (tree_of n (ref_tree ∷ []))
-ref_run = run_tree marked (rule 2 n (4 ∷ [])) (ref_tree ∷ []) (inr (inr (inl refl))) (run_more (run_tree marked (rule 4 (Ref 1) []) [] (inr (inr (inr (inr (inl refl))))) run_none) run_none)
+ref_run = run_tree marked (rule 2 n (4 ∷ [])) (ref_tree ∷ []) (inr (inr (inl refl)))
+    (run_more (run_tree marked (rule 4 (Ref 1) []) [] (inr (inr (inr (inr (inl refl))))) run_none) run_none)
 
 leaf_marks : (y : Symbol) → signature [] (tree_of y []) ≡ marks_by [] y []
 leaf_marks y =
@@ -245,16 +256,20 @@ leaf_marks y =
 null_marks : signature [] (tree_of n (null_tree ∷ [])) ≡ []
 null_marks =
     let o = out-roll-Tree (record { symbol = n; children = null_tree ∷ [] }) in
-    cell_unmarked (tree_of n (null_tree ∷ [])) null_tree (ap (λ (x : Tree-F Tree). x.symbol) o) (ap (λ (x : Tree-F Tree). x.children) o) (leaf_marks Null)
+    cell_unmarked (tree_of n (null_tree ∷ [])) null_tree (ap (λ (x : Tree-F Tree). x.symbol) o)
+    (ap (λ (x : Tree-F Tree). x.children) o) (leaf_marks Null)
 
 ref_marks : signature [] (tree_of n (ref_tree ∷ [])) ≡ leaf_mark 1 ∷ []
 ref_marks =
     let o = out-roll-Tree (record { symbol = n; children = ref_tree ∷ [] }) in
-    cell_over (tree_of n (ref_tree ∷ [])) ref_tree (leaf_mark 1 ∷ []) (ap (λ (x : Tree-F Tree). x.symbol) o) (ap (λ (x : Tree-F Tree). x.children) o) (leaf_marks (Ref 1))
+    cell_over (tree_of n (ref_tree ∷ [])) ref_tree (leaf_mark 1 ∷ []) (ap (λ (x : Tree-F Tree). x.symbol) o)
+    (ap (λ (x : Tree-F Tree). x.children) o) (leaf_marks (Ref 1))
 
 not_same_marks : SameSignature [] marked 1 2 → ⊥
 not_same_marks h =
-    let e : 0 ≡ 1 = ap (λ (ms : List RefMark). length ms) (sym null_marks ∙ sym (h.1.0 (tree_of n (null_tree ∷ [])) null_run) ∙ h.2.0 (tree_of n (ref_tree ∷ [])) ref_run ∙ ref_marks) in
+    let e : 0 ≡ 1 = ap (λ (ms : List RefMark). length ms)
+    (sym null_marks ∙ sym (h.1.0 (tree_of n (null_tree ∷ [])) null_run)
+    ∙ h.2.0 (tree_of n (ref_tree ∷ [])) ref_run ∙ ref_marks) in
     omega (arith, e)
 
 -- they are not joined by any height
@@ -279,7 +294,8 @@ treeless_marked q h = let e : 1 ≡ 0 = ap (λ (ms : List RefMark). length ms) (
 abbrev forest : List Automaton → List Target → List Datum → Forest
 forest autos vars data_vars = record { autos = autos; vars = vars; data_vars = data_vars }
 
-no_cells : (k : ℕ) → Quotient [] (forest [] (NullTarget ∷ []) (Known 3 ∷ [])) k (forest [] (NullTarget ∷ []) (Known 3 ∷ []))
+no_cells : (k : ℕ) → Quotient [] (forest [] (NullTarget ∷ []) (Known 3 ∷ [])) k
+    (forest [] (NullTarget ∷ []) (Known 3 ∷ []))
 no_cells k = record { autos = tt; vars = refl; data_vars = refl }
 
 no_other_targets : (k : ℕ) → Quotient [] (forest [] (NullTarget ∷ []) []) k (forest [] [] []) → ⊥

@@ -1,5 +1,6 @@
 -- The quotient of a sound forest is sound, and covers the forest.
-use Rattle.std.proofs.Common.{◌≡◌, inl, ℕ, zero, suc, ◌<◌, ◌≤◌, List, [], ◌∷◌, ◌++◌, length, refl, sym, ap, subst, ◌∙◌, arith}
+use Rattle.std.proofs.Common.{◌≡◌, inl, ℕ, zero, suc, ◌<◌, ◌≤◌, List, [], ◌∷◌, ◌++◌, length, refl, sym, ap, subst, ◌∙◌}
+use Rattle.std.proofs.Common.{arith}
 use Rattle.fore_base.specs.Lists.{IsIn, Every, Paired}
 use Rattle.fore_base.proofs.ListLemmas.{every_append, every_in, paired_long}
 use Rattle.ta_core.specs.Auto.{Automaton, IsRanked, IsRankedRule}
@@ -24,7 +25,8 @@ use Rattle.fa_height.proofs.Images.{looked, outlined, rule_of, within, image_tri
 module _ (face : Face) (k : ℕ) where
   -- Signatures.
 
-  signatures_kept : (a b : Automaton) → IsRanked a → IsTrim a → IsQuotient face.boxes (suc k) a b → HasSignatures face.boxes a → HasSignatures face.boxes b
+  signatures_kept : (a b : Automaton) → IsRanked a → IsTrim a → IsQuotient face.boxes (suc k) a b
+      → HasSignatures face.boxes a → HasSignatures face.boxes b
   signatures_kept a b ranked trim h s = record {
     states = λ v t u x y. (
         let q = state_of v t x in
@@ -40,8 +42,11 @@ module _ (face : Face) (k : ℕ) where
       -- a state of the quotient with a tree is an image
       state_of : (v : ℕ) (t : Tree) → RunOf b.rules v t → (q : ℕ) × (q < a.states) × (h.to q ≡ v)
       state_of v t (run r i e s w) =
-          let o = rule_of face.boxes k a b ranked trim h r i in
-          (o.0.state, (every_in (IsRankedRule a.states) a.rules o.0 ranked.1 o.1).0, sym (ap (λ (x : Rule). x.state) o.2) ∙ e)
+          let o = rule_of face.boxes k a b ranked trim h r i in (
+            o.0.state,
+            (every_in (IsRankedRule a.states) a.rules o.0 ranked.1 o.1).0,
+            sym (ap (λ (x : Rule). x.state) o.2) ∙ e,
+          )
 
   -- Parts.
 
@@ -58,7 +63,8 @@ module _ (face : Face) (k : ℕ) where
   tops_from [] h = ([], tt)
   tops_from (a ∷ autos) h = let w = tops_from autos h.1 in (h.0.0 ∷ w.0, (h.0.1, w.1))
 
-  parts_are : (autos : List Automaton) (tops : List ℕ) → Every IsTrim autos → Every HasSome autos → Paired HasTop autos tops → AreParts autos (lone_parts autos tops)
+  parts_are : (autos : List Automaton) (tops : List ℕ) → Every IsTrim autos → Every HasSome autos
+      → Paired HasTop autos tops → AreParts autos (lone_parts autos tops)
   parts_are [] [] r f t = tt
   parts_are [] (s ∷ tops) r f t = absurd t
   parts_are (a ∷ autos) [] r f t = absurd t
@@ -67,77 +73,109 @@ module _ (face : Face) (k : ℕ) where
   abbrev AreQuotients : List Automaton → List Automaton → Type 0
   AreQuotients autos made = Paired (IsQuotient face.boxes (suc k)) autos made
 
-  tops_same : (autos made : List Automaton) (tops : List ℕ) → AreQuotients autos made → all_tops (lone_parts autos tops) ≡ all_tops (lone_parts made tops)
+  tops_same : (autos made : List Automaton) (tops : List ℕ) → AreQuotients autos made → all_tops (lone_parts autos tops)
+      ≡ all_tops (lone_parts made tops)
   tops_same [] [] tops h = refl
   tops_same [] (b ∷ made) tops h = absurd h
   tops_same (a ∷ autos) [] tops h = absurd h
   tops_same (a ∷ autos) (b ∷ made) [] h = refl
-  tops_same (a ∷ autos) (b ∷ made) (s ∷ tops) h = ap (λ (z : List (List ℕ)). (s ∷ []) ∷ z) (tops_same autos made tops h.1)
+  tops_same (a ∷ autos) (b ∷ made) (s ∷ tops) h =
+      ap (λ (z : List (List ℕ)). (s ∷ []) ∷ z) (tops_same autos made tops h.1)
 
   tops_full : (autos : List Automaton) (tops : List ℕ) → AreFull (all_tops (lone_parts autos tops))
   tops_full [] tops = tt
   tops_full (a ∷ autos) [] = tt
   tops_full (a ∷ autos) (s ∷ tops) = ((s, inl refl), tops_full autos tops)
 
-  filled_kept : (front : List (List ℕ)) (autos made : List Automaton) (tops : List ℕ) → AreFull front → AreQuotients autos made → Every IsRanked autos → Every IsTrim autos → Every HasNoBoxes autos → Every IsRanked made
+  filled_kept : (front : List (List ℕ)) (autos made : List Automaton) (tops : List ℕ) → AreFull front
+      → AreQuotients autos made → Every IsRanked autos → Every IsTrim autos → Every HasNoBoxes autos
+      → Every IsRanked made
       → ArePartsFilled face front (lone_parts autos tops) → ArePartsFilled face front (lone_parts made tops)
   filled_kept front [] [] tops l h r t p m f = tt
   filled_kept front [] (b ∷ made) tops l h r t p m f = absurd h
   filled_kept front (a ∷ autos) [] tops l h r t p m f = absurd h
   filled_kept front (a ∷ autos) (b ∷ made) [] l h r t p m f = tt
   filled_kept front (a ∷ autos) (b ∷ made) (s ∷ tops) l h r t p m f =
-      let full : AreFull (front ++ (s ∷ []) ∷ all_tops (lone_parts autos tops)) = every_append (λ (ts : List ℕ). (t : ℕ) × IsIn t ts) front ((s ∷ []) ∷ all_tops (lone_parts autos tops)) l ((s, inl refl), tops_full autos tops) in
-      let one = part_kept face k a b r.0 t.0 h.0 (front ++ (s ∷ []) ∷ all_tops (lone_parts autos tops)) m.0 p.0 full f.0.0 in (
-        (subst (λ (z : List (List ℕ)). IsFilledPart face (front ++ (s ∷ []) ∷ z) b) (tops_same autos made tops h.1) one, tt),
-        filled_kept (front ++ (s ∷ []) ∷ []) autos made tops (every_append (λ (ts : List ℕ). (t : ℕ) × IsIn t ts) front ((s ∷ []) ∷ []) l ((s, inl refl), tt)) h.1 r.1 t.1 p.1 m.1 f.1,
+      let full : AreFull (front ++ (s ∷ []) ∷ all_tops (lone_parts autos tops)) =
+      every_append (λ (ts : List ℕ). (t : ℕ) × IsIn t ts) front ((s ∷ []) ∷ all_tops (lone_parts autos tops)) l
+      ((s, inl refl), tops_full autos tops) in
+      let one = part_kept face k a b r.0 t.0 h.0 (front ++ (s ∷ []) ∷ all_tops (lone_parts autos tops)) m.0 p.0 full
+      f.0.0 in (
+        (
+          subst (λ (z : List (List ℕ)). IsFilledPart face (front ++ (s ∷ []) ∷ z) b) (tops_same autos made tops h.1)
+              one,
+          tt,
+        ),
+        filled_kept (front ++ (s ∷ []) ∷ []) autos made tops
+            (every_append (λ (ts : List ℕ). (t : ℕ) × IsIn t ts) front ((s ∷ []) ∷ []) l ((s, inl refl), tt)) h.1 r.1
+            t.1 p.1 m.1 f.1,
       )
 
   -- All components.
 
-  each_kept : (P : Automaton → Type 0) → ((a b : Automaton) → IsRanked a → IsTrim a → IsQuotient face.boxes (suc k) a b → P a → P b) → (autos made : List Automaton) → AreQuotients autos made → Every IsRanked autos → Every IsTrim autos → Every P autos → Every P made
+  each_kept : (P : Automaton → Type 0)
+      → ((a b : Automaton) → IsRanked a → IsTrim a → IsQuotient face.boxes (suc k) a b → P a → P b)
+      → (autos made : List Automaton) → AreQuotients autos made → Every IsRanked autos → Every IsTrim autos
+      → Every P autos → Every P made
   each_kept P f [] [] h r t p = tt
   each_kept P f [] (b ∷ made) h r t p = absurd h
   each_kept P f (a ∷ autos) [] h r t p = absurd h
   each_kept P f (a ∷ autos) (b ∷ made) h r t p = (f a b r.0 t.0 h.0 p.0, each_kept P f autos made h.1 r.1 t.1 p.1)
 
-  tops_kept : (autos made : List Automaton) (tops : List ℕ) → AreQuotients autos made → Every IsRanked autos → Every IsTrim autos → Paired HasTop autos tops → Paired HasTop made tops
+  tops_kept : (autos made : List Automaton) (tops : List ℕ) → AreQuotients autos made → Every IsRanked autos
+      → Every IsTrim autos → Paired HasTop autos tops → Paired HasTop made tops
   tops_kept [] [] tops h r t p = p
   tops_kept [] (b ∷ made) tops h r t p = absurd h
   tops_kept (a ∷ autos) [] tops h r t p = absurd h
   tops_kept (a ∷ autos) (b ∷ made) [] h r t p = absurd p
-  tops_kept (a ∷ autos) (b ∷ made) (s ∷ tops) h r t p = (topped face k a b r.0 t.0 h.0 s p.0, tops_kept autos made tops h.1 r.1 t.1 p.1)
+  tops_kept (a ∷ autos) (b ∷ made) (s ∷ tops) h r t p =
+      (topped face k a b r.0 t.0 h.0 s p.0, tops_kept autos made tops h.1 r.1 t.1 p.1)
 
-  all_within : (autos made : List Automaton) → AreQuotients autos made → Every IsRanked autos → Every IsTrim autos → Paired IsWithin autos made
+  all_within : (autos made : List Automaton) → AreQuotients autos made → Every IsRanked autos → Every IsTrim autos
+      → Paired IsWithin autos made
   all_within [] [] h r t = tt
   all_within [] (b ∷ made) h r t = absurd h
   all_within (a ∷ autos) [] h r t = absurd h
   all_within (a ∷ autos) (b ∷ made) h r t = (within face.boxes k a b r.0 t.0 h.0, all_within autos made h.1 r.1 t.1)
 
-  module _ (F G : Forest) (h : Quotient face.boxes F (suc k) G) (ranked : Every IsRanked F.autos) (trim : Every IsTrim F.autos) where
+  module _ (F G : Forest) (h : Quotient face.boxes F (suc k) G) (ranked : Every IsRanked F.autos)
+      (trim : Every IsTrim F.autos) where
     pub quotient_covers : Covers G F
-    quotient_covers = record { vars = sym h.vars; data_vars = sym h.data_vars; within = all_within F.autos G.autos h.autos ranked trim }
+    quotient_covers = record
+        { vars = sym h.vars; data_vars = sym h.data_vars; within = all_within F.autos G.autos h.autos ranked trim }
 
     module _ (plain : Every HasNoBoxes F.autos) where
       pub quotient_plain : Every HasNoBoxes G.autos
-      quotient_plain = each_kept HasNoBoxes (λ a b r t q p. plain_kept face k a b r t q p) F.autos G.autos h.autos ranked trim plain
+      quotient_plain = each_kept HasNoBoxes (λ a b r t q p. plain_kept face k a b r t q p) F.autos G.autos h.autos
+          ranked trim plain
 
       pub quotient_sound : Every HasOneStruct F.autos → Every IsRanked G.autos → IsSound face F → IsSound face G
       quotient_sound structs right s =
           let tops = tops_from F.autos structs in
-          let full = each_kept HasSome (λ a b r t q p. (p.0, within face.boxes k a b r t q p.0 p.1)) F.autos G.autos h.autos ranked trim s.full in
-          let trims = each_kept IsTrim (λ a b r t q p. image_trim face.boxes k a b r t q) F.autos G.autos h.autos ranked trim trim in
-          let before = all_parts face F plain s.full (lone_parts F.autos tops.0) (parts_are F.autos tops.0 trim s.full tops.1) s.well_formed.filled.trees in
+          let full = each_kept HasSome (λ a b r t q p. (p.0, within face.boxes k a b r t q p.0 p.1)) F.autos G.autos
+          h.autos ranked trim s.full in
+          let trims = each_kept IsTrim (λ a b r t q p. image_trim face.boxes k a b r t q) F.autos G.autos h.autos ranked
+          trim trim in
+          let before = all_parts face F plain s.full (lone_parts F.autos tops.0)
+          (parts_are F.autos tops.0 trim s.full tops.1) s.well_formed.filled.trees in
           let after = filled_kept [] F.autos G.autos tops.0 tt h.autos ranked trim plain right before in
           let vars = all_vars face F plain s.full s.well_formed.filled.trees in
-          let roots : Every (IsRoot (length G.autos)) G.vars = subst (λ (n : ℕ). Every (IsRoot n) G.vars) (paired_long (IsQuotient face.boxes (suc k)) F.autos G.autos h.autos) (subst (Every (IsRoot (length F.autos))) (sym h.vars) vars) in
+          let roots : Every (IsRoot (length G.autos)) G.vars =
+          subst (λ (n : ℕ). Every (IsRoot n) G.vars)
+          (paired_long (IsQuotient face.boxes (suc k)) F.autos G.autos h.autos)
+          (subst (Every (IsRoot (length F.autos))) (sym h.vars) vars) in
           record {
             well_formed = record {
               filled = record {
                 data_vars = subst (Every DatumFits) (sym h.data_vars) s.well_formed.filled.data_vars;
-                rules = each_kept (RulesFit face) (λ a b r t q p. rules_fit face k a b r t q p) F.autos G.autos h.autos ranked trim s.well_formed.filled.rules;
-                trees = by_parts face G quotient_plain full (lone_parts G.autos tops.0) (parts_are G.autos tops.0 trims full (tops_kept F.autos G.autos tops.0 h.autos ranked trim tops.1)) roots after;
+                rules = each_kept (RulesFit face) (λ a b r t q p. rules_fit face k a b r t q p) F.autos G.autos h.autos
+                    ranked trim s.well_formed.filled.rules;
+                trees = by_parts face G quotient_plain full (lone_parts G.autos tops.0)
+                    (parts_are G.autos tops.0 trims full (tops_kept F.autos G.autos tops.0 h.autos ranked trim tops.1))
+                    roots after;
               };
-              signatures = each_kept (HasSignatures face.boxes) signatures_kept F.autos G.autos h.autos ranked trim s.well_formed.signatures;
+              signatures = each_kept (HasSignatures face.boxes) signatures_kept F.autos G.autos h.autos ranked trim
+                  s.well_formed.signatures;
             };
             full = full;
           }
@@ -149,21 +187,24 @@ height_over (suc k) l = (k, refl)
 
 -- The forest of the quotients of the components.
 
-module _ (face : Face) (F : Forest) (n : ℕ) (high : 1 ≤ n) (made : List Automaton) (h : Paired (IsQuotient face.boxes n) F.autos made) (ranked : Every IsRanked F.autos) (trim : Every IsTrim F.autos) where
-  abbrev pub G : Forest
-  G = record { autos = made; vars = F.vars; data_vars = F.data_vars }
+module _ (face : Face) (F : Forest) (n : ℕ) (high : 1 ≤ n) (made : List Automaton)
+    (h : Paired (IsQuotient face.boxes n) F.autos made) (ranked : Every IsRanked F.autos) (trim : Every IsTrim F.autos)
+  where
+    abbrev pub G : Forest
+    G = record { autos = made; vars = F.vars; data_vars = F.data_vars }
 
-  pub is_quotient : Quotient face.boxes F n G
-  is_quotient = record { autos = h; vars = refl; data_vars = refl }
+    pub is_quotient : Quotient face.boxes F n G
+    is_quotient = record { autos = h; vars = refl; data_vars = refl }
 
-  higher : (k : ℕ) × Quotient face.boxes F (suc k) G
-  higher = let w = height_over n high in (w.0, subst (λ (m : ℕ). Quotient face.boxes F m G) w.1 is_quotient)
+    higher : (k : ℕ) × Quotient face.boxes F (suc k) G
+    higher = let w = height_over n high in (w.0, subst (λ (m : ℕ). Quotient face.boxes F m G) w.1 is_quotient)
 
-  pub made_covers : Covers G F
-  made_covers = quotient_covers face higher.0 F G higher.1 ranked trim
+    pub made_covers : Covers G F
+    made_covers = quotient_covers face higher.0 F G higher.1 ranked trim
 
-  pub made_plain : Every HasNoBoxes F.autos → Every HasNoBoxes made
-  made_plain plain = quotient_plain face higher.0 F G higher.1 ranked trim plain
+    pub made_plain : Every HasNoBoxes F.autos → Every HasNoBoxes made
+    made_plain plain = quotient_plain face higher.0 F G higher.1 ranked trim plain
 
-  pub made_sound : Every HasNoBoxes F.autos → Every HasOneStruct F.autos → Every IsRanked made → IsSound face F → IsSound face G
-  made_sound plain structs right s = quotient_sound face higher.0 F G higher.1 ranked trim plain structs right s
+    pub made_sound : Every HasNoBoxes F.autos → Every HasOneStruct F.autos → Every IsRanked made → IsSound face F
+        → IsSound face G
+    made_sound plain structs right s = quotient_sound face higher.0 F G higher.1 ranked trim plain structs right s

@@ -12,16 +12,19 @@ use Rattle.fa_core.specs.declared.faces.BoxFace.{BoxFace}
 use Rattle.fa_core.specs.declared.forest.Forest.{Forest}
 use Rattle.fa_core.specs.declared.signature.RefMark.{RefMark}
 
--- each rule of p is matched by a rule of q: one with the same symbol, and with children to which those of the first are related
+-- each rule of p is matched by a rule of q: one with the same symbol, and with children to which those of the first are
+-- related
 abbrev pub AreMatched : List Rule → (ℕ → ℕ → Type 0) → ℕ → ℕ → Type 0
 AreMatched rules R p q = (r : Rule) → IsIn r rules → r.state ≡ p → IsMatched rules R r q
 
--- the states agree to a height: to 0 always, and to k + 1 where each rule of the one is matched by a rule of the other with the same symbol and children that agree to k, and the other way
+-- the states agree to a height: to 0 always, and to k + 1 where each rule of the one is matched by a rule of the other
+-- with the same symbol and children that agree to k, and the other way
 abbrev pub Agree : List Rule → ℕ → ℕ → ℕ → Type 0
 Agree rules zero p q = Unit {0}
 Agree rules (suc k) p q = AreMatched rules (Agree rules k) p q × AreMatched rules (Agree rules k) q p
 
--- these are the marks of the state: each of its trees has them as its signature, and where it has no tree there are none
+-- these are the marks of the state: each of its trees has them as its signature, and where it has no tree there are
+-- none
 abbrev pub AreMarksOf : List BoxFace → List Rule → ℕ → List RefMark → Type 0
 AreMarksOf bs rules q ms = ((t : Tree) → RunOf rules q t → ms ≡ signature bs t) × ((HasTree rules q → ⊥) → ms ≡ [])
 
@@ -37,7 +40,8 @@ IsInner a q = (q < a.states) × (IsIn q a.roots → ⊥)
 pub record IsQuotient (bs : List BoxFace) (k : ℕ) (a b : Automaton) : Type 0 where
   pub to : ℕ → ℕ
   -- two inner states are joined exactly where they agree to the height and have equal signatures
-  pub joins : (p q : ℕ) → IsInner a p → IsInner a q → (to p ≡ to q) ↔ (Agree a.rules k p q × SameSignature bs a.rules p q)
+  pub joins : (p q : ℕ) → IsInner a p → IsInner a q → (to p ≡ to q)
+      ↔ (Agree a.rules k p q × SameSignature bs a.rules p q)
   -- a root state is joined with no other state
   pub lone : (p q : ℕ) → IsIn p a.roots → q < a.states → to p ≡ to q → p ≡ q
   -- the states of b are the images of those of a

@@ -21,7 +21,10 @@ use fore_base::memory::Mem;
 use std::alloc::Global;
 use ta_core::auto::Auto;
 
-/// The quotient of the forest by the height: in each component exactly the inner states that agree to the height and have equal signatures are joined. A root state is joined with none, also where it stands inside. Targets and data stay, and each member of the forest is one of the result. The height is at least 1, each state takes part in an accepted tree of its component, and cells of one struct stand at the tops of a component's trees.
+/// The quotient of the forest by the height: in each component exactly the inner states that agree to the height and
+/// have equal signatures are joined. A root state is joined with none, also where it stands inside. Targets and data
+/// stay, and each member of the forest is one of the result. The height is at least 1, each state takes part in an
+/// accepted tree of its component, and cells of one struct stand at the tops of a component's trees.
 ///
 /// # Errors
 ///
@@ -32,7 +35,8 @@ pub fn abstract_height(alloc: Global, forest: &Sound, height: u32) -> Mem<Sound>
     requires structs { Every HasOneStruct forest.now.forest.autos }
     requires height { 1 ≤ height }
     ensures quotient { IfOk result (λ made. Quotient forest.now.face.boxes forest.now.forest height made.forest) }
-    ensures members { IfOk result (λ made. (hs : List Shape) (T : List BoxDef) (s : Store) → Stands hs T forest.now.forest s → Stands hs T made.forest s) }
+    ensures members { IfOk result (λ made. (hs : List Shape) (T : List BoxDef) (s : Store) → Stands hs T forest.now.forest s
+        → Stands hs T made.forest s) }
     ensures face { IfOk result (λ made. made.face ≡ forest.now.face) }
     ensures plain { IfOk result (λ made. Every HasNoBoxes made.forest.autos) }
     ensures vars { IfOk result (λ made. made.forest.vars ≡ forest.now.forest.vars) }

@@ -2,7 +2,8 @@
 
 ghost use Rattle.std.specs.Prelude.{◌≡◌, ◌↔◌, List, IsTrue, IfOk};
 ghost use Rattle.fore_base.specs.Lists.{Every, Paired};
-ghost use Rattle.fa_height.specs.inner.Agreeing.{AreRulesOf, AreRulesEach, IsMatch, HasMatch, AreMatchedIn, IsAgreement, IsRefined, rules_at};
+ghost use Rattle.fa_height.specs.inner.Agreeing.{AreRulesOf, AreRulesEach, IsMatch, HasMatch, AreMatchedIn};
+ghost use Rattle.fa_height.specs.inner.Agreeing.{IsAgreement, IsRefined, rules_at};
 ghost use Rattle.fa_height.specs.inner.Classes.{IsOneClass};
 
 use crate::classes::{Classes, Likeness, classes_of};

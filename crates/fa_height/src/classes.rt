@@ -1,6 +1,7 @@
 // States put into classes by a test of which of them are alike.
 
-ghost use Rattle.std.specs.Prelude.{◌≡◌, ◌↔◌, ◌<◌, ◌+◌, ◌++◌, ◌∷◌, [], ◌^◌, ℕ, length, slice_index, IsTrue, IfOk, OnOk, MatchOption};
+ghost use Rattle.std.specs.Prelude.{◌≡◌, ◌↔◌, ◌<◌, ◌+◌, ◌++◌, ◌∷◌, [], ◌^◌, ℕ, length, slice_index, IsTrue, IfOk, OnOk};
+ghost use Rattle.std.specs.Prelude.{MatchOption};
 ghost use Rattle.fa_height.specs.inner.Classes.{IsEquivalence, AreClasses};
 
 use fore_base::list::List;
@@ -66,7 +67,9 @@ fn begin(made: &mut Classes, state: u32) -> Mem<()>
 /// The number of the first state that is like this one, if there is one.
 fn class_of<L: Likeness>(likeness: &L, firsts: &[u32], state: u32) -> Option<u32>
     requires { length firsts.now < 2 ^ 32 }
-    ensures { MatchOption result ((v : ℕ) → v < length firsts.now → L.alike likeness.now (slice_index firsts.now v) state → ⊥) (λ v. (v < length firsts.now) × L.alike likeness.now (slice_index firsts.now v) state) }
+    ensures { MatchOption result ((v : ℕ) → v < length firsts.now → L.alike likeness.now (slice_index firsts.now v) state
+        → ⊥)
+        (λ v. (v < length firsts.now) × L.alike likeness.now (slice_index firsts.now v) state) }
 {
     for (number, first) in firsts.iter().enumerate() {
         if likeness.are_alike(*first, state) {

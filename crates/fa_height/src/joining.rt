@@ -23,7 +23,8 @@ use ta_core::renumbering::{number_of, renumber};
 pub fn quotient(alloc: Global, forest: &Sound, root: u32, height: u32) -> Mem<Auto>
     requires below { root < length forest.now.forest.autos }
     requires trim { (a : Automaton) → slice_get forest.now.forest.autos root ≡ Some a → IsTrim a }
-    ensures { IfOk result (λ made. (a : Automaton) → slice_get forest.now.forest.autos root ≡ Some a → IsQuotient forest.now.face.boxes height a made) }
+    ensures { IfOk result (λ made. (a : Automaton) → slice_get forest.now.forest.autos root ≡ Some a
+        → IsQuotient forest.now.face.boxes height a made) }
 {
     forest.known();
     let auto = forest.forest().autos.at(root as usize);
@@ -55,7 +56,9 @@ impl Likeness for Joining<'_> {
 
 /// The classes of states that are joined.
 fn joined(alloc: Global, auto: &Auto, classes: &[u32], marks: &[List<RefMark>]) -> Mem<Classes>
-    ensures { IfOk result (λ made. AreClasses (IsJoined auto.now.roots classes.now marks.now) auto.now.states made.numbers made.firsts) }
+    ensures { IfOk result
+        (λ made. AreClasses (IsJoined auto.now.roots classes.now marks.now) auto.now.states made.numbers
+        made.firsts) }
 {
     let likeness = Joining {
         roots: auto.roots.as_slice(),
@@ -120,7 +123,8 @@ fn marks_at(marks: &[List<RefMark>], state: u32) -> &[RefMark]
 /// The marks of each state of the component.
 fn marks_each(alloc: Global, forest: &Sound, root: u32, states: u32) -> Mem<List<List<RefMark>>>
     requires { HasStates (slice_get forest.now.forest.autos root) states }
-    ensures { IfOk result (λ made. (list : List Signature) → slice_get forest.now.signatures root ≡ Some list → AreMarksEach list states made) }
+    ensures { IfOk result (λ made. (list : List Signature) → slice_get forest.now.signatures root ≡ Some list
+        → AreMarksEach list states made) }
 {
     let mut made = List::new(alloc);
     for state in 0..states {

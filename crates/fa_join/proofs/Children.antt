@@ -1,5 +1,6 @@
 -- The children below the roots: their states, their trees and their signatures.
-use Rattle.std.proofs.Common.{◌≡◌, ◌↔◌, inl, inr, ℕ, zero, suc, ◌<◌, length, List, [], ◌∷◌, refl, sym, ap, subst, ◌∙◌, slice_get, get_or, Some, arith}
+use Rattle.std.proofs.Common.{◌≡◌, ◌↔◌, inl, inr, ℕ, zero, suc, ◌<◌, length, List, [], ◌∷◌, refl, sym, ap, subst, ◌∙◌}
+use Rattle.std.proofs.Common.{slice_get, get_or, Some, arith}
 use Rattle.fore_base.specs.Lists.{IsIn, Every}
 use Rattle.fore_base.proofs.ListLemmas.{every_in, in_from_place}
 use Rattle.ta_core.specs.Auto.{Automaton, IsRanked, IsRankedRule}
@@ -39,8 +40,14 @@ state_tree a q t = ((λ h. one h.0 h.1 h.2), (λ w. (q, inl refl, w)))
 
 pub same_states : (a b : Automaton) (p q : ℕ) → HasSameLanguage (at_state a p) (at_state b q) ↔ SameRuns a b p q
 same_states a b p q = (
-  (λ h t. ((λ w. (state_tree b q t).0 ((h t).0 ((state_tree a p t).1 w))), (λ w. (state_tree a p t).0 ((h t).1 ((state_tree b q t).1 w))))),
-  (λ h t. ((λ w. (state_tree b q t).1 ((h t).0 ((state_tree a p t).0 w))), (λ w. (state_tree a p t).1 ((h t).1 ((state_tree b q t).0 w))))),
+  (λ h t. (
+    (λ w. (state_tree b q t).0 ((h t).0 ((state_tree a p t).1 w))),
+    (λ w. (state_tree a p t).0 ((h t).1 ((state_tree b q t).1 w))),
+  )),
+  (λ h t. (
+    (λ w. (state_tree b q t).1 ((h t).0 ((state_tree a p t).0 w))),
+    (λ w. (state_tree a p t).1 ((h t).1 ((state_tree b q t).0 w))),
+  )),
 )
 
 pub state_ranked : (a : Automaton) (q : ℕ) → IsRanked a → q < a.states → IsRanked (at_state a q)
@@ -51,8 +58,11 @@ state_ranked a q h l = ((l, tt), h.1)
 pub children_within : (a : Automaton) → IsRanked a → HasOneTop a → Every (λ q. q < a.states) (top_rule a).children
 children_within a ranked one = (every_in (IsRankedRule a.states) a.rules (top_rule a) ranked.1 (top_in a one)).1
 
-pub child_below : (a : Automaton) (p : ℕ) → IsRanked a → HasOneTop a → p < length (top_rule a).children → child_state a p < a.states
-child_below a p ranked one place = every_in (λ q. q < a.states) (top_rule a).children (child_state a p) (children_within a ranked one) (in_from_place (top_rule a).children p (child_state a p) (at_index (top_rule a).children p place))
+pub child_below : (a : Automaton) (p : ℕ) → IsRanked a → HasOneTop a → p < length (top_rule a).children
+    → child_state a p < a.states
+child_below a p ranked one place =
+    every_in (λ q. q < a.states) (top_rule a).children (child_state a p) (children_within a ranked one)
+    (in_from_place (top_rule a).children p (child_state a p) (at_index (top_rule a).children p place))
 
 module _ (F : Forest) (r p : ℕ) (can : CanSplit F r p) where
   abbrev a : Automaton
@@ -67,7 +77,8 @@ module _ (F : Forest) (r p : ℕ) (can : CanSplit F r p) where
   pub child_tree : (face : Face) → IsSound face F → HasTree a.rules (child_state a p)
   child_tree face sound =
       let t = component_has HasSome F.autos r sound.full can.root in
-      let c = each_at a.rules (top_rule a).children (out-Tree t.0).children p (child_state a p) (tree_by_top a can.top t.0 t.1).1 child_there in
+      let c = each_at a.rules (top_rule a).children (out-Tree t.0).children p (child_state a p)
+      (tree_by_top a can.top t.0 t.1).1 child_there in
       (c.0, c.2)
 
   pub child_is_state : (q : ℕ) → q < a.states → IsStateOf (slice_get F.autos r) q
@@ -75,7 +86,8 @@ module _ (F : Forest) (r p : ℕ) (can : CanSplit F r p) where
 
 -- Signatures.
 
-pub marks_decide : (bs : List BoxFace) (a b : Automaton) (p q : ℕ) (ms ns : List RefMark) → HasMarks bs a p ms → HasMarks bs b q ns → (ms ≡ ns) ↔ SameSignatures bs a b p q
+pub marks_decide : (bs : List BoxFace) (a b : Automaton) (p q : ℕ) (ms ns : List RefMark) → HasMarks bs a p ms
+    → HasMarks bs b q ns → (ms ≡ ns) ↔ SameSignatures bs a b p q
 marks_decide bs a b p q ms ns h k = (
   (λ e t u x y. sym (h.each t x) ∙ e ∙ k.each u y),
   (λ s. h.each h.some.0 h.some.1 ∙ s h.some.0 k.some.0 h.some.1 k.some.1 ∙ sym (k.each k.some.0 k.some.1)),

@@ -10,7 +10,8 @@ use Rattle.fa_core.specs.declared.boxes.BoxDef.{BoxDef}
 use Rattle.fa_core.specs.declared.forest.Forest.{Forest}
 use Rattle.fa_join.specs.Joined.{Joins}
 
-trees_within : (T : List BoxDef) (xs ys : List Automaton) → Paired IsWithin xs ys → (d : Nodes) → TreesOf T xs d → TreesOf T ys d
+trees_within : (T : List BoxDef) (xs ys : List Automaton) → Paired IsWithin xs ys → (d : Nodes) → TreesOf T xs d
+    → TreesOf T ys d
 trees_within T [] [] h d k = k
 trees_within T [] (y ∷ ys) h d k = absurd h
 trees_within T (x ∷ xs) [] h d k = absurd h

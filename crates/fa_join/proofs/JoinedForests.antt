@@ -1,5 +1,6 @@
 -- The forest that joins two has the dressed forests of both; it is sound and canonical where they are.
-use Rattle.std.proofs.Common.{◌≡◌, ◌↔◌, ◌⊎◌, inl, inr, ℕ, zero, suc, ◌<◌, length, List, [], ◌∷◌, refl, sym, subst, slice_set, arith}
+use Rattle.std.proofs.Common.{◌≡◌, ◌↔◌, ◌⊎◌, inl, inr, ℕ, zero, suc, ◌<◌, length, List, [], ◌∷◌, refl, sym, subst}
+use Rattle.std.proofs.Common.{slice_set, arith}
 use Rattle.fore_base.specs.Lists.{Every, Paired, PairedBut}
 use Rattle.ta_core.specs.Auto.{Automaton, IsRanked}
 use Rattle.ta_core.specs.Joined.{IsUnion}
@@ -30,7 +31,8 @@ use Rattle.fa_join.proofs.JoinedSigned.{joined_plain, joined_signed}
 -- Dressed forests, tree by tree.
 
 module _ (T : List BoxDef) where
-  pub same_trees : (xs ys : List Automaton) → Paired HasSameLanguage xs ys → (d : Nodes) → TreesOf T xs d ↔ TreesOf T ys d
+  pub same_trees : (xs ys : List Automaton) → Paired HasSameLanguage xs ys → (d : Nodes) → TreesOf T xs d
+      ↔ TreesOf T ys d
   same_trees [] [] h d = ((λ k. k), (λ k. k))
   same_trees [] (y ∷ ys) h d = absurd h
   same_trees (x ∷ xs) [] h d = absurd h
@@ -41,7 +43,8 @@ module _ (T : List BoxDef) where
   ))
 
   module _ (a b c : Automaton) (union : IsUnion a b c) where
-    trees_from : (r : ℕ) (xs ys : List Automaton) → PairedBut HasSameLanguage r a b xs ys → (d : Nodes) → TreesOf T (slice_set xs r c) d → TreesOf T xs d ⊎ TreesOf T ys d
+    trees_from : (r : ℕ) (xs ys : List Automaton) → PairedBut HasSameLanguage r a b xs ys → (d : Nodes)
+        → TreesOf T (slice_set xs r c) d → TreesOf T xs d ⊎ TreesOf T ys d
     trees_from r [] ys h d k = absurd h
     trees_from r (x ∷ xs) [] h d k = absurd h
     trees_from zero (x ∷ xs) (y ∷ ys) h no_nodes k = absurd k
@@ -55,21 +58,29 @@ module _ (T : List BoxDef) where
       | inr l ↦ inr ((h.0 (bare n)).0 k.0, k.1, l)
     ]
 
-    trees_first : (r : ℕ) (xs ys : List Automaton) → PairedBut HasSameLanguage r a b xs ys → (d : Nodes) → TreesOf T xs d → TreesOf T (slice_set xs r c) d
+    trees_first : (r : ℕ) (xs ys : List Automaton) → PairedBut HasSameLanguage r a b xs ys → (d : Nodes)
+        → TreesOf T xs d → TreesOf T (slice_set xs r c) d
     trees_first r [] ys h d k = absurd h
     trees_first r (x ∷ xs) [] h d k = absurd h
     trees_first zero (x ∷ xs) (y ∷ ys) h no_nodes k = absurd k
     trees_first (suc r) (x ∷ xs) (y ∷ ys) h no_nodes k = absurd k
-    trees_first zero (x ∷ xs) (y ∷ ys) h (more n ns) k = ((union (bare n)).1 (inl (subst (λ (z : Automaton). InLanguage z (bare n)) h.0 k.0)), k.1, k.2)
+    trees_first zero (x ∷ xs) (y ∷ ys) h (more n ns) k =
+        ((union (bare n)).1 (inl (subst (λ (z : Automaton). InLanguage z (bare n)) h.0 k.0)), k.1, k.2)
     trees_first (suc r) (x ∷ xs) (y ∷ ys) h (more n ns) k = (k.0, k.1, trees_first r xs ys h.1 ns k.2)
 
-    trees_second : (r : ℕ) (xs ys : List Automaton) → PairedBut HasSameLanguage r a b xs ys → (d : Nodes) → TreesOf T ys d → TreesOf T (slice_set xs r c) d
+    trees_second : (r : ℕ) (xs ys : List Automaton) → PairedBut HasSameLanguage r a b xs ys → (d : Nodes)
+        → TreesOf T ys d → TreesOf T (slice_set xs r c) d
     trees_second r [] ys h d k = absurd h
     trees_second r (x ∷ xs) [] h d k = absurd h
     trees_second zero (x ∷ xs) (y ∷ ys) h no_nodes k = absurd k
     trees_second (suc r) (x ∷ xs) (y ∷ ys) h no_nodes k = absurd k
-    trees_second zero (x ∷ xs) (y ∷ ys) h (more n ns) k = ((union (bare n)).1 (inr (subst (λ (z : Automaton). InLanguage z (bare n)) h.1 k.0)), k.1, (same_trees xs ys h.2 ns).1 k.2)
-    trees_second (suc r) (x ∷ xs) (y ∷ ys) h (more n ns) k = ((h.0 (bare n)).1 k.0, k.1, trees_second r xs ys h.1 ns k.2)
+    trees_second zero (x ∷ xs) (y ∷ ys) h (more n ns) k = (
+      (union (bare n)).1 (inr (subst (λ (z : Automaton). InLanguage z (bare n)) h.1 k.0)),
+      k.1,
+      (same_trees xs ys h.2 ns).1 k.2,
+    )
+    trees_second (suc r) (x ∷ xs) (y ∷ ys) h (more n ns) k =
+        ((h.0 (bare n)).1 k.0, k.1, trees_second r xs ys h.1 ns k.2)
 
 -- Choices of trees.
 
@@ -81,7 +92,8 @@ same_choice (x ∷ xs) (y ∷ ys) h [] k = absurd k
 same_choice (x ∷ xs) (y ∷ ys) h (t ∷ ts) k = ((h.0 t).0 k.0, same_choice xs ys h.1 ts k.1)
 
 module _ (a b c : Automaton) (union : IsUnion a b c) where
-  choice_from : (r : ℕ) (xs ys : List Automaton) → PairedBut HasSameLanguage r a b xs ys → (ts : List Tree) → Choice (slice_set xs r c) ts → Choice xs ts ⊎ Choice ys ts
+  choice_from : (r : ℕ) (xs ys : List Automaton) → PairedBut HasSameLanguage r a b xs ys → (ts : List Tree)
+      → Choice (slice_set xs r c) ts → Choice xs ts ⊎ Choice ys ts
   choice_from r [] ys h ts k = absurd h
   choice_from r (x ∷ xs) [] h ts k = absurd h
   choice_from zero (x ∷ xs) (y ∷ ys) h [] k = absurd k
@@ -95,7 +107,8 @@ module _ (a b c : Automaton) (union : IsUnion a b c) where
     | inr l ↦ inr ((h.0 t).0 k.0, l)
   ]
 
-but_long : {X Y : Type 0} (R : X → Y → Type 0) (i : ℕ) (x : X) (y : Y) (xs : List X) (ys : List Y) → PairedBut R i x y xs ys → i < length ys
+but_long : {X Y : Type 0} (R : X → Y → Type 0) (i : ℕ) (x : X) (y : Y) (xs : List X) (ys : List Y)
+    → PairedBut R i x y xs ys → i < length ys
 but_long R i x y [] ys h = absurd h
 but_long R i x y (v ∷ xs) [] h = absurd h
 but_long R zero x y (v ∷ xs) (w ∷ ys) h = omega arith
@@ -103,8 +116,10 @@ but_long R (suc i) x y (v ∷ xs) (w ∷ ys) h = (let l = but_long R i x y xs ys
 
 -- The forest.
 
-module _ (face : Face) (F G : Forest) (r p : ℕ) (vars : HasVarsOf F G) (ranked_F : Every IsRanked F.autos) (ranked_G : Every IsRanked G.autos)
-    (tops_F : Every HasOneTop F.autos) (tops_G : Every HasOneTop G.autos) (plain_F : Every HasNoBoxes F.autos) (plain_G : Every HasNoBoxes G.autos) (differ : DifferAtRoot face.boxes F G r p) where
+module _ (face : Face) (F G : Forest) (r p : ℕ) (vars : HasVarsOf F G) (ranked_F : Every IsRanked F.autos)
+    (ranked_G : Every IsRanked G.autos)
+    (tops_F : Every HasOneTop F.autos) (tops_G : Every HasOneTop G.autos) (plain_F : Every HasNoBoxes F.autos)
+    (plain_G : Every HasNoBoxes G.autos) (differ : DifferAtRoot face.boxes F G r p) where
   abbrev a : Automaton
   a = component_at F.autos r
 
@@ -118,14 +133,28 @@ module _ (face : Face) (F G : Forest) (r p : ℕ) (vars : HasVarsOf F G) (ranked
   other = but_long HasSameLanguage r a b F.autos G.autos differ.others
 
   pub split_first : CanSplit F r p
-  split_first = record { root = differ.root; top = component_has HasOneTop F.autos r tops_F differ.root; place = differ.below.place }
+  split_first =
+      record {
+        root = differ.root;
+        top = component_has HasOneTop F.autos r tops_F differ.root;
+        place = differ.below.place;
+      }
 
   pub split_second : CanSplit G r p
-  split_second = record { root = other; top = component_has HasOneTop G.autos r tops_G other; place = but_long (SameRuns a b) p (child_state a p) (child_state b p) (top_rule a).children (top_rule b).children differ.below.children }
+  split_second =
+      record {
+        root = other;
+        top = component_has HasOneTop G.autos r tops_G other;
+        place = but_long (SameRuns a b) p (child_state a p) (child_state b p) (top_rule a).children
+            (top_rule b).children
+            differ.below.children;
+      }
 
   union : IsUnion a b (joined a b p)
-  union = joined_union a b p (component_has IsRanked F.autos r ranked_F differ.root) (component_has IsRanked G.autos r ranked_G other)
-      (component_has HasOneTop F.autos r tops_F differ.root) (component_has HasOneTop G.autos r tops_G other) differ.below.symbols differ.below.children
+  union = joined_union a b p (component_has IsRanked F.autos r ranked_F differ.root)
+      (component_has IsRanked G.autos r ranked_G other)
+      (component_has HasOneTop F.autos r tops_F differ.root) (component_has HasOneTop G.autos r tops_G other)
+      differ.below.symbols differ.below.children
 
   pub joined_joins : Joins F G J
   joined_joins = record {
@@ -145,17 +174,26 @@ module _ (face : Face) (F G : Forest) (r p : ℕ) (vars : HasVarsOf F G) (ranked
 
   pub joined_no_boxes : Every HasNoBoxes J.autos
   joined_no_boxes = every_put HasNoBoxes F.autos r (joined a b p) plain_F
-      (joined_plain a b p (component_has IsRanked F.autos r ranked_F differ.root) (component_has IsRanked G.autos r ranked_G other)
-      (component_has HasOneTop F.autos r tops_F differ.root) (component_has HasOneTop G.autos r tops_G other) differ.below.symbols differ.below.children differ.below.place
+      (joined_plain a b p (component_has IsRanked F.autos r ranked_F differ.root)
+      (component_has IsRanked G.autos r ranked_G other)
+      (component_has HasOneTop F.autos r tops_F differ.root) (component_has HasOneTop G.autos r tops_G other)
+      differ.below.symbols differ.below.children differ.below.place
       (component_has HasNoBoxes F.autos r plain_F differ.root) (component_has HasNoBoxes G.autos r plain_G other))
 
   joined_tops : Every HasOneTop J.autos
   joined_tops = every_put HasOneTop F.autos r (joined a b p) tops_F
-      (joined_one a b p (component_has IsRanked F.autos r ranked_F differ.root) (component_has IsRanked G.autos r ranked_G other)
-      (component_has HasOneTop F.autos r tops_F differ.root) (component_has HasOneTop G.autos r tops_G other) differ.below.symbols differ.below.children)
+      (joined_one a b p (component_has IsRanked F.autos r ranked_F differ.root)
+      (component_has IsRanked G.autos r ranked_G other)
+      (component_has HasOneTop F.autos r tops_F differ.root) (component_has HasOneTop G.autos r tops_G other)
+      differ.below.symbols differ.below.children)
 
   filled_by : (E : Forest) → F.vars ≡ E.vars → (ts : List Tree) → ChoiceFilled face E ts → ChoiceFilled face J ts
-  filled_by E e ts f = record { tops = f.tops; are = f.are; vars = subst (λ (vs : List Target). Every (IsRoot (length ts)) vs) (sym e) f.vars; cells = f.cells }
+  filled_by E e ts f = record {
+    tops = f.tops;
+    are = f.are;
+    vars = subst (λ (vs : List Target). Every (IsRoot (length ts)) vs) (sym e) f.vars;
+    cells = f.cells;
+  }
 
   pub joined_sound : IsSound face F → IsSound face G → IsSound face J
   joined_sound f g = record {
@@ -163,21 +201,29 @@ module _ (face : Face) (F G : Forest) (r p : ℕ) (vars : HasVarsOf F G) (ranked
       filled = record {
         data_vars = f.well_formed.filled.data_vars;
         rules = every_put (RulesFit face) F.autos r (joined a b p) f.well_formed.filled.rules
-            (joined_symbols a b p (component_has IsRanked F.autos r ranked_F differ.root) (component_has IsRanked G.autos r ranked_G other)
-            (component_has HasOneTop F.autos r tops_F differ.root) (component_has HasOneTop G.autos r tops_G other) differ.below.symbols differ.below.children
-            (SymbolFits face) (component_has (RulesFit face) F.autos r f.well_formed.filled.rules differ.root) (component_has (RulesFit face) G.autos r g.well_formed.filled.rules other));
+            (joined_symbols a b p (component_has IsRanked F.autos r ranked_F differ.root)
+            (component_has IsRanked G.autos r ranked_G other)
+            (component_has HasOneTop F.autos r tops_F differ.root) (component_has HasOneTop G.autos r tops_G other)
+            differ.below.symbols differ.below.children
+            (SymbolFits face) (component_has (RulesFit face) F.autos r f.well_formed.filled.rules differ.root)
+            (component_has (RulesFit face) G.autos r g.well_formed.filled.rules other));
         trees = λ ts k. elim (from ts k) [
           | inl l ↦ filled_by F refl ts (f.well_formed.filled.trees ts l)
           | inr l ↦ filled_by G (sym vars.0) ts (g.well_formed.filled.trees ts l)
         ];
       };
       signatures = every_put (HasSignatures face.boxes) F.autos r (joined a b p) f.well_formed.signatures
-          (joined_signed a b p (component_has IsRanked F.autos r ranked_F differ.root) (component_has IsRanked G.autos r ranked_G other)
-          (component_has HasOneTop F.autos r tops_F differ.root) (component_has HasOneTop G.autos r tops_G other) differ.below.symbols differ.below.children differ.below.place
+          (joined_signed a b p (component_has IsRanked F.autos r ranked_F differ.root)
+          (component_has IsRanked G.autos r ranked_G other)
+          (component_has HasOneTop F.autos r tops_F differ.root) (component_has HasOneTop G.autos r tops_G other)
+          differ.below.symbols differ.below.children differ.below.place
           (component_has HasNoBoxes F.autos r plain_F differ.root) (component_has HasNoBoxes G.autos r plain_G other)
-          face.boxes differ.below.marks (component_has (HasSignatures face.boxes) F.autos r f.well_formed.signatures differ.root) (component_has (HasSignatures face.boxes) G.autos r g.well_formed.signatures other));
+          face.boxes differ.below.marks
+          (component_has (HasSignatures face.boxes) F.autos r f.well_formed.signatures differ.root)
+          (component_has (HasSignatures face.boxes) G.autos r g.well_formed.signatures other));
     };
-    full = every_put HasSome F.autos r (joined a b p) f.full (let t = component_has HasSome F.autos r f.full differ.root in (t.0, (union t.0).1 (inl t.1)));
+    full = every_put HasSome F.autos r (joined a b p) f.full
+        (let t = component_has HasSome F.autos r f.full differ.root in (t.0, (union t.0).1 (inl t.1)));
   }
 
   pub joined_canonical : IsSound face F → IsSound face G → IsCanonical face F → IsCanonical face G → IsCanonical face J
@@ -186,7 +232,8 @@ module _ (face : Face) (F G : Forest) (r p : ℕ) (vars : HasVarsOf F G) (ranked
     tops = joined_tops;
     kinds = λ ts k. elim (from ts k) [
       | inl l ↦ can.kinds ts l
-      | inr l ↦ subst (λ (vs : List Target). (n : ℕ) → n < length ts → IsRootKind face.boxes vs ts n) vars.0 (other_can.kinds ts l)
+      | inr l ↦ subst (λ (vs : List Target). (n : ℕ) → n < length ts → IsRootKind face.boxes vs ts n) vars.0
+          (other_can.kinds ts l)
     ];
     untied = λ ts k. elim (from ts k) [
       | inl l ↦ can.untied ts l
@@ -194,7 +241,8 @@ module _ (face : Face) (F G : Forest) (r p : ℕ) (vars : HasVarsOf F G) (ranked
     ];
     order = λ ts k. elim (from ts k) [
       | inl l ↦ can.order ts l
-      | inr l ↦ subst (λ (vs : List Target). Walks (refs_at ts) (GoesOn face.boxes ts) (var_roots vs) 0 (length ts)) vars.0 (other_can.order ts l)
+      | inr l ↦ subst (λ (vs : List Target). Walks (refs_at ts) (GoesOn face.boxes ts) (var_roots vs) 0 (length ts))
+          vars.0 (other_can.order ts l)
     ];
   }
 

@@ -1,4 +1,5 @@
--- Worked values: lists that differ in one place, forests that can and cannot be joined, and the automaton that joins two.
+-- Worked values: lists that differ in one place, forests that can and cannot be joined, and the automaton that joins
+-- two.
 use Rattle.std.proofs.Common.{◌≡◌, inl, inr, ℕ, zero, suc, true, false, List, [], ◌∷◌, refl, sym, ap, subst, ◌∙◌, arith}
 use Rattle.std.proofs.lemmas.Option.{none-some}
 use Rattle.fore_base.specs.Lists.{IsIn}
@@ -97,7 +98,8 @@ one_state : at_state mixed 1 ≡ automaton 3 (1 ∷ []) (rule 0 Null [] ∷ rule
 one_state = refl
 
 -- rules of two states, those of another one left out
-rules_of_two : of_both 9 0 2 (rule 0 Null [] ∷ rule 1 Null [] ∷ rule 2 Uninit [] ∷ rule 0 list_cell (1 ∷ []) ∷ []) ≡ rule 9 Null [] ∷ rule 9 Uninit [] ∷ rule 9 list_cell (1 ∷ []) ∷ []
+rules_of_two : of_both 9 0 2 (rule 0 Null [] ∷ rule 1 Null [] ∷ rule 2 Uninit [] ∷ rule 0 list_cell (1 ∷ []) ∷ [])
+    ≡ rule 9 Null [] ∷ rule 9 Uninit [] ∷ rule 9 list_cell (1 ∷ []) ∷ []
 rules_of_two = refl
 
 -- the second field is null or uninitialised: state 6 has the rules of both
@@ -137,31 +139,44 @@ once_alone zero (suc j) F G e f n h = none-some G f
 once_alone (suc i) j F G e f n h = none-some F e
 
 never_twice : NoneJoinable [] (forest_of nulls (At 0 ∷ []) [] ∷ forest_of nulls (At 0 ∷ []) [] ∷ []) → ⊥
-never_twice h = h 0 1 (forest_of nulls (At 0 ∷ []) []) (forest_of nulls (At 0 ∷ []) []) refl refl (λ e. omega (arith, e)) with_itself
+never_twice h = h 0 1 (forest_of nulls (At 0 ∷ []) []) (forest_of nulls (At 0 ∷ []) []) refl refl
+    (λ e. omega (arith, e)) with_itself
 
 -- two equal forests are joined to one; none is lost, and the data stay
 joins_itself : Joins (forest_of nulls (At 0 ∷ []) []) (forest_of nulls (At 0 ∷ []) []) (forest_of nulls (At 0 ∷ []) [])
-joins_itself = record { first = (refl, refl); second = (refl, refl); dressed = λ T d. ((λ h. inl h), (λ h. elim h [ inl k ↦ k | inr k ↦ k ])) }
+joins_itself =
+    record {
+      first = (refl, refl);
+      second = (refl, refl);
+      dressed = λ T d. ((λ h. inl h), (λ h. elim h [ inl k ↦ k | inr k ↦ k ]));
+    }
 
-joined_to_one : IsJoined [] (forest_of nulls (At 0 ∷ []) [] ∷ forest_of nulls (At 0 ∷ []) [] ∷ []) (forest_of nulls (At 0 ∷ []) [] ∷ [])
+joined_to_one : IsJoined [] (forest_of nulls (At 0 ∷ []) [] ∷ forest_of nulls (At 0 ∷ []) [] ∷ [])
+    (forest_of nulls (At 0 ∷ []) [] ∷ [])
 joined_to_one = record {
-  whole = λ F i d o. (forest_of nulls (At 0 ∷ []) [], inl refl, same F i, subst (λ (z : Forest). OfForest [] z d) (is F i) o);
+  whole =
+      λ F i d o.
+      (forest_of nulls (At 0 ∷ []) [], inl refl, same F i, subst (λ (z : Forest). OfForest [] z d) (is F i) o);
   only = λ F i d o. (F, elim i [ inl e ↦ inl e | inr e ↦ absurd e ], (refl, refl), o);
 }
   where
-    is : (F : Forest) → IsIn F (forest_of nulls (At 0 ∷ []) [] ∷ forest_of nulls (At 0 ∷ []) [] ∷ []) → F ≡ forest_of nulls (At 0 ∷ []) []
+    is : (F : Forest) → IsIn F (forest_of nulls (At 0 ∷ []) [] ∷ forest_of nulls (At 0 ∷ []) [] ∷ [])
+        → F ≡ forest_of nulls (At 0 ∷ []) []
     is F (inl e) = e
     is F (inr (inl e)) = e
     is F (inr (inr e)) = absurd e
 
-    same : (F : Forest) → IsIn F (forest_of nulls (At 0 ∷ []) [] ∷ forest_of nulls (At 0 ∷ []) [] ∷ []) → HasVarsOf F (forest_of nulls (At 0 ∷ []) [])
+    same : (F : Forest) → IsIn F (forest_of nulls (At 0 ∷ []) [] ∷ forest_of nulls (At 0 ∷ []) [] ∷ [])
+        → HasVarsOf F (forest_of nulls (At 0 ∷ []) [])
     same F i = (ap (λ (z : Forest). z.vars) (sym (is F i)), ap (λ (z : Forest). z.data_vars) (sym (is F i)))
 
 -- with the data of the other one it is lost
-never_with_other_data : (d : Nodes) → OfForest [] (forest_of nulls [] (Known 1 ∷ [])) d → IsJoined [] (forest_of nulls [] (Known 1 ∷ []) ∷ []) (forest_of nulls [] (Known 2 ∷ []) ∷ []) → ⊥
+never_with_other_data : (d : Nodes) → OfForest [] (forest_of nulls [] (Known 1 ∷ [])) d
+    → IsJoined [] (forest_of nulls [] (Known 1 ∷ []) ∷ []) (forest_of nulls [] (Known 2 ∷ []) ∷ []) → ⊥
 never_with_other_data d o h =
     let k = h.whole (forest_of nulls [] (Known 1 ∷ [])) (inl refl) d o in
     elim k.1 [
-      | inl e ↦ (let f : 2 ≡ 1 = ap (λ (z : Forest). first_datum z.data_vars) (sym e) ∙ ap first_datum k.2.1 in omega (arith, f))
+      | inl e ↦ (let f : 2 ≡ 1 = ap (λ (z : Forest). first_datum z.data_vars) (sym e) ∙ ap first_datum k.2.1 in
+          omega (arith, f))
       | inr e ↦ absurd e
     ]

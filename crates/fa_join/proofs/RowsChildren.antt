@@ -1,4 +1,5 @@
--- Worked values: two forests that differ in one child can be joined, two that differ in both cannot, nor can two whose children have other signatures.
+-- Worked values: two forests that differ in one child can be joined, two that differ in both cannot, nor can two whose
+-- children have other signatures.
 use Rattle.std.proofs.Common.{◌≡◌, inl, inr, ℕ, List, [], ◌∷◌, map, refl, sym, ap, subst, ◌∙◌, arith}
 use Rattle.fore_base.specs.Lists.{IsIn}
 use Rattle.ta_core.specs.Auto.{Automaton, automaton}
@@ -34,13 +35,15 @@ forest_of y z = record { autos = fork_of y z ∷ []; vars = At 0 ∷ []; data_va
 first_rule : (y z : Symbol) (r : Rule) → IsIn r (fork_of y z).rules → r.state ≡ 0 → r ≡ rule 0 y []
 first_rule y z r (inl e) s = e
 first_rule y z r (inr (inl e)) s = (let w : r.state ≡ 1 = ap (λ (x : Rule). x.state) e in absurd (omega (arith, w, s)))
-first_rule y z r (inr (inr (inl e))) s = (let w : r.state ≡ 2 = ap (λ (x : Rule). x.state) e in absurd (omega (arith, w, s)))
+first_rule y z r (inr (inr (inl e))) s =
+    (let w : r.state ≡ 2 = ap (λ (x : Rule). x.state) e in absurd (omega (arith, w, s)))
 first_rule y z r (inr (inr (inr i))) s = absurd i
 
 second_rule : (y z : Symbol) (r : Rule) → IsIn r (fork_of y z).rules → r.state ≡ 1 → r ≡ rule 1 z []
 second_rule y z r (inl e) s = (let w : r.state ≡ 0 = ap (λ (x : Rule). x.state) e in absurd (omega (arith, w, s)))
 second_rule y z r (inr (inl e)) s = e
-second_rule y z r (inr (inr (inl e))) s = (let w : r.state ≡ 2 = ap (λ (x : Rule). x.state) e in absurd (omega (arith, w, s)))
+second_rule y z r (inr (inr (inl e))) s =
+    (let w : r.state ≡ 2 = ap (λ (x : Rule). x.state) e in absurd (omega (arith, w, s)))
 second_rule y z r (inr (inr (inr i))) s = absurd i
 
 top_rule_of : (y z : Symbol) (r : Rule) → IsIn r (fork_of y z).rules → r.state ≡ 2 → r ≡ rule 2 fork (0 ∷ 1 ∷ [])
@@ -63,12 +66,15 @@ same_first : (y z w : Symbol) (t : Tree) → RunOf (fork_of y z).rules 0 t → R
 same_first y z w t (run r i s e k) =
     let o = first_rule y z r i s in
     let c = none_below (subst (λ (x : Rule). RunEach (fork_of y z).rules x.children (out-Tree t).children) o k) in
-    run (rule 0 y []) (inl refl) refl (ap (λ (x : Rule). x.symbol) (sym o) ∙ e) (subst (λ (ts : List Tree). RunEach (fork_of y w).rules [] ts) (sym c) run_none)
+    run (rule 0 y []) (inl refl) refl (ap (λ (x : Rule). x.symbol) (sym o) ∙ e)
+    (subst (λ (ts : List Tree). RunEach (fork_of y w).rules [] ts) (sym c) run_none)
 
 -- The leaves null and uninitialised have no references; one that refers to root 1 has.
 
-no_marks : (z : Symbol) (t : Tree) → (out-Tree t).symbol ≡ z → marks_by [] z (map (below_of []) (out-Tree t).children) ≡ [] → signature [] t ≡ []
-no_marks z t e h = tree_signature [] t ∙ ap (λ (y : Symbol). marks_by [] y (map (below_of []) (out-Tree t).children)) e ∙ h
+no_marks : (z : Symbol) (t : Tree) → (out-Tree t).symbol ≡ z → marks_by [] z (map (below_of []) (out-Tree t).children)
+    ≡ [] → signature [] t ≡ []
+no_marks z t e h = tree_signature [] t ∙ ap (λ (y : Symbol). marks_by [] y (map (below_of []) (out-Tree t).children)) e
+    ∙ h
 
 one_child : Joinable [] (forest_of Null Null) (forest_of Null Uninit)
 one_child = record {
@@ -77,7 +83,15 @@ one_child = record {
   components = inr (
     record {
       symbols = refl;
-      children = inl ((λ t. (same_first Null Null Uninit t, same_first Null Uninit Null t)), inr ((λ t u x y. no_marks Null t (second_symbol Null Null t x) refl ∙ sym (no_marks Uninit u (second_symbol Null Uninit u y) refl)), tt));
+      children =
+          inl (
+            (λ t. (same_first Null Null Uninit t, same_first Null Uninit Null t)),
+            inr (
+              (λ t u x y. no_marks Null t (second_symbol Null Null t x) refl
+                  ∙ sym (no_marks Uninit u (second_symbol Null Uninit u y) refl)),
+              tt,
+            ),
+          );
     },
     tt,
   );
@@ -104,18 +118,27 @@ second_leaf : (y z : Symbol) → RunOf (fork_of y z).rules 1 (leaf_of z)
 second_leaf y z = run_tree (fork_of y z).rules (rule 1 z []) [] (inr (inl refl)) run_none
 
 fork_tree : (y z : Symbol) → InLanguage (fork_of y z) (tree_of fork (leaf_of y ∷ leaf_of z ∷ []))
-fork_tree y z = (2, inl refl, run_tree (fork_of y z).rules (rule 2 fork (0 ∷ 1 ∷ [])) (leaf_of y ∷ leaf_of z ∷ []) (inr (inr (inl refl))) (run_more (first_leaf y z) (run_more (second_leaf y z) run_none)))
+fork_tree y z = (
+  2,
+  inl refl,
+  run_tree (fork_of y z).rules (rule 2 fork (0 ∷ 1 ∷ [])) (leaf_of y ∷ leaf_of z ∷ [])
+      (inr (inr (inl refl))) (run_more (first_leaf y z) (run_more (second_leaf y z) run_none)),
+)
 
 -- other leaves in the first place are other trees, and so they are in the second
 other_first : (y z v w : Symbol) → (kind y ≡ kind v → ⊥) → SameRuns (fork_of y z) (fork_of v w) 0 0 → ⊥
-other_first y z v w d h = d (ap kind (sym (leaf_symbol y) ∙ first_symbol v w (leaf_of y) ((h (leaf_of y)).0 (first_leaf y z))))
+other_first y z v w d h =
+    d (ap kind (sym (leaf_symbol y) ∙ first_symbol v w (leaf_of y) ((h (leaf_of y)).0 (first_leaf y z))))
 
 other_second : (y z v w : Symbol) → (kind z ≡ kind w → ⊥) → SameRuns (fork_of y z) (fork_of v w) 1 1 → ⊥
-other_second y z v w d h = d (ap kind (sym (leaf_symbol z) ∙ second_symbol v w (leaf_of z) ((h (leaf_of z)).0 (second_leaf y z))))
+other_second y z v w d h =
+    d (ap kind (sym (leaf_symbol z) ∙ second_symbol v w (leaf_of z) ((h (leaf_of z)).0 (second_leaf y z))))
 
 -- the second child of a tree of the fork
-children_run : (y z : Symbol) (t : Tree) → InLanguage (fork_of y z) t → RunEach (fork_of y z).rules (0 ∷ 1 ∷ []) (out-Tree t).children
-children_run y z t (q, inl i, run r j s e k) = subst (λ (x : Rule). RunEach (fork_of y z).rules x.children (out-Tree t).children) (top_rule_of y z r j (s ∙ i)) k
+children_run : (y z : Symbol) (t : Tree) → InLanguage (fork_of y z) t
+    → RunEach (fork_of y z).rules (0 ∷ 1 ∷ []) (out-Tree t).children
+children_run y z t (q, inl i, run r j s e k) =
+    subst (λ (x : Rule). RunEach (fork_of y z).rules x.children (out-Tree t).children) (top_rule_of y z r j (s ∙ i)) k
 children_run y z t (q, inr i, w) = absurd i
 
 second_of : {rules : List Rule} {p q : ℕ} {t u : Tree} → RunEach rules (p ∷ q ∷ []) (t ∷ u ∷ []) → RunOf rules q u
@@ -125,7 +148,8 @@ other_language : (y z v w : Symbol) → (kind z ≡ kind w → ⊥) → HasSameL
 other_language y z v w d h =
     let t = tree_of fork (leaf_of y ∷ leaf_of z ∷ []) in
     let k = children_run v w t ((h t).0 (fork_tree y z)) in
-    let c = ap (λ (x : _). x.children) (out-roll-Tree (record { symbol = fork; children = leaf_of y ∷ leaf_of z ∷ [] })) in
+    let c = ap (λ (x : _). x.children) (out-roll-Tree (record { symbol = fork; children = leaf_of y ∷ leaf_of z ∷ [] }))
+    in
     let u = second_of (subst (λ (ts : List Tree). RunEach (fork_of v w).rules (0 ∷ 1 ∷ []) ts) c k) in
     d (ap kind (sym (leaf_symbol z) ∙ second_symbol v w (leaf_of z) u))
 
@@ -148,7 +172,8 @@ count_marks [] = 0
 count_marks (m ∷ ms) = 1
 
 one_mark : (t : Tree) → (out-Tree t).symbol ≡ Ref 1 → count_marks (signature [] t) ≡ 1
-one_mark t e = ap count_marks (tree_signature [] t ∙ ap (λ (y : Symbol). marks_by [] y (map (below_of []) (out-Tree t).children)) e)
+one_mark t e = ap count_marks
+    (tree_signature [] t ∙ ap (λ (y : Symbol). marks_by [] y (map (below_of []) (out-Tree t).children)) e)
 
 other_signatures : Joinable [] (forest_of Null Null) (forest_of Null (Ref 1)) → ⊥
 other_signatures h = here h.components
@@ -159,7 +184,8 @@ other_signatures h = here h.components
     marks : SameSignatures [] (fork_of Null Null) (fork_of Null (Ref 1)) 1 1 → ⊥
     marks m =
         let e = m (leaf_of Null) (leaf_of (Ref 1)) (second_leaf Null Null) (second_leaf Null (Ref 1)) in
-        let w : 0 ≡ 1 = ap count_marks (sym (no_marks Null (leaf_of Null) (leaf_symbol Null) refl) ∙ e) ∙ one_mark (leaf_of (Ref 1)) (leaf_symbol (Ref 1)) in
+        let w : 0 ≡ 1 = ap count_marks (sym (no_marks Null (leaf_of Null) (leaf_symbol Null) refl) ∙ e)
+        ∙ one_mark (leaf_of (Ref 1)) (leaf_symbol (Ref 1)) in
         omega (arith, w)
 
     here : PairedButOne HasSameLanguage (DifferInChild []) (fork_of Null Null ∷ []) (fork_of Null (Ref 1) ∷ []) → ⊥

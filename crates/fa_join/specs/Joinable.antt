@@ -9,7 +9,8 @@ use Rattle.fa_core.specs.declared.faces.BoxFace.{BoxFace}
 use Rattle.fa_core.specs.declared.forest.Forest.{Forest}
 use Rattle.fa_split.specs.Split.{top_rule}
 
--- the lists are as long as each other, and the items of each place are related by R, but for one place at most, where they are related by S
+-- the lists are as long as each other, and the items of each place are related by R, but for one place at most, where
+-- they are related by S
 abbrev pub PairedButOne : {X Y : Type 0} → (X → Y → Type 0) → (X → Y → Type 0) → List X → List Y → Type 0
 PairedButOne R S [] [] = Unit {0}
 PairedButOne R S [] (y ∷ ys) = ⊥
@@ -24,12 +25,14 @@ SameRuns a b p q = (t : Tree) → RunOf a.rules p t ↔ RunOf b.rules q t
 abbrev pub SameSignatures : List BoxFace → Automaton → Automaton → ℕ → ℕ → Type 0
 SameSignatures bs a b p q = (t u : Tree) → RunOf a.rules p t → RunOf b.rules q u → signature bs t ≡ signature bs u
 
--- the rules at the top have one symbol, and their children the same trees, but for one child at most, where the signatures are equal
+-- the rules at the top have one symbol, and their children the same trees, but for one child at most, where the
+-- signatures are equal
 pub record DifferInChild (bs : List BoxFace) (a b : Automaton) : Type 0 where
   pub symbols : (top_rule a).symbol ≡ (top_rule b).symbol
   pub children : PairedButOne (SameRuns a b) (SameSignatures bs a b) (top_rule a).children (top_rule b).children
 
--- F and G, which are canonical, have the same targets and data and as many roots, and the same languages, but for one root at most, where they differ in one child
+-- F and G, which are canonical, have the same targets and data and as many roots, and the same languages, but for one
+-- root at most, where they differ in one child
 pub record Joinable (bs : List BoxFace) (F G : Forest) : Type 0 where
   pub vars : F.vars ≡ G.vars
   pub data_vars : F.data_vars ≡ G.data_vars
@@ -37,4 +40,5 @@ pub record Joinable (bs : List BoxFace) (F G : Forest) : Type 0 where
 
 -- no two forests of the list, at different places, can be joined
 abbrev pub NoneJoinable : List BoxFace → List Forest → Type 0
-NoneJoinable bs Fs = (i j : ℕ) (F G : Forest) → slice_get Fs i ≡ Some F → slice_get Fs j ≡ Some G → i ≢ j → Joinable bs F G → ⊥
+NoneJoinable bs Fs = (i j : ℕ) (F G : Forest) → slice_get Fs i ≡ Some F → slice_get Fs j ≡ Some G → i ≢ j
+    → Joinable bs F G → ⊥

@@ -13,7 +13,8 @@ use std::alloc::Global;
 use ta_core::auto::{Auto, Rule};
 use ta_core::joining::{room, union};
 
-/// The automaton whose one rule at the top has, for the child at the place, the trees that the left one has there and those that the right one has there. Err is want of memory.
+/// The automaton whose one rule at the top has, for the child at the place, the trees that the left one has there and
+/// those that the right one has there. Err is want of memory.
 pub fn join_autos(alloc: Global, left: &Auto, right: &Auto, place: usize) -> Mem<Auto>
     requires left { HasOneTop left.now }
     requires right { HasOneTop right.now }
@@ -77,7 +78,12 @@ fn joined_top(alloc: Global, auto: &Auto, place: usize, state: u32) -> Mem<Rule>
 }
 
 fn rule_at(alloc: Global, rule: &Rule, state: u32) -> Mem<Rule>
-    ensures { IfOk result (λ made. made ≡ record { state = state; symbol = rule.now.symbol; children = rule.now.children }) }
+    ensures { IfOk result (λ made. made
+        ≡ record {
+          state = state;
+          symbol = rule.now.symbol;
+          children = rule.now.children;
+        }) }
 {
     Ok(Rule {
         state,

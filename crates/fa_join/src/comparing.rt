@@ -61,7 +61,8 @@ pub fn autos_apart(alloc: Global, left: &[Auto], right: &[Auto]) -> Mem<Apart>
     Ok(found)
 }
 
-/// The places at which the states of the left automaton have other trees than those of the right one. After two no more is looked at.
+/// The places at which the states of the left automaton have other trees than those of the right one. After two no more
+/// is looked at.
 pub fn states_apart(
     alloc: Global,
     left: &Auto,

@@ -29,7 +29,9 @@ pub enum Difference {
     Child { root: u32, child: usize },
 }
 
-/// Whether the two forests can be joined: they have the same targets, data and languages, but for one child at most of one root, where the signatures are equal. Both stand over one face, and have one rule at each root, as canonical forests do. Err is want of memory.
+/// Whether the two forests can be joined: they have the same targets, data and languages, but for one child at most of
+/// one root, where the signatures are equal. Both stand over one face, and have one rule at each root, as canonical
+/// forests do. Err is want of memory.
 pub fn joinable(alloc: Global, left: &Sound, right: &Sound) -> Mem<bool>
     requires face { left.now.face ≡ right.now.face }
     requires left { Every HasOneTop left.now.forest.autos }
@@ -42,12 +44,15 @@ pub fn joinable(alloc: Global, left: &Sound, right: &Sound) -> Mem<bool>
     }
 }
 
-/// Where the two forests differ, None exactly where they cannot be joined. What takes little time is compared before any language.
+/// Where the two forests differ, None exactly where they cannot be joined. What takes little time is compared before
+/// any language.
 pub fn compare(alloc: Global, left: &Sound, right: &Sound) -> Mem<Option<Difference>>
     requires face { left.now.face ≡ right.now.face }
     requires left { Every HasOneTop left.now.forest.autos }
     requires right { Every HasOneTop right.now.forest.autos }
-    ensures { IfOk result (λ found. MatchOption found (Joinable left.now.face.boxes left.now.forest right.now.forest → ⊥) (CanJoin left.now.face.boxes left.now.forest right.now.forest)) }
+    ensures { IfOk result
+        (λ found. MatchOption found (Joinable left.now.face.boxes left.now.forest right.now.forest → ⊥)
+        (CanJoin left.now.face.boxes left.now.forest right.now.forest)) }
 {
     left.known();
     if !look_alike(left.forest(), right.forest()) {
@@ -68,8 +73,11 @@ fn differing_below(alloc: Global, left: &Sound, right: &Sound, root: u32) -> Mem
     requires left { Every HasOneTop left.now.forest.autos }
     requires right { Every HasOneTop right.now.forest.autos }
     requires alike { LookAlike left.now.forest right.now.forest }
-    requires apart { IsApart HasSameLanguage left.now.forest.autos right.now.forest.autos (length left.now.forest.autos) (At root) }
-    ensures { IfOk result (λ found. MatchOption found (Joinable left.now.face.boxes left.now.forest right.now.forest → ⊥) (CanJoin left.now.face.boxes left.now.forest right.now.forest)) }
+    requires apart { IsApart HasSameLanguage left.now.forest.autos right.now.forest.autos
+        (length left.now.forest.autos) (At root) }
+    ensures { IfOk result
+        (λ found. MatchOption found (Joinable left.now.face.boxes left.now.forest right.now.forest → ⊥)
+        (CanJoin left.now.face.boxes left.now.forest right.now.forest)) }
 {
     match children_apart(alloc, left.forest(), right.forest(), root)? {
         Apart::Nowhere => unreachable!(),
@@ -91,8 +99,13 @@ fn children_apart(alloc: Global, left: &Forest, right: &Forest, root: u32) -> Me
     requires left_tops { Every HasOneTop left.now.autos }
     requires right_tops { Every HasOneTop right.now.autos }
     requires symbols { SameTops (component_at left.now.autos root) (component_at right.now.autos root) }
-    ensures apart { IfOk result (IsApart (SameRuns (component_at left.now.autos root) (component_at right.now.autos root)) (top_rule (component_at left.now.autos root)).children (top_rule (component_at right.now.autos root)).children (length (top_rule (component_at left.now.autos root)).children)) }
-    ensures long { length (top_rule (component_at left.now.autos root)).children ≡ length (top_rule (component_at right.now.autos root)).children }
+    ensures apart { IfOk result
+        (IsApart (SameRuns (component_at left.now.autos root) (component_at right.now.autos root))
+        (top_rule (component_at left.now.autos root)).children
+        (top_rule (component_at right.now.autos root)).children
+        (length (top_rule (component_at left.now.autos root)).children)) }
+    ensures long { length (top_rule (component_at left.now.autos root)).children
+        ≡ length (top_rule (component_at right.now.autos root)).children }
 {
     let left = component(left, root);
     let right = component(right, root);

@@ -17,7 +17,10 @@ pub fn joinable_back()
     ensures { (bs : List BoxFace) (F G : Forest) → Joinable bs F G → Joinable bs G F }
 {}
 
-/// Two canonical forests that can be joined, without box edges, have a canonical forest with the dressed forests of both.
+/// Two canonical forests that can be joined, without box edges, have a canonical forest with the dressed forests of
+/// both.
 pub fn joinable_forests_have_one()
-    ensures { (face : Face) (F G : Forest) → Every IsRanked F.autos → Every IsRanked G.autos → Every HasNoBoxes F.autos → Every HasNoBoxes G.autos → IsSound face F → IsSound face G → IsCanonical face F → IsCanonical face G → Joinable face.boxes F G → (J : Forest) × IsSound face J × IsCanonical face J × Joins F G J }
+    ensures { (face : Face) (F G : Forest) → Every IsRanked F.autos → Every IsRanked G.autos → Every HasNoBoxes F.autos
+        → Every HasNoBoxes G.autos → IsSound face F → IsSound face G → IsCanonical face F → IsCanonical face G
+        → Joinable face.boxes F G → (J : Forest) × IsSound face J × IsCanonical face J × Joins F G J }
 {}

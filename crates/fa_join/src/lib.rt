@@ -1,5 +1,5 @@
-//! Canonical forests, joined: two forests that have the same languages, but for one child of one root, become one forest
-//! with the members of both.
+//! Canonical forests, joined: two forests that have the same languages, but for one child of one root, become one
+//! forest with the members of both.
 //!
 //! - `join_all` joins the forests of a list until no two of them can be joined, and keeps what they stand for.
 //! - `joinable` says whether two can be; `laws` that this goes both ways, and that two such forests have one.

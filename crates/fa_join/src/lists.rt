@@ -32,7 +32,10 @@ pub struct Partner {
     pub differing: Difference,
 }
 
-/// Canonical forests over the face, joined until no two of them can be: each is one of those given, or joins some of them. The dressed forests together stay, each with its targets and data, and the result is canonical and reduced. The crew runs 1 to 64 jobs and has no bearing on the answer. Err is want of memory. So far only for forests without box edges.
+/// Canonical forests over the face, joined until no two of them can be: each is one of those given, or joins some of
+/// them. The dressed forests together stay, each with its targets and data, and the result is canonical and reduced.
+/// The crew runs 1 to 64 jobs and has no bearing on the answer. Err is want of memory. So far only for forests without
+/// box edges.
 pub fn join_all<R: Threads + Sync, G: Gate>(
     rt: &R,
     alloc: Global,
@@ -74,7 +77,8 @@ fn settle<R: Threads + Sync, G: Gate>(
     requires jobs { IsJobs crew.now.jobs }
     requires next { IsReady face.now next }
     requires done { Every (IsReady face.now) done.old }
-    ensures joining { OnOk result ((given : List SoundForest) → IsJoining face.now given (todo.old ++ next ∷ []) done.old → IsJoining face.now given todo.new done.new) }
+    ensures joining { OnOk result ((given : List SoundForest) → IsJoining face.now given (todo.old ++ next ∷ []) done.old
+        → IsJoining face.now given todo.new done.new) }
     ensures fewer { OnOk result (2 * length todo.new + length done.new < 2 * length todo.old + length done.old + 2) }
 {
     match first_partner(alloc, face, done.as_slice(), &next)? {
@@ -91,7 +95,9 @@ fn settle<R: Threads + Sync, G: Gate>(
 fn first_partner(alloc: Global, face: &Face, done: &[Sound], next: &Sound) -> Mem<Option<Partner>>
     requires done { Every (IsReady face.now) done.now }
     requires next { IsReady face.now next.now }
-    ensures { IfOk result (λ found. MatchOption found (Every (λ s. Joinable face.now.boxes s.forest next.now.forest → ⊥) done.now) (IsPartner face.now.boxes done.now next.now.forest)) }
+    ensures { IfOk result
+        (λ found. MatchOption found (Every (λ s. Joinable face.now.boxes s.forest next.now.forest → ⊥) done.now)
+        (IsPartner face.now.boxes done.now next.now.forest)) }
 {
     for (place, forest) in done.iter().enumerate() {
         if let Some(differing) = compare(alloc, forest, next)? {

@@ -16,7 +16,9 @@ pub fn have_same_marks(left: &Sound, right: &Sound, root: u32, child: usize) -> 
     requires face { left.now.face ≡ right.now.face }
     requires left { CanSplit left.now.forest root child }
     requires right { CanSplit right.now.forest root child }
-    ensures { IsTrue result ↔ SameSignatures left.now.face.boxes (component_at left.now.forest.autos root) (component_at right.now.forest.autos root) (child_state (component_at left.now.forest.autos root) child) (child_state (component_at right.now.forest.autos root) child) }
+    ensures { IsTrue result ↔ SameSignatures left.now.face.boxes (component_at left.now.forest.autos root)
+        (component_at right.now.forest.autos root) (child_state (component_at left.now.forest.autos root) child)
+        (child_state (component_at right.now.forest.autos root) child) }
 {
     let first = marks_of(left, root, child);
     let second = marks_of(right, root, child);
@@ -26,7 +28,8 @@ pub fn have_same_marks(left: &Sound, right: &Sound, root: u32, child: usize) -> 
 /// The signature of the trees of the child below the root.
 fn marks_of(forest: &Sound, root: u32, child: usize) -> &[RefMark]
     requires { CanSplit forest.now.forest root child }
-    ensures { HasMarks forest.now.face.boxes (component_at forest.now.forest.autos root) (child_state (component_at forest.now.forest.autos root) child) result.now }
+    ensures { HasMarks forest.now.face.boxes (component_at forest.now.forest.autos root)
+        (child_state (component_at forest.now.forest.autos root) child) result.now }
 {
     forest.known();
     let state = child_of(forest.forest(), root, child);

@@ -51,7 +51,8 @@ fn is_one_of(state: u32, states: &[u32]) -> bool
 
 /// The first rule of one of the states.
 fn first_rule<'a>(rules: &'a [Rule], states: &[u32]) -> Option<&'a Rule>
-    ensures { MatchOption result ((x : Rule) → IsIn x rules.now → has x.state states.now ≡ false) (λ rule. rule.now ≡ first_of states.now rules.now) }
+    ensures { MatchOption result ((x : Rule) → IsIn x rules.now → has x.state states.now ≡ false)
+        (λ rule. rule.now ≡ first_of states.now rules.now) }
 {
     for rule in rules {
         if is_one_of(rule.state, states) {

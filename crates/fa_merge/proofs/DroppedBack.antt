@@ -1,5 +1,7 @@
 -- A store of the forest without a root is a store of the forest without the root's cell.
-use Rattle.std.proofs.Common.{◌≡◌, inl, inr, ℕ, zero, suc, ◌<◌, Bool, true, false, true≢false, if◌then◌else◌, nat_eq, length, List, [], ◌∷◌, ◌++◌, map, flat_map, refl, sym, ap, ap₂, subst, ◌∙◌, Some, append-nil, arith}
+use Rattle.std.proofs.Common.{◌≡◌, inl, inr, ℕ, zero, suc, ◌<◌, Bool, true, false, true≢false, if◌then◌else◌, nat_eq}
+use Rattle.std.proofs.Common.{length, List, [], ◌∷◌, ◌++◌, map, flat_map, refl, sym, ap, ap₂, subst, ◌∙◌, Some}
+use Rattle.std.proofs.Common.{append-nil, arith}
 use Rattle.std.proofs.lemmas.Bool.{eqb-true, eq-eqb}
 use Rattle.std.proofs.lemmas.List.Sorted.{IsPermutation-refl}
 use Rattle.std.proofs.lemmas.Option.{none-some, same_Some}
@@ -13,7 +15,8 @@ use Rattle.fore_base.specs.declared.store.CellRec.{CellRec}
 use Rattle.fore_base.specs.declared.store.Datum.{Datum}
 use Rattle.fore_base.specs.declared.store.Store.{Store}
 use Rattle.fore_base.specs.declared.store.Value.{Value}
-use Rattle.fore_base.specs.declared.store.Value.TheVariants.{Null as NullValue, Uninit as UninitValue, Dangling as DanglingValue, Cell}
+use Rattle.fore_base.specs.declared.store.Value.TheVariants.{Null as NullValue, Uninit as UninitValue}
+use Rattle.fore_base.specs.declared.store.Value.TheVariants.{Dangling as DanglingValue, Cell}
 use Rattle.fore_base.proofs.ListLemmas.{in_left, in_right, every_weaker, every_map, every_mapped}
 use Rattle.ta_core.specs.declared.tree.Tree.{Tree}
 use Rattle.fa_core.specs.declared.boxes.BoxDef.{BoxDef}
@@ -24,7 +27,9 @@ use Rattle.fa_core.specs.declared.forest.Target.{Target}
 use Rattle.fa_core.specs.declared.forest.Target.TheVariants.{Null, Uninit, Dangling, At}
 use Rattle.fa_core.specs.Boxless.{HasNoBoxes}
 use Rattle.fa_core.specs.Choices.{numbers, all_numbers, bares}
-use Rattle.fa_core.specs.Dressed.{Node, Parts, Nodes, node, no_parts, field, link, hook, under, leaf, no_nodes, more, Fact, Head, Points, facts, tree_facts, slot_facts, forest_facts, value_in, nth_value, roots_of, number}
+use Rattle.fa_core.specs.Dressed.{Node, Parts, Nodes, node, no_parts, field, link, hook, under, leaf, no_nodes, more}
+use Rattle.fa_core.specs.Dressed.{Fact, Head, Points, facts, tree_facts, slot_facts, forest_facts, value_in, nth_value}
+use Rattle.fa_core.specs.Dressed.{roots_of, number}
 use Rattle.fa_core.specs.Filled.{IsFilled, IsFilledSpot, Spot, covers, fields_of, spots}
 use Rattle.fa_core.specs.Member.{OfForest, StandsBy, HasItsFields, store_facts, cell_facts, points, bare, slots_of}
 use Rattle.fa_core.specs.Rearranged.{Rearranged, keep, chain}
@@ -36,28 +41,36 @@ use Rattle.fa_core.proofs.PlainNodes.{trees_no_edges}
 use Rattle.fa_core.proofs.Rearranging.{equal, back, after, both, exchange}
 use Rattle.fa_sound.proofs.Choices.{filled_trees}
 use Rattle.fa_sound.proofs.NothingGiven.{nothing_given}
-use Rattle.fa_merge.specs.Dropped.{drop_leaf, node_at, without_node, dropped, AreLeaves, IsFlatRoot, IsCut, Restores, without_cell}
+use Rattle.fa_merge.specs.Dropped.{drop_leaf, node_at, without_node, dropped, AreLeaves, IsFlatRoot, IsCut, Restores}
+use Rattle.fa_merge.specs.Dropped.{without_cell}
 use Rattle.fa_merge.proofs.DroppedFacts.{dangle_fact, dangle_self, leaves_dropped, facts_dropped}
 use Rattle.fa_merge.proofs.DroppedSound.{without_plain}
 use Rattle.fa_merge.proofs.FactReach.{fact_cell, fact_value, top_in}
-use Rattle.fa_merge.proofs.FieldFacts.{no_list, first_same, later_same, unmap, split_map, is_head, fact_field, IsOwn, every_there, in_order, fact_count}
+use Rattle.fa_merge.proofs.FieldFacts.{no_list, first_same, later_same, unmap, split_map, is_head, fact_field, IsOwn}
+use Rattle.fa_merge.proofs.FieldFacts.{every_there, in_order, fact_count}
 use Rattle.fa_merge.proofs.StoreLeaks.{same_numbers, has_cell}
 
 -- The cells of a store.
 
 -- the cells of the facts, if their values are Dangling where they name c
 module _ (c : ℕ) where
-  points_lift : (n k : ℕ) (xs : List Fact) (us : List Value) → map (dangle_fact c) xs ≡ points n k us → (ws : List Value) × (points n k ws ≡ xs) × (map (dangle c) ws ≡ us)
+  points_lift : (n k : ℕ) (xs : List Fact) (us : List Value) → map (dangle_fact c) xs ≡ points n k us
+      → (ws : List Value) × (points n k ws ≡ xs) × (map (dangle c) ws ≡ us)
   points_lift n k [] [] e = ([], refl, refl)
   points_lift n k [] (u ∷ us) e = absurd (no_list e)
   points_lift n k (x ∷ xs) [] e = absurd (no_list (sym e))
   points_lift n k (Head m s ds ∷ xs) (u ∷ us) e = absurd (true≢false (ap is_head (first_same e)))
   points_lift n k (Points m f w ∷ xs) (u ∷ us) e =
       let p = points_lift n (suc k) xs us (later_same e) in
-      let h : Points m f (dangle c w) ≡ Points n k u = first_same e in
-      (w ∷ p.0, ap₂ (λ (x : Fact) (ys : List Fact). x ∷ ys) (ap₂ (λ (y g : ℕ). Points y g w) (sym (ap fact_cell h)) (sym (ap fact_field h))) p.1, ap₂ (λ (y : Value) (ys : List Value). y ∷ ys) (ap fact_value h) p.2)
+      let h : Points m f (dangle c w) ≡ Points n k u = first_same e in (
+        w ∷ p.0,
+        ap₂ (λ (x : Fact) (ys : List Fact). x ∷ ys)
+            (ap₂ (λ (y g : ℕ). Points y g w) (sym (ap fact_cell h)) (sym (ap fact_field h))) p.1,
+        ap₂ (λ (y : Value) (ys : List Value). y ∷ ys) (ap fact_value h) p.2,
+      )
 
-  store_lift : (xs : List Fact) (cs : List CellRec) → map (dangle_fact c) xs ≡ store_facts cs → (ks : List CellRec) × (store_facts ks ≡ xs) × (map (dangle_in c) ks ≡ cs)
+  store_lift : (xs : List Fact) (cs : List CellRec) → map (dangle_fact c) xs ≡ store_facts cs → (ks : List CellRec)
+      × (store_facts ks ≡ xs) × (map (dangle_in c) ks ≡ cs)
   store_lift [] [] e = ([], refl, refl)
   store_lift (x ∷ xs) [] e = absurd (no_list (sym e))
   store_lift [] (y ∷ cs) e = absurd (no_list e)
@@ -67,7 +80,8 @@ module _ (c : ℕ) where
       let p = points_lift y.number 0 k.0 y.fields k.3 in
       let q = store_lift k.1 cs k.4 in (
         record y { fields = p.0 } ∷ q.0,
-        ap₂ (λ (x : Fact) (ys : List Fact). x ∷ ys) (sym (first_same e)) (ap₂ (λ (ys zs : List Fact). ys ++ zs) p.1 q.1 ∙ sym k.2),
+        ap₂ (λ (x : Fact) (ys : List Fact). x ∷ ys) (sym (first_same e))
+            (ap₂ (λ (ys zs : List Fact). ys ++ zs) p.1 q.1 ∙ sym k.2),
         ap₂ (λ (fs : List Value) (ys : List CellRec). record y { fields = fs } ∷ ys) p.2 q.2,
       )
 
@@ -92,22 +106,26 @@ module _ (c : ℕ) where
   none_left [] h = refl
   none_left (x ∷ ks) h = here (nat_eq x.number c) refl (none_left ks (λ i. h (inr i)))
     where
-      here : (b : Bool) → nat_eq x.number c ≡ b → without c ks ≡ map (dangle_in c) ks → (if b then without c ks else dangle_in c x ∷ without c ks) ≡ dangle_in c x ∷ map (dangle_in c) ks
+      here : (b : Bool) → nat_eq x.number c ≡ b → without c ks ≡ map (dangle_in c) ks
+          → (if b then without c ks else dangle_in c x ∷ without c ks) ≡ dangle_in c x ∷ map (dangle_in c) ks
       here true e k = absurd (h (inl (eqb-true x.number c e)))
       here false e k = ap (λ (z : List CellRec). dangle_in c x ∷ z) k
 
   -- values with c among the cells again
-  name_back : (x : CellRec) (ks : List CellRec) → x.number ≡ c → (v : Value) → NamesCell (map (dangle_in c) ks) (dangle c v) → NamesCell (x ∷ ks) v
+  name_back : (x : CellRec) (ks : List CellRec) → x.number ≡ c → (v : Value)
+      → NamesCell (map (dangle_in c) ks) (dangle c v) → NamesCell (x ∷ ks) v
   name_back x ks e NullValue h = tt
   name_back x ks e UninitValue h = tt
   name_back x ks e DanglingValue h = tt
   name_back x ks e (Cell n) h = here (nat_eq n c) refl h
     where
-      here : (b : Bool) → nat_eq n c ≡ b → NamesCell (map (dangle_in c) ks) (if b then DanglingValue else Cell n) → HasCell (x ∷ ks) n
+      here : (b : Bool) → nat_eq n c ≡ b → NamesCell (map (dangle_in c) ks) (if b then DanglingValue else Cell n)
+          → HasCell (x ∷ ks) n
       here true q k = inl (e ∙ sym (eqb-true n c q))
       here false q k = inr (was_there ks n k)
 
-  names_back : (x : CellRec) (ks : List CellRec) → x.number ≡ c → (vs : List Value) → Every (NamesCell (map (dangle_in c) ks)) (map (dangle c) vs) → Every (NamesCell (x ∷ ks)) vs
+  names_back : (x : CellRec) (ks : List CellRec) → x.number ≡ c → (vs : List Value)
+      → Every (NamesCell (map (dangle_in c) ks)) (map (dangle c) vs) → Every (NamesCell (x ∷ ks)) vs
   names_back x ks e [] h = tt
   names_back x ks e (v ∷ vs) h = (name_back x ks e v h.0, names_back x ks e vs h.1)
 
@@ -117,13 +135,18 @@ module _ (c : ℕ) where
 
 -- The root's cell.
 
-root_first : (vs : List Value) (r : ℕ) (d : Nodes) (n : Node) → node_at d r ≡ Some n → Rearranged (forest_facts vs [] d) (tree_facts vs n ++ forest_facts vs [] (without_node r d))
+root_first : (vs : List Value) (r : ℕ) (d : Nodes) (n : Node) → node_at d r ≡ Some n
+    → Rearranged (forest_facts vs [] d) (tree_facts vs n ++ forest_facts vs [] (without_node r d))
 root_first vs r no_nodes n e = absurd (none-some n e)
-root_first vs zero (more m ms) n e = equal (ap (λ (x : Node). tree_facts vs x ++ forest_facts vs [] ms) (same_Some m n e))
-root_first vs (suc r) (more m ms) n e = chain (after (tree_facts vs m) (root_first vs r ms n e)) (exchange (tree_facts vs m) (tree_facts vs n) (forest_facts vs [] (without_node r ms)))
+root_first vs zero (more m ms) n e =
+    equal (ap (λ (x : Node). tree_facts vs x ++ forest_facts vs [] ms) (same_Some m n e))
+root_first vs (suc r) (more m ms) n e =
+    chain (after (tree_facts vs m) (root_first vs r ms n e))
+    (exchange (tree_facts vs m) (tree_facts vs n) (forest_facts vs [] (without_node r ms)))
 
 -- its slots are its fields
-flat_fields : (bs : List BoxFace) (vs : List Value) (c : ℕ) (ps : Parts) → AreLeaves ps → map fact_field (slot_facts vs c ps) ≡ flat_map (covers bs) (slots_of ps)
+flat_fields : (bs : List BoxFace) (vs : List Value) (c : ℕ) (ps : Parts) → AreLeaves ps
+    → map fact_field (slot_facts vs c ps) ≡ flat_map (covers bs) (slots_of ps)
 flat_fields bs vs c no_parts h = refl
 flat_fields bs vs c (field f (leaf t) ps) h = ap (λ (z : List ℕ). f ∷ z) (flat_fields bs vs c ps h)
 flat_fields bs vs c (field f (under n) ps) h = absurd h
@@ -138,29 +161,38 @@ flat_own vs c (link b i e ps) h = absurd h
 flat_own vs c (hook b i ps) h = absurd h
 
 -- the value at each of its slots is what a leaf is
-leaf_values : (P : Value → Type 0) (vs : List Value) (c : ℕ) (ps : Parts) → AreLeaves ps → ((t : Target) → P (value_in vs t)) → Every (λ (x : Fact). P (fact_value x)) (slot_facts vs c ps)
+leaf_values : (P : Value → Type 0) (vs : List Value) (c : ℕ) (ps : Parts) → AreLeaves ps
+    → ((t : Target) → P (value_in vs t)) → Every (λ (x : Fact). P (fact_value x)) (slot_facts vs c ps)
 leaf_values P vs c no_parts h f = tt
 leaf_values P vs c (field g (leaf t) ps) h f = (f t, leaf_values P vs c ps h f)
 leaf_values P vs c (field g (under n) ps) h f = absurd h
 leaf_values P vs c (link b i e ps) h f = absurd h
 leaf_values P vs c (hook b i ps) h f = absurd h
 
-values_of : (P : Value → Type 0) (xs : List Fact) → Every (λ (x : Fact). P (fact_value x)) xs → Every P (map fact_value xs)
+values_of : (P : Value → Type 0) (xs : List Fact) → Every (λ (x : Fact). P (fact_value x)) xs
+    → Every P (map fact_value xs)
 values_of P xs h = every_map fact_value P xs h
 
 -- the spot of a root's cell
-root_spot : (face : Face) (tops : List ℕ) (c s : ℕ) (ds : List Datum) (ps : Parts) (r : ℕ) (d : Nodes) → node_at d r ≡ Some (node c s ds ps) → Every (λ (t : Tree). Every (IsFilledSpot face tops) (spots face.boxes t [])) (bares d)
+root_spot : (face : Face) (tops : List ℕ) (c s : ℕ) (ds : List Datum) (ps : Parts) (r : ℕ) (d : Nodes)
+    → node_at d r ≡ Some (node c s ds ps)
+    → Every (λ (t : Tree). Every (IsFilledSpot face tops) (spots face.boxes t [])) (bares d)
     → Rearranged (fields_of face.shapes.structs s) (flat_map (covers face.boxes) (slots_of ps))
 root_spot face tops c s ds ps r no_nodes e h = absurd (none-some (node c s ds ps) e)
 root_spot face tops c s ds ps zero (more n ns) e h =
-    let y : Every (IsFilledSpot face tops) (spots face.boxes (bare (node c s ds ps)) []) = subst (λ (m : Node). Every (IsFilledSpot face tops) (spots face.boxes (bare m) [])) (same_Some n (node c s ds ps) e) h.0 in
-    let z : Every (IsFilledSpot face tops) (node_spots face.boxes (node c s ds ps) []) = subst (λ (l : List Spot). Every (IsFilledSpot face tops) l) (spots_are face.boxes (node c s ds ps) []) y in
-    subst (λ (l : List ℕ). Rearranged (fields_of face.shapes.structs s) l) (append-nil (flat_map (covers face.boxes) (slots_of ps))) z.0.once
+    let y : Every (IsFilledSpot face tops) (spots face.boxes (bare (node c s ds ps)) []) =
+    subst (λ (m : Node). Every (IsFilledSpot face tops) (spots face.boxes (bare m) []))
+    (same_Some n (node c s ds ps) e) h.0 in
+    let z : Every (IsFilledSpot face tops) (node_spots face.boxes (node c s ds ps) []) =
+    subst (λ (l : List Spot). Every (IsFilledSpot face tops) l) (spots_are face.boxes (node c s ds ps) []) y in
+    subst (λ (l : List ℕ). Rearranged (fields_of face.shapes.structs s) l)
+    (append-nil (flat_map (covers face.boxes) (slots_of ps))) z.0.once
 root_spot face tops c s ds ps (suc r) (more n ns) e h = root_spot face tops c s ds ps r ns e h.1
 
 -- Values that name cells of the store.
 
-pub roots_named : (cs : List CellRec) (d : Nodes) → ((n : ℕ) → IsIn n (all_numbers d) → HasCell cs n) → (k : ℕ) → NamesCell cs (nth_value (roots_of d) k)
+pub roots_named : (cs : List CellRec) (d : Nodes) → ((n : ℕ) → IsIn n (all_numbers d) → HasCell cs n) → (k : ℕ)
+    → NamesCell cs (nth_value (roots_of d) k)
 roots_named cs no_nodes h k = tt
 roots_named cs (more n ns) h zero = h (number n) (in_left (number n) (numbers n) (all_numbers ns) (top_in n))
 roots_named cs (more n ns) h (suc k) = roots_named cs ns (λ m i. h m (in_right m (numbers n) (all_numbers ns) i)) k
@@ -184,7 +216,8 @@ values_same (v ∷ vs) = ap₂ (λ (x : Value) (ys : List Value). x ∷ ys) (val
 
 cells_same : (cs : List CellRec) → map (cell_renamed (λ n. n)) cs ≡ cs
 cells_same [] = refl
-cells_same (x ∷ cs) = ap₂ (λ (fs : List Value) (ys : List CellRec). record x { fields = fs } ∷ ys) (values_same x.fields) (cells_same cs)
+cells_same (x ∷ cs) = ap₂ (λ (fs : List Value) (ys : List CellRec). record x { fields = fs } ∷ ys)
+    (values_same x.fields) (cells_same cs)
 
 alike_by : (s t : Store) → s.vars ≡ t.vars → s.data_vars ≡ t.data_vars → s.cells ≡ t.cells → IsAlike s t
 alike_by s t v d c = record {
@@ -192,10 +225,13 @@ alike_by s t v d c = record {
   one_to_one = λ m n i j e. e;
   vars = sym (values_same s.vars ∙ v);
   data_vars = sym d;
-  cells = subst (λ (z : List CellRec). IsPermutation z t.cells) (sym (cells_same s.cells ∙ c)) (IsPermutation-refl t.cells);
+  cells = subst (λ (z : List CellRec). IsPermutation z t.cells) (sym (cells_same s.cells ∙ c))
+      (IsPermutation-refl t.cells);
 }
 
-module _ (T : List BoxDef) (face : Face) (F G : Forest) (r : ℕ) (plain : Every HasNoBoxes F.autos) (plain_cut : Every HasNoBoxes G.autos) (filled : IsFilled face F) (cut : IsCut T F G r) (d : Nodes) (u : Store) (h : StandsBy face.shapes.structs T G d u) where
+module _ (T : List BoxDef) (face : Face) (F G : Forest) (r : ℕ) (plain : Every HasNoBoxes F.autos)
+    (plain_cut : Every HasNoBoxes G.autos) (filled : IsFilled face F) (cut : IsCut T F G r) (d : Nodes) (u : Store)
+    (h : StandsBy face.shapes.structs T G d u) where
   abbrev hs : List Shape
   hs = face.shapes.structs
 
@@ -203,7 +239,8 @@ module _ (T : List BoxDef) (face : Face) (F G : Forest) (r : ℕ) (plain : Every
   abbrev c : ℕ
   c = u.next
 
-  module _ (e : Nodes) (of : OfForest T F e) (is_cut : dropped r e ≡ d) (s : ℕ) (ds : List Datum) (ps : Parts) (is : node_at e r ≡ Some (node c s ds ps)) (flat : AreLeaves ps) where
+  module _ (e : Nodes) (of : OfForest T F e) (is_cut : dropped r e ≡ d) (s : ℕ) (ds : List Datum) (ps : Parts)
+      (is : node_at e r ≡ Some (node c s ds ps)) (flat : AreLeaves ps) where
     abbrev vs : List Value
     vs = roots_of e
 
@@ -211,15 +248,20 @@ module _ (T : List BoxDef) (face : Face) (F G : Forest) (r : ℕ) (plain : Every
     rest = without_node r e
 
     there : (n : ℕ) → IsIn n (all_numbers d) → HasCell u.cells n
-    there n i = has_cell u.cells n (in_rearranged n (same_numbers hs T G d u h (trees_no_edges T G.autos d plain_cut h.of)) i)
+    there n i = has_cell u.cells n
+        (in_rearranged n (same_numbers hs T G d u h (trees_no_edges T G.autos d plain_cut h.of)) i)
 
     apart : IsIn c (all_numbers rest) → ⊥
     apart i =
-        let l = every_below u.cells c c h.proper.below (there c (subst (λ (z : Nodes). IsIn c (all_numbers z)) is_cut (subst (λ (z : List ℕ). IsIn c z) (sym (all_numbers_placed (drop_leaf r) rest)) i))) in
+        let l = every_below u.cells c c h.proper.below
+        (there c
+        (subst (λ (z : Nodes). IsIn c (all_numbers z)) is_cut
+        (subst (λ (z : List ℕ). IsIn c z) (sym (all_numbers_placed (drop_leaf r) rest)) i))) in
         absurd (omega (arith, l))
 
     rest_facts : map (dangle_fact c) (forest_facts vs [] rest) ≡ facts d
-    rest_facts = sym (facts_dropped c s ds ps r e is apart (without_plain r e (trees_no_edges T F.autos e plain of))) ∙ ap facts is_cut
+    rest_facts = sym (facts_dropped c s ds ps r e is apart (without_plain r e (trees_no_edges T F.autos e plain of)))
+        ∙ ap facts is_cut
 
     lifted : (xs : List Fact) × Rearranged (forest_facts vs [] rest) xs × (map (dangle_fact c) xs ≡ store_facts u.cells)
     lifted = unmap (dangle_fact c) h.same_facts (forest_facts vs [] rest) rest_facts
@@ -237,13 +279,16 @@ module _ (T : List BoxDef) (face : Face) (F G : Forest) (r : ℕ) (plain : Every
         let choice = choice_of T F.autos e of in
         let cf = filled.trees ts choice in
         let old = filled_trees face ts (nothing_given face.boxes F.autos plain ts choice) cf.tops 0 ts cf.cells in
-        subst (λ (z : List ℕ). Rearranged z (fields_of hs s)) (sym (flat_fields face.boxes vs c ps flat)) (back (root_spot face cf.tops c s ds ps r e is old))
+        subst (λ (z : List ℕ). Rearranged z (fields_of hs s)) (sym (flat_fields face.boxes vs c ps flat))
+        (back (root_spot face cf.tops c s ds ps r e is old))
 
     fields_back : (xs : List Fact) × Rearranged (slot_facts vs c ps) xs × (map fact_field xs ≡ fields_of hs s)
     fields_back = unmap fact_field slots (slot_facts vs c ps) refl
 
-    ordered : (points c 0 (map fact_value fields_back.0) ≡ fields_back.0) × (length fields_back.0 ≡ length (targets_of hs s))
-    ordered = in_order c 0 fields_back.0 (targets_of hs s) (every_there (IsOwn c) fields_back.1 (flat_own vs c ps flat)) fields_back.2
+    ordered : (points c 0 (map fact_value fields_back.0) ≡ fields_back.0)
+        × (length fields_back.0 ≡ length (targets_of hs s))
+    ordered = in_order c 0 fields_back.0 (targets_of hs s) (every_there (IsOwn c) fields_back.1 (flat_own vs c ps flat))
+        fields_back.2
 
     abbrev root : CellRec
     root = record { number = c; shape = s; datums = ds; fields = map fact_value fields_back.0 }
@@ -253,7 +298,8 @@ module _ (T : List BoxDef) (face : Face) (F G : Forest) (r : ℕ) (plain : Every
 
     not_there : HasCell ks c → ⊥
     not_there i =
-        let l = every_below u.cells c c h.proper.below (subst (λ (z : List CellRec). HasCell z c) cells_back.2 (is_there c ks c i)) in
+        let l = every_below u.cells c c h.proper.below
+        (subst (λ (z : List CellRec). HasCell z c) cells_back.2 (is_there c ks c i)) in
         absurd (omega (arith, l))
 
     target_named : (t : Target) → NamesCell (map (dangle_in c) ks) (dangle c (value_in vs t))
@@ -269,12 +315,17 @@ module _ (T : List BoxDef) (face : Face) (F G : Forest) (r : ℕ) (plain : Every
             here true = tt
             here false = k
 
-        root_value : (x : Nodes) (j k : ℕ) → ((n : ℕ) → IsIn n (all_numbers (without_node j x)) → HasCell u.cells n) → nth_value (roots_of x) j ≡ Cell c → NamesCell u.cells (dangle c (nth_value (roots_of x) k))
+        root_value : (x : Nodes) (j k : ℕ) → ((n : ℕ) → IsIn n (all_numbers (without_node j x)) → HasCell u.cells n)
+            → nth_value (roots_of x) j ≡ Cell c → NamesCell u.cells (dangle c (nth_value (roots_of x) k))
         root_value no_nodes j k f q = tt
-        root_value (more n ns) zero zero f q = subst (λ (z : Value). NamesCell u.cells z) (sym (ap (dangle c) q ∙ dangle_self c)) tt
+        root_value (more n ns) zero zero f q =
+            subst (λ (z : Value). NamesCell u.cells z) (sym (ap (dangle c) q ∙ dangle_self c)) tt
         root_value (more n ns) zero (suc k) f q = apart_value (nth_value (roots_of ns) k) (roots_named u.cells ns f k)
-        root_value (more n ns) (suc j) zero f q = apart_value (Cell (number n)) (f (number n) (in_left (number n) (numbers n) (all_numbers (without_node j ns)) (top_in n)))
-        root_value (more n ns) (suc j) (suc k) f q = root_value ns j k (λ m i. f m (in_right m (numbers n) (all_numbers (without_node j ns)) i)) q
+        root_value (more n ns) (suc j) zero f q =
+            apart_value (Cell (number n))
+            (f (number n) (in_left (number n) (numbers n) (all_numbers (without_node j ns)) (top_in n)))
+        root_value (more n ns) (suc j) (suc k) f q =
+            root_value ns j k (λ m i. f m (in_right m (numbers n) (all_numbers (without_node j ns)) i)) q
 
         own_value : (j : ℕ) (x : Nodes) → node_at x j ≡ Some (node c s ds ps) → nth_value (roots_of x) j ≡ Cell c
         own_value j no_nodes q = absurd (none-some (node c s ds ps) q)
@@ -285,7 +336,11 @@ module _ (T : List BoxDef) (face : Face) (F G : Forest) (r : ℕ) (plain : Every
         value Null = tt
         value Uninit = tt
         value Dangling = tt
-        value (At k) = root_value e r k (λ n i. there n (subst (λ (z : Nodes). IsIn n (all_numbers z)) is_cut (subst (λ (z : List ℕ). IsIn n z) (sym (all_numbers_placed (drop_leaf r) rest)) i))) (own_value r e is)
+        value (At k) = root_value e r k
+            (λ n i.
+            there n
+            (subst (λ (z : Nodes). IsIn n (all_numbers z)) is_cut
+            (subst (λ (z : List ℕ). IsIn n z) (sym (all_numbers_placed (drop_leaf r) rest)) i))) (own_value r e is)
 
     vars_back : map (dangle c) (map (value_in vs) F.vars) ≡ u.vars
     vars_back =
@@ -299,33 +354,45 @@ module _ (T : List BoxDef) (face : Face) (F G : Forest) (r : ℕ) (plain : Every
     by_target (t ∷ ts) = (name_back c root ks refl (value_in vs t) (target_named t), by_target ts)
 
     own_fields : Every (NamesCell (root ∷ ks)) (map fact_value fields_back.0)
-    own_fields = values_of (NamesCell (root ∷ ks)) fields_back.0 (every_there (λ (x : Fact). NamesCell (root ∷ ks) (fact_value x)) fields_back.1 (leaf_values (NamesCell (root ∷ ks)) vs c ps flat (λ t. name_back c root ks refl (value_in vs t) (target_named t))))
+    own_fields = values_of (NamesCell (root ∷ ks)) fields_back.0
+        (every_there (λ (x : Fact). NamesCell (root ∷ ks) (fact_value x)) fields_back.1
+        (leaf_values (NamesCell (root ∷ ks)) vs c ps flat
+        (λ t. name_back c root ks refl (value_in vs t) (target_named t))))
 
     before : (P Q : CellRec → Type 0) → Every P u.cells → ((x : CellRec) → P (dangle_in c x) → Q x) → Every Q ks
-    before P Q k f = every_weaker (λ (x : CellRec). P (dangle_in c x)) Q ks f (every_mapped (dangle_in c) P ks (subst (λ (z : List CellRec). Every P z) (sym cells_back.2) k))
+    before P Q k f = every_weaker (λ (x : CellRec). P (dangle_in c x)) Q ks f
+        (every_mapped (dangle_in c) P ks (subst (λ (z : List CellRec). Every P z) (sym cells_back.2) k))
 
     proper : IsProper store
     proper = record {
       differ = (not_there, did_differ c ks (subst AllDiffer (sym cells_back.2) h.proper.differ));
-      below = (omega arith, before (λ x. x.number < c) (λ x. x.number < suc c) h.proper.below (λ x l. omega (arith, l)));
+      below =
+          (omega arith, before (λ x. x.number < c) (λ x. x.number < suc c) h.proper.below (λ x l. omega (arith, l)));
       vars = by_target F.vars;
       fields = (
         own_fields,
         before (λ x. Every (NamesCell u.cells) x.fields) (λ x. Every (NamesCell (root ∷ ks)) x.fields) h.proper.fields
-            (λ x k. names_back c root ks refl x.fields (subst (λ (z : List CellRec). Every (NamesCell z) (map (dangle c) x.fields)) (sym cells_back.2) k)),
+            (λ x k. names_back c root ks refl x.fields
+            (subst (λ (z : List CellRec). Every (NamesCell z) (map (dangle c) x.fields)) (sym cells_back.2) k)),
       );
     }
 
     root_facts : Rearranged (tree_facts vs (node c s ds ps)) (cell_facts root)
-    root_facts = keep (Head c s ds) (subst (λ (z : List Fact). Rearranged (slot_facts vs c ps) z) (sym ordered.0) fields_back.1)
+    root_facts = keep (Head c s ds)
+        (subst (λ (z : List Fact). Rearranged (slot_facts vs c ps) z) (sym ordered.0) fields_back.1)
 
     same_cells : Rearranged (facts e) (store_facts store.cells)
-    same_cells = chain (root_first vs r e (node c s ds ps) is) (both root_facts (subst (λ (z : List Fact). Rearranged (forest_facts vs [] rest) z) (sym cells_back.1) lifted.1))
+    same_cells = chain (root_first vs r e (node c s ds ps) is)
+        (both root_facts
+        (subst (λ (z : List Fact). Rearranged (forest_facts vs [] rest) z) (sym cells_back.1) lifted.1))
 
     stands : StandsBy hs T F e store
     stands = record {
       proper = proper;
-      fields = (fact_count fields_back.0 ∙ ordered.1, before (HasItsFields hs) (HasItsFields hs) h.fields (λ x k. sym (as_many c x.fields) ∙ k));
+      fields = (
+        fact_count fields_back.0 ∙ ordered.1,
+        before (HasItsFields hs) (HasItsFields hs) h.fields (λ x k. sym (as_many c x.fields) ∙ k),
+      );
       of = of;
       same_facts = same_cells;
       vars = refl;
@@ -338,12 +405,20 @@ module _ (T : List BoxDef) (face : Face) (F G : Forest) (r : ℕ) (plain : Every
     alike : IsAlike (without_cell c store) u
     alike = alike_by (without_cell c store) u vars_back (sym cut.data_vars ∙ sym h.data_vars) own_out
 
-  pub store_back : (e : Nodes) × (s : Store) × (c : ℕ) × IsFlatRoot e r c × StandsBy hs T F e s × IsAlike (without_cell c s) u
+  pub store_back : (e : Nodes) × (s : Store) × (c : ℕ) × IsFlatRoot e r c × StandsBy hs T F e s
+      × IsAlike (without_cell c s) u
   store_back =
       let b = cut.back d h.of c in
-      let x = b.3 in
-      (b.0, store b.0 b.1 b.2 x.0 x.1 x.2 x.3 x.4, c, x, stands b.0 b.1 b.2 x.0 x.1 x.2 x.3 x.4, alike b.0 b.1 b.2 x.0 x.1 x.2 x.3 x.4)
+      let x = b.3 in (
+        b.0,
+        store b.0 b.1 b.2 x.0 x.1 x.2 x.3 x.4,
+        c,
+        x,
+        stands b.0 b.1 b.2 x.0 x.1 x.2 x.3 x.4,
+        alike b.0 b.1 b.2 x.0 x.1 x.2 x.3 x.4,
+      )
 
 -- each store of the forest cut is one of the forest without the root's cell
-pub store_restored : (T : List BoxDef) (face : Face) (F G : Forest) (r : ℕ) → Every HasNoBoxes F.autos → Every HasNoBoxes G.autos → IsFilled face F → IsCut T F G r → Restores face.shapes.structs T F G r
+pub store_restored : (T : List BoxDef) (face : Face) (F G : Forest) (r : ℕ) → Every HasNoBoxes F.autos
+    → Every HasNoBoxes G.autos → IsFilled face F → IsCut T F G r → Restores face.shapes.structs T F G r
 store_restored T face F G r plain plain_cut filled cut d u h = store_back T face F G r plain plain_cut filled cut d u h

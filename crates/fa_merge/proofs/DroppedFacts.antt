@@ -1,5 +1,7 @@
--- The facts of a dressed forest without one of its roots: those of the other trees, with Dangling in the place of the root's cell.
-use Rattle.std.proofs.Common.{◌≡◌, ◌≢◌, ◌⊎◌, inl, inr, ℕ, zero, suc, Bool, true, false, true≢false, if◌then◌else◌, nat_eq, List, [], ◌∷◌, ◌++◌, map, refl, sym, ap, ap₂, subst, ◌∙◌, Some, arith}
+-- The facts of a dressed forest without one of its roots: those of the other trees, with Dangling in the place of the
+-- root's cell.
+use Rattle.std.proofs.Common.{◌≡◌, ◌≢◌, ◌⊎◌, inl, inr, ℕ, zero, suc, Bool, true, false, true≢false, if◌then◌else◌}
+use Rattle.std.proofs.Common.{nat_eq, List, [], ◌∷◌, ◌++◌, map, refl, sym, ap, ap₂, subst, ◌∙◌, Some, arith}
 use Rattle.std.proofs.lemmas.Bool.{eqb-true, eq-eqb}
 use Rattle.std.proofs.lemmas.Option.{none-some, same_Some}
 use Rattle.fore_base.specs.Lists.{IsIn, Every}
@@ -12,7 +14,9 @@ use Rattle.fore_base.proofs.ListLemmas.{in_left, in_right, in_append}
 use Rattle.fa_core.specs.declared.forest.Target.{Target}
 use Rattle.fa_core.specs.declared.forest.Target.TheVariants.{Null, Uninit, Dangling, At}
 use Rattle.fa_core.specs.Choices.{numbers, numbers_of, end_numbers, all_numbers}
-use Rattle.fa_core.specs.Dressed.{Node, Parts, End, Nodes, node, no_parts, field, link, hook, under, leaf, no_nodes, more, Fact, Head, Points, tree_facts, slot_facts, end_facts, forest_facts, value_in, nth_value, roots_of, number}
+use Rattle.fa_core.specs.Dressed.{Node, Parts, End, Nodes, node, no_parts, field, link, hook, under, leaf, no_nodes}
+use Rattle.fa_core.specs.Dressed.{more, Fact, Head, Points, tree_facts, slot_facts, end_facts, forest_facts, value_in}
+use Rattle.fa_core.specs.Dressed.{nth_value, roots_of, number}
 use Rattle.fa_core.specs.Member.{store_facts, cell_facts, points}
 use Rattle.fa_core.specs.Placed.{placed, placed_leaf, placed_parts, placed_all}
 use Rattle.fa_core.specs.Rearranged.{Rearranged, empty, keep, swap, chain}
@@ -42,13 +46,17 @@ dangle_other c n d = here (nat_eq n c) refl
     here false e = refl
 
 -- values of roots, none of which is the cell
-nth_apart : (c : ℕ) (d : Nodes) (k : ℕ) → (IsIn c (all_numbers d) → ⊥) → dangle c (nth_value (roots_of d) k) ≡ nth_value (roots_of d) k
+nth_apart : (c : ℕ) (d : Nodes) (k : ℕ) → (IsIn c (all_numbers d) → ⊥) → dangle c (nth_value (roots_of d) k)
+    ≡ nth_value (roots_of d) k
 nth_apart c no_nodes k h = refl
-nth_apart c (more n ns) zero h = dangle_other c (number n) (λ e. h (in_left c (numbers n) (all_numbers ns) (subst (λ (m : ℕ). IsIn m (numbers n)) e (top_in n))))
+nth_apart c (more n ns) zero h =
+    dangle_other c (number n)
+    (λ e. h (in_left c (numbers n) (all_numbers ns) (subst (λ (m : ℕ). IsIn m (numbers n)) e (top_in n))))
 nth_apart c (more n ns) (suc k) h = nth_apart c ns k (λ i. h (in_right c (numbers n) (all_numbers ns) i))
 
 -- what the other roots are
-nth_kept : (c : ℕ) (r k : ℕ) (d : Nodes) → k ≢ r → (IsIn c (all_numbers (without_node r d)) → ⊥) → nth_value (roots_of (without_node r d)) (lowered r k) ≡ dangle c (nth_value (roots_of d) k)
+nth_kept : (c : ℕ) (r k : ℕ) (d : Nodes) → k ≢ r → (IsIn c (all_numbers (without_node r d)) → ⊥)
+    → nth_value (roots_of (without_node r d)) (lowered r k) ≡ dangle c (nth_value (roots_of d) k)
 nth_kept c r k no_nodes d h = refl
 nth_kept c zero zero (more n ns) d h = absurd (d refl)
 nth_kept c zero (suc k) (more n ns) d h =
@@ -58,38 +66,50 @@ nth_kept c zero (suc k) (more n ns) d h =
 nth_kept c (suc r) zero (more n ns) d h =
     let a : lowered (suc r) 0 ≡ 0 = lowered_below (suc r) 0 (omega arith) in
     ap (nth_value (Cell (number n) ∷ roots_of (without_node r ns))) a
-    ∙ sym (dangle_other c (number n) (λ e. h (in_left c (numbers n) (all_numbers (without_node r ns)) (subst (λ (m : ℕ). IsIn m (numbers n)) e (top_in n)))))
+    ∙ sym
+    (dangle_other c (number n)
+    (λ e.
+    h
+    (in_left c (numbers n) (all_numbers (without_node r ns)) (subst (λ (m : ℕ). IsIn m (numbers n)) e (top_in n)))))
 nth_kept c (suc r) (suc k) (more n ns) d h =
     ap (nth_value (Cell (number n) ∷ roots_of (without_node r ns))) (lowered_suc r k)
-    ∙ nth_kept c r k ns (λ e. d (ap (λ (m : ℕ). suc m) e)) (λ i. h (in_right c (numbers n) (all_numbers (without_node r ns)) i))
+    ∙ nth_kept c r k ns (λ e. d (ap (λ (m : ℕ). suc m) e))
+    (λ i. h (in_right c (numbers n) (all_numbers (without_node r ns)) i))
 
-nth_root : (c s : ℕ) (ds : List Datum) (ps : Parts) (r : ℕ) (d : Nodes) → node_at d r ≡ Some (node c s ds ps) → nth_value (roots_of d) r ≡ Cell c
+nth_root : (c s : ℕ) (ds : List Datum) (ps : Parts) (r : ℕ) (d : Nodes) → node_at d r ≡ Some (node c s ds ps)
+    → nth_value (roots_of d) r ≡ Cell c
 nth_root c s ds ps r no_nodes e = absurd (none-some (node c s ds ps) e)
 nth_root c s ds ps zero (more n ns) e = ap (λ (z : Node). Cell (number z)) (same_Some n (node c s ds ps) e)
 nth_root c s ds ps (suc r) (more n ns) e = nth_root c s ds ps r ns e
 
 -- Root r of d is the cell c, which is none of the others.
 
-module _ (c s : ℕ) (ds : List Datum) (ps : Parts) (r : ℕ) (d : Nodes) (is : node_at d r ≡ Some (node c s ds ps)) (apart : IsIn c (all_numbers (without_node r d)) → ⊥) where
+module _ (c s : ℕ) (ds : List Datum) (ps : Parts) (r : ℕ) (d : Nodes) (is : node_at d r ≡ Some (node c s ds ps))
+    (apart : IsIn c (all_numbers (without_node r d)) → ⊥) where
   abbrev vs : List Value
   vs = roots_of d
 
   abbrev ws : List Value
   ws = roots_of (dropped r d)
 
-  pub leaf_dropped : (t : Target) → value_in (roots_of (dropped r d)) (placed_leaf (drop_leaf r) t) ≡ dangle c (value_in (roots_of d) t)
+  pub leaf_dropped : (t : Target) → value_in (roots_of (dropped r d)) (placed_leaf (drop_leaf r) t)
+      ≡ dangle c (value_in (roots_of d) t)
   leaf_dropped Null = refl
   leaf_dropped Uninit = refl
   leaf_dropped Dangling = refl
   leaf_dropped (At k) = here (nat_eq r k) refl
     where
-      here : (b : Bool) → nat_eq r k ≡ b → value_in (roots_of (dropped r d)) (if b then Dangling else At (lowered r k)) ≡ dangle c (nth_value (roots_of d) k)
-      here true e = sym (ap (λ (j : ℕ). dangle c (nth_value (roots_of d) j)) (sym (eqb-true r k e)) ∙ ap (dangle c) (nth_root c s ds ps r d is) ∙ dangle_self c)
+      here : (b : Bool) → nat_eq r k ≡ b → value_in (roots_of (dropped r d)) (if b then Dangling else At (lowered r k))
+          ≡ dangle c (nth_value (roots_of d) k)
+      here true e =
+          sym (ap (λ (j : ℕ). dangle c (nth_value (roots_of d) j)) (sym (eqb-true r k e))
+          ∙ ap (dangle c) (nth_root c s ds ps r d is) ∙ dangle_self c)
       here false e =
           ap (λ (us : List Value). nth_value us (lowered r k)) (roots_placed (drop_leaf r) (without_node r d))
           ∙ nth_kept c r k d (λ z. true≢false (sym (eq-eqb r k (sym z)) ∙ e)) apart
 
-  pub leaves_dropped : (ts : List Target) → map (value_in (roots_of (dropped r d))) (map (placed_leaf (drop_leaf r)) ts) ≡ map (dangle c) (map (value_in (roots_of d)) ts)
+  pub leaves_dropped : (ts : List Target) → map (value_in (roots_of (dropped r d))) (map (placed_leaf (drop_leaf r)) ts)
+      ≡ map (dangle c) (map (value_in (roots_of d)) ts)
   leaves_dropped [] = refl
   leaves_dropped (t ∷ ts) = ap₂ (λ (v : Value) (us : List Value). v ∷ us) (leaf_dropped t) (leaves_dropped ts)
 
@@ -98,27 +118,39 @@ module _ (c s : ℕ) (ds : List Datum) (ps : Parts) (r : ℕ) (d : Nodes) (is : 
   map_both (x ∷ xs) ys = ap (λ (zs : List Fact). dangle_fact c x ∷ zs) (map_both xs ys)
 
   mutual
-    tree_dropped : (n : Node) → NoEdges n → (IsIn c (numbers n) → ⊥) → tree_facts ws (placed (drop_leaf r) n) ≡ map (dangle_fact c) (tree_facts vs n)
-    tree_dropped (node m q es us) b h = ap (λ (xs : List Fact). Head m q es ∷ xs) (slots_dropped m us b (λ i. h (inr i)))
+    tree_dropped : (n : Node) → NoEdges n → (IsIn c (numbers n) → ⊥) → tree_facts ws (placed (drop_leaf r) n)
+        ≡ map (dangle_fact c) (tree_facts vs n)
+    tree_dropped (node m q es us) b h =
+        ap (λ (xs : List Fact). Head m q es ∷ xs) (slots_dropped m us b (λ i. h (inr i)))
 
-    slots_dropped : (m : ℕ) (us : Parts) → NoEdgesOf us → (IsIn c (numbers_of us) → ⊥) → slot_facts ws m (placed_parts (drop_leaf r) us) ≡ map (dangle_fact c) (slot_facts vs m us)
+    slots_dropped : (m : ℕ) (us : Parts) → NoEdgesOf us → (IsIn c (numbers_of us) → ⊥)
+        → slot_facts ws m (placed_parts (drop_leaf r) us) ≡ map (dangle_fact c) (slot_facts vs m us)
     slots_dropped m no_parts b h = refl
-    slots_dropped m (field f (leaf t) us) b h = ap₂ (λ (v : Value) (xs : List Fact). Points m f v ∷ xs) (leaf_dropped t) (slots_dropped m us b.1 h)
+    slots_dropped m (field f (leaf t) us) b h =
+        ap₂ (λ (v : Value) (xs : List Fact). Points m f v ∷ xs) (leaf_dropped t) (slots_dropped m us b.1 h)
     slots_dropped m (field f (under n) us) b h =
         ap₂ (λ (v : Value) (xs : List Fact). Points m f v ∷ xs)
-        (ap Cell (number_placed (drop_leaf r) n) ∙ sym (dangle_other c (number n) (λ e. h (in_left c (numbers n) (numbers_of us) (subst (λ (k : ℕ). IsIn k (numbers n)) e (top_in n))))))
-        (ap₂ (λ (xs ys : List Fact). xs ++ ys) (tree_dropped n b.0 (λ i. h (in_left c (numbers n) (numbers_of us) i))) (slots_dropped m us b.1 (λ i. h (in_right c (numbers n) (numbers_of us) i))) ∙ sym (map_both (tree_facts vs n) (slot_facts vs m us)))
+        (ap Cell (number_placed (drop_leaf r) n)
+        ∙ sym
+        (dangle_other c (number n)
+        (λ e. h (in_left c (numbers n) (numbers_of us) (subst (λ (k : ℕ). IsIn k (numbers n)) e (top_in n))))))
+        (ap₂ (λ (xs ys : List Fact). xs ++ ys) (tree_dropped n b.0 (λ i. h (in_left c (numbers n) (numbers_of us) i)))
+        (slots_dropped m us b.1 (λ i. h (in_right c (numbers n) (numbers_of us) i)))
+        ∙ sym (map_both (tree_facts vs n) (slot_facts vs m us)))
     slots_dropped m (link a i e us) b h = absurd b
     slots_dropped m (hook a i us) b h = absurd b
 
-  all_dropped : (e : Nodes) → NoEdgesIn e → (IsIn c (all_numbers e) → ⊥) → forest_facts ws [] (placed_all (drop_leaf r) e) ≡ map (dangle_fact c) (forest_facts vs [] e)
+  all_dropped : (e : Nodes) → NoEdgesIn e → (IsIn c (all_numbers e) → ⊥)
+      → forest_facts ws [] (placed_all (drop_leaf r) e) ≡ map (dangle_fact c) (forest_facts vs [] e)
   all_dropped no_nodes b h = refl
   all_dropped (more n ns) b h =
-      ap₂ (λ (xs ys : List Fact). xs ++ ys) (tree_dropped n b.0 (λ i. h (in_left c (numbers n) (all_numbers ns) i))) (all_dropped ns b.1 (λ i. h (in_right c (numbers n) (all_numbers ns) i)))
+      ap₂ (λ (xs ys : List Fact). xs ++ ys) (tree_dropped n b.0 (λ i. h (in_left c (numbers n) (all_numbers ns) i)))
+      (all_dropped ns b.1 (λ i. h (in_right c (numbers n) (all_numbers ns) i)))
       ∙ sym (map_both (tree_facts vs n) (forest_facts vs [] ns))
 
   -- the facts without root r
-  pub facts_dropped : NoEdgesIn (without_node r d) → forest_facts (roots_of (dropped r d)) [] (dropped r d) ≡ map (dangle_fact c) (forest_facts (roots_of d) [] (without_node r d))
+  pub facts_dropped : NoEdgesIn (without_node r d) → forest_facts (roots_of (dropped r d)) [] (dropped r d)
+      ≡ map (dangle_fact c) (forest_facts (roots_of d) [] (without_node r d))
   facts_dropped b = all_dropped (without_node r d) b apart
 
 -- Facts but those of a cell.
@@ -132,12 +164,18 @@ module _ (c : ℕ) where
   but_moved empty = empty
   but_moved (keep x {xs} {ys} h) = here (nat_eq (fact_cell x) c) (but_moved h)
     where
-      here : (b : Bool) → Rearranged (but_facts c xs) (but_facts c ys) → Rearranged (if b then but_facts c xs else x ∷ but_facts c xs) (if b then but_facts c ys else x ∷ but_facts c ys)
+      here : (b : Bool) → Rearranged (but_facts c xs) (but_facts c ys)
+          → Rearranged (if b then but_facts c xs else x ∷ but_facts c xs)
+          (if b then but_facts c ys else x ∷ but_facts c ys)
       here true k = k
       here false k = keep x k
   but_moved (swap x y xs) = here (nat_eq (fact_cell x) c) (nat_eq (fact_cell y) c)
     where
-      here : (a b : Bool) → Rearranged (if a then (if b then but_facts c xs else y ∷ but_facts c xs) else x ∷ (if b then but_facts c xs else y ∷ but_facts c xs)) (if b then (if a then but_facts c xs else x ∷ but_facts c xs) else y ∷ (if a then but_facts c xs else x ∷ but_facts c xs))
+      here : (a b : Bool) → Rearranged
+          (if a then (if b then but_facts c xs else y ∷ but_facts c xs)
+          else x ∷ (if b then but_facts c xs else y ∷ but_facts c xs))
+          (if b then (if a then but_facts c xs else x ∷ but_facts c xs)
+          else y ∷ (if a then but_facts c xs else x ∷ but_facts c xs))
       here true true = same (but_facts c xs)
       here true false = same (y ∷ but_facts c xs)
       here false true = same (x ∷ but_facts c xs)
@@ -148,7 +186,9 @@ module _ (c : ℕ) where
   but_both [] ys = refl
   but_both (x ∷ xs) ys = here (nat_eq (fact_cell x) c) (but_both xs ys)
     where
-      here : (b : Bool) → but_facts c (xs ++ ys) ≡ but_facts c xs ++ but_facts c ys → (if b then but_facts c (xs ++ ys) else x ∷ but_facts c (xs ++ ys)) ≡ (if b then but_facts c xs else x ∷ but_facts c xs) ++ but_facts c ys
+      here : (b : Bool) → but_facts c (xs ++ ys) ≡ but_facts c xs ++ but_facts c ys
+          → (if b then but_facts c (xs ++ ys) else x ∷ but_facts c (xs ++ ys))
+          ≡ (if b then but_facts c xs else x ∷ but_facts c xs) ++ but_facts c ys
       here true e = e
       here false e = ap (λ (z : List Fact). x ∷ z) e
 
@@ -161,7 +201,8 @@ module _ (c : ℕ) where
   but_others [] h = refl
   but_others (x ∷ xs) h = here (nat_eq (fact_cell x) c) refl (but_others xs (λ y i. h y (inr i)))
     where
-      here : (b : Bool) → nat_eq (fact_cell x) c ≡ b → but_facts c xs ≡ xs → (if b then but_facts c xs else x ∷ but_facts c xs) ≡ x ∷ xs
+      here : (b : Bool) → nat_eq (fact_cell x) c ≡ b → but_facts c xs ≡ xs
+          → (if b then but_facts c xs else x ∷ but_facts c xs) ≡ x ∷ xs
       here true e k = absurd (h x (inl refl) (eqb-true (fact_cell x) c e))
       here false e k = ap (λ (z : List Fact). x ∷ z) k
 
@@ -179,12 +220,14 @@ module _ (vs : List Value) where
     tree_cell (node m q es us) b x (inl e) = inl (ap fact_cell e)
     tree_cell (node m q es us) b x (inr i) = elim (slots_cell m us b x i) [ inl e ↦ inl e | inr j ↦ inr j ]
 
-    slots_cell : (m : ℕ) (us : Parts) → NoEdgesOf us → (x : Fact) → IsIn x (slot_facts vs m us) → (fact_cell x ≡ m) ⊎ IsIn (fact_cell x) (numbers_of us)
+    slots_cell : (m : ℕ) (us : Parts) → NoEdgesOf us → (x : Fact) → IsIn x (slot_facts vs m us) → (fact_cell x ≡ m)
+        ⊎ IsIn (fact_cell x) (numbers_of us)
     slots_cell m no_parts b x i = absurd i
     slots_cell m (field f e us) b x (inl q) = inl (ap fact_cell q)
     slots_cell m (field f e us) b x (inr i) = elim (in_append x (end_facts vs e) (slot_facts vs m us) i) [
       | inl j ↦ inr (in_left (fact_cell x) (end_numbers e) (numbers_of us) (end_cell e b.0 x j))
-      | inr j ↦ elim (slots_cell m us b.1 x j) [ inl q ↦ inl q | inr k ↦ inr (in_right (fact_cell x) (end_numbers e) (numbers_of us) k) ]
+      | inr j ↦ elim (slots_cell m us b.1 x j)
+          [ inl q ↦ inl q | inr k ↦ inr (in_right (fact_cell x) (end_numbers e) (numbers_of us) k) ]
     ]
     slots_cell m (link a i e us) b x h = absurd b
     slots_cell m (hook a i us) b x h = absurd b
@@ -193,7 +236,8 @@ module _ (vs : List Value) where
     end_cell (under n) b x i = tree_cell n b x i
     end_cell (leaf t) b x i = absurd i
 
-  pub all_cell : (d : Nodes) → NoEdgesIn d → (x : Fact) → IsIn x (forest_facts vs [] d) → IsIn (fact_cell x) (all_numbers d)
+  pub all_cell : (d : Nodes) → NoEdgesIn d → (x : Fact) → IsIn x (forest_facts vs [] d)
+      → IsIn (fact_cell x) (all_numbers d)
   all_cell no_nodes b x i = absurd i
   all_cell (more n ns) b x i = elim (in_append x (tree_facts vs n) (forest_facts vs [] ns) i) [
     | inl j ↦ in_left (fact_cell x) (numbers n) (all_numbers ns) (tree_cell n b.0 x j)
@@ -201,15 +245,25 @@ module _ (vs : List Value) where
   ]
 
   -- the facts of the other trees
-  pub but_root : (c s : ℕ) (ds : List Datum) (ps : Parts) (r : ℕ) (d : Nodes) → node_at d r ≡ Some (node c s ds ps) → AreLeaves ps → NoEdgesIn d → (IsIn c (all_numbers (without_node r d)) → ⊥) → but_facts c (forest_facts vs [] d) ≡ forest_facts vs [] (without_node r d)
+  pub but_root : (c s : ℕ) (ds : List Datum) (ps : Parts) (r : ℕ) (d : Nodes) → node_at d r ≡ Some (node c s ds ps)
+      → AreLeaves ps → NoEdgesIn d → (IsIn c (all_numbers (without_node r d)) → ⊥) → but_facts c (forest_facts vs [] d)
+      ≡ forest_facts vs [] (without_node r d)
   but_root c s ds ps r no_nodes e f b h = absurd (none-some (node c s ds ps) e)
   but_root c s ds ps zero (more n ns) e f b h =
       but_both c (tree_facts vs n) (forest_facts vs [] ns)
-      ∙ ap₂ (λ (xs ys : List Fact). xs ++ ys) (subst (λ (z : Node). but_facts c (tree_facts vs z) ≡ []) (sym (same_Some n (node c s ds ps) e)) (but_own c (tree_facts vs (node c s ds ps)) (refl, flat_own c vs ps f)))
-      (but_others c (forest_facts vs [] ns) (λ x i q. h (subst (λ (m : ℕ). IsIn m (all_numbers ns)) q (all_cell ns b.1 x i))))
+      ∙ ap₂ (λ (xs ys : List Fact). xs ++ ys)
+      (subst (λ (z : Node). but_facts c (tree_facts vs z) ≡ []) (sym (same_Some n (node c s ds ps) e))
+      (but_own c (tree_facts vs (node c s ds ps)) (refl, flat_own c vs ps f)))
+      (but_others c (forest_facts vs [] ns)
+      (λ x i q. h (subst (λ (m : ℕ). IsIn m (all_numbers ns)) q (all_cell ns b.1 x i))))
   but_root c s ds ps (suc r) (more n ns) e f b h =
       but_both c (tree_facts vs n) (forest_facts vs [] ns)
-      ∙ ap₂ (λ (xs ys : List Fact). xs ++ ys) (but_others c (tree_facts vs n) (λ x i q. h (in_left c (numbers n) (all_numbers (without_node r ns)) (subst (λ (m : ℕ). IsIn m (numbers n)) q (tree_cell n b.0 x i)))))
+      ∙ ap₂ (λ (xs ys : List Fact). xs ++ ys)
+      (but_others c (tree_facts vs n)
+      (λ x i q.
+      h
+      (in_left c (numbers n) (all_numbers (without_node r ns))
+      (subst (λ (m : ℕ). IsIn m (numbers n)) q (tree_cell n b.0 x i)))))
       (but_root c s ds ps r ns e f b.1 (λ i. h (in_right c (numbers n) (all_numbers (without_node r ns)) i)))
 
 -- The facts of a store without a cell.
@@ -235,18 +289,33 @@ module _ (c : ℕ) where
   every_in_fact P (y ∷ ys) x h (inl e) = subst P (sym e) h.0
   every_in_fact P (y ∷ ys) x h (inr i) = every_in_fact P ys x h.1 i
 
-  pub store_dropped : (cs : List CellRec) → map (dangle_fact c) (but_facts c (store_facts cs)) ≡ store_facts (without c cs)
+  pub store_dropped : (cs : List CellRec) → map (dangle_fact c) (but_facts c (store_facts cs))
+      ≡ store_facts (without c cs)
   store_dropped [] = refl
   store_dropped (x ∷ cs) = here (nat_eq x.number c) refl (store_dropped cs)
     where
-      here : (b : Bool) → nat_eq x.number c ≡ b → map (dangle_fact c) (but_facts c (store_facts cs)) ≡ store_facts (without c cs)
-          → map (dangle_fact c) (but_facts c (cell_facts x ++ store_facts cs)) ≡ store_facts (if b then without c cs else dangle_in c x ∷ without c cs)
+      here : (b : Bool) → nat_eq x.number c ≡ b → map (dangle_fact c) (but_facts c (store_facts cs))
+          ≡ store_facts (without c cs)
+          → map (dangle_fact c) (but_facts c (cell_facts x ++ store_facts cs))
+          ≡ store_facts (if b then without c cs else dangle_in c x ∷ without c cs)
       here true e k =
-          ap (map (dangle_fact c)) (but_both c (cell_facts x) (store_facts cs) ∙ ap (λ (z : List Fact). z ++ but_facts c (store_facts cs)) (but_own c (cell_facts x) (subst (λ (m : ℕ). Every (λ (y : Fact). fact_cell y ≡ m) (cell_facts x)) (eqb-true x.number c e) (own_every x))))
+          ap (map (dangle_fact c))
+          (but_both c (cell_facts x) (store_facts cs)
+          ∙ ap (λ (z : List Fact). z ++ but_facts c (store_facts cs))
+          (but_own c (cell_facts x)
+          (subst (λ (m : ℕ). Every (λ (y : Fact). fact_cell y ≡ m) (cell_facts x)) (eqb-true x.number c e)
+          (own_every x))))
           ∙ k
       here false e k =
           let apart : x.number ≢ c = (λ z. true≢false (sym (eq-eqb x.number c z) ∙ e)) in
-          let stay : but_facts c (cell_facts x) ≡ cell_facts x = but_others c (cell_facts x) (λ y i q. apart (sym (every_in_fact (λ (y : Fact). fact_cell y ≡ x.number) (cell_facts x) y (own_every x) i) ∙ q)) in
-          ap (map (dangle_fact c)) (but_both c (cell_facts x) (store_facts cs) ∙ ap (λ (z : List Fact). z ++ but_facts c (store_facts cs)) stay)
+          let stay : but_facts c (cell_facts x) ≡ cell_facts x =
+          but_others c (cell_facts x)
+          (λ y i q.
+          apart (sym (every_in_fact (λ (y : Fact). fact_cell y ≡ x.number) (cell_facts x) y (own_every x) i)
+          ∙ q)) in
+          ap (map (dangle_fact c))
+          (but_both c (cell_facts x) (store_facts cs)
+          ∙ ap (λ (z : List Fact). z ++ but_facts c (store_facts cs)) stay)
           ∙ map_two (cell_facts x) (but_facts c (store_facts cs))
-          ∙ ap₂ (λ (xs ys : List Fact). (Head x.number x.shape x.datums ∷ xs) ++ ys) (points_dangled x.number 0 x.fields) k
+          ∙ ap₂ (λ (xs ys : List Fact). (Head x.number x.shape x.datums ∷ xs) ++ ys)
+          (points_dangled x.number 0 x.fields) k

@@ -1,5 +1,6 @@
 -- A sound forest without box edges stays sound when a root is dropped.
-use Rattle.std.proofs.Common.{◌≡◌, ◌≢◌, inl, inr, ℕ, zero, suc, ◌<◌, ◌+◌, Bool, true, false, true≢false, if◌then◌else◌, nat_eq, length, List, [], ◌∷◌, map, refl, sym, ap, subst, ◌∙◌, slice_get, Some, arith}
+use Rattle.std.proofs.Common.{◌≡◌, ◌≢◌, inl, inr, ℕ, zero, suc, ◌<◌, ◌+◌, Bool, true, false, true≢false, if◌then◌else◌}
+use Rattle.std.proofs.Common.{nat_eq, length, List, [], ◌∷◌, map, refl, sym, ap, subst, ◌∙◌, slice_get, Some, arith}
 use Rattle.std.proofs.lemmas.Bool.{eq-eqb}
 use Rattle.std.proofs.lemmas.Option.{none-some}
 use Rattle.fore_base.specs.Lists.{IsIn, Every}
@@ -15,7 +16,8 @@ use Rattle.fa_core.specs.declared.forest.Target.TheVariants.{Null, Uninit, Dangl
 use Rattle.fa_core.specs.Boxless.{HasNoBoxes}
 use Rattle.fa_core.specs.Choices.{bares}
 use Rattle.fa_core.specs.Dressed.{Node, Nodes, no_nodes, more}
-use Rattle.fa_core.specs.Filled.{FieldEnds, IsFilledSpot, spots, Choice, ChoiceFilled, TopsAre, IsRoot, RulesFit, HasSome, HasSignatures, IsSound}
+use Rattle.fa_core.specs.Filled.{FieldEnds, IsFilledSpot, spots, Choice, ChoiceFilled, TopsAre, IsRoot, RulesFit}
+use Rattle.fa_core.specs.Filled.{HasSome, HasSignatures, IsSound}
 use Rattle.fa_core.specs.Member.{TreesOf, InsidesOf, bare, leaf_symbol}
 use Rattle.fa_core.specs.Placed.{placed, placed_leaf, placed_all, placed_auto}
 use Rattle.fa_core.proofs.Dressing.{choice_of, choice_length}
@@ -60,12 +62,15 @@ but_length (suc i) (x ∷ xs) l =
 
 pub lowered_suc : (r k : ℕ) → lowered (suc r) (suc k) ≡ suc (lowered r k)
 lowered_suc r k = elim (nat_cases r k) [
-  | inl l ↦ (let a = lowered_above r k l in let b = lowered_above (suc r) (suc k) (omega (arith, l)) in omega (arith, a, b))
-  | inr l ↦ (let a = lowered_below r k l in let b = lowered_below (suc r) (suc k) (omega (arith, l)) in omega (arith, a, b))
+  | inl l ↦ (let a = lowered_above r k l in let b = lowered_above (suc r) (suc k) (omega (arith, l)) in
+      omega (arith, a, b))
+  | inr l ↦ (let a = lowered_below r k l in let b = lowered_below (suc r) (suc k) (omega (arith, l)) in
+      omega (arith, a, b))
 ]
 
 -- the item of another place
-pub get_but : {X : Type 0} (r k : ℕ) (xs : List X) (x : X) → k ≢ r → slice_get xs k ≡ Some x → slice_get (but_place r xs) (lowered r k) ≡ Some x
+pub get_but : {X : Type 0} (r k : ℕ) (xs : List X) (x : X) → k ≢ r → slice_get xs k ≡ Some x
+    → slice_get (but_place r xs) (lowered r k) ≡ Some x
 get_but r k [] x d e = absurd (none-some x e)
 get_but zero zero (y ∷ xs) x d e = absurd (d refl)
 get_but {X} zero (suc k) (y ∷ xs) x d e =
@@ -77,7 +82,8 @@ get_but {X} (suc r) zero (y ∷ xs) x d e =
     let b : 0 ≡ lowered (suc r) 0 = omega (arith, a) in
     subst (λ (n : ℕ). slice_get (y ∷ but_place r xs) n ≡ Some x) b e
 get_but {X} (suc r) (suc k) (y ∷ xs) x d e =
-    subst (λ (n : ℕ). slice_get (y ∷ but_place r xs) n ≡ Some x) (sym (lowered_suc r k)) (get_but r k xs x (λ z. d (ap (λ (n : ℕ). suc n) z)) e)
+    subst (λ (n : ℕ). slice_get (y ∷ but_place r xs) n ≡ Some x) (sym (lowered_suc r k))
+    (get_but r k xs x (λ z. d (ap (λ (n : ℕ). suc n) z)) e)
 
 lowered_less : (r k n : ℕ) → r < n → k < n → k ≢ r → lowered r k + 1 < n
 lowered_less r k n a b d = elim (nat_cases r k) [
@@ -108,10 +114,12 @@ but_map g zero (x ∷ xs) = refl
 but_map {X} {Y} g (suc i) (x ∷ xs) = ap (λ (z : List Y). g x ∷ z) (but_map g i xs)
 
 -- a leaf that was dropped fits a field, and another stands at the same struct
-leaf_fits : (r : ℕ) (tops : List ℕ) (s k : ℕ) → slice_get tops k ≡ Some s → FieldEnds (but_place r tops) s (leaf_symbol (drop_leaf r k))
+leaf_fits : (r : ℕ) (tops : List ℕ) (s k : ℕ) → slice_get tops k ≡ Some s
+    → FieldEnds (but_place r tops) s (leaf_symbol (drop_leaf r k))
 leaf_fits r tops s k e = here (nat_eq r k) refl
   where
-    here : (b : Bool) → nat_eq r k ≡ b → FieldEnds (but_place r tops) s (leaf_symbol (if b then Dangling else At (lowered r k)))
+    here : (b : Bool) → nat_eq r k ≡ b
+        → FieldEnds (but_place r tops) s (leaf_symbol (if b then Dangling else At (lowered r k)))
     here true q = tt
     here false q = get_but r k tops s (λ z. true≢false (sym (eq-eqb r k (sym z)) ∙ q)) e
 
@@ -124,7 +132,8 @@ at_of (At k) = k
 at_of u = 0
 
 -- targets without the root
-vars_dropped : (r n m : ℕ) (us : List Target) → ((k : ℕ) → IsIn (At k) us → k ≢ r → lowered r k < m) → Every (IsRoot m) (map (placed_leaf (drop_leaf r)) us)
+vars_dropped : (r n m : ℕ) (us : List Target) → ((k : ℕ) → IsIn (At k) us → k ≢ r → lowered r k < m)
+    → Every (IsRoot m) (map (placed_leaf (drop_leaf r)) us)
 vars_dropped r n m [] h = tt
 vars_dropped r n m (u ∷ us) h = (one u (λ k e. h k (inl e)), vars_dropped r n m us (λ k i. h k (inr i)))
   where
@@ -139,20 +148,28 @@ vars_dropped r n m (u ∷ us) h = (one u (λ k e. h k (inl e)), vars_dropped r n
       where
         here : (b : Bool) → nat_eq r k ≡ b → IsRoot m (if b then Dangling else At (lowered r k))
         here true q j e = none Dangling (λ z. z) j e
-        here false q j e = subst (λ (z : ℕ). z < m) (ap at_of e) (h k refl (λ z. true≢false (sym (eq-eqb r k (sym z)) ∙ q)))
+        here false q j e = subst (λ (z : ℕ). z < m) (ap at_of e)
+            (h k refl (λ z. true≢false (sym (eq-eqb r k (sym z)) ∙ q)))
 
 -- a dressed tree for each tree of a choice
-nodes_of : (f : ℕ → Target) (autos : List Automaton) (us : List Tree) → Every (λ a. (t : Tree) → InLanguage (placed_auto f a) t → (n : Node) × InLanguage a (bare n) × (bare (placed f n) ≡ t) × InsidesOf [] n) autos → Choice (map (placed_auto f) autos) us
+nodes_of : (f : ℕ → Target) (autos : List Automaton) (us : List Tree)
+    → Every (λ a. (t : Tree) → InLanguage (placed_auto f a) t → (n : Node) × InLanguage a (bare n)
+    × (bare (placed f n) ≡ t) × InsidesOf [] n) autos → Choice (map (placed_auto f) autos) us
     → (e : Nodes) × TreesOf [] autos e × (bares (placed_all f e) ≡ us)
 nodes_of f [] [] h c = (no_nodes, tt, refl)
 nodes_of f [] (u ∷ us) h c = absurd c
 nodes_of f (a ∷ autos) [] h c = absurd c
 nodes_of f (a ∷ autos) (u ∷ us) h c =
     let n = h.0 u c.0 in
-    let k = nodes_of f autos us h.1 c.1 in
-    (more n.0 k.0, (n.1, n.3, k.1), subst (λ (z : Tree). bare (placed f n.0) ∷ bares (placed_all f k.0) ≡ z ∷ us) n.2 (ap (λ (z : List Tree). bare (placed f n.0) ∷ z) k.2))
+    let k = nodes_of f autos us h.1 c.1 in (
+      more n.0 k.0,
+      (n.1, n.3, k.1),
+      subst (λ (z : Tree). bare (placed f n.0) ∷ bares (placed_all f k.0) ≡ z ∷ us) n.2
+          (ap (λ (z : List Tree). bare (placed f n.0) ∷ z) k.2),
+    )
 
-module _ (face : Face) (F : Forest) (r : ℕ) (root : r < length F.autos) (ranked : Every IsRanked F.autos) (plain : Every HasNoBoxes F.autos) (sound : IsSound face F) where
+module _ (face : Face) (F : Forest) (r : ℕ) (root : r < length F.autos) (ranked : Every IsRanked F.autos)
+    (plain : Every HasNoBoxes F.autos) (sound : IsSound face F) where
   abbrev size : ℕ
   size = length F.autos
 
@@ -179,43 +196,69 @@ module _ (face : Face) (F : Forest) (r : ℕ) (root : r < length F.autos) (ranke
   each_dropped P h = every_map (placed_auto f) P rest (each_rest (λ a. P (placed_auto f a)) h)
 
   pub dropped_plain : Every HasNoBoxes G.autos
-  dropped_plain = each_dropped HasNoBoxes (λ k l. placed_boxless f (comp k) (component_has HasNoBoxes F.autos k plain l))
+  dropped_plain = each_dropped HasNoBoxes
+      (λ k l. placed_boxless f (comp k) (component_has HasNoBoxes F.autos k plain l))
 
-  node_before : (k : ℕ) → k < size → (t : Tree) → InLanguage (placed_auto f (comp k)) t → (n : Node) × InLanguage (comp k) (bare n) × (bare (placed f n) ≡ t) × InsidesOf [] n
+  node_before : (k : ℕ) → k < size → (t : Tree) → InLanguage (placed_auto f (comp k)) t → (n : Node)
+      × InLanguage (comp k) (bare n) × (bare (placed f n) ≡ t) × InsidesOf [] n
   node_before k l t h =
       let n = placed_before face F sound.well_formed.filled sound.full ranked plain f k l t h in
-      let b : NoEdges n.0 = run_no_edges (comp k).rules (component_has HasNoBoxes F.autos k plain l) n.1.0 n.0 (bare_node (comp k).rules n.1.0 n.0 n.1.2) in
+      let b : NoEdges n.0 = run_no_edges (comp k).rules (component_has HasNoBoxes F.autos k plain l) n.1.0 n.0
+      (bare_node (comp k).rules n.1.0 n.0 n.1.2) in
       (n.0, n.1, n.2, no_insides [] n.0 b)
 
   same_size : length G.autos + 1 ≡ size
-  same_size = let a = but_length r F.autos root in let b : length G.autos ≡ length rest = mapped_length (placed_auto f) rest in omega (arith, a, b)
+  same_size = let a = but_length r F.autos root in
+      let b : length G.autos ≡ length rest = mapped_length (placed_auto f) rest in omega (arith, a, b)
 
   choice_filled : (us : List Tree) → Choice G.autos us → ChoiceFilled face G us
   choice_filled us c =
-      let nodes = nodes_of f rest us (each_rest (λ a. (t : Tree) → InLanguage (placed_auto f a) t → (n : Node) × InLanguage a (bare n) × (bare (placed f n) ≡ t) × InsidesOf [] n) node_before) c in
+      let nodes = nodes_of f rest us
+      (each_rest (λ a. (t : Tree) → InLanguage (placed_auto f a) t → (n : Node) × InLanguage a (bare n)
+      × (bare (placed f n) ≡ t) × InsidesOf [] n) node_before) c in
       let own = component_has HasSome F.autos r sound.full root in
       let n = tree_is_node face F sound.well_formed.filled sound.full ranked plain r root own.0 own.1 in
       let in_own : InLanguage (comp r) (bare n.0) = subst (λ (z : Tree). InLanguage (comp r) z) (sym n.1) own.1 in
-      let b : NoEdges n.0 = run_no_edges (comp r).rules (component_has HasNoBoxes F.autos r plain root) in_own.0 n.0 (bare_node (comp r).rules in_own.0 n.0 in_own.2) in
-      let e = trees_added [] F.autos r (comp r) n.0 nodes.0 (component_got F.autos r root) in_own (no_insides [] n.0 b) nodes.1 in
+      let b : NoEdges n.0 = run_no_edges (comp r).rules (component_has HasNoBoxes F.autos r plain root) in_own.0 n.0
+      (bare_node (comp r).rules in_own.0 n.0 in_own.2) in
+      let e = trees_added [] F.autos r (comp r) n.0 nodes.0 (component_got F.autos r root) in_own (no_insides [] n.0 b)
+      nodes.1 in
       by_nodes e.0 e.1 (ap (λ (z : Nodes). bares (placed_all f z)) e.2 ∙ nodes.2)
     where
-      by_nodes : (e : Nodes) → TreesOf [] F.autos e → bares (placed_all f (without_node r e)) ≡ us → ChoiceFilled face G us
+      by_nodes : (e : Nodes) → TreesOf [] F.autos e → bares (placed_all f (without_node r e)) ≡ us
+          → ChoiceFilled face G us
       by_nodes e o w =
           let ts = bares e in
           let choice = choice_of [] F.autos e o in
           let cf = sound.well_formed.filled.trees ts choice in
           let tops = but_place r cf.tops in
-          let old : Every (λ (t : Tree). Every (IsFilledSpot face cf.tops) (spots face.boxes t [])) ts = filled_trees face ts (nothing_given face.boxes F.autos plain ts choice) cf.tops 0 ts cf.cells in
-          let kept : Every (λ (t : Tree). Every (IsFilledSpot face cf.tops) (spots face.boxes t [])) (bares (without_node r e)) = subst (λ (us : List Tree). Every (λ (t : Tree). Every (IsFilledSpot face cf.tops) (spots face.boxes t [])) us) (sym (bares_without r e)) (every_but (λ (t : Tree). Every (IsFilledSpot face cf.tops) (spots face.boxes t [])) r ts old) in
-          let new : Every (λ (t : Tree). Every (IsFilledSpot face tops) (spots face.boxes t [])) us = subst (λ (us : List Tree). Every (λ (t : Tree). Every (IsFilledSpot face tops) (spots face.boxes t [])) us) w (all_filled face cf.tops tops f (leaf_fits r cf.tops) (without_node r e) (without_plain r e (trees_no_edges [] F.autos e plain o)) kept) in
-          let are : TopsAre us tops = subst (λ (us : List Tree). TopsAre us tops) w (tops_placed f (without_node r e) tops (subst (λ (us : List Tree). TopsAre us tops) (sym (bares_without r e)) (tops_but r ts cf.tops cf.are))) in
+          let old : Every (λ (t : Tree). Every (IsFilledSpot face cf.tops) (spots face.boxes t [])) ts =
+          filled_trees face ts (nothing_given face.boxes F.autos plain ts choice) cf.tops 0 ts cf.cells in
+          let kept : Every (λ (t : Tree). Every (IsFilledSpot face cf.tops) (spots face.boxes t []))
+          (bares (without_node r e)) =
+          subst (λ (us : List Tree).
+          Every (λ (t : Tree). Every (IsFilledSpot face cf.tops) (spots face.boxes t [])) us)
+          (sym (bares_without r e))
+          (every_but (λ (t : Tree). Every (IsFilledSpot face cf.tops) (spots face.boxes t [])) r ts old) in
+          let new : Every (λ (t : Tree). Every (IsFilledSpot face tops) (spots face.boxes t [])) us =
+          subst (λ (us : List Tree).
+          Every (λ (t : Tree). Every (IsFilledSpot face tops) (spots face.boxes t [])) us) w
+          (all_filled face cf.tops tops f (leaf_fits r cf.tops) (without_node r e)
+          (without_plain r e (trees_no_edges [] F.autos e plain o)) kept) in
+          let are : TopsAre us tops =
+          subst (λ (us : List Tree). TopsAre us tops) w
+          (tops_placed f (without_node r e) tops
+          (subst (λ (us : List Tree). TopsAre us tops) (sym (bares_without r e))
+          (tops_but r ts cf.tops cf.are))) in
           let long : length us ≡ length G.autos = choice_length G.autos us c in
           let one = same_size in
           record {
             tops = tops;
             are = are;
-            vars = vars_dropped r size (length us) F.vars (λ k i d. (let l = lowered_less r k size root (var_below face F sound.well_formed.filled ts choice k i) d in omega (arith, l, long, one)));
+            vars = vars_dropped r size (length us) F.vars
+                (λ k i d.
+                (let l = lowered_less r k size root (var_below face F sound.well_formed.filled ts choice k i) d in
+                omega (arith, l, long, one)));
             cells = trees_filled face us (nothing_given face.boxes G.autos dropped_plain us c) tops 0 us new;
           }
 
@@ -224,10 +267,15 @@ module _ (face : Face) (F : Forest) (r : ℕ) (root : r < length F.autos) (ranke
     well_formed = record {
       filled = record {
         data_vars = sound.well_formed.filled.data_vars;
-        rules = each_dropped (RulesFit face) (λ k l. placed_fit f face (comp k) (component_has (RulesFit face) F.autos k sound.well_formed.filled.rules l));
+        rules = each_dropped (RulesFit face)
+            (λ k l. placed_fit f face (comp k)
+            (component_has (RulesFit face) F.autos k sound.well_formed.filled.rules l));
         trees = choice_filled;
       };
-      signatures = each_dropped (HasSignatures face.boxes) (λ k l. placed_signed f (comp k) (component_has IsRanked F.autos k ranked l) (component_has HasNoBoxes F.autos k plain l) face.boxes (component_has (HasSignatures face.boxes) F.autos k sound.well_formed.signatures l));
+      signatures = each_dropped (HasSignatures face.boxes)
+          (λ k l. placed_signed f (comp k) (component_has IsRanked F.autos k ranked l)
+          (component_has HasNoBoxes F.autos k plain l) face.boxes
+          (component_has (HasSignatures face.boxes) F.autos k sound.well_formed.signatures l));
     };
     full = each_dropped HasSome (λ k l. placed_some face F sound.well_formed.filled sound.full ranked plain f k l);
   }
@@ -239,4 +287,5 @@ module _ (face : Face) (F : Forest) (r : ℕ) (root : r < length F.autos) (ranke
       let n = tree_is_node face F sound.well_formed.filled sound.full ranked plain r root own.0 own.1 in
       let c = choice_with F.autos sound.full r (comp r) own.0 (component_got F.autos r root) own.1 in
       let flat : IsFlat (bare n.0) = subst IsFlat (sym n.1) (can.flat c.0 own.0 c.1 c.2) in
-      cut_forest T face.boxes F r can n.0 (comp r, component_got F.autos r root, subst (λ (z : Tree). InLanguage (comp r) z) (sym n.1) own.1) flat
+      cut_forest T face.boxes F r can n.0
+      (comp r, component_got F.autos r root, subst (λ (z : Tree). InLanguage (comp r) z) (sym n.1) own.1) flat

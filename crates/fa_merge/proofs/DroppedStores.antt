@@ -1,5 +1,6 @@
 -- A store of a forest without the cell of a root that is dropped is a store of the forest without the root.
-use Rattle.std.proofs.Common.{◌≡◌, ◌≢◌, inl, inr, ℕ, zero, suc, ◌<◌, Bool, true, false, true≢false, if◌then◌else◌, nat_eq, length, List, [], ◌∷◌, ◌++◌, map, refl, sym, ap, subst, ◌∙◌, Some}
+use Rattle.std.proofs.Common.{◌≡◌, ◌≢◌, inl, inr, ℕ, zero, suc, ◌<◌, Bool, true, false, true≢false, if◌then◌else◌}
+use Rattle.std.proofs.Common.{nat_eq, length, List, [], ◌∷◌, ◌++◌, map, refl, sym, ap, subst, ◌∙◌, Some}
 use Rattle.std.proofs.lemmas.Bool.{eqb-true, eq-eqb}
 use Rattle.std.proofs.lemmas.Option.{none-some, same_Some}
 use Rattle.fore_base.specs.Heap.{HasCell, NamesCell, AllDiffer, IsProper}
@@ -22,7 +23,8 @@ use Rattle.fa_core.specs.Rearranged.{Rearranged, empty, keep, swap, chain}
 use Rattle.fa_core.proofs.PlainNodes.{NoEdgesIn, trees_no_edges}
 use Rattle.fa_core.proofs.Permuted.{none_in_both, distinct_parts}
 use Rattle.fa_merge.specs.Dropped.{node_at, without_node, dropped, AreLeaves, IsCut, Removes, without_cell}
-use Rattle.fa_merge.proofs.DroppedFacts.{dangle_fact, leaves_dropped, facts_dropped, but_facts, but_moved, but_root, store_dropped}
+use Rattle.fa_merge.proofs.DroppedFacts.{dangle_fact, leaves_dropped, facts_dropped, but_facts, but_moved, but_root}
+use Rattle.fa_merge.proofs.DroppedFacts.{store_dropped}
 use Rattle.fa_merge.proofs.DroppedSound.{without_plain}
 use Rattle.fa_merge.proofs.FactReach.{in_all}
 use Rattle.fa_merge.proofs.StoreLeaks.{differ}
@@ -34,10 +36,12 @@ fact_mapped g (swap x y xs) = swap (g x) (g y) (map g xs)
 fact_mapped g (chain p q) = chain (fact_mapped g p) (fact_mapped g q)
 
 -- the cell of a root is none of the other trees
-pub root_apart : (c s : ℕ) (ds : List Datum) (ps : Parts) (r : ℕ) (d : Nodes) → node_at d r ≡ Some (node c s ds ps) → IsDistinct (all_numbers d) → IsIn c (all_numbers (without_node r d)) → ⊥
+pub root_apart : (c s : ℕ) (ds : List Datum) (ps : Parts) (r : ℕ) (d : Nodes) → node_at d r ≡ Some (node c s ds ps)
+    → IsDistinct (all_numbers d) → IsIn c (all_numbers (without_node r d)) → ⊥
 root_apart c s ds ps r no_nodes e h i = absurd (none-some (node c s ds ps) e)
 root_apart c s ds ps zero (more n ns) e h i =
-    let z : IsDistinct (numbers (node c s ds ps) ++ all_numbers ns) = subst (λ (m : Node). IsDistinct (numbers m ++ all_numbers ns)) (same_Some n (node c s ds ps) e) h in
+    let z : IsDistinct (numbers (node c s ds ps) ++ all_numbers ns) =
+    subst (λ (m : Node). IsDistinct (numbers m ++ all_numbers ns)) (same_Some n (node c s ds ps) e) h in
     z.0 (in_right c (numbers_of ps) (all_numbers ns) i)
 root_apart c s ds ps (suc r) (more n ns) e h i =
     elim (in_append c (numbers n) (all_numbers (without_node r ns)) i) [
@@ -57,7 +61,8 @@ module _ (c : ℕ) where
       here false q = inl e
   cell_stays (x ∷ cs) n d (inr h) = here (nat_eq x.number c) (cell_stays cs n d h)
     where
-      here : (b : Bool) → HasCell (without c cs) n → HasCell (if b then without c cs else dangle_in c x ∷ without c cs) n
+      here : (b : Bool) → HasCell (without c cs) n
+          → HasCell (if b then without c cs else dangle_in c x ∷ without c cs) n
       here true k = k
       here false k = inr k
 
@@ -65,7 +70,8 @@ module _ (c : ℕ) where
   cell_was [] n h = h
   cell_was (x ∷ cs) n h = here (nat_eq x.number c) (cell_was cs n) h
     where
-      here : (b : Bool) → (HasCell (without c cs) n → HasCell cs n) → HasCell (if b then without c cs else dangle_in c x ∷ without c cs) n → HasCell (x ∷ cs) n
+      here : (b : Bool) → (HasCell (without c cs) n → HasCell cs n)
+          → HasCell (if b then without c cs else dangle_in c x ∷ without c cs) n → HasCell (x ∷ cs) n
       here true was k = inr (was k)
       here false was (inl e) = inl e
       here false was (inr k) = inr (was k)
@@ -74,12 +80,14 @@ module _ (c : ℕ) where
   still_differ [] h = tt
   still_differ (x ∷ cs) h = here (nat_eq x.number c) (still_differ cs h.1)
     where
-      here : (b : Bool) → AllDiffer (without c cs) → AllDiffer (if b then without c cs else dangle_in c x ∷ without c cs)
+      here : (b : Bool) → AllDiffer (without c cs)
+          → AllDiffer (if b then without c cs else dangle_in c x ∷ without c cs)
       here true k = k
       here false k = ((λ i. h.0 (cell_was cs x.number i)), k)
 
   -- what each cell is stays where its fields are Dangling
-  every_left : (P Q : CellRec → Type 0) (cs : List CellRec) → ((x : CellRec) → P x → Q (dangle_in c x)) → Every P cs → Every Q (without c cs)
+  every_left : (P Q : CellRec → Type 0) (cs : List CellRec) → ((x : CellRec) → P x → Q (dangle_in c x)) → Every P cs
+      → Every Q (without c cs)
   every_left P Q [] f h = tt
   every_left P Q (x ∷ cs) f h = here (nat_eq x.number c) (every_left P Q cs f h.1)
     where
@@ -97,7 +105,8 @@ module _ (c : ℕ) where
       here true e = tt
       here false e = cell_stays cs n (λ q. true≢false (sym (eq-eqb n c q) ∙ e)) h
 
-  values_named : (cs : List CellRec) (vs : List Value) → Every (NamesCell cs) vs → Every (NamesCell (without c cs)) (map (dangle c) vs)
+  values_named : (cs : List CellRec) (vs : List Value) → Every (NamesCell cs) vs
+      → Every (NamesCell (without c cs)) (map (dangle c) vs)
   values_named cs [] h = tt
   values_named cs (v ∷ vs) h = (value_named cs v h.0, values_named cs vs h.1)
 
@@ -110,14 +119,17 @@ module _ (c : ℕ) where
     differ = still_differ s.cells h.differ;
     below = every_left (λ x. x.number < s.next) (λ x. x.number < s.next) s.cells (λ x l. l) h.below;
     vars = values_named s.cells s.vars h.vars;
-    fields = every_left (λ x. Every (NamesCell s.cells) x.fields) (λ x. Every (NamesCell (without c s.cells)) x.fields) s.cells (λ x k. values_named s.cells x.fields k) h.fields;
+    fields = every_left (λ x. Every (NamesCell s.cells) x.fields) (λ x. Every (NamesCell (without c s.cells)) x.fields)
+        s.cells (λ x k. values_named s.cells x.fields k) h.fields;
   }
 
-  still_fields : (hs : List Shape) (cs : List CellRec) → Every (HasItsFields hs) cs → Every (HasItsFields hs) (without c cs)
+  still_fields : (hs : List Shape) (cs : List CellRec) → Every (HasItsFields hs) cs
+      → Every (HasItsFields hs) (without c cs)
   still_fields hs cs h = every_left (HasItsFields hs) (HasItsFields hs) cs (λ x e. as_many x.fields ∙ e) h
 
 -- a store without the root's cell
-pub store_cut : (hs : List Shape) (T : List BoxDef) (F G : Forest) (r : ℕ) → Every HasNoBoxes F.autos → IsCut T F G r → Removes hs T F G r
+pub store_cut : (hs : List Shape) (T : List BoxDef) (F G : Forest) (r : ℕ) → Every HasNoBoxes F.autos → IsCut T F G r
+    → Removes hs T F G r
 store_cut hs T F G r plain cut d s h =
     let flat = cut.top d h.of in
     let c : ℕ = flat.0 in
@@ -127,14 +139,18 @@ store_cut hs T F G r plain cut d s h =
     let is : node_at d r ≡ Some (node c sh ds ps) = flat.1.3 in
     let leaves : AreLeaves ps = flat.1.4 in
     let none : NoEdgesIn d = trees_no_edges T F.autos d plain h.of in
-    let apart : (IsIn c (all_numbers (without_node r d)) → ⊥) = root_apart c sh ds ps r d is (differ hs T F d s h none) in
+    let apart : (IsIn c (all_numbers (without_node r d)) → ⊥) =
+    root_apart c sh ds ps r d is (differ hs T F d s h none) in
     let step : map (dangle_fact c) (but_facts c (facts d)) ≡ facts (dropped r d) =
     ap (map (dangle_fact c)) (but_root (roots_of d) c sh ds ps r d is leaves none apart)
     ∙ sym (facts_dropped c sh ds ps r d is apart (without_plain r d none)) in
-    let moved : Rearranged (map (dangle_fact c) (but_facts c (facts d))) (map (dangle_fact c) (but_facts c (store_facts s.cells))) = fact_mapped (dangle_fact c) (but_moved c h.same_facts) in
+    let moved : Rearranged (map (dangle_fact c) (but_facts c (facts d)))
+    (map (dangle_fact c) (but_facts c (store_facts s.cells))) =
+    fact_mapped (dangle_fact c) (but_moved c h.same_facts) in
     let there : Rearranged (facts (dropped r d)) (store_facts (without c s.cells)) =
     subst (λ (z : List Fact). Rearranged z (store_facts (without c s.cells))) step
-    (subst (λ (z : List Fact). Rearranged (map (dangle_fact c) (but_facts c (facts d))) z) (store_dropped c s.cells) moved) in
+    (subst (λ (z : List Fact). Rearranged (map (dangle_fact c) (but_facts c (facts d))) z) (store_dropped c s.cells)
+    moved) in
     let vars : map (dangle c) s.vars ≡ map (value_in (roots_of (dropped r d))) G.vars =
     ap (map (dangle c)) h.vars
     ∙ sym (leaves_dropped c sh ds ps r d is apart F.vars)

@@ -1,5 +1,6 @@
 -- The roots that are reached are those to which the hops lead: they follow from the targets and the signatures alone.
-use Rattle.std.proofs.Common.{◌≡◌, ◌⊎◌, inl, inr, ℕ, zero, suc, ◌+◌, Bool, true, false, true≢false, cond, ◌&&◌, nat_eq, List, [], ◌∷◌, ◌++◌, map, flat_map, refl, sym, ap, subst, ◌∙◌, Some, slice_get, arith}
+use Rattle.std.proofs.Common.{◌≡◌, ◌⊎◌, inl, inr, ℕ, zero, suc, ◌+◌, Bool, true, false, true≢false, cond, ◌&&◌, nat_eq}
+use Rattle.std.proofs.Common.{List, [], ◌∷◌, ◌++◌, map, flat_map, refl, sym, ap, subst, ◌∙◌, Some, slice_get, arith}
 use Rattle.std.proofs.lemmas.Bool.{eqb-true, eq-eqb}
 use Rattle.std.proofs.lemmas.Option.{none-some, same_Some}
 use Rattle.fore_base.specs.Lists.{IsIn, Every, Paired}
@@ -8,7 +9,8 @@ use Rattle.ta_core.specs.declared.auto.Rule.{Rule}
 use Rattle.ta_core.specs.declared.tree.Tree.{Tree}
 use Rattle.fa_core.specs.declared.faces.BoxFace.{BoxFace}
 use Rattle.fa_core.specs.declared.forest.Target.{Target}
-use Rattle.fa_core.specs.declared.forest.Target.TheVariants.{Null as NullTarget, Uninit as UninitTarget, Dangling as DanglingTarget, At}
+use Rattle.fa_core.specs.declared.forest.Target.TheVariants.{Null as NullTarget, Uninit as UninitTarget}
+use Rattle.fa_core.specs.declared.forest.Target.TheVariants.{Dangling as DanglingTarget, At}
 use Rattle.fa_core.specs.declared.signature.RefMark.{RefMark}
 use Rattle.fa_core.specs.declared.signature.Signature.{Signature}
 use Rattle.fa_core.specs.Canonical.{LeadsBack, RefersTo, var_roots}
@@ -16,7 +18,8 @@ use Rattle.fa_core.specs.Ways.{Way, ways, to_root, has, once, any_back, leads_ba
 use Rattle.fa_core.proofs.Numbers.{has_once, has_filter, or_left, or_right, or_cases}
 use Rattle.fa_core.proofs.WayParts.{way_roots, tree_in, collect_in}
 use Rattle.fa_merge.specs.Reached.{RootReached, by_var, by_tree, by_way}
-use Rattle.fa_merge.specs.inner.Hops.{first_hop, hop, back_hops, mark_hops, tree_hops, all_hops, Arrives, first, next, IsHop}
+use Rattle.fa_merge.specs.inner.Hops.{first_hop, hop, back_hops, mark_hops, tree_hops, all_hops, Arrives, first, next}
+use Rattle.fa_merge.specs.inner.Hops.{IsHop}
 
 -- Numbers in lists, by the test and by the fact.
 
@@ -27,7 +30,8 @@ in_has n (x ∷ xs) (inr h) = or_right (nat_eq n x) (has n xs) (in_has n xs h)
 
 pub has_in : (n : ℕ) (xs : List ℕ) → has n xs ≡ true → IsIn n xs
 has_in n [] h = absurd (true≢false (sym h))
-has_in n (x ∷ xs) h = elim (or_cases (nat_eq n x) (has n xs) h) [ inl e ↦ inl (eqb-true n x e) | inr k ↦ inr (has_in n xs k) ]
+has_in n (x ∷ xs) h = elim (or_cases (nat_eq n x) (has n xs) h)
+    [ inl e ↦ inl (eqb-true n x e) | inr k ↦ inr (has_in n xs k) ]
 
 pub in_once : (n : ℕ) (xs : List ℕ) → IsIn n xs → IsIn n (once xs)
 in_once n xs h = has_in n (once xs) (has_once n xs ∙ in_has n xs h)
@@ -35,12 +39,14 @@ in_once n xs h = has_in n (once xs) (has_once n xs ∙ in_has n xs h)
 pub once_in : (n : ℕ) (xs : List ℕ) → IsIn n (once xs) → IsIn n xs
 once_in n xs h = has_in n xs (sym (has_once n xs) ∙ in_has n (once xs) h)
 
-in_flat : {X : Type 0} {Y : Type 0} (f : X → List Y) (xs : List X) (x : X) (y : Y) → IsIn x xs → IsIn y (f x) → IsIn y (flat_map f xs)
+in_flat : {X : Type 0} {Y : Type 0} (f : X → List Y) (xs : List X) (x : X) (y : Y) → IsIn x xs → IsIn y (f x)
+    → IsIn y (flat_map f xs)
 in_flat f [] x y i j = absurd i
 in_flat f (z ∷ xs) x y (inl e) j = in_left y (f z) (flat_map f xs) (subst (λ (w : _). IsIn y (f w)) e j)
 in_flat f (z ∷ xs) x y (inr i) j = in_right y (f z) (flat_map f xs) (in_flat f xs x y i j)
 
-flat_in : {X : Type 0} {Y : Type 0} (f : X → List Y) (xs : List X) (y : Y) → IsIn y (flat_map f xs) → (x : X) × IsIn x xs × IsIn y (f x)
+flat_in : {X : Type 0} {Y : Type 0} (f : X → List Y) (xs : List X) (y : Y) → IsIn y (flat_map f xs) → (x : X)
+    × IsIn x xs × IsIn y (f x)
 flat_in f [] y h = absurd h
 flat_in f (x ∷ xs) y h = elim (in_append y (f x) (flat_map f xs) h) [
   | inl i ↦ (x, inl refl, i)
@@ -76,7 +82,8 @@ to_root_in : (i : ℕ) (ws : List Way) (w : Way) → IsIn w (to_root i ws) → I
 to_root_in i [] w h = absurd h
 to_root_in i (v ∷ ws) w h = here (nat_eq i v.root) refl h (to_root_in i ws w)
   where
-    here : (b : Bool) → nat_eq i v.root ≡ b → IsIn w (cond b (v ∷ to_root i ws) (to_root i ws)) → (IsIn w (to_root i ws) → IsIn w ws × (w.root ≡ i)) → IsIn w (v ∷ ws) × (w.root ≡ i)
+    here : (b : Bool) → nat_eq i v.root ≡ b → IsIn w (cond b (v ∷ to_root i ws) (to_root i ws))
+        → (IsIn w (to_root i ws) → IsIn w ws × (w.root ≡ i)) → IsIn w (v ∷ ws) × (w.root ≡ i)
     here true e (inl q) k = (inl q, ap (λ (z : Way). z.root) q ∙ sym (eqb-true i v.root e))
     here true e (inr h) k = (inr (k h).0, (k h).1)
     here false e h k = (inr (k h).0, (k h).1)
@@ -84,7 +91,8 @@ to_root_in i (v ∷ ws) w h = here (nat_eq i v.root) refl h (to_root_in i ws w)
 module _ (bs : List BoxFace) where
   back_any : (ws : List Way) (w : Way) → IsIn w ws → leads_back bs w.steps ≡ true → any_back bs ws ≡ true
   back_any [] w h e = absurd h
-  back_any (v ∷ ws) w (inl q) e = or_left (leads_back bs v.steps) (any_back bs ws) (subst (λ (z : Way). leads_back bs z.steps ≡ true) q e)
+  back_any (v ∷ ws) w (inl q) e =
+      or_left (leads_back bs v.steps) (any_back bs ws) (subst (λ (z : Way). leads_back bs z.steps ≡ true) q e)
   back_any (v ∷ ws) w (inr h) e = or_right (leads_back bs v.steps) (any_back bs ws) (back_any ws w h e)
 
   any_of_back : (ws : List Way) → any_back bs ws ≡ true → (w : Way) × IsIn w ws × (leads_back bs w.steps ≡ true)
@@ -99,21 +107,31 @@ module _ (bs : List BoxFace) where
   mark_in t r h = in_map (mark bs (ways t)) r (roots_met (ways t)) (in_once r (way_roots (ways t)) h)
 
   pub in_mark : (t : Tree) (m : RefMark) → IsIn m (signature bs t) → (r : ℕ) × RefersTo t r × (m ≡ mark bs (ways t) r)
-  in_mark t m h = let k = in_mapped (mark bs (ways t)) m (roots_met (ways t)) h in (k.0, once_in k.0 (way_roots (ways t)) k.1, k.2)
+  in_mark t m h = let k = in_mapped (mark bs (ways t)) m (roots_met (ways t)) h in
+      (k.0, once_in k.0 (way_roots (ways t)) k.1, k.2)
 
   -- the roots to which ways back lead
-  reach_in_mark : (t : Tree) (i r : ℕ) (w : Way) → IsIn w (ways t) → w.root ≡ i → IsIn r (led_to bs w.steps) → IsIn r (mark bs (ways t) i).reach
+  reach_in_mark : (t : Tree) (i r : ℕ) (w : Way) → IsIn w (ways t) → w.root ≡ i → IsIn r (led_to bs w.steps)
+      → IsIn r (mark bs (ways t) i).reach
   reach_in_mark t i r w h e j =
       let led : List ℕ = flat_map (λ (v : Way). led_to bs v.steps) (to_root i (ways t)) in
-      let there : has r led ≡ true = in_has r led (in_flat (λ (v : Way). led_to bs v.steps) (to_root i (ways t)) w r (in_to_root i (ways t) w h e) j) in
-      let met : has r (roots_met (ways t)) ≡ true = has_once r (way_roots (ways t)) ∙ collect_in bs (way_roots (ways t)) i (ways t) (tree_in t) r there in
-      has_in r (mark bs (ways t) i).reach (has_filter r (λ (n : ℕ). has n led) (roots_met (ways t)) ∙ and_true (has r (roots_met (ways t))) (has r led) met there)
+      let there : has r led ≡ true =
+      in_has r led
+      (in_flat (λ (v : Way). led_to bs v.steps) (to_root i (ways t)) w r (in_to_root i (ways t) w h e) j) in
+      let met : has r (roots_met (ways t)) ≡ true = has_once r (way_roots (ways t))
+      ∙ collect_in bs (way_roots (ways t)) i (ways t) (tree_in t) r there in
+      has_in r (mark bs (ways t) i).reach
+      (has_filter r (λ (n : ℕ). has n led) (roots_met (ways t))
+      ∙ and_true (has r (roots_met (ways t))) (has r led) met there)
 
-  mark_in_reach : (t : Tree) (i r : ℕ) → IsIn r (mark bs (ways t) i).reach → (w : Way) × IsIn w (ways t) × (w.root ≡ i) × IsIn r (led_to bs w.steps)
+  mark_in_reach : (t : Tree) (i r : ℕ) → IsIn r (mark bs (ways t) i).reach → (w : Way) × IsIn w (ways t) × (w.root ≡ i)
+      × IsIn r (led_to bs w.steps)
   mark_in_reach t i r h =
       let led : List ℕ = flat_map (λ (v : Way). led_to bs v.steps) (to_root i (ways t)) in
-      let both : (has r (roots_met (ways t)) && has r led) ≡ true = sym (has_filter r (λ (n : ℕ). has n led) (roots_met (ways t))) ∙ in_has r (mark bs (ways t) i).reach h in
-      let k = flat_in (λ (v : Way). led_to bs v.steps) (to_root i (ways t)) r (has_in r led (and_right (has r (roots_met (ways t))) (has r led) both)) in
+      let both : (has r (roots_met (ways t)) && has r led) ≡ true =
+      sym (has_filter r (λ (n : ℕ). has n led) (roots_met (ways t))) ∙ in_has r (mark bs (ways t) i).reach h in
+      let k = flat_in (λ (v : Way). led_to bs v.steps) (to_root i (ways t)) r
+      (has_in r led (and_right (has r (roots_met (ways t))) (has r led) both)) in
       let j = to_root_in i (ways t) k.0 k.1 in
       (k.0, j.0, j.1, k.2)
 
@@ -121,21 +139,26 @@ module _ (bs : List BoxFace) where
   pub reach_refers : (t : Tree) (i r : ℕ) → IsIn r (mark bs (ways t) i).reach → RefersTo t r
   reach_refers t i r h =
       let led : List ℕ = flat_map (λ (v : Way). led_to bs v.steps) (to_root i (ways t)) in
-      let both : (has r (roots_met (ways t)) && has r led) ≡ true = sym (has_filter r (λ (n : ℕ). has n led) (roots_met (ways t))) ∙ in_has r (mark bs (ways t) i).reach h in
-      once_in r (way_roots (ways t)) (has_in r (roots_met (ways t)) (and_left (has r (roots_met (ways t))) (has r led) both))
+      let both : (has r (roots_met (ways t)) && has r led) ≡ true =
+      sym (has_filter r (λ (n : ℕ). has n led) (roots_met (ways t))) ∙ in_has r (mark bs (ways t) i).reach h in
+      once_in r (way_roots (ways t))
+      (has_in r (roots_met (ways t)) (and_left (has r (roots_met (ways t))) (has r led) both))
 
 -- The hops of a forest.
 
-hops_in : (i : ℕ) (ss : List Signature) (j : ℕ) (s : Signature) (m : RefMark) (x : Rule) → slice_get ss j ≡ Some s → IsIn m s.refs → IsIn x (mark_hops (i + j) m) → IsIn x (tree_hops i ss)
+hops_in : (i : ℕ) (ss : List Signature) (j : ℕ) (s : Signature) (m : RefMark) (x : Rule) → slice_get ss j ≡ Some s
+    → IsIn m s.refs → IsIn x (mark_hops (i + j) m) → IsIn x (tree_hops i ss)
 hops_in i [] j s m x e h k = absurd (none-some s e)
 hops_in i (z ∷ ss) zero s m x e h k =
     let same : z ≡ s = same_Some z s e in
     let here : i + 0 ≡ i = omega arith in
     in_left x (flat_map (mark_hops i) z.refs) (tree_hops (suc i) ss)
-    (in_flat (mark_hops i) z.refs m x (subst (λ (y : Signature). IsIn m y.refs) (sym same) h) (subst (λ (n : ℕ). IsIn x (mark_hops n m)) here k))
+    (in_flat (mark_hops i) z.refs m x (subst (λ (y : Signature). IsIn m y.refs) (sym same) h)
+    (subst (λ (n : ℕ). IsIn x (mark_hops n m)) here k))
 hops_in i (z ∷ ss) (suc j) s m x e h k =
     let next : i + suc j ≡ suc i + j = omega arith in
-    in_right x (flat_map (mark_hops i) z.refs) (tree_hops (suc i) ss) (hops_in (suc i) ss j s m x e h (subst (λ (n : ℕ). IsIn x (mark_hops n m)) next k))
+    in_right x (flat_map (mark_hops i) z.refs) (tree_hops (suc i) ss)
+    (hops_in (suc i) ss j s m x e h (subst (λ (n : ℕ). IsIn x (mark_hops n m)) next k))
 
 -- where a hop comes from
 pub record From (i : ℕ) (ss : List Signature) (x : Rule) : Type 0 where
@@ -151,15 +174,30 @@ in_hops i [] x h = absurd h
 in_hops i (z ∷ ss) x h = elim (in_append x (flat_map (mark_hops i) z.refs) (tree_hops (suc i) ss) h) [
   | inl k ↦ (let m = flat_in (mark_hops i) z.refs x k in
       let here : i ≡ i + 0 = omega arith in
-      record { place = 0; sign = z; ref = m.0; is_at = refl; is_in = m.1; hops = subst (λ (n : ℕ). IsIn x (mark_hops n m.0)) here m.2 })
+      record {
+        place = 0;
+        sign = z;
+        ref = m.0;
+        is_at = refl;
+        is_in = m.1;
+        hops = subst (λ (n : ℕ). IsIn x (mark_hops n m.0)) here m.2;
+      })
   | inr k ↦ (let f = in_hops (suc i) ss x k in
       let later : suc i + f.place ≡ i + suc f.place = omega arith in
-      record { place = suc f.place; sign = f.sign; ref = f.ref; is_at = f.is_at; is_in = f.is_in; hops = subst (λ (n : ℕ). IsIn x (mark_hops n f.ref)) later f.hops })
+      record {
+        place = suc f.place;
+        sign = f.sign;
+        ref = f.ref;
+        is_at = f.is_at;
+        is_in = f.is_in;
+        hops = subst (λ (n : ℕ). IsIn x (mark_hops n f.ref)) later f.hops;
+      })
 ]
 
 -- the hops of a mark
 abbrev Kinds : ℕ → RefMark → Rule → Type 0
-Kinds i m x = (x ≡ hop i m.root) ⊎ (((x ≡ hop m.root i) × (m.back ≡ true)) ⊎ ((k : ℕ) × IsIn k m.reach × (x ≡ hop m.root k)))
+Kinds i m x = (x ≡ hop i m.root)
+    ⊎ (((x ≡ hop m.root i) × (m.back ≡ true)) ⊎ ((k : ℕ) × IsIn k m.reach × (x ≡ hop m.root k)))
 
 pub of_mark : (i : ℕ) (m : RefMark) (x : Rule) → IsIn x (mark_hops i m) → Kinds i m x
 of_mark i m x (inl e) = inl e
@@ -223,28 +261,31 @@ hop_end : (i r j k : ℕ) → hop i r ≡ hop j k → r ≡ k
 hop_end i r j k e = ap (λ (x : Rule). x.state) e
 
 pub are_hops : (vs : List Target) (ss : List Signature) → Every IsHop (all_hops vs ss)
-are_hops vs ss = in_every IsHop (all_hops vs ss) (λ x h. elim (in_append x (map first_hop (var_roots vs)) (tree_hops 0 ss) h) [
-  | inl i ↦ (let k = in_mapped first_hop x (var_roots vs) i in inl (k.0, k.2))
-  | inr i ↦ (let f = in_hops 0 ss x i in elim (of_mark (0 + f.place) f.ref x f.hops) [
-    | inl e ↦ inr (0 + f.place, f.ref.root, e)
-    | inr t ↦ elim t [
-      | inl e ↦ inr (f.ref.root, 0 + f.place, e.0)
-      | inr e ↦ inr (f.ref.root, e.0, e.2)
-    ]
-  ])
-])
+are_hops vs ss = in_every IsHop (all_hops vs ss)
+    (λ x h. elim (in_append x (map first_hop (var_roots vs)) (tree_hops 0 ss) h) [
+      | inl i ↦ (let k = in_mapped first_hop x (var_roots vs) i in inl (k.0, k.2))
+      | inr i ↦ (let f = in_hops 0 ss x i in elim (of_mark (0 + f.place) f.ref x f.hops) [
+        | inl e ↦ inr (0 + f.place, f.ref.root, e)
+        | inr t ↦ elim t [
+          | inl e ↦ inr (f.ref.root, 0 + f.place, e.0)
+          | inr e ↦ inr (f.ref.root, e.0, e.2)
+        ]
+      ])
+    ])
 
 module _ (bs : List BoxFace) where
   abbrev pub IsSignedBy : Tree → Signature → Type 0
   IsSignedBy t s = signature bs t ≡ s.refs
 
-  signed_at : (ts : List Tree) (ss : List Signature) (j : ℕ) (t : Tree) → Paired IsSignedBy ts ss → slice_get ts j ≡ Some t → (s : Signature) × (slice_get ss j ≡ Some s) × IsSignedBy t s
+  signed_at : (ts : List Tree) (ss : List Signature) (j : ℕ) (t : Tree) → Paired IsSignedBy ts ss
+      → slice_get ts j ≡ Some t → (s : Signature) × (slice_get ss j ≡ Some s) × IsSignedBy t s
   signed_at [] ss j t p e = absurd (none-some t e)
   signed_at (u ∷ ts) [] j t p e = absurd p
   signed_at (u ∷ ts) (s ∷ ss) zero t p e = (s, refl, subst (λ (z : Tree). IsSignedBy z s) (same_Some u t e) p.0)
   signed_at (u ∷ ts) (s ∷ ss) (suc j) t p e = signed_at ts ss j t p.1 e
 
-  pub tree_at : (ts : List Tree) (ss : List Signature) (j : ℕ) (s : Signature) → Paired IsSignedBy ts ss → slice_get ss j ≡ Some s → (t : Tree) × (slice_get ts j ≡ Some t) × IsSignedBy t s
+  pub tree_at : (ts : List Tree) (ss : List Signature) (j : ℕ) (s : Signature) → Paired IsSignedBy ts ss
+      → slice_get ss j ≡ Some s → (t : Tree) × (slice_get ts j ≡ Some t) × IsSignedBy t s
   tree_at ts [] j s p e = absurd (none-some s e)
   tree_at [] (z ∷ ss) j s p e = absurd p
   tree_at (t ∷ ts) (z ∷ ss) zero s p e = (t, refl, subst (λ (y : Signature). IsSignedBy t y) (same_Some z s e) p.0)
@@ -254,21 +295,27 @@ module _ (bs : List BoxFace) where
     abbrev hops : List Rule
     hops = all_hops vs ss
 
-    by_place : (j : ℕ) (t : Tree) (k : ℕ) (x : Rule) → slice_get ts j ≡ Some t → RefersTo t k → IsIn x (mark_hops j (mark bs (ways t) k)) → IsIn x hops
+    by_place : (j : ℕ) (t : Tree) (k : ℕ) (x : Rule) → slice_get ts j ≡ Some t → RefersTo t k
+        → IsIn x (mark_hops j (mark bs (ways t) k)) → IsIn x hops
     by_place j t k x e h i =
         let s = signed_at ts ss j t signed e in
         let here : j ≡ 0 + j = omega arith in
-        let m : IsIn (mark bs (ways t) k) s.0.refs = subst (λ (ms : List RefMark). IsIn (mark bs (ways t) k) ms) s.2 (mark_in bs t k h) in
-        in_right x (map first_hop (var_roots vs)) (tree_hops 0 ss) (hops_in 0 ss j s.0 (mark bs (ways t) k) x s.1 m (subst (λ (n : ℕ). IsIn x (mark_hops n (mark bs (ways t) k))) here i))
+        let m : IsIn (mark bs (ways t) k) s.0.refs =
+        subst (λ (ms : List RefMark). IsIn (mark bs (ways t) k) ms) s.2 (mark_in bs t k h) in
+        in_right x (map first_hop (var_roots vs)) (tree_hops 0 ss)
+        (hops_in 0 ss j s.0 (mark bs (ways t) k) x s.1 m
+        (subst (λ (n : ℕ). IsIn x (mark_hops n (mark bs (ways t) k))) here i))
 
     by_ways : (i j r : ℕ) → LeadsBack bs ts i j r → IsIn (hop i r) hops
     by_ways i j r (t, e, (w, h, q, z)) =
         let refers : RefersTo t i = subst (λ (k : ℕ). RefersTo t k) q (in_map (λ (v : Way). v.root) w (ways t) h) in
         by_place j t i (hop i r) e refers (inr (back z))
       where
-        back : ((r ≡ j) × (leads_back bs w.steps ≡ true)) ⊎ IsIn r (led_to bs w.steps) → IsIn (hop i r) (back_hops j (mark bs (ways t) i) ++ map (hop i) (mark bs (ways t) i).reach)
+        back : ((r ≡ j) × (leads_back bs w.steps ≡ true)) ⊎ IsIn r (led_to bs w.steps)
+            → IsIn (hop i r) (back_hops j (mark bs (ways t) i) ++ map (hop i) (mark bs (ways t) i).reach)
         back (inl l) =
-            let b : any_back bs (to_root i (ways t)) ≡ true = back_any bs (to_root i (ways t)) w (in_to_root i (ways t) w h q) l.1 in
+            let b : any_back bs (to_root i (ways t)) ≡ true =
+            back_any bs (to_root i (ways t)) w (in_to_root i (ways t) w h q) l.1 in
             in_left (hop i r) (back_hops j (mark bs (ways t) i)) (map (hop i) (mark bs (ways t) i).reach)
             (subst (λ (c : Bool). IsIn (hop i r) (cond c (hop i j ∷ []) [])) (sym b) (inl (ap (hop i) l.0)))
         back (inr l) =
@@ -277,13 +324,18 @@ module _ (bs : List BoxFace) where
 
     -- a root that is reached is one to which the hops lead
     pub reached_arrives : (r : ℕ) → RootReached bs vs ts r → Arrives hops r
-    reached_arrives r (by_var h) = first (in_left (first_hop r) (map first_hop (var_roots vs)) (tree_hops 0 ss) (in_map first_hop r (var_roots vs) (in_var_roots vs r h)))
+    reached_arrives r (by_var h) =
+        first
+        (in_left (first_hop r) (map first_hop (var_roots vs)) (tree_hops 0 ss)
+        (in_map first_hop r (var_roots vs) (in_var_roots vs r h)))
     reached_arrives r (by_tree i t h e k) = next i (reached_arrives i h) (by_place i t r (hop i r) e k (inl refl))
     reached_arrives r (by_way i j h l) = next i (reached_arrives i h) (by_ways i j r l)
 
     of_first : (r : ℕ) → IsIn (first_hop r) hops → RootReached bs vs ts r
     of_first r h = elim (in_append (first_hop r) (map first_hop (var_roots vs)) (tree_hops 0 ss) h) [
-      | inl i ↦ (let k = in_mapped first_hop (first_hop r) (var_roots vs) i in by_var (var_roots_in vs r (subst (λ (n : ℕ). IsIn n (var_roots vs)) (sym (ap (λ (x : Rule). x.state) k.2)) k.1)))
+      | inl i ↦ (let k = in_mapped first_hop (first_hop r) (var_roots vs) i in
+          by_var
+          (var_roots_in vs r (subst (λ (n : ℕ). IsIn n (var_roots vs)) (sym (ap (λ (x : Rule). x.state) k.2)) k.1)))
       | inr i ↦ (let f = in_hops 0 ss (first_hop r) i in elim (of_mark (0 + f.place) f.ref (first_hop r) f.hops) [
         | inl e ↦ absurd (not_first (0 + f.place) f.ref.root r (sym e))
         | inr t ↦ elim t [
@@ -308,7 +360,8 @@ module _ (bs : List BoxFace) where
             elim (of_mark (0 + f.place) f.ref (hop i r) f.hops) [
               | inl e ↦ (let there : f.place ≡ i = sym (hop_source i r (0 + f.place) f.ref.root e ∙ here) in
                   let end : r ≡ m.0 = hop_end i r (0 + f.place) f.ref.root e ∙ root in
-                  by_tree i t.0 from (subst (λ (n : ℕ). slice_get ts n ≡ Some t.0) there t.1) (subst (λ (n : ℕ). RefersTo t.0 n) (sym end) m.1))
+                  by_tree i t.0 from (subst (λ (n : ℕ). slice_get ts n ≡ Some t.0) there t.1)
+                  (subst (λ (n : ℕ). RefersTo t.0 n) (sym end) m.1))
               | inr z ↦ elim z [
                 | inl e ↦ (let source : m.0 ≡ i = sym (hop_source i r f.ref.root (0 + f.place) e.0 ∙ root) in
                     let end : r ≡ f.place = hop_end i r f.ref.root (0 + f.place) e.0 ∙ here in
@@ -318,7 +371,11 @@ module _ (bs : List BoxFace) where
                 | inr e ↦ (let source : m.0 ≡ i = sym (hop_source i r f.ref.root e.0 e.2 ∙ root) in
                     let end : r ≡ e.0 = hop_end i r f.ref.root e.0 e.2 in
                     let w = mark_in_reach bs t.0 m.0 e.0 (subst (λ (x : RefMark). IsIn e.0 x.reach) m.2 e.1) in
-                    by_way i f.place from (t.0, t.1, (w.0, w.1, w.2 ∙ source, inr (subst (λ (n : ℕ). IsIn n (led_to bs w.0.steps)) (sym end) w.3))))
+                    by_way i f.place from (
+                      t.0,
+                      t.1,
+                      (w.0, w.1, w.2 ∙ source, inr (subst (λ (n : ℕ). IsIn n (led_to bs w.0.steps)) (sym end) w.3)),
+                    ))
               ]
             ]
 

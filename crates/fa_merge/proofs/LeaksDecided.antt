@@ -1,5 +1,7 @@
--- In a sound forest each root is reached whichever trees are taken, or never; without box edges every member leaks where some root is not, and none does where each is.
-use Rattle.std.proofs.Common.{◌≡◌, ◌⊎◌, inl, inr, ℕ, zero, suc, ◌<◌, Bool, true, false, true≢false, nat_eq, List, [], ◌∷◌, length, map, refl, sym, subst, ◌∙◌, arith}
+-- In a sound forest each root is reached whichever trees are taken, or never; without box edges every member leaks
+-- where some root is not, and none does where each is.
+use Rattle.std.proofs.Common.{◌≡◌, ◌⊎◌, inl, inr, ℕ, zero, suc, ◌<◌, Bool, true, false, true≢false, nat_eq, List, []}
+use Rattle.std.proofs.Common.{◌∷◌, length, map, refl, sym, subst, ◌∙◌, arith}
 use Rattle.std.proofs.lemmas.Bool.{eqb-true, eq-eqb}
 use Rattle.fore_base.specs.Lists.{Every, Paired}
 use Rattle.ta_core.specs.Auto.{Automaton}
@@ -12,7 +14,8 @@ use Rattle.fa_core.specs.declared.signature.Signature.{Signature}
 use Rattle.fa_core.specs.Boxless.{HasNoBoxes}
 use Rattle.fa_core.specs.Filled.{Choice, HasSignatures, HasSome, IsSound}
 use Rattle.fa_core.specs.Ways.{signature}
-use Rattle.fa_merge.specs.Reached.{RootReached, IsReached, IsUnreached, AreAllReached, IsLeastUnreached, AlwaysLeaks, NeverLeaks}
+use Rattle.fa_merge.specs.Reached.{RootReached, IsReached, IsUnreached, AreAllReached, IsLeastUnreached, AlwaysLeaks}
+use Rattle.fa_merge.specs.Reached.{NeverLeaks}
 use Rattle.fa_core.specs.Choices.{bares}
 use Rattle.fa_merge.specs.inner.Hops.{Arrives, IsSignatureOf, all_hops}
 use Rattle.fa_merge.proofs.Arriving.{arrives_or_not}
@@ -32,13 +35,15 @@ module _ (bs : List BoxFace) where
   abbrev pub sign_of : Tree → Signature
   sign_of t = record { refs = signature bs t }
 
-  pub signed_each : (autos : List Automaton) (ts : List Tree) → Every (HasSignatures bs) autos → Choice autos ts → Paired (IsSignatureOf bs) autos (map sign_of ts)
+  pub signed_each : (autos : List Automaton) (ts : List Tree) → Every (HasSignatures bs) autos → Choice autos ts
+      → Paired (IsSignatureOf bs) autos (map sign_of ts)
   signed_each [] [] h c = tt
   signed_each [] (t ∷ ts) h c = absurd c
   signed_each (a ∷ autos) [] h c = absurd c
   signed_each (a ∷ autos) (t ∷ ts) h c = ((λ u i. h.0.component u t i c.0), signed_each autos ts h.1 c.1)
 
-  pub signed_choice : (autos : List Automaton) (ss : List Signature) (ts : List Tree) → Paired (IsSignatureOf bs) autos ss → Choice autos ts → Paired (IsSignedBy bs) ts ss
+  pub signed_choice : (autos : List Automaton) (ss : List Signature) (ts : List Tree)
+      → Paired (IsSignatureOf bs) autos ss → Choice autos ts → Paired (IsSignedBy bs) ts ss
   signed_choice [] [] [] h c = tt
   signed_choice [] [] (t ∷ ts) h c = absurd c
   signed_choice [] (s ∷ ss) ts h c = absurd h
@@ -47,14 +52,18 @@ module _ (bs : List BoxFace) where
   signed_choice (a ∷ autos) (s ∷ ss) (t ∷ ts) h c = (h.0 t c.0, signed_choice autos ss ts h.1 c.1)
 
 -- trees of the same signatures reach the same roots
-pub same_reached : (bs : List BoxFace) (vs : List Target) (ts us : List Tree) (r : ℕ) → Paired (λ t u. signature bs t ≡ signature bs u) ts us → RootReached bs vs ts r → RootReached bs vs us r
-same_reached bs vs ts us r same h = arrives_reached bs vs us (map (sign_of bs) us) (own us) r (reached_arrives bs vs ts (map (sign_of bs) us) (others ts us same) r h)
+pub same_reached : (bs : List BoxFace) (vs : List Target) (ts us : List Tree) (r : ℕ)
+    → Paired (λ t u. signature bs t ≡ signature bs u) ts us → RootReached bs vs ts r → RootReached bs vs us r
+same_reached bs vs ts us r same h =
+    arrives_reached bs vs us (map (sign_of bs) us) (own us) r
+    (reached_arrives bs vs ts (map (sign_of bs) us) (others ts us same) r h)
   where
     own : (us : List Tree) → Paired (IsSignedBy bs) us (map (sign_of bs) us)
     own [] = tt
     own (u ∷ us) = (refl, own us)
 
-    others : (ts us : List Tree) → Paired (λ t u. signature bs t ≡ signature bs u) ts us → Paired (IsSignedBy bs) ts (map (sign_of bs) us)
+    others : (ts us : List Tree) → Paired (λ t u. signature bs t ≡ signature bs u) ts us
+        → Paired (IsSignedBy bs) ts (map (sign_of bs) us)
     others [] [] h = tt
     others [] (u ∷ us) h = absurd h
     others (t ∷ ts) [] h = absurd h
@@ -62,17 +71,21 @@ same_reached bs vs ts us r same h = arrives_reached bs vs us (map (sign_of bs) u
 
 module _ (face : Face) (F : Forest) (ss : List Signature) (signed : Paired (IsSignatureOf face.boxes) F.autos ss) where
   pub arrives_is_reached : (r : ℕ) → Arrives (all_hops F.vars ss) r → IsReached face F r
-  arrives_is_reached r h ts c = arrives_reached face.boxes F.vars ts ss (signed_choice face.boxes F.autos ss ts signed c) r h
+  arrives_is_reached r h ts c =
+      arrives_reached face.boxes F.vars ts ss (signed_choice face.boxes F.autos ss ts signed c) r h
 
   pub not_arrives_unreached : (r : ℕ) → (Arrives (all_hops F.vars ss) r → ⊥) → IsUnreached face F r
-  not_arrives_unreached r h ts c w = h (reached_arrives face.boxes F.vars ts ss (signed_choice face.boxes F.autos ss ts signed c) r w)
+  not_arrives_unreached r h ts c w =
+      h (reached_arrives face.boxes F.vars ts ss (signed_choice face.boxes F.autos ss ts signed c) r w)
 
 -- what is decided of each number below n is decided of all, with the least one of which it does not hold
-first_not : (P Q : ℕ → Type 0) → ((k : ℕ) → P k ⊎ Q k) → (n : ℕ) → ((k : ℕ) → k < n → P k) ⊎ ((k : ℕ) × (k < n) × Q k × ((j : ℕ) → j < k → P j))
+first_not : (P Q : ℕ → Type 0) → ((k : ℕ) → P k ⊎ Q k) → (n : ℕ) → ((k : ℕ) → k < n → P k)
+    ⊎ ((k : ℕ) × (k < n) × Q k × ((j : ℕ) → j < k → P j))
 first_not P Q d zero = inl (λ k l. absurd (omega (arith, l)))
 first_not P Q d (suc n) = step (first_not P Q d n)
   where
-    step : ((k : ℕ) → k < n → P k) ⊎ ((k : ℕ) × (k < n) × Q k × ((j : ℕ) → j < k → P j)) → ((k : ℕ) → k < suc n → P k) ⊎ ((k : ℕ) × (k < suc n) × Q k × ((j : ℕ) → j < k → P j))
+    step : ((k : ℕ) → k < n → P k) ⊎ ((k : ℕ) × (k < n) × Q k × ((j : ℕ) → j < k → P j)) → ((k : ℕ) → k < suc n → P k)
+        ⊎ ((k : ℕ) × (k < suc n) × Q k × ((j : ℕ) → j < k → P j))
     step (inr h) = (let l = h.1 in inr (h.0, omega (arith, l), h.2, h.3))
     step (inl h) = elim (d n) [
       | inl p ↦ inl (λ k l. below_or_last h p k l)
@@ -88,7 +101,8 @@ first_not P Q d (suc n) = step (first_not P Q d n)
 
 module _ (face : Face) (F : Forest) (sound : IsSound face F) where
   some_signatures : (ss : List Signature) × Paired (IsSignatureOf face.boxes) F.autos ss
-  some_signatures = let c = some_choice F.autos sound.full in (map (sign_of face.boxes) c.0, signed_each face.boxes F.autos c.0 sound.well_formed.signatures c.1)
+  some_signatures = let c = some_choice F.autos sound.full in
+      (map (sign_of face.boxes) c.0, signed_each face.boxes F.autos c.0 sound.well_formed.signatures c.1)
 
   -- each root is reached, whichever trees are taken, or is not
   pub root_decided : (r : ℕ) → IsReached face F r ⊎ IsUnreached face F r
@@ -110,13 +124,16 @@ module _ (face : Face) (F : Forest) (plain : Every HasNoBoxes F.autos) where
   pub reached_never_leaks : AreAllReached face F → NeverLeaks F
   reached_never_leaks all hs T s (d, h) =
       let no_edges = trees_no_edges T F.autos d plain h.of in
-      reached_store hs T F d s h no_edges (λ r x e. root_tree face.boxes F.vars d no_edges r (all r (tree_below T F.autos d r x h.of e) (bares d) (choice_of T F.autos d h.of)))
+      reached_store hs T F d s h no_edges
+      (λ r x e. root_tree face.boxes F.vars d no_edges r
+      (all r (tree_below T F.autos d r x h.of e) (bares d) (choice_of T F.autos d h.of)))
 
   -- where some root is not every member leaks
   pub unreached_leaks : (r : ℕ) → r < length F.autos → IsUnreached face F r → AlwaysLeaks F
   unreached_leaks r l never hs T s (d, h) =
       let x = tree_there T F.autos d r h.of l in
-      unreached_store hs T F d s h (trees_no_edges T F.autos d plain h.of) r x.0 x.1 (λ w. never (bares d) (choice_of T F.autos d h.of) (tree_root face.boxes F.vars d r w))
+      unreached_store hs T F d s h (trees_no_edges T F.autos d plain h.of) r x.0 x.1
+      (λ w. never (bares d) (choice_of T F.autos d h.of) (tree_root face.boxes F.vars d r w))
 
   -- every member of a sound forest leaks, or none does
   pub leak_decided : IsSound face F → NeverLeaks F ⊎ AlwaysLeaks F

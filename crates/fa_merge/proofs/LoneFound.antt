@@ -1,5 +1,6 @@
 -- A root that can be merged: by the signatures one component refers to it, each tree of it once, and no other does.
-use Rattle.std.proofs.Common.{◌≡◌, ◌≢◌, ℕ, zero, suc, ◌<◌, ◌≤◌, ◌+◌, Bool, true, false, true≢false, nat_eq, length, List, [], ◌∷◌, flat_map, refl, sym, ap, subst, ◌∙◌, slice_get, Some, length-append, arith}
+use Rattle.std.proofs.Common.{◌≡◌, ◌≢◌, ℕ, zero, suc, ◌<◌, ◌≤◌, ◌+◌, Bool, true, false, true≢false, nat_eq, length}
+use Rattle.std.proofs.Common.{List, [], ◌∷◌, flat_map, refl, sym, ap, subst, ◌∙◌, slice_get, Some, length-append, arith}
 use Rattle.std.specs.Bool.{MatchBool}
 use Rattle.std.proofs.lemmas.Bool.{eqb-true, eq-eqb}
 use Rattle.std.proofs.lemmas.Option.{none-some, same_Some}
@@ -48,36 +49,44 @@ in_tree r t = length (to_root r (ways t))
 one_of_them : (r : ℕ) (ts : List Tree) (i : ℕ) (t : Tree) → slice_get ts i ≡ Some t → in_tree r t ≤ references ts r
 one_of_them r [] i t e = absurd (none-some t e)
 one_of_them r (u ∷ ts) zero t e =
-    let sum : references (u ∷ ts) r ≡ in_tree r u + references ts r = length-append (to_root r (ways u)) (flat_map (λ (t : Tree). to_root r (ways t)) ts) in
+    let sum : references (u ∷ ts) r ≡ in_tree r u + references ts r =
+    length-append (to_root r (ways u)) (flat_map (λ (t : Tree). to_root r (ways t)) ts) in
     let same : in_tree r u ≡ in_tree r t = ap (in_tree r) (same_Some u t e) in
     omega (arith, sum, same)
 one_of_them r (u ∷ ts) (suc i) t e =
-    let sum : references (u ∷ ts) r ≡ in_tree r u + references ts r = length-append (to_root r (ways u)) (flat_map (λ (t : Tree). to_root r (ways t)) ts) in
+    let sum : references (u ∷ ts) r ≡ in_tree r u + references ts r =
+    length-append (to_root r (ways u)) (flat_map (λ (t : Tree). to_root r (ways t)) ts) in
     let rest = one_of_them r ts i t e in
     omega (arith, sum, rest)
 
-two_of_them : (r : ℕ) (ts : List Tree) (i k : ℕ) (t u : Tree) → i ≢ k → slice_get ts i ≡ Some t → slice_get ts k ≡ Some u → in_tree r t + in_tree r u ≤ references ts r
+two_of_them : (r : ℕ) (ts : List Tree) (i k : ℕ) (t u : Tree) → i ≢ k → slice_get ts i ≡ Some t
+    → slice_get ts k ≡ Some u → in_tree r t + in_tree r u ≤ references ts r
 two_of_them r [] i k t u d e f = absurd (none-some t e)
 two_of_them r (v ∷ ts) zero zero t u d e f = absurd (d refl)
 two_of_them r (v ∷ ts) zero (suc k) t u d e f =
-    let sum : references (v ∷ ts) r ≡ in_tree r v + references ts r = length-append (to_root r (ways v)) (flat_map (λ (t : Tree). to_root r (ways t)) ts) in
+    let sum : references (v ∷ ts) r ≡ in_tree r v + references ts r =
+    length-append (to_root r (ways v)) (flat_map (λ (t : Tree). to_root r (ways t)) ts) in
     let same : in_tree r v ≡ in_tree r t = ap (in_tree r) (same_Some v t e) in
     let rest = one_of_them r ts k u f in
     omega (arith, sum, same, rest)
 two_of_them r (v ∷ ts) (suc i) zero t u d e f =
-    let sum : references (v ∷ ts) r ≡ in_tree r v + references ts r = length-append (to_root r (ways v)) (flat_map (λ (t : Tree). to_root r (ways t)) ts) in
+    let sum : references (v ∷ ts) r ≡ in_tree r v + references ts r =
+    length-append (to_root r (ways v)) (flat_map (λ (t : Tree). to_root r (ways t)) ts) in
     let same : in_tree r v ≡ in_tree r u = ap (in_tree r) (same_Some v u f) in
     let rest = one_of_them r ts i t e in
     omega (arith, sum, same, rest)
 two_of_them r (v ∷ ts) (suc i) (suc k) t u d e f =
-    let sum : references (v ∷ ts) r ≡ in_tree r v + references ts r = length-append (to_root r (ways v)) (flat_map (λ (t : Tree). to_root r (ways t)) ts) in
+    let sum : references (v ∷ ts) r ≡ in_tree r v + references ts r =
+    length-append (to_root r (ways v)) (flat_map (λ (t : Tree). to_root r (ways t)) ts) in
     let rest = two_of_them r ts i k t u (λ z. d (ap (λ (n : ℕ). suc n) z)) e f in
     omega (arith, sum, rest)
 
-none_of_them : (r : ℕ) (ts : List Tree) → ((i : ℕ) (t : Tree) → slice_get ts i ≡ Some t → RefersTo t r → ⊥) → references ts r ≡ 0
+none_of_them : (r : ℕ) (ts : List Tree) → ((i : ℕ) (t : Tree) → slice_get ts i ≡ Some t → RefersTo t r → ⊥)
+    → references ts r ≡ 0
 none_of_them r [] h = refl
 none_of_them r (t ∷ ts) h =
-    let sum : references (t ∷ ts) r ≡ in_tree r t + references ts r = length-append (to_root r (ways t)) (flat_map (λ (t : Tree). to_root r (ways t)) ts) in
+    let sum : references (t ∷ ts) r ≡ in_tree r t + references ts r =
+    length-append (to_root r (ways t)) (flat_map (λ (t : Tree). to_root r (ways t)) ts) in
     let own : in_tree r t ≡ 0 = none_here (tree_refs t) (λ i. h 0 t refl i) (to_often r (ways t)) in
     let rest : references ts r ≡ 0 = none_of_them r ts (λ i u e. h (suc i) u e) in
     omega (arith, sum, own, rest)
@@ -86,18 +95,22 @@ none_of_them r (t ∷ ts) h =
     none_here ks h e = e ∙ often_out r ks h
 
 -- the tree at a place of a choice
-pub choice_at : (autos : List Automaton) (ts : List Tree) (i : ℕ) → Choice autos ts → i < length autos → (t : Tree) × (slice_get ts i ≡ Some t) × InLanguage (component_at autos i) t
+pub choice_at : (autos : List Automaton) (ts : List Tree) (i : ℕ) → Choice autos ts → i < length autos → (t : Tree)
+    × (slice_get ts i ≡ Some t) × InLanguage (component_at autos i) t
 choice_at [] ts i c l = absurd (omega (arith, l))
 choice_at (a ∷ autos) [] i c l = absurd c
 choice_at (a ∷ autos) (t ∷ ts) zero c l = (t, refl, c.0)
 choice_at (a ∷ autos) (t ∷ ts) (suc i) c l = choice_at autos ts i c.1 (omega (arith, l))
 
-pub choice_component : (autos : List Automaton) (ts : List Tree) (i : ℕ) (t : Tree) → Choice autos ts → slice_get ts i ≡ Some t → (i < length autos) × InLanguage (component_at autos i) t
+pub choice_component : (autos : List Automaton) (ts : List Tree) (i : ℕ) (t : Tree) → Choice autos ts
+    → slice_get ts i ≡ Some t → (i < length autos) × InLanguage (component_at autos i) t
 choice_component [] [] i t c e = absurd (none-some t e)
 choice_component [] (u ∷ ts) i t c e = absurd c
 choice_component (a ∷ autos) [] i t c e = absurd c
-choice_component (a ∷ autos) (u ∷ ts) zero t c e = (omega arith, subst (λ (z : Tree). InLanguage a z) (same_Some u t e) c.0)
-choice_component (a ∷ autos) (u ∷ ts) (suc i) t c e = let k = choice_component autos ts i t c.1 e in (let l = k.0 in omega (arith, l), k.1)
+choice_component (a ∷ autos) (u ∷ ts) zero t c e =
+    (omega arith, subst (λ (z : Tree). InLanguage a z) (same_Some u t e) c.0)
+choice_component (a ∷ autos) (u ∷ ts) (suc i) t c e = let k = choice_component autos ts i t c.1 e in
+    (let l = k.0 in omega (arith, l), k.1)
 
 -- what holds below n and of n holds below the next number
 pub below_or_last : (P : ℕ → Type 0) (n : ℕ) → ((k : ℕ) → k < n → P k) → P n → (k : ℕ) → k < n + 1 → P k
@@ -109,17 +122,24 @@ below_or_last P n h p k l = here (nat_eq k n) refl
 
 -- What a signature says of the trees.
 
-pub named_refer : (bs : List BoxFace) (a : Automaton) (s : Signature) (r : ℕ) → IsSignatureOf bs a s → has r (roots_in s.refs) ≡ true → AllRefer a r
+pub named_refer : (bs : List BoxFace) (a : Automaton) (s : Signature) (r : ℕ) → IsSignatureOf bs a s
+    → has r (roots_in s.refs) ≡ true → AllRefer a r
 named_refer bs a s r h e t i =
     let m = in_mapped (λ (m : RefMark). m.root) r s.refs (has_in r (roots_in s.refs) e) in
     let k = in_mark bs t m.0 (subst (λ (ms : List RefMark). IsIn m.0 ms) (sym (h t i)) m.1) in
     subst (λ (n : ℕ). RefersTo t n) (sym (m.2 ∙ ap (λ (x : RefMark). x.root) k.2)) k.1
 
-pub unnamed_refer : (bs : List BoxFace) (a : Automaton) (s : Signature) (r : ℕ) → IsSignatureOf bs a s → has r (roots_in s.refs) ≡ false → NoneRefer a r
+pub unnamed_refer : (bs : List BoxFace) (a : Automaton) (s : Signature) (r : ℕ) → IsSignatureOf bs a s
+    → has r (roots_in s.refs) ≡ false → NoneRefer a r
 unnamed_refer bs a s r h e t i w =
-    true≢false (sym (in_has r (roots_in s.refs) (in_map (λ (m : RefMark). m.root) (mark bs (ways t) r) s.refs (subst (λ (ms : List RefMark). IsIn (mark bs (ways t) r) ms) (h t i) (mark_in bs t r w)))) ∙ e)
+    true≢false
+    (sym
+    (in_has r (roots_in s.refs)
+    (in_map (λ (m : RefMark). m.root) (mark bs (ways t) r) s.refs
+    (subst (λ (ms : List RefMark). IsIn (mark bs (ways t) r) ms) (h t i) (mark_in bs t r w)))) ∙ e)
 
-pub refer_or_not : (bs : List BoxFace) (a : Automaton) (s : Signature) (r : ℕ) (yes_or_no : Bool) → IsSignatureOf bs a s → yes_or_no ≡ has r (roots_in s.refs) → MatchBool yes_or_no (AllRefer a r) (NoneRefer a r)
+pub refer_or_not : (bs : List BoxFace) (a : Automaton) (s : Signature) (r : ℕ) (yes_or_no : Bool) → IsSignatureOf bs a s
+    → yes_or_no ≡ has r (roots_in s.refs) → MatchBool yes_or_no (AllRefer a r) (NoneRefer a r)
 refer_or_not bs a s r true h e = named_refer bs a s r h (sym e)
 refer_or_not bs a s r false h e = unnamed_refer bs a s r h (sym e)
 
@@ -128,10 +148,16 @@ pub refers_of : (F : Forest) (r i : ℕ) → IsReferrer F r i → Refers F i r
 refers_of F r i h = record { there = h.0; refer = λ ts t c e. h.1 t (choice_component F.autos ts i t c e).1 }
 
 pub referrer_of : (F : Forest) (r i : ℕ) → Every HasSome F.autos → Refers F i r → IsReferrer F r i
-referrer_of F r i full h = (h.there, λ t w. (let c = choice_with F.autos full i (component_at F.autos i) t (component_got F.autos i h.there) w in h.refer c.0 t c.1 c.2))
+referrer_of F r i full h = (
+  h.there,
+  λ t w. (let c = choice_with F.autos full i (component_at F.autos i) t (component_got F.autos i h.there) w in
+      h.refer c.0 t c.1 c.2),
+)
 
-module _ (face : Face) (F : Forest) (r : ℕ) (sound : IsSound face F) (ranked : Every IsRanked F.autos) (can : CanMerge F r) where
-  with_tree : (k : ℕ) → k < length F.autos → (t : Tree) → InLanguage (component_at F.autos k) t → (ts : List Tree) × Choice F.autos ts × (slice_get ts k ≡ Some t)
+module _ (face : Face) (F : Forest) (r : ℕ) (sound : IsSound face F) (ranked : Every IsRanked F.autos)
+    (can : CanMerge F r) where
+  with_tree : (k : ℕ) → k < length F.autos → (t : Tree) → InLanguage (component_at F.autos k) t → (ts : List Tree)
+      × Choice F.autos ts × (slice_get ts k ≡ Some t)
   with_tree k l t h = choice_with F.autos sound.full k (component_at F.autos k) t (component_got F.autos k l) h
 
   tops_cells : (k : ℕ) → k < length F.autos → TopsAreCells (component_at F.autos k)
@@ -139,7 +165,8 @@ module _ (face : Face) (F : Forest) (r : ℕ) (sound : IsSound face F) (ranked :
       let a = component_at F.autos k in
       let ranks = every_in (IsRankedRule a.states) a.rules o (component_has IsRanked F.autos k ranked l).1 i in
       let none : o.children ≡ [] = no_items o.children (ranks.2 ∙ ap arity e ∙ leaf_arity y) in
-      let t = top_of_filled face F sound.well_formed.filled sound.full k a (bare_end (leaf y)) (component_got F.autos k l) (o.state, j, end_bare a.rules o.state (leaf y) (o, i, refl, e, none)) in
+      let t = top_of_filled face F sound.well_formed.filled sound.full k a (bare_end (leaf y))
+      (component_got F.autos k l) (o.state, j, end_bare a.rules o.state (leaf y) (o, i, refl, e, none)) in
       leaf_is_no_cell y (subst IsCellSymbol (sym (sym (leaf_top y) ∙ t.1.2)) tt)
     where
       no_items : (qs : List ℕ) → length qs ≡ 0 → qs ≡ []
@@ -177,7 +204,8 @@ module _ (face : Face) (F : Forest) (r : ℕ) (sound : IsSound face F) (ranked :
         let same = refs_often n in
         once_often r (refs n) (omega (arith, one, most, least, same))
 
-    lone_never : (k : ℕ) (n : Node) → k < length F.autos → k ≢ i → InLanguage (component_at F.autos k) (bare n) → IsNever r (refs n)
+    lone_never : (k : ℕ) (n : Node) → k < length F.autos → k ≢ i → InLanguage (component_at F.autos k) (bare n)
+        → IsNever r (refs n)
     lone_never k n l d h =
         let c = with_tree k l (bare n) h in
         let t = choice_at F.autos c.0 i c.1 into in
@@ -194,10 +222,16 @@ module _ (face : Face) (F : Forest) (r : ℕ) (sound : IsSound face F) (ranked :
       apart = lone_apart;
       ranked = ranked;
       tops = tops_cells;
-      refers = λ k n l h. refs_of_filled face F sound.well_formed.filled sound.full k (component_at F.autos k) n (component_got F.autos k l) h;
+      refers = λ k n l h. refs_of_filled face F sound.well_formed.filled sound.full k (component_at F.autos k) n
+          (component_got F.autos k l) h;
       once = lone_once;
       never = lone_never;
-      vars = λ k x. (let c = some_choice F.autos sound.full in (var_below face F sound.well_formed.filled c.0 c.1 k x, λ e. can.no_var (subst (λ (n : ℕ). IsIn (At n) F.vars) e x)));
+      vars =
+          λ k x.
+          (let c = some_choice F.autos sound.full in (
+            var_below face F sound.well_formed.filled c.0 c.1 k x,
+            λ e. can.no_var (subst (λ (n : ℕ). IsIn (At n) F.vars) e x),
+          ));
     }
 
   -- some component refers to it
@@ -209,5 +243,7 @@ module _ (face : Face) (F : Forest) (r : ℕ) (sound : IsSound face F) (ranked :
       omega (arith, one, none)
 
 -- the same where the trees of root i refer to it
-pub lone_refers : (face : Face) (F : Forest) (r i : ℕ) → IsSound face F → Every IsRanked F.autos → CanMerge F r → Refers F i r → IsLone F r i
-lone_refers face F r i sound ranked can h = let k = referrer_of F r i sound.full h in lone_found face F r sound ranked can i k.0 k.1
+pub lone_refers : (face : Face) (F : Forest) (r i : ℕ) → IsSound face F → Every IsRanked F.autos → CanMerge F r
+    → Refers F i r → IsLone F r i
+lone_refers face F r i sound ranked can h = let k = referrer_of F r i sound.full h in
+    lone_found face F r sound ranked can i k.0 k.1

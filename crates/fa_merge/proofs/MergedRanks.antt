@@ -21,26 +21,39 @@ states_more m n (q ∷ qs) h = (let l = h.0 in omega (arith, l), states_more m n
 pub merged_ranked : (r : ℕ) (t l : Automaton) → IsRanked t → IsRanked l → IsRanked (merged r t l)
 merged_ranked r t l p q = (
   states_more t.states l.states t.roots p.0,
-  every_append (IsRankedRule (t.states + l.states)) (kept r t.rules) (moved t.states l.rules ++ bridges t.states r l t.rules) (in_every (IsRankedRule (t.states + l.states)) (kept r t.rules) old)
-      (every_append (IsRankedRule (t.states + l.states)) (moved t.states l.rules) (bridges t.states r l t.rules) (in_every (IsRankedRule (t.states + l.states)) (moved t.states l.rules) up) (in_every (IsRankedRule (t.states + l.states)) (bridges t.states r l t.rules) between)),
+  every_append (IsRankedRule (t.states + l.states)) (kept r t.rules)
+      (moved t.states l.rules ++ bridges t.states r l t.rules)
+      (in_every (IsRankedRule (t.states + l.states)) (kept r t.rules) old)
+      (every_append (IsRankedRule (t.states + l.states)) (moved t.states l.rules) (bridges t.states r l t.rules)
+      (in_every (IsRankedRule (t.states + l.states)) (moved t.states l.rules) up)
+      (in_every (IsRankedRule (t.states + l.states)) (bridges t.states r l t.rules) between)),
 )
   where
     old : (x : Rule) → IsIn x (kept r t.rules) → IsRankedRule (t.states + l.states) x
-    old x i = let w = every_in (IsRankedRule t.states) t.rules x p.1 (kept_in r t.rules x i).0 in let a = w.0 in (omega (arith, a), states_more t.states l.states x.children w.1, w.2)
+    old x i = let w = every_in (IsRankedRule t.states) t.rules x p.1 (kept_in r t.rules x i).0 in let a = w.0 in
+        (omega (arith, a), states_more t.states l.states x.children w.1, w.2)
 
     up : (x : Rule) → IsIn x (moved t.states l.rules) → IsRankedRule (t.states + l.states) x
     up x i =
         let m = moved_in t.states l.rules x i in
         let w = every_in (IsRankedRule l.states) l.rules m.0 q.1 m.1 in
         let a = w.0 in
-        rw m.2 (omega (arith, a), states_up t.states l.states m.0.children w.1, mapped_length (shift t.states) m.0.children ∙ w.2)
+        rw m.2 (
+          omega (arith, a),
+          states_up t.states l.states m.0.children w.1,
+          mapped_length (shift t.states) m.0.children ∙ w.2,
+        )
 
     between : (x : Rule) → IsIn x (bridges t.states r l t.rules) → IsRankedRule (t.states + l.states) x
     between x i =
         let m = bridges_in t.states r l t.rules x i in
         let w = every_in (IsRankedRule l.states) l.rules m.1 q.1 m.4 in
         let a = (every_in (IsRankedRule t.states) t.rules m.0 p.1 m.2).0 in
-        rw m.6 (omega (arith, a), states_up t.states l.states m.1.children w.1, mapped_length (shift t.states) m.1.children ∙ w.2)
+        rw m.6 (
+          omega (arith, a),
+          states_up t.states l.states m.1.children w.1,
+          mapped_length (shift t.states) m.1.children ∙ w.2,
+        )
 
 -- lists with a last item
 abbrev head_or : Automaton → List Automaton → Automaton

@@ -1,7 +1,9 @@
--- Worked values: numbers of roots in other orders, merged automata and forests, dropped roots, and roots that are reached.
+-- Worked values: numbers of roots in other orders, merged automata and forests, dropped roots, and roots that are
+-- reached.
 use Rattle.std.proofs.Common.{◌≡◌, inl, inr, ℕ, Bool, true, false, true≢false, List, [], ◌∷◌, map, refl, ap, Some}
 use Rattle.fore_base.specs.declared.store.Store.{Store}
-use Rattle.fore_base.specs.declared.store.Value.TheVariants.{Null as NullValue, Dangling as DanglingValue, Cell as CellValue}
+use Rattle.fore_base.specs.declared.store.Value.TheVariants.{Null as NullValue, Dangling as DanglingValue}
+use Rattle.fore_base.specs.declared.store.Value.TheVariants.{Cell as CellValue}
 use Rattle.ta_core.specs.Auto.{Automaton, automaton}
 use Rattle.ta_core.specs.declared.auto.Rule.{Rule}
 use Rattle.ta_core.specs.declared.symbol.Slot.{Slot}
@@ -15,8 +17,10 @@ use Rattle.fa_core.specs.declared.forest.Target.{Target}
 use Rattle.fa_core.specs.declared.forest.Target.TheVariants.{Null as NullTarget, Dangling as DanglingTarget, At}
 use Rattle.fa_core.specs.Dressed.{Nodes, node, no_parts, field, leaf, under, no_nodes, more}
 use Rattle.fa_core.specs.Ways.{Way, ways, ways_at}
-use Rattle.fa_merge.specs.Dropped.{drop_leaf, but_place, dropped_forest, dropped, AreLeaves, HasFieldsOnly, without_cell}
-use Rattle.fa_merge.specs.Merged.{is_ref, kept, moved, bridge, bridges, merged, others, last_order, to_last, merged_at, lowered, lowering, CanMerge}
+use Rattle.fa_merge.specs.Dropped.{drop_leaf, but_place, dropped_forest, dropped, AreLeaves, HasFieldsOnly}
+use Rattle.fa_merge.specs.Dropped.{without_cell}
+use Rattle.fa_merge.specs.Merged.{is_ref, kept, moved, bridge, bridges, merged, others, last_order, to_last, merged_at}
+use Rattle.fa_merge.specs.Merged.{lowered, lowering, CanMerge}
 use Rattle.fa_merge.specs.Reached.{RootReached, by_var, by_tree, by_way}
 use Rattle.fa_merge.specs.Reordered.{counted, place_of, reordered}
 use Rattle.fa_sound.specs.Components.{component_at}
@@ -60,10 +64,20 @@ lower_above_one = refl
 -- Three roots: 0 refers to 1, and 1 to 2. Variables are at 0 and 2.
 
 abbrev three : Forest
-three = record { autos = one_cell (Ref 1) ∷ one_cell (Ref 2) ∷ one_cell Null ∷ []; vars = At 0 ∷ NullTarget ∷ At 2 ∷ []; data_vars = [] }
+three =
+    record {
+      autos = one_cell (Ref 1) ∷ one_cell (Ref 2) ∷ one_cell Null ∷ [];
+      vars = At 0 ∷ NullTarget ∷ At 2 ∷ [];
+      data_vars = [];
+    }
 
 -- the roots in the order 2, 0, 1
-turned_three : reordered (2 ∷ 0 ∷ 1 ∷ []) three ≡ record { autos = one_cell Null ∷ one_cell (Ref 2) ∷ one_cell (Ref 0) ∷ []; vars = At 1 ∷ NullTarget ∷ At 0 ∷ []; data_vars = [] }
+turned_three : reordered (2 ∷ 0 ∷ 1 ∷ []) three
+    ≡ record {
+      autos = one_cell Null ∷ one_cell (Ref 2) ∷ one_cell (Ref 0) ∷ [];
+      vars = At 1 ∷ NullTarget ∷ At 0 ∷ [];
+      data_vars = [];
+    }
 turned_three = refl
 
 -- Merged automata.
@@ -71,25 +85,37 @@ turned_three = refl
 is_that_reference : map (is_ref 1) (Ref 1 ∷ Ref 0 ∷ Null ∷ list_cell ∷ []) ≡ true ∷ false ∷ false ∷ false ∷ []
 is_that_reference = refl
 
-reference_is_not_kept : kept 1 (rule 0 list_cell (1 ∷ []) ∷ rule 1 (Ref 1) [] ∷ rule 1 (Ref 0) [] ∷ []) ≡ rule 0 list_cell (1 ∷ []) ∷ rule 1 (Ref 0) [] ∷ []
+reference_is_not_kept : kept 1 (rule 0 list_cell (1 ∷ []) ∷ rule 1 (Ref 1) [] ∷ rule 1 (Ref 0) [] ∷ [])
+    ≡ rule 0 list_cell (1 ∷ []) ∷ rule 1 (Ref 0) [] ∷ []
 reference_is_not_kept = refl
 
 moved_by_two : moved 2 (rule 0 list_cell (1 ∷ []) ∷ []) ≡ rule 2 list_cell (3 ∷ []) ∷ []
 moved_by_two = refl
 
 -- the rule of the root state alone
-root_rule_at_five : bridge 2 5 (0 ∷ []) (rule 0 list_cell (1 ∷ []) ∷ rule 1 Null [] ∷ []) ≡ rule 5 list_cell (3 ∷ []) ∷ []
+root_rule_at_five : bridge 2 5 (0 ∷ []) (rule 0 list_cell (1 ∷ []) ∷ rule 1 Null [] ∷ []) ≡ rule 5 list_cell (3 ∷ [])
+    ∷ []
 root_rule_at_five = refl
 
 -- at each state with the reference
-at_both_states : bridges 2 1 (one_cell Null) (rule 4 (Ref 1) [] ∷ rule 4 Null [] ∷ rule 5 (Ref 1) [] ∷ []) ≡ rule 4 list_cell (3 ∷ []) ∷ rule 5 list_cell (3 ∷ []) ∷ []
+at_both_states : bridges 2 1 (one_cell Null) (rule 4 (Ref 1) [] ∷ rule 4 Null [] ∷ rule 5 (Ref 1) [] ∷ [])
+    ≡ rule 4 list_cell (3 ∷ []) ∷ rule 5 list_cell (3 ∷ []) ∷ []
 at_both_states = refl
 
-merged_cells : merged 1 (one_cell (Ref 1)) (one_cell Null) ≡ automaton 4 (0 ∷ []) (rule 0 list_cell (1 ∷ []) ∷ rule 2 list_cell (3 ∷ []) ∷ rule 3 Null [] ∷ rule 1 list_cell (3 ∷ []) ∷ [])
+merged_cells : merged 1 (one_cell (Ref 1)) (one_cell Null)
+    ≡ automaton 4 (0 ∷ []) (rule 0 list_cell (1 ∷ []) ∷ rule 2 list_cell (3 ∷ []) ∷ rule 3 Null []
+    ∷ rule 1 list_cell (3 ∷ []) ∷ [])
 merged_cells = refl
 
 -- root 1 merged into root 0: root 2 moves down, and the reference to it
-merged_three : merged_at 1 0 three ≡ record { autos = automaton 4 (0 ∷ []) (rule 0 list_cell (1 ∷ []) ∷ rule 2 list_cell (3 ∷ []) ∷ rule 3 (Ref 1) [] ∷ rule 1 list_cell (3 ∷ []) ∷ []) ∷ one_cell Null ∷ []; vars = At 0 ∷ NullTarget ∷ At 1 ∷ []; data_vars = [] }
+merged_three : merged_at 1 0 three
+    ≡ record {
+      autos = automaton 4 (0 ∷ [])
+          (rule 0 list_cell (1 ∷ []) ∷ rule 2 list_cell (3 ∷ []) ∷ rule 3 (Ref 1) [] ∷ rule 1 list_cell (3 ∷ []) ∷ [])
+          ∷ one_cell Null ∷ [];
+      vars = At 0 ∷ NullTarget ∷ At 1 ∷ [];
+      data_vars = [];
+    }
 merged_three = refl
 
 -- a root at a variable is not merged
@@ -108,17 +134,27 @@ without_the_second : but_place {X = ℕ} 1 (5 ∷ 6 ∷ 7 ∷ []) ≡ 5 ∷ 7 �
 without_the_second = refl
 
 -- root 1 dropped: the reference to it is Dangling, root 2 moves down
-dropped_three : dropped_forest 1 three ≡ record { autos = one_cell Dangling ∷ one_cell Null ∷ []; vars = At 0 ∷ NullTarget ∷ At 1 ∷ []; data_vars = [] }
+dropped_three : dropped_forest 1 three
+    ≡ record { autos = one_cell Dangling ∷ one_cell Null ∷ []; vars = At 0 ∷ NullTarget ∷ At 1 ∷ []; data_vars = [] }
 dropped_three = refl
 
 -- root 2 dropped, at which a variable is
-dropped_last : dropped_forest 2 three ≡ record { autos = one_cell (Ref 1) ∷ one_cell Dangling ∷ []; vars = At 0 ∷ NullTarget ∷ DanglingTarget ∷ []; data_vars = [] }
+dropped_last : dropped_forest 2 three
+    ≡ record {
+      autos = one_cell (Ref 1) ∷ one_cell Dangling ∷ [];
+      vars = At 0 ∷ NullTarget ∷ DanglingTarget ∷ [];
+      data_vars = [];
+    }
 dropped_last = refl
 
 abbrev dressed_three : Nodes
-dressed_three = more (node 7 0 [] (field 0 (leaf (At 1)) no_parts)) (more (node 4 0 [] (field 0 (leaf (At 2)) no_parts)) (more (node 9 0 [] (field 0 (leaf NullTarget) no_parts)) no_nodes))
+dressed_three = more (node 7 0 [] (field 0 (leaf (At 1)) no_parts))
+    (more (node 4 0 [] (field 0 (leaf (At 2)) no_parts))
+    (more (node 9 0 [] (field 0 (leaf NullTarget) no_parts)) no_nodes))
 
-dressed_without_one : dropped 1 dressed_three ≡ more (node 7 0 [] (field 0 (leaf DanglingTarget) no_parts)) (more (node 9 0 [] (field 0 (leaf NullTarget) no_parts)) no_nodes)
+dressed_without_one : dropped 1 dressed_three
+    ≡ more (node 7 0 [] (field 0 (leaf DanglingTarget) no_parts))
+    (more (node 9 0 [] (field 0 (leaf NullTarget) no_parts)) no_nodes)
 dressed_without_one = refl
 
 fields_end_at_leaves : AreLeaves (field 0 (leaf (At 2)) (field 1 (leaf NullTarget) no_parts))
@@ -132,12 +168,26 @@ box_edge_is_no_field h = h.1.0
 
 -- cell 4 goes; the variable and the field that name it are Dangling
 abbrev two_store : Store
-two_store = record { vars = CellValue 7 ∷ CellValue 4 ∷ []; data_vars = []; cells = record { number = 7; shape = 0; datums = []; fields = CellValue 4 ∷ [] } ∷ record { number = 4; shape = 0; datums = []; fields = NullValue ∷ [] } ∷ []; next = 8 }
+two_store =
+    record {
+      vars = CellValue 7 ∷ CellValue 4 ∷ [];
+      data_vars = [];
+      cells = record { number = 7; shape = 0; datums = []; fields = CellValue 4 ∷ [] }
+          ∷ record { number = 4; shape = 0; datums = []; fields = NullValue ∷ [] } ∷ [];
+      next = 8;
+    }
 
-store_without_four : without_cell 4 two_store ≡ record { vars = CellValue 7 ∷ DanglingValue ∷ []; data_vars = []; cells = record { number = 7; shape = 0; datums = []; fields = DanglingValue ∷ [] } ∷ []; next = 8 }
+store_without_four : without_cell 4 two_store
+    ≡ record {
+      vars = CellValue 7 ∷ DanglingValue ∷ [];
+      data_vars = [];
+      cells = record { number = 7; shape = 0; datums = []; fields = DanglingValue ∷ [] } ∷ [];
+      next = 8;
+    }
 store_without_four = refl
 
--- Roots that are reached. A variable is at root 0. The tree of root 1 refers to root 0 by a box edge, which leads back where its box does, and to root 2 by a field.
+-- Roots that are reached. A variable is at root 0. The tree of root 1 refers to root 0 by a box edge, which leads back
+-- where its box does, and to root 2 by a field.
 
 abbrev ref : ℕ → Tree
 ref r = roll-Tree (record { symbol = Ref r; children = [] })
@@ -152,21 +202,34 @@ abbrev dll : List BoxFace
 dll = record { input = 0; output = Some 0; gives_in = 0 ∷ []; gives_out = 1 ∷ []; back = true } ∷ []
 
 abbrev back_trees : List Tree
-back_trees = cell (Field 0 ∷ []) (null ∷ []) ∷ cell (Link 0 ∷ Field 1 ∷ []) (ref 0 ∷ ref 2 ∷ []) ∷ cell (Field 0 ∷ []) (null ∷ []) ∷ []
+back_trees = cell (Field 0 ∷ []) (null ∷ []) ∷ cell (Link 0 ∷ Field 1 ∷ []) (ref 0 ∷ ref 2 ∷ [])
+    ∷ cell (Field 0 ∷ []) (null ∷ []) ∷ []
 
 opened : (x : Tree-F Tree) → ways (roll-Tree x) ≡ ways_at x.symbol (map ways x.children)
 opened x = fold-roll-Tree (List Way) (λ t. ways_at t.symbol t.children) x
 
-way_back : ways (cell (Link 0 ∷ Field 1 ∷ []) (ref 0 ∷ ref 2 ∷ [])) ≡ record { root = 0; steps = record { slot = Link 0; refers = 0 ∷ 2 ∷ [] } ∷ [] } ∷ record { root = 2; steps = record { slot = Field 1; refers = 0 ∷ 2 ∷ [] } ∷ [] } ∷ []
+way_back : ways (cell (Link 0 ∷ Field 1 ∷ []) (ref 0 ∷ ref 2 ∷ []))
+    ≡ record { root = 0; steps = record { slot = Link 0; refers = 0 ∷ 2 ∷ [] } ∷ [] }
+    ∷ record { root = 2; steps = record { slot = Field 1; refers = 0 ∷ 2 ∷ [] } ∷ [] } ∷ []
 way_back = simp opened
 
 -- the tree's own root, by the way back
 back_reached : RootReached dll (At 0 ∷ []) back_trees 1
-back_reached = by_way 0 1 (by_var (inl refl)) (cell (Link 0 ∷ Field 1 ∷ []) (ref 0 ∷ ref 2 ∷ []), refl, (record { root = 0; steps = record { slot = Link 0; refers = 0 ∷ 2 ∷ [] } ∷ [] }, rw way_back (inl refl), refl, inl (refl, refl)))
+back_reached = by_way 0 1 (by_var (inl refl)) (
+  cell (Link 0 ∷ Field 1 ∷ []) (ref 0 ∷ ref 2 ∷ []),
+  refl,
+  (
+    record { root = 0; steps = record { slot = Link 0; refers = 0 ∷ 2 ∷ [] } ∷ [] },
+    rw way_back (inl refl),
+    refl,
+    inl (refl, refl),
+  ),
+)
 
 -- and on, by its tree
 then_reached : RootReached dll (At 0 ∷ []) back_trees 2
-then_reached = by_tree 1 (cell (Link 0 ∷ Field 1 ∷ []) (ref 0 ∷ ref 2 ∷ [])) back_reached refl (rw way_back (inr (inl refl)))
+then_reached = by_tree 1 (cell (Link 0 ∷ Field 1 ∷ []) (ref 0 ∷ ref 2 ∷ [])) back_reached refl
+    (rw way_back (inr (inl refl)))
 
 abbrev is_at : Target → Bool
 is_at (At r) = true

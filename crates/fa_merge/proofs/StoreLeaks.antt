@@ -1,5 +1,6 @@
 -- Without box edges a member leaks exactly where some root of its dressed forest is not reached.
-use Rattle.std.proofs.Common.{◌≡◌, inl, inr, ℕ, suc, List, [], ◌∷◌, ◌++◌, map, flat_map, refl, sym, ap, ap₂, subst, ◌∙◌, Some}
+use Rattle.std.proofs.Common.{◌≡◌, inl, inr, ℕ, suc, List, [], ◌∷◌, ◌++◌, map, flat_map, refl, sym, ap, ap₂, subst, ◌∙◌}
+use Rattle.std.proofs.Common.{Some}
 use Rattle.fore_base.specs.Lists.{IsIn, IsDistinct}
 use Rattle.fore_base.specs.Heap.{Reach, by_var, by_field, Leaked, HasCell, AllDiffer}
 use Rattle.fore_base.specs.declared.store.Value.{Value}
@@ -10,7 +11,9 @@ use Rattle.fore_base.specs.declared.shape.Shape.{Shape}
 use Rattle.fore_base.proofs.ListLemmas.{in_left, in_right, in_append, in_map, in_mapped, every_in}
 use Rattle.fa_core.specs.declared.boxes.BoxDef.{BoxDef}
 use Rattle.fa_core.specs.declared.forest.Forest.{Forest}
-use Rattle.fa_core.specs.Dressed.{Node, Parts, End, Nodes, node, no_parts, field, link, hook, under, leaf, no_nodes, more, Fact, Head, Points, facts, tree_facts, slot_facts, end_facts, forest_facts, value_in, roots_of, number}
+use Rattle.fa_core.specs.Dressed.{Node, Parts, End, Nodes, node, no_parts, field, link, hook, under, leaf, no_nodes}
+use Rattle.fa_core.specs.Dressed.{more, Fact, Head, Points, facts, tree_facts, slot_facts, end_facts, forest_facts}
+use Rattle.fa_core.specs.Dressed.{value_in, roots_of, number}
 use Rattle.fa_core.specs.Rearranged.{Rearranged}
 use Rattle.fa_core.specs.Member.{StandsBy, store_facts, points}
 use Rattle.fa_core.proofs.Permuted.{in_rearranged, distinct_moved}
@@ -33,7 +36,8 @@ points_in c k [] v i = absurd i
 points_in c k (w ∷ vs) v (inl e) = (k, inl (ap (λ (z : Value). Points c k z) e))
 points_in c k (w ∷ vs) v (inr i) = let r = points_in c (suc k) vs v i in (r.0, inr r.1)
 
-store_pointer : (cs : List CellRec) (m f : ℕ) (v : Value) → IsIn (Points m f v) (store_facts cs) → (c : CellRec) × IsIn c cs × (m ≡ c.number) × IsIn v c.fields
+store_pointer : (cs : List CellRec) (m f : ℕ) (v : Value) → IsIn (Points m f v) (store_facts cs) → (c : CellRec)
+    × IsIn c cs × (m ≡ c.number) × IsIn v c.fields
 store_pointer [] m f v i = absurd i
 store_pointer (c ∷ cs) m f v (inl e) = absurd (subst IsPointer e tt)
 store_pointer (c ∷ cs) m f v (inr i) = elim (in_append (Points m f v) (points c.number 0 c.fields) (store_facts cs) i) [
@@ -41,11 +45,18 @@ store_pointer (c ∷ cs) m f v (inr i) = elim (in_append (Points m f v) (points 
   | inr j ↦ (let k = store_pointer cs m f v j in (k.0, inr k.1, k.2, k.3))
 ]
 
-pub pointer_stored : (cs : List CellRec) (c : CellRec) (v : Value) → IsIn c cs → IsIn v c.fields → (f : ℕ) × IsIn (Points c.number f v) (store_facts cs)
+pub pointer_stored : (cs : List CellRec) (c : CellRec) (v : Value) → IsIn c cs → IsIn v c.fields → (f : ℕ)
+    × IsIn (Points c.number f v) (store_facts cs)
 pointer_stored [] c v i j = absurd i
 pointer_stored (x ∷ cs) c v (inl e) j =
-    let k = points_in x.number 0 x.fields v (subst (λ (z : CellRec). IsIn v z.fields) e j) in
-    (k.0, inr (in_left (Points c.number k.0 v) (points x.number 0 x.fields) (store_facts cs) (subst (λ (z : ℕ). IsIn (Points z k.0 v) (points x.number 0 x.fields)) (ap (λ (z : CellRec). z.number) (sym e)) k.1)))
+    let k = points_in x.number 0 x.fields v (subst (λ (z : CellRec). IsIn v z.fields) e j) in (
+      k.0,
+      inr
+          (in_left (Points c.number k.0 v) (points x.number 0 x.fields) (store_facts cs)
+          (subst (λ (z : ℕ). IsIn (Points z k.0 v) (points x.number 0 x.fields))
+          (ap (λ (z : CellRec). z.number) (sym e))
+          k.1)),
+    )
 pointer_stored (x ∷ cs) c v (inr i) j =
     let k = pointer_stored cs c v i j in
     (k.0, inr (in_right (Points c.number k.0 v) (points x.number 0 x.fields) (store_facts cs) k.1))
@@ -68,7 +79,9 @@ cell_number c = c.number
 
 store_heads : (cs : List CellRec) → heads (store_facts cs) ≡ map cell_number cs
 store_heads [] = refl
-store_heads (c ∷ cs) = ap (λ (z : List ℕ). c.number ∷ z) (flat_map-append head_of (points c.number 0 c.fields) (store_facts cs) ∙ ap₂ (λ (x y : List ℕ). x ++ y) (no_heads c.number 0 c.fields) (store_heads cs))
+store_heads (c ∷ cs) = ap (λ (z : List ℕ). c.number ∷ z)
+    (flat_map-append head_of (points c.number 0 c.fields) (store_facts cs)
+    ∙ ap₂ (λ (x y : List ℕ). x ++ y) (no_heads c.number 0 c.fields) (store_heads cs))
 
 pub has_cell : (cs : List CellRec) (n : ℕ) → IsIn n (map cell_number cs) → HasCell cs n
 has_cell [] n i = absurd i
@@ -86,7 +99,8 @@ module _ (vs : List Value) where
 
     parts_heads : (c : ℕ) (ps : Parts) → NoEdgesOf ps → heads (slot_facts vs c ps) ≡ numbers_of ps
     parts_heads c no_parts b = refl
-    parts_heads c (field f e ps) b = flat_map-append head_of (end_facts vs e) (slot_facts vs c ps) ∙ ap₂ (λ (x y : List ℕ). x ++ y) (end_heads e b.0) (parts_heads c ps b.1)
+    parts_heads c (field f e ps) b = flat_map-append head_of (end_facts vs e) (slot_facts vs c ps)
+        ∙ ap₂ (λ (x y : List ℕ). x ++ y) (end_heads e b.0) (parts_heads c ps b.1)
     parts_heads c (link b inside e ps) x = absurd x
     parts_heads c (hook b inside ps) x = absurd x
 
@@ -96,22 +110,26 @@ module _ (vs : List Value) where
 
   forest_heads : (d : Nodes) → NoEdgesIn d → heads (forest_facts vs [] d) ≡ all_numbers d
   forest_heads no_nodes b = refl
-  forest_heads (more n ns) b = flat_map-append head_of (tree_facts vs n) (forest_facts vs [] ns) ∙ ap₂ (λ (x y : List ℕ). x ++ y) (tree_heads n b.0) (forest_heads ns b.1)
+  forest_heads (more n ns) b = flat_map-append head_of (tree_facts vs n) (forest_facts vs [] ns)
+      ∙ ap₂ (λ (x y : List ℕ). x ++ y) (tree_heads n b.0) (forest_heads ns b.1)
 
-in_some_tree : (d : Nodes) (n : ℕ) → IsIn n (all_numbers d) → (r : ℕ) × (x : Node) × (node_at d r ≡ Some x) × IsIn n (numbers x)
+in_some_tree : (d : Nodes) (n : ℕ) → IsIn n (all_numbers d) → (r : ℕ) × (x : Node) × (node_at d r ≡ Some x)
+    × IsIn n (numbers x)
 in_some_tree no_nodes n i = absurd i
 in_some_tree (more y ns) n i = elim (in_append n (numbers y) (all_numbers ns) i) [
   | inl j ↦ (0, y, refl, j)
   | inr j ↦ (let k = in_some_tree ns n j in (suc k.0, k.1, k.2, k.3))
 ]
 
-module _ (hs : List Shape) (T : List BoxDef) (F : Forest) (d : Nodes) (s : Store) (h : StandsBy hs T F d s) (plain : NoEdgesIn d) where
+module _ (hs : List Shape) (T : List BoxDef) (F : Forest) (d : Nodes) (s : Store) (h : StandsBy hs T F d s)
+    (plain : NoEdgesIn d) where
   abbrev the_vars : List Value
   the_vars = map (value_in (roots_of d)) F.vars
 
   -- the cells of the store are those of the dressed forest
   pub same_numbers : Rearranged (all_numbers d) (map cell_number s.cells)
-  same_numbers = subst (λ (z : List ℕ). Rearranged z (map cell_number s.cells)) (forest_heads (roots_of d) d plain) (subst (λ (z : List ℕ). Rearranged (heads (facts d)) z) (store_heads s.cells) (flat_mapped head_of h.same_facts))
+  same_numbers = subst (λ (z : List ℕ). Rearranged z (map cell_number s.cells)) (forest_heads (roots_of d) d plain)
+      (subst (λ (z : List ℕ). Rearranged (heads (facts d)) z) (store_heads s.cells) (flat_mapped head_of h.same_facts))
 
   pub differ : IsDistinct (all_numbers d)
   differ = distinct_moved (back same_numbers) (numbers_differ s.cells h.proper.differ)
@@ -127,12 +145,14 @@ module _ (hs : List Shape) (T : List BoxDef) (F : Forest) (d : Nodes) (s : Store
   store_reach n (by_var i) = named (rw h.vars at i)
   store_reach n (by_field c i w j) =
       let k = pointer_stored s.cells c (Cell n) i j in
-      through c.number k.0 (store_reach c.number w) (in_rearranged (Points c.number k.0 (Cell n)) (back h.same_facts) k.1)
+      through c.number k.0 (store_reach c.number w)
+      (in_rearranged (Points c.number k.0 (Cell n)) (back h.same_facts) k.1)
 
   -- where some root is not reached the store has leaked
   pub unreached_store : (r : ℕ) (x : Node) → node_at d r ≡ Some x → (TreeReached F.vars d r → ⊥) → Leaked s
   unreached_store r x e never =
-      let i : IsIn (number x) (map cell_number s.cells) = in_rearranged (number x) same_numbers (in_all d r (number x) x e (top_in x)) in
+      let i : IsIn (number x) (map cell_number s.cells) =
+      in_rearranged (number x) same_numbers (in_all d r (number x) x e (top_in x)) in
       let k = in_mapped cell_number (number x) s.cells i in
       record {
         cell = k.0;
@@ -143,6 +163,10 @@ module _ (hs : List Shape) (T : List BoxDef) (F : Forest) (d : Nodes) (s : Store
   -- where each root is reached it has not
   pub reached_store : ((r : ℕ) (x : Node) → node_at d r ≡ Some x → TreeReached F.vars d r) → Leaked s → ⊥
   reached_store all l =
-      let i : IsIn l.cell.number (all_numbers d) = in_rearranged l.cell.number (back same_numbers) (in_map cell_number l.cell s.cells l.is_there) in
+      let i : IsIn l.cell.number (all_numbers d) =
+      in_rearranged l.cell.number (back same_numbers) (in_map cell_number l.cell s.cells l.is_there) in
       let t = in_some_tree d l.cell.number i in
-      l.unreached (reach_store l.cell.number (every_in (Reaches the_vars (facts d)) (numbers t.1) l.cell.number (tree_reached F.vars d plain t.0 t.1 (all t.0 t.1 t.2) t.2) t.3))
+      l.unreached
+      (reach_store l.cell.number
+      (every_in (Reaches the_vars (facts d)) (numbers t.1) l.cell.number
+      (tree_reached F.vars d plain t.0 t.1 (all t.0 t.1 t.2) t.2) t.3))

@@ -1,5 +1,6 @@
 -- A forest without one of its roots: references to the root are Dangling, and later roots move down by one.
-use Rattle.std.specs.Prelude.{◌≡◌, ◌<◌, ℕ, zero, suc, true, nat_eq, if◌then◌else◌, List, [], ◌∷◌, map, length, Option, Some, None, slice_get}
+use Rattle.std.specs.Prelude.{◌≡◌, ◌<◌, ℕ, zero, suc, true, nat_eq, if◌then◌else◌, List, [], ◌∷◌, map, length, Option}
+use Rattle.std.specs.Prelude.{Some, None, slice_get}
 use Rattle.fore_base.specs.Heap.{IsAlike}
 use Rattle.fore_base.specs.Lists.{Every}
 use Rattle.fore_base.specs.Stores.{dangle, without}
@@ -98,7 +99,8 @@ pub record IsCut (T : List BoxDef) (F G : Forest) (r : ℕ) : Type 0 where
   -- each dressed forest of F without its root is one of G
   pub forth : (d : Nodes) → OfForest T F d → OfForest T G (dropped r d)
   -- each dressed forest of G is one of F without its root, which may have any number
-  pub back : (d : Nodes) → OfForest T G d → (c : ℕ) → (e : Nodes) × OfForest T F e × (dropped r e ≡ d) × IsFlatRoot e r c
+  pub back : (d : Nodes) → OfForest T G d → (c : ℕ) → (e : Nodes) × OfForest T F e × (dropped r e ≡ d)
+      × IsFlatRoot e r c
 
 -- the store without the cell of this number: each value that names it is Dangling
 abbrev pub without_cell : ℕ → Store → Store
@@ -106,8 +108,10 @@ without_cell n s = record s { vars = map (dangle n) s.vars; cells = without n s.
 
 -- each store that F stands for, without the cell of root r, is one that G stands for
 abbrev pub Removes : List Shape → List BoxDef → Forest → Forest → ℕ → Type 0
-Removes hs T F G r = (d : Nodes) (s : Store) → StandsBy hs T F d s → (c : ℕ) × IsFlatRoot d r c × StandsBy hs T G (dropped r d) (without_cell c s)
+Removes hs T F G r = (d : Nodes) (s : Store) → StandsBy hs T F d s → (c : ℕ) × IsFlatRoot d r c
+    × StandsBy hs T G (dropped r d) (without_cell c s)
 
 -- each store that G stands for is alike to one that F stands for without the cell of root r
 abbrev pub Restores : List Shape → List BoxDef → Forest → Forest → ℕ → Type 0
-Restores hs T F G r = (d : Nodes) (u : Store) → StandsBy hs T G d u → (e : Nodes) × (s : Store) × (c : ℕ) × IsFlatRoot e r c × StandsBy hs T F e s × IsAlike (without_cell c s) u
+Restores hs T F G r = (d : Nodes) (u : Store) → StandsBy hs T G d u → (e : Nodes) × (s : Store) × (c : ℕ)
+    × IsFlatRoot e r c × StandsBy hs T F e s × IsAlike (without_cell c s) u

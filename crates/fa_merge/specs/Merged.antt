@@ -1,5 +1,6 @@
 -- A component merged into the one whose trees refer to its root.
-use Rattle.std.specs.Prelude.{◌≡◌, ◌↔◌, ◌<◌, ℕ, ◌+◌, ◌-◌, Bool, false, nat_lt, if◌then◌else◌, nat_eq, List, [], ◌∷◌, ◌++◌, map, length, Some, slice_get, slice_set}
+use Rattle.std.specs.Prelude.{◌≡◌, ◌↔◌, ◌<◌, ℕ, ◌+◌, ◌-◌, Bool, false, nat_lt, if◌then◌else◌, nat_eq, List, [], ◌∷◌}
+use Rattle.std.specs.Prelude.{◌++◌, map, length, Some, slice_get, slice_set}
 use Rattle.fore_base.specs.Lists.{IsIn}
 use Rattle.fore_base.specs.declared.shape.Shape.{Shape}
 use Rattle.fore_base.specs.declared.store.Store.{Store}
@@ -44,12 +45,15 @@ moved n xs = map (renumbered (shift n)) xs
 -- the rules of root states, at state q, with n added to their children
 abbrev pub bridge : ℕ → ℕ → List ℕ → List Rule → List Rule
 bridge n q roots [] = []
-bridge n q roots (x ∷ xs) = if has x.state roots then record { state = q; symbol = x.symbol; children = map (shift n) x.children } ∷ bridge n q roots xs else bridge n q roots xs
+bridge n q roots (x ∷ xs) = if has x.state roots
+    then record { state = q; symbol = x.symbol; children = map (shift n) x.children } ∷ bridge n q roots xs
+    else bridge n q roots xs
 
 -- for each rule of a leaf that refers to r, the root rules of l at its state
 abbrev pub bridges : ℕ → ℕ → Automaton → List Rule → List Rule
 bridges n r l [] = []
-bridges n r l (x ∷ xs) = if is_ref r x.symbol then bridge n x.state l.roots l.rules ++ bridges n r l xs else bridges n r l xs
+bridges n r l (x ∷ xs) = if is_ref r x.symbol then bridge n x.state l.roots l.rules ++ bridges n r l xs
+    else bridges n r l xs
 
 -- t with the trees of l in the place of the leaves that refer to r: l's states stand behind t's
 abbrev pub merged : ℕ → Automaton → Automaton → Automaton
@@ -85,7 +89,8 @@ other_components r F = map (with_last_root r F) (others r (counted 0 (length F.a
 -- root r merged into root i: r, as the last root, goes, and its trees stand where the trees of i refer to it
 abbrev pub merged_at : ℕ → ℕ → Forest → Forest
 merged_at r i F = record {
-  autos = slice_set (other_components r F) (to_last (length F.autos) r i) (merged (length (other_components r F)) (with_last_root r F i) (with_last_root r F r));
+  autos = slice_set (other_components r F) (to_last (length F.autos) r i)
+      (merged (length (other_components r F)) (with_last_root r F i) (with_last_root r F r));
   vars = map (placed_leaf (renumber (to_last (length F.autos) r))) F.vars;
   data_vars = F.data_vars;
 }

@@ -15,10 +15,12 @@ use Rattle.fa_core.specs.Canonical.{LeadsBack, RefersTo}
 use Rattle.fa_core.specs.Filled.{Choice}
 use Rattle.fa_core.specs.Member.{Stands}
 
--- on one tree of each component: the roots at which variables are, those to which the tree of a reached root refers, and those to which a way back from a reached root leads
+-- on one tree of each component: the roots at which variables are, those to which the tree of a reached root refers,
+-- and those to which a way back from a reached root leads
 pub data RootReached (bs : List BoxFace) (vars : List Target) (ts : List Tree) : ℕ → Type 0 where
   by_var : {r : ℕ} → IsIn (At r) vars → RootReached bs vars ts r
-  by_tree : {r : ℕ} (i : ℕ) (t : Tree) → RootReached bs vars ts i → slice_get ts i ≡ Some t → RefersTo t r → RootReached bs vars ts r
+  by_tree : {r : ℕ} (i : ℕ) (t : Tree) → RootReached bs vars ts i → slice_get ts i ≡ Some t → RefersTo t r
+      → RootReached bs vars ts r
   by_way : {r : ℕ} (i j : ℕ) → RootReached bs vars ts i → LeadsBack bs ts i j r → RootReached bs vars ts r
 
 -- the root is reached, whichever tree of each component is taken

@@ -15,7 +15,8 @@ use fa_sound::{Sound, count_roots};
 use fore_base::memory::Mem;
 use std::alloc::Global;
 
-/// Whether the root can be merged: no variable is at it, and there is exactly one reference to it, which is not in its own tree. Err is want of memory.
+/// Whether the root can be merged: no variable is at it, and there is exactly one reference to it, which is not in its
+/// own tree. Err is want of memory.
 pub fn can_merge(alloc: Global, forest: &Sound, root: u32) -> Mem<bool>
     requires { root < length forest.now.forest.autos }
     ensures { IfOk result (λ yes. IsTrue yes ↔ CanMerge forest.now.forest root) }

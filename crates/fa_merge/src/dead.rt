@@ -15,15 +15,23 @@ use fore_base::memory::Mem;
 use std::alloc::Global;
 use ta_core::auto::Auto;
 
-/// The forest without the root: each reference to it is Dangling, and later roots move down by one. Where each tree of the root is a cell whose fields end at leaves, and no box edge gives a field there, its dressed forests are those of the forest without the root, and its members, up to alike, those of the forest with the root's cell removed and each value that named it Dangling. Err is want of memory.
+/// The forest without the root: each reference to it is Dangling, and later roots move down by one. Where each tree of
+/// the root is a cell whose fields end at leaves, and no box edge gives a field there, its dressed forests are those of
+/// the forest without the root, and its members, up to alike, those of the forest with the root's cell removed and each
+/// value that named it Dangling. Err is want of memory.
 pub fn drop_dead(alloc: Global, forest: &Sound, root: u32) -> Mem<Sound>
     requires plain { Every HasNoBoxes forest.now.forest.autos }
     requires root { root < length forest.now.forest.autos }
     ensures value { IfOk result (λ made. made.forest ≡ dropped_forest root forest.now.forest) }
     ensures face { IfOk result (λ made. made.face ≡ forest.now.face) }
-    ensures cut { CanDrop forest.now.face.boxes forest.now.forest root → IfOk result (λ made. (T : List BoxDef) → IsCut T forest.now.forest made.forest root) }
-    ensures removes { CanDrop forest.now.face.boxes forest.now.forest root → IfOk result (λ made. (T : List BoxDef) → Removes forest.now.face.shapes.structs T forest.now.forest made.forest root) }
-    ensures restores { CanDrop forest.now.face.boxes forest.now.forest root → IfOk result (λ made. (T : List BoxDef) → Restores forest.now.face.shapes.structs T forest.now.forest made.forest root) }
+    ensures cut { CanDrop forest.now.face.boxes forest.now.forest root
+        → IfOk result (λ made. (T : List BoxDef) → IsCut T forest.now.forest made.forest root) }
+    ensures removes { CanDrop forest.now.face.boxes forest.now.forest root
+        → IfOk result (λ made. (T : List BoxDef)
+        → Removes forest.now.face.shapes.structs T forest.now.forest made.forest root) }
+    ensures restores { CanDrop forest.now.face.boxes forest.now.forest root
+        → IfOk result (λ made. (T : List BoxDef)
+        → Restores forest.now.face.shapes.structs T forest.now.forest made.forest root) }
 {
     forest.known();
     let made = drop_root(alloc, forest.forest(), root)?;

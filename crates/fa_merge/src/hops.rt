@@ -3,7 +3,8 @@
 ghost use Rattle.std.specs.Prelude.{◌≡◌, ◌<◌, ◌∷◌, ◌++◌, ◌^◌, [], length, map, flat_map, List, IfOk, OnOk};
 ghost use Rattle.fore_base.specs.Lists.{Paired};
 ghost use Rattle.fa_core.specs.Canonical.{var_roots};
-ghost use Rattle.fa_merge.specs.inner.Hops.{first_hop, hop, back_hops, mark_hops, tree_hops, all_hops, AreReachMarks, IsSignatureOf};
+ghost use Rattle.fa_merge.specs.inner.Hops.{first_hop, hop, back_hops, mark_hops, tree_hops, all_hops, AreReachMarks};
+ghost use Rattle.fa_merge.specs.inner.Hops.{IsSignatureOf};
 
 use crate::signing::component_signatures;
 use fa_core::forest::Target;

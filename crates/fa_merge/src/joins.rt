@@ -13,7 +13,8 @@ use ta_core::auto::{Auto, Rule};
 use ta_core::joining::{rename, room};
 use ta_core::symbol::Symbol;
 
-/// The automaton `onto` with the trees of `last` in the place of the leaves that refer to the root. Err is want of memory.
+/// The automaton `onto` with the trees of `last` in the place of the leaves that refer to the root. Err is want of
+/// memory.
 pub fn merge_auto(alloc: Global, onto: &Auto, last: &Auto, root: u32) -> Mem<Auto>
     ensures { IfOk result (λ made. made ≡ merged root onto.now last.now) }
 {
@@ -43,7 +44,8 @@ fn roots_of(alloc: Global, auto: &Auto) -> Mem<List<u32>>
 
 fn merged_rules(alloc: Global, onto: &Auto, last: &Auto, root: u32) -> Mem<List<Rule>>
     requires { last.now.states + onto.now.states < 2 ^ 32 }
-    ensures { IfOk result (λ made. made ≡ kept root onto.now.rules ++ (moved onto.now.states last.now.rules ++ bridges onto.now.states root last.now onto.now.rules)) }
+    ensures { IfOk result (λ made. made ≡ kept root onto.now.rules
+        ++ (moved onto.now.states last.now.rules ++ bridges onto.now.states root last.now onto.now.rules)) }
 {
     let by = states_of(onto);
     let mut rules = old_rules(alloc, onto, root)?;
@@ -133,7 +135,8 @@ fn bridge_rules(
 
 fn bridged_rule(alloc: Global, rule: &Rule, state: u32, by: u32) -> Mem<Rule>
     requires { Every (CanShift by) rule.now.children }
-    ensures { IfOk result (λ made. made ≡ record { state = state; symbol = rule.now.symbol; children = map (shift by) rule.now.children }) }
+    ensures { IfOk result (λ made. made
+        ≡ record { state = state; symbol = rule.now.symbol; children = map (shift by) rule.now.children }) }
 {
     Ok(Rule {
         state,

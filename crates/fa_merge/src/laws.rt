@@ -18,23 +18,29 @@ ghost use Rattle.fa_core.specs.declared.forest.Target.{Target};
 ghost use Rattle.fa_core.specs.Dressed.{Node};
 ghost use Rattle.fa_merge.specs.Dropped.{CanDrop, IsCut, IsFlat, Removes, Restores, dropped_forest};
 ghost use Rattle.fa_merge.specs.Merged.{CanMerge, Refers, merged_at};
-ghost use Rattle.fa_merge.specs.Reached.{AlwaysLeaks, AreAllReached, HasMembers, IsLeastUnreached, IsUnreached, NeverLeaks, RootReached};
+ghost use Rattle.fa_merge.specs.Reached.{AlwaysLeaks, AreAllReached, HasMembers, IsLeastUnreached, IsUnreached};
+ghost use Rattle.fa_merge.specs.Reached.{NeverLeaks, RootReached};
 ghost use Rattle.fa_merge.specs.Reordered.{IsOrderOf, reordered};
 
 /// Which roots are reached follows from the targets and the signatures alone.
 pub fn reaching_follows_signatures()
-    ensures { (bs : List BoxFace) (vs : List Target) (ts us : List Tree) (r : ℕ) → Paired (λ t u. signature bs t ≡ signature bs u) ts us → RootReached bs vs ts r → RootReached bs vs us r }
+    ensures { (bs : List BoxFace) (vs : List Target) (ts us : List Tree) (r : ℕ)
+        → Paired (λ t u. signature bs t ≡ signature bs u) ts us → RootReached bs vs ts r → RootReached bs vs us r }
 {}
 
-/// In a sound forest each root is reached whichever trees are taken, or there is a least root that is not, whichever trees are taken.
+/// In a sound forest each root is reached whichever trees are taken, or there is a least root that is not, whichever
+/// trees are taken.
 pub fn reaching_is_decided()
-    ensures { (face : Face) (F : Forest) → IsSound face F → AreAllReached face F ⊎ ((r : ℕ) × IsLeastUnreached face F r) }
+    ensures { (face : Face) (F : Forest) → IsSound face F → AreAllReached face F
+        ⊎ ((r : ℕ) × IsLeastUnreached face F r) }
 {}
 
 /// Without box edges no member leaks where each root is reached, and every member leaks where some root is not.
 pub fn leaks_follow_roots()
     ensures never { (face : Face) (F : Forest) → Every HasNoBoxes F.autos → AreAllReached face F → NeverLeaks F }
-    ensures always { (face : Face) (F : Forest) (r : ℕ) → Every HasNoBoxes F.autos → r < length F.autos → IsUnreached face F r → AlwaysLeaks F }
+    ensures always { (face : Face) (F : Forest) (r : ℕ) → Every HasNoBoxes F.autos → r < length F.autos
+        → IsUnreached face F r
+        → AlwaysLeaks F }
 {}
 
 /// No member of a sound forest without box edges leaks, or every member does.
@@ -42,31 +48,51 @@ pub fn all_leak_or_none()
     ensures { (face : Face) (F : Forest) → IsSound face F → Every HasNoBoxes F.autos → NeverLeaks F ⊎ AlwaysLeaks F }
 {}
 
-/// Each sound forest without box edges has a member, for every box table, so its members do not all leak where none does.
+/// Each sound forest without box edges has a member, for every box table, so its members do not all leak where none
+/// does.
 pub fn sound_forests_have_members()
-    ensures members { (face : Face) (F : Forest) → IsSound face F → Every IsRanked F.autos → Every HasNoBoxes F.autos → HasMembers face F }
-    ensures one { (face : Face) (F : Forest) → IsSound face F → Every IsRanked F.autos → Every HasNoBoxes F.autos → AlwaysLeaks F → NeverLeaks F → ⊥ }
+    ensures members { (face : Face) (F : Forest) → IsSound face F → Every IsRanked F.autos → Every HasNoBoxes F.autos
+        → HasMembers face F }
+    ensures one { (face : Face) (F : Forest) → IsSound face F → Every IsRanked F.autos → Every HasNoBoxes F.autos
+        → AlwaysLeaks F
+        → NeverLeaks F → ⊥ }
 {}
 
-/// The law of other orders: a forest and the one whose roots stand in another order regroup each other, for every box table.
+/// The law of other orders: a forest and the one whose roots stand in another order regroup each other, for every box
+/// table.
 pub fn orders_regroup()
-    ensures whole { (T : List BoxDef) (F : Forest) (order : List ℕ) → IsOrderOf F order → Regroups T (reordered order F) F }
-    ensures regroups { (T : List BoxDef) (F : Forest) (order : List ℕ) → IsOrderOf F order → Regroups T F (reordered order F) }
+    ensures whole { (T : List BoxDef) (F : Forest) (order : List ℕ) → IsOrderOf F order
+        → Regroups T (reordered order F) F }
+    ensures regroups { (T : List BoxDef) (F : Forest) (order : List ℕ) → IsOrderOf F order
+        → Regroups T F (reordered order F) }
 {}
 
-/// The law of merging: where a root that can be merged is merged into the root whose trees refer to it, the forest and the result regroup each other, for every box table.
+/// The law of merging: where a root that can be merged is merged into the root whose trees refer to it, the forest and
+/// the result regroup each other, for every box table.
 pub fn merging_regroups()
-    ensures whole { (T : List BoxDef) (face : Face) (F : Forest) (r i : ℕ) → IsSound face F → Every IsRanked F.autos → CanMerge F r → Refers F i r → Regroups T (merged_at r i F) F }
-    ensures regroups { (T : List BoxDef) (face : Face) (F : Forest) (r i : ℕ) → IsSound face F → Every IsRanked F.autos → CanMerge F r → Refers F i r → Regroups T F (merged_at r i F) }
+    ensures whole { (T : List BoxDef) (face : Face) (F : Forest) (r i : ℕ) → IsSound face F → Every IsRanked F.autos
+        → CanMerge F r
+        → Refers F i r → Regroups T (merged_at r i F) F }
+    ensures regroups { (T : List BoxDef) (face : Face) (F : Forest) (r i : ℕ) → IsSound face F → Every IsRanked F.autos
+        → CanMerge F r
+        → Refers F i r → Regroups T F (merged_at r i F) }
 {}
 
-/// The law of dropping: where a root that can be dropped has a dressed tree, the forest without it is the forest cut, on dressed forests and for every box table.
+/// The law of dropping: where a root that can be dropped has a dressed tree, the forest without it is the forest cut,
+/// on dressed forests and for every box table.
 pub fn dropping_cuts()
-    ensures { (T : List BoxDef) (bs : List BoxFace) (F : Forest) (r : ℕ) (n : Node) → CanDrop bs F r → IsFlat (bare n) → ((a : Automaton) × (slice_get F.autos r ≡ Some a) × InLanguage a (bare n)) → IsCut T F (dropped_forest r F) r }
+    ensures { (T : List BoxDef) (bs : List BoxFace) (F : Forest) (r : ℕ) (n : Node) → CanDrop bs F r → IsFlat (bare n)
+        → ((a : Automaton) × (slice_get F.autos r ≡ Some a) × InLanguage a (bare n))
+        → IsCut T F (dropped_forest r F) r }
 {}
 
-/// The law of dropping on stores: without box edges the members of a forest that is cut are those of the forest with the root's cell removed and each value that named it Dangling, up to alike.
+/// The law of dropping on stores: without box edges the members of a forest that is cut are those of the forest with
+/// the root's cell removed and each value that named it Dangling, up to alike.
 pub fn dropping_removes()
-    ensures removes { (hs : List Shape) (T : List BoxDef) (F G : Forest) (r : ℕ) → Every HasNoBoxes F.autos → IsCut T F G r → Removes hs T F G r }
-    ensures restores { (T : List BoxDef) (face : Face) (F G : Forest) (r : ℕ) → Every HasNoBoxes F.autos → Every HasNoBoxes G.autos → IsFilled face F → IsCut T F G r → Restores face.shapes.structs T F G r }
+    ensures removes { (hs : List Shape) (T : List BoxDef) (F G : Forest) (r : ℕ) → Every HasNoBoxes F.autos
+        → IsCut T F G r
+        → Removes hs T F G r }
+    ensures restores { (T : List BoxDef) (face : Face) (F G : Forest) (r : ℕ) → Every HasNoBoxes F.autos
+        → Every HasNoBoxes G.autos
+        → IsFilled face F → IsCut T F G r → Restores face.shapes.structs T F G r }
 {}

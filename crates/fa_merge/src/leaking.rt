@@ -12,11 +12,18 @@ use fa_sound::Sound;
 use fore_base::memory::Mem;
 use std::alloc::Global;
 
-/// The least root that is reached neither forward nor by a way back, if there is one. Without box edges it is Some exactly where every member leaks, and None exactly where no member does. Err is want of memory.
+/// The least root that is reached neither forward nor by a way back, if there is one. Without box edges it is Some
+/// exactly where every member leaks, and None exactly where no member does. Err is want of memory.
 pub fn leaking_root(alloc: Global, forest: &Sound) -> Mem<Option<u32>>
-    ensures root { IfOk result (λ found. MatchOption found (AreAllReached forest.now.face forest.now.forest) (IsLeastUnreached forest.now.face forest.now.forest)) }
-    ensures leaks { Every HasNoBoxes forest.now.forest.autos → IfOk result (λ found. MatchOption found (NeverLeaks forest.now.forest) (λ _. AlwaysLeaks forest.now.forest)) }
-    ensures exact { Every HasNoBoxes forest.now.forest.autos → IfOk result (λ found. (AlwaysLeaks forest.now.forest → IsSome found) × (NeverLeaks forest.now.forest → IsNone found)) }
+    ensures root { IfOk result
+        (λ found. MatchOption found (AreAllReached forest.now.face forest.now.forest)
+        (IsLeastUnreached forest.now.face forest.now.forest)) }
+    ensures leaks { Every HasNoBoxes forest.now.forest.autos
+        → IfOk result
+        (λ found. MatchOption found (NeverLeaks forest.now.forest) (λ _. AlwaysLeaks forest.now.forest)) }
+    ensures exact { Every HasNoBoxes forest.now.forest.autos
+        → IfOk result (λ found. (AlwaysLeaks forest.now.forest → IsSome found)
+        × (NeverLeaks forest.now.forest → IsNone found)) }
 {
     forest.known();
     let marks = reached_roots(alloc, forest)?;

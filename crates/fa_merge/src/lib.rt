@@ -1,5 +1,5 @@
-// Merging of forests: roots that stand in another order, a component merged into the one tree that refers to its root, a
-// cell that is dropped; and which roots are reached, from which it follows whether a forest's members leak.
+// Merging of forests: roots that stand in another order, a component merged into the one tree that refers to its root,
+// a cell that is dropped; and which roots are reached, from which it follows whether a forest's members leak.
 #![tactic(auto)]
 
 pub mod counting;

@@ -46,7 +46,9 @@ fn reorder_counted(alloc: Global, forest: &Forest, order: &[u32], count: u32) ->
     reorder_forest(alloc, forest, order)
 }
 
-/// The forest in which the root is merged into the one whose trees refer to it: the same members, grouped into other trees. The root has no variable and exactly one reference, which is not in its own tree. Later roots move down by one. Err is want of memory.
+/// The forest in which the root is merged into the one whose trees refer to it: the same members, grouped into other
+/// trees. The root has no variable and exactly one reference, which is not in its own tree. Later roots move down by
+/// one. Err is want of memory.
 pub fn merge_root(alloc: Global, forest: &Sound, root: u32) -> Mem<Sound>
     requires plain { Every HasNoBoxes forest.now.forest.autos }
     requires lone { CanMerge forest.now.forest root }
@@ -81,7 +83,9 @@ fn merge_at(alloc: Global, forest: &Sound, root: u32, into: u32, count: u32) -> 
 /// The first root whose trees refer to the root.
 fn referrer(alloc: Global, forest: &Sound, root: u32, count: u32) -> Mem<Option<u32>>
     requires { count ≡ length forest.now.forest.autos }
-    ensures { IfOk result (λ found. MatchOption found (NoneRefers forest.now.forest root) (IsReferrer forest.now.forest root)) }
+    ensures { IfOk result
+        (λ found. MatchOption found (NoneRefers forest.now.forest root)
+        (IsReferrer forest.now.forest root)) }
 {
     for other in 0..count {
         if do_refer(alloc, forest, other, root)? {
@@ -94,7 +98,9 @@ fn referrer(alloc: Global, forest: &Sound, root: u32, count: u32) -> Mem<Option<
 /// Whether the trees of the one root refer to the other.
 fn do_refer(alloc: Global, forest: &Sound, other: u32, root: u32) -> Mem<bool>
     requires { other < length forest.now.forest.autos }
-    ensures { IfOk result (λ yes. MatchBool yes (AllRefer (component_at forest.now.forest.autos other) root) (NoneRefer (component_at forest.now.forest.autos other) root)) }
+    ensures { IfOk result
+        (λ yes. MatchBool yes (AllRefer (component_at forest.now.forest.autos other) root)
+        (NoneRefer (component_at forest.now.forest.autos other) root)) }
 {
     let signature = component_signature(alloc, forest, other)?;
     Ok(is_marked_root(signature.refs.as_slice(), root))

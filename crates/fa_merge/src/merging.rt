@@ -14,7 +14,8 @@ use fore_base::memory::Mem;
 use std::alloc::Global;
 use ta_core::auto::Auto;
 
-/// The component of the root merged into the one that refers to it; later roots move down by one. Err is want of memory.
+/// The component of the root merged into the one that refers to it; later roots move down by one. Err is want of
+/// memory.
 pub fn merge_into(alloc: Global, forest: &Forest, root: u32, into: u32, count: u32) -> Mem<Forest>
     requires count { count ≡ length forest.now.autos }
     requires lone { IsLone forest.now root into }
@@ -60,7 +61,8 @@ fn push_other(order: &mut List<u32>, other: u32, root: u32) -> Mem<()>
 fn merge_last(alloc: Global, autos: List<Auto>, into: u32) -> Mem<List<Auto>>
     requires few { length autos < 2 ^ 32 }
     requires into { into + 1 < length autos }
-    ensures { (cs : List Automaton) (l : Automaton) → autos ≡ cs ++ (l ∷ []) → IfOk result (λ made. made ≡ slice_set cs into (merged (length cs) (component_at cs into) l)) }
+    ensures { (cs : List Automaton) (l : Automaton) → autos ≡ cs ++ (l ∷ [])
+        → IfOk result (λ made. made ≡ slice_set cs into (merged (length cs) (component_at cs into) l)) }
 {
     let mut autos = autos;
     match autos.pop() {

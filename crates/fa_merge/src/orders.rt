@@ -78,7 +78,8 @@ fn ordered_autos(
 ) -> Mem<List<Auto>>
     requires below { Every (λ k. k < length autos.now) order.now }
     requires same { places.now.order.now ≡ order.now }
-    ensures { IfOk result (λ made. made ≡ map (λ k. placed_auto (renumber (place_of order.now)) (component_at autos.now k)) order.now) }
+    ensures { IfOk result (λ made. made
+        ≡ map (λ k. placed_auto (renumber (place_of order.now)) (component_at autos.now k)) order.now) }
 {
     let mut made = List::new(alloc);
     for root in order {

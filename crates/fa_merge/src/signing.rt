@@ -28,7 +28,8 @@ pub fn component_signatures(alloc: Global, forest: &Sound, count: u32) -> Mem<Li
 /// The signature of all trees of the root: that of a root state whose trees refer to some root, if there is one.
 pub fn component_signature(alloc: Global, forest: &Sound, root: u32) -> Mem<Signature>
     requires { root < length forest.now.forest.autos }
-    ensures { IfOk result (λ s. (a : Automaton) → slice_get forest.now.forest.autos root ≡ Some a → IsSignatureOf forest.now.face.boxes a s) }
+    ensures { IfOk result (λ s. (a : Automaton) → slice_get forest.now.forest.autos root ≡ Some a
+        → IsSignatureOf forest.now.face.boxes a s) }
 {
     forest.known();
     let auto = forest.forest().autos.at(root as usize);

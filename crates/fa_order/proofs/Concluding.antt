@@ -1,5 +1,6 @@
 -- A forest with the roots of a canonical one is canonical when its roots stand in the order of the walk.
-use Rattle.std.proofs.Common.{◌≡◌, inl, inr, ℕ, zero, suc, ◌<◌, length, List, [], ◌∷◌, map, refl, sym, ap, subst, ◌∙◌, slice_get, Some}
+use Rattle.std.proofs.Common.{◌≡◌, inl, inr, ℕ, zero, suc, ◌<◌, length, List, [], ◌∷◌, map, refl, sym, ap, subst, ◌∙◌}
+use Rattle.std.proofs.Common.{slice_get, Some}
 use Rattle.std.proofs.lemmas.Option.{none-some, same_Some}
 use Rattle.fore_base.specs.Lists.{IsIn, Every}
 use Rattle.fore_base.proofs.ListLemmas.{every_in, in_every, in_mapped}
@@ -23,7 +24,8 @@ use Rattle.fa_sound.specs.Components.{component_at}
 use Rattle.fa_merge.specs.inner.Orders.{IsOrder}
 use Rattle.fa_merge.proofs.MergedAnywhere.{an_order}
 use Rattle.fa_merge.proofs.Named.{choice_long}
-use Rattle.fa_merge.proofs.OtherOrders.{get_mapped, order_below, order_back, order_length, back_order, place_below, reordered_length}
+use Rattle.fa_merge.proofs.OtherOrders.{get_mapped, order_below, order_back, order_length, back_order, place_below}
+use Rattle.fa_merge.proofs.OtherOrders.{reordered_length}
 use Rattle.fa_merge.proofs.PlacedForests.{component_has}
 use Rattle.fa_merge.proofs.ReorderedSound.{new_plain, reordered_sound}
 use Rattle.fa_order.specs.Kinds.{HasRootKinds}
@@ -35,7 +37,8 @@ use Rattle.fa_order.proofs.Visits.{walks_on}
 
 -- One top under new numbers.
 
-mapped_got : {X Y : Type 0} (h : X → Y) (xs : List X) (i : ℕ) (y : Y) → slice_get (map h xs) i ≡ Some y → (x : X) × (slice_get xs i ≡ Some x) × (y ≡ h x)
+mapped_got : {X Y : Type 0} (h : X → Y) (xs : List X) (i : ℕ) (y : Y) → slice_get (map h xs) i ≡ Some y → (x : X)
+    × (slice_get xs i ≡ Some x) × (y ≡ h x)
 mapped_got h [] i y e = absurd (none-some y e)
 mapped_got h (x ∷ xs) zero y e = (x, refl, sym (same_Some (h x) y e))
 mapped_got h (x ∷ xs) (suc i) y e = mapped_got h xs i y e
@@ -48,10 +51,14 @@ top_placed f a h = record {
   rule = placed_rule (renumber f) h.rule;
   there = get_mapped (placed_rule (renumber f)) a.rules h.place h.rule h.there;
   top = h.top;
-  only = λ i r e s. (let m = mapped_got (placed_rule (renumber f)) a.rules i r e in h.only i m.0 m.1 (sym (ap (λ (x : Rule). x.state) m.2) ∙ s));
+  only =
+      λ i r e s.
+      (let m = mapped_got (placed_rule (renumber f)) a.rules i r e in
+      h.only i m.0 m.1 (sym (ap (λ (x : Rule). x.state) m.2) ∙ s));
 }
 
-module _ (face : Face) (F : Forest) (sound : IsSound face F) (ranked : Every IsRanked F.autos) (plain : Every HasNoBoxes F.autos) (roots : HasRootKinds face F)
+module _ (face : Face) (F : Forest) (sound : IsSound face F) (ranked : Every IsRanked F.autos)
+    (plain : Every HasNoBoxes F.autos) (roots : HasRootKinds face F)
     (order : List ℕ) (walk : IsWalkOrder F order) (all : IsOrderOf F order) where
   abbrev size : ℕ
   size = length F.autos
@@ -68,10 +75,13 @@ module _ (face : Face) (F : Forest) (sound : IsSound face F) (ranked : Every IsR
   below : Every (λ k. k < size) order
   below = order_below size f order is
 
-  each_new : (P : Automaton → Type 0) → ((a : Automaton) → P a → P (placed_auto (renumber f) a)) → Every P F.autos → Every P G.autos
+  each_new : (P : Automaton → Type 0) → ((a : Automaton) → P a → P (placed_auto (renumber f) a)) → Every P F.autos
+      → Every P G.autos
   each_new P kept h = in_every P G.autos (λ a i.
       let m = in_mapped (λ k. placed_auto (renumber f) (component_at F.autos k)) a order i in
-      subst P (sym m.2) (kept (component_at F.autos m.0) (component_has P F.autos m.0 h (every_in (λ k. k < size) order m.0 below m.1))))
+      subst P (sym m.2)
+      (kept (component_at F.autos m.0)
+      (component_has P F.autos m.0 h (every_in (λ k. k < size) order m.0 below m.1))))
 
   new_sound : IsSound face G
   new_sound = reordered_sound face F order all ranked plain sound
@@ -80,7 +90,8 @@ module _ (face : Face) (F : Forest) (sound : IsSound face F) (ranked : Every IsR
   dressed : (us : List Tree) → Choice G.autos us → (e : Nodes) × (bares e ≡ us) × OfForest [] G e
   dressed us c =
       let w = new_sound.well_formed.filled.trees us c in
-      let d = dress_all [] 0 G.autos us w.tops (each_new IsRanked (placed_ranked (renumber f)) ranked) (boxless_have_insides [] G.autos (new_plain face F order all ranked plain sound)) c w.are in
+      let d = dress_all [] 0 G.autos us w.tops (each_new IsRanked (placed_ranked (renumber f)) ranked)
+      (boxless_have_insides [] G.autos (new_plain face F order all ranked plain sound)) c w.are in
       (d.nodes, d.trees, d.of)
 
   module _ (e : Nodes) (o : OfForest [] G e) where
@@ -98,7 +109,8 @@ module _ (face : Face) (F : Forest) (sound : IsSound face F) (ranked : Every IsR
 
     kind_new : (r : ℕ) → r < length (bares e) → IsRootKind face.boxes G.vars (bares e) r
     kind_new r l =
-        let b : g r < size = place_below size g (back_order size f order is) (order_back size f order is) r (subst (λ (n : ℕ). r < n) long l) in
+        let b : g r < size = place_below size g (back_order size f order is) (order_back size f order is) r
+        (subst (λ (n : ℕ). r < n) long l) in
         let k = roots.kinds ts choice (g r) (subst (λ (n : ℕ). g r < n) (sym (choice_long F.autos ts choice)) b) in
         elim (plain_kind face.boxes F.autos plain ts choice F.vars (g r) k) [
           | inl s ↦ inl (shared_follows f g F.vars G.vars ts (bares e) (follows F f order is e o) r s)
@@ -110,17 +122,27 @@ module _ (face : Face) (F : Forest) (sound : IsSound face F) (ranked : Every IsR
 
     walked : Walks (refs_at (bares e)) (GoesOn face.boxes (bares e)) (var_roots G.vars) 0 (length (bares e))
     walked =
-        let moved : (r : ℕ) → IsIn r order → refs_at (bares e) (f r) ≡ map f (refs_at ts r) = (λ r i. refs_turned F f order is e o r (every_in (λ k. k < size) order r below i)) in
-        let w : Walks (refs_at (bares e)) (GoesOn face.boxes (bares e)) (map f (var_roots F.vars)) 0 (length order) = walks_on (refs_at ts) (refs_at (bares e)) (GoesOn face.boxes (bares e)) order moved (var_roots F.vars) [] order refl (walk ts choice) in
-        subst (λ (z : ℕ). Walks (refs_at (bares e)) (GoesOn face.boxes (bares e)) (var_roots G.vars) 0 z) (order_length size f order is ∙ sym long)
-        (subst (λ (z : List ℕ). Walks (refs_at (bares e)) (GoesOn face.boxes (bares e)) z 0 (length order)) (sym (var_roots_renumbered f F.vars)) w)
+        let moved : (r : ℕ) → IsIn r order → refs_at (bares e) (f r) ≡ map f (refs_at ts r) =
+        (λ r i. refs_turned F f order is e o r (every_in (λ k. k < size) order r below i)) in
+        let w : Walks (refs_at (bares e)) (GoesOn face.boxes (bares e)) (map f (var_roots F.vars)) 0 (length order) =
+        walks_on (refs_at ts) (refs_at (bares e)) (GoesOn face.boxes (bares e)) order moved (var_roots F.vars)
+        [] order refl (walk ts choice) in
+        subst (λ (z : ℕ). Walks (refs_at (bares e)) (GoesOn face.boxes (bares e)) (var_roots G.vars) 0 z)
+        (order_length size f order is ∙ sym long)
+        (subst (λ (z : List ℕ). Walks (refs_at (bares e)) (GoesOn face.boxes (bares e)) z 0 (length order))
+        (sym (var_roots_renumbered f F.vars)) w)
 
   pub placed_canonical : IsCanonical face G
   placed_canonical = record {
     well_formed = new_sound.well_formed;
     tops = each_new HasOneTop (top_placed f) roots.tops;
     kinds = λ us c r l. (let d = dressed us c in
-        subst (λ (z : List Tree). IsRootKind face.boxes G.vars z r) d.1 (kind_new d.0 d.2 r (subst (λ (z : List Tree). r < length z) (sym d.1) l)));
+        subst (λ (z : List Tree). IsRootKind face.boxes G.vars z r) d.1
+        (kind_new d.0 d.2 r (subst (λ (z : List Tree). r < length z) (sym d.1) l)));
     untied = λ us c. (let d = dressed us c in subst (λ (z : List Tree). IsUntied G.vars z) d.1 (untied_new d.0 d.2));
-    order = λ us c. (let d = dressed us c in subst (λ (z : List Tree). Walks (refs_at z) (GoesOn face.boxes z) (var_roots G.vars) 0 (length z)) d.1 (walked d.0 d.2));
+    order =
+        λ us c.
+        (let d = dressed us c in
+        subst (λ (z : List Tree). Walks (refs_at z) (GoesOn face.boxes z) (var_roots G.vars) 0 (length z)) d.1
+        (walked d.0 d.2));
   }

@@ -1,5 +1,7 @@
 -- What is decided of the trees that show most is what is asked of a forest's roots.
-use Rattle.std.proofs.Common.{◌≡◌, ◌≢◌, ◌⊎◌, inl, inr, ℕ, zero, suc, ◌<◌, ◌+◌, Bool, true, false, not, ◌&&◌, cond, true≢false, nat_eq, nat_le, length, List, [], ◌∷◌, map, refl, sym, ap, subst, ◌∙◌, slice_get, Some, arith}
+use Rattle.std.proofs.Common.{◌≡◌, ◌≢◌, ◌⊎◌, inl, inr, ℕ, zero, suc, ◌<◌, ◌+◌, Bool, true, false, not, ◌&&◌, cond}
+use Rattle.std.proofs.Common.{true≢false, nat_eq, nat_le, length, List, [], ◌∷◌, map, refl, sym, ap, subst, ◌∙◌}
+use Rattle.std.proofs.Common.{slice_get, Some, arith}
 use Rattle.std.proofs.lemmas.Bool.{and_parts, and_from, or_left, or_right, or_cases, eqb-true, eq-eqb, leb-true, le-leb}
 use Rattle.std.proofs.lemmas.Option.{none-some, same_Some, slice_get_within}
 use Rattle.fore_base.specs.Lists.{IsIn}
@@ -15,7 +17,8 @@ use Rattle.fa_core.proofs.Numbers.{has_once}
 use Rattle.fa_merge.specs.inner.Counted.{marks_count}
 use Rattle.fa_merge.proofs.Hopping.{in_has, has_in, in_var_roots, var_roots_in}
 use Rattle.fa_order.specs.declared.showing.Shown.{Shown}
-use Rattle.fa_order.specs.inner.Deciding.{times_shown, shared_by, any_leaf, any_cell, ties, any_ties, knot_by, root_by, roots_by}
+use Rattle.fa_order.specs.inner.Deciding.{times_shown, shared_by, any_leaf, any_cell, ties, any_ties, knot_by, root_by}
+use Rattle.fa_order.specs.inner.Deciding.{roots_by}
 use Rattle.fa_order.specs.inner.Showing.{shown_of}
 use Rattle.fa_order.proofs.CountedMarks.{sum_marks, sums_are}
 use Rattle.fa_order.proofs.Following.{two_by_two, one_by_two}
@@ -38,40 +41,59 @@ module _ (bs : List BoxFace) where
   refers_has t k h = ap (has k) (signature_roots bs t) ∙ has_once k (tree_refs t) ∙ in_has k (tree_refs t) h
 
   has_refers : (t : Tree) (k : ℕ) → has k (roots_in (signature bs t)) ≡ true → RefersTo t k
-  has_refers t k h = has_in k (tree_refs t) (sym (has_once k (tree_refs t)) ∙ sym (ap (has k) (signature_roots bs t)) ∙ h)
+  has_refers t k h = has_in k (tree_refs t)
+      (sym (has_once k (tree_refs t)) ∙ sym (ap (has k) (signature_roots bs t)) ∙ h)
 
   -- Ends.
 
-  leaf_there : (r : ℕ) (us : List Tree) → any_leaf r (map (below_of bs) us) ≡ true → (u : Tree) × IsIn u us × ((out-Tree u).symbol ≡ Ref r)
+  leaf_there : (r : ℕ) (us : List Tree) → any_leaf r (map (below_of bs) us) ≡ true → (u : Tree) × IsIn u us
+      × ((out-Tree u).symbol ≡ Ref r)
   leaf_there r [] h = absurd (true≢false (sym h))
-  leaf_there r (u ∷ us) h = elim (or_cases (is_leaf (out-Tree u).symbol && has r (roots_in (signature bs u))) (any_leaf r (map (below_of bs) us)) h) [
-    | inl e ↦ (let k = and_parts (is_leaf (out-Tree u).symbol) (has r (roots_in (signature bs u))) e in (u, inl refl, leaf_refers u r k.0 (has_refers u r k.1)))
-    | inr e ↦ (let k = leaf_there r us e in (k.0, inr k.1, k.2))
-  ]
+  leaf_there r (u ∷ us) h =
+      elim
+      (or_cases (is_leaf (out-Tree u).symbol && has r (roots_in (signature bs u))) (any_leaf r (map (below_of bs) us))
+      h) [
+        | inl e ↦ (let k = and_parts (is_leaf (out-Tree u).symbol) (has r (roots_in (signature bs u))) e in
+            (u, inl refl, leaf_refers u r k.0 (has_refers u r k.1)))
+        | inr e ↦ (let k = leaf_there r us e in (k.0, inr k.1, k.2))
+      ]
 
-  there_leaf : (r : ℕ) (us : List Tree) (u : Tree) → IsIn u us → (out-Tree u).symbol ≡ Ref r → any_leaf r (map (below_of bs) us) ≡ true
+  there_leaf : (r : ℕ) (us : List Tree) (u : Tree) → IsIn u us → (out-Tree u).symbol ≡ Ref r
+      → any_leaf r (map (below_of bs) us) ≡ true
   there_leaf r [] u i e = absurd i
   there_leaf r (x ∷ us) u (inl q) e =
       or_left (is_leaf (out-Tree x).symbol && has r (roots_in (signature bs x))) (any_leaf r (map (below_of bs) us))
       (subst (λ (z : Tree). (is_leaf (out-Tree z).symbol && has r (roots_in (signature bs z))) ≡ true) q
-      (and_from (is_leaf (out-Tree u).symbol) (has r (roots_in (signature bs u))) (ref_is_leaf u r e) (refers_has u r (ref_refers u r e))))
-  there_leaf r (x ∷ us) u (inr i) e = or_right (is_leaf (out-Tree x).symbol && has r (roots_in (signature bs x))) (any_leaf r (map (below_of bs) us)) (there_leaf r us u i e)
+      (and_from (is_leaf (out-Tree u).symbol) (has r (roots_in (signature bs u))) (ref_is_leaf u r e)
+      (refers_has u r (ref_refers u r e))))
+  there_leaf r (x ∷ us) u (inr i) e =
+      or_right (is_leaf (out-Tree x).symbol && has r (roots_in (signature bs x))) (any_leaf r (map (below_of bs) us))
+      (there_leaf r us u i e)
 
-  cell_there : (r : ℕ) (us : List Tree) → any_cell r (map (below_of bs) us) ≡ true → (u : Tree) × IsIn u us × ((out-Tree u).symbol ≢ Ref r) × RefersTo u r
+  cell_there : (r : ℕ) (us : List Tree) → any_cell r (map (below_of bs) us) ≡ true → (u : Tree) × IsIn u us
+      × ((out-Tree u).symbol ≢ Ref r) × RefersTo u r
   cell_there r [] h = absurd (true≢false (sym h))
-  cell_there r (u ∷ us) h = elim (or_cases (not (is_leaf (out-Tree u).symbol) && has r (roots_in (signature bs u))) (any_cell r (map (below_of bs) us)) h) [
-    | inl e ↦ (let k = and_parts (not (is_leaf (out-Tree u).symbol)) (has r (roots_in (signature bs u))) e in
-        (u, inl refl, (λ q. not_true (is_leaf (out-Tree u).symbol) k.0 (ref_is_leaf u r q)), has_refers u r k.1))
-    | inr e ↦ (let k = cell_there r us e in (k.0, inr k.1, k.2, k.3))
-  ]
+  cell_there r (u ∷ us) h =
+      elim
+      (or_cases (not (is_leaf (out-Tree u).symbol) && has r (roots_in (signature bs u)))
+      (any_cell r (map (below_of bs) us)) h) [
+        | inl e ↦ (let k = and_parts (not (is_leaf (out-Tree u).symbol)) (has r (roots_in (signature bs u))) e in
+            (u, inl refl, (λ q. not_true (is_leaf (out-Tree u).symbol) k.0 (ref_is_leaf u r q)), has_refers u r k.1))
+        | inr e ↦ (let k = cell_there r us e in (k.0, inr k.1, k.2, k.3))
+      ]
 
-  there_cell : (r : ℕ) (us : List Tree) (u : Tree) → IsIn u us → (out-Tree u).symbol ≢ Ref r → RefersTo u r → any_cell r (map (below_of bs) us) ≡ true
+  there_cell : (r : ℕ) (us : List Tree) (u : Tree) → IsIn u us → (out-Tree u).symbol ≢ Ref r → RefersTo u r
+      → any_cell r (map (below_of bs) us) ≡ true
   there_cell r [] u i d h = absurd i
   there_cell r (x ∷ us) u (inl q) d h =
-      or_left (not (is_leaf (out-Tree x).symbol) && has r (roots_in (signature bs x))) (any_cell r (map (below_of bs) us))
+      or_left (not (is_leaf (out-Tree x).symbol) && has r (roots_in (signature bs x)))
+      (any_cell r (map (below_of bs) us))
       (subst (λ (z : Tree). (not (is_leaf (out-Tree z).symbol) && has r (roots_in (signature bs z))) ≡ true) q
-      (and_from (not (is_leaf (out-Tree u).symbol)) (has r (roots_in (signature bs u))) (true_not (is_leaf (out-Tree u).symbol) (λ l. d (leaf_refers u r l h))) (refers_has u r h)))
-  there_cell r (x ∷ us) u (inr i) d h = or_right (not (is_leaf (out-Tree x).symbol) && has r (roots_in (signature bs x))) (any_cell r (map (below_of bs) us)) (there_cell r us u i d h)
+      (and_from (not (is_leaf (out-Tree u).symbol)) (has r (roots_in (signature bs u)))
+      (true_not (is_leaf (out-Tree u).symbol) (λ l. d (leaf_refers u r l h))) (refers_has u r h)))
+  there_cell r (x ∷ us) u (inr i) d h =
+      or_right (not (is_leaf (out-Tree x).symbol) && has r (roots_in (signature bs x)))
+      (any_cell r (map (below_of bs) us)) (there_cell r us u i d h)
 
   module _ (vs : List Target) (ts : List Tree) where
     abbrev vars : List ℕ
@@ -97,37 +119,51 @@ module _ (bs : List BoxFace) where
 
     is_shared : (r : ℕ) → IsShared vs ts r → shared_by vars all r ≡ true
     is_shared r (inl i) = or_left (has r vars) (nat_le 2 (times_shown r all)) (in_has r vars (in_var_roots vs r i))
-    is_shared r (inr l) = or_right (has r vars) (nat_le 2 (times_shown r all)) (le-leb 2 (times_shown r all) (two_by_two (references ts r) (times_shown r all) (sym (times r)) l))
+    is_shared r (inr l) = or_right (has r vars) (nat_le 2 (times_shown r all))
+        (le-leb 2 (times_shown r all) (two_by_two (references ts r) (times_shown r all) (sym (times r)) l))
 
     -- Kind 4.
 
     abbrev Ties : ℕ → Tree → ℕ → Tree → Type 0
     Ties r o i t = ties vars all r (signature bs o) i (shown_of bs t) ≡ true
 
-    ties_there : (r : ℕ) (o : Tree) (i : ℕ) (us : List Tree) → any_ties vars all r (signature bs o) i (map (shown_of bs) us) ≡ true → (j : ℕ) × (t : Tree) × (slice_get us j ≡ Some t) × Ties r o (i + j) t
+    ties_there : (r : ℕ) (o : Tree) (i : ℕ) (us : List Tree)
+        → any_ties vars all r (signature bs o) i (map (shown_of bs) us) ≡ true → (j : ℕ) × (t : Tree)
+        × (slice_get us j ≡ Some t) × Ties r o (i + j) t
     ties_there r o i [] h = absurd (true≢false (sym h))
-    ties_there r o i (u ∷ us) h = elim (or_cases (ties vars all r (signature bs o) i (shown_of bs u)) (any_ties vars all r (signature bs o) (suc i) (map (shown_of bs) us)) h) [
-      | inl e ↦ (let z : i ≡ i + 0 = omega arith in (0, u, refl, subst (λ (n : ℕ). Ties r o n u) z e))
-      | inr e ↦ (let k = ties_there r o (suc i) us e in let z : suc i + k.0 ≡ i + suc k.0 = omega arith in (suc k.0, k.1, k.2, subst (λ (n : ℕ). Ties r o n k.1) z k.3))
-    ]
+    ties_there r o i (u ∷ us) h =
+        elim
+        (or_cases (ties vars all r (signature bs o) i (shown_of bs u))
+        (any_ties vars all r (signature bs o) (suc i) (map (shown_of bs) us)) h) [
+          | inl e ↦ (let z : i ≡ i + 0 = omega arith in (0, u, refl, subst (λ (n : ℕ). Ties r o n u) z e))
+          | inr e ↦ (let k = ties_there r o (suc i) us e in let z : suc i + k.0 ≡ i + suc k.0 = omega arith in
+              (suc k.0, k.1, k.2, subst (λ (n : ℕ). Ties r o n k.1) z k.3))
+        ]
 
-    there_ties : (r : ℕ) (o : Tree) (i : ℕ) (us : List Tree) (j : ℕ) (t : Tree) → slice_get us j ≡ Some t → Ties r o (i + j) t → any_ties vars all r (signature bs o) i (map (shown_of bs) us) ≡ true
+    there_ties : (r : ℕ) (o : Tree) (i : ℕ) (us : List Tree) (j : ℕ) (t : Tree) → slice_get us j ≡ Some t
+        → Ties r o (i + j) t → any_ties vars all r (signature bs o) i (map (shown_of bs) us) ≡ true
     there_ties r o i [] j t e h = absurd (none-some t e)
     there_ties r o i (u ∷ us) zero t e h =
         let z : i + 0 ≡ i = omega arith in
-        or_left (ties vars all r (signature bs o) i (shown_of bs u)) (any_ties vars all r (signature bs o) (suc i) (map (shown_of bs) us))
+        or_left (ties vars all r (signature bs o) i (shown_of bs u))
+        (any_ties vars all r (signature bs o) (suc i) (map (shown_of bs) us))
         (subst (λ (x : Tree). Ties r o i x) (sym (same_Some u t e)) (subst (λ (n : ℕ). Ties r o n t) z h))
     there_ties r o i (u ∷ us) (suc j) t e h =
         let z : i + suc j ≡ suc i + j = omega arith in
-        or_right (ties vars all r (signature bs o) i (shown_of bs u)) (any_ties vars all r (signature bs o) (suc i) (map (shown_of bs) us)) (there_ties r o (suc i) us j t e (subst (λ (n : ℕ). Ties r o n t) z h))
+        or_right (ties vars all r (signature bs o) i (shown_of bs u))
+        (any_ties vars all r (signature bs o) (suc i) (map (shown_of bs) us))
+        (there_ties r o (suc i) us j t e (subst (λ (n : ℕ). Ties r o n t) z h))
 
     knot_is : (r : ℕ) (o : Tree) → slice_get ts r ≡ Some o → knot_by vars all r (signature bs o) ≡ true → IsKnot vs ts r
     knot_is r o own h =
         let a = and_parts (nat_eq (times_shown r all) 1) (any_ties vars all r (signature bs o) 0 all) h in
         let k = ties_there r o 0 ts a.1 in
         let z : 0 + k.0 ≡ k.0 = omega arith in
-        let b = and_parts (shared_by vars all k.0) (any_leaf r (map (below_of bs) (field_trees k.1)) && has k.0 (roots_in (signature bs o))) (subst (λ (n : ℕ). Ties r o n k.1) z k.3) in
-        let c = and_parts (any_leaf r (map (below_of bs) (field_trees k.1))) (has k.0 (roots_in (signature bs o))) b.1 in
+        let b = and_parts (shared_by vars all k.0)
+        (any_leaf r (map (below_of bs) (field_trees k.1)) && has k.0 (roots_in (signature bs o)))
+        (subst (λ (n : ℕ). Ties r o n k.1) z k.3) in
+        let c = and_parts (any_leaf r (map (below_of bs) (field_trees k.1))) (has k.0 (roots_in (signature bs o))) b.1
+        in
         let l = leaf_there r (field_trees k.1) c.0 in
         record {
           one = one_by_two (times_shown r all) (references ts r) (times r) (eqb-true (times_shown r all) 1 a.0);
@@ -150,8 +186,11 @@ module _ (bs : List BoxFace) where
         and_from (nat_eq (times_shown r all) 1) (any_ties vars all r (signature bs o) 0 all)
         (eq-eqb (times_shown r all) 1 (one_by_two (references ts r) (times_shown r all) (sym (times r)) k.one))
         (there_ties r o 0 ts k.from k.above k.is_above (subst (λ (n : ℕ). Ties r o n k.above) z
-        (and_from (shared_by vars all k.from) (any_leaf r (map (below_of bs) (field_trees k.above)) && has k.from (roots_in (signature bs o))) (is_shared k.from k.shared)
-        (and_from (any_leaf r (map (below_of bs) (field_trees k.above))) (has k.from (roots_in (signature bs o))) (there_leaf r (field_trees k.above) k.leaf k.in_field k.refers)
+        (and_from (shared_by vars all k.from)
+        (any_leaf r (map (below_of bs) (field_trees k.above)) && has k.from (roots_in (signature bs o)))
+        (is_shared k.from k.shared)
+        (and_from (any_leaf r (map (below_of bs) (field_trees k.above))) (has k.from (roots_in (signature bs o)))
+        (there_leaf r (field_trees k.above) k.leaf k.in_field k.refers)
         (refers_has o k.from (subst (λ (t : Tree). RefersTo t k.from) same k.ties))))))
 
     -- One root.
@@ -162,40 +201,56 @@ module _ (bs : List BoxFace) where
     abbrev Loose : ℕ → Tree → Type 0
     Loose r t = IsShared vs ts r → (u : Tree) → IsIn u (field_trees t) → (out-Tree u).symbol ≢ Ref r → RefersTo u r → ⊥
 
-    root_is : (r : ℕ) (t : Tree) → slice_get ts r ≡ Some t → root_by vars all r (shown_of bs t) ≡ true → Kind r × Loose r t
+    root_is : (r : ℕ) (t : Tree) → slice_get ts r ≡ Some t → root_by vars all r (shown_of bs t) ≡ true → Kind r
+        × Loose r t
     root_is r t e = here (shared_by vars all r) refl
       where
-        here : (b : Bool) → shared_by vars all r ≡ b → cond b (not (any_cell r (map (below_of bs) (field_trees t)))) (knot_by vars all r (signature bs t)) ≡ true → Kind r × Loose r t
-        here true s h = (inl (shared_is r s), (λ w u i d k. not_true (any_cell r (map (below_of bs) (field_trees t))) h (there_cell r (field_trees t) u i d k)))
+        here : (b : Bool) → shared_by vars all r ≡ b
+            → cond b (not (any_cell r (map (below_of bs) (field_trees t)))) (knot_by vars all r (signature bs t)) ≡ true
+            → Kind r × Loose r t
+        here true s h = (
+          inl (shared_is r s),
+          (λ w u i d k. not_true (any_cell r (map (below_of bs) (field_trees t))) h
+              (there_cell r (field_trees t) u i d k)),
+        )
         here false s h = (inr (knot_is r t e h), (λ w u i d k. true≢false (sym (is_shared r w) ∙ s)))
 
-    is_root : (r : ℕ) (t : Tree) → slice_get ts r ≡ Some t → Kind r → Loose r t → root_by vars all r (shown_of bs t) ≡ true
+    is_root : (r : ℕ) (t : Tree) → slice_get ts r ≡ Some t → Kind r → Loose r t → root_by vars all r (shown_of bs t)
+        ≡ true
     is_root r t e k l = here (shared_by vars all r) refl k
       where
-        here : (b : Bool) → shared_by vars all r ≡ b → Kind r → cond b (not (any_cell r (map (below_of bs) (field_trees t)))) (knot_by vars all r (signature bs t)) ≡ true
-        here true s k = true_not (any_cell r (map (below_of bs) (field_trees t))) (λ h. let c = cell_there r (field_trees t) h in l (shared_is r s) c.0 c.1 c.2 c.3)
+        here : (b : Bool) → shared_by vars all r ≡ b → Kind r
+            → cond b (not (any_cell r (map (below_of bs) (field_trees t)))) (knot_by vars all r (signature bs t)) ≡ true
+        here true s k = true_not (any_cell r (map (below_of bs) (field_trees t)))
+            (λ h. let c = cell_there r (field_trees t) h in l (shared_is r s) c.0 c.1 c.2 c.3)
         here false s (inl w) = absurd (true≢false (sym (is_shared r w) ∙ s))
         here false s (inr w) = is_knot r t e w
 
     -- All roots.
 
-    each_root : (r : ℕ) (us : List Tree) → roots_by vars all r (map (shown_of bs) us) ≡ true → (j : ℕ) (t : Tree) → slice_get us j ≡ Some t → root_by vars all (r + j) (shown_of bs t) ≡ true
+    each_root : (r : ℕ) (us : List Tree) → roots_by vars all r (map (shown_of bs) us) ≡ true → (j : ℕ) (t : Tree)
+        → slice_get us j ≡ Some t → root_by vars all (r + j) (shown_of bs t) ≡ true
     each_root r [] h j t e = absurd (none-some t e)
     each_root r (u ∷ us) h zero t e =
         let a = and_parts (root_by vars all r (shown_of bs u)) (roots_by vars all (suc r) (map (shown_of bs) us)) h in
         let z : r ≡ r + 0 = omega arith in
-        subst (λ (n : ℕ). root_by vars all n (shown_of bs t) ≡ true) z (subst (λ (x : Tree). root_by vars all r (shown_of bs x) ≡ true) (same_Some u t e) a.0)
+        subst (λ (n : ℕ). root_by vars all n (shown_of bs t) ≡ true) z
+        (subst (λ (x : Tree). root_by vars all r (shown_of bs x) ≡ true) (same_Some u t e) a.0)
     each_root r (u ∷ us) h (suc j) t e =
         let a = and_parts (root_by vars all r (shown_of bs u)) (roots_by vars all (suc r) (map (shown_of bs) us)) h in
         let z : suc r + j ≡ r + suc j = omega arith in
         subst (λ (n : ℕ). root_by vars all n (shown_of bs t) ≡ true) z (each_root (suc r) us a.1 j t e)
 
-    root_each : (r : ℕ) (us : List Tree) → ((j : ℕ) (t : Tree) → slice_get us j ≡ Some t → root_by vars all (r + j) (shown_of bs t) ≡ true) → roots_by vars all r (map (shown_of bs) us) ≡ true
+    root_each : (r : ℕ) (us : List Tree)
+        → ((j : ℕ) (t : Tree) → slice_get us j ≡ Some t → root_by vars all (r + j) (shown_of bs t) ≡ true)
+        → roots_by vars all r (map (shown_of bs) us) ≡ true
     root_each r [] h = refl
     root_each r (u ∷ us) h =
         let z : r + 0 ≡ r = omega arith in
-        and_from (root_by vars all r (shown_of bs u)) (roots_by vars all (suc r) (map (shown_of bs) us)) (subst (λ (n : ℕ). root_by vars all n (shown_of bs u) ≡ true) z (h 0 u refl))
-        (root_each (suc r) us (λ j t e. let y : r + suc j ≡ suc r + j = omega arith in subst (λ (n : ℕ). root_by vars all n (shown_of bs t) ≡ true) y (h (suc j) t e)))
+        and_from (root_by vars all r (shown_of bs u)) (roots_by vars all (suc r) (map (shown_of bs) us))
+        (subst (λ (n : ℕ). root_by vars all n (shown_of bs u) ≡ true) z (h 0 u refl))
+        (root_each (suc r) us (λ j t e. let y : r + suc j ≡ suc r + j = omega arith in
+        subst (λ (n : ℕ). root_by vars all n (shown_of bs t) ≡ true) y (h (suc j) t e)))
 
     tree_here : (xs : List Tree) (r : ℕ) → r < length xs → (t : Tree) × (slice_get xs r ≡ Some t)
     tree_here [] r l = absurd (omega (arith, l))
@@ -210,9 +265,11 @@ module _ (bs : List BoxFace) where
     )
       where
         at : (r : ℕ) (t : Tree) → slice_get ts r ≡ Some t → Kind r × Loose r t
-        at r t e = let z : 0 + r ≡ r = omega arith in root_is r t e (subst (λ (n : ℕ). root_by vars all n (shown_of bs t) ≡ true) z (each_root 0 ts h r t e))
+        at r t e = let z : 0 + r ≡ r = omega arith in
+            root_is r t e (subst (λ (n : ℕ). root_by vars all n (shown_of bs t) ≡ true) z (each_root 0 ts h r t e))
 
     -- and the other way round
     pub are_roots : ((r : ℕ) → r < length ts → Kind r) → IsUntied vs ts → roots_by vars all 0 all ≡ true
     are_roots k n = root_each 0 ts (λ r t e. let z : r ≡ 0 + r = omega arith in
-        subst (λ (m : ℕ). root_by vars all m (shown_of bs t) ≡ true) z (is_root r t e (k r (slice_get_within ts r t e)) (λ s u i d w. n r t u s e i d w)))
+        subst (λ (m : ℕ). root_by vars all m (shown_of bs t) ≡ true) z
+        (is_root r t e (k r (slice_get_within ts r t e)) (λ s u i d w. n r t u s e i d w)))

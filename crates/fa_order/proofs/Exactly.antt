@@ -22,11 +22,13 @@ use Rattle.fa_order.proofs.Shows.{AreChosen, choose_shown}
 use Rattle.fa_order.proofs.Tame.{kinds_too, untied_too}
 use Rattle.fa_order.proofs.WalkOrder.{walks_in_order, in_order_walks}
 
-kind_of : (bs : List BoxFace) (vs : List Target) (ts : List Tree) (r : ℕ) → IsShared vs ts r ⊎ IsKnot vs ts r → IsRootKind bs vs ts r
+kind_of : (bs : List BoxFace) (vs : List Target) (ts : List Tree) (r : ℕ) → IsShared vs ts r ⊎ IsKnot vs ts r
+    → IsRootKind bs vs ts r
 kind_of bs vs ts r (inl s) = inl s
 kind_of bs vs ts r (inr k) = inr (inr k)
 
-module _ (face : Face) (F : Forest) (plain : Every HasNoBoxes F.autos) (ss : List Shown) (shown : Paired (IsShownBy face.boxes) F.autos ss) where
+module _ (face : Face) (F : Forest) (plain : Every HasNoBoxes F.autos) (ss : List Shown)
+    (shown : Paired (IsShownBy face.boxes) F.autos ss) where
   chosen : AreChosen face.boxes F.autos ss
   chosen = choose_shown face.boxes F.autos ss shown
 
@@ -35,17 +37,20 @@ module _ (face : Face) (F : Forest) (plain : Every HasNoBoxes F.autos) (ss : Lis
   roots_decided tops = (
     (λ passes.
         let ts = chosen.0 in
-        let h = roots_are face.boxes F.vars ts (subst (λ (z : List Shown). roots_by (var_roots F.vars) z 0 z ≡ true) (sym chosen.2) passes) in
+        let h = roots_are face.boxes F.vars ts
+        (subst (λ (z : List Shown). roots_by (var_roots F.vars) z 0 z ≡ true) (sym chosen.2) passes) in
         record {
           tops = tops;
-          kinds = λ us c. kinds_too face.boxes F.vars ts us (chosen.3 us c) (λ r l. kind_of face.boxes F.vars ts r (h.0 r l));
+          kinds = λ us c. kinds_too face.boxes F.vars ts us (chosen.3 us c)
+              (λ r l. kind_of face.boxes F.vars ts r (h.0 r l));
           untied = λ us c. untied_too face.boxes F.vars ts us (chosen.3 us c) h.1;
         }),
     (λ h.
         let ts = chosen.0 in
         let c = chosen.1 in
         subst (λ (z : List Shown). roots_by (var_roots F.vars) z 0 z ≡ true) chosen.2
-        (are_roots face.boxes F.vars ts (λ r l. plain_kind face.boxes F.autos plain ts c F.vars r (h.kinds ts c r l)) (h.untied ts c))),
+        (are_roots face.boxes F.vars ts (λ r l. plain_kind face.boxes F.autos plain ts c F.vars r (h.kinds ts c r l))
+        (h.untied ts c))),
   )
 
 module _ (face : Face) (F : Forest) (sound : IsSound face F) (plain : Every HasNoBoxes F.autos) where
@@ -53,7 +58,8 @@ module _ (face : Face) (F : Forest) (sound : IsSound face F) (plain : Every HasN
   roots_of_canonical can = record { tops = can.tops; kinds = can.kinds; untied = can.untied }
 
   -- a forest with the roots of a canonical one is canonical exactly where these stand in the order of the walk
-  pub order_decided : HasRootKinds face F → (order : List ℕ) → IsWalkOrder F order → (order ≡ counted 0 (length F.autos)) ↔ IsCanonical face F
+  pub order_decided : HasRootKinds face F → (order : List ℕ) → IsWalkOrder F order
+      → (order ≡ counted 0 (length F.autos)) ↔ IsCanonical face F
   order_decided h order walk = (
     (λ e. record {
       well_formed = sound.well_formed;

@@ -15,11 +15,14 @@ use Rattle.fa_sound.specs.Components.{component_at}
 use Rattle.fa_merge.proofs.LoneFound.{choice_component}
 use Rattle.fa_merge.proofs.PlacedForests.{component_has}
 
-module _ (bs : List BoxFace) (autos : List Automaton) (plain : Every HasNoBoxes autos) (ts : List Tree) (choice : Choice autos ts) where
+module _ (bs : List BoxFace) (autos : List Automaton) (plain : Every HasNoBoxes autos) (ts : List Tree)
+    (choice : Choice autos ts) where
   pub never_back : (i j r : ℕ) → LeadsBack bs ts i j r → ⊥
   never_back i j r (t, e, (w, h, q, z)) =
       let c = choice_component autos ts j t choice e in
-      let p : IsPlainWay bs w = every_in (IsPlainWay bs) (ways t) w (run_plain bs (component_at autos j).rules (component_has HasNoBoxes autos j plain c.0) c.1.2) h in
+      let p : IsPlainWay bs w =
+      every_in (IsPlainWay bs) (ways t) w
+      (run_plain bs (component_at autos j).rules (component_has HasNoBoxes autos j plain c.0) c.1.2) h in
       elim z [ inl l ↦ true≢false (sym l.1 ∙ p.1) | inr l ↦ subst (λ (ks : List ℕ). IsIn r ks) p.2 l ]
 
   pub never_goes_on : (k : ℕ) → GoesOn bs ts k → ⊥

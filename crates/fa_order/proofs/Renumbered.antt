@@ -1,15 +1,20 @@
--- Where the roots stand in another order, the trees of the reordered forest follow those of the forest, under the new numbers.
-use Rattle.std.proofs.Common.{◌≡◌, ◌↔◌, ℕ, zero, suc, ◌<◌, ◌+◌, Bool, true, false, ◌||◌, true≢false, cond, nat_eq, length, List, [], ◌∷◌, ◌++◌, map, flat_map, refl, sym, ap, ap₂, subst, ◌∙◌, slice_get, Some, not-suc-le-zero, le_of_suc-le-suc, arith}
+-- Where the roots stand in another order, the trees of the reordered forest follow those of the forest, under the new
+-- numbers.
+use Rattle.std.proofs.Common.{◌≡◌, ◌↔◌, ℕ, zero, suc, ◌<◌, ◌+◌, Bool, true, false, ◌||◌, true≢false, cond, nat_eq}
+use Rattle.std.proofs.Common.{length, List, [], ◌∷◌, ◌++◌, map, flat_map, refl, sym, ap, ap₂, subst, ◌∙◌, slice_get}
+use Rattle.std.proofs.Common.{Some, not-suc-le-zero, le_of_suc-le-suc, arith}
 use Rattle.std.proofs.lemmas.Bool.{eqb-true, eq-eqb}
 use Rattle.std.proofs.lemmas.Option.{none-some, same_Some}
 use Rattle.fore_base.specs.Lists.{IsIn, Paired}
 use Rattle.fore_base.proofs.ListLemmas.{in_map, in_mapped}
 use Rattle.ta_core.specs.declared.symbol.Symbol.{Symbol}
-use Rattle.ta_core.specs.declared.symbol.Symbol.TheVariants.{Null as NullSymbol, Uninit as UninitSymbol, Dangling as DanglingSymbol, Ref, Cell as CellSymbol}
+use Rattle.ta_core.specs.declared.symbol.Symbol.TheVariants.{Null as NullSymbol, Uninit as UninitSymbol}
+use Rattle.ta_core.specs.declared.symbol.Symbol.TheVariants.{Dangling as DanglingSymbol, Ref, Cell as CellSymbol}
 use Rattle.ta_core.specs.declared.tree.Tree.{Tree, out-Tree, out-roll-Tree}
 use Rattle.fa_core.specs.Canonical.{at_fields, field_trees, refs_at, var_roots}
 use Rattle.fa_core.specs.Choices.{bares, count}
-use Rattle.fa_core.specs.Dressed.{Node, Parts, End, Nodes, node, no_parts, field, link, hook, under, leaf, no_nodes, more, refs, end_refs, all_refs}
+use Rattle.fa_core.specs.Dressed.{Node, Parts, End, Nodes, node, no_parts, field, link, hook, under, leaf, no_nodes}
+use Rattle.fa_core.specs.Dressed.{more, refs, end_refs, all_refs}
 use Rattle.fa_core.specs.Member.{OfForest, bare, bare_parts, bare_end, slots_of, leaf_symbol}
 use Rattle.fa_core.specs.Placed.{placed, placed_parts, placed_end, placed_leaf}
 use Rattle.fa_core.specs.Rearranged.{Rearranged, often}
@@ -28,7 +33,9 @@ use Rattle.fa_merge.specs.Dropped.{node_at}
 use Rattle.fa_merge.specs.Reordered.{renumber, counted, reordered_by}
 use Rattle.fa_merge.specs.inner.Orders.{IsOrder}
 use Rattle.fa_merge.proofs.MergedAnywhere.{numbers_mapped, refs_renumbered}
-use Rattle.fa_merge.proofs.OtherOrders.{flat_later, get_counted, get_mapped, node_or, picked, picked_of, count_trees, root_at, root_place, place_turned, place_below, back_order, order_back, reordered_back, reordered_length}
+use Rattle.fa_merge.proofs.OtherOrders.{flat_later, get_counted, get_mapped, node_or, picked, picked_of, count_trees}
+use Rattle.fa_merge.proofs.OtherOrders.{root_at, root_place, place_turned, place_below, back_order, order_back}
+use Rattle.fa_merge.proofs.OtherOrders.{reordered_back, reordered_length}
 use Rattle.fa_merge.proofs.Plain.{bare_at, at_bare}
 use Rattle.fa_order.specs.inner.Following.{RefersAs, EndFollows, TreeFollows, Follows}
 
@@ -42,7 +49,8 @@ module _ (f g : ℕ → ℕ) (fg : (j : ℕ) → f (g j) ≡ j) (gf : (k : ℕ) 
       here true p true q = refl
       here false p false q = refl
       here true p false q = absurd (true≢false (sym (eq-eqb (g x) (g y) (ap g (eqb-true x y p))) ∙ q))
-      here false p true q = absurd (true≢false (sym (eq-eqb x y (sym (fg x) ∙ ap f (eqb-true (g x) (g y) q) ∙ fg y)) ∙ p))
+      here false p true q = absurd
+          (true≢false (sym (eq-eqb x y (sym (fg x) ∙ ap f (eqb-true (g x) (g y) q) ∙ fg y)) ∙ p))
 
   often_mapped : (j : ℕ) (xs : List ℕ) → often (g j) (map g xs) ≡ often j xs
   often_mapped j [] = refl
@@ -54,9 +62,13 @@ module _ (f g : ℕ → ℕ) (fg : (j : ℕ) → f (g j) ≡ j) (gf : (k : ℕ) 
 
   once_mapped : (seen xs : List ℕ) → once_from (map g seen) (map g xs) ≡ map g (once_from seen xs)
   once_mapped seen [] = refl
-  once_mapped seen (x ∷ xs) = rw (has_mapped x seen) (here (has x seen) (once_mapped seen xs) (once_mapped (x ∷ seen) xs))
+  once_mapped seen (x ∷ xs) =
+      rw (has_mapped x seen) (here (has x seen) (once_mapped seen xs) (once_mapped (x ∷ seen) xs))
     where
-      here : (b : Bool) → once_from (map g seen) (map g xs) ≡ map g (once_from seen xs) → once_from (map g (x ∷ seen)) (map g xs) ≡ map g (once_from (x ∷ seen) xs) → cond b (once_from (map g seen) (map g xs)) (g x ∷ once_from (g x ∷ map g seen) (map g xs)) ≡ map g (cond b (once_from seen xs) (x ∷ once_from (x ∷ seen) xs))
+      here : (b : Bool) → once_from (map g seen) (map g xs) ≡ map g (once_from seen xs)
+          → once_from (map g (x ∷ seen)) (map g xs) ≡ map g (once_from (x ∷ seen) xs)
+          → cond b (once_from (map g seen) (map g xs)) (g x ∷ once_from (g x ∷ map g seen) (map g xs))
+          ≡ map g (cond b (once_from seen xs) (x ∷ once_from (x ∷ seen) xs))
       here true p q = p
       here false p q = ap (λ (z : List ℕ). g x ∷ z) q
 
@@ -79,8 +91,10 @@ module _ (f g : ℕ → ℕ) (fg : (j : ℕ) → f (g j) ≡ j) (gf : (k : ℕ) 
   tree_refers : (m : Node) → RefersAs f (bare (placed (renumber g) m)) (bare m)
   tree_refers m k =
       let b = in_mapped_back k (refs m) in (
-        (λ i. subst (λ (ks : List ℕ). IsIn (f k) ks) (sym (tree_roots m)) (b.0 (subst (λ (ks : List ℕ). IsIn k ks) (tree_roots (placed (renumber g) m) ∙ refs_renumbered g m) i))),
-        (λ i. subst (λ (ks : List ℕ). IsIn k ks) (sym (tree_roots (placed (renumber g) m) ∙ refs_renumbered g m)) (b.1 (subst (λ (ks : List ℕ). IsIn (f k) ks) (tree_roots m) i))),
+        (λ i. subst (λ (ks : List ℕ). IsIn (f k) ks) (sym (tree_roots m))
+            (b.0 (subst (λ (ks : List ℕ). IsIn k ks) (tree_roots (placed (renumber g) m) ∙ refs_renumbered g m) i))),
+        (λ i. subst (λ (ks : List ℕ). IsIn k ks) (sym (tree_roots (placed (renumber g) m) ∙ refs_renumbered g m))
+            (b.1 (subst (λ (ks : List ℕ). IsIn (f k) ks) (tree_roots m) i))),
       )
 
   end_renumbered : (e : End) → end_refs (placed_end (renumber g) e) ≡ map g (end_refs e)
@@ -89,8 +103,10 @@ module _ (f g : ℕ → ℕ) (fg : (j : ℕ) → f (g j) ≡ j) (gf : (k : ℕ) 
   end_refers : (e : End) → RefersAs f (bare_end (placed_end (renumber g) e)) (bare_end e)
   end_refers e k =
       let b = in_mapped_back k (end_refs e) in (
-        (λ i. subst (λ (ks : List ℕ). IsIn (f k) ks) (sym (end_roots e)) (b.0 (subst (λ (ks : List ℕ). IsIn k ks) (end_roots (placed_end (renumber g) e) ∙ end_renumbered e) i))),
-        (λ i. subst (λ (ks : List ℕ). IsIn k ks) (sym (end_roots (placed_end (renumber g) e) ∙ end_renumbered e)) (b.1 (subst (λ (ks : List ℕ). IsIn (f k) ks) (end_roots e) i))),
+        (λ i. subst (λ (ks : List ℕ). IsIn (f k) ks) (sym (end_roots e))
+            (b.0 (subst (λ (ks : List ℕ). IsIn k ks) (end_roots (placed_end (renumber g) e) ∙ end_renumbered e) i))),
+        (λ i. subst (λ (ks : List ℕ). IsIn k ks) (sym (end_roots (placed_end (renumber g) e) ∙ end_renumbered e))
+            (b.1 (subst (λ (ks : List ℕ). IsIn (f k) ks) (end_roots e) i))),
       )
 
   abbrev IsRefSymbol : Symbol → Type 0
@@ -113,18 +129,25 @@ module _ (f g : ℕ → ℕ) (fg : (j : ℕ) → f (g j) ≡ j) (gf : (k : ℕ) 
   leaf_named Dangling k e = absurd (subst IsRefSymbol (sym e) tt)
   leaf_named (At i) k e = ap Ref (sym (fg i) ∙ ap f (ap ref_of e))
 
-  end_named : (e : End) (k : ℕ) → (out-Tree (bare_end (placed_end (renumber g) e))).symbol ≡ Ref k → (out-Tree (bare_end e)).symbol ≡ Ref (f k)
-  end_named (under (node c s ds ps)) k h = absurd (subst IsRefSymbol (sym (sym (cell_top c s ds (placed_parts (renumber g) ps)) ∙ h)) tt)
+  end_named : (e : End) (k : ℕ) → (out-Tree (bare_end (placed_end (renumber g) e))).symbol ≡ Ref k
+      → (out-Tree (bare_end e)).symbol ≡ Ref (f k)
+  end_named (under (node c s ds ps)) k h =
+      absurd (subst IsRefSymbol (sym (sym (cell_top c s ds (placed_parts (renumber g) ps)) ∙ h)) tt)
   end_named (leaf t) k h = leaf_top t ∙ leaf_named t k (sym (leaf_top (placed_leaf (renumber g) t)) ∙ h)
 
-  fields_follow : (ps : Parts) → Paired (EndFollows f) (at_fields (slots_of (placed_parts (renumber g) ps)) (bare_parts (placed_parts (renumber g) ps))) (at_fields (slots_of ps) (bare_parts ps))
+  fields_follow : (ps : Parts)
+      → Paired (EndFollows f)
+      (at_fields (slots_of (placed_parts (renumber g) ps)) (bare_parts (placed_parts (renumber g) ps)))
+      (at_fields (slots_of ps) (bare_parts ps))
   fields_follow no_parts = tt
   fields_follow (field n e ps) = ((end_refers e, end_named e), fields_follow ps)
   fields_follow (link b inside e ps) = fields_follow ps
   fields_follow (hook b inside ps) = fields_follow ps
 
-  fields_out : (c s : ℕ) (ds : List _) (ps : Parts) → field_trees (bare (node c s ds ps)) ≡ at_fields (slots_of ps) (bare_parts ps)
-  fields_out c s ds ps = rw (out-roll-Tree (record { symbol = CellSymbol s ds (slots_of ps); children = bare_parts ps })) refl
+  fields_out : (c s : ℕ) (ds : List _) (ps : Parts) → field_trees (bare (node c s ds ps))
+      ≡ at_fields (slots_of ps) (bare_parts ps)
+  fields_out c s ds ps = rw
+      (out-roll-Tree (record { symbol = CellSymbol s ds (slots_of ps); children = bare_parts ps })) refl
 
   node_follows : (m : Node) → TreeFollows f (bare (placed (renumber g) m)) (bare m)
   node_follows (node c s ds ps) = (
@@ -152,16 +175,19 @@ at_renumbered f Uninit k e = absurd (subst IsAt e tt)
 at_renumbered f Dangling k e = absurd (subst IsAt e tt)
 at_renumbered f (At i) k e = (i, refl, ap at_of e)
 
-vars_turned : (f g : ℕ → ℕ) → ((j : ℕ) → f (g j) ≡ j) → ((k : ℕ) → g (f k) ≡ k) → (vs : List Target) (j : ℕ) → IsIn (At j) (map (placed_leaf (renumber f)) vs) ↔ IsIn (At (g j)) vs
+vars_turned : (f g : ℕ → ℕ) → ((j : ℕ) → f (g j) ≡ j) → ((k : ℕ) → g (f k) ≡ k) → (vs : List Target) (j : ℕ)
+    → IsIn (At j) (map (placed_leaf (renumber f)) vs) ↔ IsIn (At (g j)) vs
 vars_turned f g fg gf vs j = (
   (λ i.
       let m = in_mapped (placed_leaf (renumber f)) (At j) vs i in
       let k = at_renumbered f m.0 j m.2 in
       subst (λ (z : ℕ). IsIn (At z) vs) (sym (gf k.0) ∙ ap g (sym k.2)) (subst (λ (t : Target). IsIn t vs) k.1 m.1)),
-  (λ i. subst (λ (z : ℕ). IsIn (At z) (map (placed_leaf (renumber f)) vs)) (fg j) (in_map (placed_leaf (renumber f)) (At (g j)) vs i)),
+  (λ i. subst (λ (z : ℕ). IsIn (At z) (map (placed_leaf (renumber f)) vs)) (fg j)
+      (in_map (placed_leaf (renumber f)) (At (g j)) vs i)),
 )
 
-pub var_roots_renumbered : (f : ℕ → ℕ) (vs : List Target) → var_roots (map (placed_leaf (renumber f)) vs) ≡ map f (var_roots vs)
+pub var_roots_renumbered : (f : ℕ → ℕ) (vs : List Target) → var_roots (map (placed_leaf (renumber f)) vs)
+    ≡ map f (var_roots vs)
 var_roots_renumbered f [] = refl
 var_roots_renumbered f (Null ∷ vs) = var_roots_renumbered f vs
 var_roots_renumbered f (Uninit ∷ vs) = var_roots_renumbered f vs
@@ -170,7 +196,8 @@ var_roots_renumbered f (At k ∷ vs) = ap (λ (z : List ℕ). f k ∷ z) (var_ro
 
 -- Trees by place.
 
-node_picked : (g : ℕ → ℕ) (e : Nodes) (ks : List ℕ) (j k : ℕ) → slice_get ks j ≡ Some k → node_at (picked g ks e) j ≡ Some (placed (renumber g) (node_or e k))
+node_picked : (g : ℕ → ℕ) (e : Nodes) (ks : List ℕ) (j k : ℕ) → slice_get ks j ≡ Some k → node_at (picked g ks e) j
+    ≡ Some (placed (renumber g) (node_or e k))
 node_picked g e [] j k h = absurd (none-some k h)
 node_picked g e (x ∷ ks) zero k h = ap (λ (z : ℕ). Some (placed (renumber g) (node_or e z))) (same_Some x k h)
 node_picked g e (x ∷ ks) (suc j) k h = node_picked g e ks j k h
@@ -190,16 +217,22 @@ refs_bare no_nodes j m h = absurd (none-some m h)
 refs_bare (more n ns) zero m h = ap once (tree_roots n) ∙ ap (λ (z : Node). once (refs z)) (same_Some n m h)
 refs_bare (more n ns) (suc j) m h = refs_bare ns j m h
 
-picked_refs : (g : ℕ → ℕ) (e : Nodes) (ks : List ℕ) → all_refs (picked g ks e) ≡ flat_map (λ i. map g (refs (node_or e i))) ks
+picked_refs : (g : ℕ → ℕ) (e : Nodes) (ks : List ℕ) → all_refs (picked g ks e)
+    ≡ flat_map (λ i. map g (refs (node_or e i))) ks
 picked_refs g e [] = refl
 picked_refs g e (k ∷ ks) = ap₂ (λ (x y : List ℕ). x ++ y) (refs_renumbered g (node_or e k)) (picked_refs g e ks)
 
-whole_refs : (g : ℕ → ℕ) (e : Nodes) → flat_map (λ i. map g (refs (node_or e i))) (counted 0 (count e)) ≡ map g (all_refs e)
+whole_refs : (g : ℕ → ℕ) (e : Nodes) → flat_map (λ i. map g (refs (node_or e i))) (counted 0 (count e))
+    ≡ map g (all_refs e)
 whole_refs g no_nodes = refl
-whole_refs g (more n ns) = ap (λ (z : List ℕ). map g (refs n) ++ z) (flat_later (λ i. map g (refs (node_or (more n ns) i))) 0 (count ns) ∙ whole_refs g ns) ∙ sym (map-append g (refs n) (all_refs ns))
+whole_refs g (more n ns) =
+    ap (λ (z : List ℕ). map g (refs n) ++ z)
+    (flat_later (λ i. map g (refs (node_or (more n ns) i))) 0 (count ns) ∙ whole_refs g ns)
+    ∙ sym (map-append g (refs n) (all_refs ns))
 
 -- a dressed forest in the new order, and the one of the first forest from which it comes
-module _ (F : Forest) (f : ℕ → ℕ) (order : List ℕ) (is : IsOrder (length F.autos) f order) (e : Nodes) (o : OfForest [] (reordered_by f order F) e) where
+module _ (F : Forest) (f : ℕ → ℕ) (order : List ℕ) (is : IsOrder (length F.autos) f order) (e : Nodes)
+    (o : OfForest [] (reordered_by f order F) e) where
   abbrev size : ℕ
   size = length F.autos
 
@@ -221,11 +254,15 @@ module _ (F : Forest) (f : ℕ → ℕ) (order : List ℕ) (is : IsOrder (length
   pub of_before : OfForest [] F before
   of_before =
       let G = reordered_by f order F in
-      let js : IsOrder (length G.autos) g_of (back_order size f order is) = subst (λ (m : ℕ). IsOrder m g_of (back_order size f order is)) (sym (reordered_length F f order is)) (order_back size f order is) in
-      subst (λ (x : Forest). OfForest [] x before) (reordered_back F f order is) (picked_of [] G g_of (back_order size f order is) js e o)
+      let js : IsOrder (length G.autos) g_of (back_order size f order is) =
+      subst (λ (m : ℕ). IsOrder m g_of (back_order size f order is)) (sym (reordered_length F f order is))
+      (order_back size f order is) in
+      subst (λ (x : Forest). OfForest [] x before) (reordered_back F f order is)
+      (picked_of [] G g_of (back_order size f order is) js e o)
 
   back_place : (k : ℕ) → k < size → slice_get (back_order size f order is) k ≡ Some (f k)
-  back_place k l = get_mapped f (counted 0 size) k k (get_counted 0 size k l ∙ ap (λ (z : ℕ). Some z) (let u : 0 + k ≡ k = omega arith in u))
+  back_place k l = get_mapped f (counted 0 size) k k
+      (get_counted 0 size k l ∙ ap (λ (z : ℕ). Some z) (let u : 0 + k ≡ k = omega arith in u))
 
   node_before : (k : ℕ) → k < size → node_at before k ≡ Some (placed (renumber g_of) (node_or e (f k)))
   node_before k l = node_picked g_of e (back_order size f order is) k (f k) (back_place k l)
@@ -236,36 +273,52 @@ module _ (F : Forest) (f : ℕ → ℕ) (order : List ℕ) (is : IsOrder (length
   all_before : Rearranged (all_refs before) (map g_of (all_refs e))
   all_before =
       let h : ℕ → List ℕ = (λ i. map g_of (refs (node_or e i))) in
-      let a : Rearranged (flat_map h (back_order size f order is)) (flat_map h (counted 0 size)) = flat_mapped h (order_back size f order is).all in
-      let w : flat_map h (counted 0 size) ≡ map g_of (all_refs e) = ap (λ (z : ℕ). flat_map h (counted 0 z)) (sym count_new) ∙ whole_refs g_of e in
-      rw (picked_refs g_of e (back_order size f order is)) (subst (λ (z : List ℕ). Rearranged (flat_map h (back_order size f order is)) z) w a)
+      let a : Rearranged (flat_map h (back_order size f order is)) (flat_map h (counted 0 size)) =
+      flat_mapped h (order_back size f order is).all in
+      let w : flat_map h (counted 0 size) ≡ map g_of (all_refs e) =
+      ap (λ (z : ℕ). flat_map h (counted 0 z)) (sym count_new) ∙ whole_refs g_of e in
+      rw (picked_refs g_of e (back_order size f order is))
+      (subst (λ (z : List ℕ). Rearranged (flat_map h (back_order size f order is)) z) w a)
 
   turned : (k : ℕ) → TreeFollows f (bare (placed (renumber g_of) (node_or e (f k)))) (bare (node_or e (f k)))
   turned k = node_follows f g_of fg gf (node_or e (f k))
 
-  down_turned : (k : ℕ) (t : Tree) → slice_get (bares before) k ≡ Some t → (u : Tree) × (slice_get (bares e) (f k) ≡ Some u) × TreeFollows f t u
+  down_turned : (k : ℕ) (t : Tree) → slice_get (bares before) k ≡ Some t → (u : Tree)
+      × (slice_get (bares e) (f k) ≡ Some u) × TreeFollows f t u
   down_turned k t h =
       let n = at_bare before k t h in
       let c : count before ≡ size = count_trees [] F.autos before of_before in
       let l : k < size = subst (λ (z : ℕ). k < z) c (node_below before k n.0 n.1) in
-      let s : n.0 ≡ placed (renumber g_of) (node_or e (f k)) = same_Some n.0 (placed (renumber g_of) (node_or e (f k))) (sym n.1 ∙ node_before k l) in
-      (bare (node_or e (f k)), bare_at e (f k) (node_or e (f k)) (node_after k l), subst (λ (z : Tree). TreeFollows f z (bare (node_or e (f k)))) (sym (ap bare s) ∙ n.2) (turned k))
+      let s : n.0 ≡ placed (renumber g_of) (node_or e (f k)) =
+      same_Some n.0 (placed (renumber g_of) (node_or e (f k))) (sym n.1 ∙ node_before k l) in (
+        bare (node_or e (f k)),
+        bare_at e (f k) (node_or e (f k)) (node_after k l),
+        subst (λ (z : Tree). TreeFollows f z (bare (node_or e (f k)))) (sym (ap bare s) ∙ n.2) (turned k),
+      )
 
-  up_turned : (j : ℕ) (u : Tree) → slice_get (bares e) j ≡ Some u → (t : Tree) × (slice_get (bares before) (g_of j) ≡ Some t) × TreeFollows f t u
+  up_turned : (j : ℕ) (u : Tree) → slice_get (bares e) j ≡ Some u → (t : Tree)
+      × (slice_get (bares before) (g_of j) ≡ Some t) × TreeFollows f t u
   up_turned j u h =
       let m = at_bare e j u h in
       let l : j < size = subst (λ (z : ℕ). j < z) count_new (node_below e j m.0 m.1) in
       let b : g_of j < size = place_below size g_of (back_order size f order is) (order_back size f order is) j l in
-      let same : node_or e (f (g_of j)) ≡ m.0 = ap (node_or e) (fg j) ∙ same_Some (node_or e j) m.0 (sym (node_there e j (subst (λ (z : ℕ). j < z) (sym count_new) l)) ∙ m.1) in
-      let t : Tree = bare (placed (renumber g_of) (node_or e (f (g_of j)))) in
-      (t, bare_at before (g_of j) (placed (renumber g_of) (node_or e (f (g_of j)))) (node_before (g_of j) b), subst (λ (z : Tree). TreeFollows f t z) (ap bare same ∙ m.2) (turned (g_of j)))
+      let same : node_or e (f (g_of j)) ≡ m.0 = ap (node_or e) (fg j)
+      ∙ same_Some (node_or e j) m.0 (sym (node_there e j (subst (λ (z : ℕ). j < z) (sym count_new) l)) ∙ m.1) in
+      let t : Tree = bare (placed (renumber g_of) (node_or e (f (g_of j)))) in (
+        t,
+        bare_at before (g_of j) (placed (renumber g_of) (node_or e (f (g_of j)))) (node_before (g_of j) b),
+        subst (λ (z : Tree). TreeFollows f t z) (ap bare same ∙ m.2) (turned (g_of j)),
+      )
 
   pub follows : Follows f g_of F.vars (reordered_by f order F).vars (bares before) (bares e)
   follows = record {
     there = gf;
     again = fg;
     var = vars_turned f g_of fg gf F.vars;
-    times = λ j. ap to_two (references_are e j ∙ sym (often_mapped f g_of fg gf j (all_refs e)) ∙ sym (often_same (g_of j) all_before) ∙ sym (references_are before (g_of j)));
+    times =
+        λ j.
+        ap to_two (references_are e j ∙ sym (often_mapped f g_of fg gf j (all_refs e))
+        ∙ sym (often_same (g_of j) all_before) ∙ sym (references_are before (g_of j)));
     down = down_turned;
     up = up_turned;
   }

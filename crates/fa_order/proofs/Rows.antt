@@ -25,9 +25,16 @@ depth_first : Placing hops (0 ∷ []) [] (0 ∷ 1 ∷ 3 ∷ 2 ∷ [])
 depth_first =
     place_now {r = 0} (λ i. i)
     (place_now {r = 1} (λ i. elim i [ inl e ↦ omega (arith, e) | inr z ↦ z ])
-    (place_now {r = 3} (λ i. elim i [ inl e ↦ omega (arith, e) | inr j ↦ elim j [ inl e ↦ omega (arith, e) | inr z ↦ z ] ])
+    (place_now {r = 3}
+    (λ i. elim i [ inl e ↦ omega (arith, e) | inr j ↦ elim j [ inl e ↦ omega (arith, e) | inr z ↦ z ] ])
     (is_placed {r = 0} (inl refl)
-    (place_now {r = 2} (λ i. elim i [ inl e ↦ omega (arith, e) | inr j ↦ elim j [ inl e ↦ omega (arith, e) | inr k ↦ elim k [ inl e ↦ omega (arith, e) | inr z ↦ z ] ] ]) all_placed))))
+    (place_now {r = 2}
+    (λ i.
+    elim i [
+      | inl e ↦ omega (arith, e)
+      | inr j ↦ elim j
+          [ inl e ↦ omega (arith, e) | inr k ↦ elim k [ inl e ↦ omega (arith, e) | inr z ↦ z ] ]
+    ]) all_placed))))
 
 -- so it is no order that has root 2 before root 3
 not_breadth_first : Placing hops (0 ∷ []) [] (0 ∷ 1 ∷ 2 ∷ 3 ∷ []) → ⊥
@@ -53,7 +60,8 @@ nothing_to_visit = all_placed
 abbrev fork : Symbol
 fork = Cell 0 [] (Field 0 ∷ Field 1 ∷ [])
 
-leaves_show_themselves : map (λ y. stub_by y (5 ∷ [])) (Null ∷ Uninit ∷ Dangling ∷ Ref 1 ∷ []) ≡ leaf Null ∷ leaf Uninit ∷ leaf Dangling ∷ leaf (Ref 1) ∷ []
+leaves_show_themselves : map (λ y. stub_by y (5 ∷ [])) (Null ∷ Uninit ∷ Dangling ∷ Ref 1 ∷ []) ≡ leaf Null ∷ leaf Uninit
+    ∷ leaf Dangling ∷ leaf (Ref 1) ∷ []
 leaves_show_themselves = refl
 
 cells_show_roots : stub_by fork (2 ∷ 1 ∷ []) ≡ cell (2 ∷ 1 ∷ [])
@@ -83,21 +91,32 @@ null_ways : ways (tree Null []) ≡ []
 null_ways = rolled_ways (record { symbol = Null; children = [] })
 
 low_ways : ways low ≡ record { root = 2; steps = record { slot = Field 0; refers = 2 ∷ [] } ∷ [] } ∷ []
-low_ways = rolled_ways (record { symbol = fork; children = tree (Ref 2) [] ∷ tree Null [] ∷ [] }) ∙ ap₂ (λ (x y : List Way). ways_at fork (x ∷ y ∷ [])) (ref_ways 2) null_ways
+low_ways = rolled_ways (record { symbol = fork; children = tree (Ref 2) [] ∷ tree Null [] ∷ [] })
+    ∙ ap₂ (λ (x y : List Way). ways_at fork (x ∷ y ∷ [])) (ref_ways 2) null_ways
 
 high_ways : ways high
-    ≡ record { root = 1; steps = record { slot = Field 0; refers = 1 ∷ 2 ∷ [] } ∷ [] } ∷ record { root = 2; steps = record { slot = Field 1; refers = 1 ∷ 2 ∷ [] } ∷ record { slot = Field 0; refers = 2 ∷ [] } ∷ [] } ∷ []
-high_ways = rolled_ways (record { symbol = fork; children = tree (Ref 1) [] ∷ low ∷ [] }) ∙ ap₂ (λ (x y : List Way). ways_at fork (x ∷ y ∷ [])) (ref_ways 1) low_ways
+    ≡ record { root = 1; steps = record { slot = Field 0; refers = 1 ∷ 2 ∷ [] } ∷ [] }
+    ∷ record {
+      root = 2;
+      steps = record { slot = Field 1; refers = 1 ∷ 2 ∷ [] }
+          ∷ record { slot = Field 0; refers = 2 ∷ [] } ∷ [];
+    } ∷ []
+high_ways = rolled_ways (record { symbol = fork; children = tree (Ref 1) [] ∷ low ∷ [] })
+    ∙ ap₂ (λ (x y : List Way). ways_at fork (x ∷ y ∷ [])) (ref_ways 1) low_ways
 
 -- its children show the reference, and the root of the cell below
 high_shows : map stub (tree (Ref 1) [] ∷ low ∷ []) ≡ leaf (Ref 1) ∷ cell (2 ∷ []) ∷ []
 high_shows =
     ap₂ (λ (x y : Stub). x ∷ y ∷ [])
-    (ap (λ (y : Symbol). stub_by y (roots_met (ways (tree (Ref 1) [])))) (rolled_symbol (record { symbol = Ref 1; children = [] })))
-    (ap₂ stub_by (rolled_symbol (record { symbol = fork; children = tree (Ref 2) [] ∷ tree Null [] ∷ [] })) (ap roots_met low_ways))
+    (ap (λ (y : Symbol). stub_by y (roots_met (ways (tree (Ref 1) []))))
+    (rolled_symbol (record { symbol = Ref 1; children = [] })))
+    (ap₂ stub_by (rolled_symbol (record { symbol = fork; children = tree (Ref 2) [] ∷ tree Null [] ∷ [] }))
+    (ap roots_met low_ways))
 
-high_outline : outline [] high ≡ record { top = fork; marks = once_to 1 ∷ once_to 2 ∷ []; stubs = leaf (Ref 1) ∷ cell (2 ∷ []) ∷ [] }
+high_outline : outline [] high
+    ≡ record { top = fork; marks = once_to 1 ∷ once_to 2 ∷ []; stubs = leaf (Ref 1) ∷ cell (2 ∷ []) ∷ [] }
 high_outline =
     let x : Tree-F Tree = record { symbol = fork; children = tree (Ref 1) [] ∷ low ∷ [] } in
-    let s : signature [] high ≡ once_to 1 ∷ once_to 2 ∷ [] = ap (λ (ws : List Way). map (mark [] ws) (roots_met ws)) high_ways in
+    let s : signature [] high ≡ once_to 1 ∷ once_to 2 ∷ [] =
+    ap (λ (ws : List Way). map (mark [] ws) (roots_met ws)) high_ways in
     rw (out-roll-Tree x, s, high_shows) refl

@@ -13,7 +13,8 @@ same_refs_at bs (t ∷ ts) [] h r = absurd h
 same_refs_at bs (t ∷ ts) (u ∷ us) h zero = same_roots bs t u h.0
 same_refs_at bs (t ∷ ts) (u ∷ us) h (suc r) = same_refs_at bs ts us h.1 r
 
-first_too : (P Q : ℕ → Type 0) → ((r : ℕ) → P r → Q r) → ((r : ℕ) → Q r → P r) → (k : ℕ) (rs : List ℕ) → IsFirstOpen P k rs → IsFirstOpen Q k rs
+first_too : (P Q : ℕ → Type 0) → ((r : ℕ) → P r → Q r) → ((r : ℕ) → Q r → P r) → (k : ℕ) (rs : List ℕ)
+    → IsFirstOpen P k rs → IsFirstOpen Q k rs
 first_too P Q f g k [] h = h
 first_too P Q f g k (r ∷ rs) (inl h) = inl (h.0, f k h.1)
 first_too P Q f g k (r ∷ rs) (inr h) = inr ((λ l q. h.0 l (g r q)), first_too P Q f g k rs h.1)
@@ -40,11 +41,17 @@ module _ (bs : List BoxFace) (ts us : List Tree) (same : AreSigned bs ts us) whe
         (let t = paired_at (λ t u. signature bs t ≡ signature bs u) us ts g.into u turned e in
         let f = g.then_list (λ h. placed (leads_too bs ts us same g.from g.into g.into h)) t.0 t.1 in
         subst (λ (rs : List ℕ). IsFirstOpen (λ r. LeadsBack bs us g.from g.into r) k rs) (sym (same_roots bs u t.0 t.2))
-        (first_too (λ r. LeadsBack bs ts g.from g.into r) (λ r. LeadsBack bs us g.from g.into r) (λ r. leads_too bs ts us same g.from g.into r) (λ r. leads_too bs us ts turned g.from g.into r) k (roots_met (ways t.0)) f));
+        (first_too (λ r. LeadsBack bs ts g.from g.into r) (λ r. LeadsBack bs us g.from g.into r)
+        (λ r. leads_too bs ts us same g.from g.into r) (λ r. leads_too bs us ts turned g.from g.into r) k
+        (roots_met (ways t.0)) f));
   }
 
-  pub walks_too : {todo : List ℕ} {k n : ℕ} → Walks (refs_at ts) (GoesOn bs ts) todo k n → Walks (refs_at us) (GoesOn bs us) todo k n
+  pub walks_too : {todo : List ℕ} {k n : ℕ} → Walks (refs_at ts) (GoesOn bs ts) todo k n
+      → Walks (refs_at us) (GoesOn bs us) todo k n
   walks_too ended = ended
   walks_too (old l w) = old l (walks_too w)
-  walks_too {todo = _ ∷ todo} {n = n} (new {k} w) = new (subst (λ (rs : List ℕ). Walks (refs_at us) (GoesOn bs us) (rs ++ todo) (suc k) n) (same_refs_at bs ts us same k) (walks_too w))
+  walks_too {todo = _ ∷ todo} {n = n} (new {k} w) =
+      new
+      (subst (λ (rs : List ℕ). Walks (refs_at us) (GoesOn bs us) (rs ++ todo) (suc k) n) (same_refs_at bs ts us same k)
+      (walks_too w))
   walks_too (again {k} l h w) = again l (goes_on_too k h) (walks_too w)

@@ -1,5 +1,6 @@
 -- One tree of a component that shows whatever any tree of it may show, and what it shows.
-use Rattle.std.proofs.Common.{◌≡◌, inl, inr, ℕ, Bool, true, false, not, ◌&&◌, ◌||◌, true≢false, nat_eq, length, List, [], ◌∷◌, map, refl, sym, ap, ap₂, subst, ◌∙◌, slice_get, arith}
+use Rattle.std.proofs.Common.{◌≡◌, inl, inr, ℕ, Bool, true, false, not, ◌&&◌, ◌||◌, true≢false, nat_eq, length, List}
+use Rattle.std.proofs.Common.{[], ◌∷◌, map, refl, sym, ap, ap₂, subst, ◌∙◌, slice_get, arith}
 use Rattle.std.proofs.lemmas.Bool.{and_parts, and_from, or_left, or_right, eqb-true, eq-eqb}
 use Rattle.std.proofs.lemmas.Option.{same_Some}
 use Rattle.fore_base.specs.Lists.{IsIn, Every, Paired}
@@ -29,7 +30,8 @@ use Rattle.fa_core.proofs.Dressing.{each_length}
 use Rattle.fa_core.proofs.WayParts.{ways_out}
 use Rattle.fa_order.specs.declared.showing.Shown.{Shown}
 use Rattle.fa_order.specs.inner.Following.{EndFollows, StaysTame}
-use Rattle.fa_order.specs.inner.Showing.{shown_of, IsShownBy, IsShownEnd, IsRuleOf, HasNoRule, is_cell_rule, has_cell_rule}
+use Rattle.fa_order.specs.inner.Showing.{shown_of, IsShownBy, IsShownEnd, IsRuleOf, HasNoRule, is_cell_rule}
+use Rattle.fa_order.specs.inner.Showing.{has_cell_rule}
 use Rattle.fa_order.proofs.SameMarks.{same_roots, met_refers}
 
 -- Leaves.
@@ -48,12 +50,14 @@ leaf_refers t k l h = by (out-Tree t).symbol l (ways_out t)
     by Null l e = absurd (way_root t [] k e h)
     by Uninit l e = absurd (way_root t [] k e h)
     by Dangling l e = absurd (way_root t [] k e h)
-    by (Ref r) l e = elim (way_root t (record { root = r; steps = [] } ∷ []) k e h) [ inl q ↦ ap Ref (sym q) | inr z ↦ absurd z ]
+    by (Ref r) l e = elim (way_root t (record { root = r; steps = [] } ∷ []) k e h)
+        [ inl q ↦ ap Ref (sym q) | inr z ↦ absurd z ]
     by (Cell s ds ss) l e = absurd (true≢false (sym l))
 
 pub ref_refers : (t : Tree) (k : ℕ) → (out-Tree t).symbol ≡ Ref k → RefersTo t k
 ref_refers t k h =
-    let e : ways t ≡ record { root = k; steps = [] } ∷ [] = ways_out t ∙ ap (λ (y : Symbol). ways_at y (map ways (out-Tree t).children)) h in
+    let e : ways t ≡ record { root = k; steps = [] } ∷ [] = ways_out t
+    ∙ ap (λ (y : Symbol). ways_at y (map ways (out-Tree t).children)) h in
     subst (λ (z : List Way). IsIn k (map (λ (w : Way). w.root) z)) (sym e) (inl refl)
 
 pub ref_is_leaf : (t : Tree) (k : ℕ) → (out-Tree t).symbol ≡ Ref k → is_leaf (out-Tree t).symbol ≡ true
@@ -78,33 +82,44 @@ have_trees rules run_none = tt
 have_trees rules (run_more {t = t} h k) = ((t, h), have_trees rules k)
 
 module _ (rules : List Rule) (n : ℕ) (inhabited : List Bool) (marks : MarksOf n (HasTree rules) inhabited) (q : ℕ) where
-  cell_of : (rs : List Rule) → ((r : Rule) → IsIn r rs → IsIn r rules) → has_cell_rule inhabited q rs ≡ true → (t : Tree) × RunOf rules q t × (is_leaf (out-Tree t).symbol ≡ false)
+  cell_of : (rs : List Rule) → ((r : Rule) → IsIn r rs → IsIn r rules) → has_cell_rule inhabited q rs ≡ true
+      → (t : Tree) × RunOf rules q t × (is_leaf (out-Tree t).symbol ≡ false)
   cell_of [] f h = absurd (true≢false (sym h))
   cell_of (r ∷ rs) f h = here (is_cell_rule inhabited q r) refl h (cell_of rs (λ x i. f x (inr i)))
     where
-      here : (b : Bool) → is_cell_rule inhabited q r ≡ b → (b || has_cell_rule inhabited q rs) ≡ true → (has_cell_rule inhabited q rs ≡ true → (t : Tree) × RunOf rules q t × (is_leaf (out-Tree t).symbol ≡ false))
+      here : (b : Bool) → is_cell_rule inhabited q r ≡ b → (b || has_cell_rule inhabited q rs) ≡ true
+          → (has_cell_rule inhabited q rs ≡ true → (t : Tree) × RunOf rules q t × (is_leaf (out-Tree t).symbol ≡ false))
           → (t : Tree) × RunOf rules q t × (is_leaf (out-Tree t).symbol ≡ false)
       here false e h later = later h
       here true e h later =
           let a = and_parts (nat_eq r.state q) (not (is_leaf r.symbol) && all_marked inhabited r.children) e in
           let b = and_parts (not (is_leaf r.symbol)) (all_marked inhabited r.children) a.1 in
-          let k = trees_of rules r.children (every_weaker (IsMarked inhabited) (HasTree rules) r.children marks.only (all_from inhabited r.children b.1)) in
+          let k = trees_of rules r.children
+          (every_weaker (IsMarked inhabited) (HasTree rules) r.children marks.only
+          (all_from inhabited r.children b.1)) in
           let t = tree_of r.symbol k.0 in (
             t,
             subst (λ (z : ℕ). RunOf rules z t) (eqb-true r.state q a.0) (run_tree rules r k.0 (f r (inl refl)) k.1),
             rw (out-roll-Tree (record { symbol = r.symbol; children = k.0 })) (not_true (is_leaf r.symbol) b.0),
           )
 
-  rule_there : (rs : List Rule) (r : Rule) → IsIn r rs → is_cell_rule inhabited q r ≡ true → has_cell_rule inhabited q rs ≡ true
+  rule_there : (rs : List Rule) (r : Rule) → IsIn r rs → is_cell_rule inhabited q r ≡ true
+      → has_cell_rule inhabited q rs ≡ true
   rule_there [] r i h = absurd i
-  rule_there (x ∷ rs) r (inl e) h = or_left (is_cell_rule inhabited q x) (has_cell_rule inhabited q rs) (subst (λ (z : Rule). is_cell_rule inhabited q z ≡ true) e h)
-  rule_there (x ∷ rs) r (inr i) h = or_right (is_cell_rule inhabited q x) (has_cell_rule inhabited q rs) (rule_there rs r i h)
+  rule_there (x ∷ rs) r (inl e) h =
+      or_left (is_cell_rule inhabited q x) (has_cell_rule inhabited q rs)
+      (subst (λ (z : Rule). is_cell_rule inhabited q z ≡ true) e h)
+  rule_there (x ∷ rs) r (inr i) h =
+      or_right (is_cell_rule inhabited q x) (has_cell_rule inhabited q rs) (rule_there rs r i h)
 
   of_cell : (t : Tree) → RunOf rules q t → is_leaf (out-Tree t).symbol ≡ false → has_cell_rule inhabited q rules ≡ true
   of_cell t (run r i s y k) l =
-      rule_there rules r i (and_from (nat_eq r.state q) (not (is_leaf r.symbol) && all_marked inhabited r.children) (eq-eqb r.state q s)
-      (and_from (not (is_leaf r.symbol)) (all_marked inhabited r.children) (not_false (is_leaf r.symbol) (ap is_leaf y ∙ l))
-      (all_to inhabited r.children (every_weaker (HasTree rules) (IsMarked inhabited) r.children marks.each (have_trees rules k)))))
+      rule_there rules r i
+      (and_from (nat_eq r.state q) (not (is_leaf r.symbol) && all_marked inhabited r.children) (eq-eqb r.state q s)
+      (and_from (not (is_leaf r.symbol)) (all_marked inhabited r.children)
+      (not_false (is_leaf r.symbol) (ap is_leaf y ∙ l))
+      (all_to inhabited r.children
+      (every_weaker (HasTree rules) (IsMarked inhabited) r.children marks.each (have_trees rules k)))))
 
   no_cell : has_cell_rule inhabited q rules ≡ false → (t : Tree) → RunOf rules q t → is_leaf (out-Tree t).symbol ≡ true
   no_cell e t h = here (is_leaf (out-Tree t).symbol) refl
@@ -114,26 +129,36 @@ module _ (rules : List Rule) (n : ℕ) (inhabited : List Bool) (marks : MarksOf 
       here false l = absurd (true≢false (sym (of_cell t h l) ∙ e))
 
   -- what a tree of the state shows, a cell if there is one
-  pub end_shown : (bs : List BoxFace) → ((t u : Tree) → RunOf rules q t → RunOf rules q u → signature bs t ≡ signature bs u) → HasTree rules q → (ms : List RefMark) → ((t : Tree) → RunOf rules q t → ms ≡ signature bs t)
+  pub end_shown : (bs : List BoxFace)
+      → ((t u : Tree) → RunOf rules q t → RunOf rules q u → signature bs t ≡ signature bs u) → HasTree rules q
+      → (ms : List RefMark) → ((t : Tree) → RunOf rules q t → ms ≡ signature bs t)
       → IsShownEnd bs rules q (record { leaf = not (has_cell_rule inhabited q rules); marks = ms })
   end_shown bs same some ms signed = here (has_cell_rule inhabited q rules) refl
     where
       refers_too : (t u : Tree) → RunOf rules q t → RunOf rules q u → (k : ℕ) → RefersTo t k → RefersTo u k
       refers_too t u h i = met_refers t u (same_roots bs t u (same t u h i))
 
-      here : (b : Bool) → has_cell_rule inhabited q rules ≡ b → IsShownEnd bs rules q (record { leaf = not b; marks = ms })
+      here : (b : Bool) → has_cell_rule inhabited q rules ≡ b
+          → IsShownEnd bs rules q (record { leaf = not b; marks = ms })
       here true e =
           let c = cell_of rules (λ r i. i) e in (
             c.0,
             c.1,
             ap₂ (λ (l : Bool) (m : List RefMark). record { leaf = l; marks = m }) c.2 (sym (signed c.0 c.1)),
-            (λ u h. ((λ k. (refers_too c.0 u c.1 h k, refers_too u c.0 h c.1 k)), (λ k w. absurd (true≢false (sym (ref_is_leaf c.0 k w) ∙ c.2))))),
+            (λ u h. (
+              (λ k. (refers_too c.0 u c.1 h k, refers_too u c.0 h c.1 k)),
+              (λ k w. absurd (true≢false (sym (ref_is_leaf c.0 k w) ∙ c.2))),
+            )),
           )
       here false e = (
         some.0,
         some.1,
-        ap₂ (λ (l : Bool) (m : List RefMark). record { leaf = l; marks = m }) (no_cell e some.0 some.1) (sym (signed some.0 some.1)),
-        (λ u h. ((λ k. (refers_too some.0 u some.1 h k, refers_too u some.0 h some.1 k)), (λ k w. leaf_refers u k (no_cell e u h) (refers_too some.0 u some.1 h k (ref_refers some.0 k w))))),
+        ap₂ (λ (l : Bool) (m : List RefMark). record { leaf = l; marks = m }) (no_cell e some.0 some.1)
+            (sym (signed some.0 some.1)),
+        (λ u h. (
+          (λ k. (refers_too some.0 u some.1 h k, refers_too u some.0 h some.1 k)),
+          (λ k w. leaf_refers u k (no_cell e u h) (refers_too some.0 u some.1 h k (ref_refers some.0 k w))),
+        )),
       )
 
 -- The top.
@@ -168,12 +193,15 @@ one_rule a h r i e =
 pub has_rule : (a : Automaton) → HasOneTop a → (q : ℕ) → a.roots ≡ q ∷ [] → HasNoRule a.rules q → ⊥
 has_rule a h q e none =
     let same : q ≡ h.root = only_item q h.root a.roots h.alone (subst (λ (z : List ℕ). IsIn q z) (sym e) (inl refl)) in
-    every_in (λ (r : Rule). r.state ≡ q → ⊥) a.rules h.rule none (in_from_place a.rules h.place h.rule h.there) (h.top ∙ sym same)
+    every_in (λ (r : Rule). r.state ≡ q → ⊥) a.rules h.rule none (in_from_place a.rules h.place h.rule h.there)
+    (h.top ∙ sym same)
 
 abbrev AreShown : List BoxFace → List Rule → List ℕ → List Below → Type 0
-AreShown bs rules qs es = (ts : List Tree) × RunEach rules qs ts × (map (below_of bs) ts ≡ es) × ((us : List Tree) → RunEach rules qs us → Paired (EndFollows (λ k. k)) ts us)
+AreShown bs rules qs es = (ts : List Tree) × RunEach rules qs ts × (map (below_of bs) ts ≡ es)
+    × ((us : List Tree) → RunEach rules qs us → Paired (EndFollows (λ k. k)) ts us)
 
-pick_each : (bs : List BoxFace) (rules : List Rule) (qs : List ℕ) (es : List Below) → Paired (IsShownEnd bs rules) qs es → AreShown bs rules qs es
+pick_each : (bs : List BoxFace) (rules : List Rule) (qs : List ℕ) (es : List Below) → Paired (IsShownEnd bs rules) qs es
+    → AreShown bs rules qs es
 pick_each bs rules [] [] h = ([], run_none, refl, none)
   where
     none : (us : List Tree) → RunEach rules [] us → Paired (EndFollows (λ k. k)) [] us
@@ -184,10 +212,13 @@ pick_each bs rules (q ∷ qs) (e ∷ es) h =
     let k = pick_each bs rules qs es h.1 in
     (h.0.0 ∷ k.0, run_more h.0.1 k.1, ap₂ (λ (x : Below) (z : List Below). x ∷ z) h.0.2 k.2, more h.0.0 k.0 h.0.3 k.3)
   where
-    more : (t : Tree) (ts : List Tree) → ((u : Tree) → RunOf rules q u → EndFollows (λ k. k) t u) → ((us : List Tree) → RunEach rules qs us → Paired (EndFollows (λ k. k)) ts us) → (us : List Tree) → RunEach rules (q ∷ qs) us → Paired (EndFollows (λ k. k)) (t ∷ ts) us
+    more : (t : Tree) (ts : List Tree) → ((u : Tree) → RunOf rules q u → EndFollows (λ k. k) t u)
+        → ((us : List Tree) → RunEach rules qs us → Paired (EndFollows (λ k. k)) ts us) → (us : List Tree)
+        → RunEach rules (q ∷ qs) us → Paired (EndFollows (λ k. k)) (t ∷ ts) us
     more t ts f g us (run_more {t = u} a b) = (f u a, g _ b)
 
-module _ (bs : List BoxFace) (a : Automaton) (ranked : IsRanked a) (plain : HasNoBoxes a) (signed : HasSignatures bs a) (top : HasOneTop a) (q : ℕ) (is_root : a.roots ≡ q ∷ []) (o : Rule) (is : IsRuleOf a.rules q o) where
+module _ (bs : List BoxFace) (a : Automaton) (ranked : IsRanked a) (plain : HasNoBoxes a) (signed : HasSignatures bs a)
+    (top : HasOneTop a) (q : ℕ) (is_root : a.roots ≡ q ∷ []) (o : Rule) (is : IsRuleOf a.rules q o) where
   root_is : q ≡ top.root
   root_is = only_item q top.root a.roots top.alone (subst (λ (z : List ℕ). IsIn q z) (sym is_root) (inl refl))
 
@@ -203,10 +234,13 @@ module _ (bs : List BoxFace) (a : Automaton) (ranked : IsRanked a) (plain : HasN
   rule_plain : IsPlain o.symbol
   rule_plain = every_in (λ (r : Rule). IsPlain r.symbol) a.rules o plain is.0
 
-  pub top_children : (t : Tree) → InLanguage a t → ((out-Tree t).symbol ≡ o.symbol) × RunEach a.rules o.children (out-Tree t).children
+  pub top_children : (t : Tree) → InLanguage a t → ((out-Tree t).symbol ≡ o.symbol)
+      × RunEach a.rules o.children (out-Tree t).children
   top_children t (p, i, run r j s y k) =
-      let e = top_rule r p i j s in
-      (sym y ∙ ap (λ (x : Rule). x.symbol) e, subst (λ (x : Rule). RunEach a.rules x.children (out-Tree t).children) e k)
+      let e = top_rule r p i j s in (
+        sym y ∙ ap (λ (x : Rule). x.symbol) e,
+        subst (λ (x : Rule). RunEach a.rules x.children (out-Tree t).children) e k,
+      )
 
   pub children_have_trees : HasSome a → Every (HasTree a.rules) o.children
   children_have_trees h = have_trees a.rules (top_children h.0 h.1).1
@@ -214,30 +248,38 @@ module _ (bs : List BoxFace) (a : Automaton) (ranked : IsRanked a) (plain : HasN
   fields_are : (t : Tree) → InLanguage a t → field_trees t ≡ (out-Tree t).children
   fields_are t h =
       let c = top_children t h in
-      ap (λ (y : Symbol). fields_under y (out-Tree t).children) c.0 ∙ plain_fields o.symbol (out-Tree t).children rule_plain (sym (each_length a.rules c.1) ∙ rule_long)
+      ap (λ (y : Symbol). fields_under y (out-Tree t).children) c.0
+      ∙ plain_fields o.symbol (out-Tree t).children rule_plain (sym (each_length a.rules c.1) ∙ rule_long)
 
-  pub top_shown : (ms : List RefMark) → ((t : Tree) → RunOf a.rules q t → ms ≡ signature bs t) → (es : List Below) → Paired (IsShownEnd bs a.rules) o.children es → IsShownBy bs a (record { marks = ms; ends = es })
+  pub top_shown : (ms : List RefMark) → ((t : Tree) → RunOf a.rules q t → ms ≡ signature bs t) → (es : List Below)
+      → Paired (IsShownEnd bs a.rules) o.children es → IsShownBy bs a (record { marks = ms; ends = es })
   top_shown ms sign es ends =
       let k = pick_each bs a.rules o.children es ends in
       let t = tree_of o.symbol k.0 in
       let r : RunOf a.rules q t = subst (λ (z : ℕ). RunOf a.rules z t) is.1 (run_tree a.rules o k.0 is.0 k.1) in
       let l : InLanguage a t = (q, subst (λ (z : List ℕ). IsIn q z) (sym is_root) (inl refl), r) in
-      let c : field_trees t ≡ k.0 = fields_are t l ∙ ap (λ (x : _). x.children) (out-roll-Tree (record { symbol = o.symbol; children = k.0 })) in (
+      let c : field_trees t ≡ k.0 = fields_are t l
+      ∙ ap (λ (x : _). x.children) (out-roll-Tree (record { symbol = o.symbol; children = k.0 })) in (
         t,
         l,
-        ap₂ (λ (m : List RefMark) (e : List Below). record { marks = m; ends = e }) (sym (sign t r)) (ap (map (below_of bs)) c ∙ k.2),
+        ap₂ (λ (m : List RefMark) (e : List Below). record { marks = m; ends = e }) (sym (sign t r))
+            (ap (map (below_of bs)) c ∙ k.2),
         (λ u i. (
           signed.component t u l i,
-          subst (λ (z : List Tree). Paired (EndFollows (λ k. k)) z (field_trees u)) (sym c) (subst (λ (z : List Tree). Paired (EndFollows (λ k. k)) k.0 z) (sym (fields_are u i)) (k.3 (out-Tree u).children (top_children u i).1)),
+          subst (λ (z : List Tree). Paired (EndFollows (λ k. k)) z (field_trees u)) (sym c)
+              (subst (λ (z : List Tree). Paired (EndFollows (λ k. k)) k.0 z) (sym (fields_are u i))
+              (k.3 (out-Tree u).children (top_children u i).1)),
         )),
       )
 
 -- One tree of each component.
 
 abbrev pub AreChosen : List BoxFace → List Automaton → List Shown → Type 0
-AreChosen bs autos ss = (ts : List Tree) × Choice autos ts × (map (shown_of bs) ts ≡ ss) × ((us : List Tree) → Choice autos us → Paired (StaysTame bs) ts us)
+AreChosen bs autos ss = (ts : List Tree) × Choice autos ts × (map (shown_of bs) ts ≡ ss)
+    × ((us : List Tree) → Choice autos us → Paired (StaysTame bs) ts us)
 
-pub choose_shown : (bs : List BoxFace) (autos : List Automaton) (ss : List Shown) → Paired (IsShownBy bs) autos ss → AreChosen bs autos ss
+pub choose_shown : (bs : List BoxFace) (autos : List Automaton) (ss : List Shown) → Paired (IsShownBy bs) autos ss
+    → AreChosen bs autos ss
 choose_shown bs [] [] h = ([], tt, refl, none)
   where
     none : (us : List Tree) → Choice [] us → Paired (StaysTame bs) [] us
@@ -249,6 +291,8 @@ choose_shown bs (a ∷ autos) (s ∷ ss) h =
     let k = choose_shown bs autos ss h.1 in
     (h.0.0 ∷ k.0, (h.0.1, k.1), ap₂ (λ (x : Shown) (z : List Shown). x ∷ z) h.0.2 k.2, more h.0.0 k.0 h.0.3 k.3)
   where
-    more : (t : Tree) (ts : List Tree) → ((u : Tree) → InLanguage a u → StaysTame bs t u) → ((us : List Tree) → Choice autos us → Paired (StaysTame bs) ts us) → (us : List Tree) → Choice (a ∷ autos) us → Paired (StaysTame bs) (t ∷ ts) us
+    more : (t : Tree) (ts : List Tree) → ((u : Tree) → InLanguage a u → StaysTame bs t u)
+        → ((us : List Tree) → Choice autos us → Paired (StaysTame bs) ts us) → (us : List Tree) → Choice (a ∷ autos) us
+        → Paired (StaysTame bs) (t ∷ ts) us
     more t ts f g [] c = absurd c
     more t ts f g (u ∷ us) c = (f u c.0, g us c.1)

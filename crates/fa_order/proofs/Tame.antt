@@ -1,5 +1,6 @@
 -- Where trees stay tame, so do the roots: their kinds, that no other cell is of one, and their order.
-use Rattle.std.proofs.Common.{◌≡◌, inl, inr, ℕ, zero, suc, ◌<◌, List, [], ◌∷◌, length, refl, sym, subst, Some, slice_get}
+use Rattle.std.proofs.Common.{◌≡◌, inl, inr, ℕ, zero, suc, ◌<◌, List, [], ◌∷◌, length, refl, sym, subst, Some}
+use Rattle.std.proofs.Common.{slice_get}
 use Rattle.std.proofs.lemmas.Option.{none-some, same_Some}
 use Rattle.fore_base.specs.Lists.{Paired}
 use Rattle.fore_base.proofs.ListLemmas.{paired_long, paired_weaker}
@@ -15,7 +16,8 @@ use Rattle.fa_order.proofs.SameMarks.{AreSigned, paired_at, same_roots, met_refe
 use Rattle.fa_order.proofs.SameWalks.{walks_too}
 
 -- the tree in the same place, from the second list
-other_at : {X Y : Type 0} (R : X → Y → Type 0) (xs : List X) (ys : List Y) (i : ℕ) (y : Y) → Paired R xs ys → slice_get ys i ≡ Some y → (x : X) × (slice_get xs i ≡ Some x) × R x y
+other_at : {X Y : Type 0} (R : X → Y → Type 0) (xs : List X) (ys : List Y) (i : ℕ) (y : Y) → Paired R xs ys
+    → slice_get ys i ≡ Some y → (x : X) × (slice_get xs i ≡ Some x) × R x y
 other_at R [] [] i y p e = absurd (none-some y e)
 other_at R [] (z ∷ ys) i y p e = absurd p
 other_at R (x ∷ xs) [] i y p e = absurd p
@@ -44,7 +46,10 @@ module _ (bs : List BoxFace) (vs : List Target) (ts us : List Tree) (tame : Pair
   led_too : (r : ℕ) → IsLedTo bs vs ts r → IsLedTo bs vs us r
   led_too r l = record {
     no_var = l.no_var;
-    alone = λ j u e d h. (let t = other_at (StaysTame bs) ts us j u tame e in l.alone j t.0 t.1 d (met_refers u t.0 (sym (same_roots bs t.0 u t.2.0)) r h));
+    alone =
+        λ j u e d h.
+        (let t = other_at (StaysTame bs) ts us j u tame e in
+        l.alone j t.0 t.1 d (met_refers u t.0 (sym (same_roots bs t.0 u t.2.0)) r h));
     from = l.from;
     other = l.other;
     led = leads_too bs ts us signed l.from r r l.led;
@@ -61,5 +66,7 @@ module _ (bs : List BoxFace) (vs : List Target) (ts us : List Tree) (tame : Pair
   pub untied_too : IsUntied vs ts → IsUntied vs us
   untied_too = untied_follows (λ k. k) (λ k. k) vs vs ts us follows
 
-  pub order_too : (todo : List ℕ) → Walks (refs_at ts) (GoesOn bs ts) todo 0 (length ts) → Walks (refs_at us) (GoesOn bs us) todo 0 (length us)
-  order_too todo w = subst (λ (n : ℕ). Walks (refs_at us) (GoesOn bs us) todo 0 n) (paired_long (StaysTame bs) ts us tame) (walks_too bs ts us signed w)
+  pub order_too : (todo : List ℕ) → Walks (refs_at ts) (GoesOn bs ts) todo 0 (length ts)
+      → Walks (refs_at us) (GoesOn bs us) todo 0 (length us)
+  order_too todo w = subst (λ (n : ℕ). Walks (refs_at us) (GoesOn bs us) todo 0 n)
+      (paired_long (StaysTame bs) ts us tame) (walks_too bs ts us signed w)

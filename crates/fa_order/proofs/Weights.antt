@@ -1,5 +1,7 @@
 -- The walk ends: each visit takes away from the visits that are left.
-use Rattle.std.proofs.Common.{◌≡◌, ◌≢◌, ℕ, zero, suc, ◌<◌, ◌≤◌, ◌+◌, ◌-◌, take, get_or, append_assoc, Bool, true, false, ◌||◌, true≢false, nat_eq, cond, length, List, [], ◌∷◌, ◌++◌, refl, sym, ap, subst, ◌∙◌, slice_get, Some, not-suc-le-zero, le_of_suc-le-suc, arith}
+use Rattle.std.proofs.Common.{◌≡◌, ◌≢◌, ℕ, zero, suc, ◌<◌, ◌≤◌, ◌+◌, ◌-◌, take, get_or, append_assoc, Bool, true, false}
+use Rattle.std.proofs.Common.{◌||◌, true≢false, nat_eq, cond, length, List, [], ◌∷◌, ◌++◌, refl, sym, ap, subst, ◌∙◌}
+use Rattle.std.proofs.Common.{slice_get, Some, not-suc-le-zero, le_of_suc-le-suc, arith}
 use Rattle.std.proofs.lemmas.Bool.{eqb-true, eq-eqb}
 use Rattle.std.proofs.lemmas.List.{length-append, take_more}
 use Rattle.std.proofs.lemmas.Option.{none-some, same_Some}
@@ -36,18 +38,24 @@ has_last n (x ∷ xs) = rw (has_last n xs) (or_true (nat_eq n x))
     or_true false = refl
 
 -- a root below those that are counted makes no difference
-unplaced_above : (rss : List (List ℕ)) (k m : ℕ) (placed : List ℕ) → m < k → unplaced rss k (placed ++ m ∷ []) ≡ unplaced rss k placed
+unplaced_above : (rss : List (List ℕ)) (k m : ℕ) (placed : List ℕ) → m < k → unplaced rss k (placed ++ m ∷ [])
+    ≡ unplaced rss k placed
 unplaced_above [] k m placed l = refl
-unplaced_above (rs ∷ rss) k m placed l = rw (has_push k m placed (λ e. omega (arith, e, l)), unplaced_above rss (suc k) m placed (omega (arith, l))) refl
+unplaced_above (rs ∷ rss) k m placed l =
+    rw (has_push k m placed (λ e. omega (arith, e, l)), unplaced_above rss (suc k) m placed (omega (arith, l))) refl
 
-unplaced_push : (rss : List (List ℕ)) (j k r : ℕ) (placed : List ℕ) → r ≡ k + j → j < length rss → has r placed ≡ false → unplaced rss k (placed ++ r ∷ []) + length (nth_refs rss j) ≡ unplaced rss k placed
+unplaced_push : (rss : List (List ℕ)) (j k r : ℕ) (placed : List ℕ) → r ≡ k + j → j < length rss → has r placed ≡ false
+    → unplaced rss k (placed ++ r ∷ []) + length (nth_refs rss j) ≡ unplaced rss k placed
 unplaced_push [] j k r placed e l h = absurd (not-suc-le-zero l)
 unplaced_push (rs ∷ rss) zero k r placed e l h =
     let z : r ≡ k = omega (arith, e) in
-    let a : has k (placed ++ r ∷ []) ≡ true = subst (λ (v : ℕ). has v (placed ++ r ∷ []) ≡ true) z (has_last r placed) in
+    let a : has k (placed ++ r ∷ []) ≡ true =
+    subst (λ (v : ℕ). has v (placed ++ r ∷ []) ≡ true) z (has_last r placed) in
     let b : has k placed ≡ false = subst (λ (v : ℕ). has v placed ≡ false) z h in
     let c = unplaced_above rss (suc k) r placed (omega (arith, z)) in
-    rw (a, b, c) (let g : 0 + unplaced rss (suc k) placed + length rs ≡ length rs + unplaced rss (suc k) placed = omega arith in g)
+    rw (a, b, c)
+    (let g : 0 + unplaced rss (suc k) placed + length rs ≡ length rs + unplaced rss (suc k) placed = omega arith in
+    g)
 unplaced_push (rs ∷ rss) (suc j) k r placed e l h =
     let a : has k (placed ++ r ∷ []) ≡ has k placed = has_push k r placed (λ w. omega (arith, e, w)) in
     let b = unplaced_push rss j (suc k) r placed (omega (arith, e)) (le_of_suc-le-suc l) h in
@@ -57,17 +65,26 @@ unplaced_push (rs ∷ rss) (suc j) k r placed e l h =
     add x u v w e = omega (arith, e)
 
 -- a root that is placed already
-pub visit_old : (refers : List (List ℕ)) (r : ℕ) (todo placed : List ℕ) → has r placed ≡ true → ((order : List ℕ) → Placing (nth_refs refers) todo placed order → Placing (nth_refs refers) (r ∷ todo) placed order) × (weight refers todo placed < weight refers (r ∷ todo) placed)
-visit_old refers r todo placed h = ((λ order w. is_placed (has_in r placed h) w), (let g : length todo + unplaced refers 0 placed < suc (length todo) + unplaced refers 0 placed = omega arith in g))
+pub visit_old : (refers : List (List ℕ)) (r : ℕ) (todo placed : List ℕ) → has r placed ≡ true
+    → ((order : List ℕ) → Placing (nth_refs refers) todo placed order
+    → Placing (nth_refs refers) (r ∷ todo) placed order) × (weight refers todo placed < weight refers (r ∷ todo) placed)
+visit_old refers r todo placed h = (
+  (λ order w. is_placed (has_in r placed h) w),
+  (let g : length todo + unplaced refers 0 placed < suc (length todo) + unplaced refers 0 placed = omega arith in g),
+)
 
 -- a root that is placed now
 pub visit_new : (refers : List (List ℕ)) (r : ℕ) (todo placed : List ℕ) → r < length refers → has r placed ≡ false
-    → ((order : List ℕ) → Placing (nth_refs refers) (nth_refs refers r ++ todo) (placed ++ r ∷ []) order → Placing (nth_refs refers) (r ∷ todo) placed order) × (weight refers (nth_refs refers r ++ todo) (placed ++ r ∷ []) < weight refers (r ∷ todo) placed)
+    → ((order : List ℕ) → Placing (nth_refs refers) (nth_refs refers r ++ todo) (placed ++ r ∷ []) order
+    → Placing (nth_refs refers) (r ∷ todo) placed order)
+    × (weight refers (nth_refs refers r ++ todo) (placed ++ r ∷ []) < weight refers (r ∷ todo) placed)
 visit_new refers r todo placed l h = (
   (λ order w. place_now (λ i. true≢false (sym (in_has r placed i) ∙ h)) w),
   (let a = unplaced_push refers r 0 r placed (omega arith) l h in
-      let b : length (nth_refs refers r ++ todo) ≡ length (nth_refs refers r) + length todo = length-append (nth_refs refers r) todo in
-      let g : length (nth_refs refers r ++ todo) + unplaced refers 0 (placed ++ r ∷ []) < suc (length todo) + unplaced refers 0 placed = omega (arith, a, b) in g),
+      let b : length (nth_refs refers r ++ todo) ≡ length (nth_refs refers r) + length todo =
+      length-append (nth_refs refers r) todo in
+      let g : length (nth_refs refers r ++ todo) + unplaced refers 0 (placed ++ r ∷ [])
+      < suc (length todo) + unplaced refers 0 placed = omega (arith, a, b) in g),
 )
 
 pub refs_below : (n : ℕ) (rss : List (List ℕ)) (r : ℕ) → Every (AllBelow n) rss → AllBelow n (nth_refs rss r)
@@ -76,8 +93,10 @@ refs_below n (rs ∷ rss) zero h = h.0
 refs_below n (rs ∷ rss) (suc r) h = refs_below n rss r h.1
 
 -- the last of the first i items put before the rest
-pub step_down : (xs : List ℕ) (i : ℕ) (rest : List ℕ) → 0 < i → i ≤ length xs → take (i - 1) xs ++ (get_or xs (i - 1) 0 ∷ rest) ≡ take i xs ++ rest
+pub step_down : (xs : List ℕ) (i : ℕ) (rest : List ℕ) → 0 < i → i ≤ length xs → take (i - 1) xs
+    ++ (get_or xs (i - 1) 0 ∷ rest) ≡ take i xs ++ rest
 step_down xs i rest a b =
     let e : i - 1 + 1 ≡ i = omega (arith, a) in
     let l : i - 1 < length xs = omega (arith, a, b) in
-    sym (append_assoc (take (i - 1) xs) (get_or xs (i - 1) 0 ∷ []) rest) ∙ ap (λ (z : List ℕ). z ++ rest) (sym (take_more xs (i - 1) 0 l)) ∙ ap (λ (z : ℕ). take z xs ++ rest) e
+    sym (append_assoc (take (i - 1) xs) (get_or xs (i - 1) 0 ∷ []) rest)
+    ∙ ap (λ (z : List ℕ). z ++ rest) (sym (take_more xs (i - 1) 0 l)) ∙ ap (λ (z : ℕ). take z xs ++ rest) e

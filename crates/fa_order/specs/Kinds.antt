@@ -8,7 +8,8 @@ use Rattle.fa_core.specs.Filled.{Choice}
 use Rattle.fa_core.specs.declared.faces.Face.{Face}
 use Rattle.fa_core.specs.declared.forest.Forest.{Forest}
 
--- each component has one root state with one rule, and the roots are the cells of the four kinds: what makes a well-formed forest canonical but for the order of its roots
+-- each component has one root state with one rule, and the roots are the cells of the four kinds: what makes a
+-- well-formed forest canonical but for the order of its roots
 pub record HasRootKinds (face : Face) (F : Forest) : Type 0 where
   pub tops : Every HasOneTop F.autos
   pub kinds : (ts : List Tree) → Choice F.autos ts → (r : ℕ) → r < length ts → IsRootKind face.boxes F.vars ts r

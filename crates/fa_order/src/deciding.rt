@@ -8,7 +8,8 @@ ghost use Rattle.fa_core.specs.Canonical.{IsCanonical};
 ghost use Rattle.fa_merge.specs.Reordered.{counted};
 ghost use Rattle.fa_merge.specs.inner.Counted.{mark_count, marks_count};
 ghost use Rattle.fa_order.specs.Kinds.{HasRootKinds};
-ghost use Rattle.fa_order.specs.inner.Deciding.{any_cell, any_leaf, any_ties, knot_by, rise_from, root_by, roots_by, rules_of, shared_by, ties, times_shown};
+ghost use Rattle.fa_order.specs.inner.Deciding.{any_cell, any_leaf, any_ties, knot_by, rise_from, root_by, roots_by};
+ghost use Rattle.fa_order.specs.inner.Deciding.{rules_of, shared_by, ties, times_shown};
 
 use crate::referring::{is_marked_root, var_roots};
 use crate::roots::walk_order;
@@ -35,7 +36,8 @@ pub fn is_canonical(alloc: Global, forest: &Sound) -> Mem<bool>
     Ok(is_counted(order.as_slice(), count))
 }
 
-/// Whether each component has one root state with one rule, and the roots are the cells of the four kinds: what makes the forest canonical but for the order of its roots. Err is want of memory.
+/// Whether each component has one root state with one rule, and the roots are the cells of the four kinds: what makes
+/// the forest canonical but for the order of its roots. Err is want of memory.
 pub fn has_root_kinds(alloc: Global, forest: &Sound) -> Mem<bool>
     requires { Every HasNoBoxes forest.now.forest.autos }
     ensures { IfOk result (λ yes. IsTrue yes ↔ HasRootKinds forest.now.face forest.now.forest) }

@@ -1,5 +1,6 @@
 // Which cells of a forest are its roots, and in which order they stand: roots put into the order of the walk, whether a
-// forest is canonical, and canonical forests with their components reduced. The definitions are those of `fa_core` and specs/.
+// forest is canonical, and canonical forests with their components reduced. The definitions are those of `fa_core` and
+// specs/.
 #![tactic(auto)]
 
 pub mod deciding;

@@ -20,7 +20,9 @@ use std::thread::Threads;
 use ta_core::auto::Auto;
 use ta_reduce::reducing::reduce;
 
-/// The forest with each component reduced: the same languages, component by component, the same targets and data. Where the forest is canonical, so is the result. The crew runs 1 to 64 jobs and has no bearing on the answer. Err is want of memory.
+/// The forest with each component reduced: the same languages, component by component, the same targets and data. Where
+/// the forest is canonical, so is the result. The crew runs 1 to 64 jobs and has no bearing on the answer. Err is want
+/// of memory.
 pub fn reduce_forest<R: Threads + Sync, G: Gate>(
     rt: &R,
     alloc: Global,
@@ -34,7 +36,8 @@ pub fn reduce_forest<R: Threads + Sync, G: Gate>(
     ensures reduced { IfOk result (λ made. Reduced made.forest) }
     ensures face { IfOk result (λ made. made.face ≡ forest.now.face) }
     ensures plain { IfOk result (λ made. Every HasNoBoxes made.forest.autos) }
-    ensures canonical { IfOk result (λ made. IsCanonical forest.now.face forest.now.forest → IsCanonical made.face made.forest) }
+    ensures canonical { IfOk result (λ made. IsCanonical forest.now.face forest.now.forest
+        → IsCanonical made.face made.forest) }
 {
     forest.known();
     let autos = reduced_autos(rt, alloc, forest.forest().autos.as_slice(), crew)?;

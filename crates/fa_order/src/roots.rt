@@ -20,7 +20,8 @@ use fore_base::list::List;
 use fore_base::memory::Mem;
 use std::alloc::Global;
 
-/// The forest with its roots in the order of the walk: depth first from the variables in order of number, through the slots of each cell in order, each root placed at its first visit. Err is want of memory.
+/// The forest with its roots in the order of the walk: depth first from the variables in order of number, through the
+/// slots of each cell in order, each root placed at its first visit. Err is want of memory.
 pub fn place_roots(alloc: Global, forest: &Sound) -> Mem<Sound>
     requires plain { Every HasNoBoxes forest.now.forest.autos }
     requires kinds { HasRootKinds forest.now.face forest.now.forest }
@@ -33,7 +34,8 @@ pub fn place_roots(alloc: Global, forest: &Sound) -> Mem<Sound>
     ensures vars { IfOk result (λ made. length made.forest.vars ≡ length forest.now.forest.vars) }
     ensures data { IfOk result (λ made. made.forest.data_vars ≡ forest.now.forest.data_vars) }
     ensures plain { IfOk result (λ made. Every HasNoBoxes made.forest.autos) }
-    ensures same { IfOk result (λ made. IsCanonical forest.now.face forest.now.forest → made.forest ≡ forest.now.forest) }
+    ensures same { IfOk result (λ made. IsCanonical forest.now.face forest.now.forest
+        → made.forest ≡ forest.now.forest) }
 {
     forest.known();
     let order = walk_order(alloc, forest)?;

@@ -49,7 +49,8 @@ fn shown_root(alloc: Global, forest: &Sound, root: u32) -> Mem<Shown>
     requires below { root < length forest.now.forest.autos }
     requires plain { Every HasNoBoxes forest.now.forest.autos }
     requires tops { Every HasOneTop forest.now.forest.autos }
-    ensures { IfOk result (λ shown. (a : Automaton) → slice_get forest.now.forest.autos root ≡ Some a → IsShownBy forest.now.face.boxes a shown) }
+    ensures { IfOk result (λ shown. (a : Automaton) → slice_get forest.now.forest.autos root ≡ Some a
+        → IsShownBy forest.now.face.boxes a shown) }
 {
     let auto = forest.forest().autos.at(root as usize);
     let state = root_state(auto);

@@ -34,9 +34,12 @@ fn visit(
     root: u32,
 ) -> Mem<()>
     requires { root < length refers.now }
-    ensures goes { OnOk result ((order : List ℕ) → Placing (nth_refs refers.now) (behind stack.new) placed.new order → Placing (nth_refs refers.now) (root ∷ behind stack.old) placed.old order) }
-    ensures falls { OnOk result (weight refers.now (behind stack.new) placed.new < weight refers.now (root ∷ behind stack.old) placed.old) }
-    ensures below { OnOk result (Every (AllBelow (length refers.now)) refers.now → AllBelow (length refers.now) (behind stack.old) → AllBelow (length refers.now) (behind stack.new)) }
+    ensures goes { OnOk result ((order : List ℕ) → Placing (nth_refs refers.now) (behind stack.new) placed.new order
+        → Placing (nth_refs refers.now) (root ∷ behind stack.old) placed.old order) }
+    ensures falls { OnOk result (weight refers.now (behind stack.new) placed.new
+        < weight refers.now (root ∷ behind stack.old) placed.old) }
+    ensures below { OnOk result (Every (AllBelow (length refers.now)) refers.now → AllBelow (length refers.now) (behind stack.old)
+        → AllBelow (length refers.now) (behind stack.new)) }
 {
     if is_in(root, placed.as_slice()) {
         Ok(())

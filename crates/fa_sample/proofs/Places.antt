@@ -1,5 +1,6 @@
 -- The walk through the trees: places, and cells whose fields are filled in.
-use Rattle.std.proofs.Common.{◌≡◌, ℕ, zero, suc, ◌<◌, ◌≤◌, length, List, [], ◌∷◌, ◌++◌, Some, slice_get, slice_set, get_or, refl, sym, ap, ap₂, ◌∙◌, not-suc-le-zero, le_of_suc-le-suc}
+use Rattle.std.proofs.Common.{◌≡◌, ℕ, zero, suc, ◌<◌, ◌≤◌, length, List, [], ◌∷◌, ◌++◌, Some, slice_get, slice_set}
+use Rattle.std.proofs.Common.{get_or, refl, sym, ap, ap₂, ◌∙◌, not-suc-le-zero, le_of_suc-le-suc}
 use Rattle.std.proofs.lemmas.Option.{same_Some}
 use Rattle.fore_base.specs.declared.store.CellRec.{CellRec}
 use Rattle.fore_base.specs.declared.store.Datum.{Datum}
@@ -22,7 +23,8 @@ value_missing [] r l = refl
 value_missing (w ∷ vs) zero l = absurd (not-suc-le-zero l)
 value_missing (w ∷ vs) (suc r) l = value_missing vs r (le_of_suc-le-suc l)
 
-pub choice_push : (autos : List Automaton) (ts : List Tree) (a : Automaton) (t : Tree) → Choice autos ts → InLanguage a t → Choice (autos ++ a ∷ []) (ts ++ t ∷ [])
+pub choice_push : (autos : List Automaton) (ts : List Tree) (a : Automaton) (t : Tree) → Choice autos ts
+    → InLanguage a t → Choice (autos ++ a ∷ []) (ts ++ t ∷ [])
 choice_push [] [] a t c h = (h, tt)
 choice_push [] (u ∷ ts) a t c h = absurd c
 choice_push (b ∷ autos) [] a t c h = absurd c
@@ -30,11 +32,13 @@ choice_push (b ∷ autos) (u ∷ ts) a t c h = (c.0, choice_push autos ts a t c.
 
 -- A cell at the place behind others.
 
-get_here : (old : List CellRec) (y : CellRec) (rest : List CellRec) → slice_get ((old ++ y ∷ []) ++ rest) (length old) ≡ Some y
+get_here : (old : List CellRec) (y : CellRec) (rest : List CellRec) → slice_get ((old ++ y ∷ []) ++ rest) (length old)
+    ≡ Some y
 get_here [] y rest = refl
 get_here (x ∷ old) y rest = get_here old y rest
 
-set_here : (old : List CellRec) (y z : CellRec) (rest : List CellRec) → slice_set ((old ++ y ∷ []) ++ rest) (length old) z ≡ old ++ z ∷ rest
+set_here : (old : List CellRec) (y z : CellRec) (rest : List CellRec)
+    → slice_set ((old ++ y ∷ []) ++ rest) (length old) z ≡ old ++ z ∷ rest
 set_here [] y z rest = refl
 set_here (x ∷ old) y z rest = ap (λ (l : List CellRec). x ∷ l) (set_here old y z rest)
 
@@ -43,19 +47,33 @@ length_push [] y = refl
 length_push (x ∷ old) y = ap (λ n. suc n) (length_push old y)
 
 -- the cell that was added first, filled in when those below it are there
-pub cell_filled : (old pushed all : List CellRec) (s : ℕ) (ds es : List Datum) (fs : List Value) (ms : List Making) (x : CellRec)
+pub cell_filled : (old pushed all : List CellRec) (s : ℕ) (ds es : List Datum) (fs : List Value) (ms : List Making)
+    (x : CellRec)
     → es ≡ ds
     → pushed ≡ old ++ record { number = length old; shape = s; datums = es; fields = [] } ∷ []
     → fs ≡ values_from (length pushed) ms
     → all ≡ pushed ++ cells_from (length pushed) ms
     → slice_get all (length old) ≡ Some x
-    → slice_set all (length old) (record { number = x.number; shape = x.shape; datums = x.datums; fields = fs }) ≡ old ++ (cell_made s ds ms (length old)).1
+    → slice_set all (length old) (record { number = x.number; shape = x.shape; datums = x.datums; fields = fs }) ≡ old
+    ++ (cell_made s ds ms (length old)).1
 cell_filled old pushed all s ds es fs ms x d p f a g =
-    let l : length pushed ≡ suc (length old) = ap (λ (z : List CellRec). length z) p ∙ length_push old (record { number = length old; shape = s; datums = es; fields = [] }) in
-    let w : all ≡ (old ++ record { number = length old; shape = s; datums = es; fields = [] } ∷ []) ++ cells_from (suc (length old)) ms = a ∙ ap₂ (λ (z : List CellRec) (n : ℕ). z ++ cells_from n ms) p l in
-    let i : x ≡ record { number = length old; shape = s; datums = es; fields = [] } = same_Some x (record { number = length old; shape = s; datums = es; fields = [] }) (sym g ∙ ap (λ (z : List CellRec). slice_get z (length old)) w ∙ get_here old (record { number = length old; shape = s; datums = es; fields = [] }) (cells_from (suc (length old)) ms)) in
+    let l : length pushed ≡ suc (length old) = ap (λ (z : List CellRec). length z) p
+    ∙ length_push old (record { number = length old; shape = s; datums = es; fields = [] }) in
+    let w : all ≡ (old ++ record { number = length old; shape = s; datums = es; fields = [] } ∷ [])
+    ++ cells_from (suc (length old)) ms = a ∙ ap₂ (λ (z : List CellRec) (n : ℕ). z ++ cells_from n ms) p l in
+    let i : x ≡ record { number = length old; shape = s; datums = es; fields = [] } =
+    same_Some x (record { number = length old; shape = s; datums = es; fields = [] })
+    (sym g ∙ ap (λ (z : List CellRec). slice_get z (length old)) w
+    ∙ get_here old (record { number = length old; shape = s; datums = es; fields = [] })
+    (cells_from (suc (length old)) ms)) in
     let v : fs ≡ values_from (suc (length old)) ms = f ∙ ap (λ (n : ℕ). values_from n ms) l in
-    let r : record { number = x.number; shape = x.shape; datums = x.datums; fields = fs } ≡ record { number = length old; shape = s; datums = ds; fields = values_from (suc (length old)) ms } =
-    ap₂ (λ (z : CellRec) (us : List Value). record { number = z.number; shape = z.shape; datums = z.datums; fields = us }) i v ∙ ap (λ (z : List Datum). record { number = length old; shape = s; datums = z; fields = values_from (suc (length old)) ms }) d in
+    let r : record { number = x.number; shape = x.shape; datums = x.datums; fields = fs }
+    ≡ record { number = length old; shape = s; datums = ds; fields = values_from (suc (length old)) ms } =
+    ap₂ (λ (z : CellRec) (us : List Value).
+    record { number = z.number; shape = z.shape; datums = z.datums; fields = us }) i v
+    ∙ ap (λ (z : List Datum).
+    record { number = length old; shape = s; datums = z; fields = values_from (suc (length old)) ms }) d in
     ap₂ (λ (z : List CellRec) (c : CellRec). slice_set z (length old) c) w r
-    ∙ set_here old (record { number = length old; shape = s; datums = es; fields = [] }) (record { number = length old; shape = s; datums = ds; fields = values_from (suc (length old)) ms }) (cells_from (suc (length old)) ms)
+    ∙ set_here old (record { number = length old; shape = s; datums = es; fields = [] })
+    (record { number = length old; shape = s; datums = ds; fields = values_from (suc (length old)) ms })
+    (cells_from (suc (length old)) ms)

@@ -13,5 +13,6 @@ ghost use Rattle.ta_core.specs.Auto.{IsRanked};
 
 /// Every sound forest without box edges has a member.
 pub fn sound_forests_have_members()
-    ensures { (face : Face) (T : List BoxDef) (F : Forest) → IsSound face F → Every IsRanked F.autos → Every HasNoBoxes F.autos → (s : Store) × Stands face.shapes.structs T F s }
+    ensures { (face : Face) (T : List BoxDef) (F : Forest) → IsSound face F → Every IsRanked F.autos
+        → Every HasNoBoxes F.autos → (s : Store) × Stands face.shapes.structs T F s }
 {}

@@ -18,7 +18,8 @@ use fore_base::store::{CellRec, Store, Value};
 use std::alloc::Global;
 use ta_core::tree::Tree;
 
-/// A member of the forest, by the boxes of the table: a store for which the forest stands. It has the cells of a smallest tree of each component. So far only for forests without box edges. Err is want of memory.
+/// A member of the forest, by the boxes of the table: a store for which the forest stands. It has the cells of a
+/// smallest tree of each component. So far only for forests without box edges. Err is want of memory.
 pub fn sample(alloc: Global, forest: &Sound, table: &BoxTable) -> Mem<Store>
     requires face { table.now.face ≡ forest.now.face }
     requires plain { Every HasNoBoxes forest.now.forest.autos }

@@ -1,5 +1,5 @@
-// Cells from trees: a walk through each tree numbers its cells one after the other. What is still to be done stands in a list,
-// so that no call goes as deep as the tree.
+// Cells from trees: a walk through each tree numbers its cells one after the other. What is still to be done stands in
+// a list, so that no call goes as deep as the tree.
 
 ghost use Rattle.std.specs.Prelude.{◌≡◌, ◌++◌, ◌∷◌, ◌<◌, [], length, IfOk, map};
 ghost use Rattle.fa_core.specs.Dressed.{nth_value, value_in};
@@ -14,7 +14,8 @@ use std::alloc::Global;
 use ta_core::symbol::Symbol;
 use ta_core::tree::Tree;
 
-/// Adds the cells of the trees, and gives the values at their tops. `tops` are the values of the roots. Err is want of memory.
+/// Adds the cells of the trees, and gives the values at their tops. `tops` are the values of the roots. Err is want of
+/// memory.
 pub fn add_trees(
     alloc: Global,
     tops: &[Value],
@@ -22,7 +23,8 @@ pub fn add_trees(
     cells: &mut List<CellRec>,
 ) -> Mem<List<Value>>
     ensures values { IfOk result (λ values. values ≡ values_from (length cells.old) (all_made tops.now trees.now)) }
-    ensures cells { IfOk result (λ _. cells.new ≡ cells.old ++ cells_from (length cells.old) (all_made tops.now trees.now)) }
+    ensures cells { IfOk result (λ _. cells.new ≡ cells.old
+        ++ cells_from (length cells.old) (all_made tops.now trees.now)) }
 {
     let mut values = List::new(alloc);
     for tree in trees {
@@ -127,7 +129,8 @@ fn push_cell(
     datums: List<Datum>,
     cells: &mut List<CellRec>,
 ) -> Mem<()>
-    ensures { IfOk result (λ _. cells.new ≡ cells.old ++ (record { number = number; shape = shape; datums = datums; fields = [] } ∷ [])) }
+    ensures { IfOk result (λ _. cells.new ≡ cells.old
+        ++ (record { number = number; shape = shape; datums = datums; fields = [] } ∷ [])) }
 {
     let fields = List::new(alloc);
     cells.push(CellRec {

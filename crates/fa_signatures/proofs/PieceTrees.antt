@@ -3,7 +3,8 @@ use Rattle.std.proofs.Common.{◌≡◌, ◌↔◌, ℕ, ◌<◌, List, Some, sl
 use Rattle.fore_base.specs.Lists.{IsIn, Every, IsDistinct}
 use Rattle.fore_base.proofs.ListLemmas.{every_in, in_every, in_map, in_from_place}
 use Rattle.ta_core.specs.Auto.{Automaton, IsRanked, IsRankedRule}
-use Rattle.ta_core.specs.Language.{RunOf, run, InLanguage, IsBarren, HasSameLanguage, HasTree, PassesBy, at_top, below, OnePasses, this_one, later_one, IsTrim}
+use Rattle.ta_core.specs.Language.{RunOf, run, InLanguage, IsBarren, HasSameLanguage, HasTree, PassesBy, at_top, below}
+use Rattle.ta_core.specs.Language.{OnePasses, this_one, later_one, IsTrim}
 use Rattle.ta_core.specs.Renumbered.{StandsFor, renumbered}
 use Rattle.ta_core.specs.declared.auto.Rule.{Rule}
 use Rattle.ta_core.specs.declared.tree.Tree.{Tree}
@@ -39,23 +40,32 @@ pub record PairAt (pairs : List Pair) (rules : List Rule) (k : ℕ) : Type 0 whe
 pub run_state : (n : ℕ) (rules : List Rule) {q : ℕ} {t : Tree} → Every (IsRankedRule n) rules → RunOf rules q t → q < n
 run_state n rules h (run r i e s ks) = subst (λ (k : ℕ). k < n) e (every_in (IsRankedRule n) rules r h i).0
 
-module _ (bs : List BoxFace) (a : Automaton) (pairs : List Pair) (over : List Rule) (plain : HasNoBoxes a) (h : ArePairRules bs pairs a.rules over) (apart : IsDistinct pairs) where
+module _ (bs : List BoxFace) (a : Automaton) (pairs : List Pair) (over : List Rule) (plain : HasNoBoxes a)
+    (h : ArePairRules bs pairs a.rules over) (apart : IsDistinct pairs) where
   typed : AreTyped pairs bs a.rules over
   typed = record { from = h.from; all = h.all }
 
-  of_pair : {k : ℕ} {t : Tree} → RunOf over k t → (q : ℕ) (m : List RefMark) → slice_get pairs k ≡ Some (q, m) → RunOf a.rules q t × (m ≡ signature bs t)
+  of_pair : {k : ℕ} {t : Tree} → RunOf over k t → (q : ℕ) (m : List RefMark) → slice_get pairs k ≡ Some (q, m)
+      → RunOf a.rules q t × (m ≡ signature bs t)
   of_pair r q m e = typed_run pairs bs a.rules over plain typed r q m e
 
-  to_pair : {q : ℕ} {t : Tree} → RunOf a.rules q t → (k : ℕ) × (slice_get pairs k ≡ Some (q, signature bs t)) × RunOf over k t
+  to_pair : {q : ℕ} {t : Tree} → RunOf a.rules q t → (k : ℕ) × (slice_get pairs k ≡ Some (q, signature bs t))
+      × RunOf over k t
   to_pair r = run_typed pairs bs a.rules over plain typed r
 
   pair_at : {k : ℕ} {t : Tree} → RunOf over k t → PairAt pairs a.rules k
   pair_at {k} (run o i e s ks) =
       let f = h.from o i in
-      record { rule = f.0; marks = marks_over bs pairs f.0 o.children; there = f.1; at = ap (λ (n : ℕ). slice_get pairs n) (sym e) ∙ f.2.2 }
+      record {
+        rule = f.0;
+        marks = marks_over bs pairs f.0 o.children;
+        there = f.1;
+        at = ap (λ (n : ℕ). slice_get pairs n) (sym e) ∙ f.2.2;
+      }
 
   -- trees with a run to the pair are those with a run to its state and with its signature
-  pair_trees : (k q : ℕ) (m : List RefMark) → slice_get pairs k ≡ Some (q, m) → (t : Tree) → RunOf over k t ↔ (RunOf a.rules q t × (signature bs t ≡ m))
+  pair_trees : (k q : ℕ) (m : List RefMark) → slice_get pairs k ≡ Some (q, m) → (t : Tree) → RunOf over k t
+      ↔ (RunOf a.rules q t × (signature bs t ≡ m))
   pair_trees k q m e t = (
     λ r. let w = of_pair r q m e in (w.0, sym w.1),
     λ r.
@@ -69,8 +79,10 @@ module _ (bs : List BoxFace) (a : Automaton) (pairs : List Pair) (over : List Ru
   root_pair t l = let w = to_pair l.2 in (w.0, (l.0, l.1, w.1))
 
   -- so its signature is one of those of the pairs with root states
-  pub all_found : (all : List (List RefMark)) → AreRootMarks pairs a.roots all → (t : Tree) → InLanguage a t → IsIn (signature bs t) all
-  all_found all m t l = let w = root_pair t l in (m (signature bs t)).1 (w.1.0, w.1.1, in_from_place pairs w.0 (w.1.0, signature bs t) w.1.2)
+  pub all_found : (all : List (List RefMark)) → AreRootMarks pairs a.roots all → (t : Tree) → InLanguage a t
+      → IsIn (signature bs t) all
+  all_found all m t l = let w = root_pair t l in
+      (m (signature bs t)).1 (w.1.0, w.1.1, in_from_place pairs w.0 (w.1.0, signature bs t) w.1.2)
 
   module _ (marks : List RefMark) (b : Automaton) (o : IsOver pairs over a.roots marks b) where
     over_run : {k : ℕ} {t : Tree} → RunOf b.rules k t → RunOf over k t
@@ -91,7 +103,8 @@ module _ (bs : List BoxFace) (a : Automaton) (pairs : List Pair) (over : List Ru
           (w.0, (o.tops w.0).1 (l.0.0, l.0.1, e), run_over w.2),
     )
 
-    module _ (c : Automaton) (same : HasSameLanguage b c) (trim : IsTrim c) (st : StandsFor b c) (ranked : IsRanked c) (low : IsRanked a) where
+    module _ (c : Automaton) (same : HasSameLanguage b c) (trim : IsTrim c) (st : StandsFor b c) (ranked : IsRanked c)
+        (low : IsRanked a) where
       piece_trees : (t : Tree) → InLanguage c t ↔ (InLanguage a t × (signature bs t ≡ marks))
       piece_trees t = (λ l. (over_trees t).0 ((same t).1 l), λ l. (same t).0 ((over_trees t).1 l))
 
@@ -131,4 +144,11 @@ module _ (bs : List BoxFace) (a : Automaton) (pairs : List Pair) (over : List Ru
       }
 
       pub is_piece : HasSome c → IsPieceBy bs a marks c
-      is_piece s = record { trees = piece_trees; some = s; uniform = piece_uniform; states = piece_states; symbols = piece_symbols }
+      is_piece s =
+          record {
+            trees = piece_trees;
+            some = s;
+            uniform = piece_uniform;
+            states = piece_states;
+            symbols = piece_symbols;
+          }

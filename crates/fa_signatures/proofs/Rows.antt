@@ -55,16 +55,20 @@ leaf_top : (y : Symbol) → y ≡ (out-Tree (leaf y)).symbol
 leaf_top y = rw (out-roll-Tree (record { symbol = y; children = [] })) refl
 
 leaf_run : (rules : List Rule) (y : Symbol) → IsIn (rule y) rules → RunOf rules 0 (leaf y)
-leaf_run rules y i = run (rule y) i refl (leaf_top y) (rw (out-roll-Tree (record { symbol = y; children = [] })) run_none)
+leaf_run rules y i = run (rule y) i refl (leaf_top y)
+    (rw (out-roll-Tree (record { symbol = y; children = [] })) run_none)
 
 -- a rule of a leaf is the same over other rules
-no_children : (rules others : List Rule) (qs : List ℕ) (ts : List Tree) → qs ≡ [] → RunEach rules qs ts → RunEach others qs ts
+no_children : (rules others : List Rule) (qs : List ℕ) (ts : List Tree) → qs ≡ [] → RunEach rules qs ts
+    → RunEach others qs ts
 no_children rules others qs ts e run_none = run_none
 no_children rules others qs ts e (run_more a b) = absurd cc
 
 module _ (bs : List BoxFace) where
-  signature_of : (t : Tree) (y : Symbol) → y ≡ (out-Tree t).symbol → signature bs t ≡ marks_by bs y (map (below_of bs) (out-Tree t).children)
-  signature_of t y e = tree_signature bs t ∙ ap (λ (z : Symbol). marks_by bs z (map (below_of bs) (out-Tree t).children)) (sym e)
+  signature_of : (t : Tree) (y : Symbol) → y ≡ (out-Tree t).symbol
+      → signature bs t ≡ marks_by bs y (map (below_of bs) (out-Tree t).children)
+  signature_of t y e = tree_signature bs t
+      ∙ ap (λ (z : Symbol). marks_by bs z (map (below_of bs) (out-Tree t).children)) (sym e)
 
   -- a leaf that refers to root 3 has its mark, and null has none
   reference_marks : signature bs (leaf (Ref 3)) ≡ leaf_mark 3 ∷ []
@@ -78,11 +82,18 @@ module _ (bs : List BoxFace) where
   the_reference t = (λ r. refers r, λ w. is_reference w.0 w.1)
     where
       refers : RunOf reference.rules 0 t → RunOf both.rules 0 t × (signature bs t ≡ leaf_mark 3 ∷ [])
-      refers (run r (inl i) e s k) = (run r (inl i) e s (no_children reference.rules both.rules r.children (out-Tree t).children (ap (λ (o : Rule). o.children) i) k), signature_of t (Ref 3) (sym (ap (λ (o : Rule). o.symbol) i) ∙ s))
+      refers (run r (inl i) e s k) = (
+        run r (inl i) e s
+            (no_children reference.rules both.rules r.children (out-Tree t).children (ap (λ (o : Rule). o.children) i)
+            k),
+        signature_of t (Ref 3) (sym (ap (λ (o : Rule). o.symbol) i) ∙ s),
+      )
       refers (run r (inr i) e s k) = absurd i
 
       is_reference : RunOf both.rules 0 t → signature bs t ≡ leaf_mark 3 ∷ [] → RunOf reference.rules 0 t
-      is_reference (run r (inl i) e s k) m = run r (inl i) e s (no_children both.rules reference.rules r.children (out-Tree t).children (ap (λ (o : Rule). o.children) i) k)
+      is_reference (run r (inl i) e s k) m =
+          run r (inl i) e s
+          (no_children both.rules reference.rules r.children (out-Tree t).children (ap (λ (o : Rule). o.children) i) k)
       is_reference (run r (inr (inl i)) e s k) m =
           let none : [] ≡ leaf_mark 3 ∷ [] = sym (signature_of t Null (sym (ap (λ (o : Rule). o.symbol) i) ∙ s)) ∙ m in
           cc
@@ -98,4 +109,10 @@ module _ (bs : List BoxFace) where
 
   -- the piece and the whole share a signature
   shared : ShareSignature bs both reference
-  shared = (leaf (Ref 3), leaf (Ref 3), (0, inl refl, leaf_run both.rules (Ref 3) (inl refl)), (0, inl refl, leaf_run reference.rules (Ref 3) (inl refl)), refl)
+  shared = (
+    leaf (Ref 3),
+    leaf (Ref 3),
+    (0, inl refl, leaf_run both.rules (Ref 3) (inl refl)),
+    (0, inl refl, leaf_run reference.rules (Ref 3) (inl refl)),
+    refl,
+  )

@@ -17,7 +17,8 @@ use Rattle.fa_signatures.specs.CutForests.{AreCutForests, forests}
 use Rattle.fa_signatures.specs.CutPieces.{CutsStates, IsPiece}
 
 -- an automaton with uniform signatures and a tree is a piece of itself
-own_piece : (bs : List BoxFace) (a : Automaton) (list : List Signature) → HasSignatures bs a → HasSome a → AreSignatures bs a list → IsPiece bs a a
+own_piece : (bs : List BoxFace) (a : Automaton) (list : List Signature) → HasSignatures bs a → HasSome a
+    → AreSignatures bs a list → IsPiece bs a a
 own_piece bs a list h s k = (
   signature bs s.0,
   record {
@@ -25,7 +26,8 @@ own_piece bs a list h s k = (
     some = s;
     uniform = h;
     states = own_states;
-    symbols = in_every (λ (r : Rule). (o : Rule) × IsIn o a.rules × (o.symbol ≡ r.symbol)) a.rules (λ r i. (r, i, refl));
+    symbols = in_every (λ (r : Rule). (o : Rule) × IsIn o a.rules × (o.symbol ≡ r.symbol)) a.rules
+        (λ r i. (r, i, refl));
   },
 )
   where
@@ -35,7 +37,8 @@ own_piece bs a list h s k = (
         let e = slice_get-get_or list q none (omega (arith, l, k.long)) in
         (q, (get_or list q none).refs, l, λ t. (λ r. (r, sym (k.each q (get_or list q none) t e r)), λ w. w.0))
 
-own_pieces : (bs : List BoxFace) (autos : List Automaton) (all : List (List Signature)) → Every (HasSignatures bs) autos → Every HasSome autos → Paired (AreSignatures bs) autos all → Paired (IsPiece bs) autos autos
+own_pieces : (bs : List BoxFace) (autos : List Automaton) (all : List (List Signature)) → Every (HasSignatures bs) autos
+    → Every HasSome autos → Paired (AreSignatures bs) autos all → Paired (IsPiece bs) autos autos
 own_pieces bs [] all h s k = tt
 own_pieces bs (a ∷ autos) [] h s k = absurd k
 own_pieces bs (a ∷ autos) (list ∷ all) h s k = (own_piece bs a list h.0 s.0 k.0, own_pieces bs autos all h.1 s.1 k.1)
@@ -43,12 +46,21 @@ own_pieces bs (a ∷ autos) (list ∷ all) h s k = (own_piece bs a list h.0 s.0 
 -- a sound forest is cut into itself
 sound_cuts : (s : SoundForest) → IsSigned s → AreCutForests s.face.boxes s.forest (s.forest ∷ [])
 sound_cuts s h = record {
-  each = (record { autos = own_pieces s.face.boxes s.forest.autos s.signatures h.sound.well_formed.signatures h.sound.full h.signed; vars = refl; data_vars = refl }, tt);
+  each = (
+    record {
+      autos = own_pieces s.face.boxes s.forest.autos s.signatures h.sound.well_formed.signatures h.sound.full
+          h.signed;
+      vars = refl;
+      data_vars = refl;
+    },
+    tt,
+  );
   whole = λ ts c. (s.forest, inl refl, c);
   apart = (tt, tt);
 }
 
-pub cuts_alone : (face : Face) (F : Forest) (s : SoundForest) (list : List SoundForest) → IsSigned s → s.forest ≡ F → s.face ≡ face → list ≡ s ∷ [] → AreCutForests face.boxes F (forests list)
+pub cuts_alone : (face : Face) (F : Forest) (s : SoundForest) (list : List SoundForest) → IsSigned s → s.forest ≡ F
+    → s.face ≡ face → list ≡ s ∷ [] → AreCutForests face.boxes F (forests list)
 cuts_alone face F s list h e f l =
     let own = subst (λ (g : Face). AreCutForests g.boxes s.forest (s.forest ∷ [])) f (sound_cuts s h) in
     let here = subst (λ (G : Forest). AreCutForests face.boxes G (s.forest ∷ [])) e own in

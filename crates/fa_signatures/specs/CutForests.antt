@@ -22,7 +22,8 @@ pub record IsCutForest (bs : List BoxFace) (F G : Forest) : Type 0 where
 abbrev pub ShareSignatures : List BoxFace → Forest → Forest → Type 0
 ShareSignatures bs F G = Paired (ShareSignature bs) F.autos G.autos
 
--- the forests cut F: each has one signature of each component, each choice of trees is one of some of them, and no two have the same signatures
+-- the forests cut F: each has one signature of each component, each choice of trees is one of some of them, and no two
+-- have the same signatures
 pub record AreCutForests (bs : List BoxFace) (F : Forest) (Gs : List Forest) : Type 0 where
   pub each : Every (IsCutForest bs F) Gs
   pub whole : (ts : List Tree) → Choice F.autos ts → (G : Forest) × IsIn G Gs × Choice G.autos ts
@@ -34,4 +35,5 @@ forests list = map (λ s. s.forest) list
 
 -- F and the forests of the list together have the same members, whatever the structs and the box table are
 abbrev pub IsUnionOf : Forest → List Forest → Type 0
-IsUnionOf F Gs = (hs : List Shape) (T : List BoxDef) (s : Store) → Stands hs T F s ↔ ((G : Forest) × IsIn G Gs × Stands hs T G s)
+IsUnionOf F Gs = (hs : List Shape) (T : List BoxDef) (s : Store) → Stands hs T F s
+    ↔ ((G : Forest) × IsIn G Gs × Stands hs T G s)

@@ -16,7 +16,8 @@ CutsState bs a q marks b p = (t : Tree) → RunOf b.rules p t ↔ (RunOf a.rules
 
 -- so it is for each state of b, with some state of a and some signature
 abbrev pub CutsStates : List BoxFace → Automaton → Automaton → Type 0
-CutsStates bs a b = (p : ℕ) → p < b.states → (q : ℕ) × (marks : List RefMark) × (q < a.states) × CutsState bs a q marks b p
+CutsStates bs a b = (p : ℕ) → p < b.states → (q : ℕ) × (marks : List RefMark) × (q < a.states)
+    × CutsState bs a q marks b p
 
 -- each rule of b has the symbol of one of a
 abbrev pub KeepsSymbols : Automaton → Automaton → Type 0
@@ -43,7 +44,8 @@ abbrev pub AreApart : {X : Type 0} → (X → X → Type 0) → List X → Type 
 AreApart R [] = Unit {0}
 AreApart R (x ∷ xs) = Every (λ y. R x y → ⊥) xs × AreApart R xs
 
--- the pieces cut a: each has the trees of one signature, each tree of a is in one, and no two have trees of the same signature
+-- the pieces cut a: each has the trees of one signature, each tree of a is in one, and no two have trees of the same
+-- signature
 pub record AreCut (bs : List BoxFace) (a : Automaton) (pieces : List Automaton) : Type 0 where
   pub each : Every (IsPiece bs a) pieces
   pub whole : (t : Tree) → InLanguage a t → (b : Automaton) × IsIn b pieces × InLanguage b t

@@ -5,7 +5,8 @@ ghost use Rattle.fore_base.specs.Lists.{IsIn, Every, IsDistinct};
 ghost use Rattle.ta_core.specs.Language.{IsTrim};
 ghost use Rattle.fa_core.specs.Boxless.{HasNoBoxes};
 ghost use Rattle.fa_signatures.specs.CutPieces.{AreCut};
-ghost use Rattle.fa_signatures.specs.inner.CutPairs.{IsRootPair, AreRootMarks, AreCutBy, AreInRange, IsOver, IsPieceIn, WhereFound};
+ghost use Rattle.fa_signatures.specs.inner.CutPairs.{IsRootPair, AreRootMarks, AreCutBy, AreInRange, IsOver, IsPieceIn};
+ghost use Rattle.fa_signatures.specs.inner.CutPairs.{WhereFound};
 
 use crate::pairing::{Found, Pair, are_same, number_of, pair_up};
 use fa_core::cells::has;
@@ -18,7 +19,9 @@ use ta_core::auto::Auto;
 use ta_core::inhabited::is_empty;
 use ta_core::trimming::trim;
 
-/// The automaton cut by the signatures of its trees: for each of these a piece, which accepts the trees that have it. Each state of a piece takes part in an accepted tree. So far only for automata without box edges. Err is want of memory, also where numbers of states do not fit 32 bits.
+/// The automaton cut by the signatures of its trees: for each of these a piece, which accepts the trees that have it.
+/// Each state of a piece takes part in an accepted tree. So far only for automata without box edges. Err is want of
+/// memory, also where numbers of states do not fit 32 bits.
 pub fn cut_auto(alloc: Global, boxes: &[BoxFace], whole: &Auto) -> Mem<List<Auto>>
     requires { HasNoBoxes whole.now }
     ensures cut { IfOk result (AreCut boxes.now whole.now) }

@@ -1,8 +1,10 @@
 // Pairs of a state and a signature of some of its trees, and the rules over them: found from the leaves upward.
 
-ghost use Rattle.std.specs.Prelude.{◌≡◌, ◌↔◌, ◌++◌, ◌∷◌, [], length, map, slice_get, Some, IsTrue, IfOk, OnOk, MatchOption};
+ghost use Rattle.std.specs.Prelude.{◌≡◌, ◌↔◌, ◌++◌, ◌∷◌, [], length, map, slice_get, Some, IsTrue, IfOk, OnOk};
+ghost use Rattle.std.specs.Prelude.{MatchOption};
 ghost use Rattle.fore_base.specs.Lists.{IsIn, Paired, IsDistinct};
-ghost use Rattle.fa_signatures.specs.inner.CutPairs.{below_pair, marks_over, ArePlacesOf, ArePairRules, GrowsOr, AddsRule, AddsEach, AddsRules};
+ghost use Rattle.fa_signatures.specs.inner.CutPairs.{below_pair, marks_over, ArePlacesOf, ArePairRules, GrowsOr};
+ghost use Rattle.fa_signatures.specs.inner.CutPairs.{AddsRule, AddsEach, AddsRules};
 
 use crate::products::product;
 use fa_core::cells::marks_by;
@@ -45,7 +47,9 @@ fn rules_over(
     rules: &[Rule],
     pairs: &mut List<Pair>,
 ) -> Mem<List<Rule>>
-    ensures grows { IfOk result (λ over. GrowsOr pairs.old pairs.new (ArePairRules boxes.now pairs.old rules.now over)) }
+    ensures grows { IfOk result
+        (λ over. GrowsOr pairs.old pairs.new
+        (ArePairRules boxes.now pairs.old rules.now over)) }
     ensures apart { OnOk result (IsDistinct pairs.old → IsDistinct pairs.new) }
 {
     let mut over = List::new(alloc);
@@ -63,7 +67,9 @@ fn take_rule(
     pairs: &mut List<Pair>,
     over: &mut List<Rule>,
 ) -> Mem<()>
-    ensures grows { OnOk result (GrowsOr pairs.old pairs.new (AddsRules boxes.now pairs.old rule.now over.old over.new)) }
+    ensures grows { OnOk result
+        (GrowsOr pairs.old pairs.new
+        (AddsRules boxes.now pairs.old rule.now over.old over.new)) }
     ensures apart { OnOk result (IsDistinct pairs.old → IsDistinct pairs.new) }
 {
     let options = options(alloc, pairs.as_slice(), rule.children.as_slice())?;
@@ -80,7 +86,9 @@ fn add_rules(
     pairs: &mut List<Pair>,
     over: &mut List<Rule>,
 ) -> Mem<()>
-    ensures grows { OnOk result (GrowsOr pairs.old pairs.new (AddsEach boxes.now pairs.old rule.now choices.now over.old over.new)) }
+    ensures grows { OnOk result
+        (GrowsOr pairs.old pairs.new
+        (AddsEach boxes.now pairs.old rule.now choices.now over.old over.new)) }
     ensures apart { OnOk result (IsDistinct pairs.old → IsDistinct pairs.new) }
 {
     for choice in choices {
@@ -98,7 +106,9 @@ fn add_rule(
     pairs: &mut List<Pair>,
     over: &mut List<Rule>,
 ) -> Mem<()>
-    ensures grows { OnOk result (GrowsOr pairs.old pairs.new (AddsRule boxes.now pairs.old rule.now places.now over.old over.new)) }
+    ensures grows { OnOk result
+        (GrowsOr pairs.old pairs.new
+        (AddsRule boxes.now pairs.old rule.now places.now over.old over.new)) }
     ensures apart { OnOk result (IsDistinct pairs.old → IsDistinct pairs.new) }
 {
     let belows = belows_at(alloc, pairs.as_slice(), places.as_slice())?;
@@ -115,7 +125,9 @@ fn add_rule(
 
 /// The place of the pair of this state and signature, which is added where it is not there.
 fn place_for(state: u32, marks: List<RefMark>, pairs: &mut List<Pair>) -> Mem<u32>
-    ensures grows { IfOk result (λ place. GrowsOr pairs.old pairs.new (slice_get pairs.old place ≡ Some (state, marks))) }
+    ensures grows { IfOk result
+        (λ place. GrowsOr pairs.old pairs.new
+        (slice_get pairs.old place ≡ Some (state, marks))) }
     ensures apart { OnOk result (IsDistinct pairs.old → IsDistinct pairs.new) }
 {
     if let Some(place) = place_of(pairs.as_slice(), state, marks.as_slice()) {
@@ -138,7 +150,8 @@ pub fn number_of(place: usize) -> Mem<u32>
 
 /// A place of the pair of this state and signature.
 fn place_of(pairs: &[Pair], state: u32, marks: &[RefMark]) -> Option<usize>
-    ensures { MatchOption result (IsIn (state, marks.now) pairs.now → ⊥) (λ place. slice_get pairs.now place ≡ Some (state, marks.now)) }
+    ensures { MatchOption result (IsIn (state, marks.now) pairs.now → ⊥)
+        (λ place. slice_get pairs.now place ≡ Some (state, marks.now)) }
 {
     for (place, pair) in pairs.iter().enumerate() {
         if pair.0 == state && are_same(pair.1.as_slice(), marks) {

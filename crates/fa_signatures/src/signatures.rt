@@ -19,7 +19,9 @@ use fore_base::list::List;
 use fore_base::memory::Mem;
 use std::alloc::Global;
 
-/// The forest cut by the signatures of its components: for each choice of one signature of each component the sound forest of the trees that have them. A component without trees leaves no forest. So far only for forests without box edges. Err is want of memory, also where numbers of states do not fit 32 bits.
+/// The forest cut by the signatures of its components: for each choice of one signature of each component the sound
+/// forest of the trees that have them. A component without trees leaves no forest. So far only for forests without box
+/// edges. Err is want of memory, also where numbers of states do not fit 32 bits.
 pub fn split_signatures(alloc: Global, forest: &Forest, face: &Face) -> Mem<List<Sound>>
     requires plain { Every HasNoBoxes forest.now.autos }
     requires filled { IsFilled face.now forest.now }

@@ -3,7 +3,8 @@
 ghost use Rattle.std.specs.Prelude.{◌≡◌, ◌↔◌, ◌<◌, length, None, Some, map, replicate, IsTrue, IfOk, MatchBool};
 ghost use Rattle.std.specs.Option.{option_copied};
 ghost use Rattle.fore_base.specs.Lists.{Every};
-ghost use Rattle.fa_sound.specs.inner.Learnt.{entry, is_known, all_known, said, below_at, marks_at, IsKnown, Learns, unknown, AreWitnessed, IsLearnt, IsSettled};
+ghost use Rattle.fa_sound.specs.inner.Learnt.{entry, is_known, all_known, said, below_at, marks_at, IsKnown, Learns};
+ghost use Rattle.fa_sound.specs.inner.Learnt.{unknown, AreWitnessed, IsLearnt, IsSettled};
 
 use fa_core::cells::{is_leaf, marks_by};
 use fa_core::faces::BoxFace;
@@ -47,8 +48,11 @@ fn learn_all(
 ) -> Mem<bool>
     requires { Every (λ r. r.state < length table.old) rules.now }
     ensures long { IfOk result (λ _. length table.new ≡ length table.old) }
-    ensures witnessed { IfOk result (λ _. AreWitnessed boxes.now rules.now table.old → AreWitnessed boxes.now rules.now table.new) }
-    ensures added { IfOk result (λ added. MatchBool added (unknown table.new < unknown table.old) ((table.new ≡ table.old) × Every (IsKnown table.old) rules.now)) }
+    ensures witnessed { IfOk result (λ _. AreWitnessed boxes.now rules.now table.old
+        → AreWitnessed boxes.now rules.now table.new) }
+    ensures added { IfOk result
+        (λ added. MatchBool added (unknown table.new < unknown table.old)
+        ((table.new ≡ table.old) × Every (IsKnown table.old) rules.now)) }
 {
     let mut added = false;
     for rule in rules {
@@ -59,7 +63,8 @@ fn learn_all(
     Ok(added)
 }
 
-/// Writes what is known of a tree by the rule, if all its children are known and its state is not, and says whether it did.
+/// Writes what is known of a tree by the rule, if all its children are known and its state is not, and says whether it
+/// did.
 fn learn_rule(
     alloc: Global,
     boxes: &[BoxFace],

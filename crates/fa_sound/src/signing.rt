@@ -15,10 +15,13 @@ use fore_base::memory::Mem;
 use std::alloc::Global;
 use ta_core::auto::{Auto, Rule};
 
-/// The signature of each state, None where two trees of one state, or of the automaton, have different ones. Err is want of memory.
+/// The signature of each state, None where two trees of one state, or of the automaton, have different ones. Err is
+/// want of memory.
 pub fn signatures(alloc: Global, boxes: &[BoxFace], auto: &Auto) -> Mem<Option<List<Signature>>>
     requires { HasNoBoxes auto.now }
-    ensures { IfOk result (λ found. MatchOption found (HasSignatures boxes.now auto.now → ⊥) (λ list. HasSignatures boxes.now auto.now × AreSignatures boxes.now auto.now list)) }
+    ensures { IfOk result
+        (λ found. MatchOption found (HasSignatures boxes.now auto.now → ⊥)
+        (λ list. HasSignatures boxes.now auto.now × AreSignatures boxes.now auto.now list)) }
 {
     let table = learn(alloc, boxes, auto.states, auto.rules.as_slice())?;
     if !are_settled(alloc, boxes, table.as_slice(), auto.rules.as_slice())? {

@@ -40,77 +40,92 @@ module _ (rules : List Rule) where
   each_trees (q ∷ qs) h = let k = each_trees qs h.1 in (h.0.0 ∷ k.0, run_more h.0.1 k.1)
 
   -- by marks of the states that have trees
-  pub marks_trees : (n : ℕ) (marks : List Bool) (qs : List ℕ) → MarksOf n (HasTree rules) marks → all_marked marks qs ≡ true → Every (HasTree rules) qs
+  pub marks_trees : (n : ℕ) (marks : List Bool) (qs : List ℕ) → MarksOf n (HasTree rules) marks → all_marked marks qs
+      ≡ true → Every (HasTree rules) qs
   marks_trees n marks qs m h = every_weaker (IsMarked marks) (HasTree rules) qs m.only (all_from marks qs h)
 
-  pub trees_marks : (n : ℕ) (marks : List Bool) (qs : List ℕ) → MarksOf n (HasTree rules) marks → Every (HasTree rules) qs → all_marked marks qs ≡ true
+  pub trees_marks : (n : ℕ) (marks : List Bool) (qs : List ℕ) → MarksOf n (HasTree rules) marks
+      → Every (HasTree rules) qs → all_marked marks qs ≡ true
   trees_marks n marks qs m h = all_to marks qs (every_weaker (HasTree rules) (IsMarked marks) qs m.each h)
 
 -- a rule of a root state whose children have trees stands at the top of some tree
-pub top_decided : (a : Automaton) (x : Rule) (marks : List Bool) → MarksOf a.states (HasTree a.rules) marks → ((has x.state a.roots ≡ true) × (all_marked marks x.children ≡ true)) ↔ StandsAtTop a x
+pub top_decided : (a : Automaton) (x : Rule) (marks : List Bool) → MarksOf a.states (HasTree a.rules) marks
+    → ((has x.state a.roots ≡ true) × (all_marked marks x.children ≡ true)) ↔ StandsAtTop a x
 top_decided a x marks m = (
   (λ h.
-      let k = each_trees a.rules x.children (marks_trees a.rules a.states marks x.children m h.1) in
-      (has_in x.state a.roots h.0, (tree_of x.symbol k.0, rw (out-roll-Tree (record { symbol = x.symbol; children = k.0 })) (refl, k.1)))),
+      let k = each_trees a.rules x.children (marks_trees a.rules a.states marks x.children m h.1) in (
+        has_in x.state a.roots h.0,
+        (tree_of x.symbol k.0, rw (out-roll-Tree (record { symbol = x.symbol; children = k.0 })) (refl, k.1)),
+      )),
   (λ h. (in_has x.state a.roots h.0, trees_marks a.rules a.states marks x.children m (trees_each a.rules h.1.1.1))),
 )
 
-module _ (F : Forest) (r p : ℕ) (ranked : Every IsRanked F.autos) (full : Every HasSome F.autos) (can : CanSplit F r p) where
-  abbrev a : Automaton
-  a = component_at F.autos r
+module _ (F : Forest) (r p : ℕ) (ranked : Every IsRanked F.autos) (full : Every HasSome F.autos) (can : CanSplit F r p)
+  where
+    abbrev a : Automaton
+    a = component_at F.autos r
 
-  abbrev q : ℕ
-  q = child_state a p
+    abbrev q : ℕ
+    q = child_state a p
 
-  a_ranked : IsRanked a
-  a_ranked = component_has IsRanked F.autos r ranked can.root
+    a_ranked : IsRanked a
+    a_ranked = component_has IsRanked F.autos r ranked can.root
 
-  -- each tree of the child's state may stand in the place
-  pub run_may : (u : Tree) → RunOf a.rules q u → MayStand F r p u
-  run_may u w =
-      let t = component_has HasSome F.autos r full can.root in
-      let c = has_child a p (At 0) a_ranked can.top can.place t.0 t.1 in (
-        with_child p u t.0,
-        child_with a p (At 0) a_ranked can.top can.place t.0 (with_child p u t.0) u t.1 w (with_child_symbol p u t.0) (with_child_children p u t.0),
-        rw (with_child_children p u t.0) (set_here (out-Tree t.0).children p c.0 u c.1),
-      )
+    -- each tree of the child's state may stand in the place
+    pub run_may : (u : Tree) → RunOf a.rules q u → MayStand F r p u
+    run_may u w =
+        let t = component_has HasSome F.autos r full can.root in
+        let c = has_child a p (At 0) a_ranked can.top can.place t.0 t.1 in (
+          with_child p u t.0,
+          child_with a p (At 0) a_ranked can.top can.place t.0 (with_child p u t.0) u t.1 w (with_child_symbol p u t.0)
+              (with_child_children p u t.0),
+          rw (with_child_children p u t.0) (set_here (out-Tree t.0).children p c.0 u c.1),
+        )
 
-  leaf_may : (y : Target) → HasLeafRule a.rules q y → MayBeLeaf F r p y
-  leaf_may y (x, i, s, e) = run_may (bare_end (leaf y)) (run x i s (e ∙ sym (leaf_top y)) (subst (λ (qs : List ℕ). RunEach a.rules qs (out-Tree (bare_end (leaf y))).children) (sym none) (rw (out-roll-Tree (record { symbol = leaf_symbol y; children = [] })) run_none)))
-    where
-      empty : (qs : List ℕ) → length qs ≡ 0 → qs ≡ []
-      empty [] l = refl
-      empty (z ∷ qs) l = absurd (omega (arith, l))
+    leaf_may : (y : Target) → HasLeafRule a.rules q y → MayBeLeaf F r p y
+    leaf_may y (x, i, s, e) =
+        run_may (bare_end (leaf y))
+        (run x i s (e ∙ sym (leaf_top y))
+        (subst (λ (qs : List ℕ). RunEach a.rules qs (out-Tree (bare_end (leaf y))).children) (sym none)
+        (rw (out-roll-Tree (record { symbol = leaf_symbol y; children = [] })) run_none)))
+      where
+        empty : (qs : List ℕ) → length qs ≡ 0 → qs ≡ []
+        empty [] l = refl
+        empty (z ∷ qs) l = absurd (omega (arith, l))
 
-      none : x.children ≡ []
-      none = empty x.children ((every_in (IsRankedRule a.states) a.rules x a_ranked.1 i).2 ∙ ap arity e ∙ leaf_arity y)
+        none : x.children ≡ []
+        none =
+            empty x.children ((every_in (IsRankedRule a.states) a.rules x a_ranked.1 i).2 ∙ ap arity e ∙ leaf_arity y)
 
-  may_leaf : (y : Target) → MayBeLeaf F r p y → HasLeafRule a.rules q y
-  may_leaf y m = here (may_run F r p ranked can (At 0) (bare_end (leaf y)) m)
-    where
-      here : RunOf a.rules q (bare_end (leaf y)) → HasLeafRule a.rules q y
-      here (run x i s e k) = (x, i, s, e ∙ leaf_top y)
+    may_leaf : (y : Target) → MayBeLeaf F r p y → HasLeafRule a.rules q y
+    may_leaf y m = here (may_run F r p ranked can (At 0) (bare_end (leaf y)) m)
+      where
+        here : RunOf a.rules q (bare_end (leaf y)) → HasLeafRule a.rules q y
+        here (run x i s e k) = (x, i, s, e ∙ leaf_top y)
 
-  -- the leaves of the child's state are those that the child may be
-  pub leaves_may : (ys : List Target) → AreThose (HasLeafRule a.rules q) ys → AreThose (MayBeLeaf F r p) ys
-  leaves_may ys h = record {
-    each = every_weaker (HasLeafRule a.rules q) (MayBeLeaf F r p) ys leaf_may h.each;
-    all = λ y m. h.all y (may_leaf y m);
-    once = h.once;
-  }
+    -- the leaves of the child's state are those that the child may be
+    pub leaves_may : (ys : List Target) → AreThose (HasLeafRule a.rules q) ys → AreThose (MayBeLeaf F r p) ys
+    leaves_may ys h = record {
+      each = every_weaker (HasLeafRule a.rules q) (MayBeLeaf F r p) ys leaf_may h.each;
+      all = λ y m. h.all y (may_leaf y m);
+      once = h.once;
+    }
 
-  -- the child may be a cell where its state has a rule of one
-  pub cell_decided : HasCellRule a.rules q a.rules ↔ MayBeCell F r p
-  cell_decided = (forth, back)
-    where
-      forth : HasCellRule a.rules q a.rules → MayBeCell F r p
-      forth (x, i, (s, g, h)) =
-          let k = each_trees a.rules x.children h in
-          let u : Tree = tree_of x.symbol k.0 in
-          (u, rw (out-roll-Tree (record { symbol = x.symbol; children = k.0 })) g, run_may u (subst (λ (z : ℕ). RunOf a.rules z u) s (run_tree a.rules x k.0 i k.1)))
+    -- the child may be a cell where its state has a rule of one
+    pub cell_decided : HasCellRule a.rules q a.rules ↔ MayBeCell F r p
+    cell_decided = (forth, back)
+      where
+        forth : HasCellRule a.rules q a.rules → MayBeCell F r p
+        forth (x, i, (s, g, h)) =
+            let k = each_trees a.rules x.children h in
+            let u : Tree = tree_of x.symbol k.0 in (
+              u,
+              rw (out-roll-Tree (record { symbol = x.symbol; children = k.0 })) g,
+              run_may u (subst (λ (z : ℕ). RunOf a.rules z u) s (run_tree a.rules x k.0 i k.1)),
+            )
 
-      back : MayBeCell F r p → HasCellRule a.rules q a.rules
-      back (u, g, m) = here (may_run F r p ranked can (At 0) u m)
-        where
-          here : RunOf a.rules q u → HasCellRule a.rules q a.rules
-          here (run x i s e k) = (x, i, (s, ap is_leaf e ∙ g, trees_each a.rules k))
+        back : MayBeCell F r p → HasCellRule a.rules q a.rules
+        back (u, g, m) = here (may_run F r p ranked can (At 0) u m)
+          where
+            here : RunOf a.rules q u → HasCellRule a.rules q a.rules
+            here (run x i s e k) = (x, i, (s, ap is_leaf e ∙ g, trees_each a.rules k))

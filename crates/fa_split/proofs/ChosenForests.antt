@@ -24,11 +24,16 @@ use Rattle.fa_merge.proofs.PlacedForests.{component_has}
 use Rattle.fa_split.specs.Chosen.{Picked, none, take, leave, IsBy}
 use Rattle.fa_split.specs.Chosen.{StandsAtTop, chosen, chosen_at, AreChosen, IsChosenBy, IsChosenOf}
 use Rattle.fa_split.specs.Divided.{HasVarsOf}
-use Rattle.fa_split.proofs.ChosenTrees.{chosen_back, chosen_of, to_chosen, chosen_symbols, chosen_one, chosen_stay, chosen_roots}
-use Rattle.fa_split.proofs.OtherComponent.{component_set, every_put, tree_at, tree_in, trees_keep, within_sound, within_covers, within_dressed, within_regroups}
+use Rattle.fa_split.proofs.ChosenTrees.{chosen_back, chosen_of, to_chosen, chosen_symbols, chosen_one, chosen_stay}
+use Rattle.fa_split.proofs.ChosenTrees.{chosen_roots}
+use Rattle.fa_split.proofs.OtherComponent.{component_set, every_put, tree_at, tree_in, trees_keep, within_sound}
+use Rattle.fa_split.proofs.OtherComponent.{within_covers, within_dressed, within_regroups}
 
 -- signatures stay uniform where each new state is one with trees of an old one
-pub fresh_signed : (bs : List BoxFace) (a b : Automaton) (s : ℕ) → ((q : ℕ) (t : Tree) → q < a.states → RunOf b.rules q t → RunOf a.rules q t) → ((q : ℕ) (t : Tree) → RunOf b.rules q t → a.states ≤ q → RunOf a.rules s t) → ((q : ℕ) → IsIn q b.roots → a.states ≤ q) → HasSignatures bs a → HasSignatures bs b
+pub fresh_signed : (bs : List BoxFace) (a b : Automaton) (s : ℕ)
+    → ((q : ℕ) (t : Tree) → q < a.states → RunOf b.rules q t → RunOf a.rules q t)
+    → ((q : ℕ) (t : Tree) → RunOf b.rules q t → a.states ≤ q → RunOf a.rules s t)
+    → ((q : ℕ) → IsIn q b.roots → a.states ≤ q) → HasSignatures bs a → HasSignatures bs b
 fresh_signed bs a b s old new tops h = record {
   states = λ q t u x y. elim (nat_cases q a.states) [
     | inl l ↦ h.states q t u (old q t l x) (old q u l y)
@@ -37,7 +42,8 @@ fresh_signed bs a b s old new tops h = record {
   component = λ t u x y. h.states s t u (new x.0 t x.2 (tops x.0 x.1)) (new y.0 u y.2 (tops y.0 y.1));
 }
 
-module _ (F : Forest) (r : ℕ) (x : Rule) (ranked : Every IsRanked F.autos) (root : r < length F.autos) (rule : IsIn x (component_at F.autos r).rules) (top : IsIn x.state (component_at F.autos r).roots) where
+module _ (F : Forest) (r : ℕ) (x : Rule) (ranked : Every IsRanked F.autos) (root : r < length F.autos)
+    (rule : IsIn x (component_at F.autos r).rules) (top : IsIn x.state (component_at F.autos r).roots) where
   abbrev a : Automaton
   a = component_at F.autos r
 
@@ -54,8 +60,10 @@ module _ (F : Forest) (r : ℕ) (x : Rule) (ranked : Every IsRanked F.autos) (ro
   pub chosen_dressed : (T : List BoxDef) → IsChosenBy T F r x (chosen_at F r x)
   chosen_dressed T d = (
     (λ h.
-        let k = tree_in T F.autos r (chosen a x) d root h in
-        (within_dressed F r (chosen a x) chosen_within T d root h, (k.0, k.1, chosen_of a x a_ranked rule (bare k.0) k.2))),
+        let k = tree_in T F.autos r (chosen a x) d root h in (
+          within_dressed F r (chosen a x) chosen_within T d root h,
+          (k.0, k.1, chosen_of a x a_ranked rule (bare k.0) k.2),
+        )),
     (λ h.
         let k = h.1 in
         trees_keep T F.autos r (chosen a x) d k.0 h.0 k.1 (to_chosen a x a_ranked rule (bare k.0) k.2)),
@@ -75,7 +83,8 @@ module _ (F : Forest) (r : ℕ) (x : Rule) (ranked : Every IsRanked F.autos) (ro
 
   pub chosen_sound : (face : Face) → IsSound face F → (t : Tree) → IsBy a.rules x t → IsSound face (chosen_at F r x)
   chosen_sound face sound t k = within_sound F r (chosen a x) chosen_within face
-      (chosen_symbols a x a_ranked rule (SymbolFits face) (component_has (RulesFit face) F.autos r sound.well_formed.filled.rules root))
+      (chosen_symbols a x a_ranked rule (SymbolFits face)
+      (component_has (RulesFit face) F.autos r sound.well_formed.filled.rules root))
       (fresh_signed face.boxes a (chosen a x) x.state
       (λ q u l w. chosen_stay a x a_ranked rule q u l w)
       (λ q u w l. by_rule u (chosen_back a x a_ranked rule q u l w))
@@ -114,14 +123,17 @@ module _ {X : Type 0} (P : X → Type 0) where
 
 module _ (F : Forest) (r : ℕ) (ranked : Every IsRanked F.autos) (root : r < length F.autos) where
   -- what each rule that stands at the top of some tree gives, each forest of the list has
-  each_chosen : (P : Forest → Type 0) → ((x : Rule) → IsIn x (component_at F.autos r).rules → StandsAtTop (component_at F.autos r) x → P (chosen_at F r x)) → (Gs : List Forest) → AreChosen F r Gs → Every P Gs
+  each_chosen : (P : Forest → Type 0)
+      → ((x : Rule) → IsIn x (component_at F.autos r).rules → StandsAtTop (component_at F.autos r) x
+      → P (chosen_at F r x)) → (Gs : List Forest) → AreChosen F r Gs → Every P Gs
   each_chosen P h Gs k = in_every P Gs (λ G i.
       let m = in_mapped (chosen_at F r) G k.0 (subst (λ (Hs : List Forest). IsIn G Hs) k.2 i) in
       let w = picked_each (StandsAtTop (component_at F.autos r)) k.1 m.0 m.1 in
       subst P (sym m.2) (h m.0 w.0 w.1))
 
   pub all_dressed : (T : List BoxDef) (Gs : List Forest) → AreChosen F r Gs → Every (IsChosenOf T F r) Gs
-  all_dressed T = each_chosen (IsChosenOf T F r) (λ x i k. (x, i, k, refl, chosen_covers F r x ranked root i k.0, chosen_dressed F r x ranked root i k.0 T))
+  all_dressed T = each_chosen (IsChosenOf T F r)
+      (λ x i k. (x, i, k, refl, chosen_covers F r x ranked root i k.0, chosen_dressed F r x ranked root i k.0 T))
 
   pub all_regroup : (T : List BoxDef) (Gs : List Forest) → AreChosen F r Gs → Every (Regroups T F) Gs
   all_regroup T = each_chosen (Regroups T F) (λ x i k. chosen_regroups F r x ranked root i k.0 T)
@@ -129,16 +141,20 @@ module _ (F : Forest) (r : ℕ) (ranked : Every IsRanked F.autos) (root : r < le
   pub all_vars : (Gs : List Forest) → AreChosen F r Gs → Every (HasVarsOf F) Gs
   all_vars = each_chosen (HasVarsOf F) (λ x i k. (refl, refl))
 
-  pub all_plain : Every HasNoBoxes F.autos → (Gs : List Forest) → AreChosen F r Gs → Every (λ G. Every HasNoBoxes G.autos) Gs
-  all_plain plain = each_chosen (λ G. Every HasNoBoxes G.autos) (λ x i k. chosen_all_plain F r x ranked root i k.0 plain)
+  pub all_plain : Every HasNoBoxes F.autos → (Gs : List Forest) → AreChosen F r Gs
+      → Every (λ G. Every HasNoBoxes G.autos) Gs
+  all_plain plain = each_chosen (λ G. Every HasNoBoxes G.autos)
+      (λ x i k. chosen_all_plain F r x ranked root i k.0 plain)
 
   pub all_topped : (Gs : List Forest) → AreChosen F r Gs → Every (λ G. HasOneTop (component_at G.autos r)) Gs
   all_topped = each_chosen (λ G. HasOneTop (component_at G.autos r)) (λ x i k.
       let a = component_at F.autos r in
-      subst HasOneTop (sym (component_set F.autos r (chosen a x) root)) (chosen_one a x (component_has IsRanked F.autos r ranked root) i))
+      subst HasOneTop (sym (component_set F.autos r (chosen a x) root))
+      (chosen_one a x (component_has IsRanked F.autos r ranked root) i))
 
   -- none is lost: each dressed forest is one by some rule
-  pub none_lost : (T : List BoxDef) (Gs : List Forest) → AreChosen F r Gs → (d : Nodes) → OfForest T F d → (G : Forest) × IsIn G Gs × OfForest T G d
+  pub none_lost : (T : List BoxDef) (Gs : List Forest) → AreChosen F r Gs → (d : Nodes) → OfForest T F d → (G : Forest)
+      × IsIn G Gs × OfForest T G d
   none_lost T Gs k d h =
       let n = tree_at T F.autos r d root h in
       by_run n.0 n.1 n.2
@@ -150,11 +166,26 @@ module _ (F : Forest) (r : ℕ) (ranked : Every IsRanked F.autos) (root : r < le
       by_run n e (q, j, run x i s y w) =
           let by : IsBy a.rules x (bare n) = (y, w) in
           let top : IsIn x.state a.roots = subst (λ (z : ℕ). IsIn z a.roots) (sym s) j in
-          let g = picked_all (StandsAtTop a) k.1 x i (top, (bare n, by)) in
-          (chosen_at F r x, subst (λ (Hs : List Forest). IsIn (chosen_at F r x) Hs) (sym k.2) (in_map (chosen_at F r) x k.0 g), (chosen_dressed F r x ranked root i top T d).1 (h, (n, e, by)))
+          let g = picked_all (StandsAtTop a) k.1 x i (top, (bare n, by)) in (
+            chosen_at F r x,
+            subst (λ (Hs : List Forest). IsIn (chosen_at F r x) Hs) (sym k.2)
+                (in_map (chosen_at F r) x k.0 g),
+            (chosen_dressed F r x ranked root i top T d).1 (h, (n, e, by)),
+          )
 
   pub all_whole : (T : List BoxDef) (Gs : List Forest) → AreChosen F r Gs → RegroupsInto T F Gs
   all_whole T Gs k d h =
       let g = none_lost T Gs k d h in
-      let v = every_in (HasVarsOf F) Gs g.0 (all_vars Gs k) g.1 in
-      (g.0, g.1, (d, record { of = g.2; same_cells = same (cells d); vars = ap (map (value_in (roots_of d))) (sym v.0); data_vars = sym v.1 }))
+      let v = every_in (HasVarsOf F) Gs g.0 (all_vars Gs k) g.1 in (
+        g.0,
+        g.1,
+        (
+          d,
+          record {
+            of = g.2;
+            same_cells = same (cells d);
+            vars = ap (map (value_in (roots_of d))) (sym v.0);
+            data_vars = sym v.1;
+          },
+        ),
+      )

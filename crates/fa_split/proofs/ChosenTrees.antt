@@ -48,7 +48,8 @@ module _ (a : Automaton) (x : Rule) (ranked : IsRanked a) (rule : IsIn x a.rules
       let k = fresh_run a (again ∷ []) ranked above q t l w in
       let e : k.0 ≡ again = one_item k.0 again k.1 in (
         ap (λ (z : Rule). z.symbol) (sym e) ∙ k.3,
-        stay_each a (again ∷ []) ranked above x.children (out-Tree t).children right.1 (subst (λ (z : Rule). RunEach (chosen a x).rules z.children (out-Tree t).children) e k.4),
+        stay_each a (again ∷ []) ranked above x.children (out-Tree t).children right.1
+            (subst (λ (z : Rule). RunEach (chosen a x).rules z.children (out-Tree t).children) e k.4),
       )
 
   -- the trees are those by the rule
@@ -56,7 +57,12 @@ module _ (a : Automaton) (x : Rule) (ranked : IsRanked a) (rule : IsIn x a.rules
   chosen_of t (q, i, w) = let s : q ≡ a.states = one_item q a.states i in chosen_back q t (omega (arith, s)) w
 
   pub to_chosen : (t : Tree) → IsBy a.rules x t → InLanguage (chosen a x) t
-  to_chosen t k = (a.states, inl refl, run again (in_right again a.rules (again ∷ []) (inl refl)) refl k.0 (widen_each a (again ∷ []) ranked above x.children (out-Tree t).children k.1))
+  to_chosen t k = (
+    a.states,
+    inl refl,
+    run again (in_right again a.rules (again ∷ []) (inl refl)) refl k.0
+        (widen_each a (again ∷ []) ranked above x.children (out-Tree t).children k.1),
+  )
 
   pub chosen_one : HasOneTop (chosen a x)
   chosen_one = fresh_top_one a.states (a.states + 1) a.rules again [] refl (low_rules a.states a.rules ranked.1) tt
@@ -64,12 +70,15 @@ module _ (a : Automaton) (x : Rule) (ranked : IsRanked a) (rule : IsIn x a.rules
   pub chosen_ranked : IsRanked (chosen a x)
   chosen_ranked = (
     (omega arith, tt),
-    every_append (IsRankedRule (a.states + 1)) a.rules (again ∷ []) (rules_more a.states (a.states + 1) (omega arith) a.rules ranked.1)
+    every_append (IsRankedRule (a.states + 1)) a.rules (again ∷ [])
+        (rules_more a.states (a.states + 1) (omega arith) a.rules ranked.1)
         ((omega arith, states_more a.states (a.states + 1) (omega arith) x.children right.1, right.2), tt),
   )
 
-  pub chosen_symbols : (P : Symbol → Type 0) → Every (λ (o : Rule). P o.symbol) a.rules → Every (λ (o : Rule). P o.symbol) (chosen a x).rules
-  chosen_symbols P h = every_append (λ (o : Rule). P o.symbol) a.rules (again ∷ []) h (every_in (λ (o : Rule). P o.symbol) a.rules x h rule, tt)
+  pub chosen_symbols : (P : Symbol → Type 0) → Every (λ (o : Rule). P o.symbol) a.rules
+      → Every (λ (o : Rule). P o.symbol) (chosen a x).rules
+  chosen_symbols P h = every_append (λ (o : Rule). P o.symbol) a.rules (again ∷ []) h
+      (every_in (λ (o : Rule). P o.symbol) a.rules x h rule, tt)
 
   -- runs to the old states are old
   pub chosen_stay : (q : ℕ) (t : Tree) → q < a.states → RunOf (chosen a x).rules q t → RunOf a.rules q t

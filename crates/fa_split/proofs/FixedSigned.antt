@@ -30,7 +30,8 @@ plain_leaf Uninit = tt
 plain_leaf Dangling = tt
 plain_leaf (At k) = tt
 
-module _ (a : Automaton) (p : ℕ) (y : Target) (ranked : IsRanked a) (one : HasOneTop a) (place : p < length (top_rule a).children) (plain : HasNoBoxes a) where
+module _ (a : Automaton) (p : ℕ) (y : Target) (ranked : IsRanked a) (one : HasOneTop a)
+    (place : p < length (top_rule a).children) (plain : HasNoBoxes a) where
   abbrev b : Automaton
   b = fixed a p y
 
@@ -45,35 +46,49 @@ module _ (a : Automaton) (p : ℕ) (y : Target) (ranked : IsRanked a) (one : Has
         old e h = bare_of_end a.rules q e (fixed_stay a p y ranked one place q (bare_end e) l (end_bare b.rules q e h))
 
     leaf_alike : (q : ℕ) → a.states + 1 ≤ q → EndsAlike b.rules q
-    leaf_alike q l e u h k = subst (λ (x : End). AreAlike (end_refs x) (end_refs u)) (sym (is e h)) (subst (λ (x : End). AreAlike (end_refs (leaf y)) (end_refs x)) (sym (is u k)) (alike_same (end_refs (leaf y))))
+    leaf_alike q l e u h k =
+        subst (λ (x : End). AreAlike (end_refs x) (end_refs u)) (sym (is e h))
+        (subst (λ (x : End). AreAlike (end_refs (leaf y)) (end_refs x)) (sym (is u k)) (alike_same (end_refs (leaf y))))
       where
         is : (e : End) → EndRun b.rules q e → e ≡ leaf y
         is e h = end_is_leaf e y (leaf_back a p y ranked one place q (bare_end e) l (end_bare b.rules q e h))
 
     child_states : Every (EndsAlike b.rules) (new_top a p y ranked one place).children
     child_states = every_set (EndsAlike b.rules) (top_rule a).children p (a.states + 1)
-        (every_weaker (λ q. q < a.states) (EndsAlike b.rules) (top_rule a).children old_alike (top_right a p y ranked one place).1)
+        (every_weaker (λ q. q < a.states) (EndsAlike b.rules) (top_rule a).children old_alike
+        (top_right a p y ranked one place).1)
         (leaf_alike (a.states + 1) (omega arith))
 
     -- what runs to the new root state has slots that run to the new children
-    top_parts : (q : ℕ) (e : End) → q ≡ a.states → EndRun b.rules q e → (ps : Parts) × (end_refs e ≡ refs_of ps) × PartsRun b.rules (new_top a p y ranked one place).children ps
+    top_parts : (q : ℕ) (e : End) → q ≡ a.states → EndRun b.rules q e → (ps : Parts) × (end_refs e ≡ refs_of ps)
+        × PartsRun b.rules (new_top a p y ranked one place).children ps
     top_parts q (under (node c s ds ps)) w h =
-        let k = top_back a p y ranked one place q (bare_end (under (node c s ds ps))) w (end_bare b.rules q (under (node c s ds ps)) h) in
-        (ps, refl, bare_each b.rules (new_top a p y ranked one place).children ps (subst (λ (ts : List Tree). RunEach b.rules (new_top a p y ranked one place).children ts) (cell_children c s ds ps) k.1))
+        let k = top_back a p y ranked one place q (bare_end (under (node c s ds ps))) w
+        (end_bare b.rules q (under (node c s ds ps)) h) in (
+          ps,
+          refl,
+          bare_each b.rules (new_top a p y ranked one place).children ps
+              (subst (λ (ts : List Tree). RunEach b.rules (new_top a p y ranked one place).children ts)
+              (cell_children c s ds ps) k.1),
+        )
     top_parts q (leaf t) w h =
         let k = top_back a p y ranked one place q (bare_end (leaf t)) w (end_bare b.rules q (leaf t) h) in
-        let n = each_length b.rules (subst (λ (ts : List Tree). RunEach b.rules (new_top a p y ranked one place).children ts) (none t) k.1) in
+        let n = each_length b.rules
+        (subst (λ (ts : List Tree). RunEach b.rules (new_top a p y ranked one place).children ts) (none t) k.1)
+        in
         let m = length-set (top_rule a).children p (a.states + 1) in
         absurd (omega (arith, n, m, place))
       where
         none : (t : Target) → (out-Tree (bare_end (leaf t))).children ≡ []
         none t = rw (out-roll-Tree (record { symbol = leaf_symbol t; children = [] })) refl
 
-    top_alike : (q z : ℕ) (e u : End) → q ≡ a.states → z ≡ a.states → EndRun b.rules q e → EndRun b.rules z u → AreAlike (end_refs e) (end_refs u)
+    top_alike : (q z : ℕ) (e u : End) → q ≡ a.states → z ≡ a.states → EndRun b.rules q e → EndRun b.rules z u
+        → AreAlike (end_refs e) (end_refs u)
     top_alike q z e u v w h k =
         let m = top_parts q e v h in
         let n = top_parts z u w k in
-        subst (λ (xs : List ℕ). AreAlike xs (end_refs u)) (sym m.1) (subst (λ (xs : List ℕ). AreAlike (refs_of m.0) xs) (sym n.1)
+        subst (λ (xs : List ℕ). AreAlike xs (end_refs u)) (sym m.1)
+        (subst (λ (xs : List ℕ). AreAlike (refs_of m.0) xs) (sym n.1)
         (parts_alike b.rules (new_top a p y ranked one place).children m.0 n.0 child_states m.2 n.2))
 
     each_alike : (q : ℕ) → EndsAlike b.rules q

@@ -14,9 +14,11 @@ states_more m n l (q ∷ qs) h = (let a = h.0 in omega (arith, a, l), states_mor
 
 pub rules_more : (m n : ℕ) → m ≤ n → (rs : List Rule) → Every (IsRankedRule m) rs → Every (IsRankedRule n) rs
 rules_more m n l [] h = tt
-rules_more m n l (r ∷ rs) h = ((let a = h.0.0 in omega (arith, a, l), states_more m n l r.children h.0.1, h.0.2), rules_more m n l rs h.1)
+rules_more m n l (r ∷ rs) h =
+    ((let a = h.0.0 in omega (arith, a, l), states_more m n l r.children h.0.1, h.0.2), rules_more m n l rs h.1)
 
-module _ (a : Automaton) (extra : List Rule) (ranked : IsRanked a) (above : (o : Rule) → IsIn o extra → a.states ≤ o.state) where
+module _ (a : Automaton) (extra : List Rule) (ranked : IsRanked a)
+    (above : (o : Rule) → IsIn o extra → a.states ≤ o.state) where
   abbrev pub wide : List Rule
   wide = a.rules ++ extra
 
@@ -30,7 +32,8 @@ module _ (a : Automaton) (extra : List Rule) (ranked : IsRanked a) (above : (o :
   pub low : (o : Rule) → IsIn o a.rules → IsRankedRule a.states o
   low o i = every_in (IsRankedRule a.states) a.rules o ranked.1 i
 
-  stays : (o : Rule) (q : ℕ) (ts : List Tree) → IsIn o wide → Old o.state q → RunEach wide o.children ts → (z : Rule) × IsIn z a.rules × (z.state ≡ q) × (z.symbol ≡ o.symbol) × Paired Old o.children z.children
+  stays : (o : Rule) (q : ℕ) (ts : List Tree) → IsIn o wide → Old o.state q → RunEach wide o.children ts → (z : Rule)
+      × IsIn z a.rules × (z.state ≡ q) × (z.symbol ≡ o.symbol) × Paired Old o.children z.children
   stays o q ts i h k = elim (in_append o a.rules extra i) [
     | inl j ↦ (o, j, h.0, refl, paired_old o.children (low o j).1)
     | inr j ↦ (let l = above o j in let m = h.1 in absurd (omega (arith, l, m)))
@@ -39,7 +42,8 @@ module _ (a : Automaton) (extra : List Rule) (ranked : IsRanked a) (above : (o :
   pub stay : (q : ℕ) (t : Tree) → q < a.states → RunOf wide q t → RunOf a.rules q t
   stay q t l w = along wide a.rules Old stays q (refl, l) w
 
-  pub stay_each : (qs : List ℕ) (ts : List Tree) → Every (λ q. q < a.states) qs → RunEach wide qs ts → RunEach a.rules qs ts
+  pub stay_each : (qs : List ℕ) (ts : List Tree) → Every (λ q. q < a.states) qs → RunEach wide qs ts
+      → RunEach a.rules qs ts
   stay_each qs ts l w = along_each wide a.rules Old stays qs (paired_old qs l) w
 
   pub widen : (q : ℕ) (t : Tree) → RunOf a.rules q t → RunOf wide q t
@@ -56,5 +60,6 @@ module _ (a : Automaton) (extra : List Rule) (ranked : IsRanked a) (above : (o :
   ]
 
   -- a run to such a state ends with one of them
-  pub fresh_run : (q : ℕ) (t : Tree) → a.states ≤ q → RunOf wide q t → (o : Rule) × IsIn o extra × (o.state ≡ q) × (o.symbol ≡ (out-Tree t).symbol) × RunEach wide o.children (out-Tree t).children
+  pub fresh_run : (q : ℕ) (t : Tree) → a.states ≤ q → RunOf wide q t → (o : Rule) × IsIn o extra × (o.state ≡ q)
+      × (o.symbol ≡ (out-Tree t).symbol) × RunEach wide o.children (out-Tree t).children
   fresh_run q t l (run o i s y k) = (o, fresh_rules o i (subst (λ (z : ℕ). a.states ≤ z) (sym s) l), s, y, k)

@@ -1,5 +1,6 @@
 -- Children at a place below the top of a tree, and trees of a dressed forest: put there, and read.
-use Rattle.std.proofs.Common.{◌≡◌, ◌≢◌, ℕ, zero, suc, ◌<◌, List, [], ◌∷◌, refl, sym, ap, ap₂, subst, ◌∙◌, Some, slice_get, slice_set, arith}
+use Rattle.std.proofs.Common.{◌≡◌, ◌≢◌, ℕ, zero, suc, ◌<◌, List, [], ◌∷◌, refl, sym, ap, ap₂, subst, ◌∙◌, Some}
+use Rattle.std.proofs.Common.{slice_get, slice_set, arith}
 use Rattle.std.proofs.lemmas.Option.{none-some, same_Some}
 use Rattle.fore_base.specs.declared.store.Datum.{Datum}
 use Rattle.fore_base.specs.declared.store.Value.{Value}
@@ -7,14 +8,17 @@ use Rattle.fore_base.specs.declared.store.Value.TheVariants.{Cell}
 use Rattle.ta_core.specs.declared.symbol.Slot.{Slot}
 use Rattle.ta_core.specs.declared.symbol.Slot.TheVariants.{Field, Link, Hook}
 use Rattle.ta_core.specs.declared.symbol.Symbol.{Symbol}
-use Rattle.ta_core.specs.declared.symbol.Symbol.TheVariants.{Null as NullSymbol, Uninit as UninitSymbol, Dangling as DanglingSymbol, Ref, Cell as CellSymbol}
+use Rattle.ta_core.specs.declared.symbol.Symbol.TheVariants.{Null as NullSymbol, Uninit as UninitSymbol}
+use Rattle.ta_core.specs.declared.symbol.Symbol.TheVariants.{Dangling as DanglingSymbol, Ref, Cell as CellSymbol}
 use Rattle.ta_core.specs.declared.tree.Tree.{Tree, out-Tree, roll-Tree, out-roll-Tree, roll-out-Tree}
 use Rattle.fa_core.specs.declared.boxes.BoxDef.{BoxDef}
 use Rattle.fa_core.specs.declared.forest.Target.{Target}
 use Rattle.fa_core.specs.declared.forest.Target.TheVariants.{Null, Uninit, Dangling, At}
 use Rattle.fa_core.specs.Choices.{count}
-use Rattle.fa_core.specs.Dressed.{Node, Parts, End, Nodes, node, no_parts, field, link, hook, under, leaf, no_nodes, more, number, roots_of}
-use Rattle.fa_core.specs.Member.{InsidesOf, InsidesOfParts, InsidesOfEnd, bare, bare_parts, bare_end, slots_of, leaf_symbol}
+use Rattle.fa_core.specs.Dressed.{Node, Parts, End, Nodes, node, no_parts, field, link, hook, under, leaf, no_nodes}
+use Rattle.fa_core.specs.Dressed.{more, number, roots_of}
+use Rattle.fa_core.specs.Member.{InsidesOf, InsidesOfParts, InsidesOfEnd, bare, bare_parts, bare_end, slots_of}
+use Rattle.fa_core.specs.Member.{leaf_symbol}
 use Rattle.fa_core.proofs.Dressing.{leaf_is_no_cell, IsCellSymbol, leaf_top, cell_top}
 use Rattle.fa_merge.specs.Dropped.{node_at}
 use Rattle.fa_merge.specs.inner.Grafting as grafting
@@ -85,7 +89,8 @@ end_child zero (link b inside x ps) e h = ap (λ (z : End). Some (bare_end z)) (
 end_child (suc p) (link b inside x ps) e h = end_child p ps e h
 end_child p (hook b inside ps) e h = end_child p ps e h
 
-pub child_end : (p : ℕ) (ps : Parts) (t : Tree) → slice_get (bare_parts ps) p ≡ Some t → (e : End) × (end_at p ps ≡ Some e) × (bare_end e ≡ t)
+pub child_end : (p : ℕ) (ps : Parts) (t : Tree) → slice_get (bare_parts ps) p ≡ Some t → (e : End)
+    × (end_at p ps ≡ Some e) × (bare_end e ≡ t)
 child_end p no_parts t h = absurd (none-some t h)
 child_end zero (field f x ps) t h = (x, refl, same_Some (bare_end x) t h)
 child_end (suc p) (field f x ps) t h = child_end p ps t h
@@ -94,27 +99,36 @@ child_end (suc p) (link b inside x ps) t h = child_end p ps t h
 child_end p (hook b inside ps) t h = child_end p ps t h
 
 -- the children of a cell
-pub cell_children : (c s : ℕ) (ds : List Datum) (ps : Parts) → (out-Tree (bare (node c s ds ps))).children ≡ bare_parts ps
-cell_children c s ds ps = rw (out-roll-Tree (record { symbol = CellSymbol s ds (slots_of ps); children = bare_parts ps })) refl
+pub cell_children : (c s : ℕ) (ds : List Datum) (ps : Parts) → (out-Tree (bare (node c s ds ps))).children
+    ≡ bare_parts ps
+cell_children c s ds ps =
+    rw (out-roll-Tree (record { symbol = CellSymbol s ds (slots_of ps); children = bare_parts ps })) refl
 
 -- the child at place p of a tree is one of the tree without numbers
-pub child_of_top : (p : ℕ) (n : Node) (e : End) → end_at p (top_parts n) ≡ Some e → slice_get (out-Tree (bare n)).children p ≡ Some (bare_end e)
+pub child_of_top : (p : ℕ) (n : Node) (e : End) → end_at p (top_parts n) ≡ Some e
+    → slice_get (out-Tree (bare n)).children p ≡ Some (bare_end e)
 child_of_top p (node c s ds ps) e h = rw (cell_children c s ds ps) (end_child p ps e h)
 
-pub top_of_child : (p : ℕ) (n : Node) (t : Tree) → slice_get (out-Tree (bare n)).children p ≡ Some t → (e : End) × (end_at p (top_parts n) ≡ Some e) × (bare_end e ≡ t)
+pub top_of_child : (p : ℕ) (n : Node) (t : Tree) → slice_get (out-Tree (bare n)).children p ≡ Some t → (e : End)
+    × (end_at p (top_parts n) ≡ Some e) × (bare_end e ≡ t)
 top_of_child p (node c s ds ps) t h = child_end p ps t (rw (cell_children c s ds ps) at h)
 
 -- with another child, the tree has the same symbol and the other child
-pub with_end_symbol : (p : ℕ) (x : End) (n : Node) → (out-Tree (bare (with_end p x n))).symbol ≡ (out-Tree (bare n)).symbol
-with_end_symbol p x (node c s ds ps) = cell_top c s ds (set_end p x ps) ∙ ap (CellSymbol s ds) (slots_set p x ps) ∙ sym (cell_top c s ds ps)
+pub with_end_symbol : (p : ℕ) (x : End) (n : Node) → (out-Tree (bare (with_end p x n))).symbol
+    ≡ (out-Tree (bare n)).symbol
+with_end_symbol p x (node c s ds ps) = cell_top c s ds (set_end p x ps) ∙ ap (CellSymbol s ds) (slots_set p x ps)
+    ∙ sym (cell_top c s ds ps)
 
-pub with_end_children : (p : ℕ) (x : End) (n : Node) → (out-Tree (bare (with_end p x n))).children ≡ slice_set (out-Tree (bare n)).children p (bare_end x)
-with_end_children p x (node c s ds ps) = cell_children c s ds (set_end p x ps) ∙ bare_set p x ps ∙ ap (λ (z : List Tree). slice_set z p (bare_end x)) (sym (cell_children c s ds ps))
+pub with_end_children : (p : ℕ) (x : End) (n : Node) → (out-Tree (bare (with_end p x n))).children
+    ≡ slice_set (out-Tree (bare n)).children p (bare_end x)
+with_end_children p x (node c s ds ps) = cell_children c s ds (set_end p x ps) ∙ bare_set p x ps
+    ∙ ap (λ (z : List Tree). slice_set z p (bare_end x)) (sym (cell_children c s ds ps))
 
 pub with_end_number : (p : ℕ) (x : End) (n : Node) → number (with_end p x n) ≡ number n
 with_end_number p x (node c s ds ps) = refl
 
-pub with_end_at : (p : ℕ) (n : Node) (e u : End) → end_at p (top_parts n) ≡ Some e → end_at p (top_parts (with_end p u n)) ≡ Some u
+pub with_end_at : (p : ℕ) (n : Node) (e u : End) → end_at p (top_parts n) ≡ Some e
+    → end_at p (top_parts (with_end p u n)) ≡ Some u
 with_end_at p (node c s ds ps) e u h = end_set p ps e u h
 
 pub with_end_twice : (p : ℕ) (n : Node) (u v : End) → with_end p u (with_end p v n) ≡ with_end p u n
@@ -142,17 +156,26 @@ pub one_leaf : (t u : Target) → leaf_symbol t ≡ leaf_symbol u → t ≡ u
 one_leaf t u e = sym (leaf_again t) ∙ ap leaf_of e ∙ leaf_again u
 
 pub end_is_leaf : (e : End) (y : Target) → bare_end e ≡ bare_end (leaf y) → e ≡ leaf y
-end_is_leaf (under (node c s ds ps)) y h = absurd (leaf_is_no_cell y (subst IsCellSymbol (sym (cell_top c s ds ps) ∙ sym (ap (λ (t : Tree). (out-Tree t).symbol) (sym h)) ∙ leaf_top y) tt))
-end_is_leaf (leaf u) y h = ap leaf (one_leaf u y (sym (leaf_top u) ∙ ap (λ (t : Tree). (out-Tree t).symbol) h ∙ leaf_top y))
+end_is_leaf (under (node c s ds ps)) y h =
+    absurd
+    (leaf_is_no_cell y
+    (subst IsCellSymbol (sym (cell_top c s ds ps) ∙ sym (ap (λ (t : Tree). (out-Tree t).symbol) (sym h)) ∙ leaf_top y)
+    tt))
+end_is_leaf (leaf u) y h =
+    ap leaf (one_leaf u y (sym (leaf_top u) ∙ ap (λ (t : Tree). (out-Tree t).symbol) h ∙ leaf_top y))
 
 -- a tree with the symbol of a leaf and no children is that leaf
-pub leaf_tree : (y : Target) (t : Tree) → leaf_symbol y ≡ (out-Tree t).symbol → (out-Tree t).children ≡ [] → t ≡ bare_end (leaf y)
-leaf_tree y t a b = sym (ap₂ (λ (u : Symbol) (v : List Tree). roll-Tree (record { symbol = u; children = v })) a (sym b) ∙ roll-out-Tree t)
+pub leaf_tree : (y : Target) (t : Tree) → leaf_symbol y ≡ (out-Tree t).symbol → (out-Tree t).children ≡ []
+    → t ≡ bare_end (leaf y)
+leaf_tree y t a b =
+    sym (ap₂ (λ (u : Symbol) (v : List Tree). roll-Tree (record { symbol = u; children = v })) a (sym b)
+    ∙ roll-out-Tree t)
 
 -- Insides.
 
 module _ (T : List BoxDef) where
-  insides_set : (p : ℕ) (ps : Parts) (u : End) → InsidesOfEnd T u → InsidesOfParts T ps → InsidesOfParts T (set_end p u ps)
+  insides_set : (p : ℕ) (ps : Parts) (u : End) → InsidesOfEnd T u → InsidesOfParts T ps
+      → InsidesOfParts T (set_end p u ps)
   insides_set p no_parts u h k = tt
   insides_set zero (field f x ps) u h k = (h, k.1)
   insides_set (suc p) (field f x ps) u h k = (k.0, insides_set p ps u h k.1)
@@ -204,7 +227,8 @@ set_count zero n (more m ns) = refl
 set_count (suc r) n (more m ns) = ap (λ z. suc z) (set_count r n ns)
 
 -- a tree whose cell at the top has the same number leaves the roots as they are
-pub roots_set : (r : ℕ) (d : Nodes) (n m : Node) → node_at d r ≡ Some n → number m ≡ number n → roots_of (set_node r m d) ≡ roots_of d
+pub roots_set : (r : ℕ) (d : Nodes) (n m : Node) → node_at d r ≡ Some n → number m ≡ number n
+    → roots_of (set_node r m d) ≡ roots_of d
 roots_set r no_nodes n m h e = refl
 roots_set zero (more x ns) n m h e = ap (λ (z : ℕ). Cell z ∷ roots_of ns) (e ∙ ap number (sym (same_Some x n h)))
 roots_set (suc r) (more x ns) n m h e = ap (λ (z : List Value). Cell (number x) ∷ z) (roots_set r ns n m h e)

@@ -20,7 +20,8 @@ use Rattle.fa_merge.proofs.PlacedForests.{component_has}
 use Rattle.fa_split.specs.Split.{CanSplit, MayStand, MayBeLeaf, child_state, fixed, split_leaf, HasChild, IsSplitLeaf}
 use Rattle.fa_split.proofs.FixedSigned.{fixed_plain, fixed_signed}
 use Rattle.fa_split.proofs.FixedTrees.{to_fixed, fixed_leaf, fixed_within, child_run, fixed_symbols}
-use Rattle.fa_split.proofs.OtherComponent.{every_put, tree_at, tree_in, trees_keep, within_sound, within_covers, within_dressed, within_regroups}
+use Rattle.fa_split.proofs.OtherComponent.{every_put, tree_at, tree_in, trees_keep, within_sound, within_covers}
+use Rattle.fa_split.proofs.OtherComponent.{within_dressed, within_regroups}
 use Rattle.fa_split.proofs.Places.{child_of_top, top_of_child, end_is_leaf}
 use Rattle.fa_split.proofs.RunPlaces.{set_same}
 use Rattle.fa_split.proofs.TopRules.{tree_by_top}
@@ -30,10 +31,13 @@ abbrev pub with_child : ℕ → Tree → Tree → Tree
 with_child p u t = roll-Tree (record { symbol = (out-Tree t).symbol; children = slice_set (out-Tree t).children p u })
 
 pub with_child_symbol : (p : ℕ) (u t : Tree) → (out-Tree (with_child p u t)).symbol ≡ (out-Tree t).symbol
-with_child_symbol p u t = rw (out-roll-Tree (record { symbol = (out-Tree t).symbol; children = slice_set (out-Tree t).children p u })) refl
+with_child_symbol p u t =
+    rw (out-roll-Tree (record { symbol = (out-Tree t).symbol; children = slice_set (out-Tree t).children p u })) refl
 
-pub with_child_children : (p : ℕ) (u t : Tree) → (out-Tree (with_child p u t)).children ≡ slice_set (out-Tree t).children p u
-with_child_children p u t = rw (out-roll-Tree (record { symbol = (out-Tree t).symbol; children = slice_set (out-Tree t).children p u })) refl
+pub with_child_children : (p : ℕ) (u t : Tree) → (out-Tree (with_child p u t)).children
+    ≡ slice_set (out-Tree t).children p u
+with_child_children p u t =
+    rw (out-roll-Tree (record { symbol = (out-Tree t).symbol; children = slice_set (out-Tree t).children p u })) refl
 
 pub fitting_leaf : (face : Face) (y : Target) → SymbolFits face (leaf_symbol y)
 fitting_leaf face Null = tt
@@ -56,8 +60,10 @@ module _ (F : Forest) (r p : ℕ) (ranked : Every IsRanked F.autos) (can : CanSp
     leaf_within : IsWithin (fixed a p y) a
     leaf_within = fixed_within a p y a_ranked can.top can.place (may_run (bare_end (leaf y)) may)
 
-    to_leaf : (t : Tree) → InLanguage a t → slice_get (out-Tree t).children p ≡ Some (bare_end (leaf y)) → InLanguage (fixed a p y) t
-    to_leaf t l e = to_fixed a p y a_ranked can.top can.place t t (tree_by_top a can.top t l) refl (sym (set_same (out-Tree t).children p (bare_end (leaf y)) e))
+    to_leaf : (t : Tree) → InLanguage a t → slice_get (out-Tree t).children p ≡ Some (bare_end (leaf y))
+        → InLanguage (fixed a p y) t
+    to_leaf t l e = to_fixed a p y a_ranked can.top can.place t t (tree_by_top a can.top t l) refl
+        (sym (set_same (out-Tree t).children p (bare_end (leaf y)) e))
 
     -- the dressed forests are those of F whose child is the leaf
     pub leaf_dressed : (T : List BoxDef) → IsSplitLeaf T F r p y (split_leaf F r p y)
@@ -66,13 +72,17 @@ module _ (F : Forest) (r p : ℕ) (ranked : Every IsRanked F.autos) (can : CanSp
         forth : OfForest T (split_leaf F r p y) d → OfForest T F d × HasChild d r p (leaf y)
         forth h =
             let k = tree_in T F.autos r (fixed a p y) d can.root h in
-            let c = top_of_child p k.0 (bare_end (leaf y)) (fixed_leaf a p y a_ranked can.top can.place (bare k.0) k.2) in
-            (within_dressed F r (fixed a p y) leaf_within T d can.root h, (k.0, k.1, c.1 ∙ ap (λ e. Some e) (end_is_leaf c.0 y c.2)))
+            let c = top_of_child p k.0 (bare_end (leaf y)) (fixed_leaf a p y a_ranked can.top can.place (bare k.0) k.2)
+            in (
+              within_dressed F r (fixed a p y) leaf_within T d can.root h,
+              (k.0, k.1, c.1 ∙ ap (λ e. Some e) (end_is_leaf c.0 y c.2)),
+            )
 
         back : OfForest T F d × HasChild d r p (leaf y) → OfForest T (split_leaf F r p y) d
         back (h, (n, e, c)) =
             let k = tree_at T F.autos r d can.root h in
-            let l : InLanguage a (bare n) = subst (λ (z : Node). InLanguage a (bare z)) (same_Some k.0 n (sym k.1 ∙ e)) k.2 in
+            let l : InLanguage a (bare n) =
+            subst (λ (z : Node). InLanguage a (bare z)) (same_Some k.0 n (sym k.1 ∙ e)) k.2 in
             trees_keep T F.autos r (fixed a p y) d n h e (to_leaf (bare n) l (child_of_top p n (leaf y) c))
 
     pub leaf_covers : Covers F (split_leaf F r p y)
@@ -82,11 +92,14 @@ module _ (F : Forest) (r p : ℕ) (ranked : Every IsRanked F.autos) (can : CanSp
     leaf_regroups T = within_regroups F r (fixed a p y) leaf_within T can.root
 
     pub leaf_plain : Every HasNoBoxes F.autos → Every HasNoBoxes (split_leaf F r p y).autos
-    leaf_plain plain = every_put HasNoBoxes F.autos r (fixed a p y) plain (fixed_plain a p y a_ranked can.top can.place (component_has HasNoBoxes F.autos r plain can.root))
+    leaf_plain plain = every_put HasNoBoxes F.autos r (fixed a p y) plain
+        (fixed_plain a p y a_ranked can.top can.place (component_has HasNoBoxes F.autos r plain can.root))
 
     pub leaf_sound : (face : Face) → Every HasNoBoxes F.autos → IsSound face F → IsSound face (split_leaf F r p y)
     leaf_sound face plain sound = within_sound F r (fixed a p y) leaf_within face
-        (fixed_symbols a p y a_ranked can.top can.place (SymbolFits face) (fitting_leaf face y) (component_has (RulesFit face) F.autos r sound.well_formed.filled.rules can.root))
-        (fixed_signed a p y a_ranked can.top can.place (component_has HasNoBoxes F.autos r plain can.root) face.boxes (component_has (HasSignatures face.boxes) F.autos r sound.well_formed.signatures can.root))
+        (fixed_symbols a p y a_ranked can.top can.place (SymbolFits face) (fitting_leaf face y)
+        (component_has (RulesFit face) F.autos r sound.well_formed.filled.rules can.root))
+        (fixed_signed a p y a_ranked can.top can.place (component_has HasNoBoxes F.autos r plain can.root) face.boxes
+        (component_has (HasSignatures face.boxes) F.autos r sound.well_formed.signatures can.root))
         (may.0, to_leaf may.0 may.1 may.2)
         sound

@@ -1,5 +1,6 @@
 -- The forest in which the child's cells are a new last root is sound.
-use Rattle.std.proofs.Common.{◌≡◌, ℕ, suc, ◌<◌, ◌+◌, length, List, [], ◌∷◌, refl, sym, ap, subst, ◌∙◌, slice_get, slice_set, Some, true, false, true≢false, length-set, length-append, arith}
+use Rattle.std.proofs.Common.{◌≡◌, ℕ, suc, ◌<◌, ◌+◌, length, List, [], ◌∷◌, refl, sym, ap, subst, ◌∙◌, slice_get}
+use Rattle.std.proofs.Common.{slice_set, Some, true, false, true≢false, length-set, length-append, arith}
 use Rattle.fore_base.specs.Lists.{IsIn, Every}
 use Rattle.fore_base.proofs.ListLemmas.{in_every, every_append, place_of}
 use Rattle.ta_core.specs.Auto.{Automaton, IsRanked}
@@ -24,13 +25,16 @@ use Rattle.fa_sound.specs.Components.{component_at}
 use Rattle.fa_sound.proofs.ComponentLemmas.{item_component}
 use Rattle.fa_merge.proofs.OtherOrders.{got}
 use Rattle.fa_merge.proofs.PlacedForests.{component_has, node_topped, topped_node, run_end, tree_is_node}
-use Rattle.fa_split.specs.Split.{CanSplit, MayBeCell, child_state, fixed, lifted, split_cells, end_at, top_parts, with_end}
+use Rattle.fa_split.specs.Split.{CanSplit, MayBeCell, child_state, fixed, lifted, split_cells, end_at, top_parts}
+use Rattle.fa_split.specs.Split.{with_end}
 use Rattle.fa_split.proofs.ChosenForests.{fresh_signed}
 use Rattle.fa_split.proofs.FixedSigned.{fixed_plain, fixed_signed}
 use Rattle.fa_split.proofs.FixedTrees.{to_fixed, fixed_leaf, fixed_with, fixed_ranked, fixed_symbols, child_with}
-use Rattle.fa_split.proofs.LiftedTrees.{lifted_of, to_lifted, lifted_back, lifted_stay, lifted_roots, lifted_ranked, lifted_symbols}
+use Rattle.fa_split.proofs.LiftedTrees.{lifted_of, to_lifted, lifted_back, lifted_stay, lifted_roots, lifted_ranked}
+use Rattle.fa_split.proofs.LiftedTrees.{lifted_symbols}
 use Rattle.fa_split.proofs.OtherComponent.{every_put}
-use Rattle.fa_split.proofs.Places.{top_of_child, end_is_leaf, with_end_symbol, with_end_children, with_end_at, with_end_twice, with_end_same}
+use Rattle.fa_split.proofs.Places.{top_of_child, end_is_leaf, with_end_symbol, with_end_children, with_end_at}
+use Rattle.fa_split.proofs.Places.{with_end_twice, with_end_same}
 use Rattle.fa_split.proofs.SplitCells.{RefersWell, refers_well, cells_regroup}
 use Rattle.fa_split.proofs.SplitLeaves.{with_child, with_child_symbol, with_child_children, may_run}
 use Rattle.fa_split.proofs.TakenOut.{below_top, below_with}
@@ -43,7 +47,8 @@ leaf_is_leaf Uninit = refl
 leaf_is_leaf Dangling = refl
 leaf_is_leaf (At k) = refl
 
-module _ (face : Face) (F : Forest) (r p : ℕ) (ranked : Every IsRanked F.autos) (plain : Every HasNoBoxes F.autos) (can : CanSplit F r p) (sound : IsSound face F) (may : MayBeCell F r p) where
+module _ (face : Face) (F : Forest) (r p : ℕ) (ranked : Every IsRanked F.autos) (plain : Every HasNoBoxes F.autos)
+    (can : CanSplit F r p) (sound : IsSound face F) (may : MayBeCell F r p) where
   abbrev a : Automaton
   a = component_at F.autos r
 
@@ -72,11 +77,13 @@ module _ (face : Face) (F : Forest) (r p : ℕ) (ranked : Every IsRanked F.autos
   well = refers_well face F sound
 
   same_size : length G.autos ≡ suc N
-  same_size = length-append (slice_set F.autos r top_fixed) (cells_of ∷ []) ∙ ap (λ (n : ℕ). n + 1) (length-set F.autos r top_fixed) ∙ omega arith
+  same_size = length-append (slice_set F.autos r top_fixed) (cells_of ∷ [])
+      ∙ ap (λ (n : ℕ). n + 1) (length-set F.autos r top_fixed) ∙ omega arith
 
   -- what each component of F, the fixed one and the lifted one have
   each_split : (P : Automaton → Type 0) → Every P F.autos → P top_fixed → P cells_of → Every P G.autos
-  each_split P h x y = every_append P (slice_set F.autos r top_fixed) (cells_of ∷ []) (every_put P F.autos r top_fixed h x) (y, tt)
+  each_split P h x y = every_append P (slice_set F.autos r top_fixed) (cells_of ∷ [])
+      (every_put P F.autos r top_fixed h x) (y, tt)
 
   -- Trees.
 
@@ -96,7 +103,9 @@ module _ (face : Face) (F : Forest) (r p : ℕ) (ranked : Every IsRanked F.autos
       let l : k.0 < N = got F.autos k.0 b k.1 in
       let v : InLanguage (component_at F.autos k.0) t = subst (λ (z : Automaton). InLanguage z t) e w in
       let n = node_tree k.0 l t v in
-      subst (λ (z : Tree). IsFormedTree (suc N) z) n.1 (formed_node (suc N) n.0 (low k.0 n.0 l (subst (λ (z : Tree). InLanguage (component_at F.autos k.0) z) (sym n.1) v))))
+      subst (λ (z : Tree). IsFormedTree (suc N) z) n.1
+      (formed_node (suc N) n.0
+      (low k.0 n.0 l (subst (λ (z : Tree). InLanguage (component_at F.autos k.0) z) (sym n.1) v))))
 
   -- a tree of the child's state that is no leaf
   cell_node : (t : Tree) → RunOf a.rules q t → is_leaf (out-Tree t).symbol ≡ false → (n : Node) × (bare n ≡ t)
@@ -104,7 +113,9 @@ module _ (face : Face) (F : Forest) (r p : ℕ) (ranked : Every IsRanked F.autos
     where
       here : (e : End) → bare_end e ≡ t → (n : Node) × (bare n ≡ t)
       here (under n) s = (n, s)
-      here (leaf y) s = absurd (true≢false (sym (leaf_is_leaf y) ∙ ap is_leaf (sym (leaf_top y) ∙ ap (λ (z : Tree). (out-Tree z).symbol) s) ∙ g))
+      here (leaf y) s = absurd
+          (true≢false (sym (leaf_is_leaf y) ∙ ap is_leaf (sym (leaf_top y) ∙ ap (λ (z : Tree). (out-Tree z).symbol) s)
+          ∙ g))
 
   -- one that may stand in the place
   some_cell : (m : Node) × RunOf a.rules q (bare m)
@@ -115,7 +126,8 @@ module _ (face : Face) (F : Forest) (r p : ℕ) (ranked : Every IsRanked F.autos
 
   fixed_formed : (t : Tree) → InLanguage top_fixed t → IsFormedTree (suc N) t
   fixed_formed t w =
-      let e = run_end top_fixed (fixed_ranked a p (At N) a_ranked can.top can.place) (fixed_plain a p (At N) a_ranked can.top can.place a_plain) w.0 t w.2 in
+      let e = run_end top_fixed (fixed_ranked a p (At N) a_ranked can.top can.place)
+      (fixed_plain a p (At N) a_ranked can.top can.place a_plain) w.0 t w.2 in
       here e.0 e.1
     where
       -- with a cell in the place, the tree is one of the old component
@@ -123,66 +135,97 @@ module _ (face : Face) (F : Forest) (r p : ℕ) (ranked : Every IsRanked F.autos
       topped =
           let m = some_cell in
           let u : Tree = with_child p (bare m.0) t in
-          let l : InLanguage a u = fixed_with a p (At N) a_ranked can.top can.place t u (bare m.0) w m.1 (with_child_symbol p (bare m.0) t) (with_child_children p (bare m.0) t) in
+          let l : InLanguage a u =
+          fixed_with a p (At N) a_ranked can.top can.place t u (bare m.0) w m.1
+          (with_child_symbol p (bare m.0) t) (with_child_children p (bare m.0) t) in
           let n = node_tree r can.root u l in
-          let k = node_topped n.0 in
-          (k.0, (k.1.0, k.1.1, sym (with_child_symbol p (bare m.0) t) ∙ ap (λ (z : Tree). (out-Tree z).symbol) (sym n.1) ∙ k.1.2))
+          let k = node_topped n.0 in (
+            k.0,
+            (
+              k.1.0,
+              k.1.1,
+              sym (with_child_symbol p (bare m.0) t) ∙ ap (λ (z : Tree). (out-Tree z).symbol) (sym n.1)
+                  ∙ k.1.2,
+            ),
+          )
 
       of_node : (n : Node) → InLanguage top_fixed (bare n) → IsFormedTree (suc N) (bare n)
       of_node n l =
           let m = some_cell in
-          let c = top_of_child p n (bare_end (leaf (At N))) (fixed_leaf a p (At N) a_ranked can.top can.place (bare n) l) in
-          let ends : end_at p (top_parts n) ≡ Some (leaf (At N)) = c.1 ∙ ap (λ (z : End). Some z) (end_is_leaf c.0 (At N) c.2) in
+          let c = top_of_child p n (bare_end (leaf (At N)))
+          (fixed_leaf a p (At N) a_ranked can.top can.place (bare n) l) in
+          let ends : end_at p (top_parts n) ≡ Some (leaf (At N)) =
+          c.1 ∙ ap (λ (z : End). Some z) (end_is_leaf c.0 (At N) c.2) in
           let u : Node = with_end p (under m.0) n in
-          let old : InLanguage a (bare u) = fixed_with a p (At N) a_ranked can.top can.place (bare n) (bare u) (bare m.0) l m.1 (with_end_symbol p (under m.0) n) (with_end_children p (under m.0) n) in
-          let again : with_end p (leaf (At N)) u ≡ n = with_end_twice p n (leaf (At N)) (under m.0) ∙ with_end_same p n (leaf (At N)) ends in
-          formed_node (suc N) n (subst (λ (z : Node). AllBelow (suc N) (refs z)) again (below_with (suc N) p u (leaf (At N)) (omega arith, tt) (low r u can.root old)))
+          let old : InLanguage a (bare u) =
+          fixed_with a p (At N) a_ranked can.top can.place (bare n) (bare u) (bare m.0) l m.1
+          (with_end_symbol p (under m.0) n) (with_end_children p (under m.0) n) in
+          let again : with_end p (leaf (At N)) u ≡ n = with_end_twice p n (leaf (At N)) (under m.0)
+          ∙ with_end_same p n (leaf (At N)) ends in
+          formed_node (suc N) n
+          (subst (λ (z : Node). AllBelow (suc N) (refs z)) again
+          (below_with (suc N) p u (leaf (At N)) (omega arith, tt) (low r u can.root old)))
 
       here : (e : End) → bare_end e ≡ t → IsFormedTree (suc N) t
       here e s =
           let k = topped_node e topped.0 (subst (λ (z : Tree). IsTopped topped.0 z) (sym s) topped.1) in
           let is : bare k.0 ≡ t = ap bare_end (sym k.1) ∙ s in
-          subst (λ (z : Tree). IsFormedTree (suc N) z) is (of_node k.0 (subst (λ (z : Tree). InLanguage top_fixed z) (sym is) w))
+          subst (λ (z : Tree). IsFormedTree (suc N) z) is
+          (of_node k.0 (subst (λ (z : Tree). InLanguage top_fixed z) (sym is) w))
 
   lifted_formed : (t : Tree) → InLanguage cells_of t → IsFormedTree (suc N) t
   lifted_formed t w =
       let k = lifted_of a q a_ranked t w in
       let m = cell_node t k.0 k.1 in
-      subst (λ (z : Tree). IsFormedTree (suc N) z) m.1 (formed_node (suc N) m.0 (low_child m.0 (subst (λ (z : Tree). RunOf a.rules q z) (sym m.1) k.0)))
+      subst (λ (z : Tree). IsFormedTree (suc N) z) m.1
+      (formed_node (suc N) m.0 (low_child m.0 (subst (λ (z : Tree). RunOf a.rules q z) (sym m.1) k.0)))
     where
       low_child : (m : Node) → RunOf a.rules q (bare m) → AllBelow (suc N) (refs m)
       low_child m w =
           let n = node_tree r can.root may.2.0 may.2.1 in
           let l : InLanguage a (bare n.0) = subst (λ (z : Tree). InLanguage a z) (sym n.1) may.2.1 in
-          let c = top_of_child p n.0 may.0 (subst (λ (z : Tree). slice_get (out-Tree z).children p ≡ Some may.0) (sym n.1) may.2.2) in
+          let c = top_of_child p n.0 may.0
+          (subst (λ (z : Tree). slice_get (out-Tree z).children p ≡ Some may.0) (sym n.1) may.2.2) in
           let u : Node = with_end p (under m) n.0 in
-          let old : InLanguage a (bare u) = child_with a p (At N) a_ranked can.top can.place (bare n.0) (bare u) (bare m) l w (with_end_symbol p (under m) n.0) (with_end_children p (under m) n.0) in
+          let old : InLanguage a (bare u) =
+          child_with a p (At N) a_ranked can.top can.place (bare n.0) (bare u) (bare m) l w
+          (with_end_symbol p (under m) n.0) (with_end_children p (under m) n.0) in
           below_top (suc N) p u (under m) (with_end_at p n.0 c.0 (under m) c.1) (low r u can.root old)
 
   -- Assembled.
 
   root_vars : (us : List Target) → ((k : ℕ) → IsIn (At k) us → k < N) → Every (IsRoot (suc N)) us
-  root_vars us h = in_every (IsRoot (suc N)) us (λ u i k e. (let l = h k (subst (λ (z : Target). IsIn z us) e i) in omega (arith, l)))
+  root_vars us h = in_every (IsRoot (suc N)) us
+      (λ u i k e. (let l = h k (subst (λ (z : Target). IsIn z us) e i) in omega (arith, l)))
 
   pub cells_plain : Every HasNoBoxes G.autos
-  cells_plain = each_split HasNoBoxes plain (fixed_plain a p (At N) a_ranked can.top can.place a_plain) (lifted_symbols a q a_ranked IsPlain a_plain)
+  cells_plain = each_split HasNoBoxes plain (fixed_plain a p (At N) a_ranked can.top can.place a_plain)
+      (lifted_symbols a q a_ranked IsPlain a_plain)
 
   formed : IsFormed face G
   formed = record {
-    ranked = each_split IsRanked ranked (fixed_ranked a p (At N) a_ranked can.top can.place) (lifted_ranked a q a_ranked);
+    ranked = each_split IsRanked ranked (fixed_ranked a p (At N) a_ranked can.top can.place)
+        (lifted_ranked a q a_ranked);
     data_vars = sound.well_formed.filled.data_vars;
     rules = (let fits = component_has (RulesFit face) F.autos r sound.well_formed.filled.rules can.root in
-        each_split (RulesFit face) sound.well_formed.filled.rules (fixed_symbols a p (At N) a_ranked can.top can.place (SymbolFits face) tt fits) (lifted_symbols a q a_ranked (SymbolFits face) fits));
+        each_split (RulesFit face) sound.well_formed.filled.rules
+        (fixed_symbols a p (At N) a_ranked can.top can.place (SymbolFits face) tt fits)
+        (lifted_symbols a q a_ranked (SymbolFits face) fits));
     choices = formed_by G
-        (rw same_size (each_split (λ b. (t : Tree) → InLanguage b t → IsFormedTree (suc N) t) old_formed fixed_formed lifted_formed))
+        (rw same_size
+        (each_split (λ b. (t : Tree) → InLanguage b t → IsFormedTree (suc N) t) old_formed fixed_formed
+        lifted_formed))
         (rw same_size (root_vars F.vars well.vars));
   }
 
   some_fixed : HasSome top_fixed
   some_fixed =
       let t = may.2.0 in
-      let y = bare_end (leaf (At N)) in
-      (with_child p y t, to_fixed a p (At N) a_ranked can.top can.place (with_child p y t) t (tree_by_top a can.top t may.2.1) (with_child_symbol p y t) (with_child_children p y t))
+      let y = bare_end (leaf (At N)) in (
+        with_child p y t,
+        to_fixed a p (At N) a_ranked can.top can.place (with_child p y t) t
+            (tree_by_top a can.top t may.2.1) (with_child_symbol p y t) (with_child_children p y t),
+      )
 
   some_lifted : HasSome cells_of
   some_lifted = (may.0, to_lifted a q a_ranked may.0 (may_run F r p ranked can (At 0) may.0 may.2) may.1)
@@ -191,10 +234,12 @@ module _ (face : Face) (F : Forest) (r p : ℕ) (ranked : Every IsRanked F.autos
   cells_sound = record {
     well_formed = record {
       filled = filled_kept face F G sound.well_formed.filled (λ T. cells_regroup F r p ranked can T well) formed;
-      signatures = (let signed = component_has (HasSignatures face.boxes) F.autos r sound.well_formed.signatures can.root in
+      signatures =
+          (let signed = component_has (HasSignatures face.boxes) F.autos r sound.well_formed.signatures can.root in
           each_split (HasSignatures face.boxes) sound.well_formed.signatures
           (fixed_signed a p (At N) a_ranked can.top can.place a_plain face.boxes signed)
-          (fresh_signed face.boxes a cells_of q (λ z u l w. lifted_stay a q a_ranked z u l w) (λ z u w l. (lifted_back a q a_ranked z u l w).0) (λ z i. lifted_roots a q a_ranked z i) signed));
+          (fresh_signed face.boxes a cells_of q (λ z u l w. lifted_stay a q a_ranked z u l w)
+          (λ z u w l. (lifted_back a q a_ranked z u l w).0) (λ z i. lifted_roots a q a_ranked z i) signed));
     };
     full = each_split HasSome sound.full some_fixed some_lifted;
   }

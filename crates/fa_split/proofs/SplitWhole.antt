@@ -20,7 +20,9 @@ use Rattle.fa_merge.specs.Dropped.{node_at}
 use Rattle.fa_sound.specs.Components.{component_at}
 use Rattle.fa_merge.proofs.PlacedForests.{component_has}
 use Rattle.fa_split.specs.Divided.{HasVarsOf}
-use Rattle.fa_split.specs.Split.{CanSplit, MayBeLeaf, MayBeCell, child_state, fixed, lifted, split_leaf, split_cells, IsWhere, AreSplit, end_at, set_node, with_last, top_parts, with_end, IsTakenOut, IsSplitOf}
+use Rattle.fa_split.specs.Split.{CanSplit, MayBeLeaf, MayBeCell, child_state, fixed, lifted, split_leaf, split_cells}
+use Rattle.fa_split.specs.Split.{IsWhere, AreSplit, end_at, set_node, with_last, top_parts, with_end, IsTakenOut}
+use Rattle.fa_split.specs.Split.{IsSplitOf}
 use Rattle.fa_split.proofs.FixedTrees.{fixed_one, has_child}
 use Rattle.fa_split.proofs.OtherComponent.{component_set, component_first, set_less, tree_at}
 use Rattle.fa_split.proofs.Places.{child_of_top, top_of_child}
@@ -36,10 +38,12 @@ module _ (F : Forest) (r p : ℕ) (ranked : Every IsRanked F.autos) (can : CanSp
   a_ranked = component_has IsRanked F.autos r ranked can.root
 
   -- what each forest of a leaf has, and that of the cells, each forest of the list has
-  each_split : (P : Forest → Type 0) → ((y : Target) → MayBeLeaf F r p y → P (split_leaf F r p y)) → (MayBeCell F r p → P (split_cells F r p)) → (Gs : List Forest) → AreSplit F r p Gs → Every P Gs
+  each_split : (P : Forest → Type 0) → ((y : Target) → MayBeLeaf F r p y → P (split_leaf F r p y))
+      → (MayBeCell F r p → P (split_cells F r p)) → (Gs : List Forest) → AreSplit F r p Gs → Every P Gs
   each_split P l c Gs (ys, those, (Hs, where_, is)) =
       subst (Every P) (sym is) (every_append P (map (split_leaf F r p) ys) Hs
-      (every_map (split_leaf F r p) P ys (in_every (λ y. P (split_leaf F r p y)) ys (λ y i. l y (every_in (MayBeLeaf F r p) ys y those.each i))))
+      (every_map (split_leaf F r p) P ys
+      (in_every (λ y. P (split_leaf F r p y)) ys (λ y i. l y (every_in (MayBeLeaf F r p) ys y those.each i))))
       (of_cells where_))
     where
       of_cells : IsWhere (MayBeCell F r p) (split_cells F r p) Hs → Every P Hs
@@ -47,10 +51,14 @@ module _ (F : Forest) (r p : ℕ) (ranked : Every IsRanked F.autos) (can : CanSp
       of_cells (inr (n, e)) = subst (Every P) (sym e) tt
 
   leaf_in : (Gs : List Forest) → AreSplit F r p Gs → (y : Target) → MayBeLeaf F r p y → IsIn (split_leaf F r p y) Gs
-  leaf_in Gs (ys, those, (Hs, where_, is)) y m = subst (λ (Ks : List Forest). IsIn (split_leaf F r p y) Ks) (sym is) (in_left (split_leaf F r p y) (map (split_leaf F r p) ys) Hs (in_map (split_leaf F r p) y ys (those.all y m)))
+  leaf_in Gs (ys, those, (Hs, where_, is)) y m =
+      subst (λ (Ks : List Forest). IsIn (split_leaf F r p y) Ks) (sym is)
+      (in_left (split_leaf F r p y) (map (split_leaf F r p) ys) Hs (in_map (split_leaf F r p) y ys (those.all y m)))
 
   cells_in : (Gs : List Forest) → AreSplit F r p Gs → MayBeCell F r p → IsIn (split_cells F r p) Gs
-  cells_in Gs (ys, those, (Hs, where_, is)) m = subst (λ (Ks : List Forest). IsIn (split_cells F r p) Ks) (sym is) (in_right (split_cells F r p) (map (split_leaf F r p) ys) Hs (here where_))
+  cells_in Gs (ys, those, (Hs, where_, is)) m =
+      subst (λ (Ks : List Forest). IsIn (split_cells F r p) Ks) (sym is)
+      (in_right (split_cells F r p) (map (split_leaf F r p) ys) Hs (here where_))
     where
       here : IsWhere (MayBeCell F r p) (split_cells F r p) Hs → IsIn (split_cells F r p) Hs
       here (inl (k, e)) = subst (λ (Ks : List Forest). IsIn (split_cells F r p) Ks) (sym e) (inl refl)
@@ -60,18 +68,31 @@ module _ (F : Forest) (r p : ℕ) (ranked : Every IsRanked F.autos) (can : CanSp
   all_vars = each_split (HasVarsOf F) (λ y m. (refl, refl)) (λ m. (refl, refl))
 
   pub all_dressed : (T : List BoxDef) (Gs : List Forest) → AreSplit F r p Gs → Every (IsSplitOf T F r p) Gs
-  all_dressed T = each_split (IsSplitOf T F r p) (λ y m. inl (y, m, refl, leaf_covers F r p ranked can y m, leaf_dressed F r p ranked can y m T)) (λ m. inr (m, refl, cells_dressed F r p ranked can T))
+  all_dressed T = each_split (IsSplitOf T F r p)
+      (λ y m. inl (y, m, refl, leaf_covers F r p ranked can y m, leaf_dressed F r p ranked can y m T))
+      (λ m. inr (m, refl, cells_dressed F r p ranked can T))
 
-  pub all_plain : (face : Face) → IsSound face F → Every HasNoBoxes F.autos → (Gs : List Forest) → AreSplit F r p Gs → Every (λ G. Every HasNoBoxes G.autos) Gs
-  all_plain face sound plain = each_split (λ G. Every HasNoBoxes G.autos) (λ y m. leaf_plain F r p ranked can y m plain) (λ m. cells_plain face F r p ranked plain can sound m)
+  pub all_plain : (face : Face) → IsSound face F → Every HasNoBoxes F.autos → (Gs : List Forest) → AreSplit F r p Gs
+      → Every (λ G. Every HasNoBoxes G.autos) Gs
+  all_plain face sound plain =
+      each_split (λ G. Every HasNoBoxes G.autos) (λ y m. leaf_plain F r p ranked can y m plain)
+      (λ m. cells_plain face F r p ranked plain can sound m)
 
   pub all_topped : (Gs : List Forest) → AreSplit F r p Gs → Every (λ G. HasOneTop (component_at G.autos r)) Gs
   all_topped = each_split (λ G. HasOneTop (component_at G.autos r))
-      (λ y m. subst HasOneTop (sym (component_set F.autos r (fixed a p y) can.root)) (fixed_one a p y a_ranked can.top can.place))
-      (λ m. subst HasOneTop (sym (component_first (slice_set F.autos r (fixed a p (At (length F.autos)))) (lifted a (child_state a p)) r (set_less F.autos r (fixed a p (At (length F.autos))) can.root) ∙ component_set F.autos r (fixed a p (At (length F.autos))) can.root)) (fixed_one a p (At (length F.autos)) a_ranked can.top can.place))
+      (λ y m. subst HasOneTop (sym (component_set F.autos r (fixed a p y) can.root))
+      (fixed_one a p y a_ranked can.top can.place))
+      (λ m.
+      subst HasOneTop
+      (sym
+      (component_first (slice_set F.autos r (fixed a p (At (length F.autos)))) (lifted a (child_state a p)) r
+      (set_less F.autos r (fixed a p (At (length F.autos))) can.root)
+      ∙ component_set F.autos r (fixed a p (At (length F.autos))) can.root))
+      (fixed_one a p (At (length F.autos)) a_ranked can.top can.place))
 
   pub all_regroup : RefersWell F → (T : List BoxDef) (Gs : List Forest) → AreSplit F r p Gs → Every (Regroups T F) Gs
-  all_regroup well T = each_split (Regroups T F) (λ y m. leaf_regroups F r p ranked can y m T) (λ m. cells_regroup F r p ranked can T well)
+  all_regroup well T = each_split (Regroups T F) (λ y m. leaf_regroups F r p ranked can y m T)
+      (λ m. cells_regroup F r p ranked can T well)
 
   pub all_whole : RefersWell F → (T : List BoxDef) (Gs : List Forest) → AreSplit F r p Gs → RegroupsInto T F Gs
   all_whole well T Gs k d h =
@@ -80,10 +101,22 @@ module _ (F : Forest) (r p : ℕ) (ranked : Every IsRanked F.autos) (can : CanSp
       let c = top_of_child p n.0 u.0 u.1 in
       here n.0 n.1 n.2 c.0 c.1
     where
-      here : (n : Node) → node_at d r ≡ Some n → InLanguage a (bare n) → (e : End) → end_at p (top_parts n) ≡ Some e → (G : Forest) × IsIn G Gs × ((e : Nodes) × Regrouping T G F d e)
+      here : (n : Node) → node_at d r ≡ Some n → InLanguage a (bare n) → (e : End) → end_at p (top_parts n) ≡ Some e
+          → (G : Forest) × IsIn G Gs × ((e : Nodes) × Regrouping T G F d e)
       here n at l (leaf y) is =
-          let may : MayBeLeaf F r p y = (bare n, l, child_of_top p n (leaf y) is) in
-          (split_leaf F r p y, leaf_in Gs k y may, (d, record { of = (leaf_dressed F r p ranked can y may T d).1 (h, (n, at, is)); same_cells = same (cells d); vars = refl; data_vars = refl }))
+          let may : MayBeLeaf F r p y = (bare n, l, child_of_top p n (leaf y) is) in (
+            split_leaf F r p y,
+            leaf_in Gs k y may,
+            (
+              d,
+              record {
+                of = (leaf_dressed F r p ranked can y may T d).1 (h, (n, at, is));
+                same_cells = same (cells d);
+                vars = refl;
+                data_vars = refl;
+              },
+            ),
+          )
       here n at l (under m) is =
           let may : MayBeCell F r p = (bare m, node_no_leaf m, (bare n, l, child_of_top p n (under m) is)) in
           let e : Nodes = with_last (set_node r (with_end p (leaf (At (count d))) n) d) m in

@@ -1,5 +1,7 @@
 -- Automata of which one rule stands at the top of each tree.
-use Rattle.std.proofs.Common.{◌≡◌, ◌≢◌, inl, inr, ℕ, zero, suc, ◌<◌, ◌||◌, Bool, true, false, true≢false, nat_eq, if◌then◌else◌, length, List, [], ◌∷◌, ◌++◌, refl, sym, ap, subst, ◌∙◌, slice_get, Some, arith}
+use Rattle.std.proofs.Common.{◌≡◌, ◌≢◌, inl, inr, ℕ, zero, suc, ◌<◌, ◌||◌, Bool, true, false, true≢false, nat_eq}
+use Rattle.std.proofs.Common.{if◌then◌else◌, length, List, [], ◌∷◌, ◌++◌, refl, sym, ap, subst, ◌∙◌, slice_get, Some}
+use Rattle.std.proofs.Common.{arith}
 use Rattle.std.proofs.lemmas.Bool.{eqb-true, eq-eqb}
 use Rattle.std.proofs.lemmas.Option.{none-some, same_Some}
 use Rattle.fore_base.specs.Lists.{IsIn, Every}
@@ -14,13 +16,15 @@ use Rattle.fa_split.specs.Chosen.{IsBy}
 use Rattle.fa_split.specs.Split.{first_of, top_rule}
 
 -- the first rule at one of the states, where each such rule stands at one place
-first_is : (qs : List ℕ) (xs : List Rule) (i : ℕ) (x : Rule) → slice_get xs i ≡ Some x → has x.state qs ≡ true → ((j : ℕ) (y : Rule) → slice_get xs j ≡ Some y → has y.state qs ≡ true → j ≡ i) → first_of qs xs ≡ x
+first_is : (qs : List ℕ) (xs : List Rule) (i : ℕ) (x : Rule) → slice_get xs i ≡ Some x → has x.state qs ≡ true
+    → ((j : ℕ) (y : Rule) → slice_get xs j ≡ Some y → has y.state qs ≡ true → j ≡ i) → first_of qs xs ≡ x
 first_is qs [] i x e h only = absurd (none-some x e)
 first_is qs (y ∷ xs) zero x e h only =
     let same : y ≡ x = same_Some y x e in
     let t : has y.state qs ≡ true = subst (λ (z : Rule). has z.state qs ≡ true) (sym same) h in
     rw t same
-first_is qs (y ∷ xs) (suc i) x e h only = here (has y.state qs) refl (first_is qs xs i x e h (λ j z g t. let w = only (suc j) z g t in omega (arith, w)))
+first_is qs (y ∷ xs) (suc i) x e h only =
+    here (has y.state qs) refl (first_is qs xs i x e h (λ j z g t. let w = only (suc j) z g t in omega (arith, w)))
   where
     here : (b : Bool) → has y.state qs ≡ b → first_of qs xs ≡ x → (if b then y else first_of qs xs) ≡ x
     here true t later = absurd (let w = only 0 y refl t in omega (arith, w))
@@ -40,7 +44,8 @@ module _ (a : Automaton) (h : HasOneTop a) where
   -- it is the one that the automaton has
   pub top_is : top_rule a ≡ h.rule
   top_is = subst (λ (qs : List ℕ). first_of qs a.rules ≡ h.rule) (sym h.alone)
-      (first_is (h.root ∷ []) a.rules h.place h.rule h.there (has_one h.rule.state h.root h.top) (λ j y e t. h.only j y e (one_has y.state h.root t)))
+      (first_is (h.root ∷ []) a.rules h.place h.rule h.there (has_one h.rule.state h.root h.top)
+      (λ j y e t. h.only j y e (one_has y.state h.root t)))
 
   pub top_in : IsIn (top_rule a) a.rules
   top_in = subst (λ (x : Rule). IsIn x a.rules) (sym top_is) (in_from_place a.rules h.place h.rule h.there)
@@ -73,7 +78,9 @@ module _ (a : Automaton) (h : HasOneTop a) where
   top_by_tree t k = ((top_rule a).state, top_root, run (top_rule a) top_in refl k.0 k.1)
 
 -- a rule at a root state of its own, behind rules at lower states and before rules at others
-pub fresh_top_one : (n m : ℕ) (xs : List Rule) (x : Rule) (ys : List Rule) → x.state ≡ n → Every (λ (o : Rule). o.state < n) xs → Every (λ (o : Rule). o.state ≢ n) ys → HasOneTop (automaton m (n ∷ []) (xs ++ x ∷ ys))
+pub fresh_top_one : (n m : ℕ) (xs : List Rule) (x : Rule) (ys : List Rule) → x.state ≡ n
+    → Every (λ (o : Rule). o.state < n) xs → Every (λ (o : Rule). o.state ≢ n) ys
+    → HasOneTop (automaton m (n ∷ []) (xs ++ x ∷ ys))
 fresh_top_one n m xs x ys s low other = record {
   root = n;
   alone = refl;
@@ -88,13 +95,17 @@ fresh_top_one n m xs x ys s low other = record {
     there [] = refl
     there (o ∷ xs) = there xs
 
-    none : (ys : List Rule) → Every (λ (o : Rule). o.state ≢ n) ys → (i : ℕ) (r : Rule) → slice_get ys i ≡ Some r → r.state ≡ n → ⊥
+    none : (ys : List Rule) → Every (λ (o : Rule). o.state ≢ n) ys → (i : ℕ) (r : Rule) → slice_get ys i ≡ Some r
+        → r.state ≡ n → ⊥
     none [] w i r e t = none-some r e
     none (y ∷ ys) w zero r e t = w.0 (ap (λ (o : Rule). o.state) (same_Some y r e) ∙ t)
     none (y ∷ ys) w (suc i) r e t = none ys w.1 i r e t
 
-    only : (xs : List Rule) → Every (λ (o : Rule). o.state < n) xs → (i : ℕ) (r : Rule) → slice_get (xs ++ x ∷ ys) i ≡ Some r → r.state ≡ n → i ≡ length xs
+    only : (xs : List Rule) → Every (λ (o : Rule). o.state < n) xs → (i : ℕ) (r : Rule) → slice_get (xs ++ x ∷ ys) i
+        ≡ Some r → r.state ≡ n → i ≡ length xs
     only [] l zero r e t = refl
     only [] l (suc i) r e t = absurd (none ys other i r e t)
-    only (o ∷ xs) l zero r e t = (let w : o.state ≡ n = ap (λ (z : Rule). z.state) (same_Some o r e) ∙ t in let b = l.0 in absurd (omega (arith, w, b)))
+    only (o ∷ xs) l zero r e t =
+        (let w : o.state ≡ n = ap (λ (z : Rule). z.state) (same_Some o r e) ∙ t in let b = l.0 in
+        absurd (omega (arith, w, b)))
     only (o ∷ xs) l (suc i) r e t = ap (λ k. suc k) (only xs l.1 i r e t)

@@ -40,9 +40,11 @@ chosen a x = record {
 abbrev pub chosen_at : Forest → ℕ → Rule → Forest
 chosen_at F r x = with_component F r (chosen (component_at F.autos r) x)
 
--- one forest for each rule of root r that stands at the top of some tree, in the order of the rules, each with that rule alone at the root
+-- one forest for each rule of root r that stands at the top of some tree, in the order of the rules, each with that
+-- rule alone at the root
 abbrev pub AreChosen : Forest → ℕ → List Forest → Type 0
-AreChosen F r Gs = (xs : List Rule) × Picked (StandsAtTop (component_at F.autos r)) (component_at F.autos r).rules xs × (Gs ≡ map (chosen_at F r) xs)
+AreChosen F r Gs = (xs : List Rule) × Picked (StandsAtTop (component_at F.autos r)) (component_at F.autos r).rules xs
+    × (Gs ≡ map (chosen_at F r) xs)
 
 -- the r-th tree has a run in a that ends with the rule
 abbrev pub IsTreeBy : Automaton → Rule → ℕ → Nodes → Type 0
@@ -54,4 +56,5 @@ IsChosenBy T F r x G = (d : Nodes) → OfForest T G d ↔ (OfForest T F d × IsT
 
 -- G is one of the forests of which each has one rule at root r, and so are its dressed forests; F covers it
 abbrev pub IsChosenOf : List BoxDef → Forest → ℕ → Forest → Type 0
-IsChosenOf T F r G = (x : Rule) × IsIn x (component_at F.autos r).rules × StandsAtTop (component_at F.autos r) x × (G ≡ chosen_at F r x) × Covers F G × IsChosenBy T F r x G
+IsChosenOf T F r G = (x : Rule) × IsIn x (component_at F.autos r).rules × StandsAtTop (component_at F.autos r) x
+    × (G ≡ chosen_at F r x) × Covers F G × IsChosenBy T F r x G

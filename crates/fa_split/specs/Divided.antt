@@ -6,7 +6,8 @@ use Rattle.fa_core.specs.declared.forest.Forest.{Forest}
 pub use Rattle.fa_sound.specs.Unions.{forests, IsUnionOf}
 use Rattle.fa_core.specs.Member.{Regroups, RegroupsInto}
 
--- whatever the box table is, each forest of the list regroups F, and each dressed forest of F can be regrouped into one of some forest of the list
+-- whatever the box table is, each forest of the list regroups F, and each dressed forest of F can be regrouped into one
+-- of some forest of the list
 pub record IsDivided (F : Forest) (Gs : List Forest) : Type 0 where
   pub regroups : (T : List BoxDef) → Every (Regroups T F) Gs
   pub whole : (T : List BoxDef) → RegroupsInto T F Gs

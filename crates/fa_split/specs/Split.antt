@@ -1,5 +1,7 @@
--- A forest in which the child at a place below the top of a root is one leaf, or, where it is a cell, a root of its own.
-use Rattle.std.specs.Prelude.{◌≡◌, ◌↔◌, ◌<◌, ◌⊎◌, ℕ, zero, suc, ◌+◌, ◌&&◌, false, nat_eq, if◌then◌else◌, not, List, [], ◌∷◌, ◌++◌, map, length, Option, Some, None, slice_get, slice_set, slice_index_or}
+-- A forest in which the child at a place below the top of a root is one leaf, or, where it is a cell, a root of its
+-- own.
+use Rattle.std.specs.Prelude.{◌≡◌, ◌↔◌, ◌<◌, ◌⊎◌, ℕ, zero, suc, ◌+◌, ◌&&◌, false, nat_eq, if◌then◌else◌, not, List, []}
+use Rattle.std.specs.Prelude.{◌∷◌, ◌++◌, map, length, Option, Some, None, slice_get, slice_set, slice_index_or}
 use Rattle.fore_base.specs.Lists.{IsIn, Every, IsDistinct}
 use Rattle.ta_core.specs.Auto.{Automaton}
 use Rattle.ta_core.specs.Language.{InLanguage}
@@ -14,7 +16,8 @@ use Rattle.fa_core.specs.declared.forest.Target.TheVariants.{At}
 use Rattle.fa_core.specs.Cells.{is_leaf}
 use Rattle.fa_core.specs.Choices.{count}
 use Rattle.fa_core.specs.Covering.{Covers}
-use Rattle.fa_core.specs.Dressed.{Node, Parts, End, Nodes, node, no_parts, field, link, hook, under, leaf, no_nodes, more}
+use Rattle.fa_core.specs.Dressed.{Node, Parts, End, Nodes, node, no_parts, field, link, hook, under, leaf, no_nodes}
+use Rattle.fa_core.specs.Dressed.{more}
 use Rattle.fa_core.specs.Member.{OfForest, bare_end, leaf_symbol}
 use Rattle.fa_core.specs.Ways.{has}
 use Rattle.fa_merge.specs.Dropped.{node_at}
@@ -59,7 +62,12 @@ child_state a p = slice_index_or (top_rule a).children p 0
 
 -- the rule at the top with a new root state, and a new state for the child at place p
 abbrev pub fresh_top : Automaton → ℕ → Rule
-fresh_top a p = record { state = a.states; symbol = (top_rule a).symbol; children = slice_set (top_rule a).children p (a.states + 1) }
+fresh_top a p =
+    record {
+      state = a.states;
+      symbol = (top_rule a).symbol;
+      children = slice_set (top_rule a).children p (a.states + 1);
+    }
 
 -- the new state of the child has the leaf y alone
 abbrev pub fresh_leaf : Automaton → Target → Rule
@@ -67,12 +75,14 @@ fresh_leaf a y = record { state = a.states + 1; symbol = leaf_symbol y; children
 
 -- the automaton with the leaf y alone at place p below its one rule at the top
 abbrev pub fixed : Automaton → ℕ → Target → Automaton
-fixed a p y = record { states = a.states + 2; roots = a.states ∷ []; rules = a.rules ++ fresh_top a p ∷ fresh_leaf a y ∷ [] }
+fixed a p y =
+    record { states = a.states + 2; roots = a.states ∷ []; rules = a.rules ++ fresh_top a p ∷ fresh_leaf a y ∷ [] }
 
 -- the rules of cells at state q, at state z
 abbrev pub cell_rules : ℕ → ℕ → List Rule → List Rule
 cell_rules z q [] = []
-cell_rules z q (x ∷ xs) = if nat_eq x.state q && not (is_leaf x.symbol) then record x { state = z } ∷ cell_rules z q xs else cell_rules z q xs
+cell_rules z q (x ∷ xs) = if nat_eq x.state q && not (is_leaf x.symbol) then record x { state = z } ∷ cell_rules z q xs
+    else cell_rules z q xs
 
 -- the automaton of the trees of state q that are cells, with a new root state
 abbrev pub lifted : Automaton → ℕ → Automaton
@@ -85,7 +95,8 @@ split_leaf F r p y = with_component F r (fixed (component_at F.autos r) p y)
 -- the forest in which the child's cells are a new last root, to which the one leaf in the child's place refers
 abbrev pub split_cells : Forest → ℕ → ℕ → Forest
 split_cells F r p = record F {
-  autos = slice_set F.autos r (fixed (component_at F.autos r) p (At (length F.autos))) ++ lifted (component_at F.autos r) (child_state (component_at F.autos r) p) ∷ [];
+  autos = slice_set F.autos r (fixed (component_at F.autos r) p (At (length F.autos)))
+      ++ lifted (component_at F.autos r) (child_state (component_at F.autos r) p) ∷ [];
 }
 
 -- the list has those that meet P, each once
@@ -98,9 +109,11 @@ pub record AreThose {X : Type 0} (P : X → Type 0) (xs : List X) : Type 0 where
 abbrev pub IsWhere : Type 0 → Forest → List Forest → Type 0
 IsWhere P G Gs = (P × (Gs ≡ G ∷ [])) ⊎ ((P → ⊥) × (Gs ≡ []))
 
--- one forest for each leaf that the child may be, each once, and behind them, where the child may be a cell, the one in which its cells are a new last root
+-- one forest for each leaf that the child may be, each once, and behind them, where the child may be a cell, the one in
+-- which its cells are a new last root
 abbrev pub AreSplit : Forest → ℕ → ℕ → List Forest → Type 0
-AreSplit F r p Gs = (ys : List Target) × AreThose (MayBeLeaf F r p) ys × ((Hs : List Forest) × IsWhere (MayBeCell F r p) (split_cells F r p) Hs × (Gs ≡ map (split_leaf F r p) ys ++ Hs))
+AreSplit F r p Gs = (ys : List Target) × AreThose (MayBeLeaf F r p) ys
+    × ((Hs : List Forest) × IsWhere (MayBeCell F r p) (split_cells F r p) Hs × (Gs ≡ map (split_leaf F r p) ys ++ Hs))
 
 -- Dressed forests.
 
@@ -145,7 +158,8 @@ with_end p x (node c s ds ps) = node c s ds (set_end p x ps)
 abbrev pub HasChild : Nodes → ℕ → ℕ → End → Type 0
 HasChild d r p x = (n : Node) × (node_at d r ≡ Some n) × (end_at p (top_parts n) ≡ Some x)
 
--- d with the cell m, which is the child at place p of the r-th tree, as a last tree of its own, and a reference to it in its place
+-- d with the cell m, which is the child at place p of the r-th tree, as a last tree of its own, and a reference to it
+-- in its place
 pub record IsTakenOut (r p : ℕ) (d e : Nodes) : Type 0 where
   pub above : Node
   pub child : Node
@@ -164,4 +178,6 @@ pub record IsSplitCells (T : List BoxDef) (F : Forest) (r p : ℕ) (G : Forest) 
 
 -- G is one of the forests into which F is split, and so are its dressed forests; where the child is a leaf, F covers it
 abbrev pub IsSplitOf : List BoxDef → Forest → ℕ → ℕ → Forest → Type 0
-IsSplitOf T F r p G = ((y : Target) × MayBeLeaf F r p y × (G ≡ split_leaf F r p y) × Covers F G × IsSplitLeaf T F r p y G) ⊎ (MayBeCell F r p × (G ≡ split_cells F r p) × IsSplitCells T F r p G)
+IsSplitOf T F r p G =
+    ((y : Target) × MayBeLeaf F r p y × (G ≡ split_leaf F r p y) × Covers F G × IsSplitLeaf T F r p y G)
+    ⊎ (MayBeCell F r p × (G ≡ split_cells F r p) × IsSplitCells T F r p G)

@@ -22,7 +22,9 @@ use std::alloc::Global;
 use ta_core::auto::{Auto, Rule};
 use ta_core::inhabited::inhabited;
 
-/// One forest for each rule of the root that stands at the top of some tree, in the order of the rules, each with that rule alone at the root. The root state is a new one each time, since the old one may stand inside the trees. Err is want of memory.
+/// One forest for each rule of the root that stands at the top of some tree, in the order of the rules, each with that
+/// rule alone at the root. The root state is a new one each time, since the old one may stand inside the trees. Err is
+/// want of memory.
 pub fn choose_rule(alloc: Global, forest: &Sound, root: u32) -> Mem<List<Sound>>
     requires plain { Every HasNoBoxes forest.now.forest.autos }
     requires root { root < length forest.now.forest.autos }
@@ -31,7 +33,8 @@ pub fn choose_rule(alloc: Global, forest: &Sound, root: u32) -> Mem<List<Sound>>
     ensures vars { IfOk result (λ made. Every (HasVarsOf forest.now.forest) (forests made)) }
     ensures plain { IfOk result (λ made. Every (λ G. Every HasNoBoxes G.autos) (forests made)) }
     ensures tops { IfOk result (λ made. Every (λ G. HasOneTop (component_at G.autos root)) (forests made)) }
-    ensures dressed { IfOk result (λ made. (T : List BoxDef) → Every (IsChosenOf T forest.now.forest root) (forests made)) }
+    ensures dressed { IfOk result (λ made. (T : List BoxDef)
+        → Every (IsChosenOf T forest.now.forest root) (forests made)) }
     ensures regroups { IfOk result (λ made. (T : List BoxDef) → Every (Regroups T forest.now.forest) (forests made)) }
     ensures whole { IfOk result (λ made. (T : List BoxDef) → RegroupsInto T forest.now.forest (forests made)) }
     ensures members { IfOk result (λ made. IsUnionOf forest.now.forest (forests made)) }

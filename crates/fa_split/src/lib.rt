@@ -1,5 +1,5 @@
-// Splitting of forests: one rule chosen at a root, and a child of a root's one rule fixed as a leaf or made a root of its
-// own. Each call gives forests that have the members of the first together. What each of them is, is said exactly.
+// Splitting of forests: one rule chosen at a root, and a child of a root's one rule fixed as a leaf or made a root of
+// its own. Each call gives forests that have the members of the first together. What each of them is, is said exactly.
 #![tactic(auto)]
 
 pub mod choosing;

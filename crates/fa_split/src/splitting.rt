@@ -10,7 +10,8 @@ ghost use Rattle.fa_core.specs.declared.boxes.BoxDef.{BoxDef};
 ghost use Rattle.fa_sound.specs.Components.{component_at};
 ghost use Rattle.fa_split.specs.Divided.{HasVarsOf};
 ghost use Rattle.fa_sound.specs.Unions.{forests, IsUnionOf};
-ghost use Rattle.fa_split.specs.Split.{AreSplit, AreThose, CanSplit, IsSplitOf, IsWhere, MayBeCell, MayBeLeaf, split_cells, split_leaf};
+ghost use Rattle.fa_split.specs.Split.{AreSplit, AreThose, CanSplit, IsSplitOf, IsWhere, MayBeCell, MayBeLeaf};
+ghost use Rattle.fa_split.specs.Split.{split_cells, split_leaf};
 
 use crate::ending::{has_cell_at, leaves_at};
 use crate::topping::{
@@ -35,7 +36,9 @@ pub fn can_split(forest: &Sound, root: u32, place: usize) -> bool
     has_one_top(auto) && place < count_children(auto)
 }
 
-/// One forest for each leaf that the child at the place may be, in which it is that leaf, and behind them, where the child may be a cell, one in which the child's cells are a new last root. The root has one rule, and that has a child at the place. Err is want of memory.
+/// One forest for each leaf that the child at the place may be, in which it is that leaf, and behind them, where the
+/// child may be a cell, one in which the child's cells are a new last root. The root has one rule, and that has a child
+/// at the place. Err is want of memory.
 pub fn split_child(alloc: Global, forest: &Sound, root: u32, place: usize) -> Mem<List<Sound>>
     requires plain { Every HasNoBoxes forest.now.forest.autos }
     requires can { CanSplit forest.now.forest root place }
@@ -44,7 +47,8 @@ pub fn split_child(alloc: Global, forest: &Sound, root: u32, place: usize) -> Me
     ensures vars { IfOk result (λ made. Every (HasVarsOf forest.now.forest) (forests made)) }
     ensures plain { IfOk result (λ made. Every (λ G. Every HasNoBoxes G.autos) (forests made)) }
     ensures tops { IfOk result (λ made. Every (λ G. HasOneTop (component_at G.autos root)) (forests made)) }
-    ensures dressed { IfOk result (λ made. (T : List BoxDef) → Every (IsSplitOf T forest.now.forest root place) (forests made)) }
+    ensures dressed { IfOk result (λ made. (T : List BoxDef)
+        → Every (IsSplitOf T forest.now.forest root place) (forests made)) }
     ensures regroups { IfOk result (λ made. (T : List BoxDef) → Every (Regroups T forest.now.forest) (forests made)) }
     ensures whole { IfOk result (λ made. (T : List BoxDef) → RegroupsInto T forest.now.forest (forests made)) }
     ensures members { IfOk result (λ made. IsUnionOf forest.now.forest (forests made)) }
@@ -129,11 +133,14 @@ pub fn fix_at(alloc: Global, forest: &Forest, root: u32, place: usize, leaf: Tar
     replace(alloc, forest, root, auto)
 }
 
-/// The forest in which the child's cells are a new last root, where it may be a cell, and no other. Err is want of memory.
+/// The forest in which the child's cells are a new last root, where it may be a cell, and no other. Err is want of
+/// memory.
 fn with_cells(alloc: Global, forest: &Sound, root: u32, place: usize) -> Mem<List<Sound>>
     requires plain { Every HasNoBoxes forest.now.forest.autos }
     requires can { CanSplit forest.now.forest root place }
-    ensures value { IfOk result (λ made. IsWhere (MayBeCell forest.now.forest root place) (split_cells forest.now.forest root place) (forests made)) }
+    ensures value { IfOk result
+        (λ made. IsWhere (MayBeCell forest.now.forest root place) (split_cells forest.now.forest root place)
+        (forests made)) }
     ensures face { IfOk result (λ made. Every (λ s. s.face ≡ forest.now.face) made) }
 {
     let mut made = List::new(alloc);

@@ -8,7 +8,8 @@ ghost use Rattle.fa_core.specs.Cells.{is_leaf};
 ghost use Rattle.fa_core.specs.Member.{leaf_symbol};
 ghost use Rattle.fa_core.specs.Ways.{has};
 ghost use Rattle.fa_split.specs.Chosen.{chosen};
-ghost use Rattle.fa_split.specs.Split.{cell_rules, child_state, first_of, fixed, fresh_leaf, fresh_top, lifted, top_rule};
+ghost use Rattle.fa_split.specs.Split.{cell_rules, child_state, first_of, fixed, fresh_leaf, fresh_top, lifted};
+ghost use Rattle.fa_split.specs.Split.{top_rule};
 ghost use Rattle.fa_split.specs.inner.Counted.{rules_at};
 
 use fa_core::forest::Target;
@@ -64,7 +65,12 @@ fn one_root(alloc: Global, root: u32) -> Mem<List<u32>>
 }
 
 fn rule_at(alloc: Global, rule: &Rule, state: u32) -> Mem<Rule>
-    ensures { IfOk result (λ made. made ≡ record { state = state; symbol = rule.now.symbol; children = rule.now.children }) }
+    ensures { IfOk result (λ made. made
+        ≡ record {
+          state = state;
+          symbol = rule.now.symbol;
+          children = rule.now.children;
+        }) }
 {
     Ok(Rule {
         state,
@@ -116,7 +122,8 @@ pub fn has_one_top(auto: &Auto) -> bool
 
 /// The first rule of one of the states.
 fn first_rule<'a>(rules: &'a [Rule], states: &[u32]) -> Option<&'a Rule>
-    ensures { MatchOption result ((x : Rule) → IsIn x rules.now → has x.state states.now ≡ false) (λ rule. rule.now ≡ first_of states.now rules.now) }
+    ensures { MatchOption result ((x : Rule) → IsIn x rules.now → has x.state states.now ≡ false)
+        (λ rule. rule.now ≡ first_of states.now rules.now) }
 {
     for rule in rules {
         if is_one_of(rule.state, states) {

@@ -42,9 +42,11 @@ module _ (bs : List BoxFace) where
 
   pub two_apart : (Gs : List Forest) → NoneJoinable bs Gs → EachTwo (λ F G. Joinable bs F G → ⊥) Gs
   two_apart [] none = tt
-  two_apart (F ∷ Gs) none =
-      (first_apart F Gs none, two_apart Gs
-      (λ i j A B a b differ. none (suc i) (suc j) A B a b (λ e. differ (omega (arith, e)))))
+  two_apart (F ∷ Gs) none = (
+    first_apart F Gs none,
+    two_apart Gs
+        (λ i j A B a b differ. none (suc i) (suc j) A B a b (λ e. differ (omega (arith, e)))),
+  )
 
 -- a case that is folded and abstracted
 
@@ -55,13 +57,16 @@ no_def (x ∷ xs) b d none is = cc
 -- a forest has its own trees
 same_trees : (F : Forest) → SameLanguages F F
 same_trees F =
-    record { vars = refl; data_vars = refl;
-    languages = paired_same HasSameLanguage (λ a t. ((λ h. h), (λ h. h))) F.autos }
+    record {
+      vars = refl;
+      data_vars = refl;
+      languages = paired_same HasSameLanguage (λ a t. ((λ h. h), (λ h. h))) F.autos;
+    }
 
 pub settling : (T : Boxes) (g : ControlGraph) (k : ℕ) (M made : SoundForest) → T.defs ≡ [] → IsNormal T g M
     → IsSound M.face M.forest → IsSound made.face made.forest → made.face ≡ M.face
     → IsAbstraction M.face.boxes M.forest k made.forest → IsCanonical made.face made.forest → Reduced made.forest
-        → ((s : Store) → IsMember T M.forest s → IsMember T made.forest s)
+    → ((s : Store) → IsMember T M.forest s → IsMember T made.forest s)
     → IsSettling T g k M (record { face = made.face; forest = made.forest; middle = Some M.forest; folds = [] })
 settling T g k M made none normal sound made_sound face abs canonical reduced kept =
     let same : made.face ≡ T.face = face ∙ normal.face in
@@ -84,8 +89,10 @@ settling T g k M made none normal sound made_sound face abs canonical reduced ke
       canonical = subst (λ z. IsCanonical z made.forest) same canonical;
       reduced = reduced;
       vars =
-          record { vars = ap length (abs.vars ∙ abs.quotient.vars) ∙ normal.vars.vars;
-          data_vars = ap length (abs.data_vars ∙ abs.quotient.data_vars) ∙ normal.vars.data_vars };
+          record {
+            vars = ap length (abs.vars ∙ abs.quotient.vars) ∙ normal.vars.vars;
+            data_vars = ap length (abs.data_vars ∙ abs.quotient.data_vars) ∙ normal.vars.data_vars;
+          };
       kept = kept;
     }
 
@@ -111,10 +118,20 @@ module _ (T : Boxes) (g : ControlGraph) (k : ℕ) (F : Forest) (e : Edge) where
   settled_each (M ∷ Ms) [] head cs ps = absurd ps
   settled_each (M ∷ Ms) (a ∷ as') head cs ps =
       let st : IsStateAt T true k F e a =
-              record { middle = M.forest; grouped = ps.0.grouped; case_of = case_is M ps.0.case_sound cs.0;
-              settles = ps.0.settles } in (
-        record { face = ps.0.face; state = subst (λ z. IsStateAt T z k F e a) (sym head) st; sound = ps.0.sound;
-            canonical = ps.0.canonical; reduced = ps.0.reduced; vars = ps.0.vars },
+      record {
+        middle = M.forest;
+        grouped = ps.0.grouped;
+        case_of = case_is M ps.0.case_sound cs.0;
+        settles = ps.0.settles;
+      } in (
+        record {
+          face = ps.0.face;
+          state = subst (λ z. IsStateAt T z k F e a) (sym head) st;
+          sound = ps.0.sound;
+          canonical = ps.0.canonical;
+          reduced = ps.0.reduced;
+          vars = ps.0.vars;
+        },
         settled_each Ms as' head cs.1 ps.1,
       )
 
@@ -131,9 +148,10 @@ module _ (T : Boxes) (g : ControlGraph) (k : ℕ) (F : Forest) (e : Edge) where
   settled_apart [] [] head two quiet ps = tt
   settled_apart [] (a ∷ as') head two quiet ps = absurd ps
   settled_apart (M ∷ Ms) [] head two quiet ps = absurd ps
-  settled_apart (M ∷ Ms) (a ∷ as') head two quiet ps =
-      (each Ms as' two.0 (λ q. omega (arith, quiet q)) ps.1,
-          settled_apart Ms as' head two.1 (λ q. omega (arith, quiet q)) ps.1)
+  settled_apart (M ∷ Ms) (a ∷ as') head two quiet ps = (
+    each Ms as' two.0 (λ q. omega (arith, quiet q)) ps.1,
+    settled_apart Ms as' head two.1 (λ q. omega (arith, quiet q)) ps.1,
+  )
     where
       each : (Ns : List SoundForest) (bs : List AbstractState)
           → Every (λ B. Joinable T.face.boxes M.forest B → ⊥) (forests Ns) → (is_quiet e.instr ≡ true → length Ns ≤ 0)
@@ -178,10 +196,16 @@ module _ (T : Boxes) (g : ControlGraph) (k : ℕ) (F : Forest) (e : Edge) where
       let n = cs.0.normal in
       let sound : IsSound T.face M.forest = subst (λ z. IsSound z M.forest) n.face ps.0.sound in
       let st : IsStateAt T false k F e (carried M) =
-              record { no_middle = refl; no_folds = refl; case_of = case_is M sound cs.0 } in
+      record { no_middle = refl; no_folds = refl; case_of = case_is M sound cs.0 } in
       let one : Arrives T g (is_head g e.to) k F e (carried M) =
-      record { face = n.face; state = subst (λ z. IsStateAt T z k F e (carried M)) (sym head) st; sound = sound;
-          canonical = n.canonical; reduced = n.reduced; vars = n.vars } in
+      record {
+        face = n.face;
+        state = subst (λ z. IsStateAt T z k F e (carried M)) (sym head) st;
+        sound = sound;
+        canonical = n.canonical;
+        reduced = n.reduced;
+        vars = n.vars;
+      } in
       (subst (Arrives T g (is_head g e.to) k F e) (sym ps.0.is) one, carried_each Ms as' head cs.1 ps.1)
 
   none_some : (o : Option Forest) (P : Forest) → o ≡ None → o ≡ Some P → ⊥
@@ -193,9 +217,10 @@ module _ (T : Boxes) (g : ControlGraph) (k : ℕ) (F : Forest) (e : Edge) where
   carried_apart [] [] head two quiet ps = tt
   carried_apart [] (a ∷ as') head two quiet ps = absurd ps
   carried_apart (M ∷ Ms) [] head two quiet ps = absurd ps
-  carried_apart (M ∷ Ms) (a ∷ as') head two quiet ps =
-      (each Ms as' two.0 (λ q. omega (arith, quiet q)) ps.1,
-          carried_apart Ms as' head two.1 (λ q. omega (arith, quiet q)) ps.1)
+  carried_apart (M ∷ Ms) (a ∷ as') head two quiet ps = (
+    each Ms as' two.0 (λ q. omega (arith, quiet q)) ps.1,
+    carried_apart Ms as' head two.1 (λ q. omega (arith, quiet q)) ps.1,
+  )
     where
       each : (Ns : List SoundForest) (bs : List AbstractState)
           → Every (λ B. Joinable T.face.boxes M.forest B → ⊥) (forests Ns) → (is_quiet e.instr ≡ true → length Ns ≤ 0)
@@ -220,8 +245,8 @@ module _ (T : Boxes) (g : ControlGraph) (k : ℕ) (F : Forest) (e : Edge) where
   carried_kept (N ∷ Ns) [] ps M s i m = absurd ps
   carried_kept (N ∷ Ns) (a ∷ as') ps M s (inl is) m =
       held_here a as' s
-          (subst (λ (z : AbstractState). IsMember T z.forest s) (sym ps.0.is)
-          (subst (λ (z : SoundForest). IsMember T z.forest s) is m))
+      (subst (λ (z : AbstractState). IsMember T z.forest s) (sym ps.0.is)
+      (subst (λ (z : SoundForest). IsMember T z.forest s) is m))
   carried_kept (N ∷ Ns) (a ∷ as') ps M s (inr i) m = held_later a as' s (carried_kept Ns as' ps.1 M s i m)
 
   pub carried_arrive : (Ms : List SoundForest) (made : List AbstractState) → is_head g e.to ≡ false
@@ -237,15 +262,19 @@ module _ (T : Boxes) (g : ControlGraph) (k : ℕ) (F : Forest) (e : Edge) where
   pub raw_cases : (face : Face) (Ms : List SoundForest) → face ≡ T.face → HasItsVars g F
       → Every (λ (s : SoundForest). IsCanonical s.face s.forest) Ms → Every (λ (s : SoundForest). Reduced s.forest) Ms
       → Every (λ (s : SoundForest). s.face ≡ face) Ms → Every (λ (s : SoundForest). HasAsMany F s.forest) Ms
-          → Every (CaseOf face T.defs F e) (forests Ms) → Every (Keeps face T.defs F e) (forests Ms)
-          → Every (IsRawCase T g F e) Ms
+      → Every (CaseOf face T.defs F e) (forests Ms) → Every (Keeps face T.defs F e) (forests Ms)
+      → Every (IsRawCase T g F e) Ms
   raw_cases face [] is vars canonical reduced faces many true_cases keeps = tt
   raw_cases face (M ∷ Ms) is vars canonical reduced faces many true_cases keeps =
       let own : M.face ≡ T.face = faces.0 ∙ is in (
         record {
           normal =
-              record { face = own; canonical = subst (λ z. IsCanonical z M.forest) own canonical.0; reduced = reduced.0;
-              vars = record { vars = many.0.0 ∙ vars.vars; data_vars = many.0.1 ∙ vars.data_vars } };
+              record {
+                face = own;
+                canonical = subst (λ z. IsCanonical z M.forest) own canonical.0;
+                reduced = reduced.0;
+                vars = record { vars = many.0.0 ∙ vars.vars; data_vars = many.0.1 ∙ vars.data_vars };
+              };
           true_case = subst (λ z. CaseOf z T.defs F e M.forest) is true_cases.0;
           keeps = subst (λ z. Keeps z T.defs F e M.forest) is keeps.0;
         },

@@ -1,5 +1,7 @@
 -- Lists: what stands at a place, what is in a list, and lists with one item more.
-use Rattle.std.proofs.Common.{◌≡◌, ◌⊎◌, ℕ, suc, zero, ◌+◌, ◌<◌, ◌≤◌, List, [], ◌∷◌, ◌++◌, map, length, take, drop, get_or, slice_get, Option, Some, None, Result, Ok, Err, IfOk, refl, sym, ap, ◌∙◌, subst, arith, add-one, inl, inr}
+use Rattle.std.proofs.Common.{◌≡◌, ◌⊎◌, ℕ, suc, zero, ◌+◌, ◌<◌, ◌≤◌, List, [], ◌∷◌, ◌++◌, map, length, take, drop}
+use Rattle.std.proofs.Common.{get_or, slice_get, Option, Some, None, Result, Ok, Err, IfOk, refl, sym, ap, ◌∙◌, subst}
+use Rattle.std.proofs.Common.{arith, add-one, inl, inr}
 use Rattle.std.proofs.lemmas.Option.{slice_get-get_or}
 use Rattle.fore_base.specs.Lists.{IsIn, Every}
 use Rattle.fix_engine.specs.inner.Arriving.{EachTwo}
@@ -21,7 +23,8 @@ pub get_last : {X : Type 0} (xs : List X) (x : X) → slice_get (xs ++ x ∷ [])
 get_last [] x = refl
 get_last (y ∷ ys) x = get_last ys x
 
-pub get_push : {X : Type 0} (xs : List X) (y : X) (i : ℕ) (x : X) → slice_get (xs ++ y ∷ []) i ≡ Some x → (slice_get xs i ≡ Some x) ⊎ ((i ≡ length xs) × (x ≡ y))
+pub get_push : {X : Type 0} (xs : List X) (y : X) (i : ℕ) (x : X) → slice_get (xs ++ y ∷ []) i ≡ Some x
+    → (slice_get xs i ≡ Some x) ⊎ ((i ≡ length xs) × (x ≡ y))
 get_push [] y zero x h = inr (refl, some_same x y (sym h))
 get_push [] y (suc i) x h = cc
 get_push (z ∷ xs) y zero x h = inl h
@@ -84,23 +87,27 @@ drop_suc [] i x h = cc
 drop_suc (y ∷ ys) zero x h = ap (λ z. z ∷ ys) (some_same y x h)
 drop_suc (y ∷ ys) (suc i) x h = drop_suc ys i x h
 
-pub take_next : {X : Type 0} (xs : List X) (i : ℕ) (d : X) → i < length xs → take (i + 1) xs ≡ take i xs ++ get_or xs i d ∷ []
+pub take_next : {X : Type 0} (xs : List X) (i : ℕ) (d : X) → i < length xs → take (i + 1) xs ≡ take i xs
+    ++ get_or xs i d ∷ []
 take_next xs i d h = ap (λ j. take j xs) (add-one i) ∙ take_suc xs i (get_or xs i d) (slice_get-get_or xs i d h)
 
 pub drop_next : {X : Type 0} (xs : List X) (i : ℕ) (d : X) → i < length xs → drop i xs ≡ get_or xs i d ∷ drop (i + 1) xs
-drop_next xs i d h = drop_suc xs i (get_or xs i d) (slice_get-get_or xs i d h) ∙ ap (λ j. get_or xs i d ∷ drop j xs) (sym (add-one i))
+drop_next xs i d h = drop_suc xs i (get_or xs i d) (slice_get-get_or xs i d h)
+    ∙ ap (λ j. get_or xs i d ∷ drop j xs) (sym (add-one i))
 
 -- the item of a loop stands at its index
 pub at_item : {X : Type 0} (xs : List X) (i : ℕ) (x : X) → i < length xs → x ≡ get_or xs i x → slice_get xs i ≡ Some x
 at_item xs i x h e = slice_get-get_or xs i x h ∙ ap Some (sym e)
 
-pub take_at : {X : Type 0} (xs : List X) (i : ℕ) (x : X) → slice_get xs i ≡ Some x → take (i + 1) xs ≡ take i xs ++ x ∷ []
+pub take_at : {X : Type 0} (xs : List X) (i : ℕ) (x : X) → slice_get xs i ≡ Some x → take (i + 1) xs ≡ take i xs
+    ++ x ∷ []
 take_at xs i x h = ap (λ j. take j xs) (add-one i) ∙ take_suc xs i x h
 
 pub drop_at : {X : Type 0} (xs : List X) (i : ℕ) (x : X) → slice_get xs i ≡ Some x → drop i xs ≡ x ∷ drop (i + 1) xs
 drop_at xs i x h = drop_suc xs i x h ∙ ap (λ j. x ∷ drop j xs) (sym (add-one i))
 
-pub before_each : {X : Type 0} (P : X → X → Type 0) (xs : List X) (i : ℕ) (x : X) → EachTwo P xs → slice_get xs i ≡ Some x → Every (λ y. P y x) (take i xs)
+pub before_each : {X : Type 0} (P : X → X → Type 0) (xs : List X) (i : ℕ) (x : X) → EachTwo P xs
+    → slice_get xs i ≡ Some x → Every (λ y. P y x) (take i xs)
 before_each P [] i x two h = cc
 before_each P (y ∷ ys) zero x two h = tt
 before_each P (y ∷ ys) (suc i) x two h = (every_in (P y) ys x two.0 (in_at ys i x h), before_each P ys i x two.1 h)
@@ -130,7 +137,8 @@ drop_all [] (suc i) h = refl
 drop_all (x ∷ xs) zero h = absurd (omega (arith, h))
 drop_all (x ∷ xs) (suc i) h = drop_all xs i (omega (arith, h))
 
-pub every_at : {X : Type 0} (P : X → Type 0) (xs : List X) → ((j : ℕ) (x : X) → slice_get xs j ≡ Some x → P x) → Every P xs
+pub every_at : {X : Type 0} (P : X → Type 0) (xs : List X) → ((j : ℕ) (x : X) → slice_get xs j ≡ Some x → P x)
+    → Every P xs
 every_at P [] f = tt
 every_at P (x ∷ xs) f = (f 0 x refl, every_at P xs (λ j y is. f (suc j) y is))
 

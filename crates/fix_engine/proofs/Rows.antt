@@ -1,5 +1,6 @@
 -- Worked values of the words on explorations, each made by hand from what the word says.
-use Rattle.std.proofs.Common.{◌≡◌, ◌<◌, inl, inr, ℕ, zero, suc, ◌++◌, List, [], ◌∷◌, length, true, false, Option, Some, None, refl, sym, ◌∙◌, ap, subst, arith, lit<, lit≤, length-append}
+use Rattle.std.proofs.Common.{◌≡◌, ◌<◌, inl, inr, ℕ, zero, suc, ◌++◌, List, [], ◌∷◌, length, true, false, Option, Some}
+use Rattle.std.proofs.Common.{None, refl, sym, ◌∙◌, ap, subst, arith, lit<, lit≤, length-append}
 use Rattle.std.proofs.lemmas.Option.{none-some, same_Some}
 use Rattle.fore_base.specs.declared.fault.Fault.TheVariants.{Leak}
 use Rattle.fore_base.specs.declared.store.Store.{Store}
@@ -43,9 +44,11 @@ abbrev state : List Target → Option Forest → AbstractState
 state vars middle = record { face = face; forest = bare vars; middle = middle; folds = [] }
 
 abbrev node : ℕ → Option ℕ → Option ℕ → Option ℕ → AbstractState → Node
-node location parent edge choice a = record { head = record { location = location; parent = parent; edge = edge; choice = choice }; state = a }
+node location parent edge choice a =
+    record { head = record { location = location; parent = parent; edge = edge; choice = choice }; state = a }
 
--- from node 0 the choices 0 and 1 lead to nodes 1 and 2; from node 2 an edge without a choice leads to node 3, at the location of node 1
+-- from node 0 the choices 0 and 1 lead to nodes 1 and 2; from node 2 an edge without a choice leads to node 3, at the
+-- location of node 1
 abbrev n0 : Node
 n0 = node 0 None None None (state [] None)
 
@@ -63,7 +66,15 @@ nodes = n0 ∷ n1 ∷ n2 ∷ n3 ∷ []
 
 -- location 1 is a loop head
 abbrev graph : ControlGraph
-graph = record { locations = 2; ptrs = 1; datums = 0; edges = []; heads = false ∷ true ∷ []; shapes = record { structs = [] } }
+graph =
+    record {
+      locations = 2;
+      ptrs = 1;
+      datums = 0;
+      edges = [];
+      heads = false ∷ true ∷ [];
+      shapes = record { structs = [] };
+    }
 
 -- Loop heads
 
@@ -95,7 +106,8 @@ later_parent (inr h) = omega (arith, h.0)
 -- Ways: that to node 3 passes nodes 0 and 2, on the choice 1
 
 way_to_3 : IsWay nodes 3 (0 ∷ 2 ∷ 3 ∷ []) (1 ∷ [])
-way_to_3 = goes n3 (0 ∷ 2 ∷ 3 ∷ []) (1 ∷ []) (goes n2 (0 ∷ 2 ∷ []) (1 ∷ []) begins refl refl refl refl) refl refl refl refl
+way_to_3 = goes n3 (0 ∷ 2 ∷ 3 ∷ []) (1 ∷ []) (goes n2 (0 ∷ 2 ∷ []) (1 ∷ []) begins refl refl refl refl) refl refl refl
+    refl
 
 not_empty : (xs : List ℕ) (x : ℕ) → [] ≡ xs ++ x ∷ [] → ⊥
 not_empty xs x e = omega (arith, ap length e, length-append xs (x ∷ []))
@@ -109,7 +121,8 @@ no_way_without_its_choice : {j : ℕ} {way choices : List ℕ} → IsWay nodes j
 no_way_without_its_choice begins j c = omega (arith, j)
 no_way_without_its_choice (goes {choices = choices} n more used w i p m u) j c =
     let e : Some n1 ≡ Some n = rw j at i in
-    not_empty choices 0 (sym c ∙ subst (λ (x : Node). used ≡ choices ++ choice_list x.head.choice) (sym (same_Some n1 n e)) u)
+    not_empty choices 0 (sym c
+    ∙ subst (λ (x : Node). used ≡ choices ++ choice_list x.head.choice) (sym (same_Some n1 n e)) u)
 
 module _ (T : Boxes) where
   -- What becomes of a member: it is in a node where the edge ends, or is no more
@@ -159,7 +172,8 @@ module _ (T : Boxes) where
   -- Nodes that gained no members: without a middle forest, or with one that has them all
 
   exact_without_a_middle : IsExact T nodes 1
-  exact_without_a_middle n M i m = absurd (none-some M (subst (λ (x : Node). x.state.middle ≡ Some M) (sym (same_Some n1 n i)) m))
+  exact_without_a_middle n M i m =
+      absurd (none-some M (subst (λ (x : Node). x.state.middle ≡ Some M) (sym (same_Some n1 n i)) m))
 
   exact_with_its_middle : IsExact T nodes 3
   exact_with_its_middle n M i m s h =
@@ -223,8 +237,10 @@ past_the_places : numbers_at ((1 ∷ []) ∷ []) 1 ≡ []
 past_the_places = refl
 
 are_listed : AreListed (n0 ∷ n1 ∷ []) ((0 ∷ []) ∷ (1 ∷ []) ∷ [])
-are_listed zero n i = subst (λ (x : Node). IsIn 0 (numbers_at ((0 ∷ []) ∷ (1 ∷ []) ∷ []) x.head.location)) (same_Some n0 n i) (inl refl)
-are_listed (suc zero) n i = subst (λ (x : Node). IsIn 1 (numbers_at ((0 ∷ []) ∷ (1 ∷ []) ∷ []) x.head.location)) (same_Some n1 n i) (inl refl)
+are_listed zero n i = subst (λ (x : Node). IsIn 0 (numbers_at ((0 ∷ []) ∷ (1 ∷ []) ∷ []) x.head.location))
+    (same_Some n0 n i) (inl refl)
+are_listed (suc zero) n i =
+    subst (λ (x : Node). IsIn 1 (numbers_at ((0 ∷ []) ∷ (1 ∷ []) ∷ []) x.head.location)) (same_Some n1 n i) (inl refl)
 are_listed (suc (suc j)) n i = absurd (none-some n i)
 
 -- node 1 is not in the list of location 1
@@ -271,7 +287,8 @@ covers_other_targets : CoversAt nodes 1 1 (bare []) false
 covers_other_targets m i l c = other (subst (λ (x : Node). Covers x.state.forest (bare [])) (sym (same_Some n1 m i)) c)
 
 covers_elsewhere : CoversAt nodes 1 2 (bare (Null ∷ [])) false
-covers_elsewhere m i l c = let e : 1 ≡ 2 = subst (λ (x : Node). x.head.location ≡ 2) (sym (same_Some n1 m i)) l in omega (arith, e)
+covers_elsewhere m i l c = let e : 1 ≡ 2 = subst (λ (x : Node). x.head.location ≡ 2) (sym (same_Some n1 m i)) l in
+    omega (arith, e)
 
 covers_past_the_end : CoversAt nodes 4 1 (bare (Null ∷ [])) false
 covers_past_the_end m i l c = none-some m i
@@ -287,12 +304,14 @@ one_does h = h 1 n1 refl refl (same (Null ∷ []))
 
 none_does : CoversOrNot (n0 ∷ []) 0 (bare (Null ∷ [])) false
 none_does zero m i l c =
-    let e : Covers (bare []) (bare (Null ∷ [])) = subst (λ (x : Node). Covers x.state.forest (bare (Null ∷ []))) (sym (same_Some n0 m i)) c in
+    let e : Covers (bare []) (bare (Null ∷ [])) =
+    subst (λ (x : Node). Covers x.state.forest (bare (Null ∷ []))) (sym (same_Some n0 m i)) c in
     omega (arith, ap (λ (vs : List Target). length vs) e.vars)
 none_does (suc j) m i l c = none-some m i
 
 lists : Lists (1 ∷ []) (n0 ∷ n1 ∷ []) 1
-lists zero n i l = let e : 0 ≡ 1 = subst (λ (x : Node). x.head.location ≡ 1) (sym (same_Some n0 n i)) l in absurd (omega (arith, e))
+lists zero n i l = let e : 0 ≡ 1 = subst (λ (x : Node). x.head.location ≡ 1) (sym (same_Some n0 n i)) l in
+    absurd (omega (arith, e))
 lists (suc zero) n i l = inl refl
 lists (suc (suc j)) n i l = absurd (none-some n i)
 
@@ -323,13 +342,17 @@ module _ (T : Boxes) (p : Program) (k budget : ℕ) (tr : AbsTrace) (s : Store) 
   faulty_is_not_spent h = h
 
   -- the fault is that of the program's run on the trace's choices, in the line and step that are told
-  unsafe_by_the_run : TraceOf T p graph k budget nodes tr → run p tr.choices 2 ≡ Fault Leak 7 2 → IsVerdict T p graph k budget (Faulty nodes tr) (Unsafe Leak 7 2)
+  unsafe_by_the_run : TraceOf T p graph k budget nodes tr → run p tr.choices 2 ≡ Fault Leak 7 2
+      → IsVerdict T p graph k budget (Faulty nodes tr) (Unsafe Leak 7 2)
   unsafe_by_the_run of e = record { of = of; meets = e }
 
-  unsafe_in_another_line : run p tr.choices 2 ≡ Fault Leak 7 2 → IsVerdict T p graph k budget (Faulty nodes tr) (Unsafe Leak 8 2) → ⊥
-  unsafe_in_another_line e h = let lines : (a b : ℕ) → Fault Leak a 2 ≡ Fault Leak b 2 → a ≡ b = λ a b f. cc in omega (arith, lines 7 8 (sym e ∙ h.meets))
+  unsafe_in_another_line : run p tr.choices 2 ≡ Fault Leak 7 2
+      → IsVerdict T p graph k budget (Faulty nodes tr) (Unsafe Leak 8 2) → ⊥
+  unsafe_in_another_line e h = let lines : (a b : ℕ) → Fault Leak a 2 ≡ Fault Leak b 2 → a ≡ b = λ a b f. cc in
+      omega (arith, lines 7 8 (sym e ∙ h.meets))
 
-  unsafe_past_the_step : run p tr.choices 3 ≡ StillRunning → IsVerdict T p graph k budget (Faulty nodes tr) (Unsafe Leak 7 3) → ⊥
+  unsafe_past_the_step : run p tr.choices 3 ≡ StillRunning
+      → IsVerdict T p graph k budget (Faulty nodes tr) (Unsafe Leak 7 3) → ⊥
   unsafe_past_the_step e h = let met = h.meets in cc
 
   -- no trace of more nodes than the budget
@@ -340,11 +363,14 @@ module _ (T : Boxes) (p : Program) (k budget : ℕ) (tr : AbsTrace) (s : Store) 
   unsafe_on_another_choice : tr.choices ≡ 2 ∷ [] → IsVerdict T p graph k budget (Faulty nodes tr) (Unsafe Leak 7 2) → ⊥
   unsafe_on_another_choice e h = omega (arith, (subst (Every (λ x. x < 2)) e h.of.choices).0)
 
-  -- the run may meet its fault after the trace's last step, at the last step that is replayed; one step later it is not looked for
-  loose_to_the_last_step : run p tr.choices 1000000 ≡ Fault Leak 7 1000000 → IsVerdict T p graph k budget (Faulty nodes tr) (LooseTrace s) → ⊥
+  -- the run may meet its fault after the trace's last step, at the last step that is replayed; one step later it is not
+  -- looked for
+  loose_to_the_last_step : run p tr.choices 1000000 ≡ Fault Leak 7 1000000
+      → IsVerdict T p graph k budget (Faulty nodes tr) (LooseTrace s) → ⊥
   loose_to_the_last_step e h = h.no_fault 1000000 (inl (omega arith)) (subst IsFault (sym e) tt)
 
-  loose_in_its_steps : tr.steps ≡ 3 → run p tr.choices 3 ≡ Fault Leak 7 2 → IsVerdict T p graph k budget (Faulty nodes tr) (LooseTrace s) → ⊥
+  loose_in_its_steps : tr.steps ≡ 3 → run p tr.choices 3 ≡ Fault Leak 7 2
+      → IsVerdict T p graph k budget (Faulty nodes tr) (LooseTrace s) → ⊥
   loose_in_its_steps steps e h = h.no_fault 3 (inr (omega (arith, steps))) (subst IsFault (sym e) tt)
 
   spent_is_not_safe : IsVerdict T p graph k budget (Spent nodes) Safe → ⊥

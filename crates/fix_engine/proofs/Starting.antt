@@ -106,15 +106,20 @@ module _ (hs : List Shape) (T : List BoxDef) (ptrs datums : ℕ) where
   unset_of s m = here m.0 m.1
     where
       here : (d : Nodes) → StandsBy hs T (no_components ptrs datums) d s → IsUnset ptrs datums s
-      here no_nodes b = record
-          { vars = b.vars ∙ values_unset [] ptrs; data_vars = b.data_vars;
-          cells = no_cells s.cells (nothing [] (store_facts s.cells) b.same_facts refl) }
+      here no_nodes b = record {
+        vars = b.vars ∙ values_unset [] ptrs;
+        data_vars = b.data_vars;
+        cells = no_cells s.cells (nothing [] (store_facts s.cells) b.same_facts refl);
+      }
       here (more n ns) b = absurd b.of
 
   proper_unset : (s : Store) → IsUnset ptrs datums s → IsProper s
-  proper_unset s u = record
-      { differ = rw u.cells tt; below = rw u.cells tt;
-      vars = rw (u.vars, u.cells) (every_copy (NamesCell []) ptrs UninitValue tt); fields = rw u.cells tt }
+  proper_unset s u = record {
+    differ = rw u.cells tt;
+    below = rw u.cells tt;
+    vars = rw (u.vars, u.cells) (every_copy (NamesCell []) ptrs UninitValue tt);
+    fields = rw u.cells tt;
+  }
 
   member_of : (s : Store) → IsUnset ptrs datums s → Stands hs T (no_components ptrs datums) s
   member_of s u = (
@@ -137,7 +142,7 @@ module _ (hs : List Shape) (T : List BoxDef) (ptrs datums : ℕ) where
 module _ (T : Boxes) (g : ControlGraph) (n : Node) (forest : n.state.forest ≡ no_components g.ptrs g.datums)
     (face : n.state.face ≡ T.face)
     (entry : n.head.location ≡ 0) (no_parent : n.head.parent ≡ None) (no_edge : n.head.edge ≡ None)
-        (no_choice : n.head.choice ≡ None)
+    (no_choice : n.head.choice ≡ None)
     (no_middle : n.state.middle ≡ None) (no_folds : n.state.folds ≡ []) where
   first_is : IsFirst T g (n ∷ [])
   first_is = record {
@@ -154,8 +159,10 @@ module _ (T : Boxes) (g : ControlGraph) (n : Node) (forest : n.state.forest ≡ 
     canonical = rw forest (start_canonical T.face g.ptrs g.datums);
     reduced = rw forest tt;
     vars =
-        record { vars = rw forest (length-replicate g.ptrs Uninit);
-        data_vars = rw forest (length-replicate g.datums Undefined) };
+        record {
+          vars = rw forest (length-replicate g.ptrs Uninit);
+          data_vars = rw forest (length-replicate g.datums Undefined);
+        };
     members = λ s. subst (λ z. IsMember T z s ↔ IsUnset g.ptrs g.datums s) (sym forest)
         (start_members T.face.shapes.structs T.defs g.ptrs g.datums s);
   }

@@ -64,13 +64,19 @@ module _ (T : Boxes) (g : ControlGraph) (k : ℕ) where
   mid_weaker : (nodes : List Node) (at c : ℕ) (before more : List AbstractState) → IsMid T g k nodes at c before
       → IsMid T g k nodes at c (before ++ more)
   mid_weaker nodes at c before more m =
-      record { explored = m.explored; inside = m.inside; done = m.done; earlier = m.earlier; last = m.last;
-      those = λ j n is ch. in_left before more n.state (m.those j n is ch) }
+      record {
+        explored = m.explored;
+        inside = m.inside;
+        done = m.done;
+        earlier = m.earlier;
+        last = m.last;
+        those = λ j n is ch. in_left before more n.state (m.those j n is ch);
+      }
 
   module _ (start nodes : List Node) (at c budget : ℕ) (states : List AbstractState) (i : ℕ) (a : AbstractState)
       (e : Edge)
       (is : slice_get states i ≡ Some a) (is_edge : IsEdge g c e)
-          (before : AreTaken T g k start at c budget (take i states) nodes true) where
+      (before : AreTaken T g k start at c budget (take i states) nodes true) where
     same_edge : (f : Edge) → IsEdge g c f → e ≡ f
     same_edge f h = some_same e f (sym is_edge ∙ h)
 
@@ -82,10 +88,17 @@ module _ (T : Boxes) (g : ControlGraph) (k : ℕ) where
       before.2,
       λ f ie.
           every_both (λ (z : AbstractState). (s : Store) → IsMember T z.forest s → IsHoused T g nodes f.to s)
-              (take i states) (a ∷ []) (before.3 f ie)
-          (λ s m.
-              record { at = cov.at; node = cov.node; is = cov.is; there = cov.there ∙ ap (λ z. z.to) (same_edge f ie);
-              member = covered_member T.face.shapes.structs T.defs cov.node.state.forest a.forest s cov.covers m }, tt),
+          (take i states) (a ∷ []) (before.3 f ie) (
+            λ s m.
+                record {
+                  at = cov.at;
+                  node = cov.node;
+                  is = cov.is;
+                  there = cov.there ∙ ap (λ z. z.to) (same_edge f ie);
+                  member = covered_member T.face.shapes.structs T.defs cov.node.state.forest a.forest s cov.covers m;
+                },
+            tt,
+          ),
     )
 
     module _ (due : AreDue T g k start at c states) (none : NoneCovers nodes e.to a.forest) where
@@ -137,10 +150,17 @@ module _ (T : Boxes) (g : ControlGraph) (k : ℕ) where
             every_both (λ (z : AbstractState). (s : Store) → IsMember T z.forest s
             → IsHoused T g (nodes ++ child at c e a ∷ []) f.to s) (take i states) (a ∷ [])
             (housed_all nodes (nodes ++ child at c e a ∷ []) f.to (take i states) (grows_push nodes (child at c e a))
-                (before.3 f ie))
-            (λ s m.
-                record { at = length nodes; node = child at c e a; is = get_last nodes (child at c e a);
-                there = ap (λ z. z.to) (same_edge f ie); member = m }, tt),
+            (before.3 f ie)) (
+              λ s m.
+                  record {
+                    at = length nodes;
+                    node = child at c e a;
+                    is = get_last nodes (child at c e a);
+                    there = ap (λ z. z.to) (same_edge f ie);
+                    member = m;
+                  },
+              tt,
+            ),
       )
         where
           fits : length (nodes ++ child at c e a ∷ []) ≤ budget
@@ -171,7 +191,7 @@ module _ (T : Boxes) (g : ControlGraph) (k : ℕ) where
   pub edge_arrivals : (nodes : List Node) (at : ℕ) (x : Made) (e : Edge) (states : List AbstractState)
       → (m : IsMadeAt T g nodes at x) → IsEdge g x.edge e
       → ((F : Forest) → AreCases T g F e x.post.next → AreArrivals T g k F e x.post.next states)
-          → AreArrivals T g k m.node.state.forest m.made.edge x.post.next states
+      → AreArrivals T g k m.node.state.forest m.made.edge x.post.next states
   edge_arrivals nodes at x e states m ie f =
       let same : e ≡ m.made.edge = some_same e m.made.edge (sym ie ∙ m.made.is) in
       subst (λ z. AreArrivals T g k m.node.state.forest z x.post.next states) same
@@ -187,7 +207,7 @@ module _ (T : Boxes) (g : ControlGraph) (k : ℕ) where
       → IsCalm T m.node m.made.edge
   edge_calm nodes at x m no_fault = λ s kind st is.
       fault_met (passed_by T m.made.edge s) s kind (forests x.post.next) x.post.faults no_fault (m.made.post.all s st)
-          is
+      is
 
   pub edge_due : (nodes : List Node) (at : ℕ) (x : Made) (states : List AbstractState) (m : IsMadeAt T g nodes at x)
       → x.post.faults ≡ []
@@ -226,8 +246,8 @@ module _ (T : Boxes) (g : ControlGraph) (k : ℕ) where
       → ((t : Store) → StandsInCase T Ms t → IsHeld T states t) → AreHoused T g ns to states → IsCared T g ns to p
   cared_of ns to (Passed t) s Ms bs states none met kept housed =
       let h = kept t (in_case Ms t met) in
-              every_in (λ (z : AbstractState). (u : Store) → IsMember T z.forest u → IsHoused T g ns to u) states
-              h.state housed h.listed t h.member
+      every_in (λ (z : AbstractState). (u : Store) → IsMember T z.forest u → IsHoused T g ns to u) states
+      h.state housed h.listed t h.member
   cared_of ns to (Faulted f) s Ms [] states none met kept housed = met.1
   cared_of ns to (Faulted f) s Ms (b ∷ bs) states none met kept housed = cc
   cared_of ns to Halted s Ms bs states none met kept housed = tt
@@ -255,14 +275,14 @@ module _ (T : Boxes) (g : ControlGraph) (k : ℕ) where
       (m : IsMadeAt T g nodes at x) → x.post.faults ≡ []
       → AreArrivals T g k m.node.state.forest m.made.edge x.post.next states
       → room ≡ true → AreTaken T g k nodes at x.edge budget states more room → IsEdgeTaken T g k nodes more at x.edge
-          × (length more ≤ budget)
+      × (length more ≤ budget)
   taken_room nodes more at budget x states room m no_fault arr is t =
       let u = subst (AreTaken T g k nodes at x.edge budget states more) is t in
       (edge_taken nodes more at budget x states m no_fault arr u, u.2)
 
   pub taken_no_room : (nodes more : List Node) (at budget : ℕ) (x : Made) (states : List AbstractState) (room : Bool)
       → room ≡ false → AreTaken T g k nodes at x.edge budget states more room → Exploration T g k more
-          × Full T g k more budget
+      × Full T g k more budget
   taken_no_room nodes more at budget x states room is t = subst (AreTaken T g k nodes at x.edge budget states more) is t
 
   -- a node
@@ -382,12 +402,20 @@ module _ (T : Boxes) (g : ControlGraph) (k : ℕ) where
       let f = x.first in
       let same : n ≡ f.node = one_node nodes 0 n f.node is f.is in
       let here : s.forest ≡ f.node.state.forest = forest ∙ ap (λ z. z.state.forest) same in
-      record { face = face ∙ ap (λ z. z.state.face) same ∙ f.face; canonical = rw here f.canonical;
-          reduced = rw here f.reduced; vars = rw here f.vars }
+      record {
+        face = face ∙ ap (λ z. z.state.face) same ∙ f.face;
+        canonical = rw here f.canonical;
+        reduced = rw here f.reduced;
+        vars = rw here f.vars;
+      }
   node_normal nodes (suc j) n s x is forest face =
       let a = (x.follow (suc j) n (omega arith) is).follows.state in
-      record { face = face ∙ a.face; canonical = rw forest a.canonical; reduced = rw forest a.reduced;
-          vars = rw forest a.vars }
+      record {
+        face = face ∙ a.face;
+        canonical = rw forest a.canonical;
+        reduced = rw forest a.reduced;
+        vars = rw forest a.vars;
+      }
 
   pub node_face : (nodes : List Node) (j : ℕ) (n : Node) → Exploration T g k nodes → IsNode nodes j n
       → n.state.face ≡ T.face
@@ -450,15 +478,23 @@ module _ (T : Boxes) (g : ControlGraph) (k : ℕ) where
   pub front_wider : (nodes : List Node) (at budget : ℕ) → 1 ≤ budget → IsFront T g k nodes at 1
       → IsFront T g k nodes at budget
   front_wider nodes at budget one f =
-      record { explored = f.explored; upto = f.upto; within = omega (arith, one, f.within); done = f.done;
-      early = f.early }
+      record {
+        explored = f.explored;
+        upto = f.upto;
+        within = omega (arith, one, f.within);
+        done = f.done;
+        early = f.early;
+      }
 
   -- what ends the work on an edge ends that on its node
   pub edge_ends : (start nodes later : List Node) (at c budget : ℕ) (t : Taken) → (t ≡ All → ⊥)
       → Exploration T g k nodes → ((j : ℕ) → j < at → Done T g nodes j) → length nodes ≤ budget
       → IsTakenEdge T g k nodes at c budget later t → IsTakenNode T g k start at budget later t
   edge_ends start nodes later at c budget All not_all x done within t = absurd (not_all refl)
-  edge_ends start nodes later at c budget (Fault d bad) not_all x done within t =
-      (t.0, subst (λ z. Exploration T g k z) (sym t.1) x, subst (λ z. (j : ℕ) → j < at → Done T g z j) (sym t.1) done,
-          subst (λ z. length z ≤ budget) (sym t.1) within)
+  edge_ends start nodes later at c budget (Fault d bad) not_all x done within t = (
+    t.0,
+    subst (λ z. Exploration T g k z) (sym t.1) x,
+    subst (λ z. (j : ℕ) → j < at → Done T g z j) (sym t.1) done,
+    subst (λ z. length z ≤ budget) (sym t.1) within,
+  )
   edge_ends start nodes later at c budget Over not_all x done within t = t

@@ -26,7 +26,8 @@ pub fn arrivals_of<R: Threads + Sync, G: Gate>(
 ) -> Mem<List<State>>
     requires location { edge.now.to < task.now.graph.locations }
     requires normal { Every (IsNormal task.now.table task.now.graph) cases.now }
-    ensures { IfOk result (λ states. (F : Forest) → AreCases task.now.table task.now.graph F edge.now cases.now → AreArrivals task.now.table task.now.graph task.now.height F edge.now cases.now states) }
+    ensures { IfOk result (λ states. (F : Forest) → AreCases task.now.table task.now.graph F edge.now cases.now
+        → AreArrivals task.now.table task.now.graph task.now.height F edge.now cases.now states) }
 {
     if task.graph().is_loop_head(edge.to) {
         settle_all(task, cases)

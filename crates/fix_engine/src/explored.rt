@@ -5,7 +5,8 @@ use fa_sound::Sound;
 use fore_base::fault::Fault;
 use fore_base::list::List;
 
-/// A chain of nodes from node 0 on, an edge from the location of the last one, and members of that node that all meet the fault on the edge.
+/// A chain of nodes from node 0 on, an edge from the location of the last one, and members of that node that all meet
+/// the fault on the edge.
 #[derive(Drop)]
 pub struct AbsTrace {
     /// The numbers of the nodes.

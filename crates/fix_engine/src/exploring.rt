@@ -20,9 +20,13 @@ use par_kit::gate::Gate;
 use std::alloc::Global;
 use std::thread::Threads;
 
-/// Explores the graph from its entry. Nodes are taken up in order, the edges of a node by number, the faults of an edge before its successors. At a loop head a successor is abstracted to the height. A successor that a node of its location covers is dropped.
+/// Explores the graph from its entry. Nodes are taken up in order, the edges of a node by number, the faults of an edge
+/// before its successors. At a loop head a successor is abstracted to the height. A successor that a node of its
+/// location covers is dropped.
 ///
-/// It ends with the first fault; with a successor for which the budget of nodes has no room; or when every node is done. The height is 1 to 4, and the budget at least 1. Each number in the graph's edges is in range, and the graph's structs are the table's. So far the table has no boxes. The crew runs 1 to 64 jobs and has no bearing on the answer.
+/// It ends with the first fault; with a successor for which the budget of nodes has no room; or when every node is
+/// done. The height is 1 to 4, and the budget at least 1. Each number in the graph's edges is in range, and the graph's
+/// structs are the table's. So far the table has no boxes. The crew runs 1 to 64 jobs and has no bearing on the answer.
 ///
 /// # Errors
 ///

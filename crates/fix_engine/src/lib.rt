@@ -1,7 +1,10 @@
-//! The exploration of a control graph by abstract states: a work list of nodes, each the image of an edge from an earlier one.
+//! The exploration of a control graph by abstract states: a work list of nodes, each the image of an edge from an
+//! earlier one.
 //!
-//! `explore` takes the nodes up in order. It ends closed, where every node is done; faulty, with an abstract trace; or spent, where the budget is
-//! full. `judge` says what that means for the program: where the nodes are closed no run faults, and a trace counts only where the program's own run
+//! `explore` takes the nodes up in order. It ends closed, where every node is done; faulty, with an abstract trace; or
+//! spent, where the budget is
+//! full. `judge` says what that means for the program: where the nodes are closed no run faults, and a trace counts
+//! only where the program's own run
 //! meets a fault. `laws` has the theorem on closed nodes alone. The definitions stand in `specs/`.
 #![tactic(auto)]
 

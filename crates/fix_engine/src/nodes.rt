@@ -1,5 +1,6 @@
 // The nodes of an exploration.
-ghost use Rattle.std.specs.Prelude.{◌≡◌, ◌↔◌, ◌<◌, ◌+◌, ◌++◌, ◌∷◌, [], ◌^◌, length, None, Some, IsTrue, IfOk, OnOk, OnErr, MatchOption};
+ghost use Rattle.std.specs.Prelude.{◌≡◌, ◌↔◌, ◌<◌, ◌+◌, ◌++◌, ◌∷◌, [], ◌^◌, length, None, Some, IsTrue, IfOk, OnOk};
+ghost use Rattle.std.specs.Prelude.{OnErr, MatchOption};
 ghost use Rattle.fix_engine.specs.Explorations.{IsNode};
 ghost use Rattle.fix_engine.specs.declared.nodes.Node.{Node};
 ghost use Rattle.fore_base.specs.Lists.{IsIn};
@@ -17,7 +18,8 @@ use fore_base::memory::Mem;
 use std::alloc::Global;
 use std::marker::Model;
 
-/// Where a node stands, and how it was reached: the number of its parent and that of the edge, with the edge's choice. Node 0 has only its location.
+/// Where a node stands, and how it was reached: the number of its parent and that of the edge, with the edge's choice.
+/// Node 0 has only its location.
 #[derive(Clone, Copy)]
 pub struct NodeHead {
     pub location: u32,
@@ -40,7 +42,8 @@ pub struct Due {
     pub forest: Sound,
 }
 
-/// The nodes of an exploration, seen as their list. The number of a node is its place in it, and they are fewer than 2^32.
+/// The nodes of an exploration, seen as their list. The number of a node is its place in it, and they are fewer than
+/// 2^32.
 #[derive(Drop)]
 pub struct Nodes {
     items: List<Node>,
@@ -79,15 +82,19 @@ impl Nodes {
     /// The forest of the node. Err is want of memory.
     pub fn forest(&self, alloc: Global, node: u32) -> Mem<Sound>
         requires { node < length self.now }
-        ensures { IfOk result (λ forest. (n : Node) → IsNode self.now node n → (forest.forest ≡ n.state.forest) × (forest.face ≡ n.state.face)) }
+        ensures { IfOk result (λ forest. (n : Node) → IsNode self.now node n → (forest.forest ≡ n.state.forest)
+            × (forest.face ≡ n.state.face)) }
     {
         self.items.at(node as usize).state.forest().copy(alloc)
     }
 
-    /// The forest of the node before it was folded and abstracted: there exactly at a loop head other than node 0. Err is want of memory.
+    /// The forest of the node before it was folded and abstracted: there exactly at a loop head other than node 0. Err
+    /// is want of memory.
     pub fn middle(&self, alloc: Global, node: u32) -> Mem<Option<Sound>>
         requires { node < length self.now }
-        ensures { IfOk result (λ middle. (n : Node) → IsNode self.now node n → MatchOption middle (n.state.middle ≡ None) (λ forest. (n.state.middle ≡ Some forest.forest) × (forest.face ≡ n.state.face))) }
+        ensures { IfOk result (λ middle. (n : Node) → IsNode self.now node n
+            → MatchOption middle (n.state.middle ≡ None)
+            (λ forest. (n.state.middle ≡ Some forest.forest) × (forest.face ≡ n.state.face))) }
     {
         match self.items.at(node as usize).state.middle() {
             Some(middle) => Ok(Some(middle.copy(alloc)?)),
@@ -106,7 +113,8 @@ impl Nodes {
     /// The location and the forest of the node. Err is want of memory.
     pub fn due(&self, alloc: Global, node: u32) -> Mem<Due>
         requires { node < length self.now }
-        ensures { IfOk result (λ due. (n : Node) → IsNode self.now node n → (due.location ≡ n.head.location) × (due.forest.forest ≡ n.state.forest) × (due.forest.face ≡ n.state.face)) }
+        ensures { IfOk result (λ due. (n : Node) → IsNode self.now node n → (due.location ≡ n.head.location)
+            × (due.forest.forest ≡ n.state.forest) × (due.forest.face ≡ n.state.face)) }
     {
         Ok(Due {
             location: self.head(node).location,
@@ -135,7 +143,8 @@ impl Nodes {
         self.items.push(node)
     }
 
-    /// Whether a node of the location covers the forest of the state. Only the nodes of this location are looked at. Err is want of memory.
+    /// Whether a node of the location covers the forest of the state. Only the nodes of this location are looked at.
+    /// Err is want of memory.
     pub fn is_covered(&self, alloc: Global, location: u32, state: &State) -> Mem<bool>
         requires { (n : Node) → IsIn n self.now → n.state.face ≡ state.now.face }
         ensures { IfOk result (CoversOrNot self.now location state.now.forest) }

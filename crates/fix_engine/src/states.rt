@@ -9,7 +9,8 @@ use fore_base::memory::Mem;
 use std::alloc::Global;
 use std::marker::Model;
 
-/// The abstract state of a node: its forest and, at a loop head, the forest before it was folded and abstracted, with the folds. Both forests stand over one face.
+/// The abstract state of a node: its forest and, at a loop head, the forest before it was folded and abstracted, with
+/// the folds. Both forests stand over one face.
 #[derive(Drop)]
 pub struct State {
     forest: Sound,
@@ -22,7 +23,13 @@ impl Model for State {
 
     ghost Value = { AbstractState };
 
-    ghost view = { λ s. record { face = s.forest.face; forest = s.forest.forest; middle = forest_of s.middle; folds = s.folds } };
+    ghost view = { λ s.
+        record {
+          face = s.forest.face;
+          forest = s.forest.forest;
+          middle = forest_of s.middle;
+          folds = s.folds;
+        } };
 
     ghost invariant = { λ s. IsOver s.forest.face s.middle };
 }
@@ -42,7 +49,13 @@ impl State {
     /// The state of a case that was folded and abstracted: `middle` is the case.
     pub fn settled(forest: Sound, middle: Sound, folds: List<FoldStep>) -> State
         requires { middle.face ≡ forest.face }
-        ensures { result ≡ record { face = forest.face; forest = forest.forest; middle = Some middle.forest; folds = folds } }
+        ensures { result
+            ≡ record {
+              face = forest.face;
+              forest = forest.forest;
+              middle = Some middle.forest;
+              folds = folds;
+            } }
     {
         State {
             forest,
@@ -61,7 +74,8 @@ impl State {
 
     /// The forest before it was folded and abstracted, if it was.
     pub fn middle(&self) -> Option<&Sound>
-        ensures { MatchOption result (self.now.middle ≡ None) (λ middle. (self.now.middle ≡ Some middle.now.forest) × (middle.now.face ≡ self.now.face)) }
+        ensures { MatchOption result (self.now.middle ≡ None)
+            (λ middle. (self.now.middle ≡ Some middle.now.forest) × (middle.now.face ≡ self.now.face)) }
     {
         match &self.middle {
             Some(middle) => Some(middle),

@@ -1,4 +1,5 @@
-// The posts of a node, taken up: edge by edge, the faults of an edge before its cases, and each case as a node that no node of its location covers.
+// The posts of a node, taken up: edge by edge, the faults of an edge before its cases, and each case as a node that no
+// node of its location covers.
 ghost use Rattle.std.specs.Prelude.{◌≡◌, ◌≤◌, [], length, IfOk};
 ghost use Rattle.fore_base.specs.Lists.{Every};
 ghost use Rattle.fa_core.specs.Filled.{IsSound};
@@ -42,7 +43,9 @@ pub fn take_node<R: Threads + Sync, G: Gate>(
     requires rises { Rises (edge_numbers made.now) }
     requires within { length nodes.old ≤ task.now.budget }
     requires made { Every (IsMadeAt task.now.table task.now.graph nodes.old at) made.now }
-    ensures { IfOk result (IsTakenNode task.now.table task.now.graph task.now.height nodes.old at task.now.budget nodes.new) }
+    ensures { IfOk result
+        (IsTakenNode task.now.table task.now.graph task.now.height nodes.old at
+        task.now.budget nodes.new) }
 {
     for next in made {
         match take_edge(task, nodes, at, next)? {
@@ -63,7 +66,9 @@ fn take_edge<R: Threads + Sync, G: Gate>(
     requires mid { IsMid task.now.table task.now.graph task.now.height nodes.old at made.now.edge [] }
     requires within { length nodes.old ≤ task.now.budget }
     requires made { IsMadeAt task.now.table task.now.graph nodes.old at made.now }
-    ensures { IfOk result (IsTakenEdge task.now.table task.now.graph task.now.height nodes.old at made.now.edge task.now.budget nodes.new) }
+    ensures { IfOk result
+        (IsTakenEdge task.now.table task.now.graph task.now.height nodes.old at made.now.edge task.now.budget
+        nodes.new) }
 {
     task.known();
     if let Some(first) = made.post.faults.get(0) {
@@ -90,7 +95,8 @@ fn copy_bad(alloc: Global, bad: &Bad) -> Mem<Bad>
     })
 }
 
-/// Takes up the states to which an edge leads: each becomes a node, unless a node of its location covers it. False where the budget has no room for one. Err is want of memory.
+/// Takes up the states to which an edge leads: each becomes a node, unless a node of its location covers it. False
+/// where the budget has no room for one. Err is want of memory.
 fn take_states<R: Threads + Sync, G: Gate>(
     task: &Task<'_, '_, R, G>,
     nodes: &mut Nodes,
@@ -101,7 +107,9 @@ fn take_states<R: Threads + Sync, G: Gate>(
     requires mid { IsMid task.now.table task.now.graph task.now.height nodes.old at number [] }
     requires within { length nodes.old ≤ task.now.budget }
     requires due { AreDue task.now.table task.now.graph task.now.height nodes.old at number states.now }
-    ensures { IfOk result (AreTaken task.now.table task.now.graph task.now.height nodes.old at number task.now.budget states.now nodes.new) }
+    ensures { IfOk result
+        (AreTaken task.now.table task.now.graph task.now.height nodes.old at number task.now.budget states.now
+        nodes.new) }
 {
     task.known();
     let edge = edge_at(task.graph(), number);

@@ -34,9 +34,26 @@ impl<'a, 'g, R: Threads + Sync, G: Gate> Model for Task<'a, 'g, R, G> {
 
     ghost Value = { Job };
 
-    ghost view = { λ t. record { table = t.table.now; graph = t.graph.now; height = t.height; budget = t.budget; jobs = t.crew.now.jobs; exits = t.exits.now } };
+    ghost view = { λ t.
+        record {
+          table = t.table.now;
+          graph = t.graph.now;
+          height = t.height;
+          budget = t.budget;
+          jobs = t.crew.now.jobs;
+          exits = t.exits.now;
+        } };
 
-    ghost invariant = { λ t. IsReady (record { table = t.table.now; graph = t.graph.now; height = t.height; budget = t.budget; jobs = t.crew.now.jobs; exits = t.exits.now }) };
+    ghost invariant = { λ t.
+        IsReady
+        (record {
+          table = t.table.now;
+          graph = t.graph.now;
+          height = t.height;
+          budget = t.budget;
+          jobs = t.crew.now.jobs;
+          exits = t.exits.now;
+        }) };
 }
 
 impl<'a, 'g, R: Threads + Sync, G: Gate> Task<'a, 'g, R, G> {
@@ -50,8 +67,24 @@ impl<'a, 'g, R: Threads + Sync, G: Gate> Task<'a, 'g, R, G> {
         budget: u32,
         crew: &'a Crew<'g, G>,
     ) -> Task<'a, 'g, R, G>
-        requires { IsReady (record { table = table.now; graph = graph.now; height = height; budget = budget; jobs = crew.now.jobs; exits = exits.now }) }
-        ensures { result ≡ record { table = table.now; graph = graph.now; height = height; budget = budget; jobs = crew.now.jobs; exits = exits.now } }
+        requires { IsReady
+            (record {
+              table = table.now;
+              graph = graph.now;
+              height = height;
+              budget = budget;
+              jobs = crew.now.jobs;
+              exits = exits.now;
+            }) }
+        ensures { result
+            ≡ record {
+              table = table.now;
+              graph = graph.now;
+              height = height;
+              budget = budget;
+              jobs = crew.now.jobs;
+              exits = exits.now;
+            } }
     {
         Task {
             rt,

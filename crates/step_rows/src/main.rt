@@ -1,5 +1,5 @@
-//! Rows of steps, joins and edits: what an edge makes of a forest, what is left of forests that are joined, and how a forest
-//! looks after one thing was changed.
+//! Rows of steps, joins and edits: what an edge makes of a forest, what is left of forests that are joined, and how a
+//! forest looks after one thing was changed.
 #![tactic(auto)]
 
 mod changes;

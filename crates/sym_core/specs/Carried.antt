@@ -29,7 +29,8 @@ module _ (face : Face) (T : List BoxDef) where
     pub alike : IsAlike goes_to u
     pub edges : KeepsEdges face.boxes i was alike.to dressed d
 
-  -- the members of R are what the members of H become: none is lost, none is invented, and box edges that are not needed are kept
+  -- the members of R are what the members of H become: none is lost, none is invented, and box edges that are not
+  -- needed are kept
   pub record Carries (H R : Forest) (i : Instr) (x : ℕ) : Type 0 where
     pub forth : (s : Store) → Stands face.shapes.structs T H s → GoesInto R i x s
     pub back : (d : Nodes) (u : Store) → StandsBy face.shapes.structs T R d u → ComesRaw H R i x d u

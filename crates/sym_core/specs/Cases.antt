@@ -1,4 +1,5 @@
--- What an edge of a control graph makes of the members of a forest: no case is lost, none is invented, and each fault is met.
+-- What an edge of a control graph makes of the members of a forest: no case is lost, none is invented, and each fault
+-- is met.
 use Rattle.std.specs.Prelude.{◌≡◌, List}
 use Rattle.fore_base.specs.Heap.{IsAlike}
 use Rattle.fore_base.specs.Lists.{IsIn}
@@ -26,16 +27,19 @@ module _ (face : Face) (T : List BoxDef) where
   abbrev pub FaultsInOne : List BadAt → Fault → Store → Type 0
   FaultsInOne Bads k s = (b : BadAt) × IsIn b Bads × (b.fault ≡ k) × Stands face.shapes.structs T b.at s
 
-  -- where the edge goes on from s, to a member of a forest of Ms; where it faults, s is a member of a Bad with that fault
+  -- where the edge goes on from s, to a member of a forest of Ms; where it faults, s is a member of a Bad with that
+  -- fault
   abbrev pub IsMet : List Forest → List BadAt → Store → Pass → Type 0
   IsMet Ms Bads s (Passed t) = StandsInOne Ms t
   IsMet Ms Bads s (Faulted k) = FaultsInOne Bads k s
   IsMet Ms Bads s Halted = Unit {0}
   IsMet Ms Bads s NotPassed = Unit {0}
 
-  -- no case is lost: each member of F goes into a member of a forest of Ms, or meets the fault of a Bad in which it stands, or does not go on
+  -- no case is lost: each member of F goes into a member of a forest of Ms, or meets the fault of a Bad in which it
+  -- stands, or does not go on
   abbrev pub AllCases : Forest → Edge → List Forest → List BadAt → Type 0
-  AllCases F e Ms Bads = (s : Store) → Stands face.shapes.structs T F s → IsMet Ms Bads s (gstep face.shapes.structs e s)
+  AllCases F e Ms Bads = (s : Store) → Stands face.shapes.structs T F s
+      → IsMet Ms Bads s (gstep face.shapes.structs e s)
 
   -- u is alike to what the edge makes of a member of F
   pub record ComesFrom (F : Forest) (e : Edge) (u : Store) : Type 0 where
@@ -51,4 +55,5 @@ module _ (face : Face) (T : List BoxDef) where
 
   -- each member of a Bad is a member of F that meets its fault
   abbrev pub IsTrueBad : Forest → Edge → BadAt → Type 0
-  IsTrueBad F e b = (s : Store) → Stands face.shapes.structs T b.at s → Stands face.shapes.structs T F s × (gstep face.shapes.structs e s ≡ Faulted b.fault)
+  IsTrueBad F e b = (s : Store) → Stands face.shapes.structs T b.at s → Stands face.shapes.structs T F s
+      × (gstep face.shapes.structs e s ≡ Faulted b.fault)

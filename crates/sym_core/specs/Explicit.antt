@@ -14,7 +14,8 @@ use Rattle.sym_core.specs.Kept.{base_of, Needs}
 abbrev pub target_at : Forest → ℕ → Target
 target_at F x = slice_index_or F.vars x Uninit
 
--- each root at which a variable is has one rule, and each field that the edge needs at the cell of its base ends at one leaf
+-- each root at which a variable is has one rule, and each field that the edge needs at the cell of its base ends at one
+-- leaf
 pub record IsExplicit (F : Forest) (i : Instr) : Type 0 where
   pub tops : (r : ℕ) → IsIn (At r) F.vars → HasOneTop (component_at F.autos r)
   pub plain : (b r f : ℕ) → base_of i ≡ Some b → target_at F b ≡ At r → Needs i f → IsPlainAt F r f

@@ -19,7 +19,8 @@ use Rattle.c_cfg.specs.declared.graph.Const.{Const}
 use Rattle.c_cfg.specs.declared.graph.Const.TheVariants.{Null as ConstNull, Known as ConstKnown}
 use Rattle.c_cfg.specs.declared.graph.Edge.{Edge}
 use Rattle.c_cfg.specs.declared.graph.Instr.{Instr}
-use Rattle.c_cfg.specs.declared.graph.Instr.TheVariants.{CopyPtr, LoadPtr, StorePtr, StoreConst, New, Free, Kill, CopyData, LoadData, StoreData, TestPtr, TestData, Choose, Stop}
+use Rattle.c_cfg.specs.declared.graph.Instr.TheVariants.{CopyPtr, LoadPtr, StorePtr, StoreConst, New, Free, Kill}
+use Rattle.c_cfg.specs.declared.graph.Instr.TheVariants.{CopyData, LoadData, StoreData, TestPtr, TestData, Choose, Stop}
 
 -- What an edge needs.
 
@@ -99,13 +100,15 @@ GivesAt bs (SeenField f v) n g = ⊥
 GivesAt bs (SeenLink b inside v) n g = (v ≡ Cell n) × IsIn g (gives_out_of bs b)
 GivesAt bs (SeenHook b inside) n g = ⊥
 
--- the slot x of cell c stands at the cell n that the edge reads, writes or frees, and that is freed, or x covers or gives a field there that the edge needs
+-- the slot x of cell c stands at the cell n that the edge reads, writes or frees, and that is freed, or x covers or
+-- gives a field there that the edge needs
 pub record IsExcepted (bs : List BoxFace) (i : Instr) (s : Store) (c : SeenCell) (x : Seen) : Type 0 where
   pub base : ℕ
   pub is_base : base_of i ≡ Some base
   pub cell : ℕ
   pub is_cell : var_of s base ≡ Cell cell
-  pub why : (Frees i × (c.cell ≡ cell)) ⊎ ((g : ℕ) × Needs i g × (((c.cell ≡ cell) × CoversAt bs x g) ⊎ GivesAt bs x cell g))
+  pub why : (Frees i × (c.cell ≡ cell))
+      ⊎ ((g : ℕ) × Needs i g × (((c.cell ≡ cell) × CoversAt bs x g) ⊎ GivesAt bs x cell g))
 
 -- cell n has an edge of box b
 abbrev pub HasBoxEdge : List SeenCell → ℕ → ℕ → Type 0
@@ -113,7 +116,8 @@ HasBoxEdge cs n b = (c : SeenCell) × IsIn c cs × (c.cell ≡ n) × ((x : Seen)
 
 -- each box edge of d that is not excepted stands in e, where cells have their numbers by `to`
 abbrev pub KeepsEdges : List BoxFace → Instr → Store → (ℕ → ℕ) → Nodes → Nodes → Type 0
-KeepsEdges bs i s to d e = (c : SeenCell) → IsIn c (cells d) → (x : Seen) → IsIn x c.slots → (b : ℕ) → IsEdgeOf b x → (IsExcepted bs i s c x → ⊥) → HasBoxEdge (cells e) (to c.cell) b
+KeepsEdges bs i s to d e = (c : SeenCell) → IsIn c (cells d) → (x : Seen) → IsIn x c.slots → (b : ℕ) → IsEdgeOf b x
+    → (IsExcepted bs i s c x → ⊥) → HasBoxEdge (cells e) (to c.cell) b
 
 -- the dressed forest d of the store u comes by the edge from one of F, whose box edges it has
 pub record Comes (face : Face) (T : List BoxDef) (F : Forest) (e : Edge) (d : Nodes) (u : Store) : Type 0 where

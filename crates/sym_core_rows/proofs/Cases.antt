@@ -114,24 +114,30 @@ module _ (T : List BoxDef) where
   member_vars t s (more n d, h) = absurd h.of
 
   null_stands : Stands [] T null_forest (store Null)
-  null_stands = (no_nodes, record {
-    proper = record { differ = tt; below = tt; vars = (tt, tt); fields = tt };
-    fields = tt;
-    of = tt;
-    same_facts = empty;
-    vars = refl;
-    data_vars = refl;
-  })
+  null_stands = (
+    no_nodes,
+    record {
+      proper = record { differ = tt; below = tt; vars = (tt, tt); fields = tt };
+      fields = tt;
+      of = tt;
+      same_facts = empty;
+      vars = refl;
+      data_vars = refl;
+    },
+  )
 
   uninit_stands : Stands [] T (only UninitTarget) (store Uninit)
-  uninit_stands = (no_nodes, record {
-    proper = record { differ = tt; below = tt; vars = (tt, tt); fields = tt };
-    fields = tt;
-    of = tt;
-    same_facts = empty;
-    vars = refl;
-    data_vars = refl;
-  })
+  uninit_stands = (
+    no_nodes,
+    record {
+      proper = record { differ = tt; below = tt; vars = (tt, tt); fields = tt };
+      fields = tt;
+      of = tt;
+      same_facts = empty;
+      vars = refl;
+      data_vars = refl;
+    },
+  )
 
   -- a store with an uninitialised variable is no member where it is null, and the other way
   differ : (v w : Value) → v ∷ [] ≡ w ∷ [] → kind v ≡ kind w
@@ -221,7 +227,7 @@ module _ (T : List BoxDef) where
       let w = h (store Uninit) uninit_stands in
       let same : w.was ≡ w.goes_to = ap passed (sym (passes w.was w.stands) ∙ w.goes) in
       let v : w.goes_to.vars ≡ Null ∷ [] =
-          ap (λ (s : Store). s.vars) (sym same) ∙ member_vars NullTarget w.was w.stands in
+      ap (λ (s : Store). s.vars) (sym same) ∙ member_vars NullTarget w.was w.stands in
       let z : 1 ≡ 0 = ap first (w.alike.vars ∙ ap (λ (vs : List Value). map (value_renamed w.alike.to) vs) v) in
       omega (arith, z)
 

@@ -93,21 +93,41 @@ freed_at_output = record { base = 1; is_base = refl; cell = 4; is_cell = refl; w
 
 -- field 0 of cell 7, which the edge covers, is read, or null is written into it
 read_where_it_covers : IsExcepted bs (LoadPtr 5 0 0) store seven edge
-read_where_it_covers = record { base = 0; is_base = refl; cell = 7; is_cell = refl;
-    why = inr (0, refl, inl (refl, inl refl)) }
+read_where_it_covers = record {
+  base = 0;
+  is_base = refl;
+  cell = 7;
+  is_cell = refl;
+  why = inr (0, refl, inl (refl, inl refl));
+}
 
 written_where_it_covers : IsExcepted bs (StoreConst 0 0 ConstNull) store seven edge
-written_where_it_covers = record { base = 0; is_base = refl; cell = 7; is_cell = refl;
-    why = inr (0, refl, inl (refl, inl refl)) }
+written_where_it_covers = record {
+  base = 0;
+  is_base = refl;
+  cell = 7;
+  is_cell = refl;
+  why = inr (0, refl, inl (refl, inl refl));
+}
 
 -- field 1 of cell 4, which the edge gives, is read, or written
 read_where_it_gives : IsExcepted bs (LoadPtr 5 1 1) store seven edge
-read_where_it_gives = record { base = 1; is_base = refl; cell = 4; is_cell = refl;
-    why = inr (1, refl, inr (refl, inl refl)) }
+read_where_it_gives = record {
+  base = 1;
+  is_base = refl;
+  cell = 4;
+  is_cell = refl;
+  why = inr (1, refl, inr (refl, inl refl));
+}
 
 written_where_it_gives : IsExcepted bs (StorePtr 1 1 2) store seven edge
-written_where_it_gives = record { base = 1; is_base = refl; cell = 4; is_cell = refl;
-    why = inr (1, refl, inr (refl, inl refl)) }
+written_where_it_gives = record {
+  base = 1;
+  is_base = refl;
+  cell = 4;
+  is_cell = refl;
+  why = inr (1, refl, inr (refl, inl refl));
+}
 
 -- Edges that are not excepted.
 
@@ -185,7 +205,9 @@ kept i c j x k b e n =
     let q = w.2 in
     rw (p, q) (
       record { cell = 17; shape = 0; datums = []; slots = SeenLink 0 no_nodes (Cell 14) ∷ SeenField 1 Null ∷ [] },
-      inl refl, refl, (SeenLink 0 no_nodes (Cell 14), inl refl, refl),
+      inl refl,
+      refl,
+      (SeenLink 0 no_nodes (Cell 14), inl refl, refl),
     )
 
 -- it may be opened where it is excepted
@@ -193,7 +215,7 @@ opened_where_needed : KeepsEdges bs (LoadPtr 5 0 0) store to before opened
 opened_where_needed c j x k b e n =
     let w = one_edge c x b j k e in
     absurd (n (subst (λ (o : SeenCell). IsExcepted bs (LoadPtr 5 0 0) store o x) (sym w.0)
-        (subst (λ (y : Seen). IsExcepted bs (LoadPtr 5 0 0) store seven y) (sym w.1) read_where_it_covers)))
+    (subst (λ (y : Seen). IsExcepted bs (LoadPtr 5 0 0) store seven y) (sym w.1) read_where_it_covers)))
 
 abbrev no_edge_there : Nodes → Type 0
 no_edge_there d = HasBoxEdge (cells d) 17 0 → ⊥

@@ -1,5 +1,6 @@
 -- Where a cell is freed in a field of which a cell of its own stands, nothing names that cell any more: a leak.
-use Rattle.std.proofs.Common.{◌≡◌, ◌≢◌, inl, inr, ℕ, Bool, true, false, nat_eq, if◌then◌else◌, List, [], ◌∷◌, map, refl, sym, ap, subst, ◌∙◌, true≢false, Some, slice_index_or}
+use Rattle.std.proofs.Common.{◌≡◌, ◌≢◌, inl, inr, ℕ, Bool, true, false, nat_eq, if◌then◌else◌, List, [], ◌∷◌, map, refl}
+use Rattle.std.proofs.Common.{sym, ap, subst, ◌∙◌, true≢false, Some, slice_index_or}
 use Rattle.std.proofs.lemmas.Bool.{eqb-true, eq-eqb}
 use Rattle.std.proofs.Math.ListN.{get_or-map}
 use Rattle.fore_base.specs.Heap.{Reach, by_var, by_field, Leaked, leaks}
@@ -11,7 +12,8 @@ use Rattle.fore_base.specs.declared.store.CellRec.{CellRec}
 use Rattle.fore_base.specs.declared.store.Datum.{Datum}
 use Rattle.fore_base.specs.declared.store.Store.{Store}
 use Rattle.fore_base.specs.declared.store.Value.{Value}
-use Rattle.fore_base.specs.declared.store.Value.TheVariants.{Null as NullValue, Uninit as UninitValue, Dangling as DanglingValue, Cell}
+use Rattle.fore_base.specs.declared.store.Value.TheVariants.{Null as NullValue, Uninit as UninitValue}
+use Rattle.fore_base.specs.declared.store.Value.TheVariants.{Dangling as DanglingValue, Cell}
 use Rattle.fore_base.proofs.Leaks.{sound_unleaked}
 use Rattle.fore_base.proofs.ListLemmas.{in_mapped, every_in}
 use Rattle.ta_core.specs.Auto.{IsRanked}
@@ -69,12 +71,14 @@ cell_left : (c : ℕ) (cs : List CellRec) (x : CellRec) → IsIn x cs → x.numb
 cell_left c [] x i d = absurd i
 cell_left c (y ∷ cs) x (inl e) d = here (nat_eq y.number c) refl
   where
-    here : (b : Bool) → nat_eq y.number c ≡ b → IsIn (dangle_in c x) (if b then without c cs else dangle_in c y ∷ without c cs)
+    here : (b : Bool) → nat_eq y.number c ≡ b
+        → IsIn (dangle_in c x) (if b then without c cs else dangle_in c y ∷ without c cs)
     here true q = absurd (d (ap (λ (z : CellRec). z.number) e ∙ eqb-true y.number c q))
     here false q = inl (ap (dangle_in c) e)
 cell_left c (y ∷ cs) x (inr i) d = here (nat_eq y.number c) (cell_left c cs x i d)
   where
-    here : (b : Bool) → IsIn (dangle_in c x) (without c cs) → IsIn (dangle_in c x) (if b then without c cs else dangle_in c y ∷ without c cs)
+    here : (b : Bool) → IsIn (dangle_in c x) (without c cs)
+        → IsIn (dangle_in c x) (if b then without c cs else dangle_in c y ∷ without c cs)
     here true k = k
     here false k = inr k
 
@@ -89,14 +93,17 @@ left_cell c (x ∷ cs) y i = here (nat_eq x.number c) refl (λ j. left_cell c cs
     later : WasCell c cs y → WasCell c (x ∷ cs) y
     later k = (k.0, inr k.1, k.2, k.3)
 
-    here : (b : Bool) → nat_eq x.number c ≡ b → (IsIn y (without c cs) → WasCell c cs y) → IsIn y (if b then without c cs else dangle_in c x ∷ without c cs) → WasCell c (x ∷ cs) y
+    here : (b : Bool) → nat_eq x.number c ≡ b → (IsIn y (without c cs) → WasCell c cs y)
+        → IsIn y (if b then without c cs else dangle_in c x ∷ without c cs) → WasCell c (x ∷ cs) y
     here true q rec j = later (rec j)
     here false q rec (inl e) = (x, inl refl, (λ w. true≢false (sym (eq-eqb x.number c w) ∙ q)), e)
     here false q rec (inr j) = later (rec j)
 
 -- the store, for which d stands, without the cell of root r: the cell in its field at place p cannot be reached
-module _ (hs : List Shape) (T : List BoxDef) (F : Forest) (d : Nodes) (s : Store) (h : StandsBy hs T F d s) (plain : NoEdgesIn d) where
-  module _ (r p c sh : ℕ) (ds : List Datum) (ps : Parts) (x : Node) (is_above : node_at d r ≡ Some (node c sh ds ps)) (is_child : end_at p ps ≡ Some (under x)) where
+module _ (hs : List Shape) (T : List BoxDef) (F : Forest) (d : Nodes) (s : Store) (h : StandsBy hs T F d s)
+    (plain : NoEdgesIn d) where
+  module _ (r p c sh : ℕ) (ds : List Datum) (ps : Parts) (x : Node) (is_above : node_at d r ≡ Some (node c sh ds ps))
+      (is_child : end_at p ps ≡ Some (under x)) where
     abbrev m : ℕ
     m = number x
 
@@ -123,7 +130,9 @@ module _ (hs : List Shape) (T : List BoxDef) (F : Forest) (d : Nodes) (s : Store
     no_field : (y : CellRec) → IsIn y s.cells → y.number ≢ c → IsIn (Cell m) y.fields → ⊥
     no_field y i w j =
         let k = pointer_stored s.cells y (Cell m) i j in
-        w (every_in (OnlyFrom c m) (facts d) (Points y.number k.0 (Cell m)) from_freed (in_rearranged (Points y.number k.0 (Cell m)) (back h.same_facts) k.1) refl)
+        w
+        (every_in (OnlyFrom c m) (facts d) (Points y.number k.0 (Cell m)) from_freed
+        (in_rearranged (Points y.number k.0 (Cell m)) (back h.same_facts) k.1) refl)
 
     unreached : (n : ℕ) → n ≡ m → Reach (without_cell c s) n → ⊥
     unreached n e (by_var i) =
@@ -154,20 +163,27 @@ module _ (hs : List Shape) (T : List BoxDef) (F : Forest) (d : Nodes) (s : Store
         ∙ node_root d r (node c sh ds ps) is_above in
         ap (λ (i : Instr). leak_tested (raw_step hs i (choice_of e.choice) s)) is
         ∙ ap (λ (v : Value). leak_tested (onto (freed s v) Passed)) var
-        ∙ ap (λ (l : Bool). if l then Faulted Leak else Passed (without_cell c s)) (leaked_leaks (without_cell c s) freed_leaks)
+        ∙ ap (λ (l : Bool). if l then Faulted Leak else Passed (without_cell c s))
+        (leaked_leaks (without_cell c s) freed_leaks)
       where
         get_value : List Value → ℕ → Value
         get_value vs k = slice_index_or vs k UninitValue
 
 -- Each member of the forest in which the child's cells are a root meets a leak where the cell above is freed.
-module _ (face : Face) (F : Forest) (r p : ℕ) (sound : IsSound face F) (ranked : Every IsRanked F.autos) (plain : Every HasNoBoxes F.autos) (can : CanSplit F r p) (e : Edge) (frees : IsFreeAt F e r) where
-  pub cells_leak : (T : List BoxDef) (s : Store) → Stands face.shapes.structs T (split_cells F r p) s → gstep face.shapes.structs e s ≡ Faulted Leak
+module _ (face : Face) (F : Forest) (r p : ℕ) (sound : IsSound face F) (ranked : Every IsRanked F.autos)
+    (plain : Every HasNoBoxes F.autos) (can : CanSplit F r p) (e : Edge) (frees : IsFreeAt F e r) where
+  pub cells_leak : (T : List BoxDef) (s : Store) → Stands face.shapes.structs T (split_cells F r p) s
+      → gstep face.shapes.structs e s ≡ Faulted Leak
   cells_leak T s (u, h) =
       let k = of_taken F r p ranked can T u h.of in
       let g = taken_regroups F r p ranked can T (refers_well face F sound) k.0 u k.1 k.2 in
       let own : StandsBy face.shapes.structs T F k.0 s =
-      stands_regrouped face.shapes.structs T F (split_cells F r p) s u k.0 h (record { of = k.1; same_cells = back g.same_cells; vars = sym g.vars; data_vars = refl }) in
+      stands_regrouped face.shapes.structs T F (split_cells F r p) s u k.0 h
+      (record { of = k.1; same_cells = back g.same_cells; vars = sym g.vars; data_vars = refl }) in
       here k.0 own k.2.above k.2.is_above k.2.child k.2.is_child
     where
-      here : (d : Nodes) → StandsBy face.shapes.structs T F d s → (n : Node) → node_at d r ≡ Some n → (x : Node) → end_at p (top_parts n) ≡ Some (under x) → gstep face.shapes.structs e s ≡ Faulted Leak
-      here d own (node c sh ds ps) at x is = free_leaks face.shapes.structs T F d s own (trees_no_edges T F.autos d plain own.of) r p c sh ds ps x at is e frees
+      here : (d : Nodes) → StandsBy face.shapes.structs T F d s → (n : Node) → node_at d r ≡ Some n → (x : Node)
+          → end_at p (top_parts n) ≡ Some (under x) → gstep face.shapes.structs e s ≡ Faulted Leak
+      here d own (node c sh ds ps) at x is =
+          free_leaks face.shapes.structs T F d s own (trees_no_edges T F.autos d plain own.of) r p c sh ds ps x at is e
+          frees

@@ -1,4 +1,5 @@
--- Regrouped forests have the members and the box edges of each other, and what an edit gives goes on where it does not leak.
+-- Regrouped forests have the members and the box edges of each other, and what an edit gives goes on where it does not
+-- leak.
 use Rattle.std.proofs.Common.{◌≡◌, ℕ, Bool, true, false, if◌then◌else◌, List, refl, ap, ◌∙◌}
 use Rattle.fore_base.specs.Heap.{Leaked, leaks}
 use Rattle.fore_base.specs.declared.fault.Fault.{Fault}
@@ -20,7 +21,8 @@ use Rattle.sym_core.specs.Carried.{Carries, AllGo}
 use Rattle.sym_core.specs.Cases.{BadAt, IsTrueBad}
 use Rattle.sym_core.specs.Kept.{HasBoxEdge, Keeps}
 
-edges_moved : (d e : Nodes) → Rearranged (cells d) (cells e) → (m b : ℕ) → HasBoxEdge (cells d) m b → HasBoxEdge (cells e) m b
+edges_moved : (d e : Nodes) → Rearranged (cells d) (cells e) → (m b : ℕ) → HasBoxEdge (cells d) m b
+    → HasBoxEdge (cells e) m b
 edges_moved d e r m b (c, i, q, x) = (c, in_rearranged c r i, q, x)
 
 -- the leak test is false where the store has not leaked
@@ -69,23 +71,33 @@ module _ (face : Face) (T : List BoxDef) (e : Edge) where
   -- The leak test.
 
   -- each member meets the edge's own fault
-  pub fault_met : (H : Forest) (k : Fault) → AllGo face T H e.instr (choice_of e.choice) (Faulted k) → (s : Store) → Stands face.shapes.structs T H s → gstep face.shapes.structs e s ≡ Faulted k
+  pub fault_met : (H : Forest) (k : Fault) → AllGo face T H e.instr (choice_of e.choice) (Faulted k) → (s : Store)
+      → Stands face.shapes.structs T H s → gstep face.shapes.structs e s ≡ Faulted k
   fault_met H k w s h = ap leak_tested (w s h)
 
   -- where the edited forest leaks, the fault is a leak
-  pub leak_met : (H R : Forest) → Carries face T H R e.instr (choice_of e.choice) → ((t : Store) → Stands face.shapes.structs T R t → leaks t ≡ true) → (s : Store) → Stands face.shapes.structs T H s → gstep face.shapes.structs e s ≡ Faulted Leak
+  pub leak_met : (H R : Forest) → Carries face T H R e.instr (choice_of e.choice)
+      → ((t : Store) → Stands face.shapes.structs T R t → leaks t ≡ true) → (s : Store)
+      → Stands face.shapes.structs T H s → gstep face.shapes.structs e s ≡ Faulted Leak
   leak_met H R c w s h =
       let g = c.forth s h in
       ap leak_tested g.goes ∙ ap (λ (b : Bool). if b then Faulted Leak else Passed g.next) (w g.next g.stands)
 
   -- where it does not, the edge goes on
-  pub goes_on : (H R : Forest) → Carries face T H R e.instr (choice_of e.choice) → ((t : Store) → Stands face.shapes.structs T R t → leaks t ≡ false) → (s : Store) → Stands face.shapes.structs T H s → (t : Store) × (gstep face.shapes.structs e s ≡ Passed t) × Stands face.shapes.structs T R t
+  pub goes_on : (H R : Forest) → Carries face T H R e.instr (choice_of e.choice)
+      → ((t : Store) → Stands face.shapes.structs T R t → leaks t ≡ false) → (s : Store)
+      → Stands face.shapes.structs T H s → (t : Store) × (gstep face.shapes.structs e s ≡ Passed t)
+      × Stands face.shapes.structs T R t
   goes_on H R c w s h =
-      let g = c.forth s h in
-      (g.next, ap leak_tested g.goes ∙ ap (λ (b : Bool). if b then Faulted Leak else Passed g.next) (w g.next g.stands), g.stands)
+      let g = c.forth s h in (
+        g.next,
+        ap leak_tested g.goes ∙ ap (λ (b : Bool). if b then Faulted Leak else Passed g.next) (w g.next g.stands),
+        g.stands,
+      )
 
   -- and keeps the box edges
-  pub goes_keeps : (H R : Forest) → Carries face T H R e.instr (choice_of e.choice) → ((t : Store) → Stands face.shapes.structs T R t → leaks t ≡ false) → Keeps face T H e R
+  pub goes_keeps : (H R : Forest) → Carries face T H R e.instr (choice_of e.choice)
+      → ((t : Store) → Stands face.shapes.structs T R t → leaks t ≡ false) → Keeps face T H e R
   goes_keeps H R c w d u m =
       let k = c.back d u m in
       record {
@@ -93,7 +105,8 @@ module _ (face : Face) (T : List BoxDef) (e : Edge) where
         was = k.was;
         goes_to = k.goes_to;
         stands = k.stands;
-        goes = ap leak_tested k.goes ∙ ap (λ (b : Bool). if b then Faulted Leak else Passed k.goes_to) (w k.goes_to k.into);
+        goes = ap leak_tested k.goes
+            ∙ ap (λ (b : Bool). if b then Faulted Leak else Passed k.goes_to) (w k.goes_to k.into);
         alike = k.alike;
         edges = k.edges;
       }

@@ -1,5 +1,6 @@
 -- The forests into which a child is split: one leaf stands in its place, and what other places show stays.
-use Rattle.std.proofs.Common.{◌≡◌, ◌≢◌, ◌⊎◌, inl, inr, ℕ, ◌+◌, ◌<◌, ◌≤◌, List, [], ◌∷◌, length, refl, sym, ap, subst, ◌∙◌, slice_index_or, slice_set, length-set, arith}
+use Rattle.std.proofs.Common.{◌≡◌, ◌≢◌, ◌⊎◌, inl, inr, ℕ, ◌+◌, ◌<◌, ◌≤◌, List, [], ◌∷◌, length, refl, sym, ap, subst}
+use Rattle.std.proofs.Common.{◌∙◌, slice_index_or, slice_set, length-set, arith}
 use Rattle.std.proofs.lemmas.List.{get_or-set_same, get_or-set_other, length-append}
 use Rattle.fore_base.specs.Lists.{IsIn, Every}
 use Rattle.fore_base.proofs.ListLemmas.{in_left, in_right, in_append, every_in, every_get}
@@ -22,7 +23,8 @@ use Rattle.fa_edit.specs.Plain.{field_place, place_at, IsOnlyLeaf, IsLeafPlace}
 use Rattle.sym_step.specs.inner.Opening.{width}
 
 -- An automaton with a leaf fixed at place p.
-module _ (a : Automaton) (p : ℕ) (y : Target) (ranked : IsRanked a) (one : HasOneTop a) (place : p < length (top_rule a).children) where
+module _ (a : Automaton) (p : ℕ) (y : Target) (ranked : IsRanked a) (one : HasOneTop a)
+    (place : p < length (top_rule a).children) where
   abbrev b : Automaton
   b = fixed a p y
 
@@ -33,10 +35,12 @@ module _ (a : Automaton) (p : ℕ) (y : Target) (ranked : IsRanked a) (one : Has
   children_set = ap (λ (x : Rule). x.children) (fixed_top a p y ranked one place)
 
   child_here : child_state b p ≡ a.states + 1
-  child_here = ap (λ (qs : List ℕ). slice_index_or qs p 0) children_set ∙ get_or-set_same (top_rule a).children p (a.states + 1) 0 place
+  child_here = ap (λ (qs : List ℕ). slice_index_or qs p 0) children_set
+      ∙ get_or-set_same (top_rule a).children p (a.states + 1) 0 place
 
   child_other : (k : ℕ) → k ≢ p → child_state b k ≡ child_state a k
-  child_other k d = ap (λ (qs : List ℕ). slice_index_or qs k 0) children_set ∙ get_or-set_other (top_rule a).children p k (a.states + 1) 0 d
+  child_other k d = ap (λ (qs : List ℕ). slice_index_or qs k 0) children_set
+      ∙ get_or-set_other (top_rule a).children p k (a.states + 1) 0 d
 
   pub symbol_stays : (top_rule b).symbol ≡ (top_rule a).symbol
   symbol_stays = ap (λ (x : Rule). x.symbol) (fixed_top a p y ranked one place)
@@ -58,9 +62,11 @@ module _ (a : Automaton) (p : ℕ) (y : Target) (ranked : IsRanked a) (one : Has
   })
 
   -- and what stands at another place stays
-  pub leaf_other : (k : ℕ) (t : Target) → k ≢ p → k < length (top_rule a).children → IsOnlyLeaf a.rules (child_state a k) t → IsOnlyLeaf b.rules (child_state b k) t
+  pub leaf_other : (k : ℕ) (t : Target) → k ≢ p → k < length (top_rule a).children
+      → IsOnlyLeaf a.rules (child_state a k) t → IsOnlyLeaf b.rules (child_state b k) t
   leaf_other k t d l h =
-      let c : child_state a k < a.states = every_get (λ (q : ℕ). q < a.states) (top_rule a).children k 0 (low (top_rule a) (top_in a one)).1 l in
+      let c : child_state a k < a.states =
+      every_get (λ (q : ℕ). q < a.states) (top_rule a).children k 0 (low (top_rule a) (top_in a one)).1 l in
       subst (λ (q : ℕ). IsOnlyLeaf b.rules q t) (sym (child_other k d)) (record {
         there = (h.there.0, in_left h.there.0 a.rules (both a p y ranked one place) h.there.1, h.there.2);
         only = λ x i s. elim (in_append x a.rules (both a p y ranked one place) i) [
@@ -110,35 +116,45 @@ module _ (F : Forest) (r p : ℕ) (ranked : Every IsRanked F.autos) (can : CanSp
   others_of = slice_set F.autos r (fixed a p (At (length F.autos)))
 
   pub cells_count : length (split_cells F r p).autos ≡ length F.autos + 1
-  cells_count = length-append others_of (lifted a (child_state a p) ∷ []) ∙ ap (λ (n : ℕ). n + 1) (length-set F.autos r (fixed a p (At (length F.autos))))
+  cells_count = length-append others_of (lifted a (child_state a p) ∷ [])
+      ∙ ap (λ (n : ℕ). n + 1) (length-set F.autos r (fixed a p (At (length F.autos))))
 
   pub cells_piece : IsPiece F r p (At (length F.autos)) (split_cells F r p)
   cells_piece = record {
     vars = refl;
     few = let w = cells_count in omega (arith, w);
-    here = component_first others_of (lifted a (child_state a p)) r (set_less F.autos r (fixed a p (At (length F.autos))) can.root) ∙ component_set F.autos r (fixed a p (At (length F.autos))) can.root;
-    others = λ k l d. component_first others_of (lifted a (child_state a p)) k (let w = length-set F.autos r (fixed a p (At (length F.autos))) in omega (arith, w, l)) ∙ component_other F.autos r k (fixed a p (At (length F.autos))) d;
+    here = component_first others_of (lifted a (child_state a p)) r
+        (set_less F.autos r (fixed a p (At (length F.autos))) can.root)
+        ∙ component_set F.autos r (fixed a p (At (length F.autos))) can.root;
+    others = λ k l d. component_first others_of (lifted a (child_state a p)) k
+        (let w = length-set F.autos r (fixed a p (At (length F.autos))) in omega (arith, w, l))
+        ∙ component_other F.autos r k (fixed a p (At (length F.autos))) d;
   }
 
   module _ (tops : Every HasOneTop F.autos) (y : Target) (G : Forest) (piece : IsPiece F r p y G) where
     -- the roots that were there have one rule each
     pub tops_stay : (k : ℕ) → k < length F.autos → HasOneTop (component_at G.autos k)
     tops_stay k l = elim (same_or_other k r) [
-      | inl e ↦ subst (λ (n : ℕ). HasOneTop (component_at G.autos n)) (sym e) (subst HasOneTop (sym piece.here) (fixed_one a p y a_ranked can.top can.place))
+      | inl e ↦ subst (λ (n : ℕ). HasOneTop (component_at G.autos n)) (sym e)
+          (subst HasOneTop (sym piece.here) (fixed_one a p y a_ranked can.top can.place))
       | inr d ↦ subst HasOneTop (sym (piece.others k l d)) (component_has HasOneTop F.autos k tops l)
     ]
 
     pub symbol_there : (top_rule (component_at G.autos r)).symbol ≡ (top_rule a).symbol
-    symbol_there = ap (λ (c : Automaton). (top_rule c).symbol) piece.here ∙ symbol_stays a p y a_ranked can.top can.place
+    symbol_there = ap (λ (c : Automaton). (top_rule c).symbol) piece.here
+        ∙ symbol_stays a p y a_ranked can.top can.place
 
     pub width_there : width G r ≡ width F r
-    width_there = ap (λ (c : Automaton). length (top_rule c).children) piece.here ∙ width_stays a p y a_ranked can.top can.place
+    width_there = ap (λ (c : Automaton). length (top_rule c).children) piece.here
+        ∙ width_stays a p y a_ranked can.top can.place
 
     pub place_there : (f : ℕ) → place_at G r f ≡ place_at F r f
     place_there f = ap (λ (x : Symbol). field_place f (symbol_slots x)) symbol_there
 
     pub leaf_there : IsLeafPlace G r p y
-    leaf_there = subst (λ (c : Automaton). IsOnlyLeaf c.rules (child_state c p) y) (sym piece.here) (leaf_here a p y a_ranked can.top can.place)
+    leaf_there = subst (λ (c : Automaton). IsOnlyLeaf c.rules (child_state c p) y) (sym piece.here)
+        (leaf_here a p y a_ranked can.top can.place)
 
     pub leaf_kept : (k : ℕ) (t : Target) → k ≢ p → k < width F r → IsLeafPlace F r k t → IsLeafPlace G r k t
-    leaf_kept k t d l h = subst (λ (c : Automaton). IsOnlyLeaf c.rules (child_state c k) t) (sym piece.here) (leaf_other a p y a_ranked can.top can.place k t d l h)
+    leaf_kept k t d l h = subst (λ (c : Automaton). IsOnlyLeaf c.rules (child_state c k) t) (sym piece.here)
+        (leaf_other a p y a_ranked can.top can.place k t d l h)

@@ -10,7 +10,8 @@ use Rattle.fa_sound.specs.Soundness.{SoundForest}
 use Rattle.c_cfg.specs.declared.graph.Const.TheVariants.{Null as ConstNull, Known as ConstKnown}
 use Rattle.c_cfg.specs.declared.graph.DataArg.TheVariants.{Var as ArgVar}
 use Rattle.c_cfg.specs.declared.graph.PtrArg.TheVariants.{Var as PtrVar}
-use Rattle.c_cfg.specs.declared.graph.Instr.TheVariants.{CopyPtr, LoadPtr, StorePtr, StoreConst, New, Free, Kill, CopyData, LoadData, StoreData, TestPtr, TestData, Choose, Stop}
+use Rattle.c_cfg.specs.declared.graph.Instr.TheVariants.{CopyPtr, LoadPtr, StorePtr, StoreConst, New, Free, Kill}
+use Rattle.c_cfg.specs.declared.graph.Instr.TheVariants.{CopyData, LoadData, StoreData, TestPtr, TestData, Choose, Stop}
 use Rattle.sym_step.specs.Posts.{bads, HasAsMany}
 use Rattle.sym_step.specs.inner.Needing.{needs_of}
 use Rattle.sym_step.specs.inner.Opening.{of_count, leaks_but}
@@ -99,5 +100,6 @@ one_bad = refl
 those_of_one_root : of_count 1 (signed one ∷ signed two ∷ signed one ∷ []) ≡ signed one ∷ signed one ∷ []
 those_of_one_root = refl
 
-the_others_leak : leaks_but 1 (signed one ∷ signed two ∷ signed one ∷ []) ≡ record { fault = Leak; at = signed two } ∷ []
+the_others_leak : leaks_but 1 (signed one ∷ signed two ∷ signed one ∷ []) ≡ record { fault = Leak; at = signed two }
+    ∷ []
 the_others_leak = refl

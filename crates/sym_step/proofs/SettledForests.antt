@@ -30,31 +30,42 @@ use Rattle.sym_step.specs.inner.Stepping.{IsStepping, IsLike, IsNext, IsSettling
 use Rattle.sym_step.proofs.OpenedForests.{like_on, like_self, bads_both}
 use Rattle.sym_step.proofs.Stepping.{one_taken, none_left}
 
-pub next_on : (face : Face) (F : Forest) (s t : SoundForest) → IsLike face F s → IsNext s.face s.forest t → IsNext face F t
+pub next_on : (face : Face) (F : Forest) (s t : SoundForest) → IsLike face F s → IsNext s.face s.forest t
+    → IsNext face F t
 next_on face F s t a b = record { like = like_on face F s t a b.like; canonical = b.canonical; reduced = b.reduced }
 
 -- one forest of the list, taken along
-module _ (face : Face) (F : Forest) (e : Edge) (G : SoundForest) (todo next : List SoundForest) (faults : List Bad) (more : List SoundForest) (bad : List Bad)
-    (a : IsSettling face F e (G ∷ todo) next faults) (like : IsLike face F G) (b : IsSettling G.face G.forest e [] more bad) where
+module _ (face : Face) (F : Forest) (e : Edge) (G : SoundForest) (todo next : List SoundForest) (faults : List Bad)
+    (more : List SoundForest) (bad : List Bad)
+    (a : IsSettling face F e (G ∷ todo) next faults) (like : IsLike face F G)
+    (b : IsSettling G.face G.forest e [] more bad) where
   own : IsStepping face G.forest e [] (forests more) (bads bad)
   own = subst (λ (f : Face). IsStepping f G.forest e [] (forests more) (bads bad)) like.face b.stepping
 
   stepped : IsStepping face F e (forests todo ++ []) (forests next ++ forests more) (bads faults ++ bads bad)
-  stepped = one_taken face e F G.forest (forests todo) [] (forests next) (forests more) (bads faults) (bads bad) a.stepping own
+  stepped = one_taken face e F G.forest (forests todo) [] (forests next) (forests more) (bads faults) (bads bad)
+      a.stepping own
 
   pub settled_more : IsSettling face F e todo (next ++ more) (faults ++ bad)
   settled_more = record {
-    stepping = subst (λ (bs : List BadAt). IsStepping face F e (forests todo) (forests (next ++ more)) bs) (sym (bads_both faults bad))
-        (subst (λ (Ns : List Forest). IsStepping face F e (forests todo) Ns (bads faults ++ bads bad)) (sym (forests_both next more))
-        (subst (λ (Gs : List Forest). IsStepping face F e Gs (forests next ++ forests more) (bads faults ++ bads bad)) (append-nil (forests todo)) stepped));
-    next = every_append (IsNext face F) next more a.next (every_weaker (IsNext G.face G.forest) (IsNext face F) more (λ s k. next_on face F G s like k) b.next);
-    bad_like = every_append (λ (x : Bad). IsLike face F x.at) faults bad a.bad_like (every_weaker (λ (x : Bad). IsLike G.face G.forest x.at) (λ (x : Bad). IsLike face F x.at) bad (λ x k. like_on face F G x.at like k) b.bad_like);
+    stepping = subst (λ (bs : List BadAt). IsStepping face F e (forests todo) (forests (next ++ more)) bs)
+        (sym (bads_both faults bad))
+        (subst (λ (Ns : List Forest). IsStepping face F e (forests todo) Ns (bads faults ++ bads bad))
+        (sym (forests_both next more))
+        (subst (λ (Gs : List Forest). IsStepping face F e Gs (forests next ++ forests more) (bads faults ++ bads bad))
+        (append-nil (forests todo)) stepped));
+    next = every_append (IsNext face F) next more a.next
+        (every_weaker (IsNext G.face G.forest) (IsNext face F) more (λ s k. next_on face F G s like k) b.next);
+    bad_like = every_append (λ (x : Bad). IsLike face F x.at) faults bad a.bad_like
+        (every_weaker (λ (x : Bad). IsLike G.face G.forest x.at) (λ (x : Bad). IsLike face F x.at) bad
+        (λ x k. like_on face F G x.at like k) b.bad_like);
   }
 
 -- Joined forests.
 
 -- the same dressed forest stands for the same stores
-stands_same : (face : Face) (T : List BoxDef) (F G : Forest) (d : Nodes) (s : Store) → HasVarsOf F G → OfForest T G d → StandsBy face.shapes.structs T F d s → StandsBy face.shapes.structs T G d s
+stands_same : (face : Face) (T : List BoxDef) (F G : Forest) (d : Nodes) (s : Store) → HasVarsOf F G → OfForest T G d
+    → StandsBy face.shapes.structs T F d s → StandsBy face.shapes.structs T G d s
 stands_same face T F G d s v o m = record {
   proper = m.proper;
   fields = m.fields;
@@ -64,7 +75,8 @@ stands_same face T F G d s v o m = record {
   data_vars = m.data_vars ∙ sym v.1;
 }
 
-module _ (face : Face) (F : Forest) (e : Edge) (Ns Ms : List Forest) (Bs : List BadAt) (joined : (T : List BoxDef) → IsJoined T Ns Ms) where
+module _ (face : Face) (F : Forest) (e : Edge) (Ns Ms : List Forest) (Bs : List BadAt)
+    (joined : (T : List BoxDef) → IsJoined T Ns Ms) where
   in_joined : (T : List BoxDef) (s : Store) → StandsInOne face T Ns s → StandsInOne face T Ms s
   in_joined T s (N, i, (d, m)) =
       let k = (joined T).whole N i d m.of in
@@ -83,7 +95,8 @@ module _ (face : Face) (F : Forest) (e : Edge) (Ns Ms : List Forest) (Bs : List 
 
   pub stepping_joined : IsStepping face F e [] Ns Bs → IsStepping face F e [] Ms Bs
   stepping_joined a = record {
-    whole = λ T s h. elim (a.whole T s h) [ inl k ↦ inl k | inr k ↦ inr (met_joined T s (gstep face.shapes.structs e s) k) ];
+    whole = λ T s h. elim (a.whole T s h)
+        [ inl k ↦ inl k | inr k ↦ inr (met_joined T s (gstep face.shapes.structs e s) k) ];
     regroups = λ T. tt;
     keeps = λ T. in_every (Keeps face T F e) Ms (λ M i. keeps_joined T (a.keeps T) M i);
     bads = a.bads;
@@ -98,27 +111,35 @@ module _ (face : Face) (F : Forest) (e : Edge) (Ns Ms : List Forest) (Bs : List 
       (ap (λ (ts : List Target). length ts) (sym k.2.0) ∙ n.0, ap (λ ds. length ds) (sym k.2.1) ∙ n.1)
 
 -- The forests that were opened are to be taken along.
-pub settling_first : (face : Face) (F : Forest) (e : Edge) (P : Forest → Type 0) (ready : List SoundForest) (faults : List Bad) → IsOpening face F e P [] ready faults → IsSettling face F e ready [] faults
+pub settling_first : (face : Face) (F : Forest) (e : Edge) (P : Forest → Type 0) (ready : List SoundForest)
+    (faults : List Bad) → IsOpening face F e P [] ready faults → IsSettling face F e ready [] faults
 settling_first face F e P ready faults a = record { stepping = a.stepping; next = tt; bad_like = a.bad_like }
 
 -- The edge fits a forest with as many variables over the same structs.
-pub fits_still : (face : Face) (F : Forest) (e : Edge) (s : SoundForest) → IsLike face F s → EdgeFits (length F.vars) (length F.data_vars) face.shapes.structs e → EdgeFits (length s.forest.vars) (length s.forest.data_vars) s.face.shapes.structs e
+pub fits_still : (face : Face) (F : Forest) (e : Edge) (s : SoundForest) → IsLike face F s
+    → EdgeFits (length F.vars) (length F.data_vars) face.shapes.structs e
+    → EdgeFits (length s.forest.vars) (length s.forest.data_vars) s.face.shapes.structs e
 fits_still face F e s like h = rw (like.counts.0, like.counts.1, like.face) h
 
 -- What one forest settles to.
 
 module _ (G : SoundForest) (e : Edge) where
-  pub settled_bad : (k : Fault) → Every HasNoBoxes G.forest.autos → IsStepping G.face G.forest e [] [] (record { fault = k; at = G.forest } ∷ []) → IsSettling G.face G.forest e [] [] (record { fault = k; at = G } ∷ [])
+  pub settled_bad : (k : Fault) → Every HasNoBoxes G.forest.autos
+      → IsStepping G.face G.forest e [] [] (record { fault = k; at = G.forest } ∷ [])
+      → IsSettling G.face G.forest e [] [] (record { fault = k; at = G } ∷ [])
   settled_bad k plain a = record { stepping = a; next = tt; bad_like = (like_self G plain, tt) }
 
   pub settled_none : IsStepping G.face G.forest e [] [] [] → IsSettling G.face G.forest e [] [] []
   settled_none a = record { stepping = a; next = tt; bad_like = tt }
 
   -- what follows from an edited forest follows from the one before
-  pub each_next_on : (R : SoundForest) → IsLike G.face G.forest R → (made : List SoundForest) → Every (IsNext R.face R.forest) made → Every (IsNext G.face G.forest) made
-  each_next_on R like made h = every_weaker (IsNext R.face R.forest) (IsNext G.face G.forest) made (λ s k. next_on G.face G.forest R s like k) h
+  pub each_next_on : (R : SoundForest) → IsLike G.face G.forest R → (made : List SoundForest)
+      → Every (IsNext R.face R.forest) made → Every (IsNext G.face G.forest) made
+  each_next_on R like made h =
+      every_weaker (IsNext R.face R.forest) (IsNext G.face G.forest) made (λ s k. next_on G.face G.forest R s like k) h
 
-  pub settled_goes : (made : List SoundForest) → IsStepping G.face G.forest e [] (forests made) [] → Every (IsNext G.face G.forest) made → IsSettling G.face G.forest e [] made []
+  pub settled_goes : (made : List SoundForest) → IsStepping G.face G.forest e [] (forests made) []
+      → Every (IsNext G.face G.forest) made → IsSettling G.face G.forest e [] made []
   settled_goes made a next = record { stepping = a; next = next; bad_like = tt }
 
 -- What is settled has the cases of the edge.
@@ -129,46 +150,61 @@ keeps_cases face T F M e w u (d, m) =
     let c = w d u m in
     record { was = c.was; goes_to = c.goes_to; stands = (c.dressed, c.stands); goes = c.goes; alike = c.alike }
 
-module _ (face : Face) (F : Forest) (e : Edge) (made : List SoundForest) (faults : List Bad) (a : IsSettling face F e [] made faults) where
+module _ (face : Face) (F : Forest) (e : Edge) (made : List SoundForest) (faults : List Bad)
+    (a : IsSettling face F e [] made faults) where
   pub settled_all : (T : List BoxDef) → AllCases face T F e (forests made) (bads faults)
   settled_all T = none_left face e F (forests made) (bads faults) a.stepping T
 
   pub settled_cases : (T : List BoxDef) → Every (CaseOf face T F e) (forests made)
-  settled_cases T = every_weaker (Keeps face T F e) (CaseOf face T F e) (forests made) (λ M k. keeps_cases face T F M e k) (a.stepping.keeps T)
+  settled_cases T = every_weaker (Keeps face T F e) (CaseOf face T F e) (forests made)
+      (λ M k. keeps_cases face T F M e k) (a.stepping.keeps T)
 
   pub settled_canonical : Every (λ (s : SoundForest). IsCanonical s.face s.forest) made
-  settled_canonical = every_weaker (IsNext face F) (λ (s : SoundForest). IsCanonical s.face s.forest) made (λ s k. k.canonical) a.next
+  settled_canonical = every_weaker (IsNext face F) (λ (s : SoundForest). IsCanonical s.face s.forest) made
+      (λ s k. k.canonical) a.next
 
   pub settled_reduced : Every (λ (s : SoundForest). Reduced s.forest) made
   settled_reduced = every_weaker (IsNext face F) (λ (s : SoundForest). Reduced s.forest) made (λ s k. k.reduced) a.next
 
   pub settled_plain : Every (λ (s : SoundForest). Every HasNoBoxes s.forest.autos) made
-  settled_plain = every_weaker (IsNext face F) (λ (s : SoundForest). Every HasNoBoxes s.forest.autos) made (λ s k. k.like.plain) a.next
+  settled_plain = every_weaker (IsNext face F) (λ (s : SoundForest). Every HasNoBoxes s.forest.autos) made
+      (λ s k. k.like.plain) a.next
 
   pub settled_face : Every (λ (s : SoundForest). s.face ≡ face) made
   settled_face = every_weaker (IsNext face F) (λ (s : SoundForest). s.face ≡ face) made (λ s k. k.like.face) a.next
 
   pub settled_counts : Every (λ (s : SoundForest). HasAsMany F s.forest) made
-  settled_counts = every_weaker (IsNext face F) (λ (s : SoundForest). HasAsMany F s.forest) made (λ s k. k.like.counts) a.next
+  settled_counts = every_weaker (IsNext face F) (λ (s : SoundForest). HasAsMany F s.forest) made (λ s k. k.like.counts)
+      a.next
 
   pub bad_plain : Every (λ (b : Bad). Every HasNoBoxes b.at.forest.autos) faults
-  bad_plain = every_weaker (λ (b : Bad). IsLike face F b.at) (λ (b : Bad). Every HasNoBoxes b.at.forest.autos) faults (λ b k. k.plain) a.bad_like
+  bad_plain = every_weaker (λ (b : Bad). IsLike face F b.at) (λ (b : Bad). Every HasNoBoxes b.at.forest.autos) faults
+      (λ b k. k.plain) a.bad_like
 
   pub bad_face : Every (λ (b : Bad). b.at.face ≡ face) faults
-  bad_face = every_weaker (λ (b : Bad). IsLike face F b.at) (λ (b : Bad). b.at.face ≡ face) faults (λ b k. k.face) a.bad_like
+  bad_face = every_weaker (λ (b : Bad). IsLike face F b.at) (λ (b : Bad). b.at.face ≡ face) faults (λ b k. k.face)
+      a.bad_like
 
   pub bad_counts : Every (λ (b : Bad). HasAsMany F b.at.forest) faults
-  bad_counts = every_weaker (λ (b : Bad). IsLike face F b.at) (λ (b : Bad). HasAsMany F b.at.forest) faults (λ b k. k.counts) a.bad_like
+  bad_counts = every_weaker (λ (b : Bad). IsLike face F b.at) (λ (b : Bad). HasAsMany F b.at.forest) faults
+      (λ b k. k.counts) a.bad_like
 
   -- with other forests that have the same dressed forests
-  pub settled_joined : (joined : List SoundForest) → ((T : List BoxDef) → IsJoined T (forests made) (forests joined)) → Every (λ (s : SoundForest). IsCanonical s.face s.forest) joined → Every (λ (s : SoundForest). Reduced s.forest) joined → Every (λ (s : SoundForest). Every HasNoBoxes s.forest.autos) joined → Every (λ (s : SoundForest). s.face ≡ face) joined → Every (λ (s : SoundForest). HasMembers s.face s.forest) joined → IsSettling face F e [] joined faults
+  pub settled_joined : (joined : List SoundForest) → ((T : List BoxDef) → IsJoined T (forests made) (forests joined))
+      → Every (λ (s : SoundForest). IsCanonical s.face s.forest) joined
+      → Every (λ (s : SoundForest). Reduced s.forest) joined
+      → Every (λ (s : SoundForest). Every HasNoBoxes s.forest.autos) joined
+      → Every (λ (s : SoundForest). s.face ≡ face) joined
+      → Every (λ (s : SoundForest). HasMembers s.face s.forest) joined → IsSettling face F e [] joined faults
   settled_joined joined same canonical reduced plain faces some = record {
     stepping = stepping_joined face F e (forests made) (forests joined) (bads faults) same a.stepping;
     next = in_every (IsNext face F) joined (λ s i. record {
       like = record {
         face = every_in (λ (t : SoundForest). t.face ≡ face) joined s faces i;
         plain = every_in (λ (t : SoundForest). Every HasNoBoxes t.forest.autos) joined s plain i;
-        counts = joined_many face F e (forests made) (forests joined) (bads faults) same (every_map (λ (t : SoundForest). t.forest) (HasAsMany F) made settled_counts) s.forest (in_map (λ (t : SoundForest). t.forest) s joined i) (member s i);
+        counts = joined_many face F e (forests made) (forests joined) (bads faults) same
+            (every_map (λ (t : SoundForest). t.forest) (HasAsMany F) made settled_counts) s.forest
+            (in_map (λ (t : SoundForest). t.forest) s joined i) (member s i);
       };
       canonical = every_in (λ (t : SoundForest). IsCanonical t.face t.forest) joined s canonical i;
       reduced = every_in (λ (t : SoundForest). Reduced t.forest) joined s reduced i;
@@ -177,4 +213,6 @@ module _ (face : Face) (F : Forest) (e : Edge) (made : List SoundForest) (faults
   }
     where
       member : (s : SoundForest) → IsIn s joined → HasMembers face s.forest
-      member s i = subst (λ (f : Face). HasMembers f s.forest) (every_in (λ (t : SoundForest). t.face ≡ face) joined s faces i) (every_in (λ (t : SoundForest). HasMembers t.face t.forest) joined s some i)
+      member s i = subst (λ (f : Face). HasMembers f s.forest)
+          (every_in (λ (t : SoundForest). t.face ≡ face) joined s faces i)
+          (every_in (λ (t : SoundForest). HasMembers t.face t.forest) joined s some i)

@@ -1,5 +1,6 @@
 -- Forests that show what an edge needs.
-use Rattle.std.proofs.Common.{◌≡◌, ◌⊎◌, inl, inr, ℕ, zero, suc, ◌+◌, ◌<◌, List, [], ◌∷◌, length, refl, sym, ap, subst, ◌∙◌, Option, Some, None, slice_index_or, arith}
+use Rattle.std.proofs.Common.{◌≡◌, ◌⊎◌, inl, inr, ℕ, zero, suc, ◌+◌, ◌<◌, List, [], ◌∷◌, length, refl, sym, ap, subst}
+use Rattle.std.proofs.Common.{◌∙◌, Option, Some, None, slice_index_or, arith}
 use Rattle.std.proofs.lemmas.Option.{none-some}
 use Rattle.fore_base.specs.Lists.{IsIn, Every}
 use Rattle.ta_core.specs.Auto.{Automaton, IsRanked}
@@ -41,7 +42,8 @@ target_in (v ∷ vs) zero r h = inl (sym h)
 target_in (v ∷ vs) (suc b) r h = inr (target_in vs b r h)
 
 -- what holds of the component of each root holds of each component
-each_component : (P : Automaton → Type 0) (autos : List Automaton) → ((k : ℕ) → k < length autos → P (component_at autos k)) → Every P autos
+each_component : (P : Automaton → Type 0) (autos : List Automaton)
+    → ((k : ℕ) → k < length autos → P (component_at autos k)) → Every P autos
 each_component P [] h = tt
 each_component P (a ∷ autos) h = (h 0 (omega arith), each_component P autos (λ k l. h (suc k) (omega (arith, l))))
 
@@ -49,7 +51,8 @@ below_next : (k p : ℕ) → k < p + 1 → (k ≡ p) ⊎ (k < p)
 below_next zero zero l = inl refl
 below_next zero (suc p) l = inr (omega arith)
 below_next (suc k) zero l = absurd (omega (arith, l))
-below_next (suc k) (suc p) l = elim (below_next k p (omega (arith, l))) [ inl e ↦ inl (ap (λ (n : ℕ). suc n) e) | inr m ↦ inr (omega (arith, m)) ]
+below_next (suc k) (suc p) l =
+    elim (below_next k p (omega (arith, l))) [ inl e ↦ inl (ap (λ (n : ℕ). suc n) e) | inr m ↦ inr (omega (arith, m)) ]
 
 module _ (F : Forest) (well : RefersWell F) (tops : Every HasOneTop F.autos) where
   -- the root of a variable is there
@@ -64,11 +67,22 @@ module _ (F : Forest) (well : RefersWell F) (tops : Every HasOneTop F.autos) whe
   nothing_shown i none = record { tops = var_tops; plain = λ b r f e t n. absurd (none b f e n) }
 
   -- where the variable is at no root, there is nothing to show
-  pub no_root_shown : (i : Instr) (b f : ℕ) → AreNeeds i (Field b f) → ((r : ℕ) → target_at F b ≡ At r → ⊥) → IsExplicit F i
-  no_root_shown i b f needs none = record { tops = var_tops; plain = λ c r g e t n. absurd (none r (subst (λ (x : ℕ). target_at F x ≡ At r) (needs c g e n).0 t)) }
+  pub no_root_shown : (i : Instr) (b f : ℕ) → AreNeeds i (Field b f) → ((r : ℕ) → target_at F b ≡ At r → ⊥)
+      → IsExplicit F i
+  no_root_shown i b f needs none =
+      record {
+        tops = var_tops;
+        plain = λ c r g e t n.
+            absurd (none r (subst (λ (x : ℕ). target_at F x ≡ At r) (needs c g e n).0 t));
+      }
 
   pub no_cell_shown : (i : Instr) (b : ℕ) → AreNeeds i (Cell b) → ((r : ℕ) → target_at F b ≡ At r → ⊥) → IsExplicit F i
-  no_cell_shown i b needs none = record { tops = var_tops; plain = λ c r g e t n. absurd (none r (subst (λ (x : ℕ). target_at F x ≡ At r) (needs.1 c e) t)) }
+  no_cell_shown i b needs none =
+      record {
+        tops = var_tops;
+        plain = λ c r g e t n.
+            absurd (none r (subst (λ (x : ℕ). target_at F x ≡ At r) (needs.1 c e) t));
+      }
 
   same_root : (b c r q : ℕ) → target_at F b ≡ At r → target_at F c ≡ At q → c ≡ b → q ≡ r
   same_root b c r q h t e = ap root_number (sym t ∙ ap (λ (x : ℕ). target_at F x) e ∙ h)
@@ -89,18 +103,25 @@ module _ (F : Forest) (well : RefersWell F) (tops : Every HasOneTop F.autos) whe
     }
 
     -- so does a piece with a leaf in its place
-    pub piece_shown : (p : ℕ) → Every IsRanked F.autos → (can : CanSplit F r p) → place_at F r f ≡ Some p → (y : Target) (G : Forest) → IsPiece F r p y G → IsExplicit G i
+    pub piece_shown : (p : ℕ) → Every IsRanked F.autos → (can : CanSplit F r p) → place_at F r f ≡ Some p
+        → (y : Target) (G : Forest) → IsPiece F r p y G → IsExplicit G i
     piece_shown p ranked can is y G piece = record {
-      tops = λ k j. tops_stay F r p ranked can tops y G piece k (well.vars k (subst (λ (vs : List Target). IsIn (At k) vs) piece.vars j));
+      tops = λ k j. tops_stay F r p ranked can tops y G piece k
+          (well.vars k (subst (λ (vs : List Target). IsIn (At k) vs) piece.vars j));
       plain = λ c q g e t n.
           let w = needs c g e n in
-          let same : q ≡ r = same_root b c r q at (ap (λ (vs : List Target). slice_index_or vs c Uninit) (sym piece.vars) ∙ t) w.0 in
+          let same : q ≡ r = same_root b c r q at
+          (ap (λ (vs : List Target). slice_index_or vs c Uninit) (sym piece.vars) ∙ t) w.0 in
           subst (λ (x : ℕ). IsPlainAt G x g) (sym same) (record {
             root = (let l = can.root in let m = piece.few in omega (arith, l, m));
             top = tops_stay F r p ranked can tops y G piece r can.root;
             leaf = λ k h. (
               y,
-              subst (λ (x : ℕ). IsLeafPlace G r x y) (some_same p k (sym is ∙ (sym (place_there F r p ranked can tops y G piece f) ∙ (ap (λ (x : ℕ). place_at G r x) (sym w.1) ∙ h)))) (leaf_there F r p ranked can tops y G piece),
+              subst (λ (x : ℕ). IsLeafPlace G r x y)
+                  (some_same p k
+                  (sym is
+                  ∙ (sym (place_there F r p ranked can tops y G piece f)
+                  ∙ (ap (λ (x : ℕ). place_at G r x) (sym w.1) ∙ h)))) (leaf_there F r p ranked can tops y G piece),
             );
           });
     }
@@ -115,51 +136,80 @@ module _ (F : Forest) (well : RefersWell F) (tops : Every HasOneTop F.autos) whe
   -- The places of a root, one after the other.
 
   pub shown_first : (r : ℕ) → IsShown F r 0 F
-  shown_first r = record { count = refl; vars = refl; tops = tops; symbol = refl; wide = refl; leaves = λ k l. absurd (omega (arith, l)) }
+  shown_first r =
+      record {
+        count = refl;
+        vars = refl;
+        tops = tops;
+        symbol = refl;
+        wide = refl;
+        leaves = λ k l. absurd (omega (arith, l));
+      }
 
-  pub shown_next : (r p : ℕ) → Every IsRanked F.autos → (can : CanSplit F r p) → IsShown F r p F → (y : Target) (G : Forest) → IsPiece F r p y G → length G.autos ≡ length F.autos → IsShown F r (p + 1) G
+  pub shown_next : (r p : ℕ) → Every IsRanked F.autos → (can : CanSplit F r p) → IsShown F r p F
+      → (y : Target) (G : Forest) → IsPiece F r p y G → length G.autos ≡ length F.autos → IsShown F r (p + 1) G
   shown_next r p ranked can shown y G piece count = record {
     count = count;
     vars = piece.vars;
-    tops = each_component HasOneTop G.autos (λ k l. tops_stay F r p ranked can tops y G piece k (omega (arith, l, count)));
+    tops = each_component HasOneTop G.autos
+        (λ k l. tops_stay F r p ranked can tops y G piece k (omega (arith, l, count)));
     symbol = symbol_there F r p ranked can tops y G piece;
     wide = width_there F r p ranked can tops y G piece;
     leaves = λ k l. elim (below_next k p l) [
       | inl e ↦ (y, subst (λ (x : ℕ). IsLeafPlace G r x y) (sym e) (leaf_there F r p ranked can tops y G piece))
       | inr m ↦ (
         (shown.leaves k m).0,
-        leaf_kept F r p ranked can tops y G piece k (shown.leaves k m).0 (λ e. omega (arith, e, m)) (let q = can.place in omega (arith, m, q)) (shown.leaves k m).1,
+        leaf_kept F r p ranked can tops y G piece k (shown.leaves k m).0 (λ e. omega (arith, e, m))
+            (let q = can.place in omega (arith, m, q)) (shown.leaves k m).1,
       )
     ];
   }
 
   -- where each place is shown, the forest shows what a free needs
-  pub cell_shown : (i : Instr) (b r : ℕ) → AreNeeds i (Cell b) → target_at F b ≡ At r → Every IsRanked F.autos → (G : Forest) → IsShown F r (width F r) G → IsExplicit G i
+  pub cell_shown : (i : Instr) (b r : ℕ) → AreNeeds i (Cell b) → target_at F b ≡ At r → Every IsRanked F.autos
+      → (G : Forest) → IsShown F r (width F r) G → IsExplicit G i
   cell_shown i b r needs at ranked G shown = record {
-    tops = λ k j. component_has HasOneTop G.autos k shown.tops (let l = well.vars k (subst (λ (vs : List Target). IsIn (At k) vs) shown.vars j) in let w = shown.count in omega (arith, l, w));
+    tops = λ k j. component_has HasOneTop G.autos k shown.tops
+        (let l = well.vars k (subst (λ (vs : List Target). IsIn (At k) vs) shown.vars j) in let w = shown.count in
+        omega (arith, l, w));
     plain = λ c q g e t n.
-        let same : q ≡ r = same_root b c r q at (ap (λ (vs : List Target). slice_index_or vs c Uninit) (sym shown.vars) ∙ t) (needs.1 c e) in
+        let same : q ≡ r = same_root b c r q at
+        (ap (λ (vs : List Target). slice_index_or vs c Uninit) (sym shown.vars) ∙ t) (needs.1 c e) in
         let low : r < length F.autos = root_there b r at in
         let there : r < length G.autos = (let w = shown.count in omega (arith, low, w)) in
         subst (λ (x : ℕ). IsPlainAt G x g) (sym same) (record {
           root = there;
           top = component_has HasOneTop G.autos r shown.tops there;
-          leaf = λ k h. shown.leaves k (field_within (component_at F.autos r) g k (component_has IsRanked F.autos r ranked low) (component_has HasOneTop F.autos r tops low) (ap (λ (x : Symbol). field_place g (symbol_slots x)) (sym shown.symbol) ∙ h));
+          leaf = λ k h. shown.leaves k
+              (field_within (component_at F.autos r) g k (component_has IsRanked F.autos r ranked low)
+              (component_has HasOneTop F.autos r tops low)
+              (ap (λ (x : Symbol). field_place g (symbol_slots x)) (sym shown.symbol) ∙ h));
         });
   }
 
 -- a place of a field can be split
-pub field_splits : (F : Forest) (r f p : ℕ) → Every IsRanked F.autos → Every HasOneTop F.autos → r < length F.autos → place_at F r f ≡ Some p → CanSplit F r p
+pub field_splits : (F : Forest) (r f p : ℕ) → Every IsRanked F.autos → Every HasOneTop F.autos → r < length F.autos
+    → place_at F r f ≡ Some p → CanSplit F r p
 field_splits F r f p ranked tops low is = record {
   root = low;
   top = component_has HasOneTop F.autos r tops low;
-  place = field_within (component_at F.autos r) f p (component_has IsRanked F.autos r ranked low) (component_has HasOneTop F.autos r tops low) is;
+  place = field_within (component_at F.autos r) f p (component_has IsRanked F.autos r ranked low)
+      (component_has HasOneTop F.autos r tops low) is;
 }
 
 -- first to the one place, then to the other
 pub shown_on : (F G H : Forest) (r p q : ℕ) → IsShown F r p G → IsShown G r q H → IsShown F r q H
-shown_on F G H r p q a b = record { count = b.count ∙ a.count; vars = b.vars ∙ a.vars; tops = b.tops; symbol = b.symbol ∙ a.symbol; wide = b.wide ∙ a.wide; leaves = b.leaves }
+shown_on F G H r p q a b =
+    record {
+      count = b.count ∙ a.count;
+      vars = b.vars ∙ a.vars;
+      tops = b.tops;
+      symbol = b.symbol ∙ a.symbol;
+      wide = b.wide ∙ a.wide;
+      leaves = b.leaves;
+    }
 
 -- what was shown is shown of the forest itself
 pub shown_self : (F G : Forest) (r p : ℕ) → IsShown F r p G → IsShown G r p G
-shown_self F G r p a = record { count = refl; vars = refl; tops = a.tops; symbol = refl; wide = refl; leaves = a.leaves }
+shown_self F G r p a = record
+    { count = refl; vars = refl; tops = a.tops; symbol = refl; wide = refl; leaves = a.leaves }

@@ -20,11 +20,13 @@ use Rattle.sym_core.specs.Cases.{BadAt, StandsInOne, IsMet, AllCases, IsTrueBad}
 use Rattle.sym_core.specs.Kept.{Keeps}
 use Rattle.sym_step.specs.inner.Stepping.{IsStepping}
 use Rattle.sym_step.proofs.FreedChild.{leaked_leaks}
-use Rattle.sym_step.proofs.Keeping.{keeps_of_split, keeps_regrouped, bad_of_split, fault_met, leak_met, goes_on, goes_keeps, unleaked_sound}
+use Rattle.sym_step.proofs.Keeping.{keeps_of_split, keeps_regrouped, bad_of_split, fault_met, leak_met, goes_on}
+use Rattle.sym_step.proofs.Keeping.{goes_keeps, unleaked_sound}
 
 module _ (face : Face) (e : Edge) where
   -- more forests and more Bads meet no less
-  met_more : (T : List BoxDef) (Ns Ms : List Forest) (Bs Cs : List BadAt) → ((N : Forest) → IsIn N Ns → IsIn N Ms) → ((b : BadAt) → IsIn b Bs → IsIn b Cs) → (s : Store) (p : Pass) → IsMet face T Ns Bs s p → IsMet face T Ms Cs s p
+  met_more : (T : List BoxDef) (Ns Ms : List Forest) (Bs Cs : List BadAt) → ((N : Forest) → IsIn N Ns → IsIn N Ms)
+      → ((b : BadAt) → IsIn b Bs → IsIn b Cs) → (s : Store) (p : Pass) → IsMet face T Ns Bs s p → IsMet face T Ms Cs s p
   met_more T Ns Ms Bs Cs f g s (Passed t) (N, i, h) = (N, f N i, h)
   met_more T Ns Ms Bs Cs f g s (Faulted k) (b, i, q, h) = (b, g b i, q, h)
   met_more T Ns Ms Bs Cs f g s Halted h = tt
@@ -40,38 +42,51 @@ module _ (face : Face) (e : Edge) where
   }
 
   -- one forest is taken along the edge
-  module _ (F G : Forest) (Gs Hs Ns Ms : List Forest) (Bs Cs : List BadAt) (a : IsStepping face F e (G ∷ Gs) Ns Bs) (b : IsStepping face G e Hs Ms Cs) where
+  module _ (F G : Forest) (Gs Hs Ns Ms : List Forest) (Bs Cs : List BadAt) (a : IsStepping face F e (G ∷ Gs) Ns Bs)
+      (b : IsStepping face G e Hs Ms Cs) where
     old_met : (T : List BoxDef) (s : Store) (p : Pass) → IsMet face T Ns Bs s p → IsMet face T (Ns ++ Ms) (Bs ++ Cs) s p
     old_met T s p h = met_more T Ns (Ns ++ Ms) Bs (Bs ++ Cs) (λ N i. in_left N Ns Ms i) (λ x i. in_left x Bs Cs i) s p h
 
     new_met : (T : List BoxDef) (s : Store) (p : Pass) → IsMet face T Ms Cs s p → IsMet face T (Ns ++ Ms) (Bs ++ Cs) s p
-    new_met T s p h = met_more T Ms (Ns ++ Ms) Cs (Bs ++ Cs) (λ N i. in_right N Ns Ms i) (λ x i. in_right x Bs Cs i) s p h
+    new_met T s p h = met_more T Ms (Ns ++ Ms) Cs (Bs ++ Cs) (λ N i. in_right N Ns Ms i) (λ x i. in_right x Bs Cs i) s p
+        h
 
     abbrev Left : List BoxDef → Store → Type 0
     Left T s = StandsInOne face T (Gs ++ Hs) s ⊎ IsMet face T (Ns ++ Ms) (Bs ++ Cs) s (gstep face.shapes.structs e s)
 
-    of_one : (T : List BoxDef) (s : Store) → StandsInOne face T Hs s ⊎ IsMet face T Ms Cs s (gstep face.shapes.structs e s) → Left T s
+    of_one : (T : List BoxDef) (s : Store) → StandsInOne face T Hs s
+        ⊎ IsMet face T Ms Cs s (gstep face.shapes.structs e s) → Left T s
     of_one T s (inl (H, i, h)) = inl (H, in_right H Gs Hs i, h)
     of_one T s (inr h) = inr (new_met T s (gstep face.shapes.structs e s) h)
 
-    of_all : (T : List BoxDef) (s : Store) → StandsInOne face T (G ∷ Gs) s ⊎ IsMet face T Ns Bs s (gstep face.shapes.structs e s) → Left T s
-    of_all T s (inl (H, inl q, h)) = of_one T s (b.whole T s (subst (λ (X : Forest). Stands face.shapes.structs T X s) q h))
+    of_all : (T : List BoxDef) (s : Store) → StandsInOne face T (G ∷ Gs) s
+        ⊎ IsMet face T Ns Bs s (gstep face.shapes.structs e s) → Left T s
+    of_all T s (inl (H, inl q, h)) =
+        of_one T s (b.whole T s (subst (λ (X : Forest). Stands face.shapes.structs T X s) q h))
     of_all T s (inl (H, inr i, h)) = inl (H, in_left H Gs Hs i, h)
     of_all T s (inr h) = inr (old_met T s (gstep face.shapes.structs e s) h)
 
     pub one_taken : IsStepping face F e (Gs ++ Hs) (Ns ++ Ms) (Bs ++ Cs)
     one_taken = record {
       whole = λ T s h. of_all T s (a.whole T s h);
-      regroups = λ T. every_append (Regroups T F) Gs Hs (a.regroups T).1 (every_weaker (Regroups T G) (Regroups T F) Hs (λ H g. regroups_on T F G H (a.regroups T).0 g) (b.regroups T));
-      keeps = λ T. every_append (Keeps face T F e) Ns Ms (a.keeps T) (every_weaker (Keeps face T G e) (Keeps face T F e) Ms (λ M k. keeps_of_split face T e F G M (a.regroups T).0 k) (b.keeps T));
-      bads = λ T. every_append (IsTrueBad face T F e) Bs Cs (a.bads T) (every_weaker (IsTrueBad face T G e) (IsTrueBad face T F e) Cs (λ x k. bad_of_split face T e F G x (a.regroups T).0 k) (b.bads T));
+      regroups = λ T. every_append (Regroups T F) Gs Hs (a.regroups T).1
+          (every_weaker (Regroups T G) (Regroups T F) Hs (λ H g. regroups_on T F G H (a.regroups T).0 g)
+          (b.regroups T));
+      keeps = λ T. every_append (Keeps face T F e) Ns Ms (a.keeps T)
+          (every_weaker (Keeps face T G e) (Keeps face T F e) Ms
+          (λ M k. keeps_of_split face T e F G M (a.regroups T).0 k) (b.keeps T));
+      bads = λ T. every_append (IsTrueBad face T F e) Bs Cs (a.bads T)
+          (every_weaker (IsTrueBad face T G e) (IsTrueBad face T F e) Cs
+          (λ x k. bad_of_split face T e F G x (a.regroups T).0 k) (b.bads T));
     }
 
   -- where none is left to go, each member is met
-  pub none_left : (F : Forest) (Ns : List Forest) (Bs : List BadAt) → IsStepping face F e [] Ns Bs → (T : List BoxDef) → AllCases face T F e Ns Bs
+  pub none_left : (F : Forest) (Ns : List Forest) (Bs : List BadAt) → IsStepping face F e [] Ns Bs → (T : List BoxDef)
+      → AllCases face T F e Ns Bs
   none_left F Ns Bs a T s h = here (a.whole T s h)
     where
-      here : StandsInOne face T [] s ⊎ IsMet face T Ns Bs s (gstep face.shapes.structs e s) → IsMet face T Ns Bs s (gstep face.shapes.structs e s)
+      here : StandsInOne face T [] s ⊎ IsMet face T Ns Bs s (gstep face.shapes.structs e s)
+          → IsMet face T Ns Bs s (gstep face.shapes.structs e s)
       here (inl (H, i, k)) = absurd i
       here (inr k) = k
 
@@ -79,29 +94,41 @@ module _ (face : Face) (e : Edge) where
 
   module _ (H : Forest) where
     abbrev Meets : Fault → Type 0
-    Meets k = (T : List BoxDef) (s : Store) → Stands face.shapes.structs T H s → gstep face.shapes.structs e s ≡ Faulted k
+    Meets k = (T : List BoxDef) (s : Store) → Stands face.shapes.structs T H s → gstep face.shapes.structs e s
+        ≡ Faulted k
 
     -- a fault of all members
     pub all_fault : (k : Fault) → Meets k → IsStepping face H e [] [] (record { fault = k; at = H } ∷ [])
     all_fault k w = record {
-      whole = λ T s h. inr (subst (IsMet face T [] (record { fault = k; at = H } ∷ []) s) (sym (w T s h)) (record { fault = k; at = H }, inl refl, refl, h));
+      whole =
+          λ T s h.
+          inr
+          (subst (IsMet face T [] (record { fault = k; at = H } ∷ []) s) (sym (w T s h))
+          (record { fault = k; at = H }, inl refl, refl, h));
       regroups = λ T. tt;
       keeps = λ T. tt;
       bads = λ T. ((λ s h. (h, w T s h)), tt);
     }
 
     -- the edge's own fault
-    pub edge_fault : (k : Fault) → ((T : List BoxDef) → AllGo face T H e.instr (choice_of e.choice) (Faulted k)) → IsStepping face H e [] [] (record { fault = k; at = H } ∷ [])
+    pub edge_fault : (k : Fault) → ((T : List BoxDef) → AllGo face T H e.instr (choice_of e.choice) (Faulted k))
+        → IsStepping face H e [] [] (record { fault = k; at = H } ∷ [])
     edge_fault k w = all_fault k (λ T s h. fault_met face T e H k (w T) s h)
 
     -- no member goes on
-    stays_met : (T : List BoxDef) (s : Store) (p : Pass) → (p ≡ NotPassed) ⊎ (p ≡ Halted) → IsMet face T [] [] s (leak_tested p)
+    stays_met : (T : List BoxDef) (s : Store) (p : Pass) → (p ≡ NotPassed) ⊎ (p ≡ Halted)
+        → IsMet face T [] [] s (leak_tested p)
     stays_met T s p (inl q) = subst (λ (x : Pass). IsMet face T [] [] s (leak_tested x)) (sym q) tt
     stays_met T s p (inr q) = subst (λ (x : Pass). IsMet face T [] [] s (leak_tested x)) (sym q) tt
 
-    pub all_stay : ((T : List BoxDef) → AllGo face T H e.instr (choice_of e.choice) NotPassed ⊎ AllGo face T H e.instr (choice_of e.choice) Halted) → IsStepping face H e [] [] []
+    pub all_stay : ((T : List BoxDef) → AllGo face T H e.instr (choice_of e.choice) NotPassed
+        ⊎ AllGo face T H e.instr (choice_of e.choice) Halted) → IsStepping face H e [] [] []
     all_stay w = record {
-      whole = λ T s h. inr (stays_met T s (raw_step face.shapes.structs e.instr (choice_of e.choice) s) (elim (w T) [ inl k ↦ inl (k s h) | inr k ↦ inr (k s h) ]));
+      whole =
+          λ T s h.
+          inr
+          (stays_met T s (raw_step face.shapes.structs e.instr (choice_of e.choice) s)
+          (elim (w T) [ inl k ↦ inl (k s h) | inr k ↦ inr (k s h) ]));
       regroups = λ T. tt;
       keeps = λ T. tt;
       bads = λ T. tt;
@@ -110,19 +137,24 @@ module _ (face : Face) (e : Edge) where
     module _ (R : Forest) (carries : (T : List BoxDef) → Carries face T H R e.instr (choice_of e.choice)) where
       -- a leak of all members
       pub all_leak : AlwaysLeaks R → IsStepping face H e [] [] (record { fault = Leak; at = H } ∷ [])
-      all_leak w = all_fault Leak (λ T s h. leak_met face T e H R (carries T) (λ t k. leaked_leaks t (w face.shapes.structs T t k)) s h)
+      all_leak w = all_fault Leak
+          (λ T s h. leak_met face T e H R (carries T) (λ t k. leaked_leaks t (w face.shapes.structs T t k)) s h)
 
       -- all members go on, into the forests that R is regrouped into
-      pub all_go : NeverLeaks R → (Ms : List Forest) → ((T : List BoxDef) → RegroupsInto T R Ms) → ((T : List BoxDef) → Every (Regroups T R) Ms) → IsStepping face H e [] Ms []
+      pub all_go : NeverLeaks R → (Ms : List Forest) → ((T : List BoxDef) → RegroupsInto T R Ms)
+          → ((T : List BoxDef) → Every (Regroups T R) Ms) → IsStepping face H e [] Ms []
       all_go w Ms into each = record {
         whole = λ T s h. inr (there T s (goes_on face T e H R (carries T) (sound T) s h));
         regroups = λ T. tt;
-        keeps = λ T. every_weaker (Regroups T R) (Keeps face T H e) Ms (λ M g. keeps_regrouped face T e H R M (goes_keeps face T e H R (carries T) (sound T)) g) (each T);
+        keeps = λ T. every_weaker (Regroups T R) (Keeps face T H e) Ms
+            (λ M g. keeps_regrouped face T e H R M (goes_keeps face T e H R (carries T) (sound T)) g) (each T);
         bads = λ T. tt;
       }
         where
           sound : (T : List BoxDef) (t : Store) → Stands face.shapes.structs T R t → leaks t ≡ false
           sound T t k = unleaked_sound t (λ l. w face.shapes.structs T t k l)
 
-          there : (T : List BoxDef) (s : Store) → (t : Store) × (gstep face.shapes.structs e s ≡ Passed t) × Stands face.shapes.structs T R t → IsMet face T Ms [] s (gstep face.shapes.structs e s)
-          there T s (t, g, k) = subst (IsMet face T Ms [] s) (sym g) (members_split face.shapes.structs T R Ms (into T) t k)
+          there : (T : List BoxDef) (s : Store) → (t : Store) × (gstep face.shapes.structs e s ≡ Passed t)
+              × Stands face.shapes.structs T R t → IsMet face T Ms [] s (gstep face.shapes.structs e s)
+          there T s (t, g, k) = subst (IsMet face T Ms [] s) (sym g)
+              (members_split face.shapes.structs T R Ms (into T) t k)

@@ -18,7 +18,11 @@ ghost use Rattle.c_cfg.specs.declared.graph.Edge.{Edge};
 ghost use Rattle.c_cfg.specs.declared.graph.Instr.TheVariants.{Free};
 ghost use Rattle.sym_core.specs.Explicit.{target_at};
 
-/// Where a cell of its own stands in a field of a root's cell, nothing names it once the cell of the root is freed: every member meets a leak, whatever stands in the other fields and whatever refers to the root.
+/// Where a cell of its own stands in a field of a root's cell, nothing names it once the cell of the root is freed:
+/// every member meets a leak, whatever stands in the other fields and whatever refers to the root.
 pub fn freeing_above_a_cell_leaks()
-    ensures { (face : Face) (T : List BoxDef) (F : Forest) (r p b : ℕ) (e : Edge) (s : Store) → IsSound face F → Every IsRanked F.autos → Every HasNoBoxes F.autos → CanSplit F r p → e.instr ≡ Free b → target_at F b ≡ At r → Stands face.shapes.structs T (split_cells F r p) s → gstep face.shapes.structs e s ≡ Faulted Leak }
+    ensures { (face : Face) (T : List BoxDef) (F : Forest) (r p b : ℕ) (e : Edge) (s : Store) → IsSound face F
+        → Every IsRanked F.autos → Every HasNoBoxes F.autos → CanSplit F r p → e.instr ≡ Free b
+        → target_at F b ≡ At r → Stands face.shapes.structs T (split_cells F r p) s → gstep face.shapes.structs e s
+        ≡ Faulted Leak }
 {}

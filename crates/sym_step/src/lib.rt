@@ -1,7 +1,9 @@
 //! One symbolic step: what an edge of a control graph makes of the stores for which a forest stands.
 //!
-//! `post` takes a canonical forest and an edge. The forest is first split, so that each field that the edge needs ends at one leaf (`opening`);
-//! each forest of the split is edited, tested for a leak and made canonical (`settling`); forests that differ in one child of one root are
+//! `post` takes a canonical forest and an edge. The forest is first split, so that each field that the edge needs ends
+//! at one leaf (`opening`);
+//! each forest of the split is edited, tested for a leak and made canonical (`settling`); forests that differ in one
+//! child of one root are
 //! joined at the end. `laws` says when a free leaks. So far the box table is empty.
 #![tactic(auto)]
 

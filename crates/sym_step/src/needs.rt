@@ -49,7 +49,8 @@ fn needs_to_store(base: u32, field: u32, value: Const) -> Needed
 
 /// The root at which the variable is, if it is at one.
 pub fn root_of(forest: &Forest, variable: u32) -> Option<u32>
-    ensures { MatchOption result ((r : ℕ) → target_at forest.now variable ≡ At r → ⊥) (λ r. target_at forest.now variable ≡ At r) }
+    ensures { MatchOption result ((r : ℕ) → target_at forest.now variable ≡ At r → ⊥)
+        (λ r. target_at forest.now variable ≡ At r) }
 {
     match forest.vars.get_or(variable as usize, Target::Uninit) {
         Target::At(root) => Some(root),

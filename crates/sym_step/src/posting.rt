@@ -33,7 +33,10 @@ use par_kit::gate::Gate;
 use std::alloc::Global;
 use std::thread::Threads;
 
-/// What the edge makes of the members of a canonical forest: each goes on into a member of a `next`, or meets the fault of a Bad in which it stands, or does not pass the edge. Each member of a `next` comes so, and each member of a Bad meets its fault. A quiet edge gives at most one `next`. The crew runs 1 to 64 jobs and has no bearing on the answer. Err is want of memory. So far only for the empty box table.
+/// What the edge makes of the members of a canonical forest: each goes on into a member of a `next`, or meets the fault
+/// of a Bad in which it stands, or does not pass the edge. Each member of a `next` comes so, and each member of a Bad
+/// meets its fault. A quiet edge gives at most one `next`. The crew runs 1 to 64 jobs and has no bearing on the answer.
+/// Err is want of memory. So far only for the empty box table.
 pub fn post<R: Threads + Sync, G: Gate>(
     rt: &R,
     alloc: Global,
@@ -46,11 +49,16 @@ pub fn post<R: Threads + Sync, G: Gate>(
     requires canonical { IsCanonical forest.now.face forest.now.forest }
     requires face { forest.now.face ≡ table.now.face }
     requires empty { table.now.defs ≡ [] }
-    requires fits { EdgeFits (length forest.now.forest.vars) (length forest.now.forest.data_vars) forest.now.face.shapes.structs edge.now }
-    ensures all { IfOk result (λ p. (T : List BoxDef) → AllCases forest.now.face T forest.now.forest edge.now (forests p.next) (bads p.faults)) }
-    ensures keeps { IfOk result (λ p. (T : List BoxDef) → Every (Keeps forest.now.face T forest.now.forest edge.now) (forests p.next)) }
-    ensures true_cases { IfOk result (λ p. (T : List BoxDef) → Every (CaseOf forest.now.face T forest.now.forest edge.now) (forests p.next)) }
-    ensures bads { IfOk result (λ p. (T : List BoxDef) → Every (IsTrueBad forest.now.face T forest.now.forest edge.now) (bads p.faults)) }
+    requires fits { EdgeFits (length forest.now.forest.vars) (length forest.now.forest.data_vars) forest.now.face.shapes.structs
+        edge.now }
+    ensures all { IfOk result (λ p. (T : List BoxDef)
+        → AllCases forest.now.face T forest.now.forest edge.now (forests p.next) (bads p.faults)) }
+    ensures keeps { IfOk result (λ p. (T : List BoxDef)
+        → Every (Keeps forest.now.face T forest.now.forest edge.now) (forests p.next)) }
+    ensures true_cases { IfOk result (λ p. (T : List BoxDef)
+        → Every (CaseOf forest.now.face T forest.now.forest edge.now) (forests p.next)) }
+    ensures bads { IfOk result (λ p. (T : List BoxDef)
+        → Every (IsTrueBad forest.now.face T forest.now.forest edge.now) (bads p.faults)) }
     ensures canonical { IfOk result (λ p. Every (λ s. IsCanonical s.face s.forest) p.next) }
     ensures reduced { IfOk result (λ p. Every (λ s. Reduced s.forest) p.next) }
     ensures plain { IfOk result (λ p. Every (λ s. Every HasNoBoxes s.forest.autos) p.next) }
@@ -81,7 +89,9 @@ fn settle_each<R: Threads + Sync, G: Gate>(
 ) -> Mem<Post>
     requires jobs { IsJobs crew.now.jobs }
     requires canonical { IsCanonical _forest.now.face _forest.now.forest }
-    requires fits { EdgeFits (length _forest.now.forest.vars) (length _forest.now.forest.data_vars) _forest.now.face.shapes.structs edge.now }
+    requires fits { EdgeFits (length _forest.now.forest.vars) (length _forest.now.forest.data_vars)
+        _forest.now.face.shapes.structs
+        edge.now }
     requires opens { Opens _forest.now.face _forest.now.forest edge.now (λ H. IsExplicit H edge.now.instr) opened }
     requires calm { is_quiet edge.now.instr ≡ true → opened.ready ≡ _forest.now ∷ [] }
     ensures settles { IfOk result (Settles _forest.now.face _forest.now.forest edge.now) }

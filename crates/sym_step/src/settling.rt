@@ -31,7 +31,8 @@ use std::alloc::Global;
 use std::thread::Threads;
 use sym_transfer::{Edited, edited};
 
-/// What the edge makes of the members of a forest that shows what it needs. After the edge's own fault comes the leak test. A fault stands at the forest before the edge. Err is want of memory.
+/// What the edge makes of the members of a forest that shows what it needs. After the edge's own fault comes the leak
+/// test. A fault stands at the forest before the edge. Err is want of memory.
 pub fn settle<R: Threads + Sync, G: Gate>(
     rt: &R,
     alloc: Global,
@@ -41,7 +42,8 @@ pub fn settle<R: Threads + Sync, G: Gate>(
 ) -> Mem<Post>
     requires jobs { IsJobs crew.now.jobs }
     requires plain { Every HasNoBoxes forest.now.forest.autos }
-    requires fits { EdgeFits (length forest.now.forest.vars) (length forest.now.forest.data_vars) forest.now.face.shapes.structs edge.now }
+    requires fits { EdgeFits (length forest.now.forest.vars) (length forest.now.forest.data_vars) forest.now.face.shapes.structs
+        edge.now }
     requires explicit { IsExplicit forest.now.forest edge.now.instr }
     requires calm { is_quiet edge.now.instr ≡ true → IsCanonical forest.now.face forest.now.forest }
     ensures settles { IfOk result (Settles forest.now.face forest.now.forest edge.now) }
@@ -70,7 +72,8 @@ fn nothing(alloc: Global, _forest: &Sound, _edge: &Edge) -> Post
 /// The fault at the forest, each member of which meets it.
 fn bad_alone(alloc: Global, fault: Fault, forest: &Sound, _edge: &Edge) -> Mem<Post>
     requires plain { Every HasNoBoxes forest.now.forest.autos }
-    requires met { IsStepping forest.now.face forest.now.forest _edge.now [] [] (record { fault = fault; at = forest.now.forest } ∷ []) }
+    requires met { IsStepping forest.now.face forest.now.forest _edge.now [] []
+        (record { fault = fault; at = forest.now.forest } ∷ []) }
     ensures settles { IfOk result (Settles forest.now.face forest.now.forest _edge.now) }
     ensures few { IfOk result (λ p. length p.next ≤ 1) }
 {
@@ -94,7 +97,8 @@ fn settle_edited<R: Threads + Sync, G: Gate>(
 ) -> Mem<Post>
     requires jobs { IsJobs crew.now.jobs }
     requires plain { Every HasNoBoxes forest.now.forest.autos }
-    requires carries { (T : List BoxDef) → Carries forest.now.face T forest.now.forest raw.now.forest edge.now.instr (choice_of edge.now.choice) }
+    requires carries { (T : List BoxDef) → Carries forest.now.face T forest.now.forest raw.now.forest edge.now.instr
+        (choice_of edge.now.choice) }
     requires like { IsLike forest.now.face forest.now.forest raw.now }
     requires calm { is_quiet edge.now.instr ≡ true → IsCanonical raw.now.face raw.now.forest }
     ensures settles { IfOk result (Settles forest.now.face forest.now.forest edge.now) }

@@ -1,5 +1,6 @@
 -- What a sound forest says of its variables: each target is a root of it or none, and each datum fits.
-use Rattle.std.proofs.Common.{◌≡◌, ◌∙◌, ◌<◌, inl, inr, ℕ, zero, suc, Bool, true, false, true≢false, List, [], ◌∷◌, length, slice_set, slice_index_or, Result, Ok, Err, refl, sym, ap, subst}
+use Rattle.std.proofs.Common.{◌≡◌, ◌∙◌, ◌<◌, inl, inr, ℕ, zero, suc, Bool, true, false, true≢false, List, [], ◌∷◌}
+use Rattle.std.proofs.Common.{length, slice_set, slice_index_or, Result, Ok, Err, refl, sym, ap, subst}
 use Rattle.std.specs.Result.{IfOk}
 use Rattle.fore_base.specs.Lists.{IsIn, Every}
 use Rattle.fore_base.specs.Stores.{set_each}
@@ -50,7 +51,8 @@ get_fits [] (suc x) h = tt
 get_fits (y ∷ ys) zero h = h.0
 get_fits (y ∷ ys) (suc x) h = get_fits ys x h.1
 
-pub every_each : {X : Type 0} (P : X → Type 0) (xs : List X) (ns : List ℕ) (x : X) → Every P xs → P x → Every P (set_each xs ns x)
+pub every_each : {X : Type 0} (P : X → Type 0) (xs : List X) (ns : List ℕ) (x : X) → Every P xs → P x
+    → Every P (set_each xs ns x)
 every_each P xs [] x h p = h
 every_each P xs (n ∷ ns) x h p = every_each P (slice_set xs n x) ns x (every_set P xs n x h p) p
 
@@ -65,7 +67,8 @@ module _ (face : Face) (F : Forest) (sound : IsSound face F) where
       var_below face F sound.well_formed.filled c.0 c.1 r i
 
   pub targets_below : Every (IsRoot (length F.autos)) F.vars
-  targets_below = in_every (IsRoot (length F.autos)) F.vars (λ t i r e. root_below r (subst (λ (u : Target). IsIn u F.vars) e i))
+  targets_below = in_every (IsRoot (length F.autos)) F.vars
+      (λ t i r e. root_below r (subst (λ (u : Target). IsIn u F.vars) e i))
 
   pub arg_below : (a : PtrArg) → IsRoot (length F.autos) (target_of_arg F a)
   arg_below (PtrVar x) r e = root_below r (at_in F.vars x r e)

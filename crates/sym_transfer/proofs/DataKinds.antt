@@ -26,62 +26,87 @@ use Rattle.sym_core.specs.Kept.{HasBoxEdge}
 use Rattle.sym_transfer.specs.inner.Targets.{datum_at, root_of, with_vars}
 use Rattle.sym_transfer.proofs.Carrying.{all_go, carries_vars}
 use Rattle.sym_transfer.proofs.DatumHeaps.{datum_is, datum_lacks, heap_datum}
-use Rattle.sym_transfer.proofs.DatumPut.{datum_roots, datum_node, datum_number, datum_put_same, datum_put_twice, datum_edges}
+use Rattle.sym_transfer.proofs.DatumPut.{datum_roots, datum_node, datum_number, datum_put_same, datum_put_twice}
+use Rattle.sym_transfer.proofs.DatumPut.{datum_edges}
 use Rattle.sym_transfer.proofs.DatumSet.{with_datum_same, with_datum_twice}
 use Rattle.sym_transfer.proofs.Following.{follow_fails, follow_root}
 use Rattle.sym_transfer.proofs.Standing.{IsHeap, store_by, heap_of, is_by, stands_by, alike_equal}
 
 module _ (face : Face) (T : List BoxDef) (H : Forest) where
-  pub load_data_fails : (to b f x : ℕ) (k : Fault) → root_of (target_at H b) ≡ Err k → AllGo face T H (LoadData to b f) x (Faulted k)
-  load_data_fails to b f x k e = all_go face T H (LoadData to b f) x (Faulted k) (λ d cs next o h. follow_fails H b d cs next (λ n. if_there (datum_field_of cs n f) (λ v. Passed (set_datum (store_by d H cs next) to v))) k e)
+  pub load_data_fails : (to b f x : ℕ) (k : Fault) → root_of (target_at H b) ≡ Err k
+      → AllGo face T H (LoadData to b f) x (Faulted k)
+  load_data_fails to b f x k e =
+      all_go face T H (LoadData to b f) x (Faulted k)
+      (λ d cs next o h. follow_fails H b d cs next
+      (λ n. if_there (datum_field_of cs n f) (λ v. Passed (set_datum (store_by d H cs next) to v))) k e)
 
-  pub store_data_fails : (b f v x : ℕ) (k : Fault) → root_of (target_at H b) ≡ Err k → AllGo face T H (StoreData b f v) x (Faulted k)
-  store_data_fails b f v x k e = all_go face T H (StoreData b f v) x (Faulted k) (λ d cs next o h. follow_fails H b d cs next (λ n. stored_datum (store_by d H cs next) n f (datum_at H v)) k e)
+  pub store_data_fails : (b f v x : ℕ) (k : Fault) → root_of (target_at H b) ≡ Err k
+      → AllGo face T H (StoreData b f v) x (Faulted k)
+  store_data_fails b f v x k e =
+      all_go face T H (StoreData b f v) x (Faulted k)
+      (λ d cs next o h. follow_fails H b d cs next (λ n. stored_datum (store_by d H cs next) n f (datum_at H v)) k e)
 
   -- the data field of root r is y in each dressed forest
-  pub load_data : (to b f x r : ℕ) (y : Datum) → target_at H b ≡ At r → AllHaveDatum T H r f y → Carries face T H (with_vars H H.vars (slice_set H.data_vars to y)) (LoadData to b f) x
-  load_data to b f x r y e l = carries_vars face T H (LoadData to b f) x H.vars (slice_set H.data_vars to y) (λ d cs next o h.
+  pub load_data : (to b f x r : ℕ) (y : Datum) → target_at H b ≡ At r → AllHaveDatum T H r f y
+      → Carries face T H (with_vars H H.vars (slice_set H.data_vars to y)) (LoadData to b f) x
+  load_data to b f x r y e l =
+      carries_vars face T H (LoadData to b f) x H.vars (slice_set H.data_vars to y) (λ d cs next o h.
       let s = store_by d H cs next in
       let q = l d o in
       follow_root H b d cs next (λ n. if_there (datum_field_of cs n f) (λ v. Passed (set_datum s to v))) r e q.0 q.1
-      ∙ ap (λ (m : Option Datum). if_there m (λ v. Passed (set_datum s to v))) (datum_is face.shapes.structs d cs next h r f y q))
+      ∙ ap (λ (m : Option Datum). if_there m (λ v. Passed (set_datum s to v)))
+      (datum_is face.shapes.structs d cs next h r f y q))
 
   -- a load of a field that root r does not have does not pass
-  pub load_data_stays : (to b f x r : ℕ) → target_at H b ≡ At r → AllLackDatum T H r f → AllGo face T H (LoadData to b f) x NotPassed
+  pub load_data_stays : (to b f x r : ℕ) → target_at H b ≡ At r → AllLackDatum T H r f
+      → AllGo face T H (LoadData to b f) x NotPassed
   load_data_stays to b f x r e l = all_go face T H (LoadData to b f) x NotPassed (λ d cs next o h.
       let s = store_by d H cs next in
       let q = l d o in
       follow_root H b d cs next (λ n. if_there (datum_field_of cs n f) (λ v. Passed (set_datum s to v))) r e q.0 q.1
-      ∙ ap (λ (m : Option Datum). if_there m (λ v. Passed (set_datum s to v))) (datum_lacks face.shapes.structs d cs next h r f q))
+      ∙ ap (λ (m : Option Datum). if_there m (λ v. Passed (set_datum s to v)))
+      (datum_lacks face.shapes.structs d cs next h r f q))
 
   -- by an edge that stores `value` through variable b
   module _ (r f : ℕ) (i : Instr) (x b : ℕ) (at : target_at H b ≡ At r) (value : Store → Datum)
-      (does : (s : Store) → raw_step face.shapes.structs i x s ≡ onto (followed (var_of s b)) (λ n. stored_datum s n f (value s))) where
+      (does : (s : Store) → raw_step face.shapes.structs i x s
+      ≡ onto (followed (var_of s b)) (λ n. stored_datum s n f (value s))) where
     pub datum_stays : AllLackDatum T H r f → AllGo face T H i x NotPassed
     datum_stays l = all_go face T H i x NotPassed (λ d cs next o h.
         let s = store_by d H cs next in
         let q = l d o in
         does s
         ∙ follow_root H b d cs next (λ n. stored_datum s n f (value s)) r at q.0 q.1
-        ∙ ap (λ (m : Option Datum). if_there m (λ old. Passed (record s { cells = with_datum cs (number q.0) f (value s) }))) (datum_lacks face.shapes.structs d cs next h r f q))
+        ∙ ap (λ (m : Option Datum).
+        if_there m (λ old. Passed (record s { cells = with_datum cs (number q.0) f (value s) })))
+        (datum_lacks face.shapes.structs d cs next h r f q))
 
     -- the datum z comes into the field in place of the datum y
-    module _ (R : Forest) (y z : Datum) (p : IsDatumPut T H R r f y z) (is : (d : Nodes) (cs : List CellRec) (next : ℕ) → value (store_by d H cs next) ≡ z) where
+    module _ (R : Forest) (y z : Datum) (p : IsDatumPut T H R r f y z)
+        (is : (d : Nodes) (cs : List CellRec) (next : ℕ) → value (store_by d H cs next) ≡ z) where
       abbrev after_datum : Nodes → List CellRec → ℕ → Node → Store
       after_datum d cs next n = store_by (datum_put r f z d) R (with_datum cs (number n) f z) next
 
-      datum_goes : (d : Nodes) (cs : List CellRec) (next : ℕ) → (o : OfForest T H d) → (h : IsHeap face.shapes.structs d cs next) → raw_step face.shapes.structs i x (store_by d H cs next) ≡ Passed (after_datum d cs next (p.old d o).0)
+      datum_goes : (d : Nodes) (cs : List CellRec) (next : ℕ) → (o : OfForest T H d)
+          → (h : IsHeap face.shapes.structs d cs next) → raw_step face.shapes.structs i x (store_by d H cs next)
+          ≡ Passed (after_datum d cs next (p.old d o).0)
       datum_goes d cs next o h =
           let s = store_by d H cs next in
           let q = p.old d o in
           does s
           ∙ (follow_root H b d cs next (λ n. stored_datum s n f (value s)) r at q.0 q.1
           ∙ (ap (λ (w : Datum). stored_datum s (number q.0) f w) (is d cs next)
-          ∙ (ap (λ (m : Option Datum). if_there m (λ old. Passed (record s { cells = with_datum cs (number q.0) f z }))) (datum_is face.shapes.structs d cs next h r f y q)
+          ∙ (ap (λ (m : Option Datum). if_there m (λ old. Passed (record s { cells = with_datum cs (number q.0) f z })))
+          (datum_is face.shapes.structs d cs next h r f y q)
           ∙ ap Passed (same_store d cs next (with_datum cs (number q.0) f z)))))
         where
-          same_store : (d : Nodes) (cs : List CellRec) (next : ℕ) (es : List CellRec) → record { vars = map (value_in (roots_of d)) H.vars; data_vars = H.data_vars; cells = es; next = next } ≡ store_by (datum_put r f z d) R es next
-          same_store d cs next es = ap₂ (λ (v : List Value) (w : List Datum). record { vars = v; data_vars = w; cells = es; next = next }) (ap (λ (ts : List Target). map (value_in (roots_of d)) ts) (sym p.vars) ∙ ap (λ (vs : List Value). map (value_in vs) R.vars) (sym (datum_roots r f z d))) (sym p.data_vars)
+          same_store : (d : Nodes) (cs : List CellRec) (next : ℕ) (es : List CellRec)
+              → record { vars = map (value_in (roots_of d)) H.vars; data_vars = H.data_vars; cells = es; next = next }
+              ≡ store_by (datum_put r f z d) R es next
+          same_store d cs next es =
+              ap₂ (λ (v : List Value) (w : List Datum). record { vars = v; data_vars = w; cells = es; next = next })
+              (ap (λ (ts : List Target). map (value_in (roots_of d)) ts) (sym p.vars)
+              ∙ ap (λ (vs : List Value). map (value_in vs) R.vars) (sym (datum_roots r f z d))) (sym p.data_vars)
 
       pub carries_datum : Carries face T H R i x
       carries_datum = record {
@@ -93,7 +118,11 @@ module _ (face : Face) (T : List BoxDef) (H : Forest) where
             record {
               next = after_datum d s.cells s.next q.0;
               goes = ap (raw_step hs i x) (is_by hs T H d s m.1) ∙ datum_goes d s.cells s.next m.1.of h;
-              stands = (datum_put r f z d, stands_by hs T R (datum_put r f z d) (with_datum s.cells (number q.0) f z) s.next (p.forth d m.1.of) (heap_datum hs d s.cells s.next h r f y z q));
+              stands = (
+                datum_put r f z d,
+                stands_by hs T R (datum_put r f z d) (with_datum s.cells (number q.0) f z) s.next
+                    (p.forth d m.1.of) (heap_datum hs d s.cells s.next h r f y z q),
+              );
             };
         back = λ d u m. came d u m;
       }
@@ -110,9 +139,14 @@ module _ (face : Face) (T : List BoxDef) (H : Forest) where
               let k = heap_datum hs d u.cells u.next h r f z y n in
               let q = p.old d' o in
               let same_d : datum_put r f z d' ≡ d = datum_put_twice r f y z d ∙ datum_put_same r f z d n in
-              let same_n : number q.0 ≡ c = ap number (same_Some q.0 _ (sym q.1 ∙ datum_node r f y d n.0 n.1)) ∙ datum_number f y n.0 in
-              let same_cs : with_datum cs (number q.0) f z ≡ u.cells = ap (λ (j : ℕ). with_datum cs j f z) same_n ∙ (with_datum_twice u.cells c f y z ∙ with_datum_same u.cells c f z (datum_is hs d u.cells u.next h r f z n)) in
-              let same_u : after_datum d' cs u.next q.0 ≡ u = ap₂ (λ (w : Nodes) (es : List CellRec). store_by w R es u.next) same_d same_cs ∙ sym (is_by hs T R d u m) in
+              let same_n : number q.0 ≡ c = ap number (same_Some q.0 _ (sym q.1 ∙ datum_node r f y d n.0 n.1))
+              ∙ datum_number f y n.0 in
+              let same_cs : with_datum cs (number q.0) f z ≡ u.cells = ap (λ (j : ℕ). with_datum cs j f z) same_n
+              ∙ (with_datum_twice u.cells c f y z
+              ∙ with_datum_same u.cells c f z (datum_is hs d u.cells u.next h r f z n)) in
+              let same_u : after_datum d' cs u.next q.0 ≡ u =
+              ap₂ (λ (w : Nodes) (es : List CellRec). store_by w R es u.next) same_d same_cs
+              ∙ sym (is_by hs T R d u m) in
               record {
                 dressed = d';
                 was = store_by d' H cs u.next;
@@ -121,17 +155,26 @@ module _ (face : Face) (T : List BoxDef) (H : Forest) where
                 goes = datum_goes d' cs u.next o k;
                 into = subst (λ (w : Store). Stands hs T R w) (sym same_u) (d, m);
                 alike = alike_equal (after_datum d' cs u.next q.0) u same_u;
-                edges = λ a j w l e g ex. subst (λ (D : Nodes). HasBoxEdge (cells D) a.cell e) same_d (datum_edges r f z d' a.cell e (a, j, refl, (w, l, g)));
+                edges = λ a j w l e g ex.
+                    subst (λ (D : Nodes). HasBoxEdge (cells D) a.cell e) same_d
+                    (datum_edges r f z d' a.cell e (a, j, refl, (w, l, g)));
               }
 
-  pub store_data : (R : Forest) (b f v x r : ℕ) (y : Datum) → target_at H b ≡ At r → IsDatumPut T H R r f y (datum_at H v) → Carries face T H R (StoreData b f v) x
-  store_data R b f v x r y e p = carries_datum r f (StoreData b f v) x b e (λ s. datum_of s v) (λ s. refl) R y (datum_at H v) p (λ d cs next. refl)
+  pub store_data : (R : Forest) (b f v x r : ℕ) (y : Datum) → target_at H b ≡ At r
+      → IsDatumPut T H R r f y (datum_at H v) → Carries face T H R (StoreData b f v) x
+  store_data R b f v x r y e p =
+      carries_datum r f (StoreData b f v) x b e (λ s. datum_of s v) (λ s. refl) R y (datum_at H v) p (λ d cs next. refl)
 
-  pub store_known : (R : Forest) (b f k x r : ℕ) (y : Datum) → target_at H b ≡ At r → IsDatumPut T H R r f y (Known k) → Carries face T H R (StoreConst b f (ConstKnown k)) x
-  store_known R b f k x r y e p = carries_datum r f (StoreConst b f (ConstKnown k)) x b e (λ s. Known k) (λ s. refl) R y (Known k) p (λ d cs next. refl)
+  pub store_known : (R : Forest) (b f k x r : ℕ) (y : Datum) → target_at H b ≡ At r → IsDatumPut T H R r f y (Known k)
+      → Carries face T H R (StoreConst b f (ConstKnown k)) x
+  store_known R b f k x r y e p =
+      carries_datum r f (StoreConst b f (ConstKnown k)) x b e (λ s. Known k) (λ s. refl) R y (Known k) p
+      (λ d cs next. refl)
 
-  pub store_data_stays : (b f v x r : ℕ) → target_at H b ≡ At r → AllLackDatum T H r f → AllGo face T H (StoreData b f v) x NotPassed
+  pub store_data_stays : (b f v x r : ℕ) → target_at H b ≡ At r → AllLackDatum T H r f
+      → AllGo face T H (StoreData b f v) x NotPassed
   store_data_stays b f v x r e l = datum_stays r f (StoreData b f v) x b e (λ s. datum_of s v) (λ s. refl) l
 
-  pub store_known_stays : (b f k x r : ℕ) → target_at H b ≡ At r → AllLackDatum T H r f → AllGo face T H (StoreConst b f (ConstKnown k)) x NotPassed
+  pub store_known_stays : (b f k x r : ℕ) → target_at H b ≡ At r → AllLackDatum T H r f
+      → AllGo face T H (StoreConst b f (ConstKnown k)) x NotPassed
   store_known_stays b f k x r e l = datum_stays r f (StoreConst b f (ConstKnown k)) x b e (λ s. Known k) (λ s. refl) l

@@ -1,5 +1,6 @@
 -- A data field of a store that is set: the head of its cell is a fact in front of others, which stay.
-use Rattle.std.proofs.Common.{◌≡◌, ◌⊎◌, inl, inr, ℕ, Bool, true, false, nat_eq, if◌then◌else◌, List, [], ◌∷◌, ◌++◌, slice_get, slice_set, Option, Some, None, refl, sym, ap, subst}
+use Rattle.std.proofs.Common.{◌≡◌, ◌⊎◌, inl, inr, ℕ, Bool, true, false, nat_eq, if◌then◌else◌, List, [], ◌∷◌, ◌++◌}
+use Rattle.std.proofs.Common.{slice_get, slice_set, Option, Some, None, refl, sym, ap, subst}
 use Rattle.std.proofs.lemmas.Bool.{eq-eqb, ne_eqb}
 use Rattle.std.proofs.lemmas.Option.{none-some, same_Some}
 use Rattle.fore_base.specs.Heap.{HasCell, AllDiffer}
@@ -22,47 +23,79 @@ abbrev pub head_in : List CellRec → ℕ → Option Fact
 head_in [] n = None
 head_in (c ∷ cs) n = if nat_eq c.number n then Some (Head c.number c.shape c.datums) else head_in cs n
 
-pub head_is_in : (n s : ℕ) (es : List Datum) (cs : List CellRec) → AllDiffer cs → IsIn (Head n s es) (store_facts cs) → head_in cs n ≡ Some (Head n s es)
+pub head_is_in : (n s : ℕ) (es : List Datum) (cs : List CellRec) → AllDiffer cs → IsIn (Head n s es) (store_facts cs)
+    → head_in cs n ≡ Some (Head n s es)
 head_is_in n s es [] d h = absurd h
-head_is_in n s es (c ∷ cs) (d, ds) h = here (in_append (Head n s es) (cell_facts c) (store_facts cs) h) (head_is_in n s es cs ds)
+head_is_in n s es (c ∷ cs) (d, ds) h =
+    here (in_append (Head n s es) (cell_facts c) (store_facts cs) h) (head_is_in n s es cs ds)
   where
-    here : IsIn (Head n s es) (cell_facts c) ⊎ IsIn (Head n s es) (store_facts cs) → (IsIn (Head n s es) (store_facts cs) → head_in cs n ≡ Some (Head n s es)) → head_in (c ∷ cs) n ≡ Some (Head n s es)
+    here : IsIn (Head n s es) (cell_facts c) ⊎ IsIn (Head n s es) (store_facts cs)
+        → (IsIn (Head n s es) (store_facts cs) → head_in cs n ≡ Some (Head n s es)) → head_in (c ∷ cs) n
+        ≡ Some (Head n s es)
     here (inl (inl e)) rest = rw (eq-eqb c.number n (ap fact_cell (sym e))) (ap Some (sym e))
     here (inl (inr i)) rest = absurd (no_head n s es c.number 0 c.fields i)
-    here (inr i) rest = rw (ne_eqb c.number n (λ e. d (subst (HasCell cs) (sym e) (fact_has (Head n s es) cs i)))) (rest i)
+    here (inr i) rest = rw (ne_eqb c.number n (λ e. d (subst (HasCell cs) (sym e) (fact_has (Head n s es) cs i))))
+        (rest i)
 
-pub data_field_is : (n s f : ℕ) (es : List Datum) (cs : List CellRec) → head_in cs n ≡ Some (Head n s es) → datum_field_of cs n f ≡ slice_get es f
+pub data_field_is : (n s f : ℕ) (es : List Datum) (cs : List CellRec) → head_in cs n ≡ Some (Head n s es)
+    → datum_field_of cs n f ≡ slice_get es f
 data_field_is n s f es [] e = absurd (none-some (Head n s es) e)
 data_field_is n s f es (c ∷ cs) e = here (nat_eq c.number n) e (data_field_is n s f es cs)
   where
-    here : (b : Bool) → (if b then Some (Head c.number c.shape c.datums) else head_in cs n) ≡ Some (Head n s es) → (head_in cs n ≡ Some (Head n s es) → datum_field_of cs n f ≡ slice_get es f) → (if b then slice_get c.datums f else datum_field_of cs n f) ≡ slice_get es f
-    here true q rest = ap (λ (x : Fact). slice_get (fact_datums x) f) (same_Some (Head c.number c.shape c.datums) (Head n s es) q)
+    here : (b : Bool) → (if b then Some (Head c.number c.shape c.datums) else head_in cs n) ≡ Some (Head n s es)
+        → (head_in cs n ≡ Some (Head n s es) → datum_field_of cs n f ≡ slice_get es f)
+        → (if b then slice_get c.datums f else datum_field_of cs n f) ≡ slice_get es f
+    here true q rest = ap (λ (x : Fact). slice_get (fact_datums x) f)
+        (same_Some (Head c.number c.shape c.datums) (Head n s es) q)
     here false q rest = rest q
 
 -- the head comes to the front, whatever its datum, and the rest stays
-pub head_split : (cs : List CellRec) (n s : ℕ) (es : List Datum) → head_in cs n ≡ Some (Head n s es) → (R : List Fact) × ((f : ℕ) (x : Datum) → Rearranged (store_facts (with_datum cs n f x)) (Head n s (slice_set es f x) ∷ R))
+pub head_split : (cs : List CellRec) (n s : ℕ) (es : List Datum) → head_in cs n ≡ Some (Head n s es) → (R : List Fact)
+    × ((f : ℕ) (x : Datum) → Rearranged (store_facts (with_datum cs n f x)) (Head n s (slice_set es f x) ∷ R))
 head_split [] n s es e = absurd (none-some (Head n s es) e)
 head_split (c ∷ cs) n s es e = here (nat_eq c.number n) e (head_split cs n s es)
   where
-    here : (b : Bool) → (if b then Some (Head c.number c.shape c.datums) else head_in cs n) ≡ Some (Head n s es) → (head_in cs n ≡ Some (Head n s es) → (R : List Fact) × ((f : ℕ) (x : Datum) → Rearranged (store_facts (with_datum cs n f x)) (Head n s (slice_set es f x) ∷ R))) → (R : List Fact) × ((f : ℕ) (x : Datum) → Rearranged (store_facts (if b then record c { datums = slice_set c.datums f x } ∷ cs else c ∷ with_datum cs n f x)) (Head n s (slice_set es f x) ∷ R))
-    here true q rest = (points c.number 0 c.fields ++ store_facts cs, λ f x. equal (ap (λ (y : Fact). Head (fact_cell y) (fact_shape y) (slice_set (fact_datums y) f x) ∷ (points c.number 0 c.fields ++ store_facts cs)) (same_Some (Head c.number c.shape c.datums) (Head n s es) q)))
+    here : (b : Bool) → (if b then Some (Head c.number c.shape c.datums) else head_in cs n) ≡ Some (Head n s es)
+        → (head_in cs n ≡ Some (Head n s es) → (R : List Fact)
+        × ((f : ℕ) (x : Datum) → Rearranged (store_facts (with_datum cs n f x)) (Head n s (slice_set es f x) ∷ R)))
+        → (R : List Fact)
+        × ((f : ℕ) (x : Datum) → Rearranged
+        (store_facts (if b then record c { datums = slice_set c.datums f x } ∷ cs else c ∷ with_datum cs n f x))
+        (Head n s (slice_set es f x) ∷ R))
+    here true q rest = (
+      points c.number 0 c.fields ++ store_facts cs,
+      λ f x.
+          equal
+          (ap (λ (y : Fact). Head (fact_cell y) (fact_shape y) (slice_set (fact_datums y) f x)
+          ∷ (points c.number 0 c.fields ++ store_facts cs))
+          (same_Some (Head c.number c.shape c.datums) (Head n s es) q)),
+    )
     here false q rest =
-        let k = rest q in
-        (cell_facts c ++ k.0, λ f x. chain (after (cell_facts c) (k.1 f x)) (middle (cell_facts c) (Head n s (slice_set es f x)) k.0))
+        let k = rest q in (
+          cell_facts c ++ k.0,
+          λ f x.
+              chain (after (cell_facts c) (k.1 f x)) (middle (cell_facts c) (Head n s (slice_set es f x)) k.0),
+        )
 
-pub with_datum_same : (cs : List CellRec) (n f : ℕ) (x : Datum) → datum_field_of cs n f ≡ Some x → with_datum cs n f x ≡ cs
+pub with_datum_same : (cs : List CellRec) (n f : ℕ) (x : Datum) → datum_field_of cs n f ≡ Some x → with_datum cs n f x
+    ≡ cs
 with_datum_same [] n f x e = refl
 with_datum_same (c ∷ cs) n f x e = here (nat_eq c.number n) e (with_datum_same cs n f x)
   where
-    here : (b : Bool) → (if b then slice_get c.datums f else datum_field_of cs n f) ≡ Some x → (datum_field_of cs n f ≡ Some x → with_datum cs n f x ≡ cs) → (if b then record c { datums = slice_set c.datums f x } ∷ cs else c ∷ with_datum cs n f x) ≡ c ∷ cs
+    here : (b : Bool) → (if b then slice_get c.datums f else datum_field_of cs n f) ≡ Some x
+        → (datum_field_of cs n f ≡ Some x → with_datum cs n f x ≡ cs)
+        → (if b then record c { datums = slice_set c.datums f x } ∷ cs else c ∷ with_datum cs n f x) ≡ c ∷ cs
     here true q rest = ap (λ (w : List Datum). record c { datums = w } ∷ cs) (set_same c.datums f x q)
     here false q rest = ap (λ (w : List CellRec). c ∷ w) (rest q)
 
-pub with_datum_twice : (cs : List CellRec) (n f : ℕ) (x y : Datum) → with_datum (with_datum cs n f x) n f y ≡ with_datum cs n f y
+pub with_datum_twice : (cs : List CellRec) (n f : ℕ) (x y : Datum) → with_datum (with_datum cs n f x) n f y
+    ≡ with_datum cs n f y
 with_datum_twice [] n f x y = refl
 with_datum_twice (c ∷ cs) n f x y = here (nat_eq c.number n) refl (with_datum_twice cs n f x y)
   where
-    here : (b : Bool) → nat_eq c.number n ≡ b → with_datum (with_datum cs n f x) n f y ≡ with_datum cs n f y → with_datum (if b then record c { datums = slice_set c.datums f x } ∷ cs else c ∷ with_datum cs n f x) n f y ≡ (if b then record c { datums = slice_set c.datums f y } ∷ cs else c ∷ with_datum cs n f y)
+    here : (b : Bool) → nat_eq c.number n ≡ b → with_datum (with_datum cs n f x) n f y ≡ with_datum cs n f y
+        → with_datum (if b then record c { datums = slice_set c.datums f x } ∷ cs else c ∷ with_datum cs n f x) n f y
+        ≡ (if b then record c { datums = slice_set c.datums f y } ∷ cs else c ∷ with_datum cs n f y)
     here true p rest = rw p (ap (λ (w : List Datum). record c { datums = w } ∷ cs) (set_twice c.datums f x y))
     here false p rest = rw p (ap (λ (w : List CellRec). c ∷ w) rest)
 
@@ -70,7 +103,9 @@ pub has_datum_after : (cs : List CellRec) (n f : ℕ) (x : Datum) (m : ℕ) → 
 has_datum_after [] n f x m = refl
 has_datum_after (c ∷ cs) n f x m = here (nat_eq c.number n) (has_datum_after cs n f x m)
   where
-    here : (b : Bool) → HasCell (with_datum cs n f x) m ≡ HasCell cs m → HasCell (if b then record c { datums = slice_set c.datums f x } ∷ cs else c ∷ with_datum cs n f x) m ≡ HasCell (c ∷ cs) m
+    here : (b : Bool) → HasCell (with_datum cs n f x) m ≡ HasCell cs m
+        → HasCell (if b then record c { datums = slice_set c.datums f x } ∷ cs else c ∷ with_datum cs n f x) m
+        ≡ HasCell (c ∷ cs) m
     here true rest = refl
     here false rest = ap (λ (y : Type 0). (c.number ≡ m) ⊎ y) rest
 
@@ -78,12 +113,15 @@ pub differ_datum : (cs : List CellRec) (n f : ℕ) (x : Datum) → AllDiffer cs 
 differ_datum [] n f x h = h
 differ_datum (c ∷ cs) n f x (g, h) = here (nat_eq c.number n) (differ_datum cs n f x h)
   where
-    here : (b : Bool) → AllDiffer (with_datum cs n f x) → AllDiffer (if b then record c { datums = slice_set c.datums f x } ∷ cs else c ∷ with_datum cs n f x)
+    here : (b : Bool) → AllDiffer (with_datum cs n f x)
+        → AllDiffer (if b then record c { datums = slice_set c.datums f x } ∷ cs else c ∷ with_datum cs n f x)
     here true rest = (g, h)
     here false rest = (λ i. g (subst (λ (y : Type 0). y) (has_datum_after cs n f x c.number) i), rest)
 
 -- what holds of each cell holds of each after, where it holds of a cell whose datum is set
-pub every_datum : (P Q : CellRec → Type 0) (cs : List CellRec) (n f : ℕ) (x : Datum) → ((c : CellRec) → P c → Q c) → ((c : CellRec) → P c → Q (record c { datums = slice_set c.datums f x })) → Every P cs → Every Q (with_datum cs n f x)
+pub every_datum : (P Q : CellRec → Type 0) (cs : List CellRec) (n f : ℕ) (x : Datum) → ((c : CellRec) → P c → Q c)
+    → ((c : CellRec) → P c → Q (record c { datums = slice_set c.datums f x })) → Every P cs
+    → Every Q (with_datum cs n f x)
 every_datum P Q [] n f x k l h = tt
 every_datum P Q (c ∷ cs) n f x k l (g, h) = here (nat_eq c.number n) (every_datum P Q cs n f x k l h)
   where
@@ -91,6 +129,7 @@ every_datum P Q (c ∷ cs) n f x k l (g, h) = here (nat_eq c.number n) (every_da
     rest_of [] i = tt
     rest_of (e ∷ es) (j, i) = (k e j, rest_of es i)
 
-    here : (b : Bool) → Every Q (with_datum cs n f x) → Every Q (if b then record c { datums = slice_set c.datums f x } ∷ cs else c ∷ with_datum cs n f x)
+    here : (b : Bool) → Every Q (with_datum cs n f x)
+        → Every Q (if b then record c { datums = slice_set c.datums f x } ∷ cs else c ∷ with_datum cs n f x)
     here true rest = (l c g, rest_of cs h)
     here false rest = (k c g, rest)

@@ -1,5 +1,6 @@
 -- A pointer field of a store that is set: its pointer is a fact in front of others, which stay.
-use Rattle.std.proofs.Common.{◌≡◌, ◌⊎◌, ℕ, zero, suc, ◌+◌, Bool, true, false, nat_eq, if◌then◌else◌, List, [], ◌∷◌, ◌++◌, slice_get, slice_set, Some, refl, ap, ap₂, subst, arith, zero-add}
+use Rattle.std.proofs.Common.{◌≡◌, ◌⊎◌, ℕ, zero, suc, ◌+◌, Bool, true, false, nat_eq, if◌then◌else◌, List, [], ◌∷◌}
+use Rattle.std.proofs.Common.{◌++◌, slice_get, slice_set, Some, refl, ap, ap₂, subst, arith, zero-add}
 use Rattle.std.proofs.lemmas.Bool.{eqb-true}
 use Rattle.std.proofs.lemmas.Option.{none-some}
 use Rattle.fore_base.specs.Heap.{HasCell, AllDiffer}
@@ -15,28 +16,47 @@ use Rattle.c_cfg.specs.Edges.{field_of}
 use Rattle.sym_transfer.proofs.Places.{set_twice, set_same}
 
 -- one field taken to the front, whatever its value
-pub points_split : (c k j : ℕ) (vs : List Value) (v : Value) → slice_get vs j ≡ Some v → (R : List Fact) × ((w : Value) → Rearranged (points c k (slice_set vs j w)) (Points c (k + j) w ∷ R))
+pub points_split : (c k j : ℕ) (vs : List Value) (v : Value) → slice_get vs j ≡ Some v → (R : List Fact)
+    × ((w : Value) → Rearranged (points c k (slice_set vs j w)) (Points c (k + j) w ∷ R))
 points_split c k j [] v e = absurd (none-some v e)
-points_split c k zero (u ∷ vs) v e = (points c (suc k) vs, λ w. equal (ap (λ (n : ℕ). Points c n w ∷ points c (suc k) vs) (omega arith)))
+points_split c k zero (u ∷ vs) v e =
+    (points c (suc k) vs, λ w. equal (ap (λ (n : ℕ). Points c n w ∷ points c (suc k) vs) (omega arith)))
 points_split c k (suc j) (u ∷ vs) v e =
-    let p = points_split c (suc k) j vs v e in
-    (Points c k u ∷ p.0, λ w. chain (keep (Points c k u) (chain (p.1 w) (equal (ap (λ (n : ℕ). Points c n w ∷ p.0) (omega arith))))) (swap (Points c k u) (Points c (k + suc j) w) p.0))
+    let p = points_split c (suc k) j vs v e in (
+      Points c k u ∷ p.0,
+      λ w.
+          chain (keep (Points c k u) (chain (p.1 w) (equal (ap (λ (n : ℕ). Points c n w ∷ p.0) (omega arith)))))
+          (swap (Points c k u) (Points c (k + suc j) w) p.0),
+    )
 
 -- A pointer field that is set
 
 -- its fact comes to the front, whatever its value, and the rest stays
-pub store_split : (cs : List CellRec) (n f : ℕ) (v : Value) → field_of cs n f ≡ Some v → (R : List Fact) × ((w : Value) → Rearranged (store_facts (with_field cs n f w)) (Points n f w ∷ R))
+pub store_split : (cs : List CellRec) (n f : ℕ) (v : Value) → field_of cs n f ≡ Some v → (R : List Fact)
+    × ((w : Value) → Rearranged (store_facts (with_field cs n f w)) (Points n f w ∷ R))
 store_split [] n f v e = absurd (none-some v e)
 store_split (c ∷ cs) n f v e = here (nat_eq c.number n) refl e (store_split cs n f v)
   where
     Goal : Bool → Type 0
-    Goal b = (R : List Fact) × ((w : Value) → Rearranged (store_facts (if b then record c { fields = slice_set c.fields f w } ∷ cs else c ∷ with_field cs n f w)) (Points n f w ∷ R))
+    Goal b = (R : List Fact)
+        × ((w : Value) → Rearranged
+        (store_facts (if b then record c { fields = slice_set c.fields f w } ∷ cs else c ∷ with_field cs n f w))
+        (Points n f w ∷ R))
 
-    here : (b : Bool) → nat_eq c.number n ≡ b → (if b then slice_get c.fields f else field_of cs n f) ≡ Some v → (field_of cs n f ≡ Some v → (R : List Fact) × ((w : Value) → Rearranged (store_facts (with_field cs n f w)) (Points n f w ∷ R))) → Goal b
+    here : (b : Bool) → nat_eq c.number n ≡ b → (if b then slice_get c.fields f else field_of cs n f) ≡ Some v
+        → (field_of cs n f ≡ Some v → (R : List Fact)
+        × ((w : Value) → Rearranged (store_facts (with_field cs n f w)) (Points n f w ∷ R))) → Goal b
     here true p q rest =
         let s = points_split c.number 0 f c.fields v q in
-        let h = Head c.number c.shape c.datums in
-        (h ∷ (s.0 ++ store_facts cs), λ w. chain (keep h (before (store_facts cs) (chain (s.1 w) (equal (ap₂ (λ (m j : ℕ). Points m j w ∷ s.0) (eqb-true c.number n p) (zero-add f)))))) (swap h (Points n f w) (s.0 ++ store_facts cs)))
+        let h = Head c.number c.shape c.datums in (
+          h ∷ (s.0 ++ store_facts cs),
+          λ w.
+              chain
+              (keep h
+              (before (store_facts cs)
+              (chain (s.1 w) (equal (ap₂ (λ (m j : ℕ). Points m j w ∷ s.0) (eqb-true c.number n p) (zero-add f))))))
+              (swap h (Points n f w) (s.0 ++ store_facts cs)),
+        )
     here false p q rest =
         let s = rest q in
         (cell_facts c ++ s.0, λ w. chain (after (cell_facts c) (s.1 w)) (middle (cell_facts c) (Points n f w) s.0))
@@ -45,15 +65,20 @@ pub with_field_same : (cs : List CellRec) (n f : ℕ) (v : Value) → field_of c
 with_field_same [] n f v e = refl
 with_field_same (c ∷ cs) n f v e = here (nat_eq c.number n) e (with_field_same cs n f v)
   where
-    here : (b : Bool) → (if b then slice_get c.fields f else field_of cs n f) ≡ Some v → (field_of cs n f ≡ Some v → with_field cs n f v ≡ cs) → (if b then record c { fields = slice_set c.fields f v } ∷ cs else c ∷ with_field cs n f v) ≡ c ∷ cs
+    here : (b : Bool) → (if b then slice_get c.fields f else field_of cs n f) ≡ Some v
+        → (field_of cs n f ≡ Some v → with_field cs n f v ≡ cs)
+        → (if b then record c { fields = slice_set c.fields f v } ∷ cs else c ∷ with_field cs n f v) ≡ c ∷ cs
     here true q rest = ap (λ (w : List Value). record c { fields = w } ∷ cs) (set_same c.fields f v q)
     here false q rest = ap (λ (w : List CellRec). c ∷ w) (rest q)
 
-pub with_field_twice : (cs : List CellRec) (n f : ℕ) (v w : Value) → with_field (with_field cs n f v) n f w ≡ with_field cs n f w
+pub with_field_twice : (cs : List CellRec) (n f : ℕ) (v w : Value) → with_field (with_field cs n f v) n f w
+    ≡ with_field cs n f w
 with_field_twice [] n f v w = refl
 with_field_twice (c ∷ cs) n f v w = here (nat_eq c.number n) refl (with_field_twice cs n f v w)
   where
-    here : (b : Bool) → nat_eq c.number n ≡ b → with_field (with_field cs n f v) n f w ≡ with_field cs n f w → with_field (if b then record c { fields = slice_set c.fields f v } ∷ cs else c ∷ with_field cs n f v) n f w ≡ (if b then record c { fields = slice_set c.fields f w } ∷ cs else c ∷ with_field cs n f w)
+    here : (b : Bool) → nat_eq c.number n ≡ b → with_field (with_field cs n f v) n f w ≡ with_field cs n f w
+        → with_field (if b then record c { fields = slice_set c.fields f v } ∷ cs else c ∷ with_field cs n f v) n f w
+        ≡ (if b then record c { fields = slice_set c.fields f w } ∷ cs else c ∷ with_field cs n f w)
     here true p rest = rw p (ap (λ (x : List Value). record c { fields = x } ∷ cs) (set_twice c.fields f v w))
     here false p rest = rw p (ap (λ (x : List CellRec). c ∷ x) rest)
 
@@ -62,7 +87,9 @@ pub has_after : (cs : List CellRec) (n f : ℕ) (w : Value) (m : ℕ) → HasCel
 has_after [] n f w m = refl
 has_after (c ∷ cs) n f w m = here (nat_eq c.number n) (has_after cs n f w m)
   where
-    here : (b : Bool) → HasCell (with_field cs n f w) m ≡ HasCell cs m → HasCell (if b then record c { fields = slice_set c.fields f w } ∷ cs else c ∷ with_field cs n f w) m ≡ HasCell (c ∷ cs) m
+    here : (b : Bool) → HasCell (with_field cs n f w) m ≡ HasCell cs m
+        → HasCell (if b then record c { fields = slice_set c.fields f w } ∷ cs else c ∷ with_field cs n f w) m
+        ≡ HasCell (c ∷ cs) m
     here true rest = refl
     here false rest = ap (λ (x : Type 0). (c.number ≡ m) ⊎ x) rest
 
@@ -70,12 +97,15 @@ pub differ_after : (cs : List CellRec) (n f : ℕ) (w : Value) → AllDiffer cs 
 differ_after [] n f w h = h
 differ_after (c ∷ cs) n f w (g, h) = here (nat_eq c.number n) (differ_after cs n f w h)
   where
-    here : (b : Bool) → AllDiffer (with_field cs n f w) → AllDiffer (if b then record c { fields = slice_set c.fields f w } ∷ cs else c ∷ with_field cs n f w)
+    here : (b : Bool) → AllDiffer (with_field cs n f w)
+        → AllDiffer (if b then record c { fields = slice_set c.fields f w } ∷ cs else c ∷ with_field cs n f w)
     here true rest = (g, h)
     here false rest = (λ i. g (subst (λ (x : Type 0). x) (has_after cs n f w c.number) i), rest)
 
 -- what holds of each cell holds of each after, where it holds of a cell whose field is set
-pub every_after : (P Q : CellRec → Type 0) (cs : List CellRec) (n f : ℕ) (w : Value) → ((c : CellRec) → P c → Q c) → ((c : CellRec) → P c → Q (record c { fields = slice_set c.fields f w })) → Every P cs → Every Q (with_field cs n f w)
+pub every_after : (P Q : CellRec → Type 0) (cs : List CellRec) (n f : ℕ) (w : Value) → ((c : CellRec) → P c → Q c)
+    → ((c : CellRec) → P c → Q (record c { fields = slice_set c.fields f w })) → Every P cs
+    → Every Q (with_field cs n f w)
 every_after P Q [] n f w k l h = tt
 every_after P Q (c ∷ cs) n f w k l (g, h) = here (nat_eq c.number n) (every_after P Q cs n f w k l h)
   where
@@ -83,6 +113,7 @@ every_after P Q (c ∷ cs) n f w k l (g, h) = here (nat_eq c.number n) (every_af
     rest_of [] i = tt
     rest_of (e ∷ es) (j, i) = (k e j, rest_of es i)
 
-    here : (b : Bool) → Every Q (with_field cs n f w) → Every Q (if b then record c { fields = slice_set c.fields f w } ∷ cs else c ∷ with_field cs n f w)
+    here : (b : Bool) → Every Q (with_field cs n f w)
+        → Every Q (if b then record c { fields = slice_set c.fields f w } ∷ cs else c ∷ with_field cs n f w)
     here true rest = (l c g, rest_of cs h)
     here false rest = (k c g, rest)

@@ -39,9 +39,13 @@ followed_fault vs (At r) k e = absurd (true≢false (ap is_right e))
 
 module _ (H : Forest) (b : ℕ) (d : Nodes) (cs : List CellRec) (next : ℕ) (then_do : ℕ → Pass) where
   -- a step that follows variable b, where its target is no cell
-  pub follow_fails : (k : Fault) → root_of (target_at H b) ≡ Err k → onto (followed (var_of (store_by d H cs next) b)) then_do ≡ Faulted k
-  follow_fails k e = ap (λ (v : Value). onto (followed v) then_do) (var_is d H cs next b) ∙ ap (λ (r : Result ℕ Fault). onto r then_do) (followed_fault (roots_of d) (target_at H b) k e)
+  pub follow_fails : (k : Fault) → root_of (target_at H b) ≡ Err k
+      → onto (followed (var_of (store_by d H cs next) b)) then_do ≡ Faulted k
+  follow_fails k e = ap (λ (v : Value). onto (followed v) then_do) (var_is d H cs next b)
+      ∙ ap (λ (r : Result ℕ Fault). onto r then_do) (followed_fault (roots_of d) (target_at H b) k e)
 
   -- and where it is root r
-  pub follow_root : (r : ℕ) → target_at H b ≡ At r → (n : Node) → node_at d r ≡ Some n → onto (followed (var_of (store_by d H cs next) b)) then_do ≡ then_do (number n)
-  follow_root r e n p = ap (λ (v : Value). onto (followed v) then_do) (var_is d H cs next b ∙ ap (value_in (roots_of d)) e ∙ root_value r d n p)
+  pub follow_root : (r : ℕ) → target_at H b ≡ At r → (n : Node) → node_at d r ≡ Some n
+      → onto (followed (var_of (store_by d H cs next) b)) then_do ≡ then_do (number n)
+  follow_root r e n p = ap (λ (v : Value). onto (followed v) then_do)
+      (var_is d H cs next b ∙ ap (value_in (roots_of d)) e ∙ root_value r d n p)

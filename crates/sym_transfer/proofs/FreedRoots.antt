@@ -1,5 +1,6 @@
 -- A root whose fields end at one leaf each can be dropped.
-use Rattle.std.proofs.Common.{◌≡◌, ℕ, zero, suc, ◌+◌, ◌<◌, true, false, nat_eq, List, [], ◌∷◌, map, length, refl, sym, ap, subst, ◌∙◌, Some, slice_get, slice_index_or, arith}
+use Rattle.std.proofs.Common.{◌≡◌, ℕ, zero, suc, ◌+◌, ◌<◌, true, false, nat_eq, List, [], ◌∷◌, map, length, refl, sym}
+use Rattle.std.proofs.Common.{ap, subst, ◌∙◌, Some, slice_get, slice_index_or, arith}
 use Rattle.std.proofs.lemmas.Bool.{eq-eqb, ne_eqb}
 use Rattle.std.proofs.lemmas.Option.{none-some, same_Some}
 use Rattle.fore_base.specs.Lists.{Every}
@@ -16,7 +17,8 @@ use Rattle.ta_core.specs.declared.symbol.Symbol.TheVariants.{Cell}
 use Rattle.ta_core.specs.declared.tree.Tree.{Tree, out-Tree, roll-out-Tree, para-roll-Tree}
 use Rattle.fa_core.specs.Boxless.{IsField, IsPlain, HasNoBoxes}
 use Rattle.fa_core.specs.Cells.{is_leaf}
-use Rattle.fa_core.specs.Filled.{Spot, spots, spots_at, EndsFit, IsFilledSpot, covers, least, Choice, TopsAre, IsTopped, TreesFilled, IsSound, given_at}
+use Rattle.fa_core.specs.Filled.{Spot, spots, spots_at, EndsFit, IsFilledSpot, covers, least, Choice, TopsAre, IsTopped}
+use Rattle.fa_core.specs.Filled.{TreesFilled, IsSound, given_at}
 use Rattle.fa_core.specs.Folding.{symbol_slots}
 use Rattle.fa_core.specs.Member.{leaf_symbol}
 use Rattle.fa_core.specs.Placed.{placed_auto}
@@ -42,7 +44,8 @@ abbrev slot_least : List BoxFace → Slot → ℕ
 slot_least bs s = least (covers bs s)
 
 -- the slots at and behind a place are of greater fields
-later_greater : (bs : List BoxFace) (g i f : ℕ) (ss : List Slot) → RisesFrom g (map (slot_least bs) ss) → slice_get ss i ≡ Some (Field f) → g < f
+later_greater : (bs : List BoxFace) (g i f : ℕ) (ss : List Slot) → RisesFrom g (map (slot_least bs) ss)
+    → slice_get ss i ≡ Some (Field f) → g < f
 later_greater bs g i f [] h e = absurd (none-some (Field f) e)
 later_greater bs g zero f (s ∷ ss) h e = subst (λ (z : Slot). g < slot_least bs z) (same_Some s (Field f) e) h.0
 later_greater bs g (suc i) f (s ∷ ss) h e =
@@ -55,7 +58,8 @@ rises_on g [] h = tt
 rises_on g (x ∷ xs) h = h.1
 
 -- among fields in rising order, each stands at the place at which it is found
-slot_place : (bs : List BoxFace) (k i f : ℕ) (ss : List Slot) → Every IsField ss → IsRising (map (slot_least bs) ss) → slice_get ss i ≡ Some (Field f) → field_place_from k f ss ≡ Some (k + i)
+slot_place : (bs : List BoxFace) (k i f : ℕ) (ss : List Slot) → Every IsField ss → IsRising (map (slot_least bs) ss)
+    → slice_get ss i ≡ Some (Field f) → field_place_from k f ss ≡ Some (k + i)
 slot_place bs k i f [] p h e = absurd (none-some (Field f) e)
 slot_place bs k zero f (Field g ∷ ss) p h e =
     let q : g ≡ f = ap (slot_least bs) (same_Some (Field g) (Field f) e) in
@@ -64,7 +68,8 @@ slot_place bs k zero f (Field g ∷ ss) p h e =
 slot_place bs k (suc i) f (Field g ∷ ss) p h e =
     let l = later_greater bs g i f ss h e in
     let t : nat_eq g f ≡ false = ne_eqb g f (λ q. (let z = subst (λ (n : ℕ). n < f) q l in omega (arith, z))) in
-    rw t (slot_place bs (suc k) i f ss p.1 (rises_on g (map (slot_least bs) ss) h) e ∙ ap (λ (n : ℕ). Some n) (omega arith))
+    rw t (slot_place bs (suc k) i f ss p.1 (rises_on g (map (slot_least bs) ss) h) e
+    ∙ ap (λ (n : ℕ). Some n) (omega arith))
 slot_place bs k i f (Link b ∷ ss) p h e = absurd p.0
 slot_place bs k i f (Hook b ∷ ss) p h e = absurd p.0
 
@@ -87,7 +92,8 @@ only_leaf rules q t only u (run x i s y k) = ap is_leaf (sym y ∙ only.only x i
 abbrev with_spots : List BoxFace → List Tree → List (Tree × (List ℕ → List Spot))
 with_spots bs us = map (λ (c : Tree). (c, spots bs c)) us
 
-all_leaves : (face : Face) (tops : List ℕ) (s : ℕ) (rules : List Rule) (ss : List Slot) (qs : List ℕ) (us : List Tree) → Every IsField ss
+all_leaves : (face : Face) (tops : List ℕ) (s : ℕ) (rules : List Rule) (ss : List Slot) (qs : List ℕ) (us : List Tree)
+    → Every IsField ss
     → EndsFit face tops s ss (map (λ c. (out-Tree c.0).symbol) (with_spots face.boxes us)) → RunEach rules qs us
     → ((i f q : ℕ) → slice_get ss i ≡ Some (Field f) → slice_get qs i ≡ Some q → HasLeaves rules q)
     → Every (λ (u : Tree). is_leaf (out-Tree u).symbol ≡ true) us
@@ -95,41 +101,61 @@ all_leaves face tops s rules [] qs [] p h k l = tt
 all_leaves face tops s rules [] qs (u ∷ us) p h k l = absurd h
 all_leaves face tops s rules (Field f ∷ ss) qs [] p h k l = tt
 all_leaves face tops s rules (Field f ∷ ss) [] (u ∷ us) p h k l = elim k [ ]
-all_leaves face tops s rules (Field f ∷ ss) (q ∷ qs) (u ∷ us) p h (run_more r rs) l = (l 0 f q refl refl u r, all_leaves face tops s rules ss qs us p.1 h.1 rs (λ i g z a b. l (suc i) g z a b))
+all_leaves face tops s rules (Field f ∷ ss) (q ∷ qs) (u ∷ us) p h (run_more r rs) l =
+    (l 0 f q refl refl u r, all_leaves face tops s rules ss qs us p.1 h.1 rs (λ i g z a b. l (suc i) g z a b))
 all_leaves face tops s rules (Link b ∷ ss) qs us p h k l = absurd p.0
 all_leaves face tops s rules (Hook b ∷ ss) qs us p h k l = absurd p.0
 
 -- Trees of a choice.
 
-in_component : (autos : List Automaton) (ts : List Tree) (r : ℕ) (t : Tree) → Choice autos ts → slice_get ts r ≡ Some t → InLanguage (component_at autos r) t
+in_component : (autos : List Automaton) (ts : List Tree) (r : ℕ) (t : Tree) → Choice autos ts → slice_get ts r ≡ Some t
+    → InLanguage (component_at autos r) t
 in_component [] [] r t c e = absurd (none-some t e)
 in_component [] (u ∷ ts) r t c e = absurd c
 in_component (a ∷ autos) [] r t c e = absurd c
 in_component (a ∷ autos) (u ∷ ts) zero t c e = subst (InLanguage a) (same_Some u t e) c.0
 in_component (a ∷ autos) (u ∷ ts) (suc r) t c e = in_component autos ts r t c.1 e
 
-topped_at : (ts : List Tree) (tops : List ℕ) (r : ℕ) (t : Tree) → TopsAre ts tops → slice_get ts r ≡ Some t → (s : ℕ) × IsTopped s t
+topped_at : (ts : List Tree) (tops : List ℕ) (r : ℕ) (t : Tree) → TopsAre ts tops → slice_get ts r ≡ Some t → (s : ℕ)
+    × IsTopped s t
 topped_at [] tops r t h e = absurd (none-some t e)
 topped_at (u ∷ ts) [] r t h e = absurd h
 topped_at (u ∷ ts) (s ∷ tops) zero t h e = (s, subst (IsTopped s) (same_Some u t e) h.0)
 topped_at (u ∷ ts) (s ∷ tops) (suc r) t h e = topped_at ts tops r t h.1 e
 
-spots_filled : (face : Face) (all : List Tree) (tops : List ℕ) (k : ℕ) (ts : List Tree) (r : ℕ) (t : Tree) → TreesFilled face all tops k ts → slice_get ts r ≡ Some t → (above : List ℕ) × Every (IsFilledSpot face tops) (spots face.boxes t above)
+spots_filled : (face : Face) (all : List Tree) (tops : List ℕ) (k : ℕ) (ts : List Tree) (r : ℕ) (t : Tree)
+    → TreesFilled face all tops k ts → slice_get ts r ≡ Some t → (above : List ℕ)
+    × Every (IsFilledSpot face tops) (spots face.boxes t above)
 spots_filled face all tops k [] r t h e = absurd (none-some t e)
-spots_filled face all tops k (u ∷ ts) zero t h e = (given_at face.boxes all k, subst (λ (z : Tree). Every (IsFilledSpot face tops) (spots face.boxes z (given_at face.boxes all k))) (same_Some u t e) h.0)
+spots_filled face all tops k (u ∷ ts) zero t h e = (
+  given_at face.boxes all k,
+  subst (λ (z : Tree). Every (IsFilledSpot face tops) (spots face.boxes z (given_at face.boxes all k)))
+      (same_Some u t e) h.0,
+)
 spots_filled face all tops k (u ∷ ts) (suc r) t h e = spots_filled face all tops (suc k) ts r t h.1 e
 
 -- the top of a tree is filled
-top_filled : (face : Face) (tops : List ℕ) (t : Tree) (above : List ℕ) (s : ℕ) (ds : List Datum) (ss : List Slot) → (out-Tree t).symbol ≡ Cell s ds ss → Every (IsFilledSpot face tops) (spots face.boxes t above)
-    → IsFilledSpot face tops (record { shape = s; slots = ss; ends = map (λ c. (out-Tree c.0).symbol) (with_spots face.boxes (out-Tree t).children); given = above })
+top_filled : (face : Face) (tops : List ℕ) (t : Tree) (above : List ℕ) (s : ℕ) (ds : List Datum) (ss : List Slot)
+    → (out-Tree t).symbol ≡ Cell s ds ss → Every (IsFilledSpot face tops) (spots face.boxes t above)
+    → IsFilledSpot face tops
+    (record {
+      shape = s;
+      slots = ss;
+      ends = map (λ c. (out-Tree c.0).symbol) (with_spots face.boxes (out-Tree t).children);
+      given = above;
+    })
 top_filled face tops t above s ds ss e h =
-    (subst (λ (y : Symbol). Every (IsFilledSpot face tops) (spots_at face.boxes y (with_spots face.boxes (out-Tree t).children) above)) e
+    (subst
+    (λ (y : Symbol). Every (IsFilledSpot face tops)
+    (spots_at face.boxes y (with_spots face.boxes (out-Tree t).children) above)) e
     (subst (λ (l : List Spot). Every (IsFilledSpot face tops) l) opened h)).0
   where
-    opened : spots face.boxes t above ≡ spots_at face.boxes (out-Tree t).symbol (with_spots face.boxes (out-Tree t).children) above
+    opened : spots face.boxes t above
+        ≡ spots_at face.boxes (out-Tree t).symbol (with_spots face.boxes (out-Tree t).children) above
     opened =
         ap (λ (z : Tree). spots face.boxes z above) (sym (roll-out-Tree t))
-        ∙ ap (λ (f : List ℕ → List Spot). f above) (para-roll-Tree (List ℕ → List Spot) (λ x. spots_at face.boxes x.symbol x.children) (out-Tree t))
+        ∙ ap (λ (f : List ℕ → List Spot). f above)
+        (para-roll-Tree (List ℕ → List Spot) (λ x. spots_at face.boxes x.symbol x.children) (out-Tree t))
 
 index_of : (qs : List ℕ) (i q : ℕ) → slice_get qs i ≡ Some q → slice_index_or qs i 0 ≡ q
 index_of [] i q e = absurd (none-some q e)
@@ -141,7 +167,9 @@ component_plain [] r h = tt
 component_plain (a ∷ autos) zero h = h.0
 component_plain (a ∷ autos) (suc r) h = component_plain autos r h.1
 
-module _ (face : Face) (F : Forest) (r : ℕ) (sound : IsSound face F) (plain : Every HasNoBoxes F.autos) (one : HasOneTop (component_at F.autos r)) (leaves : (f p : ℕ) → place_at F r f ≡ Some p → (t : Target) × IsLeafPlace F r p t) where
+module _ (face : Face) (F : Forest) (r : ℕ) (sound : IsSound face F) (plain : Every HasNoBoxes F.autos)
+    (one : HasOneTop (component_at F.autos r))
+    (leaves : (f p : ℕ) → place_at F r f ≡ Some p → (t : Target) × IsLeafPlace F r p t) where
   abbrev a : Automaton
   a = component_at F.autos r
 
@@ -158,11 +186,20 @@ module _ (face : Face) (F : Forest) (r : ℕ) (sound : IsSound face F) (plain : 
         let above = spots_filled face ts filled.tops 0 ts r t filled.cells is in
         let spot = top_filled face filled.tops t above.0 s ds ss symbol above.1 in
         let top : (top_rule a).symbol ≡ Cell s ds ss = by.0 ∙ symbol in
-        let fields : Every IsField ss = subst IsPlain top (every_in (λ (x : Rule). IsPlain x.symbol) a.rules (top_rule a) (component_plain F.autos r plain) (top_in a one)) in
-        let each : ((i f q : ℕ) → slice_get ss i ≡ Some (Field f) → slice_get (top_rule a).children i ≡ Some q → HasLeaves a.rules q) = (λ i f q e k.
-        (let l = leaves f i (ap (λ (y : Symbol). field_place f (symbol_slots y)) top ∙ slot_place face.boxes 0 i f ss fields spot.order.1 e ∙ ap (λ (n : ℕ). Some n) (omega arith)) in
-        only_leaf a.rules q l.0 (subst (λ (z : ℕ). IsOnlyLeaf a.rules z l.0) (index_of (top_rule a).children i q k) l.1))) in
-        (subst HasFieldsOnly (sym symbol) fields, all_leaves face filled.tops s a.rules ss (top_rule a).children (out-Tree t).children fields spot.ends by.1 each)
+        let fields : Every IsField ss =
+        subst IsPlain top
+        (every_in (λ (x : Rule). IsPlain x.symbol) a.rules (top_rule a) (component_plain F.autos r plain)
+        (top_in a one)) in
+        let each : ((i f q : ℕ) → slice_get ss i ≡ Some (Field f) → slice_get (top_rule a).children i ≡ Some q
+        → HasLeaves a.rules q) = (λ i f q e k.
+        (let l = leaves f i (ap (λ (y : Symbol). field_place f (symbol_slots y)) top
+        ∙ slot_place face.boxes 0 i f ss fields spot.order.1 e ∙ ap (λ (n : ℕ). Some n) (omega arith)) in
+        only_leaf a.rules q l.0
+        (subst (λ (z : ℕ). IsOnlyLeaf a.rules z l.0) (index_of (top_rule a).children i q k) l.1))) in (
+          subst HasFieldsOnly (sym symbol) fields,
+          all_leaves face filled.tops s a.rules ss (top_rule a).children (out-Tree t).children fields spot.ends by.1
+              each,
+        )
 
   pub root_can_go : r < length F.autos → CanDrop face.boxes F r
   root_can_go root = record {
@@ -175,4 +212,5 @@ module _ (face : Face) (F : Forest) (r : ℕ) (sound : IsSound face F) (plain : 
 pub still_plain : (r : ℕ) (F : Forest) → Every HasNoBoxes F.autos → Every HasNoBoxes (dropped_forest r F).autos
 still_plain r F plain =
     every_map (placed_auto (drop_leaf r)) HasNoBoxes (but_place r F.autos)
-    (every_weaker HasNoBoxes (λ (a : Automaton). HasNoBoxes (placed_auto (drop_leaf r) a)) (but_place r F.autos) (placed_boxless (drop_leaf r)) (every_but HasNoBoxes r F.autos plain))
+    (every_weaker HasNoBoxes (λ (a : Automaton). HasNoBoxes (placed_auto (drop_leaf r) a)) (but_place r F.autos)
+    (placed_boxless (drop_leaf r)) (every_but HasNoBoxes r F.autos plain))

@@ -24,7 +24,8 @@ use Rattle.sym_core.specs.Explicit.{target_at}
 use Rattle.sym_transfer.proofs.PlainKept.{member_kept}
 
 -- what a variable is, by its target
-value_of_target : (vs : List Value) (ts : List Target) (x : ℕ) → slice_index_or (map (value_in vs) ts) x UninitValue ≡ value_in vs (slice_index_or ts x Uninit)
+value_of_target : (vs : List Value) (ts : List Target) (x : ℕ) → slice_index_or (map (value_in vs) ts) x UninitValue
+    ≡ value_in vs (slice_index_or ts x Uninit)
 value_of_target vs [] x = refl
 value_of_target vs (t ∷ ts) zero = refl
 value_of_target vs (t ∷ ts) (suc x) = value_of_target vs ts x
@@ -45,10 +46,12 @@ module _ (face : Face) (T : List BoxDef) (F : Forest) (base r : ℕ) (at : targe
       ∙ ap (value_in (roots_of d)) at
       ∙ node_root d r (node c flat.0 flat.1 flat.2) flat.3
 
-  free_goes : (d : Nodes) (s : Store) (c x : ℕ) → StandsBy hs T F d s → IsFlatRoot d r c → raw_step hs (Free base) x s ≡ Passed (without_cell c s)
+  free_goes : (d : Nodes) (s : Store) (c x : ℕ) → StandsBy hs T F d s → IsFlatRoot d r c → raw_step hs (Free base) x s
+      ≡ Passed (without_cell c s)
   free_goes d s c x h flat = ap (λ (v : Value). onto (freed s v) Passed) (base_is d s c h flat)
 
-  module _ (G : Forest) (plain : Every HasNoBoxes F.autos) (removes : Removes hs T F G r) (restores : Restores hs T F G r) (x : ℕ) where
+  module _ (G : Forest) (plain : Every HasNoBoxes F.autos) (removes : Removes hs T F G r)
+      (restores : Restores hs T F G r) (x : ℕ) where
     free_into : (s : Store) (d : Nodes) → StandsBy hs T F d s → GoesInto face T G (Free base) x s
     free_into s d h =
         let k = removes d s h in
@@ -69,7 +72,11 @@ module _ (face : Face) (T : List BoxDef) (F : Forest) (base r : ℕ) (at : targe
           goes_to = without_cell c s;
           stands = was;
           goes = free_goes e s c x was flat;
-          into = (dropped r e, subst (λ (n : ℕ). StandsBy hs T G (dropped r e) (without_cell n s)) (one_root e r k.0 c k.1 flat) k.2);
+          into = (
+            dropped r e,
+            subst (λ (n : ℕ). StandsBy hs T G (dropped r e) (without_cell n s))
+                (one_root e r k.0 c k.1 flat) k.2,
+          );
           alike = p.5;
           edges = member_kept hs T F face.boxes (Free base) s p.5.to e d plain was;
         }

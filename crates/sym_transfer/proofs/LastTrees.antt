@@ -1,5 +1,6 @@
 -- A new cell as the last tree of a dressed forest.
-use Rattle.std.proofs.Common.{◌≡◌, ℕ, zero, suc, ◌<◌, length, replicate, List, [], ◌∷◌, ◌++◌, refl, sym, ap, ap₂, subst, ◌∙◌, append_assoc, arith, false, nat_eq, not-suc-le-zero, le_of_suc-le-suc, lt_irrefl}
+use Rattle.std.proofs.Common.{◌≡◌, ℕ, zero, suc, ◌<◌, length, replicate, List, [], ◌∷◌, ◌++◌, refl, sym, ap, ap₂, subst}
+use Rattle.std.proofs.Common.{◌∙◌, append_assoc, arith, false, nat_eq, not-suc-le-zero, le_of_suc-le-suc, lt_irrefl}
 use Rattle.std.proofs.lemmas.Bool.{ne_eqb}
 use Rattle.fore_base.specs.Lists.{Every}
 use Rattle.fore_base.specs.Shapes.{targets_of, datums_of}
@@ -9,7 +10,10 @@ use Rattle.fore_base.specs.declared.store.Value.{Value}
 use Rattle.fore_base.specs.declared.store.Value.TheVariants.{Uninit as UninitValue, Cell}
 use Rattle.fore_base.proofs.ListLemmas.{every_parts, every_weaker}
 use Rattle.fa_core.specs.Choices.{count}
-use Rattle.fa_core.specs.Dressed.{Node, Parts, End, Nodes, node, no_parts, field, link, hook, under, leaf, no_nodes, more, Fact, Head, Points, facts, tree_facts, slot_facts, end_facts, forest_facts, with_ports, end_value, number, roots_of, nth_value, value_in, refs, refs_of, end_refs, all_refs, leaf_refs}
+use Rattle.fa_core.specs.Dressed.{Node, Parts, End, Nodes, node, no_parts, field, link, hook, under, leaf, no_nodes}
+use Rattle.fa_core.specs.Dressed.{more, Fact, Head, Points, facts, tree_facts, slot_facts, end_facts, forest_facts}
+use Rattle.fa_core.specs.Dressed.{with_ports, end_value, number, roots_of, nth_value, value_in, refs, refs_of, end_refs}
+use Rattle.fa_core.specs.Dressed.{all_refs, leaf_refs}
 use Rattle.fa_core.specs.Member.{points, cell_facts}
 use Rattle.fa_core.specs.Placed.{placed, placed_parts, placed_end, placed_leaf, placed_all}
 use Rattle.fa_core.specs.declared.forest.Target.{Target}
@@ -63,11 +67,16 @@ module _ (vs ws : List Value) where
     slots_agree c no_parts h = refl
     slots_agree c (field f e ps) h =
         let k = every_parts Agrees (end_refs e) (refs_of ps) h in
-        ap₂ (λ (v : Value) (xs : List Fact). Points c f v ∷ xs) (end_agrees e k.0) (ap₂ (λ (xs ys : List Fact). xs ++ ys) (ends_agree e k.0) (slots_agree c ps k.1))
+        ap₂ (λ (v : Value) (xs : List Fact). Points c f v ∷ xs) (end_agrees e k.0)
+        (ap₂ (λ (xs ys : List Fact). xs ++ ys) (ends_agree e k.0) (slots_agree c ps k.1))
     slots_agree c (link b inside e ps) h =
         let k = every_parts Agrees (end_refs e) (refs_of ps) h in
-        ap₂ (λ (v : Value) (xs : List Fact). forest_facts (with_ports (Cell c ∷ (v ∷ [])) inside) (Cell c ∷ (v ∷ [])) inside ++ xs) (end_agrees e k.0) (ap₂ (λ (xs ys : List Fact). xs ++ ys) (ends_agree e k.0) (slots_agree c ps k.1))
-    slots_agree c (hook b inside ps) h = ap (λ (xs : List Fact). forest_facts (with_ports (Cell c ∷ []) inside) (Cell c ∷ []) inside ++ xs) (slots_agree c ps h)
+        ap₂ (λ (v : Value) (xs : List Fact).
+        forest_facts (with_ports (Cell c ∷ (v ∷ [])) inside) (Cell c ∷ (v ∷ [])) inside ++ xs) (end_agrees e k.0)
+        (ap₂ (λ (xs ys : List Fact). xs ++ ys) (ends_agree e k.0) (slots_agree c ps k.1))
+    slots_agree c (hook b inside ps) h =
+        ap (λ (xs : List Fact). forest_facts (with_ports (Cell c ∷ []) inside) (Cell c ∷ []) inside ++ xs)
+        (slots_agree c ps h)
 
     ends_agree : (e : End) → Every Agrees (end_refs e) → end_facts vs e ≡ end_facts ws e
     ends_agree (under n) h = tree_agrees n h
@@ -85,20 +94,31 @@ blank_facts : (vs : List Value) (c k j : ℕ) → slot_facts vs c (blank_parts k
 blank_facts vs c k zero = refl
 blank_facts vs c k (suc j) = ap (λ (xs : List Fact). Points c k UninitValue ∷ xs) (blank_facts vs c (suc k) j)
 
-new_facts : (hs : List Shape) (vs : List Value) (shape c : ℕ) → tree_facts vs (new_node hs shape c) ≡ cell_facts (blank hs c shape)
-new_facts hs vs shape c = ap (λ (xs : List Fact). Head c shape (replicate (datums_of hs shape) Undefined) ∷ xs) (blank_facts vs c 0 (length (targets_of hs shape)))
+new_facts : (hs : List Shape) (vs : List Value) (shape c : ℕ) → tree_facts vs (new_node hs shape c)
+    ≡ cell_facts (blank hs c shape)
+new_facts hs vs shape c =
+    ap (λ (xs : List Fact). Head c shape (replicate (datums_of hs shape) Undefined) ∷ xs)
+    (blank_facts vs c 0 (length (targets_of hs shape)))
 
-last_facts : (vs : List Value) (d : Nodes) (n : Node) → forest_facts vs [] (with_last d n) ≡ forest_facts vs [] d ++ (tree_facts vs n ++ [])
+last_facts : (vs : List Value) (d : Nodes) (n : Node) → forest_facts vs [] (with_last d n) ≡ forest_facts vs [] d
+    ++ (tree_facts vs n ++ [])
 last_facts vs no_nodes n = refl
-last_facts vs (more m ns) n = ap (λ (xs : List Fact). tree_facts vs m ++ xs) (last_facts vs ns n) ∙ sym (append_assoc (tree_facts vs m) (forest_facts vs [] ns) (tree_facts vs n ++ []))
+last_facts vs (more m ns) n = ap (λ (xs : List Fact). tree_facts vs m ++ xs) (last_facts vs ns n)
+    ∙ sym (append_assoc (tree_facts vs m) (forest_facts vs [] ns) (tree_facts vs n ++ []))
 
 -- the facts of a dressed forest with a new cell are its own, and those of a blank cell
-pub grown_facts : (hs : List Shape) (shape c : ℕ) (d : Nodes) → Every (λ r. r < count d) (all_refs d) → facts (with_last d (new_node hs shape c)) ≡ facts d ++ (cell_facts (blank hs c shape) ++ [])
+pub grown_facts : (hs : List Shape) (shape c : ℕ) (d : Nodes) → Every (λ r. r < count d) (all_refs d)
+    → facts (with_last d (new_node hs shape c)) ≡ facts d ++ (cell_facts (blank hs c shape) ++ [])
 grown_facts hs shape c d low =
     let vs = roots_of d ++ Cell c ∷ [] in
-    ap (λ (ws : List Value). forest_facts ws [] (with_last d (new_node hs shape c))) (last_roots d (new_node hs shape c))
+    ap (λ (ws : List Value). forest_facts ws [] (with_last d (new_node hs shape c)))
+    (last_roots d (new_node hs shape c))
     ∙ last_facts vs d (new_node hs shape c)
-    ∙ ap₂ (λ (xs ys : List Fact). xs ++ (ys ++ [])) (forest_agrees vs (roots_of d) d (every_weaker (λ r. r < count d) (Agrees vs (roots_of d)) (all_refs d) (λ r l. nth_first (roots_of d) (Cell c ∷ []) r (subst (λ (m : ℕ). r < m) (sym (count_roots d)) l)) low)) (new_facts hs vs shape c)
+    ∙ ap₂ (λ (xs ys : List Fact). xs ++ (ys ++ []))
+    (forest_agrees vs (roots_of d) d
+    (every_weaker (λ r. r < count d) (Agrees vs (roots_of d)) (all_refs d)
+    (λ r l. nth_first (roots_of d) (Cell c ∷ []) r (subst (λ (m : ℕ). r < m) (sym (count_roots d)) l)) low))
+    (new_facts hs vs shape c)
 
 pub blank_leaves : (k j : ℕ) → AreLeaves (blank_parts k j)
 blank_leaves k zero = tt
@@ -127,8 +147,10 @@ module _ (f : ℕ → Target) where
 
     parts_stay : (ps : Parts) → Every Stays (refs_of ps) → placed_parts f ps ≡ ps
     parts_stay no_parts h = refl
-    parts_stay (field g e ps) h = let k = every_parts Stays (end_refs e) (refs_of ps) h in ap₂ (field g) (end_stays e k.0) (parts_stay ps k.1)
-    parts_stay (link b inside e ps) h = let k = every_parts Stays (end_refs e) (refs_of ps) h in ap₂ (link b inside) (end_stays e k.0) (parts_stay ps k.1)
+    parts_stay (field g e ps) h = let k = every_parts Stays (end_refs e) (refs_of ps) h in
+        ap₂ (field g) (end_stays e k.0) (parts_stay ps k.1)
+    parts_stay (link b inside e ps) h = let k = every_parts Stays (end_refs e) (refs_of ps) h in
+        ap₂ (link b inside) (end_stays e k.0) (parts_stay ps k.1)
     parts_stay (hook b inside ps) h = ap (hook b inside) (parts_stay ps h)
 
     end_stays : (e : End) → Every Stays (end_refs e) → placed_end f e ≡ e
@@ -137,7 +159,8 @@ module _ (f : ℕ → Target) where
 
   all_stay : (d : Nodes) → Every Stays (all_refs d) → placed_all f d ≡ d
   all_stay no_nodes h = refl
-  all_stay (more n ns) h = let k = every_parts Stays (refs n) (all_refs ns) h in ap₂ more (tree_stays n k.0) (all_stay ns k.1)
+  all_stay (more n ns) h = let k = every_parts Stays (refs n) (all_refs ns) h in
+      ap₂ more (tree_stays n k.0) (all_stay ns k.1)
 
 low_stays : (r k : ℕ) → k < r → drop_leaf r k ≡ At k
 low_stays r k l =
@@ -146,7 +169,9 @@ low_stays r k l =
     rw other (ap At w)
 
 -- with the last root dropped, the dressed forest is as before
-pub dropped_last : (d : Nodes) (n : Node) → Every (λ r. r < count d) (all_refs d) → dropped (count d) (with_last d n) ≡ d
+pub dropped_last : (d : Nodes) (n : Node) → Every (λ r. r < count d) (all_refs d) → dropped (count d) (with_last d n)
+    ≡ d
 dropped_last d n low =
     ap (placed_all (drop_leaf (count d))) (without_last d n)
-    ∙ all_stay (drop_leaf (count d)) d (every_weaker (λ r. r < count d) (Stays (drop_leaf (count d))) (all_refs d) (low_stays (count d)) low)
+    ∙ all_stay (drop_leaf (count d)) d
+    (every_weaker (λ r. r < count d) (Stays (drop_leaf (count d))) (all_refs d) (low_stays (count d)) low)

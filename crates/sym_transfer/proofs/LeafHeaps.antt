@@ -24,15 +24,18 @@ use Rattle.sym_transfer.proofs.Standing.{IsHeap, value_names}
 
 module _ (hs : List Shape) (d : Nodes) (cs : List CellRec) (next : ℕ) (h : IsHeap hs d cs next) where
   -- the store has the leaf of the field
-  pub field_is : (r f : ℕ) (t : Target) (l : HasLeaf d r f t) → field_of cs (number l.0) f ≡ Some (value_in (roots_of d) t)
+  pub field_is : (r f : ℕ) (t : Target) (l : HasLeaf d r f t) → field_of cs (number l.0) f
+      ≡ Some (value_in (roots_of d) t)
   field_is r f t (n, e, l) =
       let k = facts_split f t r d n e l in
       let x = Points (number n) f (value_in (roots_of d) t) in
       let i : IsIn x (facts (leaf_put r f t d)) = in_rearranged x (back (k.1 t)) (inl refl) in
-      field_there (number n) f (value_in (roots_of d) t) cs h.differ (in_rearranged x h.same_facts (subst (λ (y : Nodes). IsIn x (facts y)) (leaf_put_same r f t d (n, e, l)) i))
+      field_there (number n) f (value_in (roots_of d) t) cs h.differ
+      (in_rearranged x h.same_facts (subst (λ (y : Nodes). IsIn x (facts y)) (leaf_put_same r f t d (n, e, l)) i))
 
   -- another leaf in the field, and its value in the cell
-  pub heap_put : (r f : ℕ) (t u : Target) (l : HasLeaf d r f t) → IsHeap hs (leaf_put r f u d) (with_field cs (number l.0) f (value_in (roots_of d) u)) next
+  pub heap_put : (r f : ℕ) (t u : Target) (l : HasLeaf d r f t)
+      → IsHeap hs (leaf_put r f u d) (with_field cs (number l.0) f (value_in (roots_of d) u)) next
   heap_put r f t u (n, e, l) =
       let k = facts_split f t r d n e l in
       let m = number n in
@@ -40,15 +43,22 @@ module _ (hs : List Shape) (d : Nodes) (cs : List CellRec) (next : ℕ) (h : IsH
       let v = value_in (roots_of d) t in
       let q = store_split cs m f v (field_is r f t (n, e, l)) in
       let old : Rearranged (Points m f v ∷ k.0) (Points m f v ∷ q.0) =
-      chain (back (k.1 t)) (chain (equal (ap facts (leaf_put_same r f t d (n, e, l)))) (chain h.same_facts (chain (equal (ap store_facts (sym (with_field_same cs m f v (field_is r f t (n, e, l)))))) (q.1 v)))) in
+      chain (back (k.1 t))
+      (chain (equal (ap facts (leaf_put_same r f t d (n, e, l))))
+      (chain h.same_facts
+      (chain (equal (ap store_facts (sym (with_field_same cs m f v (field_is r f t (n, e, l)))))) (q.1 v)))) in
       let rest : Rearranged k.0 q.0 = cancel (Points m f v) k.0 q.0 old in
-      let names = λ (c : CellRec) (g : Every (NamesCell cs) c.fields). every_weaker (NamesCell cs) (NamesCell (with_field cs m f w)) c.fields (λ x. names_after m f w x) g in
+      let names = λ (c : CellRec) (g : Every (NamesCell cs) c.fields).
+      every_weaker (NamesCell cs) (NamesCell (with_field cs m f w)) c.fields (λ x. names_after m f w x) g in
       record {
         differ = differ_after cs m f w h.differ;
         below = every_after (λ c. c.number < next) (λ c. c.number < next) cs m f w (λ c l. l) (λ c l. l) h.below;
-        fields = every_after (λ c. Every (NamesCell cs) c.fields) (λ c. Every (NamesCell (with_field cs m f w)) c.fields) cs m f w names
-            (λ c g. every_set (NamesCell (with_field cs m f w)) c.fields f w (names c g) (names_after m f w w (value_names hs d cs next h u))) h.fields;
-        filled = every_after (HasItsFields hs) (HasItsFields hs) cs m f w (λ c p. p) (λ c p. length_set c.fields f w ∙ p) h.filled;
+        fields = every_after (λ c. Every (NamesCell cs) c.fields)
+            (λ c. Every (NamesCell (with_field cs m f w)) c.fields) cs m f w names
+            (λ c g. every_set (NamesCell (with_field cs m f w)) c.fields f w (names c g)
+            (names_after m f w w (value_names hs d cs next h u))) h.fields;
+        filled = every_after (HasItsFields hs) (HasItsFields hs) cs m f w (λ c p. p)
+            (λ c p. length_set c.fields f w ∙ p) h.filled;
         same_facts = chain (k.1 u) (chain (keep (Points m f w) rest) (back (q.1 w)));
       }
     where

@@ -6,7 +6,9 @@ use Rattle.fore_base.specs.declared.store.Store.{Store}
 use Rattle.fore_base.specs.declared.store.Value.{Value}
 use Rattle.fore_base.proofs.ListLemmas.{every_in, every_append}
 use Rattle.fa_core.specs.Boxless.{HasNoBoxes}
-use Rattle.fa_core.specs.Dressed.{Node, Parts, End, Nodes, node, no_parts, field, link, hook, under, leaf, no_nodes, more, Seen, SeenField, SeenLink, SeenHook, SeenCell, seen, tree_cells, below, end_cells, forest_cells, cells, roots_of}
+use Rattle.fa_core.specs.Dressed.{Node, Parts, End, Nodes, node, no_parts, field, link, hook, under, leaf, no_nodes}
+use Rattle.fa_core.specs.Dressed.{more, Seen, SeenField, SeenLink, SeenHook, SeenCell, seen, tree_cells, below}
+use Rattle.fa_core.specs.Dressed.{end_cells, forest_cells, cells, roots_of}
 use Rattle.fa_core.specs.Member.{StandsBy}
 use Rattle.fa_core.specs.declared.boxes.BoxDef.{BoxDef}
 use Rattle.fa_core.specs.declared.faces.BoxFace.{BoxFace}
@@ -43,7 +45,8 @@ module _ (vs : List Value) where
 
     below_plain : (ps : Parts) → NoEdgesOf ps → Every HasFieldsAlone (below vs ps)
     below_plain no_parts h = tt
-    below_plain (field f e ps) h = every_append HasFieldsAlone (end_cells vs e) (below vs ps) (end_plain e h.0) (below_plain ps h.1)
+    below_plain (field f e ps) h =
+        every_append HasFieldsAlone (end_cells vs e) (below vs ps) (end_plain e h.0) (below_plain ps h.1)
     below_plain (link b inside e ps) h = absurd h
     below_plain (hook b inside ps) h = absurd h
 
@@ -53,13 +56,19 @@ module _ (vs : List Value) where
 
   forest_plain : (d : Nodes) → NoEdgesIn d → Every HasFieldsAlone (forest_cells vs d)
   forest_plain no_nodes h = tt
-  forest_plain (more n ns) h = every_append HasFieldsAlone (tree_cells vs n) (forest_cells vs ns) (tree_plain n h.0) (forest_plain ns h.1)
+  forest_plain (more n ns) h =
+      every_append HasFieldsAlone (tree_cells vs n) (forest_cells vs ns) (tree_plain n h.0) (forest_plain ns h.1)
 
 -- a dressed forest without box edges keeps them all, whatever the edge and the other dressed forest
-pub plain_kept : (bs : List BoxFace) (i : Instr) (s : Store) (to : ℕ → ℕ) (d e : Nodes) → NoEdgesIn d → KeepsEdges bs i s to d e
+pub plain_kept : (bs : List BoxFace) (i : Instr) (s : Store) (to : ℕ → ℕ) (d e : Nodes) → NoEdgesIn d
+    → KeepsEdges bs i s to d e
 plain_kept bs i s to d e plain c j x k b is ex =
-    absurd (no_edge b x (every_in IsSeenField c.slots x (every_in HasFieldsAlone (cells d) c (forest_plain (roots_of d) d plain) j) k) is)
+    absurd
+    (no_edge b x
+    (every_in IsSeenField c.slots x (every_in HasFieldsAlone (cells d) c (forest_plain (roots_of d) d plain) j) k)
+    is)
 
 -- so does each dressed forest of a forest without box edges
-pub member_kept : (hs : List Shape) (T : List BoxDef) (F : Forest) (bs : List BoxFace) (i : Instr) (s : Store) (to : ℕ → ℕ) (d e : Nodes) → Every HasNoBoxes F.autos → StandsBy hs T F d s → KeepsEdges bs i s to d e
+pub member_kept : (hs : List Shape) (T : List BoxDef) (F : Forest) (bs : List BoxFace) (i : Instr) (s : Store)
+    (to : ℕ → ℕ) (d e : Nodes) → Every HasNoBoxes F.autos → StandsBy hs T F d s → KeepsEdges bs i s to d e
 member_kept hs T F bs i s to d e plain h = plain_kept bs i s to d e (trees_no_edges T F.autos d plain h.of)

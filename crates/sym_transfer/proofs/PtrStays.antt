@@ -32,16 +32,19 @@ never_on None = refl
 never_on (Some v) = refl
 
 module _ (face : Face) (T : List BoxDef) (H : Forest) (plain : Every HasNoBoxes H.autos) where
-  pub load_ptr_stays : (to b f x r : ℕ) → target_at H b ≡ At r → AllLackField T H r f → AllGo face T H (LoadPtr to b f) x NotPassed
+  pub load_ptr_stays : (to b f x r : ℕ) → target_at H b ≡ At r → AllLackField T H r f
+      → AllGo face T H (LoadPtr to b f) x NotPassed
   load_ptr_stays to b f x r e l = all_go face T H (LoadPtr to b f) x NotPassed (λ d cs next o h.
       let s = store_by d H cs next in
       let q = l d o in
       follow_root H b d cs next (λ n. if_there (field_of cs n f) (λ v. Passed (set_var s to v))) r e q.0 q.1
-      ∙ ap (λ (m : Option Value). if_there m (λ v. Passed (set_var s to v))) (field_lacks face.shapes.structs T H plain d o cs next h r f q))
+      ∙ ap (λ (m : Option Value). if_there m (λ v. Passed (set_var s to v)))
+      (field_lacks face.shapes.structs T H plain d o cs next h r f q))
 
   -- by an edge that stores `value` through variable b
   module _ (r f : ℕ) (i : Instr) (x b : ℕ) (at : target_at H b ≡ At r) (value : Store → Value)
-      (does : (s : Store) → raw_step face.shapes.structs i x s ≡ onto (followed (var_of s b)) (λ n. stored face.shapes.structs s n f (value s))) where
+      (does : (s : Store) → raw_step face.shapes.structs i x s
+      ≡ onto (followed (var_of s b)) (λ n. stored face.shapes.structs s n f (value s))) where
     pub ptr_stays : AllLackField T H r f → AllGo face T H i x NotPassed
     ptr_stays l = all_go face T H i x NotPassed (λ d cs next o h.
         let hs = face.shapes.structs in
@@ -49,9 +52,14 @@ module _ (face : Face) (T : List BoxDef) (H : Forest) (plain : Every HasNoBoxes 
         let q = l d o in
         does s
         ∙ follow_root H b d cs next (λ n. stored hs s n f (value s)) r at q.0 q.1
-        ∙ ap (λ (m : Option Value). if_there m (λ old. if may_stand hs cs (number q.0) f (value s) then Passed (record s { cells = with_field cs (number q.0) f (value s) }) else NotPassed)) (field_lacks hs T H plain d o cs next h r f q))
+        ∙ ap (λ (m : Option Value).
+        if_there m (λ old. if may_stand hs cs (number q.0) f (value s)
+        then Passed (record s { cells = with_field cs (number q.0) f (value s) }) else NotPassed))
+        (field_lacks hs T H plain d o cs next h r f q))
 
-    pub unfit_stays : (u : Target) → ((d : Nodes) (cs : List CellRec) (next : ℕ) → value (store_by d H cs next) ≡ value_in (roots_of d) u) → HasTop H r → IsTopped H u → (LeafFits face.shapes.structs H r f u → ⊥) → AllGo face T H i x NotPassed
+    pub unfit_stays : (u : Target)
+        → ((d : Nodes) (cs : List CellRec) (next : ℕ) → value (store_by d H cs next) ≡ value_in (roots_of d) u)
+        → HasTop H r → IsTopped H u → (LeafFits face.shapes.structs H r f u → ⊥) → AllGo face T H i x NotPassed
     unfit_stays u is top g never = all_go face T H i x NotPassed (λ d cs next o h.
         let hs = face.shapes.structs in
         let s = store_by d H cs next in
@@ -61,5 +69,8 @@ module _ (face : Face) (T : List BoxDef) (H : Forest) (plain : Every HasNoBoxes 
         does s
         ∙ follow_root H b d cs next (λ m. stored hs s m f (value s)) r at q.0 q.1
         ∙ ap (λ (w : Value). stored hs s n f w) (is d cs next)
-        ∙ ap (λ (y : Bool). if_there (field_of cs n f) (λ old. if y then Passed (record s { cells = with_field cs n f v }) else NotPassed)) (leaf_stands_not T H d o hs cs next h r f top q.0 q.1 u g never)
+        ∙ ap
+        (λ (y : Bool). if_there (field_of cs n f)
+        (λ old. if y then Passed (record s { cells = with_field cs n f v }) else NotPassed))
+        (leaf_stands_not T H d o hs cs next h r f top q.0 q.1 u g never)
         ∙ never_on (field_of cs n f))

@@ -1,12 +1,14 @@
 -- Worked values: what targets and data say of an edge.
 use Rattle.std.proofs.Common.{◌≡◌, [], ◌∷◌, true, false, Some, None, Ok, Err, refl}
-use Rattle.fore_base.specs.declared.fault.Fault.TheVariants.{NullDeref, UninitDeref, DanglingDeref, InvalidFree, DoubleFree, IndetTest}
+use Rattle.fore_base.specs.declared.fault.Fault.TheVariants.{NullDeref, UninitDeref, DanglingDeref, InvalidFree}
+use Rattle.fore_base.specs.declared.fault.Fault.TheVariants.{DoubleFree, IndetTest}
 use Rattle.fore_base.specs.declared.store.Datum.TheVariants.{Undefined, Known}
 use Rattle.fa_core.specs.declared.forest.Forest.{Forest}
 use Rattle.fa_core.specs.declared.forest.Target.TheVariants.{Null, Uninit, Dangling, At}
 use Rattle.c_cfg.specs.declared.graph.DataArg.TheVariants.{Var as ArgVar, Known as ArgKnown}
 use Rattle.c_cfg.specs.declared.graph.PtrArg.TheVariants.{Var as PtrVar, Null as PtrNull}
-use Rattle.sym_transfer.specs.inner.Targets.{datum_at, target_of_arg, datum_of_arg, with_vars, root_of, freed_root, same_targets}
+use Rattle.sym_transfer.specs.inner.Targets.{datum_at, target_of_arg, datum_of_arg, with_vars, root_of, freed_root}
+use Rattle.sym_transfer.specs.inner.Targets.{same_targets}
 
 -- two pointer variables, one at root 3 and one dangling, and a data variable
 abbrev some : Forest

@@ -1,5 +1,6 @@
 -- Tests, stops, and frees of what is no cell.
-use Rattle.std.proofs.Common.{◌≡◌, ◌∙◌, ℕ, Bool, true, false, true≢false, if◌then◌else◌, List, length, Option, Some, None, Result, Ok, Err, refl, sym, ap, ap₂}
+use Rattle.std.proofs.Common.{◌≡◌, ◌∙◌, ℕ, Bool, true, false, true≢false, if◌then◌else◌, List, length, Option, Some}
+use Rattle.std.proofs.Common.{None, Result, Ok, Err, refl, sym, ap, ap₂}
 use Rattle.fore_base.specs.Lists.{Every}
 use Rattle.fore_base.specs.Stores.{freed}
 use Rattle.fore_base.specs.declared.fault.Fault.{Fault}
@@ -53,36 +54,65 @@ tested equal q s = onto q (λ same. if_agreed equal same s)
 module _ (face : Face) (T : List BoxDef) (H : Forest) where
   -- Tests of pointers: the targets decide, for all members alike.
 
-  module _ (plain : Every HasNoBoxes H.autos) (l r : PtrArg) (equal : Bool) (x : ℕ) (left : IsRoot (length H.autos) (target_of_arg H l)) (right : IsRoot (length H.autos) (target_of_arg H r)) where
-    found : (d : Nodes) (cs : List CellRec) (next : ℕ) → OfForest T H d → IsHeap face.shapes.structs d cs next → raw_step face.shapes.structs (TestPtr l r equal) x (store_by d H cs next) ≡ tested equal (same_targets (target_of_arg H l) (target_of_arg H r)) (store_by d H cs next)
+  module _ (plain : Every HasNoBoxes H.autos) (l r : PtrArg) (equal : Bool) (x : ℕ)
+      (left : IsRoot (length H.autos) (target_of_arg H l)) (right : IsRoot (length H.autos) (target_of_arg H r)) where
+    found : (d : Nodes) (cs : List CellRec) (next : ℕ) → OfForest T H d → IsHeap face.shapes.structs d cs next
+        → raw_step face.shapes.structs (TestPtr l r equal) x (store_by d H cs next)
+        ≡ tested equal (same_targets (target_of_arg H l) (target_of_arg H r)) (store_by d H cs next)
     found d cs next o h =
         let s = store_by d H cs next in
         ap₂ (λ (v w : Value). tested equal (same_values v w) s) (arg_is d H cs next l) (arg_is d H cs next r)
-        ∙ ap (λ (q : Result Bool Fault). tested equal q s) (targets_same face.shapes.structs T H plain d o cs next h (target_of_arg H l) (target_of_arg H r) left right)
+        ∙ ap (λ (q : Result Bool Fault). tested equal q s)
+        (targets_same face.shapes.structs T H plain d o cs next h (target_of_arg H l) (target_of_arg H r) left
+        right)
 
-    pub test_ptr_fails : (k : Fault) → same_targets (target_of_arg H l) (target_of_arg H r) ≡ Err k → AllGo face T H (TestPtr l r equal) x (Faulted k)
-    test_ptr_fails k e = all_go face T H (TestPtr l r equal) x (Faulted k) (λ d cs next o h. found d cs next o h ∙ ap (λ (q : Result Bool Fault). tested equal q (store_by d H cs next)) e)
+    pub test_ptr_fails : (k : Fault) → same_targets (target_of_arg H l) (target_of_arg H r) ≡ Err k
+        → AllGo face T H (TestPtr l r equal) x (Faulted k)
+    test_ptr_fails k e = all_go face T H (TestPtr l r equal) x (Faulted k)
+        (λ d cs next o h. found d cs next o h ∙ ap (λ (q : Result Bool Fault). tested equal q (store_by d H cs next)) e)
 
-    pub test_ptr_stays : (b : Bool) → same_targets (target_of_arg H l) (target_of_arg H r) ≡ Ok b → agrees equal b ≡ false → AllGo face T H (TestPtr l r equal) x NotPassed
-    test_ptr_stays b e a = all_go face T H (TestPtr l r equal) x NotPassed (λ d cs next o h. found d cs next o h ∙ (ap (λ (q : Result Bool Fault). tested equal q (store_by d H cs next)) e ∙ ap (λ (y : Bool). if y then Passed (store_by d H cs next) else NotPassed) a))
+    pub test_ptr_stays : (b : Bool) → same_targets (target_of_arg H l) (target_of_arg H r) ≡ Ok b
+        → agrees equal b ≡ false → AllGo face T H (TestPtr l r equal) x NotPassed
+    test_ptr_stays b e a = all_go face T H (TestPtr l r equal) x NotPassed
+        (λ d cs next o h. found d cs next o h
+        ∙ (ap (λ (q : Result Bool Fault). tested equal q (store_by d H cs next)) e
+        ∙ ap (λ (y : Bool). if y then Passed (store_by d H cs next) else NotPassed) a))
 
-    pub test_ptr_goes : (b : Bool) → same_targets (target_of_arg H l) (target_of_arg H r) ≡ Ok b → agrees equal b ≡ true → Carries face T H H (TestPtr l r equal) x
-    test_ptr_goes b e a = carries_vars face T H (TestPtr l r equal) x H.vars H.data_vars (λ d cs next o h. found d cs next o h ∙ (ap (λ (q : Result Bool Fault). tested equal q (store_by d H cs next)) e ∙ ap (λ (y : Bool). if y then Passed (store_by d H cs next) else NotPassed) a))
+    pub test_ptr_goes : (b : Bool) → same_targets (target_of_arg H l) (target_of_arg H r) ≡ Ok b → agrees equal b ≡ true
+        → Carries face T H H (TestPtr l r equal) x
+    test_ptr_goes b e a = carries_vars face T H (TestPtr l r equal) x H.vars H.data_vars
+        (λ d cs next o h. found d cs next o h
+        ∙ (ap (λ (q : Result Bool Fault). tested equal q (store_by d H cs next)) e
+        ∙ ap (λ (y : Bool). if y then Passed (store_by d H cs next) else NotPassed) a))
 
   -- Tests of data.
 
   module _ (l r : DataArg) (equal : Bool) (x : ℕ) where
-    found_data : (d : Nodes) (cs : List CellRec) (next : ℕ) → raw_step face.shapes.structs (TestData l r equal) x (store_by d H cs next) ≡ tested equal (same_datums (datum_of_arg H l) (datum_of_arg H r)) (store_by d H cs next)
-    found_data d cs next = ap₂ (λ (v w : Datum). tested equal (same_datums v w) (store_by d H cs next)) (data_arg_is d H cs next l) (data_arg_is d H cs next r)
+    found_data : (d : Nodes) (cs : List CellRec) (next : ℕ)
+        → raw_step face.shapes.structs (TestData l r equal) x (store_by d H cs next)
+        ≡ tested equal (same_datums (datum_of_arg H l) (datum_of_arg H r)) (store_by d H cs next)
+    found_data d cs next = ap₂ (λ (v w : Datum). tested equal (same_datums v w) (store_by d H cs next))
+        (data_arg_is d H cs next l) (data_arg_is d H cs next r)
 
-    pub test_data_fails : (k : Fault) → same_datums (datum_of_arg H l) (datum_of_arg H r) ≡ Err k → AllGo face T H (TestData l r equal) x (Faulted k)
-    test_data_fails k e = all_go face T H (TestData l r equal) x (Faulted k) (λ d cs next o h. found_data d cs next ∙ ap (λ (q : Result Bool Fault). tested equal q (store_by d H cs next)) e)
+    pub test_data_fails : (k : Fault) → same_datums (datum_of_arg H l) (datum_of_arg H r) ≡ Err k
+        → AllGo face T H (TestData l r equal) x (Faulted k)
+    test_data_fails k e = all_go face T H (TestData l r equal) x (Faulted k)
+        (λ d cs next o h. found_data d cs next
+        ∙ ap (λ (q : Result Bool Fault). tested equal q (store_by d H cs next)) e)
 
-    pub test_data_stays : (b : Bool) → same_datums (datum_of_arg H l) (datum_of_arg H r) ≡ Ok b → agrees equal b ≡ false → AllGo face T H (TestData l r equal) x NotPassed
-    test_data_stays b e a = all_go face T H (TestData l r equal) x NotPassed (λ d cs next o h. found_data d cs next ∙ (ap (λ (q : Result Bool Fault). tested equal q (store_by d H cs next)) e ∙ ap (λ (y : Bool). if y then Passed (store_by d H cs next) else NotPassed) a))
+    pub test_data_stays : (b : Bool) → same_datums (datum_of_arg H l) (datum_of_arg H r) ≡ Ok b → agrees equal b ≡ false
+        → AllGo face T H (TestData l r equal) x NotPassed
+    test_data_stays b e a = all_go face T H (TestData l r equal) x NotPassed
+        (λ d cs next o h. found_data d cs next
+        ∙ (ap (λ (q : Result Bool Fault). tested equal q (store_by d H cs next)) e
+        ∙ ap (λ (y : Bool). if y then Passed (store_by d H cs next) else NotPassed) a))
 
-    pub test_data_goes : (b : Bool) → same_datums (datum_of_arg H l) (datum_of_arg H r) ≡ Ok b → agrees equal b ≡ true → Carries face T H H (TestData l r equal) x
-    test_data_goes b e a = carries_vars face T H (TestData l r equal) x H.vars H.data_vars (λ d cs next o h. found_data d cs next ∙ (ap (λ (q : Result Bool Fault). tested equal q (store_by d H cs next)) e ∙ ap (λ (y : Bool). if y then Passed (store_by d H cs next) else NotPassed) a))
+    pub test_data_goes : (b : Bool) → same_datums (datum_of_arg H l) (datum_of_arg H r) ≡ Ok b → agrees equal b ≡ true
+        → Carries face T H H (TestData l r equal) x
+    test_data_goes b e a = carries_vars face T H (TestData l r equal) x H.vars H.data_vars
+        (λ d cs next o h. found_data d cs next
+        ∙ (ap (λ (q : Result Bool Fault). tested equal q (store_by d H cs next)) e
+        ∙ ap (λ (y : Bool). if y then Passed (store_by d H cs next) else NotPassed) a))
 
   -- Stops.
 
@@ -94,7 +124,8 @@ module _ (face : Face) (T : List BoxDef) (H : Forest) where
 
   -- Frees of what is no cell.
 
-  freed_fault : (s : Store) (vs : List Value) (t : Target) (k : Fault) → freed_root t ≡ Err k → freed s (value_in vs t) ≡ Err k
+  freed_fault : (s : Store) (vs : List Value) (t : Target) (k : Fault) → freed_root t ≡ Err k → freed s (value_in vs t)
+      ≡ Err k
   freed_fault s vs Null k e = absurd (true≢false (ap is_right e))
   freed_fault s vs Uninit k e = ap (fault_of s) e
   freed_fault s vs Dangling k e = ap (fault_of s) e
@@ -103,7 +134,8 @@ module _ (face : Face) (T : List BoxDef) (H : Forest) where
   pub free_fails : (b x : ℕ) (k : Fault) → freed_root (target_at H b) ≡ Err k → AllGo face T H (Free b) x (Faulted k)
   free_fails b x k e = all_go face T H (Free b) x (Faulted k) (λ d cs next o h.
       let s = store_by d H cs next in
-      ap (λ (v : Value). onto (freed s v) Passed) (var_is d H cs next b) ∙ ap (λ (q : Result Store Fault). onto q Passed) (freed_fault s (roots_of d) (target_at H b) k e))
+      ap (λ (v : Value). onto (freed s v) Passed) (var_is d H cs next b)
+      ∙ ap (λ (q : Result Store Fault). onto q Passed) (freed_fault s (roots_of d) (target_at H b) k e))
 
   -- a null pointer may be freed, and nothing happens
   pub free_null : (b x : ℕ) → target_at H b ≡ Null → Carries face T H H (Free b) x

@@ -15,7 +15,8 @@ use Rattle.sym_transfer.specs.declared.outcome.Edited.{Edited}
 use Rattle.sym_transfer.specs.declared.outcome.Edited.TheVariants.{Fault, Stays, Goes}
 
 module _ (face : Face) (T : List BoxDef) (F : Forest) where
-  -- by the edge, x being its choice, all members of F meet the fault; or none goes on; or the other forest has what they become
+  -- by the edge, x being its choice, all members of F meet the fault; or none goes on; or the other forest has what
+  -- they become
   abbrev pub Becomes : Instr → ℕ → Edited → Type 0
   Becomes i x (Fault k) = AllGo face T F i x (Faulted k)
   Becomes i x Stays = AllGo face T F i x NotPassed ⊎ AllGo face T F i x Halted

@@ -57,14 +57,20 @@ fn released(alloc: Global, forest: &Sound, from: u32) -> Mem<Edited>
     }
 }
 
-/// What the edge makes of the forest, before the leak test: the fault that all members meet, the forest of what they become, or nothing. A forest that was canonical stays so where the edge is quiet. So far only for forests without box edges. Err is want of memory.
+/// What the edge makes of the forest, before the leak test: the fault that all members meet, the forest of what they
+/// become, or nothing. A forest that was canonical stays so where the edge is quiet. So far only for forests without
+/// box edges. Err is want of memory.
 pub fn edited(alloc: Global, forest: &Sound, edge: &Edge) -> Mem<Edited>
     requires plain { Every HasNoBoxes forest.now.forest.autos }
-    requires fits { EdgeFits (length forest.now.forest.vars) (length forest.now.forest.data_vars) forest.now.face.shapes.structs edge.now }
+    requires fits { EdgeFits (length forest.now.forest.vars) (length forest.now.forest.data_vars) forest.now.face.shapes.structs
+        edge.now }
     requires explicit { IsExplicit forest.now.forest edge.now.instr }
-    ensures edited { IfOk result (λ made. (T : List BoxDef) → IsEdited forest.now.face T forest.now.forest edge.now made) }
+    ensures edited { IfOk result (λ made. (T : List BoxDef)
+        → IsEdited forest.now.face T forest.now.forest edge.now made) }
     ensures form { IfOk result (IfGoes (HasForm forest.now)) }
-    ensures quiet { is_quiet edge.now.instr ≡ true → IsCanonical forest.now.face forest.now.forest → IfOk result GoesCanonical }
+    ensures quiet { is_quiet edge.now.instr ≡ true
+        → IsCanonical forest.now.face forest.now.forest
+        → IfOk result GoesCanonical }
 {
     match &edge.instr {
         Instr::CopyPtr { to, from } => copied_ptr(alloc, forest, *to, *from),

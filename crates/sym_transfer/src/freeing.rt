@@ -14,12 +14,14 @@ use fa_sound::Sound;
 use fore_base::memory::Mem;
 use std::alloc::Global;
 
-/// The forest after `free(base)`, where `base` is at the root and each pointer field of the root's cell ends at one leaf: the root is gone, and what named it is Dangling. Err is want of memory.
+/// The forest after `free(base)`, where `base` is at the root and each pointer field of the root's cell ends at one
+/// leaf: the root is gone, and what named it is Dangling. Err is want of memory.
 pub fn freed(alloc: Global, forest: &Sound, base: u32, root: u32) -> Mem<Sound>
     requires plain { Every HasNoBoxes forest.now.forest.autos }
     requires at { target_at forest.now.forest base ≡ At root }
     requires explicit { IsExplicit forest.now.forest (Free base) }
-    ensures carries { IfOk result (λ made. (T : List BoxDef) (x : ℕ) → Carries forest.now.face T forest.now.forest made.forest (Free base) x) }
+    ensures carries { IfOk result (λ made. (T : List BoxDef) (x : ℕ)
+        → Carries forest.now.face T forest.now.forest made.forest (Free base) x) }
     ensures face { IfOk result (λ made. made.face ≡ forest.now.face) }
     ensures plain { IfOk result (λ made. Every HasNoBoxes made.forest.autos) }
     ensures vars { IfOk result (λ made. length made.forest.vars ≡ length forest.now.forest.vars) }

@@ -24,7 +24,8 @@ use fore_base::memory::Mem;
 use fore_base::store::Datum;
 use std::alloc::Global;
 
-/// The leaf in a pointer field of a root. Nothing goes on where the root has no such field, or the leaf may not stand there. Err is want of memory.
+/// The leaf in a pointer field of a root. Nothing goes on where the root has no such field, or the leaf may not stand
+/// there. Err is want of memory.
 fn stored_leaf(alloc: Global, forest: &Sound, root: u32, field: u32, leaf: Target) -> Mem<Edited>
     requires plain { Every HasNoBoxes forest.now.forest.autos }
     requires at { IsPlainAt forest.now.forest root field }
@@ -76,7 +77,8 @@ pub fn stored_ptr(alloc: Global, forest: &Sound, to: u32, field: u32, from: u32)
 pub fn stored_const(alloc: Global, forest: &Sound, to: u32, field: u32, value: Const) -> Mem<Edited>
     requires plain { Every HasNoBoxes forest.now.forest.autos }
     requires explicit { IsExplicit forest.now.forest (StoreConst to field value) }
-    requires value { ConstFits (length forest.now.forest.vars) (length forest.now.forest.data_vars) forest.now.face.shapes.structs field value }
+    requires value { ConstFits (length forest.now.forest.vars) (length forest.now.forest.data_vars) forest.now.face.shapes.structs
+        field value }
     ensures edited { IfOk result (IsMadeBy forest.now (StoreConst to field value)) }
     ensures form { IfOk result (IfGoes (HasForm forest.now)) }
     ensures quiet { is_quiet (StoreConst to field value) ≡ true → IsCanonical forest.now.face forest.now.forest →

@@ -4,7 +4,8 @@ ghost use Rattle.std.specs.Prelude.{◌≡◌, Ok, Err, IfOk, IfErr};
 ghost use Rattle.fa_core.specs.declared.forest.Target.TheVariants.{At};
 ghost use Rattle.c_types.specs.Steps.{same_datums as sameness_of_data};
 ghost use Rattle.sym_core.specs.Explicit.{target_at};
-ghost use Rattle.sym_transfer.specs.inner.Targets.{datum_at, target_of_arg, datum_of_arg, root_of, freed_root, same_targets};
+ghost use Rattle.sym_transfer.specs.inner.Targets.{datum_at, target_of_arg, datum_of_arg, root_of, freed_root};
+ghost use Rattle.sym_transfer.specs.inner.Targets.{same_targets};
 ghost use Rattle.sym_transfer.specs.inner.Tops.{AreTopped, HasTop};
 
 use c_cfg::graph::{DataArg, PtrArg};

@@ -31,7 +31,8 @@ use std::alloc::Global;
 pub fn with_target(alloc: Global, forest: &Sound, to: u32, target: Target) -> Mem<Sound>
     requires plain { Every HasNoBoxes forest.now.forest.autos }
     requires root { IsRoot (length forest.now.forest.autos) target }
-    ensures value { IfOk result (λ made. made.forest ≡ with_vars forest.now.forest (slice_set forest.now.forest.vars to target) forest.now.forest.data_vars) }
+    ensures value { IfOk result (λ made. made.forest
+        ≡ with_vars forest.now.forest (slice_set forest.now.forest.vars to target) forest.now.forest.data_vars) }
     ensures form { IfOk result (HasForm forest.now) }
 {
     forest.known();
@@ -46,9 +47,11 @@ pub fn with_target(alloc: Global, forest: &Sound, to: u32, target: Target) -> Me
 pub fn with_known(alloc: Global, forest: &Sound, to: u32, datum: Datum) -> Mem<Sound>
     requires plain { Every HasNoBoxes forest.now.forest.autos }
     requires fits { DatumFits datum }
-    ensures value { IfOk result (λ made. made.forest ≡ with_vars forest.now.forest forest.now.forest.vars (slice_set forest.now.forest.data_vars to datum)) }
+    ensures value { IfOk result (λ made. made.forest
+        ≡ with_vars forest.now.forest forest.now.forest.vars (slice_set forest.now.forest.data_vars to datum)) }
     ensures form { IfOk result (HasForm forest.now) }
-    ensures canonical { IsCanonical forest.now.face forest.now.forest → IfOk result (λ made. IsCanonical made.face made.forest) }
+    ensures canonical { IsCanonical forest.now.face forest.now.forest
+        → IfOk result (λ made. IsCanonical made.face made.forest) }
 {
     forest.known();
     let vars = forest.forest().vars.copy(alloc)?;
@@ -100,7 +103,8 @@ fn choice_of(choice: Option<u8>) -> u8
 pub fn chosen(alloc: Global, forest: &Sound, to: Option<u32>, choice: Option<u8>) -> Mem<Edited>
     requires plain { Every HasNoBoxes forest.now.forest.autos }
     requires choice { ChoiceFits choice }
-    ensures edited { IfOk result (λ made. (T : List BoxDef) → Becomes forest.now.face T forest.now.forest (Choose to) (choice_of choice) made) }
+    ensures edited { IfOk result (λ made. (T : List BoxDef)
+        → Becomes forest.now.face T forest.now.forest (Choose to) (choice_of choice) made) }
     ensures form { IfOk result (IfGoes (HasForm forest.now)) }
     ensures quiet { IsCanonical forest.now.face forest.now.forest → IfOk result GoesCanonical }
 {
@@ -142,9 +146,12 @@ pub fn killed(alloc: Global, forest: &Sound, ptrs: &[u32], datums: &[u32]) -> Me
 /// The forest in which these variables are dead. Err is want of memory.
 fn without_these(alloc: Global, forest: &Sound, ptrs: &[u32], datums: &[u32]) -> Mem<Sound>
     requires plain { Every HasNoBoxes forest.now.forest.autos }
-    ensures value { IfOk result (λ made. made.forest ≡ with_vars forest.now.forest (set_each forest.now.forest.vars ptrs.now Uninit) (set_each forest.now.forest.data_vars datums.now Undefined)) }
+    ensures value { IfOk result (λ made. made.forest
+        ≡ with_vars forest.now.forest (set_each forest.now.forest.vars ptrs.now Uninit)
+        (set_each forest.now.forest.data_vars datums.now Undefined)) }
     ensures form { IfOk result (HasForm forest.now) }
-    ensures canonical { ptrs.now ≡ [] → IsCanonical forest.now.face forest.now.forest → IfOk result (λ made. IsCanonical made.face made.forest) }
+    ensures canonical { ptrs.now ≡ [] → IsCanonical forest.now.face forest.now.forest
+        → IfOk result (λ made. IsCanonical made.face made.forest) }
 {
     forest.known();
     let vars = forest.forest().vars.copy(alloc)?;

@@ -1,4 +1,5 @@
-// What each kind of row asks. It answers the status, and what is then on standard output and on standard error, in quotes.
+// What each kind of row asks. It answers the status, and what is then on standard output and on standard error, in
+// quotes.
 //
 // - `call WORDS | FILE`: of the words over the file x.c.
 // - `lines WORDS | LINES`: of the words over a file with these lines in its main, of which the first is line 3.

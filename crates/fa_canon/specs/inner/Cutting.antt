@@ -1,5 +1,6 @@
 -- Knots cut out of the trees of shared roots, root by root and place by place: on one tree of each component.
-use Rattle.std.specs.Prelude.{◌≡◌, ◌≢◌, ◌<◌, ◌≤◌, ◌⊎◌, ℕ, List, [], ◌∷◌, ◌++◌, length, Option, Some, slice_get, slice_set}
+use Rattle.std.specs.Prelude.{◌≡◌, ◌≢◌, ◌<◌, ◌≤◌, ◌⊎◌, ℕ, List, [], ◌∷◌, ◌++◌, length, Option, Some, slice_get}
+use Rattle.std.specs.Prelude.{slice_set}
 use Rattle.fore_base.specs.Lists.{IsIn, Every}
 use Rattle.fore_base.specs.declared.store.Datum.{Datum}
 use Rattle.ta_core.specs.Arity.{child_slots}
@@ -48,13 +49,15 @@ pub record IsCutOff (r p : ℕ) (ts us : List Tree) : Type 0 where
 
 -- the child at place p of tree k, if it is a cell, does not refer to root k
 abbrev pub IsLoose : List Tree → ℕ → ℕ → Type 0
-IsLoose ts k p = (t u : Tree) → slice_get ts k ≡ Some t → child_at t p ≡ Some u → (out-Tree u).symbol ≢ Ref k → RefersTo u k → ⊥
+IsLoose ts k p = (t u : Tree) → slice_get ts k ≡ Some t → child_at t p ≡ Some u → (out-Tree u).symbol ≢ Ref k
+    → RefersTo u k → ⊥
 
 -- place q of root k comes before place p of root r
 abbrev pub IsBefore : ℕ → ℕ → ℕ → ℕ → Type 0
 IsBefore k q r p = (k < r) ⊎ ((k ≡ r) × (q < p))
 
--- the first n roots are shared, each further one is a knot, and the children at the places before place p of root r are loose
+-- the first n roots are shared, each further one is a knot, and the children at the places before place p of root r are
+-- loose
 pub record AreCut (vars : List Target) (n r p : ℕ) (ts : List Tree) : Type 0 where
   pub shared : (k : ℕ) → k < n → IsShared vars ts k
   pub knots : (k : ℕ) → n ≤ k → k < length ts → IsKnot vars ts k
@@ -68,4 +71,5 @@ pub record IsCutting (n r p : ℕ) (F : Forest) : Type 0 where
 
 -- each tree of root r has so many children below its top
 abbrev pub HasWidth : Forest → ℕ → ℕ → Type 0
-HasWidth F r m = (ts : List Tree) (t : Tree) → Choice F.autos ts → slice_get ts r ≡ Some t → length (out-Tree t).children ≡ m
+HasWidth F r m = (ts : List Tree) (t : Tree) → Choice F.autos ts → slice_get ts r ≡ Some t
+    → length (out-Tree t).children ≡ m

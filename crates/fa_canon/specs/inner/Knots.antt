@@ -31,12 +31,16 @@ CanCut n r p m F = IsReady n r p F × HasWidth F.forest r m × (r < n) × (p < m
 
 -- what may be the child at place p below root r refers to the root
 abbrev pub AreTied : ℕ → ℕ → SoundForest → Type 0
-AreTied r p F = (u : Tree) → RunOf (component_at F.forest.autos r).rules (child_state (component_at F.forest.autos r) p) u → RefersTo u r
+AreTied r p F = (u : Tree)
+    → RunOf (component_at F.forest.autos r).rules (child_state (component_at F.forest.autos r) p) u → RefersTo u r
 
 -- and what may be it does not
 abbrev pub AreUntied : ℕ → ℕ → SoundForest → Type 0
-AreUntied r p F = (u : Tree) → RunOf (component_at F.forest.autos r).rules (child_state (component_at F.forest.autos r) p) u → RefersTo u r → ⊥
+AreUntied r p F = (u : Tree)
+    → RunOf (component_at F.forest.autos r).rules (child_state (component_at F.forest.autos r) p) u → RefersTo u r → ⊥
 
 -- G is F with the child at place p below root r split; all roots of F have one rule in G
 abbrev pub IsSplitAt : ℕ → ℕ → SoundForest → SoundForest → Type 0
-IsSplitAt r p F G = (((y : Target) × MayBeLeaf F.forest r p y × (G.forest ≡ split_leaf F.forest r p y)) ⊎ (G.forest ≡ split_cells F.forest r p)) × HaveTops (length F.forest.autos) G.forest
+IsSplitAt r p F G =
+    (((y : Target) × MayBeLeaf F.forest r p y × (G.forest ≡ split_leaf F.forest r p y))
+    ⊎ (G.forest ≡ split_cells F.forest r p)) × HaveTops (length F.forest.autos) G.forest

@@ -22,7 +22,8 @@ pub record IsLastMerge (F : Forest) (r : ℕ) : Type 0 where
   pub can : CanMerge F r
   pub last : (k : ℕ) → r < k → CanMerge F k → ⊥
 
--- the forests G and F group the same cells; G has no box edges, and the face, the number of pointer variables and the data of F
+-- the forests G and F group the same cells; G has no box edges, and the face, the number of pointer variables and the
+-- data of F
 pub record IsRegrouped (F G : SoundForest) : Type 0 where
   pub plain : Every HasNoBoxes G.forest.autos
   pub face : G.face ≡ F.face

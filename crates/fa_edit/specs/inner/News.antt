@@ -19,11 +19,13 @@ field_slots k (suc n) = Field k ∷ field_slots (suc k) n
 
 -- a cell of the struct with undefined data, whose slots are its fields
 abbrev pub blank_symbol : List Shape → ℕ → Symbol
-blank_symbol hs shape = Cell shape (replicate (datums_of hs shape) Undefined) (field_slots 0 (length (targets_of hs shape)))
+blank_symbol hs shape = Cell shape (replicate (datums_of hs shape) Undefined)
+    (field_slots 0 (length (targets_of hs shape)))
 
 -- the rule of the cell, each child of which is at state 1
 abbrev pub blank_rule : List Shape → ℕ → Rule
-blank_rule hs shape = record { state = 0; symbol = blank_symbol hs shape; children = replicate (length (targets_of hs shape)) 1 }
+blank_rule hs shape = record
+    { state = 0; symbol = blank_symbol hs shape; children = replicate (length (targets_of hs shape)) 1 }
 
 -- an uninitialised pointer, at state 1
 abbrev pub uninit_rule : Rule
@@ -35,4 +37,5 @@ blank hs shape = record { states = 2; roots = 0 ∷ []; rules = blank_rule hs sh
 
 -- the forest with this component as its last, at which variable `to` is
 abbrev pub newed : List Shape → Forest → ℕ → ℕ → Forest
-newed hs F to shape = record F { autos = F.autos ++ blank hs shape ∷ []; vars = slice_set F.vars to (At (length F.autos)) }
+newed hs F to shape = record F
+    { autos = F.autos ++ blank hs shape ∷ []; vars = slice_set F.vars to (At (length F.autos)) }

@@ -11,11 +11,13 @@ pub record IsEquivalence (R : ℕ → ℕ → Type 0) : Type 0 where
 abbrev pub IsOneClass : List ℕ → ℕ → ℕ → Type 0
 IsOneClass classes p q = slice_index classes p ≡ slice_index classes q
 
--- classes of the numbers below n: each number is related to the first one of its class, and the firsts of two classes are not related
+-- classes of the numbers below n: each number is related to the first one of its class, and the firsts of two classes
+-- are not related
 pub record AreClasses (R : ℕ → ℕ → Type 0) (n : ℕ) (classes firsts : List ℕ) : Type 0 where
   pub long : length classes ≡ n
   pub few : length firsts ≤ n
   pub fits : (p : ℕ) → p < n → slice_index classes p < length firsts
   pub low : (v : ℕ) → v < length firsts → slice_index firsts v < n
   pub first : (p : ℕ) → p < n → R (slice_index firsts (slice_index classes p)) p
-  pub apart : (v w : ℕ) → v < length firsts → w < length firsts → R (slice_index firsts v) (slice_index firsts w) → v ≡ w
+  pub apart : (v w : ℕ) → v < length firsts → w < length firsts → R (slice_index firsts v) (slice_index firsts w)
+      → v ≡ w

@@ -21,7 +21,8 @@ HasStates (Some a) n = a.states ≡ n
 
 -- both are inner states, have one class and have the same marks
 abbrev pub AreJoined : List ℕ → List ℕ → List (List RefMark) → ℕ → ℕ → Type 0
-AreJoined roots classes table p q = (IsIn p roots → ⊥) × (IsIn q roots → ⊥) × IsOneClass classes p q × (marks_at table p ≡ marks_at table q)
+AreJoined roots classes table p q = (IsIn p roots → ⊥) × (IsIn q roots → ⊥) × IsOneClass classes p q
+    × (marks_at table p ≡ marks_at table q)
 
 -- both are one state, or they are joined
 abbrev pub IsJoined : List ℕ → List ℕ → List (List RefMark) → ℕ → ℕ → Type 0

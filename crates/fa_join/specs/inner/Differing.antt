@@ -30,7 +30,8 @@ pub record LookAlike (F G : Forest) : Type 0 where
 pub record DifferAtChild (bs : List BoxFace) (a b : Automaton) (p : ℕ) : Type 0 where
   pub place : p < length (top_rule a).children
   pub symbols : SameTops a b
-  pub children : PairedBut (SameRuns a b) p (child_state a p) (child_state b p) (top_rule a).children (top_rule b).children
+  pub children : PairedBut (SameRuns a b) p (child_state a p) (child_state b p) (top_rule a).children
+      (top_rule b).children
   pub marks : SameSignatures bs a b (child_state a p) (child_state b p)
 
 -- the marks are the signature of each tree of state q of a, and some tree is of that state
@@ -55,4 +56,5 @@ CanJoin bs F G d = Joinable bs F G × IsDifference bs F G d
 
 -- the forest at this place of the list can be joined with G
 abbrev pub IsPartner : List BoxFace → List SoundForest → Forest → Partner → Type 0
-IsPartner bs Fs G found = (F : SoundForest) × (slice_get Fs found.place ≡ Some F) × CanJoin bs F.forest G found.differing
+IsPartner bs Fs G found = (F : SoundForest) × (slice_get Fs found.place ≡ Some F)
+    × CanJoin bs F.forest G found.differing

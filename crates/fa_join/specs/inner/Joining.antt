@@ -21,15 +21,19 @@ use Rattle.fa_join.specs.Joined.{IsJoined}
 -- the rules of states p and q, at state z
 abbrev pub of_both : ℕ → ℕ → ℕ → List Rule → List Rule
 of_both z p q [] = []
-of_both z p q (x ∷ xs) = if nat_eq x.state p || nat_eq x.state q then record x { state = z } ∷ of_both z p q xs else of_both z p q xs
+of_both z p q (x ∷ xs) = if nat_eq x.state p || nat_eq x.state q then record x { state = z } ∷ of_both z p q xs
+    else of_both z p q xs
 
 -- the rule at the top of a, at state z, with the next state for the child at place p
 abbrev pub joined_top : Automaton → ℕ → ℕ → Rule
-joined_top a p z = record { state = z; symbol = (top_rule a).symbol; children = slice_set (top_rule a).children p (z + 1) }
+joined_top a p z = record
+    { state = z; symbol = (top_rule a).symbol; children = slice_set (top_rule a).children p (z + 1) }
 
--- the rules behind those of a and b, which have z states together: the one at the top, and those of both children at place p
+-- the rules behind those of a and b, which have z states together: the one at the top, and those of both children at
+-- place p
 abbrev pub joined_rules : Automaton → Automaton → ℕ → ℕ → List Rule
-joined_rules a b p z = joined_top a p z ∷ of_both (z + 1) (child_state a p) (child_state b p + a.states) (united a b).rules
+joined_rules a b p z = joined_top a p z
+    ∷ of_both (z + 1) (child_state a p) (child_state b p + a.states) (united a b).rules
 
 -- the automaton whose one rule at the top has, at place p, the trees that a has there and those that b has there
 abbrev pub joined : Automaton → Automaton → ℕ → Automaton
@@ -55,7 +59,8 @@ abbrev pub NoLater : List BoxFace → List SoundForest → Type 0
 NoLater bs [] = Unit {0}
 NoLater bs (F ∷ Fs) = Every (λ G. Joinable bs F.forest G.forest → ⊥) Fs × NoLater bs Fs
 
--- while the forests of a list are joined: those to do and those done have the dressed forests of the given ones, and of those done no two can be joined
+-- while the forests of a list are joined: those to do and those done have the dressed forests of the given ones, and of
+-- those done no two can be joined
 pub record IsJoining (face : Face) (given todo done : List SoundForest) : Type 0 where
   pub todo_ready : Every (IsReady face) todo
   pub done_ready : Every (IsReady face) done

@@ -16,4 +16,5 @@ pub data Reaches (vars : List Value) (facts : List Fact) : ℕ → Type 0 where
 -- the roots at which a variable is, and those to which the tree of a reached root refers
 pub data TreeReached (vars : List Target) (d : Nodes) : ℕ → Type 0 where
   at_var : {r : ℕ} → IsIn (At r) vars → TreeReached vars d r
-  in_tree : {k : ℕ} (r : ℕ) (n : Node) → TreeReached vars d r → node_at d r ≡ Some n → IsIn k (refs n) → TreeReached vars d k
+  in_tree : {k : ℕ} (r : ℕ) (n : Node) → TreeReached vars d r → node_at d r ≡ Some n → IsIn k (refs n)
+      → TreeReached vars d k

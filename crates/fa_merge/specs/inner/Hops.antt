@@ -1,4 +1,5 @@
--- The hops from reached roots to further ones, as rules of an automaton whose states are the roots: a root is reached where its state has a tree.
+-- The hops from reached roots to further ones, as rules of an automaton whose states are the roots: a root is reached
+-- where its state has a tree.
 use Rattle.std.specs.Prelude.{◌≡◌, ◌⊎◌, ℕ, suc, ◌<◌, Bool, false, if◌then◌else◌, length, slice_index_or}
 use Rattle.std.specs.Prelude.{List, [], ◌∷◌, ◌++◌, map, flat_map, Option, Some}
 use Rattle.fore_base.specs.Lists.{IsIn}

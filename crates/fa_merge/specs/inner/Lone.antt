@@ -41,7 +41,9 @@ pub record IsLone (F : Forest) (r i : ℕ) : Type 0 where
   pub apart : i ≢ r
   pub ranked : Every IsRanked F.autos
   pub tops : (k : ℕ) → k < length F.autos → TopsAreCells (component_at F.autos k)
-  pub refers : (k : ℕ) (n : Node) → k < length F.autos → InLanguage (component_at F.autos k) (bare n) → AllBelow (length F.autos) (refs n)
+  pub refers : (k : ℕ) (n : Node) → k < length F.autos → InLanguage (component_at F.autos k) (bare n)
+      → AllBelow (length F.autos) (refs n)
   pub once : (n : Node) → InLanguage (component_at F.autos i) (bare n) → IsOnce r (refs n)
-  pub never : (k : ℕ) (n : Node) → k < length F.autos → k ≢ i → InLanguage (component_at F.autos k) (bare n) → IsNever r (refs n)
+  pub never : (k : ℕ) (n : Node) → k < length F.autos → k ≢ i → InLanguage (component_at F.autos k) (bare n)
+      → IsNever r (refs n)
   pub vars : (k : ℕ) → IsIn (At k) F.vars → (k < length F.autos) × (k ≢ r)

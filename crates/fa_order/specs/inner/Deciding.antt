@@ -1,5 +1,6 @@
 -- Which roots are those of a canonical forest without box edges, by what the trees show.
-use Rattle.std.specs.Prelude.{ℕ, suc, ◌+◌, Bool, true, false, not, ◌&&◌, ◌||◌, nat_eq, nat_le, if◌then◌else◌, List, [], ◌∷◌}
+use Rattle.std.specs.Prelude.{ℕ, suc, ◌+◌, Bool, true, false, not, ◌&&◌, ◌||◌, nat_eq, nat_le, if◌then◌else◌, List, []}
+use Rattle.std.specs.Prelude.{◌∷◌}
 use Rattle.ta_core.specs.declared.auto.Rule.{Rule}
 use Rattle.fa_core.specs.Cells.{roots_in}
 use Rattle.fa_core.specs.Ways.{has}
@@ -27,7 +28,8 @@ abbrev pub any_cell : ℕ → List Below → Bool
 any_cell r [] = false
 any_cell r (e ∷ es) = (not e.leaf && has r (roots_in e.marks)) || any_cell r es
 
--- root i, whose trees show s, makes root r a knot, whose trees have the marks: it is shared, a field of it refers to r, and r's trees refer to i
+-- root i, whose trees show s, makes root r a knot, whose trees have the marks: it is shared, a field of it refers to r,
+-- and r's trees refer to i
 abbrev pub ties : List ℕ → List Shown → ℕ → List RefMark → ℕ → Shown → Bool
 ties vs ss r own i s = shared_by vs ss i && (any_leaf r s.ends && has i (roots_in own))
 

@@ -22,15 +22,18 @@ EndFollows f t u = RefersAs f t u × ((k : ℕ) → (out-Tree t).symbol ≡ Ref 
 abbrev pub TreeFollows : (ℕ → ℕ) → Tree → Tree → Type 0
 TreeFollows f t u = RefersAs f t u × Paired (EndFollows f) (field_trees t) (field_trees u)
 
--- the roots of us are those of ts under the new numbers f, which g takes back: the same variables, as many references as far as two, and trees that follow
+-- the roots of us are those of ts under the new numbers f, which g takes back: the same variables, as many references
+-- as far as two, and trees that follow
 pub record Follows (f g : ℕ → ℕ) (vs ws : List Target) (ts us : List Tree) : Type 0 where
   pub there : (k : ℕ) → g (f k) ≡ k
   pub again : (j : ℕ) → f (g j) ≡ j
   pub var : (j : ℕ) → IsIn (At j) ws ↔ IsIn (At (g j)) vs
   pub times : (j : ℕ) → to_two (references us j) ≡ to_two (references ts (g j))
-  pub down : (k : ℕ) (t : Tree) → slice_get ts k ≡ Some t → (u : Tree) × (slice_get us (f k) ≡ Some u) × TreeFollows f t u
+  pub down : (k : ℕ) (t : Tree) → slice_get ts k ≡ Some t → (u : Tree) × (slice_get us (f k) ≡ Some u)
+      × TreeFollows f t u
   pub up : (j : ℕ) (u : Tree) → slice_get us j ≡ Some u → (t : Tree) × (slice_get ts (g j) ≡ Some t) × TreeFollows f t u
 
--- u has the signature of t, and follows it at the ends of its top's fields: where no cell there shows a knot in t, none does in u
+-- u has the signature of t, and follows it at the ends of its top's fields: where no cell there shows a knot in t, none
+-- does in u
 abbrev pub StaysTame : List BoxFace → Tree → Tree → Type 0
 StaysTame bs t u = (signature bs t ≡ signature bs u) × Paired (EndFollows (λ k. k)) (field_trees t) (field_trees u)

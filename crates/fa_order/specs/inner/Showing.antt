@@ -24,7 +24,8 @@ IsShownBy bs a s = (t : Tree) × InLanguage a t × (shown_of bs t ≡ s) × ((u 
 
 -- one tree of the state shows this at the end of a field, and all trees of the state follow it there
 abbrev pub IsShownEnd : List BoxFace → List Rule → ℕ → Below → Type 0
-IsShownEnd bs rules q e = (t : Tree) × RunOf rules q t × (below_of bs t ≡ e) × ((u : Tree) → RunOf rules q u → EndFollows (λ k. k) t u)
+IsShownEnd bs rules q e = (t : Tree) × RunOf rules q t × (below_of bs t ≡ e)
+    × ((u : Tree) → RunOf rules q u → EndFollows (λ k. k) t u)
 
 -- the rule is one of the state
 abbrev pub IsRuleOf : List Rule → ℕ → Rule → Type 0

@@ -4,12 +4,14 @@ use Rattle.fore_base.specs.declared.store.CellRec.{CellRec}
 use Rattle.fore_base.specs.declared.store.Datum.{Datum}
 use Rattle.fore_base.specs.declared.store.Store.{Store}
 use Rattle.fore_base.specs.declared.store.Value.{Value}
-use Rattle.fore_base.specs.declared.store.Value.TheVariants.{Null as NullValue, Uninit as UninitValue, Dangling as DanglingValue, Cell as CellValue}
+use Rattle.fore_base.specs.declared.store.Value.TheVariants.{Null as NullValue, Uninit as UninitValue}
+use Rattle.fore_base.specs.declared.store.Value.TheVariants.{Dangling as DanglingValue, Cell as CellValue}
 use Rattle.ta_core.specs.declared.symbol.Symbol.{Symbol}
 use Rattle.ta_core.specs.declared.symbol.Symbol.TheVariants.{Null, Uninit, Dangling, Ref, Cell}
 use Rattle.ta_core.specs.declared.tree.Tree.{Tree, fold-Tree}
 use Rattle.fa_core.specs.declared.forest.Forest.{Forest}
-use Rattle.fa_core.specs.Dressed.{Nodes, Seen, SeenField, SeenLink, SeenHook, SeenCell, cells, roots_of, nth_value, value_in}
+use Rattle.fa_core.specs.Dressed.{Nodes, Seen, SeenField, SeenLink, SeenHook, SeenCell, cells, roots_of, nth_value}
+use Rattle.fa_core.specs.Dressed.{value_in}
 
 -- what is made of a tree, where the first free number is known: the value at its top, and its cells
 abbrev pub Making : Type 0
@@ -27,7 +29,11 @@ cells_from k (m ∷ ms) = (m k).1 ++ cells_from (k + length (m k).1) ms
 
 -- what is made of a cell: it has the first free number, and the cells below it those that follow
 abbrev pub cell_made : ℕ → List Datum → List Making → Making
-cell_made s ds ms k = (CellValue k, record { number = k; shape = s; datums = ds; fields = values_from (suc k) ms } ∷ cells_from (suc k) ms)
+cell_made s ds ms k = (
+  CellValue k,
+  record { number = k; shape = s; datums = ds; fields = values_from (suc k) ms }
+      ∷ cells_from (suc k) ms,
+)
 
 -- what is made of a tree by its symbol and what is made of its children; `tops` are the values of the roots
 abbrev pub made_at : List Value → Symbol → List Making → Making
@@ -57,7 +63,12 @@ cells_made ts = cells_from 0 (all_made (tops_made ts) ts)
 
 -- the store
 abbrev pub store_made : Forest → List Tree → Store
-store_made F ts = record { vars = map (value_in (tops_made ts)) F.vars; data_vars = F.data_vars; cells = cells_made ts; next = length (cells_made ts) }
+store_made F ts = record {
+  vars = map (value_in (tops_made ts)) F.vars;
+  data_vars = F.data_vars;
+  cells = cells_made ts;
+  next = length (cells_made ts);
+}
 
 -- The store of a dressed forest.
 
@@ -74,4 +85,5 @@ record_of x = record { number = x.cell; shape = x.shape; datums = x.datums; fiel
 
 -- the store of a dressed forest without box edges; `next` is its next number
 abbrev pub store_of : Forest → ℕ → Nodes → Store
-store_of F next d = record { vars = map (value_in (roots_of d)) F.vars; data_vars = F.data_vars; cells = map record_of (cells d); next = next }
+store_of F next d = record
+    { vars = map (value_in (roots_of d)) F.vars; data_vars = F.data_vars; cells = map record_of (cells d); next = next }

@@ -44,7 +44,9 @@ OpensBy Null ts cells todo new after = (new ≡ cells) × (after ≡ todo)
 OpensBy Uninit ts cells todo new after = (new ≡ cells) × (after ≡ todo)
 OpensBy Dangling ts cells todo new after = (new ≡ cells) × (after ≡ todo)
 OpensBy (Ref r) ts cells todo new after = (new ≡ cells) × (after ≡ todo)
-OpensBy (Cell s ds ss) ts cells todo new after = (new ≡ cells ++ record { number = length cells; shape = s; datums = ds; fields = [] } ∷ []) × (after ≡ todo ++ (length cells, ts) ∷ [])
+OpensBy (Cell s ds ss) ts cells todo new after =
+    (new ≡ cells ++ record { number = length cells; shape = s; datums = ds; fields = [] } ∷ [])
+    × (after ≡ todo ++ (length cells, ts) ∷ [])
 
 abbrev pub IsOpened : Tree → List CellRec → List Fields → List CellRec → List Fields → Type 0
 IsOpened t = OpensBy (out-Tree t).symbol (out-Tree t).children

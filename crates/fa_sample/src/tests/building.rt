@@ -43,8 +43,8 @@ pub struct Plan<'a> {
     pub parts: &'a [Part<'a>],
 }
 
-// The structs of all rows: 0 has the pointer `next` to itself; 1 has the pointers `next` to itself and `other` to struct 0,
-// and between them a datum.
+// The structs of all rows: 0 has the pointer `next` to itself; 1 has the pointers `next` to itself and `other` to
+// struct 0, and between them a datum.
 pub fn face(alloc: Global) -> Result<Face, Fail>
     ensures { IfOk result (λ face. face.boxes ≡ []) }
 {

@@ -10,8 +10,8 @@ use std::test::Fail;
 
 const DATUM: &[Datum] = &[Datum::Known(3)];
 
-// Root 0 is of struct 1, roots 1 and 2 of struct 0. Root 0 refers to itself and to root 1, root 2 to itself; the trees of root
-// 1 are one list of two cells, those of root 2 all lists that end at their own beginning.
+// Root 0 is of struct 1, roots 1 and 2 of struct 0. Root 0 refers to itself and to root 1, root 2 to itself; the trees
+// of root 1 are one list of two cells, those of root 2 all lists that end at their own beginning.
 const PLAN: Plan = Plan {
     vars: &[Target::At(0), Target::Null, Target::At(2)],
     data: &[Datum::Known(7)],
@@ -48,7 +48,8 @@ const PLAN: Plan = Plan {
     ],
 };
 
-// What a row shows, the component, the state, and the roots to which its trees refer, each with whether they do so twice.
+// What a row shows, the component, the state, and the roots to which its trees refer, each with whether they do so
+// twice.
 struct Row<'a>(&'a str, u32, u32, &'a [(u32, bool)]);
 
 const ROWS: &[Row] = &[

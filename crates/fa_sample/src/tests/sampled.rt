@@ -28,7 +28,8 @@ const UNSET: &[Datum] = &[Datum::Undefined];
 // A cell as it is expected: its struct, its data and its fields.
 struct Cell<'a>(u32, &'a [Datum], &'a [Value]);
 
-// What a row shows, its forest, and the store: the variables, and the cells in the order in which they are met from the variables, each field in turn. A cell's number is its place in this order.
+// What a row shows, its forest, and the store: the variables, and the cells in the order in which they are met from the
+// variables, each field in turn. A cell's number is its place in this order.
 struct Row<'a>(&'a str, Plan<'a>, &'a [Value], &'a [Cell<'a>]);
 
 const ROWS: &[Row] = &[
@@ -232,7 +233,8 @@ fn sample_of(alloc: Global, forest: &Forest, face: &Face) -> Result<Option<Store
     }
 }
 
-// The numbers of the cells in the order in which they are met: those of the variables, then those of the fields of each cell in turn, then all others.
+// The numbers of the cells in the order in which they are met: those of the variables, then those of the fields of each
+// cell in turn, then all others.
 fn visits(alloc: Global, store: &Store) -> Result<List<u64>, Fail> {
     let mut order = List::new(alloc);
     add_cells(&mut order, store.vars.as_slice())?;

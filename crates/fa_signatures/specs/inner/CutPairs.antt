@@ -1,5 +1,6 @@
 -- Pairs of a state and a signature of some of its trees, and the rules over them.
-use Rattle.std.specs.Prelude.{◌≡◌, ◌↔◌, ◌⊎◌, ℕ, ◌<◌, false, List, ◌++◌, ◌∷◌, [], length, map, Option, Some, None, slice_get}
+use Rattle.std.specs.Prelude.{◌≡◌, ◌↔◌, ◌⊎◌, ℕ, ◌<◌, false, List, ◌++◌, ◌∷◌, [], length, map, Option, Some, None}
+use Rattle.std.specs.Prelude.{slice_get}
 use Rattle.fore_base.specs.Lists.{IsIn, Every, IsDistinct, Paired}
 use Rattle.ta_core.specs.Auto.{Automaton, IsRankedRule}
 use Rattle.ta_core.specs.Language.{IsTrim}
@@ -23,7 +24,8 @@ abbrev pub marks_of : Option Pair → List RefMark
 marks_of None = []
 marks_of (Some x) = x.1
 
--- what is below an edge at whose end a tree of the pair in this place stands. What is a leaf does not matter below fields
+-- what is below an edge at whose end a tree of the pair in this place stands. What is a leaf does not matter below
+-- fields
 abbrev pub below_pair : List Pair → ℕ → Below
 below_pair pairs k = record { leaf = false; marks = marks_of (slice_get pairs k) }
 
@@ -41,12 +43,14 @@ marks_over bs pairs r ks = marks_by bs r.symbol (map (below_pair pairs) ks)
 
 -- the rule o, over pairs, stands for the rule r
 abbrev pub IsPairRule : List BoxFace → List Pair → Rule → Rule → Type 0
-IsPairRule bs pairs o r = (o.symbol ≡ r.symbol) × Paired (IsPairOf pairs) o.children r.children × (slice_get pairs o.state ≡ Some (r.state, marks_over bs pairs r o.children))
+IsPairRule bs pairs o r = (o.symbol ≡ r.symbol) × Paired (IsPairOf pairs) o.children r.children
+    × (slice_get pairs o.state ≡ Some (r.state, marks_over bs pairs r o.children))
 
 -- each rule over pairs stands for a rule, and each rule is stood for over all choices of pairs for its children
 pub record ArePairRules (bs : List BoxFace) (pairs : List Pair) (rules over : List Rule) : Type 0 where
   pub from : (o : Rule) → IsIn o over → (r : Rule) × IsIn r rules × IsPairRule bs pairs o r
-  pub all : (r : Rule) (ks : List ℕ) → IsIn r rules → Paired (IsPairOf pairs) ks r.children → (o : Rule) × IsIn o over × (o.children ≡ ks) × IsPairRule bs pairs o r
+  pub all : (r : Rule) (ks : List ℕ) → IsIn r rules → Paired (IsPairOf pairs) ks r.children → (o : Rule) × IsIn o over
+      × (o.children ≡ ks) × IsPairRule bs pairs o r
 
 -- there are more pairs than before; or they are the same, and P holds
 abbrev pub GrowsOr : List Pair → List Pair → Type 0 → Type 0
@@ -54,7 +58,8 @@ GrowsOr old new P = (length old < length new) ⊎ ((new ≡ old) × P)
 
 -- the rule o stands for r over the pairs in these places
 abbrev pub StandsOver : List BoxFace → List Pair → Rule → List ℕ → Rule → Type 0
-StandsOver bs pairs r ks o = (o.symbol ≡ r.symbol) × (o.children ≡ ks) × (slice_get pairs o.state ≡ Some (r.state, marks_over bs pairs r ks))
+StandsOver bs pairs r ks o = (o.symbol ≡ r.symbol) × (o.children ≡ ks)
+    × (slice_get pairs o.state ≡ Some (r.state, marks_over bs pairs r ks))
 
 -- one rule was added, which stands for r over the pairs in these places
 abbrev pub AddsRule : List BoxFace → List Pair → Rule → List ℕ → List Rule → List Rule → Type 0
@@ -62,14 +67,16 @@ AddsRule bs pairs r ks old new = (o : Rule) × StandsOver bs pairs r ks o × (ne
 
 -- so was one for each of the choices of places
 abbrev pub AddsEach : List BoxFace → List Pair → Rule → List (List ℕ) → List Rule → List Rule → Type 0
-AddsEach bs pairs r choices old new = (more : List Rule) × (new ≡ old ++ more) × Paired (StandsOver bs pairs r) choices more
+AddsEach bs pairs r choices old new = (more : List Rule) × (new ≡ old ++ more)
+    × Paired (StandsOver bs pairs r) choices more
 
 -- rules that stand for r were added, one at least for each choice of pairs for its children
 pub record AddsRules (bs : List BoxFace) (pairs : List Pair) (r : Rule) (old new : List Rule) : Type 0 where
   pub more : List Rule
   pub is : new ≡ old ++ more
   pub from : Every (λ o. IsPairRule bs pairs o r) more
-  pub all : (ks : List ℕ) → Paired (IsPairOf pairs) ks r.children → (o : Rule) × IsIn o more × (o.children ≡ ks) × IsPairRule bs pairs o r
+  pub all : (ks : List ℕ) → Paired (IsPairOf pairs) ks r.children → (o : Rule) × IsIn o more × (o.children ≡ ks)
+      × IsPairRule bs pairs o r
 
 -- the pair in this place has a root state and the signature
 abbrev pub IsRootPair : List Pair → List ℕ → List RefMark → ℕ → Type 0
@@ -77,10 +84,12 @@ IsRootPair pairs roots marks k = (q : ℕ) × IsIn q roots × (slice_get pairs k
 
 -- the signatures of pairs with root states
 abbrev pub AreRootMarks : List Pair → List ℕ → List (List RefMark) → Type 0
-AreRootMarks pairs roots all = (marks : List RefMark) → IsIn marks all ↔ ((q : ℕ) × IsIn q roots × IsIn (q, marks) pairs)
+AreRootMarks pairs roots all = (marks : List RefMark) → IsIn marks all
+    ↔ ((q : ℕ) × IsIn q roots × IsIn (q, marks) pairs)
 
 -- b has the rules over the pairs, and its root states are the pairs with root states and the signature
-pub record IsOver (pairs : List Pair) (over : List Rule) (roots : List ℕ) (marks : List RefMark) (b : Automaton) : Type 0 where
+pub record IsOver (pairs : List Pair) (over : List Rule) (roots : List ℕ) (marks : List RefMark) (b : Automaton) :
+    Type 0 where
   pub states : b.states ≡ length pairs
   pub rules : b.rules ≡ over
   pub tops : (k : ℕ) → IsIn k b.roots ↔ IsRootPair pairs roots marks k
@@ -100,7 +109,9 @@ abbrev pub WhereFound : Automaton → Found → (List BoxFace → Type 0) → Ty
 WhereFound a found P = (bs : List BoxFace) → ArePairRules bs found.pairs a.rules found.rules → P bs
 
 -- the pieces are those of the signatures that are done
-pub record AreCutBy (bs : List BoxFace) (a : Automaton) (done : List (List RefMark)) (pieces : List Automaton) : Type 0 where
+pub record AreCutBy (bs : List BoxFace) (a : Automaton) (done : List (List RefMark)) (pieces : List Automaton) :
+    Type 0 where
   pub each : Every (λ b. (marks : List RefMark) × IsIn marks done × IsPieceBy bs a marks b × IsTrim b) pieces
-  pub whole : (t : Tree) → InLanguage a t → IsIn (signature bs t) done → (b : Automaton) × IsIn b pieces × InLanguage b t
+  pub whole : (t : Tree) → InLanguage a t → IsIn (signature bs t) done → (b : Automaton) × IsIn b pieces
+      × InLanguage b t
   pub apart : AreApart (ShareSignature bs) pieces

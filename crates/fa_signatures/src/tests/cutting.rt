@@ -150,7 +150,8 @@ fn each_signature_has_its_piece(rt: HostRuntime) -> Result<(), Fail> {
     Ok(())
 }
 
-// Whether the automaton has so many pieces, one of which accepts all the trees of each of these, and the others none of them.
+// Whether the automaton has so many pieces, one of which accepts all the trees of each of these, and the others none of
+// them.
 fn is_cut(alloc: Global, plan: Plan, said: &[&[Grown]]) -> Result<bool, Fail> {
     let mut autos = List::new(alloc);
     autos.push(automaton(alloc, plan)?.ok_or("no automaton")?)?;

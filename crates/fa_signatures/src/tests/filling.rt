@@ -19,7 +19,8 @@ use std::alloc::Global;
 use ta_core::auto::{Auto, Rule};
 use ta_core::symbol::Symbol;
 
-// Whether the forest has no data variables, each rule's symbol is a leaf or this one, and each choice of pieces gives a sound forest.
+// Whether the forest has no data variables, each rule's symbol is a leaf or this one, and each choice of pieces gives a
+// sound forest.
 pub fn is_filled(alloc: Global, forest: &Forest, face: &Face, cell: &Symbol) -> Mem<bool>
     requires plain { Every HasNoBoxes forest.now.autos }
     requires cell { SymbolFits face.now cell.now }
@@ -58,7 +59,8 @@ fn all_fit(autos: &[Auto], cell: &Symbol) -> bool
 }
 
 fn rules_fit(rules: &[Rule], cell: &Symbol) -> bool
-    ensures { IsTrue result → (face : Face) → SymbolFits face cell.now → Every (λ r. SymbolFits face r.symbol) rules.now }
+    ensures { IsTrue result → (face : Face) → SymbolFits face cell.now
+        → Every (λ r. SymbolFits face r.symbol) rules.now }
 {
     for rule in rules {
         if !is_leaf(&rule.symbol) && !rule.symbol.is_same(cell) {
@@ -69,7 +71,9 @@ fn rules_fit(rules: &[Rule], cell: &Symbol) -> bool
 }
 
 fn are_sound(alloc: Global, forest: &Forest, face: &Face, choices: &[List<Auto>]) -> Mem<bool>
-    ensures { IfOk result (λ yes. IsTrue yes → Every (λ autos. IsSound face.now (with_autos forest.now autos)) choices.now) }
+    ensures { IfOk result (λ yes. IsTrue yes
+        → Every (λ autos. IsSound face.now (with_autos forest.now autos))
+        choices.now) }
 {
     for autos in choices {
         if !is_sound(alloc, forest, face, autos)? {

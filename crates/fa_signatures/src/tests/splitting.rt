@@ -20,7 +20,8 @@ use ta_core::tables::{Line, Plan, Sign, automaton};
 #[derive(Clone, Copy)]
 struct Met<'a>(&'a [Grown], usize);
 
-// What a row shows, the targets and components of a forest, how many forests it is cut into, and which trees these accept.
+// What a row shows, the targets and components of a forest, how many forests it is cut into, and which trees these
+// accept.
 struct Row<'a>(&'a str, &'a [Target], &'a [Plan<'a>], usize, &'a [Met<'a>]);
 
 // Chains of at least one cell that end in null. State 0 takes no part.

@@ -135,9 +135,11 @@ module _ (t : Target) (v : Value) (no_root : (r : ℕ) → t ≡ At r → ⊥) (
   member next = (no_nodes, stands_by next)
 
   pub is_holding_by : (d : Nodes) (s : Store) → StandsBy [] [] (bare t) d s → (s ≡ holding v s.next) × (d ≡ no_nodes)
-  is_holding_by no_nodes s b =
-      (store_is s v (b.vars ∙ ap (λ z. z ∷ []) value) b.data_vars
-          (no_cells s.cells (nothing [] (store_facts s.cells) b.same_facts refl)), refl)
+  is_holding_by no_nodes s b = (
+    store_is s v (b.vars ∙ ap (λ z. z ∷ []) value) b.data_vars
+        (no_cells s.cells (nothing [] (store_facts s.cells) b.same_facts refl)),
+    refl,
+  )
   is_holding_by (more n ns) s b = absurd b.of
 
   pub is_holding : (s : Store) → IsMember table (bare t) s → s ≡ holding v s.next

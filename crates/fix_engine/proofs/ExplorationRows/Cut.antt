@@ -137,8 +137,8 @@ apart_of location instr a b x =
 case_cut : Exploration table (by 2 (New 0 0)) 1 (two_at 2 (from_case either at_null) (from_case either never_set)) → ⊥
 case_cut x =
     elim
-        ((apart_of 2 (New 0 0) (from_case either at_null) (from_case either never_set) x).middles either either refl
-        refl) [
+    ((apart_of 2 (New 0 0) (from_case either at_null) (from_case either never_set) x).middles either either refl
+    refl) [
       | inl one ↦ one.joinable (joined either (x.grouped 1) (x.grouped 2)
           ((x.groups 1 (reached 2 0 0 (from_case either at_null)) either refl refl).unfolded refl)
           ((x.groups 2 (reached 2 0 0 (from_case either never_set)) either refl refl).unfolded refl))
@@ -150,8 +150,8 @@ cases_joinable : Exploration table (by 2 (New 0 0)) 1
     (two_at 2 (from_case at_null at_null) (from_case no_trees no_trees)) → ⊥
 cases_joinable x =
     elim
-        ((apart_of 2 (New 0 0) (from_case at_null at_null) (from_case no_trees no_trees) x).middles at_null no_trees
-        refl refl) [
+    ((apart_of 2 (New 0 0) (from_case at_null at_null) (from_case no_trees no_trees) x).middles at_null no_trees
+    refl refl) [
       | inl one ↦ other_trees_there one.middles
       | inr apart ↦ apart differ_in_one_child
     ]
@@ -164,15 +164,19 @@ joinable_elsewhere x = (apart_of 1 (New 0 0) (as_it_is at_null) (as_it_is no_tre
 module _ (part : BoxDef) where
   abbrev folded : Forest → Forest → AbstractState
   folded M F =
-      record { face = table.face; forest = F; middle = Some M;
-      folds = record { box_no = 0; input = 0; output = None; part = part } ∷ [] }
+      record {
+        face = table.face;
+        forest = F;
+        middle = Some M;
+        folds = record { box_no = 0; input = 0; output = None; part = part } ∷ [];
+      }
 
   folded_and_not : Exploration table (by 2 (New 0 0)) 1 (two_at 2 (folded either at_null) (from_case either never_set))
       → ⊥
   folded_and_not x =
       elim
-          ((apart_of 2 (New 0 0) (folded either at_null) (from_case either never_set) x).middles either either refl
-          refl) [
+      ((apart_of 2 (New 0 0) (folded either at_null) (from_case either never_set) x).middles either either refl
+      refl) [
         | inl one ↦ omega (arith, ap (λ (z : List FoldStep). length z) one.folds)
         | inr apart ↦ apart (joined_itself either)
       ]
@@ -190,15 +194,15 @@ second_of_a_quiet_edge : Exploration table (by 1 (StoreConst 0 0 (ConstKnown 1))
     (two_at 1 (as_it_is (bare Null)) (as_it_is (bare Uninit))) → ⊥
 second_of_a_quiet_edge x =
     true≢false
-        (sym
-        ((apart_of 1 (StoreConst 0 0 (ConstKnown 1)) (as_it_is (bare Null)) (as_it_is (bare Uninit)) x).quiet_at refl))
+    (sym
+    ((apart_of 1 (StoreConst 0 0 (ConstKnown 1)) (as_it_is (bare Null)) (as_it_is (bare Uninit)) x).quiet_at refl))
 
 second_case_of_a_quiet_edge : Exploration table (by 2 (StoreConst 0 0 (ConstKnown 1))) 1
     (two_at 2 (from_case (bare Null) (bare Null)) (from_case (bare Uninit) (bare Uninit))) → ⊥
 second_case_of_a_quiet_edge x =
     differ
-        ((apart_of 2 (StoreConst 0 0 (ConstKnown 1)) (from_case (bare Null) (bare Null))
-        (from_case (bare Uninit) (bare Uninit)) x).quiet_same
+    ((apart_of 2 (StoreConst 0 0 (ConstKnown 1)) (from_case (bare Null) (bare Null))
+    (from_case (bare Uninit) (bare Uninit)) x).quiet_same
     refl (bare Null) (bare Uninit) refl refl).vars
   where
     differ : Uninit ∷ [] ≡ Null ∷ [] → ⊥

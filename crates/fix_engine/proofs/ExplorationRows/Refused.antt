@@ -54,16 +54,20 @@ not_one_of a b less is = omega (arith, less, is)
 
 abbrev entry_by : Node
 entry_by =
-    record { head = record { location = 0; parent = None; edge = Some 0; choice = None };
-    state = as_it_is (bare Uninit) }
+    record {
+      head = record { location = 0; parent = None; edge = Some 0; choice = None };
+      state = as_it_is (bare Uninit);
+    }
 
 entry_has_an_edge : IsFirst table graph (entry_by ∷ []) → ⊥
 entry_has_an_edge f = none-some 0 (sym f.no_edge ∙ ap (λ z. z.head.edge) (sym (same_Some entry_by f.node f.is)))
 
 abbrev entry_on : Node
 entry_on =
-    record { head = record { location = 0; parent = None; edge = None; choice = Some 1 };
-    state = as_it_is (bare Uninit) }
+    record {
+      head = record { location = 0; parent = None; edge = None; choice = Some 1 };
+      state = as_it_is (bare Uninit);
+    }
 
 entry_has_a_choice : IsFirst table graph (entry_on ∷ []) → ⊥
 entry_has_a_choice f = none-some 1 (sym f.no_choice ∙ ap (λ z. z.head.choice) (sym (same_Some entry_on f.node f.is)))
@@ -72,8 +76,10 @@ entry_has_a_choice f = none-some 1 (sym f.no_choice ∙ ap (λ z. z.head.choice)
 
 abbrev chosen : Node
 chosen =
-    record { head = record { location = 1; parent = Some 0; edge = Some 0; choice = Some 1 };
-    state = as_it_is (bare Null) }
+    record {
+      head = record { location = 1; parent = Some 0; edge = Some 0; choice = Some 1 };
+      state = as_it_is (bare Null);
+    }
 
 wrong_choice : Exploration table graph 1 (entry ∷ chosen ∷ []) → ⊥
 wrong_choice x =
@@ -128,7 +134,7 @@ fork = graph_of (null_edge 0 1 ∷ null_edge 0 3 ∷ null_edge 1 2 ∷ [])
 housed_at_1 : IsHoused table fork (entry ∷ at 3 0 1 ∷ []) 1 (holding NullValue 0) → ⊥
 housed_at_1 h =
     nobody (entry ∷ at 3 0 1 ∷ []) 1 h.at h.node
-        (not_one_of 0 1 (lit< tt), ((λ e. not_one_of 1 3 (lit< tt) (sym e)), tt)) h.is h.there
+    (not_one_of 0 1 (lit< tt), ((λ e. not_one_of 1 3 (lit< tt) (sym e)), tt)) h.is h.there
 
 -- An earlier edge left out: node 1 was reached by edge 1, and no node by edge 0
 earlier_edge_left_out : Exploration table fork 1 (entry ∷ at 3 0 1 ∷ []) → ⊥

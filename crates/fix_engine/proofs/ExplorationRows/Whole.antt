@@ -107,8 +107,12 @@ first = record {
 
 to_null : IsCase table (bare Uninit) e0 (bare Null)
 to_null =
-    record { sound = null_sound; canonical = null_canonical; true_case = λ u m. true_case u m;
-    keeps = λ d u b. keeps d u b }
+    record {
+      sound = null_sound;
+      canonical = null_canonical;
+      true_case = λ u m. true_case u m;
+      keeps = λ d u b. keeps d u b;
+    }
   where
     true_case : (u : Store) → IsMember table (bare Null) u → ComesFrom table.face [] (bare Uninit) e0 u
     true_case u m = subst (ComesFrom table.face [] (bare Uninit) e0) (sym (null_only u m)) (record {
@@ -134,8 +138,12 @@ to_null =
 
 still_null : IsCase table (bare Null) e2 (bare Null)
 still_null =
-    record { sound = null_sound; canonical = null_canonical; true_case = λ u m. true_case u m;
-    keeps = λ d u b. keeps d u b }
+    record {
+      sound = null_sound;
+      canonical = null_canonical;
+      true_case = λ u m. true_case u m;
+      keeps = λ d u b. keeps d u b;
+    }
   where
     true_case : (u : Store) → IsMember table (bare Null) u → ComesFrom table.face [] (bare Null) e2 u
     true_case u m = subst (ComesFrom table.face [] (bare Null) e2) (sym (null_only u m)) (record {
@@ -210,8 +218,13 @@ follow (suc zero) n pos is = subst (FollowsEarlier table graph 1 nodes 1) (same_
   edge = e0;
   is_edge = refl;
   follows =
-      record { from = refl; to = refl; child = record { parent = refl; edge = refl }; choice = refl;
-      state = arrives_1 };
+      record {
+        from = refl;
+        to = refl;
+        child = record { parent = refl; edge = refl };
+        choice = refl;
+        state = arrives_1;
+      };
 })
 follow (suc (suc zero)) n pos is = subst (FollowsEarlier table graph 1 nodes 2) (same_Some n2 n is) (record {
   at = 1;
@@ -222,8 +235,13 @@ follow (suc (suc zero)) n pos is = subst (FollowsEarlier table graph 1 nodes 2) 
   edge = e2;
   is_edge = refl;
   follows =
-      record { from = refl; to = refl; child = record { parent = refl; edge = refl }; choice = refl;
-      state = arrives_2 };
+      record {
+        from = refl;
+        to = refl;
+        child = record { parent = refl; edge = refl };
+        choice = refl;
+        state = arrives_2;
+      };
 })
 follow (suc (suc (suc j))) n pos is = absurd (none-some n is)
 
@@ -365,7 +383,7 @@ whole = record {
         let same : n2 ≡ n = same_Some n2 n is in
         let m : bare Null ≡ M = same_Some (bare Null) M (ap (λ z. z.state.middle) same ∙ has) in
         subst (λ z. Settles table 1 z (bare Null) n.state) m
-            (subst (λ z. Settles table 1 (bare Null) (bare Null) z.state) same settled)
+        (subst (λ z. Settles table 1 (bare Null) (bare Null) z.state) same settled)
     groups (suc (suc (suc j))) n M is has = absurd (none-some n is)
 
     one_child : (i j p : ℕ) → i < j → p + 1 ≡ i → p + 1 ≡ j → ⊥

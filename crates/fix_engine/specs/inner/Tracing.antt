@@ -19,10 +19,12 @@ pub record HasWays (nodes : List Node) : Type 0 where
   pub none : (n : Node) → IsNode nodes 0 n → n.head.parent ≡ None
   pub each : (j : ℕ) (n : Node) → 0 < j → IsNode nodes j n → HasParent j n
 
--- from node `at` back to node p: each number of the list is followed by that of the parent, and the last one's parent is p
+-- from node `at` back to node p: each number of the list is followed by that of the parent, and the last one's parent
+-- is p
 abbrev pub LeadsBack : List Node → List ℕ → ℕ → ℕ → Type 0
 LeadsBack nodes [] p at = p ≡ at
-LeadsBack nodes (x ∷ xs) p at = (x ≡ at) × ((n : Node) × (q : ℕ) × IsNode nodes x n × (n.head.parent ≡ Some q) × LeadsBack nodes xs p q)
+LeadsBack nodes (x ∷ xs) p at = (x ≡ at)
+    × ((n : Node) × (q : ℕ) × IsNode nodes x n × (n.head.parent ≡ Some q) × LeadsBack nodes xs p q)
 
 -- a way from node 0 on, and what is left of the way back
 pub record IsOnWay (nodes : List Node) (back : List ℕ) (at : ℕ) (way choices : List ℕ) : Type 0 where

@@ -28,7 +28,8 @@ IsFreeAt F e r = (b : ℕ) × (e.instr ≡ Free b) × (target_at F b ≡ At r)
 abbrev pub width : Forest → ℕ → ℕ
 width F r = length (top_rule (component_at F.autos r)).children
 
--- G has as many roots and the targets of F, the roots have one rule each, and one leaf stands at each place of root r below p
+-- G has as many roots and the targets of F, the roots have one rule each, and one leaf stands at each place of root r
+-- below p
 pub record IsShown (F : Forest) (r p : ℕ) (G : Forest) : Type 0 where
   pub count : length G.autos ≡ length F.autos
   pub vars : G.vars ≡ F.vars
@@ -38,7 +39,8 @@ pub record IsShown (F : Forest) (r p : ℕ) (G : Forest) : Type 0 where
   pub leaves : (k : ℕ) → k < p → (t : Target) × IsLeafPlace G r k t
 
 -- F is split into forests that are to do, into those made, which meet P, and into those of faults
-pub record IsOpening (face : Face) (F : Forest) (e : Edge) (P : Forest → Type 0) (todo made : List SoundForest) (faults : List Bad) : Type 0 where
+pub record IsOpening (face : Face) (F : Forest) (e : Edge) (P : Forest → Type 0) (todo made : List SoundForest)
+    (faults : List Bad) : Type 0 where
   pub stepping : IsStepping face F e (forests todo ++ forests made) [] (bads faults)
   pub ready : Every P (forests made)
   pub like : Every (IsLike face F) made
@@ -56,4 +58,5 @@ of_count n (s ∷ ss) = if nat_eq (length s.forest.autos) n then s ∷ of_count 
 -- the others, as Bads with a leak
 abbrev pub leaks_but : ℕ → List SoundForest → List Bad
 leaks_but n [] = []
-leaks_but n (s ∷ ss) = if nat_eq (length s.forest.autos) n then leaks_but n ss else record { fault = Leak; at = s } ∷ leaks_but n ss
+leaks_but n (s ∷ ss) = if nat_eq (length s.forest.autos) n then leaks_but n ss else record { fault = Leak; at = s }
+    ∷ leaks_but n ss

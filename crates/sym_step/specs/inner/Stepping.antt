@@ -20,9 +20,11 @@ use Rattle.sym_step.specs.Posts.{bads, HasAsMany}
 use Rattle.sym_step.specs.declared.posts.Bad.{Bad}
 use Rattle.sym_step.specs.declared.posts.Post.{Post}
 
--- each member of F stands in a forest of Gs, which are still to go along the edge, or is met in Ns and Bads; none is invented
+-- each member of F stands in a forest of Gs, which are still to go along the edge, or is met in Ns and Bads; none is
+-- invented
 pub record IsStepping (face : Face) (F : Forest) (e : Edge) (Gs Ns : List Forest) (Bads : List BadAt) : Type 0 where
-  pub whole : (T : List BoxDef) (s : Store) → Stands face.shapes.structs T F s → StandsInOne face T Gs s ⊎ IsMet face T Ns Bads s (gstep face.shapes.structs e s)
+  pub whole : (T : List BoxDef) (s : Store) → Stands face.shapes.structs T F s → StandsInOne face T Gs s
+      ⊎ IsMet face T Ns Bads s (gstep face.shapes.structs e s)
   pub regroups : (T : List BoxDef) → Every (Regroups T F) Gs
   pub keeps : (T : List BoxDef) → Every (Keeps face T F e) Ns
   pub bads : (T : List BoxDef) → Every (IsTrueBad face T F e) Bads
@@ -44,8 +46,10 @@ pub record IsNext (face : Face) (F : Forest) (s : SoundForest) : Type 0 where
   pub canonical : IsCanonical s.face s.forest
   pub reduced : Reduced s.forest
 
--- of the forests into which F is split some are to do, and the others went along the edge into those made and into faults
-pub record IsSettling (face : Face) (F : Forest) (e : Edge) (todo made : List SoundForest) (faults : List Bad) : Type 0 where
+-- of the forests into which F is split some are to do, and the others went along the edge into those made and into
+-- faults
+pub record IsSettling (face : Face) (F : Forest) (e : Edge) (todo made : List SoundForest) (faults : List Bad) :
+    Type 0 where
   pub stepping : IsStepping face F e (forests todo) (forests made) (bads faults)
   pub next : Every (IsNext face F) made
   pub bad_like : Every (λ b. IsLike face F b.at) faults

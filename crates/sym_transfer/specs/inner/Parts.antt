@@ -19,11 +19,14 @@ module _ (F : SoundForest) where
   abbrev pub IsMadeBy : Instr → Edited → Type 0
   IsMadeBy i made = (T : List BoxDef) (x : ℕ) → Becomes F.face T F.forest i x made
 
-  -- the leaf t comes into field f of root r; it does not, where the root has no such field or the leaf may not stand there
+  -- the leaf t comes into field f of root r; it does not, where the root has no such field or the leaf may not stand
+  -- there
   abbrev pub IsLeafStored : ℕ → ℕ → Target → Edited → Type 0
   IsLeafStored r f t (Fault k) = ⊥
-  IsLeafStored r f t Stays = ((T : List BoxDef) → AllLackField T F.forest r f) ⊎ (LeafFits F.face.shapes.structs F.forest r f t → ⊥)
-  IsLeafStored r f t (Goes R) = LeafFits F.face.shapes.structs F.forest r f t × ((T : List BoxDef) → (old : Target) × IsPut T F.forest R.forest r f old t)
+  IsLeafStored r f t Stays = ((T : List BoxDef) → AllLackField T F.forest r f)
+      ⊎ (LeafFits F.face.shapes.structs F.forest r f t → ⊥)
+  IsLeafStored r f t (Goes R) = LeafFits F.face.shapes.structs F.forest r f t
+      × ((T : List BoxDef) → (old : Target) × IsPut T F.forest R.forest r f old t)
 
   -- the datum y comes into data field f of root r; it does not, where the root has no such field
   abbrev pub IsDatumStored : ℕ → ℕ → Datum → Edited → Type 0

@@ -1,7 +1,8 @@
 -- What the targets and data of a forest say of an edge, for all members alike.
 use Rattle.std.specs.Prelude.{ℕ, List, nat_eq, slice_index_or, Option, Some, None, Result, Ok, Err, Bool, true, false}
 use Rattle.fore_base.specs.declared.fault.Fault.{Fault}
-use Rattle.fore_base.specs.declared.fault.Fault.TheVariants.{NullDeref, UninitDeref, DanglingDeref, InvalidFree, DoubleFree, IndetTest}
+use Rattle.fore_base.specs.declared.fault.Fault.TheVariants.{NullDeref, UninitDeref, DanglingDeref, InvalidFree}
+use Rattle.fore_base.specs.declared.fault.Fault.TheVariants.{DoubleFree, IndetTest}
 use Rattle.fore_base.specs.declared.store.Datum.{Datum}
 use Rattle.fore_base.specs.declared.store.Datum.TheVariants.{Undefined, Known}
 use Rattle.fa_core.specs.declared.forest.Forest.{Forest}
@@ -47,7 +48,8 @@ freed_root Uninit = Err InvalidFree
 freed_root Dangling = Err DoubleFree
 freed_root (At r) = Ok (Some r)
 
--- whether two targets are one value in each member: different roots are different cells; what is indeterminate cannot be tested (6.2.4, 6.7.9)
+-- whether two targets are one value in each member: different roots are different cells; what is indeterminate cannot
+-- be tested (6.2.4, 6.7.9)
 abbrev pub same_targets : Target → Target → Result Bool Fault
 same_targets Uninit u = Err IndetTest
 same_targets Dangling u = Err IndetTest

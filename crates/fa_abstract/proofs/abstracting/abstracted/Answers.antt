@@ -25,7 +25,8 @@ returns-clause-abstraction g c =
       quotient = c.in_ok-middle.ensures.quotient;
       vars = sym c.in_ok-made.ensures.covers.vars;
       data_vars = sym c.in_ok-made.ensures.covers.data_vars;
-      same = same_languages middle.autos made.autos c.in_ok-made.ensures.covers.within c.in_ok-made.ensures.covered.within;
+      same = same_languages middle.autos made.autos c.in_ok-made.ensures.covers.within
+          c.in_ok-made.ensures.covered.within;
     }
 
 pub returns-clause-canonical : goal.returns-clause-canonical
@@ -34,8 +35,12 @@ returns-clause-canonical g c =
     let face = c.args.forest.now.face in
     let ranked : Every IsRanked F.autos = rw (c.as_slice.ensures, c.forest.ensures) at c.ranked_autos.ensures in
     let trim : Every IsTrim F.autos = every_weaker AutoReduced IsTrim F.autos (λ a r. r.trim) c.requires.reduced in
-    let middle = c.quotients_keep_canonical.ensures face F c.in_ok-middle.middle.forest c.args.height c.requires.canonical ranked c.requires.plain trim c.requires.height c.in_ok-middle.ensures.quotient in
-    c.in_ok-made.ensures.canonical (subst (λ (x : Face). IsCanonical x c.in_ok-middle.middle.forest) (sym c.in_ok-middle.ensures.face) middle)
+    let middle = c.quotients_keep_canonical.ensures face F c.in_ok-middle.middle.forest c.args.height
+    c.requires.canonical ranked c.requires.plain trim c.requires.height c.in_ok-middle.ensures.quotient in
+    c.in_ok-made.ensures.canonical
+    (subst (λ (x : Face). IsCanonical x c.in_ok-middle.middle.forest) (sym c.in_ok-middle.ensures.face) middle)
 
 pub returns-clause-members : goal.returns-clause-members
-returns-clause-members g c = λ hs T s m. c.covered_members.ensures hs T c.in_ok-made.made.forest c.in_ok-middle.middle.forest s c.in_ok-made.ensures.covers (c.in_ok-middle.ensures.members hs T s m)
+returns-clause-members g c =
+    λ hs T s m. c.covered_members.ensures hs T c.in_ok-made.made.forest c.in_ok-middle.middle.forest s
+    c.in_ok-made.ensures.covers (c.in_ok-middle.ensures.members hs T s m)

@@ -19,7 +19,10 @@ returns-else-is_tied c =
     let s = c.args.step.now in
     let F = c.args.forest in
     let ranked : Every IsRanked F.forest.autos = rw c.forest-2.ensures at c.ranked_components.ensures in
-    IfOk-weaker c.alone.result (λ made. made ≡ F ∷ []) (λ made. IsSplitEach (HasCutAt s.count s.root (s.place + 1) s.width) (F ∷ []) made)
-    (λ made e. subst (λ (z : List SoundForest). IsSplitEach (HasCutAt s.count s.root (s.place + 1) s.width) (F ∷ []) z) (sym e)
-    (split_same (HasCutAt s.count s.root (s.place + 1) s.width) F c.requires.0.0 (loose_child s.count s.root s.place s.width F c.known.ensures.sound c.requires ranked c.if-is_tied.ensures)))
+    IfOk-weaker c.alone.result (λ made. made ≡ F ∷ [])
+    (λ made. IsSplitEach (HasCutAt s.count s.root (s.place + 1) s.width) (F ∷ []) made)
+    (λ made e. subst (λ (z : List SoundForest). IsSplitEach (HasCutAt s.count s.root (s.place + 1) s.width) (F ∷ []) z)
+    (sym e)
+    (split_same (HasCutAt s.count s.root (s.place + 1) s.width) F c.requires.0.0
+    (loose_child s.count s.root s.place s.width F c.known.ensures.sound c.requires ranked c.if-is_tied.ensures)))
     c.alone.ensures

@@ -21,8 +21,11 @@ on_each-requires c =
     let s = c.args.step.now in
     let F = c.args.forest.now in
     let e = c.in_ok-list.ensures in
-    let split = split_step s.root s.place F c.in_ok-list.list c.requires.can.0.1 e.value e.plain e.face e.vars e.tops e.regroups e.whole in
-    each_piece (IsSplitAt s.root s.place) (λ (G : SoundForest). Every HasNoBoxes G.forest.autos × HaveTops c.in_ok-from.from G.forest) F c.in_ok-list.list split
+    let split = split_step s.root s.place F c.in_ok-list.list c.requires.can.0.1 e.value e.plain e.face e.vars e.tops
+    e.regroups e.whole in
+    each_piece (IsSplitAt s.root s.place)
+    (λ (G : SoundForest). Every HasNoBoxes G.forest.autos × HaveTops c.in_ok-from.from G.forest) F c.in_ok-list.list
+    split
     (λ G piece h. (piece.plain, subst (λ (n : ℕ). HaveTops n G.forest) (sym c.in_ok-from.ensures) h.1))
 
 pub returns : goal.returns
@@ -32,9 +35,14 @@ returns c =
     let e = c.in_ok-list.ensures in
     let list = c.in_ok-list.list in
     let ranked : Every IsRanked F.forest.autos = rw c.forest.ensures at c.ranked_components.ensures in
-    let split = split_step s.root s.place F list c.requires.can.0.1 e.value e.plain e.face e.vars e.tops e.regroups e.whole in
-    IfOk-weaker c.on_each.result (λ made. IsSplitEach (λ (x : SoundForest). HasChosen (length x.forest.autos) x) list made) (λ made. IsSplitEach (HasCutAt s.count s.root (s.place + 1) s.width) (F ∷ []) made)
-    (λ made h. split_twice (IsSplitAt s.root s.place) (λ (x : SoundForest). HasChosen (length x.forest.autos) x) (HasCutAt s.count s.root (s.place + 1) s.width) (F ∷ []) list made
-    (λ x G H i p a q b. knot_cut s.count s.root s.place s.width F c.known.ensures.sound c.requires.can ranked c.requires.tied G H (subst (λ (z : SoundForest). IsSplitAt s.root s.place z G) (only_one x F i) a) b)
+    let split = split_step s.root s.place F list c.requires.can.0.1 e.value e.plain e.face e.vars e.tops e.regroups
+    e.whole in
+    IfOk-weaker c.on_each.result
+    (λ made. IsSplitEach (λ (x : SoundForest). HasChosen (length x.forest.autos) x) list made)
+    (λ made. IsSplitEach (HasCutAt s.count s.root (s.place + 1) s.width) (F ∷ []) made)
+    (λ made h. split_twice (IsSplitAt s.root s.place) (λ (x : SoundForest). HasChosen (length x.forest.autos) x)
+    (HasCutAt s.count s.root (s.place + 1) s.width) (F ∷ []) list made
+    (λ x G H i p a q b. knot_cut s.count s.root s.place s.width F c.known.ensures.sound c.requires.can ranked
+    c.requires.tied G H (subst (λ (z : SoundForest). IsSplitAt s.root s.place z G) (only_one x F i) a) b)
     split h)
     c.on_each.ensures

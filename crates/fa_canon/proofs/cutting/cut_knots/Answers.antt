@@ -9,20 +9,23 @@ use Rattle.fa_canon.proofs.cutting.cut_knots.Goals as goal
 pub loop-root-init : goal.loop-root-init
 loop-root-init c =
     let F = c.args.forest in
-    subst (λ (z : List SoundForest). IsSplitEach (HasCut c.args.count 0 0) (F ∷ []) z) (sym c.in_ok-list.ensures) (split_same (HasCut c.args.count 0 0) F c.requires.0 (c.requires.1, c.requires.2))
+    subst (λ (z : List SoundForest). IsSplitEach (HasCut c.args.count 0 0) (F ∷ []) z) (sym c.in_ok-list.ensures)
+    (split_same (HasCut c.args.count 0 0) F c.requires.0 (c.requires.1, c.requires.2))
 
 pub on_each-requires : goal.on_each-requires
 on_each-requires c =
     let n = c.args.count in
     let r = c.loop-root.root in
-    each_piece (HasCut n r 0) (λ (G : SoundForest). IsReady n r 0 G × (r < n)) c.args.forest c.loop-root.list c.loop-root.invariant
+    each_piece (HasCut n r 0) (λ (G : SoundForest). IsReady n r 0 G × (r < n)) c.args.forest c.loop-root.list
+    c.loop-root.invariant
     (λ G piece h. ((piece.plain, h.0, h.1), c.loop-root-test.true))
 
 pub loop-root-preserved : goal.loop-root-preserved
 loop-root-preserved c =
     let n = c.args.count in
     let r = c.loop-root.root in
-    split_twice (HasCut n r 0) (HasCut n (r + 1) 0) (HasCut n (r + 1) 0) (c.args.forest ∷ []) c.loop-root.list c.in_ok-list-2.list
+    split_twice (HasCut n r 0) (HasCut n (r + 1) 0) (HasCut n (r + 1) 0) (c.args.forest ∷ []) c.loop-root.list
+    c.in_ok-list-2.list
     (λ F G H i x a y b. b) c.loop-root.invariant c.in_ok-list-2.ensures
 
 pub returns : goal.returns

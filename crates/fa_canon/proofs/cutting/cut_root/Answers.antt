@@ -23,10 +23,15 @@ loop-place-init c =
     let few = c.requires.ready.2.few in
     let less : r < length F.forest.autos = omega (arith, few, c.requires.root) in
     let got : slice_get F.forest.autos r ≡ Some c.at.result.now = rw c.forest.ensures at c.at.ensures in
-    let is = same_Some (component_at F.forest.autos r) c.at.result.now (sym (component_got F.forest.autos r less) ∙ got) in
-    let width : w ≡ length (top_rule (component_at F.forest.autos r)).children = c.count_children-width.ensures ∙ sym (ap (λ (a : Automaton). length (top_rule a).children) is) in
-    let wide : HasWidth F.forest r w = subst (λ (m : ℕ). HasWidth F.forest r m) (sym width) (width_is F.forest r less (component_has HasOneTop F.forest.autos r c.requires.ready.1 less)) in
-    subst (λ (z : List SoundForest). IsSplitEach (HasCutAt n r 0 w) (F ∷ []) z) (sym c.in_ok-list.ensures) (split_same (HasCutAt n r 0 w) F c.requires.ready.0 (c.requires.ready.1, c.requires.ready.2, wide))
+    let is = same_Some (component_at F.forest.autos r) c.at.result.now (sym (component_got F.forest.autos r less) ∙ got)
+    in
+    let width : w ≡ length (top_rule (component_at F.forest.autos r)).children = c.count_children-width.ensures
+    ∙ sym (ap (λ (a : Automaton). length (top_rule a).children) is) in
+    let wide : HasWidth F.forest r w =
+    subst (λ (m : ℕ). HasWidth F.forest r m) (sym width)
+    (width_is F.forest r less (component_has HasOneTop F.forest.autos r c.requires.ready.1 less)) in
+    subst (λ (z : List SoundForest). IsSplitEach (HasCutAt n r 0 w) (F ∷ []) z) (sym c.in_ok-list.ensures)
+    (split_same (HasCutAt n r 0 w) F c.requires.ready.0 (c.requires.ready.1, c.requires.ready.2, wide))
 
 pub on_each-requires : goal.on_each-requires
 on_each-requires c =
@@ -43,7 +48,8 @@ loop-place-preserved c =
     let r = c.args.root in
     let p = c.loop-place.place in
     let w = c.count_children-width.result in
-    split_twice (HasCutAt n r p w) (HasCutAt n r (p + 1) w) (HasCutAt n r (p + 1) w) (c.args.forest ∷ []) c.loop-place.list c.in_ok-list-2.list
+    split_twice (HasCutAt n r p w) (HasCutAt n r (p + 1) w) (HasCutAt n r (p + 1) w) (c.args.forest ∷ [])
+    c.loop-place.list c.in_ok-list-2.list
     (λ F G H i x a y b. b) c.loop-place.invariant c.in_ok-list-2.ensures
 
 pub returns : goal.returns
@@ -54,4 +60,5 @@ returns c =
     let w = c.count_children-width.result in
     let e : p ≡ w = omega (arith, c.loop-place.auto.place-end, c.loop-place-test.false) in
     split_weaker (HasCutAt n r p w) (HasCut n (r + 1) 0) (c.args.forest ∷ []) c.loop-place.list
-    (λ F G i x h. (h.0, root_cutting n r w G.forest h.2 (subst (λ (m : ℕ). IsCutting n r m G.forest) e h.1))) c.loop-place.invariant
+    (λ F G i x h. (h.0, root_cutting n r w G.forest h.2 (subst (λ (m : ℕ). IsCutting n r m G.forest) e h.1)))
+    c.loop-place.invariant

@@ -13,28 +13,46 @@ use Rattle.fa_canon.proofs.Splits.{each_piece}
 use Rattle.fa_canon.proofs.making.canonical.Goals as goal
 
 pub returns-clause-regroups : goal.returns-clause-regroups
-returns-clause-regroups g c = λ T. every_map (λ (s : SoundForest). s.forest) (Regroups T c.args.forest.now.forest) c.in_ok-made.made (each_piece IsFinished (λ (s : SoundForest). Regroups T c.args.forest.now.forest s.forest) c.args.forest.now c.in_ok-made.made c.in_ok-made.ensures.split (λ G piece h. piece.regroups T))
+returns-clause-regroups g c =
+    λ T. every_map (λ (s : SoundForest). s.forest) (Regroups T c.args.forest.now.forest) c.in_ok-made.made
+    (each_piece IsFinished (λ (s : SoundForest). Regroups T c.args.forest.now.forest s.forest) c.args.forest.now
+    c.in_ok-made.made c.in_ok-made.ensures.split (λ G piece h. piece.regroups T))
 
 pub returns-clause-members : goal.returns-clause-members
 returns-clause-members g c = union_of IsFinished c.args.forest.now c.in_ok-made.made c.in_ok-made.ensures.split
 
 pub returns-clause-canonical : goal.returns-clause-canonical
-returns-clause-canonical g c = each_piece IsFinished (λ (s : SoundForest). IsCanonical s.face s.forest) c.args.forest.now c.in_ok-made.made c.in_ok-made.ensures.split (λ G piece h. h.0)
+returns-clause-canonical g c =
+    each_piece IsFinished (λ (s : SoundForest). IsCanonical s.face s.forest) c.args.forest.now c.in_ok-made.made
+    c.in_ok-made.ensures.split (λ G piece h. h.0)
 
 pub returns-clause-reduced : goal.returns-clause-reduced
-returns-clause-reduced g c = each_piece IsFinished (λ (s : SoundForest). Reduced s.forest) c.args.forest.now c.in_ok-made.made c.in_ok-made.ensures.split (λ G piece h. h.1)
+returns-clause-reduced g c =
+    each_piece IsFinished (λ (s : SoundForest). Reduced s.forest) c.args.forest.now c.in_ok-made.made
+    c.in_ok-made.ensures.split (λ G piece h. h.1)
 
 pub returns-clause-plain : goal.returns-clause-plain
-returns-clause-plain g c = each_piece IsFinished (λ (s : SoundForest). Every HasNoBoxes s.forest.autos) c.args.forest.now c.in_ok-made.made c.in_ok-made.ensures.split (λ G piece h. piece.plain)
+returns-clause-plain g c =
+    each_piece IsFinished (λ (s : SoundForest). Every HasNoBoxes s.forest.autos) c.args.forest.now c.in_ok-made.made
+    c.in_ok-made.ensures.split (λ G piece h. piece.plain)
 
 pub returns-clause-tight : goal.returns-clause-tight
-returns-clause-tight g c = each_piece IsFinished (λ (s : SoundForest). NeverLeaks s.forest) c.args.forest.now c.in_ok-made.made c.in_ok-made.ensures.split (λ G piece h. never_leaks c.args.forest.now.forest G.forest piece.regroups c.requires.tight)
+returns-clause-tight g c =
+    each_piece IsFinished (λ (s : SoundForest). NeverLeaks s.forest) c.args.forest.now c.in_ok-made.made
+    c.in_ok-made.ensures.split
+    (λ G piece h. never_leaks c.args.forest.now.forest G.forest piece.regroups c.requires.tight)
 
 pub returns-clause-face : goal.returns-clause-face
-returns-clause-face g c = each_piece IsFinished (λ (s : SoundForest). s.face ≡ c.args.forest.now.face) c.args.forest.now c.in_ok-made.made c.in_ok-made.ensures.split (λ G piece h. piece.face)
+returns-clause-face g c =
+    each_piece IsFinished (λ (s : SoundForest). s.face ≡ c.args.forest.now.face) c.args.forest.now c.in_ok-made.made
+    c.in_ok-made.ensures.split (λ G piece h. piece.face)
 
 pub returns-clause-vars : goal.returns-clause-vars
-returns-clause-vars g c = each_piece IsFinished (λ (s : SoundForest). length s.forest.vars ≡ length c.args.forest.now.forest.vars) c.args.forest.now c.in_ok-made.made c.in_ok-made.ensures.split (λ G piece h. piece.vars)
+returns-clause-vars g c =
+    each_piece IsFinished (λ (s : SoundForest). length s.forest.vars ≡ length c.args.forest.now.forest.vars)
+    c.args.forest.now c.in_ok-made.made c.in_ok-made.ensures.split (λ G piece h. piece.vars)
 
 pub returns-clause-data_vars : goal.returns-clause-data_vars
-returns-clause-data_vars g c = each_piece IsFinished (λ (s : SoundForest). s.forest.data_vars ≡ c.args.forest.now.forest.data_vars) c.args.forest.now c.in_ok-made.made c.in_ok-made.ensures.split (λ G piece h. piece.data_vars)
+returns-clause-data_vars g c =
+    each_piece IsFinished (λ (s : SoundForest). s.forest.data_vars ≡ c.args.forest.now.forest.data_vars)
+    c.args.forest.now c.in_ok-made.made c.in_ok-made.ensures.split (λ G piece h. piece.data_vars)

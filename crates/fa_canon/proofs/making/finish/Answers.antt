@@ -17,5 +17,12 @@ returns-clause-regrouped g c =
     let p = c.in_ok-placed.ensures in
     let r = c.in_ok-reduced.ensures in
     regrouped_on F P c.in_ok-reduced.reduced
-    (record { plain = p.plain; face = p.face; vars = p.vars; data_vars = p.data; regroups = p.regroups; whole = p.whole })
+    (record {
+      plain = p.plain;
+      face = p.face;
+      vars = p.vars;
+      data_vars = p.data;
+      regroups = p.regroups;
+      whole = p.whole;
+    })
     (covered_both P c.in_ok-reduced.reduced r.face r.plain r.covered r.covers)

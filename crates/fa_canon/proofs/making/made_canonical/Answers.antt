@@ -13,22 +13,28 @@ pub on_each-requires : goal.on_each-requires
 on_each-requires g c =
     let F = c.args.forest in
     let ranked : Every IsRanked F.forest.autos = rw c.forest-2.ensures at c.ranked_components.ensures in
-    each_piece (HasChosen (length F.forest.autos)) (IsReady c.in_ok-count.count 0 0) F c.in_ok-chosen.chosen c.in_ok-chosen.ensures
-    (λ G piece h. ready_start c.in_ok-count.count F G c.in_ok-count.ensures c.known.ensures.sound ranked c.requires.plain c.requires.none c.requires.tight piece h)
+    each_piece (HasChosen (length F.forest.autos)) (IsReady c.in_ok-count.count 0 0) F c.in_ok-chosen.chosen
+    c.in_ok-chosen.ensures
+    (λ G piece h. ready_start c.in_ok-count.count F G c.in_ok-count.ensures c.known.ensures.sound ranked
+    c.requires.plain c.requires.none c.requires.tight piece h)
 
 pub finish_each-requires-clause-can : goal.finish_each-requires-clause-can
 finish_each-requires-clause-can g c κs within =
     let F = c.args.forest in
     let n = c.in_ok-count.count in
     each_piece (HasCut n n 0) (CanFinish n) F c.in_ok-cut.cut
-    (split_twice (HasChosen (length F.forest.autos)) (HasCut n n 0) (HasCut n n 0) (F ∷ []) c.in_ok-chosen.chosen c.in_ok-cut.cut (λ x G H i p a q b. b) c.in_ok-chosen.ensures c.in_ok-cut.ensures)
+    (split_twice (HasChosen (length F.forest.autos)) (HasCut n n 0) (HasCut n n 0) (F ∷ []) c.in_ok-chosen.chosen
+    c.in_ok-cut.cut (λ x G H i p a q b. b) c.in_ok-chosen.ensures c.in_ok-cut.ensures)
     (λ G piece h. ((piece.plain, h.0, h.1), never_leaks F.forest G.forest piece.regroups c.requires.tight))
 
 pub returns : goal.returns
 returns g c =
     let F = c.args.forest in
     let n = c.in_ok-count.count in
-    let cut = split_twice (HasChosen (length F.forest.autos)) (HasCut n n 0) (HasCut n n 0) (F ∷ []) c.in_ok-chosen.chosen c.in_ok-cut.cut (λ x G H i p a q b. b) c.in_ok-chosen.ensures c.in_ok-cut.ensures in
-    IfOk-weaker c.finish_each.result (λ made. IsSplitEach IsFinished c.in_ok-cut.cut made) (λ made. IsSplitEach IsFinished (F ∷ []) made)
-    (λ made h. split_twice (HasCut n n 0) IsFinished IsFinished (F ∷ []) c.in_ok-cut.cut made (λ x G H i p a q b. b) cut h)
+    let cut = split_twice (HasChosen (length F.forest.autos)) (HasCut n n 0) (HasCut n n 0) (F ∷ [])
+    c.in_ok-chosen.chosen c.in_ok-cut.cut (λ x G H i p a q b. b) c.in_ok-chosen.ensures c.in_ok-cut.ensures in
+    IfOk-weaker c.finish_each.result (λ made. IsSplitEach IsFinished c.in_ok-cut.cut made)
+    (λ made. IsSplitEach IsFinished (F ∷ []) made)
+    (λ made h. split_twice (HasCut n n 0) IsFinished IsFinished (F ∷ []) c.in_ok-cut.cut made (λ x G H i p a q b. b) cut
+    h)
     c.finish_each.ensures

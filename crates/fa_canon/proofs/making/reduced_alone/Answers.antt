@@ -12,13 +12,18 @@ returns-clause-split g c =
     let F = c.args.forest.now in
     let G = c.in_ok-reduced.reduced in
     let r = c.in_ok-reduced.ensures in
-    let list : c.push.new.self ≡ G ∷ [] = c.in_ok-push.ensures.ok ∙ ap (λ (z : List SoundForest). z ++ G ∷ []) c.new-made.ensures in
-    subst (λ (z : List SoundForest). IsSplitEach IsFinished (F ∷ []) z) (sym list) (regrouped_step IsFinished F G (covered_both F G r.face r.plain r.covered r.covers) (r.canonical c.requires.canonical, r.reduced))
+    let list : c.push.new.self ≡ G ∷ [] = c.in_ok-push.ensures.ok
+    ∙ ap (λ (z : List SoundForest). z ++ G ∷ []) c.new-made.ensures in
+    subst (λ (z : List SoundForest). IsSplitEach IsFinished (F ∷ []) z) (sym list)
+    (regrouped_step IsFinished F G (covered_both F G r.face r.plain r.covered r.covers)
+    (r.canonical c.requires.canonical, r.reduced))
 
 pub returns-clause-same : goal.returns-clause-same
 returns-clause-same g c =
     let F = c.args.forest.now in
     let G = c.in_ok-reduced.reduced in
     let r = c.in_ok-reduced.ensures in
-    let list : c.push.new.self ≡ G ∷ [] = c.in_ok-push.ensures.ok ∙ ap (λ (z : List SoundForest). z ++ G ∷ []) c.new-made.ensures in
-    subst (λ (z : List SoundForest). IsSameAlone F.forest (forests z)) (sym list) (same_alone F.forest G.forest r.covered r.covers)
+    let list : c.push.new.self ≡ G ∷ [] = c.in_ok-push.ensures.ok
+    ∙ ap (λ (z : List SoundForest). z ++ G ∷ []) c.new-made.ensures in
+    subst (λ (z : List SoundForest). IsSameAlone F.forest (forests z)) (sym list)
+    (same_alone F.forest G.forest r.covered r.covers)

@@ -13,7 +13,9 @@ pub loop-root-preserved : goal.loop-root-preserved
 loop-root-preserved c = (
   omega arith,
   λ k l can. elim (same_or_not k (c.loop-root.root - 1)) [
-    | inl e ↦ true≢false (sym (c.in_ok-can_merge.ensures.1 (subst (λ (n : ℕ). CanMerge c.args.forest.now.forest n) e can)) ∙ c.if-branch.false)
+    | inl e ↦ true≢false
+        (sym (c.in_ok-can_merge.ensures.1 (subst (λ (n : ℕ). CanMerge c.args.forest.now.forest n) e can))
+        ∙ c.if-branch.false)
     | inr d ↦ c.loop-root.invariant.1 k (omega (arith, l, d)) can
   ],
 )

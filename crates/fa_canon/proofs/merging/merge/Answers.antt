@@ -14,12 +14,14 @@ returns c =
     let ranked : Every IsRanked F.forest.autos = rw c.forest.ensures at c.ranked_components.ensures in
     record {
       regrouped = record {
-        plain = no_boxes F.face F.forest G.forest c.args.root c.known.ensures.sound ranked c.requires.plain c.requires.can c.in_ok-made.ensures.value;
+        plain = no_boxes F.face F.forest G.forest c.args.root c.known.ensures.sound ranked c.requires.plain
+            c.requires.can c.in_ok-made.ensures.value;
         face = c.in_ok-made.ensures.face;
         vars = ap length c.in_ok-made.ensures.vars ∙ length-map F.forest.vars (placed_leaf (lowering c.args.root));
         data_vars = ap (λ x. x.data_vars) c.in_ok-made.ensures.value.2;
         regroups = c.in_ok-made.ensures.regroups;
         whole = c.in_ok-made.ensures.whole;
       };
-      fewer = fewer_roots F.face F.forest G.forest c.args.root c.known.ensures.sound ranked c.requires.plain c.requires.can c.in_ok-made.ensures.value;
+      fewer = fewer_roots F.face F.forest G.forest c.args.root c.known.ensures.sound ranked c.requires.plain
+          c.requires.can c.in_ok-made.ensures.value;
     }

@@ -5,4 +5,5 @@ pub merges-init : goal.merges-init
 merges-init c = regrouped_same c.args.forest c.requires
 
 pub merges-preserved : goal.merges-preserved
-merges-preserved c = regrouped_on c.args.forest c.merges.merged c.in_ok-merged.merged c.merges.invariant c.in_ok-merged.ensures.regrouped
+merges-preserved c = regrouped_on c.args.forest c.merges.merged c.in_ok-merged.merged c.merges.invariant
+    c.in_ok-merged.ensures.regrouped

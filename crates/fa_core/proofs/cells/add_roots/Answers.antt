@@ -10,6 +10,7 @@ loop-mark-preserved c =
     let h = rw c.as_slice.ensures at c.has.ensures in
     let k = rw e at c.loop-mark.invariant in
     elim c.if-not-has.branch [
-      | then-not-has+in_ok-push w ↦ rw (w.roots-is, w.in_ok-push.ensures.ok) (grow_push _ _ _ _ (sym h ∙ w.if-not-has.true) k)
+      | then-not-has+in_ok-push w ↦ rw (w.roots-is, w.in_ok-push.ensures.ok)
+          (grow_push _ _ _ _ (sym h ∙ w.if-not-has.true) k)
       | else-not-has w ↦ rw w.roots-is (grow_skip _ _ _ _ (sym h ∙ w.if-not-has.false) k)
     ]

@@ -14,4 +14,5 @@ pub returns-clause-references : goal.returns-clause-references
 returns-clause-references c = refs_placed
 
 pub returns-clause-signatures : goal.returns-clause-signatures
-returns-clause-signatures c = λ f bs a r b h. alike_signed bs _ (placed_boxless f a b) (refers_stay_alike f a b r (signed_alike bs a b h))
+returns-clause-signatures c =
+    λ f bs a r b h. alike_signed bs _ (placed_boxless f a b) (refers_stay_alike f a b r (signed_alike bs a b h))

@@ -12,6 +12,7 @@ returns-clause-members c =
     let F = c.args.wide.now.forest in
     let G = c.args.narrow.now.forest in
     let decided = rw (c.forest.ensures, c.forest-2.ensures) at c.is_covered.ensures in
-    IfOk-weaker c.is_covered.result (λ yes. IsTrue yes ↔ Covers F G) (λ yes. IsTrue yes → (hs : List Shape) (T : List BoxDef) (s : Store) → Stands hs T G s → Stands hs T F s)
+    IfOk-weaker c.is_covered.result (λ yes. IsTrue yes ↔ Covers F G)
+    (λ yes. IsTrue yes → (hs : List Shape) (T : List BoxDef) (s : Store) → Stands hs T G s → Stands hs T F s)
     (λ yes d e hs T s h. c.covered_members.ensures hs T F G s (d.0 e) h)
     decided

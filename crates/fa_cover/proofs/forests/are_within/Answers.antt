@@ -13,10 +13,14 @@ returns-then-narrow-wide c = (
 pub returns-then-not-branch : goal.returns-then-not-branch
 returns-then-not-branch c = (
   (λ h. absurd (true≢false (sym h))),
-  (λ k. absurd (pair_fails IsWithin _ _ _ _ _ c.loop-place-test.true c.index-narrow-place.is c.index-wide-place.is c.loop-place.invariant
+  (λ k.
+      absurd
+      (pair_fails IsWithin _ _ _ _ _ c.loop-place-test.true c.index-narrow-place.is c.index-wide-place.is
+      c.loop-place.invariant
       (λ r. true≢false (sym (c.in_ok-is_included.ensures.1 r) ∙ c.if-not-branch.true)) k)),
 )
 
 pub loop-place-preserved : goal.loop-place-preserved
 loop-place-preserved c =
-    pair_goes_on IsWithin _ _ _ _ _ c.loop-place-test.true c.index-narrow-place.is c.index-wide-place.is c.loop-place.invariant (c.in_ok-is_included.ensures.0 c.if-not-branch.false)
+    pair_goes_on IsWithin _ _ _ _ _ c.loop-place-test.true c.index-narrow-place.is c.index-wide-place.is
+    c.loop-place.invariant (c.in_ok-is_included.ensures.0 c.if-not-branch.false)

@@ -11,5 +11,8 @@ returns-then-not-branch c =
     let G = c.args.narrow.now in
     let kept = rw (c.as_slice-5.ensures, c.as_slice-6.ensures) at c.in_ok-keep_tops.ensures in (
       (λ h. absurd (true≢false (sym h))),
-      (λ k. absurd (true≢false (sym (kept.1 (paired_weaker IsWithin KeepsTops G.autos F.autos within_keeps k.within)) ∙ c.if-not-branch.true))),
+      (λ k.
+          absurd
+          (true≢false (sym (kept.1 (paired_weaker IsWithin KeepsTops G.autos F.autos within_keeps k.within))
+          ∙ c.if-not-branch.true))),
     )

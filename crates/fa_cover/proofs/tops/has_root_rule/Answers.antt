@@ -10,7 +10,11 @@ pub returns-then-is_root_rule : goal.returns-then-is_root_rule
 returns-then-is_root_rule c =
     let rule = c.rule-item.result in
     let i = in_at c.rules_of-rules.result.now c.loop-rule.rule-index rule c.loop-rule-test.true c.rule-item.is in (
-      (λ h. (rule, subst (λ (rules : List Rule). IsIn rule rules) c.rules_of-rules.ensures i, c.is_root_rule.ensures.0 c.if-is_root_rule.true)),
+      (λ h. (
+        rule,
+        subst (λ (rules : List Rule). IsIn rule rules) c.rules_of-rules.ensures i,
+        c.is_root_rule.ensures.0 c.if-is_root_rule.true,
+      )),
       (λ k. refl),
     )
 

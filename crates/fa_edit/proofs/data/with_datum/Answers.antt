@@ -10,16 +10,22 @@ returns-clause-put c =
     let F = c.args.forest.now.forest in
     let ranked : Every IsRanked F.autos = c.known.ensures.ranked in
     let y = there_at (datums_at F c.args.root) c.args.field c.requires.has in
-    rw c.in_ok-made.ensures.forest (λ T old all. is_datum_put F c.args.root c.args.field c.requires.root c.requires.top ranked y.0 y.1 c.args.datum T old all)
+    rw c.in_ok-made.ensures.forest
+    (λ T old all. is_datum_put F c.args.root c.args.field c.requires.root c.requires.top ranked y.0 y.1 c.args.datum
+    T old all)
 
 pub returns-clause-plain : goal.returns-clause-plain
 returns-clause-plain c =
     let F = c.args.forest.now.forest in
     let ranked : Every IsRanked F.autos = c.known.ensures.ranked in
-    rw c.in_ok-made.ensures.forest (datum_plain c.args.forest.now.face F c.args.root c.args.field c.args.datum ranked c.requires.plain c.requires.root c.requires.top)
+    rw c.in_ok-made.ensures.forest
+    (datum_plain c.args.forest.now.face F c.args.root c.args.field c.args.datum ranked c.requires.plain
+    c.requires.root c.requires.top)
 
 pub returns-clause-canonical : goal.returns-clause-canonical
 returns-clause-canonical c = λ can.
     let F = c.args.forest.now.forest in
     let ranked : Every IsRanked F.autos = c.known.ensures.ranked in
-    rw (c.in_ok-made.ensures.forest, c.in_ok-made.ensures.face) (datum_canonical c.args.forest.now.face F c.args.root c.args.field c.args.datum ranked c.requires.plain c.requires.root c.requires.top c.requires.fits c.known.ensures.sound can)
+    rw (c.in_ok-made.ensures.forest, c.in_ok-made.ensures.face)
+    (datum_canonical c.args.forest.now.face F c.args.root c.args.field c.args.datum ranked c.requires.plain
+    c.requires.root c.requires.top c.requires.fits c.known.ensures.sound can)

@@ -25,7 +25,8 @@ returns-clause-put c =
     IfOk-weaker c.with_leaf_at.result
     (λ made. made.forest ≡ split_leaf F r p c.args.leaf)
     (λ made. (T : List BoxDef) (old : Target) → AllHaveLeaf T F r f old → IsPut T F made.forest r f old c.args.leaf)
-    (λ made e T old all. subst (λ (G : Forest). IsPut T F G r f old c.args.leaf) (sym e) (is_put F r f ranked c.requires.at p (sym place) t.0 t.1 c.args.leaf T old all))
+    (λ made e T old all. subst (λ (G : Forest). IsPut T F G r f old c.args.leaf) (sym e)
+    (is_put F r f ranked c.requires.at p (sym place) t.0 t.1 c.args.leaf T old all))
     c.with_leaf_at.ensures.forest
 
 pub returns-clause-plain : goal.returns-clause-plain
@@ -39,5 +40,7 @@ returns-clause-plain c =
     IfOk-weaker c.with_leaf_at.result
     (λ made. made.forest ≡ split_leaf F r p c.args.leaf)
     (λ made. Every HasNoBoxes made.forest.autos)
-    (λ made e. subst (λ (G : Forest). Every HasNoBoxes G.autos) (sym e) (put_plain c.args.forest.now.face F r f ranked c.requires.plain c.known.ensures.sound c.requires.at p (sym place) c.args.leaf c.requires.fits))
+    (λ made e. subst (λ (G : Forest). Every HasNoBoxes G.autos) (sym e)
+    (put_plain c.args.forest.now.face F r f ranked c.requires.plain c.known.ensures.sound c.requires.at p
+    (sym place) c.args.leaf c.requires.fits))
     c.with_leaf_at.ensures.forest

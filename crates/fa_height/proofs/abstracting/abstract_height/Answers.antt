@@ -36,7 +36,10 @@ of-requires-clause-sound c =
     let made : record { autos = autos; vars = c.in_ok-vars.vars; data_vars = c.in_ok-data_vars.data_vars } ≡ G face F
     c.args.height c.requires.height autos c.in_ok-autos.ensures.quotients ranked c.requires.trim = ap₂
     (λ (v : List Target) (d : List Datum). record { autos = autos; vars = v; data_vars = d }) vars datums in
-    subst (λ (f : Face). IsSound f (record { autos = autos; vars = c.in_ok-vars.vars; data_vars = c.in_ok-data_vars.data_vars })) (sym c.face.ensures)
+    subst
+    (λ (f : Face). IsSound f
+    (record { autos = autos; vars = c.in_ok-vars.vars; data_vars = c.in_ok-data_vars.data_vars }))
+    (sym c.face.ensures)
     (subst (IsSound face) (sym made) (made_sound face F c.args.height c.requires.height autos
     c.in_ok-autos.ensures.quotients ranked c.requires.trim c.requires.plain c.requires.structs right
     c.known.ensures.sound))

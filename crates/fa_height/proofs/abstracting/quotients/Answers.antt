@@ -6,7 +6,9 @@ use Rattle.fa_height.proofs.Joined.{get_there, take_there}
 use Rattle.fa_height.proofs.abstracting.quotients.Goals as goal
 
 pub quotient-requires-clause-trim : goal.quotient-requires-clause-trim
-quotient-requires-clause-trim c = λ a e. every_in IsTrim c.args.forest.now.forest.autos a c.requires (in_from_place c.args.forest.now.forest.autos c.loop-root.root a e)
+quotient-requires-clause-trim c =
+    λ a e. every_in IsTrim c.args.forest.now.forest.autos a c.requires
+    (in_from_place c.args.forest.now.forest.autos c.loop-root.root a e)
 
 pub loop-root-preserved : goal.loop-root-preserved
 loop-root-preserved c =

@@ -13,4 +13,5 @@ loop-round-preserved c =
     (agree_more c.args.auto.now.states c.args.auto.now.rules c.known.ensures.1 c.in_ok-rules.rules
     (subst (λ (a : Automaton). AreRulesEach a.rules a.states c.in_ok-rules.rules) c.auto.view_is own)
     c.loop-round._round c.loop-round.classes c.loop-round.invariant c.in_ok-classes.classes
-    (subst (λ (a : Automaton). IsRefined c.in_ok-rules.rules c.loop-round.classes a.states c.in_ok-classes.classes) c.auto.view_is made))
+    (subst (λ (a : Automaton). IsRefined c.in_ok-rules.rules c.loop-round.classes a.states c.in_ok-classes.classes)
+    c.auto.view_is made))

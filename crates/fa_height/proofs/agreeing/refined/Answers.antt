@@ -7,4 +7,5 @@ pub classes_of-requires : goal.classes_of-requires
 classes_of-requires c = alike_equivalence c.args.classes.now c.args.rules.now
 
 pub returns : goal.returns
-returns c = λ p q l m. one_class (AreAlike c.args.rules.now c.args.classes.now) c.args.states c.in_ok-made.made.numbers c.in_ok-made.made.firsts c.in_ok-made.ensures (alike_equivalence c.args.classes.now c.args.rules.now) p q l m
+returns c = λ p q l m. one_class (AreAlike c.args.rules.now c.args.classes.now) c.args.states c.in_ok-made.made.numbers
+    c.in_ok-made.made.firsts c.in_ok-made.ensures (alike_equivalence c.args.classes.now c.args.rules.now) p q l m

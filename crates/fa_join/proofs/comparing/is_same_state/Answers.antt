@@ -13,6 +13,7 @@ returns c =
     let p = c.args.from in
     let q = c.args.to in
     let d = same_states a b p q in
-    IfOk-weaker c.is_same.result (λ yes. IsTrue yes ↔ HasSameLanguage (at_state a p) (at_state b q)) (λ yes. IsTrue yes ↔ SameRuns a b p q)
+    IfOk-weaker c.is_same.result (λ yes. IsTrue yes ↔ HasSameLanguage (at_state a p) (at_state b q))
+    (λ yes. IsTrue yes ↔ SameRuns a b p q)
     (λ yes h. ((λ t. d.0 (h.0 t)), (λ k. h.1 (d.1 k))))
     (rw (c.in_ok-left.ensures, c.in_ok-right.ensures) at c.is_same.ensures)

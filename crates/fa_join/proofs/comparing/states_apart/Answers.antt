@@ -15,8 +15,13 @@ loop-place-preserved c =
     let less = subst (λ (m : ℕ). n < m) c.requires.long c.loop-place-test.true in
     let x = at_index c.args.from.now n c.loop-place-test.true in
     let y = at_index c.args.to.now n less in
-    let next = subst (λ (z : Apart). IsApart (SameRuns c.args.left.now c.args.right.now) c.args.from.now c.args.to.now (n + 1) z) (sym c.with_place-found.ensures)
-    (apart_step (SameRuns c.args.left.now c.args.right.now) c.args.from.now c.args.to.now n (slice_index_or c.args.from.now n 0) (slice_index_or c.args.to.now n 0) c.loop-place.found c.in_ok-is_same.is_same x y c.in_ok-is_same.ensures c.loop-place.invariant) in
+    let next =
+    subst
+    (λ (z : Apart). IsApart (SameRuns c.args.left.now c.args.right.now) c.args.from.now c.args.to.now (n + 1) z)
+    (sym c.with_place-found.ensures)
+    (apart_step (SameRuns c.args.left.now c.args.right.now) c.args.from.now c.args.to.now n
+    (slice_index_or c.args.from.now n 0) (slice_index_or c.args.to.now n 0) c.loop-place.found
+    c.in_ok-is_same.is_same x y c.in_ok-is_same.ensures c.loop-place.invariant) in
     next
 
 pub returns-then-is_more : goal.returns-then-is_more
@@ -25,11 +30,20 @@ returns-then-is_more c =
     let less = subst (λ (m : ℕ). n < m) c.requires.long c.loop-place-test.true in
     let x = at_index c.args.from.now n c.loop-place-test.true in
     let y = at_index c.args.to.now n less in
-    let next = subst (λ (z : Apart). IsApart (SameRuns c.args.left.now c.args.right.now) c.args.from.now c.args.to.now (n + 1) z) (sym c.with_place-found.ensures)
-    (apart_step (SameRuns c.args.left.now c.args.right.now) c.args.from.now c.args.to.now n (slice_index_or c.args.from.now n 0) (slice_index_or c.args.to.now n 0) c.loop-place.found c.in_ok-is_same.is_same x y c.in_ok-is_same.ensures c.loop-place.invariant) in
-    apart_more (SameRuns c.args.left.now c.args.right.now) c.args.from.now c.args.to.now (n + 1) (length c.args.from.now) c.with_place-found.result (c.is_more.ensures.0 c.if-is_more.true) next
+    let next =
+    subst
+    (λ (z : Apart). IsApart (SameRuns c.args.left.now c.args.right.now) c.args.from.now c.args.to.now (n + 1) z)
+    (sym c.with_place-found.ensures)
+    (apart_step (SameRuns c.args.left.now c.args.right.now) c.args.from.now c.args.to.now n
+    (slice_index_or c.args.from.now n 0) (slice_index_or c.args.to.now n 0) c.loop-place.found
+    c.in_ok-is_same.is_same x y c.in_ok-is_same.ensures c.loop-place.invariant) in
+    apart_more (SameRuns c.args.left.now c.args.right.now) c.args.from.now c.args.to.now (n + 1)
+    (length c.args.from.now) c.with_place-found.result (c.is_more.ensures.0 c.if-is_more.true) next
 
 pub returns : goal.returns
 returns c =
-    let e : c.loop-place.place ≡ length c.args.from.now = omega (arith, c.loop-place.auto.place-end, c.loop-place-test.false) in
-    subst (λ (m : ℕ). IsApart (SameRuns c.args.left.now c.args.right.now) c.args.from.now c.args.to.now m c.loop-place.found) e c.loop-place.invariant
+    let e : c.loop-place.place ≡ length c.args.from.now =
+    omega (arith, c.loop-place.auto.place-end, c.loop-place-test.false) in
+    subst
+    (λ (m : ℕ). IsApart (SameRuns c.args.left.now c.args.right.now) c.args.from.now c.args.to.now m
+    c.loop-place.found) e c.loop-place.invariant

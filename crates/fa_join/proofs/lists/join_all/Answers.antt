@@ -28,7 +28,8 @@ pub returns-clause-joined : goal.returns-clause-joined
 returns-clause-joined g c =
     let done = c.forests.done in
     let h = c.forests.invariant in
-    (λ T. subst (λ (z : List SoundForest). IsJoined T (forests c.args.given) (forests z ++ forests done)) c.in_default.ensures.0 (h.joined T))
+    (λ T. subst (λ (z : List SoundForest). IsJoined T (forests c.args.given) (forests z ++ forests done))
+    c.in_default.ensures.0 (h.joined T))
 
 pub returns-clause-apart : goal.returns-clause-apart
 returns-clause-apart g c =
@@ -40,7 +41,8 @@ pub returns-clause-canonical : goal.returns-clause-canonical
 returns-clause-canonical g c =
     let done = c.forests.done in
     let h = c.forests.invariant in
-    every_weaker (IsReady c.args.face.now) (λ (s : SoundForest). IsCanonical s.face s.forest) done (λ s r. r.canonical) h.done_ready
+    every_weaker (IsReady c.args.face.now) (λ (s : SoundForest). IsCanonical s.face s.forest) done (λ s r. r.canonical)
+    h.done_ready
 
 pub returns-clause-reduced : goal.returns-clause-reduced
 returns-clause-reduced g c =
@@ -52,10 +54,12 @@ pub returns-clause-plain : goal.returns-clause-plain
 returns-clause-plain g c =
     let done = c.forests.done in
     let h = c.forests.invariant in
-    every_weaker (IsReady c.args.face.now) (λ (s : SoundForest). Every HasNoBoxes s.forest.autos) done (λ s r. r.plain) h.done_ready
+    every_weaker (IsReady c.args.face.now) (λ (s : SoundForest). Every HasNoBoxes s.forest.autos) done (λ s r. r.plain)
+    h.done_ready
 
 pub returns-clause-faces : goal.returns-clause-faces
 returns-clause-faces g c =
     let done = c.forests.done in
     let h = c.forests.invariant in
-    every_weaker (IsReady c.args.face.now) (λ (s : SoundForest). s.face ≡ c.args.face.now) done (λ s r. r.over) h.done_ready
+    every_weaker (IsReady c.args.face.now) (λ (s : SoundForest). s.face ≡ c.args.face.now) done (λ s r. r.over)
+    h.done_ready

@@ -15,7 +15,8 @@ join-requires-clause-left g c κs within =
     let done = c.args.done.now in
     let next = c.args.next in
     let other = c.remove-other.result in
-    let ready = every_in (IsReady face) done other c.requires.done (in_from_place done c.in-Some.found.place other c.remove-other.ensures.item) in
+    let ready = every_in (IsReady face) done other c.requires.done
+    (in_from_place done c.in-Some.found.place other c.remove-other.ensures.item) in
     own_face face other other ready ready
 
 pub join-requires-clause-right : goal.join-requires-clause-right
@@ -25,7 +26,8 @@ join-requires-clause-right g c κs within =
     let done = c.args.done.now in
     let next = c.args.next in
     let other = c.remove-other.result in
-    let ready = every_in (IsReady face) done other c.requires.done (in_from_place done c.in-Some.found.place other c.remove-other.ensures.item) in
+    let ready = every_in (IsReady face) done other c.requires.done
+    (in_from_place done c.in-Some.found.place other c.remove-other.ensures.item) in
     own_face face other next ready c.requires.next
 
 pub join-requires-clause-can : goal.join-requires-clause-can
@@ -35,7 +37,8 @@ join-requires-clause-can g c κs within =
     let done = c.args.done.now in
     let next = c.args.next in
     let other = c.remove-other.result in
-    let ready = every_in (IsReady face) done other c.requires.done (in_from_place done c.in-Some.found.place other c.remove-other.ensures.item) in
+    let ready = every_in (IsReady face) done other c.requires.done
+    (in_from_place done c.in-Some.found.place other c.remove-other.ensures.item) in
     let found = c.in-Some.found in
     let partner = rw (c.as_slice.ensures, c.in-Some.is) at c.in_ok-first_partner.ensures in
     let can = partner_joins face.boxes done next.forest found other partner c.remove-other.ensures.item in
@@ -49,7 +52,8 @@ returns-in-None-clause-joining g c =
     let next = c.args.next in
     let none = rw (c.as_slice.ensures, c.in-None.is) at c.in_ok-first_partner.ensures in
     on_ok_weaker c.push.result
-    (λ e given h. subst (λ (z : List SoundForest). IsJoining face given todo z) (sym e) (joining_push face given todo done next none h))
+    (λ e given h. subst (λ (z : List SoundForest). IsJoining face given todo z) (sym e)
+    (joining_push face given todo done next none h))
     c.push.ensures.ok
 
 pub returns-in_ok-made-in-Some-clause-joining : goal.returns-in_ok-made-in-Some-clause-joining
@@ -59,13 +63,15 @@ returns-in_ok-made-in-Some-clause-joining g c =
     let done = c.args.done.now in
     let next = c.args.next in
     let other = c.remove-other.result in
-    let ready = every_in (IsReady face) done other c.requires.done (in_from_place done c.in-Some.found.place other c.remove-other.ensures.item) in
+    let ready = every_in (IsReady face) done other c.requires.done
+    (in_from_place done c.in-Some.found.place other c.remove-other.ensures.item) in
     let made = c.in_ok-made-in-Some.made in
     let made_ready = subst (λ (f : Face). IsReady f made) ready.over c.in_ok-made-in-Some.ensures.ready in
     on_ok_weaker c.push-in-Some.result
     (λ e given h. subst (λ (z : List SoundForest). IsJoining face given z c.remove-other.new.self) (sym e)
     (subst (λ (z : List SoundForest). IsJoining face given (todo ++ made ∷ []) z) (sym c.remove-other.ensures.rest)
-    (joining_join face given todo done next other made c.in-Some.found.place c.remove-other.ensures.item made_ready c.in_ok-made-in-Some.ensures.joins h)))
+    (joining_join face given todo done next other made c.in-Some.found.place c.remove-other.ensures.item made_ready
+    c.in_ok-made-in-Some.ensures.joins h)))
     c.push-in-Some.ensures.ok
 
 pub returns-in_ok-made-in-Some-clause-fewer : goal.returns-in_ok-made-in-Some-clause-fewer

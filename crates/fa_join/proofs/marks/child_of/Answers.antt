@@ -10,5 +10,6 @@ returns-clause-below c =
     let F = c.args.forest.now in
     let a = component_at F.autos c.args.root in
     let ranked : IsRanked a = rw c.component-auto.ensures at c.known.ensures in
-    let is : c.state_at.result ≡ child_state a c.args.child = c.state_at.ensures ∙ ap (λ (z : Automaton). child_state z c.args.child) c.component-auto.ensures in
+    let is : c.state_at.result ≡ child_state a c.args.child = c.state_at.ensures
+    ∙ ap (λ (z : Automaton). child_state z c.args.child) c.component-auto.ensures in
     subst (λ (n : ℕ). n < a.states) (sym is) (child_within F c.args.root c.args.child c.requires ranked)

@@ -12,6 +12,8 @@ returns c =
     let p = c.args.child in
     let a = component_at c.args.left.now.forest.autos r in
     let b = component_at c.args.right.now.forest.autos r in
-    let second = subst (λ (f : Face). HasMarks f.boxes b (child_state b p) c.marks_of-second.result.now) (sym c.requires.face) c.marks_of-second.ensures in
-    let d = marks_decide c.args.left.now.face.boxes a b (child_state a p) (child_state b p) c.marks_of-first.result.now c.marks_of-second.result.now c.marks_of-first.ensures second in
+    let second = subst (λ (f : Face). HasMarks f.boxes b (child_state b p) c.marks_of-second.result.now)
+    (sym c.requires.face) c.marks_of-second.ensures in
+    let d = marks_decide c.args.left.now.face.boxes a b (child_state a p) (child_state b p) c.marks_of-first.result.now
+    c.marks_of-second.result.now c.marks_of-first.ensures second in
     ((λ t. d.0 (c.are_same.ensures.0 t)), (λ h. c.are_same.ensures.1 (d.1 h)))

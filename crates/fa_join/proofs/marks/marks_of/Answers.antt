@@ -9,14 +9,18 @@ use Rattle.fa_join.proofs.marks.marks_of.Goals as goal
 pub signature-requires : goal.signature-requires
 signature-requires c =
     let F = c.args.forest.now.forest in
-    let below : c.child_of-state.result < (component_at F.autos c.args.root).states = rw c.forest.ensures at c.child_of-state.ensures.below in
+    let below : c.child_of-state.result < (component_at F.autos c.args.root).states =
+    rw c.forest.ensures at c.child_of-state.ensures.below in
     child_is_state F c.args.root c.args.child c.requires c.child_of-state.result below
 
 pub returns : goal.returns
 returns c =
     let F = c.args.forest.now.forest in
     let a = component_at F.autos c.args.root in
-    let state : c.child_of-state.result ≡ child_state a c.args.child = rw c.forest.ensures at c.child_of-state.ensures.state in record {
-      each = λ t w. c.as_slice.ensures ∙ c.signature.ensures.trees a t (component_got F.autos c.args.root c.requires.root) (subst (λ (q : ℕ). RunOf a.rules q t) (sym state) w);
+    let state : c.child_of-state.result ≡ child_state a c.args.child =
+    rw c.forest.ensures at c.child_of-state.ensures.state in record {
+      each = λ t w. c.as_slice.ensures
+          ∙ c.signature.ensures.trees a t (component_got F.autos c.args.root c.requires.root)
+          (subst (λ (q : ℕ). RunOf a.rules q t) (sym state) w);
       some = child_tree F c.args.root c.args.child c.requires c.args.forest.now.face c.known.ensures.sound;
     }

@@ -9,7 +9,8 @@ use Rattle.fa_merge.proofs.counting.is_target.Goals as goal
 
 pub returns-then-is_at : goal.returns-then-is_at
 returns-then-is_at c = (
-  (λ y. subst (λ (x : Target). IsIn x c.args.vars.now) (c.if-is_at.ensures.0 refl) (in_place c.args.vars.now c.loop-target.target-index _ c.loop-target-test.true)),
+  (λ y. subst (λ (x : Target). IsIn x c.args.vars.now) (c.if-is_at.ensures.0 refl)
+      (in_place c.args.vars.now c.loop-target.target-index _ c.loop-target-test.true)),
   (λ i. refl),
 )
 

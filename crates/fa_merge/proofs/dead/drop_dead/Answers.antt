@@ -18,7 +18,8 @@ of-requires-clause-plain c =
     let r = c.args.root in
     let made : c.in_ok-made.made ≡ dropped_forest r F = c.in_ok-made.ensures ∙ ap (dropped_forest r) c.forest.ensures in
     let ranked : Every IsRanked F.autos = c.known.ensures.ranked in
-    subst (λ (z : Forest). Every HasNoBoxes z.autos) (sym made) (dropped_plain c.args.forest.now.face F r c.requires.root ranked c.requires.plain c.known.ensures.sound)
+    subst (λ (z : Forest). Every HasNoBoxes z.autos) (sym made)
+    (dropped_plain c.args.forest.now.face F r c.requires.root ranked c.requires.plain c.known.ensures.sound)
 
 pub of-requires-clause-sound : goal.of-requires-clause-sound
 of-requires-clause-sound c =
@@ -26,7 +27,9 @@ of-requires-clause-sound c =
     let r = c.args.root in
     let made : c.in_ok-made.made ≡ dropped_forest r F = c.in_ok-made.ensures ∙ ap (dropped_forest r) c.forest.ensures in
     let ranked : Every IsRanked F.autos = c.known.ensures.ranked in
-    rw c.face.ensures (subst (λ (z : Forest). IsSound c.args.forest.now.face z) (sym made) (dropped_sound c.args.forest.now.face F r c.requires.root ranked c.requires.plain c.known.ensures.sound))
+    rw c.face.ensures
+    (subst (λ (z : Forest). IsSound c.args.forest.now.face z) (sym made)
+    (dropped_sound c.args.forest.now.face F r c.requires.root ranked c.requires.plain c.known.ensures.sound))
 
 pub returns-clause-cut : goal.returns-clause-cut
 returns-clause-cut c = λ dead.
@@ -35,7 +38,8 @@ returns-clause-cut c = λ dead.
     let made : c.in_ok-made.made ≡ dropped_forest r F = c.in_ok-made.ensures ∙ ap (dropped_forest r) c.forest.ensures in
     let ranked : Every IsRanked F.autos = c.known.ensures.ranked in
     IfOk-weaker c.of.result (λ s. s.forest ≡ c.in_ok-made.made) (λ s. (T : List BoxDef) → IsCut T F s.forest r)
-    (λ s e T. subst (λ (z : Forest). IsCut T F z r) (sym (e ∙ made)) (cut_of c.args.forest.now.face F r c.requires.root ranked c.requires.plain c.known.ensures.sound T dead))
+    (λ s e T. subst (λ (z : Forest). IsCut T F z r) (sym (e ∙ made))
+    (cut_of c.args.forest.now.face F r c.requires.root ranked c.requires.plain c.known.ensures.sound T dead))
     c.of.ensures.forest
 
 pub returns-clause-removes : goal.returns-clause-removes
@@ -47,7 +51,9 @@ returns-clause-removes c = λ dead.
     let made : c.in_ok-made.made ≡ dropped_forest r F = c.in_ok-made.ensures ∙ ap (dropped_forest r) c.forest.ensures in
     let ranked : Every IsRanked F.autos = c.known.ensures.ranked in
     IfOk-weaker c.of.result (λ s. s.forest ≡ c.in_ok-made.made) (λ s. (T : List BoxDef) → Removes hs T F s.forest r)
-    (λ s e T. subst (λ (z : Forest). Removes hs T F z r) (sym (e ∙ made)) (store_cut hs T F (dropped_forest r F) r c.requires.plain (cut_of face F r c.requires.root ranked c.requires.plain c.known.ensures.sound T dead)))
+    (λ s e T. subst (λ (z : Forest). Removes hs T F z r) (sym (e ∙ made))
+    (store_cut hs T F (dropped_forest r F) r c.requires.plain
+    (cut_of face F r c.requires.root ranked c.requires.plain c.known.ensures.sound T dead)))
     c.of.ensures.forest
 
 pub returns-clause-restores : goal.returns-clause-restores
@@ -59,5 +65,9 @@ returns-clause-restores c = λ dead.
     let made : c.in_ok-made.made ≡ dropped_forest r F = c.in_ok-made.ensures ∙ ap (dropped_forest r) c.forest.ensures in
     let ranked : Every IsRanked F.autos = c.known.ensures.ranked in
     IfOk-weaker c.of.result (λ s. s.forest ≡ c.in_ok-made.made) (λ s. (T : List BoxDef) → Restores hs T F s.forest r)
-    (λ s e T. subst (λ (z : Forest). Restores hs T F z r) (sym (e ∙ made)) (store_restored T face F (dropped_forest r F) r c.requires.plain (dropped_plain face F r c.requires.root ranked c.requires.plain c.known.ensures.sound) c.known.ensures.sound.well_formed.filled (cut_of face F r c.requires.root ranked c.requires.plain c.known.ensures.sound T dead)))
+    (λ s e T. subst (λ (z : Forest). Restores hs T F z r) (sym (e ∙ made))
+    (store_restored T face F (dropped_forest r F) r c.requires.plain
+    (dropped_plain face F r c.requires.root ranked c.requires.plain c.known.ensures.sound)
+    c.known.ensures.sound.well_formed.filled
+    (cut_of face F r c.requires.root ranked c.requires.plain c.known.ensures.sound T dead)))
     c.of.ensures.forest

@@ -3,4 +3,5 @@ use Rattle.fa_merge.specs.inner.Hops.{mark_hops}
 use Rattle.fa_merge.proofs.hops.signature_hops.Given as goal
 
 abbrev pub invariant-loop-mark : goal.invariant-loop-mark
-invariant-loop-mark l = l.rules ++ flat_map (mark_hops l.root) (drop l.mark-index l.marks) ≡ flat_map (mark_hops l.root) l.marks
+invariant-loop-mark l = l.rules ++ flat_map (mark_hops l.root) (drop l.mark-index l.marks)
+    ≡ flat_map (mark_hops l.root) l.marks

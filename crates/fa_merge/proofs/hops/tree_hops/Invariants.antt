@@ -3,4 +3,5 @@ use Rattle.fa_merge.specs.inner.Hops.{tree_hops}
 use Rattle.fa_merge.proofs.hops.tree_hops.Given as goal
 
 abbrev pub invariant-loop-signature : goal.invariant-loop-signature
-invariant-loop-signature l = (l.root ≡ l.signature-index) × (l.rules ++ tree_hops l.root (drop l.signature-index l.signatures) ≡ tree_hops 0 l.signatures)
+invariant-loop-signature l = (l.root ≡ l.signature-index)
+    × (l.rules ++ tree_hops l.root (drop l.signature-index l.signatures) ≡ tree_hops 0 l.signatures)

@@ -6,4 +6,5 @@ pub returns-clause-removes : goal.returns-clause-removes
 returns-clause-removes c = λ hs T F G r plain cut. store_cut hs T F G r plain cut
 
 pub returns-clause-restores : goal.returns-clause-restores
-returns-clause-restores c = λ T face F G r plain plain_cut filled cut. store_restored T face F G r plain plain_cut filled cut
+returns-clause-restores c = λ T face F G r plain plain_cut filled cut.
+    store_restored T face F G r plain plain_cut filled cut

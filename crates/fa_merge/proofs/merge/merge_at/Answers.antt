@@ -11,18 +11,26 @@ use Rattle.fa_merge.proofs.merge.merge_at.Goals as goal
 pub of-requires-clause-plain : goal.of-requires-clause-plain
 of-requires-clause-plain c =
     let F = c.args.forest.now.forest in
-    let made : c.in_ok-made.made ≡ merged_at c.args.root c.args.into F = c.in_ok-made.ensures ∙ ap (merged_at c.args.root c.args.into) c.forest.ensures in
-    subst (λ (z : Forest). Every HasNoBoxes z.autos) (sym made) (merged_plain c.args.forest.now.face F c.args.root c.args.into c.requires.lone c.requires.plain c.known.ensures.sound)
+    let made : c.in_ok-made.made ≡ merged_at c.args.root c.args.into F = c.in_ok-made.ensures
+    ∙ ap (merged_at c.args.root c.args.into) c.forest.ensures in
+    subst (λ (z : Forest). Every HasNoBoxes z.autos) (sym made)
+    (merged_plain c.args.forest.now.face F c.args.root c.args.into c.requires.lone c.requires.plain
+    c.known.ensures.sound)
 
 pub of-requires-clause-sound : goal.of-requires-clause-sound
 of-requires-clause-sound c =
     let F = c.args.forest.now.forest in
-    let made : c.in_ok-made.made ≡ merged_at c.args.root c.args.into F = c.in_ok-made.ensures ∙ ap (merged_at c.args.root c.args.into) c.forest.ensures in
-    rw c.face.ensures (subst (λ (z : Forest). IsSound c.args.forest.now.face z) (sym made) (merged_sound c.args.forest.now.face F c.args.root c.args.into c.requires.lone c.requires.plain c.known.ensures.sound))
+    let made : c.in_ok-made.made ≡ merged_at c.args.root c.args.into F = c.in_ok-made.ensures
+    ∙ ap (merged_at c.args.root c.args.into) c.forest.ensures in
+    rw c.face.ensures
+    (subst (λ (z : Forest). IsSound c.args.forest.now.face z) (sym made)
+    (merged_sound c.args.forest.now.face F c.args.root c.args.into c.requires.lone c.requires.plain
+    c.known.ensures.sound))
 
 pub returns-clause-value : goal.returns-clause-value
 returns-clause-value c =
     let F = c.args.forest.now.forest in
-    let made : c.in_ok-made.made ≡ merged_at c.args.root c.args.into F = c.in_ok-made.ensures ∙ ap (merged_at c.args.root c.args.into) c.forest.ensures in
+    let made : c.in_ok-made.made ≡ merged_at c.args.root c.args.into F = c.in_ok-made.ensures
+    ∙ ap (merged_at c.args.root c.args.into) c.forest.ensures in
     IfOk-weaker c.of.result (λ s. s.forest ≡ c.in_ok-made.made) (λ s. s.forest ≡ merged_at c.args.root c.args.into F)
-      (λ s e. e ∙ made) c.of.ensures.forest
+    (λ s e. e ∙ made) c.of.ensures.forest

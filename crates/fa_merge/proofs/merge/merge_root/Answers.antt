@@ -19,7 +19,8 @@ merge_at-requires-clause-lone c =
     let F = c.args.forest.now.forest in
     let ranked : Every IsRanked F.autos = c.known.ensures.ranked in
     let found : IsReferrer F c.args.root c.in-Some.into = rw c.in-Some.is at c.in_ok-into.ensures in
-    lone_found c.args.forest.now.face F c.args.root c.known.ensures.sound ranked c.requires.lone c.in-Some.into found.0 found.1
+    lone_found c.args.forest.now.face F c.args.root c.known.ensures.sound ranked c.requires.lone c.in-Some.into found.0
+    found.1
 
 pub unreachable-requires : goal.unreachable-requires
 unreachable-requires c =
@@ -34,7 +35,9 @@ returns-clause-value c =
     let r = c.args.root in
     let ranked : Every IsRanked F.autos = c.known.ensures.ranked in
     let found : IsReferrer F r c.in-Some.into = rw c.in-Some.is at c.in_ok-into.ensures in
-    let lone : IsLone F r c.in-Some.into = lone_found c.args.forest.now.face F r c.known.ensures.sound ranked c.requires.lone c.in-Some.into found.0 found.1 in
+    let lone : IsLone F r c.in-Some.into =
+    lone_found c.args.forest.now.face F r c.known.ensures.sound ranked c.requires.lone c.in-Some.into found.0
+    found.1 in
     IfOk-weaker c.merge_at.result (λ s. s.forest ≡ merged_at r c.in-Some.into F) (λ s. IsMergedInto F r s.forest)
     (λ s e. (c.in-Some.into, refers_of F r c.in-Some.into found, e))
     c.merge_at.ensures.value
@@ -45,8 +48,11 @@ returns-clause-vars c =
     let r = c.args.root in
     let ranked : Every IsRanked F.autos = c.known.ensures.ranked in
     let found : IsReferrer F r c.in-Some.into = rw c.in-Some.is at c.in_ok-into.ensures in
-    let lone : IsLone F r c.in-Some.into = lone_found c.args.forest.now.face F r c.known.ensures.sound ranked c.requires.lone c.in-Some.into found.0 found.1 in
-    IfOk-weaker c.merge_at.result (λ s. s.forest ≡ merged_at r c.in-Some.into F) (λ s. s.forest.vars ≡ map (placed_leaf (lowering r)) F.vars)
+    let lone : IsLone F r c.in-Some.into =
+    lone_found c.args.forest.now.face F r c.known.ensures.sound ranked c.requires.lone c.in-Some.into found.0
+    found.1 in
+    IfOk-weaker c.merge_at.result (λ s. s.forest ≡ merged_at r c.in-Some.into F)
+    (λ s. s.forest.vars ≡ map (placed_leaf (lowering r)) F.vars)
     (λ s e. ap (λ (z : Forest). z.vars) e ∙ vars_lowered (length F.autos) r F.vars lone.vars)
     c.merge_at.ensures.value
 
@@ -56,8 +62,11 @@ returns-clause-whole c =
     let r = c.args.root in
     let ranked : Every IsRanked F.autos = c.known.ensures.ranked in
     let found : IsReferrer F r c.in-Some.into = rw c.in-Some.is at c.in_ok-into.ensures in
-    let lone : IsLone F r c.in-Some.into = lone_found c.args.forest.now.face F r c.known.ensures.sound ranked c.requires.lone c.in-Some.into found.0 found.1 in
-    IfOk-weaker c.merge_at.result (λ s. s.forest ≡ merged_at r c.in-Some.into F) (λ s. (T : List BoxDef) → Regroups T s.forest F)
+    let lone : IsLone F r c.in-Some.into =
+    lone_found c.args.forest.now.face F r c.known.ensures.sound ranked c.requires.lone c.in-Some.into found.0
+    found.1 in
+    IfOk-weaker c.merge_at.result (λ s. s.forest ≡ merged_at r c.in-Some.into F)
+    (λ s. (T : List BoxDef) → Regroups T s.forest F)
     (λ s e. λ T. subst (λ (z : Forest). Regroups T z F) (sym e) (merge_any F r c.in-Some.into lone T))
     c.merge_at.ensures.value
 
@@ -67,8 +76,11 @@ returns-clause-regroups c =
     let r = c.args.root in
     let ranked : Every IsRanked F.autos = c.known.ensures.ranked in
     let found : IsReferrer F r c.in-Some.into = rw c.in-Some.is at c.in_ok-into.ensures in
-    let lone : IsLone F r c.in-Some.into = lone_found c.args.forest.now.face F r c.known.ensures.sound ranked c.requires.lone c.in-Some.into found.0 found.1 in
-    IfOk-weaker c.merge_at.result (λ s. s.forest ≡ merged_at r c.in-Some.into F) (λ s. (T : List BoxDef) → Regroups T F s.forest)
+    let lone : IsLone F r c.in-Some.into =
+    lone_found c.args.forest.now.face F r c.known.ensures.sound ranked c.requires.lone c.in-Some.into found.0
+    found.1 in
+    IfOk-weaker c.merge_at.result (λ s. s.forest ≡ merged_at r c.in-Some.into F)
+    (λ s. (T : List BoxDef) → Regroups T F s.forest)
     (λ s e. λ T. subst (λ (z : Forest). Regroups T F z) (sym e) (unmerge_any F r c.in-Some.into lone T))
     c.merge_at.ensures.value
 
@@ -78,7 +90,14 @@ returns-clause-members c =
     let r = c.args.root in
     let ranked : Every IsRanked F.autos = c.known.ensures.ranked in
     let found : IsReferrer F r c.in-Some.into = rw c.in-Some.is at c.in_ok-into.ensures in
-    let lone : IsLone F r c.in-Some.into = lone_found c.args.forest.now.face F r c.known.ensures.sound ranked c.requires.lone c.in-Some.into found.0 found.1 in
+    let lone : IsLone F r c.in-Some.into =
+    lone_found c.args.forest.now.face F r c.known.ensures.sound ranked c.requires.lone c.in-Some.into found.0
+    found.1 in
     IfOk-weaker c.merge_at.result (λ s. s.forest ≡ merged_at r c.in-Some.into F) (λ s. HasSameMembers s.forest F)
-    (λ s e. λ hs T m. (members_regrouped hs T F s.forest (subst (λ (z : Forest). Regroups T F z) (sym e) (unmerge_any F r c.in-Some.into lone T)) m, members_regrouped hs T s.forest F (subst (λ (z : Forest). Regroups T z F) (sym e) (merge_any F r c.in-Some.into lone T)) m))
+    (λ s e. λ hs T m. (
+      members_regrouped hs T F s.forest
+          (subst (λ (z : Forest). Regroups T F z) (sym e) (unmerge_any F r c.in-Some.into lone T)) m,
+      members_regrouped hs T s.forest F
+          (subst (λ (z : Forest). Regroups T z F) (sym e) (merge_any F r c.in-Some.into lone T)) m,
+    ))
     c.merge_at.ensures.value

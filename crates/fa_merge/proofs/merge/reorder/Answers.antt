@@ -16,16 +16,23 @@ use Rattle.fa_merge.proofs.merge.reorder.Goals as goal
 pub of-requires-clause-plain : goal.of-requires-clause-plain
 of-requires-clause-plain c =
     let F = c.args.forest.now.forest in
-    let made : c.in_ok-made.made ≡ reordered c.args.order.now F = c.in_ok-made.ensures ∙ ap (reordered c.args.order.now) c.forest-2.ensures in
+    let made : c.in_ok-made.made ≡ reordered c.args.order.now F = c.in_ok-made.ensures
+    ∙ ap (reordered c.args.order.now) c.forest-2.ensures in
     let ranked : Every IsRanked F.autos = c.known.ensures.ranked in
-    subst (λ (z : Forest). Every HasNoBoxes z.autos) (sym made) (new_plain c.args.forest.now.face F c.args.order.now c.requires.all ranked c.requires.plain c.known.ensures.sound)
+    subst (λ (z : Forest). Every HasNoBoxes z.autos) (sym made)
+    (new_plain c.args.forest.now.face F c.args.order.now c.requires.all ranked c.requires.plain
+    c.known.ensures.sound)
 
 pub of-requires-clause-sound : goal.of-requires-clause-sound
 of-requires-clause-sound c =
     let F = c.args.forest.now.forest in
-    let made : c.in_ok-made.made ≡ reordered c.args.order.now F = c.in_ok-made.ensures ∙ ap (reordered c.args.order.now) c.forest-2.ensures in
+    let made : c.in_ok-made.made ≡ reordered c.args.order.now F = c.in_ok-made.ensures
+    ∙ ap (reordered c.args.order.now) c.forest-2.ensures in
     let ranked : Every IsRanked F.autos = c.known.ensures.ranked in
-    rw c.face.ensures (subst (λ (z : Forest). IsSound c.args.forest.now.face z) (sym made) (reordered_sound c.args.forest.now.face F c.args.order.now c.requires.all ranked c.requires.plain c.known.ensures.sound))
+    rw c.face.ensures
+    (subst (λ (z : Forest). IsSound c.args.forest.now.face z) (sym made)
+    (reordered_sound c.args.forest.now.face F c.args.order.now c.requires.all ranked c.requires.plain
+    c.known.ensures.sound))
 
 pub returns-clause-whole : goal.returns-clause-whole
 returns-clause-whole c =
@@ -33,7 +40,8 @@ returns-clause-whole c =
     let order = c.args.order.now in
     let made : c.in_ok-made.made ≡ reordered order F = c.in_ok-made.ensures ∙ ap (reordered order) c.forest-2.ensures in
     IfOk-weaker c.of.result (λ s. s.forest ≡ c.in_ok-made.made) (λ s. (T : List BoxDef) → Regroups T s.forest F)
-    (λ s e T. subst (λ (z : Forest). Regroups T z F) (sym (e ∙ made)) (reorder_onto T F (place_of order) order (an_order (length F.autos) order c.requires.all)))
+    (λ s e T. subst (λ (z : Forest). Regroups T z F) (sym (e ∙ made))
+    (reorder_onto T F (place_of order) order (an_order (length F.autos) order c.requires.all)))
     c.of.ensures.forest
 
 pub returns-clause-regroups : goal.returns-clause-regroups
@@ -42,5 +50,6 @@ returns-clause-regroups c =
     let order = c.args.order.now in
     let made : c.in_ok-made.made ≡ reordered order F = c.in_ok-made.ensures ∙ ap (reordered order) c.forest-2.ensures in
     IfOk-weaker c.of.result (λ s. s.forest ≡ c.in_ok-made.made) (λ s. (T : List BoxDef) → Regroups T F s.forest)
-    (λ s e T. subst (λ (z : Forest). Regroups T F z) (sym (e ∙ made)) (reorder_back F (place_of order) order (an_order (length F.autos) order c.requires.all) T))
+    (λ s e T. subst (λ (z : Forest). Regroups T F z) (sym (e ∙ made))
+    (reorder_back F (place_of order) order (an_order (length F.autos) order c.requires.all) T))
     c.of.ensures.forest

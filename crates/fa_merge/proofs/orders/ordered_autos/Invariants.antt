@@ -5,4 +5,5 @@ use Rattle.fa_sound.specs.Components.{component_at}
 use Rattle.fa_merge.proofs.orders.ordered_autos.Given as goal
 
 abbrev pub invariant-loop-root : goal.invariant-loop-root
-invariant-loop-root l = l.made ≡ map (λ k. placed_auto (renumber (place_of l.order)) (component_at l.autos k)) (take l.root-index l.order)
+invariant-loop-root l = l.made
+    ≡ map (λ k. placed_auto (renumber (place_of l.order)) (component_at l.autos k)) (take l.root-index l.order)

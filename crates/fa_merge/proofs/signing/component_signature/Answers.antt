@@ -15,7 +15,7 @@ referring_state-requires c =
     let own = c.at-auto.result.now in
     let here : slice_get autos c.args.root ≡ Some own = rw c.forest.ensures at c.at-auto.ensures in
     let roots : c.as_slice.result.now ≡ own.roots = c.as_slice.ensures ∙ ap (λ (a : Automaton). a.roots)
-      c.auto.view_is in
+    c.auto.view_is in
     let o : Option Automaton = slice_get autos c.args.root in
     subst (λ (qs : List ℕ). Every (IsStateOf o) qs) (sym roots)
     (in_every (IsStateOf o) own.roots (λ q i.
@@ -28,7 +28,7 @@ signature-requires c =
     let q = c.in-Some.state in
     let here : slice_get autos c.args.root ≡ Some own = rw c.forest.ensures at c.at-auto.ensures in
     let roots : c.as_slice.result.now ≡ own.roots = c.as_slice.ensures ∙ ap (λ (a : Automaton). a.roots)
-      c.auto.view_is in
+    c.auto.view_is in
     let found : IsIn q own.roots = subst (λ (qs : List ℕ). IsIn q qs) roots c.in-Some.ensures.0 in
     is_state _ own q here (every_in (λ q. q < own.states) own.roots q c.known-2.ensures.0 found)
 
@@ -40,7 +40,7 @@ returns-in-Some c =
     let q = c.in-Some.state in
     let here : slice_get autos c.args.root ≡ Some own = rw c.forest.ensures at c.at-auto.ensures in
     let roots : c.as_slice.result.now ≡ own.roots = c.as_slice.ensures ∙ ap (λ (a : Automaton). a.roots)
-      c.auto.view_is in
+    c.auto.view_is in
     let found : IsIn q own.roots = subst (λ (qs : List ℕ). IsIn q qs) roots c.in-Some.ensures.0 in
     let live : IsLiveRoot own q = (found, c.in-Some.ensures.1 own here) in
     IfOk-weaker c.copy.result (λ other. other ≡ c.signature.result.now)

@@ -30,7 +30,10 @@ of-requires-clause-sound g c =
     c.in_ok-autos.ensures.reductions in
     let vars : c.in_ok-vars.vars ≡ F.vars = rw c.forest-2.ensures at c.in_ok-vars.ensures in
     let datums : c.in_ok-data_vars.data_vars ≡ F.data_vars = rw c.forest-3.ensures at c.in_ok-data_vars.ensures in
-    let made : record { autos = c.in_ok-autos.autos; vars = c.in_ok-vars.vars; data_vars = c.in_ok-data_vars.data_vars } ≡ G face F c.in_ok-autos.autos h = ap₂ (λ (v : List Target) (d : List Datum). record { autos = c.in_ok-autos.autos; vars = v; data_vars = d }) vars datums in
+    let made : record { autos = c.in_ok-autos.autos; vars = c.in_ok-vars.vars; data_vars = c.in_ok-data_vars.data_vars }
+    ≡ G face F c.in_ok-autos.autos h =
+    ap₂ (λ (v : List Target) (d : List Datum). record { autos = c.in_ok-autos.autos; vars = v; data_vars = d })
+    vars datums in
     subst (λ (f : Face). IsSound f (record {
       autos = c.in_ok-autos.autos;
       vars = c.in_ok-vars.vars;
@@ -48,7 +51,10 @@ returns-clause-covers g c =
     c.in_ok-autos.ensures.reductions in
     let vars : c.in_ok-vars.vars ≡ F.vars = rw c.forest-2.ensures at c.in_ok-vars.ensures in
     let datums : c.in_ok-data_vars.data_vars ≡ F.data_vars = rw c.forest-3.ensures at c.in_ok-data_vars.ensures in
-    let made : record { autos = c.in_ok-autos.autos; vars = c.in_ok-vars.vars; data_vars = c.in_ok-data_vars.data_vars } ≡ G face F c.in_ok-autos.autos h = ap₂ (λ (v : List Target) (d : List Datum). record { autos = c.in_ok-autos.autos; vars = v; data_vars = d }) vars datums in
+    let made : record { autos = c.in_ok-autos.autos; vars = c.in_ok-vars.vars; data_vars = c.in_ok-data_vars.data_vars }
+    ≡ G face F c.in_ok-autos.autos h =
+    ap₂ (λ (v : List Target) (d : List Datum). record { autos = c.in_ok-autos.autos; vars = v; data_vars = d })
+    vars datums in
     IfOk-weaker c.of.result (λ s. s.forest ≡ _) (λ s. Covers s.forest F)
     (λ s e. subst (λ (z : Forest). Covers z F) (sym (e ∙ made)) (covers_first face F c.in_ok-autos.autos h))
     c.of.ensures.forest
@@ -61,7 +67,10 @@ returns-clause-covered g c =
     c.in_ok-autos.ensures.reductions in
     let vars : c.in_ok-vars.vars ≡ F.vars = rw c.forest-2.ensures at c.in_ok-vars.ensures in
     let datums : c.in_ok-data_vars.data_vars ≡ F.data_vars = rw c.forest-3.ensures at c.in_ok-data_vars.ensures in
-    let made : record { autos = c.in_ok-autos.autos; vars = c.in_ok-vars.vars; data_vars = c.in_ok-data_vars.data_vars } ≡ G face F c.in_ok-autos.autos h = ap₂ (λ (v : List Target) (d : List Datum). record { autos = c.in_ok-autos.autos; vars = v; data_vars = d }) vars datums in
+    let made : record { autos = c.in_ok-autos.autos; vars = c.in_ok-vars.vars; data_vars = c.in_ok-data_vars.data_vars }
+    ≡ G face F c.in_ok-autos.autos h =
+    ap₂ (λ (v : List Target) (d : List Datum). record { autos = c.in_ok-autos.autos; vars = v; data_vars = d })
+    vars datums in
     IfOk-weaker c.of.result (λ s. s.forest ≡ _) (λ s. Covers F s.forest)
     (λ s e. subst (λ (z : Forest). Covers F z) (sym (e ∙ made)) (first_covers face F c.in_ok-autos.autos h))
     c.of.ensures.forest
@@ -74,7 +83,10 @@ returns-clause-reduced g c =
     c.in_ok-autos.ensures.reductions in
     let vars : c.in_ok-vars.vars ≡ F.vars = rw c.forest-2.ensures at c.in_ok-vars.ensures in
     let datums : c.in_ok-data_vars.data_vars ≡ F.data_vars = rw c.forest-3.ensures at c.in_ok-data_vars.ensures in
-    let made : record { autos = c.in_ok-autos.autos; vars = c.in_ok-vars.vars; data_vars = c.in_ok-data_vars.data_vars } ≡ G face F c.in_ok-autos.autos h = ap₂ (λ (v : List Target) (d : List Datum). record { autos = c.in_ok-autos.autos; vars = v; data_vars = d }) vars datums in
+    let made : record { autos = c.in_ok-autos.autos; vars = c.in_ok-vars.vars; data_vars = c.in_ok-data_vars.data_vars }
+    ≡ G face F c.in_ok-autos.autos h =
+    ap₂ (λ (v : List Target) (d : List Datum). record { autos = c.in_ok-autos.autos; vars = v; data_vars = d })
+    vars datums in
     IfOk-weaker c.of.result (λ s. s.forest ≡ _) (λ s. Reduced s.forest)
     (λ s e. subst Reduced (sym (e ∙ made)) (is_reduced face F c.in_ok-autos.autos h))
     c.of.ensures.forest
@@ -87,7 +99,10 @@ returns-clause-plain g c =
     c.in_ok-autos.ensures.reductions in
     let vars : c.in_ok-vars.vars ≡ F.vars = rw c.forest-2.ensures at c.in_ok-vars.ensures in
     let datums : c.in_ok-data_vars.data_vars ≡ F.data_vars = rw c.forest-3.ensures at c.in_ok-data_vars.ensures in
-    let made : record { autos = c.in_ok-autos.autos; vars = c.in_ok-vars.vars; data_vars = c.in_ok-data_vars.data_vars } ≡ G face F c.in_ok-autos.autos h = ap₂ (λ (v : List Target) (d : List Datum). record { autos = c.in_ok-autos.autos; vars = v; data_vars = d }) vars datums in
+    let made : record { autos = c.in_ok-autos.autos; vars = c.in_ok-vars.vars; data_vars = c.in_ok-data_vars.data_vars }
+    ≡ G face F c.in_ok-autos.autos h =
+    ap₂ (λ (v : List Target) (d : List Datum). record { autos = c.in_ok-autos.autos; vars = v; data_vars = d })
+    vars datums in
     IfOk-weaker c.of.result (λ s. s.forest ≡ _) (λ s. Every HasNoBoxes s.forest.autos)
     (λ s e. subst (λ (z : Forest). Every HasNoBoxes z.autos) (sym (e ∙ made))
     (plain_made face F c.in_ok-autos.autos h c.in_ok-autos.ensures.ranked c.requires.plain))
@@ -101,7 +116,10 @@ returns-clause-canonical g c =
     c.in_ok-autos.ensures.reductions in
     let vars : c.in_ok-vars.vars ≡ F.vars = rw c.forest-2.ensures at c.in_ok-vars.ensures in
     let datums : c.in_ok-data_vars.data_vars ≡ F.data_vars = rw c.forest-3.ensures at c.in_ok-data_vars.ensures in
-    let made : record { autos = c.in_ok-autos.autos; vars = c.in_ok-vars.vars; data_vars = c.in_ok-data_vars.data_vars } ≡ G face F c.in_ok-autos.autos h = ap₂ (λ (v : List Target) (d : List Datum). record { autos = c.in_ok-autos.autos; vars = v; data_vars = d }) vars datums in
+    let made : record { autos = c.in_ok-autos.autos; vars = c.in_ok-vars.vars; data_vars = c.in_ok-data_vars.data_vars }
+    ≡ G face F c.in_ok-autos.autos h =
+    ap₂ (λ (v : List Target) (d : List Datum). record { autos = c.in_ok-autos.autos; vars = v; data_vars = d })
+    vars datums in
     both_ok c.of.result (λ s. s.forest ≡ _) (λ s. s.face ≡ _) (λ s. IsCanonical face F → IsCanonical s.face s.forest)
     (λ s e f can. subst (λ (x : Face). IsCanonical x s.forest) (sym (f ∙ c.face.ensures))
     (subst (IsCanonical face) (sym (e ∙ made)) (canonical_made face F c.in_ok-autos.autos h

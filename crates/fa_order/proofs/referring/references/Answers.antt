@@ -9,4 +9,5 @@ loop-root-preserved c =
     let low = c.loop-root-test.true in
     let size = rw c.forest.ensures at c.in_ok-count.ensures.value in
     let k = one_more c.args.forest.now.forest.autos c.loop-root.root (omega (arith, low, size)) in
-    rw (k.2, c.in_ok-push.ensures.ok) (paired_push AreRefsOf _ _ k.0 _ c.loop-root.invariant (c.in_ok-references.ensures k.0 k.1))
+    rw (k.2, c.in_ok-push.ensures.ok)
+    (paired_push AreRefsOf _ _ k.0 _ c.loop-root.invariant (c.in_ok-references.ensures k.0 k.1))

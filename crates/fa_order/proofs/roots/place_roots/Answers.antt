@@ -20,7 +20,9 @@ reorder-requires-clause-all c =
     let face = c.args.forest.now.face in
     let sound = c.known.ensures.sound in
     let ranked : Every IsRanked F.autos = c.known.ensures.ranked in
-    subst (IsOrderOf F) (sym c.as_slice.ensures) (is_order face F sound c.requires.plain (tight_reached face F sound c.requires.plain ranked c.requires.tight) c.in_ok-order.order c.in_ok-order.ensures)
+    subst (IsOrderOf F) (sym c.as_slice.ensures)
+    (is_order face F sound c.requires.plain (tight_reached face F sound c.requires.plain ranked c.requires.tight)
+    c.in_ok-order.order c.in_ok-order.ensures)
 
 pub returns-clause-canonical : goal.returns-clause-canonical
 returns-clause-canonical c =
@@ -29,10 +31,15 @@ returns-clause-canonical c =
     let sound = c.known.ensures.sound in
     let order = c.in_ok-order.order in
     let ranked : Every IsRanked F.autos = c.known.ensures.ranked in
-    let all : IsOrderOf F order = is_order face F sound c.requires.plain (tight_reached face F sound c.requires.plain ranked c.requires.tight) order c.in_ok-order.ensures in
-    both_ok c.reorder.result (λ s. s.forest ≡ reordered c.as_slice.result.now F) (λ s. s.face ≡ face) (λ s. IsCanonical s.face s.forest)
+    let all : IsOrderOf F order =
+    is_order face F sound c.requires.plain (tight_reached face F sound c.requires.plain ranked c.requires.tight)
+    order c.in_ok-order.ensures in
+    both_ok c.reorder.result (λ s. s.forest ≡ reordered c.as_slice.result.now F) (λ s. s.face ≡ face)
+    (λ s. IsCanonical s.face s.forest)
     (λ s value same.
-    subst (λ (x : Face). IsCanonical x s.forest) (sym same) (subst (IsCanonical face) (sym (value ∙ ap (λ (ks : List ℕ). reordered ks F) c.as_slice.ensures)) (placed_canonical face F sound ranked c.requires.plain c.requires.kinds order c.in_ok-order.ensures all)))
+    subst (λ (x : Face). IsCanonical x s.forest) (sym same)
+    (subst (IsCanonical face) (sym (value ∙ ap (λ (ks : List ℕ). reordered ks F) c.as_slice.ensures))
+    (placed_canonical face F sound ranked c.requires.plain c.requires.kinds order c.in_ok-order.ensures all)))
     c.reorder.ensures.value c.reorder.ensures.face
 
 pub returns-clause-value : goal.returns-clause-value
@@ -42,7 +49,9 @@ returns-clause-value c =
     let sound = c.known.ensures.sound in
     let order = c.in_ok-order.order in
     let ranked : Every IsRanked F.autos = c.known.ensures.ranked in
-    let all : IsOrderOf F order = is_order face F sound c.requires.plain (tight_reached face F sound c.requires.plain ranked c.requires.tight) order c.in_ok-order.ensures in
+    let all : IsOrderOf F order =
+    is_order face F sound c.requires.plain (tight_reached face F sound c.requires.plain ranked c.requires.tight)
+    order c.in_ok-order.ensures in
     IfOk-weaker c.reorder.result (λ s. s.forest ≡ reordered c.as_slice.result.now F) (λ s. IsPlaced F s.forest)
     (λ s value. (order, all, c.in_ok-order.ensures, value ∙ ap (λ (ks : List ℕ). reordered ks F) c.as_slice.ensures))
     c.reorder.ensures.value
@@ -54,9 +63,14 @@ returns-clause-plain c =
     let sound = c.known.ensures.sound in
     let order = c.in_ok-order.order in
     let ranked : Every IsRanked F.autos = c.known.ensures.ranked in
-    let all : IsOrderOf F order = is_order face F sound c.requires.plain (tight_reached face F sound c.requires.plain ranked c.requires.tight) order c.in_ok-order.ensures in
-    IfOk-weaker c.reorder.result (λ s. s.forest ≡ reordered c.as_slice.result.now F) (λ s. Every HasNoBoxes s.forest.autos)
-    (λ s value. subst (λ (x : Forest). Every HasNoBoxes x.autos) (sym (value ∙ ap (λ (ks : List ℕ). reordered ks F) c.as_slice.ensures)) (new_plain face F order all ranked c.requires.plain sound))
+    let all : IsOrderOf F order =
+    is_order face F sound c.requires.plain (tight_reached face F sound c.requires.plain ranked c.requires.tight)
+    order c.in_ok-order.ensures in
+    IfOk-weaker c.reorder.result (λ s. s.forest ≡ reordered c.as_slice.result.now F)
+    (λ s. Every HasNoBoxes s.forest.autos)
+    (λ s value. subst (λ (x : Forest). Every HasNoBoxes x.autos)
+    (sym (value ∙ ap (λ (ks : List ℕ). reordered ks F) c.as_slice.ensures))
+    (new_plain face F order all ranked c.requires.plain sound))
     c.reorder.ensures.value
 
 pub returns-clause-same : goal.returns-clause-same
@@ -64,6 +78,9 @@ returns-clause-same c =
     let F = c.args.forest.now.forest in
     let face = c.args.forest.now.face in
     let order = c.in_ok-order.order in
-    IfOk-weaker c.reorder.result (λ s. s.forest ≡ reordered c.as_slice.result.now F) (λ s. IsCanonical face F → s.forest ≡ F)
-    (λ s value can. value ∙ ap (λ (ks : List ℕ). reordered ks F) (c.as_slice.ensures ∙ in_order_walks face F c.known.ensures.sound c.requires.plain order c.in_ok-order.ensures can) ∙ reordered_same F)
+    IfOk-weaker c.reorder.result (λ s. s.forest ≡ reordered c.as_slice.result.now F)
+    (λ s. IsCanonical face F → s.forest ≡ F)
+    (λ s value can. value ∙ ap (λ (ks : List ℕ). reordered ks F)
+    (c.as_slice.ensures ∙ in_order_walks face F c.known.ensures.sound c.requires.plain order c.in_ok-order.ensures
+    can) ∙ reordered_same F)
     c.reorder.ensures.value

@@ -11,20 +11,26 @@ use Rattle.fa_order.proofs.roots.walk_order.Goals as goal
 pub walk-requires-clause-from : goal.walk-requires-clause-from
 walk-requires-clause-from c =
     let F = c.args.forest.now.forest in
-    let from : c.as_slice-2.result.now ≡ var_roots F.vars = rw (c.as_slice.ensures, c.forest.ensures) at (c.as_slice-2.ensures ∙ c.in_ok-from.ensures) in
-    let long : length F.autos ≡ length c.in_ok-refers.refers = paired_long AreRefsOf F.autos c.in_ok-refers.refers c.in_ok-refers.ensures in
+    let from : c.as_slice-2.result.now ≡ var_roots F.vars =
+    rw (c.as_slice.ensures, c.forest.ensures) at (c.as_slice-2.ensures ∙ c.in_ok-from.ensures) in
+    let long : length F.autos ≡ length c.in_ok-refers.refers =
+    paired_long AreRefsOf F.autos c.in_ok-refers.refers c.in_ok-refers.ensures in
     rw (from, ← long) (vars_below c.args.forest.now.face F c.known.ensures.sound)
 
 pub walk-requires-clause-refers : goal.walk-requires-clause-refers
 walk-requires-clause-refers c =
     let F = c.args.forest.now.forest in
-    let long : length F.autos ≡ length c.in_ok-refers.refers = paired_long AreRefsOf F.autos c.in_ok-refers.refers c.in_ok-refers.ensures in
-    rw (← long) (all_refs_below c.args.forest.now.face F c.known.ensures.sound c.in_ok-refers.refers c.in_ok-refers.ensures)
+    let long : length F.autos ≡ length c.in_ok-refers.refers =
+    paired_long AreRefsOf F.autos c.in_ok-refers.refers c.in_ok-refers.ensures in
+    rw (← long)
+    (all_refs_below c.args.forest.now.face F c.known.ensures.sound c.in_ok-refers.refers c.in_ok-refers.ensures)
 
 pub returns : goal.returns
 returns c =
     let F = c.args.forest.now.forest in
-    let from : c.as_slice-2.result.now ≡ var_roots F.vars = rw (c.as_slice.ensures, c.forest.ensures) at (c.as_slice-2.ensures ∙ c.in_ok-from.ensures) in
+    let from : c.as_slice-2.result.now ≡ var_roots F.vars =
+    rw (c.as_slice.ensures, c.forest.ensures) at (c.as_slice-2.ensures ∙ c.in_ok-from.ensures) in
     IfOk-weaker c.walk.result (Placing (nth_refs c.in_ok-refers.refers) c.as_slice-2.result.now []) (IsWalkOrder F)
-    (λ order w. is_walk F c.in_ok-refers.refers c.in_ok-refers.ensures order (subst (λ (z : List ℕ). Placing (nth_refs c.in_ok-refers.refers) z [] order) from w))
+    (λ order w. is_walk F c.in_ok-refers.refers c.in_ok-refers.ensures order
+    (subst (λ (z : List ℕ). Placing (nth_refs c.in_ok-refers.refers) z [] order) from w))
     c.walk.ensures

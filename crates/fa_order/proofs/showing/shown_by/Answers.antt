@@ -12,7 +12,8 @@ use Rattle.fa_order.proofs.showing.shown_by.Goals as goal
 pub shown_ends-requires-clause-below : goal.shown_ends-requires-clause-below
 shown_ends-requires-clause-below c =
     let a = c.args.auto.now in
-    rw c.as_slice.ensures (every_in (IsRankedRule a.states) a.rules c.args.rule.now c.known-2.ensures.1 c.requires.rule.0).1
+    rw c.as_slice.ensures
+    (every_in (IsRankedRule a.states) a.rules c.args.rule.now c.known-2.ensures.1 c.requires.rule.0).1
 
 pub shown_ends-requires-clause-trees : goal.shown_ends-requires-clause-trees
 shown_ends-requires-clause-trees c =
@@ -21,13 +22,19 @@ shown_ends-requires-clause-trees c =
     let autos = c.args.forest.now.forest.autos in
     let signed = signatures_at bs autos c.args.root a c.known.ensures.sound.well_formed.signatures c.requires.at in
     let some = every_in HasSome autos a c.known.ensures.sound.full (in_from_place autos c.args.root a c.requires.at) in
-    rw c.as_slice.ensures (children_have_trees bs a c.known-2.ensures c.requires.plain signed c.requires.top c.args.state c.requires.state c.args.rule.now c.requires.rule some)
+    rw c.as_slice.ensures
+    (children_have_trees bs a c.known-2.ensures c.requires.plain signed c.requires.top c.args.state c.requires.state
+    c.args.rule.now c.requires.rule some)
 
 pub returns : goal.returns
 returns c =
     let a = c.args.auto.now in
     let bs = c.args.forest.now.face.boxes in
-    let signed = signatures_at bs c.args.forest.now.forest.autos c.args.root a c.known.ensures.sound.well_formed.signatures c.requires.at in
-    top_shown bs a c.known-2.ensures c.requires.plain signed c.requires.top c.args.state c.requires.state c.args.rule.now c.requires.rule
+    let signed = signatures_at bs c.args.forest.now.forest.autos c.args.root a
+    c.known.ensures.sound.well_formed.signatures c.requires.at in
+    top_shown bs a c.known-2.ensures c.requires.plain signed c.requires.top c.args.state c.requires.state
+    c.args.rule.now c.requires.rule
     c.in_ok-marks.marks (λ t h. c.in_ok-marks.ensures ∙ c.signature.ensures.trees a t c.requires.at h)
-    c.in_ok-ends.ends (subst (λ (qs : List ℕ). Paired (IsShownEnd bs a.rules) qs c.in_ok-ends.ends) c.as_slice.ensures c.in_ok-ends.ensures)
+    c.in_ok-ends.ends
+    (subst (λ (qs : List ℕ). Paired (IsShownEnd bs a.rules) qs c.in_ok-ends.ends) c.as_slice.ensures
+    c.in_ok-ends.ensures)

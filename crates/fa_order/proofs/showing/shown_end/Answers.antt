@@ -8,7 +8,13 @@ use Rattle.fa_order.proofs.showing.shown_end.Goals as goal
 pub returns : goal.returns
 returns c =
     let bs = c.args.forest.now.face.boxes in
-    let signed = signatures_at bs c.args.forest.now.forest.autos c.args.root c.args.auto.now c.known.ensures.sound.well_formed.signatures c.requires.at in
-    let cell : c.has_cell_rule-leaf.result ≡ has_cell_rule c.args.inhabited.now c.args.state c.args.auto.now.rules = c.has_cell_rule-leaf.ensures ∙ ap (has_cell_rule c.args.inhabited.now c.args.state) (c.as_slice.ensures ∙ ap (λ (a : Automaton). a.rules) c.auto.view_is) in
-    rw cell (end_shown c.args.auto.now.rules c.args.auto.now.states c.args.inhabited.now c.requires.inhabited c.args.state bs (signed.states c.args.state) c.requires.tree c.in_ok-marks.marks
+    let signed = signatures_at bs c.args.forest.now.forest.autos c.args.root c.args.auto.now
+    c.known.ensures.sound.well_formed.signatures c.requires.at in
+    let cell : c.has_cell_rule-leaf.result ≡ has_cell_rule c.args.inhabited.now c.args.state c.args.auto.now.rules =
+    c.has_cell_rule-leaf.ensures
+    ∙ ap (has_cell_rule c.args.inhabited.now c.args.state)
+    (c.as_slice.ensures ∙ ap (λ (a : Automaton). a.rules) c.auto.view_is) in
+    rw cell
+    (end_shown c.args.auto.now.rules c.args.auto.now.states c.args.inhabited.now c.requires.inhabited c.args.state
+    bs (signed.states c.args.state) c.requires.tree c.in_ok-marks.marks
     (λ t h. c.in_ok-marks.ensures ∙ c.signature.ensures.trees c.args.auto.now t c.requires.at h))

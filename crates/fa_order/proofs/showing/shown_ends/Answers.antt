@@ -5,4 +5,6 @@ use Rattle.fa_order.proofs.showing.shown_ends.Goals as goal
 
 pub loop-state-preserved : goal.loop-state-preserved
 loop-state-preserved c =
-    rw (take_more c.args.states.now c.loop-state.state-index 0 c.loop-state-test.true, c.in_ok-push.ensures.ok) (paired_push (IsShownEnd c.args.forest.now.face.boxes c.args.auto.now.rules) _ _ _ _ c.loop-state.invariant c.in_ok-end.ensures)
+    rw (take_more c.args.states.now c.loop-state.state-index 0 c.loop-state-test.true, c.in_ok-push.ensures.ok)
+    (paired_push (IsShownEnd c.args.forest.now.face.boxes c.args.auto.now.rules) _ _ _ _ c.loop-state.invariant
+    c.in_ok-end.ensures)

@@ -16,13 +16,15 @@ pub shown_by-requires-clause-plain : goal.shown_by-requires-clause-plain
 shown_by-requires-clause-plain c =
     let autos = c.args.forest.now.forest.autos in
     let here : slice_get autos c.args.root ≡ Some c.at-auto.result.now = rw c.forest.ensures at c.at-auto.ensures in
-    every_in HasNoBoxes autos c.at-auto.result.now c.requires.plain (in_from_place autos c.args.root c.at-auto.result.now here)
+    every_in HasNoBoxes autos c.at-auto.result.now c.requires.plain
+    (in_from_place autos c.args.root c.at-auto.result.now here)
 
 pub shown_by-requires-clause-top : goal.shown_by-requires-clause-top
 shown_by-requires-clause-top c =
     let autos = c.args.forest.now.forest.autos in
     let here : slice_get autos c.args.root ≡ Some c.at-auto.result.now = rw c.forest.ensures at c.at-auto.ensures in
-    every_in HasOneTop autos c.at-auto.result.now c.requires.tops (in_from_place autos c.args.root c.at-auto.result.now here)
+    every_in HasOneTop autos c.at-auto.result.now c.requires.tops
+    (in_from_place autos c.args.root c.at-auto.result.now here)
 
 pub shown_by-requires-clause-rule : goal.shown_by-requires-clause-rule
 shown_by-requires-clause-rule c =
@@ -36,13 +38,16 @@ unreachable-requires c =
     let here : slice_get autos c.args.root ≡ Some a = rw c.forest.ensures at c.at-auto.ensures in
     let top = every_in HasOneTop autos a c.requires.tops (in_from_place autos c.args.root a here) in
     let rules = c.as_slice.ensures ∙ ap (λ (a : Automaton). a.rules) c.auto.view_is in
-    has_rule a top c.root_state-state.result c.root_state-state.ensures (subst (λ (rs : List Rule). HasNoRule rs c.root_state-state.result) rules c.in-None.ensures)
+    has_rule a top c.root_state-state.result c.root_state-state.ensures
+    (subst (λ (rs : List Rule). HasNoRule rs c.root_state-state.result) rules c.in-None.ensures)
 
 pub returns : goal.returns
 returns c =
     let bs = c.args.forest.now.face.boxes in
     let autos = c.args.forest.now.forest.autos in
     let here : slice_get autos c.args.root ≡ Some c.at-auto.result.now = rw c.forest.ensures at c.at-auto.ensures in
-    IfOk-weaker c.shown_by.result (IsShownBy bs c.at-auto.result.now) (λ s. (a : Automaton) → slice_get autos c.args.root ≡ Some a → IsShownBy bs a s)
-    (λ s h a e. subst (λ (z : Automaton). IsShownBy bs z s) (same_item autos c.args.root c.at-auto.result.now a here e) h)
+    IfOk-weaker c.shown_by.result (IsShownBy bs c.at-auto.result.now)
+    (λ s. (a : Automaton) → slice_get autos c.args.root ≡ Some a → IsShownBy bs a s)
+    (λ s h a e. subst (λ (z : Automaton). IsShownBy bs z s) (same_item autos c.args.root c.at-auto.result.now a here e)
+    h)
     c.shown_by.ensures

@@ -8,6 +8,7 @@ loop-place-preserved c = (
   (let l = c.loop-place.invariant.0 in omega (arith, l)),
   ap (λ (z : List ℕ). take (c.loop-place.place - 1) c.args.roots.now ++ behind z) c.in_ok-push.ensures.ok
       ∙ ap (λ (z : List ℕ). take (c.loop-place.place - 1) c.args.roots.now ++ z) (behind_last c.loop-place.stack _)
-      ∙ step_down c.args.roots.now c.loop-place.place (behind c.loop-place.stack) c.loop-place-test.true c.loop-place.invariant.0
+      ∙ step_down c.args.roots.now c.loop-place.place (behind c.loop-place.stack) c.loop-place-test.true
+      c.loop-place.invariant.0
       ∙ c.loop-place.invariant.1,
 )

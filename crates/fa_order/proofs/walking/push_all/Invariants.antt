@@ -3,4 +3,5 @@ use Rattle.fa_order.specs.inner.Stacks.{behind}
 use Rattle.fa_order.proofs.walking.push_all.Given as goal
 
 abbrev pub invariant-loop-place : goal.invariant-loop-place
-invariant-loop-place l = (l.place ≤ length l.roots) × (take l.place l.roots ++ behind l.stack ≡ l.roots ++ behind l.initial.stack)
+invariant-loop-place l = (l.place ≤ length l.roots)
+    × (take l.place l.roots ++ behind l.stack ≡ l.roots ++ behind l.initial.stack)

@@ -6,13 +6,24 @@ use Rattle.fa_order.proofs.Weights.{visit_old, visit_new, refs_below}
 use Rattle.fa_order.proofs.walking.visit.Goals as goal
 
 pub returns-then-is_in-clause-goes : goal.returns-then-is_in-clause-goes
-returns-then-is_in-clause-goes c = (visit_old c.args.refers.now c.args.root (behind c.args.stack.now) c.args.placed.now (ap (has c.args.root) (sym c.as_slice.ensures) ∙ sym c.if-is_in.ensures)).0
+returns-then-is_in-clause-goes c =
+    (visit_old c.args.refers.now c.args.root (behind c.args.stack.now) c.args.placed.now
+    (ap (has c.args.root) (sym c.as_slice.ensures) ∙ sym c.if-is_in.ensures)).0
 
 pub returns-in_ok-push_refs-clause-goes : goal.returns-in_ok-push_refs-clause-goes
-returns-in_ok-push_refs-clause-goes c = rw (c.in_ok-push_refs.ensures, c.in_ok-push.ensures.ok) (visit_new c.args.refers.now c.args.root (behind c.args.stack.now) c.args.placed.now c.requires (ap (has c.args.root) (sym c.as_slice.ensures) ∙ sym c.if-is_in.ensures)).0
+returns-in_ok-push_refs-clause-goes c =
+    rw (c.in_ok-push_refs.ensures, c.in_ok-push.ensures.ok)
+    (visit_new c.args.refers.now c.args.root (behind c.args.stack.now) c.args.placed.now c.requires
+    (ap (has c.args.root) (sym c.as_slice.ensures) ∙ sym c.if-is_in.ensures)).0
 
 pub returns-in_ok-push_refs-clause-falls : goal.returns-in_ok-push_refs-clause-falls
-returns-in_ok-push_refs-clause-falls c = rw (c.in_ok-push_refs.ensures, c.in_ok-push.ensures.ok) (visit_new c.args.refers.now c.args.root (behind c.args.stack.now) c.args.placed.now c.requires (ap (has c.args.root) (sym c.as_slice.ensures) ∙ sym c.if-is_in.ensures)).1
+returns-in_ok-push_refs-clause-falls c =
+    rw (c.in_ok-push_refs.ensures, c.in_ok-push.ensures.ok)
+    (visit_new c.args.refers.now c.args.root (behind c.args.stack.now) c.args.placed.now c.requires
+    (ap (has c.args.root) (sym c.as_slice.ensures) ∙ sym c.if-is_in.ensures)).1
 
 pub returns-in_ok-push_refs-clause-below : goal.returns-in_ok-push_refs-clause-below
-returns-in_ok-push_refs-clause-below c = λ f s. rw c.in_ok-push_refs.ensures (below_both (length c.args.refers.now) (nth_refs c.args.refers.now c.args.root) (behind c.args.stack.now) (refs_below (length c.args.refers.now) c.args.refers.now c.args.root f) s)
+returns-in_ok-push_refs-clause-below c =
+    λ f s. rw c.in_ok-push_refs.ensures
+    (below_both (length c.args.refers.now) (nth_refs c.args.refers.now c.args.root) (behind c.args.stack.now)
+    (refs_below (length c.args.refers.now) c.args.refers.now c.args.root f) s)

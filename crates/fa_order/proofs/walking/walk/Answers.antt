@@ -7,20 +7,32 @@ use Rattle.fa_order.proofs.walking.walk.Goals as goal
 
 pub visit-requires : goal.visit-requires
 visit-requires c =
-    let e : behind c.loop-root.stack ≡ c.in-Some.root ∷ behind c.pop.new.self = ap behind c.in-Some.ensures ∙ behind_last c.pop.new.self c.in-Some.root in
-    let s : AllBelow (length c.args.refers.now) (c.in-Some.root ∷ behind c.pop.new.self) = subst (AllBelow (length c.args.refers.now)) e c.loop-root.invariant.1 in
+    let e : behind c.loop-root.stack ≡ c.in-Some.root ∷ behind c.pop.new.self = ap behind c.in-Some.ensures
+    ∙ behind_last c.pop.new.self c.in-Some.root in
+    let s : AllBelow (length c.args.refers.now) (c.in-Some.root ∷ behind c.pop.new.self) =
+    subst (AllBelow (length c.args.refers.now)) e c.loop-root.invariant.1 in
     s.0
 
 pub loop-root-smaller : goal.loop-root-smaller
 loop-root-smaller c =
-    let e : behind c.loop-root.stack ≡ c.in-Some.root ∷ behind c.pop.new.self = ap behind c.in-Some.ensures ∙ behind_last c.pop.new.self c.in-Some.root in
-    subst (λ (z : List ℕ). weight c.args.refers.now (behind c.visit.new.stack) c.visit.new.placed < weight c.args.refers.now z c.loop-root.placed) (sym e) c.in_ok-visit.ensures.falls
+    let e : behind c.loop-root.stack ≡ c.in-Some.root ∷ behind c.pop.new.self = ap behind c.in-Some.ensures
+    ∙ behind_last c.pop.new.self c.in-Some.root in
+    subst (λ (z : List ℕ). weight c.args.refers.now (behind c.visit.new.stack) c.visit.new.placed
+    < weight c.args.refers.now z c.loop-root.placed) (sym e) c.in_ok-visit.ensures.falls
 
 pub loop-root-preserved : goal.loop-root-preserved
 loop-root-preserved c =
-    let e : behind c.loop-root.stack ≡ c.in-Some.root ∷ behind c.pop.new.self = ap behind c.in-Some.ensures ∙ behind_last c.pop.new.self c.in-Some.root in
-    let s : AllBelow (length c.args.refers.now) (c.in-Some.root ∷ behind c.pop.new.self) = subst (AllBelow (length c.args.refers.now)) e c.loop-root.invariant.1 in
-    ((λ order w. c.loop-root.invariant.0 order (subst (λ (z : List ℕ). Placing (nth_refs c.args.refers.now) z c.loop-root.placed order) (sym e) (c.in_ok-visit.ensures.goes order w))), c.in_ok-visit.ensures.below c.requires.refers s.1)
+    let e : behind c.loop-root.stack ≡ c.in-Some.root ∷ behind c.pop.new.self = ap behind c.in-Some.ensures
+    ∙ behind_last c.pop.new.self c.in-Some.root in
+    let s : AllBelow (length c.args.refers.now) (c.in-Some.root ∷ behind c.pop.new.self) =
+    subst (AllBelow (length c.args.refers.now)) e c.loop-root.invariant.1 in (
+      (λ order w. c.loop-root.invariant.0 order
+          (subst (λ (z : List ℕ). Placing (nth_refs c.args.refers.now) z c.loop-root.placed order) (sym e)
+          (c.in_ok-visit.ensures.goes order w))),
+      c.in_ok-visit.ensures.below c.requires.refers s.1,
+    )
 
 pub returns : goal.returns
-returns c = c.loop-root.invariant.0 c.loop-root.placed (subst (λ (z : List ℕ). Placing (nth_refs c.args.refers.now) (behind z) c.loop-root.placed c.loop-root.placed) (sym c.in_default.ensures.0) all_placed)
+returns c = c.loop-root.invariant.0 c.loop-root.placed
+    (subst (λ (z : List ℕ). Placing (nth_refs c.args.refers.now) (behind z) c.loop-root.placed c.loop-root.placed)
+    (sym c.in_default.ensures.0) all_placed)

@@ -5,7 +5,9 @@ use Rattle.fa_order.specs.inner.Stacks.{behind, nth_refs, weight}
 use Rattle.fa_order.proofs.walking.walk.Given as goal
 
 abbrev pub invariant-loop-root : goal.invariant-loop-root
-invariant-loop-root l = ((order : List ℕ) → Placing (nth_refs l.refers) (behind l.stack) l.placed order → Placing (nth_refs l.refers) l.from [] order) × AllBelow (length l.refers) (behind l.stack)
+invariant-loop-root l =
+    ((order : List ℕ) → Placing (nth_refs l.refers) (behind l.stack) l.placed order
+    → Placing (nth_refs l.refers) l.from [] order) × AllBelow (length l.refers) (behind l.stack)
 
 abbrev pub decreases-loop-root : goal.decreases-loop-root
 decreases-loop-root l = weight l.refers (behind l.stack) l.placed

@@ -6,4 +6,7 @@ use Rattle.fa_sample.proofs.picking.pick_trees.Goals as goal
 pub loop-auto-preserved : goal.loop-auto-preserved
 loop-auto-preserved c =
     let e = take_item c.args.autos.now c.loop-auto.auto-index c.auto-item.result c.loop-auto-test.true c.auto-item.is in
-    rw (e, c.in_ok-push.ensures.ok) (choice_push _ _ _ _ c.loop-auto.invariant.0 c.in_ok-tree.ensures.tree, every_push IsRanked _ _ c.loop-auto.invariant.1 c.in_ok-tree.ensures.ranked)
+    rw (e, c.in_ok-push.ensures.ok) (
+      choice_push _ _ _ _ c.loop-auto.invariant.0 c.in_ok-tree.ensures.tree,
+      every_push IsRanked _ _ c.loop-auto.invariant.1 c.in_ok-tree.ensures.ranked,
+    )

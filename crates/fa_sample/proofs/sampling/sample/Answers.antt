@@ -6,4 +6,6 @@ returns c =
     let k = rw (c.as_slice.ensures, c.forest.ensures) at c.in_ok-trees.ensures.choice in
     let r = rw (c.as_slice.ensures, c.forest.ensures) at c.in_ok-trees.ensures.ranked in
     let s = rw (c.as_slice-2.ensures, c.forest-2.ensures) at c.in_ok-store.ensures in
-    rw s (choice_stands c.args.forest.now.face c.args.table.now.defs c.args.forest.now.forest c.known.ensures.sound.well_formed.filled r c.requires.plain _ k)
+    rw s
+    (choice_stands c.args.forest.now.face c.args.table.now.defs c.args.forest.now.forest
+    c.known.ensures.sound.well_formed.filled r c.requires.plain _ k)

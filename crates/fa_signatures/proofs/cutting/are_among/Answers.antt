@@ -12,7 +12,8 @@ returns-then-are_same c =
 
 pub loop-other-preserved : goal.loop-other-preserved
 loop-other-preserved c =
-    let t = take_item c.args.all.now c.loop-other.other-index c.other-item.result c.loop-other-test.true c.other-item.is in
+    let t = take_item c.args.all.now c.loop-other.other-index c.other-item.result c.loop-other-test.true c.other-item.is
+    in
     let s = rw c.as_slice.ensures at c.are_same.ensures in
     rw t (λ i. elim (in_push c.other-item.result c.args.marks.now _ i) [
       | inl j ↦ c.loop-other.invariant j

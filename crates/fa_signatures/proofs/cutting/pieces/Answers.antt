@@ -15,7 +15,9 @@ loop-marks-preserved c =
     elim c.match-branch-2.branch [
       | in-Some+in_ok-push w ↦ (
           let p = rw (w.in-Some.is, c.as_slice.ensures) at c.in_ok-piece.ensures in
-          rw (t, w.pieces-is, w.in_ok-push.ensures.ok) (λ bs h. cut_push bs a done c.loop-marks.pieces (c.loop-marks.invariant bs h) m w.in-Some.piece new (p bs h).0 (p bs h).1))
+          rw (t, w.pieces-is, w.in_ok-push.ensures.ok)
+          (λ bs h. cut_push bs a done c.loop-marks.pieces (c.loop-marks.invariant bs h) m w.in-Some.piece new
+          (p bs h).0 (p bs h).1))
       | in_default w ↦ (
           let p = rw (w.in_default.is, c.as_slice.ensures) at c.in_ok-piece.ensures in
           rw (t, w.pieces-is) (λ bs h. cut_skip bs a done c.loop-marks.pieces (c.loop-marks.invariant bs h) m (p bs h)))

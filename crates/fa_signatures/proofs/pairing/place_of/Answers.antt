@@ -2,7 +2,8 @@ use Rattle.std.proofs.Common.{inl, inr, true≢false, sym, ap, ◌∙◌}
 use Rattle.fore_base.proofs.ListLemmas.{in_push, take_item}
 use Rattle.fa_signatures.specs.inner.CutPairs.{Pair}
 use Rattle.fa_signatures.proofs.pairing.place_of.Goals as goal
-use Rattle.fa_signatures.proofs.pairing.place_of.Goals.{else-pair-state-via-then-pair-state+else-are_same, else-pair-state-via-else-pair-state}
+use Rattle.fa_signatures.proofs.pairing.place_of.Goals.{else-pair-state-via-then-pair-state+else-are_same}
+use Rattle.fa_signatures.proofs.pairing.place_of.Goals.{else-pair-state-via-else-pair-state}
 
 pub loop-place-preserved : goal.loop-place-preserved
 loop-place-preserved c =

@@ -12,7 +12,10 @@ loop-rule-preserved c =
     let done = take c.loop-rule.rule-index c.args.rules.now in
     let t = take_item c.args.rules.now c.loop-rule.rule-index r c.loop-rule-test.true c.rule-item.is in
     rw t (record {
-      grows = grows_on p c.loop-rule.pairs c.take_rule.new.pairs (ArePairRules bs p done c.loop-rule.over) (ArePairRules bs p (done ++ r ∷ []) c.take_rule.new.over) (λ (ps : List Pair). AddsRules bs ps r c.loop-rule.over c.take_rule.new.over)
-          c.loop-rule.invariant.grows c.in_ok-take_rule.ensures.grows (rules_push p bs done r c.loop-rule.over c.take_rule.new.over);
+      grows = grows_on p c.loop-rule.pairs c.take_rule.new.pairs (ArePairRules bs p done c.loop-rule.over)
+          (ArePairRules bs p (done ++ r ∷ []) c.take_rule.new.over)
+          (λ (ps : List Pair). AddsRules bs ps r c.loop-rule.over c.take_rule.new.over)
+          c.loop-rule.invariant.grows c.in_ok-take_rule.ensures.grows
+          (rules_push p bs done r c.loop-rule.over c.take_rule.new.over);
       apart = λ d. c.in_ok-take_rule.ensures.apart (c.loop-rule.invariant.apart d);
     })

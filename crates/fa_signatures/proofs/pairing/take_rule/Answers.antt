@@ -11,4 +11,8 @@ returns-clause-grows c =
     let r = c.args.rule.now in
     let h = rw (c.as_slice.ensures, c.as_slice-2.ensures) at c.in_ok-options.ensures in
     let g = rw (c.as_slice-4.ensures, c.in_ok-choices.ensures, c.as_slice-3.ensures) at c.add_rules.ensures.grows in
-    on_ok_weaker c.add_rules.result (λ w. grows_to p c.add_rules.new.pairs (AddsEach bs p r (product c.in_ok-options.options) c.args.over.now c.add_rules.new.over) (AddsRules bs p r c.args.over.now c.add_rules.new.over) w (adds_rules p bs r c.in_ok-options.options c.args.over.now c.add_rules.new.over h)) g
+    on_ok_weaker c.add_rules.result
+    (λ w. grows_to p c.add_rules.new.pairs
+    (AddsEach bs p r (product c.in_ok-options.options) c.args.over.now c.add_rules.new.over)
+    (AddsRules bs p r c.args.over.now c.add_rules.new.over) w
+    (adds_rules p bs r c.in_ok-options.options c.args.over.now c.add_rules.new.over h)) g

@@ -6,8 +6,12 @@ use Rattle.fa_signatures.proofs.parts.forests.Goals as goal
 
 pub loop-autos-preserved : goal.loop-autos-preserved
 loop-autos-preserved c =
-    let t = take_item c.args.choices.now c.loop-autos.autos-index c.autos-item.result c.loop-autos-test.true c.autos-item.is in
+    let t = take_item c.args.choices.now c.loop-autos.autos-index c.autos-item.result c.loop-autos-test.true
+    c.autos-item.is in
     rw (t, c.in_ok-push.ensures.ok) (record {
-      face = every_push (λ (s : SoundForest). s.face ≡ c.args.face.now) c.loop-autos.list c.in_ok-made.made c.loop-autos.invariant.face c.in_ok-made.ensures.face;
-      forests = forests_push c.args.forest.now c.loop-autos.list c.in_ok-made.made (take c.loop-autos.autos-index c.args.choices.now) c.autos-item.result c.loop-autos.invariant.forests c.in_ok-made.ensures.forest;
+      face = every_push (λ (s : SoundForest). s.face ≡ c.args.face.now) c.loop-autos.list c.in_ok-made.made
+          c.loop-autos.invariant.face c.in_ok-made.ensures.face;
+      forests = forests_push c.args.forest.now c.loop-autos.list c.in_ok-made.made
+          (take c.loop-autos.autos-index c.args.choices.now) c.autos-item.result c.loop-autos.invariant.forests
+          c.in_ok-made.ensures.forest;
     })

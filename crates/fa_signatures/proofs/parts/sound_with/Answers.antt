@@ -2,7 +2,8 @@ use Rattle.fa_signatures.proofs.CutLaws.{pieces_plain, pieces_sound}
 use Rattle.fa_signatures.proofs.parts.sound_with.Goals as goal
 
 pub make-requires : goal.make-requires
-make-requires c = rw c.in_ok-made.ensures (pieces_plain c.args.face.now c.args.forest.now c.args.autos.now c.requires.pieces c.requires.plain)
+make-requires c = rw c.in_ok-made.ensures
+    (pieces_plain c.args.face.now c.args.forest.now c.args.autos.now c.requires.pieces c.requires.plain)
 
 pub unreachable-requires : goal.unreachable-requires
 unreachable-requires c =

@@ -15,33 +15,38 @@ pub returns-clause-regroups : goal.returns-clause-regroups
 returns-clause-regroups c =
     let F = c.args.forest.now in
     let fs = c.args.face.now.boxes in
-    IfOk-weaker c.sound_forests.result (λ (list : List SoundForest). AreCutForests fs F (forests list)) (λ (list : List SoundForest). Every (λ (s : SoundForest). (T : List BoxDef) → Regroups T F s.forest) list)
+    IfOk-weaker c.sound_forests.result (λ (list : List SoundForest). AreCutForests fs F (forests list))
+    (λ (list : List SoundForest). Every (λ (s : SoundForest). (T : List BoxDef) → Regroups T F s.forest) list)
     (λ list h. regroups_all fs F list h) c.sound_forests.ensures.cut
 
 pub returns-clause-lost : goal.returns-clause-lost
 returns-clause-lost c =
     let F = c.args.forest.now in
     let fs = c.args.face.now.boxes in
-    IfOk-weaker c.sound_forests.result (λ (list : List SoundForest). AreCutForests fs F (forests list)) (λ (list : List SoundForest). (T : List BoxDef) → RegroupsInto T F (forests list))
+    IfOk-weaker c.sound_forests.result (λ (list : List SoundForest). AreCutForests fs F (forests list))
+    (λ (list : List SoundForest). (T : List BoxDef) → RegroupsInto T F (forests list))
     (λ list h. λ T. cut_into fs F T (forests list) h) c.sound_forests.ensures.cut
 
 pub returns-clause-members : goal.returns-clause-members
 returns-clause-members c =
     let F = c.args.forest.now in
     let fs = c.args.face.now.boxes in
-    IfOk-weaker c.sound_forests.result (λ (list : List SoundForest). AreCutForests fs F (forests list)) (λ (list : List SoundForest). IsUnionOf F (forests list))
+    IfOk-weaker c.sound_forests.result (λ (list : List SoundForest). AreCutForests fs F (forests list))
+    (λ (list : List SoundForest). IsUnionOf F (forests list))
     (λ list h. cut_union fs F (forests list) h) c.sound_forests.ensures.cut
 
 pub returns-clause-plain : goal.returns-clause-plain
 returns-clause-plain c =
     let F = c.args.forest.now in
     let fs = c.args.face.now.boxes in
-    IfOk-weaker c.sound_forests.result (λ (list : List SoundForest). AreCutForests fs F (forests list)) (λ (list : List SoundForest). Every (λ (s : SoundForest). Every HasNoBoxes s.forest.autos) list)
+    IfOk-weaker c.sound_forests.result (λ (list : List SoundForest). AreCutForests fs F (forests list))
+    (λ (list : List SoundForest). Every (λ (s : SoundForest). Every HasNoBoxes s.forest.autos) list)
     (λ list h. plain_all fs F list c.requires.plain h) c.sound_forests.ensures.cut
 
 pub returns-clause-empty : goal.returns-clause-empty
 returns-clause-empty c =
     let F = c.args.forest.now in
     let fs = c.args.face.now.boxes in
-    IfOk-weaker c.sound_forests.result (λ (list : List SoundForest). AreCutForests fs F (forests list)) (λ (list : List SoundForest). (a : Automaton) → IsIn a F.autos → IsBarren a → list ≡ [])
+    IfOk-weaker c.sound_forests.result (λ (list : List SoundForest). AreCutForests fs F (forests list))
+    (λ (list : List SoundForest). (a : Automaton) → IsIn a F.autos → IsBarren a → list ≡ [])
     (λ list h. λ a i e. cut_empty fs F list a h i e) c.sound_forests.ensures.cut

@@ -15,7 +15,8 @@ pub returns-clause-plain : goal.returns-clause-plain
 returns-clause-plain c =
     let F = c.args.forest.now.forest in
     let ranked : Every IsRanked F.autos = c.known.ensures.ranked in
-    all_plain F c.args.root ranked c.requires.root c.requires.plain (forests c.in_ok-made.made) c.in_ok-made.ensures.value
+    all_plain F c.args.root ranked c.requires.root c.requires.plain (forests c.in_ok-made.made)
+    c.in_ok-made.ensures.value
 
 pub returns-clause-tops : goal.returns-clause-tops
 returns-clause-tops c =
@@ -45,4 +46,6 @@ pub returns-clause-members : goal.returns-clause-members
 returns-clause-members c =
     let F = c.args.forest.now.forest in
     let ranked : Every IsRanked F.autos = c.known.ensures.ranked in
-    union_of F (forests c.in_ok-made.made) (λ T. all_regroup F c.args.root ranked c.requires.root T (forests c.in_ok-made.made) c.in_ok-made.ensures.value) (λ T. all_whole F c.args.root ranked c.requires.root T (forests c.in_ok-made.made) c.in_ok-made.ensures.value)
+    union_of F (forests c.in_ok-made.made)
+    (λ T. all_regroup F c.args.root ranked c.requires.root T (forests c.in_ok-made.made) c.in_ok-made.ensures.value)
+    (λ T. all_whole F c.args.root ranked c.requires.root T (forests c.in_ok-made.made) c.in_ok-made.ensures.value)

@@ -6,6 +6,11 @@ pub returns-then-not-is_of_leaf : goal.returns-then-not-is_of_leaf
 returns-then-not-is_of_leaf c =
     let no_leaf = sym c.is_of_leaf.ensures ∙ c.if-not-is_of_leaf.true in
     let marked = rw c.as_slice.ensures at c.are_all_marked.ensures in (
-      (λ t. (c.if-rule-state.false, no_leaf, marks_trees c.args.all.now c.args.count c.args.marks.now c.args.rule.now.children c.requires (sym marked ∙ t))),
+      (λ t. (
+        c.if-rule-state.false,
+        no_leaf,
+        marks_trees c.args.all.now c.args.count c.args.marks.now c.args.rule.now.children c.requires
+            (sym marked ∙ t),
+      )),
       (λ h. marked ∙ trees_marks c.args.all.now c.args.count c.args.marks.now c.args.rule.now.children c.requires h.2),
     )

@@ -16,7 +16,8 @@ pub returns-clause-plain : goal.returns-clause-plain
 returns-clause-plain c =
     let F = c.args.forest.now.forest in
     let ranked : Every IsRanked F.autos = c.known.ensures.ranked in
-    all_plain F c.args.root c.args.place ranked c.requires.can c.args.forest.now.face c.known.ensures.sound c.requires.plain (forests c.in_ok-made.made) c.in_ok-made.ensures.value
+    all_plain F c.args.root c.args.place ranked c.requires.can c.args.forest.now.face c.known.ensures.sound
+    c.requires.plain (forests c.in_ok-made.made) c.in_ok-made.ensures.value
 
 pub returns-clause-tops : goal.returns-clause-tops
 returns-clause-tops c =
@@ -28,25 +29,32 @@ pub returns-clause-dressed : goal.returns-clause-dressed
 returns-clause-dressed c =
     let F = c.args.forest.now.forest in
     let ranked : Every IsRanked F.autos = c.known.ensures.ranked in
-    (λ T. all_dressed F c.args.root c.args.place ranked c.requires.can T (forests c.in_ok-made.made) c.in_ok-made.ensures.value)
+    (λ T. all_dressed F c.args.root c.args.place ranked c.requires.can T (forests c.in_ok-made.made)
+    c.in_ok-made.ensures.value)
 
 pub returns-clause-regroups : goal.returns-clause-regroups
 returns-clause-regroups c =
     let F = c.args.forest.now.forest in
     let ranked : Every IsRanked F.autos = c.known.ensures.ranked in
     let well = refers_well c.args.forest.now.face F c.known.ensures.sound in
-    (λ T. all_regroup F c.args.root c.args.place ranked c.requires.can well T (forests c.in_ok-made.made) c.in_ok-made.ensures.value)
+    (λ T. all_regroup F c.args.root c.args.place ranked c.requires.can well T (forests c.in_ok-made.made)
+    c.in_ok-made.ensures.value)
 
 pub returns-clause-whole : goal.returns-clause-whole
 returns-clause-whole c =
     let F = c.args.forest.now.forest in
     let ranked : Every IsRanked F.autos = c.known.ensures.ranked in
     let well = refers_well c.args.forest.now.face F c.known.ensures.sound in
-    (λ T. all_whole F c.args.root c.args.place ranked c.requires.can well T (forests c.in_ok-made.made) c.in_ok-made.ensures.value)
+    (λ T. all_whole F c.args.root c.args.place ranked c.requires.can well T (forests c.in_ok-made.made)
+    c.in_ok-made.ensures.value)
 
 pub returns-clause-members : goal.returns-clause-members
 returns-clause-members c =
     let F = c.args.forest.now.forest in
     let ranked : Every IsRanked F.autos = c.known.ensures.ranked in
     let well = refers_well c.args.forest.now.face F c.known.ensures.sound in
-    union_of F (forests c.in_ok-made.made) (λ T. all_regroup F c.args.root c.args.place ranked c.requires.can well T (forests c.in_ok-made.made) c.in_ok-made.ensures.value) (λ T. all_whole F c.args.root c.args.place ranked c.requires.can well T (forests c.in_ok-made.made) c.in_ok-made.ensures.value)
+    union_of F (forests c.in_ok-made.made)
+    (λ T. all_regroup F c.args.root c.args.place ranked c.requires.can well T (forests c.in_ok-made.made)
+    c.in_ok-made.ensures.value)
+    (λ T. all_whole F c.args.root c.args.place ranked c.requires.can well T (forests c.in_ok-made.made)
+    c.in_ok-made.ensures.value)

@@ -5,7 +5,12 @@ use Rattle.fa_split.proofs.Steps.{split_more}
 use Rattle.fa_split.proofs.splitting.with_leaves.Goals as goal
 
 pub with_leaf-requires-clause-may : goal.with_leaf-requires-clause-may
-with_leaf-requires-clause-may c = every_get (MayBeLeaf c.args.forest.now.forest c.args.root c.args.place) c.args.leaves.now c.loop-leaf.leaf-index Null c.requires.may c.loop-leaf-test.true
+with_leaf-requires-clause-may c =
+    every_get (MayBeLeaf c.args.forest.now.forest c.args.root c.args.place) c.args.leaves.now c.loop-leaf.leaf-index
+    Null c.requires.may c.loop-leaf-test.true
 
 pub loop-leaf-preserved : goal.loop-leaf-preserved
-loop-leaf-preserved c = rw c.in_ok-push.ensures.ok (split_more c.args.forest.now.forest c.args.root c.args.place c.args.forest.now.face c.args.leaves.now c.loop-leaf.leaf-index c.loop-leaf.made c.in_ok-with_leaf.field-0 c.loop-leaf-test.true c.loop-leaf.invariant c.in_ok-with_leaf.ensures.forest c.in_ok-with_leaf.ensures.face)
+loop-leaf-preserved c = rw c.in_ok-push.ensures.ok
+    (split_more c.args.forest.now.forest c.args.root c.args.place c.args.forest.now.face c.args.leaves.now
+    c.loop-leaf.leaf-index c.loop-leaf.made c.in_ok-with_leaf.field-0 c.loop-leaf-test.true c.loop-leaf.invariant
+    c.in_ok-with_leaf.ensures.forest c.in_ok-with_leaf.ensures.face)

@@ -15,7 +15,9 @@ of-requires-clause-plain c =
     let made : c.in_ok-made.made ≡ split_cells F c.args.root c.args.place = c.in_ok-made.ensures ∙ ap
     (λ (z : Forest). split_cells z c.args.root c.args.place) c.forest.ensures in
     let ranked : Every IsRanked F.autos = c.known.ensures.ranked in
-    subst (λ (z : Forest). Every HasNoBoxes z.autos) (sym made) (cells_plain c.args.forest.now.face F c.args.root c.args.place ranked c.requires.plain c.requires.can c.known.ensures.sound c.requires.may)
+    subst (λ (z : Forest). Every HasNoBoxes z.autos) (sym made)
+    (cells_plain c.args.forest.now.face F c.args.root c.args.place ranked c.requires.plain c.requires.can
+    c.known.ensures.sound c.requires.may)
 
 pub of-requires-clause-sound : goal.of-requires-clause-sound
 of-requires-clause-sound c =
@@ -23,7 +25,10 @@ of-requires-clause-sound c =
     let made : c.in_ok-made.made ≡ split_cells F c.args.root c.args.place = c.in_ok-made.ensures ∙ ap
     (λ (z : Forest). split_cells z c.args.root c.args.place) c.forest.ensures in
     let ranked : Every IsRanked F.autos = c.known.ensures.ranked in
-    rw c.face.ensures (subst (λ (z : Forest). IsSound c.args.forest.now.face z) (sym made) (cells_sound c.args.forest.now.face F c.args.root c.args.place ranked c.requires.plain c.requires.can c.known.ensures.sound c.requires.may))
+    rw c.face.ensures
+    (subst (λ (z : Forest). IsSound c.args.forest.now.face z) (sym made)
+    (cells_sound c.args.forest.now.face F c.args.root c.args.place ranked c.requires.plain c.requires.can
+    c.known.ensures.sound c.requires.may))
 
 pub returns-clause-forest : goal.returns-clause-forest
 returns-clause-forest c =

@@ -10,4 +10,5 @@ pub returns : goal.returns
 returns c = λ x i.
     let past = c.loop-rule-test.false in
     every_in (λ (z : Rule). has z.state c.args.states.now ≡ false) c.args.rules.now x
-    (subst (λ (xs : List Rule). Every (λ (z : Rule). has z.state c.args.states.now ≡ false) xs) (take_all c.loop-rule.rule-index c.args.rules.now (omega (arith, past))) c.loop-rule.invariant.1) i
+    (subst (λ (xs : List Rule). Every (λ (z : Rule). has z.state c.args.states.now ≡ false) xs)
+    (take_all c.loop-rule.rule-index c.args.rules.now (omega (arith, past))) c.loop-rule.invariant.1) i

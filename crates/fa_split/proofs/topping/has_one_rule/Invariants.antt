@@ -3,4 +3,5 @@ use Rattle.fa_split.specs.inner.Counted.{rules_at}
 use Rattle.fa_split.proofs.topping.has_one_rule.Given as goal
 
 abbrev pub invariant-loop-rule : goal.invariant-loop-rule
-invariant-loop-rule l = rules_at l.state (drop l.rule-index l.rules) + (if l.found then 1 else 0) ≡ rules_at l.state l.rules
+invariant-loop-rule l = rules_at l.state (drop l.rule-index l.rules) + (if l.found then 1 else 0)
+    ≡ rules_at l.state l.rules

@@ -8,4 +8,5 @@ pub unreachable-requires : goal.unreachable-requires
 unreachable-requires c =
     let a = c.args.auto.now in
     let none = rw (c.rules_of.ensures, c.roots_of.ensures) at c.in-None.ensures in
-    true≢false (sym (in_has (top_rule a).state a.roots (top_root a c.requires)) ∙ none (top_rule a) (top_in a c.requires))
+    true≢false (sym (in_has (top_rule a).state a.roots (top_root a c.requires))
+    ∙ none (top_rule a) (top_in a c.requires))

@@ -7,12 +7,16 @@ pub returns-then-is_loop_head : goal.returns-then-is_loop_head
 returns-then-is_loop_head g c =
     let t = c.args.task.now in
     let e = c.args.edge.now in
-    let head : is_head t.graph e.to ≡ true = sym (c.is_loop_head.ensures ∙ ap (λ z. slice_index_or z.heads e.to false) c.graph.ensures) ∙ c.if-is_loop_head.true in
+    let head : is_head t.graph e.to ≡ true =
+    sym (c.is_loop_head.ensures ∙ ap (λ z. slice_index_or z.heads e.to false) c.graph.ensures)
+    ∙ c.if-is_loop_head.true in
     if_settled t.table t.graph t.height e c.args.cases.now c.settle_all.result head c.settle_all.ensures
 
 pub returns-else-is_loop_head : goal.returns-else-is_loop_head
 returns-else-is_loop_head g c =
     let t = c.args.task.now in
     let e = c.args.edge.now in
-    let head : is_head t.graph e.to ≡ false = sym (c.is_loop_head.ensures ∙ ap (λ z. slice_index_or z.heads e.to false) c.graph.ensures) ∙ c.if-is_loop_head.false in
+    let head : is_head t.graph e.to ≡ false =
+    sym (c.is_loop_head.ensures ∙ ap (λ z. slice_index_or z.heads e.to false) c.graph.ensures)
+    ∙ c.if-is_loop_head.false in
     if_carried t.table t.graph t.height e c.args.cases.now c.carry_all.result head c.carry_all.ensures

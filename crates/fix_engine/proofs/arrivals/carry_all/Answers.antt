@@ -8,6 +8,10 @@ loop-case-preserved c =
     let x = c.case-item.result in
     let item : c.carried.result ≡ carried x = c.carried.ensures ∙ ap carried c.in_ok-forest.ensures in
     let all : AreCarried (take (c.loop-case.case-index + 1) c.args.cases.now) c.push.new.self =
-    rw (take_item c.args.cases.now c.loop-case.case-index x c.loop-case-test.true c.case-item.is, c.in_ok-push.ensures.ok)
-    (paired_push IsCarriedOver (take c.loop-case.case-index c.args.cases.now) c.loop-case.states x c.carried.result c.loop-case.invariant (record { sound = c.known.ensures.sound; is = item })) in
+    rw (
+      take_item c.args.cases.now c.loop-case.case-index x c.loop-case-test.true c.case-item.is,
+      c.in_ok-push.ensures.ok,
+    )
+    (paired_push IsCarriedOver (take c.loop-case.case-index c.args.cases.now) c.loop-case.states x c.carried.result
+    c.loop-case.invariant (record { sound = c.known.ensures.sound; is = item })) in
     all

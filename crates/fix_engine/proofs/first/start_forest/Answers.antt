@@ -10,4 +10,6 @@ pub sound_of-requires-clause-plain : goal.sound_of-requires-clause-plain
 sound_of-requires-clause-plain c = subst (λ (z : Forest). Every HasNoBoxes z.autos) (sym c.in_ok-forest.ensures) tt
 
 pub sound_of-requires-clause-sound : goal.sound_of-requires-clause-sound
-sound_of-requires-clause-sound c = subst (IsSound c.face.result.now) (sym c.in_ok-forest.ensures) (start_sound c.face.result.now c.graph.inside.ptrs c.graph.inside.datums)
+sound_of-requires-clause-sound c =
+    subst (IsSound c.face.result.now) (sym c.in_ok-forest.ensures)
+    (start_sound c.face.result.now c.graph.inside.ptrs c.graph.inside.datums)

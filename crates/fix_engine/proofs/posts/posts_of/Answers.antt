@@ -15,8 +15,13 @@ edge_at-edge-requires g c =
     let due = c.args.due.now in
     let numbers = c.exits_at-number-items.result.now in
     let are : AreNumbers t.graph.edges (length t.graph.edges) due.location numbers =
-    subst (AreNumbers t.graph.edges (length t.graph.edges) due.location) (sym (c.exits_at-number-items.ensures ∙ ap (λ z. numbers_at z due.location) c.exits.ensures)) (c.known.ensures.exits.each due.location) in
-    rw c.graph.ensures (number_inside t.table t.graph due.location due.forest.forest numbers c.loop-number.number-index (get_or numbers c.loop-number.number-index 0) are (slice_get-get_or numbers c.loop-number.number-index 0 c.loop-number-test.true))
+    subst (AreNumbers t.graph.edges (length t.graph.edges) due.location)
+    (sym (c.exits_at-number-items.ensures ∙ ap (λ z. numbers_at z due.location) c.exits.ensures))
+    (c.known.ensures.exits.each due.location) in
+    rw c.graph.ensures
+    (number_inside t.table t.graph due.location due.forest.forest numbers c.loop-number.number-index
+    (get_or numbers c.loop-number.number-index 0) are
+    (slice_get-get_or numbers c.loop-number.number-index 0 c.loop-number-test.true))
 
 pub post_of-requires-clause-edge : goal.post_of-requires-clause-edge
 post_of-requires-clause-edge g c =
@@ -24,7 +29,8 @@ post_of-requires-clause-edge g c =
     let e = c.edge_at-edge.result.now in
     let number = get_or c.exits_at-number-items.result.now c.loop-number.number-index 0 in
     let is_edge : IsEdge t.graph number e = subst (λ z. IsEdge z number e) c.graph.ensures c.edge_at-edge.ensures in
-    λ κs within. every_in (IsEdgeOf t.graph) t.graph.edges e c.known.ensures.edges (in_at t.graph.edges number e is_edge)
+    λ κs within. every_in (IsEdgeOf t.graph) t.graph.edges e c.known.ensures.edges
+    (in_at t.graph.edges number e is_edge)
 
 pub loop-number-preserved : goal.loop-number-preserved
 loop-number-preserved g c =
@@ -33,12 +39,17 @@ loop-number-preserved g c =
     let e = c.edge_at-edge.result.now in
     let numbers = c.exits_at-number-items.result.now in
     let are : AreNumbers t.graph.edges (length t.graph.edges) due.location numbers =
-    subst (AreNumbers t.graph.edges (length t.graph.edges) due.location) (sym (c.exits_at-number-items.ensures ∙ ap (λ z. numbers_at z due.location) c.exits.ensures)) (c.known.ensures.exits.each due.location) in
+    subst (AreNumbers t.graph.edges (length t.graph.edges) due.location)
+    (sym (c.exits_at-number-items.ensures ∙ ap (λ z. numbers_at z due.location) c.exits.ensures))
+    (c.known.ensures.exits.each due.location) in
     let number = get_or numbers c.loop-number.number-index 0 in
     let is_edge : IsEdge t.graph number e = subst (λ z. IsEdge z number e) c.graph.ensures c.edge_at-edge.ensures in
     rw c.in_ok-push.ensures.ok
-    (made_next t.table t.graph due.location due.forest.forest numbers c.loop-number.number-index number e c.loop-number.all c.in_ok-made.made are (slice_get-get_or numbers c.loop-number.number-index 0 c.loop-number-test.true)
-    (take_next numbers c.loop-number.number-index 0 c.loop-number-test.true) is_edge c.in_ok-made.ensures c.loop-number.invariant)
+    (made_next t.table t.graph due.location due.forest.forest numbers c.loop-number.number-index number e
+    c.loop-number.all c.in_ok-made.made are
+    (slice_get-get_or numbers c.loop-number.number-index 0 c.loop-number-test.true)
+    (take_next numbers c.loop-number.number-index 0 c.loop-number-test.true) is_edge c.in_ok-made.ensures
+    c.loop-number.invariant)
 
 pub returns : goal.returns
 returns g c =
@@ -46,5 +57,8 @@ returns g c =
     let due = c.args.due.now in
     let numbers = c.exits_at-number-items.result.now in
     let are : AreNumbers t.graph.edges (length t.graph.edges) due.location numbers =
-    subst (AreNumbers t.graph.edges (length t.graph.edges) due.location) (sym (c.exits_at-number-items.ensures ∙ ap (λ z. numbers_at z due.location) c.exits.ensures)) (c.known.ensures.exits.each due.location) in
-    made_all t.table t.graph due.location due.forest.forest numbers c.loop-number.all are c.loop-number.invariant.0 (c.loop-number.invariant.1 ∙ take_all numbers c.loop-number.number-index c.loop-number-test.false)
+    subst (AreNumbers t.graph.edges (length t.graph.edges) due.location)
+    (sym (c.exits_at-number-items.ensures ∙ ap (λ z. numbers_at z due.location) c.exits.ensures))
+    (c.known.ensures.exits.each due.location) in
+    made_all t.table t.graph due.location due.forest.forest numbers c.loop-number.all are c.loop-number.invariant.0
+    (c.loop-number.invariant.1 ∙ take_all numbers c.loop-number.number-index c.loop-number-test.false)

@@ -16,10 +16,12 @@ returns-in-Some g c =
     let x = c.args.made.now in
     let first = c.in-Some.first.now in
     let is : slice_get x.post.faults 0 ≡ Some first = sym c.get.ensures.value
-            ∙ ap (λ z. option_copied z) c.in-Some.is in
-    (subst (IsFault t.table t.graph c.args.nodes.now c.args.at x.edge) (sym c.in_ok-bad.ensures.same)
-        (edge_fault t.table t.graph t.height c.args.nodes.now c.args.at x first c.requires.mid c.requires.made is
-        c.copy_bad.ensures.sound), refl)
+    ∙ ap (λ z. option_copied z) c.in-Some.is in (
+      subst (IsFault t.table t.graph c.args.nodes.now c.args.at x.edge) (sym c.in_ok-bad.ensures.same)
+          (edge_fault t.table t.graph t.height c.args.nodes.now c.args.at x first c.requires.mid c.requires.made is
+          c.copy_bad.ensures.sound),
+      refl,
+    )
 
 pub edge_at-edge-requires : goal.edge_at-edge-requires
 edge_at-edge-requires g c =
@@ -32,28 +34,28 @@ arrivals_of-requires-clause-location g c =
     let t = c.args.task.now in
     let e = c.edge_at-edge.result.now in
     let is_edge : IsEdge t.graph c.args.made.now.edge e =
-            subst (λ z. IsEdge z c.args.made.now.edge e) c.graph.ensures c.edge_at-edge.ensures in
+    subst (λ z. IsEdge z c.args.made.now.edge e) c.graph.ensures c.edge_at-edge.ensures in
     λ κs within.
-        (every_in (IsEdgeOf t.graph) t.graph.edges e c.known.ensures.edges
-        (in_at t.graph.edges c.args.made.now.edge e is_edge)).to
+    (every_in (IsEdgeOf t.graph) t.graph.edges e c.known.ensures.edges
+    (in_at t.graph.edges c.args.made.now.edge e is_edge)).to
 
 pub arrivals_of-requires-clause-normal : goal.arrivals_of-requires-clause-normal
 arrivals_of-requires-clause-normal g c =
     let t = c.args.task.now in
     λ κs within. rw c.as_slice.ensures
-        (edge_normal t.table t.graph t.height c.args.nodes.now c.args.at c.args.made.now c.requires.made)
+    (edge_normal t.table t.graph t.height c.args.nodes.now c.args.at c.args.made.now c.requires.made)
 
 pub take_states-requires-clause-due : goal.take_states-requires-clause-due
 take_states-requires-clause-due g c =
     let t = c.args.task.now in
     let e = c.edge_at-edge.result.now in
     let is_edge : IsEdge t.graph c.args.made.now.edge e =
-            subst (λ z. IsEdge z c.args.made.now.edge e) c.graph.ensures c.edge_at-edge.ensures in
+    subst (λ z. IsEdge z c.args.made.now.edge e) c.graph.ensures c.edge_at-edge.ensures in
     λ κs within. rw c.as_slice-2.ensures
     (edge_due t.table t.graph t.height c.args.nodes.now c.args.at c.args.made.now c.in_ok-states.states c.requires.made
     (none_first c.args.made.now.post.faults (sym c.get.ensures.value ∙ ap (λ z. option_copied z) c.in_default.is))
     (edge_arrivals t.table t.graph t.height c.args.nodes.now c.args.at c.args.made.now e c.in_ok-states.states
-        c.requires.made is_edge
+    c.requires.made is_edge
     (rw (sym c.as_slice.ensures) c.in_ok-states.ensures)))
 
 pub returns : goal.returns
@@ -63,7 +65,7 @@ returns g c =
     let e = c.edge_at-edge.result.now in
     let is_edge : IsEdge t.graph x.edge e = subst (λ z. IsEdge z x.edge e) c.graph.ensures c.edge_at-edge.ensures in
     let arr = edge_arrivals t.table t.graph t.height c.args.nodes.now c.args.at x e c.in_ok-states.states
-            c.requires.made is_edge (rw (sym c.as_slice.ensures) c.in_ok-states.ensures) in
+    c.requires.made is_edge (rw (sym c.as_slice.ensures) c.in_ok-states.ensures) in
     let no_fault = none_first x.post.faults (sym c.get.ensures.value ∙ ap (λ z. option_copied z) c.in_default.is) in
     elim c.if-room.branch [
       | then-room w ↦ rw w.result-is

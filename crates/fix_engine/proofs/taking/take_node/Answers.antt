@@ -14,9 +14,9 @@ take_edge-requires-clause-mid g c =
     let is = at_item c.args.made.now c.loop-next.next-index x c.loop-next-test.true c.next-item.is in
     let left = ap edge_numbers (drop_at c.args.made.now c.loop-next.next-index x is) in
     λ κs within. stage_mid t.table t.graph t.height c.loop-next.nodes c.args.at x.edge
-        (edge_numbers (drop (c.loop-next.next-index + 1) c.args.made.now))
+    (edge_numbers (drop (c.loop-next.next-index + 1) c.args.made.now))
     (subst Rises left c.loop-next.invariant.1)
-        (subst (IsStage t.table t.graph t.height c.loop-next.nodes c.args.at) left c.loop-next.invariant.0)
+    (subst (IsStage t.table t.graph t.height c.loop-next.nodes c.args.at) left c.loop-next.invariant.0)
 
 pub take_edge-requires-clause-made : goal.take_edge-requires-clause-made
 take_edge-requires-clause-made g c =
@@ -24,15 +24,15 @@ take_edge-requires-clause-made g c =
     let x = c.next-item.result in
     let is = at_item c.args.made.now c.loop-next.next-index x c.loop-next-test.true c.next-item.is in
     λ κs within. made_more t.table t.graph t.height c.args.nodes.now c.loop-next.nodes c.args.at x
-        c.loop-next.invariant.3
+    c.loop-next.invariant.3
     (every_in (IsMadeAt t.table t.graph c.args.nodes.now c.args.at) c.args.made.now x c.requires.made
-        (in_at c.args.made.now c.loop-next.next-index x is))
+    (in_at c.args.made.now c.loop-next.next-index x is))
 
 pub returns-in_default : goal.returns-in_default
 returns-in_default g c =
     let t = c.args.task.now in
     edge_ends t.table t.graph t.height c.args.nodes.now c.loop-next.nodes c.take_edge.new.nodes c.args.at
-        c.next-item.result.edge t.budget c.in_ok-ended.ended c.in_default.not-All
+    c.next-item.result.edge t.budget c.in_ok-ended.ended c.in_default.not-All
     c.loop-next.invariant.0.explored c.loop-next.invariant.0.done c.loop-next.invariant.2 c.in_ok-ended.ensures
 
 pub loop-next-preserved : goal.loop-next-preserved
@@ -43,9 +43,9 @@ loop-next-preserved g c =
     let left = ap edge_numbers (drop_at c.args.made.now c.loop-next.next-index x is) in
     let rises = subst Rises left c.loop-next.invariant.1 in
     let taken =
-            subst
-            (IsTakenEdge t.table t.graph t.height c.loop-next.nodes c.args.at x.edge t.budget c.take_edge.new.nodes)
-            c.in-All.is c.in_ok-ended.ensures in (
+    subst
+    (IsTakenEdge t.table t.graph t.height c.loop-next.nodes c.args.at x.edge t.budget c.take_edge.new.nodes)
+    c.in-All.is c.in_ok-ended.ensures in (
       stage_next t.table t.graph t.height c.loop-next.nodes c.take_edge.new.nodes c.args.at x.edge
           (edge_numbers (drop (c.loop-next.next-index + 1) c.args.made.now)) rises
           (subst (IsStage t.table t.graph t.height c.loop-next.nodes c.args.at) left c.loop-next.invariant.0) taken.0,
@@ -59,7 +59,7 @@ returns g c =
     let t = c.args.task.now in (
       stage_done t.table t.graph t.height c.loop-next.nodes c.args.at t.budget
           (subst (IsStage t.table t.graph t.height c.loop-next.nodes c.args.at)
-              (ap edge_numbers (drop_all c.args.made.now c.loop-next.next-index c.loop-next-test.false))
-              c.loop-next.invariant.0) c.loop-next.invariant.2,
+          (ap edge_numbers (drop_all c.args.made.now c.loop-next.next-index c.loop-next-test.false))
+          c.loop-next.invariant.0) c.loop-next.invariant.2,
       c.loop-next.invariant.3,
     )

@@ -44,7 +44,8 @@ returns-in-Faulty-clause-verdict c =
     c.in-Faulty.nodes c.in-Faulty.trace
     (runs_go_by T g c.requires.shapes (c.edges_make_runs.ensures c.requires.lowered))
     (c.edges_in_range.ensures c.requires.lowered)
-    c.replay_steps-steps.result c.replay_steps-steps.ensures.trace c.replay_steps-steps.ensures.more x c.judge_trace.result
+    c.replay_steps-steps.result c.replay_steps-steps.ensures.trace c.replay_steps-steps.ensures.more x
+    c.judge_trace.result
     c.judge_trace.ensures)
 
 pub returns-in-Faulty-clause-loops : goal.returns-in-Faulty-clause-loops
@@ -57,5 +58,6 @@ returns-in-Faulty-clause-loops c = λ free.
     c.in-Faulty.nodes c.in-Faulty.trace
     (runs_go_by T g c.requires.shapes (c.edges_make_runs.ensures c.requires.lowered))
     (c.edges_in_range.ensures c.requires.lowered)
-    c.replay_steps-steps.result c.replay_steps-steps.ensures.trace c.replay_steps-steps.ensures.more x c.judge_trace.result
+    c.replay_steps-steps.result c.replay_steps-steps.ensures.trace c.replay_steps-steps.ensures.more x
+    c.judge_trace.result
     (λ location. no_heads g.heads location (c.loop_free_graphs.ensures c.requires.lowered ∙ free)) c.judge_trace.ensures

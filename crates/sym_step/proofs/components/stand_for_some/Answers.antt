@@ -6,5 +6,8 @@ use Rattle.sym_step.proofs.components.stand_for_some.Goals as goal
 
 pub loop-forest-preserved : goal.loop-forest-preserved
 loop-forest-preserved c =
-    rw (take_item c.args.forests.now c.loop-forest.forest-index c.forest-item.result c.loop-forest-test.true c.forest-item.is)
-    (every_push (λ (s : SoundForest). HasMembers s.face s.forest) (take c.loop-forest.forest-index c.args.forests.now) c.forest-item.result c.loop-forest.invariant c.stands_for_some.ensures)
+    rw
+    (take_item c.args.forests.now c.loop-forest.forest-index c.forest-item.result c.loop-forest-test.true
+    c.forest-item.is)
+    (every_push (λ (s : SoundForest). HasMembers s.face s.forest) (take c.loop-forest.forest-index c.args.forests.now)
+    c.forest-item.result c.loop-forest.invariant c.stands_for_some.ensures)

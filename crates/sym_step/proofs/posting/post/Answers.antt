@@ -2,13 +2,15 @@ use Rattle.std.proofs.Common.{◌≡◌, ◌∙◌, [], ap, arith}
 use Rattle.fa_core.specs.Boxes.{faces_of}
 use Rattle.fa_core.specs.declared.faces.Face.{Face}
 use Rattle.fa_core.proofs.Boxless.{sound_plain}
-use Rattle.sym_step.proofs.SettledForests.{settled_all, settled_cases, settled_canonical, settled_reduced, settled_plain, settled_face, settled_counts, bad_plain, bad_face, bad_counts}
+use Rattle.sym_step.proofs.SettledForests.{settled_all, settled_cases, settled_canonical, settled_reduced}
+use Rattle.sym_step.proofs.SettledForests.{settled_plain, settled_face, settled_counts, bad_plain, bad_face, bad_counts}
 use Rattle.sym_step.proofs.posting.post.Goals as goal
 
 pub open_forest-requires-clause-plain : goal.open_forest-requires-clause-plain
 open_forest-requires-clause-plain g c =
     let F = c.args.forest.now in
-    let none : F.face.boxes ≡ [] = ap (λ (f : Face). f.boxes) c.requires.face ∙ c.known-2.ensures.faces ∙ ap faces_of c.requires.empty in
+    let none : F.face.boxes ≡ [] = ap (λ (f : Face). f.boxes) c.requires.face ∙ c.known-2.ensures.faces
+    ∙ ap faces_of c.requires.empty in
     sound_plain F.face F.forest c.known.ensures.sound none
 
 pub returns-clause-all : goal.returns-clause-all

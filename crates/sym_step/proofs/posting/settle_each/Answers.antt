@@ -13,30 +13,43 @@ pub loop-forest-init : goal.loop-forest-init
 loop-forest-init g c =
     let s = c.args._forest.now in
     let e = c.args.edge.now in
-    rw (c.as_slice-forest-items.ensures, c.new-next.ensures)
-    (settling_first s.face s.forest e (λ (H : Forest). IsExplicit H e.instr) c.args.opened.ready c.args.opened.faults c.requires.opens, (λ q. omega arith))
+    rw (c.as_slice-forest-items.ensures, c.new-next.ensures) (
+      settling_first s.face s.forest e (λ (H : Forest). IsExplicit H e.instr) c.args.opened.ready c.args.opened.faults
+          c.requires.opens,
+      (λ q. omega arith),
+    )
 
 pub settle-requires-clause-plain : goal.settle-requires-clause-plain
 settle-requires-clause-plain g c = λ ls w.
     let s = c.args._forest.now in
-    (every_at (IsLike s.face s.forest) c.args.opened.ready c.loop-forest.forest-index c.forest-item.result c.requires.opens.like (rw c.as_slice-forest-items.ensures at c.loop-forest-test.true) (rw c.as_slice-forest-items.ensures at c.forest-item.is)).plain
+    (every_at (IsLike s.face s.forest) c.args.opened.ready c.loop-forest.forest-index c.forest-item.result
+    c.requires.opens.like (rw c.as_slice-forest-items.ensures at c.loop-forest-test.true)
+    (rw c.as_slice-forest-items.ensures at c.forest-item.is)).plain
 
 pub settle-requires-clause-fits : goal.settle-requires-clause-fits
 settle-requires-clause-fits g c = λ ls w.
     let s = c.args._forest.now in
     fits_still s.face s.forest c.args.edge.now c.forest-item.result
-    (every_at (IsLike s.face s.forest) c.args.opened.ready c.loop-forest.forest-index c.forest-item.result c.requires.opens.like (rw c.as_slice-forest-items.ensures at c.loop-forest-test.true) (rw c.as_slice-forest-items.ensures at c.forest-item.is))
+    (every_at (IsLike s.face s.forest) c.args.opened.ready c.loop-forest.forest-index c.forest-item.result
+    c.requires.opens.like (rw c.as_slice-forest-items.ensures at c.loop-forest-test.true)
+    (rw c.as_slice-forest-items.ensures at c.forest-item.is))
     c.requires.fits
 
 pub settle-requires-clause-explicit : goal.settle-requires-clause-explicit
 settle-requires-clause-explicit g c = λ ls w.
     let e = c.args.edge.now in
-    every_at (λ (x : SoundForest). IsExplicit x.forest e.instr) c.args.opened.ready c.loop-forest.forest-index c.forest-item.result (every_mapped (λ (x : SoundForest). x.forest) (λ (H : Forest). IsExplicit H e.instr) c.args.opened.ready c.requires.opens.ready) (rw c.as_slice-forest-items.ensures at c.loop-forest-test.true) (rw c.as_slice-forest-items.ensures at c.forest-item.is)
+    every_at (λ (x : SoundForest). IsExplicit x.forest e.instr) c.args.opened.ready c.loop-forest.forest-index
+    c.forest-item.result
+    (every_mapped (λ (x : SoundForest). x.forest) (λ (H : Forest). IsExplicit H e.instr) c.args.opened.ready
+    c.requires.opens.ready) (rw c.as_slice-forest-items.ensures at c.loop-forest-test.true)
+    (rw c.as_slice-forest-items.ensures at c.forest-item.is)
 
 pub settle-requires-clause-calm : goal.settle-requires-clause-calm
 settle-requires-clause-calm g c = λ ls w q.
     let s = c.args._forest.now in
-    let i = in_at c.args.opened.ready c.loop-forest.forest-index c.forest-item.result (rw c.as_slice-forest-items.ensures at c.loop-forest-test.true) (rw c.as_slice-forest-items.ensures at c.forest-item.is) in
+    let i = in_at c.args.opened.ready c.loop-forest.forest-index c.forest-item.result
+    (rw c.as_slice-forest-items.ensures at c.loop-forest-test.true)
+    (rw c.as_slice-forest-items.ensures at c.forest-item.is) in
     let same : c.forest-item.result ≡ s = only_item c.forest-item.result s c.args.opened.ready (c.requires.calm q) i in
     subst (λ (x : SoundForest). IsCanonical x.face x.forest) (sym same) c.requires.canonical
 
@@ -51,10 +64,12 @@ loop-forest-preserved g c =
     let less = rw c.as_slice-forest-items.ensures at c.loop-forest-test.true in
     let is = rw c.as_slice-forest-items.ensures at c.forest-item.is in
     let like = every_at (IsLike s.face F) all i G c.requires.opens.like less is in
-    let inv : IsSettling s.face F e (G ∷ drop (i + 1) all) c.loop-forest.next c.loop-forest.faulty = rw (drop_item all i G less is) at (rw c.as_slice-forest-items.ensures at c.loop-forest.invariant.0) in
+    let inv : IsSettling s.face F e (G ∷ drop (i + 1) all) c.loop-forest.next c.loop-forest.faulty =
+    rw (drop_item all i G less is) at (rw c.as_slice-forest-items.ensures at c.loop-forest.invariant.0) in
     let many = length-append c.loop-forest.next c.in_ok-more.more.next in
     rw (c.in_ok-append.ensures.ok, c.in_ok-append-2.ensures.ok, c.as_slice-forest-items.ensures) (
-      settled_more s.face F e G (drop (i + 1) all) c.loop-forest.next c.loop-forest.faulty c.in_ok-more.more.next c.in_ok-more.more.faults inv like c.in_ok-more.ensures.settles,
+      settled_more s.face F e G (drop (i + 1) all) c.loop-forest.next c.loop-forest.faulty c.in_ok-more.more.next
+          c.in_ok-more.more.faults inv like c.in_ok-more.ensures.settles,
       (λ q. let a = c.loop-forest.invariant.1 q in let b = c.in_ok-more.ensures.quiet q in omega (arith, a, b, many)),
     )
 
@@ -67,6 +82,7 @@ returns-clause-settles g c =
 pub returns-clause-quiet : goal.returns-clause-quiet
 returns-clause-quiet g c = λ q.
     let few = c.loop-forest.invariant.1 q in
-    let long : length c.as_slice-forest-items.result.now ≡ 1 = ap (λ (xs : List SoundForest). length xs) (c.as_slice-forest-items.ensures ∙ c.requires.calm q) in
+    let long : length c.as_slice-forest-items.result.now ≡ 1 =
+    ap (λ (xs : List SoundForest). length xs) (c.as_slice-forest-items.ensures ∙ c.requires.calm q) in
     let end = c.loop-forest.auto.forest-index-end in
     omega (arith, few, long, end)

@@ -4,4 +4,6 @@ use Rattle.sym_step.specs.inner.Stepping.{IsSettling}
 use Rattle.sym_step.proofs.posting.settle_each.Given as goal
 
 abbrev pub invariant-loop-forest : goal.invariant-loop-forest
-invariant-loop-forest g l = IsSettling l._forest.face l._forest.forest l.edge (drop l.forest-index l.forest-items) l.next l.faulty × (is_quiet l.edge.instr ≡ true → length l.next ≤ l.forest-index)
+invariant-loop-forest g l =
+    IsSettling l._forest.face l._forest.forest l.edge (drop l.forest-index l.forest-items) l.next l.faulty
+    × (is_quiet l.edge.instr ≡ true → length l.next ≤ l.forest-index)

@@ -9,8 +9,11 @@ use Rattle.sym_step.specs.inner.Stepping.{IsNext}
 use Rattle.sym_step.proofs.settling.canonical_forms.Goals as goal
 
 -- the clauses of each forest, together
-each_next : (F : SoundForest) (ss : List SoundForest) → Every (λ s. IsCanonical s.face s.forest) ss → Every (λ s. Reduced s.forest) ss → Every (λ s. Every HasNoBoxes s.forest.autos) ss → Every (λ s. s.face ≡ F.face) ss
-    → Every (λ s. length s.forest.vars ≡ length F.forest.vars) ss → Every (λ s. s.forest.data_vars ≡ F.forest.data_vars) ss → Every (IsNext F.face F.forest) ss
+each_next : (F : SoundForest) (ss : List SoundForest) → Every (λ s. IsCanonical s.face s.forest) ss
+    → Every (λ s. Reduced s.forest) ss → Every (λ s. Every HasNoBoxes s.forest.autos) ss
+    → Every (λ s. s.face ≡ F.face) ss
+    → Every (λ s. length s.forest.vars ≡ length F.forest.vars) ss
+    → Every (λ s. s.forest.data_vars ≡ F.forest.data_vars) ss → Every (IsNext F.face F.forest) ss
 each_next F [] a b c d e f = tt
 each_next F (s ∷ ss) a b c d e f = (
   record {

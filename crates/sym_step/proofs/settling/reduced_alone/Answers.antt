@@ -11,13 +11,17 @@ returns-clause-regroups g c =
     let F = c.args.raw.now.forest in
     let G = c.in_ok-reduced.reduced in
     let r = c.in_ok-reduced.ensures in
-    let list : c.push.new.self ≡ G ∷ [] = c.in_ok-push.ensures.ok ∙ ap (λ (z : List SoundForest). z ++ G ∷ []) c.new-made.ensures in
-    (λ T. subst (λ (z : List SoundForest). Every (Regroups T F) (forests z)) (sym list) (covered_regroups F G.forest r.covered T, tt))
+    let list : c.push.new.self ≡ G ∷ [] = c.in_ok-push.ensures.ok
+    ∙ ap (λ (z : List SoundForest). z ++ G ∷ []) c.new-made.ensures in
+    (λ T. subst (λ (z : List SoundForest). Every (Regroups T F) (forests z)) (sym list)
+    (covered_regroups F G.forest r.covered T, tt))
 
 pub returns-clause-whole : goal.returns-clause-whole
 returns-clause-whole g c =
     let F = c.args.raw.now.forest in
     let G = c.in_ok-reduced.reduced in
     let r = c.in_ok-reduced.ensures in
-    let list : c.push.new.self ≡ G ∷ [] = c.in_ok-push.ensures.ok ∙ ap (λ (z : List SoundForest). z ++ G ∷ []) c.new-made.ensures in
-    (λ T. subst (λ (z : List SoundForest). RegroupsInto T F (forests z)) (sym list) (λ d h. (G.forest, inl refl, covered_regroups G.forest F r.covers T d h)))
+    let list : c.push.new.self ≡ G ∷ [] = c.in_ok-push.ensures.ok
+    ∙ ap (λ (z : List SoundForest). z ++ G ∷ []) c.new-made.ensures in
+    (λ T. subst (λ (z : List SoundForest). RegroupsInto T F (forests z)) (sym list)
+    (λ d h. (G.forest, inl refl, covered_regroups G.forest F r.covers T d h)))

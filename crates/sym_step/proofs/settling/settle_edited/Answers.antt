@@ -9,20 +9,27 @@ pub bad_alone-requires-clause-met : goal.bad_alone-requires-clause-met
 bad_alone-requires-clause-met g c =
     let s = c.args.forest.now in
     let R = c.args.raw.now.forest in
-    let leaks : AlwaysLeaks R = subst (λ (o : Option ℕ). MatchOption o (NeverLeaks R) (λ x. AlwaysLeaks R)) c.in-Some.is (c.in_ok-leaking.ensures.leaks c.requires.like.plain) in
+    let leaks : AlwaysLeaks R =
+    subst (λ (o : Option ℕ). MatchOption o (NeverLeaks R) (λ x. AlwaysLeaks R)) c.in-Some.is
+    (c.in_ok-leaking.ensures.leaks c.requires.like.plain) in
     all_leak s.face c.args.edge.now s.forest R c.requires.carries leaks
 
 pub normal_forms-requires-clause-tight : goal.normal_forms-requires-clause-tight
 normal_forms-requires-clause-tight g c = λ ls w.
     let R = c.args.raw.now.forest in
-    subst (λ (o : Option ℕ). MatchOption o (NeverLeaks R) (λ x. AlwaysLeaks R)) c.in-None.is (c.in_ok-leaking.ensures.leaks c.requires.like.plain)
+    subst (λ (o : Option ℕ). MatchOption o (NeverLeaks R) (λ x. AlwaysLeaks R)) c.in-None.is
+    (c.in_ok-leaking.ensures.leaks c.requires.like.plain)
 
 pub returns-in_ok-next-in-None-clause-settles : goal.returns-in_ok-next-in-None-clause-settles
 returns-in_ok-next-in-None-clause-settles g c =
     let s = c.args.forest.now in
     let R = c.args.raw.now.forest in
     let made = c.in_ok-next-in-None.next in
-    let tight : NeverLeaks R = subst (λ (o : Option ℕ). MatchOption o (NeverLeaks R) (λ x. AlwaysLeaks R)) c.in-None.is (c.in_ok-leaking.ensures.leaks c.requires.like.plain) in
+    let tight : NeverLeaks R =
+    subst (λ (o : Option ℕ). MatchOption o (NeverLeaks R) (λ x. AlwaysLeaks R)) c.in-None.is
+    (c.in_ok-leaking.ensures.leaks c.requires.like.plain) in
     rw c.new.ensures
-    (settled_goes s c.args.edge.now made (all_go s.face c.args.edge.now s.forest R c.requires.carries tight (forests made) c.in_ok-next-in-None.ensures.whole c.in_ok-next-in-None.ensures.regroups)
+    (settled_goes s c.args.edge.now made
+    (all_go s.face c.args.edge.now s.forest R c.requires.carries tight (forests made)
+    c.in_ok-next-in-None.ensures.whole c.in_ok-next-in-None.ensures.regroups)
     (each_next_on s c.args.edge.now c.args.raw.now c.requires.like made c.in_ok-next-in-None.ensures.next))

@@ -11,5 +11,8 @@ pub returns-in_ok-made-in-Ok-None-clause-edited : goal.returns-in_ok-made-in-Ok-
 returns-in_ok-made-in-Ok-None-clause-edited c = λ T x.
     let F = c.args.forest.now in
     let t = target_at F.forest c.args.from in
-    let none : freed_root t ≡ Ok None = sym (c.freed_root.ensures ∙ ap freed_root c.target_of.ensures) ∙ c.in-Ok-None.is ∙ ap (λ (o : Option ℕ). Ok o) c.in-Ok-None.field-0-is in
-    carried F.face T F.forest F.forest c.in_ok-made-in-Ok-None.made.forest (Free c.args.from) x (ap (λ (G : SoundForest). G.forest) c.in_ok-made-in-Ok-None.ensures) (free_null F.face T F.forest c.args.from x (frees_nothing t none))
+    let none : freed_root t ≡ Ok None = sym (c.freed_root.ensures ∙ ap freed_root c.target_of.ensures) ∙ c.in-Ok-None.is
+    ∙ ap (λ (o : Option ℕ). Ok o) c.in-Ok-None.field-0-is in
+    carried F.face T F.forest F.forest c.in_ok-made-in-Ok-None.made.forest (Free c.args.from) x
+    (ap (λ (G : SoundForest). G.forest) c.in_ok-made-in-Ok-None.ensures)
+    (free_null F.face T F.forest c.args.from x (frees_nothing t none))

@@ -17,8 +17,13 @@ returns-clause-carries c = λ T x.
     let face = c.args.forest.now.face in
     let r = c.args.root in
     let shown : ((f : ℕ) → IsPlainAt F r f) = (λ f. c.requires.explicit.plain c.args.base r f refl c.requires.at tt) in
-    let can : CanDrop face.boxes F r = root_can_go face F r c.known.ensures.sound c.requires.plain (shown 0).top (λ f p e. (shown f).leaf p e) (shown 0).root in
-    freed_carries face T F c.args.base r c.requires.at c.in_ok-made.made.forest c.requires.plain (c.in_ok-made.ensures.removes can T) (c.in_ok-made.ensures.restores can T) x
+    let can : CanDrop face.boxes F r =
+    root_can_go face F r c.known.ensures.sound c.requires.plain (shown 0).top (λ f p e. (shown f).leaf p e)
+    (shown 0).root in
+    freed_carries face T F c.args.base r c.requires.at c.in_ok-made.made.forest c.requires.plain
+    (c.in_ok-made.ensures.removes can T) (c.in_ok-made.ensures.restores can T) x
 
 pub returns-clause-plain : goal.returns-clause-plain
-returns-clause-plain c = subst (λ (z : Forest). Every HasNoBoxes z.autos) (sym c.in_ok-made.ensures.value) (still_plain c.args.root c.args.forest.now.forest c.requires.plain)
+returns-clause-plain c =
+    subst (λ (z : Forest). Every HasNoBoxes z.autos) (sym c.in_ok-made.ensures.value)
+    (still_plain c.args.root c.args.forest.now.forest c.requires.plain)

@@ -22,19 +22,25 @@ with_target-requires-clause-root c =
     let lacks = (T : List BoxDef) → AllLackField T F c.args.root c.args.field in
     let has = λ (t : Target). ((T : List BoxDef) → AllHaveLeaf T F c.args.root c.args.field t) in
     let ranked : Every IsRanked F.autos = rw c.forest.ensures at c.ranked_components.ensures in
-    leaf_below c.args.forest.now.face F c.known.ensures.sound ranked c.requires.plain c.args.root c.args.field c.in-Some.leaf (MatchOption-at_some lacks has c.in-Some.leaf c.in-Some.is c.leaf_of.ensures.held [])
+    leaf_below c.args.forest.now.face F c.known.ensures.sound ranked c.requires.plain c.args.root c.args.field
+    c.in-Some.leaf (MatchOption-at_some lacks has c.in-Some.leaf c.in-Some.is c.leaf_of.ensures.held [])
 
 pub returns-in_ok-made-in-Some-clause-edited : goal.returns-in_ok-made-in-Some-clause-edited
 returns-in_ok-made-in-Some-clause-edited c = λ T x.
     let F = c.args.forest.now in
     let lacks = (T : List BoxDef) → AllLackField T F.forest c.args.root c.args.field in
     let has = λ (t : Target). ((T : List BoxDef) → AllHaveLeaf T F.forest c.args.root c.args.field t) in
-    carried F.face T F.forest (with_vars F.forest (slice_set F.forest.vars c.args.to c.in-Some.leaf) F.forest.data_vars) c.in_ok-made-in-Some.made.forest (LoadPtr c.args.to c.args.from c.args.field) x c.in_ok-made-in-Some.ensures.value
-    (load_ptr F.face T F.forest c.args.to c.args.from c.args.field x c.args.root c.in-Some.leaf c.requires.at (MatchOption-at_some lacks has c.in-Some.leaf c.in-Some.is c.leaf_of.ensures.held T))
+    carried F.face T F.forest (with_vars F.forest (slice_set F.forest.vars c.args.to c.in-Some.leaf) F.forest.data_vars)
+    c.in_ok-made-in-Some.made.forest (LoadPtr c.args.to c.args.from c.args.field) x
+    c.in_ok-made-in-Some.ensures.value
+    (load_ptr F.face T F.forest c.args.to c.args.from c.args.field x c.args.root c.in-Some.leaf c.requires.at
+    (MatchOption-at_some lacks has c.in-Some.leaf c.in-Some.is c.leaf_of.ensures.held T))
 
 pub returns-in-None-clause-edited : goal.returns-in-None-clause-edited
 returns-in-None-clause-edited c = λ T x.
     let F = c.args.forest.now in
     let lacks = (T : List BoxDef) → AllLackField T F.forest c.args.root c.args.field in
     let has = λ (t : Target). ((T : List BoxDef) → AllHaveLeaf T F.forest c.args.root c.args.field t) in
-    inl (load_ptr_stays F.face T F.forest c.requires.plain c.args.to c.args.from c.args.field x c.args.root c.requires.at (MatchOption-at_none lacks has c.in-None.is c.leaf_of.ensures.held T))
+    inl
+    (load_ptr_stays F.face T F.forest c.requires.plain c.args.to c.args.from c.args.field x c.args.root
+    c.requires.at (MatchOption-at_none lacks has c.in-None.is c.leaf_of.ensures.held T))

@@ -9,4 +9,5 @@ returns-in_ok-made-in-Ok-clause-edited c = λ T x.
     let F = c.args.forest.now in
     let made = c.in_ok-made-in-Ok.made in
     datum_stored F T x c.args.to c.args.field c.in-Ok.root c.in-Ok.ensures.root c.args.from made
-    (subst (λ (y : Datum). IsDatumStored F c.in-Ok.root c.args.field y made) c.datum_of-datum.ensures c.in_ok-made-in-Ok.ensures.stored)
+    (subst (λ (y : Datum). IsDatumStored F c.in-Ok.root c.args.field y made) c.datum_of-datum.ensures
+    c.in_ok-made-in-Ok.ensures.stored)

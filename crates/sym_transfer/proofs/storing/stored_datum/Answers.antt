@@ -10,7 +10,8 @@ returns-clause-stored c =
     let F = c.args.forest.now in
     let lacks = (T : List BoxDef) → AllLackDatum T F.forest c.args.root c.args.field in
     let has = λ (y : Datum). ((T : List BoxDef) → AllHaveDatum T F.forest c.args.root c.args.field y) in
-    let h = held_there lacks has c.datum_of.result (c.is_none.ensures ∙ ap not c.if-is_none.false) c.datum_of.ensures.held in
+    let h = held_there lacks has c.datum_of.result (c.is_none.ensures ∙ ap not c.if-is_none.false)
+    c.datum_of.ensures.held in
     (λ T. (h.0, c.in_ok-made.ensures.put T h.0 (h.1 T)))
 
 pub returns-clause-form : goal.returns-clause-form
@@ -18,5 +19,7 @@ returns-clause-form c =
     let F = c.args.forest.now in
     let lacks = (T : List BoxDef) → AllLackDatum T F.forest c.args.root c.args.field in
     let has = λ (y : Datum). ((T : List BoxDef) → AllHaveDatum T F.forest c.args.root c.args.field y) in
-    let h = held_there lacks has c.datum_of.result (c.is_none.ensures ∙ ap not c.if-is_none.false) c.datum_of.ensures.held in
-    datum_form F c.in_ok-made.made c.args.root c.args.field h.0 c.args.datum c.in_ok-made.ensures.face c.in_ok-made.ensures.plain (c.in_ok-made.ensures.put [] h.0 (h.1 []))
+    let h = held_there lacks has c.datum_of.result (c.is_none.ensures ∙ ap not c.if-is_none.false)
+    c.datum_of.ensures.held in
+    datum_form F c.in_ok-made.made c.args.root c.args.field h.0 c.args.datum c.in_ok-made.ensures.face
+    c.in_ok-made.ensures.plain (c.in_ok-made.ensures.put [] h.0 (h.1 []))

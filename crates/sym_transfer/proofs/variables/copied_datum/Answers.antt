@@ -8,10 +8,15 @@ use Rattle.sym_transfer.proofs.VarKinds.{copy_data}
 use Rattle.sym_transfer.proofs.variables.copied_datum.Goals as goal
 
 pub with_known-requires-clause-fits : goal.with_known-requires-clause-fits
-with_known-requires-clause-fits c = rw c.datum_of_arg-datum.ensures (data_arg_fits c.args.forest.now.face c.args.forest.now.forest c.known.ensures.sound 0 (length c.args.forest.now.forest.data_vars) c.args.from c.requires.from)
+with_known-requires-clause-fits c =
+    rw c.datum_of_arg-datum.ensures
+    (data_arg_fits c.args.forest.now.face c.args.forest.now.forest c.known.ensures.sound 0
+    (length c.args.forest.now.forest.data_vars) c.args.from c.requires.from)
 
 pub returns-clause-edited : goal.returns-clause-edited
 returns-clause-edited c = λ T x.
     let F = c.args.forest.now in
     let G = λ (y : Datum). with_vars F.forest F.forest.vars (slice_set F.forest.data_vars c.args.to y) in
-    carried F.face T F.forest (G (datum_of_arg F.forest c.args.from)) c.in_ok-made.made.forest (CopyData c.args.to c.args.from) x (c.in_ok-made.ensures.value ∙ ap G c.datum_of_arg-datum.ensures) (copy_data F.face T F.forest c.args.to c.args.from x)
+    carried F.face T F.forest (G (datum_of_arg F.forest c.args.from)) c.in_ok-made.made.forest
+    (CopyData c.args.to c.args.from) x (c.in_ok-made.ensures.value ∙ ap G c.datum_of_arg-datum.ensures)
+    (copy_data F.face T F.forest c.args.to c.args.from x)

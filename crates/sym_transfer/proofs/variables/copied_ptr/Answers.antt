@@ -8,10 +8,14 @@ use Rattle.sym_transfer.proofs.VarKinds.{copy_ptr}
 use Rattle.sym_transfer.proofs.variables.copied_ptr.Goals as goal
 
 pub with_target-requires-clause-root : goal.with_target-requires-clause-root
-with_target-requires-clause-root c = rw c.target_of_arg-target.ensures (arg_below c.args.forest.now.face c.args.forest.now.forest c.known.ensures.sound c.args.from)
+with_target-requires-clause-root c =
+    rw c.target_of_arg-target.ensures
+    (arg_below c.args.forest.now.face c.args.forest.now.forest c.known.ensures.sound c.args.from)
 
 pub returns-clause-edited : goal.returns-clause-edited
 returns-clause-edited c = λ T x.
     let F = c.args.forest.now in
     let G = λ (t : Target). with_vars F.forest (slice_set F.forest.vars c.args.to t) F.forest.data_vars in
-    carried F.face T F.forest (G (target_of_arg F.forest c.args.from)) c.in_ok-made.made.forest (CopyPtr c.args.to c.args.from) x (c.in_ok-made.ensures.value ∙ ap G c.target_of_arg-target.ensures) (copy_ptr F.face T F.forest c.args.to c.args.from x)
+    carried F.face T F.forest (G (target_of_arg F.forest c.args.from)) c.in_ok-made.made.forest
+    (CopyPtr c.args.to c.args.from) x (c.in_ok-made.ensures.value ∙ ap G c.target_of_arg-target.ensures)
+    (copy_ptr F.face T F.forest c.args.to c.args.from x)

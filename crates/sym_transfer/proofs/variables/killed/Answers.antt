@@ -12,4 +12,6 @@ returns-clause-edited c = λ T x.
     let F = c.args.forest.now in
     let ps = c.args.ptrs.now in
     let ds = c.args.datums.now in
-    carried F.face T F.forest (with_vars F.forest (set_each F.forest.vars ps Uninit) (set_each F.forest.data_vars ds Undefined)) c.in_ok-made.made.forest (Kill ps ds) x c.in_ok-made.ensures.value (kill_vars F.face T F.forest ps ds x)
+    carried F.face T F.forest
+    (with_vars F.forest (set_each F.forest.vars ps Uninit) (set_each F.forest.data_vars ds Undefined))
+    c.in_ok-made.made.forest (Kill ps ds) x c.in_ok-made.ensures.value (kill_vars F.face T F.forest ps ds x)

@@ -3,4 +3,5 @@ use Rattle.fore_base.specs.Stores.{set_each}
 use Rattle.sym_transfer.proofs.variables.set_these.Given as goal
 
 abbrev pub invariant-loop-place : goal.invariant-loop-place
-invariant-loop-place g l = set_each l.list (drop l.place-index l.places) l.item ≡ set_each l.initial.list l.places l.item
+invariant-loop-place g l = set_each l.list (drop l.place-index l.places) l.item
+    ≡ set_each l.initial.list l.places l.item

@@ -9,12 +9,16 @@ use Rattle.sym_transfer.proofs.variables.without_these.Goals as goal
 pub with_vars-requires-clause-targets : goal.with_vars-requires-clause-targets
 with_vars-requires-clause-targets c =
     let F = c.args.forest.now.forest in
-    rw (c.set_these-vars.ensures, c.in_ok-vars.ensures, c.forest.ensures) (every_each (IsRoot (length F.autos)) F.vars c.args.ptrs.now Uninit (targets_below c.args.forest.now.face F c.known.ensures.sound) (uninit_below (length F.autos)))
+    rw (c.set_these-vars.ensures, c.in_ok-vars.ensures, c.forest.ensures)
+    (every_each (IsRoot (length F.autos)) F.vars c.args.ptrs.now Uninit
+    (targets_below c.args.forest.now.face F c.known.ensures.sound) (uninit_below (length F.autos)))
 
 pub with_vars-requires-clause-data : goal.with_vars-requires-clause-data
 with_vars-requires-clause-data c =
     let F = c.args.forest.now.forest in
-    rw (c.set_these-data_vars.ensures, c.in_ok-data_vars.ensures, c.forest-2.ensures) (every_each DatumFits F.data_vars c.args.datums.now Undefined (data_fit c.args.forest.now.face F c.known.ensures.sound) tt)
+    rw (c.set_these-data_vars.ensures, c.in_ok-data_vars.ensures, c.forest-2.ensures)
+    (every_each DatumFits F.data_vars c.args.datums.now Undefined
+    (data_fit c.args.forest.now.face F c.known.ensures.sound) tt)
 
 pub returns-clause-form : goal.returns-clause-form
 returns-clause-form c =
@@ -22,6 +26,10 @@ returns-clause-form c =
     record {
       face = c.in_ok-made.ensures.face;
       plain = c.in_ok-made.ensures.plain;
-      vars = ap (λ (G : Forest). length G.vars) c.in_ok-made.ensures.value ∙ rw (c.set_these-vars.ensures, c.in_ok-vars.ensures, c.forest.ensures) (length_each F.vars c.args.ptrs.now Uninit);
-      data_vars = ap (λ (G : Forest). length G.data_vars) c.in_ok-made.ensures.value ∙ rw (c.set_these-data_vars.ensures, c.in_ok-data_vars.ensures, c.forest-2.ensures) (length_each F.data_vars c.args.datums.now Undefined);
+      vars = ap (λ (G : Forest). length G.vars) c.in_ok-made.ensures.value
+          ∙ rw (c.set_these-vars.ensures, c.in_ok-vars.ensures, c.forest.ensures)
+          (length_each F.vars c.args.ptrs.now Uninit);
+      data_vars = ap (λ (G : Forest). length G.data_vars) c.in_ok-made.ensures.value
+          ∙ rw (c.set_these-data_vars.ensures, c.in_ok-data_vars.ensures, c.forest-2.ensures)
+          (length_each F.data_vars c.args.datums.now Undefined);
     }

@@ -16,7 +16,8 @@ returns-then-has_one_top c =
     let here = rw c.forest-2.ensures at c.component.ensures in
     let top = rw here at (c.has_one_top.ensures.0 c.if-has_one_top.true) in
     IfOk-weaker c.alone.result (λ made. made ≡ F ∷ []) (λ made. IsSplitEach chosen (F ∷ []) made)
-    (λ made e. subst (λ (z : List SoundForest). IsSplitEach chosen (F ∷ []) z) (sym e) (split_same chosen F c.requires.0 (chosen_already r F.forest top)))
+    (λ made e. subst (λ (z : List SoundForest). IsSplitEach chosen (F ∷ []) z) (sym e)
+    (split_same chosen F c.requires.0 (chosen_already r F.forest top)))
     c.alone.ensures
 
 pub returns : goal.returns
@@ -24,5 +25,6 @@ returns c =
     let F = c.args.forest in
     let e = c.in_ok-made.ensures in
     let ranked : Every IsRanked F.forest.autos = rw c.forest-3.ensures at c.ranked_components.ensures in
-    divided (λ (x y : SoundForest). IsChosenAt c.args.self.now.root x.forest y.forest) F c.in_ok-made.made e.plain e.face e.vars e.regroups e.whole
+    divided (λ (x y : SoundForest). IsChosenAt c.args.self.now.root x.forest y.forest) F c.in_ok-made.made e.plain
+    e.face e.vars e.regroups e.whole
     (chosen_each F.forest c.args.self.now.root c.in_ok-made.made c.requires.1 ranked e.value)

@@ -11,7 +11,10 @@ loop-whole-preserved c =
     let a = c.whole-item.result in
     let t = take_item c.args.autos.now c.loop-whole.whole-index a c.loop-whole-test.true c.whole-item.is in
     let s = rw c.as_slice.ensures at c.rules_fit.ensures in
-    rw t (λ face f. every_push (RulesFit face) _ a (c.loop-whole.invariant face f) (subst (RulesFit face) c.whole.view_is (s c.if-not-rules_fit.false face f)))
+    rw t
+    (λ face f. every_push (RulesFit face) _ a (c.loop-whole.invariant face f)
+    (subst (RulesFit face) c.whole.view_is (s c.if-not-rules_fit.false face f)))
 
 pub returns : goal.returns
-returns c = λ _ face f. subst (λ (autos : List Automaton). Every (RulesFit face) autos) (take_long c.loop-whole.whole-index c.args.autos.now c.loop-whole-test.false) (c.loop-whole.invariant face f)
+returns c = λ _ face f. subst (λ (autos : List Automaton). Every (RulesFit face) autos)
+    (take_long c.loop-whole.whole-index c.args.autos.now c.loop-whole-test.false) (c.loop-whole.invariant face f)

@@ -16,5 +16,8 @@ returns c =
     let fits = rw c.as_slice.ensures at c.all_fit.ensures in
     let sounds = rw (c.as_slice-5.ensures, c.in_ok-choices.ensures, c.as_slice-4.ensures) at c.are_sound.ensures in
     let none = c.is_empty.ensures.0 c.if-not-is_empty.false in
-    IfOk-weaker c.are_sound.result (λ yes. IsTrue yes → Every (λ (autos : List Automaton). IsSound face (with_autos F autos)) (product c.in_ok-pieces.pieces)) (λ yes. IsTrue yes → IsFilled face F)
-    (λ yes f e. product_fills face F c.in_ok-pieces.pieces h (f e) (fits c.if-not-all_fit.false face c.requires.cell) (subst (λ (ds : List Datum). Every DatumFits ds) (sym none) tt)) sounds
+    IfOk-weaker c.are_sound.result
+    (λ yes. IsTrue yes → Every (λ (autos : List Automaton). IsSound face (with_autos F autos))
+    (product c.in_ok-pieces.pieces)) (λ yes. IsTrue yes → IsFilled face F)
+    (λ yes f e. product_fills face F c.in_ok-pieces.pieces h (f e) (fits c.if-not-all_fit.false face c.requires.cell)
+    (subst (λ (ds : List Datum). Every DatumFits ds) (sym none) tt)) sounds

@@ -7,5 +7,6 @@ pub covers_state-requires : goal.covers_state-requires
 covers_state-requires c =
     let n = c.in-Some.node.now in
     let is : slice_get c.args.self.now c.args.number ≡ Some n =
-    subst (λ z. slice_get z c.args.number ≡ Some n) c.self.view_is (sym c.get.ensures.value ∙ ap (λ z. option_copied z) c.in-Some.is) in
+    subst (λ z. slice_get z c.args.number ≡ Some n) c.self.view_is
+    (sym c.get.ensures.value ∙ ap (λ z. option_copied z) c.in-Some.is) in
     c.requires n (in_at c.args.self.now c.args.number n is)

@@ -6,5 +6,7 @@ use Rattle.fix_engine.proofs.Lists.{take_all}
 use Rattle.fix_engine.proofs.nodes.Nodes.is_covered_in.Goals as goal
 
 pub returns : goal.returns
-returns c = none_covers_nowhere c.args.self.now c.args.location c.args.state.now.forest c.args.numbers.now c.requires.numbers
-    (subst (Every (NotCovers c.args.self.now c.args.location c.args.state.now.forest)) (take_all c.args.numbers.now c.loop-number.number-index c.loop-number-test.false) c.loop-number.invariant)
+returns c = none_covers_nowhere c.args.self.now c.args.location c.args.state.now.forest c.args.numbers.now
+    c.requires.numbers
+    (subst (Every (NotCovers c.args.self.now c.args.location c.args.state.now.forest))
+    (take_all c.args.numbers.now c.loop-number.number-index c.loop-number-test.false) c.loop-number.invariant)
