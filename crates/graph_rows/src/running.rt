@@ -3,7 +3,6 @@ ghost use Rattle.std.specs.Prelude.{◌≤◌};
 
 use crate::outcomes::{put_outcome, put_turn};
 use crate::programs::{GRAPH_HEAD, RUN_HEAD, graph_of, program_of};
-use crate::texts::put_between;
 use anyhow::{Context, Result, bail};
 use c_cfg::graph::Graph;
 use c_cfg::lower::lower;
@@ -14,6 +13,7 @@ use c_types::outcome::Outcome;
 use c_types::program::Typed;
 use fore_base::memory::Mem;
 use fore_base::text::Text;
+use row_texts::put_between;
 use std::alloc::Global;
 
 /// How many steps a run takes at most in a row.

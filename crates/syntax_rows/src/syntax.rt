@@ -1,7 +1,6 @@
 // The answers of the parser, as texts.
 ghost use Rattle.std.specs.Prelude.{◌≤◌, length};
 
-use crate::texts::put_between;
 use crate::trees::put_item;
 use c_ast::Unit;
 use c_grammar::SyntaxFault;
@@ -11,6 +10,7 @@ use fore_base::limits::FILE_BYTES;
 use fore_base::memory::Mem;
 use fore_base::place::Place;
 use fore_base::text::Text;
+use row_texts::put_between;
 use std::alloc::{AllocError, Global};
 
 /// parse: `ok` with the depth of the tree; `S` or `D` with the offset of the token; or `P` with the rule and the

@@ -1,13 +1,13 @@
 // Tokens, their places, and the first refused one, as texts.
 ghost use Rattle.std.specs.Prelude.{◌≤◌, length};
 
-use crate::texts::put_between;
 use c_lexer::{LexFault, TokKind, end_place, tokens};
 use c_refused::first_refused;
 use fore_base::limits::FILE_BYTES;
 use fore_base::memory::Mem;
 use fore_base::place::Place;
 use fore_base::text::Text;
+use row_texts::put_between;
 use std::alloc::{AllocError, Global};
 
 /// tokens: the first letter of each token's kind and its bytes, or `none`; or the rule that refuses the text, and

@@ -5,11 +5,11 @@
 ghost use Rattle.std.specs.Prelude.{◌≤◌, length};
 
 use crate::syntax::put_parsed;
-use crate::texts::put_between;
 use anyhow::{Context, Result, bail};
 use fore_base::limits::FILE_BYTES;
 use fore_base::memory::Mem;
 use fore_base::text::Text;
+use row_texts::put_between;
 use std::alloc::Global;
 
 /// How a sample is changed at a token.

@@ -1,6 +1,5 @@
 // Items as texts: each part with the offset of its first token behind `@`, the two sides of an `if` in square
 // brackets.
-use crate::texts::put_between;
 use c_ast::{
     And, Arrow, Block, Call, Cond, Data, Declarator, Declare, Field, First, Head, Item, Name,
     Operand, Param, Params, Part, Path, ReturnType, Rhs, Simple, Size, Stmt, Test, Unary,
@@ -9,6 +8,7 @@ use fore_base::boxed::Boxed;
 use fore_base::memory::Mem;
 use fore_base::place::Place;
 use fore_base::text::Text;
+use row_texts::put_between;
 
 /// Puts a word and an offset.
 fn put_at(out: &mut Text, word: &[u8], at: &Place) -> Mem<()> {

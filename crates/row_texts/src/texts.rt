@@ -9,8 +9,13 @@ use anyhow::{Context, Result, bail};
 use fore_base::memory::Mem;
 use fore_base::text::Text;
 use std::alloc::Global;
+use std::str;
 
 /// The text that stands in a row.
+///
+/// # Errors
+///
+/// An escape that is none, a piece without its count or its end, and want of memory.
 pub fn read_text(alloc: Global, row: &str) -> Result<Text> {
     let mut text = Text::new(alloc);
     let mut parts = row.split("\\[");
@@ -98,9 +103,25 @@ fn digit(letter: u8) -> Option<u8> {
 }
 
 /// Puts what stands between two parts, where a part stands before.
+///
+/// # Errors
+///
+/// Want of memory.
 pub fn put_between(out: &mut Text, number: usize, word: &[u8]) -> Mem<()> {
     if number > 0 {
         out.put(word)?;
     }
     Ok(())
+}
+
+/// An answer as it is printed.
+///
+/// # Errors
+///
+/// Bytes that are no text, and want of memory.
+pub fn shown(alloc: Global, out: &Text) -> Result<String> {
+    let text = str::from_utf8(out.as_slice())
+        .ok()
+        .context("bytes that are no text")?;
+    Ok(String::from_str(alloc, text)?)
 }
