@@ -6,10 +6,11 @@ use Rattle.c_types.specs.declared.program.Cond.{Cond}
 use Rattle.c_types.specs.declared.program.Cond.TheVariants.{Atom, Not, All, Any}
 use Rattle.c_types.specs.Control.{Both, Either, joined, test_of}
 use Rattle.c_types.proofs.Layers.{test-Atom, test-Not, test-All, test-Any}
-use Rattle.c_cfg.specs.declared.conditions.Joint.{Joint}
-use Rattle.c_cfg.specs.declared.conditions.Joint.TheVariants.{All as JointAll, Any as JointAny}
+use Rattle.c_joints.specs.declared.sides.Joint.{Joint}
+use Rattle.c_joints.specs.declared.sides.Joint.TheVariants.{All as JointAll, Any as JointAny}
 use Rattle.c_cfg.specs.inner.Numbering.{atom_width, test_width, atom_edges}
-use Rattle.c_cfg.specs.inner.Emitting.{emit_test, parts_width, joined_width, emit_parts, yes_side, no_side}
+use Rattle.c_cfg.specs.inner.Emitting.{emit_test, parts_width, joined_width, emit_parts}
+use Rattle.c_joints.specs.Sides.{yes_side, no_side}
 
 module _ (nv nd : ℕ) where
   both-wide : (cs : List Cond) → test_width nv nd (joined Both (map test_of cs)) ≡ joined_width nv nd cs

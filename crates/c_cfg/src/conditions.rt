@@ -1,7 +1,6 @@
 // The edges of conditions.
 ghost use Rattle.std.specs.Prelude.{◌≡◌, ◌++◌, ◌∷◌, [], None, OnOk, IfOk};
 ghost use Rattle.c_cfg.specs.Lowering.{edge};
-ghost use Rattle.c_cfg.specs.inner.Emitting.{yes_side, no_side};
 ghost use Rattle.c_cfg.specs.inner.Sites.{atom_room, test_room, joined_room, atom_edges_at, test_edges, joined_edges};
 
 use crate::chain::{add_choice, add_edge};
@@ -10,38 +9,10 @@ use crate::graph::{Edge, Instr};
 use crate::site::Site;
 use crate::sizes::atom_size;
 use crate::sums::sum;
+use c_joints::Joint;
 use c_types::program::{Atom, Cond};
 use fore_base::list::List;
 use fore_base::memory::Mem;
-
-/// What joins the parts of a condition.
-#[derive(Clone, Copy, Debug)]
-pub enum Joint {
-    /// `&&`.
-    All,
-    /// `||`.
-    Any,
-}
-
-impl Joint {
-    fn yes_side(&self, next: u32, yes: u32) -> u32
-        ensures { result ≡ yes_side self.now next yes }
-    {
-        match self {
-            Joint::All => next,
-            Joint::Any => yes,
-        }
-    }
-
-    fn no_side(&self, next: u32, no: u32) -> u32
-        ensures { result ≡ no_side self.now next no }
-    {
-        match self {
-            Joint::All => no,
-            Joint::Any => next,
-        }
-    }
-}
 
 impl Site {
     #[tactic(auto, using(crate::proofs::Sized::sizes))]

@@ -5,10 +5,10 @@ use Rattle.fore_base.specs.declared.place.Place.{Place}
 use Rattle.c_ast.specs.declared.statements.Stmt.{Stmt}
 use Rattle.c_ast.specs.declared.statements.Stmt.TheVariants as stmt'
 use Rattle.c_lexer.specs.declared.token.Token.{Token}
-use Rattle.c_grammar.specs.inner.Faults.{Alive, Dead, Fails, Takes}
-use Rattle.c_grammar.specs.inner.Faults.Fails.{stuck, sunk, no_memory}
+use Rattle.c_grammar.specs.words.Faults.{Alive, Dead, Fails, Takes}
+use Rattle.c_grammar.specs.words.Faults.Fails.{stuck, sunk, no_memory}
 use Rattle.c_grammar.specs.Grammar.{Rule, token, ◌then◌, Made}
-use Rattle.c_grammar.specs.inner.Sets.{no_sign, elses, begins_stmt}
+use Rattle.c_grammar.specs.words.Sets.{no_sign, elses, begins_stmt}
 use Rattle.c_grammar.specs.Signs.{sign_at}
 use Rattle.c_grammar.specs.Syntax.{second, stmt, other_part}
 use Rattle.c_grammar.specs.declared.fault.SyntaxFault.{SyntaxFault}
@@ -22,7 +22,7 @@ use Rattle.c_grammar.proofs.Levels.{empty_stmt}
 use Rattle.c_grammar.proofs.Steps.{widen_fails, good_pair}
 use Rattle.c_grammar.proofs.Tokens.{sample}
 use Rattle.c_grammar.proofs.SignLemmas.{clash, one_of}
-use Rattle.c_grammar.specs.inner.Parted.{begins_level}
+use Rattle.c_grammar.specs.words.Parted.{begins_level}
 
 abbrev pub Tail : Rule (Stmt × Option Stmt)
 Tail n = stmt n then other_part (stmt n)

@@ -5,8 +5,8 @@ use Rattle.c_lexer.specs.declared.token.Token.{Token}
 use Rattle.c_grammar.specs.Grammar.{Rule}
 use Rattle.c_grammar.specs.Signs.{and, sign_at}
 use Rattle.c_grammar.specs.declared.fault.SyntaxFault.{SyntaxFault}
-use Rattle.c_grammar.specs.inner.Faults.{Fails, Takes}
-use Rattle.c_grammar.specs.inner.Sets.{Signs}
+use Rattle.c_grammar.specs.words.Faults.{Fails, Takes}
+use Rattle.c_grammar.specs.words.Sets.{Signs}
 use Rattle.c_grammar.proofs.Decide.{apart_of}
 use Rattle.c_grammar.proofs.Families.{choice, made}
 use Rattle.c_grammar.proofs.Parts.{Same, takes_left, takes_right, fails_left, fails_right, cont_either}

@@ -10,12 +10,12 @@ use Rattle.c_ast.specs.declared.conditions.Unary.TheVariants as unary'
 use Rattle.c_ast.specs.declared.operands.Operand.{Operand}
 use Rattle.c_ast.specs.declared.operands.Operand.TheVariants as operand'
 use Rattle.c_lexer.specs.declared.token.Token.{Token}
-use Rattle.c_grammar.specs.inner.Faults.{Alive, Fails, Takes}
-use Rattle.c_grammar.specs.inner.Faults.Fails.{sunk}
+use Rattle.c_grammar.specs.words.Faults.{Alive, Fails, Takes}
+use Rattle.c_grammar.specs.words.Faults.Fails.{sunk}
 use Rattle.c_grammar.specs.Grammar.{Rule, token, ◌then◌, Many, Made, level}
-use Rattle.c_grammar.specs.inner.Sets.{Signs, among, no_sign, equals, begins_nested, begins_operand, begins_cond}
-use Rattle.c_grammar.specs.inner.Sets.{operand_goes_on, test_goes_on, and_goes_on, cond_goes_on}
-use Rattle.c_grammar.specs.inner.Shapes.{StaysOut, two_sides, a_comparison, a_test, next_test, next_and}
+use Rattle.c_grammar.specs.words.Sets.{Signs, among, no_sign, equals, begins_nested, begins_operand, begins_cond}
+use Rattle.c_grammar.specs.words.Sets.{operand_goes_on, test_goes_on, and_goes_on, cond_goes_on}
+use Rattle.c_grammar.specs.words.Shapes.{StaysOut, two_sides, a_comparison, a_test, next_test, next_and}
 use Rattle.c_grammar.specs.Signs.{sign_of, sign_at, or_on}
 use Rattle.c_grammar.specs.Syntax as s
 use Rattle.c_grammar.specs.Syntax.{at, operand, unary, inner_unary, test_with, and_with, cond, sides, test_of, joined}

@@ -1,6 +1,6 @@
 -- What holds of sets of signs is decided sign by sign.
 use Rattle.std.proofs.Common.{◌≡◌, ℕ, zero, suc, Bool, true, false, List, [], ◌∷◌, refl, sym, ◌∙◌, not}
-use Rattle.c_grammar.specs.inner.Sets.{Signs}
+use Rattle.c_grammar.specs.words.Sets.{Signs}
 use Rattle.c_grammar.specs.declared.signs.Sign.{Sign}
 use Rattle.c_grammar.specs.declared.signs.Sign.TheVariants.{Id, Number, Struct, Enum, Int, Void, Extern, If, Else}
 use Rattle.c_grammar.specs.declared.signs.Sign.TheVariants.{While, Do, For, Return, Break, Continue, Sizeof, Malloc}

@@ -7,8 +7,8 @@ use Rattle.c_grammar.specs.Grammar.{Rule}
 use Rattle.c_grammar.specs.Hopeless.{opener, opener_of}
 use Rattle.c_grammar.specs.Signs.{and, same_sign, sign_of}
 use Rattle.c_grammar.specs.Syntax.{at, at_of}
-use Rattle.c_grammar.specs.inner.Faults.{Takes}
-use Rattle.c_grammar.specs.inner.Sets.{Signs}
+use Rattle.c_grammar.specs.words.Faults.{Takes}
+use Rattle.c_grammar.specs.words.Sets.{Signs}
 use Rattle.c_grammar.specs.declared.signs.Sign.{Sign}
 use Rattle.c_grammar.specs.declared.signs.Sign.TheVariants.{Id, Open, End}
 use Rattle.c_grammar.proofs.Families.{both, choice, made, one}

@@ -7,15 +7,15 @@ use Rattle.fore_base.specs.declared.place.Place.{Place}
 use Rattle.c_ast.specs.declared.operands.Name.{Name}
 use Rattle.c_lexer.specs.declared.token.Token.{Token}
 use Rattle.c_grammar.specs.Grammar.{Part, Rule, token, ◌then◌, Many, Made}
-use Rattle.c_grammar.specs.inner.Sets.{Signs, among, no_sign}
+use Rattle.c_grammar.specs.words.Sets.{Signs, among, no_sign}
 use Rattle.c_grammar.specs.Signs.{sign_of, sign_at}
 use Rattle.c_grammar.specs.Items.{more_names}
 use Rattle.c_grammar.specs.Syntax.{name, first, second, optional}
 use Rattle.c_grammar.specs.declared.signs.Sign.TheVariants as sign
 use Rattle.c_grammar.specs.Hopeless.{place_at}
 use Rattle.c_grammar.specs.Signs.{same_sign}
-use Rattle.c_grammar.specs.inner.Faults.{Alive, Fails, Takes}
-use Rattle.c_grammar.specs.inner.Faults.Fails.{stuck, sunk, no_memory}
+use Rattle.c_grammar.specs.words.Faults.{Alive, Fails, Takes}
+use Rattle.c_grammar.specs.words.Faults.Fails.{stuck, sunk, no_memory}
 use Rattle.c_grammar.specs.declared.fault.SyntaxFault.{SyntaxFault}
 use Rattle.c_grammar.specs.declared.fault.SyntaxFault.TheVariants.{Syntax}
 use Rattle.c_grammar.specs.declared.signs.Sign.{Sign}

@@ -1,7 +1,7 @@
 -- A rule that is made of itself one level further in is good where each layer is.
 use Rattle.std.proofs.Common.{◌≡◌, ◌<◌, ◌+◌, ℕ, zero, suc, Bool, List, ◌++◌, sym, ◌∙◌, subst, arith}
 use Rattle.c_lexer.specs.declared.token.Token.{Token}
-use Rattle.c_grammar.specs.inner.Sets.{Signs}
+use Rattle.c_grammar.specs.words.Sets.{Signs}
 use Rattle.c_grammar.specs.Grammar.{Rule, nowhere}
 use Rattle.c_grammar.proofs.Rules.{Good}
 

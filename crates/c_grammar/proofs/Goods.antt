@@ -8,8 +8,8 @@ use Rattle.c_ast.specs.declared.operands.Operand.{Operand}
 use Rattle.c_ast.specs.declared.operands.Operand.TheVariants as operand'
 use Rattle.c_lexer.specs.declared.token.Token.{Token}
 use Rattle.c_grammar.specs.Grammar.{Part, Rule, token, empty, nowhere, ◌then◌, ◌or◌, Many, Made, level}
-use Rattle.c_grammar.specs.inner.Sets.{commas, opens, tails, operands_go_on, arguments_go_on, Signs, among, no_sign}
-use Rattle.c_grammar.specs.inner.Sets.{arrows, names, operand_goes_on, begins_operand}
+use Rattle.c_grammar.specs.words.Sets.{commas, opens, tails, operands_go_on, arguments_go_on, Signs, among, no_sign}
+use Rattle.c_grammar.specs.words.Sets.{arrows, names, operand_goes_on, begins_operand}
 use Rattle.c_grammar.specs.Syntax.{at, at_of, name, name_of, arrow, arrow_of, path, path_of, middle, series, joined}
 use Rattle.c_grammar.specs.Syntax.{second, arguments, call_with, call_of, call, operand_with, operand, argument}
 use Rattle.c_grammar.specs.Syntax.{literal_part}

@@ -6,9 +6,9 @@ use Rattle.c_grammar.specs.Grammar.{Rule, token, ◌then◌, Made}
 use Rattle.c_grammar.specs.Syntax as s
 use Rattle.c_grammar.specs.Syntax.{at, middle, bracketed, optional, cond, declare, simple, first_part, stmt}
 use Rattle.c_grammar.specs.declared.signs.Sign.TheVariants as sign
-use Rattle.c_grammar.specs.inner.Parted.{HeadOfFor, for_head, for_head_of}
-use Rattle.c_grammar.specs.inner.Faults.{Alive}
-use Rattle.c_grammar.specs.inner.Sets.{among, no_sign}
+use Rattle.c_grammar.specs.words.Parted.{HeadOfFor, for_head, for_head_of}
+use Rattle.c_grammar.specs.words.Faults.{Alive}
+use Rattle.c_grammar.specs.words.Sets.{among, no_sign}
 use Rattle.c_grammar.proofs.Goods.{named, good_one, good_at}
 use Rattle.c_grammar.proofs.Conditions.{least_cond}
 use Rattle.c_grammar.proofs.Parts.{Same, good_made, alive_made}

@@ -16,7 +16,7 @@ use Rattle.c_lexer.specs.declared.token.Token.{Token}
 use Rattle.c_grammar.specs.Grammar.{token}
 use Rattle.c_grammar.specs.Items.{rtype, closed_params, head, head_of, item, unit}
 use Rattle.c_grammar.specs.Syntax.{at, name, optional, data_part, declarator_of, declare}
-use Rattle.c_grammar.specs.inner.Sets.{no_sign, elses}
+use Rattle.c_grammar.specs.words.Sets.{no_sign, elses}
 use Rattle.c_grammar.specs.declared.signs.Sign.TheVariants as sign
 use Rattle.c_grammar.proofs.Decide.{apart_of}
 use Rattle.c_grammar.proofs.Goods.{named}
@@ -27,9 +27,9 @@ use Rattle.c_grammar.proofs.Items.{good_parted}
 use Rattle.c_grammar.proofs.Whole.{one_tree}
 use Rattle.c_grammar.specs.Hopeless.{IsWhole}
 use Rattle.c_ast.specs.declared.statements.Declare.{Declare}
-use Rattle.c_grammar.specs.inner.Parted.{ending, Rest, data_rest, pointer_rest, head_item, data_item, pointer_item}
-use Rattle.c_grammar.specs.inner.Parted.{EnumRest, enum_rest, enum_item_of, StructRest, struct_rest, struct_item_of}
-use Rattle.c_grammar.specs.inner.Parted.{parted_item, begins_item}
+use Rattle.c_grammar.specs.words.Parted.{ending, Rest, data_rest, pointer_rest, head_item, data_item, pointer_item}
+use Rattle.c_grammar.specs.words.Parted.{EnumRest, enum_rest, enum_item_of, StructRest, struct_rest, struct_item_of}
+use Rattle.c_grammar.specs.words.Parted.{parted_item, begins_item}
 
 -- from the parts to the grammar's alternatives
 module _ (n : ℕ) (ts rest : List Token) (x : Item) where

@@ -8,9 +8,9 @@ use Rattle.c_grammar.specs.Grammar.{Many}
 use Rattle.c_grammar.specs.Items as i
 use Rattle.c_grammar.specs.Syntax as s
 use Rattle.c_grammar.specs.declared.signs.Sign.TheVariants as sign
-use Rattle.c_grammar.specs.inner.Faults.{Alive}
-use Rattle.c_grammar.specs.inner.Parted.{ending, called, data_rest, pointer_rest, enum_rest, struct_rest, no_block}
-use Rattle.c_grammar.specs.inner.Sets.{no_sign, elses}
+use Rattle.c_grammar.specs.words.Faults.{Alive}
+use Rattle.c_grammar.specs.words.Parted.{ending, called, data_rest, pointer_rest, enum_rest, struct_rest, no_block}
+use Rattle.c_grammar.specs.words.Sets.{no_sign, elses}
 use Rattle.c_grammar.proofs.Readings.{tok, make, and_then, at_tok}
 use Rattle.c_grammar.proofs.Tokens.{sample, real}
 

@@ -7,7 +7,7 @@ use Rattle.c_grammar.specs.Items as i
 use Rattle.c_grammar.specs.Items.{some, field, star_name, braced_fields, enum_body, rtype, param, params, closed_params}
 use Rattle.c_grammar.specs.Items.{head, head_of}
 use Rattle.c_grammar.specs.Syntax.{at, name, second, middle, joined, optional, series, declarator, block}
-use Rattle.c_grammar.specs.inner.Sets.{among, no_sign, names, opens, commas, elses, begins_declare}
+use Rattle.c_grammar.specs.words.Sets.{among, no_sign, names, opens, commas, elses, begins_declare}
 use Rattle.c_grammar.specs.declared.signs.Sign.TheVariants as sign
 use Rattle.c_grammar.proofs.Decide.{apart_of}
 use Rattle.c_grammar.proofs.Enumerators.{good_written}
@@ -18,11 +18,11 @@ use Rattle.c_grammar.proofs.Rules.{Good}
 use Rattle.c_grammar.proofs.Statements.{good_data, good_declarator, good_maybe_from, good_star_declarator}
 use Rattle.c_grammar.proofs.Statements.{good_inner_block}
 use Rattle.c_grammar.proofs.Steps.{good_pair, good_or}
-use Rattle.c_grammar.specs.inner.Parted.{declarator_goes_on, declarators_go_on, stars, braces, begins_params}
-use Rattle.c_grammar.specs.inner.Parted.{params_go_on, begins_rtype, no_block, ending, begins_ending, called, data_rest}
-use Rattle.c_grammar.specs.inner.Parted.{pointer_rest, begins_rest, begins_declared, data_declared, pointer_declared}
-use Rattle.c_grammar.specs.inner.Parted.{extern_of, void_of, int_of, enum_rest, enum_item_of, struct_rest}
-use Rattle.c_grammar.specs.inner.Parted.{struct_item_of, parted_item, begins_item, begins_struct_rest}
+use Rattle.c_grammar.specs.words.Parted.{declarator_goes_on, declarators_go_on, stars, braces, begins_params}
+use Rattle.c_grammar.specs.words.Parted.{params_go_on, begins_rtype, no_block, ending, begins_ending, called, data_rest}
+use Rattle.c_grammar.specs.words.Parted.{pointer_rest, begins_rest, begins_declared, data_declared, pointer_declared}
+use Rattle.c_grammar.specs.words.Parted.{extern_of, void_of, int_of, enum_rest, enum_item_of, struct_rest}
+use Rattle.c_grammar.specs.words.Parted.{struct_item_of, parted_item, begins_item, begins_struct_rest}
 
 -- fields
 pub good_star_name : Good (λ n. star_name) stars no_sign no_sign false

@@ -6,9 +6,9 @@ use Rattle.c_lexer.specs.declared.token.Token.{Token}
 use Rattle.c_grammar.specs.Grammar.{Rule, Many, ◌then◌}
 use Rattle.c_grammar.specs.Syntax as syntax
 use Rattle.c_grammar.specs.declared.signs.Sign.TheVariants as sign
-use Rattle.c_grammar.specs.inner.Faults.{Alive}
-use Rattle.c_grammar.specs.inner.Parted.{inside_part, sized_part, after_part}
-use Rattle.c_grammar.specs.inner.Sets.{Signs, no_sign}
+use Rattle.c_grammar.specs.words.Faults.{Alive}
+use Rattle.c_grammar.specs.words.Parted.{inside_part, sized_part, after_part}
+use Rattle.c_grammar.specs.words.Sets.{Signs, no_sign}
 use Rattle.c_grammar.proofs.Conditions.{least_operand}
 use Rattle.c_grammar.proofs.Families.{one}
 use Rattle.c_grammar.proofs.Parts.{least_token, alive_made}

@@ -14,16 +14,16 @@ use Rattle.c_grammar.specs.Syntax.{at, cond, stmt}
 use Rattle.c_grammar.specs.declared.fault.SyntaxFault.TheVariants.{Deep}
 use Rattle.c_grammar.specs.declared.signs.Sign.{Sign}
 use Rattle.c_grammar.specs.declared.signs.Sign.TheVariants as sign
-use Rattle.c_grammar.specs.inner.Faults.{Alive, Fails}
-use Rattle.c_grammar.specs.inner.Faults.Fails.{sunk}
-use Rattle.c_grammar.specs.inner.Sets.{Signs, among, no_sign, elses}
+use Rattle.c_grammar.specs.words.Faults.{Alive, Fails}
+use Rattle.c_grammar.specs.words.Faults.Fails.{sunk}
+use Rattle.c_grammar.specs.words.Sets.{Signs, among, no_sign, elses}
 use Rattle.c_grammar.proofs.Conditions.{least_cond}
 use Rattle.c_grammar.proofs.Decide.{apart_of}
 use Rattle.c_grammar.proofs.Readings.{tok, make, and_then, at_tok}
 use Rattle.c_grammar.proofs.SignLemmas.{clash, one_of}
 use Rattle.c_grammar.proofs.Statements.{good_flat}
 use Rattle.c_grammar.proofs.Tokens.{sample, real}
-use Rattle.c_grammar.specs.inner.Parted.{begins_flat, begins_level}
+use Rattle.c_grammar.specs.words.Parted.{begins_flat, begins_level}
 
 -- where a level begins and none is left
 pub deep_first : {X : Type 0} (F : Rule X) (c ba hs : Signs) (end : Place) (ts : List Token) → hs (sign_at ts) ≡ true

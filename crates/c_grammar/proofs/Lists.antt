@@ -4,9 +4,9 @@ use Rattle.std.proofs.Common.{refl, sym, ap, subst, append_assoc}
 use Rattle.std.proofs.lemmas.List.{append-nil}
 use Rattle.fore_base.specs.declared.place.Place.{Place}
 use Rattle.c_lexer.specs.declared.token.Token.{Token}
-use Rattle.c_grammar.specs.inner.Faults.{Fails, Takes}
+use Rattle.c_grammar.specs.words.Faults.{Fails, Takes}
 use Rattle.c_grammar.specs.Grammar.{Rule}
-use Rattle.c_grammar.specs.inner.Sets.{Signs}
+use Rattle.c_grammar.specs.words.Sets.{Signs}
 use Rattle.c_grammar.specs.Signs.{sign_at}
 use Rattle.c_grammar.proofs.Decide.{every, implies, apart_of}
 use Rattle.c_grammar.proofs.SignLemmas.{clash}

@@ -4,9 +4,9 @@ use Rattle.fore_base.specs.declared.place.Place.{Place}
 use Rattle.c_ast.specs.declared.operands.Operand.{Operand}
 use Rattle.c_ast.specs.declared.operands.Operand.TheVariants as operand'
 use Rattle.c_lexer.specs.declared.token.Token.{Token}
-use Rattle.c_grammar.specs.inner.Faults.{Alive, Fails, Takes}
-use Rattle.c_grammar.specs.inner.Sets.{no_sign}
-use Rattle.c_grammar.specs.inner.Shapes.{a_literal}
+use Rattle.c_grammar.specs.words.Faults.{Alive, Fails, Takes}
+use Rattle.c_grammar.specs.words.Sets.{no_sign}
+use Rattle.c_grammar.specs.words.Shapes.{a_literal}
 use Rattle.c_grammar.specs.Signs.{sign_of, sign_at}
 use Rattle.c_grammar.specs.Syntax.{literal_part, name_of}
 use Rattle.c_grammar.specs.declared.fault.SyntaxFault.{SyntaxFault}

@@ -7,13 +7,13 @@ use Rattle.c_ast.specs.declared.operands.Name.{Name}
 use Rattle.c_ast.specs.declared.operands.Operand.{Operand}
 use Rattle.c_ast.specs.declared.operands.Operand.TheVariants as operand'
 use Rattle.c_lexer.specs.declared.token.Token.{Token}
-use Rattle.c_grammar.specs.inner.Faults.{Alive, Fails, Takes}
-use Rattle.c_grammar.specs.inner.Faults.Fails.{sunk}
+use Rattle.c_grammar.specs.words.Faults.{Alive, Fails, Takes}
+use Rattle.c_grammar.specs.words.Faults.Fails.{sunk}
 use Rattle.c_grammar.specs.Grammar.{Rule, token, empty, ◌then◌, ◌or◌, Many}
-use Rattle.c_grammar.specs.inner.Sets.{no_sign, arrows, names, opens, commas, tails, operand_goes_on, operands_go_on}
-use Rattle.c_grammar.specs.inner.Sets.{arguments_go_on, begins_operand}
-use Rattle.c_grammar.specs.inner.Shapes.{IsName, a_name, some_arrows, next_argument, some_arguments, all_arguments}
-use Rattle.c_grammar.specs.inner.Shapes.{a_literal}
+use Rattle.c_grammar.specs.words.Sets.{no_sign, arrows, names, opens, commas, tails, operand_goes_on, operands_go_on}
+use Rattle.c_grammar.specs.words.Sets.{arguments_go_on, begins_operand}
+use Rattle.c_grammar.specs.words.Shapes.{IsName, a_name, some_arrows, next_argument, some_arguments, all_arguments}
+use Rattle.c_grammar.specs.words.Shapes.{a_literal}
 use Rattle.c_grammar.specs.Signs.{sign_of, sign_at, same_sign}
 use Rattle.c_grammar.specs.Syntax.{name, name_of, path_of, middle, series, joined, second, call_of, argument}
 use Rattle.c_grammar.specs.declared.fault.SyntaxFault.{SyntaxFault}

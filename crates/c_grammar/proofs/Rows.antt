@@ -30,7 +30,7 @@ use Rattle.c_grammar.specs.Signs.{sign_of, sign_at}
 use Rattle.c_grammar.specs.Syntax as s
 use Rattle.c_grammar.specs.Syntax.{at, name, name_of, path, bracketed, middle, second, joined, operand, cond, rhs, stmt}
 use Rattle.c_grammar.specs.declared.signs.Sign.TheVariants as sign
-use Rattle.c_grammar.specs.inner.Sets.{among, begins_operand}
+use Rattle.c_grammar.specs.words.Sets.{among, begins_operand}
 use Rattle.c_grammar.proofs.Goods.{good_operand}
 use Rattle.c_grammar.proofs.Readings.{tok, make, and_then, at_tok}
 use Rattle.c_grammar.proofs.SignLemmas.{clash}

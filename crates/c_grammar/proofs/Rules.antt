@@ -6,11 +6,11 @@ use Rattle.fore_base.specs.declared.place.Place.{Place}
 use Rattle.c_lexer.specs.declared.token.Token.{Token}
 use Rattle.c_grammar.specs.declared.fault.SyntaxFault.{SyntaxFault}
 use Rattle.c_grammar.specs.Hopeless.{opener}
-use Rattle.c_grammar.specs.inner.Faults.{Alive, Dead, Fails, Takes}
-use Rattle.c_grammar.specs.inner.Faults.Fails.{stuck, sunk, no_memory}
+use Rattle.c_grammar.specs.words.Faults.{Alive, Dead, Fails, Takes}
+use Rattle.c_grammar.specs.words.Faults.Fails.{stuck, sunk, no_memory}
 use Rattle.c_grammar.specs.Grammar.{Rule}
 use Rattle.c_grammar.proofs.Families.{both}
-use Rattle.c_grammar.specs.inner.Sets.{Signs}
+use Rattle.c_grammar.specs.words.Sets.{Signs}
 use Rattle.c_grammar.specs.Signs.{or_on, and, same_sign, sign_of, sign_at}
 use Rattle.c_grammar.specs.declared.signs.Sign.TheVariants.{Id, Open, End}
 use Rattle.c_grammar.proofs.SignLemmas.{clash, or_left, or_right, or_first, or_second, and_of, and_gives, and_no}

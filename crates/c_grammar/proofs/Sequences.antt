@@ -10,9 +10,9 @@ use Rattle.c_grammar.specs.Syntax.{at, at_of}
 use Rattle.c_grammar.specs.declared.fault.SyntaxFault.{SyntaxFault}
 use Rattle.c_grammar.specs.declared.signs.Sign.{Sign}
 use Rattle.c_grammar.specs.declared.signs.Sign.TheVariants.{End}
-use Rattle.c_grammar.specs.inner.Faults.{Alive, Fails, Takes}
-use Rattle.c_grammar.specs.inner.Faults.Fails.{stuck, sunk, no_memory}
-use Rattle.c_grammar.specs.inner.Sets.{Signs, no_sign}
+use Rattle.c_grammar.specs.words.Faults.{Alive, Fails, Takes}
+use Rattle.c_grammar.specs.words.Faults.Fails.{stuck, sunk, no_memory}
+use Rattle.c_grammar.specs.words.Sets.{Signs, no_sign}
 use Rattle.c_grammar.proofs.Decide.{apart_of}
 use Rattle.c_grammar.proofs.Families.{both, made, one}
 use Rattle.c_grammar.proofs.Parts.{alive_made, least_token}

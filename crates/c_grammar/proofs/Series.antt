@@ -2,9 +2,9 @@
 use Rattle.std.proofs.Common.{◌≡◌, ◌≢◌, ℕ, true, false, List, [], ◌∷◌, refl, sym, ap, not}
 use Rattle.fore_base.specs.declared.place.Place.{Place}
 use Rattle.c_lexer.specs.declared.token.Token.{Token}
-use Rattle.c_grammar.specs.inner.Faults.{Alive, Fails, Takes}
+use Rattle.c_grammar.specs.words.Faults.{Alive, Fails, Takes}
 use Rattle.c_grammar.specs.Grammar.{Rule, token, ◌then◌, Many, Made}
-use Rattle.c_grammar.specs.inner.Sets.{Signs, among, no_sign}
+use Rattle.c_grammar.specs.words.Sets.{Signs, among, no_sign}
 use Rattle.c_grammar.specs.Signs.{and, same_sign, sign_of, sign_at}
 use Rattle.c_grammar.specs.Syntax.{series, joined, second}
 use Rattle.c_grammar.specs.declared.fault.SyntaxFault.{SyntaxFault}

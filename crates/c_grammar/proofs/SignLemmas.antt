@@ -2,7 +2,7 @@
 use Rattle.std.proofs.Common.{◌≡◌, ◌≢◌, ℕ, zero, suc, Bool, true, false, [], ◌∷◌, refl, sym, ap, ◌∙◌, subst}
 use Rattle.std.proofs.lemmas.Bool.{eqb-true}
 use Rattle.c_grammar.specs.Signs.{or_on, and, number_of, same_sign}
-use Rattle.c_grammar.specs.inner.Sets.{among}
+use Rattle.c_grammar.specs.words.Sets.{among}
 use Rattle.c_grammar.specs.declared.signs.Sign.{Sign}
 use Rattle.c_grammar.specs.declared.signs.Sign.TheVariants.{Id, Number, Struct, Enum, Int, Void, Extern, If, Else}
 use Rattle.c_grammar.specs.declared.signs.Sign.TheVariants.{While, Do, For, Return, Break, Continue, Sizeof, Malloc}

@@ -19,9 +19,9 @@ use Rattle.c_ast.specs.declared.statements.Stmt.{Stmt}
 use Rattle.c_ast.specs.declared.statements.Stmt.TheVariants as stmt'
 use Rattle.c_lexer.specs.declared.token.Token.{Token}
 use Rattle.c_grammar.specs.Grammar.{Part, Rule, token, empty, ◌then◌, ◌or◌, Many, Made, level}
-use Rattle.c_grammar.specs.inner.Sets.{Signs, among, no_sign, arrows, names, opens, commas, elses, operand_goes_on}
-use Rattle.c_grammar.specs.inner.Sets.{test_goes_on, and_goes_on, cond_goes_on, begins_nested, equals, begins_operand}
-use Rattle.c_grammar.specs.inner.Sets.{begins_rhs, begins_simple, begins_cond, begins_declare, begins_stmt}
+use Rattle.c_grammar.specs.words.Sets.{Signs, among, no_sign, arrows, names, opens, commas, elses, operand_goes_on}
+use Rattle.c_grammar.specs.words.Sets.{test_goes_on, and_goes_on, cond_goes_on, begins_nested, equals, begins_operand}
+use Rattle.c_grammar.specs.words.Sets.{begins_rhs, begins_simple, begins_cond, begins_declare, begins_stmt}
 use Rattle.c_grammar.specs.Signs.{sign_at, or_on}
 use Rattle.c_grammar.specs.Syntax as s
 use Rattle.c_grammar.specs.Syntax.{at, name, path, arrow, operand, rhs, size, cast, simple, data_part, declarator}
@@ -39,9 +39,9 @@ use Rattle.c_grammar.proofs.Repeats.{good_many}
 use Rattle.c_grammar.proofs.Rules.{Good, Front}
 use Rattle.c_grammar.proofs.Steps.{good_pair, good_or}
 use Rattle.c_grammar.proofs.SignLemmas.{clash}
-use Rattle.c_grammar.specs.inner.Parted.{Inside, inside_part, Sized, sized_part, size_of, After, after_part}
-use Rattle.c_grammar.specs.inner.Parted.{simple_word, declarator_goes_on, declarators_go_on, begins_flat, begins_part}
-use Rattle.c_grammar.specs.inner.Parted.{begins_level, begins_first, simple_goes_on, maybe_cond_goes_on}
+use Rattle.c_grammar.specs.words.Parted.{Inside, inside_part, Sized, sized_part, size_of, After, after_part}
+use Rattle.c_grammar.specs.words.Parted.{simple_word, declarator_goes_on, declarators_go_on, begins_flat, begins_part}
+use Rattle.c_grammar.specs.words.Parted.{begins_level, begins_first, simple_goes_on, maybe_cond_goes_on}
 
 -- in brackets
 pub good_bracketed : {X : Type 0} {A : Rule X} {fa ca ba : Signs} → Good A fa ca ba false

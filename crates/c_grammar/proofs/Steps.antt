@@ -4,9 +4,9 @@ use Rattle.std.specs.Result.{IsErrAnd}
 use Rattle.std.specs.Prelude.{Result, Ok, Err, IfErr}
 use Rattle.fore_base.specs.declared.place.Place.{Place}
 use Rattle.c_lexer.specs.declared.token.Token.{Token}
-use Rattle.c_grammar.specs.inner.Faults.{Fails, Takes, Alive}
+use Rattle.c_grammar.specs.words.Faults.{Fails, Takes, Alive}
 use Rattle.c_grammar.specs.Grammar.{Rule}
-use Rattle.c_grammar.specs.inner.Sets.{Signs}
+use Rattle.c_grammar.specs.words.Sets.{Signs}
 use Rattle.c_grammar.specs.Signs.{and, or_on}
 use Rattle.c_grammar.specs.declared.signs.Sign.TheVariants.{Open, End}
 use Rattle.c_grammar.specs.declared.fault.SyntaxFault.{SyntaxFault}

@@ -4,11 +4,11 @@ use Rattle.std.specs.Prelude.{codes}
 use Rattle.fore_base.specs.declared.place.Place.{Place}
 use Rattle.c_lexer.specs.declared.token.TokKind.TheVariants as kind
 use Rattle.c_lexer.specs.declared.token.Token.{Token}
-use Rattle.c_grammar.specs.inner.Faults.{Fails, Takes}
-use Rattle.c_grammar.specs.inner.Sets.{among, no_sign}
+use Rattle.c_grammar.specs.words.Faults.{Fails, Takes}
+use Rattle.c_grammar.specs.words.Sets.{among, no_sign}
 use Rattle.c_grammar.specs.Signs.{sign_of, sign_at, or_on, same_sign}
 use Rattle.c_ast.specs.declared.operands.Name.{Name}
-use Rattle.c_grammar.specs.inner.Shapes.{IsName}
+use Rattle.c_grammar.specs.words.Shapes.{IsName}
 use Rattle.c_grammar.specs.Syntax.{at, at_of, name, name_of}
 use Rattle.c_grammar.specs.declared.fault.SyntaxFault.{SyntaxFault}
 use Rattle.c_grammar.specs.declared.fault.SyntaxFault.TheVariants.{Syntax}

@@ -3,10 +3,10 @@ use Rattle.std.proofs.Common.{◌≡◌, ℕ, Bool, false, List, [], ◌∷◌, 
 use Rattle.std.proofs.lemmas.List.{append-nil}
 use Rattle.fore_base.specs.declared.place.Place.{Place}
 use Rattle.c_lexer.specs.declared.token.Token.{Token}
-use Rattle.c_grammar.specs.inner.Faults.{Alive, IsSyntax, Sinks, Takes}
+use Rattle.c_grammar.specs.words.Faults.{Alive, IsSyntax, Sinks, Takes}
 use Rattle.c_grammar.specs.Grammar.{Rule}
 use Rattle.c_grammar.specs.Hopeless.{IsWhole, IsAliveWithin, IsHopelessAt, IsSyntaxAt, IsDeepAt}
-use Rattle.c_grammar.specs.inner.Sets.{Signs}
+use Rattle.c_grammar.specs.words.Sets.{Signs}
 use Rattle.c_grammar.specs.Signs.{sign_at}
 use Rattle.c_grammar.specs.declared.signs.Sign.TheVariants.{End}
 use Rattle.c_grammar.proofs.Rules.{Good}

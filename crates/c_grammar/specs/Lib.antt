@@ -1,7 +1,7 @@
 pub mod Grammar
 pub mod Hopeless
-pub mod inner
 pub mod Items
 pub mod Signs
 pub mod Syntax
 pub mod Units
+pub mod words

@@ -1,2 +1,4 @@
+mod ItemKinds
 pub mod ParseLemmas
+mod TypeForms
 pub mod Walking

@@ -16,10 +16,10 @@ use Rattle.c_grammar.specs.Hopeless.{place_at}
 use Rattle.c_grammar.specs.Items.{unit}
 use Rattle.c_grammar.specs.declared.fault.SyntaxFault.{SyntaxFault}
 use Rattle.c_grammar.specs.declared.fault.SyntaxFault.TheVariants.{Refused, Syntax, Deep, Memory}
-use Rattle.c_grammar.specs.inner.Faults.{Fails, Takes}
-use Rattle.c_grammar.specs.inner.Faults.Fails.{stuck, sunk, no_memory}
-use Rattle.c_grammar.specs.inner.Parted.{begins_item}
-use Rattle.c_grammar.specs.inner.Sets.{no_sign, elses}
+use Rattle.c_grammar.specs.words.Faults.{Fails, Takes}
+use Rattle.c_grammar.specs.words.Faults.Fails.{stuck, sunk, no_memory}
+use Rattle.c_grammar.specs.words.Parted.{begins_item}
+use Rattle.c_grammar.specs.words.Sets.{no_sign, elses}
 use Rattle.c_parser.specs.Parses.{IsParsed, IsFault}
 use Rattle.c_parser.specs.inner.Stops.{IsStop}
 

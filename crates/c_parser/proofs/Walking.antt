@@ -6,8 +6,8 @@ use Rattle.c_lexer.specs.declared.token.Token.{Token}
 use Rattle.c_grammar.specs.Grammar.{Made}
 use Rattle.c_grammar.specs.Items.{more_names}
 use Rattle.c_grammar.specs.Syntax.{first}
-use Rattle.c_grammar.specs.inner.Faults.{Takes}
-use Rattle.c_grammar.specs.inner.Sets.{no_sign}
+use Rattle.c_grammar.specs.words.Faults.{Takes}
+use Rattle.c_grammar.specs.words.Sets.{no_sign}
 use Rattle.c_grammar.proofs.Enumerators.{Walks, walks_next, names_ends}
 use Rattle.c_parser.specs.inner.Values.{ValueStep}
 

@@ -1,4 +1,3 @@
-pub mod Bounds
 pub mod Shapes
 pub mod Stops
 pub mod Values

@@ -1,16 +1,16 @@
 // Items that begin with `enum`.
 ghost use Rattle.std.specs.Prelude.{length, IfOk, IfErr, ◌<◌};
-ghost use Rattle.c_parser.specs.inner.Bounds.{Reads, Stops};
+ghost use Rattle.c_reader.specs.Bounds.{Reads, Stops};
 ghost use Rattle.c_parser.specs.inner.Shapes.{read_enum_body, read_enum_item, read_enum_named, read_enum_rest_of};
 ghost use Rattle.c_parser.specs.inner.Shapes.{read_more_names};
 ghost use Rattle.c_parser.specs.inner.Values.{ValueStep, ValueStops};
 
 use crate::globals::{begun_with, rest_of_data};
-use crate::paths::name;
-use crate::reader::{Bounds, is_next, take};
 use c_ast::{Data, Item, Name};
 use c_grammar::{Sign, SyntaxFault};
 use c_lexer::Token;
+use c_operands::name;
+use c_reader::{Bounds, is_next, take};
 use fore_base::list::List;
 use fore_base::place::Place;
 use std::alloc::Global;

@@ -1,17 +1,16 @@
 // The fields of structs.
 ghost use Rattle.std.specs.Prelude.{length, IfOk, IfErr, ◌<◌, ◌≤◌};
-ghost use Rattle.c_parser.specs.inner.Bounds.{Reads, Stops};
+ghost use Rattle.c_reader.specs.Bounds.{Reads, Stops};
 ghost use Rattle.c_parser.specs.inner.Shapes.{read_braced, read_datum_field, read_field, read_maybe_braced, read_names};
 ghost use Rattle.c_parser.specs.inner.Shapes.{read_next_name, read_next_star, read_pointer_field, read_some_fields};
 ghost use Rattle.c_parser.specs.inner.Shapes.{read_star_name, read_star_names};
 
-use crate::begins::begins_declare;
-use crate::declarations::data;
-use crate::paths::name;
-use crate::reader::{Bounds, is_next, peek, take};
 use c_ast::{Field, Name};
 use c_grammar::{Sign, SyntaxFault};
 use c_lexer::Token;
+use c_operands::name;
+use c_reader::{Bounds, begins_declare, is_next, peek, take};
+use c_statements::data;
 use fore_base::list::List;
 use std::alloc::Global;
 

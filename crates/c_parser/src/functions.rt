@@ -1,16 +1,15 @@
 // Prototypes and functions, from what stands after their name.
 ghost use Rattle.std.specs.Prelude.{length, IfOk, IfErr, ◌<◌};
-ghost use Rattle.c_parser.specs.inner.Bounds.{Reads, Stops};
+ghost use Rattle.c_reader.specs.Bounds.{Reads, Stops};
 ghost use Rattle.c_parser.specs.inner.Shapes.{read_body, read_called, read_data_called, read_ending_of};
 ghost use Rattle.c_parser.specs.inner.Shapes.{read_function_end, read_pointer_called, read_proto_end};
 
 use crate::heads::closed_params;
-use crate::levels::Level;
-use crate::reader::{Bounds, deeper, is_next, take};
-use crate::statements::block;
 use c_ast::{Block, Data, Head, Item, Name, Params, ReturnType};
 use c_grammar::{Sign, SyntaxFault};
 use c_lexer::Token;
+use c_reader::{Bounds, Level, deeper, is_next, take};
+use c_statements::block;
 use fore_base::place::Place;
 use std::alloc::Global;
 

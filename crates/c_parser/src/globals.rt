@@ -1,15 +1,15 @@
 // What begins with a type and a name: a declaration at file level, or a prototype or a function.
 ghost use Rattle.std.specs.Prelude.{length, IfOk, IfErr, ◌<◌, ◌≤◌, ◌≡◌, ◌∷◌};
-ghost use Rattle.c_parser.specs.inner.Bounds.{Reads, Stops};
+ghost use Rattle.c_reader.specs.Bounds.{Reads, Stops};
 ghost use Rattle.c_parser.specs.inner.Shapes.{read_declared_data, read_declared_pointers, read_more_declarators};
 ghost use Rattle.c_parser.specs.inner.Shapes.{read_more_pointers, read_rest_of_data, read_rest_of_pointer};
 
-use crate::declarations::{maybe_from, next_declarator, next_pointer};
 use crate::functions::{data_called, pointer_called};
-use crate::reader::{Bounds, is_next, take};
 use c_ast::{Data, Declarator, Declare, Item, Name};
 use c_grammar::{Sign, SyntaxFault};
 use c_lexer::Token;
+use c_reader::{Bounds, is_next, take};
+use c_statements::{maybe_from, next_declarator, next_pointer};
 use fore_base::list::List;
 use fore_base::place::Place;
 use std::alloc::{AllocError, Global};

@@ -1,18 +1,17 @@
 // Parameters, and what a function gives.
 ghost use Rattle.std.specs.Prelude.{length, IfOk, IfErr, ◌<◌, ◌≤◌};
-ghost use Rattle.c_parser.specs.inner.Bounds.{Reads, Stops};
+ghost use Rattle.c_reader.specs.Bounds.{Reads, Stops};
 ghost use Rattle.c_parser.specs.inner.Shapes.{read_all_params, read_closed_params, read_data_type, read_datum_param};
 ghost use Rattle.c_parser.specs.inner.Shapes.{read_head, read_list_params, read_maybe_params, read_next_param};
 ghost use Rattle.c_parser.specs.inner.Shapes.{read_param, read_params, read_pointer_param, read_pointer_type};
 ghost use Rattle.c_parser.specs.inner.Shapes.{read_rtype, read_void_params, read_void_type};
 
-use crate::begins::{begins_data, begins_params};
-use crate::declarations::data;
-use crate::paths::name;
-use crate::reader::{Bounds, is_next, peek, take};
 use c_ast::{Head, Param, Params, ReturnType};
 use c_grammar::{Sign, SyntaxFault};
 use c_lexer::Token;
+use c_operands::name;
+use c_reader::{Bounds, begins_data, begins_params, is_next, peek, take};
+use c_statements::data;
 use fore_base::list::List;
 use std::alloc::Global;
 

@@ -1,21 +1,20 @@
 // Items, and all of a text.
 ghost use Rattle.std.specs.Prelude.{length, IfOk, IfErr, ◌<◌};
-ghost use Rattle.c_parser.specs.inner.Bounds.{Reads, Stops};
+ghost use Rattle.c_reader.specs.Bounds.{Reads, Stops};
 ghost use Rattle.c_parser.specs.inner.Shapes.{read_all_items, read_extern_item, read_int_item, read_item};
 ghost use Rattle.c_parser.specs.inner.Shapes.{read_star_rest, read_struct_end, read_struct_item, read_struct_rest_of};
 ghost use Rattle.c_parser.specs.inner.Shapes.{read_void_item};
 
-use crate::begins::{begins_ending, begins_item};
 use crate::enums::enum_item;
 use crate::fields::maybe_braced;
 use crate::functions::called;
 use crate::globals::{rest_of_data, rest_of_pointer};
 use crate::heads::head;
-use crate::paths::name;
-use crate::reader::{Bounds, is_next, peek, take};
 use c_ast::{Data, Item, Name, ReturnType};
 use c_grammar::{Sign, SyntaxFault};
 use c_lexer::Token;
+use c_operands::name;
+use c_reader::{Bounds, begins_ending, begins_item, is_next, peek, take};
 use fore_base::list::List;
 use fore_base::place::Place;
 use std::alloc::Global;

@@ -9,11 +9,10 @@ ghost use Rattle.c_parser.specs.Parses.{over_of, IsParsed, IsFault};
 ghost use Rattle.c_parser.specs.inner.Stops.{IsStop};
 
 use crate::items::all_items;
-use crate::levels::Levels;
-use crate::reader::{Bounds, here};
 use c_ast::{Item, Unit};
 use c_grammar::SyntaxFault;
 use c_lexer::Token;
+use c_reader::{Bounds, Levels, here};
 use c_refused::first_refused;
 use fore_base::limits::TOKENS;
 use fore_base::list::List;

@@ -21,7 +21,7 @@ use Rattle.fa_core.specs.declared.forest.Target.{Target}
 use Rattle.fa_core.specs.declared.forest.Target.TheVariants.{Null, Uninit, Dangling, At}
 use Rattle.fa_core.proofs.Dressing.{choice_length, leaf_top}
 use Rattle.fa_core.proofs.WaysOf.{end_roots}
-use Rattle.fa_merge.specs.Reordered.{component_at}
+use Rattle.fa_sound.specs.Components.{component_at}
 use Rattle.fa_merge.proofs.Named.{refers_below}
 use Rattle.fa_merge.proofs.PlacedForests.{component_has}
 use Rattle.fa_split.specs.Split.{CanSplit, MayBeLeaf, child_state, split_cells, split_leaf}

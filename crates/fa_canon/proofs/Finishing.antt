@@ -15,14 +15,13 @@ use Rattle.fa_core.proofs.Composed.{within_trees}
 use Rattle.fa_core.proofs.Rearranging.{same}
 use Rattle.fa_core.proofs.Regrouped.{members_regrouped, members_split}
 use Rattle.fa_sound.specs.Soundness.{SoundForest}
-use Rattle.fa_merge.specs.Reached.{NeverLeaks}
 use Rattle.fa_merge.proofs.LeaksDecided.{some_choice}
 use Rattle.fa_merge.proofs.Named.{var_below}
-use Rattle.fa_split.specs.Divided.{IsUnionOf, forests}
+use Rattle.fa_sound.specs.Unions.{IsUnionOf, forests}
 use Rattle.fa_order.specs.Kinds.{HasRootKinds}
 use Rattle.fa_canon.specs.Canonized.{IsSameAlone}
 use Rattle.fa_canon.specs.inner.Cutting.{IsCutting}
-use Rattle.fa_canon.specs.inner.Finished.{CanFinish}
+use Rattle.fa_canon.specs.inner.Finished.{CanFinish, NoneLeaks}
 use Rattle.fa_canon.specs.inner.Knots.{IsReady}
 use Rattle.fa_canon.specs.inner.Merges.{IsRegrouped, NoneMerges}
 use Rattle.fa_canon.specs.inner.Steps.{HasChosen, IsPiece, IsSplitEach}
@@ -47,12 +46,12 @@ covered_regroups F G h T d o = (
 )
 
 -- where no member of F leaks no member of what it regroups does
-pub never_leaks : (F G : Forest) → ((T : List BoxDef) → Regroups T F G) → NeverLeaks F → NeverLeaks G
+pub never_leaks : (F G : Forest) → ((T : List BoxDef) → Regroups T F G) → NoneLeaks F → NoneLeaks G
 never_leaks F G w tight hs T s h = tight hs T s (members_regrouped hs T F G (w T) s h)
 
 -- Where no root can be merged, and one rule is chosen at each.
 pub ready_start : (n : ℕ) (M C : SoundForest) → n ≡ length M.forest.autos → IsSound M.face M.forest
-    → Every IsRanked M.forest.autos → Every HasNoBoxes M.forest.autos → NoneMerges M.forest → NeverLeaks M.forest
+    → Every IsRanked M.forest.autos → Every HasNoBoxes M.forest.autos → NoneMerges M.forest → NoneLeaks M.forest
     → IsPiece M C → HasChosen (length M.forest.autos) M C → IsReady n 0 0 C
 ready_start n M C e sound ranked plain none tight piece chosen =
     let long : length C.forest.autos ≡ length M.forest.autos = covers_long M.forest C.forest chosen.0 in

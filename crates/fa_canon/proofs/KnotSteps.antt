@@ -4,8 +4,7 @@ use Rattle.std.proofs.Common.{subst, ◌∙◌, slice_get, Some, arith}
 use Rattle.std.specs.Bool.{MatchBool}
 use Rattle.std.proofs.lemmas.Option.{same_Some}
 use Rattle.fore_base.specs.Lists.{Every}
-use Rattle.fore_base.proofs.ListLemmas.{every_in, in_from_place}
-use Rattle.ta_core.specs.Auto.{Automaton, IsRanked, IsRankedRule, automaton}
+use Rattle.ta_core.specs.Auto.{Automaton, IsRanked, automaton}
 use Rattle.ta_core.specs.Language.{InLanguage, RunOf}
 use Rattle.ta_core.specs.Single.{HasOneTop}
 use Rattle.ta_core.specs.declared.tree.Tree.{Tree, out-Tree}
@@ -16,16 +15,16 @@ use Rattle.fa_core.specs.Ways.{has, signature}
 use Rattle.fa_core.specs.declared.faces.BoxFace.{BoxFace}
 use Rattle.fa_core.specs.declared.forest.Forest.{Forest}
 use Rattle.fa_core.specs.declared.forest.Target.{Target}
+use Rattle.fa_core.specs.declared.signature.RefMark.{RefMark}
 use Rattle.fa_core.specs.declared.signature.Signature.{Signature}
 use Rattle.fa_core.proofs.Dressing.{each_length}
 use Rattle.fa_sound.specs.Soundness.{SoundForest}
-use Rattle.fa_merge.specs.Reordered.{component_at}
+use Rattle.fa_sound.specs.Components.{component_at}
 use Rattle.fa_merge.proofs.LeaksDecided.{some_choice}
 use Rattle.fa_merge.proofs.LoneFound.{choice_at, named_refer, unnamed_refer}
 use Rattle.fa_merge.proofs.PlacedForests.{component_has}
-use Rattle.fa_split.specs.Split.{CanSplit, MayBeLeaf, child_state, split_cells, split_leaf, top_rule}
-use Rattle.fa_split.proofs.RunPlaces.{at_index}
-use Rattle.fa_split.proofs.TopRules.{top_in, tree_by_top}
+use Rattle.fa_split.specs.Split.{CanSplit, MayBeLeaf, split_cells, split_leaf, top_rule}
+use Rattle.fa_split.proofs.TopRules.{tree_by_top}
 use Rattle.fa_canon.specs.inner.Cutting.{HasWidth, IsCutting}
 use Rattle.fa_canon.specs.inner.Knots.{AreTied, AreUntied, CanCut, HasCutAt, IsSplitAt}
 use Rattle.fa_canon.specs.inner.Steps.{HasChosen}
@@ -104,25 +103,20 @@ module _ (n r p m : ℕ) (F : SoundForest) (sound : IsSound F.face F.forest) (ca
 
 -- Whether what may be the child refers to the root, by the signature of its state.
 
-module _ (bs : List BoxFace) (a : Automaton) (q r : ℕ) (s : Signature)
-    (signed : (t : Tree) → RunOf a.rules q t → s.refs ≡ signature bs t) where
+module _ (bs : List BoxFace) (a : Automaton) (q r : ℕ) (marks : List RefMark)
+    (signed : (t : Tree) → RunOf a.rules q t → marks ≡ signature bs t) where
+  abbrev own : Signature
+  own = record { refs = marks }
+
   abbrev state_alone : Automaton
   state_alone = automaton a.states (q ∷ []) a.rules
 
-  of_state : (t : Tree) → InLanguage state_alone t → signature bs t ≡ s.refs
+  of_state : (t : Tree) → InLanguage state_alone t → signature bs t ≡ marks
   of_state t (z, inl e, h) = sym (signed t (subst (λ (n : ℕ). RunOf a.rules n t) e h))
   of_state t (z, inr e, h) = absurd e
 
-  pub tied_or_not : (yes_or_no : Bool) → yes_or_no ≡ has r (roots_in s.refs)
+  pub tied_or_not : (yes_or_no : Bool) → yes_or_no ≡ has r (roots_in marks)
       → MatchBool yes_or_no ((u : Tree) → RunOf a.rules q u → RefersTo u r)
       ((u : Tree) → RunOf a.rules q u → RefersTo u r → ⊥)
-  tied_or_not true e = λ u h. named_refer bs state_alone s r of_state (sym e) u (q, inl refl, h)
-  tied_or_not false e = λ u h. unnamed_refer bs state_alone s r of_state (sym e) u (q, inl refl, h)
-
--- the state of a child is one of the automaton
-pub child_below : (a : Automaton) (p : ℕ) → IsRanked a → HasOneTop a → p < length (top_rule a).children
-    → child_state a p < a.states
-child_below a p ranked one l =
-    every_in (λ (z : ℕ). z < a.states) (top_rule a).children (child_state a p)
-    (every_in (IsRankedRule a.states) a.rules (top_rule a) ranked.1 (top_in a one)).1
-    (in_from_place (top_rule a).children p (child_state a p) (at_index (top_rule a).children p l))
+  tied_or_not true e = λ u h. named_refer bs state_alone own r of_state (sym e) u (q, inl refl, h)
+  tied_or_not false e = λ u h. unnamed_refer bs state_alone own r of_state (sym e) u (q, inl refl, h)

@@ -13,9 +13,10 @@ use Rattle.fa_core.specs.declared.faces.Face.{Face}
 use Rattle.fa_core.specs.declared.forest.Forest.{Forest}
 use Rattle.fa_core.proofs.Dressing.{each_length}
 use Rattle.fa_core.proofs.FilledKept.{top_of_filled}
-use Rattle.fa_merge.specs.Reordered.{component_at}
+use Rattle.fa_sound.specs.Components.{component_at}
 use Rattle.fa_merge.proofs.LoneFound.{choice_component}
-use Rattle.fa_merge.proofs.PlacedForests.{component_got, component_has}
+use Rattle.fa_sound.proofs.ComponentLemmas.{component_got}
+use Rattle.fa_merge.proofs.PlacedForests.{component_has}
 use Rattle.fa_canon.specs.inner.Cutting.{IsFieldCell}
 
 field_cell : (a : Automaton) → IsRanked a → HasNoBoxes a → (q s : ℕ) (t : Tree) → IsTopped s t → RunOf a.rules q t

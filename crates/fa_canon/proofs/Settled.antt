@@ -25,9 +25,10 @@ use Rattle.fa_core.proofs.Counts.{in_or_out, often_out}
 use Rattle.fa_core.proofs.Dressing.{choice_length}
 use Rattle.fa_core.proofs.PlainWays.{IsPlainWay, run_plain}
 use Rattle.fa_core.proofs.Uniform.{signed_alike}
-use Rattle.fa_merge.specs.Reordered.{component_at}
-use Rattle.fa_merge.specs.Reached.{AreAllReached, NeverLeaks, RootReached, by_var, by_tree, by_way}
+use Rattle.fa_sound.specs.Components.{component_at}
+use Rattle.fa_merge.specs.Reached.{AreAllReached, RootReached, by_var, by_tree, by_way}
 use Rattle.fa_merge.proofs.Hopping.{in_var_roots, var_roots_in}
+use Rattle.fa_canon.specs.inner.Finished.{NoneLeaks}
 use Rattle.fa_merge.proofs.LeaksDecided.{roots_decided, unreached_leaks}
 use Rattle.fa_merge.proofs.LoneFound.{choice_component}
 use Rattle.fa_merge.proofs.Members.{not_both}
@@ -164,7 +165,7 @@ alone_unreached bs F plain ts c r k a (by_way i j h l) e = never_led bs F plain 
 
 -- where no member leaks each root is reached
 pub all_reached : (face : Face) (F : Forest) → IsSound face F → Every IsRanked F.autos → Every HasNoBoxes F.autos
-    → NeverLeaks F → AreAllReached face F
+    → NoneLeaks F → AreAllReached face F
 all_reached face F sound ranked plain tight = elim (roots_decided face F sound) [
   | inl all ↦ all
   | inr h ↦ absurd (not_both face F sound ranked plain (unreached_leaks face F plain h.0 h.1.root h.1.unreached) tight)
@@ -172,7 +173,7 @@ all_reached face F sound ranked plain tight = elim (roots_decided face F sound) 
 
 -- where no root is left to merge, and no member leaks, each root is shared
 pub all_shared : (face : Face) (F : Forest) → IsSound face F → Every IsRanked F.autos → Every HasNoBoxes F.autos
-    → NoneMerges F → NeverLeaks F → AreShared F
+    → NoneMerges F → NoneLeaks F → AreShared F
 all_shared face F sound ranked plain none tight ts c r l =
     elim (settled face F sound plain none ts c r l) [
       | inl s ↦ s

@@ -14,10 +14,11 @@ use Rattle.fa_core.specs.declared.forest.Forest.{Forest}
 use Rattle.fa_core.specs.declared.forest.Target.{Target}
 use Rattle.fa_core.specs.declared.forest.Target.TheVariants.{At}
 use Rattle.fa_sound.specs.Soundness.{SoundForest}
-use Rattle.fa_merge.specs.Reordered.{component_at}
+use Rattle.fa_sound.specs.Components.{component_at}
 use Rattle.fa_merge.proofs.PlacedForests.{component_has}
 use Rattle.fa_split.specs.Chosen.{AreChosen, Picked, StandsAtTop, chosen_at, none, take, leave}
-use Rattle.fa_split.specs.Divided.{HasVarsOf, forests}
+use Rattle.fa_sound.specs.Unions.{forests}
+use Rattle.fa_split.specs.Divided.{HasVarsOf}
 use Rattle.fa_split.specs.Split.{AreSplit, MayBeLeaf, child_state, fixed, lifted, split_cells, split_leaf}
 use Rattle.fa_split.proofs.OtherComponent.{component_other}
 use Rattle.fa_canon.specs.inner.Knots.{IsSplitAt}

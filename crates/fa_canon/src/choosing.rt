@@ -3,16 +3,15 @@
 ghost use Rattle.std.specs.Prelude.{◌<◌, [], ◌∷◌, length, IfOk};
 ghost use Rattle.fore_base.specs.Lists.{Every};
 ghost use Rattle.fa_core.specs.Boxless.{HasNoBoxes};
-ghost use Rattle.fa_sound.specs.Soundness.{IsSigned};
 ghost use Rattle.fa_canon.specs.inner.Steps.{HasChosen, HaveTops, IsSplitEach};
 
-use crate::counting::{count_roots, ranked_components};
 use crate::steps::{Step, alone, on_each};
-use fa_sound::Sound;
-use fa_split::{choose_rule, component, has_one_top};
+use fa_sound::{Sound, component, count_roots};
+use fa_split::choose_rule;
 use fore_base::list::List;
 use fore_base::memory::Mem;
 use std::alloc::Global;
+use ta_core::single::has_one_top;
 
 /// One rule chosen at a root. A forest that has one there is left as it is.
 #[derive(Drop)]
@@ -34,7 +33,7 @@ impl Step for Choose {
         if has_one_top(component(forest.forest(), self.root)) {
             return alone(alloc, forest);
         }
-        ranked_components(forest.forest());
+        forest.known();
         let made = choose_rule(alloc, &forest, self.root)?;
         Ok(made)
     }
@@ -47,7 +46,7 @@ pub fn choose_rules(alloc: Global, forest: Sound, from: u32) -> Mem<List<Sound>>
     requires tops { HaveTops from forest.forest }
     ensures { IfOk result (λ made. IsSplitEach (HasChosen (length forest.forest.autos)) (forest ∷ []) made) }
 {
-    let count = count_roots(&forest)?;
+    let count = count_roots(forest.forest())?;
     let mut list = alone(alloc, forest)?;
     for root in from..count {
         list = on_each(alloc, &Choose { root }, list)?;

@@ -1,19 +1,15 @@
 // Knots cut out of the trees of shared roots, root by root and place by place.
 
-ghost use Rattle.std.specs.Prelude.{◌≡◌, ◌<◌, ◌+◌, [], ◌∷◌, length, IfOk, MatchBool};
-ghost use Rattle.ta_core.specs.Single.{HasOneTop};
-ghost use Rattle.fa_merge.specs.Reordered.{component_at};
-ghost use Rattle.fa_split.specs.Split.{CanSplit, top_rule};
+ghost use Rattle.std.specs.Prelude.{◌<◌, ◌+◌, [], ◌∷◌, IfOk, MatchBool};
+ghost use Rattle.fa_split.specs.Split.{CanSplit};
 ghost use Rattle.fa_canon.specs.inner.Knots.{AreTied, AreUntied, CanCut, HasCut, HasCutAt, IsReady};
 ghost use Rattle.fa_canon.specs.inner.Steps.{IsSplitEach};
 
 use crate::choosing::ChooseFrom;
-use crate::counting::{count_roots, ranked_components};
 use crate::steps::{Step, alone, on_each};
-use crate::tops::{child_state, count_children};
 use fa_merge::merge::is_marked_root;
-use fa_sound::Sound;
-use fa_split::split_child;
+use fa_sound::{Sound, component, count_roots};
+use fa_split::{child_marks, count_children, split_child};
 use fore_base::list::List;
 use fore_base::memory::Mem;
 use std::alloc::Global;
@@ -75,7 +71,7 @@ fn cut_root(alloc: Global, forest: Sound, root: u32, count: u32) -> Mem<List<Sou
     ensures { IfOk result (λ made. IsSplitEach (HasCut count (root + 1) 0) (forest ∷ []) made) }
 {
     forest.known();
-    let width = count_children(forest.forest().autos.at(root as usize));
+    let width = count_children(component(forest.forest(), root));
     let mut list = alone(alloc, forest)?;
     for place in 0..width {
         let step = CutChild {
@@ -118,7 +114,6 @@ fn cut_child(alloc: Global, forest: Sound, step: &CutChild) -> Mem<List<Sound>>
         (forest ∷ []) made) }
 {
     forest.known();
-    ranked_components(forest.forest());
     if is_tied(&forest, step.root, step.place) {
         cut_knot(alloc, &forest, step)
     } else {
@@ -131,12 +126,7 @@ fn is_tied(forest: &Sound, root: u32, place: usize) -> bool
     requires { CanSplit forest.now.forest root place }
     ensures { MatchBool result (AreTied root place forest.now) (AreUntied root place forest.now) }
 {
-    forest.known();
-    let auto = forest.forest().autos.at(root as usize);
-    auto.known();
-    let state = child_state(auto, place);
-    let signature = forest.signature(root, state);
-    is_marked_root(signature.refs.as_slice(), root)
+    is_marked_root(child_marks(forest, root, place), root)
 }
 
 /// The child split, which refers to the root, and one rule chosen for the new root.
@@ -148,8 +138,7 @@ fn cut_knot(alloc: Global, forest: &Sound, step: &CutChild) -> Mem<List<Sound>>
         (forest.now ∷ []) made) }
 {
     forest.known();
-    ranked_components(forest.forest());
-    let from = count_roots(forest)?;
+    let from = count_roots(forest.forest())?;
     let list = split_child(alloc, forest, step.root, step.place)?;
     on_each(alloc, &ChooseFrom { from }, list)
 }

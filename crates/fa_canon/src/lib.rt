@@ -2,11 +2,9 @@
 #![tactic(auto)]
 
 mod choosing;
-mod counting;
 mod cutting;
 pub mod making;
 mod merging;
 mod steps;
-mod tops;
 
 pub use making::canonical;

@@ -8,20 +8,19 @@ ghost use Rattle.fa_core.specs.Canonical.{IsCanonical};
 ghost use Rattle.fa_core.specs.Covering.{Reduced};
 ghost use Rattle.fa_core.specs.Member.{Regroups, RegroupsInto};
 ghost use Rattle.fa_core.specs.declared.boxes.BoxDef.{BoxDef};
-ghost use Rattle.fa_merge.specs.Reached.{NeverLeaks};
-ghost use Rattle.fa_split.specs.Divided.{IsUnionOf, forests};
+ghost use Rattle.fa_merge.specs.Reached.{AreAllReached, NeverLeaks};
+ghost use Rattle.fa_sound.specs.Unions.{IsUnionOf, forests};
 ghost use Rattle.fa_canon.specs.Canonized.{IsSameAlone};
-ghost use Rattle.fa_canon.specs.inner.Finished.{CanFinish, IsFinished};
+ghost use Rattle.fa_canon.specs.inner.Finished.{CanFinish, IsFinished, NoneLeaks};
 ghost use Rattle.fa_canon.specs.inner.Merges.{IsRegrouped, NoneMerges};
 ghost use Rattle.fa_canon.specs.inner.Steps.{IsSplitEach};
 
 use crate::choosing::choose_rules;
-use crate::counting::{count_roots, ranked_components};
 use crate::cutting::CutKnots;
 use crate::merging::merge_roots;
 use crate::steps::on_each;
 use fa_order::{is_canonical, place_roots, reduce_forest};
-use fa_sound::Sound;
+use fa_sound::{Sound, count_roots};
 use fore_base::list::List;
 use fore_base::memory::Mem;
 use par_kit::crew::Crew;
@@ -29,9 +28,10 @@ use par_kit::gate::Gate;
 use std::alloc::Global;
 use std::thread::Threads;
 
-/// Canonical forests whose components are reduced, and whose members together are those of the forest. A canonical
-/// forest gives one, with its targets, its data and the languages of its components. The crew runs 1 to 64 jobs and has
-/// no bearing on the answer. Err is want of memory. So far only for forests without box edges.
+/// Canonical forests whose components are reduced, and whose members together are those of the forest, each root of
+/// which is reached. A canonical forest gives one, with its targets, its data and the languages of its components. The
+/// crew runs 1 to 64 jobs and has no bearing on the answer. Err is want of memory. So far only for forests without box
+/// edges.
 pub fn canonical<R: Threads + Sync, G: Gate>(
     rt: &R,
     alloc: Global,
@@ -40,14 +40,14 @@ pub fn canonical<R: Threads + Sync, G: Gate>(
 ) -> Mem<List<Sound>>
     requires jobs { IsJobs crew.now.jobs }
     requires plain { Every HasNoBoxes forest.now.forest.autos }
-    requires tight { NeverLeaks forest.now.forest }
+    requires reached { AreAllReached forest.now.face forest.now.forest }
     ensures regroups { IfOk result (λ made. (T : List BoxDef) → Every (Regroups T forest.now.forest) (forests made)) }
     ensures whole { IfOk result (λ made. (T : List BoxDef) → RegroupsInto T forest.now.forest (forests made)) }
     ensures members { IfOk result (λ made. IsUnionOf forest.now.forest (forests made)) }
     ensures canonical { IfOk result (λ made. Every (λ s. IsCanonical s.face s.forest) made) }
     ensures reduced { IfOk result (λ made. Every (λ s. Reduced s.forest) made) }
     ensures plain { IfOk result (λ made. Every (λ s. Every HasNoBoxes s.forest.autos) made) }
-    ensures tight { IfOk result (λ made. Every (λ s. NeverLeaks s.forest) made) }
+    ensures tight { IfOk result (λ made. Every (λ s. NeverLeaks s.face s.forest) made) }
     ensures face { IfOk result (λ made. Every (λ s. s.face ≡ forest.now.face) made) }
     ensures vars { IfOk result (λ made. Every (λ s. length s.forest.vars ≡ length forest.now.forest.vars) made) }
     ensures data_vars { IfOk result (λ made. Every (λ s. s.forest.data_vars ≡ forest.now.forest.data_vars) made) }
@@ -67,7 +67,7 @@ fn canonical_forests<R: Threads + Sync, G: Gate>(
 ) -> Mem<List<Sound>>
     requires jobs { IsJobs crew.now.jobs }
     requires plain { Every HasNoBoxes forest.now.forest.autos }
-    requires tight { NeverLeaks forest.now.forest }
+    requires tight { NoneLeaks forest.now.forest }
     ensures split { IfOk result (λ made. IsSplitEach IsFinished (forest.now ∷ []) made) }
     ensures same { IsCanonical forest.now.face forest.now.forest
         → IfOk result (λ made. IsSameAlone forest.now.forest (forests made)) }
@@ -108,12 +108,11 @@ fn made_canonical<R: Threads + Sync, G: Gate>(
     requires jobs { IsJobs crew.now.jobs }
     requires plain { Every HasNoBoxes forest.forest.autos }
     requires none { NoneMerges forest.forest }
-    requires tight { NeverLeaks forest.forest }
+    requires tight { NoneLeaks forest.forest }
     ensures { IfOk result (λ made. IsSplitEach IsFinished (forest ∷ []) made) }
 {
     forest.known();
-    ranked_components(forest.forest());
-    let count = count_roots(&forest)?;
+    let count = count_roots(forest.forest())?;
     let chosen = choose_rules(alloc, forest, 0)?;
     let cut = on_each(alloc, &CutKnots { count }, chosen)?;
     finish_each(rt, alloc, &cut, crew, count)
@@ -153,7 +152,6 @@ fn finish<R: Threads + Sync, G: Gate>(
     ensures finished { IfOk result (IsFinished forest.now) }
 {
     forest.known();
-    ranked_components(forest.forest());
     let placed = place_roots(alloc, forest)?;
     let reduced = reduce_forest(rt, alloc, &placed, crew)?;
     Ok(reduced)

@@ -6,9 +6,8 @@ ghost use Rattle.fa_core.specs.Boxless.{HasNoBoxes};
 ghost use Rattle.fa_merge.specs.Merged.{CanMerge};
 ghost use Rattle.fa_canon.specs.inner.Merges.{IsLastMerge, IsRegrouped, NoneMerges};
 
-use crate::counting::{count_roots, ranked_components};
 use fa_merge::{can_merge, merge_root};
-use fa_sound::Sound;
+use fa_sound::{Sound, count_roots};
 use fore_base::memory::Mem;
 use std::alloc::Global;
 
@@ -44,7 +43,7 @@ fn merge_others(alloc: Global, forest: Sound) -> Mem<Sound>
 fn last_merge(alloc: Global, forest: &Sound) -> Mem<Option<u32>>
     ensures { IfOk result (λ found. MatchOption found (NoneMerges forest.now.forest) (IsLastMerge forest.now.forest)) }
 {
-    let count = count_roots(forest)?;
+    let count = count_roots(forest.forest())?;
     for root in (0..count).rev() {
         if can_merge(alloc, forest, root)? {
             return Ok(Some(root));
@@ -61,7 +60,6 @@ fn merge(alloc: Global, forest: &Sound, root: u32) -> Mem<Sound>
     ensures fewer { IfOk result (λ made. length made.forest.autos < length forest.now.forest.autos) }
 {
     forest.known();
-    ranked_components(forest.forest());
     let made = merge_root(alloc, forest, root)?;
     Ok(made)
 }

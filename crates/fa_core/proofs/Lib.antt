@@ -26,6 +26,7 @@ pub mod RowsBack
 pub mod RowsBoxes
 pub mod RowsCanonical
 pub mod RowsChains
+pub mod RowsFaces
 pub mod RowsFolds
 pub mod RowsForests
 pub mod RowsForms
@@ -36,6 +37,7 @@ pub mod SameTrees
 pub mod SeenCells
 pub mod SingleTrees
 pub mod Sorting
+pub mod TablesGive
 pub mod Uniform
 pub mod WayParts
 pub mod WaysOf

@@ -1,5 +1,6 @@
 -- A worked table of one box: the edge of one pointer, which does not lead back, and may end in Dangling.
-use Rattle.std.proofs.Common.{◌≡◌, ◌<◌, ◌⊎◌, inl, inr, ℕ, Bool, true, false, true≢false, List, [], ◌∷◌, length, refl}
+use Rattle.std.proofs.Common.{◌≡◌, ◌<◌, ◌⊎◌, inl, inr, ℕ, suc, Bool, true, false, true≢false, List, [], ◌∷◌, length}
+use Rattle.std.proofs.Common.{refl}
 use Rattle.std.proofs.Common.{sym, ap, ap₂, subst, ◌∙◌, arith}
 use Rattle.fore_base.specs.Lists.{IsIn}
 use Rattle.fore_base.specs.declared.store.Value.{Value}
@@ -10,10 +11,12 @@ use Rattle.ta_core.specs.declared.symbol.Symbol.{Symbol}
 use Rattle.ta_core.specs.declared.symbol.Symbol.TheVariants.{Cell}
 use Rattle.ta_core.specs.declared.tree.Tree.{Tree, out-Tree}
 use Rattle.fa_core.specs.declared.boxes.BoxDef.{BoxDef}
+use Rattle.fa_core.specs.declared.faces.BoxFace.{BoxFace}
 use Rattle.fa_core.specs.declared.faces.Face.{Face}
+use Rattle.fa_core.specs.declared.forest.Target.{Target}
 use Rattle.fa_core.specs.declared.forest.Target.TheVariants.{At}
 use Rattle.fa_core.specs.Boxes.{IsChild, PortRulesFit, IsPortFilled, InsideFits, Reaches, named, through, heads}
-use Rattle.fa_core.specs.Boxes.{OutFits, IsReached, LeadsNowhere, SoundBox, IsBoxTable}
+use Rattle.fa_core.specs.Boxes.{OutFits, IsReached, LeadsNowhere, SoundBox, IsBoxTable, IsTableOf, faces_of}
 use Rattle.fa_core.specs.Canonical.{RefersTo}
 use Rattle.fa_core.specs.Choices.{bares}
 use Rattle.fa_core.specs.Dressed.{Node, Nodes, node, no_parts, no_nodes, more, inside_facts}
@@ -200,3 +203,46 @@ pointer_table = record {
   words = ((inl (omega arith, omega arith), (inr (omega arith, omega arith), tt)), tt);
   insides = ((refl, refl), tt);
 }
+
+-- It is a table over the face that has its box, and over no other.
+
+over_its_face : IsTableOf list_face (pointer_box ∷ [])
+over_its_face = pointer_table
+
+over_another : IsTableOf plain_face (pointer_box ∷ []) → ⊥
+over_another h = let z : 0 ≡ 1 = ap (λ (l : List BoxFace). length l) h.faces in omega (arith, z)
+
+empty_over_boxes : IsTableOf list_face [] → ⊥
+empty_over_boxes h = let z : 1 ≡ 0 = ap (λ (l : List BoxFace). length l) h.faces in omega (arith, z)
+
+-- the same box twice
+two_alike : IsTableOf (record list_face { boxes = one_pointer ∷ one_pointer ∷ [] }) (pointer_box ∷ pointer_box ∷ []) → ⊥
+two_alike h = h.names.0 (inl refl)
+
+-- a box with another face than that of the structs' box
+another_face : IsTableOf list_face (record pointer_box { face = record one_pointer { back = true } } ∷ []) → ⊥
+another_face h = let z : false ≡ true = ap first_back h.faces in true≢false (sym z)
+  where
+    first_back : List BoxFace → Bool
+    first_back [] = false
+    first_back (x ∷ xs) = x.back
+
+-- a box with a variable inside
+with_variable : IsTableOf list_face
+    (record pointer_box { inside = record pointer_box.inside { vars = At 0 ∷ [] } } ∷ []) → ⊥
+with_variable h = let z : 1 ≡ 0 = ap (λ (l : List Target). length l) h.insides.0.0 in omega (arith, z)
+
+-- over a face without boxes the empty list is a table, and the only one
+empty_table : IsTableOf plain_face []
+empty_table = record { faces = refl; sound = tt; count = omega arith; names = tt; words = tt; insides = tt }
+
+only_empty : (T : List BoxDef) → IsTableOf plain_face T → T ≡ []
+only_empty [] h = refl
+only_empty (b ∷ T) h = absurd (let z : 0 ≡ suc (length T) = by h.faces in omega (arith, z))
+  where
+    count : (ds : List BoxDef) → length (faces_of ds) ≡ length ds
+    count [] = refl
+    count (d ∷ ds) = ap (λ (n : ℕ). suc n) (count ds)
+
+    by : [] ≡ faces_of (b ∷ T) → 0 ≡ suc (length T)
+    by e = ap (λ (l : List BoxFace). length l) e ∙ count (b ∷ T)

@@ -213,3 +213,8 @@ pub record IsBoxTable (t : Boxes) : Type 0 where
   pub names : IsDistinct (names_of t.defs)
   pub words : Every IsWord (names_of t.defs)
   pub insides : Every HasNoVariables t.defs
+
+-- what a table keeps, of the boxes of the list over the face: what is said of stores that leak, are made or are
+-- changed is said of each such list, and what only regroups dressed forests of every list
+abbrev pub IsTableOf : Face → List BoxDef → Type 0
+IsTableOf face T = IsBoxTable (record { face = face; defs = T })

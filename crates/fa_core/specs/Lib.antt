@@ -5,6 +5,7 @@ pub mod Cells
 pub mod Choices
 pub mod Covering
 pub mod Dressed
+pub mod Faces
 pub mod Filled
 pub mod Folding
 pub mod Formed

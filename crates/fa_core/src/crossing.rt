@@ -5,6 +5,7 @@ use crate::faces::Face;
 use crate::folds::FoldStep;
 use crate::forest::Forest;
 use crate::signature::Signature;
+use crate::table::BoxTable;
 use fore_base::crossing::crosses;
 
 /// Forests cross threads, and with them targets.
@@ -22,4 +23,9 @@ pub fn boxes_cross(def: &BoxDef, face: &Face, step: &FoldStep) {
 /// Signatures cross threads, and with them marks.
 pub fn signature_crosses(signature: &Signature) {
     crosses(signature)
+}
+
+/// Tables of boxes cross threads.
+pub fn table_crosses(table: &BoxTable) {
+    crosses(table)
 }

@@ -1,11 +1,13 @@
 // Laws of forests, each the contract of a function that does nothing.
 
 ghost use Rattle.std.specs.Prelude.{◌≡◌, ◌↔◌, ℕ, [], List, map, flat_map};
+ghost use Rattle.fa_core.specs.Boxes.{Boxes, IsBoxTable};
 ghost use Rattle.fa_core.specs.Boxless.{IsPlain, HasNoBoxes};
 ghost use Rattle.fa_core.specs.Cells.{below_of, marks_by};
 ghost use Rattle.fa_core.specs.Choices.{bares, all_numbers, IsNumbered, HasInsides};
 ghost use Rattle.fa_core.specs.Covering.{Covers};
 ghost use Rattle.fa_core.specs.Dressed.{Node, Nodes, refs, leaf_refs};
+ghost use Rattle.fa_core.specs.Faces.{IsGiving, IsSortedFace};
 ghost use Rattle.fa_core.specs.Filled.{Choice, TopsAre, HasSignatures, IsFilled, IsSound};
 ghost use Rattle.fa_core.specs.Formed.{IsFormed};
 ghost use Rattle.fa_core.specs.Member.{bare, InsidesOf, OfForest, Stands, Regroups, RegroupsInto};
@@ -74,6 +76,12 @@ pub fn signatures_compose()
 /// A sound forest whose face has no boxes has no Link and no Hook.
 pub fn no_boxes_no_edges()
     ensures { (face : Face) (F : Forest) → IsSound face F → face.boxes ≡ [] → Every HasNoBoxes F.autos }
+{}
+
+/// In a table a box that leads back gives its output something, and the fields that a box gives at its ports rise.
+pub fn tables_give()
+    ensures gives { (t : Boxes) → IsBoxTable t → Every IsGiving t.face.boxes }
+    ensures rises { (t : Boxes) → IsBoxTable t → Every IsSortedFace t.face.boxes }
 {}
 
 /// A forest is filled if a filled one regroups it, for every box table, and it has the form that an operation owes. Box

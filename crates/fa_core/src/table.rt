@@ -1,7 +1,9 @@
 // Tables of sound boxes.
 
-ghost use Rattle.std.specs.Prelude.{◌≡◌, ◌<◌, [], length, Some, slice_get, IfOk};
-ghost use Rattle.fa_core.specs.Boxes.{IsBoxTable};
+ghost use Rattle.std.specs.Prelude.{◌≡◌, ◌<◌, [], ◌∷◌, ◌++◌, length, Some, slice_get, IfOk, OnOk, OnErr};
+ghost use Rattle.fore_base.specs.Lists.{IsIn};
+ghost use Rattle.fa_core.specs.Boxes.{IsBoxTable, SoundBox, HasNoVariables, names_of};
+ghost use Rattle.fa_core.specs.Words.{IsWord};
 
 use crate::boxes::BoxDef;
 use crate::faces::Face;
@@ -45,6 +47,28 @@ impl BoxTable {
             },
             defs: List::new(alloc),
         })
+    }
+
+    /// Puts a copy of the box last, and leaves the rest. The box is sound over those of the table, whose name it has not,
+    /// and so names no struct, no field and no box that is not there. Err is want of memory, and leaves the table.
+    pub fn add(&mut self, alloc: Global, def: &BoxDef) -> Mem<()>
+        requires room { length self.old.defs < 32 }
+        requires word { IsWord def.now.name }
+        requires new { IsIn def.now.name (names_of self.old.defs) → ⊥ }
+        requires inside { HasNoVariables def.now }
+        requires sound { SoundBox self.old.face self.old.defs def.now }
+        ensures defs { OnOk result (self.new.defs ≡ self.old.defs ++ def.now ∷ []) }
+        ensures faces { OnOk result (self.new.face.boxes ≡ self.old.face.boxes ++ def.now.face ∷ []) }
+        ensures shapes { self.new.face.shapes ≡ self.old.face.shapes }
+        ensures err { OnErr result (self.new ≡ self.old) }
+    {
+        let mut defs = self.defs.copy(alloc)?;
+        defs.push(def.copy(alloc)?)?;
+        let mut boxes = self.face.boxes.copy(alloc)?;
+        boxes.push(def.face.copy(alloc)?)?;
+        self.defs = defs;
+        self.face.boxes = boxes;
+        Ok(())
     }
 
     /// The structs and the faces of the boxes.

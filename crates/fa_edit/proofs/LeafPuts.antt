@@ -1,6 +1,7 @@
 -- The forest with another leaf in a field of a root: its dressed forests are those with that leaf there.
 use Rattle.std.proofs.Common.{◌≡◌, ℕ, ◌<◌, length, List, refl, sym, ap, subst, ◌∙◌, Some}
 use Rattle.std.proofs.lemmas.Option.{same_Some}
+use Rattle.fore_base.specs.declared.shape.Shape.{Shape}
 use Rattle.fore_base.specs.Lists.{Every}
 use Rattle.ta_core.specs.Auto.{Automaton, IsRanked}
 use Rattle.ta_core.specs.Language.{InLanguage}
@@ -25,10 +26,10 @@ abbrev leaf_in : End → Target → Target
 leaf_in (leaf t) d = t
 leaf_in e d = d
 
-module _ (F : Forest) (r f : ℕ) (ranked : Every IsRanked F.autos) (at : IsPlainAt F r f) (p : ℕ)
+module _ (hs : List Shape) (F : Forest) (r f : ℕ) (ranked : Every IsRanked F.autos) (at : IsPlainAt hs F r f) (p : ℕ)
     (place : place_at F r f ≡ Some p) (t : Target) (alone : IsLeafPlace F r p t) (u : Target) where
   abbrev pub own : Automaton
-  own = a F r f ranked at
+  own = a hs F r f ranked at
 
   abbrev pub put : Automaton
   put = fixed own p u
@@ -37,16 +38,16 @@ module _ (F : Forest) (r f : ℕ) (ranked : Every IsRanked F.autos) (at : IsPlai
   G = split_leaf F r p u
 
   pub ranked_own : IsRanked own
-  ranked_own = a_ranked F r f ranked at
+  ranked_own = a_ranked hs F r f ranked at
 
   pub inside : p < length (top_rule own).children
-  inside = (can F r f ranked at p place).place
+  inside = (can hs F r f ranked at p place).place
 
   -- Trees.
 
   -- with the leaf, a tree of the old component is one of the new
   pub to_put : (n : Node) → InLanguage own (bare n) → InLanguage put (bare (with_leaf f u n))
-  to_put n l = subst (λ (z : Node). InLanguage put (bare z)) (sym (tree_put F r f ranked at p place u n l))
+  to_put n l = subst (λ (z : Node). InLanguage put (bare z)) (sym (tree_put hs F r f ranked at p place u n l))
       (to_fixed own p u ranked_own at.top inside (bare (with_end p (leaf u) n)) (bare n)
       (tree_by_top own at.top (bare n) l) (with_end_symbol p (leaf u) n) (with_end_children p (leaf u) n))
 
@@ -60,16 +61,16 @@ module _ (F : Forest) (r f : ℕ) (ranked : Every IsRanked F.autos) (at : IsPlai
       c.1 ∙ ap (λ (z : End). Some z) (end_is_leaf c.0 u c.2)
 
   pub put_has : (n : Node) → InLanguage put (bare n) → end_of_field f (top_parts n) ≡ Some (leaf u)
-  put_has n l = end_there F r f ranked at p place (top_parts n) (put_slots n l) ∙ put_end n l
+  put_has n l = end_there hs F r f ranked at p place (top_parts n) (put_slots n l) ∙ put_end n l
 
   pub put_old : (v : Target) (n : Node) → InLanguage put (bare n) → with_leaf f v n ≡ with_end p (leaf v) n
-  put_old v n l = put_there F r f ranked at p place v n (put_slots n l)
+  put_old v n l = put_there hs F r f ranked at p place v n (put_slots n l)
 
   -- with the old leaf it is one of the old
   pub from_put : (n : Node) → InLanguage put (bare n) → InLanguage own (bare (with_leaf f t n))
   from_put n l = subst (λ (z : Node). InLanguage own (bare z)) (sym (put_old t n l))
       (fixed_with own p u ranked_own at.top inside (bare n) (bare (with_end p (leaf t) n)) (bare_end (leaf t)) l
-      (leaf_runs F r f ranked at p place t alone) (with_end_symbol p (leaf t) n) (with_end_children p (leaf t) n))
+      (leaf_runs hs F r f ranked at p place t alone) (with_end_symbol p (leaf t) n) (with_end_children p (leaf t) n))
 
   -- Dressed forests.
 
@@ -82,7 +83,7 @@ module _ (F : Forest) (r f : ℕ) (ranked : Every IsRanked F.autos) (at : IsPlai
     forth d o =
         let n = tree_at T F.autos r d at.root o in
         put_forth T F.autos r put (with_leaf f u) d n.0 n.1 o (to_put n.0 n.2)
-        (put_insides u n.0 n.3 (tree_put F r f ranked at p place u n.0 n.2))
+        (put_insides u n.0 n.3 (tree_put hs F r f ranked at p place u n.0 n.2))
 
     new : AllHaveLeaf T G r f u
     new d o = (let n = tree_in T F.autos r put d at.root o in (n.0, n.1, put_has n.0 n.2))
@@ -109,6 +110,6 @@ module _ (F : Forest) (r f : ℕ) (ranked : Every IsRanked F.autos) (at : IsPlai
       new = new;
       back = λ d o. (let b = back d o in
           let s : t ≡ v = same_leaf v (leaf_put r f t d)
-          (all_have F r f ranked at p place t alone T (leaf_put r f t d) b) (old (leaf_put r f t d) b) in
+          (all_have hs F r f ranked at p place t alone T (leaf_put r f t d) b) (old (leaf_put r f t d) b) in
           subst (λ (z : Target). OfForest T F (leaf_put r f z d)) s b);
     }

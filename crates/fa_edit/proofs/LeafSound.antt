@@ -61,7 +61,8 @@ with_end_tree p x n = sym
     (sym (with_end_symbol p x n)) (sym (with_end_children p x n)) ∙ roll-out-Tree (bare (with_end p x n)))
 
 module _ (face : Face) (F : Forest) (r f : ℕ) (ranked : Every IsRanked F.autos) (plain : Every HasNoBoxes F.autos)
-    (sound : IsSound face F) (at : IsPlainAt F r f) (p : ℕ) (place : place_at F r f ≡ Some p) (u : Target)
+    (sound : IsSound face F) (at : IsPlainAt face.shapes.structs F r f) (p : ℕ) (place : place_at F r f ≡ Some p) (u
+    : Target)
     (fits : LeafFits face.shapes.structs F r f u) where
   abbrev t : Target
   t = (at.leaf p place).0
@@ -76,10 +77,10 @@ module _ (face : Face) (F : Forest) (r f : ℕ) (ranked : Every IsRanked F.autos
   b = fixed a p u
 
   a_ranked : IsRanked a
-  a_ranked = ranked_own F r f ranked at p place t alone u
+  a_ranked = ranked_own face.shapes.structs F r f ranked at p place t alone u
 
   within : p < length (top_rule a).children
-  within = inside F r f ranked at p place t alone u
+  within = inside face.shapes.structs F r f ranked at p place t alone u
 
   a_plain : HasNoBoxes a
   a_plain = component_has HasNoBoxes F.autos r plain at.root
@@ -93,7 +94,7 @@ module _ (face : Face) (F : Forest) (r f : ℕ) (ranked : Every IsRanked F.autos
 
   low : (x : Tree) → InLanguage b x → InLanguage a (old x)
   low x l = fixed_with a p u a_ranked at.top within x (old x) (bare_end (leaf t)) l
-      (leaf_runs F r f ranked at p place t alone) (with_child_symbol p (bare_end (leaf t)) x)
+      (leaf_runs face.shapes.structs F r f ranked at p place t alone) (with_child_symbol p (bare_end (leaf t)) x)
       (with_child_children p (bare_end (leaf t)) x)
 
   top : (x : Tree) (s : ℕ) → InLanguage b x → IsTopped s (old x) → IsTopped s x
@@ -122,14 +123,16 @@ module _ (face : Face) (F : Forest) (r f : ℕ) (ranked : Every IsRanked F.autos
       → IsFilledTree face F r b old plain b_plain tops (bare n)
   node_filled us tops c h n l filled =
       let m : Node = with_leaf f t n in
-      let in_a : InLanguage a (bare m) = from_put F r f ranked at p place t alone u n l in
-      let is : m ≡ with_end p (leaf t) n = put_old F r f ranked at p place t alone u t n l in
+      let in_a : InLanguage a (bare m) = from_put face.shapes.structs F r f ranked at p place t alone u n l in
+      let is : m ≡ with_end p (leaf t) n = put_old face.shapes.structs F r f ranked at p place t alone u t n l in
       let before : old (bare n) ≡ bare m = sym (with_end_tree p (leaf t) n) ∙ ap bare (sym is) in
-      let again : with_leaf f u m ≡ n = tree_put F r f ranked at p place u m in_a ∙ ap (with_end p (leaf u)) is
+      let again : with_leaf f u m ≡ n = tree_put face.shapes.structs F r f ranked at p place u m in_a ∙ ap (with_end p
+      (leaf u)) is
       ∙ with_end_twice p n (leaf u) (leaf t)
-      ∙ with_end_same p n (leaf u) (put_end F r f ranked at p place t alone u n l) in
+      ∙ with_end_same p n (leaf u) (put_end face.shapes.structs F r f ranked at p place t alone u n l) in
       subst (λ (z : Node). IsFilledTree face F r b old plain b_plain tops (bare z)) again
-      (put_filled face tops f t u m (tree_has F r f ranked at p place t alone m in_a) (fitting us tops c h m in_a)
+      (put_filled face tops f t u m (tree_has face.shapes.structs F r f ranked at p place t alone m in_a) (fitting us
+      tops c h m in_a)
       (subst (λ (z : Tree). IsFilledTree face F r b old plain b_plain tops z) before filled))
 
   cells : (us : List Tree) (tops : List ℕ) → Choice F.autos us → TopsAre us tops → (x : Tree) → InLanguage b x

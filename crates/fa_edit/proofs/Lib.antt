@@ -4,6 +4,7 @@ pub mod DatumSound
 pub mod DatumTrees
 pub mod EditedSound
 pub mod FieldPlaces
+pub mod LackedFields
 pub mod LeafPuts
 pub mod LeafSound
 pub mod NewForests
@@ -12,3 +13,4 @@ pub mod OtherVars
 pub mod PlainFields
 pub mod PutSpots
 mod Rows
+pub mod TopSpots

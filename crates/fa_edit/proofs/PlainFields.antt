@@ -2,6 +2,7 @@
 use Rattle.std.proofs.Common.{◌≡◌, ◌≢◌, ◌↔◌, ℕ, ◌+◌, length, List, [], ◌∷◌, refl, sym, ap, subst, ◌∙◌, Some, None}
 use Rattle.std.proofs.Common.{arith}
 use Rattle.fore_base.specs.Lists.{IsIn, Every}
+use Rattle.fore_base.specs.declared.shape.Shape.{Shape}
 use Rattle.fore_base.proofs.ListLemmas.{every_in, in_every}
 use Rattle.ta_core.specs.Arity.{arity, child_slots}
 use Rattle.ta_core.specs.Auto.{Automaton, IsRanked, IsRankedRule}
@@ -101,7 +102,7 @@ module _ (a : Automaton) (ranked : IsRanked a) where
         none : {ts : List Tree} → RunEach a.rules [] ts → ts ≡ []
         none run_none = refl
 
-module _ (F : Forest) (r f : ℕ) (ranked : Every IsRanked F.autos) (at : IsPlainAt F r f) where
+module _ (hs : List Shape) (F : Forest) (r f : ℕ) (ranked : Every IsRanked F.autos) (at : IsPlainAt hs F r f) where
   abbrev pub a : Automaton
   a = component_at F.autos r
 

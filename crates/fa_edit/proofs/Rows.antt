@@ -1,5 +1,7 @@
 -- Worked values: places of fields, leaves and data put, new cells, and which leaves fit.
-use Rattle.std.proofs.Common.{◌≡◌, ℕ, zero, suc, List, [], ◌∷◌, refl, ap, ◌∙◌, slice_get, Some, None, arith}
+use Rattle.std.proofs.Common.{◌≡◌, inl, inr, ℕ, zero, suc, List, [], ◌∷◌, refl, sym, ap, subst, ◌∙◌, slice_get, Some}
+use Rattle.std.proofs.Common.{None, arith}
+use Rattle.fore_base.specs.Lists.{IsIn}
 use Rattle.std.proofs.lemmas.Option.{none-some, same_Some}
 use Rattle.fore_base.specs.declared.shape.FieldKind.TheVariants.{Pointer, Datum as DatumKind}
 use Rattle.fore_base.specs.declared.shape.Shape.{Shape}
@@ -18,7 +20,7 @@ use Rattle.fa_edit.specs.Cells.{new_node}
 use Rattle.fa_edit.specs.Data.{HasDatum, LacksDatum, HasDatumField, datum_put, datums_at}
 use Rattle.fa_edit.specs.Fits.{LeafFits, shape_at}
 use Rattle.fa_edit.specs.Leaves.{HasLeaf, LacksField, end_of_field, leaf_put, put_leaf}
-use Rattle.fa_edit.specs.Plain.{field_place, place_at}
+use Rattle.fa_edit.specs.Plain.{IsLeafPlace, IsPlainAt, StructLacks, field_place, place_at}
 
 -- Places: a Link has a child, a Hook none.
 
@@ -179,3 +181,66 @@ no_data h = omega (arith, h)
 
 place_there : (place_at two 0 1 ≡ Some 1) × (place_at two 1 0 ≡ None)
 place_there = (refl, refl)
+
+-- Which fields are shown: that of a slot, where one leaf stands there, and one that the struct has not. A field that a
+-- box edge covers is not.
+
+empty_lacks : StructLacks structs (Some 1) 0
+empty_lacks = refl
+
+third_lacks : StructLacks structs (Some 0) 2
+third_lacks = refl
+
+none_lacks : StructLacks structs None 0
+none_lacks = tt
+
+second_there : StructLacks structs (Some 0) 1 → ⊥
+second_there h = none-some 0 (sym h)
+
+-- field 0 is covered by a box edge, and null stands in field 1
+abbrev linked : Forest
+linked = record {
+  autos = top 2 (Cell 0 (Known 4 ∷ []) (Link 0 ∷ Field 1 ∷ [])) (1 ∷ 1 ∷ []) ∷ [];
+  vars = [];
+  data_vars = [];
+}
+
+null_there : (F : Forest) (y : Symbol) → F.autos ≡ top 2 y (1 ∷ 1 ∷ []) ∷ [] → IsLeafPlace F 0 1 Null
+null_there F y e =
+    rw e
+    (record {
+      there = (record { state = 1; symbol = NullSymbol; children = [] }, inr (inl refl), refl);
+      only = λ x i s. only x i s;
+    })
+  where
+    only : (x : Rule)
+        → IsIn x (record { state = 0; symbol = y; children = 1 ∷ 1 ∷ [] }
+        ∷ record { state = 1; symbol = NullSymbol; children = [] } ∷ []) → x.state ≡ 1 → x.symbol ≡ NullSymbol
+    only x (inl e) s = absurd (let z : 0 ≡ 1 = sym (ap (λ (r : Rule). r.state) e) ∙ s in omega (arith, z))
+    only x (inr (inl e)) s = ap (λ (r : Rule). r.symbol) e
+    only x (inr (inr z)) s = absurd z
+
+slot_is_shown : IsPlainAt structs linked 0 1
+slot_is_shown =
+    record {
+      root = omega arith;
+      top = one_top (Cell 0 (Known 4 ∷ []) (Link 0 ∷ Field 1 ∷ [])) (1 ∷ 1 ∷ []);
+      leaf = λ p e. (
+        Null,
+        subst (λ (n : ℕ). IsLeafPlace linked 0 n Null) (same_Some 1 p e)
+            (null_there linked (Cell 0 (Known 4 ∷ []) (Link 0 ∷ Field 1 ∷ [])) refl),
+      );
+      lacks = λ e. absurd (none-some 1 (sym e));
+    }
+
+covered_is_not : IsPlainAt structs linked 0 0 → ⊥
+covered_is_not h = none-some 1 (sym (h.lacks refl))
+
+no_such_field_is_shown : IsPlainAt structs two 1 0
+no_such_field_is_shown =
+    record {
+      root = omega arith;
+      top = one_top (Cell 1 [] []) [];
+      leaf = λ p e. absurd (none-some p e);
+      lacks = λ e. refl;
+    }

@@ -1,15 +1,18 @@
 -- Pointer fields of roots at which one leaf stands.
 use Rattle.std.specs.Prelude.{◌≡◌, ◌<◌, ℕ, suc, nat_eq, if◌then◌else◌, List, [], ◌∷◌, length, Option, Some, None}
 use Rattle.fore_base.specs.Lists.{IsIn}
+use Rattle.fore_base.specs.declared.shape.Shape.{Shape}
 use Rattle.ta_core.specs.Single.{HasOneTop}
 use Rattle.ta_core.specs.declared.auto.Rule.{Rule}
 use Rattle.ta_core.specs.declared.symbol.Slot.{Slot}
 use Rattle.ta_core.specs.declared.symbol.Slot.TheVariants.{Field, Link, Hook}
+use Rattle.fa_core.specs.Filled.{target_of}
 use Rattle.fa_core.specs.Folding.{symbol_slots}
 use Rattle.fa_core.specs.Member.{leaf_symbol}
 use Rattle.fa_core.specs.declared.forest.Forest.{Forest}
 use Rattle.fa_core.specs.declared.forest.Target.{Target}
 use Rattle.fa_sound.specs.Components.{component_at}
+use Rattle.fa_edit.specs.Fits.{shape_at}
 use Rattle.fa_split.specs.Split.{top_rule, child_state}
 
 -- the place of field f among the children of a cell with these slots, of which the first child stands at place k; a
@@ -44,8 +47,15 @@ HasOnlyLeaf rules q = (t : Target) × IsOnlyLeaf rules q t
 abbrev pub IsLeafPlace : Forest → ℕ → ℕ → Target → Type 0
 IsLeafPlace F r p t = IsOnlyLeaf (component_at F.autos r).rules (child_state (component_at F.autos r) p) t
 
--- root r has one rule, and where that has the slot of field f, one leaf stands there
-pub record IsPlainAt (F : Forest) (r f : ℕ) : Type 0 where
+-- the struct has no pointer field f; a leaf, which is of no struct, has none
+abbrev pub StructLacks : List Shape → Option ℕ → ℕ → Type 0
+StructLacks hs None f = Unit {0}
+StructLacks hs (Some s) f = target_of hs s f ≡ None
+
+-- root r has one rule; where that has the slot of field f, one leaf stands there, and where it has not, the struct has
+-- no such field: a field that a box edge covers or gives is not shown
+pub record IsPlainAt (hs : List Shape) (F : Forest) (r f : ℕ) : Type 0 where
   pub root : r < length F.autos
   pub top : HasOneTop (component_at F.autos r)
   pub leaf : (p : ℕ) → place_at F r f ≡ Some p → (t : Target) × IsLeafPlace F r p t
+  pub lacks : place_at F r f ≡ None → StructLacks hs (shape_at F r) f

@@ -8,7 +8,7 @@ ghost use Rattle.fa_edit.specs.Cells.{IsNewed};
 ghost use Rattle.fa_edit.specs.inner.News.{blank, blank_rule, field_slots, newed, uninit_rule};
 
 use fa_core::forest::{Forest, Target};
-use fa_sound::fields::{count_targets, datums_of};
+use fa_filling::fields::{count_targets, datums_of};
 use fa_sound::{Sound, count_roots};
 use fore_base::list::{Copies, List};
 use fore_base::memory::Mem;

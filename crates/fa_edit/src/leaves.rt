@@ -10,23 +10,24 @@ ghost use Rattle.fa_core.specs.declared.boxes.BoxDef.{BoxDef};
 ghost use Rattle.fa_core.specs.declared.forest.Target.{Target};
 ghost use Rattle.fa_edit.specs.Fits.{IsRootFor, LeafFits};
 ghost use Rattle.fa_edit.specs.Leaves.{AllHaveLeaf, AllLackField, IsPut};
-ghost use Rattle.fa_edit.specs.Plain.{HasPlace, IsPlainAt, place_at};
+ghost use Rattle.fa_edit.specs.Plain.{HasPlace, IsPlainAt, StructLacks, place_at};
 ghost use Rattle.fa_sound.specs.Components.{component_at};
 ghost use Rattle.fa_split.specs.Split.{split_leaf};
 
 use crate::tops::{has_only_leaf, only_leaf, place_of, shape_of};
 use fa_core::forest::Target;
-use fa_sound::fields::target_of;
+use fa_filling::fields::target_of;
 use fa_sound::{Sound, component};
-use fa_split::{fix_leaf, has_one_top, rules_of, state_at};
+use fa_split::{fix_leaf, rules_of, state_at};
 use fore_base::memory::Mem;
 use fore_base::shape::Shape;
 use std::alloc::Global;
+use ta_core::single::has_one_top;
 
-/// Whether the root has one rule, and where that has the field, only one leaf may stand there: the condition of
-/// `leaf_of` and `with_leaf`. Takes no memory.
+/// Whether the root has one rule, and only one leaf may stand in the field there, or the struct has no such field: the
+/// condition of `leaf_of` and `with_leaf`. A field that a box edge covers or gives is none of both. Takes no memory.
 pub fn is_plain_at(forest: &Sound, root: u32, field: u32) -> bool
-    ensures { IsTrue result ↔ IsPlainAt forest.now.forest root field }
+    ensures { IsTrue result ↔ IsPlainAt forest.now.face.shapes.structs forest.now.forest root field }
 {
     if (root as usize) >= forest.forest().autos.len() {
         return false;
@@ -37,6 +38,20 @@ pub fn is_plain_at(forest: &Sound, root: u32, field: u32) -> bool
     }
     match place_of(auto, field) {
         Some(place) => has_only_leaf(rules_of(auto), state_at(auto, place)),
+        None => struct_lacks(
+            forest.face().shapes.structs.as_slice(),
+            shape_of(auto),
+            field,
+        ),
+    }
+}
+
+/// Whether the struct has no such pointer field. A leaf, which is of no struct, has none.
+fn struct_lacks(structs: &[Shape], shape: Option<u32>, field: u32) -> bool
+    ensures { IsTrue result ↔ StructLacks structs.now shape field }
+{
+    match shape {
+        Some(shape) => target_of(structs, shape, field).is_none(),
         None => true,
     }
 }
@@ -45,7 +60,7 @@ pub fn is_plain_at(forest: &Sound, root: u32, field: u32) -> bool
 /// no such field. Takes no memory.
 pub fn leaf_of(forest: &Sound, root: u32, field: u32) -> Option<Target>
     requires plain { Every HasNoBoxes forest.now.forest.autos }
-    requires at { IsPlainAt forest.now.forest root field }
+    requires at { IsPlainAt forest.now.face.shapes.structs forest.now.forest root field }
     ensures has { OnSome result (HasPlace forest.now.forest root field) }
     ensures lacks { IsNone result → place_at forest.now.forest root field ≡ None }
     ensures held { MatchOption result ((T : List BoxDef) → AllLackField T forest.now.forest root field)
@@ -106,7 +121,7 @@ fn points_to(structs: &[Shape], above: Option<u32>, field: u32, below: Option<u3
 /// The forest with another leaf in a pointer field of a root, at which only one leaf may stand. Err is want of memory.
 pub fn with_leaf(alloc: Global, forest: &Sound, root: u32, field: u32, leaf: Target) -> Mem<Sound>
     requires plain { Every HasNoBoxes forest.now.forest.autos }
-    requires at { IsPlainAt forest.now.forest root field }
+    requires at { IsPlainAt forest.now.face.shapes.structs forest.now.forest root field }
     requires has { HasPlace forest.now.forest root field }
     requires fits { LeafFits forest.now.face.shapes.structs forest.now.forest root field leaf }
     ensures put { IfOk result (λ made. (T : List BoxDef) (old : Target) → AllHaveLeaf T forest.now.forest root field old
@@ -131,7 +146,7 @@ fn with_leaf_at(
     leaf: Target,
 ) -> Mem<Sound>
     requires plain { Every HasNoBoxes forest.now.forest.autos }
-    requires at { IsPlainAt forest.now.forest root field }
+    requires at { IsPlainAt forest.now.face.shapes.structs forest.now.forest root field }
     requires place { place_at forest.now.forest root field ≡ Some place }
     requires fits { LeafFits forest.now.face.shapes.structs forest.now.forest root field leaf }
     ensures forest { IfOk result (λ made. made.forest ≡ split_leaf forest.now.forest root place leaf) }

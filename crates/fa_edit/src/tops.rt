@@ -12,6 +12,7 @@ ghost use Rattle.fa_edit.specs.Plain.{HasOnlyLeaf, IsOnlyLeaf, field_place};
 ghost use Rattle.fa_split.specs.Split.{top_rule};
 
 use fa_core::forest::Target;
+use fa_merge::symbol_of;
 use fa_split::rule_at_top;
 use fore_base::store::Datum;
 use ta_core::auto::{Auto, Rule};
@@ -133,18 +134,6 @@ fn is_leaf_of(symbol: &Symbol, leaf: Target) -> bool
     ensures { IsTrue result ↔ (symbol.now ≡ leaf_symbol leaf) }
 {
     symbol.is_same(&symbol_of(leaf))
-}
-
-/// The symbol of the leaf.
-fn symbol_of(leaf: Target) -> Symbol
-    ensures { result ≡ leaf_symbol leaf }
-{
-    match leaf {
-        Target::Null => Symbol::Null,
-        Target::Uninit => Symbol::Uninit,
-        Target::Dangling => Symbol::Dangling,
-        Target::At(root) => Symbol::Ref(root),
-    }
 }
 
 /// The leaf of a leaf's symbol.

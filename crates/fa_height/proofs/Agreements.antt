@@ -10,7 +10,7 @@ use Rattle.ta_core.specs.declared.auto.Rule.{Rule}
 use Rattle.fa_height.specs.Quotients.{AreMatched, Agree}
 use Rattle.fa_height.specs.inner.Agreeing.{AreRulesOf, AreRulesEach, rules_at, HasMatch, AreMatchedIn, AreAlike}
 use Rattle.fa_height.specs.inner.Agreeing.{IsRefined, IsAgreement}
-use Rattle.fa_height.specs.inner.Classes.{IsEquivalence, IsOneClass}
+use Rattle.ta_classes.specs.Classes.{IsEquivalence, IsOneClass}
 
 -- Rules by state.
 
@@ -65,9 +65,9 @@ module _ (classes : List ℕ) where
         let b = every_in (HasMatch classes (rules_at table r)) (rules_at table q) a.0 k a.1 in
         (b.0, b.1, (b.2.0 ∙ a.2.0, class_through x.children a.0.children b.0.children a.2.1 b.2.1)))
 
-    pub alike_equivalence : IsEquivalence (AreAlike table classes)
-    alike_equivalence = record {
-      same = λ p. (matched_same p, matched_same p);
+    pub alike_equivalence : (count : ℕ) → IsEquivalence count (AreAlike table classes)
+    alike_equivalence count = record {
+      same = λ p l. (matched_same p, matched_same p);
       turned = λ p q h. (h.1, h.0);
       through = λ p q r h k. (matched_through p q r h.0 k.0, matched_through r q p k.1 h.1);
     }

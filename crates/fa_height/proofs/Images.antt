@@ -17,7 +17,7 @@ use Rattle.fa_core.specs.Ways.{signature}
 use Rattle.fa_core.specs.declared.faces.BoxFace.{BoxFace}
 use Rattle.fa_core.specs.declared.signature.Below.{Below}
 use Rattle.fa_core.proofs.CellMarks.{tree_signature}
-use Rattle.fa_sound.proofs.SpotRules.{passed}
+use Rattle.fa_filling.proofs.SpotRules.{passed}
 use Rattle.fa_height.specs.Quotients.{Agree, SameSignature, IsQuotient}
 
 -- the trees have one symbol at the top, and one signature

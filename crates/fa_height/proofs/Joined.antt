@@ -15,9 +15,9 @@ use Rattle.fa_core.specs.declared.signature.Signature.{Signature}
 use Rattle.fa_sound.specs.Signatures.{AreSignatures}
 use Rattle.fa_height.specs.Quotients.{Agree, AreMarksOf, SameSignature, IsInner, IsQuotient}
 use Rattle.fa_height.specs.inner.Agreeing.{IsAgreement}
-use Rattle.fa_height.specs.inner.Classes.{IsEquivalence, AreClasses}
+use Rattle.ta_classes.specs.Classes.{IsEquivalence, AreClasses}
 use Rattle.fa_height.specs.inner.Joining.{marks_at, AreMarksEach, IsJoined}
-use Rattle.fa_height.proofs.Classing.{one_class, first_in}
+use Rattle.ta_classes.proofs.Classing.{one_class, first_in}
 
 -- The marks of the states.
 
@@ -55,9 +55,9 @@ take_there (y ∷ xs) (suc i) x e =
 -- Joining is an equivalence.
 
 module _ (roots classes : List ℕ) (table : List (List RefMark)) where
-  pub joined_equivalence : IsEquivalence (IsJoined roots classes table)
-  joined_equivalence = record {
-    same = λ p. inl refl;
+  pub joined_equivalence : (count : ℕ) → IsEquivalence count (IsJoined roots classes table)
+  joined_equivalence count = record {
+    same = λ p l. inl refl;
     turned = λ p q h. elim h [
       | inl e ↦ inl (sym e)
       | inr j ↦ inr (j.1, j.0, sym j.2, sym j.3)
@@ -91,8 +91,8 @@ module _ (bs : List BoxFace) (k : ℕ) (a : Automaton) (ranked : IsRanked a)
   joined_to : (p q : ℕ) → IsInner a p → IsInner a q → slice_index numbers p ≡ slice_index numbers q
       → Agree a.rules k p q × SameSignature bs a.rules p q
   joined_to p q i j e = elim
-      ((one_class (IsJoined a.roots classes table) a.states numbers firsts joined
-      (joined_equivalence a.roots classes table) p q i.0 j.0).0 e) [
+      ((one_class (IsJoined a.roots classes table) a.states numbers firsts joined a.states
+      (joined_equivalence a.roots classes table a.states) p q i.0 j.0).0 e) [
         | inl d ↦ subst (λ (x : ℕ). Agree a.rules k p x × SameSignature bs a.rules p x) d
             ((agreed p p i.0 i.0).0 refl, (marks_at table p, marks_are p i.0, marks_are p i.0))
         | inr h ↦ (
@@ -108,13 +108,14 @@ module _ (bs : List BoxFace) (k : ℕ) (a : Automaton) (ranked : IsRanked a)
       let u = trees q j.0 in
       let e : marks_at table p ≡ marks_at table q = (marks_are p i.0).0 t.0 t.1 ∙ sym (h.1.1.0 t.0 t.1)
       ∙ h.1.2.0 u.0 u.1 ∙ sym ((marks_are q j.0).0 u.0 u.1) in
-      (one_class (IsJoined a.roots classes table) a.states numbers firsts joined
-      (joined_equivalence a.roots classes table) p q i.0 j.0).1 (inr (i.1, j.1, (agreed p q i.0 j.0).1 h.0, e))
+      (one_class (IsJoined a.roots classes table) a.states numbers firsts joined a.states
+      (joined_equivalence a.roots classes table a.states) p q i.0 j.0).1 (inr (i.1, j.1, (agreed p q i.0 j.0).1 h.0, e))
 
   root_alone : (p q : ℕ) → IsIn p a.roots → q < a.states → slice_index numbers p ≡ slice_index numbers q → p ≡ q
   root_alone p q i l e = elim
-      ((one_class (IsJoined a.roots classes table) a.states numbers firsts joined
-      (joined_equivalence a.roots classes table) p q (every_in (λ (x : ℕ). x < a.states) a.roots p ranked.0 i) l).0 e) [
+      ((one_class (IsJoined a.roots classes table) a.states numbers firsts joined a.states
+      (joined_equivalence a.roots classes table a.states) p q
+      (every_in (λ (x : ℕ). x < a.states) a.roots p ranked.0 i) l).0 e) [
         | inl d ↦ d
         | inr h ↦ absurd (h.0 i)
       ]

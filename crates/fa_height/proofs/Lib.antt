@@ -1,5 +1,4 @@
 pub mod Agreements
-pub mod Classing
 pub mod Filled
 pub mod Images
 pub mod Joined

@@ -12,11 +12,14 @@ use Rattle.fa_core.specs.Covering.{Covers}
 use Rattle.fa_core.specs.Filled.{DatumFits, IsRoot, IsTopped, RulesFit, HasSignatures, HasSome, IsSound}
 use Rattle.fa_core.specs.declared.faces.Face.{Face}
 use Rattle.fa_core.specs.declared.forest.Forest.{Forest}
-use Rattle.fa_sound.specs.declared.parts.Part.{Part}
-use Rattle.fa_sound.specs.inner.Parted.{AreParts, ArePartsFilled, all_tops}
-use Rattle.fa_sound.specs.inner.Ruled.{IsFilledPart}
-use Rattle.fa_sound.proofs.FilledRules.{AreFull}
-use Rattle.fa_sound.proofs.Fillings.{by_parts, all_parts, all_vars}
+use Rattle.fa_filling.specs.declared.parts.Part.{Part}
+use Rattle.fa_filling.specs.inner.Parted.{AreParts, ArePartsFilled, all_tops}
+use Rattle.fa_filling.specs.inner.Ruled.{IsFilledPart}
+use Rattle.fa_filling.proofs.FilledRules.{AreFull}
+use Rattle.fa_filling.proofs.Fillings.{by_parts, all_parts, all_vars}
+use Rattle.fa_filling.specs.Given.{IsGivenAt}
+use Rattle.fa_core.proofs.Rearranging.{equal}
+use Rattle.fa_sound.proofs.NothingGiven.{nothing_given}
 use Rattle.fa_height.specs.Quotients.{IsQuotient, Quotient}
 use Rattle.fa_height.specs.Structs.{HasOneStruct}
 use Rattle.fa_height.proofs.Filled.{lone_part, is_lone, part_kept, plain_kept, rules_fit, topped}
@@ -87,29 +90,33 @@ module _ (face : Face) (k : ℕ) where
   tops_full (a ∷ autos) [] = tt
   tops_full (a ∷ autos) (s ∷ tops) = ((s, inl refl), tops_full autos tops)
 
-  filled_kept : (front : List (List ℕ)) (autos made : List Automaton) (tops : List ℕ) → AreFull front
-      → AreQuotients autos made → Every IsRanked autos → Every IsTrim autos → Every HasNoBoxes autos
-      → Every IsRanked made
-      → ArePartsFilled face front (lone_parts autos tops) → ArePartsFilled face front (lone_parts made tops)
-  filled_kept front [] [] tops l h r t p m f = tt
-  filled_kept front [] (b ∷ made) tops l h r t p m f = absurd h
-  filled_kept front (a ∷ autos) [] tops l h r t p m f = absurd h
-  filled_kept front (a ∷ autos) (b ∷ made) [] l h r t p m f = tt
-  filled_kept front (a ∷ autos) (b ∷ made) (s ∷ tops) l h r t p m f =
-      let full : AreFull (front ++ (s ∷ []) ∷ all_tops (lone_parts autos tops)) =
+  filled_kept : (above : ℕ → List ℕ) (n : ℕ) (front : List (List ℕ)) (autos made : List Automaton) (tops : List ℕ)
+      → AreFull front → AreQuotients autos made → Every IsRanked autos → Every IsTrim autos → Every IsRanked made
+      → ArePartsFilled face above n front (lone_parts autos tops)
+      → ArePartsFilled face above n front (lone_parts made tops)
+  filled_kept above n front [] [] tops l h r t m f = tt
+  filled_kept above n front [] (b ∷ made) tops l h r t m f = absurd h
+  filled_kept above n front (a ∷ autos) [] tops l h r t m f = absurd h
+  filled_kept above n front (a ∷ autos) (b ∷ made) [] l h r t m f = tt
+  filled_kept above n front (a ∷ autos) (b ∷ made) (s ∷ tops) l h r t m f =
+      let topss = front ++ (s ∷ []) ∷ all_tops (lone_parts autos tops) in
+      let full : AreFull topss =
       every_append (λ (ts : List ℕ). (t : ℕ) × IsIn t ts) front ((s ∷ []) ∷ all_tops (lone_parts autos tops)) l
       ((s, inl refl), tops_full autos tops) in
-      let one = part_kept face k a b r.0 t.0 h.0 (front ++ (s ∷ []) ∷ all_tops (lone_parts autos tops)) m.0 p.0 full
-      f.0.0 in (
+      let one = part_kept face k a b r.0 t.0 h.0 topss (above n) m.0 full f.0.0 in (
         (
-          subst (λ (z : List (List ℕ)). IsFilledPart face (front ++ (s ∷ []) ∷ z) b) (tops_same autos made tops h.1)
-              one,
+          subst (λ (z : List (List ℕ)). IsFilledPart face (front ++ (s ∷ []) ∷ z) b (above n))
+              (tops_same autos made tops h.1) one,
           tt,
         ),
-        filled_kept (front ++ (s ∷ []) ∷ []) autos made tops
+        filled_kept above (suc n) (front ++ (s ∷ []) ∷ []) autos made tops
             (every_append (λ (ts : List ℕ). (t : ℕ) × IsIn t ts) front ((s ∷ []) ∷ []) l ((s, inl refl), tt)) h.1 r.1
-            t.1 p.1 m.1 f.1,
+            t.1 m.1 f.1,
       )
+
+  -- without box edges nothing is given at the roots
+  none_given : (autos : List Automaton) → Every HasNoBoxes autos → IsGivenAt face.boxes autos (λ r. [])
+  none_given autos p ts c r l = equal (nothing_given face.boxes autos p ts c r)
 
   -- All components.
 
@@ -156,10 +163,10 @@ module _ (face : Face) (k : ℕ) where
           h.autos ranked trim s.full in
           let trims = each_kept IsTrim (λ a b r t q p. image_trim face.boxes k a b r t q) F.autos G.autos h.autos ranked
           trim trim in
-          let before = all_parts face F plain s.full (lone_parts F.autos tops.0)
+          let before = all_parts face F s.full (λ r. []) (none_given F.autos plain) (lone_parts F.autos tops.0)
           (parts_are F.autos tops.0 trim s.full tops.1) s.well_formed.filled.trees in
-          let after = filled_kept [] F.autos G.autos tops.0 tt h.autos ranked trim plain right before in
-          let vars = all_vars face F plain s.full s.well_formed.filled.trees in
+          let after = filled_kept (λ r. []) 0 [] F.autos G.autos tops.0 tt h.autos ranked trim right before in
+          let vars = all_vars face F s.full s.well_formed.filled.trees in
           let roots : Every (IsRoot (length G.autos)) G.vars =
           subst (λ (n : ℕ). Every (IsRoot n) G.vars)
           (paired_long (IsQuotient face.boxes (suc k)) F.autos G.autos h.autos)
@@ -170,7 +177,8 @@ module _ (face : Face) (k : ℕ) where
                 data_vars = subst (Every DatumFits) (sym h.data_vars) s.well_formed.filled.data_vars;
                 rules = each_kept (RulesFit face) (λ a b r t q p. rules_fit face k a b r t q p) F.autos G.autos h.autos
                     ranked trim s.well_formed.filled.rules;
-                trees = by_parts face G quotient_plain full (lone_parts G.autos tops.0)
+                trees = by_parts face G full (λ r. []) (none_given G.autos quotient_plain)
+                    (lone_parts G.autos tops.0)
                     (parts_are G.autos tops.0 trims full (tops_kept F.autos G.autos tops.0 h.autos ranked trim tops.1))
                     roots after;
               };

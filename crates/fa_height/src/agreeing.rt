@@ -4,12 +4,12 @@ ghost use Rattle.std.specs.Prelude.{◌≡◌, ◌↔◌, List, IsTrue, IfOk};
 ghost use Rattle.fore_base.specs.Lists.{Every, Paired};
 ghost use Rattle.fa_height.specs.inner.Agreeing.{AreRulesOf, AreRulesEach, IsMatch, HasMatch, AreMatchedIn};
 ghost use Rattle.fa_height.specs.inner.Agreeing.{IsAgreement, IsRefined, rules_at};
-ghost use Rattle.fa_height.specs.inner.Classes.{IsOneClass};
+ghost use Rattle.ta_classes.specs.Classes.{IsOneClass};
 
-use crate::classes::{Classes, Likeness, classes_of};
 use fore_base::list::{Copies, List};
 use fore_base::memory::Mem;
 use std::alloc::Global;
+use ta_classes::{Classes, Likeness, classes_of};
 use ta_core::auto::{Auto, Rule};
 use ta_core::renumbering::number_of;
 

@@ -6,16 +6,16 @@ ghost use Rattle.ta_core.specs.Auto.{Automaton};
 ghost use Rattle.ta_core.specs.Language.{IsTrim};
 ghost use Rattle.fa_core.specs.declared.signature.Signature.{Signature};
 ghost use Rattle.fa_height.specs.Quotients.{IsQuotient};
-ghost use Rattle.fa_height.specs.inner.Classes.{AreClasses};
+ghost use Rattle.ta_classes.specs.Classes.{AreClasses};
 ghost use Rattle.fa_height.specs.inner.Joining.{AreJoined, AreMarksEach, HasStates, IsJoined, marks_at};
 
 use crate::agreeing::agreement;
-use crate::classes::{Classes, Likeness, classes_of};
 use fa_core::signature::RefMark;
-use fa_sound::Sound;
+use fa_sound::{Sound, are_same};
 use fore_base::list::{Copies, List};
 use fore_base::memory::Mem;
 use std::alloc::Global;
+use ta_classes::{Classes, Likeness, classes_of};
 use ta_core::auto::Auto;
 use ta_core::renumbering::{number_of, renumber};
 
@@ -93,21 +93,6 @@ fn is_one_of(states: &[u32], state: u32) -> bool
         }
     }
     false
-}
-
-/// Whether both are one signature.
-fn are_same(left: &[RefMark], right: &[RefMark]) -> bool
-    ensures { IsTrue result ↔ (left.now ≡ right.now) }
-{
-    if left.len() != right.len() {
-        return false;
-    }
-    for (place, mark) in left.iter().enumerate() {
-        if !mark.is_same(&right[place]) {
-            return false;
-        }
-    }
-    true
 }
 
 /// The marks of the state.

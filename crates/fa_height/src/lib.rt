@@ -5,7 +5,6 @@
 
 pub mod abstracting;
 mod agreeing;
-mod classes;
 mod joining;
 
 pub use abstracting::abstract_height;

@@ -6,8 +6,8 @@ ghost use Rattle.ta_core.specs.Single.{HasOneTop};
 ghost use Rattle.fa_split.specs.Split.{child_state, top_rule};
 ghost use Rattle.fa_join.specs.inner.Joining.{joined, joined_rules, joined_top, of_both};
 
-use crate::tops::{one_root, rule_at_top, rules_of, state_at, states_of};
-use fore_base::list::{Copies, List};
+use fa_split::{copied_rules, one_root, rule_at, rule_at_top, rules_of, state_at, states_of};
+use fore_base::list::List;
 use fore_base::memory::Mem;
 use std::alloc::Global;
 use ta_core::auto::{Auto, Rule};
@@ -28,19 +28,13 @@ pub fn join_autos(alloc: Global, left: &Auto, right: &Auto, place: usize) -> Mem
     let both = union(alloc, left, right)?;
     let states = room(&both, 2)?;
     let roots = one_root(alloc, count)?;
-    let mut rules = rules_of_auto(alloc, &both)?;
+    let mut rules = copied_rules(alloc, &both)?;
     rules.append(more_rules(alloc, left, right, &both, place)?)?;
     Ok(Auto {
         states,
         roots,
         rules,
     })
-}
-
-fn rules_of_auto(alloc: Global, auto: &Auto) -> Mem<List<Rule>>
-    ensures { IfOk result (λ made. made ≡ auto.now.rules) }
-{
-    auto.rules.copy(alloc)
 }
 
 /// The rules behind those of both automata.
@@ -75,21 +69,6 @@ fn joined_top(alloc: Global, auto: &Auto, place: usize, state: u32) -> Mem<Rule>
     let mut rule = rule_at(alloc, rule_at_top(auto), state)?;
     rule.children.set_within(place, state + 1);
     Ok(rule)
-}
-
-fn rule_at(alloc: Global, rule: &Rule, state: u32) -> Mem<Rule>
-    ensures { IfOk result (λ made. made
-        ≡ record {
-          state = state;
-          symbol = rule.now.symbol;
-          children = rule.now.children;
-        }) }
-{
-    Ok(Rule {
-        state,
-        symbol: rule.symbol.copy(alloc)?,
-        children: rule.children.copy(alloc)?,
-    })
 }
 
 /// The rules of two states, at another one.

@@ -7,7 +7,7 @@ ghost use Rattle.fa_join.specs.Joinable.{SameRuns};
 ghost use Rattle.fa_join.specs.declared.comparing.Apart.TheVariants.{More};
 ghost use Rattle.fa_join.specs.inner.Apart.{IsApart, apart_with, at_state};
 
-use crate::tops::one_root;
+use fa_split::one_root;
 use fore_base::list::Copies;
 use fore_base::memory::Mem;
 use std::alloc::Global;

@@ -14,11 +14,11 @@ ghost use Rattle.fa_join.specs.inner.Differing.{CanJoin, LookAlike, SameTops};
 use crate::comparing::{Apart, autos_apart, states_apart};
 use crate::looks::look_alike;
 use crate::marks::have_same_marks;
-use crate::tops::{children_of, root_of};
 use fa_core::forest::Forest;
 use fa_sound::{Sound, component};
+use fa_split::children_of;
 use fore_base::memory::Mem;
-use std::alloc::Global;
+use std::alloc::{AllocError, Global};
 
 /// Where two forests differ that can be joined.
 #[derive(Clone, Copy, PartialEq, Eq, Debug)]
@@ -112,4 +112,14 @@ fn children_apart(alloc: Global, left: &Forest, right: &Forest, root: u32) -> Me
     left.known();
     right.known();
     states_apart(alloc, left, right, children_of(left), children_of(right))
+}
+
+/// The root of the component at the place. Where the number does not fit 32 bits the answer is want of memory.
+fn root_of(place: usize) -> Mem<u32>
+    ensures { IfOk result (λ root. root ≡ place) }
+{
+    if place > u32::MAX as usize {
+        return Err(AllocError);
+    }
+    Ok(place as u32)
 }

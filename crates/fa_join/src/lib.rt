@@ -15,7 +15,6 @@ pub mod laws;
 mod lists;
 mod looks;
 mod marks;
-mod tops;
 
 pub use differing::joinable;
 pub use lists::join_all;

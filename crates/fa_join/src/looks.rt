@@ -5,8 +5,8 @@ ghost use Rattle.fore_base.specs.Lists.{Every, Paired};
 ghost use Rattle.ta_core.specs.Single.{HasOneTop};
 ghost use Rattle.fa_join.specs.inner.Differing.{LookAlike, SameTops};
 
-use crate::tops::rule_at_top;
 use fa_core::forest::{Forest, Target};
+use fa_split::rule_at_top;
 use fore_base::store::Datum;
 use ta_core::auto::Auto;
 

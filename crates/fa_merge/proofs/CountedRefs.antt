@@ -23,9 +23,11 @@ use Rattle.fa_core.proofs.Numbers.{has_once}
 use Rattle.fa_core.proofs.PlainWays.{to_often}
 use Rattle.fa_merge.specs.Merged.{CanMerge}
 use Rattle.fa_sound.specs.Components.{component_at}
-use Rattle.fa_merge.specs.inner.Counted.{mark_count, marks_count, sum_count}
+use Rattle.fa_merge.specs.Counts.{mark_count, marks_count}
+use Rattle.fa_merge.specs.inner.Counted.{sum_count}
 use Rattle.fa_merge.specs.inner.Hops.{IsSignatureOf}
-use Rattle.fa_merge.proofs.Hopping.{IsSignedBy, has_in, in_has}
+use Rattle.fa_merge.proofs.Hopping.{IsSignedBy}
+use Rattle.fa_merge.proofs.RootMarks.{has_in, in_has}
 use Rattle.fa_merge.proofs.LeaksDecided.{some_choice, signed_choice}
 use Rattle.fa_merge.proofs.LoneFound.{named_refer, unnamed_refer, choice_at, choice_component}
 
@@ -50,7 +52,7 @@ two_by_test (suc zero) l = refl
 two_by_test (suc (suc n)) l = ap two_if (le-leb 2 (suc (suc n)) (omega arith))
 
 -- the count of a tree's signature is that of its leaves, as far as two
-marks_are : (bs : List BoxFace) (t : Tree) (r : ℕ) → marks_count r (signature bs t)
+pub marks_are : (bs : List BoxFace) (t : Tree) (r : ℕ) → marks_count r (signature bs t)
     ≡ to_two (length (to_root r (ways t)))
 marks_are bs t r =
     marks_found bs (ways t) r (roots_met (ways t))
@@ -69,6 +71,11 @@ marks_are bs t r =
         often_out r (tree_refs t) (λ i. true≢false (sym (in_has r (tree_refs t) i) ∙ e)) in
         sym (ap to_two (s ∙ z))
 
+pub to_two_again : (n : ℕ) → to_two (to_two n) ≡ to_two n
+to_two_again zero = refl
+to_two_again (suc zero) = refl
+to_two_again (suc (suc n)) = refl
+
 sums_are : (bs : List BoxFace) (r : ℕ) (ts : List Tree) (ss : List Signature) → Paired (IsSignedBy bs) ts ss
     → to_two (sum_count r ss) ≡ to_two (references ts r)
 sums_are bs r [] [] h = refl
@@ -80,13 +87,8 @@ sums_are bs r (t ∷ ts) (s ∷ ss) h =
     let sum : references (t ∷ ts) r ≡ n + references ts r =
     length-append (to_root r (ways t)) (flat_map (λ (t : Tree). to_root r (ways t)) ts) in
     sym (both_to_two (marks_count r s.refs) (sum_count r ss))
-    ∙ ap₂ (λ (a b : ℕ). to_two (a + b)) (ap to_two one ∙ again n) (sums_are bs r ts ss h.1)
+    ∙ ap₂ (λ (a b : ℕ). to_two (a + b)) (ap to_two one ∙ to_two_again n) (sums_are bs r ts ss h.1)
     ∙ both_to_two n (references ts r) ∙ ap to_two (sym sum)
-  where
-    again : (n : ℕ) → to_two (to_two n) ≡ to_two n
-    again zero = refl
-    again (suc zero) = refl
-    again (suc (suc n)) = refl
 
 one_of_two : (m n : ℕ) → to_two m ≡ to_two n → m ≡ 1 → n ≡ 1
 one_of_two m zero e h = let z : 1 ≡ 0 = sym (ap to_two h) ∙ e in absurd (omega (arith, z))

@@ -21,7 +21,8 @@ use Rattle.fa_merge.specs.Reached.{AreAllReached, IsLeastUnreached, NeverLeaks, 
 use Rattle.fa_merge.specs.inner.Hops.{first_hop, hop, tree_hops, all_hops, IsSignatureOf, AreReachMarks}
 use Rattle.fa_merge.specs.inner.Hops.{IsFirstUnmarked}
 use Rattle.fa_merge.proofs.Arriving.{has_arrives, arrives_has}
-use Rattle.fa_merge.proofs.Hopping.{From, in_hops, of_mark, are_hops, tree_at, in_mark, reach_refers, var_roots_in}
+use Rattle.fa_merge.proofs.Hopping.{From, in_hops, of_mark, are_hops, tree_at, var_roots_in}
+use Rattle.fa_merge.proofs.RootMarks.{in_mark, reach_refers}
 use Rattle.fa_merge.proofs.LeaksDecided.{some_choice, signed_choice, arrives_is_reached, not_arrives_unreached}
 use Rattle.fa_merge.proofs.LeaksDecided.{reached_never_leaks, unreached_leaks}
 use Rattle.fa_merge.proofs.Named.{refers_below, var_below, choice_long}
@@ -96,6 +97,7 @@ module _ (face : Face) (F : Forest) (marks : List Bool) (m : AreReachMarks face 
 
   pub leaks_found : (found : Option ℕ)
       → MatchOption found ((k : ℕ) → k < length marks → IsMarked marks k) (IsFirstUnmarked marks)
-      → Every HasNoBoxes F.autos → MatchOption found (NeverLeaks F) (λ x. AlwaysLeaks F)
-  leaks_found None h plain = reached_never_leaks face F plain (roots_found None h)
-  leaks_found (Some r) h plain = let k = roots_found (Some r) h in unreached_leaks face F plain r k.root k.unreached
+      → Every HasNoBoxes F.autos → MatchOption found (NeverLeaks face F) (λ x. AlwaysLeaks face F)
+  leaks_found None h plain = λ T t. reached_never_leaks face F plain (roots_found None h) face.shapes.structs T
+  leaks_found (Some r) h plain = let k = roots_found (Some r) h in
+      λ T t. unreached_leaks face F plain r k.root k.unreached face.shapes.structs T

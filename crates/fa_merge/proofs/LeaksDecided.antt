@@ -3,9 +3,13 @@
 use Rattle.std.proofs.Common.{◌≡◌, ◌⊎◌, inl, inr, ℕ, zero, suc, ◌<◌, Bool, true, false, true≢false, nat_eq, List, []}
 use Rattle.std.proofs.Common.{◌∷◌, length, map, refl, sym, subst, ◌∙◌, arith}
 use Rattle.std.proofs.lemmas.Bool.{eqb-true, eq-eqb}
+use Rattle.fore_base.specs.Heap.{Leaked}
 use Rattle.fore_base.specs.Lists.{Every, Paired}
+use Rattle.fore_base.specs.declared.shape.Shape.{Shape}
+use Rattle.fore_base.specs.declared.store.Store.{Store}
 use Rattle.ta_core.specs.Auto.{Automaton}
 use Rattle.ta_core.specs.declared.tree.Tree.{Tree}
+use Rattle.fa_core.specs.declared.boxes.BoxDef.{BoxDef}
 use Rattle.fa_core.specs.declared.faces.BoxFace.{BoxFace}
 use Rattle.fa_core.specs.declared.faces.Face.{Face}
 use Rattle.fa_core.specs.declared.forest.Forest.{Forest}
@@ -13,9 +17,9 @@ use Rattle.fa_core.specs.declared.forest.Target.{Target}
 use Rattle.fa_core.specs.declared.signature.Signature.{Signature}
 use Rattle.fa_core.specs.Boxless.{HasNoBoxes}
 use Rattle.fa_core.specs.Filled.{Choice, HasSignatures, HasSome, IsSound}
+use Rattle.fa_core.specs.Member.{Stands}
 use Rattle.fa_core.specs.Ways.{signature}
-use Rattle.fa_merge.specs.Reached.{RootReached, IsReached, IsUnreached, AreAllReached, IsLeastUnreached, AlwaysLeaks}
-use Rattle.fa_merge.specs.Reached.{NeverLeaks}
+use Rattle.fa_merge.specs.Reached.{RootReached, IsReached, IsUnreached, AreAllReached, IsLeastUnreached}
 use Rattle.fa_core.specs.Choices.{bares}
 use Rattle.fa_merge.specs.inner.Hops.{Arrives, IsSignatureOf, all_hops}
 use Rattle.fa_merge.proofs.Arriving.{arrives_or_not}
@@ -119,9 +123,19 @@ module _ (face : Face) (F : Forest) (sound : IsSound face F) where
     | inr h ↦ inr (h.0, record { root = h.1; unreached = h.2; least = h.3 })
   ]
 
+-- Without box edges what holds of the members holds for every list of boxes.
+
+-- each member leaks
+abbrev pub AllLeak : Forest → Type 0
+AllLeak F = (hs : List Shape) (T : List BoxDef) (s : Store) → Stands hs T F s → Leaked s
+
+-- no member leaks
+abbrev pub NoneLeaks : Forest → Type 0
+NoneLeaks F = (hs : List Shape) (T : List BoxDef) (s : Store) → Stands hs T F s → Leaked s → ⊥
+
 module _ (face : Face) (F : Forest) (plain : Every HasNoBoxes F.autos) where
   -- where each root is reached no member leaks
-  pub reached_never_leaks : AreAllReached face F → NeverLeaks F
+  pub reached_never_leaks : AreAllReached face F → NoneLeaks F
   reached_never_leaks all hs T s (d, h) =
       let no_edges = trees_no_edges T F.autos d plain h.of in
       reached_store hs T F d s h no_edges
@@ -129,14 +143,14 @@ module _ (face : Face) (F : Forest) (plain : Every HasNoBoxes F.autos) where
       (all r (tree_below T F.autos d r x h.of e) (bares d) (choice_of T F.autos d h.of)))
 
   -- where some root is not every member leaks
-  pub unreached_leaks : (r : ℕ) → r < length F.autos → IsUnreached face F r → AlwaysLeaks F
+  pub unreached_leaks : (r : ℕ) → r < length F.autos → IsUnreached face F r → AllLeak F
   unreached_leaks r l never hs T s (d, h) =
       let x = tree_there T F.autos d r h.of l in
       unreached_store hs T F d s h (trees_no_edges T F.autos d plain h.of) r x.0 x.1
       (λ w. never (bares d) (choice_of T F.autos d h.of) (tree_root face.boxes F.vars d r w))
 
   -- every member of a sound forest leaks, or none does
-  pub leak_decided : IsSound face F → NeverLeaks F ⊎ AlwaysLeaks F
+  pub leak_decided : IsSound face F → NoneLeaks F ⊎ AllLeak F
   leak_decided sound = elim (roots_decided face F sound) [
     | inl all ↦ inl (reached_never_leaks all)
     | inr h ↦ inr (unreached_leaks h.0 h.1.root h.1.unreached)

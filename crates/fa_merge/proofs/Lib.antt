@@ -29,6 +29,7 @@ pub mod PlacedForests
 pub mod PlacedSpots
 pub mod Plain
 pub mod ReorderedSound
+pub mod RootMarks
 pub mod Signatures
 pub mod StoreLeaks
 pub mod Rows

@@ -17,13 +17,16 @@ use Rattle.fa_core.specs.declared.faces.Face.{Face}
 use Rattle.fa_core.specs.declared.forest.Forest.{Forest}
 use Rattle.fa_core.specs.declared.forest.Target.{Target}
 use Rattle.fa_core.specs.declared.forest.Target.TheVariants.{Null, Uninit, Dangling, At}
+use Rattle.fa_core.specs.Boxes.{IsTableOf}
+use Rattle.fa_core.specs.declared.boxes.BoxDef.{BoxDef}
+use Rattle.fore_base.specs.declared.store.Store.{Store}
 use Rattle.fa_core.specs.Boxless.{HasNoBoxes}
 use Rattle.fa_core.specs.Choices.{numbers, numbers_of, all_numbers, bares}
 use Rattle.fa_core.specs.Dressed.{Node, Parts, Nodes, node, no_parts, field, link, hook, under, leaf, no_nodes, more}
 use Rattle.fa_core.specs.Dressed.{Fact, Head, Points, facts, tree_facts, slot_facts, end_facts, end_value, forest_facts}
 use Rattle.fa_core.specs.Dressed.{value_in, roots_of, number}
 use Rattle.fa_core.specs.Filled.{IsSound, IsFilledSpot, Spot, covers, fields_of, numbered, spots}
-use Rattle.fa_core.specs.Member.{HasItsFields, store_facts, cell_facts, slots_of}
+use Rattle.fa_core.specs.Member.{HasItsFields, Stands, store_facts, cell_facts, slots_of}
 use Rattle.fa_core.specs.Rearranged.{Rearranged, empty, keep, chain}
 use Rattle.fa_core.proofs.Dressing.{dress_all, boxless_have_insides, numbered_differ}
 use Rattle.fa_core.proofs.NodeSpots.{node_spots, parts_spots, spots_are}
@@ -31,11 +34,11 @@ use Rattle.fa_core.proofs.PlainNodes.{NoEdges, NoEdgesOf, NoEdgesIn, trees_no_ed
 use Rattle.fa_core.proofs.Rearranging.{back, after, both, exchange}
 use Rattle.fa_sound.proofs.Choices.{filled_trees}
 use Rattle.fa_sound.proofs.NothingGiven.{nothing_given}
-use Rattle.fa_merge.specs.Reached.{AlwaysLeaks, NeverLeaks, HasMembers}
+use Rattle.fa_merge.specs.Reached.{AlwaysLeaks, NeverLeaks}
 use Rattle.fa_merge.proofs.DroppedBack.{roots_named}
 use Rattle.fa_merge.proofs.FactReach.{fact_value, top_in}
 use Rattle.fa_merge.proofs.FieldFacts.{unmap, fact_field, IsOwn, every_there, in_order, fact_count}
-use Rattle.fa_merge.proofs.LeaksDecided.{some_choice}
+use Rattle.fa_merge.proofs.LeaksDecided.{AllLeak, NoneLeaks, some_choice}
 use Rattle.fa_merge.proofs.StoreLeaks.{cell_number, has_cell, pointer_stored}
 
 -- Cells.
@@ -216,7 +219,7 @@ numbered_below k (x ∷ xs) n (inr i) = let l = numbered_below (suc k) xs n i in
 
 module _ (face : Face) (F : Forest) (sound : IsSound face F) (ranked : Every IsRanked F.autos)
     (plain : Every HasNoBoxes F.autos) where
-  pub has_member : HasMembers face F
+  pub has_member : (T : List BoxDef) → (s : Store) × Stands face.shapes.structs T F s
   has_member T =
       let choice = some_choice F.autos sound.full in
       let cf = sound.well_formed.filled.trees choice.0 choice.1 in
@@ -271,10 +274,14 @@ module _ (face : Face) (F : Forest) (sound : IsSound face F) (ranked : Every IsR
       )
 
   -- so not all leak where none does
-  pub not_both : AlwaysLeaks F → NeverLeaks F → ⊥
+  pub not_both : AllLeak F → NoneLeaks F → ⊥
   not_both all none = let m = has_member [] in none face.shapes.structs [] m.0 m.1 (all face.shapes.structs [] m.0 m.1)
 
-  pub exact_of : (found : Option ℕ) → MatchOption found (NeverLeaks F) (λ r. AlwaysLeaks F)
-      → (AlwaysLeaks F → IsSome found) × (NeverLeaks F → IsNone found)
-  exact_of None h = ((λ all. absurd (not_both all h)), (λ none. refl))
-  exact_of (Some r) h = ((λ all. refl), (λ none. absurd (not_both h none)))
+  pub not_both_of : (T : List BoxDef) → IsTableOf face T → AlwaysLeaks face F → NeverLeaks face F → ⊥
+  not_both_of T t all none = let m = has_member T in none T t m.0 m.1 (all T t m.0 m.1)
+
+  pub exact_of : (found : Option ℕ) → MatchOption found (NeverLeaks face F) (λ r. AlwaysLeaks face F)
+      → (T : List BoxDef) → IsTableOf face T
+      → (AlwaysLeaks face F → IsSome found) × (NeverLeaks face F → IsNone found)
+  exact_of None h T t = ((λ all. absurd (not_both_of T t all h)), (λ none. refl))
+  exact_of (Some r) h T t = ((λ all. refl), (λ none. absurd (not_both_of T t h none)))

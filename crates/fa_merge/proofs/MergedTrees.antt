@@ -24,7 +24,7 @@ use Rattle.fa_core.proofs.NodeRuns.{NodeRun, PartsRun, EndRun, parts_bare, bare_
 use Rattle.fa_merge.specs.Merged.{is_ref, kept, moved, bridge, bridges, merged}
 use Rattle.fa_merge.specs.inner.Grafting.{plug, plug_parts, plug_end}
 use Rattle.fa_merge.proofs.CutTrees.{FillsEnd, LeafRule, cut_end}
-use Rattle.fa_merge.proofs.Hopping.{has_in, in_has}
+use Rattle.fa_merge.proofs.RootMarks.{has_in, in_has}
 
 ref_is : (r : ℕ) (y : Symbol) → is_ref r y ≡ true → y ≡ Ref r
 ref_is r NullSymbol e = absurd (true≢false (sym e))
@@ -148,14 +148,14 @@ paired_down n (q ∷ qs) = (refl, paired_down n qs)
 not_below : (q n : ℕ) → q + n < n → ⊥
 not_below q n h = omega (arith, h)
 
-abbrev IsRefSymbol : Symbol → Type 0
+abbrev pub IsRefSymbol : Symbol → Type 0
 IsRefSymbol NullSymbol = ⊥
 IsRefSymbol UninitSymbol = ⊥
 IsRefSymbol DanglingSymbol = ⊥
 IsRefSymbol (Ref k) = Unit {0}
 IsRefSymbol (CellSymbol s ds ss) = ⊥
 
-abbrev ref_number : Symbol → ℕ
+abbrev pub ref_number : Symbol → ℕ
 ref_number NullSymbol = 0
 ref_number UninitSymbol = 0
 ref_number DanglingSymbol = 0

@@ -25,7 +25,7 @@ use Rattle.fa_core.proofs.Placing.{refs_placed_end}
 use Rattle.fa_core.proofs.Uniform.{alike_ends, alike_tops, ends_refer_alike, signed_alike, alike_signed}
 use Rattle.fa_core.proofs.WaysOf.{tree_roots}
 use Rattle.fa_sound.specs.Components.{component_at}
-pub use Rattle.fa_sound.proofs.ComponentLemmas.{component_got}
+use Rattle.fa_sound.proofs.ComponentLemmas.{component_got}
 use Rattle.fa_merge.proofs.FlatAlike.{flat_alike}
 use Rattle.fa_merge.proofs.LeaksDecided.{some_choice}
 

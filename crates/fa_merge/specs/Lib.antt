@@ -1,3 +1,4 @@
+pub mod Counts
 pub mod Dropped
 pub mod Merged
 pub mod Reached

@@ -2,7 +2,6 @@
 use Rattle.std.specs.Prelude.{◌≡◌, ◌<◌, ℕ, List, length, Some, slice_get}
 use Rattle.fore_base.specs.Heap.{Leaked}
 use Rattle.fore_base.specs.Lists.{IsIn}
-use Rattle.fore_base.specs.declared.shape.Shape.{Shape}
 use Rattle.fore_base.specs.declared.store.Store.{Store}
 use Rattle.ta_core.specs.declared.tree.Tree.{Tree}
 use Rattle.fa_core.specs.declared.boxes.BoxDef.{BoxDef}
@@ -11,6 +10,7 @@ use Rattle.fa_core.specs.declared.faces.Face.{Face}
 use Rattle.fa_core.specs.declared.forest.Forest.{Forest}
 use Rattle.fa_core.specs.declared.forest.Target.{Target}
 use Rattle.fa_core.specs.declared.forest.Target.TheVariants.{At}
+use Rattle.fa_core.specs.Boxes.{IsTableOf}
 use Rattle.fa_core.specs.Canonical.{LeadsBack, RefersTo}
 use Rattle.fa_core.specs.Filled.{Choice}
 use Rattle.fa_core.specs.Member.{Stands}
@@ -41,14 +41,14 @@ pub record IsLeastUnreached (face : Face) (F : Forest) (r : ℕ) : Type 0 where
   pub unreached : IsUnreached face F r
   pub least : (k : ℕ) → k < r → IsReached face F k
 
--- every member of the forest leaks, whatever the structs and the box table are
-abbrev pub AlwaysLeaks : Forest → Type 0
-AlwaysLeaks F = (hs : List Shape) (T : List BoxDef) (s : Store) → Stands hs T F s → Leaked s
+-- every member of the forest leaks, for each table over the face
+abbrev pub AlwaysLeaks : Face → Forest → Type 0
+AlwaysLeaks face F = (T : List BoxDef) → IsTableOf face T → (s : Store) → Stands face.shapes.structs T F s → Leaked s
 
--- no member of the forest leaks
-abbrev pub NeverLeaks : Forest → Type 0
-NeverLeaks F = (hs : List Shape) (T : List BoxDef) (s : Store) → Stands hs T F s → Leaked s → ⊥
+-- no member of the forest leaks, for each table over the face
+abbrev pub NeverLeaks : Face → Forest → Type 0
+NeverLeaks face F = (T : List BoxDef) → IsTableOf face T → (s : Store) → Stands face.shapes.structs T F s → Leaked s → ⊥
 
--- the forest stands for some store, for every box table
+-- the forest stands for some store, for each table over the face
 abbrev pub HasMembers : Face → Forest → Type 0
-HasMembers face F = (T : List BoxDef) → (s : Store) × Stands face.shapes.structs T F s
+HasMembers face F = (T : List BoxDef) → IsTableOf face T → (s : Store) × Stands face.shapes.structs T F s

@@ -4,7 +4,8 @@ ghost use Rattle.std.specs.Prelude.{◌≡◌, ◌≤◌, ◌<◌, ◌*◌, ◌^
 ghost use Rattle.fore_base.specs.Lists.{IsIn, Paired};
 ghost use Rattle.fa_core.specs.declared.forest.Target.TheVariants.{At};
 ghost use Rattle.fa_merge.specs.Merged.{CanMerge};
-ghost use Rattle.fa_merge.specs.inner.Counted.{mark_count, marks_count, sum_count};
+ghost use Rattle.fa_merge.specs.Counts.{mark_count, marks_count};
+ghost use Rattle.fa_merge.specs.inner.Counted.{sum_count};
 ghost use Rattle.fa_merge.specs.inner.Hops.{IsSignatureOf};
 
 use crate::merge::is_marked_root;
@@ -68,7 +69,7 @@ fn has_one(signatures: &[Signature], root: u32, count: u32) -> bool
 }
 
 /// The references to the root for which the marks stand, as far as two.
-fn count_marks(marks: &[RefMark], root: u32) -> u64
+pub fn count_marks(marks: &[RefMark], root: u32) -> u64
     ensures value { result ≡ marks_count root marks.now }
     ensures few { result ≤ 2 }
 {

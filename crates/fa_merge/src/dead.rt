@@ -2,6 +2,7 @@
 
 ghost use Rattle.std.specs.Prelude.{◌≡◌, ◌<◌, List, length, map, IfOk};
 ghost use Rattle.fore_base.specs.Lists.{Every};
+ghost use Rattle.fa_core.specs.Boxes.{IsTableOf};
 ghost use Rattle.fa_core.specs.Boxless.{HasNoBoxes};
 ghost use Rattle.fa_core.specs.Placed.{placed_auto};
 ghost use Rattle.fa_core.specs.declared.boxes.BoxDef.{BoxDef};
@@ -27,10 +28,10 @@ pub fn drop_dead(alloc: Global, forest: &Sound, root: u32) -> Mem<Sound>
     ensures cut { CanDrop forest.now.face.boxes forest.now.forest root
         → IfOk result (λ made. (T : List BoxDef) → IsCut T forest.now.forest made.forest root) }
     ensures removes { CanDrop forest.now.face.boxes forest.now.forest root
-        → IfOk result (λ made. (T : List BoxDef)
+        → IfOk result (λ made. (T : List BoxDef) → IsTableOf forest.now.face T
         → Removes forest.now.face.shapes.structs T forest.now.forest made.forest root) }
     ensures restores { CanDrop forest.now.face.boxes forest.now.forest root
-        → IfOk result (λ made. (T : List BoxDef)
+        → IfOk result (λ made. (T : List BoxDef) → IsTableOf forest.now.face T
         → Restores forest.now.face.shapes.structs T forest.now.forest made.forest root) }
 {
     forest.known();

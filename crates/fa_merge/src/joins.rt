@@ -3,9 +3,9 @@
 ghost use Rattle.std.specs.Prelude.{◌≡◌, ◌<◌, ◌+◌, ◌++◌, ◌^◌, map, IfOk};
 ghost use Rattle.fore_base.specs.Lists.{Every};
 ghost use Rattle.ta_core.specs.Joined.{CanShift, CanShiftRule, shift};
-ghost use Rattle.fa_core.specs.Ways.{has};
 ghost use Rattle.fa_merge.specs.Merged.{bridge, bridges, is_ref, kept, merged, moved};
 
+use fa_core::cells::has;
 use fore_base::list::{Copies, List};
 use fore_base::memory::Mem;
 use std::alloc::Global;
@@ -125,7 +125,7 @@ fn bridge_rules(
 {
     let mut made = List::new(alloc);
     for rule in rules {
-        if is_one_of(rule.state, roots) {
+        if has(rule.state, roots) {
             let rule = bridged_rule(alloc, rule, state, by)?;
             made.push(rule)?;
         }
@@ -163,15 +163,4 @@ fn refers_to(symbol: &Symbol, root: u32) -> bool
         Symbol::Ref(other) => root == *other,
         _ => false,
     }
-}
-
-fn is_one_of(state: u32, roots: &[u32]) -> bool
-    ensures { result ≡ has state roots.now }
-{
-    for root in roots {
-        if state == *root {
-            return true;
-        }
-    }
-    false
 }

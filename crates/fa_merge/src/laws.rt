@@ -2,10 +2,10 @@
 
 ghost use Rattle.std.specs.Prelude.{◌≡◌, ◌⊎◌, ◌<◌, ℕ, List, Some, length, slice_get};
 ghost use Rattle.fore_base.specs.Lists.{Every, Paired};
-ghost use Rattle.fore_base.specs.declared.shape.Shape.{Shape};
 ghost use Rattle.ta_core.specs.Auto.{Automaton, IsRanked};
 ghost use Rattle.ta_core.specs.Language.{InLanguage};
 ghost use Rattle.ta_core.specs.declared.tree.Tree.{Tree};
+ghost use Rattle.fa_core.specs.Boxes.{IsTableOf};
 ghost use Rattle.fa_core.specs.Boxless.{HasNoBoxes};
 ghost use Rattle.fa_core.specs.Filled.{IsFilled, IsSound};
 ghost use Rattle.fa_core.specs.Member.{Regroups, bare};
@@ -37,25 +37,25 @@ pub fn reaching_is_decided()
 
 /// Without box edges no member leaks where each root is reached, and every member leaks where some root is not.
 pub fn leaks_follow_roots()
-    ensures never { (face : Face) (F : Forest) → Every HasNoBoxes F.autos → AreAllReached face F → NeverLeaks F }
+    ensures never { (face : Face) (F : Forest) → Every HasNoBoxes F.autos → AreAllReached face F → NeverLeaks face F }
     ensures always { (face : Face) (F : Forest) (r : ℕ) → Every HasNoBoxes F.autos → r < length F.autos
         → IsUnreached face F r
-        → AlwaysLeaks F }
+        → AlwaysLeaks face F }
 {}
 
 /// No member of a sound forest without box edges leaks, or every member does.
 pub fn all_leak_or_none()
-    ensures { (face : Face) (F : Forest) → IsSound face F → Every HasNoBoxes F.autos → NeverLeaks F ⊎ AlwaysLeaks F }
+    ensures { (face : Face) (F : Forest) → IsSound face F → Every HasNoBoxes F.autos → NeverLeaks face F
+        ⊎ AlwaysLeaks face F }
 {}
 
-/// Each sound forest without box edges has a member, for every box table, so its members do not all leak where none
-/// does.
+/// Each sound forest without box edges has a member, for each table over its face, so where there is a table its
+/// members do not all leak where none does.
 pub fn sound_forests_have_members()
     ensures members { (face : Face) (F : Forest) → IsSound face F → Every IsRanked F.autos → Every HasNoBoxes F.autos
         → HasMembers face F }
-    ensures one { (face : Face) (F : Forest) → IsSound face F → Every IsRanked F.autos → Every HasNoBoxes F.autos
-        → AlwaysLeaks F
-        → NeverLeaks F → ⊥ }
+    ensures one { (face : Face) (T : List BoxDef) (F : Forest) → IsTableOf face T → IsSound face F
+        → Every IsRanked F.autos → Every HasNoBoxes F.autos → AlwaysLeaks face F → NeverLeaks face F → ⊥ }
 {}
 
 /// The law of other orders: a forest and the one whose roots stand in another order regroup each other, for every box
@@ -86,13 +86,12 @@ pub fn dropping_cuts()
         → IsCut T F (dropped_forest r F) r }
 {}
 
-/// The law of dropping on stores: without box edges the members of a forest that is cut are those of the forest with
-/// the root's cell removed and each value that named it Dangling, up to alike.
+/// The law of dropping on stores, for each table over the face: without box edges the members of a forest that is cut
+/// are those of the forest with the root's cell removed and each value that named it Dangling, up to alike.
 pub fn dropping_removes()
-    ensures removes { (hs : List Shape) (T : List BoxDef) (F G : Forest) (r : ℕ) → Every HasNoBoxes F.autos
-        → IsCut T F G r
-        → Removes hs T F G r }
-    ensures restores { (T : List BoxDef) (face : Face) (F G : Forest) (r : ℕ) → Every HasNoBoxes F.autos
-        → Every HasNoBoxes G.autos
+    ensures removes { (face : Face) (T : List BoxDef) (F G : Forest) (r : ℕ) → IsTableOf face T
+        → Every HasNoBoxes F.autos → IsCut T F G r → Removes face.shapes.structs T F G r }
+    ensures restores { (face : Face) (T : List BoxDef) (F G : Forest) (r : ℕ) → IsTableOf face T
+        → Every HasNoBoxes F.autos → Every HasNoBoxes G.autos
         → IsFilled face F → IsCut T F G r → Restores face.shapes.structs T F G r }
 {}

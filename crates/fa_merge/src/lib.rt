@@ -18,3 +18,4 @@ pub use counting::can_merge;
 pub use dead::drop_dead;
 pub use leaking::leaking_root;
 pub use merge::{merge_root, reorder};
+pub use placing::symbol_of;

@@ -65,7 +65,8 @@ fn place_symbol<L: Leaves>(alloc: Global, symbol: &Symbol, leaves: &L) -> Mem<Sy
     }
 }
 
-fn symbol_of(leaf: Target) -> Symbol
+/// The symbol of the leaf.
+pub fn symbol_of(leaf: Target) -> Symbol
     ensures { result ≡ leaf_symbol leaf }
 {
     match leaf {

@@ -4,6 +4,7 @@ pub mod CountedMarks
 pub mod Decided
 pub mod Exactly
 pub mod Following
+pub mod InOrder
 pub mod NoWays
 pub mod Outlined
 pub mod Reduced
@@ -13,7 +14,6 @@ pub mod SameMarks
 pub mod SameWalks
 pub mod Shows
 pub mod Tame
-pub mod Tops
 pub mod Visits
 pub mod WalkOrder
 pub mod Weights

@@ -7,9 +7,7 @@ use Rattle.std.proofs.lemmas.Bool.{eqb-true, eq-eqb}
 use Rattle.std.proofs.lemmas.Option.{none-some, same_Some}
 use Rattle.fore_base.specs.Lists.{IsIn, Paired}
 use Rattle.fore_base.proofs.ListLemmas.{in_map, in_mapped}
-use Rattle.ta_core.specs.declared.symbol.Symbol.{Symbol}
-use Rattle.ta_core.specs.declared.symbol.Symbol.TheVariants.{Null as NullSymbol, Uninit as UninitSymbol}
-use Rattle.ta_core.specs.declared.symbol.Symbol.TheVariants.{Dangling as DanglingSymbol, Ref, Cell as CellSymbol}
+use Rattle.ta_core.specs.declared.symbol.Symbol.TheVariants.{Ref, Cell as CellSymbol}
 use Rattle.ta_core.specs.declared.tree.Tree.{Tree, out-Tree, out-roll-Tree}
 use Rattle.fa_core.specs.Canonical.{at_fields, field_trees, refs_at, var_roots}
 use Rattle.fa_core.specs.Choices.{bares, count}
@@ -33,6 +31,7 @@ use Rattle.fa_merge.specs.Dropped.{node_at}
 use Rattle.fa_merge.specs.Reordered.{renumber, counted, reordered_by}
 use Rattle.fa_merge.specs.inner.Orders.{IsOrder}
 use Rattle.fa_merge.proofs.MergedAnywhere.{numbers_mapped, refs_renumbered}
+use Rattle.fa_merge.proofs.MergedTrees.{IsRefSymbol, ref_number}
 use Rattle.fa_merge.proofs.OtherOrders.{flat_later, get_counted, get_mapped, node_or, picked, picked_of, count_trees}
 use Rattle.fa_merge.proofs.OtherOrders.{root_at, root_place, place_turned, place_below, back_order, order_back}
 use Rattle.fa_merge.proofs.OtherOrders.{reordered_back, reordered_length}
@@ -109,25 +108,11 @@ module _ (f g : ℕ → ℕ) (fg : (j : ℕ) → f (g j) ≡ j) (gf : (k : ℕ) 
             (b.1 (subst (λ (ks : List ℕ). IsIn (f k) ks) (end_roots e) i))),
       )
 
-  abbrev IsRefSymbol : Symbol → Type 0
-  IsRefSymbol NullSymbol = ⊥
-  IsRefSymbol UninitSymbol = ⊥
-  IsRefSymbol DanglingSymbol = ⊥
-  IsRefSymbol (Ref k) = Unit {0}
-  IsRefSymbol (CellSymbol s ds ss) = ⊥
-
-  abbrev ref_of : Symbol → ℕ
-  ref_of NullSymbol = 0
-  ref_of UninitSymbol = 0
-  ref_of DanglingSymbol = 0
-  ref_of (Ref k) = k
-  ref_of (CellSymbol s ds ss) = 0
-
   leaf_named : (t : Target) (k : ℕ) → leaf_symbol (placed_leaf (renumber g) t) ≡ Ref k → leaf_symbol t ≡ Ref (f k)
   leaf_named Null k e = absurd (subst IsRefSymbol (sym e) tt)
   leaf_named Uninit k e = absurd (subst IsRefSymbol (sym e) tt)
   leaf_named Dangling k e = absurd (subst IsRefSymbol (sym e) tt)
-  leaf_named (At i) k e = ap Ref (sym (fg i) ∙ ap f (ap ref_of e))
+  leaf_named (At i) k e = ap Ref (sym (fg i) ∙ ap f (ap ref_number e))
 
   end_named : (e : End) (k : ℕ) → (out-Tree (bare_end (placed_end (renumber g) e))).symbol ≡ Ref k
       → (out-Tree (bare_end e)).symbol ≡ Ref (f k)

@@ -5,7 +5,7 @@ use Rattle.std.proofs.Common.{◌∙◌, slice_get, Some}
 use Rattle.std.proofs.lemmas.Option.{none-some, same_Some}
 use Rattle.fore_base.specs.Lists.{IsIn, Every, Paired}
 use Rattle.fore_base.proofs.ListLemmas.{in_every}
-use Rattle.ta_core.specs.Auto.{Automaton, IsRanked}
+use Rattle.ta_core.specs.Auto.{Automaton}
 use Rattle.ta_core.specs.declared.auto.Rule.{Rule}
 use Rattle.ta_core.specs.declared.symbol.Symbol.{Symbol}
 use Rattle.ta_core.specs.declared.symbol.Symbol.TheVariants.{Null as NullSymbol, Uninit as UninitSymbol}
@@ -21,12 +21,12 @@ use Rattle.fa_core.specs.declared.faces.Face.{Face}
 use Rattle.fa_core.specs.declared.forest.Forest.{Forest}
 use Rattle.fa_core.specs.declared.forest.Target.{Target}
 use Rattle.fa_core.specs.declared.forest.Target.TheVariants.{Null, Uninit, Dangling, At}
-use Rattle.fa_merge.specs.Reached.{RootReached, by_var, by_tree, by_way, AreAllReached, NeverLeaks}
+use Rattle.fa_merge.specs.Reached.{RootReached, by_var, by_tree, by_way, AreAllReached}
 use Rattle.fa_merge.specs.Reordered.{counted, IsOrderOf, place_of, renumber, reordered}
 use Rattle.fa_sound.specs.Components.{component_at}
-use Rattle.fa_merge.proofs.Hopping.{in_once, once_in, in_var_roots, var_roots_in}
-use Rattle.fa_merge.proofs.LeaksDecided.{some_choice, roots_decided, unreached_leaks}
-use Rattle.fa_merge.proofs.Members.{not_both}
+use Rattle.fa_merge.proofs.Hopping.{in_var_roots, var_roots_in}
+use Rattle.fa_merge.proofs.RootMarks.{in_once, once_in}
+use Rattle.fa_merge.proofs.LeaksDecided.{some_choice}
 use Rattle.fa_merge.proofs.Named.{choice_long, refers_below, var_below}
 use Rattle.fa_merge.proofs.OtherOrders.{counted_later}
 use Rattle.fa_order.specs.Placing.{IsWalkOrder}
@@ -110,14 +110,6 @@ module _ (face : Face) (F : Forest) (sound : IsSound face F) where
         let c = some_choice F.autos sound.full in
         walk_is_order (refs_at c.0) (var_roots F.vars) size order (walk c.0 c.1) vars_below (refs_below c.0 c.1)
         (λ r l. reached_placed c.0 c.1 order (walk c.0 c.1) r (reached r l c.0 c.1))
-
-    -- where no member leaks each root is reached
-    pub tight_reached : Every IsRanked F.autos → NeverLeaks F → AreAllReached face F
-    tight_reached ranked never = elim (roots_decided face F sound) [
-      | inl h ↦ h
-      | inr h ↦ absurd
-          (not_both face F sound ranked plain (unreached_leaks face F plain h.0 h.1.root h.1.unreached) never)
-    ]
 
     -- the roots stand in the order of the walk exactly where the walk places them in the order of their numbers
     pub walks_in_order : (order : List ℕ) → IsWalkOrder F order → order ≡ counted 0 size → (ts : List Tree)

@@ -1,25 +1,27 @@
 // Whether a forest is canonical, and whether its roots are those of a canonical one.
 
-ghost use Rattle.std.specs.Prelude.{◌≡◌, ◌≤◌, ◌<◌, ◌*◌, ◌^◌, ◌↔◌, length, IsTrue, IfOk};
+ghost use Rattle.std.specs.Prelude.{◌≡◌, ◌<◌, ◌*◌, ◌^◌, ◌↔◌, length, IsTrue, IfOk};
 ghost use Rattle.fore_base.specs.Lists.{Every};
 ghost use Rattle.ta_core.specs.Single.{HasOneTop};
 ghost use Rattle.fa_core.specs.Boxless.{HasNoBoxes};
 ghost use Rattle.fa_core.specs.Canonical.{IsCanonical};
 ghost use Rattle.fa_merge.specs.Reordered.{counted};
-ghost use Rattle.fa_merge.specs.inner.Counted.{mark_count, marks_count};
 ghost use Rattle.fa_order.specs.Kinds.{HasRootKinds};
 ghost use Rattle.fa_order.specs.inner.Deciding.{any_cell, any_leaf, any_ties, knot_by, rise_from, root_by, roots_by};
-ghost use Rattle.fa_order.specs.inner.Deciding.{rules_of, shared_by, ties, times_shown};
+ghost use Rattle.fa_order.specs.inner.Deciding.{shared_by, ties, times_shown};
 
-use crate::referring::{is_marked_root, var_roots};
+use crate::referring::var_roots;
 use crate::roots::walk_order;
 use crate::showing::{Shown, shown_roots};
-use crate::walking::is_in;
+use fa_core::cells::has;
 use fa_core::signature::{Below, RefMark};
+use fa_merge::counting::count_marks;
+use fa_merge::merge::is_marked_root;
 use fa_sound::{Sound, count_roots};
 use fore_base::memory::Mem;
 use std::alloc::Global;
-use ta_core::auto::{Auto, Rule};
+use ta_core::auto::Auto;
+use ta_core::single::has_one_top;
 
 /// Whether the forest is canonical. Err is want of memory.
 pub fn is_canonical(alloc: Global, forest: &Sound) -> Mem<bool>
@@ -62,25 +64,6 @@ fn have_one_top(autos: &[Auto]) -> bool
         }
     }
     true
-}
-
-fn has_one_top(auto: &Auto) -> bool
-    ensures { IsTrue result ↔ HasOneTop auto.now }
-{
-    auto.roots.len() == 1 && count_rules(auto.rules.as_slice(), *auto.roots.at(0)) == 1
-}
-
-/// How many of the rules are of the state.
-fn count_rules(rules: &[Rule], state: u32) -> usize
-    ensures { result ≡ rules_of state rules.now }
-{
-    let mut count = 0;
-    for rule in rules {
-        if rule.state == state {
-            count += 1;
-        }
-    }
-    count
 }
 
 /// Whether the numbers are those below `count`, in order.
@@ -135,7 +118,7 @@ fn is_shared(vars: &[u32], shown: &[Shown], root: u32) -> bool
     requires { length shown.now < 2 ^ 32 }
     ensures { result ≡ shared_by vars.now shown.now root }
 {
-    is_in(root, vars) || 2 <= count_references(root, shown)
+    has(root, vars) || 2 <= count_references(root, shown)
 }
 
 /// Whether there is one reference to the root, in a field of a shared root to which its own trees refer.
@@ -210,24 +193,4 @@ fn count_references(root: u32, shown: &[Shown]) -> u64
         sum += count_marks(own.marks.as_slice(), root);
     }
     sum
-}
-
-/// The references to the root for which the marks stand, as far as two.
-fn count_marks(marks: &[RefMark], root: u32) -> u64
-    ensures value { result ≡ marks_count root marks.now }
-    ensures few { result ≤ 2 }
-{
-    for mark in marks {
-        if root == mark.root {
-            return count_mark(mark);
-        }
-    }
-    0
-}
-
-fn count_mark(mark: &RefMark) -> u64
-    ensures value { result ≡ mark_count mark.now }
-    ensures few { result ≤ 2 }
-{
-    if mark.many { 2 } else { 1 }
 }

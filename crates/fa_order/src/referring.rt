@@ -6,7 +6,6 @@ ghost use Rattle.ta_core.specs.Auto.{Automaton};
 ghost use Rattle.ta_core.specs.Single.{HasOneTop};
 ghost use Rattle.fa_core.specs.Canonical.{var_roots};
 ghost use Rattle.fa_core.specs.Cells.{roots_in};
-ghost use Rattle.fa_core.specs.Ways.{has};
 ghost use Rattle.fa_order.specs.inner.Stacks.{AreRefsOf};
 
 use fa_core::forest::Target;
@@ -60,18 +59,6 @@ pub fn marked_roots(alloc: Global, marks: &[RefMark]) -> Mem<List<u32>>
         made.push(mark.root)?;
     }
     Ok(made)
-}
-
-/// Whether one of the marks is of the root.
-pub fn is_marked_root(marks: &[RefMark], root: u32) -> bool
-    ensures { result ≡ has root (roots_in marks.now) }
-{
-    for mark in marks {
-        if root == mark.root {
-            return true;
-        }
-    }
-    false
 }
 
 /// The roots at which variables are, in order.

@@ -7,7 +7,7 @@ ghost use Rattle.fa_core.specs.Boxless.{HasNoBoxes};
 ghost use Rattle.fa_core.specs.Canonical.{IsCanonical};
 ghost use Rattle.fa_core.specs.Member.{Regroups};
 ghost use Rattle.fa_core.specs.declared.boxes.BoxDef.{BoxDef};
-ghost use Rattle.fa_merge.specs.Reached.{NeverLeaks};
+ghost use Rattle.fa_merge.specs.Reached.{AreAllReached};
 ghost use Rattle.fa_merge.specs.Reordered.{IsOrderOf};
 ghost use Rattle.fa_order.specs.Kinds.{HasRootKinds};
 ghost use Rattle.fa_order.specs.Placing.{IsPlaced, IsWalkOrder};
@@ -21,11 +21,11 @@ use fore_base::memory::Mem;
 use std::alloc::Global;
 
 /// The forest with its roots in the order of the walk: depth first from the variables in order of number, through the
-/// slots of each cell in order, each root placed at its first visit. Err is want of memory.
+/// slots of each cell in order, each root placed at its first visit. Each root is reached. Err is want of memory.
 pub fn place_roots(alloc: Global, forest: &Sound) -> Mem<Sound>
     requires plain { Every HasNoBoxes forest.now.forest.autos }
     requires kinds { HasRootKinds forest.now.face forest.now.forest }
-    requires tight { NeverLeaks forest.now.forest }
+    requires reached { AreAllReached forest.now.face forest.now.forest }
     ensures canonical { IfOk result (λ made. IsCanonical made.face made.forest) }
     ensures value { IfOk result (λ made. IsPlaced forest.now.forest made.forest) }
     ensures face { IfOk result (λ made. made.face ≡ forest.now.face) }

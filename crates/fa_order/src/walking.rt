@@ -3,10 +3,10 @@
 ghost use Rattle.std.specs.Prelude.{◌≡◌, ◌<◌, ◌++◌, ◌∷◌, [], ℕ, List, length, IfOk, OnOk};
 ghost use Rattle.fore_base.specs.Lists.{Every};
 ghost use Rattle.fa_core.specs.References.{AllBelow};
-ghost use Rattle.fa_core.specs.Ways.{has};
 ghost use Rattle.fa_core.specs.Folding.{Placing};
 ghost use Rattle.fa_order.specs.inner.Stacks.{behind, nth_refs, weight};
 
+use fa_core::cells::has;
 use fore_base::list::{Copies, List};
 use fore_base::memory::Mem;
 use std::alloc::Global;
@@ -41,7 +41,7 @@ fn visit(
     ensures below { OnOk result (Every (AllBelow (length refers.now)) refers.now → AllBelow (length refers.now) (behind stack.old)
         → AllBelow (length refers.now) (behind stack.new)) }
 {
-    if is_in(root, placed.as_slice()) {
+    if has(root, placed.as_slice()) {
         Ok(())
     } else {
         placed.push(root)?;
@@ -67,16 +67,4 @@ fn push_all(stack: &mut List<u32>, roots: &[u32]) -> Mem<()>
         stack.push(roots[place])?;
     }
     Ok(())
-}
-
-/// Whether the root stands in the list.
-pub fn is_in(root: u32, placed: &[u32]) -> bool
-    ensures { result ≡ has root placed.now }
-{
-    for other in placed {
-        if root == *other {
-            return true;
-        }
-    }
-    false
 }

@@ -7,6 +7,7 @@ ghost use Rattle.fa_core.specs.Boxless.{HasNoBoxes};
 use crate::turning::varied;
 use anyhow::{Result, bail};
 use fa_canon::canonical;
+use fa_core::forest::Forest;
 use fa_merge::leaking_root;
 use fa_sound::Sound;
 use fore_base::list::List;
@@ -41,10 +42,20 @@ pub fn turned_letters<R: Threads + Sync>(
 fn turned(alloc: Global, text: &str) -> Result<Sound>
     ensures { IfOk result (λ s. Every HasNoBoxes s.forest.autos) }
 {
+    let forest = turned_forest(alloc, text)?;
+    over_structs(alloc, &forest)
+}
+
+fn turned_forest(alloc: Global, text: &str) -> Result<Forest> {
     let forest = forest_of(alloc, text)?;
-    let other = varied(alloc, &forest)?;
+    varied(alloc, &forest)
+}
+
+fn over_structs(alloc: Global, forest: &Forest) -> Result<Sound>
+    ensures { IfOk result (λ s. Every HasNoBoxes s.forest.autos) }
+{
     let face = face(alloc)?;
-    sound_from(alloc, &face, &other)
+    sound_from(alloc, &face, forest)
 }
 
 fn made_letters<R: Threads + Sync>(

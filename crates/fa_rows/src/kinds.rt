@@ -4,7 +4,6 @@ use crate::canonizing::{canonical_letters, turned_letters};
 use crate::deciding::decided;
 use crate::placing::{placed, reduced};
 use crate::roots::{dropped, exchanged, leaking, merged};
-use crate::signatures::cut_letters;
 use crate::splitting::{chosen_letters, split_letters};
 use anyhow::{Context, Result, bail};
 use row_kit::Answers;
@@ -38,7 +37,6 @@ fn answer_alone(alloc: Global, head: &str, text: &str, wanted: &[&str]) -> Resul
         "placed" => placed(alloc, text),
         "leaking" => leaking(alloc, text),
         "exchanged" => exchanged(alloc, text),
-        "cut" => cut_letters(alloc, text, wanted),
         _ => answer_at(alloc, head, text, wanted),
     }
 }

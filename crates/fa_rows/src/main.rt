@@ -6,7 +6,6 @@ mod deciding;
 mod kinds;
 mod placing;
 mod roots;
-mod signatures;
 mod splitting;
 mod turning;
 

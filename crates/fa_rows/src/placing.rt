@@ -19,7 +19,13 @@ use ta_core::auto::Auto;
 // placed: the forest with its roots in the order of the walk.
 pub fn placed(alloc: Global, text: &str) -> Result<String> {
     let forest = sound(alloc, text)?;
-    let made = place(alloc, &forest)?;
+    placed_text(alloc, &forest)
+}
+
+fn placed_text(alloc: Global, forest: &Sound) -> Result<String>
+    requires { Every HasNoBoxes forest.now.forest.autos }
+{
+    let made = place(alloc, forest)?;
     shown(alloc, &made)
 }
 
@@ -39,11 +45,17 @@ fn place(alloc: Global, forest: &Sound) -> Result<Sound>
 // reduced: how many states the reduced components have.
 pub fn reduced<R: Threads + Sync>(rt: &R, alloc: Global, text: &str) -> Result<String> {
     let forest = sound(alloc, text)?;
+    reduced_counts(rt, alloc, &forest)
+}
+
+fn reduced_counts<R: Threads + Sync>(rt: &R, alloc: Global, forest: &Sound) -> Result<String>
+    requires { Every HasNoBoxes forest.now.forest.autos }
+{
     let crew = Crew {
         jobs: 2,
         gate: &NoGate,
     };
-    let made = reduce_forest(rt, alloc, &forest, &crew)?;
+    let made = reduce_forest(rt, alloc, forest, &crew)?;
     counts(alloc, made.forest().autos.as_slice())
 }
 

@@ -1,8 +1,9 @@
 // Roots that leak, that are dropped or merged, and that change places.
 
-ghost use Rattle.std.specs.Prelude.{◌≡◌, ◌<◌, length};
+ghost use Rattle.std.specs.Prelude.{◌≡◌, length};
 ghost use Rattle.fore_base.specs.Lists.{Every};
 ghost use Rattle.fa_core.specs.Boxless.{HasNoBoxes};
+ghost use Rattle.fa_merge.specs.Merged.{CanMerge};
 
 use crate::splitting::has_root;
 use anyhow::{Result, bail};
@@ -18,7 +19,12 @@ const ORDER: &[u32] = &[1, 0];
 // leaking: the least root that leaks.
 pub fn leaking(alloc: Global, text: &str) -> Result<String> {
     let forest = sound(alloc, text)?;
-    match leaking_root(alloc, &forest)? {
+    let root = leaking_root(alloc, &forest)?;
+    root_text(alloc, root)
+}
+
+fn root_text(alloc: Global, root: Option<u32>) -> Result<String> {
+    match root {
         Some(root) => Ok(format!(in alloc; "{root}")?),
         None => Ok(String::from_str(alloc, "none")?),
     }
@@ -27,10 +33,16 @@ pub fn leaking(alloc: Global, text: &str) -> Result<String> {
 // dropped ROOT: the forest without the root.
 pub fn dropped(alloc: Global, text: &str, root: u32) -> Result<String> {
     let forest = sound(alloc, text)?;
-    if !has_root(&forest, root) {
+    dropped_text(alloc, &forest, root)
+}
+
+fn dropped_text(alloc: Global, forest: &Sound, root: u32) -> Result<String>
+    requires { Every HasNoBoxes forest.now.forest.autos }
+{
+    if !has_root(forest, root) {
         bail!("no such root");
     }
-    let made = drop_dead(alloc, &forest, root)?;
+    let made = drop_dead(alloc, forest, root)?;
     shown(alloc, &made)
 }
 
@@ -44,10 +56,16 @@ pub fn shown(alloc: Global, forest: &Sound) -> Result<String> {
 // exchanged: the forest whose two roots have changed places.
 pub fn exchanged(alloc: Global, text: &str) -> Result<String> {
     let forest = sound(alloc, text)?;
+    exchanged_text(alloc, &forest)
+}
+
+fn exchanged_text(alloc: Global, forest: &Sound) -> Result<String>
+    requires { Every HasNoBoxes forest.now.forest.autos }
+{
     if forest.forest().autos.len() != 2 {
         bail!("not two roots");
     }
-    let made = exchange(alloc, &forest)?;
+    let made = exchange(alloc, forest)?;
     shown(alloc, &made)
 }
 
@@ -61,23 +79,29 @@ fn exchange(alloc: Global, forest: &Sound) -> Mem<Sound>
 // merged ROOT: which of the wanted forests that is in which the root is merged.
 pub fn merged(alloc: Global, text: &str, root: u32, wanted: &[&str]) -> Result<String> {
     let forest = sound(alloc, text)?;
-    if !has_root(&forest, root) {
-        bail!("no such root");
-    }
     merged_letters(alloc, &forest, root, wanted)
 }
 
 fn merged_letters(alloc: Global, forest: &Sound, root: u32, wanted: &[&str]) -> Result<String>
-    requires plain { Every HasNoBoxes forest.now.forest.autos }
-    requires root { root < length forest.now.forest.autos }
+    requires { Every HasNoBoxes forest.now.forest.autos }
 {
+    if !has_root(forest, root) {
+        bail!("no such root");
+    }
     let can = can_merge(alloc, forest, root)?;
     if can {
-        let made = merge_root(alloc, forest, root)?;
-        letter_of(alloc, &made, wanted)
+        merged_letter(alloc, forest, root, wanted)
     } else {
         refused(alloc)
     }
+}
+
+fn merged_letter(alloc: Global, forest: &Sound, root: u32, wanted: &[&str]) -> Result<String>
+    requires plain { Every HasNoBoxes forest.now.forest.autos }
+    requires lone { CanMerge forest.now.forest root }
+{
+    let made = merge_root(alloc, forest, root)?;
+    letter_of(alloc, &made, wanted)
 }
 
 fn letter_of(alloc: Global, forest: &Sound, wanted: &[&str]) -> Result<String> {

@@ -14,10 +14,16 @@ use std::alloc::Global;
 // chosen ROOT: which of the wanted forests those with one rule of the root are, in their order.
 pub fn chosen_letters(alloc: Global, text: &str, root: u32, wanted: &[&str]) -> Result<String> {
     let forest = sound(alloc, text)?;
-    if !has_root(&forest, root) {
+    chosen_at(alloc, &forest, root, wanted)
+}
+
+fn chosen_at(alloc: Global, forest: &Sound, root: u32, wanted: &[&str]) -> Result<String>
+    requires { Every HasNoBoxes forest.now.forest.autos }
+{
+    if !has_root(forest, root) {
         bail!("no such root");
     }
-    let made = choose_rule(alloc, &forest, root)?;
+    let made = choose_rule(alloc, forest, root)?;
     letters_in_order(alloc, made.as_slice(), wanted)
 }
 

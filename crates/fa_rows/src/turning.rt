@@ -10,10 +10,7 @@ use ta_core::symbol::Symbol;
 
 // The forest in its other form.
 pub fn varied(alloc: Global, forest: &Forest) -> Result<Forest> {
-    let mut roots = 0u32;
-    for _ in forest.autos.as_slice() {
-        roots = roots.saturating_add(1);
-    }
+    let roots = u32::try_from(forest.autos.len())?;
     let autos = turned_autos(alloc, forest.autos.as_slice(), roots)?;
     let vars = turned_targets(alloc, forest.vars.as_slice(), roots)?;
     let data_vars = List::new(alloc);
@@ -27,7 +24,8 @@ pub fn varied(alloc: Global, forest: &Forest) -> Result<Forest> {
 fn turned_autos(alloc: Global, autos: &[Auto], roots: u32) -> Result<List<Auto>> {
     let mut made = List::new(alloc);
     for auto in autos.iter().rev() {
-        made.push(doubled(alloc, auto, roots)?)?;
+        let auto = doubled(alloc, auto, roots)?;
+        made.push(auto)?;
     }
     Ok(made)
 }
@@ -35,7 +33,8 @@ fn turned_autos(alloc: Global, autos: &[Auto], roots: u32) -> Result<List<Auto>>
 fn turned_targets(alloc: Global, targets: &[Target], roots: u32) -> Result<List<Target>> {
     let mut made = List::new(alloc);
     for target in targets {
-        made.push(turned_target(*target, roots)?)?;
+        let target = turned_target(*target, roots)?;
+        made.push(target)?;
     }
     Ok(made)
 }
@@ -48,17 +47,32 @@ fn turned_target(target: Target, roots: u32) -> Result<Target> {
 }
 
 fn doubled(alloc: Global, auto: &Auto, roots: u32) -> Result<Auto> {
-    let states = auto.states;
+    let states = plus(plus(auto.states, auto.states)?, 1)?;
+    let tops = doubled_tops(alloc, auto)?;
+    let rules = doubled_rules(alloc, auto, roots)?;
+    Auto::from_parts(states, tops, rules).context("no automaton")
+}
+
+fn doubled_tops(alloc: Global, auto: &Auto) -> Result<List<u32>> {
     let mut tops = List::new(alloc);
+    add_moved(&mut tops, auto.roots.as_slice(), auto.states, 0)?;
+    add_moved(&mut tops, auto.roots.as_slice(), auto.states, auto.states)?;
+    Ok(tops)
+}
+
+fn doubled_rules(alloc: Global, auto: &Auto, roots: u32) -> Result<List<Rule>> {
     let mut rules = List::new(alloc);
-    for by in [0, states] {
-        for root in auto.roots.as_slice() {
-            tops.push(moved(*root, states, by)?)?;
-        }
-        add_rules(alloc, &mut rules, auto, by, roots)?;
+    add_rules(alloc, &mut rules, auto, 0, roots)?;
+    add_rules(alloc, &mut rules, auto, auto.states, roots)?;
+    Ok(rules)
+}
+
+fn add_moved(made: &mut List<u32>, list: &[u32], states: u32, by: u32) -> Result<()> {
+    for state in list {
+        let state = moved(*state, states, by)?;
+        made.push(state)?;
     }
-    let all = plus(plus(states, states)?, 1)?;
-    Auto::from_parts(all, tops, rules).context("no automaton")
+    Ok(())
 }
 
 fn add_rules(
@@ -69,23 +83,27 @@ fn add_rules(
     roots: u32,
 ) -> Result<()> {
     for rule in auto.rules.as_slice() {
-        rules.push(moved_rule(alloc, rule, auto.states, by, roots)?)?;
+        let rule = moved_rule(alloc, rule, auto.states, by, roots)?;
+        rules.push(rule)?;
     }
     Ok(())
 }
 
 fn moved_rule(alloc: Global, rule: &Rule, states: u32, by: u32, roots: u32) -> Result<Rule> {
     let state = moved(rule.state, states, by)?;
+    let children = moved_all(alloc, rule.children.as_slice(), states, by)?;
     let symbol = turned_symbol(alloc, &rule.symbol, roots)?;
-    let mut children = List::new(alloc);
-    for child in rule.children.as_slice() {
-        children.push(moved(*child, states, by)?)?;
-    }
     Ok(Rule {
         state,
         symbol,
         children,
     })
+}
+
+fn moved_all(alloc: Global, list: &[u32], states: u32, by: u32) -> Result<List<u32>> {
+    let mut made = List::new(alloc);
+    add_moved(&mut made, list, states, by)?;
+    Ok(made)
 }
 
 fn turned_symbol(alloc: Global, symbol: &Symbol, roots: u32) -> Result<Symbol> {

@@ -1,4 +1,9 @@
-pub mod Filling
-pub mod Making
+pub mod Emitting
+pub mod Forests
+pub mod Numbering
 pub mod Places
+pub mod Roots
+pub mod Sampled
 pub mod Standing
+pub mod Steps
+pub mod Writing

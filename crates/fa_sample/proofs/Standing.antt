@@ -1,85 +1,112 @@
--- A dressed forest of a sound forest without box edges, whose cells have numbers of their own, stands for a store.
-use Rattle.std.proofs.Common.{◌≡◌, inl, inr, ℕ, suc, ◌<◌, Bool, true, false, cond, nat_eq, nat_le, length, List, []}
-use Rattle.std.proofs.Common.{◌∷◌, ◌++◌, map, flat_map, refl, sym, ap, ap₂, subst, ◌∙◌, append-nil, arith}
-use Rattle.std.proofs.lemmas.Bool.{le-leb}
+-- The cells that are written from a dressed forest of a sound forest are a store for which the forest stands.
+use Rattle.std.proofs.Common.{◌≡◌, inl, inr, ℕ, zero, suc, ◌<◌, ◌≤◌, ◌+◌, Bool, true, false, cond, nat_le, nat_eq}
+use Rattle.std.proofs.Common.{List, [], ◌∷◌, ◌++◌, map, length, flat_map, refl, sym, ap, ap₂, subst, ◌∙◌, arith}
+use Rattle.std.proofs.Common.{append-nil}
+use Rattle.std.proofs.lemmas.Bool.{le-leb, eqb-true, eq-eqb}
 use Rattle.fore_base.specs.Heap.{HasCell, NamesCell, AllDiffer}
-use Rattle.fore_base.specs.Lists.{IsIn, Every, IsDistinct}
+use Rattle.fore_base.specs.Lists.{IsIn, Every}
 use Rattle.fore_base.specs.Shapes.{targets_of}
 use Rattle.fore_base.specs.declared.shape.Shape.{Shape}
 use Rattle.fore_base.specs.declared.store.CellRec.{CellRec}
 use Rattle.fore_base.specs.declared.store.Value.{Value}
 use Rattle.fore_base.specs.declared.store.Value.TheVariants.{Null as NullValue, Uninit as UninitValue}
-use Rattle.fore_base.specs.declared.store.Value.TheVariants.{Dangling as DanglingValue, Cell}
-use Rattle.fore_base.proofs.ListLemmas.{every_append, every_weaker, every_map}
-use Rattle.fa_core.specs.declared.boxes.BoxDef.{BoxDef}
-use Rattle.fa_core.specs.declared.faces.BoxFace.{BoxFace}
-use Rattle.fa_core.specs.declared.faces.Face.{Face}
+use Rattle.fore_base.specs.declared.store.Value.TheVariants.{Dangling as DanglingValue, Cell as CellValue}
+use Rattle.fore_base.proofs.ListLemmas.{every_parts}
 use Rattle.fa_core.specs.declared.forest.Forest.{Forest}
 use Rattle.fa_core.specs.declared.forest.Target.{Target}
 use Rattle.fa_core.specs.declared.forest.Target.TheVariants.{Null, Uninit, Dangling, At}
-use Rattle.fa_core.specs.Boxless.{HasNoBoxes}
-use Rattle.fa_core.specs.Choices.{bares, count, all_numbers}
-use Rattle.fa_core.specs.Dressed.{Node, Parts, End, Nodes, node, no_parts, field, link, hook, under, leaf, no_nodes}
-use Rattle.fa_core.specs.Dressed.{more, Fact, Head, Points, Seen, SeenField, SeenLink, SeenHook, SeenCell, seen}
-use Rattle.fa_core.specs.Dressed.{tree_cells, below, end_cells, forest_cells, cells, roots_of, value_in}
-use Rattle.fa_core.specs.Filled.{numbered, fields_of, covers, least, IsRoot, TreesFilled, IsFilled}
-use Rattle.fa_core.specs.Member.{OfForest, points, cell_facts, store_facts, HasItsFields, StandsBy}
-use Rattle.fa_core.specs.Rearranged.{Rearranged, chain, insert, in_order, RisesFrom, IsRising}
-use Rattle.fa_core.proofs.Dressing.{choice_of, bares_length}
-use Rattle.fa_core.proofs.FilledCells.{cells_filled}
-use Rattle.fa_core.proofs.FilledKept.{apart_by, forest_numbers}
-use Rattle.fa_core.proofs.Given.{slot_gifts, cell_gifts, given_there, gives_to}
-use Rattle.fa_core.proofs.PlainNodes.{NoEdges, NoEdgesOf, NoEdgesAt, NoEdgesIn, trees_no_edges}
-use Rattle.fa_core.proofs.Rearranging.{equal, flat_map-append}
-use Rattle.fa_core.proofs.Regrouped.{own, own_slot, facts_same}
-use Rattle.fa_core.proofs.SeenCells.{HasStruct, PointsTo, SlotsFit, slots_seen, IsFilledCell, cell_number, node_structs}
-use Rattle.fa_core.proofs.SeenCells.{tops_structs, root_cell}
+use Rattle.fa_core.specs.Boxes.{Boxes, head_of, heads}
+use Rattle.fa_core.specs.Dressed.{Nodes, Fact, Head, Points, facts, roots_of, nth_value, value_in}
+use Rattle.fa_core.specs.Filled.{numbered, fields_of}
+use Rattle.fa_core.specs.Member.{OfForest, points, store_facts, HasItsFields, StandsBy}
+use Rattle.fa_core.specs.Rearranged.{Rearranged, empty, keep, swap, chain, insert, in_order, IsRising, RisesFrom}
+use Rattle.fa_core.proofs.Rearranging.{equal, back, flat_mapped}
 use Rattle.fa_core.proofs.Sorting.{order_same}
-use Rattle.fa_sample.specs.inner.Made.{seen_values, record_of, store_of}
+use Rattle.fa_facts.specs.Fields.{fields_at, fields_owed, IsNamed, FactNamed}
+use Rattle.fa_sample.specs.declared.drafts.Draft.{Draft}
+use Rattle.fa_sample.specs.declared.drafts.FieldValue.{FieldValue}
+use Rattle.fa_sample.specs.inner.Emitted.{forest_out}
+use Rattle.fa_sample.specs.inner.Sampled.{store_made}
+use Rattle.fa_sample.specs.inner.Written.{written, cells_done}
+use Rattle.fa_sample.proofs.Emitting.{facts_out}
+use Rattle.fa_sample.proofs.Numbering.{Counts}
+use Rattle.fa_sample.proofs.Writing.{field_fact, draft_facts, written_facts, keys, IsSorted, written_sorted}
 
--- Slots that are fields.
+-- Facts in another order give a cell the same fields.
 
-abbrev AreFields : List Seen → Type 0
-AreFields [] = Unit {0}
-AreFields (SeenField f v ∷ xs) = AreFields xs
-AreFields (SeenLink b i v ∷ xs) = ⊥
-AreFields (SeenHook b i ∷ xs) = ⊥
+module _ (hs : List Shape) (c : ℕ) where
+  abbrev field_part : Fact → List ℕ
+  field_part (Head m s ds) = []
+  field_part (Points m f v) = cond (nat_eq c m) (f ∷ []) []
 
-abbrev seen_fields : List Seen → List ℕ
-seen_fields [] = []
-seen_fields (SeenField f v ∷ xs) = f ∷ seen_fields xs
-seen_fields (SeenLink b i v ∷ xs) = seen_fields xs
-seen_fields (SeenHook b i ∷ xs) = seen_fields xs
+  abbrev owed_part : Fact → List ℕ
+  owed_part (Head m s ds) = cond (nat_eq c m) (fields_of hs s) []
+  owed_part (Points m f v) = []
 
-abbrev HasFields : SeenCell → Type 0
-HasFields x = AreFields x.slots
+  at_parts : (fs : List Fact) → fields_at c fs ≡ flat_map field_part fs
+  at_parts [] = refl
+  at_parts (Head m s ds ∷ fs) = at_parts fs
+  at_parts (Points m f v ∷ fs) = here (nat_eq c m) (at_parts fs)
+    where
+      here : (b : Bool) → fields_at c fs ≡ flat_map field_part fs
+          → cond b (f ∷ fields_at c fs) (fields_at c fs) ≡ cond b (f ∷ []) [] ++ flat_map field_part fs
+      here true e = ap (λ (z : List ℕ). f ∷ z) e
+      here false e = e
 
-module _ (vs : List Value) where
-  mutual
-    tree_fields : (n : Node) → NoEdges n → Every HasFields (tree_cells vs n)
-    tree_fields (node c s ds ps) b = (slots_fields ps b, below_fields ps b)
+  owed_parts : (fs : List Fact) → fields_owed hs c fs ≡ flat_map owed_part fs
+  owed_parts [] = refl
+  owed_parts (Points m f v ∷ fs) = owed_parts fs
+  owed_parts (Head m s ds ∷ fs) = here (nat_eq c m) (owed_parts fs)
+    where
+      here : (b : Bool) → fields_owed hs c fs ≡ flat_map owed_part fs
+          → cond b (fields_of hs s ++ fields_owed hs c fs) (fields_owed hs c fs)
+          ≡ cond b (fields_of hs s) [] ++ flat_map owed_part fs
+      here true e = ap (λ (z : List ℕ). fields_of hs s ++ z) e
+      here false e = e
 
-    slots_fields : (ps : Parts) → NoEdgesOf ps → AreFields (seen vs ps)
-    slots_fields no_parts b = tt
-    slots_fields (field f e ps) b = slots_fields ps b.1
-    slots_fields (link c i e ps) b = absurd b
-    slots_fields (hook c i ps) b = absurd b
+  -- both sides follow the facts
+  parts_moved : {fs gs : List Fact} → Rearranged fs gs → Rearranged (fields_owed hs c fs) (fields_at c fs)
+      → Rearranged (fields_owed hs c gs) (fields_at c gs)
+  parts_moved {fs} {gs} r h =
+      chain (equal (owed_parts gs))
+      (chain (back (flat_mapped owed_part r))
+      (chain (equal (sym (owed_parts fs)))
+      (chain h
+      (chain (equal (at_parts fs))
+      (chain (flat_mapped field_part r) (equal (sym (at_parts gs))))))))
 
-    below_fields : (ps : Parts) → NoEdgesOf ps → Every HasFields (below vs ps)
-    below_fields no_parts b = tt
-    below_fields (field f e ps) b =
-        every_append HasFields (end_cells vs e) (below vs ps) (end_fields e b.0) (below_fields ps b.1)
-    below_fields (link c i e ps) b = absurd b
-    below_fields (hook c i ps) b = absurd b
+  -- the cells that come later have other numbers
+  fields_over : (k : ℕ) (xs : List FieldValue) (fs : List Fact) → nat_eq c k ≡ false
+      → fields_at c (map (field_fact k) xs ++ fs) ≡ fields_at c fs
+  fields_over k [] fs e = refl
+  fields_over k (x ∷ xs) fs e = rw e (fields_over k xs fs e)
 
-    end_fields : (e : End) → NoEdgesAt e → Every HasFields (end_cells vs e)
-    end_fields (under n) b = tree_fields n b
-    end_fields (leaf t) b = tt
+  fields_here : (k : ℕ) (xs : List FieldValue) (fs : List Fact) → nat_eq c k ≡ true
+      → fields_at c (map (field_fact k) xs ++ fs) ≡ keys xs ++ fields_at c fs
+  fields_here k [] fs e = refl
+  fields_here k (x ∷ xs) fs e = rw e (ap (λ (z : List ℕ). x.field ∷ z) (fields_here k xs fs e))
 
-  forest_fields : (d : Nodes) → NoEdgesIn d → Every HasFields (forest_cells vs d)
-  forest_fields no_nodes b = tt
-  forest_fields (more n ns) b =
-      every_append HasFields (tree_cells vs n) (forest_cells vs ns) (tree_fields n b.0) (forest_fields ns b.1)
+  owed_over : (k : ℕ) (xs : List FieldValue) (fs : List Fact)
+      → fields_owed hs c (map (field_fact k) xs ++ fs) ≡ fields_owed hs c fs
+  owed_over k [] fs = refl
+  owed_over k (x ∷ xs) fs = owed_over k xs fs
+
+  other : (k : ℕ) → c < k → nat_eq c k ≡ false
+  other k l = here (nat_eq c k) refl
+    where
+      here : (b : Bool) → nat_eq c k ≡ b → b ≡ false
+      here true e = let z = eqb-true c k e in absurd (omega (arith, z, l))
+      here false e = refl
+
+  later_fields : (k : ℕ) (cs : List Draft) → c < k → fields_at c (draft_facts k cs) ≡ []
+  later_fields k [] l = refl
+  later_fields k (d ∷ cs) l = fields_over k d.fields (draft_facts (suc k) cs) (other k l)
+      ∙ later_fields (suc k) cs (omega (arith, l))
+
+  later_owed : (k : ℕ) (cs : List Draft) → c < k → fields_owed hs c (draft_facts k cs) ≡ []
+  later_owed k [] l = refl
+  later_owed k (d ∷ cs) l = let e = other k l in
+      rw e (owed_over k d.fields (draft_facts (suc k) cs) ∙ later_owed (suc k) cs (omega (arith, l)))
 
 -- Fields in rising order that are those of the struct are 0, 1, ..
 
@@ -103,198 +130,206 @@ numbered_rising : (k : ℕ) (xs : List ℕ) → IsRising (numbered k xs)
 numbered_rising k [] = tt
 numbered_rising k (x ∷ xs) = numbered_rises k (suc k) xs (omega arith)
 
--- two rising lists of the same numbers are one
-same_rising : (xs ys : List ℕ) → Rearranged xs ys → IsRising xs → IsRising ys → xs ≡ ys
-same_rising xs ys r a b = sym (rising_in_order xs a) ∙ order_same r ∙ rising_in_order ys b
+module _ (hs : List Shape) where
+  -- the fields of the cell are those of its struct, in order
+  abbrev IsFull : Draft → Type 0
+  IsFull c = keys c.fields ≡ fields_of hs c.shape
 
-nothing : (b : Bool) → (let none : List ℕ = [] in cond b none none) ≡ []
-nothing true = refl
-nothing false = refl
+  own_fields : (k : ℕ) (c : Draft) (cs : List Draft) → IsSorted c
+      → Rearranged (fields_owed hs k (draft_facts k (c ∷ cs))) (fields_at k (draft_facts k (c ∷ cs))) → IsFull c
+  own_fields k c cs s h =
+      let e : nat_eq k k ≡ true = eq-eqb k k refl in
+      let a : fields_owed hs k (draft_facts k (c ∷ cs)) ≡ fields_of hs c.shape =
+      (rw e (ap (λ (z : List ℕ). fields_of hs c.shape ++ z)
+      (owed_over hs k k c.fields (draft_facts (suc k) cs) ∙ later_owed hs k (suc k) cs (omega arith))
+      ∙ append-nil (fields_of hs c.shape))) in
+      let b : fields_at k (draft_facts k (c ∷ cs)) ≡ keys c.fields =
+      fields_here hs k k c.fields (draft_facts (suc k) cs) e
+      ∙ ap (λ (z : List ℕ). keys c.fields ++ z) (later_fields hs k (suc k) cs (omega arith))
+      ∙ append-nil (keys c.fields) in
+      let r : Rearranged (fields_of hs c.shape) (keys c.fields) = chain (equal (sym a)) (chain h (equal b)) in
+      sym s ∙ sym (order_same r) ∙ rising_in_order (fields_of hs c.shape) (numbered_rising 0 (targets_of hs c.shape))
 
-module _ (bs : List BoxFace) where
-  fields_covered : (xs : List Seen) → AreFields xs → flat_map (covers bs) (slots_seen xs) ≡ seen_fields xs
-  fields_covered [] h = refl
-  fields_covered (SeenField f v ∷ xs) h = ap (λ (z : List ℕ). f ∷ z) (fields_covered xs h)
-  fields_covered (SeenLink b i v ∷ xs) h = absurd h
-  fields_covered (SeenHook b i ∷ xs) h = absurd h
+  others_fields : (n k : ℕ) (c : Draft) (cs : List Draft)
+      → Rearranged (fields_owed hs n (draft_facts k (c ∷ cs))) (fields_at n (draft_facts k (c ∷ cs)))
+      → Rearranged (fields_owed hs n (draft_facts (suc k) cs)) (fields_at n (draft_facts (suc k) cs))
+  others_fields n k c cs h = here (nat_eq n k) refl
+    where
+      here : (b : Bool) → nat_eq n k ≡ b
+          → Rearranged (fields_owed hs n (draft_facts (suc k) cs)) (fields_at n (draft_facts (suc k) cs))
+      here true e =
+          let z = eqb-true n k e in
+          let l : n < suc k = omega (arith, z) in
+          chain (equal (later_owed hs n (suc k) cs l)) (equal (sym (later_fields hs n (suc k) cs l)))
+      here false e =
+          let a : fields_owed hs n (draft_facts k (c ∷ cs)) ≡ fields_owed hs n (draft_facts (suc k) cs) =
+          rw e (owed_over hs n k c.fields (draft_facts (suc k) cs)) in
+          let b : fields_at n (draft_facts k (c ∷ cs)) ≡ fields_at n (draft_facts (suc k) cs) =
+          fields_over hs n k c.fields (draft_facts (suc k) cs) e in
+          chain (equal (sym a)) (chain h (equal b))
 
-  fields_least : (xs : List Seen) → AreFields xs → map (λ s. least (covers bs s)) (slots_seen xs) ≡ seen_fields xs
-  fields_least [] h = refl
-  fields_least (SeenField f v ∷ xs) h = ap (λ (z : List ℕ). f ∷ z) (fields_least xs h)
-  fields_least (SeenLink b i v ∷ xs) h = absurd h
-  fields_least (SeenHook b i ∷ xs) h = absurd h
+  all_full : (k : ℕ) (cs : List Draft) → Every IsSorted cs
+      → ((n : ℕ) → Rearranged (fields_owed hs n (draft_facts k cs)) (fields_at n (draft_facts k cs))) → Every IsFull cs
+  all_full k [] s h = tt
+  all_full k (c ∷ cs) s h =
+      (own_fields k c cs s.0 (h k), all_full (suc k) cs s.1 (λ n. others_fields n k c cs (h n)))
 
-  -- a field gives nothing to the cell at its end
-  nothing_there : (c : ℕ) (v : Value) → given_there c (v, []) ≡ []
-  nothing_there c NullValue = refl
-  nothing_there c UninitValue = refl
-  nothing_there c DanglingValue = refl
-  nothing_there c (Cell k) = nothing (nat_eq c k)
+  -- The facts of the store.
 
-  slots_give_nothing : (c : ℕ) (xs : List Seen) → AreFields xs → flat_map (given_there c) (slot_gifts bs xs) ≡ []
-  slots_give_nothing c [] h = refl
-  slots_give_nothing c (SeenField f v ∷ xs) h =
-      ap₂ (λ (a b : List ℕ). a ++ b) (nothing_there c v) (slots_give_nothing c xs h)
-  slots_give_nothing c (SeenLink b i v ∷ xs) h = absurd h
-  slots_give_nothing c (SeenHook b i ∷ xs) h = absurd h
+  field_points : (n j : ℕ) (xs : List FieldValue) (us : List ℕ) → keys xs ≡ numbered j us
+      → points n j (map (λ x. x.value) xs) ≡ map (field_fact n) xs
+  field_points n j [] us e = refl
+  field_points n j (x ∷ xs) [] e =
+      let z : suc (length (keys xs)) ≡ 0 = ap length e in absurd (omega (arith, z))
+  field_points n j (x ∷ xs) (u ∷ us) e =
+      let i : j ≡ x.field = sym (ap (first_or 0) e) in
+      ap₂ (λ (m : ℕ) (z : List Fact). Points n m x.value ∷ z) i (field_points n (suc j) xs us (ap others e))
+    where
+      first_or : ℕ → List ℕ → ℕ
+      first_or d [] = d
+      first_or d (x ∷ xs) = x
 
-  cells_give_nothing : (c : ℕ) (xs : List SeenCell) → Every HasFields xs → gives_to bs c xs ≡ []
-  cells_give_nothing c [] h = refl
-  cells_give_nothing c (x ∷ xs) h = flat_map-append (given_there c) (slot_gifts bs x.slots) (cell_gifts bs xs)
-      ∙ ap₂ (λ (a b : List ℕ). a ++ b) (slots_give_nothing c x.slots h.0) (cells_give_nothing c xs h.1)
+      others : List ℕ → List ℕ
+      others [] = []
+      others (x ∷ xs) = xs
 
-module _ (face : Face) (all : List SeenCell) (plain : Every HasFields all) where
-  -- the fields of a filled cell are those of its struct, in order
-  fields_are : (x : SeenCell) → HasFields x → IsFilledCell face all x → seen_fields x.slots
-      ≡ fields_of face.shapes.structs x.shape
-  fields_are x b h =
-      let a = fields_covered face.boxes x.slots b in
-      let g = cells_give_nothing face.boxes x.cell all plain in
-      let l = fields_least face.boxes x.slots b in
-      let o : Rearranged (fields_of face.shapes.structs x.shape) (seen_fields x.slots ++ []) =
-      (let z = h.once in rw (a, g) at z) in
-      let r : IsRising (seen_fields x.slots) = (let z = h.order.1 in rw l at z) in
-      sym
-      (same_rising (fields_of face.shapes.structs x.shape) (seen_fields x.slots)
-      (chain o (equal (append-nil (seen_fields x.slots))))
-      (numbered_rising 0 (targets_of face.shapes.structs x.shape)) r)
+  done_facts : (k : ℕ) (cs : List Draft) → Every IsFull cs → store_facts (cells_done k cs) ≡ draft_facts k cs
+  done_facts k [] h = refl
+  done_facts k (c ∷ cs) h =
+      ap₂ (λ (x y : List Fact). Head k c.shape c.datums ∷ (x ++ y))
+      (field_points k 0 c.fields (targets_of hs c.shape) h.0) (done_facts (suc k) cs h.1)
 
--- Facts.
+  values_long : (xs : List FieldValue) → length (map (λ (x : FieldValue). x.value) xs) ≡ length (keys xs)
+  values_long [] = refl
+  values_long (x ∷ xs) = ap suc (values_long xs)
 
-abbrev second_item : ℕ → List ℕ → ℕ
-second_item d [] = d
-second_item d (x ∷ xs) = x
+  numbered_long : (k : ℕ) (xs : List ℕ) → length (numbered k xs) ≡ length xs
+  numbered_long k [] = refl
+  numbered_long k (x ∷ xs) = ap suc (numbered_long (suc k) xs)
 
-abbrev others : List ℕ → List ℕ
-others [] = []
-others (x ∷ xs) = xs
-
--- the pointers of a cell whose fields are numbered from k on
-slot_points : (c k : ℕ) (xs : List Seen) (us : List ℕ) → AreFields xs → seen_fields xs ≡ numbered k us
-    → flat_map (own_slot c) xs ≡ points c k (seen_values xs)
-slot_points c k [] us h e = refl
-slot_points c k (SeenField f v ∷ xs) [] h e =
-    let z : suc (length (seen_fields xs)) ≡ 0 = ap (λ (l : List ℕ). length l) e in absurd (omega (arith, z))
-slot_points c k (SeenField f v ∷ xs) (u ∷ us) h e =
-    let i : f ≡ k = ap (second_item 0) e in
-    ap₂ (λ (n : ℕ) (z : List Fact). Points c n v ∷ z) i (slot_points c (suc k) xs us h (ap others e))
-slot_points c k (SeenLink b i v ∷ xs) us h e = absurd h
-slot_points c k (SeenHook b i ∷ xs) us h e = absurd h
-
-own_facts : (hs : List Shape) (x : SeenCell) → HasFields x → seen_fields x.slots ≡ fields_of hs x.shape
-    → own x ≡ cell_facts (record_of x)
-own_facts hs x b e = ap (λ (z : List Fact). Head x.cell x.shape x.datums ∷ z)
-    (slot_points x.cell 0 x.slots (targets_of hs x.shape) b e)
-
-abbrev FieldsAre : List Shape → SeenCell → Type 0
-FieldsAre hs x = HasFields x × (seen_fields x.slots ≡ fields_of hs x.shape)
-
-cells_facts : (hs : List Shape) (xs : List SeenCell) → Every (FieldsAre hs) xs → flat_map own xs
-    ≡ store_facts (map record_of xs)
-cells_facts hs [] h = refl
-cells_facts hs (x ∷ xs) h = ap₂ (λ (a b : List Fact). a ++ b) (own_facts hs x h.0.0 h.0.1) (cells_facts hs xs h.1)
-
-values_long : (xs : List Seen) → AreFields xs → length (seen_values xs) ≡ length (seen_fields xs)
-values_long [] h = refl
-values_long (SeenField f v ∷ xs) h = ap (λ n. suc n) (values_long xs h)
-values_long (SeenLink b i v ∷ xs) h = absurd h
-values_long (SeenHook b i ∷ xs) h = absurd h
-
-numbered_long : (k : ℕ) (xs : List ℕ) → length (numbered k xs) ≡ length xs
-numbered_long k [] = refl
-numbered_long k (x ∷ xs) = ap (λ n. suc n) (numbered_long (suc k) xs)
-
-has_its_fields : (hs : List Shape) (x : SeenCell) → FieldsAre hs x → HasItsFields hs (record_of x)
-has_its_fields hs x h = values_long x.slots h.0 ∙ ap (λ (l : List ℕ). length l) h.1
-    ∙ numbered_long 0 (targets_of hs x.shape)
+  done_fields : (k : ℕ) (cs : List Draft) → Every IsFull cs → Every (HasItsFields hs) (cells_done k cs)
+  done_fields k [] h = tt
+  done_fields k (c ∷ cs) h = (
+    values_long c.fields ∙ ap length h.0 ∙ numbered_long 0 (targets_of hs c.shape),
+    done_fields (suc k) cs h.1,
+  )
 
 -- Proper stores.
 
-struct_cell : (xs : List SeenCell) (n t : ℕ) → HasStruct xs n t → HasCell (map record_of xs) n
-struct_cell [] n t h = h
-struct_cell (x ∷ xs) n t (inl e) = inl e.0
-struct_cell (x ∷ xs) n t (inr h) = inr (struct_cell xs n t h)
+not_before : (k n : ℕ) (cs : List Draft) → n < k → HasCell (cells_done k cs) n → ⊥
+not_before k n [] l h = h
+not_before k n (c ∷ cs) l (inl e) = omega (arith, e, l)
+not_before k n (c ∷ cs) l (inr h) = not_before (suc k) n cs (omega (arith, l)) h
 
-cell_in : (xs : List SeenCell) (n : ℕ) → HasCell (map record_of xs) n → IsIn n (map cell_number xs)
-cell_in [] n h = h
-cell_in (x ∷ xs) n (inl e) = inl (sym e)
-cell_in (x ∷ xs) n (inr h) = inr (cell_in xs n h)
+done_differ : (k : ℕ) (cs : List Draft) → AllDiffer (cells_done k cs)
+done_differ k [] = tt
+done_differ k (c ∷ cs) = (not_before (suc k) k cs (omega arith), done_differ (suc k) cs)
 
-cells_differ : (xs : List SeenCell) → IsDistinct (map cell_number xs) → AllDiffer (map record_of xs)
-cells_differ [] h = tt
-cells_differ (x ∷ xs) h = ((λ i. h.0 (cell_in xs x.cell i)), cells_differ xs h.1)
+done_below : (next k : ℕ) (cs : List Draft) → k + length cs ≤ next
+    → Every (λ (c : CellRec). c.number < next) (cells_done k cs)
+done_below next k [] l = tt
+done_below next k (c ∷ cs) l =
+    let z : k + suc (length cs) ≤ next = l in (omega (arith, z), done_below next (suc k) cs (omega (arith, z)))
 
-cells_below : (next : ℕ) (xs : List SeenCell) → Every (λ n. n < next) (map cell_number xs)
-    → Every (λ (c : CellRec). c.number < next) (map record_of xs)
-cells_below next [] h = tt
-cells_below next (x ∷ xs) h = (h.0, cells_below next xs h.1)
+heads_over : (k : ℕ) (xs : List FieldValue) (fs : List Fact) → heads (map (field_fact k) xs ++ fs) ≡ heads fs
+heads_over k [] fs = refl
+heads_over k (x ∷ xs) fs = heads_over k xs fs
 
-points_names : (all : List SeenCell) (t : ℕ) (v : Value) → PointsTo all t v → NamesCell (map record_of all) v
-points_names all t NullValue h = tt
-points_names all t UninitValue h = tt
-points_names all t DanglingValue h = tt
-points_names all t (Cell n) h = struct_cell all n t h
+head_done : (k n : ℕ) (cs : List Draft) → IsIn n (heads (draft_facts k cs)) → HasCell (cells_done k cs) n
+head_done k n [] h = h
+head_done k n (c ∷ cs) (inl e) = inl (sym e)
+head_done k n (c ∷ cs) (inr h) = inr
+    (head_done (suc k) n cs
+    (subst (λ (z : List ℕ). IsIn n z) (heads_over k c.fields (draft_facts (suc k) cs)) h))
 
-values_name : (face : Face) (all : List SeenCell) (s : ℕ) (xs : List Seen) → AreFields xs → SlotsFit face all s xs
-    → Every (NamesCell (map record_of all)) (seen_values xs)
-values_name face all s [] b h = tt
-values_name face all s (SeenField f v ∷ xs) b h = (points_names all h.0.0 v h.0.2, values_name face all s xs b h.1)
-values_name face all s (SeenLink c i v ∷ xs) b h = absurd b
-values_name face all s (SeenHook c i ∷ xs) b h = absurd b
+every_moved : {X : Type 0} (P : X → Type 0) {xs ys : List X} → Rearranged xs ys → Every P xs → Every P ys
+every_moved P empty h = tt
+every_moved P (keep x r) h = (h.0, every_moved P r h.1)
+every_moved P (swap x y xs) h = (h.1.0, (h.0, h.1.1))
+every_moved P (chain a b) h = every_moved P b (every_moved P a h)
 
-target_names : (d : Nodes) (t : Target) → IsRoot (count d) t
-    → NamesCell (map record_of (cells d)) (value_in (roots_of d) t)
-target_names d Null h = tt
-target_names d Uninit h = tt
-target_names d Dangling h = tt
-target_names d (At r) h =
-    let k = root_cell (roots_of d) d r (h r refl) in
-    let v = k.value in
-    rw v (struct_cell (cells d) k.cell k.struct k.has)
+in_moved : {X : Type 0} (z : X) {xs ys : List X} → Rearranged xs ys → IsIn z xs → IsIn z ys
+in_moved z empty h = h
+in_moved z (keep x r) (inl e) = inl e
+in_moved z (keep x r) (inr h) = inr (in_moved z r h)
+in_moved z (swap x y xs) (inl e) = inr (inl e)
+in_moved z (swap x y xs) (inr (inl e)) = inl e
+in_moved z (swap x y xs) (inr (inr h)) = inr (inr h)
+in_moved z (chain a b) h = in_moved z b (in_moved z a h)
 
--- The law.
+module _ (ns : List ℕ) (all : List CellRec) (there : (n : ℕ) → IsIn n ns → HasCell all n) where
+  value_there : (v : Value) → IsNamed ns v → NamesCell all v
+  value_there NullValue h = tt
+  value_there UninitValue h = tt
+  value_there DanglingValue h = tt
+  value_there (CellValue n) h = there n h
 
-abbrev IsGood : Face → List SeenCell → SeenCell → Type 0
-IsGood face all x = HasFields x × IsFilledCell face all x
+  values_there : (k : ℕ) (xs : List FieldValue) → Every (FactNamed ns) (map (field_fact k) xs)
+      → Every (NamesCell all) (map (λ (x : FieldValue). x.value) xs)
+  values_there k [] h = tt
+  values_there k (x ∷ xs) h = (value_there x.value h.0, values_there k xs h.1)
 
-both_every : {X : Type 0} (P Q : X → Type 0) (xs : List X) → Every P xs → Every Q xs → Every (λ x. P x × Q x) xs
-both_every P Q [] h k = tt
-both_every P Q (x ∷ xs) h k = ((h.0, k.0), both_every P Q xs h.1 k.1)
+  done_there : (k : ℕ) (cs : List Draft) → Every (FactNamed ns) (draft_facts k cs)
+      → Every (λ (c : CellRec). Every (NamesCell all) c.fields) (cells_done k cs)
+  done_there k [] h = tt
+  done_there k (c ∷ cs) h =
+      let p = every_parts (FactNamed ns) (map (field_fact k) c.fields) (draft_facts (suc k) cs) h.1 in
+      (values_there k c.fields p.0, done_there (suc k) cs p.1)
 
--- a dressed forest stands for its store
-pub stands : (face : Face) (T : List BoxDef) (F : Forest) (d : Nodes) (next : ℕ) → IsFilled face F
-    → Every HasNoBoxes F.autos → OfForest T F d → IsDistinct (all_numbers d) → Every (λ n. n < next) (all_numbers d)
-    → StandsBy face.shapes.structs T F d (store_of F next d)
-stands face T F d next filled boxless of differ low =
-    let b : Every HasFields (cells d) = forest_fields (roots_of d) d (trees_no_edges T F.autos d boxless of) in
-    let f = filled.trees (bares d) (choice_of T F.autos d of) in
-    let x : TreesFilled face (bares d) (node_structs d) 0 (bares d) =
-    subst (λ (z : List ℕ). TreesFilled face (bares d) z 0 (bares d)) (tops_structs d f.tops f.are) f.cells in
-    let y : Every (IsFilledCell face (cells d)) (cells d) = cells_filled face d (apart_by face.boxes d differ) x in
-    let good : Every (IsGood face (cells d)) (cells d) =
-    both_every HasFields (IsFilledCell face (cells d)) (cells d) b y in
-    let are : Every (FieldsAre face.shapes.structs) (cells d) =
-    every_weaker (IsGood face (cells d)) (FieldsAre face.shapes.structs) (cells d)
-    (λ z h. (h.0, fields_are face (cells d) b z h.0 h.1)) good in
-    let e : all_numbers d ≡ map cell_number (cells d) = sym (forest_numbers (roots_of d) d) in
-    let vars : Every (IsRoot (count d)) F.vars = (let z = f.vars in rw (bares_length d) at z) in
-    record {
-      proper = record {
-        differ = cells_differ (cells d) (subst (λ (z : List ℕ). IsDistinct z) e differ);
-        below = cells_below next (cells d) (subst (λ (z : List ℕ). Every (λ n. n < next) z) e low);
-        vars = every_map (value_in (roots_of d)) (NamesCell (map record_of (cells d))) F.vars
-            (every_weaker (IsRoot (count d)) (λ t. NamesCell (map record_of (cells d)) (value_in (roots_of d) t)) F.vars
-            (target_names d) vars);
-        fields = every_map record_of (λ (c : CellRec). Every (NamesCell (map record_of (cells d))) c.fields) (cells d)
-            (every_weaker (IsGood face (cells d))
-            (λ z. Every (NamesCell (map record_of (cells d))) (seen_values z.slots)) (cells d)
-            (λ z h. values_name face (cells d) z.shape z.slots h.0 h.1.slots) good);
-      };
-      fields = every_map record_of (HasItsFields face.shapes.structs) (cells d)
-          (every_weaker (FieldsAre face.shapes.structs) (λ z. HasItsFields face.shapes.structs (record_of z)) (cells d)
-          (has_its_fields face.shapes.structs) are);
-      of = of;
-      same_facts = chain (facts_same d) (equal (cells_facts face.shapes.structs (cells d) are));
-      vars = refl;
-      data_vars = refl;
-    }
+  nth_there : (vs : List Value) → Every (IsNamed ns) vs → (r : ℕ) → NamesCell all (nth_value vs r)
+  nth_there [] h r = tt
+  nth_there (v ∷ vs) h zero = value_there v h.0
+  nth_there (v ∷ vs) h (suc r) = nth_there vs h.1 r
+
+  target_there : (vs : List Value) → Every (IsNamed ns) vs → (t : Target) → NamesCell all (value_in vs t)
+  target_there vs h Null = tt
+  target_there vs h Uninit = tt
+  target_there vs h Dangling = tt
+  target_there vs h (At r) = nth_there vs h r
+
+  targets_there : (vs : List Value) → Every (IsNamed ns) vs → (ts : List Target)
+      → Every (NamesCell all) (map (value_in vs) ts)
+  targets_there vs h [] = tt
+  targets_there vs h (t ∷ ts) = (target_there vs h t, targets_there vs h ts)
+
+-- The store.
+
+module _ (t : Boxes) (F : Forest) (d : Nodes) (of : OfForest t.defs F d)
+    (full : (c : ℕ) → Rearranged (fields_owed t.face.shapes.structs c (facts d)) (fields_at c (facts d)))
+    (named : Every (FactNamed (heads (facts d))) (facts d)) (roots : Every (IsNamed (heads (facts d))) (roots_of d))
+    (n : ℕ) (counts : Counts 1 (forest_out [] d) n) where
+  abbrev drafts : List Draft
+  drafts = written (forest_out [] d) []
+
+  abbrev hs : List Shape
+  hs = t.face.shapes.structs
+
+  moved : Rearranged (facts d) (draft_facts 1 (written (forest_out [] d) []))
+  moved = chain (facts_out d)
+      (chain (equal (sym (append-nil (forest_out [] d)))) (back (written_facts (forest_out [] d) [] n counts)))
+
+  full_drafts : Every (IsFull t.face.shapes.structs) (written (forest_out [] d) [])
+  full_drafts = all_full t.face.shapes.structs 1 (written (forest_out [] d) [])
+      (written_sorted (forest_out [] d) [] tt) (λ c. parts_moved t.face.shapes.structs c moved (full c))
+
+  there : (m : ℕ) → IsIn m (heads (facts d)) → HasCell (cells_done 1 (written (forest_out [] d) [])) m
+  there m i = head_done 1 m (written (forest_out [] d) []) (in_moved m (flat_mapped head_of moved) i)
+
+  -- the forest stands for the store by the dressed forest
+  pub stands : StandsBy t.face.shapes.structs t.defs F d (store_made F (roots_of d) (written (forest_out [] d) []))
+  stands = record {
+    proper = record {
+      differ = done_differ 1 (written (forest_out [] d) []);
+      below = done_below (suc (length (written (forest_out [] d) []))) 1 (written (forest_out [] d) []) (omega arith);
+      vars = targets_there (heads (facts d)) (cells_done 1 (written (forest_out [] d) [])) there
+          (roots_of d) roots F.vars;
+      fields = done_there (heads (facts d)) (cells_done 1 (written (forest_out [] d) [])) there 1
+          (written (forest_out [] d) []) (every_moved (FactNamed (heads (facts d))) moved named);
+    };
+    fields = done_fields t.face.shapes.structs 1 (written (forest_out [] d) []) full_drafts;
+    of = of;
+    same_facts = chain moved
+        (equal (sym (done_facts t.face.shapes.structs 1 (written (forest_out [] d) []) full_drafts)));
+    vars = refl;
+    data_vars = refl;
+  }

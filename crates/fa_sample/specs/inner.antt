@@ -1,2 +1,6 @@
-pub mod Made
-pub mod Walking
+pub mod Dressing
+pub mod Emitted
+pub mod Picked
+pub mod Sampled
+pub mod Walk
+pub mod Written

@@ -1,12 +1,10 @@
-//! Samples of sound forests: a store for which a forest stands. From each component a smallest tree is taken; its cells
-//! are numbered in the order of a walk through the trees. So every sound forest has a member.
+//! A store for which a sound forest stands, through boxes of any level.
 #![tactic(auto)]
 
+mod drafts;
 pub mod laws;
 mod picking;
-pub mod sampling;
-#[cfg(test)]
-mod tests;
+mod sampling;
 mod walking;
 
 pub use sampling::sample;

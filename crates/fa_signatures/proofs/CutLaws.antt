@@ -26,7 +26,8 @@ use Rattle.fa_core.specs.Member.{TreesOf, Regroups, RegroupsInto}
 use Rattle.fa_core.proofs.Rearranging.{same}
 use Rattle.fa_core.proofs.Regrouped.{members_regrouped, members_split}
 use Rattle.fa_sound.specs.Soundness.{SoundForest}
-use Rattle.fa_signatures.specs.CutForests.{IsCutForest, ShareSignatures, AreCutForests, forests, IsUnionOf}
+use Rattle.fa_sound.specs.Unions.{forests, IsUnionOf}
+use Rattle.fa_signatures.specs.CutForests.{IsCutForest, ShareSignatures, AreCutForests}
 use Rattle.fa_signatures.specs.CutPieces.{IsPiece, ShareSignature, AreApart, AreCut}
 use Rattle.fa_signatures.specs.inner.CutProducts.{product, with_autos}
 use Rattle.fa_signatures.proofs.PieceLists.{piece_plain}

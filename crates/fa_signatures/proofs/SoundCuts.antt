@@ -13,7 +13,8 @@ use Rattle.fa_core.specs.Filled.{HasSignatures, HasSome}
 use Rattle.fa_core.specs.Ways.{signature}
 use Rattle.fa_sound.specs.Signatures.{AreSignatures}
 use Rattle.fa_sound.specs.Soundness.{SoundForest, IsSigned}
-use Rattle.fa_signatures.specs.CutForests.{AreCutForests, forests}
+use Rattle.fa_sound.specs.Unions.{forests}
+use Rattle.fa_signatures.specs.CutForests.{AreCutForests}
 use Rattle.fa_signatures.specs.CutPieces.{CutsStates, IsPiece}
 
 -- an automaton with uniform signatures and a tree is a piece of itself

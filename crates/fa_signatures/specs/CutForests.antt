@@ -1,15 +1,10 @@
 -- A forest cut by the signatures of its components.
-use Rattle.std.specs.Prelude.{◌≡◌, ◌↔◌, List, map}
+use Rattle.std.specs.Prelude.{◌≡◌, List}
 use Rattle.fore_base.specs.Lists.{IsIn, Every, Paired}
-use Rattle.fore_base.specs.declared.shape.Shape.{Shape}
-use Rattle.fore_base.specs.declared.store.Store.{Store}
 use Rattle.ta_core.specs.declared.tree.Tree.{Tree}
 use Rattle.fa_core.specs.declared.faces.BoxFace.{BoxFace}
 use Rattle.fa_core.specs.declared.forest.Forest.{Forest}
-use Rattle.fa_core.specs.declared.boxes.BoxDef.{BoxDef}
 use Rattle.fa_core.specs.Filled.{Choice}
-use Rattle.fa_core.specs.Member.{Stands}
-use Rattle.fa_sound.specs.Soundness.{SoundForest}
 use Rattle.fa_signatures.specs.CutPieces.{IsPiece, ShareSignature, AreApart}
 
 -- each component of G has the trees of one signature of F's in its place; targets and data are those of F
@@ -28,12 +23,3 @@ pub record AreCutForests (bs : List BoxFace) (F : Forest) (Gs : List Forest) : T
   pub each : Every (IsCutForest bs F) Gs
   pub whole : (ts : List Tree) → Choice F.autos ts → (G : Forest) × IsIn G Gs × Choice G.autos ts
   pub apart : AreApart (ShareSignatures bs) Gs
-
--- the forests, without their faces and signatures
-abbrev pub forests : List SoundForest → List Forest
-forests list = map (λ s. s.forest) list
-
--- F and the forests of the list together have the same members, whatever the structs and the box table are
-abbrev pub IsUnionOf : Forest → List Forest → Type 0
-IsUnionOf F Gs = (hs : List Shape) (T : List BoxDef) (s : Store) → Stands hs T F s
-    ↔ ((G : Forest) × IsIn G Gs × Stands hs T G s)

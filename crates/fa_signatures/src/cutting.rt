@@ -8,10 +8,11 @@ ghost use Rattle.fa_signatures.specs.CutPieces.{AreCut};
 ghost use Rattle.fa_signatures.specs.inner.CutPairs.{IsRootPair, AreRootMarks, AreCutBy, AreInRange, IsOver, IsPieceIn};
 ghost use Rattle.fa_signatures.specs.inner.CutPairs.{WhereFound};
 
-use crate::pairing::{Found, Pair, are_same, number_of, pair_up};
+use crate::pairing::{Found, Pair, number_of, pair_up};
 use fa_core::cells::has;
 use fa_core::faces::BoxFace;
 use fa_core::signature::RefMark;
+use fa_sound::are_same;
 use fore_base::list::{Copies, List};
 use fore_base::memory::Mem;
 use std::alloc::Global;

@@ -9,7 +9,8 @@ ghost use Rattle.fa_core.specs.declared.boxes.BoxDef.{BoxDef};
 ghost use Rattle.fa_core.specs.declared.faces.BoxFace.{BoxFace};
 ghost use Rattle.fa_core.specs.declared.faces.Face.{Face};
 ghost use Rattle.fa_core.specs.declared.forest.Forest.{Forest};
-ghost use Rattle.fa_signatures.specs.CutForests.{IsCutForest, AreCutForests, IsUnionOf};
+ghost use Rattle.fa_sound.specs.Unions.{IsUnionOf};
+ghost use Rattle.fa_signatures.specs.CutForests.{IsCutForest, AreCutForests};
 
 /// A forest regroups each of its parts, none of its dressed forests is lost in them, and together they have its
 /// members.

@@ -7,13 +7,13 @@
 #![tactic(auto)]
 
 pub mod cutting;
+pub mod filling;
 pub mod laws;
 mod pairing;
 mod parts;
 mod products;
 pub mod signatures;
-#[cfg(test)]
-mod tests;
 
 pub use cutting::cut_auto;
+pub use filling::is_filled;
 pub use signatures::split_signatures;

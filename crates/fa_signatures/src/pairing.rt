@@ -10,6 +10,7 @@ use crate::products::product;
 use fa_core::cells::marks_by;
 use fa_core::faces::BoxFace;
 use fa_core::signature::{Below, RefMark};
+use fa_sound::are_same;
 use fore_base::list::{Copies, List};
 use fore_base::memory::Mem;
 use std::alloc::{AllocError, Global};
@@ -159,21 +160,6 @@ fn place_of(pairs: &[Pair], state: u32, marks: &[RefMark]) -> Option<usize>
         }
     }
     None
-}
-
-/// Whether both are one signature.
-pub fn are_same(left: &[RefMark], right: &[RefMark]) -> bool
-    ensures { IsTrue result ↔ (left.now ≡ right.now) }
-{
-    if left.len() != right.len() {
-        return false;
-    }
-    for (place, mark) in left.iter().enumerate() {
-        if !mark.is_same(&right[place]) {
-            return false;
-        }
-    }
-    true
 }
 
 /// For each of the states the places of its pairs.

@@ -5,7 +5,8 @@ ghost use Rattle.fore_base.specs.Lists.{Every, Paired};
 ghost use Rattle.fa_core.specs.Boxless.{HasNoBoxes};
 ghost use Rattle.fa_core.specs.Filled.{IsFilled};
 ghost use Rattle.fa_signatures.specs.CutPieces.{AreCut, IsPiece};
-ghost use Rattle.fa_signatures.specs.CutForests.{AreCutForests, forests};
+ghost use Rattle.fa_sound.specs.Unions.{forests};
+ghost use Rattle.fa_signatures.specs.CutForests.{AreCutForests};
 ghost use Rattle.fa_signatures.specs.inner.CutProducts.{with_autos};
 
 use crate::cutting::cut_auto;
@@ -68,10 +69,7 @@ fn sound_with(alloc: Global, forest: &Forest, face: &Face, autos: &List<Auto>) -
     ensures forest { IfOk result (λ s. s.forest ≡ with_autos forest.now autos.now) }
 {
     let made = forest_with(alloc, forest, autos)?;
-    match Sound::make(alloc, &made, face)? {
-        Some(sound) => Ok(sound),
-        None => unreachable!(),
-    }
+    Sound::of(alloc, made, face)
 }
 
 /// The forest with these components.

@@ -9,7 +9,8 @@ ghost use Rattle.fa_core.specs.Filled.{IsFilled};
 ghost use Rattle.fa_core.specs.Member.{Regroups, RegroupsInto};
 ghost use Rattle.fa_core.specs.declared.boxes.BoxDef.{BoxDef};
 ghost use Rattle.fa_sound.specs.Soundness.{IsSigned};
-ghost use Rattle.fa_signatures.specs.CutForests.{AreCutForests, IsUnionOf, forests};
+ghost use Rattle.fa_sound.specs.Unions.{IsUnionOf, forests};
+ghost use Rattle.fa_signatures.specs.CutForests.{AreCutForests};
 
 use crate::parts::product_forests;
 use fa_core::faces::Face;

@@ -1,3 +1,3 @@
+pub mod Doubled
 pub mod Learnt
-pub mod Parted
-pub mod Ruled
+pub mod Owned

@@ -1,13 +1,13 @@
 // Whether all trees of each state, and all trees of an automaton, have one signature.
 
-ghost use Rattle.std.specs.Prelude.{◌≡◌, ◌↔◌, map, IsTrue, IfOk, MatchOption};
+ghost use Rattle.std.specs.Prelude.{◌≡◌, ◌↔◌, ◌<◌, length, true, false, map, IsTrue, IfOk, MatchOption};
 ghost use Rattle.fore_base.specs.Lists.{Every};
 ghost use Rattle.fa_core.specs.Filled.{HasSignatures};
-ghost use Rattle.fa_sound.specs.inner.Learnt.{said, below_at, IsSettled, AreOne, Agrees, first_known};
-ghost use Rattle.fa_core.specs.Boxless.{HasNoBoxes};
+ghost use Rattle.fa_sound.specs.inner.Learnt.{first_known, flagged};
+ghost use Rattle.fa_sound.specs.inner.Learnt.{said, below_at, IsSettled, AreMixed, AreOne, Agrees};
 ghost use Rattle.fa_sound.specs.Signatures.{AreSignatures};
 
-use crate::learning::{are_known, entry_at, learn, rule_marks};
+use crate::learning::{are_known, entry_at, flagged, learn, rule_marks};
 use fa_core::faces::BoxFace;
 use fa_core::signature::{Below, RefMark, Signature};
 use fore_base::list::{Copies, List};
@@ -18,13 +18,12 @@ use ta_core::auto::{Auto, Rule};
 /// The signature of each state, None where two trees of one state, or of the automaton, have different ones. Err is
 /// want of memory.
 pub fn signatures(alloc: Global, boxes: &[BoxFace], auto: &Auto) -> Mem<Option<List<Signature>>>
-    requires { HasNoBoxes auto.now }
     ensures { IfOk result
         (λ found. MatchOption found (HasSignatures boxes.now auto.now → ⊥)
         (λ list. HasSignatures boxes.now auto.now × AreSignatures boxes.now auto.now list)) }
 {
     let table = learn(alloc, boxes, auto.states, auto.rules.as_slice())?;
-    if !are_settled(alloc, boxes, table.as_slice(), auto.rules.as_slice())? {
+    if !are_mixed(alloc, boxes, table.as_slice(), auto.rules.as_slice())? {
         return Ok(None);
     }
     if !are_one(table.as_slice(), auto.roots.as_slice()) {
@@ -36,13 +35,25 @@ pub fn signatures(alloc: Global, boxes: &[BoxFace], auto: &Auto) -> Mem<Option<L
 
 /// The signature of each state of an automaton that is known to have one for the trees of each. Err is want of memory.
 pub fn signatures_of(alloc: Global, boxes: &[BoxFace], auto: &Auto) -> Mem<List<Signature>>
-    requires plain { HasNoBoxes auto.now }
-    requires uniform { HasSignatures boxes.now auto.now }
+    requires { HasSignatures boxes.now auto.now }
     ensures { IfOk result (AreSignatures boxes.now auto.now) }
 {
     let table = learn(alloc, boxes, auto.states, auto.rules.as_slice())?;
     let list = signatures_in(alloc, table.as_slice())?;
     Ok(list)
+}
+
+/// Whether each rule gives trees with the signature of its state's tree, whichever of its children are leaves.
+fn are_mixed(alloc: Global, boxes: &[BoxFace], table: &[Option<Below>], rules: &[Rule]) -> Mem<bool>
+    requires { Every (λ r. r.state < length table.now) rules.now }
+    ensures { IfOk result (λ yes. IsTrue yes ↔ AreMixed boxes.now table.now rules.now) }
+{
+    let lows = flagged(alloc, false, table, rules)?;
+    if !are_settled(alloc, boxes, lows.as_slice(), rules)? {
+        return Ok(false);
+    }
+    let highs = flagged(alloc, true, table, rules)?;
+    are_settled(alloc, boxes, highs.as_slice(), rules)
 }
 
 /// Whether each rule gives trees with the signature of its state's tree.
@@ -73,7 +84,7 @@ fn is_settled(alloc: Global, boxes: &[BoxFace], table: &[Option<Below>], rule: &
 }
 
 /// The signature of the state's tree, empty where the table does not speak of it.
-fn marks_at<'a>(table: &'a [Option<Below>], state: u32) -> &'a [RefMark]
+pub fn marks_at<'a>(table: &'a [Option<Below>], state: u32) -> &'a [RefMark]
     ensures { result.now ≡ (below_at table.entry.now state).marks }
 {
     match entry_at(table, state) {
@@ -83,7 +94,7 @@ fn marks_at<'a>(table: &'a [Option<Below>], state: u32) -> &'a [RefMark]
 }
 
 /// Whether both are one signature.
-fn are_same(left: &[RefMark], right: &[RefMark]) -> bool
+pub fn are_same(left: &[RefMark], right: &[RefMark]) -> bool
     ensures { IsTrue result ↔ (left.now ≡ right.now) }
 {
     if left.len() != right.len() {

@@ -1,11 +1,11 @@
 pub mod ChildEnds
+pub mod ChildStates
 pub mod ChosenForests
 pub mod ChosenTrees
 pub mod FixedSigned
 pub mod FixedTrees
 pub mod FreshStates
 pub mod LiftedTrees
-pub mod OneTop
 pub mod OtherComponent
 pub mod Places
 pub mod Rows

@@ -11,8 +11,7 @@ use Rattle.fa_core.specs.Covering.{Covers}
 use Rattle.fa_core.specs.Dressed.{Node, Nodes}
 use Rattle.fa_core.specs.Member.{OfForest, bare}
 use Rattle.fa_merge.specs.Dropped.{node_at}
-pub use Rattle.fa_sound.specs.Components.{with_component}
-use Rattle.fa_sound.specs.Components.{component_at}
+use Rattle.fa_sound.specs.Components.{component_at, with_component}
 
 -- The items of a list that meet P, in their order.
 pub data Picked {X : Type 0} (P : X → Type 0) : List X → List X → Type 0 where

@@ -3,7 +3,7 @@ use Rattle.std.specs.Prelude.{◌≡◌, List}
 use Rattle.fore_base.specs.Lists.{Every}
 use Rattle.fa_core.specs.declared.boxes.BoxDef.{BoxDef}
 use Rattle.fa_core.specs.declared.forest.Forest.{Forest}
-pub use Rattle.fa_sound.specs.Unions.{forests, IsUnionOf}
+pub use Rattle.fa_sound.specs.Unions.{forests}
 use Rattle.fa_core.specs.Member.{Regroups, RegroupsInto}
 
 -- whatever the box table is, each forest of the list regroups F, and each dressed forest of F can be regrouped into one

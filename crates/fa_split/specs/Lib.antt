@@ -1,4 +1,5 @@
 pub mod Chosen
 pub mod Divided
+pub mod Marks
 pub mod Split
 pub mod inner

@@ -13,7 +13,8 @@ ghost use Rattle.fa_split.specs.Chosen.{AreChosen, IsChosenOf, StandsAtTop, chos
 ghost use Rattle.fa_split.specs.Divided.{HasVarsOf};
 ghost use Rattle.fa_sound.specs.Unions.{forests, IsUnionOf};
 
-use crate::topping::{choose, is_one_of, roots_of, rules_of};
+use crate::topping::{choose, roots_of, rules_of};
+use fa_core::cells::has;
 use fa_sound::{Sound, component};
 use fore_base::list::List;
 use fore_base::marks::are_all_marked;
@@ -67,7 +68,7 @@ fn stands_at_top(auto: &Auto, marks: &[bool], rule: &Rule) -> bool
     requires { MarksOf auto.now.states (HasTree auto.now.rules) marks.now }
     ensures { IsTrue result ↔ StandsAtTop auto.now rule.now }
 {
-    is_one_of(rule.state, roots_of(auto)) && are_all_marked(marks, rule.children.as_slice())
+    has(rule.state, roots_of(auto)) && are_all_marked(marks, rule.children.as_slice())
 }
 
 /// The forest with the rule, which stands at the top of some tree, alone at the root. Err is want of memory.

@@ -2,6 +2,7 @@
 // its own. Each call gives forests that have the members of the first together. What each of them is, is said exactly.
 #![tactic(auto)]
 
+pub mod children;
 pub mod choosing;
 mod ending;
 pub mod laws;
@@ -9,7 +10,11 @@ mod replacing;
 pub mod splitting;
 mod topping;
 
+pub use children::child_marks;
 pub use choosing::choose_rule;
-pub use replacing::{component, count_roots, ranked_components, replace, sound_of};
+pub use replacing::ranked_components;
 pub use splitting::{can_split, fix_at, fix_leaf, split_child};
-pub use topping::{has_one_top, rule_at_top, rules_of, state_at, states_of};
+pub use topping::{
+    children_of, copied_rules, count_children, one_root, rule_at, rule_at_top, rules_of, state_at,
+    states_of,
+};

@@ -14,15 +14,14 @@ ghost use Rattle.fa_split.specs.Split.{AreSplit, AreThose, CanSplit, IsSplitOf, 
 ghost use Rattle.fa_split.specs.Split.{split_cells, split_leaf};
 
 use crate::ending::{has_cell_at, leaves_at};
-use crate::topping::{
-    count_children, fix_child, has_one_top, lift_cells, rules_of, state_at, states_of,
-};
+use crate::topping::{count_children, fix_child, lift_cells, rules_of, state_at, states_of};
 use fa_core::forest::{Forest, Target};
 use fa_sound::{Sound, component, count_roots, replace};
 use fore_base::list::List;
 use fore_base::memory::Mem;
 use std::alloc::Global;
 use ta_core::inhabited::inhabited;
+use ta_core::single::has_one_top;
 
 /// Whether the root is there and has one rule, and that a child at the place.
 pub fn can_split(forest: &Sound, root: u32, place: usize) -> bool

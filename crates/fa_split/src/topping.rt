@@ -1,18 +1,18 @@
 // Automata with a new root state.
 
-ghost use Rattle.std.specs.Prelude.{◌≡◌, ◌↔◌, ◌<◌, ◌+◌, ◌^◌, false, [], ◌∷◌, length, IsTrue, IfOk, MatchOption};
+ghost use Rattle.std.specs.Prelude.{◌≡◌, ◌<◌, ◌+◌, ◌^◌, false, [], ◌∷◌, length, IfOk, MatchOption};
 ghost use Rattle.fore_base.specs.Lists.{IsIn};
 ghost use Rattle.ta_core.specs.Single.{HasOneTop};
 ghost use Rattle.ta_core.specs.declared.auto.Rule.{Rule};
 ghost use Rattle.fa_core.specs.Cells.{is_leaf};
-ghost use Rattle.fa_core.specs.Member.{leaf_symbol};
 ghost use Rattle.fa_core.specs.Ways.{has};
 ghost use Rattle.fa_split.specs.Chosen.{chosen};
 ghost use Rattle.fa_split.specs.Split.{cell_rules, child_state, first_of, fixed, fresh_leaf, fresh_top, lifted};
 ghost use Rattle.fa_split.specs.Split.{top_rule};
-ghost use Rattle.fa_split.specs.inner.Counted.{rules_at};
 
+use fa_core::cells::has;
 use fa_core::forest::Target;
+use fa_merge::symbol_of;
 use fore_base::list::{Copies, List};
 use fore_base::memory::Mem;
 use std::alloc::Global;
@@ -20,43 +20,36 @@ use ta_core::auto::{Auto, Rule};
 use ta_core::joining::room;
 use ta_core::symbol::Symbol;
 
+/// How many states it has.
 pub fn states_of(auto: &Auto) -> u32
     ensures { result ≡ auto.now.states }
 {
     auto.states
 }
 
+/// Its root states.
 pub fn roots_of(auto: &Auto) -> &[u32]
     ensures { result.now ≡ auto.now.roots }
 {
     auto.roots.as_slice()
 }
 
+/// Its rules.
 pub fn rules_of(auto: &Auto) -> &[Rule]
     ensures { result.now ≡ auto.now.rules }
 {
     auto.rules.as_slice()
 }
 
-/// Whether the state is one of these.
-pub fn is_one_of(state: u32, states: &[u32]) -> bool
-    ensures { result ≡ has state states.now }
-{
-    for other in states {
-        if state == *other {
-            return true;
-        }
-    }
-    false
-}
-
-fn copied_rules(alloc: Global, auto: &Auto) -> Mem<List<Rule>>
+/// Its rules, in a list of their own. Err is want of memory.
+pub fn copied_rules(alloc: Global, auto: &Auto) -> Mem<List<Rule>>
     ensures { IfOk result (λ made. made ≡ auto.now.rules) }
 {
     auto.rules.copy(alloc)
 }
 
-fn one_root(alloc: Global, root: u32) -> Mem<List<u32>>
+/// The root alone, as a list. Err is want of memory.
+pub fn one_root(alloc: Global, root: u32) -> Mem<List<u32>>
     ensures { IfOk result (λ made. made ≡ root ∷ []) }
 {
     let mut made = List::new(alloc);
@@ -64,7 +57,8 @@ fn one_root(alloc: Global, root: u32) -> Mem<List<u32>>
     Ok(made)
 }
 
-fn rule_at(alloc: Global, rule: &Rule, state: u32) -> Mem<Rule>
+/// The rule at another state. Err is want of memory.
+pub fn rule_at(alloc: Global, rule: &Rule, state: u32) -> Mem<Rule>
     ensures { IfOk result (λ made. made
         ≡ record {
           state = state;
@@ -96,37 +90,13 @@ pub fn choose(alloc: Global, auto: &Auto, rule: &Rule) -> Mem<Auto>
     })
 }
 
-/// Whether exactly one of the rules is at the state.
-fn has_one_rule(rules: &[Rule], state: u32) -> bool
-    ensures { IsTrue result ↔ (rules_at state rules.now ≡ 1) }
-{
-    let mut found = false;
-    for rule in rules {
-        if rule.state == state {
-            if found {
-                return false;
-            }
-            found = true;
-        }
-    }
-    found
-}
-
-/// Whether there is one root state, listed once, and that has one rule, listed once.
-pub fn has_one_top(auto: &Auto) -> bool
-    ensures { IsTrue result ↔ HasOneTop auto.now }
-{
-    let roots = roots_of(auto);
-    roots.len() == 1 && has_one_rule(rules_of(auto), roots[0])
-}
-
 /// The first rule of one of the states.
 fn first_rule<'a>(rules: &'a [Rule], states: &[u32]) -> Option<&'a Rule>
     ensures { MatchOption result ((x : Rule) → IsIn x rules.now → has x.state states.now ≡ false)
         (λ rule. rule.now ≡ first_of states.now rules.now) }
 {
     for rule in rules {
-        if is_one_of(rule.state, states) {
+        if has(rule.state, states) {
             return Some(rule);
         }
     }
@@ -141,18 +111,6 @@ pub fn rule_at_top(auto: &Auto) -> &Rule
     match first_rule(rules_of(auto), roots_of(auto)) {
         Some(rule) => rule,
         None => unreachable!(),
-    }
-}
-
-/// The symbol of a leaf.
-fn symbol_of(target: Target) -> Symbol
-    ensures { result ≡ leaf_symbol target }
-{
-    match target {
-        Target::Null => Symbol::Null,
-        Target::Uninit => Symbol::Uninit,
-        Target::Dangling => Symbol::Dangling,
-        Target::At(root) => Symbol::Ref(root),
     }
 }
 
@@ -195,6 +153,14 @@ pub fn fix_child(alloc: Global, auto: &Auto, place: usize, leaf: Target) -> Mem<
         roots,
         rules,
     })
+}
+
+/// The states of the children of the one rule at the top.
+pub fn children_of(auto: &Auto) -> &[u32]
+    requires { HasOneTop auto.now }
+    ensures { result.now ≡ (top_rule auto.now).children }
+{
+    rule_at_top(auto).children.as_slice()
 }
 
 /// How many children the one rule at the top has.

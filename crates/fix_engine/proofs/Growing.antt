@@ -12,16 +12,17 @@ use Rattle.fa_core.specs.declared.forest.Forest.{Forest}
 use Rattle.c_cfg.specs.declared.graph.Edge.{Edge}
 use Rattle.c_cfg.specs.Edges.{Pass, Passed, Faulted, Halted, NotPassed}
 use Rattle.c_cfg.specs.Graphs.{ControlGraph}
-use Rattle.fix_engine.specs.declared.nodes.Node.{Node}
-use Rattle.fix_engine.specs.States.{AbstractState}
-use Rattle.fix_engine.specs.Follows.{Arrives, IsStateAt, Settles, passed_by}
-use Rattle.fix_engine.specs.Explorations.{IsNode, IsEdge, is_head, IsChild, NoLater, FollowsEarlier, IsHoused}
-use Rattle.fix_engine.specs.Explorations.{IsCared, IsCalm}
-use Rattle.fix_engine.specs.Explorations.{EdgeDone, EarlierDone, CalmUpTo, Done, IsApart, Exploration}
-use Rattle.fix_engine.specs.inner.Arriving.{AreOfTwoCases}
+use Rattle.fix_core.specs.declared.nodes.Node.{Node}
+use Rattle.fix_core.specs.States.{AbstractState}
+use Rattle.fix_core.specs.Follows.{Arrives, IsStateAt, Settles, passed_by}
+use Rattle.fix_core.specs.Explorations.{IsNode, IsEdge, is_head, IsChild, NoLater, FollowsEarlier, IsHoused}
+use Rattle.fix_core.specs.Explorations.{IsCared, IsCalm}
+use Rattle.fix_core.specs.Explorations.{EdgeDone, EarlierDone, CalmUpTo, Done, IsApart, Exploration}
+use Rattle.fix_successors.specs.Arriving.{AreOfTwoCases}
 use Rattle.fix_engine.specs.inner.Taking.{child, Grows, IsMid}
-use Rattle.fix_engine.proofs.Lists.{some_same, length_push, get_more, get_push, at_within, in_left, in_right}
-use Rattle.fix_engine.proofs.Lists.{every_in}
+use Rattle.fix_core.proofs.Lists.{some_same, length_push, get_more, get_push, at_within, in_left, in_right}
+use Rattle.fix_core.proofs.Lists.{every_in}
+use Rattle.fix_core.proofs.Numbered.{one_node}
 
 pub grows_push : (nodes : List Node) (n : Node) → Grows nodes (nodes ++ n ∷ [])
 grows_push nodes n = λ j m is. get_more nodes (n ∷ []) j m is
@@ -31,10 +32,6 @@ grows_same nodes = λ j n is. is
 
 pub grows_then : (a b c : List Node) → Grows a b → Grows b c → Grows a c
 grows_then a b c h i = λ j n is. i j n (h j n is)
-
--- two nodes of one number are one
-pub one_node : (nodes : List Node) (j : ℕ) (m n : Node) → IsNode nodes j m → IsNode nodes j n → m ≡ n
-one_node nodes j m n h i = some_same m n (sym h ∙ i)
 
 module _ (T : Boxes) (g : ControlGraph) where
   pub housed_more : (nodes more : List Node) → Grows nodes more → (location : ℕ) (t : Store)

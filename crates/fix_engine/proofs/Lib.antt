@@ -1,15 +1,3 @@
-pub mod Arriving
-pub mod Choices
-pub mod Concrete
-pub mod Covering
-pub mod LocationEdges
 pub mod Growing
-pub mod Judging
-pub mod Lists
-pub mod Posting
-pub mod Rows
-pub mod ExplorationRows
-pub mod Safety
 pub mod Starting
 pub mod TakenUp
-pub mod Tracing

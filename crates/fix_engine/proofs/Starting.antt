@@ -6,7 +6,6 @@ use Rattle.std.proofs.lemmas.Option.{none-some}
 use Rattle.fore_base.specs.Heap.{IsProper, NamesCell}
 use Rattle.fore_base.specs.Lists.{Every}
 use Rattle.fore_base.specs.declared.shape.Shape.{Shape}
-use Rattle.fore_base.specs.declared.store.CellRec.{CellRec}
 use Rattle.fore_base.specs.declared.store.Datum.TheVariants.{Undefined}
 use Rattle.fore_base.specs.declared.store.Store.{Store}
 use Rattle.fore_base.specs.declared.store.Value.{Value}
@@ -17,19 +16,20 @@ use Rattle.fa_core.specs.Canonical.{IsCanonical, Walks, ended, GoesOn, refs_at, 
 use Rattle.fa_core.specs.Dressed.{Nodes, no_nodes, more, value_in}
 use Rattle.fa_core.specs.Filled.{Choice, ChoiceFilled, DatumFits, IsFilled, IsRoot, IsSound}
 use Rattle.fa_core.specs.Member.{Stands, StandsBy, store_facts}
-use Rattle.fa_core.specs.Rearranged.{Rearranged, empty, keep, swap, chain}
+use Rattle.fa_core.specs.Rearranged.{empty}
 use Rattle.fa_core.specs.declared.boxes.BoxDef.{BoxDef}
 use Rattle.fa_core.specs.declared.faces.Face.{Face}
 use Rattle.fa_core.specs.declared.forest.Forest.{Forest}
 use Rattle.fa_core.specs.declared.forest.Target.TheVariants.{Uninit, At}
 use Rattle.c_cfg.specs.Alike.{IsUnset}
 use Rattle.c_cfg.specs.Graphs.{ControlGraph}
-use Rattle.fix_engine.specs.declared.nodes.Node.{Node}
-use Rattle.fix_engine.specs.Explorations.{IsNode, IsFirst, Exploration}
-use Rattle.fix_engine.specs.Follows.{IsMember}
+use Rattle.fix_core.specs.declared.nodes.Node.{Node}
+use Rattle.fix_core.specs.Explorations.{IsNode, IsFirst, Exploration}
+use Rattle.fix_core.specs.Follows.{IsMember}
 use Rattle.fix_engine.specs.inner.Starting.{no_components}
 use Rattle.fix_engine.specs.inner.Taking.{IsFront}
-use Rattle.fix_engine.proofs.Lists.{some_same}
+use Rattle.fix_core.proofs.Lists.{some_same}
+use Rattle.fix_core.proofs.NoCells.{nothing, no_cells}
 
 every_copy : {X : Type 0} (P : X → Type 0) (n : ℕ) (x : X) → P x → Every P (replicate n x)
 every_copy P zero x p = tt
@@ -90,16 +90,6 @@ start_canonical face ptrs datums = record {
 values_unset : (vs : List Value) (n : ℕ) → map (value_in vs) (replicate n Uninit) ≡ replicate n UninitValue
 values_unset vs zero = refl
 values_unset vs (suc n) = ap (λ zs. UninitValue ∷ zs) (values_unset vs n)
-
-pub nothing : {X : Type 0} (xs ys : List X) → Rearranged xs ys → xs ≡ [] → ys ≡ []
-nothing xs ys empty h = refl
-nothing xs ys (keep x r) h = cc
-nothing xs ys (swap x y zs) h = cc
-nothing xs ys (chain {ys = ms} a b) h = nothing ms ys b (nothing xs ms a h)
-
-pub no_cells : (cs : List CellRec) → store_facts cs ≡ [] → cs ≡ []
-no_cells [] h = refl
-no_cells (c ∷ cs) h = cc
 
 module _ (hs : List Shape) (T : List BoxDef) (ptrs datums : ℕ) where
   unset_of : (s : Store) → Stands hs T (no_components ptrs datums) s → IsUnset ptrs datums s

@@ -1,52 +1,47 @@
 -- The states of an edge, the edges of a node and the nodes, taken up one by one.
 use Rattle.std.proofs.Common.{◌≡◌, ◌⊎◌, ℕ, suc, zero, ◌+◌, ◌<◌, ◌≤◌, List, [], ◌∷◌, ◌++◌, length, take}
-use Rattle.std.proofs.Common.{slice_get, Some, None, Bool, true, false, refl, sym, ap, ◌∙◌, subst, arith, inl}
+use Rattle.std.proofs.Common.{slice_get, Some, Bool, true, false, refl, sym, ap, ◌∙◌, subst, arith, inl}
 use Rattle.std.proofs.Common.{inr}
 use Rattle.std.proofs.lemmas.Option.{slice_get_within}
-use Rattle.fore_base.specs.declared.fault.Fault.{Fault as Kind}
 use Rattle.fore_base.specs.declared.store.Store.{Store}
 use Rattle.fore_base.specs.Lists.{IsIn, Every}
 use Rattle.fore_base.proofs.ListLemmas.{place_of}
 use Rattle.fa_core.specs.Boxes.{Boxes}
 use Rattle.fa_core.specs.Filled.{IsSound}
-use Rattle.fa_core.specs.declared.forest.Forest.{Forest}
 use Rattle.fa_sound.specs.Soundness.{SoundForest}
-use Rattle.fa_split.specs.Divided.{forests}
 use Rattle.c_cfg.specs.Ranges.{IsEdgeOf}
 use Rattle.c_cfg.specs.declared.graph.Edge.{Edge}
 use Rattle.c_cfg.specs.Edges.{Pass, Passed, Faulted, Halted, NotPassed}
 use Rattle.c_cfg.specs.Graphs.{ControlGraph}
-use Rattle.sym_core.specs.Cases.{BadAt, IsMet, IsTrueBad, StandsInOne}
-use Rattle.sym_step.specs.Posts.{bads}
 use Rattle.sym_step.specs.declared.posts.Bad.{Bad}
-use Rattle.fix_engine.specs.declared.explored.AbsTrace.{AbsTrace}
-use Rattle.fix_engine.specs.declared.explored.Explored.TheVariants.{Closed}
-use Rattle.fix_engine.specs.declared.nodes.Node.{Node}
-use Rattle.fix_engine.specs.declared.posts.Made.{Made}
+use Rattle.fix_core.specs.declared.explored.AbsTrace.{AbsTrace}
+use Rattle.fix_core.specs.declared.explored.Explored.TheVariants.{Closed}
+use Rattle.fix_core.specs.declared.nodes.Node.{Node}
+use Rattle.fix_successors.specs.declared.posts.Made.{Made}
 use Rattle.fix_engine.specs.declared.taking.Taken.{Taken}
 use Rattle.fix_engine.specs.declared.taking.Taken.TheVariants.{All, Fault, Full as Over}
-use Rattle.fix_engine.specs.Explorations.{IsNode, IsEdge, is_head, IsChild, NoLater, IsHoused, IsCared, IsCalm}
-use Rattle.fix_engine.specs.Explorations.{EdgeDone, EarlierDone, Done, Exploration, Full, IsExplored, AbstractTrace}
-use Rattle.fix_engine.specs.Follows.{IsMember, passed_by, Arrives}
-use Rattle.fix_engine.specs.States.{AbstractState}
-use Rattle.fix_engine.specs.inner.Arriving.{AreCases, AreOfTwoCases, AreArrivals, IsHeld, IsRawCase}
-use Rattle.fix_engine.specs.inner.Arriving.{StandsInCase}
-use Rattle.fix_engine.specs.Covered.{IsCovered, NoneCovers}
-use Rattle.fix_engine.specs.inner.Exits.{Rises}
-use Rattle.fix_engine.specs.inner.Posting.{IsMade, IsMadeAt, AreMade, edge_numbers}
-use Rattle.fix_engine.specs.inner.Ready.{IsNormal}
+use Rattle.fix_core.specs.Explorations.{IsNode, IsEdge, is_head, IsChild, NoLater, IsHoused, IsCared, IsCalm}
+use Rattle.fix_core.specs.Explorations.{EdgeDone, EarlierDone, Done, Exploration, IsExplored, AbstractTrace}
+use Rattle.fix_core.specs.Follows.{IsMember, passed_by, Arrives}
+use Rattle.fix_core.specs.States.{AbstractState}
+use Rattle.fix_successors.specs.Arriving.{AreOfTwoCases}
+use Rattle.fix_successors.specs.Images.{IsTrueFault, IsKeptIn, AreSuccessors}
+use Rattle.fix_core.specs.Covered.{IsCovered, NoneCovers, IsPlaced}
+use Rattle.fix_core.specs.declared.nodes.Placed.{Placed}
+use Rattle.fix_core.specs.declared.nodes.Placed.TheVariants.{Covered, Added, Full as NoRoom}
+use Rattle.fix_successors.specs.Exits.{Rises}
+use Rattle.fix_successors.specs.Posting.{IsMade, IsMadeAt, AreMade, edge_numbers}
+use Rattle.fix_successors.specs.Ready.{IsNormal}
 use Rattle.fix_engine.specs.inner.Taking.{child, Grows, AreHoused, AreDue, IsMid, AreTaken, IsEdgeTaken, IsStage}
-use Rattle.fix_engine.specs.inner.Taking.{IsFront, IsFault, IsTakenEdge, IsTakenNode}
-use Rattle.fix_engine.specs.inner.Tracing.{HasWays, IsTraceTo}
-use Rattle.fix_engine.proofs.Lists.{some_same, length_push, get_last, in_at, in_left}
-use Rattle.fix_engine.proofs.Lists.{in_map, every_in, every_of, every_both, take_at, at_within, before_each}
-use Rattle.fix_engine.proofs.Covering.{covered_member}
+use Rattle.fix_engine.specs.inner.Taking.{IsFront, IsFault, all_or_full, IsTakenEdge, IsTakenNode}
+use Rattle.fix_trace.specs.Tracing.{IsTraceTo}
+use Rattle.fix_core.proofs.Lists.{some_same, length_push, get_last, in_at, in_left}
+use Rattle.fix_core.proofs.Lists.{every_in, every_of, every_both, take_at, at_within}
+use Rattle.fix_core.proofs.Numbered.{one_node}
+use Rattle.fix_successors.proofs.Lists.{before_each}
+use Rattle.fix_core.proofs.Covering.{covered_member}
 use Rattle.fix_engine.proofs.Growing.{grows_push, grows_same, grows_then, housed_more, edge_more}
-use Rattle.fix_engine.proofs.Growing.{one_node, grown, mid_grown}
-
--- the fault, at its forest
-abbrev at_forest : Bad → BadAt
-at_forest b = record { fault = b.fault; at = b.at.forest }
+use Rattle.fix_engine.proofs.Growing.{grown, mid_grown}
 
 module _ (T : Boxes) (g : ControlGraph) (k : ℕ) where
   -- the states of an edge
@@ -80,7 +75,7 @@ module _ (T : Boxes) (g : ControlGraph) (k : ℕ) where
     same_edge : (f : Edge) → IsEdge g c f → e ≡ f
     same_edge f h = some_same e f (sym is_edge ∙ h)
 
-    pub taken_covered : IsCovered nodes e.to a.forest
+    taken_covered : IsCovered nodes e.to a.forest
         → AreTaken T g k start at c budget (take (i + 1) states) nodes true
     taken_covered cov = rw (take_at states i a is) (
       mid_weaker nodes at c (take i states) (a ∷ []) before.0,
@@ -126,7 +121,7 @@ module _ (T : Boxes) (g : ControlGraph) (k : ℕ) where
       more : List Node
       more = nodes ++ child at c e a ∷ []
 
-      pub taken_full : length nodes ≡ budget → AreTaken T g k start at c budget states nodes false
+      taken_full : length nodes ≡ budget → AreTaken T g k start at c budget states nodes false
       unfolding more
       taken_full many = (
         before.0.explored,
@@ -138,7 +133,7 @@ module _ (T : Boxes) (g : ControlGraph) (k : ℕ) where
         },
       )
 
-      pub taken_pushed : (length nodes ≡ budget → ⊥) → (n : Node) → n ≡ child at c e a
+      taken_pushed : (length nodes ≡ budget → ⊥) → (n : Node) → n ≡ child at c e a
           → AreTaken T g k start at c budget (take (i + 1) states) (nodes ++ n ∷ []) true
       unfolding more
       taken_pushed room n same = rw (same, take_at states i a is) (
@@ -166,98 +161,68 @@ module _ (T : Boxes) (g : ControlGraph) (k : ℕ) where
           fits : length (nodes ++ child at c e a ∷ []) ≤ budget
           fits = omega (arith, before.2, length_push nodes (child at c e a), room)
 
+    -- a state that was covered, or is the last node
+    pub taken_placed : (p : Placed) (more : List Node) → (p ≡ NoRoom → ⊥) → AreDue T g k start at c states
+        → IsPlaced nodes (child at c e a) budget more p
+        → AreTaken T g k start at c budget (take (i + 1) states) more true
+    taken_placed Covered more not due placed = rw placed.1 (taken_covered placed.0)
+    taken_placed Added more not due placed =
+        rw placed.2 (taken_pushed due placed.0 placed.1 (child at c e a) refl)
+    taken_placed NoRoom more not due placed = absurd (not refl)
+
+    -- a state for which the budget has no room
+    pub taken_over : (more : List Node) → AreDue T g k start at c states
+        → IsPlaced nodes (child at c e a) budget more NoRoom → AreTaken T g k start at c budget states more false
+    taken_over more due placed = rw placed.2 (taken_full due placed.0 placed.1)
+
   -- an edge
 
   pub edge_fault : (nodes : List Node) (at : ℕ) (x : Made) (bad : Bad) → IsMid T g k nodes at x.edge []
-      → IsMadeAt T g nodes at x → slice_get x.post.faults 0 ≡ Some bad → IsSound bad.at.face bad.at.forest
+      → (m : IsMadeAt T g nodes at x) → IsTrueFault T g m.node.state.forest m.made.edge bad
       → IsFault T g nodes at x.edge bad
-  edge_fault nodes at x bad mid m h sound =
-      let listed = in_at x.post.faults 0 bad h in
-      let face = every_in (λ (b : Bad). b.at.face ≡ T.face) x.post.faults bad m.made.post.faces listed in
-      record {
-        node = m.node;
-        is = m.is;
-        edge = m.made.edge;
-        is_edge = m.made.is;
-        from = m.made.from;
-        members = every_in (IsTrueBad T.face T.defs m.node.state.forest m.made.edge) (bads x.post.faults)
-            (at_forest bad) m.made.post.true_bads (in_map at_forest x.post.faults bad listed);
-        face = face;
-        sound = subst (λ z. IsSound z bad.at.forest) face sound;
-        earlier = mid.earlier m.node m.is;
-      }
+  edge_fault nodes at x bad mid m f = record {
+    node = m.node;
+    is = m.is;
+    edge = m.made.edge;
+    is_edge = m.made.is;
+    from = m.made.from;
+    members = f.members;
+    face = f.face;
+    sound = f.sound;
+    earlier = mid.earlier m.node m.is;
+  }
 
-  -- what the cases of the edge become; e is the edge as the code has it
-  pub edge_arrivals : (nodes : List Node) (at : ℕ) (x : Made) (e : Edge) (states : List AbstractState)
-      → (m : IsMadeAt T g nodes at x) → IsEdge g x.edge e
-      → ((F : Forest) → AreCases T g F e x.post.next → AreArrivals T g k F e x.post.next states)
-      → AreArrivals T g k m.node.state.forest m.made.edge x.post.next states
-  edge_arrivals nodes at x e states m ie f =
-      let same : e ≡ m.made.edge = some_same e m.made.edge (sym ie ∙ m.made.is) in
-      subst (λ z. AreArrivals T g k m.node.state.forest z x.post.next states) same
-      (f m.node.state.forest (subst (λ z. AreCases T g m.node.state.forest z x.post.next) (sym same) m.made.post.nexts))
-
-  fault_met : (p : Pass) (s : Store) (kind : Kind) (Ms : List Forest) (bs : List Bad) → bs ≡ []
-      → IsMet T.face T.defs Ms (bads bs) s p → p ≡ Faulted kind → ⊥
-  fault_met p s kind Ms [] none met is = (subst (IsMet T.face T.defs Ms [] s) is met).1
-  fault_met p s kind Ms (b ∷ bs) none met is = cc
-
-  -- where the post has no fault, no member of the node meets one
-  edge_calm : (nodes : List Node) (at : ℕ) (x : Made) (m : IsMadeAt T g nodes at x) → x.post.faults ≡ []
-      → IsCalm T m.node m.made.edge
-  edge_calm nodes at x m no_fault = λ s kind st is.
-      fault_met (passed_by T m.made.edge s) s kind (forests x.post.next) x.post.faults no_fault (m.made.post.all s st)
-      is
+  -- no member of the node meets a fault on the edge
+  edge_calm : (nodes : List Node) (at : ℕ) (x : Made) (states : List AbstractState) (m : IsMadeAt T g nodes at x)
+      → AreSuccessors T g k m.node.state.forest m.made.edge states → IsCalm T m.node m.made.edge
+  edge_calm nodes at x states m arr = λ s kind st is. subst (IsKeptIn T g states) is (arr.kept s st)
 
   pub edge_due : (nodes : List Node) (at : ℕ) (x : Made) (states : List AbstractState) (m : IsMadeAt T g nodes at x)
-      → x.post.faults ≡ []
-      → AreArrivals T g k m.node.state.forest m.made.edge x.post.next states → AreDue T g k nodes at x.edge states
-  edge_due nodes at x states m no_fault arr = record {
+      → AreSuccessors T g k m.node.state.forest m.made.edge states → AreDue T g k nodes at x.edge states
+  edge_due nodes at x states m arr = record {
     parent = m.node;
     is = m.is;
     edge = m.made.edge;
     is_edge = m.made.is;
     from = m.made.from;
-    calm = edge_calm nodes at x m no_fault;
+    calm = edge_calm nodes at x states m arr;
     each = arr.each;
     apart = arr.apart;
   }
 
-  -- the cases of an edge are normal
-  pub edge_normal : (nodes : List Node) (at : ℕ) (x : Made) (m : IsMadeAt T g nodes at x)
-      → Every (IsNormal T g) x.post.next
-  edge_normal nodes at x m = normal x.post.next m.made.post.nexts.each
-    where
-      normal : (Ms : List SoundForest) → Every (IsRawCase T g m.node.state.forest m.made.edge) Ms
-          → Every (IsNormal T g) Ms
-      normal [] h = tt
-      normal (M ∷ Ms) h = (h.0.normal, normal Ms h.1)
-
-  in_case : (Ms : List SoundForest) (t : Store) → StandsInOne T.face T.defs (forests Ms) t → StandsInCase T Ms t
-  in_case [] t h = absurd h.1
-  in_case (M ∷ Ms) t h = elim h.1 [
-    | inl is ↦ record { case_of = M; listed = inl refl; member = subst (λ z. IsMember T z t) is h.2 }
-    | inr later ↦ let r = in_case Ms t (h.0, later, h.2) in
-        record { case_of = r.case_of; listed = inr r.listed; member = r.member }
-  ]
-
-  cared_of : (ns : List Node) (to : ℕ) (p : Pass) (s : Store) (Ms : List SoundForest) (bs : List Bad)
-      (states : List AbstractState) → bs ≡ [] → IsMet T.face T.defs (forests Ms) (bads bs) s p
-      → ((t : Store) → StandsInCase T Ms t → IsHeld T states t) → AreHoused T g ns to states → IsCared T g ns to p
-  cared_of ns to (Passed t) s Ms bs states none met kept housed =
-      let h = kept t (in_case Ms t met) in
+  cared_of : (ns : List Node) (to : ℕ) (p : Pass) (states : List AbstractState) → IsKeptIn T g states p
+      → AreHoused T g ns to states → IsCared T g ns to p
+  cared_of ns to (Passed t) states h housed =
       every_in (λ (z : AbstractState). (u : Store) → IsMember T z.forest u → IsHoused T g ns to u) states
       h.state housed h.listed t h.member
-  cared_of ns to (Faulted f) s Ms [] states none met kept housed = met.1
-  cared_of ns to (Faulted f) s Ms (b ∷ bs) states none met kept housed = cc
-  cared_of ns to Halted s Ms bs states none met kept housed = tt
-  cared_of ns to NotPassed s Ms bs states none met kept housed = tt
+  cared_of ns to (Faulted f) states h housed = h
+  cared_of ns to Halted states h housed = tt
+  cared_of ns to NotPassed states h housed = tt
 
   pub edge_taken : (nodes more : List Node) (at budget : ℕ) (x : Made) (states : List AbstractState)
-      (m : IsMadeAt T g nodes at x) → x.post.faults ≡ []
-      → AreArrivals T g k m.node.state.forest m.made.edge x.post.next states
+      (m : IsMadeAt T g nodes at x) → AreSuccessors T g k m.node.state.forest m.made.edge states
       → AreTaken T g k nodes at x.edge budget states more true → IsEdgeTaken T g k nodes more at x.edge
-  edge_taken nodes more at budget x states m no_fault arr t = record {
+  edge_taken nodes more at budget x states m arr t = record {
     states = states;
     mid = t.0;
     grows = t.1;
@@ -265,25 +230,17 @@ module _ (T : Boxes) (g : ControlGraph) (k : ℕ) where
         let same_node : m.node ≡ n = one_node more at m.node n (t.1 at m.node m.is) is in
         let same : m.made.edge ≡ e = some_same m.made.edge e (sym m.made.is ∙ ie) in
         let one : IsCared T g more m.made.edge.to (passed_by T m.made.edge s) =
-        cared_of more m.made.edge.to (passed_by T m.made.edge s) s x.post.next x.post.faults states no_fault
-        (m.made.post.all s (subst (λ z. IsMember T z.state.forest s) (sym same_node) st))
-        arr.kept (t.3 m.made.edge m.made.is) in
+        cared_of more m.made.edge.to (passed_by T m.made.edge s) states
+        (arr.kept s (subst (λ z. IsMember T z.state.forest s) (sym same_node) st)) (t.3 m.made.edge m.made.is) in
         subst (λ z. IsCared T g more z.to (passed_by T z s)) same one;
   }
 
-  pub taken_room : (nodes more : List Node) (at budget : ℕ) (x : Made) (states : List AbstractState) (room : Bool)
-      (m : IsMadeAt T g nodes at x) → x.post.faults ≡ []
-      → AreArrivals T g k m.node.state.forest m.made.edge x.post.next states
-      → room ≡ true → AreTaken T g k nodes at x.edge budget states more room → IsEdgeTaken T g k nodes more at x.edge
-      × (length more ≤ budget)
-  taken_room nodes more at budget x states room m no_fault arr is t =
-      let u = subst (AreTaken T g k nodes at x.edge budget states more) is t in
-      (edge_taken nodes more at budget x states m no_fault arr u, u.2)
-
-  pub taken_no_room : (nodes more : List Node) (at budget : ℕ) (x : Made) (states : List AbstractState) (room : Bool)
-      → room ≡ false → AreTaken T g k nodes at x.edge budget states more room → Exploration T g k more
-      × Full T g k more budget
-  taken_no_room nodes more at budget x states room is t = subst (AreTaken T g k nodes at x.edge budget states more) is t
+  pub edge_ended : (nodes later : List Node) (at budget : ℕ) (x : Made) (states : List AbstractState) (room : Bool)
+      (m : IsMadeAt T g nodes at x) → AreSuccessors T g k m.node.state.forest m.made.edge states
+      → AreTaken T g k nodes at x.edge budget states later room
+      → IsTakenEdge T g k nodes at x.edge budget later (all_or_full room)
+  edge_ended nodes later at budget x states true m arr t = (edge_taken nodes later at budget x states m arr t, t.2)
+  edge_ended nodes later at budget x states false m arr t = t
 
   -- a node
 
@@ -443,13 +400,6 @@ module _ (T : Boxes) (g : ControlGraph) (k : ℕ) where
       → IsExplored T g k budget (Closed nodes)
   front_closed nodes at budget f over =
       (f.explored, record { first = f.explored.first; done = λ j less. f.done j (omega (arith, less, over)) }, f.within)
-
-  pub has_ways : (nodes : List Node) → Exploration T g k nodes → HasWays nodes
-  has_ways nodes x = record {
-    none = λ n is. subst (λ z. z.head.parent ≡ None) (one_node nodes 0 x.first.node n x.first.is is) x.first.no_parent;
-    each = λ j n pos is. let f = x.follow j n pos is in
-        record { parent = f.at; is = f.follows.child.parent; earlier = f.earlier };
-  }
 
   pub trace_is : (nodes : List Node) (at c : ℕ) (bad : Bad) (tr : AbsTrace) → IsFault T g nodes at c bad
       → ((j : ℕ) → j < at → Done T g nodes j) → IsTraceTo g nodes at c bad tr → AbstractTrace T g nodes tr

@@ -1,7 +1,1 @@
-pub mod Covered
-pub mod Explorations
-pub mod Follows
-pub mod Listed
-pub mod States
-pub mod Verdicts
 pub mod inner

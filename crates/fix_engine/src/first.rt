@@ -1,18 +1,14 @@
 // Node 0: the stores with which a run begins.
 ghost use Rattle.std.specs.Prelude.{◌≡◌, ℕ, IfOk};
-ghost use Rattle.fore_base.specs.Lists.{Every};
-ghost use Rattle.fa_core.specs.Boxless.{HasNoBoxes};
-ghost use Rattle.fa_core.specs.Filled.{IsSound};
 ghost use Rattle.fix_engine.specs.inner.Starting.{no_components};
 ghost use Rattle.fix_engine.specs.inner.Taking.{IsFront};
 
-use crate::nodes::{Node, NodeHead, Nodes};
-use crate::states::State;
 use c_cfg::graph::Graph;
-use fa_core::faces::Face;
 use fa_core::forest::{Forest, Target};
 use fa_core::table::BoxTable;
 use fa_sound::Sound;
+use fix_core::nodes::{Node, NodeHead, Nodes};
+use fix_core::states::State;
 use fore_base::list::List;
 use fore_base::memory::Mem;
 use fore_base::store::Datum;
@@ -42,8 +38,7 @@ fn start_forest(alloc: Global, graph: &Graph, table: &BoxTable) -> Mem<Sound>
     ensures face { IfOk result (λ made. made.face ≡ table.now.face) }
 {
     let forest = bare_forest(alloc, graph.ptrs, graph.datums)?;
-    let made = sound_of(alloc, &forest, table.face())?;
-    Ok(made)
+    Sound::of(alloc, forest, table.face())
 }
 
 fn bare_forest(alloc: Global, ptrs: u32, datums: u32) -> Mem<Forest>
@@ -54,17 +49,4 @@ fn bare_forest(alloc: Global, ptrs: u32, datums: u32) -> Mem<Forest>
         vars: List::filled(alloc, Target::Uninit, ptrs as usize)?,
         data_vars: List::filled(alloc, Datum::Undefined, datums as usize)?,
     })
-}
-
-/// The forest, with its signatures. Err is want of memory.
-fn sound_of(alloc: Global, forest: &Forest, face: &Face) -> Mem<Sound>
-    requires plain { Every HasNoBoxes forest.now.autos }
-    requires sound { IsSound face.now forest.now }
-    ensures forest { IfOk result (λ made. made.forest ≡ forest.now) }
-    ensures face { IfOk result (λ made. made.face ≡ face.now) }
-{
-    match Sound::make(alloc, forest, face)? {
-        Some(made) => Ok(made),
-        None => unreachable!(),
-    }
 }

@@ -2,22 +2,19 @@
 // node of its location covers.
 ghost use Rattle.std.specs.Prelude.{◌≡◌, ◌≤◌, [], length, IfOk};
 ghost use Rattle.fore_base.specs.Lists.{Every};
-ghost use Rattle.fa_core.specs.Filled.{IsSound};
-ghost use Rattle.fix_engine.specs.inner.Posting.{IsMadeAt, edge_numbers};
-ghost use Rattle.fix_engine.specs.inner.Exits.{Rises};
-ghost use Rattle.fix_engine.specs.inner.Taking.{AreDue, AreTaken, IsMid, IsStage, IsTakenEdge, IsTakenNode, child};
+ghost use Rattle.fix_successors.specs.Posting.{IsMadeAt, edge_numbers};
+ghost use Rattle.fix_successors.specs.Exits.{Rises};
+ghost use Rattle.fix_core.specs.States.{AbstractState};
+ghost use Rattle.fix_engine.specs.inner.Taking.{AreDue, AreTaken, IsMid, IsStage, IsTakenEdge, IsTakenNode};
+ghost use Rattle.fix_engine.specs.inner.Taking.{all_or_full, child};
 
-use crate::arrivals::arrivals_of;
-use crate::exits::edge_at;
-use crate::nodes::{Node, NodeHead, Nodes};
-use crate::posts::Made;
-use crate::states::State;
-use crate::task::Task;
 use c_cfg::graph::Edge;
-use fore_base::list::List;
+use fix_core::edges::edge_at;
+use fix_core::nodes::{NodeHead, Nodes, Placed};
+use fix_core::states::State;
+use fix_successors::{Image, Made, Task, image_of};
 use fore_base::memory::Mem;
 use par_kit::gate::Gate;
-use std::alloc::Global;
 use std::thread::Threads;
 use sym_step::Bad;
 
@@ -56,7 +53,7 @@ pub fn take_node<R: Threads + Sync, G: Gate>(
     Ok(Taken::All)
 }
 
-/// Takes up the post of one edge: a fault first, else the cases. Err is want of memory.
+/// Takes up one edge: a fault first, else the states to which it leads. Err is want of memory.
 fn take_edge<R: Threads + Sync, G: Gate>(
     task: &Task<'_, '_, R, G>,
     nodes: &mut Nodes,
@@ -70,29 +67,23 @@ fn take_edge<R: Threads + Sync, G: Gate>(
         (IsTakenEdge task.now.table task.now.graph task.now.height nodes.old at made.now.edge task.now.budget
         nodes.new) }
 {
-    task.known();
-    if let Some(first) = made.post.faults.get(0) {
-        let bad = copy_bad(task.alloc(), first)?;
-        return Ok(Taken::Fault {
+    match image_of(task, made)? {
+        Image::Fault { bad } => Ok(Taken::Fault {
             edge: made.edge,
             bad,
-        });
+        }),
+        Image::States { states } => {
+            let room = take_states(task, nodes, at, made.edge, states.as_slice())?;
+            Ok(all_or_full(room))
+        }
     }
-    let edge = edge_at(task.graph(), made.edge);
-    let states = arrivals_of(task, edge, made.post.next.as_slice())?;
-    let room = take_states(task, nodes, at, made.edge, states.as_slice())?;
-    Ok(if room { Taken::All } else { Taken::Full })
 }
 
-fn copy_bad(alloc: Global, bad: &Bad) -> Mem<Bad>
-    ensures same { IfOk result (λ other. other ≡ bad.now) }
-    ensures sound { IsSound bad.now.at.face bad.now.at.forest }
+/// How an edge was taken up, by whether there was room for all of its states.
+fn all_or_full(room: bool) -> Taken
+    ensures { result ≡ all_or_full room }
 {
-    bad.at.known();
-    Ok(Bad {
-        fault: bad.fault,
-        at: bad.at.copy(alloc)?,
-    })
+    if room { Taken::All } else { Taken::Full }
 }
 
 /// Takes up the states to which an edge leads: each becomes a node, unless a node of its location covers it. False
@@ -112,29 +103,24 @@ fn take_states<R: Threads + Sync, G: Gate>(
         nodes.new) }
 {
     task.known();
-    let edge = edge_at(task.graph(), number);
+    let head = head_of(at, number, edge_at(task.graph(), number));
     for state in states {
-        if !nodes.is_covered(task.alloc(), edge.to, state)? {
-            if nodes.len() == task.budget() {
-                return Ok(false);
-            }
-            let node = child_of(task.alloc(), at, number, edge, state)?;
-            nodes.push(task.alloc(), node)?;
+        match nodes.add_uncovered(task.alloc(), head, state, task.budget())? {
+            Placed::Full => return Ok(false),
+            _ => {}
         }
     }
     Ok(true)
 }
 
-/// The node to which the edge leads, with this state. Err is want of memory.
-fn child_of(alloc: Global, at: u32, number: u32, edge: &Edge, state: &State) -> Mem<Node>
-    ensures { IfOk result (λ node. node ≡ child at number edge.now state.now) }
+/// The head of a node to which the edge leads.
+fn head_of(at: u32, number: u32, edge: &Edge) -> NodeHead
+    ensures { (a : AbstractState) → record { head = result; state = a } ≡ child at number edge.now a }
 {
-    let head = NodeHead {
+    NodeHead {
         location: edge.to,
         parent: Some(at),
         edge: Some(number),
         choice: edge.choice,
-    };
-    let state = state.copy(alloc)?;
-    Ok(Node { head, state })
+    }
 }

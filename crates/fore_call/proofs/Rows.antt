@@ -40,9 +40,9 @@ use Rattle.fore_base.specs.declared.fault.Fault.TheVariants.{
 use Rattle.c_types.specs.declared.outcome.Outcome.TheVariants.{Ended, Fault, Starved, BadChoice, StillRunning}
 use Rattle.c_front.specs.declared.broken.Letter.{Letter}
 use Rattle.c_front.specs.declared.broken.Letter.TheVariants.{Lexical, Profile, Syntax, Typing, Limit}
-use Rattle.fix_engine.specs.declared.explored.AbsTrace.{AbsTrace}
-use Rattle.fix_engine.specs.declared.explored.Explored.TheVariants.{Closed, Faulty, Spent}
-use Rattle.fix_engine.specs.declared.nodes.Node.{Node}
+use Rattle.fix_core.specs.declared.explored.AbsTrace.{AbsTrace}
+use Rattle.fix_core.specs.declared.explored.Explored.TheVariants.{Closed, Faulty, Spent}
+use Rattle.fix_core.specs.declared.nodes.Node.{Node}
 use Rattle.fore_call.specs.declared.answer.Refusal.TheVariants.{TooLong, Breaks}
 use Rattle.fore_call.specs.declared.answer.Answer.{Answer}
 use Rattle.fore_call.specs.declared.answer.Answer.TheVariants.{Verified, Ran, Usage, Refused, ReadFault, NoMemory}

@@ -8,12 +8,12 @@ use Rattle.c_cfg.specs.Graphs.{ControlGraph}
 use Rattle.c_cfg.specs.Lowering.{LowerOf}
 use Rattle.c_cfg.specs.LoopFree.{has_no_loop}
 use Rattle.fa_core.specs.Boxes.{Boxes}
-use Rattle.fix_engine.specs.declared.explored.AbsTrace.{AbsTrace}
-use Rattle.fix_engine.specs.declared.explored.Explored.{Explored}
-use Rattle.fix_engine.specs.declared.explored.Explored.TheVariants.{Closed, Faulty, Spent}
-use Rattle.fix_engine.specs.declared.nodes.Node.{Node}
-use Rattle.fix_engine.specs.Explorations.{IsExplored}
-use Rattle.fix_engine.specs.Verdicts.{SafeMeans, UnsafeMeans, BudgetMeans, TraceMeans}
+use Rattle.fix_core.specs.declared.explored.AbsTrace.{AbsTrace}
+use Rattle.fix_core.specs.declared.explored.Explored.{Explored}
+use Rattle.fix_core.specs.declared.explored.Explored.TheVariants.{Closed, Faulty, Spent}
+use Rattle.fix_core.specs.declared.nodes.Node.{Node}
+use Rattle.fix_core.specs.Explorations.{IsExplored}
+use Rattle.fix_verdict.specs.Verdicts.{SafeMeans, UnsafeMeans, BudgetMeans, TraceMeans}
 use Rattle.fore_call.specs.declared.answer.Verdict.{Verdict}
 use Rattle.fore_call.specs.declared.answer.Verdict.TheVariants.{Safe, Unsafe, Unknown}
 use Rattle.fore_call.specs.declared.words.Settings.{Settings}

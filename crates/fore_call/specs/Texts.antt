@@ -25,7 +25,7 @@ use Rattle.fore_call.specs.declared.answer.Verdict.{Verdict}
 use Rattle.fore_call.specs.declared.answer.Verdict.TheVariants.{Safe, Unsafe, Unknown}
 use Rattle.fore_call.specs.declared.status.TheConstants.{NO_FAULT, FAULT, USAGE, UNKNOWN, REFUSED, NOT_READ, NO_MEMORY}
 use Rattle.fore_call.specs.declared.words.Settings.{Settings}
-use Rattle.fix_engine.specs.declared.explored.AbsTrace.{AbsTrace}
+use Rattle.fix_core.specs.declared.explored.AbsTrace.{AbsTrace}
 
 -- the name by which a fault is printed
 abbrev pub fault_text : Kind → List ℕ

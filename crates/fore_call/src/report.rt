@@ -2,8 +2,8 @@
 ghost use Rattle.std.specs.Prelude.{◌≡◌, ℕ, true, IfOk};
 ghost use Rattle.c_cfg.specs.Lowering.{LowerOf};
 ghost use Rattle.c_cfg.specs.LoopFree.{has_no_loop};
-ghost use Rattle.fix_engine.specs.Explorations.{IsExplored};
-ghost use Rattle.fix_engine.specs.Verdicts.{SafeMeans, UnsafeMeans, BudgetMeans, TraceMeans};
+ghost use Rattle.fix_core.specs.Explorations.{IsExplored};
+ghost use Rattle.fix_verdict.specs.Verdicts.{SafeMeans, UnsafeMeans, BudgetMeans, TraceMeans};
 ghost use Rattle.fore_call.specs.Reports.{
   no_boxes,
   IsSafeReport,

@@ -1,11 +1,12 @@
 // Automata from texts.
 
 use crate::digits::{digit, numbers};
-use crate::symbols::symbol_of;
+use crate::symbols::{spelled_symbol, symbol_of};
 use anyhow::{Context, Result};
 use fore_base::list::List;
 use std::alloc::Global;
 use ta_core::auto::{Auto, Rule};
+use ta_core::symbol::Symbol;
 
 /// The automaton of the text.
 ///
@@ -40,16 +41,35 @@ fn head(alloc: Global, text: &str) -> Result<(u32, List<u32>)> {
 fn rules(alloc: Global, text: &str) -> Result<List<Rule>> {
     let mut rules = List::new(alloc);
     for word in text.split(' ').skip(1) {
-        rules.push(rule(alloc, word.as_bytes())?)?;
+        rules.push(rule(alloc, word)?)?;
     }
     Ok(rules)
 }
 
-fn rule(alloc: Global, word: &[u8]) -> Result<Rule> {
+fn rule(alloc: Global, word: &str) -> Result<Rule> {
+    match word.split_once(']') {
+        Some((front, children)) => spelled_rule(alloc, front, children.as_bytes()),
+        None => lettered_rule(alloc, word.as_bytes()),
+    }
+}
+
+// A rule whose symbol stands between brackets.
+fn spelled_rule(alloc: Global, front: &str, children: &[u8]) -> Result<Rule> {
+    let (state, cell) = front.split_once('[').context("no bracket is opened")?;
+    let state = state.as_bytes().first().context("no state")?;
+    let symbol = spelled_symbol(alloc, cell)?;
+    rule_over(alloc, *state, symbol, children)
+}
+
+fn lettered_rule(alloc: Global, word: &[u8]) -> Result<Rule> {
     let (state, rest) = word.split_first().context("no state")?;
     let (letter, children) = rest.split_first().context("no symbol")?;
-    let state = digit(*state).context("a state is no digit")?;
     let symbol = symbol_of(alloc, *letter)?;
+    rule_over(alloc, *state, symbol, children)
+}
+
+fn rule_over(alloc: Global, state: u8, symbol: Symbol, children: &[u8]) -> Result<Rule> {
+    let state = digit(state).context("a state is no digit")?;
     let children = numbers(alloc, children)?;
     Ok(Rule {
         state,

@@ -7,7 +7,8 @@
 //!   f(n(a), a).
 //! - A symbol is a letter: a for Null, u for Uninit, d for Dangling, A to Z for references to the roots 0 to 25, n
 //!   for a cell of struct 0, f for one of struct 1, and x, y and z for one of struct 2 whose datum is undefined, 1
-//!   and 2. Further letters are in `symbols`.
+//!   and 2. Further letters are in `symbols`. A cell without a letter stands between brackets, as its struct, its data
+//!   and its pointer fields: `0[3:f:01]12` is a rule of state 0 for a cell of struct 3 with the datum 15.
 #![tactic(auto)]
 
 mod automata;
@@ -17,7 +18,7 @@ mod symbols;
 mod trees;
 
 pub use automata::{auto_of, parts_of};
-pub use digits::{digit, numbers, put_number, put_numbers};
+pub use digits::{datums, digit, numbers, put_datums, put_number, put_numbers};
 pub use printing::{put_auto, text_of_auto};
 pub use symbols::{put_symbol, symbol_of};
 pub use trees::{text_of_tree, tree_of};

@@ -6,7 +6,8 @@
 // a field and a hook of box 0, l a link of box 0 and a field, r a link of box 0 and a hook of box 1, s a field and a
 // hook of box 1, t a link and a hook of box 1.
 
-use anyhow::{Result, bail};
+use crate::digits::{datums, digit, numbers, put_datums, put_number};
+use anyhow::{Context, Result, bail};
 use fore_base::list::List;
 use fore_base::store::Datum;
 use std::alloc::Global;
@@ -71,7 +72,35 @@ fn cell(alloc: Global, shape: u32, datums: &[Datum], slots: &[Slot]) -> Result<S
     })
 }
 
-/// Adds the letter of the symbol, or what it has between brackets, where it has no letter.
+/// The symbol of a cell that is spelled out: its struct, its data and its pointer fields, with a colon between.
+///
+/// # Errors
+///
+/// A text that cannot be read, and want of memory.
+pub fn spelled_symbol(alloc: Global, text: &str) -> Result<Symbol> {
+    let (shape, rest) = text.split_once(':').context("no data")?;
+    let (data, fields) = rest.split_once(':').context("no fields")?;
+    let shape = shape.as_bytes().first().context("no struct")?;
+    let shape = digit(*shape).context("a struct is no digit")?;
+    let datums = datums(alloc, data.as_bytes())?;
+    let slots = fields_of(alloc, fields.as_bytes())?;
+    Ok(Symbol::Cell {
+        shape,
+        datums,
+        slots,
+    })
+}
+
+fn fields_of(alloc: Global, digits: &[u8]) -> Result<List<Slot>> {
+    let fields = numbers(alloc, digits)?;
+    let mut slots = List::new(alloc);
+    for field in fields.as_slice() {
+        slots.push(Slot::Field(*field))?;
+    }
+    Ok(slots)
+}
+
+/// Adds the letter of the symbol. A cell that has no letter is spelled out between brackets.
 ///
 /// # Errors
 ///
@@ -82,7 +111,15 @@ pub fn put_symbol(alloc: Global, text: &mut String, symbol: &Symbol) -> Result<(
         Symbol::Uninit => text.push('u')?,
         Symbol::Dangling => text.push('d')?,
         Symbol::Ref(root) => put_reference(text, *root)?,
-        Symbol::Cell { .. } => put_cell(alloc, text, symbol)?,
+        Symbol::Cell {
+            shape,
+            datums,
+            slots,
+        } => {
+            if !put_letter(alloc, text, symbol)? {
+                put_spelled(text, *shape, datums.as_slice(), slots.as_slice())?;
+            }
+        }
     }
     Ok(())
 }
@@ -96,18 +133,39 @@ fn put_reference(text: &mut String, root: u32) -> Result<()> {
     Ok(())
 }
 
-fn put_cell(alloc: Global, text: &mut String, symbol: &Symbol) -> Result<()> {
+// Adds the letter of the cell, if it has one.
+fn put_letter(alloc: Global, text: &mut String, symbol: &Symbol) -> Result<bool> {
     for letter in CELLS {
         if is_cell(alloc, *letter, symbol)? {
             text.push(*letter as char)?;
-            return Ok(());
+            return Ok(true);
         }
     }
-    write!(text, "[{symbol:?}]")?;
-    Ok(())
+    Ok(false)
 }
 
 fn is_cell(alloc: Global, letter: u8, symbol: &Symbol) -> Result<bool> {
     let cell = cell_of(alloc, letter)?;
     Ok(cell.is_same(symbol))
+}
+
+fn put_spelled(text: &mut String, shape: u32, datums: &[Datum], slots: &[Slot]) -> Result<()> {
+    text.push('[')?;
+    put_number(text, shape)?;
+    text.push(':')?;
+    put_datums(text, datums)?;
+    text.push(':')?;
+    for slot in slots {
+        put_slot(text, *slot)?;
+    }
+    text.push(']')?;
+    Ok(())
+}
+
+fn put_slot(text: &mut String, slot: Slot) -> Result<()> {
+    match slot {
+        Slot::Field(field) => put_number(text, field)?,
+        other => write!(text, "({other:?})")?,
+    }
+    Ok(())
 }

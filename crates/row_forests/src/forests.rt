@@ -10,9 +10,8 @@ use fa_core::forest::{Forest, Target};
 use fa_sound::{Sound, have_no_boxes};
 use fore_base::list::List;
 use fore_base::shape::{FieldDef, FieldKind, Shape, Shapes};
-use fore_base::store::Datum;
 use fore_base::text::Text;
-use row_automata::{auto_of, digit};
+use row_automata::{auto_of, datums, digit};
 use std::alloc::Global;
 use ta_core::auto::Auto;
 
@@ -21,6 +20,11 @@ const STRUCTS: &[&[FieldKind]] = &[
     &[FieldKind::Pointer(0)],
     &[FieldKind::Pointer(1), FieldKind::Pointer(1)],
     &[FieldKind::Datum, FieldKind::Pointer(2)],
+    &[
+        FieldKind::Pointer(3),
+        FieldKind::Datum,
+        FieldKind::Pointer(0),
+    ],
 ];
 
 /// The structs of all forests, and no boxes.
@@ -29,24 +33,49 @@ const STRUCTS: &[&[FieldKind]] = &[
 ///
 /// Want of memory.
 pub fn face(alloc: Global) -> Result<Face> {
-    let mut structs = List::new(alloc);
-    for kinds in STRUCTS {
-        structs.push(shape(alloc, kinds)?)?;
-    }
+    face_of(alloc, STRUCTS)
+}
+
+/// The structs with these fields, and no boxes.
+///
+/// # Errors
+///
+/// Want of memory.
+pub fn face_of(alloc: Global, structs: &[&[FieldKind]]) -> Result<Face> {
+    let structs = shapes(alloc, structs)?;
     Ok(Face {
         shapes: Shapes { structs },
         boxes: List::new(alloc),
     })
 }
 
-fn shape(alloc: Global, kinds: &[FieldKind]) -> Result<Shape> {
-    let mut fields = List::new(alloc);
-    for kind in kinds {
-        let name = Text::from_slice(alloc, b"field")?;
-        fields.push(FieldDef { name, kind: *kind })?;
+fn shapes(alloc: Global, structs: &[&[FieldKind]]) -> Result<List<Shape>> {
+    let mut made = List::new(alloc);
+    for kinds in structs {
+        let shape = shape(alloc, kinds)?;
+        made.push(shape)?;
     }
+    Ok(made)
+}
+
+fn shape(alloc: Global, kinds: &[FieldKind]) -> Result<Shape> {
+    let fields = fields(alloc, kinds)?;
     let name = Text::from_slice(alloc, b"cell")?;
     Ok(Shape { name, fields })
+}
+
+fn fields(alloc: Global, kinds: &[FieldKind]) -> Result<List<FieldDef>> {
+    let mut fields = List::new(alloc);
+    for kind in kinds {
+        let field = field(alloc, *kind)?;
+        fields.push(field)?;
+    }
+    Ok(fields)
+}
+
+fn field(alloc: Global, kind: FieldKind) -> Result<FieldDef> {
+    let name = Text::from_slice(alloc, b"field")?;
+    Ok(FieldDef { name, kind })
 }
 
 /// The sound forests of the texts.
@@ -118,7 +147,7 @@ pub fn forest_of(alloc: Global, text: &str) -> Result<Forest> {
     let first = text.split(" / ").next().context("no variables")?;
     let (vars, data) = first.split_once(' ').unwrap_or((first, ""));
     let vars = targets(alloc, vars)?;
-    let data_vars = datums(alloc, data)?;
+    let data_vars = datums(alloc, data.as_bytes())?;
     let autos = autos(alloc, text)?;
     Ok(Forest {
         autos,
@@ -152,22 +181,5 @@ fn target(byte: u8) -> Option<Target> {
         b'u' => Some(Target::Uninit),
         b'd' => Some(Target::Dangling),
         _ => digit(byte).map(Target::At),
-    }
-}
-
-fn datums(alloc: Global, text: &str) -> Result<List<Datum>> {
-    let mut datums = List::new(alloc);
-    for byte in text.as_bytes() {
-        datums.push(datum(*byte).context("no such datum")?)?;
-    }
-    Ok(datums)
-}
-
-fn datum(byte: u8) -> Option<Datum> {
-    match byte {
-        b'u' => Some(Datum::Undefined),
-        b'0'..=b'9' => Some(Datum::Known(byte - b'0')),
-        b'a'..=b'f' => Some(Datum::Known(byte - b'a' + 10)),
-        _ => None,
     }
 }

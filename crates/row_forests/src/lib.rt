@@ -5,7 +5,8 @@
 //!   of its root, or n for null, u for uninitialised, d for dangling; - stands where there is none. The data
 //!   variables, if there are any, are a second word: a digit, a letter a to f for 10 to 15, or u for undefined. So
 //!   `0n 3u / 20 0n1 1a`.
-//! - Struct 0 has one pointer to itself, struct 1 two, and struct 2 a datum and one pointer (`face`).
+//! - Struct 0 has one pointer to itself, struct 1 two, struct 2 a datum and one pointer, and struct 3 a pointer to
+//!   itself, a datum, and a pointer to struct 0 (`face`).
 #![tactic(auto)]
 
 mod comparing;
@@ -13,8 +14,9 @@ mod forests;
 mod printing;
 
 pub use comparing::{auto_letters, have_same_trees, is_like, letter, letters, letters_in_order};
-pub use forests::{face, forest_of, sound, sound_from, sound_over, sounds_over};
-pub use printing::{put_forest, put_targets};
+pub use forests::{face, face_of, forest_of, sound, sound_from, sound_over, sounds_over};
+pub use printing::{put_data, put_forest, put_targets};
 pub use row_automata::{
-    auto_of, digit, numbers, parts_of, put_auto, put_number, put_numbers, put_symbol, symbol_of,
+    auto_of, datums, digit, numbers, parts_of, put_auto, put_datums, put_number, put_numbers,
+    put_symbol, symbol_of,
 };

@@ -3,7 +3,7 @@
 use anyhow::Result;
 use fa_core::forest::{Forest, Target};
 use fore_base::store::Datum;
-use row_automata::{put_auto, put_number};
+use row_automata::{put_auto, put_datums, put_number};
 use std::alloc::Global;
 
 /// Adds the text of the forest.
@@ -13,7 +13,7 @@ use std::alloc::Global;
 /// Want of memory.
 pub fn put_forest(alloc: Global, text: &mut String, forest: &Forest) -> Result<()> {
     put_targets(text, forest.vars.as_slice())?;
-    put_datums(text, forest.data_vars.as_slice())?;
+    put_data(text, forest.data_vars.as_slice())?;
     for auto in forest.autos.as_slice() {
         text.push_str(" / ")?;
         put_auto(alloc, text, auto)?;
@@ -46,20 +46,14 @@ fn put_target(text: &mut String, target: Target) -> Result<()> {
     Ok(())
 }
 
-fn put_datums(text: &mut String, datums: &[Datum]) -> Result<()> {
+/// Adds the data variables, where there are any, behind a blank.
+///
+/// # Errors
+///
+/// Want of memory.
+pub fn put_data(text: &mut String, datums: &[Datum]) -> Result<()> {
     if !datums.is_empty() {
         text.push(' ')?;
     }
-    for datum in datums {
-        put_datum(text, *datum)?;
-    }
-    Ok(())
-}
-
-fn put_datum(text: &mut String, datum: Datum) -> Result<()> {
-    match datum {
-        Datum::Undefined => text.push('u')?,
-        Datum::Known(number) => write!(text, "{number:x}")?,
-    }
-    Ok(())
+    put_datums(text, datums)
 }

@@ -207,11 +207,16 @@ fn killed(alloc: Global, text: &str) -> Result<Instr> {
     let mut ptrs = List::new(alloc);
     let mut datums = List::new(alloc);
     for word in text.split(' ').skip(1) {
-        match variable(word)? {
-            Operand::Pointer(number) => ptrs.push(number)?,
-            Operand::Datum(number) => datums.push(number)?,
-            _ => bail!("no variable"),
-        }
+        add_killed(word, &mut ptrs, &mut datums)?;
     }
     Ok(Instr::Kill { ptrs, datums })
+}
+
+fn add_killed(word: &str, ptrs: &mut List<u32>, datums: &mut List<u32>) -> Result<()> {
+    match variable(word)? {
+        Operand::Pointer(number) => ptrs.push(number)?,
+        Operand::Datum(number) => datums.push(number)?,
+        _ => bail!("no variable"),
+    }
+    Ok(())
 }

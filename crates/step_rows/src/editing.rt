@@ -10,19 +10,17 @@ ghost use Rattle.fa_edit.specs.Plain.{HasPlace, IsPlainAt};
 use crate::changes::{Change, change_of};
 use crate::showing::shown;
 use anyhow::{Context, Result, bail};
-use fa_core::faces::Face;
 use fa_core::forest::{Forest, Target};
 use fa_edit::{
     datum_of, is_plain_at, leaf_fits, leaf_of, with_cell, with_datum, with_leaf, with_vars,
 };
 use fa_sound::{Sound, component, have_no_boxes};
-use fa_split::has_one_top;
 use fore_base::list::List;
-use fore_base::shape::{FieldDef, FieldKind, Shape, Shapes};
+use fore_base::shape::FieldKind;
 use fore_base::store::Datum;
-use fore_base::text::Text;
-use row_forests::sound_from;
+use row_forests::{face_of, sound_from};
 use std::alloc::Global;
+use ta_core::single::has_one_top;
 
 const STRUCTS: &[&[FieldKind]] = &[
     &[
@@ -37,49 +35,41 @@ const STRUCTS: &[&[FieldKind]] = &[
 // The forest after the changes, or that one of them does not fit.
 pub fn edit(alloc: Global, texts: &[&str]) -> Result<String> {
     let changes = texts.first().context("no changes")?;
-    let mut forest = empty(alloc)?;
-    for text in changes.split(", ") {
-        match changed(alloc, &forest, change_of(text)?)? {
-            Some(made) => forest = made,
-            None => return misfit(alloc),
-        }
+    match edited(alloc, changes)? {
+        Some(forest) => shown(alloc, &forest),
+        None => Ok(String::from_str(alloc, "does not fit")?),
     }
-    shown(alloc, &forest)
 }
 
-fn misfit(alloc: Global) -> Result<String> {
-    Ok(format!(in alloc; "does not fit")?)
+// The forest after the changes, None where a leaf does not fit.
+fn edited(alloc: Global, changes: &str) -> Result<Option<Sound>> {
+    let mut forest = Some(empty(alloc)?);
+    for text in changes.split(", ") {
+        forest = next(alloc, forest, text)?;
+    }
+    Ok(forest)
+}
+
+fn next(alloc: Global, forest: Option<Sound>, text: &str) -> Result<Option<Sound>> {
+    match forest {
+        Some(forest) => changed(alloc, &forest, change_of(text)?),
+        None => Ok(None),
+    }
 }
 
 fn empty(alloc: Global) -> Result<Sound> {
-    let face = face(alloc)?;
+    let vars = List::filled(alloc, Target::Null, 2)?;
     let forest = Forest {
         autos: List::new(alloc),
-        vars: List::filled(alloc, Target::Null, 2)?,
+        vars,
         data_vars: List::new(alloc),
     };
-    sound_from(alloc, &face, &forest)
+    over_structs(alloc, &forest)
 }
 
-fn face(alloc: Global) -> Result<Face> {
-    let mut structs = List::new(alloc);
-    for kinds in STRUCTS {
-        structs.push(shape(alloc, kinds)?)?;
-    }
-    Ok(Face {
-        shapes: Shapes { structs },
-        boxes: List::new(alloc),
-    })
-}
-
-fn shape(alloc: Global, kinds: &[FieldKind]) -> Result<Shape> {
-    let mut fields = List::new(alloc);
-    for kind in kinds {
-        let name = Text::from_slice(alloc, b"field")?;
-        fields.push(FieldDef { name, kind: *kind })?;
-    }
-    let name = Text::from_slice(alloc, b"cell")?;
-    Ok(Shape { name, fields })
+fn over_structs(alloc: Global, forest: &Forest) -> Result<Sound> {
+    let face = face_of(alloc, STRUCTS)?;
+    sound_from(alloc, &face, forest)
 }
 
 // The forest after the change, None where a leaf does not fit.
@@ -133,7 +123,7 @@ fn fitted(
     leaf: Target,
 ) -> Result<Option<Sound>>
     requires plain { Every HasNoBoxes forest.now.forest.autos }
-    requires at { IsPlainAt forest.now.forest root field }
+    requires at { IsPlainAt forest.now.face.shapes.structs forest.now.forest root field }
     requires has { HasPlace forest.now.forest root field }
 {
     if !leaf_fits(forest, root, field, leaf) {

@@ -21,15 +21,21 @@ pub fn explore_graph<R: Threads + Sync>(
 ) -> Result<String> {
     let (height, budget) = numbers.split_once(' ').context("no budget")?;
     let text = texts.first().context("no graph")?;
-    let graph = graph_of(alloc, text)?;
-    let found = explored(
-        rt,
-        alloc,
-        &graph,
-        height.parse::<u32>()?,
-        budget.parse::<u32>()?,
-    )?;
+    let height = height.parse::<u32>()?;
+    let budget = budget.parse::<u32>()?;
+    let found = explored_text(rt, alloc, text, height, budget)?;
     shown(alloc, &found)
+}
+
+fn explored_text<R: Threads + Sync>(
+    rt: &R,
+    alloc: Global,
+    text: &str,
+    height: u32,
+    budget: u32,
+) -> Result<Explored> {
+    let graph = graph_of(alloc, text)?;
+    explored(rt, alloc, &graph, height, budget)
 }
 
 fn explored<R: Threads + Sync>(
@@ -55,13 +61,17 @@ fn explored<R: Threads + Sync>(
 
 fn shown(alloc: Global, found: &Explored) -> Result<String> {
     let mut text = String::new(alloc);
+    put_found(alloc, &mut text, found)?;
+    Ok(text)
+}
+
+fn put_found(alloc: Global, text: &mut String, found: &Explored) -> Result<()> {
     match found {
-        Explored::Closed { nodes } => put_nodes(alloc, &mut text, "closed", nodes)?,
-        Explored::Spent { nodes } => put_nodes(alloc, &mut text, "spent", nodes)?,
+        Explored::Closed { nodes } => put_nodes(alloc, text, "closed", nodes),
+        Explored::Spent { nodes } => put_nodes(alloc, text, "spent", nodes),
         Explored::Faulty { nodes, trace } => {
-            put_nodes(alloc, &mut text, "faulty", nodes)?;
-            put_trace(&mut text, trace)?;
+            put_nodes(alloc, text, "faulty", nodes)?;
+            put_trace(text, trace)
         }
     }
-    Ok(text)
 }

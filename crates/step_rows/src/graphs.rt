@@ -4,15 +4,15 @@
 // for each location, h for a loop head, and then its edges, each the locations from which and to which it leads, and
 // what it does. Its structs are those of the forests.
 
-ghost use Rattle.std.specs.Prelude.{◌≡◌, ◌↔◌, IfOk, IsTrue};
+ghost use Rattle.std.specs.Prelude.{◌≡◌, ◌↔◌, ◌≤◌, length, IfOk, IsTrue};
 ghost use Rattle.fore_base.specs.Lists.{Every};
 ghost use Rattle.c_cfg.specs.Graphs.{HasItsChoice};
 
 use crate::edges::edge;
 use anyhow::{Context, Result, bail};
 use c_cfg::graph::{Edge, Graph, Instr};
-use fa_core::faces::Face;
 use fore_base::list::List;
+use fore_base::shape::Shapes;
 use row_forests::face;
 use std::alloc::Global;
 
@@ -21,30 +21,32 @@ pub fn graph_of(alloc: Global, text: &str) -> Result<Graph> {
     let first = text.split(" / ").next().context("no variables")?;
     let (ptrs, rest) = first.split_once(' ').context("no data variables")?;
     let (datums, letters) = rest.split_once(' ').context("no locations")?;
-    let edges = edges_of(alloc, text)?;
+    let ptrs = ptrs.parse::<u32>()?;
+    let datums = datums.parse::<u32>()?;
     let heads = heads_of(alloc, letters)?;
-    graph(
-        alloc,
-        ptrs.parse::<u32>()?,
-        datums.parse::<u32>()?,
-        edges,
-        heads,
-    )
+    graph(alloc, ptrs, datums, heads, text)
 }
 
-fn graph(
+fn graph(alloc: Global, ptrs: u32, datums: u32, heads: List<bool>, text: &str) -> Result<Graph> {
+    let edges = edges_of(alloc, text)?;
+    if heads.is_empty() || heads.len() > 100 || edges.len() > 100 {
+        bail!("no location, or too many of them or of edges");
+    }
+    with_structs(alloc, ptrs, datums, edges, heads)
+}
+
+fn with_structs(
     alloc: Global,
     ptrs: u32,
     datums: u32,
     edges: List<Edge>,
     heads: List<bool>,
 ) -> Result<Graph>
-    requires { Every HasItsChoice edges }
+    requires edges { Every HasItsChoice edges }
+    requires heads { (1 ≤ length heads) × (length heads ≤ 100) }
+    requires few { length edges ≤ 100 }
 {
-    if heads.is_empty() || heads.len() > 100 || edges.len() > 100 {
-        bail!("no location, or too many of them or of edges");
-    }
-    let Face { shapes, .. } = face(alloc)?;
+    let shapes = shapes(alloc)?;
     Ok(Graph {
         locations: heads.len() as u32,
         ptrs,
@@ -53,6 +55,11 @@ fn graph(
         heads,
         shapes,
     })
+}
+
+fn shapes(alloc: Global) -> Result<Shapes> {
+    let face = face(alloc)?;
+    Ok(face.shapes)
 }
 
 fn heads_of(alloc: Global, letters: &str) -> Result<List<bool>> {

@@ -10,10 +10,10 @@ use anyhow::{Result, bail};
 use fa_core::forest::Target;
 use fa_edit::{datum_of, is_plain_at, leaf_of};
 use fa_sound::{Sound, component, have_no_boxes};
-use fa_split::has_one_top;
 use fore_base::store::Datum;
 use row_forests::put_targets;
 use std::alloc::Global;
+use ta_core::single::has_one_top;
 
 // The text of the forest.
 pub fn shown(alloc: Global, forest: &Sound) -> Result<String> {

@@ -31,9 +31,13 @@ pub fn step<R: Threads + Sync>(
 ) -> Result<String> {
     let (first, others) = texts.split_first().context("no forest")?;
     let edge = edge(alloc, 0, 1, what)?;
-    let given = sound(alloc, first)?;
-    let made = passed(rt, alloc, &given, &edge)?;
+    let made = stepped(rt, alloc, &edge, first)?;
     told(alloc, &made, others)
+}
+
+fn stepped<R: Threads + Sync>(rt: &R, alloc: Global, edge: &Edge, text: &str) -> Result<Post> {
+    let forest = sound(alloc, text)?;
+    passed(rt, alloc, &forest, edge)
 }
 
 fn passed<R: Threads + Sync>(rt: &R, alloc: Global, forest: &Sound, edge: &Edge) -> Result<Post>

@@ -9,11 +9,16 @@ use sym_step::posts::{Bad, Post};
 // in the order of the letters: that of the faults says nothing.
 pub fn told(alloc: Global, made: &Post, wanted: &[&str]) -> Result<String> {
     let mut text = letters(alloc, made.next.as_slice(), wanted)?;
-    let places = places(alloc, made.faults.as_slice(), wanted)?;
-    for letter in "abcdefghijklmnopqrstuvwxyz?".chars() {
-        put_faults(&mut text, made.faults.as_slice(), places.as_str(), letter)?;
-    }
+    put_all_faults(alloc, &mut text, made.faults.as_slice(), wanted)?;
     Ok(text)
+}
+
+fn put_all_faults(alloc: Global, text: &mut String, faults: &[Bad], wanted: &[&str]) -> Result<()> {
+    let places = places(alloc, faults, wanted)?;
+    for letter in "abcdefghijklmnopqrstuvwxyz?".chars() {
+        put_faults(text, faults, places.as_str(), letter)?;
+    }
+    Ok(())
 }
 
 // For each fault the letter of the forest at which it is met.

@@ -26,15 +26,28 @@ fn put_node(alloc: Global, text: &mut String, nodes: &Nodes, node: u32) -> Resul
     requires { node < length nodes.now }
 {
     put_head(text, nodes.head(node))?;
-    let forest = nodes.forest(alloc, node)?;
-    put_targets(text, forest.forest().vars.as_slice())?;
-    if nodes.middle(alloc, node)?.is_some() {
+    put_forest(alloc, text, nodes, node)?;
+    if is_abstracted(alloc, nodes, node)? {
         text.push_str(" *")?;
     }
     if !nodes.folds(node).is_empty() {
         text.push_str(" +")?;
     }
     Ok(())
+}
+
+fn put_forest(alloc: Global, text: &mut String, nodes: &Nodes, node: u32) -> Result<()>
+    requires { node < length nodes.now }
+{
+    let forest = nodes.forest(alloc, node)?;
+    put_targets(text, forest.forest().vars.as_slice())
+}
+
+fn is_abstracted(alloc: Global, nodes: &Nodes, node: u32) -> Result<bool>
+    requires { node < length nodes.now }
+{
+    let middle = nodes.middle(alloc, node)?;
+    Ok(middle.is_some())
 }
 
 fn put_head(text: &mut String, head: &NodeHead) -> Result<()> {

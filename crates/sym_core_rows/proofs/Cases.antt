@@ -14,15 +14,18 @@ use Rattle.fa_core.specs.declared.faces.Face.{Face}
 use Rattle.fa_core.specs.declared.forest.Forest.{Forest}
 use Rattle.fa_core.specs.declared.forest.Target.{Target}
 use Rattle.fa_core.specs.declared.forest.Target.TheVariants.{Null as NullTarget, Uninit as UninitTarget}
-use Rattle.fa_core.specs.Dressed.{no_nodes, more, Fact, value_in}
-use Rattle.fa_core.specs.Member.{store_facts, Stands}
+use Rattle.ta_core.specs.Auto.{automaton}
+use Rattle.fa_core.specs.Dressed.{Nodes, no_nodes, more, Fact, value_in}
+use Rattle.fa_core.specs.Member.{store_facts, Stands, StandsBy}
 use Rattle.fa_core.specs.Rearranged.{Rearranged, empty, keep, swap, chain}
-use Rattle.c_cfg.specs.Edges.{Pass, Passed, Faulted, NotPassed, gstep}
+use Rattle.c_cfg.specs.Edges.{Pass, Passed, Faulted, NotPassed, gstep, raw_step}
 use Rattle.c_cfg.specs.declared.graph.Edge.{Edge}
 use Rattle.c_cfg.specs.declared.graph.Instr.{Instr}
 use Rattle.c_cfg.specs.declared.graph.Instr.TheVariants.{LoadPtr, TestPtr, Stop}
 use Rattle.c_cfg.specs.declared.graph.PtrArg.TheVariants.{Var as PtrVar, Null as PtrNull}
+use Rattle.sym_core.specs.Carried.{Carries, AllGo}
 use Rattle.sym_core.specs.Cases.{BadAt, AllCases, CaseOf, IsTrueBad}
+use Rattle.sym_core.specs.Kept.{KeepsEdges, Keeps}
 
 abbrev face : Face
 face = record { shapes = record { structs = [] }; boxes = [] }
@@ -113,31 +116,33 @@ module _ (T : List BoxDef) where
   member_vars t s (no_nodes, h) = h.vars
   member_vars t s (more n d, h) = absurd h.of
 
+  null_by : StandsBy [] T null_forest no_nodes (store Null)
+  null_by =
+      record {
+        proper = record { differ = tt; below = tt; vars = (tt, tt); fields = tt };
+        fields = tt;
+        of = tt;
+        same_facts = empty;
+        vars = refl;
+        data_vars = refl;
+      }
+
   null_stands : Stands [] T null_forest (store Null)
-  null_stands = (
-    no_nodes,
-    record {
-      proper = record { differ = tt; below = tt; vars = (tt, tt); fields = tt };
-      fields = tt;
-      of = tt;
-      same_facts = empty;
-      vars = refl;
-      data_vars = refl;
-    },
-  )
+  null_stands = (no_nodes, null_by)
+
+  uninit_by : StandsBy [] T (only UninitTarget) no_nodes (store Uninit)
+  uninit_by =
+      record {
+        proper = record { differ = tt; below = tt; vars = (tt, tt); fields = tt };
+        fields = tt;
+        of = tt;
+        same_facts = empty;
+        vars = refl;
+        data_vars = refl;
+      }
 
   uninit_stands : Stands [] T (only UninitTarget) (store Uninit)
-  uninit_stands = (
-    no_nodes,
-    record {
-      proper = record { differ = tt; below = tt; vars = (tt, tt); fields = tt };
-      fields = tt;
-      of = tt;
-      same_facts = empty;
-      vars = refl;
-      data_vars = refl;
-    },
-  )
+  uninit_stands = (no_nodes, uninit_by)
 
   -- a store with an uninitialised variable is no member where it is null, and the other way
   differ : (v w : Value) → v ∷ [] ≡ w ∷ [] → kind v ≡ kind w
@@ -253,3 +258,95 @@ module _ (T : List BoxDef) where
   -- the members of a Bad are members of the forest before the edge
   not_of_the_forest : IsTrueBad face T null_forest load (bad UninitDeref UninitTarget) → ⊥
   not_of_the_forest h = uninit_is_not_null (h (store Uninit) uninit_stands).0
+
+  -- Kept: each dressed forest behind the edge comes from one before it.
+
+  no_edges : (t : Target) (d : Nodes) (s : Store) (to : ℕ → ℕ) (i : Instr) → StandsBy [] T (only t) d s
+      → KeepsEdges [] i s to d d
+  no_edges t no_nodes s to i m = λ c j. absurd j
+  no_edges t (more n d) s to i m = absurd m.of
+
+  null_kept : Keeps face T null_forest is_null null_forest
+  null_kept d u m =
+      record {
+        dressed = d;
+        was = u;
+        goes_to = u;
+        stands = m;
+        goes = passes u (d, m);
+        alike = alike_self u (d, m);
+        edges = no_edges NullTarget d u (alike_self u (d, m)).to is_null.instr m;
+      }
+
+  not_kept : Keeps face T null_forest is_null (only UninitTarget) → ⊥
+  not_kept h =
+      let w = h no_nodes (store Uninit) uninit_by in
+      let same : w.was ≡ w.goes_to = ap passed (sym (passes w.was (w.dressed, w.stands)) ∙ w.goes) in
+      let v : w.goes_to.vars ≡ Null ∷ [] =
+      ap (λ (s : Store). s.vars) (sym same) ∙ member_vars NullTarget w.was (w.dressed, w.stands) in
+      let z : 1 ≡ 0 = ap first (w.alike.vars ∙ ap (λ (vs : List Value). map (value_renamed w.alike.to) vs) v) in
+      omega (arith, z)
+
+  -- Carried: what an edit makes of the members, before the leak test.
+
+  abbrev test : Instr
+  test = TestPtr (PtrVar 0) PtrNull true
+
+  raw_passes : (s : Store) → Stands [] T null_forest s → raw_step [] test 0 s ≡ Passed s
+  raw_passes s h = let v = member_vars NullTarget s h in rw v refl
+
+  null_carried : Carries face T null_forest null_forest test 0
+  null_carried =
+      record {
+        forth = λ s h. record { next = s; goes = raw_passes s h; stands = h };
+        back = λ d u m. record {
+          dressed = d;
+          was = u;
+          goes_to = u;
+          stands = m;
+          goes = raw_passes u (d, m);
+          into = (d, m);
+          alike = alike_self u (d, m);
+          edges = no_edges NullTarget d u (alike_self u (d, m)).to test m;
+        };
+      }
+
+  -- a member that goes elsewhere is lost
+  carried_elsewhere : Carries face T null_forest (only UninitTarget) test 0 → ⊥
+  carried_elsewhere h =
+      let g = h.forth (store Null) null_stands in
+      let same : store Null ≡ g.next = ap passed (sym (raw_passes (store Null) null_stands) ∙ g.goes) in
+      null_is_not_uninit (subst (λ (s : Store). Stands [] T (only UninitTarget) s) (sym same) g.stands)
+
+  -- and none comes from one that goes elsewhere
+  comes_from_elsewhere : Carries face T null_forest (only UninitTarget) test 0 → ⊥
+  comes_from_elsewhere h =
+      let c = h.back no_nodes (store Uninit) uninit_by in
+      let same : c.was ≡ c.goes_to = ap passed (sym (raw_passes c.was (c.dressed, c.stands)) ∙ c.goes) in
+      let v : c.goes_to.vars ≡ Null ∷ [] =
+      ap (λ (s : Store). s.vars) (sym same) ∙ member_vars NullTarget c.was (c.dressed, c.stands) in
+      let z : 1 ≡ 0 = ap first (c.alike.vars ∙ ap (λ (vs : List Value). map (value_renamed c.alike.to) vs) v) in
+      omega (arith, z)
+
+  -- a forest without members: its one component has no tree
+  abbrev no_members : Forest
+  no_members = record { autos = automaton 0 [] [] ∷ []; vars = NullTarget ∷ []; data_vars = [] }
+
+  none_stands : (d : Nodes) (s : Store) → StandsBy [] T no_members d s → ⊥
+  none_stands no_nodes s m = m.of
+  none_stands (more n d) s m = m.of.0.1
+
+  -- where none is before the edit, none is behind it
+  invented_by_an_edit : Carries face T no_members null_forest test 0 → ⊥
+  invented_by_an_edit h =
+      let c = h.back no_nodes (store Null) null_by in
+      none_stands c.dressed c.was c.stands
+
+  -- each member meets the one outcome
+  all_fault : AllGo face T null_forest (LoadPtr 0 0 0) 0 (Faulted NullDeref)
+  all_fault s h = let v = member_vars NullTarget s h in rw v refl
+
+  not_all_stay : AllGo face T null_forest (LoadPtr 0 0 0) 0 NotPassed → ⊥
+  not_all_stay h =
+      let z : 0 ≡ 9 = ap faulted (sym (all_fault (store Null) null_stands) ∙ h (store Null) null_stands) in
+      omega (arith, z)

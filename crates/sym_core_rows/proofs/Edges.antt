@@ -185,3 +185,33 @@ null_does_not_free h = h
 
 kill_does_not_free : Frees (Kill (1 ∷ []) []) → ⊥
 kill_does_not_free h = h
+
+number_does_not_free : Frees (StoreConst 1 2 (ConstKnown 3)) → ⊥
+number_does_not_free h = h
+
+copy_does_not_free : Frees (CopyPtr 1 PtrNull) → ⊥
+copy_does_not_free h = h
+
+new_does_not_free : Frees (New 1 0) → ⊥
+new_does_not_free h = h
+
+copy_data_does_not_free : Frees (CopyData 1 (ArgKnown 2)) → ⊥
+copy_data_does_not_free h = h
+
+load_data_does_not_free : Frees (LoadData 1 2 3) → ⊥
+load_data_does_not_free h = h
+
+store_data_does_not_free : Frees (StoreData 1 2 3) → ⊥
+store_data_does_not_free h = h
+
+test_ptr_does_not_free : Frees (TestPtr (PtrVar 0) PtrNull true) → ⊥
+test_ptr_does_not_free h = h
+
+test_data_does_not_free : Frees (TestData (ArgKnown 0) (ArgKnown 0) true) → ⊥
+test_data_does_not_free h = h
+
+choose_does_not_free : Frees (Choose (Some 0)) → ⊥
+choose_does_not_free h = h
+
+stop_does_not_free : Frees (Stop true) → ⊥
+stop_does_not_free h = h

@@ -1,5 +1,6 @@
 -- Which box edges an edge of a graph keeps, on a forest of two cells with a Link from the one to the other.
-use Rattle.std.proofs.Common.{◌≡◌, ◌⊎◌, inl, inr, ℕ, ◌+◌, true, List, [], ◌∷◌, refl, sym, ap, subst, ◌∙◌, Option, Some}
+use Rattle.std.proofs.Common.{◌≡◌, ◌⊎◌, inl, inr, ℕ, ◌+◌, true, false, List, [], ◌∷◌, refl, sym, ap, subst, ◌∙◌, Option}
+use Rattle.std.proofs.Common.{Some}
 use Rattle.std.proofs.Common.{None, arith}
 use Rattle.std.proofs.lemmas.Option.{none-some}
 use Rattle.fore_base.specs.Lists.{IsIn}
@@ -18,11 +19,13 @@ use Rattle.c_cfg.specs.declared.graph.Instr.TheVariants.{CopyPtr, LoadPtr, Store
 use Rattle.c_cfg.specs.declared.graph.PtrArg.TheVariants.{Null as PtrNull}
 use Rattle.sym_core.specs.Kept.{base_of, Needs, Frees, CoversAt, GivesAt, IsEdgeOf, IsExcepted, HasBoxEdge, KeepsEdges}
 
--- Box 0 covers field 0 at its input and gives its output field 1. Cell 7 has the edge, which ends at cell 4; variable 0
--- is at cell 7, variable 1 at cell 4, and variable 2 is null.
+-- Box 0 covers field 0 at its input and gives its output field 1; box 1, which has no output, covers field 2. Cell 7
+-- has the edge of box 0, which ends at cell 4; variable 0 is at cell 7, variable 1 at cell 4, variable 2 is null, and
+-- variable 3 is at another cell, 9.
 
 abbrev bs : List BoxFace
-bs = record { input = 0; output = Some 0; gives_in = 0 ∷ []; gives_out = 1 ∷ []; back = true } ∷ []
+bs = record { input = 0; output = Some 0; gives_in = 0 ∷ []; gives_out = 1 ∷ []; back = true }
+    ∷ record { input = 0; output = None; gives_in = 2 ∷ []; gives_out = []; back = false } ∷ []
 
 abbrev before : Nodes
 before =
@@ -42,7 +45,7 @@ cells_before : cells before ≡ seven ∷ four ∷ []
 cells_before = refl
 
 abbrev store : Store
-store = record { vars = Cell 7 ∷ Cell 4 ∷ Null ∷ []; data_vars = []; cells = []; next = 8 }
+store = record { vars = Cell 7 ∷ Cell 4 ∷ Null ∷ Cell 9 ∷ []; data_vars = []; cells = []; next = 10 }
 
 -- each cell has ten more behind the graph's edge
 abbrev to : ℕ → ℕ
@@ -139,22 +142,23 @@ abbrev cell_number : Value → ℕ
 cell_number (Cell n) = n
 cell_number v = 99
 
-abbrev Why : Instr → ℕ → Type 0
-Why i n = (Frees i × (7 ≡ n)) ⊎ ((g : ℕ) × Needs i g × (((7 ≡ n) × CoversAt bs edge g) ⊎ GivesAt bs edge n g))
+abbrev Why : SeenCell → Seen → Instr → ℕ → Type 0
+Why c x i n = (Frees i × (c.cell ≡ n))
+    ⊎ ((g : ℕ) × Needs i g × (((c.cell ≡ n) × CoversAt bs x g) ⊎ GivesAt bs x n g))
 
 -- the cause, with the cell of the variable that is the base
-cause : (i : Instr) (b n : ℕ) → base_of i ≡ Some b → var_of store b ≡ Cell n → IsExcepted bs i store seven edge
-    → Why i n
-cause i b n e v h =
+cause : (c : SeenCell) (x : Seen) (i : Instr) (b n : ℕ) → base_of i ≡ Some b → var_of store b ≡ Cell n
+    → IsExcepted bs i store c x → Why c x i n
+cause c x i b n e v h =
     let same : h.base ≡ b = ap or_nine (sym h.is_base ∙ e) in
     let cell : h.cell ≡ n = ap cell_number (sym h.is_cell ∙ ap (λ (x : ℕ). var_of store x) same ∙ v) in
-    subst (λ (m : ℕ). Why i m) cell h.why
+    subst (λ (m : ℕ). Why c x i m) cell h.why
 
 -- field 1 of cell 7: the edge gives it to cell 4, and covers field 0 here
 other_field_at_input : IsExcepted bs (LoadPtr 5 0 1) store seven edge → ⊥
-other_field_at_input h = by (cause (LoadPtr 5 0 1) 0 7 refl refl h)
+other_field_at_input h = by (cause seven edge (LoadPtr 5 0 1) 0 7 refl refl h)
   where
-    by : Why (LoadPtr 5 0 1) 7 → ⊥
+    by : Why seven edge (LoadPtr 5 0 1) 7 → ⊥
     by (inl w) = w.0
     by (inr (g, n, inl (c, inl e))) = omega (arith, n, e)
     by (inr (g, n, inl (c, inr x))) = x
@@ -162,9 +166,9 @@ other_field_at_input h = by (cause (LoadPtr 5 0 1) 0 7 refl refl h)
 
 -- field 0 of cell 4: the edge covers it at cell 7, and gives field 1 here
 other_field_at_output : IsExcepted bs (LoadPtr 5 1 0) store seven edge → ⊥
-other_field_at_output h = by (cause (LoadPtr 5 1 0) 1 4 refl refl h)
+other_field_at_output h = by (cause seven edge (LoadPtr 5 1 0) 1 4 refl refl h)
   where
-    by : Why (LoadPtr 5 1 0) 4 → ⊥
+    by : Why seven edge (LoadPtr 5 1 0) 4 → ⊥
     by (inl w) = w.0
     by (inr (g, n, inl (c, i))) = omega (arith, c)
     by (inr (g, n, inr (e, inl i))) = omega (arith, n, i)
@@ -172,9 +176,9 @@ other_field_at_output h = by (cause (LoadPtr 5 1 0) 1 4 refl refl h)
 
 -- a datum of cell 7 is read
 datum_read : IsExcepted bs (LoadData 5 0 0) store seven edge → ⊥
-datum_read h = by (cause (LoadData 5 0 0) 0 7 refl refl h)
+datum_read h = by (cause seven edge (LoadData 5 0 0) 0 7 refl refl h)
   where
-    by : Why (LoadData 5 0 0) 7 → ⊥
+    by : Why seven edge (LoadData 5 0 0) 7 → ⊥
     by (inl w) = w.0
     by (inr (g, n, w)) = n
 
@@ -192,8 +196,63 @@ at_no_cell h =
     by n e = let z : 0 ≡ 1 = ap (λ (v : Value). kind v) e in omega (arith, z)
 
 -- a copy of a pointer has no base
+copy_excepts : (c : SeenCell) (x : Seen) → IsExcepted bs (CopyPtr 0 PtrNull) store c x → ⊥
+copy_excepts c x h = none-some h.base h.is_base
+
 copy_excepts_nothing : IsExcepted bs (CopyPtr 0 PtrNull) store seven edge → ⊥
-copy_excepts_nothing h = none-some h.base h.is_base
+copy_excepts_nothing h = copy_excepts seven edge h
+
+-- another cell is freed
+freed_elsewhere : IsExcepted bs (Free 3) store seven edge → ⊥
+freed_elsewhere h = by (cause seven edge (Free 3) 3 9 refl refl h)
+  where
+    by : Why seven edge (Free 3) 9 → ⊥
+    by (inl w) = let z : 7 ≡ 9 = w.1 in omega (arith, z)
+    by (inr (g, n, inl (c, i))) = omega (arith, c)
+    by (inr (g, n, inr (e, i))) = let z : 4 ≡ 9 = ap cell_number e in omega (arith, z)
+
+-- A Hook of box 1 at cell 9: it covers field 2 there, and gives nothing.
+
+abbrev hook_edge : Seen
+hook_edge = SeenHook 1 no_nodes
+
+abbrev nine : SeenCell
+nine = record { cell = 9; shape = 0; datums = []; slots = hook_edge ∷ [] }
+
+hook_read_where_it_covers : IsExcepted bs (LoadPtr 5 3 2) store nine hook_edge
+hook_read_where_it_covers = record {
+  base = 3;
+  is_base = refl;
+  cell = 9;
+  is_cell = refl;
+  why = inr (2, refl, inl (refl, inl refl));
+}
+
+hook_at_another_field : IsExcepted bs (LoadPtr 5 3 0) store nine hook_edge → ⊥
+hook_at_another_field h = by (cause nine hook_edge (LoadPtr 5 3 0) 3 9 refl refl h)
+  where
+    by : Why nine hook_edge (LoadPtr 5 3 0) 9 → ⊥
+    by (inl w) = w.0
+    by (inr (g, n, inl (c, inl e))) = omega (arith, n, e)
+    by (inr (g, n, inl (c, inr x))) = x
+    by (inr (g, n, inr x)) = x
+
+-- A field is no box edge, covers nothing as one, and gives nothing.
+
+field_is_no_edge : IsEdgeOf 0 (SeenField 0 Null) → ⊥
+field_is_no_edge h = h
+
+field_covers_nothing : CoversAt bs (SeenField 0 Null) 0 → ⊥
+field_covers_nothing h = h
+
+field_gives_nothing : GivesAt bs (SeenField 1 (Cell 4)) 4 1 → ⊥
+field_gives_nothing h = h
+
+hook_gives_nothing : GivesAt bs hook_edge 9 1 → ⊥
+hook_gives_nothing h = h
+
+hook_of_its_box : IsEdgeOf 1 hook_edge
+hook_of_its_box = refl
 
 -- Kept.
 
@@ -268,3 +327,46 @@ none_other (c, inr z, n, w) = z
 
 other_box_without_need : KeepsEdges bs (CopyPtr 0 PtrNull) store to before other_box → ⊥
 other_box_without_need h = none_other (h seven (inl refl) edge (inl refl) 0 refl copy_excepts_nothing)
+
+-- A Hook is an edge too.
+
+abbrev hooked : Nodes
+hooked = more (node 9 0 [] (hook 1 no_nodes no_parts)) no_nodes
+
+abbrev still_hooked : Nodes
+still_hooked = more (node 19 0 [] (hook 1 no_nodes no_parts)) no_nodes
+
+abbrev unhooked : Nodes
+unhooked = more (node 19 0 [] (field 2 (leaf NullTarget) no_parts)) no_nodes
+
+hook_dropped_without_need : KeepsEdges bs (CopyPtr 0 PtrNull) store to hooked unhooked → ⊥
+hook_dropped_without_need h = none (h nine (inl refl) hook_edge (inl refl) 1 refl (copy_excepts nine hook_edge))
+  where
+    none : HasBoxEdge (cells unhooked) 19 1 → ⊥
+    none (c, inl e, n, (x, j, k)) = slots (subst (λ (o : SeenCell). IsIn x o.slots) e j)
+      where
+        slots : IsIn x (SeenField 2 Null ∷ []) → ⊥
+        slots (inl f) = subst (λ (y : Seen). IsEdgeOf 1 y) f k
+        slots (inr z) = z
+    none (c, inr z, n, w) = z
+
+hook_edges : (c : SeenCell) (x : Seen) (b : ℕ) → IsIn c (cells hooked) → IsIn x c.slots → IsEdgeOf b x
+    → (c ≡ nine) × (b ≡ 1)
+hook_edges c x b (inl e) j k = slot (subst (λ (o : SeenCell). IsIn x o.slots) e j)
+  where
+    slot : IsIn x (hook_edge ∷ []) → (c ≡ nine) × (b ≡ 1)
+    slot (inl f) = (e, sym (subst (λ (y : Seen). IsEdgeOf b y) f k))
+    slot (inr z) = absurd z
+hook_edges c x b (inr z) j k = absurd z
+
+hook_kept : KeepsEdges bs (CopyPtr 0 PtrNull) store to hooked still_hooked
+hook_kept c j x k b e n =
+    let w = hook_edges c x b j k e in
+    let p = w.0 in
+    let q = w.1 in
+    rw (p, q) (
+      record { cell = 19; shape = 0; datums = []; slots = hook_edge ∷ [] },
+      inl refl,
+      refl,
+      (hook_edge, inl refl, refl),
+    )

@@ -1,3 +1,4 @@
 pub mod Cases
 pub mod Edges
+pub mod Explicit
 pub mod Kept

@@ -152,7 +152,8 @@ module _ (G : SoundForest) (r p : ℕ) (e : Edge) (sound : IsSound G.face G.fore
         here : IsSplitOf [] G.forest r p s.forest → IsShown G.forest r (p + 1) s.forest
         here (inl (y, m, is, c, d)) =
             subst (λ (H : Forest). IsShown G.forest r (p + 1) H) (sym is)
-            (shown_next G.forest (refers_well G.face G.forest sound) shown.tops r p ranked can shown y
+            (shown_next G.face.shapes.structs G.forest (refers_well G.face G.forest sound) shown.tops r p ranked can
+            shown y
             (split_leaf G.forest r p y) (leaf_piece G.forest r p ranked can y)
             (leaf_count G.forest r p ranked can y))
         here (inr (m, is, d)) = absurd
@@ -213,12 +214,12 @@ module _ (G : SoundForest) (r p : ℕ) (e : Edge) (sound : IsSound G.face G.fore
     pub child_opened : IsOpening G.face G.forest e (IsShown G.forest r (p + 1)) [] kept lost
     child_opened = record {
       stepping = record {
-        whole = λ T t h. in_piece T t (members_split G.face.shapes.structs T G.forest (forests ss) (whole T) t h);
+        whole = λ T k t h. in_piece T t (members_split G.face.shapes.structs T G.forest (forests ss) (whole T) t h);
         regroups = λ T. every_map (λ (s : SoundForest). s.forest) (Regroups T G.forest) kept
             (in_every (λ (s : SoundForest). Regroups T G.forest s.forest) kept
             (λ s i. piece_regroups T s (kept_in n ss s i).0));
-        keeps = λ T. tt;
-        bads = λ T. every_map (λ (b : Bad). record { fault = b.fault; at = b.at.forest })
+        keeps = λ T k. tt;
+        bads = λ T k. every_map (λ (b : Bad). record { fault = b.fault; at = b.at.forest })
             (IsTrueBad G.face T G.forest e) lost
             (in_every (λ (b : Bad). IsTrueBad G.face T G.forest e (record { fault = b.fault; at = b.at.forest })) lost
             (λ b i. lost_true T b i));
@@ -297,10 +298,10 @@ pub all_ready : (face : Face) (F : Forest) (e : Edge) (P : Forest → Type 0) (s
     → Every P (forests ss) → Every (IsLike face F) ss → IsOpening face F e P [] ss []
 all_ready face F e P ss regroup whole p like = record {
   stepping = record {
-    whole = λ T s h. inl (members_split face.shapes.structs T F (forests ss) (whole T) s h);
+    whole = λ T t s h. inl (members_split face.shapes.structs T F (forests ss) (whole T) s h);
     regroups = regroup;
-    keeps = λ T. tt;
-    bads = λ T. tt;
+    keeps = λ T t. tt;
+    bads = λ T t. tt;
   };
   ready = p;
   like = like;
@@ -356,23 +357,26 @@ module _ (G : SoundForest) (e : Edge) (sound : IsSound G.face G.forest) (ranked 
 
   module _ (b f r p : ℕ) (needs : AreNeeds e.instr (Field b f)) (at : target_at G.forest b ≡ At r)
       (can : CanSplit G.forest r p) (is : place_at G.forest r f ≡ Some p) where
-    piece_explicit : (H : Forest) → IsSplitOf [] G.forest r p H → IsExplicit H e.instr
+    piece_explicit : (H : Forest) → IsSplitOf [] G.forest r p H → IsExplicit G.face.shapes.structs H e.instr
     piece_explicit H (inl (y, m, q, c, d)) =
-        subst (λ (K : Forest). IsExplicit K e.instr) (sym q)
-        (piece_shown G.forest (refers_well G.face G.forest sound) tops e.instr b f r needs at p ranked can is y
+        subst (λ (K : Forest). IsExplicit G.face.shapes.structs K e.instr) (sym q)
+        (piece_shown G.face.shapes.structs G.forest (refers_well G.face G.forest sound) tops e.instr b f r needs at p
+        ranked can is y
         (split_leaf G.forest r p y) (leaf_piece G.forest r p ranked can y))
     piece_explicit H (inr (m, q, d)) =
-        subst (λ (K : Forest). IsExplicit K e.instr) (sym q)
-        (piece_shown G.forest (refers_well G.face G.forest sound) tops e.instr b f r needs at p ranked can is
+        subst (λ (K : Forest). IsExplicit G.face.shapes.structs K e.instr) (sym q)
+        (piece_shown G.face.shapes.structs G.forest (refers_well G.face G.forest sound) tops e.instr b f r needs at p
+        ranked can is
         (At (length G.forest.autos)) (split_cells G.forest r p) (cells_piece G.forest r p ranked can))
 
     pub field_opened : (ss : List SoundForest) → ((T : List BoxDef) → Every (IsSplitOf T G.forest r p) (forests ss))
         → ((T : List BoxDef) → Every (Regroups T G.forest) (forests ss))
         → ((T : List BoxDef) → RegroupsInto T G.forest (forests ss)) → Every (λ (s : SoundForest). s.face ≡ G.face) ss
         → Every (HasVarsOf G.forest) (forests ss) → Every (λ (H : Forest). Every HasNoBoxes H.autos) (forests ss)
-        → IsOpening G.face G.forest e (λ (H : Forest). IsExplicit H e.instr) [] ss []
+        → IsOpening G.face G.forest e (λ (H : Forest). IsExplicit G.face.shapes.structs H e.instr) [] ss []
     field_opened ss dressed regroup whole faces vars boxless =
-        all_ready G.face G.forest e (λ (H : Forest). IsExplicit H e.instr) ss regroup whole
-        (every_weaker (IsSplitOf [] G.forest r p) (λ (H : Forest). IsExplicit H e.instr) (forests ss) piece_explicit
+        all_ready G.face G.forest e (λ (H : Forest). IsExplicit G.face.shapes.structs H e.instr) ss regroup whole
+        (every_weaker (IsSplitOf [] G.forest r p) (λ (H : Forest). IsExplicit G.face.shapes.structs H e.instr)
+        (forests ss) piece_explicit
         (dressed []))
         (pieces_like ss faces vars boxless)

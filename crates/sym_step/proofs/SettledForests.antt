@@ -4,6 +4,7 @@ use Rattle.fore_base.specs.Lists.{IsIn, Every}
 use Rattle.fore_base.specs.declared.store.Store.{Store}
 use Rattle.fore_base.specs.declared.fault.Fault.{Fault}
 use Rattle.fore_base.proofs.ListLemmas.{in_map, every_in, in_every, every_append, every_weaker, every_map}
+use Rattle.fa_core.specs.Boxes.{IsTableOf}
 use Rattle.fa_core.specs.Boxless.{HasNoBoxes}
 use Rattle.fa_core.specs.Canonical.{IsCanonical}
 use Rattle.fa_core.specs.Covering.{Reduced}
@@ -14,7 +15,6 @@ use Rattle.fa_core.specs.declared.forest.Target.{Target}
 use Rattle.fa_core.specs.Dressed.{Nodes, value_in, roots_of}
 use Rattle.fa_core.specs.Member.{OfForest, StandsBy}
 use Rattle.fa_sound.specs.Soundness.{SoundForest}
-use Rattle.fa_merge.specs.Reached.{HasMembers}
 use Rattle.fa_split.specs.Divided.{forests, HasVarsOf}
 use Rattle.fa_split.proofs.Steps.{forests_both}
 use Rattle.fa_join.specs.Joined.{IsJoined}
@@ -26,7 +26,7 @@ use Rattle.sym_core.specs.Kept.{Keeps}
 use Rattle.sym_step.specs.Posts.{bads, HasAsMany}
 use Rattle.sym_step.specs.declared.posts.Bad.{Bad}
 use Rattle.sym_step.specs.inner.Opening.{IsOpening}
-use Rattle.sym_step.specs.inner.Stepping.{IsStepping, IsLike, IsNext, IsSettling}
+use Rattle.sym_step.specs.inner.Stepping.{HasDressed, IsStepping, IsLike, IsNext, IsSettling}
 use Rattle.sym_step.proofs.OpenedForests.{like_on, like_self, bads_both}
 use Rattle.sym_step.proofs.Stepping.{one_taken, none_left}
 
@@ -95,18 +95,17 @@ module _ (face : Face) (F : Forest) (e : Edge) (Ns Ms : List Forest) (Bs : List 
 
   pub stepping_joined : IsStepping face F e [] Ns Bs → IsStepping face F e [] Ms Bs
   stepping_joined a = record {
-    whole = λ T s h. elim (a.whole T s h)
+    whole = λ T t s h. elim (a.whole T t s h)
         [ inl k ↦ inl k | inr k ↦ inr (met_joined T s (gstep face.shapes.structs e s) k) ];
     regroups = λ T. tt;
-    keeps = λ T. in_every (Keeps face T F e) Ms (λ M i. keeps_joined T (a.keeps T) M i);
+    keeps = λ T t. in_every (Keeps face T F e) Ms (λ M i. keeps_joined T (a.keeps T t) M i);
     bads = a.bads;
   }
 
-  -- a joined forest has members, and so the variables of one of those that were joined
-  pub joined_many : Every (HasAsMany F) Ns → (M : Forest) → IsIn M Ms → HasMembers face M → HasAsMany F M
+  -- a joined forest has a dressed forest, and so the variables of one of those that were joined
+  pub joined_many : Every (HasAsMany F) Ns → (M : Forest) → IsIn M Ms → HasDressed M → HasAsMany F M
   joined_many many M i has =
-      let m = has [] in
-      let k = (joined []).only M i m.1.0 m.1.1.of in
+      let k = (joined []).only M i has.0 has.1 in
       let n = every_in (HasAsMany F) Ns k.0 many k.1 in
       (ap (λ (ts : List Target). length ts) (sym k.2.0) ∙ n.0, ap (λ ds. length ds) (sym k.2.1) ∙ n.1)
 
@@ -152,12 +151,12 @@ keeps_cases face T F M e w u (d, m) =
 
 module _ (face : Face) (F : Forest) (e : Edge) (made : List SoundForest) (faults : List Bad)
     (a : IsSettling face F e [] made faults) where
-  pub settled_all : (T : List BoxDef) → AllCases face T F e (forests made) (bads faults)
-  settled_all T = none_left face e F (forests made) (bads faults) a.stepping T
+  pub settled_all : (T : List BoxDef) → IsTableOf face T → AllCases face T F e (forests made) (bads faults)
+  settled_all T t = none_left face e F (forests made) (bads faults) a.stepping T t
 
-  pub settled_cases : (T : List BoxDef) → Every (CaseOf face T F e) (forests made)
-  settled_cases T = every_weaker (Keeps face T F e) (CaseOf face T F e) (forests made)
-      (λ M k. keeps_cases face T F M e k) (a.stepping.keeps T)
+  pub settled_cases : (T : List BoxDef) → IsTableOf face T → Every (CaseOf face T F e) (forests made)
+  settled_cases T t = every_weaker (Keeps face T F e) (CaseOf face T F e) (forests made)
+      (λ M k. keeps_cases face T F M e k) (a.stepping.keeps T t)
 
   pub settled_canonical : Every (λ (s : SoundForest). IsCanonical s.face s.forest) made
   settled_canonical = every_weaker (IsNext face F) (λ (s : SoundForest). IsCanonical s.face s.forest) made
@@ -195,7 +194,7 @@ module _ (face : Face) (F : Forest) (e : Edge) (made : List SoundForest) (faults
       → Every (λ (s : SoundForest). Reduced s.forest) joined
       → Every (λ (s : SoundForest). Every HasNoBoxes s.forest.autos) joined
       → Every (λ (s : SoundForest). s.face ≡ face) joined
-      → Every (λ (s : SoundForest). HasMembers s.face s.forest) joined → IsSettling face F e [] joined faults
+      → Every (λ (s : SoundForest). HasDressed s.forest) joined → IsSettling face F e [] joined faults
   settled_joined joined same canonical reduced plain faces some = record {
     stepping = stepping_joined face F e (forests made) (forests joined) (bads faults) same a.stepping;
     next = in_every (IsNext face F) joined (λ s i. record {
@@ -204,15 +203,11 @@ module _ (face : Face) (F : Forest) (e : Edge) (made : List SoundForest) (faults
         plain = every_in (λ (t : SoundForest). Every HasNoBoxes t.forest.autos) joined s plain i;
         counts = joined_many face F e (forests made) (forests joined) (bads faults) same
             (every_map (λ (t : SoundForest). t.forest) (HasAsMany F) made settled_counts) s.forest
-            (in_map (λ (t : SoundForest). t.forest) s joined i) (member s i);
+            (in_map (λ (t : SoundForest). t.forest) s joined i)
+            (every_in (λ (t : SoundForest). HasDressed t.forest) joined s some i);
       };
       canonical = every_in (λ (t : SoundForest). IsCanonical t.face t.forest) joined s canonical i;
       reduced = every_in (λ (t : SoundForest). Reduced t.forest) joined s reduced i;
     });
     bad_like = a.bad_like;
   }
-    where
-      member : (s : SoundForest) → IsIn s joined → HasMembers face s.forest
-      member s i = subst (λ (f : Face). HasMembers f s.forest)
-          (every_in (λ (t : SoundForest). t.face ≡ face) joined s faces i)
-          (every_in (λ (t : SoundForest). HasMembers t.face t.forest) joined s some i)

@@ -3,6 +3,7 @@ use Rattle.std.proofs.Common.{◌≡◌, ◌⊎◌, inl, inr, ℕ, zero, suc, �
 use Rattle.std.proofs.Common.{◌∙◌, Option, Some, None, slice_index_or, arith}
 use Rattle.std.proofs.lemmas.Option.{none-some}
 use Rattle.fore_base.specs.Lists.{IsIn, Every}
+use Rattle.fore_base.specs.declared.shape.Shape.{Shape}
 use Rattle.ta_core.specs.Auto.{Automaton, IsRanked}
 use Rattle.ta_core.specs.Single.{HasOneTop}
 use Rattle.ta_core.specs.declared.symbol.Symbol.{Symbol}
@@ -15,7 +16,8 @@ use Rattle.fa_merge.proofs.PlacedForests.{component_has}
 use Rattle.fa_split.specs.Split.{CanSplit}
 use Rattle.fa_split.proofs.SplitCells.{RefersWell}
 use Rattle.c_cfg.specs.declared.graph.Instr.{Instr}
-use Rattle.fa_edit.specs.Plain.{field_place, place_at, IsLeafPlace, IsPlainAt}
+use Rattle.fa_edit.specs.Fits.{shape_at, symbol_shape}
+use Rattle.fa_edit.specs.Plain.{StructLacks, field_place, place_at, IsLeafPlace, IsPlainAt}
 use Rattle.sym_core.specs.Explicit.{target_at, IsExplicit}
 use Rattle.sym_step.specs.inner.Needing.{AreNeeds}
 use Rattle.sym_step.specs.declared.needs.Needed.TheVariants.{Nothing, Field, Cell}
@@ -54,7 +56,7 @@ below_next (suc k) zero l = absurd (omega (arith, l))
 below_next (suc k) (suc p) l =
     elim (below_next k p (omega (arith, l))) [ inl e ↦ inl (ap (λ (n : ℕ). suc n) e) | inr m ↦ inr (omega (arith, m)) ]
 
-module _ (F : Forest) (well : RefersWell F) (tops : Every HasOneTop F.autos) where
+module _ (hs : List Shape) (F : Forest) (well : RefersWell F) (tops : Every HasOneTop F.autos) where
   -- the root of a variable is there
   pub root_there : (b r : ℕ) → target_at F b ≡ At r → r < length F.autos
   root_there b r h = well.vars r (target_in F.vars b r h)
@@ -63,12 +65,12 @@ module _ (F : Forest) (well : RefersWell F) (tops : Every HasOneTop F.autos) whe
   var_tops r i = component_has HasOneTop F.autos r tops (well.vars r i)
 
   -- where the edge needs no field, the forest shows all
-  pub nothing_shown : (i : Instr) → AreNeeds i Nothing → IsExplicit F i
+  pub nothing_shown : (i : Instr) → AreNeeds i Nothing → IsExplicit hs F i
   nothing_shown i none = record { tops = var_tops; plain = λ b r f e t n. absurd (none b f e n) }
 
   -- where the variable is at no root, there is nothing to show
   pub no_root_shown : (i : Instr) (b f : ℕ) → AreNeeds i (Field b f) → ((r : ℕ) → target_at F b ≡ At r → ⊥)
-      → IsExplicit F i
+      → IsExplicit hs F i
   no_root_shown i b f needs none =
       record {
         tops = var_tops;
@@ -76,7 +78,8 @@ module _ (F : Forest) (well : RefersWell F) (tops : Every HasOneTop F.autos) whe
             absurd (none r (subst (λ (x : ℕ). target_at F x ≡ At r) (needs c g e n).0 t));
       }
 
-  pub no_cell_shown : (i : Instr) (b : ℕ) → AreNeeds i (Cell b) → ((r : ℕ) → target_at F b ≡ At r → ⊥) → IsExplicit F i
+  pub no_cell_shown : (i : Instr) (b : ℕ) → AreNeeds i (Cell b) → ((r : ℕ) → target_at F b ≡ At r → ⊥) → IsExplicit hs
+      F i
   no_cell_shown i b needs none =
       record {
         tops = var_tops;
@@ -89,22 +92,23 @@ module _ (F : Forest) (well : RefersWell F) (tops : Every HasOneTop F.autos) whe
 
   module _ (i : Instr) (b f r : ℕ) (needs : AreNeeds i (Field b f)) (at : target_at F b ≡ At r) where
     -- a cell without the field shows it
-    pub no_field_shown : place_at F r f ≡ None → IsExplicit F i
-    no_field_shown none = record {
+    pub no_field_shown : place_at F r f ≡ None → StructLacks hs (shape_at F r) f → IsExplicit hs F i
+    no_field_shown none lacked = record {
       tops = var_tops;
       plain = λ c q g e t n.
           let w = needs c g e n in
           let same : q ≡ r = same_root b c r q at t w.0 in
-          subst (λ (x : ℕ). IsPlainAt F x g) (sym same) (record {
+          subst (λ (x : ℕ). IsPlainAt hs F x g) (sym same) (record {
             root = root_there b r at;
             top = component_has HasOneTop F.autos r tops (root_there b r at);
             leaf = λ k h. absurd (none-some k (sym none ∙ (ap (λ (x : ℕ). place_at F r x) (sym w.1) ∙ h)));
+            lacks = λ h. subst (StructLacks hs (shape_at F r)) (sym w.1) lacked;
           });
     }
 
     -- so does a piece with a leaf in its place
     pub piece_shown : (p : ℕ) → Every IsRanked F.autos → (can : CanSplit F r p) → place_at F r f ≡ Some p
-        → (y : Target) (G : Forest) → IsPiece F r p y G → IsExplicit G i
+        → (y : Target) (G : Forest) → IsPiece F r p y G → IsExplicit hs G i
     piece_shown p ranked can is y G piece = record {
       tops = λ k j. tops_stay F r p ranked can tops y G piece k
           (well.vars k (subst (λ (vs : List Target). IsIn (At k) vs) piece.vars j));
@@ -112,7 +116,7 @@ module _ (F : Forest) (well : RefersWell F) (tops : Every HasOneTop F.autos) whe
           let w = needs c g e n in
           let same : q ≡ r = same_root b c r q at
           (ap (λ (vs : List Target). slice_index_or vs c Uninit) (sym piece.vars) ∙ t) w.0 in
-          subst (λ (x : ℕ). IsPlainAt G x g) (sym same) (record {
+          subst (λ (x : ℕ). IsPlainAt hs G x g) (sym same) (record {
             root = (let l = can.root in let m = piece.few in omega (arith, l, m));
             top = tops_stay F r p ranked can tops y G piece r can.root;
             leaf = λ k h. (
@@ -123,6 +127,9 @@ module _ (F : Forest) (well : RefersWell F) (tops : Every HasOneTop F.autos) whe
                   ∙ (sym (place_there F r p ranked can tops y G piece f)
                   ∙ (ap (λ (x : ℕ). place_at G r x) (sym w.1) ∙ h)))) (leaf_there F r p ranked can tops y G piece),
             );
+            lacks = λ h.
+                absurd (none-some p (sym h ∙ (ap (λ (x : ℕ). place_at G r x) w.1
+                ∙ (place_there F r p ranked can tops y G piece f ∙ is))));
           });
     }
       where
@@ -167,8 +174,9 @@ module _ (F : Forest) (well : RefersWell F) (tops : Every HasOneTop F.autos) whe
 
   -- where each place is shown, the forest shows what a free needs
   pub cell_shown : (i : Instr) (b r : ℕ) → AreNeeds i (Cell b) → target_at F b ≡ At r → Every IsRanked F.autos
-      → (G : Forest) → IsShown F r (width F r) G → IsExplicit G i
-  cell_shown i b r needs at ranked G shown = record {
+      → ((g : ℕ) → place_at F r g ≡ None → StructLacks hs (shape_at F r) g) → (G : Forest) → IsShown F r (width F r) G
+      → IsExplicit hs G i
+  cell_shown i b r needs at ranked lacked G shown = record {
     tops = λ k j. component_has HasOneTop G.autos k shown.tops
         (let l = well.vars k (subst (λ (vs : List Target). IsIn (At k) vs) shown.vars j) in let w = shown.count in
         omega (arith, l, w));
@@ -177,13 +185,16 @@ module _ (F : Forest) (well : RefersWell F) (tops : Every HasOneTop F.autos) whe
         (ap (λ (vs : List Target). slice_index_or vs c Uninit) (sym shown.vars) ∙ t) (needs.1 c e) in
         let low : r < length F.autos = root_there b r at in
         let there : r < length G.autos = (let w = shown.count in omega (arith, low, w)) in
-        subst (λ (x : ℕ). IsPlainAt G x g) (sym same) (record {
+        subst (λ (x : ℕ). IsPlainAt hs G x g) (sym same) (record {
           root = there;
           top = component_has HasOneTop G.autos r shown.tops there;
           leaf = λ k h. shown.leaves k
               (field_within (component_at F.autos r) g k (component_has IsRanked F.autos r ranked low)
               (component_has HasOneTop F.autos r tops low)
               (ap (λ (x : Symbol). field_place g (symbol_slots x)) (sym shown.symbol) ∙ h));
+          lacks = λ h.
+              subst (λ (x : Symbol). StructLacks hs (symbol_shape x) g) (sym shown.symbol)
+              (lacked g (ap (λ (x : Symbol). field_place g (symbol_slots x)) (sym shown.symbol) ∙ h));
         });
   }
 

@@ -9,6 +9,7 @@ use Rattle.fore_base.proofs.ListLemmas.{in_left, in_right, every_append, every_w
 use Rattle.fa_core.specs.declared.boxes.BoxDef.{BoxDef}
 use Rattle.fa_core.specs.declared.faces.Face.{Face}
 use Rattle.fa_core.specs.declared.forest.Forest.{Forest}
+use Rattle.fa_core.specs.Boxes.{IsTableOf}
 use Rattle.fa_core.specs.Member.{Stands, Regroups, RegroupsInto}
 use Rattle.fa_core.proofs.Composed.{regroups_on, regroups_same}
 use Rattle.fa_core.proofs.Regrouped.{members_split}
@@ -35,10 +36,10 @@ module _ (face : Face) (e : Edge) where
   -- at the beginning the forest itself is still to go
   pub begins : (F : Forest) → IsStepping face F e (F ∷ []) [] []
   begins F = record {
-    whole = λ T s h. inl (F, inl refl, h);
+    whole = λ T t s h. inl (F, inl refl, h);
     regroups = λ T. (regroups_same T F, tt);
-    keeps = λ T. tt;
-    bads = λ T. tt;
+    keeps = λ T t. tt;
+    bads = λ T t. tt;
   }
 
   -- one forest is taken along the edge
@@ -59,31 +60,31 @@ module _ (face : Face) (e : Edge) where
     of_one T s (inl (H, i, h)) = inl (H, in_right H Gs Hs i, h)
     of_one T s (inr h) = inr (new_met T s (gstep face.shapes.structs e s) h)
 
-    of_all : (T : List BoxDef) (s : Store) → StandsInOne face T (G ∷ Gs) s
+    of_all : (T : List BoxDef) → IsTableOf face T → (s : Store) → StandsInOne face T (G ∷ Gs) s
         ⊎ IsMet face T Ns Bs s (gstep face.shapes.structs e s) → Left T s
-    of_all T s (inl (H, inl q, h)) =
-        of_one T s (b.whole T s (subst (λ (X : Forest). Stands face.shapes.structs T X s) q h))
-    of_all T s (inl (H, inr i, h)) = inl (H, in_left H Gs Hs i, h)
-    of_all T s (inr h) = inr (old_met T s (gstep face.shapes.structs e s) h)
+    of_all T t s (inl (H, inl q, h)) =
+        of_one T s (b.whole T t s (subst (λ (X : Forest). Stands face.shapes.structs T X s) q h))
+    of_all T t s (inl (H, inr i, h)) = inl (H, in_left H Gs Hs i, h)
+    of_all T t s (inr h) = inr (old_met T s (gstep face.shapes.structs e s) h)
 
     pub one_taken : IsStepping face F e (Gs ++ Hs) (Ns ++ Ms) (Bs ++ Cs)
     one_taken = record {
-      whole = λ T s h. of_all T s (a.whole T s h);
+      whole = λ T t s h. of_all T t s (a.whole T t s h);
       regroups = λ T. every_append (Regroups T F) Gs Hs (a.regroups T).1
           (every_weaker (Regroups T G) (Regroups T F) Hs (λ H g. regroups_on T F G H (a.regroups T).0 g)
           (b.regroups T));
-      keeps = λ T. every_append (Keeps face T F e) Ns Ms (a.keeps T)
+      keeps = λ T t. every_append (Keeps face T F e) Ns Ms (a.keeps T t)
           (every_weaker (Keeps face T G e) (Keeps face T F e) Ms
-          (λ M k. keeps_of_split face T e F G M (a.regroups T).0 k) (b.keeps T));
-      bads = λ T. every_append (IsTrueBad face T F e) Bs Cs (a.bads T)
+          (λ M k. keeps_of_split face T e F G M (a.regroups T).0 k) (b.keeps T t));
+      bads = λ T t. every_append (IsTrueBad face T F e) Bs Cs (a.bads T t)
           (every_weaker (IsTrueBad face T G e) (IsTrueBad face T F e) Cs
-          (λ x k. bad_of_split face T e F G x (a.regroups T).0 k) (b.bads T));
+          (λ x k. bad_of_split face T e F G x (a.regroups T).0 k) (b.bads T t));
     }
 
   -- where none is left to go, each member is met
   pub none_left : (F : Forest) (Ns : List Forest) (Bs : List BadAt) → IsStepping face F e [] Ns Bs → (T : List BoxDef)
-      → AllCases face T F e Ns Bs
-  none_left F Ns Bs a T s h = here (a.whole T s h)
+      → IsTableOf face T → AllCases face T F e Ns Bs
+  none_left F Ns Bs a T t s h = here (a.whole T t s h)
     where
       here : StandsInOne face T [] s ⊎ IsMet face T Ns Bs s (gstep face.shapes.structs e s)
           → IsMet face T Ns Bs s (gstep face.shapes.structs e s)
@@ -94,26 +95,27 @@ module _ (face : Face) (e : Edge) where
 
   module _ (H : Forest) where
     abbrev Meets : Fault → Type 0
-    Meets k = (T : List BoxDef) (s : Store) → Stands face.shapes.structs T H s → gstep face.shapes.structs e s
-        ≡ Faulted k
+    Meets k = (T : List BoxDef) → IsTableOf face T → (s : Store) → Stands face.shapes.structs T H s
+        → gstep face.shapes.structs e s ≡ Faulted k
 
     -- a fault of all members
     pub all_fault : (k : Fault) → Meets k → IsStepping face H e [] [] (record { fault = k; at = H } ∷ [])
     all_fault k w = record {
       whole =
-          λ T s h.
+          λ T t s h.
           inr
-          (subst (IsMet face T [] (record { fault = k; at = H } ∷ []) s) (sym (w T s h))
+          (subst (IsMet face T [] (record { fault = k; at = H } ∷ []) s) (sym (w T t s h))
           (record { fault = k; at = H }, inl refl, refl, h));
       regroups = λ T. tt;
-      keeps = λ T. tt;
-      bads = λ T. ((λ s h. (h, w T s h)), tt);
+      keeps = λ T t. tt;
+      bads = λ T t. ((λ s h. (h, w T t s h)), tt);
     }
 
     -- the edge's own fault
-    pub edge_fault : (k : Fault) → ((T : List BoxDef) → AllGo face T H e.instr (choice_of e.choice) (Faulted k))
+    pub edge_fault : (k : Fault)
+        → ((T : List BoxDef) → IsTableOf face T → AllGo face T H e.instr (choice_of e.choice) (Faulted k))
         → IsStepping face H e [] [] (record { fault = k; at = H } ∷ [])
-    edge_fault k w = all_fault k (λ T s h. fault_met face T e H k (w T) s h)
+    edge_fault k w = all_fault k (λ T t s h. fault_met face T e H k (w T t) s h)
 
     -- no member goes on
     stays_met : (T : List BoxDef) (s : Store) (p : Pass) → (p ≡ NotPassed) ⊎ (p ≡ Halted)
@@ -121,40 +123,43 @@ module _ (face : Face) (e : Edge) where
     stays_met T s p (inl q) = subst (λ (x : Pass). IsMet face T [] [] s (leak_tested x)) (sym q) tt
     stays_met T s p (inr q) = subst (λ (x : Pass). IsMet face T [] [] s (leak_tested x)) (sym q) tt
 
-    pub all_stay : ((T : List BoxDef) → AllGo face T H e.instr (choice_of e.choice) NotPassed
+    pub all_stay : ((T : List BoxDef) → IsTableOf face T → AllGo face T H e.instr (choice_of e.choice) NotPassed
         ⊎ AllGo face T H e.instr (choice_of e.choice) Halted) → IsStepping face H e [] [] []
     all_stay w = record {
       whole =
-          λ T s h.
+          λ T t s h.
           inr
           (stays_met T s (raw_step face.shapes.structs e.instr (choice_of e.choice) s)
-          (elim (w T) [ inl k ↦ inl (k s h) | inr k ↦ inr (k s h) ]));
+          (elim (w T t) [ inl k ↦ inl (k s h) | inr k ↦ inr (k s h) ]));
       regroups = λ T. tt;
-      keeps = λ T. tt;
-      bads = λ T. tt;
+      keeps = λ T t. tt;
+      bads = λ T t. tt;
     }
 
-    module _ (R : Forest) (carries : (T : List BoxDef) → Carries face T H R e.instr (choice_of e.choice)) where
-      -- a leak of all members
-      pub all_leak : AlwaysLeaks R → IsStepping face H e [] [] (record { fault = Leak; at = H } ∷ [])
-      all_leak w = all_fault Leak
-          (λ T s h. leak_met face T e H R (carries T) (λ t k. leaked_leaks t (w face.shapes.structs T t k)) s h)
+    module _ (R : Forest)
+        (carries : (T : List BoxDef) → IsTableOf face T → Carries face T H R e.instr (choice_of e.choice))
+      where
+        -- a leak of all members
+        pub all_leak : AlwaysLeaks face R → IsStepping face H e [] [] (record { fault = Leak; at = H } ∷ [])
+        all_leak w = all_fault Leak
+            (λ T t s h. leak_met face T e H R (carries T t) (λ u k. leaked_leaks u (w T t u k)) s h)
 
-      -- all members go on, into the forests that R is regrouped into
-      pub all_go : NeverLeaks R → (Ms : List Forest) → ((T : List BoxDef) → RegroupsInto T R Ms)
-          → ((T : List BoxDef) → Every (Regroups T R) Ms) → IsStepping face H e [] Ms []
-      all_go w Ms into each = record {
-        whole = λ T s h. inr (there T s (goes_on face T e H R (carries T) (sound T) s h));
-        regroups = λ T. tt;
-        keeps = λ T. every_weaker (Regroups T R) (Keeps face T H e) Ms
-            (λ M g. keeps_regrouped face T e H R M (goes_keeps face T e H R (carries T) (sound T)) g) (each T);
-        bads = λ T. tt;
-      }
-        where
-          sound : (T : List BoxDef) (t : Store) → Stands face.shapes.structs T R t → leaks t ≡ false
-          sound T t k = unleaked_sound t (λ l. w face.shapes.structs T t k l)
+        -- all members go on, into the forests that R is regrouped into
+        pub all_go : NeverLeaks face R → (Ms : List Forest) → ((T : List BoxDef) → RegroupsInto T R Ms)
+            → ((T : List BoxDef) → Every (Regroups T R) Ms) → IsStepping face H e [] Ms []
+        all_go w Ms into each = record {
+          whole = λ T t s h. inr (there T s (goes_on face T e H R (carries T t) (sound T t) s h));
+          regroups = λ T. tt;
+          keeps = λ T t. every_weaker (Regroups T R) (Keeps face T H e) Ms
+              (λ M g. keeps_regrouped face T e H R M (goes_keeps face T e H R (carries T t) (sound T t)) g) (each T);
+          bads = λ T t. tt;
+        }
+          where
+            sound : (T : List BoxDef) → IsTableOf face T → (u : Store) → Stands face.shapes.structs T R u → leaks u ≡
+                false
+            sound T t u k = unleaked_sound u (λ l. w T t u k l)
 
-          there : (T : List BoxDef) (s : Store) → (t : Store) × (gstep face.shapes.structs e s ≡ Passed t)
-              × Stands face.shapes.structs T R t → IsMet face T Ms [] s (gstep face.shapes.structs e s)
-          there T s (t, g, k) = subst (IsMet face T Ms [] s) (sym g)
-              (members_split face.shapes.structs T R Ms (into T) t k)
+            there : (T : List BoxDef) (s : Store) → (t : Store) × (gstep face.shapes.structs e s ≡ Passed t)
+                × Stands face.shapes.structs T R t → IsMet face T Ms [] s (gstep face.shapes.structs e s)
+            there T s (t, g, k) = subst (IsMet face T Ms [] s) (sym g)
+                (members_split face.shapes.structs T R Ms (into T) t k)

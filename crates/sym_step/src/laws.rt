@@ -5,6 +5,7 @@ ghost use Rattle.fore_base.specs.Lists.{Every};
 ghost use Rattle.fore_base.specs.declared.fault.Fault.TheVariants.{Leak};
 ghost use Rattle.fore_base.specs.declared.store.Store.{Store};
 ghost use Rattle.ta_core.specs.Auto.{IsRanked};
+ghost use Rattle.fa_core.specs.Boxes.{IsTableOf};
 ghost use Rattle.fa_core.specs.Boxless.{HasNoBoxes};
 ghost use Rattle.fa_core.specs.Filled.{IsSound};
 ghost use Rattle.fa_core.specs.Member.{Stands};
@@ -19,10 +20,11 @@ ghost use Rattle.c_cfg.specs.declared.graph.Instr.TheVariants.{Free};
 ghost use Rattle.sym_core.specs.Explicit.{target_at};
 
 /// Where a cell of its own stands in a field of a root's cell, nothing names it once the cell of the root is freed:
-/// every member meets a leak, whatever stands in the other fields and whatever refers to the root.
+/// every member, for each table over the face, meets a leak, whatever stands in the other fields and whatever refers to
+/// the root.
 pub fn freeing_above_a_cell_leaks()
-    ensures { (face : Face) (T : List BoxDef) (F : Forest) (r p b : ℕ) (e : Edge) (s : Store) → IsSound face F
-        → Every IsRanked F.autos → Every HasNoBoxes F.autos → CanSplit F r p → e.instr ≡ Free b
+    ensures { (face : Face) (T : List BoxDef) (F : Forest) (r p b : ℕ) (e : Edge) (s : Store) → IsTableOf face T
+        → IsSound face F → Every IsRanked F.autos → Every HasNoBoxes F.autos → CanSplit F r p → e.instr ≡ Free b
         → target_at F b ≡ At r → Stands face.shapes.structs T (split_cells F r p) s → gstep face.shapes.structs e s
         ≡ Faulted Leak }
 {}

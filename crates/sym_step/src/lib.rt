@@ -7,7 +7,7 @@
 //! joined at the end. `laws` says when a free leaks. So far the box table is empty.
 #![tactic(auto)]
 
-mod components;
+mod dressing;
 pub mod laws;
 mod needs;
 mod opening;

@@ -3,6 +3,7 @@
 ghost use Rattle.std.specs.Prelude.{◌≡◌, ◌≤◌, true, List, [], ◌∷◌, length, IfOk};
 ghost use Rattle.fore_base.specs.Lists.{Every};
 ghost use Rattle.par_kit.specs.Crews.{IsJobs};
+ghost use Rattle.fa_core.specs.Boxes.{IsTableOf};
 ghost use Rattle.fa_core.specs.Boxless.{HasNoBoxes};
 ghost use Rattle.fa_core.specs.Canonical.{IsCanonical};
 ghost use Rattle.fa_core.specs.Covering.{Reduced};
@@ -18,7 +19,7 @@ ghost use Rattle.sym_step.specs.Posts.{bads, HasAsMany};
 ghost use Rattle.sym_step.specs.inner.Opening.{Opens};
 ghost use Rattle.sym_step.specs.inner.Stepping.{Settles};
 
-use crate::components::stand_for_some;
+use crate::dressing::are_dressed;
 use crate::opening::{Opened, open_forest};
 use crate::posts::Post;
 use crate::settling::settle;
@@ -49,15 +50,16 @@ pub fn post<R: Threads + Sync, G: Gate>(
     requires canonical { IsCanonical forest.now.face forest.now.forest }
     requires face { forest.now.face ≡ table.now.face }
     requires empty { table.now.defs ≡ [] }
-    requires fits { EdgeFits (length forest.now.forest.vars) (length forest.now.forest.data_vars) forest.now.face.shapes.structs
+    requires fits { EdgeFits (length forest.now.forest.vars) (length forest.now.forest.data_vars)
+        forest.now.face.shapes.structs
         edge.now }
-    ensures all { IfOk result (λ p. (T : List BoxDef)
+    ensures all { IfOk result (λ p. (T : List BoxDef) → IsTableOf forest.now.face T
         → AllCases forest.now.face T forest.now.forest edge.now (forests p.next) (bads p.faults)) }
-    ensures keeps { IfOk result (λ p. (T : List BoxDef)
+    ensures keeps { IfOk result (λ p. (T : List BoxDef) → IsTableOf forest.now.face T
         → Every (Keeps forest.now.face T forest.now.forest edge.now) (forests p.next)) }
-    ensures true_cases { IfOk result (λ p. (T : List BoxDef)
+    ensures true_cases { IfOk result (λ p. (T : List BoxDef) → IsTableOf forest.now.face T
         → Every (CaseOf forest.now.face T forest.now.forest edge.now) (forests p.next)) }
-    ensures bads { IfOk result (λ p. (T : List BoxDef)
+    ensures bads { IfOk result (λ p. (T : List BoxDef) → IsTableOf forest.now.face T
         → Every (IsTrueBad forest.now.face T forest.now.forest edge.now) (bads p.faults)) }
     ensures canonical { IfOk result (λ p. Every (λ s. IsCanonical s.face s.forest) p.next) }
     ensures reduced { IfOk result (λ p. Every (λ s. Reduced s.forest) p.next) }
@@ -92,7 +94,8 @@ fn settle_each<R: Threads + Sync, G: Gate>(
     requires fits { EdgeFits (length _forest.now.forest.vars) (length _forest.now.forest.data_vars)
         _forest.now.face.shapes.structs
         edge.now }
-    requires opens { Opens _forest.now.face _forest.now.forest edge.now (λ H. IsExplicit H edge.now.instr) opened }
+    requires opens { Opens _forest.now.face _forest.now.forest edge.now
+        (λ H. IsExplicit _forest.now.face.shapes.structs H edge.now.instr) opened }
     requires calm { is_quiet edge.now.instr ≡ true → opened.ready ≡ _forest.now ∷ [] }
     ensures settles { IfOk result (Settles _forest.now.face _forest.now.forest edge.now) }
     ensures quiet { is_quiet edge.now.instr ≡ true → IfOk result (λ p. length p.next ≤ 1) }
@@ -128,6 +131,6 @@ fn joined<R: Threads + Sync, G: Gate>(
 {
     let Post { next, faults } = settled;
     let next = join_all(rt, alloc, forest.face(), next, crew)?;
-    stand_for_some(next.as_slice());
+    are_dressed(next.as_slice());
     Ok(Post { next, faults })
 }

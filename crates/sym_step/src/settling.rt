@@ -3,11 +3,12 @@
 ghost use Rattle.std.specs.Prelude.{◌≡◌, ◌≤◌, true, [], ◌∷◌, List, length, IfOk};
 ghost use Rattle.fore_base.specs.Lists.{Every};
 ghost use Rattle.par_kit.specs.Crews.{IsJobs};
+ghost use Rattle.fa_core.specs.Boxes.{IsTableOf};
 ghost use Rattle.fa_core.specs.Boxless.{HasNoBoxes};
 ghost use Rattle.fa_core.specs.Canonical.{IsCanonical};
 ghost use Rattle.fa_core.specs.Member.{Regroups, RegroupsInto};
 ghost use Rattle.fa_core.specs.declared.boxes.BoxDef.{BoxDef};
-ghost use Rattle.fa_merge.specs.Reached.{NeverLeaks};
+ghost use Rattle.fa_merge.specs.Reached.{AreAllReached};
 ghost use Rattle.fa_split.specs.Divided.{forests};
 ghost use Rattle.c_cfg.specs.Edges.{choice_of};
 ghost use Rattle.c_cfg.specs.Ranges.{EdgeFits};
@@ -42,9 +43,10 @@ pub fn settle<R: Threads + Sync, G: Gate>(
 ) -> Mem<Post>
     requires jobs { IsJobs crew.now.jobs }
     requires plain { Every HasNoBoxes forest.now.forest.autos }
-    requires fits { EdgeFits (length forest.now.forest.vars) (length forest.now.forest.data_vars) forest.now.face.shapes.structs
+    requires fits { EdgeFits (length forest.now.forest.vars) (length forest.now.forest.data_vars)
+        forest.now.face.shapes.structs
         edge.now }
-    requires explicit { IsExplicit forest.now.forest edge.now.instr }
+    requires explicit { IsExplicit forest.now.face.shapes.structs forest.now.forest edge.now.instr }
     requires calm { is_quiet edge.now.instr ≡ true → IsCanonical forest.now.face forest.now.forest }
     ensures settles { IfOk result (Settles forest.now.face forest.now.forest edge.now) }
     ensures quiet { is_quiet edge.now.instr ≡ true → IfOk result (λ p. length p.next ≤ 1) }
@@ -97,8 +99,8 @@ fn settle_edited<R: Threads + Sync, G: Gate>(
 ) -> Mem<Post>
     requires jobs { IsJobs crew.now.jobs }
     requires plain { Every HasNoBoxes forest.now.forest.autos }
-    requires carries { (T : List BoxDef) → Carries forest.now.face T forest.now.forest raw.now.forest edge.now.instr
-        (choice_of edge.now.choice) }
+    requires carries { (T : List BoxDef) → IsTableOf forest.now.face T
+        → Carries forest.now.face T forest.now.forest raw.now.forest edge.now.instr (choice_of edge.now.choice) }
     requires like { IsLike forest.now.face forest.now.forest raw.now }
     requires calm { is_quiet edge.now.instr ≡ true → IsCanonical raw.now.face raw.now.forest }
     ensures settles { IfOk result (Settles forest.now.face forest.now.forest edge.now) }
@@ -127,7 +129,7 @@ fn normal_forms<R: Threads + Sync, G: Gate>(
 ) -> Mem<List<Sound>>
     requires jobs { IsJobs crew.now.jobs }
     requires plain { Every HasNoBoxes raw.now.forest.autos }
-    requires tight { NeverLeaks raw.now.forest }
+    requires reached { AreAllReached raw.now.face raw.now.forest }
     requires calm { is_quiet edge.now.instr ≡ true → IsCanonical raw.now.face raw.now.forest }
     ensures regroups { IfOk result (λ made. (T : List BoxDef) → Every (Regroups T raw.now.forest) (forests made)) }
     ensures whole { IfOk result (λ made. (T : List BoxDef) → RegroupsInto T raw.now.forest (forests made)) }
@@ -171,7 +173,7 @@ fn canonical_forms<R: Threads + Sync, G: Gate>(
 ) -> Mem<List<Sound>>
     requires jobs { IsJobs crew.now.jobs }
     requires plain { Every HasNoBoxes raw.now.forest.autos }
-    requires tight { NeverLeaks raw.now.forest }
+    requires reached { AreAllReached raw.now.face raw.now.forest }
     ensures regroups { IfOk result (λ made. (T : List BoxDef) → Every (Regroups T raw.now.forest) (forests made)) }
     ensures whole { IfOk result (λ made. (T : List BoxDef) → RegroupsInto T raw.now.forest (forests made)) }
     ensures next { IfOk result (Every (IsNext raw.now.face raw.now.forest)) }

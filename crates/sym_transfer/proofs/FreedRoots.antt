@@ -35,6 +35,7 @@ use Rattle.fa_merge.proofs.DroppedSound.{every_but}
 use Rattle.fa_merge.specs.Reordered.{component_at}
 use Rattle.fa_split.specs.Split.{top_rule}
 use Rattle.fa_split.proofs.TopRules.{top_in, tree_by_top}
+use Rattle.fa_edit.proofs.TopSpots.{component_plain, in_component, spots_filled, top_filled, topped_at, with_spots}
 use Rattle.fa_edit.specs.Plain.{field_place_from, field_place, place_at, IsOnlyLeaf, IsLeafPlace}
 
 -- Places of fields.
@@ -88,10 +89,6 @@ HasLeaves rules q = (u : Tree) → RunOf rules q u → is_leaf (out-Tree u).symb
 only_leaf : (rules : List Rule) (q : ℕ) (t : Target) → IsOnlyLeaf rules q t → HasLeaves rules q
 only_leaf rules q t only u (run x i s y k) = ap is_leaf (sym y ∙ only.only x i s) ∙ leaf_is t
 
--- each child with what `spots` asks of it
-abbrev with_spots : List BoxFace → List Tree → List (Tree × (List ℕ → List Spot))
-with_spots bs us = map (λ (c : Tree). (c, spots bs c)) us
-
 all_leaves : (face : Face) (tops : List ℕ) (s : ℕ) (rules : List Rule) (ss : List Slot) (qs : List ℕ) (us : List Tree)
     → Every IsField ss
     → EndsFit face tops s ss (map (λ c. (out-Tree c.0).symbol) (with_spots face.boxes us)) → RunEach rules qs us
@@ -106,66 +103,10 @@ all_leaves face tops s rules (Field f ∷ ss) (q ∷ qs) (u ∷ us) p h (run_mor
 all_leaves face tops s rules (Link b ∷ ss) qs us p h k l = absurd p.0
 all_leaves face tops s rules (Hook b ∷ ss) qs us p h k l = absurd p.0
 
--- Trees of a choice.
-
-in_component : (autos : List Automaton) (ts : List Tree) (r : ℕ) (t : Tree) → Choice autos ts → slice_get ts r ≡ Some t
-    → InLanguage (component_at autos r) t
-in_component [] [] r t c e = absurd (none-some t e)
-in_component [] (u ∷ ts) r t c e = absurd c
-in_component (a ∷ autos) [] r t c e = absurd c
-in_component (a ∷ autos) (u ∷ ts) zero t c e = subst (InLanguage a) (same_Some u t e) c.0
-in_component (a ∷ autos) (u ∷ ts) (suc r) t c e = in_component autos ts r t c.1 e
-
-topped_at : (ts : List Tree) (tops : List ℕ) (r : ℕ) (t : Tree) → TopsAre ts tops → slice_get ts r ≡ Some t → (s : ℕ)
-    × IsTopped s t
-topped_at [] tops r t h e = absurd (none-some t e)
-topped_at (u ∷ ts) [] r t h e = absurd h
-topped_at (u ∷ ts) (s ∷ tops) zero t h e = (s, subst (IsTopped s) (same_Some u t e) h.0)
-topped_at (u ∷ ts) (s ∷ tops) (suc r) t h e = topped_at ts tops r t h.1 e
-
-spots_filled : (face : Face) (all : List Tree) (tops : List ℕ) (k : ℕ) (ts : List Tree) (r : ℕ) (t : Tree)
-    → TreesFilled face all tops k ts → slice_get ts r ≡ Some t → (above : List ℕ)
-    × Every (IsFilledSpot face tops) (spots face.boxes t above)
-spots_filled face all tops k [] r t h e = absurd (none-some t e)
-spots_filled face all tops k (u ∷ ts) zero t h e = (
-  given_at face.boxes all k,
-  subst (λ (z : Tree). Every (IsFilledSpot face tops) (spots face.boxes z (given_at face.boxes all k)))
-      (same_Some u t e) h.0,
-)
-spots_filled face all tops k (u ∷ ts) (suc r) t h e = spots_filled face all tops (suc k) ts r t h.1 e
-
--- the top of a tree is filled
-top_filled : (face : Face) (tops : List ℕ) (t : Tree) (above : List ℕ) (s : ℕ) (ds : List Datum) (ss : List Slot)
-    → (out-Tree t).symbol ≡ Cell s ds ss → Every (IsFilledSpot face tops) (spots face.boxes t above)
-    → IsFilledSpot face tops
-    (record {
-      shape = s;
-      slots = ss;
-      ends = map (λ c. (out-Tree c.0).symbol) (with_spots face.boxes (out-Tree t).children);
-      given = above;
-    })
-top_filled face tops t above s ds ss e h =
-    (subst
-    (λ (y : Symbol). Every (IsFilledSpot face tops)
-    (spots_at face.boxes y (with_spots face.boxes (out-Tree t).children) above)) e
-    (subst (λ (l : List Spot). Every (IsFilledSpot face tops) l) opened h)).0
-  where
-    opened : spots face.boxes t above
-        ≡ spots_at face.boxes (out-Tree t).symbol (with_spots face.boxes (out-Tree t).children) above
-    opened =
-        ap (λ (z : Tree). spots face.boxes z above) (sym (roll-out-Tree t))
-        ∙ ap (λ (f : List ℕ → List Spot). f above)
-        (para-roll-Tree (List ℕ → List Spot) (λ x. spots_at face.boxes x.symbol x.children) (out-Tree t))
-
 index_of : (qs : List ℕ) (i q : ℕ) → slice_get qs i ≡ Some q → slice_index_or qs i 0 ≡ q
 index_of [] i q e = absurd (none-some q e)
 index_of (p ∷ qs) zero q e = same_Some p q e
 index_of (p ∷ qs) (suc i) q e = index_of qs i q e
-
-component_plain : (autos : List Automaton) (r : ℕ) → Every HasNoBoxes autos → HasNoBoxes (component_at autos r)
-component_plain [] r h = tt
-component_plain (a ∷ autos) zero h = h.0
-component_plain (a ∷ autos) (suc r) h = component_plain autos r h.1
 
 module _ (face : Face) (F : Forest) (r : ℕ) (sound : IsSound face F) (plain : Every HasNoBoxes F.autos)
     (one : HasOneTop (component_at F.autos r))
@@ -183,8 +124,11 @@ module _ (face : Face) (F : Forest) (r : ℕ) (sound : IsSound face F) (plain : 
         let ss : List Slot = topped.1.1 in
         let symbol : (out-Tree t).symbol ≡ Cell s ds ss = topped.1.2 in
         let by = tree_by_top a one t (in_component F.autos ts r t choice is) in
-        let above = spots_filled face ts filled.tops 0 ts r t filled.cells is in
-        let spot = top_filled face filled.tops t above.0 s ds ss symbol above.1 in
+        let n : 0 + r ≡ r = omega arith in
+        let above : Every (IsFilledSpot face filled.tops) (spots face.boxes t (given_at face.boxes ts r)) =
+        subst (λ (m : ℕ). Every (IsFilledSpot face filled.tops) (spots face.boxes t (given_at face.boxes ts m))) n
+        (spots_filled face ts filled.tops 0 ts r t filled.cells is) in
+        let spot = top_filled face filled.tops t (given_at face.boxes ts r) s ds ss symbol above in
         let top : (top_rule a).symbol ≡ Cell s ds ss = by.0 ∙ symbol in
         let fields : Every IsField ss =
         subst IsPlain top

@@ -2,6 +2,7 @@
 
 ghost use Rattle.std.specs.Prelude.{◌≡◌, ◌<◌, List, ℕ, length, IfOk};
 ghost use Rattle.fore_base.specs.Lists.{Every};
+ghost use Rattle.fa_core.specs.Boxes.{IsTableOf};
 ghost use Rattle.fa_core.specs.Boxless.{HasNoBoxes};
 ghost use Rattle.fa_core.specs.declared.boxes.BoxDef.{BoxDef};
 ghost use Rattle.c_cfg.specs.declared.graph.Instr.TheVariants.{New};
@@ -18,7 +19,7 @@ pub fn created(alloc: Global, forest: &Sound, to: u32, shape: u32) -> Mem<Sound>
     requires plain { Every HasNoBoxes forest.now.forest.autos }
     requires to { to < length forest.now.forest.vars }
     requires shape { shape < length forest.now.face.shapes.structs }
-    ensures carries { IfOk result (λ made. (T : List BoxDef) (x : ℕ)
+    ensures carries { IfOk result (λ made. (T : List BoxDef) → IsTableOf forest.now.face T → (x : ℕ)
         → Carries forest.now.face T forest.now.forest made.forest (New to shape) x) }
     ensures face { IfOk result (λ made. made.face ≡ forest.now.face) }
     ensures plain { IfOk result (λ made. Every HasNoBoxes made.forest.autos) }

@@ -2,6 +2,7 @@
 
 ghost use Rattle.std.specs.Prelude.{◌≡◌, ◌<◌, true, List, ℕ, length, IfOk};
 ghost use Rattle.fore_base.specs.Lists.{Every};
+ghost use Rattle.fa_core.specs.Boxes.{IsTableOf};
 ghost use Rattle.fa_core.specs.Boxless.{HasNoBoxes};
 ghost use Rattle.fa_core.specs.Canonical.{IsCanonical};
 ghost use Rattle.fa_core.specs.declared.boxes.BoxDef.{BoxDef};
@@ -40,7 +41,7 @@ fn allocated(alloc: Global, forest: &Sound, to: u32, shape: u32) -> Mem<Edited>
 /// `free(from)`. Err is want of memory.
 fn released(alloc: Global, forest: &Sound, from: u32) -> Mem<Edited>
     requires plain { Every HasNoBoxes forest.now.forest.autos }
-    requires explicit { IsExplicit forest.now.forest (Free from) }
+    requires explicit { IsExplicit forest.now.face.shapes.structs forest.now.forest (Free from) }
     ensures edited { IfOk result (IsMadeBy forest.now (Free from)) }
     ensures form { IfOk result (IfGoes (HasForm forest.now)) }
 {
@@ -62,10 +63,11 @@ fn released(alloc: Global, forest: &Sound, from: u32) -> Mem<Edited>
 /// box edges. Err is want of memory.
 pub fn edited(alloc: Global, forest: &Sound, edge: &Edge) -> Mem<Edited>
     requires plain { Every HasNoBoxes forest.now.forest.autos }
-    requires fits { EdgeFits (length forest.now.forest.vars) (length forest.now.forest.data_vars) forest.now.face.shapes.structs
+    requires fits { EdgeFits (length forest.now.forest.vars) (length forest.now.forest.data_vars)
+        forest.now.face.shapes.structs
         edge.now }
-    requires explicit { IsExplicit forest.now.forest edge.now.instr }
-    ensures edited { IfOk result (λ made. (T : List BoxDef)
+    requires explicit { IsExplicit forest.now.face.shapes.structs forest.now.forest edge.now.instr }
+    ensures edited { IfOk result (λ made. (T : List BoxDef) → IsTableOf forest.now.face T
         → IsEdited forest.now.face T forest.now.forest edge.now made) }
     ensures form { IfOk result (IfGoes (HasForm forest.now)) }
     ensures quiet { is_quiet edge.now.instr ≡ true

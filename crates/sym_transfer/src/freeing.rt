@@ -2,6 +2,7 @@
 
 ghost use Rattle.std.specs.Prelude.{◌≡◌, ◌<◌, List, ℕ, length, IfOk};
 ghost use Rattle.fore_base.specs.Lists.{Every};
+ghost use Rattle.fa_core.specs.Boxes.{IsTableOf};
 ghost use Rattle.fa_core.specs.Boxless.{HasNoBoxes};
 ghost use Rattle.fa_core.specs.declared.boxes.BoxDef.{BoxDef};
 ghost use Rattle.fa_core.specs.declared.forest.Target.TheVariants.{At};
@@ -19,8 +20,8 @@ use std::alloc::Global;
 pub fn freed(alloc: Global, forest: &Sound, base: u32, root: u32) -> Mem<Sound>
     requires plain { Every HasNoBoxes forest.now.forest.autos }
     requires at { target_at forest.now.forest base ≡ At root }
-    requires explicit { IsExplicit forest.now.forest (Free base) }
-    ensures carries { IfOk result (λ made. (T : List BoxDef) (x : ℕ)
+    requires explicit { IsExplicit forest.now.face.shapes.structs forest.now.forest (Free base) }
+    ensures carries { IfOk result (λ made. (T : List BoxDef) → IsTableOf forest.now.face T → (x : ℕ)
         → Carries forest.now.face T forest.now.forest made.forest (Free base) x) }
     ensures face { IfOk result (λ made. made.face ≡ forest.now.face) }
     ensures plain { IfOk result (λ made. Every HasNoBoxes made.forest.autos) }

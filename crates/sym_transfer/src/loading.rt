@@ -16,14 +16,13 @@ use crate::targets::followed;
 use crate::variables::{with_known, with_target};
 use fa_edit::{datum_of, leaf_of};
 use fa_sound::Sound;
-use fa_split::ranked_components;
 use fore_base::memory::Mem;
 use std::alloc::Global;
 
 /// `to = from->field`, for pointers. Err is want of memory.
 pub fn loaded_ptr(alloc: Global, forest: &Sound, to: u32, from: u32, field: u32) -> Mem<Edited>
     requires plain { Every HasNoBoxes forest.now.forest.autos }
-    requires explicit { IsExplicit forest.now.forest (LoadPtr to from field) }
+    requires explicit { IsExplicit forest.now.face.shapes.structs forest.now.forest (LoadPtr to from field) }
     ensures edited { IfOk result (IsMadeBy forest.now (LoadPtr to from field)) }
     ensures form { IfOk result (IfGoes (HasForm forest.now)) }
 {
@@ -43,13 +42,12 @@ fn loaded_leaf(
     field: u32,
 ) -> Mem<Edited>
     requires plain { Every HasNoBoxes forest.now.forest.autos }
-    requires explicit { IsExplicit forest.now.forest (LoadPtr to from field) }
+    requires explicit { IsExplicit forest.now.face.shapes.structs forest.now.forest (LoadPtr to from field) }
     requires at { target_at forest.now.forest from ≡ At root }
     ensures edited { IfOk result (IsMadeBy forest.now (LoadPtr to from field)) }
     ensures form { IfOk result (IfGoes (HasForm forest.now)) }
 {
     forest.known();
-    ranked_components(forest.forest());
     match leaf_of(forest, root, field) {
         Some(leaf) => {
             let made = with_target(alloc, forest, to, leaf)?;

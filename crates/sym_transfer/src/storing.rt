@@ -28,7 +28,7 @@ use std::alloc::Global;
 /// there. Err is want of memory.
 fn stored_leaf(alloc: Global, forest: &Sound, root: u32, field: u32, leaf: Target) -> Mem<Edited>
     requires plain { Every HasNoBoxes forest.now.forest.autos }
-    requires at { IsPlainAt forest.now.forest root field }
+    requires at { IsPlainAt forest.now.face.shapes.structs forest.now.forest root field }
     ensures stored { IfOk result (IsLeafStored forest.now root field leaf) }
     ensures form { IfOk result (IfGoes (HasForm forest.now)) }
 {
@@ -58,7 +58,7 @@ fn stored_datum(alloc: Global, forest: &Sound, root: u32, field: u32, datum: Dat
 /// `to->field = from`, for pointers. Err is want of memory.
 pub fn stored_ptr(alloc: Global, forest: &Sound, to: u32, field: u32, from: u32) -> Mem<Edited>
     requires plain { Every HasNoBoxes forest.now.forest.autos }
-    requires explicit { IsExplicit forest.now.forest (StorePtr to field from) }
+    requires explicit { IsExplicit forest.now.face.shapes.structs forest.now.forest (StorePtr to field from) }
     ensures edited { IfOk result (IsMadeBy forest.now (StorePtr to field from)) }
     ensures form { IfOk result (IfGoes (HasForm forest.now)) }
 {
@@ -76,8 +76,9 @@ pub fn stored_ptr(alloc: Global, forest: &Sound, to: u32, field: u32, from: u32)
 /// `to->field = value`. A number leaves a canonical forest canonical. Err is want of memory.
 pub fn stored_const(alloc: Global, forest: &Sound, to: u32, field: u32, value: Const) -> Mem<Edited>
     requires plain { Every HasNoBoxes forest.now.forest.autos }
-    requires explicit { IsExplicit forest.now.forest (StoreConst to field value) }
-    requires value { ConstFits (length forest.now.forest.vars) (length forest.now.forest.data_vars) forest.now.face.shapes.structs
+    requires explicit { IsExplicit forest.now.face.shapes.structs forest.now.forest (StoreConst to field value) }
+    requires value { ConstFits (length forest.now.forest.vars) (length forest.now.forest.data_vars)
+        forest.now.face.shapes.structs
         field value }
     ensures edited { IfOk result (IsMadeBy forest.now (StoreConst to field value)) }
     ensures form { IfOk result (IfGoes (HasForm forest.now)) }

@@ -4,6 +4,7 @@ ghost use Rattle.std.specs.Prelude.{◌≡◌, ◌<◌, ◌≤◌, List, [], len
 ghost use Rattle.fore_base.specs.Lists.{Every};
 ghost use Rattle.fore_base.specs.Stores.{set_each};
 ghost use Rattle.fore_base.specs.declared.store.Datum.TheVariants.{Undefined};
+ghost use Rattle.fa_core.specs.Boxes.{IsTableOf};
 ghost use Rattle.fa_core.specs.Boxless.{HasNoBoxes};
 ghost use Rattle.fa_core.specs.Canonical.{IsCanonical};
 ghost use Rattle.fa_core.specs.Filled.{DatumFits, IsRoot};
@@ -103,7 +104,7 @@ fn choice_of(choice: Option<u8>) -> u8
 pub fn chosen(alloc: Global, forest: &Sound, to: Option<u32>, choice: Option<u8>) -> Mem<Edited>
     requires plain { Every HasNoBoxes forest.now.forest.autos }
     requires choice { ChoiceFits choice }
-    ensures edited { IfOk result (λ made. (T : List BoxDef)
+    ensures edited { IfOk result (λ made. (T : List BoxDef) → IsTableOf forest.now.face T
         → Becomes forest.now.face T forest.now.forest (Choose to) (choice_of choice) made) }
     ensures form { IfOk result (IfGoes (HasForm forest.now)) }
     ensures quiet { IsCanonical forest.now.face forest.now.forest → IfOk result GoesCanonical }

@@ -5,6 +5,7 @@ pub mod Imaged
 pub mod Kept
 pub mod LettingGo
 pub mod Making
+pub mod OneTop
 pub mod Reaching
 pub mod Runs
 pub mod Shifting

@@ -1,6 +1,7 @@
 pub mod Arcs
 pub mod Closing
 pub mod Comparing
+pub mod Counted
 pub mod Growing
 pub mod LettingGo
 pub mod Restricted

@@ -2,7 +2,7 @@
 //!
 //! - `Tree`, `Symbol` and `Slot` are the trees, which can be deeper than calls can go; `Auto` and `Rule` the automata.
 //! - `accepts`, `is_empty`, `smallest_tree` and `top_states` look at languages; `inhabited::inhabited` says which
-//! states have trees.
+//! states have trees, and `single::has_one_top` whether one rule stands at the top.
 //! - `trim`, `rename`, `union` and `renumber` make automata; `room` says whether there are numbers left for more
 //! states.
 //! - `tables` has automata written as tables; `laws` says what runs keep; `crossing` that all this is shared between
@@ -27,6 +27,7 @@ mod restricting;
 pub mod results;
 pub mod rounds;
 mod running;
+pub mod single;
 mod sizes;
 pub mod smallest;
 pub mod symbol;

@@ -16,7 +16,9 @@ use Rattle.ta_core.proofs.Runs.{along}
 use Rattle.ta_sim.specs.Relations.{Table, Holds, entry}
 use Rattle.ta_sim.proofs.Simulated.{simulated_downward, simulated_same, simulated_through, paired_through}
 use Rattle.ta_reduce.specs.inner.Leading.{KeepsLead}
-use Rattle.ta_reduce.specs.inner.Smaller.{IsGreatest, AreClasses, IsSmaller}
+use Rattle.ta_classes.specs.Classes.{AreClasses}
+use Rattle.ta_classes.proofs.Classing.{first_in}
+use Rattle.ta_reduce.specs.inner.Smaller.{AreMutual, IsGreatest, IsSmaller}
 use Rattle.ta_reduce.proofs.Leads.{tree_kept}
 
 module _ (a : Automaton) (m : ℕ) (f : ℕ → ℕ) (proper : IsRanked a)
@@ -173,7 +175,7 @@ module _ (a : Automaton) (m : ℕ) (f back : ℕ → ℕ) (proper : IsRanked a)
 
 -- a table of classes gives such numbers
 module _ (a : Automaton) (rel : Table) (proper : IsRanked a) (greatest : IsGreatest a rel) (numbers firsts : List ℕ)
-    (h : AreClasses rel a.states numbers firsts) where
+    (h : AreClasses (AreMutual rel) a.states numbers firsts) where
   abbrev number : ℕ → ℕ
   number x = slice_index numbers x
 
@@ -181,8 +183,8 @@ module _ (a : Automaton) (rel : Table) (proper : IsRanked a) (greatest : IsGreat
   same_class : (x y : ℕ) → x < a.states → y < a.states → number x ≡ number y → IsSimulated a.rules x y
   same_class x y l k e =
       let first = slice_index firsts (number x) in
-      let down = greatest.only x first (h.both x l).1 in
-      let up = greatest.only first y (subst (λ (v : ℕ). Holds rel (slice_index firsts v) y) (sym e) (h.both y k).0) in
+      let down = greatest.only x first (h.first x l).1 in
+      let up = greatest.only first y (subst (λ (v : ℕ). Holds rel (slice_index firsts v) y) (sym e) (h.first y k).0) in
       simulated_through a.states a.rules proper.1 x first y (h.low (number x) (h.fits x l)) down up
 
   pub numbers_low : Every (λ v. v < length firsts) numbers
@@ -196,10 +198,11 @@ module _ (a : Automaton) (rel : Table) (proper : IsRanked a) (greatest : IsGreat
           λ v l. (
             slice_index firsts v,
             h.low v l,
-            image_runs a (length firsts) number proper same_class v (slice_index firsts v) (h.low v l) (h.first v l),
+            image_runs a (length firsts) number proper same_class v (slice_index firsts v) (h.low v l)
+                (first_in (AreMutual rel) a.states numbers firsts h v l),
           );
       lead = image_led a (length firsts) number (λ v. slice_index firsts v) proper same_class rel greatest h.fits h.low
-          h.first;
+          (first_in (AreMutual rel) a.states numbers firsts h);
     },
     (let e = length-map a.rules (renumbered number) in omega (arith, e, fewer)),
   )

@@ -1,4 +1,4 @@
-pub mod Classing
+pub mod Classed
 pub mod Deterministic
 pub mod Fewer
 pub mod Joined

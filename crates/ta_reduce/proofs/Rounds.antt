@@ -9,7 +9,8 @@ use Rattle.ta_core.specs.Language.{HasSameLanguage, IsTrim}
 use Rattle.ta_core.specs.Renumbered.{renumbered, StandsFor}
 use Rattle.ta_core.specs.Simulations.{AutoReduced}
 use Rattle.ta_sim.specs.Relations.{Table}
-use Rattle.ta_reduce.specs.inner.Smaller.{Preserves, IsSmaller, IsRound, IsGreatest, AreClasses, HasNoneNeedless}
+use Rattle.ta_classes.specs.Classes.{AreClasses}
+use Rattle.ta_reduce.specs.inner.Smaller.{Preserves, IsSmaller, IsRound, IsGreatest, AreMutual, HasNoneNeedless}
 use Rattle.ta_reduce.specs.inner.Smaller.{HasRootsOnce, IsReduction}
 use Rattle.ta_reduce.proofs.Leads.{led_from, top_from}
 use Rattle.ta_reduce.proofs.Sublists.{sub_long}
@@ -47,7 +48,7 @@ round_from a b c h q k t s p l = (
 
 -- where each state is a class, what has no needless rule is reduced
 pub smaller_or_reduced : (a : Automaton) (rel : Table) (numbers firsts : List ℕ) → IsGreatest a rel
-    → AreClasses rel rel.size numbers firsts → a.states ≤ length firsts → (made : Option Automaton)
+    → AreClasses (AreMutual rel) rel.size numbers firsts → a.states ≤ length firsts → (made : Option Automaton)
     → MatchOption made (HasNoneNeedless a.rules) (IsSmaller a)
     → MatchOption made (IsTrim a → AutoReduced a) (IsSmaller a)
 smaller_or_reduced a rel numbers firsts g h l None k =

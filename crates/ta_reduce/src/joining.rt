@@ -1,11 +1,12 @@
 // States that simulate each other joined to one.
 
 ghost use Rattle.std.specs.Prelude.{◌≡◌, ◌<◌, length, IfOk};
-ghost use Rattle.ta_reduce.specs.inner.Smaller.{IsGreatest, AreClasses, IsSmaller};
+ghost use Rattle.ta_classes.specs.Classes.{AreClasses};
+ghost use Rattle.ta_reduce.specs.inner.Smaller.{AreMutual, IsGreatest, IsSmaller};
 
-use crate::classes::Classes;
 use fore_base::memory::Mem;
 use std::alloc::Global;
+use ta_classes::Classes;
 use ta_core::auto::Auto;
 use ta_core::renumbering::renumber;
 use ta_sim::relation::Relation;
@@ -17,7 +18,7 @@ use ta_sim::relation::Relation;
 /// Want of memory.
 pub fn join(alloc: Global, auto: &Auto, relation: &Relation, classes: &Classes) -> Mem<Auto>
     requires greatest { IsGreatest auto.now relation.now }
-    requires classes { AreClasses relation.now auto.now.states classes.now.numbers classes.now.firsts }
+    requires classes { AreClasses (AreMutual relation.now) auto.now.states classes.now.numbers classes.now.firsts }
     requires fewer { length classes.now.firsts < auto.now.states }
     ensures { IfOk result (IsSmaller auto.now) }
 {

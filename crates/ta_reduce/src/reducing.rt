@@ -10,7 +10,7 @@ ghost use Rattle.ta_core.specs.States.{KeepsStates};
 ghost use Rattle.ta_core.specs.declared.tree.Tree.{Tree};
 ghost use Rattle.ta_reduce.specs.inner.Smaller.{IsGreatest, IsPreorder, IsSmaller, IsRound};
 
-use crate::classes::classes_of;
+use crate::classes::mutual_classes;
 use crate::determinism::is_deterministic;
 use crate::dropping::with_fewer_rules;
 use crate::joining::join;
@@ -92,7 +92,7 @@ fn smaller(alloc: Global, auto: &Auto, relation: &Relation) -> Mem<Option<Auto>>
     requires preorder { IsPreorder relation.now }
     ensures { IfOk result (λ made. MatchOption made (IsTrim auto.now → AutoReduced auto.now) (IsSmaller auto.now)) }
 {
-    let classes = classes_of(alloc, relation)?;
+    let classes = mutual_classes(alloc, relation)?;
     if classes.firsts.len() < auto.states as usize {
         let joined = join(alloc, auto, relation, &classes)?;
         return Ok(Some(joined));

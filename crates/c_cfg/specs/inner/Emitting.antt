@@ -10,8 +10,9 @@ use Rattle.c_types.specs.Control.{Either, joined, merged, test_of, items_of, all
 use Rattle.c_cfg.specs.declared.graph.Instr.TheVariants.{Kill}
 use Rattle.c_cfg.specs.declared.graph.Edge.{Edge}
 use Rattle.c_cfg.specs.declared.around.Around.{Around}
-use Rattle.c_cfg.specs.declared.conditions.Joint.{Joint}
-use Rattle.c_cfg.specs.declared.conditions.Joint.TheVariants.{All, Any}
+use Rattle.c_joints.specs.Sides.{yes_side, no_side}
+use Rattle.c_joints.specs.declared.sides.Joint.{Joint}
+use Rattle.c_joints.specs.declared.sides.Joint.TheVariants.{All, Any}
 use Rattle.c_cfg.specs.Links.{Link, One, act_row}
 use Rattle.c_cfg.specs.Lowering.{edge}
 use Rattle.c_cfg.specs.inner.Numbering.{chain, act_width, test_width, width, atom_edges}
@@ -147,15 +148,6 @@ module _ (nv nd : ℕ) where
 abbrev pub joint_of : Joint → Test → Test → Test
 joint_of All = Both
 joint_of Any = Either
-
--- where a part leads that stands before the location `next`
-abbrev pub yes_side : Joint → ℕ → ℕ → ℕ
-yes_side All next yes' = next
-yes_side Any next yes' = yes'
-
-abbrev pub no_side : Joint → ℕ → ℕ → ℕ
-no_side All next no' = no'
-no_side Any next no' = next
 
 -- Statements
 

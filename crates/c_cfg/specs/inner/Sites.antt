@@ -15,7 +15,7 @@ use Rattle.c_cfg.specs.inner.Emitting.{emit_stmt, emit_all, heads_stmt, heads_al
 use Rattle.std.specs.Prelude.{Bool, true, false, replicate}
 use Rattle.fore_base.specs.Stores.{set_each}
 use Rattle.c_types.specs.declared.program.Atom.{Atom}
-use Rattle.c_cfg.specs.declared.conditions.Joint.{Joint}
+use Rattle.c_joints.specs.declared.sides.Joint.{Joint}
 use Rattle.c_cfg.specs.inner.Numbering.{act_width, atom_width, atom_edges}
 use Rattle.c_cfg.specs.inner.Emitting.{joined_width, emit_parts, wide_stmt}
 

@@ -8,8 +8,8 @@ use Rattle.c_grammar.specs.Signs.{sign_of}
 use Rattle.c_grammar.specs.Syntax.{name_of}
 use Rattle.c_grammar.specs.declared.fault.SyntaxFault.{SyntaxFault}
 use Rattle.c_grammar.specs.declared.signs.Sign.TheVariants as sign
-use Rattle.c_grammar.specs.inner.Faults.{Takes, Fails}
-use Rattle.c_grammar.specs.inner.Sets.{no_sign}
+use Rattle.c_grammar.specs.words.Faults.{Takes, Fails}
+use Rattle.c_grammar.specs.words.Sets.{no_sign}
 
 -- the end of the names, or a comma and one more
 abbrev pub ValueStep : ℕ → List Token → List Token → Option Name → Type 0

@@ -8,7 +8,7 @@ use Rattle.fa_core.specs.Boxless.{HasNoBoxes}
 use Rattle.fa_core.specs.Canonical.{RefersTo}
 use Rattle.fa_core.specs.declared.forest.Target.{Target}
 use Rattle.fa_sound.specs.Soundness.{SoundForest}
-use Rattle.fa_merge.specs.Reordered.{component_at}
+use Rattle.fa_sound.specs.Components.{component_at}
 use Rattle.fa_split.specs.Split.{MayBeLeaf, child_state, split_cells, split_leaf}
 use Rattle.fa_canon.specs.inner.Cutting.{HasWidth, IsCutting}
 use Rattle.fa_canon.specs.inner.Steps.{HaveTops}

@@ -8,7 +8,7 @@ use Rattle.fa_core.specs.Boxless.{HasNoBoxes}
 use Rattle.fa_core.specs.Covering.{Covers}
 use Rattle.fa_core.specs.Member.{Regroups, RegroupsInto}
 use Rattle.fa_sound.specs.Soundness.{SoundForest}
-use Rattle.fa_merge.specs.Reordered.{component_at}
+use Rattle.fa_sound.specs.Components.{component_at}
 
 -- F regroups G, which has no box edges, and the face, the number of pointer variables and the data of F
 pub record IsPiece (F G : SoundForest) : Type 0 where

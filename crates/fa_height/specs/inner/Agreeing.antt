@@ -3,7 +3,7 @@ use Rattle.std.specs.Prelude.{◌≡◌, ◌↔◌, ℕ, ◌<◌, List, [], slic
 use Rattle.fore_base.specs.Lists.{IsIn, Every, Paired}
 use Rattle.ta_core.specs.declared.auto.Rule.{Rule}
 use Rattle.fa_height.specs.Quotients.{Agree}
-use Rattle.fa_height.specs.inner.Classes.{IsOneClass}
+use Rattle.ta_classes.specs.Classes.{IsOneClass}
 
 -- the list has the rules of state q, and no others
 abbrev pub AreRulesOf : List Rule → ℕ → List Rule → Type 0

@@ -4,7 +4,7 @@ use Rattle.fore_base.specs.Lists.{IsIn}
 use Rattle.ta_core.specs.Auto.{Automaton}
 use Rattle.fa_core.specs.declared.signature.RefMark.{RefMark}
 use Rattle.fa_core.specs.declared.signature.Signature.{Signature}
-use Rattle.fa_height.specs.inner.Classes.{IsOneClass}
+use Rattle.ta_classes.specs.Classes.{IsOneClass}
 
 -- the marks of state q in a table that has a list for each state
 abbrev pub marks_at : List (List RefMark) → ℕ → List RefMark

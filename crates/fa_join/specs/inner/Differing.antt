@@ -2,12 +2,9 @@
 use Rattle.std.specs.Prelude.{◌≡◌, ◌<◌, ℕ, List, length, Some, slice_get}
 use Rattle.fore_base.specs.Lists.{Paired, PairedBut}
 use Rattle.ta_core.specs.Auto.{Automaton}
-use Rattle.ta_core.specs.Language.{RunOf, HasTree, HasSameLanguage}
-use Rattle.ta_core.specs.declared.tree.Tree.{Tree}
+use Rattle.ta_core.specs.Language.{HasSameLanguage}
 use Rattle.fa_core.specs.declared.faces.BoxFace.{BoxFace}
-use Rattle.fa_core.specs.Ways.{signature}
 use Rattle.fa_core.specs.declared.forest.Forest.{Forest}
-use Rattle.fa_core.specs.declared.signature.RefMark.{RefMark}
 use Rattle.fa_sound.specs.Soundness.{SoundForest}
 use Rattle.fa_sound.specs.Components.{component_at}
 use Rattle.fa_split.specs.Split.{top_rule, child_state}
@@ -33,11 +30,6 @@ pub record DifferAtChild (bs : List BoxFace) (a b : Automaton) (p : ℕ) : Type 
   pub children : PairedBut (SameRuns a b) p (child_state a p) (child_state b p) (top_rule a).children
       (top_rule b).children
   pub marks : SameSignatures bs a b (child_state a p) (child_state b p)
-
--- the marks are the signature of each tree of state q of a, and some tree is of that state
-pub record HasMarks (bs : List BoxFace) (a : Automaton) (q : ℕ) (marks : List RefMark) : Type 0 where
-  pub each : (t : Tree) → RunOf a.rules q t → marks ≡ signature bs t
-  pub some : HasTree a.rules q
 
 -- the forests have the same languages, but for root r, where they differ in the child at place p
 pub record DifferAtRoot (bs : List BoxFace) (F G : Forest) (r p : ℕ) : Type 0 where

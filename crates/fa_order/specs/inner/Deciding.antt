@@ -1,12 +1,11 @@
 -- Which roots are those of a canonical forest without box edges, by what the trees show.
 use Rattle.std.specs.Prelude.{ℕ, suc, ◌+◌, Bool, true, false, not, ◌&&◌, ◌||◌, nat_eq, nat_le, if◌then◌else◌, List, []}
 use Rattle.std.specs.Prelude.{◌∷◌}
-use Rattle.ta_core.specs.declared.auto.Rule.{Rule}
 use Rattle.fa_core.specs.Cells.{roots_in}
 use Rattle.fa_core.specs.Ways.{has}
 use Rattle.fa_core.specs.declared.signature.Below.{Below}
 use Rattle.fa_core.specs.declared.signature.RefMark.{RefMark}
-use Rattle.fa_merge.specs.inner.Counted.{marks_count}
+use Rattle.fa_merge.specs.Counts.{marks_count}
 use Rattle.fa_order.specs.declared.showing.Shown.{Shown}
 
 -- how many references to root r there are, as far as two in each tree
@@ -50,11 +49,6 @@ root_by vs ss r s = if shared_by vs ss r then not (any_cell r s.ends) else knot_
 abbrev pub roots_by : List ℕ → List Shown → ℕ → List Shown → Bool
 roots_by vs ss r [] = true
 roots_by vs ss r (s ∷ rest) = root_by vs ss r s && roots_by vs ss (suc r) rest
-
--- how many of the rules are of the state
-abbrev pub rules_of : ℕ → List Rule → ℕ
-rules_of q [] = 0
-rules_of q (r ∷ rs) = if nat_eq r.state q then rules_of q rs + 1 else rules_of q rs
 
 -- the numbers are those from k on, in order
 abbrev pub rise_from : ℕ → List ℕ → Bool

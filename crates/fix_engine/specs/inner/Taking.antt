@@ -8,19 +8,24 @@ use Rattle.c_cfg.specs.Edges.{Faulted}
 use Rattle.c_cfg.specs.Graphs.{ControlGraph}
 use Rattle.c_cfg.specs.declared.graph.Edge.{Edge}
 use Rattle.sym_step.specs.declared.posts.Bad.{Bad}
-use Rattle.fix_engine.specs.declared.nodes.Node.{Node}
+use Rattle.fix_core.specs.declared.nodes.Node.{Node}
 use Rattle.fix_engine.specs.declared.taking.Taken.{Taken}
 use Rattle.fix_engine.specs.declared.taking.Taken.TheVariants.{All, Fault, Full as Over}
-use Rattle.fix_engine.specs.Explorations.{IsNode, IsEdge, is_head, IsChild, NoLater, IsHoused, IsCalm, EdgeDone}
-use Rattle.fix_engine.specs.Explorations.{EarlierDone, Done, Exploration, Full}
-use Rattle.fix_engine.specs.Follows.{IsMember, passed_by, Arrives}
-use Rattle.fix_engine.specs.States.{AbstractState}
-use Rattle.fix_engine.specs.inner.Arriving.{EachTwo, AreOfTwoCases}
+use Rattle.fix_core.specs.Explorations.{IsNode, IsEdge, is_head, IsChild, NoLater, IsHoused, IsCalm, EdgeDone}
+use Rattle.fix_core.specs.Explorations.{EarlierDone, Done, Exploration, Full}
+use Rattle.fix_core.specs.Follows.{IsMember, passed_by, Arrives}
+use Rattle.fix_core.specs.States.{AbstractState}
+use Rattle.fix_successors.specs.Arriving.{EachTwo, AreOfTwoCases}
 
 -- the node that an edge leads to
 abbrev pub child : ℕ → ℕ → Edge → AbstractState → Node
 child p c e a =
     record { head = record { location = e.to; parent = Some p; edge = Some c; choice = e.choice }; state = a }
+
+-- how an edge was taken up, by whether there was room for all of its states
+abbrev pub all_or_full : Bool → Taken
+all_or_full true = All
+all_or_full false = Over
 
 -- each node keeps its number
 abbrev pub Grows : List Node → List Node → Type 0

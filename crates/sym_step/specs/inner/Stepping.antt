@@ -2,10 +2,12 @@
 use Rattle.std.specs.Prelude.{◌≡◌, ◌⊎◌, List, []}
 use Rattle.fore_base.specs.Lists.{Every}
 use Rattle.fore_base.specs.declared.store.Store.{Store}
+use Rattle.fa_core.specs.Boxes.{IsTableOf}
 use Rattle.fa_core.specs.Boxless.{HasNoBoxes}
 use Rattle.fa_core.specs.Canonical.{IsCanonical}
 use Rattle.fa_core.specs.Covering.{Reduced}
-use Rattle.fa_core.specs.Member.{Stands, Regroups}
+use Rattle.fa_core.specs.Dressed.{Nodes}
+use Rattle.fa_core.specs.Member.{OfForest, Stands, Regroups}
 use Rattle.fa_core.specs.declared.boxes.BoxDef.{BoxDef}
 use Rattle.fa_core.specs.declared.faces.Face.{Face}
 use Rattle.fa_core.specs.declared.forest.Forest.{Forest}
@@ -20,14 +22,19 @@ use Rattle.sym_step.specs.Posts.{bads, HasAsMany}
 use Rattle.sym_step.specs.declared.posts.Bad.{Bad}
 use Rattle.sym_step.specs.declared.posts.Post.{Post}
 
+-- the forest has a dressed forest
+abbrev pub HasDressed : Forest → Type 0
+HasDressed F = (d : Nodes) × OfForest [] F d
+
 -- each member of F stands in a forest of Gs, which are still to go along the edge, or is met in Ns and Bads; none is
 -- invented
 pub record IsStepping (face : Face) (F : Forest) (e : Edge) (Gs Ns : List Forest) (Bads : List BadAt) : Type 0 where
-  pub whole : (T : List BoxDef) (s : Store) → Stands face.shapes.structs T F s → StandsInOne face T Gs s
+  pub whole : (T : List BoxDef) → IsTableOf face T → (s : Store) → Stands face.shapes.structs T F s
+      → StandsInOne face T Gs s
       ⊎ IsMet face T Ns Bads s (gstep face.shapes.structs e s)
   pub regroups : (T : List BoxDef) → Every (Regroups T F) Gs
-  pub keeps : (T : List BoxDef) → Every (Keeps face T F e) Ns
-  pub bads : (T : List BoxDef) → Every (IsTrueBad face T F e) Bads
+  pub keeps : (T : List BoxDef) → IsTableOf face T → Every (Keeps face T F e) Ns
+  pub bads : (T : List BoxDef) → IsTableOf face T → Every (IsTrueBad face T F e) Bads
 
 -- the forest stands over the face, has no box edges, and has as many variables as F
 pub record IsLike (over : Face) (F : Forest) (s : SoundForest) : Type 0 where
@@ -38,7 +45,7 @@ pub record IsLike (over : Face) (F : Forest) (s : SoundForest) : Type 0 where
 -- besides, it shows what the edge needs
 pub record IsReady (face : Face) (F : Forest) (e : Edge) (s : SoundForest) : Type 0 where
   pub like : IsLike face F s
-  pub explicit : IsExplicit s.forest e.instr
+  pub explicit : IsExplicit face.shapes.structs s.forest e.instr
 
 -- besides, it is canonical and reduced
 pub record IsNext (face : Face) (F : Forest) (s : SoundForest) : Type 0 where

@@ -2,6 +2,7 @@
 use Rattle.std.specs.Prelude.{◌≡◌, ◌⊎◌, ℕ, List, Result, Ok, Err, Bool, true, false}
 use Rattle.fore_base.specs.declared.fault.Fault.{Fault as FaultKind}
 use Rattle.fore_base.specs.declared.store.Datum.{Datum}
+use Rattle.fa_core.specs.Boxes.{IsTableOf}
 use Rattle.fa_core.specs.declared.boxes.BoxDef.{BoxDef}
 use Rattle.fa_core.specs.declared.forest.Target.{Target}
 use Rattle.fa_sound.specs.Soundness.{SoundForest}
@@ -15,9 +16,9 @@ use Rattle.sym_transfer.specs.declared.outcome.Edited.{Edited}
 use Rattle.sym_transfer.specs.declared.outcome.Edited.TheVariants.{Fault, Stays, Goes}
 
 module _ (F : SoundForest) where
-  -- it is what all members become by the edge, for each table of boxes and each choice
+  -- it is what all members become by the edge, for each table over the face and each choice
   abbrev pub IsMadeBy : Instr → Edited → Type 0
-  IsMadeBy i made = (T : List BoxDef) (x : ℕ) → Becomes F.face T F.forest i x made
+  IsMadeBy i made = (T : List BoxDef) → IsTableOf F.face T → (x : ℕ) → Becomes F.face T F.forest i x made
 
   -- the leaf t comes into field f of root r; it does not, where the root has no such field or the leaf may not stand
   -- there

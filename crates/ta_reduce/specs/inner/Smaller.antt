@@ -1,5 +1,5 @@
 -- One round of reduction: states that simulate each other joined, or rules left out.
-use Rattle.std.specs.Prelude.{◌≡◌, ◌↔◌, ℕ, ◌<◌, ◌≤◌, ◌+◌, List, length, slice_index}
+use Rattle.std.specs.Prelude.{◌≡◌, ◌↔◌, ℕ, ◌<◌, ◌+◌, List, length}
 use Rattle.fore_base.specs.Lists.{IsIn, IsDistinct}
 use Rattle.ta_core.specs.Auto.{Automaton, automaton}
 use Rattle.ta_core.specs.Language.{InLanguage, HasSameLanguage, IsTrim}
@@ -25,17 +25,6 @@ IsPreorder rel = ((p : ℕ) → p < rel.size → Holds rel p p)
 -- p and q are related both ways
 abbrev pub AreMutual : Table → ℕ → ℕ → Type 0
 AreMutual rel p q = Holds rel p q × Holds rel q p
-
--- numbers for the first k states: those that are related both ways have one number, and `firsts` has the first state of
--- each number
-pub record AreClasses (rel : Table) (k : ℕ) (numbers firsts : List ℕ) : Type 0 where
-  pub long : length numbers ≡ k
-  pub few : length firsts ≤ k
-  pub fits : (x : ℕ) → x < k → slice_index numbers x < length firsts
-  pub low : (v : ℕ) → v < length firsts → slice_index firsts v < k
-  pub first : (v : ℕ) → v < length firsts → slice_index numbers (slice_index firsts v) ≡ v
-  pub both : (x : ℕ) → x < k → AreMutual rel (slice_index firsts (slice_index numbers x)) x
-  pub fewer : (p q : ℕ) → p < q → q < k → AreMutual rel p q → length firsts < k
 
 -- how many states and rules there are, taken together
 abbrev pub extent : Automaton → ℕ

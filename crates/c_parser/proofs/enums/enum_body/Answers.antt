@@ -3,8 +3,8 @@ use Rattle.c_ast.specs.declared.items.Item.TheVariants as item'
 use Rattle.c_grammar.specs.Items as i
 use Rattle.c_grammar.specs.Syntax as s
 use Rattle.c_grammar.specs.declared.signs.Sign.TheVariants as sign
-use Rattle.c_grammar.specs.inner.Faults.Fails.{no_memory}
-use Rattle.c_parser.specs.inner.Bounds.{Stops}
+use Rattle.c_grammar.specs.words.Faults.Fails.{no_memory}
+use Rattle.c_reader.specs.Bounds.{Stops}
 use Rattle.c_parser.specs.inner.Shapes.{read_enum_body}
 use Rattle.c_grammar.proofs.Enumerators.{good_written}
 use Rattle.c_grammar.proofs.ItemLeasts.{least_names}

@@ -1,8 +1,8 @@
 use Rattle.std.proofs.Common.{refl, inr}
 use Rattle.c_ast.specs.declared.operands.Name.{Name}
 use Rattle.c_ast.specs.declared.statements.Data.TheVariants as data'
-use Rattle.c_grammar.specs.inner.Parted.{Rest, data_item, enum_item_of}
-use Rattle.c_parser.specs.inner.Bounds.{Stops}
+use Rattle.c_grammar.specs.words.Parted.{Rest, data_item, enum_item_of}
+use Rattle.c_reader.specs.Bounds.{Stops}
 use Rattle.c_parser.specs.inner.Shapes.{read_enum_named}
 use Rattle.c_grammar.proofs.ItemLeasts.{least_data_rest}
 use Rattle.c_grammar.proofs.Goods.{good_name}

@@ -3,9 +3,9 @@ use Rattle.std.proofs.lemmas.Result.{IfOk-weaker, IfErr-weaker}
 use Rattle.c_ast.specs.declared.operands.Name.{Name}
 use Rattle.c_grammar.specs.Items as i
 use Rattle.c_grammar.specs.declared.signs.Sign.TheVariants as sign
-use Rattle.c_grammar.specs.inner.Parted.{Rest, EnumRest, enum_item_of}
-use Rattle.c_grammar.specs.inner.Sets.{among, no_sign, elses}
-use Rattle.c_parser.specs.inner.Bounds.{Reads, Stops}
+use Rattle.c_grammar.specs.words.Parted.{Rest, EnumRest, enum_item_of}
+use Rattle.c_grammar.specs.words.Sets.{among, no_sign, elses}
+use Rattle.c_reader.specs.Bounds.{Reads, Stops}
 use Rattle.c_parser.specs.inner.Shapes.{read_enum_body, read_enum_named, read_enum_rest_of}
 use Rattle.c_grammar.proofs.Choices.{left_takes, right_takes, left_fails, right_fails, same_fork}
 use Rattle.c_grammar.proofs.Goods.{named, contd}

@@ -1,6 +1,6 @@
 use Rattle.std.proofs.Common.{sym, subst, arith}
-use Rattle.c_grammar.specs.inner.Faults.Fails.{no_memory}
-use Rattle.c_parser.specs.inner.Bounds.{Stops}
+use Rattle.c_grammar.specs.words.Faults.Fails.{no_memory}
+use Rattle.c_reader.specs.Bounds.{Stops}
 use Rattle.c_parser.proofs.Walking.{walk_on, walk_end}
 use Rattle.c_parser.specs.inner.Shapes.{read_more_names}
 use Rattle.c_grammar.proofs.Enumerators.{Walks, walks_none, names_fails}

@@ -1,6 +1,6 @@
 use Rattle.std.proofs.Common.{Some, None, refl, sym, ap, subst, ◌∙◌, ◌∷◌, []}
 use Rattle.c_grammar.specs.declared.signs.Sign.TheVariants as sign
-use Rattle.c_grammar.specs.inner.Faults.Fails.{no_memory}
+use Rattle.c_grammar.specs.words.Faults.Fails.{no_memory}
 use Rattle.c_parser.specs.inner.Values.{ValueStops}
 use Rattle.c_grammar.proofs.Enumerators.{written_closed, written_trailing, written_none, written_no_name}
 use Rattle.c_grammar.proofs.SignLemmas.{one_of}

@@ -1,8 +1,8 @@
 use Rattle.std.proofs.Common.{refl}
 use Rattle.c_grammar.specs.Syntax as s
 use Rattle.c_grammar.specs.declared.signs.Sign.TheVariants as sign
-use Rattle.c_grammar.specs.inner.Sets.{no_sign}
-use Rattle.c_parser.specs.inner.Bounds.{Stops}
+use Rattle.c_grammar.specs.words.Sets.{no_sign}
+use Rattle.c_reader.specs.Bounds.{Stops}
 use Rattle.c_parser.specs.inner.Shapes.{read_braced, read_field}
 use Rattle.c_grammar.proofs.ItemLeasts.{least_field}
 use Rattle.c_grammar.proofs.Goods.{good_one}

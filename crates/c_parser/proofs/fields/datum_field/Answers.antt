@@ -2,8 +2,8 @@ use Rattle.std.proofs.Common.{refl}
 use Rattle.c_grammar.specs.Items as i
 use Rattle.c_grammar.specs.Syntax as s
 use Rattle.c_grammar.specs.declared.signs.Sign.TheVariants as sign
-use Rattle.c_grammar.specs.inner.Sets.{no_sign}
-use Rattle.c_parser.specs.inner.Bounds.{Stops}
+use Rattle.c_grammar.specs.words.Sets.{no_sign}
+use Rattle.c_reader.specs.Bounds.{Stops}
 use Rattle.c_parser.specs.inner.Shapes.{read_datum_field, read_next_name}
 use Rattle.c_grammar.proofs.Goods.{good_one, good_name}
 use Rattle.c_grammar.proofs.Items.{good_more_names, good_names}

@@ -2,8 +2,8 @@ use Rattle.std.proofs.Common.{refl, sym, ◌∙◌, ◌∷◌, []}
 use Rattle.std.proofs.lemmas.Result.{IfOk-weaker, IfErr-weaker}
 use Rattle.c_grammar.specs.Items as i
 use Rattle.c_grammar.specs.declared.signs.Sign.TheVariants as sign
-use Rattle.c_grammar.specs.inner.Sets.{among, no_sign}
-use Rattle.c_parser.specs.inner.Bounds.{Reads, Stops}
+use Rattle.c_grammar.specs.words.Sets.{among, no_sign}
+use Rattle.c_reader.specs.Bounds.{Reads, Stops}
 use Rattle.c_parser.specs.inner.Shapes.{read_datum_field, read_field, read_pointer_field}
 use Rattle.c_grammar.proofs.Choices.{left_takes, right_takes, left_fails, right_fails}
 use Rattle.c_grammar.proofs.Goods.{named, contd, good_one, good_at, good_name}

@@ -1,7 +1,7 @@
 use Rattle.std.proofs.Common.{Some, None, refl, sym, ◌∙◌, ◌∷◌, []}
 use Rattle.c_grammar.specs.declared.signs.Sign.TheVariants as sign
-use Rattle.c_grammar.specs.inner.Sets.{among, no_sign}
-use Rattle.c_parser.specs.inner.Bounds.{Stops}
+use Rattle.c_grammar.specs.words.Sets.{among, no_sign}
+use Rattle.c_reader.specs.Bounds.{Stops}
 use Rattle.c_parser.specs.inner.Shapes.{read_maybe_braced}
 use Rattle.c_grammar.proofs.Choices.{left_takes, right_takes, left_fails}
 use Rattle.c_grammar.proofs.Goods.{named}

@@ -1,8 +1,8 @@
 use Rattle.std.proofs.Common.{refl, sym, ap, subst, arith, ◌∙◌, ◌++◌, ◌∷◌, []}
 use Rattle.c_grammar.specs.declared.signs.Sign.TheVariants as sign
-use Rattle.c_grammar.specs.inner.Faults.Fails.{no_memory}
-use Rattle.c_grammar.specs.inner.Sets.{among, no_sign, commas}
-use Rattle.c_parser.specs.inner.Bounds.{Stops}
+use Rattle.c_grammar.specs.words.Faults.Fails.{no_memory}
+use Rattle.c_grammar.specs.words.Sets.{among, no_sign, commas}
+use Rattle.c_reader.specs.Bounds.{Stops}
 use Rattle.c_parser.specs.inner.Shapes.{read_names, read_next_name}
 use Rattle.c_grammar.proofs.Goods.{good_name}
 use Rattle.c_grammar.proofs.Items.{good_more_names, good_next_name}

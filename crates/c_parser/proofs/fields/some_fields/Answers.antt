@@ -1,8 +1,8 @@
 use Rattle.std.proofs.Common.{refl, sym, ap, subst, arith, ◌∙◌, ◌++◌, ◌∷◌, []}
 use Rattle.c_grammar.specs.Syntax as s
-use Rattle.c_grammar.specs.inner.Faults.Fails.{no_memory}
-use Rattle.c_grammar.specs.inner.Sets.{no_sign, begins_declare}
-use Rattle.c_parser.specs.inner.Bounds.{Stops}
+use Rattle.c_grammar.specs.words.Faults.Fails.{no_memory}
+use Rattle.c_grammar.specs.words.Sets.{no_sign, begins_declare}
+use Rattle.c_reader.specs.Bounds.{Stops}
 use Rattle.c_parser.specs.inner.Shapes.{read_field, read_some_fields}
 use Rattle.c_grammar.proofs.Items.{good_field, good_more_fields}
 use Rattle.c_grammar.proofs.Lists.{Leads, lists, leads_more, leads_end, leads_stuck}

@@ -1,5 +1,5 @@
 use Rattle.std.proofs.Common.{length, ◌<◌}
-use Rattle.c_grammar.specs.inner.Sets.{no_sign, begins_declare}
+use Rattle.c_grammar.specs.words.Sets.{no_sign, begins_declare}
 use Rattle.c_parser.specs.inner.Shapes.{read_field, read_some_fields}
 use Rattle.c_grammar.proofs.Lists.{Leads}
 use Rattle.c_parser.proofs.fields.some_fields.Given as goal

@@ -1,6 +1,6 @@
 use Rattle.std.proofs.Common.{length, ◌∷◌, [], ◌<◌}
 use Rattle.c_grammar.specs.declared.signs.Sign.TheVariants as sign
-use Rattle.c_grammar.specs.inner.Sets.{among, no_sign, commas}
+use Rattle.c_grammar.specs.words.Sets.{among, no_sign, commas}
 use Rattle.c_parser.specs.inner.Shapes.{read_next_star, read_star_names}
 use Rattle.c_grammar.proofs.Lists.{Leads}
 use Rattle.c_parser.proofs.fields.star_names.Given as goal

@@ -1,8 +1,8 @@
 use Rattle.std.proofs.Common.{sym, subst}
 use Rattle.c_grammar.specs.Syntax as s
-use Rattle.c_grammar.specs.inner.Faults.{Takes, Fails}
-use Rattle.c_grammar.specs.inner.Sets.{no_sign, elses}
-use Rattle.c_parser.specs.inner.Bounds.{Stops}
+use Rattle.c_grammar.specs.words.Faults.{Takes, Fails}
+use Rattle.c_grammar.specs.words.Sets.{no_sign, elses}
+use Rattle.c_reader.specs.Bounds.{Stops}
 use Rattle.c_parser.specs.inner.Shapes.{read_body}
 use Rattle.c_grammar.proofs.Parts.{takes_level, fails_level}
 use Rattle.c_grammar.proofs.Statements.{good_inner_block}

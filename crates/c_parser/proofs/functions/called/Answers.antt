@@ -1,7 +1,7 @@
 use Rattle.std.proofs.Common.{Option, refl}
 use Rattle.c_ast.specs.declared.statements.Block.{Block}
-use Rattle.c_grammar.specs.inner.Parted.{Called, head_item}
-use Rattle.c_parser.specs.inner.Bounds.{Stops}
+use Rattle.c_grammar.specs.words.Parted.{Called, head_item}
+use Rattle.c_reader.specs.Bounds.{Stops}
 use Rattle.c_parser.specs.inner.Shapes.{read_called}
 use Rattle.c_grammar.proofs.ItemLeasts.{least_ending}
 use Rattle.c_grammar.proofs.Items.{good_closed_params, good_ending}

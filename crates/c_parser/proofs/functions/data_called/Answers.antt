@@ -1,6 +1,6 @@
 use Rattle.std.proofs.Common.{refl, inl}
-use Rattle.c_grammar.specs.inner.Parted.{Called, data_item}
-use Rattle.c_parser.specs.inner.Bounds.{Stops}
+use Rattle.c_grammar.specs.words.Parted.{Called, data_item}
+use Rattle.c_reader.specs.Bounds.{Stops}
 use Rattle.c_parser.specs.inner.Shapes.{read_data_called}
 use Rattle.c_grammar.proofs.Items.{good_called}
 use Rattle.c_grammar.proofs.Parts.{takes_made, fails_made}

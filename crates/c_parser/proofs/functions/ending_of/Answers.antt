@@ -3,9 +3,9 @@ use Rattle.std.proofs.lemmas.Result.{IfOk-weaker, IfErr-weaker}
 use Rattle.c_ast.specs.declared.statements.Block.{Block}
 use Rattle.c_lexer.specs.declared.token.Token.{Token}
 use Rattle.c_grammar.specs.declared.signs.Sign.TheVariants as sign
-use Rattle.c_grammar.specs.inner.Parted.{no_block, head_item}
-use Rattle.c_grammar.specs.inner.Sets.{among, no_sign, elses}
-use Rattle.c_parser.specs.inner.Bounds.{Reads, Stops}
+use Rattle.c_grammar.specs.words.Parted.{no_block, head_item}
+use Rattle.c_grammar.specs.words.Sets.{among, no_sign, elses}
+use Rattle.c_reader.specs.Bounds.{Reads, Stops}
 use Rattle.c_parser.specs.inner.Shapes.{read_ending_of, read_function_end, read_proto_end}
 use Rattle.c_grammar.proofs.Choices.{left_takes, right_takes, left_fails, right_fails, same_forks}
 use Rattle.c_grammar.proofs.Goods.{named, contd, good_one}

@@ -1,7 +1,7 @@
 use Rattle.std.proofs.Common.{Some, refl}
 use Rattle.c_ast.specs.declared.statements.Block.{Block}
-use Rattle.c_grammar.specs.inner.Parted.{head_item}
-use Rattle.c_parser.specs.inner.Bounds.{Stops}
+use Rattle.c_grammar.specs.words.Parted.{head_item}
+use Rattle.c_reader.specs.Bounds.{Stops}
 use Rattle.c_parser.specs.inner.Shapes.{read_function_end}
 use Rattle.c_grammar.proofs.Parts.{takes_made, fails_made}
 use Rattle.c_grammar.proofs.Steps.{passed, widen_takes, widen_fails}

@@ -1,8 +1,8 @@
 use Rattle.std.proofs.Common.{None, refl}
 use Rattle.c_lexer.specs.declared.token.Token.{Token}
 use Rattle.c_grammar.specs.declared.signs.Sign.TheVariants as sign
-use Rattle.c_grammar.specs.inner.Parted.{head_item}
-use Rattle.c_parser.specs.inner.Bounds.{Stops}
+use Rattle.c_grammar.specs.words.Parted.{head_item}
+use Rattle.c_reader.specs.Bounds.{Stops}
 use Rattle.c_parser.specs.inner.Shapes.{read_proto_end}
 use Rattle.c_grammar.proofs.Parts.{takes_made, fails_made, takes_token}
 use Rattle.c_grammar.proofs.Steps.{passed, widen_takes, widen_fails}

@@ -2,11 +2,12 @@ use Rattle.std.proofs.Common.{refl, ap, inr}
 use Rattle.c_ast.specs.declared.items.Item.TheVariants as item'
 use Rattle.c_ast.specs.declared.statements.Declare.TheVariants as declare'
 use Rattle.c_grammar.specs.declared.signs.Sign.TheVariants as sign
-use Rattle.c_grammar.specs.inner.Faults.Fails.{no_memory}
-use Rattle.c_grammar.specs.inner.Parted.{Declared, data_item}
-use Rattle.c_grammar.specs.inner.Sets.{no_sign}
-use Rattle.c_parser.specs.inner.Bounds.{Stops}
-use Rattle.c_parser.specs.inner.Shapes.{read_declared_data, read_next_declarator}
+use Rattle.c_grammar.specs.words.Faults.Fails.{no_memory}
+use Rattle.c_grammar.specs.words.Parted.{Declared, data_item}
+use Rattle.c_grammar.specs.words.Sets.{no_sign}
+use Rattle.c_reader.specs.Bounds.{Stops}
+use Rattle.c_parser.specs.inner.Shapes.{read_declared_data}
+use Rattle.c_statements.specs.Shapes.{read_next_declarator}
 use Rattle.c_grammar.proofs.Goods.{good_one}
 use Rattle.c_grammar.proofs.Items.{good_more_declarators}
 use Rattle.c_grammar.proofs.Parts.{takes_made, fails_made, takes_token}

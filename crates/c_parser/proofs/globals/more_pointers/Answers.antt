@@ -1,9 +1,10 @@
 use Rattle.std.proofs.Common.{refl, sym, subst, arith, ◌∙◌}
-use Rattle.c_grammar.specs.inner.Faults.Fails.{no_memory}
-use Rattle.c_grammar.specs.inner.Parted.{declarator_goes_on}
-use Rattle.c_grammar.specs.inner.Sets.{no_sign, commas}
-use Rattle.c_parser.specs.inner.Bounds.{Stops}
-use Rattle.c_parser.specs.inner.Shapes.{read_more_pointers, read_next_pointer}
+use Rattle.c_grammar.specs.words.Faults.Fails.{no_memory}
+use Rattle.c_grammar.specs.words.Parted.{declarator_goes_on}
+use Rattle.c_grammar.specs.words.Sets.{no_sign, commas}
+use Rattle.c_reader.specs.Bounds.{Stops}
+use Rattle.c_parser.specs.inner.Shapes.{read_more_pointers}
+use Rattle.c_statements.specs.Shapes.{read_next_pointer}
 use Rattle.c_grammar.proofs.Items.{good_next_pointer}
 use Rattle.c_grammar.proofs.Lists.{Leads, lists, leads_none, leads_more, leads_end, leads_stuck}
 use Rattle.c_grammar.proofs.Repeats.{cont_many}

@@ -1,7 +1,8 @@
 use Rattle.std.proofs.Common.{length, ◌≤◌}
-use Rattle.c_grammar.specs.inner.Parted.{declarator_goes_on}
-use Rattle.c_grammar.specs.inner.Sets.{no_sign, commas}
-use Rattle.c_parser.specs.inner.Shapes.{read_more_pointers, read_next_pointer}
+use Rattle.c_grammar.specs.words.Parted.{declarator_goes_on}
+use Rattle.c_grammar.specs.words.Sets.{no_sign, commas}
+use Rattle.c_parser.specs.inner.Shapes.{read_more_pointers}
+use Rattle.c_statements.specs.Shapes.{read_next_pointer}
 use Rattle.c_grammar.proofs.Lists.{Leads}
 use Rattle.c_grammar.proofs.Repeats.{cont_many}
 use Rattle.c_parser.proofs.globals.more_pointers.Given as goal

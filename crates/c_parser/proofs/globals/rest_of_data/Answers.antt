@@ -1,9 +1,9 @@
 use Rattle.std.proofs.Common.{refl, sym, inl, inr, ◌∙◌, ◌∷◌, []}
 use Rattle.std.proofs.lemmas.Result.{IfOk-weaker, IfErr-weaker}
 use Rattle.c_grammar.specs.declared.signs.Sign.TheVariants as sign
-use Rattle.c_grammar.specs.inner.Parted.{Called, Declared, Rest, data_item}
-use Rattle.c_grammar.specs.inner.Sets.{among, no_sign, elses}
-use Rattle.c_parser.specs.inner.Bounds.{Reads, Stops}
+use Rattle.c_grammar.specs.words.Parted.{Called, Declared, Rest, data_item}
+use Rattle.c_grammar.specs.words.Sets.{among, no_sign, elses}
+use Rattle.c_reader.specs.Bounds.{Reads, Stops}
 use Rattle.c_parser.specs.inner.Shapes.{read_data_called, read_declared_data, read_rest_of_data}
 use Rattle.c_grammar.proofs.Choices.{left_takes, right_takes, left_fails, right_fails, same_fork}
 use Rattle.c_grammar.proofs.Goods.{named, contd}

@@ -1,7 +1,7 @@
 use Rattle.std.proofs.Common.{refl}
 use Rattle.c_grammar.specs.Syntax as s
 use Rattle.c_grammar.specs.declared.signs.Sign.TheVariants as sign
-use Rattle.c_parser.specs.inner.Bounds.{Stops}
+use Rattle.c_reader.specs.Bounds.{Stops}
 use Rattle.c_parser.specs.inner.Shapes.{read_closed_params}
 use Rattle.c_grammar.proofs.Goods.{good_one}
 use Rattle.c_grammar.proofs.Items.{good_maybe_params}

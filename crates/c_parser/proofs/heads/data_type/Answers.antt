@@ -1,6 +1,6 @@
 use Rattle.std.proofs.Common.{refl}
 use Rattle.c_ast.specs.declared.items.ReturnType.TheVariants as return'
-use Rattle.c_parser.specs.inner.Bounds.{Stops}
+use Rattle.c_reader.specs.Bounds.{Stops}
 use Rattle.c_parser.specs.inner.Shapes.{read_data_type}
 use Rattle.c_grammar.proofs.Parts.{takes_made, fails_made}
 use Rattle.c_grammar.proofs.Steps.{passed, widen_takes, widen_fails}

@@ -1,6 +1,6 @@
 use Rattle.std.proofs.Common.{refl}
 use Rattle.c_grammar.specs.Items as i
-use Rattle.c_parser.specs.inner.Bounds.{Stops}
+use Rattle.c_reader.specs.Bounds.{Stops}
 use Rattle.c_parser.specs.inner.Shapes.{read_datum_param}
 use Rattle.c_grammar.proofs.Goods.{good_name}
 use Rattle.c_grammar.proofs.Leasts.{least_name}

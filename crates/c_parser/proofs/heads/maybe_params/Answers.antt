@@ -1,7 +1,7 @@
 use Rattle.std.proofs.Common.{Some, None, refl, sym, ap, ◌∙◌}
-use Rattle.c_grammar.specs.inner.Parted.{begins_params}
-use Rattle.c_grammar.specs.inner.Sets.{no_sign, commas}
-use Rattle.c_parser.specs.inner.Bounds.{Stops}
+use Rattle.c_grammar.specs.words.Parted.{begins_params}
+use Rattle.c_grammar.specs.words.Sets.{no_sign, commas}
+use Rattle.c_reader.specs.Bounds.{Stops}
 use Rattle.c_parser.specs.inner.Shapes.{read_maybe_params}
 use Rattle.c_grammar.proofs.Choices.{left_takes, right_takes, left_fails}
 use Rattle.c_grammar.proofs.Goods.{named}

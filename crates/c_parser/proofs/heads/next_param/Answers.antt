@@ -1,7 +1,7 @@
 use Rattle.std.proofs.Common.{refl}
 use Rattle.c_grammar.specs.Syntax as s
 use Rattle.c_grammar.specs.declared.signs.Sign.TheVariants as sign
-use Rattle.c_parser.specs.inner.Bounds.{Stops}
+use Rattle.c_reader.specs.Bounds.{Stops}
 use Rattle.c_parser.specs.inner.Shapes.{read_next_param}
 use Rattle.c_grammar.proofs.ItemLeasts.{least_param}
 use Rattle.c_grammar.proofs.Goods.{good_one}

@@ -2,8 +2,8 @@ use Rattle.std.proofs.Common.{refl, sym, ◌∙◌, ◌∷◌, []}
 use Rattle.std.proofs.lemmas.Result.{IfOk-weaker, IfErr-weaker}
 use Rattle.c_ast.specs.declared.items.Params.TheVariants as params'
 use Rattle.c_grammar.specs.declared.signs.Sign.TheVariants as sign
-use Rattle.c_grammar.specs.inner.Sets.{among, no_sign, commas}
-use Rattle.c_parser.specs.inner.Bounds.{Reads, Stops}
+use Rattle.c_grammar.specs.words.Sets.{among, no_sign, commas}
+use Rattle.c_reader.specs.Bounds.{Reads, Stops}
 use Rattle.c_parser.specs.inner.Shapes.{read_list_params, read_params, read_void_params}
 use Rattle.c_grammar.proofs.Choices.{left_takes, right_takes, left_fails, right_fails}
 use Rattle.c_grammar.proofs.Goods.{named, contd, good_at}

@@ -2,7 +2,7 @@ use Rattle.std.proofs.Common.{refl}
 use Rattle.c_grammar.specs.Items as i
 use Rattle.c_grammar.specs.Syntax.{at_of}
 use Rattle.c_grammar.specs.declared.signs.Sign.TheVariants as sign
-use Rattle.c_parser.specs.inner.Bounds.{Stops}
+use Rattle.c_reader.specs.Bounds.{Stops}
 use Rattle.c_parser.specs.inner.Shapes.{read_pointer_type}
 use Rattle.c_grammar.proofs.Goods.{good_one, good_at, good_name}
 use Rattle.c_grammar.proofs.Leasts.{least_name}

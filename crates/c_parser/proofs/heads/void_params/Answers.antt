@@ -2,7 +2,7 @@ use Rattle.std.proofs.Common.{refl}
 use Rattle.c_ast.specs.declared.items.Params.TheVariants as params'
 use Rattle.c_grammar.specs.Syntax.{at_of}
 use Rattle.c_grammar.specs.declared.signs.Sign.TheVariants as sign
-use Rattle.c_parser.specs.inner.Bounds.{Stops}
+use Rattle.c_reader.specs.Bounds.{Stops}
 use Rattle.c_parser.specs.inner.Shapes.{read_void_params}
 use Rattle.c_grammar.proofs.Parts.{takes_made, fails_made}
 use Rattle.c_grammar.proofs.Steps.{passed, widen_takes, widen_fails}

@@ -1,8 +1,8 @@
 use Rattle.std.proofs.Common.{refl, sym, ap, subst, ◌∙◌}
-use Rattle.c_grammar.specs.inner.Faults.Fails.{no_memory}
-use Rattle.c_grammar.specs.inner.Parted.{begins_item}
-use Rattle.c_grammar.specs.inner.Sets.{no_sign, elses}
-use Rattle.c_parser.specs.inner.Bounds.{Stops}
+use Rattle.c_grammar.specs.words.Faults.Fails.{no_memory}
+use Rattle.c_grammar.specs.words.Parted.{begins_item}
+use Rattle.c_grammar.specs.words.Sets.{no_sign, elses}
+use Rattle.c_reader.specs.Bounds.{Stops}
 use Rattle.c_parser.specs.inner.Shapes.{read_all_items, read_item}
 use Rattle.c_grammar.proofs.ItemForms.{good_item}
 use Rattle.c_grammar.proofs.Lists.{Leads, lists, leads_none, leads_more, leads_end, leads_stuck}

@@ -1,6 +1,6 @@
 use Rattle.std.proofs.Common.{length}
-use Rattle.c_grammar.specs.inner.Parted.{begins_item}
-use Rattle.c_grammar.specs.inner.Sets.{no_sign, elses}
+use Rattle.c_grammar.specs.words.Parted.{begins_item}
+use Rattle.c_grammar.specs.words.Sets.{no_sign, elses}
 use Rattle.c_parser.specs.inner.Shapes.{read_all_items, read_item}
 use Rattle.c_grammar.proofs.Lists.{Leads}
 use Rattle.c_grammar.proofs.Repeats.{cont_many}

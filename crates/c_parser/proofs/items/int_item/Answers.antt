@@ -2,8 +2,8 @@ use Rattle.std.proofs.Common.{refl}
 use Rattle.c_ast.specs.declared.statements.Data.TheVariants as data'
 use Rattle.c_grammar.specs.Syntax.{at_of}
 use Rattle.c_grammar.specs.declared.signs.Sign.TheVariants as sign
-use Rattle.c_grammar.specs.inner.Parted.{Rest, data_item, int_of}
-use Rattle.c_parser.specs.inner.Bounds.{Stops}
+use Rattle.c_grammar.specs.words.Parted.{Rest, data_item, int_of}
+use Rattle.c_reader.specs.Bounds.{Stops}
 use Rattle.c_parser.specs.inner.Shapes.{read_int_item}
 use Rattle.c_grammar.proofs.ItemLeasts.{least_data_rest}
 use Rattle.c_grammar.proofs.Goods.{good_at, good_name}

@@ -2,8 +2,8 @@ use Rattle.std.proofs.Common.{refl, inr}
 use Rattle.c_ast.specs.declared.operands.Name.{Name}
 use Rattle.c_lexer.specs.declared.token.Token.{Token}
 use Rattle.c_grammar.specs.declared.signs.Sign.TheVariants as sign
-use Rattle.c_grammar.specs.inner.Parted.{Rest, pointer_item, struct_item_of}
-use Rattle.c_parser.specs.inner.Bounds.{Stops}
+use Rattle.c_grammar.specs.words.Parted.{Rest, pointer_item, struct_item_of}
+use Rattle.c_reader.specs.Bounds.{Stops}
 use Rattle.c_parser.specs.inner.Shapes.{read_star_rest}
 use Rattle.c_grammar.proofs.ItemLeasts.{least_pointer_rest}
 use Rattle.c_grammar.proofs.Goods.{good_one, good_name}

@@ -3,7 +3,7 @@ use Rattle.c_ast.specs.declared.items.Field.{Field}
 use Rattle.c_lexer.specs.declared.token.Token.{Token}
 use Rattle.c_grammar.specs.Items as i
 use Rattle.c_grammar.specs.declared.signs.Sign.TheVariants as sign
-use Rattle.c_parser.specs.inner.Bounds.{Stops}
+use Rattle.c_reader.specs.Bounds.{Stops}
 use Rattle.c_parser.specs.inner.Shapes.{read_struct_end}
 use Rattle.c_grammar.proofs.Goods.{good_one}
 use Rattle.c_grammar.proofs.Items.{good_maybe_braced}

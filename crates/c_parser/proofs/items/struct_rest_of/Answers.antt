@@ -4,9 +4,9 @@ use Rattle.c_ast.specs.declared.items.Field.{Field}
 use Rattle.c_ast.specs.declared.operands.Name.{Name}
 use Rattle.c_lexer.specs.declared.token.Token.{Token}
 use Rattle.c_grammar.specs.Items as i
-use Rattle.c_grammar.specs.inner.Parted.{begins_ending, Rest, StructRest, struct_item_of}
-use Rattle.c_grammar.specs.inner.Sets.{no_sign, elses}
-use Rattle.c_parser.specs.inner.Bounds.{Reads, Stops}
+use Rattle.c_grammar.specs.words.Parted.{begins_ending, Rest, StructRest, struct_item_of}
+use Rattle.c_grammar.specs.words.Sets.{no_sign, elses}
+use Rattle.c_reader.specs.Bounds.{Reads, Stops}
 use Rattle.c_parser.specs.inner.Shapes.{read_star_rest, read_struct_end, read_struct_rest_of}
 use Rattle.c_grammar.proofs.Choices.{left_takes, right_takes, left_fails, right_fails, same_fork}
 use Rattle.c_grammar.proofs.Goods.{named, contd}

@@ -2,8 +2,8 @@ use Rattle.std.proofs.Common.{refl}
 use Rattle.c_ast.specs.declared.items.ReturnType.TheVariants as return'
 use Rattle.c_grammar.specs.Syntax.{at_of}
 use Rattle.c_grammar.specs.declared.signs.Sign.TheVariants as sign
-use Rattle.c_grammar.specs.inner.Parted.{Called, head_item, void_of}
-use Rattle.c_parser.specs.inner.Bounds.{Stops}
+use Rattle.c_grammar.specs.words.Parted.{Called, head_item, void_of}
+use Rattle.c_reader.specs.Bounds.{Stops}
 use Rattle.c_parser.specs.inner.Shapes.{read_void_item}
 use Rattle.c_grammar.proofs.ItemLeasts.{least_called}
 use Rattle.c_grammar.proofs.Goods.{good_at, good_name}

@@ -1,9 +1,9 @@
 use Rattle.std.proofs.Common.{sym, subst, ◌∙◌}
 use Rattle.c_grammar.specs.Items.{unit}
 use Rattle.c_grammar.specs.declared.fault.SyntaxFault.TheVariants.{Syntax}
-use Rattle.c_grammar.specs.inner.Faults.{Takes, Fails}
-use Rattle.c_grammar.specs.inner.Parted.{begins_item}
-use Rattle.c_grammar.specs.inner.Sets.{no_sign, elses}
+use Rattle.c_grammar.specs.words.Faults.{Takes, Fails}
+use Rattle.c_grammar.specs.words.Parted.{begins_item}
+use Rattle.c_grammar.specs.words.Sets.{no_sign, elses}
 use Rattle.c_grammar.proofs.SignLemmas.{clash}
 use Rattle.c_grammar.proofs.Steps.{passed}
 use Rattle.c_parser.specs.inner.Stops.{IsStop}

@@ -22,7 +22,7 @@ on_each-requires c =
     (λ G piece h. (
       piece.plain,
       (let l = covers_long F.forest G.forest h.0 in
-          let e : c.in_ok-count.count ≡ length F.forest.autos = c.in_ok-count.ensures in
+          let e : c.in_ok-count.count ≡ length F.forest.autos = rw c.forest-2.ensures at c.in_ok-count.ensures.value in
           omega (arith, l, e, c.loop-root-test.true)),
     ))
 
@@ -34,7 +34,8 @@ loop-root-preserved c =
 
 pub returns : goal.returns
 returns c =
-    let e : c.in_ok-count.count ≡ length c.args.forest.forest.autos = c.in_ok-count.ensures in
+    let F = c.args.forest in
+    let e : c.in_ok-count.count ≡ length F.forest.autos = rw c.forest-2.ensures at c.in_ok-count.ensures.value in
     split_weaker (HasChosen c.loop-root.root) (HasChosen (length c.args.forest.forest.autos)) (c.args.forest ∷ [])
     c.loop-root.list
     (λ F G i p h. (h.0, λ k l. h.1 k (omega (arith, l, e, c.loop-root-test.false)))) c.loop-root.invariant

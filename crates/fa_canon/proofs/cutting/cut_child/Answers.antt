@@ -18,7 +18,7 @@ pub returns-else-is_tied : goal.returns-else-is_tied
 returns-else-is_tied c =
     let s = c.args.step.now in
     let F = c.args.forest in
-    let ranked : Every IsRanked F.forest.autos = rw c.forest-2.ensures at c.ranked_components.ensures in
+    let ranked : Every IsRanked F.forest.autos = c.known.ensures.ranked in
     IfOk-weaker c.alone.result (λ made. made ≡ F ∷ [])
     (λ made. IsSplitEach (HasCutAt s.count s.root (s.place + 1) s.width) (F ∷ []) made)
     (λ made e. subst (λ (z : List SoundForest). IsSplitEach (HasCutAt s.count s.root (s.place + 1) s.width) (F ∷ []) z)

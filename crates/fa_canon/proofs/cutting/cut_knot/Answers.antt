@@ -1,4 +1,4 @@
-use Rattle.std.proofs.Common.{◌+◌, ℕ, length, [], ◌∷◌, sym, subst}
+use Rattle.std.proofs.Common.{◌≡◌, ◌+◌, ℕ, length, [], ◌∷◌, sym, subst}
 use Rattle.std.proofs.lemmas.Result.{IfOk-weaker}
 use Rattle.fore_base.specs.Lists.{Every}
 use Rattle.ta_core.specs.Auto.{IsRanked}
@@ -21,12 +21,13 @@ on_each-requires c =
     let s = c.args.step.now in
     let F = c.args.forest.now in
     let e = c.in_ok-list.ensures in
+    let from : c.in_ok-from.from ≡ length F.forest.autos = rw c.forest.ensures at c.in_ok-from.ensures.value in
     let split = split_step s.root s.place F c.in_ok-list.list c.requires.can.0.1 e.value e.plain e.face e.vars e.tops
     e.regroups e.whole in
     each_piece (IsSplitAt s.root s.place)
     (λ (G : SoundForest). Every HasNoBoxes G.forest.autos × HaveTops c.in_ok-from.from G.forest) F c.in_ok-list.list
     split
-    (λ G piece h. (piece.plain, subst (λ (n : ℕ). HaveTops n G.forest) (sym c.in_ok-from.ensures) h.1))
+    (λ G piece h. (piece.plain, subst (λ (n : ℕ). HaveTops n G.forest) (sym from) h.1))
 
 pub returns : goal.returns
 returns c =
@@ -34,7 +35,7 @@ returns c =
     let F = c.args.forest.now in
     let e = c.in_ok-list.ensures in
     let list = c.in_ok-list.list in
-    let ranked : Every IsRanked F.forest.autos = rw c.forest.ensures at c.ranked_components.ensures in
+    let ranked : Every IsRanked F.forest.autos = c.known.ensures.ranked in
     let split = split_step s.root s.place F list c.requires.can.0.1 e.value e.plain e.face e.vars e.tops e.regroups
     e.whole in
     IfOk-weaker c.on_each.result

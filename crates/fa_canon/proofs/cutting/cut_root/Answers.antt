@@ -1,8 +1,6 @@
-use Rattle.std.proofs.Common.{◌≡◌, ◌<◌, ◌+◌, ◌∙◌, ℕ, Some, length, slice_get, List, [], ◌∷◌, ap, sym, subst, arith}
-use Rattle.std.proofs.lemmas.Option.{same_Some}
-use Rattle.ta_core.specs.Auto.{Automaton}
-use Rattle.fa_merge.specs.Reordered.{component_at}
-use Rattle.fa_merge.proofs.PlacedForests.{component_got, component_has}
+use Rattle.std.proofs.Common.{◌≡◌, ◌<◌, ◌+◌, ℕ, length, List, [], ◌∷◌, sym, subst, arith}
+use Rattle.fa_sound.specs.Components.{component_at}
+use Rattle.fa_merge.proofs.PlacedForests.{component_has}
 use Rattle.fa_sound.specs.Soundness.{SoundForest}
 use Rattle.fa_split.specs.Split.{top_rule}
 use Rattle.ta_core.specs.Single.{HasOneTop}
@@ -14,6 +12,18 @@ use Rattle.fa_canon.proofs.KnotSteps.{width_is}
 use Rattle.fa_canon.proofs.Splits.{each_piece, split_same, split_twice, split_weaker}
 use Rattle.fa_canon.proofs.cutting.cut_root.Goals as goal
 
+pub component-requires : goal.component-requires
+component-requires c =
+    let few = c.requires.ready.2.few in
+    rw c.forest.ensures (omega (arith, few, c.requires.root))
+
+pub count_children-width-requires : goal.count_children-width-requires
+count_children-width-requires c =
+    let F = c.args.forest.forest in
+    let few = c.requires.ready.2.few in
+    rw (c.component.ensures, c.forest.ensures)
+    (component_has HasOneTop F.autos c.args.root c.requires.ready.1 (omega (arith, few, c.requires.root)))
+
 pub loop-place-init : goal.loop-place-init
 loop-place-init c =
     let F = c.args.forest in
@@ -22,11 +32,8 @@ loop-place-init c =
     let w = c.count_children-width.result in
     let few = c.requires.ready.2.few in
     let less : r < length F.forest.autos = omega (arith, few, c.requires.root) in
-    let got : slice_get F.forest.autos r ≡ Some c.at.result.now = rw c.forest.ensures at c.at.ensures in
-    let is = same_Some (component_at F.forest.autos r) c.at.result.now (sym (component_got F.forest.autos r less) ∙ got)
-    in
-    let width : w ≡ length (top_rule (component_at F.forest.autos r)).children = c.count_children-width.ensures
-    ∙ sym (ap (λ (a : Automaton). length (top_rule a).children) is) in
+    let width : w ≡ length (top_rule (component_at F.forest.autos r)).children =
+    rw (c.component.ensures, c.forest.ensures) at c.count_children-width.ensures in
     let wide : HasWidth F.forest r w =
     subst (λ (m : ℕ). HasWidth F.forest r m) (sym width)
     (width_is F.forest r less (component_has HasOneTop F.forest.autos r c.requires.ready.1 less)) in

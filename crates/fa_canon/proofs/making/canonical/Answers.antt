@@ -6,6 +6,7 @@ use Rattle.fa_core.specs.Canonical.{IsCanonical}
 use Rattle.fa_core.specs.Covering.{Reduced}
 use Rattle.fa_core.specs.Member.{Regroups}
 use Rattle.fa_merge.specs.Reached.{NeverLeaks}
+use Rattle.fa_merge.proofs.LeaksDecided.{reached_never_leaks}
 use Rattle.fa_sound.specs.Soundness.{SoundForest}
 use Rattle.fa_canon.specs.inner.Finished.{IsFinished}
 use Rattle.fa_canon.proofs.Finishing.{never_leaks, union_of}
@@ -38,9 +39,17 @@ returns-clause-plain g c =
 
 pub returns-clause-tight : goal.returns-clause-tight
 returns-clause-tight g c =
-    each_piece IsFinished (λ (s : SoundForest). NeverLeaks s.forest) c.args.forest.now c.in_ok-made.made
+    let F = c.args.forest.now in
+    each_piece IsFinished (λ (s : SoundForest). NeverLeaks s.face s.forest) F c.in_ok-made.made
     c.in_ok-made.ensures.split
-    (λ G piece h. never_leaks c.args.forest.now.forest G.forest piece.regroups c.requires.tight)
+    (λ G piece h T t.
+    never_leaks F.forest G.forest piece.regroups
+    (reached_never_leaks F.face F.forest c.requires.plain c.requires.reached) G.face.shapes.structs T)
+
+pub canonical_forests-requires-clause-tight : goal.canonical_forests-requires-clause-tight
+canonical_forests-requires-clause-tight g c κs within =
+    let F = c.args.forest.now in
+    reached_never_leaks F.face F.forest c.requires.plain c.requires.reached
 
 pub returns-clause-face : goal.returns-clause-face
 returns-clause-face g c =

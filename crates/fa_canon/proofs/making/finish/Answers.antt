@@ -2,13 +2,20 @@ use Rattle.fore_base.specs.Lists.{Every}
 use Rattle.ta_core.specs.Auto.{IsRanked}
 use Rattle.fa_canon.proofs.Finishing.{covered_both, root_kinds}
 use Rattle.fa_canon.proofs.MergedRoots.{regrouped_on}
+use Rattle.fa_canon.proofs.Settled.{all_reached}
 use Rattle.fa_canon.proofs.making.finish.Goals as goal
 
 pub place_roots-requires-clause-kinds : goal.place_roots-requires-clause-kinds
 place_roots-requires-clause-kinds g c =
     let F = c.args.forest.now in
-    let ranked : Every IsRanked F.forest.autos = rw c.forest.ensures at c.ranked_components.ensures in
+    let ranked : Every IsRanked F.forest.autos = c.known.ensures.ranked in
     root_kinds c.args._count F c.known.ensures.sound ranked c.requires.can
+
+pub place_roots-requires-clause-reached : goal.place_roots-requires-clause-reached
+place_roots-requires-clause-reached g c =
+    let F = c.args.forest.now in
+    let ranked : Every IsRanked F.forest.autos = c.known.ensures.ranked in
+    all_reached F.face F.forest c.known.ensures.sound ranked c.requires.can.0.0 c.requires.can.1
 
 pub returns-clause-regrouped : goal.returns-clause-regrouped
 returns-clause-regrouped g c =

@@ -12,11 +12,11 @@ use Rattle.fa_canon.proofs.making.made_canonical.Goals as goal
 pub on_each-requires : goal.on_each-requires
 on_each-requires g c =
     let F = c.args.forest in
-    let ranked : Every IsRanked F.forest.autos = rw c.forest-2.ensures at c.ranked_components.ensures in
+    let ranked : Every IsRanked F.forest.autos = c.known.ensures.ranked in
     each_piece (HasChosen (length F.forest.autos)) (IsReady c.in_ok-count.count 0 0) F c.in_ok-chosen.chosen
     c.in_ok-chosen.ensures
-    (λ G piece h. ready_start c.in_ok-count.count F G c.in_ok-count.ensures c.known.ensures.sound ranked
-    c.requires.plain c.requires.none c.requires.tight piece h)
+    (λ G piece h. ready_start c.in_ok-count.count F G (rw c.forest-2.ensures at c.in_ok-count.ensures.value)
+    c.known.ensures.sound ranked c.requires.plain c.requires.none c.requires.tight piece h)
 
 pub finish_each-requires-clause-can : goal.finish_each-requires-clause-can
 finish_each-requires-clause-can g c κs within =

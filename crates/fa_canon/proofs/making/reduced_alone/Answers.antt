@@ -1,6 +1,6 @@
 use Rattle.std.proofs.Common.{◌≡◌, ◌++◌, List, [], ◌∷◌, ◌∙◌, ap, sym, subst}
 use Rattle.fa_sound.specs.Soundness.{SoundForest}
-use Rattle.fa_split.specs.Divided.{forests}
+use Rattle.fa_sound.specs.Unions.{forests}
 use Rattle.fa_canon.specs.Canonized.{IsSameAlone}
 use Rattle.fa_canon.specs.inner.Finished.{IsFinished}
 use Rattle.fa_canon.specs.inner.Steps.{IsSplitEach}

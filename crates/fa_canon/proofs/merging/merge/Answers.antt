@@ -11,7 +11,7 @@ pub returns : goal.returns
 returns c =
     let F = c.args.forest.now in
     let G = c.in_ok-made.made in
-    let ranked : Every IsRanked F.forest.autos = rw c.forest.ensures at c.ranked_components.ensures in
+    let ranked : Every IsRanked F.forest.autos = c.known.ensures.ranked in
     record {
       regrouped = record {
         plain = no_boxes F.face F.forest G.forest c.args.root c.known.ensures.sound ranked c.requires.plain

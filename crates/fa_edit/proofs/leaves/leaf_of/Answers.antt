@@ -13,7 +13,8 @@ returns-in-Some-clause-held c =
     (c.component-auto.ensures, c.forest.ensures) at c.in-Some.ensures in
     let alone : IsLeafPlace F c.args.root c.in-Some.place c.only_leaf.result = rw
     (c.rules_of.ensures, c.state_at.ensures, c.component-auto.ensures, c.forest.ensures) at c.only_leaf.ensures in
-    all_have F c.args.root c.args.field ranked c.requires.at c.in-Some.place (sym place) c.only_leaf.result alone
+    all_have c.args.forest.now.face.shapes.structs F c.args.root c.args.field ranked c.requires.at c.in-Some.place
+    (sym place) c.only_leaf.result alone
 
 pub returns-in-None-clause-held : goal.returns-in-None-clause-held
 returns-in-None-clause-held c =
@@ -21,4 +22,4 @@ returns-in-None-clause-held c =
     let ranked : Every IsRanked F.autos = c.known.ensures.ranked in
     let place : None ≡ place_at F c.args.root c.args.field = rw (c.component-auto.ensures, c.forest.ensures) at
     c.in-None.ensures in
-    lacks F c.args.root c.args.field ranked c.requires.at (sym place)
+    lacks c.args.forest.now.face.shapes.structs F c.args.root c.args.field ranked c.requires.at (sym place)

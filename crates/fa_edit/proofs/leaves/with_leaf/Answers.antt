@@ -26,7 +26,8 @@ returns-clause-put c =
     (λ made. made.forest ≡ split_leaf F r p c.args.leaf)
     (λ made. (T : List BoxDef) (old : Target) → AllHaveLeaf T F r f old → IsPut T F made.forest r f old c.args.leaf)
     (λ made e T old all. subst (λ (G : Forest). IsPut T F G r f old c.args.leaf) (sym e)
-    (is_put F r f ranked c.requires.at p (sym place) t.0 t.1 c.args.leaf T old all))
+    (is_put c.args.forest.now.face.shapes.structs F r f ranked c.requires.at p (sym place) t.0 t.1 c.args.leaf T old
+    all))
     c.with_leaf_at.ensures.forest
 
 pub returns-clause-plain : goal.returns-clause-plain

@@ -5,7 +5,8 @@ use Rattle.fa_edit.proofs.leaves.with_leaf_at.Goals as goal
 pub fix_leaf-requires-clause-can : goal.fix_leaf-requires-clause-can
 fix_leaf-requires-clause-can c =
     let r = c.requires in
-    can c.args.forest.now.forest c.args.root c.args.field c.known.ensures.ranked r.at c.args.place r.place
+    can c.args.forest.now.face.shapes.structs c.args.forest.now.forest c.args.root c.args.field c.known.ensures.ranked
+    r.at c.args.place r.place
 
 pub fix_leaf-requires-clause-plain : goal.fix_leaf-requires-clause-plain
 fix_leaf-requires-clause-plain c =

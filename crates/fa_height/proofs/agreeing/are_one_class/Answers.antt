@@ -1,6 +1,6 @@
 use Rattle.std.proofs.Common.{sym, true≢false}
 use Rattle.fore_base.proofs.ListLemmas.{paired_long}
-use Rattle.fa_height.specs.inner.Classes.{IsOneClass}
+use Rattle.ta_classes.specs.Classes.{IsOneClass}
 use Rattle.fa_height.proofs.agreeing.are_one_class.Goals as goal
 
 pub returns-then-left-right : goal.returns-then-left-right

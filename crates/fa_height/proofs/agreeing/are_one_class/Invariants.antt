@@ -1,6 +1,6 @@
 use Rattle.std.proofs.Common.{◌≡◌, ◌↔◌, length, drop}
 use Rattle.fore_base.specs.Lists.{Paired}
-use Rattle.fa_height.specs.inner.Classes.{IsOneClass}
+use Rattle.ta_classes.specs.Classes.{IsOneClass}
 use Rattle.fa_height.proofs.agreeing.are_one_class.Given as goal
 
 abbrev pub invariant-loop-place : goal.invariant-loop-place

@@ -4,9 +4,9 @@ use Rattle.fore_base.proofs.ListLemmas.{same_item}
 use Rattle.ta_core.specs.Auto.{Automaton}
 use Rattle.ta_core.specs.Renumbered.{image}
 use Rattle.fa_sound.proofs.Signed.{signed_at, signed_long}
-use Rattle.fa_sound.proofs.SpotRules.{passed}
+use Rattle.fa_filling.proofs.SpotRules.{passed}
 use Rattle.fa_height.specs.Quotients.{IsQuotient}
-use Rattle.fa_height.specs.inner.Classes.{AreClasses}
+use Rattle.ta_classes.specs.Classes.{AreClasses}
 use Rattle.fa_height.specs.inner.Joining.{AreMarksEach, IsJoined}
 use Rattle.fa_height.proofs.Joined.{get_there, joined_quotient}
 use Rattle.fa_height.proofs.joining.quotient.Goals as goal

@@ -1,4 +1,4 @@
-use Rattle.fa_join.proofs.Children.{child_below}
+use Rattle.fa_split.proofs.ChildStates.{child_below}
 use Rattle.fa_join.proofs.JoinedAutos.{joined_ranked}
 use Rattle.fa_join.proofs.autos.join_autos.Goals as goal
 

@@ -2,7 +2,7 @@ use Rattle.ta_core.specs.Auto.{IsRanked}
 use Rattle.ta_core.specs.Single.{HasOneTop}
 use Rattle.fa_sound.specs.Components.{component_at}
 use Rattle.fa_merge.proofs.PlacedForests.{component_has}
-use Rattle.fa_join.proofs.Children.{children_within}
+use Rattle.fa_split.proofs.ChildStates.{children_within}
 use Rattle.fa_join.proofs.DecidedForests.{tops_long}
 use Rattle.fa_join.proofs.differing.children_apart.Goals as goal
 

@@ -1,5 +1,5 @@
 use Rattle.std.proofs.Common.{◌≡◌, drop}
-use Rattle.fa_merge.specs.inner.Counted.{marks_count}
+use Rattle.fa_merge.specs.Counts.{marks_count}
 use Rattle.fa_merge.proofs.counting.count_marks.Given as goal
 
 abbrev pub invariant-loop-mark : goal.invariant-loop-mark

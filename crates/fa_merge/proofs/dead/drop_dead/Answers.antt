@@ -2,6 +2,7 @@ use Rattle.std.proofs.Common.{◌≡◌, ◌∙◌, ap, sym, subst, List}
 use Rattle.std.proofs.lemmas.Result.{IfOk-weaker}
 use Rattle.fore_base.specs.Lists.{Every}
 use Rattle.ta_core.specs.Auto.{IsRanked}
+use Rattle.fa_core.specs.Boxes.{IsTableOf}
 use Rattle.fa_core.specs.Boxless.{HasNoBoxes}
 use Rattle.fa_core.specs.Filled.{IsSound}
 use Rattle.fa_core.specs.declared.boxes.BoxDef.{BoxDef}
@@ -50,8 +51,9 @@ returns-clause-removes c = λ dead.
     let r = c.args.root in
     let made : c.in_ok-made.made ≡ dropped_forest r F = c.in_ok-made.ensures ∙ ap (dropped_forest r) c.forest.ensures in
     let ranked : Every IsRanked F.autos = c.known.ensures.ranked in
-    IfOk-weaker c.of.result (λ s. s.forest ≡ c.in_ok-made.made) (λ s. (T : List BoxDef) → Removes hs T F s.forest r)
-    (λ s e T. subst (λ (z : Forest). Removes hs T F z r) (sym (e ∙ made))
+    IfOk-weaker c.of.result (λ s. s.forest ≡ c.in_ok-made.made) (λ s. (T : List BoxDef) → IsTableOf face T
+    → Removes hs T F s.forest r)
+    (λ s e T t. subst (λ (z : Forest). Removes hs T F z r) (sym (e ∙ made))
     (store_cut hs T F (dropped_forest r F) r c.requires.plain
     (cut_of face F r c.requires.root ranked c.requires.plain c.known.ensures.sound T dead)))
     c.of.ensures.forest
@@ -64,8 +66,9 @@ returns-clause-restores c = λ dead.
     let r = c.args.root in
     let made : c.in_ok-made.made ≡ dropped_forest r F = c.in_ok-made.ensures ∙ ap (dropped_forest r) c.forest.ensures in
     let ranked : Every IsRanked F.autos = c.known.ensures.ranked in
-    IfOk-weaker c.of.result (λ s. s.forest ≡ c.in_ok-made.made) (λ s. (T : List BoxDef) → Restores hs T F s.forest r)
-    (λ s e T. subst (λ (z : Forest). Restores hs T F z r) (sym (e ∙ made))
+    IfOk-weaker c.of.result (λ s. s.forest ≡ c.in_ok-made.made) (λ s. (T : List BoxDef) → IsTableOf face T
+    → Restores hs T F s.forest r)
+    (λ s e T t. subst (λ (z : Forest). Restores hs T F z r) (sym (e ∙ made))
     (store_restored T face F (dropped_forest r F) r c.requires.plain
     (dropped_plain face F r c.requires.root ranked c.requires.plain c.known.ensures.sound)
     c.known.ensures.sound.well_formed.filled

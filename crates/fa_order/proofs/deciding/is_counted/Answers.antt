@@ -1,6 +1,6 @@
 use Rattle.std.proofs.Common.{sym, ◌∙◌}
 use Rattle.std.proofs.lemmas.Bool.{eqb-true}
-use Rattle.fa_order.proofs.Tops.{in_order}
+use Rattle.fa_order.proofs.InOrder.{in_order}
 use Rattle.fa_order.proofs.deciding.is_counted.Goals as goal
 
 pub returns-then-numbers-count : goal.returns-then-numbers-count

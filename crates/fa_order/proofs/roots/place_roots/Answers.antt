@@ -11,7 +11,7 @@ use Rattle.fa_merge.proofs.ReorderedSound.{new_plain}
 use Rattle.fa_order.specs.Placing.{IsPlaced}
 use Rattle.fa_order.proofs.BothOk.{both_ok}
 use Rattle.fa_order.proofs.Concluding.{placed_canonical}
-use Rattle.fa_order.proofs.WalkOrder.{is_order, tight_reached, in_order_walks, reordered_same}
+use Rattle.fa_order.proofs.WalkOrder.{is_order, in_order_walks, reordered_same}
 use Rattle.fa_order.proofs.roots.place_roots.Goals as goal
 
 pub reorder-requires-clause-all : goal.reorder-requires-clause-all
@@ -21,7 +21,7 @@ reorder-requires-clause-all c =
     let sound = c.known.ensures.sound in
     let ranked : Every IsRanked F.autos = c.known.ensures.ranked in
     subst (IsOrderOf F) (sym c.as_slice.ensures)
-    (is_order face F sound c.requires.plain (tight_reached face F sound c.requires.plain ranked c.requires.tight)
+    (is_order face F sound c.requires.plain c.requires.reached
     c.in_ok-order.order c.in_ok-order.ensures)
 
 pub returns-clause-canonical : goal.returns-clause-canonical
@@ -32,7 +32,7 @@ returns-clause-canonical c =
     let order = c.in_ok-order.order in
     let ranked : Every IsRanked F.autos = c.known.ensures.ranked in
     let all : IsOrderOf F order =
-    is_order face F sound c.requires.plain (tight_reached face F sound c.requires.plain ranked c.requires.tight)
+    is_order face F sound c.requires.plain c.requires.reached
     order c.in_ok-order.ensures in
     both_ok c.reorder.result (λ s. s.forest ≡ reordered c.as_slice.result.now F) (λ s. s.face ≡ face)
     (λ s. IsCanonical s.face s.forest)
@@ -50,7 +50,7 @@ returns-clause-value c =
     let order = c.in_ok-order.order in
     let ranked : Every IsRanked F.autos = c.known.ensures.ranked in
     let all : IsOrderOf F order =
-    is_order face F sound c.requires.plain (tight_reached face F sound c.requires.plain ranked c.requires.tight)
+    is_order face F sound c.requires.plain c.requires.reached
     order c.in_ok-order.ensures in
     IfOk-weaker c.reorder.result (λ s. s.forest ≡ reordered c.as_slice.result.now F) (λ s. IsPlaced F s.forest)
     (λ s value. (order, all, c.in_ok-order.ensures, value ∙ ap (λ (ks : List ℕ). reordered ks F) c.as_slice.ensures))
@@ -64,7 +64,7 @@ returns-clause-plain c =
     let order = c.in_ok-order.order in
     let ranked : Every IsRanked F.autos = c.known.ensures.ranked in
     let all : IsOrderOf F order =
-    is_order face F sound c.requires.plain (tight_reached face F sound c.requires.plain ranked c.requires.tight)
+    is_order face F sound c.requires.plain c.requires.reached
     order c.in_ok-order.ensures in
     IfOk-weaker c.reorder.result (λ s. s.forest ≡ reordered c.as_slice.result.now F)
     (λ s. Every HasNoBoxes s.forest.autos)

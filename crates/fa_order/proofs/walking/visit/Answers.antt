@@ -5,22 +5,22 @@ use Rattle.fa_order.specs.inner.Stacks.{behind, nth_refs}
 use Rattle.fa_order.proofs.Weights.{visit_old, visit_new, refs_below}
 use Rattle.fa_order.proofs.walking.visit.Goals as goal
 
-pub returns-then-is_in-clause-goes : goal.returns-then-is_in-clause-goes
-returns-then-is_in-clause-goes c =
+pub returns-then-has-clause-goes : goal.returns-then-has-clause-goes
+returns-then-has-clause-goes c =
     (visit_old c.args.refers.now c.args.root (behind c.args.stack.now) c.args.placed.now
-    (ap (has c.args.root) (sym c.as_slice.ensures) ∙ sym c.if-is_in.ensures)).0
+    (ap (has c.args.root) (sym c.as_slice.ensures) ∙ sym c.if-has.ensures)).0
 
 pub returns-in_ok-push_refs-clause-goes : goal.returns-in_ok-push_refs-clause-goes
 returns-in_ok-push_refs-clause-goes c =
     rw (c.in_ok-push_refs.ensures, c.in_ok-push.ensures.ok)
     (visit_new c.args.refers.now c.args.root (behind c.args.stack.now) c.args.placed.now c.requires
-    (ap (has c.args.root) (sym c.as_slice.ensures) ∙ sym c.if-is_in.ensures)).0
+    (ap (has c.args.root) (sym c.as_slice.ensures) ∙ sym c.if-has.ensures)).0
 
 pub returns-in_ok-push_refs-clause-falls : goal.returns-in_ok-push_refs-clause-falls
 returns-in_ok-push_refs-clause-falls c =
     rw (c.in_ok-push_refs.ensures, c.in_ok-push.ensures.ok)
     (visit_new c.args.refers.now c.args.root (behind c.args.stack.now) c.args.placed.now c.requires
-    (ap (has c.args.root) (sym c.as_slice.ensures) ∙ sym c.if-is_in.ensures)).1
+    (ap (has c.args.root) (sym c.as_slice.ensures) ∙ sym c.if-has.ensures)).1
 
 pub returns-in_ok-push_refs-clause-below : goal.returns-in_ok-push_refs-clause-below
 returns-in_ok-push_refs-clause-below c =

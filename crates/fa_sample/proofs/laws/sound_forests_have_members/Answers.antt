@@ -1,4 +1,4 @@
-use Rattle.fa_sample.proofs.Making.{has_member}
+use Rattle.fa_sample.proofs.Sampled.{has_member}
 use Rattle.fa_sample.proofs.laws.sound_forests_have_members.Goals as goal
 
 pub returns : goal.returns

@@ -1,6 +1,6 @@
 use Rattle.std.proofs.Common.{◌≡◌, map, take}
 use Rattle.fore_base.specs.Lists.{Every}
-use Rattle.fa_signatures.specs.CutForests.{forests}
+use Rattle.fa_sound.specs.Unions.{forests}
 use Rattle.fa_signatures.specs.inner.CutProducts.{with_autos}
 use Rattle.fa_signatures.proofs.parts.forests.Given as goal
 

@@ -1,7 +1,8 @@
 use Rattle.std.proofs.Common.{◌≡◌, List, map, sym, subst}
 use Rattle.std.proofs.lemmas.Result.{IfOk-weaker}
 use Rattle.fa_sound.specs.Soundness.{SoundForest}
-use Rattle.fa_signatures.specs.CutForests.{AreCutForests, forests}
+use Rattle.fa_sound.specs.Unions.{forests}
+use Rattle.fa_signatures.specs.CutForests.{AreCutForests}
 use Rattle.fa_signatures.specs.inner.CutProducts.{product, with_autos}
 use Rattle.fa_signatures.proofs.CutLaws.{product_cuts, product_pieces}
 use Rattle.fa_signatures.proofs.parts.product_forests.Goals as goal

@@ -1,11 +1,10 @@
 use Rattle.fa_signatures.proofs.CutLaws.{pieces_plain, pieces_sound}
 use Rattle.fa_signatures.proofs.parts.sound_with.Goals as goal
 
-pub make-requires : goal.make-requires
-make-requires c = rw c.in_ok-made.ensures
+pub of-requires-clause-plain : goal.of-requires-clause-plain
+of-requires-clause-plain c = rw c.in_ok-made.ensures
     (pieces_plain c.args.face.now c.args.forest.now c.args.autos.now c.requires.pieces c.requires.plain)
 
-pub unreachable-requires : goal.unreachable-requires
-unreachable-requires c =
-    let none = rw (c.in-None.is, c.in_ok-made.ensures) at c.in_ok-sound.ensures in
-    none (pieces_sound c.args.face.now c.args.forest.now c.args.autos.now c.requires.pieces c.requires.filled)
+pub of-requires-clause-sound : goal.of-requires-clause-sound
+of-requires-clause-sound c = rw c.in_ok-made.ensures
+    (pieces_sound c.args.face.now c.args.forest.now c.args.autos.now c.requires.pieces c.requires.filled)

@@ -1,7 +1,8 @@
 use Rattle.std.proofs.Common.{◌≡◌, List, [], ◌∷◌}
 use Rattle.std.proofs.lemmas.Result.{IfOk-weaker}
 use Rattle.fa_sound.specs.Soundness.{SoundForest}
-use Rattle.fa_signatures.specs.CutForests.{AreCutForests, forests}
+use Rattle.fa_sound.specs.Unions.{forests}
+use Rattle.fa_signatures.specs.CutForests.{AreCutForests}
 use Rattle.fa_signatures.proofs.SoundCuts.{cuts_alone}
 use Rattle.fa_signatures.proofs.signatures.sound_forests.Goals as goal
 

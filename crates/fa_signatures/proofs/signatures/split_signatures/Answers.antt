@@ -7,7 +7,8 @@ use Rattle.fa_core.specs.Boxless.{HasNoBoxes}
 use Rattle.fa_core.specs.Member.{Regroups, RegroupsInto}
 use Rattle.fa_core.specs.declared.boxes.BoxDef.{BoxDef}
 use Rattle.fa_sound.specs.Soundness.{SoundForest}
-use Rattle.fa_signatures.specs.CutForests.{AreCutForests, IsUnionOf, forests}
+use Rattle.fa_sound.specs.Unions.{IsUnionOf, forests}
+use Rattle.fa_signatures.specs.CutForests.{AreCutForests}
 use Rattle.fa_signatures.proofs.CutLaws.{regroups_all, cut_into, cut_union, cut_empty, plain_all}
 use Rattle.fa_signatures.proofs.signatures.split_signatures.Goals as goal
 

@@ -2,15 +2,15 @@ use Rattle.std.proofs.Common.{◌∙◌, sym, true≢false}
 use Rattle.fa_split.proofs.ChildEnds.{top_decided}
 use Rattle.fa_split.proofs.choosing.stands_at_top.Goals as goal
 
-pub returns-then-is_one_of : goal.returns-then-is_one_of
-returns-then-is_one_of c =
-    let root = sym (rw c.roots_of.ensures at c.is_one_of.ensures) ∙ c.if-is_one_of.true in
+pub returns-then-has : goal.returns-then-has
+returns-then-has c =
+    let root = sym (rw c.roots_of.ensures at c.has.ensures) ∙ c.if-has.true in
     let marked = rw c.as_slice.ensures at c.are_all_marked.ensures in
     let k = top_decided c.args.auto.now c.args.rule.now c.args.marks.now c.requires in
     ((λ t. k.0 (root, sym marked ∙ t)), (λ h. marked ∙ (k.1 h).1))
 
-pub returns-else-is_one_of : goal.returns-else-is_one_of
-returns-else-is_one_of c =
-    let root = rw c.roots_of.ensures at c.is_one_of.ensures in
+pub returns-else-has : goal.returns-else-has
+returns-else-has c =
+    let root = rw c.roots_of.ensures at c.has.ensures in
     let k = top_decided c.args.auto.now c.args.rule.now c.args.marks.now c.requires in
-    ((λ t. absurd (true≢false (sym t ∙ c.if-is_one_of.false))), (λ h. root ∙ (k.1 h).0))
+    ((λ t. absurd (true≢false (sym t ∙ c.if-has.false))), (λ h. root ∙ (k.1 h).0))

@@ -1,11 +1,11 @@
-use Rattle.std.proofs.Common.{◌≡◌, ◌∙◌, ◌<◌, ◌≤◌, length, sym, ap, subst}
-use Rattle.std.proofs.lemmas.Option.{slice_get_within}
-use Rattle.fix_engine.specs.inner.Posting.{AreMade}
+use Rattle.std.proofs.Common.{◌<◌, ◌≤◌, subst}
+use Rattle.fix_successors.specs.Posting.{AreMade}
 use Rattle.fix_engine.specs.inner.Taking.{IsFront, IsTakenNode}
-use Rattle.fix_engine.specs.inner.Tracing.{IsTraceTo}
-use Rattle.fix_engine.proofs.Lists.{at_within}
+use Rattle.fix_trace.specs.Tracing.{IsTraceTo}
+use Rattle.fix_core.proofs.Lists.{at_within}
 use Rattle.fix_engine.proofs.TakenUp.{front_wider, front_stage, made_at, node_normal, node_inside, front_closed}
-use Rattle.fix_engine.proofs.TakenUp.{has_ways, trace_is}
+use Rattle.fix_engine.proofs.TakenUp.{trace_is}
+use Rattle.fix_trace.proofs.Tracing.{has_ways}
 use Rattle.fix_engine.proofs.exploring.work.Goals as goal
 
 pub nodes-init : goal.nodes-init

@@ -1,5 +1,5 @@
 use Rattle.std.proofs.Common.{◌≡◌, ◌∙◌, ◌++◌, ◌∷◌, [], None, refl, sym, ap, subst}
-use Rattle.fix_engine.specs.declared.nodes.Node.{Node}
+use Rattle.fix_core.specs.declared.nodes.Node.{Node}
 use Rattle.fix_engine.specs.inner.Taking.{IsFront}
 use Rattle.fix_engine.proofs.Starting.{first_front}
 use Rattle.fix_engine.proofs.first.first_node.Goals as goal

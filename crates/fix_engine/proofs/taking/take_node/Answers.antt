@@ -1,8 +1,8 @@
 use Rattle.std.proofs.Common.{◌+◌, drop, ap, subst}
-use Rattle.fix_engine.specs.inner.Exits.{Rises}
-use Rattle.fix_engine.specs.inner.Posting.{IsMadeAt, edge_numbers}
+use Rattle.fix_successors.specs.Exits.{Rises}
+use Rattle.fix_successors.specs.Posting.{IsMadeAt, edge_numbers}
 use Rattle.fix_engine.specs.inner.Taking.{IsStage, IsTakenEdge}
-use Rattle.fix_engine.proofs.Lists.{at_item, drop_at, drop_all, in_at, every_in}
+use Rattle.fix_core.proofs.Lists.{at_item, drop_at, drop_all, in_at, every_in}
 use Rattle.fix_engine.proofs.Growing.{grows_then}
 use Rattle.fix_engine.proofs.TakenUp.{stage_mid, stage_next, stage_done, made_more, edge_ends}
 use Rattle.fix_engine.proofs.taking.take_node.Goals as goal

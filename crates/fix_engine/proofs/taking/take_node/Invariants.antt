@@ -1,6 +1,6 @@
 use Rattle.std.proofs.Common.{◌≤◌, drop, length}
-use Rattle.fix_engine.specs.inner.Exits.{Rises}
-use Rattle.fix_engine.specs.inner.Posting.{edge_numbers}
+use Rattle.fix_successors.specs.Exits.{Rises}
+use Rattle.fix_successors.specs.Posting.{edge_numbers}
 use Rattle.fix_engine.specs.inner.Taking.{IsStage, Grows}
 use Rattle.fix_engine.proofs.taking.take_node.Given as goal
 

@@ -8,4 +8,4 @@ returns-clause-settles g c =
     c.in_ok-next.next
     c.in_ok-next.ensures.joined c.in_ok-next.ensures.canonical c.in_ok-next.ensures.reduced c.in_ok-next.ensures.plain
     (rw c.face.ensures at c.in_ok-next.ensures.faces)
-    (rw c.as_slice.ensures at c.stand_for_some.ensures)
+    (rw c.as_slice.ensures at c.are_dressed.ensures)

@@ -1,3 +1,4 @@
+use Rattle.fa_core.specs.declared.faces.Face.{Face}
 use Rattle.std.proofs.Common.{◌≡◌, ◌+◌, ◌∙◌, ap, sym, subst, ◌∷◌, length, drop, List, length-append, arith}
 use Rattle.fore_base.proofs.ListLemmas.{every_at, every_mapped, drop_item, in_at, only_item}
 use Rattle.fa_core.specs.Canonical.{IsCanonical}
@@ -14,8 +15,8 @@ loop-forest-init g c =
     let s = c.args._forest.now in
     let e = c.args.edge.now in
     rw (c.as_slice-forest-items.ensures, c.new-next.ensures) (
-      settling_first s.face s.forest e (λ (H : Forest). IsExplicit H e.instr) c.args.opened.ready c.args.opened.faults
-          c.requires.opens,
+      settling_first s.face s.forest e (λ (H : Forest). IsExplicit s.face.shapes.structs H e.instr)
+          c.args.opened.ready c.args.opened.faults c.requires.opens,
       (λ q. omega arith),
     )
 
@@ -37,12 +38,18 @@ settle-requires-clause-fits g c = λ ls w.
 
 pub settle-requires-clause-explicit : goal.settle-requires-clause-explicit
 settle-requires-clause-explicit g c = λ ls w.
+    let s = c.args._forest.now in
     let e = c.args.edge.now in
-    every_at (λ (x : SoundForest). IsExplicit x.forest e.instr) c.args.opened.ready c.loop-forest.forest-index
+    let hs = s.face.shapes.structs in
+    let more = rw c.as_slice-forest-items.ensures at c.loop-forest-test.true in
+    let is = rw c.as_slice-forest-items.ensures at c.forest-item.is in
+    let like = every_at (IsLike s.face s.forest) c.args.opened.ready c.loop-forest.forest-index c.forest-item.result
+    c.requires.opens.like more is in
+    subst (λ (face : Face). IsExplicit face.shapes.structs c.forest-item.result.forest e.instr) (sym like.face)
+    (every_at (λ (x : SoundForest). IsExplicit hs x.forest e.instr) c.args.opened.ready c.loop-forest.forest-index
     c.forest-item.result
-    (every_mapped (λ (x : SoundForest). x.forest) (λ (H : Forest). IsExplicit H e.instr) c.args.opened.ready
-    c.requires.opens.ready) (rw c.as_slice-forest-items.ensures at c.loop-forest-test.true)
-    (rw c.as_slice-forest-items.ensures at c.forest-item.is)
+    (every_mapped (λ (x : SoundForest). x.forest) (λ (H : Forest). IsExplicit hs H e.instr) c.args.opened.ready
+    c.requires.opens.ready) more is)
 
 pub settle-requires-clause-calm : goal.settle-requires-clause-calm
 settle-requires-clause-calm g c = λ ls w q.

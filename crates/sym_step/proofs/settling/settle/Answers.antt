@@ -9,23 +9,23 @@ pub bad_alone-requires-clause-met : goal.bad_alone-requires-clause-met
 bad_alone-requires-clause-met g c =
     let s = c.args.forest.now in
     edge_fault s.face c.args.edge.now s.forest c.in-Fault.fault
-    (λ (T : List BoxDef). subst (IsEdited s.face T s.forest c.args.edge.now) c.in-Fault.is
-    (c.in_ok-made.ensures.edited T))
+    (λ (T : List BoxDef) t. subst (IsEdited s.face T s.forest c.args.edge.now) c.in-Fault.is
+    (c.in_ok-made.ensures.edited T t))
 
 pub nothing-requires : goal.nothing-requires
 nothing-requires g c =
     let s = c.args.forest.now in
     record {
       stays = all_stay s.face c.args.edge.now s.forest
-          (λ (T : List BoxDef). subst (IsEdited s.face T s.forest c.args.edge.now) c.in-Stays.is
-          (c.in_ok-made.ensures.edited T));
+          (λ (T : List BoxDef) t. subst (IsEdited s.face T s.forest c.args.edge.now) c.in-Stays.is
+          (c.in_ok-made.ensures.edited T t));
     }
 
 pub settle_edited-requires-clause-carries : goal.settle_edited-requires-clause-carries
 settle_edited-requires-clause-carries g c = λ ls w.
     let s = c.args.forest.now in
-    (λ (T : List BoxDef). subst (IsEdited s.face T s.forest c.args.edge.now) c.in-Goes.is
-    (c.in_ok-made.ensures.edited T))
+    (λ (T : List BoxDef) t. subst (IsEdited s.face T s.forest c.args.edge.now) c.in-Goes.is
+    (c.in_ok-made.ensures.edited T t))
 
 pub settle_edited-requires-clause-like : goal.settle_edited-requires-clause-like
 settle_edited-requires-clause-like g c = λ ls w.

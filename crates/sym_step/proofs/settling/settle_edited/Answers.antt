@@ -1,5 +1,6 @@
 use Rattle.std.proofs.Common.{ℕ, Option, MatchOption, subst}
-use Rattle.fa_merge.specs.Reached.{AlwaysLeaks, NeverLeaks}
+use Rattle.fa_core.specs.declared.faces.Face.{Face}
+use Rattle.fa_merge.specs.Reached.{AlwaysLeaks, AreAllReached, IsLeastUnreached, NeverLeaks}
 use Rattle.fa_split.specs.Divided.{forests}
 use Rattle.sym_step.proofs.SettledForests.{settled_goes, each_next_on}
 use Rattle.sym_step.proofs.Stepping.{all_leak, all_go}
@@ -8,28 +9,31 @@ use Rattle.sym_step.proofs.settling.settle_edited.Goals as goal
 pub bad_alone-requires-clause-met : goal.bad_alone-requires-clause-met
 bad_alone-requires-clause-met g c =
     let s = c.args.forest.now in
-    let R = c.args.raw.now.forest in
-    let leaks : AlwaysLeaks R =
-    subst (λ (o : Option ℕ). MatchOption o (NeverLeaks R) (λ x. AlwaysLeaks R)) c.in-Some.is
+    let R = c.args.raw.now in
+    let leaks : AlwaysLeaks R.face R.forest =
+    subst (λ (o : Option ℕ). MatchOption o (NeverLeaks R.face R.forest) (λ x. AlwaysLeaks R.face R.forest)) c.in-Some.is
     (c.in_ok-leaking.ensures.leaks c.requires.like.plain) in
-    all_leak s.face c.args.edge.now s.forest R c.requires.carries leaks
+    all_leak s.face c.args.edge.now s.forest R.forest c.requires.carries
+    (subst (λ (face : Face). AlwaysLeaks face R.forest) c.requires.like.face leaks)
 
-pub normal_forms-requires-clause-tight : goal.normal_forms-requires-clause-tight
-normal_forms-requires-clause-tight g c = λ ls w.
-    let R = c.args.raw.now.forest in
-    subst (λ (o : Option ℕ). MatchOption o (NeverLeaks R) (λ x. AlwaysLeaks R)) c.in-None.is
-    (c.in_ok-leaking.ensures.leaks c.requires.like.plain)
+pub normal_forms-requires-clause-reached : goal.normal_forms-requires-clause-reached
+normal_forms-requires-clause-reached g c = λ ls w.
+    let R = c.args.raw.now in
+    subst
+    (λ (o : Option ℕ). MatchOption o (AreAllReached R.face R.forest) (IsLeastUnreached R.face R.forest)) c.in-None.is
+    c.in_ok-leaking.ensures.root
 
 pub returns-in_ok-next-in-None-clause-settles : goal.returns-in_ok-next-in-None-clause-settles
 returns-in_ok-next-in-None-clause-settles g c =
     let s = c.args.forest.now in
-    let R = c.args.raw.now.forest in
+    let R = c.args.raw.now in
     let made = c.in_ok-next-in-None.next in
-    let tight : NeverLeaks R =
-    subst (λ (o : Option ℕ). MatchOption o (NeverLeaks R) (λ x. AlwaysLeaks R)) c.in-None.is
+    let tight : NeverLeaks R.face R.forest =
+    subst (λ (o : Option ℕ). MatchOption o (NeverLeaks R.face R.forest) (λ x. AlwaysLeaks R.face R.forest)) c.in-None.is
     (c.in_ok-leaking.ensures.leaks c.requires.like.plain) in
     rw c.new.ensures
     (settled_goes s c.args.edge.now made
-    (all_go s.face c.args.edge.now s.forest R c.requires.carries tight (forests made)
+    (all_go s.face c.args.edge.now s.forest R.forest c.requires.carries
+    (subst (λ (face : Face). NeverLeaks face R.forest) c.requires.like.face tight) (forests made)
     c.in_ok-next-in-None.ensures.whole c.in_ok-next-in-None.ensures.regroups)
-    (each_next_on s c.args.edge.now c.args.raw.now c.requires.like made c.in_ok-next-in-None.ensures.next))
+    (each_next_on s c.args.edge.now R c.requires.like made c.in_ok-next-in-None.ensures.next))

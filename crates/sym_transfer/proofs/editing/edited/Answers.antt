@@ -5,7 +5,7 @@ use Rattle.sym_transfer.specs.Edited.{Becomes}
 use Rattle.sym_transfer.proofs.editing.edited.Goals as goal
 
 pub returns-in-Stop-clause-edited : goal.returns-in-Stop-clause-edited
-returns-in-Stop-clause-edited c = λ T.
+returns-in-Stop-clause-edited c = λ T table.
     let F = c.args.forest.now in
     let x = choice_of c.args.edge.now.choice in
     subst (λ (i : Instr). Becomes F.face T F.forest i x c.stopped.result) (sym c.in-Stop.is)

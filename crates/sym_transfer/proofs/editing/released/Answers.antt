@@ -8,7 +8,7 @@ use Rattle.sym_transfer.proofs.TestKinds.{free_null, frees_nothing}
 use Rattle.sym_transfer.proofs.editing.released.Goals as goal
 
 pub returns-in_ok-made-in-Ok-None-clause-edited : goal.returns-in_ok-made-in-Ok-None-clause-edited
-returns-in_ok-made-in-Ok-None-clause-edited c = λ T x.
+returns-in_ok-made-in-Ok-None-clause-edited c = λ T table x.
     let F = c.args.forest.now in
     let t = target_at F.forest c.args.from in
     let none : freed_root t ≡ Ok None = sym (c.freed_root.ensures ∙ ap freed_root c.target_of.ensures) ∙ c.in-Ok-None.is

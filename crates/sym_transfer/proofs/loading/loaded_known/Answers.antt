@@ -16,7 +16,7 @@ with_known-requires-clause-fits c =
     c.in-Some.datum c.requires.top (sym c.datum_of.ensures.value ∙ c.in-Some.is)
 
 pub returns-in_ok-made-in-Some-clause-edited : goal.returns-in_ok-made-in-Some-clause-edited
-returns-in_ok-made-in-Some-clause-edited c = λ T x.
+returns-in_ok-made-in-Some-clause-edited c = λ T table x.
     let F = c.args.forest.now in
     let lacks = (T : List BoxDef) → AllLackDatum T F.forest c.args.root c.args.field in
     let has = λ (y : Datum). ((T : List BoxDef) → AllHaveDatum T F.forest c.args.root c.args.field y) in
@@ -28,7 +28,7 @@ returns-in_ok-made-in-Some-clause-edited c = λ T x.
     (MatchOption-at_some lacks has c.in-Some.datum c.in-Some.is c.datum_of.ensures.held T))
 
 pub returns-in-None-clause-edited : goal.returns-in-None-clause-edited
-returns-in-None-clause-edited c = λ T x.
+returns-in-None-clause-edited c = λ T table x.
     let F = c.args.forest.now in
     let lacks = (T : List BoxDef) → AllLackDatum T F.forest c.args.root c.args.field in
     let has = λ (y : Datum). ((T : List BoxDef) → AllHaveDatum T F.forest c.args.root c.args.field y) in

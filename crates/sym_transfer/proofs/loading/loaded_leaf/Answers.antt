@@ -21,12 +21,12 @@ with_target-requires-clause-root c =
     let F = c.args.forest.now.forest in
     let lacks = (T : List BoxDef) → AllLackField T F c.args.root c.args.field in
     let has = λ (t : Target). ((T : List BoxDef) → AllHaveLeaf T F c.args.root c.args.field t) in
-    let ranked : Every IsRanked F.autos = rw c.forest.ensures at c.ranked_components.ensures in
+    let ranked : Every IsRanked F.autos = c.known.ensures.ranked in
     leaf_below c.args.forest.now.face F c.known.ensures.sound ranked c.requires.plain c.args.root c.args.field
     c.in-Some.leaf (MatchOption-at_some lacks has c.in-Some.leaf c.in-Some.is c.leaf_of.ensures.held [])
 
 pub returns-in_ok-made-in-Some-clause-edited : goal.returns-in_ok-made-in-Some-clause-edited
-returns-in_ok-made-in-Some-clause-edited c = λ T x.
+returns-in_ok-made-in-Some-clause-edited c = λ T table x.
     let F = c.args.forest.now in
     let lacks = (T : List BoxDef) → AllLackField T F.forest c.args.root c.args.field in
     let has = λ (t : Target). ((T : List BoxDef) → AllHaveLeaf T F.forest c.args.root c.args.field t) in
@@ -37,7 +37,7 @@ returns-in_ok-made-in-Some-clause-edited c = λ T x.
     (MatchOption-at_some lacks has c.in-Some.leaf c.in-Some.is c.leaf_of.ensures.held T))
 
 pub returns-in-None-clause-edited : goal.returns-in-None-clause-edited
-returns-in-None-clause-edited c = λ T x.
+returns-in-None-clause-edited c = λ T table x.
     let F = c.args.forest.now in
     let lacks = (T : List BoxDef) → AllLackField T F.forest c.args.root c.args.field in
     let has = λ (t : Target). ((T : List BoxDef) → AllHaveLeaf T F.forest c.args.root c.args.field t) in

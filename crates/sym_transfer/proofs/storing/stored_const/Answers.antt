@@ -12,7 +12,7 @@ stored_leaf-requires-clause-at c =
     (subst (λ (v : Const). NeedsToStore c.args.field v c.args.field) (sym c.in-Null.is) refl)
 
 pub returns-in_ok-made-in-Null-clause-edited : goal.returns-in_ok-made-in-Null-clause-edited
-returns-in_ok-made-in-Null-clause-edited c = λ T x.
+returns-in_ok-made-in-Null-clause-edited c = λ T table x.
     let F = c.args.forest.now in
     let made = c.in_ok-made-in-Null.made in
     subst (λ (v : Const). Becomes F.face T F.forest (StoreConst c.args.to c.args.field v) x made) (sym c.in-Null.is)
@@ -20,7 +20,7 @@ returns-in_ok-made-in-Null-clause-edited c = λ T x.
     made c.in_ok-made-in-Null.ensures.stored)
 
 pub returns-in_ok-made-in-Known-clause-edited : goal.returns-in_ok-made-in-Known-clause-edited
-returns-in_ok-made-in-Known-clause-edited c = λ T x.
+returns-in_ok-made-in-Known-clause-edited c = λ T table x.
     let F = c.args.forest.now in
     let made = c.in_ok-made-in-Known.made in
     subst (λ (v : Const). Becomes F.face T F.forest (StoreConst c.args.to c.args.field v) x made) (sym c.in-Known.is)

@@ -7,7 +7,7 @@ use Rattle.sym_transfer.proofs.Stored.{ptr_stored}
 use Rattle.sym_transfer.proofs.storing.stored_ptr.Goals as goal
 
 pub returns-in_ok-made-in-Ok-clause-edited : goal.returns-in_ok-made-in-Ok-clause-edited
-returns-in_ok-made-in-Ok-clause-edited c = λ T x.
+returns-in_ok-made-in-Ok-clause-edited c = λ T table x.
     let F = c.args.forest.now in
     let made = c.in_ok-made-in-Ok.made in
     ptr_stored F T x c.args.to c.args.field c.in-Ok.root c.in-Ok.ensures.root c.requires.plain c.in-Ok.ensures.top
@@ -18,5 +18,5 @@ returns-in_ok-made-in-Ok-clause-edited c = λ T x.
 
 pub returns-in-Err-clause-edited : goal.returns-in-Err-clause-edited
 returns-in-Err-clause-edited c =
-    λ T x. store_fails c.args.forest.now.face T c.args.forest.now.forest c.args.to c.args.field c.args.from x
+    λ T table x. store_fails c.args.forest.now.face T c.args.forest.now.forest c.args.to c.args.field c.args.from x
     c.in-Err.fault c.in-Err.ensures.fault

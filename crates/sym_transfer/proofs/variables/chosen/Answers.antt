@@ -9,7 +9,7 @@ use Rattle.sym_transfer.proofs.VarKinds.{choose_none, choose_some}
 use Rattle.sym_transfer.proofs.variables.chosen.Goals as goal
 
 pub returns-in_ok-made-in-Some-clause-edited : goal.returns-in_ok-made-in-Some-clause-edited
-returns-in_ok-made-in-Some-clause-edited c = λ T.
+returns-in_ok-made-in-Some-clause-edited c = λ T table.
     let F = c.args.forest.now in
     let x = choice_of c.args.choice in
     let G = λ (y : ℕ). with_vars F.forest F.forest.vars (slice_set F.forest.data_vars c.in-Some.to (Known y)) in
@@ -19,7 +19,7 @@ returns-in_ok-made-in-Some-clause-edited c = λ T.
     (choose_some F.face T F.forest c.in-Some.to x))
 
 pub returns-in_ok-made-in-None-clause-edited : goal.returns-in_ok-made-in-None-clause-edited
-returns-in_ok-made-in-None-clause-edited c = λ T.
+returns-in_ok-made-in-None-clause-edited c = λ T table.
     let F = c.args.forest.now in
     let x = choice_of c.args.choice in
     rw c.in-None.is

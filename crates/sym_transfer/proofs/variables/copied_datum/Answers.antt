@@ -14,7 +14,7 @@ with_known-requires-clause-fits c =
     (length c.args.forest.now.forest.data_vars) c.args.from c.requires.from)
 
 pub returns-clause-edited : goal.returns-clause-edited
-returns-clause-edited c = λ T x.
+returns-clause-edited c = λ T table x.
     let F = c.args.forest.now in
     let G = λ (y : Datum). with_vars F.forest F.forest.vars (slice_set F.forest.data_vars c.args.to y) in
     carried F.face T F.forest (G (datum_of_arg F.forest c.args.from)) c.in_ok-made.made.forest

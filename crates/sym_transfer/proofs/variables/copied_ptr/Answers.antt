@@ -13,7 +13,7 @@ with_target-requires-clause-root c =
     (arg_below c.args.forest.now.face c.args.forest.now.forest c.known.ensures.sound c.args.from)
 
 pub returns-clause-edited : goal.returns-clause-edited
-returns-clause-edited c = λ T x.
+returns-clause-edited c = λ T table x.
     let F = c.args.forest.now in
     let G = λ (t : Target). with_vars F.forest (slice_set F.forest.vars c.args.to t) F.forest.data_vars in
     carried F.face T F.forest (G (target_of_arg F.forest c.args.from)) c.in_ok-made.made.forest

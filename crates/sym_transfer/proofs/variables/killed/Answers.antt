@@ -8,7 +8,7 @@ use Rattle.sym_transfer.proofs.VarKinds.{kill_vars}
 use Rattle.sym_transfer.proofs.variables.killed.Goals as goal
 
 pub returns-clause-edited : goal.returns-clause-edited
-returns-clause-edited c = λ T x.
+returns-clause-edited c = λ T table x.
     let F = c.args.forest.now in
     let ps = c.args.ptrs.now in
     let ds = c.args.datums.now in

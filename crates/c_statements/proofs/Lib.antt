@@ -1,0 +1,3 @@
+pub mod Alternatives
+mod FlatForms
+mod NestedForms

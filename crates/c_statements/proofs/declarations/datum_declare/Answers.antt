@@ -1,0 +1,58 @@
+use Rattle.std.proofs.Common.{refl}
+use Rattle.c_grammar.specs.Syntax as s
+use Rattle.c_grammar.specs.declared.signs.Sign.TheVariants as sign
+use Rattle.c_grammar.specs.words.Sets.{no_sign}
+use Rattle.c_reader.specs.Bounds.{Stops}
+use Rattle.c_statements.specs.Shapes.{read_datum_declare, read_next_declarator}
+use Rattle.c_grammar.proofs.Goods.{good_one, good_name}
+use Rattle.c_grammar.proofs.Items.{good_more_declarators}
+use Rattle.c_grammar.proofs.Leasts.{least_name, least_absent}
+use Rattle.c_grammar.proofs.Parts.{takes_made, fails_made, takes_token, alive_made}
+use Rattle.c_grammar.proofs.Repeats.{least_many}
+use Rattle.c_grammar.proofs.Sequences.{least_one, least_pair}
+use Rattle.c_grammar.proofs.Statements.{good_data, good_datums, good_declarator, good_maybe_from}
+use Rattle.c_grammar.proofs.Steps.{passed, pair, in_front, in_back, widen_takes, widen_fails, good_pair}
+use Rattle.c_grammar.proofs.Tokens.{fails_one, real}
+use Rattle.c_statements.proofs.declarations.datum_declare.Goals as goal
+
+pub returns-in_err-data-clause-err : goal.returns-in_err-data-clause-err
+returns-in_err-data-clause-err c =
+    passed c.from_residual.result (Stops read_datum_declare c.args.bounds.now c.args.left.now) c.in_err-data.field-0.0
+    c.from_residual.ensures.1
+    (widen_fails _ _ _ refl refl refl
+    (fails_made s.datums_of _
+    (in_front good_data (good_pair good_datums (good_one sign.Semicolon) refl) refl refl
+    (least_pair good_datums (good_one sign.Semicolon) refl refl _
+    (alive_made s.joined
+    (least_pair good_declarator good_more_declarators refl refl _
+    (alive_made s.declarator_of (least_pair good_name good_maybe_from refl refl _ (least_name _) (least_absent _)))
+    (least_many read_next_declarator.rule no_sign _))) (least_one sign.Semicolon (real sign.Semicolon tt) _))
+    c.in_err-data.ensures.err)))
+
+pub returns-in_err-vars-clause-err : goal.returns-in_err-vars-clause-err
+returns-in_err-vars-clause-err c =
+    passed c.from_residual-in_err-vars.result (Stops read_datum_declare c.args.bounds.now c.args.left.now)
+    c.in_err-vars.field-0.0 c.from_residual-in_err-vars.ensures.1
+    (widen_fails _ _ _ refl refl refl
+    (fails_made s.datums_of _
+    (in_back good_data (good_pair good_datums (good_one sign.Semicolon) refl) refl refl refl c.in_ok-data.ensures.ok
+    (in_front good_datums (good_one sign.Semicolon) refl refl (least_one sign.Semicolon (real sign.Semicolon tt) _)
+    c.in_err-vars.ensures.err))))
+
+pub returns-in_err-rest-clause-err : goal.returns-in_err-rest-clause-err
+returns-in_err-rest-clause-err c =
+    passed c.from_residual-in_err-rest.result (Stops read_datum_declare c.args.bounds.now c.args.left.now)
+    c.in_err-rest.field-0.0 c.from_residual-in_err-rest.ensures.1
+    (widen_fails _ _ _ refl refl refl
+    (fails_made s.datums_of _
+    (in_back good_data (good_pair good_datums (good_one sign.Semicolon) refl) refl refl refl c.in_ok-data.ensures.ok
+    (in_back good_datums (good_one sign.Semicolon) refl refl refl c.in_ok-vars.ensures.ok
+    (fails_one sign.Semicolon (real sign.Semicolon tt) _ _ _ _ c.in_err-rest.ensures.err.0
+    c.in_err-rest.ensures.err.1)))))
+
+pub returns-clause-ok : goal.returns-clause-ok
+returns-clause-ok c = widen_takes _ _ refl refl
+    (takes_made s.datums_of
+    (pair good_data (good_pair good_datums (good_one sign.Semicolon) refl) refl c.in_ok-data.ensures.ok
+    (pair good_datums (good_one sign.Semicolon) refl c.in_ok-vars.ensures.ok
+    (takes_token sign.Semicolon _ _ _ _ c.in_ok-rest.ensures.ok.0 c.in_ok-rest.ensures.ok.1))))

@@ -1,0 +1,40 @@
+use Rattle.std.proofs.Common.{Some, None, refl, sym, ◌∙◌, ◌∷◌, []}
+use Rattle.c_grammar.specs.Syntax as s
+use Rattle.c_grammar.specs.declared.signs.Sign.TheVariants as sign
+use Rattle.c_grammar.specs.words.Sets.{among, no_sign, operand_goes_on}
+use Rattle.c_reader.specs.Bounds.{Stops}
+use Rattle.c_statements.specs.Shapes.{read_maybe_from}
+use Rattle.c_grammar.proofs.Choices.{left_takes, right_takes, left_fails}
+use Rattle.c_grammar.proofs.Goods.{named, good_one}
+use Rattle.c_grammar.proofs.Parts.{takes_made, fails_made, takes_nothing, good_made, good_nothing}
+use Rattle.c_grammar.proofs.Statements.{good_rhs}
+use Rattle.c_grammar.proofs.Steps.{passed, widen_takes, widen_fails, good_pair}
+use Rattle.c_statements.proofs.declarations.maybe_from.Goals as goal
+
+pub returns-in_err-rhs-clause-err : goal.returns-in_err-rhs-clause-err
+returns-in_err-rhs-clause-err c =
+    passed c.from_residual.result (Stops read_maybe_from c.args.bounds.now c.args.left.now) c.in_err-rhs.field-0.0
+    c.from_residual.ensures.1
+    (widen_fails _ _ _ refl refl refl
+    (left_fails
+    (good_made
+    (named (among (sign.Assign ∷ [])) operand_goes_on no_sign
+    (good_made (good_pair (good_one sign.Assign) good_rhs refl) s.second) refl refl refl) Some) (good_nothing None)
+    refl refl (sym c.is_next.ensures ∙ c.if-is_next.true) (fails_made Some _ c.in_err-rhs.ensures.err)))
+
+pub returns-then-is_next-clause-ok : goal.returns-then-is_next-clause-ok
+returns-then-is_next-clause-ok c =
+    widen_takes _ _ refl refl
+    (left_takes
+    (good_made
+    (named (among (sign.Assign ∷ [])) operand_goes_on no_sign
+    (good_made (good_pair (good_one sign.Assign) good_rhs refl) s.second) refl refl refl) Some) (good_nothing None) refl
+    refl (sym c.is_next.ensures ∙ c.if-is_next.true) (takes_made Some c.in_ok-rhs.ensures.ok))
+
+pub returns-clause-ok : goal.returns-clause-ok
+returns-clause-ok c = widen_takes _ _ refl refl
+    (right_takes
+    (good_made
+    (named (among (sign.Assign ∷ [])) operand_goes_on no_sign
+    (good_made (good_pair (good_one sign.Assign) good_rhs refl) s.second) refl refl refl) Some) (good_nothing None) refl
+    refl refl (sym c.is_next.ensures ∙ c.if-is_next.false) (takes_nothing None _ _))

@@ -1,0 +1,304 @@
+-- What the functions of statements and items read: rules, with the signs that can continue them.
+use Rattle.std.specs.Prelude.{List, Option}
+use Rattle.fore_base.specs.declared.place.Place.{Place}
+use Rattle.c_ast.specs.declared.conditions.Cond.{Cond}
+use Rattle.c_ast.specs.declared.operands.Operand.{Operand}
+use Rattle.c_ast.specs.declared.simples.Rhs.{Rhs}
+use Rattle.c_ast.specs.declared.simples.Simple.{Simple}
+use Rattle.c_ast.specs.declared.statements.Block.{Block}
+use Rattle.c_ast.specs.declared.statements.Data.{Data}
+use Rattle.c_ast.specs.declared.statements.Data.TheVariants as data'
+use Rattle.c_ast.specs.declared.statements.Declarator.{Declarator}
+use Rattle.c_ast.specs.declared.statements.Declare.{Declare}
+use Rattle.c_ast.specs.declared.statements.First.{First}
+use Rattle.c_ast.specs.declared.statements.First.TheVariants as first'
+use Rattle.c_ast.specs.declared.statements.Part as part
+use Rattle.c_ast.specs.declared.statements.Part.TheVariants as part'
+use Rattle.c_ast.specs.declared.statements.Stmt.{Stmt}
+use Rattle.c_ast.specs.declared.statements.Stmt.TheVariants as stmt'
+use Rattle.c_lexer.specs.declared.token.Token.{Token}
+use Rattle.c_grammar.specs.Grammar.{token, empty, ◌then◌, ◌or◌, Many, Made}
+use Rattle.c_grammar.specs.Signs.{or_on}
+use Rattle.c_grammar.specs.Syntax as s
+use Rattle.c_grammar.specs.declared.signs.Sign.TheVariants as sign
+use Rattle.c_grammar.specs.words.Parted.{declarator_goes_on, declarators_go_on, begins_part, begins_level}
+use Rattle.c_grammar.specs.words.Parted.{simple_goes_on, maybe_cond_goes_on, for_head}
+use Rattle.c_grammar.specs.words.Sets.{no_sign, elses, operand_goes_on, begins_nested}
+use Rattle.c_grammar.specs.words.Sets.{begins_operand}
+use Rattle.c_grammar.specs.words.Shapes.{Shape}
+
+abbrev pub read_int_data : Shape Data
+read_int_data = record { rule = λ n. Made data'.Int (s.at sign.Int); cont = no_sign; bars = no_sign; heads = no_sign }
+
+abbrev pub read_enum_data : Shape Data
+read_enum_data =
+    record { rule = λ n. Made s.enum_of (s.at sign.Enum then s.name); cont = no_sign; bars = no_sign; heads = no_sign }
+
+abbrev pub read_data : Shape Data
+read_data = record { rule = λ n. s.data_part; cont = no_sign; bars = no_sign; heads = no_sign }
+
+abbrev pub read_initial : Shape Rhs
+read_initial =
+    record {
+      rule = λ n. Made s.second (token sign.Assign then s.rhs n);
+      cont = operand_goes_on;
+      bars = no_sign;
+      heads = no_sign;
+    }
+
+abbrev pub read_maybe_from : Shape (Option Rhs)
+read_maybe_from = record {
+  rule = λ n. s.optional (Made s.second (token sign.Assign then s.rhs n));
+  cont = declarator_goes_on;
+  bars = no_sign;
+  heads = no_sign;
+}
+
+abbrev pub read_declarator : Shape Declarator
+read_declarator = record { rule = s.declarator; cont = declarator_goes_on; bars = no_sign; heads = no_sign }
+
+abbrev pub read_star_declarator : Shape Declarator
+read_star_declarator = record {
+  rule = λ n. Made s.second (token sign.Star then s.declarator n);
+  cont = declarator_goes_on;
+  bars = no_sign;
+  heads = no_sign;
+}
+
+abbrev pub read_next_declarator : Shape Declarator
+read_next_declarator = record {
+  rule = λ n. Made s.second (token sign.Comma then s.declarator n);
+  cont = declarator_goes_on;
+  bars = no_sign;
+  heads = no_sign;
+}
+
+abbrev pub read_next_pointer : Shape Declarator
+read_next_pointer = record {
+  rule = λ n. Made s.second (token sign.Comma then Made s.second (token sign.Star then s.declarator n));
+  cont = declarator_goes_on;
+  bars = no_sign;
+  heads = no_sign;
+}
+
+abbrev pub read_declarators : Shape (List Declarator)
+read_declarators = record
+    { rule = λ n. s.series sign.Comma (s.declarator n); cont = declarators_go_on; bars = no_sign; heads = no_sign }
+
+abbrev pub read_pointers : Shape (List Declarator)
+read_pointers =
+    record {
+      rule = λ n. s.series sign.Comma (Made s.second (token sign.Star then s.declarator n));
+      cont = declarators_go_on;
+      bars = no_sign;
+      heads = no_sign;
+    }
+
+abbrev pub read_pointer_declare : Shape Declare
+read_pointer_declare = record {
+  rule = λ n. Made s.pointers_of
+      (s.at sign.Struct then s.name then s.series sign.Comma (Made s.second (token sign.Star then s.declarator n))
+      then token sign.Semicolon);
+  cont = no_sign;
+  bars = no_sign;
+  heads = no_sign;
+}
+
+abbrev pub read_datum_declare : Shape Declare
+read_datum_declare = record {
+  rule = λ n. Made s.datums_of (s.data_part then s.series sign.Comma (s.declarator n) then token sign.Semicolon);
+  cont = no_sign;
+  bars = no_sign;
+  heads = no_sign;
+}
+
+abbrev pub read_declare : Shape Declare
+read_declare = record { rule = s.declare; cont = no_sign; bars = no_sign; heads = no_sign }
+
+abbrev pub read_empty : Shape Stmt
+read_empty =
+    record { rule = λ n. Made stmt'.Empty (s.at sign.Semicolon); cont = no_sign; bars = no_sign; heads = no_sign }
+
+abbrev pub read_simple_stmt : Shape Stmt
+read_simple_stmt = record {
+  rule = λ n. Made s.simple_of (s.simple n then token sign.Semicolon);
+  cont = no_sign;
+  bars = no_sign;
+  heads = no_sign;
+}
+
+abbrev pub read_maybe_operand : Shape (Option Operand)
+read_maybe_operand = record {
+  rule = λ n. s.optional (s.operand n);
+  cont = (λ x. or_on (operand_goes_on x) (begins_operand x));
+  bars = no_sign;
+  heads = no_sign;
+}
+
+abbrev pub read_return_stmt : Shape Stmt
+read_return_stmt = record {
+  rule = λ n. Made s.return_of (s.at sign.Return then s.optional (s.operand n) then token sign.Semicolon);
+  cont = no_sign;
+  bars = no_sign;
+  heads = no_sign;
+}
+
+abbrev pub read_break_stmt : Shape Stmt
+read_break_stmt = record {
+  rule = λ n. Made s.break_of (s.at sign.Break then token sign.Semicolon);
+  cont = no_sign;
+  bars = no_sign;
+  heads = no_sign;
+}
+
+abbrev pub read_continue_stmt : Shape Stmt
+read_continue_stmt = record {
+  rule = λ n. Made s.continue_of (s.at sign.Continue then token sign.Semicolon);
+  cont = no_sign;
+  bars = no_sign;
+  heads = no_sign;
+}
+
+abbrev pub read_assert_stmt : Shape Stmt
+read_assert_stmt = record {
+  rule = λ n. Made s.assert_of (s.at sign.Assert then s.bracketed (s.cond n) then token sign.Semicolon);
+  cont = no_sign;
+  bars = no_sign;
+  heads = no_sign;
+}
+
+abbrev pub read_flat : Shape Stmt
+read_flat = record { rule = s.flat_stmt; cont = no_sign; bars = no_sign; heads = no_sign }
+
+abbrev pub read_first_declare : Shape First
+read_first_declare = record
+    { rule = λ n. Made first'.Declare (s.declare n); cont = no_sign; bars = no_sign; heads = no_sign }
+
+abbrev pub read_maybe_first : Shape First
+read_maybe_first = record {
+  rule = λ n. Made first'.Simple (s.simple n) or empty first'.Nothing;
+  cont = simple_goes_on;
+  bars = no_sign;
+  heads = no_sign;
+}
+
+abbrev pub read_first_simple : Shape First
+read_first_simple = record {
+  rule = λ n. Made s.first ((Made first'.Simple (s.simple n) or empty first'.Nothing) then token sign.Semicolon);
+  cont = no_sign;
+  bars = no_sign;
+  heads = no_sign;
+}
+
+abbrev pub read_first : Shape First
+read_first =
+    record { rule = λ n. s.first_part (s.declare n) (s.simple n); cont = no_sign; bars = no_sign; heads = no_sign }
+
+abbrev pub read_maybe_cond : Shape (Option Cond)
+read_maybe_cond = record
+    { rule = λ n. s.optional (s.cond n); cont = maybe_cond_goes_on; bars = no_sign; heads = begins_nested }
+
+abbrev pub read_maybe_simple : Shape (Option Simple)
+read_maybe_simple = record
+    { rule = λ n. s.optional (s.simple n); cont = simple_goes_on; bars = no_sign; heads = no_sign }
+
+abbrev pub read_stmt : Shape Stmt
+read_stmt = record { rule = s.stmt; cont = no_sign; bars = elses; heads = begins_level }
+
+abbrev pub read_if_head : Shape (Place × Cond)
+read_if_head =
+    record { rule = λ n. s.at sign.If then s.bracketed (s.cond n); cont = no_sign; bars = no_sign; heads = no_sign }
+
+abbrev pub read_while_head : Shape (Place × Cond)
+read_while_head = record
+    { rule = λ n. s.at sign.While then s.bracketed (s.cond n); cont = no_sign; bars = no_sign; heads = no_sign }
+
+abbrev pub read_for_head : Shape (Place × First × Option Cond × Option Simple)
+read_for_head = record { rule = for_head; cont = no_sign; bars = no_sign; heads = no_sign }
+
+abbrev pub read_do_tail : Shape Cond
+read_do_tail =
+    record {
+      rule = λ n. Made (λ (q : Token × (Cond × Token)). q.1.0)
+          (token sign.While then s.bracketed (s.cond n) then token sign.Semicolon);
+      cont = no_sign;
+      bars = no_sign;
+      heads =
+          no_sign;
+    }
+
+abbrev pub read_part : Shape part.Part
+read_part =
+    record {
+      rule = λ n. Made part'.Declare (s.declare n) or Made part'.Stmt (s.stmt n);
+      cont = no_sign;
+      bars = elses;
+      heads = begins_level;
+    }
+
+abbrev pub read_parts : Shape (List part.Part)
+read_parts =
+    record {
+      rule = λ n. Many (Made part'.Declare (s.declare n) or Made part'.Stmt (s.stmt n));
+      cont = begins_part;
+      bars = elses;
+      heads = begins_level;
+    }
+
+abbrev pub read_block : Shape Block
+read_block = record { rule = s.inner_block; cont = no_sign; bars = elses; heads = no_sign }
+
+abbrev pub read_other : Shape (Option Stmt)
+read_other = record { rule = λ n. s.other_part (s.stmt n); cont = no_sign; bars = elses; heads = no_sign }
+
+abbrev pub read_if_stmt : Shape Stmt
+read_if_stmt =
+    record {
+      rule = λ n. Made s.if_of (s.at sign.If then s.bracketed (s.cond n) then s.stmt n then s.other_part (s.stmt n));
+      cont = no_sign;
+      bars = elses;
+      heads = no_sign;
+    }
+
+abbrev pub read_while_stmt : Shape Stmt
+read_while_stmt = record {
+  rule = λ n. Made s.while_of (s.at sign.While then s.bracketed (s.cond n) then s.stmt n);
+  cont = no_sign;
+  bars = elses;
+  heads = no_sign;
+}
+
+abbrev pub read_do_stmt : Shape Stmt
+read_do_stmt =
+    record {
+      rule = λ n. Made s.do_of
+          (s.at sign.Do then s.stmt n then token sign.While then s.bracketed (s.cond n) then token sign.Semicolon);
+      cont =
+          no_sign;
+      bars = elses;
+      heads = no_sign;
+    }
+
+abbrev pub read_for_stmt : Shape Stmt
+read_for_stmt =
+    record {
+      rule = λ n. Made s.for_of
+          (s.at sign.For then token sign.Open then s.first_part (s.declare n) (s.simple n) then s.optional (s.cond n)
+          then token sign.Semicolon then s.optional (s.simple n) then token sign.Close then s.stmt n);
+      cont = no_sign;
+      bars = elses;
+      heads = no_sign;
+    }
+
+abbrev pub read_nested : Shape Stmt
+read_nested =
+    record {
+      rule = λ n. s.nested_stmt (s.declare n) (s.simple n) (s.cond n) (s.stmt n);
+      cont = no_sign;
+      bars = elses;
+      heads = no_sign;
+    }
+
+abbrev pub read_block_stmt : Shape Stmt
+read_block_stmt = record
+    { rule = λ n. Made stmt'.Block (s.inner_block n); cont = no_sign; bars = elses; heads = no_sign }

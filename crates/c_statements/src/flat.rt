@@ -1,0 +1,160 @@
+// Statements that are no level.
+ghost use Rattle.std.specs.Prelude.{length, IfOk, IfErr, ◌<◌, ◌≤◌};
+ghost use Rattle.c_reader.specs.Bounds.{Reads, Stops};
+ghost use Rattle.c_statements.specs.Shapes.{read_assert_stmt, read_break_stmt, read_continue_stmt, read_empty};
+ghost use Rattle.c_statements.specs.Shapes.{read_flat, read_maybe_operand, read_return_stmt, read_simple_stmt};
+
+use c_ast::{Operand, Stmt};
+use c_grammar::{Sign, SyntaxFault};
+use c_lexer::Token;
+use c_operands::{closed_cond, operand};
+use c_reader::{Bounds, begins_operand, begins_simple, is_next, peek, take};
+use c_simples::simple;
+use fore_base::boxed::Boxed;
+use std::alloc::Global;
+
+/// `";"`
+fn empty<'t>(
+    alloc: Global,
+    bounds: &Bounds,
+    left: &'t [Token],
+) -> Result<(Stmt, &'t [Token]), SyntaxFault>
+    ensures ok { IfOk result (λ r. Reads read_empty bounds.now left.now r.1.now r.0) }
+    ensures shorter { IfOk result (λ r. length r.1.now < length left.now) }
+    ensures err { IfErr result (Stops read_empty bounds.now left.now) }
+{
+    let (token, rest) = take(bounds, left, Sign::Semicolon)?;
+    let stmt = Stmt::Empty { at: token.at };
+    Ok((stmt, rest))
+}
+
+/// `simple ";"`
+fn simple_stmt<'t>(
+    alloc: Global,
+    bounds: &Bounds,
+    left: &'t [Token],
+) -> Result<(Stmt, &'t [Token]), SyntaxFault>
+    ensures ok { IfOk result (λ r. Reads read_simple_stmt bounds.now left.now r.1.now r.0) }
+    ensures shorter { IfOk result (λ r. length r.1.now < length left.now) }
+    ensures err { IfErr result (Stops read_simple_stmt bounds.now left.now) }
+{
+    let (simple, rest) = simple(alloc, bounds, left)?;
+    let (_, rest) = take(bounds, rest, Sign::Semicolon)?;
+    let boxed = Boxed::new(alloc, simple)?;
+    let stmt = Stmt::Simple(boxed);
+    Ok((stmt, rest))
+}
+
+/// `[ operand ]`
+fn maybe_operand<'t>(
+    alloc: Global,
+    bounds: &Bounds,
+    left: &'t [Token],
+) -> Result<(Option<Operand>, &'t [Token]), SyntaxFault>
+    ensures ok { IfOk result (λ r. Reads read_maybe_operand bounds.now left.now r.1.now r.0) }
+    ensures shorter { IfOk result (λ r. length r.1.now ≤ length left.now) }
+    ensures err { IfErr result (Stops read_maybe_operand bounds.now left.now) }
+{
+    if begins_operand(peek(left)) {
+        let (operand, rest) = operand(alloc, bounds, left)?;
+        return Ok((Some(operand), rest));
+    }
+    Ok((None, left))
+}
+
+/// `"return" [ operand ] ";"`
+fn return_stmt<'t>(
+    alloc: Global,
+    bounds: &Bounds,
+    left: &'t [Token],
+) -> Result<(Stmt, &'t [Token]), SyntaxFault>
+    ensures ok { IfOk result (λ r. Reads read_return_stmt bounds.now left.now r.1.now r.0) }
+    ensures shorter { IfOk result (λ r. length r.1.now < length left.now) }
+    ensures err { IfErr result (Stops read_return_stmt bounds.now left.now) }
+{
+    let (token, rest) = take(bounds, left, Sign::Return)?;
+    let (operand, rest) = maybe_operand(alloc, bounds, rest)?;
+    let (_, rest) = take(bounds, rest, Sign::Semicolon)?;
+    let stmt = Stmt::Return {
+        at: token.at,
+        operand,
+    };
+    Ok((stmt, rest))
+}
+
+/// `"break" ";"`
+fn break_stmt<'t>(
+    alloc: Global,
+    bounds: &Bounds,
+    left: &'t [Token],
+) -> Result<(Stmt, &'t [Token]), SyntaxFault>
+    ensures ok { IfOk result (λ r. Reads read_break_stmt bounds.now left.now r.1.now r.0) }
+    ensures shorter { IfOk result (λ r. length r.1.now < length left.now) }
+    ensures err { IfErr result (Stops read_break_stmt bounds.now left.now) }
+{
+    let (token, rest) = take(bounds, left, Sign::Break)?;
+    let (_, rest) = take(bounds, rest, Sign::Semicolon)?;
+    let stmt = Stmt::Break { at: token.at };
+    Ok((stmt, rest))
+}
+
+/// `"continue" ";"`
+fn continue_stmt<'t>(
+    alloc: Global,
+    bounds: &Bounds,
+    left: &'t [Token],
+) -> Result<(Stmt, &'t [Token]), SyntaxFault>
+    ensures ok { IfOk result (λ r. Reads read_continue_stmt bounds.now left.now r.1.now r.0) }
+    ensures shorter { IfOk result (λ r. length r.1.now < length left.now) }
+    ensures err { IfErr result (Stops read_continue_stmt bounds.now left.now) }
+{
+    let (token, rest) = take(bounds, left, Sign::Continue)?;
+    let (_, rest) = take(bounds, rest, Sign::Semicolon)?;
+    let stmt = Stmt::Continue { at: token.at };
+    Ok((stmt, rest))
+}
+
+/// `"assert" "(" cond ")" ";"`
+fn assert_stmt<'t>(
+    alloc: Global,
+    bounds: &Bounds,
+    left: &'t [Token],
+) -> Result<(Stmt, &'t [Token]), SyntaxFault>
+    ensures ok { IfOk result (λ r. Reads read_assert_stmt bounds.now left.now r.1.now r.0) }
+    ensures shorter { IfOk result (λ r. length r.1.now < length left.now) }
+    ensures err { IfErr result (Stops read_assert_stmt bounds.now left.now) }
+{
+    let (token, rest) = take(bounds, left, Sign::Assert)?;
+    let (cond, rest) = closed_cond(alloc, bounds, rest)?;
+    let (_, rest) = take(bounds, rest, Sign::Semicolon)?;
+    let stmt = Stmt::Assert { at: token.at, cond };
+    Ok((stmt, rest))
+}
+
+/// A statement that is no level.
+pub fn flat<'t>(
+    alloc: Global,
+    bounds: &Bounds,
+    left: &'t [Token],
+) -> Result<(Stmt, &'t [Token]), SyntaxFault>
+    ensures ok { IfOk result (λ r. Reads read_flat bounds.now left.now r.1.now r.0) }
+    ensures shorter { IfOk result (λ r. length r.1.now < length left.now) }
+    ensures err { IfErr result (Stops read_flat bounds.now left.now) }
+{
+    if is_next(left, Sign::Semicolon) {
+        return empty(alloc, bounds, left);
+    }
+    if begins_simple(peek(left)) {
+        return simple_stmt(alloc, bounds, left);
+    }
+    if is_next(left, Sign::Return) {
+        return return_stmt(alloc, bounds, left);
+    }
+    if is_next(left, Sign::Break) {
+        return break_stmt(alloc, bounds, left);
+    }
+    if is_next(left, Sign::Continue) {
+        return continue_stmt(alloc, bounds, left);
+    }
+    assert_stmt(alloc, bounds, left)
+}

@@ -1,0 +1,58 @@
+use Rattle.std.proofs.Common.{◌≡◌, ◌<◌, [], ℕ, List, length, replicate, false, sym, subst, ◌∙◌}
+use Rattle.std.proofs.lemmas.List.{length-replicate}
+use Rattle.fore_base.specs.Lists.{IsIn}
+use Rattle.fore_base.proofs.ListLemmas.{in_every}
+use Rattle.fa_back.specs.inner.Search.{Visits, Searching, row}
+use Rattle.fa_back.proofs.Searches.{row_got, search_first, search_next, search_done, search_place, search_falls}
+use Rattle.fa_back.proofs.closure.search.Goals as goal
+
+pub roots-init : goal.roots-init
+roots-init c =
+    let marks : c.in_ok-marks.marks ≡ replicate (length c.args.table.now) false =
+    rw (c.len.ensures) at c.in_ok-marks.ensures in
+    let v : Visits c.args.from.now (replicate (length c.args.table.now) false) [] c.visit.new.marks c.visit.new.todo =
+    rw (marks, c.new-todo.ensures) at c.in_ok-visit.ensures in
+    search_first c.args.table.now c.args.from.now (length c.args.table.now) c.visit.new.marks c.visit.new.todo
+    (v.long ∙ length-replicate (length c.args.table.now) false) v
+
+pub at-requires : goal.at-requires
+at-requires c =
+    search_place c.args.table.now c.args.from.now c.roots.marks c.pop.new.self c.in-Some.root
+    (subst (λ (z : List ℕ). Searching c.args.table.now c.args.from.now c.roots.marks z) c.in-Some.ensures
+    c.roots.invariant)
+
+pub visit-requires-in-Some : goal.visit-requires-in-Some
+visit-requires-in-Some c =
+    let e : row c.args.table.now c.in-Some.root ≡ c.as_slice.result.now =
+    row_got c.args.table.now c.in-Some.root c.at.result.now c.at.ensures ∙ sym c.as_slice.ensures in
+    in_every (λ k. k < length c.roots.marks) c.as_slice.result.now
+    (λ r i. subst (λ (n : ℕ). r < n) (sym c.roots.invariant.long)
+    (c.requires.rows c.in-Some.root r (subst (λ (z : List ℕ). IsIn r z) (sym e) i)))
+
+pub roots-smaller : goal.roots-smaller
+roots-smaller c =
+    let e : row c.args.table.now c.in-Some.root ≡ c.as_slice.result.now =
+    row_got c.args.table.now c.in-Some.root c.at.result.now c.at.ensures ∙ sym c.as_slice.ensures in
+    let s = subst (λ (z : List ℕ). Searching c.args.table.now c.args.from.now c.roots.marks z) c.in-Some.ensures
+    c.roots.invariant in
+    let v = subst (λ (z : List ℕ). Visits z c.roots.marks c.pop.new.self c.visit-in-Some.new.marks
+    c.visit-in-Some.new.todo) (sym e) c.in_ok-visit-2.ensures in
+    rw (c.in-Some.ensures)
+    (search_falls c.args.table.now c.args.from.now c.roots.marks c.pop.new.self c.in-Some.root
+    c.visit-in-Some.new.marks c.visit-in-Some.new.todo s v)
+
+pub roots-preserved : goal.roots-preserved
+roots-preserved c =
+    let e : row c.args.table.now c.in-Some.root ≡ c.as_slice.result.now =
+    row_got c.args.table.now c.in-Some.root c.at.result.now c.at.ensures ∙ sym c.as_slice.ensures in
+    let s = subst (λ (z : List ℕ). Searching c.args.table.now c.args.from.now c.roots.marks z) c.in-Some.ensures
+    c.roots.invariant in
+    let v = subst (λ (z : List ℕ). Visits z c.roots.marks c.pop.new.self c.visit-in-Some.new.marks
+    c.visit-in-Some.new.todo) (sym e) c.in_ok-visit-2.ensures in
+    search_next c.args.table.now c.args.from.now c.roots.marks c.pop.new.self c.in-Some.root
+    c.visit-in-Some.new.marks c.visit-in-Some.new.todo s v
+
+pub returns : goal.returns
+returns c = search_done c.args.table.now c.args.from.now c.roots.marks
+    (subst (λ (z : List ℕ). Searching c.args.table.now c.args.from.now c.roots.marks z) c.in_default.ensures.0
+    c.roots.invariant)

@@ -1,0 +1,4 @@
+pub mod OneFace
+pub mod Rows
+pub mod SoundBoxes
+pub mod Unbroken

@@ -1,0 +1,7 @@
+//! What is decided of the inside of one box: whether a component is empty, and what stands at the tops of its trees.
+#![tactic(auto)]
+
+pub mod empty;
+pub mod tops;
+
+pub use empty::is_some_empty;

@@ -1,0 +1,9 @@
+pub mod Alike
+pub mod BoxFields
+pub mod FactCounts
+pub mod ForestFields
+pub mod FullFacts
+pub mod NamedCells
+pub mod RootGifts
+pub mod Rows
+pub mod TreeFields

@@ -1,0 +1,9 @@
+pub mod Choices
+pub mod Chosen
+pub mod Counting
+pub mod FilledRules
+pub mod Fillings
+pub mod Partition
+pub mod SpotRules
+pub mod StructFields
+mod Rows

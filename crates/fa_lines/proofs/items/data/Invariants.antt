@@ -1,0 +1,7 @@
+use Rattle.std.proofs.Common.{◌≡◌, ◌-◌, length, codes}
+use Rattle.fa_lines.specs.inner.Reading.{items, mores, datum_front}
+use Rattle.fa_lines.proofs.items.data.Given as goal
+
+abbrev pub invariant-loop-i : goal.invariant-loop-i
+invariant-loop-i l = mores l.found (items datum_front (codes "]") (length l.pieces - l._i) l.rest)
+    ≡ items datum_front (codes "]") (length l.pieces) l.pieces

@@ -1,0 +1,4 @@
+pub mod inner
+pub mod Pieces
+pub mod Says
+pub mod Spelling

@@ -1,0 +1,4 @@
+pub mod FirstLemmas
+pub mod MarkedLemmas
+pub mod Ranked
+mod Rows

@@ -1,7 +1,0 @@
-use Rattle.std.proofs.Common.{◌≡◌, ◌+◌, if◌then◌else◌, drop}
-use Rattle.fa_split.specs.inner.Counted.{rules_at}
-use Rattle.fa_split.proofs.topping.has_one_rule.Given as goal
-
-abbrev pub invariant-loop-rule : goal.invariant-loop-rule
-invariant-loop-rule l = rules_at l.state (drop l.rule-index l.rules) + (if l.found then 1 else 0)
-    ≡ rules_at l.state l.rules

@@ -1,0 +1,72 @@
+-- How far a text has been read.
+use Rattle.std.specs.Prelude.{◌≡◌, ◌⊎◌, ℕ, suc, Bool, true, false, List, [], ◌∷◌, ◌++◌, length, Option, Some, None}
+use Rattle.fore_base.specs.Lists.{Every, Paired}
+use Rattle.fa_lines.specs.Pieces.{lines_of}
+use Rattle.fa_lines.specs.Says.{Says}
+use Rattle.fa_lines.specs.declared.line.Line.{Line}
+use Rattle.fa_lines.specs.declared.line.Line.TheVariants.{Skipped, Opens, Root, Rule, Ends}
+use Rattle.fa_written.specs.declared.fault.DraftFault.{DraftFault}
+use Rattle.fa_written.specs.declared.fault.DraftFault.TheVariants.{B1, Memory}
+use Rattle.fa_written.specs.declared.draft.BoxDraft.{BoxDraft}
+use Rattle.fa_written.specs.declared.draft.Reading.{Reading}
+use Rattle.fa_written.specs.Drafts.{RefersWithin, missing}
+use Rattle.fa_written.specs.inner.Moves.{moved, run, reading}
+
+-- the first item, if there is one
+abbrev pub first_of : List ℕ → Option ℕ
+first_of [] = None
+first_of (x ∷ xs) = Some x
+
+-- what stands behind the newline in front
+abbrev pub behind_newline : List ℕ → List ℕ
+behind_newline [] = []
+behind_newline (b ∷ bs) = bs
+
+-- the lines before this number have been read, and this is what they gave
+pub record Reached (text : List ℕ) (number : ℕ) (rest : List ℕ) (s : Reading) : Type 0 where
+  pub lines : List Line
+  pub front : List (List ℕ)
+  pub place : number ≡ suc (length lines)
+  pub split : lines_of text ≡ front ++ lines_of rest
+  pub said : Paired Says front lines
+  pub ran : run (reading [] None) 1 lines ≡ Some s
+  pub refs : Every RefersWithin s.boxes
+
+-- the line of the first reference of the last box to a component that it does not have, if there is one
+abbrev pub last_missing : List BoxDraft → Option ℕ
+last_missing [] = None
+last_missing (b ∷ []) = first_of (missing b)
+last_missing (b ∷ c ∷ bs) = last_missing (c ∷ bs)
+
+-- the line ends a box
+abbrev pub is_end : Line → Bool
+is_end Skipped = false
+is_end (Opens name input output) = false
+is_end (Root r qs) = false
+is_end (Rule q term) = false
+is_end Ends = true
+
+-- one line more is read; a box that it ends refers to components that it has
+pub record Took (bytes : List ℕ) (number : ℕ) (s t : Reading) : Type 0 where
+  pub line : Line
+  pub said : Says bytes line
+  pub moves : moved s number line ≡ Some t
+  pub refs : is_end line ≡ true → last_missing t.boxes ≡ None
+
+-- the line says nothing that can be taken
+pub data Untaken (bytes : List ℕ) (number : ℕ) (s : Reading) : Type 0 where
+  unsaid : ((line : Line) → Says bytes line → ⊥) → Untaken bytes number s
+  unfit : (line : Line) → Says bytes line → moved s number line ≡ None → Untaken bytes number s
+
+-- the line ends a box that refers, first on line n, to a component that it does not have
+pub record Missed (bytes : List ℕ) (number : ℕ) (s : Reading) (n : ℕ) : Type 0 where
+  pub line : Line
+  pub said : Says bytes line
+  pub next : Reading
+  pub moves : moved s number line ≡ Some next
+  pub ends : is_end line ≡ true
+  pub first : last_missing next.boxes ≡ Some n
+
+abbrev pub Refuses : List ℕ → ℕ → Reading → DraftFault → Type 0
+Refuses bytes number s (B1 n) = ((n ≡ number) × Untaken bytes number s) ⊎ Missed bytes number s n
+Refuses bytes number s Memory = Unit {0}

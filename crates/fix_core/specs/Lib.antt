@@ -1,0 +1,5 @@
+pub mod Covered
+pub mod Explorations
+pub mod Follows
+pub mod Listed
+pub mod States

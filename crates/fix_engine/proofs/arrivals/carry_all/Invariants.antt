@@ -1,6 +1,0 @@
-use Rattle.std.proofs.Common.{take}
-use Rattle.fix_engine.specs.inner.Arriving.{AreCarried}
-use Rattle.fix_engine.proofs.arrivals.carry_all.Given as goal
-
-abbrev pub invariant-loop-case : goal.invariant-loop-case
-invariant-loop-case l = AreCarried (take l.case-index l.cases) l.states

@@ -1,0 +1,6 @@
+pub mod Arriving
+pub mod Imaged
+pub mod Lists
+pub mod LocationEdges
+pub mod Posting
+pub mod Rows

@@ -1,0 +1,5 @@
+pub mod Arriving
+pub mod Exits
+pub mod Images
+pub mod Posting
+pub mod Ready

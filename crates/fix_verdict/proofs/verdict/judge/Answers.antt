@@ -1,0 +1,62 @@
+use Rattle.std.proofs.Common.{◌∙◌, ◌≤◌, length, IfOk, sym, ap, subst, arith}
+use Rattle.fa_core.specs.Boxes.{faces_of}
+use Rattle.fa_core.proofs.Boxless.{sound_plain}
+use Rattle.fix_verdict.specs.declared.verdict.Verdict.TheVariants.{Safe}
+use Rattle.fix_core.specs.Explorations.{IsExplored}
+use Rattle.fix_verdict.specs.Verdicts.{IsVerdict}
+use Rattle.fix_verdict.proofs.Judging.{safe_means, if_replayed, if_never_loose, no_heads, runs_go_by, trace_short}
+use Rattle.fix_verdict.proofs.verdict.judge.Goals as goal
+
+pub replay_steps-steps-requires : goal.replay_steps-steps-requires
+replay_steps-steps-requires c =
+    let x = subst (IsExplored c.args.table.now c.args.graph.now c.args.height c.args.budget) c.in-Faulty.is
+    c.requires.explored in
+    let short : c.in-Faulty.trace.steps ≤ length c.in-Faulty.nodes =
+    trace_short c.args.table.now c.args.program.now c.args.graph.now (c.graphs_agree.ensures c.requires.lowered)
+    c.requires.shapes c.args.height c.in-Faulty.nodes c.in-Faulty.trace x.0 x.1 in
+    omega (arith, short, x.2, c.ranges.budget)
+
+pub judge_trace-requires-clause-plain : goal.judge_trace-requires-clause-plain
+judge_trace-requires-clause-plain c =
+    let x = subst (IsExplored c.args.table.now c.args.graph.now c.args.height c.args.budget) c.in-Faulty.is
+    c.requires.explored in
+    sound_plain c.args.table.now.face c.in-Faulty.trace.last.forest x.1.sound
+    (c.known.ensures.faces ∙ ap faces_of c.requires.empty)
+
+pub returns-in-Closed-clause-verdict : goal.returns-in-Closed-clause-verdict
+returns-in-Closed-clause-verdict c =
+    subst (λ z. IsVerdict c.args.table.now c.args.program.now c.args.graph.now c.args.height c.args.budget z Safe)
+    (sym c.in-Closed.is)
+    (safe_means c.args.table.now c.args.program.now c.args.graph.now (c.graphs_agree.ensures c.requires.lowered)
+    c.requires.shapes c.args.height c.args.budget c.in-Closed.nodes
+    (subst (IsExplored c.args.table.now c.args.graph.now c.args.height c.args.budget) c.in-Closed.is
+    c.requires.explored))
+
+pub returns-in-Faulty-clause-verdict : goal.returns-in-Faulty-clause-verdict
+returns-in-Faulty-clause-verdict c =
+    let T = c.args.table.now in
+    let p = c.args.program.now in
+    let g = c.args.graph.now in
+    let x = subst (IsExplored T g c.args.height c.args.budget) c.in-Faulty.is c.requires.explored in
+    subst (λ z. IfOk c.judge_trace.result (IsVerdict T p g c.args.height c.args.budget z)) (sym c.in-Faulty.is)
+    (if_replayed T p g (c.graphs_agree.ensures c.requires.lowered) c.requires.shapes c.args.height c.args.budget
+    c.in-Faulty.nodes c.in-Faulty.trace
+    (runs_go_by T g c.requires.shapes (c.edges_make_runs.ensures c.requires.lowered))
+    (c.edges_in_range.ensures c.requires.lowered)
+    c.replay_steps-steps.result c.replay_steps-steps.ensures.trace c.replay_steps-steps.ensures.more x
+    c.judge_trace.result
+    c.judge_trace.ensures)
+
+pub returns-in-Faulty-clause-loops : goal.returns-in-Faulty-clause-loops
+returns-in-Faulty-clause-loops c = λ free.
+    let T = c.args.table.now in
+    let p = c.args.program.now in
+    let g = c.args.graph.now in
+    let x = subst (IsExplored T g c.args.height c.args.budget) c.in-Faulty.is c.requires.explored in
+    if_never_loose T p g (c.graphs_agree.ensures c.requires.lowered) c.requires.shapes c.args.height c.args.budget
+    c.in-Faulty.nodes c.in-Faulty.trace
+    (runs_go_by T g c.requires.shapes (c.edges_make_runs.ensures c.requires.lowered))
+    (c.edges_in_range.ensures c.requires.lowered)
+    c.replay_steps-steps.result c.replay_steps-steps.ensures.trace c.replay_steps-steps.ensures.more x
+    c.judge_trace.result
+    (λ location. no_heads g.heads location (c.loop_free_graphs.ensures c.requires.lowered ∙ free)) c.judge_trace.ensures

@@ -1,0 +1,33 @@
+// sound?: whether a forest is sound.
+
+use anyhow::{Result, bail};
+use fa_core::faces::Face;
+use fa_core::forest::Forest;
+use fa_sound::{Sound, have_no_boxes};
+use row_forests::{face, forest_of};
+use std::alloc::Global;
+
+pub fn judged(alloc: Global, text: &str) -> Result<String> {
+    let word = word_of(alloc, text)?;
+    Ok(String::from_str(alloc, word)?)
+}
+
+fn word_of(alloc: Global, text: &str) -> Result<&'static str> {
+    let forest = forest_of(alloc, text)?;
+    word_on(alloc, &forest)
+}
+
+fn word_on(alloc: Global, forest: &Forest) -> Result<&'static str> {
+    let face = face(alloc)?;
+    word(alloc, forest, &face)
+}
+
+fn word(alloc: Global, forest: &Forest, face: &Face) -> Result<&'static str> {
+    if !have_no_boxes(forest.autos.as_slice()) {
+        bail!("a box edge");
+    }
+    match Sound::make(alloc, forest, face)? {
+        Some(_) => Ok("yes"),
+        None => Ok("no"),
+    }
+}

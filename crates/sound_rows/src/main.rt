@@ -1,0 +1,44 @@
+//! Rows of sound forests: which forests are sound, their signatures, members of them, and what they are cut into by
+//! signature.
+#![tactic(auto)]
+
+mod cutting;
+mod judging;
+mod parting;
+mod sampling;
+mod signing;
+mod stores;
+
+use anyhow::{Context, Result, bail};
+use row_kit::{Answers, answer_files};
+use std::alloc::Global;
+use std::thread::Threads;
+
+// The kinds of rows.
+#[derive(Clone, Copy)]
+struct Kinds;
+
+impl Answers for Kinds {
+    fn answer<R: Threads + Sync>(
+        &self,
+        _rt: &R,
+        alloc: Global,
+        head: &str,
+        texts: &[&str],
+    ) -> Result<String> {
+        let (text, wanted) = texts.split_first().context("no text")?;
+        match head {
+            "sound?" => judging::judged(alloc, text),
+            "signatures" => signing::signatures(alloc, text),
+            "copied" => signing::copied(alloc, text),
+            "sample" => sampling::sampled(alloc, text),
+            "cut" => cutting::cut_letters(alloc, text, wanted),
+            "parts" => parting::part_letters(alloc, text, wanted),
+            _ => bail!("no such kind"),
+        }
+    }
+}
+
+fn main(rt: HostRuntime) -> Result<()> {
+    answer_files(&rt, &Kinds)
+}

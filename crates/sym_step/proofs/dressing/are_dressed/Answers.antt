@@ -1,0 +1,13 @@
+use Rattle.std.proofs.Common.{take}
+use Rattle.fore_base.proofs.ListLemmas.{take_item, every_push}
+use Rattle.fa_sound.specs.Soundness.{SoundForest}
+use Rattle.sym_step.specs.inner.Stepping.{HasDressed}
+use Rattle.sym_step.proofs.dressing.are_dressed.Goals as goal
+
+pub loop-forest-preserved : goal.loop-forest-preserved
+loop-forest-preserved c =
+    rw
+    (take_item c.args.forests.now c.loop-forest.forest-index c.forest-item.result c.loop-forest-test.true
+    c.forest-item.is)
+    (every_push (λ (s : SoundForest). HasDressed s.forest) (take c.loop-forest.forest-index c.args.forests.now)
+    c.forest-item.result c.loop-forest.invariant c.is_dressed.ensures)

@@ -1,0 +1,24 @@
+// That forests have dressed forests.
+
+ghost use Rattle.fore_base.specs.Lists.{Every};
+ghost use Rattle.fa_core.specs.Boxless.{HasNoBoxes};
+ghost use Rattle.sym_step.specs.inner.Stepping.{HasDressed};
+
+use fa_sound::Sound;
+
+/// Does nothing, and says that each forest has a dressed forest.
+pub fn are_dressed(forests: &[Sound])
+    requires { Every (λ s. Every HasNoBoxes s.forest.autos) forests.now }
+    ensures { Every (λ s. HasDressed s.forest) forests.now }
+{
+    for forest in forests {
+        is_dressed(forest);
+    }
+}
+
+fn is_dressed(forest: &Sound)
+    requires { Every HasNoBoxes forest.now.forest.autos }
+    ensures { HasDressed forest.now.forest }
+{
+    forest.known();
+}
