@@ -84,13 +84,16 @@ module _ (face : Face) (T : List BoxDef) (c f : ℕ) (links : (b : ℕ) → Link
       (given_at face.boxes (bares (more n (more (node a s ds ps) ns))) 1)) =
       subst (λ (z : List Spot). IsPortFilled face tops x.gives_out z)
       (spots_are face.boxes (node a s ds ps) (given_at face.boxes (bares (more n (more (node a s ds ps) ns))) 1)) h.1.0
-          in
+      in
       let o = p.0.once in
       let y = idle_port face.boxes (slots_of ps) (given_at face.boxes (bares (more n (more (node a s ds ps) ns))) 1)
       (subst (λ (z : List ℕ). Rearranged z (flat_map (covers face.boxes) (slots_of ps)
       ++ given_at face.boxes (bares (more n (more (node a s ds ps) ns))) 1)) l.1 o) in
-      inr (l.0, gift_none 1 g (all_tips face.boxes (more n (more (node a s ds ps) ns))) k
-      (sym (given_tips face.boxes 1 (more n (more (node a s ds ps) ns))) ∙ y.1))
+      inr (
+        l.0,
+        gift_none 1 g (all_tips face.boxes (more n (more (node a s ds ps) ns))) k
+            (sym (given_tips face.boxes 1 (more n (more (node a s ds ps) ns))) ∙ y.1),
+      )
   lands_two x (more (node b u es qs) (more (node a s ds ps) ns)) m w tops e h l (suc (suc r)) t g q k =
       let z = rw e at q in inl (root_is ns r t z)
 
@@ -179,7 +182,7 @@ module _ (shapes : Shapes) (c f : ℕ) where
       subst (λ (T : List BoxDef). Gives T b) e
       (all_give (before ++ (d ∷ [])) defs h.1
       (λ k n. subst (λ (T : List BoxDef). Gives T k) (sym e)
-          (either k (let z = length-append before (d ∷ []) in omega (arith, z, n))))
+      (either k (let z = length-append before (d ∷ []) in omega (arith, z, n))))
       b (subst (λ (T : List BoxDef). b < length T) (sym e) l))
     where
       either : (k : ℕ) → k < suc (length before) → Gives (before ++ (d ∷ defs)) k

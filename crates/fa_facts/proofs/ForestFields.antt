@@ -78,7 +78,6 @@ module _ (face : Face) (T : List BoxDef) (c f : ℕ) (links : (b : ℕ) → Link
     (hooks : (b : ℕ) → HookGives face T c f b) (d : Nodes) (tops : List ℕ) (vs : List Value)
     (lands : (r t : ℕ) (g : List ℕ) → slice_get tops r ≡ Some t → IsIn (At r, g) (all_tips face.boxes d)
     → Lands g (nth_value vs r)) where
-
   abbrev hs : List Shape
   hs = face.shapes.structs
 
@@ -149,7 +148,7 @@ module _ (face : Face) (T : List BoxDef) (c f : ℕ) (links : (b : ℕ) → Link
           ≡ owed_of (port_facts vs v (node m s ds ps)) + (at_value hs c f v (often f fields) + leaves (tips_of bs ps))
       by_value v (inl l) = subst
           (λ (w : Value). given_of (port_facts vs w (node m s ds ps)) + at_value hs c f w
-              (often f (flat_map (tip_to r) all))
+          (often f (flat_map (tip_to r) all))
           ≡ owed_of (port_facts vs w (node m s ds ps)) + (at_value hs c f w (often f fields) + leaves (tips_of bs ps)))
           (sym l.1)
           (let q = parts_counts face T c f links hooks tops vs all lands l.0 s ps k.0.ends k.1 i p in
@@ -158,16 +157,16 @@ module _ (face : Face) (T : List BoxDef) (c f : ℕ) (links : (b : ℕ) → Link
           ∙ ap (λ (z : ℕ). often f (flat_map (covers bs) (slots_of ps)) + z) (given_root r) in
           port_sum (nat_eq c l.0) (given_of (slot_facts vs l.0 ps)) (owed_of (slot_facts vs l.0 ps)) (often f fields)
           (often f (flat_map (covers bs) (slots_of ps))) (often f (flat_map (tip_to r) all))
-              (leaves (tips_of bs ps)) q e)
+          (leaves (tips_of bs ps)) q e)
       by_value v (inr l) = subst
           (λ (w : Value). given_of (port_facts vs w (node m s ds ps)) + at_value hs c f w
-              (often f (flat_map (tip_to r) all))
+          (often f (flat_map (tip_to r) all))
           ≡ owed_of (port_facts vs w (node m s ds ps)) + (at_value hs c f w (often f fields) + leaves (tips_of bs ps)))
           (sym l.0)
           (let o = k.0.once in
           let y = idle_port bs (slots_of ps) (given_at bs (bares d) r)
           (subst (λ (z : List ℕ). Rearranged z (flat_map (covers bs) (slots_of ps) ++ given_at bs (bares d) r)) l.1 o)
-              in
+          in
           let z : tips_of bs ps ≡ [] = bare_tips bs ps (no_slots bs (slots_of ps) k.0.order.0 y.0) in
           rw z (omega arith))
 

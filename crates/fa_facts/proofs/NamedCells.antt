@@ -83,7 +83,7 @@ module _ (hs : List ℕ) where
     slots_name vs k c o (link b i e ps) h =
         let l = heads_left (inside_facts (Cell c ∷ (end_value vs e ∷ [])) i) (end_facts vs e ++ slot_facts vs c ps) h in
         let r = heads_right (inside_facts (Cell c ∷ (end_value vs e ∷ [])) i)
-            (end_facts vs e ++ slot_facts vs c ps) h in
+        (end_facts vs e ++ slot_facts vs c ps) h in
         let m = heads_left (end_facts vs e) (slot_facts vs c ps) r in
         every_append (FactNamed hs) (inside_facts (Cell c ∷ (end_value vs e ∷ [])) i)
         (end_facts vs e ++ slot_facts vs c ps)

@@ -9,8 +9,11 @@ use Rattle.fa_facts.specs.Fields.{fields_at, fields_owed, FactNamed}
 
 abbrev hs : List Shape
 hs =
-    record { name = []; fields = record { name = []; kind = Pointer 0 } ∷ record { name = []; kind = Datum }
-    ∷ record { name = []; kind = Pointer 1 } ∷ [] }
+    record {
+      name = [];
+      fields = record { name = []; kind = Pointer 0 } ∷ record { name = []; kind = Datum }
+          ∷ record { name = []; kind = Pointer 1 } ∷ [];
+    }
     ∷ record { name = []; fields = record { name = []; kind = Pointer 1 } ∷ [] } ∷ []
 
 -- cell 1 has its fields 0 and 1, the second from an edge that is written first; cell 2 has its field 0

@@ -79,7 +79,6 @@ module _ (face : Face) (T : List BoxDef) (c f : ℕ) where
 module _ (face : Face) (T : List BoxDef) (c f : ℕ) (links : (b : ℕ) → LinkGives face T c f b)
     (hooks : (b : ℕ) → HookGives face T c f b) (tops : List ℕ) (vs : List Value) (all : List Tip)
     (lands : (r t : ℕ) (g : List ℕ) → slice_get tops r ≡ Some t → IsIn (At r, g) all → Lands g (nth_value vs r)) where
-
   abbrev ArePart : List Tip → Type 0
   ArePart ts = (p : Tip) → IsIn p ts → IsIn p all
 
@@ -154,7 +153,7 @@ module _ (face : Face) (T : List BoxDef) (c f : ℕ) (links : (b : ℕ) → Link
         let o = owed_append ss c f (end_facts vs e) (slot_facts vs m ps) in
         let t = tip_append face T c f vs (end_tips bs [] e) (tips_of bs ps) in
         let u : at_cell ss c f m (often f (flat_map (covers bs) (slots_of (field g e ps)))) ≡ at_cell ss c f m
-            (often f (g ∷ []))
+        (often f (g ∷ []))
         + at_cell ss c f m (often f (flat_map (covers bs) (slots_of ps))) =
         ap (at_cell ss c f m) (often_both f (g ∷ []) (flat_map (covers bs) (slots_of ps)))
         ∙ so_both (nat_eq c m) (often f (g ∷ [])) (often f (flat_map (covers bs) (slots_of ps))) in
@@ -164,25 +163,25 @@ module _ (face : Face) (T : List BoxDef) (c f : ℕ) (links : (b : ℕ) → Link
         let k = every_parts (IsFilledSpot face tops) (end_spots bs (gives_out_of bs b) e) (parts_spots bs ps) h in
         let q = parts_counts m s ps w.1 k.1 i.2 (part_right (end_tips bs (gives_out_of bs b) e) (tips_of bs ps) p) in
         let r = end_counts (gives_out_of bs b) e k.0 i.1
-            (part_left (end_tips bs (gives_out_of bs b) e) (tips_of bs ps) p) in
+        (part_left (end_tips bs (gives_out_of bs b) e) (tips_of bs ps) p) in
         let x = w.0.0 in
         let y = gives_by b w.0.0 w.0.2 in
         let n = link_lands x.gives_out w.0.1 e w.0.5
         (subst (λ (z : List ℕ). ArePart (end_tips bs z e)) y
-            (part_left (end_tips bs (gives_out_of bs b) e) (tips_of bs ps) p)) in
+        (part_left (end_tips bs (gives_out_of bs b) e) (tips_of bs ps) p)) in
         let l = links b w.0.0 w.0.1 i.0.0 d m (end_value vs e) w.0.2 w.0.4 i.0.1 i.0.2 n in
         let v : at_value ss c f (end_value vs e) (often f (gives_out_of bs b)) ≡ at_value ss c f (end_value vs e)
-            (often f w.0.0.gives_out) =
+        (often f w.0.0.gives_out) =
         ap (λ (z : List ℕ). at_value ss c f (end_value vs e) (often f z)) y in
         let a = given_append ss c f (inside_facts (Cell m ∷ (end_value vs e ∷ [])) d)
-            (end_facts vs e ++ slot_facts vs m ps) in
+        (end_facts vs e ++ slot_facts vs m ps) in
         let a2 = given_append ss c f (end_facts vs e) (slot_facts vs m ps) in
         let o = owed_append ss c f (inside_facts (Cell m ∷ (end_value vs e ∷ [])) d)
-            (end_facts vs e ++ slot_facts vs m ps) in
+        (end_facts vs e ++ slot_facts vs m ps) in
         let o2 = owed_append ss c f (end_facts vs e) (slot_facts vs m ps) in
         let t = tip_append face T c f vs (end_tips bs (gives_out_of bs b) e) (tips_of bs ps) in
         let u : at_cell ss c f m (often f (flat_map (covers bs) (slots_of (link b d e ps)))) ≡ at_cell ss c f m
-            (often f w.0.0.gives_in)
+        (often f w.0.0.gives_in)
         + at_cell ss c f m (often f (flat_map (covers bs) (slots_of ps))) =
         ap (at_cell ss c f m) (often_both f (gives_in_of bs b) (flat_map (covers bs) (slots_of ps)))
         ∙ so_both (nat_eq c m) (often f (gives_in_of bs b)) (often f (flat_map (covers bs) (slots_of ps)))
@@ -195,7 +194,7 @@ module _ (face : Face) (T : List BoxDef) (c f : ℕ) (links : (b : ℕ) → Link
         let a = given_append ss c f (inside_facts (Cell m ∷ []) d) (slot_facts vs m ps) in
         let o = owed_append ss c f (inside_facts (Cell m ∷ []) d) (slot_facts vs m ps) in
         let u : at_cell ss c f m (often f (flat_map (covers bs) (slots_of (hook b d ps)))) ≡ at_cell ss c f m
-            (often f w.0.0.gives_in)
+        (often f w.0.0.gives_in)
         + at_cell ss c f m (often f (flat_map (covers bs) (slots_of ps))) =
         ap (at_cell ss c f m) (often_both f (gives_in_of bs b) (flat_map (covers bs) (slots_of ps)))
         ∙ so_both (nat_eq c m) (often f (gives_in_of bs b)) (often f (flat_map (covers bs) (slots_of ps)))

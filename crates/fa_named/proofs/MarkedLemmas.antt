@@ -131,7 +131,7 @@ pub part_by : (known : Known) (boxes : Boxes) (port : Bool) (p : PartDraft) (roo
     → ((q : ℕ) → slice_index_or roots q false ≡ has q p.roots)
     → ((q : ℕ) → slice_index_or below q false ≡ has q (below_rules p.rules))
     → rules_faults known boxes (λ q. port && slice_index_or roots q false) (λ q. slice_index_or below q false) p.rules
-        ≡ part_faults known boxes port p
+    ≡ part_faults known boxes port p
 part_by known boxes port p roots below e h =
     rules_alike known boxes (λ q. port && slice_index_or roots q false) (λ q. port && has q p.roots)
     (λ q. slice_index_or below q false) (λ q. has q (below_rules p.rules)) p.rules (λ q. ap (λ b. port && b) (e q)) h

@@ -60,8 +60,8 @@ ranked known boxes p =
     let both : roots ≤ n = omega (arith, first, second) in (
       below_more roots n p.roots both (bound_above 0 p.roots),
       rules_ranked known boxes n p.rules
-      (below_more states n (rule_states p.rules) second (bound_above roots (rule_states p.rules)))
-      (bound_above states (below_rules p.rules)),
+          (below_more states n (rule_states p.rules) second (bound_above roots (rule_states p.rules)))
+          (bound_above states (below_rules p.rules)),
     )
 
 pub ranked_by : (known : Known) (boxes : Texts) (p : PartDraft) (n : ℕ) (qs : List ℕ) (rs : List Rule) → n ≡ state_count p

@@ -84,13 +84,7 @@ fn says(boxes: &Boxes, name: &Text, output: bool) -> bool
     ensures { result ≡ spec.says output (slice_get boxes.now.outputs (places.place name.now boxes.now.names)) }
 {
     match boxes.outputs.get(first_place(boxes.names.as_slice(), name)) {
-        Some(has_one) => {
-            if output {
-                *has_one
-            } else {
-                !*has_one
-            }
-        }
+        Some(has_one) => { if output { *has_one } else { !*has_one } }
         None => false,
     }
 }

@@ -64,7 +64,12 @@ fn auto_of(alloc: Global, known: &Known, boxes: &[Text], part: &PartDraft) -> Me
 }
 
 /// The automata of components.
-pub fn autos_of(alloc: Global, known: &Known, boxes: &[Text], parts: &[PartDraft]) -> Mem<List<Auto>>
+pub fn autos_of(
+    alloc: Global,
+    known: &Known,
+    boxes: &[Text],
+    parts: &[PartDraft],
+) -> Mem<List<Auto>>
     ensures { IfOk result (λ made. made ≡ map (spec.auto_of known.now boxes.now) parts.now) }
 {
     let mut made = List::new(alloc);

@@ -44,10 +44,7 @@ fn fields_of(alloc: Global, shape: &Shape) -> Mem<Fields>
 {
     let pointers = field_names(alloc, shape.fields.as_slice(), false)?;
     let datums = field_names(alloc, shape.fields.as_slice(), true)?;
-    Ok(Fields {
-        pointers,
-        datums,
-    })
+    Ok(Fields { pointers, datums })
 }
 
 fn struct_names(alloc: Global, structs: &[Shape]) -> Mem<List<Text>>

@@ -98,7 +98,11 @@ fn first_fault(alloc: Global, known: &Known, drafts: &[BoxDraft]) -> Mem<Option<
 /// `NameFault::K6` where there are more than 32 boxes, at the 33rd. Otherwise the first line that breaks B2 or B3, and
 /// where it breaks both, B2. `NameFault::Memory` for want of memory.
 #[tactic(auto, using(crate::proofs::FirstLemmas::none_first, crate::proofs::FirstLemmas::is_first))]
-pub fn name_boxes(alloc: Global, shapes: &Shapes, drafts: &[BoxDraft]) -> Result<List<NamedBox>, NameFault>
+pub fn name_boxes(
+    alloc: Global,
+    shapes: &Shapes,
+    drafts: &[BoxDraft],
+) -> Result<List<NamedBox>, NameFault>
     ensures ok { IfOk result (AreNamed shapes.now drafts.now) }
     ensures err { IfErr result (IsFirst (spec.faults shapes.now drafts.now)) }
 {

@@ -22,12 +22,7 @@ fn slot_of(pointers: &[Text], boxes: &[Text], slot: &SlotText) -> Mem<Slot>
     }
 }
 
-fn slots_of(
-    alloc: Global,
-    pointers: &[Text],
-    boxes: &[Text],
-    slots: &[SlotText],
-) -> Mem<List<Slot>>
+fn slots_of(alloc: Global, pointers: &[Text], boxes: &[Text], slots: &[SlotText]) -> Mem<List<Slot>>
     ensures { IfOk result (λ made. made ≡ map (spec.slot_of pointers.now boxes.now) slots.now) }
 {
     let mut made = List::new(alloc);

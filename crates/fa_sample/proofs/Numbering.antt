@@ -150,7 +150,7 @@ module _ (T : List BoxDef) (ins : Insides) (vs : List Value) where
       (bare_parts (parts_made ins vs ss ms c k).0 ≡ ts)
       × InsidesOfParts T (parts_made ins vs ss ms c k).0
       × (1 ≤ c → c < k → AreLow k → Counts k (slots_out vs c (parts_made ins vs ss ms c k).0)
-          (parts_made ins vs ss ms c k).1)
+      (parts_made ins vs ss ms c k).1)
 
   slots_made : (ss : List Slot) (ts : List Tree) (ms : List Making) → Every (SlotInside T ins) ss
       → length ts ≡ child_slots ss → AreMade ts ms → (c k : ℕ) → MadeParts ss ts ms c k
@@ -169,7 +169,7 @@ module _ (T : List BoxDef) (ins : Insides) (vs : List Value) where
             (let n = begun_more m k in
             let x = head_counts m k (begun m k) in
             let y = below_counts t m k (begun m k) h.0 (omega (arith, a, b)) (omega arith)
-                (low_later k (begun m k) n d) in
+            (low_later k (begun m k) n d) in
             let o = counts_rise (begun m k) (ended m k (begun m k)).1 (below_out vs (ended m k (begun m k)).0) y in
             let w = r.3 a (omega (arith, b, n, o)) (low_later k (ended m k (begun m k)).1 (omega (arith, n, o)) d) in
             counts_both k (begun m k) (parts_made ins vs ss ms c (ended m k (begun m k)).1).1
@@ -214,7 +214,7 @@ module _ (T : List BoxDef) (ins : Insides) (vs : List Value) where
                 let w = below_counts t m k i.1 h.0 (omega (arith, a, d)) o (low_later k i.1 (omega (arith, n, o)) g) in
                 let v = counts_rise i.1 (ended m k i.1).1 (below_out vs (ended m k i.1).0) w in
                 let rest = x.3 a (omega (arith, d, n, o, v))
-                    (low_later k (ended m k i.1).1 (omega (arith, n, o, v)) g) in
+                (low_later k (ended m k i.1).1 (omega (arith, n, o, v)) g) in
                 let y2 : Counts (begun m k) (forest_out (CellValue c ∷ (end_value vs (ended m k i.1).0 ∷ [])) i.0) i.1 =
                 subst (λ (q : Value). Counts (begun m k) (forest_out (CellValue c ∷ (q ∷ [])) i.0) i.1)
                 (sym (top_value m k i.1)) y in

@@ -167,7 +167,7 @@ forest_walked ins ports ts cs =
     (roots_begun ports ts (suc (length cs))) in
     let d : Nodes = (forest_made ins ports ts (suc (length cs))).0 in
     ap (λ (j : ℕ). (let r = roots_out ins (root_values ports ts (suc (length cs)))
-        (root_values ports ts (suc (length cs))) ts j in
+    (root_values ports ts (suc (length cs))) ts j in
     cells_and (written r.0 (roots_reserved ports ts cs)) r.1)) (roots_long ports ts cs)
     ∙ ap (λ (r : Out). cells_and (written r.0 (roots_reserved ports ts cs)) r.1) (sym w)
     ∙ ap₂ (λ (z : List Draft) (ws : List Value).

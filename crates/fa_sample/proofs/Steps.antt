@@ -102,7 +102,7 @@ module _ (ins : Insides) (vs : List Value) where
       (sym
       (written_both (forest_out (CellValue c ∷ []) (ins b (CellValue c ∷ []) (suc (length cs))).0)
       (slots_out vs c (task_made ins vs (record { cell = c; slots = ss; trees = us })
-          (ins b (CellValue c ∷ []) (suc (length cs))).1).0)
+      (ins b (CellValue c ∷ []) (suc (length cs))).1).0)
       cs))
       ∙ sym (finish_after ts (record { cell = c; slots = Hook b ∷ ss; trees = us }) cs)
 
@@ -198,14 +198,14 @@ module _ (ins : Insides) (vs : List Value) where
       let rest : Todo = record { cell = c; slots = ss; trees = us } in
       let x : FieldValue = record { field = f; value = value_by vs y (suc (length cs)) } in
       let new : List Draft = put_field c (record { field = f; value = value_by vs y (suc (length cs)) })
-          (reserved_by y cs) in
+      (reserved_by y cs) in
       let n : suc (length (put_field c (record { field = f; value = value_by vs y (suc (length cs)) })
-          (reserved_by y cs)))
+      (reserved_by y cs)))
       ≡ begun (made_by y ws) (suc (length cs)) =
       ap suc (put_field_long c (record { field = f; value = value_by vs y (suc (length cs)) }) (reserved_by y cs))
       ∙ reserved_long y ws cs in
       ap (λ (q : ℕ). MadeFrom
-          (followed_by y ws (suc (length cs)) (ts ++ record { cell = c; slots = ss; trees = us } ∷ [])) q
+      (followed_by y ws (suc (length cs)) (ts ++ record { cell = c; slots = ss; trees = us } ∷ [])) q
       (put_field c (record { field = f; value = value_by vs y (suc (length cs)) }) (reserved_by y cs))) n
       ∙ after_child y ws (suc (length cs)) ts (record { cell = c; slots = ss; trees = us })
       (begun (made_by y ws) (suc (length cs)))
@@ -292,9 +292,9 @@ module _ (ins : Insides) (vs : List Value) where
           ap₂ (λ (w : Value) (j : ℕ). ins b (CellValue c ∷ (w ∷ [])) j) q p in
           let l2 : suc (length new) ≡ i.1 = l ∙ ap (λ (z : Nodes × ℕ). z.1) r in
           let e2 : new ≡ written (forest_out (CellValue c ∷ (top_of vs m (suc (length cs)) ∷ [])) i.0)
-              (reserved_by y cs) =
+          (reserved_by y cs) =
           e ∙ ap₂ (λ (w : Value) (z : Nodes × ℕ). written (forest_out (CellValue c ∷ (w ∷ [])) z.0) (reserved_by y cs))
-              q r in
+          q r in
           let z = inner i l2 e2 in
           z.0
           ∙ ap (λ (z : List Draft). MadeFrom ts (task_made ins vs rest (ended m (suc (length cs)) i.1).1).1
@@ -304,13 +304,13 @@ module _ (ins : Insides) (vs : List Value) where
         where
           inner : (i : Nodes × ℕ) → suc (length new) ≡ i.1
               → new ≡ written (forest_out (CellValue c ∷ (top_of vs (made_by y ws) (suc (length cs)) ∷ [])) i.0)
-                  (reserved_by y cs)
+              (reserved_by y cs)
               → (let f = ended (made_by y ws) (suc (length cs)) i.1 in
               Ends (followed_by y ws (suc (length cs)) (ts ++ rest ∷ [])) new
               ≡ MadeFrom ts (task_made ins vs rest f.1).1
               (written (below_out vs f.0 ++ slots_out vs c (task_made ins vs rest f.1).0) new))
               × (new ≡ written (forest_out
-                  (CellValue c ∷ (end_value vs (ended (made_by y ws) (suc (length cs)) i.1).0 ∷ [])) i.0)
+              (CellValue c ∷ (end_value vs (ended (made_by y ws) (suc (length cs)) i.1).0 ∷ [])) i.0)
               (written (end_head (ended (made_by y ws) (suc (length cs)) i.1).0) cs))
           inner i l e = (
             ap (λ (q : ℕ). MadeFrom (followed_by y ws (suc (length cs)) (ts ++ rest ∷ [])) q new) l
@@ -324,7 +324,7 @@ module _ (ins : Insides) (vs : List Value) where
       → new ≡ written (forest_out (CellValue c ∷ (top_value vs t (suc (length cs)) ∷ []))
       (ins b (CellValue c ∷ (top_value vs t (suc (length cs)) ∷ [])) (suc (length (reserved t cs)))).0) (reserved t cs)
       → suc (length new) ≡ (ins b (CellValue c ∷ (top_value vs t (suc (length cs)) ∷ []))
-          (suc (length (reserved t cs)))).1
+      (suc (length (reserved t cs)))).1
       → Ends (followed t (suc (length cs)) (ts ++ record { cell = c; slots = ss; trees = us } ∷ [])) new
       ≡ Ends (ts ++ record { cell = c; slots = Link b ∷ ss; trees = t ∷ us } ∷ []) cs
   ends_at_link ts c b ss t us cs new e l =
@@ -422,7 +422,7 @@ module _ (ins : Insides) (vs : List Value) where
             ∙ sym (ap (λ (x : Todo). ends ins vs (ts ++ x ∷ []) cs) z),
         subst (λ (x : Todo). weight pushed < weight (ts ++ x ∷ [])) (sym z)
             (subst (λ (x : List Todo). weight x < weight
-                (ts ++ record { cell = t.cell; slots = Hook b ∷ ss; trees = t.trees } ∷ []))
+            (ts ++ record { cell = t.cell; slots = Hook b ∷ ss; trees = t.trees } ∷ []))
             (sym p) (less_hook ts t.cell (Hook b) ss t.trees)),
       )
 
@@ -433,7 +433,7 @@ module _ (ins : Insides) (vs : List Value) where
   less_done ts t s ss u us own pushed after z p q =
       subst (λ (x : Todo). weight after < weight (ts ++ x ∷ [])) (sym z)
       (subst (λ (x : List Todo). weight x < weight
-          (ts ++ record { cell = t.cell; slots = s ∷ ss; trees = u ∷ us } ∷ []))
+      (ts ++ record { cell = t.cell; slots = s ∷ ss; trees = u ∷ us } ∷ []))
       (sym (q ∙ ap (followed u own) p)) (less_slot ts t.cell own s ss u us))
 
   pub field_done : (ts : List Todo) (t : Todo) (s : Slot) (ss : List Slot) (f : ℕ) (u : Tree) (us : List Tree)
@@ -461,7 +461,7 @@ module _ (ins : Insides) (vs : List Value) where
       → pushed ≡ ts ++ record { cell = t.cell; slots = ss; trees = us } ∷ [] → own ≡ suc (length cs)
       → v ≡ top_value vs u own → one ≡ reserved u cs
       → new ≡ written (forest_out (CellValue t.cell ∷ (v ∷ []))
-          (ins b (CellValue t.cell ∷ (v ∷ [])) (suc (length one))).0) one
+      (ins b (CellValue t.cell ∷ (v ∷ [])) (suc (length one))).0) one
       → suc (length new) ≡ (ins b (CellValue t.cell ∷ (v ∷ [])) (suc (length one))).1
       → after ≡ followed u own pushed
       → (ends ins vs after new ≡ ends ins vs (ts ++ t ∷ []) cs) × (weight after < weight (ts ++ t ∷ []))
@@ -473,7 +473,7 @@ module _ (ins : Insides) (vs : List Value) where
       let n2 = n ∙ ap₂ (λ (v : Value) (one : List Draft). written (forest_out (CellValue t.cell ∷ (v ∷ []))
       (ins b (CellValue t.cell ∷ (v ∷ [])) (suc (length one))).0) one) x r in
       let l2 = l ∙ ap₂ (λ (v : Value) (one : List Draft). (ins b (CellValue t.cell ∷ (v ∷ [])) (suc (length one))).1) x
-          r in (
+      r in (
         ap (λ (x : List Todo). ends ins vs x new) g ∙ ends_at_link ins vs ts t.cell b ss u us cs new n2 l2
             ∙ sym (ap (λ (x : Todo). ends ins vs (ts ++ x ∷ []) cs) z),
         less_done ts t (Link b) ss u us own pushed after z p q,

@@ -47,7 +47,7 @@ put_at_facts k (suc at) x (c ∷ cs) l =
     let e : suc k + at ≡ k + suc at = omega arith in
     let r = put_at_facts (suc k) at x cs (let z : suc at < suc (length cs) = l in omega (arith, z)) in
     subst (λ (n : ℕ). Rearranged (draft_facts k (put_at (suc at) x (c ∷ cs)))
-        (field_fact n x ∷ draft_facts k (c ∷ cs))) e
+    (field_fact n x ∷ draft_facts k (c ∷ cs))) e
     (chain
     (keep (Head k c.shape c.datums)
     (chain (after (map (field_fact k) c.fields) r)

@@ -109,9 +109,12 @@ boxes_more ls ms bs cs f g =
     (sym (run_joined ls ms (reading [] None) (reading bs None) 1 (form_runs ls bs f)) ∙ form_runs (ls ++ ms) cs g)
 
 live_front : (ps rs : List Line) (r : Line) → IsLive (ps ++ r ∷ rs) → IsLive (ps ++ r ∷ [])
-live_front ps rs r live =
-    (rs ++ live.0, live.1, subst (λ ls. IsForm ls live.1)
-    (ap (λ ls. ls ++ live.0) (sym (append_assoc ps (r ∷ []) rs)) ∙ append_assoc (ps ++ r ∷ []) rs live.0) live.2)
+live_front ps rs r live = (
+  rs ++ live.0,
+  live.1,
+  subst (λ ls. IsForm ls live.1)
+      (ap (λ ls. ls ++ live.0) (sym (append_assoc ps (r ∷ []) rs)) ∙ append_assoc (ps ++ r ∷ []) rs live.0) live.2,
+)
 
 form_live : (ls : List Line) (bs : List BoxDraft) → IsForm ls bs → IsLive ls
 form_live ls bs f = ([], bs, subst (λ ms. IsForm ms bs) (sym (append-nil ls)) f)
@@ -215,6 +218,7 @@ bad_and_missing one text m n a b = by (cases_lt (length a.before) (length b.line
   where
     all : List BoxDraft
     all = b.boxes ++ b.last ∷ []
+
     by : (length a.before < length b.lines) ⊎ (length b.lines ≤ length a.before) → ⊥
     by (inl h) = not_longer one text m a b.lines b.said (form_live b.lines all b.form) h
     by (inr h) =

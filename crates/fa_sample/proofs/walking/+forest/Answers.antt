@@ -128,7 +128,7 @@ do_task-returns-in_ok-follow-in-Field-clause-ends t c =
     c.in-Some.ensures.cases.0 c.in-Field.is c.in-Some-split_first.ensures.cases.0
     (ap (map seen) c.in_ok-push-in-Field.ensures.ok ∙ map-append seen c.args.tasks.now _)
     c.in_ok-own-in-Field.ensures c.top_value-value.ensures c.in_ok-reserve-in-Field.ensures
-        c.in_ok-add_field-in-Field.ensures
+    c.in_ok-add_field-in-Field.ensures
     c.in_ok-follow-in-Field.ensures).0
 
 pub do_task-returns-in_ok-follow-in-Field-clause-less : goal.do_task-returns-in_ok-follow-in-Field-clause-less
@@ -140,7 +140,7 @@ do_task-returns-in_ok-follow-in-Field-clause-less t c =
     c.in-Some.ensures.cases.0 c.in-Field.is c.in-Some-split_first.ensures.cases.0
     (ap (map seen) c.in_ok-push-in-Field.ensures.ok ∙ map-append seen c.args.tasks.now _)
     c.in_ok-own-in-Field.ensures c.top_value-value.ensures c.in_ok-reserve-in-Field.ensures
-        c.in_ok-add_field-in-Field.ensures
+    c.in_ok-add_field-in-Field.ensures
     c.in_ok-follow-in-Field.ensures).1
 
 pub do_task-returns-in_ok-follow-in-Link-clause-ends : goal.do_task-returns-in_ok-follow-in-Link-clause-ends

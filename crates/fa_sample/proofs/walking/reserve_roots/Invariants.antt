@@ -8,4 +8,4 @@ invariant-loop-tree l =
     (l.values ++ root_values l.ports (drop l.tree-index l.trees) (suc (length l.drafts))
     ≡ root_values l.initial.ports l.trees (suc (length l.initial.drafts)))
     × (roots_reserved l.ports (drop l.tree-index l.trees) l.drafts
-        ≡ roots_reserved l.initial.ports l.trees l.initial.drafts)
+    ≡ roots_reserved l.initial.ports l.trees l.initial.drafts)
