@@ -1,14 +1,16 @@
 -- The rules B4 to B7, of which a box breaks none where it has a face by which it is sound.
-use Rattle.std.specs.Prelude.{◌≡◌, ◌≢◌, ◌<◌, ℕ, true, List, [], ◌∷◌, ◌++◌, length, Option, Some, None}
+use Rattle.std.specs.Prelude.{◌≡◌, ◌≢◌, ◌<◌, ◌≤◌, ℕ, true, List, [], ◌∷◌, ◌++◌, map, length, Option, Some, None}
 use Rattle.std.specs.Prelude.{slice_get}
 use Rattle.fore_base.specs.Lists.{IsIn, Every}
-use Rattle.ta_core.specs.Auto.{Automaton}
+use Rattle.ta_core.specs.Auto.{Automaton, IsRanked}
 use Rattle.ta_core.specs.Language.{InLanguage, RunOf, IsBarren, TakesPart}
+use Rattle.ta_core.specs.declared.auto.Rule.{Rule}
+use Rattle.ta_core.specs.declared.symbol.Symbol.TheVariants.{Ref}
 use Rattle.ta_core.specs.declared.tree.Tree.{Tree, out-Tree}
 use Rattle.fa_core.specs.declared.boxes.BoxDef.{BoxDef}
 use Rattle.fa_core.specs.declared.faces.BoxFace.{BoxFace}
 use Rattle.fa_core.specs.declared.faces.Face.{Face}
-use Rattle.fa_core.specs.Boxes.{PortsCover, IsReached, LeadsUp, LeadsNowhere, BackHolds}
+use Rattle.fa_core.specs.Boxes.{InsideRulesFit, PortsCover, IsReached, LeadsUp, LeadsNowhere, BackHolds}
 use Rattle.fa_core.specs.Canonical.{RefersTo}
 use Rattle.fa_core.specs.Cells.{is_leaf}
 use Rattle.fa_core.specs.Filled.{Choice, IsTopped, HasField, HasSome, given_at}
@@ -34,6 +36,23 @@ port_count (Some t) = 2
 abbrev pub structs_of : ℕ → Option ℕ → List ℕ
 structs_of s None = s ∷ []
 structs_of s (Some t) = s ∷ (t ∷ [])
+
+-- each reference of a rule is to a component below n
+abbrev pub AreRefsBelow : ℕ → Automaton → Type 0
+AreRefsBelow n a = (r : Rule) (k : ℕ) → IsIn r a.rules → r.symbol ≡ Ref k → k < n
+
+-- what is known of a box whose names and references are there, before it is looked at which trees it has
+pub record IsWellNamed (face : Face) (b : Inside) : Type 0 where
+  pub rules : InsideRulesFit face (map (λ (s : ℕ). []) (structs_of b.input b.output)) b.autos
+  pub refs : Every (AreRefsBelow (length b.autos)) b.autos
+  pub ranked : Every IsRanked b.autos
+  pub ports : port_count b.output ≤ length b.autos
+  pub structs : Every (λ (s : ℕ). s < length face.shapes.structs) (structs_of b.input b.output)
+
+-- all trees of each state that takes part have one signature
+abbrev pub HaveSignatures : List BoxFace → Automaton → Type 0
+HaveSignatures bs a = (q : ℕ) → TakesPart a q → (t u : Tree) → RunOf a.rules q t → RunOf a.rules q u
+    → signature bs t ≡ signature bs u
 
 -- The fields of a port.
 
@@ -145,8 +164,7 @@ pub record IsUnbroken (face : Face) (T : List BoxDef) (b : Inside) (x : BoxFace)
   pub structs : (r s u : ℕ) (a : Automaton) (t : Tree) → slice_get (structs_of b.input b.output) r ≡ Some s
       → slice_get b.autos r ≡ Some a → InLanguage a t → IsTopped u t → u ≡ s
   pub covers : PortsCover face.boxes b.output b.autos
-  pub signatures : Every (λ (a : Automaton). (q : ℕ) → TakesPart a q → (t u : Tree) → RunOf a.rules q t
-      → RunOf a.rules q u → signature face.boxes t ≡ signature face.boxes u) b.autos
+  pub signatures : Every (HaveSignatures face.boxes) b.autos
   -- nor by what the ports are given and whether the box leads back, since there is one face
   pub one : IsFaceOf face T b x
   -- not B6
