@@ -25,7 +25,7 @@ use Rattle.fa_back.specs.Reached.{RootReached, IsDressedBy, CellReached, node_at
 use Rattle.fa_back.specs.Reached.{AreSignaturesOf}
 use Rattle.fa_back.specs.inner.Hops.{Edge, Hops, tree_own, tree_edges, forest_own, forest_edges}
 use Rattle.fa_back.proofs.Apart.{tree_apart, own_numbers, inner, inner_in}
-use Rattle.fa_back.proofs.ByMarks.{in_mark, reach_refers}
+use Rattle.fa_back.proofs.RootMarks.{in_mark, reach_refers}
 use Rattle.fa_back.proofs.CellsReached.{EdgeSound, kept, to_facts, reached_met, all_reached}
 use Rattle.fa_back.proofs.EdgesWorth.{TableKnown, AllFit, forest_sound}
 use Rattle.fa_back.proofs.FactParts.{node_root}
@@ -54,7 +54,7 @@ module _ (t : Boxes) (F : Forest) (d : Nodes) (h : IsDressedBy t F d) where
   fit = fit_roots t.face filled.tops d (tops_long d filled.tops filled.are)
       (trees_ends t.face filled.tops (bares d) 0 d filled.cells)
 
-  sound : (x : Edge) → IsIn x (forest_edges t.face.boxes (roots_of d) d) → EdgeSound x
+  pub sound : (x : Edge) → IsIn x (forest_edges t.face.boxes (roots_of d) d) → EdgeSound x
   sound = forest_sound t.face.boxes t.defs known (roots_of d) F.autos d h.of fit
 
   -- where each root is reached, each cell is

@@ -13,6 +13,7 @@ pub mod LinksFit
 pub mod Open
 pub mod Ports
 pub mod TablesKnown
+pub mod RootMarks
 pub mod ByMarks
 pub mod Insides
 pub mod Dressable
@@ -22,3 +23,4 @@ pub mod Tabled
 pub mod ForestLaws
 pub mod Rows
 pub mod StoreLaws
+pub mod Decided

@@ -23,7 +23,7 @@ use Rattle.fa_back.specs.Reached.{
 }
 use Rattle.fa_back.specs.inner.Search.{hop, back_hops, mark_hops, tree_hops, row, put_hop, put_hops, table_of, Arrives}
 use Rattle.fa_back.specs.inner.Search.{start, next}
-use Rattle.fa_back.proofs.ByMarks.{in_flat, flat_in}
+use Rattle.fa_back.proofs.RootMarks.{in_flat, flat_in}
 use Rattle.fa_back.proofs.FactParts.{same_or_not}
 
 -- Rows.

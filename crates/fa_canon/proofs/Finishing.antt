@@ -15,7 +15,7 @@ use Rattle.fa_core.proofs.Composed.{within_trees}
 use Rattle.fa_core.proofs.Rearranging.{same}
 use Rattle.fa_core.proofs.Regrouped.{members_regrouped, members_split}
 use Rattle.fa_sound.specs.Soundness.{SoundForest}
-use Rattle.fa_merge.proofs.LeaksDecided.{some_choice}
+use Rattle.fa_back.proofs.Dressable.{some_choice}
 use Rattle.fa_merge.proofs.Named.{var_below}
 use Rattle.fa_sound.specs.Unions.{IsUnionOf, forests}
 use Rattle.fa_order.specs.Kinds.{HasRootKinds}

@@ -20,7 +20,7 @@ use Rattle.fa_core.specs.declared.signature.Signature.{Signature}
 use Rattle.fa_core.proofs.Dressing.{each_length}
 use Rattle.fa_sound.specs.Soundness.{SoundForest}
 use Rattle.fa_sound.specs.Components.{component_at}
-use Rattle.fa_merge.proofs.LeaksDecided.{some_choice}
+use Rattle.fa_back.proofs.Dressable.{some_choice}
 use Rattle.fa_merge.proofs.LoneFound.{choice_at, named_refer, unnamed_refer}
 use Rattle.fa_merge.proofs.PlacedForests.{component_has}
 use Rattle.fa_split.specs.Split.{CanSplit, MayBeLeaf, split_cells, split_leaf, top_rule}

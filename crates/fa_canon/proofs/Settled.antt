@@ -26,8 +26,9 @@ use Rattle.fa_core.proofs.Dressing.{choice_length}
 use Rattle.fa_core.proofs.PlainWays.{IsPlainWay, run_plain}
 use Rattle.fa_core.proofs.Uniform.{signed_alike}
 use Rattle.fa_sound.specs.Components.{component_at}
-use Rattle.fa_merge.specs.Reached.{AreAllReached, RootReached, by_var, by_tree, by_way}
-use Rattle.fa_merge.proofs.Hopping.{in_var_roots, var_roots_in}
+use Rattle.fa_back.specs.Reached.{RootReached, by_var, by_tree, by_way}
+use Rattle.fa_merge.specs.Reached.{AreAllReached}
+use Rattle.fa_back.proofs.ByMarks.{in_var_roots, var_roots_in}
 use Rattle.fa_canon.specs.inner.Finished.{NoneLeaks}
 use Rattle.fa_merge.proofs.LeaksDecided.{roots_decided, unreached_leaks}
 use Rattle.fa_merge.proofs.LoneFound.{choice_component}

@@ -7,7 +7,7 @@ use Rattle.fa_core.specs.declared.boxes.BoxDef.{BoxDef}
 use Rattle.fa_core.specs.Dressed.{Node, Nodes, no_nodes, more}
 use Rattle.fa_core.specs.Member.{TreesOf, InsidesOf, bare}
 use Rattle.fa_edit.specs.Leaves.{put_at}
-use Rattle.fa_merge.specs.Dropped.{node_at}
+use Rattle.fa_back.specs.Reached.{node_at}
 use Rattle.fa_sound.specs.Components.{component_at}
 use Rattle.fa_split.specs.Split.{set_node}
 use Rattle.fa_split.proofs.OtherComponent.{trees_set, set_components}

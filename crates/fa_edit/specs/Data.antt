@@ -7,7 +7,7 @@ use Rattle.fa_core.specs.Dressed.{Node, Nodes, node}
 use Rattle.fa_core.specs.Member.{OfForest}
 use Rattle.fa_core.specs.declared.boxes.BoxDef.{BoxDef}
 use Rattle.fa_core.specs.declared.forest.Forest.{Forest}
-use Rattle.fa_merge.specs.Dropped.{node_at}
+use Rattle.fa_back.specs.Reached.{node_at}
 use Rattle.fa_sound.specs.Components.{component_at}
 use Rattle.fa_split.specs.Split.{top_rule}
 use Rattle.fa_edit.specs.Leaves.{put_at}

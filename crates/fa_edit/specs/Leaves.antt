@@ -5,7 +5,7 @@ use Rattle.fa_core.specs.Member.{OfForest}
 use Rattle.fa_core.specs.declared.boxes.BoxDef.{BoxDef}
 use Rattle.fa_core.specs.declared.forest.Forest.{Forest}
 use Rattle.fa_core.specs.declared.forest.Target.{Target}
-use Rattle.fa_merge.specs.Dropped.{node_at}
+use Rattle.fa_back.specs.Reached.{node_at}
 use Rattle.fa_split.specs.Split.{top_parts}
 
 -- the end of field f, where the slots have this field

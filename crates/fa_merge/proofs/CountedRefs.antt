@@ -25,10 +25,11 @@ use Rattle.fa_merge.specs.Merged.{CanMerge}
 use Rattle.fa_sound.specs.Components.{component_at}
 use Rattle.fa_merge.specs.Counts.{mark_count, marks_count}
 use Rattle.fa_merge.specs.inner.Counted.{sum_count}
-use Rattle.fa_merge.specs.inner.Hops.{IsSignatureOf}
-use Rattle.fa_merge.proofs.Hopping.{IsSignedBy}
-use Rattle.fa_merge.proofs.RootMarks.{has_in, in_has}
-use Rattle.fa_merge.proofs.LeaksDecided.{some_choice, signed_choice}
+use Rattle.fa_merge.specs.inner.Signed.{IsSignatureOf}
+use Rattle.fa_back.specs.Reached.{IsSignedBy}
+use Rattle.fa_back.proofs.RootMarks.{has_in, in_has}
+use Rattle.fa_back.proofs.Dressable.{some_choice}
+use Rattle.fa_merge.proofs.LeaksDecided.{signed_choice}
 use Rattle.fa_merge.proofs.LoneFound.{named_refer, unnamed_refer, choice_at, choice_component}
 
 marks_found : (bs : List BoxFace) (ws : List Way) (r : ℕ) (rs : List ℕ) → marks_count r (map (mark bs ws) rs)

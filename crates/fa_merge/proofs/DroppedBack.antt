@@ -41,14 +41,16 @@ use Rattle.fa_core.proofs.PlainNodes.{trees_no_edges}
 use Rattle.fa_core.proofs.Rearranging.{equal, back, after, both, exchange}
 use Rattle.fa_sound.proofs.Choices.{filled_trees}
 use Rattle.fa_sound.proofs.NothingGiven.{nothing_given}
-use Rattle.fa_merge.specs.Dropped.{drop_leaf, node_at, without_node, dropped, AreLeaves, IsFlatRoot, IsCut, Restores}
+use Rattle.fa_merge.specs.Dropped.{drop_leaf, without_node, dropped, AreLeaves, IsFlatRoot, IsCut, Restores}
+use Rattle.fa_back.specs.Reached.{node_at}
 use Rattle.fa_merge.specs.Dropped.{without_cell}
 use Rattle.fa_merge.proofs.DroppedFacts.{dangle_fact, dangle_self, leaves_dropped, facts_dropped}
 use Rattle.fa_merge.proofs.DroppedSound.{without_plain}
-use Rattle.fa_merge.proofs.FactReach.{fact_cell, fact_value, top_in}
+use Rattle.fa_back.proofs.FactParts.{fact_cell, fact_value, top_in}
 use Rattle.fa_merge.proofs.FieldFacts.{no_list, first_same, later_same, unmap, split_map, is_head, fact_field, IsOwn}
 use Rattle.fa_merge.proofs.FieldFacts.{every_there, in_order, fact_count}
-use Rattle.fa_merge.proofs.StoreLeaks.{same_numbers, has_cell}
+use Rattle.fa_back.proofs.StoreLaws.{has_cell}
+use Rattle.fa_merge.proofs.StoreNumbers.{same_numbers}
 
 -- The cells of a store.
 

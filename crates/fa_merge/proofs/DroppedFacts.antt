@@ -23,10 +23,11 @@ use Rattle.fa_core.specs.Rearranged.{Rearranged, empty, keep, swap, chain}
 use Rattle.fa_core.proofs.PlainNodes.{NoEdges, NoEdgesOf, NoEdgesAt, NoEdgesIn}
 use Rattle.fa_core.proofs.Placing.{number_placed, roots_placed}
 use Rattle.fa_core.proofs.Rearranging.{same}
-use Rattle.fa_merge.specs.Dropped.{drop_leaf, node_at, without_node, dropped, AreLeaves}
+use Rattle.fa_merge.specs.Dropped.{drop_leaf, without_node, dropped, AreLeaves}
+use Rattle.fa_back.specs.Reached.{node_at}
 use Rattle.fa_merge.specs.Merged.{lowered}
 use Rattle.fa_merge.proofs.DroppedSound.{lowered_suc}
-use Rattle.fa_merge.proofs.FactReach.{fact_cell, top_in}
+use Rattle.fa_back.proofs.FactParts.{fact_cell, top_in}
 use Rattle.fa_merge.proofs.Lowered.{lowered_above, lowered_below}
 
 -- Values without a cell.

@@ -22,12 +22,13 @@ use Rattle.fa_core.specs.Member.{HasItsFields, store_facts}
 use Rattle.fa_core.specs.Rearranged.{Rearranged, empty, keep, swap, chain}
 use Rattle.fa_core.proofs.PlainNodes.{NoEdgesIn, trees_no_edges}
 use Rattle.fa_core.proofs.Permuted.{none_in_both, distinct_parts}
-use Rattle.fa_merge.specs.Dropped.{node_at, without_node, dropped, AreLeaves, IsCut, Removes, without_cell}
+use Rattle.fa_merge.specs.Dropped.{without_node, dropped, AreLeaves, IsCut, Removes, without_cell}
+use Rattle.fa_back.specs.Reached.{node_at}
 use Rattle.fa_merge.proofs.DroppedFacts.{dangle_fact, leaves_dropped, facts_dropped, but_facts, but_moved, but_root}
 use Rattle.fa_merge.proofs.DroppedFacts.{store_dropped}
 use Rattle.fa_merge.proofs.DroppedSound.{without_plain}
-use Rattle.fa_merge.proofs.FactReach.{in_all}
-use Rattle.fa_merge.proofs.StoreLeaks.{differ}
+use Rattle.fa_back.proofs.FactParts.{in_all}
+use Rattle.fa_merge.proofs.StoreNumbers.{differ}
 
 fact_mapped : (g : Fact → Fact) {xs ys : List Fact} → Rearranged xs ys → Rearranged (map g xs) (map g ys)
 fact_mapped g empty = empty

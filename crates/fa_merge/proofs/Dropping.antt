@@ -20,9 +20,10 @@ use Rattle.fa_core.specs.Member.{TreesOf, OfForest, InsidesOf, InsidesOfParts, b
 use Rattle.fa_core.specs.Placed.{placed_all}
 use Rattle.fa_core.proofs.Dressing.{choice_of, cell_top}
 use Rattle.fa_core.proofs.Placing.{trees_placed, trees_from}
-use Rattle.fa_merge.specs.Dropped.{drop_leaf, but_place, dropped_forest, HasFieldsOnly, IsFlat, CanDrop, node_at}
+use Rattle.fa_merge.specs.Dropped.{drop_leaf, but_place, dropped_forest, HasFieldsOnly, IsFlat, CanDrop}
+use Rattle.fa_back.specs.Reached.{node_at}
 use Rattle.fa_merge.specs.Dropped.{without_node, dropped, AreLeaves, IsFlatRoot, IsCut}
-use Rattle.fa_merge.proofs.Plain.{tree_there, bare_at}
+use Rattle.fa_merge.proofs.RootTrees.{tree_there, bare_at}
 
 -- Lists without the item at a place.
 

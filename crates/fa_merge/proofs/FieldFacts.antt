@@ -6,7 +6,7 @@ use Rattle.fa_core.specs.Dressed.{Fact, Head, Points}
 use Rattle.fa_core.specs.Filled.{numbered}
 use Rattle.fa_core.specs.Member.{points}
 use Rattle.fa_core.specs.Rearranged.{Rearranged, empty, keep, swap, chain}
-use Rattle.fa_merge.proofs.FactReach.{fact_value}
+use Rattle.fa_back.proofs.FactParts.{fact_value}
 
 -- Items that were changed are moved as the changed ones are.
 

@@ -11,7 +11,7 @@ use Rattle.fa_core.specs.Ways.{has, once, once_from}
 use Rattle.fa_core.proofs.Alike.{both_to_two}
 use Rattle.fa_core.proofs.Counts.{often_both}
 use Rattle.fa_core.proofs.Numbers.{once_split, once_same, bool_same}
-use Rattle.fa_merge.proofs.RootMarks.{has_in, in_has, in_once}
+use Rattle.fa_back.proofs.RootMarks.{has_in, in_has, in_once}
 
 -- a times b
 abbrev times : ℕ → ℕ → ℕ

@@ -1,4 +1,3 @@
-pub mod Arriving
 pub mod CountedRefs
 pub mod CutTrees
 pub mod DroppedBack
@@ -6,12 +5,9 @@ pub mod DroppedFacts
 pub mod DroppedSound
 pub mod DroppedStores
 pub mod Dropping
-pub mod FactReach
 pub mod FieldFacts
 pub mod FlatAlike
 pub mod GraftedCells
-pub mod HopMarks
-pub mod Hopping
 pub mod LeaksDecided
 pub mod LoneFound
 pub mod Lowered
@@ -27,9 +23,8 @@ pub mod Named
 pub mod OtherOrders
 pub mod PlacedForests
 pub mod PlacedSpots
-pub mod Plain
+pub mod RootTrees
 pub mod ReorderedSound
-pub mod RootMarks
 pub mod Signatures
-pub mod StoreLeaks
+pub mod StoreNumbers
 pub mod Rows

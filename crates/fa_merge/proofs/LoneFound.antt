@@ -33,10 +33,10 @@ use Rattle.fa_core.proofs.PlainWays.{to_often}
 use Rattle.fa_core.proofs.WaysOf.{tree_roots}
 use Rattle.fa_merge.specs.Merged.{CanMerge, Refers}
 use Rattle.fa_sound.specs.Components.{component_at}
-use Rattle.fa_merge.specs.inner.Hops.{IsSignatureOf}
+use Rattle.fa_merge.specs.inner.Signed.{IsSignatureOf}
 use Rattle.fa_merge.specs.inner.Lone.{AllRefer, NoneRefer, IsReferrer, TopsAreCells, IsLone}
-use Rattle.fa_merge.proofs.RootMarks.{has_in, in_has, in_mark, mark_in}
-use Rattle.fa_merge.proofs.LeaksDecided.{some_choice}
+use Rattle.fa_back.proofs.RootMarks.{has_in, in_has, in_mark, mark_in}
+use Rattle.fa_back.proofs.Dressable.{some_choice}
 use Rattle.fa_merge.proofs.Named.{var_below}
 use Rattle.fa_merge.proofs.PlacedForests.{component_has}
 use Rattle.fa_sound.proofs.ComponentLemmas.{component_got}

@@ -36,10 +36,11 @@ use Rattle.fa_sound.proofs.Choices.{filled_trees}
 use Rattle.fa_sound.proofs.NothingGiven.{nothing_given}
 use Rattle.fa_merge.specs.Reached.{AlwaysLeaks, NeverLeaks}
 use Rattle.fa_merge.proofs.DroppedBack.{roots_named}
-use Rattle.fa_merge.proofs.FactReach.{fact_value, top_in}
+use Rattle.fa_back.proofs.FactParts.{fact_value, top_in}
 use Rattle.fa_merge.proofs.FieldFacts.{unmap, fact_field, IsOwn, every_there, in_order, fact_count}
-use Rattle.fa_merge.proofs.LeaksDecided.{AllLeak, NoneLeaks, some_choice}
-use Rattle.fa_merge.proofs.StoreLeaks.{cell_number, has_cell, pointer_stored}
+use Rattle.fa_back.proofs.Dressable.{some_choice}
+use Rattle.fa_merge.proofs.LeaksDecided.{AllLeak, NoneLeaks}
+use Rattle.fa_back.proofs.StoreLaws.{cell_number, has_cell, pointer_stored}
 
 -- Cells.
 

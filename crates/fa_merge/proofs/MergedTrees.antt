@@ -24,7 +24,7 @@ use Rattle.fa_core.proofs.NodeRuns.{NodeRun, PartsRun, EndRun, parts_bare, bare_
 use Rattle.fa_merge.specs.Merged.{is_ref, kept, moved, bridge, bridges, merged}
 use Rattle.fa_merge.specs.inner.Grafting.{plug, plug_parts, plug_end}
 use Rattle.fa_merge.proofs.CutTrees.{FillsEnd, LeafRule, cut_end}
-use Rattle.fa_merge.proofs.RootMarks.{has_in, in_has}
+use Rattle.fa_back.proofs.RootMarks.{has_in, in_has}
 
 ref_is : (r : ℕ) (y : Symbol) → is_ref r y ≡ true → y ≡ Ref r
 ref_is r NullSymbol e = absurd (true≢false (sym e))

@@ -27,7 +27,7 @@ use Rattle.fa_core.proofs.WaysOf.{tree_roots}
 use Rattle.fa_sound.specs.Components.{component_at}
 use Rattle.fa_sound.proofs.ComponentLemmas.{component_got}
 use Rattle.fa_merge.proofs.FlatAlike.{flat_alike}
-use Rattle.fa_merge.proofs.LeaksDecided.{some_choice}
+use Rattle.fa_back.proofs.Dressable.{some_choice}
 
 -- what each component has
 pub component_has : (P : Automaton → Type 0) (autos : List Automaton) (k : ℕ) → Every P autos → k < length autos

@@ -21,7 +21,7 @@ use Rattle.fa_core.proofs.Placing.{placed_ranked, placed_boxless, placed_fit, re
 use Rattle.fa_merge.specs.Reordered.{renumber, place_of, reordered, IsOrderOf}
 use Rattle.fa_sound.specs.Components.{component_at}
 use Rattle.fa_merge.specs.inner.Orders.{IsOrder}
-use Rattle.fa_merge.proofs.LeaksDecided.{some_choice}
+use Rattle.fa_back.proofs.Dressable.{some_choice}
 use Rattle.fa_merge.proofs.MergedAnywhere.{an_order, numbers_mapped}
 use Rattle.fa_merge.proofs.Named.{var_below}
 use Rattle.fa_merge.proofs.OtherOrders.{order_below, order_length, place_below, mapped_length, reorder_onto}

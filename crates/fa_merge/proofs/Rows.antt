@@ -21,7 +21,7 @@ use Rattle.fa_merge.specs.Dropped.{drop_leaf, but_place, dropped_forest, dropped
 use Rattle.fa_merge.specs.Dropped.{without_cell}
 use Rattle.fa_merge.specs.Merged.{is_ref, kept, moved, bridge, bridges, merged, others, last_order, to_last, merged_at}
 use Rattle.fa_merge.specs.Merged.{lowered, lowering, CanMerge}
-use Rattle.fa_merge.specs.Reached.{RootReached, by_var, by_tree, by_way}
+use Rattle.fa_back.specs.Reached.{RootReached, by_var, by_tree, by_way}
 use Rattle.fa_merge.specs.Reordered.{counted, place_of, reordered}
 use Rattle.fa_sound.specs.Components.{component_at}
 

@@ -21,6 +21,7 @@ use Rattle.fa_core.specs.Dressed.{Node, Parts, Nodes, node, no_parts, field, lin
 use Rattle.fa_core.specs.Filled.{Choice, given_at}
 use Rattle.fa_core.specs.Member.{OfForest, StandsBy}
 use Rattle.fa_core.specs.Placed.{placed_leaf, placed_all, placed_auto}
+use Rattle.fa_back.specs.Reached.{node_at}
 use Rattle.fa_merge.specs.Merged.{lowered}
 
 -- the leaf of root k where root r is dropped
@@ -62,12 +63,6 @@ pub record CanDrop (bs : List BoxFace) (F : Forest) (r : ℕ) : Type 0 where
   pub own : (ts : List Tree) → Choice F.autos ts → given_at bs ts r ≡ []
 
 -- Dressed forests.
-
--- the i-th tree
-abbrev pub node_at : Nodes → ℕ → Option Node
-node_at no_nodes i = None
-node_at (more n ns) zero = Some n
-node_at (more n ns) (suc i) = node_at ns i
 
 -- the trees but the r-th
 abbrev pub without_node : ℕ → Nodes → Nodes

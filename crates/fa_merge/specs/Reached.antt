@@ -1,27 +1,15 @@
 -- Which roots of a forest are reached, and when its members leak.
-use Rattle.std.specs.Prelude.{◌≡◌, ◌<◌, ℕ, List, length, Some, slice_get}
+use Rattle.std.specs.Prelude.{◌<◌, ℕ, List, length}
 use Rattle.fore_base.specs.Heap.{Leaked}
-use Rattle.fore_base.specs.Lists.{IsIn}
 use Rattle.fore_base.specs.declared.store.Store.{Store}
 use Rattle.ta_core.specs.declared.tree.Tree.{Tree}
 use Rattle.fa_core.specs.declared.boxes.BoxDef.{BoxDef}
-use Rattle.fa_core.specs.declared.faces.BoxFace.{BoxFace}
 use Rattle.fa_core.specs.declared.faces.Face.{Face}
 use Rattle.fa_core.specs.declared.forest.Forest.{Forest}
-use Rattle.fa_core.specs.declared.forest.Target.{Target}
-use Rattle.fa_core.specs.declared.forest.Target.TheVariants.{At}
 use Rattle.fa_core.specs.Boxes.{IsTableOf}
-use Rattle.fa_core.specs.Canonical.{LeadsBack, RefersTo}
 use Rattle.fa_core.specs.Filled.{Choice}
 use Rattle.fa_core.specs.Member.{Stands}
-
--- on one tree of each component: the roots at which variables are, those to which the tree of a reached root refers,
--- and those to which a way back from a reached root leads
-pub data RootReached (bs : List BoxFace) (vars : List Target) (ts : List Tree) : ℕ → Type 0 where
-  by_var : {r : ℕ} → IsIn (At r) vars → RootReached bs vars ts r
-  by_tree : {r : ℕ} (i : ℕ) (t : Tree) → RootReached bs vars ts i → slice_get ts i ≡ Some t → RefersTo t r
-      → RootReached bs vars ts r
-  by_way : {r : ℕ} (i j : ℕ) → RootReached bs vars ts i → LeadsBack bs ts i j r → RootReached bs vars ts r
+use Rattle.fa_back.specs.Reached.{RootReached}
 
 -- the root is reached, whichever tree of each component is taken
 abbrev pub IsReached : Face → Forest → ℕ → Type 0

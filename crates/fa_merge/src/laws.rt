@@ -16,10 +16,11 @@ ghost use Rattle.fa_core.specs.declared.faces.Face.{Face};
 ghost use Rattle.fa_core.specs.declared.forest.Forest.{Forest};
 ghost use Rattle.fa_core.specs.declared.forest.Target.{Target};
 ghost use Rattle.fa_core.specs.Dressed.{Node};
+ghost use Rattle.fa_back.specs.Reached.{RootReached};
 ghost use Rattle.fa_merge.specs.Dropped.{CanDrop, IsCut, IsFlat, Removes, Restores, dropped_forest};
 ghost use Rattle.fa_merge.specs.Merged.{CanMerge, Refers, merged_at};
 ghost use Rattle.fa_merge.specs.Reached.{AlwaysLeaks, AreAllReached, HasMembers, IsLeastUnreached, IsUnreached};
-ghost use Rattle.fa_merge.specs.Reached.{NeverLeaks, RootReached};
+ghost use Rattle.fa_merge.specs.Reached.{NeverLeaks};
 ghost use Rattle.fa_merge.specs.Reordered.{IsOrderOf, reordered};
 
 /// Which roots are reached follows from the targets and the signatures alone.
@@ -35,18 +36,16 @@ pub fn reaching_is_decided()
         ⊎ ((r : ℕ) × IsLeastUnreached face F r) }
 {}
 
-/// Without box edges no member leaks where each root is reached, and every member leaks where some root is not.
+/// No member of a filled forest leaks where each root is reached, and every member leaks where some root is not.
 pub fn leaks_follow_roots()
-    ensures never { (face : Face) (F : Forest) → Every HasNoBoxes F.autos → AreAllReached face F → NeverLeaks face F }
-    ensures always { (face : Face) (F : Forest) (r : ℕ) → Every HasNoBoxes F.autos → r < length F.autos
-        → IsUnreached face F r
+    ensures never { (face : Face) (F : Forest) → IsFilled face F → AreAllReached face F → NeverLeaks face F }
+    ensures always { (face : Face) (F : Forest) (r : ℕ) → IsFilled face F → r < length F.autos → IsUnreached face F r
         → AlwaysLeaks face F }
 {}
 
-/// No member of a sound forest without box edges leaks, or every member does.
+/// No member of a sound forest leaks, or every member does.
 pub fn all_leak_or_none()
-    ensures { (face : Face) (F : Forest) → IsSound face F → Every HasNoBoxes F.autos → NeverLeaks face F
-        ⊎ AlwaysLeaks face F }
+    ensures { (face : Face) (F : Forest) → IsSound face F → NeverLeaks face F ⊎ AlwaysLeaks face F }
 {}
 
 /// Each sound forest without box edges has a member, for each table over its face, so where there is a table its

@@ -4,7 +4,6 @@
 
 pub mod counting;
 pub mod dead;
-mod hops;
 mod joins;
 pub mod laws;
 pub mod leaking;

@@ -4,7 +4,7 @@ ghost use Rattle.std.specs.Prelude.{◌≡◌, ◌<◌, length, Some, slice_get,
 ghost use Rattle.fore_base.specs.Lists.{IsIn, Every, Paired};
 ghost use Rattle.ta_core.specs.Auto.{Automaton};
 ghost use Rattle.fa_sound.specs.Soundness.{IsStateOf};
-ghost use Rattle.fa_merge.specs.inner.Hops.{IsLiveOf, IsSignatureOf, IsSilentOf};
+ghost use Rattle.fa_merge.specs.inner.Signed.{IsLiveOf, IsSignatureOf, IsSilentOf};
 
 use fa_core::signature::Signature;
 use fa_sound::Sound;

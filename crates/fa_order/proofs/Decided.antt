@@ -15,8 +15,8 @@ use Rattle.fa_core.specs.declared.faces.BoxFace.{BoxFace}
 use Rattle.fa_core.specs.declared.forest.Target.{Target}
 use Rattle.fa_core.proofs.Numbers.{has_once}
 use Rattle.fa_merge.specs.Counts.{marks_count}
-use Rattle.fa_merge.proofs.Hopping.{in_var_roots, var_roots_in}
-use Rattle.fa_merge.proofs.RootMarks.{in_has, has_in}
+use Rattle.fa_back.proofs.ByMarks.{in_var_roots, var_roots_in}
+use Rattle.fa_back.proofs.RootMarks.{in_has, has_in}
 use Rattle.fa_order.specs.declared.showing.Shown.{Shown}
 use Rattle.fa_order.specs.inner.Deciding.{times_shown, shared_by, any_leaf, any_cell, ties, any_ties, knot_by, root_by}
 use Rattle.fa_order.specs.inner.Deciding.{roots_by}

@@ -27,7 +27,7 @@ use Rattle.fa_core.proofs.Placing.{refs_placed_end}
 use Rattle.fa_core.proofs.Rearranging.{flat_mapped}
 use Rattle.fa_core.proofs.RootCounts.{references_are}
 use Rattle.fa_core.proofs.WaysOf.{map-append, tree_roots, end_roots}
-use Rattle.fa_merge.specs.Dropped.{node_at}
+use Rattle.fa_back.specs.Reached.{node_at}
 use Rattle.fa_merge.specs.Reordered.{renumber, counted, reordered_by}
 use Rattle.fa_merge.specs.inner.Orders.{IsOrder}
 use Rattle.fa_merge.proofs.MergedAnywhere.{numbers_mapped, refs_renumbered}
@@ -35,7 +35,7 @@ use Rattle.fa_merge.proofs.MergedTrees.{IsRefSymbol, ref_number}
 use Rattle.fa_merge.proofs.OtherOrders.{flat_later, get_counted, get_mapped, node_or, picked, picked_of, count_trees}
 use Rattle.fa_merge.proofs.OtherOrders.{root_at, root_place, place_turned, place_below, back_order, order_back}
 use Rattle.fa_merge.proofs.OtherOrders.{reordered_back, reordered_length}
-use Rattle.fa_merge.proofs.Plain.{bare_at, at_bare}
+use Rattle.fa_merge.proofs.RootTrees.{bare_at, at_bare}
 use Rattle.fa_order.specs.inner.Following.{RefersAs, EndFollows, TreeFollows, Follows}
 
 -- Numbers that are mapped one to one.

@@ -15,8 +15,8 @@ use Rattle.fa_core.proofs.Permuted.{in_rearranged}
 use Rattle.fa_core.proofs.Rearranging.{back}
 use Rattle.fa_core.proofs.Sorting.{ordered}
 use Rattle.fa_core.proofs.WayParts.{way_roots}
-use Rattle.fa_merge.proofs.RootMarks.{in_once, once_in, flat_in, in_to_root, to_root_in, back_any, any_of_back}
-use Rattle.fa_merge.proofs.RootMarks.{mark_in, in_mark, way_led, led_way, reach_in_mark, mark_in_reach}
+use Rattle.fa_back.proofs.RootMarks.{in_once, once_in, flat_in, in_to_root, to_root_in, back_any, any_of_back}
+use Rattle.fa_back.proofs.RootMarks.{mark_in, in_mark, way_led, led_way, reach_in_mark, mark_in_reach}
 
 way_refers : (t : Tree) (i : ℕ) (w : Way) → IsIn w (to_root i (ways t)) → RefersTo t i
 way_refers t i w h = let k = to_root_in i (ways t) w h in

@@ -21,12 +21,13 @@ use Rattle.fa_core.specs.declared.faces.Face.{Face}
 use Rattle.fa_core.specs.declared.forest.Forest.{Forest}
 use Rattle.fa_core.specs.declared.forest.Target.{Target}
 use Rattle.fa_core.specs.declared.forest.Target.TheVariants.{Null, Uninit, Dangling, At}
-use Rattle.fa_merge.specs.Reached.{RootReached, by_var, by_tree, by_way, AreAllReached}
+use Rattle.fa_back.specs.Reached.{RootReached, by_var, by_tree, by_way}
+use Rattle.fa_merge.specs.Reached.{AreAllReached}
 use Rattle.fa_merge.specs.Reordered.{counted, IsOrderOf, place_of, renumber, reordered}
 use Rattle.fa_sound.specs.Components.{component_at}
-use Rattle.fa_merge.proofs.Hopping.{in_var_roots, var_roots_in}
-use Rattle.fa_merge.proofs.RootMarks.{in_once, once_in}
-use Rattle.fa_merge.proofs.LeaksDecided.{some_choice}
+use Rattle.fa_back.proofs.ByMarks.{in_var_roots, var_roots_in}
+use Rattle.fa_back.proofs.RootMarks.{in_once, once_in}
+use Rattle.fa_back.proofs.Dressable.{some_choice}
 use Rattle.fa_merge.proofs.Named.{choice_long, refers_below, var_below}
 use Rattle.fa_merge.proofs.OtherOrders.{counted_later}
 use Rattle.fa_order.specs.Placing.{IsWalkOrder}

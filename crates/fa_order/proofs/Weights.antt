@@ -8,7 +8,7 @@ use Rattle.std.proofs.lemmas.Option.{none-some, same_Some}
 use Rattle.fore_base.specs.Lists.{Every}
 use Rattle.fa_core.specs.References.{AllBelow}
 use Rattle.fa_core.specs.Ways.{has}
-use Rattle.fa_merge.proofs.RootMarks.{has_in, in_has}
+use Rattle.fa_back.proofs.RootMarks.{has_in, in_has}
 use Rattle.fa_core.specs.Folding.{Placing, is_placed, place_now}
 use Rattle.fa_order.specs.inner.Stacks.{behind, nth_refs, unplaced, weight}
 

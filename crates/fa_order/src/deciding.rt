@@ -10,12 +10,12 @@ ghost use Rattle.fa_order.specs.Kinds.{HasRootKinds};
 ghost use Rattle.fa_order.specs.inner.Deciding.{any_cell, any_leaf, any_ties, knot_by, rise_from, root_by, roots_by};
 ghost use Rattle.fa_order.specs.inner.Deciding.{shared_by, ties, times_shown};
 
-use crate::referring::var_roots;
 use crate::roots::walk_order;
 use crate::showing::{Shown, shown_roots};
 use fa_core::cells::has;
 use fa_core::signature::{Below, RefMark};
 use fa_merge::counting::count_marks;
+use fa_merge::leaking::var_roots;
 use fa_merge::merge::is_marked_root;
 use fa_sound::{Sound, count_roots};
 use fore_base::memory::Mem;

@@ -1,14 +1,12 @@
 // The roots to which the trees of each root refer.
 
-ghost use Rattle.std.specs.Prelude.{◌≡◌, ◌<◌, ◌++◌, ◌∷◌, [], length, Some, slice_get, IfOk, OnOk};
+ghost use Rattle.std.specs.Prelude.{◌≡◌, ◌<◌, length, Some, slice_get, IfOk};
 ghost use Rattle.fore_base.specs.Lists.{Every, Paired};
 ghost use Rattle.ta_core.specs.Auto.{Automaton};
 ghost use Rattle.ta_core.specs.Single.{HasOneTop};
-ghost use Rattle.fa_core.specs.Canonical.{var_roots};
 ghost use Rattle.fa_core.specs.Cells.{roots_in};
 ghost use Rattle.fa_order.specs.inner.Stacks.{AreRefsOf};
 
-use fa_core::forest::Target;
 use fa_core::signature::RefMark;
 use fa_sound::{Sound, count_roots};
 use fore_base::list::{Copies, List};
@@ -59,24 +57,4 @@ pub fn marked_roots(alloc: Global, marks: &[RefMark]) -> Mem<List<u32>>
         made.push(mark.root)?;
     }
     Ok(made)
-}
-
-/// The roots at which variables are, in order.
-pub fn var_roots(alloc: Global, vars: &[Target]) -> Mem<List<u32>>
-    ensures { IfOk result (λ made. made ≡ var_roots vars.now) }
-{
-    let mut made = List::new(alloc);
-    for target in vars {
-        push_root(&mut made, *target)?;
-    }
-    Ok(made)
-}
-
-fn push_root(roots: &mut List<u32>, target: Target) -> Mem<()>
-    ensures { OnOk result (roots.new ≡ roots.old ++ var_roots (target ∷ [])) }
-{
-    if let Target::At(root) = target {
-        roots.push(root)?;
-    }
-    Ok(())
 }

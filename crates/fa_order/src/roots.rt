@@ -12,8 +12,9 @@ ghost use Rattle.fa_merge.specs.Reordered.{IsOrderOf};
 ghost use Rattle.fa_order.specs.Kinds.{HasRootKinds};
 ghost use Rattle.fa_order.specs.Placing.{IsPlaced, IsWalkOrder};
 
-use crate::referring::{references, var_roots};
+use crate::referring::references;
 use crate::walking::walk;
+use fa_merge::leaking::var_roots;
 use fa_merge::reorder;
 use fa_sound::Sound;
 use fore_base::list::List;

@@ -20,7 +20,7 @@ use Rattle.fa_core.specs.Member.{bare_end, leaf_symbol}
 use Rattle.fa_core.specs.Ways.{has}
 use Rattle.fa_core.proofs.Dressing.{leaf_top}
 use Rattle.fa_sound.specs.Components.{component_at}
-use Rattle.fa_merge.proofs.RootMarks.{has_in, in_has}
+use Rattle.fa_back.proofs.RootMarks.{has_in, in_has}
 use Rattle.fa_merge.proofs.PlacedForests.{component_has}
 use Rattle.fa_split.specs.Chosen.{StandsAtTop}
 use Rattle.fa_split.specs.Split.{CanSplit, MayStand, MayBeLeaf, MayBeCell, child_state, AreThose}

@@ -17,7 +17,7 @@ use Rattle.fa_core.specs.Dressed.{Node, Nodes, cells, roots_of, value_in}
 use Rattle.fa_core.specs.Filled.{SymbolFits, RulesFit, HasSignatures, IsSound}
 use Rattle.fa_core.specs.Member.{OfForest, Regroups, RegroupsInto, bare}
 use Rattle.fa_core.proofs.Rearranging.{same}
-use Rattle.fa_merge.specs.Dropped.{node_at}
+use Rattle.fa_back.specs.Reached.{node_at}
 use Rattle.fa_sound.specs.Components.{component_at}
 use Rattle.fa_merge.proofs.MergedAnywhere.{nat_cases}
 use Rattle.fa_merge.proofs.PlacedForests.{component_has}

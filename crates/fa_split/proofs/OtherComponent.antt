@@ -15,7 +15,7 @@ use Rattle.fa_core.specs.Dressed.{Node, Nodes, no_nodes, more, cells}
 use Rattle.fa_core.specs.Filled.{Choice, RulesFit, HasSignatures, HasSome, IsSound}
 use Rattle.fa_core.specs.Member.{TreesOf, OfForest, InsidesOf, Regroups, bare}
 use Rattle.fa_core.proofs.Rearranging.{same}
-use Rattle.fa_merge.specs.Dropped.{node_at}
+use Rattle.fa_back.specs.Reached.{node_at}
 use Rattle.fa_sound.specs.Components.{component_at, with_component}
 use Rattle.fa_sound.proofs.ComponentLemmas.{component_got}
 use Rattle.fa_split.specs.Split.{set_node}

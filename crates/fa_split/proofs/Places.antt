@@ -20,7 +20,7 @@ use Rattle.fa_core.specs.Dressed.{more, number, roots_of}
 use Rattle.fa_core.specs.Member.{InsidesOf, InsidesOfParts, InsidesOfEnd, bare, bare_parts, bare_end, slots_of}
 use Rattle.fa_core.specs.Member.{leaf_symbol}
 use Rattle.fa_core.proofs.Dressing.{leaf_is_no_cell, IsCellSymbol, leaf_top, cell_top}
-use Rattle.fa_merge.specs.Dropped.{node_at}
+use Rattle.fa_back.specs.Reached.{node_at}
 use Rattle.fa_merge.specs.inner.Grafting as grafting
 use Rattle.fa_split.specs.Split.{end_at, set_end, set_node, with_last, top_parts, with_end}
 

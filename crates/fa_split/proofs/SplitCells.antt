@@ -23,10 +23,10 @@ use Rattle.fa_core.proofs.Counts.{below_both}
 use Rattle.fa_core.proofs.Dressing.{cell_top}
 use Rattle.fa_core.proofs.FilledKept.{refs_of_filled}
 use Rattle.fa_core.proofs.Rearranging.{back}
-use Rattle.fa_merge.specs.Dropped.{node_at}
+use Rattle.fa_back.specs.Reached.{node_at}
 use Rattle.fa_sound.specs.Components.{component_at}
 use Rattle.fa_merge.specs.inner.Grafting as grafting
-use Rattle.fa_merge.proofs.LeaksDecided.{some_choice}
+use Rattle.fa_back.proofs.Dressable.{some_choice}
 use Rattle.fa_merge.proofs.MergedLast.{split_last, join_last, vars_same, RootsBelow}
 use Rattle.fa_merge.proofs.Named.{var_below}
 use Rattle.fa_merge.proofs.OtherOrders.{count_trees}

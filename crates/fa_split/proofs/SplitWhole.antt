@@ -16,7 +16,7 @@ use Rattle.fa_core.specs.Dressed.{Node, End, Nodes, under, leaf, cells}
 use Rattle.fa_core.specs.Filled.{IsSound}
 use Rattle.fa_core.specs.Member.{Regroups, RegroupsInto, Regrouping, bare}
 use Rattle.fa_core.proofs.Rearranging.{same}
-use Rattle.fa_merge.specs.Dropped.{node_at}
+use Rattle.fa_back.specs.Reached.{node_at}
 use Rattle.fa_sound.specs.Components.{component_at}
 use Rattle.fa_merge.proofs.PlacedForests.{component_has}
 use Rattle.fa_split.specs.Divided.{HasVarsOf}

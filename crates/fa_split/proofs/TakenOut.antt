@@ -12,7 +12,7 @@ use Rattle.fa_core.specs.References.{AllBelow, IsOnce, IsNever}
 use Rattle.fa_core.proofs.Counts.{often_same, often_both, once_often, often_below, never_below, never_left, never_right}
 use Rattle.fa_core.proofs.Counts.{below_left, below_right, below_both, below_wider}
 use Rattle.fa_core.proofs.Rearranging.{back, after, before, middle, exchange}
-use Rattle.fa_merge.specs.Dropped.{node_at}
+use Rattle.fa_back.specs.Reached.{node_at}
 use Rattle.fa_merge.specs.inner.Grafting as grafting
 use Rattle.fa_merge.specs.inner.Grafting.{plug, plug_parts, plug_end, plug_all}
 use Rattle.fa_merge.proofs.CutTrees.{plug_never_tree, plug_never_parts, plug_never_end}

@@ -10,7 +10,7 @@ use Rattle.fa_core.specs.declared.forest.Forest.{Forest}
 use Rattle.fa_core.specs.Covering.{Covers}
 use Rattle.fa_core.specs.Dressed.{Node, Nodes}
 use Rattle.fa_core.specs.Member.{OfForest, bare}
-use Rattle.fa_merge.specs.Dropped.{node_at}
+use Rattle.fa_back.specs.Reached.{node_at}
 use Rattle.fa_sound.specs.Components.{component_at, with_component}
 
 -- The items of a list that meet P, in their order.

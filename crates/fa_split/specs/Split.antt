@@ -20,7 +20,7 @@ use Rattle.fa_core.specs.Dressed.{Node, Parts, End, Nodes, node, no_parts, field
 use Rattle.fa_core.specs.Dressed.{more}
 use Rattle.fa_core.specs.Member.{OfForest, bare_end, leaf_symbol}
 use Rattle.fa_core.specs.Ways.{has}
-use Rattle.fa_merge.specs.Dropped.{node_at}
+use Rattle.fa_back.specs.Reached.{node_at}
 use Rattle.fa_sound.specs.Components.{component_at, with_component}
 
 -- The condition.

@@ -15,8 +15,8 @@ use Rattle.fa_core.specs.Dressed.{more, Fact, Head, Points, tree_facts, slot_fac
 use Rattle.fa_core.specs.Dressed.{value_in, nth_value, roots_of, number}
 use Rattle.fa_core.proofs.Permuted.{none_in_both, distinct_parts}
 use Rattle.fa_core.proofs.PlainNodes.{NoEdges, NoEdgesOf, NoEdgesAt, NoEdgesIn}
-use Rattle.fa_merge.specs.Dropped.{node_at}
-use Rattle.fa_merge.proofs.FactReach.{no_cell, number_of, root_node, in_all, top_in}
+use Rattle.fa_back.specs.Reached.{node_at}
+use Rattle.fa_back.proofs.FactParts.{no_cell, number_of, root_node, in_all, top_in}
 use Rattle.fa_split.specs.Split.{end_at}
 
 -- the number of a child is one of those below

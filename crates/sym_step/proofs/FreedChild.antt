@@ -30,9 +30,11 @@ use Rattle.fa_core.proofs.Permuted.{in_rearranged}
 use Rattle.fa_core.proofs.PlainNodes.{NoEdgesIn, trees_no_edges}
 use Rattle.fa_core.proofs.Rearranging.{back}
 use Rattle.fa_core.proofs.Regrouped.{stands_regrouped}
-use Rattle.fa_merge.specs.Dropped.{node_at, without_cell}
-use Rattle.fa_merge.proofs.FactReach.{node_root, var_target, in_all}
-use Rattle.fa_merge.proofs.StoreLeaks.{cell_number, same_numbers, differ, pointer_stored}
+use Rattle.fa_merge.specs.Dropped.{without_cell}
+use Rattle.fa_back.specs.Reached.{node_at}
+use Rattle.fa_back.proofs.FactParts.{node_root, var_target, in_all}
+use Rattle.fa_back.proofs.StoreLaws.{cell_number, pointer_stored}
+use Rattle.fa_merge.proofs.StoreNumbers.{same_numbers, differ}
 use Rattle.fa_split.specs.Split.{CanSplit, end_at, top_parts, split_cells}
 use Rattle.fa_split.proofs.SplitCells.{refers_well, of_taken, taken_regroups}
 use Rattle.c_cfg.specs.Edges.{Passed, Faulted, onto, leak_tested, gstep, choice_of, raw_step}

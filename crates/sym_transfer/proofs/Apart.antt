@@ -20,9 +20,10 @@ use Rattle.fa_core.specs.Filled.{IsRoot}
 use Rattle.fa_core.specs.Member.{OfForest}
 use Rattle.fa_core.proofs.Permuted.{distinct_parts}
 use Rattle.fa_core.proofs.PlainNodes.{trees_no_edges}
-use Rattle.fa_merge.specs.Dropped.{node_at}
-use Rattle.fa_merge.proofs.FactReach.{differ_none, in_all, top_in}
-use Rattle.fa_merge.proofs.StoreLeaks.{differ}
+use Rattle.fa_back.specs.Reached.{node_at}
+use Rattle.fa_back.proofs.FactParts.{in_all, top_in}
+use Rattle.fa_merge.proofs.StoreNumbers.{differ_none}
+use Rattle.fa_merge.proofs.StoreNumbers.{differ}
 use Rattle.fa_split.proofs.OtherComponent.{tree_at}
 use Rattle.c_types.specs.Steps.{same_values}
 use Rattle.sym_transfer.specs.inner.Targets.{same_targets}

@@ -13,7 +13,7 @@ use Rattle.fa_core.specs.declared.forest.Forest.{Forest}
 use Rattle.fa_core.specs.declared.forest.Target.{Target}
 use Rattle.fa_core.specs.declared.forest.Target.TheVariants.{Null, Uninit, Dangling, At}
 use Rattle.fa_core.specs.Filled.{DatumFits, IsRoot, IsSound}
-use Rattle.fa_merge.proofs.LeaksDecided.{some_choice}
+use Rattle.fa_back.proofs.Dressable.{some_choice}
 use Rattle.fa_merge.proofs.Named.{var_below}
 use Rattle.c_cfg.specs.declared.graph.DataArg.{DataArg}
 use Rattle.c_cfg.specs.declared.graph.DataArg.TheVariants.{Var as ArgVar, Known as ArgKnown}

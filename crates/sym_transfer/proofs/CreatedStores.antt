@@ -31,11 +31,13 @@ use Rattle.fa_core.specs.declared.forest.Target.TheVariants.{Null, Uninit, Dangl
 use Rattle.fa_core.proofs.Permuted.{in_rearranged}
 use Rattle.fa_core.proofs.PlainNodes.{trees_no_edges}
 use Rattle.fa_core.proofs.Rearranging.{equal, back, before}
-use Rattle.fa_merge.specs.Dropped.{node_at, drop_leaf, dropped, IsFlatRoot, IsCut, Removes, without_cell}
+use Rattle.fa_merge.specs.Dropped.{drop_leaf, dropped, IsFlatRoot, IsCut, Removes, without_cell}
+use Rattle.fa_back.specs.Reached.{node_at}
 use Rattle.fa_merge.proofs.DroppedBack.{roots_named}
 use Rattle.fa_merge.proofs.DroppedStores.{store_cut}
-use Rattle.fa_merge.proofs.FactReach.{top_in}
-use Rattle.fa_merge.proofs.StoreLeaks.{same_numbers, has_cell}
+use Rattle.fa_back.proofs.FactParts.{top_in}
+use Rattle.fa_back.proofs.StoreLaws.{has_cell}
+use Rattle.fa_merge.proofs.StoreNumbers.{same_numbers}
 use Rattle.fa_split.specs.Split.{with_last}
 use Rattle.fa_split.proofs.Places.{last_node}
 use Rattle.fa_edit.specs.Cells.{IsNewed, blank_parts, new_node}

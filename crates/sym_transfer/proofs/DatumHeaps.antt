@@ -14,7 +14,7 @@ use Rattle.fa_core.specs.Member.{HasItsFields, store_facts}
 use Rattle.fa_core.specs.Rearranged.{Rearranged, keep, chain}
 use Rattle.fa_core.proofs.Permuted.{in_rearranged, cancel}
 use Rattle.fa_core.proofs.Rearranging.{back, equal}
-use Rattle.fa_merge.specs.Dropped.{node_at}
+use Rattle.fa_back.specs.Reached.{node_at}
 use Rattle.fa_edit.specs.Data.{HasDatum, LacksDatum, datum_put}
 use Rattle.c_cfg.specs.Edges.{datum_field_of}
 use Rattle.sym_transfer.proofs.DatumPut.{datum_put_same, facts_head}

@@ -12,7 +12,7 @@ use Rattle.fa_core.specs.Dressed.{Node, Parts, Nodes, node, no_nodes, more, Fact
 use Rattle.fa_core.specs.Dressed.{forest_facts, number, roots_of, SeenCell, seen, cells, forest_cells, tree_cells}
 use Rattle.fa_core.specs.Rearranged.{Rearranged, chain}
 use Rattle.fa_core.proofs.Rearranging.{equal, after, middle}
-use Rattle.fa_merge.specs.Dropped.{node_at}
+use Rattle.fa_back.specs.Reached.{node_at}
 use Rattle.fa_edit.specs.Data.{top_datums, with_datum, datum_put, HasDatum}
 use Rattle.sym_core.specs.Kept.{HasBoxEdge}
 use Rattle.sym_transfer.proofs.Places.{set_same, set_twice}

@@ -13,7 +13,7 @@ use Rattle.fa_core.specs.Dressed.{Fact, Head}
 use Rattle.fa_core.specs.Member.{points, cell_facts, store_facts}
 use Rattle.fa_core.specs.Rearranged.{Rearranged, chain}
 use Rattle.fa_core.proofs.Rearranging.{equal, after, middle}
-use Rattle.fa_merge.proofs.FactReach.{fact_cell}
+use Rattle.fa_back.proofs.FactParts.{fact_cell}
 use Rattle.c_cfg.specs.Edges.{datum_field_of}
 use Rattle.sym_transfer.proofs.Facts.{fact_shape, fact_datums, fact_has, no_head}
 use Rattle.sym_transfer.proofs.Places.{set_twice, set_same}

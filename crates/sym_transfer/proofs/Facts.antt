@@ -11,7 +11,7 @@ use Rattle.fore_base.specs.declared.store.Value.{Value}
 use Rattle.fore_base.proofs.ListLemmas.{in_left, in_right, in_append}
 use Rattle.fa_core.specs.Dressed.{Fact, Head, Points}
 use Rattle.fa_core.specs.Member.{points, cell_facts, store_facts}
-use Rattle.fa_merge.proofs.FactReach.{fact_cell, fact_value}
+use Rattle.fa_back.proofs.FactParts.{fact_cell, fact_value}
 use Rattle.fa_merge.proofs.FieldFacts.{is_head, fact_field}
 use Rattle.c_cfg.specs.Edges.{field_of, struct_of}
 

@@ -17,7 +17,7 @@ use Rattle.fa_core.specs.declared.forest.Target.TheVariants.{Null, Uninit, Dangl
 use Rattle.fa_core.specs.Dressed.{Node, Parts, Nodes, node, number, roots_of, value_in}
 use Rattle.fa_core.specs.Member.{OfForest, bare}
 use Rattle.fa_core.proofs.Dressing.{cell_top}
-use Rattle.fa_merge.specs.Dropped.{node_at}
+use Rattle.fa_back.specs.Reached.{node_at}
 use Rattle.fa_merge.specs.Reordered.{component_at}
 use Rattle.fa_split.proofs.OtherComponent.{tree_at}
 use Rattle.fa_split.proofs.TopRules.{tree_by_top}

@@ -8,7 +8,7 @@ use Rattle.fa_core.specs.declared.forest.Forest.{Forest}
 use Rattle.fa_core.specs.declared.forest.Target.{Target}
 use Rattle.fa_core.specs.declared.forest.Target.TheVariants.{Null, Uninit, Dangling, At}
 use Rattle.fa_core.specs.Dressed.{Node, Nodes, number, roots_of, value_in}
-use Rattle.fa_merge.specs.Dropped.{node_at}
+use Rattle.fa_back.specs.Reached.{node_at}
 use Rattle.c_cfg.specs.Edges.{Pass, Faulted, onto}
 use Rattle.sym_core.specs.Explicit.{target_at}
 use Rattle.sym_transfer.specs.inner.Targets.{root_of}

@@ -16,7 +16,7 @@ use Rattle.fa_core.specs.declared.forest.Forest.{Forest}
 use Rattle.fa_core.specs.declared.forest.Target.{Target}
 use Rattle.fa_core.specs.declared.forest.Target.TheVariants.{Uninit, At}
 use Rattle.fa_merge.specs.Dropped.{dropped, IsFlatRoot, Removes, Restores, without_cell}
-use Rattle.fa_merge.proofs.FactReach.{node_root}
+use Rattle.fa_back.proofs.FactParts.{node_root}
 use Rattle.c_cfg.specs.Edges.{Passed, onto, raw_step}
 use Rattle.c_cfg.specs.declared.graph.Instr.TheVariants.{Free}
 use Rattle.sym_core.specs.Carried.{GoesInto, ComesRaw, Carries}

@@ -11,7 +11,7 @@ use Rattle.fa_core.specs.Dressed.{Fact, Head, Points, facts, tree_facts, slot_fa
 use Rattle.fa_core.specs.Dressed.{with_ports, end_value, number, roots_of, value_in}
 use Rattle.fa_core.specs.Rearranged.{Rearranged, keep, swap, chain}
 use Rattle.fa_core.proofs.Rearranging.{equal, after, before, middle}
-use Rattle.fa_merge.specs.Dropped.{node_at}
+use Rattle.fa_back.specs.Reached.{node_at}
 use Rattle.fa_split.specs.Split.{top_parts}
 use Rattle.fa_edit.specs.Leaves.{end_of_field, put_leaf, with_leaf, HasLeaf, leaf_put}
 

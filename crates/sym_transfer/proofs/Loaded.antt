@@ -23,10 +23,10 @@ use Rattle.fa_core.specs.Member.{bare}
 use Rattle.fa_core.proofs.Dressing.{dress_all, boxless_have_insides}
 use Rattle.fa_core.proofs.WaysOf.{tree_roots}
 use Rattle.fa_merge.specs.Reordered.{component_at}
-use Rattle.fa_merge.proofs.LeaksDecided.{some_choice}
+use Rattle.fa_back.proofs.Dressable.{some_choice}
 use Rattle.fa_merge.proofs.Named.{refers_below}
 use Rattle.fa_merge.proofs.PlacedForests.{component_has}
-use Rattle.fa_merge.proofs.Plain.{bare_at}
+use Rattle.fa_merge.proofs.RootTrees.{bare_at}
 use Rattle.fa_split.specs.Split.{top_parts, top_rule}
 use Rattle.fa_split.proofs.TopRules.{top_in}
 use Rattle.fa_edit.specs.Data.{datums_at, symbol_datums}

@@ -20,9 +20,10 @@ use Rattle.fa_core.specs.Member.{OfForest}
 use Rattle.fa_core.proofs.Permuted.{in_rearranged, distinct_parts}
 use Rattle.fa_core.proofs.PlainNodes.{NoEdges, NoEdgesOf, NoEdgesAt, NoEdgesIn, trees_no_edges}
 use Rattle.fa_core.proofs.Rearranging.{back}
-use Rattle.fa_merge.specs.Dropped.{node_at}
+use Rattle.fa_back.specs.Reached.{node_at}
 use Rattle.fa_merge.proofs.DroppedFacts.{all_cell}
-use Rattle.fa_merge.proofs.FactReach.{differ_none, fact_cell, in_all}
+use Rattle.fa_back.proofs.FactParts.{fact_cell, in_all}
+use Rattle.fa_merge.proofs.StoreNumbers.{differ_none}
 use Rattle.fa_merge.proofs.FieldFacts.{fact_field, is_head}
 use Rattle.fa_edit.specs.Leaves.{end_of_field, LacksField}
 use Rattle.c_cfg.specs.Edges.{field_of}

@@ -16,7 +16,7 @@ use Rattle.fa_core.specs.declared.forest.Target.{Target}
 use Rattle.fa_core.specs.declared.forest.Target.TheVariants.{Null, At}
 use Rattle.fa_core.specs.Dressed.{Node, Nodes, number, roots_of, value_in, cells}
 use Rattle.fa_core.specs.Member.{OfForest, StandsBy, Stands}
-use Rattle.fa_merge.specs.Dropped.{node_at}
+use Rattle.fa_back.specs.Reached.{node_at}
 use Rattle.fa_edit.specs.Leaves.{AllHaveLeaf, IsPut, leaf_put}
 use Rattle.c_cfg.specs.declared.graph.Const.{Const}
 use Rattle.c_cfg.specs.declared.graph.Const.TheVariants.{Null as ConstNull}

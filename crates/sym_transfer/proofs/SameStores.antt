@@ -19,7 +19,7 @@ use Rattle.fa_core.specs.Member.{HasItsFields, points, cell_facts, store_facts}
 use Rattle.fa_core.specs.Rearranged.{Rearranged, chain}
 use Rattle.fa_core.proofs.Permuted.{Out, cancel_all, in_rearranged}
 use Rattle.fa_core.proofs.Rearranging.{equal, back, after, exchange}
-use Rattle.fa_merge.proofs.FactReach.{fact_cell}
+use Rattle.fa_back.proofs.FactParts.{fact_cell}
 use Rattle.c_cfg.specs.Edges.{field_of}
 use Rattle.sym_transfer.proofs.Facts.{fact_shape, fact_datums, in_points, no_head, field_there}
 

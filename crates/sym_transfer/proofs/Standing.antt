@@ -20,7 +20,7 @@ use Rattle.fa_core.specs.Dressed.{number, roots_of, nth_value, value_in}
 use Rattle.fa_core.specs.Member.{HasItsFields, store_facts, OfForest, StandsBy}
 use Rattle.fa_core.specs.Rearranged.{Rearranged}
 use Rattle.fa_core.proofs.Permuted.{in_rearranged}
-use Rattle.fa_merge.specs.Dropped.{node_at}
+use Rattle.fa_back.specs.Reached.{node_at}
 use Rattle.c_cfg.specs.Edges.{struct_of}
 use Rattle.sym_transfer.proofs.Facts.{fact_has, head_there}
 

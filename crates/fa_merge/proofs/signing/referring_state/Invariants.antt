@@ -1,6 +1,6 @@
 use Rattle.std.proofs.Common.{take, slice_get}
 use Rattle.fore_base.specs.Lists.{Every}
-use Rattle.fa_merge.specs.inner.Hops.{IsSilentOf}
+use Rattle.fa_merge.specs.inner.Signed.{IsSilentOf}
 use Rattle.fa_merge.proofs.signing.referring_state.Given as goal
 
 abbrev pub invariant-loop-state : goal.invariant-loop-state

@@ -1,5 +1,5 @@
 use Rattle.std.proofs.Common.{◌∙◌, sym, true≢false}
-use Rattle.fa_merge.proofs.RootMarks.{in_has}
+use Rattle.fa_back.proofs.RootMarks.{in_has}
 use Rattle.fa_split.specs.Split.{top_rule}
 use Rattle.fa_split.proofs.TopRules.{top_in, top_root}
 use Rattle.fa_split.proofs.topping.rule_at_top.Goals as goal

@@ -12,7 +12,7 @@ bad_alone-requires-clause-met g c =
     let R = c.args.raw.now in
     let leaks : AlwaysLeaks R.face R.forest =
     subst (λ (o : Option ℕ). MatchOption o (NeverLeaks R.face R.forest) (λ x. AlwaysLeaks R.face R.forest)) c.in-Some.is
-    (c.in_ok-leaking.ensures.leaks c.requires.like.plain) in
+    c.in_ok-leaking.ensures.leaks in
     all_leak s.face c.args.edge.now s.forest R.forest c.requires.carries
     (subst (λ (face : Face). AlwaysLeaks face R.forest) c.requires.like.face leaks)
 
@@ -30,7 +30,7 @@ returns-in_ok-next-in-None-clause-settles g c =
     let made = c.in_ok-next-in-None.next in
     let tight : NeverLeaks R.face R.forest =
     subst (λ (o : Option ℕ). MatchOption o (NeverLeaks R.face R.forest) (λ x. AlwaysLeaks R.face R.forest)) c.in-None.is
-    (c.in_ok-leaking.ensures.leaks c.requires.like.plain) in
+    c.in_ok-leaking.ensures.leaks in
     rw c.new.ensures
     (settled_goes s c.args.edge.now made
     (all_go s.face c.args.edge.now s.forest R.forest c.requires.carries
