@@ -1,6 +1,6 @@
 // The roots to which the trees of each root refer.
 
-ghost use Rattle.std.specs.Prelude.{◌≡◌, ◌<◌, length, Some, slice_get, IfOk};
+ghost use Rattle.std.specs.Prelude.{◌≡◌, ◌<◌, ◌∷◌, [], length, Some, slice_get, IfOk};
 ghost use Rattle.fore_base.specs.Lists.{Every, Paired};
 ghost use Rattle.ta_core.specs.Auto.{Automaton};
 ghost use Rattle.ta_core.specs.Single.{HasOneTop};
