@@ -1,0 +1,7 @@
+use Rattle.std.proofs.Common.{ℕ, ◌<◌}
+use Rattle.fa_reach.specs.inner.Parts.{picked}
+use Rattle.fa_reach.specs.inner.Going.{Forced}
+use Rattle.fa_reach.proofs.choices.may_miss.Given as goal
+
+abbrev pub invariant-loop-number : goal.invariant-loop-number
+invariant-loop-number l = (k : ℕ) → k < l.number → Forced (picked l.all k) l.from l.to

@@ -1,0 +1,40 @@
+-- Sets of components, from which those are taken out that cannot keep out of the others.
+use Rattle.std.specs.Prelude.{◌≡◌, ℕ, suc, ◌<◌, Bool, true, false, ◌||◌, List, [], ◌∷◌, Some, length, slice_get}
+use Rattle.std.specs.Prelude.{slice_index_or, slice_set}
+use Rattle.fore_base.specs.Lists.{IsIn}
+use Rattle.fore_base.specs.Marks.{IsMarked, all_marked}
+use Rattle.fa_reach.specs.declared.part.Hop.{Hop}
+use Rattle.fa_reach.specs.declared.part.Part.{Part}
+use Rattle.fa_reach.specs.inner.Going.{Forced}
+
+-- the set without root a, where it does not stay
+abbrev pub kept_at : List Bool → ℕ → Bool → List Bool
+kept_at set a true = set
+kept_at set a false = slice_set set a false
+
+-- the roots of some signature are all in the set
+abbrev pub has_down : List Bool → List (List ℕ) → Bool
+has_down set [] = false
+has_down set (d ∷ ds) = all_marked set d || has_down set ds
+
+-- the set after it was looked at the ways back
+abbrev pub sweep_hops : List Hop → List Bool → List Bool
+sweep_hops [] set = set
+sweep_hops (h ∷ hs) set = sweep_hops hs (kept_at set h.from (slice_index_or set h.to false))
+
+-- the set after it was looked at a part of component j, and of those from j on
+abbrev pub sweep_part : ℕ → Part → List Bool → List Bool
+sweep_part j p set = sweep_hops p.hops (kept_at set j (has_down set p.downs))
+
+abbrev pub sweep_parts : ℕ → List Part → List Bool → List Bool
+sweep_parts j [] set = set
+sweep_parts j (p ∷ ps) set = sweep_parts (suc j) ps (sweep_part j p set)
+
+-- from what is not in the set, root `to` is reached for each choice
+abbrev pub IsLost : List Part → ℕ → List Bool → Type 0
+IsLost ps to set = (x : ℕ) → x < length set → slice_index_or set x false ≡ false → Forced ps x to
+
+-- some choice does not lead out of the set
+pub record IsClosed (ps : List Part) (set : List Bool) : Type 0 where
+  pub downs : (k : ℕ) (p : Part) → slice_get ps k ≡ Some p → IsMarked set k → has_down set p.downs ≡ true
+  pub hops : (p : Part) (h : Hop) → IsIn p ps → IsIn h p.hops → IsMarked set h.from → IsMarked set h.to
