@@ -1,12 +1,12 @@
 -- What is known to be reached for each choice of signatures.
 use Rattle.std.proofs.Common.{◌≡◌, inl, inr, ℕ, ◌<◌, Bool, true, false, List, length, replicate, set, sym, subst}
-use Rattle.std.proofs.Common.{◌∙◌, ◌+◌, arith}
-use Rattle.std.proofs.lemmas.Bool.{cases_lt}
+use Rattle.std.proofs.Common.{◌∙◌, ◌-◌, arith}
 use Rattle.std.proofs.lemmas.List.{length-set, length-replicate}
-use Rattle.fore_base.specs.Marks.{IsMarked}
-use Rattle.fore_base.proofs.MarkLemmas.{marked_new, marked_set, marked_still, unmarked_none}
+use Rattle.fore_base.specs.Marks.{IsMarked, marked_count}
+use Rattle.fore_base.proofs.MarkLemmas.{count_set, count_within, marked_new, marked_set, marked_still, unmarked_none}
 use Rattle.fa_reach.specs.declared.part.Part.{Part}
 use Rattle.fa_reach.specs.inner.Going.{here, Forced, Missed, AvoidedFrom, ForcedFrom}
+use Rattle.fa_reach.specs.inner.Sweeps.{IsUnknown}
 use Rattle.fa_reach.proofs.Going.{goes_on}
 
 -- there are as many marks as parts, root `from` has one, and what has one is reached from it for each choice
@@ -43,9 +43,11 @@ knows_more ps from to known k w = (
   ],
 )
 
-pub forced_below : (ps : List Part) (from to : ℕ) → ((r : ℕ) → r < to → Forced ps from r) → Forced ps from to
-    → (r : ℕ) → r < to + 1 → Forced ps from r
-forced_below ps from to f g r l = elim (cases_lt r to) [
-  | inl low ↦ f r low
-  | inr high ↦ subst (λ (n : ℕ). Forced ps from n) (let e : to ≡ r = omega (arith, high, l) in e) g
-]
+-- fewer are not known
+pub mark_falls : (known : List Bool) (to : ℕ) → IsUnknown known to
+    → length (set known to true) - marked_count (set known to true) < length known - marked_count known
+mark_falls known to u =
+    let more = count_set known to u in
+    let within = count_within (set known to true) in
+    let long = length-set known to true in
+    omega (arith, more, within, long)

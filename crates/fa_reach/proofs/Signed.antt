@@ -8,7 +8,8 @@ use Rattle.fore_base.proofs.ListLemmas.{in_last, place_of, in_from_place, same_i
 use Rattle.fa_core.specs.References.{AllBelow}
 use Rattle.fa_core.specs.declared.signature.RefMark.{RefMark}
 use Rattle.fa_core.specs.declared.signature.Signature.{Signature}
-use Rattle.fa_back.specs.Reached.{SignReached, from_there, down_to, back_to, reach_to, IsMarkAt, AllNameBelow, NamesBelow}
+use Rattle.fa_back.specs.Reached.{SignReached, from_there, down_to, back_to, reach_to, IsMarkAt, AllNameBelow}
+use Rattle.fa_back.specs.Reached.{NamesBelow}
 use Rattle.fa_back.proofs.ByMarks.{in_flat, flat_in}
 use Rattle.fa_box_rules.specs.Signs.{Picks}
 use Rattle.fa_reach.specs.Choices.{HasSign}

@@ -3,6 +3,7 @@
 ghost use Rattle.std.specs.Prelude.{◌≡◌, ◌<◌, ◌^◌, ℕ, true, false, length, IfOk};
 ghost use Rattle.fa_reach.specs.inner.Going.{AllFit, AreFit, Forced, Missed, MayMissBy, AlwaysBy, MayMeetBy, NeverBy};
 
+use crate::asking::next;
 use crate::avoiding::can_avoid;
 use crate::choosing::{choice, choice_count};
 use crate::merging::{can_miss, can_reach, only};
@@ -26,6 +27,7 @@ pub fn may_miss(alloc: Global, all: &[List<Part>], from: u32, to: u32) -> Mem<bo
     let count = choice_count(all)?;
     for number in 0..count {
         let parts = choice(alloc, all, number)?;
+        steps.take_lists(parts.as_slice())?;
         let misses = can_miss(alloc, parts.as_slice(), from, to, &mut steps)?;
         if misses {
             return Ok(true);
@@ -47,6 +49,7 @@ pub fn may_reach(alloc: Global, all: &[List<Part>], from: u32, to: u32) -> Mem<b
     let count = choice_count(all)?;
     for number in 0..count {
         let parts = choice(alloc, all, number)?;
+        steps.take_lists(parts.as_slice())?;
         let reaches = can_reach(alloc, parts.as_slice(), from, to, &mut steps)?;
         if reaches {
             return Ok(true);
@@ -67,6 +70,7 @@ pub fn may_miss_some(alloc: Global, all: &[List<Part>], from: u32) -> Mem<bool>
     let count = choice_count(all)?;
     for number in 0..count {
         let parts = choice(alloc, all, number)?;
+        steps.take_lists(parts.as_slice())?;
         let misses = can_miss_some(alloc, parts.as_slice(), from, &mut steps)?;
         if misses {
             return Ok(true);
@@ -85,7 +89,7 @@ fn can_miss_some(alloc: Global, parts: &[Part], from: u32, steps: &mut Steps) ->
     ensures no { IfOk result (λ yes. yes ≡ false → (r : ℕ) → r < length parts.now → Forced parts.now from r) }
 {
     let mut known = only(alloc, parts.len(), from)?;
-    for to in 0..parts.len() as u32 {
+    'roots: while let Some(to) = next(parts, &known) {
         let avoids = can_avoid(alloc, parts, known.as_slice(), to, steps)?;
         if avoids {
             return Ok(true);

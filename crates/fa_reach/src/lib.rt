@@ -2,6 +2,7 @@
 #![tactic(auto)]
 
 pub mod answer;
+mod asking;
 mod avoiding;
 mod choices;
 mod choosing;

@@ -1,7 +1,7 @@
 // The signatures of each component, parted by how they lead back.
 
-ghost use Rattle.std.specs.Prelude.{◌≡◌, ◌↔◌, ◌<◌, ◌^◌, ◌++◌, true, false, [], ◌∷◌, length, flat_map, map, IsTrue, IfOk};
-ghost use Rattle.std.specs.Prelude.{OnOk};
+ghost use Rattle.std.specs.Prelude.{◌≡◌, ◌↔◌, ◌<◌, ◌^◌, ◌++◌, true, false, [], ◌∷◌, length, flat_map, map};
+ghost use Rattle.std.specs.Prelude.{IsTrue, IfOk, OnOk};
 ghost use Rattle.fore_base.specs.Lists.{IsIn, Every};
 ghost use Rattle.fa_back.specs.Reached.{AllNameBelow};
 ghost use Rattle.fa_reach.specs.Choices.{HasSign};

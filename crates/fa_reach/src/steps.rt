@@ -8,6 +8,9 @@ use std::alloc::AllocError;
 /// The most roots that are looked at: as many as a fraction of a second allows.
 const MOST_STEPS: usize = 67_108_864;
 
+/// What a list that is made counts.
+const LIST_STEPS: usize = 8;
+
 /// How many roots may still be looked at.
 #[derive(Debug, Drop)]
 pub struct Steps {
@@ -28,18 +31,28 @@ impl Steps {
     pub fn take(&mut self, parts: &[Part]) -> Mem<()> {
         let mut left = self.left;
         for part in parts {
-            left = left.saturating_sub(part_steps(part));
+            left = left.saturating_sub(root_count(part.downs.as_slice(), part.hops.len()));
+        }
+        self.left = left;
+        if left == 0 { Err(AllocError) } else { Ok(()) }
+    }
+
+    /// Takes off what it costs to make these parts.
+    ///
+    /// # Errors
+    ///
+    /// Want of memory where too little is left.
+    pub fn take_lists(&mut self, parts: &[Part]) -> Mem<()> {
+        let mut left = self.left;
+        for part in parts {
+            left = left.saturating_sub(part.downs.len().saturating_add(2).saturating_mul(LIST_STEPS));
         }
         self.left = left;
         if left == 0 { Err(AllocError) } else { Ok(()) }
     }
 }
 
-fn part_steps(part: &Part) -> usize {
-    down_steps(part.downs.as_slice(), part.hops.len())
-}
-
-fn down_steps(downs: &[List<u32>], hops: usize) -> usize {
+fn root_count(downs: &[List<u32>], hops: usize) -> usize {
     let mut steps = hops.saturating_add(1);
     for down in downs {
         steps = steps.saturating_add(down.len());

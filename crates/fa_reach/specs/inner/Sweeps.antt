@@ -1,5 +1,5 @@
 -- Sets of components, from which those are taken out that cannot keep out of the others.
-use Rattle.std.specs.Prelude.{◌≡◌, ℕ, suc, ◌<◌, Bool, true, false, ◌||◌, List, [], ◌∷◌, Some, length, slice_get}
+use Rattle.std.specs.Prelude.{◌≡◌, ℕ, suc, ◌<◌, Bool, true, false, ◌||◌, List, [], ◌∷◌, Option, Some, None, length, slice_get}
 use Rattle.std.specs.Prelude.{slice_index_or, slice_set}
 use Rattle.fore_base.specs.Lists.{IsIn}
 use Rattle.fore_base.specs.Marks.{IsMarked, all_marked}
@@ -38,3 +38,12 @@ IsLost ps to set = (x : ℕ) → x < length set → slice_index_or set x false �
 pub record IsClosed (ps : List Part) (set : List Bool) : Type 0 where
   pub downs : (k : ℕ) (p : Part) → slice_get ps k ≡ Some p → IsMarked set k → has_down set p.downs ≡ true
   pub hops : (p : Part) (h : Hop) → IsIn p ps → IsIn h p.hops → IsMarked set h.from → IsMarked set h.to
+
+-- the root has no mark
+abbrev pub IsUnknown : List Bool → ℕ → Type 0
+IsUnknown known r = slice_index_or known r true ≡ false
+
+-- a root without a mark, where there is one
+abbrev pub IsNext : List Bool → Option ℕ → Type 0
+IsNext known None = (r : ℕ) → r < length known → IsMarked known r
+IsNext known (Some r) = IsUnknown known r

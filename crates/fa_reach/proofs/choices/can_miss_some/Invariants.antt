@@ -1,7 +1,10 @@
-use Rattle.std.proofs.Common.{ℕ, ◌<◌}
-use Rattle.fa_reach.specs.inner.Going.{Forced}
+use Rattle.std.proofs.Common.{length, ◌-◌}
+use Rattle.fore_base.specs.Marks.{marked_count}
 use Rattle.fa_reach.proofs.Known.{Knows}
 use Rattle.fa_reach.proofs.choices.can_miss_some.Given as goal
 
-abbrev pub invariant-loop-to : goal.invariant-loop-to
-invariant-loop-to l = Knows l.parts l.from l.known × ((r : ℕ) → r < l.to → Forced l.parts l.from r)
+abbrev pub invariant-roots : goal.invariant-roots
+invariant-roots l = Knows l.parts l.from l.known
+
+abbrev pub decreases-roots : goal.decreases-roots
+decreases-roots l = length l.known - marked_count l.known
