@@ -13,9 +13,8 @@ use Rattle.ta_core.specs.declared.symbol.Symbol.TheVariants.{Null, Uninit, Dangl
 use Rattle.ta_core.specs.declared.tree.Tree.{Tree, out-Tree, out-roll-Tree}
 use Rattle.ta_core.proofs.Runs.{tree_of, run_tree}
 use Rattle.fore_base.specs.declared.store.Datum.{Datum}
-use Rattle.fa_core.specs.Filled.{IsTopped}
-use Rattle.fa_boxes.specs.Tops.{HasNoLeaf, AreTopped}
-use Rattle.fa_boxes.specs.inner.TopRules.{AtTop, AtTops, IsCell, IsCellOf, CoversField}
+use Rattle.fa_boxes.specs.Tops.{AreTopped}
+use Rattle.fa_boxes.specs.inner.TopRules.{AtTop, AtTops, IsCellOf}
 
 mutual
   passed : (rules : List Rule) {q p : ℕ} {t : Tree} → PassesBy rules q p t → HasTree rules q
@@ -32,7 +31,7 @@ trees_for rules (q ∷ qs) h = let k = trees_for rules qs h.1 in (h.0.0 ∷ k.0,
 
 module _ (a : Automaton) (ranked : IsRanked a) (trim : IsTrim a) where
   -- each rule of a root state is the last of some tree's run
-  rule_tree : (r : Rule) → IsIn r a.rules → IsIn r.state a.roots → (t : Tree) × InLanguage a t
+  pub rule_tree : (r : Rule) → IsIn r a.rules → IsIn r.state a.roots → (t : Tree) × InLanguage a t
       × ((out-Tree t).symbol ≡ r.symbol)
   rule_tree r i j =
       let c : IsRankedRule a.states r = every_in (IsRankedRule a.states) a.rules r ranked.1 i in

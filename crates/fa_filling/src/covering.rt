@@ -35,7 +35,8 @@ fn cover_fields(alloc: Global, boxes: &[BoxFace], slots: &[Slot]) -> Mem<bool>
     Ok(true)
 }
 
-fn has_field(fields: &[u32]) -> bool
+/// Whether there is a field.
+pub fn has_field(fields: &[u32]) -> bool
     ensures { IsTrue result ↔ HasField fields.now }
 {
     fields.split_first().is_some()
@@ -53,7 +54,7 @@ fn leasts(alloc: Global, boxes: &[BoxFace], slots: &[Slot]) -> Mem<List<u32>>
     Ok(made)
 }
 
-/// The fields that the slots cover.
+/// The fields that the slots cover. Err is want of memory.
 pub fn covered(alloc: Global, boxes: &[BoxFace], slots: &[Slot]) -> Mem<List<u32>>
     ensures { IfOk result (λ made. made ≡ flat_map (covers boxes.now) slots.now) }
 {

@@ -159,7 +159,7 @@ fn is_given_once(alloc: Global, face: &Face, shape: u32, slots: &[Slot], above: 
 }
 
 /// Whether each number stands in both lists as often.
-fn are_rearranged(left: &[u32], right: &[u32]) -> bool
+pub fn are_rearranged(left: &[u32], right: &[u32]) -> bool
     ensures { IsTrue result ↔ Rearranged left.now right.now }
 {
     if left.len() != right.len() {

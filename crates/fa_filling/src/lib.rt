@@ -13,3 +13,6 @@ mod giving;
 mod parts;
 
 pub use choosing::is_filled;
+pub use covering::{covered, has_field};
+pub use giving::are_rearranged;
+pub use parts::is_one_of;

@@ -61,6 +61,7 @@ fn is_top_rule(marks: &[bool], roots: &[u32], rule: &Rule) -> bool
     is_one_of(rule.state, roots) && are_all_marked(marks, rule.children.as_slice())
 }
 
+/// Whether the number is one of these.
 pub fn is_one_of(number: u32, numbers: &[u32]) -> bool
     ensures { IsTrue result ↔ IsIn number numbers.now }
 {
