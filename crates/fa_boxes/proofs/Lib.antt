@@ -1,2 +1,3 @@
+pub mod AllSeen
 pub mod Alike
 pub mod TopRules

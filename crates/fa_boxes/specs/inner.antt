@@ -1,1 +1,3 @@
+pub mod Seeing
+pub mod Signs
 pub mod TopRules

@@ -2,6 +2,9 @@
 #![tactic(auto)]
 
 pub mod empty;
+mod seeing;
+pub mod signs;
 pub mod tops;
 
 pub use empty::is_some_empty;
+pub use signs::signs;
