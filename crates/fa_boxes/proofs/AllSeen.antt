@@ -126,8 +126,7 @@ module _ (bs : List BoxFace) (rules : List Rule) where
     seen_each (q ∷ qs) h =
         let e = known_entry table q (and_left (is_known table q) (all_known table qs) h) in
         let a = said_seen q e.0 (w q e.0 e.1) k in
-        let r = seen_each qs (and_right (is_known table q) (all_known table qs) h) in
-        (
+        let r = seen_each qs (and_right (is_known table q) (all_known table qs) h) in (
           a.0 ∷ r.0,
           run_more a.1 r.1,
           ap₂ (λ (x : Below) (xs : List Below). x ∷ xs)
@@ -144,8 +143,7 @@ module _ (bs : List BoxFace) (rules : List Rule) where
         let l : is_leaf (out-Tree (tree_of r.symbol c.0)).symbol ≡ is_leaf r.symbol = rw o refl in
         let m : signature bs (tree_of r.symbol c.0) ≡ marks_at bs k table r =
         tree_signature bs (tree_of r.symbol c.0)
-        ∙ (rw o refl ∙ ap (λ (xs : List Below). marks_by bs r.symbol xs) c.2) in
-        (
+        ∙ (rw o refl ∙ ap (λ (xs : List Below). marks_by bs r.symbol xs) c.2) in (
           tree_of r.symbol c.0,
           run_tree rules r c.0 i c.1,
           ap₂ (λ (b : Bool) (ms : List RefMark). record { leaf = b; marks = ms }) l m,
@@ -287,8 +285,7 @@ module _ (bs : List BoxFace) (rules : List Rule) (table : List (Option Seen)) (w
   unlike r i (h, (k, n)) =
       let e = known_entry table r.state (every_in (IsTaken bs table) rules r taken i h).0 in
       let t = said_seen bs rules r.state e.0 (w r.state e.0 e.1) true in
-      let u = rule_seen bs rules table w k r i h in
-      (
+      let u = rule_seen bs rules table w k r i h in (
         t.0,
         u.0,
         t.1,

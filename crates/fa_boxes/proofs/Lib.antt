@@ -1,3 +1,4 @@
 pub mod AllSeen
+pub mod AllSigns
 pub mod Alike
 pub mod TopRules

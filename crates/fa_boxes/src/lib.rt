@@ -3,8 +3,8 @@
 
 pub mod empty;
 mod seeing;
-pub mod signs;
+pub mod signing;
 pub mod tops;
 
 pub use empty::is_some_empty;
-pub use signs::signs;
+pub use signing::signs;

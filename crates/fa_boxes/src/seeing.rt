@@ -31,11 +31,7 @@ pub struct Seen {
 
 /// What is known of the trees of each state. None where two trees of a state have different signatures. Err is want of
 /// memory.
-pub fn seen_each(
-    alloc: Global,
-    boxes: &[BoxFace],
-    auto: &Auto,
-) -> Mem<Option<List<Option<Seen>>>>
+pub fn seen_each(alloc: Global, boxes: &[BoxFace], auto: &Auto) -> Mem<Option<List<Option<Seen>>>>
     requires { IsTrim auto.now }
     ensures { IfOk result
         (λ found. MatchOption found (SignsApart boxes.now auto.now) (IsTable boxes.now auto.now)) }
@@ -49,12 +45,7 @@ pub fn seen_each(
 }
 
 /// What is known of trees of each state, where trees with another signature than the first of their state are left out.
-fn learn(
-    alloc: Global,
-    boxes: &[BoxFace],
-    states: u32,
-    rules: &[Rule],
-) -> Mem<List<Option<Seen>>>
+fn learn(alloc: Global, boxes: &[BoxFace], states: u32, rules: &[Rule]) -> Mem<List<Option<Seen>>>
     requires { Every (λ r. r.state < states) rules.now }
     ensures { IfOk result (IsLearnt boxes.now states rules.now) }
 {
@@ -177,13 +168,7 @@ fn shows(table: &[Option<Seen>], state: u32, leaf: bool) -> bool
     ensures { result ≡ shows leaf (entry table.now state) }
 {
     match entry_at(table, state) {
-        Some(seen) => {
-            if leaf {
-                seen.leaf
-            } else {
-                seen.cell
-            }
-        }
+        Some(seen) => { if leaf { seen.leaf } else { seen.cell } }
         None => false,
     }
 }
@@ -230,7 +215,12 @@ fn below_at(alloc: Global, most: bool, found: Option<&Seen>) -> Mem<Below>
 }
 
 /// Whether each rule gives trees with the signature that its state has, whichever of their children are leaves.
-fn are_settled(alloc: Global, boxes: &[BoxFace], table: &[Option<Seen>], rules: &[Rule]) -> Mem<bool>
+fn are_settled(
+    alloc: Global,
+    boxes: &[BoxFace],
+    table: &[Option<Seen>],
+    rules: &[Rule],
+) -> Mem<bool>
     ensures { IfOk result (λ yes. MatchBool yes
         (Every (IsSettled boxes.now table.now) rules.now)
         (IsUnsettled boxes.now table.now rules.now)) }
@@ -258,7 +248,13 @@ fn is_settled(alloc: Global, boxes: &[BoxFace], table: &[Option<Seen>], rule: &R
 }
 
 /// Whether the tree by the rule has the signature of its state.
-fn is_as(alloc: Global, boxes: &[BoxFace], most: bool, table: &[Option<Seen>], rule: &Rule) -> Mem<bool>
+fn is_as(
+    alloc: Global,
+    boxes: &[BoxFace],
+    most: bool,
+    table: &[Option<Seen>],
+    rule: &Rule,
+) -> Mem<bool>
     ensures { IfOk result (λ yes. IsTrue yes
         ↔ (own table.now rule.now.state ≡ marks_at boxes.now most table.now rule.now)) }
 {

@@ -1,6 +1,6 @@
 // The signatures that the trees of components have.
 
-ghost use Rattle.std.specs.Prelude.{◌≡◌, ◌↔◌, IsTrue, IfOk, MatchOption};
+ghost use Rattle.std.specs.Prelude.{◌≡◌, ◌↔◌, IsTrue, IfOk, IfSome, MatchOption};
 ghost use Rattle.std.specs.Option.{option_copied};
 ghost use Rattle.fore_base.specs.Lists.{IsIn, Every, IsDistinct};
 ghost use Rattle.ta_core.specs.Language.{IsTrim};
@@ -28,10 +28,10 @@ use ta_core::auto::Auto;
 /// Want of memory.
 pub fn signs(alloc: Global, boxes: &[BoxFace], autos: &[Auto]) -> Mem<Option<List<List<Signature>>>>
     requires { Every IsTrim autos.now }
-    ensures { IfOk result
+    ensures signs { IfOk result
         (λ found. MatchOption found (SomeSignsApart boxes.now autos.now)
         (λ lists. AreSigns boxes.now autos.now lists × Every (HaveSignatures boxes.now) autos.now)) }
-    ensures apart { IfOk result (λ found. MatchOption found Unit (Every IsDistinct)) }
+    ensures once { IfOk result (λ found. IfSome found (Every IsDistinct)) }
 {
     let mut lists = List::new(alloc);
     for auto in autos {
@@ -48,7 +48,7 @@ fn signs_of(alloc: Global, boxes: &[BoxFace], auto: &Auto) -> Mem<Option<List<Si
     requires { IsTrim auto.now }
     ensures { IfOk result
         (λ found. MatchOption found (SignsApart boxes.now auto.now)
-        (λ list. AreSignsOf boxes.now auto.now list × HaveSignatures boxes.now auto.now)) }
+        (λ list. AreSignsOf boxes.now auto.now list × HaveSignatures boxes.now auto.now × IsDistinct list)) }
 {
     match seen_each(alloc, boxes, auto)? {
         None => Ok(None),
