@@ -21,7 +21,7 @@ use Rattle.fa_sound.proofs.Between.{AreLeafs, IsBetween, AreBetween, none_betwee
 use Rattle.fa_sound.proofs.Mixed.{leaf_signature}
 use Rattle.fa_boxes.specs.Signatures.{SignsApart}
 use Rattle.fa_boxes.specs.declared.seeing.Seen.{Seen}
-use Rattle.fa_boxes.specs.inner.Seeing.{entry, is_there, is_known, all_known, has_kind, shows, takes_leaf, said}
+use Rattle.fa_boxes.specs.inner.Seeing.{entry, is_there, is_known, all_known, has_kind, shows, said}
 use Rattle.fa_boxes.specs.inner.Seeing.{below_at, own, marks_at, Adds, IsTaken, Learns, lacks, lacking, missing, IsSeen}
 use Rattle.fa_boxes.specs.inner.Seeing.{AreSeen, IsLearnt, IsSettled, IsUnlike, IsUnsettled, IsTable}
 

@@ -1,3 +1,4 @@
+pub mod AllParts
 pub mod AllSeen
 pub mod AllSigns
 pub mod Alike

@@ -30,17 +30,21 @@ trees_for rules [] h = ([], run_none)
 trees_for rules (q ∷ qs) h = let k = trees_for rules qs h.1 in (h.0.0 ∷ k.0, run_more h.0.1 k.1)
 
 module _ (a : Automaton) (ranked : IsRanked a) (trim : IsTrim a) where
-  -- each rule of a root state is the last of some tree's run
-  pub rule_tree : (r : Rule) → IsIn r a.rules → IsIn r.state a.roots → (t : Tree) × InLanguage a t
-      × ((out-Tree t).symbol ≡ r.symbol)
-  rule_tree r i j =
+  -- each rule is the last of some tree's run
+  pub rule_run : (r : Rule) → IsIn r a.rules → (t : Tree) × RunOf a.rules r.state t × ((out-Tree t).symbol ≡ r.symbol)
+  rule_run r i =
       let c : IsRankedRule a.states r = every_in (IsRankedRule a.states) a.rules r ranked.1 i in
       let k = trees_for a.rules r.children (every_weaker (λ (q : ℕ). q < a.states) (HasTree a.rules) r.children
       (λ q l. (let p = trim q l in passed a.rules p.3)) c.1) in (
         tree_of r.symbol k.0,
-        (r.state, j, run_tree a.rules r k.0 i k.1),
+        run_tree a.rules r k.0 i k.1,
         ap (λ x. x.symbol) (out-roll-Tree (record { symbol = r.symbol; children = k.0 })),
       )
+
+  -- that of a root state of the run of an accepted tree
+  pub rule_tree : (r : Rule) → IsIn r a.rules → IsIn r.state a.roots → (t : Tree) × InLanguage a t
+      × ((out-Tree t).symbol ≡ r.symbol)
+  rule_tree r i j = let k = rule_run r i in (k.0, (r.state, j, k.1), k.2)
 
   module _ (P : Symbol → Type 0) where
     tops_trees : AtTops P a.roots a.rules → (t : Tree) → InLanguage a t → P (out-Tree t).symbol

@@ -1,3 +1,4 @@
+pub mod Ports
 pub mod Signatures
 pub mod Tops
 pub mod inner

@@ -1,3 +1,4 @@
+pub mod Parts
 pub mod Seeing
 pub mod Signs
 pub mod TopRules

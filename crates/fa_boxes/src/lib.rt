@@ -2,9 +2,11 @@
 #![tactic(auto)]
 
 pub mod empty;
+mod ports;
 mod seeing;
 pub mod signing;
 pub mod tops;
 
 pub use empty::is_some_empty;
+pub use ports::fields_of_port;
 pub use signing::signs;

@@ -1,6 +1,6 @@
 -- What is known of the trees of each state.
 use Rattle.std.specs.Prelude.{◌≡◌, ◌≢◌, ◌⊎◌, ℕ, ◌+◌, Bool, true, false, not, ◌&&◌, ◌||◌, List, [], ◌∷◌, map, length}
-use Rattle.std.specs.Prelude.{Option, Some, None, slice_index_or, slice_set, MatchBool, if◌then◌else◌}
+use Rattle.std.specs.Prelude.{Option, Some, None, slice_index_or, slice_set}
 use Rattle.fore_base.specs.Lists.{IsIn, Every}
 use Rattle.ta_core.specs.Auto.{Automaton}
 use Rattle.ta_core.specs.Language.{RunOf}

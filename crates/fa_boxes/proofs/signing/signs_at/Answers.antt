@@ -1,7 +1,6 @@
 use Rattle.std.proofs.Common.{slice_index_or}
 use Rattle.std.proofs.lemmas.List.{take_more}
 use Rattle.fore_base.proofs.ListLemmas.{in_place}
-use Rattle.fa_boxes.specs.inner.Seeing.{entry}
 use Rattle.fa_boxes.proofs.AllSigns.{sign_added}
 use Rattle.fa_boxes.proofs.signing.signs_at.Goals as goal
 
