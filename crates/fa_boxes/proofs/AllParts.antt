@@ -1,7 +1,8 @@
 -- What the trees of the components give to a root, one component after the other.
 use Rattle.std.proofs.Common.{◌≡◌, inl, inr, ℕ, zero, suc, ◌<◌, ◌≤◌, ◌+◌, Bool, true, false, true≢false, nat_eq}
 use Rattle.std.proofs.Common.{nat_le, if◌then◌else◌, List, [], ◌∷◌, ◌++◌, map, flat_map, length, Option, Some, None}
-use Rattle.std.proofs.Common.{slice_get, slice_index_or, refl, sym, ap, ap₂, subst, ◌∙◌, arith, append-nil, append_assoc}
+use Rattle.std.proofs.Common.{slice_get, slice_index_or, refl, sym, ap, ap₂, subst, ◌∙◌, arith, append-nil}
+use Rattle.std.proofs.Common.{append_assoc}
 use Rattle.std.proofs.lemmas.Bool.{eqb-true, eq-eqb, leb-true, leb-false}
 use Rattle.std.proofs.lemmas.Option.{none-some, same_Some}
 use Rattle.std.specs.Option.{MatchOption}
@@ -248,7 +249,8 @@ module _ (bs : List BoxFace) (a : Automaton) (table : List (Option Seen)) (l : I
   part_rule o t k s =
       chain (equal (ap₂ (λ (y : Symbol) (ms : List RefMark). fields_by bs y ++ fields_of_mark (mark_of r ms)) s
       (l.trees o.state t k).1))
-      (chain (after (covered_fields bs t) (back (given_tree bs t r))) (equal (sym (part_own bs r r t (eq-eqb r r refl)))))
+      (chain (after (covered_fields bs t) (back (given_tree bs t r)))
+      (equal (sym (part_own bs r r t (eq-eqb r r refl)))))
 
   pub own_parts : (all : List (List ℕ)) (fields : List ℕ) → AreTopFields bs table r a.roots a.rules a.rules all
       → Every (Rearranged fields) all → ArePartsOf bs r r a fields
@@ -282,7 +284,8 @@ module _ (bs : List BoxFace) (a : Automaton) (list : List Signature) (s : AreSig
       chain (equal (ap (λ (ms : List RefMark). fields_of_mark (mark_of r ms)) e))
       (chain (back (given_tree bs t r)) (equal (sym (part_other bs r i t n))))
 
-  pub other_parts : (fields : List ℕ) → Every (Rearranged fields) (map (provided_by r) list) → ArePartsOf bs r i a fields
+  pub other_parts : (fields : List ℕ) → Every (Rearranged fields) (map (provided_by r) list)
+      → ArePartsOf bs r i a fields
   other_parts fields e t j =
       let w = s.each t j in
       chain (every_in (Rearranged fields) (map (provided_by r) list) (provided_by r w.0) e

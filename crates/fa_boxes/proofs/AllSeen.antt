@@ -2,6 +2,7 @@
 use Rattle.std.proofs.Common.{◌≡◌, ◌≢◌, ◌⊎◌, inl, inr, ℕ, zero, suc, ◌<◌, ◌≤◌, ◌+◌, Bool, true, false, true≢false, not}
 use Rattle.std.proofs.Common.{◌&&◌, ◌||◌, List, [], ◌∷◌, ◌++◌, length, map, set, replicate, Option, Some, None, refl}
 use Rattle.std.proofs.Common.{sym, ap, ap₂, subst, ◌∙◌, arith, length-set}
+use Rattle.std.proofs.lemmas.Option.{same_Some}
 use Rattle.std.specs.Bool.{MatchBool}
 use Rattle.fore_base.specs.Lists.{IsIn, Every}
 use Rattle.fore_base.proofs.ListLemmas.{every_in, every_push}
@@ -32,6 +33,14 @@ and_left false b h = absurd (true≢false (sym h))
 and_right : (a b : Bool) → (a && b) ≡ true → b ≡ true
 and_right true b h = h
 and_right false b h = absurd (true≢false (sym h))
+
+or_true : (b : Bool) → (b || true) ≡ true
+or_true true = refl
+or_true false = refl
+
+or_left : (b : Bool) → (b || false) ≡ true → b ≡ true
+or_left true h = refl
+or_left false h = h
 
 -- Tables.
 
@@ -151,72 +160,45 @@ module _ (bs : List BoxFace) (rules : List Rule) where
 
   -- Learning.
 
+  abbrev HasKinds : ℕ → Seen → Bool → Type 0
+  HasKinds q s j = has_kind j s ≡ true → (t : Tree) × RunOf rules q t
+      × (below_of bs t ≡ record { leaf = j; marks = s.marks })
+
+  -- the trees of a kind, with marks that are the same
+  moved : (q : ℕ) (s : Seen) (ms : List RefMark) → s.marks ≡ ms → ((j : Bool) → HasKinds q s j) → (j : Bool)
+      → has_kind j s ≡ true → (t : Tree) × RunOf rules q t × (below_of bs t ≡ record { leaf = j; marks = ms })
+  moved q s ms e h j k =
+      let u = h j k in (u.0, u.1, u.2 ∙ ap (λ (m : List RefMark). record { leaf = j; marks = m }) e)
+
   add_seen : (q : ℕ) (o : Option Seen) (k : Bool) (ms : List RefMark) (x : Seen) → Adds o k ms (Some x)
       → ((s : Seen) → o ≡ Some s → IsSeen bs rules q s)
       → (t : Tree) × RunOf rules q t × (below_of bs t ≡ record { leaf = k; marks = ms }) → IsSeen bs rules q x
-  add_seen q None k ms x a w t =
-      let e : x ≡ record { leaf = k; cell = not k; marks = ms } = some_same a in
-      subst (IsSeen bs rules q) (sym e) (alone k t)
+  add_seen q None true ms x a w t = subst (IsSeen bs rules q) (sym (same_Some x _ a)) (only, (true, refl))
     where
-      some_same : {x y : Seen} → Some x ≡ Some y → x ≡ y
-      some_same {x} e = ap (λ (o : Option Seen). or_else o) e
-        where
-          or_else : Option Seen → Seen
-          or_else None = x
-          or_else (Some z) = z
-
-      alone : (k : Bool) → (t : Tree) × RunOf rules q t × (below_of bs t ≡ record { leaf = k; marks = ms })
-          → IsSeen bs rules q (record { leaf = k; cell = not k; marks = ms })
-      alone true t = (only, (true, refl))
-        where
-          only : (j : Bool) → has_kind j (record { leaf = true; cell = false; marks = ms }) ≡ true
-              → (t : Tree) × RunOf rules q t × (below_of bs t ≡ record { leaf = j; marks = ms })
-          only true e = t
-          only false e = absurd (true≢false (sym e))
-      alone false t = (only, (false, refl))
-        where
-          only : (j : Bool) → has_kind j (record { leaf = false; cell = true; marks = ms }) ≡ true
-              → (t : Tree) × RunOf rules q t × (below_of bs t ≡ record { leaf = j; marks = ms })
-          only true e = absurd (true≢false (sym e))
-          only false e = t
-  add_seen q (Some s) k ms x a w t = subst (IsSeen bs rules q) (sym a.1) (both k s.leaf s.cell refl refl t)
+      only : (j : Bool) → HasKinds q (record { leaf = true; cell = false; marks = ms }) j
+      only true e = t
+      only false e = absurd (true≢false (sym e))
+  add_seen q None false ms x a w t = subst (IsSeen bs rules q) (sym (same_Some x _ a)) (only, (false, refl))
     where
-      old : (j : Bool) → has_kind j s ≡ true → (t : Tree) × RunOf rules q t
-          × (below_of bs t ≡ record { leaf = j; marks = ms })
-      old j e = let u = (w s refl).0 j e in
-          (u.0, u.1, u.2 ∙ ap (λ (m : List RefMark). record { leaf = j; marks = m }) a.0)
-
-      both : (k b d : Bool) → s.leaf ≡ b → s.cell ≡ d
-          → (t : Tree) × RunOf rules q t × (below_of bs t ≡ record { leaf = k; marks = ms })
-          → IsSeen bs rules q (record { leaf = b || k; cell = d || not k; marks = ms })
-      both true b d e f t = (each b, (true, or_true b))
-        where
-          or_true : (b : Bool) → (b || true) ≡ true
-          or_true true = refl
-          or_true false = refl
-
-          each : (b : Bool) (j : Bool) → has_kind j (record { leaf = b || true; cell = d || false; marks = ms }) ≡ true
-              → (t : Tree) × RunOf rules q t × (below_of bs t ≡ record { leaf = j; marks = ms })
-          each b true h = t
-          each b false h = old false (f ∙ or_false d h)
-            where
-              or_false : (d : Bool) → (d || false) ≡ true → d ≡ true
-              or_false true h = refl
-              or_false false h = h
-      both false b d e f t = (each, (false, or_true d))
-        where
-          or_true : (b : Bool) → (b || true) ≡ true
-          or_true true = refl
-          or_true false = refl
-
-          each : (j : Bool) → has_kind j (record { leaf = b || false; cell = d || true; marks = ms }) ≡ true
-              → (t : Tree) × RunOf rules q t × (below_of bs t ≡ record { leaf = j; marks = ms })
-          each true h = old true (e ∙ or_false b h)
-            where
-              or_false : (d : Bool) → (d || false) ≡ true → d ≡ true
-              or_false true h = refl
-              or_false false h = h
-          each false h = t
+      only : (j : Bool) → HasKinds q (record { leaf = false; cell = true; marks = ms }) j
+      only true e = absurd (true≢false (sym e))
+      only false e = t
+  add_seen q (Some s) true ms x a w t =
+      subst (IsSeen bs rules q) (sym a.1) (both (moved q s ms a.0 (w s refl).0), (true, or_true s.leaf))
+    where
+      both : ((j : Bool) → has_kind j s ≡ true → (t : Tree) × RunOf rules q t
+          × (below_of bs t ≡ record { leaf = j; marks = ms })) → (j : Bool)
+          → HasKinds q (record { leaf = s.leaf || true; cell = s.cell || false; marks = ms }) j
+      both old true e = t
+      both old false e = old false (or_left s.cell e)
+  add_seen q (Some s) false ms x a w t =
+      subst (IsSeen bs rules q) (sym a.1) (both (moved q s ms a.0 (w s refl).0), (false, or_true s.cell))
+    where
+      both : ((j : Bool) → has_kind j s ≡ true → (t : Tree) × RunOf rules q t
+          × (below_of bs t ≡ record { leaf = j; marks = ms })) → (j : Bool)
+          → HasKinds q (record { leaf = s.leaf || false; cell = s.cell || true; marks = ms }) j
+      both old true e = old true (or_left s.leaf e)
+      both old false e = t
 
   -- what a rule adds
   module _ (r : Rule) (start now new : List (Option Seen)) where
@@ -230,7 +212,7 @@ module _ (bs : List BoxFace) (rules : List Rule) where
           (λ q s f. elim (entry_new now r.state (Some x) q s f) [
             | inl p ↦ (let y : IsSeen bs rules r.state x = add_seen r.state (entry now r.state) (is_leaf r.symbol)
                 (marks_at bs false now r) x a (λ z g. w r.state z g) (rule_seen now w false r i h) in
-                let g : x ≡ s = some_same p.1 in
+                let g : x ≡ s = same_Some x s p.1 in
                 subst (λ (z : Seen). IsSeen bs rules q z) g
                 (subst (λ (n : ℕ). IsSeen bs rules n x) (sym p.0) y))
             | inr o ↦ w q s o
@@ -242,17 +224,11 @@ module _ (bs : List BoxFace) (rules : List Rule) where
           omega (arith, g, m, d, l)),
     )
       where
-        below : (was : Bool) → MatchBool was (missing now < missing start) ((now ≡ start) × Every (IsTaken bs start) done)
+        below : (was : Bool)
+            → MatchBool was (missing now < missing start) ((now ≡ start) × Every (IsTaken bs start) done)
             → missing now ≤ missing start
         below true h = omega (arith, h)
         below false h = let e = ap missing h.0 in omega (arith, e)
-
-        some_same : {x y : Seen} → Some x ≡ Some y → x ≡ y
-        some_same {x} e = ap (λ (o : Option Seen). or_else o) e
-          where
-            or_else : Option Seen → Seen
-            or_else None = x
-            or_else (Some z) = z
 
     pub rule_keeps : (was : Bool) (done : List Rule)
         → MatchBool was (missing now < missing start) ((now ≡ start) × Every (IsTaken bs start) done)

@@ -29,8 +29,8 @@ sign_added table states done q old new i a h = here (entry table q) refl a
     })
     here (Some s) e (inl (j, f)) = subst (AreSignsIn table states (done ++ q ∷ [])) (sym f) (record {
       each = every_push (HasSign old) done q h.each
-          (λ k. subst (λ (ms : List RefMark). IsIn (sign ms) old) (sym (ap (λ (o : Option Seen). (said true o).marks) e))
-          j);
+          (λ k. subst (λ (ms : List RefMark). IsIn (sign ms) old)
+          (sym (ap (λ (o : Option Seen). (said true o).marks) e)) j);
       some = h.some;
       apart = h.apart;
     })

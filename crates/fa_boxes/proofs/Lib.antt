@@ -3,3 +3,4 @@ pub mod AllSeen
 pub mod AllSigns
 pub mod Alike
 pub mod TopRules
+mod Rows

@@ -29,9 +29,10 @@ use fore_base::memory::Mem;
 use std::alloc::Global;
 use ta_core::auto::{Auto, Rule};
 
-/// The fields that the port covers by its own slots and is given by box edges of the inside, in rising order, where they
-/// are the same for each choice of trees. None where two choices differ. `lists` has the signatures of the components,
-/// of which all trees of a state have one, each tree has a cell at its top, and no choice gives the port a field twice.
+/// The fields that the port covers by its own slots and is given by box edges of the inside, in rising order, where
+/// they are the same for each choice of trees. None where two choices differ. `lists` has the signatures of the
+/// components, of which all trees of a state have one; each tree has a cell at its top, and no choice gives the port a
+/// field twice.
 ///
 /// # Errors
 ///
@@ -101,7 +102,8 @@ fn fields_at(
 ) -> Mem<Option<List<u32>>>
     requires there { place < length lists.now }
     requires trim { IsTrim auto.now }
-    requires signs { (list : List Signature) → slice_get lists.now place ≡ Some list → AreSignsOf boxes.now auto.now list }
+    requires signs { (list : List Signature) → slice_get lists.now place ≡ Some list
+        → AreSignsOf boxes.now auto.now list }
     requires uniform { HaveSignatures boxes.now auto.now }
     ensures { IfOk result
         (λ found. MatchOption found (PartsApart boxes.now port place auto.now)
