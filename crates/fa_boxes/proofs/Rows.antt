@@ -1,23 +1,19 @@
 -- Worked components: what is known of their states, and which of them a box may not have.
-use Rattle.std.proofs.Common.{◌≡◌, ◌≢◌, inl, inr, ℕ, suc, true, false, List, [], ◌∷◌, length, Option, Some, None, refl, sym}
+use Rattle.std.proofs.Common.{◌≡◌, inl, inr, ℕ, true, false, List, [], ◌∷◌, length, Option, Some, None, refl, sym}
 use Rattle.std.proofs.Common.{ap, ◌∙◌, arith}
-use Rattle.fore_base.specs.Lists.{IsIn, Every}
+use Rattle.fore_base.specs.Lists.{Every}
 use Rattle.ta_core.specs.Auto.{Automaton}
-use Rattle.ta_core.specs.Language.{InLanguage, RunOf, at_top}
+use Rattle.ta_core.specs.Language.{InLanguage, at_top}
 use Rattle.ta_core.specs.declared.auto.Rule.{Rule}
 use Rattle.ta_core.specs.declared.symbol.Slot.TheVariants.{Field, Link}
 use Rattle.ta_core.specs.declared.symbol.Symbol.TheVariants.{Null, Ref, Cell}
-use Rattle.ta_core.specs.declared.tree.Tree.{Tree}
-use Rattle.fa_core.specs.declared.boxes.BoxDef.{BoxDef}
 use Rattle.fa_core.specs.declared.forest.Target.TheVariants.{At}
 use Rattle.fa_core.specs.declared.signature.RefMark.{RefMark}
 use Rattle.fa_core.specs.Boxes.{CoverSome}
 use Rattle.fa_core.specs.Choices.{bares}
 use Rattle.fa_core.specs.Dressed.{Node, Nodes, node, no_parts, field, leaf, no_nodes, more}
-use Rattle.fa_core.specs.Filled.{Choice}
 use Rattle.fa_core.specs.Member.{bare, bare_end}
-use Rattle.fa_core.specs.Rearranged.{Rearranged, chain}
-use Rattle.fa_core.specs.Ways.{signature}
+use Rattle.fa_core.specs.Rearranged.{chain}
 use Rattle.fa_core.proofs.CellMarks.{tree_signature}
 use Rattle.fa_core.proofs.Dressing.{cell_top, leaf_top}
 use Rattle.fa_core.proofs.GivenTips.{given_tips}
@@ -105,8 +101,7 @@ next_runs = (
 prev_apart : CoverApart [] two_ways
 prev_apart =
     let a = cell_top 1 0 [] (field 0 (leaf (At 0)) (field 1 (leaf (At 0)) no_parts)) in
-    let b = cell_top 1 0 [] (field 0 (leaf (At 0)) no_parts) in
-    (
+    let b = cell_top 1 0 [] (field 0 (leaf (At 0)) no_parts) in (
       1,
       bare both_node,
       bare (port_node 1 0 0),
@@ -126,8 +121,7 @@ next_nodes = more (port_node 0 0 1) (more (port_node 1 0 0) no_nodes)
 fields_apart : GivesApart [] (port 0 1 ∷ two_ways ∷ []) 1
 fields_apart =
     let a = cell_top 1 0 [] (field 0 (leaf (At 0)) (field 1 (leaf (At 0)) no_parts)) in
-    let b = cell_top 1 0 [] (field 0 (leaf (At 0)) no_parts) in
-    (
+    let b = cell_top 1 0 [] (field 0 (leaf (At 0)) no_parts) in (
       bares both_nodes,
       bares next_nodes,
       (port_runs 0 0 1, (both_runs, tt)),
@@ -141,7 +135,7 @@ fields_apart =
 abbrev either : Automaton
 either = record { states = 1; roots = 0 ∷ []; rules = rule 0 (Ref 0) [] ∷ rule 0 (Ref 1) [] ∷ [] }
 
-first_root : List RefMark → ℕ
+abbrev first_root : List RefMark → ℕ
 first_root [] = 2
 first_root (m ∷ ms) = m.root
 
@@ -150,8 +144,7 @@ either_apart =
     let t = bare_end (leaf (At 0)) in
     let u = bare_end (leaf (At 1)) in
     let r = end_bare either.rules 0 (leaf (At 0)) (rule 0 (Ref 0) [], inl refl, refl, refl, refl) in
-    let s = end_bare either.rules 0 (leaf (At 1)) (rule 0 (Ref 1) [], inr (inl refl), refl, refl, refl) in
-    (
+    let s = end_bare either.rules 0 (leaf (At 1)) (rule 0 (Ref 1) [], inr (inl refl), refl, refl, refl) in (
       0,
       t,
       u,
@@ -171,9 +164,13 @@ abbrev to_one : List RefMark
 to_one = record { root = 1; many = false; provided = []; back = false; reach = [] } ∷ []
 
 -- a state with a leaf and a cell, with a leaf alone, with a cell alone
-abbrev mixed leaf_alone cell_alone : Seen
+abbrev mixed : Seen
 mixed = record { leaf = true; cell = true; marks = to_one }
+
+abbrev leaf_alone : Seen
 leaf_alone = record { leaf = true; cell = false; marks = to_one }
+
+abbrev cell_alone : Seen
 cell_alone = record { leaf = false; cell = true; marks = to_one }
 
 few_leaves : said false (Some mixed) ≡ record { leaf = false; marks = to_one }
