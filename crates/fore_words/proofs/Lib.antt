@@ -1,0 +1,5 @@
+pub mod Found
+pub mod Numbers
+pub mod OneThing
+pub mod Ranges
+mod Rows

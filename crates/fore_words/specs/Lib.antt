@@ -1,0 +1,4 @@
+pub mod CommandLine
+pub mod Usage
+pub mod Values
+pub mod Words
