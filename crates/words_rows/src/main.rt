@@ -1,0 +1,14 @@
+//! Rows of words: the files of rows that the words name are read, and each row is answered by a line.
+//!
+//! `kinds` says what a row asks.
+#![tactic(auto)]
+
+mod kinds;
+
+use anyhow::Result;
+use kinds::Kinds;
+use row_kit::answer_files;
+
+fn main(rt: HostRuntime) -> Result<()> {
+    answer_files(&rt, &Kinds)
+}
