@@ -1,12 +1,13 @@
 -- A forest that is cut: its parts are sound, regroup it, and lose none of its stores.
-use Rattle.std.proofs.Common.{◌≡◌, true, true≢false, List, [], ◌∷◌, ◌++◌, map, length, refl, sym, ap, ap₂, subst, ◌∙◌}
+use Rattle.std.proofs.Common.{◌≡◌, inl, inr, true, true≢false, List, [], ◌∷◌, ◌++◌, map, length, refl, sym, ap, ap₂}
+use Rattle.std.proofs.Common.{subst, ◌∙◌}
 use Rattle.std.proofs.lemmas.List.{map-append}
 use Rattle.fore_base.specs.Lists.{IsIn, Every, Paired}
 use Rattle.fore_base.specs.declared.store.Datum.{Datum}
 use Rattle.fore_base.proofs.ListLemmas.{in_map, every_in, in_every, every_weaker, every_map, every_mapped, partner_of}
 use Rattle.fore_base.proofs.ListLemmas.{partner_for}
 use Rattle.ta_core.specs.Auto.{Automaton}
-use Rattle.ta_core.specs.Language.{IsBarren}
+use Rattle.ta_core.specs.Language.{InLanguage, IsBarren}
 use Rattle.ta_core.specs.declared.auto.Rule.{Rule}
 use Rattle.ta_core.specs.declared.symbol.Symbol.{Symbol}
 use Rattle.ta_core.specs.declared.symbol.Symbol.TheVariants.{Null, Uninit, Dangling, Ref, Cell}
@@ -51,6 +52,13 @@ trees_by T [] ys (more n ns) h c = absurd h
 trees_by T (a ∷ xs) ys no_nodes h c = absurd h
 trees_by T (a ∷ xs) [] (more n ns) h c = absurd c
 trees_by T (a ∷ xs) (b ∷ ys) (more n ns) h c = (c.0, h.1, trees_by T xs ys ns h.2 c.1)
+
+-- a choice has a tree of each component
+chosen_for : (autos : List Automaton) (ts : List Tree) (a : Automaton) → Choice autos ts → IsIn a autos → HasSome a
+chosen_for [] ts a c i = absurd i
+chosen_for (b ∷ autos) [] a c i = absurd c
+chosen_for (b ∷ autos) (t ∷ ts) a c (inl e) = (t, subst (λ (x : Automaton). InLanguage x t) (sym e) c.0)
+chosen_for (b ∷ autos) (t ∷ ts) a c (inr i) = chosen_for autos ts a c.1 i
 
 module _ (fs : List BoxFace) where
   -- a choice of trees from pieces is one from what they are pieces of
@@ -107,6 +115,14 @@ module _ (fs : List BoxFace) where
     cut_empty (s ∷ list) a h i e =
         let w = partner_for (IsPiece fs) F.autos s.forest.autos a h.each.0.autos i in
         absurd (e w.2.1.some.0 ((w.2.1.trees w.2.1.some.0).0 w.2.1.some.1).0)
+
+    -- and none is needed
+    pub none_cut : (a : Automaton) → IsIn a F.autos → IsBarren a → AreCutForests fs F []
+    none_cut a i e = record {
+      each = tt;
+      whole = λ ts c. absurd (e (chosen_for F.autos ts a c i).0 (chosen_for F.autos ts a c i).1);
+      apart = tt;
+    }
 
     -- the same of a list of sound forests
     pub regroups_all : (list : List SoundForest) → AreCutForests fs F (forests list)
@@ -191,11 +207,6 @@ carried P Q R f xs ys p h =
     in_every Q ys (λ y i. let w = partner_of R xs ys y p i in f w.0 y w.2 (every_in P xs w.0 h w.1))
 
 module _ (face : Face) (F G : Forest) (h : IsCutForest face.boxes F G) where
-  -- no rule of a part has a box edge where none of the forest has
-  pub part_plain : Every HasNoBoxes F.autos → Every HasNoBoxes G.autos
-  part_plain plain = carried HasNoBoxes HasNoBoxes (IsPiece face.boxes) (λ a b w p. piece_plain a b p w.1.symbols)
-      F.autos G.autos h.autos plain
-
   rules_fit : Every (RulesFit face) F.autos → Every (RulesFit face) G.autos
   rules_fit fits = carried (RulesFit face) (RulesFit face) (IsPiece face.boxes) (λ a b w fit.
       every_weaker (λ (r : Rule). (o : Rule) × IsIn o a.rules × (o.symbol ≡ r.symbol))
@@ -265,9 +276,6 @@ product_fills face F pieces h sounds =
 module _ (face : Face) (F : Forest) (autos : List Automaton) (p : Paired (IsPiece face.boxes) F.autos autos) where
   cut_with : IsCutForest face.boxes F (with_autos F autos)
   cut_with = record { autos = p; vars = refl; data_vars = refl }
-
-  pub pieces_plain : Every HasNoBoxes F.autos → Every HasNoBoxes autos
-  pieces_plain plain = part_plain face F (with_autos F autos) cut_with plain
 
   pub pieces_sound : IsFilled face F → IsSound face (with_autos F autos)
   pieces_sound filled = part_sound face F (with_autos F autos) cut_with filled

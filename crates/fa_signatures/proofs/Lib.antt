@@ -1,7 +1,10 @@
 pub mod CutLaws
 pub mod PairRules
+pub mod PairRuns
 pub mod PieceLists
 pub mod PieceTrees
 pub mod ProductItems
+pub mod SeenMarks
 pub mod SoundCuts
+pub mod TrimmedCuts
 pub mod Rows

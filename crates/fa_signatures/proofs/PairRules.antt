@@ -12,8 +12,9 @@ use Rattle.ta_core.specs.Auto.{IsRankedRule}
 use Rattle.ta_core.specs.declared.auto.Rule.{Rule}
 use Rattle.fa_core.specs.declared.faces.BoxFace.{BoxFace}
 use Rattle.fa_core.specs.declared.signature.RefMark.{RefMark}
+use Rattle.fa_core.specs.declared.signature.Below.{Below}
 use Rattle.fa_core.specs.Ways.{has}
-use Rattle.fa_signatures.specs.inner.CutPairs.{Pair, IsPairOf, ArePlacesOf, marks_over, IsPairRule, ArePairRules}
+use Rattle.fa_signatures.specs.inner.CutPairs.{Pair, IsPairOf, ArePlacesOf, seen_over, IsPairRule, ArePairRules}
 use Rattle.fa_signatures.specs.inner.CutPairs.{IsRootPair, AreRootMarks, GrowsOr, StandsOver, AddsRule, AddsEach}
 use Rattle.fa_signatures.specs.inner.CutPairs.{AddsRules}
 use Rattle.fa_signatures.specs.inner.CutProducts.{product}
@@ -71,40 +72,40 @@ module _ (pairs : List Pair) where
   places_within (k ∷ ks) [] h = absurd h
   places_within (k ∷ ks) (q ∷ qs) h = (slice_get_within pairs k (q, h.0.0) h.0.1, places_within ks qs h.1)
 
-  module _ (bs : List BoxFace) where
+  module _ (bs : List BoxFace) (told : List ℕ) where
     -- over the places that were chosen, the rule o stands for r
-    stands_rule : (r o : Rule) (ks : List ℕ) → Paired (IsPairOf pairs) ks r.children → StandsOver bs pairs r ks o
-        → IsPairRule bs pairs o r
+    stands_rule : (r o : Rule) (ks : List ℕ) → Paired (IsPairOf pairs) ks r.children → StandsOver bs told pairs r ks o
+        → IsPairRule bs told pairs o r
     stands_rule r o ks h s = (
       s.0,
       subst (λ (v : List ℕ). Paired (IsPairOf pairs) v r.children) (sym s.1) h,
       s.2
-          ∙ ap (λ (v : List ℕ). Some (r.state, marks_over bs pairs r v)) (sym s.1),
+          ∙ ap (λ (v : List ℕ). Some (r.state, seen_over bs told pairs r v)) (sym s.1),
     )
 
     -- one rule for each choice is all that was wanted
     pub adds_rules : (r : Rule) (options : List (List ℕ)) (old new : List Rule)
-        → Paired (ArePlacesOf pairs) options r.children → AddsEach bs pairs r (product options) old new
-        → AddsRules bs pairs r old new
+        → Paired (ArePlacesOf pairs) options r.children → AddsEach bs told pairs r (product options) old new
+        → AddsRules bs told pairs r old new
     adds_rules r options old new h a = record {
       more = a.0;
       is = a.1;
-      from = in_every (λ (o : Rule). IsPairRule bs pairs o r) a.0 (λ o i.
-          let p = partner_of (StandsOver bs pairs r) (product options) a.0 o a.2 i in
+      from = in_every (λ (o : Rule). IsPairRule bs told pairs o r) a.0 (λ o i.
+          let p = partner_of (StandsOver bs told pairs r) (product options) a.0 o a.2 i in
           stands_rule r o p.0 (pairs_chosen p.0 options r.children h (product_in p.0 options p.1)) p.2);
       all = λ ks c.
-          let p = partner_for (StandsOver bs pairs r) (product options) a.0 ks a.2
+          let p = partner_for (StandsOver bs told pairs r) (product options) a.0 ks a.2
           (in_product ks options (chosen_pairs ks options r.children h c)) in
           (p.0, p.1, p.2.1, stands_rule r p.0 ks c p.2);
     }
 
     -- the rules over pairs with those of one more rule
-    pub rules_push : (rs : List Rule) (r : Rule) (old new : List Rule) → ArePairRules bs pairs rs old
-        → AddsRules bs pairs r old new → ArePairRules bs pairs (rs ++ r ∷ []) new
+    pub rules_push : (rs : List Rule) (r : Rule) (old new : List Rule) → ArePairRules bs told pairs rs old
+        → AddsRules bs told pairs r old new → ArePairRules bs told pairs (rs ++ r ∷ []) new
     rules_push rs r old new h a = record {
       from = λ o i. elim (in_append o old a.more (subst (λ (v : List Rule). IsIn o v) a.is i)) [
         | inl j ↦ (let f = h.from o j in (f.0, in_left f.0 rs (r ∷ []) f.1, f.2))
-        | inr j ↦ (r, in_last r rs, every_in (λ (x : Rule). IsPairRule bs pairs x r) a.more o a.from j)
+        | inr j ↦ (r, in_last r rs, every_in (λ (x : Rule). IsPairRule bs told pairs x r) a.more o a.from j)
       ];
       all = λ x ks i c. elim (in_push r x rs i) [
         | inl j ↦ (let f = h.all x ks j c in
@@ -114,30 +115,30 @@ module _ (pairs : List Pair) where
               f.0,
               subst (λ (v : List Rule). IsIn f.0 v) (sym a.is) (in_right f.0 old a.more f.1),
               f.2,
-              subst (λ (v : Rule). IsPairRule bs pairs f.0 v) (sym e) f.3,
+              subst (λ (v : Rule). IsPairRule bs told pairs f.0 v) (sym e) f.3,
             ))
       ];
     }
 
     -- the rules over pairs have states in range, and as many children as their symbols
-    pub over_ranked : (n : ℕ) (rs over : List Rule) → ArePairRules bs pairs rs over → Every (IsRankedRule n) rs
+    pub over_ranked : (n : ℕ) (rs over : List Rule) → ArePairRules bs told pairs rs over → Every (IsRankedRule n) rs
         → Every (IsRankedRule (length pairs)) over
     over_ranked n rs over h k = in_every (IsRankedRule (length pairs)) over (λ o i.
         let f = h.from o i in
         let g = every_in (IsRankedRule n) rs f.0 k f.1 in (
-          slice_get_within pairs o.state (f.0.state, marks_over bs pairs f.0 o.children) f.2.2,
+          slice_get_within pairs o.state (f.0.state, seen_over bs told pairs f.0 o.children) f.2.2,
           places_within o.children f.0.children f.2.1,
           paired_long (IsPairOf pairs) o.children f.0.children f.2.1 ∙ g.2 ∙ ap arity (sym f.2.0),
         ))
 
     -- one more choice, with its rule
     pub each_push : (r : Rule) (done : List (List ℕ)) (ks : List ℕ) (old mid new : List Rule)
-        → AddsEach bs pairs r done old mid → AddsRule bs pairs r ks mid new
-        → AddsEach bs pairs r (done ++ ks ∷ []) old new
+        → AddsEach bs told pairs r done old mid → AddsRule bs told pairs r ks mid new
+        → AddsEach bs told pairs r (done ++ ks ∷ []) old new
     each_push r done ks old mid new a b = (
       a.0 ++ b.0 ∷ [],
       b.2 ∙ ap (λ (v : List Rule). v ++ b.0 ∷ []) a.1 ∙ append_assoc old a.0 (b.0 ∷ []),
-      paired_push (StandsOver bs pairs r) done a.0 ks b.0 a.2 b.1,
+      paired_push (StandsOver bs told pairs r) done a.0 ks b.0 a.2 b.1,
     )
 
 -- Places
@@ -176,7 +177,7 @@ places_all P places n l h k = (λ i. ((h k).0 i).1, λ p. (h k).1 (l k p, p))
 -- a root state's pair is in the list
 pub root_low : (pairs : List Pair) (roots : List ℕ) (marks : List RefMark) (k : ℕ) → IsRootPair pairs roots marks k
     → k < length pairs
-root_low pairs roots marks k w = slice_get_within pairs k (w.0, marks) w.2
+root_low pairs roots marks k w = slice_get_within pairs k (w.0, w.1) w.3
 
 pub roots_low : (pairs : List Pair) (roots : List ℕ) (marks : List RefMark) (places : List ℕ)
     → ((k : ℕ) → IsIn k places ↔ IsRootPair pairs roots marks k) → Every (λ (k : ℕ). k < length pairs) places
@@ -199,31 +200,32 @@ in_has n (m ∷ ns) (inr i) = or_right (eqb n m) (has n ns) (in_has n ns i)
 
 module _ (done : List Pair) (roots : List ℕ) (all : List (List RefMark)) (h : AreRootMarks done roots all) (x : Pair)
   where
-    still_there : (m : List RefMark) → IsIn m all → (q : ℕ) × IsIn q roots × IsIn (q, m) (done ++ x ∷ [])
-    still_there m i = let w = (h m).0 i in (w.0, w.1, in_left (w.0, m) done (x ∷ []) w.2)
+    still_there : (m : List RefMark) → IsIn m all → (q : ℕ) × (y : Below) × IsIn q roots × IsIn (q, y) (done ++ x ∷ [])
+        × (y.marks ≡ m)
+    still_there m i = let w = (h m).0 i in (w.0, w.1, w.2, in_left (w.0, w.1) done (x ∷ []) w.3, w.4)
 
     -- one more pair, with its signature
-    pub marks_push : IsIn x.0 roots → AreRootMarks (done ++ x ∷ []) roots (all ++ x.1 ∷ [])
+    pub marks_push : IsIn x.0 roots → AreRootMarks (done ++ x ∷ []) roots (all ++ x.1.marks ∷ [])
     marks_push r m = (
-      λ i. elim (in_push x.1 m all i) [
+      λ i. elim (in_push x.1.marks m all i) [
         | inl j ↦ still_there m j
-        | inr e ↦ (x.0, r, subst (λ (s : List RefMark). IsIn (x.0, s) (done ++ x ∷ [])) (sym e) (in_last x done))
+        | inr e ↦ (x.0, x.1, r, in_last x done, sym e)
       ],
-      λ w. elim (in_push x (w.0, m) done w.2) [
-        | inl j ↦ in_left m all (x.1 ∷ []) ((h m).1 (w.0, w.1, j))
-        | inr e ↦ subst (λ (s : List RefMark). IsIn s (all ++ x.1 ∷ [])) (sym (ap (λ (p : Pair). p.1) e))
-            (in_last x.1 all)
+      λ w. elim (in_push x (w.0, w.1) done w.3) [
+        | inl j ↦ in_left m all (x.1.marks ∷ []) ((h m).1 (w.0, w.1, w.2, j, w.4))
+        | inr e ↦ subst (λ (s : List RefMark). IsIn s (all ++ x.1.marks ∷ []))
+            (sym (ap (λ (p : Pair). p.1.marks) e) ∙ w.4) (in_last x.1.marks all)
       ],
     )
 
     -- one more pair, whose signature is there if its state is a root state
-    pub marks_skip : (IsIn x.0 roots → IsIn x.1 all) → AreRootMarks (done ++ x ∷ []) roots all
+    pub marks_skip : (IsIn x.0 roots → IsIn x.1.marks all) → AreRootMarks (done ++ x ∷ []) roots all
     marks_skip f m = (
       λ i. still_there m i,
-      λ w. elim (in_push x (w.0, m) done w.2) [
-        | inl j ↦ (h m).1 (w.0, w.1, j)
-        | inr e ↦ subst (λ (s : List RefMark). IsIn s all) (sym (ap (λ (p : Pair). p.1) e))
-            (f (subst (λ (q : ℕ). IsIn q roots) (ap (λ (p : Pair). p.0) e) w.1))
+      λ w. elim (in_push x (w.0, w.1) done w.3) [
+        | inl j ↦ (h m).1 (w.0, w.1, w.2, j, w.4)
+        | inr e ↦ subst (λ (s : List RefMark). IsIn s all) (sym (ap (λ (p : Pair). p.1.marks) e) ∙ w.4)
+            (f (subst (λ (q : ℕ). IsIn q roots) (ap (λ (p : Pair). p.0) e) w.2))
       ],
     )
 

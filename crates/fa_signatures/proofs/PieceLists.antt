@@ -79,7 +79,8 @@ pub all_trim : (bs : List BoxFace) (a : Automaton) (all : List (List RefMark)) (
     → AreCutBy bs a all pieces → Every IsTrim pieces
 all_trim bs a all pieces h = every_weaker (IsDone bs a all) IsTrim pieces (λ b w. w.3) h.each
 
-pub all_plain : (bs : List BoxFace) (a : Automaton) (all : List (List RefMark)) (pieces : List Automaton) → HasNoBoxes a
-    → AreCutBy bs a all pieces → Every HasNoBoxes pieces
-all_plain bs a all pieces plain h =
-    every_weaker (IsDone bs a all) HasNoBoxes pieces (λ b w. piece_plain a b plain w.2.symbols) h.each
+-- no rule of the pieces has a box edge where none of the automaton has
+pub all_plain : (bs : List BoxFace) (a : Automaton) (pieces : List Automaton) → HasNoBoxes a → AreCut bs a pieces
+    → Every HasNoBoxes pieces
+all_plain bs a pieces plain h =
+    every_weaker (IsPiece bs a) HasNoBoxes pieces (λ b w. piece_plain a b plain w.1.symbols) h.each

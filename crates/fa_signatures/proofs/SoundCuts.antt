@@ -1,5 +1,5 @@
 -- A sound forest is its own only part.
-use Rattle.std.proofs.Common.{◌≡◌, inl, List, [], ◌∷◌, get_or, refl, sym, subst, arith}
+use Rattle.std.proofs.Common.{◌≡◌, inl, false, List, [], ◌∷◌, get_or, refl, sym, ap, subst, arith}
 use Rattle.std.proofs.lemmas.Option.{slice_get-get_or}
 use Rattle.fore_base.specs.Lists.{IsIn, Every, Paired}
 use Rattle.fore_base.proofs.ListLemmas.{in_every}
@@ -8,6 +8,8 @@ use Rattle.ta_core.specs.declared.auto.Rule.{Rule}
 use Rattle.fa_core.specs.declared.faces.BoxFace.{BoxFace}
 use Rattle.fa_core.specs.declared.faces.Face.{Face}
 use Rattle.fa_core.specs.declared.forest.Forest.{Forest}
+use Rattle.fa_core.specs.declared.signature.Below.{Below}
+use Rattle.fa_core.specs.declared.signature.RefMark.{RefMark}
 use Rattle.fa_core.specs.declared.signature.Signature.{Signature}
 use Rattle.fa_core.specs.Filled.{HasSignatures, HasSome}
 use Rattle.fa_core.specs.Ways.{signature}
@@ -36,7 +38,21 @@ own_piece bs a list h s k = (
     own_states q l =
         let none : Signature = record { refs = [] } in
         let e = slice_get-get_or list q none (omega (arith, l, k.long)) in
-        (q, (get_or list q none).refs, l, λ t. (λ r. (r, sym (k.each q (get_or list q none) t e r)), λ w. w.0))
+        let x : Below = record { leaf = false; marks = (get_or list q none).refs } in (
+          q,
+          false,
+          x,
+          l,
+          λ _. refl,
+          λ t. (
+            λ r. (
+              r,
+              ap (λ (m : List RefMark). record { leaf = false; marks = m })
+                  (sym (k.each q (get_or list q none) t e r)),
+            ),
+            λ w. w.0,
+          ),
+        )
 
 own_pieces : (bs : List BoxFace) (autos : List Automaton) (all : List (List Signature)) → Every (HasSignatures bs) autos
     → Every HasSome autos → Paired (AreSignatures bs) autos all → Paired (IsPiece bs) autos autos

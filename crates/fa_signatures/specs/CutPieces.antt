@@ -1,23 +1,30 @@
 -- An automaton cut into pieces by the signatures of its trees.
-use Rattle.std.specs.Prelude.{◌≡◌, ◌↔◌, ℕ, ◌<◌, List, [], ◌∷◌}
+use Rattle.std.specs.Prelude.{◌≡◌, ◌↔◌, ℕ, ◌<◌, Bool, false, ◌&&◌, List, [], ◌∷◌}
 use Rattle.fore_base.specs.Lists.{IsIn, Every}
 use Rattle.ta_core.specs.Auto.{Automaton}
 use Rattle.ta_core.specs.Language.{InLanguage, RunOf}
 use Rattle.ta_core.specs.declared.auto.Rule.{Rule}
-use Rattle.ta_core.specs.declared.tree.Tree.{Tree}
+use Rattle.ta_core.specs.declared.tree.Tree.{Tree, out-Tree}
 use Rattle.fa_core.specs.declared.faces.BoxFace.{BoxFace}
+use Rattle.fa_core.specs.declared.signature.Below.{Below}
 use Rattle.fa_core.specs.declared.signature.RefMark.{RefMark}
+use Rattle.fa_core.specs.Boxless.{HasNoBoxes}
+use Rattle.fa_core.specs.Cells.{is_leaf}
 use Rattle.fa_core.specs.Filled.{HasSignatures, HasSome}
 use Rattle.fa_core.specs.Ways.{signature}
 
--- the trees with a run to state p of b are those with a run to state q of a that have this signature
-abbrev pub CutsState : List BoxFace → Automaton → ℕ → List RefMark → Automaton → ℕ → Type 0
-CutsState bs a q marks b p = (t : Tree) → RunOf b.rules p t ↔ (RunOf a.rules q t × (signature bs t ≡ marks))
+-- what is seen of a tree from above: its signature, and, where leaves are told from cells, whether it is a leaf
+abbrev pub seen : List BoxFace → Bool → Tree → Below
+seen bs told t = record { leaf = told && is_leaf (out-Tree t).symbol; marks = signature bs t }
 
--- so it is for each state of b, with some state of a and some signature
+-- the trees with a run to state p of b are those with a run to state q of a of which this is seen
+abbrev pub CutsState : List BoxFace → Automaton → ℕ → Bool → Below → Automaton → ℕ → Type 0
+CutsState bs a q told x b p = (t : Tree) → RunOf b.rules p t ↔ (RunOf a.rules q t × (seen bs told t ≡ x))
+
+-- so it is for each state of b, with some state of a; without box edges leaves are not told from cells
 abbrev pub CutsStates : List BoxFace → Automaton → Automaton → Type 0
-CutsStates bs a b = (p : ℕ) → p < b.states → (q : ℕ) × (marks : List RefMark) × (q < a.states)
-    × CutsState bs a q marks b p
+CutsStates bs a b = (p : ℕ) → p < b.states → (q : ℕ) × (told : Bool) × (x : Below) × (q < a.states)
+    × (HasNoBoxes a → told ≡ false) × CutsState bs a q told x b p
 
 -- each rule of b has the symbol of one of a
 abbrev pub KeepsSymbols : Automaton → Automaton → Type 0

@@ -1,2 +1,3 @@
 pub mod CutPairs
 pub mod CutProducts
+pub mod Telling

@@ -21,13 +21,23 @@ use ta_core::inhabited::is_empty;
 use ta_core::trimming::trim;
 
 /// The automaton cut by the signatures of its trees: for each of these a piece, which accepts the trees that have it.
-/// Each state of a piece takes part in an accepted tree. So far only for automata without box edges. Err is want of
-/// memory, also where numbers of states do not fit 32 bits.
+/// Each state of a piece takes part in an accepted tree. Err is want of memory, also where numbers of states do not fit
+/// 32 bits, or box edges give a root more than 1,024 fields.
 pub fn cut_auto(alloc: Global, boxes: &[BoxFace], whole: &Auto) -> Mem<List<Auto>>
-    requires { HasNoBoxes whole.now }
     ensures cut { IfOk result (AreCut boxes.now whole.now) }
     ensures trim { IfOk result (Every IsTrim) }
-    ensures plain { IfOk result (Every HasNoBoxes) }
+    ensures plain { HasNoBoxes whole.now → IfOk result (Every HasNoBoxes) }
+{
+    whole.known();
+    let part = trim(alloc, whole)?;
+    cut_trim(alloc, boxes, &part)
+}
+
+/// So for an automaton whose states all take part. Others are left out before: no condition on a forest speaks of their
+/// trees, which may have signatures without end.
+fn cut_trim(alloc: Global, boxes: &[BoxFace], whole: &Auto) -> Mem<List<Auto>>
+    ensures cut { IfOk result (AreCut boxes.now whole.now) }
+    ensures trim { IfOk result (Every IsTrim) }
 {
     let found = pair_up(alloc, boxes, whole.rules.as_slice())?;
     let all = root_marks(alloc, found.pairs.as_slice(), whole.roots.as_slice())?;
@@ -36,7 +46,6 @@ pub fn cut_auto(alloc: Global, boxes: &[BoxFace], whole: &Auto) -> Mem<List<Auto
 
 /// The pieces of these signatures.
 fn pieces(alloc: Global, whole: &Auto, found: &Found, all: &[List<RefMark>]) -> Mem<List<Auto>>
-    requires plain { HasNoBoxes whole.now }
     requires found { AreInRange found.now }
     requires apart { IsDistinct all.now }
     ensures { IfOk result (λ pieces. WhereFound whole.now found.now (λ bs. AreCutBy bs whole.now all.now pieces)) }
@@ -52,7 +61,6 @@ fn pieces(alloc: Global, whole: &Auto, found: &Found, all: &[List<RefMark>]) -> 
 
 /// The piece of the trees with this signature. None where there is no such tree.
 fn piece(alloc: Global, whole: &Auto, found: &Found, marks: &[RefMark]) -> Mem<Option<Auto>>
-    requires plain { HasNoBoxes whole.now }
     requires found { AreInRange found.now }
     ensures { IfOk result (λ made. WhereFound whole.now found.now (λ bs. IsPieceIn bs whole.now marks.now made)) }
 {
@@ -86,7 +94,7 @@ fn places_with(alloc: Global, pairs: &[Pair], roots: &[u32], marks: &[RefMark]) 
 {
     let mut places = List::new(alloc);
     for (place, pair) in pairs.iter().enumerate() {
-        if has(pair.0, roots) && are_same(pair.1.as_slice(), marks) {
+        if has(pair.0, roots) && are_same(pair.1.marks.as_slice(), marks) {
             let number = number_of(place)?;
             places.push(number)?;
         }
@@ -101,8 +109,8 @@ fn root_marks(alloc: Global, pairs: &[Pair], roots: &[u32]) -> Mem<List<List<Ref
 {
     let mut all = List::new(alloc);
     for pair in pairs {
-        if has(pair.0, roots) && !are_among(pair.1.as_slice(), all.as_slice()) {
-            let marks = pair.1.copy(alloc)?;
+        if has(pair.0, roots) && !are_among(pair.1.marks.as_slice(), all.as_slice()) {
+            let marks = pair.1.marks.copy(alloc)?;
             all.push(marks)?;
         }
     }

@@ -2,7 +2,6 @@
 
 ghost use Rattle.std.specs.Prelude.{IsTrue, IfOk};
 ghost use Rattle.fore_base.specs.Lists.{Every};
-ghost use Rattle.fa_core.specs.Boxless.{HasNoBoxes};
 ghost use Rattle.fa_core.specs.Filled.{IsFilled, IsSound, RulesFit, SymbolFits};
 ghost use Rattle.fa_core.specs.declared.faces.Face.{Face};
 ghost use Rattle.fa_signatures.specs.inner.CutProducts.{with_autos};
@@ -12,7 +11,7 @@ use crate::products::product;
 use fa_core::cells::is_leaf;
 use fa_core::faces::Face;
 use fa_core::forest::Forest;
-use fa_sound::{Sound, have_no_boxes};
+use fa_sound::Sound;
 use fore_base::list::List;
 use fore_base::memory::Mem;
 use std::alloc::Global;
@@ -23,7 +22,6 @@ use ta_core::symbol::Symbol;
 /// each of its symbols is a leaf or this one, which fits, and each choice of pieces gives a sound forest. False says
 /// nothing. It is no part of cutting: it tells whether `split_signatures` may be asked. Err is want of memory.
 pub fn is_filled(alloc: Global, forest: &Forest, face: &Face, cell: &Symbol) -> Mem<bool>
-    requires plain { Every HasNoBoxes forest.now.autos }
     requires cell { SymbolFits face.now cell.now }
     ensures { IfOk result (λ yes. IsTrue yes → IsFilled face.now forest.now) }
 {
@@ -78,9 +76,8 @@ fn is_sound(alloc: Global, forest: &Forest, face: &Face, autos: &List<Auto>) -> 
     ensures { IfOk result (λ yes. IsTrue yes → IsSound face.now (with_autos forest.now autos.now)) }
 {
     let made = forest_with(alloc, forest, autos)?;
-    if !have_no_boxes(made.autos.as_slice()) {
-        return Ok(false);
+    match Sound::make(alloc, &made, face)? {
+        Some(_) => Ok(true),
+        None => Ok(false),
     }
-    let sound = Sound::make(alloc, &made, face)?;
-    Ok(sound.is_some())
 }

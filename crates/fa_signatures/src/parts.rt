@@ -1,9 +1,10 @@
 // The parts of a forest: with one piece of each component.
 
-ghost use Rattle.std.specs.Prelude.{◌≡◌, map, IfOk};
-ghost use Rattle.fore_base.specs.Lists.{Every, Paired};
-ghost use Rattle.fa_core.specs.Boxless.{HasNoBoxes};
-ghost use Rattle.fa_core.specs.Filled.{IsFilled};
+ghost use Rattle.std.specs.Prelude.{◌≡◌, map, IsTrue, IfOk};
+ghost use Rattle.fore_base.specs.Lists.{IsIn, Every, Paired};
+ghost use Rattle.ta_core.specs.Auto.{Automaton};
+ghost use Rattle.ta_core.specs.Language.{IsBarren};
+ghost use Rattle.fa_core.specs.Filled.{IsFilled, IsSound};
 ghost use Rattle.fa_signatures.specs.CutPieces.{AreCut, IsPiece};
 ghost use Rattle.fa_sound.specs.Unions.{forests};
 ghost use Rattle.fa_signatures.specs.CutForests.{AreCutForests};
@@ -13,15 +14,26 @@ use crate::cutting::cut_auto;
 use crate::products::product;
 use fa_core::faces::{BoxFace, Face};
 use fa_core::forest::Forest;
-use fa_sound::Sound;
+use fa_sound::{Sound, have_no_boxes};
 use fore_base::list::{Copies, List};
 use fore_base::memory::Mem;
 use std::alloc::Global;
 use ta_core::auto::Auto;
+use ta_core::inhabited::is_empty;
 
-/// The forests with one piece of each component.
+/// The forests with one piece of each component. Where a component is empty there is none.
 pub fn product_forests(alloc: Global, forest: &Forest, face: &Face) -> Mem<List<Sound>>
-    requires plain { Every HasNoBoxes forest.now.autos }
+    requires filled { IsFilled face.now forest.now }
+    ensures face { IfOk result (Every (λ s. s.face ≡ face.now)) }
+    ensures cut { IfOk result (λ list. AreCutForests face.now.boxes forest.now (forests list)) }
+{
+    if has_empty(alloc, forest.autos.as_slice())? {
+        return Ok(List::new(alloc));
+    }
+    part_forests(alloc, forest, face)
+}
+
+fn part_forests(alloc: Global, forest: &Forest, face: &Face) -> Mem<List<Sound>>
     requires filled { IsFilled face.now forest.now }
     ensures face { IfOk result (Every (λ s. s.face ≡ face.now)) }
     ensures cut { IfOk result (λ list. AreCutForests face.now.boxes forest.now (forests list)) }
@@ -31,9 +43,21 @@ pub fn product_forests(alloc: Global, forest: &Forest, face: &Face) -> Mem<List<
     forests(alloc, forest, face, choices.as_slice())
 }
 
+/// Whether one of the automata accepts nothing. There is then no choice of trees, and nothing is known of the trees of
+/// the others: what is seen of these may have no end.
+fn has_empty(alloc: Global, autos: &[Auto]) -> Mem<bool>
+    ensures { IfOk result (λ yes. IsTrue yes → (a : Automaton) × IsIn a autos.now × IsBarren a) }
+{
+    for whole in autos {
+        if is_empty(alloc, whole)? {
+            return Ok(true);
+        }
+    }
+    Ok(false)
+}
+
 /// The pieces of each of the automata.
 pub fn pieces_each(alloc: Global, boxes: &[BoxFace], autos: &[Auto]) -> Mem<List<List<Auto>>>
-    requires { Every HasNoBoxes autos.now }
     ensures { IfOk result (Paired (AreCut boxes.now) autos.now) }
 {
     let mut all = List::new(alloc);
@@ -46,7 +70,6 @@ pub fn pieces_each(alloc: Global, boxes: &[BoxFace], autos: &[Auto]) -> Mem<List
 
 /// The sound forests with the components of these choices.
 fn forests(alloc: Global, forest: &Forest, face: &Face, choices: &[List<Auto>]) -> Mem<List<Sound>>
-    requires plain { Every HasNoBoxes forest.now.autos }
     requires filled { IsFilled face.now forest.now }
     requires pieces { Every (Paired (IsPiece face.now.boxes) forest.now.autos) choices.now }
     ensures face { IfOk result (Every (λ s. s.face ≡ face.now)) }
@@ -62,14 +85,28 @@ fn forests(alloc: Global, forest: &Forest, face: &Face, choices: &[List<Auto>]) 
 
 /// The sound forest with these components.
 fn sound_with(alloc: Global, forest: &Forest, face: &Face, autos: &List<Auto>) -> Mem<Sound>
-    requires plain { Every HasNoBoxes forest.now.autos }
     requires filled { IsFilled face.now forest.now }
     requires pieces { Paired (IsPiece face.now.boxes) forest.now.autos autos.now }
     ensures face { IfOk result (λ s. s.face ≡ face.now) }
     ensures forest { IfOk result (λ s. s.forest ≡ with_autos forest.now autos.now) }
 {
     let made = forest_with(alloc, forest, autos)?;
-    Sound::of(alloc, made, face)
+    sound_of(alloc, made, face)
+}
+
+/// The forest, which is known to be sound. Without box edges nothing is judged.
+fn sound_of(alloc: Global, forest: Forest, face: &Face) -> Mem<Sound>
+    requires { IsSound face.now forest }
+    ensures face { IfOk result (λ s. s.face ≡ face.now) }
+    ensures forest { IfOk result (λ s. s.forest ≡ forest) }
+{
+    if have_no_boxes(forest.autos.as_slice()) {
+        return Sound::of(alloc, forest, face);
+    }
+    match Sound::make(alloc, &forest, face)? {
+        Some(sound) => Ok(sound),
+        None => unreachable!(),
+    }
 }
 
 /// The forest with these components.

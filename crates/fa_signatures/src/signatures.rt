@@ -21,17 +21,16 @@ use fore_base::memory::Mem;
 use std::alloc::Global;
 
 /// The forest cut by the signatures of its components: for each choice of one signature of each component the sound
-/// forest of the trees that have them. A component without trees leaves no forest. So far only for forests without box
-/// edges. Err is want of memory, also where numbers of states do not fit 32 bits.
+/// forest of the trees that have them. A component without trees leaves no forest. Err is want of memory,
+/// also where numbers of states do not fit 32 bits.
 pub fn split_signatures(alloc: Global, forest: &Forest, face: &Face) -> Mem<List<Sound>>
-    requires plain { Every HasNoBoxes forest.now.autos }
     requires filled { IsFilled face.now forest.now }
     ensures face { IfOk result (Every (λ s. s.face ≡ face.now)) }
     ensures cut { IfOk result (λ list. AreCutForests face.now.boxes forest.now (forests list)) }
     ensures regroups { IfOk result (Every (λ s. (T : List BoxDef) → Regroups T forest.now s.forest)) }
     ensures lost { IfOk result (λ list. (T : List BoxDef) → RegroupsInto T forest.now (forests list)) }
     ensures members { IfOk result (λ list. IsUnionOf forest.now (forests list)) }
-    ensures plain { IfOk result (Every (λ s. Every HasNoBoxes s.forest.autos)) }
+    ensures plain { Every HasNoBoxes forest.now.autos → IfOk result (Every (λ s. Every HasNoBoxes s.forest.autos)) }
     ensures empty { IfOk result (λ list. (a : Automaton) → IsIn a forest.now.autos → IsBarren a → list ≡ []) }
 {
     sound_forests(alloc, forest, face)
@@ -39,7 +38,6 @@ pub fn split_signatures(alloc: Global, forest: &Forest, face: &Face) -> Mem<List
 
 /// The parts of the forest. One that is sound is its own only part, so its automata stay as they are.
 fn sound_forests(alloc: Global, forest: &Forest, face: &Face) -> Mem<List<Sound>>
-    requires plain { Every HasNoBoxes forest.now.autos }
     requires filled { IsFilled face.now forest.now }
     ensures face { IfOk result (Every (λ s. s.face ≡ face.now)) }
     ensures cut { IfOk result (λ list. AreCutForests face.now.boxes forest.now (forests list)) }

@@ -1,6 +1,6 @@
--- Pairs of a state and a signature of some of its trees, and the rules over them.
-use Rattle.std.specs.Prelude.{◌≡◌, ◌↔◌, ◌⊎◌, ℕ, ◌<◌, false, List, ◌++◌, ◌∷◌, [], length, map, Option, Some, None}
-use Rattle.std.specs.Prelude.{slice_get}
+-- Pairs of a state and what is seen of some of its trees, and the rules over them.
+use Rattle.std.specs.Prelude.{◌≡◌, ◌↔◌, ◌⊎◌, ℕ, ◌<◌, false, ◌&&◌, List, ◌++◌, ◌∷◌, [], length, map, Option, Some}
+use Rattle.std.specs.Prelude.{None, slice_get}
 use Rattle.fore_base.specs.Lists.{IsIn, Every, IsDistinct, Paired}
 use Rattle.ta_core.specs.Auto.{Automaton, IsRankedRule}
 use Rattle.ta_core.specs.Language.{IsTrim}
@@ -10,82 +10,88 @@ use Rattle.ta_core.specs.Language.{InLanguage}
 use Rattle.fa_core.specs.declared.faces.BoxFace.{BoxFace}
 use Rattle.fa_core.specs.declared.signature.RefMark.{RefMark}
 use Rattle.fa_core.specs.declared.signature.Below.{Below}
-use Rattle.fa_core.specs.Cells.{marks_by}
-use Rattle.fa_core.specs.Ways.{signature}
+use Rattle.fa_core.specs.Cells.{is_leaf, marks_by}
+use Rattle.fa_core.specs.Ways.{has, signature}
 use Rattle.fa_signatures.specs.declared.pairing.Found.{Found}
 use Rattle.fa_signatures.specs.CutPieces.{IsPieceBy, AreApart, ShareSignature}
+use Rattle.fa_signatures.specs.inner.Telling.{told_states}
 
--- a state and a signature of some of its trees
+-- a state and what is seen of some of its trees
 abbrev pub Pair : Type 0
-Pair = ℕ × List RefMark
+Pair = ℕ × Below
 
--- the signature of the pair, if there is one
-abbrev pub marks_of : Option Pair → List RefMark
-marks_of None = []
-marks_of (Some x) = x.1
+-- what is seen of trees of the pair, if there is one
+abbrev pub seen_of : Option Pair → Below
+seen_of None = record { leaf = false; marks = [] }
+seen_of (Some x) = x.1
 
--- what is below an edge at whose end a tree of the pair in this place stands. What is a leaf does not matter below
--- fields
+-- what is seen of trees of the pair in this place
 abbrev pub below_pair : List Pair → ℕ → Below
-below_pair pairs k = record { leaf = false; marks = marks_of (slice_get pairs k) }
+below_pair pairs k = seen_of (slice_get pairs k)
 
 -- the pair in this place is one of the state
 abbrev pub IsPairOf : List Pair → ℕ → ℕ → Type 0
-IsPairOf pairs k q = (m : List RefMark) × (slice_get pairs k ≡ Some (q, m))
+IsPairOf pairs k q = (x : Below) × (slice_get pairs k ≡ Some (q, x))
 
 -- the places are those of the pairs of the state
 abbrev pub ArePlacesOf : List Pair → List ℕ → ℕ → Type 0
 ArePlacesOf pairs places q = (k : ℕ) → IsIn k places ↔ IsPairOf pairs k q
 
--- the signature of a tree by the rule over trees of the pairs in these places
-abbrev pub marks_over : List BoxFace → List Pair → Rule → List ℕ → List RefMark
-marks_over bs pairs r ks = marks_by bs r.symbol (map (below_pair pairs) ks)
+-- what is seen of a tree by the rule over trees of the pairs in these places; the leaves of these states are told from
+-- cells
+abbrev pub seen_over : List BoxFace → List ℕ → List Pair → Rule → List ℕ → Below
+seen_over bs told pairs r ks = record {
+  leaf = has r.state told && is_leaf r.symbol;
+  marks = marks_by bs r.symbol (map (below_pair pairs) ks);
+}
 
 -- the rule o, over pairs, stands for the rule r
-abbrev pub IsPairRule : List BoxFace → List Pair → Rule → Rule → Type 0
-IsPairRule bs pairs o r = (o.symbol ≡ r.symbol) × Paired (IsPairOf pairs) o.children r.children
-    × (slice_get pairs o.state ≡ Some (r.state, marks_over bs pairs r o.children))
+abbrev pub IsPairRule : List BoxFace → List ℕ → List Pair → Rule → Rule → Type 0
+IsPairRule bs told pairs o r = (o.symbol ≡ r.symbol) × Paired (IsPairOf pairs) o.children r.children
+    × (slice_get pairs o.state ≡ Some (r.state, seen_over bs told pairs r o.children))
 
 -- each rule over pairs stands for a rule, and each rule is stood for over all choices of pairs for its children
-pub record ArePairRules (bs : List BoxFace) (pairs : List Pair) (rules over : List Rule) : Type 0 where
-  pub from : (o : Rule) → IsIn o over → (r : Rule) × IsIn r rules × IsPairRule bs pairs o r
+pub record ArePairRules (bs : List BoxFace) (told : List ℕ) (pairs : List Pair) (rules over : List Rule) : Type 0 where
+  pub from : (o : Rule) → IsIn o over → (r : Rule) × IsIn r rules × IsPairRule bs told pairs o r
   pub all : (r : Rule) (ks : List ℕ) → IsIn r rules → Paired (IsPairOf pairs) ks r.children → (o : Rule) × IsIn o over
-      × (o.children ≡ ks) × IsPairRule bs pairs o r
+      × (o.children ≡ ks) × IsPairRule bs told pairs o r
 
 -- there are more pairs than before; or they are the same, and P holds
 abbrev pub GrowsOr : List Pair → List Pair → Type 0 → Type 0
 GrowsOr old new P = (length old < length new) ⊎ ((new ≡ old) × P)
 
 -- the rule o stands for r over the pairs in these places
-abbrev pub StandsOver : List BoxFace → List Pair → Rule → List ℕ → Rule → Type 0
-StandsOver bs pairs r ks o = (o.symbol ≡ r.symbol) × (o.children ≡ ks)
-    × (slice_get pairs o.state ≡ Some (r.state, marks_over bs pairs r ks))
+abbrev pub StandsOver : List BoxFace → List ℕ → List Pair → Rule → List ℕ → Rule → Type 0
+StandsOver bs told pairs r ks o = (o.symbol ≡ r.symbol) × (o.children ≡ ks)
+    × (slice_get pairs o.state ≡ Some (r.state, seen_over bs told pairs r ks))
 
 -- one rule was added, which stands for r over the pairs in these places
-abbrev pub AddsRule : List BoxFace → List Pair → Rule → List ℕ → List Rule → List Rule → Type 0
-AddsRule bs pairs r ks old new = (o : Rule) × StandsOver bs pairs r ks o × (new ≡ old ++ o ∷ [])
+abbrev pub AddsRule : List BoxFace → List ℕ → List Pair → Rule → List ℕ → List Rule → List Rule → Type 0
+AddsRule bs told pairs r ks old new = (o : Rule) × StandsOver bs told pairs r ks o × (new ≡ old ++ o ∷ [])
 
 -- so was one for each of the choices of places
-abbrev pub AddsEach : List BoxFace → List Pair → Rule → List (List ℕ) → List Rule → List Rule → Type 0
-AddsEach bs pairs r choices old new = (more : List Rule) × (new ≡ old ++ more)
-    × Paired (StandsOver bs pairs r) choices more
+abbrev pub AddsEach : List BoxFace → List ℕ → List Pair → Rule → List (List ℕ) → List Rule → List Rule → Type 0
+AddsEach bs told pairs r choices old new = (more : List Rule) × (new ≡ old ++ more)
+    × Paired (StandsOver bs told pairs r) choices more
 
 -- rules that stand for r were added, one at least for each choice of pairs for its children
-pub record AddsRules (bs : List BoxFace) (pairs : List Pair) (r : Rule) (old new : List Rule) : Type 0 where
+pub record AddsRules (bs : List BoxFace) (told : List ℕ) (pairs : List Pair) (r : Rule) (old new : List Rule) :
+    Type 0 where
   pub more : List Rule
   pub is : new ≡ old ++ more
-  pub from : Every (λ o. IsPairRule bs pairs o r) more
+  pub from : Every (λ o. IsPairRule bs told pairs o r) more
   pub all : (ks : List ℕ) → Paired (IsPairOf pairs) ks r.children → (o : Rule) × IsIn o more × (o.children ≡ ks)
-      × IsPairRule bs pairs o r
+      × IsPairRule bs told pairs o r
 
 -- the pair in this place has a root state and the signature
 abbrev pub IsRootPair : List Pair → List ℕ → List RefMark → ℕ → Type 0
-IsRootPair pairs roots marks k = (q : ℕ) × IsIn q roots × (slice_get pairs k ≡ Some (q, marks))
+IsRootPair pairs roots marks k = (q : ℕ) × (x : Below) × IsIn q roots × (slice_get pairs k ≡ Some (q, x))
+    × (x.marks ≡ marks)
 
 -- the signatures of pairs with root states
 abbrev pub AreRootMarks : List Pair → List ℕ → List (List RefMark) → Type 0
 AreRootMarks pairs roots all = (marks : List RefMark) → IsIn marks all
-    ↔ ((q : ℕ) × IsIn q roots × IsIn (q, marks) pairs)
+    ↔ ((q : ℕ) × (x : Below) × IsIn q roots × IsIn (q, x) pairs × (x.marks ≡ marks))
 
 -- b has the rules over the pairs, and its root states are the pairs with root states and the signature
 pub record IsOver (pairs : List Pair) (over : List Rule) (roots : List ℕ) (marks : List RefMark) (b : Automaton) :
@@ -106,7 +112,8 @@ pub record AreInRange (found : Found) : Type 0 where
 
 -- P holds of the faces of boxes by which the rules that were found stand for those of the automaton
 abbrev pub WhereFound : Automaton → Found → (List BoxFace → Type 0) → Type 0
-WhereFound a found P = (bs : List BoxFace) → ArePairRules bs found.pairs a.rules found.rules → P bs
+WhereFound a found P = (bs : List BoxFace)
+    → ArePairRules bs (told_states bs a.rules) found.pairs a.rules found.rules → P bs
 
 -- the pieces are those of the signatures that are done
 pub record AreCutBy (bs : List BoxFace) (a : Automaton) (done : List (List RefMark)) (pieces : List Automaton) :

@@ -1,7 +1,6 @@
-use Rattle.std.proofs.Common.{ℕ, List, Some, true≢false, refl, sym, ap, subst, ◌∙◌, arith}
+use Rattle.std.proofs.Common.{ℕ, true≢false, refl, sym, ap, subst, ◌∙◌, arith}
 use Rattle.std.proofs.lemmas.Option.{same_Some, slice_get_read}
 use Rattle.fore_base.specs.Lists.{IsIn}
-use Rattle.fa_core.specs.declared.signature.RefMark.{RefMark}
 use Rattle.fa_signatures.specs.inner.CutPairs.{Pair, IsRootPair}
 use Rattle.fa_signatures.proofs.PairRules.{places_push, places_skip, places_all, root_low, has_in, in_has}
 use Rattle.fa_signatures.proofs.cutting.places_with.Goals as goal
@@ -19,19 +18,19 @@ loop-place-preserved c =
           let s = rw w.as_slice.ensures at w.are_same.ensures in
           let r = has_in x.0 c.args.roots.now (sym c.has.ensures ∙ w.if-has.true) in
           let n = places_push P c.loop-place.places c.loop-place.place
-          (x.0, r, at ∙ ap (λ (m : List RefMark). Some (x.0, m)) (s.0 w.if-are_same.true))
+          (x.0, x.1, r, at, s.0 w.if-are_same.true)
           c.loop-place.invariant in
           rw (w.places-is, w.in_ok-push.ensures.ok, w.in_ok-number.ensures) n)
       | else-has w ↦ rw w.places-is (places_skip P c.loop-place.places c.loop-place.place (λ p.
-          let same = same_Some x (p.0, c.args.marks.now) (sym at ∙ p.2) in
+          let same = same_Some x (p.0, p.1) (sym at ∙ p.3) in
           elim w.else-has.branch [
             | else-has-via-then-has+else-are_same v ↦ (
                 let s = rw v.as_slice.ensures at v.are_same.ensures in
-                true≢false (sym (s.1 (ap (λ (y : Pair). y.1) same)) ∙ v.if-are_same.false))
+                true≢false (sym (s.1 (ap (λ (y : Pair). y.1.marks) same ∙ p.4)) ∙ v.if-are_same.false))
             | else-has-via-else-has v ↦ true≢false
                 (sym
                 (in_has x.0 c.args.roots.now
-                (subst (λ (q : ℕ). IsIn q c.args.roots.now) (sym (ap (λ (y : Pair). y.0) same)) p.1))
+                (subst (λ (q : ℕ). IsIn q c.args.roots.now) (sym (ap (λ (y : Pair). y.0) same)) p.2))
                 ∙ sym c.has.ensures ∙ v.if-has.false)
           ]) c.loop-place.invariant)
     ]

@@ -20,7 +20,7 @@ loop-pair-preserved c =
           let r = has_in x.0 c.args.roots.now (sym c.has.ensures ∙ w.if-has.true) in
           rw (t, w.all-is, w.in_ok-push.ensures.ok, w.in_ok-marks.ensures) (record {
             marks = marks_push done c.args.roots.now c.loop-pair.all inv.marks x r;
-            apart = distinct_push c.loop-pair.all x.1 inv.apart
+            apart = distinct_push c.loop-pair.all x.1.marks inv.apart
                 (λ i. true≢false (sym (s.1 i) ∙ w.if-not-are_among.true));
           }))
       | else-has w ↦ rw (t, w.all-is) (record {

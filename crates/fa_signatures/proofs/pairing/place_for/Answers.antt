@@ -5,5 +5,5 @@ use Rattle.fa_signatures.proofs.pairing.place_for.Goals as goal
 
 pub returns-clause-apart : goal.returns-clause-apart
 returns-clause-apart c =
-    let none = rw (c.as_slice.ensures, c.as_slice-2.ensures) at c.in_default.ensures in
+    let none = rw c.as_slice.ensures at c.in_default.ensures in
     λ d. subst IsDistinct (sym c.in_ok-push.ensures.ok) (distinct_push c.args.pairs.now _ d none)

@@ -5,6 +5,7 @@ use Rattle.fa_signatures.proofs.pairing.rules_over.Given as goal
 
 abbrev pub invariant-loop-rule : goal.invariant-loop-rule
 invariant-loop-rule l = record {
-  grows : GrowsOr l.initial.pairs l.pairs (ArePairRules l.boxes l.initial.pairs (take l.rule-index l.rules) l.over);
+  grows : GrowsOr l.initial.pairs l.pairs
+      (ArePairRules l.boxes l.told l.initial.pairs (take l.rule-index l.rules) l.over);
   apart : IsDistinct l.initial.pairs → IsDistinct l.pairs;
 }

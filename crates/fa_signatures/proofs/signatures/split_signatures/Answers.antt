@@ -37,12 +37,12 @@ returns-clause-members c =
     (λ list h. cut_union fs F (forests list) h) c.sound_forests.ensures.cut
 
 pub returns-clause-plain : goal.returns-clause-plain
-returns-clause-plain c =
+returns-clause-plain c = λ plain.
     let F = c.args.forest.now in
     let fs = c.args.face.now.boxes in
     IfOk-weaker c.sound_forests.result (λ (list : List SoundForest). AreCutForests fs F (forests list))
     (λ (list : List SoundForest). Every (λ (s : SoundForest). Every HasNoBoxes s.forest.autos) list)
-    (λ list h. plain_all fs F list c.requires.plain h) c.sound_forests.ensures.cut
+    (λ list h. plain_all fs F list plain h) c.sound_forests.ensures.cut
 
 pub returns-clause-empty : goal.returns-clause-empty
 returns-clause-empty c =
