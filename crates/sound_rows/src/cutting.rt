@@ -1,8 +1,7 @@
 // Automata cut by signature.
 
-use anyhow::{Context, Result, bail};
+use anyhow::{Context, Result};
 use fa_signatures::cut_auto;
-use fa_sound::have_no_boxes;
 use fore_base::list::List;
 use row_forests::{auto_letters, auto_of};
 use std::alloc::Global;
@@ -17,9 +16,6 @@ pub fn cut_letters(alloc: Global, text: &str, wanted: &[&str]) -> Result<String>
 }
 
 fn cut_first(alloc: Global, autos: &[Auto]) -> Result<List<Auto>> {
-    if !have_no_boxes(autos) {
-        bail!("a box edge");
-    }
     let auto = autos.first().context("no automaton")?;
     Ok(cut_auto(alloc, &[], auto)?)
 }

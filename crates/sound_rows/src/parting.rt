@@ -7,7 +7,7 @@ use anyhow::{Context, Result, bail};
 use fa_core::faces::Face;
 use fa_core::forest::Forest;
 use fa_signatures::{is_filled, split_signatures};
-use fa_sound::{Sound, have_no_boxes};
+use fa_sound::Sound;
 use fore_base::list::List;
 use row_forests::{forest_of, letters, sound};
 use std::alloc::Global;
@@ -40,9 +40,6 @@ fn parts(alloc: Global, forest: &Forest, model: &Sound) -> Result<List<Sound>> {
 fn parts_over(alloc: Global, forest: &Forest, face: &Face, cell: &Symbol) -> Result<List<Sound>>
     requires { SymbolFits face.now cell.now }
 {
-    if !have_no_boxes(forest.autos.as_slice()) {
-        bail!("a box edge");
-    }
     if !is_filled(alloc, forest, face, cell)? {
         bail!("not filled");
     }
