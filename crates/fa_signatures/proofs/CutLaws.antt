@@ -1,5 +1,5 @@
 -- A forest that is cut: its parts are sound, regroup it, and lose none of its stores.
-use Rattle.std.proofs.Common.{◌≡◌, inl, inr, true, true≢false, List, [], ◌∷◌, ◌++◌, map, length, refl, sym, ap, ap₂}
+use Rattle.std.proofs.Common.{◌≡◌, inl, inr, List, [], ◌∷◌, ◌++◌, map, length, refl, sym, ap, ap₂}
 use Rattle.std.proofs.Common.{subst, ◌∙◌}
 use Rattle.std.proofs.lemmas.List.{map-append}
 use Rattle.fore_base.specs.Lists.{IsIn, Every, Paired}
@@ -9,8 +9,6 @@ use Rattle.fore_base.proofs.ListLemmas.{partner_for}
 use Rattle.ta_core.specs.Auto.{Automaton}
 use Rattle.ta_core.specs.Language.{InLanguage, IsBarren}
 use Rattle.ta_core.specs.declared.auto.Rule.{Rule}
-use Rattle.ta_core.specs.declared.symbol.Symbol.{Symbol}
-use Rattle.ta_core.specs.declared.symbol.Symbol.TheVariants.{Null, Uninit, Dangling, Ref, Cell}
 use Rattle.ta_core.specs.declared.tree.Tree.{Tree}
 use Rattle.fa_core.specs.declared.boxes.BoxDef.{BoxDef}
 use Rattle.fa_core.specs.declared.faces.BoxFace.{BoxFace}
@@ -18,7 +16,6 @@ use Rattle.fa_core.specs.declared.faces.Face.{Face}
 use Rattle.fa_core.specs.declared.forest.Forest.{Forest}
 use Rattle.fa_core.specs.declared.forest.Target.{Target}
 use Rattle.fa_core.specs.Boxless.{HasNoBoxes}
-use Rattle.fa_core.specs.Cells.{is_leaf}
 use Rattle.fa_core.specs.Choices.{bares}
 use Rattle.fa_core.specs.Dressed.{Nodes, no_nodes, more, cells, value_in, roots_of}
 use Rattle.fa_core.specs.Filled.{Choice, ChoiceFilled, IsRoot, IsFilled, IsSound, HasSome, HasSignatures, DatumFits}
@@ -238,14 +235,6 @@ module _ (face : Face) (F G : Forest) (h : IsCutForest face.boxes F G) where
         (λ b i. let w = partner_of (IsPiece face.boxes) F.autos G.autos b h.autos i in w.2.1.some);
   }
 
--- a leaf fits every face
-pub leaf_fits : (face : Face) (y : Symbol) → is_leaf y ≡ true → SymbolFits face y
-leaf_fits face Null e = tt
-leaf_fits face Uninit e = tt
-leaf_fits face Dangling e = tt
-leaf_fits face (Ref r) e = tt
-leaf_fits face (Cell s ds ss) e = absurd (true≢false (sym e))
-
 -- the other way round, each field is given exactly once if the parts are sound, and rules and data fit the face
 pub whole_filled : (face : Face) (F : Forest) (Gs : List Forest) → AreCutForests face.boxes F Gs
     → Every (IsSound face) Gs → Every (RulesFit face) F.autos → Every DatumFits F.data_vars → IsFilled face F
@@ -288,3 +277,11 @@ plain_all fs F list plain h =
     list
     (λ s w. carried HasNoBoxes HasNoBoxes (IsPiece fs) (λ a b v p. piece_plain a b p v.1.symbols) F.autos s.forest.autos
     w.autos plain) (every_mapped (λ (s : SoundForest). s.forest) (IsCutForest fs F) list h.each)
+
+-- each choice of pieces gives a sound forest where each field is given exactly once
+pub product_sound : (face : Face) (F : Forest) (pieces : List (List Automaton))
+    → Paired (AreCut face.boxes) F.autos pieces → IsFilled face F
+    → Every (λ (autos : List Automaton). IsSound face (with_autos F autos)) (product pieces)
+product_sound face F pieces h filled = every_weaker (Paired (IsPiece face.boxes) F.autos)
+    (λ (autos : List Automaton). IsSound face (with_autos F autos)) (product pieces)
+    (λ autos p. pieces_sound face F autos p filled) (product_pieces face.boxes F pieces h)

@@ -1,34 +1,30 @@
 // Whether each field of each cell of a forest is given exactly once, found by its parts.
 
-ghost use Rattle.std.specs.Prelude.{IsTrue, IfOk};
+ghost use Rattle.std.specs.Prelude.{◌↔◌, IsTrue, IfOk};
 ghost use Rattle.fore_base.specs.Lists.{Every};
-ghost use Rattle.fa_core.specs.Filled.{IsFilled, IsSound, RulesFit, SymbolFits};
-ghost use Rattle.fa_core.specs.declared.faces.Face.{Face};
+ghost use Rattle.fa_core.specs.Filled.{IsFilled, IsSound};
 ghost use Rattle.fa_signatures.specs.inner.CutProducts.{with_autos};
 
 use crate::parts::{forest_with, pieces_each};
 use crate::products::product;
-use fa_core::cells::is_leaf;
 use fa_core::faces::Face;
 use fa_core::forest::Forest;
-use fa_sound::Sound;
+use fa_sound::{Sound, are_data_right, are_rules_right};
 use fore_base::list::List;
 use fore_base::memory::Mem;
 use std::alloc::Global;
-use ta_core::auto::{Auto, Rule};
-use ta_core::symbol::Symbol;
+use ta_core::auto::Auto;
 
-/// Whether each field of each cell is given exactly once, as far as the parts show: where it has no data variables,
-/// each of its symbols is a leaf or this one, which fits, and each choice of pieces gives a sound forest. False says
-/// nothing. It is no part of cutting: it tells whether `split_signatures` may be asked. Err is want of memory.
-pub fn is_filled(alloc: Global, forest: &Forest, face: &Face, cell: &Symbol) -> Mem<bool>
-    requires cell { SymbolFits face.now cell.now }
-    ensures { IfOk result (λ yes. IsTrue yes → IsFilled face.now forest.now) }
+/// Whether each field of each cell is given exactly once: the data and the rules fit the face, and each choice of pieces
+/// gives a sound forest. It is no part of cutting: it tells whether `split_signatures` may be asked. Err is want of
+/// memory.
+pub fn is_filled(alloc: Global, forest: &Forest, face: &Face) -> Mem<bool>
+    ensures { IfOk result (λ yes. IsTrue yes ↔ IsFilled face.now forest.now) }
 {
-    if !forest.data_vars.is_empty() {
+    if !are_data_right(forest.data_vars.as_slice()) {
         return Ok(false);
     }
-    if !all_fit(forest.autos.as_slice(), cell) {
+    if !are_rules_right(face, forest.autos.as_slice()) {
         return Ok(false);
     }
     let pieces = pieces_each(alloc, face.boxes.as_slice(), forest.autos.as_slice())?;
@@ -36,32 +32,9 @@ pub fn is_filled(alloc: Global, forest: &Forest, face: &Face, cell: &Symbol) -> 
     are_sound(alloc, forest, face, choices.as_slice())
 }
 
-fn all_fit(autos: &[Auto], cell: &Symbol) -> bool
-    ensures { IsTrue result → (face : Face) → SymbolFits face cell.now → Every (RulesFit face) autos.now }
-{
-    for whole in autos {
-        if !rules_fit(whole.rules.as_slice(), cell) {
-            return false;
-        }
-    }
-    true
-}
-
-fn rules_fit(rules: &[Rule], cell: &Symbol) -> bool
-    ensures { IsTrue result → (face : Face) → SymbolFits face cell.now
-        → Every (λ r. SymbolFits face r.symbol) rules.now }
-{
-    for rule in rules {
-        if !is_leaf(&rule.symbol) && !rule.symbol.is_same(cell) {
-            return false;
-        }
-    }
-    true
-}
-
 fn are_sound(alloc: Global, forest: &Forest, face: &Face, choices: &[List<Auto>]) -> Mem<bool>
     ensures { IfOk result (λ yes. IsTrue yes
-        → Every (λ autos. IsSound face.now (with_autos forest.now autos))
+        ↔ Every (λ autos. IsSound face.now (with_autos forest.now autos))
         choices.now) }
 {
     for autos in choices {
@@ -73,7 +46,7 @@ fn are_sound(alloc: Global, forest: &Forest, face: &Face, choices: &[List<Auto>]
 }
 
 fn is_sound(alloc: Global, forest: &Forest, face: &Face, autos: &List<Auto>) -> Mem<bool>
-    ensures { IfOk result (λ yes. IsTrue yes → IsSound face.now (with_autos forest.now autos.now)) }
+    ensures { IfOk result (λ yes. IsTrue yes ↔ IsSound face.now (with_autos forest.now autos.now)) }
 {
     let made = forest_with(alloc, forest, autos)?;
     match Sound::make(alloc, &made, face)? {

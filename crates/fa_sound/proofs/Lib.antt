@@ -7,9 +7,7 @@ pub mod Given
 pub mod Mixed
 pub mod NothingGiven
 pub mod OneFirst
-pub mod Settling
 pub mod Signed
-pub mod Typed
 pub mod Witnesses
 mod Rows
 mod RowsOwned
