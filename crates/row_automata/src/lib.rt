@@ -8,7 +8,8 @@
 //! - A symbol is a letter: a for Null, u for Uninit, d for Dangling, A to Z for references to the roots 0 to 25, n
 //!   for a cell of struct 0, f for one of struct 1, and x, y and z for one of struct 2 whose datum is undefined, 1
 //!   and 2. Further letters are in `symbols`. A cell without a letter stands between brackets, as its struct, its data
-//!   and its pointer fields: `0[3:f:01]12` is a rule of state 0 for a cell of struct 3 with the datum 15.
+//!   and its slots: `0[3:f:01]12` is a rule of state 0 for a cell of struct 3 with the datum 15, and `0[1::l0h1]1` one
+//!   for a cell of struct 1 with a link of box 0 and a hook of box 1.
 #![tactic(auto)]
 
 mod automata;

@@ -6,7 +6,7 @@
 // a field and a hook of box 0, l a link of box 0 and a field, r a link of box 0 and a hook of box 1, s a field and a
 // hook of box 1, t a link and a hook of box 1.
 
-use crate::digits::{datums, digit, numbers, put_datums, put_number};
+use crate::digits::{datums, digit, put_datums, put_number};
 use anyhow::{Context, Result, bail};
 use fore_base::list::List;
 use fore_base::store::Datum;
@@ -72,18 +72,20 @@ fn cell(alloc: Global, shape: u32, datums: &[Datum], slots: &[Slot]) -> Result<S
     })
 }
 
-/// The symbol of a cell that is spelled out: its struct, its data and its pointer fields, with a colon between.
+/// The symbol of a cell that is spelled out: its struct, its data and its slots, with a colon between. A slot is the
+/// digit of a field, or a box behind l, for one with an output, or behind h, for one without: a digit, or a letter for
+/// a number from 10 on.
 ///
 /// # Errors
 ///
 /// A text that cannot be read, and want of memory.
 pub fn spelled_symbol(alloc: Global, text: &str) -> Result<Symbol> {
     let (shape, rest) = text.split_once(':').context("no data")?;
-    let (data, fields) = rest.split_once(':').context("no fields")?;
+    let (data, slots) = rest.split_once(':').context("no slots")?;
     let shape = shape.as_bytes().first().context("no struct")?;
     let shape = digit(*shape).context("a struct is no digit")?;
     let datums = datums(alloc, data.as_bytes())?;
-    let slots = fields_of(alloc, fields.as_bytes())?;
+    let slots = spelled_slots(alloc, slots.as_bytes())?;
     Ok(Symbol::Cell {
         shape,
         datums,
@@ -91,13 +93,39 @@ pub fn spelled_symbol(alloc: Global, text: &str) -> Result<Symbol> {
     })
 }
 
-fn fields_of(alloc: Global, digits: &[u8]) -> Result<List<Slot>> {
-    let fields = numbers(alloc, digits)?;
-    let mut slots = List::new(alloc);
-    for field in fields.as_slice() {
-        slots.push(Slot::Field(*field))?;
+fn spelled_slots(alloc: Global, text: &[u8]) -> Result<List<Slot>> {
+    let mut slots: List<Slot> = List::new(alloc);
+    let mut kind = None;
+    for byte in text {
+        match kind {
+            Some(letter) => {
+                slots.push(box_slot(letter, *byte)?)?;
+                kind = None;
+            }
+            None => match digit(*byte) {
+                Some(field) => slots.push(Slot::Field(field))?,
+                None => kind = Some(*byte),
+            },
+        }
     }
     Ok(slots)
+}
+
+fn box_slot(letter: u8, number: u8) -> Result<Slot> {
+    let number = long_digit(number).context("no number of a box")?;
+    match letter {
+        b'l' => Ok(Slot::Link(number)),
+        b'h' => Ok(Slot::Hook(number)),
+        _ => bail!("no such slot"),
+    }
+}
+
+// The number of a digit, or of a letter from 10 on.
+fn long_digit(byte: u8) -> Option<u32> {
+    match byte {
+        b'a'..=b'z' => Some((byte - b'a' + 10) as u32),
+        _ => digit(byte),
+    }
 }
 
 /// Adds the letter of the symbol. A cell that has no letter is spelled out between brackets.
@@ -165,7 +193,17 @@ fn put_spelled(text: &mut String, shape: u32, datums: &[Datum], slots: &[Slot]) 
 fn put_slot(text: &mut String, slot: Slot) -> Result<()> {
     match slot {
         Slot::Field(field) => put_number(text, field)?,
-        other => write!(text, "({other:?})")?,
+        Slot::Link(number) => put_box(text, 'l', number)?,
+        Slot::Hook(number) => put_box(text, 'h', number)?,
+    }
+    Ok(())
+}
+
+fn put_box(text: &mut String, kind: char, number: u32) -> Result<()> {
+    text.push(kind)?;
+    match number {
+        10..=35 => text.push((b'a' + (number - 10) as u8) as char)?,
+        _ => put_number(text, number)?,
     }
     Ok(())
 }

@@ -25,7 +25,17 @@ const STRUCTS: &[&[FieldKind]] = &[
         FieldKind::Datum,
         FieldKind::Pointer(0),
     ],
+    &[
+        FieldKind::Pointer(4),
+        FieldKind::Pointer(4),
+        FieldKind::Pointer(4),
+    ],
 ];
+
+// The names of structs and of fields, by their numbers.
+const STRUCT_NAMES: &[&str] = &["node", "pair", "item", "tree", "trio"];
+
+const FIELD_NAMES: &[&str] = &["a", "b", "c", "d"];
 
 /// The structs of all forests, and no boxes.
 ///
@@ -51,30 +61,30 @@ pub fn face_of(alloc: Global, structs: &[&[FieldKind]]) -> Result<Face> {
 
 fn shapes(alloc: Global, structs: &[&[FieldKind]]) -> Result<List<Shape>> {
     let mut made = List::new(alloc);
-    for kinds in structs {
-        let shape = shape(alloc, kinds)?;
+    for (name, kinds) in STRUCT_NAMES.iter().zip(structs) {
+        let shape = shape(alloc, name, kinds)?;
         made.push(shape)?;
     }
     Ok(made)
 }
 
-fn shape(alloc: Global, kinds: &[FieldKind]) -> Result<Shape> {
+fn shape(alloc: Global, name: &str, kinds: &[FieldKind]) -> Result<Shape> {
     let fields = fields(alloc, kinds)?;
-    let name = Text::from_slice(alloc, b"cell")?;
+    let name = Text::from_slice(alloc, name.as_bytes())?;
     Ok(Shape { name, fields })
 }
 
 fn fields(alloc: Global, kinds: &[FieldKind]) -> Result<List<FieldDef>> {
     let mut fields = List::new(alloc);
-    for kind in kinds {
-        let field = field(alloc, *kind)?;
+    for (name, kind) in FIELD_NAMES.iter().zip(kinds) {
+        let field = field(alloc, name, *kind)?;
         fields.push(field)?;
     }
     Ok(fields)
 }
 
-fn field(alloc: Global, kind: FieldKind) -> Result<FieldDef> {
-    let name = Text::from_slice(alloc, b"field")?;
+fn field(alloc: Global, name: &str, kind: FieldKind) -> Result<FieldDef> {
+    let name = Text::from_slice(alloc, name.as_bytes())?;
     Ok(FieldDef { name, kind })
 }
 

@@ -5,8 +5,9 @@
 //!   of its root, or n for null, u for uninitialised, d for dangling; - stands where there is none. The data
 //!   variables, if there are any, are a second word: a digit, a letter a to f for 10 to 15, or u for undefined. So
 //!   `0n 3u / 20 0n1 1a`.
-//! - Struct 0 has one pointer to itself, struct 1 two, struct 2 a datum and one pointer, and struct 3 a pointer to
-//!   itself, a datum, and a pointer to struct 0 (`face`).
+//! - Struct 0, `node`, has one pointer to itself, struct 1, `pair`, two, struct 2, `item`, a datum and one pointer,
+//!   struct 3, `tree`, a pointer to itself, a datum, and a pointer to struct 0, and struct 4, `trio`, three pointers to
+//!   itself (`face`). Their fields are `a`, `b` and `c`.
 #![tactic(auto)]
 
 mod comparing;

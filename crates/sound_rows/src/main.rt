@@ -1,8 +1,10 @@
-//! Rows of sound forests: which forests are sound, their signatures, members of them, and what they are cut into by
-//! signature.
+//! Rows of sound forests: which forests are sound, with box edges and without, their signatures, members of them, and
+//! what they are cut into by signature.
 #![tactic(auto)]
 
+mod boxed;
 mod cutting;
+mod files;
 mod judging;
 mod parting;
 mod sampling;
@@ -29,6 +31,9 @@ impl Answers for Kinds {
         let (text, wanted) = texts.split_first().context("no text")?;
         match head {
             "sound?" => judging::judged(alloc, text),
+            "boxed?" => boxed::judged(alloc, text, wanted),
+            "member" => boxed::member(alloc, text, wanted),
+            "cells" => boxed::count(alloc, text, wanted),
             "signatures" => signing::signatures(alloc, text),
             "copied" => signing::copied(alloc, text),
             "sample" => sampling::sampled(alloc, text),

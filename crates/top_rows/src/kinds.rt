@@ -8,12 +8,13 @@
 // - `report NUMBER LINE STEP | NAME`: the report on a fault of this number.
 
 use crate::calls::{Ends, STEADY, call, shown, shown_until};
-use crate::texts::{main_of, read_text};
+use crate::texts::main_of;
 use anyhow::{Context, Result, bail};
 use fore_base::fault::Fault;
 use fore_base::text::Text;
 use fore_call::texts::unsafe_report;
 use row_kit::Answers;
+use row_texts::read_text;
 use std::alloc::Global;
 use std::thread::Threads;
 

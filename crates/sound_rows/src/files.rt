@@ -1,0 +1,79 @@
+// Files of boxes over the structs of rows, by their names.
+//
+// Each word of a text is a box: dll leads from a pair to the next and back, seg is one of both fields of a pair and
+// goes past a list of any length, chain past one pair, to is a pointer from one node to another, off one of a pair to
+// another whose b is null, ring the pointer of a node to itself, and trio a dll of trios. tower-N has N and one more
+// boxes, each but the first of two edges of the one before.
+
+use anyhow::{Result, bail};
+use fore_base::text::Text;
+use std::alloc::Global;
+
+const DLL: &str = "box dll in pair out pair\nroot 0 s0\ns0 = pair(a=s1)\ns1 = ref 1\n\
+    root 1 s0\ns0 = pair(b=s1)\ns1 = ref 0\nend\n";
+
+const SEG: &str = "box seg in pair out pair\nroot 0 s0\ns0 = pair(a=s1,b=s2)\ns1 = ref 1\n\
+    s1 = pair(a=s1,b=s3)\ns2 = ref 1\ns3 = null\nroot 1 s0\ns0 = pair()\nend\n";
+
+const CHAIN: &str = "box chain in pair out pair\nroot 0 s0\ns0 = pair(a=s1,b=s2)\n\
+    s1 = pair(a=s2,b=s3)\ns2 = ref 1\ns3 = null\nroot 1 s0\ns0 = pair()\nend\n";
+
+const TO: &str = "box to in node out node\nroot 0 s0\ns0 = node(a=s1)\ns1 = ref 1\n\
+    root 1 s0\ns0 = node()\nend\n";
+
+const OFF: &str = "box off in pair out pair\nroot 0 s0\ns0 = pair(a=s1)\ns1 = ref 1\n\
+    root 1 s0\ns0 = pair(b=s1)\ns1 = null\nend\n";
+
+const RING: &str = "box ring in node\nroot 0 s0\ns0 = node(a=s1)\ns1 = ref 0\nend\n";
+
+const TRIO: &str = "box trio in trio out trio\nroot 0 s0\ns0 = trio(a=s1)\ns1 = ref 1\n\
+    root 1 s0\ns0 = trio(b=s1)\ns1 = ref 0\nend\n";
+
+/// The file of these boxes.
+pub fn file_of(alloc: Global, names: &str) -> Result<Text> {
+    let mut text = Text::new(alloc);
+    for name in names.split(' ') {
+        match name.split_once('-') {
+            Some((_, top)) => put_tower(alloc, &mut text, top.parse::<u32>()?)?,
+            None => text.put(box_of(name)?.as_bytes())?,
+        }
+    }
+    Ok(text)
+}
+
+fn box_of(name: &str) -> Result<&'static str> {
+    match name {
+        "dll" => Ok(DLL),
+        "seg" => Ok(SEG),
+        "chain" => Ok(CHAIN),
+        "to" => Ok(TO),
+        "off" => Ok(OFF),
+        "ring" => Ok(RING),
+        "trio" => Ok(TRIO),
+        _ => bail!("no such box"),
+    }
+}
+
+// The boxes d0 to that of this number.
+fn put_tower(alloc: Global, text: &mut Text, top: u32) -> Result<()> {
+    text.put(b"box d0 in node out node\nroot 0 s0\ns0 = node(a=s1)\ns1 = ref 1\n")?;
+    text.put(b"root 1 s0\ns0 = node()\nend\n")?;
+    for below in 0..top {
+        put_level(alloc, text, below)?;
+    }
+    Ok(())
+}
+
+// The box of two edges of the one below.
+fn put_level(alloc: Global, text: &mut Text, below: u32) -> Result<()> {
+    let own = below.saturating_add(1);
+    let head = format!(in alloc;
+        "box d{own} in node out node\nroot 0 s0\ns0 = node(@d{below}=s1)\n"
+    )?;
+    text.put(head.as_bytes())?;
+    let next = format!(in alloc;
+        "s1 = node(@d{below}=s2)\ns2 = ref 1\nroot 1 s0\ns0 = node()\nend\n"
+    )?;
+    text.put(next.as_bytes())?;
+    Ok(())
+}
