@@ -38,7 +38,7 @@ use Rattle.fa_boxes.specs.Tops.{HasNoLeaf}
 use Rattle.fa_boxes.specs.declared.seeing.Seen.{Seen}
 use Rattle.fa_boxes.specs.inner.Seeing.{IsTable}
 use Rattle.fa_boxes.specs.inner.TopRules.{fields_by}
-use Rattle.fa_boxes.specs.inner.Parts.{given_in, part_at, parts_from, ArePartsOf, PartsApart, SomePartsApart, HaveApart}
+use Rattle.fa_boxes.specs.inner.Parts.{tree_given, part_at, parts_from, ArePartsOf, PartsApart, SomePartsApart, HaveApart}
 use Rattle.fa_boxes.specs.inner.Parts.{provided_by, rule_fields, IsTopAdded, IsTopFields, AreTopFields}
 use Rattle.fa_boxes.proofs.TopRules.{rule_run}
 
@@ -121,10 +121,10 @@ differ i k n = here (nat_eq i k) refl
 
 module _ (bs : List BoxFace) (r : ℕ) where
   -- the tree of another root gives what its box edges give
-  part_other : (i : ℕ) (t : Tree) → nat_eq i r ≡ false → part_at bs r i t ≡ given_in bs r t
+  part_other : (i : ℕ) (t : Tree) → nat_eq i r ≡ false → part_at bs r i t ≡ tree_given bs r t
   part_other i t e = rw e refl
 
-  part_own : (i : ℕ) (t : Tree) → nat_eq i r ≡ true → part_at bs r i t ≡ covered_fields bs t ++ given_in bs r t
+  part_own : (i : ℕ) (t : Tree) → nat_eq i r ≡ true → part_at bs r i t ≡ covered_fields bs t ++ tree_given bs r t
   part_own i t e = rw e refl
 
   beyond : (i : ℕ) (ts : List Tree) → r < i → parts_from bs r i ts ≡ given_at bs ts r
@@ -141,12 +141,12 @@ module _ (bs : List BoxFace) (r : ℕ) where
       let o = part_own i t (eq-eqb i r (omega (arith, e))) in
       let b = beyond (suc i) ts (omega (arith, e)) in
       equal (ap₂ (λ (xs ys : List ℕ). xs ++ ys) o b
-      ∙ append_assoc (covered_fields bs t) (given_in bs r t) (given_at bs ts r))
+      ∙ append_assoc (covered_fields bs t) (tree_given bs r t) (given_at bs ts r))
   up_to i (suc k) (t ∷ ts) e =
       let o = part_other i t (differ i r (λ d. omega (arith, d, e))) in
       chain (equal (ap (λ (xs : List ℕ). xs ++ parts_from bs r (suc i) ts) o))
-      (chain (after (given_in bs r t) (up_to (suc i) k ts (omega (arith, e))))
-      (exchange (given_in bs r t) (covered_at bs (slice_get ts k)) (given_at bs ts r)))
+      (chain (after (tree_given bs r t) (up_to (suc i) k ts (omega (arith, e))))
+      (exchange (tree_given bs r t) (covered_at bs (slice_get ts k)) (given_at bs ts r)))
 
   two_choices : (autos : List Automaton) → Every HasSome autos → (i k n : ℕ) → n ≡ i + k → (a : Automaton)
       → slice_get autos k ≡ Some a → PartsApart bs r n a → (ts : List Tree) × (us : List Tree) × Choice autos ts

@@ -160,12 +160,13 @@ module _ (bs : List BoxFace) (rules : List Rule) where
 
   -- Learning.
 
-  abbrev HasKinds : ℕ → Seen → Bool → Type 0
-  HasKinds q s j = has_kind j s ≡ true → (t : Tree) × RunOf rules q t
+  -- if the kind is known, it is that of some tree
+  abbrev IsKindSeen : ℕ → Seen → Bool → Type 0
+  IsKindSeen q s j = has_kind j s ≡ true → (t : Tree) × RunOf rules q t
       × (below_of bs t ≡ record { leaf = j; marks = s.marks })
 
   -- the trees of a kind, with marks that are the same
-  moved : (q : ℕ) (s : Seen) (ms : List RefMark) → s.marks ≡ ms → ((j : Bool) → HasKinds q s j) → (j : Bool)
+  moved : (q : ℕ) (s : Seen) (ms : List RefMark) → s.marks ≡ ms → ((j : Bool) → IsKindSeen q s j) → (j : Bool)
       → has_kind j s ≡ true → (t : Tree) × RunOf rules q t × (below_of bs t ≡ record { leaf = j; marks = ms })
   moved q s ms e h j k =
       let u = h j k in (u.0, u.1, u.2 ∙ ap (λ (m : List RefMark). record { leaf = j; marks = m }) e)
@@ -175,12 +176,12 @@ module _ (bs : List BoxFace) (rules : List Rule) where
       → (t : Tree) × RunOf rules q t × (below_of bs t ≡ record { leaf = k; marks = ms }) → IsSeen bs rules q x
   add_seen q None true ms x a w t = subst (IsSeen bs rules q) (sym (same_Some x _ a)) (only, (true, refl))
     where
-      only : (j : Bool) → HasKinds q (record { leaf = true; cell = false; marks = ms }) j
+      only : (j : Bool) → IsKindSeen q (record { leaf = true; cell = false; marks = ms }) j
       only true e = t
       only false e = absurd (true≢false (sym e))
   add_seen q None false ms x a w t = subst (IsSeen bs rules q) (sym (same_Some x _ a)) (only, (false, refl))
     where
-      only : (j : Bool) → HasKinds q (record { leaf = false; cell = true; marks = ms }) j
+      only : (j : Bool) → IsKindSeen q (record { leaf = false; cell = true; marks = ms }) j
       only true e = absurd (true≢false (sym e))
       only false e = t
   add_seen q (Some s) true ms x a w t =
@@ -188,7 +189,7 @@ module _ (bs : List BoxFace) (rules : List Rule) where
     where
       both : ((j : Bool) → has_kind j s ≡ true → (t : Tree) × RunOf rules q t
           × (below_of bs t ≡ record { leaf = j; marks = ms })) → (j : Bool)
-          → HasKinds q (record { leaf = s.leaf || true; cell = s.cell || false; marks = ms }) j
+          → IsKindSeen q (record { leaf = s.leaf || true; cell = s.cell || false; marks = ms }) j
       both old true e = t
       both old false e = old false (or_left s.cell e)
   add_seen q (Some s) false ms x a w t =
@@ -196,7 +197,7 @@ module _ (bs : List BoxFace) (rules : List Rule) where
     where
       both : ((j : Bool) → has_kind j s ≡ true → (t : Tree) × RunOf rules q t
           × (below_of bs t ≡ record { leaf = j; marks = ms })) → (j : Bool)
-          → HasKinds q (record { leaf = s.leaf || false; cell = s.cell || true; marks = ms }) j
+          → IsKindSeen q (record { leaf = s.leaf || false; cell = s.cell || true; marks = ms }) j
       both old true e = old true (or_left s.leaf e)
       both old false e = t
 

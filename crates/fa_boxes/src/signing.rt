@@ -19,9 +19,9 @@ use std::alloc::Global;
 use ta_core::auto::Auto;
 
 /// For each component the signatures of its trees, each once. None where two trees of a state have different ones.
-/// It is to be asked where each choice of trees gives each field at most once to each root: what the trees of a state
-/// provide is then never longer than a struct. Where box edges may give a field more often, it can double with each
-/// state.
+/// It is to be asked where each tree has a cell at its top and no choice of trees gives a field to a root twice: what
+/// the trees of a state provide is then never longer than a struct. Where box edges may give a field more often, it can
+/// double with each state.
 ///
 /// # Errors
 ///

@@ -18,12 +18,12 @@ use Rattle.fa_boxes.specs.inner.Seeing.{own}
 use Rattle.fa_boxes.specs.inner.TopRules.{fields_by, IsTop}
 
 -- what box edges of the tree give to root r
-abbrev pub given_in : List BoxFace → ℕ → Tree → List ℕ
-given_in bs r t = flat_map (λ w. given bs w.steps) (to_root r (ways t))
+abbrev pub tree_given : List BoxFace → ℕ → Tree → List ℕ
+tree_given bs r t = flat_map (λ w. given bs w.steps) (to_root r (ways t))
 
 -- that, and what the tree covers by the slots at its top, if it is the tree of root r itself; it is that of root i
 abbrev pub part_at : List BoxFace → ℕ → ℕ → Tree → List ℕ
-part_at bs r i t = if nat_eq i r then covered_fields bs t ++ given_in bs r t else given_in bs r t
+part_at bs r i t = if nat_eq i r then covered_fields bs t ++ tree_given bs r t else tree_given bs r t
 
 -- so for the trees of the roots from i on
 abbrev pub parts_from : List BoxFace → ℕ → ℕ → List Tree → List ℕ
