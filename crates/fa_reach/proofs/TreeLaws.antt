@@ -1,17 +1,20 @@
 -- Choices of signatures of lists are those of trees of components.
-use Rattle.std.proofs.Common.{◌≡◌, ℕ, ◌<◌, ◌↔◌, List, [], ◌∷◌, length, sym, ap, subst, ◌∙◌}
-use Rattle.fore_base.specs.Lists.{IsIn, Paired}
-use Rattle.fore_base.proofs.ListLemmas.{paired_long}
+use Rattle.std.proofs.Common.{◌≡◌, ℕ, ◌<◌, inl, inr, ◌↔◌, List, [], ◌∷◌, length, refl, sym, ap, subst, ◌∙◌}
+use Rattle.fore_base.specs.Lists.{IsIn, Every, Paired}
+use Rattle.fore_base.proofs.ListLemmas.{in_every, paired_long}
 use Rattle.ta_core.specs.Auto.{Automaton}
+use Rattle.ta_core.specs.Language.{InLanguage}
 use Rattle.ta_core.specs.declared.tree.Tree.{Tree}
+use Rattle.fa_core.specs.Canonical.{RefersTo}
 use Rattle.fa_core.specs.declared.faces.BoxFace.{BoxFace}
 use Rattle.fa_core.specs.declared.signature.RefMark.{RefMark}
 use Rattle.fa_core.specs.declared.signature.Signature.{Signature}
-use Rattle.fa_core.specs.Filled.{Choice}
+use Rattle.fa_core.specs.Filled.{Choice, HasSome}
 use Rattle.fa_back.specs.Insides.{ReachesAll, AlwaysReaches, NeverReaches}
-use Rattle.fa_back.specs.Reached.{AreSignaturesOf, IsSignedBy}
+use Rattle.fa_back.specs.Reached.{AreSignaturesOf, IsSignedBy, AllNameBelow, NamesBelow}
+use Rattle.fa_back.proofs.ForestLaws.{signs_within}
 use Rattle.fa_box_rules.specs.Signs.{AreSignsOf, AreSigns, Picks}
-use Rattle.fa_reach.specs.Choices.{AllReach, AlwaysLeads, NeverLeads}
+use Rattle.fa_reach.specs.Choices.{AllReach, AlwaysLeads, NeverLeads, HasSign}
 
 module _ (bs : List BoxFace) where
   -- trees with the signatures of a choice
@@ -80,3 +83,30 @@ module _ (bs : List BoxFace) where
       λ h ss w g. h ss (picks_of autos lists ss signs w) g,
       λ h ss p g. h ss (signatures_of autos lists ss signs p) g,
     )
+
+  -- Lists as they are asked for.
+
+  pub signs_long : (autos : List Automaton) (lists : List (List Signature)) → AreSigns bs autos lists
+      → length lists ≡ length autos
+  signs_long autos lists a = sym (paired_long (AreSignsOf bs) autos lists a)
+
+  pub signs_full : (autos : List Automaton) (lists : List (List Signature)) → AreSigns bs autos lists
+      → Every HasSome autos → Every HasSign lists
+  signs_full [] [] a h = tt
+  signs_full [] (list ∷ lists) a h = absurd a
+  signs_full (x ∷ autos) [] a h = absurd a
+  signs_full (x ∷ autos) (list ∷ lists) a h =
+      let w = a.0.each h.0.0 h.0.1 in ((w.0, w.1), signs_full autos lists a.1 h.1)
+
+  pub signs_named : (n : ℕ) (autos : List Automaton) (lists : List (List Signature)) → AreSigns bs autos lists
+      → ((a : Automaton) (t : Tree) (k : ℕ) → IsIn a autos → InLanguage a t → RefersTo t k → k < n)
+      → Every (AllNameBelow n) lists
+  signs_named n [] [] a h = tt
+  signs_named n [] (list ∷ lists) a h = absurd a
+  signs_named n (x ∷ autos) [] a h = absurd a
+  signs_named n (x ∷ autos) (list ∷ lists) a h = (
+    in_every (λ (s : Signature). Every (NamesBelow n) s.refs) list (λ s i. (let w = a.0.some s i in
+        (signs_within bs n (w.0 ∷ []) (s ∷ []) (sym w.2, tt) (λ t k j r.
+        elim j [ inl e ↦ h x w.0 k (inl refl) w.1 (subst (λ (z : Tree). RefersTo z k) e r) | inr z ↦ absurd z ])).0)),
+    signs_named n autos lists a.1 (λ b t k i l r. h b t k (inr i) l r),
+  )

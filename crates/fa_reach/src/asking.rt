@@ -6,8 +6,8 @@ ghost use Rattle.fa_reach.specs.inner.Sweeps.{IsNext, IsUnknown};
 use crate::part::Part;
 use fore_base::list::List;
 
-/// A component that is not known, where there is one. One to which a known one refers comes first, since there a look at
-/// the known one mostly gives the answer.
+/// A component that is not known, where there is one. One to which a known one refers comes first, since there a look
+/// at the known one mostly gives the answer.
 pub fn next(parts: &[Part], known: &List<bool>) -> Option<u32>
     requires { length known.now < 2 ^ 32 }
     ensures { IsNext known.now result }

@@ -6,8 +6,8 @@ ghost use Rattle.fore_base.specs.Lists.{IsIn, Every};
 ghost use Rattle.fa_back.specs.Reached.{AllNameBelow};
 ghost use Rattle.fa_reach.specs.Choices.{HasSign};
 ghost use Rattle.fa_reach.specs.inner.Going.{AllFit};
-ghost use Rattle.fa_reach.specs.inner.Parts.{own_hops, mark_hops, hop, hops_of, roots_of, AreDowns, AreParts, AllParted};
-ghost use Rattle.fa_reach.specs.inner.Parts.{AddsDown, AddsPart, HasHops};
+ghost use Rattle.fa_reach.specs.inner.Parts.{own_hops, mark_hops, hop, hops_of, roots_of, AreDowns, AreParts};
+ghost use Rattle.fa_reach.specs.inner.Parts.{AllParted, AddsDown, AddsPart, HasHops};
 
 use crate::part::{Hop, Part};
 use fa_core::signature::{RefMark, Signature};

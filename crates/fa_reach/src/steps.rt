@@ -5,13 +5,14 @@ use fore_base::list::List;
 use fore_base::memory::Mem;
 use std::alloc::AllocError;
 
-/// The most roots that are looked at: as many as a fraction of a second allows.
+/// The most steps for one question: so many that they take a fraction of a second, at some nanoseconds for a look, and
+/// that 65,536 choices of sixteen small components are gone through.
 const MOST_STEPS: usize = 67_108_864;
 
-/// What a list that is made counts.
+/// What a list that is made counts: taking memory for it takes as long as some looks.
 const LIST_STEPS: usize = 8;
 
-/// How many roots may still be looked at.
+/// How many steps may still be taken.
 #[derive(Debug, Drop)]
 pub struct Steps {
     left: usize,
@@ -45,7 +46,12 @@ impl Steps {
     pub fn take_lists(&mut self, parts: &[Part]) -> Mem<()> {
         let mut left = self.left;
         for part in parts {
-            left = left.saturating_sub(part.downs.len().saturating_add(2).saturating_mul(LIST_STEPS));
+            left = left.saturating_sub(
+                part.downs
+                    .len()
+                    .saturating_add(2)
+                    .saturating_mul(LIST_STEPS),
+            );
         }
         self.left = left;
         if left == 0 { Err(AllocError) } else { Ok(()) }

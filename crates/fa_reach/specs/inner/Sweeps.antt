@@ -1,6 +1,6 @@
 -- Sets of components, from which those are taken out that cannot keep out of the others.
-use Rattle.std.specs.Prelude.{◌≡◌, ℕ, suc, ◌<◌, Bool, true, false, ◌||◌, List, [], ◌∷◌, Option, Some, None, length, slice_get}
-use Rattle.std.specs.Prelude.{slice_index_or, slice_set}
+use Rattle.std.specs.Prelude.{◌≡◌, ℕ, suc, ◌<◌, Bool, true, false, ◌||◌, List, [], ◌∷◌, Option, Some, None, length}
+use Rattle.std.specs.Prelude.{slice_get, slice_index_or, slice_set}
 use Rattle.fore_base.specs.Lists.{IsIn}
 use Rattle.fore_base.specs.Marks.{IsMarked, all_marked}
 use Rattle.fa_reach.specs.declared.part.Hop.{Hop}
