@@ -1,5 +1,5 @@
 -- Whole texts, worked out by hand.
-use Rattle.std.proofs.Common.{◌≡◌, ℕ, true, false, List, [], ◌∷◌, ◌++◌, codes, flat_map, refl, Some, None}
+use Rattle.std.proofs.Common.{◌≡◌, ℕ, true, false, List, [], ◌∷◌, ◌++◌, codes, flat_map, refl, Some, None, arith}
 use Rattle.std.specs.Fmt.{digits}
 use Rattle.fore_base.specs.declared.shape.FieldKind.TheVariants.{Pointer, Datum as IsDatum}
 use Rattle.fore_base.specs.declared.shape.Shape.{Shape}
@@ -19,7 +19,10 @@ use Rattle.fa_core.specs.declared.boxes.BoxDef.{BoxDef}
 use Rattle.fa_core.specs.declared.forest.Forest.{Forest}
 use Rattle.fa_core.specs.declared.forest.Target.TheVariants.{At, Null as NullTarget, Uninit as UninitTarget}
 use Rattle.fa_core.specs.declared.forest.Target.TheVariants.{Dangling as DanglingTarget}
+use Rattle.fa_lines.specs.declared.line.Term.TheVariants.{Null as NoTerm}
+use Rattle.fa_written.specs.declared.draft.RuleDraft.{RuleDraft}
 use Rattle.fa_print.specs.Lines.{by_state}
+use Rattle.fa_print.specs.Returned.{AreInOrder}
 use Rattle.fa_print.specs.Texts.{forest_text, box_text, store_text}
 
 -- lines, each with its newline
@@ -182,3 +185,14 @@ whole_store : store_text program store ≡ lines (codes "store" ∷ codes "var 0
     ∷ codes "end" ∷ [])
 unfolding digits
 whole_store = refl
+
+-- Rules in order of state
+
+abbrev leaf_rule : ℕ → RuleDraft
+leaf_rule q = record { line = 3; state = q; term = NoTerm }
+
+some_in_order : AreInOrder (leaf_rule 0 ∷ leaf_rule 2 ∷ leaf_rule 2 ∷ leaf_rule 7 ∷ [])
+some_in_order = (omega arith, (omega arith, (omega arith, tt)))
+
+out_of_order : AreInOrder (leaf_rule 0 ∷ leaf_rule 2 ∷ leaf_rule 1 ∷ []) → ⊥
+out_of_order h = omega (arith, h.1.0)

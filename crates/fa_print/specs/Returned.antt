@@ -4,7 +4,11 @@ use Rattle.fore_base.specs.Lists.{Every, Paired}
 use Rattle.fore_base.specs.declared.shape.Shapes.{Shapes}
 use Rattle.fa_core.specs.Boxes.{Boxes}
 use Rattle.fa_core.specs.declared.boxes.BoxDef.{BoxDef}
+use Rattle.fa_lines.specs.Pieces.{lines_of}
+use Rattle.fa_lines.specs.Says.{Says}
+use Rattle.fa_lines.specs.Spelling.{IsLine}
 use Rattle.fa_lines.specs.declared.line.Line.{Line}
+use Rattle.fa_print.specs.Lines.{lines_text}
 use Rattle.fa_written.specs.Forms.{box_lines}
 use Rattle.fa_written.specs.declared.draft.RuleDraft.{RuleDraft}
 use Rattle.fa_written.specs.declared.draft.PartDraft.{PartDraft}
@@ -39,3 +43,7 @@ abbrev pub IsPrintedAsRead : Shapes → List BoxDraft → Boxes → Type 0
 IsPrintedAsRead shapes bs table = (named : List NamedBox) → AreNamed shapes bs named → Every IsInOrder bs
     → table.face.shapes ≡ shapes → Paired IsBoxOf named table.defs
     → map (printed.box_lines table) table.defs ≡ map lines_read bs
+
+-- what is printed for lines says these lines to the reader of files of boxes
+abbrev pub AreReadAsPrinted : List Line → Type 0
+AreReadAsPrinted lines = Every IsLine lines → Paired Says (lines_of (lines_text lines)) lines
