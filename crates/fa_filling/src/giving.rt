@@ -116,7 +116,7 @@ fn is_state_once(alloc: Global, face: &Face, above: &[u32], state: u32, rules: &
 }
 
 /// The fields that the edge gives to the cell at its end.
-fn given_by<'a>(boxes: &'a [BoxFace], slot: Slot) -> &'a [u32]
+pub fn given_by<'a>(boxes: &'a [BoxFace], slot: Slot) -> &'a [u32]
     ensures { result.now ≡ given_by boxes.entry.now slot }
 {
     match slot {
@@ -180,7 +180,7 @@ fn are_as_often(numbers: &[u32], left: &[u32], right: &[u32]) -> bool
     true
 }
 
-fn often(number: u32, numbers: &[u32]) -> usize
+pub fn often(number: u32, numbers: &[u32]) -> usize
     ensures { result ≡ often number numbers.now }
 {
     let mut count: usize = 0;

@@ -8,9 +8,9 @@ mod choosing;
 mod covering;
 mod ends;
 pub mod fields;
-mod filling;
-mod giving;
-mod parts;
+pub mod filling;
+pub mod giving;
+pub mod parts;
 
 pub use choosing::is_filled;
 pub use covering::{covered, has_field};

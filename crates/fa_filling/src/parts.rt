@@ -40,7 +40,7 @@ pub fn parts(alloc: Global, auto: &Auto) -> Mem<Option<List<Part>>>
 }
 
 /// The rules of root states that some tree can use.
-fn top_rules(alloc: Global, auto: &Auto) -> Mem<List<Rule>>
+pub fn top_rules(alloc: Global, auto: &Auto) -> Mem<List<Rule>>
     ensures { IfOk result (AreTopRules auto.now auto.now.rules) }
 {
     let marks = inhabited(alloc, auto)?;
@@ -88,7 +88,7 @@ fn structs_of(alloc: Global, rules: &[Rule]) -> Mem<Option<List<u32>>>
 }
 
 /// Adds the number where it is not there.
-fn add(numbers: &mut List<u32>, number: u32) -> Mem<()>
+pub fn add(numbers: &mut List<u32>, number: u32) -> Mem<()>
     requires { IsDistinct numbers.old }
     ensures { OnOk result (IsAdded number numbers.old numbers.new) }
 {
@@ -112,7 +112,7 @@ fn parts_for(alloc: Global, whole: &Auto, tops: &[Rule], structs: &[u32]) -> Mem
 }
 
 /// The trees by those of the rules that have a cell of the struct.
-fn part_for(alloc: Global, whole: &Auto, tops: &[Rule], shape: u32) -> Mem<Part>
+pub fn part_for(alloc: Global, whole: &Auto, tops: &[Rule], shape: u32) -> Mem<Part>
     requires { (r : Rule) → IsIn r tops.now → IsIn r whole.now.rules }
     ensures { IfOk result (IsPartFor whole.now tops.now shape) }
 {
