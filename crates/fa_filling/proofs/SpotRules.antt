@@ -80,10 +80,10 @@ module _ (bs : List BoxFace) where
     abbrev pub Holds : Tree → List ℕ → Type 0
     Holds t above = Every P (spots bs t above)
 
-    abbrev HoldsBelow : List Slot → List Tree → Type 0
+    abbrev pub HoldsBelow : List Slot → List Tree → Type 0
     HoldsBelow ss ts = Every (λ (e : Slot × Tree). Holds e.1 (given_by bs e.0)) (edges ss ts)
 
-    every_flat : (es : List (Slot × Tree)) → Every (λ (e : Slot × Tree). Holds e.1 (given_by bs e.0)) es
+    pub every_flat : (es : List (Slot × Tree)) → Every (λ (e : Slot × Tree). Holds e.1 (given_by bs e.0)) es
         → Every P (flat_map (λ e. spots bs e.1 (given_by bs e.0)) es)
     every_flat [] h = tt
     every_flat (e ∷ es) h = every_append P (spots bs e.1 (given_by bs e.0))
@@ -97,7 +97,7 @@ module _ (bs : List BoxFace) where
     every_right [] ys h = h
     every_right (x ∷ xs) ys h = every_right xs ys h.1
 
-    flat_every : (es : List (Slot × Tree)) → Every P (flat_map (λ e. spots bs e.1 (given_by bs e.0)) es)
+    pub flat_every : (es : List (Slot × Tree)) → Every P (flat_map (λ e. spots bs e.1 (given_by bs e.0)) es)
         → Every (λ (e : Slot × Tree). Holds e.1 (given_by bs e.0)) es
     flat_every [] h = tt
     flat_every (e ∷ es) h = (
@@ -105,26 +105,26 @@ module _ (bs : List BoxFace) where
       flat_every es (every_right (spots bs e.1 (given_by bs e.0)) _ h),
     )
 
-    holds_cell : (t : Tree) (above : List ℕ) (s : ℕ) (ds : List Datum) (ss : List Slot) → (out-Tree t).symbol
+    pub holds_cell : (t : Tree) (above : List ℕ) (s : ℕ) (ds : List Datum) (ss : List Slot) → (out-Tree t).symbol
         ≡ Cell s ds ss → P (spot s ss (map top_symbol (out-Tree t).children) above)
         → HoldsBelow ss (out-Tree t).children → Holds t above
     holds_cell t above s ds ss e p h =
         subst (Every P) (sym (cell_spots t above s ds ss e)) (p, every_flat (edges ss (out-Tree t).children) h)
 
-    cell_holds : (t : Tree) (above : List ℕ) (s : ℕ) (ds : List Datum) (ss : List Slot) → (out-Tree t).symbol
+    pub cell_holds : (t : Tree) (above : List ℕ) (s : ℕ) (ds : List Datum) (ss : List Slot) → (out-Tree t).symbol
         ≡ Cell s ds ss → Holds t above → P (spot s ss (map top_symbol (out-Tree t).children) above)
         × HoldsBelow ss (out-Tree t).children
     cell_holds t above s ds ss e h = let k = subst (Every P) (cell_spots t above s ds ss e) h in
         (k.0, flat_every (edges ss (out-Tree t).children) k.1)
 
-    leaf_holds : (t : Tree) (above : List ℕ) (y : Symbol) → (out-Tree t).symbol ≡ y
+    pub leaf_holds : (t : Tree) (above : List ℕ) (y : Symbol) → (out-Tree t).symbol ≡ y
         → spots_at bs y (with_spots (out-Tree t).children) above ≡ [] → Holds t above
     leaf_holds t above y e k =
         subst (Every P)
         (sym (spots_out t above ∙ ap (λ (z : Symbol). spots_at bs z (with_spots (out-Tree t).children) above) e ∙ k)) tt
 
     module _ (rules : List Rule) where
-      symbols_of : {qs : List ℕ} {ts : List Tree} → RunEach rules qs ts
+      pub symbols_of : {qs : List ℕ} {ts : List Tree} → RunEach rules qs ts
           → Paired (SymbolsOf rules) qs (map top_symbol ts)
       symbols_of run_none = tt
       symbols_of (run_more (run r i e s k) rs) = ((r, i, e, s), symbols_of rs)
@@ -149,7 +149,7 @@ module _ (bs : List BoxFace) where
           holds_run {q} {t} above (run r i e s k) f =
               holds_rule above t r (f r i e) s k (λ h ds ss x. holds_each ss k (each r i h ds ss x)) r.symbol refl
 
-          holds_each : {qs : List ℕ} {ts : List Tree} (ss : List Slot) → RunEach rules qs ts
+          pub holds_each : {qs : List ℕ} {ts : List Tree} (ss : List Slot) → RunEach rules qs ts
               → Every (λ (e : Slot × ℕ). (o : Rule) → IsIn o rules → o.state ≡ e.1
               → RuleSpots P rules o (given_by bs e.0)) (edges ss qs) → HoldsBelow ss ts
           holds_each [] k h = tt
@@ -177,10 +177,10 @@ module _ (bs : List BoxFace) where
       run_length (run_more r rs) = ap suc (run_length rs)
 
       -- P holds of the cells of u where it holds of those of t
-      abbrev Contains : Tree → Tree → Type 0
+      abbrev pub Contains : Tree → Tree → Type 0
       Contains t u = (above : List ℕ) → Holds t above → (a : List ℕ) × Holds u a
 
-      child_held : (r : Rule) (vs : List Tree) (v : Tree) → length r.children ≡ arity r.symbol → length r.children
+      pub child_held : (r : Rule) (vs : List Tree) (v : Tree) → length r.children ≡ arity r.symbol → length r.children
           ≡ length vs → IsIn v vs → Contains (tree_of r.symbol vs) v
       child_held r vs v l m i = here r.symbol refl
         where
@@ -226,7 +226,7 @@ module _ (bs : List BoxFace) where
 
         -- each of the states has a tree; so each rule has one, with any symbols that its children may have
         module _ (trees : (q : ℕ) → q < n → HasTree rules q) where
-          some_trees : (qs : List ℕ) → Every (λ q. q < n) qs → (ts : List Tree) × RunEach rules qs ts
+          pub some_trees : (qs : List ℕ) → Every (λ q. q < n) qs → (ts : List Tree) × RunEach rules qs ts
           some_trees [] h = ([], run_none)
           some_trees (q ∷ qs) h = let t = trees q h.0 in let k = some_trees qs h.1 in (t.0 ∷ k.0, run_more t.1 k.1)
 
@@ -240,7 +240,7 @@ module _ (bs : List BoxFace) where
                 (let x : Tree-F Tree = record { symbol = r.symbol; children = k.0 } in rw (out-roll-Tree x) s),
               )
 
-          symbol_trees : (qs : List ℕ) (ys : List Symbol) → Paired (SymbolsOf rules) qs ys → (ts : List Tree)
+          pub symbol_trees : (qs : List ℕ) (ys : List Symbol) → Paired (SymbolsOf rules) qs ys → (ts : List Tree)
               × RunEach rules qs ts × (map top_symbol ts ≡ ys)
           symbol_trees [] [] h = ([], run_none, refl)
           symbol_trees [] (y ∷ ys) h = absurd h
@@ -251,15 +251,15 @@ module _ (bs : List BoxFace) where
               (t.0 ∷ k.0, run_more t.1 k.1, ap₂ (λ (z : Symbol) (zs : List Symbol). z ∷ zs) t.2 k.2)
 
           -- a tree by the rule with these symbols below it
-          abbrev RuleTree : Rule → List Symbol → Type 0
+          abbrev pub RuleTree : Rule → List Symbol → Type 0
           RuleTree r ys = (ts : List Tree) × RunOf rules r.state (tree_of r.symbol ts) × (map top_symbol ts ≡ ys)
 
-          rule_tree : (r : Rule) → IsIn r rules → (ys : List Symbol) → Paired (SymbolsOf rules) r.children ys
+          pub rule_tree : (r : Rule) → IsIn r rules → (ys : List Symbol) → Paired (SymbolsOf rules) r.children ys
               → RuleTree r ys
           rule_tree r i ys h = let k = symbol_trees r.children ys h in (k.0, run_tree rules r k.0 i k.1, k.2)
 
           -- what P says of the cell at the top of such a tree
-          tree_spot : (r : Rule) (ts : List Tree) (above : List ℕ) (s : ℕ) (ds : List Datum) (ss : List Slot)
+          pub tree_spot : (r : Rule) (ts : List Tree) (above : List ℕ) (s : ℕ) (ds : List Datum) (ss : List Slot)
               → r.symbol ≡ Cell s ds ss → Holds (tree_of r.symbol ts) above → P (spot s ss (map top_symbol ts) above)
               × HoldsBelow ss ts
           tree_spot r ts above s ds ss e h =
@@ -278,7 +278,7 @@ module _ (bs : List BoxFace) where
               subst (λ (zs : List Symbol). P (spot s ss zs above)) k.2 c.0
 
           -- trees of the states, with u in the place of one that stands at an edge
-          with_edge : (ss : List Slot) (qs : List ℕ) → Every (λ q. q < n) qs → (e : Slot × ℕ) → IsIn e (edges ss qs)
+          pub with_edge : (ss : List Slot) (qs : List ℕ) → Every (λ q. q < n) qs → (e : Slot × ℕ) → IsIn e (edges ss qs)
               → (u : Tree) → RunOf rules e.1 u → (ts : List Tree) × RunEach rules qs ts × IsIn (e.0, u) (edges ss ts)
           with_edge [] qs h e i u k = absurd i
           with_edge (Hook b ∷ ss) qs h e i u k = with_edge ss qs h e i u k

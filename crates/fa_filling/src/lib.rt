@@ -5,7 +5,7 @@
 #![tactic(auto)]
 
 mod choosing;
-mod covering;
+pub mod covering;
 mod ends;
 pub mod fields;
 pub mod filling;

@@ -1,2 +1,3 @@
+pub mod RootFields
 pub mod Sums
 pub mod Weights

@@ -1,2 +1,3 @@
+pub mod Shaped
 pub mod Totals
 pub mod Worths

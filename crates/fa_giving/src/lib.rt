@@ -2,5 +2,6 @@
 //! in order, and edges end where they may.
 #![tactic(auto)]
 
+mod roots;
 mod totals;
 mod worths;

@@ -10,9 +10,9 @@ ghost use Rattle.fa_giving.specs.inner.Worths.{refers, nothing};
 
 use crate::worths::{Worth, joined, most_below, none_below, nothing, sum, worth_at, worths};
 use fa_core::faces::BoxFace;
-use fore_base::list::List;
+use fore_base::list::{Copies, List};
 use fore_base::memory::Mem;
-use std::alloc::Global;
+use std::alloc::{AllocError, Global};
 use ta_core::auto::{Auto, Rule};
 use ta_core::symbol::Symbol;
 
@@ -21,6 +21,12 @@ use ta_core::symbol::Symbol;
 pub struct Extremes {
     pub most: u32,
     pub none: bool,
+}
+
+impl Copies for Extremes {
+    fn copy(&self, _alloc: Global) -> Result<Extremes, AllocError> {
+        Ok(*self)
+    }
 }
 
 /// For each component how often its trees give the field at the root. Err is want of memory.

@@ -1,6 +1,6 @@
 -- How often the trees of a choice give a field at a root, together: the greatest number and the least.
 use Rattle.std.specs.Prelude.{◌≡◌, ◌⊎◌, ◌≤◌, ℕ, ◌+◌, Bool, true, false, ◌&&◌, ◌||◌, List, [], ◌∷◌, ◌++◌, map, flat_map, Option, Some}
-use Rattle.std.specs.Prelude.{slice_get, if◌then◌else◌}
+use Rattle.std.specs.Prelude.{slice_get, slice_set, if◌then◌else◌}
 use Rattle.fore_base.specs.Lists.{IsIn, Every, Paired, sum_of}
 use Rattle.fore_base.specs.declared.store.Datum.{Datum}
 use Rattle.ta_core.specs.Auto.{Automaton}
@@ -15,6 +15,7 @@ use Rattle.fa_core.specs.declared.faces.Face.{Face}
 use Rattle.fa_core.specs.Filled.{Choice, covers, fields_of, given_at}
 use Rattle.fa_core.specs.Rearranged.{often}
 use Rattle.fa_core.specs.Ways.{gives_out_of}
+use Rattle.fa_filling.specs.inner.Parted.{chosen}
 use Rattle.fa_giving.specs.declared.worths.Worth.{Worth}
 use Rattle.fa_giving.specs.declared.totals.Extremes.{Extremes}
 use Rattle.fa_giving.specs.inner.Worths.{weigh, weight, refers, worth_at, joined, most_below, none_below, capped}
@@ -86,3 +87,28 @@ IsGivenRight face port r f ts = (t : Tree) (s : ℕ) (ds : List Datum) (ss : Lis
 abbrev pub ForAll : List Automaton → (List Tree → Type 0) → Bool → Type 0
 ForAll autos P true = (ts : List Tree) → Choice autos ts → P ts
 ForAll autos P false = (ts : List Tree) × Choice autos ts × (P ts → ⊥)
+
+-- P holds of each choice in which the tree of root r is by rule o of its component a, or fails for some choice
+abbrev pub ForTop : List Automaton → ℕ → Automaton → Rule → (List Tree → Type 0) → Bool → Type 0
+ForTop autos r a o P true = (ts : List Tree) → Choice (slice_set autos r (chosen a (o ∷ []))) ts → P ts
+ForTop autos r a o P false = (ts : List Tree) × Choice autos ts × (P ts → ⊥)
+
+-- the fields that boxes give
+abbrev pub given_fields : List BoxFace → List ℕ
+given_fields bs = flat_map (λ x. x.gives_out) bs
+
+-- the fields of a cell with the symbol, and those that its slots cover
+abbrev pub symbol_fields : Face → Symbol → List ℕ
+symbol_fields face Null = []
+symbol_fields face Uninit = []
+symbol_fields face Dangling = []
+symbol_fields face (Ref k) = []
+symbol_fields face (Cell s ds ss) = fields_of face.shapes.structs s ++ flat_map (covers face.boxes) ss
+
+-- those of the rules
+abbrev pub rule_fields : Face → List Rule → List ℕ
+rule_fields face rules = flat_map (λ o. symbol_fields face o.symbol) rules
+
+-- each number of xs is in ys
+abbrev pub AreIn : List ℕ → List ℕ → Type 0
+AreIn ys xs = Every (λ x. IsIn x ys) xs
