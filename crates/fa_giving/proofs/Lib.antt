@@ -1,3 +1,4 @@
+pub mod OnceRules
 pub mod RootFields
 pub mod Sums
 pub mod Weights

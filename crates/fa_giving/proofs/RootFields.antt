@@ -144,10 +144,10 @@ module _ (bs : List BoxFace) (r f : ℕ) where
 
 -- CHOICES WITH ONE RULE AT A ROOT
 
-none_some : {X : Type 0} (x : X) → None ≡ Some x → ⊥
+pub none_some : {X : Type 0} (x : X) → None ≡ Some x → ⊥
 none_some x h = cc
 
-some_same : {X : Type 0} (x y : X) → Some x ≡ Some y → x ≡ y
+pub some_same : {X : Type 0} (x y : X) → Some x ≡ Some y → x ≡ y
 some_same x y h = cc
 
 -- the component at a place is another one

@@ -2,6 +2,7 @@
 //! in order, and edges end where they may.
 #![tactic(auto)]
 
+mod below;
 mod roots;
 mod totals;
 mod worths;
