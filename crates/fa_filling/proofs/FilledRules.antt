@@ -254,11 +254,11 @@ module _ (face : Face) (topss : List (List ℕ)) (rules : List Rule) where
 
   -- the symbols below a rule, with a given one at an edge
   module _ (n : ℕ) (symbols : (q : ℕ) → q < n → (y : Symbol) × SymbolsOf rules q y) where
-    all_symbols : (qs : List ℕ) → Every (λ q. q < n) qs → (ys : List Symbol) × Paired (SymbolsOf rules) qs ys
+    pub all_symbols : (qs : List ℕ) → Every (λ q. q < n) qs → (ys : List Symbol) × Paired (SymbolsOf rules) qs ys
     all_symbols [] h = ([], tt)
     all_symbols (q ∷ qs) h = let a = symbols q h.0 in let k = all_symbols qs h.1 in (a.0 ∷ k.0, (a.1, k.1))
 
-    symbols_with : (ss : List Slot) (qs : List ℕ) → Every (λ q. q < n) qs → (e : Slot × ℕ) → IsIn e (edges ss qs)
+    pub symbols_with : (ss : List Slot) (qs : List ℕ) → Every (λ q. q < n) qs → (e : Slot × ℕ) → IsIn e (edges ss qs)
         → (y : Symbol) → SymbolsOf rules e.1 y → (ys : List Symbol) × Paired (SymbolsOf rules) qs ys
         × IsIn (e.0, y) (edges ss ys)
     symbols_with [] qs h e i y k = absurd i

@@ -37,14 +37,14 @@ module _ (a : Automaton) (marks : List Bool) (m : MarksOf a.states (HasTree a.ru
   top_to r h = (h.0, all_to marks r.children (each_marked h.1.1))
 
 -- a rule that has a cell of a struct
-of_cell : (s : ℕ) (y : Symbol) → is_of s y ≡ true → (ds : List Datum) × (ss : List Slot) × (y ≡ Cell s ds ss)
+pub of_cell : (s : ℕ) (y : Symbol) → is_of s y ≡ true → (ds : List Datum) × (ss : List Slot) × (y ≡ Cell s ds ss)
 of_cell s Null h = absurd (true≢false (sym h))
 of_cell s Uninit h = absurd (true≢false (sym h))
 of_cell s Dangling h = absurd (true≢false (sym h))
 of_cell s (Ref r) h = absurd (true≢false (sym h))
 of_cell s (Cell t ds ss) h = (ds, ss, ap (λ (n : ℕ). Cell n ds ss) (eqb-true t s h))
 
-in_rules_of : (s : ℕ) (rs : List Rule) (r : Rule) → IsIn r rs → is_of s r.symbol ≡ true → IsIn r (rules_of s rs)
+pub in_rules_of : (s : ℕ) (rs : List Rule) (r : Rule) → IsIn r rs → is_of s r.symbol ≡ true → IsIn r (rules_of s rs)
 in_rules_of s [] r i h = absurd i
 in_rules_of s (x ∷ rs) r (inl e) h =
     let k : is_of s x.symbol ≡ true = ap (λ (y : Rule). is_of s y.symbol) (sym e) ∙ h in rw k (inl e)

@@ -1,4 +1,6 @@
 pub mod OnceRules
 pub mod RootFields
+pub mod ShapeRules
+pub mod StructParts
 pub mod Sums
 pub mod Weights

@@ -257,7 +257,7 @@ fit_not n L e false need c h k = first (nat_lt need (c + e.most)) refl
         (x.0, x.1, (λ y. omega (arith, y, m, g)))
     first false v = second (nat_lt c need) refl (ltb-false need (c + e.most) v)
 
-cell_same : (s u : ℕ) (ds es : List Datum) (ss vs : List Slot) → Cell s ds ss ≡ Cell u es vs → (s ≡ u) × (ss ≡ vs)
+pub cell_same : (s u : ℕ) (ds es : List Datum) (ss vs : List Slot) → Cell s ds ss ≡ Cell u es vs → (s ≡ u) × (ss ≡ vs)
 cell_same s u ds es ss vs h = (ap shape h, ap slots h)
   where
     shape : Symbol → ℕ

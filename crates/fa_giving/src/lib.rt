@@ -4,5 +4,6 @@
 
 mod below;
 mod roots;
+mod shapes;
 mod totals;
 mod worths;

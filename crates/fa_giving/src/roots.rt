@@ -7,7 +7,7 @@ ghost use Rattle.fa_core.specs.Filled.{HasSome, covers, fields_of};
 ghost use Rattle.fa_core.specs.Rearranged.{often};
 ghost use Rattle.fa_filling.specs.inner.Parted.{AreTopRules, IsRootRule};
 ghost use Rattle.fa_giving.specs.inner.Totals.{AreExtremes, AllFit, IsGivenRight, ForAll, ForTop, given_fields, none_given};
-ghost use Rattle.fa_giving.specs.inner.Totals.{symbol_fields, rule_fields, AreIn, total};
+ghost use Rattle.fa_giving.specs.inner.Totals.{symbol_fields, rule_fields, AreIn, total, Adds};
 ghost use Rattle.fa_giving.specs.inner.Worths.{AreWorths};
 
 use crate::totals::{Extremes, extremes_each, extremes_of, total};
@@ -247,8 +247,8 @@ fn each_once(alloc: Global, numbers: &[u32]) -> Mem<List<u32>>
 }
 
 /// Adds the number where it is not there.
-fn add(once: &mut List<u32>, number: u32) -> Mem<()>
-    ensures { OnOk result (IsIn number once.new × ((m : ℕ) → IsIn m once.old → IsIn m once.new)) }
+pub fn add(once: &mut List<u32>, number: u32) -> Mem<()>
+    ensures { OnOk result (Adds number once.old once.new) }
 {
     if !is_one_of(number, once.as_slice()) {
         once.push(number)?;

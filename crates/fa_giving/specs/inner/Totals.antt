@@ -112,3 +112,9 @@ rule_fields face rules = flat_map (λ o. symbol_fields face o.symbol) rules
 -- each number of xs is in ys
 abbrev pub AreIn : List ℕ → List ℕ → Type 0
 AreIn ys xs = Every (λ x. IsIn x ys) xs
+
+-- the number is one more of the numbers, if it was none
+pub record Adds (n : ℕ) (old new : List ℕ) : Type 0 where
+  pub there : IsIn n new
+  pub kept : (m : ℕ) → IsIn m old → IsIn m new
+  pub only : (m : ℕ) → IsIn m new → IsIn m old ⊎ (m ≡ n)

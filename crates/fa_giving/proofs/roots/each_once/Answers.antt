@@ -12,4 +12,4 @@ loop-number-preserved c =
     rw (take_more ns i 0 c.loop-number-test.true)
     (every_push (λ (m : ℕ). IsIn m c.add.new.once) (take i ns) (get_or ns i 0)
     (every_weaker (λ (m : ℕ). IsIn m c.loop-number.once) (λ (m : ℕ). IsIn m c.add.new.once) (take i ns)
-    (λ m k. h.1 m k) c.loop-number.invariant) h.0)
+    (λ m k. h.kept m k) c.loop-number.invariant) h.there)
