@@ -65,7 +65,7 @@ module _ (bs : List BoxFace) where
       (para-roll-Tree (List ℕ → List Spot) (λ x. spots_at bs x.symbol x.children) (out-Tree t))
 
   -- the cells of a cell: itself, and those below its edges
-  cell_spots : (t : Tree) (above : List ℕ) (s : ℕ) (ds : List Datum) (ss : List Slot) → (out-Tree t).symbol
+  pub cell_spots : (t : Tree) (above : List ℕ) (s : ℕ) (ds : List Datum) (ss : List Slot) → (out-Tree t).symbol
       ≡ Cell s ds ss → spots bs t above ≡ spot s ss (map top_symbol (out-Tree t).children) above
       ∷ flat_map (λ e. spots bs e.1 (given_by bs e.0)) (edges ss (out-Tree t).children)
   cell_spots t above s ds ss e =

@@ -1,4 +1,5 @@
 pub mod OnceRules
+pub mod RightCells
 pub mod RootFields
 pub mod ShapeRules
 pub mod StructParts

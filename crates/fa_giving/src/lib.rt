@@ -3,7 +3,10 @@
 #![tactic(auto)]
 
 mod below;
+mod deciding;
 mod roots;
 mod shapes;
 mod totals;
 mod worths;
+
+pub use deciding::are_right;
