@@ -99,7 +99,7 @@ module _ (face : Face) (ts : List Tree) (tops : List ℕ) (are : TopsAre ts tops
 
 -- The tops of a choice.
 
-abbrev Topped : List Automaton → Type 0
+abbrev pub Topped : List Automaton → Type 0
 Topped autos = (a : Automaton) (t : Tree) → IsIn a autos → InLanguage a t → (u : ℕ) × IsTopped u t
 
 tops_are : (autos : List Automaton) (ts : List Tree) → Topped autos → Choice autos ts
@@ -185,38 +185,41 @@ module _ (face : Face) where
       first_some (Some o) a [] q = absurd q
       first_some (Some o) a (b ∷ autos) q = q.1
 
-module _ (face : Face) (T : List BoxDef) (d : BoxDef) where
+module _ (face : Face) (x : BoxFace) (autos : List Automaton) where
   abbrev FitsAt : List Tree → List ℕ → Option ℕ → Type 0
-  FitsAt ts tops out =
-      Begins (port_structs d.face out) tops × InsideFilled face ts tops 0 (port_fields d.face out) ts
+  FitsAt ts tops out = Begins (port_structs x out) tops × InsideFilled face ts tops 0 (port_fields x out) ts
 
-  fits_at : IsUnbroken face T (inside_of d) d.face → (ts : List Tree) → Choice d.inside.autos ts → (tops : List ℕ)
-      → TopsAre ts tops → FitsAt ts tops d.face.output
-  fits_at h ts c tops are = here d.face.output refl
-    where
-      here : (out : Option ℕ) → d.face.output ≡ out → FitsAt ts tops out
-      here None e = fits_one face d.inside.autos d.face
-          (subst (λ (z : Option ℕ). PortsCover face.boxes z d.inside.autos) e h.covers) ts c tops are
-          (λ r s u a t i. h.structs r s u a t
-          (subst (λ (z : Option ℕ). slice_get (structs_of d.face.input z) r ≡ Some s) (sym e) i))
-          (subst (λ (z : Option ℕ). AreRight face ts 0 (port_count z) ts) e (h.right ts c))
-          (h.one.gives_in ts c)
-      here (Some o) e = fits_two face d.inside.autos d.face o
-          (subst (λ (z : Option ℕ). PortsCover face.boxes z d.inside.autos) e h.covers) ts c tops are
-          (λ r s u a t i. h.structs r s u a t
-          (subst (λ (z : Option ℕ). slice_get (structs_of d.face.input z) r ≡ Some s) (sym e) i))
-          (subst (λ (z : Option ℕ). AreRight face ts 0 (port_count z) ts) e (h.right ts c))
-          (h.one.gives_in ts c)
-          (subst (λ (z : Option ℕ). GivesOutput face.boxes d.inside.autos z d.face.gives_out) e h.one.gives_out ts c)
+  -- the struct of each port's trees
+  abbrev pub AreStructs : Option ℕ → Type 0
+  AreStructs out = (r s u : ℕ) (a : Automaton) (t : Tree) → slice_get (structs_of x.input out) r ≡ Some s
+      → slice_get autos r ≡ Some a → InLanguage a t → IsTopped u t → u ≡ s
 
+  fits_at : (out : Option ℕ) → PortsCover face.boxes out autos → AreStructs out
+      → ((ts : List Tree) → Choice autos ts → AreRight face ts 0 (port_count out) ts)
+      → Gives face.boxes autos 0 x.gives_in → GivesOutput face.boxes autos out x.gives_out → (ts : List Tree)
+      → Choice autos ts → (tops : List ℕ) → TopsAre ts tops → FitsAt ts tops out
+  fits_at None covers structs right gin gout ts c tops are =
+      fits_one face autos x covers ts c tops are structs (right ts c) (gin ts c)
+  fits_at (Some o) covers structs right gin gout ts c tops are =
+      fits_two face autos x o covers ts c tops are structs (right ts c) (gin ts c) (gout ts c)
+
+  -- each choice of trees fits the face, where the box breaks neither B4 nor B5
+  pub inside_fits : Topped autos → AreStructs x.output → PortsCover face.boxes x.output autos
+      → ((ts : List Tree) → Choice autos ts → AreRight face ts 0 (port_count x.output) ts)
+      → Gives face.boxes autos 0 x.gives_in → GivesOutput face.boxes autos x.output x.gives_out
+      → AreRefsThere autos → (ts : List Tree) → Choice autos ts → InsideFits face x ts
+  inside_fits topped structs covers right gin gout refs ts c =
+      let m = tops_are autos ts topped c in
+      let w = fits_at x.output covers structs right gin gout ts c m.0 m.1 in
+      record { tops = m.0; are = m.1; ports = w.0; refs = refs ts c; cells = w.1 }
+
+module _ (face : Face) (T : List BoxDef) (d : BoxDef) where
   pub unbroken_sound : InsideRulesFit face (port_fields d.face d.face.output) d.inside.autos
       → AreRefsThere d.inside.autos → IsUnbroken face T (inside_of d) d.face → SoundBox face T d
   unbroken_sound rules refs h = record {
     rules = rules;
     full = h.full;
-    fits = λ ts c. (let m = tops_are d.inside.autos ts h.tops c in
-        let w = fits_at h ts c m.0 m.1 in
-        record { tops = m.0; are = m.1; ports = w.0; refs = refs ts c; cells = w.1 });
+    fits = inside_fits face d.face d.inside.autos h.tops h.structs h.covers h.right h.one.gives_in h.one.gives_out refs;
     covers = covers_field face d.face.output d.inside.autos d.face.gives_in h.covers h.full
         h.one.gives_in;
     ports = h.covers;
