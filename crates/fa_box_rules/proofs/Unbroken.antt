@@ -1,6 +1,6 @@
 -- A box that breaks none of the rules and has a face is sound, and a sound box is so.
-use Rattle.std.proofs.Common.{◌≡◌, ◌≢◌, ◌⊎◌, inl, inr, ℕ, zero, suc, ◌<◌, Bool, true, false, List, [], ◌∷◌, ◌++◌}
-use Rattle.std.proofs.Common.{map, flat_map, length, Option, Some, None, slice_get, refl, sym, ap, subst, ◌∙◌, arith}
+use Rattle.std.proofs.Common.{◌≡◌, ◌≢◌, inl, inr, ℕ, zero, suc, List, [], ◌∷◌, ◌++◌}
+use Rattle.std.proofs.Common.{length, Option, Some, None, slice_get, refl, ap, subst, ◌∙◌, arith}
 use Rattle.std.proofs.lemmas.Option.{none-some, same_Some}
 use Rattle.fore_base.specs.Lists.{IsIn, Every}
 use Rattle.fore_base.proofs.ListLemmas.{every_weaker}
@@ -10,7 +10,7 @@ use Rattle.ta_core.specs.declared.symbol.Slot.{Slot}
 use Rattle.ta_core.specs.declared.symbol.Slot.TheVariants.{Field, Link, Hook}
 use Rattle.ta_core.specs.declared.symbol.Symbol.{Symbol}
 use Rattle.ta_core.specs.declared.symbol.Symbol.TheVariants.{Null, Uninit, Dangling, Ref, Cell}
-use Rattle.ta_core.specs.declared.tree.Tree.{Tree, out-Tree}
+use Rattle.ta_core.specs.declared.tree.Tree.{Tree}
 use Rattle.fa_core.specs.declared.boxes.BoxDef.{BoxDef}
 use Rattle.fa_core.specs.declared.faces.BoxFace.{BoxFace}
 use Rattle.fa_core.specs.declared.faces.Face.{Face}
@@ -23,13 +23,13 @@ use Rattle.fa_core.specs.Filled.{spots, given_at, HasField, HasSome}
 use Rattle.fa_core.specs.Folding.{covered_fields}
 use Rattle.fa_core.specs.Rearranged.{Rearranged}
 use Rattle.fa_core.proofs.Rearranging.{back}
-use Rattle.fa_box_rules.specs.Cells.{MayName, FieldMayEnd, EndMayFit, EndsMayFit, IsRightCell, IsRightPort}
+use Rattle.fa_box_rules.specs.Cells.{MayName, FieldMayEnd, EndMayFit, EndsMayFit, IsRightCell}
 use Rattle.fa_box_rules.specs.Cells.{IsRightUnder}
 use Rattle.fa_box_rules.specs.Cells.{AreRight}
-use Rattle.fa_box_rules.specs.Rules.{Inside, port_count, structs_of, root_fields, Gives, GivesOutput, IsFaceOf}
+use Rattle.fa_box_rules.specs.Rules.{port_count, structs_of, root_fields, Gives, GivesOutput}
 use Rattle.fa_box_rules.specs.Rules.{inside_of}
 use Rattle.fa_box_rules.specs.Rules.{AreRefsThere, IsUnbroken}
-use Rattle.fa_box_rules.proofs.SoundBoxes.{has_top, top_is, spots_out, some_choice, nil_only, are_right, ports_differ}
+use Rattle.fa_box_rules.proofs.SoundBoxes.{spots_out, some_choice, nil_only, are_right, ports_differ}
 use Rattle.fa_box_rules.proofs.SoundBoxes.{ports_count, tree_topped, port_struct, face_is}
 
 -- From right cells to filled ones.
