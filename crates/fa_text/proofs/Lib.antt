@@ -1,0 +1,4 @@
+pub mod Fits
+pub mod Next
+pub mod WellNamed
+pub mod Written
