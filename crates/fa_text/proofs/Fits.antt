@@ -1,6 +1,7 @@
 -- The symbols of lines that break neither B2 nor B3 fit the structs and the boxes before them.
 use Rattle.std.proofs.Common.{arith, ◌≡◌, ◌<◌, ◌≤◌, ℕ, zero, suc, Bool, true, false, true≢false, cond, not, ◌&&◌}
-use Rattle.std.proofs.Common.{List, [], ◌∷◌, ◌++◌, map, length, Option, Some, None, IsSome, IsNone, slice_get, refl, sym, ap}
+use Rattle.std.proofs.Common.{List, [], ◌∷◌, ◌++◌, map, length, Option, Some, None, IsSome, IsNone, slice_get, refl}
+use Rattle.std.proofs.Common.{sym, ap}
 use Rattle.std.proofs.Common.{subst, nat_lt, nat_eq, ◌∙◌, ◌⊎◌, inl, inr}
 use Rattle.std.specs.Cmp.Lexicographic.{pointwise}
 use Rattle.std.specs.List.{list_all}
@@ -113,7 +114,8 @@ fields_there (h ∷ hs) zero f e =
     let same : fields_of h ≡ f = same_Some (fields_of h) f e in
     record {
       within = omega arith;
-      pointers = subst (λ (g : Fields). length g.pointers ≡ length (targets_in h.fields)) same (pointers_count h.fields);
+      pointers = subst (λ (g : Fields). length g.pointers ≡ length (targets_in h.fields)) same
+          (pointers_count h.fields);
       datums = subst (λ (g : Fields). length g.datums ≡ datums_in h.fields) same (datums_count h.fields);
     }
 fields_there (h ∷ hs) (suc s) f e =

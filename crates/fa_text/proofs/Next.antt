@@ -1,5 +1,6 @@
 -- Each box of a file without faults may stand behind those before it.
-use Rattle.std.proofs.Common.{arith, ◌≡◌, ◌<◌, ◌≤◌, ◌^◌, ◌+◌, ℕ, zero, suc, Bool, true, false, true≢false, cond, List, []}
+use Rattle.std.proofs.Common.{arith, ◌≡◌, ◌<◌, ◌≤◌, ◌^◌, ◌+◌, ℕ, zero, suc, Bool, true, false, true≢false, cond, List}
+use Rattle.std.proofs.Common.{[]}
 use Rattle.std.proofs.Common.{◌∷◌, ◌++◌, map, length, take, Option, Some, None, slice_get, refl, sym, ap, subst, nat_eq}
 use Rattle.std.proofs.Common.{nat_lt, ◌∙◌, ◌⊎◌, inl, inr, append_assoc, append-nil, length-append}
 use Rattle.std.specs.Cmp.Lexicographic.{pointwise, bytes_decides}
@@ -25,7 +26,7 @@ use Rattle.fa_named.specs.declared.fault.NameFault.TheVariants.{K6}
 use Rattle.fa_named.specs.declared.named.Boxes.{Boxes}
 use Rattle.fa_named.specs.declared.named.NamedBox.{NamedBox}
 use Rattle.fa_text.specs.Files.{HasFace, face_over, bare}
-use Rattle.fa_text.specs.inner.Next.{IsNext, AreNext}
+use Rattle.fa_text.specs.inner.Next.{IsNext, AreNext, HasFew}
 use Rattle.fa_text.proofs.Fits.{cons_not, none_in, outputs, map_long}
 use Rattle.fa_text.proofs.WellNamed.{HeadFits, head_fits, well_named}
 use Rattle.fa_text.proofs.Written.{IsDrawn, drawn, is_a_word}
@@ -51,7 +52,7 @@ record AreBehind (boxes : Boxes) (before : List BoxDef) : Type 0 where
   pub names : boxes.names ≡ names_of before
   pub outputs : boxes.outputs ≡ outputs (faces_of before)
 
-map_push : {X Y : Type 0} (f : X → Y) (xs : List X) (x : X) → map f (xs ++ x ∷ []) ≡ map f xs ++ f x ∷ []
+pub map_push : {X Y : Type 0} (f : X → Y) (xs : List X) (x : X) → map f (xs ++ x ∷ []) ≡ map f xs ++ f x ∷ []
 map_push f [] x = refl
 map_push f (y ∷ xs) x = ap (λ l. f y ∷ l) (map_push f xs x)
 
@@ -74,46 +75,43 @@ behind_more shapes boxes before d b h face = record {
 
 -- One box
 
-abbrev FewBytes : ℕ → Type 0
-FewBytes n = n ≤ 16777216
-
 one_next : (shapes : Shapes) (boxes : Boxes) (before : List BoxDef) (n : ℕ) (d : BoxDraft) → AreBehind boxes before
-    → FewBytes n → IsDrawn n d → box_faults (known_of shapes) boxes d ≡ [] → length before < 32
+    → IsDrawn n d → box_faults (known_of shapes) boxes d ≡ [] → length before < 32
     → IsNext shapes before (box_of (known_of shapes) boxes d)
-one_next shapes boxes before n d behind bytes drawn none room =
+one_next shapes boxes before n d behind drawn none room =
     let known = known_of shapes in
     let head = head_fits shapes boxes d.head
     (none_in (head_faults known boxes d.head) (parts_faults known boxes (ports_of d.head.output) 0 d.parts) none).0 in
     record {
-      named = well_named shapes boxes (faces_of before) d behind.outputs drawn.written.terms drawn.ports drawn.refs none;
+      named = well_named shapes boxes (faces_of before) d behind.outputs drawn.written.terms drawn.ports drawn.refs
+          none;
       word = is_a_word d.head.name drawn.written.name;
       new = λ i. new_name d.head.name boxes.names head.new (subst (IsIn d.head.name) (sym behind.names) i);
       plain = (refl, refl);
-      few = let e = map_long (auto_of known boxes.names) d.parts in
-      let few = drawn.few in
-      let some : length (map (auto_of known boxes.names) d.parts) < 4294967296 = omega (arith, e, few, bytes) in some;
       room = room;
     }
 
 -- All boxes
 
 each_next : (shapes : Shapes) (boxes : Boxes) (before : List BoxDef) (n : ℕ) (ds : List BoxDraft)
-    → AreBehind boxes before → FewBytes n → Every (IsDrawn n) ds → file_faults (known_of shapes) boxes ds ≡ []
+    → AreBehind boxes before → Every (IsDrawn n) ds → file_faults (known_of shapes) boxes ds ≡ []
     → length before + length ds ≤ 32 → AreNext shapes before (boxes_of (known_of shapes) boxes ds)
-each_next shapes boxes before n [] behind bytes drawn none room i defs x p at = absurd (none-some x at)
-each_next shapes boxes before n (d ∷ ds) behind bytes drawn none room zero [] x p at =
-    let h = none_in (box_faults (known_of shapes) boxes d) (file_faults (known_of shapes) (with_box boxes d.head) ds) none in
-    let here = one_next shapes boxes before n d behind bytes drawn.0 h.0 (omega (arith, room)) in
+each_next shapes boxes before n [] behind drawn none room i defs x p at = absurd (none-some x at)
+each_next shapes boxes before n (d ∷ ds) behind drawn none room zero [] x p at =
+    let h = none_in (box_faults (known_of shapes) boxes d) (file_faults (known_of shapes) (with_box boxes d.head) ds)
+    none in
+    let here = one_next shapes boxes before n d behind drawn.0 h.0 (omega (arith, room)) in
     subst (λ (l : List BoxDef). IsNext shapes l x) (sym (append-nil before))
     (subst (IsNext shapes before) (same_Some (box_of (known_of shapes) boxes d) x at) here)
-each_next shapes boxes before n (d ∷ ds) behind bytes drawn none room zero (b ∷ defs) x p at = absurd p
-each_next shapes boxes before n (d ∷ ds) behind bytes drawn none room (suc i) [] x p at = absurd p
-each_next shapes boxes before n (d ∷ ds) behind bytes drawn none room (suc i) (b ∷ defs) x p at =
-    let h = none_in (box_faults (known_of shapes) boxes d) (file_faults (known_of shapes) (with_box boxes d.head) ds) none in
+each_next shapes boxes before n (d ∷ ds) behind drawn none room zero (b ∷ defs) x p at = absurd p
+each_next shapes boxes before n (d ∷ ds) behind drawn none room (suc i) [] x p at = absurd p
+each_next shapes boxes before n (d ∷ ds) behind drawn none room (suc i) (b ∷ defs) x p at =
+    let h = none_in (box_faults (known_of shapes) boxes d) (file_faults (known_of shapes) (with_box boxes d.head) ds)
+    none in
     let long : length (before ++ b ∷ []) ≡ length before + 1 = length-append before (b ∷ []) in
     subst (λ (l : List BoxDef). IsNext shapes l x) (append_assoc before (b ∷ []) defs)
     (each_next shapes (with_box boxes d.head) (before ++ b ∷ []) n ds
-    (behind_more shapes boxes before d b behind p.0) bytes drawn.1 h.1 (omega (arith, room, long)) i defs x p.1 at)
+    (behind_more shapes boxes before d b behind p.0) drawn.1 h.1 (omega (arith, room, long)) i defs x p.1 at)
 
 -- Files
 
@@ -129,13 +127,13 @@ few_boxes bs e = by (slice_get bs 32) refl
     by None f = past bs 32 f
     by (Some b) f = absurd (cons_not (K6 b.head.line) [] (sym (ap limit_at f) ∙ e))
 
-pub all_next : (text : List ℕ) (shapes : Shapes) (ds : List BoxDraft) (named : List NamedBox) → length text ≤ 16777216
-    → IsText text ds → AreNamed shapes ds named → AreNext shapes [] named
-all_next text shapes ds named bytes t named_so =
+pub all_next : (text : List ℕ) (shapes : Shapes) (ds : List BoxDraft) (named : List NamedBox) → IsText text ds
+    → AreNamed shapes ds named → AreNext shapes [] named
+all_next text shapes ds named t named_so =
     let h = none_in (limit_faults ds) (file_faults (known_of shapes) no_boxes ds) named_so.0 in
     let few = few_boxes ds h.0 in
     subst (AreNext shapes []) (sym named_so.1)
-    (each_next shapes no_boxes [] (length text) ds (record { names = refl; outputs = refl }) bytes (drawn text ds t) h.1
+    (each_next shapes no_boxes [] (length text) ds (record { names = refl; outputs = refl }) (drawn text ds t) h.1
     (omega (arith, few)))
 
 -- there are as many boxes as drafts
@@ -147,3 +145,18 @@ boxes_long shapes boxes (d ∷ ds) = ap suc (boxes_long shapes (with_box boxes d
 pub named_long : (shapes : Shapes) (ds : List BoxDraft) (named : List NamedBox) → AreNamed shapes ds named
     → length named ≡ length ds
 named_long shapes ds named h = ap length h.1 ∙ boxes_long shapes no_boxes ds
+
+each_few : (shapes : Shapes) (boxes : Boxes) (n : ℕ) (ds : List BoxDraft) → n ≤ 16777216 → Every (IsDrawn n) ds
+    → Every HasFew (boxes_of (known_of shapes) boxes ds)
+each_few shapes boxes n [] bytes h = tt
+each_few shapes boxes n (d ∷ ds) bytes h =
+    let e = map_long (auto_of (known_of shapes) boxes.names) d.parts in
+    let few = h.0.few in
+    let here : length (map (auto_of (known_of shapes) boxes.names) d.parts) < 4294967296 =
+    omega (arith, e, few, bytes) in
+    (here, each_few shapes (with_box boxes d.head) n ds bytes h.1)
+
+pub all_few : (text : List ℕ) (shapes : Shapes) (ds : List BoxDraft) (named : List NamedBox) → length text ≤ 16777216
+    → IsText text ds → AreNamed shapes ds named → Every HasFew named
+all_few text shapes ds named bytes t named_so =
+    subst (Every HasFew) (sym named_so.1) (each_few shapes no_boxes (length text) ds bytes (drawn text ds t))

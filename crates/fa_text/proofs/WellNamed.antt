@@ -2,7 +2,8 @@
 use Rattle.std.proofs.Common.{arith, ◌≡◌, ◌<◌, ◌≤◌, ℕ, zero, suc, Bool, true, false, true≢false, cond, not, ◌&&◌, ◌||◌}
 use Rattle.std.proofs.Common.{List, [], ◌∷◌, ◌++◌, map, length, Option, Some, None, slice_get, refl, sym, ap, subst}
 use Rattle.std.proofs.Common.{nat_lt, nat_le, nat_eq, ◌∙◌, ◌⊎◌, inl, inr}
-use Rattle.std.proofs.lemmas.Bool.{and_parts, or_cases, or_right, ltb-true, leb-false, le-ltb, eqb-true, eq-eqb, cases_Bool}
+use Rattle.std.proofs.lemmas.Bool.{and_parts, or_cases, or_right, ltb-true, leb-false, le-ltb, eqb-true, eq-eqb}
+use Rattle.std.proofs.lemmas.Bool.{cases_Bool}
 use Rattle.fore_base.specs.Lists.{IsIn, Every}
 use Rattle.fore_base.specs.declared.shape.Shape.{Shape}
 use Rattle.fore_base.specs.declared.shape.Shapes.{Shapes}
@@ -27,7 +28,8 @@ use Rattle.fa_written.specs.declared.draft.RuleDraft.{RuleDraft}
 use Rattle.fa_written.specs.declared.draft.PartDraft.{PartDraft}
 use Rattle.fa_written.specs.declared.draft.Head.{Head}
 use Rattle.fa_written.specs.declared.draft.BoxDraft.{BoxDraft}
-use Rattle.fa_named.specs.Breaks.{term_faults, rules_faults, part_faults, parts_faults, head_faults, box_faults, is_output}
+use Rattle.fa_named.specs.Breaks.{term_faults, rules_faults, part_faults, parts_faults, head_faults, box_faults}
+use Rattle.fa_named.specs.Breaks.{is_output}
 use Rattle.fa_named.specs.Insides.{below_term, below_rules, symbol_of, rule_of, auto_of}
 use Rattle.fa_named.specs.Named.{output_of, box_of}
 use Rattle.fa_named.specs.Places.{Texts, place, is_there}
@@ -48,7 +50,8 @@ in_has q (p ∷ qs) (inr i) = or_right (nat_eq q p) (has q qs) (in_has q qs i)
 
 has_in : (q : ℕ) (qs : List ℕ) → has q qs ≡ true → IsIn q qs
 has_in q [] e = true≢false (sym e)
-has_in q (p ∷ qs) e = elim (or_cases (nat_eq q p) (has q qs) e) [ inl h ↦ inl (eqb-true q p h) | inr h ↦ inr (has_in q qs h) ]
+has_in q (p ∷ qs) e =
+    elim (or_cases (nat_eq q p) (has q qs) e) [ inl h ↦ inl (eqb-true q p h) | inr h ↦ inr (has_in q qs h) ]
 
 not_in : (q : ℕ) (qs : List ℕ) → (IsIn q qs → ⊥) → has q qs ≡ false
 not_in q qs out = by (has q qs) refl
@@ -81,7 +84,8 @@ module _ (shapes : Shapes) (boxes : Boxes) (xs : List BoxFace) (shows : Shows bo
 
   -- the rules of a component that is no port
   inner_rules : (is_below : ℕ → Bool) (rs : List RuleDraft) → AreTerms rs
-      → rules_faults (known_of shapes) boxes (λ q. false) is_below rs ≡ [] → Every (λ (r : Rule). SymbolFits face r.symbol) (made rs)
+      → rules_faults (known_of shapes) boxes (λ q. false) is_below rs ≡ []
+      → Every (λ (r : Rule). SymbolFits face r.symbol) (made rs)
   inner_rules is_below [] terms none = tt
   inner_rules is_below (r ∷ rs) terms none =
       let n = none_in (term_faults r.line (known_of shapes) boxes false true r.term)
@@ -128,14 +132,16 @@ module _ (shapes : Shapes) (boxes : Boxes) (xs : List BoxFace) (shows : Shows bo
 
   -- Components
 
-  inner_part : (p : PartDraft) → AreTerms p.rules → part_faults (known_of shapes) boxes false p ≡ [] → RulesFit face (auto p)
+  inner_part : (p : PartDraft) → AreTerms p.rules → part_faults (known_of shapes) boxes false p ≡ []
+      → RulesFit face (auto p)
   inner_part p terms none = inner_rules (λ q. has q (below_rules p.rules)) p.rules terms none
 
   every_weaker_rule : (P Q : Rule → Type 0) (rs : List Rule) → ((r : Rule) → P r → Q r) → Every P rs → Every Q rs
   every_weaker_rule P Q [] f h = tt
   every_weaker_rule P Q (r ∷ rs) f h = (f r h.0, every_weaker_rule P Q rs f h.1)
 
-  port_part : (p : PartDraft) → AreTerms p.rules → part_faults (known_of shapes) boxes true p ≡ [] → PortRulesFit face (auto p)
+  port_part : (p : PartDraft) → AreTerms p.rules → part_faults (known_of shapes) boxes true p ≡ []
+      → PortRulesFit face (auto p)
   port_part p terms none =
       let is_below : ℕ → Bool = λ q. has q (below_rules p.rules) in
       record {
@@ -158,7 +164,8 @@ module _ (shapes : Shapes) (boxes : Boxes) (xs : List BoxFace) (shows : Shows bo
       → parts_faults (known_of shapes) boxes n k ps ≡ [] → InsideRulesFit face [] (map auto ps)
   inner_parts n k [] le terms none = tt
   inner_parts n k (p ∷ ps) le terms none =
-      let h = none_in (part_faults (known_of shapes) boxes (nat_lt k n) p) (parts_faults (known_of shapes) boxes n (suc k) ps) none in
+      let h = none_in (part_faults (known_of shapes) boxes (nat_lt k n) p)
+      (parts_faults (known_of shapes) boxes n (suc k) ps) none in
       let first = subst (λ b. part_faults (known_of shapes) boxes b p ≡ []) (le-ltb k n le) h.0 in
       (inner_part p terms.0 first, inner_parts n (suc k) ps (omega (arith, le)) terms.1 h.1)
 
@@ -174,7 +181,8 @@ module _ (shapes : Shapes) (boxes : Boxes) (xs : List BoxFace) (shows : Shows bo
       let h = none_in (part_faults (known_of shapes) boxes true p) [] none in
       (port_part p terms.0 h.0, tt)
   all_parts (Some name) (p ∷ (r ∷ ps)) names terms none s =
-      let h = none_in (part_faults (known_of shapes) boxes true p) (parts_faults (known_of shapes) boxes 2 1 (r ∷ ps)) none in
+      let h = none_in (part_faults (known_of shapes) boxes true p) (parts_faults (known_of shapes) boxes 2 1 (r ∷ ps))
+      none in
       let k = none_in (part_faults (known_of shapes) boxes true r) (parts_faults (known_of shapes) boxes 2 2 ps) h.1 in
       (port_part p terms.0 h.0, (port_part r terms.1.0 k.0, inner_parts 2 2 ps (omega arith) terms.1.1 k.1))
 
@@ -263,14 +271,17 @@ pub well_named : (shapes : Shapes) (boxes : Boxes) (xs : List BoxFace) (b : BoxD
     → IsWellNamed (record { shapes = shapes; boxes = xs }) (bare (box_of (known_of shapes) boxes b))
 well_named shapes boxes xs b shows terms ports refs none =
     let known = known_of shapes in
-    let h = none_in (head_faults known boxes b.head) (parts_faults known boxes (ports_of b.head.output) 0 b.parts) none in
+    let h = none_in (head_faults known boxes b.head) (parts_faults known boxes (ports_of b.head.output) 0 b.parts)
+    none in
     let head = head_fits shapes boxes b.head h.0 in
-    let count : length (map (auto_of known boxes.names) b.parts) ≡ length b.parts = map_long (auto_of known boxes.names) b.parts in
+    let count : length (map (auto_of known boxes.names) b.parts) ≡ length b.parts =
+    map_long (auto_of known boxes.names) b.parts in
     record {
-      rules = all_parts shapes boxes xs shows b.head.output b.parts known.names terms h.1 (place b.head.input known.names);
+      rules = all_parts shapes boxes xs shows b.head.output b.parts known.names terms h.1
+          (place b.head.input known.names);
       refs = rw count (all_refs known boxes.names (length b.parts) b.parts refs);
       ranked = all_ranked known boxes.names b.parts;
       ports = let p : ports_of b.head.output ≤ length b.parts = ports in
-      let same = same_ports known.names b.head.output in omega (arith, p, same, count);
+          let same = same_ports known.names b.head.output in omega (arith, p, same, count);
       structs = head.structs;
     }

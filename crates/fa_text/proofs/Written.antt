@@ -15,7 +15,8 @@ use Rattle.fa_lines.specs.Spelling.{IsLine, IsName, IsTerm}
 use Rattle.fa_lines.specs.declared.line.Line.{Line}
 use Rattle.fa_lines.specs.declared.line.Line.TheVariants.{Skipped, Opens, Root, Rule, Ends}
 use Rattle.fa_written.specs.Drafts.{IsText, RefersWithin}
-use Rattle.fa_written.specs.Forms.{Numbered, put_before, numbered, rule_line, part_lines, parts_lines, head_line, box_lines}
+use Rattle.fa_written.specs.Forms.{Numbered, put_before, numbered, rule_line, part_lines, parts_lines, head_line}
+use Rattle.fa_written.specs.Forms.{box_lines}
 use Rattle.fa_written.specs.Forms.{file_lines, HasPorts, IsForm}
 use Rattle.fa_written.specs.declared.draft.RuleDraft.{RuleDraft}
 use Rattle.fa_written.specs.declared.draft.PartDraft.{PartDraft}
@@ -29,7 +30,7 @@ small_or_large : (b : ℕ) → ((nat_le 97 b && nat_le b 122) || (nat_le 65 b &&
     → ((97 ≤ b) × (b ≤ 122)) ⊎ ((65 ≤ b) × (b ≤ 90))
 small_or_large b e =
     elim (or_cases (nat_le 97 b && nat_le b 122) (nat_le 65 b && nat_le b 90) e) [
-      inl h ↦ (let p = and_parts (nat_le 97 b) (nat_le b 122) h in inl (leb-true 97 b p.0, leb-true b 122 p.1))
+      | inl h ↦ (let p = and_parts (nat_le 97 b) (nat_le b 122) h in inl (leb-true 97 b p.0, leb-true b 122 p.1))
       | inr h ↦ (let p = and_parts (nat_le 65 b) (nat_le b 90) h in inr (leb-true 65 b p.0, leb-true b 90 p.1))
     ]
 
@@ -37,7 +38,7 @@ letter : (b : ℕ) → is_letter b ≡ true → IsLetter b
 unfolding is_letter
 letter b e =
     elim (or_cases ((nat_le 97 b && nat_le b 122) || (nat_le 65 b && nat_le b 90)) (b == underscore) e) [
-      inl h ↦ elim (small_or_large b h) [ inl small ↦ inl small | inr large ↦ inr (inl large) ]
+      | inl h ↦ elim (small_or_large b h) [ inl small ↦ inl small | inr large ↦ inr (inl large) ]
       | inr same ↦ inr (inr (eqb-true b 95 same))
     ]
 
@@ -45,7 +46,7 @@ word_byte : (b : ℕ) → is_word_byte b ≡ true → IsWordByte b
 unfolding is_word_byte is_digit
 word_byte b e =
     elim (or_cases (is_letter b) (is_digit b) e) [
-      inl h ↦ inl (letter b h)
+      | inl h ↦ inl (letter b h)
       | inr h ↦ (let p = and_parts (nat_le 48 b) (nat_le b 57) h in inr (leb-true 48 b p.0, leb-true b 57 p.1))
     ]
 

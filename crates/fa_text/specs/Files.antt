@@ -81,7 +81,8 @@ pub data IsFirst (text : List ℕ) (shapes : Shapes) (fault : BoxFault) : Type 0
   misnamed : (drafts : List BoxDraft) (x : NameFault) → IsText text drafts → first_of (faults shapes drafts) ≡ Some x
       → fault ≡ fault_of x → IsFirst text shapes fault
   broken : (drafts : List BoxDraft) (named : List NamedBox) (rule : BoxRule) (line : ℕ) → IsText text drafts
-      → AreNamed shapes drafts named → IsFirstBroken shapes drafts named rule line → fault ≡ Rule (rule_number rule) line
+      → AreNamed shapes drafts named → IsFirstBroken shapes drafts named rule line
+      → fault ≡ Rule (rule_number rule) line
       → IsFirst text shapes fault
 
 -- this is the first rule that the text breaks, or memory ran out

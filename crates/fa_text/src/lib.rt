@@ -5,5 +5,9 @@
 
 pub mod crossing;
 pub mod fault;
+pub mod laws;
+mod reader;
+mod tables;
 
 pub use fault::BoxFault;
+pub use reader::read_boxes;
