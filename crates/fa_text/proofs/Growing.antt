@@ -6,17 +6,12 @@ use Rattle.std.proofs.lemmas.Option.{slice_get-get_or}
 use Rattle.fore_base.specs.Lists.{Paired}
 use Rattle.fore_base.specs.declared.shape.Shapes.{Shapes}
 use Rattle.fore_base.proofs.ListLemmas.{paired_push, paired_long, take_item}
-use Rattle.ta_core.specs.Auto.{Automaton}
-use Rattle.fa_core.specs.Boxes.{Boxes, IsBoxTable, SoundBox, AreSoundOver, faces_of}
+use Rattle.fa_core.specs.Boxes.{Boxes, IsBoxTable, AreSoundOver, faces_of}
 use Rattle.fa_core.specs.declared.boxes.BoxDef.{BoxDef}
 use Rattle.fa_core.specs.declared.faces.BoxFace.{BoxFace}
 use Rattle.fa_core.specs.declared.faces.Face.{Face}
-use Rattle.fa_core.specs.declared.forest.Forest.{Forest}
-use Rattle.fa_box_rules.specs.Rules.{Inside, IsWellNamed, IsUnbroken, BreaksFirst, inside_of}
+use Rattle.fa_box_rules.specs.Rules.{IsWellNamed, BreaksFirst}
 use Rattle.fa_box_rules.specs.declared.rule.BoxRule.{BoxRule}
-use Rattle.fa_box_rules.proofs.Unbroken.{unbroken_sound}
-use Rattle.fa_faces.specs.Faults.{box_inside}
-use Rattle.fa_faces.proofs.Named.{rules_ports, refs_there}
 use Rattle.fa_written.specs.declared.draft.BoxDraft.{BoxDraft}
 use Rattle.fa_named.specs.declared.named.NamedBox.{NamedBox}
 use Rattle.fa_text.specs.Files.{HasFace, AreBoxes, face_over, bare, IsFirstBroken, rule_number}
@@ -31,18 +26,6 @@ face_with shapes bs = record { shapes = shapes; boxes = bs }
 
 pub face_is : (t : Boxes) → t.face.boxes ≡ faces_of t.defs → t.face ≡ face_over t.face.shapes t.defs
 face_is t e = ap (λ (bs : List BoxFace). face_with t.face.shapes bs) e
-
--- an unbroken, well named box is sound
-pub named_sound : (face : Face) (T : List BoxDef) (i : ℕ) (o : Option ℕ) (name : List ℕ) (inside : Forest) (x : BoxFace)
-    → IsWellNamed face (box_inside i o inside.autos) → IsUnbroken face T (box_inside i o inside.autos) x
-    → SoundBox face T (record { name = name; face = x; inside = inside })
-named_sound face T i o name inside x named h =
-    let d : BoxDef = record { name = name; face = x; inside = inside } in
-    let same : inside_of d ≡ box_inside i o inside.autos =
-    ap (λ (j : ℕ). box_inside j x.output inside.autos) h.one.input
-    ∙ ap (λ (p : Option ℕ). box_inside i p inside.autos) h.one.output in
-    unbroken_sound face T d (rules_ports face (box_inside i o inside.autos) x h.one.output named)
-    (refs_there inside.autos named.refs) (subst (λ (b : Inside). IsUnbroken face T b x) (sym same) h)
 
 pub next_named : (t : Boxes) (n : NamedBox) → t.face.boxes ≡ faces_of t.defs → IsNext t.face.shapes t.defs n
     → IsWellNamed t.face (bare n)

@@ -6,3 +6,4 @@ pub mod Next
 pub mod OneTable
 pub mod WellNamed
 pub mod Written
+mod Rows
