@@ -40,7 +40,12 @@ pub fn is_filled_part(
 }
 
 /// Whether the ends and the order of each rule's cell are right.
-pub fn are_shaped_rules(alloc: Global, face: &Face, topss: &[List<u32>], rules: &[Rule]) -> Mem<bool>
+pub fn are_shaped_rules(
+    alloc: Global,
+    face: &Face,
+    topss: &[List<u32>],
+    rules: &[Rule],
+) -> Mem<bool>
     ensures { IfOk result (λ yes. IsTrue yes ↔ Every (IsShapedRule face.now topss.now rules.now) rules.now) }
 {
     for rule in rules {
