@@ -76,7 +76,7 @@ named_slots table pointers [] qs = []
 named_slots table pointers (s ∷ ss) qs =
     named_slot table pointers s qs ∷ named_slots table pointers ss (states_behind s qs)
 
--- a symbol, with the states below it
+-- a symbol, with the states below it; the data are those that it has: a cell that stands for a port has none
 abbrev pub named_term : Boxes → Symbol → List ℕ → Term
 named_term table NullSymbol qs = Null
 named_term table UninitSymbol qs = Uninit
