@@ -12,7 +12,7 @@ use Rattle.ta_core.specs.declared.symbol.Symbol.{Symbol}
 use Rattle.ta_core.specs.declared.tree.Tree.{Tree, out-Tree, out-roll-Tree}
 use Rattle.ta_core.proofs.Runs.{tree_of, run_tree}
 use Rattle.fa_core.specs.Ways.{has}
-use Rattle.fa_back.proofs.ByMarks.{in_has, has_in}
+use Rattle.fa_back.proofs.RootMarks.{in_has, has_in}
 use Rattle.fa_faces.proofs.Trimmed.{passed}
 
 trees_for : (rules : List Rule) (qs : List ℕ) → Every (HasTree rules) qs → (ts : List Tree) × RunEach rules qs ts

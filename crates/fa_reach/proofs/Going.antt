@@ -5,7 +5,7 @@ use Rattle.std.proofs.lemmas.List.{length-map}
 use Rattle.std.proofs.lemmas.Option.{none-some, same_Some, slice_get_within}
 use Rattle.fore_base.specs.Lists.{IsIn, Every, Paired}
 use Rattle.fore_base.proofs.ListLemmas.{in_every, every_in, in_map, in_mapped, paired_long}
-use Rattle.fa_back.proofs.ByMarks.{in_flat, flat_in}
+use Rattle.fa_back.proofs.RootMarks.{in_flat, flat_in}
 use Rattle.fa_back.proofs.FactParts.{same_or_not}
 use Rattle.fa_reach.specs.declared.part.Part.{Part}
 use Rattle.fa_reach.specs.inner.Going.{Goes, here, down, back, AreOf, Forced, Missed, Met, Barred, IsFit, AreFit}

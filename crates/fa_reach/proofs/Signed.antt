@@ -10,7 +10,7 @@ use Rattle.fa_core.specs.declared.signature.RefMark.{RefMark}
 use Rattle.fa_core.specs.declared.signature.Signature.{Signature}
 use Rattle.fa_back.specs.Reached.{SignReached, from_there, down_to, back_to, reach_to, IsMarkAt, AllNameBelow}
 use Rattle.fa_back.specs.Reached.{NamesBelow}
-use Rattle.fa_back.proofs.ByMarks.{in_flat, flat_in}
+use Rattle.fa_back.proofs.RootMarks.{in_flat, flat_in}
 use Rattle.fa_box_rules.specs.Signs.{Picks}
 use Rattle.fa_reach.specs.Choices.{HasSign}
 use Rattle.fa_reach.specs.declared.part.Hop.{Hop}
