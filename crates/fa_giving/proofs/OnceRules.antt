@@ -1,12 +1,12 @@
 -- The cells below others: rules that say of each that its fields are given once, or a choice in which one is not.
-use Rattle.std.proofs.Common.{◌≡◌, ◌↔◌, ◌⊎◌, inl, inr, ℕ, zero, suc, ◌<◌, ◌≤◌, ◌+◌, Bool, true, false, true≢false, List, []}
-use Rattle.std.proofs.Common.{◌∷◌, ◌++◌, length, length-append, map, flat_map, set, nat_eq, Option, Some, None, slice_get}
+use Rattle.std.proofs.Common.{◌≡◌, ◌↔◌, ◌⊎◌, inl, inr, ℕ, zero, suc, ◌<◌, ◌≤◌, Bool, true, false, true≢false, List, []}
+use Rattle.std.proofs.Common.{◌∷◌, ◌++◌, length, length-append, flat_map, nat_eq, Some, slice_get}
 use Rattle.std.proofs.Common.{refl, sym, ap, subst, ◌∙◌, arith, IsTrue}
 use Rattle.std.proofs.lemmas.Bool.{eqb-true, eq-eqb}
-use Rattle.fore_base.specs.Lists.{IsIn, Every, Paired}
+use Rattle.fore_base.specs.Lists.{IsIn, Every}
 use Rattle.fore_base.specs.declared.store.Datum.{Datum}
 use Rattle.ta_core.specs.Auto.{Automaton, IsRanked, IsRankedRule}
-use Rattle.ta_core.specs.Language.{InLanguage, IsTrim, RunOf, run, RunEach, HasTree, PassesBy}
+use Rattle.ta_core.specs.Language.{InLanguage, IsTrim, RunOf, run, HasTree}
 use Rattle.ta_core.specs.declared.auto.Rule.{Rule}
 use Rattle.ta_core.specs.declared.symbol.Slot.{Slot}
 use Rattle.ta_core.specs.declared.symbol.Slot.TheVariants.{Field, Link, Hook}
@@ -21,10 +21,10 @@ use Rattle.fa_core.specs.Cells.{edges}
 use Rattle.fa_core.specs.Filled.{Choice, HasSome, Spot, covers, fields_of, spots}
 use Rattle.fa_core.specs.Rearranged.{Rearranged, often}
 use Rattle.fa_core.specs.Ways.{given_by, gives_out_of}
-use Rattle.fa_filling.specs.inner.Ruled.{BelowRule, OnceBy, StateOnce, EdgeOnce, OnceBelow, IsOnceBelow, spot}
+use Rattle.fa_filling.specs.inner.Ruled.{BelowRule, OnceBy, StateOnce, EdgeOnce, OnceBelow, IsOnceBelow}
 use Rattle.fa_filling.proofs.Counting.{long_same, often_same, rearranged_by}
 use Rattle.fa_filling.proofs.SpotRules.{Holds, HoldsBelow, holds_cell, leaf_holds, holds_each, put, some_trees, with_edge}
-use Rattle.fa_filling.proofs.SpotRules.{tree_spot, top_symbol, with_spots}
+use Rattle.fa_filling.proofs.SpotRules.{tree_spot}
 use Rattle.fa_giving.specs.inner.Shaped.{IsOnceSpot, IsOnceRoot}
 use Rattle.fa_giving.specs.inner.Totals.{ForAll}
 use Rattle.fa_giving.proofs.RootFields.{choice_at, none_some, some_same}
@@ -52,9 +52,9 @@ rearranged_or xs ys = elim (number_same (length xs) (length ys)) [
   | inr n ↦ inr (λ r. n (long_same r))
   | inl l ↦ elim (each_or {B = Rearranged xs ys → ⊥} (λ (n : ℕ). often n xs ≡ often n ys) xs (λ n i.
       elim (number_same (often n xs) (often n ys)) [ inl e ↦ inl e | inr d ↦ inr (λ r. d (often_same n r)) ])) [
-      | inr n ↦ inr n
-      | inl h ↦ inl (rearranged_by xs ys l (λ n i. every_in (λ (n : ℕ). often n xs ≡ often n ys) xs n h i))
-    ]
+        | inr n ↦ inr n
+        | inl h ↦ inl (rearranged_by xs ys l (λ n i. every_in (λ (n : ℕ). often n xs ≡ often n ys) xs n h i))
+      ]
 ]
 
 -- a choice with this tree at the root
@@ -159,13 +159,13 @@ module _ (face : Face) (autos : List Automaton) (r : ℕ) (a : Automaton) (ranke
         c.0,
         c.1,
         λ h. (
-        let w = g.2 (marker face.boxes) (all_marked c.0 g.0 c.2 h) in
-        let b = tree_spot face.boxes Marked a.rules a.states ranked.1 trees o l.0 w.0 s ds ss e w.1 in
-        let y = every_in (λ (z : Slot × Tree). Holds face.boxes Marked z.1 (given_by face.boxes z.0)) (edges ss l.0)
-        (d.0, u) b.1 l.2 in
-        let q = tree_spot face.boxes Marked a.rules a.states ranked.1 trees p us.0 (given_by face.boxes d.0) s2 ds2 ss2
-        e2 y in
-        elim q.0 [ inl once ↦ n once | inr v ↦ no_marker face.boxes d.0 v ]),
+            let w = g.2 (marker face.boxes) (all_marked c.0 g.0 c.2 h) in
+            let b = tree_spot face.boxes Marked a.rules a.states ranked.1 trees o l.0 w.0 s ds ss e w.1 in
+            let y = every_in (λ (z : Slot × Tree). Holds face.boxes Marked z.1 (given_by face.boxes z.0)) (edges ss l.0)
+            (d.0, u) b.1 l.2 in
+            let q = tree_spot face.boxes Marked a.rules a.states ranked.1 trees p us.0 (given_by face.boxes d.0) s2 ds2 ss2
+            e2 y in
+            elim q.0 [ inl once ↦ n once | inr v ↦ no_marker face.boxes d.0 v ]),
       )
 
   once_or : Every (IsOnceBelow face a.rules) a.rules ⊎ Wrong
@@ -181,9 +181,9 @@ module _ (face : Face) (autos : List Automaton) (r : ℕ) (a : Automaton) (ranke
       at_child o i s ds ss e d j p m x (Cell s2 ds2 ss2) z =
           elim (rearranged_or (fields_of face.shapes.structs s2)
           (flat_map (covers face.boxes) ss2 ++ given_by face.boxes d.0)) [
-        | inl h ↦ inl h
-        | inr n ↦ inr (bad o i s ds ss e d j p m x s2 ds2 ss2 z n)
-      ]
+            | inl h ↦ inl h
+            | inr n ↦ inr (bad o i s ds ss e d j p m x s2 ds2 ss2 z n)
+          ]
 
       at_rule : (o : Rule) → IsIn o a.rules → (y : Symbol) → o.symbol ≡ y
           → OnceBelow face a.rules o.symbol o.children ⊎ Wrong

@@ -1,7 +1,7 @@
 -- All cells of a choice are right where their shapes are, those below others have each field once, and those at roots
 -- have each field as often as they must.
-use Rattle.std.proofs.Common.{◌≡◌, ◌⊎◌, inl, inr, ℕ, zero, suc, ◌<◌, ◌≤◌, ◌+◌, Bool, true, false, true≢false, List, []}
-use Rattle.std.proofs.Common.{◌∷◌, ◌++◌, length, map, flat_map, cond, nat_eq, nat_lt, Option, Some, None, slice_get}
+use Rattle.std.proofs.Common.{◌≡◌, ℕ, zero, suc, ◌<◌, ◌≤◌, ◌+◌, Bool, true, false, true≢false, List, []}
+use Rattle.std.proofs.Common.{◌∷◌, ◌++◌, length, map, flat_map, cond, nat_eq, nat_lt, Some, slice_get}
 use Rattle.std.proofs.Common.{refl, sym, ap, subst, ◌∙◌, arith}
 use Rattle.std.proofs.lemmas.Bool.{eqb-true, eq-eqb, ltb-true, ltb-false}
 use Rattle.fore_base.specs.Lists.{IsIn, Every, IsDistinct}
@@ -13,18 +13,18 @@ use Rattle.ta_core.specs.declared.symbol.Symbol.TheVariants.{Null, Uninit, Dangl
 use Rattle.ta_core.specs.declared.tree.Tree.{Tree, out-Tree}
 use Rattle.fa_core.specs.declared.faces.Face.{Face}
 use Rattle.fa_core.specs.Cells.{edges}
-use Rattle.fa_core.specs.Filled.{Choice, Spot, spots, spots_at, covers, fields_of, given_at}
+use Rattle.fa_core.specs.Filled.{Spot, spots, spots_at, covers, fields_of, given_at}
 use Rattle.fa_core.specs.Rearranged.{Rearranged, empty, keep, chain, often}
 use Rattle.fa_core.specs.Ways.{given_by}
 use Rattle.fa_core.proofs.Counts.{often_out, often_in}
-use Rattle.fa_box_rules.specs.Cells.{IsRightCell, IsRightPort, IsRightUnder, AreRight}
+use Rattle.fa_box_rules.specs.Cells.{IsRightCell, IsRightUnder, AreRight}
 use Rattle.fa_filling.specs.inner.Ruled.{spot}
 use Rattle.fa_filling.proofs.Counting.{often_same, taken, without, back}
 use Rattle.fa_filling.proofs.SpotRules.{spots_out, with_spots, cell_spots, every_flat, flat_every, top_symbol}
 use Rattle.fa_filling.proofs.Fillings.{choice_long}
 use Rattle.fa_giving.specs.inner.Shaped.{IsShapedSpot, IsShapedRoot, IsOnceSpot, IsOnceRoot}
 use Rattle.fa_giving.specs.inner.Totals.{IsGivenRight, Fits, ForAll}
-use Rattle.fa_giving.proofs.RootFields.{none_some, some_same, cell_same}
+use Rattle.fa_giving.proofs.RootFields.{none_some, some_same}
 
 -- COUNTS
 
@@ -155,16 +155,22 @@ module _ (face : Face) (all : List Tree) where
         → IsShapedRoot face k all → IsOnceRoot face k all → ((f : ℕ) → IsGivenRight face (nat_lt k n) k f all)
         → RightAt k k n t
     right_cell s ds ss d shaped once given = (
-      (λ l. subst (IsRightUnder face all) (sym whole) (record {
-        ends = parts.0.ends;
-        order = parts.0.order;
-        once = often_distinct _ (λ f. port_fits (nat_lt k n) (is_port l) f (given f t s ds ss at d));
-      }, below)),
-      (λ l. subst (Every (IsRightCell face all)) (sym whole) (record {
-        ends = parts.0.ends;
-        order = parts.0.order;
-        once = rearranged_all _ _ (λ f. sym (inner_fits (nat_lt k n) (is_inner l) f (given f t s ds ss at d)));
-      }, below)),
+      (λ l. subst (IsRightUnder face all) (sym whole) (
+        record {
+          ends = parts.0.ends;
+          order = parts.0.order;
+          once = often_distinct _ (λ f. port_fits (nat_lt k n) (is_port l) f (given f t s ds ss at d));
+        },
+        below,
+      )),
+      (λ l. subst (Every (IsRightCell face all)) (sym whole) (
+        record {
+          ends = parts.0.ends;
+          order = parts.0.order;
+          once = rearranged_all _ _ (λ f. sym (inner_fits (nat_lt k n) (is_inner l) f (given f t s ds ss at d)));
+        },
+        below,
+      )),
     )
       where
         whole : spots face.boxes t (given_at face.boxes all k)

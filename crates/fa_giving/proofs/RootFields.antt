@@ -1,12 +1,12 @@
 -- What is given at the cells of roots, for each choice.
-use Rattle.std.proofs.Common.{◌≡◌, ◌↔◌, ◌⊎◌, inl, inr, ℕ, zero, suc, ◌<◌, ◌≤◌, ◌+◌, Bool, true, false, true≢false, List, []}
-use Rattle.std.proofs.Common.{◌∷◌, ◌++◌, length, map, flat_map, set, cond, nat_eq, nat_lt, Option, Some, None, slice_get}
-use Rattle.std.proofs.Common.{refl, sym, ap, ap₂, subst, ◌∙◌, arith, IsTrue}
+use Rattle.std.proofs.Common.{◌≡◌, ◌↔◌, inl, inr, ℕ, zero, suc, ◌<◌, ◌≤◌, ◌+◌, Bool, true, false, true≢false, List, []}
+use Rattle.std.proofs.Common.{◌∷◌, ◌++◌, map, flat_map, set, cond, nat_eq, nat_lt, Some, None, slice_get}
+use Rattle.std.proofs.Common.{refl, sym, ap, subst, ◌∙◌, arith, IsTrue}
 use Rattle.std.proofs.lemmas.Bool.{ltb-true, ltb-false, eqb-true}
-use Rattle.fore_base.specs.Lists.{IsIn, Every, Paired, sum_of}
+use Rattle.fore_base.specs.Lists.{IsIn, Every, Paired}
 use Rattle.fore_base.specs.declared.store.Datum.{Datum}
-use Rattle.ta_core.specs.Auto.{Automaton, IsRanked, IsRankedRule}
-use Rattle.ta_core.specs.Language.{InLanguage, IsTrim, RunOf, run, RunEach, run_none, run_more, HasTree}
+use Rattle.ta_core.specs.Auto.{Automaton, IsRanked}
+use Rattle.ta_core.specs.Language.{InLanguage, IsTrim, RunOf, run, RunEach, run_none, run_more}
 use Rattle.ta_core.specs.declared.auto.Rule.{Rule}
 use Rattle.ta_core.specs.declared.symbol.Slot.{Slot}
 use Rattle.ta_core.specs.declared.symbol.Slot.TheVariants.{Field, Link, Hook}
@@ -17,22 +17,22 @@ use Rattle.fore_base.proofs.ListLemmas.{every_in, in_every, every_parts}
 use Rattle.fa_core.specs.declared.faces.BoxFace.{BoxFace}
 use Rattle.fa_core.specs.declared.faces.Face.{Face}
 use Rattle.fa_core.specs.Cells.{edges, is_leaf}
-use Rattle.fa_core.specs.Filled.{Choice, HasSome, covers, fields_of, given_at, numbered}
+use Rattle.fa_core.specs.Filled.{Choice, covers, fields_of, given_at, numbered}
 use Rattle.fa_core.specs.Rearranged.{often}
-use Rattle.fa_core.specs.Ways.{Way, ways, ways_at, given, given_by, gives_out_of, fields_out, longer, child_ways}
+use Rattle.fa_core.specs.Ways.{Way, ways, ways_at, given, given_by, gives_out_of, longer}
 use Rattle.fa_core.proofs.CellMarks.{given_through}
 use Rattle.fa_core.proofs.Counts.{often_both, often_out, in_or_out}
 use Rattle.fa_core.proofs.WayParts.{collect, collect_edges, edge_ways, pair_roots, ways_out, child_edges, branch_ways}
 use Rattle.fa_filling.proofs.Chosen.{chosen_runs, runs_chosen}
-use Rattle.fa_filling.specs.inner.Parted.{RunBy, chosen, AreTopRules, IsRootRule}
+use Rattle.fa_filling.specs.inner.Parted.{RunBy, chosen, AreTopRules}
 use Rattle.fa_giving.specs.declared.totals.Extremes.{Extremes}
 use Rattle.fa_giving.specs.inner.Totals.{gives, IsExtremes, AreExtremes, none_given, total, all_give, Fits, AllFit}
 use Rattle.fa_giving.specs.inner.Totals.{IsGivenRight, ForAll, ForTop, given_fields, symbol_fields, rule_fields, AreIn}
-use Rattle.fa_giving.specs.inner.Worths.{weigh, weight, refers, AreWorths, rule_worth}
+use Rattle.fa_giving.specs.inner.Worths.{weigh, weight, AreWorths, rule_worth}
 use Rattle.fa_giving.specs.declared.worths.Worth.{Worth}
 use Rattle.fa_giving.specs.inner.Totals.{extremes_of}
 use Rattle.fa_giving.proofs.Sums.{gives_none, totals, TotalOf, by_rule}
-use Rattle.fa_giving.proofs.Weights.{weigh_cell, weigh_is, weigh_ref, weigh_not, below_slots}
+use Rattle.fa_giving.proofs.Weights.{weigh_cell, weigh_is, below_slots}
 
 module _ (bs : List BoxFace) (r f : ℕ) where
   -- THE WEIGHT OF A TREE IS WHAT ITS WAYS GIVE
@@ -95,12 +95,18 @@ module _ (bs : List BoxFace) (r f : ℕ) where
         where
           by : ((ss : List Slot) (rs : List ℕ) → often f (flat_map (λ e. below_slot rs e.0 e.1) (edges ss (out-Tree t).children))
               ≡ below_slots bs r f ss (out-Tree t).children) → (y : Symbol) → (out-Tree t).symbol ≡ y → Counts t
-          by z Null d = (leaf_provided t Null d refl ∙ sym (weigh_is bs r f t Null 0 d),
-              λ rs x. leaf_below rs x t Null d (sym (weigh_is bs r f t Null (weight bs f x) d)))
-          by z Uninit d = (leaf_provided t Uninit d refl ∙ sym (weigh_is bs r f t Uninit 0 d),
-              λ rs x. leaf_below rs x t Uninit d (sym (weigh_is bs r f t Uninit (weight bs f x) d)))
-          by z Dangling d = (leaf_provided t Dangling d refl ∙ sym (weigh_is bs r f t Dangling 0 d),
-              λ rs x. leaf_below rs x t Dangling d (sym (weigh_is bs r f t Dangling (weight bs f x) d)))
+          by z Null d = (
+            leaf_provided t Null d refl ∙ sym (weigh_is bs r f t Null 0 d),
+            λ rs x. leaf_below rs x t Null d (sym (weigh_is bs r f t Null (weight bs f x) d)),
+          )
+          by z Uninit d = (
+            leaf_provided t Uninit d refl ∙ sym (weigh_is bs r f t Uninit 0 d),
+            λ rs x. leaf_below rs x t Uninit d (sym (weigh_is bs r f t Uninit (weight bs f x) d)),
+          )
+          by z Dangling d = (
+            leaf_provided t Dangling d refl ∙ sym (weigh_is bs r f t Dangling 0 d),
+            λ rs x. leaf_below rs x t Dangling d (sym (weigh_is bs r f t Dangling (weight bs f x) d)),
+          )
           by z (Ref m) d = (
             leaf_provided t (Ref m) d (ref_once (nat_eq r m) m)
                 ∙ sym (weigh_is bs r f t (Ref m) 0 d ∙ either 0 (nat_eq r m)),
@@ -228,9 +234,9 @@ fit_each n L e true need c l h k x i = elim (h.most_all x i) [
 fit_each n L e false need c l h k x i = elim (h.most_all x i) [
   | inr a ↦ (let b = k.0 in absurd (omega (arith, a, b, l)))
   | inl a ↦ (let b = k.0 in elim k.1 [
-      | inl d ↦ omega (arith, a, b, d)
-      | inr d ↦ some (nat_lt 0 (n x)) refl a b d
-    ])
+    | inl d ↦ omega (arith, a, b, d)
+    | inr d ↦ some (nat_lt 0 (n x)) refl a b d
+  ])
 ]
   where
     some : (b : Bool) → nat_lt 0 (n x) ≡ b → n x ≤ e.most → c + e.most ≤ need → e.none ≡ false → c + n x ≡ need

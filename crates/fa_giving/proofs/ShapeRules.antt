@@ -1,21 +1,21 @@
 -- Ends and order of cells: rules that say of each that they are right, or a choice in which one is not.
-use Rattle.std.proofs.Common.{◌≡◌, ◌↔◌, ◌⊎◌, inl, inr, ℕ, zero, suc, ◌<◌, ◌≤◌, ◌+◌, Bool, true, false, true≢false, List, []}
-use Rattle.std.proofs.Common.{◌∷◌, ◌++◌, length, map, flat_map, set, nat_lt, Option, Some, None, slice_get}
-use Rattle.std.proofs.Common.{refl, sym, ap, subst, ◌∙◌, arith, IsTrue}
+use Rattle.std.proofs.Common.{◌≡◌, ◌⊎◌, inl, inr, ℕ, zero, suc, ◌<◌, Bool, true, false, true≢false, List, []}
+use Rattle.std.proofs.Common.{◌∷◌, length, map, set, nat_lt, Option, Some, None, slice_get}
+use Rattle.std.proofs.Common.{refl, sym, ap, subst, ◌∙◌, arith}
 use Rattle.std.proofs.lemmas.Bool.{ltb-true, ltb-false}
 use Rattle.fore_base.specs.Lists.{IsIn, Every, Paired}
 use Rattle.fore_base.specs.declared.store.Datum.{Datum}
 use Rattle.ta_core.specs.Arity.{child_slots, arity}
 use Rattle.ta_core.specs.Auto.{Automaton, IsRanked, IsRankedRule}
-use Rattle.ta_core.specs.Language.{InLanguage, IsTrim, RunOf, run, RunEach, HasTree, PassesBy}
+use Rattle.ta_core.specs.Language.{InLanguage, IsTrim, RunOf, run, HasTree}
 use Rattle.ta_core.specs.declared.auto.Rule.{Rule}
 use Rattle.ta_core.specs.declared.symbol.Slot.{Slot}
 use Rattle.ta_core.specs.declared.symbol.Slot.TheVariants.{Field, Link, Hook}
 use Rattle.ta_core.specs.declared.symbol.Symbol.{Symbol}
 use Rattle.ta_core.specs.declared.symbol.Symbol.TheVariants.{Null, Uninit, Dangling, Ref, Cell}
-use Rattle.ta_core.specs.declared.tree.Tree.{Tree, out-Tree}
+use Rattle.ta_core.specs.declared.tree.Tree.{Tree}
 use Rattle.fore_base.proofs.ListLemmas.{every_in, in_every, every_weaker}
-use Rattle.ta_core.proofs.Runs.{tree_of, run_tree}
+use Rattle.ta_core.proofs.Runs.{tree_of}
 use Rattle.fa_core.specs.declared.faces.BoxFace.{BoxFace}
 use Rattle.fa_core.specs.declared.faces.Face.{Face}
 use Rattle.fa_core.specs.Cells.{edges}
@@ -26,7 +26,7 @@ use Rattle.fa_box_rules.specs.Cells.{MayName, FieldMayEnd, EndMayFit, EndsMayFit
 use Rattle.fa_filling.specs.inner.Ruled.{SymbolsOf, RuleSpots, IsAlone, FieldAlways, LinkAlways, OutputAlways, BoxAlways}
 use Rattle.fa_filling.specs.inner.Ruled.{EndAlways, RuleAlways, EdgeAlways, HookAlways, SlotAlways, IsShapedCell, ShapedBy}
 use Rattle.fa_filling.specs.inner.Ruled.{IsShapedRule, spot}
-use Rattle.fa_filling.proofs.SpotRules.{Holds, put, rule_tree, tree_spot, spots_by_rules, passed, top_symbol}
+use Rattle.fa_filling.proofs.SpotRules.{put, rule_tree, tree_spot, spots_by_rules}
 use Rattle.fa_filling.proofs.FilledRules.{all_symbols, symbols_with}
 use Rattle.fa_giving.specs.inner.Shaped.{IsShapedSpot, IsShapedRoot, AreTopStructs}
 use Rattle.fa_giving.specs.inner.Totals.{ForAll}
@@ -176,9 +176,9 @@ order_or bs ss = elim (each_or {B = IsInOrder bs ss → ⊥} (λ (x : Slot). Has
       | inl h ↦ inl h
       | inr n ↦ inr (λ k. n (every_in (λ (x : Slot). HasField (covers bs x)) ss x k.0 i))
     ])) [
-  | inr n ↦ inr n
-  | inl h ↦ elim (rising_or (map (λ (x : Slot). least (covers bs x)) ss)) [ inr n ↦ inr (λ k. n k.1) | inl g ↦ inl (h, g) ]
-]
+      | inr n ↦ inr n
+      | inl h ↦ elim (rising_or (map (λ (x : Slot). least (covers bs x)) ss)) [ inr n ↦ inr (λ k. n k.1) | inl g ↦ inl (h, g) ]
+    ]
 
 output_or : (o : Option ℕ) → (o ≡ None) ⊎ (o ≡ None → ⊥)
 output_or None = inl refl
@@ -341,11 +341,11 @@ module _ (face : Face) (autos : List Automaton) (topss : List (List ℕ)) (r s :
         set ts r g.0,
         d.0,
         λ h. (
-        let x = every_weaker (IsShapedSpot face (set ts r g.0)) P (spots face.boxes g.0 []) (λ p z. (g.0, l, z))
-        (h g.0 d.1) in
-        let y = g.2 [] x in
-        let z = tree_spot face.boxes P b.rules b.states ranked.1 trees o u.0 y.0 s1 ds ss e y.1 in
-        n y.0 (subst (λ (zs : List Symbol). With ts (spot s1 ss zs y.0)) u.2 z.0)),
+            let x = every_weaker (IsShapedSpot face (set ts r g.0)) P (spots face.boxes g.0 []) (λ p z. (g.0, l, z))
+            (h g.0 d.1) in
+            let y = g.2 [] x in
+            let z = tree_spot face.boxes P b.rules b.states ranked.1 trees o u.0 y.0 s1 ds ss e y.1 in
+            n y.0 (subst (λ (zs : List Symbol). With ts (spot s1 ss zs y.0)) u.2 z.0)),
       )
 
   -- an end that is wrong with each tree of the part at the root
@@ -368,9 +368,12 @@ module _ (face : Face) (autos : List Automaton) (topss : List (List ℕ)) (r s :
       here (Some tl) e = elim (each_or {B = BadName k t} (λ (u : ℕ). u ≡ t) tl (λ u i. elim (number_same u t) [
         | inl d ↦ inl d
         | inr n ↦ inr (
-            let q = pick autos topss r s k tl u full tops e i in
-            (q.0, q.1, λ v l h. (let w = q.2 v (into v l).1 in
-            n (h.2 u (subst (IsTopped u) (some_same w.0 h.0 (sym w.1 ∙ h.1)) w.2)))))
+            let q = pick autos topss r s k tl u full tops e i in (
+              q.0,
+              q.1,
+              λ v l h. (let w = q.2 v (into v l).1 in
+                  n (h.2 u (subst (IsTopped u) (some_same w.0 h.0 (sym w.1 ∙ h.1)) w.2))),
+            ))
       ])) [ inl h ↦ inl h | inr x ↦ inr x ]
 
   target_or : (s1 f : ℕ) (y : Symbol) (o : Option ℕ) → target_of face.shapes.structs s1 f ≡ o
@@ -388,8 +391,12 @@ module _ (face : Face) (autos : List Automaton) (topss : List (List ℕ)) (r s :
       ]
       here (Ref k) = elim (alone_or k t) [
         | inl h ↦ inl (t, e, h)
-        | inr w ↦ inr (w.0, w.1, λ v l h.
-            w.2 v l (subst (λ (z : ℕ). MayName (set w.0 r v) (Ref k) z) (sym (some_same t h.0 (sym e ∙ h.1))) h.2))
+        | inr w ↦ inr (
+          w.0,
+          w.1,
+          λ v l h.
+              w.2 v l (subst (λ (z : ℕ). MayName (set w.0 r v) (Ref k) z) (sym (some_same t h.0 (sym e ∙ h.1))) h.2),
+        )
       ]
 
   abbrev is_dangling : Symbol → Bool
@@ -412,42 +419,66 @@ module _ (face : Face) (autos : List Automaton) (topss : List (List ℕ)) (r s :
   ]
     where
       out : (p : Option ℕ) → x.output ≡ p → OutputAlways T x.gives_out p y ⊎ BadEnd s1 (Link c) y
-      out None f = inr (any.0, any.1, λ v l h.
-          none_some h.1 (sym f ∙ ap (λ (z : BoxFace). z.output) (some_same x h.0 (sym e ∙ h.2)) ∙ h.4))
+      out None f = inr (
+        any.0,
+        any.1,
+        λ v l h.
+            none_some h.1 (sym f ∙ ap (λ (z : BoxFace). z.output) (some_same x h.0 (sym e ∙ h.2)) ∙ h.4),
+      )
       out (Some t) f = last y
         where
           target : (h0 : BoxFace) (h1 : ℕ) → face_of face.boxes c ≡ Some h0 → h0.output ≡ Some h1 → t ≡ h1
           target h0 h1 d g = some_same t h1 (sym f ∙ ap (λ (z : BoxFace). z.output) (some_same x h0 (sym e ∙ d)) ∙ g)
 
           last : (y : Symbol) → LinkAlways T t x.gives_out y ⊎ BadEnd s1 (Link c) y
-          last Null = inr (any.0, any.1, λ v l h. elim h.5 [
-            | inl q ↦ q
-            | inr q ↦ true≢false (sym (ap is_dangling q.0))
-          ])
-          last Uninit = inr (any.0, any.1, λ v l h. elim h.5 [
-            | inl q ↦ q
-            | inr q ↦ true≢false (sym (ap is_dangling q.0))
-          ])
+          last Null = inr (
+            any.0,
+            any.1,
+            λ v l h. elim h.5 [
+              | inl q ↦ q
+              | inr q ↦ true≢false (sym (ap is_dangling q.0))
+            ],
+          )
+          last Uninit = inr (
+            any.0,
+            any.1,
+            λ v l h. elim h.5 [
+              | inl q ↦ q
+              | inr q ↦ true≢false (sym (ap is_dangling q.0))
+            ],
+          )
           last Dangling = elim (empty_or x.gives_out) [
             | inl d ↦ inl d
-            | inr n ↦ inr (any.0, any.1, λ v l h. elim h.5 [
+            | inr n ↦ inr (
+              any.0,
+              any.1,
+              λ v l h. elim h.5 [
                 | inl q ↦ q
                 | inr q ↦ n (ap (λ (z : BoxFace). z.gives_out) (some_same x h.0 (sym e ∙ h.2)) ∙ q.1)
-              ])
+              ],
+            )
           ]
           last (Cell u ds ss) = elim (number_same u t) [
             | inl d ↦ inl d
-            | inr n ↦ inr (any.0, any.1, λ v l h. elim h.5 [
+            | inr n ↦ inr (
+              any.0,
+              any.1,
+              λ v l h. elim h.5 [
                 | inl q ↦ n (q ∙ sym (target h.0 h.1 h.2 h.4))
                 | inr q ↦ true≢false (sym (ap is_dangling q.0))
-              ])
+              ],
+            )
           ]
           last (Ref k) = elim (alone_or k t) [
             | inl h ↦ inl h
-            | inr w ↦ inr (w.0, w.1, λ v l h. elim h.5 [
+            | inr w ↦ inr (
+              w.0,
+              w.1,
+              λ v l h. elim h.5 [
                 | inl q ↦ w.2 v l (subst (λ (z : ℕ). MayName (set w.0 r v) (Ref k) z) (sym (target h.0 h.1 h.2 h.4)) q)
                 | inr q ↦ true≢false (sym (ap is_dangling q.0))
-              ])
+              ],
+            )
           ]
 
   end_or : (s1 : ℕ) (x : Slot) (y : Symbol) → EndAlways face T s1 x y ⊎ BadEnd s1 x y
@@ -487,14 +518,14 @@ module _ (face : Face) (autos : List Automaton) (topss : List (List ℕ)) (r s :
                   | inl h ↦ inl h
                   | inr n ↦ inr (λ k. n (every_in (SlotAlways face s1) ss x k j))
                 ])) [
-              | inr n ↦ inr (bad o i s1 ds ss e any.0 any.1 ys.0 ys.1
-                  (λ above g. n (may_hooks face (set any.0 r g.0) s1 ss ys.0 g.2.ends)))
-              | inl hooks ↦ elim (edge_or o i s1 ds ss e) [
-                | inr w ↦ inr w
-                | inl ends ↦ inl (subst (λ (y : Symbol). ShapedBy face T b.rules y o.children) (sym e)
-                    (record { ends = ends; hooks = hooks; order = order }))
-              ]
-            ]
+                  | inr n ↦ inr (bad o i s1 ds ss e any.0 any.1 ys.0 ys.1
+                      (λ above g. n (may_hooks face (set any.0 r g.0) s1 ss ys.0 g.2.ends)))
+                  | inl hooks ↦ elim (edge_or o i s1 ds ss e) [
+                    | inr w ↦ inr w
+                    | inl ends ↦ inl (subst (λ (y : Symbol). ShapedBy face T b.rules y o.children) (sym e)
+                        (record { ends = ends; hooks = hooks; order = order }))
+                  ]
+                ]
           ]
 
   pub shaped_false : (Every (IsShapedRule face T b.rules) b.rules → ⊥) → Wrong

@@ -1,11 +1,11 @@
 -- Components by the structs of the cells at the tops of their trees.
-use Rattle.std.proofs.Common.{◌≡◌, ◌↔◌, ◌⊎◌, inl, inr, ℕ, Bool, true, false, true≢false, List, [], ◌∷◌, ◌++◌, set, nat_eq}
+use Rattle.std.proofs.Common.{◌≡◌, ◌↔◌, inl, inr, ℕ, Bool, true, false, true≢false, List, [], ◌∷◌, ◌++◌, set}
 use Rattle.std.proofs.Common.{Some, slice_get, refl, sym, ap, subst, ◌∙◌, IsTrue}
 use Rattle.std.proofs.lemmas.Bool.{eqb-true, eq-eqb}
 use Rattle.fore_base.specs.Lists.{IsIn, Every, Paired}
 use Rattle.fore_base.specs.declared.store.Datum.{Datum}
 use Rattle.ta_core.specs.Auto.{Automaton, IsRanked}
-use Rattle.ta_core.specs.Language.{InLanguage, IsTrim, RunOf, run, RunEach}
+use Rattle.ta_core.specs.Language.{InLanguage, run}
 use Rattle.ta_core.specs.declared.auto.Rule.{Rule}
 use Rattle.ta_core.specs.declared.symbol.Slot.{Slot}
 use Rattle.ta_core.specs.declared.symbol.Symbol.{Symbol}
@@ -14,16 +14,16 @@ use Rattle.ta_core.specs.declared.tree.Tree.{Tree, Tree-F, out-Tree, out-roll-Tr
 use Rattle.fore_base.proofs.ListLemmas.{every_in, in_left, in_right, in_append}
 use Rattle.ta_core.proofs.Runs.{tree_of, run_tree}
 use Rattle.fa_core.specs.declared.faces.Face.{Face}
-use Rattle.fa_core.specs.Filled.{Choice, HasSome, IsTopped, spots}
+use Rattle.fa_core.specs.Filled.{HasSome, IsTopped, spots}
 use Rattle.fa_filling.specs.declared.parts.Part.{Part}
-use Rattle.fa_filling.specs.inner.Parted.{is_of, rules_of, RunBy, AreTopRules, IsPartFor}
+use Rattle.fa_filling.specs.inner.Parted.{is_of, AreTopRules, IsPartFor}
 use Rattle.fa_filling.specs.inner.Ruled.{IsShapedRule}
 use Rattle.fa_filling.proofs.Partition.{of_cell, in_rules_of, from_rules_of}
 use Rattle.fa_filling.proofs.SpotRules.{leaf_holds}
 use Rattle.fa_giving.specs.inner.Shaped.{IsShapedSpot, IsShapedRoot, AreTopStructs, AreCellStructs, AddsStruct, ForStruct}
 use Rattle.fa_giving.specs.inner.Totals.{ForAll, Adds}
 use Rattle.fa_giving.proofs.RootFields.{choice_at, some_same}
-use Rattle.fa_giving.proofs.ShapeRules.{shaped_true, shaped_false, T}
+use Rattle.fa_giving.proofs.ShapeRules.{shaped_true, shaped_false}
 
 pub adds_struct : (y : Symbol) (n : ℕ) (ds : List Datum) (ss : List Slot) (old new : List ℕ) → y ≡ Cell n ds ss
     → Adds n old new → AddsStruct y old new

@@ -1,9 +1,8 @@
 -- Extremes are those of trees, and add up over choices.
-use Rattle.std.proofs.Common.{◌≡◌, ◌⊎◌, inl, inr, ℕ, zero, suc, ◌<◌, ◌≤◌, ◌+◌, Bool, true, false, true≢false, ◌&&◌, ◌||◌, List}
-use Rattle.std.proofs.Common.{[], ◌∷◌, ◌++◌, length, map, flat_map, set, cond, nat_eq, Option, Some, None, slice_get, refl, sym, ap, ap₂}
+use Rattle.std.proofs.Common.{◌≡◌, ◌⊎◌, inl, inr, ℕ, ◌<◌, ◌≤◌, ◌+◌, Bool, true, false, true≢false, ◌&&◌, ◌||◌, List}
+use Rattle.std.proofs.Common.{[], ◌∷◌, cond, nat_eq, refl, sym, ap}
 use Rattle.std.proofs.Common.{subst, ◌∙◌, arith}
-use Rattle.fore_base.specs.Lists.{IsIn, Every, Paired, sum_of}
-use Rattle.fore_base.specs.declared.store.Datum.{Datum}
+use Rattle.fore_base.specs.Lists.{IsIn, Every, Paired}
 use Rattle.ta_core.specs.Auto.{Automaton, IsRanked, IsRankedRule}
 use Rattle.ta_core.specs.Language.{InLanguage, IsTrim, RunOf, run, RunEach, run_none, run_more, HasTree}
 use Rattle.ta_core.specs.declared.auto.Rule.{Rule}
@@ -12,25 +11,18 @@ use Rattle.ta_core.specs.declared.symbol.Slot.TheVariants.{Field, Link, Hook}
 use Rattle.ta_core.specs.declared.symbol.Symbol.{Symbol}
 use Rattle.ta_core.specs.declared.symbol.Symbol.TheVariants.{Null, Uninit, Dangling, Ref, Cell}
 use Rattle.ta_core.specs.declared.tree.Tree.{Tree, out-Tree}
-use Rattle.fore_base.proofs.ListLemmas.{every_in, in_every}
+use Rattle.fore_base.proofs.ListLemmas.{every_in}
 use Rattle.fa_core.specs.declared.faces.BoxFace.{BoxFace}
-use Rattle.fa_core.specs.declared.faces.Face.{Face}
-use Rattle.fa_core.specs.Cells.{edges, is_leaf}
-use Rattle.fa_core.specs.Filled.{Choice, HasSome, covers, fields_of, given_at}
-use Rattle.fa_core.specs.Rearranged.{often}
-use Rattle.fa_core.specs.Ways.{ways, ways_at, given, given_by, longer}
-use Rattle.fa_core.proofs.CellMarks.{given_through}
-use Rattle.fa_core.proofs.Counts.{often_both}
-use Rattle.fa_core.proofs.WayParts.{collect, collect_edges, edge_ways, pair_roots, ways_out, child_edges, branch_ways}
+use Rattle.fa_core.specs.Filled.{Choice, HasSome}
 use Rattle.fa_filling.proofs.SpotRules.{passed}
 use Rattle.fa_filling.proofs.Chosen.{chosen_runs, runs_chosen}
 use Rattle.fa_filling.specs.inner.Parted.{RunBy, chosen}
 use Rattle.fa_giving.specs.declared.totals.Extremes.{Extremes}
 use Rattle.fa_giving.specs.declared.worths.Worth.{Worth}
 use Rattle.fa_giving.specs.inner.Totals.{gives, IsExtremes, AreExtremes, extremes_of, none_given, added, total, worth_of}
-use Rattle.fa_giving.specs.inner.Totals.{names_root, all_give, Fits, AllFit}
+use Rattle.fa_giving.specs.inner.Totals.{names_root, all_give}
 use Rattle.fa_giving.specs.inner.Worths.{weigh, weight, refers, worth_at, nothing, joined, IsReal, IsBound, AreWorths}
-use Rattle.fa_giving.specs.inner.Worths.{rule_worth, most_below, none_below}
+use Rattle.fa_giving.specs.inner.Worths.{rule_worth}
 use Rattle.fa_giving.proofs.Weights.{most_real, none_real, joined_real, real_map, bound_left, bound_right, bound_rule}
 use Rattle.fa_giving.proofs.Weights.{by_rule_real, capped_low, capped_less, capped_step, below_low, weigh_ref, weigh_not}
 use Rattle.fa_giving.proofs.Weights.{weigh_cell, weigh_is, below_slots}

@@ -2,7 +2,7 @@
 use Rattle.std.proofs.Common.{◌≡◌, ◌⊎◌, inl, inr, ℕ, zero, suc, ◌<◌, ◌≤◌, ◌+◌, ◌-◌, Bool, true, false, true≢false, not}
 use Rattle.std.proofs.Common.{◌&&◌, ◌||◌, nat_eq, nat_lt, cond, List, [], ◌∷◌, ◌++◌, length, map, set, replicate, refl, sym, ap}
 use Rattle.std.proofs.Common.{subst, ◌∙◌, arith, length-set}
-use Rattle.std.proofs.lemmas.Bool.{ltb-true, lt-ltb, ltb-false, eqb-true, eq-eqb}
+use Rattle.std.proofs.lemmas.Bool.{ltb-true, ltb-false, eqb-true, eq-eqb}
 use Rattle.std.specs.Bool.{MatchBool}
 use Rattle.fore_base.specs.Lists.{IsIn, Every, Paired, sum_of}
 use Rattle.fore_base.specs.declared.store.Datum.{Datum}
@@ -13,9 +13,9 @@ use Rattle.ta_core.specs.declared.symbol.Slot.{Slot}
 use Rattle.ta_core.specs.declared.symbol.Slot.TheVariants.{Field, Link, Hook}
 use Rattle.ta_core.specs.declared.symbol.Symbol.{Symbol}
 use Rattle.ta_core.specs.declared.symbol.Symbol.TheVariants.{Null, Uninit, Dangling, Ref, Cell}
-use Rattle.ta_core.specs.declared.tree.Tree.{Tree, Tree-F, out-Tree, out-roll-Tree, fold-roll-Tree, fold_out-Tree}
+use Rattle.ta_core.specs.declared.tree.Tree.{Tree, Tree-F, out-Tree, out-roll-Tree, fold_out-Tree}
 use Rattle.fore_base.proofs.ListLemmas.{every_in, every_push}
-use Rattle.ta_core.proofs.Runs.{tree_of, run_tree}
+use Rattle.ta_core.proofs.Runs.{tree_of}
 use Rattle.fa_core.specs.declared.faces.BoxFace.{BoxFace}
 use Rattle.fa_core.specs.Cells.{edges}
 use Rattle.fa_filling.specs.inner.Parted.{RunBy}
@@ -165,15 +165,15 @@ below_grows w x y h = here y.leaf refl
     here false e = let a = below_most w x in let b = h.1 in omega (arith, a, b)
     here true e = subst (λ (v : Bool). greater (capped w) y.most ≤ cond v (greater (capped w) x.most) x.most)
         (sym (h.0 e)) (let b = h.1 in elim (greater_cases (capped w) y.most) [
-      | inl c ↦ elim (greater_cases (capped w) x.most) [
-        | inl d ↦ (let u = c.0 in let v = d.0 in omega (arith, u, v, b))
-        | inr d ↦ (let u = c.0 in let v = d.0 in let l = d.1 in omega (arith, u, v, l, b))
-      ]
-      | inr c ↦ elim (greater_cases (capped w) x.most) [
-        | inl d ↦ (let u = c.0 in let v = d.0 in let l = d.1 in omega (arith, u, v, l))
-        | inr d ↦ (let u = c.0 in let v = d.0 in omega (arith, u, v))
-      ]
-    ])
+          | inl c ↦ elim (greater_cases (capped w) x.most) [
+            | inl d ↦ (let u = c.0 in let v = d.0 in omega (arith, u, v, b))
+            | inr d ↦ (let u = c.0 in let v = d.0 in let l = d.1 in omega (arith, u, v, l, b))
+          ]
+          | inr c ↦ elim (greater_cases (capped w) x.most) [
+            | inl d ↦ (let u = c.0 in let v = d.0 in let l = d.1 in omega (arith, u, v, l))
+            | inr d ↦ (let u = c.0 in let v = d.0 in omega (arith, u, v))
+          ]
+        ])
 
 none_grows : (w : ℕ) (x y : Worth) → Says x y → none_below w y ≡ true → none_below w x ≡ true
 none_grows w x y h e = elim (or_cases y.none (y.leaf && nat_eq w 0) e) [
@@ -225,13 +225,13 @@ module _ (bs : List BoxFace) (r f : ℕ) where
   bound_leaf t e = record {
     most = λ w. (let k = e w in let l = capped_low w in elim (greater_cases (capped w) 0) [
       | inl c ↦ (let d = c.0 in let j = c.1 in elim (capped_cases w) [
-          | inl v ↦ (let u = v.0 in inl (omega (arith, d, j, u, k)))
-          | inr v ↦ (let u = v.0 in absurd (omega (arith, j, u)))
-        ])
+        | inl v ↦ (let u = v.0 in inl (omega (arith, d, j, u, k)))
+        | inr v ↦ (let u = v.0 in absurd (omega (arith, j, u)))
+      ])
       | inr c ↦ (let d = c.0 in elim (capped_cases w) [
-          | inl v ↦ (let u = v.0 in inl (omega (arith, d, u, k)))
-          | inr v ↦ (let u = v.0 in inr (omega (arith, d, u)))
-        ])
+        | inl v ↦ (let u = v.0 in inl (omega (arith, d, u, k)))
+        | inr v ↦ (let u = v.0 in inr (omega (arith, d, u)))
+      ])
     ]);
     none = λ w d. eq-eqb w 0 (sym (e w) ∙ d);
   }
@@ -452,7 +452,7 @@ module _ (bs : List BoxFace) (r f : ℕ) where
             (m.0, m.1, omega (arith, l, c)),
             (λ d. absurd (true≢false (sym d ∙ no_leaf (edges ss qs) (leaf_worth false) refl))),
             (λ d. (let k = edges_none ss qs h (leaf_worth false) d in
-            (k.1.0, k.1.1, refl, rolled_cell s ds ss k.1.0 0 ∙ k.1.2))),
+                (k.1.0, k.1.1, refl, rolled_cell s ds ss k.1.0 0 ∙ k.1.2))),
           )
 
       -- the trees by a rule

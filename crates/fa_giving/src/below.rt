@@ -28,7 +28,13 @@ pub fn are_below_once(alloc: Global, face: &Face, autos: &[Auto]) -> Mem<bool>
 }
 
 /// Whether it is so in the trees of this component.
-fn is_below_once(alloc: Global, face: &Face, _autos: &[Auto], auto: &Auto, _place: usize) -> Mem<bool>
+fn is_below_once(
+    alloc: Global,
+    face: &Face,
+    _autos: &[Auto],
+    auto: &Auto,
+    _place: usize,
+) -> Mem<bool>
     requires trim { IsTrim auto.now }
     requires full { Every HasSome _autos.now }
     requires own { slice_get _autos.now _place ≡ Some auto.now }

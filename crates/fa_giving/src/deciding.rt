@@ -24,7 +24,13 @@ use ta_core::auto::Auto;
 /// # Errors
 ///
 /// Want of memory.
-pub fn are_right(alloc: Global, face: &Face, _input: u32, output: Option<u32>, autos: &[Auto]) -> Mem<bool>
+pub fn are_right(
+    alloc: Global,
+    face: &Face,
+    _input: u32,
+    output: Option<u32>,
+    autos: &[Auto],
+) -> Mem<bool>
     requires named { IsWellNamed face.now (record { input = _input; output = output; autos = autos.now }) }
     requires trim { Every IsTrim autos.now }
     requires full { Every HasSome autos.now }

@@ -49,7 +49,14 @@ pub fn are_roots_right(alloc: Global, face: &Face, ports: usize, autos: &[Auto])
 }
 
 /// Whether each field of the cells of this root is given as often as it must.
-fn is_root_right(alloc: Global, face: &Face, port: bool, autos: &[Auto], auto: &Auto, root: u32) -> Mem<bool>
+fn is_root_right(
+    alloc: Global,
+    face: &Face,
+    port: bool,
+    autos: &[Auto],
+    auto: &Auto,
+    root: u32,
+) -> Mem<bool>
     requires trim { Every IsTrim autos.now }
     requires full { Every HasSome autos.now }
     requires own { slice_get autos.now root ≡ Some auto.now }
@@ -58,7 +65,16 @@ fn is_root_right(alloc: Global, face: &Face, port: bool, autos: &[Auto], auto: &
     auto.known();
     let tops = top_rules(alloc, auto)?;
     let fields = fields_at(alloc, face, tops.as_slice())?;
-    let yes = are_fields_right(alloc, face, port, autos, auto, root, tops.as_slice(), fields.as_slice())?;
+    let yes = are_fields_right(
+        alloc,
+        face,
+        port,
+        autos,
+        auto,
+        root,
+        tops.as_slice(),
+        fields.as_slice(),
+    )?;
     Ok(yes)
 }
 
@@ -80,7 +96,11 @@ fn are_fields_right(
     ensures { IfOk result (ForAll autos.now (λ ts. Every (λ f. IsGivenRight face.now port root f ts) fields.now)) }
 {
     for field in fields {
-        let place = Place { port, root, field: *field };
+        let place = Place {
+            port,
+            root,
+            field: *field,
+        };
         if !is_field_right(alloc, face, place, autos, auto, tops)? {
             return Ok(false);
         }
@@ -89,7 +109,14 @@ fn are_fields_right(
 }
 
 /// Whether this field is.
-fn is_field_right(alloc: Global, face: &Face, place: Place, autos: &[Auto], auto: &Auto, tops: &[Rule]) -> Mem<bool>
+fn is_field_right(
+    alloc: Global,
+    face: &Face,
+    place: Place,
+    autos: &[Auto],
+    auto: &Auto,
+    tops: &[Rule],
+) -> Mem<bool>
     requires trim { Every IsTrim autos.now }
     requires full { Every HasSome autos.now }
     requires own { slice_get autos.now place.root ≡ Some auto.now }
@@ -98,7 +125,16 @@ fn is_field_right(alloc: Global, face: &Face, place: Place, autos: &[Auto], auto
 {
     let all = extremes_each(alloc, face.boxes.as_slice(), autos, place.root, place.field)?;
     let table = worths(alloc, face.boxes.as_slice(), auto, place.root, place.field)?;
-    are_tops_right(alloc, face, place, autos, auto, all.as_slice(), table.as_slice(), tops)
+    are_tops_right(
+        alloc,
+        face,
+        place,
+        autos,
+        auto,
+        all.as_slice(),
+        table.as_slice(),
+        tops,
+    )
 }
 
 /// Whether it is in the cells by each of these rules of root states, where `all` has the extremes of the components.
@@ -150,7 +186,13 @@ fn is_top_right(
     _auto.known();
     match &top.symbol {
         Symbol::Cell { shape, slots, .. } => {
-            let own = extremes_of(rule_worth(face.boxes.as_slice(), table, top, place.root, place.field));
+            let own = extremes_of(rule_worth(
+                face.boxes.as_slice(),
+                table,
+                top,
+                place.root,
+                place.field,
+            ));
             let sum = total_with(alloc, all, place.root, own)?;
             let yes = is_cell_right(alloc, face, place, *shape, slots.as_slice(), sum)?;
             Ok(yes)
@@ -170,7 +212,14 @@ fn total_with(alloc: Global, all: &[Extremes], root: u32, own: Extremes) -> Mem<
 
 /// Whether the field is given as often as it must to a cell of the struct with these slots, by what the trees give
 /// together.
-fn is_cell_right(alloc: Global, face: &Face, place: Place, shape: u32, slots: &[Slot], sum: Extremes) -> Mem<bool>
+fn is_cell_right(
+    alloc: Global,
+    face: &Face,
+    place: Place,
+    shape: u32,
+    slots: &[Slot],
+    sum: Extremes,
+) -> Mem<bool>
     ensures { IfOk result (λ yes. IsTrue yes
         ↔ AllFit place.port (often place.field (fields_of face.now.shapes.structs shape))
         (often place.field (flat_map (covers face.now.boxes) slots.now)) sum) }

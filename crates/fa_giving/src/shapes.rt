@@ -57,7 +57,16 @@ fn is_shaped(
 {
     let rules = top_rules(alloc, auto)?;
     let structs = structs_of(alloc, rules.as_slice())?;
-    are_parts_shaped(alloc, face, autos, tops, auto, place, rules.as_slice(), structs.as_slice())
+    are_parts_shaped(
+        alloc,
+        face,
+        autos,
+        tops,
+        auto,
+        place,
+        rules.as_slice(),
+        structs.as_slice(),
+    )
 }
 
 fn are_parts_shaped(

@@ -30,7 +30,13 @@ impl Copies for Extremes {
 }
 
 /// For each component how often its trees give the field at the root. Err is want of memory.
-pub fn extremes_each(alloc: Global, boxes: &[BoxFace], autos: &[Auto], root: u32, field: u32) -> Mem<List<Extremes>>
+pub fn extremes_each(
+    alloc: Global,
+    boxes: &[BoxFace],
+    autos: &[Auto],
+    root: u32,
+    field: u32,
+) -> Mem<List<Extremes>>
     requires trim { Every IsTrim autos.now }
     requires full { Every HasSome autos.now }
     ensures { IfOk result (Paired (AreExtremes boxes.now root field) autos.now) }
@@ -43,7 +49,13 @@ pub fn extremes_each(alloc: Global, boxes: &[BoxFace], autos: &[Auto], root: u32
     Ok(all)
 }
 
-fn own_extremes(alloc: Global, boxes: &[BoxFace], auto: &Auto, root: u32, field: u32) -> Mem<Extremes>
+fn own_extremes(
+    alloc: Global,
+    boxes: &[BoxFace],
+    auto: &Auto,
+    root: u32,
+    field: u32,
+) -> Mem<Extremes>
     requires trim { IsTrim auto.now }
     requires full { HasSome auto.now }
     ensures { IfOk result (AreExtremes boxes.now root field auto.now) }
@@ -92,19 +104,28 @@ fn worth_of(table: &[Worth], states: &[u32]) -> Worth
 pub fn extremes_of(worth: Worth) -> Extremes
     ensures { result ≡ extremes_of worth }
 {
-    Extremes { most: most_below(0, worth), none: none_below(0, worth) }
+    Extremes {
+        most: most_below(0, worth),
+        none: none_below(0, worth),
+    }
 }
 
 fn none_given() -> Extremes
     ensures { result ≡ none_given }
 {
-    Extremes { most: 0, none: true }
+    Extremes {
+        most: 0,
+        none: true,
+    }
 }
 
 fn added(left: Extremes, right: Extremes) -> Extremes
     ensures { result ≡ added left right }
 {
-    Extremes { most: sum(left.most, right.most), none: left.none && right.none }
+    Extremes {
+        most: sum(left.most, right.most),
+        none: left.none && right.none,
+    }
 }
 
 /// All together.

@@ -31,13 +31,24 @@ pub struct Worth {
 }
 
 /// For each state of a trimmed automaton what its trees give at the root. Err is want of memory.
-pub fn worths(alloc: Global, boxes: &[BoxFace], auto: &Auto, root: u32, field: u32) -> Mem<List<Worth>>
+pub fn worths(
+    alloc: Global,
+    boxes: &[BoxFace],
+    auto: &Auto,
+    root: u32,
+    field: u32,
+) -> Mem<List<Worth>>
     requires { (q : ℕ) → q < auto.now.states → HasTree auto.now.rules q }
     ensures { IfOk result (AreWorths boxes.now root field auto.now) }
 {
     auto.known();
     let mut table = List::filled(alloc, nothing(), auto.states as usize)?;
-    let weighing = Weighing { boxes, auto, root, field };
+    let weighing = Weighing {
+        boxes,
+        auto,
+        root,
+        field,
+    };
     settle(&weighing, &mut table)?;
     Ok(table)
 }
@@ -68,12 +79,24 @@ impl Rounds<List<Worth>> for Weighing<'_> {
     fn round(&self, table: &mut List<Worth>) -> Mem<bool> {
         let auto: &Auto = self.auto;
         auto.known();
-        Ok(take_all(table, self.boxes, auto.rules.as_slice(), self.root, self.field))
+        Ok(take_all(
+            table,
+            self.boxes,
+            auto.rules.as_slice(),
+            self.root,
+            self.field,
+        ))
     }
 }
 
 /// Takes each rule once, and says whether one said something new.
-fn take_all(table: &mut List<Worth>, boxes: &[BoxFace], rules: &[Rule], root: u32, field: u32) -> bool
+fn take_all(
+    table: &mut List<Worth>,
+    boxes: &[BoxFace],
+    rules: &[Rule],
+    root: u32,
+    field: u32,
+) -> bool
     requires ranked { Every (IsRankedRule (length table.old)) rules.now }
     requires trees { (q : ℕ) → q < length table.old → HasTree rules.now q }
     requires real { AreReal boxes.now root field rules.now table.old }
@@ -112,13 +135,25 @@ pub fn rule_worth(boxes: &[BoxFace], table: &[Worth], rule: &Rule, root: u32, fi
     match &rule.symbol {
         Symbol::Ref(number) => leaf_worth(root == *number),
         Symbol::Cell { slots, .. } => {
-            cell_worth(boxes, table, slots.as_slice(), rule.children.as_slice(), field)
+            cell_worth(
+                boxes,
+                table,
+                slots.as_slice(),
+                rule.children.as_slice(),
+                field,
+            )
         }
         _ => leaf_worth(false),
     }
 }
 
-fn cell_worth(boxes: &[BoxFace], table: &[Worth], slots: &[Slot], children: &[u32], field: u32) -> Worth
+fn cell_worth(
+    boxes: &[BoxFace],
+    table: &[Worth],
+    slots: &[Slot],
+    children: &[u32],
+    field: u32,
+) -> Worth
     ensures { result ≡ with_edges boxes.now field table.now (leaf_worth false) (edges slots.now children.now) }
 {
     let mut worth = leaf_worth(false);
@@ -138,7 +173,14 @@ fn cell_worth(boxes: &[BoxFace], table: &[Worth], slots: &[Slot], children: &[u3
     worth
 }
 
-fn with_edge(boxes: &[BoxFace], table: &[Worth], worth: Worth, slot: Slot, child: u32, field: u32) -> Worth
+fn with_edge(
+    boxes: &[BoxFace],
+    table: &[Worth],
+    worth: Worth,
+    slot: Slot,
+    child: u32,
+    field: u32,
+) -> Worth
     ensures { result ≡ with_edge boxes.now field table.now worth (slot, child) }
 {
     let weight = often(field, given_by(boxes, slot));
@@ -162,13 +204,21 @@ pub fn worth_at(table: &[Worth], state: u32) -> Worth
 pub fn nothing() -> Worth
     ensures { result ≡ nothing }
 {
-    Worth { leaf: false, most: 0, none: false }
+    Worth {
+        leaf: false,
+        most: 0,
+        none: false,
+    }
 }
 
 fn leaf_worth(refers: bool) -> Worth
     ensures { result ≡ leaf_worth refers }
 {
-    Worth { leaf: refers, most: 0, none: !refers }
+    Worth {
+        leaf: refers,
+        most: 0,
+        none: !refers,
+    }
 }
 
 /// The sum, counted up to 2.
@@ -197,7 +247,11 @@ fn greater(left: u32, right: u32) -> u32
 pub fn most_below(weight: usize, worth: Worth) -> u32
     ensures { result ≡ most_below weight worth }
 {
-    if worth.leaf { greater(capped(weight), worth.most) } else { worth.most }
+    if worth.leaf {
+        greater(capped(weight), worth.most)
+    } else {
+        worth.most
+    }
 }
 
 pub fn none_below(weight: usize, worth: Worth) -> bool

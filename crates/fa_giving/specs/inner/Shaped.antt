@@ -1,6 +1,6 @@
 -- The cells of a tree below its top, and the ends and the order of all its cells, apart from what is given at the top.
-use Rattle.std.specs.Prelude.{◌≡◌, ◌⊎◌, ℕ, Bool, true, false, List, [], ◌++◌, flat_map, Option, Some, slice_get}
-use Rattle.fore_base.specs.Lists.{IsIn, Every, Paired}
+use Rattle.std.specs.Prelude.{◌≡◌, ◌⊎◌, ℕ, Bool, true, false, List, [], ◌++◌, flat_map, Some, slice_get}
+use Rattle.fore_base.specs.Lists.{IsIn, Every}
 use Rattle.fore_base.specs.declared.store.Datum.{Datum}
 use Rattle.ta_core.specs.Auto.{Automaton}
 use Rattle.ta_core.specs.Language.{InLanguage}

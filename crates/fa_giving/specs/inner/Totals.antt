@@ -1,7 +1,7 @@
 -- How often the trees of a choice give a field at a root, together: the greatest number and the least.
-use Rattle.std.specs.Prelude.{◌≡◌, ◌⊎◌, ◌≤◌, ℕ, ◌+◌, Bool, true, false, ◌&&◌, ◌||◌, List, [], ◌∷◌, ◌++◌, map, flat_map, Option, Some}
-use Rattle.std.specs.Prelude.{slice_get, slice_set, if◌then◌else◌}
-use Rattle.fore_base.specs.Lists.{IsIn, Every, Paired, sum_of}
+use Rattle.std.specs.Prelude.{◌≡◌, ◌⊎◌, ◌≤◌, ℕ, ◌+◌, Bool, true, false, ◌&&◌, ◌||◌, List, [], ◌∷◌, ◌++◌, map, flat_map, Some}
+use Rattle.std.specs.Prelude.{slice_get, slice_set}
+use Rattle.fore_base.specs.Lists.{IsIn, Every, sum_of}
 use Rattle.fore_base.specs.declared.store.Datum.{Datum}
 use Rattle.ta_core.specs.Auto.{Automaton}
 use Rattle.ta_core.specs.Language.{InLanguage}
@@ -14,11 +14,10 @@ use Rattle.fa_core.specs.declared.faces.BoxFace.{BoxFace}
 use Rattle.fa_core.specs.declared.faces.Face.{Face}
 use Rattle.fa_core.specs.Filled.{Choice, covers, fields_of, given_at}
 use Rattle.fa_core.specs.Rearranged.{often}
-use Rattle.fa_core.specs.Ways.{gives_out_of}
 use Rattle.fa_filling.specs.inner.Parted.{chosen}
 use Rattle.fa_giving.specs.declared.worths.Worth.{Worth}
 use Rattle.fa_giving.specs.declared.totals.Extremes.{Extremes}
-use Rattle.fa_giving.specs.inner.Worths.{weigh, weight, refers, worth_at, joined, most_below, none_below, capped}
+use Rattle.fa_giving.specs.inner.Worths.{weigh, refers, worth_at, joined, most_below, none_below, capped}
 
 -- how often the tree gives it
 abbrev pub gives : List BoxFace → ℕ → ℕ → Tree → ℕ

@@ -1,7 +1,7 @@
 -- How often the box edges of trees give a field at a root, and what a table says of this for each state.
 use Rattle.std.specs.Prelude.{◌≡◌, ◌⊎◌, ◌<◌, ◌≤◌, ℕ, ◌+◌, ◌-◌, Bool, true, false, ◌&&◌, ◌||◌, not, nat_eq, nat_lt}
 use Rattle.std.specs.Prelude.{if◌then◌else◌, List, [], ◌∷◌, map, slice_index_or, slice_set, MatchBool, length}
-use Rattle.fore_base.specs.Lists.{IsIn, Every, sum_of}
+use Rattle.fore_base.specs.Lists.{Every, sum_of}
 use Rattle.ta_core.specs.Auto.{Automaton}
 use Rattle.ta_core.specs.Language.{RunOf}
 use Rattle.ta_core.specs.declared.auto.Rule.{Rule}

@@ -1,6 +1,5 @@
-use Rattle.std.proofs.Common.{◌≡◌, ◌<◌, ◌+◌, ℕ, List, subst, sym, true, Bool}
+use Rattle.std.proofs.Common.{subst, Bool}
 use Rattle.ta_core.specs.Language.{IsTrim}
-use Rattle.ta_core.specs.declared.tree.Tree.{Tree}
 use Rattle.fore_base.proofs.ListLemmas.{every_at}
 use Rattle.fa_giving.specs.inner.Shaped.{IsOnceRoot}
 use Rattle.fa_giving.specs.inner.Totals.{ForAll}

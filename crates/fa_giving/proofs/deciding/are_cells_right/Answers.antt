@@ -1,4 +1,4 @@
-use Rattle.std.proofs.Common.{◌≡◌, ◌<◌, ℕ, List, Bool, subst, length}
+use Rattle.std.proofs.Common.{◌<◌, ℕ, List, Bool, subst, length}
 use Rattle.ta_core.specs.declared.tree.Tree.{Tree}
 use Rattle.fa_giving.specs.inner.Shaped.{IsShapedRoot, IsOnceRoot}
 use Rattle.fa_giving.specs.inner.Totals.{ForAll}

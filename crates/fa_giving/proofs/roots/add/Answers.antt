@@ -1,6 +1,5 @@
-use Rattle.std.proofs.Common.{◌≡◌, ◌++◌, ◌∷◌, [], ℕ, inl}
+use Rattle.std.proofs.Common.{◌∷◌, []}
 use Rattle.fore_base.proofs.ListLemmas.{in_left, in_last, in_push}
-use Rattle.fa_giving.specs.inner.Totals.{Adds}
 use Rattle.fa_giving.proofs.roots.add.Goals as goal
 
 pub returns-in_ok-push : goal.returns-in_ok-push

@@ -1,4 +1,4 @@
-use Rattle.std.proofs.Common.{◌≡◌, ◌<◌, ◌+◌, ℕ, List, subst, sym, nat_lt, true, Bool}
+use Rattle.std.proofs.Common.{ℕ, List, subst, nat_lt, Bool}
 use Rattle.ta_core.specs.declared.tree.Tree.{Tree}
 use Rattle.fa_giving.specs.inner.Totals.{ForAll, IsGivenRight}
 use Rattle.fa_giving.proofs.RootFields.{one_more}

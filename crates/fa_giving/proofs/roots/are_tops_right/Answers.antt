@@ -1,4 +1,4 @@
-use Rattle.std.proofs.Common.{◌≡◌, ◌∙◌, ℕ, List, ap, subst, sym, take, true, Bool}
+use Rattle.std.proofs.Common.{subst, take, true, Bool}
 use Rattle.std.proofs.lemmas.List.{take_all}
 use Rattle.ta_core.specs.declared.auto.Rule.{Rule}
 use Rattle.fore_base.specs.Lists.{Every}

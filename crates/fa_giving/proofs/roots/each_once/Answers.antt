@@ -1,4 +1,4 @@
-use Rattle.std.proofs.Common.{◌≡◌, ℕ, take, get_or}
+use Rattle.std.proofs.Common.{ℕ, take, get_or}
 use Rattle.std.proofs.lemmas.List.{take_more}
 use Rattle.fore_base.specs.Lists.{IsIn}
 use Rattle.fore_base.proofs.ListLemmas.{every_push, every_weaker}

@@ -1,4 +1,4 @@
-use Rattle.std.proofs.Common.{◌≡◌, ◌↔◌, ◌∙◌, ℕ, List, flat_map, ap, subst, sym, IsTrue}
+use Rattle.std.proofs.Common.{◌↔◌, ◌∙◌, ℕ, List, flat_map, ap, subst, IsTrue}
 use Rattle.fa_core.specs.declared.faces.BoxFace.{BoxFace}
 use Rattle.fore_base.specs.declared.shape.Shape.{Shape}
 use Rattle.fa_core.specs.Filled.{covers, fields_of}

@@ -1,4 +1,3 @@
-use Rattle.std.proofs.Common.{◌≡◌, Some}
 use Rattle.ta_core.specs.Language.{IsTrim}
 use Rattle.fore_base.proofs.ListLemmas.{every_in, in_from_place}
 use Rattle.fa_giving.proofs.Sums.{state_trees}

@@ -1,4 +1,4 @@
-use Rattle.std.proofs.Common.{◌≡◌, ◌↔◌, ◌∙◌, ℕ, List, ap, ap₂, subst, sym, refl, slice_set, IsTrue, flat_map}
+use Rattle.std.proofs.Common.{◌↔◌, ◌∙◌, List, ap, subst, slice_set, IsTrue, flat_map}
 use Rattle.ta_core.specs.declared.symbol.Slot.{Slot}
 use Rattle.fa_core.specs.Filled.{covers, fields_of}
 use Rattle.fa_core.specs.Rearranged.{often}

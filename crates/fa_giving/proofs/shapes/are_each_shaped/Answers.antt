@@ -1,5 +1,4 @@
-use Rattle.std.proofs.Common.{◌≡◌, ◌<◌, ◌+◌, ℕ, List, subst, sym, true, Bool}
-use Rattle.ta_core.specs.declared.tree.Tree.{Tree}
+use Rattle.std.proofs.Common.{subst, Bool}
 use Rattle.fa_giving.specs.inner.Shaped.{IsShapedRoot}
 use Rattle.fa_giving.specs.inner.Totals.{ForAll}
 use Rattle.fa_giving.proofs.RootFields.{one_more}

@@ -1,4 +1,4 @@
-use Rattle.std.proofs.Common.{◌≡◌, ℕ, true, subst, take}
+use Rattle.std.proofs.Common.{ℕ, true, subst}
 use Rattle.std.proofs.lemmas.List.{take_all}
 use Rattle.fore_base.specs.Lists.{Every}
 use Rattle.fa_giving.specs.inner.Shaped.{ForStruct, IsShapedRoot}

@@ -1,4 +1,4 @@
-use Rattle.std.proofs.Common.{◌≡◌, ◌↔◌, ◌∙◌, ℕ, List, [], ◌∷◌, ap, ap₂, subst, sym, IsTrue, set}
+use Rattle.std.proofs.Common.{◌↔◌, ◌∙◌, ℕ, List, ap, subst, IsTrue}
 use Rattle.fore_base.specs.Lists.{Every}
 use Rattle.ta_core.specs.Auto.{Automaton}
 use Rattle.ta_core.specs.declared.auto.Rule.{Rule}

@@ -1,4 +1,4 @@
-use Rattle.std.proofs.Common.{◌≡◌, List, subst}
+use Rattle.std.proofs.Common.{List, subst}
 use Rattle.ta_core.specs.declared.auto.Rule.{Rule}
 use Rattle.fa_giving.specs.inner.Shaped.{AreCellStructs}
 use Rattle.fa_giving.proofs.StructParts.{top_structs}

@@ -1,8 +1,5 @@
-use Rattle.std.proofs.Common.{◌≡◌, ◌∙◌, ap, subst, sym, take}
-use Rattle.ta_core.specs.Auto.{Automaton}
+use Rattle.std.proofs.Common.{take}
 use Rattle.ta_core.specs.Language.{IsTrim}
-use Rattle.fa_core.specs.Filled.{HasSome}
-use Rattle.fore_base.specs.Lists.{Paired}
 use Rattle.fore_base.proofs.ListLemmas.{every_at, take_item, paired_push}
 use Rattle.fa_giving.specs.inner.Totals.{AreExtremes}
 use Rattle.fa_giving.proofs.totals.extremes_each.Goals as goal

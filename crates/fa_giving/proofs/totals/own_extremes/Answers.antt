@@ -1,7 +1,5 @@
-use Rattle.std.proofs.Common.{◌≡◌, ◌∙◌, List, ap, ap₂, subst, sym, ℕ, false}
+use Rattle.std.proofs.Common.{◌∙◌, List, ap, ap₂, subst, sym, ℕ}
 use Rattle.ta_core.specs.Auto.{Automaton}
-use Rattle.ta_core.specs.declared.auto.Rule.{Rule}
-use Rattle.fa_giving.specs.declared.totals.Extremes.{Extremes}
 use Rattle.fa_giving.specs.declared.worths.Worth.{Worth}
 use Rattle.fa_giving.specs.inner.Totals.{AreExtremes, names_root, extremes_of, worth_of}
 use Rattle.fa_giving.specs.inner.Worths.{nothing}

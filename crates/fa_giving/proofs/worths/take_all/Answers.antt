@@ -1,8 +1,6 @@
-use Rattle.std.proofs.Common.{◌≡◌, ◌<◌, ℕ, List, length, subst, sym, ap, ◌∙◌, arith}
-use Rattle.ta_core.specs.declared.auto.Rule.{Rule}
+use Rattle.std.proofs.Common.{◌<◌, ℕ, length, subst, sym, ap, ◌∙◌}
 use Rattle.ta_core.specs.Auto.{IsRankedRule}
 use Rattle.ta_core.specs.Language.{HasTree}
-use Rattle.fa_giving.specs.declared.worths.Worth.{Worth}
 use Rattle.fa_giving.specs.inner.Worths.{AreReal}
 use Rattle.fore_base.proofs.ListLemmas.{every_at, in_at, take_item}
 use Rattle.fa_giving.proofs.Weights.{take_adds, take_keeps}

@@ -1,4 +1,4 @@
-use Rattle.std.proofs.Common.{◌≡◌, ◌<◌, ℕ, List, length, replicate, refl, subst, sym, ap, ap₂, ◌∙◌}
+use Rattle.std.proofs.Common.{◌≡◌, ℕ, length, replicate, subst, sym, ap, ap₂, ◌∙◌}
 use Rattle.std.proofs.lemmas.List.{length-replicate}
 use Rattle.ta_core.specs.Auto.{Automaton}
 use Rattle.fa_giving.specs.declared.worths.Worth.{Worth}
