@@ -88,7 +88,7 @@ fn structs_of(alloc: Global, rules: &[Rule]) -> Mem<Option<List<u32>>>
 }
 
 /// Adds the number where it is not there.
-pub fn add(numbers: &mut List<u32>, number: u32) -> Mem<()>
+fn add(numbers: &mut List<u32>, number: u32) -> Mem<()>
     requires { IsDistinct numbers.old }
     ensures { OnOk result (IsAdded number numbers.old numbers.new) }
 {

@@ -1,12 +1,14 @@
 // Whether each field of the cells at roots is given as often as it must: once in an inner cell, once at most at a port.
 
-ghost use Rattle.std.specs.Prelude.{◌≡◌, ◌↔◌, ◌<◌, ◌^◌, ◌++◌, ℕ, true, nat_lt, IfOk, OnOk, IsTrue, Some, length, slice_get, slice_set, flat_map};
+ghost use Rattle.std.specs.Prelude.{◌≡◌, ◌↔◌, ◌<◌, ◌^◌, ◌++◌, ℕ, true, nat_lt};
+ghost use Rattle.std.specs.Prelude.{IfOk, OnOk, IsTrue, Some, length, slice_get, slice_set, flat_map};
 ghost use Rattle.fore_base.specs.Lists.{IsIn, Every, Paired};
 ghost use Rattle.ta_core.specs.Language.{IsTrim};
 ghost use Rattle.fa_core.specs.Filled.{HasSome, covers, fields_of};
 ghost use Rattle.fa_core.specs.Rearranged.{often};
 ghost use Rattle.fa_filling.specs.inner.Parted.{AreTopRules, IsRootRule};
-ghost use Rattle.fa_giving.specs.inner.Totals.{AreExtremes, AllFit, IsGivenRight, ForAll, ForTop, given_fields, none_given};
+ghost use Rattle.fa_giving.specs.inner.Totals.{AreExtremes, AllFit, IsGivenRight};
+ghost use Rattle.fa_giving.specs.inner.Totals.{ForAll, ForTop, given_fields, none_given};
 ghost use Rattle.fa_giving.specs.inner.Totals.{symbol_fields, rule_fields, AreIn, total, Adds};
 ghost use Rattle.fa_giving.specs.inner.Worths.{AreWorths};
 

@@ -5,7 +5,8 @@ ghost use Rattle.std.specs.Prelude.{◌≡◌, IfOk};
 ghost use Rattle.fore_base.specs.Lists.{Every, Paired};
 ghost use Rattle.ta_core.specs.Language.{IsTrim};
 ghost use Rattle.fa_core.specs.Filled.{HasSome};
-ghost use Rattle.fa_giving.specs.inner.Totals.{AreExtremes, extremes_of, none_given, added, total, worth_of, names_root};
+ghost use Rattle.fa_giving.specs.inner.Totals.{AreExtremes, extremes_of, none_given};
+ghost use Rattle.fa_giving.specs.inner.Totals.{added, total, worth_of, names_root};
 ghost use Rattle.fa_giving.specs.inner.Worths.{refers, nothing};
 
 use crate::worths::{Worth, joined, most_below, none_below, nothing, sum, worth_at, worths};

@@ -21,7 +21,8 @@ use ta_core::auto::{Auto, Rule};
 use ta_core::rounds::{Rounds, settle};
 use ta_core::symbol::{Slot, Symbol};
 
-/// What trees give at the root: whether one is the reference to it, how often one gives the field there at most, counted
+/// What trees give at the root: whether one is the reference to it, how often one gives the field there at most,
+/// counted
 /// up to 2, and whether one that is not the reference never does.
 #[derive(Clone, Copy, Debug)]
 pub struct Worth {
