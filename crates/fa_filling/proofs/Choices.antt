@@ -14,9 +14,9 @@ use Rattle.fa_core.specs.Rearranged.{Rearranged, chain}
 use Rattle.fa_core.specs.Filled.{IsFilledSpot, spots, spots_at, covers, Choice, TopsAre, given_at, TreesFilled, IsTopped}
 use Rattle.fa_core.proofs.Rearranging.{after, back}
 use Rattle.fa_filling.proofs.SpotRules.{spots_out, with_spots}
-use Rattle.fa_filling.specs.inner.Ruled.{AreTops, IsFilledPart}
+use Rattle.fa_filling.specs.Ruled.{AreTops, IsFilledPart}
 use Rattle.fa_filling.specs.declared.parts.Part.{Part}
-use Rattle.fa_filling.specs.inner.Parted.{IsPartOf, AreParts, tops_of, all_tops, tops_but, ArePartsFilled}
+use Rattle.fa_filling.specs.Parted.{IsPartOf, AreParts, tops_of, all_tops, tops_but, ArePartsFilled}
 
 top_same : (t : Tree) (s u : ℕ) → IsTopped s t → IsTopped u t → s ≡ u
 top_same t s u a b = ap shape_of (sym a.2 ∙ b.2)

@@ -9,7 +9,7 @@ use Rattle.ta_core.specs.Language.{run, RunEach, InLanguage}
 use Rattle.fore_base.proofs.ListLemmas.{in_left, in_right, in_append, in_map, in_mapped, every_in, in_every}
 use Rattle.fore_base.proofs.ListLemmas.{every_append, every_weaker}
 use Rattle.ta_core.proofs.Runs.{along_each, widened_each}
-use Rattle.fa_filling.specs.inner.Parted.{chosen, fresh_rule, RunBy}
+use Rattle.fa_filling.specs.Parted.{chosen, fresh_rule, RunBy}
 
 abbrev Old : ℕ → ℕ → ℕ → Type 0
 Old n p q = (p ≡ q) × (p < n)

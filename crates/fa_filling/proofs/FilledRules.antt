@@ -18,10 +18,10 @@ use Rattle.fa_core.specs.declared.faces.BoxFace.{BoxFace}
 use Rattle.fa_core.specs.Ways.{given_by}
 use Rattle.fa_core.specs.Cells.{edges}
 use Rattle.fa_core.specs.Filled.{IsFilledSpot, FieldEnds, EndFits, EndsFit, NamesStruct, HookFits, face_of}
-use Rattle.fa_filling.specs.inner.Ruled.{SymbolsOf, RuleSpots, SpotsFromRules, AreTops, IsAlone, FieldAlways, EndAlways}
-use Rattle.fa_filling.specs.inner.Ruled.{LinkAlways, OutputAlways, BoxAlways, HookAlways, SlotAlways, RuleAlways}
-use Rattle.fa_filling.specs.inner.Ruled.{EdgeAlways, IsShapedCell, ShapedBy, IsShapedRule, OnceBy, StateOnce, RootOnce}
-use Rattle.fa_filling.specs.inner.Ruled.{EdgeOnce, OnceBelow, IsOnceBelow, AreRulesFilled, IsFilledPart}
+use Rattle.fa_filling.specs.Ruled.{SymbolsOf, RuleSpots, SpotsFromRules, AreTops, IsAlone, FieldAlways, EndAlways}
+use Rattle.fa_filling.specs.Ruled.{LinkAlways, OutputAlways, BoxAlways, HookAlways, SlotAlways, RuleAlways}
+use Rattle.fa_filling.specs.Ruled.{EdgeAlways, IsShapedCell, ShapedBy, IsShapedRule, OnceBy, StateOnce, RootOnce}
+use Rattle.fa_filling.specs.Ruled.{EdgeOnce, OnceBelow, IsOnceBelow, AreRulesFilled, IsFilledPart}
 use Rattle.fa_filling.proofs.SpotRules.{spots_by_rules, rules_by_spots, at_edge, passed}
 
 -- TOPS

@@ -12,8 +12,8 @@ use Rattle.fa_core.specs.declared.forest.Forest.{Forest}
 use Rattle.fa_filling.specs.declared.parts.Part.{Part}
 use Rattle.fa_core.specs.Cells.{is_leaf}
 use Rattle.fa_core.specs.Filled.{Choice, TopsAre, ChoiceFilled, IsRoot, HasSome}
-use Rattle.fa_filling.specs.inner.Parted.{HasLeafIn, AreParts, AreReady, ArePartsFilled, AreTopsBut, tops_of, all_tops}
-use Rattle.fa_filling.specs.inner.Parted.{tops_but}
+use Rattle.fa_filling.specs.Parted.{HasLeafIn, AreParts, AreReady, ArePartsFilled, AreTopsBut, tops_of, all_tops}
+use Rattle.fa_filling.specs.Parted.{tops_but}
 use Rattle.fa_filling.proofs.Choices.{choices_fill, fill_choices, trees_filled, filled_trees}
 use Rattle.fa_filling.specs.Given.{IsGivenAt}
 

@@ -18,8 +18,8 @@ use Rattle.ta_core.specs.declared.tree.Tree.{Tree, Tree-F, out-Tree, out-roll-Tr
 use Rattle.ta_core.proofs.Runs.{tree_of, run_tree}
 use Rattle.fa_core.specs.Cells.{is_leaf}
 use Rattle.fa_filling.specs.declared.parts.Part.{Part}
-use Rattle.fa_filling.specs.inner.Parted.{is_of, rules_of, RunBy, IsPartOf, IsRootRule, AreTopRules, AreStructsOf}
-use Rattle.fa_filling.specs.inner.Parted.{HasLeafRule, IsAdded, IsPartFor, HasLeaf, AreParts}
+use Rattle.fa_filling.specs.Parted.{is_of, rules_of, RunBy, IsPartOf, IsRootRule, AreTopRules, AreStructsOf}
+use Rattle.fa_filling.specs.Parted.{HasLeafRule, IsAdded, IsPartFor, HasLeaf, AreParts}
 
 module _ (a : Automaton) (marks : List Bool) (m : MarksOf a.states (HasTree a.rules) marks) where
   trees_each : (qs : List ℕ) → Every (IsMarked marks) qs → (ts : List Tree) × RunEach a.rules qs ts

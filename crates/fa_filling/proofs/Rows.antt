@@ -13,7 +13,10 @@ use Rattle.fa_core.specs.declared.faces.Face.{Face}
 use Rattle.fa_core.specs.Rearranged.{Rearranged, empty, keep}
 use Rattle.fa_filling.proofs.Counting.{long_same}
 use Rattle.fa_filling.specs.Given.{given_to}
-use Rattle.fa_filling.specs.inner.Ruled.{EndAlways, SlotAlways, OnceBy, EdgeOnce, RootOnce}
+use Rattle.fa_filling.specs.Parted.{chosen, rules_of, tops_but}
+use Rattle.fa_filling.specs.Ruled.{EndAlways, SlotAlways, OnceBy, EdgeOnce, RootOnce}
+use Rattle.fa_filling.specs.declared.parts.Part.{Part}
+use Rattle.ta_core.specs.Auto.{Automaton}
 
 -- Items of doubly linked lists (struct 0: next and prev), and others of one pointer (struct 1).
 
@@ -143,3 +146,37 @@ at_root i = keep 0 (keep 1 empty)
 not_at_root : RootOnce face [] (1 ∷ []) (rule 0 (Cell 0 [] (Link 0 ∷ [])))
 not_at_root (inl e) = absurd (omega (arith, e))
 not_at_root (inr j) = absurd j
+
+-- Parts.
+
+-- lists of one cell of struct 1, whose state is 0 and whose end is 1
+abbrev cell_rule : Rule
+cell_rule = record { state = 0; symbol = Cell 1 [] (Field 0 ∷ []); children = 1 ∷ [] }
+
+abbrev end_rule : Rule
+end_rule = record { state = 1; symbol = Null; children = [] }
+
+abbrev cells : Automaton
+cells = record { states = 2; roots = 0 ∷ []; rules = cell_rule ∷ end_rule ∷ [] }
+
+-- the rule is chosen: it is put at one more state, which is the only root state
+abbrev top_rule : Rule
+top_rule = record { state = 2; symbol = Cell 1 [] (Field 0 ∷ []); children = 1 ∷ [] }
+
+chosen_rule : chosen cells (cell_rule ∷ [])
+    ≡ record { states = 3; roots = 2 ∷ []; rules = cell_rule ∷ end_rule ∷ top_rule ∷ [] }
+chosen_rule = refl
+
+-- the rules that have a cell of struct 1, and those of struct 0
+of_struct : rules_of 1 (cell_rule ∷ end_rule ∷ []) ≡ cell_rule ∷ []
+of_struct = refl
+
+of_other_struct : rules_of 0 (cell_rule ∷ end_rule ∷ []) ≡ []
+of_other_struct = refl
+
+-- a component before has struct 0 at its top, this one has struct 1 alone, and that behind it both
+abbrev part : ℕ → Part
+part s = record { auto = cells; top = s }
+
+tops_around : tops_but ((0 ∷ []) ∷ []) 1 ((part 0 ∷ part 1 ∷ []) ∷ []) ≡ (0 ∷ []) ∷ (1 ∷ []) ∷ (0 ∷ 1 ∷ []) ∷ []
+tops_around = refl

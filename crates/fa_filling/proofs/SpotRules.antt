@@ -19,7 +19,7 @@ use Rattle.fa_core.specs.declared.faces.BoxFace.{BoxFace}
 use Rattle.fa_core.specs.Ways.{given_by}
 use Rattle.fa_core.specs.Cells.{edges}
 use Rattle.fa_core.specs.Filled.{Spot, spots, spots_at, child_spots}
-use Rattle.fa_filling.specs.inner.Ruled.{spot, SymbolsOf, RuleSpots, BelowRule, SpotsFromRules}
+use Rattle.fa_filling.specs.Ruled.{spot, SymbolsOf, RuleSpots, BelowRule, SpotsFromRules}
 
 -- the symbol at the top of a tree
 abbrev pub top_symbol : Tree → Symbol

@@ -1,2 +1,3 @@
 pub mod Given
-pub mod inner
+pub mod Parted
+pub mod Ruled

@@ -5,8 +5,8 @@ ghost use Rattle.fore_base.specs.Lists.{IsIn, Every};
 ghost use Rattle.ta_core.specs.declared.tree.Tree.{Tree};
 ghost use Rattle.ta_core.specs.Language.{IsTrim};
 ghost use Rattle.fa_core.specs.Filled.{Choice, ChoiceFilled, IsRoot, HasSome};
-ghost use Rattle.fa_filling.specs.inner.Parted.{HasLeafIn, AreParts, AreReady, AreFilledAt, ArePartsFilled, AreTopsBut};
-ghost use Rattle.fa_filling.specs.inner.Parted.{tops_of, all_tops};
+ghost use Rattle.fa_filling.specs.Parted.{HasLeafIn, AreParts, AreReady, AreFilledAt, ArePartsFilled, AreTopsBut};
+ghost use Rattle.fa_filling.specs.Parted.{tops_of, all_tops};
 ghost use Rattle.fa_filling.specs.Given.{given_to, IsGivenAt};
 
 use crate::filling::is_filled_part;

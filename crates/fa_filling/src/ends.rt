@@ -3,8 +3,8 @@
 ghost use Rattle.std.specs.Prelude.{◌≡◌, ◌↔◌, IsTrue};
 ghost use Rattle.std.specs.Option.{option_copied};
 ghost use Rattle.fore_base.specs.Lists.{Every};
-ghost use Rattle.fa_filling.specs.inner.Ruled.{IsAlone, FieldAlways, LinkAlways, OutputAlways, BoxAlways};
-ghost use Rattle.fa_filling.specs.inner.Ruled.{EndAlways, RuleAlways, EdgeAlways, HookAlways, SlotAlways};
+ghost use Rattle.fa_filling.specs.Ruled.{IsAlone, FieldAlways, LinkAlways, OutputAlways, BoxAlways};
+ghost use Rattle.fa_filling.specs.Ruled.{EndAlways, RuleAlways, EdgeAlways, HookAlways, SlotAlways};
 
 use crate::fields::target_of;
 use fa_core::faces::{BoxFace, Face};

@@ -3,7 +3,7 @@
 ghost use Rattle.std.specs.Prelude.{◌≡◌, ◌↔◌, ℕ, IsTrue, IfOk};
 ghost use Rattle.fore_base.specs.Lists.{IsIn, Every};
 ghost use Rattle.ta_core.specs.Language.{IsTrim};
-ghost use Rattle.fa_filling.specs.inner.Ruled.{IsShapedCell, IsShapedRule, IsFilledPart};
+ghost use Rattle.fa_filling.specs.Ruled.{IsShapedCell, IsShapedRule, IsFilledPart};
 
 use crate::covering::is_in_order;
 use crate::ends::{are_ends_right, are_hooks_right};

@@ -6,7 +6,7 @@ ghost use Rattle.fa_core.specs.Filled.{covers, fields_of};
 ghost use Rattle.fa_core.specs.Rearranged.{Rearranged, often};
 ghost use Rattle.fa_core.specs.Cells.{edges};
 ghost use Rattle.fa_core.specs.Ways.{given_by, gives_out_of};
-ghost use Rattle.fa_filling.specs.inner.Ruled.{OnceBy, StateOnce, RootOnce, EdgeOnce, OnceBelow, IsOnceBelow};
+ghost use Rattle.fa_filling.specs.Ruled.{OnceBy, StateOnce, RootOnce, EdgeOnce, OnceBelow, IsOnceBelow};
 
 use crate::covering::covered;
 use crate::fields::fields_of;

@@ -3,8 +3,8 @@
 ghost use Rattle.std.specs.Prelude.{◌≡◌, ◌↔◌, true, IsTrue, IfOk, OnOk, MatchOption};
 ghost use Rattle.fore_base.specs.Lists.{IsIn, IsDistinct, Paired};
 ghost use Rattle.fore_base.specs.Marks.{all_marked};
-ghost use Rattle.fa_filling.specs.inner.Parted.{chosen, fresh_rule, is_of, rules_of, AreTopRules, AreStructsOf};
-ghost use Rattle.fa_filling.specs.inner.Parted.{HasLeafRule, IsAdded, IsPartFor, IsPartOf, HasLeaf};
+ghost use Rattle.fa_filling.specs.Parted.{chosen, fresh_rule, is_of, rules_of, AreTopRules, AreStructsOf};
+ghost use Rattle.fa_filling.specs.Parted.{HasLeafRule, IsAdded, IsPartFor, IsPartOf, HasLeaf};
 ghost use Rattle.ta_core.specs.declared.auto.Rule.{Rule};
 
 use fore_base::list::{Copies, List};

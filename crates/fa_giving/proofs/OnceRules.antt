@@ -21,7 +21,7 @@ use Rattle.fa_core.specs.Cells.{edges}
 use Rattle.fa_core.specs.Filled.{Choice, HasSome, Spot, covers, fields_of, spots}
 use Rattle.fa_core.specs.Rearranged.{Rearranged, often}
 use Rattle.fa_core.specs.Ways.{given_by, gives_out_of}
-use Rattle.fa_filling.specs.inner.Ruled.{BelowRule, OnceBy, StateOnce, EdgeOnce, OnceBelow, IsOnceBelow}
+use Rattle.fa_filling.specs.Ruled.{BelowRule, OnceBy, StateOnce, EdgeOnce, OnceBelow, IsOnceBelow}
 use Rattle.fa_filling.proofs.Counting.{long_same, often_same, rearranged_by}
 use Rattle.fa_filling.proofs.SpotRules.{Holds, HoldsBelow, holds_cell, leaf_holds, holds_each, put, some_trees, with_edge}
 use Rattle.fa_filling.proofs.SpotRules.{tree_spot}

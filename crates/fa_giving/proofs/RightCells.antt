@@ -18,7 +18,7 @@ use Rattle.fa_core.specs.Rearranged.{Rearranged, empty, keep, chain, often}
 use Rattle.fa_core.specs.Ways.{given_by}
 use Rattle.fa_core.proofs.Counts.{often_out, often_in}
 use Rattle.fa_box_rules.specs.Cells.{IsRightCell, IsRightUnder, AreRight}
-use Rattle.fa_filling.specs.inner.Ruled.{spot}
+use Rattle.fa_filling.specs.Ruled.{spot}
 use Rattle.fa_filling.proofs.Counting.{often_same, taken, without, back}
 use Rattle.fa_filling.proofs.SpotRules.{spots_out, with_spots, cell_spots, every_flat, flat_every, top_symbol}
 use Rattle.fa_filling.proofs.Fillings.{choice_long}

@@ -24,7 +24,7 @@ use Rattle.fa_core.proofs.CellMarks.{given_through}
 use Rattle.fa_core.proofs.Counts.{often_both, often_out, in_or_out}
 use Rattle.fa_core.proofs.WayParts.{collect, collect_edges, edge_ways, pair_roots, ways_out, child_edges, branch_ways}
 use Rattle.fa_filling.proofs.Chosen.{chosen_runs, runs_chosen}
-use Rattle.fa_filling.specs.inner.Parted.{RunBy, chosen, AreTopRules}
+use Rattle.fa_filling.specs.Parted.{RunBy, chosen, AreTopRules}
 use Rattle.fa_giving.specs.declared.totals.Extremes.{Extremes}
 use Rattle.fa_giving.specs.inner.Totals.{gives, IsExtremes, AreExtremes, none_given, total, all_give, Fits, AllFit}
 use Rattle.fa_giving.specs.inner.Totals.{IsGivenRight, ForAll, ForTop, given_fields, symbol_fields, rule_fields, AreIn}

@@ -23,9 +23,9 @@ use Rattle.fa_core.specs.Filled.{Choice, HasSome, HasField, Spot, IsInOrder, IsT
 use Rattle.fa_core.specs.Rearranged.{RisesFrom, IsRising}
 use Rattle.fa_core.specs.Ways.{given_by}
 use Rattle.fa_box_rules.specs.Cells.{MayName, FieldMayEnd, EndMayFit, EndsMayFit}
-use Rattle.fa_filling.specs.inner.Ruled.{SymbolsOf, RuleSpots, IsAlone, FieldAlways, LinkAlways, OutputAlways, BoxAlways}
-use Rattle.fa_filling.specs.inner.Ruled.{EndAlways, RuleAlways, EdgeAlways, HookAlways, SlotAlways, IsShapedCell, ShapedBy}
-use Rattle.fa_filling.specs.inner.Ruled.{IsShapedRule, spot}
+use Rattle.fa_filling.specs.Ruled.{SymbolsOf, RuleSpots, IsAlone, FieldAlways, LinkAlways, OutputAlways, BoxAlways}
+use Rattle.fa_filling.specs.Ruled.{EndAlways, RuleAlways, EdgeAlways, HookAlways, SlotAlways, IsShapedCell, ShapedBy}
+use Rattle.fa_filling.specs.Ruled.{IsShapedRule, spot}
 use Rattle.fa_filling.proofs.SpotRules.{put, rule_tree, tree_spot, spots_by_rules}
 use Rattle.fa_filling.proofs.FilledRules.{all_symbols, symbols_with}
 use Rattle.fa_giving.specs.inner.Shaped.{IsShapedSpot, IsShapedRoot, AreTopStructs}

@@ -16,8 +16,8 @@ use Rattle.ta_core.proofs.Runs.{tree_of, run_tree}
 use Rattle.fa_core.specs.declared.faces.Face.{Face}
 use Rattle.fa_core.specs.Filled.{HasSome, IsTopped, spots}
 use Rattle.fa_filling.specs.declared.parts.Part.{Part}
-use Rattle.fa_filling.specs.inner.Parted.{is_of, AreTopRules, IsPartFor}
-use Rattle.fa_filling.specs.inner.Ruled.{IsShapedRule}
+use Rattle.fa_filling.specs.Parted.{is_of, AreTopRules, IsPartFor}
+use Rattle.fa_filling.specs.Ruled.{IsShapedRule}
 use Rattle.fa_filling.proofs.Partition.{of_cell, in_rules_of, from_rules_of}
 use Rattle.fa_filling.proofs.SpotRules.{leaf_holds}
 use Rattle.fa_giving.specs.inner.Shaped.{IsShapedSpot, IsShapedRoot, AreTopStructs, AreCellStructs, AddsStruct, ForStruct}

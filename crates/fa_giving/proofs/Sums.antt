@@ -16,7 +16,7 @@ use Rattle.fa_core.specs.declared.faces.BoxFace.{BoxFace}
 use Rattle.fa_core.specs.Filled.{Choice, HasSome}
 use Rattle.fa_filling.proofs.SpotRules.{passed}
 use Rattle.fa_filling.proofs.Chosen.{chosen_runs, runs_chosen}
-use Rattle.fa_filling.specs.inner.Parted.{RunBy, chosen}
+use Rattle.fa_filling.specs.Parted.{RunBy, chosen}
 use Rattle.fa_giving.specs.declared.totals.Extremes.{Extremes}
 use Rattle.fa_giving.specs.declared.worths.Worth.{Worth}
 use Rattle.fa_giving.specs.inner.Totals.{gives, IsExtremes, AreExtremes, extremes_of, none_given, added, total, worth_of}

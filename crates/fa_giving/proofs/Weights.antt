@@ -18,7 +18,7 @@ use Rattle.fore_base.proofs.ListLemmas.{every_in, every_push}
 use Rattle.ta_core.proofs.Runs.{tree_of}
 use Rattle.fa_core.specs.declared.faces.BoxFace.{BoxFace}
 use Rattle.fa_core.specs.Cells.{edges}
-use Rattle.fa_filling.specs.inner.Parted.{RunBy}
+use Rattle.fa_filling.specs.Parted.{RunBy}
 use Rattle.fa_giving.specs.declared.worths.Worth.{Worth}
 use Rattle.fa_giving.specs.inner.Worths.{weight, weigh_at, weigh, refers, capped, greater, nothing, leaf_worth, worth_at}
 use Rattle.fa_giving.specs.inner.Worths.{most_below, none_below, with_edge, with_edges, worth_by, rule_worth, joined}

@@ -6,7 +6,7 @@ ghost use Rattle.fore_base.specs.Lists.{IsIn, Every, Paired};
 ghost use Rattle.ta_core.specs.Language.{IsTrim};
 ghost use Rattle.fa_core.specs.Filled.{HasSome, covers, fields_of};
 ghost use Rattle.fa_core.specs.Rearranged.{often};
-ghost use Rattle.fa_filling.specs.inner.Parted.{AreTopRules, IsRootRule};
+ghost use Rattle.fa_filling.specs.Parted.{AreTopRules, IsRootRule};
 ghost use Rattle.fa_giving.specs.inner.Totals.{AreExtremes, AllFit, IsGivenRight};
 ghost use Rattle.fa_giving.specs.inner.Totals.{ForAll, ForTop, given_fields, none_given};
 ghost use Rattle.fa_giving.specs.inner.Totals.{symbol_fields, rule_fields, AreIn, total, Adds};

@@ -4,7 +4,7 @@ ghost use Rattle.std.specs.Prelude.{◌≡◌, ◌∷◌, [], ◌<◌, ℕ, IfOk
 ghost use Rattle.fore_base.specs.Lists.{Every, Paired};
 ghost use Rattle.ta_core.specs.Language.{IsTrim};
 ghost use Rattle.fa_core.specs.Filled.{HasSome};
-ghost use Rattle.fa_filling.specs.inner.Parted.{AreTopRules};
+ghost use Rattle.fa_filling.specs.Parted.{AreTopRules};
 ghost use Rattle.fa_giving.specs.inner.Shaped.{IsShapedRoot, AreTopStructs, AreCellStructs, AddsStruct, ForStruct};
 ghost use Rattle.fa_giving.specs.inner.Totals.{ForAll};
 

@@ -16,9 +16,9 @@ use Rattle.fa_core.specs.Ways.{given_by}
 use Rattle.fa_core.specs.Filled.{IsTopped, SymbolFits, RulesFit}
 use Rattle.fa_core.specs.declared.faces.Face.{Face}
 use Rattle.fa_filling.specs.declared.parts.Part.{Part}
-use Rattle.fa_filling.specs.inner.Parted.{IsPartOf}
-use Rattle.fa_filling.specs.inner.Ruled.{EndAlways, EdgeAlways, ShapedBy, OnceBy, RootOnce, EdgeOnce, OnceBelow}
-use Rattle.fa_filling.specs.inner.Ruled.{IsFilledPart}
+use Rattle.fa_filling.specs.Parted.{IsPartOf}
+use Rattle.fa_filling.specs.Ruled.{EndAlways, EdgeAlways, ShapedBy, OnceBy, RootOnce, EdgeOnce, OnceBelow}
+use Rattle.fa_filling.specs.Ruled.{IsFilledPart}
 use Rattle.fa_filling.proofs.FilledRules.{AreFull, part_fills, fills_part}
 use Rattle.fa_height.specs.Quotients.{IsQuotient}
 use Rattle.fa_height.proofs.Images.{rule_of, root_of, same_symbol, outlined}

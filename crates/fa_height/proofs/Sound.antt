@@ -13,8 +13,8 @@ use Rattle.fa_core.specs.Filled.{DatumFits, IsRoot, IsTopped, RulesFit, HasSigna
 use Rattle.fa_core.specs.declared.faces.Face.{Face}
 use Rattle.fa_core.specs.declared.forest.Forest.{Forest}
 use Rattle.fa_filling.specs.declared.parts.Part.{Part}
-use Rattle.fa_filling.specs.inner.Parted.{AreParts, ArePartsFilled, all_tops}
-use Rattle.fa_filling.specs.inner.Ruled.{IsFilledPart}
+use Rattle.fa_filling.specs.Parted.{AreParts, ArePartsFilled, all_tops}
+use Rattle.fa_filling.specs.Ruled.{IsFilledPart}
 use Rattle.fa_filling.proofs.FilledRules.{AreFull}
 use Rattle.fa_filling.proofs.Fillings.{by_parts, all_parts, all_vars}
 use Rattle.fa_filling.specs.Given.{IsGivenAt}

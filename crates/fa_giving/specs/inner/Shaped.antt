@@ -14,7 +14,7 @@ use Rattle.fa_core.specs.Cells.{edges}
 use Rattle.fa_core.specs.Filled.{Choice, Spot, spots, covers, fields_of, IsInOrder, IsTopped}
 use Rattle.fa_core.specs.Rearranged.{Rearranged}
 use Rattle.fa_core.specs.Ways.{given_by}
-use Rattle.fa_filling.specs.inner.Parted.{is_of}
+use Rattle.fa_filling.specs.Parted.{is_of}
 use Rattle.fa_box_rules.specs.Cells.{EndsMayFit}
 
 -- the cell's ends fit, and its slots stand in order

@@ -14,7 +14,7 @@ use Rattle.fa_core.specs.declared.faces.BoxFace.{BoxFace}
 use Rattle.fa_core.specs.declared.faces.Face.{Face}
 use Rattle.fa_core.specs.Filled.{Choice, covers, fields_of, given_at}
 use Rattle.fa_core.specs.Rearranged.{often}
-use Rattle.fa_filling.specs.inner.Parted.{chosen}
+use Rattle.fa_filling.specs.Parted.{chosen}
 use Rattle.fa_giving.specs.declared.worths.Worth.{Worth}
 use Rattle.fa_giving.specs.declared.totals.Extremes.{Extremes}
 use Rattle.fa_giving.specs.inner.Worths.{weigh, refers, worth_at, joined, most_below, none_below, capped}

@@ -2,8 +2,8 @@ use Rattle.std.proofs.Common.{◌+◌, ◌∷◌, [], take, drop, true≢false, 
 use Rattle.ta_core.specs.Language.{IsTrim}
 use Rattle.fore_base.proofs.ListLemmas.{every_at, every_push, take_item}
 use Rattle.fa_filling.specs.declared.parts.Part.{Part}
-use Rattle.fa_filling.specs.inner.Ruled.{IsFilledPart}
-use Rattle.fa_filling.specs.inner.Parted.{tops_but, all_tops}
+use Rattle.fa_filling.specs.Ruled.{IsFilledPart}
+use Rattle.fa_filling.specs.Parted.{tops_but, all_tops}
 use Rattle.fa_filling.proofs.Fillings.{set_tops, tops_full, tops_set}
 use Rattle.fa_filling.proofs.choosing.are_filled_at.Goals as goal
 

@@ -1,5 +1,5 @@
 use Rattle.std.proofs.Common.{take}
-use Rattle.fa_filling.specs.inner.Parted.{AreFilledAt, AreTopsBut}
+use Rattle.fa_filling.specs.Parted.{AreFilledAt, AreTopsBut}
 use Rattle.fa_filling.proofs.choosing.are_filled_at.Given as goal
 
 abbrev pub invariant-loop-part : goal.invariant-loop-part

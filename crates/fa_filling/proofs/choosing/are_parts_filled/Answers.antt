@@ -1,5 +1,5 @@
 use Rattle.std.proofs.Common.{◌≡◌, ◌+◌, suc, take, true≢false, sym, ◌∙◌, arith}
-use Rattle.fa_filling.specs.inner.Parted.{tops_of}
+use Rattle.fa_filling.specs.Parted.{tops_of}
 use Rattle.fore_base.proofs.ListLemmas.{drop_item, take_item}
 use Rattle.fa_filling.proofs.Fillings.{tops_step, tops_whole}
 use Rattle.fa_filling.proofs.choosing.are_parts_filled.Goals as goal

@@ -1,6 +1,6 @@
 use Rattle.std.proofs.Common.{◌≡◌, ◌↔◌, take, drop, []}
 use Rattle.fa_filling.specs.Given.{given_to}
-use Rattle.fa_filling.specs.inner.Parted.{ArePartsFilled, all_tops}
+use Rattle.fa_filling.specs.Parted.{ArePartsFilled, all_tops}
 use Rattle.fa_filling.proofs.choosing.are_parts_filled.Given as goal
 
 abbrev pub invariant-loop-place : goal.invariant-loop-place

@@ -2,7 +2,7 @@ use Rattle.std.proofs.Common.{Bool, [], true≢false, sym, ◌∙◌, ◌↔◌}
 use Rattle.std.specs.Bool.{IsTrue}
 use Rattle.std.proofs.lemmas.Result.{IfOk-weaker}
 use Rattle.fa_filling.specs.Given.{given_to}
-use Rattle.fa_filling.specs.inner.Parted.{ArePartsFilled}
+use Rattle.fa_filling.specs.Parted.{ArePartsFilled}
 use Rattle.fa_filling.proofs.Fillings.{AreAll, by_parts, all_parts, all_vars, no_leaf, parts_ready}
 use Rattle.fa_filling.proofs.choosing.is_filled.Goals as goal
 

@@ -3,7 +3,7 @@ use Rattle.std.specs.Bool.{IsTrue}
 use Rattle.std.proofs.lemmas.Result.{IfOk-weaker}
 use Rattle.fore_base.specs.Lists.{Every}
 use Rattle.ta_core.specs.Auto.{Automaton}
-use Rattle.fa_filling.specs.inner.Ruled.{IsOnceBelow, IsFilledPart}
+use Rattle.fa_filling.specs.Ruled.{IsOnceBelow, IsFilledPart}
 use Rattle.fa_filling.proofs.FilledRules.{part_fills, fills_part}
 use Rattle.fa_filling.proofs.filling.is_filled_part.Goals as goal
 

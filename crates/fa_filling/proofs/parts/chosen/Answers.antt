@@ -2,7 +2,7 @@ use Rattle.std.proofs.Common.{◌≡◌, ◌≤◌, ◌++◌, length, map, List,
 use Rattle.std.proofs.lemmas.List.{append-nil, drop_all}
 use Rattle.ta_core.specs.Auto.{Automaton}
 use Rattle.ta_core.specs.declared.auto.Rule.{Rule}
-use Rattle.fa_filling.specs.inner.Parted.{fresh_rule, rules_of}
+use Rattle.fa_filling.specs.Parted.{fresh_rule, rules_of}
 use Rattle.fa_filling.proofs.Chosen.{chosen_proper}
 use Rattle.fa_filling.proofs.Partition.{from_rules_of}
 use Rattle.fa_filling.proofs.parts.chosen.Goals as goal

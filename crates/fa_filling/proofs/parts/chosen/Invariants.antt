@@ -1,5 +1,5 @@
 use Rattle.std.proofs.Common.{◌≡◌, ◌++◌, map, drop}
-use Rattle.fa_filling.specs.inner.Parted.{fresh_rule, rules_of}
+use Rattle.fa_filling.specs.Parted.{fresh_rule, rules_of}
 use Rattle.fa_filling.proofs.parts.chosen.Given as goal
 
 abbrev pub invariant-loop-rule : goal.invariant-loop-rule

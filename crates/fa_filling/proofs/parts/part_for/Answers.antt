@@ -1,7 +1,7 @@
 use Rattle.std.proofs.Common.{refl, List}
 use Rattle.ta_core.specs.Auto.{Automaton}
 use Rattle.ta_core.specs.declared.auto.Rule.{Rule}
-use Rattle.fa_filling.specs.inner.Parted.{rules_of}
+use Rattle.fa_filling.specs.Parted.{rules_of}
 use Rattle.fa_filling.proofs.Chosen.{chosen_runs, runs_chosen}
 use Rattle.fa_filling.proofs.Partition.{to_chosen}
 use Rattle.fa_filling.proofs.parts.part_for.Goals as goal

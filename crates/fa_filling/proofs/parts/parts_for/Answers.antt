@@ -1,7 +1,7 @@
 use Rattle.std.proofs.Common.{take}
 use Rattle.std.proofs.lemmas.List.{take_more}
 use Rattle.fore_base.proofs.ListLemmas.{paired_push}
-use Rattle.fa_filling.specs.inner.Parted.{IsPartFor}
+use Rattle.fa_filling.specs.Parted.{IsPartFor}
 use Rattle.fa_filling.proofs.parts.parts_for.Goals as goal
 
 pub loop-shape-preserved : goal.loop-shape-preserved

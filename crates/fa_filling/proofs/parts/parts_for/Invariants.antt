@@ -1,6 +1,6 @@
 use Rattle.std.proofs.Common.{take}
 use Rattle.fore_base.specs.Lists.{Paired}
-use Rattle.fa_filling.specs.inner.Parted.{IsPartFor}
+use Rattle.fa_filling.specs.Parted.{IsPartFor}
 use Rattle.fa_filling.proofs.parts.parts_for.Given as goal
 
 abbrev pub invariant-loop-shape : goal.invariant-loop-shape

@@ -3,7 +3,7 @@ use Rattle.std.proofs.lemmas.Bool.{eq-eqb}
 use Rattle.fore_base.proofs.ListLemmas.{in_at, take_item}
 use Rattle.ta_core.specs.declared.symbol.Symbol.{Symbol}
 use Rattle.fa_core.specs.Cells.{is_leaf}
-use Rattle.fa_filling.specs.inner.Parted.{is_of}
+use Rattle.fa_filling.specs.Parted.{is_of}
 use Rattle.fa_filling.proofs.Partition.{structs_add}
 use Rattle.fa_filling.proofs.parts.structs_of.Goals as goal
 

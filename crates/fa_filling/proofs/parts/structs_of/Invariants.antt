@@ -1,5 +1,5 @@
 use Rattle.std.proofs.Common.{take}
-use Rattle.fa_filling.specs.inner.Parted.{AreStructsOf}
+use Rattle.fa_filling.specs.Parted.{AreStructsOf}
 use Rattle.fa_filling.proofs.parts.structs_of.Given as goal
 
 abbrev pub invariant-loop-rule : goal.invariant-loop-rule

@@ -1,5 +1,5 @@
 use Rattle.std.proofs.Common.{take}
-use Rattle.fa_filling.specs.inner.Parted.{AreTopRules}
+use Rattle.fa_filling.specs.Parted.{AreTopRules}
 use Rattle.fa_filling.proofs.parts.top_rules.Given as goal
 
 abbrev pub invariant-loop-rule : goal.invariant-loop-rule

@@ -2,7 +2,7 @@ use Rattle.std.proofs.Common.{◌↔◌, ◌∙◌, ap, subst, List, IsTrue}
 use Rattle.fore_base.specs.Lists.{Every}
 use Rattle.ta_core.specs.Auto.{Automaton}
 use Rattle.ta_core.specs.declared.auto.Rule.{Rule}
-use Rattle.fa_filling.specs.inner.Ruled.{IsOnceBelow}
+use Rattle.fa_filling.specs.Ruled.{IsOnceBelow}
 use Rattle.fa_giving.proofs.OnceRules.{below_decides}
 use Rattle.fa_giving.proofs.below.is_below_once.Goals as goal
 

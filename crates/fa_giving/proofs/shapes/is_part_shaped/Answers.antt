@@ -2,7 +2,7 @@ use Rattle.std.proofs.Common.{◌↔◌, ◌∙◌, ℕ, List, ap, subst, IsTrue
 use Rattle.fore_base.specs.Lists.{Every}
 use Rattle.ta_core.specs.Auto.{Automaton}
 use Rattle.ta_core.specs.declared.auto.Rule.{Rule}
-use Rattle.fa_filling.specs.inner.Ruled.{IsShapedRule}
+use Rattle.fa_filling.specs.Ruled.{IsShapedRule}
 use Rattle.fa_giving.proofs.StructParts.{part_decides}
 use Rattle.fa_giving.proofs.shapes.is_part_shaped.Goals as goal
 

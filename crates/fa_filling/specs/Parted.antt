@@ -13,7 +13,7 @@ use Rattle.ta_core.specs.declared.auto.Rule.{Rule}
 use Rattle.fa_filling.specs.declared.parts.Part.{Part}
 use Rattle.fa_core.specs.Cells.{is_leaf}
 use Rattle.fa_core.specs.Filled.{IsTopped}
-use Rattle.fa_filling.specs.inner.Ruled.{IsFilledPart}
+use Rattle.fa_filling.specs.Ruled.{IsFilledPart}
 
 -- the rule at a state of its own
 abbrev pub fresh_rule : Automaton → Rule → Rule
