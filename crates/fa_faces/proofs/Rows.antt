@@ -1,5 +1,8 @@
 -- Worked boxes: the face that they have, or the first rule that they break.
-use Rattle.std.proofs.Common.{◌≡◌, inl, inr, ℕ, List, [], ◌∷◌, refl, sym, ap, subst, ◌∙◌, Some, arith}
+use Rattle.std.proofs.Common.{◌≡◌, ◌⊎◌, inl, inr, ℕ, ◌<◌, List, [], ◌∷◌, length, refl, sym, ap, subst, ◌∙◌, Some, None}
+use Rattle.std.proofs.Common.{false, arith}
+use Rattle.fore_base.specs.Lists.{IsIn}
+use Rattle.fore_base.specs.declared.store.Value.TheVariants.{Cell as CellValue}
 use Rattle.ta_core.specs.Auto.{Automaton}
 use Rattle.ta_core.specs.Language.{InLanguage, IsBarren, run}
 use Rattle.ta_core.specs.declared.symbol.Slot.TheVariants.{Field, Link}
@@ -7,25 +10,32 @@ use Rattle.ta_core.specs.declared.symbol.Symbol.{Symbol}
 use Rattle.ta_core.specs.declared.symbol.Symbol.TheVariants.{Ref, Cell}
 use Rattle.ta_core.specs.declared.tree.Tree.{Tree}
 use Rattle.fa_core.specs.declared.boxes.BoxDef.{BoxDef}
+use Rattle.fa_core.specs.declared.faces.BoxFace.{BoxFace}
 use Rattle.fa_core.specs.declared.faces.Face.{Face}
 use Rattle.fa_core.specs.declared.forest.Target.TheVariants.{At}
+use Rattle.fa_core.specs.Boxes.{InsideFits, IsPortFilled, IsReached, Reaches, named, SoundBox}
+use Rattle.fa_core.specs.Canonical.{RefersTo}
 use Rattle.fa_core.specs.Choices.{bares}
-use Rattle.fa_core.specs.Dressed.{Node, Nodes, node, no_parts, field, link, under, leaf, no_nodes, more}
+use Rattle.fa_core.specs.Dressed.{Node, Nodes, node, no_parts, field, link, under, leaf, no_nodes, more, inside_facts}
 use Rattle.fa_core.specs.Filled.{Choice, IsTopped, given_at, spots}
-use Rattle.fa_core.specs.Member.{bare}
+use Rattle.fa_core.specs.Member.{bare, TreesOf}
 use Rattle.fa_core.specs.Rearranged.{Rearranged, keep, empty}
+use Rattle.fa_core.specs.Ways.{signature}
 use Rattle.fa_core.proofs.Dressing.{cell_top, leaf_top}
 use Rattle.fa_core.proofs.GivenTips.{given_tips}
 use Rattle.fa_core.proofs.NodeRuns.{node_bare}
 use Rattle.fa_core.proofs.NodeSpots.{spots_are}
-use Rattle.fa_core.proofs.RowsBoxes.{port, port_node, box_face, dll_box, dll_sound}
+use Rattle.fa_core.proofs.RowsBoxes.{port, port_node, box_face, dll_box, dll_sound, port_is}
+use Rattle.fa_core.proofs.RowsBoxes.{port_runs, port_single, port_rules, single_covers, port_covers_some}
 use Rattle.fa_core.proofs.RowsCanonical.{rule, dll_face}
 use Rattle.fa_core.proofs.RowsForests.{bare_cell, bare_node, bare_runs}
-use Rattle.fa_core.proofs.SingleTrees.{single_choice}
+use Rattle.fa_core.proofs.SeenCells.{structs_tops}
+use Rattle.fa_core.proofs.SingleTrees.{same_tree, single_tree, single_choice}
+use Rattle.fa_core.proofs.WaysOf.{tree_roots}
 use Rattle.fa_box_rules.specs.Cells.{AreRight, IsRightUnder}
-use Rattle.fa_box_rules.specs.Rules.{Breaks5, covers_apart, covers_none, Gives, root_fields}
+use Rattle.fa_box_rules.specs.Rules.{Breaks5, covers_apart, covers_none, Gives, root_fields, IsFaceOf}
 use Rattle.fa_box_rules.specs.declared.rule.BoxRule.TheVariants.{B4, B5, B6, B7}
-use Rattle.fa_box_rules.proofs.SoundBoxes.{none_broken}
+use Rattle.fa_box_rules.proofs.SoundBoxes.{face_is, none_broken}
 use Rattle.fa_faces.specs.Faults.{box_inside, IsFaultOf}
 use Rattle.fa_faces.specs.declared.fault.FaceFault.{FaceFault}
 use Rattle.fa_faces.specs.declared.fault.FaceFault.TheVariants.{Breaks, Memory}
@@ -246,3 +256,81 @@ output_given_prev ts c =
     (let g = given_tips dll_face.boxes 1 chain_nodes in
     let e = cell_top 0 0 [] no_parts in
     rw (g, e) (keep 1 empty))
+
+-- A Hook of a box whose input refers to itself, `node(next=s1)` with `s1 = ref 0`: want of memory alone may keep its face,
+-- which covers `next`
+
+abbrev own_face : BoxFace
+own_face = record { input = 0; output = None; gives_in = 0 ∷ []; gives_out = []; back = false }
+
+abbrev own_autos : List Automaton
+own_autos = port 0 0 ∷ []
+
+abbrev own_nodes : Nodes
+own_nodes = more (port_node 0 0 0) no_nodes
+
+own_is : (T : List BoxDef) (d : Nodes) → TreesOf T own_autos d → (k : ℕ) × (d ≡ more (port_node k 0 0) no_nodes)
+own_is T no_nodes h = absurd h
+own_is T (more n no_nodes) h =
+    let t = single_tree (port 0 0) (bare n) (bare (port_node 0 0 0)) (port_single 0 0) h.0 (port_runs 0 0 0) in
+    let p = port_is 0 0 n t in
+    (p.0, ap (λ (x : Node). more x no_nodes) p.1)
+own_is T (more n (more m ns)) h = absurd h.2
+
+own_refers : (t : Tree) (k : ℕ) → IsIn t (bares own_nodes) → RefersTo t k → k < 1
+own_refers t k (inl e) h =
+    elim (rw (tree_roots (port_node 0 0 0)) at (subst (λ (x : Tree). RefersTo x k) e h))
+    [ inl i ↦ omega (arith, i) | inr x ↦ absurd x ]
+own_refers t k (inr e) h = absurd e
+
+own_filled : IsPortFilled dll_face (0 ∷ []) (0 ∷ [])
+    (spots dll_face.boxes (bare (port_node 0 0 0)) (given_at dll_face.boxes (bares own_nodes) 0))
+own_filled =
+    let e = spots_are dll_face.boxes (port_node 0 0 0) (given_at dll_face.boxes (bares own_nodes) 0) in
+    let g = given_tips dll_face.boxes 0 own_nodes in
+    let l = leaf_top (At 0) in
+    rw e (record { ends = ((0, refl, rw l refl), tt); order = ((tt, tt), tt); once = rw g (keep 0 empty) }, tt)
+
+own_fits : InsideFits dll_face own_face (bares own_nodes)
+own_fits = record {
+  tops = 0 ∷ [];
+  are = structs_tops own_nodes;
+  ports = ([], refl);
+  refs = own_refers;
+  cells = (own_filled, refl);
+}
+
+own_reached : (T : List BoxDef) → IsReached T own_face own_autos
+own_reached T d o c ports e n i =
+    let w = own_is T d o in
+    let f = w.1 in
+    rw (e, f) (here w.0 (rw (e, f) at i))
+  where
+    here : (k : ℕ) → IsIn n [] ⊎ IsIn (CellValue n) (CellValue c ∷ [])
+        → Reaches (CellValue c ∷ []) (inside_facts (CellValue c ∷ []) (more (port_node k 0 0) no_nodes)) n
+    here k (inl x) = absurd x
+    here k (inr (inl x)) = named (inl x)
+    here k (inr (inr x)) = absurd x
+
+abbrev own_box : BoxDef
+own_box = record { name = []; face = own_face; inside = record { autos = own_autos; vars = []; data_vars = [] } }
+
+own_sound : (T : List BoxDef) → SoundBox dll_face T own_box
+own_sound T = record {
+  rules = (port_rules dll_face 0 0 (omega arith, refl, (refl, tt)), tt);
+  full = ((bare (port_node 0 0 0), port_runs 0 0 0), tt);
+  fits = λ ts c. subst (λ (us : List Tree). InsideFits dll_face own_face us)
+      (single_choice own_autos (bares own_nodes) ts (port_single 0 0, tt) (port_runs 0 0 0, tt) c) own_fits;
+  covers = λ e. (let z : 1 ≡ 0 = ap (λ (l : List ℕ). length l) e in omega (arith, z));
+  ports = (single_covers dll_face.boxes (port 0 0) (port_single 0 0), port_covers_some dll_face.boxes 0 0);
+  in_order = (tt, tt);
+  signatures = (
+    (λ q p t u x y. ap (signature dll_face.boxes) (same_tree (port 0 0).rules (port_single 0 0).0 q t u x y)),
+    tt,
+  );
+  reached = own_reached T;
+  back = (refl, refl);
+}
+
+own_has_face : (T : List BoxDef) → IsFaceOf dll_face T (box_inside 0 None own_autos) own_face
+own_has_face T = face_is dll_face T own_box (own_sound T)
