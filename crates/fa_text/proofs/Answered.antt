@@ -2,7 +2,7 @@
 use Rattle.std.proofs.Common.{◌≡◌, ℕ, List, refl, sym, ap, subst, Result, Ok, Err, IfErr}
 use Rattle.fore_base.specs.declared.shape.Shapes.{Shapes}
 use Rattle.fa_core.specs.Boxes.{Boxes}
-use Rattle.fa_written.specs.Drafts.{IsText, IsFirstBad}
+use Rattle.fa_written.specs.Drafts.{IsText}
 use Rattle.fa_written.specs.Faults.{IsFault as IsDraftFault}
 use Rattle.fa_written.specs.declared.draft.BoxDraft.{BoxDraft}
 use Rattle.fa_written.specs.declared.fault.DraftFault.{DraftFault}
@@ -11,7 +11,7 @@ use Rattle.fa_named.specs.Named.{AreNamed, faults, IsFirst as IsFirstName}
 use Rattle.fa_named.specs.declared.fault.NameFault.{NameFault}
 use Rattle.fa_named.specs.declared.fault.NameFault.TheVariants.{K6, B2, B3, Memory as NoMemory}
 use Rattle.fa_named.specs.declared.named.NamedBox.{NamedBox}
-use Rattle.fa_text.specs.Files.{IsFirst, in_the_way, misnamed, broken, fault_of, IsFault}
+use Rattle.fa_text.specs.Files.{in_the_way, misnamed, broken, fault_of, IsFault}
 use Rattle.fa_text.specs.declared.fault.BoxFault.{BoxFault}
 use Rattle.fa_text.specs.declared.fault.BoxFault.TheVariants.{Rule, Limit, Memory}
 use Rattle.fa_text.specs.inner.Next.{IsBroken, fault_by}

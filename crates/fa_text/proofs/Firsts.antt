@@ -1,11 +1,11 @@
 -- What is answered is the table of the text, or the first rule that it breaks.
-use Rattle.std.proofs.Common.{arith, ◌≡◌, ◌<◌, ◌≤◌, ℕ, zero, suc, List, [], ◌∷◌, ◌++◌, length, take, Option, Some, None}
-use Rattle.std.proofs.Common.{slice_get, refl, sym, ap, subst, ◌∙◌, ◌⊎◌, inl, inr, Result, Ok, Err, IfOk, IfErr}
+use Rattle.std.proofs.Common.{arith, ◌≡◌, ℕ, List, [], ◌∷◌, length, take, Some}
+use Rattle.std.proofs.Common.{refl, sym, ap, subst, ◌∙◌, inl, inr, Result, Ok, Err, IfOk, IfErr}
 use Rattle.std.proofs.lemmas.Option.{none-some, same_Some, slice_get_within}
-use Rattle.fore_base.specs.Lists.{Every, Paired}
+use Rattle.fore_base.specs.Lists.{Paired}
 use Rattle.fore_base.specs.declared.shape.Shapes.{Shapes}
 use Rattle.fore_base.proofs.ListLemmas.{paired_long}
-use Rattle.fa_core.specs.Boxes.{Boxes, AreSoundOver}
+use Rattle.fa_core.specs.Boxes.{Boxes}
 use Rattle.fa_core.specs.declared.boxes.BoxDef.{BoxDef}
 use Rattle.fa_core.specs.declared.faces.Face.{Face}
 use Rattle.fa_box_rules.specs.declared.rule.BoxRule.{BoxRule}
@@ -14,12 +14,11 @@ use Rattle.fa_written.specs.declared.draft.BoxDraft.{BoxDraft}
 use Rattle.fa_named.specs.Named.{AreNamed, faults, first_of}
 use Rattle.fa_named.specs.declared.fault.NameFault.{NameFault}
 use Rattle.fa_named.specs.declared.named.NamedBox.{NamedBox}
-use Rattle.fa_text.specs.Files.{HasFace, AreBoxes, IsBoxFile, face_over, IsFirstBroken, rule_number, fault_of}
+use Rattle.fa_text.specs.Files.{HasFace, IsBoxFile, face_over, IsFirstBroken, rule_number, fault_of}
 use Rattle.fa_text.specs.Files.{IsFirst, in_the_way}
 use Rattle.fa_text.specs.Files.{misnamed, broken, IsFault, Answers}
 use Rattle.fa_text.specs.declared.fault.BoxFault.{BoxFault}
 use Rattle.fa_text.specs.declared.fault.BoxFault.TheVariants.{Rule, Limit, Memory}
-use Rattle.fa_text.specs.inner.Next.{AreNext}
 use Rattle.fa_text.proofs.Next.{all_next}
 use Rattle.fa_text.proofs.OneTable.{not_more, same_boxes, two_broken}
 

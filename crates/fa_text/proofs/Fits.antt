@@ -1,8 +1,8 @@
 -- The symbols of lines that break neither B2 nor B3 fit the structs and the boxes before them.
-use Rattle.std.proofs.Common.{arith, ◌≡◌, ◌<◌, ◌≤◌, ℕ, zero, suc, Bool, true, false, true≢false, cond, not, ◌&&◌}
+use Rattle.std.proofs.Common.{arith, ◌≡◌, ◌<◌, ℕ, zero, suc, Bool, true, false, true≢false, cond, not, ◌&&◌}
 use Rattle.std.proofs.Common.{List, [], ◌∷◌, ◌++◌, map, length, Option, Some, None, IsSome, IsNone, slice_get, refl}
 use Rattle.std.proofs.Common.{sym, ap}
-use Rattle.std.proofs.Common.{subst, nat_lt, nat_eq, ◌∙◌, ◌⊎◌, inl, inr}
+use Rattle.std.proofs.Common.{subst, nat_eq, ◌∙◌}
 use Rattle.std.specs.Cmp.Lexicographic.{pointwise}
 use Rattle.std.specs.List.{list_all}
 use Rattle.std.proofs.lemmas.Bool.{and_parts, ltb-true}
@@ -16,7 +16,6 @@ use Rattle.fore_base.specs.declared.shape.Shape.{Shape}
 use Rattle.fore_base.specs.declared.shape.Shapes.{Shapes}
 use Rattle.fore_base.specs.declared.store.Datum.{Datum}
 use Rattle.fore_base.specs.declared.store.Datum.TheVariants.{Undefined, Known as IsKnown}
-use Rattle.ta_core.specs.declared.symbol.Slot.{Slot}
 use Rattle.ta_core.specs.declared.symbol.Symbol.{Symbol}
 use Rattle.fa_core.specs.Boxes.{PortSymbolFits}
 use Rattle.fa_core.specs.Filled.{SlotFits, SymbolFits, DatumFits, HasOutput, HasNoOutput}
@@ -30,10 +29,9 @@ use Rattle.fa_lines.specs.declared.line.Term.{Term}
 use Rattle.fa_lines.specs.declared.line.Term.TheVariants.{Null, Uninit, Dangling, Ref, Cell}
 use Rattle.fa_named.specs.Breaks.{is_field, is_none, are_data, data_fit, says, is_formed, cell_faults, term_faults}
 use Rattle.fa_named.specs.Earlier.{is_some}
-use Rattle.fa_named.specs.Insides.{slot_of, pointers_in, symbol_of}
+use Rattle.fa_named.specs.Insides.{slot_of, symbol_of}
 use Rattle.fa_named.specs.Places.{Texts, place}
-use Rattle.fa_named.specs.Structs.{field_names, kept_name, fields_of, struct_names, known_of}
-use Rattle.fa_named.specs.declared.fault.NameFault.{NameFault}
+use Rattle.fa_named.specs.Structs.{field_names, fields_of, known_of}
 use Rattle.fa_named.specs.declared.fault.NameFault.TheVariants.{B2, B3}
 use Rattle.fa_named.specs.declared.named.Boxes.{Boxes}
 use Rattle.fa_named.specs.declared.named.Fields.{Fields}

@@ -1,6 +1,6 @@
 -- A table that grows by boxes that are written.
-use Rattle.std.proofs.Common.{arith, ◌≡◌, ◌<◌, ◌≤◌, ◌+◌, ℕ, List, [], ◌∷◌, ◌++◌, length, take, Option, Some, slice_get}
-use Rattle.std.proofs.Common.{get_or, refl, sym, ap, subst, ◌∙◌, take_all, length-take-le, Result, Ok, Err, IfErr}
+use Rattle.std.proofs.Common.{arith, ◌≡◌, ◌<◌, ◌≤◌, ◌+◌, ℕ, List, [], ◌∷◌, ◌++◌, length, take, Some}
+use Rattle.std.proofs.Common.{get_or, sym, ap, subst, ◌∙◌, take_all, length-take-le, Result, Ok, Err, IfErr}
 use Rattle.std.proofs.Common.{IsErrAnd}
 use Rattle.std.proofs.lemmas.Option.{slice_get-get_or}
 use Rattle.fore_base.specs.Lists.{Paired}
@@ -14,7 +14,7 @@ use Rattle.fa_box_rules.specs.Rules.{IsWellNamed, BreaksFirst}
 use Rattle.fa_box_rules.specs.declared.rule.BoxRule.{BoxRule}
 use Rattle.fa_written.specs.declared.draft.BoxDraft.{BoxDraft}
 use Rattle.fa_named.specs.declared.named.NamedBox.{NamedBox}
-use Rattle.fa_text.specs.Files.{HasFace, AreBoxes, face_over, bare, IsFirstBroken, rule_number}
+use Rattle.fa_text.specs.Files.{HasFace, AreBoxes, face_over, bare, IsFirstBroken}
 use Rattle.fa_text.specs.declared.fault.BoxFault.{BoxFault}
 use Rattle.fa_text.specs.declared.fault.BoxFault.TheVariants.{Rule, Limit, Memory}
 use Rattle.fa_text.specs.inner.Next.{IsNext, AreNext, IsMade, IsRefused, IsBroken}

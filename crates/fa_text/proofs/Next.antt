@@ -1,34 +1,32 @@
 -- Each box of a file without faults may stand behind those before it.
-use Rattle.std.proofs.Common.{arith, ◌≡◌, ◌<◌, ◌≤◌, ◌^◌, ◌+◌, ℕ, zero, suc, Bool, true, false, true≢false, cond, List}
+use Rattle.std.proofs.Common.{arith, ◌≡◌, ◌<◌, ◌≤◌, ◌+◌, ℕ, zero, suc, Bool, true, false, true≢false, cond, List}
 use Rattle.std.proofs.Common.{[]}
-use Rattle.std.proofs.Common.{◌∷◌, ◌++◌, map, length, take, Option, Some, None, slice_get, refl, sym, ap, subst, nat_eq}
-use Rattle.std.proofs.Common.{nat_lt, ◌∙◌, ◌⊎◌, inl, inr, append_assoc, append-nil, length-append}
+use Rattle.std.proofs.Common.{◌∷◌, ◌++◌, map, length, Option, Some, None, slice_get, refl, sym, ap, subst, nat_eq}
+use Rattle.std.proofs.Common.{◌∙◌, inl, inr, append_assoc, append-nil, length-append}
 use Rattle.std.specs.Cmp.Lexicographic.{pointwise, bytes_decides}
 use Rattle.std.proofs.lemmas.Bool.{lt-ltb}
-use Rattle.std.proofs.lemmas.Option.{none-some, same_Some, slice_get_within}
-use Rattle.fore_base.specs.Lists.{IsIn, Every, Paired}
+use Rattle.std.proofs.lemmas.Option.{none-some, same_Some}
+use Rattle.fore_base.specs.Lists.{IsIn, Every}
 use Rattle.fore_base.specs.declared.shape.Shapes.{Shapes}
 use Rattle.fa_core.specs.Boxes.{names_of, faces_of}
 use Rattle.fa_core.specs.declared.boxes.BoxDef.{BoxDef}
 use Rattle.fa_core.specs.declared.faces.BoxFace.{BoxFace}
-use Rattle.fa_box_rules.specs.Rules.{IsWellNamed}
 use Rattle.fa_written.specs.Drafts.{IsText}
 use Rattle.fa_written.specs.Forms.{port_count as ports_of}
-use Rattle.fa_written.specs.declared.draft.Head.{Head}
 use Rattle.fa_written.specs.declared.draft.BoxDraft.{BoxDraft}
 use Rattle.fa_named.specs.Breaks.{limit_at, limit_faults, box_faults, head_faults, parts_faults, file_faults}
 use Rattle.fa_named.specs.Earlier.{no_boxes, with_box, is_some}
 use Rattle.fa_named.specs.Insides.{auto_of}
-use Rattle.fa_named.specs.Named.{AreNamed, faults, output_of, box_of, boxes_of}
+use Rattle.fa_named.specs.Named.{AreNamed, output_of, box_of, boxes_of}
 use Rattle.fa_named.specs.Places.{Texts, place, is_there}
 use Rattle.fa_named.specs.Structs.{known_of}
 use Rattle.fa_named.specs.declared.fault.NameFault.TheVariants.{K6}
 use Rattle.fa_named.specs.declared.named.Boxes.{Boxes}
 use Rattle.fa_named.specs.declared.named.NamedBox.{NamedBox}
-use Rattle.fa_text.specs.Files.{HasFace, face_over, bare}
+use Rattle.fa_text.specs.Files.{HasFace}
 use Rattle.fa_text.specs.inner.Next.{IsNext, AreNext, HasFew}
 use Rattle.fa_text.proofs.Fits.{cons_not, none_in, outputs, map_long}
-use Rattle.fa_text.proofs.WellNamed.{HeadFits, head_fits, well_named}
+use Rattle.fa_text.proofs.WellNamed.{head_fits, well_named}
 use Rattle.fa_text.proofs.Written.{IsDrawn, drawn, is_a_word}
 
 -- Names

@@ -1,13 +1,13 @@
 -- A text has at most one table, and breaks at most one rule first.
-use Rattle.std.proofs.Common.{arith, ◌≡◌, ◌<◌, ◌≤◌, ◌+◌, ℕ, zero, suc, List, [], ◌∷◌, ◌++◌, map, length, take, Option}
+use Rattle.std.proofs.Common.{arith, ◌≡◌, ◌<◌, ◌≤◌, ℕ, zero, suc, List, [], ◌∷◌, ◌++◌, length, take, Option}
 use Rattle.std.proofs.Common.{Some}
-use Rattle.std.proofs.Common.{None, slice_get, refl, sym, ap, subst, ◌∙◌, ◌⊎◌, inl, inr, append_assoc, append-nil}
+use Rattle.std.proofs.Common.{slice_get, refl, sym, ap, subst, ◌∙◌, ◌⊎◌, inl, inr, append_assoc, append-nil}
 use Rattle.std.proofs.Common.{length-append}
 use Rattle.std.proofs.lemmas.Bool.{cases_lt}
-use Rattle.std.proofs.lemmas.Option.{none-some, same_Some, slice_get_within}
+use Rattle.std.proofs.lemmas.Option.{none-some, same_Some}
 use Rattle.fore_base.specs.Lists.{IsIn, Every, Paired}
 use Rattle.fore_base.specs.declared.shape.Shapes.{Shapes}
-use Rattle.fore_base.proofs.ListLemmas.{every_push, paired_long}
+use Rattle.fore_base.proofs.ListLemmas.{every_push}
 use Rattle.ta_core.specs.Auto.{Automaton, IsRanked}
 use Rattle.fa_core.specs.Boxes.{Boxes, IsBoxTable, SoundBox, AreSoundOver, faces_of, names_of}
 use Rattle.fa_core.specs.Words.{IsWord}
@@ -24,7 +24,7 @@ use Rattle.fa_box_rules.proofs.OneFace.{one_face}
 use Rattle.fa_box_rules.proofs.SoundBoxes.{none_broken}
 use Rattle.fa_written.specs.declared.draft.BoxDraft.{BoxDraft}
 use Rattle.fa_named.specs.declared.named.NamedBox.{NamedBox}
-use Rattle.fa_text.specs.Files.{HasFace, AreBoxes, face_over, bare, IsFirstBroken}
+use Rattle.fa_text.specs.Files.{HasFace, face_over, bare, IsFirstBroken}
 use Rattle.fa_text.specs.inner.Next.{IsNext, AreNext}
 use Rattle.fa_text.proofs.Next.{map_push}
 

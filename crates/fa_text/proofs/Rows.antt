@@ -1,5 +1,5 @@
 -- Worked texts: the doubly linked list, with its table, and texts that break a rule.
-use Rattle.std.proofs.Common.{arith, ◌≡◌, ◌<◌, ◌≤◌, ℕ, List, [], ◌∷◌, ◌++◌, refl, codes, length, Some, None, inl, inr}
+use Rattle.std.proofs.Common.{arith, ◌≡◌, ℕ, List, [], ◌∷◌, ◌++◌, refl, codes, Some, None, inl}
 use Rattle.std.proofs.Common.{◌≢◌, ◌+◌, ◌∙◌, decimal, Bool, true, false, true≢false, zero, suc, take, sym, ap, subst}
 use Rattle.std.proofs.lemmas.Fmt.{decimal_digit}
 use Rattle.fore_base.specs.declared.shape.FieldKind.TheVariants.{Pointer}
@@ -7,9 +7,8 @@ use Rattle.fore_base.specs.declared.shape.Shapes.{Shapes}
 use Rattle.c_lexer.specs.Bytes.{is_letter, is_digit, is_word_byte, is_gap}
 use Rattle.fore_base.specs.Lists.{Every}
 use Rattle.ta_core.specs.Auto.{Automaton}
-use Rattle.ta_core.specs.Language.{InLanguage, RunOf, run}
+use Rattle.ta_core.specs.Language.{RunOf, run}
 use Rattle.ta_core.specs.declared.tree.Tree.{Tree}
-use Rattle.fa_core.specs.Boxes.{Boxes}
 use Rattle.fa_core.proofs.RowsBoxes.{dll_box, dll_sound}
 use Rattle.fa_box_rules.specs.declared.rule.BoxRule.TheVariants.{B4, B5, B6, B7}
 use Rattle.fa_lines.specs.Says.{Says}

@@ -1,9 +1,8 @@
 -- A box that breaks none of B1, B2 and B3 is well named over the faces of those before it.
-use Rattle.std.proofs.Common.{arith, ◌≡◌, ◌<◌, ◌≤◌, ℕ, zero, suc, Bool, true, false, true≢false, cond, not, ◌&&◌, ◌||◌}
-use Rattle.std.proofs.Common.{List, [], ◌∷◌, ◌++◌, map, length, Option, Some, None, slice_get, refl, sym, ap, subst}
-use Rattle.std.proofs.Common.{nat_lt, nat_le, nat_eq, ◌∙◌, ◌⊎◌, inl, inr}
+use Rattle.std.proofs.Common.{arith, ◌≡◌, ◌<◌, ◌≤◌, ℕ, suc, Bool, true, false, true≢false, cond, not, ◌&&◌, ◌||◌}
+use Rattle.std.proofs.Common.{List, [], ◌∷◌, map, length, Option, Some, None, refl, sym, subst}
+use Rattle.std.proofs.Common.{nat_lt, nat_le, nat_eq, ◌⊎◌, inl, inr}
 use Rattle.std.proofs.lemmas.Bool.{and_parts, or_cases, or_right, ltb-true, leb-false, le-ltb, eqb-true, eq-eqb}
-use Rattle.std.proofs.lemmas.Bool.{cases_Bool}
 use Rattle.fore_base.specs.Lists.{IsIn, Every}
 use Rattle.fore_base.specs.declared.shape.Shape.{Shape}
 use Rattle.fore_base.specs.declared.shape.Shapes.{Shapes}
@@ -18,11 +17,11 @@ use Rattle.fa_core.specs.Filled.{SymbolFits, RulesFit}
 use Rattle.fa_core.specs.Ways.{has}
 use Rattle.fa_core.specs.declared.faces.BoxFace.{BoxFace}
 use Rattle.fa_core.specs.declared.faces.Face.{Face}
-use Rattle.fa_box_rules.specs.Rules.{Inside, IsWellNamed, AreRefsBelow, port_count, structs_of}
+use Rattle.fa_box_rules.specs.Rules.{IsWellNamed, AreRefsBelow, port_count, structs_of}
 use Rattle.fa_lines.specs.Spelling.{IsTerm}
 use Rattle.fa_lines.specs.declared.line.Term.{Term}
 use Rattle.fa_lines.specs.declared.line.Term.TheVariants.{Null, Uninit, Dangling, Ref, Cell}
-use Rattle.fa_written.specs.Drafts.{missing_in, missing_rules, missing_parts, missing, RefersWithin}
+use Rattle.fa_written.specs.Drafts.{missing_in, missing_rules, missing_parts, RefersWithin}
 use Rattle.fa_written.specs.Forms.{HasPorts, port_count as ports_of}
 use Rattle.fa_written.specs.declared.draft.RuleDraft.{RuleDraft}
 use Rattle.fa_written.specs.declared.draft.PartDraft.{PartDraft}
@@ -39,7 +38,7 @@ use Rattle.fa_named.specs.declared.named.Boxes.{Boxes}
 use Rattle.fa_named.specs.declared.named.Known.{Known}
 use Rattle.fa_named.proofs.Ranked.{ranked}
 use Rattle.fa_text.specs.Files.{bare}
-use Rattle.fa_text.proofs.Fits.{cons_not, none_in, holds, fails, Shows, TermFits, term_fits, map_long}
+use Rattle.fa_text.proofs.Fits.{none_in, holds, fails, Shows, term_fits, map_long}
 
 -- States in lists
 

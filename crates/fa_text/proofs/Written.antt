@@ -1,27 +1,26 @@
 -- What holds of the boxes that a text writes: names are words, terms may be written, and there are no more components
 -- than bytes.
-use Rattle.std.proofs.Common.{arith, ◌≡◌, ◌<◌, ◌≤◌, ◌+◌, ◌^◌, ℕ, zero, suc, Bool, true, false, cond, ◌==◌, ◌&&◌, ◌||◌}
-use Rattle.std.proofs.Common.{List, [], ◌∷◌, ◌++◌, map, length, Option, Some, None, refl, sym, ap, subst, nat_le, eqb}
-use Rattle.std.proofs.Common.{◌∙◌, ◌⊎◌, inl, inr, length-append, true≢false}
+use Rattle.std.proofs.Common.{arith, ◌≡◌, ◌≤◌, ℕ, suc, Bool, true, false, cond, ◌==◌, ◌&&◌, ◌||◌}
+use Rattle.std.proofs.Common.{List, [], ◌∷◌, map, length, sym, ap, subst, nat_le}
+use Rattle.std.proofs.Common.{◌⊎◌, inl, inr, length-append, true≢false}
 use Rattle.std.specs.List.{list_all}
 use Rattle.std.proofs.lemmas.Bool.{and_parts, or_cases, leb-true, eqb-true}
 use Rattle.fore_base.specs.Lists.{Every, Paired}
-use Rattle.fore_base.proofs.ListLemmas.{every_parts, paired_long, tests_every}
+use Rattle.fore_base.proofs.ListLemmas.{every_parts, paired_long}
 use Rattle.c_lexer.specs.Bytes.{is_letter, is_digit, is_word_byte, newline, underscore}
-use Rattle.fa_core.specs.Words.{IsLetter, IsDigit, IsWordByte, IsWord}
-use Rattle.fa_lines.specs.Pieces.{lines_of, longer, is_word}
+use Rattle.fa_core.specs.Words.{IsLetter, IsWordByte, IsWord}
+use Rattle.fa_lines.specs.Pieces.{lines_of, longer}
 use Rattle.fa_lines.specs.Says.{Says}
-use Rattle.fa_lines.specs.Spelling.{IsLine, IsName, IsTerm}
+use Rattle.fa_lines.specs.Spelling.{IsLine, IsName}
 use Rattle.fa_lines.specs.declared.line.Line.{Line}
 use Rattle.fa_lines.specs.declared.line.Line.TheVariants.{Skipped, Opens, Root, Rule, Ends}
 use Rattle.fa_written.specs.Drafts.{IsText, RefersWithin}
-use Rattle.fa_written.specs.Forms.{Numbered, put_before, numbered, rule_line, part_lines, parts_lines, head_line}
+use Rattle.fa_written.specs.Forms.{Numbered, put_before, numbered, rule_line, part_lines, parts_lines}
 use Rattle.fa_written.specs.Forms.{box_lines}
-use Rattle.fa_written.specs.Forms.{file_lines, HasPorts, IsForm}
+use Rattle.fa_written.specs.Forms.{file_lines, HasPorts}
 use Rattle.fa_written.specs.declared.draft.RuleDraft.{RuleDraft}
 use Rattle.fa_written.specs.declared.draft.PartDraft.{PartDraft}
 use Rattle.fa_written.specs.declared.draft.BoxDraft.{BoxDraft}
-use Rattle.fa_text.proofs.Fits.{map_long}
 use Rattle.fa_text.proofs.WellNamed.{AreTerms}
 
 -- Words

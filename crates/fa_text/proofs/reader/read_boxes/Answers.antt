@@ -1,4 +1,4 @@
-use Rattle.fa_text.proofs.Firsts.{Laws, only_table, only_first}
+use Rattle.fa_text.proofs.Firsts.{only_table, only_first}
 use Rattle.fa_text.proofs.reader.read_boxes.Goals as goal
 
 pub returns-clause-table : goal.returns-clause-table

@@ -1,7 +1,7 @@
 use Rattle.std.proofs.Common.{arith, ◌<◌, length, ap, sym}
 use Rattle.fa_written.specs.declared.draft.BoxDraft.{BoxDraft}
 use Rattle.fa_text.specs.inner.Next.{IsBroken}
-use Rattle.fa_text.proofs.Growing.{next_at, made_more, made_boxes, made_face, first_broken, passed}
+use Rattle.fa_text.proofs.Growing.{next_at, made_more, first_broken, passed}
 use Rattle.fa_text.proofs.tables.table_of.Goals as goal
 
 pub add_box-requires-clause-next : goal.add_box-requires-clause-next
