@@ -107,14 +107,17 @@ no_datum is = omega (arith, is.1.1.0.1)
 no_number : IsLine (Rule 0 (Ref 4294967296)) → ⊥
 no_number is = omega (arith, is.1)
 
--- Lines that are passed over, and a line that begins with a space.
+-- Lines that are passed over, and lines that begin with a space.
 
 passed_over : Says [] Skipped × Says (codes "# a box") Skipped
 passed_over = (tt, refl)
 
-flip : true ≡ false → ⊥
-flip e = grind arith
+blank_in_front : Says (codes " end") Ends
+unfolding is_gap is_word_byte is_letter is_digit
+blank_in_front = (tt, refl)
 
-no_blank : Says (codes " end") Ends → ⊥
-unfolding is_gap
-no_blank is = flip is.0
+blank_alone : Says (codes " ") Skipped → ⊥
+blank_alone is = omega (arith, is)
+
+blank_before_sign : Says (codes " # a box") Skipped → ⊥
+blank_before_sign is = omega (arith, is)

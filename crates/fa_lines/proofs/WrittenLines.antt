@@ -1,6 +1,6 @@
 -- Lines are read as they are written.
 use Rattle.std.proofs.Common.{arith, ℕ, Bool, true, false, List, [], ◌∷◌, ◌≡◌, ◌≢◌, ◌<◌, inl, inr, map}
-use Rattle.std.proofs.Common.{refl, sym, ap, ◌∙◌, subst, Option, Some, None, cond, codes, decimal, not, nat_eq, ◌&&◌}
+use Rattle.std.proofs.Common.{refl, sym, ap, ◌∙◌, subst, Option, Some, None, cond, codes, decimal, nat_eq, ◌&&◌}
 use Rattle.std.proofs.lemmas.Option.{none-some, same_Some}
 use Rattle.std.proofs.lemmas.Bool.{eqb-true}
 use Rattle.c_lexer.specs.Bytes.{is_gap, is_word_byte, is_letter, is_digit}
@@ -168,10 +168,6 @@ pieces_complete Ends other fit = refl
 
 -- Lines
 
-flipped : (b : Bool) → not b ≡ true → b ≡ false
-flipped true e = absurd (false_true e)
-flipped false e = refl
-
 e_none : {line : Line} → line_of_pieces [] ≡ Some line → None ≡ Some line
 unfolding line_of_pieces
 e_none e = e
@@ -188,16 +184,12 @@ first_not line (p ∷ ps) e none = absurd (spelled_some p ps line (pieces_sound 
 no_skip : (ps : Texts) → line_of_pieces ps ≡ Some Skipped → ⊥
 no_skip ps e = first_not Skipped ps e refl
 
-gap_not : (b : ℕ) → not (is_gap b) ≡ true → is_gap b ≡ false
-gap_not b e = flipped (is_gap b) e
-
-said_as : (b : ℕ) (bs : List ℕ) (line : Line) → is_gap b ≡ false → line_of_pieces (pieces (b ∷ bs)) ≡ Some line
-    → Says (b ∷ bs) line
-said_as b bs Skipped gap e = absurd (no_skip (pieces (b ∷ bs)) e)
-said_as b bs (Opens name input output) gap e = let s = pieces_sound (pieces (b ∷ bs)) _ e in (gap, s.0, s.1)
-said_as b bs (Root r qs) gap e = let s = pieces_sound (pieces (b ∷ bs)) _ e in (gap, s.0, s.1)
-said_as b bs (Rule q term) gap e = let s = pieces_sound (pieces (b ∷ bs)) _ e in (gap, s.0, s.1)
-said_as b bs Ends gap e = let s = pieces_sound (pieces (b ∷ bs)) _ e in (gap, s.0, s.1)
+said_as : (b : ℕ) (bs : List ℕ) (line : Line) → line_of_pieces (pieces (b ∷ bs)) ≡ Some line → Says (b ∷ bs) line
+said_as b bs Skipped e = absurd (no_skip (pieces (b ∷ bs)) e)
+said_as b bs (Opens name input output) e = let s = pieces_sound (pieces (b ∷ bs)) _ e in (s.0, s.1)
+said_as b bs (Root r qs) e = let s = pieces_sound (pieces (b ∷ bs)) _ e in (s.0, s.1)
+said_as b bs (Rule q term) e = let s = pieces_sound (pieces (b ∷ bs)) _ e in (s.0, s.1)
+said_as b bs Ends e = let s = pieces_sound (pieces (b ∷ bs)) _ e in (s.0, s.1)
 
 passed : (b : ℕ) (bs : List ℕ) (line : Line) → b ≡ 35 → Skipped ≡ line → Says (b ∷ bs) line
 passed b bs line is e = subst (Says (b ∷ bs)) e is
@@ -205,24 +197,21 @@ passed b bs line is e = subst (Says (b ∷ bs)) e is
 pub line_sound : (bytes : List ℕ) (line : Line) → line_of bytes ≡ Some line → Says bytes line
 unfolding line_of
 line_sound [] line e = subst (Says []) (same_Some Skipped line e) tt
-line_sound (b ∷ bs) line e = elim (chosen (nat_eq b 35) (Some Skipped) (guard (not (is_gap b)) (line_of_pieces (pieces (b ∷ bs)))) line e) [
+line_sound (b ∷ bs) line e = elim (chosen (nat_eq b 35) (Some Skipped) (line_of_pieces (pieces (b ∷ bs))) line e) [
   | inl h ↦ passed b bs line (eqb-true b 35 h.0) (same_Some Skipped line h.1)
-  | inr h ↦ let g = guarded (not (is_gap b)) (line_of_pieces (pieces (b ∷ bs))) line h.1 in
-      said_as b bs line (gap_not b g.0) g.1
+  | inr h ↦ said_as b bs line h.1
 ]
 
 -- what is said is read
 
-read_by : (sign gap : Bool) (ps : Texts) → sign ≡ false → gap ≡ false
-    → cond sign (Some Skipped) (guard (not gap) (line_of_pieces ps)) ≡ line_of_pieces ps
-read_by sign gap ps no_sign no_gap = rw (no_sign, no_gap) refl
+read_by : (sign : Bool) (ps : Texts) → sign ≡ false → cond sign (Some Skipped) (line_of_pieces ps) ≡ line_of_pieces ps
+read_by sign ps no_sign = rw no_sign refl
 
-flush_gap : (b : ℕ) (bs : List ℕ) → is_gap b ≡ false → (line : Line) → IsLine line → line ≢ Skipped
+no_sign_read : (b : ℕ) (bs : List ℕ) (line : Line) → IsLine line → line ≢ Skipped
     → pieces (b ∷ bs) ≡ line_pieces line → nat_eq b 35 ≡ false → line_of (b ∷ bs) ≡ Some line
 unfolding line_of
-flush_gap b bs gap line fit other spelled no_sign =
-    read_by (nat_eq b 35) (is_gap b) (pieces (b ∷ bs)) no_sign gap ∙ ap line_of_pieces spelled
-    ∙ pieces_complete line other fit
+no_sign_read b bs line fit other spelled no_sign =
+    read_by (nat_eq b 35) (pieces (b ∷ bs)) no_sign ∙ ap line_of_pieces spelled ∙ pieces_complete line other fit
 
 -- no line but a skipped one begins with a number sign
 sharp_front : (bs : List ℕ) → pieces (35 ∷ bs) ≡ (35 ∷ []) ∷ pieces bs
@@ -250,10 +239,18 @@ sign_by b bs line false told is = told
 sign_by b bs line true told is =
     absurd (no_sharp line (pieces bs) (sym (sharp_front bs) ∙ ap (λ c. pieces (c ∷ bs)) (sym (eqb-true b 35 told)) ∙ is))
 
+-- no piece stands in no bytes
+no_bytes : (line : Line) → line ≢ Skipped → [] ≡ line_pieces line → ⊥
+no_bytes Skipped other e = other refl
+no_bytes (Opens name input output) other e = cons_nil (codes "box") _ (sym e)
+no_bytes (Root r qs) other e = cons_nil (codes "root") _ (sym e)
+no_bytes (Rule q term) other e = cons_nil (state_text q) _ (sym e)
+no_bytes Ends other e = cons_nil (codes "end") _ (sym e)
+
 spelled_read : (bytes : List ℕ) (line : Line) → line ≢ Skipped → Spells bytes line → line_of bytes ≡ Some line
-spelled_read [] line other s = absurd s.0
+spelled_read [] line other s = absurd (no_bytes line other s.1)
 spelled_read (b ∷ bs) line other s =
-    flush_gap b bs s.0 line s.1 other s.2 (sign_by b bs line (nat_eq b 35) refl s.2)
+    no_sign_read b bs line s.0 other s.1 (sign_by b bs line (nat_eq b 35) refl s.1)
 
 passed_read : (bytes : List ℕ) → IsPassedOver bytes → line_of bytes ≡ Some Skipped
 unfolding line_of

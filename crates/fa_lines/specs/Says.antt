@@ -1,6 +1,5 @@
 -- What a line says.
-use Rattle.std.specs.Prelude.{◌≡◌, ℕ, false, List, [], ◌∷◌}
-use Rattle.c_lexer.specs.Bytes.{is_gap}
+use Rattle.std.specs.Prelude.{◌≡◌, ℕ, List, [], ◌∷◌}
 use Rattle.fa_lines.specs.Pieces.{pieces}
 use Rattle.fa_lines.specs.Spelling.{line_pieces, IsLine}
 use Rattle.fa_lines.specs.declared.line.Line.{Line}
@@ -11,14 +10,9 @@ abbrev pub IsPassedOver : List ℕ → Type 0
 IsPassedOver [] = Unit {0}
 IsPassedOver (b ∷ bs) = b ≡ 35
 
--- no space and no tab stands in front
-abbrev pub IsFlush : List ℕ → Type 0
-IsFlush [] = ⊥
-IsFlush (b ∷ bs) = is_gap b ≡ false
-
 -- the pieces of the bytes are those of the line
 abbrev pub Spells : List ℕ → Line → Type 0
-Spells bytes line = IsFlush bytes × IsLine line × (pieces bytes ≡ line_pieces line)
+Spells bytes line = IsLine line × (pieces bytes ≡ line_pieces line)
 
 -- the bytes of a line, without its newline, say this: at most one line is said
 abbrev pub Says : List ℕ → Line → Type 0

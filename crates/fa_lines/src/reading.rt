@@ -11,7 +11,6 @@ use crate::pieces::pieces;
 use crate::terms::term_of;
 use crate::texts::{is, is_word, number_of, state_of};
 use crate::unread::Unread;
-use c_lexer::bytes::is_gap;
 use fore_base::list::{Copies, List};
 use fore_base::memory::Mem;
 use fore_base::text::Text;
@@ -162,9 +161,6 @@ fn read_line(alloc: Global, bytes: &[u8]) -> Result<Line, Unread>
         [first, ..] => {
             if *first == b'#' {
                 return Ok(Line::Skipped);
-            }
-            if is_gap(*first) {
-                return Err(Unread::Other);
             }
             let pieces = pieces(alloc, bytes)?;
             said(alloc, pieces.as_slice())

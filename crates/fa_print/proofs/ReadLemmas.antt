@@ -349,10 +349,6 @@ line_is (Root r qs) = refl
 line_is (Rule q term) = refl
 line_is Ends = refl
 
-no_blank : (is_gap 98 ≡ false) × ((is_gap 114 ≡ false) × ((is_gap 115 ≡ false) × (is_gap 101 ≡ false)))
-unfolding is_gap
-no_blank = (refl, (refl, (refl, refl)))
-
 cut_output : (output : Option (List ℕ)) → IsOutput output → Cut (behind (output_pieces output)) (output_pieces output)
 cut_output None h = nothing
 cut_output (Some name) h =
@@ -385,10 +381,10 @@ cut_rule q t h =
 said : (l : Line) → IsLine l → Says (body (words_of l)) l × Every NoBreak (body (words_of l))
 said Skipped h = (tt, tt)
 said (Opens name input output) h =
-    let c = cut_opens name input output h in ((no_blank.0, h, c.0), c.1)
-said (Root r qs) h = let c = cut_root r qs h in ((no_blank.1.0, h, c.0), c.1)
-said (Rule q t) h = let c = cut_rule q t h in ((no_blank.1.1.0, h, c.0), c.1)
-said Ends h = let c = only (codes "end") literal_end in ((no_blank.1.1.1, h, c.0), c.1)
+    let c = cut_opens name input output h in ((h, c.0), c.1)
+said (Root r qs) h = let c = cut_root r qs h in ((h, c.0), c.1)
+said (Rule q t) h = let c = cut_rule q t h in ((h, c.0), c.1)
+said Ends h = let c = only (codes "end") literal_end in ((h, c.0), c.1)
 
 -- Texts of lines
 

@@ -91,32 +91,32 @@ dll_lines = Opens (codes "dll") (codes "node") (Some (codes "node")) ∷ Root 0 
 says_root : Says (codes "root 0 s0") (Root 0 (0 ∷ [])) × Says (codes "root 1 s0") (Root 1 (0 ∷ []))
 unfolding is_gap is_word_byte is_letter is_digit
 says_root = (
-  (refl, (omega arith, some_state, (omega arith, tt)), rw zero_digit refl),
-  (refl, (omega arith, some_state, (omega arith, tt)), rw (zero_digit, one_digit) refl),
+  ((omega arith, some_state, (omega arith, tt)), rw zero_digit refl),
+  ((omega arith, some_state, (omega arith, tt)), rw (zero_digit, one_digit) refl),
 )
 
 says_cell : Says (codes "s0 = node(next=s1)") (IsRule 0 (to_one (codes "next")))
     × Says (codes "s0 = node(prev=s1)") (IsRule 0 (to_one (codes "prev")))
 unfolding is_gap is_word_byte is_letter is_digit
 says_cell = (
-  (refl, (omega arith, (refl, tt, ((refl, omega arith), tt))), rw (zero_digit, one_digit) refl),
-  (refl, (omega arith, (refl, tt, ((refl, omega arith), tt))), rw (zero_digit, one_digit) refl),
+  ((omega arith, (refl, tt, ((refl, omega arith), tt))), rw (zero_digit, one_digit) refl),
+  ((omega arith, (refl, tt, ((refl, omega arith), tt))), rw (zero_digit, one_digit) refl),
 )
 
 says_ref : Says (codes "s1 = ref 1") (IsRule 1 (Ref 1)) × Says (codes "s1 = ref 0") (IsRule 1 (Ref 0))
 unfolding is_gap is_word_byte is_letter is_digit
 says_ref = (
-  (refl, (omega arith, omega arith), rw one_digit refl),
-  (refl, (omega arith, omega arith), rw (zero_digit, one_digit) refl),
+  ((omega arith, omega arith), rw one_digit refl),
+  ((omega arith, omega arith), rw (zero_digit, one_digit) refl),
 )
 
 says_end : Says (codes "end") Ends
 unfolding is_gap is_word_byte is_letter is_digit
-says_end = (refl, tt, refl)
+says_end = (tt, refl)
 
 says_box : Says (codes "box dll in node out node") (Opens (codes "dll") (codes "node") (Some (codes "node")))
 unfolding is_gap is_word_byte is_letter is_digit
-says_box = (refl, (refl, refl, refl), refl)
+says_box = ((refl, refl, refl), refl)
 
 dll_written : IsText dll_text (dll_draft ∷ [])
 dll_written = record {
@@ -163,7 +163,7 @@ bare_draft = record {
 
 says_bare : Says (codes "box b in node") (Opens (codes "b") (codes "node") None)
 unfolding is_gap is_word_byte is_letter is_digit
-says_bare = (refl, (refl, refl, tt), refl)
+says_bare = ((refl, refl, tt), refl)
 
 bare_written : IsText bare_text (bare_draft ∷ [])
 bare_written = record {

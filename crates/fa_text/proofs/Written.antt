@@ -66,10 +66,10 @@ MayBe p = IsLine p.1
 
 says_line : (bytes : List ℕ) (l : Line) → Says bytes l → IsLine l
 says_line bytes Skipped h = tt
-says_line bytes (Opens name input output) h = h.1
-says_line bytes (Root r qs) h = h.1
-says_line bytes (Rule q t) h = h.1
-says_line bytes Ends h = h.1
+says_line bytes (Opens name input output) h = h.0
+says_line bytes (Root r qs) h = h.0
+says_line bytes (Rule q t) h = h.0
+says_line bytes Ends h = h.0
 
 put_may : (n : ℕ) (l : Line) (xs : List Numbered) → IsLine l → Every MayBe xs → Every MayBe (put_before n l xs)
 put_may n Skipped xs h all = all

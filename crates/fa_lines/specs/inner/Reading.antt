@@ -200,7 +200,7 @@ line_of_pieces (a ∷ ps) = cond (is a (codes "box")) (box_of ps) (cond (is a (c
 
 unfoldable pub line_of : List ℕ → Option Line
 line_of [] = Some Skipped
-line_of (b ∷ bs) = cond (nat_eq b 35) (Some Skipped) (guard (not (is_gap b)) (line_of_pieces (pieces (b ∷ bs))))
+line_of (b ∷ bs) = cond (nat_eq b 35) (Some Skipped) (line_of_pieces (pieces (b ∷ bs)))
 
 -- how many bytes the first piece has, or the space or tab in front
 abbrev pub front_size : List ℕ → ℕ
