@@ -1,9 +1,9 @@
 -- The trees of a component that gains the slots of a port.
-use Rattle.std.proofs.Common.{◌≡◌, inl, inr, ℕ, ◌≤◌, ◌+◌, length, List, [], ◌∷◌, map, refl, sym, ap, subst}
-use Rattle.std.proofs.Common.{◌∙◌, arith}
+use Rattle.std.proofs.Common.{◌≡◌, inl, inr, ℕ, ◌<◌, ◌≤◌, ◌+◌, ◌&&◌, Bool, true, false, not, if◌then◌else◌, length}
+use Rattle.std.proofs.Common.{List, [], ◌∷◌, map, refl, sym, ap, subst, ◌∙◌, arith}
 use Rattle.fore_base.specs.Lists.{IsIn, Every, Paired}
 use Rattle.fore_base.specs.declared.store.Datum.{Datum}
-use Rattle.fore_base.proofs.ListLemmas.{every_in, every_append, in_left, in_right}
+use Rattle.fore_base.proofs.ListLemmas.{every_in, in_every, every_append, in_left, in_right}
 use Rattle.ta_core.specs.Arity.{arity}
 use Rattle.ta_core.specs.Auto.{Automaton, IsRanked, IsRankedRule}
 use Rattle.ta_core.specs.Joined.{shift, united}
@@ -14,26 +14,28 @@ use Rattle.ta_core.specs.declared.symbol.Slot.{Slot}
 use Rattle.ta_core.specs.declared.symbol.Symbol.{Symbol}
 use Rattle.ta_core.specs.declared.symbol.Symbol.TheVariants.{Null as NullSymbol, Uninit as UninitSymbol}
 use Rattle.ta_core.specs.declared.symbol.Symbol.TheVariants.{Dangling as DanglingSymbol, Ref, Cell}
-use Rattle.ta_core.specs.declared.tree.Tree.{out-roll-Tree}
-use Rattle.ta_core.proofs.Runs.{widened}
+use Rattle.ta_core.specs.declared.tree.Tree.{Tree, out-roll-Tree}
+use Rattle.ta_core.proofs.Runs.{along, widened}
 use Rattle.ta_core.proofs.Shifting.{left_run, right_run, run_shifted, united_proper}
 use Rattle.fa_core.specs.declared.faces.BoxFace.{BoxFace}
 use Rattle.fa_core.specs.declared.forest.Target.TheVariants.{Null, Uninit, Dangling, At}
 use Rattle.fa_core.specs.Dressed.{Parts, node}
 use Rattle.fa_core.specs.Folding.{symbol_slots}
 use Rattle.fa_core.specs.Member.{bare, bare_parts, slots_of}
+use Rattle.fa_core.specs.Ways.{has}
 use Rattle.fa_core.proofs.Dressing.{cell_is_no_leaf}
+use Rattle.fa_back.proofs.RootMarks.{in_has, in_flat}
 use Rattle.fa_split.proofs.FreshStates.{stay, widen, fresh_run, states_more, rules_more}
 use Rattle.fa_split.specs.Chosen.{chosen}
 use Rattle.fa_unfold.specs.Parts.{Part, listed}
 use Rattle.fa_unfold.specs.Slots.{Place, joined, state_places, rule_places, place_key, moved_place, with_slots}
 use Rattle.fa_unfold.specs.Slots.{with_places}
-use Rattle.fa_unfold.specs.Unfolding.{grown}
+use Rattle.fa_unfold.specs.Unfolding.{rules_below, child_states, below_tops, grown}
 use Rattle.fa_unfold.specs.inner.Trees.{unlisted, part_key}
 use Rattle.fa_unfold.proofs.Joins.{joined_paired, joined_apart, joined_every}
 use Rattle.fa_unfold.proofs.PlaceRuns.{PlaceOf, IsPlace, same_key, places_right, places_moved, places_wider, slots_in}
 use Rattle.fa_unfold.proofs.PlaceRuns.{states_in, places_again, places_apart, runs_places, places_runs, places_turned}
-use Rattle.fa_unfold.proofs.PlaceRuns.{places_lowered, places_raised, places_long, places_below}
+use Rattle.fa_unfold.proofs.PlaceRuns.{states_low, states_each, places_lowered, places_raised, places_long, places_below}
 
 -- A tree by a rule, slot by slot.
 
@@ -97,10 +99,74 @@ one_rule : (x y : Rule) → IsIn x (y ∷ []) → x ≡ y
 one_rule x y (inl e) = e
 one_rule x y (inr i) = absurd i
 
+-- What stands below the tops of a port's trees.
+
+module _ (roots children : List ℕ) where
+  below_in : (xs : List Rule) (o : Rule) → IsIn o (rules_below roots children xs) → IsIn o xs
+  below_in [] o i = absurd i
+  below_in (x ∷ xs) o i = here (has x.state roots && not (has x.state children)) i (below_in xs o)
+    where
+      here : (b : Bool) → IsIn o (if b then rules_below roots children xs else x ∷ rules_below roots children xs)
+          → (IsIn o (rules_below roots children xs) → IsIn o xs) → IsIn o (x ∷ xs)
+      here true j rec = inr (rec j)
+      here false (inl e) rec = inl e
+      here false (inr j) rec = inr (rec j)
+
+  in_below : (xs : List Rule) (o : Rule) → IsIn o xs → IsIn o.state children → IsIn o (rules_below roots children xs)
+  in_below [] o i c = absurd i
+  in_below (x ∷ xs) o (inl e) c =
+      let a : has x.state children ≡ true = in_has x.state children (subst (λ (w : Rule). IsIn w.state children) e c) in
+      let b : (has x.state roots && not (has x.state children)) ≡ false =
+      ap (λ (w : Bool). has x.state roots && not w) a ∙ and_false (has x.state roots) in
+      subst (λ (w : Bool). IsIn o (if w then rules_below roots children xs else x ∷ rules_below roots children xs))
+      (sym b) (inl e)
+    where
+      and_false : (w : Bool) → (w && false) ≡ false
+      and_false true = refl
+      and_false false = refl
+  in_below (x ∷ xs) o (inr i) c = here (has x.state roots && not (has x.state children)) (in_below xs o i c)
+    where
+      here : (b : Bool) → IsIn o (rules_below roots children xs)
+          → IsIn o (if b then rules_below roots children xs else x ∷ rules_below roots children xs)
+      here true k = k
+      here false k = inr k
+
+module _ (b : Automaton) (right : IsRanked b) where
+  abbrev below : Automaton
+  below = below_tops b
+
+  below_right : IsRanked below
+  below_right = (
+    right.0,
+    in_every (IsRankedRule b.states) below.rules
+        (λ o i. every_in (IsRankedRule b.states) b.rules o right.1 (below_in b.roots (child_states b.rules) b.rules o i)),
+  )
+
+  below_widened : (q : ℕ) (t : Tree) → RunOf below.rules q t → RunOf b.rules q t
+  below_widened q t w = widened below.rules b.rules (λ o i. below_in b.roots (child_states b.rules) b.rules o i) w
+
+  abbrev IsChildHere : ℕ → ℕ → Type 0
+  IsChildHere p q = (p ≡ q) × IsIn p (child_states b.rules)
+
+  children_here : (qs : List ℕ) → Every (λ q. IsIn q (child_states b.rules)) qs → Paired IsChildHere qs qs
+  children_here [] h = tt
+  children_here (q ∷ qs) h = ((refl, h.0), children_here qs h.1)
+
+  rule_children : (o : Rule) → IsIn o b.rules → Every (λ q. IsIn q (child_states b.rules)) o.children
+  rule_children o i = in_every (λ q. IsIn q (child_states b.rules)) o.children
+      (λ q j. in_flat (λ (r : Rule). r.children) b.rules o q i j)
+
+  -- the runs to the states of children stay
+  below_stays : (q : ℕ) (t : Tree) → IsIn q (child_states b.rules) → RunOf b.rules q t → RunOf below.rules q t
+  below_stays q t c w =
+      along b.rules below.rules IsChildHere
+      (λ o p ts i h k. (o, in_below b.roots (child_states b.rules) b.rules o i h.1, h.0, refl,
+      children_here o.children (rule_children o i))) q (refl, c) w
+
 module _ (bs : List BoxFace) (a : Automaton) (x : Rule) (base : List Place) (b : Automaton) (z : Rule)
     (left : IsRanked a) (right : IsRanked b) (rule : IsIn z b.rules) (places : Every (IsPlace a.states) base) where
   abbrev u : Automaton
-  u = united a b
+  u = united a (below_tops b)
 
   abbrev pub all : List Place
   all = joined (place_key bs) base (map (moved_place a.states) (rule_places z))
@@ -109,7 +175,7 @@ module _ (bs : List BoxFace) (a : Automaton) (x : Rule) (base : List Place) (b :
   fresh = record { state = u.states; symbol = (with_places x all).symbol; children = (with_places x all).children }
 
   ranked : IsRanked u
-  ranked = united_proper a b left right
+  ranked = united_proper a (below_tops b) left (below_right b right)
 
   behind : (o : Rule) → IsIn o (fresh ∷ []) → u.states ≤ o.state
   behind o i = let e = ap (λ (w : Rule). w.state) (one_rule o fresh i) in
@@ -165,8 +231,8 @@ module _ (bs : List BoxFace) (a : Automaton) (x : Rule) (base : List Place) (b :
       subst (λ (w : List Place). Paired (PlaceOf (RunOf (chosen u (with_places x all)).rules)) w (listed ps))
       (ap (λ (w : List Slot). state_places w (states_in all)) (sym cb.1) ∙ places_again u.states all all_right) p in
       let p2 : Paired (PlaceOf (RunOf u.rules)) all (listed ps) =
-      places_turned u.states (RunOf (chosen u (with_places x all)).rules) (RunOf u.rules)
-      (λ q t l w. stay u (fresh ∷ []) ranked behind q t l w) all (listed ps) all_right p1 in
+      places_turned (λ q. q < u.states) (RunOf (chosen u (with_places x all)).rules) (RunOf u.rules)
+      (λ q t l w. stay u (fresh ∷ []) ranked behind q t l w) all (listed ps) (states_low u.states all all_right) p1 in
       let j = joined_apart (PlaceOf (RunOf u.rules)) (place_key bs) (part_key bs) (same_key bs (RunOf u.rules)) base
       (map (moved_place a.states) (rule_places z)) (listed ps) p2 in
       record {
@@ -174,10 +240,11 @@ module _ (bs : List BoxFace) (a : Automaton) (x : Rule) (base : List Place) (b :
         own = j.0;
         gained = j.1;
         is = j.2;
-        runs = places_turned a.states (RunOf u.rules) (RunOf a.rules) (λ q t l w. left_run a b left l w) base j.0 places
-            j.3;
+        runs = places_turned (λ q. q < a.states) (RunOf u.rules) (RunOf a.rules)
+            (λ q t l w. left_run a (below_tops b) left l w) base j.0 (states_low a.states base places) j.3;
         more = places_lowered a.states (RunOf u.rules) (RunOf b.rules)
-            (λ q t w. right_run a b left q refl w) b.states (rule_places z) j.1 gained_right j.4;
+            (λ q t w. below_widened b right q t (right_run a (below_tops b) left q refl w)) b.states (rule_places z) j.1
+            gained_right j.4;
       }
 
   pub to_grown : (c s : ℕ) (ds : List Datum) (ks rs : List Part) → IsCellOf x.symbol s ds
@@ -186,16 +253,21 @@ module _ (bs : List BoxFace) (a : Automaton) (x : Rule) (base : List Place) (b :
   to_grown c s ds ks rs y h k =
       let rules = (chosen u (with_places x all)).rules in
       let w1 : Paired (PlaceOf (RunOf rules)) base ks =
-      places_turned a.states (RunOf a.rules) (RunOf rules)
+      places_turned (λ q. q < a.states) (RunOf a.rules) (RunOf rules)
       (λ q t l w. widen u (fresh ∷ []) ranked behind q t
-      (widened a.rules u.rules (λ o i. in_left o a.rules (map (renumbered (shift a.states)) b.rules) i) w)) base ks
-      places h in
+      (widened a.rules u.rules (λ o i. in_left o a.rules (map (renumbered (shift a.states)) (below_tops b).rules) i) w))
+      base ks (states_low a.states base places) h in
       let w2 : Paired (PlaceOf (RunOf rules)) (map (moved_place a.states) (rule_places z)) rs =
-      places_raised a.states (RunOf rules) (RunOf b.rules)
+      places_raised a.states (RunOf rules) (RunOf (below_tops b).rules)
       (λ q t w. widen u (fresh ∷ []) ranked behind (q + a.states) t
-      (widened (map (renumbered (shift a.states)) b.rules) u.rules
-      (λ o i. in_right o a.rules (map (renumbered (shift a.states)) b.rules) i) (run_shifted a.states b.rules w)))
-      (rule_places z) rs k in
+      (widened (map (renumbered (shift a.states)) (below_tops b).rules) u.rules
+      (λ o i. in_right o a.rules (map (renumbered (shift a.states)) (below_tops b).rules) i)
+      (run_shifted a.states (below_tops b).rules w)))
+      (rule_places z) rs
+      (places_turned (λ q. IsIn q (child_states b.rules)) (RunOf b.rules) (RunOf (below_tops b).rules)
+      (λ q t c w. below_stays b right q t c w) (rule_places z) rs
+      (states_each (λ q. IsIn q (child_states b.rules)) (symbol_slots z.symbol) z.children (rule_children b right z rule))
+      k) in
       let j = joined_paired (PlaceOf (RunOf rules)) (place_key bs) (part_key bs) (same_key bs (RunOf rules)) base
       (map (moved_place a.states) (rule_places z)) ks rs w1 w2 in
       let g = places_runs rules all (joined (part_key bs) ks rs) j in (

@@ -172,21 +172,37 @@ module _ (rules : List Rule) where
 
 -- Another relation of states and trees.
 
-module _ (n : ℕ) (R Q : ℕ → Tree → Type 0) (turn : (q : ℕ) (t : Tree) → q < n → R q t → Q q t) where
-  one_turned : (q : ℕ) (qs : List ℕ) (t : Tree) → qs ≡ q ∷ [] → Every (λ k. k < n) qs → R q t → Q q t
-  one_turned q qs t e h r = turn q t (subst (Every (λ k. k < n)) e h).0 r
+-- each state of the place meets P
+abbrev pub AllStates : (ℕ → Type 0) → Place → Type 0
+AllStates P x = Every P x.1
 
-  place_turned : (x : Place) (y : Part) → Every (λ k. k < n) x.1 → PlaceOf R x y → PlaceOf Q x y
+pub states_low : (n : ℕ) (xs : List Place) → Every (IsPlace n) xs → Every (AllStates (λ q. q < n)) xs
+states_low n [] h = tt
+states_low n (x ∷ xs) h = (h.0.1, states_low n xs h.1)
+
+pub states_each : (P : ℕ → Type 0) (ss : List Slot) (qs : List ℕ) → Every P qs → Every (AllStates P) (state_places ss qs)
+states_each P [] qs h = tt
+states_each P (Hook b ∷ ss) qs h = (tt, states_each P ss qs h)
+states_each P (Field f ∷ ss) [] h = tt
+states_each P (Field f ∷ ss) (q ∷ qs) h = ((h.0, tt), states_each P ss qs h.1)
+states_each P (Link b ∷ ss) [] h = tt
+states_each P (Link b ∷ ss) (q ∷ qs) h = ((h.0, tt), states_each P ss qs h.1)
+
+module _ (P : ℕ → Type 0) (R Q : ℕ → Tree → Type 0) (turn : (q : ℕ) (t : Tree) → P q → R q t → Q q t) where
+  one_turned : (q : ℕ) (qs : List ℕ) (t : Tree) → qs ≡ q ∷ [] → Every P qs → R q t → Q q t
+  one_turned q qs t e h r = turn q t (subst (Every P) e h).0 r
+
+  place_turned : (x : Place) (y : Part) → Every P x.1 → PlaceOf R x y → PlaceOf Q x y
   place_turned x (FieldPart f e) h r = (r.0, r.1, r.2, one_turned r.1 x.1 (bare_end e) r.2 h r.3)
   place_turned x (LinkPart b i e) h r = (r.0, r.1, r.2, one_turned r.1 x.1 (bare_end e) r.2 h r.3)
   place_turned x (HookPart b i) h r = r
 
-  pub places_turned : (xs : List Place) (ys : List Part) → Every (IsPlace n) xs → Paired (PlaceOf R) xs ys
+  pub places_turned : (xs : List Place) (ys : List Part) → Every (AllStates P) xs → Paired (PlaceOf R) xs ys
       → Paired (PlaceOf Q) xs ys
   places_turned [] [] h r = tt
   places_turned [] (y ∷ ys) h r = absurd r
   places_turned (x ∷ xs) [] h r = absurd r
-  places_turned (x ∷ xs) (y ∷ ys) h r = (place_turned x y h.0.1 r.0, places_turned xs ys h.1 r.1)
+  places_turned (x ∷ xs) (y ∷ ys) h r = (place_turned x y h.0 r.0, places_turned xs ys h.1 r.1)
 
 -- States with n added.
 

@@ -14,7 +14,7 @@ use Rattle.fa_core.specs.Dressed.{Nodes, node, no_parts, field, link, leaf, no_n
 use Rattle.fa_core.specs.Dressed.{SeenField, SeenLink}
 use Rattle.fa_unfold.specs.Opens.{IsCell, HasSlot, items, opened}
 use Rattle.fa_unfold.specs.Slots.{joined, without, state_places}
-use Rattle.fa_unfold.specs.Unfolding.{root_rules, have_no_slots, link_unfoldings, hook_unfoldings}
+use Rattle.fa_unfold.specs.Unfolding.{below_tops, root_rules, have_no_slots, link_unfoldings, hook_unfoldings}
 
 -- struct 0 has the pointer fields next (0), prev (1) and other (2); box 0 gives `next` at its input alone, box 1 `next`
 -- there and `prev` at its output, box 2 has no output
@@ -67,6 +67,15 @@ one_has_slots = refl
 none_has_slots : have_no_slots (rule 0 (cell []) [] ∷ rule 1 (cell []) [] ∷ []) ≡ true
 none_has_slots = refl
 
+-- the rule of a root state that is no child is left out, that of a root state that stands below a cell is kept
+tops_left_out : (below_tops to_output).rules ≡ rule 1 (Ref 1) [] ∷ []
+tops_left_out = refl
+
+tops_below_kept : (below_tops
+    (automaton 1 (0 ∷ []) (rule 0 (cell (Field 0 ∷ [])) (0 ∷ []) ∷ rule 0 (cell []) [] ∷ []))).rules
+    ≡ rule 0 (cell (Field 0 ∷ [])) (0 ∷ []) ∷ rule 0 (cell []) [] ∷ []
+tops_below_kept = refl
+
 -- A Link to another root, whose box gives nothing there: that root stays.
 
 abbrev end_root : Automaton
@@ -78,8 +87,7 @@ to_a_root : link_unfoldings faces
     0 0 (At 1) to_output no_slot []
     ≡ forest
     (automaton 5 (4 ∷ [])
-    (rule 0 (cell (Link 0 ∷ [])) (1 ∷ []) ∷ rule 1 (Ref 1) [] ∷ rule 2 (cell (Field 0 ∷ [])) (3 ∷ [])
-    ∷ rule 3 (Ref 1) [] ∷ rule 4 (cell (Field 0 ∷ [])) (3 ∷ []) ∷ [])
+    (rule 0 (cell (Link 0 ∷ [])) (1 ∷ []) ∷ rule 1 (Ref 1) [] ∷ rule 3 (Ref 1) [] ∷ rule 4 (cell (Field 0 ∷ [])) (3 ∷ []) ∷ [])
     ∷ end_root ∷ []) ∷ []
 to_a_root = refl
 
@@ -90,8 +98,7 @@ that_dangles : link_unfoldings faces
     0 0 DanglingTarget to_output no_slot []
     ≡ forest
     (automaton 5 (4 ∷ [])
-    (rule 0 (cell (Link 0 ∷ [])) (1 ∷ []) ∷ rule 1 Dangling [] ∷ rule 2 (cell (Field 0 ∷ [])) (3 ∷ [])
-    ∷ rule 3 Dangling [] ∷ rule 4 (cell (Field 0 ∷ [])) (3 ∷ []) ∷ [])
+    (rule 0 (cell (Link 0 ∷ [])) (1 ∷ []) ∷ rule 1 Dangling [] ∷ rule 3 Dangling [] ∷ rule 4 (cell (Field 0 ∷ [])) (3 ∷ []) ∷ [])
     ∷ []) ∷ []
 that_dangles = refl
 
@@ -105,10 +112,8 @@ to_itself : link_unfoldings faces
     ≡ forest
     (automaton 9 (8 ∷ [])
     (rule 0 (cell (Link 1 ∷ Field 2 ∷ [])) (1 ∷ 2 ∷ []) ∷ rule 1 (Ref 0) [] ∷ rule 2 Null []
-    ∷ rule 3 (cell (Field 0 ∷ [])) (4 ∷ []) ∷ rule 4 (Ref 0) []
-    ∷ rule 5 (cell (Field 0 ∷ Field 2 ∷ [])) (4 ∷ 2 ∷ [])
-    ∷ rule 6 (cell (Field 1 ∷ [])) (7 ∷ []) ∷ rule 7 (Ref 0) []
-    ∷ rule 8 (cell (Field 0 ∷ Field 1 ∷ Field 2 ∷ [])) (4 ∷ 7 ∷ 2 ∷ []) ∷ [])
+    ∷ rule 4 (Ref 0) [] ∷ rule 5 (cell (Field 0 ∷ Field 2 ∷ [])) (4 ∷ 2 ∷ [])
+    ∷ rule 7 (Ref 0) [] ∷ rule 8 (cell (Field 0 ∷ Field 1 ∷ Field 2 ∷ [])) (4 ∷ 7 ∷ 2 ∷ []) ∷ [])
     ∷ []) ∷ []
 to_itself = refl
 
@@ -120,8 +125,8 @@ with_an_inner_root : hook_unfoldings faces
     0 1 to_output (automaton 2 (0 ∷ []) (rule 0 (cell (Field 0 ∷ [])) (1 ∷ []) ∷ rule 1 (Ref 0) [] ∷ []) ∷ [])
     ≡ forest
     (automaton 5 (4 ∷ [])
-    (rule 0 (cell (Field 1 ∷ Hook 2 ∷ [])) (1 ∷ []) ∷ rule 1 Null [] ∷ rule 2 (cell (Field 0 ∷ [])) (3 ∷ [])
-    ∷ rule 3 (Ref 1) [] ∷ rule 4 (cell (Field 0 ∷ Field 1 ∷ [])) (3 ∷ 1 ∷ []) ∷ [])
+    (rule 0 (cell (Field 1 ∷ Hook 2 ∷ [])) (1 ∷ []) ∷ rule 1 Null [] ∷ rule 3 (Ref 1) []
+    ∷ rule 4 (cell (Field 0 ∷ Field 1 ∷ [])) (3 ∷ 1 ∷ []) ∷ [])
     ∷ automaton 2 (0 ∷ []) (rule 0 (cell (Field 0 ∷ [])) (1 ∷ []) ∷ rule 1 (Ref 0) [] ∷ []) ∷ []) ∷ []
 with_an_inner_root = refl
 

@@ -30,10 +30,24 @@ cell_rules qs (x ∷ xs) = if has x.state qs && not (is_leaf x.symbol) then x �
 abbrev pub root_rules : Automaton → List Rule
 root_rules a = cell_rules a.roots a.rules
 
+-- the rules, but those of root states that are no children: the top of a port's tree is no cell of its own
+abbrev pub rules_below : List ℕ → List ℕ → List Rule → List Rule
+rules_below roots children [] = []
+rules_below roots children (x ∷ xs) = if has x.state roots && not (has x.state children)
+    then rules_below roots children xs else x ∷ rules_below roots children xs
+
+-- the states of children
+abbrev pub child_states : List Rule → List ℕ
+child_states xs = flat_map (λ x. x.children) xs
+
+-- what stands below the tops of a port's trees
+abbrev pub below_tops : Automaton → Automaton
+below_tops b = record b { rules = rules_below b.roots (child_states b.rules) b.rules }
+
 -- the states of a, and behind them those of b; at the top the cell of rule x of a, with these of its slots and those of
 -- rule z of b, in the order of the least field that each covers, and no other
 abbrev pub grown : List BoxFace → Automaton → Rule → List Place → Automaton → Rule → Automaton
-grown bs a x ps b z = chosen (united a b)
+grown bs a x ps b z = chosen (united a (below_tops b))
     (with_places x (joined (place_key bs) ps (map (moved_place a.states) (rule_places z))))
 
 -- root i, of one rule, without the slot at place p, and with the slots of rule z of b
