@@ -9,6 +9,7 @@ use Rattle.ta_core.specs.Auto.{Automaton, IsRanked, IsRankedRule}
 use Rattle.ta_core.specs.Joined.{shift, united}
 use Rattle.ta_core.specs.Language.{RunOf, RunEach, run, InLanguage}
 use Rattle.ta_core.specs.Renumbered.{renumbered}
+use Rattle.ta_core.specs.Single.{HasOneTop}
 use Rattle.ta_core.specs.declared.auto.Rule.{Rule}
 use Rattle.ta_core.specs.declared.symbol.Slot.{Slot}
 use Rattle.ta_core.specs.declared.symbol.Symbol.{Symbol}
@@ -26,7 +27,8 @@ use Rattle.fa_core.specs.Ways.{has}
 use Rattle.fa_core.proofs.Dressing.{cell_is_no_leaf}
 use Rattle.fa_back.proofs.RootMarks.{in_has, in_flat}
 use Rattle.fa_split.proofs.FreshStates.{stay, widen, fresh_run, states_more, rules_more}
-use Rattle.fa_split.specs.Chosen.{chosen}
+use Rattle.fa_split.proofs.TopRules.{fresh_top_one}
+use Rattle.fa_split.specs.Chosen.{chosen, IsBy}
 use Rattle.fa_unfold.specs.Parts.{Part, listed}
 use Rattle.fa_unfold.specs.Slots.{Place, joined, state_places, rule_places, place_key, moved_place, with_slots}
 use Rattle.fa_unfold.specs.Slots.{with_places}
@@ -57,6 +59,13 @@ pub by_rule : (rules : List Rule) (x : Rule) (c s : ℕ) (ds : List Datum) (ps :
 by_rule rules x c s ds ps i y k =
     let o = out-roll-Tree (record { symbol = Cell s ds (slots_of ps); children = bare_parts ps }) in
     run x i refl (rw o y) (rw o k)
+
+pub top_by : (rules : List Rule) (x : Rule) (c s : ℕ) (ds : List Datum) (ps : Parts)
+    → x.symbol ≡ Cell s ds (slots_of ps) → RunEach rules x.children (bare_parts ps)
+    → IsBy rules x (bare (node c s ds ps))
+top_by rules x c s ds ps y k =
+    let o = out-roll-Tree (record { symbol = Cell s ds (slots_of ps); children = bare_parts ps }) in
+    (rw o y, rw o k)
 
 -- the slots of a tree by a rule
 pub rule_runs : (rules : List Rule) (x : Rule) (s : ℕ) (ds : List Datum) (ps : Parts)
@@ -202,6 +211,12 @@ module _ (bs : List BoxFace) (a : Automaton) (x : Rule) (base : List Place) (b :
           tt,
         ),
   )
+
+  -- it has one rule at the top
+  pub grown_one : HasOneTop (grown bs a x base b z)
+  grown_one = fresh_top_one u.states (u.states + 1) u.rules fresh [] refl
+      (in_every (λ (o : Rule). o.state < u.states) u.rules
+      (λ o i. (every_in (IsRankedRule u.states) u.rules o ranked.1 i).0)) tt
 
   -- the slots of a tree: some of the first automaton's, and some of the port's
   pub record Grown (s : ℕ) (ds : List Datum) (ys : List Part) : Type 0 where

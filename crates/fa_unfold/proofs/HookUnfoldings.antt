@@ -27,13 +27,14 @@ use Rattle.fa_back.specs.Reached.{node_at}
 use Rattle.fa_sound.specs.Components.{component_at}
 use Rattle.fa_split.specs.Split.{top_rule}
 use Rattle.fa_merge.proofs.OtherOrders.{count_trees}
+use Rattle.fa_split.proofs.ChosenForests.{picked_each, picked_all}
 use Rattle.fa_split.proofs.OtherComponent.{tree_at}
 use Rattle.fa_unfold.specs.Opens.{HasSlot}
 use Rattle.fa_unfold.specs.Outside.{outside_hook}
 use Rattle.fa_unfold.specs.Parts.{Part, HookPart, listed}
 use Rattle.fa_unfold.specs.Slots.{rule_places}
 use Rattle.fa_unfold.specs.Unfolded.{Unfolded, UnfoldsFrom, UnfoldsInto}
-use Rattle.fa_unfold.specs.Unfolding.{root_rules, open_root}
+use Rattle.fa_unfold.specs.Unfolding.{IsTop, AreHookTops, open_root}
 use Rattle.fa_unfold.specs.Unfolding.{with_inner, hook_unfoldings}
 use Rattle.fa_unfold.specs.inner.Trees.{joined_parts, parts_without, at_root, with_all}
 use Rattle.fa_unfold.specs.inner.Trees.{hook_opened}
@@ -42,7 +43,7 @@ use Rattle.fa_unfold.proofs.OpenedRoots.{top_run, opened_from, opened_to}
 use Rattle.fa_unfold.proofs.OpenedRoots.{inner_to, inner_from}
 use Rattle.fa_unfold.proofs.OpenedTrees.{opens_hook, hook_roots}
 use Rattle.fa_unfold.proofs.PlaceRuns.{PlaceOf}
-use Rattle.fa_unfold.proofs.PortTrees.{PartInside, insides_listed, port_from, port_to, cells_in}
+use Rattle.fa_unfold.proofs.PortTrees.{PartInside, insides_listed, port_from, port_to}
 use Rattle.fa_unfold.proofs.Joins.{item_paired}
 
 module _ (bs : List BoxFace) (T : List BoxDef) (F : Forest) (ranked : Every IsRanked F.autos)
@@ -61,7 +62,8 @@ module _ (bs : List BoxFace) (T : List BoxDef) (F : Forest) (ranked : Every IsRa
   -- A Hook.
 
   module _ (slot : slice_get (rule_places (top_rule a)) p ≡ Some (Hook b, [])) (input : Automaton)
-      (inner : List Automaton) (in_right : IsRanked input) (is : inside_of T b ≡ Some (input ∷ inner)) where
+      (inner : List Automaton) (in_right : IsRanked input) (is : inside_of T b ≡ Some (input ∷ inner))
+      (ins : List Rule) (are : AreHookTops F i input ins) where
     abbrev f : ℕ → Target
     f = outside_hook i n
 
@@ -71,8 +73,11 @@ module _ (bs : List BoxFace) (T : List BoxDef) (F : Forest) (ranked : Every IsRa
     first_right : IsRanked first
     first_right = placed_ranked f input in_right
 
-    rule_in : (z : Rule) → IsIn z (root_rules first) → IsIn z first.rules
-    rule_in z k = (cells_in first.roots first.rules z k).0
+    rule_in : (z : Rule) → IsIn z ins → IsIn z first.rules
+    rule_in z k = (picked_each (IsTop first) are z k).0
+
+    rule_top : (z : Rule) → IsIn z ins → IsTop first z
+    rule_top z k = (picked_each (IsTop first) are z k).1
 
     abbrev made : Rule → Forest
     made z = with_inner (map (placed_auto f) inner) (open_root bs F i p first z)
@@ -106,13 +111,13 @@ module _ (bs : List BoxFace) (T : List BoxDef) (F : Forest) (ranked : Every IsRa
         }
 
     -- each dressed forest of the list is one of F with the Hook replaced
-    pub hook_from : (G : Forest) → IsIn G (hook_unfoldings bs F i p input inner) → UnfoldsFrom T F i p G
+    pub hook_from : (G : Forest) → IsIn G (hook_unfoldings bs F i p input inner ins) → UnfoldsFrom T F i p G
     hook_from G k e h =
-        let m = in_mapped made G (root_rules first) k in
+        let m = in_mapped made G ins k in
         let v = inner_from T f inner (open_root bs F i p first m.0) e (subst (λ (x : Forest). OfForest T x e) m.2 h) in
         let x = opened_from bs T F ranked i p there one (Hook b, []) slot first first_right m.0 (rule_in m.0 m.1) v.0
         v.3 in
-        let w = port_from f T input in_right m.0 x.gained m.1 x.more x.outer in
+        let w = port_from f T input in_right m.0 x.gained (rule_in m.0 m.1) (rule_top m.0 m.1) x.more x.outer in
         let inside : Nodes = more (node w.cell w.shape w.datums w.parts) v.1 in
         let cl = x.closed (HookPart b inside) (refl, refl) (input ∷ inner, is, (w.tree, w.insides, v.4)) in
         let J : Parts → Nodes → Nodes = λ ps d. at_root (λ os. joined_parts bs os ps) i (at_root (parts_without p) i d) in
@@ -126,11 +131,11 @@ module _ (bs : List BoxFace) (T : List BoxDef) (F : Forest) (ranked : Every IsRa
         (cl.before, cl.of, subst (λ (d : Nodes). Unfolded F G i p cl.before d) s g)
 
     abbrev IntoHook : Nodes → Type 0
-    IntoHook d = (G : Forest) × IsIn G (hook_unfoldings bs F i p input inner)
+    IntoHook d = (G : Forest) × IsIn G (hook_unfoldings bs F i p input inner ins)
         × ((e : Nodes) × OfForest T G e × Unfolded F G i p d e)
 
     -- each dressed forest of F is, with the Hook replaced, one of some forest of the list
-    pub hook_into : UnfoldsInto T F i p (hook_unfoldings bs F i p input inner)
+    pub hook_into : UnfoldsInto T F i p (hook_unfoldings bs F i p input inner ins)
     hook_into d h = let t = tree_at T F.autos i d there h in at_top t.0 t.1
       where
         opened : (c s : ℕ) (ds : List Datum) (os : Parts) → node_at d i ≡ Some (node c s ds os) → (inside : Nodes)
@@ -138,14 +143,15 @@ module _ (bs : List BoxFace) (T : List BoxDef) (F : Forest) (ranked : Every IsRa
         opened c s ds os e no_nodes k u = absurd u
         opened c s ds os e (more (node c0 s0 ds0 ps) ns) k u =
             let z = port_to f T input in_right c0 s0 ds0 ps u.0 in
-            let o = opened_to bs T F ranked i p there one (Hook b, []) slot first first_right z.0 (rule_in z.0 z.1)
-            d h c s ds os e (placed_parts f ps) z.2
+            let k0 : IsIn z.0 ins = picked_all (IsTop first) are z.0 z.1 z.2 in
+            let o = opened_to bs T F ranked i p there one (Hook b, []) slot first first_right z.0 z.1
+            d h c s ds os e (placed_parts f ps) z.3
             (insides_listed T (placed_parts f ps) (insides_placed f T (node c0 s0 ds0 ps) u.1)) in
             let D : ℕ → Nodes = λ w. with_all
             (at_root (λ os. joined_parts bs os (placed_parts (outside_hook i w) ps)) i (at_root (parts_without p) i d))
             (placed_all (outside_hook i w) ns) in (
               made z.0,
-              in_map made z.0 (root_rules first) z.1,
+              in_map made z.0 ins k0,
               (
                 hook_opened bs i p ps ns d,
                 subst (λ (w : ℕ). OfForest T (made z.0) (D w)) (sym (long d h))

@@ -1,4 +1,6 @@
 -- The forests in which a Link is replaced have together the dressed forests with that Link replaced.
+use Rattle.std.proofs.Common.{◌≢◌, nat_eq, true≢false}
+use Rattle.std.proofs.lemmas.Bool.{eq-eqb, eqb-true}
 use Rattle.std.proofs.Common.{◌≡◌, ℕ, ◌<◌, Bool, true, false, if◌then◌else◌, length, List}
 use Rattle.std.proofs.Common.{[], ◌∷◌, map, refl, inl, inr, sym, ap, ap₂, subst, ◌∙◌, Some, slice_get}
 use Rattle.std.proofs.Common.{length-set}
@@ -34,22 +36,25 @@ use Rattle.fa_sound.specs.Components.{component_at}
 use Rattle.fa_split.specs.Split.{top_rule}
 use Rattle.fa_merge.proofs.OtherOrders.{count_trees}
 use Rattle.fa_split.proofs.Places.{end_is_leaf}
-use Rattle.fa_split.proofs.OtherComponent.{tree_at}
+use Rattle.fa_split.proofs.ChosenForests.{picked_each, picked_all}
+use Rattle.fa_split.proofs.OtherComponent.{tree_at, component_set, component_other}
+use Rattle.fa_split.proofs.TopRules.{top_in, top_root, top_alone}
 use Rattle.fa_unfold.specs.Opens.{HasSlot}
 use Rattle.fa_unfold.specs.Outside.{outside}
 use Rattle.fa_unfold.specs.Parts.{Part, LinkPart, listed}
 use Rattle.fa_unfold.specs.Slots.{without, rule_places}
 use Rattle.fa_unfold.specs.Unfolded.{Unfolded, IsEdgeAt, UnfoldsFrom, UnfoldsInto}
-use Rattle.fa_unfold.specs.Unfolding.{grown, root_rules, open_root, grow_root, grown_roots, is_bare, have_no_slots, with_end}
+use Rattle.fa_unfold.specs.Unfolding.{IsTop, Tops, AreLinkTops, grown, end_rules, open_root, grow_root, grown_roots}
+use Rattle.fa_unfold.specs.Unfolding.{is_bare, have_no_slots, with_end}
 use Rattle.fa_unfold.specs.Unfolding.{with_inner, link_unfoldings}
 use Rattle.fa_unfold.specs.inner.Trees.{joined_parts, parts_without, at_root, at_leaf, with_all, link_opened}
 use Rattle.fa_unfold.proofs.EdgeParts.{vars_stay, no_slots, none_listed, joined_none, is_link, is_cell_top}
-use Rattle.fa_unfold.proofs.GrownTrees.{grown_right}
+use Rattle.fa_unfold.proofs.GrownTrees.{grown_right, grown_one}
 use Rattle.fa_unfold.proofs.OpenedRoots.{top_run, opened_from, opened_to, grown_from}
 use Rattle.fa_unfold.proofs.OpenedRoots.{grown_to, inner_to, inner_from, component_has, base_right}
 use Rattle.fa_unfold.proofs.OpenedTrees.{opens_link, link_roots}
 use Rattle.fa_unfold.proofs.PlaceRuns.{PlaceOf}
-use Rattle.fa_unfold.proofs.PortTrees.{PartInside, insides_listed, port_from, port_to, cells_in}
+use Rattle.fa_unfold.proofs.PortTrees.{PartInside, insides_listed, port_from, port_to}
 use Rattle.fa_unfold.proofs.Joins.{item_paired}
 
 -- some tree of the component with insides of the table
@@ -75,7 +80,7 @@ module _ (bs : List BoxFace) (T : List BoxDef) (F : Forest) (ranked : Every IsRa
       (run : RunOf a.rules q (bare_end (leaf y))) (only : (t : Tree) → RunOf a.rules q t → t ≡ bare_end (leaf y))
       (names : IsRoot n y) (input output : Automaton) (inner : List Automaton) (in_right : IsRanked input)
       (out_right : IsRanked output) (is : inside_of T b ≡ Some (input ∷ output ∷ inner))
-      (some : IsDressable T output) where
+      (some : IsDressable T output) (tops : Tops) (are : AreLinkTops F i y input output tops) where
     abbrev f : ℕ → Target
     f = outside i y n
 
@@ -91,11 +96,17 @@ module _ (bs : List BoxFace) (T : List BoxDef) (F : Forest) (ranked : Every IsRa
     last_right : IsRanked last
     last_right = placed_ranked f output out_right
 
-    rule_in : (z : Rule) → IsIn z (root_rules first) → IsIn z first.rules
-    rule_in z k = (cells_in first.roots first.rules z k).0
+    rule_in : (z : Rule) → IsIn z tops.ins → IsIn z first.rules
+    rule_in z k = (picked_each (IsTop first) are.ins z k).0
 
-    last_rule : (z : Rule) → IsIn z (root_rules last) → IsIn z last.rules
-    last_rule z k = (cells_in last.roots last.rules z k).0
+    rule_top : (z : Rule) → IsIn z tops.ins → IsTop first z
+    rule_top z k = (picked_each (IsTop first) are.ins z k).1
+
+    last_rule : (z : Rule) → IsIn z tops.outs → IsIn z last.rules
+    last_rule z k = (picked_each (IsTop last) are.outs z k).0
+
+    last_top : (z : Rule) → IsIn z tops.outs → IsTop last z
+    last_top z k = (picked_each (IsTop last) are.outs z k).1
 
     -- the root has a box edge there
     link_edge : (c s : ℕ) (ds : List Datum) (os : Parts) (d : Nodes) (inside : Nodes)
@@ -162,44 +173,88 @@ module _ (bs : List BoxFace) (T : List BoxDef) (F : Forest) (ranked : Every IsRa
         }
 
     -- where the output has no slots, its tree has none
-    bare_tree : (c s : ℕ) (ds : List Datum) (ps : Parts) → have_no_slots (root_rules last) ≡ true
+    bare_tree : (c s : ℕ) (ds : List Datum) (ps : Parts) → have_no_slots tops.outs ≡ true
         → InLanguage output (bare (node c s ds ps)) → ps ≡ no_parts
     bare_tree c s ds ps e l =
         let z = port_to f T output out_right c s ds ps l in
         let w : slots_of (placed_parts f ps) ≡ slots_of ps = slots_placed f ps in
         none_listed ps
-        (subst (λ (v : List Slot). is_bare v ≡ true) (ap symbol_slots z.3 ∙ w) (no_slots (root_rules last) z.0 e z.1))
+        (subst (λ (v : List Slot). is_bare v ≡ true) (ap symbol_slots z.4 ∙ w) (no_slots tops.outs z.0 e (picked_all (IsTop last) are.outs z.0 z.1 z.2)))
 
-    ended_at : (F1 : Forest) → Every IsRanked F1.autos → length F1.autos ≡ n → (t : Target) → t ≡ y → (G : Forest)
-        → IsIn G (with_end bs F1 t last) → (e2 : Nodes) → OfForest T G e2
+    -- a forest whose roots but i are those of F, and whose root i has one rule
+    record IsOpenedAt (F1 : Forest) : Type 0 where
+      right : Every IsRanked F1.autos
+      size : length F1.autos ≡ n
+      top : HasOneTop (component_at F1.autos i)
+      other : (j : ℕ) → j ≢ i → component_at F1.autos j ≡ component_at F.autos j
+
+    -- a rule at the top of the end's root is one of root states, and they are all
+    end_rule : (F1 : Forest) → IsOpenedAt F1 → (j : ℕ) → y ≡ At j → (w : Rule)
+        → IsIn w (end_rules F1 i j tops.ends) → IsIn w (component_at F1.autos j).rules
+        × IsIn w.state (component_at F1.autos j).roots
+    end_rule F1 o j e w k = here (nat_eq i j) refl k
+      where
+        here : (v : Bool) → nat_eq i j ≡ v
+            → IsIn w (if v then top_rule (component_at F1.autos i) ∷ [] else tops.ends)
+            → IsIn w (component_at F1.autos j).rules × IsIn w.state (component_at F1.autos j).roots
+        here true t (inl s) =
+            let c = component_at F1.autos i in
+            subst (λ (x : ℕ). IsIn w (component_at F1.autos x).rules × IsIn w.state (component_at F1.autos x).roots)
+            (eqb-true i j t)
+            (subst (λ (x : Rule). IsIn x c.rules × IsIn x.state c.roots) (sym s) (top_in c o.top, top_root c o.top))
+        here true t (inr s) = absurd s
+        here false t s =
+            let z = picked_each (IsTop (component_at F.autos j)) (are.ends j e) w s in
+            let d : j ≢ i = λ x. true≢false (sym (eq-eqb i j (sym x)) ∙ t) in
+            subst (λ (c : Automaton). IsIn w c.rules × IsIn w.state c.roots) (sym (o.other j d)) (z.0, z.1.0.0)
+
+    rule_at_end : (F1 : Forest) → IsOpenedAt F1 → (j : ℕ) → y ≡ At j → (w : Rule)
+        → IsIn w (component_at F1.autos j).rules → IsTop (component_at F1.autos j) w
+        → IsIn w (end_rules F1 i j tops.ends)
+    rule_at_end F1 o j e w k s = here (nat_eq i j) refl
+      where
+        here : (v : Bool) → nat_eq i j ≡ v → IsIn w (if v then top_rule (component_at F1.autos i) ∷ [] else tops.ends)
+        here true t =
+            let q : j ≡ i = sym (eqb-true i j t) in
+            inl (top_alone (component_at F1.autos i) o.top w
+            (subst (λ (x : ℕ). IsIn w (component_at F1.autos x).rules) q k)
+            (subst (λ (x : ℕ). IsIn w.state (component_at F1.autos x).roots) q s.0.0))
+        here false t =
+            let d : j ≢ i = λ x. true≢false (sym (eq-eqb i j (sym x)) ∙ t) in
+            let q = o.other j d in
+            picked_all (IsTop (component_at F.autos j)) (are.ends j e) w (subst (λ (c : Automaton). IsIn w c.rules) q k)
+            (subst (λ (c : Automaton). IsTop c w) q s)
+
+    ended_at : (F1 : Forest) → IsOpenedAt F1 → (t : Target) → t ≡ y → (G : Forest)
+        → IsIn G (with_end bs F1 i t tops.ends last tops.outs) → (e2 : Nodes) → OfForest T G e2
         → (G.vars ≡ F1.vars) × (G.data_vars ≡ F1.data_vars) × IsEnded F1 e2
-    ended_at F1 r l Null e G (inl k) e2 h = (
+    ended_at F1 r Null e G (inl k) e2 h = (
       ap (λ (x : Forest). x.vars) k,
       ap (λ (x : Forest). x.data_vars) k,
       any_tree F1 e2 (subst (λ (x : Forest). OfForest T x e2) k h)
           (λ g. subst (λ (x : Target). at_leaf g x e2 ≡ e2) e refl),
     )
-    ended_at F1 r l Null e G (inr k) e2 h = absurd k
-    ended_at F1 r l Uninit e G (inl k) e2 h = (
+    ended_at F1 r Null e G (inr k) e2 h = absurd k
+    ended_at F1 r Uninit e G (inl k) e2 h = (
       ap (λ (x : Forest). x.vars) k,
       ap (λ (x : Forest). x.data_vars) k,
       any_tree F1 e2 (subst (λ (x : Forest). OfForest T x e2) k h)
           (λ g. subst (λ (x : Target). at_leaf g x e2 ≡ e2) e refl),
     )
-    ended_at F1 r l Uninit e G (inr k) e2 h = absurd k
-    ended_at F1 r l Dangling e G (inl k) e2 h = (
+    ended_at F1 r Uninit e G (inr k) e2 h = absurd k
+    ended_at F1 r Dangling e G (inl k) e2 h = (
       ap (λ (x : Forest). x.vars) k,
       ap (λ (x : Forest). x.data_vars) k,
       any_tree F1 e2 (subst (λ (x : Forest). OfForest T x e2) k h)
           (λ g. subst (λ (x : Target). at_leaf g x e2 ≡ e2) e refl),
     )
-    ended_at F1 r l Dangling e G (inr k) e2 h = absurd k
-    ended_at F1 r l (At j) e G k e2 h = here (have_no_slots (root_rules last)) refl k
+    ended_at F1 r Dangling e G (inr k) e2 h = absurd k
+    ended_at F1 r (At j) e G k e2 h = here (have_no_slots tops.outs) refl k
       where
         same_vars : G ≡ F1 → (G.vars ≡ F1.vars) × (G.data_vars ≡ F1.data_vars)
         same_vars w = (ap (λ (x : Forest). x.vars) w, ap (λ (x : Forest). x.data_vars) w)
 
-        bare_end_tree : have_no_slots (root_rules last) ≡ true → OfForest T F1 e2 → (m : Node)
+        bare_end_tree : have_no_slots tops.outs ≡ true → OfForest T F1 e2 → (m : Node)
             → InLanguage output (bare m) → InsidesOf T m → IsEnded F1 e2
         bare_end_tree z o (node c s ds ps) v u =
             let w : ps ≡ no_parts = bare_tree c s ds ps z v in
@@ -218,13 +273,14 @@ module _ (bs : List BoxFace) (T : List BoxDef) (F : Forest) (ranked : Every IsRa
             }
 
         j_there : j < length F1.autos
-        j_there = subst (λ (m : ℕ). j < m) (sym l) (names j (sym e))
+        j_there = subst (λ (m : ℕ). j < m) (sym r.size) (names j (sym e))
 
-        grown : (w : Rule) → IsIn w (root_rules (component_at F1.autos j)) → (z : Rule) → IsIn z (root_rules last)
+        grown_by : (w : Rule) → IsIn w (end_rules F1 i j tops.ends) → (z : Rule) → IsIn z tops.outs
             → OfForest T (grow_root bs F1 j last w z) e2 → IsEnded F1 e2
-        grown w iw z iz o =
-            let g = grown_from bs T F1 r j j_there last last_right z (last_rule z iz) w iw e2 o in
-            let t = port_from f T output out_right z g.gained iz g.more g.outer in
+        grown_by w iw z iz o =
+            let k = end_rule F1 r j (sym e) w iw in
+            let g = grown_from bs T F1 r.right j j_there last last_right z (last_rule z iz) w k.0 k.1 e2 o in
+            let t = port_from f T output out_right z g.gained (last_rule z iz) (last_top z iz) g.more g.outer in
             record {
               before = g.before;
               of = g.of;
@@ -239,57 +295,56 @@ module _ (bs : List BoxFace) (T : List BoxDef) (F : Forest) (ranked : Every IsRa
                   (subst (λ (x : Parts). at_root (λ os. joined_parts bs os x) j g.before ≡ e2) (sym t.is) g.opened);
             }
 
-        here : (c : Bool) → have_no_slots (root_rules last) ≡ c
-            → IsIn G (if c then F1 ∷ [] else grown_roots bs F1 j last)
+        here : (c : Bool) → have_no_slots tops.outs ≡ c
+            → IsIn G (if c then F1 ∷ [] else grown_roots bs F1 j (end_rules F1 i j tops.ends) last tops.outs)
             → (G.vars ≡ F1.vars) × (G.data_vars ≡ F1.data_vars) × IsEnded F1 e2
         here true z (inl w) =
             let v = same_vars w in
             (v.0, v.1, bare_end_tree z (subst (λ (x : Forest). OfForest T x e2) w h) some.0 some.1 some.2)
         here true z (inr w) = absurd w
         here false z w =
-            let m = flat_in (λ (v : Rule). map (grow_root bs F1 j last v) (root_rules last))
-            (root_rules (component_at F1.autos j)) G w in
-            let o = in_mapped (grow_root bs F1 j last m.0) G (root_rules last) m.2 in (
+            let m = flat_in (λ (v : Rule). map (grow_root bs F1 j last v) tops.outs) (end_rules F1 i j tops.ends) G w in
+            let o = in_mapped (grow_root bs F1 j last m.0) G tops.outs m.2 in (
               ap (λ (x : Forest). x.vars) o.2,
               ap (λ (x : Forest). x.data_vars) o.2,
-              grown m.0 m.1 o.0 o.1 (subst (λ (x : Forest). OfForest T x e2) o.2 h),
+              grown_by m.0 m.1 o.0 o.1 (subst (λ (x : Forest). OfForest T x e2) o.2 h),
             )
 
-    ended_to : (F1 : Forest) → Every IsRanked F1.autos → length F1.autos ≡ n → (t : Target) → t ≡ y → (d : Nodes)
+    ended_to : (F1 : Forest) → IsOpenedAt F1 → (t : Target) → t ≡ y → (d : Nodes)
         → OfForest T F1 d → (c s : ℕ) (ds : List Datum) (qs : Parts) → InLanguage output (bare (node c s ds qs))
-        → InsidesOfParts T qs → (G : Forest) × IsIn G (with_end bs F1 t last) × (G.vars ≡ F1.vars)
+        → InsidesOfParts T qs → (G : Forest) × IsIn G (with_end bs F1 i t tops.ends last tops.outs) × (G.vars ≡ F1.vars)
         × (G.data_vars ≡ F1.data_vars)
         × OfForest T G (at_leaf (λ os. joined_parts bs os (placed_parts f qs)) t d)
-    ended_to F1 r l Null e d h c s ds qs w k = (F1, inl refl, refl, refl, h)
-    ended_to F1 r l Uninit e d h c s ds qs w k = (F1, inl refl, refl, refl, h)
-    ended_to F1 r l Dangling e d h c s ds qs w k = (F1, inl refl, refl, refl, h)
-    ended_to F1 r l (At j) e d h c s ds qs w k = here (have_no_slots (root_rules last)) refl
+    ended_to F1 r Null e d h c s ds qs w k = (F1, inl refl, refl, refl, h)
+    ended_to F1 r Uninit e d h c s ds qs w k = (F1, inl refl, refl, refl, h)
+    ended_to F1 r Dangling e d h c s ds qs w k = (F1, inl refl, refl, refl, h)
+    ended_to F1 r (At j) e d h c s ds qs w k = here (have_no_slots tops.outs) refl
       where
         j_there : j < length F1.autos
-        j_there = subst (λ (m : ℕ). j < m) (sym l) (names j (sym e))
+        j_there = subst (λ (m : ℕ). j < m) (sym r.size) (names j (sym e))
 
-        unchanged : have_no_slots (root_rules last) ≡ true
+        unchanged : have_no_slots tops.outs ≡ true
             → OfForest T F1 (at_root (λ os. joined_parts bs os (placed_parts f qs)) j d)
         unchanged z =
             subst (λ (x : Parts). OfForest T F1 (at_root (λ os. joined_parts bs os (placed_parts f x)) j d))
             (sym (bare_tree c s ds qs z w)) (subst (λ (x : Nodes). OfForest T F1 x) (sym (joined_none bs j d)) h)
 
-        here : (v : Bool) → have_no_slots (root_rules last) ≡ v → (G : Forest)
-            × IsIn G (if v then F1 ∷ [] else grown_roots bs F1 j last) × (G.vars ≡ F1.vars)
+        here : (v : Bool) → have_no_slots tops.outs ≡ v → (G : Forest)
+            × IsIn G (if v then F1 ∷ [] else grown_roots bs F1 j (end_rules F1 i j tops.ends) last tops.outs) × (G.vars ≡ F1.vars)
             × (G.data_vars ≡ F1.data_vars)
             × OfForest T G (at_root (λ os. joined_parts bs os (placed_parts f qs)) j d)
         here true z = (F1, inl refl, refl, refl, unchanged z)
         here false z =
             let t = port_to f T output out_right c s ds qs w in
-            let g = grown_to bs T F1 r j j_there last last_right t.0 (last_rule t.0 t.1) d h (placed_parts f qs) t.2
+            let g = grown_to bs T F1 r.right j j_there last last_right t.0 t.1 d h (placed_parts f qs) t.3
             (insides_listed T (placed_parts f qs) (insides_placed f T (node c s ds qs) k)) in (
               grow_root bs F1 j last g.0 t.0,
-              in_flat (λ (x : Rule). map (grow_root bs F1 j last x) (root_rules last))
-                  (root_rules (component_at F1.autos j)) g.0 (grow_root bs F1 j last g.0 t.0) g.1
-                  (in_map (grow_root bs F1 j last g.0) t.0 (root_rules last) t.1),
+              in_flat (λ (x : Rule). map (grow_root bs F1 j last x) tops.outs) (end_rules F1 i j tops.ends) g.0
+                  (grow_root bs F1 j last g.0 t.0) (rule_at_end F1 r j (sym e) g.0 g.1 g.2)
+                  (in_map (grow_root bs F1 j last g.0) t.0 tops.outs (picked_all (IsTop last) are.outs t.0 t.1 t.2)),
               refl,
               refl,
-              g.2,
+              g.3,
             )
 
     -- the root without the Link, with the slots of the input
@@ -299,30 +354,42 @@ module _ (bs : List BoxFace) (T : List BoxDef) (F : Forest) (ranked : Every IsRa
     left : IsRanked a
     left = component_has IsRanked F.autos i there ranked
 
-    first_ranked : (z : Rule) → IsIn z (root_rules first) → Every IsRanked (first_forest z).autos
+    first_ranked : (z : Rule) → IsIn z first.rules → Every IsRanked (first_forest z).autos
     first_ranked z k =
         let y = is_cell_top (top_rule a).symbol (top_rule a).children p (Link b, q ∷ []) slot in
         every_set IsRanked F.autos i
         (grown bs a (top_rule a) (without p (rule_places (top_rule a))) first z) ranked
-        (grown_right bs a (top_rule a) (without p (rule_places (top_rule a))) first z left first_right (rule_in z k)
-        (base_right bs T F ranked i p there one (Link b, q ∷ []) slot first first_right z (rule_in z k)) y.0 y.1 y.2)
+        (grown_right bs a (top_rule a) (without p (rule_places (top_rule a))) first z left first_right k
+        (base_right bs T F ranked i p there one (Link b, q ∷ []) slot first first_right z k) y.0 y.1 y.2)
 
     first_long : (z : Rule) → length (first_forest z).autos ≡ n
     first_long z = length-set F.autos i (grown bs a (top_rule a) (without p (rule_places (top_rule a))) first z)
 
+    first_opened : (z : Rule) → IsIn z first.rules → IsOpenedAt (first_forest z)
+    first_opened z k =
+        let g = grown bs a (top_rule a) (without p (rule_places (top_rule a))) first z in
+        record {
+          right = first_ranked z k;
+          size = first_long z;
+          top = subst (λ (c : Automaton). HasOneTop c) (sym (component_set F.autos i g there))
+              (grown_one bs a (top_rule a) (without p (rule_places (top_rule a))) first z left first_right k
+              (base_right bs T F ranked i p there one (Link b, q ∷ []) slot first first_right z k));
+          other = λ j d. component_other F.autos i j g d;
+        }
+
     abbrev ends_of : Rule → List Forest
-    ends_of z = map (with_inner (map (placed_auto f) inner)) (with_end bs (first_forest z) y last)
+    ends_of z = map (with_inner (map (placed_auto f) inner)) (with_end bs (first_forest z) i y tops.ends last tops.outs)
 
     -- each dressed forest of the list is one of F with the Link replaced
-    pub link_from : (G : Forest) → IsIn G (link_unfoldings bs F i p y input output inner) → UnfoldsFrom T F i p G
+    pub link_from : (G : Forest) → IsIn G (link_unfoldings bs F i p y input output inner tops) → UnfoldsFrom T F i p G
     link_from G k e h =
-        let m = flat_in ends_of (root_rules first) G k in
-        let o = in_mapped (with_inner (map (placed_auto f) inner)) G (with_end bs (first_forest m.0) y last) m.2 in
+        let m = flat_in ends_of tops.ins G k in
+        let o = in_mapped (with_inner (map (placed_auto f) inner)) G (with_end bs (first_forest m.0) i y tops.ends last tops.outs) m.2 in
         let v = inner_from T f inner o.0 e (subst (λ (x : Forest). OfForest T x e) o.2 h) in
-        let t = ended_at (first_forest m.0) (first_ranked m.0 m.1) (first_long m.0) y refl o.0 o.1 v.0 v.3 in
+        let t = ended_at (first_forest m.0) (first_opened m.0 (rule_in m.0 m.1)) y refl o.0 o.1 v.0 v.3 in
         let x = opened_from bs T F ranked i p there one (Link b, q ∷ []) slot first first_right m.0 (rule_in m.0 m.1)
         t.2.before t.2.of in
-        let w = port_from f T input in_right m.0 x.gained m.1 x.more x.outer in
+        let w = port_from f T input in_right m.0 x.gained (rule_in m.0 m.1) (rule_top m.0 m.1) x.more x.outer in
         let inside : Nodes = more (node w.cell w.shape w.datums w.parts)
         (more (node t.2.cell t.2.shape t.2.datums t.2.parts) v.1) in
         let cl = x.closed (LinkPart b inside (leaf y)) (refl, q, refl, run)
@@ -344,11 +411,11 @@ module _ (bs : List BoxFace) (T : List BoxDef) (F : Forest) (ranked : Every IsRa
         (cl.before, cl.of, subst (λ (d : Nodes). Unfolded F G i p cl.before d) s g)
 
     abbrev IntoLink : Nodes → Type 0
-    IntoLink d = (G : Forest) × IsIn G (link_unfoldings bs F i p y input output inner)
+    IntoLink d = (G : Forest) × IsIn G (link_unfoldings bs F i p y input output inner tops)
         × ((e : Nodes) × OfForest T G e × Unfolded F G i p d e)
 
     -- each dressed forest of F is, with the Link replaced, one of some forest of the list
-    pub link_into : UnfoldsInto T F i p (link_unfoldings bs F i p y input output inner)
+    pub link_into : UnfoldsInto T F i p (link_unfoldings bs F i p y input output inner tops)
     link_into d h = let t = tree_at T F.autos i d there h in at_top t.0 t.1
       where
         opened : (c s : ℕ) (ds : List Datum) (os : Parts) → node_at d i ≡ Some (node c s ds os) → (inside : Nodes)
@@ -358,10 +425,10 @@ module _ (bs : List BoxFace) (T : List BoxDef) (F : Forest) (ranked : Every IsRa
         opened c s ds os e (more m no_nodes) k u = absurd u.2
         opened c s ds os e (more (node c0 s0 ds0 ps) (more (node c1 s1 ds1 qs) ns)) k u =
             let z = port_to f T input in_right c0 s0 ds0 ps u.0 in
-            let o = opened_to bs T F ranked i p there one (Link b, q ∷ []) slot first first_right z.0 (rule_in z.0 z.1)
-            d h c s ds os e (placed_parts f ps) z.2
+            let o = opened_to bs T F ranked i p there one (Link b, q ∷ []) slot first first_right z.0 z.1
+            d h c s ds os e (placed_parts f ps) z.3
             (insides_listed T (placed_parts f ps) (insides_placed f T (node c0 s0 ds0 ps) u.1)) in
-            let t = ended_to (first_forest z.0) (first_ranked z.0 z.1) (first_long z.0) y refl
+            let t = ended_to (first_forest z.0) (first_opened z.0 z.1) y refl
             (at_root (λ x. joined_parts bs x (placed_parts f ps)) i (at_root (parts_without p) i d)) o c1 s1 ds1 qs
             u.2.0 u.2.1 in
             let G : Forest = with_inner (map (placed_auto f) inner) t.0 in
@@ -370,8 +437,8 @@ module _ (bs : List BoxFace) (T : List BoxDef) (F : Forest) (ranked : Every IsRa
             (at_root (λ os. joined_parts bs os (placed_parts (outside i y w) ps)) i (at_root (parts_without p) i d)))
             (placed_all (outside i y w) ns) in (
               G,
-              in_flat ends_of (root_rules first) z.0 G z.1
-                  (in_map (with_inner (map (placed_auto f) inner)) t.0 (with_end bs (first_forest z.0) y last) t.1),
+              in_flat ends_of tops.ins z.0 G (picked_all (IsTop first) are.ins z.0 z.1 z.2)
+                  (in_map (with_inner (map (placed_auto f) inner)) t.0 (with_end bs (first_forest z.0) i y tops.ends last tops.outs) t.1),
               (
                 link_opened bs i p y ps qs ns d,
                 subst (λ (w : ℕ). OfForest T G (D w)) (sym (long d h))

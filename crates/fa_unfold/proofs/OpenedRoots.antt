@@ -28,14 +28,14 @@ use Rattle.fa_split.proofs.Places.{node_set, node_same}
 use Rattle.fa_split.proofs.TopRules.{top_in, top_root, top_alone}
 use Rattle.fa_unfold.specs.Parts.{Part, listed}
 use Rattle.fa_unfold.specs.Slots.{Place, joined, without, rule_places}
-use Rattle.fa_unfold.specs.Unfolding.{root_rules, open_root, grow_root, with_inner}
+use Rattle.fa_unfold.specs.Unfolding.{IsTop, open_root, grow_root, with_inner}
 use Rattle.fa_unfold.specs.inner.Trees.{unlisted, part_key, joined_parts, parts_without, on_slots, at_root, with_all}
 use Rattle.fa_unfold.proofs.GrownRoots.{at_set, set_at, lists_joined, IsGrownAt, grown_at, set_from, set_to}
-use Rattle.fa_unfold.proofs.GrownTrees.{IsCellOf, top_rule_of, rule_runs}
+use Rattle.fa_unfold.proofs.GrownTrees.{IsCellOf, top_rule_of, top_by, rule_runs}
 use Rattle.fa_unfold.proofs.Joins.{put_at, put_back, without_paired}
 use Rattle.fa_unfold.proofs.PartItems.{unlisted_again}
 use Rattle.fa_unfold.proofs.PlaceRuns.{PlaceOf, IsPlace, places_right, without_every}
-use Rattle.fa_unfold.proofs.PortTrees.{PartInside, insides_listed, cells_in, in_cells}
+use Rattle.fa_unfold.proofs.PortTrees.{PartInside, insides_listed}
 
 pub component_has : (P : Automaton → Type 0) (autos : List Automaton) (r : ℕ) → r < length autos → Every P autos
     → P (component_at autos r)
@@ -57,7 +57,8 @@ module _ (bs : List BoxFace) (T : List BoxDef) (F : Forest) (ranked : Every IsRa
   -- the tree of a root, slot by slot
   record RootRun (r c s : ℕ) (ds : List Datum) (os : Parts) : Type 0 where
     rule : Rule
-    top : IsIn rule (root_rules (component_at F.autos r))
+    there : IsIn rule (component_at F.autos r).rules
+    top : IsTop (component_at F.autos r) rule
     is_cell : IsCellOf rule.symbol s ds
     runs : Paired (PlaceOf (RunOf (component_at F.autos r).rules)) (rule_places rule) (listed os)
     insides : Every (PartInside T) (listed os)
@@ -77,7 +78,8 @@ module _ (bs : List BoxFace) (T : List BoxDef) (F : Forest) (ranked : Every IsRa
           let x = top_rule_of a.rules q c s ds os w in
           record {
             rule = x.0;
-            top = in_cells a.roots a.rules x.0 x.1 (subst (λ (k : ℕ). IsIn k a.roots) (sym x.2) i) (ap is_leaf x.3);
+            there = x.1;
+            top = ((subst (λ (k : ℕ). IsIn k a.roots) (sym x.2) i, (bare (node c s ds os), top_by a.rules x.0 c s ds os x.3 x.4)), ap is_leaf x.3);
             is_cell = (_, x.3);
             runs = rule_runs a.rules x.0 s ds os x.3 x.4;
             insides = insides_listed T os v;
@@ -102,8 +104,7 @@ module _ (bs : List BoxFace) (T : List BoxDef) (F : Forest) (ranked : Every IsRa
         × Paired (PlaceOf (RunOf a.rules)) (rule_places top) (listed os) × Every (PartInside T) (listed os)
     top_run d h c s ds os e =
         let k = root_run i there d h c s ds os e in
-        let o = cells_in a.roots a.rules k.rule k.top in
-        let w : k.rule ≡ top = top_alone a one k.rule o.0 o.1 in (
+        let w : k.rule ≡ top = top_alone a one k.rule k.there k.top.0.0 in (
           subst (λ (x : Rule). IsCellOf x.symbol s ds) w k.is_cell,
           subst (λ (x : Rule). Paired (PlaceOf (RunOf a.rules)) (rule_places x) (listed os)) w k.runs,
           k.insides,
@@ -203,11 +204,10 @@ module _ (bs : List BoxFace) (T : List BoxDef) (F : Forest) (ranked : Every IsRa
       pub of : OfForest T F before
       pub opened : at_root (λ os. joined_parts bs os (unlisted gained)) j before ≡ e
 
-    pub grown_from : (w : Rule) → IsIn w (root_rules c0) → (e : Nodes) → OfForest T (grow_root bs F j b w z) e
+    pub grown_from : (w : Rule) → IsIn w c0.rules → IsIn w.state c0.roots → (e : Nodes) → OfForest T (grow_root bs F j b w z) e
         → IsGrownFrom e
-    grown_from w iw e h =
-        let o = cells_in c0.roots c0.rules w iw in
-        let r = rule_right c0 w held o.0 in
+    grown_from w iw jw e h =
+        let r = rule_right c0 w held iw in
         let g = grown_at bs T F j there w (rule_places w) b z held right rule r e h in
         let n : Node = node g.cell g.shape g.datums (unlisted g.own) in
         let J : Parts → Parts = λ os. joined_parts bs os (unlisted g.gained) in
@@ -216,7 +216,7 @@ module _ (bs : List BoxFace) (T : List BoxDef) (F : Forest) (ranked : Every IsRa
           more = g.more;
           outer = g.outer;
           before = set_node j n e;
-          of = set_from bs T F j there w (rule_places w) b z held right rule r e h g.cell g.shape g.datums g.own o.0 o.1
+          of = set_from bs T F j there w (rule_places w) b z held right rule r e h g.cell g.shape g.datums g.own iw jw
               g.is_cell g.runs g.inner;
           opened = set_at J j e _ n g.at
               ∙ ap (λ (v : Parts). set_node j (node g.cell g.shape g.datums v) e) (lists_joined bs g.own g.gained)
@@ -225,17 +225,17 @@ module _ (bs : List BoxFace) (T : List BoxDef) (F : Forest) (ranked : Every IsRa
 
     pub grown_to : (d : Nodes) → OfForest T F d → (qs : Parts)
         → Paired (PlaceOf (RunOf b.rules)) (rule_places z) (listed qs) → Every (PartInside T) (listed qs)
-        → (w : Rule) × IsIn w (root_rules c0)
+        → (w : Rule) × IsIn w c0.rules × IsTop c0 w
         × OfForest T (grow_root bs F j b w z) (at_root (λ x. joined_parts bs x qs) j d)
     grown_to d h qs w k = let t = tree_at T F.autos j d there h in told t.0 t.1
       where
-        told : (n : Node) → node_at d j ≡ Some n → (w : Rule) × IsIn w (root_rules c0)
+        told : (n : Node) → node_at d j ≡ Some n → (w : Rule) × IsIn w c0.rules × IsTop c0 w
             × OfForest T (grow_root bs F j b w z) (at_root (λ x. joined_parts bs x qs) j d)
         told (node c s ds os) e =
             let t = root_run j there d h c s ds os e in
-            let o = cells_in c0.roots c0.rules t.rule t.top in
-            let r = rule_right c0 t.rule held o.0 in (
+            let r = rule_right c0 t.rule held t.there in (
               t.rule,
+              t.there,
               t.top,
               subst (λ (v : Nodes). OfForest T (grow_root bs F j b t.rule z) v)
                   (sym (at_set (λ x. joined_parts bs x qs) j d (node c s ds os) e))

@@ -22,13 +22,13 @@ use Rattle.fa_core.proofs.Placing.{in_placed, from_placed, placed_ranked}
 use Rattle.fa_back.proofs.RootMarks.{in_has, has_in}
 use Rattle.fa_unfold.specs.Parts.{Part, FieldPart, LinkPart, HookPart, listed}
 use Rattle.fa_unfold.specs.Slots.{joined, rule_places}
-use Rattle.fa_unfold.specs.Unfolding.{cell_rules, root_rules}
+use Rattle.fa_unfold.specs.Unfolding.{IsTop}
 use Rattle.fa_unfold.specs.inner.Trees.{unlisted}
-use Rattle.fa_unfold.proofs.GrownTrees.{IsCellOf, top_rule_of, rule_runs, run_by_places}
+use Rattle.fa_unfold.proofs.GrownTrees.{IsCellOf, top_rule_of, top_by, rule_runs, run_by_places}
 use Rattle.fa_unfold.proofs.Joins.{joined_same}
 use Rattle.fa_unfold.proofs.PlaceRuns.{PlaceOf}
 
--- Rules of cells at root states.
+-- Rules of cells.
 
 pub is_cell : (y : Symbol) → is_leaf y ≡ false → (s : ℕ) × (ds : List Datum) × IsCellOf y s ds
 is_cell NullSymbol e = absurd (true≢false e)
@@ -39,47 +39,6 @@ is_cell (Cell s ds ss) e = (s, ds, (ss, refl))
 
 cell_is : (y : Symbol) (s : ℕ) (ds : List Datum) → IsCellOf y s ds → is_leaf y ≡ false
 cell_is y s ds h = ap is_leaf h.1
-
-both_true : (a b : Bool) → (a && not b) ≡ true → (a ≡ true) × (b ≡ false)
-both_true true true e = absurd (true≢false (sym e))
-both_true true false e = (refl, refl)
-both_true false b e = absurd (true≢false (sym e))
-
-module _ (qs : List ℕ) where
-  pub cells_in : (xs : List Rule) (x : Rule) → IsIn x (cell_rules qs xs) → IsIn x xs × IsIn x.state qs
-      × (is_leaf x.symbol ≡ false)
-  cells_in [] x i = absurd i
-  cells_in (o ∷ xs) x i = here (has o.state qs && not (is_leaf o.symbol)) refl i (cells_in xs x)
-    where
-      first : (has o.state qs && not (is_leaf o.symbol)) ≡ true → x ≡ o
-          → IsIn x (o ∷ xs) × IsIn x.state qs × (is_leaf x.symbol ≡ false)
-      first e w =
-          let k = both_true (has o.state qs) (is_leaf o.symbol) e in (
-            inl w,
-            subst (λ (z : Rule). IsIn z.state qs) (sym w) (has_in o.state qs k.0),
-            subst (λ (z : Rule). is_leaf z.symbol ≡ false) (sym w) k.1,
-          )
-
-      here : (b : Bool) → (has o.state qs && not (is_leaf o.symbol)) ≡ b
-          → IsIn x (if b then o ∷ cell_rules qs xs else cell_rules qs xs)
-          → (IsIn x (cell_rules qs xs) → IsIn x xs × IsIn x.state qs × (is_leaf x.symbol ≡ false))
-          → IsIn x (o ∷ xs) × IsIn x.state qs × (is_leaf x.symbol ≡ false)
-      here true e (inl w) rec = first e w
-      here true e (inr j) rec = let k = rec j in (inr k.0, k.1, k.2)
-      here false e j rec = let k = rec j in (inr k.0, k.1, k.2)
-
-  pub in_cells : (xs : List Rule) (x : Rule) → IsIn x xs → IsIn x.state qs → is_leaf x.symbol ≡ false
-      → IsIn x (cell_rules qs xs)
-  in_cells [] x i j e = absurd i
-  in_cells (o ∷ xs) x (inl w) j e =
-      let a : has o.state qs ≡ true = in_has o.state qs (subst (λ (z : Rule). IsIn z.state qs) w j) in
-      let b : is_leaf o.symbol ≡ false = subst (λ (z : Rule). is_leaf z.symbol ≡ false) w e in
-      rw (a, b) (inl w)
-  in_cells (o ∷ xs) x (inr i) j e = here (has o.state qs && not (is_leaf o.symbol)) (in_cells xs x i j e)
-    where
-      here : (b : Bool) → IsIn x (cell_rules qs xs) → IsIn x (if b then o ∷ cell_rules qs xs else cell_rules qs xs)
-      here true k = inr k
-      here false k = k
 
 -- Insides of slots.
 
@@ -132,14 +91,13 @@ module _ (f : ℕ → Target) (T : List BoxDef) (b : Automaton) (ranked : IsRank
     pub insides : InsidesOfParts T parts
     pub is : placed_parts f parts ≡ unlisted gained
 
-  pub port_from : (z : Rule) (gained : List Part) → IsIn z (root_rules port)
+  pub port_from : (z : Rule) (gained : List Part) → IsIn z port.rules → IsTop port z
       → Paired (PlaceOf (RunOf port.rules)) (rule_places z) gained → Every (PartInside T) gained → IsPortTree gained
-  port_from z gained i h k =
-      let o = cells_in port.roots port.rules z i in
-      let y = is_cell z.symbol o.2 in
-      let r = run_by_places port.rules port.states z 0 y.0 y.1 gained o.0
-      (every_in (IsRankedRule port.states) port.rules z (placed_ranked f b ranked).1 o.0) y.2 h in
-      let m = from_placed f T b (node 0 y.0 y.1 (unlisted gained)) (z.state, o.1, r) (insides_unlisted T gained k) in
+  port_from z gained i o h k =
+      let y = is_cell z.symbol o.1 in
+      let r = run_by_places port.rules port.states z 0 y.0 y.1 gained i
+      (every_in (IsRankedRule port.states) port.rules z (placed_ranked f b ranked).1 i) y.2 h in
+      let m = from_placed f T b (node 0 y.0 y.1 (unlisted gained)) (z.state, o.0.0, r) (insides_unlisted T gained k) in
       told m.0 m.2 m.3 y.0 y.1 m.1
     where
       told : (n : Node) → InLanguage b (bare n) → InsidesOf T n → (s : ℕ) (ds : List Datum)
@@ -148,14 +106,20 @@ module _ (f : ℕ → Target) (T : List BoxDef) (b : Automaton) (ranked : IsRank
           record { cell = c; shape = s; datums = ds; parts = ps; tree = l; insides = j; is = ap parts_of e }
 
   pub port_to : (c s : ℕ) (ds : List Datum) (ps : Parts) → InLanguage b (bare (node c s ds ps)) → (z : Rule)
-      × IsIn z (root_rules port) × Paired (PlaceOf (RunOf port.rules)) (rule_places z) (listed (placed_parts f ps))
+      × IsIn z port.rules × IsTop port z × Paired (PlaceOf (RunOf port.rules)) (rule_places z) (listed (placed_parts f ps))
       × (z.symbol ≡ Cell s ds (slots_of (placed_parts f ps)))
   port_to c s ds ps h =
       let l = in_placed f b (node c s ds ps) h in
       let x = top_rule_of port.rules l.0 c s ds (placed_parts f ps) l.2 in (
         x.0,
-        in_cells port.roots port.rules x.0 x.1 (subst (λ (q : ℕ). IsIn q port.roots) (sym x.2) l.1)
-            (ap is_leaf x.3),
+        x.1,
+        (
+          (
+            subst (λ (q : ℕ). IsIn q port.roots) (sym x.2) l.1,
+            (bare (node c s ds (placed_parts f ps)), top_by port.rules x.0 c s ds (placed_parts f ps) x.3 x.4),
+          ),
+          ap is_leaf x.3,
+        ),
         rule_runs port.rules x.0 s ds (placed_parts f ps) x.3 x.4,
         x.3,
       )

@@ -1,6 +1,9 @@
 -- Worked values of forests in which a box edge is replaced, each made by hand.
-use Rattle.std.proofs.Common.{◌≡◌, ℕ, true, false, length, List, [], ◌∷◌, refl, Some, None}
+use Rattle.std.proofs.Common.{◌≡◌, inl, ℕ, true, false, true≢false, length, List, [], ◌∷◌, refl, Some, None}
 use Rattle.ta_core.specs.Auto.{Automaton, automaton}
+use Rattle.ta_core.specs.Language.{RunEach, run_none}
+use Rattle.ta_core.specs.declared.tree.Tree.{Tree, out-Tree, out-roll-Tree}
+use Rattle.ta_core.proofs.Runs.{tree_of}
 use Rattle.ta_core.specs.declared.auto.Rule.{Rule}
 use Rattle.ta_core.specs.declared.symbol.Slot.{Slot}
 use Rattle.ta_core.specs.declared.symbol.Slot.TheVariants.{Field, Link, Hook}
@@ -14,7 +17,7 @@ use Rattle.fa_core.specs.Dressed.{Nodes, node, no_parts, field, link, leaf, no_n
 use Rattle.fa_core.specs.Dressed.{SeenField, SeenLink}
 use Rattle.fa_unfold.specs.Opens.{IsCell, HasSlot, items, opened}
 use Rattle.fa_unfold.specs.Slots.{joined, without, state_places}
-use Rattle.fa_unfold.specs.Unfolding.{below_tops, root_rules, have_no_slots, link_unfoldings, hook_unfoldings}
+use Rattle.fa_unfold.specs.Unfolding.{IsTop, Tops, below_tops, end_rules, have_no_slots, link_unfoldings, hook_unfoldings}
 
 -- struct 0 has the pointer fields next (0), prev (1) and other (2); box 0 gives `next` at its input alone, box 1 `next`
 -- there and `prev` at its output, box 2 has no output
@@ -43,6 +46,9 @@ to_input = automaton 2 (0 ∷ []) (rule 0 (cell (Field 1 ∷ [])) (1 ∷ []) ∷
 abbrev no_slot : Automaton
 no_slot = automaton 1 (0 ∷ []) (rule 0 (cell []) [] ∷ [])
 
+abbrev tops : List Rule → List Rule → List Rule → Tops
+tops ins outs ends = record { ins = ins; outs = outs; ends = ends }
+
 -- Slots: each with its child, a Hook without; one put before the first of no lesser field; one taken out.
 
 some_places : state_places (Field 0 ∷ Hook 2 ∷ Link 1 ∷ []) (5 ∷ 6 ∷ [])
@@ -55,11 +61,24 @@ put_in_order = refl
 second_out : without {X = ℕ} 1 (7 ∷ 8 ∷ 9 ∷ []) ≡ 7 ∷ 9 ∷ []
 second_out = refl
 
--- the rule of a leaf at a root state, and that of a cell at another state, are left out
-cells_at_roots : root_rules
-    (automaton 2 (0 ∷ []) (rule 0 Null [] ∷ rule 1 (cell []) [] ∷ rule 0 (cell (Hook 2 ∷ [])) [] ∷ []))
-    ≡ rule 0 (cell (Hook 2 ∷ [])) [] ∷ []
-cells_at_roots = refl
+-- a rule of a leaf at a root state, and one of a cell at another state, are none at the top
+leaf_on_top : IsTop (automaton 1 (0 ∷ []) (rule 0 Null [] ∷ [])) (rule 0 Null []) → ⊥
+leaf_on_top h = true≢false h.1
+
+cell_on_top : IsTop no_slot (rule 0 (cell []) [])
+cell_on_top = ((inl refl, (tree_of (cell []) [], (top_of (cell []) [], top_run))), refl)
+  where
+    top_of : (y : Symbol) (ts : List Tree) → y ≡ (out-Tree (tree_of y ts)).symbol
+    top_of y ts = rw (out-roll-Tree (record { symbol = y; children = ts })) refl
+
+    top_run : RunEach no_slot.rules [] (out-Tree (tree_of (cell []) [])).children
+    top_run = rw (out-roll-Tree (record { symbol = cell []; children = [] })) run_none
+
+own_end : end_rules (forest (no_slot ∷ [])) 0 0 (rule 7 Null [] ∷ []) ≡ rule 0 (cell []) [] ∷ []
+own_end = refl
+
+other_end : end_rules (forest (no_slot ∷ [])) 0 1 (rule 7 Null [] ∷ []) ≡ rule 7 Null [] ∷ []
+other_end = refl
 
 one_has_slots : have_no_slots (rule 0 (cell []) [] ∷ rule 0 (cell (Hook 2 ∷ [])) [] ∷ []) ≡ false
 one_has_slots = refl
@@ -84,7 +103,8 @@ end_root = automaton 2 (0 ∷ []) (rule 0 (cell (Field 0 ∷ [])) (1 ∷ []) ∷
 to_a_root : link_unfoldings faces
     (forest
     (automaton 2 (0 ∷ []) (rule 0 (cell (Link 0 ∷ [])) (1 ∷ []) ∷ rule 1 (Ref 1) [] ∷ []) ∷ end_root ∷ []))
-    0 0 (At 1) to_output no_slot []
+    0 0 (At 1) to_output no_slot [] (tops (rule 0 (cell (Field 0 ∷ [])) (1 ∷ []) ∷ []) (rule 0 (cell []) [] ∷ [])
+    (rule 0 (cell (Field 0 ∷ [])) (1 ∷ []) ∷ []))
     ≡ forest
     (automaton 5 (4 ∷ [])
     (rule 0 (cell (Link 0 ∷ [])) (1 ∷ []) ∷ rule 1 (Ref 1) [] ∷ rule 3 (Ref 1) [] ∷ rule 4 (cell (Field 0 ∷ [])) (3 ∷ []) ∷ [])
@@ -95,7 +115,7 @@ to_a_root = refl
 
 that_dangles : link_unfoldings faces
     (forest (automaton 2 (0 ∷ []) (rule 0 (cell (Link 0 ∷ [])) (1 ∷ []) ∷ rule 1 Dangling [] ∷ []) ∷ []))
-    0 0 DanglingTarget to_output no_slot []
+    0 0 DanglingTarget to_output no_slot [] (tops (rule 0 (cell (Field 0 ∷ [])) (1 ∷ []) ∷ []) (rule 0 (cell []) [] ∷ []) [])
     ≡ forest
     (automaton 5 (4 ∷ [])
     (rule 0 (cell (Link 0 ∷ [])) (1 ∷ []) ∷ rule 1 Dangling [] ∷ rule 3 Dangling [] ∷ rule 4 (cell (Field 0 ∷ [])) (3 ∷ []) ∷ [])
@@ -108,7 +128,7 @@ to_itself : link_unfoldings faces
     (forest
     (automaton 3 (0 ∷ [])
     (rule 0 (cell (Link 1 ∷ Field 2 ∷ [])) (1 ∷ 2 ∷ []) ∷ rule 1 (Ref 0) [] ∷ rule 2 Null [] ∷ []) ∷ []))
-    0 0 (At 0) to_output to_input []
+    0 0 (At 0) to_output to_input [] (tops (rule 0 (cell (Field 0 ∷ [])) (1 ∷ []) ∷ []) (rule 0 (cell (Field 1 ∷ [])) (1 ∷ []) ∷ []) [])
     ≡ forest
     (automaton 9 (8 ∷ [])
     (rule 0 (cell (Link 1 ∷ Field 2 ∷ [])) (1 ∷ 2 ∷ []) ∷ rule 1 (Ref 0) [] ∷ rule 2 Null []
@@ -123,6 +143,7 @@ with_an_inner_root : hook_unfoldings faces
     (forest
     (automaton 2 (0 ∷ []) (rule 0 (cell (Field 1 ∷ Hook 2 ∷ [])) (1 ∷ []) ∷ rule 1 Null [] ∷ []) ∷ []))
     0 1 to_output (automaton 2 (0 ∷ []) (rule 0 (cell (Field 0 ∷ [])) (1 ∷ []) ∷ rule 1 (Ref 0) [] ∷ []) ∷ [])
+    (rule 0 (cell (Field 0 ∷ [])) (1 ∷ []) ∷ [])
     ≡ forest
     (automaton 5 (4 ∷ [])
     (rule 0 (cell (Field 1 ∷ Hook 2 ∷ [])) (1 ∷ []) ∷ rule 1 Null [] ∷ rule 3 (Ref 1) []
@@ -137,10 +158,14 @@ two_rules = automaton 3 (0 ∷ [])
     (rule 0 (cell (Field 0 ∷ [])) (1 ∷ []) ∷ rule 0 (cell (Field 0 ∷ [])) (2 ∷ []) ∷ rule 1 (Ref 1) []
     ∷ rule 2 (Ref 1) [] ∷ [])
 
+abbrev two_tops : List Rule
+two_tops = rule 0 (cell (Field 0 ∷ [])) (1 ∷ []) ∷ rule 0 (cell (Field 0 ∷ [])) (2 ∷ []) ∷ []
+
 each_choice : length (link_unfoldings faces
     (forest
     (automaton 2 (0 ∷ []) (rule 0 (cell (Link 1 ∷ [])) (1 ∷ []) ∷ rule 1 (Ref 1) [] ∷ []) ∷ two_rules ∷ []))
-    0 0 (At 1) two_rules to_input []) ≡ 4
+    0 0 (At 1) two_rules to_input []
+    (tops two_tops (rule 0 (cell (Field 1 ∷ [])) (1 ∷ []) ∷ []) two_tops)) ≡ 4
 each_choice = refl
 
 -- Items: cell 5 with an edge to the cell 6 below it, of which the inside has one field.

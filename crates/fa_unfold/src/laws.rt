@@ -5,6 +5,7 @@ ghost use Rattle.fore_base.specs.Lists.{IsIn, Every};
 ghost use Rattle.fore_base.specs.declared.shape.Shape.{Shape};
 ghost use Rattle.fore_base.specs.declared.store.Store.{Store};
 ghost use Rattle.ta_core.specs.Auto.{Automaton};
+ghost use Rattle.ta_core.specs.declared.auto.Rule.{Rule};
 ghost use Rattle.fa_core.specs.Boxes.{Boxes};
 ghost use Rattle.fa_core.specs.Dressed.{Nodes, cells, facts};
 ghost use Rattle.fa_core.specs.Member.{Stands, inside_of};
@@ -15,7 +16,7 @@ ghost use Rattle.fa_core.specs.declared.forest.Target.{Target};
 ghost use Rattle.fa_unfold.specs.Opens.{Item, Opens, items};
 ghost use Rattle.fa_unfold.specs.Sites.{IsHookAt, IsLinkAt, IsOver};
 ghost use Rattle.fa_unfold.specs.Unfolded.{UnfoldsFrom, UnfoldsInto};
-ghost use Rattle.fa_unfold.specs.Unfolding.{hook_unfoldings, link_unfoldings};
+ghost use Rattle.fa_unfold.specs.Unfolding.{AreHookTops, AreLinkTops, Tops, hook_unfoldings, link_unfoldings};
 
 /// Where a box edge is opened, the facts stay, and so does each other cell and slot. The cells may be regrouped before.
 pub fn opening_keeps_facts()
@@ -37,21 +38,23 @@ pub fn unfolding_keeps_members()
 /// forests of the first one with that Link opened.
 pub fn links_unfold()
     ensures each { (t : Boxes) (F : Forest) (i p b : ℕ) (y : Target) (input output : Automaton)
-        (inner : List Automaton) → IsOver t F → IsLinkAt F i p b y
-        → inside_of t.defs b ≡ Some (input ∷ (output ∷ inner))
-        → Every (UnfoldsFrom t.defs F i p) (link_unfoldings t.face.boxes F i p y input output inner) }
+        (inner : List Automaton) (tops : Tops) → IsOver t F → IsLinkAt F i p b y
+        → inside_of t.defs b ≡ Some (input ∷ (output ∷ inner)) → AreLinkTops F i y input output tops
+        → Every (UnfoldsFrom t.defs F i p) (link_unfoldings t.face.boxes F i p y input output inner tops) }
     ensures whole { (t : Boxes) (F : Forest) (i p b : ℕ) (y : Target) (input output : Automaton)
-        (inner : List Automaton) → IsOver t F → IsLinkAt F i p b y
-        → inside_of t.defs b ≡ Some (input ∷ (output ∷ inner))
-        → UnfoldsInto t.defs F i p (link_unfoldings t.face.boxes F i p y input output inner) }
+        (inner : List Automaton) (tops : Tops) → IsOver t F → IsLinkAt F i p b y
+        → inside_of t.defs b ≡ Some (input ∷ (output ∷ inner)) → AreLinkTops F i y input output tops
+        → UnfoldsInto t.defs F i p (link_unfoldings t.face.boxes F i p y input output inner tops) }
 {}
 
 /// So have the forests in which a Hook is replaced.
 pub fn hooks_unfold()
-    ensures each { (t : Boxes) (F : Forest) (i p b : ℕ) (input : Automaton) (inner : List Automaton) → IsOver t F
-        → IsHookAt F i p b → inside_of t.defs b ≡ Some (input ∷ inner)
-        → Every (UnfoldsFrom t.defs F i p) (hook_unfoldings t.face.boxes F i p input inner) }
-    ensures whole { (t : Boxes) (F : Forest) (i p b : ℕ) (input : Automaton) (inner : List Automaton) → IsOver t F
-        → IsHookAt F i p b → inside_of t.defs b ≡ Some (input ∷ inner)
-        → UnfoldsInto t.defs F i p (hook_unfoldings t.face.boxes F i p input inner) }
+    ensures each { (t : Boxes) (F : Forest) (i p b : ℕ) (input : Automaton) (inner : List Automaton)
+        (ins : List Rule) → IsOver t F → IsHookAt F i p b → inside_of t.defs b ≡ Some (input ∷ inner)
+        → AreHookTops F i input ins
+        → Every (UnfoldsFrom t.defs F i p) (hook_unfoldings t.face.boxes F i p input inner ins) }
+    ensures whole { (t : Boxes) (F : Forest) (i p b : ℕ) (input : Automaton) (inner : List Automaton)
+        (ins : List Rule) → IsOver t F → IsHookAt F i p b → inside_of t.defs b ≡ Some (input ∷ inner)
+        → AreHookTops F i input ins
+        → UnfoldsInto t.defs F i p (hook_unfoldings t.face.boxes F i p input inner ins) }
 {}
