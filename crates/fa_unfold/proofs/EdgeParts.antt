@@ -1,5 +1,6 @@
 -- Slots that are none, box edges among slots, and variables where further roots come behind.
-use Rattle.std.proofs.Common.{◌≡◌, ℕ, zero, suc, ◌<◌, ◌&&◌, Bool, true, false, true≢false, List, [], ◌∷◌, ◌++◌, map, refl}
+use Rattle.std.proofs.Common.{◌≡◌, ℕ, zero, suc, ◌<◌, ◌&&◌, Bool, true, false, true≢false}
+use Rattle.std.proofs.Common.{List, [], ◌∷◌, ◌++◌, map, refl}
 use Rattle.std.proofs.Common.{inl, inr, sym, ap, ap₂, subst, Some, slice_get}
 use Rattle.std.proofs.lemmas.Option.{none-some}
 use Rattle.fore_base.specs.Lists.{IsIn, Every}
@@ -54,7 +55,8 @@ vars_stay d us (t ∷ ts) h =
 
 -- Slots that are none.
 
-pub no_slots : (xs : List Rule) (x : Rule) → have_no_slots xs ≡ true → IsIn x xs → is_bare (symbol_slots x.symbol) ≡ true
+pub no_slots : (xs : List Rule) (x : Rule) → have_no_slots xs ≡ true → IsIn x xs
+    → is_bare (symbol_slots x.symbol) ≡ true
 no_slots [] x e i = absurd i
 no_slots (y ∷ xs) x e i = here (is_bare (symbol_slots y.symbol)) refl e i (λ k j. no_slots xs x k j)
   where
@@ -101,7 +103,8 @@ pub is_link : (R : ℕ → Tree → Type 0) (b q : ℕ) (x : Part) → PlaceOf R
     × (x ≡ LinkPart b inside e) × R q (bare_end e)
 is_link R b q (FieldPart f e) h = absurd (subst IsLinkSlot h.0 tt)
 is_link R b q (LinkPart k i e) h =
-    (i, e, ap (λ (n : ℕ). LinkPart n i e) (sym (ap box_of h.0)), subst (λ (n : ℕ). R n (bare_end e)) (sym (ap head h.2)) h.3)
+    let r = subst (λ (n : ℕ). R n (bare_end e)) (sym (ap head h.2)) h.3 in
+    (i, e, ap (λ (n : ℕ). LinkPart n i e) (sym (ap box_of h.0)), r)
 is_link R b q (HookPart k i) h = absurd (subst IsLinkSlot h.0 tt)
 
 pub is_hook : (R : ℕ → Tree → Type 0) (b : ℕ) (x : Part) → PlaceOf R (Hook b, []) x → (inside : Nodes)
@@ -111,7 +114,8 @@ is_hook R b (LinkPart k i e) h = absurd (subst IsHookSlot h.0 tt)
 is_hook R b (HookPart k i) h = (i, ap (λ (n : ℕ). HookPart n i) (sym (ap box_of h.0)))
 
 -- a rule that has a slot is of a cell
-pub is_cell_top : (y : Symbol) (qs : List ℕ) (p : ℕ) (x : Place) → slice_get (state_places (symbol_slots y) qs) p ≡ Some x
+pub is_cell_top : (y : Symbol) (qs : List ℕ) (p : ℕ) (x : Place)
+    → slice_get (state_places (symbol_slots y) qs) p ≡ Some x
     → (s : ℕ) × (ds : List Datum) × IsCellOf y s ds
 is_cell_top NullSymbol qs p x e = absurd (none-some x e)
 is_cell_top UninitSymbol qs p x e = absurd (none-some x e)

@@ -99,8 +99,11 @@ module _ (bs : List BoxFace) (T : List BoxDef) (F : Forest) (r : ℕ) (there : r
   set_from e h c s ds ys i j y w k =
       subst (λ (v : List Automaton). TreesOf T v (set_node r (node c s ds (unlisted ys)) e))
       (set_components F.autos r made there)
-      (trees_set T (slice_set F.autos r made) r a e (node c s ds (unlisted ys)) h
-      (x.state, j, run_by_places a.rules a.states x c s ds ys i (every_in (IsRankedRule a.states) a.rules x left.1 i) y w)
+      (trees_set T (slice_set F.autos r made) r a e (node c s ds (unlisted ys)) h (
+        x.state,
+        j,
+        run_by_places a.rules a.states x c s ds ys i (every_in (IsRankedRule a.states) a.rules x left.1 i) y w,
+      )
       (insides_unlisted T ys k))
 
   -- a dressed forest of the new forest

@@ -37,7 +37,8 @@ use Rattle.fa_unfold.specs.inner.Trees.{unlisted, part_key}
 use Rattle.fa_unfold.proofs.Joins.{joined_paired, joined_apart, joined_every}
 use Rattle.fa_unfold.proofs.PlaceRuns.{PlaceOf, IsPlace, same_key, places_right, places_moved, places_wider, slots_in}
 use Rattle.fa_unfold.proofs.PlaceRuns.{states_in, places_again, places_apart, runs_places, places_runs, places_turned}
-use Rattle.fa_unfold.proofs.PlaceRuns.{states_low, states_each, places_lowered, places_raised, places_long, places_below}
+use Rattle.fa_unfold.proofs.PlaceRuns.{states_low, states_each, places_lowered, places_raised}
+use Rattle.fa_unfold.proofs.PlaceRuns.{places_long, places_below}
 
 -- A tree by a rule, slot by slot.
 
@@ -148,7 +149,8 @@ module _ (b : Automaton) (right : IsRanked b) where
   below_right = (
     right.0,
     in_every (IsRankedRule b.states) below.rules
-        (λ o i. every_in (IsRankedRule b.states) b.rules o right.1 (below_in b.roots (child_states b.rules) b.rules o i)),
+        (λ o i. every_in (IsRankedRule b.states) b.rules o right.1
+        (below_in b.roots (child_states b.rules) b.rules o i)),
   )
 
   below_widened : (q : ℕ) (t : Tree) → RunOf below.rules q t → RunOf b.rules q t
@@ -169,8 +171,13 @@ module _ (b : Automaton) (right : IsRanked b) where
   below_stays : (q : ℕ) (t : Tree) → IsIn q (child_states b.rules) → RunOf b.rules q t → RunOf below.rules q t
   below_stays q t c w =
       along b.rules below.rules IsChildHere
-      (λ o p ts i h k. (o, in_below b.roots (child_states b.rules) b.rules o i h.1, h.0, refl,
-      children_here o.children (rule_children o i))) q (refl, c) w
+      (λ o p ts i h k. (
+        o,
+        in_below b.roots (child_states b.rules) b.rules o i h.1,
+        h.0,
+        refl,
+        children_here o.children (rule_children o i),
+      )) q (refl, c) w
 
 module _ (bs : List BoxFace) (a : Automaton) (x : Rule) (base : List Place) (b : Automaton) (z : Rule)
     (left : IsRanked a) (right : IsRanked b) (rule : IsIn z b.rules) (places : Every (IsPlace a.states) base) where
@@ -281,13 +288,15 @@ module _ (bs : List BoxFace) (a : Automaton) (x : Rule) (base : List Place) (b :
       (rule_places z) rs
       (places_turned (λ q. IsIn q (child_states b.rules)) (RunOf b.rules) (RunOf (below_tops b).rules)
       (λ q t c w. below_stays b right q t c w) (rule_places z) rs
-      (states_each (λ q. IsIn q (child_states b.rules)) (symbol_slots z.symbol) z.children (rule_children b right z rule))
+      (states_each (λ q. IsIn q (child_states b.rules)) (symbol_slots z.symbol) z.children
+      (rule_children b right z rule))
       k) in
       let j = joined_paired (PlaceOf (RunOf rules)) (place_key bs) (part_key bs) (same_key bs (RunOf rules)) base
       (map (moved_place a.states) (rule_places z)) ks rs w1 w2 in
       let g = places_runs rules all (joined (part_key bs) ks rs) j in (
         u.states,
         inl refl,
-        by_rule rules fresh c s ds (unlisted (joined (part_key bs) ks rs)) (in_right fresh u.rules (fresh ∷ []) (inl refl))
+        by_rule rules fresh c s ds (unlisted (joined (part_key bs) ks rs))
+            (in_right fresh u.rules (fresh ∷ []) (inl refl))
             (cell_after x.symbol (slots_in all) s ds y ∙ ap (Cell s ds) (sym g.0)) g.1,
       )

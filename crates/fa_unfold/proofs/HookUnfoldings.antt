@@ -36,7 +36,7 @@ use Rattle.fa_unfold.specs.Slots.{rule_places}
 use Rattle.fa_unfold.specs.Unfolded.{Unfolded, UnfoldsFrom, UnfoldsInto}
 use Rattle.fa_unfold.specs.Unfolding.{IsTop, AreHookTops, open_root}
 use Rattle.fa_unfold.specs.Unfolding.{with_inner, hook_unfoldings}
-use Rattle.fa_unfold.specs.inner.Trees.{joined_parts, parts_without, at_root, with_all}
+use Rattle.fa_unfold.specs.inner.Trees.{unlisted, joined_parts, parts_without, at_root, with_all}
 use Rattle.fa_unfold.specs.inner.Trees.{hook_opened}
 use Rattle.fa_unfold.proofs.EdgeParts.{vars_stay, is_hook}
 use Rattle.fa_unfold.proofs.OpenedRoots.{top_run, opened_from, opened_to}
@@ -45,6 +45,24 @@ use Rattle.fa_unfold.proofs.OpenedTrees.{opens_hook, hook_roots}
 use Rattle.fa_unfold.proofs.PlaceRuns.{PlaceOf}
 use Rattle.fa_unfold.proofs.PortTrees.{PartInside, insides_listed, port_from, port_to}
 use Rattle.fa_unfold.proofs.Joins.{item_paired}
+
+-- the steps of replacing a Hook, one after the other
+hook_is : (bs : List BoxFace) (i p n : ℕ) (ps : Parts) (ns d : Nodes) (os : Parts) (d1 e : Nodes) → count d ≡ n
+    → placed_parts (outside_hook i n) ps ≡ os
+    → at_root (λ xs. joined_parts bs xs os) i (at_root (parts_without p) i d) ≡ d1
+    → with_all d1 (placed_all (outside_hook i n) ns) ≡ e → hook_opened bs i p ps ns d ≡ e
+hook_is bs i p n ps ns d os d1 e c o first last =
+    let f = outside_hook i n in
+    let one : hook_opened bs i p ps ns d
+    ≡ with_all (at_root (λ xs. joined_parts bs xs (placed_parts f ps)) i (at_root (parts_without p) i d))
+    (placed_all f ns) =
+    ap (λ (u : ℕ). with_all
+    (at_root (λ xs. joined_parts bs xs (placed_parts (outside_hook i u) ps)) i (at_root (parts_without p) i d))
+    (placed_all (outside_hook i u) ns)) c in
+    let two = ap (λ (v : Parts). with_all
+    (at_root (λ xs. joined_parts bs xs v) i (at_root (parts_without p) i d)) (placed_all f ns)) o in
+    let three = ap (λ (v : Nodes). with_all v (placed_all f ns)) first in
+    one ∙ two ∙ three ∙ last
 
 module _ (bs : List BoxFace) (T : List BoxDef) (F : Forest) (ranked : Every IsRanked F.autos)
     (below : (d : Nodes) → OfForest T F d → AllBelow (count d) (all_refs d))
@@ -120,12 +138,9 @@ module _ (bs : List BoxFace) (T : List BoxDef) (F : Forest) (ranked : Every IsRa
         let w = port_from f T input in_right m.0 x.gained (rule_in m.0 m.1) (rule_top m.0 m.1) x.more x.outer in
         let inside : Nodes = more (node w.cell w.shape w.datums w.parts) v.1 in
         let cl = x.closed (HookPart b inside) (refl, refl) (input ∷ inner, is, (w.tree, w.insides, v.4)) in
-        let J : Parts → Nodes → Nodes = λ ps d. at_root (λ os. joined_parts bs os ps) i (at_root (parts_without p) i d) in
-        let s : hook_opened bs i p w.parts v.1 cl.before ≡ e =
-        ap (λ (u : ℕ). with_all (J (placed_parts (outside_hook i u) w.parts) cl.before)
-        (placed_all (outside_hook i u) v.1)) (long cl.before cl.of)
-        ∙ ap (λ (ps : Parts). with_all (J ps cl.before) (placed_all f v.1)) w.is
-        ∙ ap (λ (d : Nodes). with_all d (placed_all f v.1)) cl.opened ∙ v.2 in
+        let s = hook_is bs i p n w.parts v.1 cl.before (unlisted x.gained) v.0 e (long cl.before cl.of) w.is cl.opened
+        v.2
+        in
         let g = hook_unfolded G (ap (λ (x : Forest). x.vars) m.2) (ap (λ (x : Forest). x.data_vars) m.2) cl.before cl.of
         cl.cell cl.shape cl.datums cl.parts cl.at w.cell w.shape w.datums w.parts v.1 cl.has in
         (cl.before, cl.of, subst (λ (d : Nodes). Unfolded F G i p cl.before d) s g)
@@ -156,7 +171,8 @@ module _ (bs : List BoxFace) (T : List BoxDef) (F : Forest) (ranked : Every IsRa
                 hook_opened bs i p ps ns d,
                 subst (λ (w : ℕ). OfForest T (made z.0) (D w)) (sym (long d h))
                     (inner_to T f inner (open_root bs F i p first z.0)
-                    (at_root (λ os. joined_parts bs os (placed_parts f ps)) i (at_root (parts_without p) i d)) ns o u.2),
+                    (at_root (λ os. joined_parts bs os (placed_parts f ps)) i (at_root (parts_without p) i d)) ns o
+                    u.2),
                 hook_unfolded (made z.0) refl refl d h c s ds os e c0 s0 ds0 ps ns k,
               ),
             )

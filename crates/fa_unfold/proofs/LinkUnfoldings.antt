@@ -47,7 +47,7 @@ use Rattle.fa_unfold.specs.Unfolded.{Unfolded, IsEdgeAt, UnfoldsFrom, UnfoldsInt
 use Rattle.fa_unfold.specs.Unfolding.{IsTop, Tops, AreLinkTops, grown, end_rules, open_root, grow_root, grown_roots}
 use Rattle.fa_unfold.specs.Unfolding.{is_bare, have_no_slots, with_end}
 use Rattle.fa_unfold.specs.Unfolding.{with_inner, link_unfoldings}
-use Rattle.fa_unfold.specs.inner.Trees.{joined_parts, parts_without, at_root, at_leaf, with_all, link_opened}
+use Rattle.fa_unfold.specs.inner.Trees.{unlisted, joined_parts, parts_without, at_root, at_leaf, with_all, link_opened}
 use Rattle.fa_unfold.proofs.EdgeParts.{vars_stay, no_slots, none_listed, joined_none, is_link, is_cell_top}
 use Rattle.fa_unfold.proofs.GrownTrees.{grown_right, grown_one}
 use Rattle.fa_unfold.proofs.OpenedRoots.{top_run, opened_from, opened_to, grown_from}
@@ -56,6 +56,28 @@ use Rattle.fa_unfold.proofs.OpenedTrees.{opens_link, link_roots}
 use Rattle.fa_unfold.proofs.PlaceRuns.{PlaceOf}
 use Rattle.fa_unfold.proofs.PortTrees.{PartInside, insides_listed, port_from, port_to}
 use Rattle.fa_unfold.proofs.Joins.{item_paired}
+
+-- the steps of replacing a Link, one after the other
+link_is : (bs : List BoxFace) (i p n : ℕ) (y : Target) (ps qs : Parts) (ns d : Nodes) (os : Parts) (d1 d2 e : Nodes)
+    → count d ≡ n → placed_parts (outside i y n) ps ≡ os
+    → at_root (λ xs. joined_parts bs xs os) i (at_root (parts_without p) i d) ≡ d1
+    → at_leaf (λ xs. joined_parts bs xs (placed_parts (outside i y n) qs)) y d1 ≡ d2
+    → with_all d2 (placed_all (outside i y n) ns) ≡ e → link_opened bs i p y ps qs ns d ≡ e
+link_is bs i p n y ps qs ns d os d1 d2 e c o first ends last =
+    let f = outside i y n in
+    let g : Parts → Parts = λ xs. joined_parts bs xs (placed_parts f qs) in
+    let one : link_opened bs i p y ps qs ns d
+    ≡ with_all (at_leaf g y (at_root (λ xs. joined_parts bs xs (placed_parts f ps)) i (at_root (parts_without p) i d)))
+    (placed_all f ns) =
+    ap (λ (u : ℕ). with_all
+    (at_leaf (λ xs. joined_parts bs xs (placed_parts (outside i y u) qs)) y
+    (at_root (λ xs. joined_parts bs xs (placed_parts (outside i y u) ps)) i (at_root (parts_without p) i d)))
+    (placed_all (outside i y u) ns)) c in
+    let two = ap (λ (v : Parts). with_all
+    (at_leaf g y (at_root (λ xs. joined_parts bs xs v) i (at_root (parts_without p) i d))) (placed_all f ns)) o in
+    let three = ap (λ (v : Nodes). with_all (at_leaf g y v) (placed_all f ns)) first in
+    let four = ap (λ (v : Nodes). with_all v (placed_all f ns)) ends in
+    one ∙ two ∙ three ∙ four ∙ last
 
 -- some tree of the component with insides of the table
 abbrev pub IsDressable : List BoxDef → Automaton → Type 0
@@ -125,7 +147,8 @@ module _ (bs : List BoxFace) (T : List BoxDef) (F : Forest) (ranked : Every IsRa
     }
 
     link_unfolded : (G : Forest) → G.vars ≡ F.vars → G.data_vars ≡ F.data_vars → (d : Nodes) → OfForest T F d
-        → (c s : ℕ) (ds : List Datum) (os : Parts) → node_at d i ≡ Some (node c s ds os) → (c0 s0 : ℕ) (ds0 : List Datum)
+        → (c s : ℕ) (ds : List Datum) (os : Parts) → node_at d i ≡ Some (node c s ds os) → (c0 s0 : ℕ)
+        (ds0 : List Datum)
         (ps : Parts) (c1 s1 : ℕ) (ds1 : List Datum) (qs : Parts) (ns : Nodes)
         → slice_get (listed os) p
         ≡ Some (LinkPart b (more (node c0 s0 ds0 ps) (more (node c1 s1 ds1 qs) ns)) (leaf y))
@@ -179,7 +202,8 @@ module _ (bs : List BoxFace) (T : List BoxDef) (F : Forest) (ranked : Every IsRa
         let z = port_to f T output out_right c s ds ps l in
         let w : slots_of (placed_parts f ps) ≡ slots_of ps = slots_placed f ps in
         none_listed ps
-        (subst (λ (v : List Slot). is_bare v ≡ true) (ap symbol_slots z.4 ∙ w) (no_slots tops.outs z.0 e (picked_all (IsTop last) are.outs z.0 z.1 z.2)))
+        (subst (λ (v : List Slot). is_bare v ≡ true) (ap symbol_slots z.4 ∙ w)
+        (no_slots tops.outs z.0 e (picked_all (IsTop last) are.outs z.0 z.1 z.2)))
 
     -- a forest whose roots but i are those of F, and whose root i has one rule
     record IsOpenedAt (F1 : Forest) : Type 0 where
@@ -290,7 +314,8 @@ module _ (bs : List BoxFace) (T : List BoxDef) (F : Forest) (ranked : Every IsRa
               parts = t.parts;
               tree = t.tree;
               insides = t.insides;
-              opened = subst (λ (x : Target). at_leaf (λ os. joined_parts bs os (placed_parts f t.parts)) x g.before ≡ e2)
+              opened = subst
+                  (λ (x : Target). at_leaf (λ os. joined_parts bs os (placed_parts f t.parts)) x g.before ≡ e2)
                   e
                   (subst (λ (x : Parts). at_root (λ os. joined_parts bs os x) j g.before ≡ e2) (sym t.is) g.opened);
             }
@@ -330,7 +355,8 @@ module _ (bs : List BoxFace) (T : List BoxDef) (F : Forest) (ranked : Every IsRa
             (sym (bare_tree c s ds qs z w)) (subst (λ (x : Nodes). OfForest T F1 x) (sym (joined_none bs j d)) h)
 
         here : (v : Bool) → have_no_slots tops.outs ≡ v → (G : Forest)
-            × IsIn G (if v then F1 ∷ [] else grown_roots bs F1 j (end_rules F1 i j tops.ends) last tops.outs) × (G.vars ≡ F1.vars)
+            × IsIn G (if v then F1 ∷ [] else grown_roots bs F1 j (end_rules F1 i j tops.ends) last tops.outs)
+            × (G.vars ≡ F1.vars)
             × (G.data_vars ≡ F1.data_vars)
             × OfForest T G (at_root (λ os. joined_parts bs os (placed_parts f qs)) j d)
         here true z = (F1, inl refl, refl, refl, unchanged z)
@@ -384,7 +410,8 @@ module _ (bs : List BoxFace) (T : List BoxDef) (F : Forest) (ranked : Every IsRa
     pub link_from : (G : Forest) → IsIn G (link_unfoldings bs F i p y input output inner tops) → UnfoldsFrom T F i p G
     link_from G k e h =
         let m = flat_in ends_of tops.ins G k in
-        let o = in_mapped (with_inner (map (placed_auto f) inner)) G (with_end bs (first_forest m.0) i y tops.ends last tops.outs) m.2 in
+        let o = in_mapped (with_inner (map (placed_auto f) inner)) G
+        (with_end bs (first_forest m.0) i y tops.ends last tops.outs) m.2 in
         let v = inner_from T f inner o.0 e (subst (λ (x : Forest). OfForest T x e) o.2 h) in
         let t = ended_at (first_forest m.0) (first_opened m.0 (rule_in m.0 m.1)) y refl o.0 o.1 v.0 v.3 in
         let x = opened_from bs T F ranked i p there one (Link b, q ∷ []) slot first first_right m.0 (rule_in m.0 m.1)
@@ -394,17 +421,8 @@ module _ (bs : List BoxFace) (T : List BoxDef) (F : Forest) (ranked : Every IsRa
         (more (node t.2.cell t.2.shape t.2.datums t.2.parts) v.1) in
         let cl = x.closed (LinkPart b inside (leaf y)) (refl, q, refl, run)
         ((input ∷ output ∷ inner, is, (w.tree, w.insides, (t.2.tree, t.2.insides, v.4))), tt) in
-        let c : count cl.before ≡ n = long cl.before cl.of in
-        let J : Parts → Nodes → Nodes = λ ps d. at_root (λ os. joined_parts bs os ps) i (at_root (parts_without p) i d) in
-        let s : link_opened bs i p y w.parts t.2.parts v.1 cl.before ≡ e =
-        ap (λ (u : ℕ). with_all (at_leaf (λ os. joined_parts bs os (placed_parts (outside i y u) t.2.parts)) y
-        (J (placed_parts (outside i y u) w.parts) cl.before)) (placed_all (outside i y u) v.1)) c
-        ∙ ap (λ (ps : Parts). with_all (at_leaf (λ os. joined_parts bs os (placed_parts f t.2.parts)) y
-        (J ps cl.before)) (placed_all f v.1)) w.is
-        ∙ ap (λ (d : Nodes). with_all (at_leaf (λ os. joined_parts bs os (placed_parts f t.2.parts)) y d)
-        (placed_all f v.1)) cl.opened
-        ∙ ap (λ (d : Nodes). with_all d (placed_all f v.1)) t.2.opened
-        ∙ v.2 in
+        let s = link_is bs i p n y w.parts t.2.parts v.1 cl.before (unlisted x.gained) t.2.before v.0 e
+        (long cl.before cl.of) w.is cl.opened t.2.opened v.2 in
         let g = link_unfolded G (ap (λ (x : Forest). x.vars) o.2 ∙ t.0) (ap (λ (x : Forest). x.data_vars) o.2 ∙ t.1)
         cl.before cl.of cl.cell cl.shape cl.datums cl.parts cl.at w.cell w.shape w.datums w.parts t.2.cell t.2.shape
         t.2.datums t.2.parts v.1 cl.has in
@@ -438,7 +456,8 @@ module _ (bs : List BoxFace) (T : List BoxDef) (F : Forest) (ranked : Every IsRa
             (placed_all (outside i y w) ns) in (
               G,
               in_flat ends_of tops.ins z.0 G (picked_all (IsTop first) are.ins z.0 z.1 z.2)
-                  (in_map (with_inner (map (placed_auto f) inner)) t.0 (with_end bs (first_forest z.0) i y tops.ends last tops.outs) t.1),
+                  (in_map (with_inner (map (placed_auto f) inner)) t.0
+                  (with_end bs (first_forest z.0) i y tops.ends last tops.outs) t.1),
               (
                 link_opened bs i p y ps qs ns d,
                 subst (λ (w : ℕ). OfForest T G (D w)) (sym (long d h))
@@ -456,7 +475,8 @@ module _ (bs : List BoxFace) (T : List BoxDef) (F : Forest) (ranked : Every IsRa
         at_part c s ds os e inside x k r u =
             let w : x ≡ leaf y = end_is_leaf x y (only (bare_end x) r) in
             opened c s ds os e inside (subst (λ (v : End). slice_get (listed os) p ≡ Some (LinkPart b inside v)) w k)
-            (subst (λ (v : List Automaton). TreesOf T v inside) (same_Some u.0.0 (input ∷ output ∷ inner) (sym u.0.1 ∙ is))
+            (subst (λ (v : List Automaton). TreesOf T v inside)
+            (same_Some u.0.0 (input ∷ output ∷ inner) (sym u.0.1 ∙ is))
             u.0.2)
 
         at_top : (m : Node) → node_at d i ≡ Some m → IntoLink d

@@ -79,7 +79,13 @@ module _ (bs : List BoxFace) (T : List BoxDef) (F : Forest) (ranked : Every IsRa
           record {
             rule = x.0;
             there = x.1;
-            top = ((subst (λ (k : ℕ). IsIn k a.roots) (sym x.2) i, (bare (node c s ds os), top_by a.rules x.0 c s ds os x.3 x.4)), ap is_leaf x.3);
+            top = (
+              (
+                subst (λ (k : ℕ). IsIn k a.roots) (sym x.2) i,
+                (bare (node c s ds os), top_by a.rules x.0 c s ds os x.3 x.4),
+              ),
+              ap is_leaf x.3,
+            );
             is_cell = (_, x.3);
             runs = rule_runs a.rules x.0 s ds os x.3 x.4;
             insides = insides_listed T os v;
@@ -204,7 +210,8 @@ module _ (bs : List BoxFace) (T : List BoxDef) (F : Forest) (ranked : Every IsRa
       pub of : OfForest T F before
       pub opened : at_root (λ os. joined_parts bs os (unlisted gained)) j before ≡ e
 
-    pub grown_from : (w : Rule) → IsIn w c0.rules → IsIn w.state c0.roots → (e : Nodes) → OfForest T (grow_root bs F j b w z) e
+    pub grown_from : (w : Rule) → IsIn w c0.rules → IsIn w.state c0.roots → (e : Nodes)
+        → OfForest T (grow_root bs F j b w z) e
         → IsGrownFrom e
     grown_from w iw jw e h =
         let r = rule_right c0 w held iw in
@@ -246,7 +253,8 @@ module _ (bs : List BoxFace) (T : List BoxDef) (F : Forest) (ranked : Every IsRa
 -- Inner roots.
 
 module _ (T : List BoxDef) where
-  both_trees : (xs ys : List Automaton) (d e : Nodes) → TreesOf T xs d → TreesOf T ys e → TreesOf T (xs ++ ys) (with_all d e)
+  both_trees : (xs ys : List Automaton) (d e : Nodes) → TreesOf T xs d → TreesOf T ys e
+      → TreesOf T (xs ++ ys) (with_all d e)
   both_trees [] ys no_nodes e h k = k
   both_trees [] ys (more n ns) e h k = absurd h
   both_trees (x ∷ xs) ys no_nodes e h k = absurd h

@@ -21,7 +21,8 @@ use Rattle.fa_back.specs.Reached.{node_at}
 use Rattle.fa_unfold.specs.Opens.{Item, IsCell, HasSlot, tree_items, slot_items, forest_items, opened, Opens}
 use Rattle.fa_unfold.specs.Outside.{outside, outside_hook}
 use Rattle.fa_unfold.specs.Parts.{LinkPart, HookPart, listed}
-use Rattle.fa_unfold.specs.inner.Trees.{joined_parts, parts_without, at_root, at_leaf, with_all, link_opened, hook_opened}
+use Rattle.fa_unfold.specs.inner.Trees.{joined_parts, parts_without, at_root, at_leaf}
+use Rattle.fa_unfold.specs.inner.Trees.{with_all, link_opened, hook_opened}
 use Rattle.fa_unfold.proofs.Opening.{port_items, slots_opened, port_opened, trees_opened}
 use Rattle.fa_unfold.proofs.PartItems.{comm, joined_items, taken_items, refs_without, refs_part, parts_placed}
 use Rattle.fa_unfold.proofs.PartItems.{all_placed, port_placed, Agrees, leaf_wider, all_wider}

@@ -1,5 +1,6 @@
 -- Runs below a cell, slot by slot.
-use Rattle.std.proofs.Common.{◌≡◌, ℕ, zero, suc, ◌<◌, ◌+◌, length, List, [], ◌∷◌, ◌++◌, map, flat_map, refl, sym, ap, ap₂, subst}
+use Rattle.std.proofs.Common.{◌≡◌, ℕ, zero, suc, ◌<◌, ◌+◌, length, List, [], ◌∷◌, ◌++◌, map}
+use Rattle.std.proofs.Common.{flat_map, refl, sym, ap, ap₂, subst}
 use Rattle.std.proofs.Common.{◌∙◌, length-append, arith}
 use Rattle.fore_base.specs.Lists.{Every, Paired}
 use Rattle.fore_base.proofs.ListLemmas.{every_append}
@@ -180,7 +181,8 @@ pub states_low : (n : ℕ) (xs : List Place) → Every (IsPlace n) xs → Every 
 states_low n [] h = tt
 states_low n (x ∷ xs) h = (h.0.1, states_low n xs h.1)
 
-pub states_each : (P : ℕ → Type 0) (ss : List Slot) (qs : List ℕ) → Every P qs → Every (AllStates P) (state_places ss qs)
+pub states_each : (P : ℕ → Type 0) (ss : List Slot) (qs : List ℕ) → Every P qs
+    → Every (AllStates P) (state_places ss qs)
 states_each P [] qs h = tt
 states_each P (Hook b ∷ ss) qs h = (tt, states_each P ss qs h)
 states_each P (Field f ∷ ss) [] h = tt
@@ -208,7 +210,8 @@ module _ (P : ℕ → Type 0) (R Q : ℕ → Tree → Type 0) (turn : (q : ℕ) 
 
 module _ (n : ℕ) (R Q : ℕ → Tree → Type 0) where
   module _ (turn : (q : ℕ) (t : Tree) → R (q + n) t → Q q t) where
-    lowered : (s : Slot) (qs : List ℕ) (q : ℕ) (t : Tree) → ((k : ℕ) × (qs ≡ k ∷ [])) → map (shift n) qs ≡ q ∷ [] → R q t
+    lowered : (s : Slot) (qs : List ℕ) (q : ℕ) (t : Tree) → ((k : ℕ) × (qs ≡ k ∷ [])) → map (shift n) qs ≡ q ∷ []
+        → R q t
         → (k : ℕ) × (qs ≡ k ∷ []) × Q k t
     lowered s qs q t one e r =
         let w : one.0 + n ≡ q = ap head (ap (map (shift n)) (sym one.1) ∙ e) in

@@ -1,6 +1,6 @@
 -- Trees of the ports of an inside, with the leaves that their references are outside.
-use Rattle.std.proofs.Common.{◌≡◌, ℕ, true, false, true≢false, Bool, ◌&&◌, not, if◌then◌else◌, List, [], ◌∷◌, refl}
-use Rattle.std.proofs.Common.{inl, inr, sym, ap, subst, Some}
+use Rattle.std.proofs.Common.{◌≡◌, ℕ, false, true≢false, List, [], ◌∷◌, refl}
+use Rattle.std.proofs.Common.{sym, ap, subst, Some}
 use Rattle.fore_base.specs.Lists.{IsIn, Every, Paired}
 use Rattle.fore_base.specs.declared.store.Datum.{Datum}
 use Rattle.fore_base.proofs.ListLemmas.{every_in, every_parts}
@@ -17,9 +17,7 @@ use Rattle.fa_core.specs.Dressed.{Node, Parts, node, no_parts, field, link, hook
 use Rattle.fa_core.specs.Member.{InsidesOf, InsidesOfParts, InsidesOfEnd, TreesOf, inside_of, bare, slots_of}
 use Rattle.fa_core.specs.Placed.{placed, placed_parts, placed_auto}
 use Rattle.fa_core.specs.Rearranged.{Rearranged, empty, keep, swap, chain}
-use Rattle.fa_core.specs.Ways.{has}
 use Rattle.fa_core.proofs.Placing.{in_placed, from_placed, placed_ranked}
-use Rattle.fa_back.proofs.RootMarks.{in_has, has_in}
 use Rattle.fa_unfold.specs.Parts.{Part, FieldPart, LinkPart, HookPart, listed}
 use Rattle.fa_unfold.specs.Slots.{joined, rule_places}
 use Rattle.fa_unfold.specs.Unfolding.{IsTop}
@@ -106,7 +104,8 @@ module _ (f : ℕ → Target) (T : List BoxDef) (b : Automaton) (ranked : IsRank
           record { cell = c; shape = s; datums = ds; parts = ps; tree = l; insides = j; is = ap parts_of e }
 
   pub port_to : (c s : ℕ) (ds : List Datum) (ps : Parts) → InLanguage b (bare (node c s ds ps)) → (z : Rule)
-      × IsIn z port.rules × IsTop port z × Paired (PlaceOf (RunOf port.rules)) (rule_places z) (listed (placed_parts f ps))
+      × IsIn z port.rules × IsTop port z × Paired (PlaceOf (RunOf port.rules)) (rule_places z)
+      (listed (placed_parts f ps))
       × (z.symbol ≡ Cell s ds (slots_of (placed_parts f ps)))
   port_to c s ds ps h =
       let l = in_placed f b (node c s ds ps) h in

@@ -13,11 +13,12 @@ use Rattle.fore_base.specs.declared.store.Value.TheVariants.{Cell as CellValue, 
 use Rattle.fa_core.specs.declared.faces.BoxFace.{BoxFace}
 use Rattle.fa_core.specs.declared.forest.Forest.{Forest}
 use Rattle.fa_core.specs.declared.forest.Target.TheVariants.{At, Dangling as DanglingTarget}
-use Rattle.fa_core.specs.Dressed.{Nodes, node, no_parts, field, link, leaf, no_nodes, more, Fact, Head, Points}
-use Rattle.fa_core.specs.Dressed.{SeenField, SeenLink}
+use Rattle.fa_core.specs.Dressed.{Nodes, node, no_parts, field, link, leaf, no_nodes, more, Points}
+use Rattle.fa_core.specs.Dressed.{SeenLink}
 use Rattle.fa_unfold.specs.Opens.{IsCell, HasSlot, items, opened}
 use Rattle.fa_unfold.specs.Slots.{joined, without, state_places}
-use Rattle.fa_unfold.specs.Unfolding.{IsTop, Tops, below_tops, end_rules, have_no_slots, link_unfoldings, hook_unfoldings}
+use Rattle.fa_unfold.specs.Unfolding.{IsTop, Tops, below_tops, end_rules}
+use Rattle.fa_unfold.specs.Unfolding.{have_no_slots, link_unfoldings, hook_unfoldings}
 
 -- struct 0 has the pointer fields next (0), prev (1) and other (2); box 0 gives `next` at its input alone, box 1 `next`
 -- there and `prev` at its output, box 2 has no output
@@ -107,7 +108,8 @@ to_a_root : link_unfoldings faces
     (rule 0 (cell (Field 0 ∷ [])) (1 ∷ []) ∷ []))
     ≡ forest
     (automaton 5 (4 ∷ [])
-    (rule 0 (cell (Link 0 ∷ [])) (1 ∷ []) ∷ rule 1 (Ref 1) [] ∷ rule 3 (Ref 1) [] ∷ rule 4 (cell (Field 0 ∷ [])) (3 ∷ []) ∷ [])
+    (rule 0 (cell (Link 0 ∷ [])) (1 ∷ []) ∷ rule 1 (Ref 1) [] ∷ rule 3 (Ref 1) []
+    ∷ rule 4 (cell (Field 0 ∷ [])) (3 ∷ []) ∷ [])
     ∷ end_root ∷ []) ∷ []
 to_a_root = refl
 
@@ -115,10 +117,12 @@ to_a_root = refl
 
 that_dangles : link_unfoldings faces
     (forest (automaton 2 (0 ∷ []) (rule 0 (cell (Link 0 ∷ [])) (1 ∷ []) ∷ rule 1 Dangling [] ∷ []) ∷ []))
-    0 0 DanglingTarget to_output no_slot [] (tops (rule 0 (cell (Field 0 ∷ [])) (1 ∷ []) ∷ []) (rule 0 (cell []) [] ∷ []) [])
+    0 0 DanglingTarget to_output no_slot []
+    (tops (rule 0 (cell (Field 0 ∷ [])) (1 ∷ []) ∷ []) (rule 0 (cell []) [] ∷ []) [])
     ≡ forest
     (automaton 5 (4 ∷ [])
-    (rule 0 (cell (Link 0 ∷ [])) (1 ∷ []) ∷ rule 1 Dangling [] ∷ rule 3 Dangling [] ∷ rule 4 (cell (Field 0 ∷ [])) (3 ∷ []) ∷ [])
+    (rule 0 (cell (Link 0 ∷ [])) (1 ∷ []) ∷ rule 1 Dangling [] ∷ rule 3 Dangling []
+    ∷ rule 4 (cell (Field 0 ∷ [])) (3 ∷ []) ∷ [])
     ∷ []) ∷ []
 that_dangles = refl
 
@@ -128,7 +132,8 @@ to_itself : link_unfoldings faces
     (forest
     (automaton 3 (0 ∷ [])
     (rule 0 (cell (Link 1 ∷ Field 2 ∷ [])) (1 ∷ 2 ∷ []) ∷ rule 1 (Ref 0) [] ∷ rule 2 Null [] ∷ []) ∷ []))
-    0 0 (At 0) to_output to_input [] (tops (rule 0 (cell (Field 0 ∷ [])) (1 ∷ []) ∷ []) (rule 0 (cell (Field 1 ∷ [])) (1 ∷ []) ∷ []) [])
+    0 0 (At 0) to_output to_input []
+    (tops (rule 0 (cell (Field 0 ∷ [])) (1 ∷ []) ∷ []) (rule 0 (cell (Field 1 ∷ [])) (1 ∷ []) ∷ []) [])
     ≡ forest
     (automaton 9 (8 ∷ [])
     (rule 0 (cell (Link 1 ∷ Field 2 ∷ [])) (1 ∷ 2 ∷ []) ∷ rule 1 (Ref 0) [] ∷ rule 2 Null []

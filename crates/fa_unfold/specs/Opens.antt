@@ -1,5 +1,5 @@
--- What a dressed forest says outside of its insides: one item for each cell, and one for each slot. A box edge is opened
--- where items with the facts of its inside take the place of its item.
+-- What a dressed forest says outside of its insides: one item for each cell, and one for each slot. A box edge is
+-- opened where items with the facts of its inside take the place of its item.
 use Rattle.std.specs.Prelude.{◌≡◌, ℕ, List, [], ◌∷◌, ◌++◌, flat_map}
 use Rattle.fore_base.specs.declared.store.Value.{Value}
 use Rattle.fore_base.specs.declared.store.Value.TheVariants.{Cell}

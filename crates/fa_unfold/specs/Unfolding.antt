@@ -1,5 +1,5 @@
 -- Forests in which a box edge of a root is replaced by the inside of its box.
-use Rattle.std.specs.Prelude.{◌≡◌, ℕ, ◌+◌, Bool, true, false, ◌&&◌, nat_eq, if◌then◌else◌, not, List, [], ◌∷◌}
+use Rattle.std.specs.Prelude.{◌≡◌, ℕ, Bool, true, false, ◌&&◌, nat_eq, if◌then◌else◌, not, List, [], ◌∷◌}
 use Rattle.std.specs.Prelude.{◌++◌, map, flat_map, length}
 use Rattle.ta_core.specs.Auto.{Automaton}
 use Rattle.ta_core.specs.Joined.{united}

@@ -58,8 +58,8 @@ abbrev pub with_all : Nodes → Nodes → Nodes
 with_all no_nodes ms = ms
 with_all (more n ns) ms = more n (with_all ns ms)
 
--- d with the Link at slot p of root i, which ends at the leaf y, replaced by an inside: the slots of the input, those of
--- the output, and the inner trees
+-- d with the Link at slot p of root i, which ends at the leaf y, replaced by an inside: the slots of the input, those
+-- of the output, and the inner trees
 abbrev pub link_opened : List BoxFace → ℕ → ℕ → Target → Parts → Parts → Nodes → Nodes → Nodes
 link_opened bs i p y ps qs ns d =
     let f = outside i y (count d) in
@@ -72,4 +72,5 @@ link_opened bs i p y ps qs ns d =
 abbrev pub hook_opened : List BoxFace → ℕ → ℕ → Parts → Nodes → Nodes → Nodes
 hook_opened bs i p ps ns d =
     let f = outside_hook i (count d) in
-    with_all (at_root (λ os. joined_parts bs os (placed_parts f ps)) i (at_root (parts_without p) i d)) (placed_all f ns)
+    with_all (at_root (λ os. joined_parts bs os (placed_parts f ps)) i (at_root (parts_without p) i d))
+    (placed_all f ns)
