@@ -2,8 +2,12 @@ pub mod EdgeParts
 pub mod GrownRoots
 pub mod GrownTrees
 pub mod HookUnfoldings
+pub mod InsidesFit
+pub mod JoinedOrder
 pub mod Joins
 pub mod LinkUnfoldings
+pub mod OpenedFits
+pub mod OpenedOnce
 pub mod OpenedRoots
 pub mod OpenedTrees
 pub mod Opening
