@@ -406,9 +406,34 @@ module _ (bs : List BoxFace) (T : List BoxDef) (F : Forest) (ranked : Every IsRa
     abbrev ends_of : Rule → List Forest
     ends_of z = map (with_inner (map (placed_auto f) inner)) (with_end bs (first_forest z) i y tops.ends last tops.outs)
 
-    -- each dressed forest of the list is one of F with the Link replaced
-    pub link_from : (G : Forest) → IsIn G (link_unfoldings bs F i p y input output inner tops) → UnfoldsFrom T F i p G
-    link_from G k e h =
+    -- a dressed forest of the list: the one of F, with the Link and its inside, and what replaces it
+    pub record IsReplaced (G : Forest) (e : Nodes) : Type 0 where
+      pub same_vars : G.vars ≡ F.vars
+      pub same_data : G.data_vars ≡ F.data_vars
+      pub base : Nodes
+      pub of_base : OfForest T F base
+      pub cell : ℕ
+      pub shape : ℕ
+      pub datums : List Datum
+      pub parts : Parts
+      pub at : node_at base i ≡ Some (node cell shape datums parts)
+      pub c0 : ℕ
+      pub s0 : ℕ
+      pub ds0 : List Datum
+      pub ps : Parts
+      pub c1 : ℕ
+      pub s1 : ℕ
+      pub ds1 : List Datum
+      pub qs : Parts
+      pub ns : Nodes
+      pub has : slice_get (listed parts) p
+          ≡ Some (LinkPart b (more (node c0 s0 ds0 ps) (more (node c1 s1 ds1 qs) ns)) (leaf y))
+      pub trees : TreesOf T (input ∷ output ∷ inner) (more (node c0 s0 ds0 ps) (more (node c1 s1 ds1 qs) ns))
+      pub made : link_opened bs i p y ps qs ns base ≡ e
+
+    pub replaced : (G : Forest) → IsIn G (link_unfoldings bs F i p y input output inner tops) → (e : Nodes)
+        → OfForest T G e → IsReplaced G e
+    replaced G k e h =
         let m = flat_in ends_of tops.ins G k in
         let o = in_mapped (with_inner (map (placed_auto f) inner)) G
         (with_end bs (first_forest m.0) i y tops.ends last tops.outs) m.2 in
@@ -421,12 +446,38 @@ module _ (bs : List BoxFace) (T : List BoxDef) (F : Forest) (ranked : Every IsRa
         (more (node t.2.cell t.2.shape t.2.datums t.2.parts) v.1) in
         let cl = x.closed (LinkPart b inside (leaf y)) (refl, q, refl, run)
         ((input ∷ output ∷ inner, is, (w.tree, w.insides, (t.2.tree, t.2.insides, v.4))), tt) in
-        let s = link_is bs i p n y w.parts t.2.parts v.1 cl.before (unlisted x.gained) t.2.before v.0 e
-        (long cl.before cl.of) w.is cl.opened t.2.opened v.2 in
-        let g = link_unfolded G (ap (λ (x : Forest). x.vars) o.2 ∙ t.0) (ap (λ (x : Forest). x.data_vars) o.2 ∙ t.1)
-        cl.before cl.of cl.cell cl.shape cl.datums cl.parts cl.at w.cell w.shape w.datums w.parts t.2.cell t.2.shape
-        t.2.datums t.2.parts v.1 cl.has in
-        (cl.before, cl.of, subst (λ (d : Nodes). Unfolded F G i p cl.before d) s g)
+        record {
+          same_vars = ap (λ (x : Forest). x.vars) o.2 ∙ t.0;
+          same_data = ap (λ (x : Forest). x.data_vars) o.2 ∙ t.1;
+          base = cl.before;
+          of_base = cl.of;
+          cell = cl.cell;
+          shape = cl.shape;
+          datums = cl.datums;
+          parts = cl.parts;
+          at = cl.at;
+          c0 = w.cell;
+          s0 = w.shape;
+          ds0 = w.datums;
+          ps = w.parts;
+          c1 = t.2.cell;
+          s1 = t.2.shape;
+          ds1 = t.2.datums;
+          qs = t.2.parts;
+          ns = v.1;
+          has = cl.has;
+          trees = (w.tree, w.insides, (t.2.tree, t.2.insides, v.4));
+          made = link_is bs i p n y w.parts t.2.parts v.1 cl.before (unlisted x.gained) t.2.before v.0 e
+              (long cl.before cl.of) w.is cl.opened t.2.opened v.2;
+        }
+
+    -- each dressed forest of the list is one of F with the Link replaced
+    pub link_from : (G : Forest) → IsIn G (link_unfoldings bs F i p y input output inner tops) → UnfoldsFrom T F i p G
+    link_from G k e h =
+        let r = replaced G k e h in
+        let g = link_unfolded G r.same_vars r.same_data r.base r.of_base r.cell r.shape r.datums r.parts r.at r.c0 r.s0
+        r.ds0 r.ps r.c1 r.s1 r.ds1 r.qs r.ns r.has in
+        (r.base, r.of_base, subst (λ (d : Nodes). Unfolded F G i p r.base d) r.made g)
 
     abbrev IntoLink : Nodes → Type 0
     IntoLink d = (G : Forest) × IsIn G (link_unfoldings bs F i p y input output inner tops)
