@@ -15,5 +15,6 @@ pub mod PartItems
 pub mod PlaceRuns
 pub mod PortTrees
 mod Rows
+pub mod TableBoxes
 pub mod TableInsides
 pub mod UnfoldedMembers
