@@ -41,6 +41,10 @@ pub fn leaks_follow_roots()
     ensures never { (face : Face) (F : Forest) → IsFilled face F → AreAllReached face F → NeverLeaks face F }
     ensures always { (face : Face) (F : Forest) (r : ℕ) → IsFilled face F → r < length F.autos → IsUnreached face F r
         → AlwaysLeaks face F }
+    ensures never_plain { (face : Face) (F : Forest) → Every HasNoBoxes F.autos → AreAllReached face F
+        → NeverLeaks face F }
+    ensures always_plain { (face : Face) (F : Forest) (r : ℕ) → Every HasNoBoxes F.autos → r < length F.autos
+        → IsUnreached face F r → AlwaysLeaks face F }
 {}
 
 /// No member of a sound forest leaks, or every member does.
