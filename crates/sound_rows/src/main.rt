@@ -34,6 +34,8 @@ impl Answers for Kinds {
             "boxed?" => boxed::judged(alloc, text, wanted),
             "member" => boxed::member(alloc, text, wanted),
             "cells" => boxed::count(alloc, text, wanted),
+            "boxed-signatures" => boxed::signatures(alloc, text, wanted),
+            "boxed-parts" => boxed::part_letters(alloc, text, wanted),
             "signatures" => signing::signatures(alloc, text),
             "copied" => signing::copied(alloc, text),
             "sample" => sampling::sampled(alloc, text),
