@@ -262,7 +262,8 @@ output_given_prev ts c =
     let e = cell_top 0 0 [] no_parts in
     rw (g, e) (keep 1 empty))
 
--- A Hook whose box has an input that refers to itself, `node(next=s1)` with `s1 = ref 0`: it is sound, and covers `next`
+-- A Hook whose box has an input that refers to itself, `node(next=s1)` with `s1 = ref 0`: it is sound, and covers
+-- `next`
 
 abbrev own_face : BoxFace
 own_face = record { input = 0; output = None; gives_in = 0 ∷ []; gives_out = []; back = false }
