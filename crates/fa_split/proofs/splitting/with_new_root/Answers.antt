@@ -8,8 +8,8 @@ use Rattle.fa_split.specs.Split.{split_cells}
 use Rattle.fa_split.proofs.SplitSound.{cells_sound}
 use Rattle.fa_split.proofs.splitting.with_new_root.Goals as goal
 
-pub of-requires-clause-sound : goal.of-requires-clause-sound
-of-requires-clause-sound c =
+pub of-requires : goal.of-requires
+of-requires c =
     let F = c.args.forest.now.forest in
     let made : c.in_ok-made.made ≡ split_cells F c.args.root c.args.place = c.in_ok-made.ensures ∙ ap
     (λ (z : Forest). split_cells z c.args.root c.args.place) c.forest.ensures in
