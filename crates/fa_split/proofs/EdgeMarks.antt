@@ -1,6 +1,6 @@
 -- Edges that add the same to the marks of the cell above them: of one slot, with ends of one signature, where it has no
 -- effect which of the ends is a leaf.
-use Rattle.std.proofs.Common.{◌≡◌, ◌⊎◌, inl, inr, ℕ, zero, suc, ◌+◌, Bool, true, false, true≢false, ◌||◌, ◌&&◌, nat_eq}
+use Rattle.std.proofs.Common.{◌≡◌, ◌⊎◌, inl, inr, ℕ, zero, suc, ◌+◌, Bool, true, false, true≢false, ◌||◌, nat_eq}
 use Rattle.std.proofs.Common.{nat_le, cond, length, if◌then◌else◌, List, [], ◌∷◌, ◌++◌, map, filter, flat_map, Option}
 use Rattle.std.proofs.Common.{Some, None, slice_set, refl, sym, ap, ap₂, ◌∙◌, arith, length-append}
 use Rattle.std.proofs.lemmas.Bool.{eqb-true, eq-eqb}
@@ -12,9 +12,9 @@ use Rattle.fa_core.specs.declared.signature.RefMark.{RefMark}
 use Rattle.fa_core.specs.Cells.{edges, mark_of, many_with, many_from, provided_in, provided_at, back_in, back_at}
 use Rattle.fa_core.specs.Cells.{reach_in, reach_at, cell_mark, cell_roots, cell_marks, roots_in, leaf_mark}
 use Rattle.fa_core.specs.Rearranged.{insert, in_order}
-use Rattle.fa_core.specs.Ways.{has, once, is_back, back_of, gives_out_of}
+use Rattle.fa_core.specs.Ways.{has, once, back_of, gives_out_of}
 use Rattle.fa_core.proofs.CellMarks.{same_made, map_same}
-use Rattle.fa_core.proofs.Numbers.{bool_same, has_left, has_right, has_once, or_left}
+use Rattle.fa_core.proofs.Numbers.{has_right, has_once, or_left}
 use Rattle.fa_core.proofs.Rearranging.{flat_map-append}
 use Rattle.fa_sound.proofs.Between.{AreLeafs}
 use Rattle.fa_split.specs.Giving.{SlotGives}

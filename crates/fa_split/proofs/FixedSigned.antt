@@ -1,8 +1,7 @@
 -- Signatures stay uniform where a leaf stands alone at a place below the top.
-use Rattle.std.proofs.Common.{◌≡◌, inl, inr, ℕ, ◌<◌, ◌≤◌, ◌+◌, length, List, map, refl, sym, ap, subst, ◌∙◌, slice_set}
+use Rattle.std.proofs.Common.{◌≡◌, inl, inr, ℕ, ◌<◌, ◌+◌, length, List, map, refl, sym, ap, subst, ◌∙◌, slice_set}
 use Rattle.std.proofs.Common.{arith}
 use Rattle.std.proofs.lemmas.List.{map-set}
-use Rattle.fore_base.specs.Lists.{IsIn}
 use Rattle.ta_core.specs.Auto.{Automaton, IsRanked}
 use Rattle.ta_core.specs.Language.{RunOf, RunEach, InLanguage}
 use Rattle.ta_core.specs.Single.{HasOneTop}
@@ -22,9 +21,8 @@ use Rattle.fa_merge.proofs.MergedAnywhere.{nat_cases}
 use Rattle.fa_split.specs.Chosen.{IsBy}
 use Rattle.fa_split.specs.Giving.{SymbolGives}
 use Rattle.fa_split.specs.Split.{top_rule, child_state, fixed}
-use Rattle.fa_split.proofs.ChosenTrees.{one_item}
 use Rattle.fa_split.proofs.FixedTrees.{fixed_stay, fixed_leaf, fixed_symbol, fixed_with, fixed_symbols, leaf_back}
-use Rattle.fa_split.proofs.RunMarks.{seen, marks_with}
+use Rattle.fa_split.proofs.RunMarks.{marks_with}
 use Rattle.fa_split.proofs.RunPlaces.{set_again, set_same}
 use Rattle.fa_split.proofs.TopRules.{tree_by_top, top_by_tree}
 

@@ -1,5 +1,5 @@
 -- Each tree with a run is that of an end. What stands inside its box edges has no effect, so nothing does.
-use Rattle.std.proofs.Common.{◌≡◌, ℕ, zero, suc, ◌<◌, length, List, [], ◌∷◌, Option, Some, None, slice_get, refl, sym}
+use Rattle.std.proofs.Common.{◌≡◌, ℕ, zero, suc, ◌<◌, length, List, [], ◌∷◌, Option, Some, None, refl, sym}
 use Rattle.std.proofs.Common.{ap, subst, ◌∙◌, arith, false}
 use Rattle.std.proofs.lemmas.Option.{slice_get_within}
 use Rattle.fore_base.specs.Lists.{Every}
@@ -17,7 +17,7 @@ use Rattle.fa_core.specs.declared.faces.BoxFace.{BoxFace}
 use Rattle.fa_core.specs.declared.faces.Face.{Face}
 use Rattle.fa_core.specs.declared.forest.Forest.{Forest}
 use Rattle.fa_core.specs.Choices.{HasInside, HasInsides}
-use Rattle.fa_core.specs.Dressed.{Node, End, under, no_nodes}
+use Rattle.fa_core.specs.Dressed.{Node, End, no_nodes}
 use Rattle.fa_core.specs.Filled.{face_of, HasOutput, HasNoOutput, SlotFits, SymbolFits, RulesFit, IsFilled, HasSome}
 use Rattle.fa_core.specs.Member.{bare, bare_end, inside_of}
 use Rattle.fa_core.proofs.Dressing.{dress}

@@ -1,5 +1,5 @@
 -- Where box edges that lead back give something.
-use Rattle.std.proofs.Common.{◌≡◌, ◌≢◌, ℕ, true, false, true≢false, List, []}
+use Rattle.std.proofs.Common.{◌≡◌, ◌≢◌, true, true≢false, List, []}
 use Rattle.std.proofs.Common.{◌∷◌, Option, Some, None, slice_get, refl, sym}
 use Rattle.fore_base.specs.Lists.{Every}
 use Rattle.fore_base.proofs.ListLemmas.{every_in, every_weaker, in_from_place}

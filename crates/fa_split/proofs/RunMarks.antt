@@ -1,6 +1,6 @@
 -- Trees that run to the children's states of one rule add the same to the marks of the cell above them, place by place.
-use Rattle.std.proofs.Common.{◌≡◌, inl, inr, ℕ, Bool, true, false, true≢false, List, [], ◌∷◌, ◌++◌, map, length, refl, sym}
-use Rattle.std.proofs.Common.{ap, ap₂, subst, ◌∙◌, slice_set, append_assoc}
+use Rattle.std.proofs.Common.{◌≡◌, inl, inr, ℕ, true, true≢false, List, [], ◌∷◌, ◌++◌, map, refl, sym}
+use Rattle.std.proofs.Common.{ap, ◌∙◌, slice_set, append_assoc}
 use Rattle.std.proofs.lemmas.List.{length-map}
 use Rattle.fore_base.specs.Lists.{Every}
 use Rattle.ta_core.specs.Language.{RunOf, RunEach, run_none, run_more}
@@ -18,7 +18,7 @@ use Rattle.fa_core.proofs.CellMarks.{tree_signature}
 use Rattle.fa_core.proofs.Dressing.{each_length}
 use Rattle.fa_sound.proofs.Between.{AreLeafs}
 use Rattle.fa_split.specs.Giving.{SlotGives, SymbolGives}
-use Rattle.fa_split.proofs.EdgeMarks.{EdgesSame, no_edges, an_edge, AddsSame, cell_kept, set_edges, field_same, link_same}
+use Rattle.fa_split.proofs.EdgeMarks.{EdgesSame, no_edges, an_edge, cell_kept, set_edges, field_same, link_same}
 
 -- the marks of a leaf
 leafs : (bs : List BoxFace) (t : Tree) → is_leaf (out-Tree t).symbol ≡ true → AreLeafs (signature bs t)
