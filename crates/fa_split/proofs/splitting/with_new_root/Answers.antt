@@ -16,8 +16,8 @@ of-requires c =
     let ranked : Every IsRanked F.autos = c.known.ensures.ranked in
     rw c.face.ensures
     (subst (λ (z : Forest). IsSound c.args.forest.now.face z) (sym made)
-    (cells_sound c.args.forest.now.face F c.args.root c.args.place ranked c.requires.plain c.requires.can
-    c.known.ensures.sound c.requires.may))
+    (cells_sound c.args.forest.now.face F c.args.root c.args.place ranked c.requires.can c.known.ensures.sound
+    c.requires.may c.requires.gives))
 
 pub returns-clause-forest : goal.returns-clause-forest
 returns-clause-forest c =
