@@ -1,24 +1,13 @@
 use Rattle.std.proofs.Common.{◌≡◌, ◌∙◌, ap, sym, subst}
 use Rattle.std.proofs.lemmas.Result.{IfOk-weaker}
-use Rattle.fore_base.specs.Lists.{Every}
-use Rattle.fa_core.specs.Boxless.{HasNoBoxes}
 use Rattle.fa_core.specs.Filled.{IsSound}
 use Rattle.fa_core.specs.declared.forest.Forest.{Forest}
 use Rattle.fa_merge.specs.Merged.{merged_at}
-use Rattle.fa_merge.proofs.MergedSound.{merged_plain, merged_sound}
+use Rattle.fa_merge.proofs.MergedSound.{merged_sound}
 use Rattle.fa_merge.proofs.merge.merge_at.Goals as goal
 
-pub of-requires-clause-plain : goal.of-requires-clause-plain
-of-requires-clause-plain c =
-    let F = c.args.forest.now.forest in
-    let made : c.in_ok-made.made ≡ merged_at c.args.root c.args.into F = c.in_ok-made.ensures
-    ∙ ap (merged_at c.args.root c.args.into) c.forest.ensures in
-    subst (λ (z : Forest). Every HasNoBoxes z.autos) (sym made)
-    (merged_plain c.args.forest.now.face F c.args.root c.args.into c.requires.lone c.requires.plain
-    c.known.ensures.sound)
-
-pub of-requires-clause-sound : goal.of-requires-clause-sound
-of-requires-clause-sound c =
+pub of-requires : goal.of-requires
+of-requires c =
     let F = c.args.forest.now.forest in
     let made : c.in_ok-made.made ≡ merged_at c.args.root c.args.into F = c.in_ok-made.ensures
     ∙ ap (merged_at c.args.root c.args.into) c.forest.ensures in

@@ -2,7 +2,6 @@ use Rattle.std.proofs.Common.{◌≡◌, ◌∙◌, ap, sym, subst, length, List
 use Rattle.std.proofs.lemmas.Result.{IfOk-weaker}
 use Rattle.fore_base.specs.Lists.{Every}
 use Rattle.ta_core.specs.Auto.{IsRanked}
-use Rattle.fa_core.specs.Boxless.{HasNoBoxes}
 use Rattle.fa_core.specs.Filled.{IsSound}
 use Rattle.fa_core.specs.Member.{Regroups}
 use Rattle.fa_core.specs.declared.boxes.BoxDef.{BoxDef}
@@ -10,21 +9,11 @@ use Rattle.fa_core.specs.declared.forest.Forest.{Forest}
 use Rattle.fa_merge.specs.Reordered.{place_of, reordered}
 use Rattle.fa_merge.proofs.MergedAnywhere.{an_order}
 use Rattle.fa_merge.proofs.OtherOrders.{reorder_onto, reorder_back}
-use Rattle.fa_merge.proofs.ReorderedSound.{new_plain, reordered_sound}
+use Rattle.fa_merge.proofs.ReorderedSound.{reordered_sound}
 use Rattle.fa_merge.proofs.merge.reorder.Goals as goal
 
-pub of-requires-clause-plain : goal.of-requires-clause-plain
-of-requires-clause-plain c =
-    let F = c.args.forest.now.forest in
-    let made : c.in_ok-made.made ≡ reordered c.args.order.now F = c.in_ok-made.ensures
-    ∙ ap (reordered c.args.order.now) c.forest-2.ensures in
-    let ranked : Every IsRanked F.autos = c.known.ensures.ranked in
-    subst (λ (z : Forest). Every HasNoBoxes z.autos) (sym made)
-    (new_plain c.args.forest.now.face F c.args.order.now c.requires.all ranked c.requires.plain
-    c.known.ensures.sound)
-
-pub of-requires-clause-sound : goal.of-requires-clause-sound
-of-requires-clause-sound c =
+pub of-requires : goal.of-requires
+of-requires c =
     let F = c.args.forest.now.forest in
     let made : c.in_ok-made.made ≡ reordered c.args.order.now F = c.in_ok-made.ensures
     ∙ ap (reordered c.args.order.now) c.forest-2.ensures in
