@@ -38,7 +38,7 @@ use Rattle.fa_order.specs.Placing.{IsWalkOrder}
 use Rattle.fa_order.proofs.Following.{shared_follows, knot_follows, untied_follows}
 use Rattle.fa_order.proofs.MovedBacks.{AreMoved, leads_on}
 use Rattle.fa_order.proofs.Places.{out_above, place_out}
-use Rattle.fa_order.proofs.Renumbered.{g_of, before, of_before, follows, moved, refs_turned, var_roots_renumbered}
+use Rattle.fa_order.proofs.Renumbered.{g_of, gf, before, of_before, follows, moved, refs_turned, var_roots_renumbered}
 use Rattle.fa_order.proofs.WalkedOn.{walks_on}
 use Rattle.fa_order.specs.inner.Following.{Follows}
 
@@ -66,9 +66,9 @@ top_placed f a h = record {
 
 -- Kind 3 under new numbers.
 
-led_follows : (f g : ℕ → ℕ) (bs : List BoxFace) (vs ws : List Target) (ts us : List Tree) (h : Follows f g vs ws ts us)
-    → AreMoved f g h.there ts us → (r : ℕ) → IsLedTo bs vs ts (g r) → IsLedTo bs ws us r
-led_follows f g bs vs ws ts us h m r l = record {
+led_follows : (f g : ℕ → ℕ) (there : (k : ℕ) → g (f k) ≡ k) (bs : List BoxFace) (vs ws : List Target) (ts us : List Tree) (h : Follows f g vs ws ts us)
+    → AreMoved f g there ts us → (r : ℕ) → IsLedTo bs vs ts (g r) → IsLedTo bs ws us r
+led_follows f g there bs vs ws ts us h m r l = record {
   no_var = λ i. l.no_var ((h.var r).0 i);
   alone = λ j u e d k. (let t = h.up j u e in
       l.alone (g j) t.0 t.1 (λ z. d (sym (h.again j) ∙ ap f z ∙ h.again r))
@@ -76,7 +76,7 @@ led_follows f g bs vs ws ts us h m r l = record {
   from = f l.from;
   other = λ z. l.other (sym (h.there l.from) ∙ ap g z);
   led = subst (λ (z : ℕ). LeadsBack bs us (f l.from) z z) (h.again r)
-      (leads_on f g h.there bs ts us m l.from (g r) (g r) l.led);
+      (leads_on f g there bs ts us m l.from (g r) (g r) l.led);
 }
 
 module _ (face : Face) (F : Forest) (sound : IsSound face F) (ranked : Every IsRanked F.autos)
@@ -142,7 +142,7 @@ module _ (face : Face) (F : Forest) (sound : IsSound face F) (ranked : Every IsR
         elim k [
           | inl s ↦ inl (shared_follows f g F.vars G.vars ts (bares e) h r s)
           | inr t ↦ elim t [
-            | inl w ↦ inr (inl (led_follows f g face.boxes F.vars G.vars ts (bares e) h (moved F f order is e o) r w))
+            | inl w ↦ inr (inl (led_follows f g (gf F f order is e o) face.boxes F.vars G.vars ts (bares e) h (moved F f order is e o) r w))
             | inr w ↦ inr (inr (knot_follows f g F.vars G.vars ts (bares e) h r w))
           ]
         ]
@@ -158,7 +158,7 @@ module _ (face : Face) (F : Forest) (sound : IsSound face F) (ranked : Every IsR
         (λ x n. let far : size ≤ x = far_out x n in let a = place_out 0 order x n in
         let b = order_length size f order is in omega (arith, far, a, b)) in
         let w : Walks (refs_at (bares e)) (GoesOn face.boxes (bares e)) (map f (var_roots F.vars)) 0 (length order) =
-        walks_on face.boxes ts (bares e) order g (follows F f order is e o).there (moved F f order is e o) outer refs
+        walks_on face.boxes ts (bares e) order g (gf F f order is e o) (moved F f order is e o) outer refs
         (var_roots F.vars) [] order refl (walk ts choice) in
         subst (λ (z : ℕ). Walks (refs_at (bares e)) (GoesOn face.boxes (bares e)) (var_roots G.vars) 0 z)
         (order_length size f order is ∙ sym long)

@@ -1,5 +1,5 @@
 -- What is decided of the trees that show most is what is asked of a forest's roots.
-use Rattle.std.proofs.Common.{◌≡◌, ◌≢◌, ◌⊎◌, inl, inr, ℕ, zero, suc, ◌<◌, ◌+◌, Bool, true, false, not, ◌&&◌, cond}
+use Rattle.std.proofs.Common.{◌||◌, ◌≡◌, ◌≢◌, ◌⊎◌, inl, inr, ℕ, zero, suc, ◌<◌, ◌+◌, Bool, true, false, not, ◌&&◌, cond}
 use Rattle.std.proofs.Common.{true≢false, nat_eq, nat_le, length, List, [], ◌∷◌, map, refl, sym, ap, subst, ◌∙◌}
 use Rattle.std.proofs.Common.{slice_get, Some, arith}
 use Rattle.std.proofs.lemmas.Bool.{and_parts, and_from, or_left, or_right, or_cases, eqb-true, eq-eqb, leb-true, le-leb}
@@ -264,7 +264,8 @@ module _ (bs : List BoxFace) where
         let m = led_there r (signature bs o) b.1 in
         record {
           no_var = λ i. not_true (has r vars) a.0 (in_has r vars (in_var_roots vs r i));
-          alone = λ j u e d k. not_true (any_other r 0 all) b.0 (there_other r 0 ts j u e d k);
+          alone = λ j u e d k. not_true (any_other r 0 all) b.0
+              (there_other r 0 ts j u e (λ z. d (let y : j ≡ 0 + j = omega arith in y ∙ z)) k);
           from = m.0.root;
           other = m.2;
           led = tree_leads bs ts r o own m.0.root r (m.0, m.1, refl, m.3);
@@ -278,7 +279,8 @@ module _ (bs : List BoxFace) where
         (true_not (has r vars) (λ h. k.no_var (var_roots_in vs r (has_in r vars h))))
         (and_from (not (any_other r 0 all)) (any_leads r (signature bs o))
         (true_not (any_other r 0 all)
-        (λ h. let t = other_there r 0 ts h in k.alone t.0 t.1 t.2 t.3 t.4))
+        (λ h. let t = other_there r 0 ts h in let y : 0 + t.0 ≡ t.0 = omega arith in
+        k.alone t.0 t.1 t.2 (λ z. t.3 (y ∙ z)) t.4))
         (there_led r (signature bs o) (m.0, m.1, (λ z. k.other (sym m.2 ∙ z)), m.3)))
 
     -- One root.

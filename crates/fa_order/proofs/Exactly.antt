@@ -1,5 +1,5 @@
 -- Whether a forest is canonical, by what its trees show and by the order of the walk.
-use Rattle.std.proofs.Common.{◌≡◌, ◌↔◌, true, List, length, sym, subst}
+use Rattle.std.proofs.Common.{◌≡◌, ◌↔◌, ℕ, true, List, length, sym, subst}
 use Rattle.fore_base.specs.Lists.{Every, Paired}
 use Rattle.ta_core.specs.Single.{HasOneTop}
 use Rattle.fa_core.specs.Canonical.{IsCanonical, var_roots}

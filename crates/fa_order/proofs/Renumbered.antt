@@ -225,10 +225,10 @@ module _ (F : Forest) (f : ℕ → ℕ) (order : List ℕ) (is : IsOrder (length
   abbrev pub g_of : ℕ → ℕ
   g_of = root_at size f order is
 
-  fg : (j : ℕ) → f (g_of j) ≡ j
+  pub fg : (j : ℕ) → f (g_of j) ≡ j
   fg = place_turned size f order is
 
-  gf : (k : ℕ) → g_of (f k) ≡ k
+  pub gf : (k : ℕ) → g_of (f k) ≡ k
   gf = root_place size f order is
 
   abbrev pub before : Nodes

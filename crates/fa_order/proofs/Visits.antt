@@ -118,7 +118,7 @@ module _ (refers : ℕ → List ℕ) (Leads Gives : ℕ → ℕ → ℕ → Type
   module _ (decided : IsDecided Leads) where
     first_leads : (P : ℕ → Type 0) (placed : List ℕ) (r : ℕ) (xs : List ℕ) → IsFirstLed P placed r xs → P r
     first_leads P placed r [] h = absurd h
-    first_leads P placed r (x ∷ xs) (inl h) = subst P h.0 h.1
+    first_leads P placed r (x ∷ xs) (inl h) = h.1
     first_leads P placed r (x ∷ xs) (inr h) = first_leads P placed r xs h.1
 
     -- the way back leads to the root at which the walk goes on
@@ -157,9 +157,9 @@ module _ (refers : ℕ → List ℕ) (Leads Gives : ℕ → ℕ → ℕ → Type
     first_one P placed r s nr ns [] h k = absurd h
     first_one P placed r s nr ns (x ∷ xs) (inl h) (inl k) = sym h.0 ∙ k.0
     first_one P placed r s nr ns (x ∷ xs) (inl h) (inr k) =
-        absurd (k.0 (λ i. nr (subst (λ (z : ℕ). IsIn z placed) h.0 i)) h.1)
+        absurd (k.0 (λ i. nr (subst (λ (z : ℕ). IsIn z placed) h.0 i)) (subst P (sym h.0) h.1))
     first_one P placed r s nr ns (x ∷ xs) (inr h) (inl k) =
-        absurd (h.0 (λ i. ns (subst (λ (z : ℕ). IsIn z placed) k.0 i)) k.1)
+        absurd (h.0 (λ i. ns (subst (λ (z : ℕ). IsIn z placed) k.0 i)) (subst P (sym k.0) k.1))
     first_one P placed r s nr ns (x ∷ xs) (inr h) (inr k) = first_one P placed r s nr ns xs h.1 k.1
 
     pub led_one : (placed : List ℕ) (i j r s : ℕ) → (IsIn r placed → ⊥) → (IsIn s placed → ⊥)
@@ -250,7 +250,7 @@ module _ (f g : ℕ → List ℕ) (same : (r : ℕ) → f r ≡ g r) (L M G H : 
   first_same : (P Q : ℕ → Type 0) → ((x : ℕ) → P x → Q x) → ((x : ℕ) → Q x → P x) → (placed : List ℕ) (r : ℕ)
       (xs : List ℕ) → IsFirstLed P placed r xs → IsFirstLed Q placed r xs
   first_same P Q p q placed r [] h = h
-  first_same P Q p q placed r (x ∷ xs) (inl h) = inl (h.0, p x h.1)
+  first_same P Q p q placed r (x ∷ xs) (inl h) = inl (h.0, p r h.1)
   first_same P Q p q placed r (x ∷ xs) (inr h) = inr ((λ o y. h.0 o (q x y)), first_same P Q p q placed r xs h.1)
 
   led_same : (placed : List ℕ) (i j r : ℕ) → IsLedOn f L placed i j r → IsLedOn g M placed i j r

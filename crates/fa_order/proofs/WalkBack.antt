@@ -26,7 +26,7 @@ module _ (bs : List BoxFace) (ts : List Tree) where
 
   first_back : (P : ℕ → Type 0) (k : ℕ) (xs : List ℕ) → IsFirstOpen P k xs → IsFirstLed P (counted 0 k) k xs
   first_back P k [] h = h
-  first_back P k (x ∷ xs) (inl h) = inl (h.0, subst P (sym h.0) h.1)
+  first_back P k (x ∷ xs) (inl h) = inl (h.0, h.1)
   first_back P k (x ∷ xs) (inr h) = inr ((λ o p. h.0 (out_above k x o) p), first_back P k xs h.1)
 
   goes_back : (k : ℕ) → GoesOn bs ts k → GoesOnFrom (refs_at ts) (LeadsBack bs ts) (provides bs ts) (counted 0 k) k

@@ -59,6 +59,10 @@ refs_listed face (t ∷ ts) [] h r = absurd h
 refs_listed face (t ∷ ts) (s ∷ ss) h zero = sym (ap roots_in h.0) ∙ signature_roots face.boxes t
 refs_listed face (t ∷ ts) (s ∷ ss) h (suc r) = refs_listed face ts ss h.1 r
 
+pub refs_long : (ss : List Signature) → length (refs_of ss) ≡ length ss
+refs_long [] = refl
+refs_long (s ∷ ss) = ap (λ (n : ℕ). suc n) (refs_long ss)
+
 every_listed : (P : List ℕ → Type 0) (rss : List (List ℕ)) → ((r : ℕ) → P (nth_refs rss r)) → Every P rss
 every_listed P [] h = tt
 every_listed P (rs ∷ rss) h = (h 0, every_listed P rss (λ r. h (suc r)))

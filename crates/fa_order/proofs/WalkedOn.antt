@@ -46,7 +46,7 @@ module _ (f g : ℕ → ℕ) (there : (k : ℕ) → g (f k) ≡ k) (bs : List Bo
   first_on : (P Q : ℕ → Type 0) → ((x : ℕ) → P x → Q (f x)) → ((x : ℕ) → Q (f x) → P x) → (xs : List ℕ)
       → IsFirstLed P placed r xs → IsFirstOpen Q k (map f xs)
   first_on P Q on from [] h = h
-  first_on P Q on from (x ∷ xs) (inl h) = inl (ap f h.0 ∙ fr, subst Q fr (subst (λ (z : ℕ). Q (f z)) h.0 (on x h.1)))
+  first_on P Q on from (x ∷ xs) (inl h) = inl (ap f h.0 ∙ fr, subst Q fr (on r h.1))
   first_on P Q on from (x ∷ xs) (inr h) =
       inr ((λ l q. h.0 (λ i. too_low k (f x) (low x i) l) (from x q)), first_on P Q on from xs h.1)
 

@@ -1,6 +1,6 @@
 // The signatures of the trees of each root, and the roots to which these refer.
 
-ghost use Rattle.std.specs.Prelude.{◌≡◌, ◌<◌, ◌∷◌, [], length, map, Some, slice_get, IfOk};
+ghost use Rattle.std.specs.Prelude.{◌≡◌, ◌<◌, ◌^◌, ◌∷◌, [], length, map, Some, slice_get, IfOk};
 ghost use Rattle.fore_base.specs.Lists.{Every, Paired};
 ghost use Rattle.ta_core.specs.Auto.{Automaton};
 ghost use Rattle.ta_core.specs.Single.{HasOneTop};
@@ -17,7 +17,8 @@ use ta_core::auto::Auto;
 /// The signature of the trees of each root.
 pub fn root_signatures(alloc: Global, forest: &Sound) -> Mem<List<Signature>>
     requires { Every HasOneTop forest.now.forest.autos }
-    ensures { IfOk result (λ all. Paired (IsSigned forest.now.face.boxes) forest.now.forest.autos all) }
+    ensures signed { IfOk result (λ all. Paired (IsSigned forest.now.face.boxes) forest.now.forest.autos all) }
+    ensures few { IfOk result (λ all. length all < 2 ^ 32) }
 {
     let count = count_roots(forest.forest())?;
     let mut all = List::new(alloc);

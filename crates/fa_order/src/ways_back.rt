@@ -70,7 +70,7 @@ fn led_into(
     ensures led { IsLedOn (nth_refs refers.now) (LeadsBy signatures.now) placed.now from into result }
 {
     let marks = signatures[into as usize].refs.as_slice();
-    if !has(into, placed) && does_lead(marks, from, into, into) {
+    if !is_in(into, placed) && does_lead(marks, from, into, into) {
         return into;
     }
     match first_led(marks, refers.at(into as usize).as_slice(), placed, from, into) {
@@ -87,7 +87,7 @@ fn first_led(marks: &[RefMark], roots: &[u32], placed: &[u32], from: u32, into: 
         × IsFirstLed (λ x. SignLeads marks.now from into x) placed.now root roots.now) }
 {
     for root in roots {
-        if !has(*root, placed) && does_lead(marks, from, into, *root) {
+        if !is_in(*root, placed) && does_lead(marks, from, into, *root) {
             return Some(*root);
         }
     }
@@ -106,10 +106,19 @@ fn does_lead(marks: &[RefMark], from: u32, into: u32, root: u32) -> bool
     false
 }
 
+fn is_in(root: u32, roots: &[u32]) -> bool
+    ensures { IsTrue result ↔ IsIn root roots.now }
+{
+    has(root, roots)
+}
+
 fn does_mark_lead(mark: &RefMark, into: u32, root: u32) -> bool
     ensures { IsTrue result ↔ MarkLeads into root mark.now }
 {
-    (mark.back && root == into) || has(root, mark.reach.as_slice())
+    if root == into && mark.back {
+        return true;
+    }
+    is_in(root, mark.reach.as_slice())
 }
 
 /// The first placed root from which a way back leads to a root that is not placed.
@@ -154,7 +163,10 @@ fn is_open(marks: &[RefMark], placed: &[u32], from: u32, into: u32) -> bool
 fn is_open_mark(mark: &RefMark, placed: &[u32], into: u32) -> bool
     ensures { IsTrue result ↔ ((r : ℕ) × (IsIn r placed.now → ⊥) × MarkLeads into r mark.now) }
 {
-    (mark.back && !has(into, placed)) || !are_placed(mark.reach.as_slice(), placed)
+    if mark.back && !is_in(into, placed) {
+        return true;
+    }
+    !are_placed(mark.reach.as_slice(), placed)
 }
 
 fn are_placed(roots: &[u32], placed: &[u32]) -> bool
@@ -162,7 +174,7 @@ fn are_placed(roots: &[u32], placed: &[u32]) -> bool
         ((r : ℕ) × IsIn r roots.now × (IsIn r placed.now → ⊥)) }
 {
     for root in roots {
-        if !has(*root, placed) {
+        if !is_in(*root, placed) {
             return false;
         }
     }
