@@ -73,8 +73,8 @@ fn visit(
         < weight refers.now (root ∷ behind stack.old) placed.old) }
     ensures anew { OnOk result ((IsIn root placed.old → ⊥) → weight refers.now (behind stack.new) placed.new
         < weight refers.now (behind stack.old) placed.old) }
-    ensures below { OnOk result (Every (AllBelow (length refers.now)) refers.now → AllBelow (length refers.now) (behind stack.old)
-        → AllBelow (length refers.now) (behind stack.new)) }
+    ensures below { OnOk result (Every (AllBelow (length refers.now)) refers.now
+        → AllBelow (length refers.now) (behind stack.old) → AllBelow (length refers.now) (behind stack.new)) }
 {
     if has(root, placed.as_slice()) {
         Ok(())

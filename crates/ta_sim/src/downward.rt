@@ -31,7 +31,8 @@ pub fn downward<R: Threads + Sync, G: Gate>(
     requires { IsJobs _crew.now.jobs }
     ensures size { IfOk result (λ made. made.size ≡ auto.now.states) }
     ensures simulation { IfOk result (λ made. IsDownward auto.now.rules (Holds made)) }
-    ensures greatest { IfOk result (λ made. (p q : ℕ) → p < auto.now.states → q < auto.now.states → IsSimulated auto.now.rules p q
+    ensures greatest { IfOk result
+        (λ made. (p q : ℕ) → p < auto.now.states → q < auto.now.states → IsSimulated auto.now.rules p q
         → Holds made p q) }
 {
     let rules = auto.rules.as_slice();
