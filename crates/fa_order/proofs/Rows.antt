@@ -126,7 +126,10 @@ three_next = record {
   into = 1;
   lowest = record { is_placed = inl refl; some = (1, (3, new, into_one)); lowest = λ k j h o. omega arith };
   gives = record { open_way = (3, new, into_one); field = 5; given = gives_five; least = least };
-  led = record { own_first = λ n l. absurd (let i : IsIn 1 (0 ∷ 1 ∷ 2 ∷ []) = inr (inl refl) in n i); then_list = λ f. inl (refl, into_one) };
+  led = record {
+    own_first = λ n l. absurd (let i : IsIn 1 (0 ∷ 1 ∷ 2 ∷ []) = inr (inl refl) in n i);
+    then_list = λ f. inl (refl, into_one);
+  };
 }
   where
     new : IsIn 3 (0 ∷ 1 ∷ 2 ∷ []) → ⊥
@@ -137,7 +140,8 @@ three_next = record {
 
     least : (j f : ℕ) → IsOpenAt Back (0 ∷ 1 ∷ 2 ∷ []) 0 j → Gift 0 j f → 5 ≤ f
     least j f o gives_five = omega arith
-    least j f (x, n, into_two) gives_three = absurd (n (inr (inr (inl refl))))
+    least j f (x, n, into_two) gives_three = 
+        absurd (let i : IsIn 2 (0 ∷ 1 ∷ 2 ∷ []) = inr (inr (inl refl)) in n i)
 
 -- no field, no way on: a way back that gives nothing leaves the walk stuck
 stuck_without_gift : PlacingOn one_refers Back Nothing [] (0 ∷ 1 ∷ []) (0 ∷ 1 ∷ [])
