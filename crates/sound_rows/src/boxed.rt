@@ -7,6 +7,7 @@ use crate::stores::text_of_store;
 use anyhow::{Context, Result, bail};
 use fa_core::faces::Face;
 use fa_core::table::BoxTable;
+use fa_order::{has_root_kinds, is_canonical};
 use fa_sample::sample;
 use fa_sound::Sound;
 use fa_text::read_boxes;
@@ -78,6 +79,30 @@ pub fn part_letters(alloc: Global, forest: &str, texts: &[&str]) -> Result<Strin
     let (_, wanted) = texts.split_first().context("no boxes")?;
     let table = table_of(alloc, texts)?;
     letters_over(alloc, forest, table.face(), wanted)
+}
+
+// boxed-canonical?: whether the roots are those of a canonical forest, and whether the forest is canonical.
+pub fn canonical(alloc: Global, forest: &str, boxes: &[&str]) -> Result<String> {
+    let table = table_of(alloc, boxes)?;
+    canonical_over(alloc, forest, table.face())
+}
+
+fn canonical_over(alloc: Global, text: &str, face: &Face) -> Result<String> {
+    let forest = forest_of(alloc, text)?;
+    match Sound::make(alloc, &forest, face)? {
+        Some(made) => canonical_words(alloc, &made),
+        None => bail!("not sound"),
+    }
+}
+
+fn canonical_words(alloc: Global, forest: &Sound) -> Result<String> {
+    let is_rooted = has_root_kinds(alloc, forest)?;
+    let is_canonical = is_canonical(alloc, forest)?;
+    Ok(format!(in alloc; "{} {}", word(is_rooted), word(is_canonical))?)
+}
+
+fn word(is_so: bool) -> &'static str {
+    if is_so { "yes" } else { "no" }
 }
 
 fn table_of(alloc: Global, boxes: &[&str]) -> Result<BoxTable> {

@@ -36,6 +36,7 @@ impl Answers for Kinds {
             "cells" => boxed::count(alloc, text, wanted),
             "boxed-signatures" => boxed::signatures(alloc, text, wanted),
             "boxed-parts" => boxed::part_letters(alloc, text, wanted),
+            "boxed-canonical?" => boxed::canonical(alloc, text, wanted),
             "signatures" => signing::signatures(alloc, text),
             "copied" => signing::copied(alloc, text),
             "sample" => sampling::sampled(alloc, text),
