@@ -1,3 +1,4 @@
+pub mod Apart
 pub mod CountedRefs
 pub mod CutTrees
 pub mod DroppedBack
@@ -23,8 +24,11 @@ pub mod Named
 pub mod OtherOrders
 pub mod PlacedForests
 pub mod PlacedSpots
-pub mod RootTrees
+pub mod PutForests
+pub mod ReachedKept
 pub mod ReorderedSound
+pub mod RootTrees
+pub mod SeenHops
 pub mod Signatures
 pub mod StoreNumbers
 pub mod Rows

@@ -20,8 +20,7 @@ of-requires-clause-plain c =
     ∙ ap (reordered c.args.order.now) c.forest-2.ensures in
     let ranked : Every IsRanked F.autos = c.known.ensures.ranked in
     subst (λ (z : Forest). Every HasNoBoxes z.autos) (sym made)
-    (new_plain c.args.forest.now.face F c.args.order.now c.requires.all ranked c.requires.plain
-    c.known.ensures.sound)
+    (new_plain c.args.forest.now.face F c.args.order.now c.requires.all ranked c.known.ensures.sound c.requires.plain)
 
 pub of-requires-clause-sound : goal.of-requires-clause-sound
 of-requires-clause-sound c =
@@ -31,8 +30,7 @@ of-requires-clause-sound c =
     let ranked : Every IsRanked F.autos = c.known.ensures.ranked in
     rw c.face.ensures
     (subst (λ (z : Forest). IsSound c.args.forest.now.face z) (sym made)
-    (reordered_sound c.args.forest.now.face F c.args.order.now c.requires.all ranked c.requires.plain
-    c.known.ensures.sound))
+    (reordered_sound c.args.forest.now.face F c.args.order.now c.requires.all ranked c.known.ensures.sound))
 
 pub returns-clause-whole : goal.returns-clause-whole
 returns-clause-whole c =
