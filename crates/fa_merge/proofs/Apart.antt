@@ -12,7 +12,8 @@ use Rattle.fa_merge.specs.Dropped.{drop_leaf}
 use Rattle.fa_merge.specs.Merged.{lowered}
 use Rattle.fa_merge.specs.Reordered.{renumber}
 use Rattle.fa_merge.proofs.Lowered.{lowered_above, lowered_below}
-use Rattle.fa_leaves.proofs.PutSigns.{AreApart, put_signed}
+use Rattle.fa_leaves.specs.Leaves.{AreApart}
+use Rattle.fa_leaves.proofs.PutSigns.{put_signed}
 
 abbrev Is : Target → ℕ → Type 0
 Is Null j = ⊥

@@ -29,7 +29,8 @@ use Rattle.fa_merge.proofs.OtherOrders.{reorder_back, root_at, root_place}
 use Rattle.fa_merge.proofs.Apart.{renumber_apart}
 use Rattle.fa_merge.proofs.PlacedForests.{component_has}
 use Rattle.fa_merge.proofs.PutForests.{put_formed, full_kept}
-use Rattle.fa_leaves.proofs.PutSigns.{AreApart, put_signed}
+use Rattle.fa_leaves.specs.Leaves.{AreApart}
+use Rattle.fa_leaves.proofs.PutSigns.{put_signed}
 use Rattle.fa_sound.proofs.ComponentLemmas.{component_got}
 
 abbrev at_of : Target → ℕ
