@@ -14,6 +14,7 @@ pub mod LoneFound
 pub mod Lowered
 pub mod MergedAlike
 pub mod MergedAnywhere
+pub mod MergedCut
 pub mod MergedLast
 pub mod MergedRanks
 pub mod MergedSound
