@@ -1,4 +1,5 @@
--- A root merged into another: the forest stays filled, all trees of the merged component have one signature, and without
+-- A root merged into another: the forest stays filled, all trees of the merged component have one signature, and
+-- without
 -- box edges it stays sound.
 use Rattle.std.proofs.Common.{◌≡◌, ◌≢◌, ◌⊎◌, inl, inr, ℕ, zero, suc, ◌<◌, ◌++◌, true≢false, length, List, [], ◌∷◌, map}
 use Rattle.std.proofs.Common.{flat_map, refl, sym, ap, subst, ◌∙◌, slice_get, slice_set, Some, length-set, arith}
@@ -228,7 +229,7 @@ module _ (face : Face) (F : Forest) (r i : ℕ) (h : IsLone F r i) (sound : IsSo
   pub merged_filled : IsFilled face G
   merged_filled = filled_kept face F G sound.well_formed.filled (unmerge_any F r i h) formed
 
-  merged_full : Every HasSome G.autos
+  pub merged_full : Every HasSome G.autos
   merged_full = full_kept face F sound.well_formed.filled sound.full h.ranked G (λ T. merge_any F r i h T)
 
   -- Signatures.
@@ -263,7 +264,8 @@ module _ (face : Face) (F : Forest) (r i : ℕ) (h : IsLone F r i) (sound : IsSo
           absurd (new_tops i h.into g.0 g.1 (subst (λ (q : ℕ). IsIn q t.roots) (sym g.2) w.1) y g.3)
       by_cut (under n) ms e q g a x =
           let from : InLanguage t (bare n) = (w.0, w.1, node_bare t.rules w.0 n g) in
-          let once : IsOnce R (refs n) = subst (λ (k : ℕ). IsOnce k (refs n)) (last_new F r i h) (once_new F r i h n from) in
+          let once : IsOnce R (refs n) = subst (λ (k : ℕ). IsOnce k (refs n)) (last_new F r i h)
+          (once_new F r i h n from) in
           let k = once_tree R n ms x.0 x.2 once in
           let top : IsTop k.0 = (subst (λ (z : List Node). Every IsTop z) k.1 a).0 in (
             n,

@@ -1,11 +1,12 @@
 -- A component merged into the one whose trees refer to its root.
 use Rattle.std.specs.Prelude.{◌≡◌, ◌↔◌, ◌<◌, ℕ, ◌+◌, ◌-◌, Bool, false, nat_lt, if◌then◌else◌, nat_eq, List, [], ◌∷◌}
 use Rattle.std.specs.Prelude.{◌++◌, map, length, Some, slice_get, slice_set}
-use Rattle.fore_base.specs.Lists.{IsIn}
+use Rattle.fore_base.specs.Lists.{IsIn, Paired}
 use Rattle.fore_base.specs.declared.shape.Shape.{Shape}
 use Rattle.fore_base.specs.declared.store.Store.{Store}
 use Rattle.ta_core.specs.Auto.{Automaton}
 use Rattle.ta_core.specs.Joined.{shift}
+use Rattle.ta_core.specs.Language.{HasSameLanguage}
 use Rattle.ta_core.specs.Renumbered.{renumbered}
 use Rattle.ta_core.specs.declared.auto.Rule.{Rule}
 use Rattle.ta_core.specs.declared.symbol.Symbol.{Symbol}
