@@ -110,14 +110,14 @@ module _ (face : Face) (F : Forest) (sound : IsSound face F) (ranked : Every IsR
       (component_has P F.autos m.0 h (every_in (λ k. k < size) order m.0 below m.1))))
 
   new_sound : IsSound face G
-  new_sound = reordered_sound face F order all ranked plain sound
+  new_sound = reordered_sound face F order all ranked sound
 
   -- each choice of trees is that of a dressed forest
   dressed : (us : List Tree) → Choice G.autos us → (e : Nodes) × (bares e ≡ us) × OfForest [] G e
   dressed us c =
       let w = new_sound.well_formed.filled.trees us c in
       let d = dress_all [] 0 G.autos us w.tops (each_new IsRanked (placed_ranked (renumber f)) ranked)
-      (boxless_have_insides [] G.autos (new_plain face F order all ranked plain sound)) c w.are in
+      (boxless_have_insides [] G.autos (new_plain face F order all ranked sound plain)) c w.are in
       (d.nodes, d.trees, d.of)
 
   module _ (e : Nodes) (o : OfForest [] G e) where

@@ -1,6 +1,7 @@
 //! Rows of forests: merged, split, put in order, cut by signature, and made canonical.
 #![tactic(auto)]
 
+mod boxed;
 mod canonizing;
 mod deciding;
 mod kinds;

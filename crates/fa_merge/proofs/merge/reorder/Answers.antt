@@ -20,8 +20,7 @@ of-requires c =
     let ranked : Every IsRanked F.autos = c.known.ensures.ranked in
     rw c.face.ensures
     (subst (λ (z : Forest). IsSound c.args.forest.now.face z) (sym made)
-    (reordered_sound c.args.forest.now.face F c.args.order.now c.requires.all ranked c.requires.plain
-    c.known.ensures.sound))
+    (reordered_sound c.args.forest.now.face F c.args.order.now c.requires ranked c.known.ensures.sound))
 
 pub returns-clause-whole : goal.returns-clause-whole
 returns-clause-whole c =
@@ -30,7 +29,7 @@ returns-clause-whole c =
     let made : c.in_ok-made.made ≡ reordered order F = c.in_ok-made.ensures ∙ ap (reordered order) c.forest-2.ensures in
     IfOk-weaker c.of.result (λ s. s.forest ≡ c.in_ok-made.made) (λ s. (T : List BoxDef) → Regroups T s.forest F)
     (λ s e T. subst (λ (z : Forest). Regroups T z F) (sym (e ∙ made))
-    (reorder_onto T F (place_of order) order (an_order (length F.autos) order c.requires.all)))
+    (reorder_onto T F (place_of order) order (an_order (length F.autos) order c.requires)))
     c.of.ensures.forest
 
 pub returns-clause-regroups : goal.returns-clause-regroups
@@ -40,5 +39,5 @@ returns-clause-regroups c =
     let made : c.in_ok-made.made ≡ reordered order F = c.in_ok-made.ensures ∙ ap (reordered order) c.forest-2.ensures in
     IfOk-weaker c.of.result (λ s. s.forest ≡ c.in_ok-made.made) (λ s. (T : List BoxDef) → Regroups T F s.forest)
     (λ s e T. subst (λ (z : Forest). Regroups T F z) (sym (e ∙ made))
-    (reorder_back F (place_of order) order (an_order (length F.autos) order c.requires.all) T))
+    (reorder_back F (place_of order) order (an_order (length F.autos) order c.requires) T))
     c.of.ensures.forest

@@ -15,8 +15,8 @@ use Rattle.fa_order.proofs.NoWays.{plain_gives}
 use Rattle.fa_order.proofs.WalkOrder.{is_order, in_order_walks, reordered_same}
 use Rattle.fa_order.proofs.roots.place_roots.Goals as goal
 
-pub reorder-requires-clause-all : goal.reorder-requires-clause-all
-reorder-requires-clause-all c =
+pub reorder-requires : goal.reorder-requires
+reorder-requires c =
     let F = c.args.forest.now.forest in
     let face = c.args.forest.now.face in
     let sound = c.known.ensures.sound in
@@ -71,7 +71,7 @@ returns-clause-plain c =
     (λ s. Every HasNoBoxes s.forest.autos)
     (λ s value. subst (λ (x : Forest). Every HasNoBoxes x.autos)
     (sym (value ∙ ap (λ (ks : List ℕ). reordered ks F) c.as_slice.ensures))
-    (new_plain face F order all ranked c.requires.plain sound))
+    (new_plain face F order all ranked sound c.requires.plain))
     c.reorder.ensures.value
 
 pub returns-clause-same : goal.returns-clause-same
