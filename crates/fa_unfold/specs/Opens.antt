@@ -1,0 +1,57 @@
+-- What a dressed forest says outside of its insides: one item for each cell, and one for each slot. A box edge is
+-- opened where items with the facts of its inside take the place of its item.
+use Rattle.std.specs.Prelude.{◌≡◌, ℕ, List, [], ◌∷◌, ◌++◌, flat_map}
+use Rattle.fore_base.specs.declared.store.Value.{Value}
+use Rattle.fore_base.specs.declared.store.Value.TheVariants.{Cell}
+use Rattle.fore_base.specs.declared.store.Datum.{Datum}
+use Rattle.fa_core.specs.Dressed.{Node, Parts, End, Nodes, node, no_parts, field, link, hook, under, leaf, no_nodes}
+use Rattle.fa_core.specs.Dressed.{more, Fact, Head, Points, Seen, SeenField, SeenLink, SeenHook, roots_of, end_value}
+use Rattle.fa_core.specs.Dressed.{inside_facts}
+use Rattle.fa_core.specs.Rearranged.{Rearranged}
+
+-- a cell, or a slot of a cell with what it ends at
+pub data Item : Type 0 where
+  IsCell : (cell shape : ℕ) → List Datum → Item
+  HasSlot : (cell : ℕ) → Seen → Item
+
+abbrev mutual
+  -- the items of a tree
+  pub tree_items : List Value → Node → List Item
+  tree_items vs (node c s ds ps) = IsCell c s ds ∷ slot_items vs c ps
+
+  -- the items of the slots of cell c, and of what stands below them
+  pub slot_items : List Value → ℕ → Parts → List Item
+  slot_items vs c no_parts = []
+  slot_items vs c (field f e ps) = HasSlot c (SeenField f (end_value vs e)) ∷ (end_items vs e ++ slot_items vs c ps)
+  slot_items vs c (link b inside e ps) =
+      HasSlot c (SeenLink b inside (end_value vs e)) ∷ (end_items vs e ++ slot_items vs c ps)
+  slot_items vs c (hook b inside ps) = HasSlot c (SeenHook b inside) ∷ slot_items vs c ps
+
+  -- the items below an end
+  pub end_items : List Value → End → List Item
+  end_items vs (under n) = tree_items vs n
+  end_items vs (leaf t) = []
+
+-- the items of all trees
+abbrev pub forest_items : List Value → Nodes → List Item
+forest_items vs no_nodes = []
+forest_items vs (more n ns) = tree_items vs n ++ forest_items vs ns
+
+-- the items of a dressed forest
+abbrev pub items : Nodes → List Item
+items d = forest_items (roots_of d) d
+
+-- the facts for which an item stands
+abbrev pub opened : Item → List Fact
+opened (IsCell c s ds) = Head c s ds ∷ []
+opened (HasSlot c (SeenField f v)) = Points c f v ∷ []
+opened (HasSlot c (SeenLink b inside v)) = inside_facts (Cell c ∷ (v ∷ [])) inside
+opened (HasSlot c (SeenHook b inside)) = inside_facts (Cell c ∷ []) inside
+
+-- e is d with the one item x replaced by items that have its facts
+pub record Opens (x : Item) (d e : Nodes) : Type 0 where
+  pub others : List Item
+  pub gained : List Item
+  pub before : Rearranged (items d) (x ∷ others)
+  pub after : Rearranged (items e) (gained ++ others)
+  pub same : flat_map opened gained ≡ opened x
