@@ -10,7 +10,6 @@ use Rattle.fa_core.specs.Canonical.{LeadsBack}
 use Rattle.fa_core.specs.Ways.{Way, ways, leads_back, led_to}
 use Rattle.fa_core.proofs.Counts.{in_or_out}
 
-
 module _ (bs : List BoxFace) (i j r : ℕ) where
   abbrev WayLeads : Way → Type 0
   WayLeads w = (w.root ≡ i) × (((r ≡ j) × (leads_back bs w.steps ≡ true)) ⊎ IsIn r (led_to bs w.steps))

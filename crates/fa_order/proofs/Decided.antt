@@ -208,9 +208,13 @@ module _ (bs : List BoxFace) where
         elim
         (or_cases (not (nat_eq i r) && has r (roots_in (signature bs u))) (any_other r (suc i) (map (shown_of bs) us))
         h) [
-          | inl e ↦ (let a = and_parts (not (nat_eq i r)) (has r (roots_in (signature bs u))) e in
-              (0, u, refl, (λ z. not_true (nat_eq i r) a.0 (eq-eqb i r (let y : i ≡ i + 0 = omega arith in y ∙ z))),
-              has_refers u r a.1))
+          | inl e ↦ (let a = and_parts (not (nat_eq i r)) (has r (roots_in (signature bs u))) e in (
+            0,
+            u,
+            refl,
+            (λ z. not_true (nat_eq i r) a.0 (eq-eqb i r (let y : i ≡ i + 0 = omega arith in y ∙ z))),
+            has_refers u r a.1,
+          ))
           | inr e ↦ (let k = other_there r (suc i) us e in let y : i + suc k.0 ≡ suc i + k.0 = omega arith in
               (suc k.0, k.1, k.2, (λ z. k.3 (sym y ∙ z)), k.4))
         ]
@@ -235,10 +239,13 @@ module _ (bs : List BoxFace) where
     led_there r [] h = absurd (true≢false (sym h))
     led_there r (m ∷ ms) h =
         elim (or_cases (not (nat_eq m.root r) && (m.back || has r m.reach)) (any_leads r ms) h) [
-          | inl e ↦ (let a = and_parts (not (nat_eq m.root r)) (m.back || has r m.reach) e in
-              (m, inl refl, (λ z. not_true (nat_eq m.root r) a.0 (eq-eqb m.root r z)),
-              elim (or_cases m.back (has r m.reach) a.1)
-              [ inl b ↦ inl (refl, b) | inr b ↦ inr (has_in r m.reach b) ]))
+          | inl e ↦ (let a = and_parts (not (nat_eq m.root r)) (m.back || has r m.reach) e in (
+            m,
+            inl refl,
+            (λ z. not_true (nat_eq m.root r) a.0 (eq-eqb m.root r z)),
+            elim (or_cases m.back (has r m.reach) a.1)
+                [ inl b ↦ inl (refl, b) | inr b ↦ inr (has_in r m.reach b) ],
+          ))
           | inr e ↦ (let k = led_there r ms e in (k.0, inr k.1, k.2, k.3))
         ]
 

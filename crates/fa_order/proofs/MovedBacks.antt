@@ -112,11 +112,19 @@ module _ (f : ℕ → ℕ) where
       leads_on i j r l =
           let u = m.down j l.0 l.1 in
           let w = l.2 in
-          let i' : IsIn (moved_way w.0) (ways u.0) = rw u.2 (in_map moved_way w.0 (ways l.0) w.1) in
-          (u.0, u.1, (moved_way w.0, i', ap f w.2, elim w.3 [
-            | inl h ↦ inl (ap f h.0, back_moved bs w.0.steps ∙ h.1)
-            | inr h ↦ inr (rw (led_moved bs w.0.steps) (in_map f r (led_to bs w.0.steps) h))
-          ]))
+          let i' : IsIn (moved_way w.0) (ways u.0) = rw u.2 (in_map moved_way w.0 (ways l.0) w.1) in (
+            u.0,
+            u.1,
+            (
+              moved_way w.0,
+              i',
+              ap f w.2,
+              elim w.3 [
+                | inl h ↦ inl (ap f h.0, back_moved bs w.0.steps ∙ h.1)
+                | inr h ↦ inr (rw (led_moved bs w.0.steps) (in_map f r (led_to bs w.0.steps) h))
+              ],
+            ),
+          )
 
       leads_up : (i j r : ℕ) → LeadsBack bs us i j r → LeadsBack bs ts (g i) (g j) (g r)
       leads_up i j r l =
@@ -124,11 +132,19 @@ module _ (f : ℕ → ℕ) where
           let w = l.2 in
           let x = in_mapped moved_way w.0 (ways t.0) (subst (λ (z : List Way). IsIn w.0 z) t.2 w.1) in
           let root : x.0.root ≡ g i = sym (there x.0.root) ∙ ap g (sym (ap (λ (v : Way). v.root) x.2) ∙ w.2) in
-          let steps : w.0.steps ≡ map moved_step x.0.steps = ap (λ (v : Way). v.steps) x.2 in
-          (t.0, t.1, (x.0, x.1, root, elim w.3 [
-            | inl h ↦ inl (ap g h.0, sym (back_moved bs x.0.steps) ∙ ap (leads_back bs) (sym steps) ∙ h.1)
-            | inr h ↦ (let y = in_mapped f r (led_to bs x.0.steps) (subst (λ (z : List ℕ). IsIn r z) (ap (led_to bs) steps ∙ led_moved bs x.0.steps) h) in inr (subst (λ (z : ℕ). IsIn z (led_to bs x.0.steps)) (sym (there y.0) ∙ ap g (sym y.2)) y.1))
-          ]))
+          let steps : w.0.steps ≡ map moved_step x.0.steps = ap (λ (v : Way). v.steps) x.2 in (
+            t.0,
+            t.1,
+            (
+              x.0,
+              x.1,
+              root,
+              elim w.3 [
+                | inl h ↦ inl (ap g h.0, sym (back_moved bs x.0.steps) ∙ ap (leads_back bs) (sym steps) ∙ h.1)
+                | inr h ↦ (let y = in_mapped f r (led_to bs x.0.steps) (subst (λ (z : List ℕ). IsIn r z) (ap (led_to bs) steps ∙ led_moved bs x.0.steps) h) in inr (subst (λ (z : ℕ). IsIn z (led_to bs x.0.steps)) (sym (there y.0) ∙ ap g (sym y.2)) y.1))
+              ],
+            ),
+          )
 
       pub leads_from : (i j r : ℕ) → LeadsBack bs us (f i) (f j) (f r) → LeadsBack bs ts i j r
       leads_from i j r l = subst (λ (z : ℕ). LeadsBack bs ts i j z) (there r) (subst (λ (z : ℕ). LeadsBack bs ts i z (g (f r))) (there j) (subst (λ (z : ℕ). LeadsBack bs ts z (g (f j)) (g (f r))) (there i) (leads_up (f i) (f j) (f r) l)))

@@ -155,16 +155,21 @@ module _ (ss : List Signature) (placed : List ℕ) (i k : ℕ) (s : Signature) (
           → ((f : ℕ) → SignOpen s.refs placed i k → SignGives s.refs i f → (b : Giver) × (o ≡ Some b) × (b.field ≤ f))
           → IsBest ss placed i (k + 1) o
       stays None h kept = here (λ j f. ⊥) (λ f o g. none-some (kept f o g).0 (kept f o g).1) h
-      stays (Some b) h kept = (h.0, h.1, here (λ j f. b.field ≤ f)
-          (λ f o g. let w = kept f o g in subst (λ (x : Giver). x.field ≤ f) (sym (same_Some b w.0 w.1)) w.2) h.2)
+      stays (Some b) h kept = (
+        h.0,
+        h.1,
+        here (λ j f. b.field ≤ f)
+            (λ f o g. let w = kept f o g in subst (λ (x : Giver). x.field ≤ f) (sym (same_Some b w.0 w.1)) w.2) h.2,
+      )
   better_best best made h (inr (g, is, into, o, gives, least, less)) =
-      subst (IsBest ss placed i (k + 1)) (sym is)
-      (subst (λ (z : ℕ). IsOpenAt (LeadsBy ss) placed i z) (sym into) (at_open ss k s at placed i o),
-      subst (λ (z : ℕ). GivesBy ss i z g.field) (sym into) (at_gives ss k s at i g.field gives),
-      (λ j f l w v. elim (next_or j l) [
-        | inl m ↦ earlier best h less j f m w v
-        | inr e ↦ least f (gives_at ss k s at i f (subst (λ (z : ℕ). GivesBy ss i z f) e v))
-      ]))
+      subst (IsBest ss placed i (k + 1)) (sym is) (
+        subst (λ (z : ℕ). IsOpenAt (LeadsBy ss) placed i z) (sym into) (at_open ss k s at placed i o),
+        subst (λ (z : ℕ). GivesBy ss i z g.field) (sym into) (at_gives ss k s at i g.field gives),
+        (λ j f l w v. elim (next_or j l) [
+          | inl m ↦ earlier best h less j f m w v
+          | inr e ↦ least f (gives_at ss k s at i f (subst (λ (z : ℕ). GivesBy ss i z f) e v))
+        ]),
+      )
     where
       earlier : (b : Option Giver) → IsBest ss placed i k b → ((x : Giver) → b ≡ Some x → g.field ≤ x.field)
           → (j f : ℕ) → j < k → IsOpenAt (LeadsBy ss) placed i j → GivesBy ss i j f → g.field ≤ f
@@ -215,14 +220,26 @@ pub lesser_better : (ms : List RefMark) (placed : List ℕ) (i j field : ℕ) (b
     → IsLeastIn (fields_to i ms) (Some field) → SignOpen ms placed i j
     → IsLesser best (record { into = j; field = field }) made → IsBetter ms placed i j best (Some made)
 lesser_better ms placed i j field best made least o (inl h) =
-    inr (made, refl, ap (λ (g : Giver). g.into) h.0, o,
-    subst (λ (g : Giver). SignGives ms i g.field) (sym h.0) (fields_give i ms field least.0),
-    (λ f g. subst (λ (z : Giver). z.field ≤ f) (sym h.0) (every_in (λ y. field ≤ y) (fields_to i ms) f least.1
-    (give_fields i ms f g))),
-    (λ b e. subst (λ (z : Giver). z.field ≤ b.field) (sym h.0) (h.1 b e)))
+    inr (
+      made,
+      refl,
+      ap (λ (g : Giver). g.into) h.0,
+      o,
+      subst (λ (g : Giver). SignGives ms i g.field) (sym h.0) (fields_give i ms field least.0),
+      (λ f g. subst (λ (z : Giver). z.field ≤ f) (sym h.0) (every_in (λ y. field ≤ y) (fields_to i ms) f least.1
+          (give_fields i ms f g))),
+      (λ b e. subst (λ (z : Giver). z.field ≤ b.field) (sym h.0) (h.1 b e)),
+    )
 lesser_better ms placed i j field best made least o (inr h) =
-    inl (sym h.0, (λ f p g. (made, h.0, (let a = every_in (λ y. field ≤ y) (fields_to i ms) f least.1 (give_fields i ms f g)
-    in let b = h.1 in omega (arith, a, b)))))
+    inl (
+      sym h.0,
+      (λ f p g. (
+        made,
+        h.0,
+        (let a = every_in (λ y. field ≤ y) (fields_to i ms) f least.1 (give_fields i ms f g)
+            in let b = h.1 in omega (arith, a, b)),
+      )),
+    )
 
 pub none_better : (ms : List RefMark) (placed : List ℕ) (i j : ℕ) (best : Option Giver) → fields_to i ms ≡ []
     → IsBetter ms placed i j best best

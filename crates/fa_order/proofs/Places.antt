@@ -78,8 +78,10 @@ one_place i (x ∷ xs) a b h k e = here (nat_eq x a) refl (nat_eq x b) refl h k 
     later : (c : ℕ) → nat_eq x c ≡ false → IsIn c (x ∷ xs) → IsIn c xs
     later c d (inl z) = absurd (true≢false (sym (eq-eqb x c (sym z)) ∙ d))
     later c d (inr z) = z
+
     past : (n : ℕ) → suc n ≤ n → ⊥
     past n l = omega (arith, l)
+
     here : (u : Bool) → nat_eq x a ≡ u → (v : Bool) → nat_eq x b ≡ v → IsIn a (x ∷ xs) → IsIn b (x ∷ xs) → cond u i (place_from (suc i) xs a) ≡ cond v i (place_from (suc i) xs b)
         → (IsIn a xs → IsIn b xs → place_from (suc i) xs a ≡ place_from (suc i) xs b → a ≡ b) → a ≡ b
     here true d true f h k e g = sym (eqb-true x a d) ∙ eqb-true x b f

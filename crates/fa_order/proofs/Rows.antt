@@ -132,7 +132,7 @@ three_next = record {
   };
 }
   where
-    new : IsIn 3 (0 ∷ 1 ∷ 2 ∷ []) → ⊥
+    new : IsIn {X = ℕ} 3 (0 ∷ 1 ∷ 2 ∷ []) → ⊥
     new i = elim i [
       | inl e ↦ omega (arith, e)
       | inr j ↦ elim j [ inl e ↦ omega (arith, e) | inr k ↦ elim k [ inl e ↦ omega (arith, e) | inr z ↦ z ] ]
@@ -140,7 +140,7 @@ three_next = record {
 
     least : (j f : ℕ) → IsOpenAt Back (0 ∷ 1 ∷ 2 ∷ []) 0 j → Gift 0 j f → 5 ≤ f
     least j f o gives_five = omega arith
-    least j f (x, n, into_two) gives_three = 
+    least j f (x, n, into_two) gives_three =
         absurd (let i : IsIn 2 (0 ∷ 1 ∷ 2 ∷ []) = inr (inr (inl refl)) in n i)
 
 -- no field, no way on: a way back that gives nothing leaves the walk stuck

@@ -56,8 +56,12 @@ module _ (f g : ℕ → ℕ) (there : (k : ℕ) → g (f k) ≡ k) (bs : List Bo
       record {
         from = f h.from;
         into = f h.into;
-        open_way = (f way.0, high way.0 way.1, low h.from h.lowest.is_placed,
-            leads_on f g there bs ts us m h.from h.into way.0 way.2);
+        open_way = (
+          f way.0,
+          high way.0 way.1,
+          low h.from h.lowest.is_placed,
+          leads_on f g there bs ts us m h.from h.into way.0 way.2,
+        );
         lowest = λ i j o. (let w = open_from i j o in
             let l = h.lowest.lowest (g i) (g j) w.0 w.1 in
             let a = same h.from h.lowest.is_placed in

@@ -14,11 +14,7 @@ use fa_core::signature::{RefMark, Signature};
 use fore_base::list::List;
 
 /// The root at which the walk goes on, where these are placed and nothing is left to visit. None where it has ended.
-pub fn next_led(
-    signatures: &[Signature],
-    refers: &List<List<u32>>,
-    placed: &[u32],
-) -> Option<u32>
+pub fn next_led(signatures: &[Signature], refers: &List<List<u32>>, placed: &[u32]) -> Option<u32>
     requires long { length signatures.now ≡ length refers.now }
     requires few { length signatures.now < 2 ^ 32 }
     requires refers { Every (AllBelow (length refers.now)) refers.now }
@@ -73,7 +69,13 @@ fn led_into(
     if !is_in(into, placed) && does_lead(marks, from, into, into) {
         return into;
     }
-    match first_led(marks, refers.at(into as usize).as_slice(), placed, from, into) {
+    match first_led(
+        marks,
+        refers.at(into as usize).as_slice(),
+        placed,
+        from,
+        into,
+    ) {
         Some(root) => root,
         None => unreachable!(),
     }
@@ -267,13 +269,7 @@ fn lesser_number(least: Option<u32>, other: u32) -> u32
     ensures { (xs : List ℕ) → IsLeastIn xs least → IsLeastIn (xs ++ other ∷ []) (Some result) }
 {
     match least {
-        Some(number) => {
-            if number <= other {
-                number
-            } else {
-                other
-            }
-        }
+        Some(number) => { if number <= other { number } else { other } }
         None => other,
     }
 }
