@@ -1,19 +1,18 @@
 -- The greatest simulation, as a table; where no rule matches another, none is needless.
-use Rattle.std.proofs.Common.{◌≡◌, inl, inr, ℕ, ◌<◌, List, length, Some, refl, subst}
+use Rattle.std.proofs.Common.{◌≡◌, inl, inr, ℕ, ◌<◌, List, Some, refl}
 use Rattle.std.specs.List.{slice_get}
 use Rattle.std.proofs.lemmas.Bool.{cases_order}
 use Rattle.fore_base.specs.Lists.{Every, Paired}
 use Rattle.fore_base.proofs.ListLemmas.{every_in, in_every, in_from_place, paired_carried, paired_same}
 use Rattle.ta_core.specs.declared.auto.Rule.{Rule}
 use Rattle.ta_core.specs.Auto.{Automaton, IsRanked, IsRankedRule}
-use Rattle.ta_core.specs.Language.{IsTrim}
-use Rattle.ta_core.specs.Simulations.{IsSimulated, IsDownward, AutoReduced}
+use Rattle.ta_core.specs.Simulations.{IsSimulated, IsDownward}
 use Rattle.ta_sim.specs.Relations.{Table, IsSquare, Holds, entry}
 use Rattle.ta_sim.proofs.Rounds.{related_low, row_there}
 use Rattle.ta_sim.proofs.Simulated.{simulated_same, simulated_through}
 use Rattle.ta_reduce.specs.inner.Reduction.{IsGreatest, IsPreorder, HasNoneNeedless}
-use Rattle.ta_reduce.specs.inner.Thinned.{Matches, Misses, EachLater, AreNeeded}
-use Rattle.ta_reduce.proofs.Sublists.{later_at, sub_same}
+use Rattle.ta_reduce.specs.inner.Thinned.{Matches, Misses, EachLater}
+use Rattle.ta_reduce.proofs.Sublists.{later_at}
 
 -- a downward simulation that has each one in it is the greatest
 pub greatest_from : (a : Automaton) (rel : Table) → rel.size ≡ a.states → IsDownward a.rules (Holds rel)

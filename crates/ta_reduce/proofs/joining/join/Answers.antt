@@ -1,4 +1,3 @@
-use Rattle.std.proofs.Common.{sym}
 use Rattle.ta_reduce.proofs.Joined.{numbers_low}
 use Rattle.ta_reduce.proofs.joining.join.Goals as goal
 

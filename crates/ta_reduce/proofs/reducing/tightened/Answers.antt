@@ -1,8 +1,7 @@
-use Rattle.std.proofs.Common.{◌≡◌, length, ap, subst, sym, ◌∙◌}
+use Rattle.std.proofs.Common.{◌≡◌, length, ap, ◌∙◌}
 use Rattle.std.proofs.lemmas.Result.{IfOk-weaker}
-use Rattle.ta_classes.specs.Classes.{AreClasses}
 use Rattle.ta_core.specs.Auto.{Automaton}
-use Rattle.ta_reduce.specs.inner.Reduction.{AreMutual, IsLeft, IsTight, Preserves}
+use Rattle.ta_reduce.specs.inner.Reduction.{IsLeft, IsTight, Preserves}
 use Rattle.ta_reduce.proofs.Steps.{among_greatest, tightened_from}
 use Rattle.ta_reduce.proofs.Tight.{greatest_preorder}
 use Rattle.ta_reduce.proofs.reducing.tightened.Goals as goal
