@@ -27,15 +27,15 @@ pub fn choices_are_dressed()
         → (T : List BoxDef) × (d : Nodes) × OfForest T F d × (bares d ≡ ts) × IsDistinct (all_numbers d) }
 {}
 
-/// Where no two roots become one, an automaton with other leaves in the place of references keeps that the trees of each
-/// state, and all that are accepted, have one signature.
+/// Where no two roots become one, an automaton with other leaves in the place of references keeps that the trees of
+/// each state, and all that are accepted, have one signature.
 pub fn other_leaves_keep_signatures()
     ensures { (face : Face) (f : ℕ → Target) (a : Automaton) → AreApart f → IsRanked a → RulesFit face a
         → HasSignatures face.boxes a → HasSignatures face.boxes (placed_auto f a) }
 {}
 
-/// Where a tree has one reference to a root, and another tree none, the signature of the one with the other in the place
-/// of that reference follows from the signatures of both.
+/// Where a tree has one reference to a root, and another tree none, the signature of the one with the other in the
+/// place of that reference follows from the signatures of both.
 pub fn grafts_follow_signatures()
     ensures { (bs : List BoxFace) (r : ℕ) (m n l k : Node) → IsOnce r (refs n) → IsNever r (refs m)
         → IsOnce r (refs k) → IsNever r (refs l) → signature bs (bare n) ≡ signature bs (bare k)

@@ -151,7 +151,8 @@ module _ (face : Face) (F : Forest) (r i : ℕ) (h : IsLone F r i) (sound : IsSo
       autos_are = set_twice (others_new F r i h) place both piece
 
       -- the same trees
-      pub cut_trees : HasTreesOf (merged_at r i F) (with_component (merged_at r i F) (to_last (length F.autos) r i) piece)
+      pub cut_trees : HasTreesOf (merged_at r i F)
+          (with_component (merged_at r i F) (to_last (length F.autos) r i) piece)
       cut_trees = record {
         autos = subst (λ (z : List Automaton). Paired HasSameLanguage (merged_at r i F).autos z) (sym autos_are)
             (set_language (others_new F r i h) place both piece same_language);
@@ -161,15 +162,17 @@ module _ (face : Face) (F : Forest) (r i : ℕ) (h : IsLone F r i) (sound : IsSo
 
       piece_fits : RulesFit face piece
       piece_fits = in_every (λ (x : Rule). SymbolFits face x.symbol) piece.rules
-          (λ x j. (let o = every_in (λ (y : Rule). (o : Rule) × IsIn o whole.rules × (o.symbol ≡ y.symbol)) piece.rules x
-          is.symbols j in
-          subst (SymbolFits face) o.2 (every_in (λ (y : Rule). SymbolFits face y.symbol) whole.rules o.0 whole_fits o.1)))
+          (λ x j. (let o = every_in (λ (y : Rule). (o : Rule) × IsIn o whole.rules × (o.symbol ≡ y.symbol))
+          piece.rules x is.symbols j in
+          subst (SymbolFits face) o.2
+          (every_in (λ (y : Rule). SymbolFits face y.symbol) whole.rules o.0 whole_fits o.1)))
         where
           whole_fits : RulesFit face (component_at (merged_at r i F).autos (to_last (length F.autos) r i))
           whole_fits = component_has (RulesFit face) (merged_at r i F).autos (to_last (length F.autos) r i)
               (merged_filled face F r i h sound).rules place_within
 
-      each_cut : (P : Automaton → Type 0) → ((k : ℕ) → k < length F.autos → P (new F r i h k)) → P piece → Every P H.autos
+      each_cut : (P : Automaton → Type 0) → ((k : ℕ) → k < length F.autos → P (new F r i h k)) → P piece
+          → Every P H.autos
       each_cut P old one = subst (λ (z : List Automaton). Every P z) (sym autos_are)
           (each_with face F r i h sound P piece (λ k l d e. old k l) one)
 

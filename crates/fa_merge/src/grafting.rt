@@ -1,5 +1,6 @@
 // A root merged into the one whose trees refer to it, as a sound forest. Where the trees of some state of the merged
-// component have several signatures, that component is cut by signature. All of its trees have one, so one piece is left.
+// component have several signatures, that component is cut by signature. All of its trees have one, so one piece is
+// left.
 
 ghost use Rattle.std.specs.Prelude.{◌≡◌, List, length, IfOk};
 ghost use Rattle.fore_base.specs.Lists.{Every};

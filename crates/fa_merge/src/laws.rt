@@ -37,9 +37,9 @@ pub fn reaching_is_decided()
         ⊎ ((r : ℕ) × IsLeastUnreached face F r) }
 {}
 
-/// Where each root of a forest is reached, so is each root of a forest that is regrouped into it for every box table, if
-/// each face that leads back gives its output something. So where two sound forests regroup each other and a root of the
-/// one is not reached, a least root of the other is not.
+/// Where each root of a forest is reached, so is each root of a forest that is regrouped into it for every box table,
+/// if each face that leads back gives its output something. So where two sound forests regroup each other and a root
+/// of the one is not reached, a least root of the other is not.
 pub fn regrouping_keeps_reached()
     ensures kept { (face : Face) (F G : Forest) → Every IsGiving face.boxes → IsFilled face F → IsFilled face G
         → Every IsRanked G.autos → ((T : List BoxDef) → Regroups T F G) → AreAllReached face F → AreAllReached face G }

@@ -1,5 +1,5 @@
-// Forests with box edges, over two boxes from a pair to a pair that cover a at the one and give b to the other: the first
-// leads back, as an edge of a doubly linked list, and the second does not.
+// Forests with box edges, over two boxes from a pair to a pair that cover a at the one and give b to the other: the
+// first leads back, as an edge of a doubly linked list, and the second does not.
 
 use crate::roots::{exchanged_text, leaking_text, merged_letters};
 use anyhow::{Result, bail};

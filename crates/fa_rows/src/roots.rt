@@ -83,12 +83,7 @@ pub fn merged(alloc: Global, text: &str, root: u32, wanted: &[&str]) -> Result<S
     merged_letters(alloc, &forest, root, wanted)
 }
 
-pub fn merged_letters(
-    alloc: Global,
-    forest: &Sound,
-    root: u32,
-    wanted: &[&str],
-) -> Result<String> {
+pub fn merged_letters(alloc: Global, forest: &Sound, root: u32, wanted: &[&str]) -> Result<String> {
     if !has_root(forest, root) {
         bail!("no such root");
     }
