@@ -1,0 +1,10 @@
+pub mod LiftEdges
+pub mod LiftHats
+pub mod LiftHoles
+pub mod LiftOwners
+pub mod LiftProvides
+pub mod LiftRows
+pub mod LiftSound
+pub mod LiftSteps
+pub mod LiftedForests
+pub mod LiftedRoots
