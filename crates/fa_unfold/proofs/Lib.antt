@@ -1,6 +1,7 @@
 pub mod LiftEdges
 pub mod LiftHats
 pub mod LiftHoles
+pub mod LiftLists
 pub mod LiftOwners
 pub mod LiftProvides
 pub mod LiftRows
