@@ -1,5 +1,8 @@
-// Forests with box edges, over two boxes from a pair to a pair that cover a at the one and give b to the other: the
-// first leads back, as an edge of a doubly linked list, and the second does not.
+// Sound forests with box edges, over the structs of all forests and five boxes.
+
+ghost use Rattle.std.specs.Prelude.{IfOk};
+ghost use Rattle.fore_base.specs.Lists.{Every};
+ghost use Rattle.fa_core.specs.Faces.{IsGiving};
 
 use crate::roots::{exchanged_text, leaking_text, merged_letters};
 use anyhow::{Result, bail};
@@ -8,13 +11,6 @@ use fa_sound::Sound;
 use fore_base::list::List;
 use row_forests::{face, forest_of};
 use std::alloc::Global;
-
-// The struct `pair`, and its fields a and b.
-const PAIR: u32 = 1;
-
-const A: u32 = 0;
-
-const B: u32 = 1;
 
 // boxed-leaking: the least root that leaks.
 pub fn leaking(alloc: Global, text: &str) -> Result<String> {
@@ -34,36 +30,67 @@ pub fn merged(alloc: Global, text: &str, root: u32, wanted: &[&str]) -> Result<S
     merged_letters(alloc, &forest, root, wanted)
 }
 
-// The sound forest of the text, over the boxes.
-fn boxed(alloc: Global, text: &str) -> Result<Sound> {
-    let face = boxed_face(alloc)?;
-    boxed_over(alloc, text, &face)
-}
-
-fn boxed_over(alloc: Global, text: &str, face: &Face) -> Result<Sound> {
+/// The sound forest of the text. Err is a text that cannot be read, a forest that is not sound, and want of memory.
+pub fn boxed(alloc: Global, text: &str) -> Result<Sound>
+    ensures { IfOk result (λ s. Every IsGiving s.face.boxes) }
+{
+    let face = face_with_boxes(alloc)?;
     let forest = forest_of(alloc, text)?;
-    match Sound::make(alloc, &forest, face)? {
+    match Sound::make(alloc, &forest, &face)? {
         Some(made) => Ok(made),
         None => bail!("not sound"),
     }
 }
 
-fn boxed_face(alloc: Global) -> Result<Face> {
-    let Face { shapes, .. } = face(alloc)?;
-    let mut boxes = List::new(alloc);
-    boxes.push(pair_box(alloc, true)?)?;
-    boxes.push(pair_box(alloc, false)?)?;
-    Ok(Face { shapes, boxes })
+fn face_with_boxes(alloc: Global) -> Result<Face>
+    ensures { IfOk result (λ face. Every IsGiving face.boxes) }
+{
+    let plain = face(alloc)?;
+    let boxes = boxes(alloc)?;
+    Ok(Face {
+        shapes: plain.shapes,
+        boxes,
+    })
 }
 
-fn pair_box(alloc: Global, back: bool) -> Result<BoxFace> {
-    let gives_in = List::from_slice(alloc, &[A])?;
-    let gives_out = List::from_slice(alloc, &[B])?;
+// Box 0 is an edge of a list of pairs that leads back by the second field, which it gives the pair at its end; box 4
+// gives it too, and does not lead back. Box 1 is an edge of nodes, box 2 a ring of nodes, and box 3 an edge of trios:
+// they give the cell at their end nothing.
+fn boxes(alloc: Global) -> Result<List<BoxFace>>
+    ensures { IfOk result (Every IsGiving) }
+{
+    let mut boxes = List::new(alloc);
+    boxes.push(pair_edge(alloc, true)?)?;
+    boxes.push(edge(alloc, 0, Some(0))?)?;
+    boxes.push(edge(alloc, 0, None)?)?;
+    boxes.push(edge(alloc, 4, Some(4))?)?;
+    boxes.push(pair_edge(alloc, false)?)?;
+    Ok(boxes)
+}
+
+fn pair_edge(alloc: Global, back: bool) -> Result<BoxFace>
+    ensures { IfOk result IsGiving }
+{
+    let gives_in = List::from_slice(alloc, &[0])?;
+    let gives_out = List::from_slice(alloc, &[1])?;
     Ok(BoxFace {
-        input: PAIR,
-        output: Some(PAIR),
+        input: 1,
+        output: Some(1),
         gives_in,
         gives_out,
         back,
+    })
+}
+
+fn edge(alloc: Global, input: u32, output: Option<u32>) -> Result<BoxFace>
+    ensures { IfOk result IsGiving }
+{
+    let gives_in = List::from_slice(alloc, &[0])?;
+    Ok(BoxFace {
+        input,
+        output,
+        gives_in,
+        gives_out: List::new(alloc),
+        back: false,
     })
 }

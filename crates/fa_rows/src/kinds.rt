@@ -3,6 +3,7 @@
 use crate::boxed;
 use crate::canonizing::{canonical_letters, turned_letters};
 use crate::deciding::decided;
+use crate::lifting::lifted_letters;
 use crate::placing::{placed, reduced};
 use crate::roots::{dropped, exchanged, leaking, merged};
 use crate::splitting::{chosen_letters, split_letters};
@@ -53,6 +54,7 @@ fn answer_at(alloc: Global, head: &str, text: &str, wanted: &[&str]) -> Result<S
         "merged" => merged(alloc, text, root, wanted),
         "boxed-merged" => boxed::merged(alloc, text, root, wanted),
         "chosen" => chosen_letters(alloc, text, root, wanted),
+        "lifted" => lifted_letters(alloc, text, root, number_at(head, 2)?, wanted),
         "split" => split_letters(alloc, text, root, number_at(head, 2)?, wanted),
         _ => bail!("no such kind"),
     }

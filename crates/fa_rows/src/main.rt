@@ -5,6 +5,7 @@ mod boxed;
 mod canonizing;
 mod deciding;
 mod kinds;
+mod lifting;
 mod placing;
 mod roots;
 mod splitting;
