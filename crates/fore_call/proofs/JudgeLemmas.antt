@@ -1,4 +1,4 @@
--- What is right for one file, and for one after another, is right for what is asked.
+-- What is right for one file after another is right for what is asked, and what is right for that for the words.
 use Rattle.std.proofs.Common.{◌≤◌, ◌⊎◌, inl, inr, List, [], ◌∷◌, ◌++◌, ℕ, Some, sym, ◌∙◌, ap, subst, refl, arith}
 use Rattle.std.proofs.lemmas.List.{append_assoc}
 use Rattle.fore_base.specs.NamedFiles.{reading}
