@@ -1,108 +1,22 @@
--- What is right for one file, and for one after another, is right for what is asked.
-use Rattle.std.proofs.Common.{
-  ◌≡◌,
-  ◌≤◌,
-  ◌⊎◌,
-  inl,
-  inr,
-  List,
-  [],
-  ◌∷◌,
-  ◌++◌,
-  ℕ,
-  Option,
-  Some,
-  None,
-  sym,
-  ◌∙◌,
-  ap,
-  subst,
-  refl,
-  arith,
-}
+-- What is right for one file after another is right for what is asked, and what is right for that for the words.
+use Rattle.std.proofs.Common.{◌≤◌, ◌⊎◌, inl, inr, List, [], ◌∷◌, ◌++◌, ℕ, Some, sym, ◌∙◌, ap, subst, refl, arith}
 use Rattle.std.proofs.lemmas.List.{append_assoc}
 use Rattle.fore_base.specs.NamedFiles.{reading}
 use Rattle.fore_base.specs.Outside.{Rose}
 use Rattle.fore_base.specs.declared.named_files.NamedFile.{NamedFile}
 use Rattle.c_types.specs.Program.{Program}
-use Rattle.fore_read.specs.declared.fault.ReadFault.{ReadFault as Fault}
-use Rattle.fore_read.specs.declared.fault.ReadFault.TheVariants as fault
-use Rattle.fore_read.specs.Readings.{ShelfView, Reading, AreReadings, HasFailed, AreAtMost, ReadsAtMost}
-use Rattle.fore_read.specs.Files.{GivesProgram, IsFileFault, AreBoxesFault, GivesTable, AreRefusedBoxes}
+use Rattle.fore_read.specs.Readings.{ShelfView, Reading, AreReadings, AreAtMost, ReadsAtMost}
+use Rattle.fore_read.specs.Files.{GivesProgram, AreRefusedBoxes}
 use Rattle.fore_words.specs.declared.asked.Settings.{Settings}
 use Rattle.fore_words.specs.declared.asked.Asked.{Asked}
-use Rattle.fore_words.specs.declared.asked.Asked.TheVariants.{Verify, Run, Gen}
+use Rattle.fore_words.specs.declared.asked.Asked.TheVariants.{Verify}
 use Rattle.fore_words.specs.Words.{IsAsked}
 use Rattle.fore_call.specs.declared.answer.Answer.{Answer}
 use Rattle.fore_call.specs.declared.answer.Answer.TheVariants.{Verified, Ran, Usage, Refused, ReadFault, NoMemory}
 use Rattle.fore_call.specs.Calls.{Request}
-use Rattle.fore_call.specs.Names.{file_of, boxes_of, LetsRead}
+use Rattle.fore_call.specs.Names.{LetsRead}
 use Rattle.fore_call.specs.Verdict.{IsRight, IsRightFor, ReadsOnly, AreUnused}
-use Rattle.fore_call.specs.inner.Judging.{IsVerdict, IsRunOf, IsBoxesAnswer, ReadsFor, answer_to}
-
--- One file
-
-module _ (r : Reading) (path : List ℕ) where
-  -- why a file is not taken is what is answered
-  pub no_verdict : (settings : Settings) (e : Fault) → IsFileFault r path e
-      → IsRightFor r (Verify path None settings) (answer_to e)
-  no_verdict settings (fault.Refused why) h = h
-  no_verdict settings fault.Failed h = h
-  no_verdict settings fault.Memory h = tt
-
-  pub no_run : (choices : List ℕ) (steps : ℕ) (e : Fault) → IsFileFault r path e
-      → IsRightFor r (Run path choices steps) (answer_to e)
-  no_run choices steps (fault.Refused why) h = h
-  no_run choices steps fault.Failed h = h
-  no_run choices steps fault.Memory h = tt
-
-  pub no_boxes_either : (boxes : List ℕ) (settings : Settings) (e : Fault) → IsFileFault r path e
-      → IsRightFor r (Verify path (Some boxes) settings) (answer_to e)
-  no_boxes_either boxes settings (fault.Refused why) h = inl h
-  no_boxes_either boxes settings fault.Failed h = inl h
-  no_boxes_either boxes settings fault.Memory h = tt
-
-  -- what is right for the program of the file is right for the file
-  module _ (p : Program) (gives : GivesProgram r path [] p) where
-    pub verdict_of_file : (settings : Settings) (a : Answer) → IsVerdict p settings a
-        → IsRightFor r (Verify path None settings) a
-    verdict_of_file settings (Verified verdict text) h = (p, gives, h)
-    verdict_of_file settings (Ran outcome) h = absurd h
-    verdict_of_file settings Usage h = absurd h
-    verdict_of_file settings (Refused why) h = absurd h
-    verdict_of_file settings ReadFault h = absurd h
-    verdict_of_file settings NoMemory h = tt
-
-    pub run_of_file : (choices : List ℕ) (steps : ℕ) (a : Answer) → IsRunOf p choices steps a
-        → IsRightFor r (Run path choices steps) a
-    run_of_file choices steps (Verified verdict text) h = absurd h
-    run_of_file choices steps (Ran outcome) h = (p, gives, h)
-    run_of_file choices steps Usage h = absurd h
-    run_of_file choices steps (Refused why) h = absurd h
-    run_of_file choices steps ReadFault h = absurd h
-    run_of_file choices steps NoMemory h = tt
-
-  -- a reading of the file alone is let come
-  lets_file : (asked : Asked) (done : List NamedFile) → file_of asked ≡ Some path → AreAtMost path done
-      → LetsRead asked done
-  lets_file asked [] of most = tt
-  lets_file asked (file ∷ []) of most = of ∙ ap Some (sym most)
-  lets_file asked (file ∷ other ∷ others) of most = absurd most
-
-  pub reads_file : (asked : Asked) → file_of asked ≡ Some path → ReadsAtMost r path → ReadsFor r asked
-  reads_file asked of h = record {
-    done = h.done;
-    given = h.given;
-    let_come = lets_file asked h.done of h.at_most;
-    holds = h.holds;
-  }
-
--- a file of boxes is not taken, or is not used
-pub boxes_fault : (r : Reading) (boxes : List ℕ) (p : Program) (e : Fault) → AreBoxesFault r boxes p.shapes e
-    → IsBoxesAnswer r boxes p.shapes (answer_to e)
-boxes_fault r boxes p (fault.Refused why) h = (h.0, h.1, inl h.2)
-boxes_fault r boxes p fault.Failed h = h
-boxes_fault r boxes p fault.Memory h = tt
+use Rattle.fore_call.specs.inner.Judging.{IsBoxesAnswer, ReadsFor}
 
 -- A file, and then a file of boxes
 

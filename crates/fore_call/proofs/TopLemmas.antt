@@ -27,7 +27,6 @@ use Rattle.c_types.specs.Program.{Program}
 use Rattle.c_types.specs.Runs.{run}
 use Rattle.c_types.specs.declared.outcome.Outcome.{Outcome}
 use Rattle.c_types.specs.declared.outcome.Outcome.TheVariants.{Ended, Fault, Starved, BadChoice, StillRunning}
-use Rattle.c_front.specs.declared.broken.Broken.{Broken}
 use Rattle.c_front.specs.Files.{IsProgramOf, BreaksFirst}
 use Rattle.c_front.proofs.FileLaws.{one_program, program_or_breach}
 use Rattle.fore_base.specs.NamedFiles.{reading}
@@ -49,7 +48,6 @@ use Rattle.fore_report.specs.Reports.{IsReport}
 use Rattle.fore_report.specs.declared.verdict.Verdict.{Verdict}
 use Rattle.fore_report.specs.declared.verdict.Verdict.TheVariants.{Safe, Unsafe, Unknown}
 use Rattle.fore_words.specs.declared.asked.Settings.{Settings}
-use Rattle.fore_words.specs.declared.asked.Kind.{Kind}
 use Rattle.fore_words.specs.declared.asked.Asked.{Asked}
 use Rattle.fore_words.specs.declared.asked.Asked.TheVariants.{Verify, Run, Gen}
 use Rattle.fore_words.specs.Words.{IsAsked, AsksNothing}

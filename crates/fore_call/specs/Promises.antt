@@ -1,5 +1,5 @@
 -- What holds of every call of the program.
-use Rattle.std.specs.Prelude.{◌≡◌, ◌<◌, ◌⊎◌, ℕ, List, Option, None}
+use Rattle.std.specs.Prelude.{◌≡◌, ◌<◌, ◌⊎◌, ℕ, List, None}
 use Rattle.c_types.specs.declared.outcome.Outcome.{Outcome}
 use Rattle.c_types.specs.Program.{Program}
 use Rattle.c_types.specs.Runs.{run}
@@ -11,7 +11,7 @@ use Rattle.fore_words.specs.declared.asked.Settings.{Settings}
 use Rattle.fore_words.specs.declared.asked.Asked.TheVariants.{Verify, Run}
 use Rattle.fore_words.specs.Words.{AsksNothing}
 use Rattle.fore_call.specs.declared.answer.Answer.{Answer}
-use Rattle.fore_call.specs.declared.answer.Answer.TheVariants.{Verified, Ran, Usage, Refused, ReadFault, NoMemory}
+use Rattle.fore_call.specs.declared.answer.Answer.TheVariants.{Verified, Ran, Usage, Refused, ReadFault}
 use Rattle.fore_call.specs.declared.status.TheConstants.{
   NO_FAULT,
   FAULT,

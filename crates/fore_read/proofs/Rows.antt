@@ -1,21 +1,5 @@
 -- Worked values of the definitions, worked out by hand from docs/REPORTS.md.
-use Rattle.std.proofs.Common.{
-  ◌≡◌,
-  inl,
-  inr,
-  ℕ,
-  List,
-  [],
-  ◌∷◌,
-  codes,
-  length,
-  ap,
-  Option,
-  Some,
-  None,
-  refl,
-  arith,
-}
+use Rattle.std.proofs.Common.{◌≡◌, inl, ℕ, List, [], ◌∷◌, codes, length, ap, Some, None, refl, arith}
 use Rattle.fore_base.specs.NamedFiles.{reading}
 use Rattle.fore_base.specs.declared.named_files.NamedFile.{NamedFile}
 use Rattle.fore_base.specs.declared.shape.Shapes.{Shapes}
@@ -23,8 +7,7 @@ use Rattle.c_front.specs.declared.broken.Broken.{Broken}
 use Rattle.c_front.specs.Files.{BreaksFirst}
 use Rattle.fa_text.specs.Files.{IsFirst}
 use Rattle.fa_text.specs.declared.fault.BoxFault.TheVariants.{Rule, Limit}
-use Rattle.fore_read.specs.declared.fault.ReadFault.TheVariants.{Refused, Failed, Memory}
-use Rattle.fore_read.specs.declared.fault.Refusal.{Refusal}
+use Rattle.fore_read.specs.declared.fault.ReadFault.TheVariants.{Failed, Memory}
 use Rattle.fore_read.specs.declared.fault.Refusal.TheVariants.{
   TooLong,
   Breaks,

@@ -17,8 +17,8 @@ use std::alloc::Global;
 ///
 /// # Errors
 ///
-/// `Refused` where the file has more than `BOX_FILE_BYTES` bytes, or breaks a rule, then by the first one. `Failed` where
-/// it could not be read. `Memory` for want of memory.
+/// `Refused` where the file has more than `BOX_FILE_BYTES` bytes, or breaks a rule, then by the first one. `Failed`
+/// where it could not be read. `Memory` for want of memory.
 pub fn read_table<L: Shelf>(
     alloc: Global,
     shelf: &mut L,

@@ -16,8 +16,8 @@ use std::alloc::Global;
 ///
 /// # Errors
 ///
-/// `Refused` where the file has more than `FILE_BYTES` bytes, or breaks a rule, then by the first one. `Failed` where it
-/// could not be read. `Memory` for want of memory.
+/// `Refused` where the file has more than `FILE_BYTES` bytes, or breaks a rule, then by the first one. `Failed` where
+/// it could not be read. `Memory` for want of memory.
 pub fn read_program<L: Shelf>(alloc: Global, shelf: &mut L, path: &str) -> Result<Typed, ReadFault>
     ensures ok { IfOk result (GivesProgram (reading_of L.Shelf shelf.old shelf.new) path.now []) }
     ensures err { IfErr result (IsFileFault (reading_of L.Shelf shelf.old shelf.new) path.now) }

@@ -1,4 +1,3 @@
-use Rattle.std.proofs.Common.{[], inl, refl}
 use Rattle.fore_call.specs.Calls.{request_of}
 use Rattle.fore_call.proofs.JudgeLemmas.{right_for_words, reads_for_words}
 use Rattle.fore_call.proofs.judge.answer.Goals as goal
