@@ -20,24 +20,24 @@ impl Site {
         match stmt {
             Stmt::Do { .. } => Ok(()),
             Stmt::Branch { cond, yes, no } => {
-                let first = sum(at, self.cond_room(cond)?)?;
-                let second = sum(first, self.all_room(yes.as_slice())?)?;
+                let first = self.after_test(cond, at)?;
+                let second = self.after_all(yes.as_slice(), first)?;
                 self.add_heads(heads, yes.as_slice(), first)?;
                 self.add_heads(heads, no.as_slice(), second)
             }
             Stmt::While { cond, body } => {
-                let first = sum(at, self.cond_room(cond)?)?;
+                let first = self.after_test(cond, at)?;
                 heads.push(at)?;
                 self.add_heads(heads, body.as_slice(), first)
             }
             Stmt::DoWhile { cond: _, body } => {
-                let test = sum(at, self.all_room(body.as_slice())?)?;
+                let test = self.after_all(body.as_slice(), at)?;
                 heads.push(test)?;
                 self.add_heads(heads, body.as_slice(), at)
             }
             Stmt::For { cond, next, body } => {
-                let first = sum(at, self.cond_room(cond)?)?;
-                let between = sum(first, self.all_room(body.as_slice())?)?;
+                let first = self.after_test(cond, at)?;
+                let between = self.after_all(body.as_slice(), first)?;
                 heads.push(at)?;
                 self.add_heads(heads, body.as_slice(), first)?;
                 self.add_heads(heads, next.as_slice(), between)
@@ -54,7 +54,7 @@ impl Site {
     {
         let mut from = at;
         for stmt in body {
-            let next = sum(from, self.stmt_room(stmt)?)?;
+            let next = self.after_stmt(stmt, from)?;
             self.add_heads_of(heads, stmt, from)?;
             from = next;
         }

@@ -1,52 +1,57 @@
 // How many locations statements take.
-ghost use Rattle.std.specs.Prelude.{◌≡◌, IfOk};
+ghost use Rattle.std.specs.Prelude.{◌≡◌, ◌+◌, IfOk};
 ghost use Rattle.c_cfg.specs.inner.Emitting.{close_width};
-ghost use Rattle.c_cfg.specs.inner.Sites.{act_room, stmt_room, room as all_room};
+ghost use Rattle.c_cfg.specs.inner.Sites.{act_room, test_room, stmt_room, room as all_room};
 
 use crate::site::Site;
 use crate::sizes::act_size;
 use crate::sums::sum;
-use c_types::program::{Act, Stmt};
+use c_types::program::{Act, Cond, Stmt};
 use fore_base::memory::Mem;
 
 impl Site {
-    /// How many locations an act takes: as many as it has links.
+    /// The location after an act: it takes as many as it has links.
     #[tactic(auto, using(crate::proofs::Sized::sizes))]
-    fn act_room(&self, act: &Act) -> Mem<u32>
-        ensures { IfOk result (λ room. room ≡ act_room self.now act.now) }
+    fn after_act(&self, act: &Act, at: u32) -> Mem<u32>
+        ensures { IfOk result (λ next. next ≡ at + act_room self.now act.now) }
     {
-        act_size(act)
+        let room = act_size(act)?;
+        sum(at, room)
     }
 
-    /// How many locations a statement takes.
+    /// The location after a test.
+    pub fn after_test(&self, cond: &Cond, at: u32) -> Mem<u32>
+        ensures { IfOk result (λ next. next ≡ at + test_room self.now cond.now) }
+    {
+        let room = self.cond_room(cond)?;
+        sum(at, room)
+    }
+
+    /// The location after a statement.
     #[cycle(stmt_room)]
     #[tactic(auto, using(crate::proofs::Layers::rooms))]
-    pub fn stmt_room(&self, stmt: &Stmt) -> Mem<u32>
-        ensures { IfOk result (λ room. room ≡ stmt_room self.now stmt.now) }
+    pub fn after_stmt(&self, stmt: &Stmt, at: u32) -> Mem<u32>
+        ensures { IfOk result (λ next. next ≡ at + stmt_room self.now stmt.now) }
     {
         match stmt {
-            Stmt::Do { act, line: _ } => self.act_room(act),
+            Stmt::Do { act, line: _ } => self.after_act(act, at),
             Stmt::Branch { cond, yes, no } => {
-                let own = self.cond_room(cond)?;
-                let first = self.all_room(yes.as_slice())?;
-                let second = self.all_room(no.as_slice())?;
-                sum(own, sum(first, second)?)
+                let first = self.after_test(cond, at)?;
+                let second = self.after_all(yes.as_slice(), first)?;
+                self.after_all(no.as_slice(), second)
             }
             Stmt::While { cond, body } => {
-                let own = self.cond_room(cond)?;
-                let inner = self.all_room(body.as_slice())?;
-                sum(own, inner)
+                let first = self.after_test(cond, at)?;
+                self.after_all(body.as_slice(), first)
             }
             Stmt::DoWhile { cond, body } => {
-                let own = self.cond_room(cond)?;
-                let inner = self.all_room(body.as_slice())?;
-                sum(inner, own)
+                let test = self.after_all(body.as_slice(), at)?;
+                self.after_test(cond, test)
             }
             Stmt::For { cond, next, body } => {
-                let own = self.cond_room(cond)?;
-                let inner = self.all_room(body.as_slice())?;
-                let between = self.all_room(next.as_slice())?;
-                sum(own, sum(inner, between)?)
+                let first = self.after_test(cond, at)?;
+                let between = self.after_all(body.as_slice(), first)?;
+                self.after_all(next.as_slice(), between)
             }
             Stmt::Group {
                 body,
@@ -54,23 +59,30 @@ impl Site {
                 datums,
                 ..
             } => {
-                let inner = self.all_room(body.as_slice())?;
-                sum(inner, close_room(ptrs.as_slice(), datums.as_slice()))
+                let end = self.after_all(body.as_slice(), at)?;
+                sum(end, close_room(ptrs.as_slice(), datums.as_slice()))
             }
         }
     }
 
-    /// How many locations statements take.
+    /// The location after statements.
     #[cycle(stmt_room)]
     #[tactic(auto, using(crate::proofs::Layers::rooms))]
+    pub fn after_all(&self, body: &[Stmt], at: u32) -> Mem<u32>
+        ensures { IfOk result (λ next. next ≡ at + all_room self.now body.now) }
+    {
+        let mut next = at;
+        for stmt in body {
+            next = self.after_stmt(stmt, next)?;
+        }
+        Ok(next)
+    }
+
+    /// How many locations statements take.
     pub fn all_room(&self, body: &[Stmt]) -> Mem<u32>
         ensures { IfOk result (λ room. room ≡ all_room self.now body.now) }
     {
-        let mut room = 0;
-        for stmt in body {
-            room = sum(room, self.stmt_room(stmt)?)?;
-        }
-        Ok(room)
+        self.after_all(body, 0)
     }
 }
 

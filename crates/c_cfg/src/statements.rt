@@ -10,7 +10,7 @@ use crate::chain::{add_chain, add_edge};
 use crate::graph::{Edge, Instr};
 use crate::rooms::close_room;
 use crate::site::{Site, Span, TwoSpans};
-use crate::sums::{first_of, sum};
+use crate::sums::first_of;
 use c_types::program::{Act, Cond, Stmt};
 use fore_base::list::{Copies, List};
 use fore_base::memory::Mem;
@@ -111,11 +111,11 @@ impl Site {
     ) -> Mem<()>
         ensures { OnOk result (edges.new ≡ edges.old ++ all_edges self.now body.now around.now span) }
     {
-        let end = sum(span.from, self.all_room(body)?)?;
+        let end = self.after_all(body, span.from)?;
         let mut from = span.from;
         for at in 0..body.len() {
             let stmt = &body[at];
-            let next = sum(from, self.stmt_room(stmt)?)?;
+            let next = self.after_stmt(stmt, from)?;
             let then = first_of(end - next, next, span.then);
             let inner = around.inside(self.alloc, all_after(body, at))?;
             self.add_stmt(edges, stmt, &inner, Span { from, then })?;
@@ -137,10 +137,9 @@ impl Site {
         ensures spans { IfOk result (λ spans. spans ≡ branch_spans self.now cond.now yes.now span) }
     {
         let then = span.then;
-        let first_room = self.all_room(yes)?;
-        let first = sum(span.from, self.cond_room(cond)?)?;
-        let second = sum(first, first_room)?;
-        let on_yes = first_of(first_room, first, then);
+        let first = self.after_test(cond, span.from)?;
+        let second = self.after_all(yes, first)?;
+        let on_yes = first_of(second - first, first, then);
         let on_no = first_of(self.all_room(no)?, second, then);
         self.add_cond(edges, cond, span.from, on_yes, on_no)?;
         Ok(TwoSpans {
@@ -163,11 +162,10 @@ impl Site {
         ensures spans { IfOk result (λ spans. spans ≡ loop_spans self.now cond.now next.now body.now span) }
     {
         let head = span.from;
-        let body_room = self.all_room(body)?;
-        let first = sum(head, self.cond_room(cond)?)?;
-        let between = sum(first, body_room)?;
+        let first = self.after_test(cond, head)?;
+        let between = self.after_all(body, first)?;
         let again = first_of(self.all_room(next)?, between, head);
-        let on_yes = first_of(body_room, first, again);
+        let on_yes = first_of(between - first, first, again);
         self.add_cond(edges, cond, head, on_yes, span.then)?;
         Ok(TwoSpans {
             first: Span {
@@ -185,7 +183,7 @@ impl Site {
     fn do_span(&self, body: &[Stmt], from: u32) -> Mem<Span>
         ensures { IfOk result (λ span. span ≡ do_span self.now body.now from) }
     {
-        let then = sum(from, self.all_room(body)?)?;
+        let then = self.after_all(body, from)?;
         Ok(Span { from, then })
     }
 
@@ -214,7 +212,7 @@ impl Site {
     ) -> Mem<TwoSpans>
         ensures { IfOk result (λ spans. spans ≡ group_spans self.now body.now ptrs.now datums.now span) }
     {
-        let end = sum(span.from, self.all_room(body)?)?;
+        let end = self.after_all(body, span.from)?;
         let room = close_room(ptrs.as_slice(), datums.as_slice());
         Ok(TwoSpans {
             first: Span {

@@ -28,8 +28,8 @@ pub fn refusals_are_unique()
 
 /// A text has a tree with n levels, or a hopeless token first, or a level too many first: no two of these.
 pub fn answers_exclude_each_other()
-    ensures hopeless { (n : ℕ) (end : Place) (ts : List Token) (at : Place) (u : List Item) → IsSyntaxAt unit n end ts at → IsUnit ts u
-        → ⊥ }
+    ensures hopeless { (n : ℕ) (end : Place) (ts : List Token) (at : Place) (u : List Item)
+        → IsSyntaxAt unit n end ts at → IsUnit ts u → ⊥ }
     ensures deep { (n : ℕ) (ts : List Token) (at : Place) (u : List Item)
         → IsDeepAt unit n ts at → IsUnitWithin n ts u → ⊥ }
     ensures apart { (n : ℕ) (end : Place) (ts : List Token) (here there : Place) → IsSyntaxAt unit n end ts here

@@ -236,8 +236,9 @@ impl<'p> Machine<'p> {
         requires reserved { self.old.reserved ≡ true }
         requires over { self.old.over ≡ None }
         requires below { self.old.heap.next + 1 < 2 ^ 64 }
-        ensures step { Stepped (turn_of (program_of self.old).shapes.structs (todo self.old) (store_of self.old) choice) self.old
-            self.new result }
+        ensures step { Stepped
+            (turn_of (program_of self.old).shapes.structs (todo self.old) (store_of self.old) choice)
+            self.old self.new result }
         ensures program { program_of self.new ≡ program_of self.old }
         ensures next { (store_of self.new).next ≤ (store_of self.old).next + 1 }
     {

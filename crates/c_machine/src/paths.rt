@@ -41,7 +41,8 @@ fn write_from(
     others: &[u32],
     value: Value,
 ) -> Result<(), Fault>
-    ensures result { MatchResult result (λ _. write_from heap.old (var_of heap.old var) first others.now value ≡ Ok heap.new)
+    ensures result { MatchResult result
+        (λ _. write_from heap.old (var_of heap.old var) first others.now value ≡ Ok heap.new)
         (λ fault. write_from heap.old (var_of heap.old var) first others.now value ≡ Err fault) }
     ensures keeps { IsNoLarger heap.old heap.new }
 {

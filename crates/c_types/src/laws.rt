@@ -38,8 +38,8 @@ pub fn fault_at_its_step(program: &Typed)
 pub fn plain_run_decides(program: &Typed)
     ensures alike { is_plain program.now ≡ true → (choices others : List ℕ) (steps : ℕ) → run program.now choices steps
         ≡ run program.now others steps }
-    ensures over { is_plain program.now ≡ true → (choices : List ℕ) (steps : ℕ) → length (lines_in program.now.body) ≤ steps
-        → IsOver (run program.now choices steps) }
+    ensures over { is_plain program.now ≡ true → (choices : List ℕ) (steps : ℕ)
+        → length (lines_in program.now.body) ≤ steps → IsOver (run program.now choices steps) }
     ensures decides { is_plain program.now ≡ true → (limit : ℕ) → length (lines_in program.now.body) ≤ limit
         → (choices : List ℕ) (steps : ℕ) → IsFault (run program.now choices steps) → run program.now choices steps
         ≡ run program.now [] limit }
@@ -70,11 +70,12 @@ pub fn starved_where_needed(program: &Typed)
 /// A program without loops and choices takes no choice, and is over after as many steps as it has acts, atoms and
 /// Closes. So one run decides it.
 pub fn one_way_run_decides(program: &Typed)
-    ensures alike { is_one_way program.now ≡ true → (choices others : List ℕ) (steps : ℕ) → run program.now choices steps
-        ≡ run program.now others steps }
+    ensures alike { is_one_way program.now ≡ true → (choices others : List ℕ) (steps : ℕ)
+        → run program.now choices steps ≡ run program.now others steps }
     ensures over { is_one_way program.now ≡ true → (choices : List ℕ) (steps : ℕ) → most_steps program.now ≤ steps
         → IsOver (run program.now choices steps) }
-    ensures decides { is_one_way program.now ≡ true → (limit : ℕ) → most_steps program.now ≤ limit → (choices : List ℕ) (steps : ℕ)
+    ensures decides { is_one_way program.now ≡ true → (limit : ℕ) → most_steps program.now ≤ limit
+        → (choices : List ℕ) (steps : ℕ)
         → IsFault (run program.now choices steps) → run program.now choices steps ≡ run program.now [] limit }
 {
     let _program = program;
@@ -86,7 +87,8 @@ pub fn steps_keep_stores(program: &Typed)
     ensures begins { ItemsFit program.now (start_of program.now)
         × IsProper (empty_store (length program.now.vars) (length program.now.data_vars))
         × FitsProgram program.now (empty_store (length program.now.vars) (length program.now.data_vars)) }
-    ensures keeps { (is js : Items) (s t : Store) (choice : ℕ) → ItemsFit program.now is → IsProper s → FitsProgram program.now s
+    ensures keeps { (is js : Items) (s t : Store) (choice : ℕ) → ItemsFit program.now is → IsProper s
+        → FitsProgram program.now s
         → turn_of program.now.shapes.structs (opened is) s choice ≡ Goes js t → ItemsFit program.now js × IsProper t
         × FitsProgram program.now t }
     ensures visited { (is : Items) (s : Store) → Visited program.now is s → IsProper s × FitsProgram program.now s }

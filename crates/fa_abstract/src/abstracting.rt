@@ -49,7 +49,8 @@ pub fn abstracted<R: Threads + Sync, G: Gate>(
         height made.forest) }
     ensures canonical { IfOk result (λ made. IsCanonical made.face made.forest) }
     ensures reduced { IfOk result (λ made. Reduced made.forest) }
-    ensures members { IfOk result (λ made. (hs : List Shape) (T : List BoxDef) (s : Store) → Stands hs T forest.now.forest s
+    ensures members { IfOk result
+        (λ made. (hs : List Shape) (T : List BoxDef) (s : Store) → Stands hs T forest.now.forest s
         → Stands hs T made.forest s) }
     ensures face { IfOk result (λ made. made.face ≡ forest.now.face) }
     ensures plain { IfOk result (λ made. Every HasNoBoxes made.forest.autos) }

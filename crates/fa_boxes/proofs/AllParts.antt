@@ -38,7 +38,8 @@ use Rattle.fa_boxes.specs.Tops.{HasNoLeaf}
 use Rattle.fa_boxes.specs.declared.seeing.Seen.{Seen}
 use Rattle.fa_boxes.specs.inner.Seeing.{IsTable}
 use Rattle.fa_boxes.specs.inner.TopRules.{fields_by}
-use Rattle.fa_boxes.specs.inner.Parts.{tree_given, part_at, parts_from, ArePartsOf, PartsApart, SomePartsApart, HaveApart}
+use Rattle.fa_boxes.specs.inner.Parts.{tree_given, part_at, parts_from, ArePartsOf, PartsApart, SomePartsApart}
+use Rattle.fa_boxes.specs.inner.Parts.{HaveApart}
 use Rattle.fa_boxes.specs.inner.Parts.{provided_by, rule_fields, IsTopAdded, IsTopFields, AreTopFields}
 use Rattle.fa_boxes.proofs.TopRules.{rule_run}
 

@@ -8,7 +8,7 @@ use Rattle.fa_core.specs.Filled.{IsSound}
 use Rattle.fa_core.specs.declared.faces.Face.{Face}
 use Rattle.fa_core.specs.declared.forest.Forest.{Forest}
 use Rattle.fa_core.proofs.Composed.{regroups_on, regroups_same}
-use Rattle.fa_merge.specs.Merged.{CanMerge, IsMergedInto, to_last, merged}
+use Rattle.fa_merge.specs.Merged.{CanMerge, IsMergedExactly, to_last, merged}
 use Rattle.fa_merge.proofs.LoneFound.{lone_refers}
 use Rattle.fa_merge.proofs.MergedAnywhere.{new, others_new, last_new, size_is}
 use Rattle.fa_merge.proofs.MergedSound.{merged_plain}
@@ -16,11 +16,11 @@ use Rattle.fa_sound.specs.Soundness.{SoundForest}
 use Rattle.fa_canon.specs.inner.Merges.{IsRegrouped}
 
 module _ (face : Face) (F G : Forest) (r : ℕ) (sound : IsSound face F) (ranked : Every IsRanked F.autos)
-    (plain : Every HasNoBoxes F.autos) (can : CanMerge F r) (is : IsMergedInto F r G) where
+    (plain : Every HasNoBoxes F.autos) (can : CanMerge F r) (is : IsMergedExactly F r G) where
   -- the forest with the root merged has no box edges
   pub no_boxes : Every HasNoBoxes G.autos
   no_boxes = let h = lone_refers face F r is.0 sound ranked can is.1 in
-      subst (λ (z : Forest). Every HasNoBoxes z.autos) (sym is.2) (merged_plain face F r is.0 h plain sound)
+      subst (λ (z : Forest). Every HasNoBoxes z.autos) (sym is.2) (merged_plain face F r is.0 h sound plain)
 
   -- and fewer roots
   pub fewer_roots : length G.autos < length F.autos

@@ -5,7 +5,8 @@ use Rattle.fore_base.specs.Lists.{IsIn, Every, IsDistinct}
 use Rattle.fore_base.specs.declared.shape.Shapes.{Shapes}
 use Rattle.fore_base.proofs.ListLemmas.{every_push, distinct_push}
 use Rattle.ta_core.specs.Auto.{Automaton}
-use Rattle.fa_core.specs.Boxes.{BackHolds, SoundBox, Boxes, faces_of, AreSoundOver, IsBoxTable, names_of, HasNoVariables}
+use Rattle.fa_core.specs.Boxes.{BackHolds, SoundBox, Boxes, faces_of, AreSoundOver, IsBoxTable, names_of}
+use Rattle.fa_core.specs.Boxes.{HasNoVariables}
 use Rattle.fa_core.specs.Faces.{IsGiving, IsSortedFace}
 use Rattle.fa_core.specs.Words.{IsWord}
 use Rattle.fa_core.specs.declared.boxes.BoxDef.{BoxDef}

@@ -49,8 +49,8 @@ impl BoxTable {
         })
     }
 
-    /// Puts a copy of the box last, and leaves the rest. The box is sound over those of the table, whose name it has not,
-    /// and so names no struct, no field and no box that is not there. Err is want of memory, and leaves the table.
+    /// Puts a copy of the box last, and leaves the rest. The box is sound over those of the table, whose name it has
+    /// not, and so names no struct, no field and no box that is not there. Err is want of memory, and leaves the table.
     pub fn add(&mut self, alloc: Global, def: &BoxDef) -> Mem<()>
         requires room { length self.old.defs < 32 }
         requires word { IsWord def.now.name }

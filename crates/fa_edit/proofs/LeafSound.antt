@@ -3,9 +3,11 @@ use Rattle.std.proofs.Common.{◌≡◌, ℕ, zero, suc, ◌<◌, length, List, 
 use Rattle.std.proofs.Common.{arith}
 use Rattle.std.proofs.lemmas.Option.{same_Some}
 use Rattle.fore_base.specs.Lists.{Every}
+use Rattle.fore_base.proofs.ListLemmas.{every_in}
 use Rattle.ta_core.specs.Auto.{Automaton, IsRanked}
 use Rattle.ta_core.specs.Language.{InLanguage}
 use Rattle.ta_core.specs.Single.{HasOneTop}
+use Rattle.ta_core.specs.declared.auto.Rule.{Rule}
 use Rattle.ta_core.specs.declared.symbol.Symbol.{Symbol}
 use Rattle.ta_core.specs.declared.tree.Tree.{Tree, out-Tree, roll-Tree, roll-out-Tree}
 use Rattle.fa_core.specs.declared.faces.Face.{Face}
@@ -34,7 +36,9 @@ use Rattle.fa_split.proofs.FixedSigned.{fixed_plain, fixed_signed}
 use Rattle.fa_split.proofs.FixedTrees.{to_fixed, fixed_with, fixed_symbols, fixed_ranked}
 use Rattle.fa_split.proofs.Places.{with_end_symbol, with_end_children, with_end_twice, with_end_same}
 use Rattle.fa_split.proofs.SplitLeaves.{with_child, with_child_symbol, with_child_children, fitting_leaf}
-use Rattle.fa_split.proofs.TopRules.{tree_by_top}
+use Rattle.fa_split.proofs.LinksGive.{plain_gives}
+use Rattle.fa_split.proofs.TopRules.{tree_by_top, top_in}
+use Rattle.fa_split.specs.Giving.{SymbolGives}
 
 topped_shape : (s : ℕ) (t : Tree) → IsTopped s t → symbol_shape (out-Tree t).symbol ≡ Some s
 topped_shape s t h = ap symbol_shape h.2
@@ -163,6 +167,9 @@ module _ (face : Face) (F : Forest) (r f : ℕ) (ranked : Every IsRanked F.autos
   put_sound = edited_sound face F r b old plain b_plain sound
       (fixed_symbols a p u a_ranked at.top within (SymbolFits face) (fitting_leaf face u)
       (component_has (RulesFit face) F.autos r sound.well_formed.filled.rules at.root))
-      (fixed_signed a p u a_ranked at.top within a_plain face.boxes
-      (component_has (HasSignatures face.boxes) F.autos r sound.well_formed.signatures at.root))
+      (fixed_signed a p u a_ranked at.top within face.boxes
+      (component_has (HasSignatures face.boxes) F.autos r sound.well_formed.signatures at.root)
+      (every_in (λ (o : Rule). SymbolGives face.boxes o.symbol) a.rules (top_rule a)
+      (plain_gives face.boxes (a ∷ []) (a_plain, tt)).0 (top_in a at.top))
+      (bare_end (leaf t)) (leaf_runs face.shapes.structs F r f ranked at p place t alone))
       some low top cells

@@ -28,7 +28,9 @@ use Rattle.fa_core.proofs.NodeSpots.{spots_are}
 use Rattle.fa_core.proofs.RowsBoxes.{port, port_node, box_face, dll_box, dll_sound, port_is}
 use Rattle.fa_core.proofs.RowsBoxes.{port_runs, port_single, port_rules, single_covers, port_covers_some}
 use Rattle.fa_core.proofs.RowsCanonical.{rule, dll_face}
+use Rattle.fa_core.proofs.RowsChains.{chain_structs}
 use Rattle.fa_core.proofs.RowsForests.{bare_cell, bare_node, bare_runs}
+use Rattle.fa_core.proofs.RowsHooks.{ring_autos, ring_box, ring_face, ring_sound}
 use Rattle.fa_core.proofs.SeenCells.{structs_tops}
 use Rattle.fa_core.proofs.SingleTrees.{same_tree, single_tree, single_choice}
 use Rattle.fa_core.proofs.WaysOf.{tree_roots}
@@ -73,6 +75,9 @@ dll_breaks_none T (Breaks B6) f =
 dll_breaks_none T (Breaks B7) f =
     absurd (none_broken dll_face T dll_box (dll_sound dll_face (omega arith) refl refl T) B7 f)
 dll_breaks_none T Memory f = refl
+
+dll_has_face : (T : List BoxDef) → IsFaceOf dll_face T (box_inside 0 (Some 0) dll_autos) box_face
+dll_has_face T = face_is dll_face T dll_box (dll_sound dll_face (omega arith) refl refl T)
 
 -- B5: the input is `node()`, and is given `prev` by an edge of dll from the output, `node(@dll=s1)` with `s1 = ref 0`
 
@@ -257,7 +262,8 @@ output_given_prev ts c =
     let e = cell_top 0 0 [] no_parts in
     rw (g, e) (keep 1 empty))
 
--- A Hook whose box has an input that refers to itself, `node(next=s1)` with `s1 = ref 0`: it is sound, and covers `next`
+-- A Hook whose box has an input that refers to itself, `node(next=s1)` with `s1 = ref 0`: it is sound, and covers
+-- `next`
 
 abbrev own_face : BoxFace
 own_face = record { input = 0; output = None; gives_in = 0 ∷ []; gives_out = []; back = false }
@@ -333,3 +339,12 @@ own_sound T = record {
 
 own_has_face : (T : List BoxDef) → IsFaceOf dll_face T (box_inside 0 None own_autos) own_face
 own_has_face T = face_is dll_face T own_box (own_sound T)
+
+-- A Hook with a ring inside, of the input and one inner cell: `node(next=s1)` with `s1 = ref 1`, and
+-- `node(next=s1,prev=s2)` with `s1 = ref 0` and `s2 = null`
+
+ring_has_face : (bs : List BoxFace) (T : List BoxDef)
+    → IsFaceOf (record { shapes = record { structs = chain_structs }; boxes = bs }) T (box_inside 0 None ring_autos)
+    ring_face
+ring_has_face bs T = face_is (record { shapes = record { structs = chain_structs }; boxes = bs }) T ring_box
+    (ring_sound bs T)

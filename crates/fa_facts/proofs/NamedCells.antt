@@ -8,7 +8,8 @@ use Rattle.fore_base.proofs.ListLemmas.{in_left, in_right, every_append}
 use Rattle.fa_core.specs.declared.forest.Target.{Target}
 use Rattle.fa_core.specs.declared.forest.Target.TheVariants.{Null, Uninit, Dangling, At}
 use Rattle.fa_core.specs.Boxes.{head_of, heads}
-use Rattle.fa_core.specs.Dressed.{Node, Parts, End, Nodes, node, no_parts, field, link, hook, under, leaf, no_nodes, more}
+use Rattle.fa_core.specs.Dressed.{Node, Parts, End, Nodes, node, no_parts, field, link, hook, under, leaf, no_nodes}
+use Rattle.fa_core.specs.Dressed.{more}
 use Rattle.fa_core.specs.Dressed.{number, Fact, nth_value, value_in, end_value, roots_of, with_ports}
 use Rattle.fa_core.specs.Dressed.{tree_facts, slot_facts, end_facts, forest_facts, port_facts, inside_facts, facts}
 use Rattle.fa_core.proofs.Rearranging.{flat_map-append}

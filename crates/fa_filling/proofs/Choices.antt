@@ -11,7 +11,8 @@ use Rattle.ta_core.specs.Language.{InLanguage}
 use Rattle.fore_base.proofs.ListLemmas.{in_map, in_mapped, every_in, in_every}
 use Rattle.fa_core.specs.declared.faces.Face.{Face}
 use Rattle.fa_core.specs.Rearranged.{Rearranged, chain}
-use Rattle.fa_core.specs.Filled.{IsFilledSpot, spots, spots_at, covers, Choice, TopsAre, given_at, TreesFilled, IsTopped}
+use Rattle.fa_core.specs.Filled.{IsFilledSpot, spots, spots_at, covers, Choice, TopsAre, given_at, TreesFilled}
+use Rattle.fa_core.specs.Filled.{IsTopped}
 use Rattle.fa_core.proofs.Rearranging.{after, back}
 use Rattle.fa_filling.proofs.SpotRules.{spots_out, with_spots}
 use Rattle.fa_filling.specs.Ruled.{AreTops, IsFilledPart}
@@ -150,8 +151,8 @@ module _ (face : Face) (above : ℕ → List ℕ) where
   parts_fill r front heads (b ∷ autos) (ps ∷ pss) (u ∷ ts) (x ∷ tops) f h c t a k =
       let p = h.0.some u c.0 in
       let e = top_same u p.0.top x (h.0.top p.0 u p.1 p.2) t.0 in (
-        every_in (λ (q : Part). IsFilledPart face (tops_but front q.top pss) q.auto (above r)) ps p.0 k.0 p.1 (heads ++ x ∷ tops)
-            (but front heads f e a.1) u p.2,
+        every_in (λ (q : Part). IsFilledPart face (tops_but front q.top pss) q.auto (above r)) ps p.0 k.0 p.1
+            (heads ++ x ∷ tops) (but front heads f e a.1) u p.2,
         subst (λ (l : List ℕ). AreAllFilled l (suc r) ts) (append_one heads x tops)
             (parts_fill (suc r) (front ++ tops_of ps ∷ []) (heads ++ x ∷ []) autos pss ts tops
             (tops_more front heads (tops_of ps) x f a.0) h.1 c.1 t.1 a.1 k.1),
@@ -269,8 +270,8 @@ module _ (face : Face) (above : ℕ → List ℕ) where
   )
 
   -- every choice is filled exactly where every part is
-  pub choices_fill : (autos : List Automaton) (pss : List (List Part)) → AreParts autos pss → ArePartsFilled face above 0 [] pss
-      → (ts : List Tree) → Choice autos ts → IsFilledChoice ts
+  pub choices_fill : (autos : List Automaton) (pss : List (List Part)) → AreParts autos pss
+      → ArePartsFilled face above 0 [] pss → (ts : List Tree) → Choice autos ts → IsFilledChoice ts
   choices_fill autos pss h k ts c =
       let t = choice_tops autos pss ts h c in
       (t.0, t.2, parts_fill 0 [] [] autos pss ts t.0 tt h c t.2 t.1 k)

@@ -1,7 +1,6 @@
-//! Whether each field of each cell of a forest is given exactly once, decided from the rules of its components, box edges
-//! with them. What box edges give to the roots is told by the caller, who knows the signatures.
-//! The fields of structs by number, and components cut into parts by the structs at the tops of their trees, stand here
-//! too.
+//! Whether each field of each cell of a forest is given exactly once, decided from the rules of its components, box
+//! edges with them. What box edges give to the roots is told by the caller, who knows the signatures. The fields of
+//! structs by number, and components cut into parts by the structs at the tops of their trees, stand here too.
 #![tactic(auto)]
 
 mod choosing;

@@ -1,3 +1,4 @@
+pub mod NoneGiven
 pub mod OnceRules
 pub mod RightCells
 pub mod RootFields

@@ -1,6 +1,7 @@
 -- Components by the structs of the cells at the tops of their trees.
 use Rattle.std.proofs.Common.{◌≡◌, ◌↔◌, inl, inr, ℕ, Bool, true, false, true≢false, List, [], ◌∷◌, ◌++◌, set}
-use Rattle.std.proofs.Common.{Some, slice_get, refl, sym, ap, subst, ◌∙◌, IsTrue}
+use Rattle.std.proofs.Common.{Some, slice_get, refl, sym, ap, subst, ◌∙◌, IsTrue, zero, suc, ◌<◌, length, arith}
+use Rattle.std.proofs.lemmas.Option.{slice_get_within}
 use Rattle.std.proofs.lemmas.Bool.{eqb-true, eq-eqb}
 use Rattle.fore_base.specs.Lists.{IsIn, Every, Paired}
 use Rattle.fore_base.specs.declared.store.Datum.{Datum}
@@ -11,7 +12,7 @@ use Rattle.ta_core.specs.declared.symbol.Slot.{Slot}
 use Rattle.ta_core.specs.declared.symbol.Symbol.{Symbol}
 use Rattle.ta_core.specs.declared.symbol.Symbol.TheVariants.{Null, Uninit, Dangling, Ref, Cell}
 use Rattle.ta_core.specs.declared.tree.Tree.{Tree, Tree-F, out-Tree, out-roll-Tree}
-use Rattle.fore_base.proofs.ListLemmas.{every_in, in_left, in_right, in_append}
+use Rattle.fore_base.proofs.ListLemmas.{every_in, in_left, in_right, in_append, paired_long}
 use Rattle.ta_core.proofs.Runs.{tree_of, run_tree}
 use Rattle.fa_core.specs.declared.faces.Face.{Face}
 use Rattle.fa_core.specs.Filled.{HasSome, IsTopped, spots}
@@ -24,6 +25,19 @@ use Rattle.fa_giving.specs.inner.Shaped.{IsShapedSpot, IsShapedRoot, AreTopStruc
 use Rattle.fa_giving.specs.inner.Totals.{ForAll, Adds}
 use Rattle.fa_giving.proofs.RootFields.{choice_at, some_same}
 use Rattle.fa_giving.proofs.ShapeRules.{shaped_true, shaped_false}
+
+-- an item that is put back
+pub put_back : {X : Type 0} (xs : List X) (i : ℕ) (x y : X) → slice_get xs i ≡ Some y → set (set xs i x) i y ≡ xs
+put_back [] i x y e = refl
+put_back (z ∷ xs) zero x y e = ap (λ w. w ∷ xs) (sym (some_same z y e))
+put_back (z ∷ xs) (suc i) x y e = ap (λ ws. z ∷ ws) (put_back xs i x y e)
+
+pub has_list : (autos : List Automaton) (topss : List (List ℕ)) (k : ℕ) (a : Automaton) → Paired AreTopStructs autos topss
+    → slice_get autos k ≡ Some a → k < length topss
+has_list autos topss k a p e =
+    let long = paired_long AreTopStructs autos topss p in
+    let within = slice_get_within autos k a e in
+    omega (arith, long, within)
 
 pub adds_struct : (y : Symbol) (n : ℕ) (ds : List Datum) (ss : List Slot) (old new : List ℕ) → y ≡ Cell n ds ss
     → Adds n old new → AddsStruct y old new

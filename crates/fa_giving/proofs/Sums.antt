@@ -1,7 +1,7 @@
 -- Extremes are those of trees, and add up over choices.
 use Rattle.std.proofs.Common.{◌≡◌, ◌⊎◌, inl, inr, ℕ, ◌<◌, ◌≤◌, ◌+◌, Bool, true, false, true≢false, ◌&&◌, ◌||◌, List}
 use Rattle.std.proofs.Common.{[], ◌∷◌, cond, nat_eq, refl, sym, ap}
-use Rattle.std.proofs.Common.{subst, ◌∙◌, arith}
+use Rattle.std.proofs.Common.{subst, ◌∙◌, arith, replicate, length}
 use Rattle.fore_base.specs.Lists.{IsIn, Every, Paired}
 use Rattle.ta_core.specs.Auto.{Automaton, IsRanked, IsRankedRule}
 use Rattle.ta_core.specs.Language.{InLanguage, IsTrim, RunOf, run, RunEach, run_none, run_more, HasTree}
@@ -172,8 +172,11 @@ module _ (bs : List BoxFace) (r f : ℕ) where
       right true h = absurd (true≢false h)
       right false h = h
 
-  pub unnamed : (a : Automaton) → HasSome a → names_root r a.rules ≡ false → AreExtremes bs r f a none_given
-  unnamed a some n = record {
+  -- so for a component
+  none_gives : (a : Automaton) → HasSome a
+      → ((o : Rule) (x : Slot) → IsIn o a.rules → refers r o.symbol ≡ true → weight bs f x ≡ 0)
+      → AreExtremes bs r f a none_given
+  none_gives a some free = record {
     low = omega arith;
     most_real = (some.0, some.1, omega arith);
     most_all = λ t l. (let e = none l.1 l.2 in inl (omega (arith, e)));
@@ -182,7 +185,17 @@ module _ (bs : List BoxFace) (r f : ℕ) where
   }
     where
       none : {t : Tree} {q : ℕ} → IsIn q a.roots → RunOf a.rules q t → gives bs r f t ≡ 0
-      none i k = gives_none a.rules (λ o x j e. absurd (true≢false (sym e ∙ unnamed_rule a.rules o n j))) k
+      none i k = gives_none a.rules free k
+
+  pub unnamed : (a : Automaton) → HasSome a → names_root r a.rules ≡ false → AreExtremes bs r f a none_given
+  unnamed a some n =
+      none_gives a some (λ o x j e. absurd (true≢false (sym e ∙ unnamed_rule a.rules o n j)))
+
+  -- for components where no edge gives the field
+  pub none_of_each : ((x : Slot) → weight bs f x ≡ 0) → (autos : List Automaton) → Every HasSome autos
+      → Paired (AreExtremes bs r f) autos (replicate (length autos) none_given)
+  none_of_each free [] h = tt
+  none_of_each free (a ∷ autos) h = (none_gives a h.0 (λ o x j e. free x), none_of_each free autos h.1)
 
   -- CHOICES
 

@@ -8,11 +8,11 @@ ghost use Rattle.fa_core.specs.Filled.{HasSome, covers, fields_of};
 ghost use Rattle.fa_core.specs.Rearranged.{often};
 ghost use Rattle.fa_filling.specs.Parted.{AreTopRules, IsRootRule};
 ghost use Rattle.fa_giving.specs.inner.Totals.{AreExtremes, AllFit, IsGivenRight};
-ghost use Rattle.fa_giving.specs.inner.Totals.{ForAll, ForTop, given_fields, none_given};
+ghost use Rattle.fa_giving.specs.inner.Totals.{ForAll, ForTop, extremes_in, given_fields, none_given};
 ghost use Rattle.fa_giving.specs.inner.Totals.{symbol_fields, rule_fields, AreIn, total, Adds};
 ghost use Rattle.fa_giving.specs.inner.Worths.{AreWorths};
 
-use crate::totals::{Extremes, extremes_each, extremes_of, total};
+use crate::totals::{Extremes, Given, added, extremes_each, extremes_of, none_given, total};
 use crate::worths::{Worth, rule_worth, worths};
 use fa_core::faces::{BoxFace, Face};
 use fa_filling::covering::covered;
@@ -125,7 +125,7 @@ fn is_field_right(
     requires tops { AreTopRules auto.now auto.now.rules tops.now }
     ensures { IfOk result (ForAll autos.now (IsGivenRight face.now place.port place.root place.field)) }
 {
-    let all = extremes_each(alloc, face.boxes.as_slice(), autos, place.root, place.field)?;
+    let all = given_each(alloc, face.boxes.as_slice(), autos, place.root, place.field)?;
     let table = worths(alloc, face.boxes.as_slice(), auto, place.root, place.field)?;
     are_tops_right(
         alloc,
@@ -133,7 +133,7 @@ fn is_field_right(
         place,
         autos,
         auto,
-        all.as_slice(),
+        &all,
         table.as_slice(),
         tops,
     )
@@ -146,13 +146,14 @@ fn are_tops_right(
     place: Place,
     autos: &[Auto],
     auto: &Auto,
-    all: &[Extremes],
+    all: &Given,
     table: &[Worth],
     tops: &[Rule],
 ) -> Mem<bool>
     requires trim { IsTrim auto.now }
     requires own { slice_get autos.now place.root ≡ Some auto.now }
-    requires all { Paired (AreExtremes face.now.boxes place.root place.field) autos.now all.now }
+    requires all { Paired (AreExtremes face.now.boxes place.root place.field) autos.now
+        (extremes_in (length autos.now) all.now) }
     requires table { AreWorths face.now.boxes place.root place.field auto.now table.now }
     requires tops { AreTopRules auto.now auto.now.rules tops.now }
     ensures { IfOk result (ForAll autos.now (IsGivenRight face.now place.port place.root place.field)) }
@@ -172,13 +173,14 @@ fn is_top_right(
     place: Place,
     _autos: &[Auto],
     _auto: &Auto,
-    all: &[Extremes],
+    all: &Given,
     table: &[Worth],
     top: &Rule,
 ) -> Mem<bool>
     requires trim { IsTrim _auto.now }
     requires own { slice_get _autos.now place.root ≡ Some _auto.now }
-    requires all { Paired (AreExtremes face.now.boxes place.root place.field) _autos.now all.now }
+    requires all { Paired (AreExtremes face.now.boxes place.root place.field) _autos.now
+        (extremes_in (length _autos.now) all.now) }
     requires table { AreWorths face.now.boxes place.root place.field _auto.now table.now }
     requires rule { IsIn top.now _auto.now.rules }
     requires top { IsRootRule _auto.now top.now }
@@ -195,7 +197,7 @@ fn is_top_right(
                 place.root,
                 place.field,
             ));
-            let sum = total_with(alloc, all, place.root, own)?;
+            let sum = total_with(alloc, _autos, all, place.root, own)?;
             let yes = is_cell_right(alloc, face, place, *shape, slots.as_slice(), sum)?;
             Ok(yes)
         }
@@ -203,13 +205,41 @@ fn is_top_right(
     }
 }
 
-/// All together, where the root's component has these in the place of its own.
-fn total_with(alloc: Global, all: &[Extremes], root: u32, own: Extremes) -> Mem<Extremes>
-    ensures { IfOk result (λ sum. sum ≡ total none_given (slice_set all.now root own)) }
+/// For each component how often its trees give the field at the root. Err is want of memory.
+fn given_each(alloc: Global, boxes: &[BoxFace], autos: &[Auto], root: u32, field: u32) -> Mem<Given>
+    requires trim { Every IsTrim autos.now }
+    requires full { Every HasSome autos.now }
+    ensures { IfOk result (λ all. Paired (AreExtremes boxes.now root field) autos.now
+        (extremes_in (length autos.now) all)) }
 {
-    let mut others = List::from_slice(alloc, all)?;
-    others.set_within(root as usize, own);
-    Ok(total(others.as_slice()))
+    let fields = given_fields(alloc, boxes)?;
+    if !is_one_of(field, fields.as_slice()) {
+        return Ok(Given::Nothing);
+    }
+    let all = extremes_each(alloc, boxes, autos, root, field)?;
+    Ok(Given::Each(all))
+}
+
+/// All together, where the root's component has these in the place of its own.
+fn total_with(
+    alloc: Global,
+    _autos: &[Auto],
+    all: &Given,
+    root: u32,
+    own: Extremes,
+) -> Mem<Extremes>
+    requires { root < length _autos.now }
+    ensures { IfOk result (λ sum. sum
+        ≡ total none_given (slice_set (extremes_in (length _autos.now) all.now) root own)) }
+{
+    match all {
+        Given::Nothing => Ok(added(none_given(), own)),
+        Given::Each(all) => {
+            let mut others = List::from_slice(alloc, all.as_slice())?;
+            others.set_within(root as usize, own);
+            Ok(total(others.as_slice()))
+        }
+    }
 }
 
 /// Whether the field is given as often as it must to a cell of the struct with these slots, by what the trees give

@@ -23,13 +23,18 @@ pub fn are_shaped(alloc: Global, face: &Face, autos: &[Auto]) -> Mem<bool>
     requires full { Every HasSome autos.now }
     ensures { IfOk result (ForAll autos.now (λ ts. (r : ℕ) → r < length autos.now → IsShapedRoot face.now r ts)) }
 {
-    let tops = tops_each(alloc, autos)?;
-    are_each_shaped(alloc, face, autos, tops.as_slice())
+    let mut tops = tops_each(alloc, autos)?;
+    are_each_shaped(alloc, face, autos, &mut tops)
 }
 
-fn are_each_shaped(alloc: Global, face: &Face, autos: &[Auto], tops: &[List<u32>]) -> Mem<bool>
+fn are_each_shaped(
+    alloc: Global,
+    face: &Face,
+    autos: &[Auto],
+    tops: &mut List<List<u32>>,
+) -> Mem<bool>
     requires full { Every HasSome autos.now }
-    requires tops { Paired AreTopStructs autos.now tops.now }
+    requires tops { Paired AreTopStructs autos.now tops.old }
     ensures { IfOk result (ForAll autos.now (λ ts. (r : ℕ) → r < length autos.now → IsShapedRoot face.now r ts)) }
 {
     for (place, auto) in autos.iter().enumerate() {
@@ -46,14 +51,15 @@ fn is_shaped(
     alloc: Global,
     face: &Face,
     autos: &[Auto],
-    tops: &[List<u32>],
+    tops: &mut List<List<u32>>,
     auto: &Auto,
     place: usize,
 ) -> Mem<bool>
     requires full { Every HasSome autos.now }
-    requires tops { Paired AreTopStructs autos.now tops.now }
+    requires tops { Paired AreTopStructs autos.now tops.old }
     requires own { slice_get autos.now place ≡ Some auto.now }
-    ensures { IfOk result (ForAll autos.now (IsShapedRoot face.now place)) }
+    ensures shaped { IfOk result (ForAll autos.now (IsShapedRoot face.now place)) }
+    ensures tops { IfOk result (λ _. Paired AreTopStructs autos.now tops.new) }
 {
     let rules = top_rules(alloc, auto)?;
     let structs = structs_of(alloc, rules.as_slice())?;
@@ -73,18 +79,19 @@ fn are_parts_shaped(
     alloc: Global,
     face: &Face,
     autos: &[Auto],
-    tops: &[List<u32>],
+    tops: &mut List<List<u32>>,
     auto: &Auto,
     place: usize,
     rules: &[Rule],
     structs: &[u32],
 ) -> Mem<bool>
     requires full { Every HasSome autos.now }
-    requires tops { Paired AreTopStructs autos.now tops.now }
+    requires tops { Paired AreTopStructs autos.now tops.old }
     requires own { slice_get autos.now place ≡ Some auto.now }
     requires rules { AreTopRules auto.now auto.now.rules rules.now }
     requires structs { AreCellStructs rules.now structs.now }
-    ensures { IfOk result (ForAll autos.now (IsShapedRoot face.now place)) }
+    ensures shaped { IfOk result (ForAll autos.now (IsShapedRoot face.now place)) }
+    ensures tops { IfOk result (λ _. Paired AreTopStructs autos.now tops.new) }
 {
     for shape in structs {
         if !is_part_shaped(alloc, face, autos, tops, auto, place, rules, *shape)? {
@@ -94,41 +101,34 @@ fn are_parts_shaped(
     Ok(true)
 }
 
-/// Whether it is so in the trees with a cell of this struct at the top.
+/// Whether it is so in the trees with a cell of this struct at the top. Meanwhile the list at this place has the struct
+/// alone.
 fn is_part_shaped(
     alloc: Global,
     face: &Face,
     _autos: &[Auto],
-    tops: &[List<u32>],
+    tops: &mut List<List<u32>>,
     auto: &Auto,
     place: usize,
     rules: &[Rule],
     shape: u32,
 ) -> Mem<bool>
     requires full { Every HasSome _autos.now }
-    requires tops { Paired AreTopStructs _autos.now tops.now }
+    requires tops { Paired AreTopStructs _autos.now tops.old }
     requires own { slice_get _autos.now place ≡ Some auto.now }
     requires rules { AreTopRules auto.now auto.now.rules rules.now }
-    ensures { IfOk result (ForStruct _autos.now place shape (IsShapedRoot face.now place)) }
+    ensures shaped { IfOk result (ForStruct _autos.now place shape (IsShapedRoot face.now place)) }
+    ensures tops { IfOk result (λ _. Paired AreTopStructs _autos.now tops.new) }
 {
     let part = part_for(alloc, auto, rules, shape)?;
     let own = part.auto;
     own.known();
-    let all = tops_with(alloc, tops, place, shape)?;
-    let yes = are_shaped_rules(alloc, face, all.as_slice(), own.rules.as_slice())?;
+    let kept = tops.at(place).copy(alloc)?;
+    let alone = List::filled(alloc, shape, 1)?;
+    tops.set(place, alone);
+    let yes = are_shaped_rules(alloc, face, tops.as_slice(), own.rules.as_slice())?;
+    tops.set(place, kept);
     Ok(yes)
-}
-
-/// The lists, where the struct alone may stand at this place.
-fn tops_with(alloc: Global, tops: &[List<u32>], place: usize, shape: u32) -> Mem<List<List<u32>>>
-    ensures { IfOk result (λ all. all ≡ slice_set tops.now place (shape ∷ [])) }
-{
-    let mut all = List::from_slice(alloc, tops)?;
-    if place < all.len() {
-        let alone = List::filled(alloc, shape, 1)?;
-        all.set(place, alone);
-    }
-    Ok(all)
 }
 
 /// For each component the structs of the cells at the tops of its trees.

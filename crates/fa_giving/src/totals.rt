@@ -24,6 +24,14 @@ pub struct Extremes {
     pub none: bool,
 }
 
+/// How often the trees of the components give a field at a root: none does, since no box gives the field, or each as
+/// this list says.
+#[derive(Debug, Drop)]
+pub enum Given {
+    Nothing,
+    Each(List<Extremes>),
+}
+
 impl Copies for Extremes {
     fn copy(&self, _alloc: Global) -> Result<Extremes, AllocError> {
         Ok(*self)
@@ -111,7 +119,7 @@ pub fn extremes_of(worth: Worth) -> Extremes
     }
 }
 
-fn none_given() -> Extremes
+pub fn none_given() -> Extremes
     ensures { result ≡ none_given }
 {
     Extremes {
@@ -120,7 +128,7 @@ fn none_given() -> Extremes
     }
 }
 
-fn added(left: Extremes, right: Extremes) -> Extremes
+pub fn added(left: Extremes, right: Extremes) -> Extremes
     ensures { result ≡ added left right }
 {
     Extremes {

@@ -35,7 +35,8 @@ pub fn abstract_height(alloc: Global, forest: &Sound, height: u32) -> Mem<Sound>
     requires structs { Every HasOneStruct forest.now.forest.autos }
     requires height { 1 ≤ height }
     ensures quotient { IfOk result (λ made. Quotient forest.now.face.boxes forest.now.forest height made.forest) }
-    ensures members { IfOk result (λ made. (hs : List Shape) (T : List BoxDef) (s : Store) → Stands hs T forest.now.forest s
+    ensures members { IfOk result
+        (λ made. (hs : List Shape) (T : List BoxDef) (s : Store) → Stands hs T forest.now.forest s
         → Stands hs T made.forest s) }
     ensures face { IfOk result (λ made. made.face ≡ forest.now.face) }
     ensures plain { IfOk result (λ made. Every HasNoBoxes made.forest.autos) }

@@ -77,8 +77,8 @@ fn settle<R: Threads + Sync, G: Gate>(
     requires jobs { IsJobs crew.now.jobs }
     requires next { IsReady face.now next }
     requires done { Every (IsReady face.now) done.old }
-    ensures joining { OnOk result ((given : List SoundForest) → IsJoining face.now given (todo.old ++ next ∷ []) done.old
-        → IsJoining face.now given todo.new done.new) }
+    ensures joining { OnOk result ((given : List SoundForest)
+        → IsJoining face.now given (todo.old ++ next ∷ []) done.old → IsJoining face.now given todo.new done.new) }
     ensures fewer { OnOk result (2 * length todo.new + length done.new < 2 * length todo.old + length done.old + 2) }
 {
     match first_partner(alloc, face, done.as_slice(), &next)? {

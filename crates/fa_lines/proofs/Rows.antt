@@ -23,7 +23,7 @@ ended_line = refl
 empty_line : lines_of (10 ∷ 10 ∷ codes "#") ≡ [] ∷ [] ∷ codes "#" ∷ []
 empty_line = refl
 
--- Pieces: a run is as long as it can be, and spaces and tabs part runs.
+-- Pieces: words and numbers are as long as they can be, and spaces and tabs part them.
 
 rule_in_pieces : pieces (codes "s0 =node(next=s1)")
     ≡ codes "s0" ∷ codes "=" ∷ codes "node" ∷ codes "(" ∷ codes "next" ∷ codes "=" ∷ codes "s1" ∷ codes ")" ∷ []
@@ -37,6 +37,19 @@ parted_run = refl
 joined_run : pieces (codes "root0 @b.") ≡ codes "root0" ∷ codes "@" ∷ codes "b" ∷ codes "." ∷ []
 unfolding is_gap is_word_byte is_letter is_digit
 joined_run = refl
+
+-- a letter or an underscore ends a number, and a digit goes on a word
+number_before_word : pieces (codes "root 0s0") ≡ codes "root" ∷ codes "0" ∷ codes "s0" ∷ []
+unfolding is_gap is_word_byte is_letter is_digit
+number_before_word = refl
+
+number_before_underscore : pieces (codes "12_3a 0x1 a007b") ≡ codes "12" ∷ codes "_3a" ∷ codes "0" ∷ codes "x1" ∷ codes "a007b" ∷ []
+unfolding is_gap is_word_byte is_letter is_digit
+number_before_underscore = refl
+
+digits_together : pieces (codes "007=s0a") ≡ codes "007" ∷ codes "=" ∷ codes "s0a" ∷ []
+unfolding is_gap is_word_byte is_letter is_digit
+digits_together = refl
 
 marks_apart : pieces (codes "==") ≡ codes "=" ∷ codes "=" ∷ []
 unfolding is_gap is_word_byte is_letter is_digit

@@ -14,6 +14,7 @@ use Rattle.fa_lines.specs.Spelling.{Texts, state_text, term_pieces, line_pieces}
 use Rattle.fa_lines.specs.Spelling.{IsState, IsTerm, IsLine}
 use Rattle.fa_lines.specs.inner.Reading.{◌>>=◌, guard, is, number_of, state_of, term_of, box_of, states_of, root_of, rule_of}
 use Rattle.fa_lines.specs.inner.Reading.{end_of, line_of_pieces, line_of}
+use Rattle.fa_lines.proofs.PieceLemmas.{piece_behind, space_first, other_ends}
 use Rattle.fa_lines.proofs.Options.{guarded, bound, chosen, both, text_is}
 use Rattle.fa_lines.proofs.Sound.{number_sound, state_sound, term_sound}
 use Rattle.fa_lines.proofs.Complete.{number_complete, state_complete}
@@ -216,7 +217,7 @@ no_sign_read b bs line fit other spelled no_sign =
 -- no line but a skipped one begins with a number sign
 sharp_front : (bs : List ℕ) → pieces (35 ∷ bs) ≡ (35 ∷ []) ∷ pieces bs
 unfolding is_gap is_word_byte is_letter is_digit
-sharp_front bs = refl
+sharp_front bs = piece_behind [] bs 32 35 35 refl (space_first 35) refl (other_ends 35 bs refl)
 
 abbrev first_byte : Texts → ℕ
 first_byte [] = 0

@@ -1,14 +1,34 @@
 // The pieces of a line.
 ghost use Rattle.std.specs.Prelude.{◌≡◌, ◌≤◌, ◌<◌, ◌++◌, [], length, IfOk, OnOk};
+ghost use Rattle.std.specs.List.{prefix_len};
 ghost use Rattle.fa_lines.specs.Pieces as spec;
 ghost use Rattle.fa_lines.specs.inner.Reading as read;
 
-use crate::texts::word_size;
-use c_lexer::bytes::{is_gap, is_word_byte};
+use c_lexer::bytes::{is_digit, is_gap, is_letter, is_word_byte};
 use fore_base::list::List;
 use fore_base::memory::Mem;
 use fore_base::text::Text;
 use std::alloc::Global;
+
+/// Whether a byte goes on the piece that begins with this one.
+fn joins(first: u8, byte: u8) -> bool
+    ensures { result ≡ spec.joins first byte }
+{
+    (is_digit(first) && is_digit(byte)) || (is_letter(first) && is_word_byte(byte))
+}
+
+/// The number of bytes in front that go on the piece that begins with this one.
+fn joined_size(first: u8, bytes: &[u8]) -> usize
+    ensures value { result ≡ prefix_len (spec.joins first) bytes.now }
+    ensures within { result ≤ length bytes.now }
+{
+    for (i, byte) in bytes.iter().enumerate() {
+        if !joins(first, *byte) {
+            return i;
+        }
+    }
+    bytes.len()
+}
 
 /// How many bytes the piece in front has; of a space or a tab 1.
 fn front_size(bytes: &[u8]) -> usize
@@ -18,13 +38,7 @@ fn front_size(bytes: &[u8]) -> usize
 {
     match bytes {
         [] => 0,
-        [first, rest @ ..] => {
-            if is_word_byte(*first) {
-                word_size(rest) + 1
-            } else {
-                1
-            }
-        }
+        [first, rest @ ..] => joined_size(*first, rest) + 1,
     }
 }
 

@@ -1,6 +1,6 @@
 // Words and numbers.
-ghost use Rattle.std.specs.Prelude.{◌≡◌, ◌≤◌, ◌<◌, MatchOption, nat_eq, length};
-ghost use Rattle.std.specs.List.{list_all, prefix_len};
+ghost use Rattle.std.specs.Prelude.{◌≡◌, ◌≤◌, ◌<◌, MatchOption, nat_eq};
+ghost use Rattle.std.specs.List.{list_all};
 ghost use Rattle.c_lexer.specs.Bytes as byte_classes;
 ghost use Rattle.fa_lines.specs.Pieces as spec;
 ghost use Rattle.fa_lines.specs.inner.Reading as read;
@@ -15,19 +15,6 @@ pub fn is(text: &Text, word: &[u8]) -> bool
     ensures { result ≡ read.is text.now word.now }
 {
     text.as_slice() == word
-}
-
-/// The number of bytes at the front that may stand in a word.
-pub fn word_size(bytes: &[u8]) -> usize
-    ensures value { result ≡ prefix_len byte_classes.is_word_byte bytes.now }
-    ensures within { result ≤ length bytes.now }
-{
-    for (i, byte) in bytes.iter().enumerate() {
-        if !is_word_byte(*byte) {
-            return i;
-        }
-    }
-    bytes.len()
 }
 
 fn are_word_bytes(bytes: &[u8]) -> bool

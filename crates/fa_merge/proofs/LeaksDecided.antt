@@ -1,5 +1,5 @@
--- In a sound forest each root is reached whichever trees are taken, or never; every member leaks where some root is not,
--- and none does where each is.
+-- In a sound forest each root is reached whichever trees are taken, or never; every member leaks where some root is
+-- not, and none does where each is.
 use Rattle.std.proofs.Common.{◌≡◌, ◌⊎◌, inl, inr, ℕ, zero, suc, ◌<◌, Bool, true, false, true≢false, nat_eq, List, []}
 use Rattle.std.proofs.Common.{◌∷◌, length, map, refl, sym, subst, ◌∙◌, None, Some, Option, arith}
 use Rattle.std.specs.Option.{MatchOption}

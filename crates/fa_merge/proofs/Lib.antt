@@ -1,3 +1,4 @@
+pub mod Apart
 pub mod CountedRefs
 pub mod CutTrees
 pub mod DroppedBack
@@ -13,6 +14,7 @@ pub mod LoneFound
 pub mod Lowered
 pub mod MergedAlike
 pub mod MergedAnywhere
+pub mod MergedCut
 pub mod MergedLast
 pub mod MergedRanks
 pub mod MergedSound
@@ -23,8 +25,11 @@ pub mod Named
 pub mod OtherOrders
 pub mod PlacedForests
 pub mod PlacedSpots
-pub mod RootTrees
+pub mod PutForests
+pub mod ReachedKept
 pub mod ReorderedSound
+pub mod RootTrees
+pub mod SeenHops
 pub mod Signatures
 pub mod StoreNumbers
 pub mod Rows

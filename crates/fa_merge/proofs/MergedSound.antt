@@ -1,4 +1,6 @@
--- A sound forest without box edges stays sound when a root is merged into another.
+-- A root merged into another: the forest stays filled, all trees of the merged component have one signature, and
+-- without
+-- box edges it stays sound.
 use Rattle.std.proofs.Common.{◌≡◌, ◌≢◌, ◌⊎◌, inl, inr, ℕ, zero, suc, ◌<◌, ◌++◌, true≢false, length, List, [], ◌∷◌, map}
 use Rattle.std.proofs.Common.{flat_map, refl, sym, ap, subst, ◌∙◌, slice_get, slice_set, Some, length-set, arith}
 use Rattle.std.proofs.lemmas.Bool.{eq-eqb}
@@ -15,29 +17,36 @@ use Rattle.fa_core.specs.declared.faces.Face.{Face}
 use Rattle.fa_core.specs.declared.forest.Forest.{Forest}
 use Rattle.fa_core.specs.Boxless.{IsPlain, HasNoBoxes}
 use Rattle.fa_core.specs.Dressed.{Node, End, under, leaf, refs, end_refs}
-use Rattle.fa_core.specs.Filled.{IsRoot, SymbolFits, RulesFit, HasSignatures, IsSound}
+use Rattle.fa_core.specs.Filled.{IsRoot, SymbolFits, RulesFit, HasSignatures, HasSome, IsFilled, IsSound}
 use Rattle.fa_core.specs.Formed.{IsFormed}
 use Rattle.fa_core.specs.Member.{bare, bare_end}
-use Rattle.fa_core.specs.References.{AllBelow, IsNever, AreAlike, RefersAlike, tree_refs}
+use Rattle.fa_core.specs.References.{AllBelow, IsNever, IsOnce, AreAlike, RefersAlike, tree_refs}
 use Rattle.fa_core.proofs.FilledKept.{IsFormedTree, filled_kept, formed_by}
 use Rattle.fa_core.proofs.NodeRuns.{EndRun, node_bare}
 use Rattle.fa_core.proofs.Placing.{placed_boxless, placed_fit, refs_put}
 use Rattle.fa_core.proofs.Uniform.{signed_alike, alike_signed, alike_ends, alike_tops}
 use Rattle.fa_core.proofs.WaysOf.{tree_roots}
-use Rattle.fa_merge.specs.Merged.{kept, moved, bridges, merged, merged_at, to_last}
+use Rattle.fa_merge.specs.Merged.{kept, moved, bridges, merged, merged_at, last_order, to_last}
 use Rattle.fa_merge.specs.Reordered.{renumber, counted}
 use Rattle.fa_sound.specs.Components.{component_at}
 use Rattle.fa_merge.specs.inner.Lone.{TopsAreCells, IsLone}
-use Rattle.fa_merge.proofs.CutTrees.{FillsEnd}
+use Rattle.fa_core.proofs.Counts.{never_below}
+use Rattle.fa_core.specs.Ways.{signature}
+use Rattle.fa_leaves.proofs.PluggedTrees.{plugged_signature}
+use Rattle.fa_leaves.proofs.PutSigns.{put_signed}
+use Rattle.fa_leaves.specs.Grafting.{plug}
+use Rattle.fa_leaves.specs.Leaves.{AreApart}
+use Rattle.fa_merge.proofs.Apart.{renumber_apart}
+use Rattle.fa_merge.proofs.CutTrees.{FillsEnd, once_tree}
 use Rattle.fa_merge.proofs.MergedAlike.{merged_alike, end_low}
 use Rattle.fa_merge.proofs.MergedAnywhere.{f, rest, rest_differ, at_place, numbers_mapped, new, others_new, last_new}
 use Rattle.fa_merge.proofs.MergedAnywhere.{refers_new, alone, place_less, new_ranked, renumbered_tops, others_in}
-use Rattle.fa_merge.proofs.MergedAnywhere.{merge_any, unmerge_any, no_children}
+use Rattle.fa_merge.proofs.MergedAnywhere.{merge_any, unmerge_any, no_children, is, once_new}
 use Rattle.fa_merge.proofs.MergedRanks.{merged_ranked}
 use Rattle.fa_merge.proofs.MergedTrees.{kept_in, moved_in, bridges_in, Top, cut}
-use Rattle.fa_merge.proofs.OtherOrders.{counted_below, got_in, one_place}
-use Rattle.fa_merge.proofs.PlacedForests.{component_has, node_topped, run_end, placed_formed, placed_some, placed_alike}
-use Rattle.fa_merge.proofs.PlacedForests.{regrouped_full}
+use Rattle.fa_merge.proofs.OtherOrders.{counted_below, got_in, one_place, root_at, root_place}
+use Rattle.fa_merge.proofs.PlacedForests.{component_has, node_topped}
+use Rattle.fa_merge.proofs.PutForests.{end_of_run, put_formed, put_some, full_kept}
 use Rattle.fa_merge.proofs.ReorderedSound.{renumbered_vars}
 
 -- an item of a list in which one was changed: the new one, or one that stands elsewhere
@@ -87,8 +96,7 @@ merged_symbols P r t l h k =
       ]
     ])
 
-module _ (face : Face) (F : Forest) (r i : ℕ) (h : IsLone F r i) (plain : Every HasNoBoxes F.autos)
-    (sound : IsSound face F) where
+module _ (face : Face) (F : Forest) (r i : ℕ) (h : IsLone F r i) (sound : IsSound face F) where
   abbrev g : ℕ → ℕ
   g = f F r i h
 
@@ -118,11 +126,12 @@ module _ (face : Face) (F : Forest) (r i : ℕ) (h : IsLone F r i) (plain : Ever
         o.1,
       )
 
-  -- what each other component has and the merged one has, each component of the result has
-  each_merged : (P : Automaton → Type 0) → ((k : ℕ) → k < length F.autos → k ≢ r → k ≢ i → P (new F r i h k)) → P both
-      → Every P G.autos
-  each_merged P old one = in_every P G.autos
-      (λ a x. elim (in_set (others_new F r i h) (to_last (length F.autos) r i) both a x) [
+  -- what each other component has and one more has, each has where that one stands in the place of the merged one
+  pub each_with : (P : Automaton → Type 0) (x : Automaton)
+      → ((k : ℕ) → k < length F.autos → k ≢ r → k ≢ i → P (new F r i h k)) → P x
+      → Every P (slice_set (others_new F r i h) (to_last (length F.autos) r i) x)
+  each_with P x old one = in_every P (slice_set (others_new F r i h) (to_last (length F.autos) r i) x)
+      (λ a y. elim (in_set (others_new F r i h) (to_last (length F.autos) r i) x a y) [
         | inl e ↦ subst P (sym e) one
         | inr m ↦ (let k = got_mapped (new F r i h) (rest F r i h) m.0 a m.2 in
             let o = in_rest k.0 (got_in (rest F r i h) m.0 k.0 k.1) in
@@ -135,21 +144,19 @@ module _ (face : Face) (F : Forest) (r i : ℕ) (h : IsLone F r i) (plain : Ever
             (at_place F r i h))))))
       ])
 
-  new_plain : (k : ℕ) → k < length F.autos → HasNoBoxes (new F r i h k)
-  new_plain k l = placed_boxless (renumber g) (component_at F.autos k) (component_has HasNoBoxes F.autos k plain l)
+  each_merged : (P : Automaton → Type 0) → ((k : ℕ) → k < length F.autos → k ≢ r → k ≢ i → P (new F r i h k)) → P both
+      → Every P G.autos
+  each_merged P old one = each_with P both old one
 
-  new_fits : (k : ℕ) → k < length F.autos → RulesFit face (new F r i h k)
+  pub new_fits : (k : ℕ) → k < length F.autos → RulesFit face (new F r i h k)
   new_fits k l = placed_fit (renumber g) face (component_at F.autos k)
       (component_has (RulesFit face) F.autos k sound.well_formed.filled.rules l)
 
   both_ranked : IsRanked both
   both_ranked = merged_ranked R t l (new_ranked F r i h i) (new_ranked F r i h r)
 
-  both_plain : HasNoBoxes both
-  both_plain = merged_symbols IsPlain R t l (new_plain i h.into) (new_plain r h.root)
-
-  pub merged_plain : Every HasNoBoxes G.autos
-  merged_plain = each_merged HasNoBoxes (λ k l d e. new_plain k l) both_plain
+  both_fits : RulesFit face both
+  both_fits = merged_symbols (SymbolFits face) R t l (new_fits i h.into) (new_fits r h.root)
 
   new_tops : (k : ℕ) → k < length F.autos → TopsAreCells (new F r i h k)
   new_tops k l = renumbered_tops g (component_at F.autos k) (h.tops k l)
@@ -166,7 +173,7 @@ module _ (face : Face) (F : Forest) (r i : ℕ) (h : IsLone F r i) (plain : Ever
   old_formed : (k : ℕ) → k < length F.autos → k ≢ r → k ≢ i → (t : Tree) → InLanguage (new F r i h k) t
       → IsFormedTree R t
   old_formed k b d e t w =
-      placed_formed face F sound.well_formed.filled sound.full h.ranked plain (renumber g) R k b (low k b e) t w
+      put_formed face F sound.well_formed.filled sound.full h.ranked (renumber g) R k b (low k b e) t w
 
   -- the trees of the merged one
   flat_t : (x : Rule) → IsIn x t.rules → x.symbol ≡ Ref R → x.children ≡ []
@@ -183,7 +190,7 @@ module _ (face : Face) (F : Forest) (r i : ℕ) (h : IsLone F r i) (plain : Ever
 
   both_formed : (u : Tree) → InLanguage both u → IsFormedTree R u
   both_formed u w =
-      let e = run_end both both_ranked both_plain w.0 u w.2 in
+      let e = end_of_run face both both_ranked both_fits w.0 u w.2 in
       let c = cut R t l (new_ranked F r i h i).1 (new_tops r h.root) flat_t w.0 e.0
       (every_in (λ q. q < t.states) t.roots w.0 (new_ranked F r i h i).0 w.1) e.2 in
       subst (λ (z : Tree). IsFormedTree R z) e.1 (by_cut c.0 c.1 e.0 c.2 c.3 c.4)
@@ -204,24 +211,6 @@ module _ (face : Face) (F : Forest) (r i : ℕ) (h : IsLone F r i) (plain : Ever
                 (subst (λ (z : End). AllBelow R (end_refs z)) x.1 below),
           )
 
-  new_alike : (k : ℕ) → k < length F.autos → RefersAlike (new F r i h k)
-  new_alike k b =
-      let a = component_at F.autos k in
-      let p = component_has HasNoBoxes F.autos k plain b in
-      placed_alike (renumber g) a (component_has IsRanked F.autos k h.ranked b) p
-      (signed_alike face.boxes a p
-      (component_has (HasSignatures face.boxes) F.autos k sound.well_formed.signatures b))
-
-  both_alike : RefersAlike both
-  both_alike =
-      let s = placed_some face F sound.well_formed.filled sound.full h.ranked plain (renumber g) r h.root in
-      let tops : (m : Node) → IsTop m → AreAlike (refs m) (tree_refs s.0) =
-      (λ m w. subst (λ (ks : List ℕ). AreAlike ks (tree_refs s.0)) (tree_roots m)
-      ((new_alike r h.root).component (bare m) s.0 (top_in m w) s.1)) in
-      merged_alike R t l (new_ranked F r i h i).1 (new_tops r h.root) flat_t (tree_refs s.0) tops
-      (alike_ends t (new_alike i h.into)) (alike_ends l (new_alike r h.root))
-      (new_ranked F r i h i).0 (alike_tops t (new_alike i h.into)) both_ranked both_plain
-
   vars_new : Every (IsRoot R) G.vars
   vars_new = renumbered_vars g R F.vars
       (λ k x. subst (λ (n : ℕ). g k < n) (last_new F r i h) (place_less F r i h k (h.vars k x).0 (h.vars k x).1))
@@ -230,21 +219,107 @@ module _ (face : Face) (F : Forest) (r i : ℕ) (h : IsLone F r i) (plain : Ever
   formed = record {
     ranked = each_merged IsRanked (λ k l d e. new_ranked F r i h k) both_ranked;
     data_vars = sound.well_formed.filled.data_vars;
-    rules = each_merged (RulesFit face) (λ k l d e. new_fits k l)
-        (merged_symbols (SymbolFits face) R t l (new_fits i h.into) (new_fits r h.root));
+    rules = each_merged (RulesFit face) (λ k l d e. new_fits k l) both_fits;
     choices =
         formed_by G
         (rw same_size (each_merged (λ a. (u : Tree) → InLanguage a u → IsFormedTree R u) old_formed both_formed))
         (rw same_size vars_new);
   }
 
-  pub merged_sound : IsSound face G
-  merged_sound = record {
-    well_formed = record {
-      filled = filled_kept face F G sound.well_formed.filled (unmerge_any F r i h) formed;
-      signatures = each_merged (HasSignatures face.boxes)
-          (λ k b d e. alike_signed face.boxes (new F r i h k) (new_plain k b) (new_alike k b))
-          (alike_signed face.boxes both both_plain both_alike);
-    };
-    full = regrouped_full face F sound.well_formed.filled sound.full h.ranked plain G (merge_any F r i h []);
-  }
+  pub merged_filled : IsFilled face G
+  merged_filled = filled_kept face F G sound.well_formed.filled (unmerge_any F r i h) formed
+
+  pub merged_full : Every HasSome G.autos
+  merged_full = full_kept face F sound.well_formed.filled sound.full h.ranked G (λ T. merge_any F r i h T)
+
+  -- Signatures.
+
+  apart : AreApart (renumber g)
+  apart = renumber_apart g (root_at (length F.autos) g (last_order (length F.autos) r) (is F r i h))
+      (root_place (length F.autos) g (last_order (length F.autos) r) (is F r i h))
+
+  -- the other components keep theirs
+  pub new_signed : (k : ℕ) → k < length F.autos → HasSignatures face.boxes (new F r i h k)
+  new_signed k b =
+      put_signed face (renumber g) apart (component_at F.autos k) (component_has IsRanked F.autos k h.ranked b)
+      (component_has (RulesFit face) F.autos k sound.well_formed.filled.rules b)
+      (component_has (HasSignatures face.boxes) F.autos k sound.well_formed.signatures b)
+
+  pub new_some : (k : ℕ) → k < length F.autos → HasSome (new F r i h k)
+  new_some k b = put_some face F sound.well_formed.filled sound.full h.ranked (renumber g) k b
+
+  -- each tree of the merged component is a graft
+  grafted : (u : Tree) → InLanguage both u → (n : Node) × (m : Node) × InLanguage t (bare n) × InLanguage l (bare m)
+      × (u ≡ bare (plug R m n)) × IsOnce R (refs n) × IsNever R (refs m)
+  grafted u w =
+      let e = end_of_run face both both_ranked both_fits w.0 u w.2 in
+      let c = cut R t l (new_ranked F r i h i).1 (new_tops r h.root) flat_t w.0 e.0
+      (every_in (λ q. q < t.states) t.roots w.0 (new_ranked F r i h i).0 w.1) e.2 in
+      by_cut c.0 c.1 e.0 e.1 c.2 c.3 c.4
+    where
+      by_cut : (d : End) (ms : List Node) (e : End) → bare_end e ≡ u → EndRun t.rules w.0 d → Every IsTop ms
+          → FillsEnd R d ms e → (n : Node) × (m : Node) × InLanguage t (bare n) × InLanguage l (bare m)
+          × (u ≡ bare (plug R m n)) × IsOnce R (refs n) × IsNever R (refs m)
+      by_cut (leaf y) ms e q g a x =
+          absurd (new_tops i h.into g.0 g.1 (subst (λ (q : ℕ). IsIn q t.roots) (sym g.2) w.1) y g.3)
+      by_cut (under n) ms e q g a x =
+          let from : InLanguage t (bare n) = (w.0, w.1, node_bare t.rules w.0 n g) in
+          let once : IsOnce R (refs n) = subst (λ (k : ℕ). IsOnce k (refs n)) (last_new F r i h)
+          (once_new F r i h n from) in
+          let k = once_tree R n ms x.0 x.2 once in
+          let top : IsTop k.0 = (subst (λ (z : List Node). Every IsTop z) k.1 a).0 in (
+            n,
+            k.0,
+            from,
+            top_in k.0 top,
+            sym q ∙ ap bare_end x.1 ∙ ap bare k.2,
+            once,
+            never_below R (refs k.0) (top_low k.0 top),
+          )
+
+  -- so they have one signature, though the trees of one of its states may have several
+  pub one_signature : (u w : Tree) → InLanguage both u → InLanguage both w → signature face.boxes u
+      ≡ signature face.boxes w
+  one_signature u w x y =
+      let a = grafted u x in
+      let b = grafted w y in
+      ap (signature face.boxes) a.4
+      ∙ plugged_signature face.boxes R a.1 a.0 b.1 b.0 a.5 a.6 b.5 b.6
+      ((new_signed i h.into).component (bare a.0) (bare b.0) a.2 b.2)
+      ((new_signed r h.root).component (bare a.1) (bare b.1) a.3 b.3)
+      ∙ sym (ap (signature face.boxes) b.4)
+
+  -- Without box edges.
+
+  module _ (plain : Every HasNoBoxes F.autos) where
+    new_plain : (k : ℕ) → k < length F.autos → HasNoBoxes (new F r i h k)
+    new_plain k l = placed_boxless (renumber g) (component_at F.autos k) (component_has HasNoBoxes F.autos k plain l)
+
+    both_plain : HasNoBoxes both
+    both_plain = merged_symbols IsPlain R t l (new_plain i h.into) (new_plain r h.root)
+
+    pub merged_plain : Every HasNoBoxes G.autos
+    merged_plain = each_merged HasNoBoxes (λ k l d e. new_plain k l) both_plain
+
+    new_alike : (k : ℕ) → k < length F.autos → RefersAlike (new F r i h k)
+    new_alike k b = signed_alike face.boxes (new F r i h k) (new_plain k b) (new_signed k b)
+
+    both_alike : RefersAlike both
+    both_alike =
+        let s = new_some r h.root in
+        let tops : (m : Node) → IsTop m → AreAlike (refs m) (tree_refs s.0) =
+        (λ m w. subst (λ (ks : List ℕ). AreAlike ks (tree_refs s.0)) (tree_roots m)
+        ((new_alike r h.root).component (bare m) s.0 (top_in m w) s.1)) in
+        merged_alike R t l (new_ranked F r i h i).1 (new_tops r h.root) flat_t (tree_refs s.0) tops
+        (alike_ends t (new_alike i h.into)) (alike_ends l (new_alike r h.root))
+        (new_ranked F r i h i).0 (alike_tops t (new_alike i h.into)) both_ranked both_plain
+
+    pub merged_sound : IsSound face G
+    merged_sound = record {
+      well_formed = record {
+        filled = merged_filled;
+        signatures = each_merged (HasSignatures face.boxes) (λ k b d e. new_signed k b)
+            (alike_signed face.boxes both both_plain both_alike);
+      };
+      full = merged_full;
+    }

@@ -1,4 +1,4 @@
--- A sound forest without box edges stays sound when its roots stand in another order.
+-- A sound forest stays sound when its roots stand in another order.
 use Rattle.std.proofs.Common.{◌≡◌, inl, inr, ℕ, ◌<◌, length, List, [], ◌∷◌, map, flat_map, refl, sym, ap, subst, ◌∙◌}
 use Rattle.fore_base.specs.Lists.{IsIn, Every}
 use Rattle.fore_base.proofs.ListLemmas.{every_in, in_every, in_mapped}
@@ -25,8 +25,12 @@ use Rattle.fa_back.proofs.Dressable.{some_choice}
 use Rattle.fa_merge.proofs.MergedAnywhere.{an_order, numbers_mapped}
 use Rattle.fa_merge.proofs.Named.{var_below}
 use Rattle.fa_merge.proofs.OtherOrders.{order_below, order_length, place_below, mapped_length, reorder_onto}
-use Rattle.fa_merge.proofs.OtherOrders.{reorder_back}
-use Rattle.fa_merge.proofs.PlacedForests.{component_has, placed_formed, placed_signed, regrouped_full}
+use Rattle.fa_merge.proofs.OtherOrders.{reorder_back, root_at, root_place}
+use Rattle.fa_merge.proofs.Apart.{renumber_apart}
+use Rattle.fa_merge.proofs.PlacedForests.{component_has}
+use Rattle.fa_merge.proofs.PutForests.{put_formed, full_kept}
+use Rattle.fa_leaves.specs.Leaves.{AreApart}
+use Rattle.fa_leaves.proofs.PutSigns.{put_signed}
 use Rattle.fa_sound.proofs.ComponentLemmas.{component_got}
 
 abbrev at_of : Target → ℕ
@@ -55,7 +59,7 @@ numbers_below f m n [] h l = tt
 numbers_below f m n (k ∷ ks) h l = (h k l.0, numbers_below f m n ks h l.1)
 
 module _ (face : Face) (F : Forest) (order : List ℕ) (is : IsOrderOf F order) (ranked : Every IsRanked F.autos)
-    (plain : Every HasNoBoxes F.autos) (sound : IsSound face F) where
+    (sound : IsSound face F) where
   abbrev size : ℕ
   size = length F.autos
 
@@ -68,6 +72,9 @@ module _ (face : Face) (F : Forest) (order : List ℕ) (is : IsOrderOf F order) 
   the_order : IsOrder size f order
   the_order = an_order size order is
 
+  apart : AreApart (renumber f)
+  apart = renumber_apart f (root_at size f order the_order) (root_place size f order the_order)
+
   same_size : length G.autos ≡ size
   same_size = mapped_length (λ k. placed_auto (renumber f) (component_at F.autos k)) order
       ∙ order_length size f order the_order
@@ -79,8 +86,8 @@ module _ (face : Face) (F : Forest) (order : List ℕ) (is : IsOrderOf F order) 
       let m = in_mapped (λ k. placed_auto (renumber f) (component_at F.autos k)) a order i in
       subst P (sym m.2) (h m.0 (every_in (λ k. k < size) order m.0 (order_below size f order the_order) m.1)))
 
-  pub new_plain : Every HasNoBoxes G.autos
-  new_plain = each_new HasNoBoxes
+  pub new_plain : Every HasNoBoxes F.autos → Every HasNoBoxes G.autos
+  new_plain plain = each_new HasNoBoxes
       (λ k l. placed_boxless (renumber f) (component_at F.autos k) (component_has HasNoBoxes F.autos k plain l))
 
   low : (k : ℕ) → k < size → (m : Node) → InLanguage (component_at F.autos k) (bare m)
@@ -108,8 +115,7 @@ module _ (face : Face) (F : Forest) (order : List ℕ) (is : IsOrderOf F order) 
     choices = formed_by G
         (rw same_size
         (each_new (λ a. (t : Tree) → InLanguage a t → IsFormedTree size t)
-        (λ k l t h. placed_formed face F sound.well_formed.filled sound.full ranked plain (renumber f) size k l
-        (low k l) t h)))
+        (λ k l t h. put_formed face F sound.well_formed.filled sound.full ranked (renumber f) size k l (low k l) t h)))
         (rw same_size vars_new);
   }
 
@@ -118,10 +124,11 @@ module _ (face : Face) (F : Forest) (order : List ℕ) (is : IsOrderOf F order) 
     well_formed = record {
       filled = filled_kept face F G sound.well_formed.filled (λ T. reorder_back F f order the_order T) formed;
       signatures = each_new (HasSignatures face.boxes)
-          (λ k l. placed_signed (renumber f) (component_at F.autos k) (component_has IsRanked F.autos k ranked l)
-          (component_has HasNoBoxes F.autos k plain l) face.boxes
+          (λ k l. put_signed face (renumber f) apart (component_at F.autos k)
+          (component_has IsRanked F.autos k ranked l)
+          (component_has (RulesFit face) F.autos k sound.well_formed.filled.rules l)
           (component_has (HasSignatures face.boxes) F.autos k sound.well_formed.signatures l));
     };
-    full = regrouped_full face F sound.well_formed.filled sound.full ranked plain G
-        (reorder_onto [] F f order the_order);
+    full = full_kept face F sound.well_formed.filled sound.full ranked G
+        (λ T. reorder_onto T F f order the_order);
   }

@@ -1,11 +1,12 @@
 -- A component merged into the one whose trees refer to its root.
 use Rattle.std.specs.Prelude.{◌≡◌, ◌↔◌, ◌<◌, ℕ, ◌+◌, ◌-◌, Bool, false, nat_lt, if◌then◌else◌, nat_eq, List, [], ◌∷◌}
 use Rattle.std.specs.Prelude.{◌++◌, map, length, Some, slice_get, slice_set}
-use Rattle.fore_base.specs.Lists.{IsIn}
+use Rattle.fore_base.specs.Lists.{IsIn, Paired}
 use Rattle.fore_base.specs.declared.shape.Shape.{Shape}
 use Rattle.fore_base.specs.declared.store.Store.{Store}
 use Rattle.ta_core.specs.Auto.{Automaton}
 use Rattle.ta_core.specs.Joined.{shift}
+use Rattle.ta_core.specs.Language.{HasSameLanguage}
 use Rattle.ta_core.specs.Renumbered.{renumbered}
 use Rattle.ta_core.specs.declared.auto.Rule.{Rule}
 use Rattle.ta_core.specs.declared.symbol.Symbol.{Symbol}
@@ -107,9 +108,19 @@ pub record Refers (F : Forest) (i r : ℕ) : Type 0 where
   pub there : i < length F.autos
   pub refer : (ts : List Tree) (t : Tree) → Choice F.autos ts → slice_get ts i ≡ Some t → RefersTo t r
 
--- G is F with root r merged into the root whose trees refer to it
+-- each component of G has the trees of F's in its place; targets and data are those of F
+pub record HasTreesOf (F G : Forest) : Type 0 where
+  pub autos : Paired HasSameLanguage F.autos G.autos
+  pub vars : G.vars ≡ F.vars
+  pub data_vars : G.data_vars ≡ F.data_vars
+
+-- G has the trees of F with root r merged into the root whose trees refer to it
 abbrev pub IsMergedInto : Forest → ℕ → Forest → Type 0
-IsMergedInto F r G = (i : ℕ) × Refers F i r × (G ≡ merged_at r i F)
+IsMergedInto F r G = (i : ℕ) × Refers F i r × HasTreesOf (merged_at r i F) G
+
+-- G is F with root r merged into the root whose trees refer to it, rule by rule
+abbrev pub IsMergedExactly : Forest → ℕ → Forest → Type 0
+IsMergedExactly F r G = (i : ℕ) × Refers F i r × (G ≡ merged_at r i F)
 
 -- the number of root k where root r is taken out: those above r move down by one
 abbrev pub lowered : ℕ → ℕ → ℕ

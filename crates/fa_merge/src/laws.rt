@@ -7,6 +7,7 @@ ghost use Rattle.ta_core.specs.Language.{InLanguage};
 ghost use Rattle.ta_core.specs.declared.tree.Tree.{Tree};
 ghost use Rattle.fa_core.specs.Boxes.{IsTableOf};
 ghost use Rattle.fa_core.specs.Boxless.{HasNoBoxes};
+ghost use Rattle.fa_core.specs.Faces.{IsGiving};
 ghost use Rattle.fa_core.specs.Filled.{IsFilled, IsSound};
 ghost use Rattle.fa_core.specs.Member.{Regroups, bare};
 ghost use Rattle.fa_core.specs.Ways.{signature};
@@ -36,11 +37,26 @@ pub fn reaching_is_decided()
         ⊎ ((r : ℕ) × IsLeastUnreached face F r) }
 {}
 
+/// Where each root of a forest is reached, so is each root of a forest that is regrouped into it for every box table,
+/// if each face that leads back gives its output something. So where two sound forests regroup each other and a root
+/// of the one is not reached, a least root of the other is not.
+pub fn regrouping_keeps_reached()
+    ensures kept { (face : Face) (F G : Forest) → Every IsGiving face.boxes → IsFilled face F → IsFilled face G
+        → Every IsRanked G.autos → ((T : List BoxDef) → Regroups T F G) → AreAllReached face F → AreAllReached face G }
+    ensures unreached { (face : Face) (F G : Forest) (r : ℕ) → Every IsGiving face.boxes → IsSound face F
+        → IsSound face G → Every IsRanked F.autos → ((T : List BoxDef) → Regroups T G F) → IsLeastUnreached face F r
+        → (k : ℕ) × IsLeastUnreached face G k }
+{}
+
 /// No member of a filled forest leaks where each root is reached, and every member leaks where some root is not.
 pub fn leaks_follow_roots()
     ensures never { (face : Face) (F : Forest) → IsFilled face F → AreAllReached face F → NeverLeaks face F }
     ensures always { (face : Face) (F : Forest) (r : ℕ) → IsFilled face F → r < length F.autos → IsUnreached face F r
         → AlwaysLeaks face F }
+    ensures never_plain { (face : Face) (F : Forest) → Every HasNoBoxes F.autos → AreAllReached face F
+        → NeverLeaks face F }
+    ensures always_plain { (face : Face) (F : Forest) (r : ℕ) → Every HasNoBoxes F.autos → r < length F.autos
+        → IsUnreached face F r → AlwaysLeaks face F }
 {}
 
 /// No member of a sound forest leaks, or every member does.

@@ -1,6 +1,7 @@
 // Which roots are reached, and whether the members of a forest leak.
 
-ghost use Rattle.std.specs.Prelude.{◌≡◌, ◌<◌, ◌++◌, ◌∷◌, [], ◌^◌, ℕ, List, length, IfOk, OnOk, IsNone, IsSome, MatchOption};
+ghost use Rattle.std.specs.Prelude.{◌≡◌, ◌<◌, ◌++◌, ◌∷◌, [], ◌^◌, ℕ, List, length, IfOk, OnOk, IsNone, IsSome};
+ghost use Rattle.std.specs.Prelude.{MatchOption};
 ghost use Rattle.fore_base.specs.Lists.{Every, Paired};
 ghost use Rattle.fore_base.specs.Marks.{IsMarked};
 ghost use Rattle.fa_core.specs.Boxes.{IsTableOf};

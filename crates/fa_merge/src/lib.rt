@@ -4,6 +4,7 @@
 
 pub mod counting;
 pub mod dead;
+mod grafting;
 mod joins;
 pub mod laws;
 pub mod leaking;

@@ -8,12 +8,12 @@ ghost use Rattle.fa_core.specs.Member.{Regroups};
 ghost use Rattle.fa_core.specs.Placed.{placed_leaf};
 ghost use Rattle.fa_core.specs.Ways.{has};
 ghost use Rattle.fa_core.specs.declared.boxes.BoxDef.{BoxDef};
-ghost use Rattle.fa_merge.specs.Merged.{CanMerge, HasSameMembers, IsMergedInto, lowering, merged_at};
+ghost use Rattle.fa_merge.specs.Merged.{CanMerge, HasSameMembers, IsMergedExactly, IsMergedInto, lowering};
 ghost use Rattle.fa_merge.specs.Reordered.{IsOrderOf, reordered};
 ghost use Rattle.fa_sound.specs.Components.{component_at};
-ghost use Rattle.fa_merge.specs.inner.Lone.{AllRefer, IsLone, IsReferrer, NoneRefer, NoneRefers};
+ghost use Rattle.fa_merge.specs.inner.Lone.{AllRefer, IsReferrer, NoneRefer, NoneRefers};
 
-use crate::merging::merge_into;
+use crate::grafting::merge_at;
 use crate::orders::reorder_forest;
 use crate::signing::component_signature;
 use fa_core::forest::Forest;
@@ -24,8 +24,7 @@ use std::alloc::Global;
 
 /// The forest with its roots in this order, which has each of them once. Err is want of memory.
 pub fn reorder(alloc: Global, forest: &Sound, order: &[u32]) -> Mem<Sound>
-    requires plain { Every HasNoBoxes forest.now.forest.autos }
-    requires all { IsOrderOf forest.now.forest order.now }
+    requires { IsOrderOf forest.now.forest order.now }
     ensures value { IfOk result (λ made. made.forest ≡ reordered order.now forest.now.forest) }
     ensures face { IfOk result (λ made. made.face ≡ forest.now.face) }
     ensures whole { IfOk result (λ made. (T : List BoxDef) → Regroups T made.forest forest.now.forest) }
@@ -50,9 +49,10 @@ fn reorder_counted(alloc: Global, forest: &Forest, order: &[u32], count: u32) ->
 /// trees. The root has no variable and exactly one reference, which is not in its own tree. Later roots move down by
 /// one. Err is want of memory.
 pub fn merge_root(alloc: Global, forest: &Sound, root: u32) -> Mem<Sound>
-    requires plain { Every HasNoBoxes forest.now.forest.autos }
-    requires lone { CanMerge forest.now.forest root }
+    requires { CanMerge forest.now.forest root }
     ensures value { IfOk result (λ made. IsMergedInto forest.now.forest root made.forest) }
+    ensures plain { Every HasNoBoxes forest.now.forest.autos
+        → IfOk result (λ made. IsMergedExactly forest.now.forest root made.forest) }
     ensures face { IfOk result (λ made. made.face ≡ forest.now.face) }
     ensures vars { IfOk result (λ made. made.forest.vars ≡ map (placed_leaf (lowering root)) forest.now.forest.vars) }
     ensures whole { IfOk result (λ made. (T : List BoxDef) → Regroups T made.forest forest.now.forest) }
@@ -65,19 +65,6 @@ pub fn merge_root(alloc: Global, forest: &Sound, root: u32) -> Mem<Sound>
         Some(into) => merge_at(alloc, forest, root, into, count),
         None => unreachable!(),
     }
-}
-
-/// The root merged into this one.
-fn merge_at(alloc: Global, forest: &Sound, root: u32, into: u32, count: u32) -> Mem<Sound>
-    requires plain { Every HasNoBoxes forest.now.forest.autos }
-    requires count { count ≡ length forest.now.forest.autos }
-    requires lone { IsLone forest.now.forest root into }
-    ensures value { IfOk result (λ made. made.forest ≡ merged_at root into forest.now.forest) }
-    ensures face { IfOk result (λ made. made.face ≡ forest.now.face) }
-{
-    forest.known();
-    let made = merge_into(alloc, forest.forest(), root, into, count)?;
-    Sound::of(alloc, made, forest.face())
 }
 
 /// The first root whose trees refer to the root.

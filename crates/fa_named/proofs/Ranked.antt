@@ -1,5 +1,6 @@
 -- What is made of a component is an automaton.
-use Rattle.std.proofs.Common.{arith, ℕ, suc, List, [], ◌∷◌, ◌++◌, ◌≡◌, ◌≤◌, ◌<◌, ◌+◌, map, refl, sym, ap, ◌∙◌, length, subst}
+use Rattle.std.proofs.Common.{arith, ℕ, suc, List, [], ◌∷◌, ◌++◌, ◌≡◌, ◌≤◌, ◌<◌, ◌+◌, map, refl, sym, ap, ◌∙◌, length}
+use Rattle.std.proofs.Common.{subst}
 use Rattle.fore_base.specs.Lists.{Every}
 use Rattle.ta_core.specs.Arity.{arity, child_slots}
 use Rattle.ta_core.specs.Auto.{IsRanked, IsRankedRule, automaton}
@@ -64,8 +65,8 @@ ranked known boxes p =
           (bound_above states (below_rules p.rules)),
     )
 
-pub ranked_by : (known : Known) (boxes : Texts) (p : PartDraft) (n : ℕ) (qs : List ℕ) (rs : List Rule) → n ≡ state_count p
-    → qs ≡ p.roots → rs ≡ map (rule_of known boxes) p.rules → IsRanked (automaton n qs rs)
+pub ranked_by : (known : Known) (boxes : Texts) (p : PartDraft) (n : ℕ) (qs : List ℕ) (rs : List Rule)
+    → n ≡ state_count p → qs ≡ p.roots → rs ≡ map (rule_of known boxes) p.rules → IsRanked (automaton n qs rs)
 ranked_by known boxes p n qs rs e f g =
     subst IsRanked
     (sym (ap (λ k. automaton k qs rs) e ∙ ap (λ xs. automaton (state_count p) xs rs) f

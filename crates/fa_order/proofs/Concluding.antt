@@ -1,6 +1,6 @@
 -- A forest with the roots of a canonical one is canonical when its roots stand in the order of the walk.
-use Rattle.std.proofs.Common.{◌≡◌, inl, inr, ℕ, zero, suc, ◌<◌, length, List, [], ◌∷◌, map, refl, sym, ap, subst, ◌∙◌}
-use Rattle.std.proofs.Common.{slice_get, Some}
+use Rattle.std.proofs.Common.{◌≡◌, inl, inr, ℕ, zero, suc, ◌<◌, ◌≤◌, length, List, [], ◌∷◌, map, refl, sym, ap, subst, ◌∙◌}
+use Rattle.std.proofs.Common.{slice_get, Some, arith}
 use Rattle.std.proofs.lemmas.Option.{none-some, same_Some}
 use Rattle.fore_base.specs.Lists.{IsIn, Every}
 use Rattle.fore_base.proofs.ListLemmas.{every_in, in_every, in_mapped}
@@ -9,16 +9,21 @@ use Rattle.ta_core.specs.Single.{HasOneTop}
 use Rattle.ta_core.specs.declared.auto.Rule.{Rule}
 use Rattle.ta_core.specs.declared.tree.Tree.{Tree}
 use Rattle.fa_core.specs.Boxless.{HasNoBoxes}
-use Rattle.fa_core.specs.Canonical.{IsRootKind, IsUntied, IsCanonical, Walks, GoesOn, refs_at, var_roots}
+use Rattle.fa_core.specs.Canonical.{IsLedTo, IsRootKind, IsUntied, IsCanonical, LeadsBack, RefersTo, Walks, GoesOn, refs_at}
+use Rattle.fa_core.specs.Canonical.{var_roots}
 use Rattle.fa_core.specs.Choices.{bares}
 use Rattle.fa_core.specs.Dressed.{Nodes}
 use Rattle.fa_core.specs.Filled.{Choice, IsSound}
 use Rattle.fa_core.specs.Member.{OfForest}
 use Rattle.fa_core.specs.Placed.{placed_auto, placed_rule}
+use Rattle.fa_core.specs.declared.faces.BoxFace.{BoxFace}
 use Rattle.fa_core.specs.declared.faces.Face.{Face}
 use Rattle.fa_core.specs.declared.forest.Forest.{Forest}
+use Rattle.fa_core.specs.declared.forest.Target.{Target}
 use Rattle.fa_core.proofs.Dressing.{dress_all, boxless_have_insides, choice_of}
+use Rattle.fa_core.proofs.Permuted.{in_rearranged}
 use Rattle.fa_core.proofs.Placing.{placed_ranked}
+use Rattle.fa_core.proofs.Rearranging.{back}
 use Rattle.fa_merge.specs.Reordered.{IsOrderOf, place_of, renumber, reordered}
 use Rattle.fa_sound.specs.Components.{component_at}
 use Rattle.fa_merge.specs.inner.Orders.{IsOrder}
@@ -31,9 +36,11 @@ use Rattle.fa_merge.proofs.ReorderedSound.{new_plain, reordered_sound}
 use Rattle.fa_order.specs.Kinds.{HasRootKinds}
 use Rattle.fa_order.specs.Placing.{IsWalkOrder}
 use Rattle.fa_order.proofs.Following.{shared_follows, knot_follows, untied_follows}
-use Rattle.fa_order.proofs.NoWays.{plain_kind}
-use Rattle.fa_order.proofs.Renumbered.{g_of, before, of_before, follows, refs_turned, var_roots_renumbered}
-use Rattle.fa_order.proofs.Visits.{walks_on}
+use Rattle.fa_order.proofs.MovedBacks.{AreMoved, leads_on}
+use Rattle.fa_order.proofs.Places.{out_above, place_out}
+use Rattle.fa_order.proofs.Renumbered.{g_of, gf, before, of_before, follows, moved, refs_turned, var_roots_renumbered}
+use Rattle.fa_order.proofs.WalkedOn.{walks_on}
+use Rattle.fa_order.specs.inner.Following.{Follows}
 
 -- One top under new numbers.
 
@@ -57,9 +64,24 @@ top_placed f a h = record {
       h.only i m.0 m.1 (sym (ap (λ (x : Rule). x.state) m.2) ∙ s));
 }
 
+-- Kind 3 under new numbers.
+
+led_follows : (f g : ℕ → ℕ) (there : (k : ℕ) → g (f k) ≡ k) (bs : List BoxFace) (vs ws : List Target) (ts us : List Tree) (h : Follows f g vs ws ts us)
+    → AreMoved f g there ts us → (r : ℕ) → IsLedTo bs vs ts (g r) → IsLedTo bs ws us r
+led_follows f g there bs vs ws ts us h m r l = record {
+  no_var = λ i. l.no_var ((h.var r).0 i);
+  alone = λ j u e d k. (let t = h.up j u e in
+      l.alone (g j) t.0 t.1 (λ z. d (sym (h.again j) ∙ ap f z ∙ h.again r))
+      ((t.2.0 (g r)).1 (subst (λ (z : ℕ). RefersTo u z) (sym (h.again r)) k)));
+  from = f l.from;
+  other = λ z. l.other (sym (h.there l.from) ∙ ap g z);
+  led = subst (λ (z : ℕ). LeadsBack bs us (f l.from) z z) (h.again r)
+      (leads_on f g there bs ts us m l.from (g r) (g r) l.led);
+}
+
 module _ (face : Face) (F : Forest) (sound : IsSound face F) (ranked : Every IsRanked F.autos)
     (plain : Every HasNoBoxes F.autos) (roots : HasRootKinds face F)
-    (order : List ℕ) (walk : IsWalkOrder F order) (all : IsOrderOf F order) where
+    (order : List ℕ) (walk : IsWalkOrder face F order) (all : IsOrderOf F order) where
   abbrev size : ℕ
   size = length F.autos
 
@@ -75,6 +97,10 @@ module _ (face : Face) (F : Forest) (sound : IsSound face F) (ranked : Every IsR
   below : Every (λ k. k < size) order
   below = order_below size f order is
 
+  -- a root that is not in the order is not there
+  far_out : (x : ℕ) → (IsIn x order → ⊥) → size ≤ x
+  far_out x n = out_above size x (λ i. n (in_rearranged x (back is.all) i))
+
   each_new : (P : Automaton → Type 0) → ((a : Automaton) → P a → P (placed_auto (renumber f) a)) → Every P F.autos
       → Every P G.autos
   each_new P kept h = in_every P G.autos (λ a i.
@@ -84,14 +110,14 @@ module _ (face : Face) (F : Forest) (sound : IsSound face F) (ranked : Every IsR
       (component_has P F.autos m.0 h (every_in (λ k. k < size) order m.0 below m.1))))
 
   new_sound : IsSound face G
-  new_sound = reordered_sound face F order all ranked plain sound
+  new_sound = reordered_sound face F order all ranked sound
 
   -- each choice of trees is that of a dressed forest
   dressed : (us : List Tree) → Choice G.autos us → (e : Nodes) × (bares e ≡ us) × OfForest [] G e
   dressed us c =
       let w = new_sound.well_formed.filled.trees us c in
       let d = dress_all [] 0 G.autos us w.tops (each_new IsRanked (placed_ranked (renumber f)) ranked)
-      (boxless_have_insides [] G.autos (new_plain face F order all ranked plain sound)) c w.are in
+      (boxless_have_insides [] G.autos (new_plain face F order all ranked sound plain)) c w.are in
       (d.nodes, d.trees, d.of)
 
   module _ (e : Nodes) (o : OfForest [] G e) where
@@ -112,9 +138,13 @@ module _ (face : Face) (F : Forest) (sound : IsSound face F) (ranked : Every IsR
         let b : g r < size = place_below size g (back_order size f order is) (order_back size f order is) r
         (subst (λ (n : ℕ). r < n) long l) in
         let k = roots.kinds ts choice (g r) (subst (λ (n : ℕ). g r < n) (sym (choice_long F.autos ts choice)) b) in
-        elim (plain_kind face.boxes F.autos plain ts choice F.vars (g r) k) [
-          | inl s ↦ inl (shared_follows f g F.vars G.vars ts (bares e) (follows F f order is e o) r s)
-          | inr t ↦ inr (inr (knot_follows f g F.vars G.vars ts (bares e) (follows F f order is e o) r t))
+        let h = follows F f order is e o in
+        elim k [
+          | inl s ↦ inl (shared_follows f g F.vars G.vars ts (bares e) h r s)
+          | inr t ↦ elim t [
+            | inl w ↦ inr (inl (led_follows f g (gf F f order is e o) face.boxes F.vars G.vars ts (bares e) h (moved F f order is e o) r w))
+            | inr w ↦ inr (inr (knot_follows f g F.vars G.vars ts (bares e) h r w))
+          ]
         ]
 
     untied_new : IsUntied G.vars (bares e)
@@ -122,11 +152,14 @@ module _ (face : Face) (F : Forest) (sound : IsSound face F) (ranked : Every IsR
 
     walked : Walks (refs_at (bares e)) (GoesOn face.boxes (bares e)) (var_roots G.vars) 0 (length (bares e))
     walked =
-        let moved : (r : ℕ) → IsIn r order → refs_at (bares e) (f r) ≡ map f (refs_at ts r) =
+        let refs : (r : ℕ) → IsIn r order → refs_at (bares e) (f r) ≡ map f (refs_at ts r) =
         (λ r i. refs_turned F f order is e o r (every_in (λ k. k < size) order r below i)) in
+        let outer : (x : ℕ) → (IsIn x order → ⊥) → length order ≤ f x =
+        (λ x n. let far : size ≤ x = far_out x n in let a = place_out 0 order x n in
+        let b = order_length size f order is in omega (arith, far, a, b)) in
         let w : Walks (refs_at (bares e)) (GoesOn face.boxes (bares e)) (map f (var_roots F.vars)) 0 (length order) =
-        walks_on (refs_at ts) (refs_at (bares e)) (GoesOn face.boxes (bares e)) order moved (var_roots F.vars)
-        [] order refl (walk ts choice) in
+        walks_on face.boxes ts (bares e) order g (gf F f order is e o) (moved F f order is e o) outer refs
+        (var_roots F.vars) [] order refl (walk ts choice) in
         subst (λ (z : ℕ). Walks (refs_at (bares e)) (GoesOn face.boxes (bares e)) (var_roots G.vars) 0 z)
         (order_length size f order is ∙ sym long)
         (subst (λ (z : List ℕ). Walks (refs_at (bares e)) (GoesOn face.boxes (bares e)) z 0 (length order))

@@ -1,5 +1,5 @@
 -- What is decided of the trees that show most is what is asked of a forest's roots.
-use Rattle.std.proofs.Common.{◌≡◌, ◌≢◌, ◌⊎◌, inl, inr, ℕ, zero, suc, ◌<◌, ◌+◌, Bool, true, false, not, ◌&&◌, cond}
+use Rattle.std.proofs.Common.{◌||◌, ◌≡◌, ◌≢◌, ◌⊎◌, inl, inr, ℕ, zero, suc, ◌<◌, ◌+◌, Bool, true, false, not, ◌&&◌, cond}
 use Rattle.std.proofs.Common.{true≢false, nat_eq, nat_le, length, List, [], ◌∷◌, map, refl, sym, ap, subst, ◌∙◌}
 use Rattle.std.proofs.Common.{slice_get, Some, arith}
 use Rattle.std.proofs.lemmas.Bool.{and_parts, and_from, or_left, or_right, or_cases, eqb-true, eq-eqb, leb-true, le-leb}
@@ -7,23 +7,28 @@ use Rattle.std.proofs.lemmas.Option.{none-some, same_Some, slice_get_within}
 use Rattle.fore_base.specs.Lists.{IsIn}
 use Rattle.ta_core.specs.declared.symbol.Symbol.TheVariants.{Ref}
 use Rattle.ta_core.specs.declared.tree.Tree.{Tree, out-Tree}
-use Rattle.fa_core.specs.Canonical.{RefersTo, IsShared, IsKnot, IsUntied, field_trees, references, var_roots}
+use Rattle.fa_core.specs.Canonical.{RefersTo, IsShared, IsLedTo, IsKnot, IsRootKind, IsUntied, field_trees, references}
+use Rattle.fa_core.specs.Canonical.{var_roots}
 use Rattle.fa_core.specs.Cells.{is_leaf, below_of, roots_in}
 use Rattle.fa_core.specs.References.{to_two, tree_refs}
 use Rattle.fa_core.specs.Ways.{has, signature}
 use Rattle.fa_core.specs.declared.faces.BoxFace.{BoxFace}
 use Rattle.fa_core.specs.declared.forest.Target.{Target}
+use Rattle.fa_core.specs.declared.signature.RefMark.{RefMark}
 use Rattle.fa_core.proofs.Numbers.{has_once}
 use Rattle.fa_merge.specs.Counts.{marks_count}
 use Rattle.fa_back.proofs.ByMarks.{in_var_roots, var_roots_in}
 use Rattle.fa_back.proofs.RootMarks.{in_has, has_in}
 use Rattle.fa_order.specs.declared.showing.Shown.{Shown}
-use Rattle.fa_order.specs.inner.Deciding.{times_shown, shared_by, any_leaf, any_cell, ties, any_ties, knot_by, root_by}
+use Rattle.fa_order.specs.inner.Deciding.{times_shown, shared_by, any_leaf, any_cell, any_other, any_leads}
+use Rattle.fa_order.specs.inner.Deciding.{ties, any_ties, knot_by, led_by, root_by}
 use Rattle.fa_order.specs.inner.Deciding.{roots_by}
+use Rattle.fa_order.specs.inner.Backs.{MarkLeads}
 use Rattle.fa_order.specs.inner.Showing.{shown_of}
 use Rattle.fa_order.proofs.CountedMarks.{sum_marks, sums_are}
 use Rattle.fa_order.proofs.Following.{two_by_two, one_by_two}
 use Rattle.fa_order.proofs.SameMarks.{signature_roots}
+use Rattle.fa_order.proofs.SignedBacks.{leads_tree, tree_leads}
 use Rattle.fa_order.proofs.Shows.{leaf_refers, ref_refers, ref_is_leaf}
 
 -- Tests.
@@ -194,10 +199,101 @@ module _ (bs : List BoxFace) where
         (there_leaf r (field_trees k.above) k.leaf k.in_field k.refers)
         (refers_has o k.from (subst (λ (t : Tree). RefersTo t k.from) same k.ties))))))
 
+    -- Kind 3.
+
+    other_there : (r i : ℕ) (us : List Tree) → any_other r i (map (shown_of bs) us) ≡ true → (j : ℕ) × (t : Tree)
+        × (slice_get us j ≡ Some t) × (i + j ≢ r) × RefersTo t r
+    other_there r i [] h = absurd (true≢false (sym h))
+    other_there r i (u ∷ us) h =
+        elim
+        (or_cases (not (nat_eq i r) && has r (roots_in (signature bs u))) (any_other r (suc i) (map (shown_of bs) us))
+        h) [
+          | inl e ↦ (let a = and_parts (not (nat_eq i r)) (has r (roots_in (signature bs u))) e in (
+            0,
+            u,
+            refl,
+            (λ z. not_true (nat_eq i r) a.0 (eq-eqb i r (let y : i ≡ i + 0 = omega arith in y ∙ z))),
+            has_refers u r a.1,
+          ))
+          | inr e ↦ (let k = other_there r (suc i) us e in let y : i + suc k.0 ≡ suc i + k.0 = omega arith in
+              (suc k.0, k.1, k.2, (λ z. k.3 (sym y ∙ z)), k.4))
+        ]
+
+    there_other : (r i : ℕ) (us : List Tree) (j : ℕ) (t : Tree) → slice_get us j ≡ Some t → i + j ≢ r → RefersTo t r
+        → any_other r i (map (shown_of bs) us) ≡ true
+    there_other r i [] j t e d h = absurd (none-some t e)
+    there_other r i (u ∷ us) zero t e d h =
+        or_left (not (nat_eq i r) && has r (roots_in (signature bs u))) (any_other r (suc i) (map (shown_of bs) us))
+        (and_from (not (nat_eq i r)) (has r (roots_in (signature bs u)))
+        (true_not (nat_eq i r) (λ z. d (let y : i + 0 ≡ i = omega arith in y ∙ eqb-true i r z)))
+        (refers_has u r (subst (λ (x : Tree). RefersTo x r) (sym (same_Some u t e)) h)))
+    there_other r i (u ∷ us) (suc j) t e d h =
+        or_right (not (nat_eq i r) && has r (roots_in (signature bs u))) (any_other r (suc i) (map (shown_of bs) us))
+        (there_other r (suc i) us j t e (λ z. d (let y : i + suc j ≡ suc i + j = omega arith in y ∙ z)) h)
+
+    -- by marks
+    abbrev Led : ℕ → List RefMark → Type 0
+    Led r ms = (m : RefMark) × IsIn m ms × (m.root ≢ r) × MarkLeads r r m
+
+    led_there : (r : ℕ) (ms : List RefMark) → any_leads r ms ≡ true → Led r ms
+    led_there r [] h = absurd (true≢false (sym h))
+    led_there r (m ∷ ms) h =
+        elim (or_cases (not (nat_eq m.root r) && (m.back || has r m.reach)) (any_leads r ms) h) [
+          | inl e ↦ (let a = and_parts (not (nat_eq m.root r)) (m.back || has r m.reach) e in (
+            m,
+            inl refl,
+            (λ z. not_true (nat_eq m.root r) a.0 (eq-eqb m.root r z)),
+            elim (or_cases m.back (has r m.reach) a.1)
+                [ inl b ↦ inl (refl, b) | inr b ↦ inr (has_in r m.reach b) ],
+          ))
+          | inr e ↦ (let k = led_there r ms e in (k.0, inr k.1, k.2, k.3))
+        ]
+
+    there_led : (r : ℕ) (ms : List RefMark) → Led r ms → any_leads r ms ≡ true
+    there_led r [] h = absurd h.1
+    there_led r (m ∷ ms) (x, inl e, d, l) =
+        or_left (not (nat_eq m.root r) && (m.back || has r m.reach)) (any_leads r ms)
+        (subst (λ (y : RefMark). (not (nat_eq y.root r) && (y.back || has r y.reach)) ≡ true) e
+        (and_from (not (nat_eq x.root r)) (x.back || has r x.reach)
+        (true_not (nat_eq x.root r) (λ z. d (eqb-true x.root r z)))
+        (elim l [
+          | inl b ↦ or_left x.back (has r x.reach) b.1
+          | inr b ↦ or_right x.back (has r x.reach) (in_has r x.reach b)
+        ])))
+    there_led r (m ∷ ms) (x, inr i, d, l) =
+        or_right (not (nat_eq m.root r) && (m.back || has r m.reach)) (any_leads r ms) (there_led r ms (x, i, d, l))
+
+    led_is : (r : ℕ) (o : Tree) → slice_get ts r ≡ Some o → led_by vars all r (signature bs o) ≡ true
+        → IsLedTo bs vs ts r
+    led_is r o own h =
+        let a = and_parts (not (has r vars)) (not (any_other r 0 all) && any_leads r (signature bs o)) h in
+        let b = and_parts (not (any_other r 0 all)) (any_leads r (signature bs o)) a.1 in
+        let m = led_there r (signature bs o) b.1 in
+        record {
+          no_var = λ i. not_true (has r vars) a.0 (in_has r vars (in_var_roots vs r i));
+          alone = λ j u e d k. not_true (any_other r 0 all) b.0
+              (there_other r 0 ts j u e (λ z. d (let y : j ≡ 0 + j = omega arith in y ∙ z)) k);
+          from = m.0.root;
+          other = m.2;
+          led = tree_leads bs ts r o own m.0.root r (m.0, m.1, refl, m.3);
+        }
+
+    is_led : (r : ℕ) (o : Tree) → slice_get ts r ≡ Some o → IsLedTo bs vs ts r
+        → led_by vars all r (signature bs o) ≡ true
+    is_led r o own k =
+        let m = leads_tree bs ts r o own k.from r k.led in
+        and_from (not (has r vars)) (not (any_other r 0 all) && any_leads r (signature bs o))
+        (true_not (has r vars) (λ h. k.no_var (var_roots_in vs r (has_in r vars h))))
+        (and_from (not (any_other r 0 all)) (any_leads r (signature bs o))
+        (true_not (any_other r 0 all)
+        (λ h. let t = other_there r 0 ts h in let y : 0 + t.0 ≡ t.0 = omega arith in
+        k.alone t.0 t.1 t.2 (λ z. t.3 (y ∙ z)) t.4))
+        (there_led r (signature bs o) (m.0, m.1, (λ z. k.other (sym m.2 ∙ z)), m.3)))
+
     -- One root.
 
     abbrev Kind : ℕ → Type 0
-    Kind r = IsShared vs ts r ⊎ IsKnot vs ts r
+    Kind r = IsRootKind bs vs ts r
 
     abbrev Loose : ℕ → Tree → Type 0
     Loose r t = IsShared vs ts r → (u : Tree) → IsIn u (field_trees t) → (out-Tree u).symbol ≢ Ref r → RefersTo u r → ⊥
@@ -207,25 +303,33 @@ module _ (bs : List BoxFace) where
     root_is r t e = here (shared_by vars all r) refl
       where
         here : (b : Bool) → shared_by vars all r ≡ b
-            → cond b (not (any_cell r (map (below_of bs) (field_trees t)))) (knot_by vars all r (signature bs t)) ≡ true
-            → Kind r × Loose r t
+            → cond b (not (any_cell r (map (below_of bs) (field_trees t))))
+            (knot_by vars all r (signature bs t) || led_by vars all r (signature bs t)) ≡ true → Kind r × Loose r t
         here true s h = (
           inl (shared_is r s),
           (λ w u i d k. not_true (any_cell r (map (below_of bs) (field_trees t))) h
               (there_cell r (field_trees t) u i d k)),
         )
-        here false s h = (inr (knot_is r t e h), (λ w u i d k. true≢false (sym (is_shared r w) ∙ s)))
+        here false s h = (
+          elim (or_cases (knot_by vars all r (signature bs t)) (led_by vars all r (signature bs t)) h)
+              [ inl k ↦ inr (inr (knot_is r t e k)) | inr l ↦ inr (inl (led_is r t e l)) ],
+          (λ w u i d k. true≢false (sym (is_shared r w) ∙ s)),
+        )
 
     is_root : (r : ℕ) (t : Tree) → slice_get ts r ≡ Some t → Kind r → Loose r t → root_by vars all r (shown_of bs t)
         ≡ true
     is_root r t e k l = here (shared_by vars all r) refl k
       where
         here : (b : Bool) → shared_by vars all r ≡ b → Kind r
-            → cond b (not (any_cell r (map (below_of bs) (field_trees t)))) (knot_by vars all r (signature bs t)) ≡ true
+            → cond b (not (any_cell r (map (below_of bs) (field_trees t))))
+            (knot_by vars all r (signature bs t) || led_by vars all r (signature bs t)) ≡ true
         here true s k = true_not (any_cell r (map (below_of bs) (field_trees t)))
             (λ h. let c = cell_there r (field_trees t) h in l (shared_is r s) c.0 c.1 c.2 c.3)
         here false s (inl w) = absurd (true≢false (sym (is_shared r w) ∙ s))
-        here false s (inr w) = is_knot r t e w
+        here false s (inr (inl w)) =
+            or_right (knot_by vars all r (signature bs t)) (led_by vars all r (signature bs t)) (is_led r t e w)
+        here false s (inr (inr w)) =
+            or_left (knot_by vars all r (signature bs t)) (led_by vars all r (signature bs t)) (is_knot r t e w)
 
     -- All roots.
 

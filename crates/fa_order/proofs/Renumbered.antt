@@ -17,7 +17,7 @@ use Rattle.fa_core.specs.Member.{OfForest, bare, bare_parts, bare_end, slots_of,
 use Rattle.fa_core.specs.Placed.{placed, placed_parts, placed_end, placed_leaf}
 use Rattle.fa_core.specs.Rearranged.{Rearranged, often}
 use Rattle.fa_core.specs.References.{to_two}
-use Rattle.fa_core.specs.Ways.{has, once, once_from}
+use Rattle.fa_core.specs.Ways.{has, once, once_from, ways}
 use Rattle.fa_core.specs.declared.forest.Forest.{Forest}
 use Rattle.fa_core.specs.declared.forest.Target.{Target}
 use Rattle.fa_core.specs.declared.forest.Target.TheVariants.{Null, Uninit, Dangling, At}
@@ -37,6 +37,7 @@ use Rattle.fa_merge.proofs.OtherOrders.{root_at, root_place, place_turned, place
 use Rattle.fa_merge.proofs.OtherOrders.{reordered_back, reordered_length}
 use Rattle.fa_merge.proofs.RootTrees.{bare_at, at_bare}
 use Rattle.fa_order.specs.inner.Following.{RefersAs, EndFollows, TreeFollows, Follows}
+use Rattle.fa_order.proofs.MovedBacks.{AreMoved, moved_way, renumbered_ways, ways_again}
 
 -- Numbers that are mapped one to one.
 
@@ -224,10 +225,10 @@ module _ (F : Forest) (f : ℕ → ℕ) (order : List ℕ) (is : IsOrder (length
   abbrev pub g_of : ℕ → ℕ
   g_of = root_at size f order is
 
-  fg : (j : ℕ) → f (g_of j) ≡ j
+  pub fg : (j : ℕ) → f (g_of j) ≡ j
   fg = place_turned size f order is
 
-  gf : (k : ℕ) → g_of (f k) ≡ k
+  pub gf : (k : ℕ) → g_of (f k) ≡ k
   gf = root_place size f order is
 
   abbrev pub before : Nodes
@@ -265,35 +266,46 @@ module _ (F : Forest) (f : ℕ → ℕ) (order : List ℕ) (is : IsOrder (length
       rw (picked_refs g_of e (back_order size f order is))
       (subst (λ (z : List ℕ). Rearranged (flat_map h (back_order size f order is)) z) w a)
 
-  turned : (k : ℕ) → TreeFollows f (bare (placed (renumber g_of) (node_or e (f k)))) (bare (node_or e (f k)))
-  turned k = node_follows f g_of fg gf (node_or e (f k))
+  -- what relates each tree to its renumbered one relates the trees of the two forests in their places
+  module _ (R : Tree → Tree → Type 0)
+      (turned : (n : Node) → R (bare (placed (renumber g_of) n)) (bare n)) where
+    down_turned : (k : ℕ) (t : Tree) → slice_get (bares before) k ≡ Some t → (u : Tree)
+        × (slice_get (bares e) (f k) ≡ Some u) × R t u
+    down_turned k t h =
+        let n = at_bare before k t h in
+        let c : count before ≡ size = count_trees [] F.autos before of_before in
+        let l : k < size = subst (λ (z : ℕ). k < z) c (node_below before k n.0 n.1) in
+        let s : n.0 ≡ placed (renumber g_of) (node_or e (f k)) =
+        same_Some n.0 (placed (renumber g_of) (node_or e (f k))) (sym n.1 ∙ node_before k l) in (
+          bare (node_or e (f k)),
+          bare_at e (f k) (node_or e (f k)) (node_after k l),
+          subst (λ (z : Tree). R z (bare (node_or e (f k)))) (sym (ap bare s) ∙ n.2) (turned (node_or e (f k))),
+        )
 
-  down_turned : (k : ℕ) (t : Tree) → slice_get (bares before) k ≡ Some t → (u : Tree)
-      × (slice_get (bares e) (f k) ≡ Some u) × TreeFollows f t u
-  down_turned k t h =
-      let n = at_bare before k t h in
-      let c : count before ≡ size = count_trees [] F.autos before of_before in
-      let l : k < size = subst (λ (z : ℕ). k < z) c (node_below before k n.0 n.1) in
-      let s : n.0 ≡ placed (renumber g_of) (node_or e (f k)) =
-      same_Some n.0 (placed (renumber g_of) (node_or e (f k))) (sym n.1 ∙ node_before k l) in (
-        bare (node_or e (f k)),
-        bare_at e (f k) (node_or e (f k)) (node_after k l),
-        subst (λ (z : Tree). TreeFollows f z (bare (node_or e (f k)))) (sym (ap bare s) ∙ n.2) (turned k),
-      )
+    up_turned : (j : ℕ) (u : Tree) → slice_get (bares e) j ≡ Some u → (t : Tree)
+        × (slice_get (bares before) (g_of j) ≡ Some t) × R t u
+    up_turned j u h =
+        let m = at_bare e j u h in
+        let l : j < size = subst (λ (z : ℕ). j < z) count_new (node_below e j m.0 m.1) in
+        let b : g_of j < size = place_below size g_of (back_order size f order is) (order_back size f order is) j l in
+        let same : node_or e (f (g_of j)) ≡ m.0 = ap (node_or e) (fg j)
+        ∙ same_Some (node_or e j) m.0 (sym (node_there e j (subst (λ (z : ℕ). j < z) (sym count_new) l)) ∙ m.1) in
+        let t : Tree = bare (placed (renumber g_of) (node_or e (f (g_of j)))) in (
+          t,
+          bare_at before (g_of j) (placed (renumber g_of) (node_or e (f (g_of j)))) (node_before (g_of j) b),
+          subst (λ (z : Tree). R t z) (ap bare same ∙ m.2) (turned (node_or e (f (g_of j)))),
+        )
 
-  up_turned : (j : ℕ) (u : Tree) → slice_get (bares e) j ≡ Some u → (t : Tree)
-      × (slice_get (bares before) (g_of j) ≡ Some t) × TreeFollows f t u
-  up_turned j u h =
-      let m = at_bare e j u h in
-      let l : j < size = subst (λ (z : ℕ). j < z) count_new (node_below e j m.0 m.1) in
-      let b : g_of j < size = place_below size g_of (back_order size f order is) (order_back size f order is) j l in
-      let same : node_or e (f (g_of j)) ≡ m.0 = ap (node_or e) (fg j)
-      ∙ same_Some (node_or e j) m.0 (sym (node_there e j (subst (λ (z : ℕ). j < z) (sym count_new) l)) ∙ m.1) in
-      let t : Tree = bare (placed (renumber g_of) (node_or e (f (g_of j)))) in (
-        t,
-        bare_at before (g_of j) (placed (renumber g_of) (node_or e (f (g_of j)))) (node_before (g_of j) b),
-        subst (λ (z : Tree). TreeFollows f t z) (ap bare same ∙ m.2) (turned (g_of j)),
-      )
+  -- the ways of the trees under the new numbers
+  pub moved : AreMoved f g_of gf (bares before) (bares e)
+  moved = record {
+    again = fg;
+    down = down_turned (λ t u. ways u ≡ map (moved_way f) (ways t)) ways_turned;
+    up = up_turned (λ t u. ways u ≡ map (moved_way f) (ways t)) ways_turned;
+  }
+    where
+      ways_turned : (n : Node) → ways (bare n) ≡ map (moved_way f) (ways (bare (placed (renumber g_of) n)))
+      ways_turned n = sym (ap (map (moved_way f)) (renumbered_ways g_of n) ∙ ways_again f g_of fg (ways (bare n)))
 
   pub follows : Follows f g_of F.vars (reordered_by f order F).vars (bares before) (bares e)
   follows = record {
@@ -304,8 +316,8 @@ module _ (F : Forest) (f : ℕ → ℕ) (order : List ℕ) (is : IsOrder (length
         λ j.
         ap to_two (references_are e j ∙ sym (often_mapped f g_of fg gf j (all_refs e))
         ∙ sym (often_same (g_of j) all_before) ∙ sym (references_are before (g_of j)));
-    down = down_turned;
-    up = up_turned;
+    down = down_turned (TreeFollows f) (node_follows f g_of fg gf);
+    up = up_turned (TreeFollows f) (node_follows f g_of fg gf);
   }
 
   -- the references of a root under the new numbers

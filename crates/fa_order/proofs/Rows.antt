@@ -1,5 +1,5 @@
 -- Worked values: the walk, and outlines.
-use Rattle.std.proofs.Common.{◌≡◌, inl, inr, ℕ, suc, zero, false, List, [], ◌∷◌, map, refl, ap, ap₂, ◌∙◌, arith}
+use Rattle.std.proofs.Common.{◌≡◌, ◌≢◌, ◌≤◌, inl, inr, ℕ, suc, zero, false, List, [], ◌∷◌, map, refl, ap, ap₂, ◌∙◌, arith}
 use Rattle.ta_core.specs.declared.symbol.Slot.TheVariants.{Field}
 use Rattle.ta_core.specs.declared.symbol.Symbol.{Symbol}
 use Rattle.ta_core.specs.declared.symbol.Symbol.TheVariants.{Null, Uninit, Dangling, Ref, Cell}
@@ -8,7 +8,8 @@ use Rattle.fa_core.specs.Ways.{Way, ways, ways_at, roots_met, mark, signature}
 use Rattle.fa_core.specs.declared.signature.RefMark.{RefMark}
 use Rattle.fa_core.proofs.WaysOf.{rolled_ways}
 use Rattle.fa_order.specs.Outlines.{Stub, leaf, cell, outline, stub, stub_by}
-use Rattle.fa_core.specs.Folding.{Placing, all_placed, is_placed, place_now}
+use Rattle.fa_order.specs.Placing.{GoesOnFrom, IsLowestOpen, IsOpenAt, PlacingOn, all_placed, is_placed, place_now, stuck}
+use Rattle.fore_base.specs.Lists.{IsIn}
 use Rattle.fa_order.proofs.Visits.{one_order}
 
 -- The walk. Root 0 refers to 1 and 2, root 1 to 3, root 3 to 0, and root 4 to itself.
@@ -19,6 +20,19 @@ hops (suc zero) = 3 ∷ []
 hops (suc (suc zero)) = []
 hops (suc (suc (suc zero))) = 0 ∷ []
 hops (suc (suc (suc (suc k)))) = 4 ∷ []
+
+-- no way leads back, and no box edge gives a field
+abbrev Nowhere : ℕ → ℕ → ℕ → Type 0
+Nowhere i j r = ⊥
+
+abbrev Nothing : ℕ → ℕ → ℕ → Type 0
+Nothing i j f = ⊥
+
+abbrev Placing : (ℕ → List ℕ) → List ℕ → List ℕ → List ℕ → Type 0
+Placing refers = PlacingOn refers Nowhere Nothing
+
+none_open : (placed : List ℕ) (i j : ℕ) → IsIn i placed → IsOpenAt Nowhere placed i j → ⊥
+none_open placed i j h o = o.2
 
 -- what refers to root 1 is followed before what refers to root 2
 depth_first : Placing hops (0 ∷ []) [] (0 ∷ 1 ∷ 3 ∷ 2 ∷ [])
@@ -34,11 +48,13 @@ depth_first =
       | inl e ↦ omega (arith, e)
       | inr j ↦ elim j
           [ inl e ↦ omega (arith, e) | inr k ↦ elim k [ inl e ↦ omega (arith, e) | inr z ↦ z ] ]
-    ]) all_placed))))
+    ]) (all_placed (none_open (0 ∷ 1 ∷ 3 ∷ 2 ∷ [])))))))
 
 -- so it is no order that has root 2 before root 3
 not_breadth_first : Placing hops (0 ∷ []) [] (0 ∷ 1 ∷ 2 ∷ 3 ∷ []) → ⊥
-not_breadth_first w = let e : 2 ≡ 3 = ap third (one_order hops w depth_first) in omega (arith, e)
+not_breadth_first w =
+    let e : 2 ≡ 3 = ap third (one_order hops Nowhere Nothing (λ i j r. inr (λ h. h)) (λ i j k f h g. absurd h) w depth_first)
+    in omega (arith, e)
   where
     third : List ℕ → ℕ
     third (a ∷ b ∷ c ∷ d) = c
@@ -50,10 +66,86 @@ variables_in_order =
     place_now {r = 4} (λ i. i)
     (is_placed {r = 4} (inl refl)
     (place_now {r = 2} (λ i. elim i [ inl e ↦ omega (arith, e) | inr z ↦ z ])
-    (is_placed {r = 4} (inl refl) all_placed)))
+    (is_placed {r = 4} (inl refl) (all_placed (none_open (4 ∷ 2 ∷ []))))))
 
 nothing_to_visit : Placing hops [] (7 ∷ []) (7 ∷ [])
-nothing_to_visit = all_placed
+nothing_to_visit = all_placed (none_open (7 ∷ []))
+
+-- Where nothing is left to visit. Ways back lead from root 0 into tree 1, to root 3, and into tree 2, to root 2, and from
+-- root 1 into tree 4, to root 4; box edges of tree 1 give root 0 field 5, those of tree 2 field 3, and those of tree 4
+-- give root 1 field 0. Tree 1 refers to root 3, and no other tree to any.
+
+pub data Back : ℕ → ℕ → ℕ → Type 0 where
+  into_one : Back 0 1 3
+  into_two : Back 0 2 2
+  into_four : Back 1 4 4
+
+pub data Gift : ℕ → ℕ → ℕ → Type 0 where
+  gives_five : Gift 0 1 5
+  gives_three : Gift 0 2 3
+  gives_none : Gift 1 4 0
+
+abbrev one_refers : ℕ → List ℕ
+one_refers (suc zero) = 3 ∷ []
+one_refers k = []
+
+neither : (k : ℕ) → k ≢ 0 → k ≢ 1 → IsIn k (0 ∷ 1 ∷ []) → ⊥
+neither k a b i = elim i [ inl e ↦ a e | inr j ↦ elim j [ inl e ↦ b e | inr z ↦ z ] ]
+
+lowest_zero : IsLowestOpen Back (0 ∷ 1 ∷ []) 0
+lowest_zero = record {
+  is_placed = inl refl;
+  some = (2, (2, neither 2 (λ e. omega (arith, e)) (λ e. omega (arith, e)), into_two));
+  lowest = λ k j h o. omega arith;
+}
+
+-- from root 0, the first that is placed, though tree 4 gives root 1 a lesser field; into tree 2, which gives it the lesser
+-- field, though tree 1 comes first
+goes_to_two : GoesOnFrom one_refers Back Gift (0 ∷ 1 ∷ []) 2
+goes_to_two = record {
+  from = 0;
+  into = 2;
+  lowest = lowest_zero;
+  gives = record {
+    open_way = (2, neither 2 (λ e. omega (arith, e)) (λ e. omega (arith, e)), into_two);
+    field = 3;
+    given = gives_three;
+    least = least;
+  };
+  led = record { own_first = λ n l. refl; then_list = λ f. absurd (neither 2 (λ e. omega (arith, e)) (λ e. omega (arith, e)) (f into_two)) };
+}
+  where
+    least : (j f : ℕ) → IsOpenAt Back (0 ∷ 1 ∷ []) 0 j → Gift 0 j f → 3 ≤ f
+    least j f o gives_five = omega arith
+    least j f o gives_three = omega arith
+
+-- then into tree 1, to root 3, to which it refers: its own root is placed
+three_next : GoesOnFrom one_refers Back Gift (0 ∷ 1 ∷ 2 ∷ []) 3
+three_next = record {
+  from = 0;
+  into = 1;
+  lowest = record { is_placed = inl refl; some = (1, (3, new, into_one)); lowest = λ k j h o. omega arith };
+  gives = record { open_way = (3, new, into_one); field = 5; given = gives_five; least = least };
+  led = record {
+    own_first = λ n l. absurd (let i : IsIn 1 (0 ∷ 1 ∷ 2 ∷ []) = inr (inl refl) in n i);
+    then_list = λ f. inl (refl, into_one);
+  };
+}
+  where
+    new : IsIn {X = ℕ} 3 (0 ∷ 1 ∷ 2 ∷ []) → ⊥
+    new i = elim i [
+      | inl e ↦ omega (arith, e)
+      | inr j ↦ elim j [ inl e ↦ omega (arith, e) | inr k ↦ elim k [ inl e ↦ omega (arith, e) | inr z ↦ z ] ]
+    ]
+
+    least : (j f : ℕ) → IsOpenAt Back (0 ∷ 1 ∷ 2 ∷ []) 0 j → Gift 0 j f → 5 ≤ f
+    least j f o gives_five = omega arith
+    least j f (x, n, into_two) gives_three =
+        absurd (let i : IsIn 2 (0 ∷ 1 ∷ 2 ∷ []) = inr (inr (inl refl)) in n i)
+
+-- no field, no way on: a way back that gives nothing leaves the walk stuck
+stuck_without_gift : PlacingOn one_refers Back Nothing [] (0 ∷ 1 ∷ []) (0 ∷ 1 ∷ [])
+stuck_without_gift = stuck (record { from = 0; lowest = lowest_zero; no_field = λ j f o g. g })
 
 -- Outlines.
 

@@ -18,7 +18,6 @@ use Rattle.ta_core.specs.declared.symbol.Symbol.{Symbol}
 use Rattle.ta_core.specs.declared.symbol.Symbol.TheVariants.{Null, Uninit, Dangling, Ref, Cell}
 use Rattle.ta_core.specs.declared.tree.Tree.{Tree, out-Tree, out-roll-Tree}
 use Rattle.ta_core.proofs.Runs.{run_tree, tree_of}
-use Rattle.fa_core.specs.Boxless.{IsField, IsPlain, HasNoBoxes}
 use Rattle.fa_core.specs.Canonical.{RefersTo, at_fields, fields_under, field_trees}
 use Rattle.fa_core.specs.Cells.{is_leaf, below_of}
 use Rattle.fa_core.specs.Filled.{Choice, HasSignatures, HasSome}
@@ -26,12 +25,11 @@ use Rattle.fa_core.specs.Ways.{Way, ways, ways_at, signature}
 use Rattle.fa_core.specs.declared.faces.BoxFace.{BoxFace}
 use Rattle.fa_core.specs.declared.signature.Below.{Below}
 use Rattle.fa_core.specs.declared.signature.RefMark.{RefMark}
-use Rattle.fa_core.proofs.Dressing.{each_length}
 use Rattle.fa_core.proofs.WayParts.{ways_out}
 use Rattle.fa_order.specs.declared.showing.Shown.{Shown}
 use Rattle.fa_order.specs.inner.Following.{EndFollows, StaysTame}
 use Rattle.fa_order.specs.inner.Showing.{shown_of, IsShownBy, IsShownEnd, IsRuleOf, HasNoRule, is_cell_rule}
-use Rattle.fa_order.specs.inner.Showing.{has_cell_rule}
+use Rattle.fa_order.specs.inner.Showing.{has_cell_rule, states_at, states_under}
 use Rattle.fa_order.proofs.SameMarks.{same_roots, met_refers}
 
 -- Leaves.
@@ -163,26 +161,6 @@ module _ (rules : List Rule) (n : ℕ) (inhabited : List Bool) (marks : MarksOf 
 
 -- The top.
 
--- without box edges what stands at the ends of the fields are the children
-plain_at : (ss : List Slot) (ts : List Tree) → Every IsField ss → length ts ≡ child_slots ss → at_fields ss ts ≡ ts
-plain_at [] [] f l = refl
-plain_at [] (t ∷ ts) f l = absurd (omega (arith, l))
-plain_at (Field g ∷ ss) [] f l = absurd (omega (arith, l))
-plain_at (Field g ∷ ss) (t ∷ ts) f l = ap (λ (z : List Tree). t ∷ z) (plain_at ss ts f.1 (omega (arith, l)))
-plain_at (Link b ∷ ss) ts f l = absurd f.0
-plain_at (Hook b ∷ ss) ts f l = absurd f.0
-
-plain_fields : (y : Symbol) (ts : List Tree) → IsPlain y → length ts ≡ arity y → fields_under y ts ≡ ts
-plain_fields Null [] p l = refl
-plain_fields Null (t ∷ ts) p l = absurd (omega (arith, l))
-plain_fields Uninit [] p l = refl
-plain_fields Uninit (t ∷ ts) p l = absurd (omega (arith, l))
-plain_fields Dangling [] p l = refl
-plain_fields Dangling (t ∷ ts) p l = absurd (omega (arith, l))
-plain_fields (Ref r) [] p l = refl
-plain_fields (Ref r) (t ∷ ts) p l = absurd (omega (arith, l))
-plain_fields (Cell s ds ss) ts p l = plain_at ss ts p l
-
 -- the one rule of the root state
 pub one_rule : (a : Automaton) (h : HasOneTop a) (r : Rule) → IsIn r a.rules → r.state ≡ h.root → r ≡ h.rule
 one_rule a h r i e =
@@ -196,28 +174,85 @@ has_rule a h q e none =
     every_in (λ (r : Rule). r.state ≡ q → ⊥) a.rules h.rule none (in_from_place a.rules h.place h.rule h.there)
     (h.top ∙ sym same)
 
-abbrev AreShown : List BoxFace → List Rule → List ℕ → List Below → Type 0
-AreShown bs rules qs es = (ts : List Tree) × RunEach rules qs ts × (map (below_of bs) ts ≡ es)
-    × ((us : List Tree) → RunEach rules qs us → Paired (EndFollows (λ k. k)) ts us)
+abbrev AreShown : List BoxFace → List Rule → List Slot → List ℕ → List Below → Type 0
+AreShown bs rules ss qs es = (ts : List Tree) × RunEach rules qs ts × (map (below_of bs) (at_fields ss ts) ≡ es)
+    × ((us : List Tree) → RunEach rules qs us → Paired (EndFollows (λ k. k)) (at_fields ss ts) (at_fields ss us))
 
-pick_each : (bs : List BoxFace) (rules : List Rule) (qs : List ℕ) (es : List Below) → Paired (IsShownEnd bs rules) qs es
-    → AreShown bs rules qs es
-pick_each bs rules [] [] h = ([], run_none, refl, none)
+-- nothing stands at the ends of no fields
+none_shown : (bs : List BoxFace) (rules : List Rule) (qs : List ℕ) (es : List Below) → Every (HasTree rules) qs
+    → Paired (IsShownEnd bs rules) [] es → AreShown bs rules [] qs es
+none_shown bs rules qs (e ∷ es) some h = absurd h
+none_shown bs rules qs [] some h = let k = trees_of rules qs some in (k.0, k.1, refl, (λ us r. tt))
+
+-- nor do any where there is no child
+no_child : (bs : List BoxFace) (rules : List Rule) (s : Slot) (ss : List Slot) (es : List Below)
+    → ((ts : List Tree) → at_fields (s ∷ ss) [] ≡ []) → Paired (IsShownEnd bs rules) [] es
+    → AreShown bs rules (s ∷ ss) [] es
+no_child bs rules s ss (e ∷ es) none h = absurd h
+no_child bs rules s ss [] none h = ([], run_none, ap (map (below_of bs)) (none []), others)
   where
-    none : (us : List Tree) → RunEach rules [] us → Paired (EndFollows (λ k. k)) [] us
-    none us run_none = tt
-pick_each bs rules [] (e ∷ es) h = absurd h
-pick_each bs rules (q ∷ qs) [] h = absurd h
-pick_each bs rules (q ∷ qs) (e ∷ es) h =
-    let k = pick_each bs rules qs es h.1 in
-    (h.0.0 ∷ k.0, run_more h.0.1 k.1, ap₂ (λ (x : Below) (z : List Below). x ∷ z) h.0.2 k.2, more h.0.0 k.0 h.0.3 k.3)
+    others : (us : List Tree) → RunEach rules [] us
+        → Paired (EndFollows (λ k. k)) (at_fields (s ∷ ss) []) (at_fields (s ∷ ss) us)
+    others us run_none = rw (none []) tt
+
+pick_each : (bs : List BoxFace) (rules : List Rule) (ss : List Slot) (qs : List ℕ) (es : List Below)
+    → Every (HasTree rules) qs → Paired (IsShownEnd bs rules) (states_at ss qs) es → AreShown bs rules ss qs es
+pick_each bs rules [] qs es some h = none_shown bs rules qs es some h
+pick_each bs rules (Hook b ∷ ss) qs es some h = pick_each bs rules ss qs es some h
+pick_each bs rules (Field f ∷ ss) [] es some h = no_child bs rules (Field f) ss es (λ ts. refl) h
+pick_each bs rules (Link b ∷ ss) [] es some h = no_child bs rules (Link b) ss es (λ ts. refl) h
+pick_each bs rules (Field f ∷ ss) (q ∷ qs) [] some h = absurd h
+pick_each bs rules (Field f ∷ ss) (q ∷ qs) (e ∷ es) some h =
+    let k = pick_each bs rules ss qs es some.1 h.1 in (
+      h.0.0 ∷ k.0,
+      run_more h.0.1 k.1,
+      ap₂ (λ (x : Below) (z : List Below). x ∷ z) h.0.2 k.2,
+      more h.0.0 k.0 h.0.3 k.3,
+    )
   where
     more : (t : Tree) (ts : List Tree) → ((u : Tree) → RunOf rules q u → EndFollows (λ k. k) t u)
-        → ((us : List Tree) → RunEach rules qs us → Paired (EndFollows (λ k. k)) ts us) → (us : List Tree)
-        → RunEach rules (q ∷ qs) us → Paired (EndFollows (λ k. k)) (t ∷ ts) us
+        → ((us : List Tree) → RunEach rules qs us → Paired (EndFollows (λ k. k)) (at_fields ss ts) (at_fields ss us))
+        → (us : List Tree) → RunEach rules (q ∷ qs) us
+        → Paired (EndFollows (λ k. k)) (at_fields (Field f ∷ ss) (t ∷ ts)) (at_fields (Field f ∷ ss) us)
     more t ts f g us (run_more {t = u} a b) = (f u a, g _ b)
+pick_each bs rules (Link b ∷ ss) (q ∷ qs) es some h =
+    let k = pick_each bs rules ss qs es some.1 h in
+    (some.0.0 ∷ k.0, run_more some.0.1 k.1, k.2, more some.0.0 k.0 k.3)
+  where
+    more : (t : Tree) (ts : List Tree)
+        → ((us : List Tree) → RunEach rules qs us → Paired (EndFollows (λ k. k)) (at_fields ss ts) (at_fields ss us))
+        → (us : List Tree) → RunEach rules (q ∷ qs) us
+        → Paired (EndFollows (λ k. k)) (at_fields (Link b ∷ ss) (t ∷ ts)) (at_fields (Link b ∷ ss) us)
+    more t ts g us (run_more a b) = g _ b
 
-module _ (bs : List BoxFace) (a : Automaton) (ranked : IsRanked a) (plain : HasNoBoxes a) (signed : HasSignatures bs a)
+-- what holds of all children holds of those at the ends of fields
+at_every : (P : ℕ → Type 0) (ss : List Slot) (qs : List ℕ) → Every P qs → Every P (states_at ss qs)
+at_every P [] qs h = tt
+at_every P (Hook b ∷ ss) qs h = at_every P ss qs h
+at_every P (Field f ∷ ss) [] h = tt
+at_every P (Field f ∷ ss) (q ∷ qs) h = (h.0, at_every P ss qs h.1)
+at_every P (Link b ∷ ss) [] h = tt
+at_every P (Link b ∷ ss) (q ∷ qs) h = at_every P ss qs h.1
+
+pub under_every : (P : ℕ → Type 0) (y : Symbol) (qs : List ℕ) → Every P qs → Every P (states_under y qs)
+under_every P Null qs h = tt
+under_every P Uninit qs h = tt
+under_every P Dangling qs h = tt
+under_every P (Ref r) qs h = tt
+under_every P (Cell s ds ss) qs h = at_every P ss qs h
+
+-- so for the children of a rule
+pick_under : (bs : List BoxFace) (rules : List Rule) (y : Symbol) (qs : List ℕ) (es : List Below)
+    → Every (HasTree rules) qs → Paired (IsShownEnd bs rules) (states_under y qs) es → (ts : List Tree)
+    × RunEach rules qs ts × (map (below_of bs) (fields_under y ts) ≡ es)
+    × ((us : List Tree) → RunEach rules qs us → Paired (EndFollows (λ k. k)) (fields_under y ts) (fields_under y us))
+pick_under bs rules Null qs es some h = none_shown bs rules qs es some h
+pick_under bs rules Uninit qs es some h = none_shown bs rules qs es some h
+pick_under bs rules Dangling qs es some h = none_shown bs rules qs es some h
+pick_under bs rules (Ref r) qs es some h = none_shown bs rules qs es some h
+pick_under bs rules (Cell s ds ss) qs es some h = pick_each bs rules ss qs es some h
+
+module _ (bs : List BoxFace) (a : Automaton) (ranked : IsRanked a) (signed : HasSignatures bs a)
     (top : HasOneTop a) (q : ℕ) (is_root : a.roots ≡ q ∷ []) (o : Rule) (is : IsRuleOf a.rules q o) where
   root_is : q ≡ top.root
   root_is = only_item q top.root a.roots top.alone (subst (λ (z : List ℕ). IsIn q z) (sym is_root) (inl refl))
@@ -227,12 +262,6 @@ module _ (bs : List BoxFace) (a : Automaton) (ranked : IsRanked a) (plain : HasN
   top_rule r p i j e =
       let same : p ≡ top.root = only_item p top.root a.roots top.alone i in
       one_rule a top r j (e ∙ same) ∙ sym (one_rule a top o is.0 (is.1 ∙ root_is))
-
-  rule_long : length o.children ≡ arity o.symbol
-  rule_long = (every_in (IsRankedRule a.states) a.rules o ranked.1 is.0).2
-
-  rule_plain : IsPlain o.symbol
-  rule_plain = every_in (λ (r : Rule). IsPlain r.symbol) a.rules o plain is.0
 
   pub top_children : (t : Tree) → InLanguage a t → ((out-Tree t).symbol ≡ o.symbol)
       × RunEach a.rules o.children (out-Tree t).children
@@ -245,21 +274,20 @@ module _ (bs : List BoxFace) (a : Automaton) (ranked : IsRanked a) (plain : HasN
   pub children_have_trees : HasSome a → Every (HasTree a.rules) o.children
   children_have_trees h = have_trees a.rules (top_children h.0 h.1).1
 
-  fields_are : (t : Tree) → InLanguage a t → field_trees t ≡ (out-Tree t).children
-  fields_are t h =
-      let c = top_children t h in
-      ap (λ (y : Symbol). fields_under y (out-Tree t).children) c.0
-      ∙ plain_fields o.symbol (out-Tree t).children rule_plain (sym (each_length a.rules c.1) ∙ rule_long)
+  fields_are : (t : Tree) → InLanguage a t → field_trees t ≡ fields_under o.symbol (out-Tree t).children
+  fields_are t h = ap (λ (y : Symbol). fields_under y (out-Tree t).children) (top_children t h).0
 
-  pub top_shown : (ms : List RefMark) → ((t : Tree) → RunOf a.rules q t → ms ≡ signature bs t) → (es : List Below)
-      → Paired (IsShownEnd bs a.rules) o.children es → IsShownBy bs a (record { marks = ms; ends = es })
-  top_shown ms sign es ends =
-      let k = pick_each bs a.rules o.children es ends in
+  pub top_shown : HasSome a → (ms : List RefMark) → ((t : Tree) → RunOf a.rules q t → ms ≡ signature bs t)
+      → (es : List Below) → Paired (IsShownEnd bs a.rules) (states_under o.symbol o.children) es
+      → IsShownBy bs a (record { marks = ms; ends = es })
+  top_shown some ms sign es ends =
+      let k = pick_under bs a.rules o.symbol o.children es (children_have_trees some) ends in
       let t = tree_of o.symbol k.0 in
       let r : RunOf a.rules q t = subst (λ (z : ℕ). RunOf a.rules z t) is.1 (run_tree a.rules o k.0 is.0 k.1) in
       let l : InLanguage a t = (q, subst (λ (z : List ℕ). IsIn q z) (sym is_root) (inl refl), r) in
-      let c : field_trees t ≡ k.0 = fields_are t l
-      ∙ ap (λ (x : _). x.children) (out-roll-Tree (record { symbol = o.symbol; children = k.0 })) in (
+      let c : field_trees t ≡ fields_under o.symbol k.0 = fields_are t l
+      ∙ ap (λ (x : _). fields_under o.symbol x.children) (out-roll-Tree (record { symbol = o.symbol; children = k.0 }))
+      in (
         t,
         l,
         ap₂ (λ (m : List RefMark) (e : List Below). record { marks = m; ends = e }) (sym (sign t r))
@@ -267,8 +295,8 @@ module _ (bs : List BoxFace) (a : Automaton) (ranked : IsRanked a) (plain : HasN
         (λ u i. (
           signed.component t u l i,
           subst (λ (z : List Tree). Paired (EndFollows (λ k. k)) z (field_trees u)) (sym c)
-              (subst (λ (z : List Tree). Paired (EndFollows (λ k. k)) k.0 z) (sym (fields_are u i))
-              (k.3 (out-Tree u).children (top_children u i).1)),
+              (subst (λ (z : List Tree). Paired (EndFollows (λ k. k)) (fields_under o.symbol k.0) z)
+              (sym (fields_are u i)) (k.3 (out-Tree u).children (top_children u i).1)),
         )),
       )
 

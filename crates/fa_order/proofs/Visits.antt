@@ -1,91 +1,35 @@
--- What the walk places: each root that is reached, each once, and in this order each root stands where the walk meets
--- it.
-use Rattle.std.proofs.Common.{◌≡◌, ◌≢◌, ◌⊎◌, inl, inr, ℕ, zero, suc, ◌<◌, ◌≤◌, ◌+◌, Bool, true, false, true≢false, cond}
-use Rattle.std.proofs.Common.{nat_eq, length, List, [], ◌∷◌, ◌++◌, map, refl, sym, ap, ap₂, subst, ◌∙◌, append_assoc}
-use Rattle.std.proofs.Common.{append-nil, arith}
-use Rattle.std.proofs.lemmas.Bool.{eqb-true, eq-eqb}
+-- What the walk places: each root that is reached, each once. It gives one order.
+use Rattle.std.proofs.Common.{◌≡◌, ◌≢◌, ◌⊎◌, inl, inr, ℕ, ◌<◌, ◌≤◌, length, List, [], ◌∷◌, ◌++◌, refl, sym, ap, subst}
+use Rattle.std.proofs.Common.{◌∙◌, append_assoc, append-nil, arith}
 use Rattle.fore_base.specs.Lists.{IsIn, IsDistinct}
 use Rattle.fore_base.proofs.ListLemmas.{in_left, in_right, in_push, in_last, every_push, every_in, distinct_push}
-use Rattle.fa_core.specs.Canonical.{Walks, ended, old, new, again}
 use Rattle.fa_core.specs.Rearranged.{Rearranged, empty, keep, chain}
 use Rattle.fa_core.specs.References.{AllBelow}
 use Rattle.fa_core.proofs.Counts.{below_both, in_or_out}
 use Rattle.fa_core.proofs.Permuted.{distinct_moved, in_rearranged}
 use Rattle.fa_core.proofs.Rearranging.{back}
-use Rattle.fa_core.proofs.WaysOf.{map-append}
 use Rattle.fa_merge.specs.Merged.{others}
-use Rattle.fa_merge.specs.Reordered.{counted, place_from, place_of}
+use Rattle.fa_merge.specs.Reordered.{counted, place_of}
 use Rattle.fa_merge.proofs.MergedAnywhere.{in_counted, push_last, others_last, others_in}
-use Rattle.fa_merge.proofs.OtherOrders.{counted_differ, counted_below, counted_length}
-use Rattle.fa_core.specs.Folding.{Placing, all_placed, is_placed, place_now}
+use Rattle.fa_merge.proofs.OtherOrders.{counted_differ}
+use Rattle.fa_order.specs.Placing.{IsOpenAt, NoneOpen, IsLowestOpen, GivesLeast, IsFirstLed, IsLedOn, GoesOnFrom, IsStuck}
+use Rattle.fa_order.specs.Placing.{PlacingOn, all_placed, stuck, is_placed, place_now, goes_on}
+use Rattle.fa_order.proofs.Places.{counted_is_below, one_place}
 
-module _ (refers : ℕ → List ℕ) where
-  -- what is placed stands first
-  pub placed_first : {todo placed order : List ℕ} → Placing refers todo placed order → (rest : List ℕ)
-      × (order ≡ placed ++ rest)
-  placed_first {placed = placed} all_placed = ([], sym (append-nil placed))
-  placed_first (is_placed i w) = placed_first w
-  placed_first {placed = placed} (place_now {r} i w) = let k = placed_first w in
-      (r ∷ k.0, k.1 ∙ append_assoc placed (r ∷ []) k.0)
+-- it is decided whether a way back leads to a root
+abbrev pub IsDecided : (ℕ → ℕ → ℕ → Type 0) → Type 0
+IsDecided Leads = (i j r : ℕ) → Leads i j r ⊎ (Leads i j r → ⊥)
 
-  pub placed_stays : {todo placed order : List ℕ} → Placing refers todo placed order → (r : ℕ) → IsIn r placed
-      → IsIn r order
-  placed_stays {placed = placed} w r i = let k = placed_first w in rw k.1 (in_left r placed k.0 i)
+-- each field is given to a root by one tree at most
+abbrev pub IsGivenOnce : (ℕ → ℕ → ℕ → Type 0) → Type 0
+IsGivenOnce Gives = (i j k f : ℕ) → Gives i j f → Gives i k f → j ≡ k
 
-  -- what is to be visited is placed in the end
-  pub todo_placed : {todo placed order : List ℕ} → Placing refers todo placed order → (r : ℕ) → IsIn r todo
-      → IsIn r order
-  todo_placed all_placed r i = absurd i
-  todo_placed (is_placed j w) r (inl e) = rw e (placed_stays w _ j)
-  todo_placed (is_placed j w) r (inr i) = todo_placed w r i
-  todo_placed {placed = placed} (place_now {r = x} j w) r (inl e) = rw e (placed_stays w x (in_last x placed))
-  todo_placed {todo = _ ∷ todo} (place_now {r = x} j w) r (inr i) = todo_placed w r (in_right r (refers x) todo i)
+-- a way back into a tree gives a field
+abbrev pub IsBackGiving : (ℕ → ℕ → ℕ → Type 0) → (ℕ → ℕ → ℕ → Type 0) → Type 0
+IsBackGiving Leads Gives = (i j r : ℕ) → Leads i j r → (f : ℕ) × Gives i j f
 
-  -- the roots to which a root that was placed on the way refers are placed too
-  pub placed_closed : {todo placed order : List ℕ} → Placing refers todo placed order → (r : ℕ) → IsIn r order
-      → IsIn r placed ⊎ ((k : ℕ) → IsIn k (refers r) → IsIn k order)
-  placed_closed all_placed r i = inl i
-  placed_closed (is_placed j w) r i = placed_closed w r i
-  placed_closed {todo = _ ∷ todo} {placed = placed} {order = order} (place_now {r = x} j w) r i =
-      here (placed_closed w r i)
-    where
-      here : IsIn r (placed ++ x ∷ []) ⊎ ((k : ℕ) → IsIn k (refers r) → IsIn k order) → IsIn r placed
-          ⊎ ((k : ℕ) → IsIn k (refers r) → IsIn k order)
-      here (inr f) = inr f
-      here (inl l) = elim (in_push x r placed l) [
-        | inl m ↦ inl m
-        | inr e ↦ inr (λ k v. todo_placed w k (in_left k (refers x) todo (subst (λ (z : ℕ). IsIn k (refers z)) e v)))
-      ]
-
-  pub placed_differ : {todo placed order : List ℕ} → Placing refers todo placed order → IsDistinct placed
-      → IsDistinct order
-  placed_differ all_placed a = a
-  placed_differ (is_placed j w) a = placed_differ w a
-  placed_differ {placed = placed} (place_now {r = x} j w) a = placed_differ w (distinct_push placed x a j)
-
-  pub placed_below : (n : ℕ) → ((r : ℕ) → AllBelow n (refers r)) → {todo placed order : List ℕ}
-      → Placing refers todo placed order → AllBelow n todo → AllBelow n placed → AllBelow n order
-  placed_below n f all_placed t p = p
-  placed_below n f (is_placed j w) t p = placed_below n f w t.1 p
-  placed_below n f {todo = _ ∷ todo} {placed = placed} (place_now {r = x} j w) t p =
-      placed_below n f w (below_both n (refers x) todo (f x) t.1) (every_push (λ k. k < n) placed x p t.0)
-
-  -- the walk gives one order
-  pub one_order : {todo placed first second : List ℕ} → Placing refers todo placed first
-      → Placing refers todo placed second → first ≡ second
-  one_order all_placed all_placed = refl
-  one_order (is_placed i w) (is_placed j v) = one_order w v
-  one_order (is_placed i w) (place_now j v) = absurd (j i)
-  one_order (place_now i w) (is_placed j v) = absurd (i j)
-  one_order (place_now i w) (place_now j v) = one_order w v
-
--- the walk asks only to which roots a root refers
-pub same_placing : (f g : ℕ → List ℕ) → ((r : ℕ) → f r ≡ g r) → {todo placed order : List ℕ}
-    → Placing f todo placed order → Placing g todo placed order
-same_placing f g h all_placed = all_placed
-same_placing f g h (is_placed i w) = is_placed i (same_placing f g h w)
-same_placing f g h {todo = _ ∷ todo} {placed = placed} {order = order} (place_now {r = x} i w) =
-    place_now i (subst (λ (z : List ℕ). Placing g (z ++ todo) (placed ++ x ∷ []) order) (h x) (same_placing f g h w))
+both_ways : (m n : ℕ) → m ≤ n → n ≤ m → m ≡ n
+both_ways m n a b = omega (arith, a, b)
 
 -- Lists with the same items, each once.
 
@@ -110,136 +54,242 @@ same_items (x ∷ xs) ys a b f g =
     before : (k : ℕ) → IsIn k ys × (k ≢ x) → IsIn k xs
     before k h = elim (g k h.0) [ inl e ↦ absurd (h.1 e) | inr i ↦ i ]
 
-pub counted_is_below : (n k : ℕ) → IsIn k (counted 0 n) → k < n
-counted_is_below n k i = every_in (λ j. j < n) (counted 0 n) k (counted_below 0 n n (omega arith)) i
+module _ (refers : ℕ → List ℕ) (Leads Gives : ℕ → ℕ → ℕ → Type 0) where
+  abbrev pub On : List ℕ → List ℕ → List ℕ → Type 0
+  On = PlacingOn refers Leads Gives
 
--- where all roots below n are placed, and no others, the walk's list has each of them once
-pub walk_is_order : (refers : ℕ → List ℕ) (from : List ℕ) (n : ℕ) (order : List ℕ) → Placing refers from [] order
-    → AllBelow n from → ((r : ℕ) → AllBelow n (refers r)) → ((r : ℕ) → r < n → IsIn r order)
-    → Rearranged order (counted 0 n)
-walk_is_order refers from n order w v f all =
-    same_items order (counted 0 n) (placed_differ refers w tt) (counted_differ 0 n)
-    (λ k i. let l : k < n = every_in (λ j. j < n) order k (placed_below refers n f w v tt) i in
-    in_counted 0 n k (omega arith) (omega (arith, l)))
-    (λ k i. all k (counted_is_below n k i))
+  -- what is placed stands first
+  pub placed_first : {todo placed order : List ℕ} → On todo placed order → (rest : List ℕ) × (order ≡ placed ++ rest)
+  placed_first {placed = placed} (all_placed n) = ([], sym (append-nil placed))
+  placed_first {placed = placed} (stuck n) = ([], sym (append-nil placed))
+  placed_first (is_placed i w) = placed_first w
+  placed_first {placed = placed} (place_now {r} i w) = let k = placed_first w in
+      (r ∷ k.0, k.1 ∙ append_assoc placed (r ∷ []) k.0)
+  placed_first (goes_on i g w) = placed_first w
 
--- Places in the order of the walk.
+  pub placed_stays : {todo placed order : List ℕ} → On todo placed order → (r : ℕ) → IsIn r placed → IsIn r order
+  placed_stays {placed = placed} w r i = let k = placed_first w in rw k.1 (in_left r placed k.0 i)
 
-place_before : (i : ℕ) (xs ys : List ℕ) (r : ℕ) → IsIn r xs → place_from i (xs ++ ys) r < i + length xs
-place_before i [] ys r h = absurd h
-place_before i (x ∷ xs) ys r h = here (nat_eq x r) refl h (place_before (suc i) xs ys r)
-  where
-    here : (b : Bool) → nat_eq x r ≡ b → IsIn r (x ∷ xs)
-        → (IsIn r xs → place_from (suc i) (xs ++ ys) r < suc i + length xs) → cond b i (place_from (suc i) (xs ++ ys) r)
-        < i + suc (length xs)
-    here true e h k = omega arith
-    here false e (inl w) k = absurd (true≢false (sym (eq-eqb x r (sym w)) ∙ e))
-    here false e (inr w) k = let l = k w in omega (arith, l)
+  -- what is to be visited is placed in the end
+  pub todo_placed : {todo placed order : List ℕ} → On todo placed order → (r : ℕ) → IsIn r todo → IsIn r order
+  todo_placed (all_placed n) r i = absurd i
+  todo_placed (stuck n) r i = absurd i
+  todo_placed (is_placed j w) r (inl e) = rw e (placed_stays w _ j)
+  todo_placed (is_placed j w) r (inr i) = todo_placed w r i
+  todo_placed {placed = placed} (place_now {r = x} j w) r (inl e) = rw e (placed_stays w x (in_last x placed))
+  todo_placed {todo = _ ∷ todo} (place_now {r = x} j w) r (inr i) = todo_placed w r (in_right r (refers x) todo i)
+  todo_placed (goes_on o g w) r i = absurd i
 
-place_at_end : (i : ℕ) (xs ys : List ℕ) (r : ℕ) → (IsIn r xs → ⊥) → place_from i (xs ++ r ∷ ys) r ≡ i + length xs
-place_at_end i [] ys r h = rw (eq-eqb r r refl) (let e : i ≡ i + 0 = omega arith in e)
-place_at_end i (x ∷ xs) ys r h = here (nat_eq x r) refl (place_at_end (suc i) xs ys r (λ w. h (inr w)))
-  where
-    here : (b : Bool) → nat_eq x r ≡ b → place_from (suc i) (xs ++ r ∷ ys) r ≡ suc i + length xs
-        → cond b i (place_from (suc i) (xs ++ r ∷ ys) r) ≡ i + suc (length xs)
-    here true e k = absurd (h (inl (sym (eqb-true x r e))))
-    here false e k = omega (arith, k)
+  -- the roots to which a root that was placed on the way refers are placed too
+  pub placed_closed : {todo placed order : List ℕ} → On todo placed order → (r : ℕ) → IsIn r order
+      → IsIn r placed ⊎ ((k : ℕ) → IsIn k (refers r) → IsIn k order)
+  placed_closed (all_placed n) r i = inl i
+  placed_closed (stuck n) r i = inl i
+  placed_closed (is_placed j w) r i = placed_closed w r i
+  placed_closed {todo = _ ∷ todo} {placed = placed} {order = order} (place_now {r = x} j w) r i =
+      here (placed_closed w r i)
+    where
+      here : IsIn r (placed ++ x ∷ []) ⊎ ((k : ℕ) → IsIn k (refers r) → IsIn k order) → IsIn r placed
+          ⊎ ((k : ℕ) → IsIn k (refers r) → IsIn k order)
+      here (inr f) = inr f
+      here (inl l) = elim (in_push x r placed l) [
+        | inl m ↦ inl m
+        | inr e ↦ inr (λ k v. todo_placed w k (in_left k (refers x) todo (subst (λ (z : ℕ). IsIn k (refers z)) e v)))
+      ]
+  placed_closed (goes_on o g w) r i = placed_closed w r i
 
-length_push : (xs : List ℕ) (x : ℕ) → length (xs ++ x ∷ []) ≡ suc (length xs)
-length_push [] x = refl
-length_push (y ∷ xs) x = ap (λ k. suc k) (length_push xs x)
+  -- at its end no way back is open, where each gives a field
+  pub none_left : IsBackGiving Leads Gives → {todo placed order : List ℕ} → On todo placed order → NoneOpen Leads order
+  none_left gives (all_placed n) = n
+  none_left gives (stuck n) =
+      let o = n.lowest.some in
+      let f = gives n.from o.0 o.1.0 o.1.2 in absurd (n.no_field o.0 f.0 o.1 f.1)
+  none_left gives (is_placed j w) = none_left gives w
+  none_left gives (place_now j w) = none_left gives w
+  none_left gives (goes_on o g w) = none_left gives w
 
--- by its places in the order, the walk meets each root at its place
-module _ (refers anew : ℕ → List ℕ) (Next : ℕ → Type 0) (order : List ℕ)
-    (moved : (r : ℕ) → IsIn r order → anew (place_of order r) ≡ map (place_of order) (refers r)) where
-  pub walks_on : (todo placed last : List ℕ) → last ≡ order → Placing refers todo placed last
-      → Walks anew Next (map (place_of order) todo) (length placed) (length order)
-  walks_on todo placed last e all_placed = rw e ended
-  walks_on (r ∷ todo) placed last e (is_placed i w) =
-      let k = placed_first refers w in
-      let s : order ≡ placed ++ k.0 = sym e ∙ k.1 in
-      let l : place_of order r < length placed =
-      (let z : place_of (placed ++ k.0) r < 0 + length placed = place_before 0 placed k.0 r i in
-      let y : place_of (placed ++ k.0) r < length placed = omega (arith, z) in rw s y) in
-      old l (walks_on todo placed last e w)
-  walks_on (r ∷ todo) placed last e (place_now i w) =
-      let k = placed_first refers w in
-      let s : order ≡ placed ++ r ∷ k.0 = sym e ∙ k.1 ∙ append_assoc placed (r ∷ []) k.0 in
-      let p : place_of order r ≡ length placed =
-      (let z : place_of (placed ++ r ∷ k.0) r ≡ 0 + length placed = place_at_end 0 placed k.0 r i in
-      let y : place_of (placed ++ r ∷ k.0) r ≡ length placed = omega (arith, z) in rw s y) in
-      let there : IsIn r order = rw s (in_right r placed (r ∷ k.0) (inl refl)) in
-      let m : map (place_of order) (refers r ++ todo) ≡ anew (length placed) ++ map (place_of order) todo =
-      map-append (place_of order) (refers r) todo
-      ∙ ap (λ (z : List ℕ). z ++ map (place_of order) todo) (sym (moved r there) ∙ ap anew p) in
-      let next : Walks anew Next (map (place_of order) (refers r ++ todo)) (length (placed ++ r ∷ [])) (length order) =
-      walks_on (refers r ++ todo) (placed ++ r ∷ []) last e w in
-      let goes : Walks anew Next (anew (length placed) ++ map (place_of order) todo) (suc (length placed))
-      (length order) =
-      subst (λ (z : ℕ). Walks anew Next (anew (length placed) ++ map (place_of order) todo) z (length order))
-      (length_push placed r)
-      (subst (λ (z : List ℕ). Walks anew Next z (length (placed ++ r ∷ [])) (length order)) m next) in
-      subst (λ (z : ℕ). Walks anew Next (z ∷ map (place_of order) todo) (length placed) (length order)) (sym p)
-      (new goes)
+  pub placed_differ : {todo placed order : List ℕ} → On todo placed order → IsDistinct placed → IsDistinct order
+  placed_differ (all_placed n) a = a
+  placed_differ (stuck n) a = a
+  placed_differ (is_placed j w) a = placed_differ w a
+  placed_differ {placed = placed} (place_now {r = x} j w) a = placed_differ w (distinct_push placed x a j)
+  placed_differ (goes_on o g w) a = placed_differ w a
 
--- The roots in the order of their numbers.
+  module _ (decided : IsDecided Leads) where
+    first_leads : (P : ℕ → Type 0) (placed : List ℕ) (r : ℕ) (xs : List ℕ) → IsFirstLed P placed r xs → P r
+    first_leads P placed r [] h = absurd h
+    first_leads P placed r (x ∷ xs) (inl h) = h.1
+    first_leads P placed r (x ∷ xs) (inr h) = first_leads P placed r xs h.1
 
-counted_push : (k n : ℕ) → counted k n ++ (k + n) ∷ [] ≡ counted k (suc n)
-counted_push k zero = ap (λ (z : ℕ). z ∷ []) (let e : k + 0 ≡ k = omega arith in e)
-counted_push k (suc n) =
-    ap (λ (z : List ℕ). k ∷ z)
-    (ap (λ (z : ℕ). counted (suc k) n ++ z ∷ []) (let e : k + suc n ≡ suc k + n = omega arith in e)
-    ∙ counted_push (suc k) n)
+    -- the way back leads to the root at which the walk goes on
+    pub led_leads : (placed : List ℕ) (i j r : ℕ) → IsLedOn refers Leads placed i j r → Leads i j r
+    led_leads placed i j r h = elim (decided i j j) [
+      | inr n ↦ first_leads (λ x. Leads i j x) placed r (refers j) (h.then_list (λ w. absurd (n w)))
+      | inl own ↦ elim (in_or_out j placed) [
+        | inl k ↦ first_leads (λ x. Leads i j x) placed r (refers j) (h.then_list (λ w. k))
+        | inr o ↦ subst (λ (z : ℕ). Leads i j z) (sym (h.own_first o own)) own
+      ]
+    ]
 
--- a walk that meets the roots in the order of their numbers places them in this order, where it never goes on by itself
-pub walks_placed : (refers : ℕ → List ℕ) (Next : ℕ → Type 0) → ((k : ℕ) → Next k → ⊥) → {todo : List ℕ} {k n : ℕ}
-    → Walks refers Next todo k n → Placing refers todo (counted 0 k) (counted 0 n)
-walks_placed refers Next none ended = all_placed
-walks_placed refers Next none (old {r} {k} l w) =
-    is_placed (in_counted 0 k r (omega arith) (omega (arith, l))) (walks_placed refers Next none w)
-walks_placed refers Next none {n = n} (new {k = k} {todo = todo} w) =
-    place_now (λ i. let l = counted_is_below k k i in omega (arith, l))
-    (let e : 0 + k ≡ k = omega arith in
-    subst (λ (z : List ℕ). Placing refers (refers k ++ todo) z (counted 0 n))
-    (sym (counted_push 0 k) ∙ ap (λ (m : ℕ). counted 0 k ++ m ∷ []) e) (walks_placed refers Next none w))
-walks_placed refers Next none (again l h w) = absurd (none _ h)
+    pub placed_below : (n : ℕ) → ((r : ℕ) → AllBelow n (refers r)) → ((i j r : ℕ) → Leads i j r → r < n)
+        → {todo placed order : List ℕ} → On todo placed order → AllBelow n todo → AllBelow n placed → AllBelow n order
+    placed_below n f low (all_placed x) t p = p
+    placed_below n f low (stuck x) t p = p
+    placed_below n f low (is_placed j w) t p = placed_below n f low w t.1 p
+    placed_below n f low {todo = _ ∷ todo} {placed = placed} (place_now {r = x} j w) t p =
+        placed_below n f low w (below_both n (refers x) todo (f x) t.1) (every_push (λ k. k < n) placed x p t.0)
+    placed_below n f low {placed = placed} (goes_on {r = x} o g w) t p =
+        placed_below n f low w (low g.from g.into x (led_leads placed g.from g.into x g.led), tt) p
 
-place_counted_from : (i n k : ℕ) → i ≤ k → k < i + n → place_from i (counted i n) k ≡ k
-place_counted_from i zero k l h = absurd (omega (arith, l, h))
-place_counted_from i (suc n) k l h = here (nat_eq i k) refl (λ m. place_counted_from (suc i) n k m (omega (arith, h)))
-  where
-    here : (b : Bool) → nat_eq i k ≡ b → (suc i ≤ k → place_from (suc i) (counted (suc i) n) k ≡ k)
-        → cond b i (place_from (suc i) (counted (suc i) n) k) ≡ k
-    here true e f = eqb-true i k e
-    here false e f = f (omega (arith, l, (λ (z : i ≡ k). true≢false (sym (eq-eqb i k z) ∙ e))))
+    -- where all roots below n are placed, and no others, the walk's list has each of them once
+    pub walk_is_order : (from : List ℕ) (n : ℕ) (order : List ℕ) → On from [] order → AllBelow n from
+        → ((r : ℕ) → AllBelow n (refers r)) → ((i j r : ℕ) → Leads i j r → r < n) → ((r : ℕ) → r < n → IsIn r order)
+        → Rearranged order (counted 0 n)
+    walk_is_order from n order w v f low all =
+        same_items order (counted 0 n) (placed_differ w tt) (counted_differ 0 n)
+        (λ k i. let l : k < n = every_in (λ j. j < n) order k (placed_below n f low w v tt) i in
+        in_counted 0 n k (omega arith) (omega (arith, l)))
+        (λ k i. all k (counted_is_below n k i))
 
-place_counted_out : (i j n k : ℕ) → (IsIn k (counted j n) → ⊥) → place_from i (counted j n) k ≡ k
-place_counted_out i j zero k h = refl
-place_counted_out i j (suc n) k h = here (nat_eq j k) refl (place_counted_out (suc i) (suc j) n k (λ w. h (inr w)))
-  where
-    here : (b : Bool) → nat_eq j k ≡ b → place_from (suc i) (counted (suc j) n) k ≡ k
-        → cond b i (place_from (suc i) (counted (suc j) n) k) ≡ k
-    here true e f = absurd (h (inl (sym (eqb-true j k e))))
-    here false e f = f
+    -- the first root of a list is one
+    first_one : (P : ℕ → Type 0) (placed : List ℕ) (r s : ℕ) → (IsIn r placed → ⊥) → (IsIn s placed → ⊥)
+        → (xs : List ℕ) → IsFirstLed P placed r xs → IsFirstLed P placed s xs → r ≡ s
+    first_one P placed r s nr ns [] h k = absurd h
+    first_one P placed r s nr ns (x ∷ xs) (inl h) (inl k) = sym h.0 ∙ k.0
+    first_one P placed r s nr ns (x ∷ xs) (inl h) (inr k) =
+        absurd (k.0 (λ i. nr (subst (λ (z : ℕ). IsIn z placed) h.0 i)) (subst P (sym h.0) h.1))
+    first_one P placed r s nr ns (x ∷ xs) (inr h) (inl k) =
+        absurd (h.0 (λ i. ns (subst (λ (z : ℕ). IsIn z placed) k.0 i)) (subst P (sym k.0) k.1))
+    first_one P placed r s nr ns (x ∷ xs) (inr h) (inr k) = first_one P placed r s nr ns xs h.1 k.1
 
--- in the order of their numbers each root keeps its number
-pub place_counted : (n k : ℕ) → place_of (counted 0 n) k ≡ k
-place_counted n k = elim (in_or_out k (counted 0 n)) [
-  | inl i ↦ (let l = counted_is_below n k i in place_counted_from 0 n k (omega arith) (omega (arith, l)))
-  | inr o ↦ place_counted_out 0 0 n k o
-]
+    pub led_one : (placed : List ℕ) (i j r s : ℕ) → (IsIn r placed → ⊥) → (IsIn s placed → ⊥)
+        → IsLedOn refers Leads placed i j r → IsLedOn refers Leads placed i j s → r ≡ s
+    led_one placed i j r s nr ns g h = elim (decided i j j) [
+      | inr n ↦ by_list (λ w. absurd (n w))
+      | inl own ↦ elim (in_or_out j placed) [
+        | inl k ↦ by_list (λ w. k)
+        | inr o ↦ g.own_first o own ∙ sym (h.own_first o own)
+      ]
+    ]
+      where
+        by_list : (Leads i j j → IsIn j placed) → r ≡ s
+        by_list f = first_one (λ x. Leads i j x) placed r s nr ns (refers j) (g.then_list f) (h.then_list f)
 
-same_map : (f : ℕ → ℕ) (xs : List ℕ) → ((k : ℕ) → f k ≡ k) → map f xs ≡ xs
-same_map f [] h = refl
-same_map f (x ∷ xs) h = ap₂ (λ (y : ℕ) (ys : List ℕ). y ∷ ys) (h x) (same_map f xs h)
+    -- the lowest root with an open way back is one
+    pub lowest_one : (placed : List ℕ) (i k : ℕ) → IsLowestOpen Leads placed i → IsLowestOpen Leads placed k → i ≡ k
+    lowest_one placed i k g h = one_place 0 placed i k g.is_placed h.is_placed
+        (both_ways (place_of placed i) (place_of placed k) (g.lowest k h.some.0 h.is_placed h.some.1)
+        (h.lowest i g.some.0 g.is_placed g.some.1))
 
--- and the other way round: where the walk places the roots in the order of their numbers, it meets them so
-pub placed_walks : (refers : ℕ → List ℕ) (Next : ℕ → Type 0) (todo : List ℕ) (n : ℕ)
-    → Placing refers todo [] (counted 0 n) → Walks refers Next todo 0 n
-placed_walks refers Next todo n w =
-    let order = counted 0 n in
-    let moved : (r : ℕ) → IsIn r order → refers (place_of order r) ≡ map (place_of order) (refers r) =
-    (λ r i. ap refers (place_counted n r) ∙ sym (same_map (place_of order) (refers r) (place_counted n))) in
-    subst (λ (m : ℕ). Walks refers Next todo 0 m) (counted_length 0 n)
-    (subst (λ (z : List ℕ). Walks refers Next z 0 (length order)) (same_map (place_of order) todo (place_counted n))
-    (walks_on refers refers Next order moved todo [] order refl w))
+    module _ (once : IsGivenOnce Gives) where
+      gives_one : (placed : List ℕ) (i j k : ℕ) → GivesLeast Leads Gives placed i j → GivesLeast Leads Gives placed i k
+          → j ≡ k
+      gives_one placed i j k g h =
+          let e = both_ways g.field h.field (g.least k h.field h.open_way h.given)
+          (h.least j g.field g.open_way g.given) in
+          once i j k h.field (subst (λ (z : ℕ). Gives i j z) e g.given) h.given
+
+      -- the walk goes on from one root
+      pub next_one : (placed : List ℕ) (r s : ℕ) → (IsIn r placed → ⊥) → (IsIn s placed → ⊥)
+          → GoesOnFrom refers Leads Gives placed r → GoesOnFrom refers Leads Gives placed s → r ≡ s
+      next_one placed r s nr ns g h =
+          let e : h.from ≡ g.from = lowest_one placed h.from g.from h.lowest g.lowest in
+          let hg : GivesLeast Leads Gives placed g.from h.into =
+          subst (λ (z : ℕ). GivesLeast Leads Gives placed z h.into) e h.gives in
+          let i : h.into ≡ g.into = gives_one placed g.from h.into g.into hg g.gives in
+          let l : IsLedOn refers Leads placed g.from g.into s =
+          subst (λ (z : ℕ). IsLedOn refers Leads placed g.from z s) i
+          (subst (λ (z : ℕ). IsLedOn refers Leads placed z h.into s) e h.led) in
+          led_one placed g.from g.into r s nr ns g.led l
+
+      -- a walk that goes on is not stuck
+      not_stuck : (placed : List ℕ) (r : ℕ) → GoesOnFrom refers Leads Gives placed r → IsStuck Leads Gives placed → ⊥
+      not_stuck placed r g h =
+          let e : g.from ≡ h.from = lowest_one placed g.from h.from g.lowest h.lowest in
+          h.no_field g.into g.gives.field (subst (λ (z : ℕ). IsOpenAt Leads placed z g.into) e g.gives.open_way)
+          (subst (λ (z : ℕ). Gives z g.into g.gives.field) e g.gives.given)
+
+      none_goes_on : (placed : List ℕ) (r : ℕ) → GoesOnFrom refers Leads Gives placed r → NoneOpen Leads placed → ⊥
+      none_goes_on placed r g n = n g.from g.into g.lowest.is_placed g.gives.open_way
+
+      -- the walk gives one order
+      pub one_order : {todo placed first second : List ℕ} → On todo placed first → On todo placed second
+          → first ≡ second
+      one_order (all_placed n) (all_placed m) = refl
+      one_order (all_placed n) (stuck m) = refl
+      one_order (stuck n) (all_placed m) = refl
+      one_order (stuck n) (stuck m) = refl
+      one_order {placed = placed} (all_placed n) (goes_on {r = r} o h w) = absurd (none_goes_on placed r h n)
+      one_order {placed = placed} (goes_on {r = r} o h w) (all_placed n) = absurd (none_goes_on placed r h n)
+      one_order {placed = placed} (stuck n) (goes_on {r = r} o h w) = absurd (not_stuck placed r h n)
+      one_order {placed = placed} (goes_on {r = r} o h w) (stuck n) = absurd (not_stuck placed r h n)
+      one_order {placed = placed} {second = second} (goes_on {r = r} o h w) (goes_on {r = s} p k v) =
+          one_order w (subst (λ (z : ℕ). On (z ∷ []) placed second) (sym (next_one placed r s o p h k)) v)
+      one_order (is_placed i w) (is_placed j v) = one_order w v
+      one_order (is_placed i w) (place_now j v) = absurd (j i)
+      one_order (place_now i w) (is_placed j v) = absurd (i j)
+      one_order (place_now i w) (place_now j v) = one_order w v
+
+-- Walks by the same references and ways back.
+module _ (f g : ℕ → List ℕ) (same : (r : ℕ) → f r ≡ g r) (L M G H : ℕ → ℕ → ℕ → Type 0)
+    (on : (i j r : ℕ) → L i j r → M i j r) (from : (i j r : ℕ) → M i j r → L i j r)
+    (gives : (i j r : ℕ) → G i j r → H i j r) (given : (i j r : ℕ) → H i j r → G i j r) where
+  open_same : (placed : List ℕ) (i j : ℕ) → IsOpenAt L placed i j → IsOpenAt M placed i j
+  open_same placed i j o = (o.0, o.1, on i j o.0 o.2)
+
+  open_other : (placed : List ℕ) (i j : ℕ) → IsOpenAt M placed i j → IsOpenAt L placed i j
+  open_other placed i j o = (o.0, o.1, from i j o.0 o.2)
+
+  lowest_same : (placed : List ℕ) (i : ℕ) → IsLowestOpen L placed i → IsLowestOpen M placed i
+  lowest_same placed i h = record {
+    is_placed = h.is_placed;
+    some = (h.some.0, open_same placed i h.some.0 h.some.1);
+    lowest = λ k j p o. h.lowest k j p (open_other placed k j o);
+  }
+
+  first_same : (P Q : ℕ → Type 0) → ((x : ℕ) → P x → Q x) → ((x : ℕ) → Q x → P x) → (placed : List ℕ) (r : ℕ)
+      (xs : List ℕ) → IsFirstLed P placed r xs → IsFirstLed Q placed r xs
+  first_same P Q p q placed r [] h = h
+  first_same P Q p q placed r (x ∷ xs) (inl h) = inl (h.0, p r h.1)
+  first_same P Q p q placed r (x ∷ xs) (inr h) = inr ((λ o y. h.0 o (q x y)), first_same P Q p q placed r xs h.1)
+
+  led_same : (placed : List ℕ) (i j r : ℕ) → IsLedOn f L placed i j r → IsLedOn g M placed i j r
+  led_same placed i j r h = record {
+    own_first = λ o w. h.own_first o (from i j j w);
+    then_list = λ w. subst (λ (z : List ℕ). IsFirstLed (λ x. M i j x) placed r z) (same j)
+        (first_same (λ x. L i j x) (λ x. M i j x) (on i j) (from i j) placed r (f j)
+        (h.then_list (λ v. w (on i j j v))));
+  }
+
+  gives_same : (placed : List ℕ) (i j : ℕ) → GivesLeast L G placed i j → GivesLeast M H placed i j
+  gives_same placed i j h = record {
+    open_way = open_same placed i j h.open_way;
+    field = h.field;
+    given = gives i j h.field h.given;
+    least = λ k x o y. h.least k x (open_other placed i k o) (given i k x y);
+  }
+
+  stuck_same : (placed : List ℕ) → IsStuck L G placed → IsStuck M H placed
+  stuck_same placed h = record {
+    from = h.from;
+    lowest = lowest_same placed h.from h.lowest;
+    no_field = λ j x o y. h.no_field j x (open_other placed h.from j o) (given h.from j x y);
+  }
+
+  goes_same : (placed : List ℕ) (r : ℕ) → GoesOnFrom f L G placed r → GoesOnFrom g M H placed r
+  goes_same placed r h = record {
+    from = h.from;
+    into = h.into;
+    lowest = lowest_same placed h.from h.lowest;
+    gives = gives_same placed h.from h.into h.gives;
+    led = led_same placed h.from h.into r h.led;
+  }
+
+  pub same_placing : {todo placed order : List ℕ} → PlacingOn f L G todo placed order → PlacingOn g M H todo placed order
+  same_placing (all_placed n) = all_placed (λ i j p o. n i j p (open_other _ i j o))
+  same_placing (stuck n) = stuck (stuck_same _ n)
+  same_placing (is_placed i w) = is_placed i (same_placing w)
+  same_placing {todo = _ ∷ todo} {placed = placed} {order = order} (place_now {r = x} i w) =
+      place_now i (subst (λ (z : List ℕ). PlacingOn g M H (z ++ todo) (placed ++ x ∷ []) order) (same x)
+      (same_placing w))
+  same_placing (goes_on o h w) = goes_on o (goes_same _ _ h) (same_placing w)

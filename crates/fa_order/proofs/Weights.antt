@@ -9,7 +9,9 @@ use Rattle.fore_base.specs.Lists.{Every}
 use Rattle.fa_core.specs.References.{AllBelow}
 use Rattle.fa_core.specs.Ways.{has}
 use Rattle.fa_back.proofs.RootMarks.{has_in, in_has}
-use Rattle.fa_core.specs.Folding.{Placing, is_placed, place_now}
+use Rattle.fa_core.specs.declared.signature.Signature.{Signature}
+use Rattle.fa_order.specs.Placing.{PlacingOn, is_placed, place_now}
+use Rattle.fa_order.specs.inner.Backs.{GivesBy, LeadsBy}
 use Rattle.fa_order.specs.inner.Stacks.{behind, nth_refs, unplaced, weight}
 
 pub behind_last : (xs : List ℕ) (x : ℕ) → behind (xs ++ x ∷ []) ≡ x ∷ behind xs
@@ -45,7 +47,7 @@ unplaced_above (rs ∷ rss) k m placed l =
     rw (has_push k m placed (λ e. omega (arith, e, l)), unplaced_above rss (suc k) m placed (omega (arith, l))) refl
 
 unplaced_push : (rss : List (List ℕ)) (j k r : ℕ) (placed : List ℕ) → r ≡ k + j → j < length rss → has r placed ≡ false
-    → unplaced rss k (placed ++ r ∷ []) + length (nth_refs rss j) ≡ unplaced rss k placed
+    → unplaced rss k (placed ++ r ∷ []) + suc (length (nth_refs rss j)) ≡ unplaced rss k placed
 unplaced_push [] j k r placed e l h = absurd (not-suc-le-zero l)
 unplaced_push (rs ∷ rss) zero k r placed e l h =
     let z : r ≡ k = omega (arith, e) in
@@ -54,38 +56,47 @@ unplaced_push (rs ∷ rss) zero k r placed e l h =
     let b : has k placed ≡ false = subst (λ (v : ℕ). has v placed ≡ false) z h in
     let c = unplaced_above rss (suc k) r placed (omega (arith, z)) in
     rw (a, b, c)
-    (let g : 0 + unplaced rss (suc k) placed + length rs ≡ length rs + unplaced rss (suc k) placed = omega arith in
-    g)
+    (let g : 0 + unplaced rss (suc k) placed + suc (length rs) ≡ suc (length rs) + unplaced rss (suc k) placed =
+    omega arith in g)
 unplaced_push (rs ∷ rss) (suc j) k r placed e l h =
     let a : has k (placed ++ r ∷ []) ≡ has k placed = has_push k r placed (λ w. omega (arith, e, w)) in
     let b = unplaced_push rss j (suc k) r placed (omega (arith, e)) (le_of_suc-le-suc l) h in
-    rw a (add (cond (has k placed) 0 (length rs)) _ _ _ b)
+    rw a (add (cond (has k placed) 0 (suc (length rs))) _ _ _ b)
   where
     add : (x u v w : ℕ) → u + v ≡ w → x + u + v ≡ x + w
     add x u v w e = omega (arith, e)
 
 -- a root that is placed already
 pub visit_old : (refers : List (List ℕ)) (r : ℕ) (todo placed : List ℕ) → has r placed ≡ true
-    → ((order : List ℕ) → Placing (nth_refs refers) todo placed order
-    → Placing (nth_refs refers) (r ∷ todo) placed order) × (weight refers todo placed < weight refers (r ∷ todo) placed)
+    → ((ss : List Signature) (order : List ℕ)
+    → PlacingOn (nth_refs refers) (LeadsBy ss) (GivesBy ss) todo placed order
+    → PlacingOn (nth_refs refers) (LeadsBy ss) (GivesBy ss) (r ∷ todo) placed order)
+    × (weight refers todo placed < weight refers (r ∷ todo) placed)
 visit_old refers r todo placed h = (
-  (λ order w. is_placed (has_in r placed h) w),
+  (λ ss order w. is_placed (has_in r placed h) w),
   (let g : length todo + unplaced refers 0 placed < suc (length todo) + unplaced refers 0 placed = omega arith in g),
 )
 
 -- a root that is placed now
 pub visit_new : (refers : List (List ℕ)) (r : ℕ) (todo placed : List ℕ) → r < length refers → has r placed ≡ false
-    → ((order : List ℕ) → Placing (nth_refs refers) (nth_refs refers r ++ todo) (placed ++ r ∷ []) order
-    → Placing (nth_refs refers) (r ∷ todo) placed order)
-    × (weight refers (nth_refs refers r ++ todo) (placed ++ r ∷ []) < weight refers (r ∷ todo) placed)
+    → ((ss : List Signature) (order : List ℕ)
+    → PlacingOn (nth_refs refers) (LeadsBy ss) (GivesBy ss) (nth_refs refers r ++ todo) (placed ++ r ∷ []) order
+    → PlacingOn (nth_refs refers) (LeadsBy ss) (GivesBy ss) (r ∷ todo) placed order)
+    × (weight refers (nth_refs refers r ++ todo) (placed ++ r ∷ []) < weight refers todo placed)
 visit_new refers r todo placed l h = (
-  (λ order w. place_now (λ i. true≢false (sym (in_has r placed i) ∙ h)) w),
+  (λ ss order w. place_now (λ i. true≢false (sym (in_has r placed i) ∙ h)) w),
   (let a = unplaced_push refers r 0 r placed (omega arith) l h in
       let b : length (nth_refs refers r ++ todo) ≡ length (nth_refs refers r) + length todo =
       length-append (nth_refs refers r) todo in
       let g : length (nth_refs refers r ++ todo) + unplaced refers 0 (placed ++ r ∷ [])
-      < suc (length todo) + unplaced refers 0 placed = omega (arith, a, b) in g),
+      < length todo + unplaced refers 0 placed = omega (arith, a, b) in g),
 )
+
+pub one_less : (refers : List (List ℕ)) (r m : ℕ) (todo placed : List ℕ) → m < weight refers todo placed
+    → m < weight refers (r ∷ todo) placed
+one_less refers r m todo placed l =
+    let g : m < length todo + unplaced refers 0 placed = l in
+    let h : m < suc (length todo) + unplaced refers 0 placed = omega (arith, g) in h
 
 pub refs_below : (n : ℕ) (rss : List (List ℕ)) (r : ℕ) → Every (AllBelow n) rss → AllBelow n (nth_refs rss r)
 refs_below n [] r h = tt

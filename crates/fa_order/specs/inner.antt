@@ -1,3 +1,4 @@
+pub mod Backs
 pub mod Deciding
 pub mod Following
 pub mod Reduced

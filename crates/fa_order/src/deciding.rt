@@ -3,11 +3,11 @@
 ghost use Rattle.std.specs.Prelude.{◌≡◌, ◌<◌, ◌*◌, ◌^◌, ◌↔◌, length, IsTrue, IfOk};
 ghost use Rattle.fore_base.specs.Lists.{Every};
 ghost use Rattle.ta_core.specs.Single.{HasOneTop};
-ghost use Rattle.fa_core.specs.Boxless.{HasNoBoxes};
 ghost use Rattle.fa_core.specs.Canonical.{IsCanonical};
 ghost use Rattle.fa_merge.specs.Reordered.{counted};
 ghost use Rattle.fa_order.specs.Kinds.{HasRootKinds};
-ghost use Rattle.fa_order.specs.inner.Deciding.{any_cell, any_leaf, any_ties, knot_by, rise_from, root_by, roots_by};
+ghost use Rattle.fa_order.specs.inner.Deciding.{any_cell, any_leads, any_leaf, any_other, any_ties, knot_by};
+ghost use Rattle.fa_order.specs.inner.Deciding.{led_by, rise_from, root_by, roots_by};
 ghost use Rattle.fa_order.specs.inner.Deciding.{shared_by, ties, times_shown};
 
 use crate::roots::walk_order;
@@ -25,7 +25,6 @@ use ta_core::single::has_one_top;
 
 /// Whether the forest is canonical. Err is want of memory.
 pub fn is_canonical(alloc: Global, forest: &Sound) -> Mem<bool>
-    requires { Every HasNoBoxes forest.now.forest.autos }
     ensures { IfOk result (λ yes. IsTrue yes ↔ IsCanonical forest.now.face forest.now.forest) }
 {
     forest.known();
@@ -41,7 +40,6 @@ pub fn is_canonical(alloc: Global, forest: &Sound) -> Mem<bool>
 /// Whether each component has one root state with one rule, and the roots are the cells of the four kinds: what makes
 /// the forest canonical but for the order of its roots. Err is want of memory.
 pub fn has_root_kinds(alloc: Global, forest: &Sound) -> Mem<bool>
-    requires { Every HasNoBoxes forest.now.forest.autos }
     ensures { IfOk result (λ yes. IsTrue yes ↔ HasRootKinds forest.now.face forest.now.forest) }
 {
     forest.known();
@@ -110,7 +108,43 @@ fn is_root(vars: &[u32], shown: &[Shown], root: u32, own: &Shown) -> bool
         !is_cell_to(root, own.ends.as_slice())
     } else {
         is_knot(vars, shown, root, own.marks.as_slice())
+            || is_led_to(vars, shown, root, own.marks.as_slice())
     }
+}
+
+/// Whether no variable points to the root, no other tree refers to it, and a way back from another root leads to it.
+fn is_led_to(vars: &[u32], shown: &[Shown], root: u32, own: &[RefMark]) -> bool
+    requires { length shown.now < 2 ^ 32 }
+    ensures { result ≡ led_by vars.now shown.now root own.now }
+{
+    !has(root, vars) && !is_named_elsewhere(shown, root) && is_led(root, own)
+}
+
+/// Whether a tree other than the root's own refers to it.
+fn is_named_elsewhere(shown: &[Shown], root: u32) -> bool
+    requires { length shown.now < 2 ^ 32 }
+    ensures { result ≡ any_other root 0 shown.now }
+{
+    let mut from: u32 = 0;
+    for other in shown {
+        if from != root && is_marked_root(other.marks.as_slice(), root) {
+            return true;
+        }
+        from += 1;
+    }
+    false
+}
+
+/// Whether a way back from another root into the root's own tree leads to it.
+fn is_led(root: u32, own: &[RefMark]) -> bool
+    ensures { result ≡ any_leads root own.now }
+{
+    for mark in own {
+        if mark.root != root && (mark.back || has(root, mark.reach.as_slice())) {
+            return true;
+        }
+    }
+    false
 }
 
 /// Whether a variable points to the root, or there are two references to it.

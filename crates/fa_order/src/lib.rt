@@ -10,6 +10,7 @@ mod referring;
 pub mod roots;
 mod showing;
 mod walking;
+mod ways_back;
 
 pub use deciding::{has_root_kinds, is_canonical};
 pub use reducing::reduce_forest;

@@ -12,7 +12,7 @@ ghost use Rattle.fa_merge.specs.Reordered.{IsOrderOf};
 ghost use Rattle.fa_order.specs.Kinds.{HasRootKinds};
 ghost use Rattle.fa_order.specs.Placing.{IsPlaced, IsWalkOrder};
 
-use crate::referring::references;
+use crate::referring::{references, root_signatures};
 use crate::walking::walk;
 use fa_merge::leaking::var_roots;
 use fa_merge::reorder;
@@ -22,13 +22,14 @@ use fore_base::memory::Mem;
 use std::alloc::Global;
 
 /// The forest with its roots in the order of the walk: depth first from the variables in order of number, through the
-/// slots of each cell in order, each root placed at its first visit. Each root is reached. Err is want of memory.
+/// slots of each cell in order, each root placed at its first visit. Each root is reached. So far only for forests
+/// without box edges. Err is want of memory.
 pub fn place_roots(alloc: Global, forest: &Sound) -> Mem<Sound>
     requires plain { Every HasNoBoxes forest.now.forest.autos }
     requires kinds { HasRootKinds forest.now.face forest.now.forest }
     requires reached { AreAllReached forest.now.face forest.now.forest }
     ensures canonical { IfOk result (λ made. IsCanonical made.face made.forest) }
-    ensures value { IfOk result (λ made. IsPlaced forest.now.forest made.forest) }
+    ensures value { IfOk result (λ made. IsPlaced forest.now.face forest.now.forest made.forest) }
     ensures face { IfOk result (λ made. made.face ≡ forest.now.face) }
     ensures whole { IfOk result (λ made. (T : List BoxDef) → Regroups T made.forest forest.now.forest) }
     ensures regroups { IfOk result (λ made. (T : List BoxDef) → Regroups T forest.now.forest made.forest) }
@@ -43,13 +44,15 @@ pub fn place_roots(alloc: Global, forest: &Sound) -> Mem<Sound>
     reorder(alloc, forest, order.as_slice())
 }
 
-/// The roots that are reached, in the order of the walk. Err is want of memory.
+/// The roots in the order of the walk, which goes on along ways back where nothing is left to visit. Err is want of
+/// memory.
 pub fn walk_order(alloc: Global, forest: &Sound) -> Mem<List<u32>>
     requires { Every HasOneTop forest.now.forest.autos }
-    ensures { IfOk result (IsWalkOrder forest.now.forest) }
+    ensures { IfOk result (IsWalkOrder forest.now.face forest.now.forest) }
 {
     forest.known();
-    let refers = references(alloc, forest)?;
+    let signatures = root_signatures(alloc, forest)?;
+    let refers = references(alloc, signatures.as_slice())?;
     let from = var_roots(alloc, forest.forest().vars.as_slice())?;
-    walk(alloc, from.as_slice(), &refers)
+    walk(alloc, from.as_slice(), &refers, signatures.as_slice())
 }

@@ -1,29 +1,61 @@
-// The walk that places the roots, by a stack of roots to be visited.
+// The walk that places the roots, by a stack of roots to be visited and by ways back where it is empty.
 
-ghost use Rattle.std.specs.Prelude.{◌≡◌, ◌<◌, ◌++◌, ◌∷◌, [], ℕ, List, length, IfOk, OnOk};
-ghost use Rattle.fore_base.specs.Lists.{Every};
+ghost use Rattle.std.specs.Prelude.{◌≡◌, ◌<◌, ◌^◌, ◌++◌, ◌∷◌, [], ℕ, List, length, IfOk, OnOk};
+ghost use Rattle.fore_base.specs.Lists.{IsIn, Every};
 ghost use Rattle.fa_core.specs.References.{AllBelow};
-ghost use Rattle.fa_core.specs.Folding.{Placing};
+ghost use Rattle.fa_core.specs.declared.signature.Signature.{Signature};
+ghost use Rattle.fa_order.specs.Placing.{PlacingOn};
+ghost use Rattle.fa_order.specs.inner.Backs.{AreLedWithin, GivesBy, IsNext, LeadsBy};
 ghost use Rattle.fa_order.specs.inner.Stacks.{behind, nth_refs, weight};
 
+use crate::ways_back::next_led;
 use fa_core::cells::has;
+use fa_core::signature::Signature;
 use fore_base::list::{Copies, List};
 use fore_base::memory::Mem;
 use std::alloc::Global;
 
-/// The roots in the order of the walk from these. Err is want of memory.
-pub fn walk(alloc: Global, from: &[u32], refers: &List<List<u32>>) -> Mem<List<u32>>
+/// The roots in the order of the walk from these, by the signatures of the trees. Err is want of memory.
+pub fn walk(
+    alloc: Global,
+    from: &[u32],
+    refers: &List<List<u32>>,
+    signatures: &[Signature],
+) -> Mem<List<u32>>
     requires from { AllBelow (length refers.now) from.now }
     requires refers { Every (AllBelow (length refers.now)) refers.now }
-    ensures { IfOk result (λ order. Placing (nth_refs refers.now) from.now [] order) }
+    requires long { length signatures.now ≡ length refers.now }
+    requires few { length signatures.now < 2 ^ 32 }
+    requires within { AreLedWithin signatures.now refers.now }
+    ensures { IfOk result (λ order. PlacingOn (nth_refs refers.now) (LeadsBy signatures.now) (GivesBy signatures.now)
+        from.now [] order) }
 {
     let mut stack = List::new(alloc);
     let mut placed = List::new(alloc);
     push_all(&mut stack, from)?;
-    while let Some(root) = stack.pop() {
+    while let Some(root) = next_visit(&mut stack, placed.as_slice(), refers, signatures) {
         visit(&mut stack, &mut placed, refers, root)?;
     }
     Ok(placed)
+}
+
+/// The root to be visited next: the one on top of the stack, or, where this is empty, the one at which the walk goes on.
+fn next_visit(
+    stack: &mut List<u32>,
+    placed: &[u32],
+    refers: &List<List<u32>>,
+    signatures: &[Signature],
+) -> Option<u32>
+    requires refers { Every (AllBelow (length refers.now)) refers.now }
+    requires long { length signatures.now ≡ length refers.now }
+    requires few { length signatures.now < 2 ^ 32 }
+    requires within { AreLedWithin signatures.now refers.now }
+    ensures { IsNext signatures.now refers.now placed.now (behind stack.old) (behind stack.new) result }
+{
+    match stack.pop() {
+        Some(root) => Some(root),
+        None => next_led(signatures, refers, placed),
+    }
 }
 
 /// Visits the root: where it is not placed yet it is placed, and the roots to which it refers are to be visited.
@@ -34,12 +66,15 @@ fn visit(
     root: u32,
 ) -> Mem<()>
     requires { root < length refers.now }
-    ensures goes { OnOk result ((order : List ℕ) → Placing (nth_refs refers.now) (behind stack.new) placed.new order
-        → Placing (nth_refs refers.now) (root ∷ behind stack.old) placed.old order) }
+    ensures goes { OnOk result ((ss : List Signature) (order : List ℕ)
+        → PlacingOn (nth_refs refers.now) (LeadsBy ss) (GivesBy ss) (behind stack.new) placed.new order
+        → PlacingOn (nth_refs refers.now) (LeadsBy ss) (GivesBy ss) (root ∷ behind stack.old) placed.old order) }
     ensures falls { OnOk result (weight refers.now (behind stack.new) placed.new
         < weight refers.now (root ∷ behind stack.old) placed.old) }
-    ensures below { OnOk result (Every (AllBelow (length refers.now)) refers.now → AllBelow (length refers.now) (behind stack.old)
-        → AllBelow (length refers.now) (behind stack.new)) }
+    ensures anew { OnOk result ((IsIn root placed.old → ⊥) → weight refers.now (behind stack.new) placed.new
+        < weight refers.now (behind stack.old) placed.old) }
+    ensures below { OnOk result (Every (AllBelow (length refers.now)) refers.now
+        → AllBelow (length refers.now) (behind stack.old) → AllBelow (length refers.now) (behind stack.new)) }
 {
     if has(root, placed.as_slice()) {
         Ok(())

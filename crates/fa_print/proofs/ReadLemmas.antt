@@ -1,7 +1,7 @@
 -- Printed lines are read as they are printed.
 use Rattle.std.proofs.Common.{◌≡◌, ◌<◌, ◌⊎◌, ◌^◌, ◌==◌, inl, inr, ℕ, List, [], ◌∷◌, ◌++◌, true, false}
 use Rattle.std.proofs.Common.{map, flat_map, codes, decimal, Option, Some, None, refl, sym, ap, ◌∙◌, arith, subst}
-use Rattle.std.proofs.Common.{append_assoc, append-nil, rules}
+use Rattle.std.proofs.Common.{append_assoc, append-nil, rules, Bool, ◌&&◌, ◌||◌}
 use Rattle.std.specs.Fmt.{digits}
 use Rattle.std.specs.List.{concat, list_all}
 use Rattle.std.specs.Str.{all_ascii_digits}
@@ -16,7 +16,7 @@ use Rattle.fore_base.proofs.ListLemmas.{every_append}
 use Rattle.fore_base.specs.declared.store.Datum.{Datum}
 use Rattle.fore_base.specs.declared.store.Datum.TheVariants.{Undefined, Known}
 use Rattle.c_lexer.specs.Bytes.{is_letter, is_digit, is_word_byte, is_gap, newline}
-use Rattle.fa_lines.specs.Pieces.{pieces, lines_of, longer, goes_on}
+use Rattle.fa_lines.specs.Pieces.{pieces, joins, lines_of, longer, goes_on as piece_goes_on}
 use Rattle.fa_lines.specs.Says.{Says}
 use Rattle.fa_lines.specs.Spelling.{line_pieces, state_text, term_pieces, slot_pieces, datum_pieces, datum_text}
 use Rattle.fa_lines.specs.Spelling.{data_pieces}
@@ -30,7 +30,7 @@ use Rattle.fa_lines.specs.declared.line.Term.{Term}
 use Rattle.fa_lines.specs.declared.line.Term.TheVariants.{Null, Uninit, Dangling, Ref, Cell}
 use Rattle.fa_lines.specs.declared.line.Line.{Line}
 use Rattle.fa_lines.specs.declared.line.Line.TheVariants.{Skipped, Opens, Root, Rule, Ends}
-use Rattle.fa_lines.proofs.PieceLemmas.{word_no_gap, gap_front}
+use Rattle.fa_lines.proofs.PieceLemmas.{word_no_gap, gap_front, piece_behind, space_first, joins_word, joins_none, other_ends}
 use Rattle.fa_print.specs.Lines.{line_text, lines_text, term_text}
 use Rattle.fa_print.specs.Names.{Texts}
 use Rattle.fa_print.specs.Returned.{AreReadAsPrinted}
@@ -43,10 +43,15 @@ NoBreak b = (b == newline) ≡ false
 abbrev Cut : List ℕ → Texts → Type 0
 Cut bytes ps = (pieces bytes ≡ ps) × Every NoBreak bytes
 
--- letters, digits and underscores, one at least
+-- a word or a number
 abbrev IsRun : List ℕ → Type 0
 IsRun [] = ⊥
-IsRun (b ∷ bs) = list_all is_word_byte (b ∷ bs) ≡ true
+IsRun (b ∷ bs) = (is_word_byte b ≡ true) × (list_all (joins b) bs ≡ true)
+
+-- a letter, a digit or an underscore stands at the front
+abbrev goes_on : List ℕ → Bool
+goes_on [] = false
+goes_on (b ∷ bs) = is_word_byte b
 
 -- another byte, and no blank
 abbrev IsMark : List ℕ → Type 0
@@ -58,36 +63,34 @@ word_no_break : (b : ℕ) → is_word_byte b ≡ true → NoBreak b
 unfolding is_word_byte is_letter is_digit
 word_no_break b e = grind (arith, nat_tests)
 
-word_parts : (b : ℕ) (bs : List ℕ) → list_all is_word_byte (b ∷ bs) ≡ true
-    → (is_word_byte b ≡ true) × (list_all is_word_byte bs ≡ true)
-word_parts b bs h = and_parts (is_word_byte b) (list_all is_word_byte bs) h
-
-longer_front : (b : ℕ) (bs : List ℕ) → is_gap b ≡ false → is_word_byte b ≡ true → goes_on bs ≡ true
-    → pieces (b ∷ bs) ≡ longer b (pieces bs)
-longer_front b bs gap word on = rw (gap, word, on) refl
+run_ends : (b : ℕ) (rest : List ℕ) → goes_on rest ≡ false → piece_goes_on b rest ≡ false
+run_ends b [] ends = refl
+run_ends b (c ∷ cs) ends = joins_none b c ends
 
 run_front : (w rest : List ℕ) → IsRun w → goes_on rest ≡ false → pieces (w ++ rest) ≡ w ∷ pieces rest
 run_front [] rest h ends = absurd h
-run_front (b ∷ []) rest h ends = let w = (word_parts b [] h).0 in rw (word_no_gap b w, w, ends) refl
-run_front (b ∷ c ∷ bs) rest h ends =
-    let a = word_parts b (c ∷ bs) h in
-    let next = (word_parts c bs a.1).0 in
-    longer_front b (c ∷ bs ++ rest) (word_no_gap b a.0) a.0 next ∙ ap (longer b) (run_front (c ∷ bs) rest a.1 ends)
+run_front (b ∷ bs) rest h ends =
+    piece_behind bs rest 32 b b (word_no_gap b h.0) (space_first b) h.1 (run_ends b rest ends)
 
-run_clean : (bs : List ℕ) → list_all is_word_byte bs ≡ true → Every NoBreak bs
-run_clean [] h = tt
-run_clean (b ∷ bs) h = let a = word_parts b bs h in (word_no_break b a.0, run_clean bs a.1)
+joined_clean : (b : ℕ) (bs : List ℕ) → list_all (joins b) bs ≡ true → Every NoBreak bs
+joined_clean b [] h = tt
+joined_clean b (c ∷ cs) h =
+    let a = and_parts (joins b c) (list_all (joins b) cs) h in
+    (word_no_break c (joins_word b c a.0), joined_clean b cs a.1)
 
 cut_run : (w rest : List ℕ) (qs : Texts) → IsRun w → goes_on rest ≡ false → Cut rest qs → Cut (w ++ rest) (w ∷ qs)
 cut_run [] rest qs h ends c = absurd h
 cut_run (b ∷ bs) rest qs h ends c = (
   run_front (b ∷ bs) rest h ends ∙ ap (λ (t : Texts). (b ∷ bs) ∷ t) c.0,
-  every_append NoBreak (b ∷ bs) rest (run_clean (b ∷ bs) h) c.1,
+  every_append NoBreak (b ∷ bs) rest (word_no_break b h.0, joined_clean b bs h.1) c.1,
 )
 
 cut_mark : (m rest : List ℕ) (qs : Texts) → IsMark m → Cut rest qs → Cut (m ++ rest) (m ∷ qs)
 cut_mark [] rest qs h c = absurd h
-cut_mark (b ∷ []) rest qs h c = (rw (h.0, h.1.0) (ap (λ (t : Texts). (b ∷ []) ∷ t) c.0), (h.1.1, c.1))
+cut_mark (b ∷ []) rest qs h c = (
+  piece_behind [] rest 32 b b h.0 (space_first b) refl (other_ends b rest h.1.0) ∙ ap (λ (t : Texts). (b ∷ []) ∷ t) c.0,
+  (h.1.1, c.1),
+)
 cut_mark (b ∷ d ∷ bs) rest qs h c = absurd h
 
 is_blank : is_gap 32 ≡ true
@@ -99,42 +102,80 @@ cut_space bs ps c = (gap_front 32 bs is_blank ∙ c.0, (refl, c.1))
 
 -- Words and numbers
 
-name_run : (name : List ℕ) → IsName name → IsRun name
+letter_joins : (b c : ℕ) → is_letter b ≡ true → is_word_byte c ≡ true → joins b c ≡ true
+letter_joins b c l w = by (is_digit b && is_digit c) (is_letter b && is_word_byte c) (ap (λ t. t && is_word_byte c) l ∙ w)
+  where
+    by : (x y : Bool) → y ≡ true → (x || y) ≡ true
+    by true y e = refl
+    by false y e = e
+
+word_joins : (b : ℕ) (bs : List ℕ) → is_letter b ≡ true → list_all is_word_byte bs ≡ true → list_all (joins b) bs ≡ true
+word_joins b [] l h = refl
+word_joins b (c ∷ cs) l h =
+    let a = and_parts (is_word_byte c) (list_all is_word_byte cs) h in
+    ap (λ t. t && list_all (joins b) cs) (letter_joins b c l a.0) ∙ word_joins b cs l a.1
+
+letter_word : (b : ℕ) → is_letter b ≡ true → is_word_byte b ≡ true
 unfolding is_word_byte
+letter_word b l = ap (λ t. t || is_digit b) l
+
+name_run : (name : List ℕ) → IsName name → IsRun name
 name_run [] h = absurd cc
-name_run (b ∷ bs) h = let a = and_parts (is_letter b) (list_all is_word_byte bs) h in rw a.0 a.1
+name_run (b ∷ bs) h =
+    let a = and_parts (is_letter b) (list_all is_word_byte bs) h in (letter_word b a.0, word_joins b bs a.0 a.1)
 
 own : IsNumeralModel (λ ds. all_ascii_digits ds ≡ true) (value_from 0)
 own = numerals_by_fold (λ ds. all_ascii_digits ds ≡ true) tells_all_ascii_digits value_from (search rules)
 
+digit_told : (d : ℕ) → is_ascii_digit d ≡ true → is_digit d ≡ true
+unfolding is_digit
+digit_told d e = grind (arith, nat_tests, e)
+
+digit_word : (d : ℕ) → is_digit d ≡ true → is_word_byte d ≡ true
+unfolding is_word_byte
+digit_word d e = by (is_letter d) (is_digit d) e
+  where
+    by : (x y : Bool) → y ≡ true → (x || y) ≡ true
+    by true y e = refl
+    by false y e = e
+
+digit_joins : (b c : ℕ) → is_digit b ≡ true → is_digit c ≡ true → joins b c ≡ true
+digit_joins b c d e = ap (λ t. t || (is_letter b && is_word_byte c)) (ap (λ t. t && is_digit c) d ∙ e)
+
 digits_run : (ds : List ℕ) → all_ascii_digits ds ≡ true → list_all is_word_byte ds ≡ true
-unfolding is_word_byte is_digit
 digits_run [] h = refl
 digits_run (d ∷ ds) h =
     let a = and_parts (is_ascii_digit d) (all_ascii_digits ds) h in
-    let digit : is_word_byte d ≡ true = grind (arith, nat_tests, a.0) in
-    rw digit (digits_run ds a.1)
+    ap (λ t. t && list_all is_word_byte ds) (digit_word d (digit_told d a.0)) ∙ digits_run ds a.1
+
+digits_join : (b : ℕ) (ds : List ℕ) → is_digit b ≡ true → all_ascii_digits ds ≡ true → list_all (joins b) ds ≡ true
+digits_join b [] d h = refl
+digits_join b (c ∷ ds) d h =
+    let a = and_parts (is_ascii_digit c) (all_ascii_digits ds) h in
+    ap (λ t. t && list_all (joins b) ds) (digit_joins b c d (digit_told c a.0)) ∙ digits_join b ds d a.1
 
 some_digit : decimal 0 ≡ [] → ⊥
 unfolding digits
 some_digit e = cc e
 
-run_from : (n : ℕ) (ds : List ℕ) → ds ≡ decimal n → n ≡ value_from 0 ds → list_all is_word_byte ds ≡ true → IsRun ds
+run_from : (n : ℕ) (ds : List ℕ) → ds ≡ decimal n → n ≡ value_from 0 ds → all_ascii_digits ds ≡ true → IsRun ds
 run_from n [] e v h = some_digit (ap decimal (sym v) ∙ sym e)
-run_from n (d ∷ ds) e v h = h
+run_from n (d ∷ ds) e v h =
+    let a = and_parts (is_ascii_digit d) (all_ascii_digits ds) h in
+    let digit = digit_told d a.0 in
+    (digit_word d digit, digits_join d ds digit a.1)
 
 number_run : (n : ℕ) → n < 2 ^ 64 → IsRun (decimal n)
 number_run n less =
-    run_from n (decimal n) refl (sym (digits_value-decimal own n less))
-    (digits_run (decimal n) (digits_decimal own n less))
+    run_from n (decimal n) refl (sym (digits_value-decimal own n less)) (digits_decimal own n less)
 
 state_run : (q : ℕ) → IsState q → IsRun (state_text q)
 unfolding is_word_byte is_letter is_digit
-state_run q low = digits_run (decimal q) (digits_decimal own q (omega (arith, low)))
+state_run q low = (refl, word_joins 115 (decimal q) refl (digits_run (decimal q) (digits_decimal own q (omega (arith, low)))))
 
 datum_run : (d : Datum) → IsValue d → IsRun (datum_text d)
 unfolding is_word_byte is_letter is_digit
-datum_run Undefined h = refl
+datum_run Undefined h = (refl, refl)
 datum_run (Known n) h = number_run n (omega (arith, h))
 
 -- Pieces of which no two are one when they stand side by side, in front of a tail
@@ -257,19 +298,19 @@ cell_apart shape ds slots h =
 
 literal_null : IsRun (codes "null")
 unfolding is_word_byte is_letter is_digit
-literal_null = refl
+literal_null = (refl, refl)
 
 literal_uninit : IsRun (codes "uninit")
 unfolding is_word_byte is_letter is_digit
-literal_uninit = refl
+literal_uninit = (refl, refl)
 
 literal_dangling : IsRun (codes "dangling")
 unfolding is_word_byte is_letter is_digit
-literal_dangling = refl
+literal_dangling = (refl, refl)
 
 literal_ref : IsRun (codes "ref")
 unfolding is_word_byte is_letter is_digit
-literal_ref = refl
+literal_ref = (refl, refl)
 
 nothing : Cut [] []
 nothing = (refl, tt)
@@ -311,23 +352,23 @@ next_states (q ∷ qs) h =
 
 literal_box : IsRun (codes "box")
 unfolding is_word_byte is_letter is_digit
-literal_box = refl
+literal_box = (refl, refl)
 
 literal_in : IsRun (codes "in")
 unfolding is_word_byte is_letter is_digit
-literal_in = refl
+literal_in = (refl, refl)
 
 literal_out : IsRun (codes "out")
 unfolding is_word_byte is_letter is_digit
-literal_out = refl
+literal_out = (refl, refl)
 
 literal_root : IsRun (codes "root")
 unfolding is_word_byte is_letter is_digit
-literal_root = refl
+literal_root = (refl, refl)
 
 literal_end : IsRun (codes "end")
 unfolding is_word_byte is_letter is_digit
-literal_end = refl
+literal_end = (refl, refl)
 
 -- words with a space between two
 abbrev body : Texts → List ℕ

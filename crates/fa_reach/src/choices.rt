@@ -1,16 +1,20 @@
 // The choices of parts, gone through one after another.
 
-ghost use Rattle.std.specs.Prelude.{◌≡◌, ◌<◌, ◌^◌, ℕ, true, false, length, IfOk};
-ghost use Rattle.fa_reach.specs.inner.Going.{AllFit, AreFit, Forced, Missed, MayMissBy, AlwaysBy, MayMeetBy, NeverBy};
+ghost use Rattle.std.specs.Prelude.{◌≡◌, ◌<◌, ◌-◌, ◌^◌, ℕ, true, false, length, IfOk, MatchOption};
+ghost use Rattle.fore_base.specs.Marks.{marked_count};
+ghost use Rattle.fa_reach.specs.inner.Going.{AllFit, AreFit, AvoidedFrom, Forced, Missed};
+ghost use Rattle.fa_reach.specs.inner.Going.{MayMissBy, AlwaysBy, MayMeetBy, NeverBy};
+ghost use Rattle.fa_reach.specs.inner.Sweeps.{Gains, IsUnknown};
 
 use crate::asking::next;
 use crate::avoiding::can_avoid;
 use crate::choosing::{choice, choice_count};
 use crate::merging::{can_miss, can_reach, only};
 use crate::part::Part;
+use crate::spreading::spread;
 use crate::steps::Steps;
 use fore_base::list::List;
-use fore_base::marks::mark;
+use fore_base::marks::{count_marked, mark};
 use fore_base::memory::Mem;
 use std::alloc::Global;
 
@@ -90,11 +94,41 @@ fn can_miss_some(alloc: Global, parts: &[Part], from: u32, steps: &mut Steps) ->
 {
     let mut known = only(alloc, parts.len(), from)?;
     'roots: while let Some(to) = next(parts, &known) {
-        let avoids = can_avoid(alloc, parts, known.as_slice(), to, steps)?;
-        if avoids {
-            return Ok(true);
+        match known_more(alloc, parts, known, to, steps)? {
+            None => return Ok(true),
+            Some(more) => known = more,
         }
-        mark(&mut known, to);
     }
     Ok(false)
+}
+
+/// More that is known: what a look at each component adds, or where that is nothing, `to`, which is not known. None
+/// where some choice keeps away from it.
+#[tactic(auto, using(crate::proofs::Known::count_falls))]
+fn known_more(
+    alloc: Global,
+    parts: &[Part],
+    known: List<bool>,
+    to: u32,
+    steps: &mut Steps,
+) -> Mem<Option<List<bool>>>
+    requires count { length parts.now < 2 ^ 32 }
+    requires fit { AreFit parts.now }
+    requires long { length known ≡ length parts.now }
+    requires unknown { IsUnknown known to }
+    ensures { IfOk result (λ found. MatchOption found (AvoidedFrom parts.now known to)
+        (λ more. Gains parts.now known more × (length more - marked_count more < length known - marked_count known))) }
+{
+    steps.take(parts)?;
+    let more = spread(alloc, parts, known.as_slice())?;
+    if count_marked(known.as_slice()) < count_marked(more.as_slice()) {
+        return Ok(Some(more));
+    }
+    let avoids = can_avoid(alloc, parts, known.as_slice(), to, steps)?;
+    if avoids {
+        return Ok(None);
+    }
+    let mut all = known;
+    mark(&mut all, to);
+    Ok(Some(all))
 }

@@ -11,6 +11,7 @@ pub mod laws;
 mod merging;
 mod part;
 mod parting;
+mod spreading;
 mod steps;
 mod sweeping;
 

@@ -1,7 +1,9 @@
 // The kinds of rows. A head is a kind and numbers; the first text is the forest, and the others are the wanted ones.
 
+use crate::boxed;
 use crate::canonizing::{canonical_letters, turned_letters};
 use crate::deciding::decided;
+use crate::lifting::lifted_letters;
 use crate::placing::{placed, reduced};
 use crate::roots::{dropped, exchanged, leaking, merged};
 use crate::splitting::{chosen_letters, split_letters};
@@ -37,6 +39,8 @@ fn answer_alone(alloc: Global, head: &str, text: &str, wanted: &[&str]) -> Resul
         "placed" => placed(alloc, text),
         "leaking" => leaking(alloc, text),
         "exchanged" => exchanged(alloc, text),
+        "boxed-leaking" => boxed::leaking(alloc, text),
+        "boxed-exchanged" => boxed::exchanged(alloc, text),
         _ => answer_at(alloc, head, text, wanted),
     }
 }
@@ -48,7 +52,9 @@ fn answer_at(alloc: Global, head: &str, text: &str, wanted: &[&str]) -> Result<S
     match kind {
         "dropped" => dropped(alloc, text, root),
         "merged" => merged(alloc, text, root, wanted),
+        "boxed-merged" => boxed::merged(alloc, text, root, wanted),
         "chosen" => chosen_letters(alloc, text, root, wanted),
+        "lifted" => lifted_letters(alloc, text, root, number_at(head, 2)?, wanted),
         "split" => split_letters(alloc, text, root, number_at(head, 2)?, wanted),
         _ => bail!("no such kind"),
     }

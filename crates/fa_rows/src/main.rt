@@ -1,9 +1,11 @@
 //! Rows of forests: merged, split, put in order, cut by signature, and made canonical.
 #![tactic(auto)]
 
+mod boxed;
 mod canonizing;
 mod deciding;
 mod kinds;
+mod lifting;
 mod placing;
 mod roots;
 mod splitting;

@@ -19,7 +19,11 @@ const ORDER: &[u32] = &[1, 0];
 // leaking: the least root that leaks.
 pub fn leaking(alloc: Global, text: &str) -> Result<String> {
     let forest = sound(alloc, text)?;
-    let root = leaking_root(alloc, &forest)?;
+    leaking_text(alloc, &forest)
+}
+
+pub fn leaking_text(alloc: Global, forest: &Sound) -> Result<String> {
+    let root = leaking_root(alloc, forest)?;
     root_text(alloc, root)
 }
 
@@ -59,9 +63,7 @@ pub fn exchanged(alloc: Global, text: &str) -> Result<String> {
     exchanged_text(alloc, &forest)
 }
 
-fn exchanged_text(alloc: Global, forest: &Sound) -> Result<String>
-    requires { Every HasNoBoxes forest.now.forest.autos }
-{
+pub fn exchanged_text(alloc: Global, forest: &Sound) -> Result<String> {
     if forest.forest().autos.len() != 2 {
         bail!("not two roots");
     }
@@ -70,8 +72,7 @@ fn exchanged_text(alloc: Global, forest: &Sound) -> Result<String>
 }
 
 fn exchange(alloc: Global, forest: &Sound) -> Mem<Sound>
-    requires plain { Every HasNoBoxes forest.now.forest.autos }
-    requires two { length forest.now.forest.autos ≡ 2 }
+    requires { length forest.now.forest.autos ≡ 2 }
 {
     reorder(alloc, forest, ORDER)
 }
@@ -82,9 +83,7 @@ pub fn merged(alloc: Global, text: &str, root: u32, wanted: &[&str]) -> Result<S
     merged_letters(alloc, &forest, root, wanted)
 }
 
-fn merged_letters(alloc: Global, forest: &Sound, root: u32, wanted: &[&str]) -> Result<String>
-    requires { Every HasNoBoxes forest.now.forest.autos }
-{
+pub fn merged_letters(alloc: Global, forest: &Sound, root: u32, wanted: &[&str]) -> Result<String> {
     if !has_root(forest, root) {
         bail!("no such root");
     }
@@ -97,8 +96,7 @@ fn merged_letters(alloc: Global, forest: &Sound, root: u32, wanted: &[&str]) -> 
 }
 
 fn merged_letter(alloc: Global, forest: &Sound, root: u32, wanted: &[&str]) -> Result<String>
-    requires plain { Every HasNoBoxes forest.now.forest.autos }
-    requires lone { CanMerge forest.now.forest root }
+    requires { CanMerge forest.now.forest root }
 {
     let made = merge_root(alloc, forest, root)?;
     letter_of(alloc, &made, wanted)

@@ -2,24 +2,23 @@
 
 ghost use Rattle.std.specs.Prelude.{◌↔◌, ◌<◌, length, IsTrue};
 ghost use Rattle.fore_base.specs.Lists.{Every};
-ghost use Rattle.fa_core.specs.Boxless.{HasNoBoxes};
+ghost use Rattle.fa_core.specs.Faces.{IsGiving};
 
+use crate::boxed::boxed;
 use crate::roots::refused;
 use anyhow::{Result, bail};
 use fa_sound::Sound;
 use fa_split::{can_split, choose_rule, split_child};
-use row_forests::{letters_in_order, sound};
+use row_forests::letters_in_order;
 use std::alloc::Global;
 
 // chosen ROOT: which of the wanted forests those with one rule of the root are, in their order.
 pub fn chosen_letters(alloc: Global, text: &str, root: u32, wanted: &[&str]) -> Result<String> {
-    let forest = sound(alloc, text)?;
+    let forest = boxed(alloc, text)?;
     chosen_at(alloc, &forest, root, wanted)
 }
 
-fn chosen_at(alloc: Global, forest: &Sound, root: u32, wanted: &[&str]) -> Result<String>
-    requires { Every HasNoBoxes forest.now.forest.autos }
-{
+fn chosen_at(alloc: Global, forest: &Sound, root: u32, wanted: &[&str]) -> Result<String> {
     if !has_root(forest, root) {
         bail!("no such root");
     }
@@ -41,7 +40,7 @@ pub fn split_letters(
     place: u32,
     wanted: &[&str],
 ) -> Result<String> {
-    let forest = sound(alloc, text)?;
+    let forest = boxed(alloc, text)?;
     split_at(alloc, &forest, root, place as usize, wanted)
 }
 
@@ -52,7 +51,7 @@ fn split_at(
     place: usize,
     wanted: &[&str],
 ) -> Result<String>
-    requires { Every HasNoBoxes forest.now.forest.autos }
+    requires { Every IsGiving forest.now.face.boxes }
 {
     if can_split(forest, root, place) {
         let made = split_child(alloc, forest, root, place)?;

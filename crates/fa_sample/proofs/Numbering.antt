@@ -1,5 +1,5 @@
--- The dressed forest that is made of trees: its trees are these, and its cells are numbered in the order in which a walk
--- writes their heads.
+-- The dressed forest that is made of trees: its trees are these, and its cells are numbered in the order in which a
+-- walk writes their heads.
 use Rattle.std.proofs.Common.{◌≡◌, ℕ, zero, suc, ◌<◌, ◌≤◌, ◌+◌, List, [], ◌∷◌, ◌++◌, map, length, Some}
 use Rattle.std.proofs.Common.{refl, sym, ap, ap₂, subst, ◌∙◌, arith}
 use Rattle.std.proofs.lemmas.List.{nil_from_length}
@@ -26,7 +26,8 @@ use Rattle.fa_core.specs.Dressed.{Fact, Head, Points, end_value, nth_value}
 use Rattle.fa_core.specs.Member.{TreesOf, InsidesOfParts, InsidesOfEnd, inside_of, bare, bare_parts, bare_end}
 use Rattle.fa_core.specs.Member.{slots_of, leaf_symbol}
 use Rattle.fa_core.proofs.Dressing.{each_length}
-use Rattle.fa_sample.specs.inner.Dressing.{Making, Leaf, Under, Insides, begun, top_of, ended, parts_made, made_at, made}
+use Rattle.fa_sample.specs.inner.Dressing.{Making, Leaf, Under, Insides, begun, top_of, ended, parts_made, made_at}
+use Rattle.fa_sample.specs.inner.Dressing.{made}
 use Rattle.fa_sample.specs.inner.Emitted.{end_head, slots_out, below_out}
 use Rattle.fa_sample.specs.inner.Emitted.{forest_out}
 

@@ -31,7 +31,8 @@ use Rattle.fa_sample.specs.inner.Emitted.{forest_out}
 use Rattle.fa_sample.specs.inner.Picked.{ArePicked, IsPickedAt}
 use Rattle.fa_sample.specs.inner.Sampled.{store_made, store_sampled}
 use Rattle.fa_sample.specs.inner.Written.{written}
-use Rattle.fa_sample.proofs.Forests.{AreChoices, SlotBelow, SymbolBelow, RulesBelow, UseLower, ports_values, rules_inside}
+use Rattle.fa_sample.proofs.Forests.{AreChoices, SlotBelow, SymbolBelow, RulesBelow, UseLower, ports_values}
+use Rattle.fa_sample.proofs.Forests.{rules_inside}
 use Rattle.fa_sample.proofs.Forests.{boxes_inside, forest_dressed}
 use Rattle.fa_sample.proofs.Standing.{stands}
 

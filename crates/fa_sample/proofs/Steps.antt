@@ -15,7 +15,8 @@ use Rattle.fa_sample.specs.declared.drafts.Draft.{Draft}
 use Rattle.fa_sample.specs.declared.drafts.FieldValue.{FieldValue}
 use Rattle.fa_sample.specs.inner.Dressing.{Making, Insides, begun, top_of, ended, parts_made, made_at, made}
 use Rattle.fa_sample.specs.inner.Emitted.{end_head, slots_out, below_out, forest_out}
-use Rattle.fa_sample.specs.inner.Walk.{Todo, task_made, pending, value_by, top_value, reserved_by, reserved, followed_by}
+use Rattle.fa_sample.specs.inner.Walk.{Todo, task_made, pending, value_by, top_value, reserved_by, reserved}
+use Rattle.fa_sample.specs.inner.Walk.{followed_by}
 use Rattle.fa_sample.specs.inner.Walk.{followed, slot_count, made_from, ends}
 use Rattle.fa_sample.specs.inner.Walk.{size, task_weight, weight}
 use Rattle.fa_sample.specs.inner.Written.{put_field, new_draft, written}

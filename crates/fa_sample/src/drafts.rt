@@ -55,7 +55,8 @@ pub fn add_draft(
     datums: List<Datum>,
     drafts: &mut List<Draft>,
 ) -> Mem<()>
-    ensures { IfOk result (λ _. drafts.new ≡ drafts.old ++ record { shape = shape; datums = datums; fields = [] } ∷ []) }
+    ensures { IfOk result
+        (λ _. drafts.new ≡ drafts.old ++ record { shape = shape; datums = datums; fields = [] } ∷ []) }
 {
     let fields = List::new(alloc);
     drafts.push(Draft {

@@ -152,7 +152,8 @@ fn do_task<'a>(
 ) -> Mem<()>
     ensures ends { IfOk result (λ _. ends (insides_made boxes.now depth) values.now (map seen tasks.new) drafts.new
         ≡ ends (insides_made boxes.now depth) values.now (map seen tasks.old ++ seen task.entry ∷ []) drafts.old) }
-    ensures less { IfOk result (λ _. weight (map seen tasks.new) < weight (map seen tasks.old ++ seen task.entry ∷ [])) }
+    ensures less { IfOk result
+        (λ _. weight (map seen tasks.new) < weight (map seen tasks.old ++ seen task.entry ∷ [])) }
 {
     let Some((slot, slots)) = task.slots.split_first() else {
         return Ok(());

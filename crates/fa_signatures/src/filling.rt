@@ -15,9 +15,9 @@ use fore_base::memory::Mem;
 use std::alloc::Global;
 use ta_core::auto::Auto;
 
-/// Whether each field of each cell is given exactly once: the data and the rules fit the face, and each choice of pieces
-/// gives a sound forest. It is no part of cutting: it tells whether `split_signatures` may be asked. Err is want of
-/// memory.
+/// Whether each field of each cell is given exactly once: the data and the rules fit the face, and each choice of
+/// pieces gives a sound forest. It is no part of cutting: it tells whether `split_signatures` may be asked. Err is want
+/// of memory.
 pub fn is_filled(alloc: Global, forest: &Forest, face: &Face) -> Mem<bool>
     ensures { IfOk result (λ yes. IsTrue yes ↔ IsFilled face.now forest.now) }
 {

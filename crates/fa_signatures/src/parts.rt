@@ -4,7 +4,7 @@ ghost use Rattle.std.specs.Prelude.{◌≡◌, map, IsTrue, IfOk};
 ghost use Rattle.fore_base.specs.Lists.{IsIn, Every, Paired};
 ghost use Rattle.ta_core.specs.Auto.{Automaton};
 ghost use Rattle.ta_core.specs.Language.{IsBarren};
-ghost use Rattle.fa_core.specs.Filled.{IsFilled, IsSound};
+ghost use Rattle.fa_core.specs.Filled.{IsFilled};
 ghost use Rattle.fa_signatures.specs.CutPieces.{AreCut, IsPiece};
 ghost use Rattle.fa_sound.specs.Unions.{forests};
 ghost use Rattle.fa_signatures.specs.CutForests.{AreCutForests};
@@ -14,7 +14,7 @@ use crate::cutting::cut_auto;
 use crate::products::product;
 use fa_core::faces::{BoxFace, Face};
 use fa_core::forest::Forest;
-use fa_sound::{Sound, have_no_boxes};
+use fa_sound::Sound;
 use fore_base::list::{Copies, List};
 use fore_base::memory::Mem;
 use std::alloc::Global;
@@ -91,22 +91,7 @@ fn sound_with(alloc: Global, forest: &Forest, face: &Face, autos: &List<Auto>) -
     ensures forest { IfOk result (λ s. s.forest ≡ with_autos forest.now autos.now) }
 {
     let made = forest_with(alloc, forest, autos)?;
-    sound_of(alloc, made, face)
-}
-
-/// The forest, which is known to be sound. Without box edges nothing is judged.
-fn sound_of(alloc: Global, forest: Forest, face: &Face) -> Mem<Sound>
-    requires { IsSound face.now forest }
-    ensures face { IfOk result (λ s. s.face ≡ face.now) }
-    ensures forest { IfOk result (λ s. s.forest ≡ forest) }
-{
-    if have_no_boxes(forest.autos.as_slice()) {
-        return Sound::of(alloc, forest, face);
-    }
-    match Sound::make(alloc, &forest, face)? {
-        Some(sound) => Ok(sound),
-        None => unreachable!(),
-    }
+    Sound::of(alloc, made, face)
 }
 
 /// The forest with these components.

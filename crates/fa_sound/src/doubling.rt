@@ -17,8 +17,8 @@ use std::alloc::Global;
 use ta_core::auto::{Auto, Rule};
 use ta_core::trimming::trim;
 
-/// Whether each automaton's trees give each field to each root once, as far as is seen: false only where some tree gives
-/// one twice. Err is want of memory.
+/// Whether each automaton's trees give each field to each root once, as far as is seen: false only where some tree
+/// gives one twice. Err is want of memory.
 pub fn give_once(alloc: Global, boxes: &[BoxFace], autos: &[Auto]) -> Mem<bool>
     ensures { IfOk result (λ once. once ≡ false → (a : Automaton)
         × IsIn a autos.now

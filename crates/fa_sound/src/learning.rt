@@ -131,8 +131,8 @@ pub fn rule_marks(
     marks_by(alloc, boxes, &rule.symbol, belows.as_slice())
 }
 
-/// Whether no mark provides more fields than a struct could have: one that does is in no tree of a sound forest, and those
-/// of states of no accepted tree could double with each state.
+/// Whether no mark provides more fields than a struct could have: one that does is in no tree of a sound forest, and
+/// those of states of no accepted tree could double with each state.
 fn are_small(belows: &[Below]) -> bool {
     for below in belows {
         for mark in below.marks.as_slice() {

@@ -2,13 +2,17 @@ pub mod ChildEnds
 pub mod ChildStates
 pub mod ChosenForests
 pub mod ChosenTrees
+pub mod EdgeMarks
 pub mod FixedSigned
 pub mod FixedTrees
 pub mod FreshStates
+pub mod HollowEnds
 pub mod LiftedTrees
+pub mod LinksGive
 pub mod OtherComponent
 pub mod Places
 pub mod Rows
+pub mod RunMarks
 pub mod RunPlaces
 pub mod SplitCells
 pub mod SplitLeaves

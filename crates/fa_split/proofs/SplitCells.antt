@@ -76,7 +76,7 @@ pub all_below : (T : List BoxDef) (F : Forest) (d : Nodes) → RefersWell F → 
 all_below T F d w h = subst (λ (m : ℕ). AllBelow m (all_refs d)) (sym (count_trees T F.autos d h))
     (forest_below T (length F.autos) F.autos d w.trees h)
 
-below_vars : (m : ℕ) (us : List Target) → ((k : ℕ) → IsIn (At k) us → k < m) → RootsBelow m us
+pub below_vars : (m : ℕ) (us : List Target) → ((k : ℕ) → IsIn (At k) us → k < m) → RootsBelow m us
 below_vars m [] h = tt
 below_vars m (Null ∷ us) h = below_vars m us (λ k i. h k (inr i))
 below_vars m (Uninit ∷ us) h = below_vars m us (λ k i. h k (inr i))

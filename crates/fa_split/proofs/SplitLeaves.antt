@@ -6,6 +6,7 @@ use Rattle.ta_core.specs.Auto.{Automaton, IsRanked}
 use Rattle.ta_core.specs.Language.{RunOf, InLanguage, IsWithin}
 use Rattle.ta_core.specs.declared.tree.Tree.{Tree, out-Tree, roll-Tree, out-roll-Tree}
 use Rattle.fa_core.specs.declared.boxes.BoxDef.{BoxDef}
+use Rattle.fa_core.specs.declared.faces.BoxFace.{BoxFace}
 use Rattle.fa_core.specs.declared.faces.Face.{Face}
 use Rattle.fa_core.specs.declared.forest.Forest.{Forest}
 use Rattle.fa_core.specs.declared.forest.Target.{Target}
@@ -18,7 +19,7 @@ use Rattle.fa_core.specs.Member.{OfForest, Regroups, bare, bare_end, leaf_symbol
 use Rattle.fa_sound.specs.Components.{component_at}
 use Rattle.fa_merge.proofs.PlacedForests.{component_has}
 use Rattle.fa_split.specs.Split.{CanSplit, MayStand, MayBeLeaf, child_state, fixed, split_leaf, HasChild, IsSplitLeaf}
-use Rattle.fa_split.proofs.FixedSigned.{fixed_plain, fixed_signed}
+use Rattle.fa_split.proofs.FixedSigned.{fixed_plain, tops_signed}
 use Rattle.fa_split.proofs.FixedTrees.{to_fixed, fixed_leaf, fixed_within, child_run, fixed_symbols}
 use Rattle.fa_split.proofs.OtherComponent.{every_put, tree_at, tree_in, trees_keep, within_sound, within_covers}
 use Rattle.fa_split.proofs.OtherComponent.{within_dressed, within_regroups}
@@ -95,11 +96,16 @@ module _ (F : Forest) (r p : ℕ) (ranked : Every IsRanked F.autos) (can : CanSp
     leaf_plain plain = every_put HasNoBoxes F.autos r (fixed a p y) plain
         (fixed_plain a p y a_ranked can.top can.place (component_has HasNoBoxes F.autos r plain can.root))
 
-    pub leaf_sound : (face : Face) → Every HasNoBoxes F.autos → IsSound face F → IsSound face (split_leaf F r p y)
-    leaf_sound face plain sound = within_sound F r (fixed a p y) leaf_within face
+    -- the trees are some of the old component's, so they have its signature
+    leaf_signed : (bs : List BoxFace) → HasSignatures bs a → HasSignatures bs (fixed a p y)
+    leaf_signed bs h = tops_signed a p y a_ranked can.top can.place bs h
+        (λ t u v w. h.component t u (leaf_within t v) (leaf_within u w))
+
+    pub leaf_sound : (face : Face) → IsSound face F → IsSound face (split_leaf F r p y)
+    leaf_sound face sound = within_sound F r (fixed a p y) leaf_within face
         (fixed_symbols a p y a_ranked can.top can.place (SymbolFits face) (fitting_leaf face y)
         (component_has (RulesFit face) F.autos r sound.well_formed.filled.rules can.root))
-        (fixed_signed a p y a_ranked can.top can.place (component_has HasNoBoxes F.autos r plain can.root) face.boxes
+        (leaf_signed face.boxes
         (component_has (HasSignatures face.boxes) F.autos r sound.well_formed.signatures can.root))
         (may.0, to_leaf may.0 may.1 may.2)
         sound

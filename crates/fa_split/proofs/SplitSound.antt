@@ -2,9 +2,10 @@
 use Rattle.std.proofs.Common.{◌≡◌, ℕ, suc, ◌<◌, ◌+◌, length, List, [], ◌∷◌, refl, sym, ap, subst, ◌∙◌, slice_get}
 use Rattle.std.proofs.Common.{slice_set, Some, true, false, true≢false, length-set, length-append, arith}
 use Rattle.fore_base.specs.Lists.{IsIn, Every}
-use Rattle.fore_base.proofs.ListLemmas.{in_every, every_append, place_of}
+use Rattle.fore_base.proofs.ListLemmas.{in_every, every_in, every_append, place_of}
 use Rattle.ta_core.specs.Auto.{Automaton, IsRanked}
 use Rattle.ta_core.specs.Language.{RunOf, InLanguage}
+use Rattle.ta_core.specs.declared.auto.Rule.{Rule}
 use Rattle.ta_core.specs.declared.tree.Tree.{Tree, out-Tree}
 use Rattle.fa_core.specs.declared.faces.Face.{Face}
 use Rattle.fa_core.specs.declared.forest.Forest.{Forest}
@@ -24,12 +25,15 @@ use Rattle.fa_core.proofs.WaysOf.{tree_roots}
 use Rattle.fa_sound.specs.Components.{component_at}
 use Rattle.fa_sound.proofs.ComponentLemmas.{item_component}
 use Rattle.fa_merge.proofs.OtherOrders.{got}
-use Rattle.fa_merge.proofs.PlacedForests.{component_has, node_topped, topped_node, run_end, tree_is_node}
+use Rattle.fa_merge.proofs.PlacedForests.{component_has, node_topped, topped_node}
+use Rattle.fa_split.specs.Giving.{SymbolGives, RulesGive}
+use Rattle.fa_split.specs.Split.{top_rule}
 use Rattle.fa_split.specs.Split.{CanSplit, MayBeCell, child_state, fixed, lifted, split_cells, end_at, top_parts}
 use Rattle.fa_split.specs.Split.{with_end}
 use Rattle.fa_split.proofs.ChosenForests.{fresh_signed}
 use Rattle.fa_split.proofs.FixedSigned.{fixed_plain, fixed_signed}
 use Rattle.fa_split.proofs.FixedTrees.{to_fixed, fixed_leaf, fixed_with, fixed_ranked, fixed_symbols, child_with}
+use Rattle.fa_split.proofs.HollowEnds.{run_end, tree_is_node}
 use Rattle.fa_split.proofs.LiftedTrees.{lifted_of, to_lifted, lifted_back, lifted_stay, lifted_roots, lifted_ranked}
 use Rattle.fa_split.proofs.LiftedTrees.{lifted_symbols}
 use Rattle.fa_split.proofs.OtherComponent.{every_put}
@@ -38,7 +42,7 @@ use Rattle.fa_split.proofs.Places.{with_end_twice, with_end_same}
 use Rattle.fa_split.proofs.SplitCells.{RefersWell, refers_well, cells_regroup}
 use Rattle.fa_split.proofs.SplitLeaves.{with_child, with_child_symbol, with_child_children, may_run}
 use Rattle.fa_split.proofs.TakenOut.{below_top, below_with}
-use Rattle.fa_split.proofs.TopRules.{tree_by_top}
+use Rattle.fa_split.proofs.TopRules.{tree_by_top, top_in}
 
 -- a leaf's symbol is a leaf's
 pub leaf_is_leaf : (y : Target) → is_leaf (leaf_symbol y) ≡ true
@@ -47,8 +51,8 @@ leaf_is_leaf Uninit = refl
 leaf_is_leaf Dangling = refl
 leaf_is_leaf (At k) = refl
 
-module _ (face : Face) (F : Forest) (r p : ℕ) (ranked : Every IsRanked F.autos) (plain : Every HasNoBoxes F.autos)
-    (can : CanSplit F r p) (sound : IsSound face F) (may : MayBeCell F r p) where
+module _ (face : Face) (F : Forest) (r p : ℕ) (ranked : Every IsRanked F.autos) (can : CanSplit F r p)
+    (sound : IsSound face F) (may : MayBeCell F r p) where
   abbrev a : Automaton
   a = component_at F.autos r
 
@@ -70,8 +74,11 @@ module _ (face : Face) (F : Forest) (r p : ℕ) (ranked : Every IsRanked F.autos
   a_ranked : IsRanked a
   a_ranked = component_has IsRanked F.autos r ranked can.root
 
-  a_plain : HasNoBoxes a
-  a_plain = component_has HasNoBoxes F.autos r plain can.root
+  a_fits : RulesFit face a
+  a_fits = component_has (RulesFit face) F.autos r sound.well_formed.filled.rules can.root
+
+  top_fits : RulesFit face top_fixed
+  top_fits = fixed_symbols a p (At N) a_ranked can.top can.place (SymbolFits face) tt a_fits
 
   well : RefersWell F
   well = refers_well face F sound
@@ -94,7 +101,7 @@ module _ (face : Face) (F : Forest) (r p : ℕ) (ranked : Every IsRanked F.autos
   low k n l w = below_wider N (suc N) (omega arith) (refs n) (well.trees k n l w)
 
   node_tree : (k : ℕ) → k < N → (t : Tree) → InLanguage (component_at F.autos k) t → (n : Node) × (bare n ≡ t)
-  node_tree = tree_is_node face F sound.well_formed.filled sound.full ranked plain
+  node_tree = tree_is_node face F sound.well_formed.filled sound.full ranked
 
   old_formed : Every (λ b. (t : Tree) → InLanguage b t → IsFormedTree (suc N) t) F.autos
   old_formed = in_every (λ b. (t : Tree) → InLanguage b t → IsFormedTree (suc N) t) F.autos (λ b i t w.
@@ -109,7 +116,7 @@ module _ (face : Face) (F : Forest) (r p : ℕ) (ranked : Every IsRanked F.autos
 
   -- a tree of the child's state that is no leaf
   cell_node : (t : Tree) → RunOf a.rules q t → is_leaf (out-Tree t).symbol ≡ false → (n : Node) × (bare n ≡ t)
-  cell_node t w g = (let e = run_end a a_ranked a_plain q t w in here e.0 e.1)
+  cell_node t w g = (let e = run_end face a a_ranked a_fits q t w in here e.0 e.1)
     where
       here : (e : End) → bare_end e ≡ t → (n : Node) × (bare n ≡ t)
       here (under n) s = (n, s)
@@ -126,8 +133,7 @@ module _ (face : Face) (F : Forest) (r p : ℕ) (ranked : Every IsRanked F.autos
 
   fixed_formed : (t : Tree) → InLanguage top_fixed t → IsFormedTree (suc N) t
   fixed_formed t w =
-      let e = run_end top_fixed (fixed_ranked a p (At N) a_ranked can.top can.place)
-      (fixed_plain a p (At N) a_ranked can.top can.place a_plain) w.0 t w.2 in
+      let e = run_end face top_fixed (fixed_ranked a p (At N) a_ranked can.top can.place) top_fits w.0 t w.2 in
       here e.0 e.1
     where
       -- with a cell in the place, the tree is one of the old component
@@ -198,19 +204,18 @@ module _ (face : Face) (F : Forest) (r p : ℕ) (ranked : Every IsRanked F.autos
   root_vars us h = in_every (IsRoot (suc N)) us
       (λ u i k e. (let l = h k (subst (λ (z : Target). IsIn z us) e i) in omega (arith, l)))
 
-  pub cells_plain : Every HasNoBoxes G.autos
-  cells_plain = each_split HasNoBoxes plain (fixed_plain a p (At N) a_ranked can.top can.place a_plain)
-      (lifted_symbols a q a_ranked IsPlain a_plain)
+  pub cells_plain : Every HasNoBoxes F.autos → Every HasNoBoxes G.autos
+  cells_plain plain = (let k = component_has HasNoBoxes F.autos r plain can.root in
+      each_split HasNoBoxes plain (fixed_plain a p (At N) a_ranked can.top can.place k)
+      (lifted_symbols a q a_ranked IsPlain k))
 
   formed : IsFormed face G
   formed = record {
     ranked = each_split IsRanked ranked (fixed_ranked a p (At N) a_ranked can.top can.place)
         (lifted_ranked a q a_ranked);
     data_vars = sound.well_formed.filled.data_vars;
-    rules = (let fits = component_has (RulesFit face) F.autos r sound.well_formed.filled.rules can.root in
-        each_split (RulesFit face) sound.well_formed.filled.rules
-        (fixed_symbols a p (At N) a_ranked can.top can.place (SymbolFits face) tt fits)
-        (lifted_symbols a q a_ranked (SymbolFits face) fits));
+    rules = each_split (RulesFit face) sound.well_formed.filled.rules top_fits
+        (lifted_symbols a q a_ranked (SymbolFits face) a_fits);
     choices = formed_by G
         (rw same_size
         (each_split (λ b. (t : Tree) → InLanguage b t → IsFormedTree (suc N) t) old_formed fixed_formed
@@ -230,14 +235,20 @@ module _ (face : Face) (F : Forest) (r p : ℕ) (ranked : Every IsRanked F.autos
   some_lifted : HasSome cells_of
   some_lifted = (may.0, to_lifted a q a_ranked may.0 (may_run F r p ranked can (At 0) may.0 may.2) may.1)
 
-  pub cells_sound : IsSound face G
-  cells_sound = record {
+  -- the rule at the top gives where it leads back
+  top_gives : Every (RulesGive face.boxes) F.autos → SymbolGives face.boxes (top_rule a).symbol
+  top_gives gives = every_in (λ (o : Rule). SymbolGives face.boxes o.symbol) a.rules (top_rule a)
+      (component_has (RulesGive face.boxes) F.autos r gives can.root) (top_in a can.top)
+
+  pub cells_sound : Every (RulesGive face.boxes) F.autos → IsSound face G
+  cells_sound gives = record {
     well_formed = record {
       filled = filled_kept face F G sound.well_formed.filled (λ T. cells_regroup F r p ranked can T well) formed;
       signatures =
           (let signed = component_has (HasSignatures face.boxes) F.autos r sound.well_formed.signatures can.root in
           each_split (HasSignatures face.boxes) sound.well_formed.signatures
-          (fixed_signed a p (At N) a_ranked can.top can.place a_plain face.boxes signed)
+          (fixed_signed a p (At N) a_ranked can.top can.place face.boxes signed (top_gives gives) may.0
+          (may_run F r p ranked can (At 0) may.0 may.2))
           (fresh_signed face.boxes a cells_of q (λ z u l w. lifted_stay a q a_ranked z u l w)
           (λ z u w l. (lifted_back a q a_ranked z u l w).0) (λ z i. lifted_roots a q a_ranked z i) signed));
     };

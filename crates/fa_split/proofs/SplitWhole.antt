@@ -76,7 +76,7 @@ module _ (F : Forest) (r p : ℕ) (ranked : Every IsRanked F.autos) (can : CanSp
       → Every (λ G. Every HasNoBoxes G.autos) Gs
   all_plain face sound plain =
       each_split (λ G. Every HasNoBoxes G.autos) (λ y m. leaf_plain F r p ranked can y m plain)
-      (λ m. cells_plain face F r p ranked plain can sound m)
+      (λ m. cells_plain face F r p ranked can sound m plain)
 
   pub all_topped : (Gs : List Forest) → AreSplit F r p Gs → Every (λ G. HasOneTop (component_at G.autos r)) Gs
   all_topped = each_split (λ G. HasOneTop (component_at G.autos r))

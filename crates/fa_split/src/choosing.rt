@@ -27,12 +27,12 @@ use ta_core::inhabited::inhabited;
 /// rule alone at the root. The root state is a new one each time, since the old one may stand inside the trees. Err is
 /// want of memory.
 pub fn choose_rule(alloc: Global, forest: &Sound, root: u32) -> Mem<List<Sound>>
-    requires plain { Every HasNoBoxes forest.now.forest.autos }
-    requires root { root < length forest.now.forest.autos }
+    requires { root < length forest.now.forest.autos }
     ensures value { IfOk result (λ made. AreChosen forest.now.forest root (forests made)) }
     ensures face { IfOk result (λ made. Every (λ s. s.face ≡ forest.now.face) made) }
     ensures vars { IfOk result (λ made. Every (HasVarsOf forest.now.forest) (forests made)) }
-    ensures plain { IfOk result (λ made. Every (λ G. Every HasNoBoxes G.autos) (forests made)) }
+    ensures plain { IfOk result
+        (λ made. Every HasNoBoxes forest.now.forest.autos → Every (λ G. Every HasNoBoxes G.autos) (forests made)) }
     ensures tops { IfOk result (λ made. Every (λ G. HasOneTop (component_at G.autos root)) (forests made)) }
     ensures dressed { IfOk result (λ made. (T : List BoxDef)
         → Every (IsChosenOf T forest.now.forest root) (forests made)) }
@@ -46,8 +46,7 @@ pub fn choose_rule(alloc: Global, forest: &Sound, root: u32) -> Mem<List<Sound>>
 }
 
 fn forests_by_rule(alloc: Global, forest: &Sound, root: u32) -> Mem<List<Sound>>
-    requires plain { Every HasNoBoxes forest.now.forest.autos }
-    requires root { root < length forest.now.forest.autos }
+    requires { root < length forest.now.forest.autos }
     ensures value { IfOk result (λ made. AreChosen forest.now.forest root (forests made)) }
     ensures face { IfOk result (λ made. Every (λ s. s.face ≡ forest.now.face) made) }
 {
@@ -73,7 +72,6 @@ fn stands_at_top(auto: &Auto, marks: &[bool], rule: &Rule) -> bool
 
 /// The forest with the rule, which stands at the top of some tree, alone at the root. Err is want of memory.
 fn with_rule(alloc: Global, forest: &Sound, root: u32, rule: &Rule) -> Mem<Sound>
-    requires plain { Every HasNoBoxes forest.now.forest.autos }
     requires root { root < length forest.now.forest.autos }
     requires rule { IsIn rule.now (component_at forest.now.forest.autos root).rules }
     requires top { StandsAtTop (component_at forest.now.forest.autos root) rule.now }

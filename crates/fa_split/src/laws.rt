@@ -3,17 +3,21 @@
 
 ghost use Rattle.std.specs.Prelude.{◌<◌, ℕ, List, length};
 ghost use Rattle.fore_base.specs.Lists.{IsIn, Every};
-ghost use Rattle.ta_core.specs.Auto.{IsRanked};
+ghost use Rattle.ta_core.specs.Auto.{Automaton, IsRanked};
 ghost use Rattle.ta_core.specs.declared.auto.Rule.{Rule};
+ghost use Rattle.fa_core.specs.Boxless.{HasNoBoxes};
 ghost use Rattle.fa_core.specs.Dressed.{Nodes};
+ghost use Rattle.fa_core.specs.Faces.{IsGiving};
 ghost use Rattle.fa_core.specs.Filled.{IsSound};
 ghost use Rattle.fa_core.specs.Member.{OfForest, Regroups, Regrouping};
 ghost use Rattle.fa_core.specs.declared.boxes.BoxDef.{BoxDef};
+ghost use Rattle.fa_core.specs.declared.faces.BoxFace.{BoxFace};
 ghost use Rattle.fa_core.specs.declared.faces.Face.{Face};
 ghost use Rattle.fa_core.specs.declared.forest.Forest.{Forest};
 ghost use Rattle.fa_core.specs.declared.forest.Target.{Target};
 ghost use Rattle.fa_sound.specs.Components.{component_at};
 ghost use Rattle.fa_split.specs.Chosen.{IsChosenBy, chosen_at};
+ghost use Rattle.fa_split.specs.Giving.{RulesGive};
 ghost use Rattle.fa_split.specs.Split.{CanSplit, IsSplitCells, IsSplitLeaf, IsTakenOut, MayBeLeaf, split_cells};
 ghost use Rattle.fa_split.specs.Split.{split_leaf};
 
@@ -41,4 +45,10 @@ pub fn cells_are_taken_out()
         → IsSound face F → OfForest T F d → IsTakenOut r p d e → Regrouping T (split_cells F r p) F d e }
     ensures back { (T : List BoxDef) (face : Face) (F : Forest) (r p : ℕ) → Every IsRanked F.autos → CanSplit F r p
         → IsSound face F → Regroups T F (split_cells F r p) }
+{}
+
+/// Box edges that lead back give something where the boxes do, as those of each table, and where there is no box edge.
+pub fn edges_give()
+    ensures faces { (bs : List BoxFace) (autos : List Automaton) → Every IsGiving bs → Every (RulesGive bs) autos }
+    ensures plain { (bs : List BoxFace) (autos : List Automaton) → Every HasNoBoxes autos → Every (RulesGive bs) autos }
 {}

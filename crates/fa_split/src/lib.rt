@@ -15,6 +15,6 @@ pub use choosing::choose_rule;
 pub use replacing::ranked_components;
 pub use splitting::{can_split, fix_at, fix_leaf, split_child};
 pub use topping::{
-    children_of, copied_rules, count_children, one_root, rule_at, rule_at_top, rules_of, state_at,
-    states_of,
+    children_of, choose, copied_rules, count_children, fix_child, one_root, roots_of, rule_at,
+    rule_at_top, rules_of, state_at, states_of,
 };

@@ -9,6 +9,7 @@ ghost use Rattle.fa_core.specs.Member.{Regroups, RegroupsInto};
 ghost use Rattle.fa_core.specs.declared.boxes.BoxDef.{BoxDef};
 ghost use Rattle.fa_sound.specs.Components.{component_at};
 ghost use Rattle.fa_split.specs.Divided.{HasVarsOf};
+ghost use Rattle.fa_split.specs.Giving.{RulesGive};
 ghost use Rattle.fa_sound.specs.Unions.{forests, IsUnionOf};
 ghost use Rattle.fa_split.specs.Split.{AreSplit, AreThose, CanSplit, IsSplitOf, IsWhere, MayBeCell, MayBeLeaf};
 ghost use Rattle.fa_split.specs.Split.{split_cells, split_leaf};
@@ -37,14 +38,16 @@ pub fn can_split(forest: &Sound, root: u32, place: usize) -> bool
 
 /// One forest for each leaf that the child at the place may be, in which it is that leaf, and behind them, where the
 /// child may be a cell, one in which the child's cells are a new last root. The root has one rule, and that has a child
-/// at the place. Err is want of memory.
+/// at the place. A box edge that leads back gives its end something, as each box of a table does: else a state could get
+/// two signatures. Err is want of memory.
 pub fn split_child(alloc: Global, forest: &Sound, root: u32, place: usize) -> Mem<List<Sound>>
-    requires plain { Every HasNoBoxes forest.now.forest.autos }
     requires can { CanSplit forest.now.forest root place }
+    requires gives { Every (RulesGive forest.now.face.boxes) forest.now.forest.autos }
     ensures value { IfOk result (λ made. AreSplit forest.now.forest root place (forests made)) }
     ensures face { IfOk result (λ made. Every (λ s. s.face ≡ forest.now.face) made) }
     ensures vars { IfOk result (λ made. Every (HasVarsOf forest.now.forest) (forests made)) }
-    ensures plain { IfOk result (λ made. Every (λ G. Every HasNoBoxes G.autos) (forests made)) }
+    ensures plain { IfOk result
+        (λ made. Every HasNoBoxes forest.now.forest.autos → Every (λ G. Every HasNoBoxes G.autos) (forests made)) }
     ensures tops { IfOk result (λ made. Every (λ G. HasOneTop (component_at G.autos root)) (forests made)) }
     ensures dressed { IfOk result (λ made. (T : List BoxDef)
         → Every (IsSplitOf T forest.now.forest root place) (forests made)) }
@@ -58,8 +61,8 @@ pub fn split_child(alloc: Global, forest: &Sound, root: u32, place: usize) -> Me
 }
 
 fn forests_by_child(alloc: Global, forest: &Sound, root: u32, place: usize) -> Mem<List<Sound>>
-    requires plain { Every HasNoBoxes forest.now.forest.autos }
     requires can { CanSplit forest.now.forest root place }
+    requires gives { Every (RulesGive forest.now.face.boxes) forest.now.forest.autos }
     ensures value { IfOk result (λ made. AreSplit forest.now.forest root place (forests made)) }
     ensures face { IfOk result (λ made. Every (λ s. s.face ≡ forest.now.face) made) }
 {
@@ -87,7 +90,6 @@ fn with_leaves(
     place: usize,
     leaves: &[Target],
 ) -> Mem<List<Sound>>
-    requires plain { Every HasNoBoxes forest.now.forest.autos }
     requires can { CanSplit forest.now.forest root place }
     requires may { Every (MayBeLeaf forest.now.forest root place) leaves.now }
     ensures value { IfOk result (λ made. forests made ≡ map (split_leaf forest.now.forest root place) leaves.now) }
@@ -101,7 +103,6 @@ fn with_leaves(
 }
 
 fn with_leaf(alloc: Global, forest: &Sound, root: u32, place: usize, leaf: Target) -> Mem<Sound>
-    requires plain { Every HasNoBoxes forest.now.forest.autos }
     requires can { CanSplit forest.now.forest root place }
     requires may { MayBeLeaf forest.now.forest root place leaf }
     ensures forest { IfOk result (λ made. made.forest ≡ split_leaf forest.now.forest root place leaf) }
@@ -114,7 +115,6 @@ fn with_leaf(alloc: Global, forest: &Sound, root: u32, place: usize, leaf: Targe
 /// The forest in which the child is the leaf, which is known to be sound: nothing is judged. Err is want of memory.
 pub fn fix_leaf(alloc: Global, forest: &Sound, root: u32, place: usize, leaf: Target) -> Mem<Sound>
     requires can { CanSplit forest.now.forest root place }
-    requires plain { Every HasNoBoxes (split_leaf forest.now.forest root place leaf).autos }
     requires sound { IsSound forest.now.face (split_leaf forest.now.forest root place leaf) }
     ensures forest { IfOk result (λ made. made.forest ≡ split_leaf forest.now.forest root place leaf) }
     ensures face { IfOk result (λ made. made.face ≡ forest.now.face) }
@@ -135,8 +135,8 @@ pub fn fix_at(alloc: Global, forest: &Forest, root: u32, place: usize, leaf: Tar
 /// The forest in which the child's cells are a new last root, where it may be a cell, and no other. Err is want of
 /// memory.
 fn with_cells(alloc: Global, forest: &Sound, root: u32, place: usize) -> Mem<List<Sound>>
-    requires plain { Every HasNoBoxes forest.now.forest.autos }
     requires can { CanSplit forest.now.forest root place }
+    requires gives { Every (RulesGive forest.now.face.boxes) forest.now.forest.autos }
     ensures value { IfOk result
         (λ made. IsWhere (MayBeCell forest.now.forest root place) (split_cells forest.now.forest root place)
         (forests made)) }
@@ -166,8 +166,8 @@ fn may_be_cell(alloc: Global, forest: &Sound, root: u32, place: usize) -> Mem<bo
 }
 
 fn with_new_root(alloc: Global, forest: &Sound, root: u32, place: usize) -> Mem<Sound>
-    requires plain { Every HasNoBoxes forest.now.forest.autos }
     requires can { CanSplit forest.now.forest root place }
+    requires gives { Every (RulesGive forest.now.face.boxes) forest.now.forest.autos }
     requires may { MayBeCell forest.now.forest root place }
     ensures forest { IfOk result (λ made. made.forest ≡ split_cells forest.now.forest root place) }
     ensures face { IfOk result (λ made. made.face ≡ forest.now.face) }

@@ -5,6 +5,17 @@ pub mod HookUnfoldings
 pub mod InsidesFit
 pub mod JoinedOrder
 pub mod Joins
+pub mod LiftEdges
+pub mod LiftHats
+pub mod LiftHoles
+pub mod LiftLists
+pub mod LiftOwners
+pub mod LiftProvides
+pub mod LiftRows
+pub mod LiftSound
+pub mod LiftSteps
+pub mod LiftedForests
+pub mod LiftedRoots
 pub mod LinkUnfoldings
 pub mod OpenedFits
 pub mod OpenedOnce

@@ -1,3 +1,4 @@
+pub mod Lift
 pub mod Opens
 pub mod Outside
 pub mod Parts

@@ -1,5 +1,11 @@
-// Box edges of roots replaced by the insides of their boxes: which forests these are, and that they have together the
-// members of the first one.
+//! Box edges taken apart: the cell of an edge that gives a field to a root made a root of its own; and a box edge of a
+//! root replaced by the inside of its box, of which the laws are there and the call is not.
 #![tactic(auto)]
 
 pub mod laws;
+pub mod lifting;
+mod lifting_automata;
+pub mod lifting_laws;
+mod lifting_owners;
+
+pub use lifting::{can_lift, lift_parent};

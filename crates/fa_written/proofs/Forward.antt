@@ -14,11 +14,11 @@ use Rattle.fa_written.specs.declared.draft.Head.{Head}
 use Rattle.fa_written.specs.declared.draft.BoxDraft.{BoxDraft}
 use Rattle.fa_written.specs.declared.draft.OpenBox.{OpenBox}
 use Rattle.fa_written.specs.declared.draft.Reading.{Reading}
-use Rattle.fa_written.specs.Forms.{Numbered, numbered, rule_line, parts_lines, box_lines}
-use Rattle.fa_written.specs.Forms.{file_lines, port_count, HasPorts, IsForm, IsLive}
+use Rattle.fa_written.specs.Forms.{Numbered, put_before, numbered, rule_line, parts_lines, head_line, box_lines}
+use Rattle.fa_written.specs.Forms.{file_lines, port_count, HasPorts, IsForm, IsLive, Closes}
 use Rattle.fa_written.specs.inner.Moves.{◌>>=◌, guard, rule_behind, opened, reading, part_of}
 use Rattle.fa_written.specs.inner.Moves.{moved_by, moved, run}
-use Rattle.fa_written.proofs.MoveLemmas.{bound, rule_put, runs}
+use Rattle.fa_written.proofs.MoveLemmas.{bound, rule_put, runs, end_lines, box_of}
 
 -- Lines with their numbers, taken one after another
 
@@ -144,16 +144,80 @@ box_goes bs b xs has =
     ∙ parts_go b.parts bs b.head [] ((b.end, Ends) ∷ xs)
     ∙ ap (λ o. o >>= λ t. go t xs) (end_goes bs b has)
 
-file_goes : (cs bs : List BoxDraft) → Every HasPorts cs → go (reading bs None) (file_lines cs) ≡ Some (reading (bs ++ cs) None)
-file_goes [] bs has = ap (λ bs. Some (reading bs None)) (sym (append-nil bs))
-file_goes (c ∷ cs) bs has =
-    box_goes bs c (file_lines cs) has.0 ∙ file_goes cs (bs ++ c ∷ []) has.1
-    ∙ ap (λ bs. Some (reading bs None)) (append_assoc bs (c ∷ []) cs)
+files_go : (cs bs : List BoxDraft) (xs : List Numbered) → Every HasPorts cs
+    → go (reading bs None) (file_lines cs ++ xs) ≡ go (reading (bs ++ cs) None) xs
+files_go [] bs xs has = ap (λ bs. go (reading bs None) xs) (sym (append-nil bs))
+files_go (c ∷ cs) bs xs has =
+    ap (go (reading bs None)) (append_assoc (box_lines c) (file_lines cs) xs)
+    ∙ box_goes bs c (file_lines cs ++ xs) has.0 ∙ files_go cs (bs ++ c ∷ []) xs has.1
+    ∙ ap (λ bs. go (reading bs None) xs) (append_assoc bs (c ∷ []) cs)
+
+file_goes : (cs : List BoxDraft) → Every HasPorts cs → go (reading [] None) (file_lines cs) ≡ Some (reading cs None)
+file_goes cs has = ap (go (reading [] None)) (sym (append-nil (file_lines cs))) ∙ files_go cs [] [] has
 
 -- the lines of a file of boxes are taken
 pub form_runs : (lines : List Line) (bs : List BoxDraft) → IsForm lines bs → run (reading [] None) 1 lines ≡ Some (reading bs None)
 form_runs lines bs form =
-    run_go lines (reading [] None) 1 ∙ ap (go (reading [] None)) form.0 ∙ file_goes bs [] form.1
+    run_go lines (reading [] None) 1 ∙ ap (go (reading [] None)) form.0 ∙ file_goes bs form.1
+
+-- Lines behind which an end closes a box
+
+put_behind : (n : ℕ) (l : Line) (xs ys : List Numbered) → put_before n l (xs ++ ys) ≡ put_before n l xs ++ ys
+put_behind n Skipped xs ys = refl
+put_behind n (Opens name input output) xs ys = refl
+put_behind n (Root r qs) xs ys = refl
+put_behind n (Rule q term) xs ys = refl
+put_behind n Ends xs ys = refl
+
+end_behind : (ls : List Line) (n : ℕ) → numbered n (ls ++ Ends ∷ []) ≡ numbered n ls ++ (n + length ls, Ends) ∷ []
+end_behind [] n = ap (λ k. (k, Ends) ∷ []) (let f : n ≡ n + 0 = omega arith in f)
+end_behind (l ∷ ls) n =
+    ap (put_before n l) (end_behind ls (suc n))
+    ∙ put_behind n l (numbered (suc n) ls) ((suc n + length ls, Ends) ∷ [])
+    ∙ ap (λ k. put_before n l (numbered (suc n) ls) ++ (k, Ends) ∷ [])
+    (let f : suc n + length ls ≡ n + suc (length ls) = omega arith in f)
+
+abbrev head_or : {X : Type 0} → X → List X → X
+head_or d [] = d
+head_or d (x ∷ xs) = x
+
+abbrev tail_of : {X : Type 0} → List X → List X
+tail_of [] = []
+tail_of (x ∷ xs) = xs
+
+nothing_not : {X : Type 0} (x : X) (xs ys : List X) → [] ≡ xs ++ x ∷ ys → ⊥
+nothing_not x xs ys e =
+    let h : 0 ≡ length (xs ++ x ∷ ys) = ap length e in omega (arith, h, length-append xs (x ∷ ys))
+
+-- lists are alike in front of their last items
+fronts : {X : Type 0} (xs ys : List X) (x y : X) → xs ++ x ∷ [] ≡ ys ++ y ∷ [] → xs ≡ ys
+fronts [] [] x y e = refl
+fronts [] (b ∷ ys) x y e = absurd (nothing_not y ys [] (ap tail_of e))
+fronts (a ∷ xs) [] x y e = absurd (nothing_not x xs [] (sym (ap tail_of e)))
+fronts (a ∷ xs) (b ∷ ys) x y e =
+    ap (λ z. z ∷ xs) (ap (head_or a) e) ∙ ap (λ zs. b ∷ zs) (fronts xs ys x y (ap tail_of e))
+
+-- what is read before a line that closes a box
+pub closes_reads : (lines : List Line) (bs : List BoxDraft) (b : BoxDraft) → Closes lines bs b
+    → run (reading [] None) 1 lines ≡ Some (In bs b.head b.parts)
+closes_reads lines bs b c =
+    let inner = head_line b.head ∷ parts_lines 0 b.parts in
+    let before = fronts (numbered 1 lines) (file_lines bs ++ inner) (1 + length lines, Ends) (b.end, Ends)
+    (sym (end_behind lines 1) ∙ c.0 ∙ end_lines bs (opened b.head b.parts) b.end) in
+    run_go lines (reading [] None) 1 ∙ ap (go (reading [] None)) before ∙ files_go bs [] inner c.1
+    ∙ ap (λ o. o >>= λ t. go t (parts_lines 0 b.parts)) (head_goes bs b.head)
+    ∙ ap (go (In bs b.head [])) (sym (append-nil (parts_lines 0 b.parts)))
+    ∙ parts_go b.parts bs b.head [] []
+
+-- a box that is open can be closed, whether or not it has its ports
+pub open_closes : (lines : List Line) (bs : List BoxDraft) (b : OpenBox)
+    → run (reading [] None) 1 lines ≡ Some (reading bs (Some b)) → Closes lines bs (box_of b (1 + length lines))
+open_closes lines bs b e =
+    let r = runs lines (reading [] None) 1 (reading bs (Some b)) e in (
+      end_behind lines 1 ∙ ap (λ xs. xs ++ (1 + length lines, Ends) ∷ []) (sym r.lines)
+          ∙ sym (end_lines bs b (1 + length lines)),
+      r.ports tt,
+    )
 
 -- lines that begin a file of boxes are taken
 pub live_runs : (lines : List Line) → IsLive lines → (u : Reading) × (run (reading [] None) 1 lines ≡ Some u)

@@ -124,16 +124,22 @@ end_ports : (bs : List BoxDraft) (b : BoxDraft) → HasPorts b → Every HasPort
 end_ports [] b has h = (has, tt)
 end_ports (c ∷ bs) b has h = (h.0, end_ports bs b has h.1)
 
+abbrev pub box_of : OpenBox → ℕ → BoxDraft
+box_of b n = record { head = b.head; parts = b.parts; end = n }
+
+-- an end behind the lines of an open box
+pub end_lines : (bs : List BoxDraft) (b : OpenBox) (n : ℕ)
+    → file_lines (bs ++ box_of b n ∷ []) ≡ lines_read (reading bs (Some b)) ++ (n, Ends) ∷ []
+end_lines bs b n =
+    file_append bs (box_of b n ∷ []) ∙ ap (λ xs. file_lines bs ++ xs) (append-nil (box_lines (box_of b n)))
+    ∙ behind bs b.head (parts_lines 0 b.parts) (n, Ends)
+
 end_takes : (bs : List BoxDraft) (b : OpenBox) (n : ℕ) → port_count b.head.output ≤ length b.parts
     → Takes bs (Some b) n Ends (ended bs b n)
-end_takes bs b n has =
-    let box : BoxDraft = record { head = b.head; parts = b.parts; end = n } in
-    record {
-      lines = append-nil (file_lines (bs ++ box ∷ [])) ∙ file_append bs (box ∷ [])
-          ∙ ap (λ xs. file_lines bs ++ xs) (append-nil (box_lines box))
-          ∙ behind bs b.head (parts_lines 0 b.parts) (n, Ends);
-      ports = end_ports bs box has;
-    }
+end_takes bs b n has = record {
+  lines = append-nil (file_lines (bs ++ box_of b n ∷ [])) ∙ end_lines bs b n;
+  ports = end_ports bs (box_of b n) has;
+}
 
 rule_takes : (bs : List BoxDraft) (b : OpenBox) (n q : ℕ) (term : Term) (ps : List PartDraft)
     → RuleIsLast (record { line = n; state = q; term = term }) b.parts ps

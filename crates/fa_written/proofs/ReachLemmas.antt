@@ -15,17 +15,19 @@ use Rattle.fa_written.specs.declared.draft.OpenBox.{OpenBox}
 use Rattle.fa_written.specs.declared.draft.Reading.{Reading}
 use Rattle.fa_written.specs.declared.fault.DraftFault.{DraftFault}
 use Rattle.fa_written.specs.declared.fault.DraftFault.TheVariants.{B1, Memory}
-use Rattle.fa_written.specs.Drafts.{missing, RefersWithin, Begins, IsText, IsDead, IsBadLine, IsMissingRef}
+use Rattle.fa_written.specs.Drafts.{missing, missing_of, RefersWithin, Begins, IsText, IsDead, ClosesWithin}
+use Rattle.fa_written.specs.Drafts.{IsBadLine, IsMissingRef}
 use Rattle.fa_written.specs.Faults.{IsFault}
 use Rattle.fa_written.specs.Forms.{IsForm, IsLive, port_count}
 use Rattle.fa_written.specs.inner.Moves.{◌>>=◌, rule_last, opened, reading, outside, part_of, ended, inside, moved_by}
 use Rattle.fa_written.specs.declared.unfit.Unfit.{Unfit}
 use Rattle.fa_written.specs.declared.unfit.Unfit.TheVariants.{Other}
 use Rattle.fa_written.specs.inner.Moves.{moved, run, Fails}
-use Rattle.fa_written.specs.inner.Reached.{first_of, last_missing, is_end, Took, Untaken, Missed, Refuses, Reached}
+use Rattle.fa_written.specs.inner.Reached.{open_missing, is_end, EndsWithin, Took, Untaken, Missed, Refuses, Reached}
 use Rattle.fa_written.proofs.FirstLemmas.{none_first, some_first}
-use Rattle.fa_written.proofs.MoveLemmas.{bound, guarded}
+use Rattle.fa_written.proofs.MoveLemmas.{bound, guarded, box_of}
 use Rattle.fa_written.proofs.Forward.{form_runs, live_runs, run_form, run_live, run_joined, run_split}
+use Rattle.fa_written.proofs.Forward.{closes_reads, open_closes}
 
 pub other_fails : (e : Unfit) (o : Option Reading) → e ≡ Other → Fails e o → o ≡ None
 other_fails e o is h = subst (λ x. Fails x o) is h
@@ -33,81 +35,77 @@ other_fails e o is h = subst (λ x. Fails x o) is h
 -- One line
 
 pub took : (bytes : List ℕ) (n : ℕ) (s t : Reading) (line : Line) → Says bytes line → moved s n line ≡ Some t
-    → (is_end line ≡ true → last_missing t.boxes ≡ None) → Took bytes n s t
+    → EndsWithin line s → Took bytes n s t
 took bytes n s t line said moves refs = record { line = line; said = said; moves = moves; refs = refs }
 
-pub missed : (bytes : List ℕ) (n : ℕ) (s t : Reading) (line : Line) (l : ℕ) → Says bytes line → moved s n line ≡ Some t
-    → is_end line ≡ true → last_missing t.boxes ≡ Some l → Refuses bytes n s (B1 l)
-missed bytes n s t line l said moves ends first =
-    inr (record { line = line; said = said; next = t; moves = moves; ends = ends; first = first })
+pub missed : (bytes : List ℕ) (n : ℕ) (s : Reading) (line : Line) (l : ℕ) → Says bytes line → is_end line ≡ true
+    → open_missing s.current ≡ Some l → Refuses bytes n s (B1 l)
+missed bytes n s line l said ends first = inr (record { line = line; said = said; ends = ends; first = first })
 
 pub not_taken : (bytes : List ℕ) (n : ℕ) (s : Reading) (line : Line) → Says bytes line → moved s n line ≡ None
-    → Refuses bytes n s (B1 n)
-not_taken bytes n s line said moves = inl (refl, Untaken.unfit line said moves)
+    → EndsWithin line s → Refuses bytes n s (B1 n)
+not_taken bytes n s line said moves refs = inl (refl, Untaken.unfit line said moves refs)
 
 pub not_said : (bytes : List ℕ) (n : ℕ) (s : Reading) → ((line : Line) → Says bytes line → ⊥) → Refuses bytes n s (B1 n)
 not_said bytes n s none = inl (refl, Untaken.unsaid none)
 
-pub last_is : (bs : List BoxDraft) (b : BoxDraft) → last_missing (bs ++ b ∷ []) ≡ first_of (missing b)
-last_is [] b = refl
-last_is (a ∷ []) b = refl
-last_is (a ∷ c ∷ bs) b = last_is (c ∷ bs) b
-
-pub last_by : (bs : List BoxDraft) (b : BoxDraft) → Some b ≡ slice_get bs (length bs - 1)
-    → first_of (missing b) ≡ last_missing bs
-last_by [] b e = absurd (none-some b (sym e))
-last_by (a ∷ []) b e = ap (λ x. first_of (missing x)) (same_Some b a e)
-last_by (a ∷ c ∷ bs) b e =
-    let place : length (a ∷ c ∷ bs) - 1 ≡ suc (length (c ∷ bs) - 1) = omega arith in
-    last_by (c ∷ bs) b (e ∙ ap (λ k. slice_get (a ∷ c ∷ bs) k) place)
-
 -- the boxes after a line: it ends the one that is open, or they are those before
-abbrev pub After : List BoxDraft → Line → Reading → Type 0
-After bs line t = ((is_end line ≡ false) × (t.boxes ≡ bs))
-    ⊎ ((is_end line ≡ true) × (last : BoxDraft) × (t ≡ reading (bs ++ last ∷ []) None))
+abbrev pub After : List BoxDraft → Option OpenBox → ℕ → Line → Reading → Type 0
+After bs o n line t = ((is_end line ≡ false) × (t.boxes ≡ bs))
+    ⊎ ((is_end line ≡ true) × (b : OpenBox) × (o ≡ Some b) × (t ≡ ended bs b n))
 
-same_after : (bs : List BoxDraft) (line : Line) (o : Option OpenBox) (t : Reading) → is_end line ≡ false
-    → Some (reading bs o) ≡ Some t → After bs line t
-same_after bs line o t other e = inl (other, sym (ap (λ (r : Reading). r.boxes) (same_Some (reading bs o) t e)))
+same_after : (bs : List BoxDraft) (o : Option OpenBox) (n : ℕ) (line : Line) (p : Option OpenBox) (t : Reading)
+    → is_end line ≡ false → Some (reading bs p) ≡ Some t → After bs o n line t
+same_after bs o n line p t other e = inl (other, sym (ap (λ (r : Reading). r.boxes) (same_Some (reading bs p) t e)))
 
-outside_after : (bs : List BoxDraft) (n : ℕ) (line : Line) (t : Reading) → outside bs n line ≡ Some t → After bs line t
-outside_after bs n Skipped t e = same_after bs Skipped None t refl e
-outside_after bs n (Opens name input output) t e = same_after bs (Opens name input output) _ t refl e
+outside_after : (bs : List BoxDraft) (n : ℕ) (line : Line) (t : Reading) → outside bs n line ≡ Some t
+    → After bs None n line t
+outside_after bs n Skipped t e = same_after bs None n Skipped None t refl e
+outside_after bs n (Opens name input output) t e = same_after bs None n (Opens name input output) _ t refl e
 outside_after bs n (Root r qs) t e = absurd (none-some t e)
 outside_after bs n (Rule q term) t e = absurd (none-some t e)
 outside_after bs n Ends t e = absurd (none-some t e)
 
 inside_after : (bs : List BoxDraft) (b : OpenBox) (n : ℕ) (line : Line) (t : Reading) → inside bs b n line ≡ Some t
-    → After bs line t
-inside_after bs b n Skipped t e = same_after bs Skipped (Some b) t refl e
+    → After bs (Some b) n line t
+inside_after bs b n Skipped t e = same_after bs (Some b) n Skipped (Some b) t refl e
 inside_after bs b n (Opens name input output) t e = absurd (none-some t e)
 inside_after bs b n (Root r qs) t e =
     let g = guarded (r == length b.parts) (reading bs (Some (opened b.head (b.parts ++ part_of n qs ∷ [])))) t e in
-    same_after bs (Root r qs) (Some (opened b.head (b.parts ++ part_of n qs ∷ []))) t refl (ap Some g.1)
+    same_after bs (Some b) n (Root r qs) (Some (opened b.head (b.parts ++ part_of n qs ∷ []))) t refl (ap Some g.1)
 inside_after bs b n (Rule q term) t e =
     let r : RuleDraft = record { line = n; state = q; term = term } in
     let a = bound (rule_last r b.parts) (λ ps. Some (reading bs (Some (opened b.head ps)))) t e in
-    same_after bs (Rule q term) (Some (opened b.head a.0)) t refl a.2
+    same_after bs (Some b) n (Rule q term) (Some (opened b.head a.0)) t refl a.2
 inside_after bs b n Ends t e =
     let g = guarded (nat_le (port_count b.head.output) (length b.parts)) (ended bs b n) t e in
-    inr (refl, record { head = b.head; parts = b.parts; end = n }, sym g.1)
+    inr (refl, b, refl, sym g.1)
 
 after_by : (bs : List BoxDraft) (o : Option OpenBox) (n : ℕ) (line : Line) (t : Reading) → moved_by bs o n line ≡ Some t
-    → After bs line t
+    → After bs o n line t
 after_by bs None n line t e = outside_after bs n line t e
 after_by bs (Some b) n line t e = inside_after bs b n line t e
 
-pub after : (s : Reading) (n : ℕ) (line : Line) (t : Reading) → moved s n line ≡ Some t → After s.boxes line t
+pub after : (s : Reading) (n : ℕ) (line : Line) (t : Reading) → moved s n line ≡ Some t
+    → After s.boxes s.current n line t
 unfolding moved
 after s n line t e = after_by s.boxes s.current n line t e
+
+-- an end that is taken ends the box that is open
+pub end_taken : (bs : List BoxDraft) (b : OpenBox) (n : ℕ) (t : Reading) → moved (reading bs (Some b)) n Ends ≡ Some t
+    → t ≡ reading (bs ++ box_of b n ∷ []) None
+unfolding moved
+end_taken bs b n t e =
+    sym (guarded (nat_le (port_count b.head.output) (length b.parts)) (ended bs b n) t e).1
 
 -- boxes are only added
 abbrev Grew : List BoxDraft → List BoxDraft → Type 0
 Grew bs cs = (new : List BoxDraft) × (cs ≡ bs ++ new)
 
-grew_once : (bs : List BoxDraft) (line : Line) (t : Reading) → After bs line t → Grew bs t.boxes
-grew_once bs line t (inl h) = ([], h.1 ∙ sym (append-nil bs))
-grew_once bs line t (inr h) = (h.1 ∷ [], ap (λ (r : Reading). r.boxes) h.2)
+grew_once : (bs : List BoxDraft) (o : Option OpenBox) (n : ℕ) (line : Line) (t : Reading) → After bs o n line t
+    → Grew bs t.boxes
+grew_once bs o n line t (inl h) = ([], h.1 ∙ sym (append-nil bs))
+grew_once bs o n line t (inr h) = (box_of h.1 n ∷ [], ap (λ (r : Reading). r.boxes) h.3)
 
 grew_on : (bs cs ds : List BoxDraft) → Grew bs cs → Grew cs ds → Grew bs ds
 grew_on bs cs ds p q = (p.0 ++ q.0, q.1 ∙ ap (λ xs. xs ++ q.0) p.1 ∙ append_assoc bs p.0 q.0)
@@ -116,7 +114,7 @@ pub grew : (ls : List Line) (s : Reading) (n : ℕ) (t : Reading) → run s n ls
 grew [] s n t e = ([], ap (λ (r : Reading). r.boxes) (sym (same_Some s t e)) ∙ sym (append-nil s.boxes))
 grew (l ∷ ls) s n t e =
     let a = bound (moved s n l) (λ u. run u (suc n) ls) t e in
-    grew_on s.boxes a.0.boxes t.boxes (grew_once s.boxes l a.0 (after s n l a.0 a.1)) (grew ls a.0 (suc n) t a.2)
+    grew_on s.boxes a.0.boxes t.boxes (grew_once s.boxes s.current n l a.0 (after s n l a.0 a.1)) (grew ls a.0 (suc n) t a.2)
 
 pub every_front : {X : Type 0} (P : X → Type 0) (xs ys : List X) → Every P (xs ++ ys) → Every P xs
 every_front P [] ys h = tt
@@ -174,13 +172,14 @@ module _ (text : List ℕ) (n : ℕ) (rest : List ℕ) (s : Reading) (r : Reache
       let all : Every RefersWithin (a.0.boxes ++ more.0) = subst (Every RefersWithin) more.1 r.refs in
       subst (Every RefersWithin) (ap (λ (u : Reading). u.boxes) same) (every_front RefersWithin a.0.boxes more.0 all)
 
-  bad : IsDead r.lines (lines_of rest) → IsBadLine text n
-  bad dead = record {
+  bad : ClosesWithin r.lines (lines_of rest) → IsDead r.lines (lines_of rest) → IsBadLine text n
+  bad closed dead = record {
     before = r.lines;
     place = r.place;
     said = begins_by text r.front (lines_of rest) r.lines r.split r.said;
     live = run_live r.lines s r.ran;
     refs = refs_before;
+    closed = subst (ClosesWithin r.lines) (sym left) closed;
     dead = subst (IsDead r.lines) (sym left) dead;
   }
 
@@ -194,8 +193,18 @@ module _ (text : List ℕ) (n : ℕ) (rest : List ℕ) (s : Reading) (r : Reache
       let c = bound (moved s (1 + length r.lines) line) (λ u. run u (suc (1 + length r.lines)) []) a.0 b in
       none-some c.0 (sym none ∙ ap (λ k. moved s k line) place ∙ c.1)
 
-true_not : true ≡ false → ⊥
+true_not : false ≡ true → ⊥
 true_not e = grind arith
+
+the_end : (line : Line) → is_end line ≡ true → line ≡ Ends
+the_end Skipped e = absurd (true_not e)
+the_end (Opens name input output) e = absurd (true_not e)
+the_end (Root r qs) e = absurd (true_not e)
+the_end (Rule q term) e = absurd (true_not e)
+the_end Ends e = refl
+
+abbrev pub OneLine : Type 0
+OneLine = (bytes : List ℕ) (one other : Line) → Says bytes one → Says bytes other → one ≡ other
 
 -- From line to line
 
@@ -219,14 +228,14 @@ module _ (text : List ℕ) (n : ℕ) (rest : List ℕ) (s : Reading) (r : Reache
       run_joined r.lines (line ∷ []) (reading [] None) s 1 r.ran ∙ ap (λ k. run s k (line ∷ [])) place
       ∙ ap (λ o. o >>= λ u. Some u) moves
 
-  refs_by : (line : Line) (t : Reading) → (is_end line ≡ true → last_missing t.boxes ≡ None) → After s.boxes line t
+  refs_by : (line : Line) (t : Reading) → EndsWithin line s → After s.boxes s.current n line t
       → Every RefersWithin t.boxes
   refs_by line t refs (inl h) = subst (Every RefersWithin) (sym h.1) r.refs
   refs_by line t refs (inr h) =
-      let boxes : t.boxes ≡ s.boxes ++ h.1 ∷ [] = ap (λ (u : Reading). u.boxes) h.2 in
-      let none : missing h.1 ≡ [] =
-      none_first (missing h.1) (sym (last_is s.boxes h.1) ∙ ap last_missing (sym boxes) ∙ refs h.0) in
-      subst (Every RefersWithin) (sym boxes) (every_behind RefersWithin s.boxes h.1 r.refs none)
+      let none : missing_of h.1.parts ≡ [] =
+      none_first (missing_of h.1.parts) (ap open_missing (sym h.2) ∙ refs h.0) in
+      subst (Every RefersWithin) (sym (ap (λ (u : Reading). u.boxes) h.3))
+      (every_behind RefersWithin s.boxes (box_of h.1 n) r.refs none)
 
   took_next : (t : Reading) → Took bytes n s t → Reached text (n + 1) others t
   took_next t k = record {
@@ -239,46 +248,52 @@ module _ (text : List ℕ) (n : ℕ) (rest : List ℕ) (s : Reading) (r : Reache
     refs = refs_by k.line t k.refs (after s n k.line t k.moves);
   }
 
-  dead_by : ((bs : List ℕ) (one other : Line) → Says bs one → Says bs other → one ≡ other) → Untaken bytes n s
-      → IsDead r.lines (bytes ∷ lines_of others)
+  dead_by : OneLine → Untaken bytes n s → IsDead r.lines (bytes ∷ lines_of others)
   dead_by unique (Untaken.unsaid none) = λ line said live. none line said
-  dead_by unique (Untaken.unfit line said none) = λ other heard live.
+  dead_by unique (Untaken.unfit line said none refs) = λ other heard live.
       one_more text n rest s r line none
       (subst (λ l. IsLive (r.lines ++ l ∷ [])) (unique bytes other line heard said) live)
 
-  missed_by : (l : ℕ) (m : Missed bytes n s l) → After s.boxes m.line m.next → IsMissingRef text l
-  missed_by l m (inl h) = absurd (true_not (sym m.ends ∙ h.0))
-  missed_by l m (inr h) =
-      let boxes : m.next.boxes ≡ s.boxes ++ h.1 ∷ [] = ap (λ (u : Reading). u.boxes) h.2 in
-      let first = some_first (missing h.1) l (sym (last_is s.boxes h.1) ∙ ap last_missing (sym boxes) ∙ m.first) in
+  closed_by : OneLine → Untaken bytes n s → ClosesWithin r.lines (bytes ∷ lines_of others)
+  closed_by unique (Untaken.unsaid none) = λ said bs last closes. absurd (none Ends said)
+  closed_by unique (Untaken.unfit line said none refs) = λ heard bs last closes.
+      let same : s ≡ reading bs (Some (opened last.head last.parts)) =
+      same_Some s (reading bs (Some (opened last.head last.parts))) (sym r.ran ∙ closes_reads r.lines bs last closes) in
+      none_first (missing last)
+      (ap (λ (u : Reading). open_missing u.current) (sym same) ∙ refs (ap is_end (unique bytes line Ends said heard)))
+
+  missing_by : (l : ℕ) → Says bytes Ends → (o : Option OpenBox) → s.current ≡ o → open_missing o ≡ Some l
+      → IsMissingRef text l
+  missing_by l said None is first = absurd (none-some l first)
+  missing_by l said (Some b) is first =
+      let found = some_first (missing_of b.parts) l first in
       record {
-        lines = r.lines ++ m.line ∷ [];
+        before = r.lines;
         boxes = s.boxes;
-        last = h.1;
-        others = first.0;
-        said = begins_by text (r.front ++ bytes ∷ []) (lines_of others) (r.lines ++ m.line ∷ []) split_on
-            (paired_behind Says r.front r.lines bytes m.line r.said m.said);
-        form = run_form (r.lines ++ m.line ∷ []) (s.boxes ++ h.1 ∷ []) (run_on m.line m.next m.moves ∙ ap Some h.2);
+        last = box_of b (1 + length r.lines);
+        others = found.0;
+        said = begins_by text (r.front ++ bytes ∷ []) (lines_of others) (r.lines ++ Ends ∷ []) split_on
+            (paired_behind Says r.front r.lines bytes Ends r.said said);
+        closes = open_closes r.lines s.boxes b (r.ran ∙ ap (λ o. Some (reading s.boxes o)) is);
         refs = r.refs;
-        first = first.1;
+        first = found.1;
       }
 
-  fault_by : ((bs : List ℕ) (one other : Line) → Says bs one → Says bs other → one ≡ other) → (e : DraftFault)
-      → Refuses bytes n s e → IsFault text e
+  fault_by : OneLine → (e : DraftFault) → Refuses bytes n s e → IsFault text e
   fault_by unique Memory h = tt
   fault_by unique (B1 l) (inl h) =
       inl (subst (λ k. IsBadLine text k) (sym h.0)
-      (bad text n rest s r (subst (IsDead r.lines) (sym next) (dead_by unique h.1))))
-  fault_by unique (B1 l) (inr m) = inr (missed_by l m (after s n m.line m.next m.moves))
+      (bad text n rest s r (subst (ClosesWithin r.lines) (sym next) (closed_by unique h.1))
+      (subst (IsDead r.lines) (sym next) (dead_by unique h.1))))
+  fault_by unique (B1 l) (inr m) =
+      inr (missing_by l (subst (Says bytes) (the_end m.line m.ends) m.said) s.current refl m.first)
 
 pub reached_next : (text rest bytes others : List ℕ) (n : ℕ) (s t : Reading) → Reached text n rest s
     → lines_of rest ≡ bytes ∷ lines_of others → Took bytes n s t → Reached text (n + 1) others t
 reached_next text rest bytes others n s t r next k = took_next text n rest s r bytes others next t k
 
 pub reached_fault : (text rest bytes others : List ℕ) (n : ℕ) (s : Reading) (e : DraftFault) → Reached text n rest s
-    → lines_of rest ≡ bytes ∷ lines_of others
-    → ((bs : List ℕ) (one other : Line) → Says bs one → Says bs other → one ≡ other) → Refuses bytes n s e
-    → IsFault text e
+    → lines_of rest ≡ bytes ∷ lines_of others → OneLine → Refuses bytes n s e → IsFault text e
 reached_fault text rest bytes others n s e r next unique h = fault_by text n rest s r bytes others next unique e h
 
 -- At the end
@@ -295,7 +310,7 @@ reached_whole text n bs o r none = record {
 pub reached_open : (text : List ℕ) (n : ℕ) (bs : List BoxDraft) (o : Option OpenBox) → Reached text n [] (reading bs o)
     → (o ≡ None → ⊥) → IsFault text (B1 n)
 reached_open text n bs o r some =
-    inl (bad text n [] (reading bs o) r (λ cs form.
+    inl (bad text n [] (reading bs o) r tt (λ cs form.
     let e : reading bs o ≡ reading cs None =
     same_Some (reading bs o) (reading cs None) (sym r.ran ∙ form_runs r.lines cs form) in
     some (ap (λ (u : Reading). u.current) e)))

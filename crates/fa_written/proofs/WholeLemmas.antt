@@ -8,19 +8,20 @@ use Rattle.fore_base.specs.Lists.{Every, Paired}
 use Rattle.fa_lines.specs.Pieces.{lines_of}
 use Rattle.fa_lines.specs.Says.{Says}
 use Rattle.fa_lines.specs.declared.line.Line.{Line}
+use Rattle.fa_lines.specs.declared.line.Line.TheVariants.{Ends}
 use Rattle.fa_written.specs.declared.draft.BoxDraft.{BoxDraft}
 use Rattle.fa_written.specs.declared.draft.Reading.{Reading}
-use Rattle.fa_written.specs.Drafts.{missing, RefersWithin, Begins, IsText, IsDead, IsBadLine, IsMissingRef, IsFirstBad}
+use Rattle.fa_written.specs.Drafts.{missing, RefersWithin, Begins, IsText, IsDead, ClosesWithin}
+use Rattle.fa_written.specs.Drafts.{IsBadLine, IsMissingRef, IsFirstBad}
 use Rattle.fa_written.specs.Faults.{IsFault, Answers}
 use Rattle.fa_written.specs.declared.fault.DraftFault.{DraftFault}
 use Rattle.fa_written.specs.declared.fault.DraftFault.TheVariants.{B1, Memory}
-use Rattle.fa_written.specs.Forms.{numbered, file_lines, IsForm, IsLive}
-use Rattle.fa_written.specs.inner.Moves.{reading, run}
-use Rattle.fa_written.proofs.Forward.{form_runs, run_joined}
-use Rattle.fa_written.proofs.ReachLemmas.{grew, every_front}
-
-abbrev pub OneLine : Type 0
-OneLine = (bytes : List ℕ) (one other : Line) → Says bytes one → Says bytes other → one ≡ other
+use Rattle.fa_written.specs.Forms.{IsForm, IsLive, Closes}
+use Rattle.fa_written.specs.inner.Moves.{opened, reading, moved, run}
+use Rattle.fa_written.specs.inner.Reached.{first_of, open_missing}
+use Rattle.fa_written.proofs.MoveLemmas.{bound, box_of}
+use Rattle.fa_written.proofs.Forward.{form_runs, live_runs, run_form, run_live, run_joined, run_split, closes_reads}
+use Rattle.fa_written.proofs.ReachLemmas.{OneLine, end_taken, grew, every_front}
 
 -- Lists
 
@@ -66,26 +67,6 @@ as_long (x ∷ xs) (a ∷ ps) p = ap suc (as_long xs ps p.1)
 cons_not : {X : Type 0} (x : X) (xs : List X) → [] ≡ x ∷ xs → ⊥
 cons_not x xs e = let h : 0 ≡ suc (length xs) = ap length e in omega (arith, h)
 
-last_not : {X : Type 0} (x : X) (ys zs : List X) → [] ≡ (ys ++ x ∷ []) ++ zs → ⊥
-last_not x [] zs e = cons_not x zs e
-last_not x (y ∷ ys) zs e = cons_not y ((ys ++ x ∷ []) ++ zs) e
-
-abbrev head_or : {X : Type 0} → X → List X → X
-head_or d [] = d
-head_or d (x ∷ xs) = x
-
-abbrev tail_of : {X : Type 0} → List X → List X
-tail_of [] = []
-tail_of (x ∷ xs) = xs
-
--- the item behind the front of one list is the last of the other, or stands in its front
-last_or_front : {X : Type 0} (P : X → Type 0) (xs ys : List X) (x y : X) (zs : List X) → Every P xs
-    → xs ++ x ∷ [] ≡ (ys ++ y ∷ []) ++ zs → (x ≡ y) ⊎ P y
-last_or_front P [] [] x y zs h e = inl (ap (head_or y) e)
-last_or_front P [] (b ∷ ys) x y zs h e = absurd (last_not y ys zs (ap tail_of e))
-last_or_front P (a ∷ xs) [] x y zs h e = inr (subst P (ap (head_or y) e) h.0)
-last_or_front P (a ∷ xs) (b ∷ ys) x y zs h e = last_or_front P xs ys x y zs h.1 (ap tail_of e)
-
 every_last : {X : Type 0} (P : X → Type 0) (xs : List X) (x : X) → Every P (xs ++ x ∷ []) → P x
 every_last P [] x h = h.0
 every_last P (a ∷ xs) x h = every_last P xs x h.1
@@ -100,13 +81,6 @@ boxes_once : (ls : List Line) (bs cs : List BoxDraft) → IsForm ls bs → IsFor
 boxes_once ls bs cs f g =
     ap (λ (s : Reading). s.boxes)
     (same_Some (reading bs None) (reading cs None) (sym (form_runs ls bs f) ∙ form_runs ls cs g))
-
--- with more lines come more boxes
-boxes_more : (ls ms : List Line) (bs cs : List BoxDraft) → IsForm ls bs → IsForm (ls ++ ms) cs
-    → (new : List BoxDraft) × (cs ≡ bs ++ new)
-boxes_more ls ms bs cs f g =
-    grew ms (reading bs None) (1 + length ls) (reading cs None)
-    (sym (run_joined ls ms (reading [] None) (reading bs None) 1 (form_runs ls bs f)) ∙ form_runs (ls ++ ms) cs g)
 
 live_front : (ps rs : List Line) (r : Line) → IsLive (ps ++ r ∷ rs) → IsLive (ps ++ r ∷ [])
 live_front ps rs r live = (
@@ -190,12 +164,40 @@ bad_not one text bs n t b =
     let k = cut one text bs t b.before b.said in
     dead_not text bs t b.before k.0 k.1 b.dead k.2
 
+-- behind lines that go on with an end, the box that it closes is one of the boxes
+closed_boxes : (ps rs : List Line) (bs : List BoxDraft) (last : BoxDraft) (t : Reading) → Closes ps bs last
+    → run (reading [] None) 1 ((ps ++ Ends ∷ []) ++ rs) ≡ Some t
+    → (n : ℕ) × (new : List BoxDraft) × (t.boxes ≡ (bs ++ box_of (opened last.head last.parts) n ∷ []) ++ new)
+    × (run (reading [] None) 1 (ps ++ Ends ∷ [])
+    ≡ Some (reading (bs ++ box_of (opened last.head last.parts) n ∷ []) None))
+closed_boxes ps rs bs last t c e =
+    let b = opened last.head last.parts in
+    let n = 1 + length ps in
+    let s = reading [] None in
+    let a = run_split (ps ++ Ends ∷ []) rs s 1 t e in
+    let one : run (reading bs (Some b)) n (Ends ∷ []) ≡ Some a.0 =
+    sym (run_joined ps (Ends ∷ []) s (reading bs (Some b)) 1 (closes_reads ps bs last c)) ∙ a.1 in
+    let k = bound (moved (reading bs (Some b)) n Ends) (λ u. run u (suc n) []) a.0 one in
+    let same : a.0 ≡ reading (bs ++ box_of b n ∷ []) None =
+    sym (same_Some k.0 a.0 k.2) ∙ end_taken bs b n k.0 k.1 in
+    let more = grew rs a.0 (1 + length (ps ++ Ends ∷ [])) t a.2 in
+    (n, more.0, more.1 ∙ ap (λ (u : Reading). u.boxes ++ more.0) same, a.1 ∙ ap Some same)
+
+-- an end that closes a box which refers to a component that it does not have is not taken
+not_closed : (ps rs : List Line) (bs : List BoxDraft) (last : BoxDraft) (n : ℕ) (others : List ℕ) (t : Reading)
+    → Closes ps bs last → missing last ≡ n ∷ others → Every RefersWithin t.boxes
+    → run (reading [] None) 1 ((ps ++ Ends ∷ []) ++ rs) ≡ Some t → ⊥
+not_closed ps rs bs last n others t c first refs e =
+    let k = closed_boxes ps rs bs last t c e in
+    let b = box_of (opened last.head last.parts) k.0 in
+    let all = every_front RefersWithin (bs ++ b ∷ []) k.1 (subst (Every RefersWithin) k.2 refs) in
+    missing_not last n others first (every_last RefersWithin bs b all)
+
 missing_ref_not : OneLine → (text : List ℕ) (bs : List BoxDraft) (n : ℕ) → IsText text bs → IsMissingRef text n → ⊥
 missing_ref_not one text bs n t m =
-    let k = cut one text bs t m.lines m.said in
-    let more = boxes_more m.lines k.0 (m.boxes ++ m.last ∷ []) bs m.form (subst (λ ls. IsForm ls bs) k.1 t.form) in
-    let all = every_front RefersWithin (m.boxes ++ m.last ∷ []) more.0 (subst (Every RefersWithin) more.1 t.refs) in
-    missing_not m.last n m.others m.first (every_last RefersWithin m.boxes m.last all)
+    let k = cut one text bs t (m.before ++ Ends ∷ []) m.said in
+    not_closed m.before k.0 m.boxes m.last n m.others (reading bs None) m.closes m.first t.refs
+    (ap (run (reading [] None) 1) (sym k.1) ∙ form_runs t.lines bs t.form)
 
 pub text_not_bad : OneLine → (text : List ℕ) (bs : List BoxDraft) (n : ℕ) → IsText text bs → IsFirstBad text n → ⊥
 text_not_bad one text bs n t (inl b) = bad_not one text bs n t b
@@ -213,43 +215,99 @@ two_bad one text m n a b =
     two_bad_by (inr h) (inl k) = absurd (not_longer one text n b a.before a.said a.live k)
     two_bad_by (inr h) (inr k) = omega (arith, h, k, a.place, b.place)
 
+-- the next line says this
+abbrev NextSays : List (List ℕ) → Line → Type 0
+NextSays [] line = ⊥
+NextSays (bytes ∷ rest) line = Says bytes line
+
+begins_split : (xs : List (List ℕ)) (ps : List Line) (l : Line)
+    → Paired Says (take (length (ps ++ l ∷ [])) xs) (ps ++ l ∷ [])
+    → Paired Says (take (length ps) xs) ps × NextSays (drop (length ps) xs) l
+begins_split [] [] l p = absurd p
+begins_split [] (a ∷ ps) l p = absurd p
+begins_split (x ∷ xs) [] l p = (tt, p.0)
+begins_split (x ∷ xs) (a ∷ ps) l p =
+    let k = begins_split xs ps l p.1 in ((p.0, k.0), k.1)
+
+-- beginnings of one length are one
+begin_alike : OneLine → (xs : List (List ℕ)) (ps qs : List Line) → Paired Says (take (length ps) xs) ps
+    → Paired Says (take (length qs) xs) qs → length ps ≤ length qs → length qs ≤ length ps → qs ≡ ps
+begin_alike one xs ps qs p q le ge =
+    let k = longer_by one xs ps qs p q le in
+    let none = none_left ps k.0 (subst (λ ls. length ls ≤ length ps) k.1 ge) in
+    k.1 ∙ ap (λ rs. ps ++ rs) none ∙ append-nil ps
+
+closed_here : (pre : List Line) (ds : List (List ℕ)) (bs : List BoxDraft) (last : BoxDraft) → ClosesWithin pre ds
+    → NextSays ds Ends → Closes pre bs last → RefersWithin last
+closed_here pre [] bs last c next k = absurd next
+closed_here pre (d ∷ ds) bs last c next k = c next bs last k
+
+-- the lines in front of the end that closes the box
+front_said : (text : List ℕ) (n : ℕ) (b : IsMissingRef text n) → Begins text b.before
+front_said text n b = (begins_split (lines_of text) b.before Ends b.said).0
+
+one_longer : (ps : List Line) (k : ℕ) → length ps < k → length (ps ++ Ends ∷ []) ≤ k
+one_longer ps k lt = omega (arith, lt, length-append ps (Ends ∷ []))
+
 bad_and_missing : OneLine → (text : List ℕ) (m n : ℕ) → IsBadLine text m → IsMissingRef text n → ⊥
-bad_and_missing one text m n a b = by (cases_lt (length a.before) (length b.lines))
+bad_and_missing one text m n a b =
+    by (cases_lt (length a.before) (length b.before)) (cases_lt (length b.before) (length a.before))
   where
-    all : List BoxDraft
-    all = b.boxes ++ b.last ∷ []
+    open_at : Reading
+    open_at = reading b.boxes (Some (opened b.last.head b.last.parts))
 
-    by : (length a.before < length b.lines) ⊎ (length b.lines ≤ length a.before) → ⊥
-    by (inl h) = not_longer one text m a b.lines b.said (form_live b.lines all b.form) h
-    by (inr h) =
-        let k = longer_by one (lines_of text) b.lines a.before b.said a.said h in
-        let front : take (length b.lines) a.before ≡ b.lines =
-        ap (λ ls. take (length b.lines) ls) k.1 ∙ front_of b.lines k.0 in
-        let refs = a.refs (length b.lines) all (subst (λ ls. IsForm ls all) (sym front) b.form) in
-        missing_not b.last n b.others b.first (every_last RefersWithin b.boxes b.last refs)
+    -- the lines before the bad line go on behind the end
+    behind_end : length b.before < length a.before → ⊥
+    behind_end lt =
+        let ps = b.before ++ Ends ∷ [] in
+        let k = longer_by one (lines_of text) ps a.before b.said a.said (one_longer b.before (length a.before) lt) in
+        let u = live_runs a.before a.live in
+        let c = closed_boxes b.before k.0 b.boxes b.last u.0 b.closes (ap (run (reading [] None) 1) (sym k.1) ∙ u.1) in
+        let box = box_of (opened b.last.head b.last.parts) c.0 in
+        let front : take (length ps) a.before ≡ ps = ap (λ ls. take (length ps) ls) k.1 ∙ front_of ps k.0 in
+        let form = run_form ps (b.boxes ++ box ∷ []) c.3 in
+        let refs = a.refs (length ps) (b.boxes ++ box ∷ []) (subst (λ ls. IsForm ls (b.boxes ++ box ∷ [])) (sym front) form) in
+        missing_not b.last n b.others b.first (every_last RefersWithin b.boxes box refs)
 
-abbrev Alike : BoxDraft → BoxDraft → Type 0
-Alike b c = (b ≡ c) ⊎ RefersWithin c
-
-first_alike : (b c : BoxDraft) (m n : ℕ) (ms ns : List ℕ) → missing c ≡ m ∷ ms → missing b ≡ n ∷ ns → Alike b c → m ≡ n
-first_alike b c m n ms ns e f (inl same) = ap (head_or m) (sym e ∙ ap missing (sym same) ∙ f)
-first_alike b c m n ms ns e f (inr none) = absurd (missing_not c m ms e none)
-
-two_missing_by : OneLine → (text : List ℕ) (m n : ℕ) (a : IsMissingRef text m) (b : IsMissingRef text n)
-    → length a.lines ≤ length b.lines → m ≡ n
-two_missing_by one text m n a b le =
-    let k = longer_by one (lines_of text) a.lines b.lines a.said b.said le in
-    let more = boxes_more a.lines k.0 (a.boxes ++ a.last ∷ []) (b.boxes ++ b.last ∷ []) a.form
-    (subst (λ ls. IsForm ls (b.boxes ++ b.last ∷ [])) k.1 b.form) in
-    first_alike b.last a.last m n a.others b.others a.first b.first
-    (last_or_front RefersWithin b.boxes a.boxes b.last a.last more.0 b.refs more.1)
+    by : (length a.before < length b.before) ⊎ (length b.before ≤ length a.before)
+        → (length b.before < length a.before) ⊎ (length a.before ≤ length b.before) → ⊥
+    by (inl h) k =
+        not_longer one text m a b.before (front_said text n b)
+        (run_live b.before open_at (closes_reads b.before b.boxes b.last b.closes)) h
+    by (inr h) (inl k) = behind_end k
+    by (inr h) (inr k) =
+        let same = begin_alike one (lines_of text) b.before a.before (front_said text n b) a.said h k in
+        let next = (begins_split (lines_of text) b.before Ends b.said).1 in
+        let closed = subst (λ ls. ClosesWithin ls (drop (length ls) (lines_of text))) same a.closed in
+        missing_not b.last n b.others b.first
+        (closed_here b.before (drop (length b.before) (lines_of text)) b.boxes b.last closed next b.closes)
 
 two_missing : OneLine → (text : List ℕ) (m n : ℕ) → IsMissingRef text m → IsMissingRef text n → m ≡ n
-two_missing one text m n a b = by (cases_lt (length b.lines) (length a.lines))
+two_missing one text m n a b =
+    by (cases_lt (length a.before) (length b.before)) (cases_lt (length b.before) (length a.before))
   where
-    by : (length b.lines < length a.lines) ⊎ (length a.lines ≤ length b.lines) → m ≡ n
-    by (inl h) = sym (two_missing_by one text n m b a (let k : length b.lines ≤ length a.lines = omega (arith, h) in k))
-    by (inr h) = two_missing_by one text m n a b h
+    -- a box that one end closes before the other
+    earlier : (k l : ℕ) (c : IsMissingRef text k) (d : IsMissingRef text l) → length c.before < length d.before → ⊥
+    earlier k l c d lt =
+        let ps = c.before ++ Ends ∷ [] in
+        let e = longer_by one (lines_of text) ps d.before c.said (front_said text l d)
+        (one_longer c.before (length d.before) lt) in
+        not_closed c.before e.0 c.boxes c.last k c.others (reading d.boxes (Some (opened d.last.head d.last.parts)))
+        c.closes c.first d.refs
+        (ap (run (reading [] None) 1) (sym e.1) ∙ closes_reads d.before d.boxes d.last d.closes)
+
+    by : (length a.before < length b.before) ⊎ (length b.before ≤ length a.before)
+        → (length b.before < length a.before) ⊎ (length a.before ≤ length b.before) → m ≡ n
+    by (inl h) k = absurd (earlier m n a b h)
+    by (inr h) (inl k) = absurd (earlier n m b a k)
+    by (inr h) (inr k) =
+        let same = begin_alike one (lines_of text) b.before a.before (front_said text n b) (front_said text m a) h k in
+        let s = reading a.boxes (Some (opened a.last.head a.last.parts)) in
+        let t = reading b.boxes (Some (opened b.last.head b.last.parts)) in
+        let read : s ≡ t =
+        same_Some s t (sym (closes_reads a.before a.boxes a.last a.closes) ∙ ap (run (reading [] None) 1) same
+        ∙ closes_reads b.before b.boxes b.last b.closes) in
+        same_Some m n (sym (ap first_of a.first) ∙ ap (λ (u : Reading). open_missing u.current) read ∙ ap first_of b.first)
 
 pub one_first : OneLine → (text : List ℕ) (m n : ℕ) → IsFirstBad text m → IsFirstBad text n → m ≡ n
 one_first one text m n (inl a) (inl b) = two_bad one text m n a b

@@ -64,3 +64,7 @@ IsForm lines bs = (numbered 1 lines ≡ file_lines bs) × Every HasPorts bs
 -- the lines begin a file of boxes
 abbrev pub IsLive : List Line → Type 0
 IsLive lines = (more : List Line) × (bs : List BoxDraft) × IsForm (lines ++ more) bs
+
+-- with an end behind them the lines are those of these boxes and of one more, which may lack ports
+abbrev pub Closes : List Line → List BoxDraft → BoxDraft → Type 0
+Closes lines bs last = (numbered 1 (lines ++ Ends ∷ []) ≡ file_lines (bs ++ last ∷ [])) × Every HasPorts bs

@@ -1,10 +1,10 @@
 // The boxes of a text, as they are written.
 ghost use Rattle.std.specs.Prelude.{◌≡◌, ◌≤◌, ◌+◌, ◌⊎◌, [], ℕ, true, None};
-ghost use Rattle.std.specs.Prelude.{Some, Ok, Err, length, IfOk, IfErr, IsTrue, List, ◌↔◌};
+ghost use Rattle.std.specs.Prelude.{Some, Ok, Err, length, IfOk, IfErr, OnOk, IsTrue, List, ◌↔◌};
 ghost use Rattle.fa_lines.specs.Says.{Says};
 ghost use Rattle.fa_written.specs.Drafts.{IsText, IsFirstBad};
 ghost use Rattle.fa_written.specs.Faults.{IsFault, Answers};
-ghost use Rattle.fa_written.specs.inner.Reached.{Took, Refuses, Reached, last_missing, is_end};
+ghost use Rattle.fa_written.specs.inner.Reached.{EndsWithin, Took, Refuses, Reached, open_missing, is_end};
 
 use crate::draft::{BoxDraft, OpenBox, Reading};
 use crate::fault::DraftFault;
@@ -29,29 +29,18 @@ fn ends(line: &Line) -> bool
     }
 }
 
-/// The line of the first rule of the last box that refers to a component that the box does not have.
-fn missing_last(boxes: &[BoxDraft]) -> Option<u32>
-    ensures { result ≡ last_missing boxes.now }
+/// Whether a box that the line ends refers to components that it has.
+fn check_open(line: &Line, reading: &Reading) -> Result<(), DraftFault>
+    ensures refs { OnOk result (EndsWithin line.now reading.now) }
+    ensures err { IfErr result (λ e. (is_end line.now ≡ true) × (n : ℕ) × (e ≡ DraftFault.B1 n)
+        × (open_missing reading.now.current ≡ Some n)) }
 {
-    match boxes.last() {
-        Some(last) => missing(last),
-        None => None,
+    if !ends(line) {
+        return Ok(());
     }
-}
-
-/// What was read, where the box that ended last refers to components that it has.
-fn check_last(ended: bool, reading: Reading) -> Result<Reading, DraftFault>
-    ensures same { IfOk result (λ next. next ≡ reading) }
-    ensures refs { IfOk result (λ _. ended ≡ true → last_missing reading.boxes ≡ None) }
-    ensures err { IfErr result (λ e. (ended ≡ true) × (n : ℕ) × (e ≡ DraftFault.B1 n)
-        × (last_missing reading.boxes ≡ Some n)) }
-{
-    if !ended {
-        return Ok(reading);
-    }
-    match missing_last(reading.boxes.as_slice()) {
+    match missing(&reading.current) {
         Some(line) => Err(DraftFault::B1 { line }),
-        None => Ok(reading),
+        None => Ok(()),
     }
 }
 
@@ -68,9 +57,9 @@ fn take_said(
     ensures ok { IfOk result (Took bytes.now number reading) }
     ensures err { IfErr result (Refuses bytes.now number reading) }
 {
-    let ended = ends(&line);
+    check_open(&line, &reading)?;
     match moved(alloc, reading, number, line) {
-        Ok(next) => check_last(ended, next),
+        Ok(next) => Ok(next),
         Err(Unfit::Other) => Err(DraftFault::B1 { line: number }),
         Err(Unfit::Memory) => Err(DraftFault::Memory),
     }
@@ -161,7 +150,7 @@ fn read_whole(alloc: Global, text: &[u8]) -> Result<List<BoxDraft>, DraftFault>
 ///
 /// `DraftFault::B1` with the first line that is in the way: one with which no file of boxes is begun, where the text
 /// ends too early the line behind the last, or a reference to a component that its box does not have, which is known
-/// where the box ends. `DraftFault::Memory` for want of memory.
+/// at the line that says that the box ends, also where ports are missing there. `DraftFault::Memory` for want of memory.
 pub fn read_drafts(alloc: Global, text: &[u8]) -> Result<List<BoxDraft>, DraftFault>
     requires { length text.now ≤ TEXT_BYTES }
     ensures ok { IfOk result (IsText text.now) }

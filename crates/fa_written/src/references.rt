@@ -1,9 +1,9 @@
 // References to components that a box does not have.
 ghost use Rattle.std.specs.Prelude.{◌≡◌, length};
 ghost use Rattle.fa_written.specs.Drafts as spec;
-ghost use Rattle.fa_written.specs.inner.Reached.{first_of};
+ghost use Rattle.fa_written.specs.inner.Reached.{first_of, open_missing};
 
-use crate::draft::{BoxDraft, PartDraft, RuleDraft};
+use crate::draft::{OpenBox, PartDraft, RuleDraft};
 use fa_lines::line::Term;
 
 fn missing_in(count: usize, line: u32, term: &Term) -> Option<u32>
@@ -45,9 +45,12 @@ fn missing_parts(count: usize, parts: &[PartDraft]) -> Option<u32>
     None
 }
 
-/// The line of the first rule that refers to a component that the box does not have.
-pub fn missing(draft: &BoxDraft) -> Option<u32>
-    ensures { result ≡ first_of (spec.missing draft.now) }
+/// The line of the first rule of the open box that refers to a component that the box does not have.
+pub fn missing(current: &Option<OpenBox>) -> Option<u32>
+    ensures { result ≡ open_missing current.now }
 {
-    missing_parts(draft.parts.len(), draft.parts.as_slice())
+    match current {
+        Some(open) => missing_parts(open.parts.len(), open.parts.as_slice()),
+        None => None,
+    }
 }

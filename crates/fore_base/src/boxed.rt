@@ -71,19 +71,3 @@ impl<T: Copies> Copies for Boxed<T> {
         Boxed::new(alloc, item)
     }
 }
-
-#[cfg(test)]
-mod tests {
-    use super::*;
-    use std::test::Fail;
-
-    #[test]
-    fn what_goes_in_comes_out(rt: HostRuntime) -> Result<(), Fail> {
-        let boxed = Boxed::new(rt.alloc(), 7u32)?;
-        let other = boxed.copy(rt.alloc())?;
-        assert!(rt; boxed == other);
-        assert_eq!(rt; *boxed.get(), 7);
-        assert_eq!(rt; other.into_inner(), 7);
-        Ok(())
-    }
-}

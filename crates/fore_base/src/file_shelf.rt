@@ -110,8 +110,12 @@ fn read_path<R: Files>(
     }
 }
 
-// What a reader has left, where that is no more than the limit. One byte more is read at most.
-fn read_within<R: Read + Drop>(
+/// What a reader has left, where that is no more than the limit. One byte more is read at most.
+///
+/// # Errors
+///
+/// `Failed` where the reader fails. `TooLong` where it has more than `limit` bytes left. `Memory` for want of memory.
+pub fn read_within<R: Read + Drop>(
     reader: R,
     alloc: Global,
     limit: usize,
@@ -137,86 +141,5 @@ fn fault_of(error: &io::Error) -> ShelfFault
         ShelfFault::Memory
     } else {
         ShelfFault::Failed
-    }
-}
-
-#[cfg(test)]
-mod tests {
-    use super::*;
-    use std::test::Fail;
-
-    fn read<'a>(answer: &'a Result<List<u8>, ShelfFault>) -> Result<&'a [u8], ShelfFault> {
-        match answer {
-            Ok(bytes) => Ok(bytes.as_slice()),
-            Err(fault) => Err(*fault),
-        }
-    }
-
-    // path, limit, answer, count of faults afterwards
-    const CALLS: [(&str, usize, Result<&[u8], ShelfFault>, u64); 7] = [
-        // eight bytes are within a limit of eight, and of more
-        ("shelf_eight.c", 8, Ok(b"int x=1;"), 0),
-        ("shelf_eight.c", 1048576, Ok(b"int x=1;"), 0),
-        // and one too many for seven
-        ("shelf_eight.c", 7, Err(ShelfFault::TooLong), 0),
-        // it is not there
-        ("shelf_missing.c", 8, Err(ShelfFault::Failed), 1),
-        // a directory has no bytes to be read
-        ("shelf_folder", 8, Err(ShelfFault::Failed), 2),
-        // an empty file is within a limit of nothing, and one with bytes is not
-        ("shelf_empty.c", 0, Ok(b""), 2),
-        ("shelf_eight.c", 0, Err(ShelfFault::TooLong), 2),
-    ];
-
-    #[test]
-    fn real_files_are_read_whole_or_refused(rt: HostRuntime) -> Result<(), Fail> {
-        fs::write(&rt, "shelf_eight.c", "int x=1;")?;
-        fs::write(&rt, "shelf_empty.c", "")?;
-        fs::create_dir(&rt, "shelf_folder")?;
-        let mut shelf = FileShelf::new(rt.alloc(), &rt);
-        for (path, limit, wanted, faults) in CALLS {
-            let answer = shelf.read_all(rt.alloc(), path, limit);
-            assert_eq!(rt; read(&answer), wanted, "{path} within {limit}");
-            assert_eq!(rt; shelf.faults(), faults, "{path} within {limit}");
-        }
-        fs::remove_file(&rt, "shelf_eight.c")?;
-        fs::remove_file(&rt, "shelf_empty.c")?;
-        fs::remove_dir(&rt, "shelf_folder")?;
-        Ok(())
-    }
-
-    // A reader without end, which gives three bytes in a call at most and counts them. A signal comes before the first.
-    #[derive(Drop)]
-    struct Endless {
-        interrupted: bool,
-        given: usize,
-    }
-
-    impl Read for Endless {
-        fn read(&mut self, into: &mut [u8]) -> io::Result<usize> {
-            if !self.interrupted {
-                self.interrupted = true;
-                return Err(io::Error::from(io::ErrorKind::Interrupted));
-            }
-            let count = into.len().min(3);
-            self.given = self.given.saturating_add(count);
-            Ok(count)
-        }
-    }
-
-    // a limit, and how many bytes show that it is passed
-    const LIMITS: [(usize, usize); 4] = [(0, 1), (1, 2), (5, 6), (1000, 1001)];
-
-    #[test]
-    fn one_byte_above_the_limit_is_taken_and_no_more(rt: HostRuntime) {
-        for (limit, taken) in LIMITS {
-            let mut endless = Endless {
-                interrupted: false,
-                given: 0,
-            };
-            let answer = read_within(&mut endless, rt.alloc(), limit);
-            assert_eq!(rt; read(&answer), Err(ShelfFault::TooLong), "limit {limit}");
-            assert_eq!(rt; endless.given, taken, "limit {limit}");
-        }
     }
 }

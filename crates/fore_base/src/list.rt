@@ -272,24 +272,3 @@ impl Copies for usize {
         Ok(*self)
     }
 }
-
-#[cfg(test)]
-mod tests {
-    use super::*;
-    use std::test::Fail;
-
-    #[test]
-    fn items_are_changed_where_they_stand(rt: HostRuntime) -> Result<(), Fail> {
-        let mut list = List::from_slice(rt.alloc(), &[5u32, 6, 7])?;
-        list.append(List::filled(rt.alloc(), 8, 2)?)?;
-        list.set_within(0, 4);
-        // the list ends before it
-        list.set_within(5, 9);
-        assert_eq!(rt; list.as_slice(), [4u32, 6, 7, 8, 8].as_slice());
-        assert_eq!(rt; list.pop(), Some(8));
-        assert_eq!(rt; list.get_or(3, 0), 8);
-        assert_eq!(rt; list.get_or(4, 0), 0);
-        assert!(rt; list == list.copy(rt.alloc())?);
-        Ok(())
-    }
-}

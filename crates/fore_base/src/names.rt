@@ -106,26 +106,3 @@ impl Names {
         Ok(number)
     }
 }
-
-#[cfg(test)]
-mod tests {
-    use super::*;
-    use std::test::Fail;
-
-    // `a` comes first and `b` second; `a` again adds nothing.
-    const TEXTS: [(&[u8], u32); 3] = [(b"a", 0), (b"b", 1), (b"a", 0)];
-
-    #[test]
-    fn a_text_keeps_its_first_number(rt: HostRuntime) -> Result<(), Fail> {
-        let mut names = Names::new(rt.alloc());
-        for (text, want) in TEXTS {
-            assert!(rt; names.len() < 4294967295);
-            assert_eq!(rt; names.number(text)?, want);
-        }
-        assert_eq!(rt; names.len(), 2);
-        assert_eq!(rt; names.find(b"b"), Some(1));
-        // `c` never came
-        assert_eq!(rt; names.find(b"c"), None);
-        Ok(())
-    }
-}

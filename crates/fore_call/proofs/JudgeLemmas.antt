@@ -1,69 +1,103 @@
--- What is right for the bytes is right for the words.
-use Rattle.std.proofs.Common.{◌≡◌, ◌⊎◌, inl, inr, List, ℕ}
+-- What is right for one file after another is right for what is asked, and what is right for that for the words.
+use Rattle.std.proofs.Common.{◌≤◌, ◌⊎◌, inl, inr, List, [], ◌∷◌, ◌++◌, ℕ, Some, sym, ◌∙◌, ap, subst, refl, arith}
+use Rattle.std.proofs.lemmas.List.{append_assoc}
+use Rattle.fore_base.specs.NamedFiles.{reading}
+use Rattle.fore_base.specs.Outside.{Rose}
+use Rattle.fore_base.specs.declared.named_files.NamedFile.{NamedFile}
 use Rattle.c_types.specs.Program.{Program}
-use Rattle.c_front.specs.Files as files
-use Rattle.c_front.specs.Files.{IsProgramOf}
-use Rattle.c_front.specs.declared.broken.FileFault.{FileFault}
-use Rattle.c_front.specs.declared.broken.FileFault.TheVariants as front
+use Rattle.fore_read.specs.Readings.{ShelfView, Reading, AreReadings, AreAtMost, ReadsAtMost}
+use Rattle.fore_read.specs.Files.{GivesProgram, AreRefusedBoxes}
+use Rattle.fore_words.specs.declared.asked.Settings.{Settings}
+use Rattle.fore_words.specs.declared.asked.Asked.{Asked}
+use Rattle.fore_words.specs.declared.asked.Asked.TheVariants.{Verify}
+use Rattle.fore_words.specs.Words.{IsAsked}
 use Rattle.fore_call.specs.declared.answer.Answer.{Answer}
 use Rattle.fore_call.specs.declared.answer.Answer.TheVariants.{Verified, Ran, Usage, Refused, ReadFault, NoMemory}
-use Rattle.fore_call.specs.declared.answer.Refusal.TheVariants.{TooLong, Breaks}
-use Rattle.fore_call.specs.declared.words.Task.{Task}
-use Rattle.fore_call.specs.declared.words.Task.TheVariants.{Verify, Run}
-use Rattle.fore_call.specs.Calls.{Reading, Request, ReadNothing, ReadOnce}
-use Rattle.fore_call.specs.Words.{IsAsked, Names}
-use Rattle.fore_call.specs.Verdict.{IsRead, IsRight, IsRightFor, ReadsOnly}
-use Rattle.fore_call.specs.inner.Judging.{ReadAtMostOnce, JudgesProgram, JudgesBytes, answer_to}
+use Rattle.fore_call.specs.Calls.{Request}
+use Rattle.fore_call.specs.Names.{LetsRead}
+use Rattle.fore_call.specs.Verdict.{IsRight, IsRightFor, ReadsOnly, AreUnused}
+use Rattle.fore_call.specs.inner.Judging.{IsBoxesAnswer, ReadsFor}
 
--- a program's answer is that of the bytes that are its text
-module _ (bytes : List ℕ) (p : Program) (is : IsProgramOf bytes p) where
-  pub bytes_from_program : (t : Task) (a : Answer) → JudgesProgram p a t → JudgesBytes bytes a t
-  bytes_from_program t (Verified verdict text) h = (p, is, h)
-  bytes_from_program t (Ran outcome) h = (p, is, h)
-  bytes_from_program (Verify settings) Usage h = absurd h
-  bytes_from_program (Run choices steps) Usage h = absurd h
-  bytes_from_program (Verify settings) (Refused why) h = absurd h
-  bytes_from_program (Run choices steps) (Refused why) h = absurd h
-  bytes_from_program (Verify settings) ReadFault h = absurd h
-  bytes_from_program (Run choices steps) ReadFault h = absurd h
-  bytes_from_program (Verify settings) NoMemory h = absurd h
-  bytes_from_program (Run choices steps) NoMemory h = absurd h
+-- A file, and then a file of boxes
 
--- what the bytes break is answered by it
-pub judges_fault : (bytes : List ℕ) (t : Task) (e : FileFault) → files.IsFault bytes e
-    → JudgesBytes bytes (answer_to e) t
-judges_fault bytes t (front.Breaks b) h = h
-judges_fault bytes t front.Memory h = tt
+-- from one moment to another
+abbrev from : ShelfView → ShelfView → Reading
+from old new = record { before = old; after = new }
 
--- what is right for the bytes that were read is right for the path
-module _ (r : Reading) (path bytes : List ℕ) (read : IsRead r path bytes) where
-  pub right_from_bytes : (t : Task) (a : Answer) → JudgesBytes bytes a t → IsRightFor r path a t
-  right_from_bytes (Verify settings) (Verified verdict text) h = (bytes, read, h.0, h.1, h.2)
-  right_from_bytes (Run choices steps) (Verified verdict text) h = absurd h.2
-  right_from_bytes (Verify settings) (Ran outcome) h = absurd h.2
-  right_from_bytes (Run choices steps) (Ran outcome) h = (bytes, read, h.0, h.1, h.2)
-  right_from_bytes t Usage h = absurd h
-  right_from_bytes t (Refused TooLong) h = absurd h
-  right_from_bytes t (Refused (Breaks b)) h = (bytes, read, h)
-  right_from_bytes t ReadFault h = absurd h
-  right_from_bytes t NoMemory h = h
+-- the readings of both, behind one another
+both_given : (old mid new : ShelfView) (file : NamedFile) (done : List NamedFile)
+    → AreReadings (from old mid) (file ∷ []) → AreReadings (from mid new) done
+    → AreReadings (from old new) (file ∷ done)
+both_given old mid new file [] one two = two ∙ one
+both_given old mid new file (other ∷ others) one two =
+    two ∙ ap (λ given. given ++ other ∷ others) one ∙ append_assoc old.given (file ∷ []) (other ∷ others)
 
--- an answer that is right for the file that the words name is right
-module _ (r : Request) (path : List ℕ) (t : Task) (asked : IsAsked r.words path t) where
-  pub right_for_file : (a : Answer) → IsRightFor r.reading path a t → IsRight r a
-  right_for_file (Verified verdict text) h = (path, t, asked, h)
-  right_for_file (Ran outcome) h = (path, t, asked, h)
-  right_for_file Usage h = absurd h
-  right_for_file (Refused why) h = (path, t, asked, h)
-  right_for_file ReadFault h = (path, t, asked, h)
-  right_for_file NoMemory h = (path, t, asked, h)
+-- a count that rose after it did not fall rose
+rose_later : (a b c : ℕ) → a ≤ b → Rose b c → Rose a c
+rose_later a b c less (inl rose) = inl (omega (arith, less, rose))
+rose_later a b c less (inr top) = inr top
 
-  -- and what was read is of that file
-  pub reads_file : ReadAtMostOnce r.reading path → ((p : List ℕ) → r.reading.after.holds p ≡ r.reading.before.holds p)
-      → ReadsOnly r
-  reads_file once kept = record { reads = of_file once; kept = kept }
-    where
-      of_file : ReadAtMostOnce r.reading path
-          → ReadNothing r.reading ⊎ ((p bytes : List ℕ) × Names r.words p × ReadOnce r.reading p bytes)
-      of_file (inl none) = inl none
-      of_file (inr one) = inr (path, one.0, (t, asked), one.1)
+module _ (old mid new : ShelfView) (path : List ℕ) (p : Program) (gives : GivesProgram (from old mid) path [] p)
+    (reads : ReadsAtMost (from old mid) path) (boxes : List ℕ) (settings : Settings) where
+  file_of_both : (done : List NamedFile) → AreReadings (from mid new) done → GivesProgram (from old new) path done p
+  file_of_both done given = record {
+    bytes = gives.bytes;
+    given = both_given old mid new (reading path gives.bytes) done gives.given given;
+    read = gives.read;
+    is = gives.is;
+  }
+
+  -- what is right for the file of boxes is right for both
+  pub right_for_both : (a : Answer) → IsBoxesAnswer (from mid new) boxes p.shapes a
+      → IsRightFor (from old new) (Verify path (Some boxes) settings) a
+  right_for_both (Verified verdict text) h = absurd h
+  right_for_both (Ran outcome) h = absurd h
+  right_for_both Usage h = absurd h
+  right_for_both (Refused why) h = inr (
+    p,
+    h.0,
+    file_of_both h.0 h.1,
+    subst (λ told. AreRefusedBoxes told boxes p.shapes h.0 why ⊎ AreUnused told boxes p.shapes h.0 why)
+        (reads.holds boxes) h.2,
+  )
+  right_for_both ReadFault h = inr (
+    p,
+    file_of_both [] h.0,
+    rose_later (old.faults boxes) (mid.faults boxes) (new.faults boxes) (reads.never_falls boxes) h.1,
+  )
+  right_for_both NoMemory h = tt
+
+  abbrev both : Asked
+  both = Verify path (Some boxes) settings
+
+  lets_both : (done : List NamedFile) → AreAtMost boxes done → LetsRead both (reading path gives.bytes ∷ done)
+  lets_both [] most = refl
+  lets_both (file ∷ []) most = (refl, ap Some (sym most))
+  lets_both (file ∷ other ∷ others) most = absurd most
+
+  pub reads_both : ReadsAtMost (from mid new) boxes → ReadsFor (from old new) both
+  reads_both h = record {
+    done = reading path gives.bytes ∷ h.done;
+    given = both_given old mid new (reading path gives.bytes) h.done gives.given h.given;
+    let_come = lets_both h.done h.at_most;
+    holds = λ q. h.holds q ∙ reads.holds q;
+  }
+
+-- What is right for what the words ask is right for the words
+
+module _ (r : Request) (asked : Asked) (is : IsAsked r.words asked) where
+  pub right_for_words : (a : Answer) → IsRightFor r.reading asked a → IsRight r a
+  right_for_words (Verified verdict text) h = (asked, is, h)
+  right_for_words (Ran outcome) h = (asked, is, h)
+  right_for_words Usage h = absurd h
+  right_for_words (Refused why) h = (asked, is, h)
+  right_for_words ReadFault h = (asked, is, h)
+  right_for_words NoMemory h = tt
+
+  pub reads_for_words : ReadsFor r.reading asked → ReadsOnly r
+  reads_for_words h = record {
+    done = h.done;
+    reads = h.given;
+    let_come = inr (asked, is, h.let_come);
+    kept = h.holds;
+  }

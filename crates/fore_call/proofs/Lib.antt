@@ -1,4 +1,3 @@
 pub mod JudgeLemmas
 mod Rows
 pub mod TopLemmas
-pub mod WordLemmas

@@ -25,237 +25,108 @@ use Rattle.std.proofs.Common.{
 use Rattle.std.specs.Fmt.{digits}
 use Rattle.fore_base.specs.NamedFiles.{reading}
 use Rattle.fore_base.specs.declared.named_files.NamedFile.{NamedFile}
-use Rattle.c_cfg.specs.Graphs.{ControlGraph}
+use Rattle.fore_base.specs.declared.shape.Shapes.{Shapes}
 use Rattle.c_types.specs.Program.{Program}
-use Rattle.fore_base.specs.declared.fault.Fault.TheVariants.{
-  NullDeref,
-  UninitDeref,
-  DanglingDeref,
-  InvalidFree,
-  DoubleFree,
-  Leak,
-  Assertion,
-  IndetTest,
-}
 use Rattle.c_types.specs.declared.outcome.Outcome.TheVariants.{Ended, Fault, Starved, BadChoice, StillRunning}
+use Rattle.fore_base.specs.declared.fault.Fault.TheVariants.{NullDeref, Leak}
 use Rattle.c_front.specs.declared.broken.Letter.{Letter}
 use Rattle.c_front.specs.declared.broken.Letter.TheVariants.{Lexical, Profile, Syntax, Typing, Limit}
-use Rattle.fix_core.specs.declared.explored.AbsTrace.{AbsTrace}
-use Rattle.fix_core.specs.declared.explored.Explored.TheVariants.{Closed, Faulty, Spent}
-use Rattle.fix_core.specs.declared.nodes.Node.{Node}
-use Rattle.fore_call.specs.declared.answer.Refusal.TheVariants.{TooLong, Breaks}
+use Rattle.fa_core.specs.Boxes.{Boxes}
+use Rattle.fore_read.specs.declared.fault.Refusal.TheVariants.{
+  TooLong,
+  Breaks,
+  NoGen,
+  BoxesTooLong,
+  BoxRule,
+  BoxLimit,
+  NoBoxes,
+}
+use Rattle.fore_read.specs.Readings.{ShelfView, Reading}
+use Rattle.fore_read.specs.Files.{GivesProgram, IsTableFile}
+use Rattle.fore_report.specs.declared.verdict.Verdict.TheVariants.{Safe, Unsafe, Unknown}
+use Rattle.fore_words.specs.declared.asked.Settings.{Settings}
+use Rattle.fore_words.specs.declared.asked.Kind.TheVariants.{ListPhases}
+use Rattle.fore_words.specs.declared.asked.Asked.{Asked}
+use Rattle.fore_words.specs.declared.asked.Asked.TheVariants.{Verify, Run, Gen}
+use Rattle.fore_words.specs.Words.{IsAsked, AsksNothing}
 use Rattle.fore_call.specs.declared.answer.Answer.{Answer}
 use Rattle.fore_call.specs.declared.answer.Answer.TheVariants.{Verified, Ran, Usage, Refused, ReadFault, NoMemory}
-use Rattle.fore_call.specs.declared.answer.Verdict.TheVariants.{Safe, Unsafe, Unknown}
-use Rattle.fore_call.specs.declared.words.Settings.{Settings}
-use Rattle.fore_call.specs.declared.words.Task.TheVariants.{Verify, Run}
-use Rattle.fore_call.specs.Calls.{ShelfView, Reading, Request, Writing, Call}
-use Rattle.fore_call.specs.Words.{IsNoOption, IsNumber, IsChoices, IsTask, IsAsked, AsksNothing}
-use Rattle.fore_call.specs.Texts.{
-  fault_text,
-  fault_line,
-  ended_line,
-  numbered_line,
-  choices_line,
-  spaced,
-  safe_text,
-  unsafe_text,
-  budget_text,
-  trace_text,
-  out_text,
-  notes_text,
-  status_of,
-}
+use Rattle.fore_call.specs.Calls.{Request, Writing, Call}
+use Rattle.fore_call.specs.Names.{file_of, boxes_of, LetsRead, LetRead, Names}
+use Rattle.fore_call.specs.Texts.{out_text, notes_text, status_of}
 use Rattle.fore_call.specs.Delivery.{IsUntouched, Wrote, IsCut, IsCutShort}
-use Rattle.fore_call.specs.Promises.{IsResult, Answers}
-use Rattle.fore_call.specs.Reports.{IsReportOf}
-use Rattle.fore_call.specs.Verdict.{IsRead, IsRightFor, IsRight, ReadsOnly, NothingFailed}
+use Rattle.fore_call.specs.Promises.{IsResult, IsRefusal, Answers}
+use Rattle.fore_call.specs.Verdict.{no_boxes, IsRefused, IsReadFault, IsRightFor, IsRight, ReadsOnly, NothingFailed}
 
--- Words
+-- What is asked
 
-a_path : IsNoOption (codes "x.c")
-a_path h = omega (arith, h)
-
-no_text : IsNoOption []
-no_text = tt
-
-an_option : IsNoOption (codes "-x") → ⊥
-an_option h = h refl
-
--- the settings that are taken where the words name none, and others
 abbrev usual : Settings
-usual = record { height = 1; budget = 2000 }
+usual = record { height = 1; budget = 2000; jobs = 1 }
 
-abbrev with_height : Settings
-with_height = record { height = 4; budget = 2000 }
+-- to verify x.c, without and with the file of boxes x.box; to run x.c; and a generated program
+abbrev plain : Asked
+plain = Verify (codes "x.c") None usual
 
-abbrev with_both : Settings
-with_both = record { height = 2; budget = 100000 }
+abbrev boxed : Asked
+boxed = Verify (codes "x.c") (Some (codes "x.box")) usual
 
-two_words : IsAsked (codes "verify" ∷ codes "x.c" ∷ []) (codes "x.c") (Verify usual)
-two_words =
-    record {
-      verb = codes "verify";
-      given = [];
-      are = refl;
-      no_option = λ h. omega (arith, h);
-      asks = (refl, ([], inr (refl, refl), inr (refl, refl)));
-    }
+abbrev ran_x : Asked
+ran_x = Run (codes "x.c") [] 1
 
-greater_height : IsTask (codes "verify") (codes "--height" ∷ codes "4" ∷ []) (Verify with_height)
-unfolding digits
-greater_height = (
-  refl,
-  (
-    [],
-    inl (codes "4", refl, record { written = refl; least = omega arith; greatest = omega arith }),
-    inr (refl, refl),
-  ),
-)
+abbrev generated : Asked
+generated = Gen ListPhases 3
 
-height_and_budget : IsTask (codes "verify") (codes "--height" ∷ codes "2" ∷ codes "--steps" ∷ codes "100000" ∷ [])
-    (Verify with_both)
-unfolding digits
-height_and_budget = (
-  refl,
-  (
-    codes "--steps" ∷ codes "100000" ∷ [],
-    inl (codes "2", refl, record { written = refl; least = omega arith; greatest = omega arith }),
-    inl (codes "100000", refl, record { written = refl; least = omega arith; greatest = omega arith }),
-  ),
-)
+files : (file_of plain ≡ Some (codes "x.c")) × (file_of boxed ≡ Some (codes "x.c"))
+    × (file_of ran_x ≡ Some (codes "x.c")) × (file_of generated ≡ None)
+files = (refl, refl, refl, refl)
 
--- a height above 4, and a budget above 100,000, are none
-no_height : IsNumber 4 (codes "5") 5 → ⊥
-no_height h = omega (arith, h.greatest)
+box_files : (boxes_of plain ≡ None) × (boxes_of boxed ≡ Some (codes "x.box")) × (boxes_of ran_x ≡ None)
+    × (boxes_of generated ≡ None)
+box_files = (refl, refl, refl, refl)
 
-no_budget : IsNumber 100000 (codes "100001") 100001 → ⊥
-no_budget h = omega (arith, h.greatest)
+-- readings of x.c and of x.box
+abbrev of_x : List ℕ → NamedFile
+of_x bytes = reading (codes "x.c") bytes
 
-one_word : AsksNothing (codes "verify" ∷ [])
-one_word path task h = cc (h.are)
+abbrev of_box : NamedFile
+of_box = reading (codes "x.box") (codes "box")
 
-another_command : IsTask (codes "verif") [] (Verify usual) → ⊥
-another_command h = cc (h.0)
+-- the length of a path that is there
+abbrev long : Option (List ℕ) → ℕ
+long (Some path) = length path
+long None = 0
 
--- a run without options is one on no choices, for a million steps
-bare_run : IsTask (codes "run") [] (Run [] 1000000)
-bare_run = (refl, ([], inr (refl, refl), inr (refl, refl)))
+nothing_read : LetsRead generated []
+nothing_read = tt
 
-run_on_choices : IsTask (codes "run") (codes "--choices" ∷ codes "10" ∷ []) (Run (1 ∷ 0 ∷ []) 1000000)
-run_on_choices = (
-  refl,
-  (
-    [],
-    inl (
-      codes "10",
-      refl,
-      record
-          { digits = ((omega arith, omega arith), ((omega arith, omega arith), tt)); are = refl },
-    ),
-    inr (refl, refl),
-  ),
-)
+file_read : LetsRead plain (of_x (codes "int") ∷ [])
+file_read = refl
 
-run_for_steps : IsTask (codes "run") (codes "--steps" ∷ codes "25" ∷ []) (Run [] 25)
-unfolding digits
-run_for_steps = (
-  refl,
-  (
-    codes "--steps" ∷ codes "25" ∷ [],
-    inr (refl, refl),
-    inl (codes "25", refl, record { written = refl; least = omega arith; greatest = omega arith }),
-  ),
-)
+both_read : LetsRead boxed (of_x (codes "int") ∷ of_box ∷ [])
+both_read = (refl, refl)
 
-run_on_both : IsTask (codes "run") (codes "--choices" ∷ [] ∷ codes "--steps" ∷ codes "7" ∷ []) (Run [] 7)
-unfolding digits
-run_on_both = (
-  refl,
-  (
-    codes "--steps" ∷ codes "7" ∷ [],
-    inl ([], refl, record { digits = tt; are = refl }),
-    inl (codes "7", refl, record { written = refl; least = omega arith; greatest = omega arith }),
-  ),
-)
+boxes_unread : LetsRead boxed (of_x (codes "int") ∷ [])
+boxes_unread = refl
 
--- the greatest number of steps, and what is none
-most_steps : IsNumber 1000000 (codes "1000000") 1000000
-unfolding digits
-most_steps = record { written = refl; least = omega arith; greatest = omega arith }
+boxes_first : LetsRead boxed (of_box ∷ of_x (codes "int") ∷ []) → ⊥
+boxes_first h = omega (arith, ap long h.0)
 
-no_zero : IsNumber 1000000 (codes "0") 0 → ⊥
-no_zero h = omega (arith, h.least)
+boxes_unasked : LetsRead plain (of_x (codes "int") ∷ of_box ∷ []) → ⊥
+boxes_unasked h = cc (h.1)
 
-no_more_steps : IsNumber 1000000 (codes "1000001") 1000001 → ⊥
-no_more_steps h = omega (arith, h.greatest)
+file_unasked : LetsRead generated (of_x (codes "int") ∷ []) → ⊥
+file_unasked h = cc h
 
-no_leading_zero : IsNumber 1000000 (codes "007") 7 → ⊥
-unfolding digits
-no_leading_zero h = cc (h.written)
+boxes_alone : LetsRead boxed (of_box ∷ []) → ⊥
+boxes_alone h = omega (arith, ap long h)
 
-no_letter : IsChoices (codes "1x") (1 ∷ 72 ∷ []) → ⊥
-no_letter h = omega (arith, h.digits.1.0)
+three_read : LetsRead boxed (of_x (codes "int") ∷ of_box ∷ of_box ∷ []) → ⊥
+three_read h = h
 
 -- Texts
 
-on_safe : safe_text usual 4 ≡ codes "SAFE" ++ 10 ∷ codes "height 1 budget 2000 nodes 4" ++ 10 ∷ []
-unfolding digits
-on_safe = refl
-
-on_leak : unsafe_text Leak 5 2 [] ≡ codes "UNSAFE" ++ 10 ∷ codes "fault 6 leak" ++ 10 ∷ codes "line 5"
-    ++ 10 ∷ codes "step 2" ++ 10 ∷ codes "choices -" ++ 10 ∷ []
-unfolding digits
-on_leak = refl
-
-on_double_free : unsafe_text DoubleFree 100 4160 (1 ∷ 0 ∷ 1 ∷ []) ≡ codes "UNSAFE" ++ 10 ∷ codes "fault 5 double free"
-    ++ 10 ∷ codes "line 100" ++ 10 ∷ codes "step 4160" ++ 10 ∷ codes "choices 101" ++ 10 ∷ []
-unfolding digits
-on_double_free = refl
-
-on_budget : budget_text with_both 40 ≡ codes "UNKNOWN budget" ++ 10 ∷ codes "height 2 budget 100000 nodes 40" ++ 10 ∷ []
-unfolding digits
-on_budget = refl
-
-on_fault_of_trace : fault_line NullDeref ≡ codes "fault 1 null dereference" ++ 10 ∷ []
-unfolding digits
-on_fault_of_trace = refl
-
-on_way : ended_line (codes "trace" ++ spaced (0 ∷ 3 ∷ 12 ∷ [])) ≡ codes "trace 0 3 12" ++ 10 ∷ []
-unfolding digits
-on_way = refl
-
--- the lines of the report on a trace, in order
-on_trace : (trace : AbsTrace) → trace_text usual 7 trace
-    ≡ (codes "UNKNOWN trace" ++ 10 ∷ [])
-    ++ (fault_line trace.fault
-    ++ (numbered_line (codes "line") trace.line
-    ++ (numbered_line (codes "steps") trace.steps ++ (choices_line trace.choices
-    ++ (ended_line (codes "trace" ++ spaced trace.nodes)
-    ++ (numbered_line (codes "edge") trace.edge ++ (codes "height 1 budget 2000 nodes 7" ++ 10 ∷ [])))))))
-unfolding digits
-on_trace trace = refl
-
 a_report : (out_text (Verified Safe (codes "SAFE")) ≡ codes "SAFE")
 a_report = refl
-
-null_deref : fault_text NullDeref ≡ codes "null dereference"
-null_deref = refl
-
-uninit_deref : fault_text UninitDeref ≡ codes "uninitialised dereference"
-uninit_deref = refl
-
-dangling_deref : fault_text DanglingDeref ≡ codes "dangling dereference"
-dangling_deref = refl
-
-invalid_free : fault_text InvalidFree ≡ codes "invalid free"
-invalid_free = refl
-
-assertion : fault_text Assertion ≡ codes "failed assertion"
-assertion = refl
-
-indet_test : fault_text IndetTest ≡ codes "indeterminate test"
-indet_test = refl
 
 on_end : out_text (Ran (Ended 14)) ≡ codes "ENDED" ++ 10 ∷ codes "step 14" ++ 10 ∷ []
 unfolding digits
@@ -266,22 +137,30 @@ on_met_fault : out_text (Ran (Fault NullDeref 20 8)) ≡ codes "FAULT" ++ 10 ∷
 unfolding digits
 on_met_fault = refl
 
-on_starved : out_text (Ran (Starved 7)) ≡ codes "STARVED" ++ 10 ∷ codes "step 7" ++ 10 ∷ []
-unfolding digits
-on_starved = refl
-
-on_bad_choice : out_text (Ran (BadChoice 0)) ≡ codes "BAD CHOICE" ++ 10 ∷ codes "index 0" ++ 10 ∷ []
-unfolding digits
-on_bad_choice = refl
-
-on_still_running : out_text (Ran StillRunning) ≡ codes "STILL RUNNING" ++ 10 ∷ []
-on_still_running = refl
-
-on_usage : notes_text Usage ≡ codes "usage" ++ 10 ∷ []
+on_usage : notes_text Usage
+    ≡ codes "forester verify FILE [--boxes FILE] [--height N] [--steps N] [--jobs N]"
+    ++ 10 ∷ codes "forester run FILE [--choices LIST] [--steps N]" ++ 10 ∷ codes "forester gen KIND N" ++ 10 ∷ []
 on_usage = refl
 
 on_long : notes_text (Refused TooLong) ≡ codes "refused K1 file" ++ 10 ∷ []
 on_long = refl
+
+on_gen : notes_text (Refused NoGen) ≡ codes "refused N1 file" ++ 10 ∷ []
+on_gen = refl
+
+on_long_boxes : notes_text (Refused BoxesTooLong) ≡ codes "refused K1 boxes" ++ 10 ∷ []
+on_long_boxes = refl
+
+on_box_rule : notes_text (Refused (BoxRule 2 6)) ≡ codes "refused B2 line 6" ++ 10 ∷ []
+unfolding digits
+on_box_rule = refl
+
+on_box_limit : notes_text (Refused (BoxLimit 130)) ≡ codes "refused K6 line 130" ++ 10 ∷ []
+unfolding digits
+on_box_limit = refl
+
+on_boxes : notes_text (Refused NoBoxes) ≡ codes "refused N2 boxes" ++ 10 ∷ []
+on_boxes = refl
 
 abbrev at_place : Letter → ℕ → ℕ → ℕ → Answer
 at_place letter number line column =
@@ -381,109 +260,154 @@ failed n = record { holds = λ path. None; given = []; faults = λ path. n }
 abbrev from : ShelfView → ShelfView → Reading
 from old new = record { before = old; after = new }
 
--- readings of x.c and of another file
-abbrev of_x : List ℕ → NamedFile
-of_x bytes = reading (codes "x.c") bytes
+-- nothing was read
+abbrev idle : Reading
+idle = from (gave []) (gave [])
 
-abbrev of_y : NamedFile
-of_y = reading (codes "y.c") (codes "int")
+-- the table without boxes has the structs of the program
+table_of_none : (shapes : Shapes) → ((no_boxes shapes).face.shapes ≡ shapes) × ((no_boxes shapes).defs ≡ [])
+table_of_none shapes = (refl, refl)
 
--- the path of the first reading
-abbrev first_name : List NamedFile → List ℕ
-first_name [] = []
-first_name (x ∷ xs) = x.name
-
-abbrev first_byte : List ℕ → ℕ
-first_byte [] = 0
-first_byte (b ∷ bs) = b
-
--- a verdict answers no run, and the outcome of a run no wish for a verdict
-no_verdict_on_a_run : IsRightFor (from (gave []) (gave [])) (codes "x.c") (Verified Safe (codes "SAFE")) (Run [] 1) → ⊥
+-- a verdict answers no run, the outcome of a run no wish for a verdict, and neither a file of boxes or a wish for a
+-- generated program
+no_verdict_on_a_run : IsRightFor idle ran_x (Verified Safe (codes "SAFE")) → ⊥
 no_verdict_on_a_run h = h
 
-no_outcome_for_a_verdict : IsRightFor (from (gave []) (gave [])) (codes "x.c") (Ran (Ended 0)) (Verify usual) → ⊥
+no_outcome_for_a_verdict : IsRightFor idle plain (Ran (Ended 0)) → ⊥
 no_outcome_for_a_verdict h = h
 
--- the bytes are those of this call's reading: also where the file was read before, and gave others
-a_real_file : IsRead (from (gave []) (gave (of_x (codes "int") ∷ []))) (codes "x.c") (codes "int")
-a_real_file = record { given = refl; within = omega arith; held = tt }
+no_verdict_by_boxes : IsRightFor idle boxed (Verified Safe (codes "SAFE")) → ⊥
+no_verdict_by_boxes h = h
 
-a_second_call : IsRead (from (gave (of_x (codes "void") ∷ [])) (gave (of_x (codes "void") ∷ of_x (codes "int") ∷ [])))
-    (codes "x.c") (codes "int")
-a_second_call = record { given = refl; within = omega arith; held = tt }
+no_outcome_by_boxes : IsRightFor idle boxed (Ran (Ended 0)) → ⊥
+no_outcome_by_boxes h = h
 
-given_before : IsRead (from (gave (of_x (codes "int") ∷ [])) (gave (of_x (codes "int") ∷ []))) (codes "x.c")
-    (codes "int") → ⊥
-given_before h = cc (h.given)
+nothing_generated : (IsRightFor idle generated (Verified Safe []) → ⊥) × (IsRightFor idle generated (Ran (Ended 0)) → ⊥)
+nothing_generated = (λ h. h, λ h. h)
 
-not_given : IsRead (from (gave []) (gave [])) (codes "x.c") (codes "int") → ⊥
-not_given h = cc (h.given)
+no_usage_for_a_file : IsRightFor idle plain Usage → ⊥
+no_usage_for_a_file h = h
 
-of_another_file : IsRead (from (gave []) (gave (of_y ∷ []))) (codes "x.c") (codes "int") → ⊥
-of_another_file h = omega (arith, ap (λ fs. first_byte (first_name fs)) h.given)
+-- a generated program is refused by N1, with no file read, and nothing else is refused by it
+refused_generation : IsRefused idle generated NoGen
+refused_generation = (refl, refl)
 
-read_twice : IsRead (from (gave []) (gave (of_x (codes "int") ∷ of_x (codes "int") ∷ []))) (codes "x.c") (codes "int")
-    → ⊥
-read_twice h = cc (h.given)
+read_for_generation : IsRefused (from (gave []) (gave (of_x [] ∷ []))) generated NoGen → ⊥
+read_for_generation h = cc (h.1)
 
-not_held : IsRead (from (tells (codes "int") []) (tells (codes "int") (of_x (codes "void") ∷ []))) (codes "x.c")
-    (codes "void") → ⊥
-not_held h = cc (h.held)
+another_refusal : IsRefused idle generated TooLong → ⊥
+another_refusal h = cc (h.0)
 
-not_long : IsRightFor (from (tells (codes "int") []) (tells (codes "int") [])) (codes "x.c") (Refused TooLong)
-    (Verify usual) → ⊥
-not_long h = omega (arith, h.1)
+no_generation : IsRefused idle plain NoGen → ⊥
+no_generation h = h.2
 
-given_and_long : IsRightFor (from (gave []) (gave (of_x (codes "int") ∷ []))) (codes "x.c") (Refused TooLong)
-    (Verify usual) → ⊥
-given_and_long h = cc (h.0)
+-- a file that is told is too long only if it is
+not_long : IsRefused (from (tells (codes "int") []) (tells (codes "int") [])) plain TooLong → ⊥
+not_long h = omega (arith, h.2.1)
 
-a_read_fault : IsRightFor (from (failed 0) (failed 1)) (codes "x.c") ReadFault (Verify usual)
-a_read_fault = (refl, inl (omega arith))
+-- boxes are never the reason where none are asked for
+no_boxes_asked : (IsRefused idle plain BoxesTooLong → ⊥) × (IsRefused idle plain NoBoxes → ⊥)
+    × (IsRefused idle plain (BoxRule 2 6) → ⊥) × (IsRefused idle ran_x NoBoxes → ⊥)
+no_boxes_asked = (λ h. h.2, λ h. h.2, λ h. h.2, λ h. h.2)
 
-no_read_fault : IsRightFor (from (failed 1) (failed 1)) (codes "x.c") ReadFault (Verify usual) → ⊥
+-- a file of boxes is refused only after the C file gave a program, and for a table only by N2
+module _ (p : Program) (t : Boxes) (r : Reading) where
+  unused : GivesProgram r (codes "x.c") (of_box ∷ []) p
+      → IsTableFile (r.before.holds (codes "x.box")) (codes "x.box") p.shapes (of_box ∷ []) t
+      → IsRefused r boxed NoBoxes
+  unused gives table = inr (p, of_box ∷ [], gives, inr (refl, t, table))
+
+  too_long_boxes : GivesProgram (from (gave []) (gave (of_x (codes "int") ∷ []))) (codes "x.c") [] p
+      → IsRefused (from (gave []) (gave (of_x (codes "int") ∷ []))) boxed BoxesTooLong
+  too_long_boxes gives = inr (p, [], gives, inl (refl, tt))
+
+nothing_gives_no_program : (p : Program) (more : List NamedFile) → GivesProgram idle (codes "x.c") more p → ⊥
+nothing_gives_no_program p more h = cc (h.given)
+
+boxes_before_the_file : IsRefused idle boxed BoxesTooLong → ⊥
+boxes_before_the_file (inl h) = h.2
+boxes_before_the_file (inr h) = nothing_gives_no_program h.0 h.1 h.2
+
+-- a fault of reading wants a count that rose: the first file's, or the second's after the first gave a program
+a_read_fault : IsReadFault (from (failed 0) (failed 1)) plain × IsReadFault (from (failed 0) (failed 1)) boxed
+    × IsReadFault (from (failed 0) (failed 1)) ran_x
+a_read_fault = ((refl, inl (omega arith)), inl (refl, inl (omega arith)), (refl, inl (omega arith)))
+
+no_read_fault : IsReadFault (from (failed 1) (failed 1)) plain → ⊥
 no_read_fault h = omega (arith, h.1)
 
--- the words that name x.c, and one word
-abbrev named : Reading → Request
-named r = record { words = codes "verify" ∷ codes "x.c" ∷ []; reading = r }
+no_second_fault : IsReadFault (from (failed 1) (failed 1)) boxed → ⊥
+no_second_fault (inl h) = omega (arith, h.1)
+no_second_fault (inr h) = omega (arith, h.2)
 
-abbrev bare : Reading → Request
-bare r = record { words = codes "verify" ∷ []; reading = r }
+no_fault_of_generation : IsReadFault (from (failed 0) (failed 1)) generated → ⊥
+no_fault_of_generation h = h
 
-no_usage_for_a_file : IsRight (named (from (gave []) (gave []))) Usage → ⊥
-no_usage_for_a_file h = h (codes "x.c") (Verify usual) two_words
+-- words that ask nothing are answered by usage, and let nothing be read
+module _ (words : List (List ℕ)) (nothing : AsksNothing words) where
+  abbrev asks : Reading → Request
+  asks r = record { words = words; reading = r }
 
-usage_for_one_word : IsRight (bare (from (gave []) (gave []))) Usage
-usage_for_one_word = one_word
+  usage_for_nothing : IsRight (asks idle) Usage
+  usage_for_nothing = nothing
 
--- the file that the words name may be read once, or not at all
-reads_x : ReadsOnly (named (from (gave []) (gave (of_x (codes "int") ∷ []))))
-reads_x = record { reads = inr (codes "x.c", codes "int", (Verify usual, two_words), refl); kept = λ path. refl }
+  reads_nothing : ReadsOnly (asks idle)
+  reads_nothing = record { done = []; reads = refl; let_come = inl refl; kept = λ path. refl }
 
-reads_nothing : ReadsOnly (bare (from (gave []) (gave [])))
-reads_nothing = record { reads = inl refl; kept = λ path. refl }
+  reads_a_file : LetRead words (of_x (codes "int") ∷ []) → ⊥
+  reads_a_file (inl none) = cc none
+  reads_a_file (inr h) = nothing h.0 h.1
 
-reads_without_a_file : ReadsOnly (bare (from (gave []) (gave (of_x (codes "int") ∷ [])))) → ⊥
-reads_without_a_file h = elim h.reads [
-  | inl none ↦ cc none
-  | inr one ↦ one_word one.0 one.2.0 one.2.1
-]
+  names_nothing : (path : List ℕ) → Names words path → ⊥
+  names_nothing path h = nothing h.0 h.1
 
-reads_x_twice : ReadsOnly (named (from (gave []) (gave (of_x (codes "int") ∷ of_x (codes "int") ∷ [])))) → ⊥
-reads_x_twice h = elim h.reads [
-  | inl none ↦ cc none
-  | inr one ↦ cc (one.3)
-]
+  -- a call on them: what is written, and the status, is that of usage
+  abbrev called : List ℕ → ℕ → Call
+  called text n = record {
+    request = asks idle;
+    out = sink (Some []) 0 (Some []) 0;
+    notes = sink (Some []) 0 (Some text) 0;
+    status = n;
+  }
 
--- a reading of y.c is none of the file that the words name
-reads_another_file : ReadsOnly (named (from (gave []) (gave (of_y ∷ [])))) → ⊥
-reads_another_file h = elim h.reads [
-  | inl none ↦ cc none
-  | inr one ↦
-      let named_so : codes "y.c" ≡ one.0 = ap first_name one.3 in
-      let e : codes "y.c" ≡ codes "x.c" = cc (named_so, one.2.1.are) in omega (arith, ap first_byte e)
-]
+  answers_usage : Answers (called (notes_text Usage) 2) Usage
+  answers_usage = record { right = nothing; status = refl; told = (refl, refl) }
+
+  another_status : Answers (called (notes_text Usage) 4) Usage → ⊥
+  another_status h = omega (arith, h.status)
+
+  another_text : Answers (called (codes "usage") 2) Usage → ⊥
+  another_text h = cc (h.told.1)
+
+  -- nothing failed, or a sink did
+  steady : NothingFailed (called [] 2)
+  steady = record {
+    shelf = λ path named. absurd (names_nothing path named);
+    out = λ rose. omega (arith, rose);
+    notes = λ rose. omega (arith, rose);
+  }
+
+  abbrev failing_call : Call
+  failing_call = record {
+    request = asks idle;
+    out = sink (Some []) 0 (Some []) 1;
+    notes = sink (Some []) 0 (Some []) 0;
+    status = 6;
+  }
+
+  unsteady : NothingFailed failing_call → ⊥
+  unsteady h = h.out (inl (omega arith))
+
+-- words that ask something are not answered by usage; both files that they name are named
+module _ (words : List (List ℕ)) (is : IsAsked words boxed) where
+  no_usage : IsRight (record { words = words; reading = idle }) Usage → ⊥
+  no_usage nothing = nothing boxed is
+
+  names_both : Names words (codes "x.c") × Names words (codes "x.box")
+  names_both = ((boxed, is, inl refl), (boxed, is, inr refl))
+
+  lets_both : LetRead words (of_x (codes "int") ∷ of_box ∷ [])
+  lets_both = inr (boxed, is, (refl, refl))
 
 -- Results
 
@@ -500,65 +424,9 @@ usage_is_no_result (inl e) = omega (arith, e)
 usage_is_no_result (inr (inl e)) = omega (arith, e)
 usage_is_no_result (inr (inr e)) = omega (arith, e)
 
--- a call without words: what is written, and the status, is that of usage
-abbrev called : List ℕ → ℕ → Call
-called text n = record {
-  request = bare (from (gave []) (gave []));
-  out = sink (Some []) 0 (Some []) 0;
-  notes = sink (Some []) 0 (Some text) 0;
-  status = n;
-}
+refusals : IsRefusal 4 × IsRefusal 7
+refusals = (inl refl, inr refl)
 
-answers_usage : Answers (called (codes "usage" ++ 10 ∷ []) 2) Usage
-answers_usage = record { right = one_word; status = refl; told = (refl, refl) }
-
-another_status : Answers (called (codes "usage" ++ 10 ∷ []) 4) Usage → ⊥
-another_status h = omega (arith, h.status)
-
-another_text : Answers (called (codes "usage") 2) Usage → ⊥
-another_text h = cc (h.told.1)
-
--- nothing failed, or a sink did
-steady : NothingFailed (called [] 2)
-steady = record {
-  shelf = λ path n. absurd (one_word path n.0 n.1);
-  out = λ rose. omega (arith, rose);
-  notes = λ rose. omega (arith, rose);
-}
-
-abbrev failing_call : Call
-failing_call = record {
-  request = bare (from (gave []) (gave []));
-  out = sink (Some []) 0 (Some []) 1;
-  notes = sink (Some []) 0 (Some []) 0;
-  status = 6;
-}
-
-unsteady : NothingFailed failing_call → ⊥
-unsteady h = h.out (inl (omega arith))
-
--- Reports: each end of an exploration has its own verdicts
-
-module _ (p : Program) (graph : ControlGraph) (nodes : List Node) (trace : AbsTrace) (text : List ℕ) where
-  spent_is_not_safe : IsReportOf p graph usual (Spent nodes) Safe text → ⊥
-  spent_is_not_safe h = h
-
-  spent_is_not_unsafe : IsReportOf p graph usual (Spent nodes) Unsafe text → ⊥
-  spent_is_not_unsafe h = h
-
-  closed_is_not_unsafe : IsReportOf p graph usual (Closed nodes) Unsafe text → ⊥
-  closed_is_not_unsafe h = h
-
-  closed_is_not_unknown : IsReportOf p graph usual (Closed nodes) Unknown text → ⊥
-  closed_is_not_unknown h = h
-
-  faulty_is_not_safe : IsReportOf p graph usual (Faulty nodes trace) Safe text → ⊥
-  faulty_is_not_safe h = h
-
-  -- the count is that of the nodes that were found, the text that of the settings
-  counts_the_nodes : IsReportOf p graph usual (Closed nodes) Safe text → text ≡ safe_text usual (length nodes)
-  counts_the_nodes h = h.prints
-
-  prints_the_trace : IsReportOf p graph usual (Faulty nodes trace) Unknown text
-      → text ≡ trace_text usual (length nodes) trace
-  prints_the_trace h = h.prints
+no_refusal : IsRefusal 0 → ⊥
+no_refusal (inl e) = omega (arith, e)
+no_refusal (inr e) = omega (arith, e)

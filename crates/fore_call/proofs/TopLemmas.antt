@@ -10,6 +10,9 @@ use Rattle.std.proofs.Common.{
   List,
   [],
   ◌∷◌,
+  Option,
+  Some,
+  None,
   IfSome,
   length,
   sym,
@@ -24,41 +27,54 @@ use Rattle.c_types.specs.Program.{Program}
 use Rattle.c_types.specs.Runs.{run}
 use Rattle.c_types.specs.declared.outcome.Outcome.{Outcome}
 use Rattle.c_types.specs.declared.outcome.Outcome.TheVariants.{Ended, Fault, Starved, BadChoice, StillRunning}
-use Rattle.c_front.specs.declared.broken.Broken.{Broken}
 use Rattle.c_front.specs.Files.{IsProgramOf, BreaksFirst}
 use Rattle.c_front.proofs.FileLaws.{one_program, program_or_breach}
 use Rattle.fore_base.specs.NamedFiles.{reading}
 use Rattle.fore_base.specs.declared.named_files.NamedFile.{NamedFile}
 use Rattle.fore_base.specs.declared.limits.TheConstants.{FILE_BYTES}
-use Rattle.fore_call.specs.declared.answer.Refusal.{Refusal}
-use Rattle.fore_call.specs.declared.answer.Refusal.TheVariants.{TooLong, Breaks}
+use Rattle.fore_read.specs.Readings.{Reading, AreReadings, HasFailed, IsRead}
+use Rattle.fore_read.specs.Files.{GivesProgram, RefusesFile}
+use Rattle.fore_read.specs.declared.fault.Refusal.{Refusal}
+use Rattle.fore_read.specs.declared.fault.Refusal.TheVariants.{
+  TooLong,
+  Breaks,
+  NoGen,
+  BoxesTooLong,
+  BoxRule,
+  BoxLimit,
+  NoBoxes,
+}
+use Rattle.fore_report.specs.Reports.{IsReport}
+use Rattle.fore_report.specs.declared.verdict.Verdict.{Verdict}
+use Rattle.fore_report.specs.declared.verdict.Verdict.TheVariants.{Safe, Unsafe, Unknown}
+use Rattle.fore_words.specs.declared.asked.Settings.{Settings}
+use Rattle.fore_words.specs.declared.asked.Asked.{Asked}
+use Rattle.fore_words.specs.declared.asked.Asked.TheVariants.{Verify, Run, Gen}
+use Rattle.fore_words.specs.Words.{IsAsked, AsksNothing}
+use Rattle.fore_words.proofs.OneThing.{one_thing}
 use Rattle.fore_call.specs.declared.answer.Answer.{Answer}
 use Rattle.fore_call.specs.declared.answer.Answer.TheVariants.{Verified, Ran, Usage, Refused, ReadFault, NoMemory}
-use Rattle.fore_call.specs.declared.answer.Verdict.{Verdict}
-use Rattle.fore_call.specs.declared.answer.Verdict.TheVariants.{Safe, Unsafe, Unknown}
-use Rattle.fore_call.specs.declared.words.Settings.{Settings}
-use Rattle.fore_call.specs.declared.words.Task.{Task}
-use Rattle.fore_call.specs.declared.words.Task.TheVariants.{Verify, Run}
-use Rattle.fore_call.specs.Calls.{Reading, Request, Writing, Call, ReadNothing, ReadOnce}
-use Rattle.fore_call.specs.Words.{IsAsked, AsksToVerify, AsksToRun, AsksNothing}
-use Rattle.fore_call.proofs.WordLemmas.{one_task}
-use Rattle.fore_call.specs.Promises.{IsResult, Answers, Reported, Promises}
-use Rattle.fore_call.specs.Reports.{IsReport}
-use Rattle.fore_call.specs.Texts.{out_text, notes_text, run_status, verdict_status, status_of}
+use Rattle.fore_call.specs.Calls.{Request, Writing, Call}
 use Rattle.fore_call.specs.Delivery.{IsCutShort, Told, WroteNothing}
-use Rattle.fore_call.specs.inner.Judging.{WantsMemory}
+use Rattle.fore_call.specs.Names.{Verifies, VerifiesByBoxes, Runs, Generates, file_of, boxes_of}
+use Rattle.fore_call.specs.Promises.{IsResult, IsRefusal, Answers, Reported, Promises}
+use Rattle.fore_call.specs.Texts.{out_text, notes_text, run_status, verdict_status, status_of}
 use Rattle.fore_call.specs.Verdict.{
-  IsRead,
-  IsRefused,
-  HasFailed,
+  no_boxes,
+  IsVerified,
+  IsRun,
+  IsReadFault,
   IsRightFor,
-  ForFile,
+  ForAsked,
   IsRight,
   ReadsOnly,
   IsOther,
   VerifiesTo,
+  NothingFailed,
+  HasBytes,
+  NamesProgram,
+  NamesOther,
 }
-use Rattle.fore_call.specs.Verdict.{NothingFailed, HasBytes, NamesProgram, NamesOther}
 
 -- Statuses of runs and of verdicts
 
@@ -109,39 +125,31 @@ verdict_ends Unknown = inr (inr refl)
 -- The answer by its status and by what was asked
 
 module _ (r : Request) where
-  pub both_tasks : (a b choices : List ℕ) (settings : Settings) (steps : ℕ) → IsAsked r.words a (Verify settings)
-      → IsAsked r.words b (Run choices steps) → ⊥
-  both_tasks a b choices settings steps v w = cc (v.are, w.are, v.asks.0, w.asks.0)
+  -- the answer is right for all that the words ask
+  at : (asked : Asked) → IsAsked r.words asked → (a : Answer) → ForAsked r a → IsRightFor r.reading asked a
+  at asked is a h = subst (λ other. IsRightFor r.reading other a) (one_thing r.words h.0 asked h.1 is) h.2
 
-  -- what is right for a run is not asked of a file that is to be verified
-  ran_for : (o : Outcome) (a b : List ℕ) (settings : Settings) (t : Task) → IsAsked r.words a (Verify settings)
-      → IsAsked r.words b t
-      → IsRightFor r.reading b (Ran o) t → ⊥
-  ran_for o a b settings (Verify others) v w right = right
-  ran_for o a b settings (Run choices steps) v w right = both_tasks a b choices settings steps v w
+  not_ran : (o : Outcome) → Verifies r.words → IsRight r (Ran o) → ⊥
+  not_ran o v h = at (Verify v.0 None v.1) v.2 (Ran o) h
 
-  not_ran : (o : Outcome) → AsksToVerify r.words → IsRight r (Ran o) → ⊥
-  not_ran o v h = ran_for o v.0 h.0 v.1 h.1 v.2 h.2 h.3
-
-  verified_for : (v : Verdict) (text a b choices : List ℕ) (steps : ℕ) (t : Task)
-      → IsAsked r.words a (Run choices steps) → IsAsked r.words b t
-      → IsRightFor r.reading b (Verified v text) t → ⊥
-  verified_for v text a b choices steps (Verify settings) w asked right = both_tasks b a choices settings steps asked w
-  verified_for v text a b choices steps (Run cs n) w asked right = right
+  not_verified : (v : Verdict) (text : List ℕ) → Runs r.words → IsRight r (Verified v text) → ⊥
+  not_verified v text w h = at (Run w.0 w.1 w.2) w.3 (Verified v text) h
 
   -- what was verified is a report of the program of the file
-  reports_of : (v : Verdict) (text b : List ℕ) (t : Task) → IsAsked r.words b t
-      → IsRightFor r.reading b (Verified v text) t
-      → VerifiesTo r (λ p settings. IsReport p settings text v)
-  reports_of v text b (Verify settings) asked right = (b, settings, asked, right)
-  reports_of v text b (Run choices steps) asked right = absurd right
+  reports_of : (v : Verdict) (text : List ℕ) (asked : Asked) → IsAsked r.words asked
+      → IsRightFor r.reading asked (Verified v text)
+      → VerifiesTo r (λ p settings. IsReport (no_boxes p.shapes) p settings text v)
+  reports_of v text (Verify path None settings) is right = (path, settings, is, right)
+  reports_of v text (Verify path (Some boxes) settings) is right = absurd right
+  reports_of v text (Run path choices steps) is right = absurd right
+  reports_of v text (Gen kind phases) is right = absurd right
 
   pub verified_to : (v : Verdict) (text : List ℕ) → IsRight r (Verified v text)
-      → VerifiesTo r (λ p settings. IsReport p settings text v)
-  verified_to v text h = reports_of v text h.0 h.1 h.2 h.3
+      → VerifiesTo r (λ p settings. IsReport (no_boxes p.shapes) p settings text v)
+  verified_to v text h = reports_of v text h.0 h.1 h.2
 
   -- an answer with the status of a verdict is one, where a file is to be verified
-  pub was_verified : (a : Answer) → AsksToVerify r.words → status_of a < 4 → (status_of a ≡ 2 → ⊥) → IsRight r a
+  pub was_verified : (a : Answer) → Verifies r.words → status_of a < 4 → (status_of a ≡ 2 → ⊥) → IsRight r a
       → (v : Verdict) × (text : List ℕ) × (a ≡ Verified v text)
   was_verified (Verified v text) w e not_two h = (v, text, refl)
   was_verified (Ran o) w e not_two h = absurd (not_ran o w h)
@@ -152,27 +160,27 @@ module _ (r : Request) where
 
   -- its verdict is that of the status
   verdict_is : (a : Answer) (n : ℕ) (v : Verdict) → ((u : Verdict) → verdict_status u ≡ n → u ≡ v) → n < 4 → (n ≡ 2 → ⊥)
-      → AsksToVerify r.words → status_of a ≡ n
+      → Verifies r.words → status_of a ≡ n
       → IsRight r a → (text : List ℕ) × (a ≡ Verified v text)
   verdict_is a n v only small not_two w e h =
       let is = was_verified a w (omega (arith, e, small)) (λ two. not_two (sym e ∙ two)) h in
       let same : is.0 ≡ v = only is.0 (ap status_of (sym is.2) ∙ e) in
       (is.1, is.2 ∙ ap (λ u. Verified u is.1) same)
 
-  pub was_safe : (a : Answer) → AsksToVerify r.words → status_of a ≡ 0 → IsRight r a → (text : List ℕ)
+  pub was_safe : (a : Answer) → Verifies r.words → status_of a ≡ 0 → IsRight r a → (text : List ℕ)
       × (a ≡ Verified Safe text)
   was_safe a = verdict_is a 0 Safe is_safe (omega arith) (λ e. omega (arith, e))
 
-  pub was_unsafe : (a : Answer) → AsksToVerify r.words → status_of a ≡ 1 → IsRight r a → (text : List ℕ)
+  pub was_unsafe : (a : Answer) → Verifies r.words → status_of a ≡ 1 → IsRight r a → (text : List ℕ)
       × (a ≡ Verified Unsafe text)
   was_unsafe a = verdict_is a 1 Unsafe is_unsafe (omega arith) (λ e. omega (arith, e))
 
-  pub was_unknown : (a : Answer) → AsksToVerify r.words → status_of a ≡ 3 → IsRight r a → (text : List ℕ)
+  pub was_unknown : (a : Answer) → Verifies r.words → status_of a ≡ 3 → IsRight r a → (text : List ℕ)
       × (a ≡ Verified Unknown text)
   was_unknown a = verdict_is a 3 Unknown is_unknown (omega arith) (λ e. omega (arith, e))
 
-  pub was_ran : (a : Answer) → AsksToRun r.words → IsResult (status_of a) → IsRight r a → (o : Outcome) × (a ≡ Ran o)
-  was_ran (Verified v text) w e h = absurd (verified_for v text w.0 h.0 w.1 w.2 h.1 w.3 h.2 h.3)
+  pub was_ran : (a : Answer) → Runs r.words → IsResult (status_of a) → IsRight r a → (o : Outcome) × (a ≡ Ran o)
+  was_ran (Verified v text) w e h = absurd (not_verified v text w h)
   was_ran (Ran o) w e h = (o, refl)
   was_ran Usage w e h = absurd (omega (arith, e))
   was_ran (Refused why) w e h = absurd (omega (arith, e))
@@ -203,33 +211,45 @@ module _ (r : Request) where
   was_read_fault ReadFault e = refl
   was_read_fault NoMemory e = absurd (omega (arith, e))
 
-  asks_by : (b : List ℕ) (t : Task) → IsAsked r.words b t → AsksToVerify r.words ⊎ AsksToRun r.words
-  asks_by b (Verify settings) asked = inl (b, settings, asked)
-  asks_by b (Run choices steps) asked = inr (b, choices, steps, asked)
+  verified_asks : (v : Verdict) (text : List ℕ) (asked : Asked) → IsAsked r.words asked
+      → IsRightFor r.reading asked (Verified v text) → Verifies r.words ⊎ Runs r.words
+  verified_asks v text (Verify path None settings) is right = inl (path, settings, is)
+  verified_asks v text (Verify path (Some boxes) settings) is right = absurd right
+  verified_asks v text (Run path choices steps) is right = absurd right
+  verified_asks v text (Gen kind phases) is right = absurd right
+
+  ran_asks : (o : Outcome) (asked : Asked) → IsAsked r.words asked → IsRightFor r.reading asked (Ran o)
+      → Verifies r.words ⊎ Runs r.words
+  ran_asks o (Run path choices steps) is right = inr (path, choices, steps, is)
+  ran_asks o (Verify path boxes settings) is right = absurd right
+  ran_asks o (Gen kind phases) is right = absurd right
 
   -- what was asked, by a status that is a verdict or how a run came out
-  pub was_asked : (a : Answer) → IsResult (status_of a) → IsRight r a → AsksToVerify r.words ⊎ AsksToRun r.words
-  was_asked (Verified v text) e h = asks_by h.0 h.1 h.2
-  was_asked (Ran o) e h = asks_by h.0 h.1 h.2
+  pub was_asked : (a : Answer) → IsResult (status_of a) → IsRight r a → Verifies r.words ⊎ Runs r.words
+  was_asked (Verified v text) e h = verified_asks v text h.0 h.1 h.2
+  was_asked (Ran o) e h = ran_asks o h.0 h.1 h.2
   was_asked Usage e h = absurd (omega (arith, e))
   was_asked (Refused why) e h = absurd (omega (arith, e))
   was_asked ReadFault e h = absurd (omega (arith, e))
   was_asked NoMemory e h = absurd (omega (arith, e))
 
-  -- words that ask nothing get the usage alone
-  pub only_usage : (a : Answer) → AsksNothing r.words → IsRight r a → a ≡ Usage
-  only_usage (Verified v text) none h = absurd (none h.0 h.1 h.2)
-  only_usage (Ran o) none h = absurd (none h.0 h.1 h.2)
-  only_usage Usage none h = refl
-  only_usage (Refused why) none h = absurd (none h.0 h.1 h.2)
-  only_usage ReadFault none h = absurd (none h.0 h.1 h.2)
-  only_usage NoMemory none h = absurd (none h.0 h.1 h.2)
+  -- words that ask nothing get the usage, or want of memory
+  only_usage : (a : Answer) → AsksNothing r.words → IsRight r a → (a ≡ Usage) ⊎ (a ≡ NoMemory)
+  only_usage (Verified v text) none h = absurd (none h.0 h.1)
+  only_usage (Ran o) none h = absurd (none h.0 h.1)
+  only_usage Usage none h = inl refl
+  only_usage (Refused why) none h = absurd (none h.0 h.1)
+  only_usage ReadFault none h = absurd (none h.0 h.1)
+  only_usage NoMemory none h = inr refl
 
   pub unread : (n : ℕ) (a : Answer) → AsksNothing r.words → IsRight r a → (n ≡ status_of a) ⊎ (n ≡ 6) ⊎ (n ≡ 7)
-      → (n ≡ 7 → WantsMemory a) → (n ≡ 2) ⊎ (n ≡ 6)
-  unread n a none h (inl own) memory = inl (own ∙ ap status_of (only_usage a none h))
-  unread n a none h (inr (inl six)) memory = inr six
-  unread n a none h (inr (inr seven)) memory = absurd (subst WantsMemory (only_usage a none h) (memory seven))
+      → (n ≡ 2) ⊎ (n ≡ 6) ⊎ (n ≡ 7)
+  unread n a none h (inl own) = elim (only_usage a none h) [
+    | inl usage ↦ inl (own ∙ ap status_of usage)
+    | inr memory ↦ inr (inr (own ∙ ap status_of memory))
+  ]
+  unread n a none h (inr (inl six)) = inr (inl six)
+  unread n a none h (inr (inr seven)) = inr (inr seven)
 
 -- a status that is neither 6 nor 7 is the answer's own
 pub own_status : (r n : ℕ) (a : Answer) → (r ≡ status_of a) ⊎ (r ≡ 6) ⊎ (r ≡ 7) → r ≡ n → n < 6 → r ≡ status_of a
@@ -281,9 +301,6 @@ pub not_cut : (c : Call) (a : Answer) → NothingFailed c → IsCutShort c.out c
 not_cut c a steady (inl cut) = steady.out cut.0.rose
 not_cut c a steady (inr cut) = steady.notes cut.0.rose
 
-one_path : (words : List (List ℕ)) (a b : List ℕ) (s t : Task) → IsAsked words a s → IsAsked words b t → a ≡ b
-one_path words a b s t v w = cc (v.are, w.are)
-
 -- Readings
 
 -- the bytes of the first reading
@@ -291,138 +308,164 @@ abbrev first_bytes : List NamedFile → List ℕ
 first_bytes [] = []
 first_bytes (x ∷ xs) = x.bytes
 
--- one reading gave one list of bytes
-one_reading : (r : Reading) (path a b : List ℕ) → ReadOnce r path a → ReadOnce r path b → a ≡ b
-one_reading r path a b x y =
-    ap first_bytes (append_cancel_left r.before.given (reading path a ∷ []) (reading path b ∷ []) (sym x ∙ y))
+-- the first reading gave one list of bytes
+one_reading : (r : Reading) (path a b : List ℕ) (more others : List NamedFile)
+    → AreReadings r (reading path a ∷ more) → AreReadings r (reading path b ∷ others) → a ≡ b
+one_reading r path a b more others x y =
+    ap first_bytes
+    (append_cancel_left r.before.given (reading path a ∷ more) (reading path b ∷ others) (sym x ∙ y))
 
 -- a reading is not none
-some_reading : (r : Reading) (path a : List ℕ) → ReadNothing r → ReadOnce r path a → ⊥
-some_reading r path a none one =
-    omega (arith, ap length (sym none ∙ one), length-append r.before.given (reading path a ∷ []))
+some_reading : (r : Reading) (file : NamedFile) (more : List NamedFile) → AreReadings r []
+    → AreReadings r (file ∷ more) → ⊥
+some_reading r file more none one =
+    omega (arith, ap length (sym none ∙ one), length-append r.before.given (file ∷ more))
 
--- Files whose bytes are known, where reading them did not fail
+-- the shelf tells that it holds these bytes, or gave them first
+abbrev Known : Reading → List ℕ → List ℕ → Type 0
+Known r path bytes =
+    (r.before.holds path ≡ Some bytes)
+    ⊎ ((more : List NamedFile) × AreReadings r (reading path bytes ∷ more))
 
-module _ (r : Request) (task : Task) (bytes : List ℕ) (file : HasBytes r task bytes)
-    (steady : HasFailed r.reading file.path → ⊥) where
-  here : (a : Answer) → ForFile r a → IsRightFor r.reading file.path a task
-  here a h =
-      let at : IsRightFor r.reading file.path a h.1 =
-      subst (λ p. IsRightFor r.reading p a h.1) (one_path r.words h.0 file.path h.1 task h.2 file.asked) h.3 in
-      subst (λ t. IsRightFor r.reading file.path a t) (one_task r.words h.0 file.path h.1 task h.2 file.asked) at
+-- A file whose bytes are known
 
+module _ (r : Reading) (path bytes : List ℕ) (known : Known r path bytes) where
   -- the bytes that were read are those of the file
-  read_known : (read : List ℕ) → IsRead r.reading file.path read → read ≡ bytes
-  read_known read is = elim file.known [
+  read_known : (read : List ℕ) (more : List NamedFile) → AreReadings r (reading path read ∷ more)
+      → IsRead (r.before.holds path) FILE_BYTES read → read ≡ bytes
+  read_known read more reads is = elim known [
     | inl told ↦ subst (λ o. IfSome o (λ held. read ≡ held)) told is.held
-    | inr given ↦ one_reading r.reading file.path read bytes is.given given
+    | inr given ↦ one_reading r path read bytes more given.0 reads given.1
   ]
 
   -- a file that is refused as too long is
-  long_known : IsRefused r.reading file.path TooLong → FILE_BYTES < length bytes
-  long_known h = elim file.known [
-    | inl told ↦ subst (λ o. IfSome o (λ held. FILE_BYTES < length held)) told h.1
-    | inr given ↦ absurd (some_reading r.reading file.path bytes h.0 given)
+  long_known : AreReadings r [] → IfSome (r.before.holds path) (λ held. FILE_BYTES < length held)
+      → FILE_BYTES < length bytes
+  long_known none long = elim known [
+    | inl told ↦ subst (λ o. IfSome o (λ held. FILE_BYTES < length held)) told long
+    | inr given ↦ absurd (some_reading r (reading path bytes) given.0 none given.1)
   ]
 
   -- the program that was read is that of the file
-  program_known : (read : List ℕ) (p q : Program) → IsRead r.reading file.path read → IsProgramOf read q
-      → IsProgramOf bytes p → p ≡ q
-  program_known read p q is f g = one_program bytes p q g (subst (λ b. IsProgramOf b q) (read_known read is) f)
-
-  breach_known : (read : List ℕ) (p : Program) (b : Broken) → IsRead r.reading file.path read → BreaksFirst read b
-      → IsProgramOf bytes p → ⊥
-  breach_known read p b is f g = program_or_breach bytes p b g (subst (λ l. BreaksFirst l b) (read_known read is) f)
+  program_known : (q : Program) (more : List NamedFile) → GivesProgram r path more q → IsProgramOf bytes q
+  program_known q more f = subst (λ b. IsProgramOf b q) (read_known f.bytes more f.given f.read) f.is
 
   -- a file that is to be refused gives no program
-  no_program : IsOther bytes → (read : List ℕ) → IsRead r.reading file.path read → (q : Program) → IsProgramOf read q
-      → ⊥
-  no_program (inl long) read is q f = omega (arith, long, is.within, ap length (read_known read is))
-  no_program (inr breach) read is q f =
-      program_or_breach bytes q breach.0 (subst (λ b. IsProgramOf b q) (read_known read is) f) breach.1
+  no_program : IsOther bytes → (q : Program) (more : List NamedFile) → GivesProgram r path more q → ⊥
+  no_program (inl long) q more f =
+      omega (arith, long, f.read.within, ap length (read_known f.bytes more f.given f.read))
+  no_program (inr breach) q more f = program_or_breach bytes q breach.0 (program_known q more f) breach.1
 
-  -- where it is to be verified or run, the answer is no refusal
+  -- where it has a program, it is not refused
   not_refused : (p : Program) → length bytes ≤ FILE_BYTES → IsProgramOf bytes p → (why : Refusal)
-      → IsRightFor r.reading file.path (Refused why) task → ⊥
-  not_refused p short is TooLong h = omega (arith, long_known h, short)
-  not_refused p short is (Breaks b) h = breach_known h.0 p b h.1 h.2 is
+      → RefusesFile r path why → ⊥
+  not_refused p short is TooLong h =
+      omega (arith, long_known (subst (λ done. AreReadings r done) h.2.0 h.1) h.2.1, short)
+  not_refused p short is (Breaks b) h =
+      let same : h.2.0 ≡ bytes = read_known h.2.0 [] (subst (λ done. AreReadings r done) h.2.1 h.1) h.2.2 in
+      program_or_breach bytes p b is (subst (λ l. BreaksFirst l b) same h.2.3)
+  not_refused p short is NoGen h = h.2
+  not_refused p short is BoxesTooLong h = h.2
+  not_refused p short is (BoxRule rule line) h = h.2
+  not_refused p short is (BoxLimit line) h = h.2
+  not_refused p short is NoBoxes h = h.2
 
-  not_usage : AsksNothing r.words → ⊥
-  not_usage none = none file.path task file.asked
+abbrev path_in : Option (List ℕ) → List ℕ
+path_in (Some path) = path
+path_in None = []
+
+-- What is asked of a file whose bytes are known, where no reading failed
+
+-- no reading of a file that is asked for has failed
+abbrev ReadsWell : Reading → Asked → Type 0
+ReadsWell r asked =
+    (path : List ℕ) → (file_of asked ≡ Some path) ⊎ (boxes_of asked ≡ Some path) → HasFailed r path → ⊥
+
+no_read_fault : (r : Reading) (asked : Asked) → ReadsWell r asked → IsReadFault r asked → ⊥
+no_read_fault r (Verify path None settings) well h = well path (inl refl) h.1
+no_read_fault r (Verify path (Some boxes) settings) well (inl h) = well path (inl refl) h.1
+no_read_fault r (Verify path (Some boxes) settings) well (inr h) = well boxes (inr refl) h.2
+no_read_fault r (Run path choices steps) well h = well path (inl refl) h.1
+no_read_fault r (Gen kind phases) well h = h
+
+module _ (r : Request) (asked : Asked) (is : IsAsked r.words asked) (well : ReadsWell r.reading asked) where
+  -- what is neither verified nor run is refused
+  only_refused : ((v : Verdict) (text : List ℕ) → IsVerified r.reading asked v text → ⊥)
+      → ((o : Outcome) → IsRun r.reading asked o → ⊥) → (a : Answer) → IsRight r a → IsRefusal (status_of a)
+  only_refused unverified unrun (Verified v text) h = absurd (unverified v text (at r asked is (Verified v text) h))
+  only_refused unverified unrun (Ran o) h = absurd (unrun o (at r asked is (Ran o) h))
+  only_refused unverified unrun Usage h = absurd (h asked is)
+  only_refused unverified unrun (Refused why) h = inl refl
+  only_refused unverified unrun ReadFault h = absurd (no_read_fault r.reading asked well (at r asked is ReadFault h))
+  only_refused unverified unrun NoMemory h = inr refl
+
+known_of : (r : Request) (asked : Asked) (bytes path : List ℕ) (file : HasBytes r asked bytes)
+    → file_of asked ≡ Some path → Known r.reading path bytes
+known_of r asked bytes path file of =
+    subst (λ p. Known r.reading p bytes) (ap path_in (sym file.of ∙ of)) file.known
 
 module _ (r : Request) (bytes : List ℕ) (p : Program) (short : length bytes ≤ FILE_BYTES) (is : IsProgramOf bytes p)
-  where
-    module _ (settings : Settings) (file : HasBytes r (Verify settings) bytes)
-        (steady : HasFailed r.reading file.path → ⊥) where
-      abbrev due_here : (a : Answer) → ForFile r a → IsRightFor r.reading file.path a (Verify settings)
-      due_here = here r (Verify settings) bytes file steady
+    (path : List ℕ) where
+  module _ (settings : Settings) (file : HasBytes r (Verify path None settings) bytes)
+      (well : ReadsWell r.reading (Verify path None settings)) where
+    abbrev verify_here : (a : Answer) → ForAsked r a → IsRightFor r.reading (Verify path None settings) a
+    verify_here = at r (Verify path None settings) file.is_asked
 
-      due_for_verify : (a : Answer) → IsRight r a → IsResult (status_of a) ⊎ (status_of a ≡ 7)
-      due_for_verify (Verified v text) h = inl (verdict_ends v)
-      due_for_verify (Ran o) h = absurd (due_here (Ran o) h)
-      due_for_verify Usage h = absurd (not_usage r (Verify settings) bytes file steady h)
-      due_for_verify (Refused why) h =
-          absurd (not_refused r (Verify settings) bytes file steady p short is why (due_here (Refused why) h))
-      due_for_verify ReadFault h = absurd (steady (due_here ReadFault h).1)
-      due_for_verify NoMemory h = inr refl
+    due_for_verify : (a : Answer) → IsRight r a → IsResult (status_of a) ⊎ (status_of a ≡ 7)
+    due_for_verify (Verified v text) h = inl (verdict_ends v)
+    due_for_verify (Ran o) h = absurd (verify_here (Ran o) h)
+    due_for_verify Usage h = absurd (h (Verify path None settings) file.is_asked)
+    due_for_verify (Refused why) h =
+        absurd (not_refused r.reading path bytes (known_of r (Verify path None settings) bytes path file refl) p short
+        is why (verify_here (Refused why) h))
+    due_for_verify ReadFault h =
+        absurd (no_read_fault r.reading (Verify path None settings) well (verify_here ReadFault h))
+    due_for_verify NoMemory h = inr refl
 
-    module _ (choices : List ℕ) (steps : ℕ) (file : HasBytes r (Run choices steps) bytes)
-        (steady : HasFailed r.reading file.path → ⊥) where
-      abbrev run_here : (a : Answer) → ForFile r a → IsRightFor r.reading file.path a (Run choices steps)
-      run_here = here r (Run choices steps) bytes file steady
+  module _ (choices : List ℕ) (steps : ℕ) (file : HasBytes r (Run path choices steps) bytes)
+      (well : ReadsWell r.reading (Run path choices steps)) where
+    abbrev run_here : (a : Answer) → ForAsked r a → IsRightFor r.reading (Run path choices steps) a
+    run_here = at r (Run path choices steps) file.is_asked
 
-      due_for_run : (a : Answer) → IsRight r a → (status_of a ≡ run_status (run p choices steps)) ⊎ (status_of a ≡ 7)
-      due_for_run (Verified v text) h = absurd (run_here (Verified v text) h)
-      due_for_run (Ran o) h =
-          let f = run_here (Ran o) h in
-          let same : p ≡ f.2 = program_known r (Run choices steps) bytes file steady f.0 p f.2 f.1 f.3 is in
-          inl (ap run_status (f.4 ∙ ap (λ q. run q choices steps) (sym same)))
-      due_for_run Usage h = absurd (not_usage r (Run choices steps) bytes file steady h)
-      due_for_run (Refused why) h =
-          absurd (not_refused r (Run choices steps) bytes file steady p short is why (run_here (Refused why) h))
-      due_for_run ReadFault h = absurd (steady (run_here ReadFault h).1)
-      due_for_run NoMemory h = inr refl
+    run_known : Known r.reading path bytes
+    run_known = known_of r (Run path choices steps) bytes path file refl
 
+    due_for_run : (a : Answer) → IsRight r a → (status_of a ≡ run_status (run p choices steps)) ⊎ (status_of a ≡ 7)
+    due_for_run (Verified v text) h = absurd (run_here (Verified v text) h)
+    due_for_run (Ran o) h =
+        let f = run_here (Ran o) h in
+        let same : p ≡ f.0 =
+        one_program bytes p f.0 is (program_known r.reading path bytes run_known f.0 [] f.1) in
+        inl (ap run_status (f.2 ∙ ap (λ q. run q choices steps) (sym same)))
+    due_for_run Usage h = absurd (h (Run path choices steps) file.is_asked)
+    due_for_run (Refused why) h =
+        absurd (not_refused r.reading path bytes run_known p short is why (run_here (Refused why) h))
+    due_for_run ReadFault h =
+        absurd (no_read_fault r.reading (Run path choices steps) well (run_here ReadFault h))
+    due_for_run NoMemory h = inr refl
+
+-- a file that is to be refused is neither verified nor run
 module _ (r : Request) (bytes : List ℕ) (other : IsOther bytes) where
-  verified_not_other : (v : Verdict) (text : List ℕ) (t : Task) (file : HasBytes r t bytes)
-      (steady : HasFailed r.reading file.path → ⊥)
-      → IsRightFor r.reading file.path (Verified v text) t → ⊥
-  verified_not_other v text (Verify settings) file steady f =
-      no_program r (Verify settings) bytes file steady other f.0 f.1 f.2 f.3
-  verified_not_other v text (Run choices steps) file steady f = f
+  others_not_verified : (asked : Asked) → HasBytes r asked bytes → (v : Verdict) (text : List ℕ)
+      → IsVerified r.reading asked v text → ⊥
+  others_not_verified (Verify path None settings) file v text h =
+      no_program r.reading path bytes (known_of r (Verify path None settings) bytes path file refl) other h.0 [] h.1
+  others_not_verified (Verify path (Some boxes) settings) file v text h = h
+  others_not_verified (Run path choices steps) file v text h = h
+  others_not_verified (Gen kind phases) file v text h = h
 
-  ran_not_other : (o : Outcome) (t : Task) (file : HasBytes r t bytes) (steady : HasFailed r.reading file.path → ⊥)
-      → IsRightFor r.reading file.path (Ran o) t → ⊥
-  ran_not_other o (Verify settings) file steady f = f
-  ran_not_other o (Run choices steps) file steady f =
-      no_program r (Run choices steps) bytes file steady other f.0 f.1 f.2 f.3
-
-  module _ (t : Task) (file : HasBytes r t bytes) (steady : HasFailed r.reading file.path → ⊥) where
-    due_for_others : (a : Answer) → IsRight r a → (status_of a ≡ 4) ⊎ (status_of a ≡ 7)
-    due_for_others (Verified v text) h =
-        absurd (verified_not_other v text t file steady (here r t bytes file steady (Verified v text) h))
-    due_for_others (Ran o) h = absurd (ran_not_other o t file steady (here r t bytes file steady (Ran o) h))
-    due_for_others Usage h = absurd (not_usage r t bytes file steady h)
-    due_for_others (Refused why) h = inl refl
-    due_for_others ReadFault h = absurd (steady (here r t bytes file steady ReadFault h).1)
-    due_for_others NoMemory h = inr refl
-
--- a right answer whose delivery wants memory
-wants : (r : Request) (a : Answer) → WantsMemory a → IsRight r a → IsRight r NoMemory
-wants r (Verified v text) w h = absurd w
-wants r (Ran o) w h = (h.0, h.1, h.2, tt)
-wants r Usage w h = absurd w
-wants r (Refused TooLong) w h = absurd w
-wants r (Refused (Breaks b)) w h = (h.0, h.1, h.2, tt)
-wants r ReadFault w h = absurd w
-wants r NoMemory w h = h
+  others_not_run : (asked : Asked) → HasBytes r asked bytes → (o : Outcome) → IsRun r.reading asked o → ⊥
+  others_not_run (Run path choices steps) file o h =
+      no_program r.reading path bytes (known_of r (Run path choices steps) bytes path file refl) other h.0 [] h.1
+  others_not_run (Verify path boxes settings) file o h = h
+  others_not_run (Gen kind phases) file o h = h
 
 -- A call that delivered the right answer keeps every promise.
 module _ (c : Call) (a : Answer) (right : IsRight c.request a) (reads : ReadsOnly c.request)
     (status : (c.status ≡ status_of a) ⊎ (c.status ≡ 6) ⊎ (c.status ≡ 7))
     (told : c.status ≡ status_of a → Told c.out c.notes a)
     (written : c.status ≡ 6 → IsCutShort c.out c.notes a)
-    (memory : c.status ≡ 7 → WantsMemory a × WroteNothing c.out c.notes) where
+    (memory : c.status ≡ 7 → WroteNothing c.out c.notes) where
   own : (n : ℕ) → c.status ≡ n → n < 6 → c.status ≡ status_of a
   own n e less = own_status c.status n a status e less
 
@@ -434,31 +477,31 @@ module _ (c : Call) (a : Answer) (right : IsRight c.request a) (reads : ReadsOnl
       let done = answers (Verified v text) is e in
       record { text = text; means = verified_to c.request v text done.right; told = done.told }
 
-  safe : AsksToVerify c.request.words → c.status ≡ 0 → Reported c Safe
+  safe : Verifies c.request.words → c.status ≡ 0 → Reported c Safe
   safe asked e =
       let mine = own 0 e (omega arith) in
       let is = was_safe c.request a asked (sym mine ∙ e) right in
       reported Safe is.0 is.1 mine
 
-  unsafe : AsksToVerify c.request.words → c.status ≡ 1 → Reported c Unsafe
+  unsafe : Verifies c.request.words → c.status ≡ 1 → Reported c Unsafe
   unsafe asked e =
       let mine = own 1 e (omega arith) in
       let is = was_unsafe c.request a asked (sym mine ∙ e) right in
       reported Unsafe is.0 is.1 mine
 
-  unknown : AsksToVerify c.request.words → c.status ≡ 3 → Reported c Unknown
+  unknown : Verifies c.request.words → c.status ≡ 3 → Reported c Unknown
   unknown asked e =
       let mine = own 3 e (omega arith) in
       let is = was_unknown c.request a asked (sym mine ∙ e) right in
       reported Unknown is.0 is.1 mine
 
-  ran : AsksToRun c.request.words → IsResult c.status → (o : Outcome) × Answers c (Ran o)
+  ran : Runs c.request.words → IsResult c.status → (o : Outcome) × Answers c (Ran o)
   ran asked e =
       let mine = own_of_run c.status a status e in
       let is = was_ran c.request a asked (subst IsResult mine e) right in
       (is.0, answers (Ran is.0) is.1 mine)
 
-  asked_by : IsResult c.status → AsksToVerify c.request.words ⊎ AsksToRun c.request.words
+  asked_by : IsResult c.status → Verifies c.request.words ⊎ Runs c.request.words
   asked_by e = was_asked c.request a (subst IsResult (own_of_run c.status a status e) e) right
 
   usage : c.status ≡ 2 → Answers c Usage
@@ -477,46 +520,53 @@ module _ (c : Call) (a : Answer) (right : IsRight c.request a) (reads : ReadsOnl
       × IsCutShort c.out c.notes due
   not_written six = (a, cut_below_six c.out c.notes a (written six), right, written six)
 
-  no_memory : c.status ≡ 7 → IsRight c.request NoMemory × WroteNothing c.out c.notes
-  no_memory seven = (wants c.request a (memory seven).0 right, (memory seven).1)
-
   -- where nothing fails
   module _ (steady : NothingFailed c) where
     whole : c.status ≡ 6 → ⊥
     whole six = not_cut c a steady (written six)
 
-    read_well : (t : Task) (bytes : List ℕ) (file : HasBytes c.request t bytes) → HasFailed c.request.reading file.path
-        → ⊥
-    read_well t bytes file = steady.shelf file.path (t, file.asked)
+    reads_well : (asked : Asked) → IsAsked c.request.words asked → ReadsWell c.request.reading asked
+    reads_well asked is path named = steady.shelf path (asked, is, named)
 
-    judges : (p : Program) (settings : Settings) → NamesProgram c.request (Verify settings) p → IsResult c.status
-        ⊎ (c.status ≡ 7)
-    judges p settings named = elim status [
-      | inl mine ↦ subst (λ m. IsResult m ⊎ (m ≡ 7)) (sym mine)
-          (due_for_verify c.request named.bytes p named.within named.is settings named.file
-          (read_well (Verify settings) named.bytes named.file) a right)
+    -- where the answer's own status is among some, or is that of want of memory, so is the status
+    mostly : (P : ℕ → Type 0) → P (status_of a) ⊎ (status_of a ≡ 7) → P c.status ⊎ (c.status ≡ 7)
+    mostly P due = elim status [
+      | inl mine ↦ subst (λ m. P m ⊎ (m ≡ 7)) (sym mine) due
       | inr (inl six) ↦ absurd (whole six)
       | inr (inr seven) ↦ inr seven
     ]
 
-    runs : (p : Program) (choices : List ℕ) (steps : ℕ) → NamesProgram c.request (Run choices steps) p
+    judges : (p : Program) (path : List ℕ) (settings : Settings)
+        → NamesProgram c.request (Verify path None settings) p → IsResult c.status ⊎ (c.status ≡ 7)
+    judges p path settings named =
+        mostly IsResult
+        (due_for_verify c.request named.bytes p named.within named.is path settings named.file
+        (reads_well (Verify path None settings) named.file.is_asked) a right)
+
+    runs : (p : Program) (path choices : List ℕ) (steps : ℕ) → NamesProgram c.request (Run path choices steps) p
         → (c.status ≡ run_status (run p choices steps)) ⊎ (c.status ≡ 7)
-    runs p choices steps named = elim status [
-      | inl mine ↦ subst (λ m. (m ≡ run_status (run p choices steps)) ⊎ (m ≡ 7)) (sym mine)
-          (due_for_run c.request named.bytes p named.within named.is choices steps named.file
-          (read_well (Run choices steps) named.bytes named.file) a right)
-      | inr (inl six) ↦ absurd (whole six)
-      | inr (inr seven) ↦ inr seven
-    ]
+    runs p path choices steps named =
+        mostly (λ m. m ≡ run_status (run p choices steps))
+        (due_for_run c.request named.bytes p named.within named.is path choices steps named.file
+        (reads_well (Run path choices steps) named.file.is_asked) a right)
 
-    refuses : NamesOther c.request → (c.status ≡ 4) ⊎ (c.status ≡ 7)
-    refuses named = elim status [
-      | inl mine ↦ subst (λ m. (m ≡ 4) ⊎ (m ≡ 7)) (sym mine)
-          (due_for_others c.request named.bytes named.other named.task named.file
-          (read_well named.task named.bytes named.file) a right)
-      | inr (inl six) ↦ absurd (whole six)
-      | inr (inr seven) ↦ inr seven
-    ]
+    refusal : (asked : Asked) → IsAsked c.request.words asked
+        → ((v : Verdict) (text : List ℕ) → IsVerified c.request.reading asked v text → ⊥)
+        → ((o : Outcome) → IsRun c.request.reading asked o → ⊥) → IsRefusal c.status
+    refusal asked is unverified unrun =
+        mostly (λ m. m ≡ 4) (only_refused c.request asked is (reads_well asked is) unverified unrun a right)
+
+    refuses : NamesOther c.request → IsRefusal c.status
+    refuses named =
+        refusal named.asked named.file.is_asked
+        (others_not_verified c.request named.bytes named.other named.asked named.file)
+        (others_not_run c.request named.bytes named.other named.asked named.file)
+
+    refuses_boxes : VerifiesByBoxes c.request.words → IsRefusal c.status
+    refuses_boxes v = refusal (Verify v.0 (Some v.1) v.2) v.3 (λ v text h. h) (λ o h. h)
+
+    refuses_gen : Generates c.request.words → IsRefusal c.status
+    refuses_gen g = refusal (Gen g.0 g.1) g.2 (λ v text h. h) (λ o h. h)
 
   pub promises : Promises c
   promises = record {
@@ -529,11 +579,13 @@ module _ (c : Call) (a : Answer) (right : IsRight c.request a) (reads : ReadsOnl
     refused = refused;
     not_read = not_read;
     not_written = not_written;
-    no_memory = no_memory;
-    unread = λ none. unread c.request c.status a none right status (λ seven. (memory seven).0);
-    judges = λ p settings named steady. judges steady p settings named;
-    runs = λ p choices steps named steady. runs steady p choices steps named;
+    no_memory = memory;
+    unread = λ none. unread c.request c.status a none right status;
+    judges = λ p path settings named steady. judges steady p path settings named;
+    runs = λ p path choices steps named steady. runs steady p path choices steps named;
     refuses = λ named steady. refuses steady named;
+    refuses_boxes = λ asked steady. refuses_boxes steady asked;
+    refuses_gen = λ asked steady. refuses_gen steady asked;
     reads_only = reads;
     status = status_below_eight c.status a status;
   }

@@ -1,27 +1,15 @@
 -- One call: what it is asked, and what it finds and leaves, as far as its shelf and its sinks tell.
-use Rattle.std.specs.Prelude.{◌≡◌, ℕ, List, [], ◌∷◌, ◌++◌, Option, String, map, string_bytes}
+use Rattle.std.specs.Prelude.{ℕ, List, Option, String}
 use Rattle.std.specs.declared.alloc.Global.{Global}
-use Rattle.fore_base.specs.declared.named_files.NamedFile.{NamedFile}
 use Rattle.fore_base.specs.declared.shelf.Shelf.{Ghosts as ShelfMeaning}
 use Rattle.fore_base.specs.declared.sink.Sink.{Ghosts as SinkMeaning}
-use Rattle.fore_base.specs.NamedFiles.{reading}
-
--- what a shelf tells at a moment: the bytes that it holds at each path, the readings that were answered so far, in
--- their order, and how often reading each path has failed
-pub record ShelfView : Type 0 where
-  pub holds : List ℕ → Option (List ℕ)
-  pub given : List NamedFile
-  pub faults : List ℕ → ℕ
+use Rattle.fore_read.specs.Readings.{Reading, reading_of}
+use Rattle.fore_words.specs.Words.{texts}
 
 -- what a sink tells at a moment: the bytes that were written so far, and how often a write has failed
 pub record SinkView : Type 0 where
   pub held : Option (List ℕ)
   pub faults : ℕ
-
--- a shelf before and after the call
-pub record Reading : Type 0 where
-  pub before : ShelfView
-  pub after : ShelfView
 
 -- the words, and what became of the shelf
 pub record Request : Type 0 where
@@ -40,26 +28,8 @@ pub record Call : Type 0 where
   pub notes : Writing
   pub status : ℕ
 
--- no reading was answered in this call
-abbrev pub ReadNothing : Reading → Type 0
-ReadNothing r = r.after.given ≡ r.before.given
-
--- one reading was answered in this call: it is of this path, and gave these bytes
-abbrev pub ReadOnce : Reading → List ℕ → List ℕ → Type 0
-ReadOnce r path bytes = r.after.given ≡ r.before.given ++ reading path bytes ∷ []
-
--- the bytes of each word
-abbrev pub texts : List (String Global) → List (List ℕ)
-texts words = map (λ w. string_bytes w) words
-
-abbrev pub shelf_view : {S : Type 0} → ShelfMeaning S → S → ShelfView
-shelf_view meaning s = record { holds = meaning.holds s; given = meaning.given s; faults = meaning.faults s }
-
 abbrev pub sink_view : {S : Type 0} → SinkMeaning S → S → SinkView
 sink_view meaning s = record { held = meaning.held s; faults = meaning.faults s }
-
-abbrev pub reading_of : {S : Type 0} → ShelfMeaning S → S → S → Reading
-reading_of meaning old new = record { before = shelf_view meaning old; after = shelf_view meaning new }
 
 abbrev pub request_of : {S : Type 0} → ShelfMeaning S → List (String Global) → S → S → Request
 request_of meaning words old new = record { words = texts words; reading = reading_of meaning old new }

@@ -1,13 +1,17 @@
 -- What holds of every call of the program.
-use Rattle.std.specs.Prelude.{◌≡◌, ◌<◌, ◌⊎◌, ℕ, List}
+use Rattle.std.specs.Prelude.{◌≡◌, ◌<◌, ◌⊎◌, ℕ, List, None}
 use Rattle.c_types.specs.declared.outcome.Outcome.{Outcome}
 use Rattle.c_types.specs.Program.{Program}
 use Rattle.c_types.specs.Runs.{run}
+use Rattle.fore_read.specs.declared.fault.Refusal.{Refusal}
+use Rattle.fore_report.specs.Reports.{IsReport}
+use Rattle.fore_report.specs.declared.verdict.Verdict.{Verdict}
+use Rattle.fore_report.specs.declared.verdict.Verdict.TheVariants.{Safe, Unsafe, Unknown}
+use Rattle.fore_words.specs.declared.asked.Settings.{Settings}
+use Rattle.fore_words.specs.declared.asked.Asked.TheVariants.{Verify, Run}
+use Rattle.fore_words.specs.Words.{AsksNothing}
 use Rattle.fore_call.specs.declared.answer.Answer.{Answer}
-use Rattle.fore_call.specs.declared.answer.Answer.TheVariants.{Verified, Ran, Usage, Refused, ReadFault, NoMemory}
-use Rattle.fore_call.specs.declared.answer.Refusal.{Refusal}
-use Rattle.fore_call.specs.declared.answer.Verdict.{Verdict}
-use Rattle.fore_call.specs.declared.answer.Verdict.TheVariants.{Safe, Unsafe, Unknown}
+use Rattle.fore_call.specs.declared.answer.Answer.TheVariants.{Verified, Ran, Usage, Refused, ReadFault}
 use Rattle.fore_call.specs.declared.status.TheConstants.{
   NO_FAULT,
   FAULT,
@@ -18,18 +22,27 @@ use Rattle.fore_call.specs.declared.status.TheConstants.{
   NOT_WRITTEN,
   NO_MEMORY,
 }
-use Rattle.fore_call.specs.declared.words.Settings.{Settings}
-use Rattle.fore_call.specs.declared.words.Task.TheVariants.{Verify, Run}
 use Rattle.fore_call.specs.Calls.{Call}
 use Rattle.fore_call.specs.Delivery.{IsCutShort, Told, WroteNothing}
-use Rattle.fore_call.specs.Reports.{IsReport}
+use Rattle.fore_call.specs.Names.{Verifies, VerifiesByBoxes, Runs, Generates}
 use Rattle.fore_call.specs.Texts.{run_status, status_of}
-use Rattle.fore_call.specs.Verdict.{IsRight, NothingFailed, NamesProgram, NamesOther, ReadsOnly, VerifiesTo}
-use Rattle.fore_call.specs.Words.{AsksNothing, AsksToVerify, AsksToRun}
+use Rattle.fore_call.specs.Verdict.{
+  no_boxes,
+  IsRight,
+  NothingFailed,
+  NamesProgram,
+  NamesOther,
+  ReadsOnly,
+  VerifiesTo,
+}
 
 -- the status of a verdict, or of how a run came out
 abbrev pub IsResult : ℕ → Type 0
 IsResult n = (n ≡ NO_FAULT) ⊎ (n ≡ FAULT) ⊎ (n ≡ UNKNOWN)
+
+-- the status of a refusal, or want of memory
+abbrev pub IsRefusal : ℕ → Type 0
+IsRefusal n = (n ≡ REFUSED) ⊎ (n ≡ NO_MEMORY)
 
 -- the call gave this answer: it is right, the status is its own, and both sinks got exactly its text
 pub record Answers (c : Call) (due : Answer) : Type 0 where
@@ -37,45 +50,52 @@ pub record Answers (c : Call) (due : Answer) : Type 0 where
   pub status : c.status ≡ status_of due
   pub told : Told c.out c.notes due
 
--- exactly the report with this verdict was written, on the program of the bytes that were read in this call
+-- exactly the report with this verdict was written, on the program of the bytes that were read in this call; it was
+-- verified by the empty table
 pub record Reported (c : Call) (verdict : Verdict) : Type 0 where
   pub text : List ℕ
-  pub means : VerifiesTo c.request (λ p settings. IsReport p settings text verdict)
+  pub means : VerifiesTo c.request (λ p settings. IsReport (no_boxes p.shapes) p settings text verdict)
   pub told : Told c.out c.notes (Verified verdict text)
 
 pub record Promises (c : Call) : Type 0 where
   -- SAFE: no choices and no number of steps lead the program of the file to a fault
-  pub is_safe : AsksToVerify c.request.words → c.status ≡ NO_FAULT → Reported c Safe
+  pub is_safe : Verifies c.request.words → c.status ≡ NO_FAULT → Reported c Safe
   -- UNSAFE: the printed choices lead it to the printed fault
-  pub is_unsafe : AsksToVerify c.request.words → c.status ≡ FAULT → Reported c Unsafe
+  pub is_unsafe : Verifies c.request.words → c.status ≡ FAULT → Reported c Unsafe
   -- UNKNOWN: as many abstract states are kept as may be, or the choices of the printed abstract trace meet no fault
-  pub is_unknown : AsksToVerify c.request.words → c.status ≡ UNKNOWN → Reported c Unknown
+  pub is_unknown : Verifies c.request.words → c.status ≡ UNKNOWN → Reported c Unknown
   -- so came the run out
-  pub ran : AsksToRun c.request.words → IsResult c.status → (outcome : Outcome) × Answers c (Ran outcome)
+  pub ran : Runs c.request.words → IsResult c.status → (outcome : Outcome) × Answers c (Ran outcome)
   -- each result answers one of the two commands
-  pub asked : IsResult c.status → AsksToVerify c.request.words ⊎ AsksToRun c.request.words
+  pub asked : IsResult c.status → Verifies c.request.words ⊎ Runs c.request.words
   -- the words ask nothing
   pub usage : c.status ≡ USAGE → Answers c Usage
-  -- the file breaks the printed rule
+  -- a file breaks the printed rule, or there is no answer yet to what is asked
   pub refused : c.status ≡ REFUSED → (why : Refusal) × Answers c (Refused why)
-  -- reading the file has failed
+  -- reading a file has failed
   pub not_read : c.status ≡ NOT_READ → Answers c ReadFault
   -- a sink failed while a right answer was written, and got a beginning of it
   pub not_written : c.status ≡ NOT_WRITTEN
       → (due : Answer) × (status_of due < NOT_WRITTEN) × IsRight c.request due × IsCutShort c.out c.notes due
-  -- the words ask something, and nothing was written
-  pub no_memory : c.status ≡ NO_MEMORY → IsRight c.request NoMemory × WroteNothing c.out c.notes
+  -- nothing was written
+  pub no_memory : c.status ≡ NO_MEMORY → WroteNothing c.out c.notes
   -- words that ask nothing get no other status
-  pub unread : AsksNothing c.request.words → (c.status ≡ USAGE) ⊎ (c.status ≡ NOT_WRITTEN)
-  -- a program that is to be verified gets a verdict, where nothing fails
-  pub judges : (p : Program) (settings : Settings) → NamesProgram c.request (Verify settings) p
+  pub unread : AsksNothing c.request.words
+      → (c.status ≡ USAGE) ⊎ (c.status ≡ NOT_WRITTEN) ⊎ (c.status ≡ NO_MEMORY)
+  -- a program that is to be verified without boxes gets a verdict, where nothing fails
+  pub judges : (p : Program) (path : List ℕ) (settings : Settings)
+      → NamesProgram c.request (Verify path None settings) p
       → NothingFailed c → IsResult c.status ⊎ (c.status ≡ NO_MEMORY)
   -- a program that is to be run is run
-  pub runs : (p : Program) (choices : List ℕ) (steps : ℕ) → NamesProgram c.request (Run choices steps) p
+  pub runs : (p : Program) (path choices : List ℕ) (steps : ℕ) → NamesProgram c.request (Run path choices steps) p
       → NothingFailed c → (c.status ≡ run_status (run p choices steps)) ⊎ (c.status ≡ NO_MEMORY)
-  -- a file that is to be refused is refused
-  pub refuses : NamesOther c.request → NothingFailed c → (c.status ≡ REFUSED) ⊎ (c.status ≡ NO_MEMORY)
-  -- no file is read but the one that the words name, and that one at most once
+  -- a C file that is to be refused is refused
+  pub refuses : NamesOther c.request → NothingFailed c → IsRefusal c.status
+  -- what is to be verified with boxes is refused, for now
+  pub refuses_boxes : VerifiesByBoxes c.request.words → NothingFailed c → IsRefusal c.status
+  -- a program that is to be generated is refused, for now
+  pub refuses_gen : Generates c.request.words → NothingFailed c → IsRefusal c.status
+  -- no file is read but the C file, and then the file of boxes, that the words name, each at most once
   pub reads_only : ReadsOnly c.request
   -- there are no other statuses
   pub status : c.status < 8

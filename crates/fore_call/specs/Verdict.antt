@@ -1,76 +1,118 @@
 -- Which answer is right for what was asked and what the shelf gave.
-use Rattle.std.specs.Prelude.{◌≡◌, ◌≤◌, ◌<◌, ◌⊎◌, ⊤, ℕ, List, Some, IfSome, length}
-use Rattle.fore_base.specs.declared.limits.TheConstants.{FILE_BYTES}
+use Rattle.std.specs.Prelude.{◌≡◌, ◌≤◌, ◌<◌, ◌⊎◌, ⊤, ℕ, List, [], ◌∷◌, Option, Some, None, length}
+use Rattle.fore_base.specs.NamedFiles.{reading}
 use Rattle.fore_base.specs.Outside.{Rose}
+use Rattle.fore_base.specs.declared.limits.TheConstants.{FILE_BYTES}
+use Rattle.fore_base.specs.declared.named_files.NamedFile.{NamedFile}
+use Rattle.fore_base.specs.declared.shape.Shapes.{Shapes}
+use Rattle.c_types.specs.declared.outcome.Outcome.{Outcome}
 use Rattle.c_types.specs.Program.{Program}
 use Rattle.c_types.specs.Runs.{run}
 use Rattle.c_front.specs.declared.broken.Broken.{Broken}
 use Rattle.c_front.specs.Files.{IsProgramOf, BreaksFirst}
-use Rattle.fore_call.specs.declared.answer.Refusal.{Refusal}
-use Rattle.fore_call.specs.declared.answer.Refusal.TheVariants.{TooLong, Breaks}
+use Rattle.fa_core.specs.Boxes.{Boxes}
+use Rattle.fore_read.specs.declared.fault.Refusal.{Refusal}
+use Rattle.fore_read.specs.declared.fault.Refusal.TheVariants as refusal
+use Rattle.fore_read.specs.Readings.{Reading, AreReadings, HasFailed}
+use Rattle.fore_read.specs.Files.{GivesProgram, RefusesFile, FailsFile, IsTableFile, AreRefusedBoxes}
+use Rattle.fore_report.specs.Reports.{IsReport}
+use Rattle.fore_report.specs.declared.verdict.Verdict.{Verdict}
+use Rattle.fore_words.specs.declared.asked.Settings.{Settings}
+use Rattle.fore_words.specs.declared.asked.Asked.{Asked}
+use Rattle.fore_words.specs.declared.asked.Asked.TheVariants.{Verify, Run, Gen}
+use Rattle.fore_words.specs.Words.{IsAsked, AsksToVerify, AsksNothing}
 use Rattle.fore_call.specs.declared.answer.Answer.{Answer}
 use Rattle.fore_call.specs.declared.answer.Answer.TheVariants.{Verified, Ran, Usage, Refused, ReadFault, NoMemory}
-use Rattle.fore_call.specs.declared.words.Settings.{Settings}
-use Rattle.fore_call.specs.declared.words.Task.{Task}
-use Rattle.fore_call.specs.declared.words.Task.TheVariants.{Verify, Run}
-use Rattle.fore_call.specs.Reports.{IsReport}
-use Rattle.fore_call.specs.Calls.{Reading, Request, Call, ReadNothing, ReadOnce}
-use Rattle.fore_call.specs.Words.{IsAsked, Names, AsksNothing}
+use Rattle.fore_call.specs.Calls.{Request, Call}
+use Rattle.fore_call.specs.Names.{file_of, Names, LetRead}
 
--- Reading the file of a path, by what the shelf told before and after the call.
-module _ (r : Reading) (path : List ℕ) where
-  -- the bytes that the shelf gave in this call: within the limit, and those that it holds, where it tells them
-  pub record IsRead (bytes : List ℕ) : Type 0 where
-    pub given : ReadOnce r path bytes
-    pub within : length bytes ≤ FILE_BYTES
-    pub held : IfSome (r.before.holds path) (λ told. bytes ≡ told)
+-- the table of words without a file of boxes, over these structs
+abbrev pub no_boxes : Shapes → Boxes
+no_boxes shapes = record { face = record { shapes = shapes; boxes = [] }; defs = [] }
 
-  -- the bytes that were read are those of a program with the property
-  abbrev pub HasProgram : (Program → Type 0) → Type 0
-  HasProgram P = (bytes : List ℕ) × IsRead bytes × (p : Program) × IsProgramOf bytes p × P p
+-- the file of boxes of this path has a table, and is refused, since no command uses boxes yet
+abbrev pub AreUnused : Option (List ℕ) → List ℕ → Shapes → List NamedFile → Refusal → Type 0
+AreUnused told boxes shapes done why = (why ≡ refusal.NoBoxes) × (t : Boxes) × IsTableFile told boxes shapes done t
 
-  abbrev pub IsRefused : Refusal → Type 0
-  IsRefused TooLong = ReadNothing r × IfSome (r.before.holds path) (λ told. FILE_BYTES < length told)
-  IsRefused (Breaks b) = (bytes : List ℕ) × IsRead bytes × BreaksFirst bytes b
+-- By what the shelf told before and after the call.
+module _ (r : Reading) where
+  -- the file of this path was read and nothing else, and its bytes are those of a program with the property
+  abbrev pub HasProgram : List ℕ → (Program → Type 0) → Type 0
+  HasProgram path P = (p : Program) × GivesProgram r path [] p × P p
 
-  -- reading it has failed in this call
-  abbrev pub HasFailed : Type 0
-  HasFailed = Rose (r.before.faults path) (r.after.faults path)
+  -- the file of the first path gives a program, and that of the other is then refused over its structs
+  abbrev pub RefusesBoxes : List ℕ → List ℕ → Refusal → Type 0
+  RefusesBoxes path boxes why =
+      (p : Program) × (done : List NamedFile) × GivesProgram r path done p
+      × (AreRefusedBoxes (r.before.holds boxes) boxes p.shapes done why
+      ⊎ AreUnused (r.before.holds boxes) boxes p.shapes done why)
 
-  -- the answer is right for what is to be done with the file
-  abbrev pub IsRightFor : Answer → Task → Type 0
-  IsRightFor (Verified verdict text) (Verify settings) = HasProgram (λ p. IsReport p settings text verdict)
-  IsRightFor (Verified verdict text) (Run choices steps) = ⊥
-  IsRightFor (Ran outcome) (Verify settings) = ⊥
-  IsRightFor (Ran outcome) (Run choices steps) = HasProgram (λ p. outcome ≡ run p choices steps)
-  IsRightFor Usage task = ⊥
-  IsRightFor (Refused why) task = IsRefused why
-  IsRightFor ReadFault task = ReadNothing r × HasFailed
-  IsRightFor NoMemory task = ⊤
+  -- the file of the first path gives a program, and the reading of the other has failed
+  abbrev pub FailsBoxes : List ℕ → List ℕ → Type 0
+  FailsBoxes path boxes = HasProgram path (λ p. HasFailed r boxes)
 
--- the words name a file, and the answer is right for it
-abbrev pub ForFile : Request → Answer → Type 0
-ForFile r answer = (path : List ℕ) × (task : Task) × IsAsked r.words path task × IsRightFor r.reading path answer task
+  -- what is asked is refused: by the C file, or by the file of boxes, or since no program is generated yet
+  abbrev pub IsRefused : Asked → Refusal → Type 0
+  IsRefused (Verify path None settings) why = RefusesFile r path why
+  IsRefused (Verify path (Some boxes) settings) why = RefusesFile r path why ⊎ RefusesBoxes path boxes why
+  IsRefused (Run path choices steps) why = RefusesFile r path why
+  IsRefused (Gen kind phases) why = (why ≡ refusal.NoGen) × AreReadings r []
 
--- The answer is right: usage where the words ask nothing, and otherwise what is right for the file.
+  -- a file that is asked for was not read
+  abbrev pub IsReadFault : Asked → Type 0
+  IsReadFault (Verify path None settings) = FailsFile r path
+  IsReadFault (Verify path (Some boxes) settings) = FailsFile r path ⊎ FailsBoxes path boxes
+  IsReadFault (Run path choices steps) = FailsFile r path
+  IsReadFault (Gen kind phases) = ⊥
+
+  -- this is the report, with this verdict, on what is asked
+  abbrev pub IsVerified : Asked → Verdict → List ℕ → Type 0
+  IsVerified (Verify path None settings) verdict text =
+      HasProgram path (λ p. IsReport (no_boxes p.shapes) p settings text verdict)
+  IsVerified (Verify path (Some boxes) settings) verdict text = ⊥
+  IsVerified (Run path choices steps) verdict text = ⊥
+  IsVerified (Gen kind phases) verdict text = ⊥
+
+  -- so the run that is asked for comes out
+  abbrev pub IsRun : Asked → Outcome → Type 0
+  IsRun (Run path choices steps) outcome = HasProgram path (λ p. outcome ≡ run p choices steps)
+  IsRun (Verify path boxes settings) outcome = ⊥
+  IsRun (Gen kind phases) outcome = ⊥
+
+  -- the answer is right for what is asked
+  abbrev pub IsRightFor : Asked → Answer → Type 0
+  IsRightFor asked (Verified verdict text) = IsVerified asked verdict text
+  IsRightFor asked (Ran outcome) = IsRun asked outcome
+  IsRightFor asked Usage = ⊥
+  IsRightFor asked (Refused why) = IsRefused asked why
+  IsRightFor asked ReadFault = IsReadFault asked
+  IsRightFor asked NoMemory = ⊤
+
+-- the words ask something, and the answer is right for it
+abbrev pub ForAsked : Request → Answer → Type 0
+ForAsked r answer = (asked : Asked) × IsAsked r.words asked × IsRightFor r.reading asked answer
+
+-- The answer is right: usage where the words ask nothing, and otherwise what is right for what they ask.
 abbrev pub IsRight : Request → Answer → Type 0
-IsRight r (Verified verdict text) = ForFile r (Verified verdict text)
-IsRight r (Ran outcome) = ForFile r (Ran outcome)
+IsRight r (Verified verdict text) = ForAsked r (Verified verdict text)
+IsRight r (Ran outcome) = ForAsked r (Ran outcome)
 IsRight r Usage = AsksNothing r.words
-IsRight r (Refused why) = ForFile r (Refused why)
-IsRight r ReadFault = ForFile r ReadFault
-IsRight r NoMemory = ForFile r NoMemory
+IsRight r (Refused why) = ForAsked r (Refused why)
+IsRight r ReadFault = ForAsked r ReadFault
+IsRight r NoMemory = ⊤
 
--- The words ask to verify a file, and the bytes that the shelf gave for it in this call are the text of a program p
--- that this is true of: P p settings, with the settings of the words.
+-- The words ask to verify a file without boxes, and the bytes that the shelf gave for it in this call are the text of a
+-- program p of which this is true: P p settings, with the settings of the words.
 abbrev pub VerifiesTo : Request → (Program → Settings → Type 0) → Type 0
 VerifiesTo r P =
-    (path : List ℕ) × (settings : Settings) × IsAsked r.words path (Verify settings)
+    (path : List ℕ) × (settings : Settings) × AsksToVerify r.words path None settings
     × HasProgram r.reading path (λ p. P p settings)
 
--- at most one reading was answered in this call, of the file that the words name; and what the shelf holds stays
+-- the readings that were answered in this call are some that the words let come; and what the shelf holds stays
 pub record ReadsOnly (r : Request) : Type 0 where
-  pub reads : ReadNothing r.reading ⊎ ((path bytes : List ℕ) × Names r.words path × ReadOnce r.reading path bytes)
+  pub done : List NamedFile
+  pub reads : AreReadings r.reading done
+  pub let_come : LetRead r.words done
   pub kept : (path : List ℕ) → r.reading.after.holds path ≡ r.reading.before.holds path
 
 -- no reading of a file that the words name failed in this call, and no write
@@ -79,16 +121,18 @@ pub record NothingFailed (c : Call) : Type 0 where
   pub out : Rose c.out.before.faults c.out.after.faults → ⊥
   pub notes : Rose c.notes.before.faults c.notes.after.faults → ⊥
 
--- the words ask to do this with a file of these bytes: the shelf tells that it holds them, or gave them in this call
-pub record HasBytes (r : Request) (task : Task) (bytes : List ℕ) : Type 0 where
+-- the words ask this of a C file of these bytes: the shelf tells that it holds them, or gave them first in this call
+pub record HasBytes (r : Request) (asked : Asked) (bytes : List ℕ) : Type 0 where
   pub path : List ℕ
-  pub asked : IsAsked r.words path task
-  pub known : (r.reading.before.holds path ≡ Some bytes) ⊎ ReadOnce r.reading path bytes
+  pub of : file_of asked ≡ Some path
+  pub is_asked : IsAsked r.words asked
+  pub known : (r.reading.before.holds path ≡ Some bytes)
+      ⊎ ((more : List NamedFile) × AreReadings r.reading (reading path bytes ∷ more))
 
--- the words ask to do this with a file of this program
-pub record NamesProgram (r : Request) (task : Task) (p : Program) : Type 0 where
+-- the words ask this of a C file of this program
+pub record NamesProgram (r : Request) (asked : Asked) (p : Program) : Type 0 where
   pub bytes : List ℕ
-  pub file : HasBytes r task bytes
+  pub file : HasBytes r asked bytes
   pub within : length bytes ≤ FILE_BYTES
   pub is : IsProgramOf bytes p
 
@@ -96,9 +140,9 @@ pub record NamesProgram (r : Request) (task : Task) (p : Program) : Type 0 where
 abbrev pub IsOther : List ℕ → Type 0
 IsOther bytes = (FILE_BYTES < length bytes) ⊎ ((b : Broken) × BreaksFirst bytes b)
 
--- the words name a file that is to be refused
+-- the words name a C file that is to be refused
 pub record NamesOther (r : Request) : Type 0 where
-  pub task : Task
+  pub asked : Asked
   pub bytes : List ℕ
-  pub file : HasBytes r task bytes
+  pub file : HasBytes r asked bytes
   pub other : IsOther bytes

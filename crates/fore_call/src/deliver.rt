@@ -3,14 +3,15 @@ ghost use Rattle.std.specs.Prelude.{◌≡◌, ◌≤◌, ◌<◌, ◌⊎◌, �
 ghost use Rattle.fore_call.specs.Calls.{writing_of};
 ghost use Rattle.fore_call.specs.Texts.{status_of};
 ghost use Rattle.fore_call.specs.Delivery.{IsCut, IsCutShort, IsUntouched, Told, Wrote, WroteNothing};
-ghost use Rattle.fore_call.specs.inner.Judging.{WantsMemory};
 
-use crate::answer::{Answer, Refusal};
+use crate::answer::Answer;
 use crate::status::{NO_MEMORY, NOT_READ, NOT_WRITTEN, REFUSED, USAGE};
-use crate::texts::{broken_line, run_report, run_status, verdict_status};
+use crate::texts::{refusal_line, run_status, verdict_status};
 use fore_base::memory::Mem;
 use fore_base::sink::{Sink, put_all};
 use fore_base::text::Text;
+use fore_report::run_report;
+use fore_words::usage_text;
 use std::alloc::Global;
 
 /// Writes the answer's text, and gives the status with which the program ends: `NOT_WRITTEN` where a sink failed,
@@ -22,8 +23,8 @@ pub fn deliver<K: Sink, E: Sink>(alloc: Global, answer: Answer, out: &mut K, not
         → Told (writing_of K.Sink out.old out.new) (writing_of E.Sink notes.old notes.new) answer }
     ensures written { result ≡ NOT_WRITTEN
         → IsCutShort (writing_of K.Sink out.old out.new) (writing_of E.Sink notes.old notes.new) answer }
-    ensures memory { result ≡ NO_MEMORY → WantsMemory answer
-        × WroteNothing (writing_of K.Sink out.old out.new) (writing_of E.Sink notes.old notes.new) }
+    ensures memory { result ≡ NO_MEMORY
+        → WroteNothing (writing_of K.Sink out.old out.new) (writing_of E.Sink notes.old notes.new) }
     ensures out_never_falls { K.faults out.old ≤ K.faults out.new }
     ensures notes_never_falls { E.faults notes.old ≤ E.faults notes.new }
 {
@@ -32,11 +33,8 @@ pub fn deliver<K: Sink, E: Sink>(alloc: Global, answer: Answer, out: &mut K, not
             write_text(out, text.as_slice(), verdict_status(verdict))
         }
         Answer::Ran(outcome) => write_report(run_report(alloc, outcome), out, run_status(outcome)),
-        Answer::Usage => write_text(notes, b"usage\n", USAGE),
-        Answer::Refused(Refusal::TooLong) => write_text(notes, b"refused K1 file\n", REFUSED),
-        Answer::Refused(Refusal::Breaks(broken)) => {
-            write_report(broken_line(alloc, broken), notes, REFUSED)
-        }
+        Answer::Usage => write_text(notes, usage_text(), USAGE),
+        Answer::Refused(why) => write_report(refusal_line(alloc, why), notes, REFUSED),
         Answer::ReadFault => write_text(notes, b"read fault\n", NOT_READ),
         Answer::NoMemory => NO_MEMORY,
     }

@@ -1,31 +1,38 @@
-//! The answer for a program, for a file's bytes, and for the words.
-ghost use Rattle.std.specs.Prelude.{◌≡◌, ◌≤◌, ℕ, List, length, IfOk};
-ghost use Rattle.fore_call.specs.Reports.{no_boxes};
-ghost use Rattle.fore_call.specs.Calls.{reading_of, request_of};
-ghost use Rattle.fore_call.specs.Verdict.{IsRight, IsRightFor, ReadsOnly};
-ghost use Rattle.fore_call.specs.inner.Judging.{TaskFits, SettingsFit, IsVerdict, JudgesProgram, JudgesBytes};
-ghost use Rattle.fore_call.specs.inner.Judging.{ReadAtMostOnce, answer_to};
+//! The answer to the words, and to what they ask.
+ghost use Rattle.std.specs.Prelude.{◌≡◌, List, ℕ, Some, None, IfOk};
+ghost use Rattle.fore_read.specs.Readings.{reading_of, ReadsAtMost};
+ghost use Rattle.fore_words.specs.Words.{IsInRange};
+ghost use Rattle.fore_words.specs.declared.asked.Asked.TheVariants as ask;
+ghost use Rattle.fore_call.specs.Calls.{request_of};
+ghost use Rattle.fore_call.specs.Verdict.{no_boxes, IsRight, IsRightFor, ReadsOnly};
+ghost use Rattle.fore_call.specs.inner.Judging.{
+  SettingsFit,
+  IsVerdict,
+  IsRunOf,
+  IsBoxesAnswer,
+  ReadsFor,
+  answer_to,
+};
 
-use crate::answer::{Answer, Refusal};
-use crate::report::report;
-use crate::words::{Settings, Task, Unread, asked, task_of};
-use c_cfg::graph::Graph;
+use crate::answer::Answer;
 use c_cfg::laws::edges_in_range;
 use c_cfg::lower::lower;
-use c_front::{FileFault, program_in};
 use c_machine::run::run;
 use c_types::program::Typed;
 use fa_core::table::BoxTable;
 use fix_engine::explore;
-use fore_base::limits::FILE_BYTES;
 use fore_base::memory::Mem;
-use fore_base::shelf::{Shelf, ShelfFault};
+use fore_base::shape::Shapes;
+use fore_base::shelf::Shelf;
+use fore_read::{ReadFault, Refusal, read_program, read_table};
+use fore_report::report;
+use fore_words::{Asked, Settings, WordsFault, read_words};
 use par_kit::crew::Crew;
 use par_kit::gate::Gate;
 use std::alloc::Global;
 use std::thread::Threads;
 
-/// The right answer for the words, after reading the file that they name.
+/// The right answer for the words, after reading the files that they name.
 pub fn answer<R: Threads + Sync, L: Shelf, G: Gate>(
     rt: &R,
     alloc: Global,
@@ -36,89 +43,151 @@ pub fn answer<R: Threads + Sync, L: Shelf, G: Gate>(
     ensures right { IsRight (request_of L.Shelf words.now shelf.old shelf.new) result }
     ensures reads_only { ReadsOnly (request_of L.Shelf words.now shelf.old shelf.new) }
 {
-    match asked(words) {
-        Some((verb, path, given)) => match task_of(alloc, verb, given) {
-            Ok(task) => judge_file(rt, alloc, shelf, path, &task, gate),
-            Err(Unread::Usage) => Answer::Usage,
-            Err(Unread::Memory) => Answer::NoMemory,
-        },
-        None => Answer::Usage,
+    match read_words(alloc, words) {
+        Ok(asked) => answer_asked(rt, alloc, &asked, shelf, gate),
+        Err(WordsFault::Usage) => Answer::Usage,
+        Err(WordsFault::Memory) => Answer::NoMemory,
     }
 }
 
-fn judge_file<R: Threads + Sync, L: Shelf, G: Gate>(
+/// The right answer for what is asked.
+fn answer_asked<R: Threads + Sync, L: Shelf, G: Gate>(
     rt: &R,
     alloc: Global,
+    asked: &Asked<'_>,
     shelf: &mut L,
-    path: &str,
-    task: &Task,
     gate: &G,
 ) -> Answer
-    requires { TaskFits task.now }
-    ensures right { IsRightFor (reading_of L.Shelf shelf.old shelf.new) path.now result task.now }
-    ensures reads { ReadAtMostOnce (reading_of L.Shelf shelf.old shelf.new) path.now }
-    ensures kept { (p : List ℕ) → L.holds shelf.new p ≡ L.holds shelf.old p }
+    requires { IsInRange asked.now }
+    ensures right { IsRightFor (reading_of L.Shelf shelf.old shelf.new) asked.now result }
+    ensures reads { ReadsFor (reading_of L.Shelf shelf.old shelf.new) asked.now }
 {
-    match shelf.read_all(alloc, path, FILE_BYTES) {
-        Ok(bytes) => judge_bytes(rt, alloc, bytes.as_slice(), task, gate),
-        Err(ShelfFault::Failed) => Answer::ReadFault,
-        Err(ShelfFault::TooLong) => Answer::Refused(Refusal::TooLong),
-        Err(ShelfFault::Memory) => Answer::NoMemory,
+    match asked {
+        Asked::Verify {
+            path,
+            boxes: None,
+            settings,
+        } => verify_file(rt, alloc, path.as_str(), *settings, shelf, gate),
+        Asked::Verify {
+            path,
+            boxes: Some(boxes),
+            settings,
+        } => refuse_boxes(alloc, path.as_str(), boxes.as_str(), *settings, shelf),
+        Asked::Run {
+            path,
+            choices,
+            steps,
+        } => run_file(alloc, path.as_str(), choices.as_slice(), *steps, shelf),
+        Asked::Gen { .. } => Answer::Refused(Refusal::NoGen),
     }
 }
 
-#[tactic(auto, using(crate::proofs::JudgeLemmas::judges_fault, crate::proofs::JudgeLemmas::bytes_from_program))]
-fn judge_bytes<R: Threads + Sync, G: Gate>(
+/// What is answered where a file is not taken.
+fn answer_to(fault: ReadFault) -> Answer
+    ensures { result ≡ answer_to fault }
+{
+    match fault {
+        ReadFault::Refused(why) => Answer::Refused(why),
+        ReadFault::Failed => Answer::ReadFault,
+        ReadFault::Memory => Answer::NoMemory,
+    }
+}
+
+/// The answer to a file that is to be verified without boxes.
+fn verify_file<R: Threads + Sync, L: Shelf, G: Gate>(
     rt: &R,
     alloc: Global,
-    bytes: &[u8],
-    task: &Task,
+    path: &str,
+    settings: Settings,
+    shelf: &mut L,
     gate: &G,
 ) -> Answer
-    requires bytes { length bytes.now ≤ FILE_BYTES }
-    requires task { TaskFits task.now }
-    ensures { JudgesBytes bytes.now result task.now }
+    requires { SettingsFit settings }
+    ensures right { IsRightFor (reading_of L.Shelf shelf.old shelf.new) (ask.Verify path.now None settings) result }
+    ensures reads { ReadsAtMost (reading_of L.Shelf shelf.old shelf.new) path.now }
 {
-    match program_in(alloc, bytes) {
-        Ok(program) => match judge_program(rt, alloc, &program, task, gate) {
-            Ok(answer) => answer,
-            Err(_) => Answer::NoMemory,
-        },
+    match read_program(alloc, shelf, path) {
+        Ok(program) => verify(rt, alloc, &program, settings, gate),
         Err(fault) => answer_to(fault),
     }
 }
 
-/// The answer where a file gives no program.
-fn answer_to(fault: FileFault) -> Answer
-    ensures { result ≡ answer_to fault }
+/// The answer to a file that is to be verified with a file of boxes: a refusal, for now.
+fn refuse_boxes<L: Shelf>(
+    alloc: Global,
+    path: &str,
+    boxes: &str,
+    _settings: Settings,
+    shelf: &mut L,
+) -> Answer
+    ensures right { IsRightFor (reading_of L.Shelf shelf.old shelf.new)
+        (ask.Verify path.now (Some boxes.now) _settings) result }
+    ensures reads { ReadsFor (reading_of L.Shelf shelf.old shelf.new)
+        (ask.Verify path.now (Some boxes.now) _settings) }
 {
-    match fault {
-        FileFault::Breaks { first } => Answer::Refused(Refusal::Breaks(first)),
-        FileFault::Memory => Answer::NoMemory,
+    match read_program(alloc, shelf, path) {
+        Ok(program) => answer_boxes(alloc, boxes, &program.shapes, shelf),
+        Err(fault) => answer_to(fault),
     }
 }
 
-fn judge_program<R: Threads + Sync, G: Gate>(
+/// The answer to a file of boxes over the structs of a program.
+fn answer_boxes<L: Shelf>(alloc: Global, path: &str, shapes: &Shapes, shelf: &mut L) -> Answer
+    ensures right { IsBoxesAnswer (reading_of L.Shelf shelf.old shelf.new) path.now shapes.now result }
+    ensures reads { ReadsAtMost (reading_of L.Shelf shelf.old shelf.new) path.now }
+{
+    match read_table(alloc, shelf, path, shapes) {
+        Ok(_) => Answer::Refused(Refusal::NoBoxes),
+        Err(fault) => answer_to(fault),
+    }
+}
+
+/// The answer to a file that is to be run.
+fn run_file<L: Shelf>(
+    alloc: Global,
+    path: &str,
+    choices: &[u8],
+    steps: u32,
+    shelf: &mut L,
+) -> Answer
+    ensures right { IsRightFor (reading_of L.Shelf shelf.old shelf.new) (ask.Run path.now choices.now steps) result }
+    ensures reads { ReadsAtMost (reading_of L.Shelf shelf.old shelf.new) path.now }
+{
+    match read_program(alloc, shelf, path) {
+        Ok(program) => run_program(alloc, &program, choices, steps),
+        Err(fault) => answer_to(fault),
+    }
+}
+
+/// The answer to a program that is to be run.
+fn run_program(alloc: Global, program: &Typed, choices: &[u8], steps: u32) -> Answer
+    ensures { IsRunOf program.now choices.now steps result }
+{
+    match run(alloc, program, choices, steps as u64) {
+        Ok(outcome) => Answer::Ran(outcome),
+        Err(_) => Answer::NoMemory,
+    }
+}
+
+/// The answer to a program that is to be verified without boxes.
+fn verify<R: Threads + Sync, G: Gate>(
     rt: &R,
     alloc: Global,
     program: &Typed,
-    task: &Task,
+    settings: Settings,
     gate: &G,
-) -> Mem<Answer>
-    requires { TaskFits task.now }
-    ensures { IfOk result (λ answer. JudgesProgram program.now answer task.now) }
+) -> Answer
+    requires { SettingsFit settings }
+    ensures { IsVerdict program.now settings result }
 {
-    match task {
-        Task::Verify(settings) => verify(rt, alloc, program, *settings, gate),
-        Task::Run { choices, steps } => {
-            let outcome = run(alloc, program, choices.as_slice(), *steps as u64)?;
-            Ok(Answer::Ran(outcome))
-        }
+    match explored(rt, alloc, program, settings, gate) {
+        Ok(answer) => answer,
+        Err(_) => Answer::NoMemory,
     }
 }
 
 /// Explores the program's control graph, and reports what was found.
-fn verify<R: Threads + Sync, G: Gate>(
+fn explored<R: Threads + Sync, G: Gate>(
     rt: &R,
     alloc: Global,
     program: &Typed,
@@ -130,7 +199,7 @@ fn verify<R: Threads + Sync, G: Gate>(
 {
     let graph = lower(alloc, program)?;
     edges_in_range(program, &graph);
-    let table = empty_table(alloc, &graph)?;
+    let table = empty_table(alloc, &program.shapes)?;
     let crew = Crew { jobs: 1, gate };
     let found = explore(
         rt,
@@ -145,10 +214,10 @@ fn verify<R: Threads + Sync, G: Gate>(
     Ok(Answer::Verified { verdict, text })
 }
 
-/// The table without boxes over the structs of the graph.
-fn empty_table(alloc: Global, graph: &Graph) -> Mem<BoxTable>
-    ensures { IfOk result (λ table. table ≡ no_boxes graph.now.shapes) }
+/// The table without boxes over the structs of a program.
+fn empty_table(alloc: Global, shapes: &Shapes) -> Mem<BoxTable>
+    ensures { IfOk result (λ table. table ≡ no_boxes shapes.now) }
 {
-    let table = BoxTable::empty(alloc, &graph.shapes)?;
+    let table = BoxTable::empty(alloc, shapes)?;
     Ok(table)
 }

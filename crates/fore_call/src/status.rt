@@ -12,10 +12,10 @@ pub const USAGE: u8 = 2;
 /// Neither was found; or the run has too few choices, or a wrong one, or still runs.
 pub const UNKNOWN: u8 = 3;
 
-/// The file is refused.
+/// What the words ask is refused.
 pub const REFUSED: u8 = 4;
 
-/// The file was not read.
+/// A file was not read.
 pub const NOT_READ: u8 = 5;
 
 /// A sink failed.

@@ -1,147 +1,44 @@
-//! The texts of reports and refusals.
-ghost use Rattle.std.specs.Prelude.{◌≡◌, ◌++◌, ◌∷◌, [], flat_map, codes, decimal, IfOk, OnOk};
-ghost use Rattle.c_types.specs.declared.outcome.Outcome.{Outcome as Out};
+// The lines of refusals, and the statuses of results.
+ghost use Rattle.std.specs.Prelude.{◌≡◌, IfOk};
 ghost use Rattle.fore_call.specs.Texts.{
-  fault_text,
-  fault_line,
-  fault_lines,
-  choices_line,
-  spaced,
-  ended_line,
-  explored_line,
-};
-ghost use Rattle.fore_call.specs.Texts.{
-  safe_text,
-  unsafe_text,
-  budget_text,
-  trace_text,
-  run_text,
   letter_text,
   broken_text,
+  box_text,
+  refusal_text,
+  run_status,
+  verdict_status,
 };
-ghost use Rattle.fore_call.specs.Texts.{run_status, verdict_status};
 
-use crate::answer::Verdict;
 use crate::status::{FAULT, NO_FAULT, UNKNOWN};
-use crate::words::Settings;
 use c_front::{Broken, Letter};
 use c_types::outcome::Outcome;
-use fix_engine::AbsTrace;
-use fore_base::fault::Fault;
 use fore_base::memory::Mem;
 use fore_base::text::Text;
+use fore_read::Refusal;
+use fore_report::Verdict;
 use std::alloc::Global;
 
-/// The name by which a fault is printed.
-pub fn fault_text(kind: Fault) -> &'static [u8]
-    ensures { result.now ≡ fault_text kind }
-{
-    match kind {
-        Fault::NullDeref => b"null dereference",
-        Fault::UninitDeref => b"uninitialised dereference",
-        Fault::DanglingDeref => b"dangling dereference",
-        Fault::InvalidFree => b"invalid free",
-        Fault::DoubleFree => b"double free",
-        Fault::Leak => b"leak",
-        Fault::Assertion => b"failed assertion",
-        Fault::IndetTest => b"indeterminate test",
-    }
-}
-
-/// The report that no run meets a fault, whole. Err is want of memory.
-pub fn safe_report(alloc: Global, settings: Settings, nodes: u32) -> Mem<Text>
-    ensures { IfOk result (λ text. text ≡ safe_text settings nodes) }
-{
-    let mut text = Text::new(alloc);
-    text.put(b"SAFE\n")?;
-    put_explored(&mut text, settings, nodes)?;
-    Ok(text)
-}
-
-/// The report on a fault that verification found, with the choices that lead to it, whole. Err is want of memory.
-pub fn unsafe_report(alloc: Global, kind: Fault, line: u32, step: u64, choices: &[u8]) -> Mem<Text>
-    ensures { IfOk result (λ text. text ≡ unsafe_text kind line step choices.now) }
-{
-    let mut text = Text::new(alloc);
-    text.put(b"UNSAFE\n")?;
-    put_fault(&mut text, kind, line, step)?;
-    put_choices(&mut text, choices)?;
-    Ok(text)
-}
-
-/// The report that as many abstract states are kept as may be, whole. Err is want of memory.
-pub fn budget_report(alloc: Global, settings: Settings, nodes: u32) -> Mem<Text>
-    ensures { IfOk result (λ text. text ≡ budget_text settings nodes) }
-{
-    let mut text = Text::new(alloc);
-    text.put(b"UNKNOWN budget\n")?;
-    put_explored(&mut text, settings, nodes)?;
-    Ok(text)
-}
-
-/// The report on an abstract trace whose choices meet no fault, whole. Err is want of memory.
-pub fn trace_report(alloc: Global, settings: Settings, nodes: u32, trace: &AbsTrace) -> Mem<Text>
-    ensures { IfOk result (λ text. text ≡ trace_text settings nodes trace.now) }
-{
-    let mut text = Text::new(alloc);
-    text.put(b"UNKNOWN trace\n")?;
-    put_fault_line(&mut text, trace.fault)?;
-    put_counted(&mut text, b"line ", trace.line as u64)?;
-    put_counted(&mut text, b"steps ", trace.steps)?;
-    put_choices(&mut text, trace.choices.as_slice())?;
-    put_way(&mut text, trace.nodes.as_slice())?;
-    put_counted(&mut text, b"edge ", trace.edge as u64)?;
-    put_explored(&mut text, settings, nodes)?;
-    Ok(text)
-}
-
-/// The status of a verdict.
-pub fn verdict_status(verdict: Verdict) -> u8
-    ensures { result ≡ verdict_status verdict }
-{
-    match verdict {
-        Verdict::Safe => NO_FAULT,
-        Verdict::Unsafe => FAULT,
-        Verdict::Unknown => UNKNOWN,
-    }
-}
-
-/// The report on how a run came out, whole.
+/// The line that says why what is asked is refused, whole.
 ///
 /// # Errors
 ///
 /// Want of memory for the text.
-pub fn run_report(alloc: Global, outcome: Outcome) -> Mem<Text>
-    ensures { IfOk result (λ text. text ≡ run_text outcome) }
+pub fn refusal_line(alloc: Global, why: Refusal) -> Mem<Text>
+    ensures { IfOk result (λ text. text ≡ refusal_text why) }
 {
-    let mut text = Text::new(alloc);
-    match outcome {
-        Outcome::Ended { step } => put_counted(&mut text, b"ENDED\nstep ", step)?,
-        Outcome::Fault { kind, line, step } => put_met(&mut text, kind, line, step)?,
-        Outcome::Starved { step } => put_counted(&mut text, b"STARVED\nstep ", step)?,
-        Outcome::BadChoice { index } => put_counted(&mut text, b"BAD CHOICE\nindex ", index)?,
-        Outcome::StillRunning => text.put(b"STILL RUNNING\n")?,
-    }
-    Ok(text)
-}
-
-/// The status with which a run ends.
-pub fn run_status(outcome: Outcome) -> u8
-    ensures { result ≡ run_status outcome }
-{
-    match outcome {
-        Outcome::Ended { .. } => NO_FAULT,
-        Outcome::Fault { .. } => FAULT,
-        Outcome::Starved { .. } | Outcome::BadChoice { .. } | Outcome::StillRunning => UNKNOWN,
+    match why {
+        Refusal::TooLong => Text::from_slice(alloc, b"refused K1 file\n"),
+        Refusal::Breaks(broken) => broken_line(alloc, broken),
+        Refusal::NoGen => Text::from_slice(alloc, b"refused N1 file\n"),
+        Refusal::BoxesTooLong => Text::from_slice(alloc, b"refused K1 boxes\n"),
+        Refusal::BoxRule { rule, line } => box_line(alloc, b"B", rule, line),
+        Refusal::BoxLimit { line } => box_line(alloc, b"K", 6, line),
+        Refusal::NoBoxes => Text::from_slice(alloc, b"refused N2 boxes\n"),
     }
 }
 
-/// The line that names a rule and the place at which a file breaks it.
-///
-/// # Errors
-///
-/// Want of memory for the text.
-pub fn broken_line(alloc: Global, broken: Broken) -> Mem<Text>
+/// The line that names a rule and the place at which a C file breaks it.
+fn broken_line(alloc: Global, broken: Broken) -> Mem<Text>
     ensures { IfOk result (λ text. text ≡ broken_text broken) }
 {
     let mut text = Text::new(alloc);
@@ -152,6 +49,20 @@ pub fn broken_line(alloc: Global, broken: Broken) -> Mem<Text>
     text.put_number(broken.at.line as u64)?;
     text.put(b":")?;
     text.put_number(broken.at.column as u64)?;
+    text.put(b"\n")?;
+    Ok(text)
+}
+
+/// The line that names a rule of boxes, or their limit, and the line at which a file of boxes breaks it.
+fn box_line(alloc: Global, letter: &[u8], number: u8, line: u32) -> Mem<Text>
+    ensures { IfOk result (λ text. text ≡ box_text letter.now number line) }
+{
+    let mut text = Text::new(alloc);
+    text.put(b"refused ")?;
+    text.put(letter)?;
+    text.put_number(number as u64)?;
+    text.put(b" line ")?;
+    text.put_number(line as u64)?;
     text.put(b"\n")?;
     Ok(text)
 }
@@ -168,102 +79,24 @@ fn letter_text(letter: Letter) -> &'static [u8]
     }
 }
 
-/// A fault that a run met, with the first line.
-fn put_met(text: &mut Text, kind: Fault, line: u32, step: u64) -> Mem<()>
-    ensures { OnOk result (text.new ≡ text.old ++ run_text (Out.Fault kind line step)) }
+/// The status of a verdict.
+pub fn verdict_status(verdict: Verdict) -> u8
+    ensures { result ≡ verdict_status verdict }
 {
-    text.put(b"FAULT\n")?;
-    put_fault(text, kind, line, step)?;
-    Ok(())
-}
-
-/// The lines of a fault: its number and name, its line in the file, and its step.
-fn put_fault(text: &mut Text, kind: Fault, line: u32, step: u64) -> Mem<()>
-    ensures { OnOk result (text.new ≡ text.old ++ fault_lines kind line step) }
-{
-    put_fault_line(text, kind)?;
-    put_counted(text, b"line ", line as u64)?;
-    put_counted(text, b"step ", step)?;
-    Ok(())
-}
-
-/// The line with the number and name of a fault.
-fn put_fault_line(text: &mut Text, kind: Fault) -> Mem<()>
-    ensures { OnOk result (text.new ≡ text.old ++ fault_line kind) }
-{
-    text.put(b"fault ")?;
-    text.put_number(kind.number() as u64)?;
-    text.put(b" ")?;
-    text.put(fault_text(kind))?;
-    text.put(b"\n")?;
-    Ok(())
-}
-
-/// The line on an exploration.
-fn put_explored(text: &mut Text, settings: Settings, nodes: u32) -> Mem<()>
-    ensures { OnOk result (text.new ≡ text.old ++ explored_line settings nodes) }
-{
-    text.put(b"height ")?;
-    text.put_number(settings.height as u64)?;
-    text.put(b" budget ")?;
-    text.put_number(settings.budget as u64)?;
-    text.put(b" nodes ")?;
-    text.put_number(nodes as u64)?;
-    text.put(b"\n")?;
-    Ok(())
-}
-
-/// The line of the choices.
-fn put_choices(text: &mut Text, choices: &[u8]) -> Mem<()>
-    ensures { OnOk result (text.new ≡ text.old ++ choices_line choices.now) }
-{
-    text.put(b"choices ")?;
-    if choices.is_empty() {
-        text.put(b"-")?;
-    } else {
-        put_digits(text, choices)?;
+    match verdict {
+        Verdict::Safe => NO_FAULT,
+        Verdict::Unsafe => FAULT,
+        Verdict::Unknown => UNKNOWN,
     }
-    text.put(b"\n")?;
-    Ok(())
 }
 
-/// Numbers one after the other, with nothing between them.
-fn put_digits(text: &mut Text, numbers: &[u8]) -> Mem<()>
-    ensures { OnOk result (text.new ≡ text.old ++ flat_map decimal numbers.now) }
+/// The status with which a run ends.
+pub fn run_status(outcome: Outcome) -> u8
+    ensures { result ≡ run_status outcome }
 {
-    for number in numbers {
-        text.put_number(*number as u64)?;
+    match outcome {
+        Outcome::Ended { .. } => NO_FAULT,
+        Outcome::Fault { .. } => FAULT,
+        Outcome::Starved { .. } | Outcome::BadChoice { .. } | Outcome::StillRunning => UNKNOWN,
     }
-    Ok(())
-}
-
-/// The line of the nodes of a trace.
-fn put_way(text: &mut Text, nodes: &[u32]) -> Mem<()>
-    ensures { OnOk result (text.new ≡ text.old ++ ended_line (codes "trace" ++ spaced nodes.now)) }
-{
-    text.put(b"trace")?;
-    put_spaced(text, nodes)?;
-    text.put(b"\n")?;
-    Ok(())
-}
-
-/// Numbers, with a space before each.
-fn put_spaced(text: &mut Text, numbers: &[u32]) -> Mem<()>
-    ensures { OnOk result (text.new ≡ text.old ++ spaced numbers.now) }
-{
-    for number in numbers {
-        text.put(b" ")?;
-        text.put_number(*number as u64)?;
-    }
-    Ok(())
-}
-
-/// A word, and a number that ends its line.
-fn put_counted(text: &mut Text, word: &[u8], number: u64) -> Mem<()>
-    ensures { OnOk result (text.new ≡ text.old ++ (word.now ++ (decimal number ++ 10 ∷ []))) }
-{
-    text.put(word)?;
-    text.put_number(number)?;
-    text.put(b"\n")?;
-    Ok(())
 }

@@ -10,16 +10,17 @@ use par_kit::gate::Gate;
 use std::alloc::Global;
 use std::thread::Threads;
 
-/// Does what the words ask: `verify FILE [--height N] [--steps N]`, or `run FILE [--choices LIST] [--steps N]`.
-/// Gives the status with which the program ends.
+/// Does what the words ask: `verify FILE [--boxes FILE] [--height N] [--steps N] [--jobs N]`,
+/// `run FILE [--choices LIST] [--steps N]` or `gen KIND N`. Gives the status with which the program ends.
 ///
 /// The statuses stand in `status`. `NO_FAULT`: no choices and no number of steps lead the program of the file to a
 /// fault; or the run has ended. `FAULT`: the printed choices lead it to the printed fault; or the run met the
 /// printed fault. `USAGE`: the words do not read. `UNKNOWN`: neither was found, since as many abstract states are
 /// kept as may be, or since the choices of the printed abstract trace meet no fault in up to 1,000,000 steps; or
-/// the run has too few choices, or a wrong one, or still runs. `REFUSED`: the file has more than 1,048,576 bytes,
-/// or breaks a rule. `NOT_READ`: the file could not be read. `NOT_WRITTEN`: a sink failed. `NO_MEMORY`: want of
-/// memory, and nothing was written.
+/// the run has too few choices, or a wrong one, or still runs. `REFUSED`: the C file has more than 1,048,576 bytes,
+/// or breaks a rule; or it does not, and the file of boxes has more than 65,536, or breaks a rule, or breaks none,
+/// since boxes are not used yet; or programs are not generated yet. `NOT_READ`: a file could not be read.
+/// `NOT_WRITTEN`: a sink failed. `NO_MEMORY`: want of memory, and nothing was written.
 pub fn forester<R: Threads + Sync, L: Shelf, K: Sink, E: Sink, G: Gate>(
     rt: &R,
     alloc: Global,

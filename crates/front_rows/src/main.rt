@@ -1,4 +1,5 @@
-//! Rows of names, types and limits, and of the whole front end: the files of rows that the words name are read, and each row is answered by a line.
+//! Rows of names, types and limits, and of the whole front end: the files of rows that the words name are read, and
+//! each row is answered by a line.
 //!
 //! `kinds` says what each kind of row asks.
 #![tactic(auto)]

@@ -1,7 +1,7 @@
 // What each kind of row asks.
 
 use crate::graphs::{put_edges, put_sizes};
-use crate::running::{put_alike, put_graph_run, put_run, put_steps};
+use crate::running::{put_alike, put_graph_run, put_replay, put_run, put_steps};
 use anyhow::{Context, Result, bail};
 use fore_base::text::Text;
 use row_kit::Answers;
@@ -36,6 +36,7 @@ fn put_course(alloc: Global, out: &mut Text, kind: &str, words: &str, body: &[u8
     match kind {
         "run" => put_run(alloc, out, words, body),
         "graph_run" => put_graph_run(alloc, out, words, body),
+        "replay" => put_replay(alloc, out, words, body),
         "steps" => put_steps(alloc, out, words, body),
         _ => bail!("no such kind"),
     }

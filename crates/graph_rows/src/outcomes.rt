@@ -5,6 +5,7 @@ use c_types::outcome::Outcome;
 use fore_base::fault::Fault;
 use fore_base::memory::Mem;
 use fore_base::text::Text;
+use trace_replay::Replay;
 
 /// Puts how a run comes out: `ended` with the number of steps; a fault with its line and step; `starved` with the
 /// step; `bad` with the index of the choice; or `running`.
@@ -18,6 +19,14 @@ pub fn put_outcome(out: &mut Text, outcome: Outcome) -> Mem<()> {
         Outcome::Starved { step } => put_word(out, b"starved ", step),
         Outcome::BadChoice { index } => put_word(out, b"bad ", index),
         Outcome::StillRunning => out.put(b"running"),
+    }
+}
+
+/// Puts what a replay finds: the fault with its line and step, or `spurious`.
+pub fn put_found(out: &mut Text, found: Replay) -> Mem<()> {
+    match found {
+        Replay::Real { kind, line, step } => put_outcome(out, Outcome::Fault { kind, line, step }),
+        Replay::Spurious => out.put(b"spurious"),
     }
 }
 

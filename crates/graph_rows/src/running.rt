@@ -1,7 +1,7 @@
 // What programs and their graphs do on choices.
 ghost use Rattle.std.specs.Prelude.{◌≤◌};
 
-use crate::outcomes::{put_outcome, put_turn};
+use crate::outcomes::{put_found, put_outcome, put_turn};
 use crate::programs::{GRAPH_HEAD, RUN_HEAD, graph_of, program_of};
 use anyhow::{Context, Result, bail};
 use c_cfg::graph::Graph;
@@ -15,6 +15,7 @@ use fore_base::memory::Mem;
 use fore_base::text::Text;
 use row_texts::put_between;
 use std::alloc::Global;
+use trace_replay::{Replay, replay};
 
 /// How many steps a run takes at most in a row.
 const MOST: u64 = 1000;
@@ -88,6 +89,19 @@ pub fn put_graph_run(alloc: Global, out: &mut Text, words: &str, body: &[u8]) ->
 fn graph_outcome_of(alloc: Global, body: &[u8], course: &Course) -> Result<Outcome> {
     let graph = graph_of(alloc, body)?;
     Ok(graph_run(alloc, &graph, course.choices.as_slice(), course.limit)?)
+}
+
+/// replay: what a replay of the program of a body finds.
+pub fn put_replay(alloc: Global, out: &mut Text, words: &str, body: &[u8]) -> Result<()> {
+    let course = course_of(alloc, words)?;
+    let found = found_by(alloc, body, &course)?;
+    put_found(out, found)?;
+    Ok(())
+}
+
+fn found_by(alloc: Global, body: &[u8], course: &Course) -> Result<Replay> {
+    let program = program_of(alloc, RUN_HEAD, body)?;
+    Ok(replay(alloc, &program, course.choices.as_slice(), course.limit)?)
 }
 
 /// steps: what the steps of a machine answer, one for each letter: a choice that is given, or a hyphen for none.

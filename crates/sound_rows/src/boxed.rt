@@ -1,9 +1,13 @@
 // Forests with box edges, over a file of boxes that `files` has by the names of the second text.
 
 use crate::files::file_of;
+use crate::parting::letters_over;
+use crate::signing::signatures_text;
 use crate::stores::text_of_store;
 use anyhow::{Context, Result, bail};
+use fa_core::faces::Face;
 use fa_core::table::BoxTable;
+use fa_order::{has_root_kinds, is_canonical};
 use fa_sample::sample;
 use fa_sound::Sound;
 use fa_text::read_boxes;
@@ -54,6 +58,51 @@ fn member_over(alloc: Global, text: &str, table: &BoxTable) -> Result<Store> {
         Some(made) => Ok(sample(alloc, &made, table)?),
         None => bail!("not sound"),
     }
+}
+
+// boxed-signatures: the signatures of all states.
+pub fn signatures(alloc: Global, forest: &str, boxes: &[&str]) -> Result<String> {
+    let table = table_of(alloc, boxes)?;
+    signatures_over(alloc, forest, table.face())
+}
+
+fn signatures_over(alloc: Global, text: &str, face: &Face) -> Result<String> {
+    let forest = forest_of(alloc, text)?;
+    match Sound::make(alloc, &forest, face)? {
+        Some(made) => signatures_text(alloc, &made),
+        None => bail!("not sound"),
+    }
+}
+
+// boxed-parts: which of the forests behind the boxes are the parts of the forest.
+pub fn part_letters(alloc: Global, forest: &str, texts: &[&str]) -> Result<String> {
+    let (_, wanted) = texts.split_first().context("no boxes")?;
+    let table = table_of(alloc, texts)?;
+    letters_over(alloc, forest, table.face(), wanted)
+}
+
+// boxed-canonical?: whether the roots are those of a canonical forest, and whether the forest is canonical.
+pub fn canonical(alloc: Global, forest: &str, boxes: &[&str]) -> Result<String> {
+    let table = table_of(alloc, boxes)?;
+    canonical_over(alloc, forest, table.face())
+}
+
+fn canonical_over(alloc: Global, text: &str, face: &Face) -> Result<String> {
+    let forest = forest_of(alloc, text)?;
+    match Sound::make(alloc, &forest, face)? {
+        Some(made) => canonical_words(alloc, &made),
+        None => bail!("not sound"),
+    }
+}
+
+fn canonical_words(alloc: Global, forest: &Sound) -> Result<String> {
+    let is_rooted = has_root_kinds(alloc, forest)?;
+    let is_canonical = is_canonical(alloc, forest)?;
+    Ok(format!(in alloc; "{} {}", word(is_rooted), word(is_canonical))?)
+}
+
+fn word(is_so: bool) -> &'static str {
+    if is_so { "yes" } else { "no" }
 }
 
 fn table_of(alloc: Global, boxes: &[&str]) -> Result<BoxTable> {

@@ -6,25 +6,23 @@ use fa_core::forest::Forest;
 use fa_signatures::{is_filled, split_signatures};
 use fa_sound::Sound;
 use fore_base::list::List;
-use row_forests::{forest_of, letters, sound};
+use row_forests::{face, forest_of, letters};
 use std::alloc::Global;
 
-// A sound forest over the face of the rows.
-const MODEL: &str = "- / 20 0n1 1a";
-
 pub fn part_letters(alloc: Global, text: &str, wanted: &[&str]) -> Result<String> {
-    let made = parts_of(alloc, text)?;
+    let face = face(alloc)?;
+    letters_over(alloc, text, &face, wanted)
+}
+
+/// So over this face.
+pub fn letters_over(alloc: Global, text: &str, face: &Face, wanted: &[&str]) -> Result<String> {
+    let made = parts_of(alloc, text, face)?;
     letters(alloc, made.as_slice(), wanted)
 }
 
-fn parts_of(alloc: Global, text: &str) -> Result<List<Sound>> {
+fn parts_of(alloc: Global, text: &str, face: &Face) -> Result<List<Sound>> {
     let forest = forest_of(alloc, text)?;
-    parts_from(alloc, &forest)
-}
-
-fn parts_from(alloc: Global, forest: &Forest) -> Result<List<Sound>> {
-    let model = sound(alloc, MODEL)?;
-    parts_over(alloc, forest, model.face())
+    parts_over(alloc, &forest, face)
 }
 
 fn parts_over(alloc: Global, forest: &Forest, face: &Face) -> Result<List<Sound>> {

@@ -1,13 +1,15 @@
 // What a sound forest keeps: the signature of each state, and its face; and the same in a copy.
 //
 // A signature is the letter of each root to which the trees of the state refer, in the order of first visit, with *
-// where they do so twice; a full stop is the empty one. The states of a component stand with a blank between.
+// where they do so twice; a full stop is the empty one. Behind a letter stand, between brackets, the fields that box
+// edges give there, then < where a way to it leads back from the top, and then, between square brackets, the roots to
+// which its ways back lead. The states of a component stand with a blank between.
 
 use anyhow::{Context, Result};
 use fa_core::signature::{RefMark, Signature};
 use fa_sound::Sound;
 use fore_base::shape::{FieldDef, FieldKind, Shape};
-use row_forests::{put_forest, put_number, put_symbol, sound};
+use row_forests::{put_forest, put_number, put_numbers, put_symbol, sound};
 use std::alloc::Global;
 use ta_core::symbol::Symbol;
 
@@ -17,7 +19,8 @@ pub fn signatures(alloc: Global, text: &str) -> Result<String> {
     signatures_text(alloc, &forest)
 }
 
-fn signatures_text(alloc: Global, forest: &Sound) -> Result<String> {
+/// The signatures of all states.
+pub fn signatures_text(alloc: Global, forest: &Sound) -> Result<String> {
     let mut text = String::new(alloc);
     put_signatures(alloc, &mut text, forest)?;
     Ok(text)
@@ -89,16 +92,36 @@ fn put_signature(alloc: Global, text: &mut String, signature: &Signature) -> Res
     Ok(())
 }
 
-// Adds the mark; what box edges give to it stands whole behind it.
 fn put_mark(alloc: Global, text: &mut String, mark: &RefMark) -> Result<()> {
-    put_symbol(alloc, text, &Symbol::Ref(mark.root))?;
+    put_root(alloc, text, mark.root)?;
     if mark.many {
         text.push('*')?;
     }
-    if !mark.provided.is_empty() || mark.back || !mark.reach.is_empty() {
-        write!(text, "({mark:?})")?;
+    if !mark.provided.is_empty() {
+        text.push('(')?;
+        put_numbers(text, mark.provided.as_slice())?;
+        text.push(')')?;
     }
+    if mark.back {
+        text.push('<')?;
+    }
+    put_reach(alloc, text, mark.reach.as_slice())
+}
+
+fn put_reach(alloc: Global, text: &mut String, reach: &[u32]) -> Result<()> {
+    if reach.is_empty() {
+        return Ok(());
+    }
+    text.push('[')?;
+    for root in reach {
+        put_root(alloc, text, *root)?;
+    }
+    text.push(']')?;
     Ok(())
+}
+
+fn put_root(alloc: Global, text: &mut String, root: u32) -> Result<()> {
+    put_symbol(alloc, text, &Symbol::Ref(root))
 }
 
 fn put_structs(text: &mut String, structs: &[Shape]) -> Result<()> {

@@ -1,6 +1,7 @@
 pub mod Answering
 pub mod Covering
 pub mod Deriving
+pub mod Equal
 pub mod Extending
 pub mod Keeping
 pub mod Lasting

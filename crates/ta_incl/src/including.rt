@@ -5,6 +5,7 @@ ghost use Rattle.ta_core.specs.Language.{IsWithin};
 ghost use Rattle.ta_incl.specs.Inclusions.{IsAntichain, IsClosed, MeetsRoots, IsMissing, IfYes, IfNo};
 ghost use Rattle.ta_incl.specs.inner.Answers.{Answers};
 
+use crate::comparing::are_equal;
 use crate::failing::failing;
 use crate::growing::tree_at;
 use crate::inclusion::Inclusion;
@@ -51,7 +52,8 @@ fn answered(alloc: Global, left: &Auto, right: &Auto) -> Mem<Inclusion>
     }
 }
 
-/// Whether each tree of the left automaton is one of the right one. Unlike `included` it makes no tree.
+/// Whether each tree of the left automaton is one of the right one. Unlike `included` it makes no tree, and where both
+/// automata are equal it makes no search.
 ///
 /// # Errors
 ///
@@ -59,6 +61,9 @@ fn answered(alloc: Global, left: &Auto, right: &Auto) -> Mem<Inclusion>
 pub fn is_included(alloc: Global, left: &Auto, right: &Auto) -> Mem<bool>
     ensures { IfOk result (λ yes. IsTrue yes ↔ IsWithin left.now right.now) }
 {
+    if are_equal(left, right) {
+        return Ok(true);
+    }
     let found = explored(alloc, left, right)?;
     let place = failing(
         left.roots.as_slice(),

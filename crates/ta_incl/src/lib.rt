@@ -8,6 +8,7 @@
 //! that shows a No, `growing` makes its tree, and `thinning` keeps the pairs of a Yes.
 #![tactic(auto)]
 
+mod comparing;
 pub mod crossing;
 mod exploring;
 mod failing;

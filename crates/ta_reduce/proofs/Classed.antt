@@ -1,7 +1,7 @@
 -- States related both ways are put into classes: it is an equivalence where the relation is a preorder.
 use Rattle.ta_classes.specs.Classes.{IsEquivalence}
 use Rattle.ta_sim.specs.Relations.{Table}
-use Rattle.ta_reduce.specs.inner.Smaller.{AreMutual, IsPreorder}
+use Rattle.ta_reduce.specs.inner.Reduction.{AreMutual, IsPreorder}
 
 pub mutual_equivalence : (rel : Table) → IsPreorder rel → IsEquivalence rel.size (AreMutual rel)
 mutual_equivalence rel preorder = record {

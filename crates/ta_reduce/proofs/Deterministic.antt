@@ -12,7 +12,7 @@ use Rattle.ta_core.specs.Language.{RunOf, run, RunEach, run_none, run_more, IsTr
 use Rattle.ta_core.specs.Simulations.{IsSimulated, AutoReduced}
 use Rattle.ta_sim.proofs.Simulated.{simulated_runs}
 use Rattle.ta_reduce.specs.inner.Determinism.{HasSameLeft, IsApart, IsDeterministic}
-use Rattle.ta_reduce.specs.inner.Smaller.{HasNoneNeedless}
+use Rattle.ta_reduce.specs.inner.Reduction.{HasNoneNeedless}
 use Rattle.ta_reduce.proofs.Sublists.{later_at}
 use Rattle.ta_reduce.proofs.Trimmed.{part_tree}
 

@@ -1,6 +1,5 @@
 -- Without needless rules the language is the same.
-use Rattle.std.proofs.Common.{◌≡◌, inl, inr, ℕ, ◌<◌, ◌≤◌, List, length, sym, ◌∙◌, arith}
-use Rattle.std.proofs.lemmas.Bool.{cases_order}
+use Rattle.std.proofs.Common.{◌≡◌, ℕ, ◌<◌, Bool, true, List, sym, subst, ◌∙◌}
 use Rattle.fore_base.specs.Lists.{IsIn, Every}
 use Rattle.fore_base.proofs.ListLemmas.{every_in, in_every, paired_weaker, paired_carried}
 use Rattle.ta_core.specs.declared.auto.Rule.{Rule}
@@ -10,13 +9,14 @@ use Rattle.ta_core.specs.Simulations.{IsSimulated, IsMatched, IsDownward}
 use Rattle.ta_core.specs.States.{KeepsStates}
 use Rattle.ta_core.proofs.Runs.{along, widened}
 use Rattle.ta_sim.specs.Relations.{Table, Holds, entry}
-use Rattle.ta_sim.proofs.Simulated.{paired_through, simulated_downward, simulated_same}
+use Rattle.ta_sim.proofs.Simulated.{each_through, go_through, paired_through, simulated_downward, simulated_same}
+use Rattle.ta_sim.proofs.Simulated.{through, through_from}
 use Rattle.ta_reduce.specs.inner.Leading.{KeepsLead}
-use Rattle.ta_reduce.specs.inner.Smaller.{IsGreatest, IsSmaller}
+use Rattle.ta_reduce.specs.inner.Reduction.{IsGreatest, IsTight, Preserves}
 use Rattle.ta_reduce.specs.inner.Thinned.{HasMatch, AreNeeded}
 use Rattle.ta_reduce.proofs.Leads.{tree_kept}
-use Rattle.ta_reduce.proofs.Sublists.{sub_in, sub_long}
-use Rattle.ta_reduce.proofs.Tight.{related_each}
+use Rattle.ta_reduce.proofs.Sublists.{sub_in}
+use Rattle.ta_reduce.proofs.Tight.{needless_same, related_each}
 
 module _ (a : Automaton) (rel : Table) (kept : List Rule) (proper : IsRanked a) (greatest : IsGreatest a rel)
     (n : AreNeeded rel a.rules kept) where
@@ -97,19 +97,38 @@ module _ (a : Automaton) (rel : Table) (kept : List Rule) (proper : IsRanked a) 
         ));
       }
 
-  -- where rules are left out, there are fewer
-  pub left_smaller : (length kept ≡ length a.rules → ⊥) → IsSmaller a (automaton a.states a.roots kept)
-  left_smaller d = (
-    record { language = left_same_language; states = left_runs; lead = left_led },
-    (let s = sub_long n.part in let f : length kept < length a.rules = shorter (length kept) (length a.rules) s d in
-        omega (arith, f)),
-  )
-    where
-      shorter : (i j : ℕ) → i ≤ j → (i ≡ j → ⊥) → i < j
-      shorter i j s f = elim (cases_order i j) [
-        | inl e ↦ absurd (f e)
-        | inr o ↦ elim o [ inl l ↦ l | inr l ↦ absurd (omega (arith, l, s)) ]
-      ]
+  pub left_preserves : Preserves a (automaton a.states a.roots kept)
+  left_preserves = record { language = left_same_language; states = left_runs; lead = left_led }
+
+  -- from a relation with the kept rules, one with all: it comes from what is related before
+  abbrev led_in : (ℕ → ℕ → Bool) → ℕ → ℕ → Bool
+  led_in R = through a.states (entry rel.rows) R
+
+  led_in_downward : (R : ℕ → ℕ → Bool) → IsDownward kept (λ x y. R x y ≡ true)
+      → IsDownward a.rules (λ x y. led_in R x y ≡ true)
+  led_in_downward R d r q i h =
+      let w = through_from a.states (entry rel.rows) R r.state q h in
+      let o = match_left r w.0 i (greatest.only r.state w.0 w.2) in
+      let k = d o.0 q o.1 (subst (λ (x : ℕ). R x q ≡ true) (sym o.2) w.3) in (
+        k.0,
+        was_in k.0 k.1,
+        k.2,
+        k.3 ∙ o.3,
+        each_through a.states (entry rel.rows) R r.children o.0.children k.0.children (low o.0 (was_in o.0 o.1))
+            (related_each a rel proper greatest r.children o.0.children (low r i) (low o.0 (was_in o.0 o.1)) o.4) k.4,
+      )
+
+  -- the greatest simulation is the same without the other rules
+  pub left_greatest : IsGreatest (automaton a.states a.roots kept) rel
+  left_greatest = record {
+    size = greatest.size;
+    only = λ p q h. (entry rel.rows, left_downward, h);
+    each = λ p q l k h. greatest.each p q l k (
+      led_in h.0,
+      led_in_downward h.0 h.1,
+      go_through a.states (entry rel.rows) h.0 p p q l (greatest.each p p l l (simulated_same a.rules p)) h.2,
+    );
+  }
 
   pub left_ranked : IsRanked (automaton a.states a.roots kept)
   left_ranked = (
@@ -117,3 +136,10 @@ module _ (a : Automaton) (rel : Table) (kept : List Rule) (proper : IsRanked a) 
     in_every (IsRankedRule a.states) kept
         (λ r i. every_in (IsRankedRule a.states) a.rules r proper.1 (was_in r i)),
   )
+
+  -- where no two states are related both ways, what is left is tight
+  pub left_tight : ((p q : ℕ) → Holds rel p q → Holds rel q p → p ≡ q) → IsTight (automaton a.states a.roots kept)
+  left_tight apart = record {
+    apart = λ p q l k h g. apart p q (left_greatest.each p q l k h) (left_greatest.each q p k l g);
+    needed = needless_same (automaton a.states a.roots kept) rel left_ranked left_greatest n.ahead n.behind;
+  }

@@ -4,7 +4,8 @@ use Rattle.std.proofs.Common.{ap, subst, ◌∙◌, arith}
 use Rattle.std.proofs.lemmas.Bool.{ltb-true, lt-ltb, and_parts, and_from}
 use Rattle.std.proofs.lemmas.List.{length-map}
 use Rattle.fore_base.specs.Lists.{IsIn, Every, Paired}
-use Rattle.fore_base.proofs.ListLemmas.{every_in, every_place, every_map, every_weaker, in_map, in_mapped}
+use Rattle.fore_base.proofs.ListLemmas.{every_in, every_place, every_map, every_weaker, in_every, in_map}
+use Rattle.fore_base.proofs.ListLemmas.{in_mapped}
 use Rattle.ta_core.specs.declared.auto.Rule.{Rule}
 use Rattle.ta_core.specs.declared.tree.Tree.{Tree}
 use Rattle.ta_core.specs.Auto.{Automaton, IsRanked, IsRankedRule}
@@ -13,13 +14,15 @@ use Rattle.ta_core.specs.Renumbered.{renumbered, image}
 use Rattle.ta_core.specs.Simulations.{IsSimulated, IsMatched, IsDownward}
 use Rattle.ta_core.specs.States.{SameTrees}
 use Rattle.ta_core.proofs.Runs.{along}
-use Rattle.ta_sim.specs.Relations.{Table, Holds, entry}
-use Rattle.ta_sim.proofs.Simulated.{simulated_downward, simulated_same, simulated_through, paired_through}
+use Rattle.ta_sim.specs.Relations.{Table, AreRowsOf, Holds, entry}
+use Rattle.ta_sim.proofs.Simulated.{simulated_downward, simulated_same, simulated_through, paired_through, through}
+use Rattle.ta_sim.proofs.Simulated.{each_through, go_through, through_from}
 use Rattle.ta_reduce.specs.inner.Leading.{KeepsLead}
 use Rattle.ta_classes.specs.Classes.{AreClasses}
 use Rattle.ta_classes.proofs.Classing.{first_in}
-use Rattle.ta_reduce.specs.inner.Smaller.{AreMutual, IsGreatest, IsSmaller}
+use Rattle.ta_reduce.specs.inner.Reduction.{AreMutual, IsAmong, IsGreatest, Preserves}
 use Rattle.ta_reduce.proofs.Leads.{tree_kept}
+use Rattle.ta_reduce.proofs.Tight.{related_each}
 
 module _ (a : Automaton) (m : ℕ) (f : ℕ → ℕ) (proper : IsRanked a)
     (one : (x y : ℕ) → x < a.states → y < a.states → f x ≡ f y → IsSimulated a.rules x y) where
@@ -145,6 +148,73 @@ module _ (a : Automaton) (m : ℕ) (f back : ℕ → ℕ) (proper : IsRanked a)
       → IsSimulated (image m f a).rules (f x) (f y)
   numbers_simulated x y l k h = (numbers_relate, numbers_downward, relate x y l k h)
 
+  -- from a relation on numbers, one on the states: it goes on to what simulates
+  abbrev drawn : (ℕ → ℕ → Bool) → ℕ → ℕ → Bool
+  drawn R = through a.states (λ x z. R (f x) (f z)) (entry rel.rows)
+
+  -- lists of numbers are related as their states are
+  drawn_each : (R : ℕ → ℕ → Bool) (ps qs : List ℕ) → Paired (λ u v. R u v ≡ true) (map f ps) (map f qs)
+      → Paired (λ x z. R (f x) (f z) ≡ true) ps qs
+  drawn_each R [] [] h = tt
+  drawn_each R [] (q ∷ qs) h = absurd h
+  drawn_each R (p ∷ ps) [] h = absurd h
+  drawn_each R (p ∷ ps) (q ∷ qs) h = (h.0, drawn_each R ps qs h.1)
+
+  drawn_downward : (R : ℕ → ℕ → Bool) → IsDownward (image m f a).rules (λ u v. R u v ≡ true)
+      → IsDownward a.rules (λ x y. drawn R x y ≡ true)
+  drawn_downward R d r q i h =
+      let w = through_from a.states (λ x z. R (f x) (f z)) (entry rel.rows) r.state q h in
+      let o = d (renumbered f r) (f w.0) (in_map (renumbered f) r a.rules i) w.2 in
+      let s = in_mapped (renumbered f) o.0 a.rules o.1 in
+      let e : f s.0.state ≡ f w.0 = sym (ap (λ (x : Rule). x.state) s.2) ∙ o.2 in
+      let up = simulated_through a.states a.rules proper.1 s.0.state w.0 q w.1
+      (one s.0.state w.0 (rule_low s.0 s.1).0 w.1 e) (greatest.only w.0 q w.3) in
+      let t = simulated_downward a.rules s.0 q s.1 up in (
+        t.0,
+        t.1,
+        t.2,
+        t.3 ∙ sym (ap (λ (x : Rule). x.symbol) s.2) ∙ o.3,
+        each_through a.states (λ x z. R (f x) (f z)) (entry rel.rows) r.children s.0.children t.0.children
+            (rule_low s.0 s.1).1
+            (drawn_each R r.children s.0.children
+            (subst (λ (x : Rule). Paired (λ u v. R u v ≡ true) (map f r.children) x.children) s.2 o.4))
+            (related_each a rel proper greatest s.0.children t.0.children (rule_low s.0 s.1).1 (rule_low t.0 t.1).1 t.4),
+      )
+
+  -- the greatest simulation of the joined states is the image of that of the states
+  pub image_greatest : (made : Table) → made.size ≡ m
+      → AreRowsOf m (λ u v. Holds rel (back u) (back v)) made.rows → IsGreatest (image m f a) made
+  image_greatest made e rows = record {
+    size = e;
+    only = λ u v h. (let w = rows.only u v h in (
+      numbers_relate,
+      numbers_downward,
+      and_from (nat_lt v m) (entry rel.rows (back u) (back v)) (lt-ltb v m w.1) w.2,
+    ));
+    each = λ u v l k h. rows.each u v l k
+        (greatest.each (back u) (back v) (back_low u l) (back_low v k) (
+          drawn h.0,
+          drawn_downward h.0 h.1,
+          go_through a.states (λ x z. h.0 (f x) (f z)) (entry rel.rows) (back u) (back v) (back v) (back_low v k)
+              (subst (λ (x : ℕ). h.0 (f (back u)) x ≡ true) (sym (back_is v k))
+              (subst (λ (x : ℕ). h.0 x v ≡ true) (sym (back_is u l)) h.2))
+              (greatest.each (back v) (back v) (back_low v k) (back_low v k) (simulated_same a.rules (back v))),
+        ));
+  }
+
+  pub image_ranked : IsRanked (image m f a)
+  image_ranked = (
+    every_map f (λ v. v < m) a.roots (in_every (λ q. f q < m) a.roots (λ q i.
+        fits q (every_in (λ (x : ℕ). x < a.states) a.roots q proper.0 i))),
+    every_map (renumbered f) (IsRankedRule m) a.rules (in_every (λ r. IsRankedRule m (renumbered f r)) a.rules (λ r i.
+        (let l = rule_low r i in (
+          fits r.state l.0,
+          every_map f (λ v. v < m) r.children
+              (every_weaker (λ q. q < a.states) (λ q. f q < m) r.children fits l.1),
+          length-map r.children f ∙ l.2,
+        )))),
+  )
+
   pub image_led : KeepsLead a (image m f a)
   image_led l =
       let c = image m f a in
@@ -173,6 +243,12 @@ module _ (a : Automaton) (m : ℕ) (f back : ℕ → ℕ) (proper : IsRanked a)
             ));
       }
 
+-- the numbers of classes are below how many there are
+pub numbers_low : (rel : Table) (n : ℕ) (numbers firsts : List ℕ) → AreClasses (AreMutual rel) n numbers firsts
+    → Every (λ v. v < length firsts) numbers
+numbers_low rel n numbers firsts h =
+    every_place (λ v. v < length firsts) numbers 0 (λ x l. h.fits x (rw (← h.long) l))
+
 -- a table of classes gives such numbers
 module _ (a : Automaton) (rel : Table) (proper : IsRanked a) (greatest : IsGreatest a rel) (numbers firsts : List ℕ)
     (h : AreClasses (AreMutual rel) a.states numbers firsts) where
@@ -187,22 +263,38 @@ module _ (a : Automaton) (rel : Table) (proper : IsRanked a) (greatest : IsGreat
       let up = greatest.only first y (subst (λ (v : ℕ). Holds rel (slice_index firsts v) y) (sym e) (h.first y k).0) in
       simulated_through a.states a.rules proper.1 x first y (h.low (number x) (h.fits x l)) down up
 
-  pub numbers_low : Every (λ v. v < length firsts) numbers
-  numbers_low = every_place (λ v. v < length firsts) numbers 0 (λ x l. h.fits x (rw (← h.long) l))
+  -- the states of which each class is made one
+  pub joined_preserves : Preserves a (image (length firsts) number a)
+  joined_preserves = record {
+    language = image_same_language a (length firsts) number proper same_class;
+    states =
+        λ v l. (
+          slice_index firsts v,
+          h.low v l,
+          image_runs a (length firsts) number proper same_class v (slice_index firsts v) (h.low v l)
+              (first_in (AreMutual rel) a.states numbers firsts h v l),
+        );
+    lead = image_led a (length firsts) number (λ v. slice_index firsts v) proper same_class rel greatest h.fits h.low
+        (first_in (AreMutual rel) a.states numbers firsts h);
+  }
 
-  pub joined_smaller : length firsts < a.states → IsSmaller a (image (length firsts) number a)
-  joined_smaller fewer = (
-    record {
-      language = image_same_language a (length firsts) number proper same_class;
-      states =
-          λ v l. (
-            slice_index firsts v,
-            h.low v l,
-            image_runs a (length firsts) number proper same_class v (slice_index firsts v) (h.low v l)
-                (first_in (AreMutual rel) a.states numbers firsts h v l),
-          );
-      lead = image_led a (length firsts) number (λ v. slice_index firsts v) proper same_class rel greatest h.fits h.low
-          (first_in (AreMutual rel) a.states numbers firsts h);
-    },
-    (let e = length-map a.rules (renumbered number) in omega (arith, e, fewer)),
-  )
+  pub joined_ranked : IsRanked (image (length firsts) number a)
+  joined_ranked = image_ranked a (length firsts) number (λ v. slice_index firsts v) proper same_class rel greatest
+      h.fits h.low (first_in (AreMutual rel) a.states numbers firsts h)
+
+  pub joined_greatest : (made : Table) → made.size ≡ length firsts → IsAmong rel firsts made
+      → IsGreatest (image (length firsts) number a) made
+  joined_greatest made e rows =
+      image_greatest a (length firsts) number (λ v. slice_index firsts v) proper same_class rel greatest h.fits h.low
+      (first_in (AreMutual rel) a.states numbers firsts h) made e
+      (subst (λ (n : ℕ). AreRowsOf n (λ v w. Holds rel (slice_index firsts v) (slice_index firsts w)) made.rows) e rows)
+
+  -- two classes do not simulate each other
+  pub joined_apart : (made : Table) → made.size ≡ length firsts → IsAmong rel firsts made → (v w : ℕ) → Holds made v w
+      → Holds made w v → v ≡ w
+  joined_apart made e rows v w i j =
+      let k = rows.only v w i in
+      let o = rows.only w v j in
+      let lv = k.0 in
+      let lw = k.1 in
+      h.apart v w (omega (arith, lv, e)) (omega (arith, lw, e)) (k.2, o.2)

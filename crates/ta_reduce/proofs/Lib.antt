@@ -4,7 +4,7 @@ pub mod Fewer
 pub mod Joined
 pub mod Leads
 pub mod Once
-pub mod Rounds
+pub mod Steps
 pub mod Sublists
 pub mod Thinning
 pub mod Tight

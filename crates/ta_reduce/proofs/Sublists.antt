@@ -8,6 +8,17 @@ use Rattle.fore_base.proofs.ListLemmas.{every_append, every_in, in_from_place}
 use Rattle.ta_core.specs.Renumbered.{IsSublist, sub_none, sub_skip, sub_keep}
 use Rattle.ta_reduce.specs.inner.Thinned.{EachLater}
 
+-- the place with one more item in front
+abbrev behind : (ℕ → ℕ) → ℕ → ℕ
+behind f zero = zero
+behind f (suc i) = suc (f i)
+
+behind_one : (f : ℕ → ℕ) → ((i j : ℕ) → f i ≡ f j → i ≡ j) → (i j : ℕ) → behind f i ≡ behind f j → i ≡ j
+behind_one f g zero zero e = refl
+behind_one f g zero (suc j) e = absurd (omega (arith, e))
+behind_one f g (suc i) zero e = absurd (omega (arith, e))
+behind_one f g (suc i) (suc j) e = ap suc (g i j (omega (arith, e)))
+
 module _ {X : Type 0} where
   pub reverse_cons : (x : X) (xs : List X) → reverse (x ∷ xs) ≡ reverse xs ++ x ∷ []
   reverse_cons x xs = reverse-append (x ∷ []) xs
@@ -28,6 +39,23 @@ module _ {X : Type 0} where
   sub_in x (sub_skip s) i = inr (sub_in x s i)
   sub_in x (sub_keep s) (inl e) = inl e
   sub_in x (sub_keep s) (inr i) = inr (sub_in x s i)
+
+  -- what the shorter list has at a place, the longer one has at that to which it goes
+  behind_there : (y : X) (us vs : List X) (f : ℕ → ℕ)
+      → ((i : ℕ) (x : X) → slice_get us i ≡ Some x → slice_get vs (f i) ≡ Some x) → (i : ℕ) (x : X)
+      → slice_get (y ∷ us) i ≡ Some x → slice_get (y ∷ vs) (behind f i) ≡ Some x
+  behind_there y us vs f g zero x e = e
+  behind_there y us vs f g (suc i) x e = g i x e
+
+  -- each item stands in the longer list too, at a place of its own
+  pub sub_places : {xs ys : List X} → IsSublist xs ys → (to : ℕ → ℕ)
+      × ((i : ℕ) (x : X) → slice_get xs i ≡ Some x → slice_get ys (to i) ≡ Some x)
+      × ((i j : ℕ) → to i ≡ to j → i ≡ j)
+  sub_places sub_none = (λ i. i, λ i x e. e, λ i j e. e)
+  sub_places (sub_skip s) = let w = sub_places s in
+      (λ i. suc (w.0 i), λ i x e. w.1 i x e, λ i j e. w.2 i j (omega (arith, e)))
+  sub_places (sub_keep {y = y} {xs = us} {ys = vs} s) = let w = sub_places s in
+      (behind w.0, behind_there y us vs w.0 w.1, behind_one w.0 w.2)
 
   pub sub_through : {ys zs : List X} (xs : List X) → IsSublist xs ys → IsSublist ys zs → IsSublist xs zs
   sub_through xs s sub_none = s

@@ -7,7 +7,7 @@ use Rattle.fore_base.proofs.ListLemmas.{drop_item}
 use Rattle.ta_core.specs.Renumbered.{IsSublist, sub_none}
 use Rattle.ta_core.specs.declared.auto.Rule.{Rule}
 use Rattle.ta_sim.specs.Relations.{Table, Holds}
-use Rattle.ta_reduce.specs.inner.Smaller.{IsPreorder}
+use Rattle.ta_reduce.specs.inner.Reduction.{IsPreorder}
 use Rattle.ta_reduce.specs.inner.Thinned.{Matches, HasMatch, Misses, IsThinned, AreNeeded}
 use Rattle.ta_reduce.proofs.Sublists.{reverse_cons, sub_in, sub_drop, sub_push, sub_through, sub_turned, later_push}
 use Rattle.ta_reduce.proofs.Sublists.{later_sub, later_turned}

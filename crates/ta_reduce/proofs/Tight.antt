@@ -1,19 +1,18 @@
--- An automaton without classes of several states and without needless rules is reduced.
-use Rattle.std.proofs.Common.{◌≡◌, inl, inr, ℕ, ◌<◌, List, length, Some, refl, subst}
+-- The greatest simulation, as a table; where no rule matches another, none is needless.
+use Rattle.std.proofs.Common.{◌≡◌, inl, inr, ℕ, ◌<◌, List, Some, refl}
 use Rattle.std.specs.List.{slice_get}
 use Rattle.std.proofs.lemmas.Bool.{cases_order}
 use Rattle.fore_base.specs.Lists.{Every, Paired}
 use Rattle.fore_base.proofs.ListLemmas.{every_in, in_every, in_from_place, paired_carried, paired_same}
 use Rattle.ta_core.specs.declared.auto.Rule.{Rule}
 use Rattle.ta_core.specs.Auto.{Automaton, IsRanked, IsRankedRule}
-use Rattle.ta_core.specs.Language.{IsTrim}
-use Rattle.ta_core.specs.Simulations.{IsSimulated, IsDownward, AutoReduced}
+use Rattle.ta_core.specs.Simulations.{IsSimulated, IsDownward}
 use Rattle.ta_sim.specs.Relations.{Table, IsSquare, Holds, entry}
 use Rattle.ta_sim.proofs.Rounds.{related_low, row_there}
 use Rattle.ta_sim.proofs.Simulated.{simulated_same, simulated_through}
-use Rattle.ta_reduce.specs.inner.Smaller.{IsGreatest, IsPreorder, HasNoTwins, HasNoneNeedless}
-use Rattle.ta_reduce.specs.inner.Thinned.{Matches, Misses, EachLater, AreNeeded}
-use Rattle.ta_reduce.proofs.Sublists.{later_at, sub_same}
+use Rattle.ta_reduce.specs.inner.Reduction.{IsGreatest, IsPreorder, HasNoneNeedless}
+use Rattle.ta_reduce.specs.inner.Thinned.{Matches, Misses, EachLater}
+use Rattle.ta_reduce.proofs.Sublists.{later_at}
 
 -- a downward simulation that has each one in it is the greatest
 pub greatest_from : (a : Automaton) (rel : Table) → rel.size ≡ a.states → IsDownward a.rules (Holds rel)
@@ -64,29 +63,3 @@ module _ (a : Automaton) (rel : Table) (proper : IsRanked a) (greatest : IsGreat
           | inr l ↦ absurd (later_at (λ r s. Misses rel s r) a.rules j i s.1 s.0 ahead l s.3 s.2 m)
         ]
       ]
-
-  -- so it is where nothing was left out
-  pub needless_none : (kept : List Rule) → AreNeeded rel a.rules kept → length kept ≡ length a.rules
-      → HasNoneNeedless a.rules
-  needless_none kept n e =
-      let same = sub_same n.part e in
-      needless_same (subst (EachLater (λ r s. Misses rel s r)) same n.ahead)
-      (subst (EachLater (λ r s. Misses rel r s)) same n.behind)
-
-module _ (a : Automaton) (rel : Table) (greatest : IsGreatest a rel) where
-  -- states that simulate each other are one
-  apart_same : HasNoTwins rel → (p q : ℕ) → p < a.states → q < a.states → IsSimulated a.rules p q
-      → IsSimulated a.rules q p → p ≡ q
-  apart_same none p q k l up down =
-      let h = greatest.each p q k l up in
-      let g = greatest.each q p l k down in
-      elim (cases_order p q) [
-        | inl e ↦ e
-        | inr o ↦ elim o [
-          | inl s ↦ absurd (none p q s (rw greatest.size l) (h, g))
-          | inr s ↦ absurd (none q p s (rw greatest.size k) (g, h))
-        ]
-      ]
-
-  pub reduced_from : HasNoTwins rel → HasNoneNeedless a.rules → IsTrim a → AutoReduced a
-  reduced_from none needed trim = record { trim = trim; apart = apart_same none; needed = needed }

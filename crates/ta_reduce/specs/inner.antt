@@ -1,4 +1,4 @@
 pub mod Determinism
 pub mod Leading
-pub mod Smaller
+pub mod Reduction
 pub mod Thinned

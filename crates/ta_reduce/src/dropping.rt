@@ -1,9 +1,9 @@
 // Rules that are left out, since another rule of their state matches them.
 
-ghost use Rattle.std.specs.Prelude.{◌↔◌, IsTrue, IfOk, MatchOption};
+ghost use Rattle.std.specs.Prelude.{◌↔◌, IsTrue, IfOk};
 ghost use Rattle.fore_base.specs.Lists.{Every, Paired};
 ghost use Rattle.ta_sim.specs.Relations.{Holds};
-ghost use Rattle.ta_reduce.specs.inner.Smaller.{IsGreatest, IsPreorder, IsSmaller, HasNoneNeedless};
+ghost use Rattle.ta_reduce.specs.inner.Reduction.{IsGreatest, IsLeft, IsPreorder};
 ghost use Rattle.ta_reduce.specs.inner.Thinned.{Matches, HasMatch, IsThinned, AreNeeded};
 
 use fore_base::list::{Copies, List};
@@ -12,26 +12,23 @@ use std::alloc::Global;
 use ta_core::auto::{Auto, Rule};
 use ta_sim::relation::{Relation, are_related};
 
-/// The automaton without needless rules, None where it has none.
+/// The automaton without needless rules.
 ///
 /// # Errors
 ///
 /// Want of memory.
-pub fn with_fewer_rules(alloc: Global, auto: &Auto, relation: &Relation) -> Mem<Option<Auto>>
+pub fn without_needless(alloc: Global, auto: &Auto, relation: &Relation) -> Mem<Auto>
     requires greatest { IsGreatest auto.now relation.now }
     requires preorder { IsPreorder relation.now }
-    ensures { IfOk result (λ made. MatchOption made (HasNoneNeedless auto.now.rules) (IsSmaller auto.now)) }
+    ensures { IfOk result (IsLeft relation.now auto.now) }
 {
     let rules = needed_rules(alloc, relation, auto.rules.as_slice())?;
-    if rules.len() == auto.rules.len() {
-        return Ok(None);
-    }
     let roots = auto.roots.copy(alloc)?;
-    Ok(Some(Auto {
+    Ok(Auto {
         states: auto.states,
         roots,
         rules,
-    }))
+    })
 }
 
 /// The rules, in their order, of which none matches another and one matches each that is left out.

@@ -1,6 +1,6 @@
 // Tree automata reduced by simulation.
 
-ghost use Rattle.std.specs.Prelude.{IfOk, MatchOption};
+ghost use Rattle.std.specs.Prelude.{IfOk};
 ghost use Rattle.fore_base.specs.Lists.{IsDistinct};
 ghost use Rattle.par_kit.specs.Crews.{IsJobs};
 ghost use Rattle.ta_core.specs.Language.{InLanguage, HasSameLanguage, IsTrim};
@@ -8,11 +8,11 @@ ghost use Rattle.ta_core.specs.Simulations.{AutoReduced};
 ghost use Rattle.ta_core.specs.Single.{HasOneTop, HasSameTop};
 ghost use Rattle.ta_core.specs.States.{KeepsStates};
 ghost use Rattle.ta_core.specs.declared.tree.Tree.{Tree};
-ghost use Rattle.ta_reduce.specs.inner.Smaller.{IsGreatest, IsPreorder, IsSmaller, IsRound};
+ghost use Rattle.ta_reduce.specs.inner.Reduction.{IsGreatest, IsPreorder, IsTight, Preserves};
 
-use crate::classes::mutual_classes;
+use crate::classes::{among_firsts, mutual_classes};
 use crate::determinism::is_deterministic;
-use crate::dropping::with_fewer_rules;
+use crate::dropping::without_needless;
 use crate::joining::join;
 use crate::rooting::with_roots_once;
 use fore_base::memory::Mem;
@@ -48,54 +48,49 @@ pub fn reduce<R: Threads + Sync, G: Gate>(
     ensures top { IfOk result (λ made. (t : Tree) → InLanguage auto.now t → HasSameTop auto.now → HasOneTop made) }
 {
     auto.known();
-    let mut made = trim(alloc, auto)?;
-    made.known();
-    'rounds: while let Some(next) = round(rt, alloc, &made, crew)? {
-        made = next;
-    }
+    let trimmed = trim(alloc, auto)?;
+    trimmed.known();
+    let made = reduced(rt, alloc, trimmed, crew)?;
     with_roots_once(alloc, &made)
 }
 
-/// A trimmed automaton that has fewer states and rules, taken together; None where the automaton is reduced. A
-/// deterministic one is, so no simulation is computed for it.
-fn round<R: Threads + Sync, G: Gate>(
+/// The trimmed automaton reduced, its root states as they are listed. One that is deterministic is reduced as it is, so
+/// no simulation is computed for it.
+fn reduced<R: Threads + Sync, G: Gate>(
     rt: &R,
     alloc: Global,
-    auto: &Auto,
+    auto: Auto,
     crew: &Crew<'_, G>,
-) -> Mem<Option<Auto>>
+) -> Mem<Auto>
     requires jobs { IsJobs crew.now.jobs }
-    requires trim { IsTrim auto.now }
-    ensures { IfOk result (λ next. MatchOption next (AutoReduced auto.now) (IsRound auto.now)) }
+    requires trim { IsTrim auto }
+    ensures { IfOk result (λ made. Preserves auto made × AutoReduced made) }
 {
     auto.known();
-    if is_deterministic(auto) {
-        return Ok(None);
+    if is_deterministic(&auto) {
+        return Ok(auto);
     }
-    let relation = downward(rt, alloc, auto, crew)?;
+    let relation = downward(rt, alloc, &auto, crew)?;
     relation.known();
-    match smaller(alloc, auto, &relation)? {
-        Some(made) => {
-            let trimmed = trim(alloc, &made)?;
-            trimmed.known();
-            made.known();
-            Ok(Some(trimmed))
-        }
-        None => Ok(None),
-    }
+    let tight = tightened(alloc, &auto, &relation)?;
+    tight.known();
+    let made = trim(alloc, &tight)?;
+    made.known();
+    Ok(made)
 }
 
-/// The automaton with all classes of states joined, else without its needless rules; None where it is reduced, if each
-/// of its states takes part.
-fn smaller(alloc: Global, auto: &Auto, relation: &Relation) -> Mem<Option<Auto>>
+/// The automaton with each class of states made one, and then without needless rules. The relation on the classes is
+/// that on their first states, so no second one is computed.
+fn tightened(alloc: Global, auto: &Auto, relation: &Relation) -> Mem<Auto>
     requires greatest { IsGreatest auto.now relation.now }
     requires preorder { IsPreorder relation.now }
-    ensures { IfOk result (λ made. MatchOption made (IsTrim auto.now → AutoReduced auto.now) (IsSmaller auto.now)) }
+    ensures { IfOk result (λ made. Preserves auto.now made × IsTight made) }
 {
+    auto.known();
     let classes = mutual_classes(alloc, relation)?;
-    if classes.firsts.len() < auto.states as usize {
-        let joined = join(alloc, auto, relation, &classes)?;
-        return Ok(Some(joined));
-    }
-    with_fewer_rules(alloc, auto, relation)
+    let joined = join(alloc, auto, relation, &classes)?;
+    joined.known();
+    let among = among_firsts(alloc, relation, classes.firsts.as_slice(), joined.states)?;
+    among.known();
+    without_needless(alloc, &joined, &among)
 }

@@ -2,7 +2,7 @@
 
 ghost use Rattle.std.specs.Prelude.{◌≡◌, ◌⊎◌, ◌↔◌, ℕ, IsTrue, IfOk, OnOk};
 ghost use Rattle.fore_base.specs.Lists.{IsIn, IsDistinct};
-ghost use Rattle.ta_reduce.specs.inner.Smaller.{HasRootsOnce};
+ghost use Rattle.ta_reduce.specs.inner.Reduction.{HasRootsOnce};
 
 use fore_base::list::{Copies, List};
 use fore_base::memory::Mem;

@@ -4,6 +4,7 @@
 //! Automata and trees stand in a row as `row_automata` reads them; large ones have a name and a size (`large`).
 #![tactic(auto)]
 
+mod agreeing;
 mod given;
 mod languages;
 mod large;

@@ -3,6 +3,8 @@
 // - `simulation JOBS | AUTOMATON`: the number of its states, and the pairs of its greatest downward simulation, of
 // which
 //   the second state simulates the first. It is computed by 1 or 64 jobs.
+// - `upward | AUTOMATON`, `upward alone | AUTOMATON`: the same of its greatest upward simulation by that one, with a
+//   crew and without.
 // - `included | AUTOMATON | AUTOMATON`: whether each tree of the first is one of the second.
 // - `missing | AUTOMATON | AUTOMATON | ..`: for the tree that shows that the second has not all trees of the first,
 // which
@@ -12,6 +14,7 @@
 
 ghost use Rattle.std.specs.Prelude.{◌<◌, ◌≤◌};
 
+use crate::agreeing::agreement;
 use crate::given::auto;
 use crate::languages::yes_or_no;
 use anyhow::{Context, Result, bail};
@@ -25,6 +28,7 @@ use ta_core::tree::Tree;
 use ta_incl::{Inclusion, Pair, included, is_included};
 use ta_sim::downward::downward;
 use ta_sim::relation::Relation;
+use ta_sim::upward::{upward, upward_alone};
 
 // The answer to a row, by its kind.
 pub fn answer_on_relations<R: Threads + Sync>(
@@ -37,6 +41,9 @@ pub fn answer_on_relations<R: Threads + Sync>(
     match head {
         "simulation 1" => simulation(rt, alloc, first, 1),
         "simulation 64" => simulation(rt, alloc, first, 64),
+        "upward" => raised(rt, alloc, first),
+        "upward alone" => raised_alone(rt, alloc, first),
+        "agreement 300" => agreement(alloc, first, others),
         "included" => inclusion(alloc, first, others),
         "missing" => missing(alloc, first, others),
         "pairs" => pairs(alloc, first, others),
@@ -53,6 +60,28 @@ fn simulation<R: Threads + Sync>(rt: &R, alloc: Global, first: &str, jobs: usize
     };
     let auto = auto(alloc, first)?;
     let relation = downward(rt, alloc, &auto, &crew)?;
+    simulation_text(alloc, &relation)
+}
+
+fn raised<R: Threads + Sync>(rt: &R, alloc: Global, first: &str) -> Result<String> {
+    let crew = Crew {
+        jobs: 1,
+        gate: &NoGate,
+    };
+    let auto = auto(alloc, first)?;
+    let down = downward(rt, alloc, &auto, &crew)?;
+    let relation = upward(rt, alloc, &auto, &down, &crew)?;
+    simulation_text(alloc, &relation)
+}
+
+fn raised_alone<R: Threads + Sync>(rt: &R, alloc: Global, first: &str) -> Result<String> {
+    let crew = Crew {
+        jobs: 1,
+        gate: &NoGate,
+    };
+    let auto = auto(alloc, first)?;
+    let down = downward(rt, alloc, &auto, &crew)?;
+    let relation = upward_alone(alloc, &auto, &down)?;
     simulation_text(alloc, &relation)
 }
 

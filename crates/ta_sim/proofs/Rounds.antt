@@ -1,6 +1,6 @@
 -- What a round leaves: rows that still relate what simulates, and in the end a simulation.
 use Rattle.std.proofs.Common.{◌≡◌, inl, inr, ℕ, zero, suc, ◌<◌, ◌≤◌, Bool, true, false, true≢false, List, [], ◌∷◌, ◌++◌}
-use Rattle.std.proofs.Common.{length, get_or, replicate, sym, ap, subst, ◌∙◌, arith}
+use Rattle.std.proofs.Common.{length, get_or, replicate, refl, sym, ap, subst, ◌∙◌, arith}
 use Rattle.std.proofs.lemmas.Bool.{cases_lt}
 use Rattle.std.proofs.lemmas.List.{get_or_push, get_or_append_left, get_or-replicate, length-append, length-replicate}
 use Rattle.fore_base.specs.Lists.{IsIn, Every, Paired}
@@ -10,9 +10,9 @@ use Rattle.fore_base.specs.Marks.{MarksOf}
 use Rattle.ta_core.specs.Simulations.{IsDownward, IsSimulated}
 use Rattle.fore_base.proofs.ListLemmas.{every_in, in_every}
 use Rattle.fore_base.proofs.MarkLemmas.{marked_below}
-use Rattle.ta_sim.specs.inner.Matching.{rules_at, AreByState, IsAnswered, Stays}
-use Rattle.ta_sim.specs.inner.Refining.{AreSquare, Includes, AreRefined, pair_count}
-use Rattle.ta_sim.specs.Relations.{Relates}
+use Rattle.ta_sim.specs.inner.Matching.{group_at, AreByState, IsMatch, IsAnswered, Stays}
+use Rattle.ta_sim.specs.inner.Refining.{Includes, Refines, AreMade, pair_count}
+use Rattle.ta_sim.specs.Relations.{AreSquare, AreRowsOf, Relates}
 use Rattle.ta_sim.proofs.Counting.{rows_fall}
 use Rattle.ta_sim.proofs.Simulated.{simulated_downward}
 
@@ -66,15 +66,15 @@ related_each n rules rows f (p ∷ ps) (q ∷ qs) l k h = (f p q l.0 k.0 h.0, re
 module _ (n : ℕ) (rules : List Rule) (groups : List (List Rule)) (rows : List (List Bool))
     (proper : Every (IsRankedRule n) rules) (by : AreByState rules n groups) (square : AreSquare n rows) where
   -- a pair stays where the one state simulates the other
-  stays_simulated : Includes n rules rows → (p q : ℕ) → p < n → q < n → IsSimulated rules p q → Stays groups rows p q
-  stays_simulated f p q l k h = (f p q l k h, in_every (IsAnswered rows (rules_at groups q)) (rules_at groups p) answer)
+  stays_simulated : Includes n rules rows → (p q : ℕ) → p < n → q < n → IsSimulated rules p q → Stays (IsMatch rows) groups rows p q
+  stays_simulated f p q l k h = (f p q l k h, in_every (IsAnswered (IsMatch rows) (group_at groups q)) (group_at groups p) answer)
     where
-      answer : (r : Rule) → IsIn r (rules_at groups p) → IsAnswered rows (rules_at groups q) r
+      answer : (r : Rule) → IsIn r (group_at groups p) → IsAnswered (IsMatch rows) (group_at groups q) r
       answer r i =
           let w = by.only p r i in
           let m = simulated_downward rules r q w.0 (subst (λ (x : ℕ). IsSimulated rules x q) (sym w.1) h) in (
             m.0,
-            subst (λ (x : ℕ). IsIn m.0 (rules_at groups x)) m.2 (by.each m.0 m.1),
+            subst (λ (x : ℕ). IsIn m.0 (group_at groups x)) m.2 (by.each m.0 m.1),
             (
               m.3,
               related_each n rules rows f r.children m.0.children (every_in (IsRankedRule n) rules r proper w.0).1
@@ -82,48 +82,51 @@ module _ (n : ℕ) (rules : List Rule) (groups : List (List Rule)) (rows : List 
             ),
           )
 
-  module _ (next : List (List Bool)) (long : length next ≡ n) (refined : AreRefined n groups rows next) where
-    pub next_square : AreSquare n next
-    next_square = (long, every_row n next (λ p l. (refined p l).long))
-
-    next_stays : (p q : ℕ) → Relates next p q → Stays groups rows p q
-    next_stays p q h = (refined p (row_there next p q h)).only q h
-
+  module _ (next : List (List Bool)) (made : AreRowsOf n (Stays (IsMatch rows) groups rows) next) where
     pub next_includes : Includes n rules rows → Includes n rules next
-    next_includes f p q l k h = (refined p (rw long l)).each q (stays_simulated f p q l k h)
+    next_includes f p q l k h = made.each p q l k (stays_simulated f p q l k h)
 
     -- nothing was taken away: the rows are a simulation
-    pub settled : next ≡ rows → IsDownward rules (Relates rows)
+    pub settled : rows ≡ next → IsDownward rules (Relates rows)
     settled e r q i h =
-        let m = every_in (IsAnswered rows (rules_at groups q)) (rules_at groups r.state) r
-        (next_stays r.state q (subst (λ (x : List (List Bool)). Relates x r.state q) (sym e) h)).1 (by.each r i)
+        let m = every_in (IsAnswered (IsMatch rows) (group_at groups q)) (group_at groups r.state) r
+        (made.only r.state q (subst (λ (x : List (List Bool)). Relates x r.state q) e h)).2.1 (by.each r i)
         in
         let w = by.only q m.0 m.1 in
         (m.0, w.0, w.1, m.2.0, m.2.1)
 
-    pub fewer : (next ≡ rows → ⊥) → pair_count next < pair_count rows
-    fewer d = elim (rows_fall n next rows (long ∙ sym square.0) next_square.1 square.1 (λ p q h. (next_stays p q h).0))
-        [ inl e ↦ absurd (d e) | inr l ↦ l ]
+-- rows that are not as before, each pair of which is one of them, have fewer
+pub fewer : (n : ℕ) (P : ℕ → ℕ → Type 0) (rows next : List (List Bool)) → AreSquare n rows → AreRowsOf n P next
+    → ((p q : ℕ) → P p q → Relates rows p q) → (rows ≡ next → ⊥) → pair_count next < pair_count rows
+fewer n P rows next square made f d =
+    elim (rows_fall n next rows (made.square.0 ∙ sym square.0) made.square.1 square.1
+    (λ p q h. f p q (made.only p q h).2)) [ inl e ↦ absurd (d (sym e)) | inr l ↦ l ]
+
+-- rows that are as before are settled, and others have fewer pairs
+pub refines_from : (rules : List Rule) (old new : List (List Bool)) (changed : Bool)
+    → (changed ≡ true → pair_count new < pair_count old)
+    → (changed ≡ false → (new ≡ old) × IsDownward rules (Relates old)) → Refines rules old new changed
+refines_from rules old new true f g = f refl
+refines_from rules old new false f g = g refl
 
 -- one more row
-pub refined_push : (n : ℕ) (groups : List (List Rule)) (rows next : List (List Bool)) (row : List Bool) (p : ℕ)
-    → length next ≡ p → AreRefined n groups rows next → MarksOf n (Stays groups rows p) row
-    → AreRefined n groups rows (next ++ row ∷ [])
-refined_push n groups rows next row p e h m i l = elim (cases_lt i (length next)) [
-  | inl k ↦ subst (MarksOf n (Stays groups rows i)) (sym (get_or_append_left next (row ∷ []) [] i k)) (h i k)
+pub made_push : (n : ℕ) (P : ℕ → ℕ → Type 0) (rows : List (List Bool)) (row : List Bool) (p : ℕ) → length rows ≡ p
+    → AreMade n P rows → MarksOf n (λ q. (q < n) × P p q) row → AreMade n P (rows ++ row ∷ [])
+made_push n P rows row p e h m i l = elim (cases_lt i (length rows)) [
+  | inl k ↦ subst (MarksOf n (λ q. (q < n) × P i q)) (sym (get_or_append_left rows (row ∷ []) [] i k)) (h i k)
   | inr k ↦ (let d = last k in
-      subst (MarksOf n (Stays groups rows i)) (sym (get_or_push next row [] i (sym d)))
-      (subst (λ (x : ℕ). MarksOf n (Stays groups rows x) row) (sym e ∙ sym d) m))
+      subst (MarksOf n (λ q. (q < n) × P i q)) (sym (get_or_push rows row [] i (sym d)))
+      (subst (λ (x : ℕ). MarksOf n (λ q. (q < n) × P x q) row) (sym e ∙ sym d) m))
 ]
   where
-    last : length next ≤ i → i ≡ length next
-    last k = let a = length-append next (row ∷ []) in omega (arith, a, k, l)
+    last : length rows ≤ i → i ≡ length rows
+    last k = let a = length-append rows (row ∷ []) in omega (arith, a, k, l)
 
--- all places of the row are done
-pub row_done : (n : ℕ) (groups : List (List Rule)) (rows : List (List Bool)) (p : ℕ) (row : List Bool)
-    → AreSquare n rows → MarksOf n (λ q. (q < n) × Stays groups rows p q) row → MarksOf n (Stays groups rows p) row
-row_done n groups rows p row s m = record {
-  long = m.long;
-  only = λ q h. (m.only q h).1;
-  each = λ q h. m.each q (related_low n rows p q s h.0, h);
+-- all rows are made
+pub rows_made : (n : ℕ) (P : ℕ → ℕ → Type 0) (rows : List (List Bool)) → length rows ≡ n → AreMade n P rows
+    → AreRowsOf n P rows
+rows_made n P rows e h = record {
+  square = (e, every_row n rows (λ p l. (h p l).long));
+  only = λ p q r. let l = row_there rows p q r in let w = (h p l).only q r in (rw (← e) l, w.0, w.1);
+  each = λ p q l k r. (h p (rw e l)).each q (k, r);
 }

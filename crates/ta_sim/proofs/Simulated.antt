@@ -46,11 +46,11 @@ simulated_same rules q =
     (nat_eq, (λ r p i e. (r, i, eqb-true r.state p e, refl, equal_each r.children)), eq-eqb q q refl)
 
 -- some number below n meets f
-abbrev some_below : ℕ → (ℕ → Bool) → Bool
+abbrev pub some_below : ℕ → (ℕ → Bool) → Bool
 some_below zero f = false
 some_below (suc n) f = f 0 || some_below n (λ i. f (suc i))
 
-below_from : (n : ℕ) (f : ℕ → Bool) → some_below n f ≡ true → (i : ℕ) × (i < n) × (f i ≡ true)
+pub below_from : (n : ℕ) (f : ℕ → Bool) → some_below n f ≡ true → (i : ℕ) × (i < n) × (f i ≡ true)
 below_from zero f h = absurd (true≢false (sym h))
 below_from (suc n) f h = here (below_from n (λ i. f (suc i))) (or_cases (f 0) (some_below n (λ i. f (suc i))) h)
   where
@@ -63,7 +63,7 @@ either : (b : Bool) → (b || true) ≡ true
 either true = refl
 either false = refl
 
-below_to : (n : ℕ) (f : ℕ → Bool) (i : ℕ) → i < n → f i ≡ true → some_below n f ≡ true
+pub below_to : (n : ℕ) (f : ℕ → Bool) (i : ℕ) → i < n → f i ≡ true → some_below n f ≡ true
 below_to zero f i l h = absurd (omega (arith, l))
 below_to (suc n) f zero l h = rw h refl
 below_to (suc n) f (suc i) l h = rw (below_to n (λ j. f (suc j)) i (omega (arith, l)) h) (either (f 0))
@@ -73,14 +73,20 @@ both true b h k = k
 both false b h k = absurd (true≢false (sym h))
 
 -- through a state of the automaton the one relation leads to the other
-abbrev through : ℕ → (ℕ → ℕ → Bool) → (ℕ → ℕ → Bool) → ℕ → ℕ → Bool
+abbrev pub through : ℕ → (ℕ → ℕ → Bool) → (ℕ → ℕ → Bool) → ℕ → ℕ → Bool
 through n R S p r = some_below n (λ q. R p q && S q r)
 
 module _ (n : ℕ) (R S : ℕ → ℕ → Bool) where
-  go_through : (p q r : ℕ) → q < n → R p q ≡ true → S q r ≡ true → through n R S p r ≡ true
+  pub go_through : (p q r : ℕ) → q < n → R p q ≡ true → S q r ≡ true → through n R S p r ≡ true
   go_through p q r l h k = below_to n (λ m. R p m && S m r) q l (both (R p q) (S q r) h k)
 
-  each_through : (ps qs rs : List ℕ) → Every (λ q. q < n) qs → Paired (λ p q. R p q ≡ true) ps qs
+  pub through_from : (p r : ℕ) → through n R S p r ≡ true → (q : ℕ) × (q < n) × (R p q ≡ true) × (S q r ≡ true)
+  through_from p r h =
+      let w = below_from n (λ m. R p m && S m r) h in
+      let k = and_parts (R p w.0) (S w.0 r) w.2 in
+      (w.0, w.1, k.0, k.1)
+
+  pub each_through : (ps qs rs : List ℕ) → Every (λ q. q < n) qs → Paired (λ p q. R p q ≡ true) ps qs
       → Paired (λ q r. S q r ≡ true) qs rs → Paired (λ p r. through n R S p r ≡ true) ps rs
   each_through [] [] [] l h k = tt
   each_through [] [] (r ∷ rs) l h k = absurd k

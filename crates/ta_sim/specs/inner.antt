@@ -1,2 +1,4 @@
 pub mod Matching
+pub mod Raising
 pub mod Refining
+pub mod Using

@@ -1,57 +1,77 @@
-// Whether rules are matched by others, by a relation on their states.
+// Whether items of one state are matched by those of another one, by a relation on states.
 
 ghost use Rattle.std.specs.Prelude.{◌≡◌, ◌↔◌, IsTrue};
 ghost use Rattle.fore_base.specs.Lists.{Every};
-ghost use Rattle.ta_sim.specs.inner.Matching.{rules_at, IsMatch, IsAnswered, Stays};
+ghost use Rattle.ta_sim.specs.inner.Matching.{group_at, IsAnswered};
 
-use crate::relation::{are_related, entry_at};
+use crate::relation::entry_at;
+use crate::tabling::Pairs;
 use fore_base::list::List;
-use ta_core::auto::Rule;
 
-/// Whether the two states are related, and rules of the second match all of the first.
-pub fn stays(groups: &[List<Rule>], rows: &[List<bool>], left: u32, right: u32) -> bool
-    ensures { IsTrue result ↔ Stays groups.now rows.now left right }
-{
-    entry_at(rows, left, right)
-        && are_answered(rules_of(groups, left), rows, rules_of(groups, right))
+/// Which items are matched by which.
+pub trait Matching<T> {
+    ghost use Rattle.std.specs.Prelude.{◌↔◌, IsTrue};
+
+    /// The second item matches the first.
+    ghost matches: { Self → T → T → Type 0 };
+
+    /// Whether `other` matches the item.
+    fn is_match(&self, item: &T, other: &T) -> bool
+        ensures { IsTrue result ↔ matches self.now item.now other.now };
 }
 
-/// The rules of the state, none where there is no such state.
-fn rules_of<'a>(groups: &'a [List<Rule>], state: u32) -> &'a [Rule]
-    ensures { result.now ≡ rules_at groups.entry.now state }
+/// Two states are related where the rows relate them, and each item of the first is matched by one of the second.
+#[derive(Clone, Copy)]
+pub struct Staying<'a, T, M> {
+    pub matching: &'a M,
+    pub groups: &'a [List<T>],
+    pub rows: &'a [List<bool>],
+}
+
+impl<T, M: Matching<T>> Pairs for Staying<'_, T, M> {
+    ghost use Rattle.ta_sim.specs.inner.Matching.{Stays};
+
+    ghost relates = { λ s. Stays (M.matches s.matching.now) s.groups.now s.rows.now };
+
+    fn is_related(&self, left: u32, right: u32) -> bool {
+        entry_at(self.rows, left, right)
+            && are_answered(
+                self.matching,
+                group_of(self.groups, left),
+                group_of(self.groups, right),
+            )
+    }
+}
+
+/// The items of the state, none where there is no such state.
+fn group_of<'a, T>(groups: &'a [List<T>], state: u32) -> &'a [T]
+    ensures { result.now ≡ group_at groups.entry.now state }
 {
     match groups.get(state as usize) {
-        Some(rules) => rules.as_slice(),
+        Some(items) => items.as_slice(),
         None => &[],
     }
 }
 
-/// Whether each of the rules is matched by one of the others.
-fn are_answered(rules: &[Rule], rows: &[List<bool>], others: &[Rule]) -> bool
-    ensures { IsTrue result ↔ Every (IsAnswered rows.now others.now) rules.now }
+/// Whether each of the items is matched by one of the others.
+fn are_answered<T, M: Matching<T>>(matching: &M, items: &[T], others: &[T]) -> bool
+    ensures { IsTrue result ↔ Every (IsAnswered (M.matches matching.now) others.now) items.now }
 {
-    for rule in rules {
-        if !is_answered(rule, rows, others) {
+    for item in items {
+        if !is_answered(matching, item, others) {
             return false;
         }
     }
     true
 }
 
-fn is_answered(rule: &Rule, rows: &[List<bool>], others: &[Rule]) -> bool
-    ensures { IsTrue result ↔ IsAnswered rows.now others.now rule.now }
+fn is_answered<T, M: Matching<T>>(matching: &M, item: &T, others: &[T]) -> bool
+    ensures { IsTrue result ↔ IsAnswered (M.matches matching.now) others.now item.now }
 {
     for other in others {
-        if is_match(rows, rule, other) {
+        if matching.is_match(item, other) {
             return true;
         }
     }
     false
-}
-
-fn is_match(rows: &[List<bool>], rule: &Rule, other: &Rule) -> bool
-    ensures { IsTrue result ↔ IsMatch rows.now rule.now other.now }
-{
-    other.symbol.is_same(&rule.symbol)
-        && are_related(rows, rule.children.as_slice(), other.children.as_slice())
 }

@@ -1,9 +1,10 @@
-// One call of the program over the file x.c and two sinks in memory.
+// One call of the program over files and two sinks in memory.
 
 use anyhow::{Context, Result};
 use fore_base::mem_shelf::MemShelf;
 use fore_base::mem_sink::MemSink;
 use fore_base::memory::Mem;
+use fore_base::shelf::Shelf;
 use fore_call::forester;
 use par_kit::gate::NoGate;
 use std::alloc::Global;
@@ -38,25 +39,40 @@ pub struct Told {
     pub notes: MemSink,
 }
 
-/// What comes of these words over the file x.c of these bytes.
+/// What comes of these words over the file x.c of these bytes and, where there are some, the file x.box.
 pub fn call<R: Threads + Sync>(
     rt: &R,
     alloc: Global,
     words: &[&str],
     file: &[u8],
+    boxes: Option<&[u8]>,
+    ends: Ends,
+) -> Result<Told> {
+    let mut shelf = MemShelf::new(alloc);
+    shelf.add("x.c", file)?;
+    if let Some(boxes) = boxes {
+        shelf.add("x.box", boxes)?;
+    }
+    shelf.fail(ends.read)?;
+    call_over(rt, alloc, words, &mut shelf, ends)
+}
+
+/// What comes of these words over a shelf.
+pub fn call_over<R: Threads + Sync, L: Shelf>(
+    rt: &R,
+    alloc: Global,
+    words: &[&str],
+    shelf: &mut L,
     ends: Ends,
 ) -> Result<Told> {
     let words = words_of(alloc, words)?;
-    let mut shelf = MemShelf::new(alloc);
-    shelf.add("x.c", file)?;
-    shelf.fail(ends.read)?;
     let mut out = sink(alloc, ends.most, ends.out)?;
     let mut notes = sink(alloc, ends.most, ends.notes)?;
     let status = forester(
         rt,
         alloc,
         words.as_slice(),
-        &mut shelf,
+        shelf,
         &mut out,
         &mut notes,
         &NoGate,

@@ -4,15 +4,18 @@
 // - `call WORDS | FILE`: of the words over the file x.c.
 // - `lines WORDS | LINES`: of the words over a file with these lines in its main, of which the first is line 3.
 // - `until WORDS | FILE | LAST`: the same as `call`, and of standard output only what stands before LAST.
+// - `boxes READ WORDS | FILE | BOXES`: over the files x.c and x.box, where this read fails.
+// - `changing WORDS | FIRST | LATER`: over files that all have the first bytes at the first read, and then the others.
 // - `failing MOST READ OUT NOTES WORDS | FILE`: where a put takes at most MOST bytes, and these reads and puts fail.
 // - `report NUMBER LINE STEP | NAME`: the report on a fault of this number.
 
-use crate::calls::{Ends, STEADY, call, shown, shown_until};
+use crate::calls::{Ends, STEADY, call, call_over, shown, shown_until};
+use crate::shelves::ChangingShelf;
 use crate::texts::main_of;
 use anyhow::{Context, Result, bail};
 use fore_base::fault::Fault;
 use fore_base::text::Text;
-use fore_call::texts::unsafe_report;
+use fore_report::texts::unsafe_report;
 use row_kit::Answers;
 use row_texts::read_text;
 use std::alloc::Global;
@@ -37,6 +40,8 @@ impl Answers for Kinds {
         match *kind {
             "call" | "lines" => steady(rt, alloc, words, &file),
             "until" => until(rt, alloc, words, &file, others),
+            "boxes" => with_boxes(rt, alloc, words, &file, others),
+            "changing" => changing(rt, alloc, words, file, others),
             "failing" => failing(rt, alloc, words, &file),
             "report" => report(alloc, words),
             _ => bail!("no such kind"),
@@ -53,7 +58,7 @@ fn file_of(alloc: Global, kind: &str, text: &str) -> Result<Text> {
 }
 
 fn steady<R: Threads + Sync>(rt: &R, alloc: Global, words: &[&str], file: &Text) -> Result<String> {
-    let told = call(rt, alloc, words, file.as_slice(), STEADY)?;
+    let told = call(rt, alloc, words, file.as_slice(), None, STEADY)?;
     shown(alloc, &told)
 }
 
@@ -65,8 +70,45 @@ fn until<R: Threads + Sync>(
     others: &[&str],
 ) -> Result<String> {
     let last = others.first().context("no last text")?;
-    let told = call(rt, alloc, words, file.as_slice(), STEADY)?;
+    let told = call(rt, alloc, words, file.as_slice(), None, STEADY)?;
     shown_until(alloc, &told, last)
+}
+
+fn with_boxes<R: Threads + Sync>(
+    rt: &R,
+    alloc: Global,
+    words: &[&str],
+    file: &Text,
+    others: &[&str],
+) -> Result<String> {
+    let (read, words) = words.split_first().context("no number of a read")?;
+    let boxes = read_text(alloc, others.first().context("no file of boxes")?)?;
+    let ends = Ends {
+        read: read.parse::<u64>()?,
+        ..STEADY
+    };
+    let told = call(
+        rt,
+        alloc,
+        words,
+        file.as_slice(),
+        Some(boxes.as_slice()),
+        ends,
+    )?;
+    shown(alloc, &told)
+}
+
+fn changing<R: Threads + Sync>(
+    rt: &R,
+    alloc: Global,
+    words: &[&str],
+    file: Text,
+    others: &[&str],
+) -> Result<String> {
+    let later = read_text(alloc, others.first().context("no later bytes")?)?;
+    let mut shelf = ChangingShelf::new(alloc, file, later);
+    let told = call_over(rt, alloc, words, &mut shelf, STEADY)?;
+    shown(alloc, &told)
 }
 
 fn failing<R: Threads + Sync>(
@@ -89,7 +131,7 @@ fn failing<R: Threads + Sync>(
         out: out.parse::<u64>()?,
         notes: notes.parse::<u64>()?,
     };
-    let told = call(rt, alloc, words, file.as_slice(), ends)?;
+    let told = call(rt, alloc, words, file.as_slice(), None, ends)?;
     shown(alloc, &told)
 }
 

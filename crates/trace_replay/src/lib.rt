@@ -5,8 +5,6 @@ ghost use Rattle.std.specs.Prelude.{◌≡◌, ◌<◌, ◌-◌, ◌^◌, IfOk};
 ghost use Rattle.c_types.specs.Runs.{run};
 ghost use Rattle.trace_replay.specs.Replays.{replay_of};
 
-#[cfg(test)]
-mod tests;
 pub mod verdict;
 
 pub use crate::verdict::Replay;

@@ -10,7 +10,6 @@ use Rattle.c_types.specs.Control.{Either, joined, merged, test_of, items_of, all
 use Rattle.c_cfg.specs.declared.graph.Instr.TheVariants.{Kill}
 use Rattle.c_cfg.specs.declared.graph.Edge.{Edge}
 use Rattle.c_cfg.specs.declared.around.Around.{Around}
-use Rattle.c_joints.specs.Sides.{yes_side, no_side}
 use Rattle.c_joints.specs.declared.sides.Joint.{Joint}
 use Rattle.c_joints.specs.declared.sides.Joint.TheVariants.{All, Any}
 use Rattle.c_cfg.specs.Links.{Link, One, act_row}

@@ -1,6 +1,6 @@
 -- How often the trees of a choice give a field at a root, together: the greatest number and the least.
 use Rattle.std.specs.Prelude.{◌≡◌, ◌⊎◌, ◌≤◌, ℕ, ◌+◌, Bool, true, false, ◌&&◌, ◌||◌, List, [], ◌∷◌, ◌++◌, map, flat_map, Some}
-use Rattle.std.specs.Prelude.{slice_get, slice_set}
+use Rattle.std.specs.Prelude.{slice_get, slice_set, replicate}
 use Rattle.fore_base.specs.Lists.{IsIn, Every, sum_of}
 use Rattle.fore_base.specs.declared.store.Datum.{Datum}
 use Rattle.ta_core.specs.Auto.{Automaton}
@@ -17,6 +17,8 @@ use Rattle.fa_core.specs.Rearranged.{often}
 use Rattle.fa_filling.specs.Parted.{chosen}
 use Rattle.fa_giving.specs.declared.worths.Worth.{Worth}
 use Rattle.fa_giving.specs.declared.totals.Extremes.{Extremes}
+use Rattle.fa_giving.specs.declared.totals.Given.{Given}
+use Rattle.fa_giving.specs.declared.totals.Given.TheVariants.{Nothing, Each}
 use Rattle.fa_giving.specs.inner.Worths.{weigh, refers, worth_at, joined, most_below, none_below, capped}
 
 -- how often the tree gives it
@@ -41,6 +43,11 @@ extremes_of x = record { most = most_below 0 x; none = none_below 0 x }
 -- nothing is given
 abbrev pub none_given : Extremes
 none_given = record { most = 0; none = true }
+
+-- for each of n components what its trees give
+abbrev pub extremes_in : ℕ → Given → List Extremes
+extremes_in n Nothing = replicate n none_given
+extremes_in n (Each all) = all
 
 abbrev pub added : Extremes → Extremes → Extremes
 added x y = record { most = capped (x.most + y.most); none = x.none && y.none }

@@ -3,10 +3,10 @@ use Rattle.std.specs.Prelude.{◌≡◌, ◌*◌, ◌+◌, ◌-◌, ◌&&◌, �
 use Rattle.std.specs.Prelude.{codes, decimal, length, nat_le, nat_lt, nat_eq, Option, Some, None, Result, Ok, Err}
 use Rattle.std.specs.Cmp.Lexicographic.{pointwise}
 use Rattle.std.specs.List.{prefix_len}
-use Rattle.c_lexer.specs.Bytes.{is_gap, is_word_byte}
+use Rattle.c_lexer.specs.Bytes.{is_gap}
 use Rattle.fore_base.specs.declared.store.Datum.{Datum}
 use Rattle.fore_base.specs.declared.store.Datum.TheVariants.{Undefined, Known}
-use Rattle.fa_lines.specs.Pieces.{is_word, pieces}
+use Rattle.fa_lines.specs.Pieces.{is_word, joins, pieces}
 use Rattle.fa_lines.specs.declared.line.DatumText.{DatumText}
 use Rattle.fa_lines.specs.declared.line.SlotText.{SlotText}
 use Rattle.fa_lines.specs.declared.line.SlotText.TheVariants.{Field, Link, Hook}
@@ -205,7 +205,7 @@ line_of (b ∷ bs) = cond (nat_eq b 35) (Some Skipped) (line_of_pieces (pieces (
 -- how many bytes the first piece has, or the space or tab in front
 abbrev pub front_size : List ℕ → ℕ
 front_size [] = 0
-front_size (b ∷ bs) = cond (is_word_byte b) (suc (prefix_len is_word_byte bs)) 1
+front_size (b ∷ bs) = suc (prefix_len (joins b) bs)
 
 -- a piece, or nothing where it is a space or a tab
 abbrev pub kept : List ℕ → Texts

@@ -1,4 +1,4 @@
--- Which roots are those of a canonical forest without box edges, by what the trees show.
+-- Which roots are those of a canonical forest, by what the trees show.
 use Rattle.std.specs.Prelude.{ℕ, suc, ◌+◌, Bool, true, false, not, ◌&&◌, ◌||◌, nat_eq, nat_le, if◌then◌else◌, List, []}
 use Rattle.std.specs.Prelude.{◌∷◌}
 use Rattle.fa_core.specs.Cells.{roots_in}
@@ -41,9 +41,24 @@ any_ties vs ss r own i (s ∷ rest) = ties vs ss r own i s || any_ties vs ss r o
 abbrev pub knot_by : List ℕ → List Shown → ℕ → List RefMark → Bool
 knot_by vs ss r own = nat_eq (times_shown r ss) 1 && any_ties vs ss r own 0 ss
 
--- root r is shared, and no cell at the end of a field of it refers to it, or it is a knot
+-- a tree other than that of root r refers to it; the trees are those of the roots from i on
+abbrev pub any_other : ℕ → ℕ → List Shown → Bool
+any_other r i [] = false
+any_other r i (s ∷ ss) = (not (nat_eq i r) && has r (roots_in s.marks)) || any_other r (suc i) ss
+
+-- by a mark of another root, a way back into root r's tree leads to root r
+abbrev pub any_leads : ℕ → List RefMark → Bool
+any_leads r [] = false
+any_leads r (m ∷ ms) = (not (nat_eq m.root r) && (m.back || has r m.reach)) || any_leads r ms
+
+-- no variable points to root r, no other tree refers to it, and a way back from another root leads to it
+abbrev pub led_by : List ℕ → List Shown → ℕ → List RefMark → Bool
+led_by vs ss r own = not (has r vs) && (not (any_other r 0 ss) && any_leads r own)
+
+-- root r is shared, and no cell at the end of a field of it refers to it, or it is a knot, or a way back leads to it
 abbrev pub root_by : List ℕ → List Shown → ℕ → Shown → Bool
-root_by vs ss r s = if shared_by vs ss r then not (any_cell r s.ends) else knot_by vs ss r s.marks
+root_by vs ss r s =
+    if shared_by vs ss r then not (any_cell r s.ends) else (knot_by vs ss r s.marks || led_by vs ss r s.marks)
 
 -- so is each root from r on
 abbrev pub roots_by : List ℕ → List Shown → ℕ → List Shown → Bool

@@ -5,6 +5,10 @@ use Rattle.fore_base.specs.Marks.{all_marked}
 use Rattle.ta_core.specs.Auto.{Automaton}
 use Rattle.ta_core.specs.Language.{InLanguage, RunOf}
 use Rattle.ta_core.specs.declared.auto.Rule.{Rule}
+use Rattle.ta_core.specs.declared.symbol.Slot.{Slot}
+use Rattle.ta_core.specs.declared.symbol.Slot.TheVariants.{Field, Link, Hook}
+use Rattle.ta_core.specs.declared.symbol.Symbol.{Symbol}
+use Rattle.ta_core.specs.declared.symbol.Symbol.TheVariants.{Null, Uninit, Dangling, Ref, Cell}
 use Rattle.ta_core.specs.declared.tree.Tree.{Tree}
 use Rattle.fa_core.specs.Canonical.{field_trees}
 use Rattle.fa_core.specs.Cells.{is_leaf, below_of}
@@ -43,3 +47,20 @@ is_cell_rule inhabited q r = nat_eq r.state q && (not (is_leaf r.symbol) && all_
 abbrev pub has_cell_rule : List Bool → ℕ → List Rule → Bool
 has_cell_rule inhabited q [] = false
 has_cell_rule inhabited q (r ∷ rs) = is_cell_rule inhabited q r || has_cell_rule inhabited q rs
+
+-- the states at the ends of the fields, those at the ends of box edges left out
+abbrev pub states_at : List Slot → List ℕ → List ℕ
+states_at [] qs = []
+states_at (Hook b ∷ ss) qs = states_at ss qs
+states_at (Field f ∷ ss) [] = []
+states_at (Field f ∷ ss) (q ∷ qs) = q ∷ states_at ss qs
+states_at (Link b ∷ ss) [] = []
+states_at (Link b ∷ ss) (q ∷ qs) = states_at ss qs
+
+-- the states at the ends of the fields of a cell with this symbol
+abbrev pub states_under : Symbol → List ℕ → List ℕ
+states_under Null qs = []
+states_under Uninit qs = []
+states_under Dangling qs = []
+states_under (Ref r) qs = []
+states_under (Cell s ds ss) qs = states_at ss qs

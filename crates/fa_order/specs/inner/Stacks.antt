@@ -1,9 +1,6 @@
 -- What the code of the walk holds: a stack of roots to be visited, and the roots to which each root refers.
-use Rattle.std.specs.Prelude.{◌≡◌, ℕ, zero, suc, ◌+◌, if◌then◌else◌, List, [], ◌∷◌, ◌++◌, length}
-use Rattle.ta_core.specs.Auto.{Automaton}
-use Rattle.ta_core.specs.Language.{InLanguage}
-use Rattle.ta_core.specs.declared.tree.Tree.{Tree}
-use Rattle.fa_core.specs.Ways.{has, ways, roots_met}
+use Rattle.std.specs.Prelude.{ℕ, zero, suc, ◌+◌, if◌then◌else◌, List, [], ◌∷◌, ◌++◌, length}
+use Rattle.fa_core.specs.Ways.{has}
 
 -- the stack from its top down
 abbrev pub behind : List ℕ → List ℕ
@@ -16,15 +13,11 @@ nth_refs [] r = []
 nth_refs (rs ∷ rest) zero = rs
 nth_refs (rs ∷ rest) (suc r) = nth_refs rest r
 
--- how many references the roots have that are not placed, those from k on
+-- how many roots are not placed, and how many references these have, those from k on
 abbrev pub unplaced : List (List ℕ) → ℕ → List ℕ → ℕ
 unplaced [] k placed = 0
-unplaced (rs ∷ rest) k placed = (if has k placed then 0 else length rs) + unplaced rest (suc k) placed
+unplaced (rs ∷ rest) k placed = (if has k placed then 0 else suc (length rs)) + unplaced rest (suc k) placed
 
 -- how many visits are left at most
 abbrev pub weight : List (List ℕ) → List ℕ → List ℕ → ℕ
 weight refers todo placed = length todo + unplaced refers 0 placed
-
--- each tree of the component refers to these roots, in the order of first visit
-abbrev pub AreRefsOf : Automaton → List ℕ → Type 0
-AreRefsOf a rs = (t : Tree) → InLanguage a t → roots_met (ways t) ≡ rs

@@ -47,3 +47,13 @@ IsUnknown known r = slice_index_or known r true ≡ false
 abbrev pub IsNext : List Bool → Option ℕ → Type 0
 IsNext known None = (r : ℕ) → r < length known → IsMarked known r
 IsNext known (Some r) = IsUnknown known r
+
+-- there are as many marks as parts, root i has one, and what has one is reached from it for each choice
+abbrev pub Knows : List Part → ℕ → List Bool → Type 0
+Knows ps i known = (length known ≡ length ps) × IsMarked known i × ((u : ℕ) → IsMarked known u → Forced ps i u)
+
+-- the marks stay, and what is marked more is reached wherever what was marked is
+pub record Gains (ps : List Part) (old new : List Bool) : Type 0 where
+  pub long : length new ≡ length old
+  pub kept : (u : ℕ) → IsMarked old u → IsMarked new u
+  pub knows : (i : ℕ) → Knows ps i old → Knows ps i new

@@ -1,5 +1,5 @@
--- The facts of a dressed forest in the order in which a walk writes them: the head of a cell as soon as the cell has its
--- number, and a pointer when what stands at its end has one.
+-- The facts of a dressed forest in the order in which a walk writes them: the head of a cell as soon as the cell has
+-- its number, and a pointer when what stands at its end has one.
 use Rattle.std.specs.Prelude.{ℕ, List, [], ◌∷◌, ◌++◌}
 use Rattle.fore_base.specs.declared.store.Value.{Value}
 use Rattle.fore_base.specs.declared.store.Value.TheVariants.{Null as NullValue, Uninit as UninitValue}

@@ -9,7 +9,8 @@ use Rattle.fa_written.specs.declared.fault.DraftFault.{DraftFault}
 use Rattle.fa_written.specs.declared.fault.DraftFault.TheVariants.{B1, Memory}
 use Rattle.fa_written.specs.declared.draft.BoxDraft.{BoxDraft}
 use Rattle.fa_written.specs.declared.draft.Reading.{Reading}
-use Rattle.fa_written.specs.Drafts.{RefersWithin, missing}
+use Rattle.fa_written.specs.declared.draft.OpenBox.{OpenBox}
+use Rattle.fa_written.specs.Drafts.{RefersWithin, missing_of}
 use Rattle.fa_written.specs.inner.Moves.{moved, run, reading}
 
 -- the first item, if there is one
@@ -32,11 +33,10 @@ pub record Reached (text : List ℕ) (number : ℕ) (rest : List ℕ) (s : Readi
   pub ran : run (reading [] None) 1 lines ≡ Some s
   pub refs : Every RefersWithin s.boxes
 
--- the line of the first reference of the last box to a component that it does not have, if there is one
-abbrev pub last_missing : List BoxDraft → Option ℕ
-last_missing [] = None
-last_missing (b ∷ []) = first_of (missing b)
-last_missing (b ∷ c ∷ bs) = last_missing (c ∷ bs)
+-- the line of the first reference of the open box to a component that it does not have, if there is one
+abbrev pub open_missing : Option OpenBox → Option ℕ
+open_missing None = None
+open_missing (Some b) = first_of (missing_of b.parts)
 
 -- the line ends a box
 abbrev pub is_end : Line → Bool
@@ -46,27 +46,29 @@ is_end (Root r qs) = false
 is_end (Rule q term) = false
 is_end Ends = true
 
--- one line more is read; a box that it ends refers to components that it has
+-- a box that the line ends refers to components that it has
+abbrev pub EndsWithin : Line → Reading → Type 0
+EndsWithin line s = is_end line ≡ true → open_missing s.current ≡ None
+
+-- one line more is read
 pub record Took (bytes : List ℕ) (number : ℕ) (s t : Reading) : Type 0 where
   pub line : Line
   pub said : Says bytes line
   pub moves : moved s number line ≡ Some t
-  pub refs : is_end line ≡ true → last_missing t.boxes ≡ None
+  pub refs : EndsWithin line s
 
 -- the line says nothing that can be taken
 pub data Untaken (bytes : List ℕ) (number : ℕ) (s : Reading) : Type 0 where
   unsaid : ((line : Line) → Says bytes line → ⊥) → Untaken bytes number s
-  unfit : (line : Line) → Says bytes line → moved s number line ≡ None → Untaken bytes number s
+  unfit : (line : Line) → Says bytes line → moved s number line ≡ None → EndsWithin line s → Untaken bytes number s
 
--- the line ends a box that refers, first on line n, to a component that it does not have
-pub record Missed (bytes : List ℕ) (number : ℕ) (s : Reading) (n : ℕ) : Type 0 where
+-- the line says that the box ends, which refers, first on line n, to a component that it does not have
+pub record Missed (bytes : List ℕ) (s : Reading) (n : ℕ) : Type 0 where
   pub line : Line
   pub said : Says bytes line
-  pub next : Reading
-  pub moves : moved s number line ≡ Some next
   pub ends : is_end line ≡ true
-  pub first : last_missing next.boxes ≡ Some n
+  pub first : open_missing s.current ≡ Some n
 
 abbrev pub Refuses : List ℕ → ℕ → Reading → DraftFault → Type 0
-Refuses bytes number s (B1 n) = ((n ≡ number) × Untaken bytes number s) ⊎ Missed bytes number s n
+Refuses bytes number s (B1 n) = ((n ≡ number) × Untaken bytes number s) ⊎ Missed bytes s n
 Refuses bytes number s Memory = Unit {0}

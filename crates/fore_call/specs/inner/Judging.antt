@@ -1,72 +1,67 @@
--- Which answer is right for a program, for a file's bytes and for the path of a file, and which answers need memory to
--- be delivered.
-use Rattle.std.specs.Prelude.{◌≡◌, ◌≤◌, ◌⊎◌, ⊤, ℕ, List}
+-- Which answer is right for a program, and what one file and then another gives.
+use Rattle.std.specs.Prelude.{◌≡◌, ◌≤◌, ◌⊎◌, ⊤, ℕ, List, []}
+use Rattle.fore_base.specs.declared.named_files.NamedFile.{NamedFile}
+use Rattle.fore_base.specs.declared.shape.Shapes.{Shapes}
 use Rattle.c_types.specs.Program.{Program}
 use Rattle.c_types.specs.Runs.{run}
-use Rattle.c_front.specs.Files.{IsProgramOf, BreaksFirst}
-use Rattle.c_front.specs.declared.broken.FileFault.{FileFault}
-use Rattle.c_front.specs.declared.broken.FileFault.TheVariants as front
-use Rattle.fore_call.specs.declared.answer.Refusal.TheVariants.{TooLong, Breaks}
+use Rattle.fore_read.specs.Readings.{Reading, AreReadings, HasFailed}
+use Rattle.fore_read.specs.declared.fault.ReadFault.{ReadFault as Fault}
+use Rattle.fore_read.specs.declared.fault.ReadFault.TheVariants as fault
+use Rattle.fore_read.specs.Files.{AreRefusedBoxes}
+use Rattle.fore_report.specs.Reports.{IsReport}
+use Rattle.fore_words.specs.declared.asked.Settings.{Settings}
+use Rattle.fore_words.specs.declared.asked.Asked.{Asked}
+use Rattle.fore_words.specs.declared.asked.TheConstants.{MOST_HEIGHT}
+use Rattle.fore_words.specs.Words.{IsUpTo}
 use Rattle.fore_call.specs.declared.answer.Answer.{Answer}
 use Rattle.fore_call.specs.declared.answer.Answer.TheVariants.{Verified, Ran, Usage, Refused, ReadFault, NoMemory}
-use Rattle.fore_call.specs.declared.words.Settings.{Settings}
-use Rattle.fore_call.specs.declared.words.TheConstants.{MOST_HEIGHT}
-use Rattle.fore_call.specs.declared.words.Task.{Task}
-use Rattle.fore_call.specs.declared.words.Task.TheVariants.{Verify, Run}
-use Rattle.fore_call.specs.Calls.{Reading, ReadNothing, ReadOnce}
-use Rattle.fore_call.specs.Reports.{IsReport}
-
--- at most one reading was answered in this call, and it is of this path
-abbrev pub ReadAtMostOnce : Reading → List ℕ → Type 0
-ReadAtMostOnce r path = ReadNothing r ⊎ ((bytes : List ℕ) × ReadOnce r path bytes)
+use Rattle.fore_call.specs.Names.{LetsRead}
+use Rattle.fore_call.specs.Verdict.{no_boxes, AreUnused}
 
 -- the height and the budget are in their ranges
 pub record SettingsFit (settings : Settings) : Type 0 where
-  pub height : (1 ≤ settings.height) × (settings.height ≤ MOST_HEIGHT)
+  pub height : IsUpTo MOST_HEIGHT settings.height
   pub budget : 1 ≤ settings.budget
-
-abbrev pub TaskFits : Task → Type 0
-TaskFits (Verify settings) = SettingsFit settings
-TaskFits (Run choices steps) = Unit {0}
 
 -- what `verify` answers of a program
 abbrev pub IsVerdict : Program → Settings → Answer → Type 0
-IsVerdict p settings (Verified verdict text) = IsReport p settings text verdict
-IsVerdict p settings _ = ⊥
+IsVerdict p settings (Verified verdict text) = IsReport (no_boxes p.shapes) p settings text verdict
+IsVerdict p settings (Ran outcome) = ⊥
+IsVerdict p settings Usage = ⊥
+IsVerdict p settings (Refused why) = ⊥
+IsVerdict p settings ReadFault = ⊥
+IsVerdict p settings NoMemory = ⊤
 
 -- what `run` answers of a program
 abbrev pub IsRunOf : Program → List ℕ → ℕ → Answer → Type 0
+IsRunOf p choices steps (Verified verdict text) = ⊥
 IsRunOf p choices steps (Ran outcome) = outcome ≡ run p choices steps
-IsRunOf p choices steps _ = ⊥
+IsRunOf p choices steps Usage = ⊥
+IsRunOf p choices steps (Refused why) = ⊥
+IsRunOf p choices steps ReadFault = ⊥
+IsRunOf p choices steps NoMemory = ⊤
 
-abbrev pub JudgesProgram : Program → Answer → Task → Type 0
-JudgesProgram p answer (Verify settings) = IsVerdict p settings answer
-JudgesProgram p answer (Run choices steps) = IsRunOf p choices steps answer
+-- what is answered where a file is not taken
+abbrev pub answer_to : Fault → Answer
+answer_to (fault.Refused why) = Refused why
+answer_to fault.Failed = ReadFault
+answer_to fault.Memory = NoMemory
 
--- the bytes are those of a program of which this is the answer
-abbrev pub OfProgram : List ℕ → Answer → Task → Type 0
-OfProgram bytes answer task = (p : Program) × IsProgramOf bytes p × JudgesProgram p answer task
+-- how the reading of a file of boxes over these structs is answered, for now
+abbrev pub IsBoxesAnswer : Reading → List ℕ → Shapes → Answer → Type 0
+IsBoxesAnswer r boxes shapes (Verified verdict text) = ⊥
+IsBoxesAnswer r boxes shapes (Ran outcome) = ⊥
+IsBoxesAnswer r boxes shapes Usage = ⊥
+IsBoxesAnswer r boxes shapes (Refused why) =
+    (done : List NamedFile) × AreReadings r done
+    × (AreRefusedBoxes (r.before.holds boxes) boxes shapes done why
+    ⊎ AreUnused (r.before.holds boxes) boxes shapes done why)
+IsBoxesAnswer r boxes shapes ReadFault = AreReadings r [] × HasFailed r boxes
+IsBoxesAnswer r boxes shapes NoMemory = ⊤
 
-abbrev pub JudgesBytes : List ℕ → Answer → Task → Type 0
-JudgesBytes bytes (Verified verdict text) task = OfProgram bytes (Verified verdict text) task
-JudgesBytes bytes (Ran outcome) task = OfProgram bytes (Ran outcome) task
-JudgesBytes bytes Usage task = ⊥
-JudgesBytes bytes (Refused TooLong) task = ⊥
-JudgesBytes bytes (Refused (Breaks b)) task = BreaksFirst bytes b
-JudgesBytes bytes ReadFault task = ⊥
-JudgesBytes bytes NoMemory task = ⊤
-
--- the delivery of the answer can want memory: a text with numbers is made whole before it is written
-abbrev pub WantsMemory : Answer → Type 0
-WantsMemory (Verified verdict text) = ⊥
-WantsMemory (Ran outcome) = ⊤
-WantsMemory Usage = ⊥
-WantsMemory (Refused TooLong) = ⊥
-WantsMemory (Refused (Breaks b)) = ⊤
-WantsMemory ReadFault = ⊥
-WantsMemory NoMemory = ⊤
-
--- the answer where a file gives no program
-abbrev pub answer_to : FileFault → Answer
-answer_to (front.Breaks b) = Refused (Breaks b)
-answer_to front.Memory = NoMemory
+-- only readings that what is asked lets come were answered, and what the shelf holds stays
+pub record ReadsFor (r : Reading) (asked : Asked) : Type 0 where
+  pub done : List NamedFile
+  pub given : AreReadings r done
+  pub let_come : LetsRead asked done
+  pub holds : (p : List ℕ) → r.after.holds p ≡ r.before.holds p

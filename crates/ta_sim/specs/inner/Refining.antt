@@ -1,23 +1,17 @@
 -- Relations from which pairs are taken away in rounds.
 use Rattle.std.specs.Prelude.{◌≡◌, ℕ, ◌<◌, ◌+◌, Bool, List, [], ◌∷◌, length, slice_index_or, MatchBool}
-use Rattle.fore_base.specs.Lists.{Every}
 use Rattle.fore_base.specs.Marks.{MarksOf, marked_count}
 use Rattle.ta_core.specs.Simulations.{IsDownward, IsSimulated}
 use Rattle.ta_core.specs.declared.auto.Rule.{Rule}
-use Rattle.ta_sim.specs.inner.Matching.{Stays}
 use Rattle.ta_sim.specs.Relations.{Relates}
-
--- there are n rows of n entries
-abbrev pub AreSquare : ℕ → List (List Bool) → Type 0
-AreSquare n rows = (length rows ≡ n) × Every (λ row. length row ≡ n) rows
 
 -- the rows relate each two states below n of which the one simulates the other
 abbrev pub Includes : ℕ → List Rule → List (List Bool) → Type 0
 Includes n rules rows = (p q : ℕ) → p < n → q < n → IsSimulated rules p q → Relates rows p q
 
--- each of the new rows has the pairs of its state that stay
-abbrev pub AreRefined : ℕ → List (List Rule) → List (List Bool) → List (List Bool) → Type 0
-AreRefined n groups rows next = (p : ℕ) → p < length next → MarksOf n (Stays groups rows p) (slice_index_or next p [])
+-- each of the rows has those of the numbers below n that P relates
+abbrev pub AreMade : ℕ → (ℕ → ℕ → Type 0) → List (List Bool) → Type 0
+AreMade n P rows = (p : ℕ) → p < length rows → MarksOf n (λ q. (q < n) × P p q) (slice_index_or rows p [])
 
 -- how many pairs the rows relate
 abbrev pub pair_count : List (List Bool) → ℕ

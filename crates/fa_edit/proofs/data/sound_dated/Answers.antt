@@ -1,26 +1,11 @@
 use Rattle.std.proofs.Common.{◌≡◌, ◌∙◌, ap, sym, subst}
 use Rattle.std.proofs.lemmas.Result.{IfOk-weaker}
 use Rattle.ta_core.specs.Auto.{Automaton}
-use Rattle.fa_core.specs.Boxless.{HasNoBoxes}
 use Rattle.fa_core.specs.Filled.{IsSound}
 use Rattle.fa_sound.specs.Components.{component_at, with_component}
-use Rattle.fa_sound.proofs.ComponentLemmas.{set_here}
 use Rattle.fa_edit.specs.inner.Edited.{dated, dated_at}
-use Rattle.fa_edit.proofs.DatumSound.{datum_plain, datum_sound}
+use Rattle.fa_edit.proofs.DatumSound.{datum_sound}
 use Rattle.fa_edit.proofs.data.sound_dated.Goals as goal
-
-pub with_component-requires-clause-plain : goal.with_component-requires-clause-plain
-with_component-requires-clause-plain c =
-    let s = c.args.forest.now in
-    let F = s.forest in
-    let r = c.args.root in
-    let f = c.args.field in
-    let x = c.args.datum in
-    let q = c.requires in
-    let a = dated (component_at F.autos r) f x in
-    let made : c.in_ok-auto.auto ≡ a = rw (c.component.ensures, c.forest.ensures) at c.in_ok-auto.ensures in
-    subst (λ (z : Automaton). HasNoBoxes z) (sym made)
-    (set_here HasNoBoxes F.autos r a q.root (datum_plain s.face F r f x c.known.ensures.ranked q.plain q.root q.top))
 
 pub with_component-requires-clause-sound : goal.with_component-requires-clause-sound
 with_component-requires-clause-sound c =

@@ -16,16 +16,8 @@ use Rattle.fa_core.specs.declared.forest.Target.{Target}
 use Rattle.fa_height.proofs.Sound.{G, made_covers, made_plain, made_sound}
 use Rattle.fa_height.proofs.abstracting.abstract_height.Goals as goal
 
-pub of-requires-clause-plain : goal.of-requires-clause-plain
-of-requires-clause-plain c =
-    let F = c.args.forest.now.forest in
-    let face = c.args.forest.now.face in
-    let ranked : Every IsRanked F.autos = c.known.ensures.ranked in
-    made_plain face F c.args.height c.requires.height c.in_ok-autos.autos c.in_ok-autos.ensures.quotients ranked
-    c.requires.trim c.requires.plain
-
-pub of-requires-clause-sound : goal.of-requires-clause-sound
-of-requires-clause-sound c =
+pub of-requires : goal.of-requires
+of-requires c =
     let F = c.args.forest.now.forest in
     let face = c.args.forest.now.face in
     let autos = c.in_ok-autos.autos in

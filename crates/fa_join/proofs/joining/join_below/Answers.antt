@@ -8,8 +8,6 @@ use Rattle.fa_core.specs.Filled.{IsSound}
 use Rattle.fa_core.specs.declared.faces.Face.{Face}
 use Rattle.fa_core.specs.declared.forest.Forest.{Forest}
 use Rattle.fa_sound.specs.Components.{component_at, with_component}
-use Rattle.fa_sound.proofs.ComponentLemmas.{set_here}
-use Rattle.fa_split.specs.Split.{CanSplit}
 use Rattle.fa_join.specs.Joined.{Joins}
 use Rattle.fa_join.specs.inner.Joining.{joined}
 use Rattle.fa_join.proofs.JoinedForests.{split_first, split_second, joined_joins, joined_no_boxes, joined_sound}
@@ -54,24 +52,6 @@ with_component-requires-clause-root c =
     let tops_F = q.canonical.0.tops in
     let tops_G = q.canonical.1.tops in
     (split_first face F G c.args.root p q.alike f g tops_F tops_G q.plain.0 q.plain.1 q.differ).root
-
-pub with_component-requires-clause-plain : goal.with_component-requires-clause-plain
-with_component-requires-clause-plain c =
-    let face = c.args.left.now.face in
-    let F = c.args.left.now.forest in
-    let G = c.args.right.now.forest in
-    let r = c.args.root in
-    let p = c.args.child in
-    let q = c.requires in
-    let f = c.known.ensures.ranked in
-    let g = c.known-2.ensures.ranked in
-    let tops_F = q.canonical.0.tops in
-    let tops_G = q.canonical.1.tops in
-    let a = joined (component_at F.autos r) (component_at G.autos r) p in
-    let made : c.in_ok-auto.auto ≡ a = rw (c.forest.ensures, c.forest-2.ensures) at c.in_ok-auto.ensures in
-    let can : CanSplit F r p = split_first face F G r p q.alike f g tops_F tops_G q.plain.0 q.plain.1 q.differ in
-    let plain = joined_no_boxes face F G r p q.alike f g tops_F tops_G q.plain.0 q.plain.1 q.differ in
-    subst (λ (z : Automaton). HasNoBoxes z) (sym made) (set_here HasNoBoxes F.autos r a can.root plain)
 
 pub with_component-requires-clause-sound : goal.with_component-requires-clause-sound
 with_component-requires-clause-sound c =

@@ -3,7 +3,6 @@ use Rattle.std.proofs.lemmas.Result.{IfOk-weaker}
 use Rattle.fore_base.specs.Lists.{Every}
 use Rattle.ta_core.specs.Auto.{IsRanked}
 use Rattle.fa_core.specs.Boxes.{IsTableOf}
-use Rattle.fa_core.specs.Boxless.{HasNoBoxes}
 use Rattle.fa_core.specs.Filled.{IsSound}
 use Rattle.fa_core.specs.declared.boxes.BoxDef.{BoxDef}
 use Rattle.fa_core.specs.declared.forest.Forest.{Forest}
@@ -13,17 +12,8 @@ use Rattle.fa_merge.proofs.DroppedStores.{store_cut}
 use Rattle.fa_merge.proofs.DroppedSound.{dropped_plain, dropped_sound, cut_of}
 use Rattle.fa_merge.proofs.dead.drop_dead.Goals as goal
 
-pub of-requires-clause-plain : goal.of-requires-clause-plain
-of-requires-clause-plain c =
-    let F = c.args.forest.now.forest in
-    let r = c.args.root in
-    let made : c.in_ok-made.made ≡ dropped_forest r F = c.in_ok-made.ensures ∙ ap (dropped_forest r) c.forest.ensures in
-    let ranked : Every IsRanked F.autos = c.known.ensures.ranked in
-    subst (λ (z : Forest). Every HasNoBoxes z.autos) (sym made)
-    (dropped_plain c.args.forest.now.face F r c.requires.root ranked c.requires.plain c.known.ensures.sound)
-
-pub of-requires-clause-sound : goal.of-requires-clause-sound
-of-requires-clause-sound c =
+pub of-requires : goal.of-requires
+of-requires c =
     let F = c.args.forest.now.forest in
     let r = c.args.root in
     let made : c.in_ok-made.made ≡ dropped_forest r F = c.in_ok-made.ensures ∙ ap (dropped_forest r) c.forest.ensures in

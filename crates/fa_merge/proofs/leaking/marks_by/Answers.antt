@@ -26,7 +26,8 @@ reached-requires-clause-from c =
 
 pub returns : goal.returns
 returns c =
-    let h = rw (c.as_slice-2.ensures, c.in_ok-from.ensures, c.as_slice.ensures, c.forest.ensures) at c.reached.ensures in
+    let h =
+    rw (c.as_slice-2.ensures, c.in_ok-from.ensures, c.as_slice.ensures, c.forest.ensures) at c.reached.ensures in
     IfOk-weaker c.reached.result _ _
     (λ marks m. signed_marks c.args.forest.now.face c.args.forest.now.forest c.args.signatures.now c.requires.signed
     marks m) h

@@ -24,5 +24,5 @@ returns c =
     let here = rw (vars, c.as_slice-4.ensures) at c.are_roots.ensures in
     let tops : Every HasOneTop F.autos =
     rw (c.as_slice.ensures, c.forest.ensures) at (c.if-not-have_one_top.ensures.0 refl) in
-    let d = roots_decided c.args.forest.now.face F c.requires c.in_ok-shown.shown c.in_ok-shown.ensures tops in
+    let d = roots_decided c.args.forest.now.face F c.in_ok-shown.shown c.in_ok-shown.ensures tops in
     ((λ t. d.0 (sym here ∙ t)), (λ h. here ∙ d.1 h))

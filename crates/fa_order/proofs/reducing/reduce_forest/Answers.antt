@@ -14,16 +14,8 @@ use Rattle.fa_order.proofs.BothOk.{both_ok}
 use Rattle.fa_order.proofs.Reduced.{G, covers_first, first_covers, is_reduced, plain_made, sound_made, canonical_made}
 use Rattle.fa_order.proofs.reducing.reduce_forest.Goals as goal
 
-pub of-requires-clause-plain : goal.of-requires-clause-plain
-of-requires-clause-plain g c =
-    let F = c.args.forest.now.forest in
-    let face = c.args.forest.now.face in
-    let h : Paired IsReduction F.autos c.in_ok-autos.autos = rw (c.as_slice.ensures, c.forest.ensures) at
-    c.in_ok-autos.ensures.reductions in
-    plain_made face F c.in_ok-autos.autos h c.in_ok-autos.ensures.ranked c.requires.plain
-
-pub of-requires-clause-sound : goal.of-requires-clause-sound
-of-requires-clause-sound g c =
+pub of-requires : goal.of-requires
+of-requires g c =
     let F = c.args.forest.now.forest in
     let face = c.args.forest.now.face in
     let h : Paired IsReduction F.autos c.in_ok-autos.autos = rw (c.as_slice.ensures, c.forest.ensures) at

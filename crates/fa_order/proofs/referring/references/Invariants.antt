@@ -1,7 +1,6 @@
-use Rattle.std.proofs.Common.{take}
-use Rattle.fore_base.specs.Lists.{Paired}
-use Rattle.fa_order.specs.inner.Stacks.{AreRefsOf}
+use Rattle.std.proofs.Common.{◌≡◌, take}
+use Rattle.fa_order.specs.inner.Backs.{refs_of}
 use Rattle.fa_order.proofs.referring.references.Given as goal
 
-abbrev pub invariant-loop-root : goal.invariant-loop-root
-invariant-loop-root l = Paired AreRefsOf (take l.root l.forest.forest.autos) l.all
+abbrev pub invariant-loop-signature : goal.invariant-loop-signature
+invariant-loop-signature l = l.all ≡ refs_of (take l.signature-index l.signatures)

@@ -11,17 +11,18 @@ use Rattle.fa_merge.proofs.ReorderedSound.{new_plain}
 use Rattle.fa_order.specs.Placing.{IsPlaced}
 use Rattle.fa_order.proofs.BothOk.{both_ok}
 use Rattle.fa_order.proofs.Concluding.{placed_canonical}
+use Rattle.fa_order.proofs.NoWays.{plain_gives}
 use Rattle.fa_order.proofs.WalkOrder.{is_order, in_order_walks, reordered_same}
 use Rattle.fa_order.proofs.roots.place_roots.Goals as goal
 
-pub reorder-requires-clause-all : goal.reorder-requires-clause-all
-reorder-requires-clause-all c =
+pub reorder-requires : goal.reorder-requires
+reorder-requires c =
     let F = c.args.forest.now.forest in
     let face = c.args.forest.now.face in
     let sound = c.known.ensures.sound in
     let ranked : Every IsRanked F.autos = c.known.ensures.ranked in
     subst (IsOrderOf F) (sym c.as_slice.ensures)
-    (is_order face F sound c.requires.plain c.requires.reached
+    (is_order face F sound (plain_gives face F c.requires.plain) c.requires.reached
     c.in_ok-order.order c.in_ok-order.ensures)
 
 pub returns-clause-canonical : goal.returns-clause-canonical
@@ -32,7 +33,7 @@ returns-clause-canonical c =
     let order = c.in_ok-order.order in
     let ranked : Every IsRanked F.autos = c.known.ensures.ranked in
     let all : IsOrderOf F order =
-    is_order face F sound c.requires.plain c.requires.reached
+    is_order face F sound (plain_gives face F c.requires.plain) c.requires.reached
     order c.in_ok-order.ensures in
     both_ok c.reorder.result (λ s. s.forest ≡ reordered c.as_slice.result.now F) (λ s. s.face ≡ face)
     (λ s. IsCanonical s.face s.forest)
@@ -50,9 +51,9 @@ returns-clause-value c =
     let order = c.in_ok-order.order in
     let ranked : Every IsRanked F.autos = c.known.ensures.ranked in
     let all : IsOrderOf F order =
-    is_order face F sound c.requires.plain c.requires.reached
+    is_order face F sound (plain_gives face F c.requires.plain) c.requires.reached
     order c.in_ok-order.ensures in
-    IfOk-weaker c.reorder.result (λ s. s.forest ≡ reordered c.as_slice.result.now F) (λ s. IsPlaced F s.forest)
+    IfOk-weaker c.reorder.result (λ s. s.forest ≡ reordered c.as_slice.result.now F) (λ s. IsPlaced face F s.forest)
     (λ s value. (order, all, c.in_ok-order.ensures, value ∙ ap (λ (ks : List ℕ). reordered ks F) c.as_slice.ensures))
     c.reorder.ensures.value
 
@@ -64,13 +65,13 @@ returns-clause-plain c =
     let order = c.in_ok-order.order in
     let ranked : Every IsRanked F.autos = c.known.ensures.ranked in
     let all : IsOrderOf F order =
-    is_order face F sound c.requires.plain c.requires.reached
+    is_order face F sound (plain_gives face F c.requires.plain) c.requires.reached
     order c.in_ok-order.ensures in
     IfOk-weaker c.reorder.result (λ s. s.forest ≡ reordered c.as_slice.result.now F)
     (λ s. Every HasNoBoxes s.forest.autos)
     (λ s value. subst (λ (x : Forest). Every HasNoBoxes x.autos)
     (sym (value ∙ ap (λ (ks : List ℕ). reordered ks F) c.as_slice.ensures))
-    (new_plain face F order all ranked c.requires.plain sound))
+    (new_plain face F order all ranked sound c.requires.plain))
     c.reorder.ensures.value
 
 pub returns-clause-same : goal.returns-clause-same
@@ -81,6 +82,6 @@ returns-clause-same c =
     IfOk-weaker c.reorder.result (λ s. s.forest ≡ reordered c.as_slice.result.now F)
     (λ s. IsCanonical face F → s.forest ≡ F)
     (λ s value can. value ∙ ap (λ (ks : List ℕ). reordered ks F)
-    (c.as_slice.ensures ∙ in_order_walks face F c.known.ensures.sound c.requires.plain order c.in_ok-order.ensures
+    (c.as_slice.ensures ∙ in_order_walks face F c.known.ensures.sound order c.in_ok-order.ensures
     can) ∙ reordered_same F)
     c.reorder.ensures.value

@@ -4,20 +4,12 @@ use Rattle.fore_base.proofs.ListLemmas.{every_in, in_from_place, same_item}
 use Rattle.ta_core.specs.Auto.{Automaton}
 use Rattle.ta_core.specs.Single.{HasOneTop}
 use Rattle.ta_core.specs.declared.auto.Rule.{Rule}
-use Rattle.fa_core.specs.Boxless.{HasNoBoxes}
 use Rattle.fa_order.specs.inner.Showing.{HasNoRule, IsRuleOf, IsShownBy}
 use Rattle.fa_order.proofs.Shows.{has_rule}
 use Rattle.fa_order.proofs.showing.shown_root.Goals as goal
 
 pub shown_by-requires-clause-at : goal.shown_by-requires-clause-at
 shown_by-requires-clause-at c = rw c.forest.ensures at c.at-auto.ensures
-
-pub shown_by-requires-clause-plain : goal.shown_by-requires-clause-plain
-shown_by-requires-clause-plain c =
-    let autos = c.args.forest.now.forest.autos in
-    let here : slice_get autos c.args.root ≡ Some c.at-auto.result.now = rw c.forest.ensures at c.at-auto.ensures in
-    every_in HasNoBoxes autos c.at-auto.result.now c.requires.plain
-    (in_from_place autos c.args.root c.at-auto.result.now here)
 
 pub shown_by-requires-clause-top : goal.shown_by-requires-clause-top
 shown_by-requires-clause-top c =

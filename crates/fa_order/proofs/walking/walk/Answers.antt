@@ -1,38 +1,36 @@
-use Rattle.std.proofs.Common.{◌≡◌, ◌<◌, ℕ, List, ◌∷◌, length, ap, sym, subst, ◌∙◌}
+use Rattle.std.proofs.Common.{◌<◌, ◌∷◌, List, ℕ, Option, length, ap, sym, subst, ◌∙◌}
 use Rattle.fa_core.specs.References.{AllBelow}
-use Rattle.fa_core.specs.Folding.{Placing, all_placed}
+use Rattle.fa_order.specs.Placing.{PlacingOn}
+use Rattle.fa_order.specs.inner.Backs.{GivesBy, IsNext, LeadsBy}
 use Rattle.fa_order.specs.inner.Stacks.{behind, nth_refs, weight}
-use Rattle.fa_order.proofs.Weights.{behind_last}
+use Rattle.fa_order.proofs.NextVisits.{next_below, next_ends, next_falls, next_goes}
 use Rattle.fa_order.proofs.walking.walk.Goals as goal
 
 pub visit-requires : goal.visit-requires
 visit-requires c =
-    let e : behind c.loop-root.stack ≡ c.in-Some.root ∷ behind c.pop.new.self = ap behind c.in-Some.ensures
-    ∙ behind_last c.pop.new.self c.in-Some.root in
-    let s : AllBelow (length c.args.refers.now) (c.in-Some.root ∷ behind c.pop.new.self) =
-    subst (AllBelow (length c.args.refers.now)) e c.loop-root.invariant.1 in
-    s.0
+    let h = rw (c.in-Some.is, c.as_slice.ensures) at c.next_visit.ensures in
+    (next_below c.args.signatures.now c.args.refers.now c.loop-root.placed (behind c.loop-root.stack)
+    (behind c.next_visit.new.stack) c.in-Some.root h c.loop-root.invariant.1).0
 
 pub loop-root-smaller : goal.loop-root-smaller
 loop-root-smaller c =
-    let e : behind c.loop-root.stack ≡ c.in-Some.root ∷ behind c.pop.new.self = ap behind c.in-Some.ensures
-    ∙ behind_last c.pop.new.self c.in-Some.root in
-    subst (λ (z : List ℕ). weight c.args.refers.now (behind c.visit.new.stack) c.visit.new.placed
-    < weight c.args.refers.now z c.loop-root.placed) (sym e) c.in_ok-visit.ensures.falls
+    let h = rw (c.in-Some.is, c.as_slice.ensures) at c.next_visit.ensures in
+    next_falls c.args.signatures.now c.args.refers.now c.loop-root.placed (behind c.loop-root.stack)
+    (behind c.next_visit.new.stack) c.in-Some.root _ h c.in_ok-visit.ensures.falls c.in_ok-visit.ensures.anew
 
 pub loop-root-preserved : goal.loop-root-preserved
 loop-root-preserved c =
-    let e : behind c.loop-root.stack ≡ c.in-Some.root ∷ behind c.pop.new.self = ap behind c.in-Some.ensures
-    ∙ behind_last c.pop.new.self c.in-Some.root in
-    let s : AllBelow (length c.args.refers.now) (c.in-Some.root ∷ behind c.pop.new.self) =
-    subst (AllBelow (length c.args.refers.now)) e c.loop-root.invariant.1 in (
+    let h = rw (c.in-Some.is, c.as_slice.ensures) at c.next_visit.ensures in (
       (λ order w. c.loop-root.invariant.0 order
-          (subst (λ (z : List ℕ). Placing (nth_refs c.args.refers.now) z c.loop-root.placed order) (sym e)
-          (c.in_ok-visit.ensures.goes order w))),
-      c.in_ok-visit.ensures.below c.requires.refers s.1,
+          (next_goes c.args.signatures.now c.args.refers.now c.loop-root.placed (behind c.loop-root.stack)
+          (behind c.next_visit.new.stack) c.in-Some.root h order
+          (c.in_ok-visit.ensures.goes c.args.signatures.now order w))),
+      c.in_ok-visit.ensures.below c.requires.refers
+          (next_below c.args.signatures.now c.args.refers.now c.loop-root.placed (behind c.loop-root.stack)
+          (behind c.next_visit.new.stack) c.in-Some.root h c.loop-root.invariant.1).1,
     )
 
 pub returns : goal.returns
 returns c = c.loop-root.invariant.0 c.loop-root.placed
-    (subst (λ (z : List ℕ). Placing (nth_refs c.args.refers.now) (behind z) c.loop-root.placed c.loop-root.placed)
-    (sym c.in_default.ensures.0) all_placed)
+    (next_ends c.args.signatures.now c.args.refers.now c.loop-root.placed (behind c.loop-root.stack)
+    (behind c.next_visit.new.stack) (rw (c.in_default.is, c.as_slice.ensures) at c.next_visit.ensures))

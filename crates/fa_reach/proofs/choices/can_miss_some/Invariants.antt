@@ -1,6 +1,6 @@
 use Rattle.std.proofs.Common.{length, ◌-◌}
 use Rattle.fore_base.specs.Marks.{marked_count}
-use Rattle.fa_reach.proofs.Known.{Knows}
+use Rattle.fa_reach.specs.inner.Sweeps.{Knows}
 use Rattle.fa_reach.proofs.choices.can_miss_some.Given as goal
 
 abbrev pub invariant-roots : goal.invariant-roots

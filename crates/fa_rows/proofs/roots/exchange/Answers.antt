@@ -3,6 +3,6 @@ use Rattle.fa_core.specs.Rearranged.{Rearranged, swap}
 use Rattle.fa_merge.specs.Reordered.{counted}
 use Rattle.fa_rows.proofs.roots.exchange.Goals as goal
 
-pub reorder-requires-clause-all : goal.reorder-requires-clause-all
-reorder-requires-clause-all c =
-    subst (λ (n : ℕ). Rearranged (1 ∷ 0 ∷ []) (counted 0 n)) (sym c.requires.two) (swap 1 0 [])
+pub reorder-requires : goal.reorder-requires
+reorder-requires c =
+    subst (λ (n : ℕ). Rearranged (1 ∷ 0 ∷ []) (counted 0 n)) (sym c.requires) (swap 1 0 [])

@@ -9,43 +9,42 @@ pub returns-clause-vars : goal.returns-clause-vars
 returns-clause-vars c =
     let F = c.args.forest.now.forest in
     let ranked : Every IsRanked F.autos = c.known.ensures.ranked in
-    all_vars F c.args.root ranked c.requires.root (forests c.in_ok-made.made) c.in_ok-made.ensures.value
+    all_vars F c.args.root ranked c.requires (forests c.in_ok-made.made) c.in_ok-made.ensures.value
 
 pub returns-clause-plain : goal.returns-clause-plain
 returns-clause-plain c =
     let F = c.args.forest.now.forest in
     let ranked : Every IsRanked F.autos = c.known.ensures.ranked in
-    all_plain F c.args.root ranked c.requires.root c.requires.plain (forests c.in_ok-made.made)
-    c.in_ok-made.ensures.value
+    (λ plain. all_plain F c.args.root ranked c.requires plain (forests c.in_ok-made.made) c.in_ok-made.ensures.value)
 
 pub returns-clause-tops : goal.returns-clause-tops
 returns-clause-tops c =
     let F = c.args.forest.now.forest in
     let ranked : Every IsRanked F.autos = c.known.ensures.ranked in
-    all_topped F c.args.root ranked c.requires.root (forests c.in_ok-made.made) c.in_ok-made.ensures.value
+    all_topped F c.args.root ranked c.requires (forests c.in_ok-made.made) c.in_ok-made.ensures.value
 
 pub returns-clause-dressed : goal.returns-clause-dressed
 returns-clause-dressed c =
     let F = c.args.forest.now.forest in
     let ranked : Every IsRanked F.autos = c.known.ensures.ranked in
-    (λ T. all_dressed F c.args.root ranked c.requires.root T (forests c.in_ok-made.made) c.in_ok-made.ensures.value)
+    (λ T. all_dressed F c.args.root ranked c.requires T (forests c.in_ok-made.made) c.in_ok-made.ensures.value)
 
 pub returns-clause-regroups : goal.returns-clause-regroups
 returns-clause-regroups c =
     let F = c.args.forest.now.forest in
     let ranked : Every IsRanked F.autos = c.known.ensures.ranked in
-    (λ T. all_regroup F c.args.root ranked c.requires.root T (forests c.in_ok-made.made) c.in_ok-made.ensures.value)
+    (λ T. all_regroup F c.args.root ranked c.requires T (forests c.in_ok-made.made) c.in_ok-made.ensures.value)
 
 pub returns-clause-whole : goal.returns-clause-whole
 returns-clause-whole c =
     let F = c.args.forest.now.forest in
     let ranked : Every IsRanked F.autos = c.known.ensures.ranked in
-    (λ T. all_whole F c.args.root ranked c.requires.root T (forests c.in_ok-made.made) c.in_ok-made.ensures.value)
+    (λ T. all_whole F c.args.root ranked c.requires T (forests c.in_ok-made.made) c.in_ok-made.ensures.value)
 
 pub returns-clause-members : goal.returns-clause-members
 returns-clause-members c =
     let F = c.args.forest.now.forest in
     let ranked : Every IsRanked F.autos = c.known.ensures.ranked in
     union_of F (forests c.in_ok-made.made)
-    (λ T. all_regroup F c.args.root ranked c.requires.root T (forests c.in_ok-made.made) c.in_ok-made.ensures.value)
-    (λ T. all_whole F c.args.root ranked c.requires.root T (forests c.in_ok-made.made) c.in_ok-made.ensures.value)
+    (λ T. all_regroup F c.args.root ranked c.requires T (forests c.in_ok-made.made) c.in_ok-made.ensures.value)
+    (λ T. all_whole F c.args.root ranked c.requires T (forests c.in_ok-made.made) c.in_ok-made.ensures.value)

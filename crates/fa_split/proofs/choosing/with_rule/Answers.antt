@@ -1,25 +1,11 @@
 use Rattle.std.proofs.Common.{◌≡◌, ◌∙◌, ap, sym, subst}
 use Rattle.std.proofs.lemmas.Result.{IfOk-weaker}
 use Rattle.ta_core.specs.Auto.{Automaton}
-use Rattle.fa_core.specs.Boxless.{HasNoBoxes}
 use Rattle.fa_core.specs.Filled.{IsSound}
 use Rattle.fa_sound.specs.Components.{component_at, with_component}
-use Rattle.fa_sound.proofs.ComponentLemmas.{set_here}
 use Rattle.fa_split.specs.Chosen.{chosen, chosen_at}
-use Rattle.fa_split.proofs.ChosenForests.{chosen_all_plain, chosen_sound}
+use Rattle.fa_split.proofs.ChosenForests.{chosen_sound}
 use Rattle.fa_split.proofs.choosing.with_rule.Goals as goal
-
-pub with_component-requires-clause-plain : goal.with_component-requires-clause-plain
-with_component-requires-clause-plain c =
-    let F = c.args.forest.now.forest in
-    let r = c.args.root in
-    let x = c.args.rule.now in
-    let q = c.requires in
-    let a = chosen (component_at F.autos r) x in
-    let made : c.in_ok-auto.auto ≡ a = rw (c.component.ensures, c.forest.ensures) at c.in_ok-auto.ensures in
-    subst (λ (z : Automaton). HasNoBoxes z) (sym made)
-    (set_here HasNoBoxes F.autos r a q.root (chosen_all_plain F r x c.known.ensures.ranked q.root q.rule q.top.0
-    q.plain))
 
 pub with_component-requires-clause-sound : goal.with_component-requires-clause-sound
 with_component-requires-clause-sound c =

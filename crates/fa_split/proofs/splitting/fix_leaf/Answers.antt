@@ -1,21 +1,10 @@
 use Rattle.std.proofs.Common.{◌≡◌, ◌∙◌, ap, sym, subst}
 use Rattle.std.proofs.lemmas.Result.{IfOk-weaker}
 use Rattle.ta_core.specs.Auto.{Automaton}
-use Rattle.fa_core.specs.Boxless.{HasNoBoxes}
 use Rattle.fa_core.specs.Filled.{IsSound}
 use Rattle.fa_sound.specs.Components.{component_at, with_component}
-use Rattle.fa_sound.proofs.ComponentLemmas.{set_here}
 use Rattle.fa_split.specs.Split.{fixed, split_leaf}
 use Rattle.fa_split.proofs.splitting.fix_leaf.Goals as goal
-
-pub with_component-requires-clause-plain : goal.with_component-requires-clause-plain
-with_component-requires-clause-plain c =
-    let F = c.args.forest.now.forest in
-    let r = c.args.root in
-    let a = fixed (component_at F.autos r) c.args.place c.args.leaf in
-    let made : c.in_ok-auto.auto ≡ a = rw (c.component.ensures, c.forest.ensures) at c.in_ok-auto.ensures in
-    subst (λ (z : Automaton). HasNoBoxes z) (sym made)
-    (set_here HasNoBoxes F.autos r a c.requires.can.root c.requires.plain)
 
 pub with_component-requires-clause-sound : goal.with_component-requires-clause-sound
 with_component-requires-clause-sound c =

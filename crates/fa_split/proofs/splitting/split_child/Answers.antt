@@ -16,8 +16,8 @@ pub returns-clause-plain : goal.returns-clause-plain
 returns-clause-plain c =
     let F = c.args.forest.now.forest in
     let ranked : Every IsRanked F.autos = c.known.ensures.ranked in
-    all_plain F c.args.root c.args.place ranked c.requires.can c.args.forest.now.face c.known.ensures.sound
-    c.requires.plain (forests c.in_ok-made.made) c.in_ok-made.ensures.value
+    (λ plain. all_plain F c.args.root c.args.place ranked c.requires.can c.args.forest.now.face c.known.ensures.sound
+    plain (forests c.in_ok-made.made) c.in_ok-made.ensures.value)
 
 pub returns-clause-tops : goal.returns-clause-tops
 returns-clause-tops c =

@@ -1,15 +1,9 @@
-use Rattle.fa_split.proofs.SplitLeaves.{leaf_plain, leaf_sound}
+use Rattle.fa_split.proofs.SplitLeaves.{leaf_sound}
 use Rattle.fa_split.proofs.splitting.with_leaf.Goals as goal
-
-pub fix_leaf-requires-clause-plain : goal.fix_leaf-requires-clause-plain
-fix_leaf-requires-clause-plain c =
-    let F = c.args.forest.now.forest in
-    let r = c.requires in
-    leaf_plain F c.args.root c.args.place c.known.ensures.ranked r.can c.args.leaf r.may r.plain
 
 pub fix_leaf-requires-clause-sound : goal.fix_leaf-requires-clause-sound
 fix_leaf-requires-clause-sound c =
     let s = c.args.forest.now in
     let r = c.requires in
     let k = c.known.ensures in
-    leaf_sound s.forest c.args.root c.args.place k.ranked r.can c.args.leaf r.may s.face r.plain k.sound
+    leaf_sound s.forest c.args.root c.args.place k.ranked r.can c.args.leaf r.may s.face k.sound

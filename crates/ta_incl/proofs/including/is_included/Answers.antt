@@ -1,5 +1,6 @@
-use Rattle.std.proofs.Common.{ap, ◌∙◌}
+use Rattle.std.proofs.Common.{refl, ap, subst, ◌∙◌}
 use Rattle.ta_core.specs.Auto.{Automaton}
+use Rattle.ta_core.specs.Language.{IsWithin}
 use Rattle.ta_incl.proofs.Answering.{answer_exact}
 use Rattle.ta_incl.proofs.including.is_included.Goals as goal
 
@@ -14,3 +15,8 @@ returns c =
     ) at c.failing-place.ensures in
     answer_exact c.args.left.now c.args.right.now c.in_ok-found.found c.failing-place.result c.is_none.result
     c.in_ok-found.ensures h c.is_none.ensures
+
+pub returns-then-are_equal : goal.returns-then-are_equal
+returns-then-are_equal c =
+    let e = c.are_equal.ensures c.if-are_equal.true in
+    (λ _. subst (IsWithin c.args.left.now) e (λ t l. l), λ _. refl)

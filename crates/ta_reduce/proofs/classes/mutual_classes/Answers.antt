@@ -1,7 +1,7 @@
 use Rattle.std.proofs.Common.{sym, subst}
 use Rattle.ta_classes.specs.Classes.{IsEquivalence}
 use Rattle.ta_sim.specs.Relations.{Table}
-use Rattle.ta_reduce.specs.inner.Smaller.{AreMutual}
+use Rattle.ta_reduce.specs.inner.Reduction.{AreMutual}
 use Rattle.ta_reduce.proofs.Classed.{mutual_equivalence}
 use Rattle.ta_reduce.proofs.classes.mutual_classes.Goals as goal
 

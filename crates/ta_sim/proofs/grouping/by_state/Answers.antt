@@ -1,7 +1,7 @@
 use Rattle.std.proofs.Common.{◌<◌, take}
 use Rattle.fore_base.proofs.ListLemmas.{every_at, take_item}
 use Rattle.ta_core.specs.declared.auto.Rule.{Rule}
-use Rattle.ta_sim.proofs.Groups.{by_state_push}
+use Rattle.ta_sim.proofs.Groups.{grouped_push}
 use Rattle.ta_sim.proofs.grouping.by_state.Goals as goal
 
 pub loop-rule-preserved : goal.loop-rule-preserved
@@ -12,5 +12,5 @@ loop-rule-preserved c =
     c.loop-rule-test.true c.rule-item.is in
     let made = rw c.in_ok-own.ensures at c.in_ok-add.ensures in
     rw (t, made)
-    (by_state_push (take c.loop-rule.rule-index c.args.rules.now) c.args.states c.loop-rule.groups r low
-    c.loop-rule.invariant)
+    (grouped_push (λ (x : Rule). x.state) (take c.loop-rule.rule-index c.args.rules.now) c.args.states
+    c.loop-rule.groups r low c.loop-rule.invariant)

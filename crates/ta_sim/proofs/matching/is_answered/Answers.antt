@@ -1,13 +1,11 @@
 use Rattle.std.proofs.Common.{true≢false, ◌≤◌, length, refl, sym, subst, arith}
 use Rattle.std.proofs.lemmas.List.{take_all}
 use Rattle.fore_base.specs.Lists.{Every}
-use Rattle.ta_core.specs.declared.auto.Rule.{Rule}
 use Rattle.fore_base.proofs.ListLemmas.{every_in, in_at}
-use Rattle.ta_sim.specs.inner.Matching.{IsMatch}
 use Rattle.ta_sim.proofs.matching.is_answered.Goals as goal
 
 pub returns-then-is_match : goal.returns-then-is_match
-returns-then-is_match c =
+returns-then-is_match g c =
     let m = c.is_match.ensures.0 c.if-is_match.true in (
       (λ y. (
         c.other-item.result,
@@ -19,12 +17,13 @@ returns-then-is_match c =
     )
 
 pub returns : goal.returns
-returns c =
+returns g c =
     let end : length c.args.others.now ≤ c.loop-other.other-index = omega (arith, c.loop-other-test.false) in
-    let none = subst (Every (λ s. IsMatch c.args.rows.now c.args.rule.now s → ⊥))
+    let none = subst (Every (λ s. g.M.Matching.matches c.args.matching.now c.args.item.now s → ⊥))
     (take_all c.loop-other.other-index c.args.others.now end) c.loop-other.invariant in (
       (λ y. absurd (true≢false (sym y))),
       λ w.
           absurd
-          (every_in (λ (s : Rule). IsMatch c.args.rows.now c.args.rule.now s → ⊥) c.args.others.now w.0 none w.1 w.2),
+          (every_in (λ (s : g.row.T.Denot). g.M.Matching.matches c.args.matching.now c.args.item.now s → ⊥)
+          c.args.others.now w.0 none w.1 w.2),
     )

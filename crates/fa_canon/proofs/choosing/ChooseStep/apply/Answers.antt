@@ -25,6 +25,6 @@ returns c =
     let F = c.args.forest in
     let e = c.in_ok-made.ensures in
     let ranked : Every IsRanked F.forest.autos = c.known.ensures.ranked in
-    divided (λ (x y : SoundForest). IsChosenAt c.args.self.now.root x.forest y.forest) F c.in_ok-made.made e.plain
-    e.face e.vars e.regroups e.whole
+    divided (λ (x y : SoundForest). IsChosenAt c.args.self.now.root x.forest y.forest) F c.in_ok-made.made
+    (e.plain c.requires.0) e.face e.vars e.regroups e.whole
     (chosen_each F.forest c.args.self.now.root c.in_ok-made.made c.requires.1 ranked e.value)

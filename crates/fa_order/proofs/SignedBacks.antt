@@ -1,0 +1,136 @@
+-- Ways back by the signatures of the components are those of their trees.
+use Rattle.std.proofs.Common.{◌≡◌, ◌⊎◌, inl, inr, ℕ, zero, suc, ◌<◌, Bool, true, false, true≢false, List, [], ◌∷◌, flat_map}
+use Rattle.std.proofs.Common.{map, refl, sym, ap, subst, ◌∙◌, Some, slice_get, nat_eq}
+use Rattle.std.proofs.lemmas.Bool.{eqb-true, eq-eqb}
+use Rattle.std.proofs.lemmas.Option.{none-some, same_Some}
+use Rattle.fore_base.specs.Lists.{IsIn, Every, Paired}
+use Rattle.fore_base.proofs.ListLemmas.{in_map, in_every, paired_long}
+use Rattle.ta_core.specs.Auto.{Automaton}
+use Rattle.ta_core.specs.declared.tree.Tree.{Tree}
+use Rattle.fa_back.specs.Reached.{IsMarkAt, IsSignedBy}
+use Rattle.fa_back.proofs.RootMarks.{in_once, once_in, in_to_root, to_root_in, back_any, any_of_back, mark_in, in_mark}
+use Rattle.fa_back.proofs.RootMarks.{way_led, led_way, reach_in_mark, mark_in_reach, reach_refers, flat_in, in_flat}
+use Rattle.fa_core.specs.Canonical.{LeadsBack, RefersTo, provides, refs_at}
+use Rattle.fa_core.specs.Cells.{roots_in}
+use Rattle.fa_core.specs.Filled.{Choice}
+use Rattle.fa_core.specs.References.{tree_refs}
+use Rattle.fa_core.specs.Ways.{Way, ways, to_root, leads_back, given, roots_met, mark, signature}
+use Rattle.fa_core.specs.declared.faces.BoxFace.{BoxFace}
+use Rattle.fa_core.specs.declared.signature.RefMark.{RefMark}
+use Rattle.fa_core.specs.declared.signature.Signature.{Signature}
+use Rattle.fa_core.proofs.Permuted.{in_rearranged}
+use Rattle.fa_core.proofs.Rearranging.{back}
+use Rattle.fa_core.proofs.Sorting.{ordered}
+use Rattle.fa_order.specs.inner.Backs.{IsSigned, LeadsBy, GivesBy, SignLeads, SignGives}
+use Rattle.fa_order.specs.inner.Stacks.{nth_refs}
+use Rattle.fa_order.proofs.RefsAt.{refs_got}
+use Rattle.fa_order.proofs.SameMarks.{signature_roots}
+
+module _ (bs : List BoxFace) where
+  signed_at : (ts : List Tree) (ss : List Signature) (j : ℕ) (t : Tree) → Paired (IsSignedBy bs) ts ss
+      → slice_get ts j ≡ Some t → (s : Signature) × (slice_get ss j ≡ Some s) × IsSignedBy bs t s
+  signed_at [] ss j t p e = absurd (none-some t e)
+  signed_at (u ∷ ts) [] j t p e = absurd p
+  signed_at (u ∷ ts) (s ∷ ss) zero t p e =
+      (s, refl, subst (λ (z : Tree). IsSignedBy bs z s) (same_Some u t e) p.0)
+  signed_at (u ∷ ts) (s ∷ ss) (suc j) t p e = signed_at ts ss j t p.1 e
+
+  tree_signed : (ts : List Tree) (ss : List Signature) (j : ℕ) (s : Signature) → Paired (IsSignedBy bs) ts ss
+      → slice_get ss j ≡ Some s → (t : Tree) × (slice_get ts j ≡ Some t) × IsSignedBy bs t s
+  tree_signed ts [] j s p e = absurd (none-some s e)
+  tree_signed [] (z ∷ ss) j s p e = absurd p
+  tree_signed (t ∷ ts) (z ∷ ss) zero s p e =
+      (t, refl, subst (λ (y : Signature). IsSignedBy bs t y) (same_Some z s e) p.0)
+  tree_signed (t ∷ ts) (z ∷ ss) (suc j) s p e = tree_signed ts ss j s p.1 e
+
+  -- the signatures of components are those of any trees
+  pub choice_signed : (autos : List Automaton) (ss : List Signature) → Paired (IsSigned bs) autos ss → (ts : List Tree)
+      → Choice autos ts → Paired (IsSignedBy bs) ts ss
+  choice_signed [] [] h [] c = tt
+  choice_signed [] [] h (t ∷ ts) c = absurd c
+  choice_signed [] (s ∷ ss) h ts c = absurd h
+  choice_signed (a ∷ autos) [] h ts c = absurd h
+  choice_signed (a ∷ autos) (s ∷ ss) h [] c = absurd c
+  choice_signed (a ∷ autos) (s ∷ ss) h (t ∷ ts) c = (h.0 t c.0, choice_signed autos ss h.1 ts c.1)
+
+  mark_root : (t : Tree) (k i : ℕ) (m : RefMark) → m ≡ mark bs (ways t) k → m.root ≡ i → k ≡ i
+  mark_root t k i m e r = sym (ap (λ (x : RefMark). x.root) e) ∙ r
+
+-- a way back into one tree, by the marks of its signature
+module _ (bs : List BoxFace) (ts : List Tree) (j : ℕ) (t : Tree) (at : slice_get ts j ≡ Some t) where
+  pub leads_tree : (i r : ℕ) → LeadsBack bs ts i j r → SignLeads (signature bs t) i j r
+  leads_tree i r (u, e, (w, h, q, z)) =
+      let same : u ≡ t = same_Some u t (sym e ∙ at) in
+      let h : IsIn w (ways t) = subst (λ (x : Tree). IsIn w (ways x)) same h in
+      let refers : RefersTo t i = subst (λ (k : ℕ). RefersTo t k) q (in_map (λ (v : Way). v.root) w (ways t) h) in (
+        mark bs (ways t) i,
+        mark_in bs t i refers,
+        refl,
+        elim z [
+          | inl l ↦ inl (l.0, back_any bs (to_root i (ways t)) w (in_to_root i (ways t) w h q) l.1)
+          | inr l ↦ inr (reach_in_mark bs t i r (way_led bs t i r w h q l))
+        ],
+      )
+
+  pub tree_leads : (i r : ℕ) → SignLeads (signature bs t) i j r → LeadsBack bs ts i j r
+  tree_leads i r (m, h, q, z) =
+      let k = in_mark bs t m h in
+      let y : k.0 ≡ i = mark_root bs t k.0 i m k.2 q in
+      elim z [
+        | inl l ↦
+            (let w = any_of_back bs (to_root k.0 (ways t)) (sym (ap (λ (x : RefMark). x.back) k.2) ∙ l.1) in
+            let v = to_root_in k.0 (ways t) w.0 w.1 in (t, at, (w.0, v.0, v.1 ∙ y, inl (l.0, w.2))))
+        | inr l ↦
+            (let w = led_way bs t k.0 r (mark_in_reach bs t k.0 r (subst (λ (x : RefMark). IsIn r x.reach) k.2 l)) in
+            (t, at, (w.0, w.1, w.2 ∙ y, inr w.3)))
+      ]
+
+module _ (bs : List BoxFace) (ts : List Tree) (ss : List Signature) (signed : Paired (IsSignedBy bs) ts ss) where
+  pub leads_by : (i j r : ℕ) → LeadsBack bs ts i j r → LeadsBy ss i j r
+  leads_by i j r l =
+      let s = signed_at bs ts ss j l.0 signed l.1 in
+      let m = leads_tree bs ts j l.0 l.1 i r l in
+      (m.0, (s.0, s.1, subst (λ (ms : List RefMark). IsIn m.0 ms) s.2 m.1), m.2, m.3)
+
+  pub by_leads : (i j r : ℕ) → LeadsBy ss i j r → LeadsBack bs ts i j r
+  by_leads i j r (m, (s, e, h), q, z) =
+      let t = tree_signed bs ts ss j s signed e in
+      tree_leads bs ts j t.0 t.1 i r (m, subst (λ (ms : List RefMark). IsIn m ms) (sym t.2) h, q, z)
+
+  pub gives_by : (i j f : ℕ) → provides bs ts i j f → GivesBy ss i j f
+  gives_by i j f (t, e, h) =
+      let s = signed_at bs ts ss j t signed e in
+      let w = flat_in (λ (x : Way). given bs x.steps) (to_root i (ways t)) f h in
+      let v = to_root_in i (ways t) w.0 w.1 in
+      let refers : RefersTo t i = subst (λ (k : ℕ). RefersTo t k) v.1 (in_map (λ (x : Way). x.root) w.0 (ways t) v.0)
+      in (
+        mark bs (ways t) i,
+        (s.0, s.1, subst (λ (ms : List RefMark). IsIn (mark bs (ways t) i) ms) s.2 (mark_in bs t i refers)),
+        refl,
+        in_rearranged f (ordered (flat_map (λ (x : Way). given bs x.steps) (to_root i (ways t)))) h,
+      )
+
+  pub by_gives : (i j f : ℕ) → GivesBy ss i j f → provides bs ts i j f
+  by_gives i j f (m, (s, e, h), q, z) =
+      let t = tree_signed bs ts ss j s signed e in
+      let k = in_mark bs t.0 m (subst (λ (ms : List RefMark). IsIn m ms) (sym t.2) h) in
+      let y : k.0 ≡ i = mark_root bs t.0 k.0 i m k.2 q in (
+        t.0,
+        t.1,
+        subst (λ (n : ℕ). IsIn f (flat_map (λ (x : Way). given bs x.steps) (to_root n (ways t.0)))) y
+            (in_rearranged f
+            (back (ordered (flat_map (λ (x : Way). given bs x.steps) (to_root k.0 (ways t.0)))))
+            (subst (λ (x : RefMark). IsIn f x.provided) k.2 z)),
+      )
+
+  -- a way back leads to the tree's own root, or to one to which the tree refers
+  pub led_within : (i j r : ℕ) → LeadsBy ss i j r → (r ≡ j) ⊎ IsIn r (refs_at ts j)
+  led_within i j r (m, (s, e, h), q, z) =
+      let t = tree_signed bs ts ss j s signed e in
+      let k = in_mark bs t.0 m (subst (λ (ms : List RefMark). IsIn m ms) (sym t.2) h) in
+      elim z [
+        | inl l ↦ inl l.0
+        | inr l ↦ inr (subst (λ (z : List ℕ). IsIn r z) (sym (refs_got ts j t.0 t.1))
+            (in_once r (tree_refs t.0)
+            (reach_refers bs t.0 k.0 r (subst (λ (x : RefMark). IsIn r x.reach) k.2 l))))
+      ]

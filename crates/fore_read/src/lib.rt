@@ -1,0 +1,14 @@
+//! Reading the files that words name: the program of a C file, and the table of a file of boxes.
+//!
+//! `read_program` and `read_table` read one file each, once, from any shelf. Where they do not take it, they say why: a
+//! rule that it breaks, a reading that failed, or want of memory (`fault`).
+#![tactic(auto)]
+
+mod boxes;
+pub mod crossing;
+pub mod fault;
+mod program;
+
+pub use boxes::read_table;
+pub use fault::{ReadFault, Refusal};
+pub use program::read_program;

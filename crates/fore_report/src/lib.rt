@@ -1,0 +1,14 @@
+//! The reports on a program: what an exploration found of it, or how its run came out.
+//!
+//! `report` draws the verdict from what one exploration found, and makes its report, whole (`texts`). `run_report` is
+//! the report on a run.
+#![tactic(auto)]
+
+pub mod crossing;
+mod reports;
+pub mod texts;
+pub mod verdict;
+
+pub use reports::report;
+pub use texts::run_report;
+pub use verdict::Verdict;
