@@ -109,8 +109,7 @@ module _ (S : Shapes) (bs0 bs : List BoxFace)
         let q = every_parts (IsFilledSpot before tops) (end_spots bs0 (gives_out_of bs0 b) e) (parts_spots bs0 ps) k in
         let v = every_parts There (end_items vin e) (slot_items vin c ps) w.1 in
         let l = part_left (end_tips bs0 (gives_out_of bs0 b) e) (tips_of bs0 ps) p in (
-          at_struct c s i (λ t. SlotsFit face all t (SeenLink b d (end_value vin e) ∷ []))
-              (
+          at_struct c s i (λ t. SlotsFit face all t (SeenLink b d (end_value vin e) ∷ [])) (
             (
               h.0.0,
               h.0.1,

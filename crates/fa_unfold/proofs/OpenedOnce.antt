@@ -173,7 +173,7 @@ module _ (face : Face) (T : List BoxDef) (c f : ℕ) (links : (b : ℕ) → Link
       ap (λ (z : List ℕ). at_cell hs c f m (often f z)) (ap fields_in h.0.2) in
       let y : often f (given_there c (v, gives_out_of bs b)) ≡ at_value hs c f v (often f x.gives_out) =
       gift_often hs c f v (gives_out_of bs b)
-          ∙ ap (λ (z : List ℕ). at_value hs c f v (often f z)) (ap fields_out h.0.2) in
+      ∙ ap (λ (z : List ℕ). at_value hs c f v (often f z)) (ap fields_out h.0.2) in
       let w : gifts (SeenLink b d v ∷ xs) ≡ often f (given_there c (v, gives_out_of bs b)) + gifts xs =
       often_both f (given_there c (v, gives_out_of bs b)) (flat_map (given_there c) (slot_gifts bs xs)) in
       omega (arith, q, l, a, e, o, u, y, w)
@@ -214,12 +214,12 @@ module _ (face : Face) (T : List BoxDef) (c f : ℕ) (links : (b : ℕ) → Link
       (slot_facts_of x.cell x.slots ++ facts_of xs) in
       let a = owed_append hs c f (slot_facts_of x.cell x.slots) (facts_of xs) in
       let e : facts_of (x ∷ xs) ≡ opened (IsCell x.cell x.shape x.datums)
-          ++ (slot_facts_of x.cell x.slots ++ facts_of xs) =
+      ++ (slot_facts_of x.cell x.slots ++ facts_of xs) =
       ap (λ (z : List Fact). opened (IsCell x.cell x.shape x.datums) ++ z)
-          (flat_map-append opened (map (HasSlot x.cell) x.slots) (flat_map cell_items xs)) in
+      (flat_map-append opened (map (HasSlot x.cell) x.slots) (flat_map cell_items xs)) in
       let q = cells_owed xs in
       let w : owed_of (facts_of (x ∷ xs)) ≡ owed_of (opened (IsCell x.cell x.shape x.datums)
-          ++ (slot_facts_of x.cell x.slots ++ facts_of xs)) = ap owed_of e in
+      ++ (slot_facts_of x.cell x.slots ++ facts_of xs)) = ap owed_of e in
       omega (arith, h, a, q, w)
 
   cells_given : (xs : List SeenCell) → Every IsFitCell xs → Every (CellInside T) xs
@@ -229,9 +229,9 @@ module _ (face : Face) (T : List BoxDef) (c f : ℕ) (links : (b : ℕ) → Link
       let q = slots_count x.cell x.shape x.slots h.0 i.0 in
       let r = cells_given xs h.1 i.1 in
       let e : facts_of (x ∷ xs) ≡ opened (IsCell x.cell x.shape x.datums)
-          ++ (slot_facts_of x.cell x.slots ++ facts_of xs) =
+      ++ (slot_facts_of x.cell x.slots ++ facts_of xs) =
       ap (λ (z : List Fact). opened (IsCell x.cell x.shape x.datums) ++ z)
-          (flat_map-append opened (map (HasSlot x.cell) x.slots) (flat_map cell_items xs)) in
+      (flat_map-append opened (map (HasSlot x.cell) x.slots) (flat_map cell_items xs)) in
       let w : given_of (facts_of (x ∷ xs)) ≡ given_of (slot_facts_of x.cell x.slots ++ facts_of xs) =
       ap given_of e in
       let a = given_append hs c f (slot_facts_of x.cell x.slots) (facts_of xs) in
@@ -267,10 +267,10 @@ module _ (face : Face) (T : List BoxDef) (c f : ℕ) (links : (b : ℕ) → Link
       let t : nat_eq c y.cell ≡ true = eq-eqb c y.cell (sym (sym (ap cell_number w) ∙ e)) in
       let u : own y.cell y.slots ≡ often f (flat_map (covers bs) (slots_seen x.slots)) =
       ap (λ (b : Bool). if_so b (often f (flat_map (covers bs) (slots_seen y.slots)))) t
-          ∙ ap (λ (z : SeenCell). often f (flat_map (covers bs) (slots_seen z.slots))) (sym w) in
+      ∙ ap (λ (z : SeenCell). often f (flat_map (covers bs) (slots_seen z.slots))) (sym w) in
       let v : at_cell hs c f y.cell (often f (fields_of hs y.shape)) ≡ often f (fields_of hs x.shape) =
       ap (λ (b : Bool). if_so b (often f (fields_of hs y.shape))) t
-          ∙ ap (λ (z : SeenCell). often f (fields_of hs z.shape)) (sym w) in
+      ∙ ap (λ (z : SeenCell). often f (fields_of hs z.shape)) (sym w) in
       let n0 = n.0 in
       let n1 = n.1 in
       (omega (arith, u, n0), omega (arith, v, n1))
