@@ -1,22 +1,45 @@
 -- What is right for one file after another is right for what is asked, and what is right for that for the words.
-use Rattle.std.proofs.Common.{◌≤◌, ◌⊎◌, inl, inr, List, [], ◌∷◌, ◌++◌, ℕ, Some, sym, ◌∙◌, ap, subst, refl, arith}
+use Rattle.std.proofs.Common.{◌≤◌, ◌⊎◌, inl, inr, List, [], ◌∷◌, ◌++◌, ℕ, None, Some, sym, ◌∙◌, ap, subst, refl, arith}
 use Rattle.std.proofs.lemmas.List.{append_assoc}
 use Rattle.fore_base.specs.NamedFiles.{reading}
 use Rattle.fore_base.specs.Outside.{Rose}
 use Rattle.fore_base.specs.declared.named_files.NamedFile.{NamedFile}
 use Rattle.c_types.specs.Program.{Program}
 use Rattle.fore_read.specs.Readings.{ShelfView, Reading, AreReadings, AreAtMost, ReadsAtMost}
-use Rattle.fore_read.specs.Files.{GivesProgram, AreRefusedBoxes}
+use Rattle.fore_read.specs.declared.fault.ReadFault.{ReadFault as Fault}
+use Rattle.fore_read.specs.declared.fault.ReadFault.TheVariants as fault
+use Rattle.fore_read.specs.Files.{GivesProgram, IsFileFault, AreRefusedBoxes}
 use Rattle.fore_words.specs.declared.asked.Settings.{Settings}
 use Rattle.fore_words.specs.declared.asked.Asked.{Asked}
-use Rattle.fore_words.specs.declared.asked.Asked.TheVariants.{Verify}
+use Rattle.fore_words.specs.declared.asked.Asked.TheVariants.{Verify, Run}
 use Rattle.fore_words.specs.Words.{IsAsked}
 use Rattle.fore_call.specs.declared.answer.Answer.{Answer}
 use Rattle.fore_call.specs.declared.answer.Answer.TheVariants.{Verified, Ran, Usage, Refused, ReadFault, NoMemory}
 use Rattle.fore_call.specs.Calls.{Request}
 use Rattle.fore_call.specs.Names.{LetsRead}
 use Rattle.fore_call.specs.Verdict.{IsRight, IsRightFor, ReadsOnly, AreUnused}
-use Rattle.fore_call.specs.inner.Judging.{IsBoxesAnswer, ReadsFor}
+use Rattle.fore_call.specs.inner.Judging.{IsBoxesAnswer, ReadsFor, answer_to}
+
+-- A file that is not taken
+
+module _ (r : Reading) (path : List ℕ) where
+  pub not_run : (choices : List ℕ) (steps : ℕ) (f : Fault) → IsFileFault r path f
+      → IsRightFor r (Run path choices steps) (answer_to f)
+  not_run choices steps (fault.Refused why) h = h
+  not_run choices steps fault.Failed h = h
+  not_run choices steps fault.Memory h = tt
+
+  pub not_verified : (settings : Settings) (f : Fault) → IsFileFault r path f
+      → IsRightFor r (Verify path None settings) (answer_to f)
+  not_verified settings (fault.Refused why) h = h
+  not_verified settings fault.Failed h = h
+  not_verified settings fault.Memory h = tt
+
+  pub not_with_boxes : (boxes : List ℕ) (settings : Settings) (f : Fault) → IsFileFault r path f
+      → IsRightFor r (Verify path (Some boxes) settings) (answer_to f)
+  not_with_boxes boxes settings (fault.Refused why) h = inl h
+  not_with_boxes boxes settings fault.Failed h = inl h
+  not_with_boxes boxes settings fault.Memory h = tt
 
 -- A file, and then a file of boxes
 
