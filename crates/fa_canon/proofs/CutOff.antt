@@ -1,11 +1,12 @@
--- A cell cut off below a shared root: the roots keep their kinds, the new one is a knot, and loose children stay loose.
+-- A cell at the end of a field cut off below a shared root: the roots keep their kinds, the new one is a knot, and loose
+-- children stay loose.
 use Rattle.std.proofs.Common.{◌≡◌, ◌≢◌, ◌⊎◌, inl, inr, ℕ, suc, ◌<◌, ◌≤◌, ◌+◌, true, nat_eq, length, List, [], ◌∷◌, ◌++◌}
 use Rattle.std.proofs.Common.{refl, sym, ap, subst, ◌∙◌, slice_get, slice_set, Some, arith}
 use Rattle.std.proofs.lemmas.Bool.{eq-eqb}
 use Rattle.std.proofs.lemmas.List.{length-set}
 use Rattle.std.proofs.lemmas.Option.{same_Some}
 use Rattle.fore_base.specs.Lists.{IsIn}
-use Rattle.fore_base.proofs.ListLemmas.{in_from_place, place_of}
+use Rattle.ta_core.specs.declared.symbol.Symbol.{Symbol}
 use Rattle.ta_core.specs.declared.symbol.Symbol.TheVariants.{Ref}
 use Rattle.ta_core.specs.declared.tree.Tree.{Tree, out-Tree}
 use Rattle.fa_core.specs.declared.forest.Target.{Target}
@@ -13,14 +14,16 @@ use Rattle.fa_core.specs.Canonical.{IsKnot, IsShared, RefersTo, field_trees, ref
 use Rattle.fa_core.specs.Rearranged.{often}
 use Rattle.fa_core.specs.References.{tree_refs}
 use Rattle.fa_core.proofs.Counts.{often_out}
-use Rattle.fa_canon.specs.inner.Cutting.{AreCut, IsBefore, IsCutOff, IsFieldCell, IsLoose, child_at, ref_leaf}
-use Rattle.fa_canon.specs.inner.Cutting.{with_child}
-use Rattle.fa_canon.proofs.FieldCells.{cell_fields, leaf_ref, leaf_symbol, put_cell, put_children, put_counts}
+use Rattle.fa_canon.specs.inner.Cutting.{AreCut, IsBefore, IsCutOff, IsLoose, IsRankedCell, child_at, has_field_at}
+use Rattle.fa_canon.specs.inner.Cutting.{ref_leaf, with_child}
+use Rattle.fa_canon.specs.inner.Merges.{IsAlone, IsSettled}
 use Rattle.fa_canon.proofs.ListPlaces.{place_less, push_first, push_last, push_long, set_here, set_other}
-use Rattle.fa_canon.proofs.RootCounts.{count_push, count_set, none_to_count}
+use Rattle.fa_canon.proofs.RootCounts.{count_push, count_set, none_to_count, refer_count, refer_or_not}
 use Rattle.fa_canon.proofs.Settled.{same_or_not}
+use Rattle.fa_canon.proofs.TopCells.{at_field, field_place, leaf_ref, leaf_symbol, put_children, put_counts, put_symbol}
 
-module _ (r p : ℕ) (ts us : List Tree) (k : IsCutOff r p ts us) (cell : IsFieldCell k.above)
+module _ (r p : ℕ) (ts us : List Tree) (k : IsCutOff r p ts us) (cell : IsRankedCell k.above)
+    (in_field : has_field_at (out-Tree k.above).symbol p ≡ true)
     (below : (i j : ℕ) (t : Tree) → slice_get ts i ≡ Some t → RefersTo t j → j < length ts) where
   abbrev N : ℕ
   N = length ts
@@ -93,9 +96,13 @@ module _ (r p : ℕ) (ts us : List Tree) (k : IsCutOff r p ts us) (cell : IsFiel
   this_child = ap (λ (z : List Tree). slice_get z p) (put_children k.above p (ref_leaf N))
       ∙ set_here (out-Tree k.above).children p k.child (ref_leaf N) k.is_child
 
-  in_top : (q : ℕ) (u : Tree) → child_at top q ≡ Some u → IsIn u (field_trees top)
-  in_top q u e = subst (λ (z : List Tree). IsIn u z) (sym (cell_fields top (put_cell k.above p (ref_leaf N) cell)))
-      (in_from_place (out-Tree top).children q u e)
+  same_symbol : (out-Tree top).symbol ≡ (out-Tree k.above).symbol
+  same_symbol = put_symbol k.above p (ref_leaf N)
+
+  in_top : (q : ℕ) (u : Tree) → has_field_at (out-Tree k.above).symbol q ≡ true → child_at top q ≡ Some u
+      → IsIn u (field_trees top)
+  in_top q u h e = at_field (out-Tree top).symbol (out-Tree top).children q u
+      (ap (λ (y : Symbol). has_field_at y q) same_symbol ∙ h) e
 
   -- a knot stays one
   knot_stays : (vars : List Target) (j : ℕ) → j ≢ r → ((i : ℕ) → (out-Tree k.child).symbol ≢ Ref i) → IsKnot vars ts j
@@ -143,17 +150,15 @@ module _ (r p : ℕ) (ts us : List Tree) (k : IsCutOff r p ts us) (cell : IsFiel
           still_there =
               let same : h.above ≡ k.above =
               same_Some h.above k.above (sym h.is_above ∙ ap (λ (n : ℕ). slice_get ts n) e ∙ k.is_above) in
-              let there : IsIn h.leaf (out-Tree k.above).children =
-              subst (λ (z : List Tree). IsIn h.leaf z) (cell_fields k.above cell)
+              let q = field_place (out-Tree k.above).symbol (out-Tree k.above).children h.leaf
               (subst (λ (z : Tree). IsIn h.leaf (field_trees z)) same h.in_field) in
-              let q = place_of (out-Tree k.above).children h.leaf there in
-              in_top q.0 h.leaf
+              in_top q.0 h.leaf q.1
               (other_child q.0
               (λ z.
               no_leaf j
               (ap (λ (t : Tree). (out-Tree t).symbol)
-              (same_Some k.child h.leaf (sym k.is_child ∙ ap (λ (n : ℕ). child_at k.above n) (sym z) ∙ q.1))
-              ∙ h.refers)) ∙ q.1)
+              (same_Some k.child h.leaf (sym k.is_child ∙ ap (λ (n : ℕ). child_at k.above n) (sym z) ∙ q.2))
+              ∙ h.refers)) ∙ q.2)
 
   -- the new root is a knot, where the child refers to the shared root above it
   knot_made : (vars : List Target) → IsShared vars ts r → RefersTo k.child r → IsKnot vars us N
@@ -164,7 +169,7 @@ module _ (r p : ℕ) (ts us : List Tree) (k : IsCutOff r p ts us) (cell : IsFiel
     above = top;
     is_above = cut_tree;
     leaf = ref_leaf N;
-    in_field = in_top p (ref_leaf N) this_child;
+    in_field = in_top p (ref_leaf N) in_field this_child;
     refers = leaf_symbol N;
     own = k.child;
     is_own = last_tree;
@@ -173,39 +178,94 @@ module _ (r p : ℕ) (ts us : List Tree) (k : IsCutOff r p ts us) (cell : IsFiel
 
   -- loose children stay loose, and the reference is loose
   loose_stays : (j q : ℕ) → j < N → ((j ≢ r) ⊎ ((j ≡ r) × (q ≢ p))) → IsLoose ts j q → IsLoose us j q
-  loose_stays j q l (inl d) h t u e f = h t u (sym (other_tree j l d) ∙ e) f
-  loose_stays j q l (inr (z, d)) h t u e f =
+  loose_stays j q l (inl d) h t u e y f = h t u (sym (other_tree j l d) ∙ e) y f
+  loose_stays j q l (inr (z, d)) h t u e y f =
       let same : top ≡ t = same_Some top t (sym cut_tree ∙ ap (λ (n : ℕ). slice_get us n) (sym z) ∙ e) in
       h k.above u (ap (λ (n : ℕ). slice_get ts n) z ∙ k.is_above)
+      (ap (λ (x : Symbol). has_field_at x q) (sym same_symbol ∙ ap (λ (x : Tree). (out-Tree x).symbol) same) ∙ y)
       (sym (other_child q d) ∙ ap (λ (x : Tree). child_at x q) same ∙ f)
 
   loose_cut : IsLoose us r p
-  loose_cut t u e f n h =
+  loose_cut t u e y f n h =
       let same : top ≡ t = same_Some top t (sym cut_tree ∙ e) in
       let is : ref_leaf N ≡ u = same_Some (ref_leaf N) u (sym this_child ∙ ap (λ (x : Tree). child_at x p) same ∙ f) in
       let i : IsIn r (N ∷ []) =
       subst (λ (ks : List ℕ). IsIn r ks) (leaf_ref N) (subst (λ (x : Tree). RefersTo x r) (sym is) h) in
       elim i [ inl z ↦ (let l = root_less in omega (arith, l, z)) | inr z ↦ z ]
 
+  -- the tree that was cut refers to what the new trees refer to, but for the new root
+  above_refers : (j : ℕ) → j ≢ N → 1 ≤ often j (tree_refs top) + often j (tree_refs k.child) → RefersTo k.above j
+  above_refers j d l = elim (refer_or_not k.above j) [
+    | inl h ↦ h
+    | inr o ↦ absurd
+        (let c = put_counts j k.above p k.child (ref_leaf N) cell k.is_child in
+        let e : often j (tree_refs (ref_leaf N)) ≡ often j (N ∷ []) = ap (often j) (leaf_ref N) in
+        let z : often j (N ∷ []) ≡ 0 = often_out j (N ∷ []) (λ h. elim h [ inl w ↦ d w | inr w ↦ w ]) in
+        let y : often j (tree_refs k.above) ≡ 0 = often_out j (tree_refs k.above) o in
+        omega (arith, l, c, e, z, y))
+  ]
+
+  -- a root to which no other tree refers, and that is not cut, stays one
+  alone_cut : (vars : List Target) (j : ℕ) → j < N → j ≢ r → IsAlone vars ts j → IsAlone vars us j
+  alone_cut vars j l d a = record { no_var = a.no_var; none = λ i u e o h. here i u e o h (same_or_not i N) (same_or_not i r) }
+    where
+      not_last : j ≢ N
+      not_last e = omega (arith, l, e)
+
+      above_not : RefersTo k.above j → ⊥
+      above_not h = a.none r k.above k.is_above (λ e. d (sym e)) h
+
+      here : (i : ℕ) (u : Tree) → slice_get us i ≡ Some u → i ≢ j → RefersTo u j → (i ≡ N) ⊎ (i ≢ N)
+          → (i ≡ r) ⊎ (i ≢ r) → ⊥
+      here i u e o h (inl z) w =
+          let same : k.child ≡ u =
+          same_Some k.child u (sym last_tree ∙ ap (λ (n : ℕ). slice_get us n) (sym z) ∙ e) in
+          let c = refer_count k.child j (subst (λ (x : Tree). RefersTo x j) (sym same) h) in
+          above_not (above_refers j not_last (omega (arith, c)))
+      here i u e o h (inr z) (inl w) =
+          let same : top ≡ u = same_Some top u (sym cut_tree ∙ ap (λ (n : ℕ). slice_get us n) (sym w) ∙ e) in
+          let c = refer_count top j (subst (λ (x : Tree). RefersTo x j) (sym same) h) in
+          above_not (above_refers j not_last (omega (arith, c)))
+      here i u e o h (inr z) (inr w) =
+          let m = place_less us i u e in
+          let n = cut_long in
+          a.none i u (sym (other_tree i (omega (arith, m, n, z)) w) ∙ e) o h
+
+  shared_back : (vars : List Target) (j : ℕ) → j ≢ N → IsShared vars us j → IsShared vars ts j
+  shared_back vars j d (inl v) = inl v
+  shared_back vars j d (inr l) = inr (let e = other_counts j d in omega (arith, e, l))
+
+  settled_cut : (vars : List Target) (j : ℕ) → j < N → IsShared vars ts r → IsSettled vars ts j → IsSettled vars us j
+  settled_cut vars j l s (inl h) = inl (shared_cut vars j (λ e. omega (arith, e, l)) h)
+  settled_cut vars j l s (inr a) = elim (same_or_not j r) [
+    | inl e ↦ inl (shared_cut vars j (λ z. omega (arith, z, l)) (subst (λ (n : ℕ). IsShared vars ts n) (sym e) s))
+    | inr d ↦ inr (alone_cut vars j l d a)
+  ]
+
+  -- the root stays shared
+  pub root_shared : (vars : List Target) → IsShared vars ts r → IsShared vars us r
+  root_shared vars s = shared_cut vars r (λ e. (let l = root_less in omega (arith, l, e))) s
+
   -- what holds before the cut holds after it, one place further
   pub cut_step : (vars : List Target) (n : ℕ) → n ≤ N → r < n → ((i : ℕ) → (out-Tree k.child).symbol ≢ Ref i)
-      → RefersTo k.child r → AreCut vars n r p ts → AreCut vars n r (p + 1) us
-  cut_step vars n few l no_leaf ties c = record {
-    shared = λ j i. shared_cut vars j (λ e. omega (arith, e, i, few)) (c.shared j i);
+      → RefersTo k.child r → IsShared vars ts r → AreCut vars n r p ts → AreCut vars n r (p + 1) us
+  cut_step vars n few l no_leaf ties shared c = record {
+    settled = λ j i. settled_cut vars j (omega (arith, i, few)) shared (c.settled j i);
     knots = λ j i b. by_place j i b (same_or_not j N);
     loose = by_order;
   }
     where
       by_place : (j : ℕ) → n ≤ j → j < length us → (j ≡ N) ⊎ (j ≢ N) → IsKnot vars us j
-      by_place j i b (inl e) = subst (λ (z : ℕ). IsKnot vars us z) (sym e) (knot_made vars (c.shared r l) ties)
+      by_place j i b (inl e) = subst (λ (z : ℕ). IsKnot vars us z) (sym e) (knot_made vars shared ties)
       by_place j i b (inr d) =
           knot_stays vars j (λ e. omega (arith, e, l, i)) no_leaf
           (c.knots j i (let m = cut_long in omega (arith, b, m, d)))
 
-      by_order : (j q : ℕ) → IsBefore j q r (p + 1) → IsLoose us j q
-      by_order j q (inl i) = loose_stays j q (omega (arith, i, l, few)) (inl (λ e. omega (arith, e, i)))
-          (c.loose j q (inl i))
-      by_order j q (inr (e, i)) = elim (same_or_not q p) [
+      by_order : (j q : ℕ) → IsBefore j q r (p + 1) → IsShared vars us j → IsLoose us j q
+      by_order j q (inl i) s = loose_stays j q (omega (arith, i, l, few)) (inl (λ e. omega (arith, e, i)))
+          (c.loose j q (inl i) (shared_back vars j (λ e. omega (arith, e, i, l, few)) s))
+      by_order j q (inr (e, i)) s = elim (same_or_not q p) [
         | inl z ↦ subst (λ (m : ℕ). IsLoose us m q) (sym e) (subst (λ (m : ℕ). IsLoose us r m) (sym z) loose_cut)
-        | inr d ↦ loose_stays j q (omega (arith, e, l, few)) (inr (e, d)) (c.loose j q (inr (e, omega (arith, i, d))))
+        | inr d ↦ loose_stays j q (omega (arith, e, l, few)) (inr (e, d))
+            (c.loose j q (inr (e, omega (arith, i, d))) (shared_back vars j (λ w. omega (arith, w, e, l, few)) s))
       ]

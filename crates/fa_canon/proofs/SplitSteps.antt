@@ -32,8 +32,8 @@ the_forest s = s.forest
 
 -- what a call that divides a forest says, as a step
 pub divided : (R : SoundForest → SoundForest → Type 0) (F : SoundForest) (Gs : List SoundForest)
-    → Every (λ (g : Forest). Every HasNoBoxes g.autos) (forests Gs) → Every (λ (s : SoundForest). s.face ≡ F.face) Gs
-    → Every (HasVarsOf F.forest) (forests Gs)
+    → (Every HasNoBoxes F.forest.autos → Every (λ (g : Forest). Every HasNoBoxes g.autos) (forests Gs))
+    → Every (λ (s : SoundForest). s.face ≡ F.face) Gs → Every (HasVarsOf F.forest) (forests Gs)
     → ((T : List BoxDef) → Every (Regroups T F.forest) (forests Gs))
     → ((T : List BoxDef) → RegroupsInto T F.forest (forests Gs)) → ((G : SoundForest) → IsIn G Gs → R F G)
     → IsSplitEach R (F ∷ []) Gs
@@ -42,7 +42,7 @@ divided R F Gs plain face vars regroups whole related = record {
     F,
     inl refl,
     record {
-      plain = every_in (λ (g : Forest). Every HasNoBoxes g.autos) (forests Gs) G.forest plain
+      plain = λ p. every_in (λ (g : Forest). Every HasNoBoxes g.autos) (forests Gs) G.forest (plain p)
           (in_map the_forest G Gs i);
       face = every_in (λ (s : SoundForest). s.face ≡ F.face) Gs G face i;
       vars = ap length v.0;
@@ -179,7 +179,8 @@ split_each F r p s Gs e tops value own G i =
 
 -- the child split, as a step
 pub split_step : (r p : ℕ) (F : SoundForest) (Gs : List SoundForest) → Every HasOneTop F.forest.autos
-    → AreSplit F.forest r p (forests Gs) → Every (λ (g : Forest). Every HasNoBoxes g.autos) (forests Gs)
+    → AreSplit F.forest r p (forests Gs)
+    → (Every HasNoBoxes F.forest.autos → Every (λ (g : Forest). Every HasNoBoxes g.autos) (forests Gs))
     → Every (λ (s : SoundForest). s.face ≡ F.face) Gs
     → Every (HasVarsOf F.forest) (forests Gs) → Every (λ (g : Forest). HasOneTop (component_at g.autos r)) (forests Gs)
     → ((T : List BoxDef) → Every (Regroups T F.forest) (forests Gs))

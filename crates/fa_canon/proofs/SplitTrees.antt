@@ -31,8 +31,8 @@ use Rattle.fa_split.proofs.OtherComponent.{choice_within, component_other, compo
 use Rattle.fa_split.proofs.RunPlaces.{set_again, set_same}
 use Rattle.fa_canon.specs.inner.Cutting.{IsCutOff, child_at, ref_leaf, with_child}
 use Rattle.fa_canon.specs.inner.Steps.{IsChosenAt}
-use Rattle.fa_canon.proofs.FieldCells.{put_children, put_symbol}
 use Rattle.fa_canon.proofs.ListPlaces.{set_here}
+use Rattle.fa_canon.proofs.TopCells.{put_children, put_symbol}
 
 -- Fewer trees.
 

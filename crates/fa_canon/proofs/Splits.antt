@@ -5,27 +5,32 @@ use Rattle.fore_base.specs.Lists.{IsIn, Every}
 use Rattle.fore_base.proofs.ListLemmas.{in_append, in_left, in_right, in_mapped, in_every}
 use Rattle.fa_core.specs.declared.boxes.BoxDef.{BoxDef}
 use Rattle.fa_core.specs.declared.forest.Forest.{Forest}
-use Rattle.fa_core.specs.Boxless.{HasNoBoxes}
 use Rattle.fa_core.specs.Member.{RegroupsInto}
 use Rattle.fa_core.proofs.Composed.{regroups_on, regroups_same, split_on}
 use Rattle.fa_sound.specs.Soundness.{SoundForest}
+use Rattle.fa_order.specs.Placing.{DoEdgesGive}
 use Rattle.fa_canon.specs.inner.Steps.{IsPiece, IsSplitEach}
 
 abbrev the_forest : SoundForest → Forest
 the_forest s = s.forest
 
-pub piece_same : (F : SoundForest) → Every HasNoBoxes F.forest.autos → IsPiece F F
-piece_same F p =
-    record { plain = p; face = refl; vars = refl; data_vars = refl; regroups = λ T. regroups_same T F.forest }
+pub piece_same : (F : SoundForest) → IsPiece F F
+piece_same F =
+    record { plain = λ p. p; face = refl; vars = refl; data_vars = refl; regroups = λ T. regroups_same T F.forest }
 
 pub piece_on : (F G H : SoundForest) → IsPiece F G → IsPiece G H → IsPiece F H
 piece_on F G H a b = record {
-  plain = b.plain;
+  plain = λ p. b.plain (a.plain p);
   face = b.face ∙ a.face;
   vars = b.vars ∙ a.vars;
   data_vars = b.data_vars ∙ a.data_vars;
   regroups = λ T. regroups_on T F.forest G.forest H.forest (a.regroups T) (b.regroups T);
 }
+
+-- box edges that lead back give something as before
+pub gives_on : (F G : SoundForest) → IsPiece F G → DoEdgesGive F.face F.forest → DoEdgesGive G.face G.forest
+gives_on F G p (inl h) = inl (rw p.face h)
+gives_on F G p (inr h) = inr (p.plain h)
 
 -- more forests on the right side lose nothing
 into_more : (T : List BoxDef) (F : Forest) (Gs Hs : List Forest) → ((G : Forest) → IsIn G Gs → IsIn G Hs)
@@ -44,13 +49,13 @@ module _ (R : SoundForest → SoundForest → Type 0) where
   pub split_none : IsSplitEach R [] []
   split_none = record { each = λ G i. absurd i; whole = λ F i. absurd i }
 
-  pub split_same : (F : SoundForest) → Every HasNoBoxes F.forest.autos → R F F → IsSplitEach R (F ∷ []) (F ∷ [])
-  split_same F p r = record {
+  pub split_same : (F : SoundForest) → R F F → IsSplitEach R (F ∷ []) (F ∷ [])
+  split_same F r = record {
     each =
         λ G i. (
           F,
           inl refl,
-          subst (λ (z : SoundForest). IsPiece F z) (sym (only_one G F i)) (piece_same F p),
+          subst (λ (z : SoundForest). IsPiece F z) (sym (only_one G F i)) (piece_same F),
           subst (λ (z : SoundForest). R F z) (sym (only_one G F i)) r,
         );
     whole = λ G i T. into_same T G.forest (F.forest ∷ []) (inl (let e = only_one G F i in rw e refl));

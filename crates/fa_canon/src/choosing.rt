@@ -1,8 +1,6 @@
 // One rule for each root.
 
 ghost use Rattle.std.specs.Prelude.{◌<◌, [], ◌∷◌, length, IfOk};
-ghost use Rattle.fore_base.specs.Lists.{Every};
-ghost use Rattle.fa_core.specs.Boxless.{HasNoBoxes};
 ghost use Rattle.fa_canon.specs.inner.Steps.{HasChosen, HaveTops, IsSplitEach};
 
 use crate::steps::{Step, alone, on_each};
@@ -21,11 +19,9 @@ struct Choose {
 
 impl Step for Choose {
     ghost use Rattle.std.specs.Prelude.{◌<◌, length};
-    ghost use Rattle.fore_base.specs.Lists.{Every};
-    ghost use Rattle.fa_core.specs.Boxless.{HasNoBoxes};
     ghost use Rattle.fa_canon.specs.inner.Steps.{IsChosenAt};
 
-    ghost accepts = { λ step F. Every HasNoBoxes F.forest.autos × (step.root < length F.forest.autos) };
+    ghost accepts = { λ step F. step.root < length F.forest.autos };
 
     ghost relates = { λ step F G. IsChosenAt step.root F.forest G.forest };
 
@@ -42,8 +38,7 @@ impl Step for Choose {
 /// Forests in which each root has one root state with one rule: one for each way to choose a rule of each root from
 /// this one on, where the roots before it have one rule. Err is want of memory.
 pub fn choose_rules(alloc: Global, forest: Sound, from: u32) -> Mem<List<Sound>>
-    requires plain { Every HasNoBoxes forest.forest.autos }
-    requires tops { HaveTops from forest.forest }
+    requires { HaveTops from forest.forest }
     ensures { IfOk result (λ made. IsSplitEach (HasChosen (length forest.forest.autos)) (forest ∷ []) made) }
 {
     let count = count_roots(forest.forest())?;
@@ -62,11 +57,9 @@ pub struct ChooseFrom {
 
 impl Step for ChooseFrom {
     ghost use Rattle.std.specs.Prelude.{length};
-    ghost use Rattle.fore_base.specs.Lists.{Every};
-    ghost use Rattle.fa_core.specs.Boxless.{HasNoBoxes};
     ghost use Rattle.fa_canon.specs.inner.Steps.{HasChosen, HaveTops};
 
-    ghost accepts = { λ step F. Every HasNoBoxes F.forest.autos × HaveTops step.from F.forest };
+    ghost accepts = { λ step F. HaveTops step.from F.forest };
 
     ghost relates = { λ step F. HasChosen (length F.forest.autos) F };
 

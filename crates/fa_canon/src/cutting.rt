@@ -1,21 +1,27 @@
-// Knots cut out of the trees of shared roots, root by root and place by place.
+// Knots cut out of the trees of shared roots, root by root and field by field.
 
-ghost use Rattle.std.specs.Prelude.{◌<◌, ◌+◌, [], ◌∷◌, IfOk, MatchBool};
-ghost use Rattle.fa_split.specs.Split.{CanSplit};
+ghost use Rattle.std.specs.Prelude.{◌≡◌, ◌<◌, ◌+◌, [], ◌∷◌, IfOk, MatchBool};
+ghost use Rattle.ta_core.specs.Single.{HasOneTop};
+ghost use Rattle.fa_order.specs.Kinds.{IsSharedRoot};
+ghost use Rattle.fa_split.specs.Split.{CanSplit, top_rule};
+ghost use Rattle.fa_canon.specs.inner.Cutting.{field_at, has_field_at};
 ghost use Rattle.fa_canon.specs.inner.Knots.{AreTied, AreUntied, CanCut, HasCut, HasCutAt, IsReady};
 ghost use Rattle.fa_canon.specs.inner.Steps.{IsSplitEach};
 
 use crate::choosing::ChooseFrom;
 use crate::steps::{Step, alone, on_each};
 use fa_merge::merge::is_marked_root;
+use fa_order::is_shared_root;
 use fa_sound::{Sound, component, count_roots};
-use fa_split::{child_marks, count_children, split_child};
+use fa_split::{child_marks, count_children, rule_at_top, split_child};
 use fore_base::list::List;
 use fore_base::memory::Mem;
 use std::alloc::Global;
+use ta_core::auto::Auto;
+use ta_core::symbol::{Slot, Symbol};
 
-/// Forests without knots in the trees of their first `count` roots, which are shared: each cell that was one is a root.
-/// Err is want of memory.
+/// Forests without knots in the trees of those of their first `count` roots that are shared: each cell that was one is a
+/// root. Err is want of memory.
 pub fn cut_knots(alloc: Global, forest: Sound, count: u32) -> Mem<List<Sound>>
     requires { IsReady count 0 0 forest }
     ensures { IfOk result (λ made. IsSplitEach (HasCut count count 0) (forest ∷ []) made) }
@@ -65,9 +71,25 @@ impl Step for CutRoot {
     }
 }
 
+/// The knots in the tree of the root, where it is shared.
 fn cut_root(alloc: Global, forest: Sound, root: u32, count: u32) -> Mem<List<Sound>>
     requires ready { IsReady count root 0 forest }
     requires root { root < count }
+    ensures { IfOk result (λ made. IsSplitEach (HasCut count (root + 1) 0) (forest ∷ []) made) }
+{
+    let is_shared = is_shared_root(alloc, &forest, root)?;
+    if is_shared {
+        cut_children(alloc, forest, root, count)
+    } else {
+        alone(alloc, forest)
+    }
+}
+
+/// The knots in the tree of the root, which is shared.
+fn cut_children(alloc: Global, forest: Sound, root: u32, count: u32) -> Mem<List<Sound>>
+    requires ready { IsReady count root 0 forest }
+    requires root { root < count }
+    requires shared { IsSharedRoot forest.forest root }
     ensures { IfOk result (λ made. IsSplitEach (HasCut count (root + 1) 0) (forest ∷ []) made) }
 {
     forest.known();
@@ -85,7 +107,7 @@ fn cut_root(alloc: Global, forest: Sound, root: u32, count: u32) -> Mem<List<Sou
     Ok(list)
 }
 
-/// The knot at a place below one of the first `count` roots, whose trees have `width` children.
+/// The knot at a place below one of the first `count` roots, which is shared and whose trees have `width` children.
 #[derive(Drop)]
 struct CutChild {
     root: u32,
@@ -121,12 +143,51 @@ fn cut_child(alloc: Global, forest: Sound, step: &CutChild) -> Mem<List<Sound>>
     }
 }
 
-/// Whether the child at the place below the root refers to it, whichever it is; else it does not, whichever it is.
+/// Whether a field leads to the child at the place below the root, and the child refers to the root, whichever it is;
+/// else a field does not, or the child does not, whichever it is.
 fn is_tied(forest: &Sound, root: u32, place: usize) -> bool
     requires { CanSplit forest.now.forest root place }
     ensures { MatchBool result (AreTied root place forest.now) (AreUntied root place forest.now) }
 {
-    is_marked_root(child_marks(forest, root, place), root)
+    let is_field = has_field_at(component(forest.forest(), root), place);
+    let is_named = is_marked_root(child_marks(forest, root, place), root);
+    is_field && is_named
+}
+
+/// Whether a field leads to the child at the place below the one rule at the top.
+fn has_field_at(auto: &Auto, place: usize) -> bool
+    requires { HasOneTop auto.now }
+    ensures { result ≡ has_field_at (top_rule auto.now).symbol place }
+{
+    match &rule_at_top(auto).symbol {
+        Symbol::Cell { slots, .. } => is_field_at(slots.as_slice(), place),
+        _ => false,
+    }
+}
+
+/// Whether a field leads to the child at the place.
+fn is_field_at(slots: &[Slot], place: usize) -> bool
+    ensures { result ≡ field_at slots.now place }
+{
+    let mut left = place;
+    for slot in slots {
+        match slot {
+            Slot::Hook(_) => {}
+            Slot::Field(_) => {
+                if left == 0 {
+                    return true;
+                }
+                left -= 1;
+            }
+            Slot::Link(_) => {
+                if left == 0 {
+                    return false;
+                }
+                left -= 1;
+            }
+        }
+    }
+    false
 }
 
 /// The child split, which refers to the root, and one rule chosen for the new root.

@@ -11,7 +11,8 @@ ghost use Rattle.fa_core.specs.declared.boxes.BoxDef.{BoxDef};
 ghost use Rattle.fa_merge.specs.Reached.{AreAllReached, NeverLeaks};
 ghost use Rattle.fa_sound.specs.Unions.{IsUnionOf, forests};
 ghost use Rattle.fa_canon.specs.Canonized.{IsSameAlone};
-ghost use Rattle.fa_canon.specs.inner.Finished.{CanFinish, IsFinished, NoneLeaks};
+ghost use Rattle.fa_order.specs.Placing.{DoEdgesGive};
+ghost use Rattle.fa_canon.specs.inner.Finished.{CanFinish, IsFinished};
 ghost use Rattle.fa_canon.specs.inner.Merges.{IsRegrouped, NoneMerges};
 ghost use Rattle.fa_canon.specs.inner.Steps.{IsSplitEach};
 
@@ -30,8 +31,8 @@ use std::thread::Threads;
 
 /// Canonical forests whose components are reduced, and whose members together are those of the forest, each root of
 /// which is reached. A canonical forest gives one, with its targets, its data and the languages of its components. The
-/// crew runs 1 to 64 jobs and has no bearing on the answer. Err is want of memory. So far only for forests without box
-/// edges.
+/// crew runs 1 to 64 jobs and has no bearing on the answer. Box edges that lead back give something. Err is want of
+/// memory.
 pub fn canonical<R: Threads + Sync, G: Gate>(
     rt: &R,
     alloc: Global,
@@ -39,14 +40,16 @@ pub fn canonical<R: Threads + Sync, G: Gate>(
     crew: &Crew<'_, G>,
 ) -> Mem<List<Sound>>
     requires jobs { IsJobs crew.now.jobs }
-    requires plain { Every HasNoBoxes forest.now.forest.autos }
+    requires giving { DoEdgesGive forest.now.face forest.now.forest }
     requires reached { AreAllReached forest.now.face forest.now.forest }
     ensures regroups { IfOk result (λ made. (T : List BoxDef) → Every (Regroups T forest.now.forest) (forests made)) }
     ensures whole { IfOk result (λ made. (T : List BoxDef) → RegroupsInto T forest.now.forest (forests made)) }
     ensures members { IfOk result (λ made. IsUnionOf forest.now.forest (forests made)) }
     ensures canonical { IfOk result (λ made. Every (λ s. IsCanonical s.face s.forest) made) }
     ensures reduced { IfOk result (λ made. Every (λ s. Reduced s.forest) made) }
-    ensures plain { IfOk result (λ made. Every (λ s. Every HasNoBoxes s.forest.autos) made) }
+    ensures plain { Every HasNoBoxes forest.now.forest.autos
+        → IfOk result (λ made. Every (λ s. Every HasNoBoxes s.forest.autos) made) }
+    ensures reached { IfOk result (λ made. Every (λ s. AreAllReached s.face s.forest) made) }
     ensures tight { IfOk result (λ made. Every (λ s. NeverLeaks s.face s.forest) made) }
     ensures face { IfOk result (λ made. Every (λ s. s.face ≡ forest.now.face) made) }
     ensures vars { IfOk result (λ made. Every (λ s. length s.forest.vars ≡ length forest.now.forest.vars) made) }
@@ -66,8 +69,8 @@ fn canonical_forests<R: Threads + Sync, G: Gate>(
     crew: &Crew<'_, G>,
 ) -> Mem<List<Sound>>
     requires jobs { IsJobs crew.now.jobs }
-    requires plain { Every HasNoBoxes forest.now.forest.autos }
-    requires tight { NoneLeaks forest.now.forest }
+    requires giving { DoEdgesGive forest.now.face forest.now.forest }
+    requires reached { AreAllReached forest.now.face forest.now.forest }
     ensures split { IfOk result (λ made. IsSplitEach IsFinished (forest.now ∷ []) made) }
     ensures same { IsCanonical forest.now.face forest.now.forest
         → IfOk result (λ made. IsSameAlone forest.now.forest (forests made)) }
@@ -75,7 +78,9 @@ fn canonical_forests<R: Threads + Sync, G: Gate>(
     if is_canonical(alloc, forest)? {
         return reduced_alone(rt, alloc, forest, crew);
     }
+    forest.known();
     let merged = merge_roots(alloc, forest)?;
+    merged.known();
     made_canonical(rt, alloc, merged, crew)
 }
 
@@ -87,7 +92,6 @@ fn reduced_alone<R: Threads + Sync, G: Gate>(
     crew: &Crew<'_, G>,
 ) -> Mem<List<Sound>>
     requires jobs { IsJobs crew.now.jobs }
-    requires plain { Every HasNoBoxes forest.now.forest.autos }
     requires canonical { IsCanonical forest.now.face forest.now.forest }
     ensures split { IfOk result (λ made. IsSplitEach IsFinished (forest.now ∷ []) made) }
     ensures same { IfOk result (λ made. IsSameAlone forest.now.forest (forests made)) }
@@ -106,9 +110,9 @@ fn made_canonical<R: Threads + Sync, G: Gate>(
     crew: &Crew<'_, G>,
 ) -> Mem<List<Sound>>
     requires jobs { IsJobs crew.now.jobs }
-    requires plain { Every HasNoBoxes forest.forest.autos }
+    requires giving { DoEdgesGive forest.face forest.forest }
     requires none { NoneMerges forest.forest }
-    requires tight { NoneLeaks forest.forest }
+    requires reached { AreAllReached forest.face forest.forest }
     ensures { IfOk result (λ made. IsSplitEach IsFinished (forest ∷ []) made) }
 {
     forest.known();

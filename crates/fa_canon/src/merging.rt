@@ -1,8 +1,6 @@
 // Roots to which one reference leads, merged into the tree that has it.
 
 ghost use Rattle.std.specs.Prelude.{◌<◌, length, IfOk, MatchOption};
-ghost use Rattle.fore_base.specs.Lists.{Every};
-ghost use Rattle.fa_core.specs.Boxless.{HasNoBoxes};
 ghost use Rattle.fa_merge.specs.Merged.{CanMerge};
 ghost use Rattle.fa_canon.specs.inner.Merges.{IsLastMerge, IsRegrouped, NoneMerges};
 
@@ -13,7 +11,6 @@ use std::alloc::Global;
 
 /// The forest with roots merged until none is left that can be, the highest number first. Err is want of memory.
 pub fn merge_roots(alloc: Global, forest: &Sound) -> Mem<Sound>
-    requires { Every HasNoBoxes forest.now.forest.autos }
     ensures none { IfOk result (λ made. NoneMerges made.forest) }
     ensures regrouped { IfOk result (IsRegrouped forest.now) }
 {
@@ -28,7 +25,6 @@ pub fn merge_roots(alloc: Global, forest: &Sound) -> Mem<Sound>
 
 /// The same of a forest that is not used again, so that it need not be copied.
 fn merge_others(alloc: Global, forest: Sound) -> Mem<Sound>
-    requires { Every HasNoBoxes forest.forest.autos }
     ensures none { IfOk result (λ made. NoneMerges made.forest) }
     ensures regrouped { IfOk result (IsRegrouped forest) }
 {
@@ -54,8 +50,7 @@ fn last_merge(alloc: Global, forest: &Sound) -> Mem<Option<u32>>
 
 /// The forest with the root merged.
 fn merge(alloc: Global, forest: &Sound, root: u32) -> Mem<Sound>
-    requires plain { Every HasNoBoxes forest.now.forest.autos }
-    requires can { CanMerge forest.now.forest root }
+    requires { CanMerge forest.now.forest root }
     ensures regrouped { IfOk result (IsRegrouped forest.now) }
     ensures fewer { IfOk result (λ made. length made.forest.autos < length forest.now.forest.autos) }
 {

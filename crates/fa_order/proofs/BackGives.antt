@@ -1,7 +1,7 @@
 -- A way back into a tree gives a field, where each box that leads back gives its output something.
 use Rattle.std.proofs.Common.{◌≡◌, ◌⊎◌, inl, inr, ℕ, Bool, true, false, true≢false, cond, ◌&&◌, nat_eq, List, [], ◌∷◌}
-use Rattle.std.proofs.Common.{◌++◌, flat_map, refl, sym, ap, subst, ◌∙◌, Option, Some, None, slice_get}
-use Rattle.std.proofs.lemmas.Bool.{eqb-true, eq-eqb}
+use Rattle.std.proofs.Common.{flat_map, refl, sym, ap, subst, ◌∙◌, Option, Some, None, slice_get}
+use Rattle.std.proofs.lemmas.Bool.{eq-eqb}
 use Rattle.fore_base.specs.Lists.{IsIn, Every}
 use Rattle.fore_base.proofs.ListLemmas.{in_left, in_right, every_in, in_from_place}
 use Rattle.ta_core.specs.declared.symbol.Slot.{Slot}

@@ -8,7 +8,6 @@ use Rattle.ta_core.specs.Auto.{Automaton, IsRanked}
 use Rattle.ta_core.specs.Single.{HasOneTop}
 use Rattle.ta_core.specs.declared.auto.Rule.{Rule}
 use Rattle.ta_core.specs.declared.tree.Tree.{Tree}
-use Rattle.fa_core.specs.Boxless.{HasNoBoxes}
 use Rattle.fa_core.specs.Canonical.{IsLedTo, IsRootKind, IsUntied, IsCanonical, LeadsBack, RefersTo, Walks, GoesOn, refs_at}
 use Rattle.fa_core.specs.Canonical.{var_roots}
 use Rattle.fa_core.specs.Choices.{bares}
@@ -16,14 +15,16 @@ use Rattle.fa_core.specs.Dressed.{Nodes}
 use Rattle.fa_core.specs.Filled.{Choice, IsSound}
 use Rattle.fa_core.specs.Member.{OfForest}
 use Rattle.fa_core.specs.Placed.{placed_auto, placed_rule}
+use Rattle.fa_core.specs.declared.boxes.BoxDef.{BoxDef}
 use Rattle.fa_core.specs.declared.faces.BoxFace.{BoxFace}
 use Rattle.fa_core.specs.declared.faces.Face.{Face}
 use Rattle.fa_core.specs.declared.forest.Forest.{Forest}
 use Rattle.fa_core.specs.declared.forest.Target.{Target}
-use Rattle.fa_core.proofs.Dressing.{dress_all, boxless_have_insides, choice_of}
+use Rattle.fa_core.proofs.Dressing.{choice_of}
 use Rattle.fa_core.proofs.Permuted.{in_rearranged}
 use Rattle.fa_core.proofs.Placing.{placed_ranked}
 use Rattle.fa_core.proofs.Rearranging.{back}
+use Rattle.fa_leaves.proofs.Hollow.{filled_dressed, hollow_table}
 use Rattle.fa_merge.specs.Reordered.{IsOrderOf, place_of, renumber, reordered}
 use Rattle.fa_sound.specs.Components.{component_at}
 use Rattle.fa_merge.specs.inner.Orders.{IsOrder}
@@ -32,7 +33,7 @@ use Rattle.fa_merge.proofs.Named.{choice_long}
 use Rattle.fa_merge.proofs.OtherOrders.{get_mapped, order_below, order_back, order_length, back_order, place_below}
 use Rattle.fa_merge.proofs.OtherOrders.{reordered_length}
 use Rattle.fa_merge.proofs.PlacedForests.{component_has}
-use Rattle.fa_merge.proofs.ReorderedSound.{new_plain, reordered_sound}
+use Rattle.fa_merge.proofs.ReorderedSound.{reordered_sound}
 use Rattle.fa_order.specs.Kinds.{HasRootKinds}
 use Rattle.fa_order.specs.Placing.{IsWalkOrder}
 use Rattle.fa_order.proofs.Following.{shared_follows, knot_follows, untied_follows}
@@ -80,8 +81,7 @@ led_follows f g there bs vs ws ts us h m r l = record {
 }
 
 module _ (face : Face) (F : Forest) (sound : IsSound face F) (ranked : Every IsRanked F.autos)
-    (plain : Every HasNoBoxes F.autos) (roots : HasRootKinds face F)
-    (order : List ℕ) (walk : IsWalkOrder face F order) (all : IsOrderOf F order) where
+    (roots : HasRootKinds face F) (order : List ℕ) (walk : IsWalkOrder face F order) (all : IsOrderOf F order) where
   abbrev size : ℕ
   size = length F.autos
 
@@ -112,53 +112,55 @@ module _ (face : Face) (F : Forest) (sound : IsSound face F) (ranked : Every IsR
   new_sound : IsSound face G
   new_sound = reordered_sound face F order all ranked sound
 
+  abbrev T : List BoxDef
+  T = hollow_table face.boxes
+
   -- each choice of trees is that of a dressed forest
-  dressed : (us : List Tree) → Choice G.autos us → (e : Nodes) × (bares e ≡ us) × OfForest [] G e
+  dressed : (us : List Tree) → Choice G.autos us → (e : Nodes) × (bares e ≡ us) × OfForest T G e
   dressed us c =
-      let w = new_sound.well_formed.filled.trees us c in
-      let d = dress_all [] 0 G.autos us w.tops (each_new IsRanked (placed_ranked (renumber f)) ranked)
-      (boxless_have_insides [] G.autos (new_plain face F order all ranked sound plain)) c w.are in
+      let d = filled_dressed face G 0 new_sound.well_formed.filled
+      (each_new IsRanked (placed_ranked (renumber f)) ranked) us c in
       (d.nodes, d.trees, d.of)
 
-  module _ (e : Nodes) (o : OfForest [] G e) where
+  module _ (e : Nodes) (o : OfForest T G e) where
     abbrev g : ℕ → ℕ
-    g = g_of F f order is e o
+    g = g_of F f order is e T o
 
     abbrev ts : List Tree
-    ts = bares (before F f order is e o)
+    ts = bares (before F f order is e T o)
 
     choice : Choice F.autos ts
-    choice = choice_of [] F.autos (before F f order is e o) (of_before F f order is e o)
+    choice = choice_of T F.autos (before F f order is e T o) (of_before F f order is e T o)
 
     long : length (bares e) ≡ size
-    long = choice_long G.autos (bares e) (choice_of [] G.autos e o) ∙ reordered_length F f order is
+    long = choice_long G.autos (bares e) (choice_of T G.autos e o) ∙ reordered_length F f order is
 
     kind_new : (r : ℕ) → r < length (bares e) → IsRootKind face.boxes G.vars (bares e) r
     kind_new r l =
         let b : g r < size = place_below size g (back_order size f order is) (order_back size f order is) r
         (subst (λ (n : ℕ). r < n) long l) in
         let k = roots.kinds ts choice (g r) (subst (λ (n : ℕ). g r < n) (sym (choice_long F.autos ts choice)) b) in
-        let h = follows F f order is e o in
+        let h = follows F f order is e T o in
         elim k [
           | inl s ↦ inl (shared_follows f g F.vars G.vars ts (bares e) h r s)
           | inr t ↦ elim t [
-            | inl w ↦ inr (inl (led_follows f g (gf F f order is e o) face.boxes F.vars G.vars ts (bares e) h (moved F f order is e o) r w))
+            | inl w ↦ inr (inl (led_follows f g (gf F f order is e T o) face.boxes F.vars G.vars ts (bares e) h (moved F f order is e T o) r w))
             | inr w ↦ inr (inr (knot_follows f g F.vars G.vars ts (bares e) h r w))
           ]
         ]
 
     untied_new : IsUntied G.vars (bares e)
-    untied_new = untied_follows f g F.vars G.vars ts (bares e) (follows F f order is e o) (roots.untied ts choice)
+    untied_new = untied_follows f g F.vars G.vars ts (bares e) (follows F f order is e T o) (roots.untied ts choice)
 
     walked : Walks (refs_at (bares e)) (GoesOn face.boxes (bares e)) (var_roots G.vars) 0 (length (bares e))
     walked =
         let refs : (r : ℕ) → IsIn r order → refs_at (bares e) (f r) ≡ map f (refs_at ts r) =
-        (λ r i. refs_turned F f order is e o r (every_in (λ k. k < size) order r below i)) in
+        (λ r i. refs_turned F f order is e T o r (every_in (λ k. k < size) order r below i)) in
         let outer : (x : ℕ) → (IsIn x order → ⊥) → length order ≤ f x =
         (λ x n. let far : size ≤ x = far_out x n in let a = place_out 0 order x n in
         let b = order_length size f order is in omega (arith, far, a, b)) in
         let w : Walks (refs_at (bares e)) (GoesOn face.boxes (bares e)) (map f (var_roots F.vars)) 0 (length order) =
-        walks_on face.boxes ts (bares e) order g (gf F f order is e o) (moved F f order is e o) outer refs
+        walks_on face.boxes ts (bares e) order g (gf F f order is e T o) (moved F f order is e T o) outer refs
         (var_roots F.vars) [] order refl (walk ts choice) in
         subst (λ (z : ℕ). Walks (refs_at (bares e)) (GoesOn face.boxes (bares e)) (var_roots G.vars) 0 z)
         (order_length size f order is ∙ sym long)

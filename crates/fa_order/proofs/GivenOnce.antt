@@ -10,7 +10,7 @@ use Rattle.ta_core.specs.declared.symbol.Symbol.TheVariants.{Cell}
 use Rattle.ta_core.specs.declared.tree.Tree.{Tree, out-Tree, roll-out-Tree, para-roll-Tree}
 use Rattle.fa_back.proofs.RootMarks.{flat_in, to_root_in}
 use Rattle.fa_core.specs.Canonical.{provides, RefersTo}
-use Rattle.fa_core.specs.Filled.{Choice, ChoiceFilled, IsFilled, IsFilledSpot, IsTopped, Spot, TopsAre, TreesFilled, covers}
+use Rattle.fa_core.specs.Filled.{Choice, IsFilled, IsFilledSpot, IsTopped, Spot, TopsAre, TreesFilled, covers}
 use Rattle.fa_core.specs.Filled.{given_at, spots, spots_at}
 use Rattle.fa_core.specs.Ways.{Way, ways, to_root, given}
 use Rattle.fa_core.specs.declared.faces.BoxFace.{BoxFace}

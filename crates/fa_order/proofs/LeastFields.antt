@@ -1,12 +1,10 @@
 -- The least field that is given to a root, and which of two trees gives the lesser one.
-use Rattle.std.proofs.Common.{◌≡◌, ◌⊎◌, inl, inr, ℕ, suc, ◌<◌, ◌≤◌, ◌+◌, Bool, true, false, true≢false, nat_eq, cond, List, []}
-use Rattle.std.proofs.Common.{◌∷◌, ◌++◌, refl, sym, ap, subst, ◌∙◌, Option, Some, None, MatchOption, take, length, get_or, append-nil, append_assoc, arith}
+use Rattle.std.proofs.Common.{◌≡◌, inl, inr, ℕ, ◌<◌, ◌≤◌, ◌+◌, Bool, true, false, nat_eq, cond, List, []}
+use Rattle.std.proofs.Common.{◌∷◌, ◌++◌, refl, sym, ap, subst, ◌∙◌, Option, Some, None, take, length, get_or, append-nil, append_assoc, arith}
 use Rattle.std.proofs.lemmas.Bool.{eqb-true, eq-eqb}
-use Rattle.std.proofs.lemmas.Option.{none-some, same_Some}
 use Rattle.fore_base.specs.Lists.{IsIn, Every}
-use Rattle.fore_base.proofs.ListLemmas.{in_left, in_right, in_append, every_in, every_push, take_item}
+use Rattle.fore_base.proofs.ListLemmas.{in_left, in_right, in_append, every_push, take_item}
 use Rattle.fa_core.specs.declared.signature.RefMark.{RefMark}
-use Rattle.fa_order.specs.declared.ways_back.Giver.{Giver}
 use Rattle.fa_order.specs.inner.Backs.{fields_to, IsLeastIn, SignGives}
 
 -- The fields that the marks of a root provide.

@@ -1,6 +1,7 @@
 pub mod BackDecided
 pub mod BackGives
 pub mod BothOk
+pub mod CanonicalReached
 pub mod Concluding
 pub mod CountedMarks
 pub mod Decided
@@ -11,7 +12,6 @@ pub mod GivenOnce
 pub mod InOrder
 pub mod LeastFields
 pub mod MovedBacks
-pub mod MovedWays
 pub mod NextVisits
 pub mod NoWays
 pub mod OpenBacks
@@ -23,6 +23,7 @@ pub mod Renumbered
 pub mod Rows
 pub mod SameMarks
 pub mod SameWalks
+pub mod SharedRoots
 pub mod Shows
 pub mod SignedBacks
 pub mod Tame

@@ -11,7 +11,7 @@ use Rattle.fa_core.specs.Member.{bare}
 use Rattle.fa_core.specs.Placed.{placed}
 use Rattle.fa_core.specs.Ways.{Step, Way, ways, is_back, all_back, leads_back, led_to, given, to_root, has, once_from, once, roots_met}
 use Rattle.fa_merge.specs.Reordered.{renumber}
-use Rattle.fa_order.proofs.MovedWays.{put_way, put_step, ways_put}
+use Rattle.fa_leaves.proofs.MovedWays.{put_way, put_step, ways_put}
 
 module _ (f : ℕ → ℕ) where
   abbrev pub moved_step : Step → Step

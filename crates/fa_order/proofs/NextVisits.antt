@@ -1,10 +1,10 @@
 -- Which root is visited next, and what is left of the walk then.
-use Rattle.std.proofs.Common.{◌≡◌, inl, inr, ℕ, ◌<◌, List, [], ◌∷◌, length, refl, sym, ap, subst, ◌∙◌, Option, Some, None}
-use Rattle.fore_base.specs.Lists.{IsIn, Every}
+use Rattle.std.proofs.Common.{inl, inr, ℕ, ◌<◌, List, ◌∷◌, length, sym, subst, ◌∙◌, Some, None}
+use Rattle.fore_base.specs.Lists.{IsIn}
 use Rattle.fa_core.specs.References.{AllBelow}
 use Rattle.fa_core.specs.declared.signature.Signature.{Signature}
 use Rattle.fa_order.specs.Placing.{PlacingOn, all_placed, stuck, goes_on}
-use Rattle.fa_order.specs.inner.Backs.{GivesBy, IsAtEnd, IsNext, LeadsBy}
+use Rattle.fa_order.specs.inner.Backs.{GivesBy, IsNext, LeadsBy}
 use Rattle.fa_order.specs.inner.Stacks.{nth_refs, weight}
 
 module _ (ss : List Signature) (refers : List (List ℕ)) (placed before after : List ℕ) where

@@ -10,7 +10,7 @@ use Rattle.std.proofs.lemmas.List.{take_more, take_all}
 use Rattle.fore_base.proofs.ListLemmas.{every_in, every_push, in_push}
 use Rattle.fa_core.specs.declared.signature.RefMark.{RefMark}
 use Rattle.fa_core.specs.declared.signature.Signature.{Signature}
-use Rattle.fa_merge.specs.Reordered.{place_from, place_of}
+use Rattle.fa_merge.specs.Reordered.{place_from}
 use Rattle.fa_order.specs.declared.ways_back.Giver.{Giver}
 use Rattle.fa_order.specs.Placing.{GivesLeast, IsFirstLed, IsLedOn, IsLowestOpen, IsOpenAt}
 use Rattle.fa_order.specs.inner.Backs.{AreLedWithin, GivesBy, IsBetter, IsLeastIn, IsLesser, LeadsBy, SignGives}

@@ -18,6 +18,7 @@ use Rattle.fa_core.specs.Placed.{placed, placed_parts, placed_end, placed_leaf}
 use Rattle.fa_core.specs.Rearranged.{Rearranged, often}
 use Rattle.fa_core.specs.References.{to_two}
 use Rattle.fa_core.specs.Ways.{has, once, once_from, ways}
+use Rattle.fa_core.specs.declared.boxes.BoxDef.{BoxDef}
 use Rattle.fa_core.specs.declared.forest.Forest.{Forest}
 use Rattle.fa_core.specs.declared.forest.Target.{Target}
 use Rattle.fa_core.specs.declared.forest.Target.TheVariants.{Null, Uninit, Dangling, At}
@@ -218,7 +219,7 @@ whole_refs g (more n ns) =
 
 -- a dressed forest in the new order, and the one of the first forest from which it comes
 module _ (F : Forest) (f : ℕ → ℕ) (order : List ℕ) (is : IsOrder (length F.autos) f order) (e : Nodes)
-    (o : OfForest [] (reordered_by f order F) e) where
+    (T : List BoxDef) (o : OfForest T (reordered_by f order F) e) where
   abbrev size : ℕ
   size = length F.autos
 
@@ -235,16 +236,16 @@ module _ (F : Forest) (f : ℕ → ℕ) (order : List ℕ) (is : IsOrder (length
   before = picked g_of (back_order size f order is) e
 
   count_new : count e ≡ size
-  count_new = count_trees [] (reordered_by f order F).autos e o ∙ reordered_length F f order is
+  count_new = count_trees T (reordered_by f order F).autos e o ∙ reordered_length F f order is
 
-  pub of_before : OfForest [] F before
+  pub of_before : OfForest T F before
   of_before =
       let G = reordered_by f order F in
       let js : IsOrder (length G.autos) g_of (back_order size f order is) =
       subst (λ (m : ℕ). IsOrder m g_of (back_order size f order is)) (sym (reordered_length F f order is))
       (order_back size f order is) in
-      subst (λ (x : Forest). OfForest [] x before) (reordered_back F f order is)
-      (picked_of [] G g_of (back_order size f order is) js e o)
+      subst (λ (x : Forest). OfForest T x before) (reordered_back F f order is)
+      (picked_of T G g_of (back_order size f order is) js e o)
 
   back_place : (k : ℕ) → k < size → slice_get (back_order size f order is) k ≡ Some (f k)
   back_place k l = get_mapped f (counted 0 size) k k
@@ -273,7 +274,7 @@ module _ (F : Forest) (f : ℕ → ℕ) (order : List ℕ) (is : IsOrder (length
         × (slice_get (bares e) (f k) ≡ Some u) × R t u
     down_turned k t h =
         let n = at_bare before k t h in
-        let c : count before ≡ size = count_trees [] F.autos before of_before in
+        let c : count before ≡ size = count_trees T F.autos before of_before in
         let l : k < size = subst (λ (z : ℕ). k < z) c (node_below before k n.0 n.1) in
         let s : n.0 ≡ placed (renumber g_of) (node_or e (f k)) =
         same_Some n.0 (placed (renumber g_of) (node_or e (f k))) (sym n.1 ∙ node_before k l) in (

@@ -1,14 +1,13 @@
 -- One tree of a component that shows whatever any tree of it may show, and what it shows.
-use Rattle.std.proofs.Common.{◌≡◌, inl, inr, ℕ, Bool, true, false, not, ◌&&◌, ◌||◌, true≢false, nat_eq, length, List}
-use Rattle.std.proofs.Common.{[], ◌∷◌, map, refl, sym, ap, ap₂, subst, ◌∙◌, slice_get, arith}
+use Rattle.std.proofs.Common.{◌≡◌, inl, inr, ℕ, Bool, true, false, not, ◌&&◌, ◌||◌, true≢false, nat_eq, List}
+use Rattle.std.proofs.Common.{[], ◌∷◌, map, refl, sym, ap, ap₂, subst, ◌∙◌, slice_get}
 use Rattle.std.proofs.lemmas.Bool.{and_parts, and_from, or_left, or_right, eqb-true, eq-eqb}
 use Rattle.std.proofs.lemmas.Option.{same_Some}
 use Rattle.fore_base.specs.Lists.{IsIn, Every, Paired}
 use Rattle.fore_base.specs.Marks.{MarksOf, IsMarked, all_marked}
 use Rattle.fore_base.proofs.ListLemmas.{every_in, in_from_place, only_item, place_of, every_weaker}
 use Rattle.fore_base.proofs.MarkLemmas.{all_from, all_to}
-use Rattle.ta_core.specs.Arity.{arity, child_slots}
-use Rattle.ta_core.specs.Auto.{Automaton, IsRanked, IsRankedRule}
+use Rattle.ta_core.specs.Auto.{Automaton, IsRanked}
 use Rattle.ta_core.specs.Language.{RunOf, run, RunEach, run_none, run_more, InLanguage, HasTree}
 use Rattle.ta_core.specs.Single.{HasOneTop}
 use Rattle.ta_core.specs.declared.auto.Rule.{Rule}

@@ -1,30 +1,26 @@
 -- Ways back by the signatures of the components are those of their trees.
-use Rattle.std.proofs.Common.{◌≡◌, ◌⊎◌, inl, inr, ℕ, zero, suc, ◌<◌, Bool, true, false, true≢false, List, [], ◌∷◌, flat_map}
-use Rattle.std.proofs.Common.{map, refl, sym, ap, subst, ◌∙◌, Some, slice_get, nat_eq}
-use Rattle.std.proofs.lemmas.Bool.{eqb-true, eq-eqb}
+use Rattle.std.proofs.Common.{◌≡◌, ◌⊎◌, inl, inr, ℕ, zero, suc, List, [], ◌∷◌, flat_map}
+use Rattle.std.proofs.Common.{refl, sym, ap, subst, ◌∙◌, Some, slice_get}
 use Rattle.std.proofs.lemmas.Option.{none-some, same_Some}
-use Rattle.fore_base.specs.Lists.{IsIn, Every, Paired}
-use Rattle.fore_base.proofs.ListLemmas.{in_map, in_every, paired_long}
+use Rattle.fore_base.specs.Lists.{IsIn, Paired}
+use Rattle.fore_base.proofs.ListLemmas.{in_map}
 use Rattle.ta_core.specs.Auto.{Automaton}
 use Rattle.ta_core.specs.declared.tree.Tree.{Tree}
-use Rattle.fa_back.specs.Reached.{IsMarkAt, IsSignedBy}
-use Rattle.fa_back.proofs.RootMarks.{in_once, once_in, in_to_root, to_root_in, back_any, any_of_back, mark_in, in_mark}
-use Rattle.fa_back.proofs.RootMarks.{way_led, led_way, reach_in_mark, mark_in_reach, reach_refers, flat_in, in_flat}
+use Rattle.fa_back.specs.Reached.{IsSignedBy}
+use Rattle.fa_back.proofs.RootMarks.{in_once, in_to_root, to_root_in, back_any, any_of_back, mark_in, in_mark}
+use Rattle.fa_back.proofs.RootMarks.{way_led, led_way, reach_in_mark, mark_in_reach, reach_refers, flat_in}
 use Rattle.fa_core.specs.Canonical.{LeadsBack, RefersTo, provides, refs_at}
-use Rattle.fa_core.specs.Cells.{roots_in}
 use Rattle.fa_core.specs.Filled.{Choice}
 use Rattle.fa_core.specs.References.{tree_refs}
-use Rattle.fa_core.specs.Ways.{Way, ways, to_root, leads_back, given, roots_met, mark, signature}
+use Rattle.fa_core.specs.Ways.{Way, ways, to_root, given, mark, signature}
 use Rattle.fa_core.specs.declared.faces.BoxFace.{BoxFace}
 use Rattle.fa_core.specs.declared.signature.RefMark.{RefMark}
 use Rattle.fa_core.specs.declared.signature.Signature.{Signature}
 use Rattle.fa_core.proofs.Permuted.{in_rearranged}
 use Rattle.fa_core.proofs.Rearranging.{back}
 use Rattle.fa_core.proofs.Sorting.{ordered}
-use Rattle.fa_order.specs.inner.Backs.{IsSigned, LeadsBy, GivesBy, SignLeads, SignGives}
-use Rattle.fa_order.specs.inner.Stacks.{nth_refs}
+use Rattle.fa_order.specs.inner.Backs.{IsSigned, LeadsBy, GivesBy, SignLeads}
 use Rattle.fa_order.proofs.RefsAt.{refs_got}
-use Rattle.fa_order.proofs.SameMarks.{signature_roots}
 
 module _ (bs : List BoxFace) where
   signed_at : (ts : List Tree) (ss : List Signature) (j : ℕ) (t : Tree) → Paired (IsSignedBy bs) ts ss

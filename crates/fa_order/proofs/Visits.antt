@@ -1,5 +1,5 @@
 -- What the walk places: each root that is reached, each once. It gives one order.
-use Rattle.std.proofs.Common.{◌≡◌, ◌≢◌, ◌⊎◌, inl, inr, ℕ, ◌<◌, ◌≤◌, length, List, [], ◌∷◌, ◌++◌, refl, sym, ap, subst}
+use Rattle.std.proofs.Common.{◌≡◌, ◌≢◌, ◌⊎◌, inl, inr, ℕ, ◌<◌, ◌≤◌, List, [], ◌∷◌, ◌++◌, refl, sym, subst}
 use Rattle.std.proofs.Common.{◌∙◌, append_assoc, append-nil, arith}
 use Rattle.fore_base.specs.Lists.{IsIn, IsDistinct}
 use Rattle.fore_base.proofs.ListLemmas.{in_left, in_right, in_push, in_last, every_push, every_in, distinct_push}

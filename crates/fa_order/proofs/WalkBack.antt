@@ -1,6 +1,6 @@
 -- A walk that meets the roots in the order of their numbers places them in this order, also where it goes on along a
 -- way back; and the other way round.
-use Rattle.std.proofs.Common.{◌≡◌, inl, inr, ℕ, suc, ◌<◌, ◌≤◌, ◌+◌, List, [], ◌∷◌, ◌++◌, length, map, refl, sym, ap, ap₂}
+use Rattle.std.proofs.Common.{◌≡◌, inl, inr, ℕ, ◌<◌, ◌≤◌, ◌+◌, List, [], ◌∷◌, ◌++◌, length, map, refl, sym, ap, ap₂}
 use Rattle.std.proofs.Common.{subst, ◌∙◌, Some, slice_get, arith}
 use Rattle.fore_base.specs.Lists.{IsIn}
 use Rattle.ta_core.specs.declared.tree.Tree.{Tree}

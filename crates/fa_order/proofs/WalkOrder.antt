@@ -1,10 +1,10 @@
 -- The walk of a forest: it places roots that are there, each root that is reached, and the roots of a canonical forest
 -- in the order of their numbers.
-use Rattle.std.proofs.Common.{◌≡◌, ◌⊎◌, inl, inr, ℕ, zero, suc, ◌<◌, length, List, [], ◌∷◌, map, refl, sym, ap, ap₂, subst}
+use Rattle.std.proofs.Common.{◌≡◌, inl, inr, ℕ, zero, suc, ◌<◌, length, List, [], ◌∷◌, map, refl, sym, ap, ap₂, subst}
 use Rattle.std.proofs.Common.{◌∙◌, slice_get, Some}
 use Rattle.std.proofs.lemmas.Option.{slice_get_within}
 use Rattle.fore_base.specs.Lists.{IsIn, Every, Paired}
-use Rattle.fore_base.proofs.ListLemmas.{in_every, paired_long}
+use Rattle.fore_base.proofs.ListLemmas.{in_every}
 use Rattle.ta_core.specs.Auto.{Automaton}
 use Rattle.ta_core.specs.declared.auto.Rule.{Rule}
 use Rattle.ta_core.specs.declared.symbol.Symbol.{Symbol}

@@ -1,5 +1,5 @@
 -- By its places in the order, the walk meets each root at its place, also where it goes on along a way back.
-use Rattle.std.proofs.Common.{◌≡◌, inl, inr, ℕ, suc, ◌<◌, ◌≤◌, ◌+◌, length, List, [], ◌∷◌, ◌++◌, map, refl, sym, ap}
+use Rattle.std.proofs.Common.{◌≡◌, inl, inr, ℕ, suc, ◌<◌, ◌≤◌, length, List, [], ◌∷◌, ◌++◌, map, refl, sym, ap}
 use Rattle.std.proofs.Common.{subst, ◌∙◌, append_assoc, append-nil, arith, Some, slice_get}
 use Rattle.fore_base.specs.Lists.{IsIn}
 use Rattle.fore_base.proofs.ListLemmas.{in_right, in_append}

@@ -2,9 +2,11 @@
 -- and where nothing is left to visit the ways back: `Leads i j r` says that a way back from root i into tree j leads to
 -- root r, and `Gives i j f` that box edges of tree j give field f to root i.
 use Rattle.std.specs.Prelude.{◌≡◌, ◌≤◌, ◌⊎◌, ℕ, List, [], ◌∷◌, ◌++◌}
-use Rattle.fore_base.specs.Lists.{IsIn}
+use Rattle.fore_base.specs.Lists.{Every, IsIn}
 use Rattle.ta_core.specs.declared.tree.Tree.{Tree}
+use Rattle.fa_core.specs.Boxless.{HasNoBoxes}
 use Rattle.fa_core.specs.Canonical.{LeadsBack, provides, refs_at, var_roots}
+use Rattle.fa_core.specs.Faces.{IsGiving}
 use Rattle.fa_core.specs.Filled.{Choice}
 use Rattle.fa_core.specs.declared.faces.Face.{Face}
 use Rattle.fa_core.specs.declared.forest.Forest.{Forest}
@@ -77,3 +79,8 @@ IsWalkOrder face F order = (ts : List Tree) → Choice F.autos ts
 -- G is F with its roots in the order of the walk, which has each of them once
 abbrev pub IsPlaced : Face → Forest → Forest → Type 0
 IsPlaced face F G = (order : List ℕ) × IsOrderOf F order × IsWalkOrder face F order × (G ≡ reordered order F)
+
+-- box edges that lead back give the cells at their ends something: the boxes do, as those of each table, or there is no
+-- box edge. So the walk is stuck nowhere
+abbrev pub DoEdgesGive : Face → Forest → Type 0
+DoEdgesGive face F = Every IsGiving face.boxes ⊎ Every HasNoBoxes F.autos

@@ -9,6 +9,7 @@ ghost use Rattle.fa_core.specs.Canonical.{IsCanonical};
 ghost use Rattle.fa_core.specs.Filled.{Choice, IsWellFormed};
 ghost use Rattle.fa_core.specs.declared.faces.Face.{Face};
 ghost use Rattle.fa_core.specs.declared.forest.Forest.{Forest};
+ghost use Rattle.fa_merge.specs.Reached.{AreAllReached};
 ghost use Rattle.fa_order.specs.Kinds.{HasRootKinds};
 ghost use Rattle.fa_order.specs.Outlines.{outline};
 
@@ -32,4 +33,9 @@ pub fn smaller_languages_keep_canonical()
 /// A canonical forest has the roots of one.
 pub fn canonical_forests_have_root_kinds()
     ensures { (face : Face) (F : Forest) → IsCanonical face F → HasRootKinds face F }
+{}
+
+/// Each root of a canonical forest is reached.
+pub fn canonical_forests_are_reached()
+    ensures { (face : Face) (F : Forest) → IsCanonical face F → AreAllReached face F }
 {}

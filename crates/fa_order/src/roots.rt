@@ -8,9 +8,8 @@ ghost use Rattle.fa_core.specs.Canonical.{IsCanonical};
 ghost use Rattle.fa_core.specs.Member.{Regroups};
 ghost use Rattle.fa_core.specs.declared.boxes.BoxDef.{BoxDef};
 ghost use Rattle.fa_merge.specs.Reached.{AreAllReached};
-ghost use Rattle.fa_merge.specs.Reordered.{IsOrderOf};
 ghost use Rattle.fa_order.specs.Kinds.{HasRootKinds};
-ghost use Rattle.fa_order.specs.Placing.{IsPlaced, IsWalkOrder};
+ghost use Rattle.fa_order.specs.Placing.{DoEdgesGive, IsPlaced, IsWalkOrder};
 
 use crate::referring::{references, root_signatures};
 use crate::walking::walk;
@@ -22,10 +21,10 @@ use fore_base::memory::Mem;
 use std::alloc::Global;
 
 /// The forest with its roots in the order of the walk: depth first from the variables in order of number, through the
-/// slots of each cell in order, each root placed at its first visit. Each root is reached. So far only for forests
-/// without box edges. Err is want of memory.
+/// slots of each cell in order, each root placed at its first visit; where nothing is left to visit, on along the ways
+/// back. Each root is reached, and box edges that lead back give something. Err is want of memory.
 pub fn place_roots(alloc: Global, forest: &Sound) -> Mem<Sound>
-    requires plain { Every HasNoBoxes forest.now.forest.autos }
+    requires giving { DoEdgesGive forest.now.face forest.now.forest }
     requires kinds { HasRootKinds forest.now.face forest.now.forest }
     requires reached { AreAllReached forest.now.face forest.now.forest }
     ensures canonical { IfOk result (λ made. IsCanonical made.face made.forest) }
@@ -35,7 +34,7 @@ pub fn place_roots(alloc: Global, forest: &Sound) -> Mem<Sound>
     ensures regroups { IfOk result (λ made. (T : List BoxDef) → Regroups T forest.now.forest made.forest) }
     ensures vars { IfOk result (λ made. length made.forest.vars ≡ length forest.now.forest.vars) }
     ensures data { IfOk result (λ made. made.forest.data_vars ≡ forest.now.forest.data_vars) }
-    ensures plain { IfOk result (λ made. Every HasNoBoxes made.forest.autos) }
+    ensures plain { Every HasNoBoxes forest.now.forest.autos → IfOk result (λ made. Every HasNoBoxes made.forest.autos) }
     ensures same { IfOk result (λ made. IsCanonical forest.now.face forest.now.forest
         → made.forest ≡ forest.now.forest) }
 {

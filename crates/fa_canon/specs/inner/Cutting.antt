@@ -1,18 +1,20 @@
 -- Knots cut out of the trees of shared roots, root by root and place by place: on one tree of each component.
-use Rattle.std.specs.Prelude.{◌≡◌, ◌≢◌, ◌<◌, ◌≤◌, ◌⊎◌, ℕ, List, [], ◌∷◌, ◌++◌, length, Option, Some, slice_get}
-use Rattle.std.specs.Prelude.{slice_set}
-use Rattle.fore_base.specs.Lists.{IsIn, Every}
+use Rattle.std.specs.Prelude.{◌≡◌, ◌≢◌, ◌<◌, ◌≤◌, ◌⊎◌, ℕ, zero, suc, Bool, true, false, List, [], ◌∷◌, ◌++◌, length}
+use Rattle.std.specs.Prelude.{Option, Some, slice_get, slice_set}
+use Rattle.fore_base.specs.Lists.{IsIn}
 use Rattle.fore_base.specs.declared.store.Datum.{Datum}
 use Rattle.ta_core.specs.Arity.{child_slots}
 use Rattle.ta_core.specs.declared.symbol.Slot.{Slot}
-use Rattle.ta_core.specs.declared.symbol.Symbol.TheVariants.{Ref, Cell}
+use Rattle.ta_core.specs.declared.symbol.Slot.TheVariants.{Field, Link, Hook}
+use Rattle.ta_core.specs.declared.symbol.Symbol.{Symbol}
+use Rattle.ta_core.specs.declared.symbol.Symbol.TheVariants.{Null, Uninit, Dangling, Ref, Cell}
 use Rattle.ta_core.specs.declared.tree.Tree.{Tree, out-Tree, roll-Tree}
 use Rattle.fa_core.specs.declared.forest.Forest.{Forest}
 use Rattle.fa_core.specs.declared.forest.Target.{Target}
 use Rattle.fa_core.specs.declared.forest.Target.TheVariants.{At}
-use Rattle.fa_core.specs.Boxless.{IsField}
 use Rattle.fa_core.specs.Canonical.{IsKnot, IsShared, RefersTo}
 use Rattle.fa_core.specs.Filled.{Choice}
+use Rattle.fa_canon.specs.inner.Merges.{IsSettled}
 
 -- Trees.
 
@@ -28,14 +30,30 @@ with_child t p u = roll-Tree (record { symbol = (out-Tree t).symbol; children = 
 abbrev pub ref_leaf : ℕ → Tree
 ref_leaf r = roll-Tree (record { symbol = Ref r; children = [] })
 
--- a cell stands at the top, whose slots are fields, with a child for each
-pub record IsFieldCell (t : Tree) : Type 0 where
+-- a cell stands at the top, with a child for each of its fields and Links
+pub record IsRankedCell (t : Tree) : Type 0 where
   pub shape : ℕ
   pub datums : List Datum
   pub slots : List Slot
   pub symbol : (out-Tree t).symbol ≡ Cell shape datums slots
-  pub fields : Every IsField slots
   pub many : length (out-Tree t).children ≡ child_slots slots
+
+-- whether a field leads to the child at the place
+abbrev pub field_at : List Slot → ℕ → Bool
+field_at [] p = false
+field_at (Hook b ∷ ss) p = field_at ss p
+field_at (Field f ∷ ss) zero = true
+field_at (Field f ∷ ss) (suc p) = field_at ss p
+field_at (Link b ∷ ss) zero = false
+field_at (Link b ∷ ss) (suc p) = field_at ss p
+
+-- the same below a symbol
+abbrev pub has_field_at : Symbol → ℕ → Bool
+has_field_at Null p = false
+has_field_at Uninit p = false
+has_field_at Dangling p = false
+has_field_at (Ref r) p = false
+has_field_at (Cell s ds ss) p = field_at ss p
 
 -- us is ts with the child at place p of tree r as a last tree, and a reference to it in its place
 pub record IsCutOff (r p : ℕ) (ts us : List Tree) : Type 0 where
@@ -47,21 +65,21 @@ pub record IsCutOff (r p : ℕ) (ts us : List Tree) : Type 0 where
 
 -- What holds while knots are cut.
 
--- the child at place p of tree k, if it is a cell, does not refer to root k
+-- the child at place p of tree k, if a field leads to it and it is a cell, does not refer to root k
 abbrev pub IsLoose : List Tree → ℕ → ℕ → Type 0
-IsLoose ts k p = (t u : Tree) → slice_get ts k ≡ Some t → child_at t p ≡ Some u → (out-Tree u).symbol ≢ Ref k
-    → RefersTo u k → ⊥
+IsLoose ts k p = (t u : Tree) → slice_get ts k ≡ Some t → has_field_at (out-Tree t).symbol p ≡ true
+    → child_at t p ≡ Some u → (out-Tree u).symbol ≢ Ref k → RefersTo u k → ⊥
 
 -- place q of root k comes before place p of root r
 abbrev pub IsBefore : ℕ → ℕ → ℕ → ℕ → Type 0
 IsBefore k q r p = (k < r) ⊎ ((k ≡ r) × (q < p))
 
--- the first n roots are shared, each further one is a knot, and the children at the places before place p of root r are
--- loose
+-- the first n roots are shared or alone, each further one is a knot, and the children of shared roots at the places
+-- before place p of root r are loose
 pub record AreCut (vars : List Target) (n r p : ℕ) (ts : List Tree) : Type 0 where
-  pub shared : (k : ℕ) → k < n → IsShared vars ts k
+  pub settled : (k : ℕ) → k < n → IsSettled vars ts k
   pub knots : (k : ℕ) → n ≤ k → k < length ts → IsKnot vars ts k
-  pub loose : (k q : ℕ) → IsBefore k q r p → IsLoose ts k q
+  pub loose : (k q : ℕ) → IsBefore k q r p → IsShared vars ts k → IsLoose ts k q
 
 -- the same whichever trees are taken; variables are at the first n roots only
 pub record IsCutting (n r p : ℕ) (F : Forest) : Type 0 where

@@ -1,5 +1,5 @@
 -- Forests of which roots are merged, and what holds of their roots where none is left to merge.
-use Rattle.std.specs.Prelude.{◌≡◌, ◌≢◌, ◌<◌, ℕ, List, length, Some, slice_get}
+use Rattle.std.specs.Prelude.{◌≡◌, ◌≢◌, ◌<◌, ◌⊎◌, ℕ, List, length, Some, slice_get}
 use Rattle.fore_base.specs.Lists.{IsIn, Every}
 use Rattle.ta_core.specs.declared.tree.Tree.{Tree}
 use Rattle.fa_core.specs.declared.boxes.BoxDef.{BoxDef}
@@ -22,10 +22,10 @@ pub record IsLastMerge (F : Forest) (r : ℕ) : Type 0 where
   pub can : CanMerge F r
   pub last : (k : ℕ) → r < k → CanMerge F k → ⊥
 
--- the forests G and F group the same cells; G has no box edges, and the face, the number of pointer variables and the
--- data of F
+-- the forests G and F group the same cells; G has the face, the number of pointer variables and the data of F, and no
+-- box edges where F has none
 pub record IsRegrouped (F G : SoundForest) : Type 0 where
-  pub plain : Every HasNoBoxes G.forest.autos
+  pub plain : Every HasNoBoxes F.forest.autos → Every HasNoBoxes G.forest.autos
   pub face : G.face ≡ F.face
   pub vars : length G.forest.vars ≡ length F.forest.vars
   pub data_vars : G.forest.data_vars ≡ F.forest.data_vars
@@ -37,6 +37,10 @@ pub record IsAlone (vars : List Target) (ts : List Tree) (r : ℕ) : Type 0 wher
   pub no_var : IsIn (At r) vars → ⊥
   pub none : (j : ℕ) (u : Tree) → slice_get ts j ≡ Some u → j ≢ r → RefersTo u r → ⊥
 
--- each root is shared, whichever trees are taken
-abbrev pub AreShared : Forest → Type 0
-AreShared F = (ts : List Tree) → Choice F.autos ts → (r : ℕ) → r < length ts → IsShared F.vars ts r
+-- the root is shared, or alone
+abbrev pub IsSettled : List Target → List Tree → ℕ → Type 0
+IsSettled vars ts r = IsShared vars ts r ⊎ IsAlone vars ts r
+
+-- so is each root, whichever trees are taken
+abbrev pub AreSettled : Forest → Type 0
+AreSettled F = (ts : List Tree) → Choice F.autos ts → (r : ℕ) → r < length ts → IsSettled F.vars ts r

@@ -10,9 +10,10 @@ use Rattle.fa_core.specs.Member.{Regroups, RegroupsInto}
 use Rattle.fa_sound.specs.Soundness.{SoundForest}
 use Rattle.fa_sound.specs.Components.{component_at}
 
--- F regroups G, which has no box edges, and the face, the number of pointer variables and the data of F
+-- F regroups G, which has the face, the number of pointer variables and the data of F, and no box edges where F has
+-- none
 pub record IsPiece (F G : SoundForest) : Type 0 where
-  pub plain : Every HasNoBoxes G.forest.autos
+  pub plain : Every HasNoBoxes F.forest.autos → Every HasNoBoxes G.forest.autos
   pub face : G.face ≡ F.face
   pub vars : length G.forest.vars ≡ length F.forest.vars
   pub data_vars : G.forest.data_vars ≡ F.forest.data_vars

@@ -1,6 +1,4 @@
 use Rattle.std.proofs.Common.{◌≡◌, ◌<◌, ◌+◌, length, List, [], ◌∷◌, sym, subst, arith}
-use Rattle.fore_base.specs.Lists.{Every}
-use Rattle.fa_core.specs.Boxless.{HasNoBoxes}
 use Rattle.fa_sound.specs.Soundness.{SoundForest}
 use Rattle.fa_canon.specs.inner.Steps.{HasChosen, IsChosenAt, IsSplitEach}
 use Rattle.fa_canon.proofs.SplitSteps.{chosen_start, chosen_step, covers_long}
@@ -11,20 +9,18 @@ pub loop-root-init : goal.loop-root-init
 loop-root-init c =
     let F = c.args.forest in
     subst (λ (z : List SoundForest). IsSplitEach (HasChosen c.args.from) (F ∷ []) z) (sym c.in_ok-list.ensures)
-    (split_same (HasChosen c.args.from) F c.requires.plain (chosen_start c.args.from F c.requires.tops))
+    (split_same (HasChosen c.args.from) F (chosen_start c.args.from F c.requires))
 
 pub on_each-requires : goal.on_each-requires
 on_each-requires c =
     let F = c.args.forest in
     each_piece (HasChosen c.loop-root.root)
-    (λ (G : SoundForest). Every HasNoBoxes G.forest.autos × (c.loop-root.root < length G.forest.autos)) F
+    (λ (G : SoundForest). c.loop-root.root < length G.forest.autos) F
     c.loop-root.list c.loop-root.invariant
-    (λ G piece h. (
-      piece.plain,
-      (let l = covers_long F.forest G.forest h.0 in
-          let e : c.in_ok-count.count ≡ length F.forest.autos = rw c.forest-2.ensures at c.in_ok-count.ensures.value in
-          omega (arith, l, e, c.loop-root-test.true)),
-    ))
+    (λ G piece h.
+    (let l = covers_long F.forest G.forest h.0 in
+    let e : c.in_ok-count.count ≡ length F.forest.autos = rw c.forest-2.ensures at c.in_ok-count.ensures.value in
+    omega (arith, l, e, c.loop-root-test.true)))
 
 pub loop-root-preserved : goal.loop-root-preserved
 loop-root-preserved c =

@@ -23,6 +23,6 @@ returns-else-is_tied c =
     (λ made. IsSplitEach (HasCutAt s.count s.root (s.place + 1) s.width) (F ∷ []) made)
     (λ made e. subst (λ (z : List SoundForest). IsSplitEach (HasCutAt s.count s.root (s.place + 1) s.width) (F ∷ []) z)
     (sym e)
-    (split_same (HasCutAt s.count s.root (s.place + 1) s.width) F c.requires.0.0
+    (split_same (HasCutAt s.count s.root (s.place + 1) s.width) F
     (loose_child s.count s.root s.place s.width F c.known.ensures.sound c.requires ranked c.if-is_tied.ensures)))
     c.alone.ensures

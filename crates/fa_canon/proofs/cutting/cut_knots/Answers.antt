@@ -3,14 +3,14 @@ use Rattle.fa_sound.specs.Soundness.{SoundForest}
 use Rattle.fa_canon.specs.inner.Cutting.{IsCutting}
 use Rattle.fa_canon.specs.inner.Knots.{HasCut, IsReady}
 use Rattle.fa_canon.specs.inner.Steps.{IsSplitEach}
-use Rattle.fa_canon.proofs.Splits.{each_piece, split_same, split_twice, split_weaker}
+use Rattle.fa_canon.proofs.Splits.{each_piece, gives_on, split_same, split_twice, split_weaker}
 use Rattle.fa_canon.proofs.cutting.cut_knots.Goals as goal
 
 pub loop-root-init : goal.loop-root-init
 loop-root-init c =
     let F = c.args.forest in
     subst (λ (z : List SoundForest). IsSplitEach (HasCut c.args.count 0 0) (F ∷ []) z) (sym c.in_ok-list.ensures)
-    (split_same (HasCut c.args.count 0 0) F c.requires.0 (c.requires.1, c.requires.2))
+    (split_same (HasCut c.args.count 0 0) F (c.requires.1, c.requires.2))
 
 pub on_each-requires : goal.on_each-requires
 on_each-requires c =
@@ -18,7 +18,7 @@ on_each-requires c =
     let r = c.loop-root.root in
     each_piece (HasCut n r 0) (λ (G : SoundForest). IsReady n r 0 G × (r < n)) c.args.forest c.loop-root.list
     c.loop-root.invariant
-    (λ G piece h. ((piece.plain, h.0, h.1), c.loop-root-test.true))
+    (λ G piece h. ((gives_on c.args.forest G piece c.requires.0, h.0, h.1), c.loop-root-test.true))
 
 pub loop-root-preserved : goal.loop-root-preserved
 loop-root-preserved c =

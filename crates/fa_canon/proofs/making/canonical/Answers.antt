@@ -5,11 +5,12 @@ use Rattle.fa_core.specs.Boxless.{HasNoBoxes}
 use Rattle.fa_core.specs.Canonical.{IsCanonical}
 use Rattle.fa_core.specs.Covering.{Reduced}
 use Rattle.fa_core.specs.Member.{Regroups}
-use Rattle.fa_merge.specs.Reached.{NeverLeaks}
-use Rattle.fa_merge.proofs.LeaksDecided.{reached_never_leaks}
+use Rattle.fa_merge.specs.Reached.{AreAllReached, NeverLeaks}
+use Rattle.fa_merge.proofs.LeaksDecided.{all_never_leak}
+use Rattle.fa_order.proofs.CanonicalReached.{canonical_reached}
 use Rattle.fa_sound.specs.Soundness.{SoundForest}
 use Rattle.fa_canon.specs.inner.Finished.{IsFinished}
-use Rattle.fa_canon.proofs.Finishing.{never_leaks, union_of}
+use Rattle.fa_canon.proofs.Finishing.{union_of}
 use Rattle.fa_canon.proofs.Splits.{each_piece}
 use Rattle.fa_canon.proofs.making.canonical.Goals as goal
 
@@ -33,23 +34,20 @@ returns-clause-reduced g c =
     c.in_ok-made.ensures.split (λ G piece h. h.1)
 
 pub returns-clause-plain : goal.returns-clause-plain
-returns-clause-plain g c =
+returns-clause-plain g c plain =
     each_piece IsFinished (λ (s : SoundForest). Every HasNoBoxes s.forest.autos) c.args.forest.now c.in_ok-made.made
-    c.in_ok-made.ensures.split (λ G piece h. piece.plain)
+    c.in_ok-made.ensures.split (λ G piece h. piece.plain plain)
+
+pub returns-clause-reached : goal.returns-clause-reached
+returns-clause-reached g c =
+    each_piece IsFinished (λ (s : SoundForest). AreAllReached s.face s.forest) c.args.forest.now c.in_ok-made.made
+    c.in_ok-made.ensures.split (λ G piece h. canonical_reached G.face G.forest h.0)
 
 pub returns-clause-tight : goal.returns-clause-tight
 returns-clause-tight g c =
-    let F = c.args.forest.now in
-    each_piece IsFinished (λ (s : SoundForest). NeverLeaks s.face s.forest) F c.in_ok-made.made
+    each_piece IsFinished (λ (s : SoundForest). NeverLeaks s.face s.forest) c.args.forest.now c.in_ok-made.made
     c.in_ok-made.ensures.split
-    (λ G piece h T t.
-    never_leaks F.forest G.forest piece.regroups
-    (reached_never_leaks F.face F.forest c.requires.plain c.requires.reached) G.face.shapes.structs T)
-
-pub canonical_forests-requires-clause-tight : goal.canonical_forests-requires-clause-tight
-canonical_forests-requires-clause-tight g c κs within =
-    let F = c.args.forest.now in
-    reached_never_leaks F.face F.forest c.requires.plain c.requires.reached
+    (λ G piece h. all_never_leak G.face G.forest h.0.well_formed.filled (canonical_reached G.face G.forest h.0))
 
 pub returns-clause-face : goal.returns-clause-face
 returns-clause-face g c =

@@ -1,9 +1,11 @@
 use Rattle.fore_base.specs.Lists.{Every}
 use Rattle.ta_core.specs.Auto.{IsRanked}
-use Rattle.fa_canon.proofs.Finishing.{covered_both, root_kinds}
+use Rattle.fa_canon.proofs.Finishing.{can_reach, covered_both, root_kinds}
 use Rattle.fa_canon.proofs.MergedRoots.{regrouped_on}
-use Rattle.fa_canon.proofs.Settled.{all_reached}
 use Rattle.fa_canon.proofs.making.finish.Goals as goal
+
+pub place_roots-requires-clause-giving : goal.place_roots-requires-clause-giving
+place_roots-requires-clause-giving g c = c.requires.can.0.0
 
 pub place_roots-requires-clause-kinds : goal.place_roots-requires-clause-kinds
 place_roots-requires-clause-kinds g c =
@@ -15,7 +17,7 @@ pub place_roots-requires-clause-reached : goal.place_roots-requires-clause-reach
 place_roots-requires-clause-reached g c =
     let F = c.args.forest.now in
     let ranked : Every IsRanked F.forest.autos = c.known.ensures.ranked in
-    all_reached F.face F.forest c.known.ensures.sound ranked c.requires.can.0.0 c.requires.can.1
+    can_reach c.args._count F c.known.ensures.sound ranked c.requires.can
 
 pub returns-clause-regrouped : goal.returns-clause-regrouped
 returns-clause-regrouped g c =

@@ -1,22 +1,19 @@
 use Rattle.std.proofs.Common.{length, [], ◌∷◌}
 use Rattle.std.proofs.lemmas.Result.{IfOk-weaker}
-use Rattle.fore_base.specs.Lists.{Every}
-use Rattle.ta_core.specs.Auto.{IsRanked}
 use Rattle.fa_canon.specs.inner.Finished.{CanFinish, IsFinished}
 use Rattle.fa_canon.specs.inner.Knots.{HasCut, IsReady}
 use Rattle.fa_canon.specs.inner.Steps.{HasChosen, IsSplitEach}
-use Rattle.fa_canon.proofs.Finishing.{never_leaks, ready_start}
-use Rattle.fa_canon.proofs.Splits.{each_piece, split_twice}
+use Rattle.fa_canon.proofs.Finishing.{ready_start}
+use Rattle.fa_canon.proofs.Splits.{each_piece, gives_on, split_twice}
 use Rattle.fa_canon.proofs.making.made_canonical.Goals as goal
 
 pub on_each-requires : goal.on_each-requires
 on_each-requires g c =
     let F = c.args.forest in
-    let ranked : Every IsRanked F.forest.autos = c.known.ensures.ranked in
     each_piece (HasChosen (length F.forest.autos)) (IsReady c.in_ok-count.count 0 0) F c.in_ok-chosen.chosen
     c.in_ok-chosen.ensures
     (λ G piece h. ready_start c.in_ok-count.count F G (rw c.forest-2.ensures at c.in_ok-count.ensures.value)
-    c.known.ensures.sound ranked c.requires.plain c.requires.none c.requires.tight piece h)
+    c.known.ensures.sound c.requires.none c.requires.giving piece h)
 
 pub finish_each-requires-clause-can : goal.finish_each-requires-clause-can
 finish_each-requires-clause-can g c κs within =
@@ -25,7 +22,16 @@ finish_each-requires-clause-can g c κs within =
     each_piece (HasCut n n 0) (CanFinish n) F c.in_ok-cut.cut
     (split_twice (HasChosen (length F.forest.autos)) (HasCut n n 0) (HasCut n n 0) (F ∷ []) c.in_ok-chosen.chosen
     c.in_ok-cut.cut (λ x G H i p a q b. b) c.in_ok-chosen.ensures c.in_ok-cut.ensures)
-    (λ G piece h. ((piece.plain, h.0, h.1), never_leaks F.forest G.forest piece.regroups c.requires.tight))
+    (λ G piece h. (
+      (gives_on F G piece c.requires.giving, h.0, h.1),
+      record {
+        from = F;
+        sound = c.known.ensures.sound;
+        gives = c.requires.giving;
+        reached = c.requires.reached;
+        piece = piece;
+      },
+    ))
 
 pub returns : goal.returns
 returns g c =

@@ -12,17 +12,16 @@ returns c =
     let F = c.args.forest.now in
     let G = c.in_ok-made.made in
     let ranked : Every IsRanked F.forest.autos = c.known.ensures.ranked in
-    let value = c.in_ok-made.ensures.plain c.requires.plain in
+    let value = c.in_ok-made.ensures.value in
     record {
       regrouped = record {
-        plain = no_boxes F.face F.forest G.forest c.args.root c.known.ensures.sound ranked c.requires.plain
-            c.requires.can value;
+        plain = λ p. no_boxes F.face F.forest G.forest c.args.root c.known.ensures.sound ranked c.requires p
+            (c.in_ok-made.ensures.plain p);
         face = c.in_ok-made.ensures.face;
         vars = ap length c.in_ok-made.ensures.vars ∙ length-map F.forest.vars (placed_leaf (lowering c.args.root));
-        data_vars = ap (λ x. x.data_vars) value.2;
+        data_vars = value.2.data_vars;
         regroups = c.in_ok-made.ensures.regroups;
         whole = c.in_ok-made.ensures.whole;
       };
-      fewer = fewer_roots F.face F.forest G.forest c.args.root c.known.ensures.sound ranked c.requires.plain
-          c.requires.can value;
+      fewer = fewer_roots F.face F.forest G.forest c.args.root c.known.ensures.sound ranked c.requires value;
     }

@@ -16,7 +16,7 @@ pub returns-in-None-clause-regrouped : goal.returns-in-None-clause-regrouped
 returns-in-None-clause-regrouped c =
     let F = c.args.forest.now in
     IfOk-weaker c.copy.result (λ made. made ≡ F) (IsRegrouped F)
-    (λ made e. subst (λ (z : SoundForest). IsRegrouped F z) (sym e) (regrouped_same F c.requires)) c.copy.ensures
+    (λ made e. subst (λ (z : SoundForest). IsRegrouped F z) (sym e) (regrouped_same F)) c.copy.ensures
 
 pub returns-in-None-clause-none : goal.returns-in-None-clause-none
 returns-in-None-clause-none c =

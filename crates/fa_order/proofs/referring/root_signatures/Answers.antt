@@ -1,4 +1,4 @@
-use Rattle.std.proofs.Common.{ℕ, suc, zero, ◌≤◌, List, [], ◌∷◌, take, length, sym, arith}
+use Rattle.std.proofs.Common.{ℕ, suc, zero, ◌≤◌, List, [], ◌∷◌, take, length, arith}
 use Rattle.fore_base.proofs.ListLemmas.{paired_long, paired_push}
 use Rattle.fa_order.specs.inner.Backs.{IsSigned}
 use Rattle.fa_merge.proofs.Signatures.{one_more}

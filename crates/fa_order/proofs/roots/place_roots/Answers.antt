@@ -11,7 +11,7 @@ use Rattle.fa_merge.proofs.ReorderedSound.{new_plain}
 use Rattle.fa_order.specs.Placing.{IsPlaced}
 use Rattle.fa_order.proofs.BothOk.{both_ok}
 use Rattle.fa_order.proofs.Concluding.{placed_canonical}
-use Rattle.fa_order.proofs.NoWays.{plain_gives}
+use Rattle.fa_order.proofs.NoWays.{ways_give}
 use Rattle.fa_order.proofs.WalkOrder.{is_order, in_order_walks, reordered_same}
 use Rattle.fa_order.proofs.roots.place_roots.Goals as goal
 
@@ -22,7 +22,7 @@ reorder-requires c =
     let sound = c.known.ensures.sound in
     let ranked : Every IsRanked F.autos = c.known.ensures.ranked in
     subst (IsOrderOf F) (sym c.as_slice.ensures)
-    (is_order face F sound (plain_gives face F c.requires.plain) c.requires.reached
+    (is_order face F sound (ways_give face F c.requires.giving) c.requires.reached
     c.in_ok-order.order c.in_ok-order.ensures)
 
 pub returns-clause-canonical : goal.returns-clause-canonical
@@ -33,14 +33,14 @@ returns-clause-canonical c =
     let order = c.in_ok-order.order in
     let ranked : Every IsRanked F.autos = c.known.ensures.ranked in
     let all : IsOrderOf F order =
-    is_order face F sound (plain_gives face F c.requires.plain) c.requires.reached
+    is_order face F sound (ways_give face F c.requires.giving) c.requires.reached
     order c.in_ok-order.ensures in
     both_ok c.reorder.result (λ s. s.forest ≡ reordered c.as_slice.result.now F) (λ s. s.face ≡ face)
     (λ s. IsCanonical s.face s.forest)
     (λ s value same.
     subst (λ (x : Face). IsCanonical x s.forest) (sym same)
     (subst (IsCanonical face) (sym (value ∙ ap (λ (ks : List ℕ). reordered ks F) c.as_slice.ensures))
-    (placed_canonical face F sound ranked c.requires.plain c.requires.kinds order c.in_ok-order.ensures all)))
+    (placed_canonical face F sound ranked c.requires.kinds order c.in_ok-order.ensures all)))
     c.reorder.ensures.value c.reorder.ensures.face
 
 pub returns-clause-value : goal.returns-clause-value
@@ -51,27 +51,27 @@ returns-clause-value c =
     let order = c.in_ok-order.order in
     let ranked : Every IsRanked F.autos = c.known.ensures.ranked in
     let all : IsOrderOf F order =
-    is_order face F sound (plain_gives face F c.requires.plain) c.requires.reached
+    is_order face F sound (ways_give face F c.requires.giving) c.requires.reached
     order c.in_ok-order.ensures in
     IfOk-weaker c.reorder.result (λ s. s.forest ≡ reordered c.as_slice.result.now F) (λ s. IsPlaced face F s.forest)
     (λ s value. (order, all, c.in_ok-order.ensures, value ∙ ap (λ (ks : List ℕ). reordered ks F) c.as_slice.ensures))
     c.reorder.ensures.value
 
 pub returns-clause-plain : goal.returns-clause-plain
-returns-clause-plain c =
+returns-clause-plain c plain =
     let F = c.args.forest.now.forest in
     let face = c.args.forest.now.face in
     let sound = c.known.ensures.sound in
     let order = c.in_ok-order.order in
     let ranked : Every IsRanked F.autos = c.known.ensures.ranked in
     let all : IsOrderOf F order =
-    is_order face F sound (plain_gives face F c.requires.plain) c.requires.reached
+    is_order face F sound (ways_give face F c.requires.giving) c.requires.reached
     order c.in_ok-order.ensures in
     IfOk-weaker c.reorder.result (λ s. s.forest ≡ reordered c.as_slice.result.now F)
     (λ s. Every HasNoBoxes s.forest.autos)
     (λ s value. subst (λ (x : Forest). Every HasNoBoxes x.autos)
     (sym (value ∙ ap (λ (ks : List ℕ). reordered ks F) c.as_slice.ensures))
-    (new_plain face F order all ranked sound c.requires.plain))
+    (new_plain face F order all ranked sound plain))
     c.reorder.ensures.value
 
 pub returns-clause-same : goal.returns-clause-same

@@ -1,7 +1,5 @@
-use Rattle.std.proofs.Common.{◌≡◌, ◌++◌, ◌∷◌, List, drop, ap, sym, subst}
+use Rattle.std.proofs.Common.{◌++◌, ap}
 use Rattle.std.proofs.lemmas.Result.{IfOk-weaker}
-use Rattle.ta_core.specs.declared.symbol.Slot.{Slot}
-use Rattle.fa_order.specs.inner.Showing.{states_at}
 use Rattle.fa_order.proofs.showing.push_end.Goals as goal
 
 pub returns-in-Link-clause-states : goal.returns-in-Link-clause-states

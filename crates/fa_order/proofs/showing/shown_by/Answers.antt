@@ -1,4 +1,4 @@
-use Rattle.std.proofs.Common.{◌∙◌, ◌<◌, ℕ, List, ap, subst, sym}
+use Rattle.std.proofs.Common.{◌∙◌, ◌<◌, ℕ, List, ap, subst}
 use Rattle.fore_base.proofs.ListLemmas.{every_in}
 use Rattle.ta_core.specs.Auto.{IsRankedRule}
 use Rattle.ta_core.specs.Language.{HasTree}
@@ -6,7 +6,7 @@ use Rattle.fa_core.specs.Filled.{HasSome}
 use Rattle.fa_merge.proofs.Signatures.{signatures_at}
 use Rattle.fore_base.proofs.ListLemmas.{in_from_place}
 use Rattle.fa_order.specs.inner.Showing.{IsShownEnd, states_under}
-use Rattle.fore_base.specs.Lists.{Every, Paired}
+use Rattle.fore_base.specs.Lists.{Paired}
 use Rattle.fa_order.proofs.Shows.{children_have_trees, top_shown, under_every}
 use Rattle.fa_order.proofs.showing.shown_by.Goals as goal
 

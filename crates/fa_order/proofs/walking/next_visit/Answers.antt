@@ -1,4 +1,4 @@
-use Rattle.std.proofs.Common.{ap, ◌∙◌, inl, inr}
+use Rattle.std.proofs.Common.{ap, ◌∙◌, inl}
 use Rattle.fa_order.specs.inner.Stacks.{behind}
 use Rattle.fa_order.proofs.Weights.{behind_last}
 use Rattle.fa_order.proofs.walking.next_visit.Goals as goal

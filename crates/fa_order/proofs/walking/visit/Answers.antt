@@ -2,7 +2,7 @@ use Rattle.std.proofs.Common.{ap, sym, ◌∙◌, length}
 use Rattle.fa_back.proofs.RootMarks.{has_in}
 use Rattle.fa_core.specs.Ways.{has}
 use Rattle.fa_core.proofs.Counts.{below_both}
-use Rattle.fa_order.specs.inner.Stacks.{behind, nth_refs, weight}
+use Rattle.fa_order.specs.inner.Stacks.{behind, nth_refs}
 use Rattle.fa_order.proofs.Weights.{one_less, visit_old, visit_new, refs_below}
 use Rattle.fa_order.proofs.walking.visit.Goals as goal
 

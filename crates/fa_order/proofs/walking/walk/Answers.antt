@@ -1,8 +1,4 @@
-use Rattle.std.proofs.Common.{◌<◌, ◌∷◌, List, ℕ, Option, length, ap, sym, subst, ◌∙◌}
-use Rattle.fa_core.specs.References.{AllBelow}
-use Rattle.fa_order.specs.Placing.{PlacingOn}
-use Rattle.fa_order.specs.inner.Backs.{GivesBy, IsNext, LeadsBy}
-use Rattle.fa_order.specs.inner.Stacks.{behind, nth_refs, weight}
+use Rattle.fa_order.specs.inner.Stacks.{behind}
 use Rattle.fa_order.proofs.NextVisits.{next_below, next_ends, next_falls, next_goes}
 use Rattle.fa_order.proofs.walking.walk.Goals as goal
 

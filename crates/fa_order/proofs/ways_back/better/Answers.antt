@@ -1,5 +1,4 @@
-use Rattle.std.proofs.Common.{◌≡◌, Some, true≢false, sym, subst, ◌∙◌}
-use Rattle.fa_order.specs.inner.Backs.{IsLeastIn, fields_to}
+use Rattle.std.proofs.Common.{true≢false, sym, ◌∙◌}
 use Rattle.fa_order.proofs.OpenBacks.{closed_better, lesser_better, none_better}
 use Rattle.fa_order.proofs.ways_back.better.Goals as goal
 

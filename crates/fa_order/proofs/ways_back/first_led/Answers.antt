@@ -1,5 +1,5 @@
-use Rattle.std.proofs.Common.{true≢false, sym, ◌∙◌, get_or, take}
-use Rattle.fore_base.specs.Lists.{IsIn, Every}
+use Rattle.std.proofs.Common.{true≢false, sym, ◌∙◌}
+use Rattle.fore_base.specs.Lists.{IsIn}
 use Rattle.fore_base.proofs.ListLemmas.{every_in}
 use Rattle.fa_order.specs.inner.Backs.{SignLeads}
 use Rattle.fa_order.proofs.OpenBacks.{first_found, got, more_every, whole_every}

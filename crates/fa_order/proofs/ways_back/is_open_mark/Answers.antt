@@ -1,4 +1,4 @@
-use Rattle.std.proofs.Common.{Bool, true, false, not, inl, inr, refl, true≢false, sym, ap, ◌∙◌, ◌≡◌}
+use Rattle.std.proofs.Common.{inl, refl, true≢false, sym, ◌∙◌}
 use Rattle.fa_order.proofs.OpenBacks.{none_or_some}
 use Rattle.fa_order.proofs.ways_back.is_open_mark.Goals as goal
 use Rattle.fa_order.proofs.ways_back.is_open_mark.Goals.{else-mark-via-then-mark+else-not-is_in, else-mark-via-else-mark}

@@ -1,5 +1,3 @@
-use Rattle.std.proofs.Common.{◌++◌, ◌∷◌, [], List, ℕ, take, subst, sym, ◌∙◌, ap}
-use Rattle.fa_order.specs.inner.Backs.{IsLeastIn, fields_to}
 use Rattle.fa_order.proofs.LeastFields.{fields_more, fields_same}
 use Rattle.fa_order.proofs.ways_back.least_field.Goals as goal
 use Rattle.fa_order.proofs.ways_back.least_field.Goals.{then-mark-root, else-mark-root}

@@ -17,7 +17,7 @@ returns-then-has_one_top c =
     let top = rw here at (c.has_one_top.ensures.0 c.if-has_one_top.true) in
     IfOk-weaker c.alone.result (λ made. made ≡ F ∷ []) (λ made. IsSplitEach chosen (F ∷ []) made)
     (λ made e. subst (λ (z : List SoundForest). IsSplitEach chosen (F ∷ []) z) (sym e)
-    (split_same chosen F c.requires.0 (chosen_already r F.forest top)))
+    (split_same chosen F (chosen_already r F.forest top)))
     c.alone.ensures
 
 pub returns : goal.returns
@@ -26,5 +26,5 @@ returns c =
     let e = c.in_ok-made.ensures in
     let ranked : Every IsRanked F.forest.autos = c.known.ensures.ranked in
     divided (λ (x y : SoundForest). IsChosenAt c.args.self.now.root x.forest y.forest) F c.in_ok-made.made
-    (e.plain c.requires.0) e.face e.vars e.regroups e.whole
-    (chosen_each F.forest c.args.self.now.root c.in_ok-made.made c.requires.1 ranked e.value)
+    e.plain e.face e.vars e.regroups e.whole
+    (chosen_each F.forest c.args.self.now.root c.in_ok-made.made c.requires ranked e.value)
