@@ -20,9 +20,9 @@ use std::thread::Threads;
 use ta_core::auto::Auto;
 use ta_reduce::reducing::reduce;
 
-/// The forest with each component reduced: the same languages, component by component, the same targets and data. Where
-/// the forest is canonical, so is the result. The crew runs 1 to 64 jobs and has no bearing on the answer. Err is want
-/// of memory.
+/// The forest with each component reduced: the same languages, component by component, the same targets and data. Box
+/// edges are symbols: where there were none there are none. Where the forest is canonical, so is the result. The crew
+/// runs 1 to 64 jobs and has no bearing on the answer. Err is want of memory.
 pub fn reduce_forest<R: Threads + Sync, G: Gate>(
     rt: &R,
     alloc: Global,
@@ -30,12 +30,12 @@ pub fn reduce_forest<R: Threads + Sync, G: Gate>(
     crew: &Crew<'_, G>,
 ) -> Mem<Sound>
     requires jobs { IsJobs crew.now.jobs }
-    requires plain { Every HasNoBoxes forest.now.forest.autos }
     ensures covers { IfOk result (λ made. Covers made.forest forest.now.forest) }
     ensures covered { IfOk result (λ made. Covers forest.now.forest made.forest) }
     ensures reduced { IfOk result (λ made. Reduced made.forest) }
     ensures face { IfOk result (λ made. made.face ≡ forest.now.face) }
-    ensures plain { IfOk result (λ made. Every HasNoBoxes made.forest.autos) }
+    ensures plain { Every HasNoBoxes forest.now.forest.autos
+        → IfOk result (λ made. Every HasNoBoxes made.forest.autos) }
     ensures canonical { IfOk result (λ made. IsCanonical forest.now.face forest.now.forest
         → IsCanonical made.face made.forest) }
 {

@@ -84,7 +84,7 @@ returns-clause-reduced g c =
     c.of.ensures.forest
 
 pub returns-clause-plain : goal.returns-clause-plain
-returns-clause-plain g c =
+returns-clause-plain g c plain =
     let F = c.args.forest.now.forest in
     let face = c.args.forest.now.face in
     let h : Paired IsReduction F.autos c.in_ok-autos.autos = rw (c.as_slice.ensures, c.forest.ensures) at
@@ -97,7 +97,7 @@ returns-clause-plain g c =
     vars datums in
     IfOk-weaker c.of.result (λ s. s.forest ≡ _) (λ s. Every HasNoBoxes s.forest.autos)
     (λ s e. subst (λ (z : Forest). Every HasNoBoxes z.autos) (sym (e ∙ made))
-    (plain_made face F c.in_ok-autos.autos h c.in_ok-autos.ensures.ranked c.requires.plain))
+    (plain_made face F c.in_ok-autos.autos h c.in_ok-autos.ensures.ranked plain))
     c.of.ensures.forest
 
 pub returns-clause-canonical : goal.returns-clause-canonical
