@@ -1,0 +1,2 @@
+mod Repeated
+mod Rows

@@ -1,0 +1,79 @@
+// What each kind of row asks.
+//
+// - `program | KIND N`: the program, `\n` for each newline.
+// - `lines | KIND N`: how many lines it has.
+// - `accepted | KIND N`: of the programs with 1 to N phases, how many the front end accepts.
+// - `boxes | KIND N`: how many boxes the file of boxes has, over the structs of the program.
+
+use crate::reading::{accepted, boxes};
+use anyhow::{Context, Result, bail};
+use fore_base::memory::Mem;
+use fore_base::text::Text;
+use fore_gen::generate;
+use fore_words::{Asked, Kind, read_words};
+use row_kit::Answers;
+use row_texts::shown;
+use std::alloc::Global;
+use std::thread::Threads;
+
+/// What is known of generated programs.
+#[derive(Clone, Copy)]
+pub struct Kinds;
+
+impl Answers for Kinds {
+    fn answer<R: Threads + Sync>(
+        &self,
+        _rt: &R,
+        alloc: Global,
+        head: &str,
+        texts: &[&str],
+    ) -> Result<String> {
+        let text = texts.first().context("no text")?;
+        let (kind, phases) = asked(alloc, text)?;
+        let mut out = Text::new(alloc);
+        match head {
+            "program" => put_program(alloc, &mut out, kind, phases)?,
+            "lines" => out.put_number(lines(alloc, kind, phases)?)?,
+            "accepted" => out.put_number(accepted(alloc, kind, phases)?)?,
+            "boxes" => out.put_number(boxes(alloc, kind, phases)?)?,
+            _ => bail!("no such kind"),
+        }
+        shown(alloc, &out)
+    }
+}
+
+/// The kind and the phases that the row names, as the words of the command line name them.
+fn asked(alloc: Global, text: &str) -> Result<(Kind, u32)> {
+    let mut words = Vec::new(alloc);
+    words.push(String::from_str(alloc, "gen")?)?;
+    for word in text.split(' ') {
+        words.push(String::from_str(alloc, word)?)?;
+    }
+    match read_words(alloc, words.as_slice()) {
+        Ok(Asked::Gen { kind, phases }) => Ok((kind, phases)),
+        _ => bail!("no kind and phases"),
+    }
+}
+
+fn put_program(alloc: Global, out: &mut Text, kind: Kind, phases: u32) -> Mem<()> {
+    let program = generate(alloc, kind, phases)?;
+    for byte in program.as_slice() {
+        if *byte == b'\n' {
+            out.put(b"\\n")?;
+        } else {
+            out.put(&[*byte])?;
+        }
+    }
+    Ok(())
+}
+
+fn lines(alloc: Global, kind: Kind, phases: u32) -> Mem<u64> {
+    let program = generate(alloc, kind, phases)?;
+    let mut count: u64 = 0;
+    for byte in program.as_slice() {
+        if *byte == b'\n' {
+            count = count.saturating_add(1);
+        }
+    }
+    Ok(count)
+}
