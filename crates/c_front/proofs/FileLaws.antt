@@ -1,9 +1,6 @@
 -- The bytes of a file are those of one program, or break one first rule, and not both.
-use Rattle.std.proofs.Common.{◌≡◌, ◌≢◌, ◌≤◌, ◌⊎◌, inl, inr, ℕ, List, [], ◌∷◌, ◌++◌, length, sym, ◌∙◌, ap, subst, refl}
-use Rattle.std.proofs.Common.{arith, Option, Some, None, Result, Ok, Err, IfOk, IfErr}
-use Rattle.std.specs.Option.{option_map}
-use Rattle.std.proofs.lemmas.Option.{slice_get_cases}
-use Rattle.fore_base.specs.declared.limits.TheConstants.{TOKENS}
+use Rattle.std.proofs.Common.{◌≡◌, ◌≢◌, ◌⊎◌, inl, inr, ℕ, List, sym, ◌∙◌, ap, subst, refl}
+use Rattle.std.proofs.Common.{Result, Ok, Err, IfOk, IfErr}
 use Rattle.fore_base.specs.declared.place.Place.{Place}
 use Rattle.c_ast.specs.declared.items.Unit as whole
 use Rattle.c_grammar.specs.declared.fault.SyntaxFault.{SyntaxFault}
@@ -18,15 +15,9 @@ use Rattle.c_lexer.specs.declared.fault.LexFault.TheVariants as lexical
 use Rattle.c_lexer.specs.declared.token.Token.{Token}
 use Rattle.c_parser.proofs.ParseLemmas.{one_parse, parsed_or_fault, one_fault}
 use Rattle.c_parser.specs.Parses as parses
-use Rattle.c_sizes.proofs.RuleCosts.{steps_within}
-use Rattle.c_types.specs.OneWay.{most_steps}
 use Rattle.c_types.specs.Program.{Program}
-use Rattle.c_typing.proofs.Breaching.{breaches-append, at-Overflows, fault_at}
 use Rattle.c_typing.proofs.TypingLaws as types
-use Rattle.c_typing.specs.Globals.{globals_of}
-use Rattle.c_typing.specs.ItemSites.{items_sites, nothing_seen, all_seen}
-use Rattle.c_typing.specs.Sites.{Ends, Overflows}
-use Rattle.c_typing.specs.Typing.{TypedOf, IsFirstFault, breaches, breaches_of, breaches_at}
+use Rattle.c_typing.specs.Typing.{TypedOf, IsFirstFault}
 use Rattle.c_typing.specs.declared.fault.TypeFault.{TypeFault}
 use Rattle.c_typing.specs.declared.fault.TypeFault.TheVariants as typing
 use Rattle.c_front.specs.declared.broken.Broken.{Broken}
@@ -169,52 +160,3 @@ pub finds_all : (bytes : List ℕ) (r : Result Program FileFault) → IfOk r (Is
 finds_all bytes (Ok q) ok err b is = absurd (program_or_breach bytes q b ok is)
 finds_all bytes (Err (Breaks c)) ok err b is = inl (ap (λ x. Err (Breaks x)) (one_breach bytes c b err is))
 finds_all bytes (Err Memory) ok err b is = inr refl
-
--- A program has no more acts, atoms and Closes than a file may have tokens: its tokens are within the limit, since it
--- breaks no rule.
-
-nil_left : {X : Type 0} (xs ys : List X) → xs ++ ys ≡ [] → xs ≡ []
-nil_left [] ys e = refl
-nil_left (x ∷ xs) ys e = absurd (cc e)
-
-nil_right : {X : Type 0} (xs ys : List X) → xs ++ ys ≡ [] → ys ≡ []
-nil_right [] ys e = e
-nil_right (x ∷ xs) ys e = absurd (cc e)
-
-no_place : (over : Option Place) → fault_at (typing.Limit 8) over ≡ [] → over ≡ None
-no_place None e = refl
-no_place (Some at) e = absurd (cc e)
-
-no_overflow : (u : whole.Unit) → breaches u ≡ [] → u.over ≡ None
-unfolding breaches
-no_overflow u e =
-    let g = globals_of u.items in
-    let first = items_sites g nothing_seen u.items in
-    let end = Ends (all_seen nothing_seen u.items).main u.end in
-    let last : breaches_of g (end ∷ Overflows u.over ∷ []) ≡ [] =
-    nil_right (breaches_of g first) (breaches_of g (end ∷ Overflows u.over ∷ []))
-    (sym (breaches-append g first (end ∷ Overflows u.over ∷ [])) ∙ e) in
-    let alone : breaches_at g (Overflows u.over) ≡ [] =
-    nil_left (breaches_at g (Overflows u.over)) []
-    (nil_right (breaches_at g end) (breaches_at g (Overflows u.over) ++ []) last) in
-    no_place u.over (sym (at-Overflows g u.over) ∙ alone)
-
-within_limit : (ts : List Token) → parses.over_of ts ≡ None → length ts ≤ 65535
-within_limit ts e = elim (slice_get_cases ts 65535).1 [
-  | inl h ↦ absurd (let f : option_map place_of (Some h.0) ≡ None = sym (ap (option_map place_of) h.2) ∙ e in cc f)
-  | inr h ↦ h.0
-]
-  where
-    place_of : Token → Place
-    place_of t = t.at
-
-pub short : (bytes : List ℕ) (p : Program) → IsProgramOf bytes p → most_steps p ≤ TOKENS
-short bytes p f =
-    let over : f.unit.over ≡ None = no_overflow f.unit f.typed.0 in
-    let tokens : length f.tokens ≤ 65535 = within_limit f.tokens (sym f.parsed.3 ∙ over) in
-    omega (arith, tokens, steps_within f.tokens f.unit f.parsed.1, ap most_steps f.typed.1)
-
-pub short_program : (bytes : List ℕ) (r : Result Program FileFault) → IfOk r (IsProgramOf bytes)
-    → IfOk r (λ p. most_steps p ≤ TOKENS)
-short_program bytes (Ok p) is = short bytes p is
-short_program bytes (Err e) is = tt

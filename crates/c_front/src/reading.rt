@@ -1,8 +1,7 @@
 //! From the bytes to the program.
 ghost use Rattle.std.specs.Prelude.{◌≡◌, ◌≤◌, ◌⊎◌, ℕ, List, length, Ok, Err, IfOk, IfErr};
-ghost use Rattle.fore_base.specs.declared.limits.TheConstants.{FILE_BYTES, TOKENS};
+ghost use Rattle.fore_base.specs.declared.limits.TheConstants.{FILE_BYTES};
 ghost use Rattle.c_lexer.specs.Tokens.{Tokens};
-ghost use Rattle.c_types.specs.OneWay.{most_steps};
 ghost use Rattle.c_types.specs.Program.{Program};
 ghost use Rattle.c_front.specs.declared.broken.Broken.{Broken as Rule};
 ghost use Rattle.c_front.specs.declared.broken.FileFault.TheVariants.{Breaks, Memory};
@@ -33,7 +32,6 @@ use std::alloc::Global;
 pub fn program_in(alloc: Global, bytes: &[u8]) -> Result<Typed, FileFault>
     requires { length bytes.now ≤ FILE_BYTES }
     ensures ok { IfOk result (IsProgramOf bytes.now) }
-    ensures short { IfOk result (λ p. most_steps p ≤ TOKENS) }
     ensures err { IfErr result (IsFault bytes.now) }
     ensures reads { (p : Program) → IsProgramOf bytes.now p → (result ≡ Ok p) ⊎ (result ≡ Err Memory) }
     ensures finds { (b : Rule) → BreaksFirst bytes.now b → (result ≡ Err (Breaks b)) ⊎ (result ≡ Err Memory) }

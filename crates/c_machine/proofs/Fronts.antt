@@ -7,7 +7,7 @@ use Rattle.c_types.specs.declared.program.Act.{Act}
 use Rattle.c_types.specs.declared.program.Atom.{Atom}
 use Rattle.c_types.specs.Control.{Items, Do, Close, Ask, ◌then◌, opened}
 use Rattle.c_types.specs.Steps.{Turn, settle, act_turn, test_turn, turn_of, atom_of}
-use Rattle.c_types.proofs.Plains.{then_done}
+use Rattle.c_types.proofs.Turns.{then_done}
 use Rattle.c_machine.specs.declared.items.Front.{Front}
 use Rattle.c_machine.specs.declared.items.Front.TheVariants.{Act as FrontAct, Test as FrontTest, Truth}
 use Rattle.c_machine.specs.declared.items.Front.TheVariants.{Close as FrontClose}

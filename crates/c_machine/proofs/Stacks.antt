@@ -12,7 +12,7 @@ use Rattle.c_types.specs.declared.program.Stmt.TheOpen.{DoWhile as DoWhile-F, Fo
 use Rattle.c_types.specs.Control.{Items, Done, Do, Close, If, Loop, Again, DoLoop, DoAgain, Test, Both, Either, ◌then◌}
 use Rattle.c_types.specs.Control.{ask, round, do_round, open_before, opened, joined, test_of, all_before, closes}
 use Rattle.c_types.specs.Control.{items_step, items_of}
-use Rattle.c_types.proofs.Plains.{then_done}
+use Rattle.c_types.proofs.Turns.{then_done}
 use Rattle.c_types.proofs.Layers.{test-Atom, test-Not, test-All, test-Any, items-Do, items-Branch, items-While}
 use Rattle.c_types.proofs.Layers.{items-For, items-DoWhile, items-Group}
 use Rattle.c_machine.specs.declared.items.Item.{Item}

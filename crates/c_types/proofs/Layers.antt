@@ -1,5 +1,5 @@
 -- What the definitions by folds are on each statement and each condition: one equation for each kind.
-use Rattle.std.proofs.Common.{◌≡◌, ℕ, ◌+◌, Bool, false, not, ◌&&◌, List, map, length, ap, ◌∙◌}
+use Rattle.std.proofs.Common.{◌≡◌, ℕ, Bool, ◌&&◌, List, map, length, ap, ◌∙◌}
 use Rattle.fore_base.specs.declared.shape.Shape.{Shape}
 use Rattle.c_types.specs.declared.program.Act.{Act}
 use Rattle.c_types.specs.declared.program.Atom.{Atom as AtomPart}
@@ -14,10 +14,6 @@ use Rattle.c_types.specs.Program.{Spot, InNext, body_of, all_below, act_typed, a
 use Rattle.c_types.specs.Program.{cond_typed_step, each_typed, stmt_typed, stmt_typed_step}
 use Rattle.c_types.specs.Control.{Test, Ask, Not as NotTest, Both, Either, Items, Done, Do as DoItem, If, Loop, DoLoop}
 use Rattle.c_types.specs.Control.{joined, test_step, test_of, all_before, closes, items_step, items_of}
-use Rattle.c_types.specs.Steps.{atom_takes, act_takes}
-use Rattle.fore_base.specs.Lists.{sum_of}
-use Rattle.c_types.specs.OneWay.{all_true, cond_one_way, cond_one_way_step, stmt_one_way, stmt_one_way_step}
-use Rattle.c_types.specs.OneWay.{parts_atoms, cond_atoms, cond_atoms_step, closes_of, stmt_size, stmt_size_step}
 
 -- a fold on a condition or a statement whose outer part is known
 pub cond_folded : (A : Type 0) (step : Cond-F A → A) (c : Cond) (y : Cond-F Cond) → out-Cond c ≡ y → fold-Cond A step c
@@ -149,78 +145,3 @@ pub ruleset typed_layers = (
   typed-For,
   typed-Group,
 )
-
--- Programs that run one way
-
-pub way-Atom : (a : AtomPart) (line : ℕ) → cond_one_way (Atom a line) ≡ not (atom_takes a)
-way-Atom a line = cond_folded Bool cond_one_way_step (Atom a line) _ (outs-Atom a line)
-
-pub way-Not : (c : Cond) → cond_one_way (Not c) ≡ cond_one_way c
-way-Not c = cond_folded Bool cond_one_way_step (Not c) _ (outs-Not c)
-
-pub way-All : (cs : List Cond) → cond_one_way (All cs) ≡ all_true (map cond_one_way cs)
-way-All cs = cond_folded Bool cond_one_way_step (All cs) _ (outs-All cs)
-
-pub way-Any : (cs : List Cond) → cond_one_way (Any cs) ≡ all_true (map cond_one_way cs)
-way-Any cs = cond_folded Bool cond_one_way_step (Any cs) _ (outs-Any cs)
-
-pub way-Do : (a : Act) (line : ℕ) → stmt_one_way (Do a line) ≡ not (act_takes a)
-way-Do a line = stmt_folded Bool stmt_one_way_step (Do a line) _ (outs-Do a line)
-
-pub way-Branch : (c : Cond) (x y : List Stmt) → stmt_one_way (Branch c x y)
-    ≡ (cond_one_way c && (all_true (map stmt_one_way x) && all_true (map stmt_one_way y)))
-way-Branch c x y = stmt_folded Bool stmt_one_way_step (Branch c x y) _ (outs-Branch c x y)
-
-pub way-While : (c : Cond) (b : List Stmt) → stmt_one_way (While c b) ≡ false
-way-While c b = stmt_folded Bool stmt_one_way_step (While c b) _ (outs-While c b)
-
-pub way-DoWhile : (c : Cond) (b : List Stmt) → stmt_one_way (DoWhile c b) ≡ false
-way-DoWhile c b = stmt_folded Bool stmt_one_way_step (DoWhile c b) _ (outs-DoWhile c b)
-
-pub way-For : (c : Cond) (n b : List Stmt) → stmt_one_way (For c n b) ≡ false
-way-For c n b = stmt_folded Bool stmt_one_way_step (For c n b) _ (outs-For c n b)
-
-pub way-Group : (b : List Stmt) (ps ds : List ℕ) (close : ℕ) → stmt_one_way (Group b ps ds close)
-    ≡ all_true (map stmt_one_way b)
-way-Group b ps ds close = stmt_folded Bool stmt_one_way_step (Group b ps ds close) _ (outs-Group b ps ds close)
-
-pub ruleset way_layers =
-    (way-Atom, way-Not, way-All, way-Any, way-Do, way-Branch, way-While, way-DoWhile, way-For, way-Group)
-
--- How many steps they can take
-
-pub atoms-Atom : (a : AtomPart) (line : ℕ) → cond_atoms (Atom a line) ≡ 1
-atoms-Atom a line = cond_folded ℕ cond_atoms_step (Atom a line) _ (outs-Atom a line)
-
-pub atoms-Not : (c : Cond) → cond_atoms (Not c) ≡ cond_atoms c
-atoms-Not c = cond_folded ℕ cond_atoms_step (Not c) _ (outs-Not c)
-
-pub atoms-All : (cs : List Cond) → cond_atoms (All cs) ≡ parts_atoms (map cond_atoms cs)
-atoms-All cs = cond_folded ℕ cond_atoms_step (All cs) _ (outs-All cs)
-
-pub atoms-Any : (cs : List Cond) → cond_atoms (Any cs) ≡ parts_atoms (map cond_atoms cs)
-atoms-Any cs = cond_folded ℕ cond_atoms_step (Any cs) _ (outs-Any cs)
-
-pub size-Do : (a : Act) (line : ℕ) → stmt_size (Do a line) ≡ 1
-size-Do a line = stmt_folded ℕ stmt_size_step (Do a line) _ (outs-Do a line)
-
-pub size-Branch : (c : Cond) (x y : List Stmt) → stmt_size (Branch c x y)
-    ≡ cond_atoms c + (sum_of (map stmt_size x) + sum_of (map stmt_size y))
-size-Branch c x y = stmt_folded ℕ stmt_size_step (Branch c x y) _ (outs-Branch c x y)
-
-pub size-While : (c : Cond) (b : List Stmt) → stmt_size (While c b) ≡ cond_atoms c + sum_of (map stmt_size b)
-size-While c b = stmt_folded ℕ stmt_size_step (While c b) _ (outs-While c b)
-
-pub size-DoWhile : (c : Cond) (b : List Stmt) → stmt_size (DoWhile c b) ≡ cond_atoms c + sum_of (map stmt_size b)
-size-DoWhile c b = stmt_folded ℕ stmt_size_step (DoWhile c b) _ (outs-DoWhile c b)
-
-pub size-For : (c : Cond) (n b : List Stmt) → stmt_size (For c n b)
-    ≡ cond_atoms c + (sum_of (map stmt_size n) + sum_of (map stmt_size b))
-size-For c n b = stmt_folded ℕ stmt_size_step (For c n b) _ (outs-For c n b)
-
-pub size-Group : (b : List Stmt) (ps ds : List ℕ) (close : ℕ) → stmt_size (Group b ps ds close)
-    ≡ sum_of (map stmt_size b) + closes_of ps ds
-size-Group b ps ds close = stmt_folded ℕ stmt_size_step (Group b ps ds close) _ (outs-Group b ps ds close)
-
-pub ruleset size_layers =
-    (atoms-Atom, atoms-Not, atoms-All, atoms-Any, size-Do, size-Branch, size-While, size-DoWhile, size-For, size-Group)

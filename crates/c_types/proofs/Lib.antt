@@ -1,6 +1,5 @@
 pub mod Advancing
 pub mod Turns
-pub mod Plains
 pub mod RunLaws
 pub mod CellsFit
 pub mod CellsKept
@@ -10,8 +9,6 @@ pub mod StepLaws
 pub mod Layers
 pub mod Rows
 pub mod LeakKept
-pub mod OneWayItems
-pub mod OneWayPrograms
 pub mod ChoiceLaws
 pub mod LeakTests
 pub mod LeakGained

@@ -10,5 +10,4 @@ mod Data
 mod Choices
 mod Typing
 mod Programs
-mod OneWay
 mod Stores

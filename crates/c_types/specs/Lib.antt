@@ -1,9 +1,7 @@
 pub mod Control
 pub mod Fits
 pub mod Losses
-pub mod OneWay
 pub mod Over
-pub mod Plain
 pub mod Program
 pub mod Runs
 pub mod Steps

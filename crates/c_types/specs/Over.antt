@@ -1,4 +1,4 @@
--- Runs that are over, and the runs that decide a program.
+-- Runs that are over.
 use Rattle.c_types.specs.declared.outcome.Outcome.{Outcome}
 use Rattle.c_types.specs.declared.outcome.Outcome.TheVariants.{Starved, Fault, StillRunning}
 

@@ -1,14 +1,12 @@
 // Laws of runs and steps: each is the contract of a function that does nothing.
 
-ghost use Rattle.std.specs.Prelude.{◌≡◌, ◌≤◌, ◌-◌, ◌++◌, ◌∷◌, ℕ, true, false, List, [], length};
+ghost use Rattle.std.specs.Prelude.{◌≡◌, ◌≤◌, ◌-◌, ◌++◌, ◌∷◌, ℕ, true, false, List, length};
 ghost use Rattle.c_types.specs.Control.{Items, opened, start_of};
 ghost use Rattle.c_types.specs.Steps.{Goes, Faults, turn_of};
 ghost use Rattle.c_types.specs.Losses.{loses};
 ghost use Rattle.c_types.specs.Runs.{run, empty_store};
 ghost use Rattle.c_types.specs.Fits.{FitsProgram, Visited, ItemsFit};
-ghost use Rattle.c_types.specs.Over.{IsOver, IsFault, IsStarved};
-ghost use Rattle.c_types.specs.OneWay.{is_one_way, most_steps};
-ghost use Rattle.c_types.specs.Plain.{is_plain, lines_in};
+ghost use Rattle.c_types.specs.Over.{IsOver, IsStarved};
 ghost use Rattle.fore_base.specs.declared.fault.Fault.{Fault as Kind};
 ghost use Rattle.fore_base.specs.declared.store.Store.{Store};
 ghost use Rattle.fore_base.specs.declared.fault.Fault.TheVariants.{Leak};
@@ -34,19 +32,6 @@ pub fn fault_at_its_step(program: &Typed)
     let _program = program;
 }
 
-/// A plain program takes no choice, and is over after as many steps as it has statements. So one run decides it.
-pub fn plain_run_decides(program: &Typed)
-    ensures alike { is_plain program.now ≡ true → (choices others : List ℕ) (steps : ℕ) → run program.now choices steps
-        ≡ run program.now others steps }
-    ensures over { is_plain program.now ≡ true → (choices : List ℕ) (steps : ℕ)
-        → length (lines_in program.now.body) ≤ steps → IsOver (run program.now choices steps) }
-    ensures decides { is_plain program.now ≡ true → (limit : ℕ) → length (lines_in program.now.body) ≤ limit
-        → (choices : List ℕ) (steps : ℕ) → IsFault (run program.now choices steps) → run program.now choices steps
-        ≡ run program.now [] limit }
-{
-    let _program = program;
-}
-
 /// More choices than a run needs change nothing.
 pub fn more_choices_are_ignored(program: &Typed)
     ensures { (choices more : List ℕ) (steps : ℕ) → (IsStarved (run program.now choices steps) → ⊥)
@@ -63,20 +48,6 @@ pub fn starved_where_needed(program: &Typed)
         × (step ≤ steps) × ((more : List ℕ) → run program.now (choices ++ more) (step - 1) ≡ Outcome.StillRunning)
         × ((more : List ℕ) (bad later : ℕ) → 2 ≤ bad → step ≤ later → run program.now (choices ++ bad ∷ more) later
         ≡ Outcome.BadChoice (length choices)) }
-{
-    let _program = program;
-}
-
-/// A program without loops and choices takes no choice, and is over after as many steps as it has acts, atoms and
-/// Closes. So one run decides it.
-pub fn one_way_run_decides(program: &Typed)
-    ensures alike { is_one_way program.now ≡ true → (choices others : List ℕ) (steps : ℕ)
-        → run program.now choices steps ≡ run program.now others steps }
-    ensures over { is_one_way program.now ≡ true → (choices : List ℕ) (steps : ℕ) → most_steps program.now ≤ steps
-        → IsOver (run program.now choices steps) }
-    ensures decides { is_one_way program.now ≡ true → (limit : ℕ) → most_steps program.now ≤ limit
-        → (choices : List ℕ) (steps : ℕ)
-        → IsFault (run program.now choices steps) → run program.now choices steps ≡ run program.now [] limit }
 {
     let _program = program;
 }

@@ -1,4 +1,4 @@
-use Rattle.c_front.proofs.FileLaws.{reads_all, finds_all, short_program}
+use Rattle.c_front.proofs.FileLaws.{reads_all, finds_all}
 use Rattle.c_front.proofs.reading.program_in.Goals as goal
 
 pub returns-clause-reads : goal.returns-clause-reads
@@ -6,6 +6,3 @@ returns-clause-reads c = reads_all c.args.bytes.now c.answer.result c.answer.ens
 
 pub returns-clause-finds : goal.returns-clause-finds
 returns-clause-finds c = finds_all c.args.bytes.now c.answer.result c.answer.ensures.ok c.answer.ensures.err
-
-pub returns-clause-short : goal.returns-clause-short
-returns-clause-short c = short_program c.args.bytes.now c.answer.result c.answer.ensures.ok
