@@ -15,7 +15,7 @@ use Rattle.ta_core.specs.declared.symbol.Slot.{Slot}
 use Rattle.ta_core.specs.declared.symbol.Symbol.{Symbol}
 use Rattle.ta_core.specs.declared.symbol.Symbol.TheVariants.{Null as NullSymbol, Uninit as UninitSymbol}
 use Rattle.ta_core.specs.declared.symbol.Symbol.TheVariants.{Dangling as DanglingSymbol, Ref, Cell}
-use Rattle.ta_core.specs.declared.tree.Tree.{Tree, out-roll-Tree}
+use Rattle.ta_core.specs.declared.tree.Tree.{Tree, out-Tree, out-roll-Tree}
 use Rattle.ta_core.proofs.Runs.{along, widened}
 use Rattle.ta_core.proofs.Shifting.{left_run, right_run, run_shifted, united_proper}
 use Rattle.fa_core.specs.declared.faces.BoxFace.{BoxFace}
@@ -224,6 +224,22 @@ module _ (bs : List BoxFace) (a : Automaton) (x : Rule) (base : List Place) (b :
   grown_one = fresh_top_one u.states (u.states + 1) u.rules fresh [] refl
       (in_every (λ (o : Rule). o.state < u.states) u.rules
       (λ o i. (every_in (IsRankedRule u.states) u.rules o ranked.1 i).0)) tt
+
+  -- the one rule: a cell with the slots
+  pub grown_rule : (s : ℕ) (ds : List Datum) → IsCellOf x.symbol s ds → (w : Rule)
+      × IsIn w (grown bs a x base b z).rules
+      × IsIn w.state (grown bs a x base b z).roots
+      × IsCellOf w.symbol s ds
+  grown_rule s ds y =
+      (fresh, in_right fresh u.rules (fresh ∷ []) (inl refl), inl refl, (slots_in all, cell_after x.symbol (slots_in all) s ds y))
+
+  -- each tree has the one rule's symbol at its top
+  pub grown_symbol : (t : Tree) → InLanguage (grown bs a x base b z) t → (out-Tree t).symbol
+      ≡ with_slots x.symbol (map (λ p. p.0) all)
+  grown_symbol t (q, i, r) =
+      let f = fresh_run u (fresh ∷ []) ranked behind q t
+      (let e : q ≡ a.states + b.states = one_root q u.states i in omega (arith, e)) r in
+      sym f.3 ∙ ap (λ (w : Rule). w.symbol) (one_rule f.0 fresh f.1)
 
   -- the slots of a tree: some of the first automaton's, and some of the port's
   pub record Grown (s : ℕ) (ds : List Datum) (ys : List Part) : Type 0 where

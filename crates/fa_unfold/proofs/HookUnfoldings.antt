@@ -128,9 +128,29 @@ module _ (bs : List BoxFace) (T : List BoxDef) (F : Forest) (ranked : Every IsRa
           data_vars = sym w;
         }
 
-    -- each dressed forest of the list is one of F with the Hook replaced
-    pub hook_from : (G : Forest) → IsIn G (hook_unfoldings bs F i p input inner ins) → UnfoldsFrom T F i p G
-    hook_from G k e h =
+    -- a dressed forest of the list: the one of F, with the Hook and its inside, and what replaces it
+    pub record IsReplacedHook (G : Forest) (e : Nodes) : Type 0 where
+      pub same_vars : G.vars ≡ F.vars
+      pub same_data : G.data_vars ≡ F.data_vars
+      pub base : Nodes
+      pub of_base : OfForest T F base
+      pub cell : ℕ
+      pub shape : ℕ
+      pub datums : List Datum
+      pub parts : Parts
+      pub at : node_at base i ≡ Some (node cell shape datums parts)
+      pub c0 : ℕ
+      pub s0 : ℕ
+      pub ds0 : List Datum
+      pub ps : Parts
+      pub ns : Nodes
+      pub has : slice_get (listed parts) p ≡ Some (HookPart b (more (node c0 s0 ds0 ps) ns))
+      pub trees : TreesOf T (input ∷ inner) (more (node c0 s0 ds0 ps) ns)
+      pub opened : hook_opened bs i p ps ns base ≡ e
+
+    pub replaced_hook : (G : Forest) → IsIn G (hook_unfoldings bs F i p input inner ins) → (e : Nodes)
+        → OfForest T G e → IsReplacedHook G e
+    replaced_hook G k e h =
         let m = in_mapped made G ins k in
         let v = inner_from T f inner (open_root bs F i p first m.0) e (subst (λ (x : Forest). OfForest T x e) m.2 h) in
         let x = opened_from bs T F ranked i p there one (Hook b, []) slot first first_right m.0 (rule_in m.0 m.1) v.0
@@ -138,12 +158,34 @@ module _ (bs : List BoxFace) (T : List BoxDef) (F : Forest) (ranked : Every IsRa
         let w = port_from f T input in_right m.0 x.gained (rule_in m.0 m.1) (rule_top m.0 m.1) x.more x.outer in
         let inside : Nodes = more (node w.cell w.shape w.datums w.parts) v.1 in
         let cl = x.closed (HookPart b inside) (refl, refl) (input ∷ inner, is, (w.tree, w.insides, v.4)) in
-        let s = hook_is bs i p n w.parts v.1 cl.before (unlisted x.gained) v.0 e (long cl.before cl.of) w.is cl.opened
-        v.2
-        in
-        let g = hook_unfolded G (ap (λ (x : Forest). x.vars) m.2) (ap (λ (x : Forest). x.data_vars) m.2) cl.before cl.of
-        cl.cell cl.shape cl.datums cl.parts cl.at w.cell w.shape w.datums w.parts v.1 cl.has in
-        (cl.before, cl.of, subst (λ (d : Nodes). Unfolded F G i p cl.before d) s g)
+        record {
+          same_vars = ap (λ (x : Forest). x.vars) m.2;
+          same_data = ap (λ (x : Forest). x.data_vars) m.2;
+          base = cl.before;
+          of_base = cl.of;
+          cell = cl.cell;
+          shape = cl.shape;
+          datums = cl.datums;
+          parts = cl.parts;
+          at = cl.at;
+          c0 = w.cell;
+          s0 = w.shape;
+          ds0 = w.datums;
+          ps = w.parts;
+          ns = v.1;
+          has = cl.has;
+          trees = (w.tree, w.insides, v.4);
+          opened = hook_is bs i p n w.parts v.1 cl.before (unlisted x.gained) v.0 e (long cl.before cl.of) w.is cl.opened
+              v.2;
+        }
+
+    -- each dressed forest of the list is one of F with the Hook replaced
+    pub hook_from : (G : Forest) → IsIn G (hook_unfoldings bs F i p input inner ins) → UnfoldsFrom T F i p G
+    hook_from G k e h =
+        let r = replaced_hook G k e h in
+        let g = hook_unfolded G r.same_vars r.same_data r.base r.of_base r.cell r.shape r.datums r.parts r.at r.c0 r.s0
+        r.ds0 r.ps r.ns r.has in
+        (r.base, r.of_base, subst (λ (d : Nodes). Unfolded F G i p r.base d) r.opened g)
 
     abbrev IntoHook : Nodes → Type 0
     IntoHook d = (G : Forest) × IsIn G (hook_unfoldings bs F i p input inner ins)

@@ -2,9 +2,8 @@
 use Rattle.std.proofs.Common.{◌≡◌, ◌⊎◌, inl, inr, ℕ, suc, List, [], ◌∷◌, ◌++◌, map, refl, sym, ap, subst, ◌∙◌, Some, slice_get}
 use Rattle.fore_base.specs.Lists.{IsIn, Every, IsDistinct}
 use Rattle.fore_base.specs.declared.shape.Shapes.{Shapes}
-use Rattle.fore_base.specs.declared.store.Datum.{Datum}
 use Rattle.fore_base.specs.declared.store.Value.{Value}
-use Rattle.fore_base.specs.declared.store.Value.TheVariants.{Dangling as DanglingValue, Cell}
+use Rattle.fore_base.specs.declared.store.Value.TheVariants.{Dangling as DanglingValue}
 use Rattle.fore_base.proofs.ListLemmas.{every_append, every_parts, in_left, in_right}
 use Rattle.ta_core.specs.declared.symbol.Symbol.TheVariants.{Dangling as DanglingSymbol, Ref, Cell as CellSymbol}
 use Rattle.ta_core.specs.declared.tree.Tree.{Tree, out-Tree}
@@ -23,7 +22,7 @@ use Rattle.fa_core.proofs.Dressing.{cell_top, leaf_top, cell_is_no_leaf}
 use Rattle.fa_core.proofs.Given.{Tip, tips, tips_of, end_tips, all_tips}
 use Rattle.fa_core.proofs.NodeSpots.{node_spots, parts_spots, end_spots, end_symbols, spots_are, one_leaf}
 use Rattle.fa_core.proofs.SeenCells.{HasStruct, NamesOne, PointsTo, SlotsFit, one_struct, cell_number}
-use Rattle.fa_unfold.specs.Opens.{Item, IsCell, HasSlot, tree_items, slot_items, end_items, forest_items}
+use Rattle.fa_unfold.specs.Opens.{Item, tree_items, slot_items, end_items, forest_items}
 use Rattle.fa_unfold.proofs.OpenedFits.{IsThere, Fits}
 
 module _ (S : Shapes) (bs0 bs : List BoxFace)

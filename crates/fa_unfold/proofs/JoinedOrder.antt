@@ -1,9 +1,8 @@
 -- Slots in order, with others put in, are in order where no two of them have one key.
 use Rattle.std.proofs.Common.{◌≡◌, ◌⊎◌, inl, inr, ℕ, ◌<◌, ◌≤◌, Bool, true, false, nat_le, if◌then◌else◌, List, [], ◌∷◌}
-use Rattle.std.proofs.Common.{◌++◌, map, refl, sym, ap, subst, ◌∙◌, arith}
+use Rattle.std.proofs.Common.{◌++◌, map, refl, arith}
 use Rattle.std.proofs.lemmas.Bool.{leb-true, leb-false}
 use Rattle.fore_base.specs.Lists.{IsIn, IsDistinct}
-use Rattle.fore_base.proofs.ListLemmas.{in_left, in_right}
 use Rattle.fa_core.specs.Rearranged.{RisesFrom, IsRising}
 use Rattle.fa_unfold.specs.Slots.{put_in, joined}
 

@@ -1,4 +1,11 @@
 pub mod EdgeParts
+pub mod EdgesFilled
+pub mod EndStructs
+pub mod FilledForests
+pub mod FilledUnfoldings
+pub mod FittingRules
+pub mod GainedFits
+pub mod GoodComponents
 pub mod GrownRoots
 pub mod GrownTrees
 pub mod HookUnfoldings
@@ -17,15 +24,19 @@ pub mod LiftSteps
 pub mod LiftedForests
 pub mod LiftedRoots
 pub mod LinkUnfoldings
+pub mod OpenedFilled
 pub mod OpenedFits
 pub mod OpenedOnce
+pub mod OpenedReferences
 pub mod OpenedRoots
 pub mod OpenedTrees
 pub mod Opening
 pub mod PartItems
 pub mod PlaceRuns
+pub mod PortStructs
 pub mod PortTrees
 mod Rows
+pub mod SlotsInOrder
 pub mod TableBoxes
 pub mod TableInsides
 pub mod UnfoldedMembers

@@ -1,12 +1,11 @@
 -- Where a box edge is opened, the slots of all cells fit, and give each field once, if those that are gained fit.
-use Rattle.std.proofs.Common.{◌≡◌, ◌⊎◌, inl, inr, ℕ, List, [], ◌∷◌, ◌++◌, map, flat_map, refl, sym, ap, subst, ◌∙◌, Some}
+use Rattle.std.proofs.Common.{◌≡◌, inl, inr, ℕ, List, [], ◌∷◌, ◌++◌, map, flat_map, refl, sym, ap, subst, ◌∙◌}
 use Rattle.fore_base.specs.Lists.{IsIn, Every, IsDistinct}
 use Rattle.fore_base.specs.declared.store.Value.{Value}
 use Rattle.fore_base.specs.declared.store.Value.TheVariants.{Null as NullValue, Uninit as UninitValue}
 use Rattle.fore_base.specs.declared.store.Value.TheVariants.{Dangling as DanglingValue, Cell}
-use Rattle.fore_base.proofs.ListLemmas.{every_append, every_parts, every_weaker, every_in}
+use Rattle.fore_base.proofs.ListLemmas.{every_append, every_parts, every_weaker}
 use Rattle.ta_core.specs.Auto.{Automaton}
-use Rattle.fa_core.specs.declared.boxes.BoxDef.{BoxDef}
 use Rattle.fa_core.specs.declared.faces.Face.{Face}
 use Rattle.fa_core.specs.declared.forest.Forest.{Forest}
 use Rattle.fa_core.specs.Boxes.{Boxes, IsBoxTable, faces_of}
@@ -23,13 +22,13 @@ use Rattle.fa_core.proofs.Given.{gives_to}
 use Rattle.fa_core.proofs.Permuted.{distinct_moved, distinct_parts}
 use Rattle.fa_core.proofs.Rearranging.{back, flat_map-append, flat_mapped}
 use Rattle.fa_core.proofs.SeenCells.{HasStruct, NamesOne, PointsTo, SlotsFit, IsFilledCell, one_struct, cell_number}
-use Rattle.fa_core.proofs.SeenCells.{node_structs, tops_structs, slots_seen}
+use Rattle.fa_core.proofs.SeenCells.{tops_structs, slots_seen}
 use Rattle.fa_facts.proofs.Alike.{alike}
 use Rattle.fa_facts.proofs.BoxFields.{table_gives}
 use Rattle.fa_facts.proofs.FactCounts.{given_n, owed_n}
 use Rattle.fa_facts.proofs.FullFacts.{fields_full}
 use Rattle.fa_unfold.specs.Opens.{Item, IsCell, HasSlot, items, opened, Opens}
-use Rattle.fa_unfold.proofs.OpenedOnce.{CellInside, forest_insides, given_moved, owed_moved, count_once}
+use Rattle.fa_unfold.proofs.OpenedOnce.{forest_insides, given_moved, owed_moved, count_once}
 use Rattle.fa_unfold.proofs.Opening.{facts_opened, opens_facts}
 use Rattle.fa_unfold.proofs.PortTrees.{every_same}
 use Rattle.fa_unfold.proofs.UnfoldedMembers.{cell_items, cells_items}
@@ -130,7 +129,7 @@ module _ (face : Face) (all : List SeenCell) where
   Fits (HasSlot c x) = (t : ℕ) → HasStruct all c t → SlotsFit face all t (x ∷ [])
 
   -- its cell is there, and it fits
-  abbrev FitsHere : Item → Type 0
+  abbrev pub FitsHere : Item → Type 0
   FitsHere (IsCell c s ds) = Unit {0}
   FitsHere (HasSlot c x) = (t : ℕ) × HasStruct all c t × SlotsFit face all t (x ∷ [])
 
@@ -217,6 +216,13 @@ module _ (face : Face) (x : Item) (d e : Nodes) (o : Opens x d e) (slot : IsSlot
       subst (λ (s : ℕ). SlotsFit face (cells e) s (z ∷ [])) w
       (slot_more face (cells d) (cells e) struct_kept h.0 z h.2))
 
+  -- the slot that is opened fits its cell
+  pub edge_fits : Every (λ c. SlotsFit face (cells d) c.shape c.slots) (cells d) → FitsHere face (cells d) x
+  edge_fits h =
+      (every_same (FitsHere face (cells d)) o.before
+      (every_same (FitsHere face (cells d)) (back (cells_items d))
+      (fits_here face (cells d) (cells d) (λ n t k. k) h))).0
+
   -- where the slots of all cells fit before, and those that are gained fit, they fit after
   pub opened_fits : Every (λ c. SlotsFit face (cells d) c.shape c.slots) (cells d) → Every (Fits face (cells e)) o.gained
       → Every (λ c. SlotsFit face (cells e) c.shape c.slots) (cells e)
@@ -253,6 +259,11 @@ module _ (t : Boxes) (table : IsBoxTable t) (F : Forest) (filled : IsFilled t.fa
       cells_filled face d
       (apart_by face.boxes d (subst IsDistinct (forest_numbers (roots_of d) d) a))
       (subst (λ (z : List ℕ). TreesFilled face (bares d) z 0 (bares d)) (tops_structs d k.tops k.are) k.cells)
+
+  pub edge_before : FitsHere face (cells d) x
+  edge_before = edge_fits face x d e o slot apart
+      (every_weaker (IsFilledCell face (cells d)) (λ c. SlotsFit face (cells d) c.shape c.slots) (cells d)
+      (λ c h. h.slots) cells_before)
 
   pub fits_after : Every (Fits face (cells e)) o.gained → Every (λ c. SlotsFit face (cells e) c.shape c.slots) (cells e)
   fits_after g = opened_fits face x d e o slot apart

@@ -1,6 +1,6 @@
 -- Where the facts give each field of each cell once, so do the slots of the cells, if each slot fits: counted.
-use Rattle.std.proofs.Common.{◌≡◌, ◌⊎◌, inl, inr, ℕ, zero, suc, ◌+◌, Bool, true, false, cond, nat_eq, List, [], ◌∷◌, ◌++◌}
-use Rattle.std.proofs.Common.{map, flat_map, refl, sym, ap, subst, ◌∙◌, Some, None, slice_get, arith}
+use Rattle.std.proofs.Common.{◌≡◌, ◌⊎◌, inl, inr, ℕ, ◌+◌, Bool, true, false, cond, nat_eq, List, [], ◌∷◌, ◌++◌}
+use Rattle.std.proofs.Common.{map, flat_map, refl, sym, ap, subst, ◌∙◌, Some, arith}
 use Rattle.std.proofs.lemmas.Bool.{eq-eqb, eqb-true}
 use Rattle.fore_base.specs.Lists.{IsIn, Every, IsDistinct}
 use Rattle.fore_base.specs.declared.shape.Shape.{Shape}
@@ -13,23 +13,21 @@ use Rattle.fa_core.specs.declared.boxes.BoxDef.{BoxDef}
 use Rattle.fa_core.specs.declared.faces.BoxFace.{BoxFace}
 use Rattle.fa_core.specs.declared.faces.Face.{Face}
 use Rattle.fa_core.specs.Dressed.{Node, Parts, End, Nodes, node, no_parts, field, link, hook, under, leaf, no_nodes}
-use Rattle.fa_core.specs.Dressed.{more, Fact, facts, Seen, SeenField, SeenLink, SeenHook, SeenCell, seen, tree_cells}
-use Rattle.fa_core.specs.Dressed.{below, end_cells, forest_cells, cells, end_value, inside_facts}
+use Rattle.fa_core.specs.Dressed.{more, Fact, Seen, SeenField, SeenLink, SeenHook, SeenCell, seen, tree_cells}
+use Rattle.fa_core.specs.Dressed.{below, end_cells, forest_cells, inside_facts}
 use Rattle.fa_core.specs.Filled.{covers, fields_of, fields_in, gives_in_of}
 use Rattle.fa_core.specs.Member.{TreesOf, InsidesOf, InsidesOfParts, InsidesOfEnd, inside_of}
 use Rattle.fa_core.specs.Rearranged.{Rearranged, empty, keep, swap, chain, often}
 use Rattle.fa_core.specs.Ways.{gives_out_of, fields_out}
 use Rattle.fa_core.proofs.Counts.{often_both}
 use Rattle.fa_core.proofs.Given.{slot_gifts, cell_gifts, given_there, gives_to}
-use Rattle.fa_core.proofs.Rearranging.{flat_map-append, flat_mapped}
+use Rattle.fa_core.proofs.Rearranging.{flat_map-append}
 use Rattle.fa_core.proofs.SeenCells.{SlotsFit, NamesOne, slots_seen, cell_number}
-use Rattle.fa_facts.proofs.Alike.{alike}
 use Rattle.fa_facts.proofs.FactCounts.{if_so, given_n, owed_n, at_cell, at_value, nothing_at, given_points, given_append}
 use Rattle.fa_facts.proofs.FactCounts.{owed_append, owed_head}
 use Rattle.fa_facts.proofs.TreeFields.{Lands, LinkGives, HookGives, so_both}
-use Rattle.fa_unfold.specs.Opens.{Item, IsCell, HasSlot, items, opened}
-use Rattle.fa_unfold.proofs.Opening.{facts_opened}
-use Rattle.fa_unfold.proofs.UnfoldedMembers.{cell_items, cells_items}
+use Rattle.fa_unfold.specs.Opens.{IsCell, HasSlot, opened}
+use Rattle.fa_unfold.proofs.UnfoldedMembers.{cell_items}
 
 -- the inside of a slot is of its box
 abbrev pub SeenInside : List BoxDef → Seen → Type 0

@@ -49,7 +49,7 @@ put_at_every P zero x xs h k = (h, k)
 put_at_every P (suc p) x [] h k = (h, tt)
 put_at_every P (suc p) x (y ∷ xs) h k = (k.0, put_at_every P p x xs h k.1)
 
-rule_right : (a : Automaton) (x : Rule) → IsRanked a → IsIn x a.rules → Every (IsPlace a.states) (rule_places x)
+pub rule_right : (a : Automaton) (x : Rule) → IsRanked a → IsIn x a.rules → Every (IsPlace a.states) (rule_places x)
 rule_right a x r i =
     places_right a.states (symbol_slots x.symbol) x.children (every_in (IsRankedRule a.states) a.rules x r.1 i).1
 

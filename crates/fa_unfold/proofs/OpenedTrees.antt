@@ -67,7 +67,7 @@ items_with ws no_nodes ms = refl
 items_with ws (more n ns) ms =
     rw (items_with ws ns ms) (sym (append_assoc (tree_items ws n) (forest_items ws ns) (forest_items ws ms)))
 
-refs_at_root : (P : ℕ → Type 0) (g : Parts → Parts) → ((ps : Parts) → Every P (refs_of ps) → Every P (refs_of (g ps)))
+pub refs_at_root : (P : ℕ → Type 0) (g : Parts → Parts) → ((ps : Parts) → Every P (refs_of ps) → Every P (refs_of (g ps)))
     → (i : ℕ) (d : Nodes) → Every P (all_refs d) → Every P (all_refs (at_root g i d))
 refs_at_root P g w i no_nodes h = tt
 refs_at_root P g w zero (more (node c s ds ps) ns) h =
@@ -246,6 +246,11 @@ module _ (bs : List BoxFace) where
           ) refl;
         }
 
+        -- what it gains
+        pub link_gains : opens_link.gained ≡ slot_items vin c ps ++ (port_items vin v qs ++ forest_items vin ns)
+        unfolding opens_link
+        link_gains = refl
+
     module _ (b c0 s0 : ℕ) (ds0 : List Datum) (ps : Parts) (ns : Nodes) where
       abbrev hooked : Nodes
       hooked = more (node c0 s0 ds0 ps) ns
@@ -302,3 +307,8 @@ module _ (bs : List BoxFace) where
           sym (trees_opened hin ns),
         ) refl;
       }
+
+      pub hook_gains : (is : slice_get (listed os) p ≡ Some (HookPart b hooked)) → (opens_hook is).gained
+          ≡ slot_items hin c ps ++ forest_items hin ns
+      unfolding opens_hook
+      hook_gains is = refl

@@ -98,13 +98,13 @@ part_refs (FieldPart f e) = end_refs e
 part_refs (LinkPart b i e) = end_refs e
 part_refs (HookPart b i) = []
 
-list_refs : (xs : List Part) → refs_of (unlisted xs) ≡ flat_map part_refs xs
+pub list_refs : (xs : List Part) → refs_of (unlisted xs) ≡ flat_map part_refs xs
 list_refs [] = refl
 list_refs (FieldPart f e ∷ xs) = ap (λ (z : List ℕ). end_refs e ++ z) (list_refs xs)
 list_refs (LinkPart b i e ∷ xs) = ap (λ (z : List ℕ). end_refs e ++ z) (list_refs xs)
 list_refs (HookPart b i ∷ xs) = list_refs xs
 
-slots_refs : (ps : Parts) → refs_of ps ≡ flat_map part_refs (listed ps)
+pub slots_refs : (ps : Parts) → refs_of ps ≡ flat_map part_refs (listed ps)
 slots_refs ps = ap refs_of (sym (listed_again ps)) ∙ list_refs (listed ps)
 
 module _ (P : ℕ → Type 0) where

@@ -35,7 +35,7 @@ is_cell DanglingSymbol e = absurd (true≢false e)
 is_cell (Ref r) e = absurd (true≢false e)
 is_cell (Cell s ds ss) e = (s, ds, (ss, refl))
 
-cell_is : (y : Symbol) (s : ℕ) (ds : List Datum) → IsCellOf y s ds → is_leaf y ≡ false
+pub cell_is : (y : Symbol) (s : ℕ) (ds : List Datum) → IsCellOf y s ds → is_leaf y ≡ false
 cell_is y s ds h = ap is_leaf h.1
 
 -- Insides of slots.

@@ -1,5 +1,5 @@
 -- A box of a table is sound over those before it, whose faces are those of the table.
-use Rattle.std.proofs.Common.{◌≡◌, ℕ, zero, suc, ◌+◌, length, List, [], ◌∷◌, ◌++◌, refl, sym, ap, subst, ◌∙◌, Some}
+use Rattle.std.proofs.Common.{◌≡◌, ℕ, zero, suc, ◌+◌, length, List, [], ◌∷◌, ◌++◌, refl, subst, Some}
 use Rattle.std.proofs.Common.{append_assoc, length-append, arith}
 use Rattle.std.proofs.lemmas.Option.{none-some, same_Some}
 use Rattle.fore_base.specs.declared.shape.Shapes.{Shapes}
