@@ -1,6 +1,6 @@
 -- The forest with another datum in a data field of a root is sound, and canonical where the forest was.
 use Rattle.std.proofs.Common.{◌≡◌, inl, inr, ℕ, zero, suc, ◌<◌, length, List, [], ◌∷◌, map, refl, sym, ap, ap₂, subst}
-use Rattle.std.proofs.Common.{◌∙◌, slice_set, length-set}
+use Rattle.std.proofs.Common.{◌∙◌, flat_map, slice_set, length-set}
 use Rattle.fore_base.specs.Lists.{Every, Paired}
 use Rattle.fore_base.specs.declared.store.Datum.{Datum}
 use Rattle.fore_base.proofs.ListLemmas.{every_set, paired_same}
@@ -18,11 +18,12 @@ use Rattle.fa_core.specs.Boxless.{IsPlain, HasNoBoxes}
 use Rattle.fa_core.specs.Canonical.{IsCanonical, field_trees, fields_under, var_roots}
 use Rattle.fa_core.specs.Filled.{Choice, IsTopped, Spot, spots, spots_at, DatumFits, SymbolFits, RulesFit}
 use Rattle.fa_core.specs.Filled.{HasSignatures, HasSome, IsSound, IsFilledSpot}
-use Rattle.fa_core.specs.Ways.{Way, ways, ways_at, mark, roots_met, signature}
+use Rattle.fa_core.specs.Ways.{Way, ways, ways_at, to_root, given, mark, roots_met, signature}
 use Rattle.fa_core.proofs.WayParts.{ways_out}
 use Rattle.fa_edit.specs.inner.Edited.{symbol_with, dated, dated_at}
 use Rattle.fa_edit.proofs.DatumTrees.{dated_back, dated_of, to_dated, dated_one, dated_symbols, at_top, dated_stay}
 use Rattle.fa_edit.proofs.EditedSound.{changed, choice_changed, edited_plain, edited_sound}
+use Rattle.fa_edit.proofs.Gifts.{gift}
 use Rattle.fa_order.specs.inner.Following.{EndFollows, StaysTame}
 use Rattle.fa_order.proofs.Tame.{kinds_too, untied_too, order_too}
 use Rattle.fa_sound.specs.Components.{component_at}
@@ -95,6 +96,9 @@ module _ (f : ℕ) (z : Datum) where
         ∙ ap (λ (s : Symbol). ways_at s (map ways (out-Tree t).children)) is
         ∙ sym (ways_out t)
 
+    pub gift_with : (bs : List BoxFace) (k : ℕ) → gift bs k (with_symbol y t) ≡ gift bs k t
+    gift_with bs k = ap (λ (ws : List Way). flat_map (λ w. given bs w.steps) (to_root k ws)) ways_with
+
     pub signature_with : (bs : List BoxFace) → signature bs (with_symbol y t) ≡ signature bs t
     signature_with bs = ap (λ (ws : List Way). map (mark bs ws) (roots_met ws)) ways_with
 
@@ -166,7 +170,7 @@ module _ (a : Automaton) (ranked : IsRanked a) (one : HasOneTop a) (f : ℕ) (z 
 -- The forest.
 
 module _ (face : Face) (F : Forest) (r f : ℕ) (z : Datum) (ranked : Every IsRanked F.autos)
-    (plain : Every HasNoBoxes F.autos) (root : r < length F.autos) (one : HasOneTop (component_at F.autos r)) where
+    (root : r < length F.autos) (one : HasOneTop (component_at F.autos r)) where
   abbrev own : Automaton
   own = component_at F.autos r
 
@@ -179,14 +183,12 @@ module _ (face : Face) (F : Forest) (r f : ℕ) (z : Datum) (ranked : Every IsRa
   abbrev before : Tree → Tree
   before = old own own_ranked one f z
 
-  fresh_plain : HasNoBoxes (dated own f z)
-  fresh_plain =
+  pub datum_plain : Every HasNoBoxes F.autos → Every HasNoBoxes G.autos
+  datum_plain plain =
       let p = component_has HasNoBoxes F.autos r plain root in
-      dated_symbols own own_ranked one f z IsPlain
-      (symbol_plain f z (top_rule own).symbol (at_top own own_ranked one f z IsPlain p)) p
-
-  pub datum_plain : Every HasNoBoxes G.autos
-  datum_plain = edited_plain face F r (dated own f z) before plain fresh_plain
+      edited_plain face F r (dated own f z) before plain
+      (dated_symbols own own_ranked one f z IsPlain
+      (symbol_plain f z (top_rule own).symbol (at_top own own_ranked one f z IsPlain p)) p)
 
   module _ (fits : DatumFits z) (sound : IsSound face F) where
     fresh_fits : RulesFit face (dated own f z)
@@ -196,7 +198,7 @@ module _ (face : Face) (F : Forest) (r f : ℕ) (z : Datum) (ranked : Every IsRa
         (symbol_fits f z face (top_rule own).symbol fits (at_top own own_ranked one f z (SymbolFits face) p)) p
 
     pub datum_sound : IsSound face G
-    datum_sound = edited_sound face F r (dated own f z) before plain fresh_plain sound
+    datum_sound = edited_sound face F r (dated own f z) before sound
         fresh_fits
         (signed own own_ranked one f z face.boxes
         (component_has (HasSignatures face.boxes) F.autos r sound.well_formed.signatures root))
@@ -204,8 +206,9 @@ module _ (face : Face) (F : Forest) (r f : ℕ) (z : Datum) (ranked : Every IsRa
         (low own own_ranked one f z)
         (λ t s l h. symbol_topped f z s (top_rule own).symbol t (before t) (symbol_there (top_rule own).symbol t)
         (dated_of own own_ranked one f z t l).0 h)
-        (λ us tops c h t l k. subst (λ (ps : List Spot). Every (IsFilledSpot face tops) ps)
-        (spots_with f z (top_rule own).symbol t (dated_of own own_ranked one f z t l).0 face.boxes []) k)
+        (λ k t l. gift_with f z (top_rule own).symbol t (dated_of own own_ranked one f z t l).0 face.boxes k)
+        (λ us tops c h t above l k. subst (λ (ps : List Spot). Every (IsFilledSpot face tops) ps)
+        (spots_with f z (top_rule own).symbol t (dated_of own own_ranked one f z t l).0 face.boxes above) k)
 
     same_ends : (ts : List Tree) → Paired (EndFollows (λ k. k)) ts ts
     same_ends = paired_same (EndFollows (λ k. k)) (λ t. ((λ k. ((λ h. h), (λ h. h))), (λ k e. e)))

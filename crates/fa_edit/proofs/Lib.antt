@@ -4,6 +4,7 @@ pub mod DatumSound
 pub mod DatumTrees
 pub mod EditedSound
 pub mod FieldPlaces
+pub mod Gifts
 pub mod LackedFields
 pub mod LeafPuts
 pub mod LeafSound

@@ -1,13 +1,13 @@
 -- The forest with a new cell: its dressed forests, and that it is sound.
 use Rattle.std.proofs.Common.{◌≡◌, inl, inr, ℕ, zero, suc, ◌<◌, ◌+◌, length, replicate, List, [], ◌∷◌, ◌++◌, map}
-use Rattle.std.proofs.Common.{flat_map, refl, sym, ap, subst, ◌∙◌, slice_get, Some, IsSome, length-append, arith}
+use Rattle.std.proofs.Common.{flat_map, refl, sym, ap, subst, ◌∙◌, slice_get, Some, IsSome, length-append, append-nil, arith}
 use Rattle.std.proofs.lemmas.Option.{none-some}
 use Rattle.fore_base.specs.Lists.{IsIn, Every}
 use Rattle.fore_base.specs.Shapes.{targets_of, datums_of}
 use Rattle.fore_base.specs.declared.shape.Shape.{Shape}
 use Rattle.fore_base.specs.declared.store.Datum.TheVariants.{Undefined}
 use Rattle.fore_base.proofs.ListLemmas.{in_every, every_append, every_weaker, every_set, every_copy}
-use Rattle.ta_core.specs.Auto.{Automaton}
+use Rattle.ta_core.specs.Auto.{Automaton, IsRanked}
 use Rattle.ta_core.specs.Language.{InLanguage}
 use Rattle.ta_core.specs.declared.symbol.Slot.{Slot}
 use Rattle.ta_core.specs.declared.symbol.Slot.TheVariants.{Field, Link, Hook}
@@ -24,21 +24,24 @@ use Rattle.fa_core.specs.Boxless.{HasNoBoxes}
 use Rattle.fa_core.specs.Dressed.{Nodes, number, all_refs}
 use Rattle.fa_core.specs.Filled.{Spot, spots, target_of, numbered, covers, least, HasField, NamesStruct, FieldEnds}
 use Rattle.fa_core.specs.Filled.{EndFits, EndsFit, IsFilledSpot, Choice, ChoiceFilled, TopsAre, IsTopped, IsRoot}
+use Rattle.fa_core.specs.Filled.{TreesFilled, given_at}
 use Rattle.fa_core.specs.Filled.{DatumFits, SlotFits, RulesFit, HasSignatures, HasSome, IsSound}
 use Rattle.fa_core.specs.Member.{TreesOf, slots_of}
 use Rattle.fa_core.specs.Rearranged.{RisesFrom, IsRising}
 use Rattle.fa_core.specs.References.{AllBelow}
 use Rattle.fa_core.proofs.Dressing.{leaf_top, choice_length}
 use Rattle.fa_core.proofs.NodeSpots.{end_symbols, parts_spots, spots_are}
-use Rattle.fa_core.proofs.Rearranging.{equal}
+use Rattle.fa_core.proofs.Given.{tip_to, tips_of}
+use Rattle.fa_core.proofs.Rearranging.{equal, flat_map-append}
 use Rattle.fa_edit.specs.Cells.{IsNewed, blank_parts, new_node}
 use Rattle.fa_edit.specs.inner.News.{field_slots, blank_symbol, blank, newed}
 use Rattle.fa_edit.proofs.NewTrees.{blank_insides, blank_tree, blank_plain, blank_some, blank_signed, bare_new, is_new}
 use Rattle.fa_edit.proofs.NewTrees.{new_is, tree_is}
+use Rattle.fa_edit.proofs.Gifts.{gift, one_given, gift_low, given_low}
 use Rattle.fa_merge.proofs.MergedLast.{split_last, join_last}
 use Rattle.fa_merge.proofs.OtherOrders.{count_trees}
-use Rattle.fa_sound.proofs.Choices.{trees_filled, filled_trees}
-use Rattle.fa_sound.proofs.NothingGiven.{nothing_given}
+use Rattle.fa_merge.proofs.PutForests.{node_of_tree}
+use Rattle.fa_sound.specs.Components.{component_at}
 use Rattle.fa_split.specs.Split.{with_last}
 use Rattle.fa_split.proofs.Places.{last_is}
 use Rattle.fa_split.proofs.SplitCells.{RefersWell, refers_well, all_below}
@@ -82,12 +85,18 @@ module _ (face : Face) (tops others : List ℕ) where
   spot_more : (p : Spot) → IsFilledSpot face tops p → IsFilledSpot face (tops ++ others) p
   spot_more p h = record { ends = ends_more p.shape p.slots p.ends h.ends; order = h.order; once = h.once }
 
-  trees_more : (ts : List Tree) → Every (λ (t : Tree). Every (IsFilledSpot face tops) (spots face.boxes t [])) ts
-      → Every (λ (t : Tree). Every (IsFilledSpot face (tops ++ others)) (spots face.boxes t [])) ts
-  trees_more ts h = every_weaker (λ (t : Tree). Every (IsFilledSpot face tops) (spots face.boxes t []))
-      (λ (t : Tree). Every (IsFilledSpot face (tops ++ others)) (spots face.boxes t [])) ts
-      (λ t k. every_weaker (IsFilledSpot face tops) (IsFilledSpot face (tops ++ others)) (spots face.boxes t [])
-      spot_more k) h
+  -- the trees of the roots from r on, and one more
+  pub filled_more : (all new : List Tree) → ((k : ℕ) → given_at face.boxes all k ≡ given_at face.boxes new k)
+      → (t : Tree) (r : ℕ) (ts : List Tree) → TreesFilled face all tops r ts
+      → ((m : ℕ) → m ≡ r + length ts → Every (IsFilledSpot face (tops ++ others))
+      (spots face.boxes t (given_at face.boxes new m))) → TreesFilled face new (tops ++ others) r (ts ++ t ∷ [])
+  filled_more all new same t r [] h l = (l r (omega arith), tt)
+  filled_more all new same t r (u ∷ ts) h l = (
+    every_weaker (IsFilledSpot face tops) (IsFilledSpot face (tops ++ others))
+        (spots face.boxes u (given_at face.boxes new r)) spot_more
+        (subst (λ (xs : List ℕ). Every (IsFilledSpot face tops) (spots face.boxes u xs)) (same r) h.0),
+    filled_more all new same t (suc r) ts h.1 (λ m e. l m (omega (arith, e))),
+  )
 
 -- One more tree.
 
@@ -177,6 +186,15 @@ module _ (face : Face) (shape : ℕ) where
         subst (λ (l : List Spot). Every (IsFilledSpot face tops) l) (sym (no_spots 0 (length targets))) tt,
       ))
 
+  no_gifts : (r k n : ℕ) → flat_map (tip_to r) (tips_of face.boxes (blank_parts k n)) ≡ []
+  no_gifts r k zero = refl
+  no_gifts r k (suc n) = no_gifts r (suc k) n
+
+  pub blank_gives : (r : ℕ) → gift face.boxes r (blank_tree hs shape) ≡ []
+  blank_gives r =
+      subst (λ (t : Tree). gift face.boxes r t ≡ []) (bare_new hs shape 0)
+      (one_given face.boxes r (new_node hs shape 0) ∙ no_gifts r 0 (length targets))
+
   data_count : (n : ℕ) → length (replicate n Undefined) ≡ n
   data_count zero = refl
   data_count (suc n) = ap (λ (k : ℕ). suc k) (data_count n)
@@ -202,7 +220,7 @@ module _ (face : Face) (shape : ℕ) where
 
 -- The forest.
 
-module _ (face : Face) (F : Forest) (to shape : ℕ) (plain : Every HasNoBoxes F.autos) (sound : IsSound face F) where
+module _ (face : Face) (F : Forest) (to shape : ℕ) (sound : IsSound face F) where
   abbrev structs : List Shape
   structs = face.shapes.structs
 
@@ -224,8 +242,8 @@ module _ (face : Face) (F : Forest) (to shape : ℕ) (plain : Every HasNoBoxes F
   each_more : (P : Automaton → Type 0) → Every P F.autos → P own → Every P G.autos
   each_more P h k = every_append P F.autos (own ∷ []) h (k, tt)
 
-  pub new_plain : Every HasNoBoxes G.autos
-  new_plain = each_more HasNoBoxes plain (blank_plain structs shape)
+  pub new_plain : Every HasNoBoxes F.autos → Every HasNoBoxes G.autos
+  new_plain plain = each_more HasNoBoxes plain (blank_plain structs shape)
 
   pub is_newed : (T : List BoxDef) → IsNewed structs T F G to shape
   is_newed T = record {
@@ -254,43 +272,60 @@ module _ (face : Face) (F : Forest) (to shape : ℕ) (plain : Every HasNoBoxes F
       at_of Dangling = 0
       at_of (At k) = k
 
-  choice_filled : (us : List Tree) → Choice G.autos us → ChoiceFilled face G us
-  choice_filled us c =
-      let k = choice_last F.autos own us c in
-      let f = sound.well_formed.filled.trees k.0 k.3 in
-      let old : Every (λ (t : Tree). Every (IsFilledSpot face f.tops) (spots face.boxes t [])) k.0 =
-      filled_trees face k.0 (nothing_given face.boxes F.autos plain k.0 k.3) f.tops 0 k.0 f.cells in
-      let tops = f.tops ++ shape ∷ [] in
-      let both : Every (λ (t : Tree). Every (IsFilledSpot face tops) (spots face.boxes t [])) (k.0 ++ k.1 ∷ []) =
-      every_append (λ (t : Tree). Every (IsFilledSpot face tops) (spots face.boxes t [])) k.0 (k.1 ∷ [])
-      (trees_more face f.tops (shape ∷ []) k.0 old) (
-        subst (λ (t : Tree). Every (IsFilledSpot face tops) (spots face.boxes t []))
-            (sym (tree_is structs shape k.1 k.4)) (blank_filled face shape tops),
-        tt,
-      ) in
-      let long : suc N ≡ length us =
-      (let e = choice_length G.autos us c in
-      let m : length G.autos ≡ N + 1 = length-append F.autos (own ∷ []) in omega (arith, e, m)) in
-      record {
-        tops = tops;
-        are = subst (λ (ts : List Tree). TopsAre ts tops) (sym k.2)
-            (tops_last k.0 f.tops k.1 shape f.are (blank_topped face shape k.1 k.4));
-        vars = subst (λ (n : ℕ). Every (IsRoot n) G.vars) long new_vars;
-        cells = trees_filled face us (nothing_given face.boxes G.autos new_plain us c) tops 0 us
-            (subst (λ (ts : List Tree). Every (λ (t : Tree). Every (IsFilledSpot face tops) (spots face.boxes t [])) ts)
-            (sym k.2) both);
-      }
+  module _ (ranked : Every IsRanked F.autos) where
+    -- the new root is given nothing
+    low_gift : (k : ℕ) (t : Tree) → k < N → InLanguage (component_at F.autos k) t → gift face.boxes N t ≡ []
+    low_gift k t l w =
+        let n = node_of_tree face F sound.well_formed.filled sound.full ranked k l t w in
+        subst (λ (z : Tree). gift face.boxes N z ≡ []) n.1
+        (gift_low face.boxes N n.0
+        (well.trees k n.0 l (subst (λ (z : Tree). InLanguage (component_at F.autos k) z) (sym n.1) w)))
 
-  pub new_sound : shape < length structs → IsSound face G
-  new_sound l = record {
-    well_formed = record {
-      filled = record {
-        data_vars = sound.well_formed.filled.data_vars;
-        rules = each_more (RulesFit face) sound.well_formed.filled.rules (blank_fits face shape l);
-        trees = choice_filled;
+    choice_filled : (us : List Tree) → Choice G.autos us → ChoiceFilled face G us
+    choice_filled us c =
+        let k = choice_last F.autos own us c in
+        let f = sound.well_formed.filled.trees k.0 k.3 in
+        let tops = f.tops ++ shape ∷ [] in
+        let is : k.1 ≡ blank_tree structs shape = tree_is structs shape k.1 k.4 in
+        let same : ((r : ℕ) → given_at face.boxes k.0 r ≡ given_at face.boxes (k.0 ++ k.1 ∷ []) r) =
+        (λ r. sym (flat_map-append (gift face.boxes r) k.0 (k.1 ∷ [])
+        ∙ ap (λ (z : Tree). given_at face.boxes k.0 r ++ (gift face.boxes r z ++ [])) is
+        ∙ ap (λ (z : List ℕ). given_at face.boxes k.0 r ++ (z ++ [])) (blank_gives face shape r)
+        ∙ append-nil (given_at face.boxes k.0 r))) in
+        let size : N ≡ length k.0 = sym (choice_length F.autos k.0 k.3) in
+        let none : given_at face.boxes (k.0 ++ k.1 ∷ []) N ≡ [] =
+        sym (same N) ∙ given_low face.boxes N F.autos low_gift k.0 k.3 in
+        let last : ((m : ℕ) → m ≡ 0 + length k.0 → Every (IsFilledSpot face tops)
+        (spots face.boxes k.1 (given_at face.boxes (k.0 ++ k.1 ∷ []) m))) =
+        (λ m e. (let q : N ≡ m = omega (arith, e, size) in
+        subst (λ (x : ℕ). Every (IsFilledSpot face tops)
+        (spots face.boxes k.1 (given_at face.boxes (k.0 ++ k.1 ∷ []) x))) q
+        (subst (λ (xs : List ℕ). Every (IsFilledSpot face tops) (spots face.boxes k.1 xs)) (sym none)
+        (subst (λ (t : Tree). Every (IsFilledSpot face tops) (spots face.boxes t [])) (sym is)
+        (blank_filled face shape tops))))) in
+        let both : TreesFilled face (k.0 ++ k.1 ∷ []) tops 0 (k.0 ++ k.1 ∷ []) =
+        filled_more face f.tops (shape ∷ []) k.0 (k.0 ++ k.1 ∷ []) same k.1 0 k.0 f.cells last in
+        let long : suc N ≡ length us =
+        (let e = choice_length G.autos us c in
+        let m : length G.autos ≡ N + 1 = length-append F.autos (own ∷ []) in omega (arith, e, m)) in
+        record {
+          tops = tops;
+          are = subst (λ (ts : List Tree). TopsAre ts tops) (sym k.2)
+              (tops_last k.0 f.tops k.1 shape f.are (blank_topped face shape k.1 k.4));
+          vars = subst (λ (n : ℕ). Every (IsRoot n) G.vars) long new_vars;
+          cells = subst (λ (ts : List Tree). TreesFilled face ts tops 0 ts) (sym k.2) both;
+        }
+
+    pub new_sound : shape < length structs → IsSound face G
+    new_sound l = record {
+      well_formed = record {
+        filled = record {
+          data_vars = sound.well_formed.filled.data_vars;
+          rules = each_more (RulesFit face) sound.well_formed.filled.rules (blank_fits face shape l);
+          trees = choice_filled;
+        };
+        signatures = each_more (HasSignatures face.boxes) sound.well_formed.signatures
+            (blank_signed structs shape face.boxes);
       };
-      signatures = each_more (HasSignatures face.boxes) sound.well_formed.signatures
-          (blank_signed structs shape face.boxes);
-    };
-    full = each_more HasSome sound.full (blank_some structs shape);
-  }
+      full = each_more HasSome sound.full (blank_some structs shape);
+    }

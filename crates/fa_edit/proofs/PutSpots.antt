@@ -80,15 +80,15 @@ node_shape (node c s ds ps) = s
 pub put_filled : (face : Face) (tops : List ℕ) (f : ℕ) (t u : Target) (n : Node) → end_of_field f (top_parts n)
     ≡ Some (leaf t)
     → ((k : ℕ) → target_of face.shapes.structs (node_shape n) f ≡ Some k → FieldEnds tops k (leaf_symbol u))
-    → Every (IsFilledSpot face tops) (spots face.boxes (bare n) [])
-    → Every (IsFilledSpot face tops) (spots face.boxes (bare (with_leaf f u n)) [])
-put_filled face tops f t u (node c s ds ps) h fits all =
-    let old : Every (IsFilledSpot face tops) (node_spots face.boxes (node c s ds ps) []) =
-    subst (λ (l : List Spot). Every (IsFilledSpot face tops) l) (spots_are face.boxes (node c s ds ps) []) all
+    → (above : List ℕ) → Every (IsFilledSpot face tops) (spots face.boxes (bare n) above)
+    → Every (IsFilledSpot face tops) (spots face.boxes (bare (with_leaf f u n)) above)
+put_filled face tops f t u (node c s ds ps) h fits above all =
+    let old : Every (IsFilledSpot face tops) (node_spots face.boxes (node c s ds ps) above) =
+    subst (λ (l : List Spot). Every (IsFilledSpot face tops) l) (spots_are face.boxes (node c s ds ps) above) all
     in
     let same = slots_put f u ps in
     subst (λ (l : List Spot). Every (IsFilledSpot face tops) l)
-    (sym (spots_are face.boxes (node c s ds (put_leaf f u ps)) [])) (
+    (sym (spots_are face.boxes (node c s ds (put_leaf f u ps)) above)) (
       record {
         ends = ends_put f u face tops s fits ps old.0.ends;
         order = rw same old.0.order;

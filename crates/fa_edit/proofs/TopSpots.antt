@@ -1,5 +1,5 @@
 -- The cell at the top of a tree of a filled forest.
-use Rattle.std.proofs.Common.{◌≡◌, ℕ, zero, suc, ◌+◌, List, [], ◌∷◌, map, sym, ap, subst, ◌∙◌, refl, Some, slice_get}
+use Rattle.std.proofs.Common.{◌≡◌, ℕ, zero, suc, ◌+◌, List, [], ◌∷◌, map, sym, ap, subst, ◌∙◌, Some, slice_get}
 use Rattle.std.proofs.Common.{arith}
 use Rattle.std.proofs.lemmas.Option.{none-some, same_Some}
 use Rattle.fore_base.specs.Lists.{Every}

@@ -21,13 +21,13 @@ use ta_core::symbol::{Slot, Symbol};
 /// The forest with a new cell of the struct as its last root, at which variable `to` is. Its pointers are
 /// uninitialised, and its data undefined (`malloc`, ISO/IEC 9899:2011, 7.22.3.4). Err is want of memory.
 pub fn with_cell(alloc: Global, forest: &Sound, to: u32, shape: u32) -> Mem<Sound>
-    requires plain { Every HasNoBoxes forest.now.forest.autos }
     requires to { to < length forest.now.forest.vars }
     requires shape { shape < length forest.now.face.shapes.structs }
     ensures newed { IfOk result (λ made. (T : List BoxDef)
         → IsNewed forest.now.face.shapes.structs T forest.now.forest made.forest to shape) }
     ensures face { IfOk result (λ made. made.face ≡ forest.now.face) }
-    ensures plain { IfOk result (λ made. Every HasNoBoxes made.forest.autos) }
+    ensures plain { Every HasNoBoxes forest.now.forest.autos
+        → IfOk result (λ made. Every HasNoBoxes made.forest.autos) }
     ensures vars { IfOk result (λ made. length made.forest.vars ≡ length forest.now.forest.vars) }
     ensures data_vars { IfOk result (λ made. made.forest.data_vars ≡ forest.now.forest.data_vars) }
 {
@@ -37,7 +37,6 @@ pub fn with_cell(alloc: Global, forest: &Sound, to: u32, shape: u32) -> Mem<Soun
 }
 
 fn sound_newed(alloc: Global, forest: &Sound, to: u32, shape: u32) -> Mem<Sound>
-    requires plain { Every HasNoBoxes forest.now.forest.autos }
     requires to { to < length forest.now.forest.vars }
     requires shape { shape < length forest.now.face.shapes.structs }
     ensures forest { IfOk result (λ made. made.forest

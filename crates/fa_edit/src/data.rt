@@ -24,7 +24,6 @@ use ta_core::symbol::Symbol;
 
 /// The datum in a data field of a root that has one rule; None where the root has no such field. Takes no memory.
 pub fn datum_of(forest: &Sound, root: u32, field: u32) -> Option<Datum>
-    requires plain { Every HasNoBoxes forest.now.forest.autos }
     requires root { root < length forest.now.forest.autos }
     requires top { HasOneTop (component_at forest.now.forest.autos root) }
     ensures value { result ≡ slice_get (datums_at forest.now.forest root) field }
@@ -38,7 +37,6 @@ pub fn datum_of(forest: &Sound, root: u32, field: u32) -> Option<Datum>
 /// The forest with another datum in a data field of a root that has one rule. A canonical forest stays canonical. Err
 /// is want of memory.
 pub fn with_datum(alloc: Global, forest: &Sound, root: u32, field: u32, datum: Datum) -> Mem<Sound>
-    requires plain { Every HasNoBoxes forest.now.forest.autos }
     requires root { root < length forest.now.forest.autos }
     requires top { HasOneTop (component_at forest.now.forest.autos root) }
     requires has { HasDatumField forest.now.forest root field }
@@ -46,7 +44,8 @@ pub fn with_datum(alloc: Global, forest: &Sound, root: u32, field: u32, datum: D
     ensures put { IfOk result (λ made. (T : List BoxDef) (old : Datum) → AllHaveDatum T forest.now.forest root field old
         → IsDatumPut T forest.now.forest made.forest root field old datum) }
     ensures face { IfOk result (λ made. made.face ≡ forest.now.face) }
-    ensures plain { IfOk result (λ made. Every HasNoBoxes made.forest.autos) }
+    ensures plain { Every HasNoBoxes forest.now.forest.autos
+        → IfOk result (λ made. Every HasNoBoxes made.forest.autos) }
     ensures canonical { IsCanonical forest.now.face forest.now.forest
         → IfOk result (λ made. IsCanonical made.face made.forest) }
 {
@@ -56,7 +55,6 @@ pub fn with_datum(alloc: Global, forest: &Sound, root: u32, field: u32, datum: D
 }
 
 fn sound_dated(alloc: Global, forest: &Sound, root: u32, field: u32, datum: Datum) -> Mem<Sound>
-    requires plain { Every HasNoBoxes forest.now.forest.autos }
     requires root { root < length forest.now.forest.autos }
     requires top { HasOneTop (component_at forest.now.forest.autos root) }
     requires fits { DatumFits datum }

@@ -12,6 +12,7 @@ ghost use Rattle.fa_edit.specs.Fits.{IsRootFor, LeafFits};
 ghost use Rattle.fa_edit.specs.Leaves.{AllHaveLeaf, AllLackField, IsPut};
 ghost use Rattle.fa_edit.specs.Plain.{HasPlace, IsPlainAt, StructLacks, place_at};
 ghost use Rattle.fa_sound.specs.Components.{component_at};
+ghost use Rattle.fa_split.specs.Giving.{RulesGive};
 ghost use Rattle.fa_split.specs.Split.{split_leaf};
 
 use crate::tops::{has_only_leaf, only_leaf, place_of, shape_of};
@@ -59,7 +60,6 @@ fn struct_lacks(structs: &[Shape], shape: Option<u32>, field: u32) -> bool
 /// The leaf in a pointer field of a root that has one rule, at which only one leaf may stand; None where the root has
 /// no such field. Takes no memory.
 pub fn leaf_of(forest: &Sound, root: u32, field: u32) -> Option<Target>
-    requires plain { Every HasNoBoxes forest.now.forest.autos }
     requires at { IsPlainAt forest.now.face.shapes.structs forest.now.forest root field }
     ensures has { OnSome result (HasPlace forest.now.forest root field) }
     ensures lacks { IsNone result → place_at forest.now.forest root field ≡ None }
@@ -118,16 +118,18 @@ fn points_to(structs: &[Shape], above: Option<u32>, field: u32, below: Option<u3
     }
 }
 
-/// The forest with another leaf in a pointer field of a root, at which only one leaf may stand. Err is want of memory.
+/// The forest with another leaf in a pointer field of a root, at which only one leaf may stand. A box edge that leads
+/// back gives its end something, as each box of a table does. Err is want of memory.
 pub fn with_leaf(alloc: Global, forest: &Sound, root: u32, field: u32, leaf: Target) -> Mem<Sound>
-    requires plain { Every HasNoBoxes forest.now.forest.autos }
+    requires gives { Every (RulesGive forest.now.face.boxes) forest.now.forest.autos }
     requires at { IsPlainAt forest.now.face.shapes.structs forest.now.forest root field }
     requires has { HasPlace forest.now.forest root field }
     requires fits { LeafFits forest.now.face.shapes.structs forest.now.forest root field leaf }
     ensures put { IfOk result (λ made. (T : List BoxDef) (old : Target) → AllHaveLeaf T forest.now.forest root field old
         → IsPut T forest.now.forest made.forest root field old leaf) }
     ensures face { IfOk result (λ made. made.face ≡ forest.now.face) }
-    ensures plain { IfOk result (λ made. Every HasNoBoxes made.forest.autos) }
+    ensures plain { Every HasNoBoxes forest.now.forest.autos
+        → IfOk result (λ made. Every HasNoBoxes made.forest.autos) }
 {
     forest.known();
     match place_of(component(forest.forest(), root), field) {
@@ -145,7 +147,7 @@ fn with_leaf_at(
     place: usize,
     leaf: Target,
 ) -> Mem<Sound>
-    requires plain { Every HasNoBoxes forest.now.forest.autos }
+    requires gives { Every (RulesGive forest.now.face.boxes) forest.now.forest.autos }
     requires at { IsPlainAt forest.now.face.shapes.structs forest.now.forest root field }
     requires place { place_at forest.now.forest root field ≡ Some place }
     requires fits { LeafFits forest.now.face.shapes.structs forest.now.forest root field leaf }

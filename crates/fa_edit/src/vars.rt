@@ -21,13 +21,13 @@ pub fn with_vars(
     vars: List<Target>,
     data_vars: List<Datum>,
 ) -> Mem<Sound>
-    requires plain { Every HasNoBoxes forest.now.forest.autos }
     requires targets { Every (IsRoot (length forest.now.forest.autos)) vars }
     requires data { Every DatumFits data_vars }
     ensures value { IfOk result (λ made. made.forest
         ≡ record forest.now.forest { vars = vars; data_vars = data_vars }) }
     ensures face { IfOk result (λ made. made.face ≡ forest.now.face) }
-    ensures plain { IfOk result (λ made. Every HasNoBoxes made.forest.autos) }
+    ensures plain { Every HasNoBoxes forest.now.forest.autos
+        → IfOk result (λ made. Every HasNoBoxes made.forest.autos) }
     ensures canonical { vars ≡ forest.now.forest.vars → IsCanonical forest.now.face forest.now.forest
         → IfOk result (λ made. IsCanonical made.face made.forest) }
 {

@@ -19,7 +19,7 @@ with_component-requires-clause-sound c =
     let a = dated (component_at F.autos r) f x in
     let made : c.in_ok-auto.auto ≡ a = rw (c.component.ensures, c.forest.ensures) at c.in_ok-auto.ensures in
     subst (λ (z : Automaton). IsSound s.face (with_component F r z)) (sym made)
-    (datum_sound s.face F r f x k.ranked q.plain q.root q.top q.fits k.sound)
+    (datum_sound s.face F r f x k.ranked q.root q.top q.fits k.sound)
 
 pub returns-clause-forest : goal.returns-clause-forest
 returns-clause-forest c =

@@ -15,17 +15,17 @@ returns-clause-put c =
     T old all)
 
 pub returns-clause-plain : goal.returns-clause-plain
-returns-clause-plain c =
+returns-clause-plain c = λ plain.
     let F = c.args.forest.now.forest in
     let ranked : Every IsRanked F.autos = c.known.ensures.ranked in
     rw c.in_ok-made.ensures.forest
-    (datum_plain c.args.forest.now.face F c.args.root c.args.field c.args.datum ranked c.requires.plain
-    c.requires.root c.requires.top)
+    (datum_plain c.args.forest.now.face F c.args.root c.args.field c.args.datum ranked c.requires.root c.requires.top
+    plain)
 
 pub returns-clause-canonical : goal.returns-clause-canonical
 returns-clause-canonical c = λ can.
     let F = c.args.forest.now.forest in
     let ranked : Every IsRanked F.autos = c.known.ensures.ranked in
     rw (c.in_ok-made.ensures.forest, c.in_ok-made.ensures.face)
-    (datum_canonical c.args.forest.now.face F c.args.root c.args.field c.args.datum ranked c.requires.plain
-    c.requires.root c.requires.top c.requires.fits c.known.ensures.sound can)
+    (datum_canonical c.args.forest.now.face F c.args.root c.args.field c.args.datum ranked c.requires.root
+    c.requires.top c.requires.fits c.known.ensures.sound can)

@@ -31,7 +31,7 @@ returns-clause-put c =
     c.with_leaf_at.ensures.forest
 
 pub returns-clause-plain : goal.returns-clause-plain
-returns-clause-plain c =
+returns-clause-plain c = λ plain.
     let F = c.args.forest.now.forest in
     let r = c.args.root in
     let f = c.args.field in
@@ -42,6 +42,6 @@ returns-clause-plain c =
     (λ made. made.forest ≡ split_leaf F r p c.args.leaf)
     (λ made. Every HasNoBoxes made.forest.autos)
     (λ made e. subst (λ (G : Forest). Every HasNoBoxes G.autos) (sym e)
-    (put_plain c.args.forest.now.face F r f ranked c.requires.plain c.known.ensures.sound c.requires.at p
-    (sym place) c.args.leaf c.requires.fits))
+    (put_plain c.args.forest.now.face F r f ranked c.known.ensures.sound c.requires.at p (sym place) c.args.leaf
+    c.requires.fits plain))
     c.with_leaf_at.ensures.forest

@@ -13,5 +13,5 @@ fix_leaf-requires-clause-sound c =
     let s = c.args.forest.now in
     let r = c.requires in
     let k = c.known.ensures in
-    put_sound s.face s.forest c.args.root c.args.field k.ranked r.plain k.sound r.at c.args.place r.place c.args.leaf
-    r.fits
+    put_sound s.face s.forest c.args.root c.args.field k.ranked k.sound r.at c.args.place r.place c.args.leaf r.fits
+    r.gives
