@@ -13,7 +13,6 @@ use Rattle.ta_core.specs.Single.{HasOneTop}
 use Rattle.ta_core.specs.declared.auto.Rule.{Rule}
 use Rattle.ta_core.specs.declared.symbol.Symbol.{Symbol}
 use Rattle.ta_core.specs.declared.tree.Tree.{Tree, out-Tree}
-use Rattle.fa_core.specs.Boxless.{HasNoBoxes}
 use Rattle.fa_core.specs.Canonical.{IsCanonical}
 use Rattle.fa_core.specs.Filled.{Choice, IsTopped, TopsAre, HasSome}
 use Rattle.fa_core.specs.Ways.{Way, ways, roots_met, mark, signature}
@@ -189,19 +188,17 @@ module _ (face : Face) (F : Forest) (can : IsCanonical face F) (ranked : Every I
       let f = can.well_formed.filled.trees c.0 c.1 in
       structs_of F.autos c.0 f.tops can.tops c.1 f.are
 
-  canonical_higher : (k : ℕ) (G : Forest) → Every HasNoBoxes F.autos → Quotient face.boxes F (suc k) G
-      → IsCanonical face G
-  canonical_higher k G plain h =
+  canonical_higher : (k : ℕ) (G : Forest) → Quotient face.boxes F (suc k) G → IsCanonical face G
+  canonical_higher k G h =
       let right = all_ranked face k F.autos G.autos h.autos ranked in
-      let sound = quotient_sound face k F G h ranked trim plain canonical_structs right
+      let sound = quotient_sound face k F G h ranked trim canonical_structs right
       (record { well_formed = can.well_formed; full = full }) in
       outlined_canonical face F G can sound.well_formed (all_tops face k F.autos G.autos h.autos ranked can.tops) h.vars
       (choice_outlined face k F.autos G.autos h.autos ranked trim)
 
-  pub quotient_canonical : (k : ℕ) (G : Forest) → Every HasNoBoxes F.autos → 1 ≤ k → Quotient face.boxes F k G
-      → IsCanonical face G
-  quotient_canonical zero G plain l h = absurd (omega (arith, l))
-  quotient_canonical (suc k) G plain l h = canonical_higher k G plain h
+  pub quotient_canonical : (k : ℕ) (G : Forest) → 1 ≤ k → Quotient face.boxes F k G → IsCanonical face G
+  quotient_canonical zero G l h = absurd (omega (arith, l))
+  quotient_canonical (suc k) G l h = canonical_higher k G h
 
 -- languages within each other both ways are the same
 pub same_languages : (xs ys : List Automaton) → Paired IsWithin xs ys → Paired IsWithin ys xs

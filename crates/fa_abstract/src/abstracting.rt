@@ -40,7 +40,6 @@ pub fn abstracted<R: Threads + Sync, G: Gate>(
     crew: &Crew<'_, G>,
 ) -> Mem<Sound>
     requires jobs { IsJobs crew.now.jobs }
-    requires plain { Every HasNoBoxes forest.now.forest.autos }
     requires canonical { IsCanonical forest.now.face forest.now.forest }
     requires reduced { Reduced forest.now.forest }
     requires height { 1 ≤ height }
@@ -53,7 +52,8 @@ pub fn abstracted<R: Threads + Sync, G: Gate>(
         (λ made. (hs : List Shape) (T : List BoxDef) (s : Store) → Stands hs T forest.now.forest s
         → Stands hs T made.forest s) }
     ensures face { IfOk result (λ made. made.face ≡ forest.now.face) }
-    ensures plain { IfOk result (λ made. Every HasNoBoxes made.forest.autos) }
+    ensures plain { Every HasNoBoxes forest.now.forest.autos
+        → IfOk result (λ made. Every HasNoBoxes made.forest.autos) }
     ensures vars { IfOk result (λ made. made.forest.vars ≡ forest.now.forest.vars) }
     ensures data { IfOk result (λ made. made.forest.data_vars ≡ forest.now.forest.data_vars) }
 {

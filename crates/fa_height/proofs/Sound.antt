@@ -12,14 +12,16 @@ use Rattle.fa_core.specs.Covering.{Covers}
 use Rattle.fa_core.specs.Filled.{DatumFits, IsRoot, IsTopped, RulesFit, HasSignatures, HasSome, IsSound}
 use Rattle.fa_core.specs.declared.faces.Face.{Face}
 use Rattle.fa_core.specs.declared.forest.Forest.{Forest}
+use Rattle.fa_core.specs.declared.signature.RefMark.{RefMark}
+use Rattle.fa_core.specs.Ways.{signature}
 use Rattle.fa_filling.specs.declared.parts.Part.{Part}
 use Rattle.fa_filling.specs.Parted.{AreParts, ArePartsFilled, all_tops}
 use Rattle.fa_filling.specs.Ruled.{IsFilledPart}
 use Rattle.fa_filling.proofs.FilledRules.{AreFull}
 use Rattle.fa_filling.proofs.Fillings.{by_parts, all_parts, all_vars}
 use Rattle.fa_filling.specs.Given.{IsGivenAt}
-use Rattle.fa_core.proofs.Rearranging.{equal}
-use Rattle.fa_sound.proofs.NothingGiven.{nothing_given}
+use Rattle.fa_sound.specs.inner.Owned.{IsOwn, given_of}
+use Rattle.fa_sound.proofs.Given.{all_given}
 use Rattle.fa_height.specs.Quotients.{IsQuotient, Quotient}
 use Rattle.fa_height.specs.Structs.{HasOneStruct}
 use Rattle.fa_height.proofs.Filled.{lone_part, is_lone, part_kept, plain_kept, rules_fit, topped}
@@ -114,9 +116,29 @@ module _ (face : Face) (k : ℕ) where
             t.1 m.1 f.1,
       )
 
-  -- without box edges nothing is given at the roots
-  none_given : (autos : List Automaton) → Every HasNoBoxes autos → IsGivenAt face.boxes autos (λ r. [])
-  none_given autos p ts c r l = equal (nothing_given face.boxes autos p ts c r)
+  -- the signatures of the components, by which it is told what box edges give at the roots, stay
+  owns_of : (autos : List Automaton) → Every HasSome autos → Every (HasSignatures face.boxes) autos
+      → (sigs : List (List RefMark)) × Paired (IsOwn face.boxes) autos sigs
+  owns_of [] f s = ([], tt)
+  owns_of (a ∷ autos) f s =
+      let w = owns_of autos f.1 s.1 in
+      (signature face.boxes f.0.0 ∷ w.0, ((λ t l. s.0.component t f.0.0 l f.0.1), w.1))
+
+  owns_kept : (autos made : List Automaton) (sigs : List (List RefMark)) → AreQuotients autos made
+      → Every IsRanked autos → Every IsTrim autos → Paired (IsOwn face.boxes) autos sigs
+      → Paired (IsOwn face.boxes) made sigs
+  owns_kept [] [] sigs h r t o = o
+  owns_kept [] (b ∷ made) sigs h r t o = absurd h
+  owns_kept (a ∷ autos) [] sigs h r t o = absurd h
+  owns_kept (a ∷ autos) (b ∷ made) [] h r t o = absurd o
+  owns_kept (a ∷ autos) (b ∷ made) (s ∷ sigs) h r t o = (
+    (λ u l. (let w = outlined face.boxes k a b r.0 t.0 h.0 u l in w.2.1 ∙ o.0 w.0 w.1)),
+    owns_kept autos made sigs h.1 r.1 t.1 o.1,
+  )
+
+  given_by_own : (autos : List Automaton) (sigs : List (List RefMark)) → Paired (IsOwn face.boxes) autos sigs
+      → IsGivenAt face.boxes autos (given_of sigs)
+  given_by_own autos sigs o ts c r l = all_given face.boxes autos ts sigs c o r
 
   -- All components.
 
@@ -151,42 +173,43 @@ module _ (face : Face) (k : ℕ) where
     quotient_covers = record
         { vars = sym h.vars; data_vars = sym h.data_vars; within = all_within F.autos G.autos h.autos ranked trim }
 
-    module _ (plain : Every HasNoBoxes F.autos) where
-      pub quotient_plain : Every HasNoBoxes G.autos
-      quotient_plain = each_kept HasNoBoxes (λ a b r t q p. plain_kept face k a b r t q p) F.autos G.autos h.autos
-          ranked trim plain
+    pub quotient_plain : Every HasNoBoxes F.autos → Every HasNoBoxes G.autos
+    quotient_plain plain = each_kept HasNoBoxes (λ a b r t q p. plain_kept face k a b r t q p) F.autos G.autos h.autos
+        ranked trim plain
 
-      pub quotient_sound : Every HasOneStruct F.autos → Every IsRanked G.autos → IsSound face F → IsSound face G
-      quotient_sound structs right s =
-          let tops = tops_from F.autos structs in
-          let full = each_kept HasSome (λ a b r t q p. (p.0, within face.boxes k a b r t q p.0 p.1)) F.autos G.autos
-          h.autos ranked trim s.full in
-          let trims = each_kept IsTrim (λ a b r t q p. image_trim face.boxes k a b r t q) F.autos G.autos h.autos ranked
-          trim trim in
-          let before = all_parts face F s.full (λ r. []) (none_given F.autos plain) (lone_parts F.autos tops.0)
-          (parts_are F.autos tops.0 trim s.full tops.1) s.well_formed.filled.trees in
-          let after = filled_kept (λ r. []) 0 [] F.autos G.autos tops.0 tt h.autos ranked trim right before in
-          let vars = all_vars face F s.full s.well_formed.filled.trees in
-          let roots : Every (IsRoot (length G.autos)) G.vars =
-          subst (λ (n : ℕ). Every (IsRoot n) G.vars)
-          (paired_long (IsQuotient face.boxes (suc k)) F.autos G.autos h.autos)
-          (subst (Every (IsRoot (length F.autos))) (sym h.vars) vars) in
-          record {
-            well_formed = record {
-              filled = record {
-                data_vars = subst (Every DatumFits) (sym h.data_vars) s.well_formed.filled.data_vars;
-                rules = each_kept (RulesFit face) (λ a b r t q p. rules_fit face k a b r t q p) F.autos G.autos h.autos
-                    ranked trim s.well_formed.filled.rules;
-                trees = by_parts face G full (λ r. []) (none_given G.autos quotient_plain)
-                    (lone_parts G.autos tops.0)
-                    (parts_are G.autos tops.0 trims full (tops_kept F.autos G.autos tops.0 h.autos ranked trim tops.1))
-                    roots after;
-              };
-              signatures = each_kept (HasSignatures face.boxes) signatures_kept F.autos G.autos h.autos ranked trim
-                  s.well_formed.signatures;
+    pub quotient_sound : Every HasOneStruct F.autos → Every IsRanked G.autos → IsSound face F → IsSound face G
+    quotient_sound structs right s =
+        let tops = tops_from F.autos structs in
+        let full = each_kept HasSome (λ a b r t q p. (p.0, within face.boxes k a b r t q p.0 p.1)) F.autos G.autos
+        h.autos ranked trim s.full in
+        let trims = each_kept IsTrim (λ a b r t q p. image_trim face.boxes k a b r t q) F.autos G.autos h.autos ranked
+        trim trim in
+        let own = owns_of F.autos s.full s.well_formed.signatures in
+        let kept = owns_kept F.autos G.autos own.0 h.autos ranked trim own.1 in
+        let before = all_parts face F s.full (given_of own.0) (given_by_own F.autos own.0 own.1)
+        (lone_parts F.autos tops.0) (parts_are F.autos tops.0 trim s.full tops.1) s.well_formed.filled.trees in
+        let after = filled_kept (given_of own.0) 0 [] F.autos G.autos tops.0 tt h.autos ranked trim right before in
+        let vars = all_vars face F s.full s.well_formed.filled.trees in
+        let roots : Every (IsRoot (length G.autos)) G.vars =
+        subst (λ (n : ℕ). Every (IsRoot n) G.vars)
+        (paired_long (IsQuotient face.boxes (suc k)) F.autos G.autos h.autos)
+        (subst (Every (IsRoot (length F.autos))) (sym h.vars) vars) in
+        record {
+          well_formed = record {
+            filled = record {
+              data_vars = subst (Every DatumFits) (sym h.data_vars) s.well_formed.filled.data_vars;
+              rules = each_kept (RulesFit face) (λ a b r t q p. rules_fit face k a b r t q p) F.autos G.autos h.autos
+                  ranked trim s.well_formed.filled.rules;
+              trees = by_parts face G full (given_of own.0) (given_by_own G.autos own.0 kept)
+                  (lone_parts G.autos tops.0)
+                  (parts_are G.autos tops.0 trims full (tops_kept F.autos G.autos tops.0 h.autos ranked trim tops.1))
+                  roots after;
             };
-            full = full;
-          }
+            signatures = each_kept (HasSignatures face.boxes) signatures_kept F.autos G.autos h.autos ranked trim
+                s.well_formed.signatures;
+          };
+          full = full;
+        }
 
 -- a height of at least 1 is one more than a height
 height_over : (n : ℕ) → 1 ≤ n → (k : ℕ) × (n ≡ suc k)
@@ -213,6 +236,5 @@ module _ (face : Face) (F : Forest) (n : ℕ) (high : 1 ≤ n) (made : List Auto
     pub made_plain : Every HasNoBoxes F.autos → Every HasNoBoxes made
     made_plain plain = quotient_plain face higher.0 F G higher.1 ranked trim plain
 
-    pub made_sound : Every HasNoBoxes F.autos → Every HasOneStruct F.autos → Every IsRanked made → IsSound face F
-        → IsSound face G
-    made_sound plain structs right s = quotient_sound face higher.0 F G higher.1 ranked trim plain structs right s
+    pub made_sound : Every HasOneStruct F.autos → Every IsRanked made → IsSound face F → IsSound face G
+    made_sound structs right s = quotient_sound face higher.0 F G higher.1 ranked trim structs right s

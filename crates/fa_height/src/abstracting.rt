@@ -30,7 +30,6 @@ use ta_core::auto::Auto;
 ///
 /// Want of memory.
 pub fn abstract_height(alloc: Global, forest: &Sound, height: u32) -> Mem<Sound>
-    requires plain { Every HasNoBoxes forest.now.forest.autos }
     requires trim { Every IsTrim forest.now.forest.autos }
     requires structs { Every HasOneStruct forest.now.forest.autos }
     requires height { 1 ≤ height }
@@ -39,7 +38,8 @@ pub fn abstract_height(alloc: Global, forest: &Sound, height: u32) -> Mem<Sound>
         (λ made. (hs : List Shape) (T : List BoxDef) (s : Store) → Stands hs T forest.now.forest s
         → Stands hs T made.forest s) }
     ensures face { IfOk result (λ made. made.face ≡ forest.now.face) }
-    ensures plain { IfOk result (λ made. Every HasNoBoxes made.forest.autos) }
+    ensures plain { Every HasNoBoxes forest.now.forest.autos
+        → IfOk result (λ made. Every HasNoBoxes made.forest.autos) }
     ensures vars { IfOk result (λ made. made.forest.vars ≡ forest.now.forest.vars) }
     ensures data { IfOk result (λ made. made.forest.data_vars ≡ forest.now.forest.data_vars) }
 {

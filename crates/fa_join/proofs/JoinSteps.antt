@@ -5,8 +5,7 @@ use Rattle.std.specs.List.{remove}
 use Rattle.std.proofs.lemmas.Option.{none-some, same_Some}
 use Rattle.fore_base.specs.Lists.{IsIn, Every}
 use Rattle.fore_base.proofs.ListLemmas.{in_left, in_right, in_append, in_map, in_mapped, in_from_place, every_push}
-use Rattle.fore_base.proofs.ListLemmas.{every_parts, every_without}
-use Rattle.fa_core.specs.Boxless.{HasNoBoxes}
+use Rattle.fore_base.proofs.ListLemmas.{every_in, every_parts, every_without}
 use Rattle.fa_core.specs.Canonical.{IsCanonical}
 use Rattle.fa_core.specs.Covering.{Reduced}
 use Rattle.fa_core.specs.Dressed.{Nodes}
@@ -22,7 +21,7 @@ use Rattle.fa_join.specs.Joinable.{Joinable}
 use Rattle.fa_join.specs.Joined.{OfOne, IsJoined, Joins}
 use Rattle.fa_join.specs.declared.lists.Partner.{Partner}
 use Rattle.fa_join.specs.inner.Differing.{CanJoin, IsPartner}
-use Rattle.fa_join.specs.inner.Joining.{IsReady, NoLater, IsJoining}
+use Rattle.fa_join.specs.inner.Joining.{IsReady, HasNoEdges, NoLater, IsJoining}
 
 vars_on : (F G H : Forest) → HasVarsOf F G → HasVarsOf G H → HasVarsOf F H
 vars_on F G H h k = (k.0 ∙ h.0, k.1 ∙ h.1)
@@ -143,6 +142,7 @@ module _ (face : Face) (given : List SoundForest) where
     todo_ready = h;
     done_ready = tt;
     apart = tt;
+    plain = λ p. (p, tt);
     joined = λ T. joined_moved T (forests given) (forests given) (forests given ++ [])
         (λ N i. in_left N (forests given) [] i)
         (λ N i. elim (in_append N (forests given) [] i) [ inl k ↦ k | inr k ↦ absurd k ])
@@ -159,6 +159,11 @@ module _ (face : Face) (given : List SoundForest) where
         todo_ready = parts.0;
         done_ready = every_push (IsReady face) done next h.done_ready parts.1.0;
         apart = later_push face.boxes done next h.apart none;
+        plain =
+            λ p.
+            (let q = h.plain p in
+            let w = every_parts HasNoEdges todo (next ∷ []) q.0 in
+            (w.0, every_push HasNoEdges done next q.1 w.1.0));
         joined = λ T. joined_moved T (forests given) (forests (todo ++ next ∷ []) ++ forests done)
             (forests todo ++ forests (done ++ next ∷ []))
             (λ N i.
@@ -185,13 +190,20 @@ module _ (face : Face) (given : List SoundForest) where
 
   -- one that is joined with one of those done, which is taken out, is to do
   pub joining_join : (todo done : List SoundForest) (next other made : SoundForest) (k : ℕ) → slice_get done k
-      ≡ Some other → IsReady face made → Joins other.forest next.forest made.forest
+      ≡ Some other → IsReady face made → (HasNoEdges other → HasNoEdges next → HasNoEdges made)
+      → Joins other.forest next.forest made.forest
       → IsJoining face given (todo ++ next ∷ []) done → IsJoining face given (todo ++ made ∷ []) (remove done k)
-  joining_join todo done next other made k at ready j h =
+  joining_join todo done next other made k at ready keeps j h =
       let parts = every_parts (IsReady face) todo (next ∷ []) h.todo_ready in record {
         todo_ready = every_push (IsReady face) todo made parts.0 ready;
         done_ready = every_without (IsReady face) done k h.done_ready;
         apart = later_without face.boxes done k h.apart;
+        plain =
+            λ p.
+            (let q = h.plain p in
+            let w = every_parts HasNoEdges todo (next ∷ []) q.0 in
+            let o = every_in HasNoEdges done other q.1 (in_from_place done k other at) in
+            (every_push HasNoEdges todo made w.0 (keeps o w.1.0), every_without HasNoEdges done k q.1));
         joined = λ T. joined_step T (forests given) (forests (todo ++ next ∷ []) ++ forests done)
             (forests (todo ++ made ∷ []) ++ forests (remove done k)) other.forest next.forest made.forest
             (of_cases (todo ++ next ∷ []) done other (inr (in_from_place done k other at)))
@@ -239,11 +251,10 @@ module _ (face : Face) (given : List SoundForest) where
 -- Ready forests.
 
 pub all_ready : (face : Face) (Fs : List SoundForest) → Every (λ s. s.face ≡ face) Fs
-    → Every (λ s. Every HasNoBoxes s.forest.autos) Fs → Every (λ s. IsCanonical s.face s.forest) Fs
-    → Every (λ s. Reduced s.forest) Fs → Every (IsReady face) Fs
-all_ready face [] f p c r = tt
-all_ready face (F ∷ Fs) f p c r =
-    (record { over = f.0; plain = p.0; canonical = c.0; reduced = r.0 }, all_ready face Fs f.1 p.1 c.1 r.1)
+    → Every (λ s. IsCanonical s.face s.forest) Fs → Every (λ s. Reduced s.forest) Fs → Every (IsReady face) Fs
+all_ready face [] f c r = tt
+all_ready face (F ∷ Fs) f c r =
+    (record { over = f.0; canonical = c.0; reduced = r.0 }, all_ready face Fs f.1 c.1 r.1)
 
 -- the partner that was found is the forest at its place
 pub partner_joins : (bs : List BoxFace) (Fs : List SoundForest) (G : Forest) (found : Partner) (other : SoundForest)

@@ -2,14 +2,17 @@
 use Rattle.std.proofs.Common.{◌≡◌, ◌↔◌, ◌⊎◌, inl, inr, ℕ, zero, suc, ◌<◌, length, List, [], ◌∷◌, refl, sym, subst}
 use Rattle.std.proofs.Common.{slice_set, arith}
 use Rattle.fore_base.specs.Lists.{Every, Paired, PairedBut}
+use Rattle.fore_base.proofs.ListLemmas.{every_in}
 use Rattle.ta_core.specs.Auto.{Automaton, IsRanked}
 use Rattle.ta_core.specs.Joined.{IsUnion}
 use Rattle.ta_core.specs.Language.{InLanguage, HasSameLanguage}
 use Rattle.ta_core.specs.Single.{HasOneTop}
+use Rattle.ta_core.specs.declared.auto.Rule.{Rule}
 use Rattle.ta_core.specs.declared.tree.Tree.{Tree}
 use Rattle.fa_core.specs.Boxless.{HasNoBoxes}
 use Rattle.fa_core.specs.Canonical.{IsCanonical, IsRootKind, IsUntied, Walks, GoesOn, refs_at, var_roots}
 use Rattle.fa_core.specs.Dressed.{Nodes, no_nodes, more}
+use Rattle.fa_core.specs.Faces.{IsGiving}
 use Rattle.fa_core.specs.Filled.{Choice, ChoiceFilled, IsRoot, SymbolFits, RulesFit, HasSignatures, HasSome, IsSound}
 use Rattle.fa_core.specs.Member.{TreesOf, bare}
 use Rattle.fa_core.specs.declared.boxes.BoxDef.{BoxDef}
@@ -17,16 +20,21 @@ use Rattle.fa_core.specs.declared.faces.Face.{Face}
 use Rattle.fa_core.specs.declared.forest.Forest.{Forest}
 use Rattle.fa_core.specs.declared.forest.Target.{Target}
 use Rattle.fa_sound.specs.Components.{component_at}
+use Rattle.fa_sound.proofs.ComponentLemmas.{component_got}
 use Rattle.fa_merge.proofs.PlacedForests.{component_has}
 use Rattle.fa_split.specs.Divided.{HasVarsOf}
+use Rattle.fa_split.specs.Giving.{SymbolGives}
 use Rattle.fa_split.specs.Split.{CanSplit, top_rule, child_state}
+use Rattle.fa_split.proofs.LinksGive.{faces_give}
 use Rattle.fa_split.proofs.OtherComponent.{every_put}
+use Rattle.fa_split.proofs.TopRules.{top_in}
 use Rattle.fa_join.specs.Joinable.{SameRuns}
 use Rattle.fa_join.specs.Joined.{Joins}
 use Rattle.fa_join.specs.inner.Differing.{DifferAtRoot}
 use Rattle.fa_join.specs.inner.Joining.{joined, joined_at}
 use Rattle.fa_join.proofs.JoinedAutos.{joined_union, joined_symbols, joined_one}
-use Rattle.fa_join.proofs.JoinedSigned.{joined_plain, joined_signed}
+use Rattle.fa_join.proofs.GivenAlike.{SameTop, give_alike, same_choice}
+use Rattle.fa_join.proofs.JoinedSigned.{joined_plain, joined_signed, same_tops}
 
 -- Dressed forests, tree by tree.
 
@@ -84,13 +92,6 @@ module _ (T : List BoxDef) where
 
 -- Choices of trees.
 
-same_choice : (xs ys : List Automaton) → Paired HasSameLanguage xs ys → (ts : List Tree) → Choice xs ts → Choice ys ts
-same_choice [] [] h ts k = k
-same_choice [] (y ∷ ys) h ts k = absurd h
-same_choice (x ∷ xs) [] h ts k = absurd h
-same_choice (x ∷ xs) (y ∷ ys) h [] k = absurd k
-same_choice (x ∷ xs) (y ∷ ys) h (t ∷ ts) k = ((h.0 t).0 k.0, same_choice xs ys h.1 ts k.1)
-
 module _ (a b c : Automaton) (union : IsUnion a b c) where
   choice_from : (r : ℕ) (xs ys : List Automaton) → PairedBut HasSameLanguage r a b xs ys → (ts : List Tree)
       → Choice (slice_set xs r c) ts → Choice xs ts ⊎ Choice ys ts
@@ -118,8 +119,8 @@ but_long R (suc i) x y (v ∷ xs) (w ∷ ys) h = (let l = but_long R i x y xs ys
 
 module _ (face : Face) (F G : Forest) (r p : ℕ) (vars : HasVarsOf F G) (ranked_F : Every IsRanked F.autos)
     (ranked_G : Every IsRanked G.autos)
-    (tops_F : Every HasOneTop F.autos) (tops_G : Every HasOneTop G.autos) (plain_F : Every HasNoBoxes F.autos)
-    (plain_G : Every HasNoBoxes G.autos) (differ : DifferAtRoot face.boxes F G r p) where
+    (tops_F : Every HasOneTop F.autos) (tops_G : Every HasOneTop G.autos)
+    (differ : DifferAtRoot face.boxes F G r p) where
   abbrev a : Automaton
   a = component_at F.autos r
 
@@ -172,8 +173,8 @@ module _ (face : Face) (F G : Forest) (r p : ℕ) (vars : HasVarsOf F G) (ranked
   from : (ts : List Tree) → Choice J.autos ts → Choice F.autos ts ⊎ Choice G.autos ts
   from ts k = choice_from a b (joined a b p) union r F.autos G.autos differ.others ts k
 
-  pub joined_no_boxes : Every HasNoBoxes J.autos
-  joined_no_boxes = every_put HasNoBoxes F.autos r (joined a b p) plain_F
+  pub joined_no_boxes : Every HasNoBoxes F.autos → Every HasNoBoxes G.autos → Every HasNoBoxes J.autos
+  joined_no_boxes plain_F plain_G = every_put HasNoBoxes F.autos r (joined a b p) plain_F
       (joined_plain a b p (component_has IsRanked F.autos r ranked_F differ.root)
       (component_has IsRanked G.autos r ranked_G other)
       (component_has HasOneTop F.autos r tops_F differ.root) (component_has HasOneTop G.autos r tops_G other)
@@ -187,6 +188,12 @@ module _ (face : Face) (F G : Forest) (r p : ℕ) (vars : HasVarsOf F G) (ranked
       (component_has HasOneTop F.autos r tops_F differ.root) (component_has HasOneTop G.autos r tops_G other)
       differ.below.symbols differ.below.children)
 
+  tops_alike : (t u : Tree) → InLanguage a t → InLanguage b u → SameTop t u
+  tops_alike = same_tops a b p (component_has IsRanked F.autos r ranked_F differ.root)
+      (component_has IsRanked G.autos r ranked_G other)
+      (component_has HasOneTop F.autos r tops_F differ.root) (component_has HasOneTop G.autos r tops_G other)
+      differ.below.symbols differ.below.children differ.below.place
+
   filled_by : (E : Forest) → F.vars ≡ E.vars → (ts : List Tree) → ChoiceFilled face E ts → ChoiceFilled face J ts
   filled_by E e ts f = record {
     tops = f.tops;
@@ -195,8 +202,14 @@ module _ (face : Face) (F G : Forest) (r p : ℕ) (vars : HasVarsOf F G) (ranked
     cells = f.cells;
   }
 
-  pub joined_sound : IsSound face F → IsSound face G → IsSound face J
-  joined_sound f g = record {
+  -- the rule at the top gives where it leads back
+  top_gives : Every IsGiving face.boxes → SymbolGives face.boxes (top_rule a).symbol
+  top_gives giving = every_in (λ (o : Rule). SymbolGives face.boxes o.symbol) a.rules (top_rule a)
+      (faces_give face.boxes giving (a ∷ [])).0
+      (top_in a (component_has HasOneTop F.autos r tops_F differ.root))
+
+  pub joined_sound : Every IsGiving face.boxes → IsSound face F → IsSound face G → IsSound face J
+  joined_sound giving f g = record {
     well_formed = record {
       filled = record {
         data_vars = f.well_formed.filled.data_vars;
@@ -216,19 +229,21 @@ module _ (face : Face) (F G : Forest) (r p : ℕ) (vars : HasVarsOf F G) (ranked
           (joined_signed a b p (component_has IsRanked F.autos r ranked_F differ.root)
           (component_has IsRanked G.autos r ranked_G other)
           (component_has HasOneTop F.autos r tops_F differ.root) (component_has HasOneTop G.autos r tops_G other)
-          differ.below.symbols differ.below.children differ.below.place
-          (component_has HasNoBoxes F.autos r plain_F differ.root) (component_has HasNoBoxes G.autos r plain_G other)
-          face.boxes differ.below.marks
+          differ.below.symbols differ.below.children differ.below.place face.boxes (top_gives giving)
+          differ.below.marks
           (component_has (HasSignatures face.boxes) F.autos r f.well_formed.signatures differ.root)
-          (component_has (HasSignatures face.boxes) G.autos r g.well_formed.signatures other));
+          (component_has (HasSignatures face.boxes) G.autos r g.well_formed.signatures other)
+          (λ t u l m. give_alike face F G r a b (component_got F.autos r differ.root) differ.others f
+          g.well_formed.filled t u l m (tops_alike t u l m)));
     };
     full = every_put HasSome F.autos r (joined a b p) f.full
         (let t = component_has HasSome F.autos r f.full differ.root in (t.0, (union t.0).1 (inl t.1)));
   }
 
-  pub joined_canonical : IsSound face F → IsSound face G → IsCanonical face F → IsCanonical face G → IsCanonical face J
-  joined_canonical f g can other_can = record {
-    well_formed = (joined_sound f g).well_formed;
+  pub joined_canonical : Every IsGiving face.boxes → IsSound face F → IsSound face G → IsCanonical face F
+      → IsCanonical face G → IsCanonical face J
+  joined_canonical giving f g can other_can = record {
+    well_formed = (joined_sound giving f g).well_formed;
     tops = joined_tops;
     kinds = λ ts k. elim (from ts k) [
       | inl l ↦ can.kinds ts l

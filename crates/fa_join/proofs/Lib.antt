@@ -2,11 +2,13 @@ pub mod Children
 pub mod CoveredJoins
 pub mod DecidedForests
 pub mod Deciding
+pub mod GivenAlike
 pub mod JoinSteps
 pub mod JoinedAutos
 pub mod JoinedForests
 pub mod JoinedSigned
 pub mod OneForest
+pub mod OtherChild
 pub mod Rows
 pub mod RowsChildren
 pub mod Symmetric

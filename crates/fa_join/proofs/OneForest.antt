@@ -5,8 +5,8 @@ use Rattle.fore_base.specs.Lists.{Every, Paired, PairedBut}
 use Rattle.ta_core.specs.Auto.{Automaton, IsRanked}
 use Rattle.ta_core.specs.Language.{HasSameLanguage}
 use Rattle.ta_core.specs.Single.{HasOneTop}
-use Rattle.fa_core.specs.Boxless.{HasNoBoxes}
 use Rattle.fa_core.specs.Canonical.{IsCanonical}
+use Rattle.fa_core.specs.Faces.{IsGiving}
 use Rattle.fa_core.specs.Filled.{IsSound}
 use Rattle.fa_core.specs.declared.faces.Face.{Face}
 use Rattle.fa_core.specs.declared.forest.Forest.{Forest}
@@ -60,7 +60,7 @@ both_at P (x ∷ xs) zero h l = h.0
 both_at P (x ∷ xs) (suc i) h l = both_at P xs i h.1 (omega (arith, l))
 
 module _ (face : Face) (F G : Forest) (ranked_F : Every IsRanked F.autos) (ranked_G : Every IsRanked G.autos)
-    (plain_F : Every HasNoBoxes F.autos) (plain_G : Every HasNoBoxes G.autos)
+    (giving : Every IsGiving face.boxes)
     (f : IsSound face F) (g : IsSound face G) (can_F : IsCanonical face F) (can_G : IsCanonical face G)
     (h : Joinable face.boxes F G) where
   abbrev Found : Type 0
@@ -72,11 +72,10 @@ module _ (face : Face) (F G : Forest) (ranked_F : Every IsRanked F.autos) (ranke
   by_child : (r p : ℕ) → DifferAtRoot face.boxes F G r p → Found
   by_child r p d = (
     joined_at F G r p,
-    joined_sound face F G r p (sym h.vars, sym h.data_vars) ranked_F ranked_G can_F.tops can_G.tops plain_F plain_G d f
-        g,
-    joined_canonical face F G r p (sym h.vars, sym h.data_vars) ranked_F ranked_G can_F.tops can_G.tops plain_F plain_G
-        d f g can_F can_G,
-    joined_joins face F G r p (sym h.vars, sym h.data_vars) ranked_F ranked_G can_F.tops can_G.tops plain_F plain_G d,
+    joined_sound face F G r p (sym h.vars, sym h.data_vars) ranked_F ranked_G can_F.tops can_G.tops d giving f g,
+    joined_canonical face F G r p (sym h.vars, sym h.data_vars) ranked_F ranked_G can_F.tops can_G.tops d giving f g
+        can_F can_G,
+    joined_joins face F G r p (sym h.vars, sym h.data_vars) ranked_F ranked_G can_F.tops can_G.tops d,
   )
 
   at_root : (r : ℕ) → r < length F.autos → r < length G.autos

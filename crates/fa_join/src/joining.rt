@@ -3,15 +3,15 @@
 ghost use Rattle.std.specs.Prelude.{◌≡◌, IfOk};
 ghost use Rattle.fore_base.specs.Lists.{Every};
 ghost use Rattle.par_kit.specs.Crews.{IsJobs};
-ghost use Rattle.fa_core.specs.Boxless.{HasNoBoxes};
 ghost use Rattle.fa_core.specs.Canonical.{IsCanonical};
+ghost use Rattle.fa_core.specs.Faces.{IsGiving};
 ghost use Rattle.fa_core.specs.declared.forest.Forest.{Forest};
 ghost use Rattle.fa_sound.specs.Components.{component_at};
 ghost use Rattle.fa_split.specs.Divided.{HasVarsOf};
 ghost use Rattle.fa_split.specs.Split.{CanSplit};
 ghost use Rattle.fa_join.specs.Joined.{Joins};
 ghost use Rattle.fa_join.specs.inner.Differing.{CanJoin, DifferAtRoot};
-ghost use Rattle.fa_join.specs.inner.Joining.{IsReady, joined};
+ghost use Rattle.fa_join.specs.inner.Joining.{HasNoEdges, IsReady, joined};
 
 use crate::autos::join_autos;
 use crate::differing::Difference;
@@ -25,7 +25,8 @@ use std::alloc::Global;
 use std::thread::Threads;
 use ta_core::auto::Auto;
 
-/// The forest that joins the two, of which it is known where they differ. Err is want of memory.
+/// The forest that joins the two, of which it is known where they differ. Boxes that lead back give their output
+/// something, as those of each table do. Err is want of memory.
 pub fn join<R: Threads + Sync, G: Gate>(
     rt: &R,
     alloc: Global,
@@ -37,9 +38,11 @@ pub fn join<R: Threads + Sync, G: Gate>(
     requires jobs { IsJobs crew.now.jobs }
     requires left { IsReady left.now.face left.now }
     requires right { IsReady left.now.face right.now }
+    requires gives { Every IsGiving left.now.face.boxes }
     requires can { CanJoin left.now.face.boxes left.now.forest right.now.forest differing }
     ensures ready { IfOk result (IsReady left.now.face) }
     ensures joins { IfOk result (λ made. Joins left.now.forest right.now.forest made.forest) }
+    ensures plain { HasNoEdges left.now → HasNoEdges right.now → IfOk result HasNoEdges }
 {
     match differing {
         Difference::Nowhere => left.copy(alloc),
@@ -52,12 +55,12 @@ pub fn join<R: Threads + Sync, G: Gate>(
 
 /// The forest whose component at the root has, for the child, the trees of both forests there.
 fn join_below(alloc: Global, left: &Sound, right: &Sound, root: u32, child: usize) -> Mem<Sound>
-    requires plain { Every HasNoBoxes left.now.forest.autos × Every HasNoBoxes right.now.forest.autos }
+    requires gives { Every IsGiving left.now.face.boxes }
     requires canonical { IsCanonical left.now.face left.now.forest × IsCanonical left.now.face right.now.forest }
     requires face { right.now.face ≡ left.now.face }
     requires alike { HasVarsOf left.now.forest right.now.forest }
     requires differ { DifferAtRoot left.now.face.boxes left.now.forest right.now.forest root child }
-    ensures plain { IfOk result (λ made. Every HasNoBoxes made.forest.autos) }
+    ensures plain { HasNoEdges left.now → HasNoEdges right.now → IfOk result HasNoEdges }
     ensures face { IfOk result (λ made. made.face ≡ left.now.face) }
     ensures canonical { IfOk result (λ made. IsCanonical left.now.face made.forest) }
     ensures joins { IfOk result (λ made. Joins left.now.forest right.now.forest made.forest) }
@@ -86,10 +89,10 @@ fn reduced<R: Threads + Sync, G: Gate>(
     crew: &Crew<'_, G>,
 ) -> Mem<Sound>
     requires jobs { IsJobs crew.now.jobs }
-    requires plain { Every HasNoBoxes forest.now.forest.autos }
     requires canonical { IsCanonical forest.now.face forest.now.forest }
     ensures ready { IfOk result (IsReady forest.now.face) }
     ensures joins { IfOk result (λ made. (H K : Forest) → Joins H K forest.now.forest → Joins H K made.forest) }
+    ensures plain { HasNoEdges forest.now → IfOk result HasNoEdges }
 {
     let made = reduce_forest(rt, alloc, forest, crew)?;
     Ok(made)

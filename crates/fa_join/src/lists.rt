@@ -6,6 +6,7 @@ ghost use Rattle.par_kit.specs.Crews.{IsJobs};
 ghost use Rattle.fa_core.specs.Boxless.{HasNoBoxes};
 ghost use Rattle.fa_core.specs.Canonical.{IsCanonical};
 ghost use Rattle.fa_core.specs.Covering.{Reduced};
+ghost use Rattle.fa_core.specs.Faces.{IsGiving};
 ghost use Rattle.fa_core.specs.declared.boxes.BoxDef.{BoxDef};
 ghost use Rattle.fa_sound.specs.Soundness.{SoundForest};
 ghost use Rattle.fa_sound.specs.Unions.{forests};
@@ -34,8 +35,8 @@ pub struct Partner {
 
 /// Canonical forests over the face, joined until no two of them can be: each is one of those given, or joins some of
 /// them. The dressed forests together stay, each with its targets and data, and the result is canonical and reduced.
-/// The crew runs 1 to 64 jobs and has no bearing on the answer. Err is want of memory. So far only for forests without
-/// box edges.
+/// Boxes that lead back give their output something, as those of each table do. The crew runs 1 to 64 jobs and has no
+/// bearing on the answer. Err is want of memory.
 pub fn join_all<R: Threads + Sync, G: Gate>(
     rt: &R,
     alloc: Global,
@@ -45,14 +46,15 @@ pub fn join_all<R: Threads + Sync, G: Gate>(
 ) -> Mem<List<Sound>>
     requires jobs { IsJobs crew.now.jobs }
     requires faces { Every (λ s. s.face ≡ face.now) given }
-    requires plain { Every (λ s. Every HasNoBoxes s.forest.autos) given }
+    requires gives { Every IsGiving face.now.boxes }
     requires canonical { Every (λ s. IsCanonical s.face s.forest) given }
     requires reduced { Every (λ s. Reduced s.forest) given }
     ensures joined { IfOk result (λ made. (T : List BoxDef) → IsJoined T (forests given) (forests made)) }
     ensures apart { IfOk result (λ made. NoneJoinable face.now.boxes (forests made)) }
     ensures canonical { IfOk result (λ made. Every (λ s. IsCanonical s.face s.forest) made) }
     ensures reduced { IfOk result (λ made. Every (λ s. Reduced s.forest) made) }
-    ensures plain { IfOk result (λ made. Every (λ s. Every HasNoBoxes s.forest.autos) made) }
+    ensures plain { Every (λ s. Every HasNoBoxes s.forest.autos) given
+        → IfOk result (λ made. Every (λ s. Every HasNoBoxes s.forest.autos) made) }
     ensures faces { IfOk result (λ made. Every (λ s. s.face ≡ face.now) made) }
     ensures fewer { IfOk result (λ made. length made ≤ length given) }
 {
@@ -77,6 +79,7 @@ fn settle<R: Threads + Sync, G: Gate>(
     requires jobs { IsJobs crew.now.jobs }
     requires next { IsReady face.now next }
     requires done { Every (IsReady face.now) done.old }
+    requires gives { Every IsGiving face.now.boxes }
     ensures joining { OnOk result ((given : List SoundForest)
         → IsJoining face.now given (todo.old ++ next ∷ []) done.old → IsJoining face.now given todo.new done.new) }
     ensures fewer { OnOk result (2 * length todo.new + length done.new < 2 * length todo.old + length done.old + 2) }

@@ -7,6 +7,7 @@ ghost use Rattle.fa_core.specs.Boxes.{IsTableOf};
 ghost use Rattle.fa_core.specs.Boxless.{HasNoBoxes};
 ghost use Rattle.fa_core.specs.Canonical.{IsCanonical};
 ghost use Rattle.fa_core.specs.Covering.{Reduced};
+ghost use Rattle.fa_core.specs.Faces.{IsGiving};
 ghost use Rattle.fa_core.specs.declared.boxes.BoxDef.{BoxDef};
 ghost use Rattle.fa_split.specs.Divided.{forests};
 ghost use Rattle.fa_join.specs.Joinable.{NoneJoinable};
@@ -124,6 +125,7 @@ fn joined<R: Threads + Sync, G: Gate>(
     crew: &Crew<'_, G>,
 ) -> Mem<Post>
     requires jobs { IsJobs crew.now.jobs }
+    requires gives { Every IsGiving forest.now.face.boxes }
     requires settles { Settles forest.now.face forest.now.forest _edge.now settled }
     ensures settles { IfOk result (Settles forest.now.face forest.now.forest _edge.now) }
     ensures apart { IfOk result (λ p. NoneJoinable forest.now.face.boxes (forests p.next)) }

@@ -47,23 +47,27 @@ joined a b p = record {
 abbrev pub joined_at : Forest → Forest → ℕ → ℕ → Forest
 joined_at F G r p = with_component F r (joined (component_at F.autos r) (component_at G.autos r) p)
 
--- the forest stands over the face, is canonical and reduced, and has no box edges
+-- the forest stands over the face, is canonical and reduced
 pub record IsReady (face : Face) (F : SoundForest) : Type 0 where
   pub over : F.face ≡ face
-  pub plain : Every HasNoBoxes F.forest.autos
   pub canonical : IsCanonical F.face F.forest
   pub reduced : Reduced F.forest
+
+-- no box edges
+abbrev pub HasNoEdges : SoundForest → Type 0
+HasNoEdges F = Every HasNoBoxes F.forest.autos
 
 -- no forest of the list can be joined with a later one
 abbrev pub NoLater : List BoxFace → List SoundForest → Type 0
 NoLater bs [] = Unit {0}
 NoLater bs (F ∷ Fs) = Every (λ G. Joinable bs F.forest G.forest → ⊥) Fs × NoLater bs Fs
 
--- while the forests of a list are joined: those to do and those done have the dressed forests of the given ones, and of
--- those done no two can be joined
+-- while the forests of a list are joined: those to do and those done have the dressed forests of the given ones, of
+-- those done no two can be joined, and without box edges none come
 pub record IsJoining (face : Face) (given todo done : List SoundForest) : Type 0 where
   pub todo_ready : Every (IsReady face) todo
   pub done_ready : Every (IsReady face) done
   pub apart : NoLater face.boxes done
+  pub plain : Every HasNoEdges given → Every HasNoEdges todo × Every HasNoEdges done
   pub joined : (T : List BoxDef) → IsJoined T (forests given) (forests todo ++ forests done)
   pub fewer : length todo + length done ≤ length given

@@ -36,7 +36,7 @@ returns-clause-canonical g c =
     let ranked : Every IsRanked F.autos = rw (c.as_slice.ensures, c.forest.ensures) at c.ranked_autos.ensures in
     let trim : Every IsTrim F.autos = every_weaker AutoReduced IsTrim F.autos (λ a r. r.trim) c.requires.reduced in
     let middle = c.quotients_keep_canonical.ensures face F c.in_ok-middle.middle.forest c.args.height
-    c.requires.canonical ranked c.requires.plain trim c.requires.height c.in_ok-middle.ensures.quotient in
+    c.requires.canonical ranked trim c.requires.height c.in_ok-middle.ensures.quotient in
     c.in_ok-made.ensures.canonical
     (subst (λ (x : Face). IsCanonical x c.in_ok-middle.middle.forest) (sym c.in_ok-middle.ensures.face) middle)
 

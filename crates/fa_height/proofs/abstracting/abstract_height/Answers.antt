@@ -33,7 +33,7 @@ of-requires c =
     (record { autos = autos; vars = c.in_ok-vars.vars; data_vars = c.in_ok-data_vars.data_vars }))
     (sym c.face.ensures)
     (subst (IsSound face) (sym made) (made_sound face F c.args.height c.requires.height autos
-    c.in_ok-autos.ensures.quotients ranked c.requires.trim c.requires.plain c.requires.structs right
+    c.in_ok-autos.ensures.quotients ranked c.requires.trim c.requires.structs right
     c.known.ensures.sound))
 
 pub returns-clause-members : goal.returns-clause-members
@@ -56,12 +56,12 @@ returns-clause-members c =
     c.of.ensures.forest
 
 pub returns-clause-plain : goal.returns-clause-plain
-returns-clause-plain c =
+returns-clause-plain c = λ plain.
     let F = c.args.forest.now.forest in
     let face = c.args.forest.now.face in
     let ranked : Every IsRanked F.autos = c.known.ensures.ranked in
-    let plain = made_plain face F c.args.height c.requires.height c.in_ok-autos.autos c.in_ok-autos.ensures.quotients
-    ranked c.requires.trim c.requires.plain in
+    let kept = made_plain face F c.args.height c.requires.height c.in_ok-autos.autos c.in_ok-autos.ensures.quotients
+    ranked c.requires.trim plain in
     IfOk-weaker c.of.result (λ s. s.forest ≡ _) (λ x. Every HasNoBoxes x.forest.autos)
-    (λ x e. subst (λ (z : Forest). Every HasNoBoxes z.autos) (sym e) plain)
+    (λ x e. subst (λ (z : Forest). Every HasNoBoxes z.autos) (sym e) kept)
     c.of.ensures.forest

@@ -1,7 +1,6 @@
 use Rattle.std.proofs.Common.{◌≡◌, ◌++◌, ◌∷◌, [], List, subst}
 use Rattle.fore_base.specs.Lists.{Every}
 use Rattle.fore_base.proofs.ListLemmas.{every_parts, every_weaker}
-use Rattle.fa_core.specs.Boxless.{HasNoBoxes}
 use Rattle.fa_core.specs.Canonical.{IsCanonical}
 use Rattle.fa_core.specs.Covering.{Reduced}
 use Rattle.fa_sound.specs.Soundness.{SoundForest}
@@ -15,7 +14,7 @@ use Rattle.fa_join.proofs.lists.join_all.Goals as goal
 pub forests-init : goal.forests-init
 forests-init g c =
     let face = c.args.face.now in
-    let ready = all_ready face c.args.given c.requires.faces c.requires.plain c.requires.canonical c.requires.reduced in
+    let ready = all_ready face c.args.given c.requires.faces c.requires.canonical c.requires.reduced in
     rw c.new-done.ensures (joining_first face c.args.given ready)
 
 pub settle-requires-clause-next : goal.settle-requires-clause-next
@@ -51,11 +50,7 @@ returns-clause-reduced g c =
     every_weaker (IsReady c.args.face.now) (λ (s : SoundForest). Reduced s.forest) done (λ s r. r.reduced) h.done_ready
 
 pub returns-clause-plain : goal.returns-clause-plain
-returns-clause-plain g c =
-    let done = c.forests.done in
-    let h = c.forests.invariant in
-    every_weaker (IsReady c.args.face.now) (λ (s : SoundForest). Every HasNoBoxes s.forest.autos) done (λ s r. r.plain)
-    h.done_ready
+returns-clause-plain g c = λ p. (c.forests.invariant.plain p).1
 
 pub returns-clause-faces : goal.returns-clause-faces
 returns-clause-faces g c =

@@ -1,6 +1,8 @@
 use Rattle.std.proofs.Common.{◌++◌, ◌∷◌, [], length, List, ap, sym, subst, length-append, arith}
 use Rattle.std.proofs.lemmas.Result.{on_ok_weaker}
 use Rattle.fore_base.proofs.ListLemmas.{every_in, in_from_place}
+use Rattle.fore_base.specs.Lists.{Every}
+use Rattle.fa_core.specs.Faces.{IsGiving}
 use Rattle.fa_core.specs.declared.faces.Face.{Face}
 use Rattle.fa_sound.specs.Soundness.{SoundForest}
 use Rattle.fa_join.specs.inner.Differing.{CanJoin}
@@ -44,6 +46,15 @@ join-requires-clause-can g c κs within =
     let can = partner_joins face.boxes done next.forest found other partner c.remove-other.ensures.item in
     subst (λ (f : Face). CanJoin f.boxes other.forest next.forest found.differing) (sym ready.over) can
 
+pub join-requires-clause-gives : goal.join-requires-clause-gives
+join-requires-clause-gives g c κs within =
+    let face = c.args.face.now in
+    let done = c.args.done.now in
+    let other = c.remove-other.result in
+    let ready = every_in (IsReady face) done other c.requires.done
+    (in_from_place done c.in-Some.found.place other c.remove-other.ensures.item) in
+    subst (λ (f : Face). Every IsGiving f.boxes) (sym ready.over) c.requires.gives
+
 pub returns-in-None-clause-joining : goal.returns-in-None-clause-joining
 returns-in-None-clause-joining g c =
     let face = c.args.face.now in
@@ -71,7 +82,7 @@ returns-in_ok-made-in-Some-clause-joining g c =
     (λ e given h. subst (λ (z : List SoundForest). IsJoining face given z c.remove-other.new.self) (sym e)
     (subst (λ (z : List SoundForest). IsJoining face given (todo ++ made ∷ []) z) (sym c.remove-other.ensures.rest)
     (joining_join face given todo done next other made c.in-Some.found.place c.remove-other.ensures.item made_ready
-    c.in_ok-made-in-Some.ensures.joins h)))
+    c.in_ok-made-in-Some.ensures.plain c.in_ok-made-in-Some.ensures.joins h)))
     c.push-in-Some.ensures.ok
 
 pub returns-in_ok-made-in-Some-clause-fewer : goal.returns-in_ok-made-in-Some-clause-fewer

@@ -1,5 +1,7 @@
-use Rattle.std.proofs.Common.{◌≡◌, ◌∙◌, [], ap, arith}
+use Rattle.std.proofs.Common.{◌≡◌, ◌∙◌, [], ap, sym, subst, arith}
+use Rattle.fore_base.specs.Lists.{Every}
 use Rattle.fa_core.specs.Boxes.{faces_of}
+use Rattle.fa_core.specs.Faces.{IsGiving}
 use Rattle.fa_core.specs.declared.faces.Face.{Face}
 use Rattle.fa_core.proofs.Boxless.{sound_plain}
 use Rattle.sym_step.proofs.SettledForests.{settled_all, settled_cases, settled_canonical, settled_reduced}
@@ -12,6 +14,13 @@ open_forest-requires-clause-plain g c =
     let none : F.face.boxes ≡ [] = ap (λ (f : Face). f.boxes) c.requires.face ∙ c.known-2.ensures.faces
     ∙ ap faces_of c.requires.empty in
     sound_plain F.face F.forest c.known.ensures.sound none
+
+pub joined-requires-clause-gives : goal.joined-requires-clause-gives
+joined-requires-clause-gives g c =
+    let F = c.args.forest.now in
+    let none : F.face.boxes ≡ [] = ap (λ (f : Face). f.boxes) c.requires.face ∙ c.known-2.ensures.faces
+    ∙ ap faces_of c.requires.empty in
+    subst (Every IsGiving) (sym none) tt
 
 pub returns-clause-all : goal.returns-clause-all
 returns-clause-all g c =
