@@ -5,8 +5,6 @@
 // - `abstracted HEIGHT | FOREST | WANTED | ..`: the letter alone, for the quotient with its components reduced.
 
 ghost use Rattle.std.specs.Prelude.{◌≤◌, IfOk};
-ghost use Rattle.fore_base.specs.Lists.{Every};
-ghost use Rattle.fa_core.specs.Boxless.{HasNoBoxes};
 ghost use Rattle.fa_core.specs.Canonical.{IsCanonical};
 ghost use Rattle.fa_core.specs.Covering.{Reduced};
 
@@ -18,7 +16,7 @@ use fa_order::{is_canonical, reduce_forest};
 use fa_sound::Sound;
 use par_kit::crew::Crew;
 use par_kit::gate::NoGate;
-use row_forests::{letter, sound};
+use row_forests::{boxed, letter};
 use std::alloc::Global;
 use std::thread::Threads;
 
@@ -44,7 +42,6 @@ pub fn answer_on_quotients<R: Threads + Sync>(
 }
 
 fn canonical<R: Threads + Sync>(rt: &R, alloc: Global, text: &str) -> Result<Sound>
-    ensures plain { IfOk result (λ s. Every HasNoBoxes s.forest.autos) }
     ensures canonical { IfOk result (λ s. IsCanonical s.face s.forest) }
     ensures reduced { IfOk result (λ s. Reduced s.forest) }
 {
@@ -52,7 +49,7 @@ fn canonical<R: Threads + Sync>(rt: &R, alloc: Global, text: &str) -> Result<Sou
         jobs: 1,
         gate: &NoGate,
     };
-    let forest = sound(alloc, text)?;
+    let forest = boxed(alloc, text)?;
     let made = reduce_forest(rt, alloc, &forest, &crew)?;
     if !is_canonical(alloc, &made)? {
         bail!("not canonical");
@@ -61,7 +58,6 @@ fn canonical<R: Threads + Sync>(rt: &R, alloc: Global, text: &str) -> Result<Sou
 }
 
 fn quotient(alloc: Global, forest: &Sound, height: u32, wanted: &[&str]) -> Result<String>
-    requires plain { Every HasNoBoxes forest.now.forest.autos }
     requires canonical { IsCanonical forest.now.face forest.now.forest }
     requires reduced { Reduced forest.now.forest }
     requires height { 1 ≤ height }
@@ -87,7 +83,6 @@ fn reduced_quotient<R: Threads + Sync>(
     height: u32,
     wanted: &[&str],
 ) -> Result<String>
-    requires plain { Every HasNoBoxes forest.now.forest.autos }
     requires canonical { IsCanonical forest.now.face forest.now.forest }
     requires reduced { Reduced forest.now.forest }
     requires height { 1 ≤ height }

@@ -2,9 +2,9 @@
 
 ghost use Rattle.std.specs.Prelude.{◌≡◌, IfOk};
 ghost use Rattle.fore_base.specs.Lists.{Every};
-ghost use Rattle.fa_core.specs.Boxless.{HasNoBoxes};
 ghost use Rattle.fa_core.specs.Canonical.{IsCanonical};
 ghost use Rattle.fa_core.specs.Covering.{Reduced};
+ghost use Rattle.fa_core.specs.Faces.{IsGiving};
 
 use anyhow::{Context, Result, bail};
 use fa_core::faces::Face;
@@ -14,7 +14,7 @@ use fa_sound::Sound;
 use fore_base::list::List;
 use par_kit::crew::Crew;
 use par_kit::gate::NoGate;
-use row_forests::{face, letters, sound_over};
+use row_forests::{boxed_over, face_with_boxes, letters};
 use std::alloc::Global;
 use std::thread::Threads;
 
@@ -27,7 +27,7 @@ pub fn join<R: Threads + Sync>(
 ) -> Result<String> {
     let count = count.parse::<usize>()?;
     let (given, others) = texts.split_at_checked(count).context("too few forests")?;
-    let face = face(alloc)?;
+    let face = face_with_boxes(alloc)?;
     let made = joined(rt, alloc, &face, given)?;
     letters(alloc, made.as_slice(), others)
 }
@@ -37,7 +37,9 @@ fn joined<R: Threads + Sync>(
     alloc: Global,
     face: &Face,
     texts: &[&str],
-) -> Result<List<Sound>> {
+) -> Result<List<Sound>>
+    requires { Every IsGiving face.now.boxes }
+{
     let forests = all_ready(rt, alloc, face, texts)?;
     let crew = Crew {
         jobs: 1,
@@ -53,7 +55,6 @@ fn all_ready<R: Threads + Sync>(
     texts: &[&str],
 ) -> Result<List<Sound>>
     ensures faces { IfOk result (Every (λ s. s.face ≡ face.now)) }
-    ensures plain { IfOk result (Every (λ s. Every HasNoBoxes s.forest.autos)) }
     ensures canonical { IfOk result (Every (λ s. IsCanonical s.face s.forest)) }
     ensures reduced { IfOk result (Every (λ s. Reduced s.forest)) }
 {
@@ -68,18 +69,15 @@ fn all_ready<R: Threads + Sync>(
 // The forest over the face, which is canonical, reduced.
 fn ready<R: Threads + Sync>(rt: &R, alloc: Global, face: &Face, text: &str) -> Result<Sound>
     ensures face { IfOk result (λ s. s.face ≡ face.now) }
-    ensures plain { IfOk result (λ s. Every HasNoBoxes s.forest.autos) }
     ensures canonical { IfOk result (λ s. IsCanonical s.face s.forest) }
     ensures reduced { IfOk result (λ s. Reduced s.forest) }
 {
-    let forest = sound_over(alloc, face, text)?;
+    let forest = boxed_over(alloc, face, text)?;
     reduced(rt, alloc, &forest)
 }
 
 fn reduced<R: Threads + Sync>(rt: &R, alloc: Global, forest: &Sound) -> Result<Sound>
-    requires plain { Every HasNoBoxes forest.now.forest.autos }
     ensures face { IfOk result (λ s. s.face ≡ forest.now.face) }
-    ensures plain { IfOk result (λ s. Every HasNoBoxes s.forest.autos) }
     ensures canonical { IfOk result (λ s. IsCanonical s.face s.forest) }
     ensures reduced { IfOk result (λ s. Reduced s.forest) }
 {
