@@ -32,4 +32,4 @@ returns-clause-regrouped g c =
       regroups = p.regroups;
       whole = p.whole;
     })
-    (covered_both P c.in_ok-reduced.reduced r.face r.plain r.covered r.covers)
+    (covered_both P c.in_ok-reduced.reduced r.face (r.plain p.plain) r.covered r.covers)

@@ -15,7 +15,7 @@ returns-clause-split g c =
     let list : c.push.new.self ≡ G ∷ [] = c.in_ok-push.ensures.ok
     ∙ ap (λ (z : List SoundForest). z ++ G ∷ []) c.new-made.ensures in
     subst (λ (z : List SoundForest). IsSplitEach IsFinished (F ∷ []) z) (sym list)
-    (regrouped_step IsFinished F G (covered_both F G r.face r.plain r.covered r.covers)
+    (regrouped_step IsFinished F G (covered_both F G r.face (r.plain c.requires.plain) r.covered r.covers)
     (r.canonical c.requires.canonical, r.reduced))
 
 pub returns-clause-same : goal.returns-clause-same
