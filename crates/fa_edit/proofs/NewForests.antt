@@ -1,6 +1,7 @@
 -- The forest with a new cell: its dressed forests, and that it is sound.
 use Rattle.std.proofs.Common.{◌≡◌, inl, inr, ℕ, zero, suc, ◌<◌, ◌+◌, length, replicate, List, [], ◌∷◌, ◌++◌, map}
-use Rattle.std.proofs.Common.{flat_map, refl, sym, ap, subst, ◌∙◌, slice_get, Some, IsSome, length-append, append-nil, arith}
+use Rattle.std.proofs.Common.{flat_map, refl, sym, ap, subst, ◌∙◌, slice_get, Some, IsSome, length-append, append-nil}
+use Rattle.std.proofs.Common.{arith}
 use Rattle.std.proofs.lemmas.Option.{none-some}
 use Rattle.fore_base.specs.Lists.{IsIn, Every}
 use Rattle.fore_base.specs.Shapes.{targets_of, datums_of}

@@ -1,7 +1,8 @@
 -- A store of the forest without a root is a store of the forest without the root's cell.
-use Rattle.std.proofs.Common.{◌≡◌, inl, inr, ℕ, zero, suc, ◌<◌, Bool, true, false, true≢false, if◌then◌else◌, nat_eq}
+use Rattle.std.proofs.Common.{◌≡◌, inl, inr, ℕ, zero, suc, ◌<◌, ◌+◌, Bool, true, false, true≢false, if◌then◌else◌}
+use Rattle.std.proofs.Common.{nat_eq}
 use Rattle.std.proofs.Common.{length, List, [], ◌∷◌, ◌++◌, map, flat_map, refl, sym, ap, ap₂, subst, ◌∙◌, Some}
-use Rattle.std.proofs.Common.{append-nil, arith}
+use Rattle.std.proofs.Common.{arith}
 use Rattle.std.proofs.lemmas.Bool.{eqb-true, eq-eqb}
 use Rattle.std.proofs.lemmas.List.Sorted.{IsPermutation-refl}
 use Rattle.std.proofs.lemmas.Option.{none-some, same_Some}
@@ -18,39 +19,34 @@ use Rattle.fore_base.specs.declared.store.Value.{Value}
 use Rattle.fore_base.specs.declared.store.Value.TheVariants.{Null as NullValue, Uninit as UninitValue}
 use Rattle.fore_base.specs.declared.store.Value.TheVariants.{Dangling as DanglingValue, Cell}
 use Rattle.fore_base.proofs.ListLemmas.{in_left, in_right, every_weaker, every_map, every_mapped}
-use Rattle.ta_core.specs.declared.tree.Tree.{Tree}
 use Rattle.fa_core.specs.declared.boxes.BoxDef.{BoxDef}
 use Rattle.fa_core.specs.declared.faces.BoxFace.{BoxFace}
 use Rattle.fa_core.specs.declared.faces.Face.{Face}
 use Rattle.fa_core.specs.declared.forest.Forest.{Forest}
 use Rattle.fa_core.specs.declared.forest.Target.{Target}
 use Rattle.fa_core.specs.declared.forest.Target.TheVariants.{Null, Uninit, Dangling, At}
-use Rattle.fa_core.specs.Boxless.{HasNoBoxes}
-use Rattle.fa_core.specs.Choices.{numbers, all_numbers, bares}
+use Rattle.fa_core.specs.Boxes.{IsTableOf, head_of, heads}
+use Rattle.fa_core.specs.Choices.{numbers, all_numbers}
 use Rattle.fa_core.specs.Dressed.{Node, Parts, Nodes, node, no_parts, field, link, hook, under, leaf, no_nodes, more}
 use Rattle.fa_core.specs.Dressed.{Fact, Head, Points, facts, tree_facts, slot_facts, forest_facts, value_in, nth_value}
 use Rattle.fa_core.specs.Dressed.{roots_of, number}
-use Rattle.fa_core.specs.Filled.{IsFilled, IsFilledSpot, Spot, covers, fields_of, spots}
-use Rattle.fa_core.specs.Member.{OfForest, StandsBy, HasItsFields, store_facts, cell_facts, points, bare, slots_of}
+use Rattle.fa_core.specs.Filled.{IsFilled, covers, fields_of}
+use Rattle.fa_core.specs.Member.{OfForest, StandsBy, HasItsFields, store_facts, cell_facts, points, slots_of}
+use Rattle.fa_core.specs.Placed.{placed_all}
 use Rattle.fa_core.specs.Rearranged.{Rearranged, keep, chain}
-use Rattle.fa_core.proofs.Dressing.{choice_of}
-use Rattle.fa_core.proofs.NodeSpots.{node_spots, spots_are}
 use Rattle.fa_core.proofs.Permuted.{in_rearranged}
-use Rattle.fa_core.proofs.Placing.{all_numbers_placed}
-use Rattle.fa_core.proofs.PlainNodes.{trees_no_edges}
-use Rattle.fa_core.proofs.Rearranging.{equal, back, after, both, exchange}
-use Rattle.fa_sound.proofs.Choices.{filled_trees}
-use Rattle.fa_sound.proofs.NothingGiven.{nothing_given}
-use Rattle.fa_merge.specs.Dropped.{drop_leaf, without_node, dropped, AreLeaves, IsFlatRoot, IsCut, Restores}
+use Rattle.fa_core.proofs.Given.{root_numbers}
+use Rattle.fa_core.proofs.Rearranging.{back, both, flat_map-append}
+use Rattle.fa_merge.specs.Dropped.{drop_leaf, without_node, dropped, AreLeaves, IsFlatRoot, IsIdle, IsCut, Restores}
 use Rattle.fa_back.specs.Reached.{node_at}
 use Rattle.fa_merge.specs.Dropped.{without_cell}
-use Rattle.fa_merge.proofs.DroppedFacts.{dangle_fact, dangle_self, leaves_dropped, facts_dropped}
-use Rattle.fa_merge.proofs.DroppedSound.{without_plain}
+use Rattle.fa_merge.proofs.DroppedClear.{bound_all, bound_same, above_all, own_once, all_clear}
+use Rattle.fa_merge.proofs.DroppedFacts.{insides_in, insides_without, leaves_dropped, facts_dropped, root_first}
+use Rattle.fa_merge.proofs.DroppedInsides.{dangle_fact, dangle_self, NoFact, HaveInputs, table_inputs}
 use Rattle.fa_back.proofs.FactParts.{fact_cell, fact_value, top_in}
 use Rattle.fa_merge.proofs.FieldFacts.{no_list, first_same, later_same, unmap, split_map, is_head, fact_field, IsOwn}
 use Rattle.fa_merge.proofs.FieldFacts.{every_there, in_order, fact_count}
-use Rattle.fa_back.proofs.StoreLaws.{has_cell}
-use Rattle.fa_merge.proofs.StoreNumbers.{same_numbers}
+use Rattle.fa_back.proofs.StoreLaws.{has_cell, same_numbers as heads_numbered}
 
 -- The cells of a store.
 
@@ -137,15 +133,6 @@ module _ (c : ℕ) where
 
 -- The root's cell.
 
-root_first : (vs : List Value) (r : ℕ) (d : Nodes) (n : Node) → node_at d r ≡ Some n
-    → Rearranged (forest_facts vs [] d) (tree_facts vs n ++ forest_facts vs [] (without_node r d))
-root_first vs r no_nodes n e = absurd (none-some n e)
-root_first vs zero (more m ms) n e =
-    equal (ap (λ (x : Node). tree_facts vs x ++ forest_facts vs [] ms) (same_Some m n e))
-root_first vs (suc r) (more m ms) n e =
-    chain (after (tree_facts vs m) (root_first vs r ms n e))
-    (exchange (tree_facts vs m) (tree_facts vs n) (forest_facts vs [] (without_node r ms)))
-
 -- its slots are its fields
 flat_fields : (bs : List BoxFace) (vs : List Value) (c : ℕ) (ps : Parts) → AreLeaves ps
     → map fact_field (slot_facts vs c ps) ≡ flat_map (covers bs) (slots_of ps)
@@ -175,22 +162,6 @@ values_of : (P : Value → Type 0) (xs : List Fact) → Every (λ (x : Fact). P 
     → Every P (map fact_value xs)
 values_of P xs h = every_map fact_value P xs h
 
--- the spot of a root's cell
-root_spot : (face : Face) (tops : List ℕ) (c s : ℕ) (ds : List Datum) (ps : Parts) (r : ℕ) (d : Nodes)
-    → node_at d r ≡ Some (node c s ds ps)
-    → Every (λ (t : Tree). Every (IsFilledSpot face tops) (spots face.boxes t [])) (bares d)
-    → Rearranged (fields_of face.shapes.structs s) (flat_map (covers face.boxes) (slots_of ps))
-root_spot face tops c s ds ps r no_nodes e h = absurd (none-some (node c s ds ps) e)
-root_spot face tops c s ds ps zero (more n ns) e h =
-    let y : Every (IsFilledSpot face tops) (spots face.boxes (bare (node c s ds ps)) []) =
-    subst (λ (m : Node). Every (IsFilledSpot face tops) (spots face.boxes (bare m) []))
-    (same_Some n (node c s ds ps) e) h.0 in
-    let z : Every (IsFilledSpot face tops) (node_spots face.boxes (node c s ds ps) []) =
-    subst (λ (l : List Spot). Every (IsFilledSpot face tops) l) (spots_are face.boxes (node c s ds ps) []) y in
-    subst (λ (l : List ℕ). Rearranged (fields_of face.shapes.structs s) l)
-    (append-nil (flat_map (covers face.boxes) (slots_of ps))) z.0.once
-root_spot face tops c s ds ps (suc r) (more n ns) e h = root_spot face tops c s ds ps r ns e h.1
-
 -- Values that name cells of the store.
 
 pub roots_named : (cs : List CellRec) (d : Nodes) → ((n : ℕ) → IsIn n (all_numbers d) → HasCell cs n) → (k : ℕ)
@@ -198,6 +169,25 @@ pub roots_named : (cs : List CellRec) (d : Nodes) → ((n : ℕ) → IsIn n (all
 roots_named cs no_nodes h k = tt
 roots_named cs (more n ns) h zero = h (number n) (in_left (number n) (numbers n) (all_numbers ns) (top_in n))
 roots_named cs (more n ns) h (suc k) = roots_named cs ns (λ m i. h m (in_right m (numbers n) (all_numbers ns) i)) k
+
+-- only the cells of the roots count
+root_named : (cs : List CellRec) (d : Nodes) → ((n : ℕ) → IsIn n (root_numbers d) → HasCell cs n) → (k : ℕ)
+    → NamesCell cs (nth_value (roots_of d) k)
+root_named cs no_nodes h k = tt
+root_named cs (more n ns) h zero = h (number n) (inl refl)
+root_named cs (more n ns) h (suc k) = root_named cs ns (λ m i. h m (inr i)) k
+
+root_head : (vs : List Value) (ns : Nodes) (n : ℕ) → IsIn n (root_numbers ns) → IsIn n (heads (forest_facts vs [] ns))
+root_head vs no_nodes n i = i
+root_head vs (more (node c s ds ps) ns) n (inl e) = inl e
+root_head vs (more m ns) n (inr i) =
+    subst (λ (z : List ℕ). IsIn n z) (sym (flat_map-append head_of (tree_facts vs m) (forest_facts vs [] ns)))
+    (in_right n (heads (tree_facts vs m)) (heads (forest_facts vs [] ns)) (root_head vs ns n i))
+
+-- other leaves leave the numbers of the roots
+roots_stay : (f : ℕ → Target) (d : Nodes) → root_numbers (placed_all f d) ≡ root_numbers d
+roots_stay f no_nodes = refl
+roots_stay f (more (node c s ds ps) ns) = ap (λ (z : List ℕ). c ∷ z) (roots_stay f ns)
 
 every_below : (cs : List CellRec) (m n : ℕ) → Every (λ (x : CellRec). x.number < m) cs → HasCell cs n → n < m
 every_below [] m n h i = absurd i
@@ -231,15 +221,18 @@ alike_by s t v d c = record {
       (IsPermutation-refl t.cells);
 }
 
-module _ (T : List BoxDef) (face : Face) (F G : Forest) (r : ℕ) (plain : Every HasNoBoxes F.autos)
-    (plain_cut : Every HasNoBoxes G.autos) (filled : IsFilled face F) (cut : IsCut T F G r) (d : Nodes) (u : Store)
+module _ (T : List BoxDef) (face : Face) (F G : Forest) (r : ℕ) (table : IsTableOf face T) (filled : IsFilled face F)
+    (idle : IsIdle face.boxes F r) (cut : IsCut T F G r) (d : Nodes) (u : Store)
     (h : StandsBy face.shapes.structs T G d u) where
   abbrev hs : List Shape
   hs = face.shapes.structs
 
-  -- a number that no cell has
+  -- a number that no cell has, those of insides among them
   abbrev c : ℕ
-  c = u.next
+  c = suc (u.next + bound_all d)
+
+  inputs : HaveInputs T
+  inputs = table_inputs face.shapes T table.sound
 
   module _ (e : Nodes) (of : OfForest T F e) (is_cut : dropped r e ≡ d) (s : ℕ) (ds : List Datum) (ps : Parts)
       (is : node_at e r ≡ Some (node c s ds ps)) (flat : AreLeaves ps) where
@@ -249,20 +242,23 @@ module _ (T : List BoxDef) (face : Face) (F G : Forest) (r : ℕ) (plain : Every
     abbrev rest : Nodes
     rest = without_node r e
 
-    there : (n : ℕ) → IsIn n (all_numbers d) → HasCell u.cells n
-    there n i = has_cell u.cells n
-        (in_rearranged n (same_numbers hs T G d u h (trees_no_edges T G.autos d plain_cut h.of)) i)
+    there : (n : ℕ) → IsIn n (root_numbers rest) → HasCell u.cells n
+    there n i =
+        has_cell u.cells n
+        (in_rearranged n (heads_numbered hs T G d u h)
+        (root_head (roots_of d) d n
+        (subst (λ (z : Nodes). IsIn n (root_numbers z)) is_cut
+        (subst (λ (z : List ℕ). IsIn n z) (sym (roots_stay (drop_leaf r) rest)) i))))
 
-    apart : IsIn c (all_numbers rest) → ⊥
-    apart i =
-        let l = every_below u.cells c c h.proper.below
-        (there c
-        (subst (λ (z : Nodes). IsIn c (all_numbers z)) is_cut
-        (subst (λ (z : List ℕ). IsIn c z) (sym (all_numbers_placed (drop_leaf r) rest)) i))) in
-        absurd (omega (arith, l))
+    low : bound_all rest < c
+    low = let a = bound_same (drop_leaf r) rest in
+        let b : bound_all (dropped r e) ≡ bound_all d = ap bound_all is_cut in omega (arith, a, b)
+
+    clear : NoFact c (forest_facts (roots_of e) [] (without_node r e))
+    clear = all_clear face T F r table filled idle e of c s ds ps is flat (above_all vs rest c low)
 
     rest_facts : map (dangle_fact c) (forest_facts vs [] rest) ≡ facts d
-    rest_facts = sym (facts_dropped c s ds ps r e is apart (without_plain r e (trees_no_edges T F.autos e plain of)))
+    rest_facts = sym (facts_dropped T inputs c s ds ps r e is clear (insides_without T r e (insides_in T F.autos e of)))
         ∙ ap facts is_cut
 
     lifted : (xs : List Fact) × Rearranged (forest_facts vs [] rest) xs × (map (dangle_fact c) xs ≡ store_facts u.cells)
@@ -276,13 +272,8 @@ module _ (T : List BoxDef) (face : Face) (F G : Forest) (r : ℕ) (plain : Every
 
     -- the fields of the root's cell, in order
     slots : Rearranged (map fact_field (slot_facts vs c ps)) (fields_of hs s)
-    slots =
-        let ts = bares e in
-        let choice = choice_of T F.autos e of in
-        let cf = filled.trees ts choice in
-        let old = filled_trees face ts (nothing_given face.boxes F.autos plain ts choice) cf.tops 0 ts cf.cells in
-        subst (λ (z : List ℕ). Rearranged z (fields_of hs s)) (sym (flat_fields face.boxes vs c ps flat))
-        (back (root_spot face cf.tops c s ds ps r e is old))
+    slots = subst (λ (z : List ℕ). Rearranged z (fields_of hs s)) (sym (flat_fields face.boxes vs c ps flat))
+        (back (own_once face T F r table filled idle e of c s ds ps is flat))
 
     fields_back : (xs : List Fact) × Rearranged (slot_facts vs c ps) xs × (map fact_field xs ≡ fields_of hs s)
     fields_back = unmap fact_field slots (slot_facts vs c ps) refl
@@ -300,7 +291,7 @@ module _ (T : List BoxDef) (face : Face) (F G : Forest) (r : ℕ) (plain : Every
 
     not_there : HasCell ks c → ⊥
     not_there i =
-        let l = every_below u.cells c c h.proper.below
+        let l = every_below u.cells u.next c h.proper.below
         (subst (λ (z : List CellRec). HasCell z c) cells_back.2 (is_there c ks c i)) in
         absurd (omega (arith, l))
 
@@ -317,17 +308,14 @@ module _ (T : List BoxDef) (face : Face) (F G : Forest) (r : ℕ) (plain : Every
             here true = tt
             here false = k
 
-        root_value : (x : Nodes) (j k : ℕ) → ((n : ℕ) → IsIn n (all_numbers (without_node j x)) → HasCell u.cells n)
+        root_value : (x : Nodes) (j k : ℕ) → ((n : ℕ) → IsIn n (root_numbers (without_node j x)) → HasCell u.cells n)
             → nth_value (roots_of x) j ≡ Cell c → NamesCell u.cells (dangle c (nth_value (roots_of x) k))
         root_value no_nodes j k f q = tt
         root_value (more n ns) zero zero f q =
             subst (λ (z : Value). NamesCell u.cells z) (sym (ap (dangle c) q ∙ dangle_self c)) tt
-        root_value (more n ns) zero (suc k) f q = apart_value (nth_value (roots_of ns) k) (roots_named u.cells ns f k)
-        root_value (more n ns) (suc j) zero f q =
-            apart_value (Cell (number n))
-            (f (number n) (in_left (number n) (numbers n) (all_numbers (without_node j ns)) (top_in n)))
-        root_value (more n ns) (suc j) (suc k) f q =
-            root_value ns j k (λ m i. f m (in_right m (numbers n) (all_numbers (without_node j ns)) i)) q
+        root_value (more n ns) zero (suc k) f q = apart_value (nth_value (roots_of ns) k) (root_named u.cells ns f k)
+        root_value (more n ns) (suc j) zero f q = apart_value (Cell (number n)) (f (number n) (inl refl))
+        root_value (more n ns) (suc j) (suc k) f q = root_value ns j k (λ m i. f m (inr i)) q
 
         own_value : (j : ℕ) (x : Nodes) → node_at x j ≡ Some (node c s ds ps) → nth_value (roots_of x) j ≡ Cell c
         own_value j no_nodes q = absurd (none-some (node c s ds ps) q)
@@ -338,15 +326,11 @@ module _ (T : List BoxDef) (face : Face) (F G : Forest) (r : ℕ) (plain : Every
         value Null = tt
         value Uninit = tt
         value Dangling = tt
-        value (At k) = root_value e r k
-            (λ n i.
-            there n
-            (subst (λ (z : Nodes). IsIn n (all_numbers z)) is_cut
-            (subst (λ (z : List ℕ). IsIn n z) (sym (all_numbers_placed (drop_leaf r) rest)) i))) (own_value r e is)
+        value (At k) = root_value e r k there (own_value r e is)
 
     vars_back : map (dangle c) (map (value_in vs) F.vars) ≡ u.vars
     vars_back =
-        sym (leaves_dropped c s ds ps r e is apart F.vars)
+        sym (leaves_dropped T inputs c s ds ps r e is clear F.vars)
         ∙ sym (ap (map (value_in (roots_of (dropped r e)))) cut.vars)
         ∙ ap (λ (z : Nodes). map (value_in (roots_of z)) G.vars) is_cut
         ∙ sym h.vars
@@ -368,8 +352,11 @@ module _ (T : List BoxDef) (face : Face) (F G : Forest) (r : ℕ) (plain : Every
     proper : IsProper store
     proper = record {
       differ = (not_there, did_differ c ks (subst AllDiffer (sym cells_back.2) h.proper.differ));
-      below =
-          (omega arith, before (λ x. x.number < c) (λ x. x.number < suc c) h.proper.below (λ x l. omega (arith, l)));
+      below = (
+        omega arith,
+        before (λ x. x.number < u.next) (λ x. x.number < suc c) h.proper.below
+            (λ x l. omega (arith, l)),
+      );
       vars = by_target F.vars;
       fields = (
         own_fields,
@@ -421,6 +408,6 @@ module _ (T : List BoxDef) (face : Face) (F G : Forest) (r : ℕ) (plain : Every
       )
 
 -- each store of the forest cut is one of the forest without the root's cell
-pub store_restored : (T : List BoxDef) (face : Face) (F G : Forest) (r : ℕ) → Every HasNoBoxes F.autos
-    → Every HasNoBoxes G.autos → IsFilled face F → IsCut T F G r → Restores face.shapes.structs T F G r
-store_restored T face F G r plain plain_cut filled cut d u h = store_back T face F G r plain plain_cut filled cut d u h
+pub store_restored : (T : List BoxDef) (face : Face) (F G : Forest) (r : ℕ) → IsTableOf face T → IsFilled face F
+    → IsIdle face.boxes F r → IsCut T F G r → Restores face.shapes.structs T F G r
+store_restored T face F G r table filled idle cut d u h = store_back T face F G r table filled idle cut d u h

@@ -9,54 +9,41 @@ use Rattle.fore_base.specs.Stores.{dangle, dangle_in, without}
 use Rattle.fore_base.specs.declared.store.CellRec.{CellRec}
 use Rattle.fore_base.specs.declared.store.Datum.{Datum}
 use Rattle.fore_base.specs.declared.store.Value.{Value}
-use Rattle.fore_base.specs.declared.store.Value.TheVariants.{Dangling as DanglingValue, Cell}
+use Rattle.fore_base.specs.declared.store.Value.TheVariants.{Cell}
 use Rattle.fore_base.proofs.ListLemmas.{in_left, in_right, in_append}
+use Rattle.ta_core.specs.Auto.{Automaton}
+use Rattle.fa_core.specs.declared.boxes.BoxDef.{BoxDef}
 use Rattle.fa_core.specs.declared.forest.Target.{Target}
 use Rattle.fa_core.specs.declared.forest.Target.TheVariants.{Null, Uninit, Dangling, At}
 use Rattle.fa_core.specs.Choices.{numbers, numbers_of, end_numbers, all_numbers}
 use Rattle.fa_core.specs.Dressed.{Node, Parts, End, Nodes, node, no_parts, field, link, hook, under, leaf, no_nodes}
 use Rattle.fa_core.specs.Dressed.{more, Fact, Head, Points, tree_facts, slot_facts, end_facts, forest_facts, value_in}
-use Rattle.fa_core.specs.Dressed.{nth_value, roots_of, number}
-use Rattle.fa_core.specs.Member.{store_facts, cell_facts, points}
-use Rattle.fa_core.specs.Placed.{placed, placed_leaf, placed_parts, placed_all}
+use Rattle.fa_core.specs.Dressed.{nth_value, end_value, inside_facts, roots_of, number}
+use Rattle.fa_core.specs.Member.{TreesOf, InsidesOf, InsidesOfParts, InsidesOfEnd, store_facts, cell_facts, points}
+use Rattle.fa_core.specs.Placed.{placed, placed_leaf, placed_parts, placed_end, placed_all}
 use Rattle.fa_core.specs.Rearranged.{Rearranged, empty, keep, swap, chain}
 use Rattle.fa_core.proofs.PlainNodes.{NoEdges, NoEdgesOf, NoEdgesAt, NoEdgesIn}
-use Rattle.fa_core.proofs.Placing.{number_placed, roots_placed}
-use Rattle.fa_core.proofs.Rearranging.{same}
+use Rattle.fa_core.proofs.Given.{root_numbers}
+use Rattle.fa_core.proofs.Placing.{roots_placed}
+use Rattle.fa_core.proofs.Rearranging.{same, equal, after, exchange}
 use Rattle.fa_merge.specs.Dropped.{drop_leaf, without_node, dropped, AreLeaves}
 use Rattle.fa_back.specs.Reached.{node_at}
 use Rattle.fa_merge.specs.Merged.{lowered}
-use Rattle.fa_merge.proofs.DroppedSound.{lowered_suc}
-use Rattle.fa_back.proofs.FactParts.{fact_cell, top_in}
+use Rattle.fa_merge.proofs.DroppedInsides.{dangle_fact, dangle_self, dangle_other, NoFact, none_left, none_right}
+use Rattle.fa_merge.proofs.DroppedInsides.{HaveInputs, both_dangle, link_ports, hook_ports, inside_dangled}
+use Rattle.fa_merge.proofs.DroppedLists.{lowered_suc}
+use Rattle.fa_back.proofs.FactParts.{fact_cell}
 use Rattle.fa_merge.proofs.Lowered.{lowered_above, lowered_below}
 
--- Values without a cell.
-
-abbrev pub dangle_fact : ℕ → Fact → Fact
-dangle_fact c (Head n s ds) = Head n s ds
-dangle_fact c (Points n f v) = Points n f (dangle c v)
-
-pub dangle_self : (c : ℕ) → dangle c (Cell c) ≡ DanglingValue
-dangle_self c = let e : nat_eq c c ≡ true = eq-eqb c c refl in rw e refl
-
-pub dangle_other : (c n : ℕ) → n ≢ c → dangle c (Cell n) ≡ Cell n
-dangle_other c n d = here (nat_eq n c) refl
-  where
-    here : (b : Bool) → nat_eq n c ≡ b → (if b then DanglingValue else Cell n) ≡ Cell n
-    here true e = absurd (d (eqb-true n c e))
-    here false e = refl
-
 -- values of roots, none of which is the cell
-nth_apart : (c : ℕ) (d : Nodes) (k : ℕ) → (IsIn c (all_numbers d) → ⊥) → dangle c (nth_value (roots_of d) k)
+nth_apart : (c : ℕ) (d : Nodes) (k : ℕ) → (IsIn c (root_numbers d) → ⊥) → dangle c (nth_value (roots_of d) k)
     ≡ nth_value (roots_of d) k
 nth_apart c no_nodes k h = refl
-nth_apart c (more n ns) zero h =
-    dangle_other c (number n)
-    (λ e. h (in_left c (numbers n) (all_numbers ns) (subst (λ (m : ℕ). IsIn m (numbers n)) e (top_in n))))
-nth_apart c (more n ns) (suc k) h = nth_apart c ns k (λ i. h (in_right c (numbers n) (all_numbers ns) i))
+nth_apart c (more n ns) zero h = dangle_other c (number n) (λ e. h (inl (sym e)))
+nth_apart c (more n ns) (suc k) h = nth_apart c ns k (λ i. h (inr i))
 
 -- what the other roots are
-nth_kept : (c : ℕ) (r k : ℕ) (d : Nodes) → k ≢ r → (IsIn c (all_numbers (without_node r d)) → ⊥)
+nth_kept : (c : ℕ) (r k : ℕ) (d : Nodes) → k ≢ r → (IsIn c (root_numbers (without_node r d)) → ⊥)
     → nth_value (roots_of (without_node r d)) (lowered r k) ≡ dangle c (nth_value (roots_of d) k)
 nth_kept c r k no_nodes d h = refl
 nth_kept c zero zero (more n ns) d h = absurd (d refl)
@@ -67,15 +54,10 @@ nth_kept c zero (suc k) (more n ns) d h =
 nth_kept c (suc r) zero (more n ns) d h =
     let a : lowered (suc r) 0 ≡ 0 = lowered_below (suc r) 0 (omega arith) in
     ap (nth_value (Cell (number n) ∷ roots_of (without_node r ns))) a
-    ∙ sym
-    (dangle_other c (number n)
-    (λ e.
-    h
-    (in_left c (numbers n) (all_numbers (without_node r ns)) (subst (λ (m : ℕ). IsIn m (numbers n)) e (top_in n)))))
+    ∙ sym (dangle_other c (number n) (λ e. h (inl (sym e))))
 nth_kept c (suc r) (suc k) (more n ns) d h =
     ap (nth_value (Cell (number n) ∷ roots_of (without_node r ns))) (lowered_suc r k)
-    ∙ nth_kept c r k ns (λ e. d (ap (λ (m : ℕ). suc m) e))
-    (λ i. h (in_right c (numbers n) (all_numbers (without_node r ns)) i))
+    ∙ nth_kept c r k ns (λ e. d (ap (λ (m : ℕ). suc m) e)) (λ i. h (inr i))
 
 nth_root : (c s : ℕ) (ds : List Datum) (ps : Parts) (r : ℕ) (d : Nodes) → node_at d r ≡ Some (node c s ds ps)
     → nth_value (roots_of d) r ≡ Cell c
@@ -83,76 +65,137 @@ nth_root c s ds ps r no_nodes e = absurd (none-some (node c s ds ps) e)
 nth_root c s ds ps zero (more n ns) e = ap (λ (z : Node). Cell (number z)) (same_Some n (node c s ds ps) e)
 nth_root c s ds ps (suc r) (more n ns) e = nth_root c s ds ps r ns e
 
--- Root r of d is the cell c, which is none of the others.
+-- each tree has insides of its box
+abbrev pub InsidesIn : List BoxDef → Nodes → Type 0
+InsidesIn T no_nodes = Unit {0}
+InsidesIn T (more n ns) = InsidesOf T n × InsidesIn T ns
 
-module _ (c s : ℕ) (ds : List Datum) (ps : Parts) (r : ℕ) (d : Nodes) (is : node_at d r ≡ Some (node c s ds ps))
-    (apart : IsIn c (all_numbers (without_node r d)) → ⊥) where
-  abbrev vs : List Value
-  vs = roots_of d
+pub insides_in : (T : List BoxDef) (autos : List Automaton) (d : Nodes) → TreesOf T autos d → InsidesIn T d
+insides_in T [] no_nodes o = tt
+insides_in T [] (more n ns) o = absurd o
+insides_in T (a ∷ autos) no_nodes o = absurd o
+insides_in T (a ∷ autos) (more n ns) o = (o.1, insides_in T autos ns o.2)
 
-  abbrev ws : List Value
-  ws = roots_of (dropped r d)
+pub insides_without : (T : List BoxDef) (r : ℕ) (d : Nodes) → InsidesIn T d → InsidesIn T (without_node r d)
+insides_without T r no_nodes h = tt
+insides_without T zero (more n ns) h = h.1
+insides_without T (suc r) (more n ns) h = (h.0, insides_without T r ns h.1)
 
-  pub leaf_dropped : (t : Target) → value_in (roots_of (dropped r d)) (placed_leaf (drop_leaf r) t)
-      ≡ dangle c (value_in (roots_of d) t)
-  leaf_dropped Null = refl
-  leaf_dropped Uninit = refl
-  leaf_dropped Dangling = refl
-  leaf_dropped (At k) = here (nat_eq r k) refl
-    where
-      here : (b : Bool) → nat_eq r k ≡ b → value_in (roots_of (dropped r d)) (if b then Dangling else At (lowered r k))
-          ≡ dangle c (nth_value (roots_of d) k)
-      here true e =
-          sym (ap (λ (j : ℕ). dangle c (nth_value (roots_of d) j)) (sym (eqb-true r k e))
-          ∙ ap (dangle c) (nth_root c s ds ps r d is) ∙ dangle_self c)
-      here false e =
-          ap (λ (us : List Value). nth_value us (lowered r k)) (roots_placed (drop_leaf r) (without_node r d))
-          ∙ nth_kept c r k d (λ z. true≢false (sym (eq-eqb r k (sym z)) ∙ e)) apart
+-- the cells of roots are among the heads
+pub roots_other : (c : ℕ) (vs : List Value) (ns : Nodes) → NoFact c (forest_facts vs [] ns)
+    → IsIn c (root_numbers ns) → ⊥
+roots_other c vs no_nodes h i = i
+roots_other c vs (more (node m s ds ps) ns) h (inl e) = h (Head m s ds) (inl refl) (sym e)
+roots_other c vs (more n ns) h (inr i) =
+    roots_other c vs ns (none_right c (tree_facts vs n) (forest_facts vs [] ns) h) i
 
-  pub leaves_dropped : (ts : List Target) → map (value_in (roots_of (dropped r d))) (map (placed_leaf (drop_leaf r)) ts)
-      ≡ map (dangle c) (map (value_in (roots_of d)) ts)
-  leaves_dropped [] = refl
-  leaves_dropped (t ∷ ts) = ap₂ (λ (v : Value) (us : List Value). v ∷ us) (leaf_dropped t) (leaves_dropped ts)
+-- Root r of d is the cell c, of which no fact of the others is.
 
-  map_both : (xs ys : List Fact) → map (dangle_fact c) (xs ++ ys) ≡ map (dangle_fact c) xs ++ map (dangle_fact c) ys
-  map_both [] ys = refl
-  map_both (x ∷ xs) ys = ap (λ (zs : List Fact). dangle_fact c x ∷ zs) (map_both xs ys)
+module _ (T : List BoxDef) (inputs : HaveInputs T) (c s : ℕ) (ds : List Datum) (ps : Parts) (r : ℕ) (d : Nodes)
+    (is : node_at d r ≡ Some (node c s ds ps)) (clear : NoFact c (forest_facts (roots_of d) [] (without_node r d)))
+  where
+    abbrev vs : List Value
+    vs = roots_of d
 
-  mutual
-    tree_dropped : (n : Node) → NoEdges n → (IsIn c (numbers n) → ⊥) → tree_facts ws (placed (drop_leaf r) n)
-        ≡ map (dangle_fact c) (tree_facts vs n)
-    tree_dropped (node m q es us) b h =
-        ap (λ (xs : List Fact). Head m q es ∷ xs) (slots_dropped m us b (λ i. h (inr i)))
+    abbrev ws : List Value
+    ws = roots_of (dropped r d)
 
-    slots_dropped : (m : ℕ) (us : Parts) → NoEdgesOf us → (IsIn c (numbers_of us) → ⊥)
-        → slot_facts ws m (placed_parts (drop_leaf r) us) ≡ map (dangle_fact c) (slot_facts vs m us)
-    slots_dropped m no_parts b h = refl
-    slots_dropped m (field f (leaf t) us) b h =
-        ap₂ (λ (v : Value) (xs : List Fact). Points m f v ∷ xs) (leaf_dropped t) (slots_dropped m us b.1 h)
-    slots_dropped m (field f (under n) us) b h =
-        ap₂ (λ (v : Value) (xs : List Fact). Points m f v ∷ xs)
-        (ap Cell (number_placed (drop_leaf r) n)
-        ∙ sym
-        (dangle_other c (number n)
-        (λ e. h (in_left c (numbers n) (numbers_of us) (subst (λ (k : ℕ). IsIn k (numbers n)) e (top_in n))))))
-        (ap₂ (λ (xs ys : List Fact). xs ++ ys) (tree_dropped n b.0 (λ i. h (in_left c (numbers n) (numbers_of us) i)))
-        (slots_dropped m us b.1 (λ i. h (in_right c (numbers n) (numbers_of us) i)))
-        ∙ sym (map_both (tree_facts vs n) (slot_facts vs m us)))
-    slots_dropped m (link a i e us) b h = absurd b
-    slots_dropped m (hook a i us) b h = absurd b
+    abbrev f : ℕ → Target
+    f = drop_leaf r
 
-  all_dropped : (e : Nodes) → NoEdgesIn e → (IsIn c (all_numbers e) → ⊥)
-      → forest_facts ws [] (placed_all (drop_leaf r) e) ≡ map (dangle_fact c) (forest_facts vs [] e)
-  all_dropped no_nodes b h = refl
-  all_dropped (more n ns) b h =
-      ap₂ (λ (xs ys : List Fact). xs ++ ys) (tree_dropped n b.0 (λ i. h (in_left c (numbers n) (all_numbers ns) i)))
-      (all_dropped ns b.1 (λ i. h (in_right c (numbers n) (all_numbers ns) i)))
-      ∙ sym (map_both (tree_facts vs n) (forest_facts vs [] ns))
+    apart : IsIn c (root_numbers (without_node r d)) → ⊥
+    apart = roots_other c vs (without_node r d) clear
 
-  -- the facts without root r
-  pub facts_dropped : NoEdgesIn (without_node r d) → forest_facts (roots_of (dropped r d)) [] (dropped r d)
-      ≡ map (dangle_fact c) (forest_facts (roots_of d) [] (without_node r d))
-  facts_dropped b = all_dropped (without_node r d) b apart
+    pub leaf_dropped : (t : Target) → value_in (roots_of (dropped r d)) (placed_leaf (drop_leaf r) t)
+        ≡ dangle c (value_in (roots_of d) t)
+    leaf_dropped Null = refl
+    leaf_dropped Uninit = refl
+    leaf_dropped Dangling = refl
+    leaf_dropped (At k) = here (nat_eq r k) refl
+      where
+        here : (b : Bool) → nat_eq r k ≡ b
+            → value_in (roots_of (dropped r d)) (if b then Dangling else At (lowered r k))
+            ≡ dangle c (nth_value (roots_of d) k)
+        here true e =
+            sym (ap (λ (j : ℕ). dangle c (nth_value (roots_of d) j)) (sym (eqb-true r k e))
+            ∙ ap (dangle c) (nth_root c s ds ps r d is) ∙ dangle_self c)
+        here false e =
+            ap (λ (us : List Value). nth_value us (lowered r k)) (roots_placed (drop_leaf r) (without_node r d))
+            ∙ nth_kept c r k d (λ z. true≢false (sym (eq-eqb r k (sym z)) ∙ e)) apart
+
+    pub leaves_dropped : (ts : List Target)
+        → map (value_in (roots_of (dropped r d))) (map (placed_leaf (drop_leaf r)) ts)
+        ≡ map (dangle c) (map (value_in (roots_of d)) ts)
+    leaves_dropped [] = refl
+    leaves_dropped (t ∷ ts) = ap₂ (λ (v : Value) (us : List Value). v ∷ us) (leaf_dropped t) (leaves_dropped ts)
+
+    end_dropped : (e : End) → NoFact c (end_facts (roots_of d) e)
+        → end_value (roots_of (dropped r d)) (placed_end (drop_leaf r) e) ≡ dangle c (end_value (roots_of d) e)
+    end_dropped (leaf t) h = leaf_dropped t
+    end_dropped (under (node m q es us)) h = sym (dangle_other c m (h (Head m q es) (inl refl)))
+
+    mutual
+      tree_dropped : (n : Node) → InsidesOf T n → NoFact c (tree_facts (roots_of d) n)
+          → tree_facts (roots_of (dropped r d)) (placed (drop_leaf r) n)
+          ≡ map (dangle_fact c) (tree_facts (roots_of d) n)
+      tree_dropped (node m q es us) o h =
+          ap (λ (xs : List Fact). Head m q es ∷ xs)
+          (slots_dropped m (h (Head m q es) (inl refl)) us o (λ x i. h x (inr i)))
+
+      slots_dropped : (m : ℕ) → m ≢ c → (us : Parts) → InsidesOfParts T us → NoFact c (slot_facts (roots_of d) m us)
+          → slot_facts (roots_of (dropped r d)) m (placed_parts (drop_leaf r) us)
+          ≡ map (dangle_fact c) (slot_facts (roots_of d) m us)
+      slots_dropped m a no_parts o h = refl
+      slots_dropped m a (field g e us) o h =
+          let l = none_left c (end_facts vs e) (slot_facts vs m us) (λ x i. h x (inr i)) in
+          let k = none_right c (end_facts vs e) (slot_facts vs m us) (λ x i. h x (inr i)) in
+          ap₂ (λ (v : Value) (xs : List Fact). Points m g v ∷ xs) (end_dropped e l)
+          (both_dangle T inputs c (end_facts vs e) (slot_facts vs m us) (end_facts ws (placed_end f e))
+          (slot_facts ws m (placed_parts f us)) (below_dropped e o.0 l) (slots_dropped m a us o.1 k))
+      slots_dropped m a (link b i e us) o h =
+          let ports : List Value = Cell m ∷ (end_value vs e ∷ []) in
+          let fs : List Fact = inside_facts ports i in
+          let rest : List Fact = end_facts vs e ++ slot_facts vs m us in
+          let x = none_left c fs rest h in
+          let z = none_right c fs rest h in
+          let l = none_left c (end_facts vs e) (slot_facts vs m us) z in
+          let k = none_right c (end_facts vs e) (slot_facts vs m us) z in
+          both_dangle T inputs c fs rest (inside_facts (Cell m ∷ (end_value ws (placed_end f e) ∷ [])) i)
+          (end_facts ws (placed_end f e) ++ slot_facts ws m (placed_parts f us))
+          (ap (λ (qs : List Value). inside_facts qs i)
+          (link_ports T inputs c m a (end_value vs e) (end_value ws (placed_end f e)) (end_dropped e l))
+          ∙ inside_dangled T inputs c ports o.0.0 i o.0.2 x)
+          (both_dangle T inputs c (end_facts vs e) (slot_facts vs m us) (end_facts ws (placed_end f e))
+          (slot_facts ws m (placed_parts f us)) (below_dropped e o.1 l) (slots_dropped m a us o.2 k))
+      slots_dropped m a (hook b i us) o h =
+          let fs : List Fact = inside_facts (Cell m ∷ []) i in
+          let x = none_left c fs (slot_facts vs m us) h in
+          let k = none_right c fs (slot_facts vs m us) h in
+          both_dangle T inputs c fs (slot_facts vs m us) fs (slot_facts ws m (placed_parts f us))
+          (ap (λ (qs : List Value). inside_facts qs i) (hook_ports T inputs c m a)
+          ∙ inside_dangled T inputs c (Cell m ∷ []) o.0.0 i o.0.2 x)
+          (slots_dropped m a us o.1 k)
+
+      below_dropped : (e : End) → InsidesOfEnd T e → NoFact c (end_facts (roots_of d) e)
+          → end_facts (roots_of (dropped r d)) (placed_end (drop_leaf r) e)
+          ≡ map (dangle_fact c) (end_facts (roots_of d) e)
+      below_dropped (under n) o h = tree_dropped n o h
+      below_dropped (leaf t) o h = refl
+
+    all_dropped : (e : Nodes) → InsidesIn T e → NoFact c (forest_facts (roots_of d) [] e)
+        → forest_facts (roots_of (dropped r d)) [] (placed_all (drop_leaf r) e)
+        ≡ map (dangle_fact c) (forest_facts (roots_of d) [] e)
+    all_dropped no_nodes o h = refl
+    all_dropped (more n ns) o h =
+        both_dangle T inputs c (tree_facts vs n) (forest_facts vs [] ns) (tree_facts ws (placed f n))
+        (forest_facts ws [] (placed_all f ns))
+        (tree_dropped n o.0 (none_left c (tree_facts vs n) (forest_facts vs [] ns) h))
+        (all_dropped ns o.1 (none_right c (tree_facts vs n) (forest_facts vs [] ns) h))
+
+    -- the facts without root r
+    pub facts_dropped : InsidesIn T (without_node r d) → forest_facts (roots_of (dropped r d)) [] (dropped r d)
+        ≡ map (dangle_fact c) (forest_facts (roots_of d) [] (without_node r d))
+    facts_dropped o = all_dropped (without_node r d) o clear
 
 -- Facts but those of a cell.
 
@@ -247,25 +290,30 @@ module _ (vs : List Value) where
 
   -- the facts of the other trees
   pub but_root : (c s : ℕ) (ds : List Datum) (ps : Parts) (r : ℕ) (d : Nodes) → node_at d r ≡ Some (node c s ds ps)
-      → AreLeaves ps → NoEdgesIn d → (IsIn c (all_numbers (without_node r d)) → ⊥) → but_facts c (forest_facts vs [] d)
+      → AreLeaves ps → NoFact c (forest_facts vs [] (without_node r d)) → but_facts c (forest_facts vs [] d)
       ≡ forest_facts vs [] (without_node r d)
-  but_root c s ds ps r no_nodes e f b h = absurd (none-some (node c s ds ps) e)
-  but_root c s ds ps zero (more n ns) e f b h =
+  but_root c s ds ps r no_nodes e f h = absurd (none-some (node c s ds ps) e)
+  but_root c s ds ps zero (more n ns) e f h =
       but_both c (tree_facts vs n) (forest_facts vs [] ns)
       ∙ ap₂ (λ (xs ys : List Fact). xs ++ ys)
       (subst (λ (z : Node). but_facts c (tree_facts vs z) ≡ []) (sym (same_Some n (node c s ds ps) e))
       (but_own c (tree_facts vs (node c s ds ps)) (refl, flat_own c vs ps f)))
-      (but_others c (forest_facts vs [] ns)
-      (λ x i q. h (subst (λ (m : ℕ). IsIn m (all_numbers ns)) q (all_cell ns b.1 x i))))
-  but_root c s ds ps (suc r) (more n ns) e f b h =
+      (but_others c (forest_facts vs [] ns) h)
+  but_root c s ds ps (suc r) (more n ns) e f h =
       but_both c (tree_facts vs n) (forest_facts vs [] ns)
       ∙ ap₂ (λ (xs ys : List Fact). xs ++ ys)
-      (but_others c (tree_facts vs n)
-      (λ x i q.
-      h
-      (in_left c (numbers n) (all_numbers (without_node r ns))
-      (subst (λ (m : ℕ). IsIn m (numbers n)) q (tree_cell n b.0 x i)))))
-      (but_root c s ds ps r ns e f b.1 (λ i. h (in_right c (numbers n) (all_numbers (without_node r ns)) i)))
+      (but_others c (tree_facts vs n) (none_left c (tree_facts vs n) (forest_facts vs [] (without_node r ns)) h))
+      (but_root c s ds ps r ns e f (none_right c (tree_facts vs n) (forest_facts vs [] (without_node r ns)) h))
+
+-- the facts of root r come first
+pub root_first : (us : List Value) (r : ℕ) (d : Nodes) (n : Node) → node_at d r ≡ Some n
+    → Rearranged (forest_facts us [] d) (tree_facts us n ++ forest_facts us [] (without_node r d))
+root_first us r no_nodes n e = absurd (none-some n e)
+root_first us zero (more m ms) n e =
+    equal (ap (λ (x : Node). tree_facts us x ++ forest_facts us [] ms) (same_Some m n e))
+root_first us (suc r) (more m ms) n e =
+    chain (after (tree_facts us m) (root_first us r ms n e))
+    (exchange (tree_facts us m) (tree_facts us n) (forest_facts us [] (without_node r ms)))
 
 -- The facts of a store without a cell.
 

@@ -13,21 +13,29 @@ use Rattle.fore_base.specs.declared.store.Store.{Store}
 use Rattle.fore_base.specs.declared.store.Value.{Value}
 use Rattle.fore_base.specs.declared.store.Value.TheVariants.{Null, Uninit, Dangling, Cell}
 use Rattle.fore_base.proofs.ListLemmas.{in_right, in_append}
+use Rattle.fa_core.specs.declared.faces.Face.{Face}
+use Rattle.fa_core.specs.Boxes.{IsTableOf, head_of, heads}
+use Rattle.fa_core.specs.Filled.{IsFilled}
 use Rattle.fa_core.specs.declared.boxes.BoxDef.{BoxDef}
 use Rattle.fa_core.specs.declared.forest.Forest.{Forest}
 use Rattle.fa_core.specs.Boxless.{HasNoBoxes}
 use Rattle.fa_core.specs.Choices.{numbers, numbers_of, all_numbers}
-use Rattle.fa_core.specs.Dressed.{Node, Parts, Nodes, node, no_nodes, more, Fact, facts, value_in, roots_of}
-use Rattle.fa_core.specs.Member.{HasItsFields, store_facts}
+use Rattle.fa_core.specs.Dressed.{Node, Parts, Nodes, node, no_nodes, more, Fact, Head, Points, facts, tree_facts}
+use Rattle.fa_core.specs.Dressed.{slot_facts, forest_facts, value_in, roots_of}
+use Rattle.fa_core.specs.Member.{StandsBy, HasItsFields, store_facts}
 use Rattle.fa_core.specs.Rearranged.{Rearranged, empty, keep, swap, chain}
-use Rattle.fa_core.proofs.PlainNodes.{NoEdgesIn, trees_no_edges}
-use Rattle.fa_core.proofs.Permuted.{none_in_both, distinct_parts}
-use Rattle.fa_merge.specs.Dropped.{without_node, dropped, AreLeaves, IsCut, Removes, without_cell}
+use Rattle.fa_core.proofs.PlainNodes.{NoEdgesIn, no_insides, trees_no_edges}
+use Rattle.fa_core.proofs.Permuted.{none_in_both, distinct_moved, distinct_parts}
+use Rattle.fa_core.proofs.Rearranging.{flat_map-append, flat_mapped}
+use Rattle.fa_merge.specs.Dropped.{without_node, dropped, AreLeaves, IsIdle, IsCut, Removes, without_cell}
 use Rattle.fa_back.specs.Reached.{node_at}
-use Rattle.fa_merge.proofs.DroppedFacts.{dangle_fact, leaves_dropped, facts_dropped, but_facts, but_moved, but_root}
-use Rattle.fa_merge.proofs.DroppedFacts.{store_dropped}
+use Rattle.fa_merge.proofs.DroppedClear.{NoHead, all_clear}
+use Rattle.fa_merge.proofs.DroppedFacts.{InsidesIn, insides_in, insides_without, leaves_dropped, facts_dropped}
+use Rattle.fa_merge.proofs.DroppedFacts.{all_cell, but_facts, but_moved, but_root, root_first, store_dropped}
+use Rattle.fa_merge.proofs.DroppedInsides.{dangle_fact, NoFact, HaveInputs, none_have_inputs, table_inputs}
 use Rattle.fa_merge.proofs.DroppedSound.{without_plain}
-use Rattle.fa_back.proofs.FactParts.{in_all}
+use Rattle.fa_back.proofs.FactParts.{fact_cell, in_all}
+use Rattle.fa_back.proofs.StoreLaws.{differ as heads_differ}
 use Rattle.fa_merge.proofs.StoreNumbers.{differ}
 
 fact_mapped : (g : Fact → Fact) {xs ys : List Fact} → Rearranged xs ys → Rearranged (map g xs) (map g ys)
@@ -128,36 +136,28 @@ module _ (c : ℕ) where
       → Every (HasItsFields hs) (without c cs)
   still_fields hs cs h = every_left (HasItsFields hs) (HasItsFields hs) cs (λ x e. as_many x.fields ∙ e) h
 
--- a store without the root's cell
-pub store_cut : (hs : List Shape) (T : List BoxDef) (F G : Forest) (r : ℕ) → Every HasNoBoxes F.autos → IsCut T F G r
-    → Removes hs T F G r
-store_cut hs T F G r plain cut d s h =
-    let flat = cut.top d h.of in
-    let c : ℕ = flat.0 in
-    let sh : ℕ = flat.1.0 in
-    let ds : List Datum = flat.1.1 in
-    let ps : Parts = flat.1.2 in
-    let is : node_at d r ≡ Some (node c sh ds ps) = flat.1.3 in
-    let leaves : AreLeaves ps = flat.1.4 in
-    let none : NoEdgesIn d = trees_no_edges T F.autos d plain h.of in
-    let apart : (IsIn c (all_numbers (without_node r d)) → ⊥) =
-    root_apart c sh ds ps r d is (differ hs T F d s h none) in
-    let step : map (dangle_fact c) (but_facts c (facts d)) ≡ facts (dropped r d) =
-    ap (map (dangle_fact c)) (but_root (roots_of d) c sh ds ps r d is leaves none apart)
-    ∙ sym (facts_dropped c sh ds ps r d is apart (without_plain r d none)) in
-    let moved : Rearranged (map (dangle_fact c) (but_facts c (facts d)))
-    (map (dangle_fact c) (but_facts c (store_facts s.cells))) =
-    fact_mapped (dangle_fact c) (but_moved c h.same_facts) in
-    let there : Rearranged (facts (dropped r d)) (store_facts (without c s.cells)) =
-    subst (λ (z : List Fact). Rearranged z (store_facts (without c s.cells))) step
-    (subst (λ (z : List Fact). Rearranged (map (dangle_fact c) (but_facts c (facts d))) z) (store_dropped c s.cells)
-    moved) in
-    let vars : map (dangle c) s.vars ≡ map (value_in (roots_of (dropped r d))) G.vars =
-    ap (map (dangle c)) h.vars
-    ∙ sym (leaves_dropped c sh ds ps r d is apart F.vars)
-    ∙ sym (ap (map (value_in (roots_of (dropped r d)))) cut.vars) in (
-      c,
-      flat.1,
+-- a store without the root's cell, where no fact of the other trees is of that cell
+module _ (hs : List Shape) (T : List BoxDef) (F G : Forest) (r : ℕ) (cut : IsCut T F G r) (d : Nodes) (s : Store)
+    (h : StandsBy hs T F d s) (U : List BoxDef) (inputs : HaveInputs U) (insides : InsidesIn U (without_node r d))
+    (c sh : ℕ) (ds : List Datum) (ps : Parts) (is : node_at d r ≡ Some (node c sh ds ps)) (leaves : AreLeaves ps)
+    (clear : NoFact c (forest_facts (roots_of d) [] (without_node r d))) where
+  step : map (dangle_fact c) (but_facts c (facts d)) ≡ facts (dropped r d)
+  step = ap (map (dangle_fact c)) (but_root (roots_of d) c sh ds ps r d is leaves clear)
+      ∙ sym (facts_dropped U inputs c sh ds ps r d is clear insides)
+
+  stands_without : StandsBy hs T G (dropped r d) (without_cell c s)
+  stands_without =
+      let moved : Rearranged (map (dangle_fact c) (but_facts c (facts d)))
+      (map (dangle_fact c) (but_facts c (store_facts s.cells))) =
+      fact_mapped (dangle_fact c) (but_moved c h.same_facts) in
+      let there : Rearranged (facts (dropped r d)) (store_facts (without c s.cells)) =
+      subst (λ (z : List Fact). Rearranged z (store_facts (without c s.cells))) step
+      (subst (λ (z : List Fact). Rearranged (map (dangle_fact c) (but_facts c (facts d))) z) (store_dropped c s.cells)
+      moved) in
+      let vars : map (dangle c) s.vars ≡ map (value_in (roots_of (dropped r d))) G.vars =
+      ap (map (dangle c)) h.vars
+      ∙ sym (leaves_dropped U inputs c sh ds ps r d is clear F.vars)
+      ∙ sym (ap (map (value_in (roots_of (dropped r d)))) cut.vars) in
       record {
         proper = still_proper c s h.proper;
         fields = still_fields c hs s.cells h.fields;
@@ -165,5 +165,73 @@ store_cut hs T F G r plain cut d s h =
         same_facts = there;
         vars = vars;
         data_vars = h.data_vars ∙ sym cut.data_vars;
-      },
+      }
+
+-- without box edges, by any list of boxes
+pub store_cut : (hs : List Shape) (T : List BoxDef) (F G : Forest) (r : ℕ) → Every HasNoBoxes F.autos → IsCut T F G r
+    → Removes hs T F G r
+store_cut hs T F G r plain cut d s h =
+    let flat = cut.top d h.of in
+    let c : ℕ = flat.0 in
+    let none : NoEdgesIn d = trees_no_edges T F.autos d plain h.of in
+    let rest : NoEdgesIn (without_node r d) = without_plain r d none in
+    let apart : (IsIn c (all_numbers (without_node r d)) → ⊥) =
+    root_apart c flat.1.0 flat.1.1 flat.1.2 r d flat.1.3 (differ hs T F d s h none) in
+    let clear : NoFact c (forest_facts (roots_of d) [] (without_node r d)) =
+    (λ x i e. apart
+    (subst (λ (m : ℕ). IsIn m (all_numbers (without_node r d))) e
+    (all_cell (roots_of d) (without_node r d) rest x i))) in (
+      c,
+      flat.1,
+      stands_without hs T F G r cut d s h [] none_have_inputs (plain_insides (without_node r d) rest) c flat.1.0
+          flat.1.1 flat.1.2 flat.1.3 flat.1.4 clear,
     )
+  where
+    plain_insides : (e : Nodes) → NoEdgesIn e → InsidesIn [] e
+    plain_insides no_nodes b = tt
+    plain_insides (more n ns) b = (no_insides [] n b.0, plain_insides ns b.1)
+
+-- by a table of boxes over the face
+module _ (face : Face) (T : List BoxDef) (F G : Forest) (r : ℕ) (table : IsTableOf face T) (filled : IsFilled face F)
+    (idle : IsIdle face.boxes F r) (cut : IsCut T F G r) where
+  abbrev hs : List Shape
+  hs = face.shapes.structs
+
+  -- the root's cell has one head
+  one_head : (d : Nodes) (s : Store) → StandsBy face.shapes.structs T F d s → (c sh : ℕ) (ds : List Datum) (ps : Parts)
+      → node_at d r ≡ Some (node c sh ds ps) → NoHead c (forest_facts (roots_of d) [] (without_node r d))
+  one_head d s h c sh ds ps is q es i =
+      let vs : List Value = roots_of d in
+      let n : Node = node c sh ds ps in
+      let rest : List Fact = forest_facts (roots_of d) [] (without_node r d) in
+      let first : Rearranged (heads (facts d)) (heads (tree_facts (roots_of d) n ++ rest)) =
+      flat_mapped head_of (root_first vs r d n is) in
+      let apart : IsDistinct (heads (tree_facts (roots_of d) n ++ rest)) =
+      distinct_moved first (heads_differ hs T F d s h) in
+      apart.0
+      (subst (λ (z : List ℕ). IsIn c z) (sym (flat_map-append head_of (slot_facts vs c ps) rest))
+      (in_right c (heads (slot_facts vs c ps)) (heads rest) (head_in c q es rest i)))
+    where
+      head_in : (c q : ℕ) (es : List Datum) (fs : List Fact) → IsIn (Head c q es) fs → IsIn c (heads fs)
+      head_in c q es [] i = absurd i
+      head_in c q es (Head m t us ∷ fs) (inl e) = inl (ap fact_cell e)
+      head_in c q es (Points m f v ∷ fs) (inl e) = absurd (subst is_head_fact e tt)
+        where
+          is_head_fact : Fact → Type 0
+          is_head_fact (Head m t us) = Unit {0}
+          is_head_fact (Points m g w) = ⊥
+      head_in c q es (Head m t us ∷ fs) (inr i) = inr (head_in c q es fs i)
+      head_in c q es (Points m f v ∷ fs) (inr i) = head_in c q es fs i
+
+  pub store_removed : Removes face.shapes.structs T F G r
+  store_removed d s h =
+      let flat = cut.top d h.of in
+      let c : ℕ = flat.0 in
+      let clear = all_clear face T F r table filled idle d h.of c flat.1.0 flat.1.1 flat.1.2 flat.1.3 flat.1.4
+      (one_head d s h c flat.1.0 flat.1.1 flat.1.2 flat.1.3) in (
+        c,
+        flat.1,
+        stands_without hs T F G r cut d s h T (table_inputs face.shapes T table.sound)
+            (insides_without T r d (insides_in T F.autos d h.of)) c flat.1.0 flat.1.1 flat.1.2 flat.1.3 flat.1.4
+            clear,
+      )

@@ -73,7 +73,7 @@ flat_parts (field g (under n) ps) f h = absurd (leaf_end (under n) h.0)
 flat_parts (link b i e ps) f h = absurd f.0
 flat_parts (hook b i ps) f h = absurd f.0
 
-flat_node : (c s : ℕ) (ds : List Datum) (ps : Parts) → IsFlat (bare (node c s ds ps)) → AreLeaves ps
+pub flat_node : (c s : ℕ) (ds : List Datum) (ps : Parts) → IsFlat (bare (node c s ds ps)) → AreLeaves ps
 flat_node c s ds ps h =
     flat_parts ps (subst HasFieldsOnly (cell_top c s ds ps) h.0)
     (subst (λ (us : List Tree). Every (λ (u : Tree). is_leaf (out-Tree u).symbol ≡ true) us) (children_of c s ds ps)

@@ -5,7 +5,7 @@ use Rattle.std.proofs.Common.{◌∷◌, length, map, refl, sym, subst, ◌∙�
 use Rattle.std.specs.Option.{MatchOption}
 use Rattle.std.proofs.lemmas.Bool.{eqb-true, eq-eqb}
 use Rattle.fore_base.specs.Heap.{Leaked}
-use Rattle.fore_base.specs.Lists.{IsIn, Every, Paired}
+use Rattle.fore_base.specs.Lists.{Every, Paired}
 use Rattle.fore_base.specs.Marks.{MarksOf, IsMarked}
 use Rattle.fore_base.specs.declared.shape.Shape.{Shape}
 use Rattle.fore_base.specs.declared.store.Store.{Store}

@@ -1,5 +1,5 @@
 -- A piece of the merged component with one signature in its place: the forest is sound, and has the same trees.
-use Rattle.std.proofs.Common.{◌≡◌, ◌↔◌, inl, inr, ℕ, zero, suc, ◌<◌, List, [], ◌∷◌, ◌++◌, length, refl, sym, ap, ap₂}
+use Rattle.std.proofs.Common.{◌≡◌, ℕ, zero, suc, ◌<◌, List, [], ◌∷◌, ◌++◌, length, refl, sym, ap}
 use Rattle.std.proofs.Common.{subst, ◌∙◌}
 use Rattle.std.proofs.Common.{map, slice_set, length-set, arith}
 use Rattle.fore_base.specs.Lists.{IsIn, Every, Paired}
@@ -7,16 +7,14 @@ use Rattle.fore_base.proofs.ListLemmas.{every_in, every_parts, in_every}
 use Rattle.ta_core.specs.Auto.{Automaton}
 use Rattle.ta_core.specs.Language.{InLanguage, HasSameLanguage}
 use Rattle.ta_core.specs.declared.auto.Rule.{Rule}
-use Rattle.ta_core.specs.declared.symbol.Symbol.{Symbol}
 use Rattle.ta_core.specs.declared.tree.Tree.{Tree}
 use Rattle.fa_core.specs.declared.boxes.BoxDef.{BoxDef}
 use Rattle.fa_core.specs.declared.faces.Face.{Face}
 use Rattle.fa_core.specs.declared.forest.Forest.{Forest}
 use Rattle.fa_core.specs.declared.signature.RefMark.{RefMark}
 use Rattle.fa_core.specs.Dressed.{Nodes, no_nodes, more, cells, roots_of, value_in}
-use Rattle.fa_core.specs.Filled.{Choice, IsFilled, HasSignatures, HasSome, IsSound, RulesFit, SymbolFits}
+use Rattle.fa_core.specs.Filled.{Choice, HasSignatures, HasSome, IsSound, RulesFit, SymbolFits}
 use Rattle.fa_core.specs.Member.{Regroups, TreesOf, bare}
-use Rattle.fa_core.specs.Ways.{signature}
 use Rattle.fa_core.proofs.Composed.{regroups_on}
 use Rattle.fa_core.proofs.Rearranging.{same}
 use Rattle.fa_core.proofs.Regrouped.{members_regrouped}

@@ -1,5 +1,5 @@
 -- Forests with other leaves in the place of references, box edges or none: what their components keep.
-use Rattle.std.proofs.Common.{◌≡◌, ℕ, ◌<◌, length, List, [], ◌∷◌, flat_map, map, refl, sym, ap, subst, ◌∙◌}
+use Rattle.std.proofs.Common.{◌≡◌, ℕ, ◌<◌, length, List, [], ◌∷◌, flat_map, sym, ap, subst, ◌∙◌}
 use Rattle.fore_base.specs.Lists.{Every}
 use Rattle.ta_core.specs.Auto.{Automaton, IsRanked}
 use Rattle.ta_core.specs.Language.{InLanguage, RunOf}
@@ -11,7 +11,7 @@ use Rattle.fa_core.specs.declared.forest.Target.{Target}
 use Rattle.fa_core.specs.Dressed.{Node, End, Nodes, under, no_nodes, more, refs}
 use Rattle.fa_core.specs.Filled.{IsFilled, HasSome, RulesFit}
 use Rattle.fa_core.specs.Member.{TreesOf, InsidesOfEnd, Regroups, bare, bare_end}
-use Rattle.fa_core.specs.Placed.{placed, placed_end, placed_rule, placed_auto}
+use Rattle.fa_core.specs.Placed.{placed, placed_end, placed_auto}
 use Rattle.fa_core.specs.References.{AllBelow}
 use Rattle.fa_core.proofs.Dressing.{dress}
 use Rattle.fa_core.proofs.FilledKept.{IsFormedTree, top_of_filled}

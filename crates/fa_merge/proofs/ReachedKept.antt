@@ -1,14 +1,14 @@
 -- Where each root of a forest is reached, so is each root of a forest that is regrouped into it, for every box table:
 -- hops
 -- between cells look at no trees and at no insides.
-use Rattle.std.proofs.Common.{◌≡◌, ◌⊎◌, inl, inr, ℕ, zero, suc, ◌<◌, true, true≢false, List, [], ◌∷◌, ◌++◌, length, map}
+use Rattle.std.proofs.Common.{◌≡◌, inl, inr, ℕ, suc, true, true≢false, List, map}
 use Rattle.std.proofs.Common.{refl}
 use Rattle.std.proofs.Common.{sym, ap, subst, ◌∙◌, Some}
 use Rattle.fore_base.specs.Lists.{IsIn, Every}
 use Rattle.fore_base.specs.declared.store.Value.{Value}
 use Rattle.fore_base.specs.declared.store.Value.TheVariants.{Cell}
 use Rattle.fore_base.proofs.ListLemmas.{in_append, every_in, in_from_place}
-use Rattle.ta_core.specs.Auto.{Automaton, IsRanked}
+use Rattle.ta_core.specs.Auto.{IsRanked}
 use Rattle.ta_core.specs.declared.tree.Tree.{Tree}
 use Rattle.fa_core.specs.declared.boxes.BoxDef.{BoxDef}
 use Rattle.fa_core.specs.declared.faces.BoxFace.{BoxFace}
@@ -20,14 +20,14 @@ use Rattle.fa_core.specs.Dressed.{Node, Parts, End, Nodes, node, no_parts, field
 use Rattle.fa_core.specs.Dressed.{more}
 use Rattle.fa_core.specs.Dressed.{end_value, value_in, roots_of, number}
 use Rattle.fa_core.specs.Faces.{IsGiving}
-use Rattle.fa_core.specs.Filled.{Choice, ChoiceFilled, IsFilled, IsSound, face_of}
-use Rattle.fa_core.specs.Member.{OfForest, Regroups, Regrouping}
+use Rattle.fa_core.specs.Filled.{Choice, IsFilled, IsSound, face_of}
+use Rattle.fa_core.specs.Member.{OfForest, Regroups}
 use Rattle.fa_core.specs.Ways.{back_of, leads_through}
-use Rattle.fa_core.proofs.Dressing.{IsDressedChoice, choice_of, numbered_differ}
+use Rattle.fa_core.proofs.Dressing.{choice_of, numbered_differ}
 use Rattle.fa_core.proofs.Permuted.{in_rearranged}
 use Rattle.fa_core.proofs.Rearranging.{back, flat_mapped}
 use Rattle.fa_back.specs.Reached.{RootReached, node_at}
-use Rattle.fa_back.specs.inner.Hops.{Edge, Hops, link_edge, tree_edges, part_edges, end_edges, forest_own, forest_edges}
+use Rattle.fa_back.specs.inner.Hops.{Edge, Hops, tree_edges, part_edges, end_edges, forest_own, forest_edges}
 use Rattle.fa_back.proofs.Apart.{forest_numbers}
 use Rattle.fa_back.proofs.Dressable.{some_choice}
 use Rattle.fa_back.proofs.EdgesWorth.{LinksFit, PartsFit, EndFits, AllFit}

@@ -15,7 +15,7 @@ use Rattle.fa_core.specs.declared.faces.BoxFace.{BoxFace}
 use Rattle.fa_core.specs.declared.forest.Forest.{Forest}
 use Rattle.fa_core.specs.declared.forest.Target.{Target}
 use Rattle.fa_core.specs.declared.forest.Target.TheVariants.{Null as NullTarget, Dangling as DanglingTarget, At}
-use Rattle.fa_core.specs.Dressed.{Nodes, node, no_parts, field, leaf, under, no_nodes, more}
+use Rattle.fa_core.specs.Dressed.{Nodes, node, no_parts, field, link, leaf, under, no_nodes, more, Head, Points, facts}
 use Rattle.fa_core.specs.Ways.{Way, ways, ways_at}
 use Rattle.fa_merge.specs.Dropped.{drop_leaf, but_place, dropped_forest, dropped, AreLeaves, HasFieldsOnly}
 use Rattle.fa_merge.specs.Dropped.{without_cell}
@@ -185,6 +185,44 @@ store_without_four : without_cell 4 two_store
       next = 8;
     }
 store_without_four = refl
+
+-- A Link, a variable and a field of an inside name root 1: where that is dropped the Link ends in Dangling, its inside
+-- stays, and the field is Dangling.
+
+abbrev linked : Forest
+linked = record {
+  autos = automaton 2 (0 ∷ []) (rule 0 (Cell 0 [] (Link 0 ∷ [])) (1 ∷ []) ∷ rule 1 (Ref 1) [] ∷ [])
+      ∷ one_cell Null ∷ [];
+  vars = At 0 ∷ At 1 ∷ [];
+  data_vars = [];
+}
+
+linked_without_one : dropped_forest 1 linked
+    ≡ record {
+      autos = automaton 2 (0 ∷ []) (rule 0 (Cell 0 [] (Link 0 ∷ [])) (1 ∷ []) ∷ rule 1 Dangling [] ∷ []) ∷ [];
+      vars = At 0 ∷ DanglingTarget ∷ [];
+      data_vars = [];
+    }
+linked_without_one = refl
+
+-- the input's field names the output, which has no slot
+abbrev one_step : Nodes
+one_step = more (node 20 0 [] (field 0 (leaf (At 1)) no_parts)) (more (node 21 0 [] no_parts) no_nodes)
+
+abbrev dressed_linked : Nodes
+dressed_linked = more (node 7 0 [] (link 0 one_step (leaf (At 1)) no_parts))
+    (more (node 4 0 [] (field 0 (leaf NullTarget) no_parts)) no_nodes)
+
+dressed_unlinked : dropped 1 dressed_linked
+    ≡ more (node 7 0 [] (link 0 one_step (leaf DanglingTarget) no_parts)) no_nodes
+dressed_unlinked = refl
+
+facts_linked : facts dressed_linked
+    ≡ Head 7 0 [] ∷ Points 7 0 (CellValue 4) ∷ Head 4 0 [] ∷ Points 4 0 NullValue ∷ []
+facts_linked = refl
+
+facts_unlinked : facts (dropped 1 dressed_linked) ≡ Head 7 0 [] ∷ Points 7 0 DanglingValue ∷ []
+facts_unlinked = refl
 
 -- Roots that are reached. A variable is at root 0. The tree of root 1 refers to root 0 by a box edge, which leads back
 -- where its box does, and to root 2 by a field.

@@ -1,6 +1,5 @@
 -- The own facts and the box edges of a dressed forest, told by its cells: what is regrouped has the same.
 use Rattle.std.proofs.Common.{ℕ, List, [], ◌∷◌, ◌++◌, flat_map, sym, ap}
-use Rattle.fore_base.specs.Lists.{IsIn}
 use Rattle.fore_base.specs.declared.store.Value.{Value}
 use Rattle.fore_base.specs.declared.store.Value.TheVariants.{Cell}
 use Rattle.fa_core.specs.declared.faces.BoxFace.{BoxFace}

@@ -1,6 +1,5 @@
 -- Without box edges the cells of a store are those of its dressed forest's own trees.
-use Rattle.std.proofs.Common.{◌≡◌, inl, inr, ℕ, List, [], ◌∷◌, ◌++◌, map, sym, ap, subst, ◌∙◌, append-nil}
-use Rattle.fore_base.specs.Heap.{AllDiffer}
+use Rattle.std.proofs.Common.{◌≡◌, inl, inr, ℕ, List, [], ◌∷◌, ◌++◌, map, ap, subst, ◌∙◌, append-nil}
 use Rattle.fore_base.specs.Lists.{IsIn, IsDistinct}
 use Rattle.fore_base.specs.declared.shape.Shape.{Shape}
 use Rattle.fore_base.specs.declared.store.Store.{Store}
@@ -9,7 +8,7 @@ use Rattle.fa_core.specs.declared.boxes.BoxDef.{BoxDef}
 use Rattle.fa_core.specs.declared.forest.Forest.{Forest}
 use Rattle.fa_core.specs.Boxes.{head_of, heads}
 use Rattle.fa_core.specs.Choices.{all_numbers}
-use Rattle.fa_core.specs.Dressed.{Nodes, Fact, facts, roots_of}
+use Rattle.fa_core.specs.Dressed.{Nodes, facts, roots_of}
 use Rattle.fa_core.specs.Member.{StandsBy}
 use Rattle.fa_core.specs.Rearranged.{Rearranged, chain}
 use Rattle.fa_core.proofs.Permuted.{distinct_moved}

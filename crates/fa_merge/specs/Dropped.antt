@@ -1,6 +1,6 @@
 -- A forest without one of its roots: references to the root are Dangling, and later roots move down by one.
-use Rattle.std.specs.Prelude.{◌≡◌, ◌<◌, ℕ, zero, suc, true, nat_eq, if◌then◌else◌, List, [], ◌∷◌, map, length, Option}
-use Rattle.std.specs.Prelude.{Some, None, slice_get}
+use Rattle.std.specs.Prelude.{◌≡◌, ◌<◌, ℕ, zero, suc, true, nat_eq, if◌then◌else◌, List, [], ◌∷◌, map, length}
+use Rattle.std.specs.Prelude.{Some, slice_get}
 use Rattle.fore_base.specs.Heap.{IsAlike}
 use Rattle.fore_base.specs.Lists.{Every}
 use Rattle.fore_base.specs.Stores.{dangle, without}
@@ -17,7 +17,7 @@ use Rattle.fa_core.specs.declared.forest.Target.{Target}
 use Rattle.fa_core.specs.declared.forest.Target.TheVariants.{Dangling as DanglingTarget, At}
 use Rattle.fa_core.specs.Boxless.{IsField}
 use Rattle.fa_core.specs.Cells.{is_leaf}
-use Rattle.fa_core.specs.Dressed.{Node, Parts, Nodes, node, no_parts, field, link, hook, under, leaf, no_nodes, more}
+use Rattle.fa_core.specs.Dressed.{Parts, Nodes, node, no_parts, field, link, hook, under, leaf, no_nodes, more}
 use Rattle.fa_core.specs.Filled.{Choice, given_at}
 use Rattle.fa_core.specs.Member.{OfForest, StandsBy}
 use Rattle.fa_core.specs.Placed.{placed_leaf, placed_all, placed_auto}
@@ -55,6 +55,12 @@ HasFieldsOnly (Cell s ds ss) = Every IsField ss
 -- a leaf stands at the end of each of the tree's fields, and it has no box edge
 abbrev pub IsFlat : Tree → Type 0
 IsFlat t = HasFieldsOnly (out-Tree t).symbol × Every (λ u. is_leaf (out-Tree u).symbol ≡ true) (out-Tree t).children
+
+-- root r is idle: no box edge gives its cell a field, and none of its own trees gives a cell of a root one
+pub record IsIdle (bs : List BoxFace) (F : Forest) (r : ℕ) : Type 0 where
+  pub own : (ts : List Tree) → Choice F.autos ts → given_at bs ts r ≡ []
+  pub out : (ts : List Tree) (t : Tree) → Choice F.autos ts → slice_get ts r ≡ Some t → (k : ℕ)
+      → given_at bs (t ∷ []) k ≡ []
 
 -- each tree of root r is a cell whose fields end at leaves, and no box edge gives a field there
 pub record CanDrop (bs : List BoxFace) (F : Forest) (r : ℕ) : Type 0 where

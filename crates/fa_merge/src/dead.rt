@@ -6,7 +6,7 @@ ghost use Rattle.fa_core.specs.Boxes.{IsTableOf};
 ghost use Rattle.fa_core.specs.Boxless.{HasNoBoxes};
 ghost use Rattle.fa_core.specs.Placed.{placed_auto};
 ghost use Rattle.fa_core.specs.declared.boxes.BoxDef.{BoxDef};
-ghost use Rattle.fa_merge.specs.Dropped.{CanDrop, IsCut, Removes, Restores, but_place, drop_leaf, dropped_forest};
+ghost use Rattle.fa_merge.specs.Dropped.{CanDrop, IsCut, IsIdle, Removes, Restores, drop_leaf, dropped_forest};
 
 use crate::placing::{Leaves, place_auto, place_targets};
 use fa_core::forest::{Forest, Target};
@@ -16,15 +16,18 @@ use fore_base::memory::Mem;
 use std::alloc::Global;
 use ta_core::auto::Auto;
 
-/// The forest without the root: each reference to it is Dangling, and later roots move down by one. Where each tree of
-/// the root is a cell whose fields end at leaves, and no box edge gives a field there, its dressed forests are those of
-/// the forest without the root, and its members, up to alike, those of the forest with the root's cell removed and each
-/// value that named it Dangling. Err is want of memory.
+/// The forest without the root: each reference to it is Dangling, and later roots move down by one. No box edge gives a
+/// field there, and none of the root's own gives one to a root. So a Link that ended there ends in Dangling; its inside
+/// stays. Where each tree of the root is a cell whose fields end at leaves, the dressed forests are those of the forest
+/// without the root, and the members, up to alike, those of the forest with the root's cell removed and each value that
+/// named it Dangling, by each table over the face. Err is want of memory.
 pub fn drop_dead(alloc: Global, forest: &Sound, root: u32) -> Mem<Sound>
-    requires plain { Every HasNoBoxes forest.now.forest.autos }
     requires root { root < length forest.now.forest.autos }
+    requires idle { IsIdle forest.now.face.boxes forest.now.forest root }
     ensures value { IfOk result (λ made. made.forest ≡ dropped_forest root forest.now.forest) }
     ensures face { IfOk result (λ made. made.face ≡ forest.now.face) }
+    ensures plain { Every HasNoBoxes forest.now.forest.autos
+        → IfOk result (λ made. Every HasNoBoxes made.forest.autos) }
     ensures cut { CanDrop forest.now.face.boxes forest.now.forest root
         → IfOk result (λ made. (T : List BoxDef) → IsCut T forest.now.forest made.forest root) }
     ensures removes { CanDrop forest.now.face.boxes forest.now.forest root

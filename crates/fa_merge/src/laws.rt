@@ -18,7 +18,7 @@ ghost use Rattle.fa_core.specs.declared.forest.Forest.{Forest};
 ghost use Rattle.fa_core.specs.declared.forest.Target.{Target};
 ghost use Rattle.fa_core.specs.Dressed.{Node};
 ghost use Rattle.fa_back.specs.Reached.{RootReached};
-ghost use Rattle.fa_merge.specs.Dropped.{CanDrop, IsCut, IsFlat, Removes, Restores, dropped_forest};
+ghost use Rattle.fa_merge.specs.Dropped.{CanDrop, IsCut, IsFlat, IsIdle, Removes, Restores, dropped_forest};
 ghost use Rattle.fa_merge.specs.Merged.{CanMerge, Refers, merged_at};
 ghost use Rattle.fa_merge.specs.Reached.{AlwaysLeaks, AreAllReached, HasMembers, IsLeastUnreached, IsUnreached};
 ghost use Rattle.fa_merge.specs.Reached.{NeverLeaks};
@@ -101,12 +101,18 @@ pub fn dropping_cuts()
         → IsCut T F (dropped_forest r F) r }
 {}
 
-/// The law of dropping on stores, for each table over the face: without box edges the members of a forest that is cut
-/// are those of the forest with the root's cell removed and each value that named it Dangling, up to alike.
+/// The law of dropping on stores, for each table over the face: where the root is idle, the members of a forest that is
+/// cut are those of the forest with the root's cell removed and each value that named it Dangling, up to alike.
 pub fn dropping_removes()
-    ensures removes { (face : Face) (T : List BoxDef) (F G : Forest) (r : ℕ) → IsTableOf face T
-        → Every HasNoBoxes F.autos → IsCut T F G r → Removes face.shapes.structs T F G r }
-    ensures restores { (face : Face) (T : List BoxDef) (F G : Forest) (r : ℕ) → IsTableOf face T
-        → Every HasNoBoxes F.autos → Every HasNoBoxes G.autos
-        → IsFilled face F → IsCut T F G r → Restores face.shapes.structs T F G r }
+    ensures removes { (face : Face) (T : List BoxDef) (F G : Forest) (r : ℕ) → IsTableOf face T → IsFilled face F
+        → IsIdle face.boxes F r → IsCut T F G r → Removes face.shapes.structs T F G r }
+    ensures restores { (face : Face) (T : List BoxDef) (F G : Forest) (r : ℕ) → IsTableOf face T → IsFilled face F
+        → IsIdle face.boxes F r → IsCut T F G r → Restores face.shapes.structs T F G r }
+{}
+
+/// The root of a forest without box edges is idle, and so is one that can be dropped.
+pub fn roots_are_idle()
+    ensures plain { (bs : List BoxFace) (F : Forest) (r : ℕ) → Every HasNoBoxes F.autos → IsIdle bs F r }
+    ensures dropped { (face : Face) (F : Forest) (r : ℕ) → IsSound face F → Every IsRanked F.autos
+        → CanDrop face.boxes F r → IsIdle face.boxes F r }
 {}

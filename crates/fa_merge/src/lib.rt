@@ -5,6 +5,7 @@
 pub mod counting;
 pub mod dead;
 mod grafting;
+pub mod idle;
 mod joins;
 pub mod laws;
 pub mod leaking;
@@ -16,6 +17,7 @@ mod signing;
 
 pub use counting::can_merge;
 pub use dead::drop_dead;
+pub use idle::is_idle;
 pub use leaking::leaking_root;
 pub use merge::{merge_root, reorder};
 pub use placing::symbol_of;

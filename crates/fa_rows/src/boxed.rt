@@ -4,7 +4,7 @@ ghost use Rattle.std.specs.Prelude.{IfOk};
 ghost use Rattle.fore_base.specs.Lists.{Every};
 ghost use Rattle.fa_core.specs.Faces.{IsGiving};
 
-use crate::roots::{exchanged_text, leaking_text, merged_letters};
+use crate::roots::{dropped_text, exchanged_text, leaking_text, merged_letters};
 use anyhow::{Result, bail};
 use fa_core::faces::{BoxFace, Face};
 use fa_sound::Sound;
@@ -28,6 +28,12 @@ pub fn exchanged(alloc: Global, text: &str) -> Result<String> {
 pub fn merged(alloc: Global, text: &str, root: u32, wanted: &[&str]) -> Result<String> {
     let forest = boxed(alloc, text)?;
     merged_letters(alloc, &forest, root, wanted)
+}
+
+// boxed-dropped ROOT: the forest without the root.
+pub fn dropped(alloc: Global, text: &str, root: u32) -> Result<String> {
+    let forest = boxed(alloc, text)?;
+    dropped_text(alloc, &forest, root)
 }
 
 /// The sound forest of the text. Err is a text that cannot be read, a forest that is not sound, and want of memory.

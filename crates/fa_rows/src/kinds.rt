@@ -53,6 +53,7 @@ fn answer_at(alloc: Global, head: &str, text: &str, wanted: &[&str]) -> Result<S
         "dropped" => dropped(alloc, text, root),
         "merged" => merged(alloc, text, root, wanted),
         "boxed-merged" => boxed::merged(alloc, text, root, wanted),
+        "boxed-dropped" => boxed::dropped(alloc, text, root),
         "chosen" => chosen_letters(alloc, text, root, wanted),
         "lifted" => lifted_letters(alloc, text, root, number_at(head, 2)?, wanted),
         "split" => split_letters(alloc, text, root, number_at(head, 2)?, wanted),

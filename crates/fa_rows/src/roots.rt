@@ -1,13 +1,11 @@
 // Roots that leak, that are dropped or merged, and that change places.
 
 ghost use Rattle.std.specs.Prelude.{◌≡◌, length};
-ghost use Rattle.fore_base.specs.Lists.{Every};
-ghost use Rattle.fa_core.specs.Boxless.{HasNoBoxes};
 ghost use Rattle.fa_merge.specs.Merged.{CanMerge};
 
 use crate::splitting::has_root;
 use anyhow::{Result, bail};
-use fa_merge::{can_merge, drop_dead, leaking_root, merge_root, reorder};
+use fa_merge::{can_merge, drop_dead, is_idle, leaking_root, merge_root, reorder};
 use fa_sound::Sound;
 use fore_base::memory::Mem;
 use row_forests::{letter, put_forest, sound};
@@ -40,11 +38,13 @@ pub fn dropped(alloc: Global, text: &str, root: u32) -> Result<String> {
     dropped_text(alloc, &forest, root)
 }
 
-fn dropped_text(alloc: Global, forest: &Sound, root: u32) -> Result<String>
-    requires { Every HasNoBoxes forest.now.forest.autos }
-{
+// The forest without the root, where that is idle.
+pub fn dropped_text(alloc: Global, forest: &Sound, root: u32) -> Result<String> {
     if !has_root(forest, root) {
         bail!("no such root");
+    }
+    if !is_idle(alloc, forest, root)? {
+        return refused(alloc);
     }
     let made = drop_dead(alloc, forest, root)?;
     shown(alloc, &made)

@@ -2,9 +2,9 @@ use Rattle.std.proofs.Common.{◌≡◌, ◌∙◌, sym, subst, ℕ}
 use Rattle.std.proofs.lemmas.Result.{IfOk-weaker}
 use Rattle.fa_core.specs.Filled.{IsSound}
 use Rattle.fa_core.specs.declared.forest.Forest.{Forest}
-use Rattle.fa_sound.specs.Components.{component_at, with_component}
+use Rattle.fa_sound.specs.Components.{component_at}
 use Rattle.fa_signatures.specs.CutPieces.{IsPiece}
-use Rattle.fa_merge.specs.Merged.{HasTreesOf, lowered}
+use Rattle.fa_merge.specs.Merged.{HasTreesOf}
 use Rattle.fa_merge.proofs.MergedCut.{piece_within, piece_sound, piece_trees}
 use Rattle.fa_merge.proofs.grafting.with_piece.Goals as goal
 

@@ -1,4 +1,4 @@
-use Rattle.std.proofs.Common.{◌<◌, length, subst, sym, arith}
+use Rattle.std.proofs.Common.{arith}
 use Rattle.std.proofs.lemmas.Result.{IfOk-weaker}
 use Rattle.fore_base.proofs.ListLemmas.{paired_long}
 use Rattle.fa_merge.specs.inner.Signed.{IsSignatureOf}

@@ -3,6 +3,7 @@ use Rattle.fore_base.specs.Lists.{Every}
 use Rattle.fa_core.specs.Boxless.{HasNoBoxes}
 use Rattle.fa_core.specs.declared.forest.Forest.{Forest}
 use Rattle.fa_merge.specs.Dropped.{CanDrop}
+use Rattle.fa_merge.proofs.DroppedSound.{plain_idle}
 use Rattle.fa_edit.specs.Plain.{IsPlainAt}
 use Rattle.sym_transfer.proofs.FreedRoots.{root_can_go, still_plain}
 use Rattle.sym_transfer.proofs.FreedStores.{freed_carries}
@@ -10,6 +11,10 @@ use Rattle.sym_transfer.proofs.freeing.freed.Goals as goal
 
 pub drop_dead-requires-clause-root : goal.drop_dead-requires-clause-root
 drop_dead-requires-clause-root c = (c.requires.explicit.plain c.args.base c.args.root 0 refl c.requires.at tt).root
+
+pub drop_dead-requires-clause-idle : goal.drop_dead-requires-clause-idle
+drop_dead-requires-clause-idle c =
+    plain_idle c.args.forest.now.face.boxes c.args.forest.now.forest c.args.root c.requires.plain
 
 pub returns-clause-carries : goal.returns-clause-carries
 returns-clause-carries c = λ T table x.
