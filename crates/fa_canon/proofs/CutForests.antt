@@ -30,7 +30,8 @@ use Rattle.fa_order.specs.Kinds.{IsSharedRoot, IsUnsharedRoot}
 use Rattle.fa_split.specs.Split.{CanSplit, MayBeLeaf, child_state, split_cells, split_leaf, top_rule}
 use Rattle.fa_split.proofs.FixedTrees.{child_run}
 use Rattle.fa_split.proofs.TopRules.{tree_by_top}
-use Rattle.fa_canon.specs.inner.Cutting.{HasWidth, IsCutting, IsRankedCell, child_at, has_field_at, ref_leaf, with_child}
+use Rattle.fa_canon.specs.inner.Cutting.{HasWidth, IsCutting, IsRankedCell, child_at, has_field_at, ref_leaf}
+use Rattle.fa_canon.specs.inner.Cutting.{with_child}
 use Rattle.fa_canon.specs.inner.Merges.{AreSettled}
 use Rattle.fa_canon.proofs.CutOff.{cut_step, cut_tree, root_shared}
 use Rattle.fa_canon.proofs.Knots.{cut_start, end_kinds, end_untied, loose_step, next_root, skip_root}
@@ -88,7 +89,8 @@ unshared_cutting n r F none c = record {
 -- a child to which no field leads, or that does not refer to the root
 pub skip_cutting : (n r p : ℕ) (F : Forest)
     → ((ts : List Tree) (t u : Tree) → Choice F.autos ts → slice_get ts r ≡ Some t
-    → has_field_at (out-Tree t).symbol p ≡ true → child_at t p ≡ Some u → RefersTo u r → ⊥) → IsCutting n r p F → IsCutting n r (p + 1) F
+    → has_field_at (out-Tree t).symbol p ≡ true → child_at t p ≡ Some u → RefersTo u r → ⊥) → IsCutting n r p F
+    → IsCutting n r (p + 1) F
 skip_cutting n r p F none c = record {
   few = c.few;
   vars = c.vars;

@@ -1,5 +1,5 @@
--- A cell at the end of a field cut off below a shared root: the roots keep their kinds, the new one is a knot, and loose
--- children stay loose.
+-- A cell at the end of a field cut off below a shared root: the roots keep their kinds, the new one is a knot, and
+-- loose children stay loose.
 use Rattle.std.proofs.Common.{◌≡◌, ◌≢◌, ◌⊎◌, inl, inr, ℕ, suc, ◌<◌, ◌≤◌, ◌+◌, true, nat_eq, length, List, [], ◌∷◌, ◌++◌}
 use Rattle.std.proofs.Common.{refl, sym, ap, subst, ◌∙◌, slice_get, slice_set, Some, arith}
 use Rattle.std.proofs.lemmas.Bool.{eq-eqb}
@@ -207,7 +207,10 @@ module _ (r p : ℕ) (ts us : List Tree) (k : IsCutOff r p ts us) (cell : IsRank
 
   -- a root to which no other tree refers, and that is not cut, stays one
   alone_cut : (vars : List Target) (j : ℕ) → j < N → j ≢ r → IsAlone vars ts j → IsAlone vars us j
-  alone_cut vars j l d a = record { no_var = a.no_var; none = λ i u e o h. here i u e o h (same_or_not i N) (same_or_not i r) }
+  alone_cut vars j l d a = record {
+    no_var = a.no_var;
+    none = λ i u e o h. here i u e o h (same_or_not i N) (same_or_not i r);
+  }
     where
       not_last : j ≢ N
       not_last e = omega (arith, l, e)

@@ -31,7 +31,8 @@ module _ (face : Face) (F G : Forest) (r : ℕ) (sound : IsSound face F) (ranked
       let R = length (others_new F r is.0 h) in
       let e : length (merged_at r is.0 F).autos ≡ length G.autos =
       paired_long HasSameLanguage (merged_at r is.0 F).autos G.autos is.2.autos in
-      let a : length (merged_at r is.0 F).autos ≡ R = length-set (others_new F r is.0 h) (to_last (length F.autos) r is.0)
+      let a : length (merged_at r is.0 F).autos ≡ R =
+      length-set (others_new F r is.0 h) (to_last (length F.autos) r is.0)
       (merged R (new F r is.0 h is.0) (new F r is.0 h r)) in
       let b : to_last (length F.autos) r r ≡ R = last_new F r is.0 h in
       let c = size_is F r is.0 h in

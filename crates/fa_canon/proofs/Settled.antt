@@ -1,5 +1,5 @@
--- Where no root is left to merge, each root is shared, or no other tree refers to it. Where besides it is reached, a way
--- back leads to it.
+-- Where no root is left to merge, each root is shared, or no other tree refers to it. Where besides it is reached, a
+-- way back leads to it.
 use Rattle.std.proofs.Common.{◌≡◌, ◌≢◌, ◌⊎◌, inl, inr, ℕ, zero, suc, ◌<◌, ◌≤◌, Bool, true, false, true≢false}
 use Rattle.std.proofs.Common.{nat_eq, length, List, [], ◌∷◌, refl, sym, subst, ◌∙◌, slice_get, Some, arith}
 use Rattle.std.proofs.lemmas.Bool.{eqb-true, eq-eqb}

@@ -20,8 +20,8 @@ use std::alloc::Global;
 use ta_core::auto::Auto;
 use ta_core::symbol::{Slot, Symbol};
 
-/// Forests without knots in the trees of those of their first `count` roots that are shared: each cell that was one is a
-/// root. Err is want of memory.
+/// Forests without knots in the trees of those of their first `count` roots that are shared: each cell that was one is
+/// a root. Err is want of memory.
 pub fn cut_knots(alloc: Global, forest: Sound, count: u32) -> Mem<List<Sound>>
     requires { IsReady count 0 0 forest }
     ensures { IfOk result (λ made. IsSplitEach (HasCut count count 0) (forest ∷ []) made) }

@@ -5,7 +5,8 @@ use Rattle.std.proofs.lemmas.Bool.{eqb-true, eq-eqb}
 use Rattle.fore_base.specs.Lists.{IsIn}
 use Rattle.fore_base.proofs.ListLemmas.{in_append}
 use Rattle.ta_core.specs.declared.tree.Tree.{Tree}
-use Rattle.fa_core.specs.Canonical.{GoesOn, IsCanonical, IsFirstOpen, LeadsBack, RefersTo, Walks, ended, old, new, again}
+use Rattle.fa_core.specs.Canonical.{GoesOn, IsCanonical, IsFirstOpen, LeadsBack, RefersTo, Walks, ended, old, new}
+use Rattle.fa_core.specs.Canonical.{again}
 use Rattle.fa_core.specs.Canonical.{refs_at}
 use Rattle.fa_core.specs.Ways.{ways}
 use Rattle.fa_core.specs.declared.faces.BoxFace.{BoxFace}

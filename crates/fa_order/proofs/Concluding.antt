@@ -1,5 +1,6 @@
 -- A forest with the roots of a canonical one is canonical when its roots stand in the order of the walk.
-use Rattle.std.proofs.Common.{◌≡◌, inl, inr, ℕ, zero, suc, ◌<◌, ◌≤◌, length, List, [], ◌∷◌, map, refl, sym, ap, subst, ◌∙◌}
+use Rattle.std.proofs.Common.{◌≡◌, inl, inr, ℕ, zero, suc, ◌<◌, ◌≤◌, length, List, [], ◌∷◌, map, refl, sym, ap, subst}
+use Rattle.std.proofs.Common.{◌∙◌}
 use Rattle.std.proofs.Common.{slice_get, Some, arith}
 use Rattle.std.proofs.lemmas.Option.{none-some, same_Some}
 use Rattle.fore_base.specs.Lists.{IsIn, Every}
@@ -8,7 +9,8 @@ use Rattle.ta_core.specs.Auto.{Automaton, IsRanked}
 use Rattle.ta_core.specs.Single.{HasOneTop}
 use Rattle.ta_core.specs.declared.auto.Rule.{Rule}
 use Rattle.ta_core.specs.declared.tree.Tree.{Tree}
-use Rattle.fa_core.specs.Canonical.{IsLedTo, IsRootKind, IsUntied, IsCanonical, LeadsBack, RefersTo, Walks, GoesOn, refs_at}
+use Rattle.fa_core.specs.Canonical.{IsLedTo, IsRootKind, IsUntied, IsCanonical, LeadsBack, RefersTo, Walks, GoesOn}
+use Rattle.fa_core.specs.Canonical.{refs_at}
 use Rattle.fa_core.specs.Canonical.{var_roots}
 use Rattle.fa_core.specs.Choices.{bares}
 use Rattle.fa_core.specs.Dressed.{Nodes}
@@ -67,7 +69,8 @@ top_placed f a h = record {
 
 -- Kind 3 under new numbers.
 
-led_follows : (f g : ℕ → ℕ) (there : (k : ℕ) → g (f k) ≡ k) (bs : List BoxFace) (vs ws : List Target) (ts us : List Tree) (h : Follows f g vs ws ts us)
+led_follows : (f g : ℕ → ℕ) (there : (k : ℕ) → g (f k) ≡ k) (bs : List BoxFace) (vs ws : List Target)
+    (ts us : List Tree) (h : Follows f g vs ws ts us)
     → AreMoved f g there ts us → (r : ℕ) → IsLedTo bs vs ts (g r) → IsLedTo bs ws us r
 led_follows f g there bs vs ws ts us h m r l = record {
   no_var = λ i. l.no_var ((h.var r).0 i);
@@ -144,7 +147,8 @@ module _ (face : Face) (F : Forest) (sound : IsSound face F) (ranked : Every IsR
         elim k [
           | inl s ↦ inl (shared_follows f g F.vars G.vars ts (bares e) h r s)
           | inr t ↦ elim t [
-            | inl w ↦ inr (inl (led_follows f g (gf F f order is e T o) face.boxes F.vars G.vars ts (bares e) h (moved F f order is e T o) r w))
+            | inl w ↦ inr (inl (led_follows f g (gf F f order is e T o) face.boxes F.vars G.vars ts (bares e) h
+                (moved F f order is e T o) r w))
             | inr w ↦ inr (inr (knot_follows f g F.vars G.vars ts (bares e) h r w))
           ]
         ]

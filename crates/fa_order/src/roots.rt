@@ -34,7 +34,8 @@ pub fn place_roots(alloc: Global, forest: &Sound) -> Mem<Sound>
     ensures regroups { IfOk result (λ made. (T : List BoxDef) → Regroups T forest.now.forest made.forest) }
     ensures vars { IfOk result (λ made. length made.forest.vars ≡ length forest.now.forest.vars) }
     ensures data { IfOk result (λ made. made.forest.data_vars ≡ forest.now.forest.data_vars) }
-    ensures plain { Every HasNoBoxes forest.now.forest.autos → IfOk result (λ made. Every HasNoBoxes made.forest.autos) }
+    ensures plain { Every HasNoBoxes forest.now.forest.autos
+        → IfOk result (λ made. Every HasNoBoxes made.forest.autos) }
     ensures same { IfOk result (λ made. IsCanonical forest.now.face forest.now.forest
         → made.forest ≡ forest.now.forest) }
 {
