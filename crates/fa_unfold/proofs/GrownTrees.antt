@@ -145,7 +145,7 @@ module _ (b : Automaton) (right : IsRanked b) where
   abbrev below : Automaton
   below = below_tops b
 
-  below_right : IsRanked below
+  pub below_right : IsRanked below
   below_right = (
     right.0,
     in_every (IsRankedRule b.states) below.rules

@@ -1,5 +1,5 @@
 -- What the references of an inside are outside.
-use Rattle.std.specs.Prelude.{ℕ, zero, suc, ◌+◌}
+use Rattle.std.specs.Prelude.{ℕ, zero, suc, ◌+◌, Option, Some, None}
 use Rattle.fa_core.specs.declared.forest.Target.{Target}
 use Rattle.fa_core.specs.declared.forest.Target.TheVariants.{At}
 
@@ -13,3 +13,8 @@ outside i y n (suc (suc k)) = At (n + k)
 abbrev pub outside_hook : ℕ → ℕ → ℕ → Target
 outside_hook i n zero = At i
 outside_hook i n (suc k) = At (n + k)
+
+-- those of an edge's that ends at the leaf, or has no end
+abbrev pub outer : ℕ → Option Target → ℕ → ℕ → Target
+outer i (Some y) n = outside i y n
+outer i None n = outside_hook i n

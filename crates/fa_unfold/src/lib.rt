@@ -1,11 +1,16 @@
 //! Box edges taken apart: the cell of an edge that gives a field to a root made a root of its own; and a box edge of a
-//! root replaced by the inside of its box, of which the laws are there and the call is not.
+//! root replaced by the inside of its box, of which the laws and parts of the body are there, and the call is not.
 #![tactic(auto)]
 
+mod growing;
 pub mod laws;
 pub mod lifting;
 mod lifting_automata;
 pub mod lifting_laws;
 mod lifting_owners;
+mod placing;
+mod roots;
+mod slots;
+mod tops;
 
 pub use lifting::{can_lift, lift_parent};
