@@ -14,7 +14,8 @@ use Rattle.sym_transfer.proofs.PtrStays.{load_ptr_stays}
 use Rattle.sym_transfer.proofs.loading.loaded_leaf.Goals as goal
 
 pub leaf_of-requires : goal.leaf_of-requires
-leaf_of-requires c = c.requires.explicit.plain c.args.from c.args.root c.args.field refl c.requires.at refl
+leaf_of-requires c =
+    record { at = c.requires.explicit.plain c.args.from c.args.root c.args.field refl c.requires.at refl }
 
 pub with_target-requires-clause-root : goal.with_target-requires-clause-root
 with_target-requires-clause-root c =
