@@ -34,7 +34,8 @@ GiveAlike bs t u = (n : ℕ) → RefersTo t n → length (gift bs n t) ≡ lengt
 
 -- with another tree in one place
 gifts_set : (bs : List BoxFace) (n : ℕ) (ts : List Tree) (r : ℕ) (t u : Tree) → slice_get ts r ≡ Some t
-    → length (given_at bs (slice_set ts r u) n) + length (gift bs n t) ≡ length (given_at bs ts n) + length (gift bs n u)
+    → length (given_at bs (slice_set ts r u) n) + length (gift bs n t)
+    ≡ length (given_at bs ts n) + length (gift bs n u)
 gifts_set bs n [] r t u e = absurd (none-some t e)
 gifts_set bs n (x ∷ ts) zero t u e =
     let a = length-append (gift bs n u) (given_at bs ts n) in
@@ -105,7 +106,8 @@ tops_set [] r t u e s = tt
 tops_set (x ∷ ts) zero t u e s = (ap (λ (z : Tree). (out-Tree z).symbol) (same_Some x t e) ∙ s, tops_same ts)
 tops_set (x ∷ ts) (suc r) t u e s = (refl, tops_set ts r t u e s)
 
-pub same_choice : (xs ys : List Automaton) → Paired HasSameLanguage xs ys → (ts : List Tree) → Choice xs ts → Choice ys ts
+pub same_choice : (xs ys : List Automaton) → Paired HasSameLanguage xs ys → (ts : List Tree) → Choice xs ts
+    → Choice ys ts
 same_choice [] [] h ts k = k
 same_choice [] (y ∷ ys) h ts k = absurd h
 same_choice (x ∷ xs) [] h ts k = absurd h

@@ -31,7 +31,8 @@ use Rattle.fa_split.proofs.TopRules.{tree_by_top, top_by_tree}
 use Rattle.fa_join.specs.Joinable.{SameRuns, SameSignatures}
 use Rattle.fa_join.specs.inner.Joining.{joined}
 use Rattle.fa_join.proofs.GivenAlike.{GiveAlike, SameTop}
-use Rattle.fa_join.proofs.JoinedAutos.{both_ranked, more, more_above, child_back, joined_symbols, joined_union, same_back}
+use Rattle.fa_join.proofs.JoinedAutos.{both_ranked, more, more_above, child_back, joined_symbols, joined_union}
+use Rattle.fa_join.proofs.JoinedAutos.{same_back}
 use Rattle.fa_join.proofs.OtherChild.{other_child}
 
 -- With a tree of the one in the place where the children differ, the children of the other run to those of the one.
@@ -140,8 +141,10 @@ module _ (a b : Automaton) (p : ℕ) (ranked_a : IsRanked a) (ranked_b : IsRanke
         symbol_u = sym (symbols ∙ (tree_by_top b one_b u m).0)
 
         moved_in : InLanguage a moved
-        moved_in = top_by_tree a one_a moved
-            (sym is_symbol, subst (λ (ts : List Tree). RunEach a.rules (top_rule a).children ts) (sym is_children) there.0)
+        moved_in = top_by_tree a one_a moved (
+          sym is_symbol,
+          subst (λ (ts : List Tree). RunEach a.rules (top_rule a).children ts) (sym is_children) there.0,
+        )
 
         by_marks : (x : Tree) (y : Symbol) → (out-Tree x).symbol ≡ y
             → signature bs x ≡ marks_by bs y (map (below_of bs) (out-Tree x).children)

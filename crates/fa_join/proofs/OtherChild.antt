@@ -54,13 +54,15 @@ edge_at (Hook b ∷ ss) xs p = elim (edge_at ss xs p) [
 edge_at (Field f ∷ ss) [] p = inr (λ z. refl)
 edge_at (Field f ∷ ss) (x ∷ xs) zero = inl ([], edges ss xs, Field f, inl refl, tt, λ z. refl)
 edge_at (Field f ∷ ss) (x ∷ xs) (suc p) = elim (edge_at ss xs p) [
-  | inl k ↦ inl ((Field f, x) ∷ k.0, k.1, k.2, inr k.3, k.4, λ z. ap (λ (es : List (Slot × Below)). (Field f, x) ∷ es) (k.5 z))
+  | inl k ↦ inl
+      ((Field f, x) ∷ k.0, k.1, k.2, inr k.3, k.4, λ z. ap (λ (es : List (Slot × Below)). (Field f, x) ∷ es) (k.5 z))
   | inr k ↦ inr (λ z. ap (λ (es : List (Slot × Below)). (Field f, x) ∷ es) (k z))
 ]
 edge_at (Link b ∷ ss) [] p = inr (λ z. refl)
 edge_at (Link b ∷ ss) (x ∷ xs) zero = inl ([], edges ss xs, Link b, inl refl, tt, λ z. refl)
 edge_at (Link b ∷ ss) (x ∷ xs) (suc p) = elim (edge_at ss xs p) [
-  | inl k ↦ inl ((Link b, x) ∷ k.0, k.1, k.2, inr k.3, k.4, λ z. ap (λ (es : List (Slot × Below)). (Link b, x) ∷ es) (k.5 z))
+  | inl k ↦ inl
+      ((Link b, x) ∷ k.0, k.1, k.2, inr k.3, k.4, λ z. ap (λ (es : List (Slot × Below)). (Link b, x) ∷ es) (k.5 z))
   | inr k ↦ inr (λ z. ap (λ (es : List (Slot × Below)). (Link b, x) ∷ es) (k z))
 ]
 
@@ -68,7 +70,8 @@ module _ (bs : List BoxFace) where
   same_edges : (es : List (Slot × Below)) → EdgesSame bs es es
   same_edges [] = no_edges
   same_edges ((s, e) ∷ es) =
-      an_edge s e e (record { marks = refl; provided = λ r. refl; back = λ r. refl; reach = λ rs r. refl }) (same_edges es)
+      an_edge s e e (record { marks = refl; provided = λ r. refl; back = λ r. refl; reach = λ rs r. refl })
+      (same_edges es)
 
   -- one edge among others
   one_edge : (pre : List (Slot × Below)) (s : Slot) (e x : Below) (post : List (Slot × Below)) → AddsSame bs s e x

@@ -36,10 +36,10 @@ pub fn boxed_over(alloc: Global, face: &Face, text: &str) -> Result<Sound>
     }
 }
 
-/// The structs of all forests, and eight boxes. Box 0 is an edge of a list of pairs that leads back by the second field,
-/// which it gives the pair at its end; box 4 gives it too, and does not lead back. Box 1 is an edge of nodes, box 2 a
-/// ring of nodes, and box 3 an edge of trios: they give the cell at their end nothing. Boxes 5 to 7 are edges of trios
-/// that lead back by the first, the second and the third field, which they give the trio at their end.
+/// The structs of all forests, and eight boxes. Box 0 is an edge of a list of pairs that leads back by the second
+/// field, which it gives the pair at its end; box 4 gives it too, and does not lead back. Box 1 is an edge of nodes,
+/// box 2 a ring of nodes, and box 3 an edge of trios: they give the cell at their end nothing. Boxes 5 to 7 are edges
+/// of trios that lead back by the first, the second and the third field, which they give the trio at their end.
 ///
 /// # Errors
 ///
