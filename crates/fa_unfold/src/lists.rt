@@ -17,9 +17,9 @@ use fore_base::memory::Mem;
 use std::alloc::Global;
 use ta_core::auto::{Auto, Rule};
 
-/// For each of the rules of the port the forest with the root, which has one rule, without the slot at the place, with the
-/// slots of the rule of the port, and with the inner components behind. Err is want of memory, also where states do not
-/// fit 32 bits.
+/// For each of the rules of the port the forest with the root, which has one rule, without the slot at the place, with
+/// the slots of the rule of the port, and with the inner components behind. Err is want of memory, also where states do
+/// not fit 32 bits.
 pub fn open_each(
     alloc: Global,
     boxes: &[BoxFace],
@@ -47,8 +47,8 @@ pub fn open_each(
     Ok(made)
 }
 
-/// For each of the rules of the root, and each of those of the port, the forest with the rule of the root alone at it, with
-/// its slots and those of the rule of the port. Err is want of memory, also where states do not fit 32 bits.
+/// For each of the rules of the root, and each of those of the port, the forest with the rule of the root alone at it,
+/// with its slots and those of the rule of the port. Err is want of memory, also where states do not fit 32 bits.
 pub fn grown_roots(
     alloc: Global,
     boxes: &[BoxFace],
