@@ -64,8 +64,8 @@ fn rules_below(alloc: Global, roots: &[u32], children: &[u32], rules: &[Rule]) -
     Ok(made)
 }
 
-/// The component with the cell of the rule at its top, whose slots are these and those of a rule of the port. Err is want
-/// of memory, also where states do not fit 32 bits.
+/// The component with the cell of the rule at its top, whose slots are these and those of a rule of the port. Err is
+/// want of memory, also where states do not fit 32 bits.
 pub fn grown(
     alloc: Global,
     boxes: &[BoxFace],

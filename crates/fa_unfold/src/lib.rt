@@ -8,6 +8,7 @@ pub mod lifting;
 mod lifting_automata;
 pub mod lifting_laws;
 mod lifting_owners;
+mod lists;
 mod placing;
 mod roots;
 mod slots;
