@@ -28,9 +28,9 @@ pub fn loop_free_graphs(program: &Typed, graph: &Graph)
     let _heads = &graph.heads;
 }
 
-/// A program and any of its graphs agree: on the same choices both meet the same faults in the same lines, both end, or
-/// both want a choice, and the
-/// program does so after no more steps than the graph after edges.
+/// A program, where each `malloc` gives a cell, and any of its graphs agree: on the same choices both meet the same
+/// faults in the same lines, both end, or both want a choice, and the program does so after no more steps than the graph
+/// after edges.
 pub fn graphs_agree(program: &Typed, graph: &Graph)
     ensures { LowerOf program.now graph.now → Agrees program.now graph.now }
 {

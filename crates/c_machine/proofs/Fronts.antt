@@ -3,6 +3,7 @@ use Rattle.std.proofs.Common.{◌≡◌, Bor, ℕ, Bool, true, false, List, Ok, 
 use Rattle.fore_base.specs.declared.shape.Shape.{Shape}
 use Rattle.fore_base.specs.declared.store.Store.{Store}
 use Rattle.fore_base.specs.Stores.{kill}
+use Rattle.c_types.specs.declared.mode.MallocMode.{MallocMode}
 use Rattle.c_types.specs.declared.program.Act.{Act}
 use Rattle.c_types.specs.declared.program.Atom.{Atom}
 use Rattle.c_types.specs.Control.{Items, Do, Close, Ask, ◌then◌, opened}
@@ -42,25 +43,26 @@ comes t PaceGoes is s c e left = (is, e, left)
 comes t PaceStops is s c e left = e
 comes t (PaceFaults kind) is s c e left = e
 
-module _ (shapes : List Shape) (front : Front) (parts : List Part) (r : Items) (s : Store) (x : ℕ) where
+module _ (shapes : List Shape) (mode : MallocMode) (front : Front) (parts : List Part) (r : Items) (s : Store)
+    (x : ℕ) where
   -- the step of an act
   pub act_comes : (a : Bor Act) (m : ℕ) (pace : Pace) (is : Items) (after : Store) (c : Control) → front ≡ FrontAct a m
-      → act_turn shapes a.now r s x ≡ turn_seen pace is after → left_of c ≡ opened is
-      → TurnIs (turn_of shapes (opened (facing front parts r)) s x) pace c after
+      → act_turn shapes mode a.now r s x ≡ turn_seen pace is after → left_of c ≡ opened is
+      → TurnIs (turn_of shapes mode (opened (facing front parts r)) s x) pace c after
   act_comes a m pace is after c at e left =
-      comes (turn_of shapes (opened (facing front parts r)) s x) pace is after c
-      (ap (λ f. turn_of shapes (opened (facing f parts r)) s x) at
-      ∙ ap (λ is. act_turn shapes a.now is s x) (then_done r) ∙ e) left
+      comes (turn_of shapes mode (opened (facing front parts r)) s x) pace is after c
+      (ap (λ f. turn_of shapes mode (opened (facing f parts r)) s x) at
+      ∙ ap (λ is. act_turn shapes mode a.now is s x) (then_done r) ∙ e) left
 
   -- the step of a test with this outcome
   pub test_comes : (a : Bor Atom) (m : ℕ) (sides : Sides) (b : Bool) (pace : Pace) (c : Control)
       → front ≡ FrontTest a m sides → Ok b ≡ atom_of a.now s x → ((is : Items) → turn_seen pace is s ≡ settle s is)
       → left_of c ≡ opened (way b (through (ways_of sides) parts) then r)
-      → TurnIs (turn_of shapes (opened (facing front parts r)) s x) pace c s
+      → TurnIs (turn_of shapes mode (opened (facing front parts r)) s x) pace c s
   test_comes a m sides b pace c at outcome settled left =
       let w : Ways = through (ways_of sides) parts in
-      comes (turn_of shapes (opened (facing front parts r)) s x) pace (way b w then r) s c
-      (ap (λ f. turn_of shapes (opened (facing f parts r)) s x) at
+      comes (turn_of shapes mode (opened (facing front parts r)) s x) pace (way b w then r) s c
+      (ap (λ f. turn_of shapes mode (opened (facing f parts r)) s x) at
       ∙ ap (λ is. test_turn (atom_of a.now s x) w.when w.otherwise is s) (then_done r)
       ∙ ap (λ o. test_turn o w.when w.otherwise r s) (sym outcome)
       ∙ test_way b w r s
@@ -69,11 +71,11 @@ module _ (shapes : List Shape) (front : Front) (parts : List Part) (r : Items) (
   pub truth_comes : (sides : Sides) (pace : Pace) (c : Control) → front ≡ Truth sides
       → ((is : Items) → turn_seen pace is s ≡ settle s is)
       → left_of c ≡ opened (way true (through (ways_of sides) parts) then r)
-      → TurnIs (turn_of shapes (opened (facing front parts r)) s x) pace c s
+      → TurnIs (turn_of shapes mode (opened (facing front parts r)) s x) pace c s
   truth_comes sides pace c at settled left =
       let w : Ways = through (ways_of sides) parts in
-      comes (turn_of shapes (opened (facing front parts r)) s x) pace (w.when then r) s c
-      (ap (λ f. turn_of shapes (opened (facing f parts r)) s x) at
+      comes (turn_of shapes mode (opened (facing front parts r)) s x) pace (w.when then r) s c
+      (ap (λ f. turn_of shapes mode (opened (facing f parts r)) s x) at
       ∙ ap (λ is. test_turn (Ok true) w.when w.otherwise is s) (then_done r)
       ∙ sym (settled (w.when then r))) left
 
@@ -81,10 +83,10 @@ module _ (shapes : List Shape) (front : Front) (parts : List Part) (r : Items) (
   pub close_comes : (ps ds : Bor (List ℕ)) (m : ℕ) (pace : Pace) (after : Store) (c : Control)
       → front ≡ FrontClose ps ds m → after ≡ kill ps.now ds.now s
       → ((is : Items) → turn_seen pace is after ≡ settle after is) → left_of c ≡ opened r
-      → TurnIs (turn_of shapes (opened (facing front parts r)) s x) pace c after
+      → TurnIs (turn_of shapes mode (opened (facing front parts r)) s x) pace c after
   close_comes ps ds m pace after c at dead settled left =
-      comes (turn_of shapes (opened (facing front parts r)) s x) pace r after c
-      (ap (λ f. turn_of shapes (opened (facing f parts r)) s x) at
+      comes (turn_of shapes mode (opened (facing front parts r)) s x) pace r after c
+      (ap (λ f. turn_of shapes mode (opened (facing f parts r)) s x) at
       ∙ ap (λ is. settle (kill ps.now ds.now s) is) (then_done r)
       ∙ ap (λ (t : Store). settle t r) (sym dead)
       ∙ sym (settled r)) left

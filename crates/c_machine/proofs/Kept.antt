@@ -7,6 +7,8 @@ use Rattle.fore_base.specs.declared.shape.Shape.{Shape}
 use Rattle.fore_base.specs.declared.store.Store.{Store}
 use Rattle.fore_base.specs.Heap.{leaks}
 use Rattle.fore_base.specs.Stores.{kill}
+use Rattle.c_types.specs.declared.mode.MallocMode.{MallocMode}
+use Rattle.c_types.specs.declared.mode.MallocMode.TheVariants.{Always}
 use Rattle.c_types.specs.declared.program.Act.{Act}
 use Rattle.c_types.specs.Control.{Items, Done, Do, Close}
 use Rattle.c_types.specs.Steps.{Goes, Faults, settle, settled, act_turn}
@@ -31,25 +33,26 @@ settled_kept : (done : Result Unit Kind) (r : Result Store Kind) (t : Store) (is
 settled_kept (Ok u) r t is e none = settle_kept t is (λ leaked. none (ap (λ x. settled x is) e ∙ leaked))
 settled_kept (Err k) r t is e none = tt
 
-module _ (shapes : List Shape) (a : Act) (is : Items) (s : Store) (x : ℕ) where
+module _ (shapes : List Shape) (mode : MallocMode) (a : Act) (is : Items) (s : Store) (x : ℕ) where
   -- what an act does, where it gives a store
   pub act_kept : (done : Result Unit Kind) (r : Result Store Kind) (t : Store) → leaks s ≡ false
-      → MatchResult done (λ _. r ≡ Ok t) (λ k. r ≡ Err k) → act_turn shapes a is s x ≡ settled r is → act_loses a is s
+      → MatchResult done (λ _. r ≡ Ok t) (λ k. r ≡ Err k) → act_turn shapes mode a is s x ≡ settled r is
+      → act_loses a is s
       ≡ false → OnOk done (leaks t ≡ false)
   act_kept done r t sound e at none =
-      settled_kept done r t is e (λ leaked. turn_sound shapes (Do a 0 is) s x none sound (at ∙ leaked))
+      settled_kept done r t is e (λ leaked. turn_sound shapes mode (Do a 0 is) s x none sound (at ∙ leaked))
 
   -- where a round is left
-  pub leave_kept : (t : Store) (js : Items) → leaks s ≡ false → act_turn shapes a is s x ≡ settle t js
+  pub leave_kept : (t : Store) (js : Items) → leaks s ≡ false → act_turn shapes mode a is s x ≡ settle t js
       → act_loses a is s ≡ false → leaks t ≡ false
   leave_kept t js sound at none =
-      settle_kept t js (λ leaked. turn_sound shapes (Do a 0 is) s x none sound (at ∙ leaked))
+      settle_kept t js (λ leaked. turn_sound shapes mode (Do a 0 is) s x none sound (at ∙ leaked))
 
 -- the end of a block
 pub close_kept : (ps ds : List ℕ) (s : Store) → leaks s ≡ false → hold_cell s.vars ps ≡ false → leaks (kill ps ds s)
     ≡ false
 close_kept ps ds s sound none =
-    settle_kept (kill ps ds s) Done (λ leaked. turn_sound [] (Close ps ds 0 Done) s 0 none sound leaked)
+    settle_kept (kill ps ds s) Done (λ leaked. turn_sound [] Always (Close ps ds 0 Done) s 0 none sound leaked)
 
 -- a store without cells
 pub empty_kept : (ptrs datums : ℕ) → leaks (empty_store ptrs datums) ≡ false

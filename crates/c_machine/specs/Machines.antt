@@ -1,6 +1,7 @@
 -- What a machine is at, and what a step does to it.
 use Rattle.std.specs.Prelude.{◌≡◌, ℕ, Bool, true, false, Option, Some, None}
 use Rattle.fore_base.specs.declared.store.Store.{Store}
+use Rattle.c_types.specs.declared.mode.MallocMode.{MallocMode}
 use Rattle.c_types.specs.Program.{Program}
 use Rattle.c_types.specs.Control.{Items, Done, Do, Close, If, Loop, Again, DoLoop, DoAgain, opened}
 use Rattle.c_types.specs.Steps.{Goes, Stops, Faults, turn_of, mark_of}
@@ -12,6 +13,10 @@ use Rattle.c_machine.specs.declared.state.Machine.{Machine}
 
 abbrev pub program_of : Machine → Program
 program_of m = m.program.now
+
+-- whether its `malloc` may fail
+abbrev pub mode_of : Machine → MallocMode
+mode_of m = m.mode
 
 -- the items that are left, opened
 abbrev pub todo : Machine → Items
@@ -61,4 +66,4 @@ Stepped (Faults kind) old new answer = (answer ≡ Fault kind (mark_of (todo old
 abbrev pub Answers : Option ℕ → Machine → Machine → Turn → Type 0
 Answers None old new answer = (answer ≡ NeedsChoice) × (new ≡ old)
 Answers (Some choice) old new answer =
-    Stepped (turn_of (program_of old).shapes.structs (todo old) (store_of old) choice) old new answer
+    Stepped (turn_of (program_of old).shapes.structs (mode_of old) (todo old) (store_of old) choice) old new answer

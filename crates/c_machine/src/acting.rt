@@ -2,7 +2,7 @@
 
 ghost use Rattle.std.specs.Prelude.{◌≡◌, ◌<◌, ◌≤◌, ◌+◌, ◌^◌, ℕ, false, length, Some, MatchResult, OnOk};
 ghost use Rattle.c_types.specs.Control.{Items};
-ghost use Rattle.c_types.specs.Steps.{assign, look_at, finished, act_turn, write_path, blank};
+ghost use Rattle.c_types.specs.Steps.{makes_cell, assign_new, assign, look_at, finished, act_turn, write_path, blank};
 ghost use Rattle.fore_base.specs.Heap.{leaks};
 ghost use Rattle.fore_base.specs.Stores.{grown};
 ghost use Rattle.c_machine.specs.inner.Acts.{turn_seen, copied, copied_data, freed_at, done_to, settled_as};
@@ -11,7 +11,7 @@ ghost use Rattle.c_machine.specs.inner.Needs.{made_from, made_by, IsRoomy};
 ghost use Rattle.c_machine.specs.Pending.{pending};
 ghost use Rattle.c_machine.specs.inner.Sizes.{IsNoLarger, IsLittleLarger};
 
-use crate::data::{read_data, read_data_rhs, write_data};
+use crate::data::{chosen, read_data, read_data_rhs, write_data};
 use crate::heap::Heap;
 use crate::items::Item;
 use crate::leak::Marks;
@@ -19,6 +19,7 @@ use crate::leaving::leave_round;
 use crate::losing::act_loses;
 use crate::paths::{read, write};
 use crate::spares::Rooms;
+use c_types::mode::MallocMode;
 use c_types::program::{Act, DataPath, DataRhs, Path, PtrRhs};
 use fore_base::fault::Fault;
 use fore_base::shape::Shape;
@@ -63,25 +64,65 @@ fn make(
     }
 }
 
+/// Whether a `malloc` makes a cell; `choice` is the choice that was taken, if one was.
+fn makes_cell(mode: MallocMode, choice: u8) -> bool
+    ensures { result ≡ makes_cell mode choice }
+{
+    match mode {
+        MallocMode::Always => true,
+        MallocMode::MayFail => chosen(choice),
+    }
+}
+
+/// Writes the pointer that a `malloc` gives.
+fn assign_new(
+    alloc: Global,
+    shapes: &[Shape],
+    makes: bool,
+    shape: u32,
+    heap: &mut Heap,
+    rooms: &mut Rooms,
+    to: &Path,
+) -> Result<(), Fault>
+    requires roomy { IsRoomy shapes.now heap.old (Some shape) rooms.old }
+    requires below { heap.old.next + 1 < 2 ^ 64 }
+    ensures done { MatchResult result (λ _. assign_new makes shapes.now heap.old to.now shape ≡ Ok heap.new)
+        (λ fault. assign_new makes shapes.now heap.old to.now shape ≡ Err fault) }
+    ensures larger { IsLittleLarger heap.old heap.new }
+    ensures marks { rooms.new.marks ≡ rooms.old.marks }
+{
+    if makes {
+        make(alloc, shapes, shape, heap, rooms, to)
+    } else {
+        write(heap, to, Value::Null)
+    }
+}
+
+/// Assigns to a pointer; `choice` is the choice that was taken, if one was.
 fn assign(
     alloc: Global,
     shapes: &[Shape],
+    mode: MallocMode,
     heap: &mut Heap,
     rooms: &mut Rooms,
     to: &Path,
     from: &PtrRhs,
+    choice: u8,
 ) -> Result<(), Fault>
     requires roomy { IsRoomy shapes.now heap.old (made_from from.now) rooms.old }
     requires below { heap.old.next + 1 < 2 ^ 64 }
-    ensures done { MatchResult result (λ _. assign shapes.now heap.old to.now from.now ≡ Ok heap.new)
-        (λ fault. assign shapes.now heap.old to.now from.now ≡ Err fault) }
+    ensures done { MatchResult result (λ _. assign shapes.now mode heap.old to.now from.now choice ≡ Ok heap.new)
+        (λ fault. assign shapes.now mode heap.old to.now from.now choice ≡ Err fault) }
     ensures larger { IsLittleLarger heap.old heap.new }
     ensures marks { rooms.new.marks ≡ rooms.old.marks }
 {
     match from {
         PtrRhs::Path(path) => copy(heap, to, path),
         PtrRhs::Null => write(heap, to, Value::Null),
-        PtrRhs::New(shape) => make(alloc, shapes, *shape, heap, rooms, to),
+        PtrRhs::New(shape) => {
+            let makes = makes_cell(mode, choice);
+            assign_new(alloc, shapes, makes, *shape, heap, rooms, to)
+        }
     }
 }
 
@@ -169,6 +210,7 @@ fn finish(heap: &mut Heap, marks: &mut Marks, looked: Result<(), Fault>) -> Pace
 pub fn take_act<'p>(
     alloc: Global,
     shapes: &[Shape],
+    mode: MallocMode,
     stack: &mut Vec<Item<'p>>,
     heap: &mut Heap,
     rooms: &mut Rooms,
@@ -178,7 +220,7 @@ pub fn take_act<'p>(
     requires roomy { IsRoomy shapes.now heap.old (made_by act.now) rooms.old }
     requires below { heap.old.next + 1 < 2 ^ 64 }
     requires unleaked { leaks heap.old ≡ false }
-    ensures turn { act_turn shapes.now act.now (pending stack.old.items) heap.old choice
+    ensures turn { act_turn shapes.now mode act.now (pending stack.old.items) heap.old choice
         ≡ turn_seen result (pending stack.new.items) heap.new }
     ensures unleaked { result ≡ Pace.Goes → leaks heap.new ≡ false }
     ensures larger { IsLittleLarger heap.old heap.new }
@@ -186,7 +228,7 @@ pub fn take_act<'p>(
     let lost = act_loses(heap, stack.as_slice(), act);
     match act {
         Act::SetPtr { to, from } => {
-            let done = assign(alloc, shapes, heap, rooms, to, from);
+            let done = assign(alloc, shapes, mode, heap, rooms, to, from, choice);
             settle(heap, &mut rooms.marks, done, lost)
         }
         Act::SetData { to, from } => {

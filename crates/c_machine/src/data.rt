@@ -117,7 +117,8 @@ fn compare_data(heap: &Heap, left: &DataOp, right: &DataOp, equal: bool) -> Resu
     Ok(agreed(equal, same))
 }
 
-fn chosen(choice: u8) -> bool
+/// A choice as a truth.
+pub fn chosen(choice: u8) -> bool
     ensures { result ≡ is_one choice }
 {
     choice != 0

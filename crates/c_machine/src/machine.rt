@@ -4,13 +4,14 @@ ghost use Rattle.std.specs.Prelude.{◌≡◌, ◌<◌, ◌≤◌, ◌+◌, ◌^
 ghost use Rattle.fore_base.specs.Heap.{leaks};
 ghost use Rattle.c_machine.specs.declared.items.Part.{Part};
 ghost use Rattle.c_types.specs.Control.{Items, opened, start_of};
-ghost use Rattle.c_types.specs.Steps.{turn_of, takes, mark_of, act_takes, atom_takes};
+ghost use Rattle.c_types.specs.Steps.{turn_of, takes, mark_of, ptr_rhs_takes, act_takes, atom_takes};
 ghost use Rattle.c_types.specs.Runs.{empty_store};
 ghost use Rattle.c_machine.specs.inner.Acts.{TurnIs};
 ghost use Rattle.c_machine.specs.inner.Needs.{made_at, IsRoomy};
 ghost use Rattle.c_machine.specs.Pending.{facing, left_of, is_open, IsReady};
 ghost use Rattle.c_machine.specs.inner.Sizes.{IsLittleLarger};
-ghost use Rattle.c_machine.specs.Machines.{program_of, todo, store_of, over_of, spare_of, is_done, chosen, Stepped};
+ghost use Rattle.c_machine.specs.Machines.{program_of, mode_of, todo, store_of, over_of, spare_of, is_done, chosen};
+ghost use Rattle.c_machine.specs.Machines.{Stepped};
 ghost use Rattle.c_machine.specs.Machines.{Answers};
 
 use crate::acting::{Pace, settle, take_act};
@@ -21,7 +22,8 @@ use crate::items::{Control, Front};
 use crate::losing::hold_cell;
 use crate::spares::Rooms;
 use crate::state::{Machine, Turn};
-use c_types::program::{Act, Atom, DataRhs, Typed};
+use c_types::mode::MallocMode;
+use c_types::program::{Act, Atom, DataRhs, PtrRhs, Typed};
 use fore_base::memory::Mem;
 use fore_base::shape::Shape;
 use fore_base::store::Store;
@@ -36,10 +38,23 @@ fn atom_takes(atom: &Atom) -> bool
     }
 }
 
-fn act_takes(act: &Act) -> bool
-    ensures { result ≡ act_takes act.now }
+fn ptr_rhs_takes(mode: MallocMode, from: &PtrRhs) -> bool
+    ensures { result ≡ ptr_rhs_takes mode from.now }
+{
+    match mode {
+        MallocMode::Always => false,
+        MallocMode::MayFail => match from {
+            PtrRhs::New(_) => true,
+            _ => false,
+        },
+    }
+}
+
+fn act_takes(mode: MallocMode, act: &Act) -> bool
+    ensures { result ≡ act_takes mode act.now }
 {
     match act {
+        Act::SetPtr { from, .. } => ptr_rhs_takes(mode, from),
         Act::SetData {
             from: DataRhs::Choice,
             ..
@@ -50,12 +65,12 @@ fn act_takes(act: &Act) -> bool
 
 /// Whether the step from an open front takes a choice.
 #[tactic(auto, using(crate::proofs::Fronts::fronts))]
-fn front_takes(front: Front) -> bool
+fn front_takes(mode: MallocMode, front: Front) -> bool
     requires { is_open front ≡ true }
-    ensures { (parts : List Part) (rest : Items) → takes (opened (facing front.entry parts rest)) ≡ result }
+    ensures { (parts : List Part) (rest : Items) → takes mode (opened (facing front.entry parts rest)) ≡ result }
 {
     match front {
-        Front::Act { act, .. } => act_takes(act),
+        Front::Act { act, .. } => act_takes(mode, act),
         Front::Test { atom, .. } => atom_takes(atom),
         _ => false,
     }
@@ -92,6 +107,7 @@ fn is_nothing(front: Front) -> bool
 fn take_step<'p>(
     alloc: Global,
     shapes: &[Shape],
+    mode: MallocMode,
     control: &mut Control<'p>,
     heap: &mut Heap,
     rooms: &mut Rooms,
@@ -101,14 +117,23 @@ fn take_step<'p>(
     requires roomy { IsRoomy shapes.now heap.old (made_at control.old.front) rooms.old }
     requires below { heap.old.next + 1 < 2 ^ 64 }
     requires unleaked { leaks heap.old ≡ false }
-    ensures turn { TurnIs (turn_of shapes.now (left_of control.old) heap.old choice) result control.new heap.new }
+    ensures turn { TurnIs (turn_of shapes.now mode (left_of control.old) heap.old choice) result control.new heap.new }
     ensures unleaked { result ≡ Pace.Goes → leaks heap.new ≡ false }
     ensures larger { IsLittleLarger heap.old heap.new }
 {
     match control.front {
         Front::Act { act, .. } => {
             control.front = Front::Shut;
-            take_act(alloc, shapes, &mut control.stack, heap, rooms, act, choice)
+            take_act(
+                alloc,
+                shapes,
+                mode,
+                &mut control.stack,
+                heap,
+                rooms,
+                act,
+                choice,
+            )
         }
         Front::Test { atom, sides, .. } => match outcome_of(heap, atom, choice) {
             Ok(outcome) => {
@@ -133,23 +158,26 @@ fn take_step<'p>(
 }
 
 impl<'p> Machine<'p> {
-    /// The machine at the start of a program: nothing is set, and there are no cells.
+    /// The machine at the start of a program, whose `malloc` answers by the mode: nothing is set, and there are no
+    /// cells.
     ///
     /// # Errors
     ///
     /// Want of memory.
-    pub fn new(alloc: Global, program: &'p Typed) -> Mem<Machine<'p>>
+    pub fn new(alloc: Global, program: &'p Typed, mode: MallocMode) -> Mem<Machine<'p>>
         ensures items { IfOk result (λ machine. todo machine ≡ opened (start_of program.now)) }
         ensures store { IfOk result (λ machine. store_of machine
             ≡ empty_store (length program.now.vars) (length program.now.data_vars)) }
         ensures over { IfOk result (λ machine. over_of machine ≡ None) }
         ensures program { IfOk result (λ machine. program_of machine ≡ program.now) }
+        ensures mode { IfOk result (λ machine. mode_of machine ≡ mode) }
     {
         let control = Control::new(alloc, program.body.as_slice())?;
         let heap = Heap::empty(alloc, program.vars.len(), program.data_vars.len())?;
         let rooms = Rooms::new(alloc);
         Ok(Machine {
             program,
+            mode,
             alloc,
             control,
             heap,
@@ -176,6 +204,7 @@ impl<'p> Machine<'p> {
         ensures store { store_of self.new ≡ store_of self.old }
         ensures over { over_of self.new ≡ over_of self.old }
         ensures program { program_of self.new ≡ program_of self.old }
+        ensures mode { mode_of self.new ≡ mode_of self.old }
         ensures spare { OnOk result (0 < spare_of self.new) }
     {
         self.reserved = false;
@@ -201,9 +230,9 @@ impl<'p> Machine<'p> {
     pub fn needs_choice(&self) -> bool
         requires spare { 0 < spare_of self.now }
         requires over { over_of self.now ≡ None }
-        ensures { result ≡ takes (todo self.now) }
+        ensures { result ≡ takes (mode_of self.now) (todo self.now) }
     {
-        front_takes(self.control.front)
+        front_takes(self.mode, self.control.front)
     }
 
     /// Takes a step, on this choice if it needs one. It takes no memory.
@@ -213,14 +242,15 @@ impl<'p> Machine<'p> {
         requires choice { IfSome choice (λ x. x < 2) }
         ensures over { IfSome (over_of self.old) (λ turn. (result ≡ turn) × (self.new ≡ self.old)) }
         ensures step { over_of self.old ≡ None → Answers
-            (chosen (takes (todo self.old)) choice) self.old self.new result }
+            (chosen (takes (mode_of self.old) (todo self.old)) choice) self.old self.new result }
         ensures program { program_of self.new ≡ program_of self.old }
+        ensures mode { mode_of self.new ≡ mode_of self.old }
         ensures next { (store_of self.new).next ≤ (store_of self.old).next + 1 }
     {
         if let Some(turn) = self.over {
             return turn;
         }
-        if front_takes(self.control.front) {
+        if front_takes(self.mode, self.control.front) {
             match choice {
                 None => Turn::NeedsChoice,
                 Some(choice) => self.go(choice),
@@ -237,9 +267,10 @@ impl<'p> Machine<'p> {
         requires over { self.old.over ≡ None }
         requires below { self.old.heap.next + 1 < 2 ^ 64 }
         ensures step { Stepped
-            (turn_of (program_of self.old).shapes.structs (todo self.old) (store_of self.old) choice)
+            (turn_of (program_of self.old).shapes.structs (mode_of self.old) (todo self.old) (store_of self.old) choice)
             self.old self.new result }
         ensures program { program_of self.new ≡ program_of self.old }
+        ensures mode { mode_of self.new ≡ mode_of self.old }
         ensures next { (store_of self.new).next ≤ (store_of self.old).next + 1 }
     {
         let line = line_of(self.control.front);
@@ -249,6 +280,7 @@ impl<'p> Machine<'p> {
         match take_step(
             self.alloc,
             shapes,
+            self.mode,
             &mut self.control,
             &mut self.heap,
             &mut self.rooms,

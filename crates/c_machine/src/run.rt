@@ -5,25 +5,32 @@ ghost use Rattle.std.specs.Prelude.{MatchResult, Some, None};
 ghost use Rattle.c_types.specs.declared.outcome.Outcome.{Outcome as Out};
 ghost use Rattle.c_types.specs.Steps.{takes};
 ghost use Rattle.c_types.specs.Runs.{supply, run};
-ghost use Rattle.c_machine.specs.Machines.{todo, store_of, over_of, spare_of, program_of, chosen};
+ghost use Rattle.c_machine.specs.Machines.{todo, store_of, over_of, spare_of, program_of, mode_of, chosen};
 ghost use Rattle.c_machine.specs.inner.Going.{going, or_none};
 
 use crate::state::{Machine, Turn};
+use c_types::mode::MallocMode;
 use c_types::outcome::Outcome;
 use c_types::program::Typed;
 use fore_base::memory::Mem;
 use std::alloc::Global;
 
-/// The run of a program on these choices, of at most `limit` steps.
+/// The run of a program, whose `malloc` answers by the mode, on these choices, of at most `limit` steps.
 ///
 /// # Errors
 ///
 /// Want of memory.
-pub fn run(alloc: Global, program: &Typed, choices: &[u8], limit: u64) -> Mem<Outcome>
+pub fn run(
+    alloc: Global,
+    program: &Typed,
+    mode: MallocMode,
+    choices: &[u8],
+    limit: u64,
+) -> Mem<Outcome>
     requires below { limit < 2 ^ 64 - 1 }
-    ensures { IfOk result (λ outcome. outcome ≡ run program.now choices.now limit) }
+    ensures { IfOk result (λ outcome. outcome ≡ run program.now mode choices.now limit) }
 {
-    let mut machine = Machine::new(alloc, program)?;
+    let mut machine = Machine::new(alloc, program, mode)?;
     let mut used = 0;
     for step in 0..limit {
         machine.reserve()?;
@@ -85,14 +92,15 @@ fn take_one(
     requires step { step + 1 < 2 ^ 64 }
     requires used { used.old ≤ length choices.now }
     ensures goes { MatchResult result (λ _. (left : ℕ)
-        → going (program_of machine.old).shapes.structs (suc left) step (todo machine.old) (store_of machine.old)
-        (drop used.old choices.now) used.old
-        ≡ going (program_of machine.old).shapes.structs left (step + 1) (todo machine.new) (store_of machine.new)
-        (drop used.new choices.now) used.new)
-        (λ outcome. (left : ℕ) → going (program_of machine.old).shapes.structs (suc left) step (todo machine.old)
-        (store_of machine.old) (drop used.old choices.now) used.old ≡ outcome) }
+        → going (program_of machine.old).shapes.structs (mode_of machine.old) (suc left) step (todo machine.old)
+        (store_of machine.old) (drop used.old choices.now) used.old
+        ≡ going (program_of machine.old).shapes.structs (mode_of machine.old) left (step + 1) (todo machine.new)
+        (store_of machine.new) (drop used.new choices.now) used.new)
+        (λ outcome. (left : ℕ) → going (program_of machine.old).shapes.structs (mode_of machine.old) (suc left) step
+        (todo machine.old) (store_of machine.old) (drop used.old choices.now) used.old ≡ outcome) }
     ensures over { IfOk result (λ _. over_of machine.new ≡ None) }
     ensures program { program_of machine.new ≡ program_of machine.old }
+    ensures mode { mode_of machine.new ≡ mode_of machine.old }
     ensures next { (store_of machine.new).next ≤ (store_of machine.old).next + 1 }
     ensures used { used.new ≤ length choices.now }
 {

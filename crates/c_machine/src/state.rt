@@ -8,6 +8,7 @@ ghost use Rattle.c_machine.specs.Pending.{IsReady};
 use crate::heap::Heap;
 use crate::items::Control;
 use crate::spares::Rooms;
+use c_types::mode::MallocMode;
 use c_types::program::Typed;
 use fore_base::fault::Fault;
 use std::alloc::Global;
@@ -25,7 +26,7 @@ pub enum Turn {
     NeedsChoice,
 }
 
-/// A program on its way: its store and what is left to do.
+/// A program on its way: whether its `malloc` may fail, its store and what is left to do.
 ///
 /// `reserve` makes ready what a step needs, and a step then takes no memory. After a fault or the end each step answers
 /// the same again. As long as
@@ -33,6 +34,7 @@ pub enum Turn {
 #[derive(Drop)]
 pub struct Machine<'p> {
     pub(crate) program: &'p Typed,
+    pub(crate) mode: MallocMode,
     pub(crate) alloc: Global,
     pub(crate) control: Control<'p>,
     pub(crate) heap: Heap,

@@ -4,6 +4,7 @@ use Rattle.std.proofs.Common.{◌∙◌, subst, arith}
 use Rattle.fore_base.specs.declared.fault.Fault.{Fault as Kind}
 use Rattle.fore_base.specs.declared.shape.Shape.{Shape}
 use Rattle.fore_base.specs.declared.store.Store.{Store}
+use Rattle.c_types.specs.declared.mode.MallocMode.{MallocMode}
 use Rattle.c_types.specs.declared.outcome.Outcome.{Outcome}
 use Rattle.c_types.specs.declared.outcome.Outcome.TheVariants.{Ended, Fault, Starved, BadChoice, StillRunning}
 use Rattle.c_types.specs.Control.{Items, Done, Do, Close, If, Loop, Again, DoLoop, DoAgain, opened}
@@ -64,31 +65,32 @@ supply_advances t line step true (suc zero ∷ cs) used = turn_advances (t 1) li
 supply_advances t line step true (suc (suc n) ∷ cs) used =
     inl (record { outcome = BadChoice used; decided = tt; is = λ next. refl })
 
-module _ (shapes : List Shape) (line : ℕ → ℕ) where
+module _ (shapes : List Shape) (mode : MallocMode) (line : ℕ → ℕ) where
   -- a step of an opened list
   pub advances : (is : Items) (step : ℕ) (s : Store) (cs : List ℕ) (used : ℕ)
-      → Advances (step + 1) (λ next. advance shapes line at_end is next step s cs used)
+      → Advances (step + 1) (λ next. advance shapes mode line at_end is next step s cs used)
   advances Done step s cs used = inl (record { outcome = Ended step; decided = tt; is = λ next. refl })
   advances (Do a m is) step s cs used =
-      supply_advances (turn_of shapes (Do a m is) s) (line m) (step + 1) (takes (Do a m is)) cs used
+      supply_advances (turn_of shapes mode (Do a m is) s) (line m) (step + 1) (takes mode (Do a m is)) cs used
   advances (Close ps ds m is) step s cs used =
-      supply_advances (turn_of shapes (Close ps ds m is) s) (line m) (step + 1) false cs used
+      supply_advances (turn_of shapes mode (Close ps ds m is) s) (line m) (step + 1) false cs used
   advances (If c x y is) step s cs used =
-      supply_advances (turn_of shapes (If c x y is) s) (line (mark_of (If c x y is))) (step + 1) (takes (If c x y is))
+      supply_advances (turn_of shapes mode (If c x y is) s) (line (mark_of (If c x y is))) (step + 1)
+      (takes mode (If c x y is))
       cs used
   advances (Loop c n b is) step s cs used =
-      supply_advances (turn_of shapes (Loop c n b is) s) (line 0) (step + 1) false cs used
+      supply_advances (turn_of shapes mode (Loop c n b is) s) (line 0) (step + 1) false cs used
   advances (Again c n b is) step s cs used =
-      supply_advances (turn_of shapes (Again c n b is) s) (line 0) (step + 1) false cs used
+      supply_advances (turn_of shapes mode (Again c n b is) s) (line 0) (step + 1) false cs used
   advances (DoLoop c b is) step s cs used =
-      supply_advances (turn_of shapes (DoLoop c b is) s) (line 0) (step + 1) false cs used
+      supply_advances (turn_of shapes mode (DoLoop c b is) s) (line 0) (step + 1) false cs used
   advances (DoAgain c b is) step s cs used =
-      supply_advances (turn_of shapes (DoAgain c b is) s) (line 0) (step + 1) false cs used
+      supply_advances (turn_of shapes mode (DoAgain c b is) s) (line 0) (step + 1) false cs used
 
   -- A run that is over stays so with more steps.
 
   over_at_once : (is : Items) (m step : ℕ) (s : Store) (cs : List ℕ) (used : ℕ) (next : Rest) → IsOver (at_end is step)
-      → advance shapes line at_end is next step s cs used ≡ at_end is step
+      → advance shapes mode line at_end is next step s cs used ≡ at_end is step
   over_at_once Done m step s cs used next over = refl
   over_at_once (Do a k is) m step s cs used next over = absurd over
   over_at_once (Close ps ds k is) m step s cs used next over = absurd over
@@ -99,25 +101,25 @@ module _ (shapes : List Shape) (line : ℕ → ℕ) where
   over_at_once (DoAgain c b is) m step s cs used next over = absurd over
 
   pub stays_over : (n m step : ℕ) (is : Items) (s : Store) (cs : List ℕ) (used : ℕ) → n ≤ m
-      → IsOver (go shapes line at_end n step is s cs used) → go shapes line at_end m step is s cs used
-      ≡ go shapes line at_end n step is s cs used
+      → IsOver (go shapes mode line at_end n step is s cs used) → go shapes mode line at_end m step is s cs used
+      ≡ go shapes mode line at_end n step is s cs used
   stays_over zero zero step is s cs used less over = refl
   stays_over zero (suc m) step is s cs used less over =
-      over_at_once (opened is) m step s cs used (λ st js t ds u. go shapes line at_end m st js t ds u) over
+      over_at_once (opened is) m step s cs used (λ st js t ds u. go shapes mode line at_end m st js t ds u) over
   stays_over (suc n) zero step is s cs used less over = absurd (omega (arith, less))
   stays_over (suc n) (suc m) step is s cs used less over =
       here (advances (opened is) step s cs used) (λ st js t ds u. stays_over n m st js t ds u (omega (arith, less)))
       over
     where
       rest : ℕ → Rest
-      rest k st js t ds u = go shapes line at_end k st js t ds u
+      rest k st js t ds u = go shapes mode line at_end k st js t ds u
 
-      here : Advances (step + 1) (λ next. advance shapes line at_end (opened is) next step s cs used)
+      here : Advances (step + 1) (λ next. advance shapes mode line at_end (opened is) next step s cs used)
           → ((st : ℕ) (js : Items) (t : Store) (ds : List ℕ) (u : ℕ) → IsOver (rest n st js t ds u)
           → rest m st js t ds u ≡ rest n st js t ds u)
-          → IsOver (advance shapes line at_end (opened is) (rest n) step s cs used)
-          → advance shapes line at_end (opened is) (rest m) step s cs used
-          ≡ advance shapes line at_end (opened is) (rest n) step s cs used
+          → IsOver (advance shapes mode line at_end (opened is) (rest n) step s cs used)
+          → advance shapes mode line at_end (opened is) (rest m) step s cs used
+          ≡ advance shapes mode line at_end (opened is) (rest n) step s cs used
       here (inl d) later over = d.is (rest m) ∙ sym (d.is (rest n))
       here (inr g) later over = g.is (rest m)
           ∙ later (step + 1) g.items g.store g.choices g.used (subst IsOver (g.is (rest n)) over) ∙ sym (g.is (rest n))
@@ -129,7 +131,7 @@ module _ (shapes : List Shape) (line : ℕ → ℕ) where
     pub steps : ℕ
     pub is_step : met ≡ step + steps
     pub within : steps ≤ n
-    pub meets : go shapes line at_end steps step is s cs used ≡ Fault kind at met
+    pub meets : go shapes mode line at_end steps step is s cs used ≡ Fault kind at met
 
   still_runs : (is : Items) (step : ℕ) (kind : Kind) (at met : ℕ) → at_end is step ≡ Fault kind at met → ⊥
   still_runs Done step kind at met e = cc
@@ -146,15 +148,15 @@ module _ (shapes : List Shape) (line : ℕ → ℕ) where
   decided_step step o kind at met d e = subst (DecidedAt step) e d
 
   pub met_at : (n step : ℕ) (is : Items) (s : Store) (cs : List ℕ) (used : ℕ) (kind : Kind) (at met : ℕ)
-      → go shapes line at_end n step is s cs used ≡ Fault kind at met → MetAt n step is s cs used kind at met
+      → go shapes mode line at_end n step is s cs used ≡ Fault kind at met → MetAt n step is s cs used kind at met
   met_at zero step is s cs used kind at met e = absurd (still_runs (opened is) step kind at met e)
   met_at (suc n) step is s cs used kind at met e =
       here (advances (opened is) step s cs used) (λ st js t ds u. met_at n st js t ds u kind at met)
     where
       rest : ℕ → Rest
-      rest k st js t ds u = go shapes line at_end k st js t ds u
+      rest k st js t ds u = go shapes mode line at_end k st js t ds u
 
-      here : Advances (step + 1) (λ next. advance shapes line at_end (opened is) next step s cs used)
+      here : Advances (step + 1) (λ next. advance shapes mode line at_end (opened is) next step s cs used)
           → ((st : ℕ) (js : Items) (t : Store) (ds : List ℕ) (u : ℕ) → rest n st js t ds u ≡ Fault kind at met
           → MetAt n st js t ds u kind at met) → MetAt (suc n) step is s cs used kind at met
       here (inl d) later = record {

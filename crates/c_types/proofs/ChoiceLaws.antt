@@ -3,6 +3,7 @@ use Rattle.std.proofs.Common.{◌≡◌, ◌≤◌, ◌<◌, ◌⊎◌, inl, inr
 use Rattle.std.proofs.Common.{◌++◌, length, refl, sym, ap, ◌∙◌, subst, arith}
 use Rattle.fore_base.specs.declared.shape.Shape.{Shape}
 use Rattle.fore_base.specs.declared.store.Store.{Store}
+use Rattle.c_types.specs.declared.mode.MallocMode.{MallocMode}
 use Rattle.c_types.specs.declared.outcome.Outcome.{Outcome}
 use Rattle.c_types.specs.declared.outcome.Outcome.TheVariants.{Ended, Starved, BadChoice, StillRunning}
 use Rattle.c_types.specs.Program.{Program}
@@ -32,14 +33,14 @@ end_or_open (DoAgain c b is) = inr (record { goes = λ step o. refl })
 abbrev Given : Type 0
 Given = ℕ → List ℕ → ℕ → Outcome
 
-module _ (shapes : List Shape) (line : ℕ → ℕ) where
+module _ (shapes : List Shape) (mode : MallocMode) (line : ℕ → ℕ) where
   abbrev after : Items → ℕ → ℕ → Store → Given
   after is n step s x cs used =
-      after_turn (turn_of shapes is s x) (line (mark_of is)) (step + 1)
-      (λ js t. go shapes line at_end n (step + 1) js t cs used)
+      after_turn (turn_of shapes mode is s x) (line (mark_of is)) (step + 1)
+      (λ js t. go shapes mode line at_end n (step + 1) js t cs used)
 
   abbrev step_of : Items → ℕ → ℕ → Store → List ℕ → ℕ → Outcome
-  step_of is n step s cs used = supply (takes is) cs (step + 1) used (after is n step s)
+  step_of is n step s cs used = supply (takes mode is) cs (step + 1) used (after is n step s)
 
   -- More choices
 
@@ -60,23 +61,26 @@ module _ (shapes : List Shape) (line : ℕ → ℕ) where
   more_supplied true (suc (suc n) ∷ cs) ds step used f same some = refl
 
   pub more_choices : (n step : ℕ) (is : Items) (s : Store) (cs ds : List ℕ) (used : ℕ)
-      → (IsStarved (go shapes line at_end n step is s cs used) → ⊥) → go shapes line at_end n step is s (cs ++ ds) used
-      ≡ go shapes line at_end n step is s cs used
+      → (IsStarved (go shapes mode line at_end n step is s cs used) → ⊥)
+      → go shapes mode line at_end n step is s (cs ++ ds) used
+      ≡ go shapes mode line at_end n step is s cs used
   more_choices zero step is s cs ds used some = refl
   more_choices (suc n) step is s cs ds used some =
       here (end_or_open (opened is)) (λ js t es u. more_choices n (step + 1) js t es ds u)
     where
       here : IsAtEnd (opened is) ⊎ IsOpen (opened is)
           → ((js : Items) (t : Store) (es : List ℕ) (u : ℕ)
-          → (IsStarved (go shapes line at_end n (step + 1) js t es u) → ⊥)
-          → go shapes line at_end n (step + 1) js t (es ++ ds) u ≡ go shapes line at_end n (step + 1) js t es u)
-          → go shapes line at_end (suc n) step is s (cs ++ ds) used ≡ go shapes line at_end (suc n) step is s cs used
+          → (IsStarved (go shapes mode line at_end n (step + 1) js t es u) → ⊥)
+          → go shapes mode line at_end n (step + 1) js t (es ++ ds) u
+          ≡ go shapes mode line at_end n (step + 1) js t es u)
+          → go shapes mode line at_end (suc n) step is s (cs ++ ds) used
+          ≡ go shapes mode line at_end (suc n) step is s cs used
       here (inl e) later = e.ends step (step_of (opened is) n step s (cs ++ ds) used)
           ∙ sym (e.ends step (step_of (opened is) n step s cs used))
       here (inr o) later =
           o.goes step (step_of (opened is) n step s (cs ++ ds) used)
-          ∙ more_supplied (takes (opened is)) cs ds (step + 1) used (after (opened is) n step s)
-          (λ x es u. more_after (turn_of shapes (opened is) s x) (line (mark_of (opened is))) (step + 1) _ _
+          ∙ more_supplied (takes mode (opened is)) cs ds (step + 1) used (after (opened is) n step s)
+          (λ x es u. more_after (turn_of shapes mode (opened is) s x) (line (mark_of (opened is))) (step + 1) _ _
           (λ js t. later js t es u))
           (λ starved. some (subst IsStarved (sym (o.goes step (step_of (opened is) n step s cs used))) starved))
           ∙ sym (o.goes step (step_of (opened is) n step s cs used))
@@ -89,9 +93,9 @@ module _ (shapes : List Shape) (line : ℕ → ℕ) where
     pub before : ℕ
     pub is_step : met ≡ suc (step + before)
     pub within : before < n
-    pub gets_there : (more : List ℕ) → go shapes line at_end before step is s (cs ++ more) used ≡ StillRunning
+    pub gets_there : (more : List ℕ) → go shapes mode line at_end before step is s (cs ++ more) used ≡ StillRunning
     pub reads : (k m : ℕ) (more : List ℕ) → before < m
-        → go shapes line at_end m step is s (cs ++ suc (suc k) ∷ more) used ≡ BadChoice (used + length cs)
+        → go shapes mode line at_end m step is s (cs ++ suc (suc k) ∷ more) used ≡ BadChoice (used + length cs)
 
   -- the same, of one step: `f` is the rest of a run, `after` some steps
   abbrev Later : ℕ → ℕ → List ℕ → ℕ → ℕ → (ℕ → List ℕ → Outcome) → Type 0
@@ -108,7 +112,7 @@ module _ (shapes : List Shape) (line : ℕ → ℕ) where
   later_after (Faults k) at n step cs used met f rest e = cc
 
   abbrev Found : ℕ → ℕ → Items → Store → List ℕ → ℕ → ℕ → Type 0
-  Found n step is s cs used met = Later n step cs used met (λ k es. go shapes line at_end k step is s es used)
+  Found n step is s cs used met = Later n step cs used met (λ k es. go shapes mode line at_end k step is s es used)
 
   found : (n step : ℕ) (is : Items) (s : Store) (cs : List ℕ) (used met : ℕ) → Found n step is s cs used met
       → StarvedAt n step is s cs used met
@@ -126,16 +130,17 @@ module _ (shapes : List Shape) (line : ℕ → ℕ) where
       here (inr o) = let wrong : StillRunning ≡ Starved met = sym (o.goes step StillRunning) ∙ e in cc
 
   module _ (n step : ℕ) (is : Items) (s : Store) (met : ℕ) (o : IsOpen (opened is))
-      (rest : (js : Items) (t : Store) (es : List ℕ) (u : ℕ) → go shapes line at_end n (step + 1) js t es u
+      (rest : (js : Items) (t : Store) (es : List ℕ) (u : ℕ) → go shapes mode line at_end n (step + 1) js t es u
       ≡ Starved met → StarvedAt n (step + 1) js t es u met) where
-    goes : (k : ℕ) (es : List ℕ) (used : ℕ) → go shapes line at_end (suc k) step is s es used
+    goes : (k : ℕ) (es : List ℕ) (used : ℕ) → go shapes mode line at_end (suc k) step is s es used
         ≡ step_of (opened is) k step s es used
     goes k es used = o.goes step (step_of (opened is) k step s es used)
 
     turned : (x : ℕ) (cs : List ℕ) (used : ℕ) → after (opened is) n step s x cs used ≡ Starved met
         → Later n (step + 1) cs used met (λ k es. after (opened is) k step s x es used)
-    turned x cs used e = later_after (turn_of shapes (opened is) s x) (line (mark_of (opened is))) n step cs used met
-        (λ k js t es. go shapes line at_end k (step + 1) js t es used)
+    turned x cs used e = later_after (turn_of shapes mode (opened is) s x)
+        (line (mark_of (opened is))) n step cs used met
+        (λ k js t es. go shapes mode line at_end k (step + 1) js t es used)
         (λ js t f. lost n (step + 1) js t cs used met (rest js t cs used f)) e
 
     -- one step before what comes later
@@ -155,7 +160,7 @@ module _ (shapes : List Shape) (line : ℕ → ℕ) where
     }
       where
         reads_later : (k m : ℕ) (more : List ℕ) → suc l.0 < m
-            → go shapes line at_end m step is s ((front ++ cs) ++ suc (suc k) ∷ more) used
+            → go shapes mode line at_end m step is s ((front ++ cs) ++ suc (suc k) ∷ more) used
             ≡ BadChoice (used + length (front ++ cs))
         reads_later k zero more less = absurd (omega (arith, less))
         reads_later k (suc m) more less =
@@ -165,7 +170,7 @@ module _ (shapes : List Shape) (line : ℕ → ℕ) where
             ∙ l.4 k m more (omega (arith, less))
             ∙ ap BadChoice counted
 
-    by_supply : (b : Bool) → takes (opened is) ≡ b → (cs : List ℕ) (used : ℕ)
+    by_supply : (b : Bool) → takes mode (opened is) ≡ b → (cs : List ℕ) (used : ℕ)
         → supply b cs (step + 1) used (after (opened is) n step s) ≡ Starved met
         → StarvedAt (suc n) step is s cs used met
     by_supply false none cs used e =
@@ -179,7 +184,7 @@ module _ (shapes : List Shape) (line : ℕ → ℕ) where
       reads = λ k m more less. reads_now k m more less;
     }
       where
-        reads_now : (k m : ℕ) (more : List ℕ) → 0 < m → go shapes line at_end m step is s (suc (suc k) ∷ more) used
+        reads_now : (k m : ℕ) (more : List ℕ) → 0 < m → go shapes mode line at_end m step is s (suc (suc k) ∷ more) used
             ≡ BadChoice (used + 0)
         reads_now k zero more less = absurd (omega (arith, less))
         reads_now k (suc m) more less =
@@ -197,25 +202,28 @@ module _ (shapes : List Shape) (line : ℕ → ℕ) where
     by_supply true some (suc (suc k) ∷ cs) used e = cc
 
   pub starved_at : (n step : ℕ) (is : Items) (s : Store) (cs : List ℕ) (used met : ℕ)
-      → go shapes line at_end n step is s cs used ≡ Starved met → StarvedAt n step is s cs used met
+      → go shapes mode line at_end n step is s cs used ≡ Starved met → StarvedAt n step is s cs used met
   starved_at zero step is s cs used met e = absurd (end_starves (opened is) step met e)
   starved_at (suc n) step is s cs used met e =
       here (end_or_open (opened is)) (λ js t es u. starved_at n (step + 1) js t es u met)
     where
       here : IsAtEnd (opened is) ⊎ IsOpen (opened is)
-          → ((js : Items) (t : Store) (es : List ℕ) (u : ℕ) → go shapes line at_end n (step + 1) js t es u ≡ Starved met
+          → ((js : Items) (t : Store) (es : List ℕ) (u : ℕ) → go shapes mode line at_end n (step + 1) js t es u
+          ≡ Starved met
           → StarvedAt n (step + 1) js t es u met) → StarvedAt (suc n) step is s cs used met
       here (inl d) later =
           let wrong : Ended step ≡ Starved met = sym (d.ends step (step_of (opened is) n step s cs used)) ∙ e in cc
-      here (inr o) later = by_supply n step is s met o later (takes (opened is)) refl cs used
+      here (inr o) later = by_supply n step is s met o later (takes mode (opened is)) refl cs used
           (sym (o.goes step (step_of (opened is) n step s cs used)) ∙ e)
 
 -- Runs
 
-pub run_more : (p : Program) (cs ds : List ℕ) (n : ℕ) → (IsStarved (run p cs n) → ⊥) → run p (cs ++ ds) n ≡ run p cs n
+pub run_more : (p : Program) (mode : MallocMode) (cs ds : List ℕ) (n : ℕ) → (IsStarved (run p mode cs n) → ⊥)
+    → run p mode (cs ++ ds) n ≡ run p mode cs n
 unfolding run
-run_more p cs ds n some =
-    more_choices p.shapes.structs own_line n 0 (start_of p) (empty_store (length p.vars) (length p.data_vars)) cs ds 0
+run_more p mode cs ds n some =
+    more_choices p.shapes.structs mode own_line n 0 (start_of p)
+    (empty_store (length p.vars) (length p.data_vars)) cs ds 0
     some
 
 two_more : (bad : ℕ) → 2 ≤ bad → (P : ℕ → Type 0) → ((k : ℕ) → P (suc (suc k))) → P bad
@@ -223,20 +231,20 @@ two_more zero less P all = absurd (omega (arith, less))
 two_more (suc zero) less P all = absurd (omega (arith, less))
 two_more (suc (suc k)) less P all = all k
 
-pub run_starved : (p : Program) (cs : List ℕ) (n step : ℕ) → run p cs n ≡ Starved step →
-    (1 ≤ step) × (step ≤ n) × ((more : List ℕ) → run p (cs ++ more) (step - 1) ≡ StillRunning)
-    × ((more : List ℕ) (bad m : ℕ) → 2 ≤ bad → step ≤ m → run p (cs ++ bad ∷ more) m ≡ BadChoice (length cs))
+pub run_starved : (p : Program) (mode : MallocMode) (cs : List ℕ) (n step : ℕ) → run p mode cs n ≡ Starved step →
+    (1 ≤ step) × (step ≤ n) × ((more : List ℕ) → run p mode (cs ++ more) (step - 1) ≡ StillRunning)
+    × ((more : List ℕ) (bad m : ℕ) → 2 ≤ bad → step ≤ m → run p mode (cs ++ bad ∷ more) m ≡ BadChoice (length cs))
 unfolding run
-run_starved p cs n step e =
+run_starved p mode cs n step e =
     let s : Store = empty_store (length p.vars) (length p.data_vars) in
-    let at : StarvedAt p.shapes.structs own_line n 0 (start_of p) s cs 0 step =
-    starved_at p.shapes.structs own_line n 0 (start_of p) s cs 0 step e in
+    let at : StarvedAt p.shapes.structs mode own_line n 0 (start_of p) s cs 0 step =
+    starved_at p.shapes.structs mode own_line n 0 (start_of p) s cs 0 step e in
     let before_is : at.before ≡ step - 1 = omega (arith, at.is_step) in (
       omega (arith, at.is_step),
       omega (arith, at.is_step, at.within),
-      λ more. subst (λ k. go p.shapes.structs own_line at_end k 0 (start_of p) s (cs ++ more) 0 ≡ StillRunning)
+      λ more. subst (λ k. go p.shapes.structs mode own_line at_end k 0 (start_of p) s (cs ++ more) 0 ≡ StillRunning)
           before_is (at.gets_there more),
       λ more bad m some less. two_more bad some
-          (λ b. go p.shapes.structs own_line at_end m 0 (start_of p) s (cs ++ b ∷ more) 0 ≡ BadChoice (length cs))
+          (λ b. go p.shapes.structs mode own_line at_end m 0 (start_of p) s (cs ++ b ∷ more) 0 ≡ BadChoice (length cs))
           (λ k. at.reads k m more (omega (arith, at.is_step, less)) ∙ ap BadChoice (omega arith)),
     )

@@ -16,6 +16,7 @@ use Rattle.fore_base.specs.Stores.{onward, var_of, set_var, set_datum, set_each,
 use Rattle.fore_base.specs.Stores.{walk, write_from, store_datum, freed}
 use Rattle.fore_base.proofs.ListLemmas.{paired_same}
 use Rattle.fore_base.proofs.Leaks.{leaks_leaked, sound_unleaked}
+use Rattle.c_types.specs.declared.mode.MallocMode.{MallocMode}
 use Rattle.c_types.specs.declared.program.Path.{Path}
 use Rattle.c_types.specs.declared.program.DataPath.{DataPath}
 use Rattle.c_types.specs.declared.program.DataPath.TheVariants.{Var as DataVar, Field as DataField}
@@ -228,13 +229,14 @@ onward_adds s (Err k) next rest t e = cc
 null_told : (s : Store) → IsTold s Null
 null_told s n e = cc
 
-assign_adds : (shapes : List Shape) (s : Store) (to : Path) (from : PtrRhs) → assign_loses s to from ≡ false
-    → AddsAll s (assign shapes s to from)
-assign_adds shapes s to (RhsPath from) none =
+assign_adds : (shapes : List Shape) (mode : MallocMode) (s : Store) (to : Path) (from : PtrRhs) (x : ℕ)
+    → assign_loses s to from ≡ false
+    → AddsAll s (assign shapes mode s to from x)
+assign_adds shapes mode s to (RhsPath from) x none =
     onward_adds s (read s from) (λ v. write_path s to.var to.fields v)
     (λ v is. write_path_adds s to.var to.fields v (read_told s from v is))
-assign_adds shapes s to RhsNull none = write_path_adds s to.var to.fields Null (null_told s)
-assign_adds shapes s to (RhsNew shape) none = absurd (true≢false none)
+assign_adds shapes mode s to RhsNull x none = write_path_adds s to.var to.fields Null (null_told s)
+assign_adds shapes mode s to (RhsNew shape) x none = absurd (true≢false none)
 
 write_data_adds : (s : Store) (to : DataPath) (d : Datum) → AddsAll s (write_data s to d)
 write_data_adds s (DataVar x) d t e = let same : set_datum s x d ≡ t = cc in subst (Adds s) same (set_datum_adds s x d)
@@ -257,11 +259,11 @@ settled_leaks : (s : Store) (r : Result Store Fault) (is js : Items) (u : Store)
 settled_leaks s (Ok t) is js u adds leak e = leaked_settles t is js u (added_leaks s t (adds t refl) leak) e
 settled_leaks s (Err k) is js u adds leak e = cc
 
-module _ (shapes : List Shape) where
+module _ (shapes : List Shape) (mode : MallocMode) where
   act_leaks : (a : Act) (is js : Items) (s t : Store) (x : ℕ) → act_loses a is s ≡ false → leaks s ≡ true
-      → act_turn shapes a is s x ≡ Goes js t → ⊥
+      → act_turn shapes mode a is s x ≡ Goes js t → ⊥
   act_leaks (SetPtr to from) is js s t x none leak e =
-      settled_leaks s (assign shapes s to from) is js t (assign_adds shapes s to from none) leak e
+      settled_leaks s (assign shapes mode s to from x) is js t (assign_adds shapes mode s to from x none) leak e
   act_leaks (SetData to from) is js s t x none leak e =
       settled_leaks s (assign_data s to from x) is js t
       (onward_adds s (read_data_rhs s from x) (λ d. write_data s to d) (λ d is. write_data_adds s to d)) leak e
@@ -283,7 +285,8 @@ module _ (shapes : List Shape) where
   test_leaks (Err k) x y is js s t leak e = cc
 
   -- where some cell had leaked, the step does not go on
-  pub turn_leaks : (is js : Items) (s t : Store) (x : ℕ) → loses is s ≡ false → leaks s ≡ true → turn_of shapes is s x
+  pub turn_leaks : (is js : Items) (s t : Store) (x : ℕ) → loses is s ≡ false → leaks s ≡ true
+      → turn_of shapes mode is s x
       ≡ Goes js t → ⊥
   turn_leaks Done js s t x none leak e = cc
   turn_leaks (Do a m is) js s t x none leak e = act_leaks a is js s t x none leak e

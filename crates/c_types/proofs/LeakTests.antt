@@ -12,6 +12,7 @@ use Rattle.fore_base.specs.declared.store.Store.{Store}
 use Rattle.fore_base.specs.Heap.{leaks}
 use Rattle.fore_base.specs.Stores.{onward, followed, load_datum, store_at, store_datum, var_of, set_datum, field_in}
 use Rattle.fore_base.specs.Stores.{walk, write_from, freed}
+use Rattle.c_types.specs.declared.mode.MallocMode.{MallocMode}
 use Rattle.c_types.specs.declared.program.Path.{Path}
 use Rattle.c_types.specs.declared.program.DataPath.{DataPath}
 use Rattle.c_types.specs.declared.program.DataPath.TheVariants.{Var as DataVar, Field as DataField}
@@ -32,8 +33,9 @@ use Rattle.c_types.specs.declared.program.Act.TheVariants.{SetPtr, SetData, Free
 use Rattle.c_types.specs.Control.{Items, Done, Do, Close, If, Loop, Again, DoLoop, DoAgain, Ask, Not, Both, Either}
 use Rattle.c_types.specs.Control.{closed_ptrs, closed_datums, after_again, from_again, ◌then◌}
 use Rattle.c_types.specs.Steps.{Goes, Stops, Faults, read, read_data, read_op, read_data_op, read_data_rhs, look_at}
-use Rattle.c_types.specs.Steps.{same_values, same_datums, atom_of, write_path, write_data, assign, assign_data}
-use Rattle.c_types.specs.Steps.{free_path, settle, settled, finished, all_dead, below, act_turn, test_turn, turn_of}
+use Rattle.c_types.specs.Steps.{same_values, same_datums, atom_of, write_path, write_data, makes_cell, assign_new}
+use Rattle.c_types.specs.Steps.{assign, assign_data, free_path, settle, settled, finished, all_dead, below, act_turn}
+use Rattle.c_types.specs.Steps.{test_turn, turn_of}
 use Rattle.c_types.specs.Losses.{is_cell, got_cell, assign_loses, act_loses, loses}
 use Rattle.c_types.proofs.LeakKept.{Keeps, kept_sound, keeps_all, set_datum_keeps, kill_keeps, store_datum_keeps}
 use Rattle.c_types.proofs.LeakKept.{write_path_keeps}
@@ -180,12 +182,13 @@ onward_keeps : {A : Type 0} (s : Store) (r : Result A Fault) (next : A → Resul
 onward_keeps s (Ok a) next rest t e = rest a refl t e
 onward_keeps s (Err k) next rest t e = cc
 
-assign_keeps : (shapes : List Shape) (s : Store) (to : Path) (from : PtrRhs) → assign_loses s to from ≡ false
-    → KeepsAll s (assign shapes s to from)
-assign_keeps shapes s to (RhsPath from) none =
+assign_keeps : (shapes : List Shape) (mode : MallocMode) (s : Store) (to : Path) (from : PtrRhs) (x : ℕ)
+    → assign_loses s to from ≡ false
+    → KeepsAll s (assign shapes mode s to from x)
+assign_keeps shapes mode s to (RhsPath from) x none =
     onward_keeps s (read s from) (λ v. write_path s to.var to.fields v) (λ v is. write_keeps s to v none)
-assign_keeps shapes s to RhsNull none = write_keeps s to Null none
-assign_keeps shapes s to (RhsNew shape) none = absurd (true≢false none)
+assign_keeps shapes mode s to RhsNull x none = write_keeps s to Null none
+assign_keeps shapes mode s to (RhsNew shape) x none = absurd (true≢false none)
 
 write_data_keeps : (s : Store) (to : DataPath) (d : Datum) → KeepsAll s (write_data s to d)
 write_data_keeps s (DataVar x) d t e = let same : set_datum s x d ≡ t = cc in
@@ -210,6 +213,11 @@ look_keeps s (Some p) t e = here (read_data s p) e
     here (Ok d) e = cc
     here (Err k) e = cc
 
+assign_new_clean : (shapes : List Shape) (b : Bool) (s : Store) (to : Path) (shape : ℕ)
+    → NoLeak (assign_new b shapes s to shape)
+assign_new_clean shapes true s to shape = write_path_clean _ to.var to.fields (Cell s.next)
+assign_new_clean shapes false s to shape = write_path_clean s to.var to.fields Null
+
 -- Turns
 
 sound_settles : (t : Store) (is : Items) → leaks t ≡ false → settle t is ≡ Faults Leak → ⊥
@@ -225,18 +233,19 @@ finished_sound : (s : Store) (r : Result Store Fault) → NoLeak r → ((t : Sto
 finished_sound s (Ok t) clean sound e = let wrong : Stops ≡ Faults Leak = rw (sound t refl) at e in cc
 finished_sound s (Err k) clean sound e = let same : k ≡ Leak = cc in clean same
 
-module _ (shapes : List Shape) where
+module _ (shapes : List Shape) (mode : MallocMode) where
   act_sound : (a : Act) (is : Items) (s : Store) (x : ℕ) → act_loses a is s ≡ false → leaks s ≡ false
-      → act_turn shapes a is s x ≡ Faults Leak → ⊥
+      → act_turn shapes mode a is s x ≡ Faults Leak → ⊥
   act_sound (SetPtr to from) is s x none sound e =
-      settled_sound s (assign shapes s to from) is (assign_clean from) (assign_keeps shapes s to from none) sound e
+      settled_sound s (assign shapes mode s to from x) is (assign_clean from)
+      (assign_keeps shapes mode s to from x none) sound e
     where
-      assign_clean : (from : PtrRhs) → NoLeak (assign shapes s to from)
+      assign_clean : (from : PtrRhs) → NoLeak (assign shapes mode s to from x)
       assign_clean (RhsPath from) =
           onward_clean (read s from) (λ v. write_path s to.var to.fields v) (read_clean s from)
           (λ v. write_path_clean s to.var to.fields v)
       assign_clean RhsNull = write_path_clean s to.var to.fields Null
-      assign_clean (RhsNew shape) = write_path_clean _ to.var to.fields (Cell s.next)
+      assign_clean (RhsNew shape) = assign_new_clean shapes (makes_cell mode x) s to shape
   act_sound (SetData to from) is s x none sound e =
       settled_sound s (assign_data s to from x) is
       (onward_clean (read_data_rhs s from x) (λ d. write_data s to d) (read_data_rhs_clean s from x)
@@ -263,7 +272,7 @@ module _ (shapes : List Shape) where
   test_sound (Err k) x y is s clean sound e = let same : k ≡ Leak = cc in clean same
 
   -- where no cell had leaked, none has leaked after the step
-  pub turn_sound : (is : Items) (s : Store) (x : ℕ) → loses is s ≡ false → leaks s ≡ false → turn_of shapes is s x
+  pub turn_sound : (is : Items) (s : Store) (x : ℕ) → loses is s ≡ false → leaks s ≡ false → turn_of shapes mode is s x
       ≡ Faults Leak → ⊥
   turn_sound Done s x none sound e = cc
   turn_sound (Do a m is) s x none sound e = act_sound a is s x none sound e

@@ -5,6 +5,7 @@ mod Forms
 mod Loops
 mod Conditions
 mod Faults
+mod Allocations
 mod Lifetimes
 mod Data
 mod Choices

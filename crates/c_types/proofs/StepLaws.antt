@@ -8,6 +8,7 @@ use Rattle.fore_base.specs.declared.store.Datum.{Datum}
 use Rattle.fore_base.specs.declared.store.Store.{Store}
 use Rattle.fore_base.specs.Stores.{kill, store_datum, grown, freed}
 use Rattle.fore_base.specs.Heap.{IsProper, leaks}
+use Rattle.c_types.specs.declared.mode.MallocMode.{MallocMode}
 use Rattle.c_types.specs.declared.program.Path.{Path}
 use Rattle.c_types.specs.declared.program.DataPath.{DataPath}
 use Rattle.c_types.specs.declared.program.DataPath.TheVariants.{Var as DataVar, Field as DataField}
@@ -18,8 +19,10 @@ use Rattle.c_types.specs.declared.program.Act.TheVariants.{SetPtr, SetData, Free
 use Rattle.c_types.specs.Program.{Program, is_target, both_targets, path_target, rhs_typed, is_typed}
 use Rattle.c_types.specs.Control.{Items, Done, Do, Close, If, Loop, Again, DoLoop, DoAgain, Ask, Not, Both, Either}
 use Rattle.c_types.specs.Control.{◌then◌, opened, after_again, from_again, closed_ptrs, closed_datums, start_of}
-use Rattle.c_types.specs.Steps.{Turn, Goes, Stops, Faults, read, read_data_rhs, write_path, write_data, blank, assign}
-use Rattle.c_types.specs.Steps.{look_at, all_dead, settle, settled, finished, act_turn, test_turn, atom_of, turn_of}
+use Rattle.c_types.specs.Steps.{Turn, Goes, Stops, Faults, read, read_data_rhs, write_path, write_data, blank}
+use Rattle.c_types.specs.Steps.{makes_cell}
+use Rattle.c_types.specs.Steps.{assign_new, assign, look_at, all_dead, settle, settled, finished, act_turn, test_turn}
+use Rattle.c_types.specs.Steps.{atom_of, turn_of}
 use Rattle.c_types.specs.Runs.{empty_store}
 use Rattle.c_types.specs.Fits.{PointsTo, FitsProgram, Visited, start, step, ActFits, ItemsFit}
 use Rattle.c_types.proofs.Fitting.{Gives, onward_gives, PathLeads, path_leads, path_below, Sound, is_sound, sound_fits}
@@ -80,23 +83,30 @@ module _ (p : Program) (typed : is_typed p ≡ true) where
   abbrev Goods : Items → Store → Type 0
   Goods is s = ItemsFit p is × Sound p s
 
-  assign_sound : (s : Store) (to : Path) (from : PtrRhs)
-      → rhs_typed p.shapes.structs p.vars (length p.data_vars) (target to) from ≡ true → Sound p s
-      → Gives (Sound p) (assign p.shapes.structs s to from)
-  assign_sound s to (RhsPath from) e sound =
-      let both : (t : ℕ) × (target to ≡ Some t) × (target from ≡ Some t) = agreed (target to) (target from) e in
-      onward_gives (PointsTo s.cells both.0) (Sound p) (read s from) (λ v. write_path s to.var to.fields v)
-      (read_gives p s from both.0 sound (path_leads p from both.0 both.2))
-      (λ v points. path_sound p s to both.0 v sound (path_leads p to both.0 both.1) points)
-  assign_sound s to RhsNull e sound =
-      let some : (t : ℕ) × (target to ≡ Some t) = some_target (target to) e in
-      path_sound p s to some.0 Null sound (path_leads p to some.0 some.1) tt
-  assign_sound s to (RhsNew shape) e sound =
+  assign_new_sound : (b : Bool) (s : Store) (to : Path) (shape : ℕ)
+      → rhs_typed p.shapes.structs p.vars (length p.data_vars) (target to) (RhsNew shape) ≡ true → Sound p s
+      → Gives (Sound p) (assign_new b p.shapes.structs s to shape)
+  assign_new_sound true s to shape e sound =
       let leads : PathLeads p to shape = path_leads p to shape (target_is (target to) shape e) in
       let less : shape < length p.shapes.structs =
       path_below p to shape (has_shapes_typed p typed) (has_vars_typed p typed) leads in
       path_sound p (grown s (blank p.shapes.structs s.next shape)) to shape (Cell s.next)
       (grown_sound p s shape less sound) leads (grown_points p s shape)
+  assign_new_sound false s to shape e sound =
+      path_sound p s to shape Null sound (path_leads p to shape (target_is (target to) shape e)) tt
+
+  assign_sound : (mode : MallocMode) (s : Store) (to : Path) (from : PtrRhs) (x : ℕ)
+      → rhs_typed p.shapes.structs p.vars (length p.data_vars) (target to) from ≡ true → Sound p s
+      → Gives (Sound p) (assign p.shapes.structs mode s to from x)
+  assign_sound mode s to (RhsPath from) x e sound =
+      let both : (t : ℕ) × (target to ≡ Some t) × (target from ≡ Some t) = agreed (target to) (target from) e in
+      onward_gives (PointsTo s.cells both.0) (Sound p) (read s from) (λ v. write_path s to.var to.fields v)
+      (read_gives p s from both.0 sound (path_leads p from both.0 both.2))
+      (λ v points. path_sound p s to both.0 v sound (path_leads p to both.0 both.1) points)
+  assign_sound mode s to RhsNull x e sound =
+      let some : (t : ℕ) × (target to ≡ Some t) = some_target (target to) e in
+      path_sound p s to some.0 Null sound (path_leads p to some.0 some.1) tt
+  assign_sound mode s to (RhsNew shape) x e sound = assign_new_sound (makes_cell mode x) s to shape e sound
 
   always : {A : Type 0} (r : Result A Fault) → Gives (λ a. Unit {0}) r
   always (Ok a) = tt
@@ -112,26 +122,26 @@ module _ (p : Program) (typed : is_typed p ≡ true) where
   with_items is (Ok s) fit sound = (fit, sound)
   with_items is (Err k) fit sound = tt
 
-  act_gives : (a : Act) (is : Items) (s : Store) (x : ℕ) → ActFits p a → Goods is s
-      → TurnGives Goods (act_turn p.shapes.structs a is s x)
-  act_gives (SetPtr to from) is s x e this =
-      settled_gives Goods (assign p.shapes.structs s to from) is
-      (with_items is (assign p.shapes.structs s to from) this.0 (assign_sound s to from e this.1))
-  act_gives (SetData to from) is s x e this =
+  act_gives : (mode : MallocMode) (a : Act) (is : Items) (s : Store) (x : ℕ) → ActFits p a → Goods is s
+      → TurnGives Goods (act_turn p.shapes.structs mode a is s x)
+  act_gives mode (SetPtr to from) is s x e this =
+      settled_gives Goods (assign p.shapes.structs mode s to from x) is
+      (with_items is (assign p.shapes.structs mode s to from x) this.0 (assign_sound mode s to from x e this.1))
+  act_gives mode (SetData to from) is s x e this =
       settled_gives Goods _ is (with_items is _ this.0
       (onward_gives (λ d. Unit {0}) (Sound p) (read_data_rhs s from x) (λ d. write_data s to d)
       (always (read_data_rhs s from x)) (λ d that. write_data_sound s to d this.1)))
-  act_gives (Free q) is s x e this =
+  act_gives mode (Free q) is s x e this =
       settled_gives Goods _ is (with_items is _ this.0
       (onward_gives (λ v. Unit {0}) (Sound p) (read s q) (λ v. freed s v) (always (read s q))
       (λ v that. freed_sound p s v this.1)))
-  act_gives Error is s x e this = tt
-  act_gives Halt is s x e this = tt
-  act_gives (Return operand) is s x e this = finished_gives Goods (look_at s operand)
-  act_gives Break is s x e this =
+  act_gives mode Error is s x e this = tt
+  act_gives mode Halt is s x e this = tt
+  act_gives mode (Return operand) is s x e this = finished_gives Goods (look_at s operand)
+  act_gives mode Break is s x e this =
       settle_gives Goods (kill (closed_ptrs is) (closed_datums is) s) (after_again is)
       (after_fit p is this.0, kill_sound p (closed_ptrs is) (closed_datums is) s this.1)
-  act_gives Continue is s x e this =
+  act_gives mode Continue is s x e this =
       settle_gives Goods (kill (closed_ptrs is) (closed_datums is) s) (from_again is)
       (from_fit p is this.0, kill_sound p (closed_ptrs is) (closed_datums is) s this.1)
 
@@ -143,24 +153,28 @@ module _ (p : Program) (typed : is_typed p ≡ true) where
       settle_gives Goods s (y then is) (then_fit p y is no_fit this.0, this.1)
   test_gives (Err k) x y is s yes_fit no_fit this = tt
 
-  step_gives : (is : Items) (s : Store) (x : ℕ) → Goods is s → TurnGives Goods (turn_of p.shapes.structs is s x)
-  step_gives Done s x this = tt
-  step_gives (Do a m is) s x this = act_gives a is s x this.0.0 (this.0.1, this.1)
-  step_gives (Close ps ds m is) s x this = settle_gives Goods (kill ps ds s) is (this.0, kill_sound p ps ds s this.1)
-  step_gives (If (Ask a m) y n is) s x this = test_gives (atom_of a s x) y n is s this.0.0 this.0.1 (this.0.2, this.1)
-  step_gives (If (Not c) y n is) s x this = tt
-  step_gives (If (Both c d) y n is) s x this = tt
-  step_gives (If (Either c d) y n is) s x this = tt
-  step_gives (Loop c n b is) s x this = tt
-  step_gives (Again c n b is) s x this = tt
-  step_gives (DoLoop c b is) s x this = tt
-  step_gives (DoAgain c b is) s x this = tt
+  step_gives : (mode : MallocMode) (is : Items) (s : Store) (x : ℕ) → Goods is s
+      → TurnGives Goods (turn_of p.shapes.structs mode is s x)
+  step_gives mode Done s x this = tt
+  step_gives mode (Do a m is) s x this = act_gives mode a is s x this.0.0 (this.0.1, this.1)
+  step_gives mode (Close ps ds m is) s x this =
+      settle_gives Goods (kill ps ds s) is (this.0, kill_sound p ps ds s this.1)
+  step_gives mode (If (Ask a m) y n is) s x this =
+      test_gives (atom_of a s x) y n is s this.0.0 this.0.1 (this.0.2, this.1)
+  step_gives mode (If (Not c) y n is) s x this = tt
+  step_gives mode (If (Both c d) y n is) s x this = tt
+  step_gives mode (If (Either c d) y n is) s x this = tt
+  step_gives mode (Loop c n b is) s x this = tt
+  step_gives mode (Again c n b is) s x this = tt
+  step_gives mode (DoLoop c b is) s x this = tt
+  step_gives mode (DoAgain c b is) s x this = tt
 
-  goes_good : (is js : Items) (s t : Store) (x : ℕ) → Goods is s → turn_of p.shapes.structs (opened is) s x ≡ Goes js t
+  goes_good : (mode : MallocMode) (is js : Items) (s t : Store) (x : ℕ) → Goods is s
+      → turn_of p.shapes.structs mode (opened is) s x ≡ Goes js t
       → Goods js t
-  goes_good is js s t x this e =
-      turn_gives Goods (turn_of p.shapes.structs (opened is) s x) js t
-      (step_gives (opened is) s x (opened_fit p is this.0, this.1)) e
+  goes_good mode is js s t x this e =
+      turn_gives Goods (turn_of p.shapes.structs mode (opened is) s x) js t
+      (step_gives mode (opened is) s x (opened_fit p is this.0, this.1)) e
 
   -- A run begins with typed items and a store that is proper and fits, and each step keeps that.
 
@@ -172,16 +186,17 @@ module _ (p : Program) (typed : is_typed p ≡ true) where
     sound_fits p (empty_store (length p.vars) (length p.data_vars)) (empty_sound p),
   )
 
-  pub step_keeps : (is js : Items) (s t : Store) (x : ℕ) → ItemsFit p is → IsProper s → FitsProgram p s
-      → turn_of p.shapes.structs (opened is) s x ≡ Goes js t → ItemsFit p js × IsProper t × FitsProgram p t
-  step_keeps is js s t x items proper fits e =
-      let after : Goods js t = goes_good is js s t x (items, is_sound p s proper fits) e in
+  pub step_keeps : (mode : MallocMode) (is js : Items) (s t : Store) (x : ℕ) → ItemsFit p is → IsProper s
+      → FitsProgram p s
+      → turn_of p.shapes.structs mode (opened is) s x ≡ Goes js t → ItemsFit p js × IsProper t × FitsProgram p t
+  step_keeps mode is js s t x items proper fits e =
+      let after : Goods js t = goes_good mode is js s t x (items, is_sound p s proper fits) e in
       (after.0, sound_proper p t after.1, sound_fits p t after.1)
 
-  visited_good : {is : Items} {s : Store} → Visited p is s → Goods is s
-  visited_good start = (start_fits p typed, empty_sound p)
-  visited_good (step {is} {js} {s} {t} x before e) = goes_good is js s t x (visited_good before) e
+  visited_good : (mode : MallocMode) {is : Items} {s : Store} → Visited p mode is s → Goods is s
+  visited_good mode start = (start_fits p typed, empty_sound p)
+  visited_good mode (step {is} {js} {s} {t} x before e) = goes_good mode is js s t x (visited_good mode before) e
 
-  pub visited_fits : (is : Items) (s : Store) → Visited p is s → IsProper s × FitsProgram p s
-  visited_fits is s visited = let this : Goods is s = visited_good visited in
+  pub visited_fits : (mode : MallocMode) (is : Items) (s : Store) → Visited p mode is s → IsProper s × FitsProgram p s
+  visited_fits mode is s visited = let this : Goods is s = visited_good mode visited in
       (sound_proper p s this.1, sound_fits p s this.1)

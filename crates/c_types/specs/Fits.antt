@@ -6,6 +6,7 @@ use Rattle.fore_base.specs.declared.store.Value.TheVariants.{Cell}
 use Rattle.fore_base.specs.declared.store.CellRec.{CellRec}
 use Rattle.fore_base.specs.declared.store.Store.{Store}
 use Rattle.fore_base.specs.Lists.{Every}
+use Rattle.c_types.specs.declared.mode.MallocMode.{MallocMode}
 use Rattle.c_types.specs.declared.program.VarDef.{VarDef}
 use Rattle.c_types.specs.declared.program.Act.{Act}
 use Rattle.fore_base.specs.Shapes.{targets_of, datums_of}
@@ -51,10 +52,10 @@ pub record FitsProgram (p : Program) (s : Store) : Type 0 where
   pub cells : Every (CellFits p.shapes.structs s.cells) s.cells
 
 -- what the runs of a program, on any choices, come to between their steps
-pub data Visited (p : Program) : Items → Store → Type 0 where
-  start : Visited p (start_of p) (empty_store (length p.vars) (length p.data_vars))
-  step : {is js : Items} {s t : Store} (choice : ℕ) → Visited p is s → turn_of p.shapes.structs (opened is) s choice
-      ≡ Goes js t → Visited p js t
+pub data Visited (p : Program) (mode : MallocMode) : Items → Store → Type 0 where
+  start : Visited p mode (start_of p) (empty_store (length p.vars) (length p.data_vars))
+  step : {is js : Items} {s t : Store} (choice : ℕ) → Visited p mode is s
+      → turn_of p.shapes.structs mode (opened is) s choice ≡ Goes js t → Visited p mode js t
 
 -- an act is one of the program's, wherever it stands
 abbrev pub ActFits : Program → Act → Type 0

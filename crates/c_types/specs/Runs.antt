@@ -4,6 +4,7 @@ use Rattle.fore_base.specs.declared.shape.Shape.{Shape}
 use Rattle.fore_base.specs.declared.store.Value.TheVariants.{Uninit}
 use Rattle.fore_base.specs.declared.store.Datum.TheVariants.{Undefined}
 use Rattle.fore_base.specs.declared.store.Store.{Store}
+use Rattle.c_types.specs.declared.mode.MallocMode.{MallocMode}
 use Rattle.c_types.specs.declared.outcome.Outcome.{Outcome}
 use Rattle.c_types.specs.declared.outcome.Outcome.TheVariants.{Ended, Fault, Starved, BadChoice, StillRunning}
 use Rattle.c_types.specs.Program.{Program}
@@ -39,13 +40,13 @@ unless_done (DoAgain c b is) step o = o
 abbrev pub at_end : Items → ℕ → Outcome
 at_end is step = unless_done is step StillRunning
 
-module _ (shapes : List Shape) (line : ℕ → ℕ) (final : Items → ℕ → Outcome) where
+module _ (shapes : List Shape) (mode : MallocMode) (line : ℕ → ℕ) (final : Items → ℕ → Outcome) where
   -- one step of an opened list in a run, after `step` steps; `next` is the rest of the run
   abbrev pub advance : Items → (ℕ → Items → Store → List ℕ → ℕ → Outcome) → ℕ → Store → List ℕ → ℕ → Outcome
   advance is next step s cs used =
       unless_done is step
-      (supply (takes is) cs (step + 1) used
-      (λ x ds u. after_turn (turn_of shapes is s x) (line (mark_of is)) (step + 1)
+      (supply (takes mode is) cs (step + 1) used
+      (λ x ds u. after_turn (turn_of shapes mode is s x) (line (mark_of is)) (step + 1)
       (λ js t. next (step + 1) js t ds u)))
 
   -- at most n further steps, after `step` steps and `used` choices; `line` tells the line of a mark
@@ -62,6 +63,6 @@ abbrev pub own_line : ℕ → ℕ
 own_line mark = mark
 
 -- up to n steps on these choices, from the items of main's body and the empty store
-unfoldable pub run : Program → List ℕ → ℕ → Outcome
-run p choices n = go p.shapes.structs own_line at_end n 0 (start_of p)
+unfoldable pub run : Program → MallocMode → List ℕ → ℕ → Outcome
+run p mode choices n = go p.shapes.structs mode own_line at_end n 0 (start_of p)
     (empty_store (length p.vars) (length p.data_vars)) choices 0

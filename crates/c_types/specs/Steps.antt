@@ -14,6 +14,8 @@ use Rattle.fore_base.specs.Stores.{onward, var_of, datum_of, set_var, set_datum,
 use Rattle.fore_base.specs.Stores.{write_from, grown, freed}
 use Rattle.fore_base.specs.Heap.{leaks}
 use Rattle.fore_base.specs.Shapes.{targets_of, datums_of}
+use Rattle.c_types.specs.declared.mode.MallocMode.{MallocMode}
+use Rattle.c_types.specs.declared.mode.MallocMode.TheVariants.{Always, MayFail}
 use Rattle.c_types.specs.declared.program.Path.{Path}
 use Rattle.c_types.specs.declared.program.DataPath.{DataPath}
 use Rattle.c_types.specs.declared.program.DataPath.TheVariants.{Var as DataVar, Field as DataField}
@@ -137,13 +139,24 @@ blank shapes number shape =
       fields = replicate (length (targets_of shapes shape)) Uninit;
     }
 
--- an assignment to a pointer: the right side first (6.5.16 leaves the order open)
-abbrev pub assign : List Shape → Store → Path → PtrRhs → Result Store Fault
-assign shapes s to (RhsPath from) = do
+-- whether a `malloc` makes a cell, x being the choice that it takes, if it takes one (7.22.3)
+abbrev pub makes_cell : MallocMode → ℕ → Bool
+makes_cell Always x = true
+makes_cell MayFail x = is_one x
+
+-- an assignment from a `malloc` that makes a cell, or from one that makes none and gives the null pointer
+abbrev pub assign_new : Bool → List Shape → Store → Path → ℕ → Result Store Fault
+assign_new true shapes s to shape = write_path (grown s (blank shapes s.next shape)) to.var to.fields (Cell s.next)
+assign_new false shapes s to shape = write_path s to.var to.fields Null
+
+-- an assignment to a pointer, x being the choice that was taken, if one was: the right side first (6.5.16 leaves the
+-- order open)
+abbrev pub assign : List Shape → MallocMode → Store → Path → PtrRhs → ℕ → Result Store Fault
+assign shapes mode s to (RhsPath from) x = do
   v ← read s from
   write_path s to.var to.fields v
-assign shapes s to RhsNull = write_path s to.var to.fields Null
-assign shapes s to (RhsNew shape) = write_path (grown s (blank shapes s.next shape)) to.var to.fields (Cell s.next)
+assign shapes mode s to RhsNull x = write_path s to.var to.fields Null
+assign shapes mode s to (RhsNew shape) x = assign_new (makes_cell mode x) shapes s to shape
 
 -- an assignment to a datum, x being the choice that was taken, if one was
 abbrev pub assign_data : Store → DataPath → DataRhs → ℕ → Result Store Fault
@@ -189,15 +202,15 @@ finished (Ok s) = if leaks (all_dead s) then Faults Leak else Stops
 finished (Err k) = Faults k
 
 -- what an act does, `is` being the items after it: `exit` and `abort` (7.22.4) and errors (7.2.1.1) make no leak test
-abbrev pub act_turn : List Shape → Act → Items → Store → ℕ → Turn
-act_turn shapes (SetPtr to from) is s x = settled (assign shapes s to from) is
-act_turn shapes (SetData to from) is s x = settled (assign_data s to from x) is
-act_turn shapes (Free p) is s x = settled (free_path s p) is
-act_turn shapes Error is s x = Faults Assertion
-act_turn shapes Halt is s x = Stops
-act_turn shapes (Return operand) is s x = finished (look_at s operand)
-act_turn shapes Break is s x = settle (kill (closed_ptrs is) (closed_datums is) s) (after_again is)
-act_turn shapes Continue is s x = settle (kill (closed_ptrs is) (closed_datums is) s) (from_again is)
+abbrev pub act_turn : List Shape → MallocMode → Act → Items → Store → ℕ → Turn
+act_turn shapes mode (SetPtr to from) is s x = settled (assign shapes mode s to from x) is
+act_turn shapes mode (SetData to from) is s x = settled (assign_data s to from x) is
+act_turn shapes mode (Free p) is s x = settled (free_path s p) is
+act_turn shapes mode Error is s x = Faults Assertion
+act_turn shapes mode Halt is s x = Stops
+act_turn shapes mode (Return operand) is s x = finished (look_at s operand)
+act_turn shapes mode Break is s x = settle (kill (closed_ptrs is) (closed_datums is) s) (after_again is)
+act_turn shapes mode Continue is s x = settle (kill (closed_ptrs is) (closed_datums is) s) (from_again is)
 
 -- the side of a test that is taken stands before the items after the test (6.8.4.1)
 abbrev pub test_turn : Result Bool Fault → Items → Items → Items → Store → Turn
@@ -206,18 +219,18 @@ test_turn (Ok false) x y is s = settle s (y then is)
 test_turn (Err k) x y is s = Faults k
 
 -- one step of an opened list; x is the choice, where the step takes one (an opened list begins with none of the others)
-abbrev pub turn_of : List Shape → Items → Store → ℕ → Turn
-turn_of shapes Done s x = Stops
-turn_of shapes (Do a m is) s x = act_turn shapes a is s x
-turn_of shapes (Close ps ds m is) s x = settle (kill ps ds s) is
-turn_of shapes (If (Ask a m) y n is) s x = test_turn (atom_of a s x) y n is s
-turn_of shapes (If (Not c) y n is) s x = Stops
-turn_of shapes (If (Both c d) y n is) s x = Stops
-turn_of shapes (If (Either c d) y n is) s x = Stops
-turn_of shapes (Loop c n b is) s x = Stops
-turn_of shapes (Again c n b is) s x = Stops
-turn_of shapes (DoLoop c b is) s x = Stops
-turn_of shapes (DoAgain c b is) s x = Stops
+abbrev pub turn_of : List Shape → MallocMode → Items → Store → ℕ → Turn
+turn_of shapes mode Done s x = Stops
+turn_of shapes mode (Do a m is) s x = act_turn shapes mode a is s x
+turn_of shapes mode (Close ps ds m is) s x = settle (kill ps ds s) is
+turn_of shapes mode (If (Ask a m) y n is) s x = test_turn (atom_of a s x) y n is s
+turn_of shapes mode (If (Not c) y n is) s x = Stops
+turn_of shapes mode (If (Both c d) y n is) s x = Stops
+turn_of shapes mode (If (Either c d) y n is) s x = Stops
+turn_of shapes mode (Loop c n b is) s x = Stops
+turn_of shapes mode (Again c n b is) s x = Stops
+turn_of shapes mode (DoLoop c b is) s x = Stops
+turn_of shapes mode (DoAgain c b is) s x = Stops
 
 -- Whether the first item of an opened list takes a choice, and its mark
 
@@ -232,28 +245,35 @@ data_rhs_takes (DataRhsPath p) = false
 data_rhs_takes (DataRhsKnown k) = false
 data_rhs_takes DataRhsChoice = true
 
-abbrev pub act_takes : Act → Bool
-act_takes (SetPtr to from) = false
-act_takes (SetData to from) = data_rhs_takes from
-act_takes (Free p) = false
-act_takes Error = false
-act_takes Halt = false
-act_takes (Return operand) = false
-act_takes Break = false
-act_takes Continue = false
+-- a `malloc` that may fail takes one
+abbrev pub ptr_rhs_takes : MallocMode → PtrRhs → Bool
+ptr_rhs_takes Always from = false
+ptr_rhs_takes MayFail (RhsPath p) = false
+ptr_rhs_takes MayFail RhsNull = false
+ptr_rhs_takes MayFail (RhsNew shape) = true
 
-abbrev pub takes : Items → Bool
-takes Done = false
-takes (Do a m is) = act_takes a
-takes (Close ps ds m is) = false
-takes (If (Ask a m) x y is) = atom_takes a
-takes (If (Not c) x y is) = false
-takes (If (Both c d) x y is) = false
-takes (If (Either c d) x y is) = false
-takes (Loop c n b is) = false
-takes (Again c n b is) = false
-takes (DoLoop c b is) = false
-takes (DoAgain c b is) = false
+abbrev pub act_takes : MallocMode → Act → Bool
+act_takes mode (SetPtr to from) = ptr_rhs_takes mode from
+act_takes mode (SetData to from) = data_rhs_takes from
+act_takes mode (Free p) = false
+act_takes mode Error = false
+act_takes mode Halt = false
+act_takes mode (Return operand) = false
+act_takes mode Break = false
+act_takes mode Continue = false
+
+abbrev pub takes : MallocMode → Items → Bool
+takes mode Done = false
+takes mode (Do a m is) = act_takes mode a
+takes mode (Close ps ds m is) = false
+takes mode (If (Ask a m) x y is) = atom_takes a
+takes mode (If (Not c) x y is) = false
+takes mode (If (Both c d) x y is) = false
+takes mode (If (Either c d) x y is) = false
+takes mode (Loop c n b is) = false
+takes mode (Again c n b is) = false
+takes mode (DoLoop c b is) = false
+takes mode (DoAgain c b is) = false
 
 abbrev pub mark_of : Items → ℕ
 mark_of Done = 0

@@ -7,6 +7,7 @@ ghost use Rattle.c_types.specs.Losses.{loses};
 ghost use Rattle.c_types.specs.Runs.{run, empty_store};
 ghost use Rattle.c_types.specs.Fits.{FitsProgram, Visited, ItemsFit};
 ghost use Rattle.c_types.specs.Over.{IsOver, IsStarved};
+ghost use Rattle.c_types.specs.declared.mode.MallocMode.{MallocMode};
 ghost use Rattle.fore_base.specs.declared.fault.Fault.{Fault as Kind};
 ghost use Rattle.fore_base.specs.declared.store.Store.{Store};
 ghost use Rattle.fore_base.specs.declared.fault.Fault.TheVariants.{Leak};
@@ -17,25 +18,28 @@ use crate::program::Typed;
 
 /// A run that has ended, met a fault or stopped for want of a choice stays so with more steps.
 pub fn over_stays(program: &Typed)
-    ensures { (choices : List ℕ) (fewer more : ℕ) → fewer ≤ more → IsOver (run program.now choices fewer)
-        → run program.now choices more ≡ run program.now choices fewer }
+    ensures { (mode : MallocMode) (choices : List ℕ) (fewer more : ℕ) → fewer ≤ more
+        → IsOver (run program.now mode choices fewer)
+        → run program.now mode choices more ≡ run program.now mode choices fewer }
 {
     let _program = program;
 }
 
 /// The run of as many steps as the number of the faulty step meets the same fault.
 pub fn fault_at_its_step(program: &Typed)
-    ensures { (choices : List ℕ) (steps : ℕ) (kind : Kind) (line step : ℕ) → run program.now choices steps
+    ensures { (mode : MallocMode) (choices : List ℕ) (steps : ℕ) (kind : Kind) (line step : ℕ)
+        → run program.now mode choices steps
         ≡ Outcome.Fault kind line step → (step ≤ steps)
-        × (run program.now choices step ≡ Outcome.Fault kind line step) }
+        × (run program.now mode choices step ≡ Outcome.Fault kind line step) }
 {
     let _program = program;
 }
 
 /// More choices than a run needs change nothing.
 pub fn more_choices_are_ignored(program: &Typed)
-    ensures { (choices more : List ℕ) (steps : ℕ) → (IsStarved (run program.now choices steps) → ⊥)
-        → run program.now (choices ++ more) steps ≡ run program.now choices steps }
+    ensures { (mode : MallocMode) (choices more : List ℕ) (steps : ℕ)
+        → (IsStarved (run program.now mode choices steps) → ⊥)
+        → run program.now mode (choices ++ more) steps ≡ run program.now mode choices steps }
 {
     let _program = program;
 }
@@ -44,9 +48,10 @@ pub fn more_choices_are_ignored(program: &Typed)
 /// and this step reads the
 /// first of them, which no step before it does.
 pub fn starved_where_needed(program: &Typed)
-    ensures { (choices : List ℕ) (steps step : ℕ) → run program.now choices steps ≡ Outcome.Starved step → (1 ≤ step)
-        × (step ≤ steps) × ((more : List ℕ) → run program.now (choices ++ more) (step - 1) ≡ Outcome.StillRunning)
-        × ((more : List ℕ) (bad later : ℕ) → 2 ≤ bad → step ≤ later → run program.now (choices ++ bad ∷ more) later
+    ensures { (mode : MallocMode) (choices : List ℕ) (steps step : ℕ) → run program.now mode choices steps
+        ≡ Outcome.Starved step → (1 ≤ step)
+        × (step ≤ steps) × ((more : List ℕ) → run program.now mode (choices ++ more) (step - 1) ≡ Outcome.StillRunning)
+        × ((more : List ℕ) (bad later : ℕ) → 2 ≤ bad → step ≤ later → run program.now mode (choices ++ bad ∷ more) later
         ≡ Outcome.BadChoice (length choices)) }
 {
     let _program = program;
@@ -58,11 +63,14 @@ pub fn steps_keep_stores(program: &Typed)
     ensures begins { ItemsFit program.now (start_of program.now)
         × IsProper (empty_store (length program.now.vars) (length program.now.data_vars))
         × FitsProgram program.now (empty_store (length program.now.vars) (length program.now.data_vars)) }
-    ensures keeps { (is js : Items) (s t : Store) (choice : ℕ) → ItemsFit program.now is → IsProper s
+    ensures keeps { (mode : MallocMode) (is js : Items) (s t : Store) (choice : ℕ) → ItemsFit program.now is
+        → IsProper s
         → FitsProgram program.now s
-        → turn_of program.now.shapes.structs (opened is) s choice ≡ Goes js t → ItemsFit program.now js × IsProper t
+        → turn_of program.now.shapes.structs mode (opened is) s choice ≡ Goes js t → ItemsFit program.now js
+        × IsProper t
         × FitsProgram program.now t }
-    ensures visited { (is : Items) (s : Store) → Visited program.now is s → IsProper s × FitsProgram program.now s }
+    ensures visited { (mode : MallocMode) (is : Items) (s : Store) → Visited program.now mode is s → IsProper s
+        × FitsProgram program.now s }
 {
     let _body = &program.body;
 }
@@ -71,10 +79,12 @@ pub fn steps_keep_stores(program: &Typed)
 /// is freed, and none is
 /// made) leaks exactly if the store had leaked before it.
 pub fn leaks_by_losses_alone(program: &Typed)
-    ensures kept { (is : Items) (s : Store) (choice : ℕ) → loses (opened is) s ≡ false → leaks s ≡ false
-        → turn_of program.now.shapes.structs (opened is) s choice ≡ Faults Leak → ⊥ }
-    ensures stays { (is js : Items) (s t : Store) (choice : ℕ) → loses (opened is) s ≡ false → leaks s ≡ true
-        → turn_of program.now.shapes.structs (opened is) s choice ≡ Goes js t → ⊥ }
+    ensures kept { (mode : MallocMode) (is : Items) (s : Store) (choice : ℕ) → loses (opened is) s ≡ false → leaks s
+        ≡ false
+        → turn_of program.now.shapes.structs mode (opened is) s choice ≡ Faults Leak → ⊥ }
+    ensures stays { (mode : MallocMode) (is js : Items) (s t : Store) (choice : ℕ) → loses (opened is) s ≡ false
+        → leaks s ≡ true
+        → turn_of program.now.shapes.structs mode (opened is) s choice ≡ Goes js t → ⊥ }
 {
     let _body = &program.body;
 }

@@ -7,6 +7,7 @@ use Rattle.fore_base.specs.declared.fault.Fault.{Fault as Kind}
 use Rattle.fore_base.specs.declared.shape.Shapes.{Shapes}
 use Rattle.fore_base.specs.declared.store.Store.{Store}
 use Rattle.fore_base.specs.Lists.{IsIn, Every}
+use Rattle.c_types.specs.declared.mode.MallocMode.TheVariants.{Always}
 use Rattle.c_types.specs.declared.outcome.Outcome.{Outcome}
 use Rattle.c_types.specs.declared.outcome.Outcome.TheVariants.{Ended, Fault, Starved, BadChoice, StillRunning}
 use Rattle.c_types.specs.Program.{Program}
@@ -72,9 +73,9 @@ runs_go_by T g same by_edge =
     (by_edge location e s i)
 
 module _ (T : Boxes) (p : Program) (g : ControlGraph) (agrees : Agrees p g) (shapes : g.shapes ≡ T.face.shapes) where
-  pub never_faults : (nodes : List Node) → IsClosed T g nodes → (cs : List ℕ) (n : ℕ) → IsFault (run p cs n) → ⊥
+  pub never_faults : (nodes : List Node) → IsClosed T g nodes → (cs : List ℕ) (n : ℕ) → IsFault (run p Always cs n) → ⊥
   never_faults nodes closed cs n h =
-      let f = parts (run p cs n) h in
+      let f = parts (run p Always cs n) h in
       let m = (agrees.faults cs f.kind f.line).there n (f.step, f.is) in
       runs_safe T g nodes closed shapes cs m.0 (is_fault (grun g cs m.0) f.kind f.line m.1.0 m.1.1)
 
@@ -97,13 +98,13 @@ module _ (T : Boxes) (p : Program) (g : ControlGraph) (agrees : Agrees p g) (sha
     -- the program's run on the choices of an exact trace meets a fault within its steps
     exact_faults : (nodes : List Node) (tr : AbsTrace) (s : Store) → RunsGoBy T g → Exploration T g k nodes
         → AbstractTrace T g nodes tr → IsMember T tr.last.forest s → AreExact T nodes tr.nodes
-        → IsFaultAt tr.fault tr.line (run p tr.choices tr.steps)
+        → IsFaultAt tr.fault tr.line (run p Always tr.choices tr.steps)
     exact_faults nodes tr s by_edge x a member exact =
         let f = graph_faults nodes tr s by_edge x a member exact in
         let n = (agrees.faults tr.choices tr.fault tr.line).back tr.steps (tr.steps, f) in (
           n.2.0,
-          run_stays_over p tr.choices n.0 tr.steps n.1
-              (is_over (run p tr.choices n.0) tr.fault tr.line n.2.0 n.2.1) ∙ n.2.1,
+          run_stays_over p Always tr.choices n.0 tr.steps n.1
+              (is_over (run p Always tr.choices n.0) tr.fault tr.line n.2.0 n.2.1) ∙ n.2.1,
         )
 
     -- What is known of a trace that was found, and of the run that replays it for this many steps.
@@ -115,19 +116,20 @@ module _ (T : Boxes) (p : Program) (g : ControlGraph) (agrees : Agrees p g) (sha
       trace_of =
           record { explored = x.0; trace = x.1; within = x.2; choices = trace_choices T g k nodes tr fit x.0 x.1 }
 
-      no_fault : (IsFault (run p tr.choices steps) → ⊥) → (n : ℕ) → (n ≤ REPLAY_STEPS) ⊎ (n ≤ tr.steps)
-          → IsFault (run p tr.choices n) → ⊥
+      no_fault : (IsFault (run p Always tr.choices steps) → ⊥) → (n : ℕ) → (n ≤ REPLAY_STEPS) ⊎ (n ≤ tr.steps)
+          → IsFault (run p Always tr.choices n) → ⊥
       no_fault none n within fault =
           let less : n ≤ steps = elim within [
             | inl few ↦ omega (arith, few, more_steps)
             | inr few ↦ omega (arith, few, trace_steps)
           ] in
-          let f = parts (run p tr.choices n) fault in
-          let same : run p tr.choices steps ≡ run p tr.choices n =
-          run_stays_over p tr.choices n steps less (is_over (run p tr.choices n) f.kind f.line f.step f.is) in
-          none (is_fault (run p tr.choices steps) f.kind f.line f.step (same ∙ f.is))
+          let f = parts (run p Always tr.choices n) fault in
+          let same : run p Always tr.choices steps ≡ run p Always tr.choices n =
+          run_stays_over p Always tr.choices n steps less
+          (is_over (run p Always tr.choices n) f.kind f.line f.step f.is) in
+          none (is_fault (run p Always tr.choices steps) f.kind f.line f.step (same ∙ f.is))
 
-      trace_means : (s : Store) → (IsFault (run p tr.choices steps) → ⊥) → IsMember T tr.last.forest s
+      trace_means : (s : Store) → (IsFault (run p Always tr.choices steps) → ⊥) → IsMember T tr.last.forest s
           → TraceMeans T p g k budget nodes tr s
       trace_means s none member = record {
         of = trace_of;
@@ -135,14 +137,15 @@ module _ (T : Boxes) (p : Program) (g : ControlGraph) (agrees : Agrees p g) (sha
         member = member;
         loose = λ exact.
             let f = exact_faults nodes tr s by_edge x.0 x.1 member exact in
-            no_fault none tr.steps (inr (omega arith)) (is_fault (run p tr.choices tr.steps) tr.fault tr.line f.0 f.1);
+            no_fault none tr.steps (inr (omega arith))
+            (is_fault (run p Always tr.choices tr.steps) tr.fault tr.line f.0 f.1);
       }
 
       -- what the replay of a trace says is the verdict
       replayed : (v : Verdict) → IsReplayed T p tr steps v → IsVerdict T p g k budget (Faulty nodes tr) v
       replayed Safe r = r
       replayed (Unsafe kind line step) r =
-          record { of = trace_of; meets = (run_met_at p tr.choices steps kind line step r).1 }
+          record { of = trace_of; meets = (run_met_at p Always tr.choices steps kind line step r).1 }
       replayed FullBudget r = r
       replayed (LooseTrace sample) r = trace_means sample r.0 r.1
 

@@ -1,6 +1,7 @@
 // Laws of explorations: each is the contract of a function that does nothing.
 ghost use Rattle.std.specs.Prelude.{◌≡◌, ℕ, List};
 ghost use Rattle.c_cfg.specs.Lowering.{LowerOf};
+ghost use Rattle.c_types.specs.declared.mode.MallocMode.TheVariants.{Always};
 ghost use Rattle.c_types.specs.Over.{IsFault};
 ghost use Rattle.c_types.specs.Runs.{run};
 ghost use Rattle.fix_core.specs.Explorations.{IsClosed};
@@ -11,11 +12,12 @@ use c_cfg::laws::graphs_agree;
 use c_types::program::Typed;
 use fa_core::table::BoxTable;
 
-/// Where some nodes of a program's graph are closed, no run of the program meets a fault: on no choices, after no
-/// number of steps. The graph's structs are the table's.
+/// Where some nodes of a program's graph are closed, no run of the program meets a fault where each `malloc` gives a
+/// cell: on no choices, after no number of steps. The graph's structs are the table's.
 pub fn closed_is_safe(program: &Typed, graph: &Graph, table: &BoxTable)
     ensures { LowerOf program.now graph.now → graph.now.shapes ≡ table.now.face.shapes → (nodes : List Node)
-        → IsClosed table.now graph.now nodes → (choices : List ℕ) (n : ℕ) → IsFault (run program.now choices n) → ⊥ }
+        → IsClosed table.now graph.now nodes → (choices : List ℕ) (n : ℕ) → IsFault (run program.now Always choices n)
+        → ⊥ }
 {
     graphs_agree(program, graph);
     let _table = table;

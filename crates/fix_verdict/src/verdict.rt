@@ -13,6 +13,7 @@ use c_cfg::laws::{
     alike_stores_step_alike, edges_in_range, edges_make_runs, graphs_agree, loop_free_graphs,
 };
 use c_types::laws::{fault_at_its_step, over_stays};
+use c_types::mode::MallocMode;
 use c_types::program::Typed;
 use fa_core::table::BoxTable;
 use fa_sample::sample;
@@ -107,7 +108,13 @@ fn judge_trace(
     requires plain { Every HasNoBoxes trace.now.last.forest.autos }
     ensures { IfOk result (IsReplayed table.now program.now trace.now steps) }
 {
-    match replay(alloc, program, trace.choices.as_slice(), steps)? {
+    match replay(
+        alloc,
+        program,
+        MallocMode::Always,
+        trace.choices.as_slice(),
+        steps,
+    )? {
         Replay::Real { kind, line, step } => Ok(Verdict::Unsafe { kind, line, step }),
         Replay::Spurious => {
             let sample = sample(alloc, &trace.last, table)?;

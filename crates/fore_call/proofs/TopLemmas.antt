@@ -23,6 +23,7 @@ use Rattle.std.proofs.Common.{
   arith,
 }
 use Rattle.std.proofs.lemmas.List.{append_cancel_left, length-append}
+use Rattle.c_types.specs.declared.mode.MallocMode.TheVariants.{Always}
 use Rattle.c_types.specs.Program.{Program}
 use Rattle.c_types.specs.Runs.{run}
 use Rattle.c_types.specs.declared.outcome.Outcome.{Outcome}
@@ -430,13 +431,14 @@ module _ (r : Request) (bytes : List ℕ) (p : Program) (short : length bytes �
     run_known : Known r.reading path bytes
     run_known = known_of r (Run path choices steps) bytes path file refl
 
-    due_for_run : (a : Answer) → IsRight r a → (status_of a ≡ run_status (run p choices steps)) ⊎ (status_of a ≡ 7)
+    due_for_run : (a : Answer) → IsRight r a → (status_of a ≡ run_status (run p Always choices steps))
+        ⊎ (status_of a ≡ 7)
     due_for_run (Verified v text) h = absurd (run_here (Verified v text) h)
     due_for_run (Ran o) h =
         let f = run_here (Ran o) h in
         let same : p ≡ f.0 =
         one_program bytes p f.0 is (program_known r.reading path bytes run_known f.0 [] f.1) in
-        inl (ap run_status (f.2 ∙ ap (λ q. run q choices steps) (sym same)))
+        inl (ap run_status (f.2 ∙ ap (λ q. run q Always choices steps) (sym same)))
     due_for_run Usage h = absurd (h (Run path choices steps) file.is_asked)
     due_for_run (Refused why) h =
         absurd (not_refused r.reading path bytes run_known p short is why (run_here (Refused why) h))
@@ -544,9 +546,9 @@ module _ (c : Call) (a : Answer) (right : IsRight c.request a) (reads : ReadsOnl
         (reads_well (Verify path None settings) named.file.is_asked) a right)
 
     runs : (p : Program) (path choices : List ℕ) (steps : ℕ) → NamesProgram c.request (Run path choices steps) p
-        → (c.status ≡ run_status (run p choices steps)) ⊎ (c.status ≡ 7)
+        → (c.status ≡ run_status (run p Always choices steps)) ⊎ (c.status ≡ 7)
     runs p path choices steps named =
-        mostly (λ m. m ≡ run_status (run p choices steps))
+        mostly (λ m. m ≡ run_status (run p Always choices steps))
         (due_for_run c.request named.bytes p named.within named.is path choices steps named.file
         (reads_well (Run path choices steps) named.file.is_asked) a right)
 

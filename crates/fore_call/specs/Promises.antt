@@ -1,5 +1,6 @@
 -- What holds of every call of the program.
 use Rattle.std.specs.Prelude.{◌≡◌, ◌<◌, ◌⊎◌, ℕ, List, None}
+use Rattle.c_types.specs.declared.mode.MallocMode.TheVariants.{Always}
 use Rattle.c_types.specs.declared.outcome.Outcome.{Outcome}
 use Rattle.c_types.specs.Program.{Program}
 use Rattle.c_types.specs.Runs.{run}
@@ -88,7 +89,7 @@ pub record Promises (c : Call) : Type 0 where
       → NothingFailed c → IsResult c.status ⊎ (c.status ≡ NO_MEMORY)
   -- a program that is to be run is run
   pub runs : (p : Program) (path choices : List ℕ) (steps : ℕ) → NamesProgram c.request (Run path choices steps) p
-      → NothingFailed c → (c.status ≡ run_status (run p choices steps)) ⊎ (c.status ≡ NO_MEMORY)
+      → NothingFailed c → (c.status ≡ run_status (run p Always choices steps)) ⊎ (c.status ≡ NO_MEMORY)
   -- a C file that is to be refused is refused
   pub refuses : NamesOther c.request → NothingFailed c → IsRefusal c.status
   -- what is to be verified with boxes is refused, for now

@@ -5,6 +5,7 @@ use Rattle.fore_base.specs.Outside.{Rose}
 use Rattle.fore_base.specs.declared.limits.TheConstants.{FILE_BYTES}
 use Rattle.fore_base.specs.declared.named_files.NamedFile.{NamedFile}
 use Rattle.fore_base.specs.declared.shape.Shapes.{Shapes}
+use Rattle.c_types.specs.declared.mode.MallocMode.TheVariants.{Always}
 use Rattle.c_types.specs.declared.outcome.Outcome.{Outcome}
 use Rattle.c_types.specs.Program.{Program}
 use Rattle.c_types.specs.Runs.{run}
@@ -75,7 +76,7 @@ module _ (r : Reading) where
 
   -- so the run that is asked for comes out
   abbrev pub IsRun : Asked → Outcome → Type 0
-  IsRun (Run path choices steps) outcome = HasProgram path (λ p. outcome ≡ run p choices steps)
+  IsRun (Run path choices steps) outcome = HasProgram path (λ p. outcome ≡ run p Always choices steps)
   IsRun (Verify path boxes settings) outcome = ⊥
   IsRun (Gen kind phases) outcome = ⊥
 

@@ -18,6 +18,7 @@ use crate::answer::Answer;
 use c_cfg::laws::edges_in_range;
 use c_cfg::lower::lower;
 use c_machine::run::run;
+use c_types::mode::MallocMode;
 use c_types::program::Typed;
 use fa_core::table::BoxTable;
 use fix_engine::explore;
@@ -163,7 +164,7 @@ fn run_file<L: Shelf>(
 fn run_program(alloc: Global, program: &Typed, choices: &[u8], steps: u32) -> Answer
     ensures { IsRunOf program.now choices.now steps result }
 {
-    match run(alloc, program, choices, steps as u64) {
+    match run(alloc, program, MallocMode::Always, choices, steps as u64) {
         Ok(outcome) => Answer::Ran(outcome),
         Err(_) => Answer::NoMemory,
     }

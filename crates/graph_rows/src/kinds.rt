@@ -3,6 +3,7 @@
 use crate::graphs::{put_edges, put_sizes};
 use crate::running::{put_alike, put_graph_run, put_replay, put_run, put_steps};
 use anyhow::{Context, Result, bail};
+use c_types::mode::MallocMode;
 use fore_base::text::Text;
 use row_kit::Answers;
 use row_texts::{read_text, shown};
@@ -34,10 +35,13 @@ impl Answers for Kinds {
 /// Puts what a program or its graph does on choices.
 fn put_course(alloc: Global, out: &mut Text, kind: &str, words: &str, body: &[u8]) -> Result<()> {
     match kind {
-        "run" => put_run(alloc, out, words, body),
+        "run" => put_run(alloc, out, MallocMode::Always, words, body),
+        "null_run" => put_run(alloc, out, MallocMode::MayFail, words, body),
         "graph_run" => put_graph_run(alloc, out, words, body),
-        "replay" => put_replay(alloc, out, words, body),
-        "steps" => put_steps(alloc, out, words, body),
+        "replay" => put_replay(alloc, out, MallocMode::Always, words, body),
+        "null_replay" => put_replay(alloc, out, MallocMode::MayFail, words, body),
+        "steps" => put_steps(alloc, out, MallocMode::Always, words, body),
+        "null_steps" => put_steps(alloc, out, MallocMode::MayFail, words, body),
         _ => bail!("no such kind"),
     }
 }

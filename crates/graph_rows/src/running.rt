@@ -9,6 +9,7 @@ use c_cfg::lower::lower;
 use c_machine::Machine;
 use c_machine::graph_run::graph_run;
 use c_machine::run::run;
+use c_types::mode::MallocMode;
 use c_types::outcome::Outcome;
 use c_types::program::Typed;
 use fore_base::memory::Mem;
@@ -65,17 +66,24 @@ fn digit(letter: u8) -> Option<u8> {
     }
 }
 
-/// run: how the run of the program of a body comes out.
-pub fn put_run(alloc: Global, out: &mut Text, words: &str, body: &[u8]) -> Result<()> {
+/// run, null_run: how the run of the program of a body comes out.
+pub fn put_run(
+    alloc: Global,
+    out: &mut Text,
+    mode: MallocMode,
+    words: &str,
+    body: &[u8],
+) -> Result<()> {
     let course = course_of(alloc, words)?;
-    let outcome = outcome_of(alloc, body, &course)?;
+    let outcome = outcome_of(alloc, mode, body, &course)?;
     put_outcome(out, outcome)?;
     Ok(())
 }
 
-fn outcome_of(alloc: Global, body: &[u8], course: &Course) -> Result<Outcome> {
+fn outcome_of(alloc: Global, mode: MallocMode, body: &[u8], course: &Course) -> Result<Outcome> {
     let program = program_of(alloc, RUN_HEAD, body)?;
-    Ok(run(alloc, &program, course.choices.as_slice(), course.limit)?)
+    let choices = course.choices.as_slice();
+    Ok(run(alloc, &program, mode, choices, course.limit)?)
 }
 
 /// graph_run: how the run of the graph of a body comes out.
@@ -91,27 +99,47 @@ fn graph_outcome_of(alloc: Global, body: &[u8], course: &Course) -> Result<Outco
     Ok(graph_run(alloc, &graph, course.choices.as_slice(), course.limit)?)
 }
 
-/// replay: what a replay of the program of a body finds.
-pub fn put_replay(alloc: Global, out: &mut Text, words: &str, body: &[u8]) -> Result<()> {
+/// replay, null_replay: what a replay of the program of a body finds.
+pub fn put_replay(
+    alloc: Global,
+    out: &mut Text,
+    mode: MallocMode,
+    words: &str,
+    body: &[u8],
+) -> Result<()> {
     let course = course_of(alloc, words)?;
-    let found = found_by(alloc, body, &course)?;
+    let found = found_by(alloc, mode, body, &course)?;
     put_found(out, found)?;
     Ok(())
 }
 
-fn found_by(alloc: Global, body: &[u8], course: &Course) -> Result<Replay> {
+fn found_by(alloc: Global, mode: MallocMode, body: &[u8], course: &Course) -> Result<Replay> {
     let program = program_of(alloc, RUN_HEAD, body)?;
-    Ok(replay(alloc, &program, course.choices.as_slice(), course.limit)?)
+    let choices = course.choices.as_slice();
+    Ok(replay(alloc, &program, mode, choices, course.limit)?)
 }
 
-/// steps: what the steps of a machine answer, one for each letter: a choice that is given, or a hyphen for none.
-pub fn put_steps(alloc: Global, out: &mut Text, letters: &str, body: &[u8]) -> Result<()> {
+/// steps, null_steps: what the steps of a machine answer, one for each letter: a choice that is given, or a hyphen for
+/// none.
+pub fn put_steps(
+    alloc: Global,
+    out: &mut Text,
+    mode: MallocMode,
+    letters: &str,
+    body: &[u8],
+) -> Result<()> {
     let program = program_of(alloc, RUN_HEAD, body)?;
-    put_turns(alloc, out, letters.as_bytes(), &program)
+    put_turns(alloc, out, mode, letters.as_bytes(), &program)
 }
 
-fn put_turns(alloc: Global, out: &mut Text, letters: &[u8], program: &Typed) -> Result<()> {
-    let mut machine = Machine::new(alloc, program)?;
+fn put_turns(
+    alloc: Global,
+    out: &mut Text,
+    mode: MallocMode,
+    letters: &[u8],
+    program: &Typed,
+) -> Result<()> {
+    let mut machine = Machine::new(alloc, program, mode)?;
     for (number, letter) in letters.iter().enumerate() {
         let choice = given(*letter)?;
         put_between(out, number, b", ")?;
@@ -179,7 +207,7 @@ fn agree_on(
     graph: &Graph,
     choices: &[u8],
 ) -> Mem<bool> {
-    let outcome = run(alloc, program, choices, STEPS)?;
+    let outcome = run(alloc, program, MallocMode::Always, choices, STEPS)?;
     let edges = match outcome {
         Outcome::StillRunning => STEPS,
         _ => STEPS * EDGES,

@@ -9,21 +9,28 @@ pub mod verdict;
 
 pub use crate::verdict::Replay;
 use c_machine::run::run;
+use c_types::mode::MallocMode;
 use c_types::outcome::Outcome;
 use c_types::program::Typed;
 use fore_base::memory::Mem;
 use std::alloc::Global;
 
-/// Runs a program on the choices of a trace, for at most `steps` steps.
+/// Runs a program, whose `malloc` answers by the mode, on the choices of a trace, for at most `steps` steps.
 ///
 /// # Errors
 ///
 /// Want of memory.
-pub fn replay(alloc: Global, program: &Typed, choices: &[u8], steps: u64) -> Mem<Replay>
+pub fn replay(
+    alloc: Global,
+    program: &Typed,
+    mode: MallocMode,
+    choices: &[u8],
+    steps: u64,
+) -> Mem<Replay>
     requires below { steps < 2 ^ 64 - 1 }
-    ensures { IfOk result (λ found. found ≡ replay_of (run program.now choices.now steps)) }
+    ensures { IfOk result (λ found. found ≡ replay_of (run program.now mode choices.now steps)) }
 {
-    let outcome = run(alloc, program, choices, steps)?;
+    let outcome = run(alloc, program, mode, choices, steps)?;
     Ok(found_in(outcome))
 }
 

@@ -7,6 +7,7 @@ use Rattle.fore_base.specs.declared.shape.Shape.{Shape}
 use Rattle.fore_base.specs.declared.store.Store.{Store}
 use Rattle.fore_base.specs.Stores.{onward, kill}
 use Rattle.fore_base.specs.Heap.{leaks}
+use Rattle.c_types.specs.declared.mode.MallocMode.TheVariants.{Always}
 use Rattle.c_types.specs.declared.program.DataPath.{DataPath}
 use Rattle.c_types.specs.declared.program.Act.{Act}
 use Rattle.c_types.specs.declared.program.Act.TheVariants.{SetPtr, SetData, Free, Error, Halt, Return, Break, Continue}
@@ -85,9 +86,9 @@ module _ (p : Program) (typed : is_typed p ≡ true) (choice : ℕ) (s : Store) 
 
   pub act_passes : (a : Act) (is : Items) → ActFits p a
       → pass (act_row (length p.vars) (length p.data_vars) a is) (ext0 s)
-      ≡ turn_pass (stop_of a s) (act_turn p.shapes.structs a is s choice)
+      ≡ turn_pass (stop_of a s) (act_turn p.shapes.structs Always a is s choice)
   act_passes (SetPtr to from) is fits = set_ptr_passes p choice s sound whole typed to from fits
-      ∙ done_turn Halted (assign p.shapes.structs s to from) is
+      ∙ done_turn Halted (assign p.shapes.structs Always s to from choice) is
   act_passes (SetData to from) is fits = set_data_passes p choice s sound whole to from fits
       ∙ done_turn Halted (assign_data s to from choice) is
   act_passes (Free q) is fits = free_passes p choice s sound whole q fits ∙ done_turn Halted (free_path s q) is
@@ -124,8 +125,8 @@ finished_to (Ok t) is = here (leaks (all_dead t)) refl
     here false fine = rw fine tt
 
 pub act_to : (shapes : List Shape) (a : Act) (is : Items) (s : Store) (x : ℕ)
-    → GoesTo (followed_by a is) (act_turn shapes a is s x)
-act_to shapes (SetPtr to from) is s x = settled_to (assign shapes s to from) is
+    → GoesTo (followed_by a is) (act_turn shapes Always a is s x)
+act_to shapes (SetPtr to from) is s x = settled_to (assign shapes Always s to from x) is
 act_to shapes (SetData to from) is s x = settled_to (assign_data s to from x) is
 act_to shapes (Free p) is s x = settled_to (free_path s p) is
 act_to shapes Error is s x = tt

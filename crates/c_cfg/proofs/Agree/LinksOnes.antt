@@ -1,5 +1,6 @@
 -- Which links take a choice: the first of an assignment of a choice, and no other. And each step has a link.
 use Rattle.std.proofs.Common.{◌+◌, ℕ, Some, None, List, [], ◌∷◌, ◌++◌}
+use Rattle.c_types.specs.declared.mode.MallocMode.TheVariants.{Always}
 use Rattle.c_types.specs.declared.program.DataPath.{DataPath}
 use Rattle.c_types.specs.declared.program.DataPath.TheVariants.{Var as DataVar, Field as DataField}
 use Rattle.c_types.specs.declared.program.PtrRhs.{PtrRhs}
@@ -90,7 +91,8 @@ module _ (nv nd : ℕ) where
   then_ends : (ls : List Link) (i : Instr) (ps ds : List ℕ) → AreOnes ls → AreOnes (ls ++ One i ∷ ends ps ds)
   then_ends ls i ps ds h = both_ones ls (One i ∷ ends ps ds) h (ends_ones ps ds)
 
-  data_row_takes : (to : DataPath) (from : DataRhs) → TakesAs (act_takes (SetData to from)) (data_row nv nd to from)
+  data_row_takes : (to : DataPath) (from : DataRhs)
+      → TakesAs (act_takes Always (SetData to from)) (data_row nv nd to from)
   data_row_takes (DataVar x) (DataRhsPath (DataVar y)) = tt
   data_row_takes (DataVar x) (DataRhsPath (DataField base f)) =
       both_ones (data_loads nv x (DataField base f)) (ends (used nv base.fields) []) (data_ones nv x (DataField base f))
@@ -111,7 +113,7 @@ module _ (nv nd : ℕ) where
       then_ends (loads (nv + 1) base.var base.fields) (StoreData (holder (nv + 1) base.var base.fields) f nd)
       (used (nv + 1) base.fields) (nd ∷ []) (loads_ones (nv + 1) base.var base.fields)
 
-  pub act_row_takes : (a : Act) (is : Items) → TakesAs (act_takes a) (act_row nv nd a is)
+  pub act_row_takes : (a : Act) (is : Items) → TakesAs (act_takes Always a) (act_row nv nd a is)
   act_row_takes (SetPtr to from) is = ptr_row_ones to.var to.fields from
   act_row_takes (SetData to from) is = data_row_takes to from
   act_row_takes (Free p) is =

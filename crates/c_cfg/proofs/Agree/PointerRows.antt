@@ -13,6 +13,7 @@ use Rattle.fore_base.specs.Stores.{onward, var_of, set_var, load, store_at, walk
 use Rattle.fore_base.specs.Stores.{without, freed, grown}
 use Rattle.fore_base.specs.Heap.{leaks}
 use Rattle.fore_base.specs.Shapes.{targets_of}
+use Rattle.c_types.specs.declared.mode.MallocMode.TheVariants.{Always}
 use Rattle.c_types.specs.declared.program.Path.{Path}
 use Rattle.c_types.specs.Program.{Program, is_target, both_targets, path_target, rhs_typed, is_typed}
 use Rattle.c_types.specs.Fits.{PointsTo}
@@ -219,7 +220,8 @@ module _ (p : Program) (choice : ℕ) where
 
     -- = the null pointer
     nulled : (x : ℕ) → x < nv → (fs : List ℕ) (k : ℕ) → PathLeads p (record { var = x; fields = fs }) k
-        → pass (ptr_row nv nd x fs RhsNull) (ext0 s) ≡ done_pass (assign p.shapes.structs s (path_of x fs) RhsNull)
+        → pass (ptr_row nv nd x fs RhsNull) (ext0 s)
+        ≡ done_pass (assign p.shapes.structs Always s (path_of x fs) RhsNull choice)
     nulled x less [] k path =
         one_link p.shapes.structs choice (CopyPtr x PtrNull) (ext0 s) (set_var s x Null)
         (ap (λ g. Passed g) (set_ext nv nd s size Uninit Uninit Undefined Undefined x Null less))
@@ -237,7 +239,7 @@ module _ (p : Program) (choice : ℕ) where
 
       made : (x : ℕ) → x < nv → (fs : List ℕ) → PathLeads p (record { var = x; fields = fs }) shape
           → pass (ptr_row nv nd x fs (RhsNew shape)) (ext0 s)
-          ≡ done_pass (assign p.shapes.structs s (path_of x fs) (RhsNew shape))
+          ≡ done_pass (assign p.shapes.structs Always s (path_of x fs) (RhsNew shape) choice)
       made x small [] path =
           one_link p.shapes.structs choice (New x shape) (ext0 s) (set_var with_cell x (Cell s.next))
           (ap (λ g. Passed g)
@@ -337,7 +339,8 @@ module _ (p : Program) (choice : ℕ) where
 
       pub set_ptr_passes : (to : Path) (from : PtrRhs)
           → rhs_typed p.shapes.structs p.vars (length p.data_vars) (target to) from ≡ true
-          → pass (ptr_row nv nd to.var to.fields from) (ext0 s) ≡ done_pass (assign p.shapes.structs s to from)
+          → pass (ptr_row nv nd to.var to.fields from) (ext0 s)
+              ≡ done_pass (assign p.shapes.structs Always s to from choice)
       set_ptr_passes to (RhsPath from) fits =
           let both : BothTarget (target to) (target from) = both_target (target to) (target from) fits in
           copied to.var to.fields both.struct (path_leads p to both.struct both.first) from

@@ -5,6 +5,7 @@ use Rattle.std.proofs.Common.{length, refl, sym, ap, ◌∙◌, subst, arith}
 use Rattle.fore_base.specs.declared.shape.Shape.{Shape}
 use Rattle.fore_base.specs.declared.store.Store.{Store}
 use Rattle.fore_base.specs.Heap.{IsProper, leaks}
+use Rattle.c_types.specs.declared.mode.MallocMode.TheVariants.{Always}
 use Rattle.c_types.specs.declared.outcome.Outcome.{Outcome}
 use Rattle.c_types.specs.declared.outcome.Outcome.TheVariants.{Ended, Fault, Starved, BadChoice, StillRunning}
 use Rattle.c_types.specs.declared.program.Atom.{Atom}
@@ -204,7 +205,7 @@ module _ (p : Program) (typed : is_typed p ≡ true) (edges : List Edge) (line :
   graph n q k g cs u = ggo p.shapes.structs edges (at_location edges) n q k g cs u
 
   abbrev source : ℕ → ℕ → Items → Store → List ℕ → ℕ → Outcome
-  source n st c s cs u = go p.shapes.structs line at_end n st c s cs u
+  source n st c s cs u = go p.shapes.structs Always line at_end n st c s cs u
 
   -- what the run of a program is at between its steps
   pub record Ready (c : Items) (s : Store) : Type 0 where
@@ -213,11 +214,11 @@ module _ (p : Program) (typed : is_typed p ≡ true) (edges : List Edge) (line :
     pub sound : Sound p s
     pub clear : leaks s ≡ false
 
-  pub next_ready : (c js : Items) (s t : Store) (x : ℕ) → Ready c s → turn_of p.shapes.structs (opened c) s x
+  pub next_ready : (c js : Items) (s t : Store) (x : ℕ) → Ready c s → turn_of p.shapes.structs Always (opened c) s x
       ≡ Goes js t → leaks t ≡ false → Each Place js Done → Ready js t
   next_ready c js s t x ready e clear each =
       let kept : ItemsFit p js × IsProper t × FitsProgram p t =
-      step_keeps p typed c js s t x ready.fits (sound_proper p s ready.sound) (sound_fits p s ready.sound) e in
+      step_keeps p typed Always c js s t x ready.fits (sound_proper p s ready.sound) (sound_fits p s ready.sound) e in
       record { places = each; fits = kept.0; sound = is_sound p t kept.1 kept.2; clear = clear }
 
   pub front_of : (c : Items) (s : Store) → Ready c s → Front Place (opened c)
@@ -281,7 +282,8 @@ module _ (p : Program) (typed : is_typed p ≡ true) (edges : List Edge) (line :
       → Still (source n st c s cs u) (graph n q (at (opened c)) (ext0 s) cs u))
       (c : Items) (s : Store) (ready : Ready c s) (st q : ℕ) (cs : List ℕ) (u : ℕ) where
     cut : (o : Items) → opened c ≡ o → 0 < size (length p.vars) (length p.data_vars) (opened c)
-        → Still (advance p.shapes.structs line at_end (opened c) (λ st js t ds v. source n st js t ds v) st s cs u)
+        → Still (advance p.shapes.structs Always line at_end (opened c)
+        (λ st js t ds v. source n st js t ds v) st s cs u)
         (graph (suc n) q (at (opened c)) (ext0 s) cs u)
     cut o is h =
         let k : ℕ = size (length p.vars) (length p.data_vars) (opened c) in
@@ -292,19 +294,21 @@ module _ (p : Program) (typed : is_typed p ≡ true) (edges : List Edge) (line :
         (longer p.shapes.structs edges (suc n) (k + n) (omega (arith, h)) q (at (opened c)) (ext0 s) cs u)
 
     ended_at_once : (o : Items) → o ≡ Done
-        → Still (advance p.shapes.structs line at_end o (λ st js t ds v. source n st js t ds v) st s cs u)
+        → Still (advance p.shapes.structs Always line at_end o (λ st js t ds v. source n st js t ds v) st s cs u)
         (graph (suc n) q (at o) (ext0 s) cs u)
     ended_at_once o is = subst
-        (λ z. Still (advance p.shapes.structs line at_end z (λ st js t ds v. source n st js t ds v) st s cs u)
+        (λ z. Still (advance p.shapes.structs Always line at_end z (λ st js t ds v. source n st js t ds v) st s cs u)
         (graph (suc n) q (at z) (ext0 s) cs u)) (sym is) tt
 
     long : (o : Items) → Place o → opened c ≡ o → 0 < size (length p.vars) (length p.data_vars) o
-        → Still (advance p.shapes.structs line at_end (opened c) (λ st js t ds v. source n st js t ds v) st s cs u)
+        → Still (advance p.shapes.structs Always line at_end (opened c)
+        (λ st js t ds v. source n st js t ds v) st s cs u)
         (graph (suc n) q (at (opened c)) (ext0 s) cs u)
     long o h is least = cut o is (subst (λ z. 0 < size (length p.vars) (length p.data_vars) z) (sym is) least)
 
     step_goes : (o : Items) → Place o → opened c ≡ o
-        → Still (advance p.shapes.structs line at_end (opened c) (λ st js t ds v. source n st js t ds v) st s cs u)
+        → Still (advance p.shapes.structs Always line at_end (opened c)
+        (λ st js t ds v. source n st js t ds v) st s cs u)
         (graph (suc n) q (at (opened c)) (ext0 s) cs u)
     step_goes Done h is = ended_at_once (opened c) is
     step_goes (Do a m js) h is =

@@ -7,6 +7,7 @@ use Rattle.fore_base.specs.declared.store.Datum.{Datum}
 use Rattle.fore_base.specs.declared.store.Store.{Store}
 use Rattle.fore_base.specs.Stores.{onward, kill}
 use Rattle.fore_base.specs.Heap.{leaks}
+use Rattle.c_types.specs.declared.mode.MallocMode.TheVariants.{Always}
 use Rattle.c_types.specs.declared.outcome.Outcome.{Outcome}
 use Rattle.c_types.specs.declared.outcome.Outcome.TheVariants.{Ended, Fault, StillRunning}
 use Rattle.c_types.specs.declared.program.Act.{Act}
@@ -167,32 +168,34 @@ module _ (p : Program) (typed : is_typed p ≡ true) (Rel : Outcome → Outcome 
     act_stops Continue is l ds v = λ r. equal _ _ refl
 
     abbrev Cont : Items → Type 0
-    Cont o = (x : ℕ) (ds : List ℕ) (v : ℕ) → Then (turn_of p.shapes.structs o s x) ds v
+    Cont o = (x : ℕ) (ds : List ℕ) (v : ℕ) → Then (turn_of p.shapes.structs Always o s x) ds v
 
     abbrev Goal : Items → Type 0
-    Goal o = Rel (advance p.shapes.structs line at_end o next step s cs u)
+    Goal o = Rel (advance p.shapes.structs Always line at_end o next step s cs u)
         (graph (size (length p.vars) (length p.data_vars) o + n) q (at o) (ext0 s) cs u)
 
     -- one side of a test is taken
-    side_on : (o : Items) (l : ℕ) (is : Items) → turn_of p.shapes.structs o s 0 ≡ settle s is → Each Place is Done
-        → Cont o → (r : ℕ) → Rel (out (turn_of p.shapes.structs o s 0) l cs u)
+    side_on : (o : Items) (l : ℕ) (is : Items) → turn_of p.shapes.structs Always o s 0 ≡ settle s is
+        → Each Place is Done
+        → Cont o → (r : ℕ) → Rel (out (turn_of p.shapes.structs Always o s 0) l cs u)
         (graph n r (at (opened is)) (ext0 s) cs u)
     side_on o l is e each on r =
-        let goes : turn_of p.shapes.structs o s 0 ≡ Goes is s = e ∙ rw clear refl in
+        let goes : turn_of p.shapes.structs Always o s 0 ≡ Goes is s = e ∙ rw clear refl in
         subst (λ z. Rel (out z l cs u) (graph n r (at (opened is)) (ext0 s) cs u)) (sym goes)
         (on 0 cs u is s goes clear each (step + 1) r)
 
     -- a side that is taken by one edge which changes nothing
-    settles : (o : Items) (l : ℕ) (is : Items) (x : ℕ) (ds : List ℕ) (v : ℕ) → turn_of p.shapes.structs o s x
+    settles : (o : Items) (l : ℕ) (is : Items) (x : ℕ) (ds : List ℕ) (v : ℕ) → turn_of p.shapes.structs Always o s x
         ≡ settle s is → Each Place is Done → Cont o
-        → Meets Rel equal p.shapes.structs edges (out (turn_of p.shapes.structs o s x) l ds v) l
+        → Meets Rel equal p.shapes.structs edges (out (turn_of p.shapes.structs Always o s x) l ds v) l
         (λ r t. graph n r (at (opened is)) t ds v) (settled_pass s)
     settles o l is x ds v e each on =
         subst
-        (λ z. Meets Rel equal p.shapes.structs edges (out (turn_of p.shapes.structs o s x) l ds v) l
+        (λ z. Meets Rel equal p.shapes.structs edges (out (turn_of p.shapes.structs Always o s x) l ds v) l
         (λ r t. graph n r (at (opened is)) t ds v) z)
         (sym (settle_pass Halted s is ∙ ap (λ z. turn_pass Halted z) (sym e)))
-        (turn_meets (turn_of p.shapes.structs o s x) is l Halted ds v (subst (GoesTo is) (sym e) (settle_to s is)) each
+        (turn_meets (turn_of p.shapes.structs Always o s x) is l Halted ds v
+            (subst (GoesTo is) (sym e) (settle_to s is)) each
         (on x ds v) (halts l is ds v))
 
     one_more : (o : Outcome) (k : ℕ) → Rel o (graph (suc n) q k (ext0 s) cs u) → Rel o (graph (1 + n) q k (ext0 s) cs u)
@@ -206,19 +209,19 @@ module _ (p : Program) (typed : is_typed p ≡ true) (Rel : Outcome → Outcome 
             → Cont (If (Ask ChoiceAtom m) x y is)
             → Rel
             (supply true cs (step + 1) u
-            (λ c ds v. out (turn_of p.shapes.structs (If (Ask ChoiceAtom m) x y is) s c) (line m) ds v))
+            (λ c ds v. out (turn_of p.shapes.structs Always (If (Ask ChoiceAtom m) x y is) s c) (line m) ds v))
             (graph (suc n) q k (ext0 s) cs u)
         choose_step k w on =
             subst
             (λ z.
             Rel
             (supply true cs (step + 1) u
-            (λ c ds v. out (turn_of p.shapes.structs (If (Ask ChoiceAtom m) x y is) s c) (line m) ds v)) z)
+            (λ c ds v. out (turn_of p.shapes.structs Always (If (Ask ChoiceAtom m) x y is) s c) (line m) ds v)) z)
             (sym (ap (λ es. leave p.shapes.structs es (λ st j t ds v. graph n st j t ds v) q (ext0 s) cs u) w)) (by cs)
           where
             by : (cs : List ℕ) → Rel
                 (supply true cs (step + 1) u
-                (λ c ds v. out (turn_of p.shapes.structs (If (Ask ChoiceAtom m) x y is) s c) (line m) ds v))
+                (λ c ds v. out (turn_of p.shapes.structs Always (If (Ask ChoiceAtom m) x y is) s c) (line m) ds v))
                 (leave p.shapes.structs (edge (line m) k (at (opened (y then is))) (Choose None) (Some 0)
                 ∷ edge (line m) k (at (opened (x then is))) (Choose None) (Some 1) ∷ [])
                 (λ st j t ds v. graph n st j t ds v) q (ext0 s) cs u)
@@ -235,13 +238,14 @@ module _ (p : Program) (typed : is_typed p ≡ true) (Rel : Outcome → Outcome 
 
         known_way : (o : Items) (k : ℕ) (js : Items)
             → out_of edges k ≡ edge (line m) k (at (opened js)) (Kill [] []) None
-            ∷ [] → turn_of p.shapes.structs o s 0 ≡ settle s js → Each Place js Done → Cont o
-            → Rel (out (turn_of p.shapes.structs o s 0) (line m) cs u) (graph (1 + n) q k (ext0 s) cs u)
+            ∷ [] → turn_of p.shapes.structs Always o s 0 ≡ settle s js → Each Place js Done → Cont o
+            → Rel (out (turn_of p.shapes.structs Always o s 0) (line m) cs u) (graph (1 + n) q k (ext0 s) cs u)
         known_way o k js w e each on =
-            along Rel equal p.shapes.structs edges (out (turn_of p.shapes.structs o s 0) (line m) cs u) (line m)
+            along Rel equal p.shapes.structs edges (out (turn_of p.shapes.structs Always o s 0) (line m) cs u) (line m)
             (One (Kill [] []) ∷ []) k (at (opened js) ∷ []) (at (opened js)) (w, refl) tt 0 n q (ext0 s) cs u
             (subst
-            (λ z. Meets Rel equal p.shapes.structs edges (out (turn_of p.shapes.structs o s 0) (line m) cs u) (line m)
+            (λ z. Meets Rel equal p.shapes.structs edges (out (turn_of p.shapes.structs Always o s 0) (line m) cs u)
+                (line m)
             (λ r t. graph n r (at (opened js)) t cs u) z)
             (settle_pass Halted s js ∙ sym (kill_passes p typed 0 s sound clear [] [] Halted js))
             (settles o (line m) js 0 cs u e each on))
@@ -305,17 +309,17 @@ module _ (p : Program) (typed : is_typed p ≡ true) (Rel : Outcome → Outcome 
     pub step_alike : (o : Items) → Front Place o → ItemsFit p o → Cont o → Goal o
     step_alike Done h fits on = equal _ _ (sym (exit_ends exit (0 + n) q (ext0 s) cs u))
     step_alike (Do a m is) h fits on =
-        row_alike Rel equal p.shapes.structs edges (act_takes a)
-        (λ x ds v. out (act_turn p.shapes.structs a is s x) (line m) ds v) (step + 1) (line m)
+        row_alike Rel equal p.shapes.structs edges (act_takes Always a)
+        (λ x ds v. out (act_turn p.shapes.structs Always a is s x) (line m) ds v) (step + 1) (line m)
         (act_row (length p.vars) (length p.data_vars) a is) (at (Do a m is)) h.0.0.way
         (at (opened (followed_by a is))) h.0.0.leads
         (act_row_takes (length p.vars) (length p.data_vars) a is) n q (ext0 s) cs u
         (λ x ds v.
         subst
-        (λ z. Meets Rel equal p.shapes.structs edges (out (act_turn p.shapes.structs a is s x) (line m) ds v)
+        (λ z. Meets Rel equal p.shapes.structs edges (out (act_turn p.shapes.structs Always a is s x) (line m) ds v)
         (line m) (λ r t. graph n r (at (opened (followed_by a is))) t ds v) z)
         (sym (act_passes p typed x s sound clear a is fits.0))
-        (turn_meets (act_turn p.shapes.structs a is s x) (followed_by a is) (line m) (stop_of a s) ds v
+        (turn_meets (act_turn p.shapes.structs Always a is s x) (followed_by a is) (line m) (stop_of a s) ds v
         (act_to p.shapes.structs a is s x) (each_followed p edges line at mids most a is h.1.1) (on x ds v)
         (act_stops a is (line m) ds v)))
     step_alike (Close ps ds m is) h fits on =

@@ -10,6 +10,7 @@ use Rattle.fore_base.specs.Lists.{IsIn, Every}
 use Rattle.fore_base.specs.Stores.{kill}
 use Rattle.fore_base.specs.Heap.{leaks}
 use Rattle.fore_base.proofs.ListLemmas.{every_in, every_parts}
+use Rattle.c_types.specs.declared.mode.MallocMode.TheVariants.{Always}
 use Rattle.c_types.specs.declared.program.Act.{Act}
 use Rattle.c_types.specs.declared.program.Act.TheVariants.{SetPtr, SetData, Free, Error, Halt, Return, Break, Continue}
 use Rattle.c_types.specs.declared.program.Atom.{Atom}
@@ -460,7 +461,8 @@ module _ (p : Program) (typed : is_typed p ≡ true) (edges : List Edge) (line :
 
   module _ (c : Items) (t : Store) (r : IsReady c t) where
     -- where a turn leads
-    turn_lands : (turn : Turn) (x : ℕ) (is : Items) (stop : Pass) → turn_of p.shapes.structs (opened c) t x ≡ turn
+    turn_lands : (turn : Turn) (x : ℕ) (is : Items) (stop : Pass) → turn_of p.shapes.structs Always (opened c) t x
+        ≡ turn
         → GoesTo is turn → Each Place is Done → Each Among is Done → Lands Settled (at (opened is)) stop
         → Lands Settled (at (opened is)) (turn_pass stop turn)
     turn_lands (Goes js u) x is stop e to each among stops =
@@ -547,21 +549,22 @@ module _ (p : Program) (typed : is_typed p ≡ true) (edges : List Edge) (line :
     place_steps : (o : Items) → opened c ≡ o → Front Place o → Front Among o → ItemsFit p o → Steps (at o) (ext0 t)
     place_steps Done e h among fits = on_edges (at Done) [] (ext0 t) exit (no_edges (ext0 t))
     place_steps (Do a m is) e h among fits =
-        row_steps (act_takes a) (line m) (act_row (length p.vars) (length p.data_vars) a is) (at (Do a m is)) h.0.0.way
+        row_steps (act_takes Always a) (line m) (act_row (length p.vars) (length p.data_vars) a is)
+        (at (Do a m is)) h.0.0.way
         (at (opened (followed_by a is))) (ext0 t) h.0.0.leads
         (act_row_takes (length p.vars) (length p.data_vars) a is)
         (act_filled (length p.vars) (length p.data_vars) a is)
         (λ x. subst (Lands Settled (at (opened (followed_by a is))))
         (sym (act_passes p typed x t r.sound r.clear a is fits.0))
-        (turn_lands (act_turn p.shapes.structs a is t x) x (followed_by a is) (stop_of a t)
-        (ap (λ z. turn_of p.shapes.structs z t x) e) (act_to p.shapes.structs a is t x)
+        (turn_lands (act_turn p.shapes.structs Always a is t x) x (followed_by a is) (stop_of a t)
+        (ap (λ z. turn_of p.shapes.structs Always z t x) e) (act_to p.shapes.structs a is t x)
         (each_followed p edges line at mids most a is h.1.1) (among_followed a is among.1.1) (act_stops a is)))
         (subst (λ ks. Every IsMid ks) h.0.0.middle (place_mids (Do a m is) among.0 (λ e. cc e)))
     place_steps (Close ps ds m is) e h among fits =
         row_steps false (line m) (One (Kill ps ds) ∷ []) (at (Close ps ds m is)) h.0.0.way (at (opened is)) (ext0 t)
         h.0.0.leads tt tt
         (λ x. subst (Lands Settled (at (opened is))) (sym (kill_passes p typed x t r.sound r.clear ps ds Halted is))
-        (turn_lands (settle (kill ps ds t) is) x is Halted (ap (λ z. turn_of p.shapes.structs z t x) e)
+        (turn_lands (settle (kill ps ds t) is) x is Halted (ap (λ z. turn_of p.shapes.structs Always z t x) e)
         (settle_to (kill ps ds t) is) h.1.1 among.1.1 tt))
         (subst (λ ks. Every IsMid ks) h.0.0.middle (place_mids (Close ps ds m is) among.0 (λ e. cc e)))
     place_steps (If (Ask a m) x y is) e h among fits =

@@ -3,6 +3,7 @@
 use Rattle.std.proofs.Common.{◌≡◌, ◌≤◌, ℕ, zero, suc, true, false, List, [], ◌∷◌, refl, sym, subst, arith}
 use Rattle.fore_base.specs.declared.fault.Fault.TheVariants.{Leak, Assertion}
 use Rattle.fore_base.specs.Heap.{leaks}
+use Rattle.c_types.specs.declared.mode.MallocMode.TheVariants.{Always}
 use Rattle.c_types.specs.declared.outcome.Outcome.{Outcome}
 use Rattle.c_types.specs.declared.outcome.Outcome.TheVariants.{Ended, Fault, Starved, BadChoice, StillRunning}
 use Rattle.c_types.specs.declared.program.Act.TheVariants.{SetPtr, SetData, Error, Halt}
@@ -60,11 +61,11 @@ halting = main 0 0 (Do Halt 4 ∷ [])
 abbrev stopping : ControlGraph
 stopping = graph 2 2 2 (goes 0 1 (Stop false) 4 ∷ []) []
 
-program_waits : (choices : List ℕ) → run halting choices 0 ≡ StillRunning
+program_waits : (choices : List ℕ) → run halting Always choices 0 ≡ StillRunning
 unfolding leaks run
 program_waits choices = simp layers refl
 
-program_ends : (choices : List ℕ) (n : ℕ) → run halting choices (suc n) ≡ Ended 1
+program_ends : (choices : List ℕ) (n : ℕ) → run halting Always choices (suc n) ≡ Ended 1
 unfolding leaks run
 program_ends choices n = simp layers refl
 
@@ -81,7 +82,7 @@ neither : (Is : Outcome → Type 0) → (Is StillRunning → ⊥) → (Is (Ended
     → BothCome halting stopping choices Is
 neither Is running ended choices = record { there = λ n h. absurd (program n h); back = λ m h. absurd (graph_too m h) }
   where
-    program : (n : ℕ) → Is (run halting choices n) → ⊥
+    program : (n : ℕ) → Is (run halting Always choices n) → ⊥
     program zero h = running (subst Is (program_waits choices) h)
     program (suc n) h = ended (subst Is (program_ends choices n) h)
 
@@ -92,7 +93,7 @@ neither Is running ended choices = record { there = λ n h. absurd (program n h)
 both_end : (choices : List ℕ) → BothCome halting stopping choices IsEnded
 both_end choices = record { there = λ n h. (1, subst IsEnded (sym (graph_ends choices 0)) (1, refl)); back = back }
   where
-    back : (m : ℕ) → IsEnded (grun stopping choices m) → (n : ℕ) × (n ≤ m) × IsEnded (run halting choices n)
+    back : (m : ℕ) → IsEnded (grun stopping choices m) → (n : ℕ) × (n ≤ m) × IsEnded (run halting Always choices n)
     back zero h = let h1 : IsEnded StillRunning = subst IsEnded (graph_waits choices) h in absurd (cc h1.1)
     back (suc m) h = (1, omega arith, subst IsEnded (sym (program_ends choices 0)) (1, refl))
 
@@ -109,24 +110,24 @@ both_agree = record {
 abbrev failing : Program
 failing = main 1 0 (Do (SetPtr (var 0) RhsNull) 3 ∷ Do Error 4 ∷ [])
 
-goes_on : run failing [] 0 ≡ StillRunning
+goes_on : run failing Always [] 0 ≡ StillRunning
 unfolding leaks run
 goes_on = simp layers refl
 
-goes_on_still : run failing [] 1 ≡ StillRunning
+goes_on_still : run failing Always [] 1 ≡ StillRunning
 unfolding leaks run
 goes_on_still = simp layers refl
 
-fails : (n : ℕ) → run failing [] (suc (suc n)) ≡ Fault Assertion 4 2
+fails : (n : ℕ) → run failing Always [] (suc (suc n)) ≡ Fault Assertion 4 2
 unfolding leaks run
 fails n = simp layers refl
 
-never_ends : (n : ℕ) → IsEnded (run failing [] n) → ⊥
+never_ends : (n : ℕ) → IsEnded (run failing Always [] n) → ⊥
 never_ends zero h = let e : IsEnded StillRunning = subst IsEnded goes_on h in cc e.1
 never_ends (suc zero) h = let e : IsEnded StillRunning = subst IsEnded goes_on_still h in cc e.1
 never_ends (suc (suc n)) h = let e : IsEnded (Fault Assertion 4 2) = subst IsEnded (fails n) h in cc e.1
 
-not_in_one : (n : ℕ) → n ≤ 1 → IsFaultAt Assertion 4 (run failing [] n) → ⊥
+not_in_one : (n : ℕ) → n ≤ 1 → IsFaultAt Assertion 4 (run failing Always [] n) → ⊥
 not_in_one zero less h = let e : IsFaultAt Assertion 4 StillRunning = subst (IsFaultAt Assertion 4) goes_on h in cc e.1
 not_in_one (suc zero) less h =
     let e : IsFaultAt Assertion 4 StillRunning = subst (IsFaultAt Assertion 4) goes_on_still h in cc e.1
@@ -172,11 +173,11 @@ refuses_too_soon a = let found = (a.faults [] Assertion 4).back 1 it_fails in no
 abbrev choosing : Program
 choosing = main 0 1 (Do (SetData (DataVar 0) DataRhsChoice) 3 ∷ [])
 
-wants : run choosing [] 1 ≡ Starved 1
+wants : run choosing Always [] 1 ≡ Starved 1
 unfolding leaks run
 wants = simp layers refl
 
-refuses : run choosing (2 ∷ []) 1 ≡ BadChoice 0
+refuses : run choosing Always (2 ∷ []) 1 ≡ BadChoice 0
 unfolding leaks run
 refuses = simp layers refl
 

@@ -11,42 +11,43 @@ use Rattle.c_types.specs.declared.outcome.Outcome.TheVariants.{Ended, Fault, Sta
 use Rattle.c_types.specs.Program.{Program}
 use Rattle.c_types.specs.Runs.{run}
 use Rattle.c_types.proofs.Layers.{layers}
-use Rattle.c_types.proofs.Rows.Forms.{nodes, var, arrow, choice, literal, compare, is_set, has, null, put, error, leave}
+use Rattle.c_types.proofs.Rows.Forms.{always, nodes, var, arrow, choice, literal, compare, is_set, has, null, put}
+use Rattle.c_types.proofs.Rows.Forms.{error, leave}
 use Rattle.c_types.proofs.Rows.Forms.{main}
 
 -- 2 .. 7 if (c) 8 error();  else 9 return 0;
 abbrev if_so : Cond → Program
 if_so c = main nodes 1 0 (Branch c (error 8 ∷ []) (leave 9 ∷ []) ∷ []) 10
 
-choice_of_one : run (if_so (choice 2)) (1 ∷ []) 20 ≡ Fault Assertion 8 2
+choice_of_one : always (if_so (choice 2)) (1 ∷ []) 20 ≡ Fault Assertion 8 2
 unfolding leaks run
 choice_of_one = simp layers refl
 
-choice_of_zero : run (if_so (choice 2)) (0 ∷ []) 20 ≡ Ended 2
+choice_of_zero : always (if_so (choice 2)) (0 ∷ []) 20 ≡ Ended 2
 unfolding leaks run
 choice_of_zero = simp layers refl
 
-choice_missing : run (if_so (choice 2)) [] 20 ≡ Starved 1
+choice_missing : always (if_so (choice 2)) [] 20 ≡ Starved 1
 unfolding leaks run
 choice_missing = simp layers refl
 
-literal_true : run (if_so (literal true 2)) [] 20 ≡ Fault Assertion 8 2
+literal_true : always (if_so (literal true 2)) [] 20 ≡ Fault Assertion 8 2
 unfolding leaks run
 literal_true = simp layers refl
 
-literal_false : run (if_so (literal false 2)) [] 20 ≡ Ended 2
+literal_false : always (if_so (literal false 2)) [] 20 ≡ Ended 2
 unfolding leaks run
 literal_false = simp layers refl
 
-not_one : run (if_so (Not (choice 2))) (1 ∷ []) 20 ≡ Ended 2
+not_one : always (if_so (Not (choice 2))) (1 ∷ []) 20 ≡ Ended 2
 unfolding leaks run
 not_one = simp layers refl
 
-not_zero : run (if_so (Not (choice 2))) (0 ∷ []) 20 ≡ Fault Assertion 8 2
+not_zero : always (if_so (Not (choice 2))) (0 ∷ []) 20 ≡ Fault Assertion 8 2
 unfolding leaks run
 not_zero = simp layers refl
 
-not_not : run (if_so (Not (Not (choice 2)))) (1 ∷ []) 20 ≡ Fault Assertion 8 2
+not_not : always (if_so (Not (Not (choice 2)))) (1 ∷ []) 20 ≡ Fault Assertion 8 2
 unfolding leaks run
 not_not = simp layers refl
 
@@ -54,19 +55,19 @@ not_not = simp layers refl
 abbrev both : Cond
 both = All (choice 2 ∷ choice 3 ∷ [])
 
-and_no : run (if_so both) (0 ∷ []) 20 ≡ Ended 2
+and_no : always (if_so both) (0 ∷ []) 20 ≡ Ended 2
 unfolding leaks run
 and_no = simp layers refl
 
-and_yes_no : run (if_so both) (1 ∷ 0 ∷ []) 20 ≡ Ended 3
+and_yes_no : always (if_so both) (1 ∷ 0 ∷ []) 20 ≡ Ended 3
 unfolding leaks run
 and_yes_no = simp layers refl
 
-and_yes_yes : run (if_so both) (1 ∷ 1 ∷ []) 20 ≡ Fault Assertion 8 3
+and_yes_yes : always (if_so both) (1 ∷ 1 ∷ []) 20 ≡ Fault Assertion 8 3
 unfolding leaks run
 and_yes_yes = simp layers refl
 
-and_asks_both : run (if_so both) (1 ∷ []) 20 ≡ Starved 2
+and_asks_both : always (if_so both) (1 ∷ []) 20 ≡ Starved 2
 unfolding leaks run
 and_asks_both = simp layers refl
 
@@ -74,83 +75,83 @@ and_asks_both = simp layers refl
 abbrev either : Cond
 either = Any (choice 2 ∷ choice 3 ∷ [])
 
-or_yes : run (if_so either) (1 ∷ []) 20 ≡ Fault Assertion 8 2
+or_yes : always (if_so either) (1 ∷ []) 20 ≡ Fault Assertion 8 2
 unfolding leaks run
 or_yes = simp layers refl
 
-or_no_yes : run (if_so either) (0 ∷ 1 ∷ []) 20 ≡ Fault Assertion 8 3
+or_no_yes : always (if_so either) (0 ∷ 1 ∷ []) 20 ≡ Fault Assertion 8 3
 unfolding leaks run
 or_no_yes = simp layers refl
 
-or_no_no : run (if_so either) (0 ∷ 0 ∷ []) 20 ≡ Ended 3
+or_no_no : always (if_so either) (0 ∷ 0 ∷ []) 20 ≡ Ended 3
 unfolding leaks run
 or_no_no = simp layers refl
 
-or_asks_both : run (if_so either) (0 ∷ []) 20 ≡ Starved 2
+or_asks_both : always (if_so either) (0 ∷ []) 20 ≡ Starved 2
 unfolding leaks run
 or_asks_both = simp layers refl
 
-not_and_no : run (if_so (Not both)) (0 ∷ []) 20 ≡ Fault Assertion 8 2
+not_and_no : always (if_so (Not both)) (0 ∷ []) 20 ≡ Fault Assertion 8 2
 unfolding leaks run
 not_and_no = simp layers refl
 
-not_and_yes : run (if_so (Not both)) (1 ∷ 1 ∷ []) 20 ≡ Ended 3
+not_and_yes : always (if_so (Not both)) (1 ∷ 1 ∷ []) 20 ≡ Ended 3
 unfolding leaks run
 not_and_yes = simp layers refl
 
-not_or_yes : run (if_so (Not either)) (1 ∷ []) 20 ≡ Ended 2
+not_or_yes : always (if_so (Not either)) (1 ∷ []) 20 ≡ Ended 2
 unfolding leaks run
 not_or_yes = simp layers refl
 
-not_or_no : run (if_so (Not either)) (0 ∷ 0 ∷ []) 20 ≡ Fault Assertion 8 3
+not_or_no : always (if_so (Not either)) (0 ∷ 0 ∷ []) 20 ≡ Fault Assertion 8 3
 unfolding leaks run
 not_or_no = simp layers refl
 
 -- one part, and three
-and_of_one : run (if_so (All (choice 2 ∷ []))) (1 ∷ []) 20 ≡ Fault Assertion 8 2
+and_of_one : always (if_so (All (choice 2 ∷ []))) (1 ∷ []) 20 ≡ Fault Assertion 8 2
 unfolding leaks run
 and_of_one = simp layers refl
 
-or_of_one : run (if_so (Any (choice 2 ∷ []))) (0 ∷ []) 20 ≡ Ended 2
+or_of_one : always (if_so (Any (choice 2 ∷ []))) (0 ∷ []) 20 ≡ Ended 2
 unfolding leaks run
 or_of_one = simp layers refl
 
-and_of_three : run (if_so (All (choice 2 ∷ choice 3 ∷ choice 4 ∷ []))) (1 ∷ 1 ∷ 1 ∷ []) 20 ≡ Fault Assertion 8 4
+and_of_three : always (if_so (All (choice 2 ∷ choice 3 ∷ choice 4 ∷ []))) (1 ∷ 1 ∷ 1 ∷ []) 20 ≡ Fault Assertion 8 4
 unfolding leaks run
 and_of_three = simp layers refl
 
-and_of_three_stops : run (if_so (All (choice 2 ∷ choice 3 ∷ choice 4 ∷ []))) (1 ∷ 0 ∷ []) 20 ≡ Ended 3
+and_of_three_stops : always (if_so (All (choice 2 ∷ choice 3 ∷ choice 4 ∷ []))) (1 ∷ 0 ∷ []) 20 ≡ Ended 3
 unfolding leaks run
 and_of_three_stops = simp layers refl
 
-or_of_three : run (if_so (Any (choice 2 ∷ choice 3 ∷ choice 4 ∷ []))) (0 ∷ 0 ∷ 1 ∷ []) 20 ≡ Fault Assertion 8 4
+or_of_three : always (if_so (Any (choice 2 ∷ choice 3 ∷ choice 4 ∷ []))) (0 ∷ 0 ∷ 1 ∷ []) 20 ≡ Fault Assertion 8 4
 unfolding leaks run
 or_of_three = simp layers refl
 
-or_of_three_stops : run (if_so (Any (choice 2 ∷ choice 3 ∷ choice 4 ∷ []))) (0 ∷ 1 ∷ []) 20 ≡ Fault Assertion 8 3
+or_of_three_stops : always (if_so (Any (choice 2 ∷ choice 3 ∷ choice 4 ∷ []))) (0 ∷ 1 ∷ []) 20 ≡ Fault Assertion 8 3
 unfolding leaks run
 or_of_three_stops = simp layers refl
 
 -- (a || b) && c, and a && b || c
-or_in_and : run (if_so (All (either ∷ choice 4 ∷ []))) (0 ∷ 1 ∷ 0 ∷ []) 20 ≡ Ended 4
+or_in_and : always (if_so (All (either ∷ choice 4 ∷ []))) (0 ∷ 1 ∷ 0 ∷ []) 20 ≡ Ended 4
 unfolding leaks run
 or_in_and = simp layers refl
 
-or_in_and_skips : run (if_so (All (either ∷ choice 4 ∷ []))) (1 ∷ 1 ∷ []) 20 ≡ Fault Assertion 8 3
+or_in_and_skips : always (if_so (All (either ∷ choice 4 ∷ []))) (1 ∷ 1 ∷ []) 20 ≡ Fault Assertion 8 3
 unfolding leaks run
 or_in_and_skips = simp layers refl
 
-and_in_or : run (if_so (Any (both ∷ choice 4 ∷ []))) (0 ∷ 1 ∷ []) 20 ≡ Fault Assertion 8 3
+and_in_or : always (if_so (Any (both ∷ choice 4 ∷ []))) (0 ∷ 1 ∷ []) 20 ≡ Fault Assertion 8 3
 unfolding leaks run
 and_in_or = simp layers refl
 
-and_in_or_skips : run (if_so (Any (both ∷ choice 4 ∷ []))) (1 ∷ 1 ∷ []) 20 ≡ Fault Assertion 8 3
+and_in_or_skips : always (if_so (Any (both ∷ choice 4 ∷ []))) (1 ∷ 1 ∷ []) 20 ≡ Fault Assertion 8 3
 unfolding leaks run
 and_in_or_skips = simp layers refl
 
 -- 2 p = NULL;  if (p != NULL 3 && p->next == NULL 4) 8 error();  9 return 0;
 and_guards :
-    run
+    always
     (main nodes 1 0
     (null (var 0) 2 ∷ Branch (All (is_set 0 3 ∷ compare (OpPath (arrow 0 0)) OpNull true 4 ∷ [])) (error 8 ∷ []) []
     ∷ leave 9 ∷ []) 10) [] 20 ≡ Ended 3
@@ -159,7 +160,7 @@ and_guards = simp layers refl
 
 -- the same with ||: the second atom meets its fault in its own line
 or_does_not :
-    run
+    always
     (main nodes 1 0
     (null (var 0) 2 ∷ Branch (Any (is_set 0 3 ∷ compare (OpPath (arrow 0 0)) OpNull true 4 ∷ [])) (error 8 ∷ []) []
     ∷ leave 9 ∷ []) 10) [] 20 ≡ Fault NullDeref 4 3
@@ -173,10 +174,10 @@ sides =
     main [] 0 1 (Branch (choice 2) (put (DataVar 0) 1 3 ∷ []) (put (DataVar 0) 2 4 ∷ [])
     ∷ Branch (has 0 1 5) [] (error 5 ∷ []) ∷ leave 6 ∷ []) 7
 
-yes_side : run (sides) (1 ∷ []) 20 ≡ Ended 4
+yes_side : always (sides) (1 ∷ []) 20 ≡ Ended 4
 unfolding leaks run
 yes_side = simp layers refl
 
-no_side : run (sides) (0 ∷ []) 20 ≡ Fault Assertion 5 4
+no_side : always (sides) (0 ∷ []) 20 ≡ Fault Assertion 5 4
 unfolding leaks run
 no_side = simp layers refl

@@ -3,6 +3,8 @@ use Rattle.std.proofs.Common.{ℕ, Bool, true, false, None, List, [], ◌∷◌,
 use Rattle.fore_base.specs.declared.shape.Shape.{Shape}
 use Rattle.fore_base.specs.declared.shape.FieldDef.{FieldDef}
 use Rattle.fore_base.specs.declared.shape.FieldKind.TheVariants.{Pointer, Datum}
+use Rattle.c_types.specs.declared.mode.MallocMode.TheVariants.{Always, MayFail}
+use Rattle.c_types.specs.declared.outcome.Outcome.{Outcome}
 use Rattle.c_types.specs.declared.program.Path.{Path}
 use Rattle.c_types.specs.declared.program.DataPath.{DataPath}
 use Rattle.c_types.specs.declared.program.DataPath.TheVariants.{Var as DataVar, Field as DataField}
@@ -21,6 +23,7 @@ use Rattle.c_types.specs.declared.program.Cond.TheVariants.{Atom}
 use Rattle.c_types.specs.declared.program.Stmt.{Stmt}
 use Rattle.c_types.specs.declared.program.Stmt.TheVariants.{Do, Group}
 use Rattle.c_types.specs.Program.{Program}
+use Rattle.c_types.specs.Runs.{run}
 
 -- Structs
 
@@ -149,3 +152,11 @@ main_with shapes ptrs datums body ps ds close =
       data_vars = replicate datums [];
       body = Group body ps ds close ∷ [];
     }
+
+-- the run in which each `malloc` gives a cell
+abbrev pub always : Program → List ℕ → ℕ → Outcome
+always p choices steps = run p Always choices steps
+
+-- the run in which each `malloc` may fail
+abbrev pub failing : Program → List ℕ → ℕ → Outcome
+failing p choices steps = run p MayFail choices steps

@@ -19,6 +19,7 @@ use Rattle.c_types.specs.declared.program.Act.{Act}
 use Rattle.c_types.specs.declared.program.Act.TheVariants.{SetPtr, SetData, Free, Error, Halt, Return, Break, Continue}
 use Rattle.c_types.specs.Program.{Program}
 use Rattle.c_types.specs.Control.{start_of, Items, Done, Do, Close, If, Loop, Again, DoLoop, DoAgain, Ask}
+use Rattle.c_types.specs.declared.mode.MallocMode.TheVariants.{Always, MayFail}
 use Rattle.c_types.specs.Losses.{loses}
 use Rattle.c_types.specs.Fits.{FitsProgram, Visited, start, step, ActFits, ItemsFit}
 use Rattle.c_types.specs.Over.{IsOver, IsFault, IsStarved}
@@ -252,15 +253,27 @@ makes = main nodes 1 0 (new (var 0) 2 ∷ []) 3
 makes_items : start_of makes ≡ Do (SetPtr (var 0) (RhsNew 0)) 2 Done
 makes_items = simp layers refl
 
-at_first : Visited makes (Do (SetPtr (var 0) (RhsNew 0)) 2 Done)
+at_first : Visited makes Always (Do (SetPtr (var 0) (RhsNew 0)) 2 Done)
     (record { vars = Uninit ∷ []; data_vars = []; cells = []; next = 1 })
-at_first = subst (λ is. Visited makes is (record { vars = Uninit ∷ []; data_vars = []; cells = []; next = 1 }))
+at_first = subst (λ is. Visited makes Always is (record { vars = Uninit ∷ []; data_vars = []; cells = []; next = 1 }))
     makes_items start
 
-after_one : Visited makes Done
+after_one : Visited makes Always Done
     (record { vars = Cell 1 ∷ []; data_vars = []; cells = cell_of 1 0 [] (Uninit ∷ []) ∷ []; next = 2 })
 unfolding leaks
 after_one = step 0 at_first refl
+
+-- the same where the `malloc` fails
+
+failed_first : Visited makes MayFail (Do (SetPtr (var 0) (RhsNew 0)) 2 Done)
+    (record { vars = Uninit ∷ []; data_vars = []; cells = []; next = 1 })
+failed_first = subst (λ is. Visited makes MayFail is
+    (record { vars = Uninit ∷ []; data_vars = []; cells = []; next = 1 }))
+    makes_items start
+
+after_a_failure : Visited makes MayFail Done (record { vars = Null ∷ []; data_vars = []; cells = []; next = 1 })
+unfolding leaks
+after_a_failure = step 0 failed_first refl
 
 -- Runs that are over
 

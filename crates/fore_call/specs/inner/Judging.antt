@@ -2,6 +2,7 @@
 use Rattle.std.specs.Prelude.{◌≡◌, ◌≤◌, ◌⊎◌, ⊤, ℕ, List, []}
 use Rattle.fore_base.specs.declared.named_files.NamedFile.{NamedFile}
 use Rattle.fore_base.specs.declared.shape.Shapes.{Shapes}
+use Rattle.c_types.specs.declared.mode.MallocMode.TheVariants.{Always}
 use Rattle.c_types.specs.Program.{Program}
 use Rattle.c_types.specs.Runs.{run}
 use Rattle.fore_read.specs.Readings.{Reading, AreReadings, HasFailed}
@@ -35,7 +36,7 @@ IsVerdict p settings NoMemory = ⊤
 -- what `run` answers of a program
 abbrev pub IsRunOf : Program → List ℕ → ℕ → Answer → Type 0
 IsRunOf p choices steps (Verified verdict text) = ⊥
-IsRunOf p choices steps (Ran outcome) = outcome ≡ run p choices steps
+IsRunOf p choices steps (Ran outcome) = outcome ≡ run p Always choices steps
 IsRunOf p choices steps Usage = ⊥
 IsRunOf p choices steps (Refused why) = ⊥
 IsRunOf p choices steps ReadFault = ⊥

@@ -15,9 +15,10 @@ settle-requires-clause-kept c = λ h.
     let is : Items = pending c.args.stack.now.items in
     let none : act_loses act is s ≡ false = sym (ap (λ xs. act_loses act (pending xs) s) c.as_slice.ensures.value)
     ∙ sym c.act_loses-lost.ensures ∙ h in
-    act_kept shapes act is s c.args.choice c.assign-done.result (assign shapes s c.in-SetPtr.to c.in-SetPtr.from)
+    act_kept shapes c.args.mode act is s c.args.choice c.assign-done.result
+    (assign shapes c.args.mode s c.in-SetPtr.to c.in-SetPtr.from c.args.choice)
     c.assign-done.new.heap c.requires.unleaked
-    c.assign-done.ensures.done (ap (λ a. act_turn shapes a is s c.args.choice) c.in-SetPtr.is) none
+    c.assign-done.ensures.done (ap (λ a. act_turn shapes c.args.mode a is s c.args.choice) c.in-SetPtr.is) none
 
 pub settle-requires-in-SetData-clause-kept : goal.settle-requires-in-SetData-clause-kept
 settle-requires-in-SetData-clause-kept c = λ h.
@@ -27,9 +28,10 @@ settle-requires-in-SetData-clause-kept c = λ h.
     let is : Items = pending c.args.stack.now.items in
     let none : act_loses act is s ≡ false = sym (ap (λ xs. act_loses act (pending xs) s) c.as_slice.ensures.value)
     ∙ sym c.act_loses-lost.ensures ∙ h in
-    act_kept shapes act is s c.args.choice c.assign_data-done.result
+    act_kept shapes c.args.mode act is s c.args.choice c.assign_data-done.result
     (assign_data s c.in-SetData.to c.in-SetData.from c.args.choice) c.assign_data-done.new.heap
-    c.requires.unleaked c.assign_data-done.ensures.done (ap (λ a. act_turn shapes a is s c.args.choice) c.in-SetData.is)
+    c.requires.unleaked c.assign_data-done.ensures.done
+    (ap (λ a. act_turn shapes c.args.mode a is s c.args.choice) c.in-SetData.is)
     none
 
 pub settle-requires-in-Break-clause-kept : goal.settle-requires-in-Break-clause-kept
@@ -41,8 +43,8 @@ settle-requires-in-Break-clause-kept c = λ h.
     let none : act_loses act is s ≡ false = sym (ap (λ xs. act_loses act (pending xs) s) c.as_slice.ensures.value)
     ∙ sym c.act_loses-lost.ensures ∙ h in
     ap leaks c.leave_round.ensures.store
-    ∙ leave_kept shapes act is s c.args.choice (leaving is s) (after_again is) c.requires.unleaked
-    (ap (λ a. act_turn shapes a is s c.args.choice) c.in-Break.is) none
+    ∙ leave_kept shapes c.args.mode act is s c.args.choice (leaving is s) (after_again is) c.requires.unleaked
+    (ap (λ a. act_turn shapes c.args.mode a is s c.args.choice) c.in-Break.is) none
 
 pub settle-requires-in-Continue-clause-kept : goal.settle-requires-in-Continue-clause-kept
 settle-requires-in-Continue-clause-kept c = λ h.
@@ -53,5 +55,5 @@ settle-requires-in-Continue-clause-kept c = λ h.
     let none : act_loses act is s ≡ false = sym (ap (λ xs. act_loses act (pending xs) s) c.as_slice.ensures.value)
     ∙ sym c.act_loses-lost.ensures ∙ h in
     ap leaks c.leave_round-in-Continue.ensures.store
-    ∙ leave_kept shapes act is s c.args.choice (leaving is s) (from_again is) c.requires.unleaked
-    (ap (λ a. act_turn shapes a is s c.args.choice) c.in-Continue.is) none
+    ∙ leave_kept shapes c.args.mode act is s c.args.choice (leaving is s) (from_again is) c.requires.unleaked
+    (ap (λ a. act_turn shapes c.args.mode a is s c.args.choice) c.in-Continue.is) none

@@ -9,28 +9,32 @@ use Rattle.c_machine.proofs.machine.take_step.Goals as goal
 pub returns-in-Act-clause-turn : goal.returns-in-Act-clause-turn
 returns-in-Act-clause-turn c =
     let old = c.args.control.now in
-    act_comes c.args.shapes.now old.front old.parts.items (pending old.stack.items) c.args.heap.now c.args.choice
+    act_comes c.args.shapes.now c.args.mode old.front old.parts.items
+    (pending old.stack.items) c.args.heap.now c.args.choice
     c.in-Act.act c.in-Act.line c.take_act.result (pending c.take_act.new.stack.items) c.take_act.new.heap _ c.in-Act.is
     c.take_act.ensures.turn refl
 
 pub returns-in-Ok-clause-turn : goal.returns-in-Ok-clause-turn
 returns-in-Ok-clause-turn c =
     let old = c.args.control.now in
-    test_comes c.args.shapes.now old.front old.parts.items (pending old.stack.items) c.args.heap.now c.args.choice
+    test_comes c.args.shapes.now c.args.mode old.front old.parts.items
+    (pending old.stack.items) c.args.heap.now c.args.choice
     c.in-Test.atom c.in-Test.line c.in-Test.sides c.in-Ok.outcome Goes c.answer.new.control c.in-Test.is c.in-Ok.ensures
     (λ is. settle_goes c.args.heap.now is c.requires.unleaked) c.answer.ensures
 
 pub returns-in-Truth-clause-turn : goal.returns-in-Truth-clause-turn
 returns-in-Truth-clause-turn c =
     let old = c.args.control.now in
-    truth_comes c.args.shapes.now old.front old.parts.items (pending old.stack.items) c.args.heap.now c.args.choice
+    truth_comes c.args.shapes.now c.args.mode old.front old.parts.items
+    (pending old.stack.items) c.args.heap.now c.args.choice
     c.in-Truth.sides Goes c.answer-in-Truth.new.control c.in-Truth.is
     (λ is. settle_goes c.args.heap.now is c.requires.unleaked) c.answer-in-Truth.ensures
 
 pub returns-in-Close-clause-turn : goal.returns-in-Close-clause-turn
 returns-in-Close-clause-turn c =
     let old = c.args.control.now in
-    close_comes c.args.shapes.now old.front old.parts.items (pending old.stack.items) c.args.heap.now c.args.choice
+    close_comes c.args.shapes.now c.args.mode old.front old.parts.items
+    (pending old.stack.items) c.args.heap.now c.args.choice
     c.in-Close.ptrs c.in-Close.datums c.in-Close.line c.settle.result c.kill.new.self _ c.in-Close.is c.kill.ensures
     c.settle.ensures.turn refl
 
