@@ -185,7 +185,7 @@ module _ (f : ℕ → ℕ) where
         → ((st : ℕ) (js : Items) (t : Store) (ds : List ℕ) (v : ℕ) → next st (remark f js) t ds v ≡ other st js t ds v)
         → (o : Items) (st : ℕ) (s : Store) (cs : List ℕ) (u : ℕ)
         → advance shapes Always own_line at_end (remark f o) next st s cs u
-            ≡ advance shapes Always f at_end o other st s cs u
+        ≡ advance shapes Always f at_end o other st s cs u
     advance_same next other same Done st s cs u = refl
     advance_same next other same (Do a m is) st s cs u =
         supply_same (act_takes Always a) cs (st + 1) u _ _
@@ -225,7 +225,7 @@ module _ (f : ℕ → ℕ) where
         (sym (remark_open c Done Done))
         ∙ advance_same (λ st js t ds v. go shapes Always own_line at_end n st js t ds v)
         (λ st js t ds v. go shapes Always f at_end n st js t ds v) (λ st js t ds v. go_same n st js t ds v)
-            (opened c) st s
+        (opened c) st s
         cs u
 
   -- What is typed

@@ -340,7 +340,7 @@ module _ (p : Program) (choice : ℕ) where
       pub set_ptr_passes : (to : Path) (from : PtrRhs)
           → rhs_typed p.shapes.structs p.vars (length p.data_vars) (target to) from ≡ true
           → pass (ptr_row nv nd to.var to.fields from) (ext0 s)
-              ≡ done_pass (assign p.shapes.structs Always s to from choice)
+          ≡ done_pass (assign p.shapes.structs Always s to from choice)
       set_ptr_passes to (RhsPath from) fits =
           let both : BothTarget (target to) (target from) = both_target (target to) (target from) fits in
           copied to.var to.fields both.struct (path_leads p to both.struct both.first) from

@@ -195,7 +195,7 @@ module _ (p : Program) (typed : is_typed p ≡ true) (Rel : Outcome → Outcome 
         (λ r t. graph n r (at (opened is)) t ds v) z)
         (sym (settle_pass Halted s is ∙ ap (λ z. turn_pass Halted z) (sym e)))
         (turn_meets (turn_of p.shapes.structs Always o s x) is l Halted ds v
-            (subst (GoesTo is) (sym e) (settle_to s is)) each
+        (subst (GoesTo is) (sym e) (settle_to s is)) each
         (on x ds v) (halts l is ds v))
 
     one_more : (o : Outcome) (k : ℕ) → Rel o (graph (suc n) q k (ext0 s) cs u) → Rel o (graph (1 + n) q k (ext0 s) cs u)
@@ -245,7 +245,7 @@ module _ (p : Program) (typed : is_typed p ≡ true) (Rel : Outcome → Outcome 
             (One (Kill [] []) ∷ []) k (at (opened js) ∷ []) (at (opened js)) (w, refl) tt 0 n q (ext0 s) cs u
             (subst
             (λ z. Meets Rel equal p.shapes.structs edges (out (turn_of p.shapes.structs Always o s 0) (line m) cs u)
-                (line m)
+            (line m)
             (λ r t. graph n r (at (opened js)) t cs u) z)
             (settle_pass Halted s js ∙ sym (kill_passes p typed 0 s sound clear [] [] Halted js))
             (settles o (line m) js 0 cs u e each on))
