@@ -1,9 +1,11 @@
-// Sound forests with box edges, over the structs of all forests and five boxes.
+// Sound forests with box edges, over the structs of all forests and eight boxes.
 
 ghost use Rattle.std.specs.Prelude.{IfOk};
 ghost use Rattle.fore_base.specs.Lists.{Every};
 ghost use Rattle.fa_core.specs.Faces.{IsGiving};
 
+use crate::canonizing::made_letters;
+use crate::deciding::words;
 use crate::roots::{exchanged_text, leaking_text, merged_letters};
 use anyhow::{Result, bail};
 use fa_core::faces::{BoxFace, Face};
@@ -11,6 +13,7 @@ use fa_sound::Sound;
 use fore_base::list::List;
 use row_forests::{face, forest_of};
 use std::alloc::Global;
+use std::thread::Threads;
 
 // boxed-leaking: the least root that leaks.
 pub fn leaking(alloc: Global, text: &str) -> Result<String> {
@@ -28,6 +31,23 @@ pub fn exchanged(alloc: Global, text: &str) -> Result<String> {
 pub fn merged(alloc: Global, text: &str, root: u32, wanted: &[&str]) -> Result<String> {
     let forest = boxed(alloc, text)?;
     merged_letters(alloc, &forest, root, wanted)
+}
+
+// boxed-canonical: which of the wanted forests the canonical forests are.
+pub fn canonical_letters<R: Threads + Sync>(
+    rt: &R,
+    alloc: Global,
+    text: &str,
+    wanted: &[&str],
+) -> Result<String> {
+    let forest = boxed(alloc, text)?;
+    made_letters(rt, alloc, &forest, wanted)
+}
+
+// boxed-canonical?: whether the roots are those of a canonical forest, and whether the forest is canonical.
+pub fn decided(alloc: Global, text: &str) -> Result<String> {
+    let forest = boxed(alloc, text)?;
+    words(alloc, &forest)
 }
 
 /// The sound forest of the text. Err is a text that cannot be read, a forest that is not sound, and want of memory.
@@ -55,27 +75,32 @@ fn face_with_boxes(alloc: Global) -> Result<Face>
 
 // Box 0 is an edge of a list of pairs that leads back by the second field, which it gives the pair at its end; box 4
 // gives it too, and does not lead back. Box 1 is an edge of nodes, box 2 a ring of nodes, and box 3 an edge of trios:
-// they give the cell at their end nothing.
+// they give the cell at their end nothing. Boxes 5 to 7 are edges of trios that lead back by the first, the second and
+// the third field, which they give the trio at their end.
 fn boxes(alloc: Global) -> Result<List<BoxFace>>
     ensures { IfOk result (Every IsGiving) }
 {
     let mut boxes = List::new(alloc);
-    boxes.push(pair_edge(alloc, true)?)?;
+    boxes.push(giving_edge(alloc, 1, 1, true)?)?;
     boxes.push(edge(alloc, 0, Some(0))?)?;
     boxes.push(edge(alloc, 0, None)?)?;
     boxes.push(edge(alloc, 4, Some(4))?)?;
-    boxes.push(pair_edge(alloc, false)?)?;
+    boxes.push(giving_edge(alloc, 1, 1, false)?)?;
+    boxes.push(giving_edge(alloc, 4, 0, true)?)?;
+    boxes.push(giving_edge(alloc, 4, 1, true)?)?;
+    boxes.push(giving_edge(alloc, 4, 2, true)?)?;
     Ok(boxes)
 }
 
-fn pair_edge(alloc: Global, back: bool) -> Result<BoxFace>
+// From a cell of the struct, whose first field it covers, to one of the same struct, to which it gives the field.
+fn giving_edge(alloc: Global, shape: u32, field: u32, back: bool) -> Result<BoxFace>
     ensures { IfOk result IsGiving }
 {
     let gives_in = List::from_slice(alloc, &[0])?;
-    let gives_out = List::from_slice(alloc, &[1])?;
+    let gives_out = List::from_slice(alloc, &[field])?;
     Ok(BoxFace {
-        input: 1,
-        output: Some(1),
+        input: shape,
+        output: Some(shape),
         gives_in,
         gives_out,
         back,
