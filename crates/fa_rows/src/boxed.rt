@@ -1,16 +1,12 @@
-// Sound forests with box edges, over the structs of all forests and five boxes.
+// What is asked of forests with box edges.
 
-ghost use Rattle.std.specs.Prelude.{IfOk};
-ghost use Rattle.fore_base.specs.Lists.{Every};
-ghost use Rattle.fa_core.specs.Faces.{IsGiving};
-
+use crate::canonizing::made_letters;
+use crate::deciding::words;
 use crate::roots::{dropped_text, exchanged_text, leaking_text, merged_letters};
-use anyhow::{Result, bail};
-use fa_core::faces::{BoxFace, Face};
-use fa_sound::Sound;
-use fore_base::list::List;
-use row_forests::{face, forest_of};
+use anyhow::Result;
+use row_forests::boxed;
 use std::alloc::Global;
+use std::thread::Threads;
 
 // boxed-leaking: the least root that leaks.
 pub fn leaking(alloc: Global, text: &str) -> Result<String> {
@@ -36,67 +32,19 @@ pub fn dropped(alloc: Global, text: &str, root: u32) -> Result<String> {
     dropped_text(alloc, &forest, root)
 }
 
-/// The sound forest of the text. Err is a text that cannot be read, a forest that is not sound, and want of memory.
-pub fn boxed(alloc: Global, text: &str) -> Result<Sound>
-    ensures { IfOk result (λ s. Every IsGiving s.face.boxes) }
-{
-    let face = face_with_boxes(alloc)?;
-    let forest = forest_of(alloc, text)?;
-    match Sound::make(alloc, &forest, &face)? {
-        Some(made) => Ok(made),
-        None => bail!("not sound"),
-    }
+// boxed-canonical: which of the wanted forests the canonical forests are.
+pub fn canonical_letters<R: Threads + Sync>(
+    rt: &R,
+    alloc: Global,
+    text: &str,
+    wanted: &[&str],
+) -> Result<String> {
+    let forest = boxed(alloc, text)?;
+    made_letters(rt, alloc, &forest, wanted)
 }
 
-fn face_with_boxes(alloc: Global) -> Result<Face>
-    ensures { IfOk result (λ face. Every IsGiving face.boxes) }
-{
-    let plain = face(alloc)?;
-    let boxes = boxes(alloc)?;
-    Ok(Face {
-        shapes: plain.shapes,
-        boxes,
-    })
-}
-
-// Box 0 is an edge of a list of pairs that leads back by the second field, which it gives the pair at its end; box 4
-// gives it too, and does not lead back. Box 1 is an edge of nodes, box 2 a ring of nodes, and box 3 an edge of trios:
-// they give the cell at their end nothing.
-fn boxes(alloc: Global) -> Result<List<BoxFace>>
-    ensures { IfOk result (Every IsGiving) }
-{
-    let mut boxes = List::new(alloc);
-    boxes.push(pair_edge(alloc, true)?)?;
-    boxes.push(edge(alloc, 0, Some(0))?)?;
-    boxes.push(edge(alloc, 0, None)?)?;
-    boxes.push(edge(alloc, 4, Some(4))?)?;
-    boxes.push(pair_edge(alloc, false)?)?;
-    Ok(boxes)
-}
-
-fn pair_edge(alloc: Global, back: bool) -> Result<BoxFace>
-    ensures { IfOk result IsGiving }
-{
-    let gives_in = List::from_slice(alloc, &[0])?;
-    let gives_out = List::from_slice(alloc, &[1])?;
-    Ok(BoxFace {
-        input: 1,
-        output: Some(1),
-        gives_in,
-        gives_out,
-        back,
-    })
-}
-
-fn edge(alloc: Global, input: u32, output: Option<u32>) -> Result<BoxFace>
-    ensures { IfOk result IsGiving }
-{
-    let gives_in = List::from_slice(alloc, &[0])?;
-    Ok(BoxFace {
-        input,
-        output,
-        gives_in,
-        gives_out: List::new(alloc),
-        back: false,
-    })
+// boxed-canonical?: whether the roots are those of a canonical forest, and whether the forest is canonical.
+pub fn decided(alloc: Global, text: &str) -> Result<String> {
+    let forest = boxed(alloc, text)?;
+    words(alloc, &forest)
 }

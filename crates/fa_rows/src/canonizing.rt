@@ -3,6 +3,7 @@
 ghost use Rattle.std.specs.Prelude.{IfOk};
 ghost use Rattle.fore_base.specs.Lists.{Every};
 ghost use Rattle.fa_core.specs.Boxless.{HasNoBoxes};
+ghost use Rattle.fa_order.specs.Placing.{DoEdgesGive};
 
 use crate::turning::varied;
 use anyhow::{Result, bail};
@@ -58,13 +59,13 @@ fn over_structs(alloc: Global, forest: &Forest) -> Result<Sound>
     sound_from(alloc, &face, forest)
 }
 
-fn made_letters<R: Threads + Sync>(
+pub fn made_letters<R: Threads + Sync>(
     rt: &R,
     alloc: Global,
     forest: &Sound,
     wanted: &[&str],
 ) -> Result<String>
-    requires { Every HasNoBoxes forest.now.forest.autos }
+    requires { DoEdgesGive forest.now.face forest.now.forest }
 {
     let made = canonical_of(rt, alloc, forest)?;
     letters(alloc, made.as_slice(), wanted)
@@ -72,7 +73,7 @@ fn made_letters<R: Threads + Sync>(
 
 // The canonical forests of a forest of which no member leaks.
 fn canonical_of<R: Threads + Sync>(rt: &R, alloc: Global, forest: &Sound) -> Result<List<Sound>>
-    requires { Every HasNoBoxes forest.now.forest.autos }
+    requires { DoEdgesGive forest.now.face forest.now.forest }
 {
     let leak = leaking_root(alloc, forest)?;
     match leak {

@@ -1,8 +1,5 @@
 // Whether forests are canonical.
 
-ghost use Rattle.fore_base.specs.Lists.{Every};
-ghost use Rattle.fa_core.specs.Boxless.{HasNoBoxes};
-
 use anyhow::Result;
 use fa_order::{has_root_kinds, is_canonical};
 use fa_sound::Sound;
@@ -15,9 +12,7 @@ pub fn decided(alloc: Global, text: &str) -> Result<String> {
     words(alloc, &forest)
 }
 
-fn words(alloc: Global, forest: &Sound) -> Result<String>
-    requires { Every HasNoBoxes forest.now.forest.autos }
-{
+pub fn words(alloc: Global, forest: &Sound) -> Result<String> {
     let is_rooted = has_root_kinds(alloc, forest)?;
     let is_canonical = is_canonical(alloc, forest)?;
     Ok(format!(in alloc; "{} {}", word(is_rooted), word(is_canonical))?)

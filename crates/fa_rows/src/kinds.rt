@@ -26,6 +26,7 @@ impl Answers for ForestRows {
         match head {
             "canonical" => canonical_letters(rt, alloc, text, wanted),
             "turned" => turned_letters(rt, alloc, text, wanted),
+            "boxed-canonical" => boxed::canonical_letters(rt, alloc, text, wanted),
             "reduced" => reduced(rt, alloc, text),
             _ => answer_alone(alloc, head, text, wanted),
         }
@@ -39,6 +40,7 @@ fn answer_alone(alloc: Global, head: &str, text: &str, wanted: &[&str]) -> Resul
         "placed" => placed(alloc, text),
         "leaking" => leaking(alloc, text),
         "exchanged" => exchanged(alloc, text),
+        "boxed-canonical?" => boxed::decided(alloc, text),
         "boxed-leaking" => boxed::leaking(alloc, text),
         "boxed-exchanged" => boxed::exchanged(alloc, text),
         _ => answer_at(alloc, head, text, wanted),

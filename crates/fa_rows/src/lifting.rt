@@ -1,11 +1,10 @@
 // The cell of a box edge lifted out of its component.
 
-use crate::boxed::boxed;
 use crate::roots::refused;
 use anyhow::Result;
 use fa_sound::Sound;
 use fa_unfold::{can_lift, lift_parent};
-use row_forests::letters;
+use row_forests::{boxed, letters};
 use std::alloc::Global;
 
 // lifted ROOT FIELD: which of the wanted forests those are in which the cell whose edge gives the field to the root is

@@ -1,8 +1,6 @@
 // Roots put into the order of the walk, and components reduced.
 
-ghost use Rattle.std.specs.Prelude.{IfOk};
-ghost use Rattle.fore_base.specs.Lists.{Every};
-ghost use Rattle.fa_core.specs.Boxless.{HasNoBoxes};
+ghost use Rattle.fa_order.specs.Placing.{DoEdgesGive};
 
 use crate::roots::shown;
 use anyhow::{Result, bail};
@@ -23,14 +21,14 @@ pub fn placed(alloc: Global, text: &str) -> Result<String> {
 }
 
 fn placed_text(alloc: Global, forest: &Sound) -> Result<String>
-    requires { Every HasNoBoxes forest.now.forest.autos }
+    requires { DoEdgesGive forest.now.face forest.now.forest }
 {
     let made = place(alloc, forest)?;
     shown(alloc, &made)
 }
 
 fn place(alloc: Global, forest: &Sound) -> Result<Sound>
-    requires { Every HasNoBoxes forest.now.forest.autos }
+    requires { DoEdgesGive forest.now.face forest.now.forest }
 {
     if !has_root_kinds(alloc, forest)? {
         bail!("other roots than those of a canonical forest");
@@ -48,9 +46,7 @@ pub fn reduced<R: Threads + Sync>(rt: &R, alloc: Global, text: &str) -> Result<S
     reduced_counts(rt, alloc, &forest)
 }
 
-fn reduced_counts<R: Threads + Sync>(rt: &R, alloc: Global, forest: &Sound) -> Result<String>
-    requires { Every HasNoBoxes forest.now.forest.autos }
-{
+fn reduced_counts<R: Threads + Sync>(rt: &R, alloc: Global, forest: &Sound) -> Result<String> {
     let crew = Crew {
         jobs: 2,
         gate: &NoGate,

@@ -4,12 +4,11 @@ ghost use Rattle.std.specs.Prelude.{◌↔◌, ◌<◌, length, IsTrue};
 ghost use Rattle.fore_base.specs.Lists.{Every};
 ghost use Rattle.fa_core.specs.Faces.{IsGiving};
 
-use crate::boxed::boxed;
 use crate::roots::refused;
 use anyhow::{Result, bail};
 use fa_sound::Sound;
 use fa_split::{can_split, choose_rule, split_child};
-use row_forests::letters_in_order;
+use row_forests::{boxed, letters_in_order};
 use std::alloc::Global;
 
 // chosen ROOT: which of the wanted forests those with one rule of the root are, in their order.

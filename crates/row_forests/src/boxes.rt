@@ -16,9 +16,12 @@ use std::alloc::Global;
 /// # Errors
 ///
 /// A text that cannot be read, a forest that is not sound, and want of memory.
-pub fn boxed(alloc: Global, text: &str) -> Result<Sound> {
+pub fn boxed(alloc: Global, text: &str) -> Result<Sound>
+    ensures { IfOk result (λ s. Every IsGiving s.face.boxes) }
+{
     let face = face_with_boxes(alloc)?;
-    boxed_over(alloc, &face, text)
+    let forest = boxed_over(alloc, &face, text)?;
+    Ok(forest)
 }
 
 /// The sound forest of the text, which may have box edges, over this face.

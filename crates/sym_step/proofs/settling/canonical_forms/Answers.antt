@@ -1,4 +1,4 @@
-use Rattle.std.proofs.Common.{◌≡◌, List, [], ◌∷◌, length, ap}
+use Rattle.std.proofs.Common.{◌≡◌, inr, List, [], ◌∷◌, length, ap}
 use Rattle.fore_base.specs.Lists.{Every}
 use Rattle.fore_base.specs.declared.store.Datum.{Datum}
 use Rattle.fa_core.specs.Boxless.{HasNoBoxes}
@@ -24,7 +24,11 @@ each_next F (s ∷ ss) a b c d e f = (
   each_next F ss a.1 b.1 c.1 d.1 e.1 f.1,
 )
 
+pub canonical-requires-clause-giving : goal.canonical-requires-clause-giving
+canonical-requires-clause-giving g c κs within = inr c.requires.plain
+
 pub returns-clause-next : goal.returns-clause-next
 returns-clause-next g c =
     let e = c.in_ok-made.ensures in
-    each_next c.args.raw.now c.in_ok-made.made e.canonical e.reduced e.plain e.face e.vars e.data_vars
+    each_next c.args.raw.now c.in_ok-made.made e.canonical e.reduced (e.plain c.requires.plain)
+    e.face e.vars e.data_vars
