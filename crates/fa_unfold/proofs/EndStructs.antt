@@ -1,4 +1,5 @@
--- The structs of the cell at which a box edge of a root begins, and of the root at which it ends, are those of its face.
+-- The structs of the cell at which a box edge of a root begins, and of the root at which it ends, are those of its
+-- face.
 use Rattle.std.proofs.Common.{◌≡◌, ◌⊎◌, inl, inr, ℕ, zero, suc, ◌<◌, length, List, [], ◌∷◌, refl, sym, ap}
 use Rattle.std.proofs.Common.{subst, ◌∙◌, Some, None, slice_get, arith}
 use Rattle.std.proofs.lemmas.Option.{none-some, same_Some}
@@ -20,8 +21,10 @@ use Rattle.fa_core.specs.declared.forest.Target.{Target}
 use Rattle.fa_core.specs.declared.forest.Target.TheVariants.{At}
 use Rattle.fa_core.specs.Boxes.{Boxes, faces_of}
 use Rattle.fa_core.specs.Choices.{bares, all_numbers, HasInsides}
-use Rattle.fa_core.specs.Dressed.{Node, Parts, End, Nodes, node, no_parts, field, link, hook, leaf, no_nodes, more, Seen, SeenField}
-use Rattle.fa_core.specs.Dressed.{SeenLink, SeenHook, SeenCell, seen, end_value, tree_cells, forest_cells, cells, roots_of}
+use Rattle.fa_core.specs.Dressed.{Node, Parts, End, Nodes, node, no_parts, field, link, hook, leaf, no_nodes, more, Seen}
+use Rattle.fa_core.specs.Dressed.{SeenField}
+use Rattle.fa_core.specs.Dressed.{SeenLink, SeenHook, SeenCell, seen, end_value, tree_cells, forest_cells, cells}
+use Rattle.fa_core.specs.Dressed.{roots_of}
 use Rattle.fa_core.specs.Dressed.{nth_value, value_in}
 use Rattle.fa_core.specs.Filled.{TreesFilled, RulesFit, HasSome, face_of}
 use Rattle.fa_core.specs.Member.{OfForest, bare, bare_end}

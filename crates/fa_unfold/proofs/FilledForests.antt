@@ -1,5 +1,6 @@
 -- The forests in which a box edge of a root is replaced are filled.
-use Rattle.std.proofs.Common.{◌≡◌, ◌≢◌, inl, inr, ℕ, ◌<◌, Bool, true, false, true≢false, nat_eq, if◌then◌else◌, length, List}
+use Rattle.std.proofs.Common.{◌≡◌, ◌≢◌, inl, inr, ℕ, ◌<◌, Bool, true, false, true≢false, nat_eq, length, List}
+use Rattle.std.proofs.Common.{if◌then◌else◌}
 use Rattle.std.proofs.Common.{[], ◌∷◌, map, refl, sym, ap, subst, ◌∙◌, Option, Some, None, slice_get}
 use Rattle.std.proofs.Common.{length-set}
 use Rattle.std.proofs.lemmas.Bool.{eq-eqb, eqb-true}
@@ -288,7 +289,8 @@ module _ (t : Boxes) (F : Forest) (over : IsOver t F) where
     end_good z k (At j) e G m = here (have_no_slots tops.outs) m
       where
         here : (v : Bool) → IsIn G
-            (if v then opened z ∷ [] else grown_roots bs (opened z) j (end_rules (opened z) i j tops.ends) last tops.outs)
+            (if v then opened z ∷ []
+            else grown_roots bs (opened z) j (end_rules (opened z) i j tops.ends) last tops.outs)
             → EndGood z G
         here true (inl m) = same_good z k G m
         here true (inr m) = absurd m
@@ -370,7 +372,8 @@ module _ (t : Boxes) (F : Forest) (over : IsOver t F) where
         (λ G m.
         (let z = in_mapped (λ (z : Rule). with_inner (map (placed_auto hook_leaf) inner) (open_root bs F i p port z)) G
         ins m in
-        let k : Every (IsGood t.face) (with_inner (map (placed_auto hook_leaf) inner) (open_root bs F i p port z.0)).autos =
+        let k : Every (IsGood t.face)
+        (with_inner (map (placed_auto hook_leaf) inner) (open_root bs F i p port z.0)).autos =
         every_append (IsGood t.face) (open_root bs F i p port z.0).autos (map (placed_auto hook_leaf) inner)
         (hook_good z.0 z.1) hook_inner in
         filled_of t F over G (subst (λ (H : Forest). Every (IsGood t.face) H.autos) (sym z.2) k)

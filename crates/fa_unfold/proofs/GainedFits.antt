@@ -89,7 +89,8 @@ module _ (S : Shapes) (T : List BoxDef) (b : ℕ) (autos : List Automaton) (k : 
     -- the struct of the port, and the trees by the structs of all tops
     pub record HookFilled : Type 0 where
       pub struct : s0 ≡ x.input
-      pub port : IsPortFilled lower hook_tops x.gives_in (node_spots bs0 (node c0 s0 ds0 ps) (given_at bs0 (bares hooked) 0))
+      pub port : IsPortFilled lower hook_tops x.gives_in
+          (node_spots bs0 (node c0 s0 ds0 ps) (given_at bs0 (bares hooked) 0))
       pub inner : InsideFilled lower (bares hooked) hook_tops 1 [] (bares ns)
 
     pub hook_filled : TreesOf T autos hooked → x.output ≡ None → HookFilled
@@ -193,7 +194,8 @@ module _ (S : Shapes) (T : List BoxDef) (b : ℕ) (autos : List Automaton) (k : 
       abbrev hook_tips : List Tip
       hook_tips = all_tips bs0 (more (node c0 s0 ds0 ps) ns)
 
-      hook_parts : Every (IsThere face all) (slot_items hook_values c ps) × Every (IsThere face all) (forest_items hook_values ns)
+      hook_parts : Every (IsThere face all) (slot_items hook_values c ps)
+          × Every (IsThere face all) (forest_items hook_values ns)
       hook_parts = every_parts (IsThere face all) (slot_items hook_values c ps) (forest_items hook_values ns) there
 
       hook_own : HasStruct all c s0
@@ -213,9 +215,11 @@ module _ (S : Shapes) (T : List BoxDef) (b : ℕ) (autos : List Automaton) (k : 
       pub hook_gained : Every (Fits face all) (slot_items hook_values c ps ++ forest_items hook_values ns)
       hook_gained =
           every_append (Fits face all) (slot_items hook_values c ps) (forest_items hook_values ns)
-          (parts_fits S bs0 bs k.grow all apart hook_structs hook_values hook_points hook_tips hook_names c s0 hook_own ps f.port.0.ends f.port.1 hook_parts.0
+          (parts_fits S bs0 bs k.grow all apart hook_structs hook_values hook_points hook_tips hook_names c s0
+          hook_own ps f.port.0.ends f.port.1 hook_parts.0
           (λ q j. in_left q (tips_of bs0 ps) (all_tips bs0 ns) j))
-          (roots_fit S bs0 bs k.grow all apart hook_structs hook_values hook_points hook_tips hook_names (bares (more (node c0 s0 ds0 ps) ns)) ns 1
+          (roots_fit S bs0 bs k.grow all apart hook_structs hook_values hook_points hook_tips hook_names
+          (bares (more (node c0 s0 ds0 ps) ns)) ns 1
           f.inner hook_parts.1 (λ q j. in_right q (tips_of bs0 ps) (all_tips bs0 ns) j))
 
     -- those that a Link's cell gains, and the cell at its end

@@ -1,5 +1,5 @@
--- Components whose rules fit and whose trees have cells at their tops: those of a sound forest, those that gain the slots
--- of a port, and the inner roots of a box.
+-- Components whose rules fit and whose trees have cells at their tops: those of a sound forest, those that gain the
+-- slots of a port, and the inner roots of a box.
 use Rattle.std.proofs.Common.{◌≡◌, inl, inr, ℕ, zero, suc, length, List, [], ◌∷◌, map, refl, sym, ap, subst}
 use Rattle.std.proofs.Common.{◌∙◌, Some, slice_get}
 use Rattle.std.proofs.lemmas.List.{nil_from_length}

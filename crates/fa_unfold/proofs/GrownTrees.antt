@@ -230,8 +230,12 @@ module _ (bs : List BoxFace) (a : Automaton) (x : Rule) (base : List Place) (b :
       × IsIn w (grown bs a x base b z).rules
       × IsIn w.state (grown bs a x base b z).roots
       × IsCellOf w.symbol s ds
-  grown_rule s ds y =
-      (fresh, in_right fresh u.rules (fresh ∷ []) (inl refl), inl refl, (slots_in all, cell_after x.symbol (slots_in all) s ds y))
+  grown_rule s ds y = (
+    fresh,
+    in_right fresh u.rules (fresh ∷ []) (inl refl),
+    inl refl,
+    (slots_in all, cell_after x.symbol (slots_in all) s ds y),
+  )
 
   -- each tree has the one rule's symbol at its top
   pub grown_symbol : (t : Tree) → InLanguage (grown bs a x base b z) t → (out-Tree t).symbol

@@ -175,7 +175,8 @@ module _ (bs : List BoxFace) (T : List BoxDef) (F : Forest) (ranked : Every IsRa
           ns = v.1;
           has = cl.has;
           trees = (w.tree, w.insides, v.4);
-          opened = hook_is bs i p n w.parts v.1 cl.before (unlisted x.gained) v.0 e (long cl.before cl.of) w.is cl.opened
+          opened = hook_is bs i p n w.parts v.1 cl.before (unlisted x.gained) v.0 e (long cl.before cl.of) w.is
+              cl.opened
               v.2;
         }
 

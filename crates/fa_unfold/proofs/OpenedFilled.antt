@@ -31,7 +31,8 @@ use Rattle.fa_unfold.specs.Outside.{outside, outside_hook}
 use Rattle.fa_unfold.specs.inner.Trees.{joined_parts, parts_without, at_root, at_leaf}
 use Rattle.fa_unfold.specs.inner.Trees.{link_opened, hook_opened}
 use Rattle.fa_unfold.proofs.OpenedFits.{Fits, IsSlotItem, fits_after, once_after}
-use Rattle.fa_unfold.proofs.SlotsInOrder.{TopsHave, Ordered, AllCover, KeysApart, CellOrdered, fields_apart, cells_ordered}
+use Rattle.fa_unfold.proofs.SlotsInOrder.{TopsHave, Ordered, AllCover, KeysApart, CellOrdered, fields_apart}
+use Rattle.fa_unfold.proofs.SlotsInOrder.{cells_ordered}
 use Rattle.fa_unfold.proofs.SlotsInOrder.{tops_first, tops_with, tops_at, tops_leaf, tops_back, tops_weaker, tops_if}
 use Rattle.fa_unfold.proofs.SlotsInOrder.{leaf_if, cover_listed, without_ordered, joined_cover, joined_apart_of}
 use Rattle.fa_unfold.proofs.SlotsInOrder.{joined_ordered, placed_ordered, all_ordered}
@@ -126,7 +127,8 @@ module _ (bs : List BoxFace) (i p : ℕ) (ps : Parts) (ns d : Nodes) (before : T
   hook_in_order apart =
       let f = outside_hook i (count d) in
       let a = apart
-      (tops_with (AllCover bs) (d2 f) (placed_all f ns) (second_cover f) (all_cover (placed_all f ns) (inner_ordered f)))
+      (tops_with (AllCover bs) (d2 f) (placed_all f ns) (second_cover f)
+      (all_cover (placed_all f ns) (inner_ordered f)))
       in
       tops_with (Ordered bs) (d2 f) (placed_all f ns)
       (second_ordered f (tops_first (KeysApart bs) (d2 f) (placed_all f ns) a)) (inner_ordered f)
@@ -144,10 +146,12 @@ module _ (bs : List BoxFace) (i p : ℕ) (ps : Parts) (ns d : Nodes) (before : T
       let c3 = tops_leaf (AllCover bs) K (λ zs k. joined_cover bs zs os k (cover_listed bs os o.0.0)) y (d2 f)
       (second_cover f) in
       let a = apart
-      (tops_with (AllCover bs) (at_leaf K y (d2 f)) (placed_all f ns) c3 (all_cover (placed_all f ns) (inner_ordered f)))
+      (tops_with (AllCover bs) (at_leaf K y (d2 f)) (placed_all f ns) c3
+      (all_cover (placed_all f ns) (inner_ordered f)))
       in
       let a3 = tops_first (KeysApart bs) (at_leaf K y (d2 f)) (placed_all f ns) a in
       let a2 = tops_back (KeysApart bs) K (λ zs k. joined_apart_of bs zs os k) y (d2 f) a3 in
       tops_with (Ordered bs) (at_leaf K y (d2 f)) (placed_all f ns)
-      (leaf_if (Ordered bs) (KeysApart bs) K (λ zs k q. joined_ordered bs zs os k o q) y (d2 f) (second_ordered f a2) a3)
+      (leaf_if (Ordered bs) (KeysApart bs) K (λ zs k q. joined_ordered bs zs os k o q) y (d2 f) (second_ordered f a2)
+      a3)
       (inner_ordered f)

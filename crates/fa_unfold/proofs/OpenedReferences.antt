@@ -197,12 +197,16 @@ module _ (bs : List BoxFace) (i p c0 s0 : ℕ) (ds0 : List Datum) (ps : Parts) (
   hook_refs : Every IsHookRoot (refs_of (placed_parts hook_leaf ps) ++ all_refs (placed_all hook_leaf ns))
   hook_refs = placed_refs IsHookRoot hook_leaf (more (node c0 s0 ds0 ps) ns) hook_outer inside
 
-  hook_parts : Every IsHookRoot (refs_of (placed_parts hook_leaf ps)) × Every IsHookRoot (all_refs (placed_all hook_leaf ns))
-  hook_parts = every_parts IsHookRoot (refs_of (placed_parts hook_leaf ps)) (all_refs (placed_all hook_leaf ns)) hook_refs
+  hook_parts : Every IsHookRoot (refs_of (placed_parts hook_leaf ps))
+      × Every IsHookRoot (all_refs (placed_all hook_leaf ns))
+  hook_parts =
+      every_parts IsHookRoot (refs_of (placed_parts hook_leaf ps)) (all_refs (placed_all hook_leaf ns)) hook_refs
 
   pub hook_below : Every (λ k. k < count (hook_opened bs i p ps ns d)) (all_refs (hook_opened bs i p ps ns d))
   hook_below =
       refs_with IsHookRoot hook_more (placed_all hook_leaf ns)
-      (refs_at_root IsHookRoot hook_joined (λ os h. refs_joined IsHookRoot bs os (placed_parts hook_leaf ps) h hook_parts.0) i hook_less
+      (refs_at_root IsHookRoot hook_joined
+      (λ os h. refs_joined IsHookRoot bs os (placed_parts hook_leaf ps) h hook_parts.0) i hook_less
       (refs_at_root IsHookRoot (parts_without p) (refs_without IsHookRoot p) i d
-      (every_weaker (λ k. k < count d) IsHookRoot (all_refs d) (λ k l. let z = hook_long in omega (arith, l, z)) below))) hook_parts.1
+      (every_weaker (λ k. k < count d) IsHookRoot (all_refs d) (λ k l. let z = hook_long in omega (arith, l, z)) below)))
+      hook_parts.1

@@ -4,4 +4,5 @@ use Rattle.fa_unfold.specs.Outside.{outer}
 use Rattle.fa_unfold.proofs.placing.place_autos.Given as goal
 
 abbrev pub invariant-loop-auto : goal.invariant-loop-auto
-invariant-loop-auto l = l.made ≡ map (placed_auto (outer l.site.root l.site.end l.site.count)) (take l.auto-index l.autos)
+invariant-loop-auto l =
+    l.made ≡ map (placed_auto (outer l.site.root l.site.end l.site.count)) (take l.auto-index l.autos)
