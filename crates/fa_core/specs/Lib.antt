@@ -9,6 +9,7 @@ pub mod Faces
 pub mod Filled
 pub mod Folding
 pub mod Formed
+pub mod LeastFolds
 pub mod Member
 pub mod Placed
 pub mod Rearranged

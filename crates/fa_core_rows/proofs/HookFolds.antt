@@ -37,27 +37,27 @@ use Rattle.fa_core_rows.proofs.Singles.{single_language, single_fields, single_f
 
 -- Items have next and prev. Roots 0 and 2 are a ring by next, root 1 is apart; variables are at roots 1 and 2.
 
-abbrev item : List Slot → Symbol
+abbrev pub item : List Slot → Symbol
 item ss = Cell 0 [] ss
 
-abbrev both : List Slot
+abbrev pub both : List Slot
 both = Field 0 ∷ Field 1 ∷ []
 
 -- an item whose next is root r
-abbrev next_auto : ℕ → Automaton
+abbrev pub next_auto : ℕ → Automaton
 next_auto r = over (item both) (1 ∷ 2 ∷ []) r
 
-abbrev next_node : ℕ → ℕ → Node
+abbrev pub next_node : ℕ → ℕ → Node
 next_node c r = node c 0 [] (field 0 (leaf (At r)) (field 1 (leaf NullTarget) no_parts))
 
 -- an item whose pointers are null
 abbrev lone_auto : Automaton
 lone_auto = over (item both) (2 ∷ 2 ∷ []) 0
 
-abbrev lone_node : Node
+abbrev pub lone_node : Node
 lone_node = node 1 0 [] (field 0 (leaf NullTarget) (field 1 (leaf NullTarget) no_parts))
 
-next_runs : (c r : ℕ) → InLanguage (next_auto r) (bare (next_node c r))
+pub next_runs : (c r : ℕ) → InLanguage (next_auto r) (bare (next_node c r))
 next_runs c r = over_runs c 0 [] (field 0 (leaf (At r)) (field 1 (leaf NullTarget) no_parts)) (1 ∷ 2 ∷ []) r
     (to_ref (item both) (1 ∷ 2 ∷ []) r, (to_null (item both) (1 ∷ 2 ∷ []) r, tt))
 
@@ -82,7 +82,7 @@ choice = (next_runs 0 2, (lone_runs, (next_runs 2 0, tt)))
 
 -- The box: the input's next is the inner root, whose next is the input.
 
-abbrev bs : List BoxFace
+abbrev pub bs : List BoxFace
 bs = ring_face ∷ []
 
 abbrev in_port : Automaton
@@ -112,10 +112,10 @@ ports = (2, 0 ∷ []) ∷ []
 abbrev places : ℕ → ℕ
 places = position (2 ∷ 0 ∷ [])
 
-abbrev leaf_tree : Symbol → Tree
+abbrev pub leaf_tree : Symbol → Tree
 leaf_tree y = roll-Tree (record { symbol = y; children = [] })
 
-next_places : (c r : ℕ) → top_places (bare (next_node c r)) ≡ (Field 0, leaf_tree (Ref r) ∷ []) ∷
+pub next_places : (c r : ℕ) → top_places (bare (next_node c r)) ≡ (Field 0, leaf_tree (Ref r) ∷ []) ∷
     (Field 1, leaf_tree Null ∷ []) ∷ []
 next_places c r =
     let e = out-roll-Tree (record { symbol = item both; children = leaf_tree (Ref r) ∷ leaf_tree Null ∷ [] }) in
@@ -125,10 +125,10 @@ lone_places : top_places (bare lone_node) ≡ (Field 0, leaf_tree Null ∷ []) �
 lone_places = let e = out-roll-Tree (record { symbol = item both; children = leaf_tree Null ∷ leaf_tree Null ∷ [] }) in
     rw e refl
 
-ref_refs : (r : ℕ) → tree_refs (leaf_tree (Ref r)) ≡ r ∷ []
+pub ref_refs : (r : ℕ) → tree_refs (leaf_tree (Ref r)) ≡ r ∷ []
 ref_refs r = let e = opened (record { symbol = Ref r; children = [] }) in rw e refl
 
-null_refs : tree_refs (leaf_tree Null) ≡ []
+pub null_refs : tree_refs (leaf_tree Null) ≡ []
 null_refs = let e = opened (record { symbol = Null; children = [] }) in rw e refl
 
 from_ports : port_refs trees ports ≡ 0 ∷ []
@@ -247,13 +247,13 @@ is_part = record {
 
 -- The fold: root 0 is taken away, and root 2, which is root 1 then, has the Hook in the place of its next.
 
-abbrev hooked : Automaton
+abbrev pub hooked : Automaton
 hooked = over (item (Hook 0 ∷ Field 1 ∷ [])) (2 ∷ []) 0
 
-abbrev hook_node : Node
+abbrev pub hook_node : Node
 hook_node = node 2 0 [] (hook 0 no_nodes (field 1 (leaf NullTarget) no_parts))
 
-hook_runs : InLanguage hooked (bare hook_node)
+pub hook_runs : InLanguage hooked (bare hook_node)
 hook_runs = over_runs 2 0 [] (hook 0 no_nodes (field 1 (leaf NullTarget) no_parts)) (2 ∷ []) 0
     (to_null (item (Hook 0 ∷ Field 1 ∷ [])) (2 ∷ []) 0, tt)
 
@@ -263,7 +263,7 @@ folded = record { autos = lone_auto ∷ hooked ∷ []; vars = At 0 ∷ At 1 ∷ 
 abbrev numbers : ℕ → ℕ
 numbers = number_without (0 ∷ [])
 
-abbrev null_place : ℕ → Slot × List Tree
+abbrev pub null_place : ℕ → Slot × List Tree
 null_place f = (Field f, leaf_tree Null ∷ [])
 
 moved_null : moved_tree numbers (leaf_tree Null) ≡ leaf_tree Null
@@ -342,13 +342,13 @@ part_has_the_face F g h = h.face
 
 -- Both ports at one root. Each covers next, so there is no part: the field would be taken twice.
 
-abbrev back_port : Automaton
+abbrev pub back_port : Automaton
 back_port = over (item (Field 0 ∷ [])) (1 ∷ []) 0
 
-abbrev back_node : Node
+abbrev pub back_node : Node
 back_node = node 0 0 [] (field 0 (leaf (At 0)) no_parts)
 
-back_runs : InLanguage back_port (bare back_node)
+pub back_runs : InLanguage back_port (bare back_node)
 back_runs = over_runs 0 0 [] (field 0 (leaf (At 0)) no_parts) (1 ∷ []) 0 (to_ref (item (Field 0 ∷ [])) (1 ∷ []) 0, tt)
 
 back_fields : covered_fields [] (bare back_node) ≡ 0 ∷ []

@@ -1,5 +1,7 @@
 pub mod Broken
 pub mod HookFolds
+pub mod InnerRoots
+pub mod LeastFolds
 pub mod LinkFolds
 pub mod Rings
 pub mod Singles

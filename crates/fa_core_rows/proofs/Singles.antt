@@ -155,3 +155,16 @@ module _ (bs : List BoxFace) (f : ℕ → ℕ) (more : List Place) (fs : List �
           x.is ∙ ap₂ (λ (t : ℕ) (es : List Datum). cell_of t es x.made) (ap symbol_struct z) (ap symbol_data z)
           ∙ ap (λ (l : List Place). cell_of s ds l) k ∙ sym e in
           subst (λ (v : Tree). InLanguage c v) (sym i) hc
+
+-- one symbol stands at the top
+pub top_is : (y : Symbol) (qs : List ℕ) (r : ℕ) (a : Automaton) → a ≡ over y qs r → (one : HasOneTop a)
+    → one.rule.symbol ≡ y
+top_is y qs r a e one =
+    let first : List ℕ → ℕ = λ l. (elim l [ [] ↦ 9 | q ∷ rest ↦ q ]) in
+    let z : one.rule.state ≡ 0 = one.top ∙ sym (ap first one.alone) ∙ ap (λ (b : Automaton). first b.roots) e in
+    let there : slice_get (over y qs r).rules one.place ≡ Some one.rule =
+    subst (λ (b : Automaton). slice_get b.rules one.place ≡ Some one.rule) e one.there in
+    let p : one.place ≡ 0 = top_alone y qs r one.place one.rule there z in
+    let k : Some (rule 0 y qs) ≡ Some one.rule =
+    subst (λ (i : ℕ). slice_get (over y qs r).rules i ≡ Some one.rule) p there in
+    sym (ap (λ (x : Rule). x.symbol) (same_Some (rule 0 y qs) one.rule k))
