@@ -1,23 +1,20 @@
--- Worked values of the words on folds that can be made: a ring of one cell, whose next is the cell itself, folded into an
--- edge without an end.
+-- Worked values of the words on folds that can be made: a ring of one cell, whose next is the cell itself, folded into
+-- an edge without an end.
 use Rattle.std.proofs.Common.{◌≡◌, ◌<◌, inl, inr, ℕ, zero, suc, List, [], ◌∷◌, length, refl, sym, ap, subst, Option}
 use Rattle.std.proofs.Common.{Some, None, ◌∙◌, slice_get, arith, lit<, lit≤}
 use Rattle.std.proofs.lemmas.Bool.{ne_eqb}
 use Rattle.std.proofs.lemmas.Option.{none-some, same_Some}
 use Rattle.fore_base.specs.Lists.{IsIn, IsDistinct}
-use Rattle.fore_base.specs.declared.shape.Shapes.{Shapes}
 use Rattle.ta_core.specs.Auto.{Automaton}
-use Rattle.ta_core.specs.Language.{InLanguage}
 use Rattle.ta_core.specs.declared.symbol.Slot.TheVariants.{Field, Hook}
 use Rattle.ta_core.specs.declared.symbol.Slot.{Slot}
-use Rattle.ta_core.specs.declared.symbol.Symbol.{Symbol}
 use Rattle.ta_core.specs.declared.symbol.Symbol.TheVariants.{Null, Ref}
 use Rattle.ta_core.specs.declared.tree.Tree.{Tree}
 use Rattle.fa_core.specs.Boxes.{Boxes}
-use Rattle.fa_core.specs.Canonical.{refs_at}
 use Rattle.fa_core.specs.Dressed.{no_parts, field, leaf}
 use Rattle.fa_core.specs.Folding.{covered_fields, all_placed, is_placed, position, Ports, port_refs, ArePartRoots}
-use Rattle.fa_core.specs.Folding.{port_tree, moved_tree, IsPart, IsPartWithin, number_without, box_slot, gained, taken_at}
+use Rattle.fa_core.specs.Folding.{port_tree, IsPart, IsPartWithin, number_without, box_slot, gained}
+use Rattle.fa_core.specs.Folding.{taken_at}
 use Rattle.fa_core.specs.Folding.{ArePortFields, ArePortRoots, IsFoldedAuto, FoldOf, symbol_slots}
 use Rattle.fa_core.specs.LeastFolds.{OutputUpTo, IsUpTo, CanFold, IsFolded, IsLeastFold, FoldsTo}
 use Rattle.fa_core.specs.Member.{bare}
@@ -29,7 +26,7 @@ use Rattle.fa_core.proofs.Dressing.{cell_top}
 use Rattle.fa_core.proofs.Rearranging.{same}
 use Rattle.fa_core.proofs.RowsHooks.{ring_face}
 use Rattle.fa_core.proofs.SingleTrees.{single_choice}
-use Rattle.fa_core_rows.proofs.HookFolds.{item, both, bs, next_auto, next_node, next_runs, next_places, leaf_tree}
+use Rattle.fa_core_rows.proofs.HookFolds.{item, both, bs, next_auto, next_node, next_runs, next_places}
 use Rattle.fa_core_rows.proofs.HookFolds.{ref_refs, null_place, hooked, hook_node, hook_runs, back_port, back_node}
 use Rattle.fa_core_rows.proofs.HookFolds.{back_runs}
 use Rattle.fa_core_rows.proofs.Singles.{over_single, over_top, moved_rolled, single_language, single_fields}
@@ -184,7 +181,8 @@ input_folded = single_folded bs numbers ((Hook 0, []) ∷ []) (0 ∷ []) (next_a
     ((Hook 0, []) ∷ null_place 1 ∷ [])
     (over_single _ _ _) (over_single _ _ _) (next_runs 0 0) hook_runs
     (cell_top 0 0 [] (field 0 (leaf (At 0)) (field 1 (leaf NullTarget) no_parts)))
-    (let e = next_places 0 0 in let m = moved_rolled numbers (record { symbol = Null; children = [] }) in rw (e, m) (same _))
+    (let e = next_places 0 0 in
+    let m = moved_rolled numbers (record { symbol = Null; children = [] }) in rw (e, m) (same _))
     ((tt, (tt, tt)), (omega arith, tt)) refl
 
 -- over this table, and over that of the box twice
@@ -266,7 +264,8 @@ no_field slots e i = never (subst (λ (l : List Slot). IsIn (Field 0) l) e i)
 
 is_folded : IsFolded (boxes (box ∷ [])) folded
 is_folded (suc b) i o h = none-some h.0 h.1
-is_folded zero i (Some j) h = none-some h.2.1.are_ports.4 (subst (λ (d : BoxDef). d.face.output ≡ Some h.2.1.are_ports.4)
+is_folded zero i (Some j) h = none-some h.2.1.are_ports.4
+    (subst (λ (d : BoxDef). d.face.output ≡ Some h.2.1.are_ports.4)
     (sym (same_Some box h.0 h.1)) h.2.1.are_ports.10)
 is_folded zero i None h = at_root i (h.2.1.are_ports.1) fields roots
   where

@@ -7,9 +7,7 @@ use Rattle.fore_base.specs.declared.store.Store.{Store}
 use Rattle.fore_base.specs.Lists.{IsIn}
 use Rattle.fa_core.specs.Boxes.{Boxes}
 use Rattle.fa_core.specs.Covering.{Covers}
-use Rattle.fa_core.specs.declared.boxes.BoxDef.{BoxDef}
 use Rattle.fa_core.specs.declared.faces.Face.{Face}
-use Rattle.fa_core.specs.declared.folds.FoldStep.{FoldStep}
 use Rattle.fa_core.specs.declared.forest.Forest.{Forest}
 use Rattle.fa_core.specs.declared.forest.Target.{Target}
 use Rattle.fa_core.specs.declared.forest.Target.TheVariants.{Null, Uninit}
@@ -21,7 +19,7 @@ use Rattle.c_cfg.specs.declared.graph.Edge.{Edge}
 use Rattle.fix_core.specs.Covered.{Lists, IsCovered, NoneCovers, CoversOrNot, CoversAt, IsPlaced}
 use Rattle.fix_core.specs.declared.nodes.Placed.TheVariants.{Covered, Added, Full as NoRoom}
 use Rattle.fix_core.specs.Explorations.{is_head, NoLater, IsWay, begins, goes, IsCared, IsExplored}
-use Rattle.fix_core.specs.Follows.{OutputUpTo, IsUpTo, IsMember, FoldsTo, IsStateAt}
+use Rattle.fix_core.specs.Follows.{IsMember, IsStateAt}
 use Rattle.fix_core.specs.Listed.{numbers_at, AreListed, MoreListed}
 use Rattle.fix_core.specs.States.{AbstractState, forest_of, IsOver}
 use Rattle.fix_core.specs.declared.explored.AbsTrace.{AbsTrace}
@@ -148,14 +146,6 @@ module _ (T : Boxes) where
   spent_below_the_budget : (k : ℕ) → IsExplored T graph k 5 (Spent nodes) → ⊥
   spent_below_the_budget k h = omega (arith, h.1.many)
 
-  -- A list of folds that is empty folds nothing
-
-  no_fold : FoldsTo T (bare []) [] (bare [])
-  no_fold = refl
-
-  no_fold_changes : FoldsTo T (bare []) [] (bare (Null ∷ [])) → ⊥
-  no_fold_changes e = omega (arith, ap (λ (F : Forest). length F.vars) e)
-
   -- A state has a middle forest at a loop head, and elsewhere none
 
   middle_at_a_head : (k : ℕ) (F : Forest) (e : Edge) → IsStateAt T true k F e (state [] None) → ⊥
@@ -163,47 +153,6 @@ module _ (T : Boxes) where
 
   no_middle_elsewhere : (k : ℕ) (F M : Forest) (e : Edge) → IsStateAt T false k F e (state [] (Some M)) → ⊥
   no_middle_elsewhere k F M e h = none-some M (sym h.no_middle)
-
--- Folds by box, then input, then output; a fold without output comes first
-
-no_output_first : OutputUpTo None (Some 0)
-no_output_first = tt
-
-no_output_alone : OutputUpTo (Some 0) None → ⊥
-no_output_alone h = h
-
-equal_outputs : OutputUpTo (Some 1) (Some 1)
-equal_outputs = lit≤ tt
-
-later_output : OutputUpTo (Some 2) (Some 1) → ⊥
-later_output h = omega (arith, h)
-
-module _ (part : BoxDef) where
-  abbrev fold : ℕ → ℕ → Option ℕ → FoldStep
-  fold b i o = record { box_no = b; input = i; output = o; part = part }
-
-  lower_box : IsUpTo (fold 0 5 (Some 5)) 1 0 None
-  lower_box = inl (lit< tt)
-
-  lower_input : IsUpTo (fold 1 2 (Some 5)) 1 3 None
-  lower_input = inr (refl, inl (lit< tt))
-
-  lower_output : IsUpTo (fold 1 2 (Some 3)) 1 2 (Some 4)
-  lower_output = inr (refl, inr (refl, lit≤ tt))
-
-  higher_output : IsUpTo (fold 1 2 (Some 4)) 1 2 (Some 3) → ⊥
-  higher_output (inl h) = omega (arith, h)
-  higher_output (inr (e, inl h)) = omega (arith, h)
-  higher_output (inr (e, inr (f, h))) = omega (arith, h)
-
-  higher_input : IsUpTo (fold 1 3 None) 1 2 (Some 4) → ⊥
-  higher_input (inl h) = omega (arith, h)
-  higher_input (inr (e, inl h)) = omega (arith, h)
-  higher_input (inr (e, inr (f, h))) = omega (arith, f)
-
-  higher_box : IsUpTo (fold 2 0 None) 1 5 (Some 5) → ⊥
-  higher_box (inl h) = omega (arith, h)
-  higher_box (inr (e, h)) = omega (arith, e)
 
 -- The numbers of the nodes of each location
 
