@@ -10,10 +10,6 @@ use Rattle.fa_core.specs.Dressed.{Node, node, no_parts, field, leaf}
 use Rattle.fa_core.specs.Folding.{top_places, Placing, all_placed, is_placed, place_now, position, Ports, port_refs}
 use Rattle.fa_core.specs.Folding.{left_refs, ArePartRoots, number_without}
 use Rattle.fa_core.specs.Member.{bare, bare_end}
-<<<<<<< HEAD
-use Rattle.fa_core.specs.References.{tree_refs}
-=======
->>>>>>> h-foldfix
 use Rattle.fa_core.specs.declared.forest.Target.{Target}
 use Rattle.fa_core.specs.declared.forest.Target.TheVariants.{Null as NullTarget, At}
 use Rattle.fa_core.proofs.RowsBack.{opened}
