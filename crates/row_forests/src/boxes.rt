@@ -61,15 +61,23 @@ pub fn face_with_boxes(alloc: Global) -> Result<Face>
 fn boxes(alloc: Global) -> Result<List<BoxFace>>
     ensures { IfOk result (Every IsGiving) }
 {
+    let mut boxes = edges_and_rings(alloc)?;
+    boxes.push(giving_edge(alloc, 4, 0, true)?)?;
+    boxes.push(giving_edge(alloc, 4, 1, true)?)?;
+    boxes.push(giving_edge(alloc, 4, 2, true)?)?;
+    Ok(boxes)
+}
+
+// The first five.
+fn edges_and_rings(alloc: Global) -> Result<List<BoxFace>>
+    ensures { IfOk result (Every IsGiving) }
+{
     let mut boxes = List::new(alloc);
     boxes.push(giving_edge(alloc, 1, 1, true)?)?;
     boxes.push(edge(alloc, 0, Some(0))?)?;
     boxes.push(edge(alloc, 0, None)?)?;
     boxes.push(edge(alloc, 4, Some(4))?)?;
     boxes.push(giving_edge(alloc, 1, 1, false)?)?;
-    boxes.push(giving_edge(alloc, 4, 0, true)?)?;
-    boxes.push(giving_edge(alloc, 4, 1, true)?)?;
-    boxes.push(giving_edge(alloc, 4, 2, true)?)?;
     Ok(boxes)
 }
 
