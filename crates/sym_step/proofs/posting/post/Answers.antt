@@ -16,7 +16,7 @@ open_forest-requires-clause-plain g c =
     sound_plain F.face F.forest c.known.ensures.sound none
 
 pub joined-requires-clause-gives : goal.joined-requires-clause-gives
-joined-requires-clause-gives g c =
+joined-requires-clause-gives g c κs within =
     let F = c.args.forest.now in
     let none : F.face.boxes ≡ [] = ap (λ (f : Face). f.boxes) c.requires.face ∙ c.known-2.ensures.faces
     ∙ ap faces_of c.requires.empty in
