@@ -65,7 +65,7 @@ pub fn made_letters<R: Threads + Sync>(
     forest: &Sound,
     wanted: &[&str],
 ) -> Result<String>
-    requires { DoEdgesGive forest.now.face forest.now.forest }
+    requires giving { DoEdgesGive forest.now.face forest.now.forest }
 {
     let made = canonical_of(rt, alloc, forest)?;
     letters(alloc, made.as_slice(), wanted)
@@ -73,7 +73,7 @@ pub fn made_letters<R: Threads + Sync>(
 
 // The canonical forests of a forest of which no member leaks.
 fn canonical_of<R: Threads + Sync>(rt: &R, alloc: Global, forest: &Sound) -> Result<List<Sound>>
-    requires { DoEdgesGive forest.now.face forest.now.forest }
+    requires giving { DoEdgesGive forest.now.face forest.now.forest }
 {
     let leak = leaking_root(alloc, forest)?;
     match leak {
