@@ -1,0 +1,6 @@
+pub mod Added
+pub mod Automata
+pub mod Edges
+pub mod Found
+pub mod Referring
+pub mod Thin

@@ -1,0 +1,74 @@
+// Automata with other numbers in their references.
+
+ghost use Rattle.std.specs.Prelude.{◌≡◌, ◌<◌, ◌^◌, length, map, IfOk};
+ghost use Rattle.fa_core.specs.Folding.{position};
+ghost use Rattle.fa_core.specs.Placed.{placed_rule, placed_symbol};
+ghost use Rattle.fa_core.specs.declared.forest.Target.TheVariants.{At};
+ghost use Rattle.fa_fold.specs.inner.Automata.{moved_auto};
+
+use fore_base::list::{Copies, List};
+use fore_base::memory::Mem;
+use std::alloc::Global;
+use ta_core::auto::{Auto, Rule};
+use ta_core::symbol::Symbol;
+
+/// The place of the root in the order; where it is not there, the length.
+fn position(order: &[u32], root: u32) -> u32
+    requires { length order.now < 2 ^ 32 }
+    ensures { result ≡ position order.now root }
+{
+    let mut place: u32 = 0;
+    for other in order {
+        if root == *other {
+            return place;
+        }
+        place += 1;
+    }
+    place
+}
+
+/// The automaton of the trees whose references are the places of their roots in the order. Err is want of memory.
+pub fn moved(alloc: Global, auto: &Auto, order: &[u32]) -> Mem<Auto>
+    requires { length order.now < 2 ^ 32 }
+    ensures { IfOk result (λ made. made ≡ moved_auto (position order.now) auto.now) }
+{
+    let roots = auto.roots.copy(alloc)?;
+    let rules = moved_rules(alloc, auto.rules.as_slice(), order)?;
+    Ok(Auto {
+        states: auto.states,
+        roots,
+        rules,
+    })
+}
+
+fn moved_rules(alloc: Global, rules: &[Rule], order: &[u32]) -> Mem<List<Rule>>
+    requires { length order.now < 2 ^ 32 }
+    ensures { IfOk result (λ made. made ≡ map (placed_rule (λ k. At (position order.now k))) rules.now) }
+{
+    let mut made = List::new(alloc);
+    for rule in rules {
+        made.push(moved_rule(alloc, rule, order)?)?;
+    }
+    Ok(made)
+}
+
+fn moved_rule(alloc: Global, rule: &Rule, order: &[u32]) -> Mem<Rule>
+    requires { length order.now < 2 ^ 32 }
+    ensures { IfOk result (λ made. made ≡ placed_rule (λ k. At (position order.now k)) rule.now) }
+{
+    Ok(Rule {
+        state: rule.state,
+        symbol: moved_symbol(alloc, &rule.symbol, order)?,
+        children: rule.children.copy(alloc)?,
+    })
+}
+
+fn moved_symbol(alloc: Global, symbol: &Symbol, order: &[u32]) -> Mem<Symbol>
+    requires { length order.now < 2 ^ 32 }
+    ensures { IfOk result (λ made. made ≡ placed_symbol (λ k. At (position order.now k)) symbol.now) }
+{
+    match symbol {
+        Symbol::Ref(root) => Ok(Symbol::Ref(position(order, *root))),
+        _ => symbol.copy(alloc),
+    }
+}
