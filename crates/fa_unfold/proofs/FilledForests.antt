@@ -183,7 +183,7 @@ module _ (t : Boxes) (F : Forest) (over : IsOver t F) where
     abbrev opened : Rule → Forest
     opened z = open_root bs F i p first z
 
-    first_good : (z : Rule) → IsIn z tops.ins → Every (IsGood t.face) (opened z).autos
+    pub first_good : (z : Rule) → IsIn z tops.ins → Every (IsGood t.face) (opened z).autos
     first_good z k =
         opened_good i at.root at.top p (Link b, at.state ∷ []) at.slot first (placed_ranked f input ranked.0) z
         (picked_each (IsTop first) are.ins z k).0 st.struct st.datums st.cell first_below (in_slots z k)
@@ -201,10 +201,10 @@ module _ (t : Boxes) (F : Forest) (over : IsOver t F) where
           cell_is (top_rule (component_at F.autos i)).symbol st.struct st.datums st.cell,
         ) (top_in (component_at F.autos i) at.top) st.struct st.datums st.cell
 
-    record IsEndRule (c : Automaton) (w : Rule) : Type 0 where
-      there : IsIn w c.rules
-      datums : List Datum
-      cell : IsCellOf w.symbol st.end datums
+    pub record IsEndRule (c : Automaton) (w : Rule) : Type 0 where
+      pub there : IsIn w c.rules
+      pub datums : List Datum
+      pub cell : IsCellOf w.symbol st.end datums
 
     own_rule : (z : Rule) → IsIn z tops.ins → y ≡ At i → IsEndRule (g z) (top_rule (g z))
     own_rule z k q =
@@ -226,7 +226,7 @@ module _ (t : Boxes) (F : Forest) (over : IsOver t F) where
               (subst (λ (w : Rule). IsCellOf w.symbol st.struct st.datums) e r.3);
         }
 
-    end_rule : (z : Rule) → IsIn z tops.ins → (j : ℕ) → y ≡ At j → (w : Rule)
+    pub end_rule : (z : Rule) → IsIn z tops.ins → (j : ℕ) → y ≡ At j → (w : Rule)
         → IsIn w (end_rules (opened z) i j tops.ends) → IsEndRule (component_at (opened z).autos j) w
     end_rule z k j q w iw = here (nat_eq i j) refl iw
       where
@@ -352,7 +352,7 @@ module _ (t : Boxes) (F : Forest) (over : IsOver t F) where
         (below_fits S (faces_of (box b hook_autos is).before) (faces_of t.defs) (box b hook_autos is).grow hook_leaf
         input hook_rules.0)
 
-    hook_good : (z : Rule) → IsIn z ins → Every (IsGood t.face) (open_root bs F i p port z).autos
+    pub hook_good : (z : Rule) → IsIn z ins → Every (IsGood t.face) (open_root bs F i p port z).autos
     hook_good z k =
         let m = picked_each (IsTop port) are z k in
         opened_good i at.root at.top p (Hook b, []) at.slot port (placed_ranked hook_leaf input hook_ranked.0) z m.0

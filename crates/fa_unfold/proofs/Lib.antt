@@ -1,3 +1,4 @@
+pub mod CutLists
 pub mod EdgeParts
 pub mod EdgesFilled
 pub mod EndStructs
@@ -24,6 +25,7 @@ pub mod LiftSteps
 pub mod LiftedForests
 pub mod LiftedRoots
 pub mod LinkUnfoldings
+pub mod MadeUnfoldings
 pub mod OpenedFilled
 pub mod OpenedFits
 pub mod OpenedOnce
@@ -35,8 +37,11 @@ pub mod PartItems
 pub mod PlaceRuns
 pub mod PortStructs
 pub mod PortTrees
+pub mod RankedUnfoldings
 mod Rows
 pub mod SlotsInOrder
 pub mod TableBoxes
 pub mod TableInsides
+pub mod UnfoldedAt
 pub mod UnfoldedMembers
+pub mod UnfoldingVars

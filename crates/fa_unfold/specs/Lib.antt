@@ -4,6 +4,7 @@ pub mod Outside
 pub mod Parts
 pub mod Sites
 pub mod Slots
+pub mod Unfold
 pub mod Unfolded
 pub mod Unfolding
 pub mod inner

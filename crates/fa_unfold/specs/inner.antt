@@ -1,2 +1,4 @@
+pub mod Cuts
 pub mod Lifting
+pub mod Ranges
 pub mod Trees

@@ -2,6 +2,8 @@
 //! root replaced by the inside of its box, of which the laws and parts of the body are there, and the call is not.
 #![tactic(auto)]
 
+mod cuts;
+mod ends;
 mod growing;
 pub mod laws;
 pub mod lifting;
@@ -10,8 +12,10 @@ pub mod lifting_laws;
 mod lifting_owners;
 mod lists;
 mod placing;
+mod replacing;
 mod roots;
 mod slots;
 mod tops;
+mod unfolding;
 
 pub use lifting::{can_lift, lift_parent};

@@ -1,0 +1,79 @@
+// Box edges of sound forests, whose end is one leaf, replaced by the inside of their box, over a table of boxes.
+
+ghost use Rattle.std.specs.Prelude.{◌≡◌, ◌∷◌, Some, IfOk};
+ghost use Rattle.fore_base.specs.Lists.{Every};
+ghost use Rattle.fa_core.specs.Member.{inside_of};
+ghost use Rattle.fa_sound.specs.Unions.{forests};
+ghost use Rattle.fa_unfold.specs.Sites.{IsHookAt, IsLinkAt};
+ghost use Rattle.fa_unfold.specs.Unfolded.{UnfoldsInto};
+ghost use Rattle.fa_unfold.specs.inner.Cuts.{IsUnfoldedAt};
+
+use crate::cuts::cut_all;
+use crate::replacing::{unfold_hook, unfold_link};
+use fa_back::ranked_insides;
+use fa_core::forest::Target;
+use fa_core::table::BoxTable;
+use fa_sound::Sound;
+use fore_base::list::List;
+use fore_base::memory::Mem;
+use std::alloc::Global;
+use ta_core::auto::Auto;
+
+/// The sound forests in which the Link at the place of the root, whose end is the leaf alone, is replaced by the inside
+/// of its box, which has these components. Err is want of memory, also where numbers of states and roots do not fit 32
+/// bits.
+pub fn unfold_link_at(
+    alloc: Global,
+    forest: &Sound,
+    table: &BoxTable,
+    root: u32,
+    place: usize,
+    number: u32,
+    end: Target,
+    input: &Auto,
+    output: &Auto,
+    inner: &[Auto],
+) -> Mem<List<Sound>>
+    requires face { table.now.face ≡ forest.now.face }
+    requires at { IsLinkAt forest.now.forest root place number end }
+    requires is { inside_of table.now.defs number ≡ Some (input.now ∷ (output.now ∷ inner.now)) }
+    ensures each { IfOk result (Every (IsUnfoldedAt table.now forest.now.forest root place)) }
+    ensures whole { IfOk result (λ made. UnfoldsInto table.now.defs forest.now.forest root place (forests made)) }
+{
+    forest.known();
+    table.known();
+    ranked_insides(table);
+    let whole = forest.forest();
+    let wholes = unfold_link(
+        alloc, table, whole, root, place, number, end, input, output, inner,
+    )?;
+    let made = cut_all(alloc, wholes.as_slice(), table.face())?;
+    Ok(made)
+}
+
+/// The sound forests in which the Hook at the place of the root is replaced by the inside of its box, which has these
+/// components. Err is want of memory, also where numbers of states and roots do not fit 32 bits.
+pub fn unfold_hook_at(
+    alloc: Global,
+    forest: &Sound,
+    table: &BoxTable,
+    root: u32,
+    place: usize,
+    number: u32,
+    input: &Auto,
+    inner: &[Auto],
+) -> Mem<List<Sound>>
+    requires face { table.now.face ≡ forest.now.face }
+    requires at { IsHookAt forest.now.forest root place number }
+    requires is { inside_of table.now.defs number ≡ Some (input.now ∷ inner.now) }
+    ensures each { IfOk result (Every (IsUnfoldedAt table.now forest.now.forest root place)) }
+    ensures whole { IfOk result (λ made. UnfoldsInto table.now.defs forest.now.forest root place (forests made)) }
+{
+    forest.known();
+    table.known();
+    ranked_insides(table);
+    let whole = forest.forest();
+    let wholes = unfold_hook(alloc, table, whole, root, place, number, input, inner)?;
+    let made = cut_all(alloc, wholes.as_slice(), table.face())?;
+    Ok(made)
+}
