@@ -2,14 +2,12 @@
 //
 // - `program | KIND N`: the program, `\n` for each newline.
 // - `lines | KIND N`: how many lines it has.
-// - `accepted | KIND N`: of the programs with 1 to N phases, how many the front end accepts.
-// - `boxes | KIND N`: how many boxes the file of boxes has, over the structs of the program.
+// - `boxes | KIND N`: the file of boxes, `\n` for each newline; it is the same for each kind and number.
 
-use crate::reading::{accepted, boxes};
 use anyhow::{Context, Result, bail};
 use fore_base::memory::Mem;
 use fore_base::text::Text;
-use fore_gen::generate;
+use fore_gen::{dll_boxes, generate};
 use fore_words::{Asked, Kind, read_words};
 use row_kit::Answers;
 use row_texts::shown;
@@ -34,8 +32,7 @@ impl Answers for Kinds {
         match head {
             "program" => put_program(alloc, &mut out, kind, phases)?,
             "lines" => out.put_number(lines(alloc, kind, phases)?)?,
-            "accepted" => out.put_number(accepted(alloc, kind, phases)?)?,
-            "boxes" => out.put_number(boxes(alloc, kind, phases)?)?,
+            "boxes" => put_lines(&mut out, dll_boxes())?,
             _ => bail!("no such kind"),
         }
         shown(alloc, &out)
@@ -57,7 +54,12 @@ fn asked(alloc: Global, text: &str) -> Result<(Kind, u32)> {
 
 fn put_program(alloc: Global, out: &mut Text, kind: Kind, phases: u32) -> Mem<()> {
     let program = generate(alloc, kind, phases)?;
-    for byte in program.as_slice() {
+    put_lines(out, program.as_slice())
+}
+
+/// Puts the text, `\n` for each newline.
+fn put_lines(out: &mut Text, text: &[u8]) -> Mem<()> {
+    for byte in text {
         if *byte == b'\n' {
             out.put(b"\\n")?;
         } else {

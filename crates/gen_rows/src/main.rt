@@ -4,7 +4,6 @@
 #![tactic(auto)]
 
 mod kinds;
-mod reading;
 
 use anyhow::Result;
 use kinds::Kinds;
