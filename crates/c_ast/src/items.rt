@@ -6,7 +6,7 @@ use fore_base::list::List;
 use fore_base::place::Place;
 
 /// `field = "struct" id "*" id { "," "*" id } ";" | data id { "," id } ";"`
-#[derive(PartialEq, Eq, Drop)]
+#[derive(Drop)]
 pub enum Field {
     Pointers {
         at: Place,
@@ -20,7 +20,7 @@ pub enum Field {
 }
 
 /// `rtype = "void" | data | "struct" id "*"`
-#[derive(PartialEq, Eq, Drop)]
+#[derive(Drop)]
 pub enum ReturnType {
     Void { at: Place },
     Data(Data),
@@ -28,21 +28,21 @@ pub enum ReturnType {
 }
 
 /// `param = "struct" id "*" id | data id`
-#[derive(PartialEq, Eq, Drop)]
+#[derive(Drop)]
 pub enum Param {
     Pointer { at: Place, shape: Name, name: Name },
     Datum { data: Data, name: Name },
 }
 
 /// `params = "void" | param { "," param }`
-#[derive(PartialEq, Eq, Drop)]
+#[derive(Drop)]
 pub enum Params {
     Void { at: Place },
     List(List<Param>),
 }
 
 /// What a prototype and a function begin with: `rtype id "(" [ params ] ")"`.
-#[derive(PartialEq, Eq, Drop)]
+#[derive(Drop)]
 pub struct Head {
     pub gives: ReturnType,
     pub name: Name,

@@ -5,21 +5,21 @@ use fore_base::place::Place;
 use fore_base::text::Text;
 
 /// A word that is not reserved, or a number, as it is written.
-#[derive(PartialEq, Eq, Drop)]
+#[derive(Drop)]
 pub struct Name {
     pub text: Text,
     pub at: Place,
 }
 
 /// One more field of a path: `"->" id`.
-#[derive(PartialEq, Eq, Drop)]
+#[derive(Drop)]
 pub struct Arrow {
     pub at: Place,
     pub field: Name,
 }
 
 /// `path = id { "->" id }`
-#[derive(PartialEq, Eq, Drop)]
+#[derive(Drop)]
 pub struct Path {
     pub head: Name,
     pub arrows: List<Arrow>,

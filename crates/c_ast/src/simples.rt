@@ -4,7 +4,7 @@ use crate::operands::{Call, Name, Operand, Path};
 use fore_base::place::Place;
 
 /// `size = "sizeof" "(" "struct" id ")" | "sizeof" "(" "*" path ")" | "sizeof" "*" path`
-#[derive(PartialEq, Eq, Drop)]
+#[derive(Drop)]
 pub enum Size {
     Struct { at: Place, name: Name },
     Bracketed { at: Place, star: Place, path: Path },
@@ -12,7 +12,7 @@ pub enum Size {
 }
 
 /// What may stand before a `malloc`: `"(" "struct" id "*" ")"`.
-#[derive(PartialEq, Eq, Drop)]
+#[derive(Drop)]
 pub struct Cast {
     pub at: Place,
     pub name: Name,

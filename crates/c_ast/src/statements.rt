@@ -8,7 +8,7 @@ use fore_base::list::List;
 use fore_base::place::Place;
 
 /// `data = "int" | "enum" id`
-#[derive(PartialEq, Eq, Drop)]
+#[derive(Drop)]
 pub enum Data {
     Int { at: Place },
     Enum { at: Place, name: Name },

@@ -9,6 +9,7 @@ use Rattle.c_types.specs.declared.outcome.Outcome.{Outcome}
 use Rattle.c_types.specs.declared.outcome.Outcome.TheVariants.{Fault, StillRunning}
 use Rattle.c_types.specs.declared.program.Atom.TheVariants.{Choice as ChoiceAtom, Known as KnownAtom, Ptr as PtrAtom}
 use Rattle.c_types.specs.declared.program.Atom.TheVariants.{Data as DataAtom}
+use Rattle.c_types.specs.declared.mode.MallocMode.{MallocMode}
 use Rattle.c_types.specs.Program.{Program}
 use Rattle.c_types.specs.Control.{Items, Done, Do, Close, If, Loop, Again, DoLoop, DoAgain, Ask, Not, Both, Either}
 use Rattle.c_types.specs.Runs.{supply}
@@ -58,16 +59,16 @@ module _ (shapes : List Shape) where
       choices (edge line k a (Choose None) (Some 0)) (edge line k b (Choose None) (Some 1)) refl refl refl
 
 -- all is said of each item
-every_true : {A : Type 0} (xs : List A) → Every (λ x. Unit {0}) xs
+pub every_true : {A : Type 0} (xs : List A) → Every (λ x. Unit {0}) xs
 every_true [] = tt
 every_true (x ∷ xs) = (tt, every_true xs)
 
-module _ (p : Program) (g : ControlGraph) (low : LowerOf p g) where
+module _ (p : Program) (mode : MallocMode) (g : ControlGraph) (low : LowerOf p mode g) where
   abbrev shapes : List Shape
   shapes = g.shapes.structs
 
   abbrev Good : Items → Type 0
-  Good = PlaceGood (length p.vars) (length p.data_vars) (λ l. Unit {0}) (IsOpposed shapes)
+  Good = PlaceGood (length p.vars) (length p.data_vars) (λ l. Unit {0}) (IsOpposed shapes) mode
 
   good : (c : Items) → Good c
   good Done = tt
@@ -85,7 +86,7 @@ module _ (p : Program) (g : ControlGraph) (low : LowerOf p g) where
   good (DoLoop c b is) = tt
   good (DoAgain c b is) = tt
 
-  leads : (c : Items) → PlaceLeads (λ k. Unit {0}) low.at c
+  pub leads : (c : Items) → PlaceLeads (λ k. Unit {0}) low.at c
   leads Done = tt
   leads (Do a m is) = tt
   leads (Close ps ds m is) = tt
@@ -104,7 +105,7 @@ module _ (p : Program) (g : ControlGraph) (low : LowerOf p g) where
 
   pub fans : (k : ℕ) → IsFan shapes (out_of g.edges k)
   fans =
-      each_location p g low (IsFan shapes) (λ k. Unit {0}) (λ l. Unit {0}) (IsOpposed shapes) (link_fans shapes)
+      each_location p mode g low (IsFan shapes) (λ k. Unit {0}) (λ l. Unit {0}) (IsOpposed shapes) (link_fans shapes)
       (test_fans shapes) (choice_fans shapes) no_edge
       (every_of Good good (places low.items Done))
       (every_of (PlaceLeads (λ k. Unit {0}) low.at) leads (places low.items Done))

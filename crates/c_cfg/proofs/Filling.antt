@@ -2,6 +2,8 @@
 use Rattle.std.proofs.Common.{◌≡◌, ℕ, zero, suc, ◌<◌, ◌≤◌, ◌+◌, List, [], ◌∷◌, ◌++◌, length, refl, arith, Option, Some}
 use Rattle.std.proofs.Common.{None}
 use Rattle.std.specs.Prelude.{pred}
+use Rattle.c_types.specs.declared.mode.MallocMode.{MallocMode}
+use Rattle.c_types.specs.declared.mode.MallocMode.TheVariants.{Always, MayFail}
 use Rattle.c_types.specs.declared.program.Path.{Path}
 use Rattle.c_types.specs.declared.program.DataPath.{DataPath}
 use Rattle.c_types.specs.declared.program.DataPath.TheVariants.{Var as DataVar, Field as DataField}
@@ -15,8 +17,8 @@ use Rattle.c_types.specs.declared.program.Act.TheVariants.{SetPtr, SetData, Free
 use Rattle.c_types.specs.declared.program.Act.TheVariants.{Continue}
 use Rattle.c_types.specs.Control.{Items, Done}
 use Rattle.c_cfg.specs.declared.graph.Instr.{Instr}
-use Rattle.c_cfg.specs.Links.{Link, loads, loads_but_last, data_loads, var_row, path_row, ptr_row, data_var_row}
-use Rattle.c_cfg.specs.Links.{data_field_row, data_row, return_row, act_row}
+use Rattle.c_cfg.specs.Links.{Link, links_in, loads, loads_but_last, data_loads, var_row, path_row, ptr_row}
+use Rattle.c_cfg.specs.Links.{data_var_row, data_field_row, data_row, return_row, act_row}
 
 abbrev pub Filled : List Link → Type 0
 Filled [] = ⊥
@@ -25,6 +27,11 @@ Filled (l ∷ ls) = Unit {0}
 pub filled_length : (ls : List Link) → Filled ls → 0 < length ls
 filled_length [] h = absurd h
 filled_length (l ∷ ls) h = omega arith
+
+pub filled_in : (mode : MallocMode) (ls : List Link) → Filled ls → Filled (links_in mode ls)
+filled_in Always ls h = h
+filled_in MayFail [] h = absurd h
+filled_in MayFail (l ∷ ls) h = tt
 
 -- something stands after the first ones
 filled_after : (ls : List Link) (l : Link) (xs : List Link) → Filled (ls ++ l ∷ xs)

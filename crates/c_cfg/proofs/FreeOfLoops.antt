@@ -9,6 +9,7 @@ use Rattle.fore_base.proofs.ListLemmas.{in_left, in_right, in_map, number_in, in
 use Rattle.c_types.specs.declared.program.Stmt.{Stmt, Stmt-F, fold-roll-Stmt, map-Stmt, ind-Stmt}
 use Rattle.c_types.specs.declared.program.Stmt.TheOpen.{Do as Do-F, Branch as Branch-F, While as While-F}
 use Rattle.c_types.specs.declared.program.Stmt.TheOpen.{DoWhile as DoWhile-F, For as For-F, Group as Group-F}
+use Rattle.c_types.specs.declared.mode.MallocMode.{MallocMode}
 use Rattle.c_types.specs.Program.{Program}
 use Rattle.c_types.specs.Control.{Items, Done, Do, Close, If, Loop, Again, DoLoop, DoAgain, Test, Ask, Not, Both}
 use Rattle.c_types.specs.Control.{Either, ◌then◌, ask, round, do_round, all_before, closes, items_step, items_of}
@@ -209,8 +210,9 @@ none_true : (ks : List ℕ) → list_all not (map (is_one_of []) ks) ≡ true
 none_true [] = refl
 none_true (k ∷ ks) = none_true ks
 
-pub free_graph : (p : Program) (g : ControlGraph) → LowerOf p g → list_all not g.heads ≡ has_no_loop p
-free_graph p g low = ap (list_all not) low.heads_are ∙ by (items_free low.items) refl
+pub free_graph : (p : Program) (mode : MallocMode) (g : ControlGraph) → LowerOf p mode g
+    → list_all not g.heads ≡ has_no_loop p
+free_graph p mode g low = ap (list_all not) low.heads_are ∙ by (items_free low.items) refl
     ∙ sym (free_remarked low.line low.items) ∙ ap items_free low.is_program ∙ program_told p
   where
     by : (b : Bool) → items_free low.items ≡ b

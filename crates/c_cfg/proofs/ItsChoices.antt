@@ -1,7 +1,9 @@
--- An edge of a lowered program has a choice exactly if it is a Choose.
-use Rattle.std.proofs.Common.{◌≡◌, ℕ, ◌+◌, List, [], ◌∷◌, ◌++◌, length, Bool, true, false, refl, sym, Option, Some}
-use Rattle.std.proofs.Common.{None}
+-- Where each `malloc` gives a cell, an edge of a lowered program has a choice exactly if it is a Choose.
+use Rattle.std.proofs.Common.{◌≡◌, ℕ, ◌+◌, List, [], ◌∷◌, ◌++◌, length, Bool, true, false, refl, sym, Option}
+use Rattle.std.proofs.Common.{Some, None, true≢false}
 use Rattle.fore_base.specs.Lists.{Every}
+use Rattle.fore_base.proofs.ListLemmas.{every_in, in_every}
+use Rattle.c_types.specs.declared.mode.MallocMode.TheVariants.{Always}
 use Rattle.c_types.specs.declared.program.Path.{Path}
 use Rattle.c_types.specs.declared.program.DataPath.{DataPath}
 use Rattle.c_types.specs.declared.program.DataPath.TheVariants.{Var as DataVar, Field as DataField}
@@ -20,15 +22,24 @@ use Rattle.c_types.specs.declared.program.DataOp.TheVariants.{Path as DataOpPath
 use Rattle.c_types.specs.declared.program.Atom.{Atom}
 use Rattle.c_types.specs.declared.program.Atom.TheVariants.{Choice as ChoiceAtom, Known as KnownAtom, Ptr as PtrAtom}
 use Rattle.c_types.specs.declared.program.Atom.TheVariants.{Data as DataAtom}
+use Rattle.c_types.specs.Program.{Program}
 use Rattle.c_types.specs.Control.{Items, Done, Do, Close, If, Loop, Again, DoLoop, DoAgain, Ask, Not, Both, Either}
+use Rattle.c_cfg.specs.declared.graph.PtrArg.TheVariants.{Var as PtrVar, Null as PtrNull}
 use Rattle.c_cfg.specs.declared.graph.Instr.{Instr}
+use Rattle.c_cfg.specs.declared.graph.Instr.TheVariants.{CopyPtr, LoadPtr, StorePtr, StoreConst, New, Free, Kill}
+use Rattle.c_cfg.specs.declared.graph.Instr.TheVariants.{CopyData, LoadData, StoreData, TestPtr, TestData, Choose, Stop}
 use Rattle.c_cfg.specs.declared.graph.Edge.{Edge}
-use Rattle.c_cfg.specs.Graphs.{is_choose, HasItsChoice}
+use Rattle.c_cfg.specs.Graphs.{ControlGraph, has_choice, is_none_or, is_choose, may_have, HasItsChoice}
+use Rattle.c_cfg.specs.Graphs.{HasChoiceAsChoose}
 use Rattle.c_cfg.specs.Links.{Link, One, Two, loads, loads_but_last, used, ends, data_loads, op_loads, data_op_loads}
 use Rattle.c_cfg.specs.Links.{var_row, path_row, ptr_row, data_var_row, data_field_row, data_row, return_row, act_row}
 use Rattle.c_cfg.specs.Links.{ptr_loads, cmp_loads, ptr_test, data_test, ptr_ends, data_ends}
-use Rattle.c_cfg.specs.Lowering.{link_edges}
+use Rattle.c_cfg.specs.GraphRuns.{out_of}
+use Rattle.c_cfg.specs.Places.{places}
+use Rattle.c_cfg.specs.Lowering.{link_edges, numbers, LowerOf}
 use Rattle.c_cfg.specs.inner.Numbering.{chain, test_edges, atom_edges, place_edges, all_edges}
+use Rattle.c_cfg.proofs.Leaving.{in_out, PlaceGood, each_location}
+use Rattle.c_cfg.proofs.Fanning.{every_true, leads}
 
 -- a link of edges with or without choices
 abbrev LinkFits : Link → Type 0
@@ -139,10 +150,10 @@ module _ (nv nd : ℕ) where
 -- Edges
 
 abbrev Told : List Edge → Type 0
-Told es = Every HasItsChoice es
+Told es = Every HasChoiceAsChoose es
 
 told_more : (xs ys : List Edge) → Told xs → Told ys → Told (xs ++ ys)
-told_more = every_more HasItsChoice
+told_more = every_more HasChoiceAsChoose
 
 link_told : (line k to : ℕ) (l : Link) → LinkFits l → Told (link_edges line k to l)
 link_told line k to (One i) h = (sym h, tt)
@@ -206,3 +217,75 @@ module _ (nv nd : ℕ) where
   all_told exit line [] = tt
   all_told exit line (c ∷ cs) =
       told_more (place_edges nv nd exit line c) _ (place_told exit line c) (all_told exit line cs)
+
+-- So each has its choice
+
+none_told : (x : ℕ) (o : Option ℕ) → has_choice o ≡ false → is_none_or x o ≡ true
+none_told x None h = refl
+none_told x (Some y) h = absurd (true≢false h)
+
+choose_told : (i : Instr) (o : Option ℕ) → has_choice o ≡ is_choose i → may_have i o ≡ true
+choose_told (CopyPtr x (PtrVar y)) o h = rw h refl
+choose_told (CopyPtr x PtrNull) o h = none_told 0 o h
+choose_told (LoadPtr x y f) o h = rw h refl
+choose_told (StorePtr x f y) o h = rw h refl
+choose_told (StoreConst x f v) o h = rw h refl
+choose_told (New x shape) o h = none_told 1 o h
+choose_told (Free x) o h = rw h refl
+choose_told (Kill ps ds) o h = rw h refl
+choose_told (CopyData x y) o h = rw h refl
+choose_told (LoadData x y f) o h = rw h refl
+choose_told (StoreData x f y) o h = rw h refl
+choose_told (TestPtr l r e) o h = rw h refl
+choose_told (TestData l r e) o h = rw h refl
+choose_told (Choose x) o h = h
+choose_told (Stop e) o h = rw h refl
+
+pub all_have : (es : List Edge) → Told es → Every HasItsChoice es
+all_have [] h = tt
+all_have (e ∷ es) h = (choose_told e.instr e.choice h.0, all_have es h.1)
+
+-- The edges of any graph of a program
+
+module _ (p : Program) (g : ControlGraph) (low : LowerOf p Always g) where
+  abbrev TestTold : (Bool → Instr) → Type 0
+  TestTold t = (b : Bool) → is_choose (t b) ≡ false
+
+  place_good : (c : Items) → PlaceGood (length p.vars) (length p.data_vars) LinkFits TestTold Always c
+  place_good Done = tt
+  place_good (Do a m is) = act_fits (length p.vars) (length p.data_vars) a is
+  place_good (Close ps ds m is) = refl
+  place_good (If (Ask ChoiceAtom m) x y is) = tt
+  place_good (If (Ask (KnownAtom b) m) x y is) = refl
+  place_good (If (Ask (PtrAtom l r e) m) x y is) = (
+    fit_more (op_loads (length p.vars) l) _ (op_fit (length p.vars) l) (op_fit (length p.vars + 1) r),
+    (λ b. refl),
+    ends_fit _ [],
+  )
+  place_good (If (Ask (DataAtom l r e) m) x y is) = (
+    fit_more (data_op_loads (length p.vars) (length p.data_vars) l) _
+        (data_op_fit (length p.vars) (length p.data_vars) l)
+        (data_op_fit (length p.vars + 1) (length p.data_vars + 1) r),
+    (λ b. refl),
+    ends_fit _ _,
+  )
+  place_good (If (Not c) x y is) = tt
+  place_good (If (Both c d) x y is) = tt
+  place_good (If (Either c d) x y is) = tt
+  place_good (Loop c n b is) = tt
+  place_good (Again c n b is) = tt
+  place_good (DoLoop c b is) = tt
+  place_good (DoAgain c b is) = tt
+
+  pub stand_at_chooses : Every HasChoiceAsChoose g.edges
+  stand_at_chooses = in_every HasChoiceAsChoose g.edges (λ e i.
+      every_in HasChoiceAsChoose (out_of g.edges e.from) e
+      (each_location p Always g low Told (λ k. Unit {0}) LinkFits TestTold (λ line k to l h t. link_told line k to l h)
+      (λ line k a b test h x y. (sym (h true), (sym (h false), tt))) (λ line k a b x y. (refl, (refl, tt))) tt
+      (every_place place_good (places low.items Done)) (every_place (leads p Always g low) (places low.items Done))
+      (every_true (numbers low.at low.mids (places low.items Done))) e.from)
+      (in_out g.edges e i))
+    where
+      every_place : {Q : Items → Type 0} → ((c : Items) → Q c) → (cs : List Items) → Every Q cs
+      every_place q [] = tt
+      every_place q (c ∷ cs) = (q c, every_place q cs)

@@ -1,8 +1,8 @@
 -- What is so of the edges of each row is so of the edges that leave each location.
 use Rattle.std.proofs.Common.{◌≡◌, ◌<◌, inl, inr, ℕ, zero, suc, List, [], ◌∷◌, ◌++◌, length, Bool, true, false, refl}
-use Rattle.std.proofs.Common.{sym, ◌∙◌, subst, Some, None, arith}
-use Rattle.std.proofs.lemmas.Bool.{cases_lt}
-use Rattle.std.specs.Prelude.{nat_eq}
+use Rattle.std.proofs.Common.{sym, ap, ◌∙◌, subst, Some, None, arith}
+use Rattle.std.proofs.lemmas.Bool.{cases_lt, eq-eqb}
+use Rattle.std.specs.Prelude.{nat_eq, if◌then◌else◌}
 use Rattle.std.proofs.lemmas.List.Sorted.{list_any-IsPermutation}
 use Rattle.fore_base.specs.Lists.{IsIn, Every}
 use Rattle.fore_base.proofs.ListLemmas.{in_left, in_right, in_last, every_in, in_every, every_parts, every_append}
@@ -10,6 +10,7 @@ use Rattle.fore_base.proofs.ListLemmas.{number_in, in_number}
 use Rattle.c_types.specs.declared.program.Atom.{Atom}
 use Rattle.c_types.specs.declared.program.Atom.TheVariants.{Choice as ChoiceAtom, Known as KnownAtom, Ptr as PtrAtom}
 use Rattle.c_types.specs.declared.program.Atom.TheVariants.{Data as DataAtom}
+use Rattle.c_types.specs.declared.mode.MallocMode.{MallocMode}
 use Rattle.c_types.specs.Program.{Program}
 use Rattle.c_types.specs.Control.{Items, Done, Do, Close, If, Loop, Again, DoLoop, DoAgain, Test, Ask, Not, Both}
 use Rattle.c_types.specs.Control.{Either, ◌then◌, opened, round, do_round}
@@ -19,11 +20,12 @@ use Rattle.c_cfg.specs.declared.graph.Instr.TheVariants.{Kill, Choose}
 use Rattle.c_cfg.specs.declared.graph.Edge.{Edge}
 use Rattle.c_cfg.specs.Graphs.{ControlGraph}
 use Rattle.c_cfg.specs.GraphRuns.{out_of}
-use Rattle.c_cfg.specs.Links.{Link, One, act_row, ptr_loads, ptr_test, ptr_ends, cmp_loads, data_test, data_ends}
+use Rattle.c_cfg.specs.Links.{Link, One, links_in, act_row, ptr_loads, ptr_test, ptr_ends, cmp_loads, data_test}
+use Rattle.c_cfg.specs.Links.{data_ends}
 use Rattle.c_cfg.specs.Places.{test_places, places}
 use Rattle.c_cfg.specs.Lowering.{edge, link_edges, IsWay, but_last, IsWayOver, IsTestRow, IsRow, IsAtomRow, followed_by}
 use Rattle.c_cfg.specs.Lowering.{numbers, LowerOf}
-use Rattle.c_cfg.proofs.Filling.{Filled, act_filled}
+use Rattle.c_cfg.proofs.Filling.{Filled, filled_in, act_filled}
 use Rattle.c_cfg.proofs.Spans.{Within, out_off}
 
 -- the numbers below n
@@ -44,6 +46,17 @@ below_in (suc n) k h = later (below n) (below_in n k) h
     later [] less (inr i) = absurd i
     later (m ∷ ms) less (inl e) = let l = less (inl e) in omega (arith, l)
     later (m ∷ ms) less (inr i) = later ms (λ j. less (inr j)) i
+
+-- an edge is among those that begin where it does
+pub in_out : (es : List Edge) (e : Edge) → IsIn e es → IsIn e (out_of es e.from)
+in_out [] e i = absurd i
+in_out (d ∷ ds) e (inl same) =
+    let here : nat_eq d.from e.from ≡ true = eq-eqb d.from e.from (ap (λ z. z.from) (sym same)) in rw here (inl same)
+in_out (d ∷ ds) e (inr i) = later (nat_eq d.from e.from) (in_out ds e i)
+  where
+    later : (b : Bool) → IsIn e (out_of ds e.from) → IsIn e (if b then d ∷ out_of ds e.from else out_of ds e.from)
+    later true h = inr h
+    later false h = h
 
 -- a place has a step
 abbrev IsStep : Items → Type 0
@@ -93,18 +106,18 @@ module _ (nv nd : ℕ) (L : Link → Type 0) (C : (Bool → Instr) → Type 0) w
   AtomGood (PtrAtom l r e) = Every L (ptr_loads nv nd l r) × C (ptr_test nv nd l r) × Every L (ptr_ends nv nd l r)
   AtomGood (DataAtom l r e) = Every L (cmp_loads nv nd l r) × C (data_test nv nd l r) × Every L (data_ends nv nd l r)
 
-  abbrev pub PlaceGood : Items → Type 0
-  PlaceGood Done = Unit {0}
-  PlaceGood (Do a m is) = Every L (act_row nv nd a is)
-  PlaceGood (Close ps ds m is) = L (One (Kill ps ds))
-  PlaceGood (If (Ask a m) x y is) = AtomGood a
-  PlaceGood (If (Not c) x y is) = Unit {0}
-  PlaceGood (If (Both c d) x y is) = Unit {0}
-  PlaceGood (If (Either c d) x y is) = Unit {0}
-  PlaceGood (Loop c n b is) = Unit {0}
-  PlaceGood (Again c n b is) = Unit {0}
-  PlaceGood (DoLoop c b is) = Unit {0}
-  PlaceGood (DoAgain c b is) = Unit {0}
+  abbrev pub PlaceGood : MallocMode → Items → Type 0
+  PlaceGood mode Done = Unit {0}
+  PlaceGood mode (Do a m is) = Every L (links_in mode (act_row nv nd a is))
+  PlaceGood mode (Close ps ds m is) = L (One (Kill ps ds))
+  PlaceGood mode (If (Ask a m) x y is) = AtomGood a
+  PlaceGood mode (If (Not c) x y is) = Unit {0}
+  PlaceGood mode (If (Both c d) x y is) = Unit {0}
+  PlaceGood mode (If (Either c d) x y is) = Unit {0}
+  PlaceGood mode (Loop c n b is) = Unit {0}
+  PlaceGood mode (Again c n b is) = Unit {0}
+  PlaceGood mode (DoLoop c b is) = Unit {0}
+  PlaceGood mode (DoAgain c b is) = Unit {0}
 
 module _ (T : ℕ → Type 0) (at : Items → ℕ) where
   -- T of the locations to which its step leads
@@ -205,7 +218,7 @@ module _ (edges : List Edge) (P : List Edge → Type 0) (T : ℕ → Type 0) (L 
             (end_has line post r.if_other r.after_other other r.other_ends e no.1))),
       )
 
-  module _ (nv nd : ℕ) (line : ℕ → ℕ) (at : Items → ℕ) (mids : Items → List ℕ) where
+  module _ (nv nd : ℕ) (mode : MallocMode) (line : ℕ → ℕ) (at : Items → ℕ) (mids : Items → List ℕ) where
     none_in : (ms : List ℕ) → ms ≡ [] → Every Here ms
     none_in ms e = subst (Every Here) (sym e) tt
 
@@ -225,11 +238,12 @@ module _ (edges : List Edge) (P : List Edge → Type 0) (T : ℕ → Type 0) (L 
     atom_has (DataAtom l r false) n k ms x y row g tx ty t =
         test_has n (cmp_loads nv nd l r) (data_test nv nd l r) (data_ends nv nd l r) k ms y x row g.0 g.1 g.2 ty tx t
 
-    place_has : (c : Items) → IsStep c → IsRow nv nd edges line at mids c → PlaceGood nv nd L C c → PlaceLeads T at c
-        → Every T (mids c) → Here (at c) × Every Here (mids c)
+    place_has : (c : Items) → IsStep c → IsRow nv nd edges mode line at mids c → PlaceGood nv nd L C mode c
+        → PlaceLeads T at c → Every T (mids c) → Here (at c) × Every Here (mids c)
     place_has Done o r g d t = absurd o
     place_has (Do a m is) o r g d t =
-        over_has (line m) (act_row nv nd a is) (at (Do a m is)) (mids (Do a m is)) _ r (act_filled nv nd a is) g d t
+        over_has (line m) (links_in mode (act_row nv nd a is)) (at (Do a m is)) (mids (Do a m is)) _ r
+        (filled_in mode (act_row nv nd a is) (act_filled nv nd a is)) g d t
     place_has (Close ps ds m is) o r g d t =
         over_has (line m) (One (Kill ps ds) ∷ []) (at (Close ps ds m is)) (mids (Close ps ds m is)) _ r tt (g, tt) d t
     place_has (If (Ask a m) x y is) o r g d t =
@@ -242,9 +256,9 @@ module _ (edges : List Edge) (P : List Edge → Type 0) (T : ℕ → Type 0) (L 
     place_has (DoLoop c b is) o r g d t = absurd r
     place_has (DoAgain c b is) o r g d t = absurd r
 
-    every_has : (cs : List Items) → Every IsStep cs → Every (IsRow nv nd edges line at mids) cs
-        → Every (PlaceGood nv nd L C) cs → Every (PlaceLeads T at) cs → Every T (numbers at mids cs) → Here (at Done)
-        → Every Here (numbers at mids cs)
+    every_has : (cs : List Items) → Every IsStep cs → Every (IsRow nv nd edges mode line at mids) cs
+        → Every (PlaceGood nv nd L C mode) cs → Every (PlaceLeads T at) cs → Every T (numbers at mids cs)
+        → Here (at Done) → Every Here (numbers at mids cs)
     every_has [] o r g d t h = (h, tt)
     every_has (c ∷ cs) o r g d t h =
         let ts = every_parts T (mids c) (numbers at mids cs) t.1 in
@@ -252,7 +266,7 @@ module _ (edges : List Edge) (P : List Edge → Type 0) (T : ℕ → Type 0) (L 
         (has.0, every_append Here (mids c) (numbers at mids cs) has.1 (every_has cs o.1 r.1 g.1 d.1 ts.1 h))
 
 -- each location is a number of the exit or of a place, and each of those is a location
-module _ (p : Program) (g : ControlGraph) (low : LowerOf p g) where
+module _ (p : Program) (mode : MallocMode) (g : ControlGraph) (low : LowerOf p mode g) where
   pub all_below : Every (λ k. k < g.locations) (numbers low.at low.mids (places low.items Done))
   all_below = in_every (λ k. k < g.locations) (numbers low.at low.mids (places low.items Done)) (λ k i.
       below_in g.locations k
@@ -294,12 +308,12 @@ module _ (p : Program) (g : ControlGraph) (low : LowerOf p g) where
       (chosen : (line k a b : ℕ) → T a → T b
       → P (edge line k a (Choose None) (Some 0) ∷ edge line k b (Choose None) (Some 1) ∷ [])) where
     -- so P holds of the edges that leave any location
-    pub each_location : P [] → Every (PlaceGood nv nd L C) (places low.items Done)
+    pub each_location : P [] → Every (PlaceGood nv nd L C mode) (places low.items Done)
         → Every (PlaceLeads T low.at) (places low.items Done)
         → Every T (numbers low.at low.mids (places low.items Done)) → (k : ℕ) → P (out_of g.edges k)
     each_location none good leads ts k = elim (cases_lt k g.locations) [
       | inl less ↦ every_in (λ j. P (out_of g.edges j)) (numbers low.at low.mids (places low.items Done)) k
-          (every_has g.edges P T L C links tests chosen nv nd low.line low.at low.mids (places low.items Done)
+          (every_has g.edges P T L C links tests chosen nv nd mode low.line low.at low.mids (places low.items Done)
           (places_step low.items Done) low.rows good leads ts (subst P (sym low.exit) none)) (number_of k less)
       | inr past ↦ subst P (sym (out_off 0 g.locations g.edges k (within g.edges low.each_from) (inr past))) none
     ]

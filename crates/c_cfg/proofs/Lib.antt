@@ -6,6 +6,7 @@ pub mod Closing
 pub mod Compiled
 pub mod CondLayers
 pub mod Counting
+pub mod Doubling
 pub mod Fanning
 pub mod Filling
 pub mod FreeOfLoops
@@ -26,6 +27,7 @@ pub mod Numbers
 pub mod Opening
 pub mod Ordered
 pub mod PlaceRows
+pub mod PlainLinks
 pub mod Properly
 pub mod Ranged
 pub mod RangedEdges

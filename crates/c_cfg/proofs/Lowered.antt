@@ -4,6 +4,8 @@ use Rattle.std.proofs.Common.{replicate, refl, sym, ap, ◌∙◌, subst, arith}
 use Rattle.std.proofs.lemmas.List.{length-replicate}
 use Rattle.std.specs.List.Sorted.{IsPermutation}
 use Rattle.fore_base.specs.Lists.{Every}
+use Rattle.c_types.specs.declared.mode.MallocMode.{MallocMode}
+use Rattle.c_types.specs.declared.mode.MallocMode.TheVariants.{Always}
 use Rattle.c_types.specs.Program.{Program}
 use Rattle.c_types.specs.Control.{Done, start_of}
 use Rattle.c_types.specs.Steps.{below}
@@ -15,12 +17,14 @@ use Rattle.c_cfg.specs.inner.Emitting.{first_of}
 use Rattle.fore_base.specs.declared.shape.Shapes.{Shapes}
 use Rattle.fore_base.specs.Stores.{set_each}
 use Rattle.c_types.proofs.CellsFit.{length_set_each}
-use Rattle.c_cfg.specs.Graphs.{ControlGraph, HasItsChoice}
+use Rattle.c_cfg.specs.Graphs.{ControlGraph, HasItsChoice, HasChoiceAsChoose}
 use Rattle.c_cfg.specs.Lowering.{is_one_of}
 use Rattle.c_cfg.specs.inner.Numbering.{heads_of}
 use Rattle.c_cfg.specs.inner.Emitting.{in_loop, wide_all, emit_all, head_numbers, heads_all}
+use Rattle.c_cfg.specs.inner.Failing.{edges_in}
 use Rattle.c_cfg.proofs.Compiled.{emits}
-use Rattle.c_cfg.proofs.ItsChoices.{all_told}
+use Rattle.c_cfg.proofs.Doubling.{told_in, lowers_in}
+use Rattle.c_cfg.proofs.ItsChoices.{all_told, all_have}
 use Rattle.c_cfg.proofs.LoopHeads.{heads_numbered}
 use Rattle.c_cfg.proofs.Marking.{entries_are}
 use Rattle.c_cfg.proofs.Opening.{all_plain}
@@ -41,7 +45,7 @@ below_all : (e : ℕ) (es : List Edge) → Within 0 e es → Every (λ f. f.from
 below_all e [] h = tt
 below_all e (f ∷ es) h = (omega (arith, h.0.1), below_all e es h.1)
 
-pub lowers : (p : Program) → LowerOf p (lowered p)
+pub lowers : (p : Program) → LowerOf p Always (lowered p)
 lowers p =
     let nv = length p.vars in let nd = length p.data_vars in
     let items = start_of p in
@@ -109,8 +113,8 @@ module _ (p : Program) where
   unfolding wide_all
   exit_wide = refl
 
-  abbrev made : ℕ → ℕ → ℕ → List Edge → List Bool → Shapes → ControlGraph
-  made l q d es hs shapes = record { locations = l; ptrs = q; datums = d; edges = es; heads = hs; shapes = shapes }
+  abbrev pub graph_of : ℕ → ℕ → ℕ → List Edge → List Bool → Shapes → ControlGraph
+  graph_of l q d es hs shapes = record { locations = l; ptrs = q; datums = d; edges = es; heads = hs; shapes = shapes }
 
   module _ (e : ℕ) (exit : e ≡ wide_all nv nd p.body) where
     pub edges_are : (es : List Edge) → es ≡ emit_all nv nd e p.body (in_loop e e) 0 e → es ≡ edges_of nv nd (start_of p)
@@ -126,24 +130,25 @@ module _ (p : Program) where
     heads_long hs h = ap length h ∙ length_set_each (replicate (e + 1) false) (heads_all nv nd p.body 0) true
         ∙ length-replicate (e + 1) false
 
-    pub choices_told : (es : List Edge) → es ≡ emit_all nv nd e p.body (in_loop e e) 0 e → Every HasItsChoice es
-    choices_told es h = subst (Every HasItsChoice) (sym (edges_are es h))
+    pub choices_told : (mode : MallocMode) (es : List Edge) → es ≡ emit_all nv nd e p.body (in_loop e e) 0 e
+        → Every HasItsChoice (edges_in mode es)
+    choices_told mode es h = told_in mode es (all_have es (subst (Every HasChoiceAsChoose) (sym (edges_are es h))
         (all_told nv nd (exit_of nv nd (start_of p)) (line_of nv nd (start_of p))
-        (places (numbered nv nd (start_of p)) Done))
+        (places (numbered nv nd (start_of p)) Done))))
 
-    pub built : (l q d : ℕ) (es : List Edge) (hs : List Bool) (shapes : Shapes) → l ≡ e + 1 → q ≡ nv + 2 → d ≡ nd + 2
-        → es ≡ emit_all nv nd e p.body (in_loop e e) 0 e
+    pub built : (mode : MallocMode) (l q d : ℕ) (es : List Edge) (hs : List Bool) (shapes : Shapes) → l ≡ e + 1
+        → q ≡ nv + 2 → d ≡ nd + 2 → es ≡ emit_all nv nd e p.body (in_loop e e) 0 e
         → hs ≡ set_each (replicate (e + 1) false) (heads_all nv nd p.body 0) true → shapes ≡ p.shapes
-        → LowerOf p (made l q d es hs shapes)
-    built l q d es hs shapes el eq ed ee eh es2 =
-        let path : made l q d es hs shapes ≡ lowered p =
-        ap (λ z. made z q d es hs shapes) (el ∙ ap (λ k. k + 1) (exit ∙ exit_wide))
-        ∙ ap (λ z. made (exit_of nv nd (start_of p) + 1) z d es hs shapes) eq
-        ∙ ap (λ z. made (exit_of nv nd (start_of p) + 1) (nv + 2) z es hs shapes) ed
-        ∙ ap (λ z. made (exit_of nv nd (start_of p) + 1) (nv + 2) (nd + 2) z hs shapes) (edges_are es ee)
-        ∙ ap (λ z. made (exit_of nv nd (start_of p) + 1) (nv + 2) (nd + 2) (edges_of nv nd (start_of p)) z shapes)
+        → LowerOf p mode (graph_of l q d (edges_in mode es) hs shapes)
+    built mode l q d es hs shapes el eq ed ee eh es2 =
+        let path : graph_of l q d es hs shapes ≡ lowered p =
+        ap (λ z. graph_of z q d es hs shapes) (el ∙ ap (λ k. k + 1) (exit ∙ exit_wide))
+        ∙ ap (λ z. graph_of (exit_of nv nd (start_of p) + 1) z d es hs shapes) eq
+        ∙ ap (λ z. graph_of (exit_of nv nd (start_of p) + 1) (nv + 2) z es hs shapes) ed
+        ∙ ap (λ z. graph_of (exit_of nv nd (start_of p) + 1) (nv + 2) (nd + 2) z hs shapes) (edges_are es ee)
+        ∙ ap (λ z. graph_of (exit_of nv nd (start_of p) + 1) (nv + 2) (nd + 2) (edges_of nv nd (start_of p)) z shapes)
         (heads_have hs eh)
         ∙ ap
-        (λ z. made (exit_of nv nd (start_of p) + 1) (nv + 2) (nd + 2) (edges_of nv nd (start_of p))
+        (λ z. graph_of (exit_of nv nd (start_of p) + 1) (nv + 2) (nd + 2) (edges_of nv nd (start_of p))
         (heads_of nv nd (start_of p)) z) es2 in
-        subst (LowerOf p) (sym path) (lowers p)
+        lowers_in mode p (graph_of l q d es hs shapes) (subst (LowerOf p Always) (sym path) (lowers p))

@@ -2,6 +2,7 @@
 use Rattle.std.proofs.Common.{inr, ℕ, suc, ◌+◌, ◌≤◌, List, [], ◌∷◌, ◌++◌, length, sym, ap, ◌∙◌, subst, Bool, true}
 use Rattle.std.proofs.Common.{false, arith, None}
 use Rattle.fore_base.specs.Lists.{Every}
+use Rattle.c_types.specs.declared.mode.MallocMode.TheVariants.{Always}
 use Rattle.c_types.specs.declared.program.PtrOp.{PtrOp}
 use Rattle.c_types.specs.declared.program.DataOp.{DataOp}
 use Rattle.c_types.specs.declared.program.Atom.{Atom}
@@ -165,7 +166,8 @@ module _ (nv nd : ℕ) where
 
   -- every place has its row
   pub rows_all : (E : List Edge) (exit : ℕ) (line : ℕ → ℕ) (ps : List Items) (i e : ℕ) → Stacked nv nd i ps e
-      → AgreesOn E (all_edges nv nd exit line ps) i e → Every (IsRow nv nd E line (loc nv nd exit) (mids_of nv nd)) ps
+      → AgreesOn E (all_edges nv nd exit line ps) i e
+      → Every (IsRow nv nd E Always line (loc nv nd exit) (mids_of nv nd)) ps
   rows_all E exit line [] i e h a = tt
   rows_all E exit line (c ∷ ps) i e h a =
       let w = place_width nv nd c in

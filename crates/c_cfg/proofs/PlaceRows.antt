@@ -3,6 +3,7 @@ use Rattle.std.proofs.Common.{◌≡◌, inl, inr, ℕ, zero, suc, ◌+◌, ◌<
 use Rattle.std.proofs.Common.{◌∙◌, Bool, true, false, arith, None}
 use Rattle.std.specs.Prelude.{pred}
 use Rattle.std.proofs.lemmas.List.{append-nil}
+use Rattle.c_types.specs.declared.mode.MallocMode.TheVariants.{Always}
 use Rattle.c_types.specs.declared.program.PtrOp.{PtrOp}
 use Rattle.c_types.specs.declared.program.DataOp.{DataOp}
 use Rattle.c_types.specs.declared.program.Atom.{Atom}
@@ -186,7 +187,7 @@ module _ (nv nd : ℕ) (E : List Edge) where
 
   pub place_row : (exit : ℕ) (line : ℕ → ℕ) (c : Items) → IsOpen nv nd c
       → AgreesOn E (place_edges nv nd exit line c) (mark_of c) (mark_of c + place_width nv nd c)
-      → IsRow nv nd E line (loc nv nd exit) (mids_of nv nd) c
+      → IsRow nv nd E Always line (loc nv nd exit) (mids_of nv nd) c
   place_row exit line Done o h = absurd o
   place_row exit line (Do a m is) o h =
       let to = loc nv nd exit (opened (followed_by a is)) in

@@ -1,13 +1,14 @@
 -- Each number of an edge of a lowered program is in range.
-use Rattle.std.proofs.Common.{◌≡◌, ◌<◌, ◌≤◌, ◌+◌, inl, inr, ℕ, zero, suc, Bool, true, false, true≢false, List, [], ◌∷◌}
+use Rattle.std.proofs.Common.{◌≡◌, ◌<◌, ◌≤◌, ◌+◌, ℕ, zero, suc, Bool, true, false, true≢false, List, [], ◌∷◌}
 use Rattle.std.proofs.Common.{◌++◌, length, refl, sym, ap, subst, arith, Option, Some, None, is_some}
-use Rattle.std.specs.Prelude.{nat_eq, if◌then◌else◌}
-use Rattle.std.proofs.lemmas.Bool.{and_parts, ltb-true, leb-true, eq-eqb, eqb-true}
+use Rattle.std.proofs.lemmas.Bool.{and_parts, ltb-true, leb-true, eqb-true}
 use Rattle.fore_base.specs.declared.limits.TheConstants.{DATUM}
 use Rattle.fore_base.specs.declared.shape.Shape.{Shape}
-use Rattle.fore_base.specs.Lists.{IsIn, Every}
+use Rattle.fore_base.specs.Lists.{Every}
 use Rattle.fore_base.specs.Shapes.{targets_of, datums_of}
 use Rattle.fore_base.proofs.ListLemmas.{every_in, in_every, every_append, every_weaker}
+use Rattle.c_types.specs.declared.mode.MallocMode.{MallocMode}
+use Rattle.c_types.specs.declared.mode.MallocMode.TheVariants.{Always, MayFail}
 use Rattle.c_types.specs.declared.program.Path.{Path}
 use Rattle.c_types.specs.declared.program.DataPath.{DataPath}
 use Rattle.c_types.specs.declared.program.DataPath.TheVariants.{Var as DataVar, Field as DataField}
@@ -36,18 +37,19 @@ use Rattle.c_types.proofs.CellsFit.{IsAt}
 use Rattle.c_types.proofs.Fitting.{Leads, PathLeads, path_leads, path_below}
 use Rattle.c_types.proofs.ItemsTyped.{has_shapes_typed, has_vars_typed}
 use Rattle.c_cfg.specs.declared.graph.Instr.{Instr}
-use Rattle.c_cfg.specs.declared.graph.Instr.TheVariants.{Kill, Choose}
+use Rattle.c_cfg.specs.declared.graph.Instr.TheVariants.{CopyPtr, LoadPtr, StorePtr, StoreConst, New, Free, Kill}
+use Rattle.c_cfg.specs.declared.graph.Instr.TheVariants.{CopyData, LoadData, StoreData, TestPtr, TestData, Choose, Stop}
 use Rattle.c_cfg.specs.declared.graph.Edge.{Edge}
-use Rattle.c_cfg.specs.Graphs.{ControlGraph, is_choose}
+use Rattle.c_cfg.specs.Graphs.{ControlGraph, may_have}
 use Rattle.c_cfg.specs.GraphRuns.{out_of}
 use Rattle.c_cfg.specs.Links.{Link, One, Two, loads, holder, used, loads_but_last, ends, data_loads, data_holder}
 use Rattle.c_cfg.specs.Links.{base_used, data_used, op_loads, op_arg, op_used, data_op_loads, data_op_arg, op_base_used}
 use Rattle.c_cfg.specs.Links.{op_data_used, var_row, path_row, ptr_row, data_var_row, data_field_row, data_row}
-use Rattle.c_cfg.specs.Links.{return_row, act_row}
+use Rattle.c_cfg.specs.Links.{return_row, act_row, failing_link, links_in}
 use Rattle.c_cfg.specs.Places.{places}
 use Rattle.c_cfg.specs.Lowering.{edge, link_edges, LowerOf}
 use Rattle.c_cfg.specs.Ranges.{IsPtrField, IsDataField, PtrArgFits, DataArgFits, InstrFits, EdgeFits, IsEdgeOf}
-use Rattle.c_cfg.proofs.Leaving.{below_in, all_below, PlaceGood, each_location, exit_below, places_below}
+use Rattle.c_cfg.proofs.Leaving.{below_in, in_out, all_below, PlaceGood, each_location, exit_below, places_below}
 use Rattle.c_cfg.proofs.Landing.{places_lead}
 use Rattle.c_cfg.proofs.Ranged.{numbers_below, Ranged, start_ranged, unmarked, places_ranged, closed_ptrs_below}
 use Rattle.c_cfg.proofs.Ranged.{closed_datums_below}
@@ -132,8 +134,8 @@ module _ (p : Program) where
   Fits i = InstrFits (length p.vars + 2) (length p.data_vars + 2) p.shapes.structs i
 
   abbrev LinkFits : Link → Type 0
-  LinkFits (One i) = Fits i × (is_choose i ≡ false)
-  LinkFits (Two i j) = Fits i × Fits j × (is_choose i ≡ true) × (is_choose j ≡ true)
+  LinkFits (One i) = Fits i × (may_have i None ≡ true)
+  LinkFits (Two i j) = Fits i × Fits j × (may_have i (Some 0) ≡ true) × (may_have j (Some 1) ≡ true)
 
   abbrev All : List Link → Type 0
   All ls = Every LinkFits ls
@@ -418,47 +420,71 @@ module _ (p : Program) where
 
     -- both edges of a test
     abbrev TestFits : (Bool → Instr) → Type 0
-    TestFits t = (b : Bool) → Fits (t b) × (is_choose (t b) ≡ false)
+    TestFits t = (b : Bool) → Fits (t b) × (may_have (t b) None ≡ true)
 
-    abbrev Good : Items → Type 0
-    Good = PlaceGood (length p.vars) (length p.data_vars) LinkFits TestFits
+    -- the two edges of a `malloc` that may fail fit where the New does
+    failing_fits : (l : Link) → LinkFits l → LinkFits (failing_link l)
+    failing_fits (One (CopyPtr to from)) h = h
+    failing_fits (One (LoadPtr to from field)) h = h
+    failing_fits (One (StorePtr to field from)) h = h
+    failing_fits (One (StoreConst to field value)) h = h
+    failing_fits (One (New to shape)) h = ((h.0.0, tt), h.0, refl, refl)
+    failing_fits (One (Free from)) h = h
+    failing_fits (One (Kill ps ds)) h = h
+    failing_fits (One (CopyData to from)) h = h
+    failing_fits (One (LoadData to from field)) h = h
+    failing_fits (One (StoreData to field from)) h = h
+    failing_fits (One (TestPtr l r equal)) h = h
+    failing_fits (One (TestData l r equal)) h = h
+    failing_fits (One (Choose to)) h = h
+    failing_fits (One (Stop error)) h = h
+    failing_fits (Two i j) h = h
 
-    place_fits : (c : Items) → Ranged p c → Good c
-    place_fits Done h = tt
-    place_fits (Do a m is) h = act_fits a is h.0 h.1
-    place_fits (Close ps ds m is) h =
-        ((wider nv ps (numbers_below nv ps h.0), wider nd ds (numbers_below nd ds h.1)), refl)
-    place_fits (If (Ask ChoiceAtom m) x y is) h = tt
-    place_fits (If (Ask (KnownAtom b) m) x y is) h = ((tt, tt), refl)
-    place_fits (If (Ask (PtrAtom l r e) m) x y is) h =
-        let both = ops_fit l r h.0 in (
-          more (op_loads nv l) _ (op_loads_fit nv l p0_in both.0) (op_loads_fit (nv + 1) r p1_in both.1),
-          (λ b. ((op_arg_fits nv l p0_in both.0, op_arg_fits (nv + 1) r p1_in both.1), refl)),
-          ends_fit _ [] (every_append Ptr (op_used nv l) _ (op_used_fits nv l p0_in) (op_used_fits (nv + 1) r p1_in))
-              tt,
-        )
-    place_fits (If (Ask (DataAtom l r e) m) x y is) h =
-        let both = and_parts (data_op_typed p.shapes.structs p.vars (length p.data_vars) l)
-        (data_op_typed p.shapes.structs p.vars (length p.data_vars) r) h.0 in
-        let hl = data_op_fits l both.0 in let hr = data_op_fits r both.1 in (
-          more (data_op_loads nv nd l) _ (data_op_loads_fit nv nd l p0_in d0_in hl)
-              (data_op_loads_fit (nv + 1) (nd + 1) r p1_in d1_in hr),
-          (λ b. ((data_op_arg_fits nd l d0_in hl, data_op_arg_fits (nd + 1) r d1_in hr), refl)),
-          ends_fit _ _
-              (every_append Ptr (op_base_used nv l) _ (op_base_fits nv l p0_in) (op_base_fits (nv + 1) r p1_in))
-              (every_append Datum (op_data_used nd l) _ (op_data_fits nd l d0_in) (op_data_fits (nd + 1) r d1_in)),
-        )
-    place_fits (If (Not c) x y is) h = tt
-    place_fits (If (Both c d) x y is) h = tt
-    place_fits (If (Either c d) x y is) h = tt
-    place_fits (Loop c n b is) h = tt
-    place_fits (Again c n b is) h = tt
-    place_fits (DoLoop c b is) h = tt
-    place_fits (DoAgain c b is) h = tt
+    links_fit : (mode : MallocMode) (ls : List Link) → All ls → All (links_in mode ls)
+    links_fit Always ls h = h
+    links_fit MayFail [] h = tt
+    links_fit MayFail (l ∷ ls) h = (failing_fits l h.0, links_fit MayFail ls h.1)
 
-    all_fit : (cs : List Items) → Every (Ranged p) cs → Every Good cs
-    all_fit [] h = tt
-    all_fit (c ∷ cs) h = (place_fits c h.0, all_fit cs h.1)
+    module _ (mode : MallocMode) where
+      abbrev Good : Items → Type 0
+      Good = PlaceGood (length p.vars) (length p.data_vars) LinkFits TestFits mode
+
+      place_fits : (c : Items) → Ranged p c → Good c
+      place_fits Done h = tt
+      place_fits (Do a m is) h = links_fit mode (act_row nv nd a is) (act_fits a is h.0 h.1)
+      place_fits (Close ps ds m is) h =
+          ((wider nv ps (numbers_below nv ps h.0), wider nd ds (numbers_below nd ds h.1)), refl)
+      place_fits (If (Ask ChoiceAtom m) x y is) h = tt
+      place_fits (If (Ask (KnownAtom b) m) x y is) h = ((tt, tt), refl)
+      place_fits (If (Ask (PtrAtom l r e) m) x y is) h =
+          let both = ops_fit l r h.0 in (
+            more (op_loads nv l) _ (op_loads_fit nv l p0_in both.0) (op_loads_fit (nv + 1) r p1_in both.1),
+            (λ b. ((op_arg_fits nv l p0_in both.0, op_arg_fits (nv + 1) r p1_in both.1), refl)),
+            ends_fit _ [] (every_append Ptr (op_used nv l) _ (op_used_fits nv l p0_in) (op_used_fits (nv + 1) r p1_in))
+                tt,
+          )
+      place_fits (If (Ask (DataAtom l r e) m) x y is) h =
+          let both = and_parts (data_op_typed p.shapes.structs p.vars (length p.data_vars) l)
+          (data_op_typed p.shapes.structs p.vars (length p.data_vars) r) h.0 in
+          let hl = data_op_fits l both.0 in let hr = data_op_fits r both.1 in (
+            more (data_op_loads nv nd l) _ (data_op_loads_fit nv nd l p0_in d0_in hl)
+                (data_op_loads_fit (nv + 1) (nd + 1) r p1_in d1_in hr),
+            (λ b. ((data_op_arg_fits nd l d0_in hl, data_op_arg_fits (nd + 1) r d1_in hr), refl)),
+            ends_fit _ _
+                (every_append Ptr (op_base_used nv l) _ (op_base_fits nv l p0_in) (op_base_fits (nv + 1) r p1_in))
+                (every_append Datum (op_data_used nd l) _ (op_data_fits nd l d0_in) (op_data_fits (nd + 1) r d1_in)),
+          )
+      place_fits (If (Not c) x y is) h = tt
+      place_fits (If (Both c d) x y is) h = tt
+      place_fits (If (Either c d) x y is) h = tt
+      place_fits (Loop c n b is) h = tt
+      place_fits (Again c n b is) h = tt
+      place_fits (DoLoop c b is) h = tt
+      place_fits (DoAgain c b is) h = tt
+
+      all_fit : (cs : List Items) → Every (Ranged p) cs → Every Good cs
+      all_fit [] h = tt
+      all_fit (c ∷ cs) h = (place_fits c h.0, all_fit cs h.1)
 
 -- Edges
 
@@ -466,22 +492,22 @@ module _ (p : Program) where
 abbrev HasRange : Program → ControlGraph → Edge → Type 0
 HasRange p g e = (e.to < g.locations) × EdgeFits (length p.vars + 2) (length p.data_vars + 2) p.shapes.structs e
 
-module _ (p : Program) (typed : is_typed p ≡ true) (g : ControlGraph) (low : LowerOf p g) where
+module _ (p : Program) (typed : is_typed p ≡ true) (mode : MallocMode) (g : ControlGraph) (low : LowerOf p mode g) where
   abbrev In : ℕ → Type 0
   In k = k < g.locations
 
   link_fits : (line k to : ℕ) (l : Link) → LinkFits p l → In to → Every (HasRange p g) (link_edges line k to l)
-  link_fits line k to (One i) h t = ((t, record { instr = h.0; has_its_choice = sym h.1; choice = tt }), tt)
+  link_fits line k to (One i) h t = ((t, record { instr = h.0; has_its_choice = h.1; choice = tt }), tt)
   link_fits line k to (Two i j) h t = (
-    (t, record { instr = h.0; has_its_choice = sym h.2; choice = omega arith }),
-    ((t, record { instr = h.1; has_its_choice = sym h.3; choice = omega arith }), tt),
+    (t, record { instr = h.0; has_its_choice = h.2; choice = omega arith }),
+    ((t, record { instr = h.1; has_its_choice = h.3; choice = omega arith }), tt),
   )
 
   test_fits : (line k a b : ℕ) (t : Bool → Instr) → TestFits p typed t → In a → In b
       → Every (HasRange p g) (edge line k a (t true) None ∷ edge line k b (t false) None ∷ [])
   test_fits line k a b t h x y = (
-    (x, record { instr = (h true).0; has_its_choice = sym (h true).1; choice = tt }),
-    ((y, record { instr = (h false).0; has_its_choice = sym (h false).1; choice = tt }), tt),
+    (x, record { instr = (h true).0; has_its_choice = (h true).1; choice = tt }),
+    ((y, record { instr = (h false).0; has_its_choice = (h false).1; choice = tt }), tt),
   )
 
   choice_fits : (line k a b : ℕ) → In a → In b
@@ -491,24 +517,14 @@ module _ (p : Program) (typed : is_typed p ≡ true) (g : ControlGraph) (low : L
     ((y, record { instr = tt; has_its_choice = refl; choice = omega arith }), tt),
   )
 
-  in_out : (es : List Edge) (e : Edge) → IsIn e es → IsIn e (out_of es e.from)
-  in_out [] e i = absurd i
-  in_out (d ∷ ds) e (inl same) =
-      let here : nat_eq d.from e.from ≡ true = eq-eqb d.from e.from (ap (λ z. z.from) (sym same)) in rw here (inl same)
-  in_out (d ∷ ds) e (inr i) = later (nat_eq d.from e.from) (in_out ds e i)
-    where
-      later : (b : Bool) → IsIn e (out_of ds e.from) → IsIn e (if b then d ∷ out_of ds e.from else out_of ds e.from)
-      later true h = inr h
-      later false h = h
-
   ranges : (k : ℕ) → Every (HasRange p g) (out_of g.edges k)
   ranges =
-      each_location p g low (λ es. Every (HasRange p g) es) In (LinkFits p) (TestFits p typed) link_fits test_fits
+      each_location p mode g low (λ es. Every (HasRange p g) es) In (LinkFits p) (TestFits p typed) link_fits test_fits
       choice_fits tt
-      (all_fit p typed (places low.items Done)
+      (all_fit p typed mode (places low.items Done)
       (places_ranged p low.items Done
       (unmarked p low.line low.items (subst (Ranged p) (sym low.is_program) (start_ranged p typed))) tt))
-      (places_lead In low.at low.items (exit_below p g low) (places_below p g low)) (all_below p g low)
+      (places_lead In low.at low.items (exit_below p mode g low) (places_below p mode g low)) (all_below p mode g low)
 
   pub edges_in_range : Every (IsEdgeOf g) g.edges
   edges_in_range = in_every (IsEdgeOf g) g.edges (λ e i.

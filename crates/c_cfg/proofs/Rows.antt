@@ -12,4 +12,5 @@ mod Facts
 mod Loopless
 mod Loops
 mod Lowerings
+mod Nulls
 mod Visiting

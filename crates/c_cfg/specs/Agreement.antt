@@ -3,7 +3,7 @@
 -- program does so after no more steps than the graph after edges.
 use Rattle.std.specs.Prelude.{◌≡◌, ◌≤◌, ℕ, List}
 use Rattle.fore_base.specs.declared.fault.Fault.{Fault as Kind}
-use Rattle.c_types.specs.declared.mode.MallocMode.TheVariants.{Always}
+use Rattle.c_types.specs.declared.mode.MallocMode.{MallocMode}
 use Rattle.c_types.specs.declared.outcome.Outcome.{Outcome}
 use Rattle.c_types.specs.declared.outcome.Outcome.TheVariants.{Ended, Fault, Starved, BadChoice}
 use Rattle.c_types.specs.Program.{Program}
@@ -32,13 +32,13 @@ pub record Together (P Q : ℕ → Type 0) : Type 0 where
   pub there : (n : ℕ) → P n → (m : ℕ) × Q m
   pub back : (m : ℕ) → Q m → (n : ℕ) × (n ≤ m) × P n
 
--- of a condition on outcomes: some number of steps leads the program to one, where each `malloc` gives a cell, exactly
+-- of a condition on outcomes: some number of steps leads the program to one, where `malloc` has this mode, exactly
 -- where some number of edges leads the graph to one
-abbrev pub BothCome : Program → ControlGraph → List ℕ → (Outcome → Type 0) → Type 0
-BothCome p g choices Is = Together (λ n. Is (run p Always choices n)) (λ m. Is (grun g choices m))
+abbrev pub BothCome : Program → MallocMode → ControlGraph → List ℕ → (Outcome → Type 0) → Type 0
+BothCome p mode g choices Is = Together (λ n. Is (run p mode choices n)) (λ m. Is (grun g choices m))
 
-pub record Agrees (p : Program) (g : ControlGraph) : Type 0 where
-  pub faults : (choices : List ℕ) (kind : Kind) (line : ℕ) → BothCome p g choices (IsFaultAt kind line)
-  pub ends : (choices : List ℕ) → BothCome p g choices IsEnded
-  pub starves : (choices : List ℕ) → BothCome p g choices IsStarved
-  pub bad_choices : (choices : List ℕ) (index : ℕ) → BothCome p g choices (IsBadAt index)
+pub record Agrees (p : Program) (mode : MallocMode) (g : ControlGraph) : Type 0 where
+  pub faults : (choices : List ℕ) (kind : Kind) (line : ℕ) → BothCome p mode g choices (IsFaultAt kind line)
+  pub ends : (choices : List ℕ) → BothCome p mode g choices IsEnded
+  pub starves : (choices : List ℕ) → BothCome p mode g choices IsStarved
+  pub bad_choices : (choices : List ℕ) (index : ℕ) → BothCome p mode g choices (IsBadAt index)

@@ -1,5 +1,8 @@
 -- The table of edges: which edges a step is. A graph has a program's variables, then the temporaries, two of each kind.
+-- The rows are those where each `malloc` gives a cell; `links_in` says what a step is in either mode.
 use Rattle.std.specs.Prelude.{ℕ, ◌+◌, List, [], ◌∷◌, ◌++◌, Bool, true, false, Option, Some, None}
+use Rattle.c_types.specs.declared.mode.MallocMode.{MallocMode}
+use Rattle.c_types.specs.declared.mode.MallocMode.TheVariants.{Always, MayFail}
 use Rattle.c_types.specs.declared.program.Path.{Path}
 use Rattle.c_types.specs.declared.program.DataPath.{DataPath}
 use Rattle.c_types.specs.declared.program.DataPath.TheVariants.{Var as DataVar, Field as DataField}
@@ -217,3 +220,33 @@ module _ (nv nd : ℕ) where
 
   abbrev pub data_ends : DataOp → DataOp → List Link
   data_ends l r = ends (op_base_used p0 l ++ op_base_used p1 r) (op_data_used d0 l ++ op_data_used d1 r)
+
+-- Where a `malloc` may fail (7.22.3)
+
+-- a New is two edges to one location: for the choice 0 the variable is the null pointer, for the choice 1 it is a new
+-- cell; each other edge stays
+abbrev pub failing : Instr → Link
+failing (CopyPtr to from) = One (CopyPtr to from)
+failing (LoadPtr to from field) = One (LoadPtr to from field)
+failing (StorePtr to field from) = One (StorePtr to field from)
+failing (StoreConst to field value) = One (StoreConst to field value)
+failing (New to shape) = Two (CopyPtr to PtrNull) (New to shape)
+failing (Free from) = One (Free from)
+failing (Kill ptrs datums) = One (Kill ptrs datums)
+failing (CopyData to from) = One (CopyData to from)
+failing (LoadData to from field) = One (LoadData to from field)
+failing (StoreData to field from) = One (StoreData to field from)
+failing (TestPtr left right equal) = One (TestPtr left right equal)
+failing (TestData left right equal) = One (TestData left right equal)
+failing (Choose to) = One (Choose to)
+failing (Stop error) = One (Stop error)
+
+abbrev pub failing_link : Link → Link
+failing_link (One i) = failing i
+failing_link (Two i j) = Two i j
+
+-- the links of a step, where `malloc` has this mode
+abbrev pub links_in : MallocMode → List Link → List Link
+links_in Always ls = ls
+links_in MayFail [] = []
+links_in MayFail (l ∷ ls) = failing_link l ∷ links_in MayFail ls

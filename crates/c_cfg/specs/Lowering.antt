@@ -4,6 +4,7 @@ use Rattle.std.specs.Prelude.{Option, Some, None}
 use Rattle.std.specs.List.{list_any}
 use Rattle.std.specs.List.Sorted.{IsPermutation}
 use Rattle.fore_base.specs.Lists.{Every, IsDistinct}
+use Rattle.c_types.specs.declared.mode.MallocMode.{MallocMode}
 use Rattle.c_types.specs.declared.program.Act.{Act}
 use Rattle.c_types.specs.declared.program.Act.TheVariants.{SetPtr, SetData, Free, Error, Halt, Return, Break, Continue}
 use Rattle.c_types.specs.declared.program.Atom.{Atom}
@@ -18,7 +19,8 @@ use Rattle.c_cfg.specs.declared.graph.Instr.TheVariants.{Kill, Choose}
 use Rattle.c_cfg.specs.declared.graph.Edge.{Edge}
 use Rattle.c_cfg.specs.Graphs.{ControlGraph}
 use Rattle.c_cfg.specs.GraphRuns.{out_of}
-use Rattle.c_cfg.specs.Links.{Link, One, Two, act_row, ptr_loads, ptr_test, ptr_ends, cmp_loads, data_test, data_ends}
+use Rattle.c_cfg.specs.Links.{Link, One, Two, links_in, act_row, ptr_loads, ptr_test, ptr_ends, cmp_loads, data_test}
+use Rattle.c_cfg.specs.Links.{data_ends}
 use Rattle.c_cfg.specs.Places.{places, heads, remark}
 
 -- an edge of a line from k, with its choice if it has one
@@ -97,12 +99,13 @@ module _ (nv nd : ℕ) (edges : List Edge) where
   IsAtomRow (DataAtom l r false) line k mids yes' no' =
       IsTestRow edges line (cmp_loads nv nd l r) (data_test nv nd l r) (data_ends nv nd l r) k mids no' yes'
 
-  module _ (line : ℕ → ℕ) (at : Items → ℕ) (mids : Items → List ℕ) where
+  module _ (mode : MallocMode) (line : ℕ → ℕ) (at : Items → ℕ) (mids : Items → List ℕ) where
     -- At a place begin exactly the edges of its step, which lead to the places where its step leads. (An opened list
     -- begins with none of the others.)
     abbrev pub IsRow : Items → Type 0
     IsRow Done = out_of edges (at Done) ≡ []
-    IsRow (Do a m is) = IsWayOver edges (line m) (act_row nv nd a is) (at (Do a m is)) (mids (Do a m is))
+    IsRow (Do a m is) =
+        IsWayOver edges (line m) (links_in mode (act_row nv nd a is)) (at (Do a m is)) (mids (Do a m is))
         (at (opened (followed_by a is)))
     IsRow (Close ps ds m is) =
         IsWayOver edges (line m) (One (Kill ps ds) ∷ []) (at (Close ps ds m is)) (mids (Close ps ds m is))
@@ -132,12 +135,10 @@ InOrder (e ∷ es) = Every (λ f. e.from ≤ f.from) es × InOrder es
 abbrev pub is_one_of : List ℕ → ℕ → Bool
 is_one_of ks k = list_any (λ other. nat_eq other k) ks
 
--- The graph is one of the program: each act, atom and Close of the program's items gets a mark of its own, and the mark
--- tells its line. Each pending
--- list has a location. So two places have one location exactly if they are equal as occurrences: joins are shared, a
--- loop is tested at one location, and
--- there is one exit.
-pub record LowerOf (p : Program) (g : ControlGraph) : Type 0 where
+-- The graph is one of the program, where `malloc` has this mode: each act, atom and Close of the program's items gets a
+-- mark of its own, and the mark tells its line. Each pending list has a location. So two places have one location
+-- exactly if they are equal as occurrences: joins are shared, a loop is tested at one location, and there is one exit.
+pub record LowerOf (p : Program) (mode : MallocMode) (g : ControlGraph) : Type 0 where
   -- the program's items with marks of their own
   pub items : Items
   pub line : ℕ → ℕ
@@ -147,8 +148,8 @@ pub record LowerOf (p : Program) (g : ControlGraph) : Type 0 where
   pub at : Items → ℕ
   pub mids : Items → List ℕ
   pub entry : at (opened items) ≡ 0
-  pub exit : IsRow (length p.vars) (length p.data_vars) g.edges line at mids Done
-  pub rows : Every (IsRow (length p.vars) (length p.data_vars) g.edges line at mids) (places items Done)
+  pub exit : IsRow (length p.vars) (length p.data_vars) g.edges mode line at mids Done
+  pub rows : Every (IsRow (length p.vars) (length p.data_vars) g.edges mode line at mids) (places items Done)
   -- these are all locations, each once
   pub all_numbers : IsPermutation (numbers at mids (places items Done)) (below g.locations)
   -- and these are all edges

@@ -66,7 +66,7 @@ module _ (ptrs datums : ℕ) (shapes : List Shape) where
   InstrFits (Choose to) = TargetFits to
   InstrFits (Stop error) = Unit {0}
 
-  -- each number of the edge but its locations is in range, and a choice is there exactly on a Choose
+  -- each number of the edge but its locations is in range, and it has a choice where its instruction wants one
   pub record EdgeFits (e : Edge) : Type 0 where
     pub instr : InstrFits e.instr
     pub has_its_choice : HasItsChoice e

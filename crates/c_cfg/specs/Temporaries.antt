@@ -4,6 +4,7 @@ use Rattle.fore_base.specs.declared.store.Value.TheVariants.{Uninit}
 use Rattle.fore_base.specs.declared.store.Datum.TheVariants.{Undefined}
 use Rattle.fore_base.specs.declared.store.Store.{Store}
 use Rattle.fore_base.specs.Lists.{IsIn}
+use Rattle.c_types.specs.declared.mode.MallocMode.{MallocMode}
 use Rattle.c_types.specs.Program.{Program}
 use Rattle.c_types.specs.Control.{Items, Done}
 use Rattle.c_cfg.specs.Graphs.{ControlGraph}
@@ -21,6 +22,6 @@ pub record TemporariesUnset (ptrs datums : ℕ) (s : Store) : Type 0 where
 
 -- with each store with which a run comes to the exit, or to a location at which the step of one of the program's places
 -- begins
-abbrev pub UnsetBetweenSteps : (p : Program) (g : ControlGraph) → LowerOf p g → Type 0
-UnsetBetweenSteps p g low = (place : Items) → IsIn place (Done ∷ places low.items Done) → (s : Store)
+abbrev pub UnsetBetweenSteps : (p : Program) (mode : MallocMode) (g : ControlGraph) → LowerOf p mode g → Type 0
+UnsetBetweenSteps p mode g low = (place : Items) → IsIn place (Done ∷ places low.items Done) → (s : Store)
     → Visits g (low.at place) s → TemporariesUnset (length p.vars) (length p.data_vars) s

@@ -10,7 +10,7 @@ use fore_base::memory::Mem;
 use std::alloc::Global;
 
 /// What is done at the last arrow of a path.
-#[derive(Clone, Copy, Debug)]
+#[derive(Clone, Copy)]
 pub enum LastArrow {
     /// It is read into this pointer variable.
     LoadTo(u32),

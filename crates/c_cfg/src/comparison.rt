@@ -17,7 +17,7 @@ use fore_base::memory::Mem;
 use std::alloc::Global;
 
 /// Two operands.
-#[derive(Clone, Copy, Debug)]
+#[derive(Clone, Copy)]
 pub enum Compared {
     Ptrs(PtrArg, PtrArg),
     Data(DataArg, DataArg),
@@ -36,7 +36,7 @@ impl Compared {
 }
 
 /// A comparison: the loads before it, what is compared, and the temporaries that were used, which die on each branch.
-#[derive(Debug, Drop)]
+#[derive(Drop)]
 pub struct Comparison {
     pub loads: List<Link>,
     pub compared: Compared,

@@ -6,7 +6,7 @@ use std::alloc::{AllocError, Global};
 use std::marker::Model;
 
 /// A pointer that an edge copies or compares.
-#[derive(Clone, Copy, PartialEq, Eq, Debug)]
+#[derive(Clone, Copy)]
 pub enum PtrArg {
     /// The pointer variable of this number.
     Var(u32),
@@ -15,7 +15,7 @@ pub enum PtrArg {
 }
 
 /// A datum that an edge copies or compares.
-#[derive(Clone, Copy, PartialEq, Eq, Debug)]
+#[derive(Clone, Copy)]
 pub enum DataArg {
     /// The data variable of this number.
     Var(u32),
@@ -24,7 +24,7 @@ pub enum DataArg {
 }
 
 /// A constant that an edge writes into a field: a pointer field takes `Null`, a data field a number.
-#[derive(Clone, Copy, PartialEq, Eq, Debug)]
+#[derive(Clone, Copy)]
 pub enum Const {
     /// The null pointer.
     Null,
@@ -33,7 +33,7 @@ pub enum Const {
 }
 
 /// What an edge does. Variables and fields are numbered by their kind, pointers and data apart.
-#[derive(PartialEq, Eq, Debug, Drop)]
+#[derive(Drop)]
 pub enum Instr {
     /// `to = from`, for pointers.
     CopyPtr {
@@ -112,7 +112,7 @@ pub enum Instr {
 }
 
 /// An edge: it leads from a location to a location. The line is that of the program's step.
-#[derive(PartialEq, Eq, Debug, Drop)]
+#[derive(Drop)]
 pub struct Edge {
     /// The location at which it begins.
     pub from: u32,
@@ -120,7 +120,7 @@ pub struct Edge {
     pub to: u32,
     /// What it does.
     pub instr: Instr,
-    /// The choice on which it is taken: there exactly on a `Choose`.
+    /// The choice on which it is taken: there on a `Choose`, and on the two edges of a `malloc` that may fail.
     pub choice: Option<u8>,
     /// The line of its step.
     pub line: u32,
@@ -129,9 +129,9 @@ pub struct Edge {
 /// A control graph. Its locations are the numbers below `locations`, and 0 is the entry.
 ///
 /// There is at least one location, there are fewer than 2^32 edges, `heads` has one entry for each location, and an
-/// edge has a choice exactly if it
-/// is a `Choose`.
-#[derive(Debug, Drop)]
+/// edge has a choice where its instruction wants one: a `Choose` has one, a copy of the null pointer none or 0, a `New`
+/// none or 1, and no other edge has one.
+#[derive(Drop)]
 pub struct Graph {
     /// How many locations there are.
     pub locations: u32,

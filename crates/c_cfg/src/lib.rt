@@ -15,6 +15,7 @@ mod conditions;
 mod counts;
 pub mod crossing;
 mod data;
+mod failing;
 pub mod graph;
 mod heads;
 pub mod laws;

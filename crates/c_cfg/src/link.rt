@@ -3,7 +3,7 @@
 use crate::graph::Instr;
 
 /// One edge, or the two edges for the choices 0 and 1.
-#[derive(PartialEq, Eq, Debug, Drop)]
+#[derive(Drop)]
 pub enum Link {
     /// An edge without a choice.
     One(Instr),

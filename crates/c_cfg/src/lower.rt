@@ -7,25 +7,26 @@ ghost use Rattle.c_cfg.specs.inner.Sites.{program_edges};
 
 use crate::around::Around;
 use crate::counts::Counts;
+use crate::failing::edges_in;
 use crate::graph::{Edge, Graph};
 use crate::site::{Site, Span};
 use crate::sums::{count, sum};
+use c_types::MallocMode;
 use c_types::program::{Stmt, Typed};
 use fore_base::list::{Copies, List};
 use fore_base::memory::Mem;
 use std::alloc::Global;
 
-/// The control graph of a program. On any choices both meet the same faults in the same lines, both end, or both want a
-/// choice. The graph's locations are numbered in order of the text, those in the middle of a step after the one at
-/// which it begins,
-/// and the exit is the last.
+/// The control graph of a program, where `malloc` has this mode. On any choices both meet the same faults in the same
+/// lines, both end, or both want a choice. The graph's locations are numbered in order of the text, those in the middle
+/// of a step after the one at which it begins, and the exit is the last. They do not depend on the mode.
 ///
 /// # Errors
 ///
 /// Want of memory, also where there would be more locations, variables or edges than 32 bits count.
-pub fn lower(alloc: Global, program: &Typed) -> Mem<Graph>
-    ensures lowers { IfOk result (λ graph. LowerOf program.now graph) }
-    ensures agrees { IfOk result (λ graph. Agrees program.now graph) }
+pub fn lower(alloc: Global, program: &Typed, mode: MallocMode) -> Mem<Graph>
+    ensures lowers { IfOk result (λ graph. LowerOf program.now mode graph) }
+    ensures agrees { IfOk result (λ graph. Agrees program.now mode graph) }
 {
     let counts = counts_of(program)?;
     let body = program.body.as_slice();
@@ -35,7 +36,8 @@ pub fn lower(alloc: Global, program: &Typed) -> Mem<Graph>
         counts,
         exit,
     };
-    let edges = site.edges_of(body)?;
+    let sure = site.edges_of(body)?;
+    let edges = edges_in(alloc, mode, sure)?;
     let heads = site.head_entries(body)?;
     let locations = sum(exit, 1)?;
     let shapes = program.shapes.copy(alloc)?;

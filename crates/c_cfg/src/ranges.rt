@@ -2,7 +2,7 @@
 ghost use Rattle.std.specs.Prelude.{◌≡◌, ◌<◌, ◌↔◌, length, IsTrue};
 ghost use Rattle.fore_base.specs.Lists.{Every};
 ghost use Rattle.fore_base.specs.Shapes.{targets_in, datums_in};
-ghost use Rattle.c_cfg.specs.Graphs.{has_choice, is_choose};
+ghost use Rattle.c_cfg.specs.Graphs.{is_none_or, may_have, HasItsChoice};
 ghost use Rattle.c_cfg.specs.Ranges.{IsPtrField, IsDataField, PtrArgFits, DataArgFits, ConstFits, TargetFits};
 ghost use Rattle.c_cfg.specs.Ranges.{ChoiceFits, InstrFits, EdgeFits, IsEdgeOf};
 
@@ -44,7 +44,7 @@ fn is_edge_of(graph: &Graph, edge: &Edge) -> bool
 }
 
 /// Whether each number of the edge but its locations is in range for so many pointer and data variables and these
-/// structs, and a choice is there exactly on a `Choose`.
+/// structs, and it has a choice where its instruction wants one.
 pub fn fits(edge: &Edge, ptrs: usize, datums: usize, structs: &[Shape]) -> bool
     ensures { IsTrue result ↔ EdgeFits ptrs datums structs.now edge.now }
 {
@@ -53,21 +53,38 @@ pub fn fits(edge: &Edge, ptrs: usize, datums: usize, structs: &[Shape]) -> bool
         datums,
         structs,
     };
-    has_choice(edge) == is_choose(&edge.instr)
-        && fits_choice(edge.choice)
-        && fits_instr(&edge.instr, bounds)
+    has_its_choice(edge) && fits_choice(edge.choice) && fits_instr(&edge.instr, bounds)
 }
 
-fn has_choice(edge: &Edge) -> bool
-    ensures { result ≡ has_choice edge.now.choice }
+/// Whether the edge has a choice where its instruction wants one, and none where it may have none: a `Choose` has one,
+/// a copy of the null pointer none or 0, a `New` none or 1, and no other edge has one.
+pub fn has_its_choice(edge: &Edge) -> bool
+    ensures { IsTrue result ↔ HasItsChoice edge.now }
 {
-    edge.choice.is_some()
+    may_have(&edge.instr, edge.choice)
 }
 
-fn is_choose(instr: &Instr) -> bool
-    ensures { result ≡ is_choose instr.now }
+fn may_have(instr: &Instr, choice: Option<u8>) -> bool
+    ensures { result ≡ may_have instr.now choice }
 {
-    matches!(instr, Instr::Choose { .. })
+    match instr {
+        Instr::Choose { .. } => choice.is_some(),
+        Instr::New { .. } => is_none_or(1, choice),
+        Instr::CopyPtr {
+            from: PtrArg::Null,
+            ..
+        } => is_none_or(0, choice),
+        _ => choice.is_none(),
+    }
+}
+
+fn is_none_or(number: u8, choice: Option<u8>) -> bool
+    ensures { result ≡ is_none_or number choice }
+{
+    match choice {
+        Some(choice) => choice == number,
+        None => true,
+    }
 }
 
 fn fits_choice(choice: Option<u8>) -> bool

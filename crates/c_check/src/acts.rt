@@ -16,7 +16,7 @@ use c_types::{Act, DataPath, DataRhs, PtrRhs, Stmt};
 use c_typing::Meaning;
 use fore_base::boxed::Boxed;
 use fore_base::list::List;
-use fore_base::memory::Mem;
+use fore_base::memory::{Mem, beside};
 use std::alloc::Global;
 
 /// A list of one statement.
@@ -110,7 +110,8 @@ pub fn assignment(
 {
     match rhs {
         Rhs::Operand(operand) => {
-            let from = meaning_of_operand(alloc, tables, scope, operand)?;
+            let from = meaning_of_operand(alloc, tables, scope, operand);
+            let (target, from) = beside(target, from)?;
             Ok(assigned_operand(target, from))
         }
         Rhs::Malloc { .. } => Ok(assigned_new(target)),

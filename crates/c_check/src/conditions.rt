@@ -17,7 +17,7 @@ use c_types::{Atom, Cond, DataOp, PtrOp};
 use c_typing::{Meaning, Spot, TypeFault};
 use fore_base::boxed::Boxed;
 use fore_base::list::List;
-use fore_base::memory::Mem;
+use fore_base::memory::{Mem, beside};
 use std::alloc::Global;
 
 /// What a comparison breaks.
@@ -255,7 +255,8 @@ fn test_of(alloc: Global, tables: &Tables, scope: &Scope, test: &Test) -> Mem<Co
         Test::Compare { left, equal, right } => {
             let line = place_of_operand(left).line;
             let left = meaning_of_operand(alloc, tables, scope, left)?;
-            let right = meaning_of_operand(alloc, tables, scope, right)?;
+            let right = meaning_of_operand(alloc, tables, scope, right);
+            let (left, right) = beside(left, right)?;
             let atom = comparison(*equal, left, right);
             Ok(Cond::Atom { atom, line })
         }

@@ -16,7 +16,7 @@ use fore_base::limits::STATEMENTS;
 use fore_base::place::Place;
 
 /// How many places more may come, and the first one beyond them.
-#[derive(Clone, Copy, PartialEq, Eq, Debug)]
+#[derive(Clone, Copy)]
 struct Count {
     left: usize,
     beyond: Option<Place>,

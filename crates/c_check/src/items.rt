@@ -2,6 +2,7 @@
 ghost use Rattle.std.specs.Prelude.{◌≡◌, ◌||◌, ◌&&◌, false, true, not, IfOk, OnOk};
 ghost use Rattle.c_typing.specs.ItemSites.{body_sites};
 ghost use Rattle.c_typing.specs.Profile.{is_main};
+ghost use Rattle.c_typing.specs.Scopes.{empty_scope};
 ghost use Rattle.c_check.specs.inner.Items.{is_main_item, kept_after, kept_function_sites, kept_item_sites};
 ghost use Rattle.c_check.specs.inner.Items.{kept_items_sites, nothing_kept, any_main};
 ghost use Rattle.c_check.specs.inner.Meeting.{met};
@@ -29,7 +30,22 @@ fn main_faults(
     ensures { OnOk result (found.new ≡ met tables.now found.old (body_sites tables.now true body.now)) }
 {
     let mut scope = Scope::new(alloc);
-    block_faults(alloc, tables, &mut scope, false, body, found)?;
+    faults_within(alloc, tables, &mut scope, body, found)
+}
+
+/// What the body of main breaks, in an empty scope.
+#[tactic(auto, using(crate::proofs::MeetingLemmas::meeting))]
+fn faults_within(
+    alloc: Global,
+    tables: &Tables,
+    scope: &mut Scope,
+    body: &Block,
+    found: &mut Option<TypeFault>,
+) -> Mem<()>
+    requires { scope.old ≡ empty_scope }
+    ensures { OnOk result (found.new ≡ met tables.now found.old (body_sites tables.now true body.now)) }
+{
+    block_faults(alloc, tables, scope, false, body, found)?;
     counts(tables, body, found);
     Ok(())
 }
@@ -121,9 +137,26 @@ pub fn all_items(
     ensures main { IfOk result (λ main. main ≡ any_main items.now) }
 {
     let mut seen = Seen::new(alloc);
+    items_in_order(alloc, tables, &mut seen, items, found)
+}
+
+/// All items in order, where none was seen before. Tells whether there is a `main`.
+fn items_in_order(
+    alloc: Global,
+    tables: &Tables,
+    seen: &mut Seen,
+    items: &[Item],
+    found: &mut Option<TypeFault>,
+) -> Mem<bool>
+    requires { seen.old ≡ nothing_kept }
+    ensures found { OnOk result
+        (found.new ≡ met tables.now found.old
+        (kept_items_sites tables.now false nothing_kept items.now)) }
+    ensures main { IfOk result (λ main. main ≡ any_main items.now) }
+{
     let mut main = false;
     for item in items {
-        main = one_item(alloc, tables, &mut seen, main, item, found)?;
+        main = one_item(alloc, tables, seen, main, item, found)?;
     }
     Ok(main)
 }

@@ -21,21 +21,21 @@ use std::alloc::{AllocError, Global};
 use std::marker::Model;
 
 /// What a name in scope means: a variable, by what it holds and its number among those of its kind.
-#[derive(Clone, Copy, PartialEq, Eq, Debug)]
+#[derive(Clone, Copy)]
 pub struct Found {
     pub kind: Kind,
     pub number: u32,
 }
 
 /// What a name means, and how many blocks are open where it was declared.
-#[derive(Clone, Copy, PartialEq, Eq, Debug)]
+#[derive(Clone, Copy)]
 struct Meant {
     what: Found,
     block: usize,
 }
 
 /// A variable of an open block: the number of its name, what the name means by it, and what it meant before.
-#[derive(Clone, Copy, PartialEq, Eq, Debug)]
+#[derive(Clone, Copy)]
 struct Entry {
     name: u32,
     meant: Meant,

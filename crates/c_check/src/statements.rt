@@ -18,11 +18,11 @@ use crate::meanings::variable;
 use crate::scopes::Scope;
 use crate::tables::Tables;
 use c_ast::{Block, Cond, Declarator, Declare, First, Operand, Part, Rhs, Simple, Stmt as Named};
-use c_types::{Act, Stmt};
+use c_types::{Act, Cond as Formula, Stmt};
 use c_typing::{Kind, Meaning};
 use fore_base::boxed::Boxed;
 use fore_base::list::List;
-use fore_base::memory::Mem;
+use fore_base::memory::{Mem, beside};
 use std::alloc::Global;
 
 /// A statement with the variables of the innermost block, which die on this line.
@@ -181,10 +181,16 @@ fn assert_stmts(
         ≡ Branch (cond_of tables.now scope.now cond.now) [] (Do Error line ∷ [])
         ∷ []) }
 {
-    let cond = cond_of(alloc, tables, scope, cond)?;
-    let yes = List::new(alloc);
     let no = doing(alloc, Act::Error, line)?;
-    one(alloc, Stmt::Branch { cond, yes, no })
+    let cond = cond_of(alloc, tables, scope, cond)?;
+    one(
+        alloc,
+        Stmt::Branch {
+            cond,
+            yes: List::new(alloc),
+            no,
+        },
+    )
 }
 
 /// The statement that a block is.
@@ -254,21 +260,18 @@ fn stmt_stmts(alloc: Global, tables: &Tables, scope: &mut Scope, stmt: &Named) -
             other,
             ..
         } => {
-            let cond = cond_of(alloc, tables, scope, cond)?;
-            let yes = stmt_stmts(alloc, tables, scope, then.get())?;
+            let (cond, yes) = headed(alloc, tables, scope, then, cond)?;
             let no = other_stmts(alloc, tables, scope, other)?;
             let stmts = one(alloc, Stmt::Branch { cond, yes, no })?;
             Ok(stmts)
         }
         Named::While { cond, body, .. } => {
-            let cond = cond_of(alloc, tables, scope, cond)?;
-            let body = stmt_stmts(alloc, tables, scope, body.get())?;
+            let (cond, body) = headed(alloc, tables, scope, body, cond)?;
             let stmts = one(alloc, Stmt::While { cond, body })?;
             Ok(stmts)
         }
         Named::Do { body, cond, .. } => {
-            let cond = cond_of(alloc, tables, scope, cond)?;
-            let body = stmt_stmts(alloc, tables, scope, body.get())?;
+            let (cond, body) = headed(alloc, tables, scope, body, cond)?;
             let stmts = one(alloc, Stmt::DoWhile { cond, body })?;
             Ok(stmts)
         }
@@ -284,6 +287,25 @@ fn stmt_stmts(alloc: Global, tables: &Tables, scope: &mut Scope, stmt: &Named) -
         Named::Continue { at } => doing(alloc, Act::Continue, at.line),
         Named::Assert { at, cond } => assert_stmts(alloc, tables, scope, cond, at.line),
     }
+}
+
+/// The formula of the condition in the head of a statement, and the statements that its body is.
+#[cycle(make)]
+fn headed(
+    alloc: Global,
+    tables: &Tables,
+    scope: &mut Scope,
+    body: &Boxed<Named>,
+    cond: &Cond,
+) -> Mem<(Formula, List<Stmt>)>
+    ensures past { OnOk result (scope.new ≡ past_stmt tables.now body.now scope.old) }
+    ensures blocks { OnOk result (scope.new.blocks ≡ scope.old.blocks) }
+    ensures parts { IfOk result (λ parts. (parts.0 ≡ cond_of tables.now scope.old cond.now)
+        × (parts.1 ≡ stmt_stmts tables.now body.now scope.old)) }
+{
+    let cond = cond_of(alloc, tables, scope, cond)?;
+    let (cond, body) = beside(cond, stmt_stmts(alloc, tables, scope, body.get()))?;
+    Ok((cond, body))
 }
 
 /// The statements that a `for` is.
@@ -329,9 +351,9 @@ fn for_body(
     ensures blocks { OnOk result (scope.new.blocks ≡ scope.old.blocks) }
     ensures stmt { IfOk result (λ stmt. stmt ≡ for_body tables.now line cond.now next.now body.now scope.old) }
 {
-    let cond = maybe_cond(alloc, tables, scope, line, cond)?;
     let next = maybe_simple(alloc, tables, scope, next)?;
-    let body = stmt_stmts(alloc, tables, scope, body.get())?;
+    let cond = maybe_cond(alloc, tables, scope, line, cond)?;
+    let (cond, body) = beside(cond, stmt_stmts(alloc, tables, scope, body.get()))?;
     Ok(Stmt::For { cond, next, body })
 }
 

@@ -94,7 +94,16 @@ fn answer(alloc: Global, unit: &Unit) -> Result<Typed, TypeFault>
     ensures err { IfErr result (λ e. (e ≡ Memory) ⊎ IsFirstFault unit.now e) }
 {
     let tables = Tables::of(alloc, unit.items.as_slice())?;
+    answer_by(alloc, &tables, unit)
+}
+
+/// The answer by what the unit defines.
+fn answer_by(alloc: Global, tables: &Tables, unit: &Unit) -> Result<Typed, TypeFault>
+    requires { tables.now ≡ globals_of unit.now.items }
+    ensures ok { IfOk result (TypedOf unit.now) }
+    ensures err { IfErr result (λ e. (e ≡ Memory) ⊎ IsFirstFault unit.now e) }
+{
     let mut found = None;
-    all_places(alloc, &tables, unit, &mut found)?;
-    outcome(alloc, &tables, unit.items.as_slice(), found)
+    all_places(alloc, tables, unit, &mut found)?;
+    outcome(alloc, tables, unit.items.as_slice(), found)
 }

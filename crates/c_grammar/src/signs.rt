@@ -9,7 +9,7 @@ ghost use Rattle.c_grammar.specs.declared.signs.Sign.TheVariants.{Id, Other};
 use c_lexer::{TokKind, Token};
 
 /// What a token is to the grammar: tokens of one sign can stand in each other's place.
-#[derive(Clone, Copy, PartialEq, Eq, Debug)]
+#[derive(Clone, Copy, PartialEq, Eq)]
 pub enum Sign {
     Id,
     Number,

@@ -3,7 +3,7 @@ ghost use Rattle.std.specs.Prelude.{◌≡◌};
 ghost use Rattle.c_joints.specs.Sides.{yes_side, no_side};
 
 /// What joins the parts of a condition.
-#[derive(Clone, Copy, Debug)]
+#[derive(Clone, Copy)]
 pub enum Joint {
     /// `&&`.
     All,

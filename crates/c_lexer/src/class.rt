@@ -5,7 +5,7 @@ ghost use Rattle.c_lexer.specs.inner.Steps.{class_of};
 use crate::bytes::{is_digit, is_letter, is_quote, is_space};
 
 /// What the first byte at a place tells of the piece that begins there.
-#[derive(Clone, Copy, PartialEq, Eq, Debug)]
+#[derive(Clone, Copy)]
 pub enum Class {
     /// White space.
     Space,

@@ -8,7 +8,7 @@ use fore_base::limits::FILE_BYTES;
 use fore_base::place::Place;
 
 /// Where the reader stands.
-#[derive(Clone, Copy, PartialEq, Eq, Debug)]
+#[derive(Clone, Copy)]
 pub struct Cursor {
     pub place: Place,
     /// Nothing but spaces and tabs stands before the place on its line.

@@ -12,7 +12,7 @@ use crate::scan::{
 use crate::token::TokKind;
 
 /// What stands at a place of a text.
-#[derive(Clone, Copy, PartialEq, Eq, Debug)]
+#[derive(Clone, Copy)]
 pub enum Step {
     /// This many bytes are passed over: white space, a comment or an include line.
     Skip(usize),

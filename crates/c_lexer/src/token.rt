@@ -3,7 +3,7 @@ use fore_base::place::Place;
 use fore_base::text::Text;
 
 /// The kinds of tokens.
-#[derive(Clone, Copy, PartialEq, Eq, Debug)]
+#[derive(Clone, Copy)]
 pub enum TokKind {
     /// An identifier or a keyword (ISO/IEC 9899:2011, 6.4.1 and 6.4.2).
     Word,
@@ -20,7 +20,7 @@ pub enum TokKind {
 }
 
 /// A token of a text.
-#[derive(PartialEq, Eq, Debug, Drop)]
+#[derive(Drop)]
 pub struct Token {
     /// What it is.
     pub kind: TokKind,

@@ -27,7 +27,7 @@ use fore_base::store::Value;
 use std::alloc::Global;
 
 /// How a step goes: on, to the end of the run, or into a fault.
-#[derive(Clone, Copy, PartialEq, Eq, Debug)]
+#[derive(Clone, Copy)]
 pub enum Pace {
     Goes,
     Stops,

@@ -27,7 +27,7 @@ use fore_base::store::{CellRec, Datum, Value};
 use std::alloc::Global;
 
 /// How an edge went.
-#[derive(Clone, Copy, PartialEq, Eq, Debug)]
+#[derive(Clone, Copy)]
 pub enum Went {
     /// On, with the store that it left.
     On,

@@ -41,17 +41,7 @@ pub fn graph_run(alloc: Global, graph: &Graph, choices: &[u8], limit: u64) -> Me
         location: 0,
         used: 0,
     };
-    for step in 0..limit {
-        let outcome = walk.go_on(alloc, graph, choices, step)?;
-        match outcome {
-            None => {}
-            Some(outcome) => return Ok(outcome),
-        }
-    }
-    match needs_choice(graph.edges.as_slice(), walk.location) {
-        None => Ok(Outcome::Ended { step: limit }),
-        Some(_) => Ok(Outcome::StillRunning),
-    }
+    walk.go_all(alloc, graph, choices, limit)
 }
 
 /// The choice, or 0 where there is none.
@@ -65,6 +55,28 @@ fn or_none(choice: Option<u8>) -> u8
 }
 
 impl Walk {
+    /// Goes on from the entry, and says how the run comes out.
+    fn go_all(&mut self, alloc: Global, graph: &Graph, choices: &[u8], limit: u64) -> Mem<Outcome>
+        requires below { limit < 2 ^ 64 - 1 }
+        requires begun { grun graph.now choices.now limit
+            ≡ rest_of graph.now limit 0 self.old.location self.old.heap choices.now self.old.used }
+        requires next { self.old.heap.next ≡ 1 }
+        requires used { self.old.used ≤ length choices.now }
+        ensures { IfOk result (λ outcome. outcome ≡ grun graph.now choices.now limit) }
+    {
+        for step in 0..limit {
+            let outcome = self.go_on(alloc, graph, choices, step)?;
+            match outcome {
+                None => {}
+                Some(outcome) => return Ok(outcome),
+            }
+        }
+        match needs_choice(graph.edges.as_slice(), self.location) {
+            None => Ok(Outcome::Ended { step: limit }),
+            Some(_) => Ok(Outcome::StillRunning),
+        }
+    }
+
     /// Goes on by one edge, or says how the run comes out.
     fn go_on(
         &mut self,

@@ -23,7 +23,7 @@ use std::marker::Model;
 use std::mem::replace;
 
 /// The store of a run, whose cells stand in order of their numbers.
-#[derive(Debug, Drop)]
+#[derive(Drop)]
 pub struct Heap {
     store: Store,
 }

@@ -13,7 +13,7 @@ use fore_base::store::{CellRec, Store, Value};
 use std::alloc::Global;
 
 /// Which cells were reached, by their positions, and these positions in the order in which they were reached.
-#[derive(Debug, Drop)]
+#[derive(Drop)]
 pub struct Marks {
     pub reached: Vec<bool>,
     pub order: Vec<usize>,

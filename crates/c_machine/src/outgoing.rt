@@ -17,7 +17,7 @@ use fore_base::shape::Shape;
 use std::alloc::Global;
 
 /// What the edges of a location lead to.
-#[derive(Clone, Copy, PartialEq, Eq, Debug)]
+#[derive(Clone, Copy)]
 pub enum Gone {
     /// To this location.
     To(u32),

@@ -31,10 +31,22 @@ pub fn run(
     ensures { IfOk result (λ outcome. outcome ≡ run program.now mode choices.now limit) }
 {
     let mut machine = Machine::new(alloc, program, mode)?;
+    run_on(&mut machine, choices, limit)
+}
+
+/// The run of a machine from its first step on.
+fn run_on(machine: &mut Machine, choices: &[u8], limit: u64) -> Mem<Outcome>
+    requires below { limit < 2 ^ 64 - 1 }
+    requires over { over_of machine.old ≡ None }
+    requires next { (store_of machine.old).next ≡ 1 }
+    ensures { IfOk result (λ outcome. outcome
+        ≡ going (program_of machine.old).shapes.structs (mode_of machine.old) limit 0 (todo machine.old)
+        (store_of machine.old) choices.now 0) }
+{
     let mut used = 0;
     for step in 0..limit {
         machine.reserve()?;
-        match take_one(&mut machine, choices, &mut used, step) {
+        match take_one(machine, choices, &mut used, step) {
             Ok(()) => {}
             Err(outcome) => return Ok(outcome),
         }

@@ -6,7 +6,7 @@ use crate::leak::Marks;
 use fore_base::store::CellRec;
 
 /// Room for the marks of the leak test and for a cell more, and the cell that the next step makes, if it makes one.
-#[derive(Debug, Drop)]
+#[derive(Drop)]
 pub struct Rooms {
     pub marks: Marks,
     pub seats: Vec<CellRec>,

@@ -14,7 +14,7 @@ use fore_base::fault::Fault;
 use std::alloc::Global;
 
 /// What a step answers.
-#[derive(Clone, Copy, PartialEq, Eq, Debug)]
+#[derive(Clone, Copy)]
 pub enum Turn {
     /// The step was taken.
     Next,

@@ -5,7 +5,7 @@ ghost use Rattle.c_parser.specs.inner.Shapes.{read_enum_body, read_enum_item, re
 ghost use Rattle.c_parser.specs.inner.Shapes.{read_more_names};
 ghost use Rattle.c_parser.specs.inner.Values.{ValueStep, ValueStops};
 
-use crate::globals::{begun_with, rest_of_data};
+use crate::globals::{alone, rest_of_data};
 use c_ast::{Data, Item, Name};
 use c_grammar::{Sign, SyntaxFault};
 use c_lexer::Token;
@@ -74,9 +74,10 @@ fn enum_body<'t>(
 {
     let (_, rest) = take(bounds, left, Sign::OpenBrace)?;
     let (first, rest) = name(alloc, bounds, rest)?;
+    let mut values = alone(alloc, first)?;
     let (later, rest) = more_names(alloc, bounds, rest)?;
     let (_, rest) = take(bounds, rest, Sign::Semicolon)?;
-    let values = begun_with(alloc, first, later)?;
+    values.append(later)?;
     let item = Item::Enum {
         at,
         name: shape,

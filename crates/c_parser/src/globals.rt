@@ -1,5 +1,5 @@
 // What begins with a type and a name: a declaration at file level, or a prototype or a function.
-ghost use Rattle.std.specs.Prelude.{length, IfOk, IfErr, ◌<◌, ◌≤◌, ◌≡◌, ◌∷◌};
+ghost use Rattle.std.specs.Prelude.{[], length, IfOk, IfErr, ◌<◌, ◌≤◌, ◌≡◌, ◌∷◌};
 ghost use Rattle.c_reader.specs.Bounds.{Reads, Stops};
 ghost use Rattle.c_parser.specs.inner.Shapes.{read_declared_data, read_declared_pointers, read_more_declarators};
 ghost use Rattle.c_parser.specs.inner.Shapes.{read_more_pointers, read_rest_of_data, read_rest_of_pointer};
@@ -54,13 +54,12 @@ fn more_pointers<'t>(
     Ok((all, rest))
 }
 
-/// A list of one item and then those of another list.
-pub fn begun_with<T: Drop>(alloc: Global, first: T, more: List<T>) -> Result<List<T>, AllocError>
-    ensures { IfOk result (λ all. all ≡ first ∷ more) }
+/// A list of one item. What is read next goes behind it, so that no wide value is held meanwhile.
+pub fn alone<T: Drop>(alloc: Global, item: T) -> Result<List<T>, AllocError>
+    ensures { IfOk result (λ all. all ≡ item ∷ []) }
 {
     let mut all = List::new(alloc);
-    all.push(first)?;
-    all.append(more)?;
+    all.push(item)?;
     Ok(all)
 }
 
@@ -77,9 +76,10 @@ fn declared_data<'t>(
     ensures err { IfErr result (Stops (read_declared_data kind name) bounds.now left.now) }
 {
     let (from, rest) = maybe_from(alloc, bounds, left)?;
+    let mut vars = alone(alloc, Declarator { name, from })?;
     let (more, rest) = more_declarators(alloc, bounds, rest)?;
     let (_, rest) = take(bounds, rest, Sign::Semicolon)?;
-    let vars = begun_with(alloc, Declarator { name, from }, more)?;
+    vars.append(more)?;
     let declare = Declare::Datums { data: kind, vars };
     let item = Item::Declare(declare);
     Ok((item, rest))
@@ -99,9 +99,10 @@ fn declared_pointers<'t>(
     ensures err { IfErr result (Stops (read_declared_pointers at shape name) bounds.now left.now) }
 {
     let (from, rest) = maybe_from(alloc, bounds, left)?;
+    let mut vars = alone(alloc, Declarator { name, from })?;
     let (more, rest) = more_pointers(alloc, bounds, rest)?;
     let (_, rest) = take(bounds, rest, Sign::Semicolon)?;
-    let vars = begun_with(alloc, Declarator { name, from }, more)?;
+    vars.append(more)?;
     let declare = Declare::Pointers {
         at,
         name: shape,

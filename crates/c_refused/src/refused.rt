@@ -8,7 +8,7 @@ use c_lexer::token::{TokKind, Token};
 use fore_base::place::Place;
 
 /// A refused token: the number of the rule that refuses it, 1 to 10, and the place of the token.
-#[derive(Clone, Copy, PartialEq, Eq, Debug)]
+#[derive(Clone, Copy)]
 pub struct Refusal {
     pub rule: u8,
     pub at: Place,

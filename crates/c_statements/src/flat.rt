@@ -39,8 +39,8 @@ fn simple_stmt<'t>(
     ensures err { IfErr result (Stops read_simple_stmt bounds.now left.now) }
 {
     let (simple, rest) = simple(alloc, bounds, left)?;
-    let (_, rest) = take(bounds, rest, Sign::Semicolon)?;
     let boxed = Boxed::new(alloc, simple)?;
+    let (_, rest) = take(bounds, rest, Sign::Semicolon)?;
     let stmt = Stmt::Simple(boxed);
     Ok((stmt, rest))
 }

@@ -59,8 +59,8 @@ fn first_simple<'t>(
     ensures err { IfErr result (Stops read_first_simple bounds.now left.now) }
 {
     let (first, rest) = maybe_first(alloc, bounds, left)?;
-    let (_, rest) = take(bounds, rest, Sign::Semicolon)?;
     let boxed = Boxed::new(alloc, first)?;
+    let (_, rest) = take(bounds, rest, Sign::Semicolon)?;
     Ok((boxed, rest))
 }
 

@@ -9,7 +9,7 @@ use std::marker::Model;
 /// A pointer: a variable, and the pointer fields that lead on from it, each by its number among the pointer fields of
 /// the struct that stands
 /// there. No field means the variable itself.
-#[derive(PartialEq, Eq, Debug, Drop)]
+#[derive(Drop)]
 pub struct Path {
     /// The number of a pointer variable.
     pub var: u32,
@@ -18,7 +18,7 @@ pub struct Path {
 }
 
 /// A datum: a data variable, or the data field of this number of the cell at the end of a path.
-#[derive(PartialEq, Eq, Debug, Drop)]
+#[derive(Drop)]
 pub enum DataPath {
     /// The data variable of this number.
     Var(u32),
@@ -27,7 +27,7 @@ pub enum DataPath {
 }
 
 /// What is assigned to a pointer.
-#[derive(PartialEq, Eq, Debug, Drop)]
+#[derive(Drop)]
 pub enum PtrRhs {
     /// The pointer that stands there.
     Path(Path),
@@ -38,7 +38,7 @@ pub enum PtrRhs {
 }
 
 /// What is assigned to a datum.
-#[derive(PartialEq, Eq, Debug, Drop)]
+#[derive(Drop)]
 pub enum DataRhs {
     /// The datum that stands there.
     Path(DataPath),
@@ -49,7 +49,7 @@ pub enum DataRhs {
 }
 
 /// What a statement does.
-#[derive(PartialEq, Eq, Debug, Drop)]
+#[derive(Drop)]
 pub enum Act {
     /// An assignment to a pointer (ISO/IEC 9899:2011, 6.5.16.1).
     SetPtr { to: Path, from: PtrRhs },
@@ -70,7 +70,7 @@ pub enum Act {
 }
 
 /// A pointer in a comparison.
-#[derive(PartialEq, Eq, Debug, Drop)]
+#[derive(Drop)]
 pub enum PtrOp {
     /// The pointer that stands there.
     Path(Path),
@@ -79,7 +79,7 @@ pub enum PtrOp {
 }
 
 /// A datum in a comparison.
-#[derive(PartialEq, Eq, Debug, Drop)]
+#[derive(Drop)]
 pub enum DataOp {
     /// The datum that stands there.
     Path(DataPath),
@@ -88,7 +88,7 @@ pub enum DataOp {
 }
 
 /// A test without parts.
-#[derive(PartialEq, Eq, Debug, Drop)]
+#[derive(Drop)]
 pub enum Atom {
     /// A call that gives a choice.
     Choice,
@@ -109,7 +109,7 @@ pub enum Atom {
 }
 
 /// A condition. The line is that of the atom's first token.
-#[derive(Debug, Drop)]
+#[derive(Drop)]
 pub enum Cond {
     /// A test without parts.
     Atom { atom: Atom, line: u32 },
@@ -122,7 +122,7 @@ pub enum Cond {
 }
 
 /// A statement. The line is that of its first token, or of the declared name.
-#[derive(Debug, Drop)]
+#[derive(Drop)]
 pub enum Stmt {
     /// A statement without parts.
     Do {
@@ -161,7 +161,7 @@ pub enum Stmt {
 }
 
 /// A pointer variable: its name, and the number of the struct to which it points.
-#[derive(PartialEq, Eq, Debug, Drop)]
+#[derive(Drop)]
 pub struct VarDef {
     /// The variable's name.
     pub name: Text,
@@ -176,7 +176,7 @@ pub struct VarDef {
 /// comparison, and a new cell and its target, agree in struct; a known datum is at most `DATUM`; each `&&` and `||` has
 /// a part; each `break` and
 /// `continue` stands in the body of a loop, and none in what a `for` does between its rounds.
-#[derive(Debug, Drop)]
+#[derive(Drop)]
 pub struct Typed {
     /// The structs.
     pub shapes: Shapes,

@@ -5,7 +5,7 @@ use fore_base::list::List;
 use fore_base::text::Text;
 
 /// What a variable or a field holds.
-#[derive(Clone, Copy, PartialEq, Eq, Debug)]
+#[derive(Clone, Copy)]
 pub enum Kind {
     /// A pointer to the struct of this number, or to one that is not defined.
     Points(Option<u32>),
@@ -14,14 +14,14 @@ pub enum Kind {
 }
 
 /// A field of a struct.
-#[derive(PartialEq, Eq, Debug, Drop)]
+#[derive(Drop)]
 pub struct Member {
     pub name: Text,
     pub kind: Kind,
 }
 
 /// A struct. Its number is its position among those of its file.
-#[derive(PartialEq, Eq, Debug, Drop)]
+#[derive(Drop)]
 pub struct StructDef {
     pub name: Text,
     /// In order of declaration.
@@ -29,7 +29,7 @@ pub struct StructDef {
 }
 
 /// An enumerator.
-#[derive(PartialEq, Eq, Debug, Drop)]
+#[derive(Drop)]
 pub struct Enumerator {
     pub name: Text,
     /// Its place in its enumeration, from 0. It is 0 where that is greater than a datum, which breaks a limit.
@@ -37,14 +37,14 @@ pub struct Enumerator {
 }
 
 /// A field of a struct as it is used: its number among the fields of its kind, and the struct to which it points.
-#[derive(Clone, Copy, PartialEq, Eq, Debug)]
+#[derive(Clone, Copy)]
 pub enum FieldUse {
     Pointer { number: u32, to: Option<u32> },
     Datum { number: u32 },
 }
 
 /// What an operand is.
-#[derive(PartialEq, Eq, Debug, Drop)]
+#[derive(Drop)]
 pub enum Meaning {
     /// The pointer that stands there, to the struct of this number, or to one that is not defined.
     Pointer { path: Path, to: Option<u32> },
@@ -63,7 +63,7 @@ pub enum Meaning {
 }
 
 /// What is wanted where an operand stands.
-#[derive(Clone, Copy, PartialEq, Eq, Debug)]
+#[derive(Clone, Copy)]
 pub enum Want {
     /// A pointer to the struct of this number, or to one that is not known.
     Pointer(Option<u32>),
@@ -74,7 +74,7 @@ pub enum Want {
 }
 
 /// Where a call stands.
-#[derive(Clone, Copy, PartialEq, Eq, Debug)]
+#[derive(Clone, Copy)]
 pub enum Spot {
     /// As a statement.
     Statement,

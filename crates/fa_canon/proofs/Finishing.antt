@@ -1,5 +1,5 @@
 -- From the steps to canonical forests.
-use Rattle.std.proofs.Common.{◌≡◌, inl, inr, ℕ, length, List, [], ◌∷◌, refl, sym, ap, subst, arith}
+use Rattle.std.proofs.Common.{◌≡◌, inl, ℕ, length, List, [], ◌∷◌, refl, sym, ap, subst, arith}
 use Rattle.fore_base.specs.Lists.{Every, Paired}
 use Rattle.fore_base.proofs.ListLemmas.{in_mapped}
 use Rattle.ta_core.specs.Auto.{Automaton, IsRanked}
@@ -18,7 +18,6 @@ use Rattle.fa_core.proofs.Regrouped.{members_regrouped, members_split}
 use Rattle.fa_sound.specs.Soundness.{SoundForest}
 use Rattle.fa_back.proofs.Dressable.{some_choice}
 use Rattle.fa_merge.specs.Reached.{AreAllReached}
-use Rattle.fa_merge.proofs.LeaksDecided.{NoneLeaks, reached_never_leaks}
 use Rattle.fa_merge.proofs.Named.{var_below}
 use Rattle.fa_merge.proofs.ReachedKept.{reached_kept}
 use Rattle.fa_sound.specs.Unions.{IsUnionOf, forests}
@@ -31,7 +30,7 @@ use Rattle.fa_canon.specs.inner.Knots.{IsReady}
 use Rattle.fa_canon.specs.inner.Merges.{IsRegrouped, NoneMerges}
 use Rattle.fa_canon.specs.inner.Steps.{HasChosen, IsPiece, IsSplitEach}
 use Rattle.fa_canon.proofs.CutForests.{cut_kinds, cut_untied, start_cutting, within_cutting}
-use Rattle.fa_canon.proofs.Settled.{all_reached, settled}
+use Rattle.fa_canon.proofs.Settled.{settled}
 use Rattle.fa_canon.proofs.SplitSteps.{all_tops, covers_long}
 use Rattle.fa_canon.proofs.Splits.{gives_on, only_one}
 
@@ -50,21 +49,14 @@ covered_regroups F G h T d o = (
   },
 )
 
--- where no member of F leaks no member of what it regroups does
-pub never_leaks : (F G : Forest) → ((T : List BoxDef) → Regroups T F G) → NoneLeaks F → NoneLeaks G
-never_leaks F G w tight hs T s h = tight hs T s (members_regrouped hs T F G (w T) s h)
-
 -- what each root of which is reached is regrouped into has each root reached
 pub reached_on : (F G : SoundForest) → IsSound F.face F.forest → IsSound G.face G.forest
     → Every IsRanked G.forest.autos → DoEdgesGive F.face F.forest → IsPiece F G → AreAllReached F.face F.forest
     → AreAllReached G.face G.forest
-reached_on F G sound sound_new ranked (inl giving) piece all =
+reached_on F G sound sound_new ranked gives piece all =
     subst (λ (x : Face). AreAllReached x G.forest) (sym piece.face)
-    (reached_kept F.face giving F.forest G.forest sound.well_formed.filled
+    (reached_kept F.face F.forest G.forest gives sound.well_formed.filled
     (subst (λ (x : Face). IsFilled x G.forest) piece.face sound_new.well_formed.filled) ranked piece.regroups all)
-reached_on F G sound sound_new ranked (inr plain) piece all =
-    all_reached G.face G.forest sound_new ranked (piece.plain plain)
-    (never_leaks F.forest G.forest piece.regroups (reached_never_leaks F.face F.forest plain all))
 
 -- Where no root can be merged, and one rule is chosen at each.
 pub ready_start : (n : ℕ) (M C : SoundForest) → n ≡ length M.forest.autos → IsSound M.face M.forest

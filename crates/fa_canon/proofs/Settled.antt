@@ -5,9 +5,8 @@ use Rattle.std.proofs.Common.{nat_eq, length, List, [], ◌∷◌, refl, sym, su
 use Rattle.std.proofs.lemmas.Bool.{eqb-true, eq-eqb}
 use Rattle.std.proofs.lemmas.Option.{same_Some}
 use Rattle.fore_base.specs.Lists.{IsIn, Every}
-use Rattle.ta_core.specs.Auto.{Automaton, IsRanked}
+use Rattle.ta_core.specs.Auto.{Automaton}
 use Rattle.ta_core.specs.declared.tree.Tree.{Tree}
-use Rattle.fa_core.specs.Boxless.{HasNoBoxes}
 use Rattle.fa_core.specs.Canonical.{IsLedTo, LeadsBack, RefersTo, references, var_roots}
 use Rattle.fa_core.specs.Filled.{Choice, HasSignatures, IsSound}
 use Rattle.fa_core.specs.Ways.{signature}
@@ -21,9 +20,6 @@ use Rattle.fa_core.proofs.Dressing.{choice_length}
 use Rattle.fa_back.specs.Reached.{RootReached, by_var, by_tree, by_way}
 use Rattle.fa_back.proofs.ByMarks.{in_var_roots, var_roots_in}
 use Rattle.fa_back.proofs.RootMarks.{reach_in_mark, reach_refers, way_led}
-use Rattle.fa_merge.specs.Reached.{AreAllReached}
-use Rattle.fa_merge.proofs.LeaksDecided.{NoneLeaks, roots_decided, unreached_leaks}
-use Rattle.fa_merge.proofs.Members.{not_both}
 use Rattle.fa_order.proofs.CountedMarks.{same_times}
 use Rattle.fa_order.proofs.Following.{one_by_two}
 use Rattle.fa_order.proofs.SameMarks.{AreSigned, met_refers, paired_at, same_roots}
@@ -138,11 +134,3 @@ module _ (bs : List BoxFace) (vars : List Target) (ts : List Tree) (r : ℕ) (al
       led = subst (λ (n : ℕ). LeadsBack bs ts i n r) (into_own i j led) led;
     })
   ]
-
--- Without box edges each root is reached where no member leaks.
-pub all_reached : (face : Face) (F : Forest) → IsSound face F → Every IsRanked F.autos → Every HasNoBoxes F.autos
-    → NoneLeaks F → AreAllReached face F
-all_reached face F sound ranked plain tight = elim (roots_decided face F sound) [
-  | inl all ↦ all
-  | inr h ↦ absurd (not_both face F sound ranked plain (unreached_leaks face F plain h.0 h.1.root h.1.unreached) tight)
-]

@@ -1,17 +1,13 @@
 // The parts of two forests compared.
 
 ghost use Rattle.std.specs.Prelude.{◌≡◌, ◌↔◌, IsTrue, IfOk};
-ghost use Rattle.fore_base.specs.Lists.{Paired};
-ghost use Rattle.ta_core.specs.Language.{IsWithin};
 ghost use Rattle.fa_core.specs.Covering.{Covers};
 
-use crate::tops::keep_tops;
+use crate::components::are_within;
 use fa_core::forest::{Forest, Target};
 use fore_base::memory::Mem;
 use fore_base::store::Datum;
 use std::alloc::Global;
-use ta_core::auto::Auto;
-use ta_incl::is_included;
 
 /// Whether the one forest covers the other. Targets, data, the number of roots and the symbols of the roots' rules are
 /// compared before any language. Err is want of memory.
@@ -22,9 +18,6 @@ pub fn is_covered(alloc: Global, wide: &Forest, narrow: &Forest) -> Mem<bool>
         return Ok(false);
     }
     if !are_same_data(narrow.data_vars.as_slice(), wide.data_vars.as_slice()) {
-        return Ok(false);
-    }
-    if !keep_tops(alloc, narrow.autos.as_slice(), wide.autos.as_slice())? {
         return Ok(false);
     }
     are_within(alloc, narrow.autos.as_slice(), wide.autos.as_slice())
@@ -42,19 +35,4 @@ fn are_same_data(left: &[Datum], right: &[Datum]) -> bool
     ensures { IsTrue result ↔ (left.now ≡ right.now) }
 {
     left == right
-}
-
-/// Whether there are as many automata, and the language of each is within that in its place. Err is want of memory.
-fn are_within(alloc: Global, narrow: &[Auto], wide: &[Auto]) -> Mem<bool>
-    ensures { IfOk result (λ yes. IsTrue yes ↔ Paired IsWithin narrow.now wide.now) }
-{
-    if narrow.len() != wide.len() {
-        return Ok(false);
-    }
-    for place in 0..narrow.len() {
-        if !is_included(alloc, &narrow[place], &wide[place])? {
-            return Ok(false);
-        }
-    }
-    Ok(true)
 }

@@ -23,10 +23,10 @@ use Rattle.fa_core.proofs.WayParts.{ways_out}
 use Rattle.fa_edit.specs.inner.Edited.{symbol_with, dated, dated_at}
 use Rattle.fa_edit.proofs.DatumTrees.{dated_back, dated_of, to_dated, dated_one, dated_symbols, at_top, dated_stay}
 use Rattle.fa_edit.proofs.EditedSound.{changed, choice_changed, edited_plain, edited_sound}
-use Rattle.fa_edit.proofs.Gifts.{gift}
 use Rattle.fa_order.specs.inner.Following.{EndFollows, StaysTame}
 use Rattle.fa_order.proofs.Tame.{kinds_too, untied_too, order_too}
 use Rattle.fa_sound.specs.Components.{component_at}
+use Rattle.fa_merge.proofs.IdleRoots.{gift}
 use Rattle.fa_merge.proofs.MergedAnywhere.{nat_cases}
 use Rattle.fa_merge.proofs.PlacedForests.{component_has}
 use Rattle.fa_split.specs.Split.{top_rule}

@@ -11,7 +11,7 @@ use Rattle.fa_core.specs.Boxless.{HasNoBoxes}
 use Rattle.fa_core.specs.Filled.{Choice, ChoiceFilled, TopsAre, IsTopped, IsRoot, IsFilledSpot, spots, RulesFit}
 use Rattle.fa_core.specs.Filled.{HasSignatures, HasSome, IsSound, TreesFilled, given_at}
 use Rattle.fa_core.specs.declared.faces.BoxFace.{BoxFace}
-use Rattle.fa_edit.proofs.Gifts.{gift}
+use Rattle.fa_merge.proofs.IdleRoots.{gift}
 use Rattle.fa_sound.specs.Components.{component_at, with_component}
 use Rattle.fa_split.proofs.OtherComponent.{every_put}
 

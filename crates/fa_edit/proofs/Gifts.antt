@@ -20,13 +20,10 @@ use Rattle.fa_core.proofs.Rearranging.{flat_map-append}
 use Rattle.fa_core.proofs.WaysOf.{tree_roots}
 use Rattle.fa_edit.specs.Leaves.{end_of_field, put_leaf, with_leaf}
 use Rattle.fa_sound.specs.Components.{component_at}
+use Rattle.fa_merge.proofs.IdleRoots.{gift}
 use Rattle.fa_split.specs.Split.{top_parts}
 
--- what a tree gives to root k
-abbrev pub gift : List BoxFace → ℕ → Tree → List ℕ
-gift bs k t = flat_map (λ w. given bs w.steps) (to_root k (ways t))
-
--- it is what its leaves are given
+-- what a tree gives to a root is what its leaves are given
 pub one_given : (bs : List BoxFace) (k : ℕ) (n : Node) → gift bs k (bare n) ≡ flat_map (tip_to k) (tips bs n)
 one_given bs k n = sym (append-nil (gift bs k (bare n))) ∙ given_tips bs k (more n no_nodes)
     ∙ ap (λ (xs : List Tip). flat_map (tip_to k) xs) (append-nil (tips bs n))

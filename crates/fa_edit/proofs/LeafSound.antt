@@ -26,11 +26,12 @@ use Rattle.fa_edit.specs.Fits.{LeafFits, symbol_shape}
 use Rattle.fa_edit.specs.Leaves.{end_of_field, with_leaf}
 use Rattle.fa_edit.specs.Plain.{IsLeafPlace, IsPlainAt, place_at}
 use Rattle.fa_edit.proofs.EditedSound.{IsFilledTree, edited_plain, edited_sound}
-use Rattle.fa_edit.proofs.Gifts.{gift, gift_put}
+use Rattle.fa_edit.proofs.Gifts.{gift_put}
 use Rattle.fa_edit.proofs.LeafPuts.{ranked_own, inside, put_end, put_old, from_put}
 use Rattle.fa_edit.proofs.PlainFields.{leaf_runs, tree_has, tree_put}
 use Rattle.fa_edit.proofs.PutSpots.{node_shape, put_filled}
 use Rattle.fa_sound.specs.Components.{component_at}
+use Rattle.fa_merge.proofs.IdleRoots.{gift}
 use Rattle.fa_merge.proofs.PlacedForests.{component_has, topped_node}
 use Rattle.fa_merge.proofs.PutForests.{end_of_run}
 use Rattle.fa_sound.proofs.ComponentLemmas.{component_got}

@@ -38,7 +38,8 @@ use Rattle.fa_edit.specs.Cells.{IsNewed, blank_parts, new_node}
 use Rattle.fa_edit.specs.inner.News.{field_slots, blank_symbol, blank, newed}
 use Rattle.fa_edit.proofs.NewTrees.{blank_insides, blank_tree, blank_plain, blank_some, blank_signed, bare_new, is_new}
 use Rattle.fa_edit.proofs.NewTrees.{new_is, tree_is}
-use Rattle.fa_edit.proofs.Gifts.{gift, one_given, gift_low, given_low}
+use Rattle.fa_edit.proofs.Gifts.{one_given, gift_low, given_low}
+use Rattle.fa_merge.proofs.IdleRoots.{gift}
 use Rattle.fa_merge.proofs.MergedLast.{split_last, join_last}
 use Rattle.fa_merge.proofs.OtherOrders.{count_trees}
 use Rattle.fa_merge.proofs.PutForests.{node_of_tree}

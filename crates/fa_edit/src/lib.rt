@@ -15,4 +15,5 @@ pub mod vars;
 pub use cells::with_cell;
 pub use data::{datum_of, with_datum};
 pub use leaves::{is_plain_at, leaf_fits, leaf_of, with_leaf};
+pub use tops::place_of;
 pub use vars::with_vars;

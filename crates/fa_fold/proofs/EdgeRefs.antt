@@ -1,7 +1,7 @@
 -- What the picked slots of a root's trees refer to, by what the trees of their states refer to.
-use Rattle.std.proofs.Common.{◌≡◌, ℕ, zero, suc, ◌<◌, length, Bool, List, [], ◌∷◌, ◌++◌, map, flat_map, refl, sym, ap}
+use Rattle.std.proofs.Common.{◌≡◌, ℕ, ◌<◌, Bool, List, [], ◌∷◌, ◌++◌, map, flat_map, refl, sym, ap}
 use Rattle.std.proofs.Common.{ap₂, subst, ◌∙◌, Option}
-use Rattle.std.proofs.Common.{Some, slice_get, arith}
+use Rattle.std.proofs.Common.{Some}
 use Rattle.fore_base.specs.Lists.{Every, Paired}
 use Rattle.fore_base.proofs.ListLemmas.{every_in}
 use Rattle.ta_core.specs.Auto.{Automaton, IsRanked, IsRankedRule}
@@ -13,7 +13,6 @@ use Rattle.ta_core.specs.declared.tree.Tree.{Tree, out-Tree}
 use Rattle.fa_core.specs.Folding.{place_refs, taken, left, top_places, symbol_slots, is_one_of}
 use Rattle.fa_core.specs.References.{tree_refs}
 use Rattle.fa_core.specs.Ways.{once}
-use Rattle.fa_sound.specs.Components.{component_at}
 use Rattle.fa_sound.specs.Soundness.{IsStateOf}
 use Rattle.fa_split.specs.Split.{top_rule}
 use Rattle.fa_split.proofs.TopRules.{tree_by_top, top_in}
@@ -25,12 +24,6 @@ use Rattle.fa_fold.proofs.Thinned.{flat_thin}
 
 abbrev items_in : {X : Type 0} → List (Slot × X) → List X
 items_in es = map (λ e. e.1) es
-
--- the component of a root is there
-pub own_item : (autos : List Automaton) (r : ℕ) → r < length autos → slice_get autos r ≡ Some (component_at autos r)
-own_item [] r l = absurd (omega (arith, l))
-own_item (a ∷ autos) zero l = refl
-own_item (a ∷ autos) (suc r) l = own_item autos r (omega (arith, l))
 
 module _ (o : Option Automaton) (a : Automaton) (at : o ≡ Some a) where
   -- the lists are those of the trees

@@ -1,6 +1,10 @@
 pub mod Added
 pub mod Automata
 pub mod Edges
+pub mod Folds
 pub mod Found
+pub mod Made
+pub mod Ports
 pub mod Referring
+pub mod Seeking
 pub mod Thin

@@ -76,3 +76,14 @@ pub fn children_of(alloc: Global, edges: &[(Slot, u32)]) -> Mem<List<u32>>
     }
     Ok(made)
 }
+
+/// The slots. Err is want of memory.
+pub fn slots_of(alloc: Global, edges: &[(Slot, u32)]) -> Mem<List<Slot>>
+    ensures { IfOk result (λ made. made ≡ map (λ e. e.0) edges.now) }
+{
+    let mut made = List::new(alloc);
+    for edge in edges {
+        made.push(edge.0)?;
+    }
+    Ok(made)
+}

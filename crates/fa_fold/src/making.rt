@@ -4,12 +4,16 @@ ghost use Rattle.std.specs.Prelude.{◌≡◌, ◌<◌, ◌^◌, length, map, If
 ghost use Rattle.fa_core.specs.Folding.{position};
 ghost use Rattle.fa_core.specs.Placed.{placed_rule, placed_symbol};
 ghost use Rattle.fa_core.specs.declared.forest.Target.TheVariants.{At};
-ghost use Rattle.fa_fold.specs.inner.Automata.{moved_auto};
+ghost use Rattle.ta_core.specs.Single.{HasOneTop};
+ghost use Rattle.fa_fold.specs.inner.Automata.{moved_auto, port_auto, port_rule};
 
+use crate::edges::{children_of, slots_of, taken_edges};
+use fa_split::{one_root, states_of};
 use fore_base::list::{Copies, List};
 use fore_base::memory::Mem;
 use std::alloc::Global;
 use ta_core::auto::{Auto, Rule};
+use ta_core::joining::room;
 use ta_core::symbol::Symbol;
 
 /// The place of the root in the order; where it is not there, the length.
@@ -38,6 +42,45 @@ pub fn moved(alloc: Global, auto: &Auto, order: &[u32]) -> Mem<Auto>
         states: auto.states,
         roots,
         rules,
+    })
+}
+
+/// The automaton of a port of this struct with these fields: the trees of this automaton with the slots of the fields
+/// alone, without data, and with the places in the order in the place of roots. Its root state is its own. Err is want
+/// of memory.
+pub fn ported(alloc: Global, auto: &Auto, shape: u32, fields: &[u32], order: &[u32]) -> Mem<Auto>
+    requires top { HasOneTop auto.now }
+    requires order { length order.now < 2 ^ 32 }
+    ensures { IfOk result (λ made. made ≡ port_auto (position order.now) shape fields.now auto.now) }
+{
+    auto.known();
+    let states = room(auto, 1)?;
+    let roots = one_root(alloc, states_of(auto))?;
+    let mut rules = moved_rules(alloc, auto.rules.as_slice(), order)?;
+    rules.push(port_rule(alloc, auto, shape, fields)?)?;
+    Ok(Auto {
+        states,
+        roots,
+        rules,
+    })
+}
+
+/// The rule of a port, at the next state. Err is want of memory.
+fn port_rule(alloc: Global, auto: &Auto, shape: u32, fields: &[u32]) -> Mem<Rule>
+    requires { HasOneTop auto.now }
+    ensures { IfOk result (λ made. made ≡ port_rule shape fields.now auto.now) }
+{
+    let edges = taken_edges(alloc, auto, fields)?;
+    let slots = slots_of(alloc, edges.as_slice())?;
+    let children = children_of(alloc, edges.as_slice())?;
+    Ok(Rule {
+        state: states_of(auto),
+        symbol: Symbol::Cell {
+            shape,
+            datums: List::new(alloc),
+            slots,
+        },
+        children,
     })
 }
 

@@ -18,7 +18,7 @@ use Rattle.fore_base.specs.declared.store.Store.{Store}
 use Rattle.fore_base.specs.declared.store.Value.{Value}
 use Rattle.fore_base.specs.declared.store.Value.TheVariants.{Null as NullValue, Uninit as UninitValue}
 use Rattle.fore_base.specs.declared.store.Value.TheVariants.{Dangling as DanglingValue, Cell}
-use Rattle.fore_base.proofs.ListLemmas.{in_left, in_right, every_weaker, every_map, every_mapped}
+use Rattle.fore_base.proofs.ListLemmas.{in_right, every_weaker, every_map, every_mapped}
 use Rattle.fa_core.specs.declared.boxes.BoxDef.{BoxDef}
 use Rattle.fa_core.specs.declared.faces.BoxFace.{BoxFace}
 use Rattle.fa_core.specs.declared.faces.Face.{Face}
@@ -26,7 +26,7 @@ use Rattle.fa_core.specs.declared.forest.Forest.{Forest}
 use Rattle.fa_core.specs.declared.forest.Target.{Target}
 use Rattle.fa_core.specs.declared.forest.Target.TheVariants.{Null, Uninit, Dangling, At}
 use Rattle.fa_core.specs.Boxes.{IsTableOf, head_of, heads}
-use Rattle.fa_core.specs.Choices.{numbers, all_numbers}
+use Rattle.fa_core.specs.Choices.{numbers}
 use Rattle.fa_core.specs.Dressed.{Node, Parts, Nodes, node, no_parts, field, link, hook, under, leaf, no_nodes, more}
 use Rattle.fa_core.specs.Dressed.{Fact, Head, Points, facts, tree_facts, slot_facts, forest_facts, value_in, nth_value}
 use Rattle.fa_core.specs.Dressed.{roots_of, number}
@@ -43,7 +43,7 @@ use Rattle.fa_merge.specs.Dropped.{without_cell}
 use Rattle.fa_merge.proofs.DroppedClear.{bound_all, bound_same, above_all, own_once, all_clear}
 use Rattle.fa_merge.proofs.DroppedFacts.{insides_in, insides_without, leaves_dropped, facts_dropped, root_first}
 use Rattle.fa_merge.proofs.DroppedInsides.{dangle_fact, dangle_self, NoFact, HaveInputs, table_inputs}
-use Rattle.fa_back.proofs.FactParts.{fact_cell, fact_value, top_in}
+use Rattle.fa_back.proofs.FactParts.{fact_cell, fact_value}
 use Rattle.fa_merge.proofs.FieldFacts.{no_list, first_same, later_same, unmap, split_map, is_head, fact_field, IsOwn}
 use Rattle.fa_merge.proofs.FieldFacts.{every_there, in_order, fact_count}
 use Rattle.fa_back.proofs.StoreLaws.{has_cell, same_numbers as heads_numbered}
@@ -164,12 +164,6 @@ values_of P xs h = every_map fact_value P xs h
 
 -- Values that name cells of the store.
 
-pub roots_named : (cs : List CellRec) (d : Nodes) → ((n : ℕ) → IsIn n (all_numbers d) → HasCell cs n) → (k : ℕ)
-    → NamesCell cs (nth_value (roots_of d) k)
-roots_named cs no_nodes h k = tt
-roots_named cs (more n ns) h zero = h (number n) (in_left (number n) (numbers n) (all_numbers ns) (top_in n))
-roots_named cs (more n ns) h (suc k) = roots_named cs ns (λ m i. h m (in_right m (numbers n) (all_numbers ns) i)) k
-
 -- only the cells of the roots count
 root_named : (cs : List CellRec) (d : Nodes) → ((n : ℕ) → IsIn n (root_numbers d) → HasCell cs n) → (k : ℕ)
     → NamesCell cs (nth_value (roots_of d) k)
@@ -211,7 +205,7 @@ cells_same [] = refl
 cells_same (x ∷ cs) = ap₂ (λ (fs : List Value) (ys : List CellRec). record x { fields = fs } ∷ ys)
     (values_same x.fields) (cells_same cs)
 
-alike_by : (s t : Store) → s.vars ≡ t.vars → s.data_vars ≡ t.data_vars → s.cells ≡ t.cells → IsAlike s t
+abbrev alike_by : (s t : Store) → s.vars ≡ t.vars → s.data_vars ≡ t.data_vars → s.cells ≡ t.cells → IsAlike s t
 alike_by s t v d c = record {
   to = λ n. n;
   one_to_one = λ m n i j e. e;
@@ -391,12 +385,13 @@ module _ (T : List BoxDef) (face : Face) (F G : Forest) (r : ℕ) (table : IsTab
     own_out : without c (root ∷ ks) ≡ u.cells
     own_out = let q : nat_eq c c ≡ true = eq-eqb c c refl in rw q (none_left c ks not_there ∙ cells_back.2)
 
-    alike : IsAlike (without_cell c store) u
+    abbrev alike : IsAlike (without_cell c store) u
     alike = alike_by (without_cell c store) u vars_back (sym cut.data_vars ∙ sym h.data_vars) own_out
 
-  pub store_back : (e : Nodes) × (s : Store) × (c : ℕ) × IsFlatRoot e r c × StandsBy hs T F e s
-      × IsAlike (without_cell c s) u
-  store_back =
+  -- the store, and what the dressed forest becomes; the cells keep their numbers
+  pub store_again : (e : Nodes) × (s : Store) × (c : ℕ) × IsFlatRoot e r c × StandsBy face.shapes.structs T F e s
+      × (dropped r e ≡ d) × ((a : IsAlike (without_cell c s) u) × ((n : ℕ) → a.to n ≡ n))
+  store_again =
       let b = cut.back d h.of c in
       let x = b.3 in (
         b.0,
@@ -404,10 +399,13 @@ module _ (T : List BoxDef) (face : Face) (F G : Forest) (r : ℕ) (table : IsTab
         c,
         x,
         stands b.0 b.1 b.2 x.0 x.1 x.2 x.3 x.4,
-        alike b.0 b.1 b.2 x.0 x.1 x.2 x.3 x.4,
+        b.2,
+        (alike b.0 b.1 b.2 x.0 x.1 x.2 x.3 x.4, λ n. refl),
       )
 
 -- each store of the forest cut is one of the forest without the root's cell
 pub store_restored : (T : List BoxDef) (face : Face) (F G : Forest) (r : ℕ) → IsTableOf face T → IsFilled face F
     → IsIdle face.boxes F r → IsCut T F G r → Restores face.shapes.structs T F G r
-store_restored T face F G r table filled idle cut d u h = store_back T face F G r table filled idle cut d u h
+store_restored T face F G r table filled idle cut d u h =
+    let k = store_again T face F G r table filled idle cut d u h in
+    (k.0, k.1, k.2, k.3, k.4, k.6.0)

@@ -20,7 +20,7 @@ use Rattle.fa_core.specs.declared.forest.Forest.{Forest}
 use Rattle.fa_core.specs.Boxes.{IsTableOf}
 use Rattle.fa_core.specs.Choices.{bares}
 use Rattle.fa_core.specs.Dressed.{Node, Parts, End, Nodes, node, no_parts, field, link, hook, under, leaf, no_nodes}
-use Rattle.fa_core.specs.Dressed.{more, Fact, Head, Points, tree_facts, slot_facts, end_facts, forest_facts}
+use Rattle.fa_core.specs.Dressed.{more, Fact, Head, Points, facts, tree_facts, slot_facts, end_facts, forest_facts}
 use Rattle.fa_core.specs.Dressed.{port_facts, with_ports, end_value, roots_of}
 use Rattle.fa_core.specs.Filled.{IsFilled, IsFilledSpot, Spot, TreesFilled, covers, fields_of, given_at, spots}
 use Rattle.fa_core.specs.Member.{OfForest, bare, slots_of}
@@ -272,6 +272,15 @@ root_once face all tops c s ds ps k (suc r) (more n ns) h e =
     subst (λ (m : ℕ). Rearranged (fields_of face.shapes.structs s)
     (flat_map (covers face.boxes) (slots_of ps) ++ given_at face.boxes all m)) q
     (root_once face all tops c s ds ps (suc k) r ns h.1 e)
+
+-- a number that has no head has no fact: its fields would be owed
+pub none_clear : (face : Face) (T : List BoxDef) (F : Forest) → IsTableOf face T → IsFilled face F → (d : Nodes)
+    → OfForest T F d → (c : ℕ) → NoHead c (facts d) → NoFact c (facts d)
+none_clear face T F table filled d of c none =
+    let hs : List Shape = face.shapes.structs in
+    let full = moved_length (fields_full (record { face = face; defs = T }) table F filled d of c) in
+    let z = owe_none hs c (facts d) none in
+    no_fact hs c (facts d) none (omega (arith, full, z))
 
 module _ (face : Face) (T : List BoxDef) (F : Forest) (r : ℕ) (table : IsTableOf face T) (filled : IsFilled face F)
     (idle : IsIdle face.boxes F r) (d : Nodes) (of : OfForest T F d) (c s : ℕ) (ds : List Datum) (ps : Parts)

@@ -1,6 +1,6 @@
 -- The facts of a dressed forest without one of its roots: those of the other trees, with Dangling in the place of the
 -- root's cell.
-use Rattle.std.proofs.Common.{◌≡◌, ◌≢◌, ◌⊎◌, inl, inr, ℕ, zero, suc, Bool, true, false, true≢false, if◌then◌else◌}
+use Rattle.std.proofs.Common.{◌≡◌, ◌≢◌, inl, inr, ℕ, zero, suc, Bool, true, false, true≢false, if◌then◌else◌}
 use Rattle.std.proofs.Common.{nat_eq, List, [], ◌∷◌, ◌++◌, map, refl, sym, ap, ap₂, subst, ◌∙◌, Some, arith}
 use Rattle.std.proofs.lemmas.Bool.{eqb-true, eq-eqb}
 use Rattle.std.proofs.lemmas.Option.{none-some, same_Some}
@@ -10,19 +10,16 @@ use Rattle.fore_base.specs.declared.store.CellRec.{CellRec}
 use Rattle.fore_base.specs.declared.store.Datum.{Datum}
 use Rattle.fore_base.specs.declared.store.Value.{Value}
 use Rattle.fore_base.specs.declared.store.Value.TheVariants.{Cell}
-use Rattle.fore_base.proofs.ListLemmas.{in_left, in_right, in_append}
 use Rattle.ta_core.specs.Auto.{Automaton}
 use Rattle.fa_core.specs.declared.boxes.BoxDef.{BoxDef}
 use Rattle.fa_core.specs.declared.forest.Target.{Target}
 use Rattle.fa_core.specs.declared.forest.Target.TheVariants.{Null, Uninit, Dangling, At}
-use Rattle.fa_core.specs.Choices.{numbers, numbers_of, end_numbers, all_numbers}
 use Rattle.fa_core.specs.Dressed.{Node, Parts, End, Nodes, node, no_parts, field, link, hook, under, leaf, no_nodes}
 use Rattle.fa_core.specs.Dressed.{more, Fact, Head, Points, tree_facts, slot_facts, end_facts, forest_facts, value_in}
 use Rattle.fa_core.specs.Dressed.{nth_value, end_value, inside_facts, roots_of, number}
 use Rattle.fa_core.specs.Member.{TreesOf, InsidesOf, InsidesOfParts, InsidesOfEnd, store_facts, cell_facts, points}
 use Rattle.fa_core.specs.Placed.{placed, placed_leaf, placed_parts, placed_end, placed_all}
 use Rattle.fa_core.specs.Rearranged.{Rearranged, empty, keep, swap, chain}
-use Rattle.fa_core.proofs.PlainNodes.{NoEdges, NoEdgesOf, NoEdgesAt, NoEdgesIn}
 use Rattle.fa_core.proofs.Given.{root_numbers}
 use Rattle.fa_core.proofs.Placing.{roots_placed}
 use Rattle.fa_core.proofs.Rearranging.{same, equal, after, exchange}
@@ -259,35 +256,6 @@ module _ (c : ℕ) where
   flat_own us (hook b i ps) h = absurd h
 
 module _ (vs : List Value) where
-  mutual
-    tree_cell : (n : Node) → NoEdges n → (x : Fact) → IsIn x (tree_facts vs n) → IsIn (fact_cell x) (numbers n)
-    tree_cell (node m q es us) b x (inl e) = inl (ap fact_cell e)
-    tree_cell (node m q es us) b x (inr i) = elim (slots_cell m us b x i) [ inl e ↦ inl e | inr j ↦ inr j ]
-
-    slots_cell : (m : ℕ) (us : Parts) → NoEdgesOf us → (x : Fact) → IsIn x (slot_facts vs m us) → (fact_cell x ≡ m)
-        ⊎ IsIn (fact_cell x) (numbers_of us)
-    slots_cell m no_parts b x i = absurd i
-    slots_cell m (field f e us) b x (inl q) = inl (ap fact_cell q)
-    slots_cell m (field f e us) b x (inr i) = elim (in_append x (end_facts vs e) (slot_facts vs m us) i) [
-      | inl j ↦ inr (in_left (fact_cell x) (end_numbers e) (numbers_of us) (end_cell e b.0 x j))
-      | inr j ↦ elim (slots_cell m us b.1 x j)
-          [ inl q ↦ inl q | inr k ↦ inr (in_right (fact_cell x) (end_numbers e) (numbers_of us) k) ]
-    ]
-    slots_cell m (link a i e us) b x h = absurd b
-    slots_cell m (hook a i us) b x h = absurd b
-
-    end_cell : (e : End) → NoEdgesAt e → (x : Fact) → IsIn x (end_facts vs e) → IsIn (fact_cell x) (end_numbers e)
-    end_cell (under n) b x i = tree_cell n b x i
-    end_cell (leaf t) b x i = absurd i
-
-  pub all_cell : (d : Nodes) → NoEdgesIn d → (x : Fact) → IsIn x (forest_facts vs [] d)
-      → IsIn (fact_cell x) (all_numbers d)
-  all_cell no_nodes b x i = absurd i
-  all_cell (more n ns) b x i = elim (in_append x (tree_facts vs n) (forest_facts vs [] ns) i) [
-    | inl j ↦ in_left (fact_cell x) (numbers n) (all_numbers ns) (tree_cell n b.0 x j)
-    | inr j ↦ in_right (fact_cell x) (numbers n) (all_numbers ns) (all_cell ns b.1 x j)
-  ]
-
   -- the facts of the other trees
   pub but_root : (c s : ℕ) (ds : List Datum) (ps : Parts) (r : ℕ) (d : Nodes) → node_at d r ≡ Some (node c s ds ps)
       → AreLeaves ps → NoFact c (forest_facts vs [] (without_node r d)) → but_facts c (forest_facts vs [] d)

@@ -73,9 +73,6 @@ abbrev pub HaveInputs : List BoxDef → Type 0
 HaveInputs T = (b : ℕ) (autos : List Automaton) (i : Nodes) → inside_of T b ≡ Some autos → TreesOf T autos i
     → HasInput i
 
-pub none_have_inputs : HaveInputs []
-none_have_inputs b autos i e o = absurd (none-some autos e)
-
 covers_slot : (bs : List BoxFace) (c s : ℕ) (ds : List Datum) (ps : Parts)
     → HasField (covered_fields bs (bare (node c s ds ps))) → HasSlot ps
 covers_slot bs c s ds no_parts h =

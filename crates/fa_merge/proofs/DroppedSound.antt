@@ -29,7 +29,6 @@ use Rattle.fa_core.proofs.FilledKept.{choice_with}
 use Rattle.fa_core.proofs.Given.{Tip, tip_to, tips_of, all_tips}
 use Rattle.fa_core.proofs.GivenTips.{given_tips}
 use Rattle.fa_core.proofs.Placing.{placed_boxless, placed_fit}
-use Rattle.fa_core.proofs.PlainNodes.{NoEdgesIn}
 use Rattle.fa_sound.proofs.NothingGiven.{nothing_given}
 use Rattle.fa_back.specs.Reached.{node_at}
 use Rattle.fa_merge.specs.Dropped.{drop_leaf, but_place, dropped_forest, without_node, AreLeaves, IsFlat, IsIdle}
@@ -80,11 +79,6 @@ tops_but r [] (s ∷ tops) h = absurd h
 tops_but r (t ∷ ts) [] h = absurd h
 tops_but zero (t ∷ ts) (s ∷ tops) h = h.1
 tops_but (suc r) (t ∷ ts) (s ∷ tops) h = (h.0, tops_but r ts tops h.1)
-
-pub without_plain : (r : ℕ) (d : Nodes) → NoEdgesIn d → NoEdgesIn (without_node r d)
-without_plain r no_nodes h = tt
-without_plain zero (more n ns) h = h.1
-without_plain (suc r) (more n ns) h = (h.0, without_plain r ns h.1)
 
 pub but_map : {X Y : Type 0} (g : X → Y) (i : ℕ) (xs : List X) → but_place i (map g xs) ≡ map g (but_place i xs)
 but_map g i [] = refl

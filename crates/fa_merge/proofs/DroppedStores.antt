@@ -1,8 +1,7 @@
 -- A store of a forest without the cell of a root that is dropped is a store of the forest without the root.
-use Rattle.std.proofs.Common.{◌≡◌, ◌≢◌, inl, inr, ℕ, zero, suc, ◌<◌, Bool, true, false, true≢false, if◌then◌else◌}
+use Rattle.std.proofs.Common.{◌≡◌, ◌≢◌, inl, inr, ℕ, suc, ◌<◌, Bool, true, false, true≢false, if◌then◌else◌}
 use Rattle.std.proofs.Common.{nat_eq, length, List, [], ◌∷◌, ◌++◌, map, refl, sym, ap, subst, ◌∙◌, Some}
 use Rattle.std.proofs.lemmas.Bool.{eqb-true, eq-eqb}
-use Rattle.std.proofs.lemmas.Option.{none-some, same_Some}
 use Rattle.fore_base.specs.Heap.{HasCell, NamesCell, AllDiffer, IsProper}
 use Rattle.fore_base.specs.Lists.{IsIn, IsDistinct, Every}
 use Rattle.fore_base.specs.Stores.{dangle, dangle_in, without}
@@ -12,29 +11,25 @@ use Rattle.fore_base.specs.declared.store.Datum.{Datum}
 use Rattle.fore_base.specs.declared.store.Store.{Store}
 use Rattle.fore_base.specs.declared.store.Value.{Value}
 use Rattle.fore_base.specs.declared.store.Value.TheVariants.{Null, Uninit, Dangling, Cell}
-use Rattle.fore_base.proofs.ListLemmas.{in_right, in_append}
+use Rattle.fore_base.proofs.ListLemmas.{in_right}
 use Rattle.fa_core.specs.declared.faces.Face.{Face}
 use Rattle.fa_core.specs.Boxes.{IsTableOf, head_of, heads}
 use Rattle.fa_core.specs.Filled.{IsFilled}
 use Rattle.fa_core.specs.declared.boxes.BoxDef.{BoxDef}
 use Rattle.fa_core.specs.declared.forest.Forest.{Forest}
-use Rattle.fa_core.specs.Boxless.{HasNoBoxes}
-use Rattle.fa_core.specs.Choices.{numbers, numbers_of, all_numbers}
-use Rattle.fa_core.specs.Dressed.{Node, Parts, Nodes, node, no_nodes, more, Fact, Head, Points, facts, tree_facts}
+use Rattle.fa_core.specs.Dressed.{Node, Parts, Nodes, node, Fact, Head, Points, facts, tree_facts}
 use Rattle.fa_core.specs.Dressed.{slot_facts, forest_facts, value_in, roots_of}
 use Rattle.fa_core.specs.Member.{StandsBy, HasItsFields, store_facts}
 use Rattle.fa_core.specs.Rearranged.{Rearranged, empty, keep, swap, chain}
-use Rattle.fa_core.proofs.PlainNodes.{NoEdgesIn, no_insides, trees_no_edges}
-use Rattle.fa_core.proofs.Permuted.{none_in_both, distinct_moved, distinct_parts}
+use Rattle.fa_core.proofs.Permuted.{distinct_moved}
 use Rattle.fa_core.proofs.Rearranging.{flat_map-append, flat_mapped}
 use Rattle.fa_merge.specs.Dropped.{without_node, dropped, AreLeaves, IsIdle, IsCut, Removes, without_cell}
 use Rattle.fa_back.specs.Reached.{node_at}
 use Rattle.fa_merge.proofs.DroppedClear.{NoHead, all_clear}
 use Rattle.fa_merge.proofs.DroppedFacts.{InsidesIn, insides_in, insides_without, leaves_dropped, facts_dropped}
-use Rattle.fa_merge.proofs.DroppedFacts.{all_cell, but_facts, but_moved, but_root, root_first, store_dropped}
-use Rattle.fa_merge.proofs.DroppedInsides.{dangle_fact, NoFact, HaveInputs, none_have_inputs, table_inputs}
-use Rattle.fa_merge.proofs.DroppedSound.{without_plain}
-use Rattle.fa_back.proofs.FactParts.{fact_cell, in_all}
+use Rattle.fa_merge.proofs.DroppedFacts.{but_facts, but_moved, but_root, root_first, store_dropped}
+use Rattle.fa_merge.proofs.DroppedInsides.{dangle_fact, NoFact, HaveInputs, table_inputs}
+use Rattle.fa_back.proofs.FactParts.{fact_cell}
 use Rattle.fa_back.proofs.StoreLaws.{differ as heads_differ}
 use Rattle.fa_merge.proofs.StoreNumbers.{differ}
 
@@ -43,20 +38,6 @@ fact_mapped g empty = empty
 fact_mapped g (keep x r) = keep (g x) (fact_mapped g r)
 fact_mapped g (swap x y xs) = swap (g x) (g y) (map g xs)
 fact_mapped g (chain p q) = chain (fact_mapped g p) (fact_mapped g q)
-
--- the cell of a root is none of the other trees
-pub root_apart : (c s : ℕ) (ds : List Datum) (ps : Parts) (r : ℕ) (d : Nodes) → node_at d r ≡ Some (node c s ds ps)
-    → IsDistinct (all_numbers d) → IsIn c (all_numbers (without_node r d)) → ⊥
-root_apart c s ds ps r no_nodes e h i = absurd (none-some (node c s ds ps) e)
-root_apart c s ds ps zero (more n ns) e h i =
-    let z : IsDistinct (numbers (node c s ds ps) ++ all_numbers ns) =
-    subst (λ (m : Node). IsDistinct (numbers m ++ all_numbers ns)) (same_Some n (node c s ds ps) e) h in
-    z.0 (in_right c (numbers_of ps) (all_numbers ns) i)
-root_apart c s ds ps (suc r) (more n ns) e h i =
-    elim (in_append c (numbers n) (all_numbers (without_node r ns)) i) [
-      | inl j ↦ none_in_both c (numbers n) (all_numbers ns) h j (in_all ns r c (node c s ds ps) e (inl refl))
-      | inr j ↦ root_apart c s ds ps r ns e (distinct_parts (numbers n) (all_numbers ns) h).1 j
-    ]
 
 module _ (c : ℕ) where
   -- Cells that are left.
@@ -145,7 +126,7 @@ module _ (hs : List Shape) (T : List BoxDef) (F G : Forest) (r : ℕ) (cut : IsC
   step = ap (map (dangle_fact c)) (but_root (roots_of d) c sh ds ps r d is leaves clear)
       ∙ sym (facts_dropped U inputs c sh ds ps r d is clear insides)
 
-  stands_without : StandsBy hs T G (dropped r d) (without_cell c s)
+  pub stands_without : StandsBy hs T G (dropped r d) (without_cell c s)
   stands_without =
       let moved : Rearranged (map (dangle_fact c) (but_facts c (facts d)))
       (map (dangle_fact c) (but_facts c (store_facts s.cells))) =
@@ -166,30 +147,6 @@ module _ (hs : List Shape) (T : List BoxDef) (F G : Forest) (r : ℕ) (cut : IsC
         vars = vars;
         data_vars = h.data_vars ∙ sym cut.data_vars;
       }
-
--- without box edges, by any list of boxes
-pub store_cut : (hs : List Shape) (T : List BoxDef) (F G : Forest) (r : ℕ) → Every HasNoBoxes F.autos → IsCut T F G r
-    → Removes hs T F G r
-store_cut hs T F G r plain cut d s h =
-    let flat = cut.top d h.of in
-    let c : ℕ = flat.0 in
-    let none : NoEdgesIn d = trees_no_edges T F.autos d plain h.of in
-    let rest : NoEdgesIn (without_node r d) = without_plain r d none in
-    let apart : (IsIn c (all_numbers (without_node r d)) → ⊥) =
-    root_apart c flat.1.0 flat.1.1 flat.1.2 r d flat.1.3 (differ hs T F d s h none) in
-    let clear : NoFact c (forest_facts (roots_of d) [] (without_node r d)) =
-    (λ x i e. apart
-    (subst (λ (m : ℕ). IsIn m (all_numbers (without_node r d))) e
-    (all_cell (roots_of d) (without_node r d) rest x i))) in (
-      c,
-      flat.1,
-      stands_without hs T F G r cut d s h [] none_have_inputs (plain_insides (without_node r d) rest) c flat.1.0
-          flat.1.1 flat.1.2 flat.1.3 flat.1.4 clear,
-    )
-  where
-    plain_insides : (e : Nodes) → NoEdgesIn e → InsidesIn [] e
-    plain_insides no_nodes b = tt
-    plain_insides (more n ns) b = (no_insides [] n b.0, plain_insides ns b.1)
 
 -- by a table of boxes over the face
 module _ (face : Face) (T : List BoxDef) (F G : Forest) (r : ℕ) (table : IsTableOf face T) (filled : IsFilled face F)

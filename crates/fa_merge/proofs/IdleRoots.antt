@@ -27,7 +27,8 @@ use Rattle.fa_merge.proofs.DroppedSound.{tree_in}
 use Rattle.fa_merge.proofs.FieldFacts.{no_list}
 use Rattle.fa_merge.proofs.PlacedForests.{component_has}
 
-abbrev gift : List BoxFace → ℕ → Tree → List ℕ
+-- the fields that box edges of the tree give to root k
+abbrev pub gift : List BoxFace → ℕ → Tree → List ℕ
 gift bs k t = flat_map (λ w. given bs w.steps) (to_root k (ways t))
 
 -- numbers in order are none exactly where the numbers are none

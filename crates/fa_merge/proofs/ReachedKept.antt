@@ -1,7 +1,7 @@
 -- Where each root of a forest is reached, so is each root of a forest that is regrouped into it, for every box table:
 -- hops
 -- between cells look at no trees and at no insides.
-use Rattle.std.proofs.Common.{◌≡◌, inl, inr, ℕ, suc, true, true≢false, List, map}
+use Rattle.std.proofs.Common.{◌≡◌, ◌⊎◌, inl, inr, ℕ, suc, true, true≢false, List, map}
 use Rattle.std.proofs.Common.{refl}
 use Rattle.std.proofs.Common.{sym, ap, subst, ◌∙◌, Some}
 use Rattle.fore_base.specs.Lists.{IsIn, Every}
@@ -15,6 +15,7 @@ use Rattle.fa_core.specs.declared.faces.BoxFace.{BoxFace}
 use Rattle.fa_core.specs.declared.faces.Face.{Face}
 use Rattle.fa_core.specs.declared.forest.Forest.{Forest}
 use Rattle.fa_core.specs.Boxes.{OutFits, head_of}
+use Rattle.fa_core.specs.Boxless.{HasNoBoxes}
 use Rattle.fa_core.specs.Choices.{bares, numbers, all_numbers}
 use Rattle.fa_core.specs.Dressed.{Node, Parts, End, Nodes, node, no_parts, field, link, hook, under, leaf, no_nodes}
 use Rattle.fa_core.specs.Dressed.{more}
@@ -25,6 +26,7 @@ use Rattle.fa_core.specs.Member.{OfForest, Regroups}
 use Rattle.fa_core.specs.Ways.{back_of, leads_through}
 use Rattle.fa_core.proofs.Dressing.{choice_of, numbered_differ}
 use Rattle.fa_core.proofs.Permuted.{in_rearranged}
+use Rattle.fa_core.proofs.PlainNodes.{trees_no_edges}
 use Rattle.fa_core.proofs.Rearranging.{back, flat_mapped}
 use Rattle.fa_back.specs.Reached.{RootReached, node_at}
 use Rattle.fa_back.specs.inner.Hops.{Edge, Hops, tree_edges, part_edges, end_edges, forest_own, forest_edges}
@@ -35,6 +37,7 @@ use Rattle.fa_back.proofs.FactParts.{node_root, top_in, in_all}
 use Rattle.fa_back.proofs.HopsMet.{hops_met}
 use Rattle.fa_back.proofs.LinksFit.{trees_ends, tops_long, fit_roots}
 use Rattle.fa_back.proofs.MetHops.{HopsIn, met_hops, own_at, edges_at}
+use Rattle.fa_back.proofs.StoreLaws.{no_edges}
 use Rattle.fa_back.proofs.WaysUp.{hop_tree}
 use Rattle.fa_merge.specs.Reached.{AreAllReached, IsLeastUnreached}
 use Rattle.fa_leaves.proofs.Hollow.{hollow_table, filled_dressed}
@@ -42,7 +45,8 @@ use Rattle.fa_merge.proofs.LeaksDecided.{roots_decided}
 use Rattle.fa_merge.proofs.RootTrees.{tree_there, tree_below}
 use Rattle.fa_merge.proofs.SeenHops.{same_own, hops_moved}
 
--- An edge that leads back ends at a cell, where each face that leads back gives its output something.
+-- An edge that leads back ends at a cell, where each face that leads back gives its output something. So it does where
+-- there is no edge.
 
 abbrev EndsAtCell : Edge → Type 0
 EndsAtCell y = y.back ≡ true → (m : ℕ) × (y.output ≡ Cell m)
@@ -94,8 +98,8 @@ some_tree (more y ns) n i = elim (in_append n (numbers y) (all_numbers ns) i) [
 
 -- Where each root is reached, hops lead to each cell.
 
-module _ (face : Face) (giving : Every IsGiving face.boxes) (T : List BoxDef) (F : Forest) (filled : IsFilled face F)
-    (all : AreAllReached face F) (e : Nodes) (of : OfForest T F e) where
+module _ (face : Face) (T : List BoxDef) (F : Forest) (gives : Every IsGiving face.boxes ⊎ Every HasNoBoxes F.autos)
+    (filled : IsFilled face F) (all : AreAllReached face F) (e : Nodes) (of : OfForest T F e) where
   choice : Choice F.autos (bares e)
   choice = choice_of T F.autos e of
 
@@ -104,7 +108,13 @@ module _ (face : Face) (giving : Every IsGiving face.boxes) (T : List BoxDef) (F
       fit_roots face c.tops e (tops_long e c.tops c.are) (trees_ends face c.tops (bares e) 0 e c.cells)
 
   ends : (y : Edge) → IsIn y (forest_edges face.boxes (roots_of e) e) → y.back ≡ true → (m : ℕ) × (y.output ≡ Cell m)
-  ends y i = forest_ends face.boxes giving (roots_of e) e fit y i
+  ends y i = elim gives [
+    | inl giving ↦ forest_ends face.boxes giving (roots_of e) e fit y i
+    | inr plain ↦
+        absurd
+        (subst (λ (ys : List Edge). IsIn y ys)
+        (no_edges face.boxes (roots_of e) e (trees_no_edges T F.autos e plain of)) i)
+  ]
 
   pub cell_hop : (n : ℕ) → IsIn n (all_numbers e) → HopsIn face.boxes F.vars e n
   cell_hop n i =
@@ -116,8 +126,8 @@ module _ (face : Face) (giving : Every IsGiving face.boxes) (T : List BoxDef) (F
       (forest_edges face.boxes (roots_of e) e) (roots_of e) t.1 (own_at (roots_of e) e t.0 t.1 t.2)
       (edges_at face.boxes (roots_of e) e t.0 t.1 t.2) top).0 t.3
 
-module _ (face : Face) (giving : Every IsGiving face.boxes) (F G : Forest) (filled : IsFilled face F)
-    (filled_new : IsFilled face G) (ranked : Every IsRanked G.autos)
+module _ (face : Face) (F G : Forest) (gives : Every IsGiving face.boxes ⊎ Every HasNoBoxes F.autos)
+    (filled : IsFilled face F) (filled_new : IsFilled face G) (ranked : Every IsRanked G.autos)
     (regroups : (T : List BoxDef) → Regroups T F G) where
   -- the law
   pub reached_kept : AreAllReached face F → AreAllReached face G
@@ -134,7 +144,7 @@ module _ (face : Face) (giving : Every IsGiving face.boxes) (F G : Forest) (fill
       (subst (λ (z : List ℕ). IsIn (number x.0) z) (sym (forest_numbers face.boxes vs d.nodes))
       (in_all d.nodes r (number x.0) x.0 x.1 (top_in x.0)))) in
       let hop = hops_moved face.boxes ws vs e.0 d.nodes (back e.1.same_cells) (map (value_in ws) F.vars) (number x.0)
-      (cell_hop face giving T F filled all e.0 e.1.of (number x.0) there) in
+      (cell_hop face T F gives filled all e.0 e.1.of (number x.0) there) in
       subst (λ (ts : List Tree). RootReached face.boxes G.vars ts r) d.trees
       (hops_met face.boxes G.vars d.nodes (numbered_differ 0 (all_numbers d.nodes) d.cells) r (number x.0)
       (node_root d.nodes r x.0 x.1)
@@ -143,14 +153,14 @@ module _ (face : Face) (giving : Every IsGiving face.boxes) (F G : Forest) (fill
 
 -- where the forests regroup each other and a root of the one is not reached, there is a least one of the other that is
 -- not
-pub unreached_kept : (face : Face) (F G : Forest) → Every IsGiving face.boxes → IsSound face F → IsSound face G
-    → Every IsRanked F.autos → ((T : List BoxDef) → Regroups T G F) → (r : ℕ) → IsLeastUnreached face F r → (k : ℕ)
+pub unreached_kept : (face : Face) (F G : Forest) → Every IsGiving face.boxes ⊎ Every HasNoBoxes G.autos
+    → IsSound face F → IsSound face G → Every IsRanked F.autos → ((T : List BoxDef) → Regroups T G F) → (r : ℕ) → IsLeastUnreached face F r → (k : ℕ)
     × IsLeastUnreached face G k
-unreached_kept face F G giving sound sound_new ranked regroups r h = elim (roots_decided face G sound_new) [
+unreached_kept face F G gives sound sound_new ranked regroups r h = elim (roots_decided face G sound_new) [
   | inl all ↦ absurd
       (let c = some_choice F.autos sound.full in
       h.unreached c.0 c.1
-      (reached_kept face giving G F sound_new.well_formed.filled sound.well_formed.filled ranked regroups all r h.root
+      (reached_kept face G F gives sound_new.well_formed.filled sound.well_formed.filled ranked regroups all r h.root
       c.0 c.1))
   | inr k ↦ k
 ]

@@ -1,9 +1,8 @@
 -- Without box edges the cells of a store are those of its dressed forest's own trees.
-use Rattle.std.proofs.Common.{◌≡◌, inl, inr, ℕ, List, [], ◌∷◌, ◌++◌, map, ap, subst, ◌∙◌, append-nil}
-use Rattle.fore_base.specs.Lists.{IsIn, IsDistinct}
+use Rattle.std.proofs.Common.{◌≡◌, ℕ, List, [], ◌++◌, map, ap, subst, ◌∙◌, append-nil}
+use Rattle.fore_base.specs.Lists.{IsDistinct}
 use Rattle.fore_base.specs.declared.shape.Shape.{Shape}
 use Rattle.fore_base.specs.declared.store.Store.{Store}
-use Rattle.fore_base.proofs.ListLemmas.{in_right}
 use Rattle.fa_core.specs.declared.boxes.BoxDef.{BoxDef}
 use Rattle.fa_core.specs.declared.forest.Forest.{Forest}
 use Rattle.fa_core.specs.Boxes.{head_of, heads}
@@ -17,12 +16,6 @@ use Rattle.fa_core.proofs.Rearranging.{back, flat_mapped}
 use Rattle.fa_back.specs.inner.Hops.{Edge, forest_own, forest_edges}
 use Rattle.fa_back.proofs.Apart.{forest_apart, forest_numbers, inner}
 use Rattle.fa_back.proofs.StoreLaws.{cell_number, no_edges, same_numbers as heads_numbered, differ as heads_differ}
-
--- each number stands in one of two lists
-pub differ_none : (n : ℕ) (xs ys : List ℕ) → IsDistinct (xs ++ ys) → IsIn n xs → IsIn n ys → ⊥
-differ_none n [] ys a i j = i
-differ_none n (x ∷ xs) ys a (inl e) j = a.0 (in_right x xs ys (rw e at j))
-differ_none n (x ∷ xs) ys a (inr i) j = differ_none n xs ys a.1 i j
 
 plain_heads : (d : Nodes) → NoEdgesIn d → Rearranged (heads (facts d)) (all_numbers d)
 plain_heads d plain =

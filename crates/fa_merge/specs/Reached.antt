@@ -9,6 +9,7 @@ use Rattle.fa_core.specs.declared.forest.Forest.{Forest}
 use Rattle.fa_core.specs.Boxes.{IsTableOf}
 use Rattle.fa_core.specs.Filled.{Choice}
 use Rattle.fa_core.specs.Member.{Stands}
+use Rattle.fa_back.specs.Insides.{AreRankedInsides}
 use Rattle.fa_back.specs.Reached.{RootReached}
 
 -- the root is reached, whichever tree of each component is taken
@@ -29,14 +30,24 @@ pub record IsLeastUnreached (face : Face) (F : Forest) (r : ℕ) : Type 0 where
   pub unreached : IsUnreached face F r
   pub least : (k : ℕ) → k < r → IsReached face F k
 
+-- every member of the forest by these boxes leaks
+abbrev pub DoAllLeak : Face → List BoxDef → Forest → Type 0
+DoAllLeak face T F = (s : Store) → Stands face.shapes.structs T F s → Leaked s
+
+-- no member of the forest by these boxes leaks
+abbrev pub DoesNoneLeak : Face → List BoxDef → Forest → Type 0
+DoesNoneLeak face T F = (s : Store) → Stands face.shapes.structs T F s → Leaked s → ⊥
+
 -- every member of the forest leaks, for each table over the face
 abbrev pub AlwaysLeaks : Face → Forest → Type 0
-AlwaysLeaks face F = (T : List BoxDef) → IsTableOf face T → (s : Store) → Stands face.shapes.structs T F s → Leaked s
+AlwaysLeaks face F = (T : List BoxDef) → IsTableOf face T → DoAllLeak face T F
 
 -- no member of the forest leaks, for each table over the face
 abbrev pub NeverLeaks : Face → Forest → Type 0
-NeverLeaks face F = (T : List BoxDef) → IsTableOf face T → (s : Store) → Stands face.shapes.structs T F s → Leaked s → ⊥
+NeverLeaks face F = (T : List BoxDef) → IsTableOf face T → DoesNoneLeak face T F
 
--- the forest stands for some store, for each table over the face
+-- the forest stands for some store, for each table over the face whose insides have rules with as many children as
+-- their symbols
 abbrev pub HasMembers : Face → Forest → Type 0
-HasMembers face F = (T : List BoxDef) → IsTableOf face T → (s : Store) × Stands face.shapes.structs T F s
+HasMembers face F = (T : List BoxDef) → IsTableOf face T → AreRankedInsides T
+    → (s : Store) × Stands face.shapes.structs T F s

@@ -17,11 +17,12 @@ ghost use Rattle.fa_core.specs.declared.faces.Face.{Face};
 ghost use Rattle.fa_core.specs.declared.forest.Forest.{Forest};
 ghost use Rattle.fa_core.specs.declared.forest.Target.{Target};
 ghost use Rattle.fa_core.specs.Dressed.{Node};
+ghost use Rattle.fa_back.specs.Insides.{AreRankedInsides};
 ghost use Rattle.fa_back.specs.Reached.{RootReached};
 ghost use Rattle.fa_merge.specs.Dropped.{CanDrop, IsCut, IsFlat, IsIdle, Removes, Restores, dropped_forest};
 ghost use Rattle.fa_merge.specs.Merged.{CanMerge, Refers, merged_at};
-ghost use Rattle.fa_merge.specs.Reached.{AlwaysLeaks, AreAllReached, HasMembers, IsLeastUnreached, IsUnreached};
-ghost use Rattle.fa_merge.specs.Reached.{NeverLeaks};
+ghost use Rattle.fa_merge.specs.Reached.{AlwaysLeaks, AreAllReached, DoAllLeak, DoesNoneLeak, HasMembers};
+ghost use Rattle.fa_merge.specs.Reached.{IsLeastUnreached, IsUnreached, NeverLeaks};
 ghost use Rattle.fa_merge.specs.Reordered.{IsOrderOf, reordered};
 
 /// Which roots are reached follows from the targets and the signatures alone.
@@ -38,14 +39,15 @@ pub fn reaching_is_decided()
 {}
 
 /// Where each root of a forest is reached, so is each root of a forest that is regrouped into it for every box table,
-/// if each face that leads back gives its output something. So where two sound forests regroup each other and a root
-/// of the one is not reached, a least root of the other is not.
+/// if each face that leads back gives its output something, or the forest has no box edge. So where two sound forests
+/// regroup each other and a root of the one is not reached, a least root of the other is not.
 pub fn regrouping_keeps_reached()
-    ensures kept { (face : Face) (F G : Forest) → Every IsGiving face.boxes → IsFilled face F → IsFilled face G
-        → Every IsRanked G.autos → ((T : List BoxDef) → Regroups T F G) → AreAllReached face F → AreAllReached face G }
-    ensures unreached { (face : Face) (F G : Forest) (r : ℕ) → Every IsGiving face.boxes → IsSound face F
-        → IsSound face G → Every IsRanked F.autos → ((T : List BoxDef) → Regroups T G F) → IsLeastUnreached face F r
-        → (k : ℕ) × IsLeastUnreached face G k }
+    ensures kept { (face : Face) (F G : Forest) → Every IsGiving face.boxes ⊎ Every HasNoBoxes F.autos
+        → IsFilled face F → IsFilled face G → Every IsRanked G.autos → ((T : List BoxDef) → Regroups T F G)
+        → AreAllReached face F → AreAllReached face G }
+    ensures unreached { (face : Face) (F G : Forest) (r : ℕ) → Every IsGiving face.boxes ⊎ Every HasNoBoxes G.autos
+        → IsSound face F → IsSound face G → Every IsRanked F.autos → ((T : List BoxDef) → Regroups T G F)
+        → IsLeastUnreached face F r → (k : ℕ) × IsLeastUnreached face G k }
 {}
 
 /// No member of a filled forest leaks where each root is reached, and every member leaks where some root is not.
@@ -64,13 +66,12 @@ pub fn all_leak_or_none()
     ensures { (face : Face) (F : Forest) → IsSound face F → NeverLeaks face F ⊎ AlwaysLeaks face F }
 {}
 
-/// Each sound forest without box edges has a member, for each table over its face, so where there is a table its
-/// members do not all leak where none does.
+/// Each sound forest has a member, by each table over its face whose insides have rules with as many children as their
+/// symbols. So not all of its members by such a table leak where none does.
 pub fn sound_forests_have_members()
-    ensures members { (face : Face) (F : Forest) → IsSound face F → Every IsRanked F.autos → Every HasNoBoxes F.autos
-        → HasMembers face F }
-    ensures one { (face : Face) (T : List BoxDef) (F : Forest) → IsTableOf face T → IsSound face F
-        → Every IsRanked F.autos → Every HasNoBoxes F.autos → AlwaysLeaks face F → NeverLeaks face F → ⊥ }
+    ensures members { (face : Face) (F : Forest) → IsSound face F → Every IsRanked F.autos → HasMembers face F }
+    ensures one { (face : Face) (T : List BoxDef) (F : Forest) → IsTableOf face T → AreRankedInsides T → IsSound face F
+        → Every IsRanked F.autos → DoAllLeak face T F → DoesNoneLeak face T F → ⊥ }
 {}
 
 /// The law of other orders: a forest and the one whose roots stand in another order regroup each other, for every box

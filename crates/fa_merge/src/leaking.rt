@@ -2,13 +2,14 @@
 
 ghost use Rattle.std.specs.Prelude.{◌≡◌, ◌<◌, ◌++◌, ◌∷◌, [], ◌^◌, ℕ, List, length, IfOk, OnOk, IsNone, IsSome};
 ghost use Rattle.std.specs.Prelude.{MatchOption};
-ghost use Rattle.fore_base.specs.Lists.{Every, Paired};
+ghost use Rattle.fore_base.specs.Lists.{Paired};
 ghost use Rattle.fore_base.specs.Marks.{IsMarked};
 ghost use Rattle.fa_core.specs.Boxes.{IsTableOf};
-ghost use Rattle.fa_core.specs.Boxless.{HasNoBoxes};
 ghost use Rattle.fa_core.specs.Canonical.{var_roots};
 ghost use Rattle.fa_core.specs.declared.boxes.BoxDef.{BoxDef};
-ghost use Rattle.fa_merge.specs.Reached.{AlwaysLeaks, AreAllReached, IsLeastUnreached, NeverLeaks};
+ghost use Rattle.fa_back.specs.Insides.{AreRankedInsides};
+ghost use Rattle.fa_merge.specs.Reached.{AlwaysLeaks, AreAllReached, DoAllLeak, DoesNoneLeak};
+ghost use Rattle.fa_merge.specs.Reached.{IsLeastUnreached, NeverLeaks};
 ghost use Rattle.fa_merge.specs.inner.Signed.{AreReachMarks, IsFirstUnmarked, IsSignatureOf};
 
 use crate::signing::component_signatures;
@@ -21,8 +22,9 @@ use fore_base::memory::Mem;
 use std::alloc::Global;
 
 /// The least root that is reached neither forward nor by a way back, if there is one. It is Some exactly where every
-/// member leaks, and None exactly where no member does, for each table over the face; that the two exclude each other,
-/// so far for forests without box edges. Err is want of memory.
+/// member leaks, and None exactly where no member does, by each table over the face; exact is said of those whose
+/// insides have rules with as many children as their symbols, as each table that is built has
+/// (`fa_back::ranked_insides`). Err is want of memory.
 pub fn leaking_root(alloc: Global, forest: &Sound) -> Mem<Option<u32>>
     ensures root { IfOk result
         (λ found. MatchOption found (AreAllReached forest.now.face forest.now.forest)
@@ -30,10 +32,9 @@ pub fn leaking_root(alloc: Global, forest: &Sound) -> Mem<Option<u32>>
     ensures leaks { IfOk result
         (λ found. MatchOption found (NeverLeaks forest.now.face forest.now.forest)
         (λ _. AlwaysLeaks forest.now.face forest.now.forest)) }
-    ensures exact { Every HasNoBoxes forest.now.forest.autos
-        → IfOk result (λ found. (T : List BoxDef) → IsTableOf forest.now.face T
-        → (AlwaysLeaks forest.now.face forest.now.forest → IsSome found)
-        × (NeverLeaks forest.now.face forest.now.forest → IsNone found)) }
+    ensures exact { IfOk result (λ found. (T : List BoxDef) → IsTableOf forest.now.face T → AreRankedInsides T
+        → (DoAllLeak forest.now.face T forest.now.forest → IsSome found)
+        × (DoesNoneLeak forest.now.face T forest.now.forest → IsNone found)) }
 {
     forest.known();
     let marks = reached_roots(alloc, forest)?;

@@ -7,7 +7,9 @@ use Rattle.fore_base.specs.declared.shape.Shape.{Shape}
 use Rattle.fore_base.specs.declared.store.CellRec.{CellRec}
 use Rattle.fore_base.specs.declared.store.Store.{Store}
 use Rattle.c_types.specs.Program.{Program}
-use Rattle.fa_core.specs.Boxes.{Boxes}
+use Rattle.fa_core.specs.Boxes.{Boxes, IsBoxTable}
+use Rattle.fa_core.specs.Filled.{IsSound}
+use Rattle.fa_core.specs.Member.{Stands}
 use Rattle.fa_sound.specs.Soundness.{SoundForest}
 
 -- as many pointer and as many data variables as the program has, and k more of each kind
@@ -34,3 +36,8 @@ pub record IsStoreOf (p : Program) (s : Store) : Type 0 where
   pub vars : HasVariables p 0 (length s.vars) (length s.data_vars)
       ⊎ HasVariables p 2 (length s.vars) (length s.data_vars)
   pub cells : Every (HasStruct p.shapes.structs) s.cells
+
+-- a member of a sound forest that is printed with a program can be printed with it
+abbrev pub IsPrintedStore : Boxes → Program → SoundForest → Store → Type 0
+IsPrintedStore t p F s = IsBoxTable t → IsForestOf t p F → IsSound F.face F.forest
+    → Stands t.face.shapes.structs t.defs F.forest s → IsStoreOf p s

@@ -17,4 +17,5 @@ mod variables;
 
 pub use boxes::print_box;
 pub use forests::print_forest;
+pub use names::box_name;
 pub use stores::print_store;

@@ -47,7 +47,7 @@ fn turned(alloc: Global, text: &str) -> Result<Sound>
     over_structs(alloc, &forest)
 }
 
-fn turned_forest(alloc: Global, text: &str) -> Result<Forest> {
+pub fn turned_forest(alloc: Global, text: &str) -> Result<Forest> {
     let forest = forest_of(alloc, text)?;
     varied(alloc, &forest)
 }

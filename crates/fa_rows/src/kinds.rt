@@ -1,12 +1,12 @@
 // The kinds of rows. A head is a kind and numbers; the first text is the forest, and the others are the wanted ones.
 
-use crate::boxed;
 use crate::canonizing::{canonical_letters, turned_letters};
 use crate::deciding::decided;
 use crate::lifting::lifted_letters;
 use crate::placing::{placed, reduced};
 use crate::roots::{dropped, exchanged, leaking, merged};
 use crate::splitting::{chosen_letters, split_letters};
+use crate::{boxed, editing};
 use anyhow::{Context, Result, bail};
 use row_kit::Answers;
 use std::alloc::Global;
@@ -27,6 +27,7 @@ impl Answers for ForestRows {
             "canonical" => canonical_letters(rt, alloc, text, wanted),
             "turned" => turned_letters(rt, alloc, text, wanted),
             "boxed-canonical" => boxed::canonical_letters(rt, alloc, text, wanted),
+            "boxed-turned" => boxed::turned_letters(rt, alloc, text, wanted),
             "reduced" => reduced(rt, alloc, text),
             _ => answer_alone(alloc, head, text, wanted),
         }
@@ -57,14 +58,32 @@ fn answer_at(alloc: Global, head: &str, text: &str, wanted: &[&str]) -> Result<S
         "boxed-merged" => boxed::merged(alloc, text, root, wanted),
         "boxed-dropped" => boxed::dropped(alloc, text, root),
         "chosen" => chosen_letters(alloc, text, root, wanted),
-        "lifted" => lifted_letters(alloc, text, root, number_at(head, 2)?, wanted),
-        "split" => split_letters(alloc, text, root, number_at(head, 2)?, wanted),
+        _ => answer_in(alloc, head, text, wanted),
+    }
+}
+
+// The kinds that have a second number.
+fn answer_in(alloc: Global, head: &str, text: &str, wanted: &[&str]) -> Result<String> {
+    let kind = head.split(' ').next().context("no kind")?;
+    let root = number_at(head, 1)?;
+    let field = number_at(head, 2)?;
+    match kind {
+        "lifted" => lifted_letters(alloc, text, root, field, wanted),
+        "split" => split_letters(alloc, text, root, field, wanted),
+        "boxed-leaf" => editing::leaf_text(alloc, text, root, field),
+        "boxed-added" => editing::added_letter(alloc, text, root, field, wanted),
+        "boxed-dated" => editing::dated_letter(alloc, text, root, field, word_at(head, 3)?, wanted),
+        "boxed-set" => editing::set_letter(alloc, text, root, field, word_at(head, 3)?, wanted),
         _ => bail!("no such kind"),
     }
 }
 
 // The number that is this word of the head.
 fn number_at(head: &str, place: usize) -> Result<u32> {
-    let word = head.split(' ').nth(place).context("no number")?;
+    let word = word_at(head, place)?;
     Ok(word.parse::<u32>()?)
+}
+
+fn word_at(head: &str, place: usize) -> Result<&str> {
+    head.split(' ').nth(place).context("no word")
 }

@@ -2,8 +2,8 @@
 
 use crate::roots::refused;
 use anyhow::Result;
+use fa_lift::{can_lift, lift_parent};
 use fa_sound::Sound;
-use fa_unfold::{can_lift, lift_parent};
 use row_forests::{boxed, letters};
 use std::alloc::Global;
 

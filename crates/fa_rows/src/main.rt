@@ -1,9 +1,10 @@
-//! Rows of forests: merged, split, put in order, cut by signature, and made canonical.
+//! Rows of forests: merged, split, put in order, edited, and made canonical.
 #![tactic(auto)]
 
 mod boxed;
 mod canonizing;
 mod deciding;
+mod editing;
 mod kinds;
 mod lifting;
 mod placing;

@@ -102,7 +102,7 @@ fn merged_letter(alloc: Global, forest: &Sound, root: u32, wanted: &[&str]) -> R
     letter_of(alloc, &made, wanted)
 }
 
-fn letter_of(alloc: Global, forest: &Sound, wanted: &[&str]) -> Result<String> {
+pub fn letter_of(alloc: Global, forest: &Sound, wanted: &[&str]) -> Result<String> {
     let letter = letter(alloc, forest.forest(), wanted)?;
     let mut text = String::new(alloc);
     text.push(letter)?;

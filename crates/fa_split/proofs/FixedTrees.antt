@@ -84,7 +84,7 @@ module _ (a : Automaton) (p : ℕ) (y : Target) (ranked : IsRanked a) (one : Has
       none : {ts : List Tree} → RunEach (fixed a p y).rules [] ts → ts ≡ []
       none run_none = refl
 
-  leaf_to : RunOf (fixed a p y).rules (a.states + 1) (bare_end (leaf y))
+  pub leaf_to : RunOf (fixed a p y).rules (a.states + 1) (bare_end (leaf y))
   leaf_to = run new_leaf (in_right new_leaf a.rules both (inr (inl refl))) refl (sym (leaf_top y))
       (rw (leaf_children y) run_none)
     where

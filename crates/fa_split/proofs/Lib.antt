@@ -3,6 +3,7 @@ pub mod ChildStates
 pub mod ChosenForests
 pub mod ChosenTrees
 pub mod EdgeMarks
+pub mod FixedChildren
 pub mod FixedSigned
 pub mod FixedTrees
 pub mod FreshStates

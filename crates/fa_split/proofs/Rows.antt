@@ -1,23 +1,29 @@
 -- Worked values: a rule chosen, leaves and cells split off, and children taken out of dressed trees.
-use Rattle.std.proofs.Common.{◌≡◌, inl, inr, ℕ, zero, suc, ◌<◌, List, [], ◌∷◌, refl, ap, ◌∙◌, slice_get, Some, None}
-use Rattle.std.proofs.Common.{arith}
+use Rattle.std.proofs.Common.{◌≡◌, inl, inr, ℕ, zero, suc, ◌<◌, List, [], ◌∷◌, refl, sym, ap, subst, ◌∙◌, slice_get}
+use Rattle.std.proofs.Common.{Some, None, arith}
 use Rattle.std.proofs.lemmas.Option.{none-some, same_Some}
 use Rattle.fore_base.specs.Lists.{IsIn}
 use Rattle.ta_core.specs.Auto.{Automaton, automaton}
+use Rattle.ta_core.specs.Language.{RunOf, run, run_none}
 use Rattle.ta_core.specs.Single.{HasOneTop}
 use Rattle.ta_core.specs.declared.auto.Rule.{Rule}
 use Rattle.ta_core.specs.declared.symbol.Slot.TheVariants.{Field}
 use Rattle.ta_core.specs.declared.symbol.Symbol.{Symbol}
 use Rattle.ta_core.specs.declared.symbol.Symbol.TheVariants.{Null, Uninit, Ref, Cell}
+use Rattle.ta_core.specs.declared.tree.Tree.{out-roll-Tree}
 use Rattle.fa_core.specs.declared.forest.Forest.{Forest}
 use Rattle.fa_core.specs.declared.forest.Target.TheVariants.{Null as NullTarget, Uninit as UninitTarget, At}
-use Rattle.fa_core.specs.Dressed.{Node, Parts, Nodes, node, no_parts, field, link, hook, under, leaf, no_nodes, more}
+use Rattle.fa_core.specs.declared.forest.Target.TheVariants.{Dangling as DanglingTarget}
+use Rattle.fa_core.specs.Dressed.{Node, Parts, End, Nodes, node, no_parts, field, link, hook, under, leaf, no_nodes, more}
+use Rattle.fa_core.specs.Member.{bare_end}
+use Rattle.fa_core.proofs.Dressing.{leaf_top}
 use Rattle.fa_split.specs.Chosen.{Picked, none, take, leave, chosen, chosen_at}
 use Rattle.fa_sound.specs.Components.{with_component}
 use Rattle.fa_split.specs.Divided.{HasVarsOf}
 use Rattle.fa_split.specs.Split.{first_of, top_rule, child_state, fixed, cell_rules, lifted, split_leaf, split_cells}
 use Rattle.fa_split.specs.Split.{CanSplit, AreThose, IsWhere, end_at, set_end, set_node, with_last, with_end, HasChild}
-use Rattle.fa_split.specs.Split.{IsTakenOut}
+use Rattle.fa_split.specs.Split.{IsFixedAt, IsTakenOut}
+use Rattle.fa_split.proofs.Places.{end_is_leaf}
 
 abbrev rule : ℕ → Symbol → List ℕ → Rule
 rule q y qs = record { state = q; symbol = y; children = qs }
@@ -226,3 +232,27 @@ small_is_taken_out = record { above = node 5 0 [] slots; child = small; is_above
 
 same_vars : HasVarsOf two (split_cells two 1 0)
 same_vars = (refl, refl)
+
+-- A child that may be two leaves is neither of them alone.
+
+abbrev first_state : List ℕ → ℕ
+first_state [] = 0
+first_state (q ∷ qs) = q
+
+abbrev IsUninitEnd : End → Type 0
+IsUninitEnd (under n) = ⊥
+IsUninitEnd (leaf NullTarget) = ⊥
+IsUninitEnd (leaf UninitTarget) = Unit {0}
+IsUninitEnd (leaf DanglingTarget) = ⊥
+IsUninitEnd (leaf (At k)) = ⊥
+
+uninit_run : RunOf below.rules 1 (bare_end (leaf UninitTarget))
+uninit_run = run (rule 1 Uninit []) (inr (inl refl)) refl (sym (leaf_top UninitTarget))
+    (rw (out-roll-Tree (record { symbol = Uninit; children = [] })) run_none)
+
+not_alone : IsFixedAt two 1 0 NullTarget two → ⊥
+not_alone h =
+    let s : 1 ≡ h.state = ap first_state h.children in
+    let e = h.only (bare_end (leaf UninitTarget))
+    (subst (λ (q : ℕ). RunOf below.rules q (bare_end (leaf UninitTarget))) s uninit_run) in
+    subst IsUninitEnd (end_is_leaf (leaf UninitTarget) NullTarget e) tt

@@ -40,7 +40,7 @@ module _ (bs : List BoxFace) (rules : List Rule)
   seen ts = map (below_of bs) ts
 
   -- where the trees that run to these states make the same marks behind these edges, whichever they are
-  abbrev MakeSame : List (Slot × Below) → List Slot → List ℕ → Type 0
+  abbrev pub MakeSame : List (Slot × Below) → List Slot → List ℕ → Type 0
   MakeSame pre ss qs = (vs ws : List Tree) → RunEach rules qs vs → RunEach rules qs ws
       → cell_marks bs (pre ++ edges ss (seen vs)) ≡ cell_marks bs (pre ++ edges ss (seen ws))
 
@@ -58,7 +58,7 @@ module _ (bs : List BoxFace) (rules : List Rule)
       ∙ ap (λ (es : List (Slot × Below)). cell_marks bs es)
       (sym (append_assoc pre (edge s t ∷ []) (edges ss (seen ws))))
 
-  runs_same : (pre : List (Slot × Below)) (ss : List Slot) {qs : List ℕ} {ts us : List Tree} → Every (SlotGives bs) ss
+  pub runs_same : (pre : List (Slot × Below)) (ss : List Slot) {qs : List ℕ} {ts us : List Tree} → Every (SlotGives bs) ss
       → MakeSame pre ss qs → RunEach rules qs ts → RunEach rules qs us
       → EdgesSame bs (edges ss (seen ts)) (edges ss (seen us))
   runs_same pre [] g h a b = no_edges

@@ -1,5 +1,5 @@
 -- The list of the forests into which a forest is split: what each has, and that none is lost.
-use Rattle.std.proofs.Common.{◌≡◌, inl, inr, ℕ, length, List, map, refl, sym, subst, ◌∙◌, slice_set, Some}
+use Rattle.std.proofs.Common.{◌≡◌, ◌⊎◌, inl, inr, ℕ, length, List, map, refl, sym, subst, ◌∙◌, slice_set, Some}
 use Rattle.fore_base.specs.Lists.{IsIn, Every}
 use Rattle.fore_base.proofs.ListLemmas.{every_in, in_every, every_map, every_append, in_left, in_right, in_map}
 use Rattle.ta_core.specs.Auto.{Automaton, IsRanked}
@@ -14,7 +14,7 @@ use Rattle.fa_core.specs.Boxless.{HasNoBoxes}
 use Rattle.fa_core.specs.Choices.{count}
 use Rattle.fa_core.specs.Dressed.{Node, End, Nodes, under, leaf, cells}
 use Rattle.fa_core.specs.Filled.{IsSound}
-use Rattle.fa_core.specs.Member.{Regroups, RegroupsInto, Regrouping, bare}
+use Rattle.fa_core.specs.Member.{OfForest, Regroups, RegroupsInto, bare}
 use Rattle.fa_core.proofs.Rearranging.{same}
 use Rattle.fa_back.specs.Reached.{node_at}
 use Rattle.fa_sound.specs.Components.{component_at}
@@ -94,31 +94,39 @@ module _ (F : Forest) (r p : ℕ) (ranked : Every IsRanked F.autos) (can : CanSp
   all_regroup well T = each_split (Regroups T F) (λ y m. leaf_regroups F r p ranked can y m T)
       (λ m. cells_regroup F r p ranked can T well)
 
-  pub all_whole : RefersWell F → (T : List BoxDef) (Gs : List Forest) → AreSplit F r p Gs → RegroupsInto T F Gs
-  all_whole well T Gs k d h =
+  -- each dressed forest is one of a forest of the list where its child is a leaf, and with the child taken out where that
+  -- is a cell
+  pub all_cases : (T : List BoxDef) (Gs : List Forest) → AreSplit F r p Gs → (d : Nodes) → OfForest T F d
+      → ((y : Target) × MayBeLeaf F r p y × IsIn (split_leaf F r p y) Gs × OfForest T (split_leaf F r p y) d)
+      ⊎ (IsIn (split_cells F r p) Gs × ((e : Nodes) × IsTakenOut r p d e))
+  all_cases T Gs k d h =
       let n = tree_at T F.autos r d can.root h in
       let u = has_child a p (At 0) a_ranked can.top can.place (bare n.0) n.2 in
       let c = top_of_child p n.0 u.0 u.1 in
       here n.0 n.1 n.2 c.0 c.1
     where
       here : (n : Node) → node_at d r ≡ Some n → InLanguage a (bare n) → (e : End) → end_at p (top_parts n) ≡ Some e
-          → (G : Forest) × IsIn G Gs × ((e : Nodes) × Regrouping T G F d e)
+          → ((y : Target) × MayBeLeaf F r p y × IsIn (split_leaf F r p y) Gs × OfForest T (split_leaf F r p y) d)
+          ⊎ (IsIn (split_cells F r p) Gs × ((e : Nodes) × IsTakenOut r p d e))
       here n at l (leaf y) is =
-          let may : MayBeLeaf F r p y = (bare n, l, child_of_top p n (leaf y) is) in (
-            split_leaf F r p y,
-            leaf_in Gs k y may,
-            (
-              d,
-              record {
-                of = (leaf_dressed F r p ranked can y may T d).1 (h, (n, at, is));
-                same_cells = same (cells d);
-                vars = refl;
-                data_vars = refl;
-              },
-            ),
-          )
+          let may : MayBeLeaf F r p y = (bare n, l, child_of_top p n (leaf y) is) in
+          inl (y, may, leaf_in Gs k y may, (leaf_dressed F r p ranked can y may T d).1 (h, (n, at, is)))
       here n at l (under m) is =
           let may : MayBeCell F r p = (bare m, node_no_leaf m, (bare n, l, child_of_top p n (under m) is)) in
-          let e : Nodes = with_last (set_node r (with_end p (leaf (At (count d))) n) d) m in
-          let t : IsTakenOut r p d e = record { above = n; child = m; is_above = at; is_child = is; taken = refl } in
-          (split_cells F r p, cells_in Gs k may, (e, taken_regroups F r p ranked can T well d e h t))
+          inr (
+            cells_in Gs k may,
+            (
+              with_last (set_node r (with_end p (leaf (At (count d))) n) d) m,
+              record { above = n; child = m; is_above = at; is_child = is; taken = refl },
+            ),
+          )
+
+  pub all_whole : RefersWell F → (T : List BoxDef) (Gs : List Forest) → AreSplit F r p Gs → RegroupsInto T F Gs
+  all_whole well T Gs k d h = elim (all_cases T Gs k d h) [
+    | inl (y, may, i, of) ↦ (
+      split_leaf F r p y,
+      i,
+      (d, record { of = of; same_cells = same (cells d); vars = refl; data_vars = refl }),
+    )
+    | inr (i, (e, t)) ↦ (split_cells F r p, i, (e, taken_regroups F r p ranked can T well d e h t))
+  ]

@@ -4,7 +4,7 @@ use Rattle.std.specs.Prelude.{◌≡◌, ◌↔◌, ◌<◌, ◌⊎◌, ℕ, zer
 use Rattle.std.specs.Prelude.{◌∷◌, ◌++◌, map, length, Option, Some, None, slice_get, slice_set, slice_index_or}
 use Rattle.fore_base.specs.Lists.{IsIn, Every, IsDistinct}
 use Rattle.ta_core.specs.Auto.{Automaton}
-use Rattle.ta_core.specs.Language.{InLanguage}
+use Rattle.ta_core.specs.Language.{InLanguage, RunOf}
 use Rattle.ta_core.specs.Single.{HasOneTop}
 use Rattle.ta_core.specs.declared.auto.Rule.{Rule}
 use Rattle.ta_core.specs.declared.symbol.Symbol.TheVariants.{Null as NullSymbol}
@@ -18,6 +18,7 @@ use Rattle.fa_core.specs.Choices.{count}
 use Rattle.fa_core.specs.Covering.{Covers}
 use Rattle.fa_core.specs.Dressed.{Node, Parts, End, Nodes, node, no_parts, field, link, hook, under, leaf, no_nodes}
 use Rattle.fa_core.specs.Dressed.{more}
+use Rattle.fa_core.specs.Filled.{IsRoot}
 use Rattle.fa_core.specs.Member.{OfForest, bare_end, leaf_symbol}
 use Rattle.fa_core.specs.Ways.{has}
 use Rattle.fa_back.specs.Reached.{node_at}
@@ -114,6 +115,19 @@ IsWhere P G Gs = (P × (Gs ≡ G ∷ [])) ⊎ ((P → ⊥) × (Gs ≡ []))
 abbrev pub AreSplit : Forest → ℕ → ℕ → List Forest → Type 0
 AreSplit F r p Gs = (ys : List Target) × AreThose (MayBeLeaf F r p) ys
     × ((Hs : List Forest) × IsWhere (MayBeCell F r p) (split_cells F r p) Hs × (Gs ≡ map (split_leaf F r p) ys ++ Hs))
+
+-- root r of G has one rule, that of root r of F but for the state of its child at place p: the trees of that state are
+-- the leaf y alone, which names a root that is there, if it names one
+pub record IsFixedAt (F : Forest) (r p : ℕ) (y : Target) (G : Forest) : Type 0 where
+  pub root : r < length G.autos
+  pub top : HasOneTop (component_at G.autos r)
+  pub symbol : (top_rule (component_at G.autos r)).symbol ≡ (top_rule (component_at F.autos r)).symbol
+  pub state : ℕ
+  pub children : (top_rule (component_at G.autos r)).children
+      ≡ slice_set (top_rule (component_at F.autos r)).children p state
+  pub run : RunOf (component_at G.autos r).rules state (bare_end (leaf y))
+  pub only : (t : Tree) → RunOf (component_at G.autos r).rules state t → t ≡ bare_end (leaf y)
+  pub end : IsRoot (length G.autos) y
 
 -- Dressed forests.
 

@@ -18,8 +18,8 @@ ghost use Rattle.fa_core.specs.declared.forest.Target.{Target};
 ghost use Rattle.fa_sound.specs.Components.{component_at};
 ghost use Rattle.fa_split.specs.Chosen.{IsChosenBy, chosen_at};
 ghost use Rattle.fa_split.specs.Giving.{RulesGive};
-ghost use Rattle.fa_split.specs.Split.{CanSplit, IsSplitCells, IsSplitLeaf, IsTakenOut, MayBeLeaf, split_cells};
-ghost use Rattle.fa_split.specs.Split.{split_leaf};
+ghost use Rattle.fa_split.specs.Split.{CanSplit, IsFixedAt, IsSplitCells, IsSplitLeaf, IsSplitOf, IsTakenOut};
+ghost use Rattle.fa_split.specs.Split.{MayBeLeaf, split_cells, split_leaf};
 
 /// Where a rule of a root state stands alone at the root, the dressed forests are those whose tree there has a run that
 /// ends with the rule.
@@ -45,6 +45,13 @@ pub fn cells_are_taken_out()
         → IsSound face F → OfForest T F d → IsTakenOut r p d e → Regrouping T (split_cells F r p) F d e }
     ensures back { (T : List BoxDef) (face : Face) (F : Forest) (r p : ℕ) → Every IsRanked F.autos → CanSplit F r p
         → IsSound face F → Regroups T F (split_cells F r p) }
+{}
+
+/// In each forest into which a sound forest is split, the child is one leaf alone, and the rule at the top is the same
+/// but for it.
+pub fn split_children_are_leaves()
+    ensures { (T : List BoxDef) (face : Face) (F : Forest) (r p : ℕ) (G : Forest) → Every IsRanked F.autos
+        → CanSplit F r p → IsSound face F → IsSplitOf T F r p G → (y : Target) × IsFixedAt F r p y G }
 {}
 
 /// Box edges that lead back give something where the boxes do, as those of each table, and where there is no box edge.

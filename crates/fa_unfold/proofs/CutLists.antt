@@ -16,12 +16,12 @@ use Rattle.fa_unfold.proofs.UnfoldedMembers.{regrouped_opens}
 
 -- Lists.
 
-forests_left : (xs ys : List SoundForest) (G : Forest) → IsIn G (forests xs) → IsIn G (forests (xs ++ ys))
+pub forests_left : (xs ys : List SoundForest) (G : Forest) → IsIn G (forests xs) → IsIn G (forests (xs ++ ys))
 forests_left [] ys G i = absurd i
 forests_left (x ∷ xs) ys G (inl e) = inl e
 forests_left (x ∷ xs) ys G (inr i) = inr (forests_left xs ys G i)
 
-forests_right : (xs ys : List SoundForest) (G : Forest) → IsIn G (forests ys) → IsIn G (forests (xs ++ ys))
+pub forests_right : (xs ys : List SoundForest) (G : Forest) → IsIn G (forests ys) → IsIn G (forests (xs ++ ys))
 forests_right [] ys G i = i
 forests_right (x ∷ xs) ys G i = inr (forests_right xs ys G i)
 

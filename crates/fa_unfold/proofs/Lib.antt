@@ -1,5 +1,6 @@
 pub mod CutLists
 pub mod EdgeParts
+pub mod EdgeSlots
 pub mod EdgesFilled
 pub mod EndStructs
 pub mod FilledForests
@@ -10,20 +11,10 @@ pub mod GoodComponents
 pub mod GrownRoots
 pub mod GrownTrees
 pub mod HookUnfoldings
+pub mod InsideBoxes
 pub mod InsidesFit
 pub mod JoinedOrder
 pub mod Joins
-pub mod LiftEdges
-pub mod LiftHats
-pub mod LiftHoles
-pub mod LiftLists
-pub mod LiftOwners
-pub mod LiftProvides
-pub mod LiftRows
-pub mod LiftSound
-pub mod LiftSteps
-pub mod LiftedForests
-pub mod LiftedRoots
 pub mod LinkUnfoldings
 pub mod MadeUnfoldings
 pub mod OpenedFilled
@@ -40,8 +31,11 @@ pub mod PortTrees
 pub mod RankedUnfoldings
 mod Rows
 pub mod SlotsInOrder
+pub mod SplitLinks
+pub mod SplitUnfoldings
 pub mod TableBoxes
 pub mod TableInsides
 pub mod UnfoldedAt
+pub mod UnfoldedEdges
 pub mod UnfoldedMembers
 pub mod UnfoldingVars

@@ -159,7 +159,7 @@ module _ (face : Face) (all : List SeenCell) where
   slots_here c s h [] k = tt
   slots_here c s h (x ∷ xs) k = let w = slot_first s x xs k in ((s, h, w.0), slots_here c s h xs w.1)
 
-  fits_here : (cs : List SeenCell) → ((n t : ℕ) → HasStruct cs n t → HasStruct all n t)
+  pub fits_here : (cs : List SeenCell) → ((n t : ℕ) → HasStruct cs n t → HasStruct all n t)
       → Every (λ x. SlotsFit face all x.shape x.slots) cs → Every FitsHere (flat_map cell_items cs)
   fits_here [] h k = tt
   fits_here (x ∷ cs) h k = (
@@ -174,7 +174,7 @@ module _ (face : Face) (all : List SeenCell) where
   slots_fit c s h [] k = tt
   slots_fit c s h (x ∷ xs) k = slot_again s x xs (k.0 s h) (slots_fit c s h xs k.1)
 
-  cells_fit : (cs : List SeenCell) → ((n t : ℕ) → HasStruct cs n t → HasStruct all n t)
+  pub cells_fit : (cs : List SeenCell) → ((n t : ℕ) → HasStruct cs n t → HasStruct all n t)
       → Every Fits (flat_map cell_items cs) → Every (λ x. SlotsFit face all x.shape x.slots) cs
   cells_fit [] h k = tt
   cells_fit (x ∷ cs) h k =

@@ -46,7 +46,7 @@ module _ (T : List BoxDef) (vs : List Value) where
   seen_insides (hook b i ps) h = (h.0, seen_insides ps h.1)
 
   mutual
-    tree_insides : (n : Node) → InsidesOf T n → Every (CellInside T) (tree_cells vs n)
+    pub tree_insides : (n : Node) → InsidesOf T n → Every (CellInside T) (tree_cells vs n)
     tree_insides (node c s ds ps) h = (seen_insides ps h, below_insides ps h)
 
     below_insides : (ps : Parts) → InsidesOfParts T ps → Every (CellInside T) (below vs ps)

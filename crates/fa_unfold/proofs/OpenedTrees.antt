@@ -25,6 +25,7 @@ use Rattle.fa_unfold.specs.inner.Trees.{joined_parts, parts_without, at_root, at
 use Rattle.fa_unfold.specs.inner.Trees.{with_all, link_opened, hook_opened}
 use Rattle.fa_unfold.proofs.Opening.{port_items, slots_opened, port_opened, trees_opened}
 use Rattle.fa_unfold.proofs.PartItems.{comm, joined_items, taken_items, refs_without, refs_part, parts_placed}
+use Rattle.fa_unfold.proofs.InsideBoxes.{hook_boxes, link_boxes}
 use Rattle.fa_unfold.proofs.PartItems.{all_placed, port_placed, Agrees, leaf_wider, all_wider}
 
 pub nth_more : (d : Nodes) (us : List Value) (k : ℕ) → k < count d → nth_value (roots_of d ++ us) k
@@ -244,6 +245,7 @@ module _ (bs : List BoxFace) where
             sym (port_opened vin v c1 s1 ds1 qs),
             sym (trees_opened vin ns),
           ) refl;
+          inner = link_boxes vin vin vin c v ps qs ns c0 s0 ds0 c1 s1 ds1;
         }
 
         -- what it gains
@@ -306,6 +308,7 @@ module _ (bs : List BoxFace) where
           sym (slots_opened hin c ps),
           sym (trees_opened hin ns),
         ) refl;
+        inner = hook_boxes hin hin c ps ns c0 s0 ds0;
       }
 
       pub hook_gains : (is : slice_get (listed os) p ≡ Some (HookPart b hooked)) → (opens_hook is).gained

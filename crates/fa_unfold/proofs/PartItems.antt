@@ -180,7 +180,7 @@ module _ (vs ws : List Value) where
   leaf_wider Dangling h = refl
   leaf_wider (At k) h = h.0
 
-  value_wider : (e : End) → Every Agrees (end_refs e) → end_value ws e ≡ end_value vs e
+  pub value_wider : (e : End) → Every Agrees (end_refs e) → end_value ws e ≡ end_value vs e
   value_wider (under n) h = refl
   value_wider (leaf t) h = leaf_wider t h
 

@@ -12,7 +12,6 @@ use Rattle.fa_core.specs.declared.boxes.BoxDef.{BoxDef}
 use Rattle.fa_core.specs.declared.faces.BoxFace.{BoxFace}
 use Rattle.fa_core.specs.declared.forest.Forest.{Forest}
 use Rattle.fa_core.specs.declared.forest.Target.{Target}
-use Rattle.fa_core.specs.declared.forest.Target.TheVariants.{At}
 use Rattle.fa_core.specs.Boxes.{Boxes, PortsCover, faces_of}
 use Rattle.fa_core.specs.Filled.{face_of}
 use Rattle.fa_core.specs.Member.{inside_of}

@@ -1,9 +1,12 @@
 -- Worked values of forests in which a box edge is replaced, each made by hand.
-use Rattle.std.proofs.Common.{◌≡◌, inl, ℕ, true, false, true≢false, length, List, [], ◌∷◌, refl, Some, None}
+use Rattle.std.proofs.Common.{◌≡◌, inl, inr, ℕ, zero, suc, true, false, true≢false, length, List, [], ◌∷◌, refl, ap}
+use Rattle.std.proofs.Common.{◌∙◌, slice_get, Some, None, arith, flat_map}
+use Rattle.std.proofs.lemmas.Option.{none-some, same_Some}
 use Rattle.ta_core.specs.Auto.{Automaton, automaton}
-use Rattle.ta_core.specs.Language.{RunEach, run_none}
+use Rattle.ta_core.specs.Language.{RunOf, RunEach, run_none, run_more}
+use Rattle.ta_core.specs.Single.{HasOneTop}
 use Rattle.ta_core.specs.declared.tree.Tree.{Tree, out-Tree, out-roll-Tree}
-use Rattle.ta_core.proofs.Runs.{tree_of}
+use Rattle.ta_core.proofs.Runs.{tree_of, run_tree}
 use Rattle.ta_core.specs.declared.auto.Rule.{Rule}
 use Rattle.ta_core.specs.declared.symbol.Slot.{Slot}
 use Rattle.ta_core.specs.declared.symbol.Slot.TheVariants.{Field, Link, Hook}
@@ -13,12 +16,17 @@ use Rattle.fore_base.specs.declared.store.Value.TheVariants.{Cell as CellValue, 
 use Rattle.fa_core.specs.declared.faces.BoxFace.{BoxFace}
 use Rattle.fa_core.specs.declared.forest.Forest.{Forest}
 use Rattle.fa_core.specs.declared.forest.Target.TheVariants.{At, Dangling as DanglingTarget}
-use Rattle.fa_core.specs.Dressed.{Nodes, node, no_parts, field, link, leaf, no_nodes, more, Points}
-use Rattle.fa_core.specs.Dressed.{SeenLink}
-use Rattle.fa_unfold.specs.Opens.{IsCell, HasSlot, items, opened}
-use Rattle.fa_unfold.specs.Slots.{joined, without, state_places}
+use Rattle.fa_core.specs.Dressed.{Nodes, node, no_parts, field, link, hook, under, leaf, no_nodes, more, Points}
+use Rattle.fa_core.specs.Dressed.{SeenField, SeenLink, SeenHook}
+use Rattle.fa_core.specs.Member.{bare_end}
+use Rattle.fa_sound.specs.Components.{component_at}
+use Rattle.fa_split.specs.Split.{split_leaf}
+use Rattle.fa_unfold.specs.Opens.{IsCell, HasSlot, items, opened, all_boxes, inside_boxes, item_boxes}
+use Rattle.fa_unfold.specs.Sites.{child_place}
+use Rattle.fa_unfold.specs.Slots.{children_before, joined, without, state_places}
 use Rattle.fa_unfold.specs.Unfolding.{IsTop, Tops, below_tops, end_rules}
 use Rattle.fa_unfold.specs.Unfolding.{have_no_slots, link_unfoldings, hook_unfoldings}
+use Rattle.fa_unfold.specs.UnfoldingOf.{CanUnfold, IsBoxEdge, IsSplitAt, root_slots}
 
 -- struct 0 has the pointer fields next (0), prev (1) and other (2); box 0 gives `next` at its input alone, box 1 `next`
 -- there and `prev` at its output, box 2 has no output
@@ -187,3 +195,94 @@ edge_opened = refl
 
 edge_dangling : opened (HasSlot 5 (SeenLink 0 inside DanglingValue)) ≡ Points 5 0 DanglingValue ∷ []
 edge_dangling = refl
+
+-- The boxes of edges: those below a slot and of further trees, those of insides left out.
+
+abbrev with_edges : Nodes
+with_edges = more (node 0 0 [] (link 1 inside (under (node 7 0 [] (hook 2 inside no_parts))) no_parts))
+    (more (node 8 0 [] (field 1 (under (node 9 0 [] (link 0 inside (leaf DanglingTarget) no_parts))) no_parts)) no_nodes)
+
+boxes_there : all_boxes with_edges ≡ 1 ∷ 2 ∷ 0 ∷ []
+boxes_there = refl
+
+inside_of_a_link : inside_boxes (HasSlot 5 (SeenLink 3 with_edges (CellValue 6))) ≡ 1 ∷ 2 ∷ 0 ∷ []
+inside_of_a_link = refl
+
+inside_of_a_hook : inside_boxes (HasSlot 5 (SeenHook 3 with_edges)) ≡ 1 ∷ 2 ∷ 0 ∷ []
+inside_of_a_hook = refl
+
+inside_of_a_field : inside_boxes (HasSlot 5 (SeenField 3 (CellValue 6))) ≡ []
+inside_of_a_field = refl
+
+own_boxes : flat_map item_boxes (items (more (node 5 0 [] (link 3 with_edges (leaf DanglingTarget)
+    (field 1 (leaf DanglingTarget) (hook 2 inside no_parts)))) no_nodes)) ≡ 3 ∷ 2 ∷ []
+own_boxes = refl
+
+-- Where an edge stands: a Hook has no child, so the child of a Link behind one is the first.
+
+abbrev with_a_hook : Forest
+with_a_hook = forest
+    (automaton 2 (0 ∷ []) (rule 0 (cell (Hook 2 ∷ Link 1 ∷ [])) (1 ∷ []) ∷ rule 1 (Ref 0) [] ∷ []) ∷ [])
+
+slots_there : root_slots with_a_hook 0 ≡ Hook 2 ∷ Link 1 ∷ []
+slots_there = refl
+
+first_child : child_place with_a_hook 0 1 ≡ 0
+first_child = refl
+
+second_child : children_before (Field 0 ∷ Hook 2 ∷ Link 1 ∷ []) 2 ≡ 1
+second_child = refl
+
+-- a Link and a Hook can be unfolded, a field cannot, nor a slot or a root that is not there
+with_a_hook_one_top : HasOneTop (component_at with_a_hook.autos 0)
+with_a_hook_one_top =
+    record {
+      root = 0;
+      alone = refl;
+      place = 0;
+      rule = rule 0 (cell (Hook 2 ∷ Link 1 ∷ [])) (1 ∷ []);
+      there = refl;
+      top = refl;
+      only = only;
+    }
+  where
+    only : (i : ℕ) (r : Rule) → slice_get (component_at with_a_hook.autos 0).rules i ≡ Some r → r.state ≡ 0 → i ≡ 0
+    only zero r e s = refl
+    only (suc zero) r e s = absurd
+        (let w : 1 ≡ 0 = ap (λ (x : Rule). x.state) (same_Some _ r e) ∙ s in omega (arith, w))
+    only (suc (suc i)) r e s = absurd (none-some r e)
+
+hook_can : CanUnfold with_a_hook 0 0
+hook_can = record { root = omega arith; top = with_a_hook_one_top; edge = tt }
+
+link_can : CanUnfold with_a_hook 0 1
+link_can = record { root = omega arith; top = with_a_hook_one_top; edge = tt }
+
+field_cannot : IsBoxEdge (slice_get (Field 0 ∷ Hook 2 ∷ []) 0) → ⊥
+field_cannot h = h
+
+slot_cannot : CanUnfold with_a_hook 0 2 → ⊥
+slot_cannot h = h.edge
+
+root_cannot : CanUnfold with_a_hook 1 0 → ⊥
+root_cannot h = let l = h.root in omega (arith, l)
+
+-- the child of the Link may be the reference, and is that in one forest of the split
+abbrev rules : List Rule
+rules = (component_at with_a_hook.autos 0).rules
+
+abbrev child : Tree
+child = tree_of (Ref 0) []
+
+abbrev whole : Tree
+whole = tree_of (cell (Hook 2 ∷ Link 1 ∷ [])) (child ∷ [])
+
+whole_run : RunOf rules 0 whole
+whole_run = run_tree rules (rule 0 (cell (Hook 2 ∷ Link 1 ∷ [])) (1 ∷ [])) (child ∷ []) (inl refl)
+    (run_more (run_tree rules (rule 1 (Ref 0) []) [] (inr (inl refl)) run_none) run_none)
+
+child_there : slice_get (out-Tree whole).children 0 ≡ Some (bare_end (leaf (At 0)))
+child_there = rw (out-roll-Tree (record { symbol = cell (Hook 2 ∷ Link 1 ∷ []); children = child ∷ [] })) refl
+
+is_split : IsSplitAt with_a_hook 0 0 (split_leaf with_a_hook 0 0 (At 0))
+is_split = inl (At 0, (whole, (0, inl refl, whole_run), child_there), refl)

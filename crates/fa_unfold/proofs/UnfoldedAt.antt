@@ -1,5 +1,5 @@
 -- Forests in which a box edge, whose end is one leaf, is replaced, cut by signatures.
-use Rattle.std.proofs.Common.{◌≡◌, ◌⊎◌, inl, inr, ℕ, List, sym, subst, ◌∙◌}
+use Rattle.std.proofs.Common.{◌≡◌, ℕ, List, sym, subst, ◌∙◌}
 use Rattle.fore_base.specs.Lists.{IsIn, Every}
 use Rattle.fore_base.proofs.ListLemmas.{every_weaker}
 use Rattle.fa_core.specs.declared.forest.Forest.{Forest}
@@ -15,7 +15,7 @@ use Rattle.fa_split.proofs.SplitCells.{refers_well, all_below}
 use Rattle.fa_unfold.specs.Sites.{IsHookAt, IsLinkAt, IsOver}
 use Rattle.fa_unfold.specs.Unfold.{AreLinkUnfoldings, AreHookUnfoldings, IsLinkUnfolding, IsHookUnfolding}
 use Rattle.fa_unfold.specs.Unfolded.{UnfoldsFrom, UnfoldsInto}
-use Rattle.fa_unfold.specs.inner.Cuts.{IsCutOf, HasCuts, IsUnfoldedAt}
+use Rattle.fa_unfold.specs.inner.Cuts.{IsCutOf, HasCuts, IsUnfoldedAt, IsUnfoldedHook, IsUnfoldedLink}
 use Rattle.fa_unfold.proofs.CutLists.{cut_from, cut_into}
 use Rattle.fa_unfold.proofs.FilledForests.{links_filled, hooks_filled}
 use Rattle.fa_unfold.proofs.HookUnfoldings.{hook_from, hook_into}
@@ -35,10 +35,9 @@ over_of t s e k table insides = record {
 
 module _ (t : Boxes) (F : Forest) (over : IsOver t F) (i p : ℕ) where
   -- a part of one of the forests
-  part_of : (Gs : List Forest) (s : SoundForest) (c : IsCutOf t.face Gs s)
-      → IsLinkUnfolding t F i p c.whole ⊎ IsHookUnfolding t F i p c.whole → UnfoldsFrom t.defs F i p c.whole
-      → HasVarsOf F c.whole → IsUnfoldedAt t F i p s
-  part_of Gs s c by from vars = record {
+  part_of : (By : Forest → Type 0) (Gs : List Forest) (s : SoundForest) (c : IsCutOf t.face Gs s) → By c.whole
+      → UnfoldsFrom t.defs F i p c.whole → HasVarsOf F c.whole → IsUnfoldedAt t F i p By s
+  part_of By Gs s c by from vars = record {
     opened = c.whole;
     by = by;
     parts = c.cut;
@@ -62,11 +61,11 @@ module _ (t : Boxes) (F : Forest) (over : IsOver t F) (i p : ℕ) where
         (output_dressed t over.table over.insides b are.input are.output are.inner are.is) are.tops are.are G
         (subst (IsIn G) are.all k)
 
-    pub link_parts : (ss : List SoundForest) → Every (IsCutOf t.face Gs) ss → Every (IsUnfoldedAt t F i p) ss
-    link_parts ss h = every_weaker (IsCutOf t.face Gs) (IsUnfoldedAt t F i p) ss
+    pub link_parts : (ss : List SoundForest) → Every (IsCutOf t.face Gs) ss → Every (IsUnfoldedLink t F i p) ss
+    link_parts ss h = every_weaker (IsCutOf t.face Gs) (IsUnfoldedLink t F i p) ss
         (λ s c.
-        part_of Gs s c
-        (inl (record { box = b; end = y; list = Gs; at = at; are = are; one = c.there }))
+        part_of (IsLinkUnfolding t F i p) Gs s c
+        (record { box = b; end = y; list = Gs; at = at; are = are; one = c.there })
         (from_one c.whole c.there)
         (link_vars t.face.boxes F i p y are.input are.output are.inner are.tops c.whole
         (subst (IsIn c.whole) are.all c.there))) h
@@ -95,10 +94,11 @@ module _ (t : Boxes) (F : Forest) (over : IsOver t F) (i p : ℕ) where
         hook_from t.face.boxes t.defs F over.ranked (λ d h. all_below t.defs F d w h) (vars_there F w) i p at.root
         at.top b at.slot are.input are.inner r.0 are.is are.ins are.are G (subst (IsIn G) are.all k)
 
-    pub hook_parts : (ss : List SoundForest) → Every (IsCutOf t.face Gs) ss → Every (IsUnfoldedAt t F i p) ss
-    hook_parts ss h = every_weaker (IsCutOf t.face Gs) (IsUnfoldedAt t F i p) ss
+    pub hook_parts : (ss : List SoundForest) → Every (IsCutOf t.face Gs) ss → Every (IsUnfoldedHook t F i p) ss
+    hook_parts ss h = every_weaker (IsCutOf t.face Gs) (IsUnfoldedHook t F i p) ss
         (λ s c.
-        part_of Gs s c (inr (record { box = b; list = Gs; at = at; are = are; one = c.there }))
+        part_of (IsHookUnfolding t F i p) Gs s c
+        (record { box = b; list = Gs; at = at; are = are; one = c.there })
         (hook_one c.whole c.there)
         (hook_vars t.face.boxes F i p are.input are.inner are.ins c.whole (subst (IsIn c.whole) are.all c.there))) h
 

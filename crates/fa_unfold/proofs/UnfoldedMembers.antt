@@ -66,6 +66,7 @@ opens_regrouped x d k e r o =
       before = chain (items_regrouped d k r) o.before;
       after = o.after;
       same = o.same;
+      inner = o.inner;
     }
 
 -- and before one
@@ -77,6 +78,7 @@ regrouped_opens x d e k o r =
       before = o.before;
       after = chain (back (items_regrouped e k r)) o.after;
       same = o.same;
+      inner = o.inner;
     }
 
 -- Members.

@@ -1,4 +1,3 @@
-pub mod Lift
 pub mod Opens
 pub mod Outside
 pub mod Parts
@@ -7,4 +6,5 @@ pub mod Slots
 pub mod Unfold
 pub mod Unfolded
 pub mod Unfolding
+pub mod UnfoldingOf
 pub mod inner

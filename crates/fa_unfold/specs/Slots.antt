@@ -1,5 +1,6 @@
 -- Slots of cells, with the states of their children, put together in the order of the least field that each covers.
-use Rattle.std.specs.Prelude.{ℕ, zero, suc, nat_le, if◌then◌else◌, List, [], ◌∷◌, map, flat_map}
+use Rattle.std.specs.Prelude.{ℕ, zero, suc, nat_le, if◌then◌else◌, List, [], ◌∷◌, map, flat_map, take}
+use Rattle.ta_core.specs.Arity.{child_slots}
 use Rattle.ta_core.specs.Joined.{shift}
 use Rattle.ta_core.specs.declared.auto.Rule.{Rule}
 use Rattle.ta_core.specs.declared.symbol.Slot.{Slot}
@@ -46,6 +47,10 @@ state_places (Link b ∷ ss) (q ∷ qs) = (Link b, q ∷ []) ∷ state_places ss
 -- those of a rule
 abbrev pub rule_places : Rule → List Place
 rule_places x = state_places (symbol_slots x.symbol) x.children
+
+-- how many children the slots before place p have: the child of slot p stands behind so many
+abbrev pub children_before : List Slot → ℕ → ℕ
+children_before ss p = child_slots (take p ss)
 
 -- the least field that the slot covers
 abbrev pub slot_key : List BoxFace → Slot → ℕ

@@ -1,4 +1,3 @@
 pub mod Cuts
-pub mod Lifting
 pub mod Ranges
 pub mod Trees

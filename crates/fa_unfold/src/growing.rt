@@ -110,8 +110,9 @@ fn grown_rule(
     with_places(alloc, rule, all.as_slice())
 }
 
-/// The rule alone at a root state of its own, behind the states.
-fn alone(alloc: Global, auto: &Auto, rule: &Rule) -> Mem<Auto>
+/// The rule alone at a root state of its own, behind the states. Err is want of memory, also where states do not fit 32
+/// bits.
+pub fn alone(alloc: Global, auto: &Auto, rule: &Rule) -> Mem<Auto>
     requires { IsRanked (chosen auto.now rule.now) }
     ensures { IfOk result (λ made. made ≡ chosen auto.now rule.now) }
 {
@@ -126,8 +127,8 @@ fn alone(alloc: Global, auto: &Auto, rule: &Rule) -> Mem<Auto>
     })
 }
 
-/// The rule with other slots and children.
-fn with_places(alloc: Global, rule: &Rule, places: &[(Slot, List<u32>)]) -> Mem<Rule>
+/// The rule with other slots and children. Err is want of memory.
+pub fn with_places(alloc: Global, rule: &Rule, places: &[(Slot, List<u32>)]) -> Mem<Rule>
     ensures { IfOk result (λ made. made ≡ with_places rule.now places.now) }
 {
     let symbol = with_slots(alloc, &rule.symbol, places)?;

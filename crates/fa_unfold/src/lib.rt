@@ -1,21 +1,21 @@
-//! Box edges taken apart: the cell of an edge that gives a field to a root made a root of its own; and a box edge of a
-//! root replaced by the inside of its box, of which the laws and parts of the body are there, and the call is not.
+//! A box edge of a root replaced by the inside of its box.
 #![tactic(auto)]
 
 mod cuts;
+mod edges;
 mod ends;
-mod growing;
+pub mod growing;
 pub mod laws;
-pub mod lifting;
-mod lifting_automata;
-pub mod lifting_laws;
-mod lifting_owners;
 mod lists;
 mod placing;
 mod replacing;
 mod roots;
-mod slots;
+pub mod slots;
+mod tables;
 mod tops;
 mod unfolding;
+mod whole;
 
-pub use lifting::{can_lift, lift_parent};
+pub use edges::can_unfold;
+pub use slots::{rule_places, slots_of};
+pub use whole::unfold;

@@ -6,7 +6,7 @@ ghost use Rattle.fa_core.specs.Member.{inside_of};
 ghost use Rattle.fa_sound.specs.Unions.{forests};
 ghost use Rattle.fa_unfold.specs.Sites.{IsHookAt, IsLinkAt};
 ghost use Rattle.fa_unfold.specs.Unfolded.{UnfoldsInto};
-ghost use Rattle.fa_unfold.specs.inner.Cuts.{IsUnfoldedAt};
+ghost use Rattle.fa_unfold.specs.inner.Cuts.{IsUnfoldedHook, IsUnfoldedLink};
 
 use crate::cuts::cut_all;
 use crate::replacing::{unfold_hook, unfold_link};
@@ -37,7 +37,7 @@ pub fn unfold_link_at(
     requires face { table.now.face ≡ forest.now.face }
     requires at { IsLinkAt forest.now.forest root place number end }
     requires is { inside_of table.now.defs number ≡ Some (input.now ∷ (output.now ∷ inner.now)) }
-    ensures each { IfOk result (Every (IsUnfoldedAt table.now forest.now.forest root place)) }
+    ensures each { IfOk result (Every (IsUnfoldedLink table.now forest.now.forest root place)) }
     ensures whole { IfOk result (λ made. UnfoldsInto table.now.defs forest.now.forest root place (forests made)) }
 {
     forest.known();
@@ -66,7 +66,7 @@ pub fn unfold_hook_at(
     requires face { table.now.face ≡ forest.now.face }
     requires at { IsHookAt forest.now.forest root place number }
     requires is { inside_of table.now.defs number ≡ Some (input.now ∷ inner.now) }
-    ensures each { IfOk result (Every (IsUnfoldedAt table.now forest.now.forest root place)) }
+    ensures each { IfOk result (Every (IsUnfoldedHook table.now forest.now.forest root place)) }
     ensures whole { IfOk result (λ made. UnfoldsInto table.now.defs forest.now.forest root place (forests made)) }
 {
     forest.known();

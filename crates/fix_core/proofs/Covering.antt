@@ -1,37 +1,32 @@
--- Nodes that cover a forest, and the numbers of the nodes of each location.
-use Rattle.std.proofs.Common.{◌≡◌, ◌⊎◌, ℕ, suc, zero, ◌+◌, ◌<◌, List, [], ◌∷◌, ◌++◌, length, slice_get, slice_set}
+-- Nodes that cover a forest, and the numbers of nodes by their keys.
+use Rattle.std.proofs.Common.{◌≡◌, ◌⊎◌, ℕ, suc, zero, ◌+◌, ◌<◌, List, [], ◌∷◌, ◌++◌, length, slice_set}
 use Rattle.std.proofs.Common.{replicate, Some, None, Bool, true, false, Result, Ok, Err, OnOk, OnErr}
-use Rattle.std.proofs.Common.{refl, sym, ap, ◌∙◌, subst, arith, inl, inr}
+use Rattle.std.proofs.Common.{refl, sym, ap, ◌∙◌, subst, arith, inl, inr, nat_cmp}
+use Rattle.std.specs.BTreeMap.{BTreeMap, get}
+use Rattle.std.proofs.lemmas.Option.{none-some}
 use Rattle.fore_base.specs.declared.shape.Shape.{Shape}
 use Rattle.fore_base.specs.declared.store.Store.{Store}
 use Rattle.fore_base.specs.Lists.{IsIn, Every}
+use Rattle.fore_base.proofs.ListLemmas.{paired_long}
+use Rattle.ta_core.specs.Language.{IsWithin}
 use Rattle.fa_core.specs.Covering.{Covers}
 use Rattle.fa_core.specs.Member.{Stands}
 use Rattle.fa_core.specs.declared.boxes.BoxDef.{BoxDef}
 use Rattle.fa_core.specs.declared.forest.Forest.{Forest}
 use Rattle.fa_core.proofs.Composed.{covered_members}
+use Rattle.fa_pool.specs.Indexes.{IsListed, MoreListed}
+use Rattle.fa_pool.specs.Keys.{mixed}
+use Rattle.fa_pool.specs.Looks.{with_looks}
 use Rattle.fix_core.specs.declared.nodes.Node.{Node}
 use Rattle.fix_core.specs.Covered.{Lists, IsCovered, NotCovers, NoneCovers, CoversOrNot}
-use Rattle.fix_core.specs.Listed.{AreListed, MoreListed}
-use Rattle.fix_core.specs.Listed.{numbers_at}
-use Rattle.fix_core.proofs.Lists.{some_same, length_push, get_push, in_left, in_right, every_in}
+use Rattle.fix_core.specs.Listed.{numbers_at, key_at, AreListed}
+use Rattle.fix_core.proofs.Lists.{some_same, length_push, get_push, every_in}
 
 pub covered_member : (hs : List Shape) (T : List BoxDef) (F G : Forest) (s : Store) → Covers F G → Stands hs T G s
     → Stands hs T F s
 covered_member hs T F G s w m = covered_members hs T F G w s m
 
 -- lists of numbers by place
-
-pub at_place : (lists : List (List ℕ)) (place : ℕ) (own : List ℕ) → slice_get lists place ≡ Some own
-    → numbers_at lists place ≡ own
-at_place [] place own h = cc
-at_place (x ∷ xs) zero own h = some_same x own h
-at_place (x ∷ xs) (suc place) own h = at_place xs place own h
-
-pub past_places : (lists : List (List ℕ)) (place : ℕ) → slice_get lists place ≡ None → numbers_at lists place ≡ []
-past_places [] place h = refl
-past_places (x ∷ xs) zero h = cc
-past_places (x ∷ xs) (suc place) h = past_places xs place h
 
 -- a list that is written is at its place, and the others are as they were
 set_place : (lists : List (List ℕ)) (place : ℕ) (own : List ℕ) → place < length lists
@@ -75,81 +70,62 @@ at_or_other P lists place other own inside here there = elim (same_or_not other 
   | inr n ↦ subst P (sym (set_other lists place other own n)) (there n)
 ]
 
--- numbers stay
-
-pub more_same : (lists : List (List ℕ)) → MoreListed lists lists
-more_same lists = λ place j h. h
-
-pub more_then : (a b c : List (List ℕ)) → MoreListed a b → MoreListed b c → MoreListed a c
-more_then a b c h i = λ place j k. i place j (h place j k)
-
-pub more_pushed : (lists : List (List ℕ)) → MoreListed lists (lists ++ [] ∷ [])
-more_pushed [] place j h = absurd h
-more_pushed (x ∷ xs) zero j h = h
-more_pushed (x ∷ xs) (suc place) j h = more_pushed xs place j h
-
-pub more_set : (lists : List (List ℕ)) (place : ℕ) (more : List ℕ) → place < length lists
-    → ((j : ℕ) → IsIn j (numbers_at lists place) → IsIn j more) → MoreListed lists (slice_set lists place more)
-more_set lists place more inside stay = λ other j h.
-    at_or_other (IsIn j) lists place other more inside (λ e. stay j (subst (IsIn j) (ap (numbers_at lists) e) h))
-    (λ n. h)
-
--- the number is in the list of the place to which it was added
-pub number_added : (lists : List (List ℕ)) (place number : ℕ) → place < length lists
-    → IsIn number (numbers_at (slice_set lists place (numbers_at lists place ++ number ∷ [])) place)
-number_added lists place number inside =
-    subst (IsIn number) (sym (set_place lists place (numbers_at lists place ++ number ∷ []) inside))
-    (in_right (numbers_at lists place) (number ∷ []) number (inl refl))
-
--- a number that is added, and one for which there is no memory
-pub pushed_more : {X E : Type 0} (r : Result X E) (lists new : List (List ℕ)) (place number : ℕ) → place < length lists
-    → OnOk r (new ≡ slice_set lists place (numbers_at lists place ++ number ∷ []))
-    → OnErr r (new ≡ slice_set lists place (numbers_at lists place))
-    → MoreListed lists new
-pushed_more (Ok x) lists new place number inside ok err =
-    subst (MoreListed lists) (sym ok)
-    (more_set lists place (numbers_at lists place ++ number ∷ []) inside
-    (λ j h. in_left (numbers_at lists place) (number ∷ []) j h))
-pushed_more (Err e) lists new place number inside ok err =
-    subst (MoreListed lists) (sym err) (more_set lists place (numbers_at lists place) inside (λ j h. h))
-
-pub pushed_in : {X E : Type 0} (r : Result X E) (lists new : List (List ℕ)) (place number : ℕ) → place < length lists
-    → OnOk r (new ≡ slice_set lists place (numbers_at lists place ++ number ∷ []))
-    → OnOk r (IsIn number (numbers_at new place))
-pushed_in (Ok x) lists new place number inside ok =
-    subst (λ z. IsIn number (numbers_at z place)) (sym ok) (number_added lists place number inside)
-pushed_in (Err e) lists new place number inside ok = tt
-
 -- a node that is listed
 
-pub listed_more : (nodes : List Node) (before after : List (List ℕ)) → MoreListed before after → AreListed nodes before
-    → AreListed nodes after
-listed_more nodes before after more listed = λ j n is. more n.head.location j (listed j n is)
+abbrev key_of : Node → ℕ
+key_of n = key_at n.head.location n.state.forest
 
-pub listed_push : (nodes : List Node) (there : List (List ℕ)) (n : Node) → AreListed nodes there
-    → IsIn (length nodes) (numbers_at there n.head.location) → AreListed (nodes ++ n ∷ []) there
+pub listed_more : (nodes : List Node) (before after : BTreeMap ℕ (List ℕ)) → MoreListed before after
+    → AreListed nodes before → AreListed nodes after
+listed_more nodes before after more listed = λ j n is. more (key_of n) j (listed j n is)
+
+pub listed_push : (nodes : List Node) (there : BTreeMap ℕ (List ℕ)) (n : Node) → AreListed nodes there
+    → IsListed there (key_of n) (length nodes) → AreListed (nodes ++ n ∷ []) there
 listed_push nodes there n listed new j m is = elim (get_push nodes n j m is) [
   | inl old ↦ listed j m old
-  | inr p ↦ subst (λ z. IsIn z (numbers_at there m.head.location)) (sym p.0)
-      (subst (λ z. IsIn (length nodes) (numbers_at there z.head.location)) (sym p.1) new)
+  | inr p ↦ subst (IsListed there (key_of m)) (sym p.0)
+      (subst (λ (z : Node). IsListed there (key_of z) (length nodes)) (sym p.1) new)
 ]
 
-pub pushed_listed : {X E : Type 0} (r : Result X E) (limit : ℕ) (nodes new : List Node) (there : List (List ℕ))
-    (n : Node) → length nodes + 1 < limit → AreListed nodes there
-    → IsIn (length nodes) (numbers_at there n.head.location) → OnOk r (new ≡ nodes ++ n ∷ []) → OnErr r (new ≡ nodes)
-    → (length new < limit) × AreListed new there
+pub pushed_listed : {X E : Type 0} (r : Result X E) (limit : ℕ) (nodes new : List Node) (there : BTreeMap ℕ (List ℕ))
+    (n : Node) → length nodes + 1 < limit → AreListed nodes there → IsListed there (key_of n) (length nodes)
+    → OnOk r (new ≡ nodes ++ n ∷ []) → OnErr r (new ≡ nodes) → (length new < limit) × AreListed new there
 pushed_listed (Ok x) limit nodes new there n few listed number ok err =
     subst (λ z. (length z < limit) × AreListed z there) (sym ok)
     (omega (arith, few, length_push nodes n), listed_push nodes there n listed number)
 pushed_listed (Err e) limit nodes new there n few listed number ok err =
     subst (λ z. (length z < limit) × AreListed z there) (sym err) (omega (arith, few), listed)
 
+-- the numbers that are listed for a key
+pub key_lists : (nodes : List Node) (there : BTreeMap ℕ (List ℕ)) (key : ℕ) (numbers : List ℕ) → AreListed nodes there
+    → get nat_cmp there key ≡ Some numbers → Lists numbers nodes key
+key_lists nodes there key numbers listed list j n is same =
+    let at = listed j n is in
+    let own : at.0 ≡ numbers = some_same at.0 numbers (sym at.1 ∙ ap (get nat_cmp there) same ∙ list) in
+    subst (IsIn j) own at.2
+
+-- none, where there is no list
+pub no_key_lists : (nodes : List Node) (there : BTreeMap ℕ (List ℕ)) (key : ℕ) → AreListed nodes there
+    → get nat_cmp there key ≡ None → Lists [] nodes key
+no_key_lists nodes there key listed list j n is same =
+    let at = listed j n is in none-some at.0 (sym list ∙ ap (get nat_cmp there) (sym same) ∙ at.1)
+
 -- covers
 
+-- what covers a forest at its location has its key
+same_key : (location there : ℕ) (F G : Forest) → there ≡ location → Covers G F → key_at there G ≡ key_at location F
+same_key location there F G at c =
+    ap (λ l. with_looks (mixed 0 l) G.vars G.data_vars (length G.autos)) at
+    ∙ ap (λ vs. with_looks (mixed 0 location) vs G.data_vars (length G.autos)) (sym c.vars)
+    ∙ ap (λ ds. with_looks (mixed 0 location) F.vars ds (length G.autos)) (sym c.data_vars)
+    ∙ ap (with_looks (mixed 0 location) F.vars F.data_vars) (sym (paired_long IsWithin F.autos G.autos c.within))
+
 pub none_covers_nowhere : (nodes : List Node) (location : ℕ) (F : Forest) (numbers : List ℕ)
-    → Lists numbers nodes location → Every (NotCovers nodes location F) numbers → NoneCovers nodes location F
+    → Lists numbers nodes (key_at location F) → Every (NotCovers nodes location F) numbers
+    → NoneCovers nodes location F
 none_covers_nowhere nodes location F numbers listed none j m is there cov =
-    every_in (NotCovers nodes location F) numbers j none (listed j m is there) m is there cov
+    every_in (NotCovers nodes location F) numbers j none
+    (listed j m is (same_key location m.head.location F m.state.forest there cov)) m is there cov
 
 pub none_at : (b : Bool) (seen nodes : List Node) (location : ℕ) (F : Forest) → seen ≡ nodes → b ≡ false
     → CoversOrNot seen location F b → NoneCovers nodes location F

@@ -1,6 +1,7 @@
 -- Worked values of the words on explorations, each made by hand from what the word says.
 use Rattle.std.proofs.Common.{◌≡◌, inl, inr, ℕ, zero, suc, ◌++◌, List, [], ◌∷◌, length, true, false, Option, Some}
-use Rattle.std.proofs.Common.{None, refl, sym, ◌∙◌, ap, subst, arith, lit<, lit≤, length-append}
+use Rattle.std.proofs.Common.{None, refl, sym, ◌∙◌, ap, subst, arith, lit<, lit≤, length-append, nat_cmp}
+use Rattle.std.specs.BTreeMap.{BTreeMap, get}
 use Rattle.std.proofs.lemmas.Option.{none-some, same_Some}
 use Rattle.fore_base.specs.declared.fault.Fault.TheVariants.{Leak}
 use Rattle.fore_base.specs.declared.store.Store.{Store}
@@ -11,6 +12,8 @@ use Rattle.fa_core.specs.declared.faces.Face.{Face}
 use Rattle.fa_core.specs.declared.forest.Forest.{Forest}
 use Rattle.fa_core.specs.declared.forest.Target.{Target}
 use Rattle.fa_core.specs.declared.forest.Target.TheVariants.{Null, Uninit}
+use Rattle.fa_pool.specs.Indexes.{IsListed}
+use Rattle.fa_pool.specs.Keys.{with_numbers}
 use Rattle.fa_sound.specs.Soundness.{SoundForest}
 use Rattle.c_cfg.specs.Edges.{Passed, Faulted, Halted, NotPassed}
 use Rattle.c_cfg.specs.Fans.{choice_list}
@@ -20,7 +23,7 @@ use Rattle.fix_core.specs.Covered.{Lists, IsCovered, NoneCovers, CoversOrNot, Co
 use Rattle.fix_core.specs.declared.nodes.Placed.TheVariants.{Covered, Added, Full as NoRoom}
 use Rattle.fix_core.specs.Explorations.{is_head, NoLater, IsWay, begins, goes, IsCared, IsExplored}
 use Rattle.fix_core.specs.Follows.{IsMember, IsStateAt}
-use Rattle.fix_core.specs.Listed.{numbers_at, AreListed, MoreListed}
+use Rattle.fix_core.specs.Listed.{numbers_at, key_at, AreListed}
 use Rattle.fix_core.specs.States.{AbstractState, forest_of, IsOver}
 use Rattle.fix_core.specs.declared.explored.AbsTrace.{AbsTrace}
 use Rattle.fix_core.specs.declared.explored.Explored.TheVariants.{Closed, Faulty, Spent}
@@ -154,7 +157,7 @@ module _ (T : Boxes) where
   no_middle_elsewhere : (k : ℕ) (F M : Forest) (e : Edge) → IsStateAt T false k F e (state [] (Some M)) → ⊥
   no_middle_elsewhere k F M e h = none-some M (sym h.no_middle)
 
--- The numbers of the nodes of each location
+-- Lists of numbers, and the numbers of nodes by their keys
 
 at_a_place : numbers_at ((1 ∷ []) ∷ (0 ∷ 2 ∷ []) ∷ []) 1 ≡ 0 ∷ 2 ∷ []
 at_a_place = refl
@@ -162,24 +165,29 @@ at_a_place = refl
 past_the_places : numbers_at ((1 ∷ []) ∷ []) 1 ≡ []
 past_the_places = refl
 
-are_listed : AreListed (n0 ∷ n1 ∷ []) ((0 ∷ []) ∷ (1 ∷ []) ∷ [])
-are_listed zero n i = subst (λ (x : Node). IsIn 0 (numbers_at ((0 ∷ []) ∷ (1 ∷ []) ∷ []) x.head.location))
-    (same_Some n0 n i) (inl refl)
-are_listed (suc zero) n i =
-    subst (λ (x : Node). IsIn 1 (numbers_at ((0 ∷ []) ∷ (1 ∷ []) ∷ []) x.head.location)) (same_Some n1 n i) (inl refl)
-are_listed (suc (suc j)) n i = absurd (none-some n i)
+-- node 0 is at location 0, and its forest has no variable, no datum and 0 roots; node 1 at location 1 has a variable
+-- that is null
+key_of_n0 : key_at n0.head.location n0.state.forest ≡ with_numbers 0 (0 ∷ 0 ∷ [])
+key_of_n0 = refl
 
--- node 1 is not in the list of location 1
-not_listed : AreListed (n0 ∷ n1 ∷ []) ((0 ∷ 1 ∷ []) ∷ []) → ⊥
-not_listed h = h 1 n1 refl
+key_of_n1 : key_at n1.head.location n1.state.forest ≡ with_numbers 0 (1 ∷ 0 ∷ 0 ∷ [])
+key_of_n1 = refl
 
-one_more : MoreListed ((1 ∷ []) ∷ []) ((1 ∷ 2 ∷ []) ∷ [])
-one_more zero j (inl e) = inl e
-one_more zero j (inr i) = absurd i
-one_more (suc place) j i = absurd i
+module _ (there : BTreeMap ℕ (List ℕ)) where
+  -- each of both in the list of its key
+  are_listed : get nat_cmp there (key_at n0.head.location n0.state.forest) ≡ Some (0 ∷ [])
+      → get nat_cmp there (key_at n1.head.location n1.state.forest) ≡ Some (1 ∷ []) → AreListed (n0 ∷ n1 ∷ []) there
+  are_listed at0 at1 zero n i =
+      subst (λ (x : Node). IsListed there (key_at x.head.location x.state.forest) 0) (same_Some n0 n i)
+      (0 ∷ [], at0, inl refl)
+  are_listed at0 at1 (suc zero) n i =
+      subst (λ (x : Node). IsListed there (key_at x.head.location x.state.forest) 1) (same_Some n1 n i)
+      (1 ∷ [], at1, inl refl)
+  are_listed at0 at1 (suc (suc j)) n i = absurd (none-some n i)
 
-one_less : MoreListed ((1 ∷ []) ∷ []) ([] ∷ []) → ⊥
-one_less h = h 0 1 (inl refl)
+  -- node 1 is in no list of its key
+  not_listed : get nat_cmp there (key_at n1.head.location n1.state.forest) ≡ None → AreListed (n0 ∷ n1 ∷ []) there → ⊥
+  not_listed none h = let at = h 1 n1 refl in none-some at.0 (sym none ∙ at.1)
 
 -- Forests that are there or not
 
@@ -235,14 +243,19 @@ none_does zero m i l c =
     omega (arith, ap (λ (vs : List Target). length vs) e.vars)
 none_does (suc j) m i l c = none-some m i
 
-lists : Lists (1 ∷ []) (n0 ∷ n1 ∷ []) 1
-lists zero n i l = let e : 0 ≡ 1 = subst (λ (x : Node). x.head.location ≡ 1) (sym (same_Some n0 n i)) l in
-    absurd (omega (arith, e))
-lists (suc zero) n i l = inl refl
-lists (suc (suc j)) n i l = absurd (none-some n i)
+lists : Lists (1 ∷ []) (n0 ∷ n1 ∷ []) (key_at 1 (bare (Null ∷ [])))
+lists zero n i k =
+    absurd (other (subst (λ (x : Node). key_at x.head.location x.state.forest ≡ key_at 1 (bare (Null ∷ [])))
+    (sym (same_Some n0 n i)) k))
+  where
+    -- 1,000,003 times itself
+    other : key_at 0 (bare []) ≡ key_at 1 (bare (Null ∷ [])) → ⊥
+    other k = let e : 0 ≡ 1000006000009 = k in omega (arith, e)
+lists (suc zero) n i k = inl refl
+lists (suc (suc j)) n i k = absurd (none-some n i)
 
 -- node 3 is at location 1 too
-lists_too_few : Lists (1 ∷ []) nodes 1 → ⊥
+lists_too_few : Lists (1 ∷ []) nodes (key_at 1 (bare (Uninit ∷ []))) → ⊥
 lists_too_few h = no_three (h 3 n3 refl refl)
   where
     no_three : IsIn {X = ℕ} 3 (1 ∷ []) → ⊥

@@ -7,10 +7,12 @@ use Rattle.fix_core.specs.declared.nodes.Node.{Node}
 use Rattle.fix_core.specs.declared.nodes.Placed.{Placed}
 use Rattle.fix_core.specs.declared.nodes.Placed.TheVariants.{Covered, Added, Full}
 use Rattle.fix_core.specs.Explorations.{IsNode}
+use Rattle.fix_core.specs.Listed.{key_at}
 
--- the number of each node of the location is in the list
+-- the number of each node with the key is in the list
 abbrev pub Lists : List ℕ → List Node → ℕ → Type 0
-Lists numbers nodes location = (j : ℕ) (n : Node) → IsNode nodes j n → n.head.location ≡ location → IsIn j numbers
+Lists numbers nodes key = (j : ℕ) (n : Node) → IsNode nodes j n → key_at n.head.location n.state.forest ≡ key
+    → IsIn j numbers
 
 -- a node of the location covers the forest
 pub record IsCovered (nodes : List Node) (location : ℕ) (F : Forest) : Type 0 where

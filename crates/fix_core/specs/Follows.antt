@@ -79,7 +79,7 @@ module _ (T : Boxes) where
   IsStateAt false k F e a = IsCarried F e a
 
   -- the edge leads from F to the state, which is one of a loop head or not; its forest is sound, canonical and reduced,
-  -- and has the graph's variables
+  -- and has the graph's variables, as the one before it was folded and abstracted has
   pub record Arrives (g : ControlGraph) (is_head : Bool) (k : ℕ) (F : Forest) (e : Edge) (a : AbstractState) :
       Type 0 where
     pub face : a.face ≡ T.face
@@ -88,3 +88,4 @@ module _ (T : Boxes) where
     pub canonical : IsCanonical T.face a.forest
     pub reduced : Reduced a.forest
     pub vars : HasItsVars g a.forest
+    pub middle_vars : (M : Forest) → a.middle ≡ Some M → HasItsVars g M

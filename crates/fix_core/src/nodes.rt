@@ -6,16 +6,20 @@ ghost use Rattle.fix_core.specs.declared.nodes.Node.{Node};
 ghost use Rattle.fore_base.specs.Lists.{IsIn};
 ghost use Rattle.fa_core.specs.Covering.{Covers};
 ghost use Rattle.fix_core.specs.Covered.{CoversAt, CoversOrNot, IsPlaced, Lists};
-ghost use Rattle.fix_core.specs.Listed.{AreListed, MoreListed, numbers_at};
+ghost use Rattle.fix_core.specs.Listed.{key_at};
 
-use crate::numbers::push_at;
 use crate::states::State;
 use fa_core::folds::FoldStep;
+use fa_core::forest::Forest;
 use fa_cover::covers;
+use fa_pool::indexes::{Index, add};
+use fa_pool::keys::mixed;
+use fa_pool::looks::with_looks;
 use fa_sound::Sound;
 use fore_base::list::List;
 use fore_base::memory::Mem;
 use std::alloc::Global;
+use std::collections::BTreeMap;
 use std::marker::Model;
 
 /// Where a node stands, and how it was reached: the number of its parent and that of the edge, with the edge's choice.
@@ -58,8 +62,8 @@ pub struct Due {
 #[derive(Drop)]
 pub struct Nodes {
     items: List<Node>,
-    // for each location the numbers of its nodes
-    there: List<List<u32>>,
+    // the number of each node, listed by the key of its location and of what its forest looks like
+    there: Index,
 }
 
 impl Model for Nodes {
@@ -139,7 +143,7 @@ impl Nodes {
     {
         Nodes {
             items: List::new(alloc),
-            there: List::new(alloc),
+            there: BTreeMap::new(alloc),
         }
     }
 
@@ -149,8 +153,8 @@ impl Nodes {
         ensures ok { OnOk result (self.new ≡ self.old ++ node ∷ []) }
         ensures err { OnErr result (self.new ≡ self.old) }
     {
-        let number = self.items.len() as u32;
-        add_number(alloc, &mut self.there, node.head.location, number)?;
+        let key = key_at(node.head.location, node.state.forest().forest());
+        add(alloc, &mut self.there, key, self.items.len())?;
         self.items.push(node)
     }
 
@@ -178,28 +182,29 @@ impl Nodes {
         Ok(Placed::Added)
     }
 
-    /// Whether a node of the location covers the forest of the state. Only the nodes of this location are looked at.
-    /// Err is want of memory.
+    /// Whether a node of the location covers the forest of the state. Only nodes of this location are looked at whose
+    /// targets, data and number of roots are those of the state. Err is want of memory.
     pub fn is_covered(&self, alloc: Global, location: u32, state: &State) -> Mem<bool>
         requires { (n : Node) → IsIn n self.now → n.state.face ≡ state.now.face }
         ensures { IfOk result (CoversOrNot self.now location state.now.forest) }
     {
-        match self.there.get(location as usize) {
+        let key = key_at(location, state.forest().forest());
+        match self.there.get(&key) {
             Some(numbers) => self.is_covered_in(alloc, numbers.as_slice(), location, state),
             None => Ok(false),
         }
     }
 
-    /// The same, where the numbers of the nodes of the location are among these.
+    /// The same, where the numbers of the nodes with the key of the state are among these.
     fn is_covered_in(
         &self,
         alloc: Global,
-        numbers: &[u32],
+        numbers: &[usize],
         location: u32,
         state: &State,
     ) -> Mem<bool>
         requires faces { (n : Node) → IsIn n self.now → n.state.face ≡ state.now.face }
-        requires numbers { Lists numbers.now self.now location }
+        requires numbers { Lists numbers.now self.now (key_at location state.now.forest) }
         ensures { IfOk result (CoversOrNot self.now location state.now.forest) }
     {
         for number in numbers {
@@ -211,11 +216,11 @@ impl Nodes {
     }
 
     /// Whether the node is there, stands at the location and covers the forest of the state. Err is want of memory.
-    fn covers_at(&self, alloc: Global, number: u32, location: u32, state: &State) -> Mem<bool>
+    fn covers_at(&self, alloc: Global, number: usize, location: u32, state: &State) -> Mem<bool>
         requires { (n : Node) → IsIn n self.now → n.state.face ≡ state.now.face }
         ensures { IfOk result (CoversAt self.now number location state.now.forest) }
     {
-        match self.items.get(number as usize) {
+        match self.items.get(number) {
             Some(node) if node.head.location == location => covers_state(alloc, node, state),
             _ => Ok(false),
         }
@@ -230,22 +235,15 @@ fn covers_state(alloc: Global, node: &Node, state: &State) -> Mem<bool>
     covers(alloc, node.state.forest(), state.forest())
 }
 
-/// Adds a number to the list of a place. Err is want of memory.
-fn add_number(alloc: Global, there: &mut List<List<u32>>, place: u32, number: u32) -> Mem<()>
-    ensures more { MoreListed there.old there.new }
-    ensures ok { OnOk result (IsIn number (numbers_at there.new place)) }
+/// The key of a location and of what a forest there looks like: its targets and data, and how many roots it has.
+fn key_at(location: u32, forest: &Forest) -> u64
+    ensures { result ≡ key_at location forest.now }
 {
-    reach(alloc, there, place as usize)?;
-    push_at(there, place as usize, number)
-}
-
-/// Adds empty lists until the list has this place. Err is want of memory.
-fn reach(alloc: Global, there: &mut List<List<u32>>, place: usize) -> Mem<()>
-    ensures more { MoreListed there.old there.new }
-    ensures ok { OnOk result (place < length there.new) }
-{
-    'room: while there.len() <= place {
-        there.push(List::new(alloc))?;
-    }
-    Ok(())
+    let key = mixed(0, location as u64);
+    with_looks(
+        key,
+        forest.vars.as_slice(),
+        forest.data_vars.as_slice(),
+        forest.autos.len(),
+    )
 }

@@ -1,3 +1,4 @@
 pub mod Growing
+pub mod Rounding
 pub mod Starting
 pub mod TakenUp

@@ -17,7 +17,7 @@ use Rattle.sym_step.specs.declared.posts.Bad.{Bad}
 use Rattle.fix_core.specs.declared.explored.AbsTrace.{AbsTrace}
 use Rattle.fix_core.specs.declared.explored.Explored.TheVariants.{Closed}
 use Rattle.fix_core.specs.declared.nodes.Node.{Node}
-use Rattle.fix_successors.specs.declared.posts.Made.{Made}
+use Rattle.fix_successors.specs.declared.images.EdgeImage.{EdgeImage}
 use Rattle.fix_engine.specs.declared.taking.Taken.{Taken}
 use Rattle.fix_engine.specs.declared.taking.Taken.TheVariants.{All, Fault, Full as Over}
 use Rattle.fix_core.specs.Explorations.{IsNode, IsEdge, is_head, IsChild, NoLater, IsHoused, IsCared, IsCalm}
@@ -25,12 +25,12 @@ use Rattle.fix_core.specs.Explorations.{EdgeDone, EarlierDone, Done, Exploration
 use Rattle.fix_core.specs.Follows.{IsMember, passed_by, Arrives}
 use Rattle.fix_core.specs.States.{AbstractState}
 use Rattle.fix_successors.specs.Arriving.{AreOfTwoCases}
-use Rattle.fix_successors.specs.Images.{IsTrueFault, IsKeptIn, AreSuccessors}
+use Rattle.fix_successors.specs.Images.{IsTrueFault, IsKeptIn, AreSuccessors, IsEdgeImage, IsImageAt, AreImages}
+use Rattle.fix_successors.specs.Images.{edge_numbers}
 use Rattle.fix_core.specs.Covered.{IsCovered, NoneCovers, IsPlaced}
 use Rattle.fix_core.specs.declared.nodes.Placed.{Placed}
 use Rattle.fix_core.specs.declared.nodes.Placed.TheVariants.{Covered, Added, Full as NoRoom}
 use Rattle.fix_successors.specs.Exits.{Rises}
-use Rattle.fix_successors.specs.Posting.{IsMade, IsMadeAt, AreMade, edge_numbers}
 use Rattle.fix_successors.specs.Ready.{IsNormal}
 use Rattle.fix_engine.specs.inner.Taking.{child, Grows, AreHoused, AreDue, IsMid, AreTaken, IsEdgeTaken, IsStage}
 use Rattle.fix_engine.specs.inner.Taking.{IsFront, IsFault, all_or_full, IsTakenEdge, IsTakenNode}
@@ -177,8 +177,8 @@ module _ (T : Boxes) (g : ControlGraph) (k : ℕ) where
 
   -- an edge
 
-  pub edge_fault : (nodes : List Node) (at : ℕ) (x : Made) (bad : Bad) → IsMid T g k nodes at x.edge []
-      → (m : IsMadeAt T g nodes at x) → IsTrueFault T g m.node.state.forest m.made.edge bad
+  pub edge_fault : (nodes : List Node) (at : ℕ) (x : EdgeImage) (bad : Bad) → IsMid T g k nodes at x.edge []
+      → (m : IsImageAt T g k nodes at x) → IsTrueFault T g m.node.state.forest m.made.edge bad
       → IsFault T g nodes at x.edge bad
   edge_fault nodes at x bad mid m f = record {
     node = m.node;
@@ -193,11 +193,11 @@ module _ (T : Boxes) (g : ControlGraph) (k : ℕ) where
   }
 
   -- no member of the node meets a fault on the edge
-  edge_calm : (nodes : List Node) (at : ℕ) (x : Made) (states : List AbstractState) (m : IsMadeAt T g nodes at x)
+  edge_calm : (nodes : List Node) (at : ℕ) (x : EdgeImage) (states : List AbstractState) (m : IsImageAt T g k nodes at x)
       → AreSuccessors T g k m.node.state.forest m.made.edge states → IsCalm T m.node m.made.edge
   edge_calm nodes at x states m arr = λ s kind st is. subst (IsKeptIn T g states) is (arr.kept s st)
 
-  pub edge_due : (nodes : List Node) (at : ℕ) (x : Made) (states : List AbstractState) (m : IsMadeAt T g nodes at x)
+  pub edge_due : (nodes : List Node) (at : ℕ) (x : EdgeImage) (states : List AbstractState) (m : IsImageAt T g k nodes at x)
       → AreSuccessors T g k m.node.state.forest m.made.edge states → AreDue T g k nodes at x.edge states
   edge_due nodes at x states m arr = record {
     parent = m.node;
@@ -219,8 +219,8 @@ module _ (T : Boxes) (g : ControlGraph) (k : ℕ) where
   cared_of ns to Halted states h housed = tt
   cared_of ns to NotPassed states h housed = tt
 
-  pub edge_taken : (nodes more : List Node) (at budget : ℕ) (x : Made) (states : List AbstractState)
-      (m : IsMadeAt T g nodes at x) → AreSuccessors T g k m.node.state.forest m.made.edge states
+  pub edge_taken : (nodes more : List Node) (at budget : ℕ) (x : EdgeImage) (states : List AbstractState)
+      (m : IsImageAt T g k nodes at x) → AreSuccessors T g k m.node.state.forest m.made.edge states
       → AreTaken T g k nodes at x.edge budget states more true → IsEdgeTaken T g k nodes more at x.edge
   edge_taken nodes more at budget x states m arr t = record {
     states = states;
@@ -235,8 +235,8 @@ module _ (T : Boxes) (g : ControlGraph) (k : ℕ) where
         subst (λ z. IsCared T g more z.to (passed_by T z s)) same one;
   }
 
-  pub edge_ended : (nodes later : List Node) (at budget : ℕ) (x : Made) (states : List AbstractState) (room : Bool)
-      (m : IsMadeAt T g nodes at x) → AreSuccessors T g k m.node.state.forest m.made.edge states
+  pub edge_ended : (nodes later : List Node) (at budget : ℕ) (x : EdgeImage) (states : List AbstractState) (room : Bool)
+      (m : IsImageAt T g k nodes at x) → AreSuccessors T g k m.node.state.forest m.made.edge states
       → AreTaken T g k nodes at x.edge budget states later room
       → IsTakenEdge T g k nodes at x.edge budget later (all_or_full room)
   edge_ended nodes later at budget x states true m arr t = (edge_taken nodes later at budget x states m arr t, t.2)
@@ -329,22 +329,23 @@ module _ (T : Boxes) (g : ControlGraph) (k : ℕ) where
       done_of j (inr same) = λ n is c e ie fr.
           elim (st.taken n c e (subst (λ z. IsNode nodes z n) same is) ie fr) [ inl none ↦ absurd none | inr d ↦ d ]
 
-  pub made_more : (nodes later : List Node) (at : ℕ) (x : Made) → Grows nodes later → IsMadeAt T g nodes at x
-      → IsMadeAt T g later at x
-  made_more nodes later at x gr m = record { node = m.node; is = gr at m.node m.is; made = m.made }
+  pub image_more : (nodes later : List Node) (at : ℕ) (x : EdgeImage) → Grows nodes later → IsImageAt T g k nodes at x
+      → IsImageAt T g k later at x
+  image_more nodes later at x gr m = record { node = m.node; is = gr at m.node m.is; made = m.made }
 
   -- the work list
 
-  pub made_at : (nodes : List Node) (at : ℕ) (n : Node) (made : List Made) → IsNode nodes at n
-      → AreMade T g n.head.location n.state.forest made → Every (IsMadeAt T g nodes at) made
-  made_at nodes at n made is all =
-      every_of (IsMadeAt T g nodes at) made
+  pub images_at : (nodes : List Node) (at : ℕ) (n : Node) (images : List EdgeImage) → IsNode nodes at n
+      → AreImages T g k n.head.location n.state.forest images → Every (IsImageAt T g k nodes at) images
+  images_at nodes at n images is all =
+      every_of (IsImageAt T g k nodes at) images
       (λ x h.
-      record { node = n; is = is; made = every_in (IsMade T g n.head.location n.state.forest) made x all.each h })
+      record { node = n; is = is; made = every_in (IsEdgeImage T g k n.head.location n.state.forest) images x all.each h })
 
-  pub front_stage : (nodes : List Node) (at budget : ℕ) (n : Node) (made : List Made) → IsFront T g k nodes at budget
-      → IsNode nodes at n → AreMade T g n.head.location n.state.forest made → IsStage T g k nodes at (edge_numbers made)
-  front_stage nodes at budget n made f is all = record {
+  pub front_stage : (nodes : List Node) (at budget : ℕ) (n : Node) (images : List EdgeImage)
+      → IsFront T g k nodes at budget → IsNode nodes at n → AreImages T g k n.head.location n.state.forest images
+      → IsStage T g k nodes at (edge_numbers images)
+  front_stage nodes at budget n images f is all = record {
     explored = f.explored;
     inside = slice_get_within nodes at n is;
     done = f.done;

@@ -1,4 +1,4 @@
-// The exploration: a work list of nodes, first in, first out.
+// The exploration: a work list of nodes, first in, first out, taken up in rounds.
 ghost use Rattle.std.specs.Prelude.{◌≡◌, ◌≤◌, [], IfOk};
 ghost use Rattle.fore_base.specs.Lists.{Every};
 ghost use Rattle.par_kit.specs.Crews.{IsJobs};
@@ -6,11 +6,12 @@ ghost use Rattle.c_cfg.specs.Ranges.{IsEdgeOf};
 ghost use Rattle.fix_core.specs.Explorations.{IsExplored};
 
 use crate::first::first_node;
-use crate::taking::{Taken, take_node};
+use crate::rounds::{round_of, take_round};
+use crate::taking::Taken;
 use c_cfg::graph::Graph;
 use fa_core::table::BoxTable;
 use fix_core::explored::Explored;
-use fix_successors::{Task, exits_of, posts_of};
+use fix_successors::{Task, exits_of};
 use fix_trace::trace_to;
 use fore_base::memory::Mem;
 use par_kit::crew::Crew;
@@ -20,7 +21,8 @@ use std::thread::Threads;
 
 /// Explores the graph from its entry. Nodes are taken up in order, the edges of a node by number, the faults of an edge
 /// before its successors. At a loop head a successor is abstracted to the height. A successor that a node of its
-/// location covers is dropped.
+/// location covers is dropped. In each round the crew makes what the edges make of the next nodes, at most one node for
+/// each job.
 ///
 /// It ends with the first fault; with a successor for which the budget of nodes has no room; or when every node is
 /// done. The height is 1 to 4, and the budget at least 1. Each number in the graph's edges is in range, and the graph's
@@ -48,33 +50,25 @@ pub fn explore<R: Threads + Sync, G: Gate>(
 {
     table.known();
     let exits = exits_of(alloc, graph)?;
-    let task = Task::new(
-        rt,
-        alloc,
-        graph,
-        table,
-        exits.as_slice(),
-        height,
-        budget,
-        crew,
-    );
-    work(&task)
+    let task = Task::new(rt, alloc, graph, table, exits.as_slice(), height, budget);
+    work(&task, crew)
 }
 
-/// The work list: the nodes from `at` on are to be taken up.
-fn work<R: Threads + Sync, G: Gate>(task: &Task<'_, '_, R, G>) -> Mem<Explored>
+/// The work list, in rounds: the nodes from `at` on are to be taken up.
+fn work<R: Threads + Sync, G: Gate>(task: &Task<'_, R>, crew: &Crew<'_, G>) -> Mem<Explored>
+    requires { IsJobs crew.now.jobs }
     ensures { IfOk result (IsExplored task.now.table task.now.graph task.now.height task.now.budget) }
 {
     task.known();
     let mut nodes = first_node(task.alloc(), task.graph(), task.table())?;
     let mut at = 0;
-    'nodes: while at < nodes.len() {
-        let due = nodes.due(task.alloc(), at)?;
-        let made = posts_of(task, &due)?;
-        match take_node(task, &mut nodes, at, made.as_slice())? {
-            Taken::All => at += 1,
+    'rounds: while at < nodes.len() {
+        let round = round_of(task, &nodes, at, crew)?;
+        let (here, how) = take_round(task, &mut nodes, at, round.as_slice())?;
+        match how {
+            Taken::All => at += round.len() as u32,
             Taken::Fault { edge, bad } => {
-                let trace = trace_to(task.alloc(), task.graph(), &nodes, at, edge, bad)?;
+                let trace = trace_to(task.alloc(), task.graph(), &nodes, here, edge, bad)?;
                 return Ok(Explored::Faulty { nodes, trace });
             }
             Taken::Full => return Ok(Explored::Spent { nodes }),

@@ -8,6 +8,7 @@
 
 pub mod exploring;
 mod first;
+mod rounds;
 mod taking;
 
 pub use exploring::explore;

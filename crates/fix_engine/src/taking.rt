@@ -1,8 +1,8 @@
-// The posts of a node, taken up: edge by edge, the faults of an edge before its cases, and each case as a node that no
-// node of its location covers.
+// The images of a node, taken up edge by edge: a fault, or states, each of which becomes a node unless a node of its
+// location covers it.
 ghost use Rattle.std.specs.Prelude.{◌≡◌, ◌≤◌, [], length, IfOk};
 ghost use Rattle.fore_base.specs.Lists.{Every};
-ghost use Rattle.fix_successors.specs.Posting.{IsMadeAt, edge_numbers};
+ghost use Rattle.fix_successors.specs.Images.{IsImageAt, edge_numbers};
 ghost use Rattle.fix_successors.specs.Exits.{Rises};
 ghost use Rattle.fix_core.specs.States.{AbstractState};
 ghost use Rattle.fix_engine.specs.inner.Taking.{AreDue, AreTaken, IsMid, IsStage, IsTakenEdge, IsTakenNode};
@@ -12,9 +12,8 @@ use c_cfg::graph::Edge;
 use fix_core::edges::edge_at;
 use fix_core::nodes::{NodeHead, Nodes, Placed};
 use fix_core::states::State;
-use fix_successors::{Image, Made, Task, image_of};
+use fix_successors::{EdgeImage, Image, Task, copy_bad};
 use fore_base::memory::Mem;
-use par_kit::gate::Gate;
 use std::thread::Threads;
 use sym_step::Bad;
 
@@ -29,22 +28,22 @@ pub enum Taken {
     Full,
 }
 
-/// Takes up the posts of a node, edge by edge. Err is want of memory.
-pub fn take_node<R: Threads + Sync, G: Gate>(
-    task: &Task<'_, '_, R, G>,
+/// Takes up the images of a node, edge by edge. Err is want of memory.
+pub fn take_node<R: Threads + Sync>(
+    task: &Task<'_, R>,
     nodes: &mut Nodes,
     at: u32,
-    made: &[Made],
+    images: &[EdgeImage],
 ) -> Mem<Taken>
-    requires stage { IsStage task.now.table task.now.graph task.now.height nodes.old at (edge_numbers made.now) }
-    requires rises { Rises (edge_numbers made.now) }
+    requires stage { IsStage task.now.table task.now.graph task.now.height nodes.old at (edge_numbers images.now) }
+    requires rises { Rises (edge_numbers images.now) }
     requires within { length nodes.old ≤ task.now.budget }
-    requires made { Every (IsMadeAt task.now.table task.now.graph nodes.old at) made.now }
+    requires images { Every (IsImageAt task.now.table task.now.graph task.now.height nodes.old at) images.now }
     ensures { IfOk result
         (IsTakenNode task.now.table task.now.graph task.now.height nodes.old at
         task.now.budget nodes.new) }
 {
-    for next in made {
+    for next in images {
         match take_edge(task, nodes, at, next)? {
             Taken::All => {}
             ended => return Ok(ended),
@@ -54,26 +53,29 @@ pub fn take_node<R: Threads + Sync, G: Gate>(
 }
 
 /// Takes up one edge: a fault first, else the states to which it leads. Err is want of memory.
-fn take_edge<R: Threads + Sync, G: Gate>(
-    task: &Task<'_, '_, R, G>,
+fn take_edge<R: Threads + Sync>(
+    task: &Task<'_, R>,
     nodes: &mut Nodes,
     at: u32,
-    made: &Made,
+    next: &EdgeImage,
 ) -> Mem<Taken>
-    requires mid { IsMid task.now.table task.now.graph task.now.height nodes.old at made.now.edge [] }
+    requires mid { IsMid task.now.table task.now.graph task.now.height nodes.old at next.now.edge [] }
     requires within { length nodes.old ≤ task.now.budget }
-    requires made { IsMadeAt task.now.table task.now.graph nodes.old at made.now }
+    requires image { IsImageAt task.now.table task.now.graph task.now.height nodes.old at next.now }
     ensures { IfOk result
-        (IsTakenEdge task.now.table task.now.graph task.now.height nodes.old at made.now.edge task.now.budget
+        (IsTakenEdge task.now.table task.now.graph task.now.height nodes.old at next.now.edge task.now.budget
         nodes.new) }
 {
-    match image_of(task, made)? {
-        Image::Fault { bad } => Ok(Taken::Fault {
-            edge: made.edge,
-            bad,
-        }),
+    match &next.image {
+        Image::Fault { bad } => {
+            let copy = copy_bad(task.alloc(), bad)?;
+            Ok(Taken::Fault {
+                edge: next.edge,
+                bad: copy,
+            })
+        }
         Image::States { states } => {
-            let room = take_states(task, nodes, at, made.edge, states.as_slice())?;
+            let room = take_states(task, nodes, at, next.edge, states.as_slice())?;
             Ok(all_or_full(room))
         }
     }
@@ -88,8 +90,8 @@ fn all_or_full(room: bool) -> Taken
 
 /// Takes up the states to which an edge leads: each becomes a node, unless a node of its location covers it. False
 /// where the budget has no room for one. Err is want of memory.
-fn take_states<R: Threads + Sync, G: Gate>(
-    task: &Task<'_, '_, R, G>,
+fn take_states<R: Threads + Sync>(
+    task: &Task<'_, R>,
     nodes: &mut Nodes,
     at: u32,
     number: u32,

@@ -131,6 +131,8 @@ module _ (T : Boxes) (g : ControlGraph) (k : ℕ) (F : Forest) (e : Edge) where
           canonical = ps.0.canonical;
           reduced = ps.0.reduced;
           vars = ps.0.vars;
+          middle_vars = λ N is. subst (HasItsVars g) (some_same M.forest N (sym ps.0.settles.middle ∙ is))
+              cs.0.normal.vars;
         },
         settled_each Ms as' head cs.1 ps.1,
       )
@@ -187,6 +189,9 @@ module _ (T : Boxes) (g : ControlGraph) (k : ℕ) (F : Forest) (e : Edge) where
 
   -- elsewhere
 
+  none_some : (o : Option Forest) (P : Forest) → o ≡ None → o ≡ Some P → ⊥
+  none_some o P n h = cc
+
   carried_each : (Ms : List SoundForest) (made : List AbstractState) → is_head g e.to ≡ false
       → Every (IsRawCase T g F e) Ms → AreCarried Ms made → Every (Arrives T g (is_head g e.to) k F e) made
   carried_each [] [] head cs ps = tt
@@ -205,11 +210,9 @@ module _ (T : Boxes) (g : ControlGraph) (k : ℕ) (F : Forest) (e : Edge) where
         canonical = n.canonical;
         reduced = n.reduced;
         vars = n.vars;
+        middle_vars = λ N is. absurd (none_some None N refl is);
       } in
       (subst (Arrives T g (is_head g e.to) k F e) (sym ps.0.is) one, carried_each Ms as' head cs.1 ps.1)
-
-  none_some : (o : Option Forest) (P : Forest) → o ≡ None → o ≡ Some P → ⊥
-  none_some o P n h = cc
 
   carried_apart : (Ms : List SoundForest) (made : List AbstractState) → is_head g e.to ≡ false
       → EachTwo (λ A B. Joinable T.face.boxes A B → ⊥) (forests Ms) → (is_quiet e.instr ≡ true → length Ms ≤ 1)

@@ -1,5 +1,5 @@
 -- What an edge makes of a node, from its post.
-use Rattle.std.proofs.Common.{◌≡◌, ℕ, List, [], ◌∷◌, slice_get, Some, refl, sym, ◌∙◌, subst, inl, inr}
+use Rattle.std.proofs.Common.{◌≡◌, ℕ, List, [], ◌∷◌, slice_get, Some, refl, subst, inl, inr}
 use Rattle.fore_base.specs.declared.store.Store.{Store}
 use Rattle.fore_base.specs.Lists.{Every}
 use Rattle.fa_core.specs.Boxes.{Boxes}
@@ -13,14 +13,13 @@ use Rattle.c_cfg.specs.declared.graph.Edge.{Edge}
 use Rattle.sym_core.specs.Cases.{BadAt, IsMet, IsTrueBad, StandsInOne}
 use Rattle.sym_step.specs.Posts.{bads}
 use Rattle.sym_step.specs.declared.posts.Bad.{Bad}
-use Rattle.fix_core.specs.Explorations.{IsEdge}
+use Rattle.sym_step.specs.declared.posts.Post.{Post}
 use Rattle.fix_core.specs.Follows.{IsMember, passed_by}
 use Rattle.fix_core.specs.States.{AbstractState}
-use Rattle.fix_core.proofs.Lists.{some_same, in_at, in_map, every_in}
-use Rattle.fix_successors.specs.declared.posts.Made.{Made}
+use Rattle.fix_core.proofs.Lists.{in_at, in_map, every_in}
 use Rattle.fix_successors.specs.Arriving.{AreCases, AreArrivals, IsHeld, IsRawCase, StandsInCase}
 use Rattle.fix_successors.specs.Images.{IsTrueFault, IsKeptIn, AreSuccessors}
-use Rattle.fix_successors.specs.Posting.{IsMade}
+use Rattle.fix_successors.specs.Posting.{IsPost}
 use Rattle.fix_successors.specs.Ready.{IsNormal}
 
 -- the fault, at its forest
@@ -29,24 +28,23 @@ at_forest b = record { fault = b.fault; at = b.at.forest }
 
 module _ (T : Boxes) (g : ControlGraph) where
   -- a fault of the post is met
-  pub true_fault : (location : ℕ) (F : Forest) (x : Made) (bad : Bad) (m : IsMade T g location F x)
-      → slice_get x.post.faults 0 ≡ Some bad → IsSound bad.at.face bad.at.forest → IsTrueFault T g F m.edge bad
-  true_fault location F x bad m h sound =
-      let listed = in_at x.post.faults 0 bad h in
-      let face = every_in (λ (b : Bad). b.at.face ≡ T.face) x.post.faults bad m.post.faces listed in
+  pub true_fault : (F : Forest) (e : Edge) (p : Post) (bad : Bad) → IsPost T g F e p
+      → slice_get p.faults 0 ≡ Some bad → IsSound bad.at.face bad.at.forest → IsTrueFault T g F e bad
+  true_fault F e p bad post h sound =
+      let listed = in_at p.faults 0 bad h in
+      let face = every_in (λ (b : Bad). b.at.face ≡ T.face) p.faults bad post.faces listed in
       record {
-        members = every_in (IsTrueBad T.face T.defs F m.edge) (bads x.post.faults) (at_forest bad) m.post.true_bads
-            (in_map at_forest x.post.faults bad listed);
+        members = every_in (IsTrueBad T.face T.defs F e) (bads p.faults) (at_forest bad) post.true_bads
+            (in_map at_forest p.faults bad listed);
         face = face;
         sound = subst (λ z. IsSound z bad.at.forest) face sound;
       }
 
   -- the cases of a post are normal
-  pub made_normal : (location : ℕ) (F : Forest) (x : Made) (m : IsMade T g location F x)
-      → Every (IsNormal T g) x.post.next
-  made_normal location F x m = normal x.post.next m.post.nexts.each
+  pub post_normal : (F : Forest) (e : Edge) (p : Post) → IsPost T g F e p → Every (IsNormal T g) p.next
+  post_normal F e p post = normal p.next post.nexts.each
     where
-      normal : (Ms : List SoundForest) → Every (IsRawCase T g F m.edge) Ms → Every (IsNormal T g) Ms
+      normal : (Ms : List SoundForest) → Every (IsRawCase T g F e) Ms → Every (IsNormal T g) Ms
       normal [] h = tt
       normal (M ∷ Ms) h = (h.0.normal, normal Ms h.1)
 
@@ -67,22 +65,14 @@ module _ (T : Boxes) (g : ControlGraph) where
   kept_of Halted s Ms bs states none met kept = tt
   kept_of NotPassed s Ms bs states none met kept = tt
 
-  module _ (k : ℕ) where
-    -- the states of the cases, where the post has no fault; e is the edge as the code has it
-    pub successors : (location : ℕ) (F : Forest) (x : Made) (e : Edge) (states : List AbstractState)
-        (m : IsMade T g location F x) → IsEdge g x.edge e → x.post.faults ≡ []
-        → ((G : Forest) → AreCases T g G e x.post.next → AreArrivals T g k G e x.post.next states)
-        → AreSuccessors T g k F m.edge states
-    successors location F x e states m ie none f = record {
-      each = arrived.each;
-      apart = arrived.apart;
-      kept = λ s st.
-          kept_of (passed_by T m.edge s) s x.post.next x.post.faults states none (m.post.all s st) arrived.kept;
-    }
-      where
-        same : e ≡ m.edge
-        same = some_same e m.edge (sym ie ∙ m.is)
-
-        arrived : AreArrivals T g k F m.edge x.post.next states
-        arrived = subst (λ z. AreArrivals T g k F z x.post.next states) same
-            (f F (subst (λ z. AreCases T g F z x.post.next) (sym same) m.post.nexts))
+  -- the states of the cases, where the post has no fault
+  pub successors : (k : ℕ) (F : Forest) (e : Edge) (p : Post) (states : List AbstractState) → IsPost T g F e p
+      → p.faults ≡ [] → (AreCases T g F e p.next → AreArrivals T g k F e p.next states)
+      → AreSuccessors T g k F e states
+  successors k F e p states post none f =
+      let arrived = f post.nexts in
+      record {
+        each = arrived.each;
+        apart = arrived.apart;
+        kept = λ s st. kept_of (passed_by T e s) s p.next p.faults states none (post.all s st) arrived.kept;
+      }

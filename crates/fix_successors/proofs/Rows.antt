@@ -8,11 +8,10 @@ use Rattle.c_cfg.specs.Edges.{Passed, Faulted, Halted, NotPassed}
 use Rattle.c_cfg.specs.Graphs.{ControlGraph}
 use Rattle.fix_core.specs.Follows.{IsMember}
 use Rattle.fix_core.specs.States.{AbstractState}
-use Rattle.fix_successors.specs.declared.posts.Made.{Made}
+use Rattle.fix_successors.specs.declared.images.EdgeImage.{EdgeImage}
 use Rattle.fix_successors.specs.Arriving.{EachTwo, carried}
 use Rattle.fix_successors.specs.Exits.{Rises}
-use Rattle.fix_successors.specs.Images.{IsKeptIn}
-use Rattle.fix_successors.specs.Posting.{edge_numbers}
+use Rattle.fix_successors.specs.Images.{IsKeptIn, edge_numbers}
 
 -- each number and each later one
 each_two : EachTwo {X = ℕ} (λ a b. a < b) (1 ∷ 2 ∷ 4 ∷ [])
@@ -27,7 +26,7 @@ rises = ((omega arith, (omega arith, tt)), ((omega arith, tt), (tt, tt)))
 does_not_rise : Rises (3 ∷ 3 ∷ []) → ⊥
 does_not_rise h = omega (arith, h.0.0)
 
-numbers : (x y : Made) → x.edge ≡ 4 → y.edge ≡ 7 → edge_numbers (x ∷ y ∷ []) ≡ 4 ∷ 7 ∷ []
+numbers : (x y : EdgeImage) → x.edge ≡ 4 → y.edge ≡ 7 → edge_numbers (x ∷ y ∷ []) ≡ 4 ∷ 7 ∷ []
 numbers x y e f = rw (e, f) refl
 
 carried_as_it_is : (M : SoundForest)

@@ -1,7 +1,7 @@
--- What an edge makes of a node.
-use Rattle.std.specs.Prelude.{◌≡◌, ℕ, List}
+-- What the edges of its location make of a node.
+use Rattle.std.specs.Prelude.{◌≡◌, ℕ, List, map}
 use Rattle.fore_base.specs.declared.store.Store.{Store}
-use Rattle.fore_base.specs.Lists.{Every}
+use Rattle.fore_base.specs.Lists.{IsIn, Every}
 use Rattle.fa_core.specs.Boxes.{Boxes}
 use Rattle.fa_core.specs.Filled.{IsSound}
 use Rattle.fa_core.specs.declared.forest.Forest.{Forest}
@@ -9,22 +9,21 @@ use Rattle.c_cfg.specs.Edges.{Pass, Passed, Faulted, Halted, NotPassed}
 use Rattle.c_cfg.specs.Graphs.{ControlGraph}
 use Rattle.c_cfg.specs.declared.graph.Edge.{Edge}
 use Rattle.sym_step.specs.declared.posts.Bad.{Bad}
-use Rattle.fix_core.specs.Explorations.{is_head}
+use Rattle.fix_core.specs.Explorations.{is_head, IsEdge, IsNode}
 use Rattle.fix_core.specs.Follows.{IsMember, passed_by, Arrives}
 use Rattle.fix_core.specs.States.{AbstractState}
+use Rattle.fix_core.specs.declared.nodes.Node.{Node}
+use Rattle.fix_successors.specs.declared.images.EdgeImage.{EdgeImage}
 use Rattle.fix_successors.specs.declared.images.Image.{Image}
 use Rattle.fix_successors.specs.declared.images.Image.TheVariants.{Fault, States}
-use Rattle.fix_successors.specs.declared.posts.Made.{Made}
 use Rattle.fix_successors.specs.Arriving.{EachTwo, AreOfTwoCases, IsHeld}
-use Rattle.fix_successors.specs.Posting.{IsMade}
+use Rattle.fix_successors.specs.Exits.{Rises}
+
+-- the numbers of the edges
+abbrev pub edge_numbers : List EdgeImage → List ℕ
+edge_numbers images = map (λ x. x.edge) images
 
 module _ (T : Boxes) (g : ControlGraph) where
-  -- it is the post of an edge from some forest at some location
-  pub record HasSource (x : Made) : Type 0 where
-    pub location : ℕ
-    pub forest : Forest
-    pub made : IsMade T g location forest x
-
   -- each member of the bad forest is one of F and meets its fault on the edge
   pub record IsTrueFault (F : Forest) (e : Edge) (bad : Bad) : Type 0 where
     pub members : (s : Store) → IsMember T bad.at.forest s → IsMember T F s × (passed_by T e s ≡ Faulted bad.fault)
@@ -49,3 +48,22 @@ module _ (T : Boxes) (g : ControlGraph) where
   abbrev pub IsImage : ℕ → Forest → Edge → Image → Type 0
   IsImage k F e (Fault bad) = IsTrueFault F e bad
   IsImage k F e (States states) = AreSuccessors k F e states
+
+  -- what an edge of the location makes of F, under the edge's number
+  pub record IsEdgeImage (k location : ℕ) (F : Forest) (x : EdgeImage) : Type 0 where
+    pub edge : Edge
+    pub is : IsEdge g x.edge edge
+    pub from : edge.from ≡ location
+    pub image : IsImage k F edge x.image
+
+  -- what each edge of the location makes of F, by number
+  pub record AreImages (k location : ℕ) (F : Forest) (images : List EdgeImage) : Type 0 where
+    pub each : Every (IsEdgeImage k location F) images
+    pub rises : Rises (edge_numbers images)
+    pub all : (c : ℕ) (e : Edge) → IsEdge g c e → e.from ≡ location → IsIn c (edge_numbers images)
+
+  -- what an edge makes of node `at`
+  pub record IsImageAt (k : ℕ) (nodes : List Node) (at : ℕ) (x : EdgeImage) : Type 0 where
+    pub node : Node
+    pub is : IsNode nodes at node
+    pub made : IsEdgeImage k node.head.location node.state.forest x

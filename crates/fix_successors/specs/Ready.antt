@@ -1,7 +1,6 @@
 -- What an exploration is asked to do, and what holds of its forests.
 use Rattle.std.specs.Prelude.{◌≡◌, ◌≤◌, ◌<◌, ℕ, List, [], length}
 use Rattle.fore_base.specs.Lists.{Every}
-use Rattle.par_kit.specs.Crews.{IsJobs}
 use Rattle.fa_core.specs.Boxes.{Boxes}
 use Rattle.fa_core.specs.Canonical.{IsCanonical}
 use Rattle.fa_core.specs.Covering.{Reduced}
@@ -11,18 +10,16 @@ use Rattle.c_cfg.specs.Ranges.{IsEdgeOf}
 use Rattle.fix_core.specs.Follows.{HasItsVars}
 use Rattle.fix_successors.specs.Exits.{AreExits}
 
--- a graph and a table, the height, the budget and the jobs; and the numbers of the edges of each location
+-- a graph and a table, the height and the budget; and the numbers of the edges of each location
 pub record Job : Type 0 where
   pub table : Boxes
   pub graph : ControlGraph
   pub height : ℕ
   pub budget : ℕ
-  pub jobs : ℕ
   pub exits : List (List ℕ)
 
 -- the conditions of an exploration
 pub record IsReady (j : Job) : Type 0 where
-  pub jobs : IsJobs j.jobs
   pub height : 1 ≤ j.height
   pub budget : 1 ≤ j.budget
   pub entry : 0 < j.graph.locations

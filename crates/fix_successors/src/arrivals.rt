@@ -14,13 +14,14 @@ use fa_sound::Sound;
 use fix_core::states::State;
 use fore_base::list::List;
 use fore_base::memory::Mem;
-use par_kit::gate::Gate;
+use par_kit::crew::Crew;
+use par_kit::gate::NoGate;
 use std::alloc::Global;
 use std::thread::Threads;
 
 /// What the cases of an edge become at the location at which it ends. Err is want of memory.
-pub fn arrivals_of<R: Threads + Sync, G: Gate>(
-    task: &Task<'_, '_, R, G>,
+pub fn arrivals_of<R: Threads + Sync>(
+    task: &Task<'_, R>,
     edge: &Edge,
     cases: &[Sound],
 ) -> Mem<List<State>>
@@ -37,10 +38,7 @@ pub fn arrivals_of<R: Threads + Sync, G: Gate>(
 }
 
 /// The cases, each folded and abstracted.
-fn settle_all<R: Threads + Sync, G: Gate>(
-    task: &Task<'_, '_, R, G>,
-    cases: &[Sound],
-) -> Mem<List<State>>
+fn settle_all<R: Threads + Sync>(task: &Task<'_, R>, cases: &[Sound]) -> Mem<List<State>>
     requires normal { Every (IsNormal task.now.table task.now.graph) cases.now }
     ensures { IfOk result (AreSettled task.now.table task.now.graph task.now.height cases.now) }
 {
@@ -53,14 +51,18 @@ fn settle_all<R: Threads + Sync, G: Gate>(
 }
 
 /// A case, folded and abstracted. There are no boxes: no fold is due, and the case is its own canonical form.
-fn settle<R: Threads + Sync, G: Gate>(task: &Task<'_, '_, R, G>, middle: &Sound) -> Mem<State>
+fn settle<R: Threads + Sync>(task: &Task<'_, R>, middle: &Sound) -> Mem<State>
     requires normal { IsNormal task.now.table task.now.graph middle.now }
     ensures { IfOk result (IsSettling task.now.table task.now.graph task.now.height middle.now) }
 {
     task.known();
     middle.known();
     has_no_boxes(middle);
-    let forest = abstracted(task.rt(), task.alloc(), middle, task.height(), task.crew())?;
+    let alone = Crew {
+        jobs: 1,
+        gate: &NoGate,
+    };
+    let forest = abstracted(task.rt(), task.alloc(), middle, task.height(), &alone)?;
     forest.known();
     let middle = middle.copy(task.alloc())?;
     Ok(State::settled(forest, middle, List::new(task.alloc())))

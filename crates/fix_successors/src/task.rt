@@ -1,7 +1,6 @@
 // What stays the same while an exploration goes on.
 ghost use Rattle.std.specs.Prelude.{◌≡◌, ◌≤◌, [], length};
 ghost use Rattle.fore_base.specs.Lists.{Every};
-ghost use Rattle.par_kit.specs.Crews.{IsJobs};
 ghost use Rattle.c_cfg.specs.Ranges.{IsEdgeOf};
 ghost use Rattle.fix_successors.specs.Exits.{AreExits};
 ghost use Rattle.fix_successors.specs.Ready.{IsReady};
@@ -9,15 +8,13 @@ ghost use Rattle.fix_successors.specs.Ready.{IsReady};
 use c_cfg::graph::Graph;
 use fa_core::table::BoxTable;
 use fore_base::list::List;
-use par_kit::crew::Crew;
-use par_kit::gate::Gate;
 use std::alloc::Global;
 use std::marker::Model;
 use std::thread::Threads;
 
 /// What an exploration is asked to do. It keeps the conditions of `explore`.
 #[derive(Drop)]
-pub struct Task<'a, 'g, R: Threads + Sync, G: Gate> {
+pub struct Task<'a, R: Threads + Sync> {
     rt: &'a R,
     alloc: Global,
     graph: &'a Graph,
@@ -26,10 +23,9 @@ pub struct Task<'a, 'g, R: Threads + Sync, G: Gate> {
     exits: &'a [List<u32>],
     height: u32,
     budget: u32,
-    crew: &'a Crew<'g, G>,
 }
 
-impl<'a, 'g, R: Threads + Sync, G: Gate> Model for Task<'a, 'g, R, G> {
+impl<'a, R: Threads + Sync> Model for Task<'a, R> {
     ghost use Rattle.fix_successors.specs.Ready.{Job, IsReady};
 
     ghost Value = { Job };
@@ -40,7 +36,6 @@ impl<'a, 'g, R: Threads + Sync, G: Gate> Model for Task<'a, 'g, R, G> {
           graph = t.graph.now;
           height = t.height;
           budget = t.budget;
-          jobs = t.crew.now.jobs;
           exits = t.exits.now;
         } };
 
@@ -51,12 +46,11 @@ impl<'a, 'g, R: Threads + Sync, G: Gate> Model for Task<'a, 'g, R, G> {
           graph = t.graph.now;
           height = t.height;
           budget = t.budget;
-          jobs = t.crew.now.jobs;
           exits = t.exits.now;
         }) };
 }
 
-impl<'a, 'g, R: Threads + Sync, G: Gate> Task<'a, 'g, R, G> {
+impl<'a, R: Threads + Sync> Task<'a, R> {
     pub fn new(
         rt: &'a R,
         alloc: Global,
@@ -65,15 +59,13 @@ impl<'a, 'g, R: Threads + Sync, G: Gate> Task<'a, 'g, R, G> {
         exits: &'a [List<u32>],
         height: u32,
         budget: u32,
-        crew: &'a Crew<'g, G>,
-    ) -> Task<'a, 'g, R, G>
+    ) -> Task<'a, R>
         requires { IsReady
             (record {
               table = table.now;
               graph = graph.now;
               height = height;
               budget = budget;
-              jobs = crew.now.jobs;
               exits = exits.now;
             }) }
         ensures { result
@@ -82,7 +74,6 @@ impl<'a, 'g, R: Threads + Sync, G: Gate> Task<'a, 'g, R, G> {
               graph = graph.now;
               height = height;
               budget = budget;
-              jobs = crew.now.jobs;
               exits = exits.now;
             } }
     {
@@ -94,7 +85,6 @@ impl<'a, 'g, R: Threads + Sync, G: Gate> Task<'a, 'g, R, G> {
             exits,
             height,
             budget,
-            crew,
         }
     }
 
@@ -135,12 +125,6 @@ impl<'a, 'g, R: Threads + Sync, G: Gate> Task<'a, 'g, R, G> {
         ensures { result ≡ self.now.budget }
     {
         self.budget
-    }
-
-    pub fn crew(&self) -> &Crew<'g, G>
-        ensures { result.now.jobs ≡ self.now.jobs }
-    {
-        self.crew
     }
 
     /// Does nothing, and says what the task keeps.

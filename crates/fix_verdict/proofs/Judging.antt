@@ -7,7 +7,7 @@ use Rattle.fore_base.specs.declared.fault.Fault.{Fault as Kind}
 use Rattle.fore_base.specs.declared.shape.Shapes.{Shapes}
 use Rattle.fore_base.specs.declared.store.Store.{Store}
 use Rattle.fore_base.specs.Lists.{IsIn, Every}
-use Rattle.c_types.specs.declared.mode.MallocMode.TheVariants.{Always}
+use Rattle.c_types.specs.declared.mode.MallocMode.{MallocMode}
 use Rattle.c_types.specs.declared.outcome.Outcome.{Outcome}
 use Rattle.c_types.specs.declared.outcome.Outcome.TheVariants.{Ended, Fault, Starved, BadChoice, StillRunning}
 use Rattle.c_types.specs.Program.{Program}
@@ -72,16 +72,17 @@ runs_go_by T g same by_edge =
     λ location e s i. subst (λ (z : Shapes). GoesBy z.structs (out_of g.edges location) e s) same
     (by_edge location e s i)
 
-module _ (T : Boxes) (p : Program) (g : ControlGraph) (agrees : Agrees p g) (shapes : g.shapes ≡ T.face.shapes) where
-  pub never_faults : (nodes : List Node) → IsClosed T g nodes → (cs : List ℕ) (n : ℕ) → IsFault (run p Always cs n) → ⊥
+module _ (T : Boxes) (p : Program) (m : MallocMode) (g : ControlGraph) (agrees : Agrees p m g)
+    (shapes : g.shapes ≡ T.face.shapes) where
+  pub never_faults : (nodes : List Node) → IsClosed T g nodes → (cs : List ℕ) (n : ℕ) → IsFault (run p m cs n) → ⊥
   never_faults nodes closed cs n h =
-      let f = parts (run p Always cs n) h in
-      let m = (agrees.faults cs f.kind f.line).there n (f.step, f.is) in
-      runs_safe T g nodes closed shapes cs m.0 (is_fault (grun g cs m.0) f.kind f.line m.1.0 m.1.1)
+      let f = parts (run p m cs n) h in
+      let at = (agrees.faults cs f.kind f.line).there n (f.step, f.is) in
+      runs_safe T g nodes closed shapes cs at.0 (is_fault (grun g cs at.0) f.kind f.line at.1.0 at.1.1)
 
   module _ (k : ℕ) where
     pub safe_means : (budget : ℕ) (nodes : List Node) → IsExplored T g k budget (Closed nodes)
-        → SafeMeans T p g k budget nodes
+        → SafeMeans T p m g k budget nodes
     safe_means budget nodes x = record { never = never_faults nodes x.1; explored = x.0; closed = x.1; within = x.2 }
 
     -- the graph's run on the choices of an exact trace
@@ -98,13 +99,13 @@ module _ (T : Boxes) (p : Program) (g : ControlGraph) (agrees : Agrees p g) (sha
     -- the program's run on the choices of an exact trace meets a fault within its steps
     exact_faults : (nodes : List Node) (tr : AbsTrace) (s : Store) → RunsGoBy T g → Exploration T g k nodes
         → AbstractTrace T g nodes tr → IsMember T tr.last.forest s → AreExact T nodes tr.nodes
-        → IsFaultAt tr.fault tr.line (run p Always tr.choices tr.steps)
+        → IsFaultAt tr.fault tr.line (run p m tr.choices tr.steps)
     exact_faults nodes tr s by_edge x a member exact =
         let f = graph_faults nodes tr s by_edge x a member exact in
         let n = (agrees.faults tr.choices tr.fault tr.line).back tr.steps (tr.steps, f) in (
           n.2.0,
-          run_stays_over p Always tr.choices n.0 tr.steps n.1
-              (is_over (run p Always tr.choices n.0) tr.fault tr.line n.2.0 n.2.1) ∙ n.2.1,
+          run_stays_over p m tr.choices n.0 tr.steps n.1
+              (is_over (run p m tr.choices n.0) tr.fault tr.line n.2.0 n.2.1) ∙ n.2.1,
         )
 
     -- What is known of a trace that was found, and of the run that replays it for this many steps.
@@ -112,25 +113,25 @@ module _ (T : Boxes) (p : Program) (g : ControlGraph) (agrees : Agrees p g) (sha
         (fit : Every (IsEdgeOf g) g.edges) (steps : ℕ)
         (trace_steps : tr.steps ≤ steps) (more_steps : REPLAY_STEPS ≤ steps)
         (x : IsExplored T g k budget (Faulty nodes tr)) where
-      trace_of : TraceOf T p g k budget nodes tr
+      trace_of : TraceOf T p m g k budget nodes tr
       trace_of =
           record { explored = x.0; trace = x.1; within = x.2; choices = trace_choices T g k nodes tr fit x.0 x.1 }
 
-      no_fault : (IsFault (run p Always tr.choices steps) → ⊥) → (n : ℕ) → (n ≤ REPLAY_STEPS) ⊎ (n ≤ tr.steps)
-          → IsFault (run p Always tr.choices n) → ⊥
+      no_fault : (IsFault (run p m tr.choices steps) → ⊥) → (n : ℕ) → (n ≤ REPLAY_STEPS) ⊎ (n ≤ tr.steps)
+          → IsFault (run p m tr.choices n) → ⊥
       no_fault none n within fault =
           let less : n ≤ steps = elim within [
             | inl few ↦ omega (arith, few, more_steps)
             | inr few ↦ omega (arith, few, trace_steps)
           ] in
-          let f = parts (run p Always tr.choices n) fault in
-          let same : run p Always tr.choices steps ≡ run p Always tr.choices n =
-          run_stays_over p Always tr.choices n steps less
-          (is_over (run p Always tr.choices n) f.kind f.line f.step f.is) in
-          none (is_fault (run p Always tr.choices steps) f.kind f.line f.step (same ∙ f.is))
+          let f = parts (run p m tr.choices n) fault in
+          let same : run p m tr.choices steps ≡ run p m tr.choices n =
+          run_stays_over p m tr.choices n steps less
+          (is_over (run p m tr.choices n) f.kind f.line f.step f.is) in
+          none (is_fault (run p m tr.choices steps) f.kind f.line f.step (same ∙ f.is))
 
-      trace_means : (s : Store) → (IsFault (run p Always tr.choices steps) → ⊥) → IsMember T tr.last.forest s
-          → TraceMeans T p g k budget nodes tr s
+      trace_means : (s : Store) → (IsFault (run p m tr.choices steps) → ⊥) → IsMember T tr.last.forest s
+          → TraceMeans T p m g k budget nodes tr s
       trace_means s none member = record {
         of = trace_of;
         no_fault = no_fault none;
@@ -138,19 +139,19 @@ module _ (T : Boxes) (p : Program) (g : ControlGraph) (agrees : Agrees p g) (sha
         loose = λ exact.
             let f = exact_faults nodes tr s by_edge x.0 x.1 member exact in
             no_fault none tr.steps (inr (omega arith))
-            (is_fault (run p Always tr.choices tr.steps) tr.fault tr.line f.0 f.1);
+            (is_fault (run p m tr.choices tr.steps) tr.fault tr.line f.0 f.1);
       }
 
       -- what the replay of a trace says is the verdict
-      replayed : (v : Verdict) → IsReplayed T p tr steps v → IsVerdict T p g k budget (Faulty nodes tr) v
+      replayed : (v : Verdict) → IsReplayed T p m tr steps v → IsVerdict T p m g k budget (Faulty nodes tr) v
       replayed Safe r = r
       replayed (Unsafe kind line step) r =
-          record { of = trace_of; meets = (run_met_at p Always tr.choices steps kind line step r).1 }
+          record { of = trace_of; meets = (run_met_at p m tr.choices steps kind line step r).1 }
       replayed FullBudget r = r
       replayed (LooseTrace sample) r = trace_means sample r.0 r.1
 
       -- without loop heads it is never loose
-      never_loose : (v : Verdict) → ((location : ℕ) → is_head g location ≡ false) → IsReplayed T p tr steps v
+      never_loose : (v : Verdict) → ((location : ℕ) → is_head g location ≡ false) → IsReplayed T p m tr steps v
           → IsNeverLoose v
       never_loose Safe no_head r = tt
       never_loose (Unsafe kind line step) no_head r = tt
@@ -158,13 +159,13 @@ module _ (T : Boxes) (p : Program) (g : ControlGraph) (agrees : Agrees p g) (sha
       never_loose (LooseTrace sample) no_head r =
           (trace_means sample r.0 r.1).loose (all_exact T g k nodes by_edge x.0 no_head tr.nodes)
 
-      pub if_replayed : {E : Type 0} (r : Result Verdict E) → IfOk r (IsReplayed T p tr steps)
-          → IfOk r (IsVerdict T p g k budget (Faulty nodes tr))
+      pub if_replayed : {E : Type 0} (r : Result Verdict E) → IfOk r (IsReplayed T p m tr steps)
+          → IfOk r (IsVerdict T p m g k budget (Faulty nodes tr))
       if_replayed (Ok v) h = replayed v h
       if_replayed (Err e) h = tt
 
       pub if_never_loose : {E : Type 0} (r : Result Verdict E) → ((location : ℕ) → is_head g location ≡ false)
-          → IfOk r (IsReplayed T p tr steps) → IfOk r IsNeverLoose
+          → IfOk r (IsReplayed T p m tr steps) → IfOk r IsNeverLoose
       if_never_loose (Ok v) no_head h = never_loose v no_head h
       if_never_loose (Err e) no_head h = tt
 

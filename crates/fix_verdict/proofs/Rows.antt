@@ -4,7 +4,7 @@ use Rattle.std.proofs.lemmas.Option.{none-some, same_Some}
 use Rattle.fore_base.specs.declared.fault.Fault.TheVariants.{Leak}
 use Rattle.fore_base.specs.declared.store.Store.{Store}
 use Rattle.fore_base.specs.Lists.{Every}
-use Rattle.c_types.specs.declared.mode.MallocMode.TheVariants.{Always}
+use Rattle.c_types.specs.declared.mode.MallocMode.{MallocMode}
 use Rattle.c_types.specs.Over.{IsFault}
 use Rattle.c_types.specs.Program.{Program}
 use Rattle.c_types.specs.Runs.{run}
@@ -41,61 +41,63 @@ module _ (T : Boxes) where
 
 -- Verdicts: each end has its own, and a trace has two
 
-module _ (T : Boxes) (p : Program) (k budget : ℕ) (tr : AbsTrace) (s : Store) where
-  closed_is_not_unsafe : IsVerdict T p graph k budget (Closed nodes) (Unsafe Leak 1 1) → ⊥
+module _ (T : Boxes) (p : Program) (m : MallocMode) (k budget : ℕ) (tr : AbsTrace) (s : Store) where
+  closed_is_not_unsafe : IsVerdict T p m graph k budget (Closed nodes) (Unsafe Leak 1 1) → ⊥
   closed_is_not_unsafe h = h
 
-  closed_is_not_spent : IsVerdict T p graph k budget (Closed nodes) FullBudget → ⊥
+  closed_is_not_spent : IsVerdict T p m graph k budget (Closed nodes) FullBudget → ⊥
   closed_is_not_spent h = h
 
-  closed_is_not_loose : IsVerdict T p graph k budget (Closed nodes) (LooseTrace s) → ⊥
+  closed_is_not_loose : IsVerdict T p m graph k budget (Closed nodes) (LooseTrace s) → ⊥
   closed_is_not_loose h = h
 
-  faulty_is_not_safe : IsVerdict T p graph k budget (Faulty nodes tr) Safe → ⊥
+  faulty_is_not_safe : IsVerdict T p m graph k budget (Faulty nodes tr) Safe → ⊥
   faulty_is_not_safe h = h
 
-  faulty_is_not_spent : IsVerdict T p graph k budget (Faulty nodes tr) FullBudget → ⊥
+  faulty_is_not_spent : IsVerdict T p m graph k budget (Faulty nodes tr) FullBudget → ⊥
   faulty_is_not_spent h = h
 
   -- the fault is that of the program's run on the trace's choices, in the line and step that are told
-  unsafe_by_the_run : TraceOf T p graph k budget nodes tr → run p Always tr.choices 2 ≡ Fault Leak 7 2
-      → IsVerdict T p graph k budget (Faulty nodes tr) (Unsafe Leak 7 2)
+  unsafe_by_the_run : TraceOf T p m graph k budget nodes tr → run p m tr.choices 2 ≡ Fault Leak 7 2
+      → IsVerdict T p m graph k budget (Faulty nodes tr) (Unsafe Leak 7 2)
   unsafe_by_the_run of e = record { of = of; meets = e }
 
-  unsafe_in_another_line : run p Always tr.choices 2 ≡ Fault Leak 7 2
-      → IsVerdict T p graph k budget (Faulty nodes tr) (Unsafe Leak 8 2) → ⊥
+  unsafe_in_another_line : run p m tr.choices 2 ≡ Fault Leak 7 2
+      → IsVerdict T p m graph k budget (Faulty nodes tr) (Unsafe Leak 8 2) → ⊥
   unsafe_in_another_line e h = let lines : (a b : ℕ) → Fault Leak a 2 ≡ Fault Leak b 2 → a ≡ b = λ a b f. cc in
       omega (arith, lines 7 8 (sym e ∙ h.meets))
 
-  unsafe_past_the_step : run p Always tr.choices 3 ≡ StillRunning
-      → IsVerdict T p graph k budget (Faulty nodes tr) (Unsafe Leak 7 3) → ⊥
+  unsafe_past_the_step : run p m tr.choices 3 ≡ StillRunning
+      → IsVerdict T p m graph k budget (Faulty nodes tr) (Unsafe Leak 7 3) → ⊥
   unsafe_past_the_step e h = let met = h.meets in cc
 
   -- no trace of more nodes than the budget
-  unsafe_above_the_budget : budget < length nodes → IsVerdict T p graph k budget (Faulty nodes tr) (Unsafe Leak 7 2) → ⊥
+  unsafe_above_the_budget : budget < length nodes
+      → IsVerdict T p m graph k budget (Faulty nodes tr) (Unsafe Leak 7 2) → ⊥
   unsafe_above_the_budget less h = omega (arith, less, h.of.within)
 
   -- a choice that is neither 0 nor 1
-  unsafe_on_another_choice : tr.choices ≡ 2 ∷ [] → IsVerdict T p graph k budget (Faulty nodes tr) (Unsafe Leak 7 2) → ⊥
+  unsafe_on_another_choice : tr.choices ≡ 2 ∷ []
+      → IsVerdict T p m graph k budget (Faulty nodes tr) (Unsafe Leak 7 2) → ⊥
   unsafe_on_another_choice e h = omega (arith, (subst (Every (λ x. x < 2)) e h.of.choices).0)
 
   -- the run may meet its fault after the trace's last step, at the last step that is replayed; one step later it is not
   -- looked for
-  loose_to_the_last_step : run p Always tr.choices 1000000 ≡ Fault Leak 7 1000000
-      → IsVerdict T p graph k budget (Faulty nodes tr) (LooseTrace s) → ⊥
+  loose_to_the_last_step : run p m tr.choices 1000000 ≡ Fault Leak 7 1000000
+      → IsVerdict T p m graph k budget (Faulty nodes tr) (LooseTrace s) → ⊥
   loose_to_the_last_step e h = h.no_fault 1000000 (inl (omega arith)) (subst IsFault (sym e) tt)
 
-  loose_in_its_steps : tr.steps ≡ 3 → run p Always tr.choices 3 ≡ Fault Leak 7 2
-      → IsVerdict T p graph k budget (Faulty nodes tr) (LooseTrace s) → ⊥
+  loose_in_its_steps : tr.steps ≡ 3 → run p m tr.choices 3 ≡ Fault Leak 7 2
+      → IsVerdict T p m graph k budget (Faulty nodes tr) (LooseTrace s) → ⊥
   loose_in_its_steps steps e h = h.no_fault 3 (inr (omega (arith, steps))) (subst IsFault (sym e) tt)
 
-  spent_is_not_safe : IsVerdict T p graph k budget (Spent nodes) Safe → ⊥
+  spent_is_not_safe : IsVerdict T p m graph k budget (Spent nodes) Safe → ⊥
   spent_is_not_safe h = h
 
-  spent_is_not_unsafe : IsVerdict T p graph k budget (Spent nodes) (Unsafe Leak 1 1) → ⊥
+  spent_is_not_unsafe : IsVerdict T p m graph k budget (Spent nodes) (Unsafe Leak 1 1) → ⊥
   spent_is_not_unsafe h = h
 
-  spent_is_not_loose : IsVerdict T p graph k budget (Spent nodes) (LooseTrace s) → ⊥
+  spent_is_not_loose : IsVerdict T p m graph k budget (Spent nodes) (LooseTrace s) → ⊥
   spent_is_not_loose h = h
 
   loose : IsNeverLoose (LooseTrace s) → ⊥

@@ -1,9 +1,9 @@
--- What the verdicts say of a program, each of whose `malloc` gives a cell.
+-- What the verdicts say of a program, whose `malloc` answers by a mode.
 use Rattle.std.specs.Prelude.{◌≡◌, ◌⊎◌, ◌<◌, ◌≤◌, ℕ, List, length, Some}
 use Rattle.fore_base.specs.declared.fault.Fault.{Fault as Kind}
 use Rattle.fore_base.specs.declared.store.Store.{Store}
 use Rattle.fore_base.specs.Lists.{IsIn, Every}
-use Rattle.c_types.specs.declared.mode.MallocMode.TheVariants.{Always}
+use Rattle.c_types.specs.declared.mode.MallocMode.{MallocMode}
 use Rattle.c_types.specs.declared.outcome.Outcome.TheVariants.{Fault}
 use Rattle.c_types.specs.Over.{IsFault}
 use Rattle.c_types.specs.Program.{Program}
@@ -31,10 +31,10 @@ module _ (T : Boxes) where
   abbrev pub AreExact : List Node → List ℕ → Type 0
   AreExact nodes way = (j : ℕ) → 0 < j → IsIn j way → IsExact nodes j
 
-  module _ (p : Program) (g : ControlGraph) (k : ℕ) where
+  module _ (p : Program) (m : MallocMode) (g : ControlGraph) (k : ℕ) where
     -- No run of the program meets a fault. The nodes are an exploration, closed, and at most the budget.
     pub record SafeMeans (budget : ℕ) (nodes : List Node) : Type 0 where
-      pub never : (choices : List ℕ) (n : ℕ) → IsFault (run p Always choices n) → ⊥
+      pub never : (choices : List ℕ) (n : ℕ) → IsFault (run p m choices n) → ⊥
       pub explored : Exploration T g k nodes
       pub closed : IsClosed T g nodes
       pub within : length nodes ≤ budget
@@ -54,14 +54,14 @@ module _ (T : Boxes) where
     -- The program's run on the choices of an abstract trace meets this fault, of this line, in this step.
     pub record UnsafeMeans (budget : ℕ) (nodes : List Node) (tr : AbsTrace) (kind : Kind) (line step : ℕ) : Type 0 where
       pub of : TraceOf budget nodes tr
-      pub meets : run p Always tr.choices step ≡ Fault kind line step
+      pub meets : run p m tr.choices step ≡ Fault kind line step
 
     -- An abstract trace on whose choices the program meets no fault in up to REPLAY_STEPS steps, nor in as many as
     -- the trace has; with a member of its last forest. Not all of its nodes kept to the members that they had
     -- before they were folded and abstracted.
     pub record TraceMeans (budget : ℕ) (nodes : List Node) (tr : AbsTrace) (sample : Store) : Type 0 where
       pub of : TraceOf budget nodes tr
-      pub no_fault : (n : ℕ) → (n ≤ REPLAY_STEPS) ⊎ (n ≤ tr.steps) → IsFault (run p Always tr.choices n) → ⊥
+      pub no_fault : (n : ℕ) → (n ≤ REPLAY_STEPS) ⊎ (n ≤ tr.steps) → IsFault (run p m tr.choices n) → ⊥
       pub member : IsMember T tr.last.forest sample
       pub loose : AreExact nodes tr.nodes → ⊥
 

@@ -42,8 +42,9 @@ pub enum Verdict {
     LooseTrace { sample: Store },
 }
 
-/// The verdict on a program, from what the exploration of its graph found. A trace counts only where the program's
-/// own run on its choices meets a fault, be it after the trace's last step. Without loops a trace is never loose.
+/// The verdict on a program whose `malloc` answers by the mode, from what the exploration of its graph found. A trace
+/// counts only where the program's own run on its choices meets a fault, be it after the trace's last step. Without
+/// loops a trace is never loose.
 ///
 /// # Errors
 ///
@@ -51,6 +52,7 @@ pub enum Verdict {
 pub fn judge(
     alloc: Global,
     program: &Typed,
+    mode: MallocMode,
     graph: &Graph,
     table: &BoxTable,
     height: u32,
@@ -58,18 +60,18 @@ pub fn judge(
     found: &Explored,
 ) -> Mem<Verdict>
     requires explored { IsExplored table.now graph.now height budget found.now }
-    requires lowered { LowerOf program.now graph.now }
+    requires lowered { LowerOf program.now mode graph.now }
     requires shapes { graph.now.shapes ≡ table.now.face.shapes }
     requires empty { table.now.defs ≡ [] }
-    ensures verdict { IfOk result (IsVerdict table.now program.now graph.now height budget found.now) }
+    ensures verdict { IfOk result (IsVerdict table.now program.now mode graph.now height budget found.now) }
     ensures loops { has_no_loop program.now ≡ true → IfOk result IsNeverLoose }
 {
     table.known();
-    graphs_agree(program, graph);
-    edges_make_runs(program, graph);
-    edges_in_range(program, graph);
+    graphs_agree(program, mode, graph);
+    edges_make_runs(program, mode, graph);
+    edges_in_range(program, mode, graph);
     alike_stores_step_alike(graph);
-    loop_free_graphs(program, graph);
+    loop_free_graphs(program, mode, graph);
     over_stays(program);
     fault_at_its_step(program);
     match found {
@@ -77,7 +79,7 @@ pub fn judge(
         Explored::Spent { .. } => Ok(Verdict::FullBudget),
         Explored::Faulty { trace, .. } => {
             let steps = replay_steps(trace.steps);
-            judge_trace(alloc, program, table, trace, steps)
+            judge_trace(alloc, program, mode, table, trace, steps)
         }
     }
 }
@@ -99,6 +101,7 @@ fn replay_steps(steps: u64) -> u64
 fn judge_trace(
     alloc: Global,
     program: &Typed,
+    mode: MallocMode,
     table: &BoxTable,
     trace: &AbsTrace,
     steps: u64,
@@ -106,15 +109,9 @@ fn judge_trace(
     requires below { steps < 2 ^ 64 - 1 }
     requires face { table.now.face ≡ trace.now.last.face }
     requires plain { Every HasNoBoxes trace.now.last.forest.autos }
-    ensures { IfOk result (IsReplayed table.now program.now trace.now steps) }
+    ensures { IfOk result (IsReplayed table.now program.now mode trace.now steps) }
 {
-    match replay(
-        alloc,
-        program,
-        MallocMode::Always,
-        trace.choices.as_slice(),
-        steps,
-    )? {
+    match replay(alloc, program, mode, trace.choices.as_slice(), steps)? {
         Replay::Real { kind, line, step } => Ok(Verdict::Unsafe { kind, line, step }),
         Replay::Spurious => {
             let sample = sample(alloc, &trace.last, table)?;

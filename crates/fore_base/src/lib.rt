@@ -37,7 +37,7 @@ pub use file_shelf::FileShelf;
 pub use list::{Copies, List};
 pub use mem_shelf::MemShelf;
 pub use mem_sink::MemSink;
-pub use memory::Mem;
+pub use memory::{Mem, beside};
 pub use names::Names;
 pub use place::Place;
 pub use shape::{FieldDef, FieldKind, Shape, Shapes};

@@ -5,6 +5,7 @@ use Rattle.fore_base.specs.NamedFiles.{reading}
 use Rattle.fore_base.specs.Outside.{Rose}
 use Rattle.fore_base.specs.declared.named_files.NamedFile.{NamedFile}
 use Rattle.c_types.specs.Program.{Program}
+use Rattle.c_types.specs.declared.mode.MallocMode.{MallocMode}
 use Rattle.fore_read.specs.Readings.{ShelfView, Reading, AreReadings, AreAtMost, ReadsAtMost}
 use Rattle.fore_read.specs.declared.fault.ReadFault.{ReadFault as Fault}
 use Rattle.fore_read.specs.declared.fault.ReadFault.TheVariants as fault
@@ -23,11 +24,11 @@ use Rattle.fore_call.specs.inner.Judging.{IsBoxesAnswer, ReadsFor, answer_to}
 -- A file that is not taken
 
 module _ (r : Reading) (path : List ℕ) where
-  pub not_run : (choices : List ℕ) (steps : ℕ) (f : Fault) → IsFileFault r path f
-      → IsRightFor r (Run path choices steps) (answer_to f)
-  not_run choices steps (fault.Refused why) h = h
-  not_run choices steps fault.Failed h = h
-  not_run choices steps fault.Memory h = tt
+  pub not_run : (choices : List ℕ) (steps : ℕ) (malloc : MallocMode) (f : Fault) → IsFileFault r path f
+      → IsRightFor r (Run path choices steps malloc) (answer_to f)
+  not_run choices steps malloc (fault.Refused why) h = h
+  not_run choices steps malloc fault.Failed h = h
+  not_run choices steps malloc fault.Memory h = tt
 
   pub not_verified : (settings : Settings) (f : Fault) → IsFileFault r path f
       → IsRightFor r (Verify path None settings) (answer_to f)

@@ -27,6 +27,9 @@ use Rattle.fore_base.specs.NamedFiles.{reading}
 use Rattle.fore_base.specs.declared.named_files.NamedFile.{NamedFile}
 use Rattle.fore_base.specs.declared.shape.Shapes.{Shapes}
 use Rattle.c_types.specs.Program.{Program}
+use Rattle.c_types.specs.declared.mode.MallocMode.{MallocMode}
+use Rattle.c_types.specs.declared.mode.MallocMode.TheVariants.{Always}
+use Rattle.c_types.specs.Runs.{run}
 use Rattle.c_types.specs.declared.outcome.Outcome.TheVariants.{Ended, Fault, Starved, BadChoice, StillRunning}
 use Rattle.fore_base.specs.declared.fault.Fault.TheVariants.{NullDeref, Leak}
 use Rattle.c_front.specs.declared.broken.Letter.{Letter}
@@ -61,7 +64,7 @@ use Rattle.fore_call.specs.Verdict.{no_boxes, IsRefused, IsReadFault, IsRightFor
 -- What is asked
 
 abbrev usual : Settings
-usual = record { height = 1; budget = 2000; jobs = 1 }
+usual = record { height = 1; budget = 2000; jobs = 1; malloc = Always }
 
 -- to verify x.c, without and with the file of boxes x.box; to run x.c; and a generated program
 abbrev plain : Asked
@@ -71,7 +74,7 @@ abbrev boxed : Asked
 boxed = Verify (codes "x.c") (Some (codes "x.box")) usual
 
 abbrev ran_x : Asked
-ran_x = Run (codes "x.c") [] 1
+ran_x = Run (codes "x.c") [] 1 Always
 
 abbrev generated : Asked
 generated = Gen ListPhases 3
@@ -138,8 +141,9 @@ unfolding digits
 on_met_fault = refl
 
 on_usage : notes_text Usage
-    ≡ codes "forester verify FILE [--boxes FILE] [--height N] [--steps N] [--jobs N]"
-    ++ 10 ∷ codes "forester run FILE [--choices LIST] [--steps N]" ++ 10 ∷ codes "forester gen KIND N" ++ 10 ∷ []
+    ≡ codes "forester verify FILE [--boxes FILE] [--height N] [--steps N] [--jobs N] [--malloc-null]"
+    ++ 10 ∷ codes "forester run FILE [--choices LIST] [--steps N] [--malloc-null]"
+    ++ 10 ∷ codes "forester gen KIND N" ++ 10 ∷ []
 on_usage = refl
 
 on_long : notes_text (Refused TooLong) ≡ codes "refused K1 file" ++ 10 ∷ []
@@ -287,6 +291,12 @@ nothing_generated = (λ h. h, λ h. h)
 
 no_usage_for_a_file : IsRightFor idle plain Usage → ⊥
 no_usage_for_a_file h = h
+
+-- a run comes out as it does in the mode of the words
+module _ (p : Program) (r : Reading) where
+  ran_in_the_mode : (mode : MallocMode) → GivesProgram r (codes "x.c") [] p
+      → IsRightFor r (Run (codes "x.c") (1 ∷ []) 9 mode) (Ran (run p mode (1 ∷ []) 9))
+  ran_in_the_mode mode gives = (p, gives, refl)
 
 -- a generated program is refused by N1, with no file read, and nothing else is refused by it
 refused_generation : IsRefused idle generated NoGen

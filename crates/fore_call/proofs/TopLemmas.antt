@@ -23,7 +23,7 @@ use Rattle.std.proofs.Common.{
   arith,
 }
 use Rattle.std.proofs.lemmas.List.{append_cancel_left, length-append}
-use Rattle.c_types.specs.declared.mode.MallocMode.TheVariants.{Always}
+use Rattle.c_types.specs.declared.mode.MallocMode.{MallocMode}
 use Rattle.c_types.specs.Program.{Program}
 use Rattle.c_types.specs.Runs.{run}
 use Rattle.c_types.specs.declared.outcome.Outcome.{Outcome}
@@ -134,7 +134,7 @@ module _ (r : Request) where
   not_ran o v h = at (Verify v.0 None v.1) v.2 (Ran o) h
 
   not_verified : (v : Verdict) (text : List ℕ) → Runs r.words → IsRight r (Verified v text) → ⊥
-  not_verified v text w h = at (Run w.0 w.1 w.2) w.3 (Verified v text) h
+  not_verified v text w h = at (Run w.0 w.1 w.2 w.3) w.4 (Verified v text) h
 
   -- what was verified is a report of the program of the file
   reports_of : (v : Verdict) (text : List ℕ) (asked : Asked) → IsAsked r.words asked
@@ -142,7 +142,7 @@ module _ (r : Request) where
       → VerifiesTo r (λ p settings. IsReport (no_boxes p.shapes) p settings text v)
   reports_of v text (Verify path None settings) is right = (path, settings, is, right)
   reports_of v text (Verify path (Some boxes) settings) is right = absurd right
-  reports_of v text (Run path choices steps) is right = absurd right
+  reports_of v text (Run path choices steps malloc) is right = absurd right
   reports_of v text (Gen kind phases) is right = absurd right
 
   pub verified_to : (v : Verdict) (text : List ℕ) → IsRight r (Verified v text)
@@ -216,12 +216,12 @@ module _ (r : Request) where
       → IsRightFor r.reading asked (Verified v text) → Verifies r.words ⊎ Runs r.words
   verified_asks v text (Verify path None settings) is right = inl (path, settings, is)
   verified_asks v text (Verify path (Some boxes) settings) is right = absurd right
-  verified_asks v text (Run path choices steps) is right = absurd right
+  verified_asks v text (Run path choices steps malloc) is right = absurd right
   verified_asks v text (Gen kind phases) is right = absurd right
 
   ran_asks : (o : Outcome) (asked : Asked) → IsAsked r.words asked → IsRightFor r.reading asked (Ran o)
       → Verifies r.words ⊎ Runs r.words
-  ran_asks o (Run path choices steps) is right = inr (path, choices, steps, is)
+  ran_asks o (Run path choices steps malloc) is right = inr (path, choices, steps, malloc, is)
   ran_asks o (Verify path boxes settings) is right = absurd right
   ran_asks o (Gen kind phases) is right = absurd right
 
@@ -386,7 +386,7 @@ no_read_fault : (r : Reading) (asked : Asked) → ReadsWell r asked → IsReadFa
 no_read_fault r (Verify path None settings) well h = well path (inl refl) h.1
 no_read_fault r (Verify path (Some boxes) settings) well (inl h) = well path (inl refl) h.1
 no_read_fault r (Verify path (Some boxes) settings) well (inr h) = well boxes (inr refl) h.2
-no_read_fault r (Run path choices steps) well h = well path (inl refl) h.1
+no_read_fault r (Run path choices steps malloc) well h = well path (inl refl) h.1
 no_read_fault r (Gen kind phases) well h = h
 
 module _ (r : Request) (asked : Asked) (is : IsAsked r.words asked) (well : ReadsWell r.reading asked) where
@@ -423,27 +423,28 @@ module _ (r : Request) (bytes : List ℕ) (p : Program) (short : length bytes �
         absurd (no_read_fault r.reading (Verify path None settings) well (verify_here ReadFault h))
     due_for_verify NoMemory h = inr refl
 
-  module _ (choices : List ℕ) (steps : ℕ) (file : HasBytes r (Run path choices steps) bytes)
-      (well : ReadsWell r.reading (Run path choices steps)) where
-    abbrev run_here : (a : Answer) → ForAsked r a → IsRightFor r.reading (Run path choices steps) a
-    run_here = at r (Run path choices steps) file.is_asked
+  module _ (choices : List ℕ) (steps : ℕ) (malloc : MallocMode)
+      (file : HasBytes r (Run path choices steps malloc) bytes)
+      (well : ReadsWell r.reading (Run path choices steps malloc)) where
+    abbrev run_here : (a : Answer) → ForAsked r a → IsRightFor r.reading (Run path choices steps malloc) a
+    run_here = at r (Run path choices steps malloc) file.is_asked
 
     run_known : Known r.reading path bytes
-    run_known = known_of r (Run path choices steps) bytes path file refl
+    run_known = known_of r (Run path choices steps malloc) bytes path file refl
 
-    due_for_run : (a : Answer) → IsRight r a → (status_of a ≡ run_status (run p Always choices steps))
+    due_for_run : (a : Answer) → IsRight r a → (status_of a ≡ run_status (run p malloc choices steps))
         ⊎ (status_of a ≡ 7)
     due_for_run (Verified v text) h = absurd (run_here (Verified v text) h)
     due_for_run (Ran o) h =
         let f = run_here (Ran o) h in
         let same : p ≡ f.0 =
         one_program bytes p f.0 is (program_known r.reading path bytes run_known f.0 [] f.1) in
-        inl (ap run_status (f.2 ∙ ap (λ q. run q Always choices steps) (sym same)))
-    due_for_run Usage h = absurd (h (Run path choices steps) file.is_asked)
+        inl (ap run_status (f.2 ∙ ap (λ q. run q malloc choices steps) (sym same)))
+    due_for_run Usage h = absurd (h (Run path choices steps malloc) file.is_asked)
     due_for_run (Refused why) h =
         absurd (not_refused r.reading path bytes run_known p short is why (run_here (Refused why) h))
     due_for_run ReadFault h =
-        absurd (no_read_fault r.reading (Run path choices steps) well (run_here ReadFault h))
+        absurd (no_read_fault r.reading (Run path choices steps malloc) well (run_here ReadFault h))
     due_for_run NoMemory h = inr refl
 
 -- a file that is to be refused is neither verified nor run
@@ -453,12 +454,12 @@ module _ (r : Request) (bytes : List ℕ) (other : IsOther bytes) where
   others_not_verified (Verify path None settings) file v text h =
       no_program r.reading path bytes (known_of r (Verify path None settings) bytes path file refl) other h.0 [] h.1
   others_not_verified (Verify path (Some boxes) settings) file v text h = h
-  others_not_verified (Run path choices steps) file v text h = h
+  others_not_verified (Run path choices steps malloc) file v text h = h
   others_not_verified (Gen kind phases) file v text h = h
 
   others_not_run : (asked : Asked) → HasBytes r asked bytes → (o : Outcome) → IsRun r.reading asked o → ⊥
-  others_not_run (Run path choices steps) file o h =
-      no_program r.reading path bytes (known_of r (Run path choices steps) bytes path file refl) other h.0 [] h.1
+  others_not_run (Run path choices steps malloc) file o h =
+      no_program r.reading path bytes (known_of r (Run path choices steps malloc) bytes path file refl) other h.0 [] h.1
   others_not_run (Verify path boxes settings) file o h = h
   others_not_run (Gen kind phases) file o h = h
 
@@ -545,12 +546,13 @@ module _ (c : Call) (a : Answer) (right : IsRight c.request a) (reads : ReadsOnl
         (due_for_verify c.request named.bytes p named.within named.is path settings named.file
         (reads_well (Verify path None settings) named.file.is_asked) a right)
 
-    runs : (p : Program) (path choices : List ℕ) (steps : ℕ) → NamesProgram c.request (Run path choices steps) p
-        → (c.status ≡ run_status (run p Always choices steps)) ⊎ (c.status ≡ 7)
-    runs p path choices steps named =
-        mostly (λ m. m ≡ run_status (run p Always choices steps))
-        (due_for_run c.request named.bytes p named.within named.is path choices steps named.file
-        (reads_well (Run path choices steps) named.file.is_asked) a right)
+    runs : (p : Program) (path choices : List ℕ) (steps : ℕ) (malloc : MallocMode)
+        → NamesProgram c.request (Run path choices steps malloc) p
+        → (c.status ≡ run_status (run p malloc choices steps)) ⊎ (c.status ≡ 7)
+    runs p path choices steps malloc named =
+        mostly (λ m. m ≡ run_status (run p malloc choices steps))
+        (due_for_run c.request named.bytes p named.within named.is path choices steps malloc named.file
+        (reads_well (Run path choices steps malloc) named.file.is_asked) a right)
 
     refusal : (asked : Asked) → IsAsked c.request.words asked
         → ((v : Verdict) (text : List ℕ) → IsVerified c.request.reading asked v text → ⊥)
@@ -584,7 +586,7 @@ module _ (c : Call) (a : Answer) (right : IsRight c.request a) (reads : ReadsOnl
     no_memory = memory;
     unread = λ none. unread c.request c.status a none right status;
     judges = λ p path settings named steady. judges steady p path settings named;
-    runs = λ p path choices steps named steady. runs steady p path choices steps named;
+    runs = λ p path choices steps malloc named steady. runs steady p path choices steps malloc named;
     refuses = λ named steady. refuses steady named;
     refuses_boxes = λ asked steady. refuses_boxes steady asked;
     refuses_gen = λ asked steady. refuses_gen steady asked;

@@ -1,6 +1,7 @@
 -- Which of the commands words ask for, and which files they name.
 use Rattle.std.specs.Prelude.{◌≡◌, ⊤, ◌⊎◌, ℕ, List, [], ◌∷◌, Option, Some, None}
 use Rattle.fore_base.specs.declared.named_files.NamedFile.{NamedFile}
+use Rattle.c_types.specs.declared.mode.MallocMode.{MallocMode}
 use Rattle.fore_words.specs.declared.asked.Settings.{Settings}
 use Rattle.fore_words.specs.declared.asked.Kind.{Kind}
 use Rattle.fore_words.specs.declared.asked.Asked.{Asked}
@@ -18,7 +19,9 @@ VerifiesByBoxes words =
 
 -- the words ask to run a file
 abbrev pub Runs : List (List ℕ) → Type 0
-Runs words = (path : List ℕ) × (choices : List ℕ) × (steps : ℕ) × AsksToRun words path choices steps
+Runs words =
+    (path : List ℕ) × (choices : List ℕ) × (steps : ℕ) × (malloc : MallocMode)
+    × AsksToRun words path choices steps malloc
 
 -- the words ask for a generated program
 abbrev pub Generates : List (List ℕ) → Type 0
@@ -27,13 +30,13 @@ Generates words = (kind : Kind) × (phases : ℕ) × AsksToGen words kind phases
 -- the C file that is asked for
 abbrev pub file_of : Asked → Option (List ℕ)
 file_of (Verify path boxes settings) = Some path
-file_of (Run path choices steps) = Some path
+file_of (Run path choices steps malloc) = Some path
 file_of (Gen kind phases) = None
 
 -- the file of boxes that is asked for
 abbrev pub boxes_of : Asked → Option (List ℕ)
 boxes_of (Verify path boxes settings) = boxes
-boxes_of (Run path choices steps) = None
+boxes_of (Run path choices steps malloc) = None
 boxes_of (Gen kind phases) = None
 
 -- the words name this file, as the C file or as the file of boxes

@@ -1,6 +1,6 @@
 -- What holds of every call of the program.
 use Rattle.std.specs.Prelude.{◌≡◌, ◌<◌, ◌⊎◌, ℕ, List, None}
-use Rattle.c_types.specs.declared.mode.MallocMode.TheVariants.{Always}
+use Rattle.c_types.specs.declared.mode.MallocMode.{MallocMode}
 use Rattle.c_types.specs.declared.outcome.Outcome.{Outcome}
 use Rattle.c_types.specs.Program.{Program}
 use Rattle.c_types.specs.Runs.{run}
@@ -87,9 +87,10 @@ pub record Promises (c : Call) : Type 0 where
   pub judges : (p : Program) (path : List ℕ) (settings : Settings)
       → NamesProgram c.request (Verify path None settings) p
       → NothingFailed c → IsResult c.status ⊎ (c.status ≡ NO_MEMORY)
-  -- a program that is to be run is run
-  pub runs : (p : Program) (path choices : List ℕ) (steps : ℕ) → NamesProgram c.request (Run path choices steps) p
-      → NothingFailed c → (c.status ≡ run_status (run p Always choices steps)) ⊎ (c.status ≡ NO_MEMORY)
+  -- a program that is to be run is run; its `malloc` answers by the mode of the words
+  pub runs : (p : Program) (path choices : List ℕ) (steps : ℕ) (malloc : MallocMode)
+      → NamesProgram c.request (Run path choices steps malloc) p
+      → NothingFailed c → (c.status ≡ run_status (run p malloc choices steps)) ⊎ (c.status ≡ NO_MEMORY)
   -- a C file that is to be refused is refused
   pub refuses : NamesOther c.request → NothingFailed c → IsRefusal c.status
   -- what is to be verified with boxes is refused, for now

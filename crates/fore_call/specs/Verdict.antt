@@ -5,7 +5,6 @@ use Rattle.fore_base.specs.Outside.{Rose}
 use Rattle.fore_base.specs.declared.limits.TheConstants.{FILE_BYTES}
 use Rattle.fore_base.specs.declared.named_files.NamedFile.{NamedFile}
 use Rattle.fore_base.specs.declared.shape.Shapes.{Shapes}
-use Rattle.c_types.specs.declared.mode.MallocMode.TheVariants.{Always}
 use Rattle.c_types.specs.declared.outcome.Outcome.{Outcome}
 use Rattle.c_types.specs.Program.{Program}
 use Rattle.c_types.specs.Runs.{run}
@@ -56,14 +55,14 @@ module _ (r : Reading) where
   abbrev pub IsRefused : Asked → Refusal → Type 0
   IsRefused (Verify path None settings) why = RefusesFile r path why
   IsRefused (Verify path (Some boxes) settings) why = RefusesFile r path why ⊎ RefusesBoxes path boxes why
-  IsRefused (Run path choices steps) why = RefusesFile r path why
+  IsRefused (Run path choices steps malloc) why = RefusesFile r path why
   IsRefused (Gen kind phases) why = (why ≡ refusal.NoGen) × AreReadings r []
 
   -- a file that is asked for was not read
   abbrev pub IsReadFault : Asked → Type 0
   IsReadFault (Verify path None settings) = FailsFile r path
   IsReadFault (Verify path (Some boxes) settings) = FailsFile r path ⊎ FailsBoxes path boxes
-  IsReadFault (Run path choices steps) = FailsFile r path
+  IsReadFault (Run path choices steps malloc) = FailsFile r path
   IsReadFault (Gen kind phases) = ⊥
 
   -- this is the report, with this verdict, on what is asked
@@ -71,12 +70,12 @@ module _ (r : Reading) where
   IsVerified (Verify path None settings) verdict text =
       HasProgram path (λ p. IsReport (no_boxes p.shapes) p settings text verdict)
   IsVerified (Verify path (Some boxes) settings) verdict text = ⊥
-  IsVerified (Run path choices steps) verdict text = ⊥
+  IsVerified (Run path choices steps malloc) verdict text = ⊥
   IsVerified (Gen kind phases) verdict text = ⊥
 
   -- so the run that is asked for comes out
   abbrev pub IsRun : Asked → Outcome → Type 0
-  IsRun (Run path choices steps) outcome = HasProgram path (λ p. outcome ≡ run p Always choices steps)
+  IsRun (Run path choices steps malloc) outcome = HasProgram path (λ p. outcome ≡ run p malloc choices steps)
   IsRun (Verify path boxes settings) outcome = ⊥
   IsRun (Gen kind phases) outcome = ⊥
 

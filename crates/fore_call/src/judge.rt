@@ -78,7 +78,11 @@ fn answer_asked<R: Threads + Sync, L: Shelf, G: Gate>(
             path,
             choices,
             steps,
-        } => run_file(alloc, path.as_str(), choices.as_slice(), *steps, shelf),
+            malloc,
+        } => {
+            let choices = choices.as_slice();
+            run_file(alloc, path.as_str(), choices, *steps, *malloc, shelf)
+        }
         Asked::Gen { .. } => Answer::Refused(Refusal::NoGen),
     }
 }
@@ -149,22 +153,30 @@ fn run_file<L: Shelf>(
     path: &str,
     choices: &[u8],
     steps: u32,
+    malloc: MallocMode,
     shelf: &mut L,
 ) -> Answer
-    ensures right { IsRightFor (reading_of L.Shelf shelf.old shelf.new) (ask.Run path.now choices.now steps) result }
+    ensures right { IsRightFor (reading_of L.Shelf shelf.old shelf.new)
+        (ask.Run path.now choices.now steps malloc) result }
     ensures reads { ReadsAtMost (reading_of L.Shelf shelf.old shelf.new) path.now }
 {
     match read_program(alloc, shelf, path) {
-        Ok(program) => run_program(alloc, &program, choices, steps),
+        Ok(program) => run_program(alloc, &program, malloc, choices, steps),
         Err(fault) => answer_to(fault),
     }
 }
 
 /// The answer to a program that is to be run.
-fn run_program(alloc: Global, program: &Typed, choices: &[u8], steps: u32) -> Answer
-    ensures { IsRunOf program.now choices.now steps result }
+fn run_program(
+    alloc: Global,
+    program: &Typed,
+    malloc: MallocMode,
+    choices: &[u8],
+    steps: u32,
+) -> Answer
+    ensures { IsRunOf program.now malloc choices.now steps result }
 {
-    match run(alloc, program, MallocMode::Always, choices, steps as u64) {
+    match run(alloc, program, malloc, choices, steps as u64) {
         Ok(outcome) => Answer::Ran(outcome),
         Err(_) => Answer::NoMemory,
     }
@@ -198,10 +210,13 @@ fn explored<R: Threads + Sync, G: Gate>(
     requires { SettingsFit settings }
     ensures { IfOk result (IsVerdict program.now settings) }
 {
-    let graph = lower(alloc, program)?;
-    edges_in_range(program, &graph);
+    let graph = lower(alloc, program, settings.malloc)?;
+    edges_in_range(program, settings.malloc, &graph);
     let table = empty_table(alloc, &program.shapes)?;
-    let crew = Crew { jobs: 1, gate };
+    let crew = Crew {
+        jobs: settings.jobs as usize,
+        gate,
+    };
     let found = explore(
         rt,
         alloc,

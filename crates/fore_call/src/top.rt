@@ -10,8 +10,9 @@ use par_kit::gate::Gate;
 use std::alloc::Global;
 use std::thread::Threads;
 
-/// Does what the words ask: `verify FILE [--boxes FILE] [--height N] [--steps N] [--jobs N]`,
-/// `run FILE [--choices LIST] [--steps N]` or `gen KIND N`. Gives the status with which the program ends.
+/// Does what the words ask: `verify FILE [--boxes FILE] [--height N] [--steps N] [--jobs N] [--malloc-null]`,
+/// `run FILE [--choices LIST] [--steps N] [--malloc-null]` or `gen KIND N`. Gives the status with which the program
+/// ends. With `--malloc-null` each `malloc` of the program may give the null pointer, by a choice.
 ///
 /// The statuses stand in `status`. `NO_FAULT`: no choices and no number of steps lead the program of the file to a
 /// fault; or the run has ended. `FAULT`: the printed choices lead it to the printed fault; or the run met the

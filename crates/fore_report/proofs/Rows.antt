@@ -1,9 +1,12 @@
 -- Worked values, which guard the definitions in specs/: each is worked out by hand from docs/REPORTS.md, and each
 -- case of a definition is met by a row that fails if the case is wrong.
-use Rattle.std.proofs.Common.{◌≡◌, ℕ, List, [], ◌∷◌, ◌++◌, codes, length, refl}
+use Rattle.std.proofs.Common.{◌≡◌, ℕ, List, [], ◌∷◌, ◌++◌, codes, refl}
 use Rattle.std.specs.Fmt.{digits}
 use Rattle.c_cfg.specs.Graphs.{ControlGraph}
+use Rattle.c_types.specs.Over.{IsFault}
 use Rattle.c_types.specs.Program.{Program}
+use Rattle.c_types.specs.Runs.{run}
+use Rattle.c_types.specs.declared.mode.MallocMode.TheVariants.{Always, MayFail}
 use Rattle.c_types.specs.declared.outcome.Outcome.TheVariants.{Ended, Fault, Starved, BadChoice, StillRunning}
 use Rattle.fa_core.specs.Boxes.{Boxes}
 use Rattle.fore_base.specs.declared.fault.Fault.TheVariants.{
@@ -16,6 +19,9 @@ use Rattle.fore_base.specs.declared.fault.Fault.TheVariants.{
   Assertion,
   IndetTest,
 }
+use Rattle.fore_base.specs.declared.store.Store.{Store}
+use Rattle.fa_sound.specs.Soundness.{SoundForest}
+use Rattle.fore_explored.specs.Texts.{exploration_text, last_text}
 use Rattle.fix_core.specs.declared.explored.AbsTrace.{AbsTrace}
 use Rattle.fix_core.specs.declared.explored.Explored.TheVariants.{Closed, Faulty, Spent}
 use Rattle.fix_core.specs.declared.nodes.Node.{Node}
@@ -26,27 +32,25 @@ use Rattle.fore_report.specs.Reports.{IsReportOf}
 use Rattle.fore_report.specs.Texts.{
   fault_text,
   fault_line,
-  numbered_line,
-  choices_line,
   spaced,
   safe_text,
   unsafe_text,
   budget_text,
+  trace_lines,
   trace_text,
   run_text,
 }
 
--- the settings that are taken where the words name none, and others
+-- the settings that are taken where the words name none, and those with the flag for a `malloc` that may fail
 abbrev usual : Settings
-usual = record { height = 1; budget = 2000; jobs = 1 }
+usual = record { height = 1; budget = 2000; jobs = 1; malloc = Always }
 
-abbrev with_both : Settings
-with_both = record { height = 2; budget = 100000; jobs = 3 }
+abbrev may_fail : Settings
+may_fail = record usual { malloc = MayFail }
 
 -- Texts
 
-on_safe : safe_text usual 4 ≡ codes "SAFE" ++ 10 ∷ codes "height 1 budget 2000 nodes 4" ++ 10 ∷ []
-unfolding digits
+on_safe : safe_text (codes "height 1") ≡ codes "SAFE" ++ 10 ∷ codes "height 1"
 on_safe = refl
 
 on_leak : unsafe_text Leak 5 2 [] ≡ codes "UNSAFE" ++ 10 ∷ codes "fault 6 leak" ++ 10 ∷ codes "line 5"
@@ -59,8 +63,7 @@ on_double_free : unsafe_text DoubleFree 100 4160 (1 ∷ 0 ∷ 1 ∷ []) ≡ code
 unfolding digits
 on_double_free = refl
 
-on_budget : budget_text with_both 40 ≡ codes "UNKNOWN budget" ++ 10 ∷ codes "height 2 budget 100000 nodes 40" ++ 10 ∷ []
-unfolding digits
+on_budget : budget_text (codes "height 2") ≡ codes "UNKNOWN budget" ++ 10 ∷ codes "height 2"
 on_budget = refl
 
 on_fault_of_trace : fault_line NullDeref ≡ codes "fault 1 null dereference" ++ 10 ∷ []
@@ -71,16 +74,28 @@ on_way : ended_line (codes "trace" ++ spaced (0 ∷ 3 ∷ 12 ∷ [])) ≡ codes 
 unfolding digits
 on_way = refl
 
--- the lines of the report on a trace, in order
-on_trace : (trace : AbsTrace) → trace_text usual 7 trace
-    ≡ (codes "UNKNOWN trace" ++ 10 ∷ [])
-    ++ (fault_line trace.fault
-    ++ (numbered_line (codes "line") trace.line
-    ++ (numbered_line (codes "steps") trace.steps ++ (choices_line trace.choices
-    ++ (ended_line (codes "trace" ++ spaced trace.nodes)
-    ++ (numbered_line (codes "edge") trace.edge ++ (codes "height 1 budget 2000 nodes 7" ++ 10 ∷ [])))))))
+-- the lines on a trace
+abbrev loose : SoundForest → AbsTrace
+loose last = record {
+  nodes = 0 ∷ 3 ∷ 12 ∷ [];
+  edge = 17;
+  choices = 1 ∷ 1 ∷ 0 ∷ [];
+  fault = NullDeref;
+  line = 15;
+  steps = 3;
+  last = last;
+}
+
+on_loose : (last : SoundForest) → trace_lines (loose last) ≡ codes "fault 1 null dereference" ++ 10 ∷ codes "line 15"
+    ++ 10 ∷ codes "steps 3" ++ 10 ∷ codes "choices 110" ++ 10 ∷ codes "trace 0 3 12" ++ 10 ∷ codes "edge 17" ++ 10 ∷ []
 unfolding digits
-on_trace trace = refl
+on_loose last = refl
+
+-- the report on a trace: its lines, what it ends with, and the exploration
+on_trace : (t : Boxes) (p : Program) (trace : AbsTrace) (s : Store) → trace_text t p trace s (codes "height 1")
+    ≡ (codes "UNKNOWN trace" ++ 10 ∷ [])
+    ++ (trace_lines trace ++ (last_text t p trace.last.forest s ++ codes "height 1"))
+on_trace t p trace s = refl
 
 null_deref : fault_text NullDeref ≡ codes "null dereference"
 null_deref = refl
@@ -138,10 +153,29 @@ module _ (t : Boxes) (p : Program) (graph : ControlGraph) (nodes : List Node) (t
   faulty_is_not_safe : IsReportOf t p graph usual (Faulty nodes trace) Safe text → ⊥
   faulty_is_not_safe h = h
 
-  -- the count is that of the nodes that were found, the text that of the settings
-  counts_the_nodes : IsReportOf t p graph usual (Closed nodes) Safe text → text ≡ safe_text usual (length nodes)
-  counts_the_nodes h = h.prints
+  -- the nodes that were found are printed, with the height and the budget of the settings
+  prints_the_nodes : IsReportOf t p graph usual (Closed nodes) Safe text
+      → text ≡ safe_text (exploration_text t p Always graph 1 2000 nodes)
+  prints_the_nodes h = h.prints
+
+  prints_the_budget : IsReportOf t p graph usual (Spent nodes) Unknown text
+      → text ≡ budget_text (exploration_text t p Always graph 1 2000 nodes)
+  prints_the_budget h = h.prints
 
   prints_the_trace : IsReportOf t p graph usual (Faulty nodes trace) Unknown text
-      → text ≡ trace_text usual (length nodes) trace
-  prints_the_trace h = h.prints
+      → (s : Store) × (text ≡ trace_text t p trace s (exploration_text t p Always graph 1 2000 nodes))
+  prints_the_trace h = (h.sample, h.prints)
+
+  -- the mode of the settings is printed with the nodes
+  prints_the_mode : IsReportOf t p graph may_fail (Closed nodes) Safe text
+      → text ≡ safe_text (exploration_text t p MayFail graph 1 2000 nodes)
+  prints_the_mode h = h.prints
+
+  -- what is said of runs is said of those in this mode
+  safe_in_the_mode : IsReportOf t p graph may_fail (Closed nodes) Safe text → (choices : List ℕ) (n : ℕ)
+      → IsFault (run p MayFail choices n) → ⊥
+  safe_in_the_mode h = h.means.never
+
+  unsafe_in_the_mode : (h : IsReportOf t p graph may_fail (Faulty nodes trace) Unsafe text)
+      → run p MayFail trace.choices h.step ≡ Fault h.kind h.line h.step
+  unsafe_in_the_mode h = h.means.meets

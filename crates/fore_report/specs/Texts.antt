@@ -12,11 +12,14 @@ use Rattle.fore_base.specs.declared.fault.Fault.TheVariants.{
   IndetTest,
 }
 use Rattle.fore_base.specs.Faults.{number_of}
+use Rattle.fore_base.specs.declared.store.Store.{Store}
+use Rattle.c_types.specs.Program.{Program}
 use Rattle.c_types.specs.declared.outcome.Outcome.{Outcome}
 use Rattle.c_types.specs.declared.outcome.Outcome.TheVariants.{Ended, Fault, Starved, BadChoice, StillRunning}
 use Rattle.fore_words.specs.Usage.{ended_line}
-use Rattle.fore_words.specs.declared.asked.Settings.{Settings}
+use Rattle.fa_core.specs.Boxes.{Boxes}
 use Rattle.fix_core.specs.declared.explored.AbsTrace.{AbsTrace}
+use Rattle.fore_explored.specs.Texts.{last_text}
 
 -- the name by which a fault is printed
 abbrev pub fault_text : Kind → List ℕ
@@ -53,37 +56,33 @@ choices_line choices = ended_line (codes "choices " ++ choices_text choices)
 abbrev pub spaced : List ℕ → List ℕ
 spaced ns = flat_map (λ n. codes " " ++ decimal n) ns
 
--- the line on an exploration: the height of the abstraction, how many abstract states are kept at most, and how many
--- there are
-abbrev pub explored_line : Settings → ℕ → List ℕ
-explored_line settings nodes =
-    ended_line (codes "height "
-    ++ (decimal settings.height
-    ++ (codes " budget " ++ (decimal settings.budget ++ (codes " nodes " ++ decimal nodes)))))
-
--- the report that no run meets a fault
-abbrev pub safe_text : Settings → ℕ → List ℕ
-safe_text settings nodes = ended_line (codes "SAFE") ++ explored_line settings nodes
+-- the report that no run meets a fault, with the text of the exploration
+abbrev pub safe_text : List ℕ → List ℕ
+safe_text explored = ended_line (codes "SAFE") ++ explored
 
 -- the report on a fault, and the choices that lead to it
 abbrev pub unsafe_text : Kind → ℕ → ℕ → List ℕ → List ℕ
 unsafe_text kind line step choices = ended_line (codes "UNSAFE") ++ (fault_lines kind line step ++ choices_line choices)
 
--- the report that as many abstract states are kept as may be
-abbrev pub budget_text : Settings → ℕ → List ℕ
-budget_text settings nodes = ended_line (codes "UNKNOWN budget") ++ explored_line settings nodes
+-- the report that as many abstract states are kept as may be, with the text of the exploration
+abbrev pub budget_text : List ℕ → List ℕ
+budget_text explored = ended_line (codes "UNKNOWN budget") ++ explored
 
--- the report on an abstract trace whose choices meet no fault
-abbrev pub trace_text : Settings → ℕ → AbsTrace → List ℕ
-trace_text settings nodes trace =
-    ended_line (codes "UNKNOWN trace")
-    ++ (fault_line trace.fault
+-- the lines on a trace: its fault, the line of its last edge, how many edges it has, its choices, its nodes, and the
+-- number of that edge
+abbrev pub trace_lines : AbsTrace → List ℕ
+trace_lines trace =
+    fault_line trace.fault
     ++ (numbered_line (codes "line") trace.line
     ++ (numbered_line (codes "steps") trace.steps
     ++ (choices_line trace.choices
     ++ (ended_line (codes "trace" ++ spaced trace.nodes)
-    ++ (numbered_line (codes "edge") trace.edge
-    ++ explored_line settings nodes))))))
+    ++ numbered_line (codes "edge") trace.edge))))
+
+-- the report on an abstract trace whose choices meet no fault, with the text of the exploration
+abbrev pub trace_text : Boxes → Program → AbsTrace → Store → List ℕ → List ℕ
+trace_text t p trace sample explored =
+    ended_line (codes "UNKNOWN trace") ++ (trace_lines trace ++ (last_text t p trace.last.forest sample ++ explored))
 
 -- the report on how a run came out
 abbrev pub run_text : Outcome → List ℕ

@@ -1,10 +1,11 @@
 //! The reports on a program: what an exploration found of it, or how its run came out.
 //!
-//! `report` draws the verdict from what one exploration found, and makes its report, whole (`texts`). `run_report` is
-//! the report on a run.
+//! `report` draws the verdict from what one exploration found, and makes its report, whole: the lines of `texts`, and
+//! with SAFE and UNKNOWN the exploration (`explored`). `run_report` is the report on a run.
 #![tactic(auto)]
 
 pub mod crossing;
+mod explored;
 mod reports;
 pub mod texts;
 pub mod verdict;

@@ -12,7 +12,8 @@ ghost use Rattle.fore_report.specs.Reports.{
   IsReportOf,
 };
 
-use crate::texts::{budget_report, safe_report, trace_report, unsafe_report};
+use crate::explored::{budget_report, safe_report, trace_report};
+use crate::texts::unsafe_report;
 use crate::verdict::Verdict;
 use c_cfg::graph::Graph;
 use c_types::program::Typed;
@@ -25,8 +26,9 @@ use fore_base::text::Text;
 use fore_words::Settings;
 use std::alloc::Global;
 
-/// The verdict on what an exploration of the program's control graph found, with its report, whole. A trace counts
-/// only where the program's own run on its choices meets a fault. Err is want of memory.
+/// The verdict on what an exploration of the program's control graph found, with its report, whole; `malloc` answers by
+/// the mode of the settings. A trace counts only where the program's own run on its choices meets a fault. Err is want
+/// of memory.
 pub fn report(
     alloc: Global,
     found: &Explored,
@@ -37,7 +39,7 @@ pub fn report(
 ) -> Mem<(Verdict, Text)>
     requires shapes { graph.now.shapes ≡ table.now.face.shapes }
     requires empty { table.now.defs ≡ [] }
-    requires lowered { LowerOf program.now graph.now }
+    requires lowered { LowerOf program.now settings.malloc graph.now }
     requires explored { IsExplored table.now graph.now settings.height settings.budget found.now }
     ensures { IfOk result (λ made.
         IsReportOf table.now program.now graph.now settings found.now made.0 made.1) }
@@ -45,6 +47,7 @@ pub fn report(
     let finding = judge(
         alloc,
         program,
+        settings.malloc,
         graph,
         table,
         settings.height,
@@ -80,15 +83,17 @@ fn safe_of(
     alloc: Global,
     settings: Settings,
     nodes: &Nodes,
-    _table: &BoxTable,
-    _graph: &Graph,
-    _program: &Typed,
+    table: &BoxTable,
+    graph: &Graph,
+    program: &Typed,
 ) -> Mem<Text>
-    requires { SafeMeans _table.now _program.now _graph.now
+    requires lowered { LowerOf program.now settings.malloc graph.now }
+    requires shapes { graph.now.shapes ≡ table.now.face.shapes }
+    requires means { SafeMeans table.now program.now settings.malloc graph.now
         settings.height settings.budget nodes.now }
-    ensures { IfOk result (IsSafeReport _table.now _program.now _graph.now settings nodes.now) }
+    ensures { IfOk result (IsSafeReport table.now program.now graph.now settings nodes.now) }
 {
-    let text = safe_report(alloc, settings, nodes.len())?;
+    let text = safe_report(alloc, settings, nodes, table, graph, program)?;
     Ok(text)
 }
 
@@ -104,7 +109,7 @@ fn unsafe_of(
     _graph: &Graph,
     _program: &Typed,
 ) -> Mem<Text>
-    requires { UnsafeMeans _table.now _program.now _graph.now
+    requires { UnsafeMeans _table.now _program.now _settings.malloc _graph.now
         _settings.height _settings.budget _nodes.now trace.now kind line step }
     ensures { IfOk result (IsUnsafeReport _table.now _program.now _graph.now _settings _nodes.now trace.now) }
 {
@@ -116,15 +121,17 @@ fn budget_of(
     alloc: Global,
     settings: Settings,
     nodes: &Nodes,
-    _table: &BoxTable,
-    _graph: &Graph,
-    _program: &Typed,
+    table: &BoxTable,
+    graph: &Graph,
+    program: &Typed,
 ) -> Mem<Text>
-    requires { BudgetMeans _table.now _program.now _graph.now
+    requires lowered { LowerOf program.now settings.malloc graph.now }
+    requires shapes { graph.now.shapes ≡ table.now.face.shapes }
+    requires means { BudgetMeans table.now program.now settings.malloc graph.now
         settings.height settings.budget nodes.now }
-    ensures { IfOk result (IsBudgetReport _table.now _program.now _graph.now settings nodes.now) }
+    ensures { IfOk result (IsBudgetReport table.now program.now graph.now settings nodes.now) }
 {
-    let text = budget_report(alloc, settings, nodes.len())?;
+    let text = budget_report(alloc, settings, nodes, table, graph, program)?;
     Ok(text)
 }
 
@@ -133,16 +140,18 @@ fn trace_of(
     settings: Settings,
     nodes: &Nodes,
     trace: &AbsTrace,
-    _sample: &Store,
-    _table: &BoxTable,
-    _graph: &Graph,
-    _program: &Typed,
+    sample: &Store,
+    table: &BoxTable,
+    graph: &Graph,
+    program: &Typed,
 ) -> Mem<Text>
-    requires means { TraceMeans _table.now _program.now _graph.now
-        settings.height settings.budget nodes.now trace.now _sample.now }
-    requires loops { has_no_loop _program.now ≡ true → ⊥ }
-    ensures { IfOk result (IsTraceReport _table.now _program.now _graph.now settings nodes.now trace.now) }
+    requires lowered { LowerOf program.now settings.malloc graph.now }
+    requires shapes { graph.now.shapes ≡ table.now.face.shapes }
+    requires means { TraceMeans table.now program.now settings.malloc graph.now
+        settings.height settings.budget nodes.now trace.now sample.now }
+    requires loops { has_no_loop program.now ≡ true → ⊥ }
+    ensures { IfOk result (IsTraceReport table.now program.now graph.now settings nodes.now trace.now) }
 {
-    let text = trace_report(alloc, settings, nodes.len(), trace)?;
+    let text = trace_report(alloc, settings, nodes, trace, sample, table, graph, program)?;
     Ok(text)
 }

@@ -8,13 +8,8 @@ ghost use Rattle.fore_report.specs.Texts.{
   fault_lines,
   choices_line,
   spaced,
-  explored_line,
-};
-ghost use Rattle.fore_report.specs.Texts.{
-  safe_text,
+  trace_lines,
   unsafe_text,
-  budget_text,
-  trace_text,
   run_text,
 };
 
@@ -23,7 +18,6 @@ use fix_engine::AbsTrace;
 use fore_base::fault::Fault;
 use fore_base::memory::Mem;
 use fore_base::text::Text;
-use fore_words::Settings;
 use std::alloc::Global;
 
 /// The name by which a fault is printed.
@@ -42,16 +36,6 @@ pub fn fault_text(kind: Fault) -> &'static [u8]
     }
 }
 
-/// The report that no run meets a fault, whole. Err is want of memory.
-pub fn safe_report(alloc: Global, settings: Settings, nodes: u32) -> Mem<Text>
-    ensures { IfOk result (λ text. text ≡ safe_text settings nodes) }
-{
-    let mut text = Text::new(alloc);
-    text.put(b"SAFE\n")?;
-    put_explored(&mut text, settings, nodes)?;
-    Ok(text)
-}
-
 /// The report on a fault that verification found, with the choices that lead to it, whole. Err is want of memory.
 pub fn unsafe_report(alloc: Global, kind: Fault, line: u32, step: u64, choices: &[u8]) -> Mem<Text>
     ensures { IfOk result (λ text. text ≡ unsafe_text kind line step choices.now) }
@@ -60,32 +44,6 @@ pub fn unsafe_report(alloc: Global, kind: Fault, line: u32, step: u64, choices: 
     text.put(b"UNSAFE\n")?;
     put_fault(&mut text, kind, line, step)?;
     put_choices(&mut text, choices)?;
-    Ok(text)
-}
-
-/// The report that as many abstract states are kept as may be, whole. Err is want of memory.
-pub fn budget_report(alloc: Global, settings: Settings, nodes: u32) -> Mem<Text>
-    ensures { IfOk result (λ text. text ≡ budget_text settings nodes) }
-{
-    let mut text = Text::new(alloc);
-    text.put(b"UNKNOWN budget\n")?;
-    put_explored(&mut text, settings, nodes)?;
-    Ok(text)
-}
-
-/// The report on an abstract trace whose choices meet no fault, whole. Err is want of memory.
-pub fn trace_report(alloc: Global, settings: Settings, nodes: u32, trace: &AbsTrace) -> Mem<Text>
-    ensures { IfOk result (λ text. text ≡ trace_text settings nodes trace.now) }
-{
-    let mut text = Text::new(alloc);
-    text.put(b"UNKNOWN trace\n")?;
-    put_fault_line(&mut text, trace.fault)?;
-    put_counted(&mut text, b"line ", trace.line as u64)?;
-    put_counted(&mut text, b"steps ", trace.steps)?;
-    put_choices(&mut text, trace.choices.as_slice())?;
-    put_way(&mut text, trace.nodes.as_slice())?;
-    put_counted(&mut text, b"edge ", trace.edge as u64)?;
-    put_explored(&mut text, settings, nodes)?;
     Ok(text)
 }
 
@@ -139,17 +97,16 @@ fn put_fault_line(text: &mut Text, kind: Fault) -> Mem<()>
     Ok(())
 }
 
-/// The line on an exploration.
-fn put_explored(text: &mut Text, settings: Settings, nodes: u32) -> Mem<()>
-    ensures { OnOk result (text.new ≡ text.old ++ explored_line settings nodes) }
+/// The lines on a trace.
+pub fn put_trace(text: &mut Text, trace: &AbsTrace) -> Mem<()>
+    ensures { OnOk result (text.new ≡ text.old ++ trace_lines trace.now) }
 {
-    text.put(b"height ")?;
-    text.put_number(settings.height as u64)?;
-    text.put(b" budget ")?;
-    text.put_number(settings.budget as u64)?;
-    text.put(b" nodes ")?;
-    text.put_number(nodes as u64)?;
-    text.put(b"\n")?;
+    put_fault_line(text, trace.fault)?;
+    put_counted(text, b"line ", trace.line as u64)?;
+    put_counted(text, b"steps ", trace.steps)?;
+    put_choices(text, trace.choices.as_slice())?;
+    put_way(text, trace.nodes.as_slice())?;
+    put_counted(text, b"edge ", trace.edge as u64)?;
     Ok(())
 }
 

@@ -4,6 +4,7 @@ use Rattle.std.specs.Option.{option_map_or}
 use Rattle.clap.specs.Words.{Text, Row, found_of, rows_of, first_of, first_value, fault_of, subcommand_of}
 use Rattle.clap.specs.declared.parser.matches.ArgMatches.{ArgMatches}
 use Rattle.clap.proofs.WalkLemmas.{first_value-rows}
+use Rattle.c_types.specs.declared.mode.MallocMode.{MallocMode}
 use Rattle.fore_words.specs.CommandLine.{the_app}
 use Rattle.fore_words.specs.Words.{IsCommand, given_in, IsRun, AsksNothing}
 use Rattle.fore_words.specs.declared.asked.Asked.TheVariants.{Verify, Run, Gen}
@@ -15,7 +16,7 @@ first_given m name = first_value-rows (found_of m) name
 -- words that `clap` refuses ask nothing
 pub not_taken : (words : List Text) → (fault_of the_app words ≡ [] → ⊥) → AsksNothing words
 not_taken words fault (Verify path boxes settings) h = fault h.0.taken
-not_taken words fault (Run path choices steps) h = fault h.0.taken
+not_taken words fault (Run path choices steps malloc) h = fault h.0.taken
 not_taken words fault (Gen kind phases) h = fault h.0.taken
 
 same_name : (found : Option Text) (one other : Text) → found ≡ Some one → found ≡ Some other → one ≡ other
@@ -38,9 +39,9 @@ module _ (words : List Text) (given : List Row) (found : subcommand_of the_app w
   given_run = ap (λ c. option_map_or (λ command. command.1) c []) found
 
   -- nor do they ask anything, where what is given does not read
-  pub run_unread : ((path : Text) (choices : List ℕ) (steps : ℕ) → IsRun given path choices steps → ⊥)
-      → AsksNothing words
+  pub run_unread : ((path : Text) (choices : List ℕ) (steps : ℕ) (malloc : MallocMode)
+      → IsRun given path choices steps malloc → ⊥) → AsksNothing words
   run_unread unread (Verify path boxes settings) h = run_is_not_verify (named_run (codes "verify") h.0)
-  run_unread unread (Run path choices steps) h =
-      unread path choices steps (subst (λ g. IsRun g path choices steps) given_run h.1)
+  run_unread unread (Run path choices steps malloc) h =
+      unread path choices steps malloc (subst (λ g. IsRun g path choices steps malloc) given_run h.1)
   run_unread unread (Gen kind phases) h = run_is_not_gen (named_run (codes "gen") h.0)

@@ -19,8 +19,10 @@ use Rattle.std.proofs.Common.{
   refl,
 }
 use Rattle.clap.specs.Words.{Text, subcommand_of, first_of}
+use Rattle.c_types.specs.declared.mode.MallocMode.{MallocMode}
+use Rattle.c_types.specs.declared.mode.MallocMode.TheVariants.{Always, MayFail}
 use Rattle.fore_words.specs.CommandLine.{the_app}
-use Rattle.fore_words.specs.Values.{IsNumber, IsChoices, IsKind, Reads, IsOption}
+use Rattle.fore_words.specs.Values.{IsNumber, IsChoices, IsKind, IsMode, Reads, IsOption}
 use Rattle.fore_words.specs.Words.{IsCommand, given_in, AreSettings, IsAsked}
 use Rattle.fore_words.specs.declared.asked.TheConstants.{
   HEIGHT,
@@ -68,6 +70,12 @@ one_kind text TreePhases ListPhases p q = absurd (list_is_not_tree (sym q ∙ p)
 one_kind text TreePhases DllPhases p q = absurd (dll_is_not_tree (sym q ∙ p))
 one_kind text TreePhases TreePhases p q = refl
 
+one_mode : (found : Option (List ℕ)) (a b : MallocMode) → IsMode found a → IsMode found b → a ≡ b
+one_mode found Always Always p q = refl
+one_mode found Always MayFail p q = absurd (p q)
+one_mode found MayFail Always p q = absurd (q p)
+one_mode found MayFail MayFail p q = refl
+
 module _ {V : Type 0} (IsValue : List ℕ → V → Type 0)
     (one : (text : List ℕ) (a b : V) → IsValue text a → IsValue text b → a ≡ b) where
   one_option : (default : V) (text : Option (List ℕ)) (a b : V) → IsOption IsValue default text a
@@ -86,11 +94,13 @@ one_setting : (most default : ℕ) → most < 2 ^ 64 → (text : Option (List �
 one_setting most default small = one_option (IsNumber most) (one_number most small) default
 
 module _ (words : List Text) where
-  same_settings : (s t : Settings) → s.height ≡ t.height → s.budget ≡ t.budget → s.jobs ≡ t.jobs → s ≡ t
-  same_settings s t height budget jobs =
-      ap (λ n. record { height = n; budget = s.budget; jobs = s.jobs }) height
-      ∙ ap (λ n. record { height = t.height; budget = n; jobs = s.jobs }) budget
-      ∙ ap (λ n. record { height = t.height; budget = t.budget; jobs = n }) jobs
+  same_settings : (s t : Settings) → s.height ≡ t.height → s.budget ≡ t.budget → s.jobs ≡ t.jobs
+      → s.malloc ≡ t.malloc → s ≡ t
+  same_settings s t height budget jobs malloc =
+      ap (λ n. record { height = n; budget = s.budget; jobs = s.jobs; malloc = s.malloc }) height
+      ∙ ap (λ n. record { height = t.height; budget = n; jobs = s.jobs; malloc = s.malloc }) budget
+      ∙ ap (λ n. record { height = t.height; budget = t.budget; jobs = n; malloc = s.malloc }) jobs
+      ∙ ap (λ m. record { height = t.height; budget = t.budget; jobs = t.jobs; malloc = m }) malloc
 
   one_way : (s t : Settings) → AreSettings (given_in words) s → AreSettings (given_in words) t → s ≡ t
   one_way s t p q =
@@ -100,6 +110,7 @@ module _ (words : List Text) where
       (one_setting MOST_BUDGET BUDGET (omega arith) (first_of (codes "steps") (given_in words)) s.budget t.budget
       p.budget q.budget)
       (one_setting MOST_JOBS JOBS (omega arith) (first_of (codes "jobs") (given_in words)) s.jobs t.jobs p.jobs q.jobs)
+      (one_mode (first_of (codes "malloc-null") (given_in words)) s.malloc t.malloc p.malloc q.malloc)
 
   same_path : (found : Option Text) (a b : Text) → found ≡ Some a → found ≡ Some b → a ≡ b
   same_path found a b e f = cc (e, f)
@@ -107,8 +118,9 @@ module _ (words : List Text) where
   same_verify : (a b : Text) (m n : Option Text) (s t : Settings) → a ≡ b → m ≡ n → s ≡ t → Verify a m s ≡ Verify b n t
   same_verify a b m n s t e f g = cc (e, f, g)
 
-  same_run : (a b : Text) (m n : List ℕ) (s t : ℕ) → a ≡ b → m ≡ n → s ≡ t → Run a m s ≡ Run b n t
-  same_run a b m n s t e f g = cc (e, f, g)
+  same_run : (a b : Text) (m n : List ℕ) (s t : ℕ) (x y : MallocMode) → a ≡ b → m ≡ n → s ≡ t → x ≡ y
+      → Run a m s x ≡ Run b n t y
+  same_run a b m n s t x y e f g h = cc (e, f, g, h)
 
   same_gen : (a b : Kind) (m n : ℕ) → a ≡ b → m ≡ n → Gen a m ≡ Gen b n
   same_gen a b m n e f = cc (e, f)
@@ -135,17 +147,18 @@ module _ (words : List Text) where
   one_thing (Verify a m s) (Verify b n t) p q =
       same_verify a b m n s t (same_path (first_of (codes "FILE") (given_in words)) a b p.1.file q.1.file)
       (sym p.1.box_file ∙ q.1.box_file) (one_way s t p.1.how q.1.how)
-  one_thing (Verify a m s) (Run b n t) p q = absurd (no_verify_and_run p.0 q.0)
+  one_thing (Verify a m s) (Run b n t y) p q = absurd (no_verify_and_run p.0 q.0)
   one_thing (Verify a m s) (Gen b n) p q = absurd (no_verify_and_gen p.0 q.0)
-  one_thing (Run a m s) (Verify b n t) p q = absurd (no_verify_and_run q.0 p.0)
-  one_thing (Run a m s) (Run b n t) p q =
-      same_run a b m n s t (same_path (first_of (codes "FILE") (given_in words)) a b p.1.file q.1.file)
+  one_thing (Run a m s x) (Verify b n t) p q = absurd (no_verify_and_run q.0 p.0)
+  one_thing (Run a m s x) (Run b n t y) p q =
+      same_run a b m n s t x y (same_path (first_of (codes "FILE") (given_in words)) a b p.1.file q.1.file)
       (one_option IsChoices one_list [] (first_of (codes "choices") (given_in words)) m n p.1.listed q.1.listed)
       (one_setting RUN_STEPS RUN_STEPS (omega arith) (first_of (codes "steps") (given_in words)) s t p.1.counted
       q.1.counted)
-  one_thing (Run a m s) (Gen b n) p q = absurd (no_run_and_gen p.0 q.0)
+      (one_mode (first_of (codes "malloc-null") (given_in words)) x y p.1.mode q.1.mode)
+  one_thing (Run a m s x) (Gen b n) p q = absurd (no_run_and_gen p.0 q.0)
   one_thing (Gen a m) (Verify b n t) p q = absurd (no_verify_and_gen q.0 p.0)
-  one_thing (Gen a m) (Run b n t) p q = absurd (no_run_and_gen q.0 p.0)
+  one_thing (Gen a m) (Run b n t y) p q = absurd (no_run_and_gen q.0 p.0)
   one_thing (Gen a m) (Gen b n) p q =
       same_gen a b m n (one_read IsKind one_kind (first_of (codes "KIND") (given_in words)) a b p.1.named q.1.named)
       (one_read (IsNumber MOST_PHASES) (one_number MOST_PHASES (omega arith)) (first_of (codes "N") (given_in words)) m

@@ -1,6 +1,7 @@
 -- The numbers of what is asked are in their ranges.
 use Rattle.std.proofs.Common.{arith, ℕ, List, Option, Some, None, ◌≤◌, codes}
 use Rattle.clap.specs.Words.{Text, Row, first_of}
+use Rattle.c_types.specs.declared.mode.MallocMode.{MallocMode}
 use Rattle.fore_words.specs.declared.asked.TheConstants.{
   HEIGHT,
   MOST_HEIGHT,
@@ -36,9 +37,9 @@ verify_in_range given path boxes s is = (
   option_is_up_to MOST_JOBS JOBS (omega arith) (omega arith) (first_of (codes "jobs") given) s.jobs is.how.jobs,
 )
 
-pub run_in_range : (given : List Row) (path : Text) (choices : List ℕ) (steps : ℕ) → IsRun given path choices steps
-    → IsInRange (Run path choices steps)
-run_in_range given path choices steps is =
+pub run_in_range : (given : List Row) (path : Text) (choices : List ℕ) (steps : ℕ) (malloc : MallocMode)
+    → IsRun given path choices steps malloc → IsInRange (Run path choices steps malloc)
+run_in_range given path choices steps malloc is =
     option_is_up_to RUN_STEPS RUN_STEPS (omega arith) (omega arith) (first_of (codes "steps") given) steps is.counted
 
 pub gen_in_range : (given : List Row) (kind : Kind) (phases : ℕ) → IsGen given kind phases

@@ -25,13 +25,16 @@ use Rattle.clap.specs.declared.error.kind.ErrorKind.TheVariants.{
   UnknownArgument,
   InvalidSubcommand,
   ArgumentConflict,
+  TooManyValues,
   MissingRequiredArgument,
   MissingSubcommand,
 }
 use Rattle.clap.proofs.OnLiterals.{clap_on_literals}
+use Rattle.c_types.specs.declared.mode.MallocMode.{MallocMode}
+use Rattle.c_types.specs.declared.mode.MallocMode.TheVariants.{Always, MayFail}
 use Rattle.fore_words.specs.CommandLine.{the_app}
 use Rattle.fore_words.specs.Usage.{usage_text}
-use Rattle.fore_words.specs.Values.{IsNumber, IsChoices, IsKind, IsOption, Reads}
+use Rattle.fore_words.specs.Values.{IsNumber, IsChoices, IsKind, IsMode, IsOption, Reads}
 use Rattle.fore_words.specs.Words.{given_in, AsksToVerify, AsksToRun, AsksToGen, AsksNothing, IsInRange}
 use Rattle.fore_words.specs.declared.asked.Settings.{Settings}
 use Rattle.fore_words.specs.declared.asked.Asked.TheVariants.{Verify, Run, Gen}
@@ -84,6 +87,25 @@ trees = refl
 no_kind : IsKind (codes "heap") TreePhases → ⊥
 no_kind h = omega (arith, ap (λ t. slice_index t 0) h)
 
+-- `malloc` may fail where the flag was given, and only there
+no_flag : Some (codes "false") ≡ Some (codes "true") → ⊥
+no_flag e = cc e
+
+flagged : IsMode (Some (codes "true")) MayFail
+flagged = refl
+
+not_flagged : IsMode (Some (codes "false")) Always
+not_flagged = no_flag
+
+flag_unknown : IsMode None Always
+flag_unknown e = cc e
+
+flagged_for_always : IsMode (Some (codes "true")) Always → ⊥
+flagged_for_always h = h refl
+
+not_flagged_to_fail : IsMode (Some (codes "false")) MayFail → ⊥
+not_flagged_to_fail h = no_flag h
+
 -- an option that is not named has its default, and only that
 default_is_taken : IsOption (IsNumber 4) 1 None 1
 default_is_taken = refl
@@ -102,7 +124,7 @@ nothing_to_read h = h
 -- What the words ask
 
 abbrev usual : Settings
-usual = record { height = 1; budget = 2000; jobs = 1 }
+usual = record { height = 1; budget = 2000; jobs = 1; malloc = Always }
 
 abbrev verify : List Text → List Text
 verify words = codes "verify" ∷ codes "x.c" ∷ words
@@ -114,7 +136,11 @@ verified : AsksToVerify (verify []) (codes "x.c") None usual
 unfolding clap_on_literals
 verified = (
   record { taken = refl; named = refl },
-  record { file = refl; box_file = refl; how = record { height = refl; budget = refl; jobs = refl } },
+  record {
+    file = refl;
+    box_file = refl;
+    how = record { height = refl; budget = refl; jobs = refl; malloc = no_flag };
+  },
 )
 
 -- options stand in any order and before the file, with a space or an equals sign
@@ -123,7 +149,7 @@ with_all = codes "verify" ∷ codes "--jobs" ∷ codes "64" ∷ codes "--steps=1
     ∷ codes "--height" ∷ codes "4" ∷ []
 
 abbrev greatest : Settings
-greatest = record { height = 4; budget = 100000; jobs = 64 }
+greatest = record { height = 4; budget = 100000; jobs = 64; malloc = Always }
 
 verified_with_all : AsksToVerify with_all (codes "x.c") (Some (codes "d.box")) greatest
 unfolding clap_on_literals digits
@@ -136,6 +162,7 @@ verified_with_all = (
       height = record { written = refl; least = omega arith; greatest = omega arith };
       budget = record { written = refl; least = omega arith; greatest = omega arith };
       jobs = record { written = refl; least = omega arith; greatest = omega arith };
+      malloc = no_flag;
     };
   },
 )
@@ -145,15 +172,59 @@ behind_hyphens : AsksToVerify (codes "verify" ∷ codes "--" ∷ codes "-x.c" �
 unfolding clap_on_literals
 behind_hyphens = (
   record { taken = refl; named = refl },
-  record { file = refl; box_file = refl; how = record { height = refl; budget = refl; jobs = refl } },
+  record {
+    file = refl;
+    box_file = refl;
+    how = record { height = refl; budget = refl; jobs = refl; malloc = no_flag };
+  },
 )
 
-ran : AsksToRun (run []) (codes "x.c") [] 1000000
+-- behind the flag for a `malloc` that may fail, and before it
+abbrev may_fail : Settings
+may_fail = record usual { malloc = MayFail }
+
+flag_before : AsksToVerify (codes "verify" ∷ codes "--malloc-null" ∷ codes "x.c" ∷ []) (codes "x.c") None may_fail
 unfolding clap_on_literals
-ran = (record { taken = refl; named = refl }, record { file = refl; listed = refl; counted = refl })
+flag_before = (
+  record { taken = refl; named = refl },
+  record {
+    file = refl;
+    box_file = refl;
+    how = record { height = refl; budget = refl; jobs = refl; malloc = refl };
+  },
+)
+
+flag_behind : AsksToRun (run (codes "--malloc-null" ∷ codes "--choices=0" ∷ [])) (codes "x.c") (0 ∷ []) 1000000 MayFail
+unfolding clap_on_literals
+flag_behind = (
+  record { taken = refl; named = refl },
+  record {
+    file = refl;
+    listed = record { digits = ((omega arith, omega arith), tt); are = refl };
+    counted = refl;
+    mode = refl;
+  },
+)
+
+-- behind two hyphens it is a file
+flag_for_a_file : AsksToVerify (codes "verify" ∷ codes "--" ∷ codes "--malloc-null" ∷ []) (codes "--malloc-null") None
+    usual
+unfolding clap_on_literals
+flag_for_a_file = (
+  record { taken = refl; named = refl },
+  record {
+    file = refl;
+    box_file = refl;
+    how = record { height = refl; budget = refl; jobs = refl; malloc = no_flag };
+  },
+)
+
+ran : AsksToRun (run []) (codes "x.c") [] 1000000 Always
+unfolding clap_on_literals
+ran = (record { taken = refl; named = refl }, record { file = refl; listed = refl; counted = refl; mode = no_flag })
 
 ran_on_choices : AsksToRun (run (codes "--steps=25" ∷ codes "--choices" ∷ codes "09" ∷ [])) (codes "x.c")
-    (0 ∷ 9 ∷ []) 25
+    (0 ∷ 9 ∷ []) 25 Always
 unfolding clap_on_literals digits
 ran_on_choices = (
   record { taken = refl; named = refl },
@@ -161,18 +232,24 @@ ran_on_choices = (
     file = refl;
     listed = two_choices;
     counted = record { written = refl; least = omega arith; greatest = omega arith };
+    mode = no_flag;
   },
 )
 
 -- an empty list of choices, as a word of its own and behind the equals sign
-ran_on_no_choices : AsksToRun (run (codes "--choices" ∷ [] ∷ [])) (codes "x.c") [] 1000000
+ran_on_no_choices : AsksToRun (run (codes "--choices" ∷ [] ∷ [])) (codes "x.c") [] 1000000 Always
 unfolding clap_on_literals
-ran_on_no_choices =
-    (record { taken = refl; named = refl }, record { file = refl; listed = no_choices; counted = refl })
+ran_on_no_choices = (
+  record { taken = refl; named = refl },
+  record { file = refl; listed = no_choices; counted = refl; mode = no_flag },
+)
 
-ran_on_nothing : AsksToRun (run (codes "--choices=" ∷ [])) (codes "x.c") [] 1000000
+ran_on_nothing : AsksToRun (run (codes "--choices=" ∷ [])) (codes "x.c") [] 1000000 Always
 unfolding clap_on_literals
-ran_on_nothing = (record { taken = refl; named = refl }, record { file = refl; listed = no_choices; counted = refl })
+ran_on_nothing = (
+  record { taken = refl; named = refl },
+  record { file = refl; listed = no_choices; counted = refl; mode = no_flag },
+)
 
 generated : AsksToGen (codes "gen" ∷ codes "tree" ∷ codes "200" ∷ []) TreePhases 200
 unfolding clap_on_literals digits
@@ -210,6 +287,23 @@ two_files = refl
 an_option_twice : fault_of the_app (verify (codes "--jobs" ∷ codes "1" ∷ codes "--jobs=1" ∷ [])) ≡ ArgumentConflict ∷ []
 unfolding clap_on_literals
 an_option_twice = refl
+
+a_flag_twice : fault_of the_app (verify (codes "--malloc-null" ∷ codes "--malloc-null" ∷ [])) ≡ ArgumentConflict ∷ []
+unfolding clap_on_literals
+a_flag_twice = refl
+
+a_flag_with_a_value : fault_of the_app (run (codes "--malloc-null=1" ∷ [])) ≡ TooManyValues ∷ []
+unfolding clap_on_literals
+a_flag_with_a_value = refl
+
+a_word_behind_a_flag : fault_of the_app (verify (codes "--malloc-null" ∷ codes "1" ∷ [])) ≡ UnknownArgument ∷ []
+unfolding clap_on_literals
+a_word_behind_a_flag = refl
+
+no_flag_of_gen : fault_of the_app (codes "gen" ∷ codes "list" ∷ codes "1" ∷ codes "--malloc-null" ∷ [])
+    ≡ UnknownArgument ∷ []
+unfolding clap_on_literals
+no_flag_of_gen = refl
 
 an_option_without_value : fault_of the_app (verify (codes "--boxes" ∷ [])) ≡ InvalidValue ∷ []
 unfolding clap_on_literals
@@ -265,7 +359,7 @@ too_great most text n small great is = omega (arith, number_is most text n small
 height_zero : AsksNothing (verify (codes "--height=0" ∷ []))
 unfolding clap_on_literals
 height_zero (Verify path boxes settings) h = zero_alone 4 settings.height (omega arith) h.1.how.height
-height_zero (Run path choices steps) h = cc (h.0.named)
+height_zero (Run path choices steps malloc) h = cc (h.0.named)
 height_zero (Gen kind phases) h = cc (h.0.named)
 
 height_five : (path : Text) (boxes : Option Text) (settings : Settings)
@@ -286,17 +380,17 @@ unfolding clap_on_literals
 too_many_jobs path boxes settings h =
     too_great 64 (codes "65") settings.jobs (omega arith) (omega arith) h.1.how.jobs
 
-too_many_steps : (path : Text) (choices : List ℕ) (steps : ℕ)
-    → AsksToRun (run (codes "--steps" ∷ codes "1000001" ∷ [])) path choices steps → ⊥
+too_many_steps : (path : Text) (choices : List ℕ) (steps : ℕ) (malloc : MallocMode)
+    → AsksToRun (run (codes "--steps" ∷ codes "1000001" ∷ [])) path choices steps malloc → ⊥
 unfolding clap_on_literals
-too_many_steps path choices steps h =
+too_many_steps path choices steps malloc h =
     too_great 1000000 (codes "1000001") steps (omega arith) (omega arith) h.1.counted
 
 -- a letter among the choices
-a_letter : (path : Text) (choices : List ℕ) (steps : ℕ) → AsksToRun (run (codes "--choices=1x" ∷ [])) path choices steps
-    → ⊥
+a_letter : (path : Text) (choices : List ℕ) (steps : ℕ) (malloc : MallocMode)
+    → AsksToRun (run (codes "--choices=1x" ∷ [])) path choices steps malloc → ⊥
 unfolding clap_on_literals
-a_letter path choices steps h = omega (arith, h.1.listed.digits.1.0)
+a_letter path choices steps malloc h = omega (arith, h.1.listed.digits.1.0)
 
 too_many_phases : (kind : Kind) (phases : ℕ) → AsksToGen (codes "gen" ∷ codes "dll" ∷ codes "201" ∷ []) kind phases → ⊥
 unfolding clap_on_literals
@@ -311,19 +405,19 @@ no_phases kind phases h = zero_alone 200 phases (omega arith) h.1.counted
 greatest_in_range : IsInRange (Verify (codes "x.c") None greatest)
 greatest_in_range = ((omega arith, omega arith), (omega arith, omega arith), (omega arith, omega arith))
 
-height_out_of_range : IsInRange (Verify (codes "x.c") None (record { height = 5; budget = 1; jobs = 1 })) → ⊥
+height_out_of_range : IsInRange (Verify (codes "x.c") None (record usual { height = 5 })) → ⊥
 height_out_of_range h = omega (arith, h.0.1)
 
-budget_out_of_range : IsInRange (Verify (codes "x.c") None (record { height = 1; budget = 100001; jobs = 1 })) → ⊥
+budget_out_of_range : IsInRange (Verify (codes "x.c") None (record usual { budget = 100001 })) → ⊥
 budget_out_of_range h = omega (arith, h.1.1)
 
-jobs_out_of_range : IsInRange (Verify (codes "x.c") None (record { height = 1; budget = 1; jobs = 65 })) → ⊥
+jobs_out_of_range : IsInRange (Verify (codes "x.c") None (record usual { jobs = 65 })) → ⊥
 jobs_out_of_range h = omega (arith, h.2.1)
 
-steps_in_range : IsInRange (Run (codes "x.c") [] 1000000)
+steps_in_range : IsInRange (Run (codes "x.c") [] 1000000 MayFail)
 steps_in_range = (omega arith, omega arith)
 
-steps_out_of_range : IsInRange (Run (codes "x.c") [] 1000001) → ⊥
+steps_out_of_range : IsInRange (Run (codes "x.c") [] 1000001 Always) → ⊥
 steps_out_of_range h = omega (arith, h.1)
 
 phases_in_range : IsInRange (Gen ListPhases 200)
@@ -334,6 +428,8 @@ phases_out_of_range h = omega (arith, h.0)
 
 -- The usage text
 
-three_lines : usage_text ≡ codes "forester verify FILE [--boxes FILE] [--height N] [--steps N] [--jobs N]" ++ 10 ∷
-    (codes "forester run FILE [--choices LIST] [--steps N]" ++ 10 ∷ (codes "forester gen KIND N" ++ 10 ∷ []))
+three_lines : usage_text
+    ≡ codes "forester verify FILE [--boxes FILE] [--height N] [--steps N] [--jobs N] [--malloc-null]" ++ 10 ∷
+    (codes "forester run FILE [--choices LIST] [--steps N] [--malloc-null]" ++ 10 ∷
+    (codes "forester gen KIND N" ++ 10 ∷ []))
 three_lines = refl

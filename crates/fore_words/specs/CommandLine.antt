@@ -1,7 +1,7 @@
 -- The command line of the program, as `clap` reads it: one command with three subcommands, which are its commands.
 use Rattle.std.specs.Prelude.{true, false, List, [], ◌∷◌, ◌++◌, map, Some, codes}
 use Rattle.clap.specs.Words.{Text, Rule, Shape, App, new_rule, new_app}
-use Rattle.clap.specs.declared.builder.action.ArgAction.TheVariants.{Set}
+use Rattle.clap.specs.declared.builder.action.ArgAction.TheVariants.{Set, SetTrue}
 
 -- a word that a command wants in its place
 abbrev pub place_rule : Text → Rule
@@ -11,21 +11,28 @@ place_rule name = record (new_rule name) { required = true; action = Some Set }
 abbrev pub option_rule : Text → Rule
 option_rule name = record (new_rule name) { long = Some name; action = Some Set }
 
--- a command of this name, with these places and options
-abbrev pub command_shape : Text → List Text → List Text → Shape
-command_shape name places options =
-    record (new_app name).top { rules = map place_rule places ++ map option_rule options }
+-- an option without a value, `--name`, at most once
+abbrev pub flag_rule : Text → Rule
+flag_rule name = record (new_rule name) { long = Some name; action = Some SetTrue }
+
+-- a command of this name, with these places, options and flags
+abbrev pub command_shape : Text → List Text → List Text → List Text → Shape
+command_shape name places options flags = record (new_app name).top {
+  rules = map place_rule places ++ (map option_rule options ++ map flag_rule flags);
+}
 
 abbrev pub verify_shape : Shape
 verify_shape =
     command_shape (codes "verify") (codes "FILE" ∷ [])
-    (codes "boxes" ∷ codes "height" ∷ codes "steps" ∷ codes "jobs" ∷ [])
+    (codes "boxes" ∷ codes "height" ∷ codes "steps" ∷ codes "jobs" ∷ []) (codes "malloc-null" ∷ [])
 
 abbrev pub run_shape : Shape
-run_shape = command_shape (codes "run") (codes "FILE" ∷ []) (codes "choices" ∷ codes "steps" ∷ [])
+run_shape =
+    command_shape (codes "run") (codes "FILE" ∷ []) (codes "choices" ∷ codes "steps" ∷ [])
+    (codes "malloc-null" ∷ [])
 
 abbrev pub gen_shape : Shape
-gen_shape = command_shape (codes "gen") (codes "KIND" ∷ codes "N" ∷ []) []
+gen_shape = command_shape (codes "gen") (codes "KIND" ∷ codes "N" ∷ []) [] []
 
 -- the words are those behind the program's name, the first of them names a command, and there is no word or flag for
 -- help or a version

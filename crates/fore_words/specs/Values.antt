@@ -1,5 +1,7 @@
 -- The values that stand in the words.
-use Rattle.std.specs.Prelude.{◌≡◌, ◌≤◌, ◌-◌, ℕ, List, map, Option, Some, None, codes, decimal}
+use Rattle.std.specs.Prelude.{◌≡◌, ◌≢◌, ◌≤◌, ◌-◌, ℕ, List, map, Option, Some, None, codes, decimal}
+use Rattle.c_types.specs.declared.mode.MallocMode.{MallocMode}
+use Rattle.c_types.specs.declared.mode.MallocMode.TheVariants.{Always, MayFail}
 use Rattle.fore_base.specs.Lists.{Every}
 use Rattle.fore_words.specs.declared.asked.Kind.{Kind}
 use Rattle.fore_words.specs.declared.asked.Kind.TheVariants.{ListPhases, DllPhases, TreePhases}
@@ -27,6 +29,11 @@ abbrev pub IsKind : List ℕ → Kind → Type 0
 IsKind text ListPhases = text ≡ codes "list"
 IsKind text DllPhases = text ≡ codes "dll"
 IsKind text TreePhases = text ≡ codes "tree"
+
+-- what `malloc` may answer, by what `clap` finds under the name of the flag: `true` where the words have it
+abbrev pub IsMode : Option (List ℕ) → MallocMode → Type 0
+IsMode found Always = found ≢ Some (codes "true")
+IsMode found MayFail = found ≡ Some (codes "true")
 
 -- there is a text, and this is its value
 abbrev pub Reads : {V : Type 0} → (List ℕ → V → Type 0) → Option (List ℕ) → V → Type 0

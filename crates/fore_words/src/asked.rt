@@ -1,5 +1,6 @@
 //! What the words of the command line ask.
 use crate::path::FilePath;
+use c_types::mode::MallocMode;
 use fore_base::list::List;
 use std::alloc::AllocError;
 
@@ -36,6 +37,8 @@ pub struct Settings {
     pub budget: u32,
     /// How many jobs work at once, from 1 to `MOST_JOBS`.
     pub jobs: u32,
+    /// What `malloc` may answer.
+    pub malloc: MallocMode,
 }
 
 /// What a generated program builds and takes apart in each of its phases.
@@ -59,13 +62,16 @@ pub enum Asked<'a> {
         boxes: Option<FilePath<'a>>,
         settings: Settings,
     },
-    /// The file of this path is run on these choices, for at most so many steps, from 1 to `RUN_STEPS`.
+    /// The file of this path is run on these choices, for at most so many steps, from 1 to `RUN_STEPS`; its `malloc`
+    /// answers by the mode.
     Run {
         path: FilePath<'a>,
         choices: List<u8>,
         steps: u32,
+        malloc: MallocMode,
     },
-    /// A program of this kind is made with so many phases, from 1 to `MOST_PHASES`, and verified.
+    /// A program of this kind is made with so many phases, from 1 to `MOST_PHASES`, and verified; each `malloc` gives
+    /// a cell.
     Gen {
         kind: Kind,
         phases: u32,

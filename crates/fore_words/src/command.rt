@@ -14,6 +14,7 @@ ghost use Rattle.clap.specs.declared.builder.command.Command.TheViews.{out-Comma
 ghost use Rattle.fore_words.specs.CommandLine.{
   place_rule,
   option_rule,
+  flag_rule,
   verify_shape,
   run_shape,
   gen_shape,
@@ -81,6 +82,7 @@ fn verify_command<'a>(alloc: Global) -> Mem<Command<'a>>
     let command = with_argument(command, option(alloc, "height"))?;
     let command = with_argument(command, option(alloc, "steps"))?;
     let command = with_argument(command, option(alloc, "jobs"))?;
+    let command = with_argument(command, flag(alloc, "malloc-null"))?;
     Ok(command)
 }
 
@@ -91,6 +93,7 @@ fn run_command<'a>(alloc: Global) -> Mem<Command<'a>>
     let command = with_argument(Command::new(alloc, "run"), place(alloc, "FILE"))?;
     let command = with_argument(command, option(alloc, "choices"))?;
     let command = with_argument(command, option(alloc, "steps"))?;
+    let command = with_argument(command, flag(alloc, "malloc-null"))?;
     Ok(command)
 }
 
@@ -136,4 +139,12 @@ fn option<'a>(alloc: Global, name: &'a str) -> Arg<'a>
     ensures local { result.global ≡ false }
 {
     Arg::new(alloc, name).long(name).action(ArgAction::Set)
+}
+
+/// An option without a value.
+fn flag<'a>(alloc: Global, name: &'a str) -> Arg<'a>
+    ensures rule { rule_of result ≡ flag_rule name.entry.now }
+    ensures local { result.global ≡ false }
+{
+    Arg::new(alloc, name).long(name).action(ArgAction::SetTrue)
 }

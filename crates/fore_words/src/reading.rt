@@ -5,6 +5,7 @@ ghost use Rattle.fore_words.specs.Words.{texts, AreSettings, IsVerify, IsRun, Is
 ghost use Rattle.fore_words.specs.declared.asked.WordsFault.{WordsFault as Why};
 ghost use Rattle.fore_words.specs.declared.asked.Settings.{Settings as How};
 ghost use Rattle.fore_words.specs.declared.asked.Kind.{Kind as What};
+ghost use Rattle.c_types.specs.declared.mode.MallocMode.{MallocMode as Mode};
 
 use crate::asked::{
     Asked, BUDGET, HEIGHT, JOBS, Kind, MOST_BUDGET, MOST_HEIGHT, MOST_JOBS, MOST_PHASES, RUN_STEPS,
@@ -12,7 +13,8 @@ use crate::asked::{
 };
 use crate::command::matches_of;
 use crate::path::FilePath;
-use crate::values::{choices_or_none, kind_in, number_in, number_or};
+use crate::values::{choices_or_none, kind_in, mode_of, number_in, number_or};
+use c_types::mode::MallocMode;
 use clap::ArgMatches;
 use fore_base::list::List;
 use std::alloc::Global;
@@ -42,11 +44,12 @@ pub fn read_words<'a>(alloc: Global, words: &'a [String]) -> Result<Asked<'a>, W
             })
         }
         "run" => {
-            let (path, choices, steps) = run_of(alloc, given)?;
+            let (path, choices, steps, malloc) = run_of(alloc, given)?;
             Ok(Asked::Run {
                 path,
                 choices,
                 steps,
+                malloc,
             })
         }
         "gen" => {
@@ -114,14 +117,16 @@ fn settings_of(given: &ArgMatches<'_>) -> Result<Settings, WordsFault>
     let height = number_or(text_of(given, "height"), MOST_HEIGHT, HEIGHT)?;
     let budget = number_or(text_of(given, "steps"), MOST_BUDGET, BUDGET)?;
     let jobs = number_or(text_of(given, "jobs"), MOST_JOBS, JOBS)?;
+    let malloc = mode_of(text_of(given, "malloc-null"));
     Ok(Settings {
         height,
         budget,
         jobs,
+        malloc,
     })
 }
 
-/// The file to run, the choices, and the number of steps.
+/// The file to run, the choices, the number of steps, and what `malloc` may answer.
 ///
 /// # Errors
 ///
@@ -129,17 +134,18 @@ fn settings_of(given: &ArgMatches<'_>) -> Result<Settings, WordsFault>
 fn run_of<'a>(
     alloc: Global,
     given: &ArgMatches<'a>,
-) -> Result<(FilePath<'a>, List<u8>, u32), WordsFault>
-    ensures ok { IfOk result (λ p. IsRun (rows_of (found_of given.now)) p.0 p.1 p.2) }
-    ensures usage { IsErrOf result Why.Usage → (path : Text) (choices : List ℕ) (steps : ℕ)
-        → IsRun (rows_of (found_of given.now)) path choices steps → ⊥ }
+) -> Result<(FilePath<'a>, List<u8>, u32, MallocMode), WordsFault>
+    ensures ok { IfOk result (λ p. IsRun (rows_of (found_of given.now)) p.0 p.1 p.2 p.3) }
+    ensures usage { IsErrOf result Why.Usage → (path : Text) (choices : List ℕ) (steps : ℕ) (malloc : Mode)
+        → IsRun (rows_of (found_of given.now)) path choices steps malloc → ⊥ }
 {
     let Some(path) = path_in(given, "FILE") else {
         return Err(WordsFault::Usage);
     };
     let steps = number_or(text_of(given, "steps"), RUN_STEPS, RUN_STEPS)?;
     let choices = choices_or_none(alloc, text_of(given, "choices"))?;
-    Ok((path, choices, steps))
+    let malloc = mode_of(text_of(given, "malloc-null"));
+    Ok((path, choices, steps, malloc))
 }
 
 /// The kind of generated programs, and the number of phases.

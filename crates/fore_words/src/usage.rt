@@ -6,8 +6,8 @@ ghost use Rattle.fore_words.specs.Usage.{usage_text};
 pub fn usage_text() -> &'static [u8]
     ensures { result.now ≡ usage_text }
 {
-    b"forester verify FILE [--boxes FILE] [--height N] [--steps N] [--jobs N]
-forester run FILE [--choices LIST] [--steps N]
+    b"forester verify FILE [--boxes FILE] [--height N] [--steps N] [--jobs N] [--malloc-null]
+forester run FILE [--choices LIST] [--steps N] [--malloc-null]
 forester gen KIND N
 "
 }

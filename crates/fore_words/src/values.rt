@@ -6,6 +6,7 @@ ghost use Rattle.std.specs.Prelude.{
   ℕ,
   List,
   map,
+  Some,
   option_map,
   IfOk,
   IsErrOf,
@@ -15,11 +16,12 @@ ghost use Rattle.std.specs.Prelude.{
   decimal,
 };
 ghost use Rattle.fore_base.specs.Lists.{Every};
-ghost use Rattle.fore_words.specs.Values.{IsNumber, IsDigit, digit_of, IsChoices, IsKind, IsOption};
+ghost use Rattle.fore_words.specs.Values.{IsNumber, IsDigit, digit_of, IsChoices, IsKind, IsMode, IsOption};
 ghost use Rattle.fore_words.specs.declared.asked.WordsFault.{WordsFault as Why};
 ghost use Rattle.fore_words.specs.declared.asked.Kind.{Kind as What};
 
 use crate::asked::{Kind, WordsFault};
+use c_types::mode::MallocMode;
 use fore_base::list::List;
 use fore_base::memory::Mem;
 use itoa::Buffer;
@@ -140,5 +142,24 @@ pub fn kind_in(text: &str) -> Result<Kind, WordsFault>
         "dll" => Ok(Kind::DllPhases),
         "tree" => Ok(Kind::TreePhases),
         _ => Err(WordsFault::Usage),
+    }
+}
+
+/// What `malloc` may answer, by what is found under the flag's name.
+pub fn mode_of(flag: Option<&str>) -> MallocMode
+    ensures { IsMode (option_map (λ t. t.now) flag.entry) result }
+{
+    match flag {
+        Some(text) => mode_in(text),
+        None => MallocMode::Always,
+    }
+}
+
+fn mode_in(text: &str) -> MallocMode
+    ensures { IsMode (Some text.now) result }
+{
+    match text {
+        "true" => MallocMode::MayFail,
+        _ => MallocMode::Always,
     }
 }

@@ -3,7 +3,10 @@
 // - `program | KIND N`: the program, `\n` for each newline.
 // - `lines | KIND N`: how many lines it has.
 // - `boxes | KIND N`: the file of boxes, `\n` for each newline; it is the same for each kind and number.
+// - `accepted | KIND N`: how many of the programs of one phase to N phases the front end takes.
+// - `table | KIND N`: how many boxes that file has, read over the structs of the program.
 
+use crate::reading::{accepted, boxes_read};
 use anyhow::{Context, Result, bail};
 use fore_base::memory::Mem;
 use fore_base::text::Text;
@@ -33,6 +36,8 @@ impl Answers for Kinds {
             "program" => put_program(alloc, &mut out, kind, phases)?,
             "lines" => out.put_number(lines(alloc, kind, phases)?)?,
             "boxes" => put_lines(&mut out, dll_boxes())?,
+            "accepted" => out.put_number(accepted(alloc, kind, phases)?)?,
+            "table" => out.put_number(boxes_read(alloc, kind, phases)?)?,
             _ => bail!("no such kind"),
         }
         shown(alloc, &out)

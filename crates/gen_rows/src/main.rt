@@ -1,9 +1,10 @@
 //! Rows of generated programs: the files of rows that the words name are read, and each row is answered by a line.
 //!
-//! `kinds` says what each kind of row asks.
+//! `kinds` says what each kind of row asks, and `reading` reads what was generated.
 #![tactic(auto)]
 
 mod kinds;
+mod reading;
 
 use anyhow::Result;
 use kinds::Kinds;

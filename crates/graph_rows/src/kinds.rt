@@ -1,6 +1,6 @@
 // What each kind of row asks.
 
-use crate::graphs::{put_edges, put_sizes};
+use crate::graphs::{put_edges, put_prefixes, put_sizes};
 use crate::running::{put_alike, put_graph_run, put_replay, put_run, put_steps};
 use anyhow::{Context, Result, bail};
 use c_types::mode::MallocMode;
@@ -24,34 +24,54 @@ impl Answers for Kinds {
         let row = texts.first().context("no text")?;
         let text = read_text(alloc, row)?;
         let mut out = Text::new(alloc);
+        let (mode, head) = mode_of(head);
         match head.split_once(' ') {
-            Some((kind, words)) => put_course(alloc, &mut out, kind, words, text.as_slice())?,
-            None => put_graph(alloc, &mut out, head, text.as_slice())?,
+            Some((kind, words)) => put_course(alloc, &mut out, mode, kind, words, text.as_slice())?,
+            None => put_graph(alloc, &mut out, mode, head, text.as_slice())?,
         }
         shown(alloc, &out)
     }
 }
 
+/// The mode of `malloc` that a row has, and the row's head without it.
+fn mode_of(head: &str) -> (MallocMode, &str) {
+    match head.strip_prefix("null_") {
+        Some(rest) => (MallocMode::MayFail, rest),
+        None => (MallocMode::Always, head),
+    }
+}
+
 /// Puts what a program or its graph does on choices.
-fn put_course(alloc: Global, out: &mut Text, kind: &str, words: &str, body: &[u8]) -> Result<()> {
+fn put_course(
+    alloc: Global,
+    out: &mut Text,
+    mode: MallocMode,
+    kind: &str,
+    words: &str,
+    body: &[u8],
+) -> Result<()> {
     match kind {
-        "run" => put_run(alloc, out, MallocMode::Always, words, body),
-        "null_run" => put_run(alloc, out, MallocMode::MayFail, words, body),
-        "graph_run" => put_graph_run(alloc, out, words, body),
-        "replay" => put_replay(alloc, out, MallocMode::Always, words, body),
-        "null_replay" => put_replay(alloc, out, MallocMode::MayFail, words, body),
-        "steps" => put_steps(alloc, out, MallocMode::Always, words, body),
-        "null_steps" => put_steps(alloc, out, MallocMode::MayFail, words, body),
+        "run" => put_run(alloc, out, mode, words, body),
+        "graph_run" => put_graph_run(alloc, out, mode, words, body),
+        "replay" => put_replay(alloc, out, mode, words, body),
+        "steps" => put_steps(alloc, out, mode, words, body),
         _ => bail!("no such kind"),
     }
 }
 
 /// Puts what the graph of a body is.
-fn put_graph(alloc: Global, out: &mut Text, kind: &str, body: &[u8]) -> Result<()> {
+fn put_graph(
+    alloc: Global,
+    out: &mut Text,
+    mode: MallocMode,
+    kind: &str,
+    body: &[u8],
+) -> Result<()> {
     match kind {
-        "edges" => put_edges(alloc, out, body),
-        "sizes" => put_sizes(alloc, out, body),
-        "alike" => put_alike(alloc, out, body),
+        "edges" => put_edges(alloc, out, mode, body),
+        "sizes" => put_sizes(alloc, out, mode, body),
+        "prefixes" => put_prefixes(alloc, out, mode, body),
+        "alike" => put_alike(alloc, out, mode, body),
         _ => bail!("no such kind"),
     }
 }

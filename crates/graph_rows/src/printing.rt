@@ -1,7 +1,7 @@
 // Edges and loop heads of graphs as texts.
 //
 // x is for pointer variables, d for data, `#` for numbers; a field stands behind its base and a dot, a datum behind
-// a colon. An edge is written with its line behind `@`.
+// a colon, a choice behind `?`. An edge is written with its line behind `@`.
 use c_cfg::graph::{Const, DataArg, Edge, Graph, Instr, PtrArg};
 use fore_base::list::List;
 use fore_base::memory::Mem;
@@ -138,6 +138,13 @@ fn put_other_edge(text: &mut Text, instr: &Instr) -> Mem<()> {
     }
 }
 
+fn put_choice(text: &mut Text, instr: &Instr, choice: u8) -> Mem<()> {
+    match instr {
+        Instr::Choose { .. } => text.put_number(choice as u64),
+        _ => put_var(text, b"?", choice as u32),
+    }
+}
+
 /// Puts an edge.
 pub fn put_edge(text: &mut Text, edge: &Edge) -> Mem<()> {
     text.put_number(edge.from as u64)?;
@@ -145,7 +152,7 @@ pub fn put_edge(text: &mut Text, edge: &Edge) -> Mem<()> {
     text.put(b" ")?;
     put_pointer_edge(text, &edge.instr)?;
     if let Some(choice) = edge.choice {
-        text.put_number(choice as u64)?;
+        put_choice(text, &edge.instr, choice)?;
     }
     put_var(text, b" @", edge.line)?;
     text.put(b";")

@@ -7,6 +7,7 @@ use anyhow::{Context, Result, bail};
 use c_cfg::graph::Graph;
 use c_cfg::lower::lower;
 use c_front::program_in;
+use c_types::mode::MallocMode;
 use c_types::program::Typed;
 use fore_base::limits::FILE_BYTES;
 use fore_base::text::Text;
@@ -37,8 +38,8 @@ pub fn program_of(alloc: Global, head: &str, body: &[u8]) -> Result<Typed> {
         .context("no program")
 }
 
-/// The graph of a body.
-pub fn graph_of(alloc: Global, body: &[u8]) -> Result<Graph> {
+/// The graph of a body, where `malloc` has this mode.
+pub fn graph_of(alloc: Global, mode: MallocMode, body: &[u8]) -> Result<Graph> {
     let program = program_of(alloc, GRAPH_HEAD, body)?;
-    Ok(lower(alloc, &program)?)
+    Ok(lower(alloc, &program, mode)?)
 }

@@ -66,7 +66,7 @@ fn digit(letter: u8) -> Option<u8> {
     }
 }
 
-/// run, null_run: how the run of the program of a body comes out.
+/// run: how the run of the program of a body comes out.
 pub fn put_run(
     alloc: Global,
     out: &mut Text,
@@ -87,19 +87,30 @@ fn outcome_of(alloc: Global, mode: MallocMode, body: &[u8], course: &Course) -> 
 }
 
 /// graph_run: how the run of the graph of a body comes out.
-pub fn put_graph_run(alloc: Global, out: &mut Text, words: &str, body: &[u8]) -> Result<()> {
+pub fn put_graph_run(
+    alloc: Global,
+    out: &mut Text,
+    mode: MallocMode,
+    words: &str,
+    body: &[u8],
+) -> Result<()> {
     let course = course_of(alloc, words)?;
-    let outcome = graph_outcome_of(alloc, body, &course)?;
+    let outcome = graph_outcome_of(alloc, mode, body, &course)?;
     put_outcome(out, outcome)?;
     Ok(())
 }
 
-fn graph_outcome_of(alloc: Global, body: &[u8], course: &Course) -> Result<Outcome> {
-    let graph = graph_of(alloc, body)?;
+fn graph_outcome_of(
+    alloc: Global,
+    mode: MallocMode,
+    body: &[u8],
+    course: &Course,
+) -> Result<Outcome> {
+    let graph = graph_of(alloc, mode, body)?;
     Ok(graph_run(alloc, &graph, course.choices.as_slice(), course.limit)?)
 }
 
-/// replay, null_replay: what a replay of the program of a body finds.
+/// replay: what a replay of the program of a body finds.
 pub fn put_replay(
     alloc: Global,
     out: &mut Text,
@@ -119,8 +130,7 @@ fn found_by(alloc: Global, mode: MallocMode, body: &[u8], course: &Course) -> Re
     Ok(replay(alloc, &program, mode, choices, course.limit)?)
 }
 
-/// steps, null_steps: what the steps of a machine answer, one for each letter: a choice that is given, or a hyphen for
-/// none.
+/// steps: what the steps of a machine answer, one for each letter: a choice that is given, or a hyphen for none.
 pub fn put_steps(
     alloc: Global,
     out: &mut Text,
@@ -163,22 +173,35 @@ fn given(letter: u8) -> Result<Option<u8>> {
 
 /// alike: `alike` where the program of a body and its graph come out alike on each list of up to four choices, and on
 /// 1, 2, 0; or else the first choices on which they do not, and how both come out.
-pub fn put_alike(alloc: Global, out: &mut Text, body: &[u8]) -> Result<()> {
+pub fn put_alike(alloc: Global, out: &mut Text, mode: MallocMode, body: &[u8]) -> Result<()> {
     let program = program_of(alloc, GRAPH_HEAD, body)?;
-    let graph = lower(alloc, &program)?;
-    put_compared(alloc, out, &program, &graph)?;
+    let graph = lower(alloc, &program, mode)?;
+    let pair = Pair {
+        program: &program,
+        mode,
+        graph: &graph,
+    };
+    put_compared(alloc, out, pair)?;
     Ok(())
 }
 
-fn put_compared(alloc: Global, out: &mut Text, program: &Typed, graph: &Graph) -> Mem<()> {
-    if agree(alloc, out, program, graph)? && agree_on(alloc, out, program, graph, &[1, 2, 0])? {
+/// A program whose `malloc` has a mode, and its graph.
+#[derive(Clone, Copy)]
+struct Pair<'a> {
+    program: &'a Typed,
+    mode: MallocMode,
+    graph: &'a Graph,
+}
+
+fn put_compared(alloc: Global, out: &mut Text, pair: Pair) -> Mem<()> {
+    if agree(alloc, out, pair)? && agree_on(alloc, out, pair, &[1, 2, 0])? {
         out.put(b"alike")?;
     }
     Ok(())
 }
 
 /// Whether a program and its graph come out alike on each list of up to four choices.
-fn agree(alloc: Global, out: &mut Text, program: &Typed, graph: &Graph) -> Mem<bool> {
+fn agree(alloc: Global, out: &mut Text, pair: Pair) -> Mem<bool> {
     for (length, lists) in LENGTHS {
         for number in 0..lists {
             let all = [
@@ -187,7 +210,7 @@ fn agree(alloc: Global, out: &mut Text, program: &Typed, graph: &Graph) -> Mem<b
                 bit(number, 2),
                 bit(number, 3),
             ];
-            if !agree_on(alloc, out, program, graph, all.split_at(length).0)? {
+            if !agree_on(alloc, out, pair, all.split_at(length).0)? {
                 return Ok(false);
             }
         }
@@ -200,19 +223,13 @@ fn bit(number: u8, place: u8) -> u8 {
 }
 
 /// Whether a program and its graph come out alike on these choices. Where not, how they come out is put.
-fn agree_on(
-    alloc: Global,
-    out: &mut Text,
-    program: &Typed,
-    graph: &Graph,
-    choices: &[u8],
-) -> Mem<bool> {
-    let outcome = run(alloc, program, MallocMode::Always, choices, STEPS)?;
+fn agree_on(alloc: Global, out: &mut Text, pair: Pair, choices: &[u8]) -> Mem<bool> {
+    let outcome = run(alloc, pair.program, pair.mode, choices, STEPS)?;
     let edges = match outcome {
         Outcome::StillRunning => STEPS,
         _ => STEPS * EDGES,
     };
-    let found = graph_run(alloc, graph, choices, edges)?;
+    let found = graph_run(alloc, pair.graph, choices, edges)?;
     if are_alike(outcome, found) {
         return Ok(true);
     }

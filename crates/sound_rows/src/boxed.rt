@@ -105,7 +105,8 @@ fn word(is_so: bool) -> &'static str {
     if is_so { "yes" } else { "no" }
 }
 
-fn table_of(alloc: Global, boxes: &[&str]) -> Result<BoxTable> {
+// The table of the boxes that the first text names.
+pub fn table_of(alloc: Global, boxes: &[&str]) -> Result<BoxTable> {
     let names = boxes.first().context("no boxes")?;
     let text = file_of(alloc, names)?;
     let face = face(alloc)?;

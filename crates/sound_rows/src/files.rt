@@ -2,8 +2,10 @@
 //
 // Each word of a text is a box: dll leads from a pair to the next and back, seg is one of both fields of a pair and
 // goes past a list of any length, chain past one pair, to is a pointer from one node to another, off one of a pair to
-// another whose b is null, ring the pointer of a node to itself, and trio a dll of trios. tower-N has N and one more
-// boxes, each but the first of two edges of the one before.
+// another whose b is null, ring the pointer of a node to itself, and trio a dll of trios. turn is the pointer a of a
+// trio to itself, and step the pointer b of one to another. past, mixed and some lead from both fields of a pair to
+// another: past by an inner root that refers to it twice, mixed by one that does once or twice, and some straight,
+// where b may be null. tower-N has N and one more boxes, each but the first of two edges of the one before.
 
 use anyhow::{Result, bail};
 use fore_base::text::Text;
@@ -29,6 +31,21 @@ const RING: &str = "box ring in node\nroot 0 s0\ns0 = node(a=s1)\ns1 = ref 0\nen
 const TRIO: &str = "box trio in trio out trio\nroot 0 s0\ns0 = trio(a=s1)\ns1 = ref 1\n\
     root 1 s0\ns0 = trio(b=s1)\ns1 = ref 0\nend\n";
 
+const TURN: &str = "box turn in trio\nroot 0 s0\ns0 = trio(a=s1)\ns1 = ref 0\nend\n";
+
+const STEP: &str = "box step in trio out trio\nroot 0 s0\ns0 = trio(b=s1)\ns1 = ref 1\n\
+    root 1 s0\ns0 = trio()\nend\n";
+
+const PAST: &str = "box past in pair out pair\nroot 0 s0\ns0 = pair(a=s1,b=s1)\ns1 = ref 2\n\
+    root 1 s0\ns0 = pair()\nroot 2 s0\ns0 = pair(a=s1,b=s1)\ns1 = ref 1\nend\n";
+
+const MIXED: &str = "box mixed in pair out pair\nroot 0 s0\ns0 = pair(a=s1,b=s1)\ns1 = ref 2\n\
+    root 1 s0\ns0 = pair()\nroot 2 s0 s1\ns0 = pair(a=s2,b=s3)\ns1 = pair(a=s2,b=s2)\n\
+    s2 = ref 1\ns3 = null\nend\n";
+
+const SOME: &str = "box some in pair out pair\nroot 0 s0 s1\ns0 = pair(a=s2,b=s3)\n\
+    s1 = pair(a=s2,b=s2)\ns2 = ref 1\ns3 = null\nroot 1 s0\ns0 = pair()\nend\n";
+
 /// The file of these boxes.
 pub fn file_of(alloc: Global, names: &str) -> Result<Text> {
     let mut text = Text::new(alloc);
@@ -50,6 +67,11 @@ fn box_of(name: &str) -> Result<&'static str> {
         "off" => Ok(OFF),
         "ring" => Ok(RING),
         "trio" => Ok(TRIO),
+        "turn" => Ok(TURN),
+        "step" => Ok(STEP),
+        "past" => Ok(PAST),
+        "mixed" => Ok(MIXED),
+        "some" => Ok(SOME),
         _ => bail!("no such box"),
     }
 }

@@ -1,15 +1,17 @@
-//! Rows of sound forests: which forests are sound, with box edges and without, their signatures, members of them, and
-//! what they are cut into by signature.
+//! Rows of sound forests: which forests are sound, with box edges and without, their signatures, members of them, what
+//! they are cut into by signature, what a box edge is unfolded into, and what a field of a root is opened into.
 #![tactic(auto)]
 
 mod boxed;
 mod cutting;
 mod files;
 mod judging;
+mod opening;
 mod parting;
 mod sampling;
 mod signing;
 mod stores;
+mod unfolding;
 
 use anyhow::{Context, Result, bail};
 use row_kit::{Answers, answer_files};
@@ -42,8 +44,17 @@ impl Answers for Kinds {
             "sample" => sampling::sampled(alloc, text),
             "cut" => cutting::cut_letters(alloc, text, wanted),
             "parts" => parting::part_letters(alloc, text, wanted),
-            _ => bail!("no such kind"),
+            _ => answer_at(alloc, head, text, wanted),
         }
+    }
+}
+
+// The kinds that have a root.
+fn answer_at(alloc: Global, head: &str, text: &str, wanted: &[&str]) -> Result<String> {
+    match head.split(' ').next().context("no kind")? {
+        "unfolded" => unfolding::unfolded(alloc, head, text, wanted),
+        "opened" => opening::opened(alloc, head, text, wanted),
+        _ => bail!("no such kind"),
     }
 }
 

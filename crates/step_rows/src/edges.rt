@@ -7,6 +7,7 @@
 // - writes a field: `p0->0 = p1`, `p0->0 = null`, `p0->0 = d0`, `p0->0 = 7`;
 // - tests: `p0 == p1`, `null != p0`, `d0 == 7`;
 // - or does what its first word says: `free p0`, `kill p0 p1 d0`, `choose 1`, `fail` (an assertion), `exit`.
+// An edge of a `malloc` that may fail has its choice behind it: `p0 = null on 0`, `p0 = new 2 on 1`.
 
 use anyhow::{Context, Result, bail};
 use c_cfg::graph::{Const, DataArg, Edge, Instr, PtrArg};
@@ -29,8 +30,8 @@ enum Operand {
 
 // The edge of the text, between these locations.
 pub fn edge(alloc: Global, from: u32, to: u32, text: &str) -> Result<Edge> {
-    let instr = instr(alloc, text)?;
-    let choice = choice(text)?;
+    let (what, choice) = taken_on(text)?;
+    let instr = instr(alloc, what)?;
     Ok(Edge {
         from,
         to,
@@ -40,10 +41,14 @@ pub fn edge(alloc: Global, from: u32, to: u32, text: &str) -> Result<Edge> {
     })
 }
 
-fn choice(text: &str) -> Result<Option<u8>> {
+// What the edge does, and its choice.
+fn taken_on(text: &str) -> Result<(&str, Option<u8>)> {
+    if let Some((what, number)) = text.split_once(" on ") {
+        return Ok((what, Some(number.parse::<u8>()?)));
+    }
     match text.split_once("choose ") {
-        Some((_, number)) => Ok(Some(number.parse::<u8>()?)),
-        None => Ok(None),
+        Some((_, number)) => Ok((text, Some(number.parse::<u8>()?))),
+        None => Ok((text, None)),
     }
 }
 

@@ -12,18 +12,20 @@ use par_kit::gate::NoGate;
 use std::alloc::Global;
 use std::thread::Threads;
 
-// How the exploration of the graph ends; the numbers are the height and the budget.
+// How the exploration of the graph ends; the numbers are the height and the budget, and then, if more than one, the jobs.
 pub fn explore_graph<R: Threads + Sync>(
     rt: &R,
     alloc: Global,
     numbers: &str,
     texts: &[&str],
 ) -> Result<String> {
-    let (height, budget) = numbers.split_once(' ').context("no budget")?;
+    let (height, rest) = numbers.split_once(' ').context("no budget")?;
+    let (budget, jobs) = rest.split_once(' ').unwrap_or((rest, "1"));
     let text = texts.first().context("no graph")?;
     let height = height.parse::<u32>()?;
     let budget = budget.parse::<u32>()?;
-    let found = explored_text(rt, alloc, text, height, budget)?;
+    let jobs = jobs.parse::<usize>()?;
+    let found = explored_text(rt, alloc, text, height, budget, jobs)?;
     shown(alloc, &found)
 }
 
@@ -33,9 +35,10 @@ fn explored_text<R: Threads + Sync>(
     text: &str,
     height: u32,
     budget: u32,
+    jobs: usize,
 ) -> Result<Explored> {
     let graph = graph_of(alloc, text)?;
-    explored(rt, alloc, &graph, height, budget)
+    explored(rt, alloc, &graph, height, budget, jobs)
 }
 
 fn explored<R: Threads + Sync>(
@@ -44,6 +47,7 @@ fn explored<R: Threads + Sync>(
     graph: &Graph,
     height: u32,
     budget: u32,
+    jobs: usize,
 ) -> Result<Explored> {
     if !are_edges_of(graph) {
         bail!("a number of an edge is out of range");
@@ -51,9 +55,12 @@ fn explored<R: Threads + Sync>(
     if height < 1 || 4 < height || budget < 1 {
         bail!("no such height or budget");
     }
+    if jobs < 1 || 64 < jobs {
+        bail!("no such number of jobs");
+    }
     let table = BoxTable::empty(alloc, &graph.shapes)?;
     let crew = Crew {
-        jobs: 1,
+        jobs,
         gate: &NoGate,
     };
     Ok(explore(rt, alloc, graph, &table, height, budget, &crew)?)

@@ -4,13 +4,14 @@
 // for each location, h for a loop head, and then its edges, each the locations from which and to which it leads, and
 // what it does. Its structs are those of the forests.
 
-ghost use Rattle.std.specs.Prelude.{◌≡◌, ◌↔◌, ◌≤◌, length, IfOk, IsTrue};
+ghost use Rattle.std.specs.Prelude.{◌≡◌, ◌≤◌, length, IfOk};
 ghost use Rattle.fore_base.specs.Lists.{Every};
 ghost use Rattle.c_cfg.specs.Graphs.{HasItsChoice};
 
 use crate::edges::edge;
 use anyhow::{Context, Result, bail};
-use c_cfg::graph::{Edge, Graph, Instr};
+use c_cfg::graph::{Edge, Graph};
+use c_cfg::ranges::has_its_choice;
 use fore_base::list::List;
 use fore_base::shape::Shapes;
 use row_forests::face;
@@ -92,13 +93,4 @@ fn edge_of(alloc: Global, text: &str) -> Result<Edge>
         bail!("no choice, or one that is not taken");
     }
     Ok(made)
-}
-
-fn has_its_choice(edge: &Edge) -> bool
-    ensures { IsTrue result ↔ HasItsChoice edge.now }
-{
-    match edge.choice {
-        Some(_) => matches!(edge.instr, Instr::Choose { .. }),
-        None => !matches!(edge.instr, Instr::Choose { .. }),
-    }
 }

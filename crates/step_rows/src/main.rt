@@ -2,6 +2,7 @@
 //! forest looks after one thing was changed.
 #![tactic(auto)]
 
+mod boxed;
 mod changes;
 mod edges;
 mod editing;
@@ -33,6 +34,7 @@ impl Answers for Kinds {
         let (kind, what) = head.split_once(' ').unwrap_or((head, ""));
         match kind {
             "step" => stepping::step(rt, alloc, what, texts),
+            "boxed-step" => boxed::boxed_step(rt, alloc, what, texts),
             "join" => joining::join(rt, alloc, what, texts),
             "edit" => editing::edit(alloc, texts),
             "explore" => exploring::explore_graph(rt, alloc, what, texts),

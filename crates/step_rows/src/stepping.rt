@@ -56,7 +56,7 @@ fn passed<R: Threads + Sync>(rt: &R, alloc: Global, forest: &Sound, edge: &Edge)
 }
 
 // Whether the numbers of the edge are in range for the forest.
-fn fits_forest(edge: &Edge, forest: &Sound) -> bool
+pub fn fits_forest(edge: &Edge, forest: &Sound) -> bool
     ensures { IsTrue result ↔ EdgeFits (length forest.now.forest.vars) (length forest.now.forest.data_vars)
         forest.now.face.shapes.structs edge.now }
 {

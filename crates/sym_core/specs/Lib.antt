@@ -3,3 +3,4 @@ pub mod Cases
 pub mod Explicit
 pub mod Kept
 pub mod Quiet
+pub mod Refined

@@ -7,9 +7,9 @@ use Rattle.fore_base.specs.Lists.{IsIn}
 use Rattle.fore_base.specs.Stores.{var_of}
 use Rattle.fore_base.specs.declared.store.Store.{Store}
 use Rattle.fore_base.specs.declared.store.Value.{Value}
-use Rattle.fore_base.specs.declared.store.Value.TheVariants.{Null, Cell}
+use Rattle.fore_base.specs.declared.store.Value.TheVariants.{Null, Dangling, Cell}
 use Rattle.fa_core.specs.declared.faces.BoxFace.{BoxFace}
-use Rattle.fa_core.specs.declared.forest.Target.TheVariants.{Null as NullTarget, At}
+use Rattle.fa_core.specs.declared.forest.Target.TheVariants.{Null as NullTarget, Dangling as DanglingTarget, At}
 use Rattle.fa_core.specs.Dressed.{Nodes, Seen, SeenField, SeenLink, SeenHook, SeenCell, cells, node, no_parts, field}
 use Rattle.fa_core.specs.Dressed.{link, hook, leaf}
 use Rattle.fa_core.specs.Dressed.{no_nodes, more}
@@ -19,32 +19,33 @@ use Rattle.c_cfg.specs.declared.graph.Instr.TheVariants.{CopyPtr, LoadPtr, Store
 use Rattle.c_cfg.specs.declared.graph.PtrArg.TheVariants.{Null as PtrNull}
 use Rattle.sym_core.specs.Kept.{base_of, Needs, Frees, CoversAt, GivesAt, IsEdgeOf, IsExcepted, HasBoxEdge, KeepsEdges}
 
--- Box 0 covers field 0 at its input and gives its output field 1; box 1, which has no output, covers field 2. Cell 7
--- has the edge of box 0, which ends at cell 4; variable 0 is at cell 7, variable 1 at cell 4, variable 2 is null, and
--- variable 3 is at another cell, 9.
+-- Box 0 covers field 0 at its input and gives its output field 1; box 1, which has no output, covers field 2; box 2
+-- covers field 0 and gives its output nothing. Cell 7 has the edge of box 0, which ends at cell 4; variable 0 is at cell
+-- 7, variable 1 at cell 4, variable 2 is null, and variable 3 is at another cell, 9.
 
-abbrev bs : List BoxFace
+abbrev pub bs : List BoxFace
 bs = record { input = 0; output = Some 0; gives_in = 0 ∷ []; gives_out = 1 ∷ []; back = true }
-    ∷ record { input = 0; output = None; gives_in = 2 ∷ []; gives_out = []; back = false } ∷ []
+    ∷ record { input = 0; output = None; gives_in = 2 ∷ []; gives_out = []; back = false }
+    ∷ record { input = 0; output = Some 0; gives_in = 0 ∷ []; gives_out = []; back = false } ∷ []
 
-abbrev before : Nodes
+abbrev pub before : Nodes
 before =
     more (node 7 0 [] (link 0 no_nodes (leaf (At 1)) (field 1 (leaf NullTarget) no_parts)))
     (more (node 4 0 [] (field 0 (leaf NullTarget) no_parts)) no_nodes)
 
-abbrev edge : Seen
+abbrev pub edge : Seen
 edge = SeenLink 0 no_nodes (Cell 4)
 
-abbrev seven : SeenCell
+abbrev pub seven : SeenCell
 seven = record { cell = 7; shape = 0; datums = []; slots = edge ∷ SeenField 1 Null ∷ [] }
 
-abbrev four : SeenCell
+abbrev pub four : SeenCell
 four = record { cell = 4; shape = 0; datums = []; slots = SeenField 0 Null ∷ [] }
 
 cells_before : cells before ≡ seven ∷ four ∷ []
 cells_before = refl
 
-abbrev store : Store
+abbrev pub store : Store
 store = record { vars = Cell 7 ∷ Cell 4 ∷ Null ∷ Cell 9 ∷ []; data_vars = []; cells = []; next = 10 }
 
 -- each cell has ten more behind the graph's edge
@@ -69,7 +70,7 @@ moved =
     (more (node 14 0 [] (link 0 no_nodes (leaf (At 0)) no_parts)) no_nodes)
 
 -- the one box edge of the forest
-one_edge : (c : SeenCell) (x : Seen) (b : ℕ) → IsIn c (cells before) → IsIn x c.slots → IsEdgeOf b x
+pub one_edge : (c : SeenCell) (x : Seen) (b : ℕ) → IsIn c (cells before) → IsIn x c.slots → IsEdgeOf b x
     → (c ≡ seven) × (x ≡ edge) × (b ≡ 0)
 one_edge c x b (inl e) j k = slot (subst (λ (o : SeenCell). IsIn x o.slots) e j)
   where
@@ -95,7 +96,7 @@ freed_at_output : IsExcepted bs (Free 1) store seven edge
 freed_at_output = record { base = 1; is_base = refl; cell = 4; is_cell = refl; why = inr (1, tt, inr (refl, inl refl)) }
 
 -- field 0 of cell 7, which the edge covers, is read, or null is written into it
-read_where_it_covers : IsExcepted bs (LoadPtr 5 0 0) store seven edge
+pub read_where_it_covers : IsExcepted bs (LoadPtr 5 0 0) store seven edge
 read_where_it_covers = record {
   base = 0;
   is_base = refl;
@@ -155,7 +156,7 @@ cause c x i b n e v h =
     subst (λ (m : ℕ). Why c x i m) cell h.why
 
 -- field 1 of cell 7: the edge gives it to cell 4, and covers field 0 here
-other_field_at_input : IsExcepted bs (LoadPtr 5 0 1) store seven edge → ⊥
+pub other_field_at_input : IsExcepted bs (LoadPtr 5 0 1) store seven edge → ⊥
 other_field_at_input h = by (cause seven edge (LoadPtr 5 0 1) 0 7 refl refl h)
   where
     by : Why seven edge (LoadPtr 5 0 1) 7 → ⊥
@@ -199,7 +200,7 @@ at_no_cell h =
 copy_excepts : (c : SeenCell) (x : Seen) → IsExcepted bs (CopyPtr 0 PtrNull) store c x → ⊥
 copy_excepts c x h = none-some h.base h.is_base
 
-copy_excepts_nothing : IsExcepted bs (CopyPtr 0 PtrNull) store seven edge → ⊥
+pub copy_excepts_nothing : IsExcepted bs (CopyPtr 0 PtrNull) store seven edge → ⊥
 copy_excepts_nothing h = copy_excepts seven edge h
 
 -- another cell is freed
@@ -370,3 +371,61 @@ hook_kept c j x k b e n =
       refl,
       (hook_edge, inl refl, refl),
     )
+
+-- A Link of box 2, which gives nothing, ends at the freed cell: it is kept, and ends in Dangling.
+
+abbrev idle_edge : Seen
+idle_edge = SeenLink 2 no_nodes (Cell 4)
+
+abbrev idle_seven : SeenCell
+idle_seven = record { cell = 7; shape = 0; datums = []; slots = idle_edge ∷ [] }
+
+abbrev idle : Nodes
+idle = more (node 7 0 [] (link 2 no_nodes (leaf (At 1)) no_parts)) (more (node 4 0 [] no_parts) no_nodes)
+
+abbrev dangling_end : Nodes
+dangling_end = more (node 17 0 [] (link 2 no_nodes (leaf DanglingTarget) no_parts)) no_nodes
+
+abbrev no_link : Nodes
+no_link = more (node 17 0 [] (field 0 (leaf DanglingTarget) no_parts)) no_nodes
+
+idle_not_excepted : IsExcepted bs (Free 1) store idle_seven idle_edge → ⊥
+idle_not_excepted h = by (cause idle_seven idle_edge (Free 1) 1 4 refl refl h)
+  where
+    by : Why idle_seven idle_edge (Free 1) 4 → ⊥
+    by (inl w) = let z : 7 ≡ 4 = w.1 in omega (arith, z)
+    by (inr (g, n, inl (c, i))) = omega (arith, c)
+    by (inr (g, n, inr (e, i))) = i
+
+idle_edges : (c : SeenCell) (x : Seen) (b : ℕ) → IsIn c (cells idle) → IsIn x c.slots → IsEdgeOf b x
+    → (c ≡ idle_seven) × (b ≡ 2)
+idle_edges c x b (inl e) j k = slot (subst (λ (o : SeenCell). IsIn x o.slots) e j)
+  where
+    slot : IsIn x (idle_edge ∷ []) → (c ≡ idle_seven) × (b ≡ 2)
+    slot (inl f) = (e, sym (subst (λ (y : Seen). IsEdgeOf b y) f k))
+    slot (inr z) = absurd z
+idle_edges c x b (inr (inl e)) j k = absurd (subst (λ (o : SeenCell). IsIn x o.slots) e j)
+idle_edges c x b (inr (inr z)) j k = absurd z
+
+idle_kept : KeepsEdges bs (Free 1) store to idle dangling_end
+idle_kept c j x k b e n =
+    let w = idle_edges c x b j k e in
+    let p = w.0 in
+    let q = w.1 in
+    rw (p, q) (
+      record { cell = 17; shape = 0; datums = []; slots = SeenLink 2 no_nodes Dangling ∷ [] },
+      inl refl,
+      refl,
+      (SeenLink 2 no_nodes Dangling, inl refl, refl),
+    )
+
+idle_dropped : KeepsEdges bs (Free 1) store to idle no_link → ⊥
+idle_dropped h = none (h idle_seven (inl refl) idle_edge (inl refl) 2 refl idle_not_excepted)
+  where
+    none : HasBoxEdge (cells no_link) 17 2 → ⊥
+    none (c, inl e, n, (x, j, k)) = slots (subst (λ (o : SeenCell). IsIn x o.slots) e j)
+      where
+        slots : IsIn x (SeenField 0 Dangling ∷ []) → ⊥
+        slots (inl f) = subst (λ (y : Seen). IsEdgeOf 2 y) f k
+        slots (inr z) = z
+    none (c, inr z, n, w) = z

@@ -2,3 +2,4 @@ pub mod Cases
 pub mod Edges
 pub mod Explicit
 pub mod Kept
+pub mod Refined

@@ -14,11 +14,10 @@ use Rattle.fa_core.specs.Member.{Stands, Regroups}
 use Rattle.fa_core.specs.Rearranged.{Rearranged}
 use Rattle.fa_core.proofs.Permuted.{in_rearranged}
 use Rattle.fa_core.proofs.Rearranging.{back}
-use Rattle.fa_core.proofs.Regrouped.{stands_regrouped, members_regrouped}
+use Rattle.fa_core.proofs.Regrouped.{stands_regrouped}
 use Rattle.c_cfg.specs.Edges.{Passed, Faulted, leak_tested, gstep, choice_of}
 use Rattle.c_cfg.specs.declared.graph.Edge.{Edge}
 use Rattle.sym_core.specs.Carried.{Carries, AllGo}
-use Rattle.sym_core.specs.Cases.{BadAt, IsTrueBad}
 use Rattle.sym_core.specs.Kept.{HasBoxEdge, Keeps}
 
 edges_moved : (d e : Nodes) → Rearranged (cells d) (cells e) → (m b : ℕ) → HasBoxEdge (cells d) m b
@@ -34,22 +33,7 @@ unleaked_sound s never = here (leaks s) refl
     here false e = e
 
 module _ (face : Face) (T : List BoxDef) (e : Edge) where
-  -- what keeps the box edges of H keeps those of F, which H regroups
-  pub keeps_of_split : (F H M : Forest) → Regroups T F H → Keeps face T H e M → Keeps face T F e M
-  keeps_of_split F H M g w d u m =
-      let c = w d u m in
-      let r = g c.dressed c.stands.of in
-      record {
-        dressed = r.0;
-        was = c.was;
-        goes_to = c.goes_to;
-        stands = stands_regrouped face.shapes.structs T F H c.was c.dressed r.0 c.stands r.1;
-        goes = c.goes;
-        alike = c.alike;
-        edges = λ a i x j b l n. c.edges a (in_rearranged a (back r.1.same_cells) i) x j b l n;
-      }
-
-  -- and so does what regroups M
+  -- what regroups a forest that keeps the box edges keeps them
   pub keeps_regrouped : (F R M : Forest) → Keeps face T F e R → Regroups T R M → Keeps face T F e M
   keeps_regrouped F R M w g d u m =
       let r = g d m.of in
@@ -63,10 +47,6 @@ module _ (face : Face) (T : List BoxDef) (e : Edge) where
         alike = c.alike;
         edges = λ a i x j b l n. edges_moved r.0 d (back r.1.same_cells) (c.alike.to a.cell) b (c.edges a i x j b l n);
       }
-
-  -- a true Bad of H is one of F
-  pub bad_of_split : (F H : Forest) (b : BadAt) → Regroups T F H → IsTrueBad face T H e b → IsTrueBad face T F e b
-  bad_of_split F H b g w s h = let k = w s h in (members_regrouped face.shapes.structs T F H g s k.0, k.1)
 
   -- The leak test.
 

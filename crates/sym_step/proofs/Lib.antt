@@ -1,11 +1,14 @@
 pub mod ChildNamed
 pub mod FieldPlaces
+pub mod FieldsOpened
 pub mod FreedChild
 pub mod Keeping
 pub mod Needing
 pub mod OpenedForests
+pub mod OpenedRefines
 pub mod Pieces
 pub mod Rows
 pub mod SettledForests
 pub mod Showing
 pub mod Stepping
+pub mod ToppedRoots

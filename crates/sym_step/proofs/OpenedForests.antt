@@ -1,6 +1,6 @@
 -- A forest split before an edge: pieces sorted, and pieces of pieces.
 use Rattle.std.proofs.Common.{◌≡◌, ◌≢◌, ◌⊎◌, inl, inr, ℕ, ◌+◌, Bool, true, false, nat_eq, if◌then◌else◌, List, [], ◌∷◌}
-use Rattle.std.proofs.Common.{◌++◌, length, refl, sym, ap, subst, ◌∙◌, true≢false, Some, slice_index_or, append_assoc}
+use Rattle.std.proofs.Common.{◌++◌, length, refl, sym, ap, subst, ◌∙◌, true≢false, slice_index_or, append_assoc}
 use Rattle.std.proofs.Common.{append-nil, arith}
 use Rattle.std.proofs.lemmas.Bool.{eqb-true, eq-eqb}
 use Rattle.fore_base.specs.Lists.{IsIn, Every}
@@ -8,12 +8,11 @@ use Rattle.fore_base.specs.declared.fault.Fault.TheVariants.{Leak}
 use Rattle.fore_base.specs.declared.store.Store.{Store}
 use Rattle.fore_base.proofs.ListLemmas.{in_map, in_mapped, every_in, in_every, every_append, every_weaker, every_map}
 use Rattle.ta_core.specs.Auto.{IsRanked}
-use Rattle.ta_core.specs.Single.{HasOneTop}
 use Rattle.fa_core.specs.declared.boxes.BoxDef.{BoxDef}
 use Rattle.fa_core.specs.declared.faces.Face.{Face}
 use Rattle.fa_core.specs.declared.forest.Forest.{Forest}
 use Rattle.fa_core.specs.declared.forest.Target.{Target}
-use Rattle.fa_core.specs.declared.forest.Target.TheVariants.{Uninit, At}
+use Rattle.fa_core.specs.declared.forest.Target.TheVariants.{Uninit}
 use Rattle.fa_core.specs.Boxless.{HasNoBoxes}
 use Rattle.fa_core.specs.Filled.{IsSound}
 use Rattle.fa_core.specs.Member.{Stands, Regroups, RegroupsInto}
@@ -26,18 +25,16 @@ use Rattle.fa_split.proofs.Steps.{forests_both}
 use Rattle.c_cfg.specs.Edges.{Faulted, gstep}
 use Rattle.c_cfg.specs.declared.graph.Edge.{Edge}
 use Rattle.sym_core.specs.Cases.{BadAt, StandsInOne, IsMet, IsTrueBad}
-use Rattle.fa_edit.specs.Plain.{place_at}
-use Rattle.sym_core.specs.Explicit.{target_at, IsExplicit}
+use Rattle.sym_core.specs.Refined.{Refines}
+use Rattle.sym_core.proofs.Refining.{regroups_refine}
 use Rattle.sym_step.specs.Posts.{bads, HasAsMany}
 use Rattle.sym_step.specs.declared.posts.Bad.{Bad}
-use Rattle.sym_step.specs.declared.needs.Needed.TheVariants.{Field}
-use Rattle.sym_step.specs.inner.Needing.{AreNeeds}
-use Rattle.sym_step.specs.inner.Opening.{IsFreeAt, IsShown, IsOpening, of_count, leaks_but}
-use Rattle.sym_step.specs.inner.Stepping.{IsStepping, IsLike}
+use Rattle.sym_step.specs.inner.Opening.{IsFreeAt, IsShown, IsOpening, of_count, leaks_but, IsOpeningBy}
+use Rattle.sym_step.specs.inner.Stepping.{IsStepping, IsSteppingBy, IsLike}
 use Rattle.sym_step.proofs.FreedChild.{cells_leak}
-use Rattle.sym_step.proofs.Pieces.{leaf_piece, leaf_count, cells_count, cells_piece}
-use Rattle.sym_step.proofs.Showing.{shown_next, shown_on, piece_shown}
-use Rattle.sym_step.proofs.Stepping.{begins, one_taken}
+use Rattle.sym_step.proofs.Pieces.{leaf_piece, leaf_count, cells_count}
+use Rattle.sym_step.proofs.Showing.{shown_next, shown_on}
+use Rattle.sym_step.proofs.Stepping.{begins, one_taken, stepping_fewer}
 
 -- Forests alike.
 
@@ -47,10 +44,10 @@ many_self F = (refl, refl)
 pub like_on : (face : Face) (F : Forest) (s t : SoundForest) → IsLike face F s → IsLike s.face s.forest t
     → IsLike face F t
 like_on face F s t a b =
-    record { face = b.face ∙ a.face; plain = b.plain; counts = (b.counts.0 ∙ a.counts.0, b.counts.1 ∙ a.counts.1) }
+    record { face = b.face ∙ a.face; counts = (b.counts.0 ∙ a.counts.0, b.counts.1 ∙ a.counts.1) }
 
-pub like_self : (s : SoundForest) → Every HasNoBoxes s.forest.autos → IsLike s.face s.forest s
-like_self s plain = record { face = refl; plain = plain; counts = many_self s.forest }
+pub like_self : (s : SoundForest) → IsLike s.face s.forest s
+like_self s = record { face = refl; counts = many_self s.forest }
 
 pub bads_both : (xs ys : List Bad) → bads (xs ++ ys) ≡ bads xs ++ bads ys
 bads_both [] ys = refl
@@ -125,8 +122,7 @@ module _ (G : SoundForest) (r p : ℕ) (e : Edge) (sound : IsSound G.face G.fore
       (ss : List SoundForest) (dressed : (T : List BoxDef) → Every (IsSplitOf T G.forest r p) (forests ss))
       (regroup : (T : List BoxDef) → Every (Regroups T G.forest) (forests ss))
       (whole : (T : List BoxDef) → RegroupsInto T G.forest (forests ss))
-      (faces : Every (λ (s : SoundForest). s.face ≡ G.face) ss) (vars : Every (HasVarsOf G.forest) (forests ss))
-      (boxless : Every (λ (H : Forest). Every HasNoBoxes H.autos) (forests ss)) where
+      (faces : Every (λ (s : SoundForest). s.face ≡ G.face) ss) (vars : Every (HasVarsOf G.forest) (forests ss)) where
     abbrev n : ℕ
     n = length G.forest.autos
 
@@ -138,7 +134,6 @@ module _ (G : SoundForest) (r p : ℕ) (e : Edge) (sound : IsSound G.face G.fore
         let v = every_in (HasVarsOf G.forest) (forests ss) s.forest vars (forest_in s i) in
         record {
           face = every_in (λ (t : SoundForest). t.face ≡ G.face) ss s faces i;
-          plain = every_in (λ (H : Forest). Every HasNoBoxes H.autos) (forests ss) s.forest boxless (forest_in s i);
           counts = (ap (λ (ts : List Target). length ts) v.0, ap (λ ds. length ds) v.1);
         }
 
@@ -215,9 +210,9 @@ module _ (G : SoundForest) (r p : ℕ) (e : Edge) (sound : IsSound G.face G.fore
     child_opened = record {
       stepping = record {
         whole = λ T k t h. in_piece T t (members_split G.face.shapes.structs T G.forest (forests ss) (whole T) t h);
-        regroups = λ T. every_map (λ (s : SoundForest). s.forest) (Regroups T G.forest) kept
-            (in_every (λ (s : SoundForest). Regroups T G.forest s.forest) kept
-            (λ s i. piece_regroups T s (kept_in n ss s i).0));
+        refines = λ T k. every_map (λ (s : SoundForest). s.forest) (Refines G.face T e.instr G.forest) kept
+            (in_every (λ (s : SoundForest). Refines G.face T e.instr G.forest s.forest) kept
+            (λ s i. regroups_refine G.face T e.instr G.forest s.forest (piece_regroups T s (kept_in n ss s i).0)));
         keeps = λ T k. tt;
         bads = λ T k. every_map (λ (b : Bad). record { fault = b.fault; at = b.at.forest })
             (IsTrueBad G.face T G.forest e) lost
@@ -232,14 +227,26 @@ module _ (G : SoundForest) (r p : ℕ) (e : Edge) (sound : IsSound G.face G.fore
     }
 
 -- The forest as it is.
-pub unopened : (face : Face) (F : Forest) (e : Edge) (P : Forest → Type 0) (s : SoundForest) → s.forest ≡ F
-    → IsLike face F s → P s.forest → IsOpening face F e P [] (s ∷ []) []
-unopened face F e P s is like p = record {
-  stepping = subst (λ (H : Forest). IsStepping face F e (H ∷ []) [] []) (sym is) (begins face e F);
+pub unopened : {Q : List BoxDef → Type 0} → (face : Face) (F : Forest) (e : Edge) (P : Forest → Type 0)
+    (s : SoundForest) → s.forest ≡ F → IsLike face F s → P s.forest → IsOpeningBy Q face F e P [] (s ∷ []) []
+unopened {Q = Q} face F e P s is like p = record {
+  stepping = subst (λ (H : Forest). IsSteppingBy Q face F e (H ∷ []) [] []) (sym is) (begins face e F);
   ready = (p, tt);
   like = (like, tt);
   bad_like = tt;
 }
+
+-- What is said of some tables is said of fewer.
+pub opening_fewer : {Q R : List BoxDef → Type 0} → ((T : List BoxDef) → Q T → R T) → (face : Face) (F : Forest)
+    (e : Edge) (P : Forest → Type 0) (todo made : List SoundForest) (faults : List Bad)
+    → IsOpeningBy R face F e P todo made faults → IsOpeningBy Q face F e P todo made faults
+opening_fewer w face F e P todo made faults a =
+    record {
+      stepping = stepping_fewer face e w F (forests todo ++ forests made) [] (bads faults) a.stepping;
+      ready = a.ready;
+      like = a.like;
+      bad_like = a.bad_like;
+    }
 
 -- What is shown may be said otherwise.
 pub opening_weaker : (face : Face) (F : Forest) (e : Edge) (P Q : Forest → Type 0) (todo made : List SoundForest)
@@ -299,7 +306,8 @@ pub all_ready : (face : Face) (F : Forest) (e : Edge) (P : Forest → Type 0) (s
 all_ready face F e P ss regroup whole p like = record {
   stepping = record {
     whole = λ T t s h. inl (members_split face.shapes.structs T F (forests ss) (whole T) s h);
-    regroups = regroup;
+    refines = λ T t. every_weaker (Regroups T F) (Refines face T e.instr F) (forests ss)
+        (λ H g. regroups_refine face T e.instr F H g) (regroup T);
     keeps = λ T t. tt;
     bads = λ T t. tt;
   };
@@ -338,45 +346,3 @@ module _ (face : Face) (F : Forest) (e : Edge) (r p : ℕ) (G : SoundForest) (to
           (every_weaker (λ (x : Bad). IsLike G.face G.forest x.at) (λ (x : Bad). IsLike face F x.at) bad
           (λ x k. like_on face F G x.at like k) b.bad_like);
     }
-
--- A field of a root, opened: each piece shows what the edge needs.
-module _ (G : SoundForest) (e : Edge) (sound : IsSound G.face G.forest) (ranked : Every IsRanked G.forest.autos)
-    (tops : Every HasOneTop G.forest.autos) where
-  pieces_like : (ss : List SoundForest) → Every (λ (s : SoundForest). s.face ≡ G.face) ss
-      → Every (HasVarsOf G.forest) (forests ss) → Every (λ (H : Forest). Every HasNoBoxes H.autos) (forests ss)
-      → Every (IsLike G.face G.forest) ss
-  pieces_like [] f v b = tt
-  pieces_like (s ∷ ss) f v b = (
-    record {
-      face = f.0;
-      plain = b.0;
-      counts = (ap (λ (ts : List Target). length ts) v.0.0, ap (λ ds. length ds) v.0.1);
-    },
-    pieces_like ss f.1 v.1 b.1,
-  )
-
-  module _ (b f r p : ℕ) (needs : AreNeeds e.instr (Field b f)) (at : target_at G.forest b ≡ At r)
-      (can : CanSplit G.forest r p) (is : place_at G.forest r f ≡ Some p) where
-    piece_explicit : (H : Forest) → IsSplitOf [] G.forest r p H → IsExplicit G.face.shapes.structs H e.instr
-    piece_explicit H (inl (y, m, q, c, d)) =
-        subst (λ (K : Forest). IsExplicit G.face.shapes.structs K e.instr) (sym q)
-        (piece_shown G.face.shapes.structs G.forest (refers_well G.face G.forest sound) tops e.instr b f r needs at p
-        ranked can is y
-        (split_leaf G.forest r p y) (leaf_piece G.forest r p ranked can y))
-    piece_explicit H (inr (m, q, d)) =
-        subst (λ (K : Forest). IsExplicit G.face.shapes.structs K e.instr) (sym q)
-        (piece_shown G.face.shapes.structs G.forest (refers_well G.face G.forest sound) tops e.instr b f r needs at p
-        ranked can is
-        (At (length G.forest.autos)) (split_cells G.forest r p) (cells_piece G.forest r p ranked can))
-
-    pub field_opened : (ss : List SoundForest) → ((T : List BoxDef) → Every (IsSplitOf T G.forest r p) (forests ss))
-        → ((T : List BoxDef) → Every (Regroups T G.forest) (forests ss))
-        → ((T : List BoxDef) → RegroupsInto T G.forest (forests ss)) → Every (λ (s : SoundForest). s.face ≡ G.face) ss
-        → Every (HasVarsOf G.forest) (forests ss) → Every (λ (H : Forest). Every HasNoBoxes H.autos) (forests ss)
-        → IsOpening G.face G.forest e (λ (H : Forest). IsExplicit G.face.shapes.structs H e.instr) [] ss []
-    field_opened ss dressed regroup whole faces vars boxless =
-        all_ready G.face G.forest e (λ (H : Forest). IsExplicit G.face.shapes.structs H e.instr) ss regroup whole
-        (every_weaker (IsSplitOf [] G.forest r p) (λ (H : Forest). IsExplicit G.face.shapes.structs H e.instr)
-        (forests ss) piece_explicit
-        (dressed []))
-        (pieces_like ss faces vars boxless)

@@ -1,7 +1,6 @@
 -- Forests that show what an edge needs.
 use Rattle.std.proofs.Common.{◌≡◌, ◌⊎◌, inl, inr, ℕ, zero, suc, ◌+◌, ◌<◌, List, [], ◌∷◌, length, refl, sym, ap, subst}
-use Rattle.std.proofs.Common.{◌∙◌, Option, Some, None, slice_index_or, arith}
-use Rattle.std.proofs.lemmas.Option.{none-some}
+use Rattle.std.proofs.Common.{◌∙◌, None, slice_index_or, arith}
 use Rattle.fore_base.specs.Lists.{IsIn, Every}
 use Rattle.fore_base.specs.declared.shape.Shape.{Shape}
 use Rattle.ta_core.specs.Auto.{Automaton, IsRanked}
@@ -23,9 +22,9 @@ use Rattle.sym_step.specs.inner.Needing.{AreNeeds}
 use Rattle.sym_step.specs.declared.needs.Needed.TheVariants.{Nothing, Field, Cell}
 use Rattle.sym_step.specs.inner.Opening.{width, IsShown}
 use Rattle.sym_step.proofs.FieldPlaces.{field_within}
-use Rattle.sym_step.proofs.Pieces.{IsPiece, tops_stay, symbol_there, width_there, place_there, leaf_there, leaf_kept}
+use Rattle.sym_step.proofs.Pieces.{IsPiece, tops_stay, symbol_there, width_there, leaf_there, leaf_kept}
 
-abbrev root_number : Target → ℕ
+abbrev pub root_number : Target → ℕ
 root_number Null = 0
 root_number Uninit = 0
 root_number Dangling = 0
@@ -38,7 +37,7 @@ IsAt Dangling = ⊥
 IsAt (At r) = Unit {0}
 
 -- where a variable is at a root, that is one of the targets
-target_in : (vs : List Target) (b r : ℕ) → slice_index_or vs b Uninit ≡ At r → IsIn (At r) vs
+pub target_in : (vs : List Target) (b r : ℕ) → slice_index_or vs b Uninit ≡ At r → IsIn (At r) vs
 target_in [] b r h = absurd (subst IsAt (sym h) tt)
 target_in (v ∷ vs) zero r h = inl (sym h)
 target_in (v ∷ vs) (suc b) r h = inr (target_in vs b r h)
@@ -89,56 +88,6 @@ module _ (hs : List Shape) (F : Forest) (well : RefersWell F) (tops : Every HasO
 
   same_root : (b c r q : ℕ) → target_at F b ≡ At r → target_at F c ≡ At q → c ≡ b → q ≡ r
   same_root b c r q h t e = ap root_number (sym t ∙ ap (λ (x : ℕ). target_at F x) e ∙ h)
-
-  module _ (i : Instr) (b f r : ℕ) (needs : AreNeeds i (Field b f)) (at : target_at F b ≡ At r) where
-    -- a cell without the field shows it
-    pub no_field_shown : place_at F r f ≡ None → StructLacks hs (shape_at F r) f → IsExplicit hs F i
-    no_field_shown none lacked = record {
-      tops = var_tops;
-      plain = λ c q g e t n.
-          let w = needs c g e n in
-          let same : q ≡ r = same_root b c r q at t w.0 in
-          subst (λ (x : ℕ). IsPlainAt hs F x g) (sym same) (record {
-            root = root_there b r at;
-            top = component_has HasOneTop F.autos r tops (root_there b r at);
-            leaf = λ k h. absurd (none-some k (sym none ∙ (ap (λ (x : ℕ). place_at F r x) (sym w.1) ∙ h)));
-            lacks = λ h. subst (StructLacks hs (shape_at F r)) (sym w.1) lacked;
-          });
-    }
-
-    -- so does a piece with a leaf in its place
-    pub piece_shown : (p : ℕ) → Every IsRanked F.autos → (can : CanSplit F r p) → place_at F r f ≡ Some p
-        → (y : Target) (G : Forest) → IsPiece F r p y G → IsExplicit hs G i
-    piece_shown p ranked can is y G piece = record {
-      tops = λ k j. tops_stay F r p ranked can tops y G piece k
-          (well.vars k (subst (λ (vs : List Target). IsIn (At k) vs) piece.vars j));
-      plain = λ c q g e t n.
-          let w = needs c g e n in
-          let same : q ≡ r = same_root b c r q at
-          (ap (λ (vs : List Target). slice_index_or vs c Uninit) (sym piece.vars) ∙ t) w.0 in
-          subst (λ (x : ℕ). IsPlainAt hs G x g) (sym same) (record {
-            root = (let l = can.root in let m = piece.few in omega (arith, l, m));
-            top = tops_stay F r p ranked can tops y G piece r can.root;
-            leaf = λ k h. (
-              y,
-              subst (λ (x : ℕ). IsLeafPlace G r x y)
-                  (some_same p k
-                  (sym is
-                  ∙ (sym (place_there F r p ranked can tops y G piece f)
-                  ∙ (ap (λ (x : ℕ). place_at G r x) (sym w.1) ∙ h)))) (leaf_there F r p ranked can tops y G piece),
-            );
-            lacks = λ h.
-                absurd (none-some p (sym h ∙ (ap (λ (x : ℕ). place_at G r x) w.1
-                ∙ (place_there F r p ranked can tops y G piece f ∙ is))));
-          });
-    }
-      where
-        some_same : (m n : ℕ) → Some m ≡ Some n → m ≡ n
-        some_same m n h = ap (value_or m) h
-          where
-            value_or : ℕ → Option ℕ → ℕ
-            value_or d None = d
-            value_or d (Some x) = x
 
   -- The places of a root, one after the other.
 
@@ -197,16 +146,6 @@ module _ (hs : List Shape) (F : Forest) (well : RefersWell F) (tops : Every HasO
               (lacked g (ap (λ (x : Symbol). field_place g (symbol_slots x)) (sym shown.symbol) ∙ h));
         });
   }
-
--- a place of a field can be split
-pub field_splits : (F : Forest) (r f p : ℕ) → Every IsRanked F.autos → Every HasOneTop F.autos → r < length F.autos
-    → place_at F r f ≡ Some p → CanSplit F r p
-field_splits F r f p ranked tops low is = record {
-  root = low;
-  top = component_has HasOneTop F.autos r tops low;
-  place = field_within (component_at F.autos r) f p (component_has IsRanked F.autos r ranked low)
-      (component_has HasOneTop F.autos r tops low) is;
-}
 
 -- first to the one place, then to the other
 pub shown_on : (F G H : Forest) (r p q : ℕ) → IsShown F r p G → IsShown G r q H → IsShown F r q H

@@ -1,3 +1,4 @@
 pub mod Needing
 pub mod Opening
 pub mod Stepping
+pub mod Topping

@@ -3,7 +3,7 @@
 ghost use Rattle.std.specs.Prelude.{◌≡◌, ◌<◌, ℕ, length, MatchOption};
 ghost use Rattle.fa_core.specs.declared.forest.Target.TheVariants.{At};
 ghost use Rattle.sym_core.specs.Explicit.{target_at};
-ghost use Rattle.sym_step.specs.inner.Needing.{needs_of, needs_to_store, AreNeeds};
+ghost use Rattle.sym_step.specs.inner.Needing.{needs_of, needs_to_store, AreNeeds, HasNeeds};
 
 use c_cfg::graph::{Const, Instr};
 use fa_core::forest::{Forest, Target};
@@ -22,6 +22,7 @@ pub enum Needed {
 pub fn needs_of(instr: &Instr) -> Needed
     ensures value { result ≡ needs_of instr.now }
     ensures all { AreNeeds instr.now result }
+    ensures has { HasNeeds instr.now result }
 {
     match instr {
         Instr::LoadPtr { from, field, .. } => Needed::Field {

@@ -4,8 +4,8 @@ ghost use Rattle.std.specs.Prelude.{◌≡◌, ◌≤◌, true, [], ◌∷◌, L
 ghost use Rattle.fore_base.specs.Lists.{Every};
 ghost use Rattle.par_kit.specs.Crews.{IsJobs};
 ghost use Rattle.fa_core.specs.Boxes.{IsTableOf};
-ghost use Rattle.fa_core.specs.Boxless.{HasNoBoxes};
 ghost use Rattle.fa_core.specs.Canonical.{IsCanonical};
+ghost use Rattle.fa_core.specs.Faces.{IsGiving};
 ghost use Rattle.fa_core.specs.Member.{Regroups, RegroupsInto};
 ghost use Rattle.fa_core.specs.declared.boxes.BoxDef.{BoxDef};
 ghost use Rattle.fa_merge.specs.Reached.{AreAllReached};
@@ -33,7 +33,8 @@ use std::thread::Threads;
 use sym_transfer::{Edited, edited};
 
 /// What the edge makes of the members of a forest that shows what it needs. After the edge's own fault comes the leak
-/// test. A fault stands at the forest before the edge. Err is want of memory.
+/// test. A fault stands at the forest before the edge. Boxes that lead back give their output something. Err is want of
+/// memory.
 pub fn settle<R: Threads + Sync, G: Gate>(
     rt: &R,
     alloc: Global,
@@ -42,7 +43,7 @@ pub fn settle<R: Threads + Sync, G: Gate>(
     crew: &Crew<'_, G>,
 ) -> Mem<Post>
     requires jobs { IsJobs crew.now.jobs }
-    requires plain { Every HasNoBoxes forest.now.forest.autos }
+    requires gives { Every IsGiving forest.now.face.boxes }
     requires fits { EdgeFits (length forest.now.forest.vars) (length forest.now.forest.data_vars)
         forest.now.face.shapes.structs
         edge.now }
@@ -73,7 +74,6 @@ fn nothing(alloc: Global, _forest: &Sound, _edge: &Edge) -> Post
 
 /// The fault at the forest, each member of which meets it.
 fn bad_alone(alloc: Global, fault: Fault, forest: &Sound, _edge: &Edge) -> Mem<Post>
-    requires plain { Every HasNoBoxes forest.now.forest.autos }
     requires met { IsStepping forest.now.face forest.now.forest _edge.now [] []
         (record { fault = fault; at = forest.now.forest } ∷ []) }
     ensures settles { IfOk result (Settles forest.now.face forest.now.forest _edge.now) }
@@ -98,7 +98,7 @@ fn settle_edited<R: Threads + Sync, G: Gate>(
     crew: &Crew<'_, G>,
 ) -> Mem<Post>
     requires jobs { IsJobs crew.now.jobs }
-    requires plain { Every HasNoBoxes forest.now.forest.autos }
+    requires gives { Every IsGiving forest.now.face.boxes }
     requires carries { (T : List BoxDef) → IsTableOf forest.now.face T
         → Carries forest.now.face T forest.now.forest raw.now.forest edge.now.instr (choice_of edge.now.choice) }
     requires like { IsLike forest.now.face forest.now.forest raw.now }
@@ -128,7 +128,7 @@ fn normal_forms<R: Threads + Sync, G: Gate>(
     crew: &Crew<'_, G>,
 ) -> Mem<List<Sound>>
     requires jobs { IsJobs crew.now.jobs }
-    requires plain { Every HasNoBoxes raw.now.forest.autos }
+    requires gives { Every IsGiving raw.now.face.boxes }
     requires reached { AreAllReached raw.now.face raw.now.forest }
     requires calm { is_quiet edge.now.instr ≡ true → IsCanonical raw.now.face raw.now.forest }
     ensures regroups { IfOk result (λ made. (T : List BoxDef) → Every (Regroups T raw.now.forest) (forests made)) }
@@ -151,7 +151,6 @@ fn reduced_alone<R: Threads + Sync, G: Gate>(
     crew: &Crew<'_, G>,
 ) -> Mem<List<Sound>>
     requires jobs { IsJobs crew.now.jobs }
-    requires plain { Every HasNoBoxes raw.now.forest.autos }
     requires canonical { IsCanonical raw.now.face raw.now.forest }
     ensures regroups { IfOk result (λ made. (T : List BoxDef) → Every (Regroups T raw.now.forest) (forests made)) }
     ensures whole { IfOk result (λ made. (T : List BoxDef) → RegroupsInto T raw.now.forest (forests made)) }
@@ -172,7 +171,7 @@ fn canonical_forms<R: Threads + Sync, G: Gate>(
     crew: &Crew<'_, G>,
 ) -> Mem<List<Sound>>
     requires jobs { IsJobs crew.now.jobs }
-    requires plain { Every HasNoBoxes raw.now.forest.autos }
+    requires gives { Every IsGiving raw.now.face.boxes }
     requires reached { AreAllReached raw.now.face raw.now.forest }
     ensures regroups { IfOk result (λ made. (T : List BoxDef) → Every (Regroups T raw.now.forest) (forests made)) }
     ensures whole { IfOk result (λ made. (T : List BoxDef) → RegroupsInto T raw.now.forest (forests made)) }

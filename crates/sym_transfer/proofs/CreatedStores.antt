@@ -5,21 +5,23 @@ use Rattle.std.proofs.Common.{subst, ◌∙◌, Some, append_assoc, lt_irrefl, a
 use Rattle.std.proofs.lemmas.Bool.{eq-eqb, ne_eqb}
 use Rattle.std.specs.List.Sorted.{IsPermutation}
 use Rattle.fore_base.specs.Heap.{HasCell, NamesCell, AllDiffer, value_renamed, cell_renamed}
-use Rattle.fore_base.specs.Lists.{IsIn, Every}
+use Rattle.fore_base.specs.Lists.{IsIn, IsDistinct, Every}
 use Rattle.fore_base.specs.Shapes.{targets_of, datums_of}
 use Rattle.fore_base.specs.Stores.{grown, set_var, without, dangle_in}
 use Rattle.fore_base.specs.declared.shape.Shape.{Shape}
 use Rattle.fore_base.specs.declared.store.CellRec.{CellRec}
+use Rattle.fore_base.specs.declared.store.Datum.{Datum}
 use Rattle.fore_base.specs.declared.store.Datum.TheVariants.{Undefined}
 use Rattle.fore_base.specs.declared.store.Store.{Store}
 use Rattle.fore_base.specs.declared.store.Value.{Value}
 use Rattle.fore_base.specs.declared.store.Value.TheVariants.{Null as NullValue, Uninit as UninitValue}
 use Rattle.fore_base.specs.declared.store.Value.TheVariants.{Dangling as DanglingValue, Cell}
-use Rattle.fore_base.proofs.ListLemmas.{in_left, in_right, every_in, every_append, every_weaker, every_copy}
-use Rattle.fa_core.specs.Boxless.{HasNoBoxes}
-use Rattle.fa_core.specs.Choices.{numbers, all_numbers, count}
-use Rattle.fa_core.specs.Dressed.{Node, Nodes, no_nodes, more, Fact, number, roots_of, nth_value, value_in, all_refs}
-use Rattle.fa_core.specs.Filled.{IsRoot}
+use Rattle.fore_base.proofs.ListLemmas.{every_in, every_append, every_weaker, every_copy}
+use Rattle.fa_core.specs.Boxes.{IsTableOf, head_of, heads}
+use Rattle.fa_core.specs.Choices.{count}
+use Rattle.fa_core.specs.Dressed.{Node, Nodes, Fact, Head, Points, facts, forest_facts, roots_of, nth_value, value_in}
+use Rattle.fa_core.specs.Dressed.{all_refs, cells}
+use Rattle.fa_core.specs.Filled.{IsFilled, IsRoot}
 use Rattle.fa_core.specs.Member.{OfForest, StandsBy, HasItsFields, cell_facts, store_facts}
 use Rattle.fa_core.specs.Placed.{placed_leaf}
 use Rattle.fa_core.specs.Rearranged.{Rearranged, chain}
@@ -28,28 +30,31 @@ use Rattle.fa_core.specs.declared.faces.Face.{Face}
 use Rattle.fa_core.specs.declared.forest.Forest.{Forest}
 use Rattle.fa_core.specs.declared.forest.Target.{Target}
 use Rattle.fa_core.specs.declared.forest.Target.TheVariants.{Null, Uninit, Dangling, At}
-use Rattle.fa_core.proofs.Permuted.{in_rearranged}
-use Rattle.fa_core.proofs.PlainNodes.{trees_no_edges}
-use Rattle.fa_core.proofs.Rearranging.{equal, back, before}
-use Rattle.fa_merge.specs.Dropped.{drop_leaf, dropped, IsFlatRoot, IsCut, Removes, without_cell}
+use Rattle.fa_core.proofs.Permuted.{in_rearranged, none_in_both}
+use Rattle.fa_core.proofs.Rearranging.{equal, back, before, flat_map-append}
+use Rattle.fa_merge.specs.Dropped.{drop_leaf, dropped, without_node, IsFlatRoot, IsCut, without_cell}
 use Rattle.fa_back.specs.Reached.{node_at}
-use Rattle.fa_merge.proofs.DroppedBack.{roots_named}
-use Rattle.fa_merge.proofs.DroppedStores.{store_cut}
-use Rattle.fa_back.proofs.FactParts.{top_in}
-use Rattle.fa_back.proofs.StoreLaws.{has_cell}
-use Rattle.fa_merge.proofs.StoreNumbers.{same_numbers}
+use Rattle.fa_merge.proofs.DroppedClear.{NoHead, none_clear}
+use Rattle.fa_merge.proofs.DroppedFacts.{insides_in, insides_without}
+use Rattle.fa_merge.proofs.DroppedInsides.{NoFact, table_inputs}
+use Rattle.fa_merge.proofs.DroppedStores.{stands_without}
+use Rattle.fa_merge.proofs.FieldFacts.{is_head}
+use Rattle.fa_back.proofs.FactParts.{fact_cell}
+use Rattle.fa_back.proofs.StoreLaws.{differ}
 use Rattle.fa_split.specs.Split.{with_last}
 use Rattle.fa_split.proofs.Places.{last_node}
 use Rattle.fa_edit.specs.Cells.{IsNewed, blank_parts, new_node}
 use Rattle.c_types.specs.Steps.{blank}
 use Rattle.c_cfg.specs.declared.graph.Instr.TheVariants.{New}
 use Rattle.sym_core.specs.Carried.{ComesRaw, Carries}
-use Rattle.sym_transfer.proofs.FreedStores.{one_root}
-use Rattle.sym_transfer.proofs.LastTrees.{nth_first, nth_last, last_roots, count_roots, grown_facts, blank_leaves}
-use Rattle.sym_transfer.proofs.LastTrees.{dropped_last}
+use Rattle.sym_core.specs.Kept.{HasBoxEdge}
+use Rattle.sym_transfer.proofs.BoxEdges.{cell_headed, edges_grown}
+use Rattle.sym_transfer.proofs.Facts.{fact_has}
+use Rattle.sym_transfer.proofs.LastTrees.{nth_first, nth_last, last_roots, count_roots, old_facts, grown_facts}
+use Rattle.sym_transfer.proofs.LastTrees.{blank_leaves, dropped_last, without_last}
 use Rattle.sym_transfer.proofs.Places.{every_set, set_mapped}
-use Rattle.sym_transfer.proofs.PlainKept.{member_kept}
 use Rattle.sym_transfer.proofs.SameStores.{number_there, same_stores}
+use Rattle.sym_transfer.proofs.Standing.{IsHeap, store_by, heap_of, stands_by, roots_named}
 
 -- Cells with one more behind them.
 
@@ -111,6 +116,13 @@ never_left c (x ∷ cs) h = here (nat_eq x.number c) refl (never_left c cs) h
     here true q later k = later k
     here false q later (inl e) = true≢false (sym (eq-eqb x.number c e) ∙ q)
     here false q later (inr k) = later k
+
+head_in : (c s : ℕ) (ds : List Datum) (fs : List Fact) → IsIn (Head c s ds) fs → IsIn c (heads fs)
+head_in c s ds [] i = absurd i
+head_in c s ds (Head m t es ∷ fs) (inl e) = inl (ap fact_cell e)
+head_in c s ds (Head m t es ∷ fs) (inr i) = inr (head_in c s ds fs i)
+head_in c s ds (Points m f v ∷ fs) (inl e) = absurd (true≢false (ap is_head e))
+head_in c s ds (Points m f v ∷ fs) (inr i) = head_in c s ds fs i
 
 -- Lists that are renamed.
 
@@ -237,52 +249,50 @@ module _ (face : Face) (T : List BoxDef) (F G : Forest) (to shape : ℕ) (p : Is
       back = λ d h c. (with_last d (new c), p.forth d h c, new_dropped d c h, new_flat d c h);
     }
 
-    module _ (plain : Every HasNoBoxes F.autos) (plain_grown : Every HasNoBoxes G.autos) where
-      taken_out : Removes hs T G old_forest p.roots
-      taken_out = store_cut hs T G old_forest p.roots plain_grown new_cut
-
+    -- by a table of boxes over the face
+    module _ (table : IsTableOf face T) (filled : IsFilled face F) where
       module _ (e : Nodes) (c : ℕ) (u : Store) (of : OfForest T F e) (h : StandsBy hs T G (with_last e (new c)) u) where
         abbrev ks : List CellRec
         ks = without c u.cells
 
         abbrev was : Store
-        was = record { vars = map (value_in (roots_of e)) F.vars; data_vars = F.data_vars; cells = ks; next = u.next }
+        was = store_by e F ks u.next
+
+        -- the new cell has one head
+        own_head : NoHead c (facts e)
+        own_head s ds i =
+            let grown = grown_facts hs shape c e (low_refs e of) in
+            let apart : IsDistinct (heads (facts e) ++ heads (cell_facts (blank hs c shape) ++ [])) =
+            subst (λ (z : List ℕ). IsDistinct z)
+            (ap heads grown ∙ flat_map-append head_of (facts e) (cell_facts (blank hs c shape) ++ []))
+            (differ hs T G (with_last e (new c)) u h) in
+            none_in_both c (heads (facts e)) (heads (cell_facts (blank hs c shape) ++ [])) apart
+            (head_in c s ds (facts e) i) (inl refl)
+
+        -- and no fact of the other trees is of it
+        clear : NoFact c (forest_facts (roots_of (with_last e (new c))) [] (without_node p.roots (with_last e (new c))))
+        clear =
+            subst (λ (z : List Fact). NoFact c z)
+            (sym
+            (ap₂ (λ (vs : List Value) (z : Nodes). forest_facts vs [] z) (last_roots e (new c))
+            (subst (λ (r : ℕ). without_node r (with_last e (new c)) ≡ e) (p.counted e of) (without_last e (new c)))
+            ∙ old_facts c e (low_refs e of)))
+            (none_clear face T F table filled e of c own_head)
 
         left : StandsBy hs T old_forest e (without_cell c u)
         left =
-            let k = taken_out (with_last e (new c)) u h in
-            let same : k.0 ≡ c = one_root (with_last e (new c)) p.roots k.0 c k.1 (new_flat e c of) in
+            let flat = new_flat e c of in
             subst (λ (d : Nodes). StandsBy hs T old_forest d (without_cell c u)) (new_dropped e c of)
-            (subst (λ (n : ℕ). StandsBy hs T old_forest (dropped p.roots (with_last e (new c))) (without_cell n u)) same
-            k.2)
+            (stands_without hs T G old_forest p.roots new_cut (with_last e (new c)) u h T
+            (table_inputs face.shapes T table.sound)
+            (insides_without T p.roots (with_last e (new c)) (insides_in T G.autos (with_last e (new c)) h.of)) c flat.0
+            flat.1 flat.2 flat.3 flat.4 clear)
 
-        there : (n : ℕ) → IsIn n (all_numbers e) → HasCell ks n
-        there n i = has_cell ks n
-            (in_rearranged n
-            (same_numbers hs T old_forest e (without_cell c u) left (trees_no_edges T F.autos e plain of)) i)
-
-        named : (ts : List Target) → Every (NamesCell ks) (map (value_in (roots_of e)) ts)
-        named [] = tt
-        named (Null ∷ ts) = (tt, named ts)
-        named (Uninit ∷ ts) = (tt, named ts)
-        named (Dangling ∷ ts) = (tt, named ts)
-        named (At k ∷ ts) = (roots_named ks e there k, named ts)
+        heap : IsHeap hs e ks u.next
+        heap = heap_of hs T old_forest e (without_cell c u) left
 
         was_stands : StandsBy hs T F e was
-        was_stands = record {
-          proper =
-              record {
-                differ = left.proper.differ;
-                below = left.proper.below;
-                vars = named F.vars;
-                fields = left.proper.fields;
-              };
-          fields = left.fields;
-          of = of;
-          same_facts = left.same_facts;
-          vars = refl;
-          data_vars = refl;
-        }
+        was_stands = stands_by hs T F e ks u.next of heap
 
         -- the number that the new cell would get is sent to the one that it has
         abbrev back_to : ℕ → ℕ
@@ -320,13 +330,9 @@ module _ (face : Face) (T : List BoxDef) (F G : Forest) (to shape : ℕ) (p : Is
 
         -- Variables.
 
-        roots_old : (d : Nodes) → ((n : ℕ) → IsIn n (all_numbers d) → HasCell ks n)
-            → Every (λ v. value_renamed back_to v ≡ v) (roots_of d)
-        roots_old no_nodes h = tt
-        roots_old (more n ns) h = (
-          old_value (Cell (number n)) (h (number n) (in_left (number n) (numbers n) (all_numbers ns) (top_in n))),
-          roots_old ns (λ m i. h m (in_right m (numbers n) (all_numbers ns) i)),
-        )
+        roots_old : Every (λ v. value_renamed back_to v ≡ v) (roots_of e)
+        roots_old = every_weaker (NamesCell ks) (λ v. value_renamed back_to v ≡ v) (roots_of e) old_value
+            (roots_named hs e ks u.next heap)
 
         root_renamed : (vs : List Value) (k : ℕ) → Every (λ v. value_renamed back_to v ≡ v) vs
             → nth_value (vs ++ Cell c ∷ []) k ≡ value_renamed back_to (nth_value (vs ++ Cell u.next ∷ []) k)
@@ -340,7 +346,7 @@ module _ (face : Face) (T : List BoxDef) (F G : Forest) (to shape : ℕ) (p : Is
         target_renamed Null = refl
         target_renamed Uninit = refl
         target_renamed Dangling = refl
-        target_renamed (At k) = root_renamed (roots_of e) k (roots_old e there)
+        target_renamed (At k) = root_renamed (roots_of e) k roots_old
 
         targets_renamed : (ts : List Target) → map (value_in (roots_of e ++ Cell c ∷ [])) ts
             ≡ map (value_renamed back_to) (map (value_in (roots_of e ++ Cell u.next ∷ [])) ts)
@@ -411,7 +417,12 @@ module _ (face : Face) (T : List BoxDef) (F G : Forest) (to shape : ℕ) (p : Is
             data_vars = h.data_vars ∙ p.data_vars;
             cells = cells_moved;
           };
-          edges = member_kept hs T F face.boxes (New to shape) was back_to e (with_last e (new c)) plain was_stands;
+          edges = λ k i x j b l ex.
+              let there : HasCell ks k.cell =
+              fact_has (Head k.cell k.shape k.datums) ks
+              (in_rearranged (Head k.cell k.shape k.datums) left.same_facts (cell_headed e k i)) in
+              subst (λ (m : ℕ). HasBoxEdge (cells (with_last e (new c))) m b) (sym (old_number k.cell there))
+              (edges_grown e (new c) k.cell b (k, i, refl, (x, j, l)));
         }
 
       pub created_carries : (x : ℕ) → Carries face T F G (New to shape) x

@@ -1,27 +1,30 @@
 -- `free` of a root's cell: the members of the forest without the root are what the members become.
-use Rattle.std.proofs.Common.{◌≡◌, ℕ, zero, suc, List, [], ◌∷◌, map, slice_index_or, refl, sym, ap, subst, ◌∙◌}
+use Rattle.std.proofs.Common.{◌≡◌, inl, ℕ, zero, suc, List, [], ◌∷◌, map, slice_index_or, refl, sym, ap, subst, ◌∙◌}
 use Rattle.std.proofs.lemmas.Option.{same_Some}
-use Rattle.fore_base.specs.Lists.{Every}
 use Rattle.fore_base.specs.Stores.{var_of, freed}
 use Rattle.fore_base.specs.declared.shape.Shape.{Shape}
 use Rattle.fore_base.specs.declared.store.Store.{Store}
 use Rattle.fore_base.specs.declared.store.Value.{Value}
 use Rattle.fore_base.specs.declared.store.Value.TheVariants.{Uninit as UninitValue, Cell}
-use Rattle.fa_core.specs.Boxless.{HasNoBoxes}
-use Rattle.fa_core.specs.Dressed.{Nodes, node, number, roots_of, value_in}
+use Rattle.fa_core.specs.Boxes.{IsTableOf}
+use Rattle.fa_core.specs.Dressed.{Nodes, node, number, roots_of, value_in, cells}
+use Rattle.fa_core.specs.Filled.{IsFilled}
 use Rattle.fa_core.specs.Member.{StandsBy}
 use Rattle.fa_core.specs.declared.boxes.BoxDef.{BoxDef}
 use Rattle.fa_core.specs.declared.faces.Face.{Face}
 use Rattle.fa_core.specs.declared.forest.Forest.{Forest}
 use Rattle.fa_core.specs.declared.forest.Target.{Target}
 use Rattle.fa_core.specs.declared.forest.Target.TheVariants.{Uninit, At}
-use Rattle.fa_merge.specs.Dropped.{dropped, IsFlatRoot, Removes, Restores, without_cell}
+use Rattle.fa_merge.specs.Dropped.{dropped, IsCut, IsFlatRoot, IsIdle, Removes, without_cell}
+use Rattle.fa_merge.proofs.DroppedBack.{store_again}
+use Rattle.fa_merge.proofs.DroppedStores.{store_removed}
 use Rattle.fa_back.proofs.FactParts.{node_root}
 use Rattle.c_cfg.specs.Edges.{Passed, onto, raw_step}
 use Rattle.c_cfg.specs.declared.graph.Instr.TheVariants.{Free}
 use Rattle.sym_core.specs.Carried.{GoesInto, ComesRaw, Carries}
 use Rattle.sym_core.specs.Explicit.{target_at}
-use Rattle.sym_transfer.proofs.PlainKept.{member_kept}
+use Rattle.sym_core.specs.Kept.{HasBoxEdge}
+use Rattle.sym_transfer.proofs.BoxEdges.{edges_dropped}
 
 -- what a variable is, by its target
 value_of_target : (vs : List Value) (ts : List Target) (x : ℕ) → slice_index_or (map (value_in vs) ts) x UninitValue
@@ -50,8 +53,12 @@ module _ (face : Face) (T : List BoxDef) (F : Forest) (base r : ℕ) (at : targe
       ≡ Passed (without_cell c s)
   free_goes d s c x h flat = ap (λ (v : Value). onto (freed s v) Passed) (base_is d s c h flat)
 
-  module _ (G : Forest) (plain : Every HasNoBoxes F.autos) (removes : Removes hs T F G r)
-      (restores : Restores hs T F G r) (x : ℕ) where
+  -- by a table of boxes over the face, where the root is idle
+  module _ (G : Forest) (table : IsTableOf face T) (filled : IsFilled face F) (idle : IsIdle face.boxes F r)
+      (cut : IsCut T F G r) (x : ℕ) where
+    removes : Removes face.shapes.structs T F G r
+    removes = store_removed face T F G r table filled idle cut
+
     free_into : (s : Store) (d : Nodes) → StandsBy hs T F d s → GoesInto face T G (Free base) x s
     free_into s d h =
         let k = removes d s h in
@@ -59,7 +66,7 @@ module _ (face : Face) (T : List BoxDef) (F : Forest) (base r : ℕ) (at : targe
 
     free_from : (d : Nodes) (u : Store) → StandsBy hs T G d u → ComesRaw face T F G (Free base) x d u
     free_from d u h =
-        let p = restores d u h in
+        let p = store_again T face F G r table filled idle cut d u h in
         let e : Nodes = p.0 in
         let s : Store = p.1 in
         let c : ℕ = p.2 in
@@ -77,8 +84,19 @@ module _ (face : Face) (T : List BoxDef) (F : Forest) (base r : ℕ) (at : targe
             subst (λ (n : ℕ). StandsBy hs T G (dropped r e) (without_cell n s))
                 (one_root e r k.0 c k.1 flat) k.2,
           );
-          alike = p.5;
-          edges = member_kept hs T F face.boxes (Free base) s p.5.to e d plain was;
+          alike = p.6.0;
+          edges = λ a i z j b l ex.
+              let other : (a.cell ≡ c → ⊥) =
+              (λ q. ex (record {
+                base = base;
+                is_base = refl;
+                cell = c;
+                is_cell = base_is e s c was flat;
+                why = inl (tt, q);
+              })) in
+              subst (λ (m : ℕ). HasBoxEdge (cells d) m b) (sym (p.6.1 a.cell))
+              (subst (λ (D : Nodes). HasBoxEdge (cells D) a.cell b) p.5
+              (edges_dropped e r c flat a i other b (z, j, l)));
         }
 
     pub freed_carries : Carries face T F G (Free base) x

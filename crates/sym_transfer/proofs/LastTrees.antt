@@ -106,6 +106,14 @@ last_facts vs no_nodes n = refl
 last_facts vs (more m ns) n = ap (λ (xs : List Fact). tree_facts vs m ++ xs) (last_facts vs ns n)
     ∙ sym (append_assoc (tree_facts vs m) (forest_facts vs [] ns) (tree_facts vs n ++ []))
 
+-- the facts of a dressed forest stay where one more root is a cell
+pub old_facts : (c : ℕ) (d : Nodes) → Every (λ r. r < count d) (all_refs d)
+    → forest_facts (roots_of d ++ Cell c ∷ []) [] d ≡ facts d
+old_facts c d low =
+    forest_agrees (roots_of d ++ Cell c ∷ []) (roots_of d) d
+    (every_weaker (λ r. r < count d) (Agrees (roots_of d ++ Cell c ∷ []) (roots_of d)) (all_refs d)
+    (λ r l. nth_first (roots_of d) (Cell c ∷ []) r (subst (λ (m : ℕ). r < m) (sym (count_roots d)) l)) low)
+
 -- the facts of a dressed forest with a new cell are its own, and those of a blank cell
 pub grown_facts : (hs : List Shape) (shape c : ℕ) (d : Nodes) → Every (λ r. r < count d) (all_refs d)
     → facts (with_last d (new_node hs shape c)) ≡ facts d ++ (cell_facts (blank hs c shape) ++ [])
@@ -114,11 +122,7 @@ grown_facts hs shape c d low =
     ap (λ (ws : List Value). forest_facts ws [] (with_last d (new_node hs shape c)))
     (last_roots d (new_node hs shape c))
     ∙ last_facts vs d (new_node hs shape c)
-    ∙ ap₂ (λ (xs ys : List Fact). xs ++ (ys ++ []))
-    (forest_agrees vs (roots_of d) d
-    (every_weaker (λ r. r < count d) (Agrees vs (roots_of d)) (all_refs d)
-    (λ r l. nth_first (roots_of d) (Cell c ∷ []) r (subst (λ (m : ℕ). r < m) (sym (count_roots d)) l)) low))
-    (new_facts hs vs shape c)
+    ∙ ap₂ (λ (xs ys : List Fact). xs ++ (ys ++ [])) (old_facts c d low) (new_facts hs vs shape c)
 
 pub blank_leaves : (k j : ℕ) → AreLeaves (blank_parts k j)
 blank_leaves k zero = tt
@@ -126,7 +130,7 @@ blank_leaves k (suc j) = blank_leaves (suc k) j
 
 -- The last tree dropped again.
 
-without_last : (d : Nodes) (n : Node) → without_node (count d) (with_last d n) ≡ d
+pub without_last : (d : Nodes) (n : Node) → without_node (count d) (with_last d n) ≡ d
 without_last no_nodes n = refl
 without_last (more m ns) n = ap (more m) (without_last ns n)
 
@@ -161,6 +165,14 @@ module _ (f : ℕ → Target) where
   all_stay no_nodes h = refl
   all_stay (more n ns) h = let k = every_parts Stays (refs n) (all_refs ns) h in
       ap₂ more (tree_stays n k.0) (all_stay ns k.1)
+
+-- leaves that are what they were
+pub every_stays : (d : Nodes) → placed_all (λ k. At k) d ≡ d
+every_stays d = all_stay (λ k. At k) d (all_so (all_refs d))
+  where
+    all_so : (ks : List ℕ) → Every (Stays (λ k. At k)) ks
+    all_so [] = tt
+    all_so (k ∷ ks) = (refl, all_so ks)
 
 low_stays : (r k : ℕ) → k < r → drop_leaf r k ≡ At k
 low_stays r k l =

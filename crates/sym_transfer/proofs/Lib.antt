@@ -1,5 +1,6 @@
 pub mod Apart
 pub mod Below
+pub mod BoxEdges
 pub mod Carrying
 pub mod CreatedStores
 pub mod DataKinds
@@ -20,7 +21,6 @@ pub mod Loaded
 pub mod Missing
 pub mod Outcomes
 pub mod Places
-pub mod PlainKept
 pub mod PtrKinds
 pub mod PtrStays
 pub mod Rows

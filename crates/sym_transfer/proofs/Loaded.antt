@@ -1,6 +1,6 @@
 -- What stands in a field of a root may be what a variable is: a leaf that names a root names one that is there, and a
 -- datum fits.
-use Rattle.std.proofs.Common.{◌≡◌, inl, ℕ, Bool, true, false, nat_eq, if◌then◌else◌, List, [], ◌++◌, length, slice_get}
+use Rattle.std.proofs.Common.{◌≡◌, inl, ℕ, Bool, true, false, nat_eq, if◌then◌else◌, List, ◌++◌, length, slice_get}
 use Rattle.std.proofs.Common.{Some, refl, sym, subst}
 use Rattle.std.proofs.lemmas.Option.{none-some, same_Some}
 use Rattle.fore_base.specs.Lists.{IsIn, Every}
@@ -12,16 +12,16 @@ use Rattle.ta_core.specs.declared.symbol.Symbol.{Symbol}
 use Rattle.ta_core.specs.declared.symbol.Symbol.TheVariants.{Null as NullSymbol, Uninit as UninitSymbol}
 use Rattle.ta_core.specs.declared.symbol.Symbol.TheVariants.{Dangling as DanglingSymbol, Ref, Cell}
 use Rattle.ta_core.specs.declared.tree.Tree.{Tree}
-use Rattle.fa_core.specs.Boxless.{HasNoBoxes}
 use Rattle.fa_core.specs.Dressed.{Node, Parts, End, node, no_parts, field, link, hook, leaf, refs, refs_of, end_refs}
+use Rattle.fa_core.specs.declared.boxes.BoxDef.{BoxDef}
 use Rattle.fa_core.specs.declared.faces.Face.{Face}
 use Rattle.fa_core.specs.declared.forest.Forest.{Forest}
 use Rattle.fa_core.specs.declared.forest.Target.{Target}
 use Rattle.fa_core.specs.declared.forest.Target.TheVariants.{At}
 use Rattle.fa_core.specs.Filled.{DatumFits, SymbolFits, RulesFit, IsRoot, IsSound}
 use Rattle.fa_core.specs.Member.{bare}
-use Rattle.fa_core.proofs.Dressing.{dress_all, boxless_have_insides}
 use Rattle.fa_core.proofs.WaysOf.{tree_roots}
+use Rattle.fa_leaves.proofs.Hollow.{filled_dressed, hollow_table}
 use Rattle.fa_merge.specs.Reordered.{component_at}
 use Rattle.fa_back.proofs.Dressable.{some_choice}
 use Rattle.fa_merge.proofs.Named.{refers_below}
@@ -57,13 +57,12 @@ symbol_data face (Cell s ds ss) h = h.2
 
 module _ (face : Face) (F : Forest) (sound : IsSound face F) where
   -- a leaf that stands in a field of a root names a root, or none
-  pub leaf_below : Every IsRanked F.autos → Every HasNoBoxes F.autos → (r f : ℕ) (t : Target) → AllHaveLeaf [] F r f t
+  pub leaf_below : Every IsRanked F.autos → (r f : ℕ) (t : Target) → ((T : List BoxDef) → AllHaveLeaf T F r f t)
       → IsRoot (length F.autos) t
-  leaf_below ranked plain r f t h k e =
+  leaf_below ranked r f t h k e =
       let c = some_choice F.autos sound.full in
-      let cf = sound.well_formed.filled.trees c.0 c.1 in
-      let x = dress_all [] 0 F.autos c.0 cf.tops ranked (boxless_have_insides [] F.autos plain) c.1 cf.are in
-      let l = h x.nodes x.of in
+      let x = filled_dressed face F 0 sound.well_formed.filled ranked c.0 c.1 in
+      let l = h (hollow_table face.boxes) x.nodes x.of in
       let i : IsIn k (refs l.0) =
       node_refs f k l.0 (subst (λ (u : Target). end_of_field f (top_parts l.0) ≡ Some (leaf u)) e l.2) in
       refers_below face F sound.well_formed.filled c.0 c.1 r k (bare l.0)

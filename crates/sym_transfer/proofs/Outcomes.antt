@@ -1,8 +1,6 @@
 -- What the calls make is what the members become.
 use Rattle.std.proofs.Common.{◌≡◌, ◌∙◌, inl, ℕ, Bool, List, Result, sym, ap, subst}
-use Rattle.fore_base.specs.Lists.{Every}
 use Rattle.fore_base.specs.declared.fault.Fault.{Fault as FaultKind}
-use Rattle.fa_core.specs.Boxless.{HasNoBoxes}
 use Rattle.fa_core.specs.Filled.{IsSound}
 use Rattle.fa_core.specs.declared.boxes.BoxDef.{BoxDef}
 use Rattle.fa_core.specs.declared.faces.Face.{Face}
@@ -29,19 +27,18 @@ pub carried : (face : Face) (T : List BoxDef) (F G R : Forest) (i : Instr) (x : 
 carried face T F G R i x e h = subst (λ (M : Forest). Carries face T F M i x) (sym e) h
 
 module _ (F : SoundForest) (T : List BoxDef) (equal : Bool) (x : ℕ) where
-  pub ptrs_tested : (l r : PtrArg) → IsSound F.face F.forest → Every HasNoBoxes F.forest.autos
-      → (same : Result Bool FaultKind) → same ≡ same_targets (target_of_arg F.forest l) (target_of_arg F.forest r)
+  pub ptrs_tested : (l r : PtrArg) → IsSound F.face F.forest → (same : Result Bool FaultKind) → same ≡ same_targets (target_of_arg F.forest l) (target_of_arg F.forest r)
       → (made : Edited) → IsTested F same equal made → Becomes F.face T F.forest (TestPtr l r equal) x made
-  ptrs_tested l r sound plain same e (Fault k) h =
-      test_ptr_fails F.face T F.forest plain l r equal x (arg_below F.face F.forest sound l)
+  ptrs_tested l r sound same e (Fault k) h =
+      test_ptr_fails F.face T F.forest l r equal x (arg_below F.face F.forest sound l)
       (arg_below F.face F.forest sound r) k (sym e ∙ h)
-  ptrs_tested l r sound plain same e Stays (b, h, a) =
+  ptrs_tested l r sound same e Stays (b, h, a) =
       inl
-      (test_ptr_stays F.face T F.forest plain l r equal x (arg_below F.face F.forest sound l)
+      (test_ptr_stays F.face T F.forest l r equal x (arg_below F.face F.forest sound l)
       (arg_below F.face F.forest sound r) b (sym e ∙ h) a)
-  ptrs_tested l r sound plain same e (Goes R) (b, h, a, i) =
+  ptrs_tested l r sound same e (Goes R) (b, h, a, i) =
       carried F.face T F.forest F.forest R.forest (TestPtr l r equal) x (ap (λ (G : SoundForest). G.forest) i)
-      (test_ptr_goes F.face T F.forest plain l r equal x (arg_below F.face F.forest sound l)
+      (test_ptr_goes F.face T F.forest l r equal x (arg_below F.face F.forest sound l)
       (arg_below F.face F.forest sound r) b (sym e ∙ h) a)
 
   pub data_tested : (l r : DataArg) (same : Result Bool FaultKind)

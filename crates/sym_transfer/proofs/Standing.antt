@@ -69,14 +69,17 @@ nth_names cs (v ∷ vs) zero (g, h) = g
 nth_names cs (v ∷ vs) (suc k) (g, h) = nth_names cs vs k h
 
 module _ (hs : List Shape) where
+  -- each root is a cell of the store
+  pub roots_named : (d : Nodes) (cs : List CellRec) (next : ℕ) → IsHeap hs d cs next → Every (NamesCell cs) (roots_of d)
+  roots_named d cs next h = roots_there (roots_of d) cs d (λ x i. in_rearranged x h.same_facts i)
+
   -- a leaf or a variable names a cell of the store, or none
   pub value_names : (d : Nodes) (cs : List CellRec) (next : ℕ) → IsHeap hs d cs next → (t : Target)
       → NamesCell cs (value_in (roots_of d) t)
   value_names d cs next h Null = tt
   value_names d cs next h Uninit = tt
   value_names d cs next h Dangling = tt
-  value_names d cs next h (At k) =
-      nth_names cs (roots_of d) k (roots_there (roots_of d) cs d (λ x i. in_rearranged x h.same_facts i))
+  value_names d cs next h (At k) = nth_names cs (roots_of d) k (roots_named d cs next h)
 
   -- the store has the struct of the root
   pub struct_is : (d : Nodes) (cs : List CellRec) (next : ℕ) → IsHeap hs d cs next

@@ -35,26 +35,26 @@ held_there P Q (Some a) e h = (a, h)
 held_there P Q None e h = absurd (true≢false (sym e))
 
 -- the form of a forest with another leaf or datum
-pub put_form : (F R : SoundForest) (r f : ℕ) (t u : Target) → R.face ≡ F.face → Every HasNoBoxes R.forest.autos
-    → IsPut [] F.forest R.forest r f t u → HasForm F R
+pub put_form : (F R : SoundForest) (r f : ℕ) (t u : Target) → R.face ≡ F.face
+    → (Every HasNoBoxes F.forest.autos → Every HasNoBoxes R.forest.autos) → IsPut [] F.forest R.forest r f t u → HasForm F R
 put_form F R r f t u face plain p =
     record { face = face; plain = plain; vars = ap length p.vars; data_vars = ap length p.data_vars }
 
-pub datum_form : (F R : SoundForest) (r f : ℕ) (y z : Datum) → R.face ≡ F.face → Every HasNoBoxes R.forest.autos
-    → IsDatumPut [] F.forest R.forest r f y z → HasForm F R
+pub datum_form : (F R : SoundForest) (r f : ℕ) (y z : Datum) → R.face ≡ F.face
+    → (Every HasNoBoxes F.forest.autos → Every HasNoBoxes R.forest.autos) → IsDatumPut [] F.forest R.forest r f y z → HasForm F R
 datum_form F R r f y z face plain p =
     record { face = face; plain = plain; vars = ap length p.vars; data_vars = ap length p.data_vars }
 
 module _ (F : SoundForest) (T : List BoxDef) (x b f r : ℕ) (at : target_at F.forest b ≡ At r) where
-  module _ (plain : Every HasNoBoxes F.forest.autos) (top : HasTop F.forest r) where
+  module _ (top : HasTop F.forest r) where
     pub ptr_stored : (v : ℕ) → IsTopped F.forest (target_at F.forest v) → (made : Edited)
         → IsLeafStored F r f (target_at F.forest v) made → Becomes F.face T F.forest (StorePtr b f v) x made
     ptr_stored v g (Fault k) h = absurd h
     ptr_stored v g Stays (inl l) =
-        inl (ptr_stays F.face T F.forest plain r f (StorePtr b f v) x b at (λ s. var_of s v) (λ s. refl) (l T))
+        inl (ptr_stays F.face T F.forest r f (StorePtr b f v) x b at (λ s. var_of s v) (λ s. refl) top l)
     ptr_stored v g Stays (inr never) =
         inl
-        (unfit_stays F.face T F.forest plain r f (StorePtr b f v) x b at (λ s. var_of s v) (λ s. refl)
+        (unfit_stays F.face T F.forest r f (StorePtr b f v) x b at (λ s. var_of s v) (λ s. refl)
         (target_at F.forest v) (λ d cs next. var_is d F.forest cs next v) top g never)
     ptr_stored v g (Goes R) (fits, p) =
         store_ptr F.face T F.forest R.forest b f v x r (p T).0 at (p T).1
@@ -65,7 +65,7 @@ module _ (F : SoundForest) (T : List BoxDef) (x b f r : ℕ) (at : target_at F.f
         → Becomes F.face T F.forest (StoreConst b f ConstNull) x made
     null_stored (Fault k) h = absurd h
     null_stored Stays (inl l) =
-        inl (ptr_stays F.face T F.forest plain r f (StoreConst b f ConstNull) x b at (λ s. NullValue) (λ s. refl) (l T))
+        inl (ptr_stays F.face T F.forest r f (StoreConst b f ConstNull) x b at (λ s. NullValue) (λ s. refl) top l)
     null_stored Stays (inr never) = absurd (never tt)
     null_stored (Goes R) (fits, p) = store_null F.face T F.forest R.forest b f x r (p T).0 at (p T).1
 

@@ -1,7 +1,6 @@
 -- Tests, stops, and frees of what is no cell.
 use Rattle.std.proofs.Common.{◌≡◌, ◌∙◌, ℕ, Bool, true, false, true≢false, if◌then◌else◌, List, length, Option, Some}
 use Rattle.std.proofs.Common.{None, Result, Ok, Err, refl, sym, ap, ap₂}
-use Rattle.fore_base.specs.Lists.{Every}
 use Rattle.fore_base.specs.Stores.{freed}
 use Rattle.fore_base.specs.declared.fault.Fault.{Fault}
 use Rattle.fore_base.specs.declared.fault.Fault.TheVariants.{Assertion}
@@ -9,7 +8,6 @@ use Rattle.fore_base.specs.declared.store.CellRec.{CellRec}
 use Rattle.fore_base.specs.declared.store.Datum.{Datum}
 use Rattle.fore_base.specs.declared.store.Store.{Store}
 use Rattle.fore_base.specs.declared.store.Value.{Value}
-use Rattle.fa_core.specs.Boxless.{HasNoBoxes}
 use Rattle.fa_core.specs.declared.boxes.BoxDef.{BoxDef}
 use Rattle.fa_core.specs.declared.faces.Face.{Face}
 use Rattle.fa_core.specs.declared.forest.Forest.{Forest}
@@ -54,8 +52,7 @@ tested equal q s = onto q (λ same. if_agreed equal same s)
 module _ (face : Face) (T : List BoxDef) (H : Forest) where
   -- Tests of pointers: the targets decide, for all members alike.
 
-  module _ (plain : Every HasNoBoxes H.autos) (l r : PtrArg) (equal : Bool) (x : ℕ)
-      (left : IsRoot (length H.autos) (target_of_arg H l)) (right : IsRoot (length H.autos) (target_of_arg H r)) where
+  module _ (l r : PtrArg) (equal : Bool) (x : ℕ) (left : IsRoot (length H.autos) (target_of_arg H l)) (right : IsRoot (length H.autos) (target_of_arg H r)) where
     found : (d : Nodes) (cs : List CellRec) (next : ℕ) → OfForest T H d → IsHeap face.shapes.structs d cs next
         → raw_step face.shapes.structs (TestPtr l r equal) x (store_by d H cs next)
         ≡ tested equal (same_targets (target_of_arg H l) (target_of_arg H r)) (store_by d H cs next)
@@ -63,8 +60,7 @@ module _ (face : Face) (T : List BoxDef) (H : Forest) where
         let s = store_by d H cs next in
         ap₂ (λ (v w : Value). tested equal (same_values v w) s) (arg_is d H cs next l) (arg_is d H cs next r)
         ∙ ap (λ (q : Result Bool Fault). tested equal q s)
-        (targets_same face.shapes.structs T H plain d o cs next h (target_of_arg H l) (target_of_arg H r) left
-        right)
+        (targets_same face.shapes.structs T H d o cs next h (target_of_arg H l) (target_of_arg H r) left right)
 
     pub test_ptr_fails : (k : Fault) → same_targets (target_of_arg H l) (target_of_arg H r) ≡ Err k
         → AllGo face T H (TestPtr l r equal) x (Faulted k)

@@ -35,9 +35,9 @@ IfGoes P (Goes R) = P R
 abbrev pub GoesCanonical : Edited → Type 0
 GoesCanonical made = IfGoes (λ G. IsCanonical G.face G.forest) made
 
--- a forest over the same structs and boxes without box edges, and with as many variables
+-- a forest over the same structs and boxes, with as many variables, and without box edges where the first has none
 pub record HasForm (F G : SoundForest) : Type 0 where
   pub face : G.face ≡ F.face
-  pub plain : Every HasNoBoxes G.forest.autos
+  pub plain : Every HasNoBoxes F.forest.autos → Every HasNoBoxes G.forest.autos
   pub vars : length G.forest.vars ≡ length F.forest.vars
   pub data_vars : length G.forest.data_vars ≡ length F.forest.data_vars

@@ -16,16 +16,17 @@ use std::alloc::Global;
 /// The forest after `to = malloc(..)` of a struct: it has a new cell as a further root, at which `to` is. Err is want
 /// of memory.
 pub fn created(alloc: Global, forest: &Sound, to: u32, shape: u32) -> Mem<Sound>
-    requires plain { Every HasNoBoxes forest.now.forest.autos }
     requires to { to < length forest.now.forest.vars }
     requires shape { shape < length forest.now.face.shapes.structs }
     ensures carries { IfOk result (λ made. (T : List BoxDef) → IsTableOf forest.now.face T → (x : ℕ)
         → Carries forest.now.face T forest.now.forest made.forest (New to shape) x) }
     ensures face { IfOk result (λ made. made.face ≡ forest.now.face) }
-    ensures plain { IfOk result (λ made. Every HasNoBoxes made.forest.autos) }
+    ensures plain { Every HasNoBoxes forest.now.forest.autos
+        → IfOk result (λ made. Every HasNoBoxes made.forest.autos) }
     ensures vars { IfOk result (λ made. length made.forest.vars ≡ length forest.now.forest.vars) }
     ensures data_vars { IfOk result (λ made. made.forest.data_vars ≡ forest.now.forest.data_vars) }
 {
+    forest.known();
     let made = with_cell(alloc, forest, to, shape)?;
     Ok(made)
 }

@@ -3,9 +3,9 @@
 ghost use Rattle.std.specs.Prelude.{◌≡◌, ◌<◌, true, List, ℕ, length, IfOk};
 ghost use Rattle.fore_base.specs.Lists.{Every};
 ghost use Rattle.fa_core.specs.Boxes.{IsTableOf};
-ghost use Rattle.fa_core.specs.Boxless.{HasNoBoxes};
 ghost use Rattle.fa_core.specs.Canonical.{IsCanonical};
 ghost use Rattle.fa_core.specs.declared.boxes.BoxDef.{BoxDef};
+ghost use Rattle.fa_split.specs.Giving.{RulesGive};
 ghost use Rattle.c_cfg.specs.Ranges.{EdgeFits};
 ghost use Rattle.c_cfg.specs.declared.graph.Instr.TheVariants.{New, Free};
 ghost use Rattle.sym_core.specs.Explicit.{IsExplicit};
@@ -28,7 +28,6 @@ use std::alloc::Global;
 
 /// `to = malloc(..)`. Err is want of memory.
 fn allocated(alloc: Global, forest: &Sound, to: u32, shape: u32) -> Mem<Edited>
-    requires plain { Every HasNoBoxes forest.now.forest.autos }
     requires to { to < length forest.now.forest.vars }
     requires shape { shape < length forest.now.face.shapes.structs }
     ensures edited { IfOk result (IsMadeBy forest.now (New to shape)) }
@@ -40,7 +39,6 @@ fn allocated(alloc: Global, forest: &Sound, to: u32, shape: u32) -> Mem<Edited>
 
 /// `free(from)`. Err is want of memory.
 fn released(alloc: Global, forest: &Sound, from: u32) -> Mem<Edited>
-    requires plain { Every HasNoBoxes forest.now.forest.autos }
     requires explicit { IsExplicit forest.now.face.shapes.structs forest.now.forest (Free from) }
     ensures edited { IfOk result (IsMadeBy forest.now (Free from)) }
     ensures form { IfOk result (IfGoes (HasForm forest.now)) }
@@ -59,10 +57,10 @@ fn released(alloc: Global, forest: &Sound, from: u32) -> Mem<Edited>
 }
 
 /// What the edge makes of the forest, before the leak test: the fault that all members meet, the forest of what they
-/// become, or nothing. A forest that was canonical stays so where the edge is quiet. So far only for forests without
-/// box edges. Err is want of memory.
+/// become, or nothing. A forest that was canonical stays so where the edge is quiet. A box edge that leads back gives
+/// its end something, as each box of a table does. Err is want of memory.
 pub fn edited(alloc: Global, forest: &Sound, edge: &Edge) -> Mem<Edited>
-    requires plain { Every HasNoBoxes forest.now.forest.autos }
+    requires gives { Every (RulesGive forest.now.face.boxes) forest.now.forest.autos }
     requires fits { EdgeFits (length forest.now.forest.vars) (length forest.now.forest.data_vars)
         forest.now.face.shapes.structs
         edge.now }

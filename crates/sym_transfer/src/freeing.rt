@@ -18,13 +18,13 @@ use std::alloc::Global;
 /// The forest after `free(base)`, where `base` is at the root and each pointer field of the root's cell ends at one
 /// leaf: the root is gone, and what named it is Dangling. Err is want of memory.
 pub fn freed(alloc: Global, forest: &Sound, base: u32, root: u32) -> Mem<Sound>
-    requires plain { Every HasNoBoxes forest.now.forest.autos }
     requires at { target_at forest.now.forest base ≡ At root }
     requires explicit { IsExplicit forest.now.face.shapes.structs forest.now.forest (Free base) }
     ensures carries { IfOk result (λ made. (T : List BoxDef) → IsTableOf forest.now.face T → (x : ℕ)
         → Carries forest.now.face T forest.now.forest made.forest (Free base) x) }
     ensures face { IfOk result (λ made. made.face ≡ forest.now.face) }
-    ensures plain { IfOk result (λ made. Every HasNoBoxes made.forest.autos) }
+    ensures plain { Every HasNoBoxes forest.now.forest.autos
+        → IfOk result (λ made. Every HasNoBoxes made.forest.autos) }
     ensures vars { IfOk result (λ made. length made.forest.vars ≡ length forest.now.forest.vars) }
     ensures data_vars { IfOk result (λ made. made.forest.data_vars ≡ forest.now.forest.data_vars) }
 {

@@ -1,8 +1,6 @@
 // Edges that load a field.
 
 ghost use Rattle.std.specs.Prelude.{◌≡◌, List, ℕ, IfOk};
-ghost use Rattle.fore_base.specs.Lists.{Every};
-ghost use Rattle.fa_core.specs.Boxless.{HasNoBoxes};
 ghost use Rattle.fa_core.specs.Canonical.{IsCanonical};
 ghost use Rattle.fa_core.specs.declared.forest.Target.TheVariants.{At};
 ghost use Rattle.c_cfg.specs.declared.graph.Instr.TheVariants.{LoadPtr, LoadData};
@@ -21,7 +19,6 @@ use std::alloc::Global;
 
 /// `to = from->field`, for pointers. Err is want of memory.
 pub fn loaded_ptr(alloc: Global, forest: &Sound, to: u32, from: u32, field: u32) -> Mem<Edited>
-    requires plain { Every HasNoBoxes forest.now.forest.autos }
     requires explicit { IsExplicit forest.now.face.shapes.structs forest.now.forest (LoadPtr to from field) }
     ensures edited { IfOk result (IsMadeBy forest.now (LoadPtr to from field)) }
     ensures form { IfOk result (IfGoes (HasForm forest.now)) }
@@ -41,7 +38,6 @@ fn loaded_leaf(
     root: u32,
     field: u32,
 ) -> Mem<Edited>
-    requires plain { Every HasNoBoxes forest.now.forest.autos }
     requires explicit { IsExplicit forest.now.face.shapes.structs forest.now.forest (LoadPtr to from field) }
     requires at { target_at forest.now.forest from ≡ At root }
     ensures edited { IfOk result (IsMadeBy forest.now (LoadPtr to from field)) }
@@ -59,7 +55,6 @@ fn loaded_leaf(
 
 /// `to = from->field`, for data. Err is want of memory.
 pub fn loaded_datum(alloc: Global, forest: &Sound, to: u32, from: u32, field: u32) -> Mem<Edited>
-    requires plain { Every HasNoBoxes forest.now.forest.autos }
     requires tops { AreTopped forest.now.forest }
     ensures edited { IfOk result (IsMadeBy forest.now (LoadData to from field)) }
     ensures form { IfOk result (IfGoes (HasForm forest.now)) }
@@ -80,7 +75,6 @@ fn loaded_known(
     root: u32,
     field: u32,
 ) -> Mem<Edited>
-    requires plain { Every HasNoBoxes forest.now.forest.autos }
     requires top { HasTop forest.now.forest root }
     requires at { target_at forest.now.forest from ≡ At root }
     ensures edited { IfOk result (IsMadeBy forest.now (LoadData to from field)) }

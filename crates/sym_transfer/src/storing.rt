@@ -2,10 +2,10 @@
 
 ghost use Rattle.std.specs.Prelude.{◌≡◌, ◌≤◌, true, List, [], ℕ, length, IfOk};
 ghost use Rattle.fore_base.specs.Lists.{Every};
-ghost use Rattle.fa_core.specs.Boxless.{HasNoBoxes};
 ghost use Rattle.fa_core.specs.Canonical.{IsCanonical};
 ghost use Rattle.fa_core.specs.Filled.{DatumFits};
 ghost use Rattle.fa_edit.specs.Plain.{IsPlainAt};
+ghost use Rattle.fa_split.specs.Giving.{RulesGive};
 ghost use Rattle.c_cfg.specs.Ranges.{ConstFits};
 ghost use Rattle.c_cfg.specs.declared.graph.Instr.TheVariants.{StorePtr, StoreConst, StoreData};
 ghost use Rattle.sym_core.specs.Explicit.{IsExplicit};
@@ -27,7 +27,7 @@ use std::alloc::Global;
 /// The leaf in a pointer field of a root. Nothing goes on where the root has no such field, or the leaf may not stand
 /// there. Err is want of memory.
 fn stored_leaf(alloc: Global, forest: &Sound, root: u32, field: u32, leaf: Target) -> Mem<Edited>
-    requires plain { Every HasNoBoxes forest.now.forest.autos }
+    requires gives { Every (RulesGive forest.now.face.boxes) forest.now.forest.autos }
     requires at { IsPlainAt forest.now.face.shapes.structs forest.now.forest root field }
     ensures stored { IfOk result (IsLeafStored forest.now root field leaf) }
     ensures form { IfOk result (IfGoes (HasForm forest.now)) }
@@ -41,7 +41,6 @@ fn stored_leaf(alloc: Global, forest: &Sound, root: u32, field: u32, leaf: Targe
 
 /// The datum in a data field of a root. Nothing goes on where the root has no such field. Err is want of memory.
 fn stored_datum(alloc: Global, forest: &Sound, root: u32, field: u32, datum: Datum) -> Mem<Edited>
-    requires plain { Every HasNoBoxes forest.now.forest.autos }
     requires top { HasTop forest.now.forest root }
     requires fits { DatumFits datum }
     ensures stored { IfOk result (IsDatumStored forest.now root field datum) }
@@ -57,7 +56,7 @@ fn stored_datum(alloc: Global, forest: &Sound, root: u32, field: u32, datum: Dat
 
 /// `to->field = from`, for pointers. Err is want of memory.
 pub fn stored_ptr(alloc: Global, forest: &Sound, to: u32, field: u32, from: u32) -> Mem<Edited>
-    requires plain { Every HasNoBoxes forest.now.forest.autos }
+    requires gives { Every (RulesGive forest.now.face.boxes) forest.now.forest.autos }
     requires explicit { IsExplicit forest.now.face.shapes.structs forest.now.forest (StorePtr to field from) }
     ensures edited { IfOk result (IsMadeBy forest.now (StorePtr to field from)) }
     ensures form { IfOk result (IfGoes (HasForm forest.now)) }
@@ -75,7 +74,7 @@ pub fn stored_ptr(alloc: Global, forest: &Sound, to: u32, field: u32, from: u32)
 
 /// `to->field = value`. A number leaves a canonical forest canonical. Err is want of memory.
 pub fn stored_const(alloc: Global, forest: &Sound, to: u32, field: u32, value: Const) -> Mem<Edited>
-    requires plain { Every HasNoBoxes forest.now.forest.autos }
+    requires gives { Every (RulesGive forest.now.face.boxes) forest.now.forest.autos }
     requires explicit { IsExplicit forest.now.face.shapes.structs forest.now.forest (StoreConst to field value) }
     requires value { ConstFits (length forest.now.forest.vars) (length forest.now.forest.data_vars)
         forest.now.face.shapes.structs
@@ -102,7 +101,6 @@ pub fn stored_const(alloc: Global, forest: &Sound, to: u32, field: u32, value: C
 
 /// `to->field = from`, for data. Err is want of memory.
 pub fn stored_data(alloc: Global, forest: &Sound, to: u32, field: u32, from: u32) -> Mem<Edited>
-    requires plain { Every HasNoBoxes forest.now.forest.autos }
     requires tops { AreTopped forest.now.forest }
     ensures edited { IfOk result (IsMadeBy forest.now (StoreData to field from)) }
     ensures form { IfOk result (IfGoes (HasForm forest.now)) }

@@ -1,8 +1,6 @@
 // Edges that test, and those that end a run.
 
 ghost use Rattle.std.specs.Prelude.{◌≡◌, List, ℕ, IfOk};
-ghost use Rattle.fore_base.specs.Lists.{Every};
-ghost use Rattle.fa_core.specs.Boxless.{HasNoBoxes};
 ghost use Rattle.fa_core.specs.Canonical.{IsCanonical};
 ghost use Rattle.fa_core.specs.declared.boxes.BoxDef.{BoxDef};
 ghost use Rattle.fa_core.specs.declared.faces.Face.{Face as FaceOf};
@@ -43,7 +41,6 @@ pub fn tested_ptrs(
     right: PtrArg,
     equal: bool,
 ) -> Mem<Edited>
-    requires plain { Every HasNoBoxes forest.now.forest.autos }
     ensures edited { IfOk result (IsMadeBy forest.now (TestPtr left right equal)) }
     ensures form { IfOk result (IfGoes (HasForm forest.now)) }
     ensures quiet { IsCanonical forest.now.face forest.now.forest → IfOk result GoesCanonical }
@@ -62,7 +59,6 @@ pub fn tested_data(
     right: DataArg,
     equal: bool,
 ) -> Mem<Edited>
-    requires plain { Every HasNoBoxes forest.now.forest.autos }
     ensures edited { IfOk result (IsMadeBy forest.now (TestData left right equal)) }
     ensures form { IfOk result (IfGoes (HasForm forest.now)) }
     ensures quiet { IsCanonical forest.now.face forest.now.forest → IfOk result GoesCanonical }

@@ -1,11 +1,9 @@
 // Edges that change variables alone.
 
 ghost use Rattle.std.specs.Prelude.{◌≡◌, ◌<◌, ◌≤◌, List, [], length, slice_set, IfOk, ℕ};
-ghost use Rattle.fore_base.specs.Lists.{Every};
 ghost use Rattle.fore_base.specs.Stores.{set_each};
 ghost use Rattle.fore_base.specs.declared.store.Datum.TheVariants.{Undefined};
 ghost use Rattle.fa_core.specs.Boxes.{IsTableOf};
-ghost use Rattle.fa_core.specs.Boxless.{HasNoBoxes};
 ghost use Rattle.fa_core.specs.Canonical.{IsCanonical};
 ghost use Rattle.fa_core.specs.Filled.{DatumFits, IsRoot};
 ghost use Rattle.fa_core.specs.declared.boxes.BoxDef.{BoxDef};
@@ -30,7 +28,6 @@ use std::alloc::Global;
 
 /// The forest with another target in a pointer variable. Err is want of memory.
 pub fn with_target(alloc: Global, forest: &Sound, to: u32, target: Target) -> Mem<Sound>
-    requires plain { Every HasNoBoxes forest.now.forest.autos }
     requires root { IsRoot (length forest.now.forest.autos) target }
     ensures value { IfOk result (λ made. made.forest
         ≡ with_vars forest.now.forest (slice_set forest.now.forest.vars to target) forest.now.forest.data_vars) }
@@ -46,7 +43,6 @@ pub fn with_target(alloc: Global, forest: &Sound, to: u32, target: Target) -> Me
 
 /// The forest with another datum in a data variable. Err is want of memory.
 pub fn with_known(alloc: Global, forest: &Sound, to: u32, datum: Datum) -> Mem<Sound>
-    requires plain { Every HasNoBoxes forest.now.forest.autos }
     requires fits { DatumFits datum }
     ensures value { IfOk result (λ made. made.forest
         ≡ with_vars forest.now.forest forest.now.forest.vars (slice_set forest.now.forest.data_vars to datum)) }
@@ -64,7 +60,6 @@ pub fn with_known(alloc: Global, forest: &Sound, to: u32, datum: Datum) -> Mem<S
 
 /// `to = from`, for pointers. Err is want of memory.
 pub fn copied_ptr(alloc: Global, forest: &Sound, to: u32, from: PtrArg) -> Mem<Edited>
-    requires plain { Every HasNoBoxes forest.now.forest.autos }
     ensures edited { IfOk result (IsMadeBy forest.now (CopyPtr to from)) }
     ensures form { IfOk result (IfGoes (HasForm forest.now)) }
 {
@@ -76,7 +71,6 @@ pub fn copied_ptr(alloc: Global, forest: &Sound, to: u32, from: PtrArg) -> Mem<E
 
 /// `to = from`, for data. Err is want of memory.
 pub fn copied_datum(alloc: Global, forest: &Sound, to: u32, from: DataArg) -> Mem<Edited>
-    requires plain { Every HasNoBoxes forest.now.forest.autos }
     requires from { DataArgFits 0 (length forest.now.forest.data_vars) [] from }
     ensures edited { IfOk result (IsMadeBy forest.now (CopyData to from)) }
     ensures form { IfOk result (IfGoes (HasForm forest.now)) }
@@ -102,7 +96,6 @@ fn choice_of(choice: Option<u8>) -> u8
 
 /// The choice, which is assigned to a data variable, if there is one. Err is want of memory.
 pub fn chosen(alloc: Global, forest: &Sound, to: Option<u32>, choice: Option<u8>) -> Mem<Edited>
-    requires plain { Every HasNoBoxes forest.now.forest.autos }
     requires choice { ChoiceFits choice }
     ensures edited { IfOk result (λ made. (T : List BoxDef) → IsTableOf forest.now.face T
         → Becomes forest.now.face T forest.now.forest (Choose to) (choice_of choice) made) }
@@ -135,7 +128,6 @@ fn set_these<T: Copy>(list: List<T>, places: &[u32], item: T) -> List<T>
 
 /// Variables that die. Err is want of memory.
 pub fn killed(alloc: Global, forest: &Sound, ptrs: &[u32], datums: &[u32]) -> Mem<Edited>
-    requires plain { Every HasNoBoxes forest.now.forest.autos }
     ensures edited { IfOk result (IsMadeBy forest.now (Kill ptrs.now datums.now)) }
     ensures form { IfOk result (IfGoes (HasForm forest.now)) }
     ensures quiet { ptrs.now ≡ [] → IsCanonical forest.now.face forest.now.forest → IfOk result GoesCanonical }
@@ -146,7 +138,6 @@ pub fn killed(alloc: Global, forest: &Sound, ptrs: &[u32], datums: &[u32]) -> Me
 
 /// The forest in which these variables are dead. Err is want of memory.
 fn without_these(alloc: Global, forest: &Sound, ptrs: &[u32], datums: &[u32]) -> Mem<Sound>
-    requires plain { Every HasNoBoxes forest.now.forest.autos }
     ensures value { IfOk result (λ made. made.forest
         ≡ with_vars forest.now.forest (set_each forest.now.forest.vars ptrs.now Uninit)
         (set_each forest.now.forest.data_vars datums.now Undefined)) }

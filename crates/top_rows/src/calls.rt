@@ -10,6 +10,9 @@ use par_kit::gate::NoGate;
 use std::alloc::Global;
 use std::thread::Threads;
 
+/// How many bytes a sink takes: more than the longest report of a row.
+const ROOM: usize = 1048576;
+
 /// How the shelf and the sinks behave.
 #[derive(Clone, Copy)]
 pub struct Ends {
@@ -98,7 +101,7 @@ fn plain<'a>(word: &'a str) -> &'a str {
 
 /// A sink of which this put fails.
 fn sink(alloc: Global, most: usize, fails: u64) -> Mem<MemSink> {
-    let mut sink = MemSink::new(alloc, 512, most.max(1))?;
+    let mut sink = MemSink::new(alloc, ROOM, most.max(1))?;
     sink.fail(fails)?;
     Ok(sink)
 }

@@ -7,10 +7,15 @@
 // - `boxes READ WORDS | FILE | BOXES`: over the files x.c and x.box, where this read fails.
 // - `changing WORDS | FIRST | LATER`: over files that all have the first bytes at the first read, and then the others.
 // - `failing MOST READ OUT NOTES WORDS | FILE`: where a put takes at most MOST bytes, and these reads and puts fail.
+// - `prefixes STATUSES FIRST LAST WORDS | FILE | BOXES`: over each beginning of the last file, of FIRST to LAST bytes.
+// - `replaced STATUSES WORDS | FILE | BOXES`: over the last file with each byte in turn replaced by each of five strange
+//   ones.
+// - `puts MOST WORDS | FILE`: where a put takes at most MOST bytes, and each put in turn fails.
 // - `report NUMBER LINE STEP | NAME`: the report on a fault of this number.
 
 use crate::calls::{Ends, STEADY, call, call_over, shown, shown_until};
 use crate::shelves::ChangingShelf;
+use crate::tables::{Varied, prefixes, puts, replaced};
 use crate::texts::main_of;
 use anyhow::{Context, Result, bail};
 use fore_base::fault::Fault;
@@ -43,6 +48,8 @@ impl Answers for Kinds {
             "boxes" => with_boxes(rt, alloc, words, &file, others),
             "changing" => changing(rt, alloc, words, file, others),
             "failing" => failing(rt, alloc, words, &file),
+            "prefixes" | "replaced" => tables(rt, alloc, kind, words, &file, others),
+            "puts" => each_put(rt, alloc, words, &file),
             "report" => report(alloc, words),
             _ => bail!("no such kind"),
         }
@@ -133,6 +140,60 @@ fn failing<R: Threads + Sync>(
     };
     let told = call(rt, alloc, words, file.as_slice(), None, ends)?;
     shown(alloc, &told)
+}
+
+/// The kinds of many calls over one file that is changed.
+fn tables<'a, R: Threads + Sync>(
+    rt: &R,
+    alloc: Global,
+    kind: &str,
+    words: &'a [&'a str],
+    file: &'a Text,
+    others: &[&str],
+) -> Result<String> {
+    let (statuses, words) = words.split_first().context("no statuses")?;
+    let boxes = match others.first() {
+        None => None,
+        Some(text) => Some(read_text(alloc, text)?),
+    };
+    let boxes = match &boxes {
+        None => None,
+        Some(text) => Some(text.as_slice()),
+    };
+    let file = file.as_slice();
+    let varied = Varied {
+        statuses,
+        words,
+        file,
+        boxes,
+    };
+    match kind {
+        "prefixes" => each_prefix(rt, alloc, &varied),
+        _ => replaced(rt, alloc, &varied),
+    }
+}
+
+fn each_prefix<R: Threads + Sync>(rt: &R, alloc: Global, varied: &Varied<'_>) -> Result<String> {
+    let (first, words) = varied.words.split_first().context("no first number")?;
+    let (last, words) = words.split_first().context("no last number")?;
+    let varied = Varied { words, ..*varied };
+    prefixes(
+        rt,
+        alloc,
+        &varied,
+        first.parse::<usize>()?,
+        last.parse::<usize>()?,
+    )
+}
+
+fn each_put<R: Threads + Sync>(
+    rt: &R,
+    alloc: Global,
+    words: &[&str],
+    file: &Text,
+) -> Result<String> {
+    let (most, words) = words.split_first().context("no number of bytes")?;
+    puts(rt, alloc, words, file.as_slice(), most.parse::<usize>()?)
 }
 
 fn report(alloc: Global, words: &[&str]) -> Result<String> {

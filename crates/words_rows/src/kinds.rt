@@ -4,6 +4,7 @@
 // - `usage | LINES`: the usage text.
 
 use anyhow::{Context, Result, bail};
+use c_types::mode::MallocMode;
 use fore_base::memory::Mem;
 use fore_words::{Asked, FilePath, Kind, Settings, WordsFault, read_words, usage_text};
 use row_kit::Answers;
@@ -69,10 +70,12 @@ fn shown(alloc: Global, asked: &Asked<'_>) -> Result<String> {
             path,
             choices,
             steps,
+            malloc,
         } => Ok(format!(in alloc;
-            "run {:?} choices {:?} steps {steps}",
+            "run {:?} choices {:?} steps {steps}{}",
             path.as_str(),
-            choices.as_slice()
+            choices.as_slice(),
+            shown_mode(*malloc)
         )?),
         Asked::Gen { kind, phases } => { Ok(format!(in alloc; "gen {} {phases}", name_of(*kind))?) }
     }
@@ -88,17 +91,27 @@ fn verify_shown(
         height,
         budget,
         jobs,
+        malloc,
     } = settings;
+    let mode = shown_mode(malloc);
     match boxes {
         Some(boxes) => {
             let boxes = boxes.as_str();
             Ok(format!(in alloc;
-                "verify {path:?} boxes {boxes:?} height {height} budget {budget} jobs {jobs}"
+                "verify {path:?} boxes {boxes:?} height {height} budget {budget} jobs {jobs}{mode}"
             )?)
         }
-        None => {
-            Ok(format!(in alloc; "verify {path:?} height {height} budget {budget} jobs {jobs}")?)
-        }
+        None => Ok(format!(in alloc;
+            "verify {path:?} height {height} budget {budget} jobs {jobs}{mode}"
+        )?),
+    }
+}
+
+/// What is shown of a `malloc` that may fail.
+fn shown_mode(mode: MallocMode) -> &'static str {
+    match mode {
+        MallocMode::Always => "",
+        MallocMode::MayFail => " malloc may fail",
     }
 }
 

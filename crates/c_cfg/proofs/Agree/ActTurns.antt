@@ -7,20 +7,21 @@ use Rattle.fore_base.specs.declared.shape.Shape.{Shape}
 use Rattle.fore_base.specs.declared.store.Store.{Store}
 use Rattle.fore_base.specs.Stores.{onward, kill}
 use Rattle.fore_base.specs.Heap.{leaks}
-use Rattle.c_types.specs.declared.mode.MallocMode.TheVariants.{Always}
+use Rattle.c_types.specs.declared.mode.MallocMode.{MallocMode}
 use Rattle.c_types.specs.declared.program.DataPath.{DataPath}
 use Rattle.c_types.specs.declared.program.Act.{Act}
 use Rattle.c_types.specs.declared.program.Act.TheVariants.{SetPtr, SetData, Free, Error, Halt, Return, Break, Continue}
 use Rattle.c_types.specs.Program.{Program, is_typed}
 use Rattle.c_types.specs.Control.{Items, after_again, from_again, closed_ptrs, closed_datums}
 use Rattle.c_types.specs.Steps.{Turn, Goes, Stops, Faults, read_data, look_at, assign, assign_data, free_path, all_dead}
-use Rattle.c_types.specs.Steps.{settle, settled, finished, act_turn}
+use Rattle.c_types.specs.Steps.{settle, settled, finished, data_rhs_takes, act_turn}
 use Rattle.c_types.specs.Fits.{ActFits}
 use Rattle.c_types.proofs.Fitting.{Sound}
-use Rattle.c_cfg.specs.declared.graph.Instr.TheVariants.{Kill}
+use Rattle.c_cfg.specs.declared.graph.Instr.TheVariants.{Kill, Stop}
 use Rattle.c_cfg.specs.Edges.{Pass, Passed, Faulted, Halted, onto}
-use Rattle.c_cfg.specs.Links.{Link, One, act_row}
+use Rattle.c_cfg.specs.Links.{Link, One, links_in, data_row, free_row, return_row, act_row}
 use Rattle.c_cfg.specs.Lowering.{followed_by}
+use Rattle.c_cfg.proofs.PlainLinks.{PlainAs, stays, set_data_plain, freed_plain, returned_plain}
 use Rattle.c_cfg.proofs.Agree.Temporaries.{ext0, kill_ext0}
 use Rattle.c_cfg.proofs.Agree.TempLeaks.{leaks_ext0}
 use Rattle.c_cfg.proofs.Agree.Passing.{links_pass, settled_pass, done_pass, one_link}
@@ -84,20 +85,36 @@ module _ (p : Program) (typed : is_typed p ≡ true) (choice : ℕ) (s : Store) 
       one_link p.shapes.structs choice (Kill ps ds) (ext0 s) (kill ps ds s) (ap (λ g. Passed g) (kill_ext0 ps ds s))
       ∙ settle_pass stop (kill ps ds s) is
 
-  pub act_passes : (a : Act) (is : Items) → ActFits p a
-      → pass (act_row (length p.vars) (length p.data_vars) a is) (ext0 s)
-      ≡ turn_pass (stop_of a s) (act_turn p.shapes.structs Always a is s choice)
-  act_passes (SetPtr to from) is fits = set_ptr_passes p choice s sound whole typed to from fits
-      ∙ done_turn Halted (assign p.shapes.structs Always s to from choice) is
-  act_passes (SetData to from) is fits = set_data_passes p choice s sound whole to from fits
-      ∙ done_turn Halted (assign_data s to from choice) is
-  act_passes (Free q) is fits = free_passes p choice s sound whole q fits ∙ done_turn Halted (free_path s q) is
-  act_passes Error is fits = refl
-  act_passes Halt is fits = refl
-  act_passes (Return operand) is fits = return_passes p choice s sound whole operand fits
-      ∙ return_turn s (look_at s operand) (look_same s operand)
-  act_passes Break is fits = kill_passes (closed_ptrs is) (closed_datums is) Halted (after_again is)
-  act_passes Continue is fits = kill_passes (closed_ptrs is) (closed_datums is) Halted (from_again is)
+  module _ (mode : MallocMode) where
+    -- links that stay
+    plainly : (takes : Bool) (ls : List Link) → PlainAs takes ls → pass (links_in mode ls) (ext0 s) ≡ pass ls (ext0 s)
+    plainly takes ls h = ap (λ ms. pass ms (ext0 s)) (stays mode takes ls h)
+
+    pub act_passes : (a : Act) (is : Items) → ActFits p a
+        → pass (links_in mode (act_row (length p.vars) (length p.data_vars) a is)) (ext0 s)
+        ≡ turn_pass (stop_of a s) (act_turn p.shapes.structs mode a is s choice)
+    act_passes (SetPtr to from) is fits = set_ptr_passes p typed choice s sound whole mode to from fits
+        ∙ done_turn Halted (assign p.shapes.structs mode s to from choice) is
+    act_passes (SetData to from) is fits =
+        plainly (data_rhs_takes from) (data_row (length p.vars) (length p.data_vars) to from)
+        (set_data_plain (length p.vars) (length p.data_vars) to from)
+        ∙ set_data_passes p choice s sound whole to from fits
+        ∙ done_turn Halted (assign_data s to from choice) is
+    act_passes (Free q) is fits =
+        plainly false (free_row (length p.vars) (length p.data_vars) q)
+        (freed_plain (length p.vars) (length p.data_vars) q)
+        ∙ free_passes p choice s sound whole q fits ∙ done_turn Halted (free_path s q) is
+    act_passes Error is fits = plainly false (One (Stop true) ∷ []) (refl, tt)
+    act_passes Halt is fits = plainly false (One (Stop false) ∷ []) (refl, tt)
+    act_passes (Return operand) is fits =
+        plainly false (return_row (length p.vars) (length p.data_vars) operand)
+        (returned_plain (length p.vars) (length p.data_vars) operand)
+        ∙ return_passes p choice s sound whole operand fits
+        ∙ return_turn s (look_at s operand) (look_same s operand)
+    act_passes Break is fits = plainly false (One (Kill (closed_ptrs is) (closed_datums is)) ∷ []) (refl, tt)
+        ∙ kill_passes (closed_ptrs is) (closed_datums is) Halted (after_again is)
+    act_passes Continue is fits = plainly false (One (Kill (closed_ptrs is) (closed_datums is)) ∷ []) (refl, tt)
+        ∙ kill_passes (closed_ptrs is) (closed_datums is) Halted (from_again is)
 
 -- where a turn goes on, it goes on with these items, and with a store that does not leak
 abbrev pub GoesTo : Items → Turn → Type 0
@@ -124,13 +141,13 @@ finished_to (Ok t) is = here (leaks (all_dead t)) refl
     here true leak = rw leak tt
     here false fine = rw fine tt
 
-pub act_to : (shapes : List Shape) (a : Act) (is : Items) (s : Store) (x : ℕ)
-    → GoesTo (followed_by a is) (act_turn shapes Always a is s x)
-act_to shapes (SetPtr to from) is s x = settled_to (assign shapes Always s to from x) is
-act_to shapes (SetData to from) is s x = settled_to (assign_data s to from x) is
-act_to shapes (Free p) is s x = settled_to (free_path s p) is
-act_to shapes Error is s x = tt
-act_to shapes Halt is s x = tt
-act_to shapes (Return operand) is s x = finished_to (look_at s operand) _
-act_to shapes Break is s x = settle_to (kill (closed_ptrs is) (closed_datums is) s) (after_again is)
-act_to shapes Continue is s x = settle_to (kill (closed_ptrs is) (closed_datums is) s) (from_again is)
+pub act_to : (shapes : List Shape) (mode : MallocMode) (a : Act) (is : Items) (s : Store) (x : ℕ)
+    → GoesTo (followed_by a is) (act_turn shapes mode a is s x)
+act_to shapes mode (SetPtr to from) is s x = settled_to (assign shapes mode s to from x) is
+act_to shapes mode (SetData to from) is s x = settled_to (assign_data s to from x) is
+act_to shapes mode (Free p) is s x = settled_to (free_path s p) is
+act_to shapes mode Error is s x = tt
+act_to shapes mode Halt is s x = tt
+act_to shapes mode (Return operand) is s x = finished_to (look_at s operand) _
+act_to shapes mode Break is s x = settle_to (kill (closed_ptrs is) (closed_datums is) s) (after_again is)
+act_to shapes mode Continue is s x = settle_to (kill (closed_ptrs is) (closed_datums is) s) (from_again is)

@@ -9,7 +9,7 @@ use Rattle.fore_base.specs.declared.store.Datum.TheVariants.{Undefined}
 use Rattle.fore_base.specs.declared.store.Store.{Store}
 use Rattle.fore_base.specs.Lists.{Every}
 use Rattle.fore_base.specs.Heap.{leaks}
-use Rattle.c_types.specs.declared.mode.MallocMode.TheVariants.{Always}
+use Rattle.c_types.specs.declared.mode.MallocMode.{MallocMode}
 use Rattle.c_types.specs.declared.outcome.Outcome.{Outcome}
 use Rattle.c_types.specs.declared.outcome.Outcome.TheVariants.{Ended, Fault, Starved, BadChoice, StillRunning}
 use Rattle.c_types.specs.Program.{Program, is_typed}
@@ -126,20 +126,20 @@ from_graph (Starved step) r t f s h v = sym f ∙ stays_stepless r t h v
 from_graph (BadChoice index) r t f s h v = sym f ∙ stays_stepless r t h v
 from_graph StillRunning r t f s h v = absurd (subst IsOver s v)
 
-module _ (p : Program) (typed : is_typed p ≡ true) (g : ControlGraph) (low : LowerOf p g) where
+module _ (p : Program) (typed : is_typed p ≡ true) (mode : MallocMode) (g : ControlGraph) (low : LowerOf p mode g) where
   abbrev pub first : Store
   first = empty_store (length p.vars) (length p.data_vars)
 
   abbrev sizes : Items → ℕ
   sizes c = size (length p.vars) (length p.data_vars) c
 
-  pub rowed : Bounded (IsRow (length p.vars) (length p.data_vars) g.edges low.line low.at low.mids) (Ranged p) sizes
-      (places low.items Done)
+  pub rowed : Bounded (IsRow (length p.vars) (length p.data_vars) g.edges mode low.line low.at low.mids) (Ranged p)
+      sizes (places low.items Done)
   rowed = bounded _ (Ranged p) sizes (places low.items Done) low.rows
       (places_ranged p low.items Done
       (unmarked p low.line low.items (subst (Ranged p) (sym low.is_program) (start_ranged p typed))) tt)
 
-  pub ready : Ready p typed g.edges low.line low.at low.mids rowed.most low.exit low.items first
+  pub ready : Ready p typed mode g.edges low.line low.at low.mids rowed.most low.exit low.items first
   ready = record {
     places = each _ low.items Done rowed.each_most;
     fits = items_marked low.line p low.items (subst (ItemsFit p) (sym low.is_program) (start_fits p typed));
@@ -158,11 +158,11 @@ module _ (p : Program) (typed : is_typed p ≡ true) (g : ControlGraph) (low : L
       ∙ ap (λ ds. made (replicate g.ptrs Uninit) ds)
       (two_more (length p.data_vars) Undefined ∙ ap (λ k. replicate k Undefined) (sym low.datums))
 
-  source_is : (cs : List ℕ) (n : ℕ) → go p.shapes.structs Always low.line at_end n 0 low.items first cs 0
-      ≡ run p Always cs n
+  source_is : (cs : List ℕ) (n : ℕ) → go p.shapes.structs mode low.line at_end n 0 low.items first cs 0
+      ≡ run p mode cs n
   unfolding run
-  source_is cs n = sym (go_same low.line p.shapes.structs n 0 low.items first cs 0)
-      ∙ ap (λ c. go p.shapes.structs Always own_line at_end n 0 c first cs 0) low.is_program
+  source_is cs n = sym (go_same low.line p.shapes.structs mode n 0 low.items first cs 0)
+      ∙ ap (λ c. go p.shapes.structs mode own_line at_end n 0 c first cs 0) low.is_program
 
   target_is : (cs : List ℕ) (m : ℕ)
       → ggo p.shapes.structs g.edges (at_location g.edges) m 0 (low.at (opened low.items)) (ext0 first) cs 0
@@ -174,29 +174,29 @@ module _ (p : Program) (typed : is_typed p ≡ true) (g : ControlGraph) (low : L
       ∙ ap (λ shapes. ggo shapes g.edges (at_location g.edges) m 0 0 (empty_store g.ptrs g.datums) cs 0)
       (sym (ap (λ z. z.structs) low.shapes))
 
-  forth : (cs : List ℕ) (n m : ℕ) → fuel rowed.most n ≤ m → Follows (run p Always cs n) (grun g cs m)
+  forth : (cs : List ℕ) (n m : ℕ) → fuel rowed.most n ≤ m → Follows (run p mode cs n) (grun g cs m)
   forth cs n m h =
       subst (λ o. Follows o (grun g cs m)) (source_is cs n)
-      (subst (λ r. Follows (go p.shapes.structs Always low.line at_end n 0 low.items first cs 0) r) (target_is cs m)
-      (over p typed g.edges low.line low.at low.mids rowed.most low.exit n m h low.items first ready 0 0 cs 0))
+      (subst (λ r. Follows (go p.shapes.structs mode low.line at_end n 0 low.items first cs 0) r) (target_is cs m)
+      (over p typed mode g.edges low.line low.at low.mids rowed.most low.exit n m h low.items first ready 0 0 cs 0))
 
-  going : (cs : List ℕ) (n : ℕ) → Still (run p Always cs n) (grun g cs n)
+  going : (cs : List ℕ) (n : ℕ) → Still (run p mode cs n) (grun g cs n)
   going cs n =
       subst (λ o. Still o (grun g cs n)) (source_is cs n)
-      (subst (λ r. Still (go p.shapes.structs Always low.line at_end n 0 low.items first cs 0) r) (target_is cs n)
-      (goes_on p typed g.edges low.line low.at low.mids rowed.most low.exit n low.items first ready 0 0 cs 0))
+      (subst (λ r. Still (go p.shapes.structs mode low.line at_end n 0 low.items first cs 0) r) (target_is cs n)
+      (goes_on p typed mode g.edges low.line low.at low.mids rowed.most low.exit n low.items first ready 0 0 cs 0))
 
   stays : (cs : List ℕ) (n m : ℕ) → n ≤ m → Stays (grun g cs n) (grun g cs m)
   unfolding grun
   stays cs n m h = longer g.shapes.structs g.edges n m h 0 0 (empty_store g.ptrs g.datums) cs 0
 
-  back : (cs : List ℕ) (m : ℕ) → IsOver (grun g cs m) → stepless (run p Always cs m) ≡ stepless (grun g cs m)
+  back : (cs : List ℕ) (m : ℕ) → IsOver (grun g cs m) → stepless (run p mode cs m) ≡ stepless (grun g cs m)
   back cs m v =
-      from_graph (run p Always cs m) (grun g cs m) (grun g cs (fuel rowed.most m))
+      from_graph (run p mode cs m) (grun g cs m) (grun g cs (fuel rowed.most m))
       (forth cs m (fuel rowed.most m) (omega arith)) (going cs m)
       (stays cs m (fuel rowed.most m) (fuel_least rowed.most m rowed.positive)) v
 
-  pub agree : Agrees p g
+  pub agree : Agrees p mode g
   agree = record {
     faults = λ cs kind line. record {
       there =

@@ -7,6 +7,7 @@ use Rattle.std.specs.List.{sum_by}
 use Rattle.std.proofs.lemmas.List.Sorted.{sum_by-IsPermutation}
 use Rattle.std.proofs.lemmas.List.Sums.{sum_by-cons, sum_by-append}
 use Rattle.fore_base.specs.Lists.{IsIn}
+use Rattle.c_types.specs.declared.mode.MallocMode.{MallocMode}
 use Rattle.c_types.specs.Program.{Program, is_typed}
 use Rattle.c_types.specs.Control.{Items, Done}
 use Rattle.c_types.specs.Steps.{below}
@@ -150,7 +151,7 @@ module _ (at : Items → ℕ) (mids : Items → List ℕ) where
   both_count c d (e ∷ es) (inr (inr h)) (inr j) i =
       omega (arith, often_numbers (at c) e es, both_count c d es (inr h) j i)
 
-module _ (p : Program) (typed : is_typed p ≡ true) (g : ControlGraph) (low : LowerOf p g) where
+module _ (p : Program) (typed : is_typed p ≡ true) (mode : MallocMode) (g : ControlGraph) (low : LowerOf p mode g) where
   in_no_middle : (c d : Items) → IsIn c (Done ∷ places low.items Done) → IsIn d (places low.items Done)
       → IsIn (low.at c) (low.mids d) → ⊥
   in_no_middle c d h j i =
@@ -162,10 +163,10 @@ module _ (p : Program) (typed : is_typed p ≡ true) (g : ControlGraph) (low : L
         below_once (low.at c) g.locations,
       ))
 
-  pub unset_between_steps : UnsetBetweenSteps p g low
-  unset_between_steps c h s visits = by (middle_or_unset p typed g low (low.at c) s visits)
+  pub unset_between_steps : UnsetBetweenSteps p mode g low
+  unset_between_steps c h s visits = by (middle_or_unset p typed mode g low (low.at c) s visits)
     where
-      by : Middle p typed g low (low.at c) ⊎ TemporariesUnset (length p.vars) (length p.data_vars) s
+      by : Middle p typed mode g low (low.at c) ⊎ TemporariesUnset (length p.vars) (length p.data_vars) s
           → TemporariesUnset (length p.vars) (length p.data_vars) s
       by (inl mid) = absurd (in_no_middle c mid.items h mid.is_there mid.is_mid)
       by (inr unset) = unset

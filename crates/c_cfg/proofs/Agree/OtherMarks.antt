@@ -6,7 +6,7 @@ use Rattle.fore_base.specs.declared.shape.Shape.{Shape}
 use Rattle.fore_base.specs.declared.store.Store.{Store}
 use Rattle.fore_base.specs.Stores.{kill}
 use Rattle.fore_base.specs.Heap.{leaks}
-use Rattle.c_types.specs.declared.mode.MallocMode.TheVariants.{Always}
+use Rattle.c_types.specs.declared.mode.MallocMode.{MallocMode}
 use Rattle.c_types.specs.declared.outcome.Outcome.{Outcome}
 use Rattle.c_types.specs.declared.program.Act.{Act}
 use Rattle.c_types.specs.declared.program.Act.TheVariants.{SetPtr, SetData, Free, Error, Halt, Return, Break, Continue}
@@ -154,16 +154,16 @@ module _ (f : ℕ → ℕ) where
     test_same (Ok true) x y is s = settle_same s (x then is) (remark f x then remark f is) (sym (remark_then x is))
     test_same (Ok false) x y is s = settle_same s (y then is) (remark f y then remark f is) (sym (remark_then y is))
 
-    act_same : (shapes : List Shape) (a : Act) (is : Items) (s : Store) (x : ℕ)
-        → after_turn (act_turn shapes Always a (remark f is) s x) line step next
-        ≡ after_turn (act_turn shapes Always a is s x) line step other
-    act_same shapes (SetPtr to from) is s x = settled_same (assign shapes Always s to from x) is
-    act_same shapes (SetData to from) is s x = settled_same (assign_data s to from x) is
-    act_same shapes (Free p) is s x = settled_same (free_path s p) is
-    act_same shapes Error is s x = refl
-    act_same shapes Halt is s x = refl
-    act_same shapes (Return operand) is s x = finished_same (look_at s operand)
-    act_same shapes Break is s x =
+    act_same : (shapes : List Shape) (mode : MallocMode) (a : Act) (is : Items) (s : Store) (x : ℕ)
+        → after_turn (act_turn shapes mode a (remark f is) s x) line step next
+        ≡ after_turn (act_turn shapes mode a is s x) line step other
+    act_same shapes mode (SetPtr to from) is s x = settled_same (assign shapes mode s to from x) is
+    act_same shapes mode (SetData to from) is s x = settled_same (assign_data s to from x) is
+    act_same shapes mode (Free p) is s x = settled_same (free_path s p) is
+    act_same shapes mode Error is s x = refl
+    act_same shapes mode Halt is s x = refl
+    act_same shapes mode (Return operand) is s x = finished_same (look_at s operand)
+    act_same shapes mode Break is s x =
         ap
         (λ ps. after_turn (settle (kill ps (closed_datums (remark f is)) s) (after_again (remark f is))) line step
         next) (remark_ptrs is)
@@ -171,7 +171,7 @@ module _ (f : ℕ → ℕ) where
         (remark_datums is)
         ∙ settle_same (kill (closed_ptrs is) (closed_datums is) s) (after_again is) (after_again (remark f is))
         (remark_after is)
-    act_same shapes Continue is s x =
+    act_same shapes mode Continue is s x =
         ap
         (λ ps. after_turn (settle (kill ps (closed_datums (remark f is)) s) (from_again (remark f is))) line step
         next) (remark_ptrs is)
@@ -180,17 +180,17 @@ module _ (f : ℕ → ℕ) where
         ∙ settle_same (kill (closed_ptrs is) (closed_datums is) s) (from_again is) (from_again (remark f is))
         (remark_from is)
 
-  module _ (shapes : List Shape) where
+  module _ (shapes : List Shape) (mode : MallocMode) where
     advance_same : (next other : ℕ → Items → Store → List ℕ → ℕ → Outcome)
         → ((st : ℕ) (js : Items) (t : Store) (ds : List ℕ) (v : ℕ) → next st (remark f js) t ds v ≡ other st js t ds v)
         → (o : Items) (st : ℕ) (s : Store) (cs : List ℕ) (u : ℕ)
-        → advance shapes Always own_line at_end (remark f o) next st s cs u
-        ≡ advance shapes Always f at_end o other st s cs u
+        → advance shapes mode own_line at_end (remark f o) next st s cs u
+        ≡ advance shapes mode f at_end o other st s cs u
     advance_same next other same Done st s cs u = refl
     advance_same next other same (Do a m is) st s cs u =
-        supply_same (act_takes Always a) cs (st + 1) u _ _
+        supply_same (act_takes mode a) cs (st + 1) u _ _
         (λ x ds v. act_same (f m) (st + 1) (λ js t. next (st + 1) js t ds v) (λ js t. other (st + 1) js t ds v)
-        (λ js t. same (st + 1) js t ds v) shapes a is s x)
+        (λ js t. same (st + 1) js t ds v) shapes mode a is s x)
     advance_same next other same (Close ps ds m is) st s cs u =
         settle_same (f m) (st + 1) (λ js t. next (st + 1) js t cs u) (λ js t. other (st + 1) js t cs u)
         (λ js t. same (st + 1) js t cs u) (kill ps ds s) is (remark f is) refl
@@ -217,14 +217,14 @@ module _ (f : ℕ → ℕ) where
     end_same (DoAgain c b is) st = refl
 
     pub go_same : (n st : ℕ) (c : Items) (s : Store) (cs : List ℕ) (u : ℕ)
-        → go shapes Always own_line at_end n st (remark f c) s cs u ≡ go shapes Always f at_end n st c s cs u
+        → go shapes mode own_line at_end n st (remark f c) s cs u ≡ go shapes mode f at_end n st c s cs u
     go_same zero st c s cs u = ap (λ o. at_end o st) (sym (remark_open c Done Done)) ∙ end_same (opened c) st
     go_same (suc n) st c s cs u =
-        ap (λ o. advance shapes Always own_line at_end o
-        (λ st js t ds v. go shapes Always own_line at_end n st js t ds v) st s cs u)
+        ap (λ o. advance shapes mode own_line at_end o
+        (λ st js t ds v. go shapes mode own_line at_end n st js t ds v) st s cs u)
         (sym (remark_open c Done Done))
-        ∙ advance_same (λ st js t ds v. go shapes Always own_line at_end n st js t ds v)
-        (λ st js t ds v. go shapes Always f at_end n st js t ds v) (λ st js t ds v. go_same n st js t ds v)
+        ∙ advance_same (λ st js t ds v. go shapes mode own_line at_end n st js t ds v)
+        (λ st js t ds v. go shapes mode f at_end n st js t ds v) (λ st js t ds v. go_same n st js t ds v)
         (opened c) st s
         cs u
 

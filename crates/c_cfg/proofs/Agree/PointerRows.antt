@@ -1,5 +1,6 @@
 -- The edges of assignments to pointers, and of `free`, do what the step does.
-use Rattle.std.proofs.Common.{◌≡◌, ◌<◌, ◌+◌, ℕ, true, false, if◌then◌else◌, Option, Some, None, is_some, true≢false, Ok}
+use Rattle.std.proofs.Common.{◌≡◌, ◌<◌, ◌+◌, ℕ, zero, suc, true, false, if◌then◌else◌, Option, Some, None}
+use Rattle.std.proofs.Common.{is_some, true≢false, Ok}
 use Rattle.std.proofs.Common.{List, [], ◌∷◌, ◌++◌, length, length-set, map, append-nil, refl, sym, ap, ◌∙◌, subst}
 use Rattle.std.proofs.lemmas.Bool.{eqb-true}
 use Rattle.std.proofs.lemmas.List.{length-map}
@@ -13,11 +14,12 @@ use Rattle.fore_base.specs.Stores.{onward, var_of, set_var, load, store_at, walk
 use Rattle.fore_base.specs.Stores.{without, freed, grown}
 use Rattle.fore_base.specs.Heap.{leaks}
 use Rattle.fore_base.specs.Shapes.{targets_of}
-use Rattle.c_types.specs.declared.mode.MallocMode.TheVariants.{Always}
+use Rattle.c_types.specs.declared.mode.MallocMode.{MallocMode}
+use Rattle.c_types.specs.declared.mode.MallocMode.TheVariants.{Always, MayFail}
 use Rattle.c_types.specs.declared.program.Path.{Path}
 use Rattle.c_types.specs.Program.{Program, is_target, both_targets, path_target, rhs_typed, is_typed}
 use Rattle.c_types.specs.Fits.{PointsTo}
-use Rattle.c_types.specs.Steps.{read, write_path, blank, assign, free_path}
+use Rattle.c_types.specs.Steps.{read, write_path, blank, makes_cell, assign_new, assign, free_path}
 use Rattle.c_types.specs.declared.program.PtrRhs.{PtrRhs}
 use Rattle.c_types.proofs.ItemsTyped.{has_shapes_typed, has_vars_typed}
 use Rattle.c_types.specs.declared.program.PtrRhs.TheVariants.{Path as RhsPath, Null as RhsNull, New as RhsNew}
@@ -28,7 +30,8 @@ use Rattle.c_cfg.specs.declared.graph.Const.TheVariants.{Null as ConstNull}
 use Rattle.c_cfg.specs.declared.graph.Instr.{Instr}
 use Rattle.c_cfg.specs.declared.graph.Instr.TheVariants.{CopyPtr, LoadPtr, StorePtr, StoreConst, New, Free}
 use Rattle.c_cfg.specs.Edges.{Pass, Passed, Faulted, onto, raw_step, leak_tested}
-use Rattle.c_cfg.specs.Links.{Link, One, loads, holder, used, loads_but_last, ends, ptr_row, free_row}
+use Rattle.c_cfg.specs.Links.{Link, One, links_in, loads, holder, used, loads_but_last, ends, ptr_row, free_row}
+use Rattle.c_cfg.proofs.PlainLinks.{kept, stays, copied_plain, nulled_plain, made_plain}
 use Rattle.c_cfg.proofs.Agree.Temporaries.{ext, ext0, Sized, var_ext, set_ext, p0_holds, p0_set}
 use Rattle.c_cfg.proofs.Agree.TempLeaks.{hidden, fresh}
 use Rattle.c_cfg.proofs.Agree.Passing.{then_pass, links_pass, settled_pass, done_pass, onto_same, onto_onward}
@@ -87,6 +90,12 @@ module _ (p : Program) (choice : ℕ) where
 
   abbrev pass : List Link → Store → Pass
   pass ls g = links_pass p.shapes.structs choice ls g
+
+  -- a `malloc` that gives the null pointer: this is the first edge, and the others are those of a new cell
+  abbrev null_row : ℕ → List ℕ → List Link
+  null_row x [] = One (CopyPtr x PtrNull) ∷ []
+  null_row x (f ∷ fs) = One (CopyPtr nv PtrNull) ∷ (loads_but_last (nv + 1) x f fs (λ b g. StorePtr b g nv)
+      ++ ends (nv ∷ used (nv + 1) fs) [])
 
   module _ (t : Store) (sound : Sound p t) (a : Value)
       (clear : (y : Value) (e : Datum) → leaks (ext t a y Undefined e) ≡ false) where
@@ -221,7 +230,7 @@ module _ (p : Program) (choice : ℕ) where
     -- = the null pointer
     nulled : (x : ℕ) → x < nv → (fs : List ℕ) (k : ℕ) → PathLeads p (record { var = x; fields = fs }) k
         → pass (ptr_row nv nd x fs RhsNull) (ext0 s)
-        ≡ done_pass (assign p.shapes.structs Always s (path_of x fs) RhsNull choice)
+        ≡ done_pass (write_path s x fs Null)
     nulled x less [] k path =
         one_link p.shapes.structs choice (CopyPtr x PtrNull) (ext0 s) (set_var s x Null)
         (ap (λ g. Passed g) (set_ext nv nd s size Uninit Uninit Undefined Undefined x Null less))
@@ -239,7 +248,7 @@ module _ (p : Program) (choice : ℕ) where
 
       made : (x : ℕ) → x < nv → (fs : List ℕ) → PathLeads p (record { var = x; fields = fs }) shape
           → pass (ptr_row nv nd x fs (RhsNew shape)) (ext0 s)
-          ≡ done_pass (assign p.shapes.structs Always s (path_of x fs) (RhsNew shape) choice)
+          ≡ done_pass (assign_new true p.shapes.structs s (path_of x fs) shape)
       made x small [] path =
           one_link p.shapes.structs choice (New x shape) (ext0 s) (set_var with_cell x (Cell s.next))
           (ap (λ g. Passed g)
@@ -267,6 +276,26 @@ module _ (p : Program) (choice : ℕ) where
           store_raw p with_cell grows (Cell s.next) y Undefined Undefined b (last_of f fs) nv j shape w (Cell s.next) is
           (p0_holds nv nd with_cell tall (Cell s.next) y Undefined Undefined) points at (grown_points p s shape))
           (nv ∷ []) (nv ∷ used (nv + 1) fs) refl refl
+
+    -- = the null pointer that a `malloc` gives
+    unmade : (x : ℕ) → x < nv → (fs : List ℕ) (k : ℕ) → PathLeads p (record { var = x; fields = fs }) k
+        → pass (null_row x fs) (ext0 s) ≡ done_pass (write_path s x fs Null)
+    unmade x less [] k path = nulled x less [] k path
+    unmade x less (f ∷ fs) k path =
+        let rest : List Link = loads_but_last (nv + 1) x f fs (λ b g. StorePtr b g nv)
+        ++ ends (nv ∷ used (nv + 1) fs) [] in
+        let sets : set_var (ext s Uninit Uninit Undefined Undefined) nv Null ≡ ext s Null Uninit Undefined Undefined =
+        p0_set nv nd s size Uninit Uninit Undefined Undefined Null in
+        let clear : leaks (ext s Null Uninit Undefined Undefined) ≡ false = no_leak Null Uninit Undefined Undefined in
+        ap (λ g. then_pass (leak_tested (Passed g)) (λ r. pass rest r)) sets
+        ∙ ap
+        (λ b.
+        then_pass (if b then Faulted Leak else Passed (ext s Null Uninit Undefined Undefined)) (λ r. pass rest r)) clear
+        ∙ path_writes s sound Null (λ y e. no_leak Null y Undefined e) x f fs k path (λ b g. StorePtr b g nv) Null
+        (λ b j y w is points at.
+        store_raw p s sound Null y Undefined Undefined b (last_of f fs) nv j k w Null is
+        (p0_holds nv nd s size Null y Undefined Undefined) points at tt)
+        (nv ∷ []) (nv ∷ used (nv + 1) fs) refl refl
 
     -- `free`
 
@@ -333,24 +362,64 @@ module _ (p : Program) (choice : ℕ) where
     copied x [] k path q from = var_copied x (path_less p (path_of x []) k path) q.var q.fields k from
     copied x (f ∷ fs) k path q from = path_copied x f fs k path q from
 
-    module _ (typed : is_typed p ≡ true) where
-      abbrev target : Path → Option ℕ
-      target q = path_target p.shapes.structs p.vars (length p.data_vars) q
+-- = a `malloc` that may fail, on either choice
+module _ (p : Program) (s : Store) (sound : Sound p s) (whole : leaks s ≡ false) (shape : ℕ)
+    (less : shape < length p.shapes.structs) (x : ℕ) (small : x < length p.vars) where
+  -- for the choice 0 the first of the two edges is taken
+  null_taken : (fs : List ℕ)
+      → links_pass p.shapes.structs 0
+      (links_in MayFail (ptr_row (length p.vars) (length p.data_vars) x fs (RhsNew shape))) (ext0 s)
+      ≡ links_pass p.shapes.structs 0 (null_row p 0 x fs) (ext0 s)
+  null_taken [] = refl
+  null_taken (f ∷ fs) =
+      ap (λ ls. links_pass p.shapes.structs 0 (One (CopyPtr (length p.vars) PtrNull) ∷ ls) (ext0 s))
+      (kept _ (made_plain (length p.vars) (length p.data_vars) x f fs))
 
-      pub set_ptr_passes : (to : Path) (from : PtrRhs)
-          → rhs_typed p.shapes.structs p.vars (length p.data_vars) (target to) from ≡ true
-          → pass (ptr_row nv nd to.var to.fields from) (ext0 s)
-          ≡ done_pass (assign p.shapes.structs Always s to from choice)
-      set_ptr_passes to (RhsPath from) fits =
-          let both : BothTarget (target to) (target from) = both_target (target to) (target from) fits in
-          copied to.var to.fields both.struct (path_leads p to both.struct both.first) from
-          (path_leads p from both.struct both.second)
-      set_ptr_passes to RhsNull fits =
-          let some : SomeTarget (target to) = some_target (target to) fits in
-          let leads : PathLeads p to some.struct = path_leads p to some.struct some.is in
-          nulled to.var (path_less p to some.struct leads) to.fields some.struct leads
-      set_ptr_passes to (RhsNew shape) fits =
-          let leads : PathLeads p to shape = path_leads p to shape (target_is (target to) shape fits) in
-          let less : shape < length p.shapes.structs =
-          path_below p to shape (has_shapes_typed p typed) (has_vars_typed p typed) leads in
-          made shape less to.var (path_less p to shape leads) to.fields leads
+  -- for another one the second
+  new_taken : (n : ℕ) (fs : List ℕ)
+      → links_pass p.shapes.structs (suc n)
+      (links_in MayFail (ptr_row (length p.vars) (length p.data_vars) x fs (RhsNew shape))) (ext0 s)
+      ≡ links_pass p.shapes.structs (suc n) (ptr_row (length p.vars) (length p.data_vars) x fs (RhsNew shape)) (ext0 s)
+  new_taken n [] = refl
+  new_taken n (f ∷ fs) =
+      ap (λ ls. links_pass p.shapes.structs (suc n) (One (New (length p.vars) shape) ∷ ls) (ext0 s))
+      (kept _ (made_plain (length p.vars) (length p.data_vars) x f fs))
+
+  made_in : (mode : MallocMode) (choice : ℕ) (fs : List ℕ) → PathLeads p (record { var = x; fields = fs }) shape
+      → links_pass p.shapes.structs choice
+      (links_in mode (ptr_row (length p.vars) (length p.data_vars) x fs (RhsNew shape))) (ext0 s)
+      ≡ done_pass (assign_new (makes_cell mode choice) p.shapes.structs s (record { var = x; fields = fs }) shape)
+  made_in Always choice fs path = made p choice s sound whole shape less x small fs path
+  made_in MayFail zero fs path = null_taken fs ∙ unmade p 0 s sound whole x small fs shape path
+  made_in MayFail (suc n) fs path = new_taken n fs ∙ made p (suc n) s sound whole shape less x small fs path
+
+module _ (p : Program) (typed : is_typed p ≡ true) (choice : ℕ) (s : Store) (sound : Sound p s)
+    (whole : leaks s ≡ false) (mode : MallocMode) where
+  abbrev target : Path → Option ℕ
+  target q = path_target p.shapes.structs p.vars (length p.data_vars) q
+
+  abbrev row : Path → PtrRhs → List Link
+  row to from = ptr_row (length p.vars) (length p.data_vars) to.var to.fields from
+
+  pub set_ptr_passes : (to : Path) (from : PtrRhs)
+      → rhs_typed p.shapes.structs p.vars (length p.data_vars) (target to) from ≡ true
+      → links_pass p.shapes.structs choice (links_in mode (row to from)) (ext0 s)
+      ≡ done_pass (assign p.shapes.structs mode s to from choice)
+  set_ptr_passes to (RhsPath from) fits =
+      let both : BothTarget (target to) (target from) = both_target (target to) (target from) fits in
+      ap (λ ls. links_pass p.shapes.structs choice ls (ext0 s))
+      (stays mode false (row to (RhsPath from))
+      (copied_plain (length p.vars) (length p.data_vars) to.var to.fields from))
+      ∙ copied p choice s sound whole to.var to.fields both.struct (path_leads p to both.struct both.first) from
+      (path_leads p from both.struct both.second)
+  set_ptr_passes to RhsNull fits =
+      let some : SomeTarget (target to) = some_target (target to) fits in
+      let leads : PathLeads p to some.struct = path_leads p to some.struct some.is in
+      ap (λ ls. links_pass p.shapes.structs choice ls (ext0 s))
+      (stays mode false (row to RhsNull) (nulled_plain (length p.vars) (length p.data_vars) to.var to.fields))
+      ∙ nulled p choice s sound whole to.var (path_less p to some.struct leads) to.fields some.struct leads
+  set_ptr_passes to (RhsNew shape) fits =
+      let leads : PathLeads p to shape = path_leads p to shape (target_is (target to) shape fits) in
+      let less : shape < length p.shapes.structs =
+      path_below p to shape (has_shapes_typed p typed) (has_vars_typed p typed) leads in
+      made_in p s sound whole shape less to.var (path_less p to shape leads) mode choice to.fields leads

@@ -5,7 +5,7 @@ use Rattle.std.proofs.Common.{length, refl, sym, ap, ◌∙◌, subst, arith}
 use Rattle.fore_base.specs.declared.shape.Shape.{Shape}
 use Rattle.fore_base.specs.declared.store.Store.{Store}
 use Rattle.fore_base.specs.Heap.{IsProper, leaks}
-use Rattle.c_types.specs.declared.mode.MallocMode.TheVariants.{Always}
+use Rattle.c_types.specs.declared.mode.MallocMode.{MallocMode}
 use Rattle.c_types.specs.declared.outcome.Outcome.{Outcome}
 use Rattle.c_types.specs.declared.outcome.Outcome.TheVariants.{Ended, Fault, Starved, BadChoice, StillRunning}
 use Rattle.c_types.specs.declared.program.Atom.{Atom}
@@ -25,9 +25,9 @@ use Rattle.c_cfg.specs.declared.graph.Edge.{Edge}
 use Rattle.c_cfg.specs.Graphs.{has_choice}
 use Rattle.c_cfg.specs.Edges.{Pass, Passed, Faulted, Halted, NotPassed, gstep}
 use Rattle.c_cfg.specs.GraphRuns.{out_of, is_taken_on, after_pass, unless_left, at_location, first_pass, leave, ggo}
-use Rattle.c_cfg.specs.Links.{Link, One, Two, act_row}
+use Rattle.c_cfg.specs.Links.{Link, One, Two, links_in, act_row}
 use Rattle.c_cfg.specs.Lowering.{IsWay, IsTestRow, IsRow}
-use Rattle.c_cfg.proofs.Filling.{Filled, filled_length, act_filled}
+use Rattle.c_cfg.proofs.Filling.{Filled, filled_length, filled_in, act_filled}
 use Rattle.c_cfg.proofs.Agree.Temporaries.{ext0}
 use Rattle.c_cfg.proofs.Agree.Ways.{stepless}
 use Rattle.c_cfg.proofs.Agree.StepsAlike.{IsKnown, size, exit_ends, step_alike}
@@ -196,16 +196,16 @@ pub fuel_least : (most n : ℕ) → 0 < most → n ≤ fuel most n
 fuel_least most zero h = omega arith
 fuel_least most (suc n) h = omega (arith, h, fuel_least most n h)
 
-module _ (p : Program) (typed : is_typed p ≡ true) (edges : List Edge) (line : ℕ → ℕ) (at : Items → ℕ)
-    (mids : Items → List ℕ) (most : ℕ) (exit : out_of edges (at Done) ≡ []) where
+module _ (p : Program) (typed : is_typed p ≡ true) (mode : MallocMode) (edges : List Edge) (line : ℕ → ℕ)
+    (at : Items → ℕ) (mids : Items → List ℕ) (most : ℕ) (exit : out_of edges (at Done) ≡ []) where
   abbrev Place : Items → Type 0
-  Place c = IsKnown p edges line at mids most c
+  Place c = IsKnown p mode edges line at mids most c
 
   abbrev graph : ℕ → ℕ → ℕ → Store → List ℕ → ℕ → Outcome
   graph n q k g cs u = ggo p.shapes.structs edges (at_location edges) n q k g cs u
 
   abbrev source : ℕ → ℕ → Items → Store → List ℕ → ℕ → Outcome
-  source n st c s cs u = go p.shapes.structs Always line at_end n st c s cs u
+  source n st c s cs u = go p.shapes.structs mode line at_end n st c s cs u
 
   -- what the run of a program is at between its steps
   pub record Ready (c : Items) (s : Store) : Type 0 where
@@ -214,11 +214,11 @@ module _ (p : Program) (typed : is_typed p ≡ true) (edges : List Edge) (line :
     pub sound : Sound p s
     pub clear : leaks s ≡ false
 
-  pub next_ready : (c js : Items) (s t : Store) (x : ℕ) → Ready c s → turn_of p.shapes.structs Always (opened c) s x
+  pub next_ready : (c js : Items) (s t : Store) (x : ℕ) → Ready c s → turn_of p.shapes.structs mode (opened c) s x
       ≡ Goes js t → leaks t ≡ false → Each Place js Done → Ready js t
   next_ready c js s t x ready e clear each =
       let kept : ItemsFit p js × IsProper t × FitsProgram p t =
-      step_keeps p typed Always c js s t x ready.fits (sound_proper p s ready.sound) (sound_fits p s ready.sound) e in
+      step_keeps p typed mode c js s t x ready.fits (sound_proper p s ready.sound) (sound_fits p s ready.sound) e in
       record { places = each; fits = kept.0; sound = is_sound p t kept.1 kept.2; clear = clear }
 
   pub front_of : (c : Items) (s : Store) → Ready c s → Front Place (opened c)
@@ -226,7 +226,7 @@ module _ (p : Program) (typed : is_typed p ≡ true) (edges : List Edge) (line :
 
   over_start : (o : Items) (st m q : ℕ) (g : Store) (cs : List ℕ) (u : ℕ)
       → Follows (at_end o st) (graph m q (at o) g cs u)
-  over_start Done st m q g cs u = exit_ends p typed Follows follows_equal edges line at mids most exit m q g cs u
+  over_start Done st m q g cs u = exit_ends p typed mode Follows follows_equal edges line at mids most exit m q g cs u
   over_start (Do a k is) st m q g cs u = tt
   over_start (Close ps ds k is) st m q g cs u = tt
   over_start (If c x y is) st m q g cs u = tt
@@ -245,14 +245,14 @@ module _ (p : Program) (typed : is_typed p ≡ true) (edges : List Edge) (line :
       let least : size (length p.vars) (length p.data_vars) (opened c) ≤ most = front.0.2 in
       let split : m ≡ k + (m - k) = omega (arith, h, least) in
       subst (λ z. Follows (source (suc n) st c s cs u) (graph z q (at (opened c)) (ext0 s) cs u)) (sym split)
-      (step_alike p typed Follows follows_equal edges line at mids most exit (m - k)
+      (step_alike p typed mode Follows follows_equal edges line at mids most exit (m - k)
       (λ st js t ds v. source n st js t ds v) st q s ready.sound ready.clear cs u (opened c) front
       (opened_fit p c ready.fits)
       (λ x ds v js t e clear each st r.
       over n (m - k) (omega (arith, h, least)) js t (next_ready c js s t x ready e clear each) st r ds v))
 
   atom_begun : (a : Atom) (m : ℕ) (x y is : Items)
-      → IsRow (length p.vars) (length p.data_vars) edges line at mids (If (Ask a m) x y is) → (q : ℕ)
+      → IsRow (length p.vars) (length p.data_vars) edges mode line at mids (If (Ask a m) x y is) → (q : ℕ)
       → at_location edges (at (If (Ask a m) x y is)) q ≡ StillRunning
   atom_begun ChoiceAtom m x y is h q = ap (λ es. unless_left es q StillRunning) h.0
   atom_begun (KnownAtom true) m x y is h q = ap (λ es. unless_left es q StillRunning) h.0
@@ -265,8 +265,9 @@ module _ (p : Program) (typed : is_typed p ≡ true) (edges : List Edge) (line :
   still_start : (o : Items) → Place o → (st q : ℕ) → Still (at_end o st) (at_location edges (at o) q)
   still_start Done h st q = tt
   still_start (Do a m is) h st q =
-      begun edges (line m) (act_row (length p.vars) (length p.data_vars) a is) _ h.0.way _
-      (act_filled (length p.vars) (length p.data_vars) a is) h.0.leads q
+      begun edges (line m) (links_in mode (act_row (length p.vars) (length p.data_vars) a is)) _ h.0.way _
+      (filled_in mode (act_row (length p.vars) (length p.data_vars) a is)
+      (act_filled (length p.vars) (length p.data_vars) a is)) h.0.leads q
   still_start (Close ps ds m is) h st q = begun edges (line m) (One _ ∷ []) _ h.0.way _ tt h.0.leads q
   still_start (If (Ask a m) x y is) h st q = atom_begun a m x y is h.0 q
   still_start (If (Not c) x y is) h st q = absurd h.0
@@ -282,32 +283,33 @@ module _ (p : Program) (typed : is_typed p ≡ true) (edges : List Edge) (line :
       → Still (source n st c s cs u) (graph n q (at (opened c)) (ext0 s) cs u))
       (c : Items) (s : Store) (ready : Ready c s) (st q : ℕ) (cs : List ℕ) (u : ℕ) where
     cut : (o : Items) → opened c ≡ o → 0 < size (length p.vars) (length p.data_vars) (opened c)
-        → Still (advance p.shapes.structs Always line at_end (opened c)
+        → Still (advance p.shapes.structs mode line at_end (opened c)
         (λ st js t ds v. source n st js t ds v) st s cs u)
         (graph (suc n) q (at (opened c)) (ext0 s) cs u)
     cut o is h =
         let k : ℕ = size (length p.vars) (length p.data_vars) (opened c) in
         shorter _ (graph (k + n) q (at (opened c)) (ext0 s) cs u) _
-        (step_alike p typed Still still_equal edges line at mids most exit n (λ st js t ds v. source n st js t ds v) st
-        q s ready.sound ready.clear cs u (opened c) (front_of c s ready) (opened_fit p c ready.fits)
+        (step_alike p typed mode Still still_equal edges line at mids most exit n
+        (λ st js t ds v. source n st js t ds v) st q s ready.sound ready.clear cs u (opened c) (front_of c s ready)
+        (opened_fit p c ready.fits)
         (λ x ds v js t e clear each st r. later js t (next_ready c js s t x ready e clear each) st r ds v))
         (longer p.shapes.structs edges (suc n) (k + n) (omega (arith, h)) q (at (opened c)) (ext0 s) cs u)
 
     ended_at_once : (o : Items) → o ≡ Done
-        → Still (advance p.shapes.structs Always line at_end o (λ st js t ds v. source n st js t ds v) st s cs u)
+        → Still (advance p.shapes.structs mode line at_end o (λ st js t ds v. source n st js t ds v) st s cs u)
         (graph (suc n) q (at o) (ext0 s) cs u)
     ended_at_once o is = subst
-        (λ z. Still (advance p.shapes.structs Always line at_end z (λ st js t ds v. source n st js t ds v) st s cs u)
+        (λ z. Still (advance p.shapes.structs mode line at_end z (λ st js t ds v. source n st js t ds v) st s cs u)
         (graph (suc n) q (at z) (ext0 s) cs u)) (sym is) tt
 
     long : (o : Items) → Place o → opened c ≡ o → 0 < size (length p.vars) (length p.data_vars) o
-        → Still (advance p.shapes.structs Always line at_end (opened c)
+        → Still (advance p.shapes.structs mode line at_end (opened c)
         (λ st js t ds v. source n st js t ds v) st s cs u)
         (graph (suc n) q (at (opened c)) (ext0 s) cs u)
     long o h is least = cut o is (subst (λ z. 0 < size (length p.vars) (length p.data_vars) z) (sym is) least)
 
     step_goes : (o : Items) → Place o → opened c ≡ o
-        → Still (advance p.shapes.structs Always line at_end (opened c)
+        → Still (advance p.shapes.structs mode line at_end (opened c)
         (λ st js t ds v. source n st js t ds v) st s cs u)
         (graph (suc n) q (at (opened c)) (ext0 s) cs u)
     step_goes Done h is = ended_at_once (opened c) is

@@ -7,7 +7,7 @@ use Rattle.fore_base.specs.declared.store.Datum.{Datum}
 use Rattle.fore_base.specs.declared.store.Store.{Store}
 use Rattle.fore_base.specs.Stores.{onward, kill}
 use Rattle.fore_base.specs.Heap.{leaks}
-use Rattle.c_types.specs.declared.mode.MallocMode.TheVariants.{Always}
+use Rattle.c_types.specs.declared.mode.MallocMode.{MallocMode}
 use Rattle.c_types.specs.declared.outcome.Outcome.{Outcome}
 use Rattle.c_types.specs.declared.outcome.Outcome.TheVariants.{Ended, Fault, StillRunning}
 use Rattle.c_types.specs.declared.program.Act.{Act}
@@ -31,7 +31,7 @@ use Rattle.c_cfg.specs.declared.graph.Instr.TheVariants.{Kill, Choose}
 use Rattle.c_cfg.specs.declared.graph.Edge.{Edge}
 use Rattle.c_cfg.specs.Edges.{Pass, Halted}
 use Rattle.c_cfg.specs.GraphRuns.{out_of, unless_left, leave}
-use Rattle.c_cfg.specs.Links.{Link, One, act_row, ptr_loads, ptr_ends, cmp_loads, data_ends}
+use Rattle.c_cfg.specs.Links.{Link, One, links_in, act_row, ptr_loads, ptr_ends, cmp_loads, data_ends}
 use Rattle.c_cfg.specs.Lowering.{edge, IsTestRow, IsRow, followed_by}
 use Rattle.c_cfg.proofs.Agree.Temporaries.{ext0}
 use Rattle.c_cfg.proofs.Agree.Passing.{settled_pass, onward_onward}
@@ -40,6 +40,7 @@ use Rattle.c_cfg.proofs.Agree.ActTurns.{turn_pass, settle_pass, stop_of, kill_pa
 use Rattle.c_cfg.proofs.Agree.ActTurns.{act_to}
 use Rattle.c_cfg.proofs.Agree.Ways.{stepless, AreOnes, graph_run, Meets, after_meets, along, row_alike, test_alike}
 use Rattle.c_cfg.proofs.Agree.LinksOnes.{ends_ones, ptr_ones, cmp_ones, act_row_takes}
+use Rattle.c_cfg.proofs.PlainLinks.{length_in}
 use Rattle.c_cfg.proofs.Ranged.{Ranged}
 use Rattle.c_cfg.proofs.Landing.{Each, Front, whole, each_after, each_from}
 
@@ -98,10 +99,11 @@ data_compared s l r equal x =
     inner (Ok v) = onward_onward (read_data_op s r) (λ w. same_datums v w) (λ same. Ok (agrees equal same))
     inner (Err k) = refl
 
-module _ (p : Program) (edges : List Edge) (line : ℕ → ℕ) (at : Items → ℕ) (mids : Items → List ℕ) (most : ℕ) where
+module _ (p : Program) (mode : MallocMode) (edges : List Edge) (line : ℕ → ℕ) (at : Items → ℕ)
+    (mids : Items → List ℕ) (most : ℕ) where
   -- what is known of a place: its row, that its numbers are in range, and that it takes no more edges than these
   abbrev pub IsKnown : Items → Type 0
-  IsKnown c = IsRow (length p.vars) (length p.data_vars) edges line at mids c × Ranged p c
+  IsKnown c = IsRow (length p.vars) (length p.data_vars) edges mode line at mids c × Ranged p c
       × (size (length p.vars) (length p.data_vars) c ≤ most)
 
   pub each_followed : (a : Act) (is : Items) → Each IsKnown is Done → Each IsKnown (followed_by a is) Done
@@ -114,11 +116,11 @@ module _ (p : Program) (edges : List Edge) (line : ℕ → ℕ) (at : Items → 
   each_followed Break is h = each_after IsKnown is h
   each_followed Continue is h = each_from IsKnown is h
 
-module _ (p : Program) (typed : is_typed p ≡ true) (Rel : Outcome → Outcome → Type 0)
+module _ (p : Program) (typed : is_typed p ≡ true) (mode : MallocMode) (Rel : Outcome → Outcome → Type 0)
     (equal : (o r : Outcome) → stepless o ≡ stepless r → Rel o r) (edges : List Edge) (line : ℕ → ℕ) (at : Items → ℕ)
     (mids : Items → List ℕ) (most : ℕ) where
   abbrev Place : Items → Type 0
-  Place c = IsKnown p edges line at mids most c
+  Place c = IsKnown p mode edges line at mids most c
 
   abbrev graph : ℕ → ℕ → ℕ → Store → List ℕ → ℕ → Outcome
   graph n q k g cs u = graph_run Rel equal p.shapes.structs edges n q k g cs u
@@ -168,33 +170,33 @@ module _ (p : Program) (typed : is_typed p ≡ true) (Rel : Outcome → Outcome 
     act_stops Continue is l ds v = λ r. equal _ _ refl
 
     abbrev Cont : Items → Type 0
-    Cont o = (x : ℕ) (ds : List ℕ) (v : ℕ) → Then (turn_of p.shapes.structs Always o s x) ds v
+    Cont o = (x : ℕ) (ds : List ℕ) (v : ℕ) → Then (turn_of p.shapes.structs mode o s x) ds v
 
     abbrev Goal : Items → Type 0
-    Goal o = Rel (advance p.shapes.structs Always line at_end o next step s cs u)
+    Goal o = Rel (advance p.shapes.structs mode line at_end o next step s cs u)
         (graph (size (length p.vars) (length p.data_vars) o + n) q (at o) (ext0 s) cs u)
 
     -- one side of a test is taken
-    side_on : (o : Items) (l : ℕ) (is : Items) → turn_of p.shapes.structs Always o s 0 ≡ settle s is
+    side_on : (o : Items) (l : ℕ) (is : Items) → turn_of p.shapes.structs mode o s 0 ≡ settle s is
         → Each Place is Done
-        → Cont o → (r : ℕ) → Rel (out (turn_of p.shapes.structs Always o s 0) l cs u)
+        → Cont o → (r : ℕ) → Rel (out (turn_of p.shapes.structs mode o s 0) l cs u)
         (graph n r (at (opened is)) (ext0 s) cs u)
     side_on o l is e each on r =
-        let goes : turn_of p.shapes.structs Always o s 0 ≡ Goes is s = e ∙ rw clear refl in
+        let goes : turn_of p.shapes.structs mode o s 0 ≡ Goes is s = e ∙ rw clear refl in
         subst (λ z. Rel (out z l cs u) (graph n r (at (opened is)) (ext0 s) cs u)) (sym goes)
         (on 0 cs u is s goes clear each (step + 1) r)
 
     -- a side that is taken by one edge which changes nothing
-    settles : (o : Items) (l : ℕ) (is : Items) (x : ℕ) (ds : List ℕ) (v : ℕ) → turn_of p.shapes.structs Always o s x
+    settles : (o : Items) (l : ℕ) (is : Items) (x : ℕ) (ds : List ℕ) (v : ℕ) → turn_of p.shapes.structs mode o s x
         ≡ settle s is → Each Place is Done → Cont o
-        → Meets Rel equal p.shapes.structs edges (out (turn_of p.shapes.structs Always o s x) l ds v) l
+        → Meets Rel equal p.shapes.structs edges (out (turn_of p.shapes.structs mode o s x) l ds v) l
         (λ r t. graph n r (at (opened is)) t ds v) (settled_pass s)
     settles o l is x ds v e each on =
         subst
-        (λ z. Meets Rel equal p.shapes.structs edges (out (turn_of p.shapes.structs Always o s x) l ds v) l
+        (λ z. Meets Rel equal p.shapes.structs edges (out (turn_of p.shapes.structs mode o s x) l ds v) l
         (λ r t. graph n r (at (opened is)) t ds v) z)
         (sym (settle_pass Halted s is ∙ ap (λ z. turn_pass Halted z) (sym e)))
-        (turn_meets (turn_of p.shapes.structs Always o s x) is l Halted ds v
+        (turn_meets (turn_of p.shapes.structs mode o s x) is l Halted ds v
         (subst (GoesTo is) (sym e) (settle_to s is)) each
         (on x ds v) (halts l is ds v))
 
@@ -209,19 +211,19 @@ module _ (p : Program) (typed : is_typed p ≡ true) (Rel : Outcome → Outcome 
             → Cont (If (Ask ChoiceAtom m) x y is)
             → Rel
             (supply true cs (step + 1) u
-            (λ c ds v. out (turn_of p.shapes.structs Always (If (Ask ChoiceAtom m) x y is) s c) (line m) ds v))
+            (λ c ds v. out (turn_of p.shapes.structs mode (If (Ask ChoiceAtom m) x y is) s c) (line m) ds v))
             (graph (suc n) q k (ext0 s) cs u)
         choose_step k w on =
             subst
             (λ z.
             Rel
             (supply true cs (step + 1) u
-            (λ c ds v. out (turn_of p.shapes.structs Always (If (Ask ChoiceAtom m) x y is) s c) (line m) ds v)) z)
+            (λ c ds v. out (turn_of p.shapes.structs mode (If (Ask ChoiceAtom m) x y is) s c) (line m) ds v)) z)
             (sym (ap (λ es. leave p.shapes.structs es (λ st j t ds v. graph n st j t ds v) q (ext0 s) cs u) w)) (by cs)
           where
             by : (cs : List ℕ) → Rel
                 (supply true cs (step + 1) u
-                (λ c ds v. out (turn_of p.shapes.structs Always (If (Ask ChoiceAtom m) x y is) s c) (line m) ds v))
+                (λ c ds v. out (turn_of p.shapes.structs mode (If (Ask ChoiceAtom m) x y is) s c) (line m) ds v))
                 (leave p.shapes.structs (edge (line m) k (at (opened (y then is))) (Choose None) (Some 0)
                 ∷ edge (line m) k (at (opened (x then is))) (Choose None) (Some 1) ∷ [])
                 (λ st j t ds v. graph n st j t ds v) q (ext0 s) cs u)
@@ -238,13 +240,13 @@ module _ (p : Program) (typed : is_typed p ≡ true) (Rel : Outcome → Outcome 
 
         known_way : (o : Items) (k : ℕ) (js : Items)
             → out_of edges k ≡ edge (line m) k (at (opened js)) (Kill [] []) None
-            ∷ [] → turn_of p.shapes.structs Always o s 0 ≡ settle s js → Each Place js Done → Cont o
-            → Rel (out (turn_of p.shapes.structs Always o s 0) (line m) cs u) (graph (1 + n) q k (ext0 s) cs u)
+            ∷ [] → turn_of p.shapes.structs mode o s 0 ≡ settle s js → Each Place js Done → Cont o
+            → Rel (out (turn_of p.shapes.structs mode o s 0) (line m) cs u) (graph (1 + n) q k (ext0 s) cs u)
         known_way o k js w e each on =
-            along Rel equal p.shapes.structs edges (out (turn_of p.shapes.structs Always o s 0) (line m) cs u) (line m)
+            along Rel equal p.shapes.structs edges (out (turn_of p.shapes.structs mode o s 0) (line m) cs u) (line m)
             (One (Kill [] []) ∷ []) k (at (opened js) ∷ []) (at (opened js)) (w, refl) tt 0 n q (ext0 s) cs u
             (subst
-            (λ z. Meets Rel equal p.shapes.structs edges (out (turn_of p.shapes.structs Always o s 0) (line m) cs u)
+            (λ z. Meets Rel equal p.shapes.structs edges (out (turn_of p.shapes.structs mode o s 0) (line m) cs u)
             (line m)
             (λ r t. graph n r (at (opened js)) t cs u) z)
             (settle_pass Halted s js ∙ sym (kill_passes p typed 0 s sound clear [] [] Halted js))
@@ -309,19 +311,24 @@ module _ (p : Program) (typed : is_typed p ≡ true) (Rel : Outcome → Outcome 
     pub step_alike : (o : Items) → Front Place o → ItemsFit p o → Cont o → Goal o
     step_alike Done h fits on = equal _ _ (sym (exit_ends exit (0 + n) q (ext0 s) cs u))
     step_alike (Do a m is) h fits on =
-        row_alike Rel equal p.shapes.structs edges (act_takes Always a)
-        (λ x ds v. out (act_turn p.shapes.structs Always a is s x) (line m) ds v) (step + 1) (line m)
-        (act_row (length p.vars) (length p.data_vars) a is) (at (Do a m is)) h.0.0.way
+        subst
+        (λ k. Rel (supply (act_takes mode a) cs (step + 1) u
+        (λ x ds v. out (act_turn p.shapes.structs mode a is s x) (line m) ds v))
+        (graph (k + n) q (at (Do a m is)) (ext0 s) cs u))
+        (length_in mode (act_row (length p.vars) (length p.data_vars) a is))
+        (row_alike Rel equal p.shapes.structs edges (act_takes mode a)
+        (λ x ds v. out (act_turn p.shapes.structs mode a is s x) (line m) ds v) (step + 1) (line m)
+        (links_in mode (act_row (length p.vars) (length p.data_vars) a is)) (at (Do a m is)) h.0.0.way
         (at (opened (followed_by a is))) h.0.0.leads
-        (act_row_takes (length p.vars) (length p.data_vars) a is) n q (ext0 s) cs u
+        (act_row_takes (length p.vars) (length p.data_vars) mode a is) n q (ext0 s) cs u
         (λ x ds v.
         subst
-        (λ z. Meets Rel equal p.shapes.structs edges (out (act_turn p.shapes.structs Always a is s x) (line m) ds v)
+        (λ z. Meets Rel equal p.shapes.structs edges (out (act_turn p.shapes.structs mode a is s x) (line m) ds v)
         (line m) (λ r t. graph n r (at (opened (followed_by a is))) t ds v) z)
-        (sym (act_passes p typed x s sound clear a is fits.0))
-        (turn_meets (act_turn p.shapes.structs Always a is s x) (followed_by a is) (line m) (stop_of a s) ds v
-        (act_to p.shapes.structs a is s x) (each_followed p edges line at mids most a is h.1.1) (on x ds v)
-        (act_stops a is (line m) ds v)))
+        (sym (act_passes p typed x s sound clear mode a is fits.0))
+        (turn_meets (act_turn p.shapes.structs mode a is s x) (followed_by a is) (line m) (stop_of a s) ds v
+        (act_to p.shapes.structs mode a is s x) (each_followed p mode edges line at mids most a is h.1.1) (on x ds v)
+        (act_stops a is (line m) ds v))))
     step_alike (Close ps ds m is) h fits on =
         row_alike Rel equal p.shapes.structs edges false (λ x cs v. out (settle (kill ps ds s) is) (line m) cs v)
         (step + 1) (line m) (One (Kill ps ds) ∷ []) (at (Close ps ds m is)) h.0.0.way (at (opened is)) h.0.0.leads

@@ -10,7 +10,7 @@ use Rattle.fore_base.specs.Lists.{IsIn, Every}
 use Rattle.fore_base.specs.Stores.{kill}
 use Rattle.fore_base.specs.Heap.{leaks}
 use Rattle.fore_base.proofs.ListLemmas.{every_in, every_parts}
-use Rattle.c_types.specs.declared.mode.MallocMode.TheVariants.{Always}
+use Rattle.c_types.specs.declared.mode.MallocMode.{MallocMode}
 use Rattle.c_types.specs.declared.program.Act.{Act}
 use Rattle.c_types.specs.declared.program.Act.TheVariants.{SetPtr, SetData, Free, Error, Halt, Return, Break, Continue}
 use Rattle.c_types.specs.declared.program.Atom.{Atom}
@@ -30,13 +30,13 @@ use Rattle.c_cfg.specs.declared.graph.Edge.{Edge}
 use Rattle.c_cfg.specs.Graphs.{ControlGraph}
 use Rattle.c_cfg.specs.Edges.{Pass, Passed, Faulted, Halted, NotPassed, onto, if_agreed, raw_step, leak_tested, gstep}
 use Rattle.c_cfg.specs.GraphRuns.{out_of}
-use Rattle.c_cfg.specs.Links.{Link, One, Two, act_row}
+use Rattle.c_cfg.specs.Links.{Link, One, Two, links_in, act_row}
 use Rattle.c_cfg.specs.Lowering.{edge, IsWay, but_last, IsTestRow, LowerOf, followed_by}
 use Rattle.c_cfg.specs.Places.{places}
 use Rattle.c_cfg.specs.Temporaries.{TemporariesUnset}
 use Rattle.c_cfg.specs.Visits.{Visits, begin, by_edge, HasWay, IsNeverStuck}
 use Rattle.c_cfg.proofs.Landing.{Each, Front, each, whole, each_opened, each_after, each_from}
-use Rattle.c_cfg.proofs.Filling.{Filled, act_filled}
+use Rattle.c_cfg.proofs.Filling.{Filled, filled_in, act_filled}
 use Rattle.c_cfg.proofs.Agree.Temporaries.{ext0, Sized, ext_unset}
 use Rattle.c_cfg.proofs.Agree.TempLeaks.{leaks_ext0}
 use Rattle.c_cfg.proofs.Agree.Passing.{then_pass, links_pass}
@@ -62,16 +62,16 @@ every_own cs = here cs (λ c i. inr i)
     here [] sub = tt
     here (d ∷ ds) sub = (sub d (inl refl), here ds (λ c i. sub c (inr i)))
 
-module _ (p : Program) (typed : is_typed p ≡ true) (edges : List Edge) (line : ℕ → ℕ) (at : Items → ℕ)
-    (mids : Items → List ℕ) (most : ℕ) (exit : out_of edges (at Done) ≡ []) (all : List Items) where
+module _ (p : Program) (typed : is_typed p ≡ true) (mode : MallocMode) (edges : List Edge) (line : ℕ → ℕ)
+    (at : Items → ℕ) (mids : Items → List ℕ) (most : ℕ) (exit : out_of edges (at Done) ≡ []) (all : List Items) where
   abbrev pass : ℕ → List Link → Store → Pass
   pass x ls s = links_pass p.shapes.structs x ls s
 
   abbrev Place : Items → Type 0
-  Place c = IsKnown p edges line at mids most c
+  Place c = IsKnown p mode edges line at mids most c
 
   abbrev IsReady : Items → Store → Type 0
-  IsReady c s = Ready p typed edges line at mids most exit c s
+  IsReady c s = Ready p typed mode edges line at mids most exit c s
 
   -- the exit, or one of the places
   abbrev Among : Items → Type 0
@@ -461,7 +461,7 @@ module _ (p : Program) (typed : is_typed p ≡ true) (edges : List Edge) (line :
 
   module _ (c : Items) (t : Store) (r : IsReady c t) where
     -- where a turn leads
-    turn_lands : (turn : Turn) (x : ℕ) (is : Items) (stop : Pass) → turn_of p.shapes.structs Always (opened c) t x
+    turn_lands : (turn : Turn) (x : ℕ) (is : Items) (stop : Pass) → turn_of p.shapes.structs mode (opened c) t x
         ≡ turn
         → GoesTo is turn → Each Place is Done → Each Among is Done → Lands Settled (at (opened is)) stop
         → Lands Settled (at (opened is)) (turn_pass stop turn)
@@ -472,7 +472,7 @@ module _ (p : Program) (typed : is_typed p ≡ true) (edges : List Edge) (line :
           store = u;
           is_at = ap (λ z. at (opened z)) (sym to.0);
           is_ext = refl;
-          is_ready = next_ready p typed edges line at mids most exit c js t u x r e to.1
+          is_ready = next_ready p typed mode edges line at mids most exit c js t u x r e to.1
               (subst (λ z. Each Place z Done) (sym to.0) each);
           among = subst (λ z. Each Among z Done) (sym to.0) among;
         })
@@ -549,22 +549,23 @@ module _ (p : Program) (typed : is_typed p ≡ true) (edges : List Edge) (line :
     place_steps : (o : Items) → opened c ≡ o → Front Place o → Front Among o → ItemsFit p o → Steps (at o) (ext0 t)
     place_steps Done e h among fits = on_edges (at Done) [] (ext0 t) exit (no_edges (ext0 t))
     place_steps (Do a m is) e h among fits =
-        row_steps (act_takes Always a) (line m) (act_row (length p.vars) (length p.data_vars) a is)
+        row_steps (act_takes mode a) (line m) (links_in mode (act_row (length p.vars) (length p.data_vars) a is))
         (at (Do a m is)) h.0.0.way
         (at (opened (followed_by a is))) (ext0 t) h.0.0.leads
-        (act_row_takes (length p.vars) (length p.data_vars) a is)
-        (act_filled (length p.vars) (length p.data_vars) a is)
+        (act_row_takes (length p.vars) (length p.data_vars) mode a is)
+        (filled_in mode (act_row (length p.vars) (length p.data_vars) a is)
+        (act_filled (length p.vars) (length p.data_vars) a is))
         (λ x. subst (Lands Settled (at (opened (followed_by a is))))
-        (sym (act_passes p typed x t r.sound r.clear a is fits.0))
-        (turn_lands (act_turn p.shapes.structs Always a is t x) x (followed_by a is) (stop_of a t)
-        (ap (λ z. turn_of p.shapes.structs Always z t x) e) (act_to p.shapes.structs a is t x)
-        (each_followed p edges line at mids most a is h.1.1) (among_followed a is among.1.1) (act_stops a is)))
+        (sym (act_passes p typed x t r.sound r.clear mode a is fits.0))
+        (turn_lands (act_turn p.shapes.structs mode a is t x) x (followed_by a is) (stop_of a t)
+        (ap (λ z. turn_of p.shapes.structs mode z t x) e) (act_to p.shapes.structs mode a is t x)
+        (each_followed p mode edges line at mids most a is h.1.1) (among_followed a is among.1.1) (act_stops a is)))
         (subst (λ ks. Every IsMid ks) h.0.0.middle (place_mids (Do a m is) among.0 (λ e. cc e)))
     place_steps (Close ps ds m is) e h among fits =
         row_steps false (line m) (One (Kill ps ds) ∷ []) (at (Close ps ds m is)) h.0.0.way (at (opened is)) (ext0 t)
         h.0.0.leads tt tt
         (λ x. subst (Lands Settled (at (opened is))) (sym (kill_passes p typed x t r.sound r.clear ps ds Halted is))
-        (turn_lands (settle (kill ps ds t) is) x is Halted (ap (λ z. turn_of p.shapes.structs Always z t x) e)
+        (turn_lands (settle (kill ps ds t) is) x is Halted (ap (λ z. turn_of p.shapes.structs mode z t x) e)
         (settle_to (kill ps ds t) is) h.1.1 among.1.1 tt))
         (subst (λ ks. Every IsMid ks) h.0.0.middle (place_mids (Close ps ds m is) among.0 (λ e. cc e)))
     place_steps (If (Ask a m) x y is) e h among fits =
@@ -589,7 +590,7 @@ module _ (p : Program) (typed : is_typed p ≡ true) (edges : List Edge) (line :
   reached_steps k s (inl (inr h)) =
       let base : Steps (at (opened h.items)) (ext0 h.store) =
       place_steps h.items h.store h.is_ready (opened h.items) refl
-      (front_of p typed edges line at mids most exit h.items h.store h.is_ready)
+      (front_of p typed mode edges line at mids most exit h.items h.store h.is_ready)
       (each_opened Among h.items (inl refl) h.among) (opened_fit p h.items h.is_ready.fits) in
       subst (λ j. Steps j s) (sym h.is_at) (subst (λ u. Steps (at (opened h.items)) u) (sym h.is_ext) base)
   reached_steps k s (inr h) = test_steps k s h.0
@@ -622,15 +623,17 @@ module _ (p : Program) (typed : is_typed p ≡ true) (edges : List Edge) (line :
       here (l ∷ ls) [] e h inside = absurd e
       here (l ∷ ls) (m ∷ ms) e h inside = inl inside.0
 
-module _ (p : Program) (typed : is_typed p ≡ true) (g : ControlGraph) (low : LowerOf p g) where
+module _ (p : Program) (typed : is_typed p ≡ true) (mode : MallocMode) (g : ControlGraph) (low : LowerOf p mode g) where
   abbrev IsSeen : ℕ → Store → Type 0
-  IsSeen k s = Seen p typed g.edges low.line low.at low.mids (rowed p typed g low).most low.exit (places low.items Done)
-      k s
+  IsSeen k s = Seen p typed mode g.edges low.line low.at low.mids
+      (rowed p typed mode g low).most low.exit (places low.items Done) k s
 
   steps : (k : ℕ) (s : Store) → IsSeen k s
-      → StepsOn p typed g.edges low.line low.at low.mids (rowed p typed g low).most low.exit (places low.items Done)
+      → StepsOn p typed mode g.edges low.line low.at low.mids
+      (rowed p typed mode g low).most low.exit (places low.items Done)
       (out_of g.edges k) s
-  steps k s h = seen_steps p typed g.edges low.line low.at low.mids (rowed p typed g low).most low.exit
+  steps k s h = seen_steps p typed mode g.edges low.line low.at low.mids
+      (rowed p typed mode g low).most low.exit
       (places low.items Done) k s h
 
   same_shapes : g.shapes.structs ≡ p.shapes.structs
@@ -638,21 +641,23 @@ module _ (p : Program) (typed : is_typed p ≡ true) (g : ControlGraph) (low : L
 
   visits_seen : {k : ℕ} {s : Store} → Visits g k s → IsSeen k s
   visits_seen begin =
-      here_seen p typed g.edges low.line low.at low.mids (rowed p typed g low).most low.exit (places low.items Done) 0 _
+      here_seen p typed mode g.edges low.line low.at low.mids
+      (rowed p typed mode g low).most low.exit (places low.items Done) 0 _
       (inl
       (inr
       (record {
         items = low.items;
-        store = first p typed g low;
+        store = first p typed mode g low;
         is_at = sym low.entry;
-        is_ext = sym (begins p typed g low);
-        is_ready = ready p typed g low;
+        is_ext = sym (begins p typed mode g low);
+        is_ready = ready p typed mode g low;
         among =
             each _ low.items Done (every_own (places low.items Done));
       })))
   visits_seen (by_edge {k} {s} {t} e before there got) =
       every_in
-      (Good p typed g.edges low.line low.at low.mids (rowed p typed g low).most low.exit (places low.items Done) s)
+      (Good p typed mode g.edges low.line low.at low.mids
+      (rowed p typed mode g low).most low.exit (places low.items Done) s)
       (out_of g.edges k) e ((steps k s (visits_seen before)).each_good) there t
       (subst (λ shapes. gstep shapes e s ≡ Passed t) same_shapes got)
 
@@ -663,11 +668,12 @@ module _ (p : Program) (typed : is_typed p ≡ true) (g : ControlGraph) (low : L
 
   -- in the middle of the step of a place
   abbrev pub Middle : ℕ → Type 0
-  Middle k = IsMid p typed g.edges low.line low.at low.mids (rowed p typed g low).most low.exit (places low.items Done)
-      k
+  Middle k = IsMid p typed mode g.edges low.line low.at low.mids
+      (rowed p typed mode g low).most low.exit (places low.items Done) k
 
   pub middle_or_unset : (k : ℕ) (s : Store) → Visits g k s → Middle k
       ⊎ TemporariesUnset (length p.vars) (length p.data_vars) s
   middle_or_unset k s visits =
-      seen_unset p typed g.edges low.line low.at low.mids (rowed p typed g low).most low.exit (places low.items Done) k
+      seen_unset p typed mode g.edges low.line low.at low.mids
+      (rowed p typed mode g low).most low.exit (places low.items Done) k
       s (visits_seen visits)

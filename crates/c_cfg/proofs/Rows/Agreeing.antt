@@ -79,7 +79,7 @@ graph_ends choices m = refl
 
 -- what neither comes to
 neither : (Is : Outcome → Type 0) → (Is StillRunning → ⊥) → (Is (Ended 1) → ⊥) → (choices : List ℕ)
-    → BothCome halting stopping choices Is
+    → BothCome halting Always stopping choices Is
 neither Is running ended choices = record { there = λ n h. absurd (program n h); back = λ m h. absurd (graph_too m h) }
   where
     program : (n : ℕ) → Is (run halting Always choices n) → ⊥
@@ -90,14 +90,14 @@ neither Is running ended choices = record { there = λ n h. absurd (program n h)
     graph_too zero h = running (subst Is (graph_waits choices) h)
     graph_too (suc m) h = ended (subst Is (graph_ends choices m) h)
 
-both_end : (choices : List ℕ) → BothCome halting stopping choices IsEnded
+both_end : (choices : List ℕ) → BothCome halting Always stopping choices IsEnded
 both_end choices = record { there = λ n h. (1, subst IsEnded (sym (graph_ends choices 0)) (1, refl)); back = back }
   where
     back : (m : ℕ) → IsEnded (grun stopping choices m) → (n : ℕ) × (n ≤ m) × IsEnded (run halting Always choices n)
     back zero h = let h1 : IsEnded StillRunning = subst IsEnded (graph_waits choices) h in absurd (cc h1.1)
     back (suc m) h = (1, omega arith, subst IsEnded (sym (program_ends choices 0)) (1, refl))
 
-both_agree : Agrees halting stopping
+both_agree : Agrees halting Always stopping
 both_agree = record {
   faults = λ choices kind line. neither (IsFaultAt kind line) (λ h. cc h.1) (λ h. cc h.1) choices;
   ends = both_end;
@@ -143,7 +143,7 @@ not_in_that_line zero h = cc h.1
 not_in_that_line (suc zero) h = cc h.1
 not_in_that_line (suc (suc m)) h = cc h.1
 
-refuses_another_line : Agrees failing of_another_line → ⊥
+refuses_another_line : Agrees failing Always of_another_line → ⊥
 refuses_another_line a = let found = (a.faults [] Assertion 4).there 2 (2, fails 0) in not_in_that_line found.0 found.1
 
 -- a graph that ends in place of the error
@@ -154,7 +154,7 @@ it_ends : IsEnded (grun of_an_end [] 2)
 unfolding leaks grun
 it_ends = (2, refl)
 
-refuses_an_end : Agrees failing of_an_end → ⊥
+refuses_an_end : Agrees failing Always of_an_end → ⊥
 refuses_an_end a = let found = (a.ends []).back 2 it_ends in never_ends found.0 found.2
 
 -- a graph that meets the error after one edge, where the program takes two steps
@@ -165,7 +165,7 @@ it_fails : IsFaultAt Assertion 4 (grun too_soon [] 1)
 unfolding leaks grun
 it_fails = (1, refl)
 
-refuses_too_soon : Agrees failing too_soon → ⊥
+refuses_too_soon : Agrees failing Always too_soon → ⊥
 refuses_too_soon a = let found = (a.faults [] Assertion 4).back 1 it_fails in not_in_one found.0 found.1 found.2
 
 -- { d0 = __VERIFIER_nondet_bool(); } needs a choice, and a graph that needs none does not agree
@@ -196,8 +196,8 @@ never_refuses zero h = cc h
 never_refuses (suc zero) h = cc h
 never_refuses (suc (suc m)) h = cc h
 
-refuses_without_wants : Agrees choosing of_no_choice → ⊥
+refuses_without_wants : Agrees choosing Always of_no_choice → ⊥
 refuses_without_wants a = let found = (a.starves []).there 1 (1, wants) in never_wants found.0 found.1
 
-refuses_without_bad_choices : Agrees choosing of_no_choice → ⊥
+refuses_without_bad_choices : Agrees choosing Always of_no_choice → ⊥
 refuses_without_bad_choices a = let found = (a.bad_choices (2 ∷ []) 0).there 1 refuses in never_refuses found.0 found.1

@@ -11,6 +11,7 @@ use Rattle.c_cfg.specs.declared.graph.Instr.{Instr}
 use Rattle.c_cfg.specs.declared.graph.Instr.TheVariants.{CopyPtr, LoadPtr, StoreConst, New, Kill, CopyData, Choose}
 use Rattle.c_cfg.specs.declared.graph.Instr.TheVariants.{Stop}
 use Rattle.c_cfg.specs.declared.graph.Edge.{Edge}
+use Rattle.c_cfg.specs.Graphs.{HasChoiceAsChoose}
 use Rattle.c_cfg.specs.Edges.{Passed, Faulted, Halted, NotPassed}
 use Rattle.c_cfg.specs.Lowering.{edge}
 use Rattle.c_cfg.specs.Fans.{AreOpposed, first_out, second_out, one_fault, IsFan, one_edge, choices, test}
@@ -25,6 +26,9 @@ zero_first = edge 3 0 1 (Choose None) (Some 0) ∷ edge 3 0 2 (Choose None) (Som
 
 a_choice_fans_out : IsFan two zero_first
 a_choice_fans_out = choices (edge 3 0 1 (Choose None) (Some 0)) (edge 3 0 2 (Choose None) (Some 1)) refl refl refl
+
+a_malloc_fans_out : IsFan two (edge 3 0 1 (CopyPtr 0 PtrNull) (Some 0) ∷ edge 3 0 1 (New 0 0) (Some 1) ∷ [])
+a_malloc_fans_out = choices (edge 3 0 1 (CopyPtr 0 PtrNull) (Some 0)) (edge 3 0 1 (New 0 0) (Some 1)) refl refl refl
 
 -- the choice 1 first, one choice alone, two lines
 one_first : IsFan two (edge 3 0 1 (Choose None) (Some 1) ∷ edge 3 0 2 (Choose None) (Some 0) ∷ []) → ⊥
@@ -90,6 +94,38 @@ a_choice_too_high h = let l = h.choice in omega (arith, l)
 
 a_choice_that_is_none : EdgeFits 5 3 two (edge 1 0 1 (Choose (Some 0)) None) → ⊥
 a_choice_that_is_none h = let e = h.has_its_choice in cc
+
+-- the two edges of a `malloc` that may fail have the choices 0 and 1, each its own
+a_new_with_one : EdgeFits 5 3 two (edge 1 0 1 (New 0 1) (Some 1))
+a_new_with_one = record { instr = (omega arith, omega arith); has_its_choice = refl; choice = omega arith }
+
+a_new_with_none : EdgeFits 5 3 two (edge 1 0 1 (New 0 1) None)
+a_new_with_none = record { instr = (omega arith, omega arith); has_its_choice = refl; choice = tt }
+
+a_new_with_zero : EdgeFits 5 3 two (edge 1 0 1 (New 0 1) (Some 0)) → ⊥
+a_new_with_zero h = let e = h.has_its_choice in cc
+
+a_null_with_zero : EdgeFits 5 3 two (edge 1 0 1 (CopyPtr 4 PtrNull) (Some 0))
+a_null_with_zero = record { instr = (omega arith, tt); has_its_choice = refl; choice = omega arith }
+
+a_null_with_none : EdgeFits 5 3 two (edge 1 0 1 (CopyPtr 4 PtrNull) None)
+a_null_with_none = record { instr = (omega arith, tt); has_its_choice = refl; choice = tt }
+
+a_null_with_one : EdgeFits 5 3 two (edge 1 0 1 (CopyPtr 4 PtrNull) (Some 1)) → ⊥
+a_null_with_one h = let e = h.has_its_choice in cc
+
+a_copy_with_zero : EdgeFits 5 3 two (edge 1 0 1 (CopyPtr 4 (PtrVar 3)) (Some 0)) → ⊥
+a_copy_with_zero h = let e = h.has_its_choice in cc
+
+-- where each `malloc` gives a cell a choice stands exactly at a Choose
+a_choose_as_choose : HasChoiceAsChoose (edge 1 0 1 (Choose None) (Some 1))
+a_choose_as_choose = refl
+
+a_new_as_choose : HasChoiceAsChoose (edge 1 0 1 (New 0 1) (Some 1)) → ⊥
+a_new_as_choose e = cc
+
+a_choose_without_a_choice : HasChoiceAsChoose (edge 1 0 1 (Choose None) None) → ⊥
+a_choose_without_a_choice e = cc
 
 a_stop_with_a_choice : EdgeFits 5 3 two (edge 1 0 1 (Stop true) (Some 0)) → ⊥
 a_stop_with_a_choice h = let e = h.has_its_choice in cc

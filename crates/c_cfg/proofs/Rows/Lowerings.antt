@@ -7,6 +7,7 @@ use Rattle.std.specs.Prelude.{slice_index_or}
 use Rattle.std.proofs.lemmas.Bool.{and_parts}
 use Rattle.fore_base.specs.Lists.{IsDistinct}
 use Rattle.fore_base.proofs.ListLemmas.{in_number}
+use Rattle.c_types.specs.declared.mode.MallocMode.TheVariants.{Always}
 use Rattle.c_types.specs.declared.program.DataPath.TheVariants.{Var as DataVar, Field as DataField}
 use Rattle.c_types.specs.declared.program.PtrRhs.TheVariants.{New as RhsNew}
 use Rattle.c_types.specs.declared.program.DataRhs.TheVariants.{Choice as DataRhsChoice}
@@ -33,7 +34,7 @@ use Rattle.c_cfg.specs.Lowering.{LowerOf, is_one_of}
 use Rattle.c_cfg.proofs.Rows.Forms.{graph, main, goes, takes, var, arrow}
 
 -- the location of an opened list where marks are locations
-abbrev located : ℕ → Items → ℕ
+abbrev pub located : ℕ → Items → ℕ
 located exit Done = exit
 located exit (Do a m is) = m
 located exit (Close ps ds m is) = m
@@ -48,7 +49,7 @@ abbrev all_differ : List ℕ → Bool
 all_differ [] = true
 all_differ (n ∷ ns) = not (is_one_of ns n) && all_differ ns
 
-differ : (ns : List ℕ) → all_differ ns ≡ true → IsDistinct ns
+pub differ : (ns : List ℕ) → all_differ ns ≡ true → IsDistinct ns
 differ [] e = tt
 differ (n ∷ ns) e = let both = and_parts (not (is_one_of ns n)) (all_differ ns) e in
     (λ h. clash (is_one_of ns n) (in_number n ns h) both.0, differ ns both.1)
@@ -97,7 +98,7 @@ breaking_line m = slice_index_or (1 ∷ 1 ∷ 1 ∷ 1 ∷ 2 ∷ 2 ∷ 2 ∷ 3 �
 breaking_is : remark breaking_line breaking_items ≡ start_of breaking
 breaking_is = simp layers refl
 
-breaking_lowers : LowerOf breaking breaking_graph
+breaking_lowers : LowerOf breaking Always breaking_graph
 breaking_lowers = record {
   items = breaking_items;
   line = breaking_line;
@@ -209,7 +210,7 @@ going_on_is = simp layers refl
 abbrev one : ℕ → List ℕ
 one to = to ∷ []
 
-going_on_lowers : LowerOf going_on going_on_graph
+going_on_lowers : LowerOf going_on Always going_on_graph
 going_on_lowers = record {
   items = going_on_items;
   line = going_on_line;
@@ -302,7 +303,7 @@ sharing_line m = slice_index_or (2 ∷ 2 ∷ 2 ∷ 2 ∷ 2 ∷ 2 ∷ 2 ∷ 2 ∷
 sharing_is : remark sharing_line sharing_items ≡ start_of sharing
 sharing_is = simp layers refl
 
-sharing_lowers : LowerOf sharing sharing_graph
+sharing_lowers : LowerOf sharing Always sharing_graph
 sharing_lowers = record {
   items = sharing_items;
   line = sharing_line;

@@ -24,7 +24,7 @@ use Rattle.sym_core.specs.Kept.{Comes}
 use Rattle.fix_core.specs.Explorations.{IsNode, IsEdge, IsChild, IsCared, IsCalm, EdgeDone}
 use Rattle.fix_core.specs.Explorations.{CalmUpTo, Done}
 use Rattle.fix_core.specs.Explorations.{IsFirst, FollowsEarlier, Exploration}
-use Rattle.fix_core.specs.Follows.{IsMember, passed_by, Settles, IsCase, Arrives}
+use Rattle.fix_core.specs.Follows.{HasItsVars, IsMember, passed_by, Settles, IsCase, Arrives}
 use Rattle.fix_core.specs.declared.nodes.Node.{Node}
 use Rattle.fix_core.proofs.ExplorationRows.Bare.{table, bare, holding, as_it_is, from_case, entry, reached, edge}
 use Rattle.fix_core.proofs.ExplorationRows.Bare.{graph_of, alike_null}
@@ -195,6 +195,7 @@ arrives_1 = record {
   canonical = null_canonical;
   reduced = tt;
   vars = record { vars = refl; data_vars = refl };
+  middle_vars = λ M is. absurd (none-some M is);
 }
 
 arrives_2 : Arrives table graph true 1 (bare Null) e2 n2.state
@@ -205,6 +206,8 @@ arrives_2 = record {
   canonical = null_canonical;
   reduced = tt;
   vars = record { vars = refl; data_vars = refl };
+  middle_vars =
+      λ M is. subst (HasItsVars graph) (same_Some (bare Null) M is) (record { vars = refl; data_vars = refl });
 }
 
 follow : (j : ℕ) (n : Node) → 0 < j → IsNode nodes j n → FollowsEarlier table graph 1 nodes j n

@@ -2,7 +2,7 @@
 use Rattle.std.specs.Prelude.{◌≡◌, ◌≤◌, ◌⊎◌, ⊤, ℕ, List, []}
 use Rattle.fore_base.specs.declared.named_files.NamedFile.{NamedFile}
 use Rattle.fore_base.specs.declared.shape.Shapes.{Shapes}
-use Rattle.c_types.specs.declared.mode.MallocMode.TheVariants.{Always}
+use Rattle.c_types.specs.declared.mode.MallocMode.{MallocMode}
 use Rattle.c_types.specs.Program.{Program}
 use Rattle.c_types.specs.Runs.{run}
 use Rattle.fore_read.specs.Readings.{Reading, AreReadings, HasFailed}
@@ -12,17 +12,18 @@ use Rattle.fore_read.specs.Files.{AreRefusedBoxes}
 use Rattle.fore_report.specs.Reports.{IsReport}
 use Rattle.fore_words.specs.declared.asked.Settings.{Settings}
 use Rattle.fore_words.specs.declared.asked.Asked.{Asked}
-use Rattle.fore_words.specs.declared.asked.TheConstants.{MOST_HEIGHT}
+use Rattle.fore_words.specs.declared.asked.TheConstants.{MOST_HEIGHT, MOST_JOBS}
 use Rattle.fore_words.specs.Words.{IsUpTo}
 use Rattle.fore_call.specs.declared.answer.Answer.{Answer}
 use Rattle.fore_call.specs.declared.answer.Answer.TheVariants.{Verified, Ran, Usage, Refused, ReadFault, NoMemory}
 use Rattle.fore_call.specs.Names.{LetsRead}
 use Rattle.fore_call.specs.Verdict.{no_boxes, AreUnused}
 
--- the height and the budget are in their ranges
+-- the height, the budget and the jobs are in their ranges
 pub record SettingsFit (settings : Settings) : Type 0 where
   pub height : IsUpTo MOST_HEIGHT settings.height
   pub budget : 1 ≤ settings.budget
+  pub jobs : IsUpTo MOST_JOBS settings.jobs
 
 -- what `verify` answers of a program
 abbrev pub IsVerdict : Program → Settings → Answer → Type 0
@@ -33,14 +34,14 @@ IsVerdict p settings (Refused why) = ⊥
 IsVerdict p settings ReadFault = ⊥
 IsVerdict p settings NoMemory = ⊤
 
--- what `run` answers of a program
-abbrev pub IsRunOf : Program → List ℕ → ℕ → Answer → Type 0
-IsRunOf p choices steps (Verified verdict text) = ⊥
-IsRunOf p choices steps (Ran outcome) = outcome ≡ run p Always choices steps
-IsRunOf p choices steps Usage = ⊥
-IsRunOf p choices steps (Refused why) = ⊥
-IsRunOf p choices steps ReadFault = ⊥
-IsRunOf p choices steps NoMemory = ⊤
+-- what `run` answers of a program, whose `malloc` answers by the mode
+abbrev pub IsRunOf : Program → MallocMode → List ℕ → ℕ → Answer → Type 0
+IsRunOf p malloc choices steps (Verified verdict text) = ⊥
+IsRunOf p malloc choices steps (Ran outcome) = outcome ≡ run p malloc choices steps
+IsRunOf p malloc choices steps Usage = ⊥
+IsRunOf p malloc choices steps (Refused why) = ⊥
+IsRunOf p malloc choices steps ReadFault = ⊥
+IsRunOf p malloc choices steps NoMemory = ⊤
 
 -- what is answered where a file is not taken
 abbrev pub answer_to : Fault → Answer

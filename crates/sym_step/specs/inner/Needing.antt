@@ -36,3 +36,9 @@ abbrev pub AreNeeds : Instr → Needed → Type 0
 AreNeeds i Nothing = (b f : ℕ) → base_of i ≡ Some b → Needs i f → ⊥
 AreNeeds i (Field b f) = (c g : ℕ) → base_of i ≡ Some c → Needs i g → (c ≡ b) × (g ≡ f)
 AreNeeds i (Cell b) = (i ≡ Free b) × ((c : ℕ) → base_of i ≡ Some c → c ≡ b)
+
+-- the one field is needed
+abbrev pub HasNeeds : Instr → Needed → Type 0
+HasNeeds i Nothing = Unit {0}
+HasNeeds i (Field b f) = (base_of i ≡ Some b) × Needs i f
+HasNeeds i (Cell b) = Unit {0}

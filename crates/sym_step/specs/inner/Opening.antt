@@ -3,6 +3,8 @@ use Rattle.std.specs.Prelude.{◌≡◌, ◌<◌, ℕ, nat_eq, if◌then◌else�
 use Rattle.fore_base.specs.Lists.{Every}
 use Rattle.fore_base.specs.declared.fault.Fault.TheVariants.{Leak}
 use Rattle.ta_core.specs.Single.{HasOneTop}
+use Rattle.fa_core.specs.Boxes.{IsTableOf}
+use Rattle.fa_core.specs.declared.boxes.BoxDef.{BoxDef}
 use Rattle.fa_core.specs.declared.faces.Face.{Face}
 use Rattle.fa_core.specs.declared.forest.Forest.{Forest}
 use Rattle.fa_core.specs.declared.forest.Target.{Target}
@@ -18,7 +20,7 @@ use Rattle.sym_core.specs.Explicit.{target_at}
 use Rattle.sym_step.specs.Posts.{bads}
 use Rattle.sym_step.specs.declared.opening.Opened.{Opened}
 use Rattle.sym_step.specs.declared.posts.Bad.{Bad}
-use Rattle.sym_step.specs.inner.Stepping.{IsStepping, IsLike}
+use Rattle.sym_step.specs.inner.Stepping.{IsSteppingBy, IsLike}
 
 -- the edge frees the cell at root r
 abbrev pub IsFreeAt : Forest → Edge → ℕ → Type 0
@@ -38,15 +40,24 @@ pub record IsShown (F : Forest) (r p : ℕ) (G : Forest) : Type 0 where
   pub wide : width G r ≡ width F r
   pub leaves : (k : ℕ) → k < p → (t : Target) × IsLeafPlace G r k t
 
--- F is split into forests that are to do, into those made, which meet P, and into those of faults
-pub record IsOpening (face : Face) (F : Forest) (e : Edge) (P : Forest → Type 0) (todo made : List SoundForest)
-    (faults : List Bad) : Type 0 where
-  pub stepping : IsStepping face F e (forests todo ++ forests made) [] (bads faults)
+-- F is split into forests that are to do, into those made, which meet P, and into those of faults; by each list of
+-- boxes that meets Q
+pub record IsOpeningBy (Q : List BoxDef → Type 0) (face : Face) (F : Forest) (e : Edge) (P : Forest → Type 0)
+    (todo made : List SoundForest) (faults : List Bad) : Type 0 where
+  pub stepping : IsSteppingBy Q face F e (forests todo ++ forests made) [] (bads faults)
   pub ready : Every P (forests made)
   pub like : Every (IsLike face F) made
   pub bad_like : Every (λ b. IsLike face F b.at) faults
 
 -- F is split into forests that meet P, and into those of faults
+abbrev pub OpensBy : (List BoxDef → Type 0) → Face → Forest → Edge → (Forest → Type 0) → Opened → Type 0
+OpensBy Q face F e P o = IsOpeningBy Q face F e P [] o.ready o.faults
+
+-- so it is by each table over the face
+abbrev pub IsOpening : Face → Forest → Edge → (Forest → Type 0) → List SoundForest → List SoundForest → List Bad
+    → Type 0
+IsOpening face F e P todo made faults = IsOpeningBy (IsTableOf face) face F e P todo made faults
+
 abbrev pub Opens : Face → Forest → Edge → (Forest → Type 0) → Opened → Type 0
 Opens face F e P o = IsOpening face F e P [] o.ready o.faults
 

@@ -7,8 +7,9 @@ use Rattle.fa_core.specs.declared.boxes.BoxDef.{BoxDef}
 use Rattle.fa_core.specs.declared.forest.Target.{Target}
 use Rattle.fa_sound.specs.Soundness.{SoundForest}
 use Rattle.fa_edit.specs.Data.{AllLackDatum, IsDatumPut}
-use Rattle.fa_edit.specs.Fits.{LeafFits}
-use Rattle.fa_edit.specs.Leaves.{AllLackField, IsPut}
+use Rattle.fa_edit.specs.Fits.{LeafFits, shape_at}
+use Rattle.fa_edit.specs.Leaves.{IsPut}
+use Rattle.fa_edit.specs.Plain.{StructLacks}
 use Rattle.c_types.specs.Steps.{agrees}
 use Rattle.c_cfg.specs.declared.graph.Instr.{Instr}
 use Rattle.sym_transfer.specs.Edited.{Becomes}
@@ -20,11 +21,11 @@ module _ (F : SoundForest) where
   abbrev pub IsMadeBy : Instr → Edited → Type 0
   IsMadeBy i made = (T : List BoxDef) → IsTableOf F.face T → (x : ℕ) → Becomes F.face T F.forest i x made
 
-  -- the leaf t comes into field f of root r; it does not, where the root has no such field or the leaf may not stand
-  -- there
+  -- the leaf t comes into field f of root r; it does not, where the root's struct has no such field or the leaf may not
+  -- stand there
   abbrev pub IsLeafStored : ℕ → ℕ → Target → Edited → Type 0
   IsLeafStored r f t (Fault k) = ⊥
-  IsLeafStored r f t Stays = ((T : List BoxDef) → AllLackField T F.forest r f)
+  IsLeafStored r f t Stays = StructLacks F.face.shapes.structs (shape_at F.forest r) f
       ⊎ (LeafFits F.face.shapes.structs F.forest r f t → ⊥)
   IsLeafStored r f t (Goes R) = LeafFits F.face.shapes.structs F.forest r f t
       × ((T : List BoxDef) → (old : Target) × IsPut T F.forest R.forest r f old t)

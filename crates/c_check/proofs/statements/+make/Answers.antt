@@ -1,4 +1,5 @@
 use Rattle.std.proofs.Common.{◌≡◌, ◌+◌, ◌++◌, List, [], ◌∷◌, OnOk, drop, sym, ap, subst, ◌∙◌, append_assoc}
+use Rattle.std.proofs.lemmas.Result.{IfOk-at_ok}
 use Rattle.c_ast.specs.declared.statements.Block.{out-Block}
 use Rattle.c_types.specs.declared.program.Stmt.{Stmt}
 use Rattle.c_types.specs.declared.program.Stmt.TheVariants.{Branch, While, DoWhile}
@@ -98,14 +99,13 @@ stmt_stmts-returns-in_ok-stmts-in-If-clause-stmts t c =
     let g = c.args.tables.now in
     let scope = c.args.scope.now in
     let inner = c.in-If.then in
-    let yes_as : c.in_ok-yes-in-If.yes ≡ stmt_stmts g inner scope = c.in_ok-yes-in-If.ensures.stmts
-    ∙ ap (λ s. stmt_stmts g s scope) c.get-in-If.ensures in
-    let past_as : c.stmt_stmts.new.scope ≡ past_stmt g inner scope = c.in_ok-yes-in-If.ensures.past
-    ∙ ap (λ s. past_stmt g s scope) c.get-in-If.ensures in
+    let yes_as : c.in_ok-cond-in-If.yes ≡ stmt_stmts g inner scope = c.in_ok-cond-in-If.ensures.parts.1 in
+    let past_as : c.headed.new.scope ≡ past_stmt g inner scope =
+    c.in_ok-cond-in-If.ensures.past in
     let no_as : c.in_ok-no-in-If.no ≡ other_stmts g c.in-If.other (past_stmt g inner scope) =
     c.in_ok-no-in-If.ensures.stmts ∙ ap (other_stmts g c.in-If.other) past_as in
     c.in_ok-stmts-in-If.ensures
-    ∙ ap (λ x. Branch x c.in_ok-yes-in-If.yes c.in_ok-no-in-If.no ∷ []) c.in_ok-cond-in-If.ensures
+    ∙ ap (λ x. Branch x c.in_ok-cond-in-If.yes c.in_ok-no-in-If.no ∷ []) c.in_ok-cond-in-If.ensures.parts.0
     ∙ ap (λ x. Branch (cond_of g scope c.in-If.cond) x c.in_ok-no-in-If.no ∷ []) yes_as
     ∙ ap (λ x. Branch (cond_of g scope c.in-If.cond) (stmt_stmts g inner scope) x ∷ []) no_as
     ∙ sym (ap (λ s. stmt_stmts g s scope) c.in-If.is ∙ made-If-stmt g c.in-If.at c.in-If.cond inner c.in-If.other scope)
@@ -115,9 +115,9 @@ stmt_stmts-returns-in_ok-stmts-in-While-clause-stmts t c =
     let g = c.args.tables.now in
     let scope = c.args.scope.now in
     c.in_ok-stmts-in-While.ensures
-    ∙ ap (λ x. While x c.in_ok-body-in-While.body ∷ []) c.in_ok-cond-in-While.ensures
+    ∙ ap (λ x. While x c.in_ok-cond-in-While.body ∷ []) c.in_ok-cond-in-While.ensures.parts.0
     ∙ ap (λ x. While (cond_of g scope c.in-While.cond) x ∷ [])
-    (c.in_ok-body-in-While.ensures.stmts ∙ ap (λ s. stmt_stmts g s scope) c.get-in-While.ensures)
+    c.in_ok-cond-in-While.ensures.parts.1
     ∙ sym (ap (λ s. stmt_stmts g s scope) c.in-While.is
     ∙ made-While-stmt g c.in-While.at c.in-While.cond c.in-While.body scope)
 
@@ -126,9 +126,9 @@ stmt_stmts-returns-in_ok-stmts-in-Do-clause-stmts t c =
     let g = c.args.tables.now in
     let scope = c.args.scope.now in
     c.in_ok-stmts-in-Do.ensures
-    ∙ ap (λ x. DoWhile x c.in_ok-body-in-Do.body ∷ []) c.in_ok-cond-in-Do.ensures
+    ∙ ap (λ x. DoWhile x c.in_ok-cond-in-Do.body ∷ []) c.in_ok-cond-in-Do.ensures.parts.0
     ∙ ap (λ x. DoWhile (cond_of g scope c.in-Do.cond) x ∷ [])
-    (c.in_ok-body-in-Do.ensures.stmts ∙ ap (λ s. stmt_stmts g s scope) c.get-in-Do.ensures)
+    c.in_ok-cond-in-Do.ensures.parts.1
     ∙ sym (ap (λ s. stmt_stmts g s scope) c.in-Do.is ∙ made-Do-stmt g c.in-Do.at c.in-Do.body c.in-Do.cond scope)
 
 pub stmt_stmts-returns-in-For-clause-past : goal.stmt_stmts-returns-in-For-clause-past
@@ -180,6 +180,29 @@ stmt_stmts-returns-in-Assert-clause-stmts t c =
     made_as c.assert_stmts.result _ _
     (ap (λ s. stmt_stmts g s c.args.scope.now) c.in-Assert.is
     ∙ made-Assert-stmt g c.in-Assert.at c.in-Assert.cond c.args.scope.now) c.assert_stmts.ensures
+
+pub headed-returns-clause-past : goal.headed-returns-clause-past
+headed-returns-clause-past t c =
+    let g = c.args.tables.now in
+    let scope = c.args.scope.now in
+    subst (λ r. OnOk r (c.stmt_stmts.new.scope ≡ past_stmt g c.get.result.now scope)) c.in_ok-cond-2.ensures.ok.1
+    c.stmt_stmts.ensures.past
+    ∙ ap (λ s. past_stmt g s scope) c.get.ensures
+
+pub headed-returns-clause-blocks : goal.headed-returns-clause-blocks
+headed-returns-clause-blocks t c =
+    subst (λ r. OnOk r (c.stmt_stmts.new.scope.blocks ≡ c.args.scope.now.blocks)) c.in_ok-cond-2.ensures.ok.1
+    c.stmt_stmts.ensures.blocks
+
+pub headed-returns-clause-parts : goal.headed-returns-clause-parts
+headed-returns-clause-parts t c =
+    let g = c.args.tables.now in
+    let scope = c.args.scope.now in (
+      c.in_ok-cond-2.ensures.ok.0 ∙ c.in_ok-cond.ensures,
+      IfOk-at_ok (λ stmts. stmts ≡ stmt_stmts g c.get.result.now scope) c.in_ok-cond-2.ensures.ok.1
+          c.stmt_stmts.ensures.stmts
+          ∙ ap (λ s. stmt_stmts g s scope) c.get.ensures,
+    )
 
 pub for_stmts-returns-clause-past : goal.for_stmts-returns-clause-past
 for_stmts-returns-clause-past t c =

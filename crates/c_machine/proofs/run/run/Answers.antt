@@ -1,62 +1,28 @@
-use Rattle.std.proofs.Common.{◌≡◌, ◌+◌, ◌-◌, ℕ, suc, List, drop, length, refl, sym, ap, ◌∙◌, arith}
+use Rattle.std.proofs.Common.{◌≡◌, length, refl, sym, ap, ◌∙◌}
+use Rattle.std.proofs.lemmas.Result.{IfOk-weaker}
 use Rattle.fore_base.specs.declared.store.Store.{Store}
-use Rattle.fore_base.specs.declared.shape.Shape.{Shape}
-use Rattle.c_types.specs.Program.{Program}
 use Rattle.c_types.specs.Control.{opened, start_of}
-use Rattle.c_types.specs.Runs.{empty_store}
+use Rattle.c_types.specs.Program.{Program}
+use Rattle.c_types.specs.Runs.{empty_store, run}
 use Rattle.c_machine.specs.Machines.{program_of, mode_of, todo, store_of}
 use Rattle.c_machine.specs.inner.Going.{going}
 use Rattle.c_machine.proofs.Goings.{run_going, same_going}
 use Rattle.c_machine.proofs.run.run.Goals as goal
 
-pub loop-step-init : goal.loop-step-init
-loop-step-init c =
+pub run_on-requires-clause-next : goal.run_on-requires-clause-next
+run_on-requires-clause-next c = ap (λ (t : Store). t.next) c.in_ok-machine.ensures.store
+
+pub returns : goal.returns
+returns c =
     let p = c.args.program.now in
     let cs = c.args.choices.now in
+    let n = c.args.limit in
     let m = c.in_ok-machine.machine in
-    let s : Store = empty_store (length p.vars) (length p.data_vars) in
-    let first : (store_of m).next ≡ 1 = ap (λ (t : Store). t.next) c.in_ok-machine.ensures.store in
-    record {
-      goes = run_going p c.args.mode cs c.args.limit
-          ∙ same_going p.shapes.structs p.shapes.structs c.args.mode c.args.mode c.args.limit (c.args.limit - 0) 0
-          (opened (start_of p)) (todo m) s (store_of m) cs 0 refl refl (omega arith) (sym c.in_ok-machine.ensures.items)
-          (sym c.in_ok-machine.ensures.store);
-      over = c.in_ok-machine.ensures.over;
-      program = c.in_ok-machine.ensures.program;
-      mode = c.in_ok-machine.ensures.mode;
-      next = omega (arith, first);
-      used = omega arith;
-    }
-
-pub loop-step-preserved : goal.loop-step-preserved
-loop-step-preserved c =
-    let p = c.args.program.now in
-    let m = c.loop-step.machine in
-    let ready = c.reserve.new.self in
-    let after = c.take_one.new.machine in
-    let step = c.loop-step.step in
-    let left : ℕ = c.args.limit - (step + 1) in
-    let number : c.args.limit - step ≡ suc left = omega arith in
-    let shapes : (program_of ready).shapes.structs ≡ p.shapes.structs =
-    ap (λ (q : Program). q.shapes.structs) (c.reserve.ensures.program ∙ c.loop-step.invariant.program) in
-    let mode : mode_of ready ≡ c.args.mode = c.reserve.ensures.mode ∙ c.loop-step.invariant.mode in
-    let reserved : (store_of ready).next ≡ (store_of m).next = ap (λ (t : Store). t.next) c.reserve.ensures.store in
-    record {
-      goes = c.loop-step.invariant.goes
-          ∙ same_going p.shapes.structs (program_of ready).shapes.structs c.args.mode (mode_of ready)
-          (c.args.limit - step) (suc left) step (todo m) (todo ready) (store_of m) (store_of ready)
-          (drop c.loop-step.used c.args.choices.now) c.loop-step.used
-          (sym shapes) (sym mode) number (sym c.reserve.ensures.items) (sym c.reserve.ensures.store)
-          ∙ c.in-Ok.ensures.goes left
-          ∙ ap (λ (ss : List Shape).
-          going ss (mode_of ready) left (step + 1) (todo after) (store_of after)
-          (drop c.take_one.new.used c.args.choices.now) c.take_one.new.used) shapes
-          ∙ ap (λ m'.
-          going p.shapes.structs m' left (step + 1) (todo after) (store_of after)
-          (drop c.take_one.new.used c.args.choices.now) c.take_one.new.used) mode;
-      over = c.in-Ok.ensures.over;
-      program = c.take_one.ensures.program ∙ c.reserve.ensures.program ∙ c.loop-step.invariant.program;
-      mode = c.take_one.ensures.mode ∙ mode;
-      next = omega (arith, c.take_one.ensures.next, reserved, c.loop-step.invariant.next);
-      used = c.take_one.ensures.used;
-    }
+    let begun : run p c.args.mode cs n
+    ≡ going (program_of m).shapes.structs (mode_of m) n 0 (todo m) (store_of m) cs 0 =
+    run_going p c.args.mode cs n
+    ∙ same_going p.shapes.structs (program_of m).shapes.structs c.args.mode (mode_of m) n n 0 (opened (start_of p))
+    (todo m) (empty_store (length p.vars) (length p.data_vars)) (store_of m) cs 0
+    (sym (ap (λ (q : Program). q.shapes.structs) c.in_ok-machine.ensures.program))
+    (sym c.in_ok-machine.ensures.mode) refl (sym c.in_ok-machine.ensures.items) (sym c.in_ok-machine.ensures.store) in
+    IfOk-weaker c.run_on.result _ _ (λ _ e. e ∙ sym begun) c.run_on.ensures

@@ -1,4 +1,4 @@
-use Rattle.std.proofs.Common.{refl, ap, ◌∷◌}
+use Rattle.std.proofs.Common.{refl, ap, ◌∷◌, ◌++◌, ◌∙◌}
 use Rattle.c_ast.specs.declared.items.Item.TheVariants as item'
 use Rattle.c_grammar.specs.Items as i
 use Rattle.c_grammar.specs.Syntax as s
@@ -82,8 +82,16 @@ returns-in_err-values-clause-err c =
     (Stops (read_enum_body c.args.at c.args.shape) c.args.bounds.now c.args.left.now) _
     c.from_residual-in_err-values.ensures.1 no_memory
 
+pub returns-in_err-append-clause-err : goal.returns-in_err-append-clause-err
+returns-in_err-append-clause-err c =
+    passed c.from_residual-in_err-append.result
+    (Stops (read_enum_body c.args.at c.args.shape) c.args.bounds.now c.args.left.now) _
+    c.from_residual-in_err-append.ensures.1 no_memory
+
 pub returns-clause-ok : goal.returns-clause-ok
-returns-clause-ok c = takes_as _ (ap (λ l. item'.Enum c.args.at c.args.shape l) c.in_ok-values.ensures)
+returns-clause-ok c = takes_as _
+    (ap (λ l. item'.Enum c.args.at c.args.shape l)
+    (c.in_ok-append.ensures.ok ∙ ap (λ l. l ++ c.in_ok-later.later) c.in_ok-values.ensures))
     (takes_as _
     (ap (λ l. item'.Enum c.args.at c.args.shape (c.in_ok-first.first ∷ l))
     (takes_unmade good_written s.first c.in_ok-later.ensures.ok).1)

@@ -1,4 +1,4 @@
-use Rattle.std.proofs.Common.{refl, ap, inr}
+use Rattle.std.proofs.Common.{◌++◌, ◌∙◌, refl, ap, inr}
 use Rattle.c_ast.specs.declared.items.Item.TheVariants as item'
 use Rattle.c_ast.specs.declared.statements.Declare.TheVariants as declare'
 use Rattle.c_grammar.specs.declared.signs.Sign.TheVariants as sign
@@ -61,9 +61,16 @@ returns-in_err-vars-clause-err c =
     (Stops (read_declared_pointers c.args.at c.args.shape c.args.name) c.args.bounds.now c.args.left.now) _
     c.from_residual-in_err-vars.ensures.1 no_memory
 
+pub returns-in_err-append-clause-err : goal.returns-in_err-append-clause-err
+returns-in_err-append-clause-err c =
+    passed c.from_residual-in_err-append.result
+    (Stops (read_declared_pointers c.args.at c.args.shape c.args.name) c.args.bounds.now c.args.left.now) _
+    c.from_residual-in_err-append.ensures.1 no_memory
+
 pub returns-clause-ok : goal.returns-clause-ok
 returns-clause-ok c = takes_as _
-    (ap (λ l. item'.Declare (declare'.Pointers c.args.at c.args.shape l)) c.in_ok-vars.ensures)
+    (ap (λ l. item'.Declare (declare'.Pointers c.args.at c.args.shape l))
+    (c.in_ok-append.ensures.ok ∙ ap (λ l. l ++ c.in_ok-more.more) c.in_ok-vars.ensures))
     (widen_takes _ _ refl refl
     (takes_made (λ (r : Declared). pointer_item c.args.at c.args.shape c.args.name (inr r))
     (pair good_maybe_from (good_pair good_more_pointers (good_one sign.Semicolon) refl) refl c.in_ok-from.ensures.ok

@@ -1,7 +1,7 @@
 use Rattle.std.proofs.Common.{sym, subst}
 use Rattle.ta_core.specs.Auto.{Automaton}
 use Rattle.fa_core.specs.Folding.{IsLanguageOf, moved_tree, position}
-use Rattle.fa_fold.proofs.Moving.{moved_language}
+use Rattle.fa_folding.proofs.Moving.{moved_language}
 use Rattle.fa_fold.proofs.components.inner_component.Goals as goal
 
 pub returns : goal.returns

@@ -5,15 +5,16 @@ use Rattle.ta_core.specs.Auto.{Automaton, IsRanked}
 use Rattle.ta_core.specs.Language.{InLanguage}
 use Rattle.fa_core.specs.Folding.{is_one_of}
 use Rattle.fa_sound.specs.Components.{component_at}
+use Rattle.fa_sound.proofs.ComponentLemmas.{component_got}
 use Rattle.fa_fold.specs.inner.Edges.{top_edges}
 use Rattle.fa_fold.specs.inner.Referring.{AreEdgeRefs, AreTakenRefs}
-use Rattle.fa_fold.proofs.EdgeRefs.{own_item, edge_states, taken_thin}
+use Rattle.fa_fold.proofs.EdgeRefs.{edge_states, taken_thin}
 use Rattle.fa_fold.proofs.referring.taken_refs.Goals as goal
 
 pub states_refs-requires : goal.states_refs-requires
 states_refs-requires c =
     let autos = c.args.forest.now.forest.autos in
-    let here = own_item autos c.args.root c.requires.root in
+    let here = component_got autos c.args.root c.requires.root in
     let o = slice_get autos c.args.root in
     let own = c.component-auto.ensures in
     rw (c.as_slice-2.ensures, c.in_ok-states.ensures, c.as_slice.ensures, c.in_ok-edges.ensures, own, c.forest.ensures)
@@ -23,7 +24,7 @@ states_refs-requires c =
 pub returns : goal.returns
 returns c =
     let autos = c.args.forest.now.forest.autos in
-    let here = own_item autos c.args.root c.requires.root in
+    let here = component_got autos c.args.root c.requires.root in
     let o = slice_get autos c.args.root in
     let fs = c.args.fields.now in
     let own = component_at autos c.args.root in

@@ -1,8 +1,9 @@
-use Rattle.fa_merge.proofs.Members.{has_member, not_both_of}
+use Rattle.fa_sample.proofs.Sampled.{has_member}
+use Rattle.fa_merge.proofs.Members.{not_both}
 use Rattle.fa_merge.proofs.laws.sound_forests_have_members.Goals as goal
 
 pub returns-clause-members : goal.returns-clause-members
-returns-clause-members c = λ face F sound ranked plain T t. has_member face F sound ranked plain T
+returns-clause-members c = λ face F sound ranked T t insides. has_member face T F t insides sound ranked
 
 pub returns-clause-one : goal.returns-clause-one
-returns-clause-one c = λ face T F t sound ranked plain. not_both_of face F sound ranked plain T t
+returns-clause-one c = λ face T F t insides sound ranked. not_both face F sound ranked T t insides

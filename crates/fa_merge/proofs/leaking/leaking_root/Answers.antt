@@ -14,9 +14,9 @@ returns-clause-leaks c = leaks_found _ _ c.in_ok-marks.marks c.in_ok-marks.ensur
     (rw c.as_slice.ensures at c.first_unmarked.ensures)
 
 pub returns-clause-exact : goal.returns-clause-exact
-returns-clause-exact c = λ plain.
+returns-clause-exact c =
     let F = c.args.forest.now.forest in
     let ranked : Every IsRanked F.autos = c.known.ensures.ranked in
-    exact_of c.args.forest.now.face F c.known.ensures.sound ranked plain c.first_unmarked.result
+    exact_of c.args.forest.now.face F c.known.ensures.sound ranked c.first_unmarked.result
     (leaks_found _ _ c.in_ok-marks.marks c.in_ok-marks.ensures.marks c.known.ensures.sound.well_formed.filled
     c.first_unmarked.result (rw c.as_slice.ensures at c.first_unmarked.ensures))

@@ -12,8 +12,9 @@ replay_steps-steps-requires c =
     let x = subst (IsExplored c.args.table.now c.args.graph.now c.args.height c.args.budget) c.in-Faulty.is
     c.requires.explored in
     let short : c.in-Faulty.trace.steps ≤ length c.in-Faulty.nodes =
-    trace_short c.args.table.now c.args.program.now c.args.graph.now (c.graphs_agree.ensures c.requires.lowered)
-    c.requires.shapes c.args.height c.in-Faulty.nodes c.in-Faulty.trace x.0 x.1 in
+    trace_short c.args.table.now c.args.program.now c.args.mode c.args.graph.now
+    (c.graphs_agree.ensures c.requires.lowered) c.requires.shapes c.args.height c.in-Faulty.nodes c.in-Faulty.trace
+    x.0 x.1 in
     omega (arith, short, x.2, c.ranges.budget)
 
 pub judge_trace-requires-clause-plain : goal.judge_trace-requires-clause-plain
@@ -25,10 +26,11 @@ judge_trace-requires-clause-plain c =
 
 pub returns-in-Closed-clause-verdict : goal.returns-in-Closed-clause-verdict
 returns-in-Closed-clause-verdict c =
-    subst (λ z. IsVerdict c.args.table.now c.args.program.now c.args.graph.now c.args.height c.args.budget z Safe)
+    subst
+    (λ z. IsVerdict c.args.table.now c.args.program.now c.args.mode c.args.graph.now c.args.height c.args.budget z Safe)
     (sym c.in-Closed.is)
-    (safe_means c.args.table.now c.args.program.now c.args.graph.now (c.graphs_agree.ensures c.requires.lowered)
-    c.requires.shapes c.args.height c.args.budget c.in-Closed.nodes
+    (safe_means c.args.table.now c.args.program.now c.args.mode c.args.graph.now
+    (c.graphs_agree.ensures c.requires.lowered) c.requires.shapes c.args.height c.args.budget c.in-Closed.nodes
     (subst (IsExplored c.args.table.now c.args.graph.now c.args.height c.args.budget) c.in-Closed.is
     c.requires.explored))
 
@@ -36,10 +38,11 @@ pub returns-in-Faulty-clause-verdict : goal.returns-in-Faulty-clause-verdict
 returns-in-Faulty-clause-verdict c =
     let T = c.args.table.now in
     let p = c.args.program.now in
+    let m = c.args.mode in
     let g = c.args.graph.now in
     let x = subst (IsExplored T g c.args.height c.args.budget) c.in-Faulty.is c.requires.explored in
-    subst (λ z. IfOk c.judge_trace.result (IsVerdict T p g c.args.height c.args.budget z)) (sym c.in-Faulty.is)
-    (if_replayed T p g (c.graphs_agree.ensures c.requires.lowered) c.requires.shapes c.args.height c.args.budget
+    subst (λ z. IfOk c.judge_trace.result (IsVerdict T p m g c.args.height c.args.budget z)) (sym c.in-Faulty.is)
+    (if_replayed T p m g (c.graphs_agree.ensures c.requires.lowered) c.requires.shapes c.args.height c.args.budget
     c.in-Faulty.nodes c.in-Faulty.trace
     (runs_go_by T g c.requires.shapes (c.edges_make_runs.ensures c.requires.lowered))
     (c.edges_in_range.ensures c.requires.lowered)
@@ -51,9 +54,10 @@ pub returns-in-Faulty-clause-loops : goal.returns-in-Faulty-clause-loops
 returns-in-Faulty-clause-loops c = λ free.
     let T = c.args.table.now in
     let p = c.args.program.now in
+    let m = c.args.mode in
     let g = c.args.graph.now in
     let x = subst (IsExplored T g c.args.height c.args.budget) c.in-Faulty.is c.requires.explored in
-    if_never_loose T p g (c.graphs_agree.ensures c.requires.lowered) c.requires.shapes c.args.height c.args.budget
+    if_never_loose T p m g (c.graphs_agree.ensures c.requires.lowered) c.requires.shapes c.args.height c.args.budget
     c.in-Faulty.nodes c.in-Faulty.trace
     (runs_go_by T g c.requires.shapes (c.edges_make_runs.ensures c.requires.lowered))
     (c.edges_in_range.ensures c.requires.lowered)

@@ -1,9 +1,11 @@
-use Rattle.std.proofs.Common.{[]}
-use Rattle.fa_merge.proofs.Members.{has_member}
+use Rattle.fa_leaves.proofs.Hollow.{filled_dressed, hollow_table}
+use Rattle.fa_back.proofs.Dressable.{some_choice}
 use Rattle.sym_step.proofs.dressing.is_dressed.Goals as goal
 
 pub returns : goal.returns
 returns c =
     let F = c.args.forest.now in
-    let m = has_member F.face F.forest c.known.ensures.sound c.known.ensures.ranked c.requires [] in
-    (m.1.0, m.1.1.of)
+    let sound = c.known.ensures.sound in
+    let choice = some_choice F.forest.autos sound.full in
+    let d = filled_dressed F.face F.forest 0 sound.well_formed.filled c.known.ensures.ranked choice.0 choice.1 in
+    (hollow_table F.face.boxes, d.nodes, d.of)

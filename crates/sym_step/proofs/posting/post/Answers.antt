@@ -1,44 +1,71 @@
-use Rattle.std.proofs.Common.{◌≡◌, ◌∙◌, [], ap, sym, subst, arith}
+use Rattle.std.proofs.Common.{◌≡◌, ◌∙◌, List, [], ◌∷◌, refl, ap, sym, subst, arith}
 use Rattle.fore_base.specs.Lists.{Every}
-use Rattle.fa_core.specs.Boxes.{faces_of}
+use Rattle.fa_core.specs.Boxes.{Boxes, IsBoxTable, IsTableOf}
+use Rattle.fa_core.specs.Boxless.{HasNoBoxes}
 use Rattle.fa_core.specs.Faces.{IsGiving}
 use Rattle.fa_core.specs.declared.faces.Face.{Face}
-use Rattle.fa_core.proofs.Boxless.{sound_plain}
+use Rattle.fa_core.proofs.TablesGive.{tables_give}
+use Rattle.fa_sound.specs.Soundness.{SoundForest}
+use Rattle.sym_step.specs.declared.posts.Bad.{Bad}
 use Rattle.sym_step.proofs.SettledForests.{settled_all, settled_cases, settled_canonical, settled_reduced}
-use Rattle.sym_step.proofs.SettledForests.{settled_plain, settled_face, settled_counts, bad_plain, bad_face, bad_counts}
+use Rattle.sym_step.proofs.SettledForests.{settled_face, settled_counts, bad_face, bad_counts}
 use Rattle.sym_step.proofs.posting.post.Goals as goal
 
-pub open_forest-requires-clause-plain : goal.open_forest-requires-clause-plain
-open_forest-requires-clause-plain g c =
-    let F = c.args.forest.now in
-    let none : F.face.boxes ≡ [] = ap (λ (f : Face). f.boxes) c.requires.face ∙ c.known-2.ensures.faces
-    ∙ ap faces_of c.requires.empty in
-    sound_plain F.face F.forest c.known.ensures.sound none
+own_table : (face : Face) (t : Boxes) → face ≡ t.face → IsBoxTable t → IsTableOf face t.defs
+own_table face t e k = subst (λ (f : Face). IsTableOf f t.defs) (sym e) k
+
+own_gives : (face : Face) (t : Boxes) → face ≡ t.face → IsBoxTable t → Every IsGiving face.boxes
+own_gives face t e k = subst (λ (f : Face). Every IsGiving f.boxes) (sym e) (tables_give t k)
+
+-- forests over a face without boxes
+plain_over : (face : Face) → face.boxes ≡ [] → (ss : List SoundForest) → Every (λ (s : SoundForest). s.face ≡ face) ss
+    → Every (λ (s : SoundForest). s.face.boxes ≡ [] → Every HasNoBoxes s.forest.autos) ss
+    → Every (λ (s : SoundForest). Every HasNoBoxes s.forest.autos) ss
+plain_over face none [] a b = tt
+plain_over face none (s ∷ ss) a b =
+    (b.0 (ap (λ (f : Face). f.boxes) a.0 ∙ none), plain_over face none ss a.1 b.1)
+
+bads_plain_over : (face : Face) → face.boxes ≡ [] → (bs : List Bad) → Every (λ (b : Bad). b.at.face ≡ face) bs
+    → Every (λ (b : Bad). b.at.face.boxes ≡ [] → Every HasNoBoxes b.at.forest.autos) bs
+    → Every (λ (b : Bad). Every HasNoBoxes b.at.forest.autos) bs
+bads_plain_over face none [] a c = tt
+bads_plain_over face none (b ∷ bs) a c =
+    (c.0 (ap (λ (f : Face). f.boxes) a.0 ∙ none), bads_plain_over face none bs a.1 c.1)
+
+pub settle_each-requires-clause-table : goal.settle_each-requires-clause-table
+settle_each-requires-clause-table g c κs within =
+    own_table c.args.forest.now.face c.args.table.now c.requires.face c.known-2.ensures
+
+pub settle_each-requires-clause-opens : goal.settle_each-requires-clause-opens
+settle_each-requires-clause-opens g c κs within = c.in_ok-opened.ensures.opens
+
+pub settle_each-requires-clause-gives : goal.settle_each-requires-clause-gives
+settle_each-requires-clause-gives g c κs within =
+    own_gives c.args.forest.now.face c.args.table.now c.requires.face c.known-2.ensures
 
 pub joined-requires-clause-gives : goal.joined-requires-clause-gives
 joined-requires-clause-gives g c κs within =
-    let F = c.args.forest.now in
-    let none : F.face.boxes ≡ [] = ap (λ (f : Face). f.boxes) c.requires.face ∙ c.known-2.ensures.faces
-    ∙ ap faces_of c.requires.empty in
-    subst (Every IsGiving) (sym none) tt
+    own_gives c.args.forest.now.face c.args.table.now c.requires.face c.known-2.ensures
 
 pub returns-clause-all : goal.returns-clause-all
 returns-clause-all g c =
     let F = c.args.forest.now in
     let p = c.in_ok-made.made in
     settled_all F.face F.forest c.args.edge.now p.next p.faults c.in_ok-made.ensures.settles
+    c.args.table.now.defs refl
 
 pub returns-clause-true_cases : goal.returns-clause-true_cases
 returns-clause-true_cases g c =
     let F = c.args.forest.now in
     let p = c.in_ok-made.made in
     settled_cases F.face F.forest c.args.edge.now p.next p.faults c.in_ok-made.ensures.settles
+    c.args.table.now.defs refl
 
 pub returns-clause-keeps : goal.returns-clause-keeps
-returns-clause-keeps g c = c.in_ok-made.ensures.settles.stepping.keeps
+returns-clause-keeps g c = c.in_ok-made.ensures.settles.stepping.keeps c.args.table.now.defs refl
 
 pub returns-clause-bads : goal.returns-clause-bads
-returns-clause-bads g c = c.in_ok-made.ensures.settles.stepping.bads
+returns-clause-bads g c = c.in_ok-made.ensures.settles.stepping.bads c.args.table.now.defs refl
 
 pub returns-clause-canonical : goal.returns-clause-canonical
 returns-clause-canonical g c =
@@ -53,10 +80,12 @@ returns-clause-reduced g c =
     settled_reduced F.face F.forest c.args.edge.now p.next p.faults c.in_ok-made.ensures.settles
 
 pub returns-clause-plain : goal.returns-clause-plain
-returns-clause-plain g c =
+returns-clause-plain g c = λ none.
     let F = c.args.forest.now in
     let p = c.in_ok-made.made in
-    settled_plain F.face F.forest c.args.edge.now p.next p.faults c.in_ok-made.ensures.settles
+    plain_over F.face none p.next
+    (settled_face F.face F.forest c.args.edge.now p.next p.faults c.in_ok-made.ensures.settles)
+    (rw c.as_slice.ensures at c.are_plain.ensures)
 
 pub returns-clause-face : goal.returns-clause-face
 returns-clause-face g c =
@@ -80,10 +109,12 @@ returns-clause-quiet g c = λ q.
     omega (arith, few, fewer)
 
 pub returns-clause-bad_plain : goal.returns-clause-bad_plain
-returns-clause-bad_plain g c =
+returns-clause-bad_plain g c = λ none.
     let F = c.args.forest.now in
     let p = c.in_ok-made.made in
-    bad_plain F.face F.forest c.args.edge.now p.next p.faults c.in_ok-made.ensures.settles
+    bads_plain_over F.face none p.faults
+    (bad_face F.face F.forest c.args.edge.now p.next p.faults c.in_ok-made.ensures.settles)
+    (rw c.as_slice-2.ensures at c.bads_are_plain.ensures)
 
 pub returns-clause-bad_face : goal.returns-clause-bad_face
 returns-clause-bad_face g c =

@@ -1,12 +1,15 @@
 use Rattle.fa_core.specs.declared.faces.Face.{Face}
 use Rattle.std.proofs.Common.{◌≡◌, ◌+◌, ◌∙◌, ap, sym, subst, ◌∷◌, length, drop, List, length-append, arith}
+use Rattle.fore_base.specs.Lists.{Every}
 use Rattle.fore_base.proofs.ListLemmas.{every_at, every_mapped, drop_item, in_at, only_item}
+use Rattle.fa_core.specs.Boxes.{IsTableOf}
 use Rattle.fa_core.specs.Canonical.{IsCanonical}
+use Rattle.fa_core.specs.Faces.{IsGiving}
 use Rattle.fa_core.specs.declared.forest.Forest.{Forest}
 use Rattle.fa_sound.specs.Soundness.{SoundForest}
 use Rattle.c_cfg.proofs.Closing.{drop_all}
 use Rattle.sym_core.specs.Explicit.{IsExplicit}
-use Rattle.sym_step.specs.inner.Stepping.{IsLike, IsSettling}
+use Rattle.sym_step.specs.inner.Stepping.{IsLike, IsSettlingBy, IsThat}
 use Rattle.sym_step.proofs.SettledForests.{settling_first, fits_still, settled_more}
 use Rattle.sym_step.proofs.posting.settle_each.Goals as goal
 
@@ -20,12 +23,13 @@ loop-forest-init g c =
       (λ q. omega arith),
     )
 
-pub settle-requires-clause-plain : goal.settle-requires-clause-plain
-settle-requires-clause-plain g c = λ ls w.
+pub settle-requires-clause-gives : goal.settle-requires-clause-gives
+settle-requires-clause-gives g c = λ ls w.
     let s = c.args._forest.now in
-    (every_at (IsLike s.face s.forest) c.args.opened.ready c.loop-forest.forest-index c.forest-item.result
+    let like = every_at (IsLike s.face s.forest) c.args.opened.ready c.loop-forest.forest-index c.forest-item.result
     c.requires.opens.like (rw c.as_slice-forest-items.ensures at c.loop-forest-test.true)
-    (rw c.as_slice-forest-items.ensures at c.forest-item.is)).plain
+    (rw c.as_slice-forest-items.ensures at c.forest-item.is) in
+    subst (λ (face : Face). Every IsGiving face.boxes) (sym like.face) c.requires.gives
 
 pub settle-requires-clause-fits : goal.settle-requires-clause-fits
 settle-requires-clause-fits g c = λ ls w.
@@ -71,11 +75,12 @@ loop-forest-preserved g c =
     let less = rw c.as_slice-forest-items.ensures at c.loop-forest-test.true in
     let is = rw c.as_slice-forest-items.ensures at c.forest-item.is in
     let like = every_at (IsLike s.face F) all i G c.requires.opens.like less is in
-    let inv : IsSettling s.face F e (G ∷ drop (i + 1) all) c.loop-forest.next c.loop-forest.faulty =
+    let inv : IsSettlingBy (IsThat c.args._table.now.defs) s.face F e (G ∷ drop (i + 1) all) c.loop-forest.next
+    c.loop-forest.faulty =
     rw (drop_item all i G less is) at (rw c.as_slice-forest-items.ensures at c.loop-forest.invariant.0) in
     let many = length-append c.loop-forest.next c.in_ok-more.more.next in
     rw (c.in_ok-append.ensures.ok, c.in_ok-append-2.ensures.ok, c.as_slice-forest-items.ensures) (
-      settled_more s.face F e G (drop (i + 1) all) c.loop-forest.next c.loop-forest.faulty c.in_ok-more.more.next
+      settled_more s.face (λ T q. subst (IsTableOf s.face) (sym q) c.requires.table) F e G (drop (i + 1) all) c.loop-forest.next c.loop-forest.faulty c.in_ok-more.more.next
           c.in_ok-more.more.faults inv like c.in_ok-more.ensures.settles,
       (λ q. let a = c.loop-forest.invariant.1 q in let b = c.in_ok-more.ensures.quiet q in omega (arith, a, b, many)),
     )

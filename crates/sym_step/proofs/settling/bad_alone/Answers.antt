@@ -5,4 +5,4 @@ pub returns-clause-settles : goal.returns-clause-settles
 returns-clause-settles c =
     let s = c.args.forest.now in
     rw (c.new.ensures, c.in_ok-push.ensures.ok, c.new-faults.ensures, c.in_ok-at.ensures)
-    (settled_bad s c.args._edge.now c.args.fault c.requires.plain c.requires.met)
+    (settled_bad s c.args._edge.now c.args.fault c.requires.met)

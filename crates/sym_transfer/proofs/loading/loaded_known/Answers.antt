@@ -10,10 +10,12 @@ use Rattle.sym_transfer.proofs.Loaded.{datum_at_fits}
 use Rattle.sym_transfer.proofs.Outcomes.{carried}
 use Rattle.sym_transfer.proofs.loading.loaded_known.Goals as goal
 
-pub with_known-requires-clause-fits : goal.with_known-requires-clause-fits
-with_known-requires-clause-fits c =
-    datum_at_fits c.args.forest.now.face c.args.forest.now.forest c.known.ensures.sound c.args.root c.args.field
-    c.in-Some.datum c.requires.top (sym c.datum_of.ensures.value ∙ c.in-Some.is)
+pub with_known-requires : goal.with_known-requires
+with_known-requires c =
+    record {
+      fits = datum_at_fits c.args.forest.now.face c.args.forest.now.forest c.known.ensures.sound c.args.root c.args.field
+          c.in-Some.datum c.requires.top (sym c.datum_of.ensures.value ∙ c.in-Some.is);
+    }
 
 pub returns-in_ok-made-in-Some-clause-edited : goal.returns-in_ok-made-in-Some-clause-edited
 returns-in_ok-made-in-Some-clause-edited c = λ T table x.

@@ -16,8 +16,8 @@ returns-in_ok-made-in-Null-clause-edited c = λ T table x.
     let F = c.args.forest.now in
     let made = c.in_ok-made-in-Null.made in
     subst (λ (v : Const). Becomes F.face T F.forest (StoreConst c.args.to c.args.field v) x made) (sym c.in-Null.is)
-    (null_stored F T x c.args.to c.args.field c.in-Ok.root c.in-Ok.ensures.root c.requires.plain c.in-Ok.ensures.top
-    made c.in_ok-made-in-Null.ensures.stored)
+    (null_stored F T x c.args.to c.args.field c.in-Ok.root c.in-Ok.ensures.root c.in-Ok.ensures.top made
+    c.in_ok-made-in-Null.ensures.stored)
 
 pub returns-in_ok-made-in-Known-clause-edited : goal.returns-in_ok-made-in-Known-clause-edited
 returns-in_ok-made-in-Known-clause-edited c = λ T table x.

@@ -22,4 +22,4 @@ returns-clause-form c =
     let h = held_there lacks has c.datum_of.result (c.is_none.ensures ∙ ap not c.if-is_none.false)
     c.datum_of.ensures.held in
     datum_form F c.in_ok-made.made c.args.root c.args.field h.0 c.args.datum c.in_ok-made.ensures.face
-    (c.in_ok-made.ensures.plain c.requires.plain) (c.in_ok-made.ensures.put [] h.0 (h.1 []))
+    c.in_ok-made.ensures.plain (c.in_ok-made.ensures.put [] h.0 (h.1 []))

@@ -3,13 +3,8 @@ use Rattle.fa_core.specs.declared.boxes.BoxDef.{BoxDef}
 use Rattle.fa_core.specs.declared.forest.Target.{Target}
 use Rattle.fa_edit.specs.Fits.{LeafFits}
 use Rattle.fa_edit.specs.Leaves.{AllHaveLeaf, AllLackField}
-use Rattle.fa_split.proofs.LinksGive.{plain_gives}
 use Rattle.sym_transfer.proofs.Stored.{held_there, put_form}
 use Rattle.sym_transfer.proofs.storing.stored_leaf.Goals as goal
-
-pub with_leaf-requires-clause-gives : goal.with_leaf-requires-clause-gives
-with_leaf-requires-clause-gives c =
-    plain_gives c.args.forest.now.face.boxes c.args.forest.now.forest.autos c.requires.plain
 
 pub returns-clause-stored : goal.returns-clause-stored
 returns-clause-stored c =
@@ -30,4 +25,4 @@ returns-clause-form c =
     let h = held_there lacks has c.leaf_of.result (c.is_none.ensures ∙ ap not c.if-is_none.false) c.leaf_of.ensures.held
     in
     put_form F c.in_ok-made.made c.args.root c.args.field h.0 c.args.leaf c.in_ok-made.ensures.face
-    (c.in_ok-made.ensures.plain c.requires.plain) (c.in_ok-made.ensures.put [] h.0 (h.1 []))
+    c.in_ok-made.ensures.plain (c.in_ok-made.ensures.put [] h.0 (h.1 []))

@@ -10,7 +10,7 @@ pub returns-in_ok-made-in-Ok-clause-edited : goal.returns-in_ok-made-in-Ok-claus
 returns-in_ok-made-in-Ok-clause-edited c = λ T table x.
     let F = c.args.forest.now in
     let made = c.in_ok-made-in-Ok.made in
-    ptr_stored F T x c.args.to c.args.field c.in-Ok.root c.in-Ok.ensures.root c.requires.plain c.in-Ok.ensures.top
+    ptr_stored F T x c.args.to c.args.field c.in-Ok.root c.in-Ok.ensures.root c.in-Ok.ensures.top
     c.args.from
     (λ k e. top_at F.face F.forest c.known.ensures.sound c.requires.explicit.tops c.args.from k e) made
     (subst (λ (t : Target). IsLeafStored F c.in-Ok.root c.args.field t made) c.target_of-leaf.ensures

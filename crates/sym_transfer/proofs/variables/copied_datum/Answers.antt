@@ -7,11 +7,13 @@ use Rattle.sym_transfer.proofs.Outcomes.{carried}
 use Rattle.sym_transfer.proofs.VarKinds.{copy_data}
 use Rattle.sym_transfer.proofs.variables.copied_datum.Goals as goal
 
-pub with_known-requires-clause-fits : goal.with_known-requires-clause-fits
-with_known-requires-clause-fits c =
-    rw c.datum_of_arg-datum.ensures
-    (data_arg_fits c.args.forest.now.face c.args.forest.now.forest c.known.ensures.sound 0
-    (length c.args.forest.now.forest.data_vars) c.args.from c.requires.from)
+pub with_known-requires : goal.with_known-requires
+with_known-requires c =
+    record {
+      fits = rw c.datum_of_arg-datum.ensures
+          (data_arg_fits c.args.forest.now.face c.args.forest.now.forest c.known.ensures.sound 0
+          (length c.args.forest.now.forest.data_vars) c.args.from c.requires.from);
+    }
 
 pub returns-clause-edited : goal.returns-clause-edited
 returns-clause-edited c = λ T table x.

@@ -7,10 +7,12 @@ use Rattle.sym_transfer.proofs.Outcomes.{carried}
 use Rattle.sym_transfer.proofs.VarKinds.{copy_ptr}
 use Rattle.sym_transfer.proofs.variables.copied_ptr.Goals as goal
 
-pub with_target-requires-clause-root : goal.with_target-requires-clause-root
-with_target-requires-clause-root c =
-    rw c.target_of_arg-target.ensures
-    (arg_below c.args.forest.now.face c.args.forest.now.forest c.known.ensures.sound c.args.from)
+pub with_target-requires : goal.with_target-requires
+with_target-requires c =
+    record {
+      root = rw c.target_of_arg-target.ensures
+          (arg_below c.args.forest.now.face c.args.forest.now.forest c.known.ensures.sound c.args.from);
+    }
 
 pub returns-clause-edited : goal.returns-clause-edited
 returns-clause-edited c = λ T table x.

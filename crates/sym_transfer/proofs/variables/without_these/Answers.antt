@@ -25,7 +25,7 @@ returns-clause-form c =
     let F = c.args.forest.now.forest in
     record {
       face = c.in_ok-made.ensures.face;
-      plain = c.in_ok-made.ensures.plain c.requires.plain;
+      plain = c.in_ok-made.ensures.plain;
       vars = ap (λ (G : Forest). length G.vars) c.in_ok-made.ensures.value
           ∙ rw (c.set_these-vars.ensures, c.in_ok-vars.ensures, c.forest.ensures)
           (length_each F.vars c.args.ptrs.now Uninit);

@@ -1,0 +1,6 @@
+pub mod Counted
+pub mod Distinct
+pub mod FreeItems
+pub mod LoopFree
+pub mod Rows
+pub mod Sums

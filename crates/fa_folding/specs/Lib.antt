@@ -1,0 +1,4 @@
+pub mod Folded
+pub mod Folds
+pub mod Gaining
+pub mod Made

@@ -1,0 +1,5 @@
+mod Entries
+mod Growing
+mod Reading
+mod Remembered
+mod Rows

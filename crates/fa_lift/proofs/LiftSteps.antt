@@ -1,0 +1,57 @@
+-- Steps of the searches for the edge: one more rule, one more mark.
+use Rattle.std.proofs.Common.{◌≡◌, inl, inr, ℕ, Bool, true, false, true≢false, nat_eq, ◌||◌, List, [], ◌∷◌, ◌++◌}
+use Rattle.std.proofs.Common.{◌↔◌, IsTrue, refl, sym, ap, subst, ◌∙◌}
+use Rattle.std.proofs.lemmas.Bool.{eqb-true, eq-eqb}
+use Rattle.fore_base.specs.Lists.{IsIn}
+use Rattle.fore_base.proofs.ListLemmas.{in_push}
+use Rattle.ta_core.specs.declared.auto.Rule.{Rule}
+use Rattle.ta_core.specs.declared.symbol.Symbol.TheVariants.{Ref}
+use Rattle.fa_core.specs.declared.signature.RefMark.{RefMark}
+use Rattle.fa_core.specs.Ways.{has}
+use Rattle.fa_lift.specs.Lift.{MayRefer}
+use Rattle.fa_lift.specs.inner.Lifting.{MarksProvide}
+
+-- a number that is found in a list stands in it, and the other way
+pub has_in : (k : ℕ) (xs : List ℕ) → has k xs ≡ true → IsIn k xs
+has_in k [] e = absurd (true≢false (sym e))
+has_in k (x ∷ xs) e = here (nat_eq k x) refl e (has_in k xs)
+  where
+    here : (b : Bool) → nat_eq k x ≡ b → (b || has k xs) ≡ true → (has k xs ≡ true → IsIn k xs) → IsIn k (x ∷ xs)
+    here true z h g = inl (eqb-true k x z)
+    here false z h g = inr (g h)
+
+pub in_has : (k : ℕ) (xs : List ℕ) → IsIn k xs → has k xs ≡ true
+in_has k [] i = absurd i
+in_has k (x ∷ xs) i = here (nat_eq k x) refl i (in_has k xs)
+  where
+    here : (b : Bool) → nat_eq k x ≡ b → IsIn k (x ∷ xs) → (IsIn k xs → has k xs ≡ true) → (b || has k xs) ≡ true
+    here true e i g = refl
+    here false e (inl z) g = absurd (true≢false (sym (eq-eqb k x z) ∙ e))
+    here false e (inr j) g = g j
+
+-- Rules that are a reference.
+
+pub refer_there : (rules : List Rule) (r q : ℕ) (o : Rule) → IsIn o rules → o.state ≡ q → o.symbol ≡ Ref r
+    → IsTrue true ↔ MayRefer rules r q
+refer_there rules r q o i s y = ((λ t. (o, i, s, y)), (λ h. refl))
+
+pub refer_none : (rules : List Rule) (r q : ℕ) (o : Rule) → (MayRefer rules r q → ⊥)
+    → (o.state ≡ q → o.symbol ≡ Ref r → ⊥) → MayRefer (rules ++ o ∷ []) r q → ⊥
+refer_none rules r q o h g (x, i, s, y) = elim (in_push o x rules i) [
+  | inl j ↦ h (x, j, s, y)
+  | inr e ↦ g (ap (λ (z : Rule). z.state) (sym e) ∙ s) (ap (λ (z : Rule). z.symbol) (sym e) ∙ y)
+]
+
+-- Marks that provide the field.
+
+pub provide_there : (r f : ℕ) (ms : List RefMark) (m : RefMark) → IsIn m ms → m.root ≡ r → has f m.provided ≡ true
+    → IsTrue true ↔ MarksProvide r f ms
+provide_there r f ms m i e h = ((λ t. (m, i, e, has_in f m.provided h)), (λ g. refl))
+
+pub provide_none : (r f : ℕ) (ms : List RefMark) (m : RefMark) → (MarksProvide r f ms → ⊥)
+    → (m.root ≡ r → has f m.provided ≡ true → ⊥) → MarksProvide r f (ms ++ m ∷ []) → ⊥
+provide_none r f ms m h g (x, i, e, k) = elim (in_push m x ms i) [
+  | inl j ↦ h (x, j, e, k)
+  | inr z ↦ g (ap (λ (y : RefMark). y.root) (sym z) ∙ e)
+      (in_has f m.provided (subst (λ (y : RefMark). IsIn f y.provided) z k))
+]

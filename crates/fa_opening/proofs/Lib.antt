@@ -1,0 +1,13 @@
+pub mod BaredFields
+pub mod BaredRoots
+pub mod LiftedGivers
+pub mod LowerEdges
+pub mod OneEdge
+pub mod OpenedForests
+pub mod Rounds
+mod Rows
+pub mod ShownFields
+pub mod SlotEdges
+pub mod SplitFields
+pub mod Steps
+pub mod UsedBoxes

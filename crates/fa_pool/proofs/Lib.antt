@@ -1,0 +1,4 @@
+mod Equal
+mod Listing
+pub mod Numbers
+mod Rows

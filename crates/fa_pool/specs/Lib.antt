@@ -1,0 +1,5 @@
+pub mod Indexes
+pub mod inner
+pub mod Keys
+pub mod Looks
+pub mod Pools

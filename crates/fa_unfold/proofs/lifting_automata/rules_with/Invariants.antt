@@ -1,6 +1,0 @@
-use Rattle.std.proofs.Common.{◌≡◌, map, take}
-use Rattle.fa_unfold.specs.Lift.{hat_rule}
-use Rattle.fa_unfold.proofs.lifting_automata.rules_with.Given as goal
-
-abbrev pub invariant-loop-children : goal.invariant-loop-children
-invariant-loop-children l = l.made ≡ map (hat_rule l.by l.rule) (take l.children-index l.lists)

@@ -1,6 +1,0 @@
-use Rattle.std.proofs.Common.{take}
-use Rattle.fa_unfold.specs.inner.Lifting.{MarksProvide}
-use Rattle.fa_unfold.proofs.lifting_owners.do_provide.Given as goal
-
-abbrev pub invariant-loop-mark : goal.invariant-loop-mark
-invariant-loop-mark l = MarksProvide l.root l.field (take l.mark-index l.marks) → ⊥

@@ -1,6 +1,0 @@
-use Rattle.std.proofs.Common.{take}
-use Rattle.fa_unfold.specs.inner.Lifting.{MayRefer}
-use Rattle.fa_unfold.proofs.lifting_owners.may_refer.Given as goal
-
-abbrev pub invariant-loop-rule : goal.invariant-loop-rule
-invariant-loop-rule l = MayRefer (take l.rule-index l.rules) l.root l.state → ⊥

@@ -1,7 +1,0 @@
-use Rattle.std.proofs.Common.{ℕ, ◌<◌}
-use Rattle.fa_unfold.specs.Lift.{IsProvider}
-use Rattle.fa_unfold.proofs.lifting_owners.provider.Given as goal
-
-abbrev pub invariant-loop-from : goal.invariant-loop-from
-invariant-loop-from l = (t : ℕ) → t < l.from
-    → IsProvider l.forest.face.boxes l.forest.forest l.root l.field t → ⊥

@@ -1,0 +1,15 @@
+pub mod AlikeTrees
+pub mod CanonicalRead
+pub mod CellsWithin
+pub mod ChoiceMembers
+pub mod Heads
+pub mod MembersCover
+pub mod OneForm
+pub mod Pointers
+pub mod RootCells
+pub mod Rows
+pub mod SameForests
+pub mod SameOrder
+pub mod SameRoots
+pub mod TwiceNamed
+pub mod WholeRead

@@ -1,0 +1,20 @@
+use Rattle.std.proofs.Common.{arith}
+use Rattle.fix_engine.proofs.Rounding.{dues_fit, round_made}
+use Rattle.fix_engine.proofs.rounds.round_of.Goals as goal
+
+pub returns : goal.returns
+returns g c =
+    let t = c.args.task.now in
+    let dues = c.in_ok-dues.dues in
+    round_made t.table t.graph t.height c.args.nodes.now c.args.at dues c.make_all.result
+    (omega (arith, c.in_ok-dues.ensures.0, c.min-many.ensures, c.requires.inside, c.requires.jobs))
+    (omega (arith, c.in_ok-dues.ensures.0, c.min-many.ensures, c.requires.inside))
+    c.in_ok-dues.ensures.1 (rw c.as_slice.ensures at c.make_all.ensures)
+
+pub make_all-requires-clause-accepted : goal.make_all-requires-clause-accepted
+make_all-requires-clause-accepted g c =
+    let t = c.args.task.now in
+    let dues = c.in_ok-dues.dues in
+    λ κs within. rw c.as_slice.ensures
+    (dues_fit t.table t.graph t.height c.args.nodes.now c.args.at dues (record { shared = c.type_bounds.sync-R.shared }) c.requires.explored
+    c.known.ensures.edges c.known.ensures.entry c.in_ok-dues.ensures.1)
