@@ -94,9 +94,9 @@ struct Counting<'a> {
 }
 
 impl<'a> Maker<u32, u32> for Counting<'a> {
-    ghost use Rattle.std.specs.Prelude.{◌≡◌, ◌<◌};
+    ghost use Rattle.std.specs.Prelude.{◌≡◌};
 
-    ghost accepts = { λ maker item. item < 4294967296 };
+    ghost accepts = { λ maker item. Unit {0} };
 
     ghost relates = { λ maker item made. made ≡ item };
 
@@ -107,9 +107,9 @@ impl<'a> Maker<u32, u32> for Counting<'a> {
 }
 
 impl<'a> Test<u32> for Counting<'a> {
-    ghost use Rattle.std.specs.Prelude.{◌≡◌, ◌<◌};
+    ghost use Rattle.std.specs.Prelude.{◌≡◌};
 
-    ghost accepts = { λ test item. item < 4294967296 };
+    ghost accepts = { λ test item. Unit {0} };
 
     ghost meets = { λ test item. item ≡ 0 };
 
