@@ -35,7 +35,8 @@ and_true false = refl
 
 added_none : (x : Extremes) → x.most ≤ 2 → added x none_given ≡ x
 added_none x l =
-    ap₂ (λ (m : ℕ) (b : Bool). let e : Extremes = record { most = m; none = b } in e) (capped_same x.most l) (and_true x.none)
+    ap₂ (λ (m : ℕ) (b : Bool). let e : Extremes = record { most = m; none = b }
+    in e) (capped_same x.most l) (and_true x.none)
 
 total_nones : (n : ℕ) (x : Extremes) → x.most ≤ 2 → total x (replicate n none_given) ≡ x
 total_nones zero x l = refl
@@ -43,7 +44,8 @@ total_nones (suc n) x l =
     ap (λ (y : Extremes). total y (replicate n none_given)) (added_none x l) ∙ total_nones n x l
 
 -- one component gives something
-pub total_one : (n i : ℕ) (x own : Extremes) → i < n → x.most ≤ 2 → total x (set (replicate n none_given) i own) ≡ added x own
+pub total_one : (n i : ℕ) (x own : Extremes) → i < n → x.most ≤ 2
+    → total x (set (replicate n none_given) i own) ≡ added x own
 total_one zero i x own within l = absurd (let no : i < 0 → ⊥ = λ h. omega (arith, h) in no within)
 total_one (suc n) zero x own within l = total_nones n (added x own) (capped_low (x.most + own.most))
 total_one (suc n) (suc i) x own within l =

@@ -23,7 +23,16 @@ use Rattle.fa_core.specs.Rearranged.{Rearranged, often}
 use Rattle.fa_core.specs.Ways.{given_by, gives_out_of}
 use Rattle.fa_filling.specs.Ruled.{BelowRule, OnceBy, StateOnce, EdgeOnce, OnceBelow, IsOnceBelow}
 use Rattle.fa_filling.proofs.Counting.{long_same, often_same, rearranged_by}
-use Rattle.fa_filling.proofs.SpotRules.{Holds, HoldsBelow, holds_cell, leaf_holds, holds_each, put, some_trees, with_edge}
+use Rattle.fa_filling.proofs.SpotRules.{
+  Holds,
+  HoldsBelow,
+  holds_cell,
+  leaf_holds,
+  holds_each,
+  put,
+  some_trees,
+  with_edge,
+}
 use Rattle.fa_filling.proofs.SpotRules.{tree_spot}
 use Rattle.fa_giving.specs.inner.Shaped.{IsOnceSpot, IsOnceRoot}
 use Rattle.fa_giving.specs.inner.Totals.{ForAll}
@@ -74,7 +83,8 @@ choice_put (x ∷ autos) (suc r) a v e f l = let k = choice_put autos r a v e f.
 abbrev marker : List BoxFace → List ℕ
 marker bs = 0 ∷ flat_map (λ x. x.gives_out) bs
 
-out_short : (bs : List BoxFace) (b : ℕ) → length (gives_out_of bs b) ≤ length (flat_map (λ (x : BoxFace). x.gives_out) bs)
+out_short : (bs : List BoxFace) (b : ℕ)
+    → length (gives_out_of bs b) ≤ length (flat_map (λ (x : BoxFace). x.gives_out) bs)
 out_short [] b = omega arith
 out_short (x ∷ bs) zero = let e = length-append x.gives_out (flat_map (λ (x : BoxFace). x.gives_out) bs) in
     omega (arith, e)
@@ -163,7 +173,8 @@ module _ (face : Face) (autos : List Automaton) (r : ℕ) (a : Automaton) (ranke
             let b = tree_spot face.boxes Marked a.rules a.states ranked.1 trees o l.0 w.0 s ds ss e w.1 in
             let y = every_in (λ (z : Slot × Tree). Holds face.boxes Marked z.1 (given_by face.boxes z.0)) (edges ss l.0)
             (d.0, u) b.1 l.2 in
-            let q = tree_spot face.boxes Marked a.rules a.states ranked.1 trees p us.0 (given_by face.boxes d.0) s2 ds2 ss2
+            let q = tree_spot face.boxes Marked a.rules a.states ranked.1 trees p us.0 (given_by face.boxes d.0) s2 ds2
+            ss2
             e2 y in
             elim q.0 [ inl once ↦ n once | inr v ↦ no_marker face.boxes d.0 v ]),
       )

@@ -52,7 +52,8 @@ distinct_often [] h n = omega arith
 distinct_often (x ∷ xs) h n = here (distinct_often xs h.1 n) (nat_eq n x) refl
   where
     here : often n xs ≤ 1 → (b : Bool) → nat_eq n x ≡ b → cond b (often n xs + 1) (often n xs) ≤ 1
-    here l true e = let z = often_out n xs (λ i. h.0 (subst (λ (m : ℕ). IsIn m xs) (eqb-true n x e) i)) in omega (arith, z)
+    here l true e = let z = often_out n xs (λ i. h.0 (subst (λ (m : ℕ). IsIn m xs) (eqb-true n x e) i))
+        in omega (arith, z)
     here l false e = l
 
 often_distinct : (xs : List ℕ) → ((n : ℕ) → often n xs ≤ 1) → IsDistinct xs
@@ -91,7 +92,8 @@ module _ (face : Face) (all : List Tree) where
         ((h 0 t refl).1 (omega arith)),
     are_from (suc r) zero ts (λ k u e. (
       (λ l. absurd (omega (arith, l))),
-      (λ l. subst (λ (m : ℕ). Every (IsRightCell face all) (spots face.boxes u (given_at face.boxes all m))) (omega arith)
+      (λ l. subst (λ (m : ℕ). Every (IsRightCell face all) (spots face.boxes u (given_at face.boxes all m)))
+          (omega arith)
           ((h (suc k) u e).1 (omega arith))),
     )),
   )
@@ -101,7 +103,8 @@ module _ (face : Face) (all : List Tree) where
     are_from (suc r) n ts (λ k u e. (
       (λ l. subst (λ (m : ℕ). IsRightUnder face all (spots face.boxes u (given_at face.boxes all m))) (omega arith)
           ((h (suc k) u e).0 (omega (arith, l)))),
-      (λ l. subst (λ (m : ℕ). Every (IsRightCell face all) (spots face.boxes u (given_at face.boxes all m))) (omega arith)
+      (λ l. subst (λ (m : ℕ). Every (IsRightCell face all) (spots face.boxes u (given_at face.boxes all m)))
+          (omega arith)
           ((h (suc k) u e).1 (omega (arith, l)))),
     )),
   )
@@ -149,7 +152,10 @@ module _ (face : Face) (all : List Tree) where
     above = given_at face.boxes all k
 
     right_leaf : spots face.boxes t (given_at face.boxes all k) ≡ [] → RightAt k k n t
-    right_leaf e = ((λ l. subst (IsRightUnder face all) (sym e) tt), (λ l. subst (Every (IsRightCell face all)) (sym e) tt))
+    right_leaf e = (
+      (λ l. subst (IsRightUnder face all) (sym e) tt),
+      (λ l. subst (Every (IsRightCell face all)) (sym e) tt),
+    )
 
     right_cell : (s : ℕ) (ds : List Datum) (ss : List Slot) → (out-Tree t).symbol ≡ Cell s ds ss
         → IsShapedRoot face k all → IsOnceRoot face k all → ((f : ℕ) → IsGivenRight face (nat_lt k n) k f all)
@@ -200,14 +206,17 @@ module _ (face : Face) (all : List Tree) where
             here false e = refl
 
         port_fits : (b : Bool) → b ≡ true → (f : ℕ)
-            → Fits b (often f (fields_of face.shapes.structs s)) (often f (flat_map (covers face.boxes) ss ++ given_at face.boxes all k))
+            → Fits b (often f (fields_of face.shapes.structs s))
+            (often f (flat_map (covers face.boxes) ss ++ given_at face.boxes all k))
             → often f (flat_map (covers face.boxes) ss ++ given_at face.boxes all k) ≤ 1
         port_fits true e f h = h
         port_fits false e f h = absurd (true≢false (sym e))
 
         inner_fits : (b : Bool) → b ≡ false → (f : ℕ)
-            → Fits b (often f (fields_of face.shapes.structs s)) (often f (flat_map (covers face.boxes) ss ++ given_at face.boxes all k))
-            → often f (flat_map (covers face.boxes) ss ++ given_at face.boxes all k) ≡ often f (fields_of face.shapes.structs s)
+            → Fits b (often f (fields_of face.shapes.structs s))
+            (often f (flat_map (covers face.boxes) ss ++ given_at face.boxes all k))
+            → often f (flat_map (covers face.boxes) ss ++ given_at face.boxes all k)
+            ≡ often f (fields_of face.shapes.structs s)
         inner_fits true e f h = absurd (true≢false e)
         inner_fits false e f h = h
 
@@ -304,7 +313,8 @@ module _ (face : Face) (n : ℕ) (autos : List Automaton) where
   abbrev Right : List Tree → Type 0
   Right ts = AreRight face ts 0 n ts
 
-  pub not_shaped : ForAll autos (λ ts. (r : ℕ) → r < length autos → IsShapedRoot face r ts) false → ForAll autos Right false
+  pub not_shaped : ForAll autos (λ ts. (r : ℕ) → r < length autos → IsShapedRoot face r ts) false
+      → ForAll autos Right false
   not_shaped (ts, c, g) = (ts, c, λ h. g (λ r l. right_shaped face ts n h r))
 
   pub not_once : ForAll autos (λ ts. (r : ℕ) → r < length autos → IsOnceRoot face r ts) false → ForAll autos Right false

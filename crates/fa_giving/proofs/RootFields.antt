@@ -93,7 +93,8 @@ module _ (bs : List BoxFace) (r f : ℕ) where
       counts : {q : ℕ} {t : Tree} → RunOf rules q t → Counts t
       counts {q} {t} (run o i e s k) = by (slots_count k) (out-Tree t).symbol refl
         where
-          by : ((ss : List Slot) (rs : List ℕ) → often f (flat_map (λ e. below_slot rs e.0 e.1) (edges ss (out-Tree t).children))
+          by : ((ss : List Slot) (rs : List ℕ)
+              → often f (flat_map (λ e. below_slot rs e.0 e.1) (edges ss (out-Tree t).children))
               ≡ below_slots bs r f ss (out-Tree t).children) → (y : Symbol) → (out-Tree t).symbol ≡ y → Counts t
           by z Null d = (
             leaf_provided t Null d refl ∙ sym (weigh_is bs r f t Null 0 d),
@@ -184,7 +185,8 @@ choice_there (x ∷ autos) (suc r) a b [] t e d c = absurd c
 choice_there (x ∷ autos) zero a b (u ∷ ts) t e d c = subst (InLanguage b) (some_same u t d) c.0
 choice_there (x ∷ autos) (suc r) a b (u ∷ ts) t e d c = choice_there autos r a b ts t e d c.1
 
-pub choice_at : (autos : List Automaton) (r : ℕ) (a : Automaton) (ts : List Tree) (t : Tree) → slice_get autos r ≡ Some a
+pub choice_at : (autos : List Automaton) (r : ℕ) (a : Automaton) (ts : List Tree) (t : Tree)
+    → slice_get autos r ≡ Some a
     → slice_get ts r ≡ Some t → Choice autos ts → InLanguage a t
 choice_at [] r a ts t e d c = absurd (none_some a e)
 choice_at (x ∷ autos) r a [] t e d c = absurd c
@@ -375,7 +377,8 @@ module _ (face : Face) (port : Bool) (r f : ℕ) (autos : List Automaton) (a : A
   tops_right tops h k ts c t s ds ss e d = there (choice_at autos r a ts t own e c)
     where
       there : InLanguage a t
-          → Fits port (often f (fields_of face.shapes.structs s)) (often f (flat_map (covers face.boxes) ss ++ given_at face.boxes ts r))
+          → Fits port (often f (fields_of face.shapes.structs s))
+          (often f (flat_map (covers face.boxes) ss ++ given_at face.boxes ts r))
       there (q, j, run o i m y l) =
           let top = subst (λ (x : ℕ). IsIn x a.roots) (sym m) j in
           let w = h.all o i (top, ((out-Tree t).children, l)) in
@@ -427,7 +430,8 @@ module _ (face : Face) (port : Bool) (r f : ℕ) (autos : List Automaton) (a : A
       fits_none false m n x y = y ∙ sym x
 
       there : InLanguage a t
-          → Fits port (often f (fields_of face.shapes.structs s)) (often f (flat_map (covers face.boxes) ss ++ given_at face.boxes ts r))
+          → Fits port (often f (fields_of face.shapes.structs s))
+          (often f (flat_map (covers face.boxes) ss ++ given_at face.boxes ts r))
       there (q, j, run o i m y l) =
           let top = subst (λ (x : ℕ). IsIn x a.roots) (sym m) j in
           let w = subst (λ (z : Symbol). AreIn fields (symbol_fields face z)) (y ∙ d)

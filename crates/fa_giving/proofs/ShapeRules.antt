@@ -19,7 +19,20 @@ use Rattle.ta_core.proofs.Runs.{tree_of}
 use Rattle.fa_core.specs.declared.faces.BoxFace.{BoxFace}
 use Rattle.fa_core.specs.declared.faces.Face.{Face}
 use Rattle.fa_core.specs.Cells.{edges}
-use Rattle.fa_core.specs.Filled.{Choice, HasSome, HasField, Spot, IsInOrder, IsTopped, spots, covers, target_of, face_of, HookFits, least}
+use Rattle.fa_core.specs.Filled.{
+  Choice,
+  HasSome,
+  HasField,
+  Spot,
+  IsInOrder,
+  IsTopped,
+  spots,
+  covers,
+  target_of,
+  face_of,
+  HookFits,
+  least,
+}
 use Rattle.fa_core.specs.Rearranged.{RisesFrom, IsRising}
 use Rattle.fa_core.specs.Ways.{given_by}
 use Rattle.fa_box_rules.specs.Cells.{MayName, FieldMayEnd, EndMayFit, EndsMayFit}
@@ -55,7 +68,8 @@ tops_hold (a ∷ autos) (x ∷ topss) (t ∷ ts) p c zero tl e =
     (t, refl, λ u h. subst (λ (l : List ℕ). IsIn u l) (some_same x tl e) (p.0.each t u c.0 h))
 tops_hold (a ∷ autos) (x ∷ topss) (t ∷ ts) p c (suc k) tl e = tops_hold autos topss ts p.1 c.1 k tl e
 
-hold_set : (autos : List Automaton) (topss : List (List ℕ)) (ts : List Tree) (r s : ℕ) → Paired AreTopStructs autos topss
+hold_set : (autos : List Automaton) (topss : List (List ℕ)) (ts : List Tree) (r s : ℕ)
+    → Paired AreTopStructs autos topss
     → Choice autos ts → ((t : Tree) → slice_get ts r ≡ Some t → IsTopped s t) → TopsHold (set topss r (s ∷ [])) ts
 hold_set [] [] ts r s p c h k tl e = absurd (none_some tl e)
 hold_set [] (x ∷ topss) ts r s p c h k tl e = absurd p
@@ -103,7 +117,8 @@ pick (a ∷ autos) (x ∷ topss) zero s zero tl u f p e i =
     (f.0.0 ∷ r.0, (f.0.1, r.1), λ v h. (v, refl, subst (λ (z : ℕ). IsTopped z v) (sym (only tl e i)) h))
   where
     only : (tl : List ℕ) → Some (s ∷ []) ≡ Some tl → IsIn u tl → u ≡ s
-    only tl e i = elim (subst (λ (l : List ℕ). IsIn u l) (sym (some_same (s ∷ []) tl e)) i) [ inl d ↦ d | inr n ↦ absurd n ]
+    only tl e i = elim (subst (λ (l : List ℕ). IsIn u l) (sym (some_same (s ∷ []) tl e)) i)
+        [ inl d ↦ d | inr n ↦ absurd n ]
 pick (a ∷ autos) (x ∷ topss) zero s (suc k) tl u f p e i =
     let r = pick_in autos topss k tl u f.1 p.1 e i in (f.0.0 ∷ r.0, (f.0.1, r.1), λ v h. r.2)
 pick (a ∷ autos) (x ∷ topss) (suc r) s zero tl u f p e i =
@@ -135,10 +150,12 @@ not_there (a ∷ autos) (x ∷ topss) (t ∷ ts) zero s (suc k) v w p c e d = re
     rest (a ∷ autos) (x ∷ topss) [] k p c e d = absurd c
     rest (a ∷ autos) (x ∷ topss) (t ∷ ts) zero p c e d = none_some x (sym e)
     rest (a ∷ autos) (x ∷ topss) (t ∷ ts) (suc k) p c e d = rest autos topss ts k p.1 c.1 e d
-not_there (a ∷ autos) (x ∷ topss) (t ∷ ts) (suc r) s (suc k) v w p c e d = not_there autos topss ts r s k v w p.1 c.1 e d
+not_there (a ∷ autos) (x ∷ topss) (t ∷ ts) (suc r) s (suc k) v w p c e d =
+    not_there autos topss ts r s k v w p.1 c.1 e d
 
 -- another tree at place r
-pub choice_set : (autos : List Automaton) (r : ℕ) (a : Automaton) (ts : List Tree) (v : Tree) → slice_get autos r ≡ Some a
+pub choice_set : (autos : List Automaton) (r : ℕ) (a : Automaton) (ts : List Tree) (v : Tree)
+    → slice_get autos r ≡ Some a
     → Choice autos ts → InLanguage a v → Choice autos (set ts r v) × (slice_get (set ts r v) r ≡ Some v)
 choice_set [] r a ts v e c l = absurd (none_some a e)
 choice_set (x ∷ autos) r a [] v e c l = absurd c
@@ -177,7 +194,8 @@ order_or bs ss = elim (each_or {B = IsInOrder bs ss → ⊥} (λ (x : Slot). Has
       | inr n ↦ inr (λ k. n (every_in (λ (x : Slot). HasField (covers bs x)) ss x k.0 i))
     ])) [
       | inr n ↦ inr n
-      | inl h ↦ elim (rising_or (map (λ (x : Slot). least (covers bs x)) ss)) [ inr n ↦ inr (λ k. n k.1) | inl g ↦ inl (h, g) ]
+      | inl h ↦ elim (rising_or (map (λ (x : Slot). least (covers bs x)) ss))
+          [ inr n ↦ inr (λ k. n k.1) | inl g ↦ inl (h, g) ]
     ]
 
 output_or : (o : Option ℕ) → (o ≡ None) ⊎ (o ≡ None → ⊥)
@@ -248,7 +266,8 @@ module _ (face : Face) (ts : List Tree) where
             out None f h = absurd h
             out (Some t) f h = (x, t, e, i, f, last y h)
               where
-                last : (y : Symbol) → LinkAlways T t x.gives_out y → MayName ts y t ⊎ ((y ≡ Dangling) × (x.gives_out ≡ []))
+                last : (y : Symbol) → LinkAlways T t x.gives_out y
+                    → MayName ts y t ⊎ ((y ≡ Dangling) × (x.gives_out ≡ []))
                 last Null h = absurd h
                 last Uninit h = absurd h
                 last Dangling h = inr (refl, h)
@@ -262,7 +281,8 @@ module _ (face : Face) (ts : List Tree) where
           (every_in (RuleAlways face T s (x, q)) rules o h i e))
 
       ends_may : (s : ℕ) (ss : List Slot) (qs : List ℕ) (ys : List Symbol) → Every (SlotAlways face s) ss
-          → length qs ≡ child_slots ss → Every (EdgeAlways face T rules s) (edges ss qs) → Paired (SymbolsOf rules) qs ys
+          → length qs ≡ child_slots ss → Every (EdgeAlways face T rules s) (edges ss qs)
+          → Paired (SymbolsOf rules) qs ys
           → EndsMayFit face ts s ss ys
       ends_may s [] [] [] p l k d = tt
       ends_may s [] [] (y ∷ ys) p l k d = absurd d

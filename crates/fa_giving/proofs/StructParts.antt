@@ -21,7 +21,14 @@ use Rattle.fa_filling.specs.Parted.{is_of, AreTopRules, IsPartFor}
 use Rattle.fa_filling.specs.Ruled.{IsShapedRule}
 use Rattle.fa_filling.proofs.Partition.{of_cell, in_rules_of, from_rules_of}
 use Rattle.fa_filling.proofs.SpotRules.{leaf_holds}
-use Rattle.fa_giving.specs.inner.Shaped.{IsShapedSpot, IsShapedRoot, AreTopStructs, AreCellStructs, AddsStruct, ForStruct}
+use Rattle.fa_giving.specs.inner.Shaped.{
+  IsShapedSpot,
+  IsShapedRoot,
+  AreTopStructs,
+  AreCellStructs,
+  AddsStruct,
+  ForStruct,
+}
 use Rattle.fa_giving.specs.inner.Totals.{ForAll, Adds}
 use Rattle.fa_giving.proofs.RootFields.{choice_at, some_same}
 use Rattle.fa_giving.proofs.ShapeRules.{shaped_true, shaped_false}
@@ -32,7 +39,8 @@ put_back [] i x y e = refl
 put_back (z ∷ xs) zero x y e = ap (λ w. w ∷ xs) (sym (some_same z y e))
 put_back (z ∷ xs) (suc i) x y e = ap (λ ws. z ∷ ws) (put_back xs i x y e)
 
-pub has_list : (autos : List Automaton) (topss : List (List ℕ)) (k : ℕ) (a : Automaton) → Paired AreTopStructs autos topss
+pub has_list : (autos : List Automaton) (topss : List (List ℕ)) (k : ℕ) (a : Automaton)
+    → Paired AreTopStructs autos topss
     → slice_get autos k ≡ Some a → k < length topss
 has_list autos topss k a p e =
     let long = paired_long AreTopStructs autos topss p in
@@ -101,13 +109,15 @@ module _ (face : Face) (autos : List Automaton) (topss : List (List ℕ)) (r : �
     pub part_decides : (decided : Bool)
         → (IsTrue decided ↔ Every (IsShapedRule face (set topss r (s ∷ [])) p.auto.rules) p.auto.rules)
         → ForStruct autos r s (IsShapedRoot face r) decided
-    part_decides true g = λ ts c f. shaped_true face autos topss r s a p.auto full tops own ranked w.trim into (g.0 refl) ts c
+    part_decides true g = λ ts c f.
+        shaped_true face autos topss r s a p.auto full tops own ranked w.trim into (g.0 refl) ts c
         (λ t e. onto t (choice_at autos r a ts t own e c) (f t e))
     part_decides false g = shaped_false face autos topss r s a p.auto full tops own ranked w.trim into
         (λ k. true≢false (sym (g.1 k)))
 
   pub parts_shaped : (structs : List ℕ) → AreCellStructs rules structs
-      → Every (λ (s : ℕ). ForStruct autos r s (IsShapedRoot face r) true) structs → ForAll autos (IsShapedRoot face r) true
+      → Every (λ (s : ℕ). ForStruct autos r s (IsShapedRoot face r) true) structs
+      → ForAll autos (IsShapedRoot face r) true
   parts_shaped structs g k ts c t e = there (choice_at autos r a ts t own e c)
     where
       there : InLanguage a t → Every (IsShapedSpot face ts) (spots face.boxes t [])

@@ -19,12 +19,29 @@ use Rattle.fa_filling.proofs.Chosen.{chosen_runs, runs_chosen}
 use Rattle.fa_filling.specs.Parted.{RunBy, chosen}
 use Rattle.fa_giving.specs.declared.totals.Extremes.{Extremes}
 use Rattle.fa_giving.specs.declared.worths.Worth.{Worth}
-use Rattle.fa_giving.specs.inner.Totals.{gives, IsExtremes, AreExtremes, extremes_of, none_given, added, total, worth_of}
+use Rattle.fa_giving.specs.inner.Totals.{
+  gives,
+  IsExtremes,
+  AreExtremes,
+  extremes_of,
+  none_given,
+  added,
+  total,
+  worth_of,
+}
 use Rattle.fa_giving.specs.inner.Totals.{names_root, all_give}
 use Rattle.fa_giving.specs.inner.Worths.{weigh, weight, refers, worth_at, nothing, joined, IsReal, IsBound, AreWorths}
 use Rattle.fa_giving.specs.inner.Worths.{rule_worth}
 use Rattle.fa_giving.proofs.Weights.{most_real, none_real, joined_real, real_map, bound_left, bound_right, bound_rule}
-use Rattle.fa_giving.proofs.Weights.{by_rule_real, capped_low, capped_less, capped_step, below_low, weigh_ref, weigh_not}
+use Rattle.fa_giving.proofs.Weights.{
+  by_rule_real,
+  capped_low,
+  capped_less,
+  capped_step,
+  below_low,
+  weigh_ref,
+  weigh_not,
+}
 use Rattle.fa_giving.proofs.Weights.{weigh_cell, weigh_is, below_slots}
 
 -- each state of a trimmed automaton has a tree
@@ -83,7 +100,8 @@ module _ (bs : List BoxFace) (r f : ℕ) where
         (joined_low x (worth_at table q) k q m (i q (inl refl))) t p j d
 
     pub whole : HasSome a → AreExtremes bs r f a (extremes_of (worth_of table nothing a.roots))
-    whole some = from_worth (InLanguage a) (worth_of table nothing a.roots) (roots_real a.roots ranked.0 (λ q i. i) nothing start)
+    whole some = from_worth (InLanguage a) (worth_of table nothing a.roots)
+        (roots_real a.roots ranked.0 (λ q i. i) nothing start)
         (λ t l. roots_bound a.roots ranked.0 (λ q i. i) nothing start t l.0 l.1 l.2)
       where
         start : IsReal bs r f (InLanguage a) nothing
@@ -267,7 +285,8 @@ module _ (bs : List BoxFace) (r f : ℕ) where
   totals autos es p = let m = most_more autos es none_given (omega arith) p in record {
     low = m.0;
     most_real = (let k = m.1 in let l = k.2 in (k.0, k.1, omega (arith, l)));
-    most_all = λ ts c. subst (λ (k : ℕ). (k ≤ (total none_given es).most) ⊎ ((total none_given es).most ≡ 2)) (omega arith)
+    most_all = λ ts c. subst (λ (k : ℕ).
+        (k ≤ (total none_given es).most) ⊎ ((total none_given es).most ≡ 2)) (omega arith)
         (most_bound autos es none_given 0 (inl (omega arith)) p ts c);
     none_real = λ h. (none_more autos es none_given p h).1;
     none_all = λ ts c z. none_bound autos es none_given p ts c refl z;

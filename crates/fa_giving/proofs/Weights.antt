@@ -1,6 +1,23 @@
 -- What a table says of states is true of their trees.
 use Rattle.std.proofs.Common.{◌≡◌, ◌⊎◌, inl, inr, ℕ, zero, suc, ◌<◌, ◌≤◌, ◌+◌, ◌-◌, Bool, true, false, true≢false, not}
-use Rattle.std.proofs.Common.{◌&&◌, ◌||◌, nat_eq, nat_lt, cond, List, [], ◌∷◌, ◌++◌, length, map, set, replicate, refl, sym, ap}
+use Rattle.std.proofs.Common.{
+  ◌&&◌,
+  ◌||◌,
+  nat_eq,
+  nat_lt,
+  cond,
+  List,
+  [],
+  ◌∷◌,
+  ◌++◌,
+  length,
+  map,
+  set,
+  replicate,
+  refl,
+  sym,
+  ap,
+}
 use Rattle.std.proofs.Common.{subst, ◌∙◌, arith, length-set}
 use Rattle.std.proofs.lemmas.Bool.{ltb-true, ltb-false, eqb-true, eq-eqb}
 use Rattle.std.specs.Bool.{MatchBool}
@@ -20,7 +37,17 @@ use Rattle.fa_core.specs.declared.faces.BoxFace.{BoxFace}
 use Rattle.fa_core.specs.Cells.{edges}
 use Rattle.fa_filling.specs.Parted.{RunBy}
 use Rattle.fa_giving.specs.declared.worths.Worth.{Worth}
-use Rattle.fa_giving.specs.inner.Worths.{weight, weigh_at, weigh, refers, capped, greater, nothing, leaf_worth, worth_at}
+use Rattle.fa_giving.specs.inner.Worths.{
+  weight,
+  weigh_at,
+  weigh,
+  refers,
+  capped,
+  greater,
+  nothing,
+  leaf_worth,
+  worth_at,
+}
 use Rattle.fa_giving.specs.inner.Worths.{most_below, none_below, with_edge, with_edges, worth_by, rule_worth, joined}
 use Rattle.fa_giving.specs.inner.Worths.{adds, IsSettled, IsReal, AreReal, IsBound, AreWorths, Takes, room_of, rooms}
 
@@ -380,13 +407,15 @@ module _ (bs : List BoxFace) (r f : ℕ) where
       edges_none (Field g ∷ ss) [] h x e = (e, ([], run_none, refl))
       edges_none (Field g ∷ ss) (q ∷ qs) h x e =
           let k = edges_none ss qs h.1 (with_edge bs f table x (Field g, q)) e in
-          let t = none_real (RunOf rules q) (worth_at table q) (real q h.0) (weight bs f (Field g)) (and_right x.none _ k.0) in
+          let t = none_real (RunOf rules q) (worth_at table q) (real q h.0) (weight bs f (Field g))
+          (and_right x.none _ k.0) in
           let a = t.2 in let b = k.1.2 in
           (and_left x.none _ k.0, (t.0 ∷ k.1.0, run_more t.1 k.1.1, omega (arith, a, b)))
       edges_none (Link g ∷ ss) [] h x e = (e, ([], run_none, refl))
       edges_none (Link g ∷ ss) (q ∷ qs) h x e =
           let k = edges_none ss qs h.1 (with_edge bs f table x (Link g, q)) e in
-          let t = none_real (RunOf rules q) (worth_at table q) (real q h.0) (weight bs f (Link g)) (and_right x.none _ k.0) in
+          let t = none_real (RunOf rules q) (worth_at table q) (real q h.0) (weight bs f (Link g))
+          (and_right x.none _ k.0) in
           let a = t.2 in let b = k.1.2 in
           (and_left x.none _ k.0, (t.0 ∷ k.1.0, run_more t.1 k.1.1, omega (arith, a, b)))
 

@@ -65,10 +65,15 @@ module _ (n s : ℕ) where
       first : zs ≡ (q + n) ∷ qs → OneHat n s (q ∷ qs) zs
       first e = rw e (inl (inl refl, refl))
 
-      rest : (rec : (ys : List ℕ) → IsIn ys (hat_children n s qs) → OneHat n s qs ys) → IsIn zs (map (λ ys. q ∷ ys) (hat_children n s qs)) → OneHat n s (q ∷ qs) zs
-      rest rec i = let m = in_mapped (λ (ys : List ℕ). q ∷ ys) zs (hat_children n s qs) i in rw m.2 (inr (refl, rec m.0 m.1))
+      rest : (rec : (ys : List ℕ) → IsIn ys (hat_children n s qs) → OneHat n s qs ys)
+          → IsIn zs (map (λ ys. q ∷ ys) (hat_children n s qs)) → OneHat n s (q ∷ qs) zs
+      rest rec i = let m = in_mapped (λ (ys : List ℕ). q ∷ ys) zs (hat_children n s qs) i
+          in rw m.2 (inr (refl, rec m.0 m.1))
 
-      next : (rec : (ys : List ℕ) → IsIn ys (hat_children n s qs) → OneHat n s qs ys) → (b : Bool) → nat_eq q s ≡ b → IsIn zs (if b then ((n + n) ∷ qs) ∷ map (λ ys. q ∷ ys) (hat_children n s qs) else map (λ ys. q ∷ ys) (hat_children n s qs)) → OneHat n s (q ∷ qs) zs
+      next : (rec : (ys : List ℕ) → IsIn ys (hat_children n s qs) → OneHat n s qs ys) → (b : Bool) → nat_eq q s ≡ b
+          → IsIn zs (if b then ((n + n) ∷ qs)
+          ∷ map (λ ys. q ∷ ys) (hat_children n s qs) else map (λ ys. q ∷ ys) (hat_children n s qs))
+          → OneHat n s (q ∷ qs) zs
       next rec true w (inl e) = rw e (inl (inr (eqb-true q s w, refl), refl))
       next rec true w (inr i) = rest rec i
       next rec false w i = rest rec i
@@ -77,27 +82,44 @@ module _ (n s : ℕ) where
   are_hats [] zs h = absurd h
   are_hats (q ∷ qs) [] h = absurd h
   are_hats (q ∷ qs) (z ∷ zs) (inl (inl e, w)) = inl (ap₂ (λ (a : ℕ) (b : List ℕ). a ∷ b) e (sym w))
-  are_hats (q ∷ qs) (z ∷ zs) (inl (inr e, w)) = let t : nat_eq q s ≡ true = eq-eqb q s e.0 in rw t (inr (inl (ap₂ (λ (a : ℕ) (b : List ℕ). a ∷ b) e.1 (sym w))))
+  are_hats (q ∷ qs) (z ∷ zs) (inl (inr e, w)) = let t : nat_eq q s ≡ true = eq-eqb q s e.0
+      in rw t (inr (inl (ap₂ (λ (a : ℕ) (b : List ℕ). a ∷ b) e.1 (sym w))))
   are_hats (q ∷ qs) (z ∷ zs) (inr h) = inr (next (nat_eq q s) (are_hats qs zs h.1))
     where
       there : IsIn zs (hat_children n s qs) → IsIn (z ∷ zs) (map (λ ys. q ∷ ys) (hat_children n s qs))
-      there i = subst (λ (x : ℕ). IsIn (x ∷ zs) (map (λ ys. q ∷ ys) (hat_children n s qs))) h.0 (in_map (λ (ys : List ℕ). q ∷ ys) zs (hat_children n s qs) i)
+      there i = subst (λ (x : ℕ). IsIn (x ∷ zs) (map (λ ys. q ∷ ys) (hat_children n s qs))) h.0
+          (in_map (λ (ys : List ℕ). q ∷ ys) zs (hat_children n s qs) i)
 
-      next : (b : Bool) → IsIn zs (hat_children n s qs) → IsIn (z ∷ zs) (if b then ((n + n) ∷ qs) ∷ map (λ ys. q ∷ ys) (hat_children n s qs) else map (λ ys. q ∷ ys) (hat_children n s qs))
+      next : (b : Bool) → IsIn zs (hat_children n s qs)
+          → IsIn (z ∷ zs) (if b then ((n + n) ∷ qs)
+          ∷ map (λ ys. q ∷ ys) (hat_children n s qs) else map (λ ys. q ∷ ys) (hat_children n s qs))
       next true i = inr (there i)
       next false i = there i
 
-  pub hat_found : (ys : List Rule) (o : Rule) → IsIn o (hat_rules n s ys) → (y : Rule) × IsIn y ys × (o.state ≡ y.state + n) × (o.symbol ≡ y.symbol) × OneHat n s y.children o.children
+  pub hat_found : (ys : List Rule) (o : Rule) → IsIn o (hat_rules n s ys)
+      → (y : Rule) × IsIn y ys × (o.state ≡ y.state + n) × (o.symbol ≡ y.symbol) × OneHat n s y.children o.children
   hat_found [] o h = absurd h
   hat_found (y ∷ ys) o h = elim (in_append o (map (hat_rule n y) (hat_children n s y.children)) (hat_rules n s ys) h) [
-    | inl i ↦ (let m = in_mapped (hat_rule n y) o (hat_children n s y.children) i in (y, inl refl, ap (λ (v : Rule). v.state) m.2, ap (λ (v : Rule). v.symbol) m.2, subst (λ (v : Rule). OneHat n s y.children v.children) (sym m.2) (hats_are y.children m.0 m.1)))
+    | inl i ↦ (let m = in_mapped (hat_rule n y) o (hat_children n s y.children) i
+        in (
+          y,
+          inl refl,
+          ap (λ (v : Rule). v.state) m.2,
+          ap (λ (v : Rule). v.symbol) m.2,
+          subst (λ (v : Rule). OneHat n s y.children v.children) (sym m.2) (hats_are y.children m.0 m.1),
+        ))
     | inr i ↦ (let m = hat_found ys o i in (m.0, inr m.1, m.2, m.3, m.4))
   ]
 
-  pub found_hat : (ys : List Rule) (y : Rule) (zs : List ℕ) → IsIn y ys → OneHat n s y.children zs → IsIn (hat_rule n y zs) (hat_rules n s ys)
+  pub found_hat : (ys : List Rule) (y : Rule) (zs : List ℕ) → IsIn y ys → OneHat n s y.children zs
+      → IsIn (hat_rule n y zs) (hat_rules n s ys)
   found_hat [] y zs i h = absurd i
-  found_hat (x ∷ ys) y zs (inl e) h = in_left (hat_rule n y zs) (map (hat_rule n x) (hat_children n s x.children)) (hat_rules n s ys) (rw (sym e) (in_map (hat_rule n y) zs (hat_children n s y.children) (are_hats y.children zs h)))
-  found_hat (x ∷ ys) y zs (inr i) h = in_right (hat_rule n y zs) (map (hat_rule n x) (hat_children n s x.children)) (hat_rules n s ys) (found_hat ys y zs i h)
+  found_hat (x ∷ ys) y zs (inl e) h =
+      in_left (hat_rule n y zs) (map (hat_rule n x) (hat_children n s x.children)) (hat_rules n s ys)
+      (rw (sym e) (in_map (hat_rule n y) zs (hat_children n s y.children) (are_hats y.children zs h)))
+  found_hat (x ∷ ys) y zs (inr i) h =
+      in_right (hat_rule n y zs) (map (hat_rule n x) (hat_children n s x.children)) (hat_rules n s ys)
+      (found_hat ys y zs i h)
 
 module _ (a : Automaton) (ranked : IsRanked a) (s u : ℕ) where
   abbrev n : ℕ
@@ -117,7 +139,8 @@ module _ (a : Automaton) (ranked : IsRanked a) (s u : ℕ) where
   old_below o i = (every_in (IsRankedRule a.states) a.rules o ranked.1 i).0
 
   -- a rule at a hatted state is a rule with one child hatted
-  pub at_hat : (q : ℕ) → q < n → (o : Rule) → IsIn o H → o.state ≡ q + n → (y : Rule) × IsIn y a.rules × (y.state ≡ q) × (o.symbol ≡ y.symbol) × OneHat n s y.children o.children
+  pub at_hat : (q : ℕ) → q < n → (o : Rule) → IsIn o H → o.state ≡ q + n
+      → (y : Rule) × IsIn y a.rules × (y.state ≡ q) × (o.symbol ≡ y.symbol) × OneHat n s y.children o.children
   at_hat q l o i e = elim (in_append o a.rules hats i) [
     | inl j ↦ (let b = old_below o j in absurd (omega (arith, b, e)))
     | inr (inl w) ↦ (let v : n + n ≡ q + n = sym (ap (λ (v : Rule). v.state) w) ∙ e in absurd (omega (arith, v, l)))
@@ -129,7 +152,8 @@ module _ (a : Automaton) (ranked : IsRanked a) (s u : ℕ) where
   at_hole o i e = elim (in_append o a.rules hats i) [
     | inl j ↦ (let b = old_below o j in absurd (omega (arith, b, e)))
     | inr (inl w) ↦ w
-    | inr (inr j) ↦ (let m = hat_found n s a.rules o j in let v = m.2 in let b = old_below m.0 m.1 in absurd (omega (arith, v, e, b)))
+    | inr (inr j) ↦ (let m = hat_found n s a.rules o j in let v = m.2 in let b = old_below m.0 m.1
+        in absurd (omega (arith, v, e, b)))
   ]
 
   pub no_hat : (qs : List ℕ) → length qs ≡ 0 → (zs : List ℕ) → OneHat n s qs zs → ⊥
@@ -142,30 +166,62 @@ module _ (a : Automaton) (ranked : IsRanked a) (s u : ℕ) where
       pub of_hat : (q : ℕ) (k : Node) → q < n → NodeRun H (q + n) k → (w : Node) × NodeRun a.rules q w × CutNode u m w k
       of_hat q (node c t ds ps) l h =
           let y = at_hat q l h.0 h.1 h.2 in
-          let z = of_hat_parts y.0.children h.0.children ps (every_in (IsRankedRule a.states) a.rules y.0 ranked.1 y.1).1 y.4 h.4 in
-          (node c t ds z.0, (y.0, y.1, y.2, sym y.3 ∙ h.3 ∙ ap (CellSymbol t ds) (cut_slots u m z.2), z.1), in_cell c t ds z.2)
+          let z = of_hat_parts y.0.children h.0.children ps
+          (every_in (IsRankedRule a.states) a.rules y.0 ranked.1 y.1).1 y.4 h.4 in (
+            node c t ds z.0,
+            (y.0, y.1, y.2, sym y.3 ∙ h.3 ∙ ap (CellSymbol t ds) (cut_slots u m z.2), z.1),
+            in_cell c t ds z.2,
+          )
 
-      of_hat_parts : (qs zs : List ℕ) (ps : Parts) → Every (λ q. q < n) qs → OneHat n s qs zs → PartsRun H zs ps → (rs : Parts) × PartsRun a.rules qs rs × CutParts u m rs ps
+      of_hat_parts : (qs zs : List ℕ) (ps : Parts) → Every (λ q. q < n) qs → OneHat n s qs zs → PartsRun H zs ps
+          → (rs : Parts) × PartsRun a.rules qs rs × CutParts u m rs ps
       of_hat_parts [] zs ps l o h = absurd o
       of_hat_parts (q ∷ qs) [] ps l o h = absurd o
       of_hat_parts (q ∷ qs) (z ∷ zs) no_parts l o h = absurd h
       of_hat_parts (q ∷ qs) (z ∷ zs) (field f e ps) l (inl o) h =
-          let v = of_hat_end q z e l.0 o.0 h.0 in
-          (field f v.0 ps, (v.1, stay_parts a hats ranked hats_above qs ps l.1 (subst (λ (x : List ℕ). PartsRun H x ps) (sym o.1) h.1)), at_field f ps v.2)
+          let v = of_hat_end q z e l.0 o.0 h.0 in (
+            field f v.0 ps,
+            (
+              v.1,
+              stay_parts a hats ranked hats_above qs ps l.1
+                  (subst (λ (x : List ℕ). PartsRun H x ps) (sym o.1) h.1),
+            ),
+            at_field f ps v.2,
+          )
       of_hat_parts (q ∷ qs) (z ∷ zs) (field f e ps) l (inr o) h =
-          let v = of_hat_parts qs zs ps l.1 o.1 h.1 in
-          (field f e v.0, (stay_end a hats ranked hats_above q e l.0 (subst (λ (x : ℕ). EndRun H x e) (sym o.0) h.0), v.1), on_field f e v.2)
+          let v = of_hat_parts qs zs ps l.1 o.1 h.1 in (
+            field f e v.0,
+            (
+              stay_end a hats ranked hats_above q e l.0 (subst (λ (x : ℕ). EndRun H x e) (sym o.0) h.0),
+              v.1,
+            ),
+            on_field f e v.2,
+          )
       of_hat_parts (q ∷ qs) (z ∷ zs) (link b i e ps) l (inl o) h =
-          let v = of_hat_end q z e l.0 o.0 h.0 in
-          (link b i v.0 ps, (v.1, stay_parts a hats ranked hats_above qs ps l.1 (subst (λ (x : List ℕ). PartsRun H x ps) (sym o.1) h.1)), at_link b i ps v.2)
+          let v = of_hat_end q z e l.0 o.0 h.0 in (
+            link b i v.0 ps,
+            (
+              v.1,
+              stay_parts a hats ranked hats_above qs ps l.1
+                  (subst (λ (x : List ℕ). PartsRun H x ps) (sym o.1) h.1),
+            ),
+            at_link b i ps v.2,
+          )
       of_hat_parts (q ∷ qs) (z ∷ zs) (link b i e ps) l (inr o) h =
-          let v = of_hat_parts qs zs ps l.1 o.1 h.1 in
-          (link b i e v.0, (stay_end a hats ranked hats_above q e l.0 (subst (λ (x : ℕ). EndRun H x e) (sym o.0) h.0), v.1), on_link b i e v.2)
+          let v = of_hat_parts qs zs ps l.1 o.1 h.1 in (
+            link b i e v.0,
+            (
+              stay_end a hats ranked hats_above q e l.0 (subst (λ (x : ℕ). EndRun H x e) (sym o.0) h.0),
+              v.1,
+            ),
+            on_link b i e v.2,
+          )
       of_hat_parts (q ∷ qs) (z ∷ zs) (hook b i ps) l o h =
           let v = of_hat_parts (q ∷ qs) (z ∷ zs) ps l o h in
           (hook b i v.0, v.1, on_hook b i v.2)
 
-      of_hat_end : (q z : ℕ) (e : End) → q < n → IsHat n s q z → EndRun H z e → (x : End) × EndRun a.rules q x × CutEnd u m x e
+      of_hat_end : (q z : ℕ) (e : End) → q < n → IsHat n s q z → EndRun H z e
+          → (x : End) × EndRun a.rules q x × CutEnd u m x e
       of_hat_end q z (under k) l (inl o) h =
           let v = of_hat q k l (subst (λ (x : ℕ). NodeRun H x k) o h) in
           (under v.0, v.1, cut_in v.2)
@@ -178,8 +234,11 @@ module _ (a : Automaton) (ranked : IsRanked a) (s u : ℕ) where
           absurd (cell_is_no_leaf (At u) t ds (slots_of ps) (sym (ap (λ (v : Rule). v.symbol) w) ∙ h.3))
       of_hat_end q z (leaf t) l (inr o) h =
           let w = at_hole h.0 h.1 (h.2 ∙ o.1) in
-          let e : t ≡ At u = one_leaf t (At u) (sym h.3 ∙ ap (λ (v : Rule). v.symbol) w) in
-          (under m, subst (λ (x : ℕ). NodeRun a.rules x m) (sym o.0) is, subst (λ (x : Target). CutEnd u m (under m) (leaf x)) (sym e) cut_off)
+          let e : t ≡ At u = one_leaf t (At u) (sym h.3 ∙ ap (λ (v : Rule). v.symbol) w) in (
+            under m,
+            subst (λ (x : ℕ). NodeRun a.rules x m) (sym o.0) is,
+            subst (λ (x : Target). CutEnd u m (under m) (leaf x)) (sym e) cut_off,
+          )
 
 -- the rule x of m, and the edge at its child p
 pub record ByOwner (bs : List BoxFace) (f r : ℕ) (rules : List Rule) (x : Rule) (p : ℕ) (m : Node) : Type 0 where
@@ -252,24 +311,106 @@ module _ (bs : List BoxFace) (f r u : ℕ) (a : Automaton) (ranked : IsRanked a)
   OwnPlace ps = (p : ℕ) × (end_at p ps ≡ Some (leaf (At r))) × (child_gives bs f (slots_of ps) p ≡ true)
 
   end_of : (q : ℕ) (w : Node) → NodeRun a.rules q w → AtTop q w ⊎ Inside q w → InsideEnd q (under w)
-  end_of q w h (inl t) = record { x = t.x; p = t.p; m = w; z = a.states + a.states; ke = leaf (At u); rule = t.rule; owner = t.owner; hat = inr (sym t.state, refl); runs = (hole a.states u, in_right (hole a.states u) a.rules (hole a.states u ∷ hat_rules a.states t.x.state a.rules) (inl refl), refl, refl, refl); cut = cut_off }
-  end_of q w h (inr i) = record { x = i.x; p = i.p; m = i.m; z = q + a.states; ke = under i.k; rule = i.rule; owner = i.owner; hat = inl refl; runs = i.runs; cut = cut_in i.cut }
+  end_of q w h (inl t) = record {
+    x = t.x;
+    p = t.p;
+    m = w;
+    z = a.states + a.states;
+    ke = leaf (At u);
+    rule = t.rule;
+    owner = t.owner;
+    hat = inr (sym t.state, refl);
+    runs = (
+      hole a.states u,
+      in_right (hole a.states u) a.rules (hole a.states u
+          ∷ hat_rules a.states t.x.state a.rules) (inl refl),
+      refl,
+      refl,
+      refl,
+    );
+    cut = cut_off;
+  }
+  end_of q w h (inr i) = record {
+    x = i.x;
+    p = i.p;
+    m = i.m;
+    z = q + a.states;
+    ke = under i.k;
+    rule = i.rule;
+    owner = i.owner;
+    hat = inl refl;
+    runs = i.runs;
+    cut = cut_in i.cut;
+  }
 
-  field_at : (q : ℕ) (qs : List ℕ) (g : ℕ) (e : End) (ps : Parts) → PartsRun a.rules qs ps → InsideEnd q e → InsideParts (q ∷ qs) (field g e ps)
-  field_at q qs g e ps h i = record { x = i.x; p = i.p; m = i.m; zs = i.z ∷ qs; ks = field g i.ke ps; rule = i.rule; owner = i.owner; hat = inl (i.hat, refl); runs = (i.runs, wide_p i.x qs ps h); cut = at_field g ps i.cut }
+  field_at : (q : ℕ) (qs : List ℕ) (g : ℕ) (e : End) (ps : Parts) → PartsRun a.rules qs ps → InsideEnd q e
+      → InsideParts (q ∷ qs) (field g e ps)
+  field_at q qs g e ps h i = record {
+    x = i.x;
+    p = i.p;
+    m = i.m;
+    zs = i.z ∷ qs;
+    ks = field g i.ke ps;
+    rule = i.rule;
+    owner = i.owner;
+    hat = inl (i.hat, refl);
+    runs = (i.runs, wide_p i.x qs ps h);
+    cut = at_field g ps i.cut;
+  }
 
-  link_at : (q : ℕ) (qs : List ℕ) (b : ℕ) (n : Nodes) (e : End) (ps : Parts) → PartsRun a.rules qs ps → InsideEnd q e → InsideParts (q ∷ qs) (link b n e ps)
-  link_at q qs b n e ps h i = record { x = i.x; p = i.p; m = i.m; zs = i.z ∷ qs; ks = link b n i.ke ps; rule = i.rule; owner = i.owner; hat = inl (i.hat, refl); runs = (i.runs, wide_p i.x qs ps h); cut = at_link b n ps i.cut }
+  link_at : (q : ℕ) (qs : List ℕ) (b : ℕ) (n : Nodes) (e : End) (ps : Parts) → PartsRun a.rules qs ps → InsideEnd q e
+      → InsideParts (q ∷ qs) (link b n e ps)
+  link_at q qs b n e ps h i = record {
+    x = i.x;
+    p = i.p;
+    m = i.m;
+    zs = i.z ∷ qs;
+    ks = link b n i.ke ps;
+    rule = i.rule;
+    owner = i.owner;
+    hat = inl (i.hat, refl);
+    runs = (i.runs, wide_p i.x qs ps h);
+    cut =
+        at_link b n ps i.cut;
+  }
 
-  field_on : (q : ℕ) (qs : List ℕ) (g : ℕ) (e : End) (ps : Parts) → EndRun a.rules q e → OwnPlace ps ⊎ InsideParts qs ps → OwnPlace (field g e ps) ⊎ InsideParts (q ∷ qs) (field g e ps)
+  field_on : (q : ℕ) (qs : List ℕ) (g : ℕ) (e : End) (ps : Parts) → EndRun a.rules q e → OwnPlace ps ⊎ InsideParts qs ps
+      → OwnPlace (field g e ps) ⊎ InsideParts (q ∷ qs) (field g e ps)
   field_on q qs g e ps h (inl o) = inl (suc o.0, o.1, o.2)
-  field_on q qs g e ps h (inr i) = inr (record { x = i.x; p = i.p; m = i.m; zs = q ∷ i.zs; ks = field g e i.ks; rule = i.rule; owner = i.owner; hat = inr (refl, i.hat); runs = (wide_e i.x q e h, i.runs); cut = on_field g e i.cut })
+  field_on q qs g e ps h (inr i) =
+      inr (record {
+        x = i.x;
+        p = i.p;
+        m = i.m;
+        zs = q ∷ i.zs;
+        ks = field g e i.ks;
+        rule = i.rule;
+        owner = i.owner;
+        hat =
+            inr (refl, i.hat);
+        runs = (wide_e i.x q e h, i.runs);
+        cut = on_field g e i.cut;
+      })
 
-  link_on : (q : ℕ) (qs : List ℕ) (b : ℕ) (n : Nodes) (e : End) (ps : Parts) → EndRun a.rules q e → OwnPlace ps ⊎ InsideParts qs ps → OwnPlace (link b n e ps) ⊎ InsideParts (q ∷ qs) (link b n e ps)
+  link_on : (q : ℕ) (qs : List ℕ) (b : ℕ) (n : Nodes) (e : End) (ps : Parts) → EndRun a.rules q e
+      → OwnPlace ps ⊎ InsideParts qs ps → OwnPlace (link b n e ps) ⊎ InsideParts (q ∷ qs) (link b n e ps)
   link_on q qs b n e ps h (inl o) = inl (suc o.0, o.1, o.2)
-  link_on q qs b n e ps h (inr i) = inr (record { x = i.x; p = i.p; m = i.m; zs = q ∷ i.zs; ks = link b n e i.ks; rule = i.rule; owner = i.owner; hat = inr (refl, i.hat); runs = (wide_e i.x q e h, i.runs); cut = on_link b n e i.cut })
+  link_on q qs b n e ps h (inr i) =
+      inr (record {
+        x = i.x;
+        p = i.p;
+        m = i.m;
+        zs = q ∷ i.zs;
+        ks = link b n e i.ks;
+        rule = i.rule;
+        owner = i.owner;
+        hat = inr (refl, i.hat);
+        runs = (wide_e i.x q e h, i.runs);
+        cut = on_link b n e i.cut;
+      })
 
-  hook_on : (qs : List ℕ) (b : ℕ) (n : Nodes) (ps : Parts) → OwnPlace ps ⊎ InsideParts qs ps → OwnPlace (hook b n ps) ⊎ InsideParts qs (hook b n ps)
+  hook_on : (qs : List ℕ) (b : ℕ) (n : Nodes) (ps : Parts) → OwnPlace ps ⊎ InsideParts qs ps
+      → OwnPlace (hook b n ps) ⊎ InsideParts qs (hook b n ps)
   hook_on qs b n ps (inl o) = inl (o.0, end_hook o.0 o.1, gives_hook o.0 o.2)
     where
       end_hook : (p : ℕ) → end_at p ps ≡ Some (leaf (At r)) → end_at p (hook b n ps) ≡ Some (leaf (At r))
@@ -279,16 +420,46 @@ module _ (bs : List BoxFace) (f r u : ℕ) (a : Automaton) (ranked : IsRanked a)
       gives_hook : (p : ℕ) → child_gives bs f (slots_of ps) p ≡ true → child_gives bs f (Hook b ∷ slots_of ps) p ≡ true
       gives_hook zero e = e
       gives_hook (suc p) e = e
-  hook_on qs b n ps (inr i) = inr (record { x = i.x; p = i.p; m = i.m; zs = i.zs; ks = hook b n i.ks; rule = i.rule; owner = i.owner; hat = i.hat; runs = run_hook qs i.zs i.hat i.runs; cut = on_hook b n i.cut })
+  hook_on qs b n ps (inr i) = inr
+      (record {
+        x = i.x;
+        p = i.p;
+        m = i.m;
+        zs = i.zs;
+        ks = hook b n i.ks;
+        rule = i.rule;
+        owner = i.owner;
+        hat = i.hat;
+        runs = run_hook qs i.zs i.hat i.runs;
+        cut = on_hook b n i.cut;
+      })
     where
-      run_hook : (qs zs : List ℕ) → OneHat a.states i.x.state qs zs → PartsRun (Hat i.x) zs i.ks → PartsRun (Hat i.x) zs (hook b n i.ks)
+      run_hook : (qs zs : List ℕ) → OneHat a.states i.x.state qs zs → PartsRun (Hat i.x) zs i.ks
+          → PartsRun (Hat i.x) zs (hook b n i.ks)
       run_hook qs [] o h = h
       run_hook qs (z ∷ zs) o h = h
 
   mutual
     pub find_edge : (q : ℕ) (w : Node) → NodeRun a.rules q w → HasEdge bs f r w → AtTop q w ⊎ Inside q w
     find_edge q (node c s ds ps) h e = elim (find_in h.0.children ps h.4 e) [
-      | inl o ↦ inl (record { x = h.0; p = o.0; rule = h.1; state = h.2; owner = record { cell = c; shape = s; datums = ds; parts = ps; is = refl; symbol = h.3; runs = h.4; ends = o.1; gives = o.2 } })
+      | inl o ↦ inl (record {
+        x = h.0;
+        p = o.0;
+        rule = h.1;
+        state = h.2;
+        owner =
+            record {
+              cell = c;
+              shape = s;
+              datums = ds;
+              parts = ps;
+              is = refl;
+              symbol = h.3;
+              runs = h.4;
+              ends = o.1;
+              gives = o.2;
+            };
+      })
       | inr i ↦ inr (record {
         x = i.x;
         p = i.p;
@@ -296,12 +467,20 @@ module _ (bs : List BoxFace) (f r u : ℕ) (a : Automaton) (ranked : IsRanked a)
         k = node c s ds i.ks;
         rule = i.rule;
         owner = i.owner;
-        runs = (hat_rule a.states h.0 i.zs, in_right (hat_rule a.states h.0 i.zs) a.rules (hole a.states u ∷ hat_rules a.states i.x.state a.rules) (inr (found_hat a.states i.x.state a.rules h.0 i.zs h.1 i.hat)), ap (λ (v : ℕ). v + a.states) h.2, h.3 ∙ ap (CellSymbol s ds) (sym (cut_slots u i.m i.cut)), i.runs);
+        runs = (
+          hat_rule a.states h.0 i.zs,
+          in_right (hat_rule a.states h.0 i.zs) a.rules (hole a.states u
+              ∷ hat_rules a.states i.x.state a.rules) (inr (found_hat a.states i.x.state a.rules h.0 i.zs h.1 i.hat)),
+          ap (λ (v : ℕ). v + a.states) h.2,
+          h.3 ∙ ap (CellSymbol s ds) (sym (cut_slots u i.m i.cut)),
+          i.runs,
+        );
         cut = in_cell c s ds i.cut;
       })
     ]
 
-    find_in : (qs : List ℕ) (ps : Parts) → PartsRun a.rules qs ps → HasEdgeIn bs f r ps → OwnPlace ps ⊎ InsideParts qs ps
+    find_in : (qs : List ℕ) (ps : Parts) → PartsRun a.rules qs ps → HasEdgeIn bs f r ps
+        → OwnPlace ps ⊎ InsideParts qs ps
     find_in qs no_parts h e = absurd e
     find_in [] (field g x ps) h e = absurd h
     find_in (q ∷ qs) (field g x ps) h (inl e) = inr (field_at q qs g x ps h.1 (find_at q x h.0 e))

@@ -46,7 +46,11 @@ mutual
     cut_in : {w k : Node} → CutNode u m w k → CutEnd u m (under w) (under k)
 
 flipped : (xs ys : List ℕ) → Rearranged (xs ++ ys) (ys ++ xs)
-flipped xs ys = rw (sym (append-nil (ys ++ xs)), append_assoc ys xs []) (subst (λ (z : List ℕ). Rearranged (xs ++ z) (ys ++ (xs ++ []))) (append-nil ys) (exchange xs ys []))
+flipped xs ys = rw (
+  sym (append-nil (ys ++ xs)),
+  append_assoc ys xs [],
+) (subst (λ (z : List ℕ).
+    Rearranged (xs ++ z) (ys ++ (xs ++ []))) (append-nil ys) (exchange xs ys []))
 
 later : (xs ys zs : List ℕ) → Rearranged ((xs ++ ys) ++ zs) ((xs ++ zs) ++ ys)
 later xs ys zs = rw (append_assoc xs ys zs, append_assoc xs zs ys) (after xs (flipped ys zs))
@@ -79,10 +83,18 @@ module _ (u : ℕ) (m : Node) where
     cut_plug (in_cell c s ds h) o = ap (node c s ds) (cut_plug_in h o)
 
     cut_plug_in : {ps qs : Parts} → CutParts u m ps qs → IsNever u (refs_of ps) → plug_parts u m qs ≡ ps
-    cut_plug_in (at_field f ps {e} {x} h) o = ap₂ (field f) (cut_plug_at h (never_left u (end_refs e) (refs_of ps) o)) (plug_never_parts u m ps (never_right u (end_refs e) (refs_of ps) o))
-    cut_plug_in (at_link b i ps {e} {x} h) o = ap₂ (link b i) (cut_plug_at h (never_left u (end_refs e) (refs_of ps) o)) (plug_never_parts u m ps (never_right u (end_refs e) (refs_of ps) o))
-    cut_plug_in (on_field f e {ps} {qs} h) o = ap₂ (field f) (plug_never_end u m e (never_left u (end_refs e) (refs_of ps) o)) (cut_plug_in h (never_right u (end_refs e) (refs_of ps) o))
-    cut_plug_in (on_link b i e {ps} {qs} h) o = ap₂ (link b i) (plug_never_end u m e (never_left u (end_refs e) (refs_of ps) o)) (cut_plug_in h (never_right u (end_refs e) (refs_of ps) o))
+    cut_plug_in (at_field f ps {e} {x} h) o =
+        ap₂ (field f) (cut_plug_at h (never_left u (end_refs e) (refs_of ps) o))
+        (plug_never_parts u m ps (never_right u (end_refs e) (refs_of ps) o))
+    cut_plug_in (at_link b i ps {e} {x} h) o =
+        ap₂ (link b i) (cut_plug_at h (never_left u (end_refs e) (refs_of ps) o))
+        (plug_never_parts u m ps (never_right u (end_refs e) (refs_of ps) o))
+    cut_plug_in (on_field f e {ps} {qs} h) o =
+        ap₂ (field f) (plug_never_end u m e (never_left u (end_refs e) (refs_of ps) o))
+        (cut_plug_in h (never_right u (end_refs e) (refs_of ps) o))
+    cut_plug_in (on_link b i e {ps} {qs} h) o =
+        ap₂ (link b i) (plug_never_end u m e (never_left u (end_refs e) (refs_of ps) o))
+        (cut_plug_in h (never_right u (end_refs e) (refs_of ps) o))
     cut_plug_in (on_hook b i h) o = ap (hook b i) (cut_plug_in h o)
 
     cut_plug_at : {e x : End} → CutEnd u m e x → IsNever u (end_refs e) → plug_end u m x ≡ e
@@ -120,7 +132,8 @@ module _ (u : ℕ) (m : Node) where
       pub uncut_insides : {w k : Node} → CutNode u m w k → InsidesOf T k → InsidesOf T m → InsidesOf T w
       uncut_insides (in_cell c s ds h) i j = uncut_insides_in h i j
 
-      uncut_insides_in : {ps qs : Parts} → CutParts u m ps qs → InsidesOfParts T qs → InsidesOf T m → InsidesOfParts T ps
+      uncut_insides_in : {ps qs : Parts} → CutParts u m ps qs → InsidesOfParts T qs → InsidesOf T m
+          → InsidesOfParts T ps
       uncut_insides_in (at_field f ps h) i j = (uncut_insides_at h i.0 j, i.1)
       uncut_insides_in (at_link b n ps h) i j = (i.0, uncut_insides_at h i.1 j, i.2)
       uncut_insides_in (on_field f e h) i j = (i.0, uncut_insides_in h i.1 j)
@@ -132,22 +145,30 @@ module _ (u : ℕ) (m : Node) where
       uncut_insides_at (cut_in h) i j = uncut_insides h i j
 
 module _ (u : ℕ) (m w k : Node) (cut : CutNode u m w k) where
-  pub all_cut_refs : (r : ℕ) (d : Nodes) → node_at d r ≡ Some w → Rearranged (all_refs (set_node r k d) ++ refs m) (u ∷ all_refs d)
+  pub all_cut_refs : (r : ℕ) (d : Nodes) → node_at d r ≡ Some w
+      → Rearranged (all_refs (set_node r k d) ++ refs m) (u ∷ all_refs d)
   all_cut_refs r no_nodes e = absurd (none-some w e)
   all_cut_refs zero (more n ns) e = rw (same_Some n w e) (front u m (refs k) (refs w) (all_refs ns) (cut_refs u m cut))
-  all_cut_refs (suc r) (more n ns) e = behind u m (all_refs (set_node r k ns)) (all_refs ns) (refs n) (all_cut_refs r ns e)
+  all_cut_refs (suc r) (more n ns) e =
+      behind u m (all_refs (set_node r k ns)) (all_refs ns) (refs n) (all_cut_refs r ns e)
 
   plug_never_all : (ns : Nodes) → IsNever u (all_refs ns) → plug_all u m ns ≡ ns
   plug_never_all no_nodes o = refl
-  plug_never_all (more n ns) o = ap₂ more (plug_never_tree u m n (never_left u (refs n) (all_refs ns) o)) (plug_never_all ns (never_right u (refs n) (all_refs ns) o))
+  plug_never_all (more n ns) o =
+      ap₂ more (plug_never_tree u m n (never_left u (refs n) (all_refs ns) o))
+      (plug_never_all ns (never_right u (refs n) (all_refs ns) o))
 
-  pub all_cut_plug : (r : ℕ) (d : Nodes) → node_at d r ≡ Some w → IsNever u (all_refs d) → plug_all u m (set_node r k d) ≡ d
+  pub all_cut_plug : (r : ℕ) (d : Nodes) → node_at d r ≡ Some w → IsNever u (all_refs d)
+      → plug_all u m (set_node r k d) ≡ d
   all_cut_plug r no_nodes e o = refl
   all_cut_plug zero (more n ns) e o =
       let p : n ≡ w = same_Some n w e in
       let o' : IsNever u (refs w ++ all_refs ns) = rw p at o in
-      rw p (ap₂ more (cut_plug u m cut (never_left u (refs w) (all_refs ns) o')) (plug_never_all ns (never_right u (refs w) (all_refs ns) o')))
-  all_cut_plug (suc r) (more n ns) e o = ap₂ more (plug_never_tree u m n (never_left u (refs n) (all_refs ns) o)) (all_cut_plug r ns e (never_right u (refs n) (all_refs ns) o))
+      rw p (ap₂ more (cut_plug u m cut (never_left u (refs w) (all_refs ns) o'))
+      (plug_never_all ns (never_right u (refs w) (all_refs ns) o')))
+  all_cut_plug (suc r) (more n ns) e o =
+      ap₂ more (plug_never_tree u m n (never_left u (refs n) (all_refs ns) o))
+      (all_cut_plug r ns e (never_right u (refs n) (all_refs ns) o))
 
 -- the cell refers to no other roots than the tree
 module _ (u n : ℕ) (m : Node) where
@@ -167,7 +188,8 @@ module _ (u n : ℕ) (m : Node) where
     below_end (cut_in h) b = below_node h b
 
 -- the law: a cell taken out of tree r, at any place, as a last tree of its own leaves the cells as they are
-module _ (m w k : Node) (r : ℕ) (d : Nodes) (cut : CutNode (count d) m w k) (at : node_at d r ≡ Some w) (below : AllBelow (count d) (all_refs d)) where
+module _ (m w k : Node) (r : ℕ) (d : Nodes) (cut : CutNode (count d) m w k) (at : node_at d r
+    ≡ Some w) (below : AllBelow (count d) (all_refs d)) where
   abbrev u : ℕ
   u = count d
 
@@ -178,21 +200,26 @@ module _ (m w k : Node) (r : ℕ) (d : Nodes) (cut : CutNode (count d) m w k) (a
   cut_all = all_cut_refs u m w k cut r d at
 
   wide : AllBelow (suc u) (all_refs ns ++ refs m)
-  wide = kept_every (λ q. q < suc u) (back cut_all) (omega arith, below_wider u (suc u) (omega arith) (all_refs d) below)
+  wide = kept_every (λ q. q < suc u) (back cut_all) (
+    omega arith,
+    below_wider u (suc u) (omega arith) (all_refs d) below,
+  )
 
   pub cell_below : AllBelow u (refs m)
   cell_below = of_forest r d at below
     where
       of_forest : (r : ℕ) (e : Nodes) → node_at e r ≡ Some w → AllBelow u (all_refs e) → AllBelow u (refs m)
       of_forest r no_nodes e h = absurd (none-some w e)
-      of_forest zero (more n ns) e h = let z : AllBelow u (refs n) = below_left u (refs n) (all_refs ns) h in below_node u u m cut (rw (same_Some n w e) at z)
+      of_forest zero (more n ns) e h = let z : AllBelow u (refs n) = below_left u (refs n) (all_refs ns) h
+          in below_node u u m cut (rw (same_Some n w e) at z)
       of_forest (suc r) (more n ns) e h = of_forest r ns e (below_right u (refs n) (all_refs ns) h)
 
   cut_once : IsOnce u (all_refs ns)
   cut_once = once_often u (all_refs ns) (
       let a : often u (all_refs ns ++ refs m) ≡ often u (u ∷ all_refs d) = often_same u cut_all in
       let b = often_both u (all_refs ns) (refs m) in
-      let e : often u (u ∷ all_refs d) ≡ often u (all_refs d) + 1 = (let w : nat_eq u u ≡ true = eq-eqb u u refl in rw w refl) in
+      let e : often u (u ∷ all_refs d) ≡ often u (all_refs d) + 1 =
+      (let w : nat_eq u u ≡ true = eq-eqb u u refl in rw w refl) in
       let f = often_below u (all_refs d) below in
       let g = often_below u (refs m) cell_below in
       omega (arith, a, b, e, f, g))
@@ -200,5 +227,9 @@ module _ (m w k : Node) (r : ℕ) (d : Nodes) (cut : CutNode (count d) m w k) (a
   pub cut_cells : Rearranged (cells d) (cells (with_last ns m))
   cut_cells =
       let n : count ns ≡ u = set_count r k d in
-      let q : Rearranged (cells (with_last ns m)) (cells (plug_all u m ns)) = subst (λ (j : ℕ). IsOnce j (all_refs ns) → AllBelow (suc j) (all_refs ns) → AllBelow j (refs m) → Rearranged (cells (with_last ns m)) (cells (plug_all j m ns))) n (graft_last ns m) cut_once (below_left (suc u) (all_refs ns) (refs m) wide) cell_below in
-      back (subst (λ (x : Nodes). Rearranged (cells (with_last ns m)) (cells x)) (all_cut_plug u m w k cut r d at (never_below u (all_refs d) below)) q)
+      let q : Rearranged (cells (with_last ns m)) (cells (plug_all u m ns)) =
+      subst (λ (j : ℕ). IsOnce j (all_refs ns) → AllBelow (suc j) (all_refs ns) → AllBelow j (refs m)
+      → Rearranged (cells (with_last ns m)) (cells (plug_all j m ns))) n (graft_last ns m) cut_once
+      (below_left (suc u) (all_refs ns) (refs m) wide) cell_below in
+      back (subst (λ (x : Nodes). Rearranged (cells (with_last ns m)) (cells x))
+      (all_cut_plug u m w k cut r d at (never_below u (all_refs d) below)) q)

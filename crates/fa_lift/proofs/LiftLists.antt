@@ -104,7 +104,8 @@ none_left [] e = refl
 none_left (q ∷ qs) e = let z : suc (length qs) ≡ 0 = e in absurd (omega (arith, z))
 
 -- a state may be the reference exactly where one of its rules is
-pub refer_runs : (a : Automaton) → IsRanked a → (r q : ℕ) → MayRefer a.rules r q → RunOf a.rules q (bare_end (leaf (At r)))
+pub refer_runs : (a : Automaton) → IsRanked a → (r q : ℕ) → MayRefer a.rules r q
+    → RunOf a.rules q (bare_end (leaf (At r)))
 refer_runs a ranked r q (o, i, s, y) =
     let k = (every_in (IsRankedRule a.states) a.rules o ranked.1 i).2 in
     let n : o.children ≡ [] = none_left o.children (k ∙ ap arity y) in

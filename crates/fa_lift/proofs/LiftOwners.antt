@@ -24,7 +24,15 @@ use Rattle.fa_split.proofs.ChosenForests.{fresh_signed}
 use Rattle.fa_split.proofs.ChosenTrees.{one_item, chosen_back, chosen_of, to_chosen, chosen_one, chosen_ranked}
 use Rattle.fa_split.proofs.ChosenTrees.{chosen_stay, chosen_roots, chosen_symbols, chosen_top}
 use Rattle.fa_split.proofs.FixedSigned.{tops_signed}
-use Rattle.fa_split.proofs.FixedTrees.{to_fixed, fixed_leaf, fixed_within, fixed_one, fixed_ranked, fixed_symbols, fixed_top}
+use Rattle.fa_split.proofs.FixedTrees.{
+  to_fixed,
+  fixed_leaf,
+  fixed_within,
+  fixed_one,
+  fixed_ranked,
+  fixed_symbols,
+  fixed_top,
+}
 use Rattle.fa_split.proofs.FreshStates.{widen}
 use Rattle.fa_split.proofs.Places.{cell_children, child_of_top}
 use Rattle.fa_split.proofs.RunPlaces.{at_index, set_same}
@@ -41,7 +49,8 @@ cell_gives bs f p (Ref k) e = absurd (true≢false (sym e))
 cell_gives bs f p (Cell s ds ss) e = refl
 
 -- the child at place p has a run to its state
-child_at : (rules : List Rule) (p : ℕ) (qs : List ℕ) (ps : Parts) (e : End) → end_at p ps ≡ Some e → PartsRun rules qs ps
+child_at : (rules : List Rule) (p : ℕ) (qs : List ℕ) (ps : Parts) (e : End) → end_at p ps ≡ Some e
+    → PartsRun rules qs ps
     → (q : ℕ) × (slice_get qs p ≡ Some q) × EndRun rules q e
 child_at rules p [] no_parts e i h = absurd (none-some e i)
 child_at rules p (q ∷ qs) no_parts e i h = absurd h
@@ -76,7 +85,8 @@ module _ (bs : List BoxFace) (r f : ℕ) (a : Automaton) (ranked : IsRanked a) (
       → a.states ≤ o.state
   above o i =
       let s : o.state ≡ a.states =
-      ap (λ (z : Rule). z.state) (one_item o (record { state = a.states; symbol = x.symbol; children = x.children }) i) in
+      ap (λ (z : Rule). z.state) (one_item o (record { state = a.states; symbol = x.symbol; children = x.children }) i)
+      in
       omega (arith, s)
 
   leaf_run : RunOf one.rules (child_state one p) (bare_end (leaf (At r)))

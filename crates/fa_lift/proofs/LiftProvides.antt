@@ -77,7 +77,8 @@ module _ (bs : List BoxFace) (r f : ℕ) where
       → HasEdge bs f r n
   all_edged a h (t, l, i) n k =
       edge_of bs f r n
-      (of_marks (bare n) (subst (λ (ms : List RefMark). MarksProvide r f ms) (h.component t (bare n) l k) (marks_of t i)))
+      (of_marks (bare n) (subst (λ (ms : List RefMark).
+      MarksProvide r f ms) (h.component t (bare n) l k) (marks_of t i)))
 
   -- no mark provides anything
   pub none_provided : MarksProvide r f [] → ⊥
@@ -87,7 +88,8 @@ module _ (bs : List BoxFace) (r f : ℕ) where
   pub state_provides : (a : Automaton) (q : ℕ) (ms : List RefMark) → IsIn q a.roots
       → ((t : Tree) → RunOf a.rules q t → ms ≡ signature bs t) → ((ms ≡ []) ⊎ HasTree a.rules q)
       → MarksProvide r f ms → Provides bs r f a
-  state_provides a q ms i each (inl e) h = absurd (none_provided (subst (λ (xs : List RefMark). MarksProvide r f xs) e h))
+  state_provides a q ms i each (inl e) h =
+      absurd (none_provided (subst (λ (xs : List RefMark). MarksProvide r f xs) e h))
   state_provides a q ms i each (inr (t, w)) h =
       (t, (q, i, w), of_marks t (subst (λ (xs : List RefMark). MarksProvide r f xs) (each t w) h))
 

@@ -67,12 +67,13 @@ module _ (a : Automaton) (ranked : IsRanked a) (s u : ℕ) where
   -- its symbols are old ones, and the one reference
   hatted_symbols : (P : Symbol → Type 0) → P (Ref u) → Every (λ (o : Rule). P o.symbol) a.rules
       → Every (λ (o : Rule). P o.symbol) (hatted a s u).rules
-  hatted_symbols P k h = every_append (λ (o : Rule). P o.symbol) a.rules (hole a.states u ∷ hat_rules a.states s a.rules) h (
-    k,
-    in_every (λ (o : Rule). P o.symbol) (hat_rules a.states s a.rules) (λ o i.
-        let m = hat_found a.states s a.rules o i in
-        subst P (sym m.3) (every_in (λ (z : Rule). P z.symbol) a.rules m.0 h m.1)),
-  )
+  hatted_symbols P k h = every_append (λ (o : Rule).
+      P o.symbol) a.rules (hole a.states u ∷ hat_rules a.states s a.rules) h (
+        k,
+        in_every (λ (o : Rule). P o.symbol) (hat_rules a.states s a.rules) (λ o i.
+            let m = hat_found a.states s a.rules o i in
+            subst P (sym m.3) (every_in (λ (z : Rule). P z.symbol) a.rules m.0 h m.1)),
+      )
 
   -- the states of its rules are in range
   hats_within : (l : s < a.states) (qs zs : List ℕ) → Every (λ q. q < a.states) qs → OneHat a.states s qs zs
@@ -163,7 +164,8 @@ module _ (face : Face) (F : Forest) (r f t : ℕ) (ranked : Every IsRanked F.aut
 
   -- The edge inside.
 
-  module _ (c : Automaton) (c_ranked : IsRanked c) (marks : List RefMark) (piece : IsPieceBy face.boxes (hatted a x.state N) marks c)
+  module _ (c : Automaton) (c_ranked : IsRanked c) (marks : List RefMark)
+      (piece : IsPieceBy face.boxes (hatted a x.state N) marks c)
       (some : HasSome O) where
     abbrev C : Automaton
     C = hatted a x.state N
@@ -189,7 +191,8 @@ module _ (face : Face) (F : Forest) (r f t : ℕ) (ranked : Every IsRanked F.aut
 
     c_fits : RulesFit face c
     c_fits = in_every (λ (o : Rule). SymbolFits face o.symbol) c.rules (λ o i.
-        let k = every_in (λ (z : Rule). (w : Rule) × IsIn w C.rules × (w.symbol ≡ z.symbol)) c.rules o piece.symbols i in
+        let k = every_in (λ (z : Rule). (w : Rule) × IsIn w C.rules × (w.symbol ≡ z.symbol)) c.rules o piece.symbols i
+        in
         subst (SymbolFits face) k.2 (every_in (λ (z : Rule). SymbolFits face z.symbol) C.rules k.0 hat_fits k.1))
 
     -- Trees.

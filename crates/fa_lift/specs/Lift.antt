@@ -144,7 +144,8 @@ abbrev pub IsLiftOf : List BoxFace → Forest → ℕ → ℕ → ℕ → Forest
 IsLiftOf bs F r f t G = (x : Rule) × (p : ℕ) × (u : ℕ) × Owns bs r f (component_at F.autos t) x p
     × IsLiftBy bs F r t x p G u × IsLiftedAt bs r f G u p
 
--- the list has, for each rule and place that own the edge, the forest with the cell at the top of component t, where the
+-- the list has, for each rule and place that own the edge, the forest with the cell at the top of component t, where
+-- the
 -- rule may stand there, and for each tree that is left without the cell one in which it is a new last root
 pub record HaveLifts (bs : List BoxFace) (F : Forest) (r f t : ℕ) (Gs : List Forest) : Type 0 where
   pub tops : (x : Rule) (p : ℕ) → Owns bs r f (component_at F.autos t) x p → IsIn x.state (component_at F.autos t).roots

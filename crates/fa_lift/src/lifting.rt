@@ -175,7 +175,8 @@ fn with_top(
     own: &Auto,
 ) -> Mem<List<Sound>>
     requires from { from < length forest.now.forest.autos }
-    requires owns { Owns forest.now.face.boxes _root _field (component_at forest.now.forest.autos from) rule.now _place }
+    requires owns { Owns forest.now.face.boxes _root _field (component_at forest.now.forest.autos from)
+        rule.now _place }
     requires own { own.now ≡ owner (component_at forest.now.forest.autos from) rule.now _place _root }
     requires some { HasSome own.now }
     ensures each { IfOk result (Every (IsLift forest.now.face forest.now.forest _root _field from)) }
@@ -203,7 +204,8 @@ fn with_rest(
     own: &Auto,
 ) -> Mem<List<Sound>>
     requires from { from < length forest.now.forest.autos }
-    requires owns { Owns forest.now.face.boxes _root _field (component_at forest.now.forest.autos from) rule.now _place }
+    requires owns { Owns forest.now.face.boxes _root _field (component_at forest.now.forest.autos from)
+        rule.now _place }
     requires own { own.now ≡ owner (component_at forest.now.forest.autos from) rule.now _place _root }
     requires some { HasSome own.now }
     ensures each { IfOk result (Every (IsLift forest.now.face forest.now.forest _root _field from)) }
@@ -245,7 +247,8 @@ fn with_pieces(
     pieces: &[Auto],
 ) -> Mem<List<Sound>>
     requires from { from < length forest.now.forest.autos }
-    requires owns { Owns forest.now.face.boxes _root _field (component_at forest.now.forest.autos from) _rule.now _place }
+    requires owns { Owns forest.now.face.boxes _root _field (component_at forest.now.forest.autos from)
+        _rule.now _place }
     requires own { own.now ≡ owner (component_at forest.now.forest.autos from) _rule.now _place _root }
     requires some { HasSome own.now }
     requires pieces { Every (IsPiece forest.now.face.boxes

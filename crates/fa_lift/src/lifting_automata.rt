@@ -158,7 +158,8 @@ fn hats_with(
     requires within { first < by }
     requires fits { by + by < 2 ^ 32 }
     ensures { IfOk result (λ made. made
-        ≡ ((first + by) ∷ rest.now) ∷ (if nat_eq first state then ((by + by) ∷ rest.now) ∷ map (λ zs. first ∷ zs) more.now
+        ≡ ((first + by) ∷ rest.now) ∷ (if nat_eq first state
+        then ((by + by) ∷ rest.now) ∷ map (λ zs. first ∷ zs) more.now
         else map (λ zs. first ∷ zs) more.now)) }
 {
     let mut made = List::new(alloc);

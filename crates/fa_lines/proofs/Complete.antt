@@ -63,7 +63,8 @@ false_true e = grind arith
 letter_first : (c : ℕ) (cs : List ℕ) → IsName (c ∷ cs) → is_letter c ≡ true
 letter_first c cs fit = (both (is_letter c) (list_all is_word_byte cs) fit).0
 
-no_mark_by : (c : ℕ) (cs : List ℕ) (b : ℕ) → IsName (c ∷ cs) → is_letter b ≡ false → (t : Bool) → is (c ∷ cs) (b ∷ []) ≡ t
+no_mark_by : (c : ℕ) (cs : List ℕ) (b : ℕ) → IsName (c ∷ cs) → is_letter b ≡ false → (t : Bool)
+    → is (c ∷ cs) (b ∷ []) ≡ t
     → is (c ∷ cs) (b ∷ []) ≡ false
 no_mark_by c cs b fit other false told = told
 no_mark_by c cs b fit other true told =
@@ -139,13 +140,15 @@ module _ {X : Type 0} (P : X → Type 0) (spelled : X → Texts) (front : Texts 
   one_read : (n : ℕ) (x : X) (rest : Texts) → P x
       → items front close (suc n) (spelled x ++ close ∷ rest) ≡ Some (x ∷ [], rest)
   one_read n x rest fit =
-      ap (λ o. o >>= λ p. mark_front close p.1 >>= λ m. item_rest (items front close n) p.0 m) (reads x close rest fit no_equals)
+      ap (λ o. o >>= λ p. mark_front close p.1 >>= λ m.
+      item_rest (items front close n) p.0 m) (reads x close rest fit no_equals)
       ∙ rw (is_itself close) refl
 
   more_read : (n : ℕ) (x : X) (after : Texts) (p : List X × Texts) → P x → items front close n after ≡ Some p
       → items front close (suc n) (spelled x ++ codes "," ∷ after) ≡ Some (x ∷ p.0, p.1)
   more_read n x after p fit others =
-      ap (λ o. o >>= λ p. mark_front close p.1 >>= λ m. item_rest (items front close n) p.0 m) (reads x (codes ",") after fit refl)
+      ap (λ o. o >>= λ p. mark_front close p.1 >>= λ m.
+      item_rest (items front close n) p.0 m) (reads x (codes ",") after fit refl)
       ∙ rw (no_comma, others) refl
 
   pub items_complete : (n : ℕ) (x : X) (xs : List X) (rest : Texts) → Every P (x ∷ xs) → length (x ∷ xs) ≤ n
@@ -154,7 +157,8 @@ module _ {X : Type 0} (P : X → Type 0) (spelled : X → Texts) (front : Texts 
   items_complete (suc n) x [] rest fit within = one_read n x rest fit.0
   items_complete (suc n) x (y ∷ ys) rest fit within =
       let inner = items_complete n y ys rest fit.1 (omega (arith, within)) in
-      ap (items front close (suc n)) (append_assoc (spelled x) (codes "," ∷ series (map spelled (y ∷ ys))) (close ∷ rest))
+      ap (items front close (suc n))
+      (append_assoc (spelled x) (codes "," ∷ series (map spelled (y ∷ ys))) (close ∷ rest))
       ∙ more_read n x (series (map spelled (y ∷ ys)) ++ close ∷ rest) (y ∷ ys, rest) fit.0 inner
 
   -- there are at least as many pieces as items

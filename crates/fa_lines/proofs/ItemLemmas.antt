@@ -1,5 +1,24 @@
 -- Items in a row.
-use Rattle.std.proofs.Common.{arith, ℕ, suc, List, [], ◌∷◌, ◌++◌, ◌≡◌, ◌<◌, ◌-◌, ◌+◌, refl, sym, ap, ◌∙◌, Option, Some, None}
+use Rattle.std.proofs.Common.{
+  arith,
+  ℕ,
+  suc,
+  List,
+  [],
+  ◌∷◌,
+  ◌++◌,
+  ◌≡◌,
+  ◌<◌,
+  ◌-◌,
+  ◌+◌,
+  refl,
+  sym,
+  ap,
+  ◌∙◌,
+  Option,
+  Some,
+  None,
+}
 use Rattle.std.proofs.Common.{append_assoc, false, Bool}
 use Rattle.fa_lines.specs.inner.Reading.{Texts, items, item_rest, mark_front, more, mores, ◌>>=◌}
 
@@ -27,7 +46,8 @@ items_are front close n i ps x after m less at mark =
     ∙ ap (λ o. o >>= λ m. item_rest others x m) mark
 
 -- an item, and then a comma
-pub item_next : {X : Type 0} (front : Texts → Option (X × Texts)) (close : List ℕ) (found : List X) (n i : ℕ) (ps : Texts)
+pub item_next : {X : Type 0} (front : Texts
+    → Option (X × Texts)) (close : List ℕ) (found : List X) (n i : ℕ) (ps : Texts)
     (x : X) (after others : Texts) (r : Option (List X × Texts)) → i < n → front ps ≡ Some (x, after)
     → mark_front close after ≡ Some (false, others) → mores found (items front close (n - i) ps) ≡ r
     → mores (found ++ x ∷ []) (items front close (n - (i + 1)) others) ≡ r

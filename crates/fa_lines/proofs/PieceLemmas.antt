@@ -112,7 +112,8 @@ piece_behind (c ∷ cs) rest g b first gap is all ends =
     byte_step g b first (c ∷ (cs ++ rest)) gap is
     ∙ ap (λ t. cond t (longer b others) ((b ∷ []) ∷ others)) a.0
     ∙ ap (longer b)
-    (piece_behind cs rest first c first (word_no_gap c (joins_word first c a.0)) (ap (λ t. cond t first c) a.0) a.1 ends)
+    (piece_behind cs rest first c first (word_no_gap c (joins_word first c a.0)) (ap (λ t. cond t first c) a.0) a.1
+    ends)
 
 -- a space or a tab is no piece
 pub gap_front : (b : ℕ) (bs : List ℕ) → is_gap b ≡ true → pieces (b ∷ bs) ≡ pieces bs
@@ -162,7 +163,8 @@ split_by : (b : ℕ) (bs : List ℕ) (gap : Bool) → is_gap b ≡ gap → IsSpl
 split_by b bs true is =
     let none = none_on b bs (other_ends b bs (gap_no_word b is)) in
     gap_front b bs is
-    ∙ sym (ap (λ k. kept (b ∷ take k bs) ++ pieces (drop k bs)) none ∙ ap (λ t. cond t [] ((b ∷ []) ∷ []) ++ pieces bs) is)
+    ∙ sym (ap (λ k. kept (b ∷ take k bs) ++ pieces (drop k bs)) none
+    ∙ ap (λ t. cond t [] ((b ∷ []) ∷ []) ++ pieces bs) is)
 split_by b bs false is =
     let k = prefix_len (joins b) bs in
     piece_front b bs is ∙ ap (λ t. cond t [] ((b ∷ take k bs) ∷ []) ++ pieces (drop k bs)) (sym is)

@@ -43,7 +43,8 @@ number_before_word : pieces (codes "root 0s0") ≡ codes "root" ∷ codes "0" �
 unfolding is_gap is_word_byte is_letter is_digit
 number_before_word = refl
 
-number_before_underscore : pieces (codes "12_3a 0x1 a007b") ≡ codes "12" ∷ codes "_3a" ∷ codes "0" ∷ codes "x1" ∷ codes "a007b" ∷ []
+number_before_underscore : pieces (codes "12_3a 0x1 a007b")
+    ≡ codes "12" ∷ codes "_3a" ∷ codes "0" ∷ codes "x1" ∷ codes "a007b" ∷ []
 unfolding is_gap is_word_byte is_letter is_digit
 number_before_underscore = refl
 

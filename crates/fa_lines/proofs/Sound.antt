@@ -1,6 +1,23 @@
 -- What is read was written so.
 use Rattle.std.proofs.Common.{arith, ℕ, suc, zero, Bool, true, false, List, [], ◌∷◌, ◌++◌, ◌≡◌, ◌≤◌, ◌<◌, inl, inr, map}
-use Rattle.std.proofs.Common.{refl, sym, ap, ◌∙◌, subst, Option, Some, None, cond, codes, decimal, nat_le, nat_lt, nat_eq, length, ◌&&◌}
+use Rattle.std.proofs.Common.{
+  refl,
+  sym,
+  ap,
+  ◌∙◌,
+  subst,
+  Option,
+  Some,
+  None,
+  cond,
+  codes,
+  decimal,
+  nat_le,
+  nat_lt,
+  nat_eq,
+  length,
+  ◌&&◌,
+}
 use Rattle.std.proofs.Common.{append_assoc}
 use Rattle.std.proofs.lemmas.Option.{none-some, same_Some}
 use Rattle.std.proofs.lemmas.Bool.{eqb-true}
@@ -16,9 +33,29 @@ use Rattle.fa_lines.specs.declared.line.Term.TheVariants.{Null, Uninit, Dangling
 use Rattle.fa_lines.specs.Pieces.{is_word}
 use Rattle.fa_lines.specs.Spelling.{Texts, state_text, series, datum_text, datum_pieces, slot_pieces, data_pieces}
 use Rattle.fa_lines.specs.Spelling.{term_pieces, IsState, IsName, IsValue, IsDatum, IsSlot, IsTerm}
-use Rattle.fa_lines.specs.inner.Reading.{◌>>=◌, guard, is, value_from, number_of, number_up_to, state_of, datum_or, datum_of}
+use Rattle.fa_lines.specs.inner.Reading.{
+  ◌>>=◌,
+  guard,
+  is,
+  value_from,
+  number_of,
+  number_up_to,
+  state_of,
+  datum_or,
+  datum_of,
+}
 use Rattle.fa_lines.specs.inner.Reading.{field_front, link_front, hook_front, box_front, slot_front, datum_front, more}
-use Rattle.fa_lines.specs.inner.Reading.{mark_front, item_rest, items, leaf_of, whole, whole_of, no_slots, slots_of, cell_with}
+use Rattle.fa_lines.specs.inner.Reading.{
+  mark_front,
+  item_rest,
+  items,
+  leaf_of,
+  whole,
+  whole_of,
+  no_slots,
+  slots_of,
+  cell_with,
+}
 use Rattle.fa_lines.specs.inner.Reading.{data_cell, cell_of, term_of}
 use Rattle.fa_lines.proofs.Options.{guarded, bound, chosen, both, text_is}
 
@@ -108,11 +145,12 @@ box_sound : (name : List ℕ) (rest : Texts) (p : SlotText × Texts) → box_fro
 unfolding box_front
 box_sound name [] p e = hook_sound name [] p e
 box_sound name (a ∷ []) p e = hook_sound name (a ∷ []) p e
-box_sound name (a ∷ b ∷ rest) p e = elim (chosen (is a (codes "=")) (link_front name b rest) (hook_front name (a ∷ b ∷ rest)) p e) [
-  | inl h ↦ let l = link_sound name b rest p h.1 in
-      (l.0, ap (λ t. codes "@" ∷ name ∷ t ∷ b ∷ rest) (text_is a (codes "=") h.0) ∙ l.1)
-  | inr h ↦ hook_sound name (a ∷ b ∷ rest) p h.1
-]
+box_sound name (a ∷ b ∷ rest) p e =
+    elim (chosen (is a (codes "=")) (link_front name b rest) (hook_front name (a ∷ b ∷ rest)) p e) [
+      | inl h ↦ let l = link_sound name b rest p h.1 in
+          (l.0, ap (λ t. codes "@" ∷ name ∷ t ∷ b ∷ rest) (text_is a (codes "=") h.0) ∙ l.1)
+      | inr h ↦ hook_sound name (a ∷ b ∷ rest) p h.1
+    ]
 
 pub slot_sound : (ps : Texts) (p : SlotText × Texts) → slot_front ps ≡ Some p → AreSlot ps p
 unfolding slot_front
@@ -122,21 +160,24 @@ slot_sound (a ∷ b ∷ []) p e =
     let g = guarded (is a (codes "@")) (box_front b []) p e in
     let s = box_sound b [] p g.1 in
     (s.0, ap (λ t. t ∷ b ∷ []) (text_is a (codes "@") g.0) ∙ s.1)
-slot_sound (a ∷ b ∷ c ∷ rest) p e = elim (chosen (is a (codes "@")) (box_front b (c ∷ rest)) (guard (is b (codes "=")) (field_front a c rest)) p e) [
-  | inl h ↦ let s = box_sound b (c ∷ rest) p h.1 in
-      (s.0, ap (λ t. t ∷ b ∷ c ∷ rest) (text_is a (codes "@") h.0) ∙ s.1)
-  | inr h ↦ let g = guarded (is b (codes "=")) (field_front a c rest) p h.1 in
-      let s = field_sound a c rest p g.1 in
-      (s.0, ap (λ t. a ∷ t ∷ c ∷ rest) (text_is b (codes "=") g.0) ∙ s.1)
-]
+slot_sound (a ∷ b ∷ c ∷ rest) p e =
+    elim (chosen (is a (codes "@")) (box_front b (c ∷ rest)) (guard (is b (codes "=")) (field_front a c rest)) p e) [
+      | inl h ↦ let s = box_sound b (c ∷ rest) p h.1 in
+          (s.0, ap (λ t. t ∷ b ∷ c ∷ rest) (text_is a (codes "@") h.0) ∙ s.1)
+      | inr h ↦ let g = guarded (is b (codes "=")) (field_front a c rest) p h.1 in
+          let s = field_sound a c rest p g.1 in
+          (s.0, ap (λ t. a ∷ t ∷ c ∷ rest) (text_is b (codes "=") g.0) ∙ s.1)
+    ]
 
-pub datum_front_sound : (ps : Texts) (p : DatumText × Texts) → datum_front ps ≡ Some p → IsRead IsDatum datum_pieces ps p
+pub datum_front_sound : (ps : Texts) (p : DatumText × Texts) → datum_front ps ≡ Some p
+    → IsRead IsDatum datum_pieces ps p
 unfolding datum_front
 datum_front_sound [] p e = absurd (none-some p e)
 datum_front_sound (a ∷ []) p e = absurd (none-some p e)
 datum_front_sound (a ∷ b ∷ []) p e = absurd (none-some p e)
 datum_front_sound (a ∷ b ∷ c ∷ rest) p e =
-    let g = guarded (is b (codes "=") && is_word a) (datum_of c >>= λ d. Some (record { name = a; datum = d }, rest)) p e in
+    let g = guarded (is b (codes "=") && is_word a) (datum_of c >>= λ d.
+    Some (record { name = a; datum = d }, rest)) p e in
     let w = both (is b (codes "=")) (is_word a) g.0 in
     let o = bound (datum_of c) (λ d. Some (record { name = a; datum = d }, rest)) p g.1 in
     let d = datum_sound c o.0 o.1 in
@@ -152,13 +193,14 @@ mark_of close b = cond b close (codes ",")
 mark_sound : (close : List ℕ) (ps : Texts) (m : Bool × Texts) → mark_front close ps ≡ Some m
     → ps ≡ mark_of close m.0 ∷ m.1
 mark_sound close [] m e = absurd (none-some m e)
-mark_sound close (p ∷ rest) m e = elim (chosen (is p close) (Some (true, rest)) (guard (is p (codes ",")) (Some (false, rest))) m e) [
-  | inl h ↦ subst (λ (x : Bool × Texts). p ∷ rest ≡ mark_of close x.0 ∷ x.1) (same_Some (true, rest) m h.1)
-      (ap (λ t. t ∷ rest) (text_is p close h.0))
-  | inr h ↦ let g = guarded (is p (codes ",")) (Some (false, rest)) m h.1 in
-      subst (λ (x : Bool × Texts). p ∷ rest ≡ mark_of close x.0 ∷ x.1) (same_Some (false, rest) m g.1)
-      (ap (λ t. t ∷ rest) (text_is p (codes ",") g.0))
-]
+mark_sound close (p ∷ rest) m e =
+    elim (chosen (is p close) (Some (true, rest)) (guard (is p (codes ",")) (Some (false, rest))) m e) [
+      | inl h ↦ subst (λ (x : Bool × Texts). p ∷ rest ≡ mark_of close x.0 ∷ x.1) (same_Some (true, rest) m h.1)
+          (ap (λ t. t ∷ rest) (text_is p close h.0))
+      | inr h ↦ let g = guarded (is p (codes ",")) (Some (false, rest)) m h.1 in
+          subst (λ (x : Bool × Texts). p ∷ rest ≡ mark_of close x.0 ∷ x.1) (same_Some (false, rest) m g.1)
+          (ap (λ t. t ∷ rest) (text_is p (codes ",") g.0))
+    ]
 
 module _ {X : Type 0} (P : X → Type 0) (spelled : X → Texts) (front : Texts → Option (X × Texts))
     (sound : (ps : Texts) (p : X × Texts) → front ps ≡ Some p → IsRead P spelled ps p) (close : List ℕ) where
@@ -227,11 +269,12 @@ unfolding leaf_of
 leaf_sound a t e = elim (chosen (is a (codes "null")) (Some Null) (cond (is a (codes "uninit")) (Some Uninit)
     (guard (is a (codes "dangling")) (Some Dangling))) t e) [
       | inl h ↦ leaf_is a (codes "null") Null t tt refl h.0 h.1
-      | inr h ↦ elim (chosen (is a (codes "uninit")) (Some Uninit) (guard (is a (codes "dangling")) (Some Dangling)) t h.1) [
-        | inl k ↦ leaf_is a (codes "uninit") Uninit t tt refl k.0 k.1
-        | inr k ↦ let g = guarded (is a (codes "dangling")) (Some Dangling) t k.1 in
-            leaf_is a (codes "dangling") Dangling t tt refl g.0 g.1
-      ]
+      | inr h ↦ elim (chosen (is a (codes "uninit")) (Some Uninit) (guard (is a (codes "dangling")) (Some Dangling)) t
+          h.1) [
+            | inl k ↦ leaf_is a (codes "uninit") Uninit t tt refl k.0 k.1
+            | inr k ↦ let g = guarded (is a (codes "dangling")) (Some Dangling) t k.1 in
+                leaf_is a (codes "dangling") Dangling t tt refl g.0 g.1
+          ]
     ]
 
 whole_is : {X : Type 0} (y : X) (ps : Texts) (x : X) → whole_of y ps ≡ Some x → (y ≡ x) × (ps ≡ [])
@@ -261,7 +304,8 @@ slots_sound (p ∷ ps) slots e = elim (chosen (is p (codes ")")) (no_slots ps)
       | inr h ↦
           let b = bound (items slot_front (codes ")") (length (p ∷ ps)) (p ∷ ps)) whole slots h.1 in
           let w = whole_sound b.0 slots b.2 in
-          let s = items_sound IsSlot slot_pieces slot_front slot_sound (codes ")") (length (p ∷ ps)) (p ∷ ps) b.0 b.1 in (
+          let s = items_sound IsSlot slot_pieces slot_front slot_sound (codes ")") (length (p ∷ ps)) (p ∷ ps) b.0 b.1
+          in (
             subst (Every IsSlot) w.0 s.fit,
             s.spell ∙ ap (λ rest. series (map slot_pieces b.0.0) ++ codes ")" ∷ rest) w.1 ∙ ap ends_slots w.0,
           )
@@ -283,7 +327,8 @@ cell_sound shape ds (p ∷ rest) t name fit e =
 
 brackets : (ds : List DatumText) (first : DatumText) (others : List DatumText) → ds ≡ first ∷ others
     → data_pieces ds ≡ codes "[" ∷ series (map datum_pieces ds) ++ codes "]" ∷ []
-brackets ds first others are = subst (λ xs. data_pieces xs ≡ codes "[" ∷ series (map datum_pieces xs) ++ codes "]" ∷ []) (sym are) refl
+brackets ds first others are =
+    subst (λ xs. data_pieces xs ≡ codes "[" ∷ series (map datum_pieces xs) ++ codes "]" ∷ []) (sym are) refl
 
 data_cell_sound : (shape : List ℕ) (ps : Texts) (t : Term) → IsName shape → data_cell shape ps ≡ Some t
     → IsTerm t × (shape ∷ codes "[" ∷ ps ≡ term_pieces t)
@@ -304,7 +349,8 @@ cell_of_sound : (shape : List ℕ) (ps : Texts) (t : Term) → cell_of shape ps 
 unfolding cell_of
 cell_of_sound shape [] t e = absurd (none-some t e)
 cell_of_sound shape (p ∷ rest) t e =
-    let g = guarded (is_word shape) (cond (is p (codes "[")) (data_cell shape rest) (cell_with shape [] (p ∷ rest))) t e in
+    let g = guarded (is_word shape) (cond (is p (codes "[")) (data_cell shape rest) (cell_with shape [] (p ∷ rest))) t e
+    in
     elim (chosen (is p (codes "[")) (data_cell shape rest) (cell_with shape [] (p ∷ rest)) t g.1) [
       | inl h ↦ let d = data_cell_sound shape rest t g.0 h.1 in
           (d.0, ap (λ x. shape ∷ x ∷ rest) (text_is p (codes "[") h.0) ∙ d.1)

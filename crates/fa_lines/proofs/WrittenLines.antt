@@ -12,7 +12,18 @@ use Rattle.fa_lines.specs.Pieces.{is_word, pieces}
 use Rattle.fa_lines.specs.Says.{IsPassedOver, Spells, Says}
 use Rattle.fa_lines.specs.Spelling.{Texts, state_text, term_pieces, line_pieces}
 use Rattle.fa_lines.specs.Spelling.{IsState, IsTerm, IsLine}
-use Rattle.fa_lines.specs.inner.Reading.{◌>>=◌, guard, is, number_of, state_of, term_of, box_of, states_of, root_of, rule_of}
+use Rattle.fa_lines.specs.inner.Reading.{
+  ◌>>=◌,
+  guard,
+  is,
+  number_of,
+  state_of,
+  term_of,
+  box_of,
+  states_of,
+  root_of,
+  rule_of,
+}
 use Rattle.fa_lines.specs.inner.Reading.{end_of, line_of_pieces, line_of}
 use Rattle.fa_lines.proofs.PieceLemmas.{piece_behind, space_first, other_ends}
 use Rattle.fa_lines.proofs.Options.{guarded, bound, chosen, both, text_is}
@@ -123,13 +134,14 @@ pieces_sound [] line e = absurd (none-some line e)
 pieces_sound (a ∷ ps) line e = elim (chosen (is a (codes "box")) (box_of ps) (cond (is a (codes "root")) (root_of ps)
     (cond (is a (codes "end")) (end_of ps) (rule_of a ps))) line e) [
       | inl h ↦ renamed a (codes "box") ps line h.0 (box_line ps line h.1)
-      | inr h ↦ elim (chosen (is a (codes "root")) (root_of ps) (cond (is a (codes "end")) (end_of ps) (rule_of a ps)) line h.1) [
-        | inl k ↦ renamed a (codes "root") ps line k.0 (root_line ps line k.1)
-        | inr k ↦ elim (chosen (is a (codes "end")) (end_of ps) (rule_of a ps) line k.1) [
-          | inl m ↦ renamed a (codes "end") ps line m.0 (end_line ps line m.1)
-          | inr m ↦ rule_line a ps line m.1
-        ]
-      ]
+      | inr h ↦ elim (chosen (is a (codes "root")) (root_of ps) (cond (is a (codes "end")) (end_of ps) (rule_of a ps))
+          line h.1) [
+            | inl k ↦ renamed a (codes "root") ps line k.0 (root_line ps line k.1)
+            | inr k ↦ elim (chosen (is a (codes "end")) (end_of ps) (rule_of a ps) line k.1) [
+              | inl m ↦ renamed a (codes "end") ps line m.0 (end_line ps line m.1)
+              | inr m ↦ rule_line a ps line m.1
+            ]
+          ]
     ]
 
 -- From the line to its pieces
@@ -238,7 +250,8 @@ sign_by : (b : ℕ) (bs : List ℕ) (line : Line) (sign : Bool) → nat_eq b 35 
     → nat_eq b 35 ≡ false
 sign_by b bs line false told is = told
 sign_by b bs line true told is =
-    absurd (no_sharp line (pieces bs) (sym (sharp_front bs) ∙ ap (λ c. pieces (c ∷ bs)) (sym (eqb-true b 35 told)) ∙ is))
+    absurd (no_sharp line (pieces bs) (sym (sharp_front bs) ∙ ap (λ c. pieces (c ∷ bs)) (sym (eqb-true b 35 told))
+    ∙ is))
 
 -- no piece stands in no bytes
 no_bytes : (line : Line) → line ≢ Skipped → [] ≡ line_pieces line → ⊥

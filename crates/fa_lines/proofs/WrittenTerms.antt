@@ -12,7 +12,15 @@ use Rattle.fa_lines.specs.Spelling.{Texts, series, datum_pieces, slot_pieces, te
 use Rattle.fa_lines.specs.Spelling.{IsName, IsDatum, IsSlot, IsTerm}
 use Rattle.fa_lines.specs.inner.Reading.{◌>>=◌, is, slot_front, datum_front}
 use Rattle.fa_lines.specs.inner.Reading.{items, leaf_of, whole, slots_of, cell_with, data_cell, cell_of, term_of}
-use Rattle.fa_lines.proofs.Complete.{number_complete, no_mark, no_letter, slots_complete, datums_complete, items_complete, enough}
+use Rattle.fa_lines.proofs.Complete.{
+  number_complete,
+  no_mark,
+  no_letter,
+  slots_complete,
+  datums_complete,
+  items_complete,
+  enough,
+}
 
 slot_some : (s : SlotText) → 0 < length (slot_pieces s)
 slot_some (Field name q) = omega arith

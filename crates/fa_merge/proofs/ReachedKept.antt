@@ -154,7 +154,8 @@ module _ (face : Face) (F G : Forest) (gives : Every IsGiving face.boxes ⊎ Eve
 -- where the forests regroup each other and a root of the one is not reached, there is a least one of the other that is
 -- not
 pub unreached_kept : (face : Face) (F G : Forest) → Every IsGiving face.boxes ⊎ Every HasNoBoxes G.autos
-    → IsSound face F → IsSound face G → Every IsRanked F.autos → ((T : List BoxDef) → Regroups T G F) → (r : ℕ) → IsLeastUnreached face F r → (k : ℕ)
+    → IsSound face F → IsSound face G → Every IsRanked F.autos → ((T : List BoxDef) → Regroups T G F) → (r : ℕ)
+    → IsLeastUnreached face F r → (k : ℕ)
     × IsLeastUnreached face G k
 unreached_kept face F G gives sound sound_new ranked regroups r h = elim (roots_decided face G sound_new) [
   | inl all ↦ absurd

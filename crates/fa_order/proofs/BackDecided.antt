@@ -60,5 +60,6 @@ module _ (bs : List BoxFace) (i j r : ℕ) where
       here None e = inr (λ h. none-some h.0 (sym e ∙ h.1))
       here (Some t) e = elim (ways_decided (ways t)) [
         | inl h ↦ inl (t, e, (h.0, h.1, h.2.0, h.2.1))
-        | inr n ↦ inr (λ h. n (let s : h.0 ≡ t = sym (same_Some t h.0 (sym e ∙ h.1)) in (h.2.0, subst (λ (z : Tree). IsIn h.2.0 (ways z)) s h.2.1, (h.2.2, h.2.3))))
+        | inr n ↦ inr (λ h. n (let s : h.0 ≡ t = sym (same_Some t h.0 (sym e ∙ h.1))
+            in (h.2.0, subst (λ (z : Tree). IsIn h.2.0 (ways z)) s h.2.1, (h.2.2, h.2.3))))
       ]

@@ -14,7 +14,8 @@ use Rattle.fa_core.specs.Ways.{Step, Way, ways, is_back, all_back, leads_back, l
 use Rattle.fa_core.specs.Ways.{leads_through, to_root}
 
 module _ (bs : List BoxFace) (giving : Every IsGiving bs) where
-  face_gives : (o : Option BoxFace) → ((x : BoxFace) → o ≡ Some x → IsIn x bs) → leads_through o ≡ true → fields_out o ≡ [] → ⊥
+  face_gives : (o : Option BoxFace) → ((x : BoxFace) → o ≡ Some x → IsIn x bs) → leads_through o ≡ true
+      → fields_out o ≡ [] → ⊥
   face_gives None i h e = true≢false (sym h)
   face_gives (Some x) i h e = every_in IsGiving bs x giving (i x refl) h e
 
@@ -41,7 +42,8 @@ module _ (bs : List BoxFace) (giving : Every IsGiving bs) where
       here false h i = absurd i
   led_gives (s ∷ t ∷ ss) r i e = here (λ j. led_gives (t ∷ ss) r j e) (all_back bs (s ∷ t ∷ ss)) refl i
     where
-      here : (IsIn r (led_to bs (t ∷ ss)) → ⊥) → (b : Bool) → all_back bs (s ∷ t ∷ ss) ≡ b → IsIn r (cond b s.refers (led_to bs (t ∷ ss))) → ⊥
+      here : (IsIn r (led_to bs (t ∷ ss)) → ⊥) → (b : Bool) → all_back bs (s ∷ t ∷ ss) ≡ b
+          → IsIn r (cond b s.refers (led_to bs (t ∷ ss))) → ⊥
       here g true h i = all_gives s (t ∷ ss) h e
       here g false h i = g i
 
@@ -54,13 +56,18 @@ module _ (bs : List BoxFace) (giving : Every IsGiving bs) where
   some_item [] h = absurd (h refl)
   some_item (x ∷ xs) h = (x, inl refl)
 
-  gives_here : (i : ℕ) (ws : List Way) (w : Way) → IsIn w ws → w.root ≡ i → (x : ℕ) → IsIn x (given bs w.steps) → IsIn x (flat_map (λ (v : Way). given bs v.steps) (to_root i ws))
+  gives_here : (i : ℕ) (ws : List Way) (w : Way) → IsIn w ws → w.root ≡ i → (x : ℕ) → IsIn x (given bs w.steps)
+      → IsIn x (flat_map (λ (v : Way). given bs v.steps) (to_root i ws))
   gives_here i [] w h e x j = absurd h
   gives_here i (v ∷ ws) w h e x j = here (λ z. gives_here i ws w z e x j) (nat_eq i v.root) refl h
     where
-      here : (IsIn w ws → IsIn x (flat_map (λ (v : Way). given bs v.steps) (to_root i ws))) → (b : Bool) → nat_eq i v.root ≡ b → IsIn w (v ∷ ws) → IsIn x (flat_map (λ (v : Way). given bs v.steps) (cond b (v ∷ to_root i ws) (to_root i ws)))
-      here g true d (inl z) = in_left x (given bs v.steps) (flat_map (λ (v : Way). given bs v.steps) (to_root i ws)) (subst (λ (y : Way). IsIn x (given bs y.steps)) z j)
-      here g true d (inr z) = in_right x (given bs v.steps) (flat_map (λ (v : Way). given bs v.steps) (to_root i ws)) (g z)
+      here : (IsIn w ws → IsIn x (flat_map (λ (v : Way). given bs v.steps) (to_root i ws))) → (b : Bool)
+          → nat_eq i v.root ≡ b → IsIn w (v ∷ ws)
+          → IsIn x (flat_map (λ (v : Way). given bs v.steps) (cond b (v ∷ to_root i ws) (to_root i ws)))
+      here g true d (inl z) = in_left x (given bs v.steps) (flat_map (λ (v : Way). given bs v.steps) (to_root i ws))
+          (subst (λ (y : Way). IsIn x (given bs y.steps)) z j)
+      here g true d (inr z) = in_right x (given bs v.steps) (flat_map (λ (v : Way). given bs v.steps) (to_root i ws))
+          (g z)
       here g false d (inl z) = absurd (true≢false (sym (eq-eqb i v.root (sym e ∙ ap (λ (y : Way). y.root) z)) ∙ d))
       here g false d (inr z) = g z
 
@@ -68,5 +75,6 @@ module _ (bs : List BoxFace) (giving : Every IsGiving bs) where
   pub back_provides : (ts : List Tree) (i j r : ℕ) → LeadsBack bs ts i j r → (f : ℕ) × provides bs ts i j f
   back_provides ts i j r l =
       let w = l.2 in
-      let some = some_item (given bs w.0.steps) (way_gives w.0.steps r (elim w.3 [ inl h ↦ inl h.1 | inr h ↦ inr h ])) in
+      let some = some_item (given bs w.0.steps) (way_gives w.0.steps r (elim w.3 [ inl h ↦ inl h.1 | inr h ↦ inr h ]))
+      in
       (some.0, (l.0, l.1, gives_here i (ways l.0) w.0 w.1 w.2 some.0 some.1))

@@ -1,6 +1,23 @@
 -- The least field that is given to a root, and which of two trees gives the lesser one.
 use Rattle.std.proofs.Common.{◌≡◌, inl, inr, ℕ, ◌<◌, ◌≤◌, ◌+◌, Bool, true, false, nat_eq, cond, List, []}
-use Rattle.std.proofs.Common.{◌∷◌, ◌++◌, refl, sym, ap, subst, ◌∙◌, Option, Some, None, take, length, get_or, append-nil, append_assoc, arith}
+use Rattle.std.proofs.Common.{
+  ◌∷◌,
+  ◌++◌,
+  refl,
+  sym,
+  ap,
+  subst,
+  ◌∙◌,
+  Option,
+  Some,
+  None,
+  take,
+  length,
+  get_or,
+  append-nil,
+  append_assoc,
+  arith,
+}
 use Rattle.std.proofs.lemmas.Bool.{eqb-true, eq-eqb}
 use Rattle.fore_base.specs.Lists.{IsIn, Every}
 use Rattle.fore_base.proofs.ListLemmas.{in_left, in_right, in_append, every_push, take_item}
@@ -47,7 +64,10 @@ new_least xs n other h l = (
     lower (y ∷ ys) k = ((let a = k.0 in omega (arith, l, a)), lower ys k.1)
 
 pub only_least : (xs : List ℕ) (other : ℕ) → IsLeastIn xs None → IsLeastIn (xs ++ other ∷ []) (Some other)
-only_least xs other h = subst (λ (z : List ℕ). IsLeastIn (z ++ other ∷ []) (Some other)) (sym h) (inl refl, (omega arith, tt))
+only_least xs other h = subst (λ (z : List ℕ). IsLeastIn (z ++ other ∷ []) (Some other)) (sym h) (
+  inl refl,
+  (omega arith, tt),
+)
 
 -- The fields of one mark more.
 

@@ -1,5 +1,31 @@
 -- Ways back where roots have other numbers, one for one.
-use Rattle.std.proofs.Common.{◌≡◌, inl, inr, ℕ, Bool, true, false, true≢false, cond, ◌&&◌, nat_eq, List, [], ◌∷◌, ◌++◌, map, flat_map, refl, sym, ap, ap₂, subst, ◌∙◌, Some, slice_get}
+use Rattle.std.proofs.Common.{
+  ◌≡◌,
+  inl,
+  inr,
+  ℕ,
+  Bool,
+  true,
+  false,
+  true≢false,
+  cond,
+  ◌&&◌,
+  nat_eq,
+  List,
+  [],
+  ◌∷◌,
+  ◌++◌,
+  map,
+  flat_map,
+  refl,
+  sym,
+  ap,
+  ap₂,
+  subst,
+  ◌∙◌,
+  Some,
+  slice_get,
+}
 use Rattle.std.proofs.lemmas.Bool.{eqb-true, eq-eqb}
 use Rattle.fore_base.specs.Lists.{IsIn}
 use Rattle.fore_base.proofs.ListLemmas.{in_map, in_mapped}
@@ -9,7 +35,21 @@ use Rattle.fa_core.specs.Canonical.{LeadsBack, provides}
 use Rattle.fa_core.specs.Dressed.{Node}
 use Rattle.fa_core.specs.Member.{bare}
 use Rattle.fa_core.specs.Placed.{placed}
-use Rattle.fa_core.specs.Ways.{Step, Way, ways, is_back, all_back, leads_back, led_to, given, to_root, has, once_from, once, roots_met}
+use Rattle.fa_core.specs.Ways.{
+  Step,
+  Way,
+  ways,
+  is_back,
+  all_back,
+  leads_back,
+  led_to,
+  given,
+  to_root,
+  has,
+  once_from,
+  once,
+  roots_met,
+}
 use Rattle.fa_merge.specs.Reordered.{renumber}
 use Rattle.fa_leaves.proofs.MovedWays.{put_way, put_step, ways_put}
 
@@ -26,11 +66,13 @@ module _ (f : ℕ → ℕ) where
 
   steps_moved : (ss : List Step) → map (put_step (renumber f)) ss ≡ map moved_step ss
   steps_moved [] = refl
-  steps_moved (s ∷ ss) = ap₂ (λ (x : List ℕ) (y : List Step). record { slot = s.slot; refers = x } ∷ y) (one_by_one s.refers) (steps_moved ss)
+  steps_moved (s ∷ ss) = ap₂ (λ (x : List ℕ) (y : List Step).
+      record { slot = s.slot; refers = x } ∷ y) (one_by_one s.refers) (steps_moved ss)
 
   pub ways_moved : (ws : List Way) → flat_map (put_way (renumber f)) ws ≡ map moved_way ws
   ways_moved [] = refl
-  ways_moved (w ∷ ws) = ap₂ (λ (x : List Step) (y : List Way). record { root = f w.root; steps = x } ∷ y) (steps_moved w.steps) (ways_moved ws)
+  ways_moved (w ∷ ws) = ap₂ (λ (x : List Step) (y : List Way).
+      record { root = f w.root; steps = x } ∷ y) (steps_moved w.steps) (ways_moved ws)
 
   -- the law for new numbers
   pub renumbered_ways : (n : Node) → ways (bare (placed (renumber f) n)) ≡ map moved_way (ways (bare n))
@@ -53,9 +95,11 @@ module _ (f : ℕ → ℕ) where
 
     pub led_moved : (ss : List Step) → led_to bs (map moved_step ss) ≡ map f (led_to bs ss)
     led_moved [] = refl
-    led_moved (s ∷ ss) = ap (λ (b : Bool). cond b (map f s.refers) (led_to bs (map moved_step ss))) (all_moved (s ∷ ss)) ∙ here (led_moved ss) (all_back bs (s ∷ ss))
+    led_moved (s ∷ ss) = ap (λ (b : Bool). cond b (map f s.refers) (led_to bs (map moved_step ss))) (all_moved (s ∷ ss))
+        ∙ here (led_moved ss) (all_back bs (s ∷ ss))
       where
-        here : led_to bs (map moved_step ss) ≡ map f (led_to bs ss) → (b : Bool) → cond b (map f s.refers) (led_to bs (map moved_step ss)) ≡ map f (cond b s.refers (led_to bs ss))
+        here : led_to bs (map moved_step ss) ≡ map f (led_to bs ss) → (b : Bool)
+            → cond b (map f s.refers) (led_to bs (map moved_step ss)) ≡ map f (cond b s.refers (led_to bs ss))
         here e true = refl
         here e false = e
 
@@ -72,7 +116,8 @@ module _ (f : ℕ → ℕ) where
         here true e true d = refl
         here false e false d = refl
         here true e false d = absurd (true≢false (sym (eq-eqb (f a) (f b) (ap f (eqb-true a b e))) ∙ d))
-        here false e true d = absurd (true≢false (sym (eq-eqb a b (sym (there a) ∙ ap g (eqb-true (f a) (f b) d) ∙ there b)) ∙ e))
+        here false e true d =
+            absurd (true≢false (sym (eq-eqb a b (sym (there a) ∙ ap g (eqb-true (f a) (f b) d) ∙ there b)) ∙ e))
 
     pub has_moved : (n : ℕ) (s : List ℕ) → has (f n) (map f s) ≡ has n s
     has_moved n [] = refl
@@ -80,9 +125,14 @@ module _ (f : ℕ → ℕ) where
 
     once_moved : (s xs : List ℕ) → once_from (map f s) (map f xs) ≡ map f (once_from s xs)
     once_moved s [] = refl
-    once_moved s (x ∷ xs) = ap (λ (b : Bool). cond b (once_from (map f s) (map f xs)) (f x ∷ once_from (f x ∷ map f s) (map f xs))) (has_moved x s) ∙ here (once_moved s xs) (once_moved (x ∷ s) xs) (has x s)
+    once_moved s (x ∷ xs) = ap (λ (b : Bool).
+        cond b (once_from (map f s) (map f xs)) (f x ∷ once_from (f x ∷ map f s) (map f xs))) (has_moved x s)
+        ∙ here (once_moved s xs) (once_moved (x ∷ s) xs) (has x s)
       where
-        here : once_from (map f s) (map f xs) ≡ map f (once_from s xs) → once_from (f x ∷ map f s) (map f xs) ≡ map f (once_from (x ∷ s) xs) → (b : Bool) → cond b (once_from (map f s) (map f xs)) (f x ∷ once_from (f x ∷ map f s) (map f xs)) ≡ map f (cond b (once_from s xs) (x ∷ once_from (x ∷ s) xs))
+        here : once_from (map f s) (map f xs) ≡ map f (once_from s xs)
+            → once_from (f x ∷ map f s) (map f xs) ≡ map f (once_from (x ∷ s) xs) → (b : Bool)
+            → cond b (once_from (map f s) (map f xs)) (f x ∷ once_from (f x ∷ map f s) (map f xs))
+            ≡ map f (cond b (once_from s xs) (x ∷ once_from (x ∷ s) xs))
         here a b true = a
         here a b false = ap (λ (z : List ℕ). f x ∷ z) b
 
@@ -93,19 +143,30 @@ module _ (f : ℕ → ℕ) where
     pub met_moved : (ws : List Way) → roots_met (map moved_way ws) ≡ map f (roots_met ws)
     met_moved ws = ap once (roots_moved ws) ∙ once_moved [] (map (λ (w : Way). w.root) ws)
 
-    pub provided_moved : (bs : List BoxFace) (i : ℕ) (ws : List Way) → flat_map (λ (w : Way). given bs w.steps) (to_root (f i) (map moved_way ws)) ≡ flat_map (λ (w : Way). given bs w.steps) (to_root i ws)
+    pub provided_moved : (bs : List BoxFace) (i : ℕ) (ws : List Way)
+        → flat_map (λ (w : Way). given bs w.steps) (to_root (f i) (map moved_way ws))
+        ≡ flat_map (λ (w : Way). given bs w.steps) (to_root i ws)
     provided_moved bs i [] = refl
-    provided_moved bs i (w ∷ ws) = ap (λ (b : Bool). flat_map (λ (v : Way). given bs v.steps) (cond b (moved_way w ∷ to_root (f i) (map moved_way ws)) (to_root (f i) (map moved_way ws)))) (eq_moved i w.root) ∙ here (provided_moved bs i ws) (nat_eq i w.root)
+    provided_moved bs i (w ∷ ws) =
+        ap (λ (b : Bool). flat_map (λ (v : Way).
+        given bs v.steps) (cond b (moved_way w ∷ to_root (f i) (map moved_way ws)) (to_root (f i) (map moved_way ws))))
+        (eq_moved i w.root) ∙ here (provided_moved bs i ws) (nat_eq i w.root)
       where
-        here : flat_map (λ (w : Way). given bs w.steps) (to_root (f i) (map moved_way ws)) ≡ flat_map (λ (w : Way). given bs w.steps) (to_root i ws) → (b : Bool) → flat_map (λ (v : Way). given bs v.steps) (cond b (moved_way w ∷ to_root (f i) (map moved_way ws)) (to_root (f i) (map moved_way ws))) ≡ flat_map (λ (v : Way). given bs v.steps) (cond b (w ∷ to_root i ws) (to_root i ws))
+        here : flat_map (λ (w : Way). given bs w.steps) (to_root (f i) (map moved_way ws))
+            ≡ flat_map (λ (w : Way). given bs w.steps) (to_root i ws) → (b : Bool)
+            → flat_map (λ (v : Way). given bs v.steps)
+            (cond b (moved_way w ∷ to_root (f i) (map moved_way ws)) (to_root (f i) (map moved_way ws)))
+            ≡ flat_map (λ (v : Way). given bs v.steps) (cond b (w ∷ to_root i ws) (to_root i ws))
         here e true = ap₂ (λ (x y : List ℕ). x ++ y) (given_moved bs w.steps) e
         here e false = e
 
     -- each tree of `us` is one of `ts` under the new numbers, at its new place
     pub record AreMoved (ts us : List Tree) : Type 0 where
       pub again : (j : ℕ) → f (g j) ≡ j
-      pub down : (k : ℕ) (t : Tree) → slice_get ts k ≡ Some t → (u : Tree) × (slice_get us (f k) ≡ Some u) × (ways u ≡ map moved_way (ways t))
-      pub up : (j : ℕ) (u : Tree) → slice_get us j ≡ Some u → (t : Tree) × (slice_get ts (g j) ≡ Some t) × (ways u ≡ map moved_way (ways t))
+      pub down : (k : ℕ) (t : Tree) → slice_get ts k ≡ Some t
+          → (u : Tree) × (slice_get us (f k) ≡ Some u) × (ways u ≡ map moved_way (ways t))
+      pub up : (j : ℕ) (u : Tree) → slice_get us j ≡ Some u
+          → (t : Tree) × (slice_get ts (g j) ≡ Some t) × (ways u ≡ map moved_way (ways t))
 
     module _ (bs : List BoxFace) (ts us : List Tree) (m : AreMoved ts us) where
       pub leads_on : (i j r : ℕ) → LeadsBack bs ts i j r → LeadsBack bs us (f i) (f j) (f r)
@@ -141,13 +202,18 @@ module _ (f : ℕ → ℕ) where
               root,
               elim w.3 [
                 | inl h ↦ inl (ap g h.0, sym (back_moved bs x.0.steps) ∙ ap (leads_back bs) (sym steps) ∙ h.1)
-                | inr h ↦ (let y = in_mapped f r (led_to bs x.0.steps) (subst (λ (z : List ℕ). IsIn r z) (ap (led_to bs) steps ∙ led_moved bs x.0.steps) h) in inr (subst (λ (z : ℕ). IsIn z (led_to bs x.0.steps)) (sym (there y.0) ∙ ap g (sym y.2)) y.1))
+                | inr h ↦ (let y = in_mapped f r (led_to bs x.0.steps)
+                    (subst (λ (z : List ℕ). IsIn r z) (ap (led_to bs) steps ∙ led_moved bs x.0.steps) h)
+                    in inr (subst (λ (z : ℕ). IsIn z (led_to bs x.0.steps)) (sym (there y.0) ∙ ap g (sym y.2)) y.1))
               ],
             ),
           )
 
       pub leads_from : (i j r : ℕ) → LeadsBack bs us (f i) (f j) (f r) → LeadsBack bs ts i j r
-      leads_from i j r l = subst (λ (z : ℕ). LeadsBack bs ts i j z) (there r) (subst (λ (z : ℕ). LeadsBack bs ts i z (g (f r))) (there j) (subst (λ (z : ℕ). LeadsBack bs ts z (g (f j)) (g (f r))) (there i) (leads_up (f i) (f j) (f r) l)))
+      leads_from i j r l = subst (λ (z : ℕ).
+          LeadsBack bs ts i j z) (there r)
+          (subst (λ (z : ℕ). LeadsBack bs ts i z (g (f r))) (there j)
+          (subst (λ (z : ℕ). LeadsBack bs ts z (g (f j)) (g (f r))) (there i) (leads_up (f i) (f j) (f r) l)))
 
       pub leads_back_from : (i j r : ℕ) → LeadsBack bs us i j r → LeadsBack bs ts (g i) (g j) (g r)
       leads_back_from = leads_up
@@ -156,7 +222,14 @@ module _ (f : ℕ → ℕ) where
       provides_on i j k p = let u = m.down j p.0 p.1 in (u.0, u.1, rw (u.2, provided_moved bs i (ways p.0)) p.2)
 
       pub provides_from : (i j k : ℕ) → provides bs us (f i) j k → provides bs ts i (g j) k
-      provides_from i j k p = let t = m.up j p.0 p.1 in (t.0, t.1, subst (λ (z : List ℕ). IsIn k z) (provided_moved bs i (ways t.0)) (subst (λ (z : List Way). IsIn k (flat_map (λ (w : Way). given bs w.steps) (to_root (f i) z))) t.2 p.2))
+      provides_from i j k p = let t = m.up j p.0 p.1
+          in (
+            t.0,
+            t.1,
+            subst (λ (z : List ℕ).
+                IsIn k z) (provided_moved bs i (ways t.0))
+                (subst (λ (z : List Way). IsIn k (flat_map (λ (w : Way). given bs w.steps) (to_root (f i) z))) t.2 p.2),
+          )
 
 -- ways under numbers that are turned back
 module _ (f g : ℕ → ℕ) (fg : (j : ℕ) → f (g j) ≡ j) where

@@ -11,7 +11,8 @@ module _ (ss : List Signature) (refers : List (List ℕ)) (placed before after :
   abbrev On : List ℕ → List ℕ → List ℕ → Type 0
   On = PlacingOn (nth_refs refers) (LeadsBy ss) (GivesBy ss)
 
-  pub next_goes : (r : ℕ) → IsNext ss refers placed before after (Some r) → (order : List ℕ) → On (r ∷ after) placed order
+  pub next_goes : (r : ℕ) → IsNext ss refers placed before after (Some r) → (order : List ℕ)
+      → On (r ∷ after) placed order
       → On before placed order
   next_goes r (inl e) order w = subst (λ (z : List ℕ). On z placed order) (sym e) w
   next_goes r (inr h) order w =

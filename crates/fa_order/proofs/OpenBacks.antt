@@ -1,7 +1,41 @@
 -- Open ways back, by one signature and by all: which root is the lowest, which tree gives it the least field, and to
 -- which root the way back goes on.
-use Rattle.std.proofs.Common.{◌≡◌, ◌⊎◌, inl, inr, ℕ, zero, suc, ◌<◌, ◌≤◌, ◌+◌, Bool, true, false, true≢false, nat_eq, cond}
-use Rattle.std.proofs.Common.{List, [], ◌∷◌, take, length, not, refl, sym, ap, subst, ◌∙◌, Option, Some, None, MatchOption, MatchBool}
+use Rattle.std.proofs.Common.{
+  ◌≡◌,
+  ◌⊎◌,
+  inl,
+  inr,
+  ℕ,
+  zero,
+  suc,
+  ◌<◌,
+  ◌≤◌,
+  ◌+◌,
+  Bool,
+  true,
+  false,
+  true≢false,
+  nat_eq,
+  cond,
+}
+use Rattle.std.proofs.Common.{
+  List,
+  [],
+  ◌∷◌,
+  take,
+  length,
+  not,
+  refl,
+  sym,
+  ap,
+  subst,
+  ◌∙◌,
+  Option,
+  Some,
+  None,
+  MatchOption,
+  MatchBool,
+}
 use Rattle.std.proofs.Common.{slice_get, get_or, not-suc-le-zero, le_of_suc-le-suc, arith}
 use Rattle.std.proofs.lemmas.Bool.{eqb-true, eq-eqb}
 use Rattle.std.proofs.lemmas.Option.{none-some, same_Some, slice_get_within}

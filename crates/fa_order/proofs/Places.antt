@@ -26,7 +26,9 @@ pub place_same : (i : ℕ) (xs ys : List ℕ) (r : ℕ) → IsIn r xs → place_
 place_same i [] ys r h = absurd h
 place_same i (x ∷ xs) ys r h = here (nat_eq x r) refl h (place_same (suc i) xs ys r)
   where
-    here : (b : Bool) → nat_eq x r ≡ b → IsIn r (x ∷ xs) → (IsIn r xs → place_from (suc i) (xs ++ ys) r ≡ place_from (suc i) xs r) → cond b i (place_from (suc i) (xs ++ ys) r) ≡ cond b i (place_from (suc i) xs r)
+    here : (b : Bool) → nat_eq x r ≡ b → IsIn r (x ∷ xs)
+        → (IsIn r xs → place_from (suc i) (xs ++ ys) r ≡ place_from (suc i) xs r)
+        → cond b i (place_from (suc i) (xs ++ ys) r) ≡ cond b i (place_from (suc i) xs r)
     here true e h k = refl
     here false e (inl w) k = absurd (true≢false (sym (eq-eqb x r (sym w)) ∙ e))
     here false e (inr w) k = k w
@@ -35,16 +37,19 @@ pub place_no_less : (i : ℕ) (ys : List ℕ) (r : ℕ) → IsIn r ys → i ≤ 
 place_no_less i [] r h = absurd h
 place_no_less i (y ∷ ys) r h = here (nat_eq y r) refl h (place_no_less (suc i) ys r)
   where
-    here : (b : Bool) → nat_eq y r ≡ b → IsIn r (y ∷ ys) → (IsIn r ys → suc i ≤ place_from (suc i) ys r) → i ≤ cond b i (place_from (suc i) ys r)
+    here : (b : Bool) → nat_eq y r ≡ b → IsIn r (y ∷ ys) → (IsIn r ys → suc i ≤ place_from (suc i) ys r)
+        → i ≤ cond b i (place_from (suc i) ys r)
     here true e h k = omega arith
     here false e (inl w) k = absurd (true≢false (sym (eq-eqb y r (sym w)) ∙ e))
     here false e (inr w) k = let l = k w in omega (arith, l)
 
-pub place_after : (i : ℕ) (xs ys : List ℕ) (r : ℕ) → (IsIn r xs → ⊥) → IsIn r ys → i + length xs ≤ place_from i (xs ++ ys) r
+pub place_after : (i : ℕ) (xs ys : List ℕ) (r : ℕ) → (IsIn r xs → ⊥) → IsIn r ys
+    → i + length xs ≤ place_from i (xs ++ ys) r
 place_after i [] ys r o h = let l = place_no_less i ys r h in omega (arith, l)
 place_after i (x ∷ xs) ys r o h = here (nat_eq x r) refl (place_after (suc i) xs ys r (λ w. o (inr w)) h)
   where
-    here : (b : Bool) → nat_eq x r ≡ b → suc i + length xs ≤ place_from (suc i) (xs ++ ys) r → i + suc (length xs) ≤ cond b i (place_from (suc i) (xs ++ ys) r)
+    here : (b : Bool) → nat_eq x r ≡ b → suc i + length xs ≤ place_from (suc i) (xs ++ ys) r
+        → i + suc (length xs) ≤ cond b i (place_from (suc i) (xs ++ ys) r)
     here true e k = absurd (o (inl (sym (eqb-true x r e))))
     here false e k = omega (arith, k)
 
@@ -82,11 +87,14 @@ one_place i (x ∷ xs) a b h k e = here (nat_eq x a) refl (nat_eq x b) refl h k 
     past : (n : ℕ) → suc n ≤ n → ⊥
     past n l = omega (arith, l)
 
-    here : (u : Bool) → nat_eq x a ≡ u → (v : Bool) → nat_eq x b ≡ v → IsIn a (x ∷ xs) → IsIn b (x ∷ xs) → cond u i (place_from (suc i) xs a) ≡ cond v i (place_from (suc i) xs b)
+    here : (u : Bool) → nat_eq x a ≡ u → (v : Bool) → nat_eq x b ≡ v → IsIn a (x ∷ xs) → IsIn b (x ∷ xs)
+        → cond u i (place_from (suc i) xs a) ≡ cond v i (place_from (suc i) xs b)
         → (IsIn a xs → IsIn b xs → place_from (suc i) xs a ≡ place_from (suc i) xs b → a ≡ b) → a ≡ b
     here true d true f h k e g = sym (eqb-true x a d) ∙ eqb-true x b f
-    here true d false f h k e g = absurd (past i (subst (λ (z : ℕ). suc i ≤ z) (sym e) (place_no_less (suc i) xs b (later b f k))))
-    here false d true f h k e g = absurd (past i (subst (λ (z : ℕ). suc i ≤ z) e (place_no_less (suc i) xs a (later a d h))))
+    here true d false f h k e g = absurd
+        (past i (subst (λ (z : ℕ). suc i ≤ z) (sym e) (place_no_less (suc i) xs b (later b f k))))
+    here false d true f h k e g = absurd
+        (past i (subst (λ (z : ℕ). suc i ≤ z) e (place_no_less (suc i) xs a (later a d h))))
     here false d false f h k e g = g (later a d h) (later b f k) e
 
 -- The numbers in order.

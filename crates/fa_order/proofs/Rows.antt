@@ -1,5 +1,24 @@
 -- Worked values: the walk, and outlines.
-use Rattle.std.proofs.Common.{◌≡◌, ◌≢◌, ◌≤◌, inl, inr, ℕ, suc, zero, false, List, [], ◌∷◌, map, refl, ap, ap₂, ◌∙◌, arith}
+use Rattle.std.proofs.Common.{
+  ◌≡◌,
+  ◌≢◌,
+  ◌≤◌,
+  inl,
+  inr,
+  ℕ,
+  suc,
+  zero,
+  false,
+  List,
+  [],
+  ◌∷◌,
+  map,
+  refl,
+  ap,
+  ap₂,
+  ◌∙◌,
+  arith,
+}
 use Rattle.ta_core.specs.declared.symbol.Slot.TheVariants.{Field}
 use Rattle.ta_core.specs.declared.symbol.Symbol.{Symbol}
 use Rattle.ta_core.specs.declared.symbol.Symbol.TheVariants.{Null, Uninit, Dangling, Ref, Cell}
@@ -8,7 +27,16 @@ use Rattle.fa_core.specs.Ways.{Way, ways, ways_at, roots_met, mark, signature}
 use Rattle.fa_core.specs.declared.signature.RefMark.{RefMark}
 use Rattle.fa_core.proofs.WaysOf.{rolled_ways}
 use Rattle.fa_order.specs.Outlines.{Stub, leaf, cell, outline, stub, stub_by}
-use Rattle.fa_order.specs.Placing.{GoesOnFrom, IsLowestOpen, IsOpenAt, PlacingOn, all_placed, is_placed, place_now, stuck}
+use Rattle.fa_order.specs.Placing.{
+  GoesOnFrom,
+  IsLowestOpen,
+  IsOpenAt,
+  PlacingOn,
+  all_placed,
+  is_placed,
+  place_now,
+  stuck,
+}
 use Rattle.fore_base.specs.Lists.{IsIn}
 use Rattle.fa_order.proofs.Visits.{one_order}
 
@@ -53,7 +81,8 @@ depth_first =
 -- so it is no order that has root 2 before root 3
 not_breadth_first : Placing hops (0 ∷ []) [] (0 ∷ 1 ∷ 2 ∷ 3 ∷ []) → ⊥
 not_breadth_first w =
-    let e : 2 ≡ 3 = ap third (one_order hops Nowhere Nothing (λ i j r. inr (λ h. h)) (λ i j k f h g. absurd h) w depth_first)
+    let e : 2 ≡ 3 = ap third (one_order hops Nowhere Nothing (λ i j r. inr (λ h. h)) (λ i j k f h g.
+    absurd h) w depth_first)
     in omega (arith, e)
   where
     third : List ℕ → ℕ
@@ -71,7 +100,8 @@ variables_in_order =
 nothing_to_visit : Placing hops [] (7 ∷ []) (7 ∷ [])
 nothing_to_visit = all_placed (none_open (7 ∷ []))
 
--- Where nothing is left to visit. Ways back lead from root 0 into tree 1, to root 3, and into tree 2, to root 2, and from
+-- Where nothing is left to visit. Ways back lead from root 0 into tree 1, to root 3, and into tree 2, to root 2, and
+-- from
 -- root 1 into tree 4, to root 4; box edges of tree 1 give root 0 field 5, those of tree 2 field 3, and those of tree 4
 -- give root 1 field 0. Tree 1 refers to root 3, and no other tree to any.
 
@@ -99,7 +129,8 @@ lowest_zero = record {
   lowest = λ k j h o. omega arith;
 }
 
--- from root 0, the first that is placed, though tree 4 gives root 1 a lesser field; into tree 2, which gives it the lesser
+-- from root 0, the first that is placed, though tree 4 gives root 1 a lesser field; into tree 2, which gives it the
+-- lesser
 -- field, though tree 1 comes first
 goes_to_two : GoesOnFrom one_refers Back Gift (0 ∷ 1 ∷ []) 2
 goes_to_two = record {
@@ -112,7 +143,11 @@ goes_to_two = record {
     given = gives_three;
     least = least;
   };
-  led = record { own_first = λ n l. refl; then_list = λ f. absurd (neither 2 (λ e. omega (arith, e)) (λ e. omega (arith, e)) (f into_two)) };
+  led = record {
+    own_first = λ n l. refl;
+    then_list = λ f.
+        absurd (neither 2 (λ e. omega (arith, e)) (λ e. omega (arith, e)) (f into_two));
+  };
 }
   where
     least : (j f : ℕ) → IsOpenAt Back (0 ∷ 1 ∷ []) 0 j → Gift 0 j f → 3 ≤ f

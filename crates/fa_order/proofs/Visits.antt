@@ -12,7 +12,16 @@ use Rattle.fa_merge.specs.Merged.{others}
 use Rattle.fa_merge.specs.Reordered.{counted, place_of}
 use Rattle.fa_merge.proofs.MergedAnywhere.{in_counted, push_last, others_last, others_in}
 use Rattle.fa_merge.proofs.OtherOrders.{counted_differ}
-use Rattle.fa_order.specs.Placing.{IsOpenAt, NoneOpen, IsLowestOpen, GivesLeast, IsFirstLed, IsLedOn, GoesOnFrom, IsStuck}
+use Rattle.fa_order.specs.Placing.{
+  IsOpenAt,
+  NoneOpen,
+  IsLowestOpen,
+  GivesLeast,
+  IsFirstLed,
+  IsLedOn,
+  GoesOnFrom,
+  IsStuck,
+}
 use Rattle.fa_order.specs.Placing.{PlacingOn, all_placed, stuck, is_placed, place_now, goes_on}
 use Rattle.fa_order.proofs.Places.{counted_is_below, one_place}
 
@@ -285,7 +294,8 @@ module _ (f g : ℕ → List ℕ) (same : (r : ℕ) → f r ≡ g r) (L M G H : 
     led = led_same placed h.from h.into r h.led;
   }
 
-  pub same_placing : {todo placed order : List ℕ} → PlacingOn f L G todo placed order → PlacingOn g M H todo placed order
+  pub same_placing : {todo placed order : List ℕ} → PlacingOn f L G todo placed order
+      → PlacingOn g M H todo placed order
   same_placing (all_placed n) = all_placed (λ i j p o. n i j p (open_other _ i j o))
   same_placing (stuck n) = stuck (stuck_same _ n)
   same_placing (is_placed i w) = is_placed i (same_placing w)

@@ -72,7 +72,8 @@ module _ (face : Face) (F : Forest) (ss : List Signature) (signed : Paired (IsSi
     trees : Paired (IsSignedBy face.boxes) ts ss
     trees = choice_signed face.boxes F.autos ss signed ts c
 
-    walk_here : (order : List ℕ) → PlacingOn (nth_refs (refs_of ss)) (LeadsBy ss) (GivesBy ss) (var_roots F.vars) [] order
+    walk_here : (order : List ℕ) → PlacingOn (nth_refs (refs_of ss)) (LeadsBy ss) (GivesBy ss) (var_roots F.vars) []
+        order
         → TreesOn face.boxes ts (var_roots F.vars) [] order
     walk_here order w =
         same_placing (nth_refs (refs_of ss)) (refs_at ts) (refs_listed face ts ss trees) (LeadsBy ss)
@@ -143,7 +144,8 @@ module _ (face : Face) (F : Forest) (sound : IsSound face F) where
         (reached_placed ts gives order w i h) (r, o, l))
   ]
 
-  pub is_order : ((ts : List Tree) → Choice F.autos ts → IsBackGiving (LeadsBack face.boxes ts) (provides face.boxes ts))
+  pub is_order : ((ts : List Tree) → Choice F.autos ts
+      → IsBackGiving (LeadsBack face.boxes ts) (provides face.boxes ts))
       → AreAllReached face F → (order : List ℕ) → IsWalkOrder face F order → IsOrderOf F order
   is_order gives reached order walk =
       let c = some_choice F.autos sound.full in

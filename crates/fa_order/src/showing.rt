@@ -1,6 +1,22 @@
 // What the trees of each root show: the signature, and what may stand at the ends of the top's fields.
 
-ghost use Rattle.std.specs.Prelude.{◌≡◌, ◌↔◌, ◌<◌, ◌≤◌, ◌∷◌, ◌++◌, [], ℕ, List, length, drop, Some, slice_get, IsTrue, IfOk};
+ghost use Rattle.std.specs.Prelude.{
+  ◌≡◌,
+  ◌↔◌,
+  ◌<◌,
+  ◌≤◌,
+  ◌∷◌,
+  ◌++◌,
+  [],
+  ℕ,
+  List,
+  length,
+  drop,
+  Some,
+  slice_get,
+  IsTrue,
+  IfOk,
+};
 ghost use Rattle.std.specs.Prelude.{MatchOption};
 ghost use Rattle.fore_base.specs.Lists.{IsIn, Every, Paired};
 ghost use Rattle.fore_base.specs.Marks.{MarksOf};
@@ -111,7 +127,8 @@ fn states_at(alloc: Global, slots: &[Slot], children: &[u32]) -> Mem<List<u32>>
 fn push_end(made: &mut List<u32>, slot: &Slot, children: &[u32], place: usize) -> Mem<usize>
     requires { place ≤ length children.now }
     ensures within { IfOk result (λ next. next ≤ length children.now) }
-    ensures states { IfOk result (λ next. (slots : List Slot) → made.old ++ states_at (slot.now ∷ slots) (drop place children.now)
+    ensures states { IfOk result (λ next. (slots : List Slot)
+        → made.old ++ states_at (slot.now ∷ slots) (drop place children.now)
         ≡ made.new ++ states_at slots (drop next children.now)) }
 {
     match slot {

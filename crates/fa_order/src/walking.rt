@@ -39,7 +39,8 @@ pub fn walk(
     Ok(placed)
 }
 
-/// The root to be visited next: the one on top of the stack, or, where this is empty, the one at which the walk goes on.
+/// The root to be visited next: the one on top of the stack, or, where this is empty, the one at which the walk goes
+/// on.
 fn next_visit(
     stack: &mut List<u32>,
     placed: &[u32],

@@ -191,7 +191,8 @@ module _ (shapes : Shapes) where
         → HeadsFit shapes.structs (inside_facts values i)
     inside_fits autos i values e s h =
         let k = inside_next before d defs autos s in
-        ports_fit (face_of_table before) (before ++ (d ∷ defs)) links hooks (with_ports values i) d.inside.autos i values
+        ports_fit (face_of_table before) (before
+        ++ (d ∷ defs)) links hooks (with_ports values i) d.inside.autos i values
         (port_fields d.face d.face.output) e sound.rules
         (subst (λ (xs : List Automaton). TreesOf (before ++ (d ∷ defs)) xs i) (sym k) h)
 

@@ -30,7 +30,15 @@ use Rattle.fa_lines.specs.declared.line.Term.{Term}
 use Rattle.fa_lines.specs.declared.line.Term.TheVariants.{Null, Uninit, Dangling, Ref, Cell}
 use Rattle.fa_lines.specs.declared.line.Line.{Line}
 use Rattle.fa_lines.specs.declared.line.Line.TheVariants.{Skipped, Opens, Root, Rule, Ends}
-use Rattle.fa_lines.proofs.PieceLemmas.{word_no_gap, gap_front, piece_behind, space_first, joins_word, joins_none, other_ends}
+use Rattle.fa_lines.proofs.PieceLemmas.{
+  word_no_gap,
+  gap_front,
+  piece_behind,
+  space_first,
+  joins_word,
+  joins_none,
+  other_ends,
+}
 use Rattle.fa_print.specs.Lines.{line_text, lines_text, term_text}
 use Rattle.fa_print.specs.Names.{Texts}
 use Rattle.fa_print.specs.Returned.{AreReadAsPrinted}
@@ -103,7 +111,8 @@ cut_space bs ps c = (gap_front 32 bs is_blank ∙ c.0, (refl, c.1))
 -- Words and numbers
 
 letter_joins : (b c : ℕ) → is_letter b ≡ true → is_word_byte c ≡ true → joins b c ≡ true
-letter_joins b c l w = by (is_digit b && is_digit c) (is_letter b && is_word_byte c) (ap (λ t. t && is_word_byte c) l ∙ w)
+letter_joins b c l w = by (is_digit b && is_digit c) (is_letter b && is_word_byte c) (ap (λ t. t && is_word_byte c) l
+    ∙ w)
   where
     by : (x y : Bool) → y ≡ true → (x || y) ≡ true
     by true y e = refl
@@ -171,7 +180,8 @@ number_run n less =
 
 state_run : (q : ℕ) → IsState q → IsRun (state_text q)
 unfolding is_word_byte is_letter is_digit
-state_run q low = (refl, word_joins 115 (decimal q) refl (digits_run (decimal q) (digits_decimal own q (omega (arith, low)))))
+state_run q low =
+    (refl, word_joins 115 (decimal q) refl (digits_run (decimal q) (digits_decimal own q (omega (arith, low)))))
 
 datum_run : (d : Datum) → IsValue d → IsRun (datum_text d)
 unfolding is_word_byte is_letter is_digit

@@ -1,5 +1,23 @@
 -- What is known to be reached for each choice of signatures.
-use Rattle.std.proofs.Common.{◌≡◌, inl, inr, ℕ, ◌<◌, Bool, true, false, List, [], ◌∷◌, length, replicate, set, sym, subst, refl}
+use Rattle.std.proofs.Common.{
+  ◌≡◌,
+  inl,
+  inr,
+  ℕ,
+  ◌<◌,
+  Bool,
+  true,
+  false,
+  List,
+  [],
+  ◌∷◌,
+  length,
+  replicate,
+  set,
+  sym,
+  subst,
+  refl,
+}
 use Rattle.std.proofs.Common.{◌∙◌, ◌-◌, arith, Some, slice_get}
 use Rattle.std.proofs.lemmas.List.{length-set, length-replicate}
 use Rattle.fore_base.specs.Lists.{IsIn}
@@ -61,7 +79,8 @@ gains_on ps a b c p q = record {
   knows = λ i k. q.knows i (p.knows i k);
 }
 
-pub gains_mark : (ps : List Part) (known : List Bool) (r : ℕ) → ForcedFrom ps known r → Gains ps known (set known r true)
+pub gains_mark : (ps : List Part) (known : List Bool) (r : ℕ) → ForcedFrom ps known r
+    → Gains ps known (set known r true)
 gains_mark ps known r w = record {
   long = length-set known r true;
   kept = λ u m. marked_still known r u m;

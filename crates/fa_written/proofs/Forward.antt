@@ -45,7 +45,8 @@ go_by (Some t) ls n have = have t n
 pub run_go : (ls : List Line) (s : Reading) (n : ℕ) → run s n ls ≡ go s (numbered n ls)
 run_go [] s n = refl
 run_go (Skipped ∷ ls) s n = ap (λ o. o >>= λ t. run t (suc n) ls) (skips s n) ∙ run_go ls s (suc n)
-run_go (Opens name input output ∷ ls) s n = go_by (moved s n (Opens name input output)) ls (suc n) (λ t k. run_go ls t k)
+run_go (Opens name input output ∷ ls) s n =
+    go_by (moved s n (Opens name input output)) ls (suc n) (λ t k. run_go ls t k)
 run_go (Root r qs ∷ ls) s n = go_by (moved s n (Root r qs)) ls (suc n) (λ t k. run_go ls t k)
 run_go (Rule q term ∷ ls) s n = go_by (moved s n (Rule q term)) ls (suc n) (λ t k. run_go ls t k)
 run_go (Ends ∷ ls) s n = go_by (moved s n Ends) ls (suc n) (λ t k. run_go ls t k)
@@ -91,15 +92,18 @@ rule_goes : (bs : List BoxDraft) (h : Head) (ps : List PartDraft) (p : PartDraft
 unfolding moved
 rule_goes bs h ps p r = ap (λ o. o >>= λ ps. Some (In bs h ps)) (rule_put ps p r)
 
-rules_go : (rs : List RuleDraft) (bs : List BoxDraft) (h : Head) (ps : List PartDraft) (p : PartDraft) (xs : List Numbered)
+rules_go : (rs : List RuleDraft) (bs : List BoxDraft) (h : Head) (ps : List PartDraft) (p : PartDraft)
+    (xs : List Numbered)
     → go (In bs h (ps ++ p ∷ [])) (map rule_line rs ++ xs) ≡ go (In bs h (ps ++ with_rules rs p ∷ [])) xs
 unfolding with_rules
 rules_go [] bs h ps p xs =
-    ap (λ rs. go (In bs h (ps ++ record { line = p.line; roots = p.roots; rules = rs } ∷ [])) xs) (sym (append-nil p.rules))
+    ap (λ rs. go (In bs h (ps ++ record { line = p.line; roots = p.roots; rules = rs } ∷ [])) xs)
+    (sym (append-nil p.rules))
 rules_go (r ∷ rs) bs h ps p xs =
     ap (λ o. o >>= λ t. go t (map rule_line rs ++ xs)) (rule_goes bs h ps p r)
     ∙ rules_go rs bs h ps (rule_behind r p) xs
-    ∙ ap (λ rs. go (In bs h (ps ++ record { line = p.line; roots = p.roots; rules = rs } ∷ [])) xs) (append_assoc p.rules (r ∷ []) rs)
+    ∙ ap (λ rs. go (In bs h (ps ++ record { line = p.line; roots = p.roots; rules = rs } ∷ [])) xs)
+    (append_assoc p.rules (r ∷ []) rs)
 
 root_goes : (bs : List BoxDraft) (h : Head) (ps : List PartDraft) (n : ℕ) (qs : List ℕ)
     → moved (In bs h ps) n (Root (length ps) qs) ≡ Some (In bs h (ps ++ part_of n qs ∷ []))
@@ -156,7 +160,8 @@ file_goes : (cs : List BoxDraft) → Every HasPorts cs → go (reading [] None) 
 file_goes cs has = ap (go (reading [] None)) (sym (append-nil (file_lines cs))) ∙ files_go cs [] [] has
 
 -- the lines of a file of boxes are taken
-pub form_runs : (lines : List Line) (bs : List BoxDraft) → IsForm lines bs → run (reading [] None) 1 lines ≡ Some (reading bs None)
+pub form_runs : (lines : List Line) (bs : List BoxDraft) → IsForm lines bs
+    → run (reading [] None) 1 lines ≡ Some (reading bs None)
 form_runs lines bs form =
     run_go lines (reading [] None) 1 ∙ ap (go (reading [] None)) form.0 ∙ file_goes bs form.1
 
@@ -222,11 +227,13 @@ open_closes lines bs b e =
 -- lines that begin a file of boxes are taken
 pub live_runs : (lines : List Line) → IsLive lines → (u : Reading) × (run (reading [] None) 1 lines ≡ Some u)
 live_runs lines live =
-    let a = run_split lines live.0 (reading [] None) 1 (reading live.1 None) (form_runs (lines ++ live.0) live.1 live.2) in
+    let a = run_split lines live.0 (reading [] None) 1 (reading live.1 None) (form_runs (lines ++ live.0) live.1 live.2)
+    in
     (a.0, a.1)
 
 -- what is taken, and no box is left open, is a file of boxes
-pub run_form : (lines : List Line) (bs : List BoxDraft) → run (reading [] None) 1 lines ≡ Some (reading bs None) → IsForm lines bs
+pub run_form : (lines : List Line) (bs : List BoxDraft) → run (reading [] None) 1 lines ≡ Some (reading bs None)
+    → IsForm lines bs
 run_form lines bs e =
     let r = runs lines (reading [] None) 1 (reading bs None) e in
     (sym (sym (append-nil (file_lines bs)) ∙ r.lines), r.ports tt)
@@ -236,7 +243,8 @@ run_form lines bs e =
 abbrev CanEnd : Reading → ℕ → Type 0
 CanEnd s n = (ls : List Line) × (bs : List BoxDraft) × (run s n ls ≡ Some (reading bs None))
 
-end_now : (bs : List BoxDraft) (h : Head) (ps : List PartDraft) (n : ℕ) → port_count h.output ≤ length ps → CanEnd (In bs h ps) n
+end_now : (bs : List BoxDraft) (h : Head) (ps : List PartDraft) (n : ℕ) → port_count h.output ≤ length ps
+    → CanEnd (In bs h ps) n
 end_now bs h ps n has =
     let b : BoxDraft = record { head = h; parts = ps; end = n } in
     (Ends ∷ [], bs ++ b ∷ [], ap (λ o. o >>= λ t. run t (suc n) []) (end_goes bs b has))

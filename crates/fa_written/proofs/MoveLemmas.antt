@@ -15,9 +15,29 @@ use Rattle.fa_written.specs.declared.draft.Head.{Head}
 use Rattle.fa_written.specs.declared.draft.BoxDraft.{BoxDraft}
 use Rattle.fa_written.specs.declared.draft.OpenBox.{OpenBox}
 use Rattle.fa_written.specs.declared.draft.Reading.{Reading}
-use Rattle.fa_written.specs.Forms.{Numbered, put_before, numbered, rule_line, part_lines, parts_lines, head_line, box_lines}
+use Rattle.fa_written.specs.Forms.{
+  Numbered,
+  put_before,
+  numbered,
+  rule_line,
+  part_lines,
+  parts_lines,
+  head_line,
+  box_lines,
+}
 use Rattle.fa_written.specs.Forms.{file_lines, port_count, HasPorts}
-use Rattle.fa_written.specs.inner.Moves.{◌>>=◌, guard, rule_behind, more, rule_last, opened, reading, outside, part_of, ended}
+use Rattle.fa_written.specs.inner.Moves.{
+  ◌>>=◌,
+  guard,
+  rule_behind,
+  more,
+  rule_last,
+  opened,
+  reading,
+  outside,
+  part_of,
+  ended,
+}
 use Rattle.fa_written.specs.inner.Moves.{inside, moved_by, moved, run, lines_read}
 
 pub guarded : {A : Type 0} (b : Bool) (x y : A) → guard b x ≡ Some y → (b ≡ true) × (x ≡ y)
@@ -49,7 +69,8 @@ parts_behind (q ∷ ps) k p =
     (let e : suc k + length ps ≡ k + suc (length ps) = omega arith in e)
     ∙ sym (append_assoc (part_lines k q) (parts_lines (suc k) ps) (part_lines (k + suc (length ps)) p))
 
-part_rule : (k : ℕ) (p : PartDraft) (r : RuleDraft) → part_lines k (rule_behind r p) ≡ part_lines k p ++ rule_line r ∷ []
+part_rule : (k : ℕ) (p : PartDraft) (r : RuleDraft)
+    → part_lines k (rule_behind r p) ≡ part_lines k p ++ rule_line r ∷ []
 part_rule k p r = ap (λ xs. (p.line, Root k p.roots) ∷ xs) (map-append rule_line p.rules (r ∷ []))
 
 abbrev RuleIsLast : RuleDraft → List PartDraft → List PartDraft → Type 0
@@ -91,9 +112,12 @@ nothing_more bs o n = record { lines = sym (append-nil (lines_read (reading bs o
 
 outside_takes : (bs : List BoxDraft) (n : ℕ) (line : Line) (t : Reading) → outside bs n line ≡ Some t
     → Takes bs None n line t
-outside_takes bs n Skipped t e = subst (Takes bs None n Skipped) (same_Some (reading bs None) t e) (nothing_more bs None n)
+outside_takes bs n Skipped t e =
+    subst (Takes bs None n Skipped) (same_Some (reading bs None) t e) (nothing_more bs None n)
 outside_takes bs n (Opens name input output) t e =
-    subst (Takes bs None n (Opens name input output)) (same_Some (reading bs (Some (opened (record { line = n; name = name; input = input; output = output }) []))) t e)
+    subst (Takes bs None n (Opens name input output))
+    (same_Some (reading bs (Some (opened (record { line = n; name = name; input = input; output = output }) []))) t
+    e)
     (record {
       lines = ap (λ xs. xs ++ (n, Opens name input output) ∷ []) (sym (append-nil (file_lines bs)));
       ports = λ h. h;

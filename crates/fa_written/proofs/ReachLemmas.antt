@@ -114,7 +114,8 @@ pub grew : (ls : List Line) (s : Reading) (n : ℕ) (t : Reading) → run s n ls
 grew [] s n t e = ([], ap (λ (r : Reading). r.boxes) (sym (same_Some s t e)) ∙ sym (append-nil s.boxes))
 grew (l ∷ ls) s n t e =
     let a = bound (moved s n l) (λ u. run u (suc n) ls) t e in
-    grew_on s.boxes a.0.boxes t.boxes (grew_once s.boxes s.current n l a.0 (after s n l a.0 a.1)) (grew ls a.0 (suc n) t a.2)
+    grew_on s.boxes a.0.boxes t.boxes (grew_once s.boxes s.current n l a.0 (after s n l a.0 a.1))
+    (grew ls a.0 (suc n) t a.2)
 
 pub every_front : {X : Type 0} (P : X → Type 0) (xs ys : List X) → Every P (xs ++ ys) → Every P xs
 every_front P [] ys h = tt
@@ -152,7 +153,8 @@ begins_by : (text : List ℕ) (front rest : List (List ℕ)) (lines : List Line)
 begins_by text front rest lines split said =
     let long : length lines ≡ length front = sym (paired_length Says front lines said) in
     subst (λ xs. Paired Says xs lines)
-    (sym (ap (λ xs. take (length lines) xs) split ∙ ap (λ k. take k (front ++ rest)) long ∙ front_taken front rest)) said
+    (sym (ap (λ xs. take (length lines) xs) split ∙ ap (λ k. take k (front ++ rest)) long ∙ front_taken front rest))
+    said
 
 module _ (text : List ℕ) (n : ℕ) (rest : List ℕ) (s : Reading) (r : Reached text n rest s) where
   long : length r.front ≡ length r.lines
@@ -167,7 +169,8 @@ module _ (text : List ℕ) (n : ℕ) (rest : List ℕ) (s : Reading) (r : Reache
       let whole : take k r.lines ++ drop k r.lines ≡ r.lines = take-append-drop k r.lines in
       let a = run_split (take k r.lines) (drop k r.lines) (reading [] None) 1 s
       (ap (run (reading [] None) 1) whole ∙ r.ran) in
-      let same : a.0 ≡ reading bs None = same_Some a.0 (reading bs None) (sym a.1 ∙ form_runs (take k r.lines) bs form) in
+      let same : a.0 ≡ reading bs None = same_Some a.0 (reading bs None) (sym a.1 ∙ form_runs (take k r.lines) bs form)
+      in
       let more = grew (drop k r.lines) a.0 (1 + length (take k r.lines)) s a.2 in
       let all : Every RefersWithin (a.0.boxes ++ more.0) = subst (Every RefersWithin) more.1 r.refs in
       subst (Every RefersWithin) (ap (λ (u : Reading). u.boxes) same) (every_front RefersWithin a.0.boxes more.0 all)

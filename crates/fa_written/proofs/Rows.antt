@@ -10,7 +10,8 @@ use Rattle.fa_written.specs.Forms.{numbered, box_lines, file_lines, HasPorts, Is
 use Rattle.fa_written.specs.Drafts.{missing, ClosesWithin}
 
 -- a line that is passed over has a number
-skipped_lines_count : numbered 1 (Skipped ∷ Ends ∷ Skipped ∷ Root 0 (0 ∷ []) ∷ []) ≡ (2, Ends) ∷ (4, Root 0 (0 ∷ [])) ∷ []
+skipped_lines_count : numbered 1 (Skipped ∷ Ends ∷ Skipped ∷ Root 0 (0 ∷ []) ∷ [])
+    ≡ (2, Ends) ∷ (4, Root 0 (0 ∷ [])) ∷ []
 skipped_lines_count = refl
 
 -- a box of a component with two rules, and one with none: lines 3 to 8, of which line 7 is passed over

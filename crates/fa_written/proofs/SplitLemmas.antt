@@ -24,7 +24,8 @@ ends_line b bs is = rw is refl
 in_line : (b : ℕ) (bs : List ℕ) → (b == newline) ≡ false → lines_of (b ∷ bs) ≡ longer b (lines_of bs)
 in_line b bs is = rw is refl
 
-front_by : (b : ℕ) (bs : List ℕ) (ends : Bool) → (b == newline) ≡ ends → (0 < length bs → IsFront bs (prefix_len is_no_newline bs))
+front_by : (b : ℕ) (bs : List ℕ) (ends : Bool) → (b == newline) ≡ ends
+    → (0 < length bs → IsFront bs (prefix_len is_no_newline bs))
     → IsFront (b ∷ bs) (prefix_len is_no_newline (b ∷ bs))
 front_by b bs true is have =
     ends_line b bs is

@@ -1,6 +1,20 @@
 -- A text says one thing: its boxes, or the first line that is in the way.
 use Rattle.std.proofs.Common.{arith, ℕ, zero, suc, List, [], ◌∷◌, ◌++◌, ◌≡◌, ◌≤◌, ◌<◌, ◌+◌, ◌⊎◌, inl, inr}
-use Rattle.std.proofs.Common.{refl, sym, ap, ◌∙◌, subst, Some, None, length, append_assoc, append-nil, length-append, take, drop}
+use Rattle.std.proofs.Common.{
+  refl,
+  sym,
+  ap,
+  ◌∙◌,
+  subst,
+  Some,
+  None,
+  length,
+  append_assoc,
+  append-nil,
+  length-append,
+  take,
+  drop,
+}
 use Rattle.std.proofs.Common.{Result, Ok, Err, IfOk, IfErr}
 use Rattle.std.proofs.lemmas.Bool.{cases_lt}
 use Rattle.std.proofs.lemmas.Option.{same_Some}
@@ -109,7 +123,8 @@ not_within ps ds (r ∷ rs) dead lt p live = none_behind ps ds r rs dead p live
 not_longer : OneLine → (text : List ℕ) (n : ℕ) (b : IsBadLine text n) (qs : List Line) → Begins text qs → IsLive qs
     → length b.before < length qs → ⊥
 not_longer one text n b qs said live lt =
-    let k = longer_by one (lines_of text) b.before qs b.said said (let h : length b.before ≤ length qs = omega (arith, lt) in h) in
+    let k = longer_by one (lines_of text) b.before qs b.said said (let h : length b.before ≤ length qs =
+    omega (arith, lt) in h) in
     not_within b.before (drop (length b.before) (lines_of text)) k.0 b.dead
     (subst (λ ls. length b.before < length ls) k.1 lt) k.2 (subst IsLive k.1 live)
 
@@ -148,12 +163,14 @@ cut one text bs t ps said =
     (let h : length ps ≤ length t.lines = omega (arith, long, short) in h)
 
 dead_not : (text : List ℕ) (bs : List BoxDraft) (t : IsText text bs) (ps rs : List Line) → t.lines ≡ ps ++ rs
-    → IsDead ps (drop (length ps) (lines_of text)) → Paired Says (take (length rs) (drop (length ps) (lines_of text))) rs → ⊥
+    → IsDead ps (drop (length ps) (lines_of text))
+    → Paired Says (take (length rs) (drop (length ps) (lines_of text))) rs → ⊥
 dead_not text bs t ps [] e dead p =
     let same : t.lines ≡ ps = e ∙ append-nil ps in
     let long = as_long (lines_of text) t.lines t.said in
     let size = ap length same in
-    let none = drop_all (lines_of text) (length ps) (let h : length (lines_of text) ≤ length ps = omega (arith, long, size) in h) in
+    let none = drop_all (lines_of text) (length ps) (let h : length (lines_of text) ≤ length ps =
+    omega (arith, long, size) in h) in
     let last : IsDead ps [] = subst (IsDead ps) none dead in
     last bs (subst (λ ls. IsForm ls bs) same t.form)
 dead_not text bs t ps (r ∷ rs) e dead p =
@@ -266,7 +283,8 @@ bad_and_missing one text m n a b =
         let box = box_of (opened b.last.head b.last.parts) c.0 in
         let front : take (length ps) a.before ≡ ps = ap (λ ls. take (length ps) ls) k.1 ∙ front_of ps k.0 in
         let form = run_form ps (b.boxes ++ box ∷ []) c.3 in
-        let refs = a.refs (length ps) (b.boxes ++ box ∷ []) (subst (λ ls. IsForm ls (b.boxes ++ box ∷ [])) (sym front) form) in
+        let refs = a.refs (length ps) (b.boxes ++ box
+        ∷ []) (subst (λ ls. IsForm ls (b.boxes ++ box ∷ [])) (sym front) form) in
         missing_not b.last n b.others b.first (every_last RefersWithin b.boxes box refs)
 
     by : (length a.before < length b.before) ⊎ (length b.before ≤ length a.before)
@@ -307,7 +325,8 @@ two_missing one text m n a b =
         let read : s ≡ t =
         same_Some s t (sym (closes_reads a.before a.boxes a.last a.closes) ∙ ap (run (reading [] None) 1) same
         ∙ closes_reads b.before b.boxes b.last b.closes) in
-        same_Some m n (sym (ap first_of a.first) ∙ ap (λ (u : Reading). open_missing u.current) read ∙ ap first_of b.first)
+        same_Some m n (sym (ap first_of a.first) ∙ ap (λ (u : Reading). open_missing u.current) read
+        ∙ ap first_of b.first)
 
 pub one_first : OneLine → (text : List ℕ) (m n : ℕ) → IsFirstBad text m → IsFirstBad text n → m ≡ n
 one_first one text m n (inl a) (inl b) = two_bad one text m n a b

@@ -150,7 +150,8 @@ fn read_whole(alloc: Global, text: &[u8]) -> Result<List<BoxDraft>, DraftFault>
 ///
 /// `DraftFault::B1` with the first line that is in the way: one with which no file of boxes is begun, where the text
 /// ends too early the line behind the last, or a reference to a component that its box does not have, which is known
-/// at the line that says that the box ends, also where ports are missing there. `DraftFault::Memory` for want of memory.
+/// at the line that says that the box ends, also where ports are missing there. `DraftFault::Memory` for want of
+/// memory.
 pub fn read_drafts(alloc: Global, text: &[u8]) -> Result<List<BoxDraft>, DraftFault>
     requires { length text.now ≤ TEXT_BYTES }
     ensures ok { IfOk result (IsText text.now) }

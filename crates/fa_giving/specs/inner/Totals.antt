@@ -1,5 +1,23 @@
 -- How often the trees of a choice give a field at a root, together: the greatest number and the least.
-use Rattle.std.specs.Prelude.{◌≡◌, ◌⊎◌, ◌≤◌, ℕ, ◌+◌, Bool, true, false, ◌&&◌, ◌||◌, List, [], ◌∷◌, ◌++◌, map, flat_map, Some}
+use Rattle.std.specs.Prelude.{
+  ◌≡◌,
+  ◌⊎◌,
+  ◌≤◌,
+  ℕ,
+  ◌+◌,
+  Bool,
+  true,
+  false,
+  ◌&&◌,
+  ◌||◌,
+  List,
+  [],
+  ◌∷◌,
+  ◌++◌,
+  map,
+  flat_map,
+  Some,
+}
 use Rattle.std.specs.Prelude.{slice_get, slice_set, replicate}
 use Rattle.fore_base.specs.Lists.{IsIn, Every, sum_of}
 use Rattle.fore_base.specs.declared.store.Datum.{Datum}

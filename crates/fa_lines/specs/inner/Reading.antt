@@ -167,7 +167,8 @@ term_of (a ∷ b ∷ c ∷ rest) = cell_of a (b ∷ c ∷ rest)
 
 unfoldable pub box_of : Texts → Option Line
 box_of (a ∷ b ∷ c ∷ []) = guard (is b (codes "in") && (is_word a && is_word c)) (Some (Opens a c None))
-box_of (a ∷ b ∷ c ∷ d ∷ e ∷ []) = guard (is b (codes "in") && (is d (codes "out") && (is_word a && (is_word c && is_word e))))
+box_of (a ∷ b ∷ c ∷ d ∷ e ∷ []) =
+    guard (is b (codes "in") && (is d (codes "out") && (is_word a && (is_word c && is_word e))))
     (Some (Opens a c (Some e)))
 box_of ps = None
 

@@ -74,7 +74,8 @@ inside bs b n (Opens name input output) = None
 inside bs b n (Root r qs) =
     guard (r == length b.parts) (reading bs (Some (opened b.head (b.parts ++ part_of n qs ∷ []))))
 inside bs b n (Rule q term) =
-    rule_last (record { line = n; state = q; term = term }) b.parts >>= λ ps. Some (reading bs (Some (opened b.head ps)))
+    rule_last (record { line = n; state = q; term = term }) b.parts >>= λ ps.
+    Some (reading bs (Some (opened b.head ps)))
 inside bs b n Ends = guard (nat_le (port_count b.head.output) (length b.parts)) (ended bs b n)
 
 abbrev pub moved_by : List BoxDraft → Option OpenBox → ℕ → Line → Option Reading

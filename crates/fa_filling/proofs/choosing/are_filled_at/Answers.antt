@@ -55,7 +55,8 @@ loop-part-preserved c =
           (every_push
           (λ (p : Part). IsFilledPart c.args.face.now
           (tops_but (all_tops (take c.args.place c.args._parts.now)) p.top (drop (c.args.place + 1) c.args._parts.now))
-          p.auto c.args.above.now) (take c.loop-part.part-index c.args.own.now) c.part-item.result c.loop-part.invariant.0
+          p.auto c.args.above.now) (take c.loop-part.part-index c.args.own.now) c.part-item.result
+          c.loop-part.invariant.0
           (e.0 c.if-not-branch.false)),
       rw c.set.ensures (tops_set c.args._parts.now c.args.place c.loop-part.tops _ c.loop-part.invariant.1),
     )

@@ -8,7 +8,8 @@ use Rattle.fa_giving.proofs.below.are_below_once.Goals as goal
 
 pub is_below_once-requires-clause-trim : goal.is_below_once-requires-clause-trim
 is_below_once-requires-clause-trim c =
-    every_at IsTrim c.args.autos.now c.loop-place.place c.index-autos-place.result c.requires.trim c.loop-place-test.true
+    every_at IsTrim c.args.autos.now c.loop-place.place c.index-autos-place.result c.requires.trim
+    c.loop-place-test.true
     c.index-autos-place.is
 
 pub loop-place-preserved : goal.loop-place-preserved

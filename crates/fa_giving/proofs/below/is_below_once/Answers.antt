@@ -11,4 +11,5 @@ returns c =
     let e = c.as_slice.ensures ∙ ap (λ (b : Automaton). b.rules) c.auto.view_is in
     below_decides c.args.face.now c.args._autos.now c.args._place c.args.auto.now c.known.ensures c.requires.trim
     c.requires.full c.requires.own c.in_ok-yes.yes
-    (subst (λ (rs : List Rule). IsTrue c.in_ok-yes.yes ↔ Every (IsOnceBelow c.args.face.now rs) rs) e c.in_ok-yes.ensures)
+    (subst (λ (rs : List Rule). IsTrue c.in_ok-yes.yes
+    ↔ Every (IsOnceBelow c.args.face.now rs) rs) e c.in_ok-yes.ensures)

@@ -8,7 +8,8 @@ use Rattle.fa_giving.proofs.roots.is_cell_right.Goals as goal
 
 pub returns : goal.returns
 returns c =
-    let cv = c.in_ok-covered.ensures ∙ ap (λ (bs : List BoxFace). flat_map (covers bs) c.args.slots.now) c.as_slice.ensures in
+    let cv = c.in_ok-covered.ensures
+    ∙ ap (λ (bs : List BoxFace). flat_map (covers bs) c.args.slots.now) c.as_slice.ensures in
     let fd = c.in_ok-fields.ensures ∙ ap (λ (hs : List Shape). fields_of hs c.args.shape) c.as_slice-2.ensures in
     let need = c.often-need.ensures ∙ ap (often c.args.place.field) (c.as_slice-3.ensures ∙ fd) in
     let own = c.often-own.ensures ∙ ap (often c.args.place.field) (c.as_slice-4.ensures ∙ cv) in

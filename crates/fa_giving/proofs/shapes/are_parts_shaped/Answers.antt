@@ -9,5 +9,6 @@ pub returns-clause-shaped : goal.returns-clause-shaped
 returns-clause-shaped c =
     parts_shaped c.args.face.now c.args.autos.now c.args.tops.now c.args.place c.args.auto.now c.requires.full
     c.requires.tops c.requires.own c.args.rules.now c.requires.rules c.args.structs.now c.requires.structs
-    (subst (Every (λ (s : ℕ). ForStruct c.args.autos.now c.args.place s (IsShapedRoot c.args.face.now c.args.place) true))
+    (subst (Every (λ (s : ℕ). ForStruct c.args.autos.now c.args.place s (IsShapedRoot c.args.face.now c.args.place)
+    true))
     (take_all c.loop-shape.shape-index c.args.structs.now c.loop-shape-test.false) c.loop-shape.invariant.1)

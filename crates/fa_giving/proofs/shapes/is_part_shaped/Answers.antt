@@ -19,7 +19,8 @@ set-requires c = has_list c.args._autos.now c.args.tops.now c.args.place c.args.
 
 pub set-requires-2 : goal.set-requires-2
 set-requires-2 c =
-    let within = has_list c.args._autos.now c.args.tops.now c.args.place c.args.auto.now c.requires.tops c.requires.own in
+    let within = has_list c.args._autos.now c.args.tops.now c.args.place c.args.auto.now c.requires.tops c.requires.own
+    in
     let long = ap length c.set.ensures ∙ length-set c.args.tops.now c.args.place c.in_ok-alone.alone in
     omega (arith, within, long)
 

@@ -31,7 +31,8 @@ lift_at-requires-clause-owns c =
     let rules : c.rules_of.result.now ≡ a.rules = c.rules_of.ensures
     ∙ ap (λ (b : Automaton). b.rules)
     (c.component-auto.ensures ∙ ap (λ (G : Forest). component_at G.autos c.args.from) c.forest.ensures) in
-    owns_at s.face.boxes c.args.root c.args.field a ranked x c.requires.rule c.loop-place.place c.at-edge.result.now here
+    owns_at s.face.boxes c.args.root c.args.field a ranked x c.requires.rule c.loop-place.place c.at-edge.result.now
+    here
     (ap (λ (bs : List BoxFace). slot_gives bs c.args.field c.at-edge.result.now.0) (sym boxes)
     ∙ sym c.slot_gives.ensures ∙ c.if-slot_gives.true)
     (subst (λ (rs : List Rule). MayRefer rs c.args.root c.at-edge.result.now.1) rules

@@ -17,7 +17,8 @@ with_piece-requires-clause-sound c =
     let F = s.forest in
     let q = c.requires in
     let x = c.args._rule.now in
-    let i = in_at c.args.pieces.now c.loop-piece.piece-index c.piece-item.result c.loop-piece-test.true c.piece-item.is in
+    let i = in_at c.args.pieces.now c.loop-piece.piece-index c.piece-item.result c.loop-piece-test.true c.piece-item.is
+    in
     let piece = every_in
     (IsPiece s.face.boxes (hatted (component_at F.autos c.args.from) x.state (length F.autos))) c.args.pieces.now
     c.piece-item.result q.pieces i in

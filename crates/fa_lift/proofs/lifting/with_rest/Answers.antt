@@ -15,7 +15,8 @@ returns-clause-all c =
     let F = c.args.forest.now.forest in
     let x = c.args.rule.now in
     let rest : Automaton = hatted (component_at F.autos c.args.from) x.state (length F.autos) in
-    let has : Automaton → List SoundForest → Type 0 = λ b made. Among made (lift_in F c.args._root c.args.from x c.args._place b)
+    let has : Automaton → List SoundForest → Type 0 = λ b made.
+    Among made (lift_in F c.args._root c.args.from x c.args._place b)
     in
     IfOk-weaker c.with_pieces.result
     (λ (made : List SoundForest). (b : Automaton) → IsIn b c.as_slice-list.result.now → has b made)

@@ -38,7 +38,11 @@ returns-clause-each c =
     ∙ ap (λ (b : Automaton). b.roots)
     (c.component.ensures ∙ ap (λ (G : Forest). component_at G.autos c.args.from) c.forest.ensures) in
     elim c.if-has.branch [
-      | then-has+in_ok-top+in_ok-with_component+in_ok-push w ↦ rw (w.made-is, w.in_ok-push.ensures.ok, c.new-made.ensures) (
+      | then-has+in_ok-top+in_ok-with_component+in_ok-push w ↦ rw (
+        w.made-is,
+        w.in_ok-push.ensures.ok,
+        c.new-made.ensures,
+      ) (
         (
           top_is_lift s.face.boxes F c.args._root c.args._field c.args.from c.known.ensures.ranked q.from x
               c.args._place q.owns
@@ -63,7 +67,11 @@ returns-clause-top c = λ i.
     ∙ ap (λ (b : Automaton). b.roots)
     (c.component.ensures ∙ ap (λ (G : Forest). component_at G.autos c.args.from) c.forest.ensures) in
     elim c.if-has.branch [
-      | then-has+in_ok-top+in_ok-with_component+in_ok-push w ↦ rw (w.made-is, w.in_ok-push.ensures.ok, c.new-made.ensures) (
+      | then-has+in_ok-top+in_ok-with_component+in_ok-push w ↦ rw (
+        w.made-is,
+        w.in_ok-push.ensures.ok,
+        c.new-made.ensures,
+      ) (
         w.in_ok-with_component.field-0,
         inl refl,
         w.in_ok-with_component.ensures.forest ∙ ap (with_component F c.args.from) (w.in_ok-top.ensures ∙ q.own),

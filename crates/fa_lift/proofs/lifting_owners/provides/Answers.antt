@@ -1,4 +1,21 @@
-use Rattle.std.proofs.Common.{◌≡◌, ◌∙◌, ℕ, List, inl, inr, ap, sym, subst, refl, true≢false, take, slice_index_or, ◌++◌, ◌∷◌, []}
+use Rattle.std.proofs.Common.{
+  ◌≡◌,
+  ◌∙◌,
+  ℕ,
+  List,
+  inl,
+  inr,
+  ap,
+  sym,
+  subst,
+  refl,
+  true≢false,
+  take,
+  slice_index_or,
+  ◌++◌,
+  ◌∷◌,
+  [],
+}
 use Rattle.fore_base.specs.Lists.{IsIn}
 use Rattle.fore_base.proofs.ListLemmas.{in_push}
 use Rattle.ta_core.specs.Auto.{Automaton, IsRanked}

@@ -15,4 +15,5 @@ loop-root-preserved c = one_more_in c.args.roots.now c.args.placed.now c.loop-ro
     (c.is_in.ensures.0 c.if-not-is_in.false) c.loop-root.invariant
 
 pub returns : goal.returns
-returns c = all_of c.args.roots.now c.args.placed.now c.loop-root.root-index c.loop-root-test.false c.loop-root.invariant
+returns c = all_of c.args.roots.now c.args.placed.now c.loop-root.root-index c.loop-root-test.false
+    c.loop-root.invariant

@@ -19,5 +19,6 @@ pub returns : goal.returns
 returns c = (
   (λ t. absurd (true≢false (sym t))),
   (λ l. absurd (every_in (λ m. m.root ≡ c.args.from → MarkLeads c.args.into c.args.root m → ⊥) c.args.marks.now l.0
-      (whole_every c.args.marks.now c.loop-mark.mark-index _ c.loop-mark-test.false c.loop-mark.invariant) l.1 l.2 l.3)),
+      (whole_every c.args.marks.now c.loop-mark.mark-index _ c.loop-mark-test.false c.loop-mark.invariant) l.1 l.2
+      l.3)),
 )

@@ -1,6 +1,9 @@
 use Rattle.std.proofs.Common.{inl, inr, true≢false, sym, ◌∙◌}
 use Rattle.fa_order.proofs.ways_back.does_mark_lead.Goals as goal
-use Rattle.fa_order.proofs.ways_back.does_mark_lead.Goals.{else-root-into-via-then-root-into+else-mark, else-root-into-via-else-root-into}
+use Rattle.fa_order.proofs.ways_back.does_mark_lead.Goals.{
+  else-root-into-via-then-root-into+else-mark,
+  else-root-into-via-else-root-into,
+}
 
 pub returns : goal.returns
 returns c = (

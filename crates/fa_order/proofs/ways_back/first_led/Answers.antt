@@ -4,7 +4,10 @@ use Rattle.fore_base.proofs.ListLemmas.{every_in}
 use Rattle.fa_order.specs.inner.Backs.{SignLeads}
 use Rattle.fa_order.proofs.OpenBacks.{first_found, got, more_every, whole_every}
 use Rattle.fa_order.proofs.ways_back.first_led.Goals as goal
-use Rattle.fa_order.proofs.ways_back.first_led.Goals.{else-not-is_in-via-then-not-is_in+else-does_lead, else-not-is_in-via-else-not-is_in}
+use Rattle.fa_order.proofs.ways_back.first_led.Goals.{
+  else-not-is_in-via-then-not-is_in+else-does_lead,
+  else-not-is_in-via-else-not-is_in,
+}
 
 pub returns-then-does_lead : goal.returns-then-does_lead
 returns-then-does_lead c = (

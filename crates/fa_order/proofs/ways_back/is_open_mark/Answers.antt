@@ -1,7 +1,10 @@
 use Rattle.std.proofs.Common.{inl, refl, true≢false, sym, ◌∙◌}
 use Rattle.fa_order.proofs.OpenBacks.{none_or_some}
 use Rattle.fa_order.proofs.ways_back.is_open_mark.Goals as goal
-use Rattle.fa_order.proofs.ways_back.is_open_mark.Goals.{else-mark-via-then-mark+else-not-is_in, else-mark-via-else-mark}
+use Rattle.fa_order.proofs.ways_back.is_open_mark.Goals.{
+  else-mark-via-then-mark+else-not-is_in,
+  else-mark-via-else-mark,
+}
 
 pub returns-then-not-is_in : goal.returns-then-not-is_in
 returns-then-not-is_in c = (

@@ -6,7 +6,17 @@ use Rattle.fa_core.specs.declared.signature.Signature.{Signature}
 use Rattle.fa_order.specs.Placing.{IsFirstLed}
 use Rattle.fa_order.specs.inner.Backs.{LeadsBy, SignLeads}
 use Rattle.fa_order.specs.inner.Stacks.{nth_refs}
-use Rattle.fa_order.proofs.OpenBacks.{at_leads, first_by, first_here, get_item, leads_at, led_list, led_own, open_below, some_led}
+use Rattle.fa_order.proofs.OpenBacks.{
+  at_leads,
+  first_by,
+  first_here,
+  get_item,
+  leads_at,
+  led_list,
+  led_own,
+  open_below,
+  some_led,
+}
 use Rattle.fa_order.proofs.Weights.{nth_got, refs_below}
 use Rattle.fa_order.proofs.ways_back.led_into.Goals as goal
 use Rattle.fa_order.proofs.ways_back.led_into.Goals.{else-not-is_in-via-then-not-is_in+else-does_lead}

@@ -13,4 +13,5 @@ loop-root-preserved c =
     let r = get_or c.args.roots.now c.loop-root.root-index 0 in
     let w = forced_still ps c.args.known.now old r c.loop-root.invariant
     (c.requires r (in_place c.args.roots.now c.loop-root.root-index 0 c.loop-root-test.true)) in
-    rw (c.mark.ensures) (gains_on ps c.args.known.now old (set old r true) c.loop-root.invariant (gains_mark ps old r w))
+    rw (c.mark.ensures) (gains_on ps c.args.known.now old (set old r true) c.loop-root.invariant
+    (gains_mark ps old r w))
