@@ -9,11 +9,11 @@ use anyhow::{Context, Result, bail};
 use std::alloc::Global;
 
 /// How many states an automaton of a report has at most.
-const STATES: u32 = 6;
+const STATES: u32 = 8;
 
 /// How far chains are looked at, and how many states are printed at most: there are fewer sets of so many states, and
 /// two sets with different chains have different ones that are no longer than there are sets.
-const LOOK: usize = 64;
+const LOOK: usize = 256;
 
 /// A rule of a component: the symbol is the term as far as the state of its child, or the whole term of a leaf.
 #[derive(Drop)]
