@@ -1,6 +1,6 @@
 -- Where each `malloc` gives a cell, an edge of a lowered program has a choice exactly if it is a Choose.
 use Rattle.std.proofs.Common.{◌≡◌, ℕ, ◌+◌, List, [], ◌∷◌, ◌++◌, length, Bool, true, false, refl, sym, Option}
-use Rattle.std.proofs.Common.{Some, None, true≢false}
+use Rattle.std.proofs.Common.{Some, None}
 use Rattle.fore_base.specs.Lists.{Every}
 use Rattle.fore_base.proofs.ListLemmas.{every_in, in_every}
 use Rattle.c_types.specs.declared.mode.MallocMode.TheVariants.{Always}
@@ -19,30 +19,24 @@ use Rattle.c_types.specs.declared.program.PtrOp.{PtrOp}
 use Rattle.c_types.specs.declared.program.PtrOp.TheVariants.{Path as OpPath, Null as OpNull}
 use Rattle.c_types.specs.declared.program.DataOp.{DataOp}
 use Rattle.c_types.specs.declared.program.DataOp.TheVariants.{Path as DataOpPath, Known as DataOpKnown}
-use Rattle.c_types.specs.declared.program.Atom.{Atom}
 use Rattle.c_types.specs.declared.program.Atom.TheVariants.{Choice as ChoiceAtom, Known as KnownAtom, Ptr as PtrAtom}
 use Rattle.c_types.specs.declared.program.Atom.TheVariants.{Data as DataAtom}
 use Rattle.c_types.specs.Program.{Program}
 use Rattle.c_types.specs.Control.{Items, Done, Do, Close, If, Loop, Again, DoLoop, DoAgain, Ask, Not, Both, Either}
-use Rattle.c_cfg.specs.declared.graph.PtrArg.TheVariants.{Var as PtrVar, Null as PtrNull}
 use Rattle.c_cfg.specs.declared.graph.Instr.{Instr}
-use Rattle.c_cfg.specs.declared.graph.Instr.TheVariants.{CopyPtr, LoadPtr, StorePtr, StoreConst, New, Free, Kill}
-use Rattle.c_cfg.specs.declared.graph.Instr.TheVariants.{CopyData, LoadData, StoreData, TestPtr, TestData, Choose, Stop}
 use Rattle.c_cfg.specs.declared.graph.Edge.{Edge}
-use Rattle.c_cfg.specs.Graphs.{ControlGraph, has_choice, is_none_or, is_choose, may_have, HasItsChoice}
+use Rattle.c_cfg.specs.Graphs.{ControlGraph, is_choose}
 use Rattle.c_cfg.specs.Graphs.{HasChoiceAsChoose}
 use Rattle.c_cfg.specs.Links.{Link, One, Two, loads, loads_but_last, used, ends, data_loads, op_loads, data_op_loads}
 use Rattle.c_cfg.specs.Links.{var_row, path_row, ptr_row, data_var_row, data_field_row, data_row, return_row, act_row}
-use Rattle.c_cfg.specs.Links.{ptr_loads, cmp_loads, ptr_test, data_test, ptr_ends, data_ends}
 use Rattle.c_cfg.specs.GraphRuns.{out_of}
 use Rattle.c_cfg.specs.Places.{places}
 use Rattle.c_cfg.specs.Lowering.{link_edges, numbers, LowerOf}
-use Rattle.c_cfg.specs.inner.Numbering.{chain, test_edges, atom_edges, place_edges, all_edges}
 use Rattle.c_cfg.proofs.Leaving.{in_out, PlaceGood, each_location}
 use Rattle.c_cfg.proofs.Fanning.{every_true, leads}
 
 -- a link of edges with or without choices
-abbrev LinkFits : Link → Type 0
+abbrev pub LinkFits : Link → Type 0
 LinkFits (One i) = is_choose i ≡ false
 LinkFits (Two i j) = (is_choose i ≡ true) × (is_choose j ≡ true)
 
@@ -50,10 +44,10 @@ every_more : {A : Type 0} (P : A → Type 0) (xs ys : List A) → Every P xs →
 every_more P [] ys h k = k
 every_more P (x ∷ xs) ys h k = (h.0, every_more P xs ys h.1 k)
 
-abbrev Fit : List Link → Type 0
+abbrev pub Fit : List Link → Type 0
 Fit ls = Every LinkFits ls
 
-fit_more : (xs ys : List Link) → Fit xs → Fit ys → Fit (xs ++ ys)
+pub fit_more : (xs ys : List Link) → Fit xs → Fit ys → Fit (xs ++ ys)
 fit_more = every_more LinkFits
 
 loads_fit : (t b : ℕ) (fs : List ℕ) → Fit (loads t b fs)
@@ -65,7 +59,7 @@ last_fits : (t b f : ℕ) (fs : List ℕ) (last : ℕ → ℕ → Instr) → ((c
 last_fits t b f [] last h = (h b f, tt)
 last_fits t b f (g ∷ gs) last h = (refl, last_fits t t g gs last h)
 
-ends_fit : (ps ds : List ℕ) → Fit (ends ps ds)
+pub ends_fit : (ps ds : List ℕ) → Fit (ends ps ds)
 ends_fit [] [] = tt
 ends_fit [] (d ∷ ds) = (refl, tt)
 ends_fit (p ∷ ps) ds = (refl, tt)
@@ -75,11 +69,11 @@ data_fit t d (DataVar x) = tt
 data_fit t d (DataField base f) =
     fit_more (loads t base.var base.fields) _ (loads_fit t base.var base.fields) (refl, tt)
 
-op_fit : (t : ℕ) (o : PtrOp) → Fit (op_loads t o)
+pub op_fit : (t : ℕ) (o : PtrOp) → Fit (op_loads t o)
 op_fit t (OpPath p) = loads_fit t p.var p.fields
 op_fit t OpNull = tt
 
-data_op_fit : (t d : ℕ) (o : DataOp) → Fit (data_op_loads t d o)
+pub data_op_fit : (t d : ℕ) (o : DataOp) → Fit (data_op_loads t d o)
 data_op_fit t d (DataOpPath p) = data_fit t d p
 data_op_fit t d (DataOpKnown k) = tt
 
@@ -137,7 +131,7 @@ module _ (nv nd : ℕ) where
   return_fits None = (refl, tt)
   return_fits (Some p) = fit_more (data_loads nv nd p) _ (data_fit nv nd p) (refl, tt)
 
-  act_fits : (a : Act) (is : Items) → Fit (act_row nv nd a is)
+  pub act_fits : (a : Act) (is : Items) → Fit (act_row nv nd a is)
   act_fits (SetPtr to from) is = ptr_fits to.var to.fields from
   act_fits (SetData to from) is = set_data_fits to from
   act_fits (FreeAct p) is = fit_more (loads nv p.var p.fields) _ (loads_fit nv p.var p.fields) (refl, ends_fit _ [])
@@ -149,101 +143,15 @@ module _ (nv nd : ℕ) where
 
 -- Edges
 
-abbrev Told : List Edge → Type 0
+abbrev pub Told : List Edge → Type 0
 Told es = Every HasChoiceAsChoose es
 
-told_more : (xs ys : List Edge) → Told xs → Told ys → Told (xs ++ ys)
+pub told_more : (xs ys : List Edge) → Told xs → Told ys → Told (xs ++ ys)
 told_more = every_more HasChoiceAsChoose
 
-link_told : (line k to : ℕ) (l : Link) → LinkFits l → Told (link_edges line k to l)
+pub link_told : (line k to : ℕ) (l : Link) → LinkFits l → Told (link_edges line k to l)
 link_told line k to (One i) h = (sym h, tt)
 link_told line k to (Two i j) h = (sym h.0, (sym h.1, tt))
-
-chain_told : (line : ℕ) (ls : List Link) (k to : ℕ) → Fit ls → Told (chain line ls k to)
-chain_told line [] k to h = tt
-chain_told line (l ∷ []) k to h = link_told line k to l h.0
-chain_told line (l ∷ x ∷ ls) k to h =
-    told_more (link_edges line k (k + 1) l) _ (link_told line k (k + 1) l h.0) (chain_told line (x ∷ ls) (k + 1) to h.1)
-
-test_told : (line : ℕ) (pre : List Link) (test : Bool → Instr) (post : List Link) (k same other : ℕ) → Fit pre
-    → ((b : Bool) → is_choose (test b) ≡ false) → Fit post → Told (test_edges line pre test post k same other)
-test_told line pre test [] k same other h t p =
-    told_more (chain line pre k (k + length pre)) _ (chain_told line pre k (k + length pre) h)
-    (sym (t true), (sym (t false), tt))
-test_told line pre test (l ∷ ls) k same other h t p =
-    told_more (chain line pre k (k + length pre)) _ (chain_told line pre k (k + length pre) h) (
-      sym (t true),
-      (
-        sym (t false),
-        told_more (link_edges line (k + length pre + 1) same l) _
-            (link_told line (k + length pre + 1) same l p.0) (link_told line (k + length pre + 2) other l p.0),
-      ),
-    )
-
-module _ (nv nd : ℕ) where
-  atom_told : (a : Atom) (line k x y : ℕ) → Told (atom_edges nv nd a line k x y)
-  atom_told ChoiceAtom line k x y = (refl, (refl, tt))
-  atom_told (KnownAtom true) line k x y = (refl, tt)
-  atom_told (KnownAtom false) line k x y = (refl, tt)
-  atom_told (PtrAtom l r true) line k x y =
-      test_told line (ptr_loads nv nd l r) (ptr_test nv nd l r) (ptr_ends nv nd l r) k x y
-      (fit_more (op_loads nv l) _ (op_fit nv l) (op_fit (nv + 1) r)) (λ b. refl) (ends_fit _ [])
-  atom_told (PtrAtom l r false) line k x y =
-      test_told line (ptr_loads nv nd l r) (ptr_test nv nd l r) (ptr_ends nv nd l r) k y x
-      (fit_more (op_loads nv l) _ (op_fit nv l) (op_fit (nv + 1) r)) (λ b. refl) (ends_fit _ [])
-  atom_told (DataAtom l r true) line k x y =
-      test_told line (cmp_loads nv nd l r) (data_test nv nd l r) (data_ends nv nd l r) k x y
-      (fit_more (data_op_loads nv nd l) _ (data_op_fit nv nd l) (data_op_fit (nv + 1) (nd + 1) r)) (λ b. refl)
-      (ends_fit _ _)
-  atom_told (DataAtom l r false) line k x y =
-      test_told line (cmp_loads nv nd l r) (data_test nv nd l r) (data_ends nv nd l r) k y x
-      (fit_more (data_op_loads nv nd l) _ (data_op_fit nv nd l) (data_op_fit (nv + 1) (nd + 1) r)) (λ b. refl)
-      (ends_fit _ _)
-
-  place_told : (exit : ℕ) (line : ℕ → ℕ) (c : Items) → Told (place_edges nv nd exit line c)
-  place_told exit line Done = tt
-  place_told exit line (Do a m is) = chain_told (line m) (act_row nv nd a is) m _ (act_fits nv nd a is)
-  place_told exit line (Close ps ds m is) = (refl, tt)
-  place_told exit line (If (Ask a m) x y is) = atom_told a (line m) m _ _
-  place_told exit line (If (Not c) x y is) = tt
-  place_told exit line (If (Both c d) x y is) = tt
-  place_told exit line (If (Either c d) x y is) = tt
-  place_told exit line (Loop c n b is) = tt
-  place_told exit line (Again c n b is) = tt
-  place_told exit line (DoLoop c b is) = tt
-  place_told exit line (DoAgain c b is) = tt
-
-  pub all_told : (exit : ℕ) (line : ℕ → ℕ) (ps : List Items) → Told (all_edges nv nd exit line ps)
-  all_told exit line [] = tt
-  all_told exit line (c ∷ cs) =
-      told_more (place_edges nv nd exit line c) _ (place_told exit line c) (all_told exit line cs)
-
--- So each has its choice
-
-none_told : (x : ℕ) (o : Option ℕ) → has_choice o ≡ false → is_none_or x o ≡ true
-none_told x None h = refl
-none_told x (Some y) h = absurd (true≢false h)
-
-choose_told : (i : Instr) (o : Option ℕ) → has_choice o ≡ is_choose i → may_have i o ≡ true
-choose_told (CopyPtr x (PtrVar y)) o h = rw h refl
-choose_told (CopyPtr x PtrNull) o h = none_told 0 o h
-choose_told (LoadPtr x y f) o h = rw h refl
-choose_told (StorePtr x f y) o h = rw h refl
-choose_told (StoreConst x f v) o h = rw h refl
-choose_told (New x shape) o h = none_told 1 o h
-choose_told (Free x) o h = rw h refl
-choose_told (Kill ps ds) o h = rw h refl
-choose_told (CopyData x y) o h = rw h refl
-choose_told (LoadData x y f) o h = rw h refl
-choose_told (StoreData x f y) o h = rw h refl
-choose_told (TestPtr l r e) o h = rw h refl
-choose_told (TestData l r e) o h = rw h refl
-choose_told (Choose x) o h = h
-choose_told (Stop e) o h = rw h refl
-
-pub all_have : (es : List Edge) → Told es → Every HasItsChoice es
-all_have [] h = tt
-all_have (e ∷ es) h = (choose_told e.instr e.choice h.0, all_have es h.1)
 
 -- The edges of any graph of a program
 

@@ -4,7 +4,6 @@ pub mod Edges
 pub mod Fans
 pub mod GraphRuns
 pub mod Graphs
-pub mod inner
 pub mod Links
 pub mod LoopFree
 pub mod Lowering

@@ -16,7 +16,7 @@ ghost use Rattle.fore_call.specs.inner.Judging.{
 
 use crate::answer::Answer;
 use c_cfg::laws::edges_in_range;
-use c_cfg::lower::lower;
+use c_lower::lower::lower;
 use c_machine::run::run;
 use c_types::mode::MallocMode;
 use c_types::program::Typed;

@@ -5,7 +5,7 @@ use crate::outcomes::{put_found, put_outcome, put_turn};
 use crate::programs::{GRAPH_HEAD, RUN_HEAD, graph_of, program_of};
 use anyhow::{Context, Result, bail};
 use c_cfg::graph::Graph;
-use c_cfg::lower::lower;
+use c_lower::lower::lower;
 use c_machine::Machine;
 use c_machine::graph_run::graph_run;
 use c_machine::run::run;

@@ -1,0 +1,21 @@
+-- The edges of an act, with what dies where the round of its loop ends.
+use Rattle.std.specs.Prelude.{ℕ, List, [], ◌∷◌}
+use Rattle.c_types.specs.declared.program.Act.{Act}
+use Rattle.c_types.specs.declared.program.Act.TheVariants.{SetPtr, SetData, Free as FreeAct, Error, Halt, Return, Break}
+use Rattle.c_types.specs.declared.program.Act.TheVariants.{Continue}
+use Rattle.c_types.specs.Control.{Done}
+use Rattle.c_cfg.specs.declared.graph.Instr.TheVariants.{Kill}
+use Rattle.c_cfg.specs.declared.link.Link.{Link}
+use Rattle.c_cfg.specs.declared.link.Link.TheVariants.{One}
+use Rattle.c_cfg.specs.Links.{act_row}
+
+-- of a program with nv pointer and nd data variables; where the round ends the variables ps and ds die
+abbrev pub links_of : ℕ → ℕ → List ℕ → List ℕ → Act → List Link
+links_of nv nd ps ds (SetPtr to from) = act_row nv nd (SetPtr to from) Done
+links_of nv nd ps ds (SetData to from) = act_row nv nd (SetData to from) Done
+links_of nv nd ps ds (FreeAct p) = act_row nv nd (FreeAct p) Done
+links_of nv nd ps ds Error = act_row nv nd Error Done
+links_of nv nd ps ds Halt = act_row nv nd Halt Done
+links_of nv nd ps ds (Return operand) = act_row nv nd (Return operand) Done
+links_of nv nd ps ds Break = One (Kill ps ds) ∷ []
+links_of nv nd ps ds Continue = One (Kill ps ds) ∷ []

@@ -1,0 +1,3 @@
+pub mod ActLinks
+pub mod Comparing
+pub mod inner

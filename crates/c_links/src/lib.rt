@@ -1,0 +1,13 @@
+//! The links of assignments to pointers and of `free`, and the edges of links.
+//!
+//! A link is one edge, or the two edges for the choices 0 and 1, from one location to the next. `pointers` adds those
+//! of an act by the table of edges, an arrow at a time (`arrows`); `chain` makes edges of them, and `failing` those of
+//! a graph where `malloc` may fail.
+#![tactic(auto)]
+
+pub mod arrows;
+pub mod chain;
+pub mod counts;
+pub mod failing;
+pub mod pointers;
+pub mod sums;

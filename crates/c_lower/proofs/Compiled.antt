@@ -1,0 +1,280 @@
+-- The edges that the recursion with numbers gives are those of the places.
+use Rattle.std.proofs.Common.{◌≡◌, ℕ, zero, suc, ◌+◌, List, [], ◌∷◌, ◌++◌, refl, sym, ap, ◌∙◌, replicate, arith, None}
+use Rattle.std.proofs.lemmas.List.{append_assoc, append-nil, length-replicate}
+use Rattle.c_types.specs.declared.program.Act.{Act}
+use Rattle.c_types.specs.declared.program.Act.TheVariants.{SetPtr, SetData, Free as FreeAct, Error, Halt, Return, Break}
+use Rattle.c_types.specs.declared.program.Act.TheVariants.{Continue}
+use Rattle.c_types.specs.Control.{Items, Done, Do, Close, If, Loop, Again, DoLoop, DoAgain, Test, Ask, Not, Both}
+use Rattle.c_types.specs.Control.{Either, ◌then◌, ask, round, do_round, open_before, opened, after_again, from_again}
+use Rattle.c_types.specs.Control.{closed_ptrs, closed_datums, merged}
+use Rattle.c_types.proofs.Turns.{then_done}
+use Rattle.c_cfg.specs.declared.graph.Instr.TheVariants.{Kill}
+use Rattle.c_cfg.specs.declared.graph.Edge.{Edge}
+use Rattle.c_lower.specs.declared.around.Around.{Around}
+use Rattle.c_cfg.specs.Links.{act_row}
+use Rattle.c_cfg.specs.Places.{test_places, places}
+use Rattle.c_cfg.specs.Lowering.{edge, followed_by}
+use Rattle.c_links.specs.Chains.{chain}
+use Rattle.c_lower.specs.inner.Numbering.{act_width, atom_width, test_width, width, number_test, number, loc}
+use Rattle.c_lower.specs.inner.Numbering.{atom_edges, place_edges, all_edges, test_lines, lines}
+use Rattle.c_lower.specs.inner.Emitting.{first_of, ptrs_of, datums_of, inside, in_loop, act_to, act_links, emit_test}
+use Rattle.c_lower.specs.inner.Emitting.{emit}
+use Rattle.c_lower.proofs.Lines.{Lined, lined_front, lined_back, replicate_first, atom_wide, test_lines_length}
+use Rattle.c_lower.proofs.Lines.{lines_length}
+use Rattle.c_cfg.proofs.Opening.{then_then, open_then, IsPlain}
+use Rattle.c_lower.proofs.Stacking.{loc_open, loc_ask}
+
+module _ (nv nd exit : ℕ) (line : ℕ → ℕ) where
+  edges_more : (xs ys : List Items) → all_edges nv nd exit line (xs ++ ys) ≡ all_edges nv nd exit line xs
+      ++ all_edges nv nd exit line ys
+  edges_more [] ys = refl
+  edges_more (c ∷ xs) ys = ap (λ es. place_edges nv nd exit line c ++ es) (edges_more xs ys)
+      ∙ sym (append_assoc (place_edges nv nd exit line c) _ _)
+
+  -- where numbered items lead that stand before others
+  leads : (is : Items) (i : ℕ) (r : Items) (k : ℕ) → loc nv nd exit (opened r) ≡ k
+      → loc nv nd exit (opened (number nv nd is i then r)) ≡ first_of (width nv nd is) i k
+  leads is i r k e =
+      ap (loc nv nd exit) (open_then (number nv nd is i) r Done Done
+      ∙ ap (λ z. open_before (number nv nd is i) z (opened r)) (then_done r))
+      ∙ loc_open nv nd exit is i r (opened r) ∙ same (width nv nd is)
+    where
+      same : (w : ℕ) → first_of w i (loc nv nd exit (opened r)) ≡ first_of w i k
+      same zero = e
+      same (suc w) = refl
+
+  test_emits : (c : Test) (i : ℕ) (x y r : Items) (a b : ℕ) → loc nv nd exit (opened (x then r)) ≡ a
+      → loc nv nd exit (opened (y then r)) ≡ b → Lined nv nd line i (test_lines nv nd c)
+      → all_edges nv nd exit line (test_places (number_test nv nd c i) x y r) ≡ emit_test nv nd c i a b
+  test_emits (Ask t m) i x y r a b ea eb h =
+      append-nil
+      (atom_edges nv nd t (line i) i (loc nv nd exit (opened (x then r))) (loc nv nd exit (opened (y then r))))
+      ∙ ap (λ k. atom_edges nv nd t k i (loc nv nd exit (opened (x then r))) (loc nv nd exit (opened (y then r))))
+      (replicate_first nv nd line i (atom_width nv nd t) m (atom_wide nv nd t) h)
+      ∙ ap (λ k. atom_edges nv nd t m i k (loc nv nd exit (opened (y then r)))) ea
+      ∙ ap (λ k. atom_edges nv nd t m i a k) eb
+  test_emits (Not c) i x y r a b ea eb h = test_emits c i y x r b a eb ea h
+  test_emits (Both c d) i x y r a b ea eb h =
+      let j = i + test_width nv nd c in
+      edges_more (test_places (number_test nv nd c i) (If (number_test nv nd d j) x y Done) y r)
+      (test_places (number_test nv nd d j) x y r)
+      ∙ ap (λ es. es ++ all_edges nv nd exit line (test_places (number_test nv nd d j) x y r))
+      (test_emits c i (If (number_test nv nd d j) x y Done) y r j b (loc_ask nv nd exit j d x y _) eb
+      (lined_front nv nd line i (test_lines nv nd c) (test_lines nv nd d) h))
+      ∙ ap (λ es. emit_test nv nd c i j b ++ es)
+      (test_emits d j x y r a b ea eb
+      (lined_back nv nd line i (test_width nv nd c) (test_lines nv nd c) (test_lines nv nd d)
+      (test_lines_length nv nd c) h))
+  test_emits (Either c d) i x y r a b ea eb h =
+      let j = i + test_width nv nd c in
+      edges_more (test_places (number_test nv nd c i) x (If (number_test nv nd d j) x y Done) r)
+      (test_places (number_test nv nd d j) x y r)
+      ∙ ap (λ es. es ++ all_edges nv nd exit line (test_places (number_test nv nd d j) x y r))
+      (test_emits c i x (If (number_test nv nd d j) x y Done) r a j ea (loc_ask nv nd exit j d x y _)
+      (lined_front nv nd line i (test_lines nv nd c) (test_lines nv nd d) h))
+      ∙ ap (λ es. emit_test nv nd c i a j ++ es)
+      (test_emits d j x y r a b ea eb
+      (lined_back nv nd line i (test_width nv nd c) (test_lines nv nd c) (test_lines nv nd d)
+      (test_lines_length nv nd c) h))
+
+  -- the numbers that the recursion is given are right for the items after
+  pub record Fits (r : Items) (w : Around) : Type 0 where
+    pub leaves : loc nv nd exit (opened (after_again r)) ≡ w.leave
+    pub agains : loc nv nd exit (opened (from_again r)) ≡ w.again
+    pub ptrs : closed_ptrs r ≡ w.ptrs
+    pub datums : closed_datums r ≡ w.datums
+
+  after_then : (is : Items) (i : ℕ) (r : Items) → IsPlain is → after_again (number nv nd is i then r) ≡ after_again r
+  after_then Done i r p = refl
+  after_then (Do a m is) i r p = after_then is _ r p
+  after_then (Close ps ds m is) i r p = after_then is _ r p
+  after_then (If c x y is) i r p = after_then is _ r p.2
+  after_then (Loop c n b is) i r p = after_then is _ r p.2
+  after_then (Again c n b is) i r p = absurd p
+  after_then (DoLoop c b is) i r p = after_then is _ r p.1
+  after_then (DoAgain c b is) i r p = absurd p
+
+  from_then : (is : Items) (i : ℕ) (r : Items) → IsPlain is → from_again (number nv nd is i then r) ≡ from_again r
+  from_then Done i r p = refl
+  from_then (Do a m is) i r p = from_then is _ r p
+  from_then (Close ps ds m is) i r p = from_then is _ r p
+  from_then (If c x y is) i r p = from_then is _ r p.2
+  from_then (Loop c n b is) i r p = from_then is _ r p.2
+  from_then (Again c n b is) i r p = absurd p
+  from_then (DoLoop c b is) i r p = from_then is _ r p.1
+  from_then (DoAgain c b is) i r p = absurd p
+
+  ptrs_then : (is : Items) (i : ℕ) (r : Items) (ps : List ℕ) → closed_ptrs r ≡ ps
+      → closed_ptrs (number nv nd is i then r) ≡ ptrs_of is ps
+  ptrs_then Done i r qs e = e
+  ptrs_then (Do a m is) i r qs e = ptrs_then is _ r qs e
+  ptrs_then (Close ps ds m is) i r qs e = ap (merged ps) (ptrs_then is _ r qs e)
+  ptrs_then (If c x y is) i r qs e = ptrs_then is _ r qs e
+  ptrs_then (Loop c n b is) i r qs e = ptrs_then is _ r qs e
+  ptrs_then (Again c n b is) i r qs e = refl
+  ptrs_then (DoLoop c b is) i r qs e = ptrs_then is _ r qs e
+  ptrs_then (DoAgain c b is) i r qs e = refl
+
+  datums_then : (is : Items) (i : ℕ) (r : Items) (ps : List ℕ) → closed_datums r ≡ ps
+      → closed_datums (number nv nd is i then r) ≡ datums_of is ps
+  datums_then Done i r qs e = e
+  datums_then (Do a m is) i r qs e = datums_then is _ r qs e
+  datums_then (Close ps ds m is) i r qs e = ap (merged ds) (datums_then is _ r qs e)
+  datums_then (If c x y is) i r qs e = datums_then is _ r qs e
+  datums_then (Loop c n b is) i r qs e = datums_then is _ r qs e
+  datums_then (Again c n b is) i r qs e = refl
+  datums_then (DoLoop c b is) i r qs e = datums_then is _ r qs e
+  datums_then (DoAgain c b is) i r qs e = refl
+
+  fits_inside : (is : Items) (i : ℕ) (r : Items) (w : Around) → IsPlain is → Fits r w
+      → Fits (number nv nd is i then r) (inside w is)
+  fits_inside is i r w p f = record {
+    leaves = ap (λ z. loc nv nd exit (opened z)) (after_then is i r p) ∙ f.leaves;
+    agains = ap (λ z. loc nv nd exit (opened z)) (from_then is i r p) ∙ f.agains;
+    ptrs = ptrs_then is i r w.ptrs f.ptrs;
+    datums = datums_then is i r w.datums f.datums;
+  }
+
+  act_emits : (a : Act) (m i : ℕ) (is : Items) (w : Around) (k : ℕ) → loc nv nd exit (opened is) ≡ k → Fits is w
+      → chain (line i) (act_row nv nd a is) i (loc nv nd exit (opened (followed_by a is)))
+      ≡ chain (line i) (act_links nv nd w a) i (act_to exit w a k)
+  act_emits (SetPtr to from) m i is w k e f = ap (chain (line i) (act_row nv nd (SetPtr to from) is) i) e
+  act_emits (SetData to from) m i is w k e f = ap (chain (line i) (act_row nv nd (SetData to from) is) i) e
+  act_emits (FreeAct p) m i is w k e f = ap (chain (line i) (act_row nv nd (FreeAct p) is) i) e
+  act_emits Error m i is w k e f = refl
+  act_emits Halt m i is w k e f = refl
+  act_emits (Return operand) m i is w k e f = refl
+  act_emits Break m i is w k e f = rw (f.leaves, f.ptrs, f.datums) refl
+  act_emits Continue m i is w k e f = rw (f.agains, f.ptrs, f.datums) refl
+
+  three_more : (xs ys zs : List Items) (a b c : List Edge) → all_edges nv nd exit line xs ≡ a
+      → all_edges nv nd exit line ys ≡ b → all_edges nv nd exit line zs ≡ c
+      → all_edges nv nd exit line (xs ++ (ys ++ zs)) ≡ a ++ (b ++ c)
+  three_more xs ys zs a b c ea eb ec =
+      edges_more xs (ys ++ zs) ∙ ap (λ es. all_edges nv nd exit line xs ++ es) (edges_more ys zs)
+      ∙ ap (λ es. es ++ (all_edges nv nd exit line ys ++ all_edges nv nd exit line zs)) ea
+      ∙ ap (λ es. a ++ (es ++ all_edges nv nd exit line zs)) eb ∙ ap (λ es. a ++ (b ++ es)) ec
+
+  four_more : (xs ys zs ws : List Items) (a b c d : List Edge) → all_edges nv nd exit line xs ≡ a
+      → all_edges nv nd exit line ys ≡ b → all_edges nv nd exit line zs ≡ c → all_edges nv nd exit line ws ≡ d
+      → all_edges nv nd exit line (xs ++ (ys ++ (zs ++ ws))) ≡ a ++ (b ++ (c ++ d))
+  four_more xs ys zs ws a b c d ea eb ec ed = edges_more xs (ys ++ (zs ++ ws))
+      ∙ ap (λ es. es ++ all_edges nv nd exit line (ys ++ (zs ++ ws))) ea
+      ∙ ap (λ es. a ++ es) (three_more ys zs ws b c d eb ec ed)
+
+  -- The contract of the code: for whatever items come after.
+  pub emits : (is : Items) → IsPlain is → (i : ℕ) (r : Items) (w : Around) (k : ℕ) → loc nv nd exit (opened r) ≡ k
+      → Fits r w → Lined nv nd line i (lines nv nd is)
+      → all_edges nv nd exit line (places (number nv nd is i) r) ≡ emit nv nd exit is w i k
+  emits Done p i r w k e f h = refl
+  emits (Do a m is) p i r w k e f h =
+      let j = i + act_width nv nd a in
+      let after = number nv nd is j then r in
+      ap (λ es. es ++ all_edges nv nd exit line (places (number nv nd is j) r))
+      (act_emits a m i after (inside w is) (first_of (width nv nd is) j k) (leads is j r k e)
+      (fits_inside is j r w p f)
+      ∙ ap
+      (λ q. chain q (act_links nv nd (inside w is) a) i
+      (act_to exit (inside w is) a (first_of (width nv nd is) j k)))
+      (replicate_first nv nd line i (act_width nv nd a) m (omega arith)
+      (lined_front nv nd line i (replicate (act_width nv nd a) m) (lines nv nd is) h))
+      ∙ ap (λ t. chain m (act_links nv nd (inside w is) a) i t) (same_to a))
+      ∙ ap (λ es. chain m (act_links nv nd (inside w is) a) i (act_to exit w a (first_of (width nv nd is) j k)) ++ es)
+      (emits is p j r w k e f
+      (lined_back nv nd line i (act_width nv nd a) (replicate (act_width nv nd a) m) (lines nv nd is)
+      (length-replicate (act_width nv nd a) m) h))
+    where
+      same_to : (a : Act) → act_to exit (inside w is) a (first_of (width nv nd is) (i + act_width nv nd a) k)
+          ≡ act_to exit w a (first_of (width nv nd is) (i + act_width nv nd a) k)
+      same_to (SetPtr to from) = refl
+      same_to (SetData to from) = refl
+      same_to (FreeAct p) = refl
+      same_to Error = refl
+      same_to Halt = refl
+      same_to (Return operand) = refl
+      same_to Break = refl
+      same_to Continue = refl
+  emits (Close ps ds m is) p i r w k e f h =
+      ap (λ q. edge q i (loc nv nd exit (opened (number nv nd is (i + 1) then r))) (Kill ps ds) None
+      ∷ all_edges nv nd exit line (places (number nv nd is (i + 1)) r)) h.0
+      ∙ ap (λ q. edge m i q (Kill ps ds) None ∷ all_edges nv nd exit line (places (number nv nd is (i + 1)) r))
+      (leads is (i + 1) r k e)
+      ∙ ap (λ es. edge m i (first_of (width nv nd is) (i + 1) k) (Kill ps ds) None ∷ es)
+      (emits is p (i + 1) r w k e f h.1)
+  emits (If c x y is) p i r w k e f h =
+      let i1 = i + test_width nv nd c in let i2 = i1 + width nv nd x in let i3 = i2 + width nv nd y in
+      let after = first_of (width nv nd is) i3 k in
+      let q = number nv nd is i3 then r in
+      let eq : loc nv nd exit (opened q) ≡ after = leads is i3 r k e in
+      let fq : Fits q (inside w is) = fits_inside is i3 r w p.2 f in
+      let h1 = lined_back nv nd line i (test_width nv nd c) (test_lines nv nd c)
+      (lines nv nd x ++ (lines nv nd y ++ lines nv nd is)) (test_lines_length nv nd c) h in
+      let h2 = lined_back nv nd line i1 (width nv nd x) (lines nv nd x) (lines nv nd y ++ lines nv nd is)
+      (lines_length nv nd x) h1 in
+      let h3 = lined_back nv nd line i2 (width nv nd y) (lines nv nd y) (lines nv nd is) (lines_length nv nd y) h2 in
+      four_more (test_places (number_test nv nd c i) (number nv nd x i1) (number nv nd y i2) q)
+      (places (number nv nd x i1) q) (places (number nv nd y i2) q) (places (number nv nd is i3) r) _ _ _ _
+      (test_emits c i (number nv nd x i1) (number nv nd y i2) q _ _ (leads x i1 q after eq) (leads y i2 q after eq)
+      (lined_front nv nd line i (test_lines nv nd c) (lines nv nd x ++ (lines nv nd y ++ lines nv nd is)) h))
+      (emits x p.0 i1 q (inside w is) after eq fq
+      (lined_front nv nd line i1 (lines nv nd x) (lines nv nd y ++ lines nv nd is) h1))
+      (emits y p.1 i2 q (inside w is) after eq fq (lined_front nv nd line i2 (lines nv nd y) (lines nv nd is) h2))
+      (emits is p.2 i3 r w k e f h3)
+  emits (Loop c n b is) p i r w k e f h =
+      let i1 = i + test_width nv nd c in let i2 = i1 + width nv nd b in let i3 = i2 + width nv nd n in
+      let after = first_of (width nv nd is) i3 k in
+      let again = first_of (width nv nd n) i2 i in
+      let q = number nv nd is i3 then r in
+      let C = number_test nv nd c i in let N = number nv nd n i2 in let B = number nv nd b i1 in
+      let eq : loc nv nd exit (opened q) ≡ after = leads is i3 r k e in
+      let el : loc nv nd exit (opened (Loop C N B q)) ≡ i = loc_ask nv nd exit i c (round C N B) Done (q then Done) in
+      let ea : loc nv nd exit (opened (Again C N B q)) ≡ again =
+      loc_open nv nd exit n i2 (Loop C N B (q then Done)) (ask C (round C N B) Done (q then Done))
+      ∙ first_same (width nv nd n) i2 _ i (loc_ask nv nd exit i c (round C N B) Done (q then Done)) in
+      let h1 = lined_back nv nd line i (test_width nv nd c) (test_lines nv nd c)
+      (lines nv nd b ++ (lines nv nd n ++ lines nv nd is)) (test_lines_length nv nd c) h in
+      let h2 = lined_back nv nd line i1 (width nv nd b) (lines nv nd b) (lines nv nd n ++ lines nv nd is)
+      (lines_length nv nd b) h1 in
+      let h3 = lined_back nv nd line i2 (width nv nd n) (lines nv nd n) (lines nv nd is) (lines_length nv nd n) h2 in
+      let fb : Fits (Again C N B q) (in_loop after again) =
+      record { leaves = eq; agains = ea; ptrs = refl; datums = refl } in
+      let g = fits_inside is i3 r w p.2 f in
+      let fn : Fits (Loop C N B q) (inside w is) =
+      record { leaves = g.leaves; agains = g.agains; ptrs = g.ptrs; datums = g.datums } in
+      four_more (test_places C (round C N B) Done q) (places B (Again C N B q)) (places N (Loop C N B q))
+      (places (number nv nd is i3) r) _ _ _ _
+      (test_emits c i (round C N B) Done q _ _
+      (ap (λ z. loc nv nd exit (opened z)) (then_then B (Again C N B Done) q) ∙ leads b i1 (Again C N B q) again ea)
+      eq (lined_front nv nd line i (test_lines nv nd c) (lines nv nd b ++ (lines nv nd n ++ lines nv nd is)) h))
+      (emits b p.1 i1 (Again C N B q) _ again ea fb
+      (lined_front nv nd line i1 (lines nv nd b) (lines nv nd n ++ lines nv nd is) h1))
+      (emits n p.0 i2 (Loop C N B q) (inside w is) i el fn
+      (lined_front nv nd line i2 (lines nv nd n) (lines nv nd is) h2))
+      (emits is p.2 i3 r w k e f h3)
+    where
+      first_same : (v j a b : ℕ) → a ≡ b → first_of v j a ≡ first_of v j b
+      first_same zero j a b e = e
+      first_same (suc v) j a b e = refl
+  emits (DoLoop c b is) p i r w k e f h =
+      let i1 = i + width nv nd b in let i2 = i1 + test_width nv nd c in
+      let after = first_of (width nv nd is) i2 k in
+      let q = number nv nd is i2 then r in
+      let C = number_test nv nd c i1 in let B = number nv nd b i in
+      let eq : loc nv nd exit (opened q) ≡ after = leads is i2 r k e in
+      let ea : loc nv nd exit (opened (DoAgain C B q)) ≡ i1 =
+      loc_ask nv nd exit i1 c (do_round C B) Done (q then Done) in
+      let h1 = lined_back nv nd line i (width nv nd b) (lines nv nd b) (test_lines nv nd c ++ lines nv nd is)
+      (lines_length nv nd b) h in
+      let h2 = lined_back nv nd line i1 (test_width nv nd c) (test_lines nv nd c) (lines nv nd is)
+      (test_lines_length nv nd c) h1 in
+      let fb : Fits (DoAgain C B q) (in_loop after i1) =
+      record { leaves = eq; agains = ea; ptrs = refl; datums = refl } in
+      three_more (places B (DoAgain C B q)) (test_places C (do_round C B) Done q) (places (number nv nd is i2) r) _ _ _
+      (emits b p.0 i (DoAgain C B q) _ i1 ea fb
+      (lined_front nv nd line i (lines nv nd b) (test_lines nv nd c ++ lines nv nd is) h))
+      (test_emits c i1 (do_round C B) Done q _ _
+      (ap (λ z. loc nv nd exit (opened z)) (then_then B (DoAgain C B Done) q) ∙ leads b i (DoAgain C B q) i1 ea) eq
+      (lined_front nv nd line i1 (test_lines nv nd c) (lines nv nd is) h1))
+      (emits is p.1 i2 r w k e f h2)
+  emits (Again c n b is) p i r w k e f h = absurd p
+  emits (DoAgain c b is) p i r w k e f h = absurd p

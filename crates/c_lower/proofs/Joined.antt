@@ -1,0 +1,152 @@
+-- The edges, the room and the loop heads of items that stand before items.
+use Rattle.std.proofs.Common.{◌≡◌, ℕ, zero, suc, ◌+◌, List, ◌∷◌, ◌++◌, refl, sym, ap, ◌∙◌, arith, None}
+use Rattle.std.proofs.lemmas.List.{append_assoc}
+use Rattle.c_types.specs.declared.program.Act.{Act}
+use Rattle.c_types.specs.declared.program.Act.TheVariants.{SetPtr, SetData, Free as FreeAct, Error, Halt, Return, Break}
+use Rattle.c_types.specs.declared.program.Act.TheVariants.{Continue}
+use Rattle.c_types.specs.Control.{Items, Done, Do, Close, If, Loop, Again, DoLoop, DoAgain, ◌then◌, merged}
+use Rattle.c_cfg.specs.declared.graph.Instr.TheVariants.{Kill}
+use Rattle.c_cfg.specs.declared.graph.Edge.{Edge}
+use Rattle.c_lower.specs.declared.around.Around.{Around}
+use Rattle.c_cfg.specs.Lowering.{edge}
+use Rattle.c_links.specs.Chains.{chain}
+use Rattle.c_lower.specs.inner.Numbering.{act_width, test_width, width}
+use Rattle.c_lower.specs.inner.Emitting.{first_of, ptrs_of, datums_of, inside, in_loop, act_to, act_links, emit_test}
+use Rattle.c_lower.specs.inner.Emitting.{emit}
+use Rattle.c_cfg.proofs.Opening.{IsPlain}
+
+abbrev Made : ℕ → ℕ → List ℕ → List ℕ → Around
+Made l a ps ds = record { leave = l; again = a; ptrs = ps; datums = ds }
+
+ptrs_both : (c d : Items) (ps : List ℕ) → ptrs_of (c then d) ps ≡ ptrs_of c (ptrs_of d ps)
+ptrs_both Done d ps = refl
+ptrs_both (Do a m is) d ps = ptrs_both is d ps
+ptrs_both (Close qs ds m is) d ps = ap (merged qs) (ptrs_both is d ps)
+ptrs_both (If c x y is) d ps = ptrs_both is d ps
+ptrs_both (Loop c n b is) d ps = ptrs_both is d ps
+ptrs_both (Again c n b is) d ps = refl
+ptrs_both (DoLoop c b is) d ps = ptrs_both is d ps
+ptrs_both (DoAgain c b is) d ps = refl
+
+datums_both : (c d : Items) (ps : List ℕ) → datums_of (c then d) ps ≡ datums_of c (datums_of d ps)
+datums_both Done d ps = refl
+datums_both (Do a m is) d ps = datums_both is d ps
+datums_both (Close qs ds m is) d ps = ap (merged ds) (datums_both is d ps)
+datums_both (If c x y is) d ps = datums_both is d ps
+datums_both (Loop c n b is) d ps = datums_both is d ps
+datums_both (Again c n b is) d ps = refl
+datums_both (DoLoop c b is) d ps = datums_both is d ps
+datums_both (DoAgain c b is) d ps = refl
+
+pub inside_both : (w : Around) (c d : Items) → inside w (c then d) ≡ inside (inside w d) c
+inside_both w c d =
+    ap (λ (ps : List ℕ). Made w.leave w.again ps (datums_of (c then d) w.datums)) (ptrs_both c d w.ptrs)
+    ∙ ap (λ (ds : List ℕ). Made w.leave w.again (ptrs_of c (ptrs_of d w.ptrs)) ds) (datums_both c d w.datums)
+
+pub first_both : (v u i j k : ℕ) → j ≡ i + v → first_of (v + u) i k ≡ first_of v i (first_of u j k)
+first_both zero zero i j k e = refl
+first_both zero (suc u) i j k e = let q : 0 + suc u ≡ suc u = omega arith in ap (λ n. first_of n i k) q
+    ∙ omega (arith, e)
+first_both (suc v) u i j k e = let q : suc v + u ≡ suc (v + u) = omega arith in ap (λ n. first_of n i k) q
+
+module _ (nv nd : ℕ) where
+  pub width_then : (c d : Items) → width nv nd (c then d) ≡ width nv nd c + width nv nd d
+  width_then Done d = omega arith
+  width_then (Do a m is) d = omega (arith, width_then is d)
+  width_then (Close ps ds m is) d = omega (arith, width_then is d)
+  width_then (If c x y is) d = omega (arith, width_then is d)
+  width_then (Loop c n b is) d = omega (arith, width_then is d)
+  width_then (Again c n b is) d = omega (arith, width_then is d)
+  width_then (DoLoop c b is) d = omega (arith, width_then is d)
+  width_then (DoAgain c b is) d = omega (arith, width_then is d)
+
+module _ (nv nd exit : ℕ) where
+  act_same : (w : Around) (d : Items) (a : Act) (k : ℕ) → act_to exit w a k ≡ act_to exit (inside w d) a k
+  act_same w d (SetPtr to from) k = refl
+  act_same w d (SetData to from) k = refl
+  act_same w d (FreeAct p) k = refl
+  act_same w d Error k = refl
+  act_same w d Halt k = refl
+  act_same w d (Return operand) k = refl
+  act_same w d Break k = refl
+  act_same w d Continue k = refl
+
+  -- where the rest of some items leads
+  after_both : (is d : Items) (i j k : ℕ) → j ≡ i + width nv nd is → first_of (width nv nd (is then d)) i k
+      ≡ first_of (width nv nd is) i (first_of (width nv nd d) j k)
+  after_both is d i j k e = ap (λ v. first_of v i k) (width_then nv nd is d)
+      ∙ first_both (width nv nd is) (width nv nd d) i j k e
+
+  assoc3 : (a b c d : List Edge) → a ++ (b ++ (c ++ d)) ≡ (a ++ (b ++ c)) ++ d
+  assoc3 a b c d = ap (λ es. a ++ es) (sym (append_assoc b c d)) ∙ sym (append_assoc a (b ++ c) d)
+
+  assoc4 : (a b c d e : List Edge) → a ++ (b ++ (c ++ (d ++ e))) ≡ (a ++ (b ++ (c ++ d))) ++ e
+  assoc4 a b c d e = ap (λ es. a ++ es) (assoc3 b c d e) ∙ sym (append_assoc a (b ++ (c ++ d)) e)
+
+  pub emit_then : (c : Items) → IsPlain c → (d : Items) (w : Around) (i j k : ℕ) → j ≡ i + width nv nd c
+      → emit nv nd exit (c then d) w i k ≡ emit nv nd exit c (inside w d) i (first_of (width nv nd d) j k)
+      ++ emit nv nd exit d w j k
+  emit_then Done p d w i j k e = let q : i ≡ j = omega (arith, e) in ap (λ z. emit nv nd exit d w z k) q
+  emit_then (Do a m is) p d w i j k e =
+      let i1 = i + act_width nv nd a in
+      let e1 : j ≡ i1 + width nv nd is = omega (arith, e) in
+      let to = first_of (width nv nd is) i1 (first_of (width nv nd d) j k) in
+      ap (λ q. chain m (act_links nv nd q a) i (act_to exit w a (first_of (width nv nd (is then d)) i1 k))
+      ++ emit nv nd exit (is then d) w i1 k) (inside_both w is d)
+      ∙ ap (λ q. chain m (act_links nv nd (inside (inside w d) is) a) i (act_to exit w a q)
+      ++ emit nv nd exit (is then d) w i1 k) (after_both is d i1 j k e1)
+      ∙ ap (λ q. chain m (act_links nv nd (inside (inside w d) is) a) i q ++ emit nv nd exit (is then d) w i1 k)
+      (act_same w d a to)
+      ∙ ap (λ es. chain m (act_links nv nd (inside (inside w d) is) a) i (act_to exit (inside w d) a to) ++ es)
+      (emit_then is p d w i1 j k e1)
+      ∙ sym (append_assoc (chain m (act_links nv nd (inside (inside w d) is) a) i (act_to exit (inside w d) a to)) _ _)
+  emit_then (Close ps ds m is) p d w i j k e =
+      let e1 : j ≡ i + 1 + width nv nd is = omega (arith, e) in
+      ap (λ q. edge m i q (Kill ps ds) None ∷ emit nv nd exit (is then d) w (i + 1) k) (after_both is d (i + 1) j k e1)
+      ∙ ap (λ es. edge m i (first_of (width nv nd is) (i + 1) (first_of (width nv nd d) j k)) (Kill ps ds) None ∷ es)
+      (emit_then is p d w (i + 1) j k e1)
+  emit_then (If c x y is) p d w i j k e =
+      let i1 = i + test_width nv nd c in let i2 = i1 + width nv nd x in let i3 = i2 + width nv nd y in
+      let e1 : j ≡ i3 + width nv nd is = omega (arith, e) in
+      let to = first_of (width nv nd is) i3 (first_of (width nv nd d) j k) in
+      ap (λ q. emit_test nv nd c i (first_of (width nv nd x) i1 q) (first_of (width nv nd y) i2 q)
+      ++ (emit nv nd exit x (inside w (is then d)) i1 q
+      ++ (emit nv nd exit y (inside w (is then d)) i2 q ++ emit nv nd exit (is then d) w i3 k)))
+      (after_both is d i3 j k e1)
+      ∙ ap (λ q. emit_test nv nd c i (first_of (width nv nd x) i1 to) (first_of (width nv nd y) i2 to)
+      ++ (emit nv nd exit x q i1 to ++ (emit nv nd exit y q i2 to ++ emit nv nd exit (is then d) w i3 k)))
+      (inside_both w is d)
+      ∙ ap (λ es. emit_test nv nd c i (first_of (width nv nd x) i1 to) (first_of (width nv nd y) i2 to)
+      ++ (emit nv nd exit x (inside (inside w d) is) i1 to
+      ++ (emit nv nd exit y (inside (inside w d) is) i2 to ++ es))) (emit_then is p.2 d w i3 j k e1)
+      ∙ assoc4 (emit_test nv nd c i (first_of (width nv nd x) i1 to) (first_of (width nv nd y) i2 to))
+      (emit nv nd exit x (inside (inside w d) is) i1 to) (emit nv nd exit y (inside (inside w d) is) i2 to) _ _
+  emit_then (Loop c n b is) p d w i j k e =
+      let i1 = i + test_width nv nd c in let i2 = i1 + width nv nd b in let i3 = i2 + width nv nd n in
+      let e1 : j ≡ i3 + width nv nd is = omega (arith, e) in
+      let again = first_of (width nv nd n) i2 i in
+      let to = first_of (width nv nd is) i3 (first_of (width nv nd d) j k) in
+      ap (λ q. emit_test nv nd c i (first_of (width nv nd b) i1 again) q
+      ++ (emit nv nd exit b (in_loop q again) i1 again
+      ++ (emit nv nd exit n (inside w (is then d)) i2 i ++ emit nv nd exit (is then d) w i3 k)))
+      (after_both is d i3 j k e1)
+      ∙ ap (λ q. emit_test nv nd c i (first_of (width nv nd b) i1 again) to
+      ++ (emit nv nd exit b (in_loop to again) i1 again
+      ++ (emit nv nd exit n q i2 i ++ emit nv nd exit (is then d) w i3 k))) (inside_both w is d)
+      ∙ ap (λ es. emit_test nv nd c i (first_of (width nv nd b) i1 again) to
+      ++ (emit nv nd exit b (in_loop to again) i1 again ++ (emit nv nd exit n (inside (inside w d) is) i2 i ++ es)))
+      (emit_then is p.2 d w i3 j k e1)
+      ∙ assoc4 (emit_test nv nd c i (first_of (width nv nd b) i1 again) to)
+      (emit nv nd exit b (in_loop to again) i1 again) (emit nv nd exit n (inside (inside w d) is) i2 i) _ _
+  emit_then (DoLoop c b is) p d w i j k e =
+      let i1 = i + width nv nd b in let i2 = i1 + test_width nv nd c in
+      let e1 : j ≡ i2 + width nv nd is = omega (arith, e) in
+      let to = first_of (width nv nd is) i2 (first_of (width nv nd d) j k) in
+      ap (λ q. emit nv nd exit b (in_loop q i1) i i1
+      ++ (emit_test nv nd c i1 (first_of (width nv nd b) i i1) q ++ emit nv nd exit (is then d) w i2 k))
+      (after_both is d i2 j k e1)
+      ∙ ap (λ es. emit nv nd exit b (in_loop to i1) i i1
+      ++ (emit_test nv nd c i1 (first_of (width nv nd b) i i1) to ++ es)) (emit_then is p.1 d w i2 j k e1)
+      ∙ assoc3 (emit nv nd exit b (in_loop to i1) i i1) (emit_test nv nd c i1 (first_of (width nv nd b) i i1) to) _ _
+  emit_then (Again c n b is) p d w i j k e = absurd p
+  emit_then (DoAgain c b is) p d w i j k e = absurd p

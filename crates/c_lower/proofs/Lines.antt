@@ -1,0 +1,190 @@
+-- Each location has the line of its step, and numbered items with their lines are the items.
+use Rattle.std.proofs.Common.{◌≡◌, ℕ, zero, suc, ◌+◌, ◌<◌, List, [], ◌∷◌, ◌++◌, length, replicate, refl, ap, ◌∙◌, subst}
+use Rattle.std.proofs.Common.{arith}
+use Rattle.std.specs.Prelude.{slice_index_or}
+use Rattle.std.proofs.lemmas.List.{length-append, length-replicate}
+use Rattle.c_types.specs.declared.program.Atom.{Atom}
+use Rattle.c_types.specs.declared.program.Atom.TheVariants.{Choice as ChoiceAtom, Known as KnownAtom, Ptr as PtrAtom}
+use Rattle.c_types.specs.declared.program.Atom.TheVariants.{Data as DataAtom}
+use Rattle.c_types.specs.Control.{Items, Done, Do, Close, If, Loop, Again, DoLoop, DoAgain, Test, Ask, Not, Both}
+use Rattle.c_types.specs.Control.{Either}
+use Rattle.c_cfg.specs.Places.{remark_test, remark}
+use Rattle.c_lower.specs.inner.Numbering.{act_width, atom_width, test_width, width, number_test, number, test_lines}
+use Rattle.c_lower.specs.inner.Numbering.{lines}
+
+module _ (nv nd : ℕ) where
+  pub test_lines_length : (c : Test) → length (test_lines nv nd c) ≡ test_width nv nd c
+  test_lines_length (Ask a m) = length-replicate (atom_width nv nd a) m
+  test_lines_length (Not c) = test_lines_length c
+  test_lines_length (Both c d) =
+      omega (arith, length-append (test_lines nv nd c) (test_lines nv nd d), test_lines_length c, test_lines_length d)
+  test_lines_length (Either c d) =
+      omega (arith, length-append (test_lines nv nd c) (test_lines nv nd d), test_lines_length c, test_lines_length d)
+
+  pub lines_length : (is : Items) → length (lines nv nd is) ≡ width nv nd is
+  lines_length Done = refl
+  lines_length (Do a m is) =
+      omega (
+        arith,
+        length-append (replicate (act_width nv nd a) m) (lines nv nd is),
+        length-replicate (act_width nv nd a) m,
+        lines_length is,
+      )
+  lines_length (Close ps ds m is) = omega (arith, lines_length is)
+  lines_length (If c x y is) =
+      omega (
+        arith,
+        length-append (test_lines nv nd c) (lines nv nd x ++ (lines nv nd y ++ lines nv nd is)),
+        length-append (lines nv nd x) (lines nv nd y ++ lines nv nd is),
+        length-append (lines nv nd y) (lines nv nd is),
+        test_lines_length c,
+        lines_length x,
+        lines_length y,
+        lines_length is,
+      )
+  lines_length (Loop c n b is) =
+      omega (
+        arith,
+        length-append (test_lines nv nd c) (lines nv nd b ++ (lines nv nd n ++ lines nv nd is)),
+        length-append (lines nv nd b) (lines nv nd n ++ lines nv nd is),
+        length-append (lines nv nd n) (lines nv nd is),
+        test_lines_length c,
+        lines_length b,
+        lines_length n,
+        lines_length is,
+      )
+  lines_length (Again c n b is) =
+      omega (
+        arith,
+        length-append (lines nv nd n) (test_lines nv nd c ++ (lines nv nd b ++ lines nv nd is)),
+        length-append (test_lines nv nd c) (lines nv nd b ++ lines nv nd is),
+        length-append (lines nv nd b) (lines nv nd is),
+        test_lines_length c,
+        lines_length b,
+        lines_length n,
+        lines_length is,
+      )
+  lines_length (DoLoop c b is) =
+      omega (
+        arith,
+        length-append (lines nv nd b) (test_lines nv nd c ++ lines nv nd is),
+        length-append (test_lines nv nd c) (lines nv nd is),
+        test_lines_length c,
+        lines_length b,
+        lines_length is,
+      )
+  lines_length (DoAgain c b is) =
+      omega (
+        arith,
+        length-append (test_lines nv nd c) (lines nv nd b ++ lines nv nd is),
+        length-append (lines nv nd b) (lines nv nd is),
+        test_lines_length c,
+        lines_length b,
+        lines_length is,
+      )
+
+  -- from i on, the list L goes on with these lines
+  abbrev pub Lined : (ℕ → ℕ) → ℕ → List ℕ → Type 0
+  Lined f i [] = Unit {0}
+  Lined f i (x ∷ xs) = (f i ≡ x) × Lined f (i + 1) xs
+
+  pub lined_front : (f : ℕ → ℕ) (i : ℕ) (xs ys : List ℕ) → Lined f i (xs ++ ys) → Lined f i xs
+  lined_front f i [] ys h = tt
+  lined_front f i (x ∷ xs) ys h = (h.0, lined_front f (i + 1) xs ys h.1)
+
+  pub lined_back : (f : ℕ → ℕ) (i n : ℕ) (xs ys : List ℕ) → length xs ≡ n → Lined f i (xs ++ ys) → Lined f (i + n) ys
+  lined_back f i n [] ys e h = let q : i ≡ i + n = omega (arith, e) in subst (λ k. Lined f k ys) q h
+  lined_back f i zero (x ∷ xs) ys e h = absurd (omega (arith, e))
+  lined_back f i (suc n) (x ∷ xs) ys e h = let q : i + 1 + n ≡ i + suc n = omega arith in
+      subst (λ k. Lined f k ys) q (lined_back f (i + 1) n xs ys (omega (arith, e)) h.1)
+
+  pub lined_all : (zs xs : List ℕ) (i : ℕ) → ((q : ℕ) → slice_index_or zs (i + q) 0 ≡ slice_index_or xs q 0)
+      → Lined (λ k. slice_index_or zs k 0) i xs
+  lined_all zs [] i h = tt
+  lined_all zs (x ∷ xs) i h = (
+    let e : i ≡ i + 0 = omega arith in ap (λ k. slice_index_or zs k 0) e ∙ h 0,
+    lined_all zs xs (i + 1) (λ q. let e : i + 1 + q ≡ i + suc q = omega arith in ap (λ k. slice_index_or zs k 0) e
+        ∙ h (suc q)),
+  )
+
+  pub replicate_first : (f : ℕ → ℕ) (i n m : ℕ) → 0 < n → Lined f i (replicate n m) → f i ≡ m
+  replicate_first f i zero m h l = absurd (omega arith)
+  replicate_first f i (suc n) m h l = l.0
+
+  pub atom_wide : (a : Atom) → 0 < atom_width nv nd a
+  atom_wide ChoiceAtom = omega arith
+  atom_wide (KnownAtom b) = omega arith
+  atom_wide (PtrAtom l r e) = omega arith
+  atom_wide (DataAtom l r e) = omega arith
+
+  test_back : (f : ℕ → ℕ) (c : Test) (i : ℕ) → Lined f i (test_lines nv nd c) → remark_test f (number_test nv nd c i)
+      ≡ c
+  test_back f (Ask a m) i h = ap (Ask a) (replicate_first f i (atom_width nv nd a) m (atom_wide a) h)
+  test_back f (Not c) i h = ap Not (test_back f c i h)
+  test_back f (Both c d) i h =
+      ap (λ z. Both z (remark_test f (number_test nv nd d (i + test_width nv nd c))))
+      (test_back f c i (lined_front f i _ _ h))
+      ∙ ap (Both c) (test_back f d (i + test_width nv nd c) (lined_back f i _ _ _ (test_lines_length c) h))
+  test_back f (Either c d) i h =
+      ap (λ z. Either z (remark_test f (number_test nv nd d (i + test_width nv nd c))))
+      (test_back f c i (lined_front f i _ _ h))
+      ∙ ap (Either c) (test_back f d (i + test_width nv nd c) (lined_back f i _ _ _ (test_lines_length c) h))
+
+  loop_same : (F : Test → Items → Items → Items → Items) (c c2 : Test) (n n2 b b2 is js : Items) → c ≡ c2 → n ≡ n2
+      → b ≡ b2 → is ≡ js → F c n b is ≡ F c2 n2 b2 js
+  loop_same F c c2 n n2 b b2 is js ec en eb ei = ap (λ z. F z n b is) ec ∙ ap (λ z. F c2 z b is) en
+      ∙ ap (λ z. F c2 n2 z is) eb ∙ ap (λ z. F c2 n2 b2 z) ei
+
+  pub back : (f : ℕ → ℕ) (is : Items) (i : ℕ) → Lined f i (lines nv nd is) → remark f (number nv nd is i) ≡ is
+  back f Done i h = refl
+  back f (Do a m is) i h =
+      ap (λ k. Do a k (remark f (number nv nd is (i + act_width nv nd a))))
+      (replicate_first f i (act_width nv nd a) m (omega arith)
+      (lined_front f i (replicate (act_width nv nd a) m) (lines nv nd is) h))
+      ∙ ap (Do a m)
+      (back f is (i + act_width nv nd a)
+      (lined_back f i (act_width nv nd a) (replicate (act_width nv nd a) m) (lines nv nd is)
+      (length-replicate (act_width nv nd a) m) h))
+  back f (Close ps ds m is) i h = ap (λ k. Close ps ds k (remark f (number nv nd is (i + 1)))) h.0
+      ∙ ap (Close ps ds m) (back f is (i + 1) h.1)
+  back f (If c x y is) i h =
+      let h1 = lined_back f i (test_width nv nd c) (test_lines nv nd c)
+      (lines nv nd x ++ (lines nv nd y ++ lines nv nd is)) (test_lines_length c) h in
+      let h2 = lined_back f (i + test_width nv nd c) (width nv nd x) (lines nv nd x) (lines nv nd y ++ lines nv nd is)
+      (lines_length x) h1 in
+      let h3 = lined_back f (i + test_width nv nd c + width nv nd x) (width nv nd y) (lines nv nd y) (lines nv nd is)
+      (lines_length y) h2 in
+      loop_same If _ c _ x _ y _ is (test_back f c i (lined_front f i _ _ h)) (back f x _ (lined_front f _ _ _ h1))
+      (back f y _ (lined_front f _ _ _ h2)) (back f is _ h3)
+  back f (Loop c n b is) i h =
+      let h1 = lined_back f i (test_width nv nd c) (test_lines nv nd c)
+      (lines nv nd b ++ (lines nv nd n ++ lines nv nd is)) (test_lines_length c) h in
+      let h2 = lined_back f (i + test_width nv nd c) (width nv nd b) (lines nv nd b) (lines nv nd n ++ lines nv nd is)
+      (lines_length b) h1 in
+      let h3 = lined_back f (i + test_width nv nd c + width nv nd b) (width nv nd n) (lines nv nd n) (lines nv nd is)
+      (lines_length n) h2 in
+      loop_same Loop _ c _ n _ b _ is (test_back f c i (lined_front f i _ _ h)) (back f n _ (lined_front f _ _ _ h2))
+      (back f b _ (lined_front f _ _ _ h1)) (back f is _ h3)
+  back f (Again c n b is) i h =
+      let h1 = lined_back f i (width nv nd n) (lines nv nd n) (test_lines nv nd c ++ (lines nv nd b ++ lines nv nd is))
+      (lines_length n) h in
+      let h2 = lined_back f (i + width nv nd n) (test_width nv nd c) (test_lines nv nd c)
+      (lines nv nd b ++ lines nv nd is) (test_lines_length c) h1 in
+      let h3 = lined_back f (i + width nv nd n + test_width nv nd c) (width nv nd b) (lines nv nd b) (lines nv nd is)
+      (lines_length b) h2 in
+      loop_same Again _ c _ n _ b _ is (test_back f c _ (lined_front f _ _ _ h1)) (back f n _ (lined_front f _ _ _ h))
+      (back f b _ (lined_front f _ _ _ h2)) (back f is _ h3)
+  back f (DoLoop c b is) i h =
+      let h1 = lined_back f i (width nv nd b) (lines nv nd b) (test_lines nv nd c ++ lines nv nd is) (lines_length b) h
+      in
+      let h2 = lined_back f (i + width nv nd b) (test_width nv nd c) (test_lines nv nd c) (lines nv nd is)
+      (test_lines_length c) h1 in
+      loop_same (λ c n b is. DoLoop c b is) _ c Done Done _ b _ is (test_back f c _ (lined_front f _ _ _ h1)) refl
+      (back f b _ (lined_front f _ _ _ h)) (back f is _ h2)
+  back f (DoAgain c b is) i h =
+      let h1 = lined_back f i (test_width nv nd c) (test_lines nv nd c) (lines nv nd b ++ lines nv nd is)
+      (test_lines_length c) h in
+      let h2 = lined_back f (i + test_width nv nd c) (width nv nd b) (lines nv nd b) (lines nv nd is) (lines_length b)
+      h1 in
+      loop_same (λ c n b is. DoAgain c b is) _ c Done Done _ b _ is (test_back f c _ (lined_front f _ _ _ h)) refl
+      (back f b _ (lined_front f _ _ _ h1)) (back f is _ h2)

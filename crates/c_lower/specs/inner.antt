@@ -1,0 +1,4 @@
+pub mod Emitting
+pub mod Numbering
+pub mod Sites
+pub mod Sizes

@@ -1,0 +1,194 @@
+-- The edges of a program by recursion over its items, with numbers alone.
+use Rattle.std.specs.Prelude.{ℕ, zero, suc, ◌+◌, List, [], ◌∷◌, ◌++◌, None, map}
+use Rattle.c_types.specs.declared.program.Act.{Act}
+use Rattle.c_types.specs.declared.program.Act.TheVariants.{SetPtr, SetData, Free as FreeAct, Error, Halt, Return, Break}
+use Rattle.c_types.specs.declared.program.Act.TheVariants.{Continue}
+use Rattle.c_types.specs.declared.program.Cond.{Cond}
+use Rattle.c_types.specs.declared.program.Stmt.{Stmt}
+use Rattle.c_types.specs.Control.{Items, Done, Do, Close, If, Loop, Again, DoLoop, DoAgain, Test, Ask, Not, Both}
+use Rattle.c_types.specs.Control.{Either, joined, merged, test_of, items_of, all_before}
+use Rattle.c_cfg.specs.declared.graph.Instr.TheVariants.{Kill}
+use Rattle.c_cfg.specs.declared.graph.Edge.{Edge}
+use Rattle.c_lower.specs.declared.around.Around.{Around}
+use Rattle.c_joints.specs.declared.sides.Joint.{Joint}
+use Rattle.c_joints.specs.declared.sides.Joint.TheVariants.{All, Any}
+use Rattle.c_cfg.specs.declared.link.Link.{Link}
+use Rattle.c_cfg.specs.Lowering.{edge}
+use Rattle.c_links.specs.Chains.{chain}
+use Rattle.c_edges.specs.ActLinks.{links_of}
+use Rattle.c_lower.specs.inner.Numbering.{act_width, test_width, width, atom_edges}
+
+-- where some items begin that have w locations from i on and stand before the location k
+abbrev pub first_of : ℕ → ℕ → ℕ → ℕ
+first_of zero i k = k
+first_of (suc w) i k = i
+
+-- the variables that die in items up to the first Again, or up to their end, where these die then
+abbrev pub ptrs_of : Items → List ℕ → List ℕ
+ptrs_of Done base = base
+ptrs_of (Do a m is) base = ptrs_of is base
+ptrs_of (Close ps ds m is) base = merged ps (ptrs_of is base)
+ptrs_of (If c x y is) base = ptrs_of is base
+ptrs_of (Loop c n b is) base = ptrs_of is base
+ptrs_of (Again c n b is) base = []
+ptrs_of (DoLoop c b is) base = ptrs_of is base
+ptrs_of (DoAgain c b is) base = []
+
+abbrev pub datums_of : Items → List ℕ → List ℕ
+datums_of Done base = base
+datums_of (Do a m is) base = datums_of is base
+datums_of (Close ps ds m is) base = merged ds (datums_of is base)
+datums_of (If c x y is) base = datums_of is base
+datums_of (Loop c n b is) base = datums_of is base
+datums_of (Again c n b is) base = []
+datums_of (DoLoop c b is) base = datums_of is base
+datums_of (DoAgain c b is) base = []
+
+-- what is around a part that stands before these items
+abbrev pub inside : Around → Items → Around
+inside w is = record { leave = w.leave; again = w.again; ptrs = ptrs_of is w.ptrs; datums = datums_of is w.datums }
+
+-- what is around the statements of a block that ends with these variables
+abbrev pub closed : Around → List ℕ → List ℕ → Around
+closed w ps ds = record { leave = w.leave; again = w.again; ptrs = merged ps w.ptrs; datums = merged ds w.datums }
+
+-- how many locations the end of a block takes
+abbrev pub close_width : List ℕ → List ℕ → ℕ
+close_width [] [] = 0
+close_width [] (d ∷ ds) = 1
+close_width (p ∷ ps) ds = 1
+
+-- the edges of the end of a block
+abbrev pub close_edges : List ℕ → List ℕ → ℕ → ℕ → ℕ → List Edge
+close_edges [] [] line i k = []
+close_edges [] (d ∷ ds) line i k = edge line i k (Kill [] (d ∷ ds)) None ∷ []
+close_edges (p ∷ ps) ds line i k = edge line i k (Kill (p ∷ ps) ds) None ∷ []
+
+-- what is around the body of a loop
+abbrev pub in_loop : ℕ → ℕ → Around
+in_loop leave again = record { leave = leave; again = again; ptrs = []; datums = [] }
+
+module _ (nv nd : ℕ) where
+  -- the edges of an act with this around it
+  abbrev pub act_links : Around → Act → List Link
+  act_links w a = links_of nv nd w.ptrs w.datums a
+
+  -- a test whose first location is i and whose sides are at x and y
+  abbrev pub emit_test : Test → ℕ → ℕ → ℕ → List Edge
+  emit_test (Ask a m) i x y = atom_edges nv nd a m i x y
+  emit_test (Not c) i x y = emit_test c i y x
+  emit_test (Both c d) i x y = emit_test c i (i + test_width nv nd c) y ++ emit_test d (i + test_width nv nd c) x y
+  emit_test (Either c d) i x y = emit_test c i x (i + test_width nv nd c) ++ emit_test d (i + test_width nv nd c) x y
+
+module _ (exit : ℕ) where
+  -- where an act leads that stands before the location k
+  abbrev pub act_to : Around → Act → ℕ → ℕ
+  act_to w (SetPtr to from) k = k
+  act_to w (SetData to from) k = k
+  act_to w (FreeAct p) k = k
+  act_to w Error k = exit
+  act_to w Halt k = exit
+  act_to w (Return operand) k = exit
+  act_to w Break k = w.leave
+  act_to w Continue k = w.again
+
+module _ (nv nd exit : ℕ) where
+  -- items whose first location is i and that stand before the location k
+  abbrev pub emit : Items → Around → ℕ → ℕ → List Edge
+  emit Done w i k = []
+  emit (Do a m is) w i k =
+      chain m (act_links nv nd (inside w is) a) i
+      (act_to exit w a (first_of (width nv nd is) (i + act_width nv nd a) k)) ++ emit is w (i + act_width nv nd a) k
+  emit (Close ps ds m is) w i k = edge m i (first_of (width nv nd is) (i + 1) k) (Kill ps ds) None ∷ emit is w (i + 1) k
+  emit (If c x y is) w i k =
+      let i1 = i + test_width nv nd c in let i2 = i1 + width nv nd x in let i3 = i2 + width nv nd y in
+      let after = first_of (width nv nd is) i3 k in
+      emit_test nv nd c i (first_of (width nv nd x) i1 after) (first_of (width nv nd y) i2 after)
+      ++ (emit x (inside w is) i1 after ++ (emit y (inside w is) i2 after ++ emit is w i3 k))
+  emit (Loop c n b is) w i k =
+      let i1 = i + test_width nv nd c in let i2 = i1 + width nv nd b in let i3 = i2 + width nv nd n in
+      let after = first_of (width nv nd is) i3 k in
+      let again = first_of (width nv nd n) i2 i in
+      emit_test nv nd c i (first_of (width nv nd b) i1 again) after
+      ++ (emit b (in_loop after again) i1 again ++ (emit n (inside w is) i2 i ++ emit is w i3 k))
+  emit (DoLoop c b is) w i k =
+      let i1 = i + width nv nd b in let i2 = i1 + test_width nv nd c in
+      let after = first_of (width nv nd is) i2 k in
+      emit b (in_loop after i1) i i1 ++ (emit_test nv nd c i1 (first_of (width nv nd b) i i1) after ++ emit is w i2 k)
+  emit (Again c n b is) w i k = []
+  emit (DoAgain c b is) w i k = []
+
+-- The loop heads among them
+module _ (nv nd : ℕ) where
+  abbrev pub head_numbers : Items → ℕ → List ℕ
+  head_numbers Done i = []
+  head_numbers (Do a m is) i = head_numbers is (i + act_width nv nd a)
+  head_numbers (Close ps ds m is) i = head_numbers is (i + 1)
+  head_numbers (If c x y is) i =
+      let i1 = i + test_width nv nd c in let i2 = i1 + width nv nd x in let i3 = i2 + width nv nd y in
+      head_numbers x i1 ++ (head_numbers y i2 ++ head_numbers is i3)
+  head_numbers (Loop c n b is) i =
+      let i1 = i + test_width nv nd c in let i2 = i1 + width nv nd b in let i3 = i2 + width nv nd n in
+      i ∷ head_numbers b i1 ++ (head_numbers n i2 ++ head_numbers is i3)
+  head_numbers (DoLoop c b is) i =
+      let i1 = i + width nv nd b in let i2 = i1 + test_width nv nd c in
+      i1 ∷ head_numbers b i ++ head_numbers is i2
+  head_numbers (Again c n b is) i = []
+  head_numbers (DoAgain c b is) i = []
+
+-- Conditions
+
+-- `&&` or `||`
+abbrev pub joint_of : Joint → Test → Test → Test
+joint_of All = Both
+joint_of Any = Either
+
+-- Statements
+
+-- the items of a block's statements
+abbrev pub items_in : List Stmt → Items
+items_in body = all_before (map items_of body) Done
+
+-- what is around a statement that stands before this one
+unfoldable pub inside_stmt : Around → Stmt → Around
+inside_stmt w s = inside w (items_of s Done)
+
+-- what is around a statement that stands before these
+unfoldable pub inside_all : Around → List Stmt → Around
+inside_all w body = inside w (items_in body)
+
+module _ (nv nd : ℕ) where
+  -- how many locations the parts of a condition take
+  abbrev pub parts_width : List Cond → ℕ
+  parts_width [] = 0
+  parts_width (c ∷ cs) = test_width nv nd (test_of c) + parts_width cs
+
+  -- the same of `&&` or `||`; of no part it is a literal
+  abbrev pub joined_width : List Cond → ℕ
+  joined_width [] = 1
+  joined_width (c ∷ cs) = parts_width (c ∷ cs)
+
+  -- the edges of `&&` or `||`
+  abbrev pub emit_parts : Joint → List Cond → ℕ → ℕ → ℕ → List Edge
+  emit_parts joint cs i x y = emit_test nv nd (joined (joint_of joint) (map test_of cs)) i x y
+
+  -- how many locations a statement takes, and all statements of a list
+  unfoldable pub wide_stmt : Stmt → ℕ
+  wide_stmt s = width nv nd (items_of s Done)
+
+  unfoldable pub wide_all : List Stmt → ℕ
+  wide_all body = width nv nd (items_in body)
+
+  module _ (exit : ℕ) where
+    -- the edges of a statement, and of all statements of a list
+    unfoldable pub emit_stmt : Stmt → Around → ℕ → ℕ → List Edge
+    emit_stmt s w i k = emit nv nd exit (items_of s Done) w i k
+
+    unfoldable pub emit_all : List Stmt → Around → ℕ → ℕ → List Edge
+    emit_all body w i k = emit nv nd exit (items_in body) w i k
+
+  unfoldable pub heads_stmt : Stmt → ℕ → List ℕ
+  heads_stmt s i = head_numbers nv nd (items_of s Done) i
+
+  unfoldable pub heads_all : List Stmt → ℕ → List ℕ
+  heads_all body i = head_numbers nv nd (items_in body) i
