@@ -10,16 +10,17 @@ use Rattle.fore_read.specs.Readings.{ShelfView, Reading, AreReadings, AreAtMost,
 use Rattle.fore_read.specs.declared.fault.ReadFault.{ReadFault as Fault}
 use Rattle.fore_read.specs.declared.fault.ReadFault.TheVariants as fault
 use Rattle.fore_read.specs.Files.{GivesProgram, IsFileFault, AreRefusedBoxes}
+use Rattle.fore_words.specs.declared.asked.Kind.{Kind}
 use Rattle.fore_words.specs.declared.asked.Settings.{Settings}
 use Rattle.fore_words.specs.declared.asked.Asked.{Asked}
-use Rattle.fore_words.specs.declared.asked.Asked.TheVariants.{Verify, Run}
+use Rattle.fore_words.specs.declared.asked.Asked.TheVariants.{Verify, Run, Gen}
 use Rattle.fore_words.specs.Words.{IsAsked}
 use Rattle.fore_call.specs.declared.answer.Answer.{Answer}
 use Rattle.fore_call.specs.declared.answer.Answer.TheVariants.{Verified, Ran, Usage, Refused, ReadFault, NoMemory}
 use Rattle.fore_call.specs.Calls.{Request}
 use Rattle.fore_call.specs.Names.{LetsRead}
 use Rattle.fore_call.specs.Verdict.{IsRight, IsRightFor, ReadsOnly, AreUnused}
-use Rattle.fore_call.specs.inner.Judging.{IsBoxesAnswer, ReadsFor, answer_to}
+use Rattle.fore_call.specs.inner.Judging.{IsBoxesAnswer, IsGeneratedAnswer, ReadsFor, answer_to}
 
 -- A file that is not taken
 
@@ -106,6 +107,18 @@ module _ (old mid new : ShelfView) (path : List ℕ) (p : Program) (gives : Give
     let_come = lets_both h.done h.at_most;
     holds = λ q. h.holds q ∙ reads.holds q;
   }
+
+-- A generated program
+
+-- what is answered of it is right, where nothing is read
+pub right_for_gen : (r : Reading) (kind : Kind) (phases : ℕ) → AreReadings r [] → (a : Answer)
+    → IsGeneratedAnswer kind phases a → IsRightFor r (Gen kind phases) a
+right_for_gen r kind phases none (Verified verdict text) h = (none, h)
+right_for_gen r kind phases none (Ran outcome) h = absurd h
+right_for_gen r kind phases none Usage h = absurd h
+right_for_gen r kind phases none (Refused why) h = (h, none)
+right_for_gen r kind phases none ReadFault h = absurd h
+right_for_gen r kind phases none NoMemory h = tt
 
 -- What is right for what the words ask is right for the words
 

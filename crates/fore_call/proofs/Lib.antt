@@ -1,3 +1,4 @@
-pub mod JudgeLemmas
+mod GeneratedLemmas
 mod Rows
+pub mod JudgeLemmas
 pub mod TopLemmas

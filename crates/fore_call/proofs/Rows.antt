@@ -48,7 +48,7 @@ use Rattle.fore_read.specs.Readings.{ShelfView, Reading}
 use Rattle.fore_read.specs.Files.{GivesProgram, IsTableFile}
 use Rattle.fore_report.specs.declared.verdict.Verdict.TheVariants.{Safe, Unsafe, Unknown}
 use Rattle.fore_words.specs.declared.asked.Settings.{Settings}
-use Rattle.fore_words.specs.declared.asked.Kind.TheVariants.{ListPhases}
+use Rattle.fore_words.specs.declared.asked.Kind.TheVariants.{ListPhases, DllPhases, TreePhases}
 use Rattle.fore_words.specs.declared.asked.Asked.{Asked}
 use Rattle.fore_words.specs.declared.asked.Asked.TheVariants.{Verify, Run, Gen}
 use Rattle.fore_words.specs.Words.{IsAsked, AsksNothing}
@@ -59,7 +59,8 @@ use Rattle.fore_call.specs.Names.{file_of, boxes_of, LetsRead, LetRead, Names}
 use Rattle.fore_call.specs.Texts.{out_text, notes_text, status_of}
 use Rattle.fore_call.specs.Delivery.{IsUntouched, Wrote, IsCut, IsCutShort}
 use Rattle.fore_call.specs.Promises.{IsResult, IsRefusal, Answers}
-use Rattle.fore_call.specs.Verdict.{no_boxes, IsRefused, IsReadFault, IsRightFor, IsRight, ReadsOnly, NothingFailed}
+use Rattle.fore_call.specs.Tables.{no_boxes}
+use Rattle.fore_call.specs.Verdict.{IsRefused, IsReadFault, IsRightFor, IsRight, ReadsOnly, NothingFailed}
 
 -- What is asked
 
@@ -78,6 +79,9 @@ ran_x = Run (codes "x.c") [] 1 Always
 
 abbrev generated : Asked
 generated = Gen ListPhases 3
+
+abbrev generated_dll : Asked
+generated_dll = Gen DllPhases 3
 
 files : (file_of plain ≡ Some (codes "x.c")) × (file_of boxed ≡ Some (codes "x.c"))
     × (file_of ran_x ≡ Some (codes "x.c")) × (file_of generated ≡ None)
@@ -286,8 +290,13 @@ no_verdict_by_boxes h = h
 no_outcome_by_boxes : IsRightFor idle boxed (Ran (Ended 0)) → ⊥
 no_outcome_by_boxes h = h
 
-nothing_generated : (IsRightFor idle generated (Verified Safe []) → ⊥) × (IsRightFor idle generated (Ran (Ended 0)) → ⊥)
-nothing_generated = (λ h. h, λ h. h)
+nothing_generated : (IsRightFor idle generated_dll (Verified Safe []) → ⊥)
+    × (IsRightFor idle generated (Ran (Ended 0)) → ⊥)
+nothing_generated = (λ h. h.1.by, λ h. h)
+
+-- the report on a generated program comes where no file was read
+no_file_for_generation : IsRightFor (from (gave []) (gave (of_x [] ∷ []))) generated (Verified Safe []) → ⊥
+no_file_for_generation h = cc (h.0)
 
 no_usage_for_a_file : IsRightFor idle plain Usage → ⊥
 no_usage_for_a_file h = h
@@ -298,15 +307,18 @@ module _ (p : Program) (r : Reading) where
       → IsRightFor r (Run (codes "x.c") (1 ∷ []) 9 mode) (Ran (run p mode (1 ∷ []) 9))
   ran_in_the_mode mode gives = (p, gives, refl)
 
--- a generated program is refused by N1, with no file read, and nothing else is refused by it
-refused_generation : IsRefused idle generated NoGen
-refused_generation = (refl, refl)
+-- a generated program of doubly linked lists is refused by N1, with no file read, and nothing else is refused by it
+refused_generation : IsRefused idle generated_dll NoGen
+refused_generation = (tt, refl)
 
-read_for_generation : IsRefused (from (gave []) (gave (of_x [] ∷ []))) generated NoGen → ⊥
+read_for_generation : IsRefused (from (gave []) (gave (of_x [] ∷ []))) generated_dll NoGen → ⊥
 read_for_generation h = cc (h.1)
 
-another_refusal : IsRefused idle generated TooLong → ⊥
-another_refusal h = cc (h.0)
+other_generations : (IsRefused idle generated NoGen → ⊥) × (IsRefused idle (Gen TreePhases 3) NoGen → ⊥)
+other_generations = (λ h. h.0, λ h. h.0)
+
+another_refusal : IsRefused idle generated BoxesTooLong → ⊥
+another_refusal h = h.0
 
 no_generation : IsRefused idle plain NoGen → ⊥
 no_generation h = h.2

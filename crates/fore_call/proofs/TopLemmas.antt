@@ -48,20 +48,22 @@ use Rattle.fore_read.specs.declared.fault.Refusal.TheVariants.{
 use Rattle.fore_report.specs.Reports.{IsReport}
 use Rattle.fore_report.specs.declared.verdict.Verdict.{Verdict}
 use Rattle.fore_report.specs.declared.verdict.Verdict.TheVariants.{Safe, Unsafe, Unknown}
+use Rattle.fore_words.specs.declared.asked.Kind.{Kind}
+use Rattle.fore_words.specs.declared.asked.Kind.TheVariants.{DllPhases}
 use Rattle.fore_words.specs.declared.asked.Settings.{Settings}
 use Rattle.fore_words.specs.declared.asked.Asked.{Asked}
 use Rattle.fore_words.specs.declared.asked.Asked.TheVariants.{Verify, Run, Gen}
-use Rattle.fore_words.specs.Words.{IsAsked, AsksNothing}
+use Rattle.fore_words.specs.Words.{IsAsked, AsksToGen, AsksNothing}
 use Rattle.fore_words.proofs.OneThing.{one_thing}
 use Rattle.fore_call.specs.declared.answer.Answer.{Answer}
 use Rattle.fore_call.specs.declared.answer.Answer.TheVariants.{Verified, Ran, Usage, Refused, ReadFault, NoMemory}
 use Rattle.fore_call.specs.Calls.{Request, Writing, Call}
 use Rattle.fore_call.specs.Delivery.{IsCutShort, Told, WroteNothing}
 use Rattle.fore_call.specs.Names.{Verifies, VerifiesByBoxes, Runs, Generates, file_of, boxes_of}
-use Rattle.fore_call.specs.Promises.{IsResult, IsRefusal, Answers, Reported, Promises}
+use Rattle.fore_call.specs.Promises.{IsResult, IsRefusal, Answers, Reported, SummedUp, Promises}
 use Rattle.fore_call.specs.Texts.{out_text, notes_text, run_status, verdict_status, status_of}
+use Rattle.fore_call.specs.Tables.{no_boxes}
 use Rattle.fore_call.specs.Verdict.{
-  no_boxes,
   IsVerified,
   IsRun,
   IsReadFault,
@@ -71,6 +73,7 @@ use Rattle.fore_call.specs.Verdict.{
   ReadsOnly,
   IsOther,
   VerifiesTo,
+  GeneratesTo,
   NothingFailed,
   HasBytes,
   NamesProgram,
@@ -133,52 +136,50 @@ module _ (r : Request) where
   not_ran : (o : Outcome) → Verifies r.words → IsRight r (Ran o) → ⊥
   not_ran o v h = at (Verify v.0 None v.1) v.2 (Ran o) h
 
+  not_ran_generated : (o : Outcome) → Generates r.words → IsRight r (Ran o) → ⊥
+  not_ran_generated o g h = at (Gen g.0 g.1) g.2 (Ran o) h
+
   not_verified : (v : Verdict) (text : List ℕ) → Runs r.words → IsRight r (Verified v text) → ⊥
   not_verified v text w h = at (Run w.0 w.1 w.2 w.3) w.4 (Verified v text) h
 
   -- what was verified is a report of the program of the file
-  reports_of : (v : Verdict) (text : List ℕ) (asked : Asked) → IsAsked r.words asked
-      → IsRightFor r.reading asked (Verified v text)
+  pub verified_to : (v : Verdict) (text : List ℕ) → Verifies r.words → IsRight r (Verified v text)
       → VerifiesTo r (λ p settings. IsReport (no_boxes p.shapes) p settings text v)
-  reports_of v text (Verify path None settings) is right = (path, settings, is, right)
-  reports_of v text (Verify path (Some boxes) settings) is right = absurd right
-  reports_of v text (Run path choices steps malloc) is right = absurd right
-  reports_of v text (Gen kind phases) is right = absurd right
+  verified_to v text w h = (w.0, w.1, w.2, at (Verify w.0 None w.1) w.2 (Verified v text) h)
 
-  pub verified_to : (v : Verdict) (text : List ℕ) → IsRight r (Verified v text)
-      → VerifiesTo r (λ p settings. IsReport (no_boxes p.shapes) p settings text v)
-  verified_to v text h = reports_of v text h.0 h.1 h.2
+  -- or one of the generated program
+  pub generated_to : (v : Verdict) (text : List ℕ) → Generates r.words → IsRight r (Verified v text)
+      → GeneratesTo r v text
+  generated_to v text g h = let is = at (Gen g.0 g.1) g.2 (Verified v text) h in (g.0, g.1, g.2, is.0, is.1)
 
-  -- an answer with the status of a verdict is one, where a file is to be verified
-  pub was_verified : (a : Answer) → Verifies r.words → status_of a < 4 → (status_of a ≡ 2 → ⊥) → IsRight r a
-      → (v : Verdict) × (text : List ℕ) × (a ≡ Verified v text)
-  was_verified (Verified v text) w e not_two h = (v, text, refl)
-  was_verified (Ran o) w e not_two h = absurd (not_ran o w h)
-  was_verified Usage w e not_two h = absurd (not_two refl)
-  was_verified (Refused why) w e not_two h = absurd (omega (arith, e))
-  was_verified ReadFault w e not_two h = absurd (omega (arith, e))
-  was_verified NoMemory w e not_two h = absurd (omega (arith, e))
+  -- where no run is right
+  module _ (unrun : (o : Outcome) → IsRight r (Ran o) → ⊥) where
+    -- an answer with the status of a verdict is one
+    pub was_verified : (a : Answer) → status_of a < 4 → (status_of a ≡ 2 → ⊥) → IsRight r a
+        → (v : Verdict) × (text : List ℕ) × (a ≡ Verified v text)
+    was_verified (Verified v text) e not_two h = (v, text, refl)
+    was_verified (Ran o) e not_two h = absurd (unrun o h)
+    was_verified Usage e not_two h = absurd (not_two refl)
+    was_verified (Refused why) e not_two h = absurd (omega (arith, e))
+    was_verified ReadFault e not_two h = absurd (omega (arith, e))
+    was_verified NoMemory e not_two h = absurd (omega (arith, e))
 
-  -- its verdict is that of the status
-  verdict_is : (a : Answer) (n : ℕ) (v : Verdict) → ((u : Verdict) → verdict_status u ≡ n → u ≡ v) → n < 4 → (n ≡ 2 → ⊥)
-      → Verifies r.words → status_of a ≡ n
-      → IsRight r a → (text : List ℕ) × (a ≡ Verified v text)
-  verdict_is a n v only small not_two w e h =
-      let is = was_verified a w (omega (arith, e, small)) (λ two. not_two (sym e ∙ two)) h in
-      let same : is.0 ≡ v = only is.0 (ap status_of (sym is.2) ∙ e) in
-      (is.1, is.2 ∙ ap (λ u. Verified u is.1) same)
+    -- its verdict is that of the status
+    verdict_is : (a : Answer) (n : ℕ) (v : Verdict) → ((u : Verdict) → verdict_status u ≡ n → u ≡ v) → n < 4
+        → (n ≡ 2 → ⊥) → status_of a ≡ n → IsRight r a → (text : List ℕ) × (a ≡ Verified v text)
+    verdict_is a n v only small not_two e h =
+        let is = was_verified a (omega (arith, e, small)) (λ two. not_two (sym e ∙ two)) h in
+        let same : is.0 ≡ v = only is.0 (ap status_of (sym is.2) ∙ e) in
+        (is.1, is.2 ∙ ap (λ u. Verified u is.1) same)
 
-  pub was_safe : (a : Answer) → Verifies r.words → status_of a ≡ 0 → IsRight r a → (text : List ℕ)
-      × (a ≡ Verified Safe text)
-  was_safe a = verdict_is a 0 Safe is_safe (omega arith) (λ e. omega (arith, e))
+    pub was_safe : (a : Answer) → status_of a ≡ 0 → IsRight r a → (text : List ℕ) × (a ≡ Verified Safe text)
+    was_safe a = verdict_is a 0 Safe is_safe (omega arith) (λ e. omega (arith, e))
 
-  pub was_unsafe : (a : Answer) → Verifies r.words → status_of a ≡ 1 → IsRight r a → (text : List ℕ)
-      × (a ≡ Verified Unsafe text)
-  was_unsafe a = verdict_is a 1 Unsafe is_unsafe (omega arith) (λ e. omega (arith, e))
+    pub was_unsafe : (a : Answer) → status_of a ≡ 1 → IsRight r a → (text : List ℕ) × (a ≡ Verified Unsafe text)
+    was_unsafe a = verdict_is a 1 Unsafe is_unsafe (omega arith) (λ e. omega (arith, e))
 
-  pub was_unknown : (a : Answer) → Verifies r.words → status_of a ≡ 3 → IsRight r a → (text : List ℕ)
-      × (a ≡ Verified Unknown text)
-  was_unknown a = verdict_is a 3 Unknown is_unknown (omega arith) (λ e. omega (arith, e))
+    pub was_unknown : (a : Answer) → status_of a ≡ 3 → IsRight r a → (text : List ℕ) × (a ≡ Verified Unknown text)
+    was_unknown a = verdict_is a 3 Unknown is_unknown (omega arith) (λ e. omega (arith, e))
 
   pub was_ran : (a : Answer) → Runs r.words → IsResult (status_of a) → IsRight r a → (o : Outcome) × (a ≡ Ran o)
   was_ran (Verified v text) w e h = absurd (not_verified v text w h)
@@ -213,20 +214,21 @@ module _ (r : Request) where
   was_read_fault NoMemory e = absurd (omega (arith, e))
 
   verified_asks : (v : Verdict) (text : List ℕ) (asked : Asked) → IsAsked r.words asked
-      → IsRightFor r.reading asked (Verified v text) → Verifies r.words ⊎ Runs r.words
+      → IsRightFor r.reading asked (Verified v text) → Verifies r.words ⊎ Runs r.words ⊎ Generates r.words
   verified_asks v text (Verify path None settings) is right = inl (path, settings, is)
   verified_asks v text (Verify path (Some boxes) settings) is right = absurd right
   verified_asks v text (Run path choices steps malloc) is right = absurd right
-  verified_asks v text (Gen kind phases) is right = absurd right
+  verified_asks v text (Gen kind phases) is right = inr (inr (kind, phases, is))
 
   ran_asks : (o : Outcome) (asked : Asked) → IsAsked r.words asked → IsRightFor r.reading asked (Ran o)
-      → Verifies r.words ⊎ Runs r.words
-  ran_asks o (Run path choices steps malloc) is right = inr (path, choices, steps, malloc, is)
+      → Verifies r.words ⊎ Runs r.words ⊎ Generates r.words
+  ran_asks o (Run path choices steps malloc) is right = inr (inl (path, choices, steps, malloc, is))
   ran_asks o (Verify path boxes settings) is right = absurd right
   ran_asks o (Gen kind phases) is right = absurd right
 
   -- what was asked, by a status that is a verdict or how a run came out
-  pub was_asked : (a : Answer) → IsResult (status_of a) → IsRight r a → Verifies r.words ⊎ Runs r.words
+  pub was_asked : (a : Answer) → IsResult (status_of a) → IsRight r a
+      → Verifies r.words ⊎ Runs r.words ⊎ Generates r.words
   was_asked (Verified v text) e h = verified_asks v text h.0 h.1 h.2
   was_asked (Ran o) e h = ran_asks o h.0 h.1 h.2
   was_asked Usage e h = absurd (omega (arith, e))
@@ -400,6 +402,17 @@ module _ (r : Request) (asked : Asked) (is : IsAsked r.words asked) (well : Read
   only_refused unverified unrun ReadFault h = absurd (no_read_fault r.reading asked well (at r asked is ReadFault h))
   only_refused unverified unrun NoMemory h = inr refl
 
+-- a generated program gets a verdict, or is refused
+due_for_gen : (r : Request) (kind : Kind) (phases : ℕ) (is : IsAsked r.words (Gen kind phases))
+    → ReadsWell r.reading (Gen kind phases) → (a : Answer) → IsRight r a
+    → (IsResult (status_of a) ⊎ (status_of a ≡ 4)) ⊎ (status_of a ≡ 7)
+due_for_gen r kind phases is well (Verified v text) h = inl (inl (verdict_ends v))
+due_for_gen r kind phases is well (Ran o) h = absurd (at r (Gen kind phases) is (Ran o) h)
+due_for_gen r kind phases is well Usage h = absurd (h (Gen kind phases) is)
+due_for_gen r kind phases is well (Refused why) h = inl (inr refl)
+due_for_gen r kind phases is well ReadFault h = absurd (at r (Gen kind phases) is ReadFault h)
+due_for_gen r kind phases is well NoMemory h = inr refl
+
 known_of : (r : Request) (asked : Asked) (bytes path : List ℕ) (file : HasBytes r asked bytes)
     → file_of asked ≡ Some path → Known r.reading path bytes
 known_of r asked bytes path file of =
@@ -455,7 +468,7 @@ module _ (r : Request) (bytes : List ℕ) (other : IsOther bytes) where
       no_program r.reading path bytes (known_of r (Verify path None settings) bytes path file refl) other h.0 [] h.1
   others_not_verified (Verify path (Some boxes) settings) file v text h = h
   others_not_verified (Run path choices steps malloc) file v text h = h
-  others_not_verified (Gen kind phases) file v text h = h
+  others_not_verified (Gen kind phases) file v text h = cc (file.of)
 
   others_not_run : (asked : Asked) → HasBytes r asked bytes → (o : Outcome) → IsRun r.reading asked o → ⊥
   others_not_run (Run path choices steps malloc) file o h =
@@ -475,28 +488,45 @@ module _ (c : Call) (a : Answer) (right : IsRight c.request a) (reads : ReadsOnl
   answers : (b : Answer) → a ≡ b → c.status ≡ status_of a → Answers c b
   answers b is e = subst (Answers c) is (record { right = right; status = e; told = told e })
 
-  reported : (v : Verdict) (text : List ℕ) → a ≡ Verified v text → c.status ≡ status_of a → Reported c v
-  reported v text is e =
+  reported : (v : Verdict) (text : List ℕ) → Verifies c.request.words → a ≡ Verified v text → c.status ≡ status_of a
+      → Reported c v
+  reported v text asked is e =
       let done = answers (Verified v text) is e in
-      record { text = text; means = verified_to c.request v text done.right; told = done.told }
+      record { text = text; means = verified_to c.request v text asked done.right; told = done.told }
 
-  safe : Verifies c.request.words → c.status ≡ 0 → Reported c Safe
-  safe asked e =
+  summed_up : (v : Verdict) (text : List ℕ) → Generates c.request.words → a ≡ Verified v text
+      → c.status ≡ status_of a → SummedUp c v
+  summed_up v text asked is e =
+      let done = answers (Verified v text) is e in
+      record { text = text; means = generated_to c.request v text asked done.right; told = done.told }
+
+  safe : ((o : Outcome) → IsRight c.request (Ran o) → ⊥) → c.status ≡ 0
+      → (text : List ℕ) × (a ≡ Verified Safe text) × (c.status ≡ status_of a)
+  safe unrun e =
       let mine = own 0 e (omega arith) in
-      let is = was_safe c.request a asked (sym mine ∙ e) right in
-      reported Safe is.0 is.1 mine
+      let is = was_safe c.request unrun a (sym mine ∙ e) right in
+      (is.0, is.1, mine)
 
-  unsafe : Verifies c.request.words → c.status ≡ 1 → Reported c Unsafe
-  unsafe asked e =
+  unsafe : ((o : Outcome) → IsRight c.request (Ran o) → ⊥) → c.status ≡ 1
+      → (text : List ℕ) × (a ≡ Verified Unsafe text) × (c.status ≡ status_of a)
+  unsafe unrun e =
       let mine = own 1 e (omega arith) in
-      let is = was_unsafe c.request a asked (sym mine ∙ e) right in
-      reported Unsafe is.0 is.1 mine
+      let is = was_unsafe c.request unrun a (sym mine ∙ e) right in
+      (is.0, is.1, mine)
 
-  unknown : Verifies c.request.words → c.status ≡ 3 → Reported c Unknown
-  unknown asked e =
+  unknown : ((o : Outcome) → IsRight c.request (Ran o) → ⊥) → c.status ≡ 3
+      → (text : List ℕ) × (a ≡ Verified Unknown text) × (c.status ≡ status_of a)
+  unknown unrun e =
       let mine = own 3 e (omega arith) in
-      let is = was_unknown c.request a asked (sym mine ∙ e) right in
-      reported Unknown is.0 is.1 mine
+      let is = was_unknown c.request unrun a (sym mine ∙ e) right in
+      (is.0, is.1, mine)
+
+  -- where a file is to be verified, and where a program is to be generated, no run is right
+  verifies_only : Verifies c.request.words → (o : Outcome) → IsRight c.request (Ran o) → ⊥
+  verifies_only asked o = not_ran c.request o asked
+
+  generates_only : Generates c.request.words → (o : Outcome) → IsRight c.request (Ran o) → ⊥
+  generates_only asked o = not_ran_generated c.request o asked
 
   ran : Runs c.request.words → IsResult c.status → (o : Outcome) × Answers c (Ran o)
   ran asked e =
@@ -504,7 +534,7 @@ module _ (c : Call) (a : Answer) (right : IsRight c.request a) (reads : ReadsOnl
       let is = was_ran c.request a asked (subst IsResult mine e) right in
       (is.0, answers (Ran is.0) is.1 mine)
 
-  asked_by : IsResult c.status → Verifies c.request.words ⊎ Runs c.request.words
+  asked_by : IsResult c.status → Verifies c.request.words ⊎ Runs c.request.words ⊎ Generates c.request.words
   asked_by e = was_asked c.request a (subst IsResult (own_of_run c.status a status e) e) right
 
   usage : c.status ≡ 2 → Answers c Usage
@@ -569,14 +599,26 @@ module _ (c : Call) (a : Answer) (right : IsRight c.request a) (reads : ReadsOnl
     refuses_boxes : VerifiesByBoxes c.request.words → IsRefusal c.status
     refuses_boxes v = refusal (Verify v.0 (Some v.1) v.2) v.3 (λ v text h. h) (λ o h. h)
 
-    refuses_gen : Generates c.request.words → IsRefusal c.status
-    refuses_gen g = refusal (Gen g.0 g.1) g.2 (λ v text h. h) (λ o h. h)
+    refuses_dll : (phases : ℕ) → AsksToGen c.request.words DllPhases phases → IsRefusal c.status
+    refuses_dll phases g = refusal (Gen DllPhases phases) g (λ v text h. h.1.by) (λ o h. h)
+
+    judges_gen : Generates c.request.words → IsResult c.status ⊎ IsRefusal c.status
+    judges_gen g = elim (mostly (λ m. IsResult m ⊎ (m ≡ 4)) (
+      due_for_gen c.request g.0 g.1 g.2 (reads_well (Gen g.0 g.1) g.2) a right
+    )) [
+      | inl (inl result) ↦ inl result
+      | inl (inr refused) ↦ inr (inl refused)
+      | inr memory ↦ inr (inr memory)
+    ]
 
   pub promises : Promises c
   promises = record {
-    is_safe = safe;
-    is_unsafe = unsafe;
-    is_unknown = unknown;
+    is_safe = λ asked e. let is = safe (verifies_only asked) e in reported Safe is.0 asked is.1 is.2;
+    is_unsafe = λ asked e. let is = unsafe (verifies_only asked) e in reported Unsafe is.0 asked is.1 is.2;
+    is_unknown = λ asked e. let is = unknown (verifies_only asked) e in reported Unknown is.0 asked is.1 is.2;
+    gen_is_safe = λ asked e. let is = safe (generates_only asked) e in summed_up Safe is.0 asked is.1 is.2;
+    gen_is_unsafe = λ asked e. let is = unsafe (generates_only asked) e in summed_up Unsafe is.0 asked is.1 is.2;
+    gen_is_unknown = λ asked e. let is = unknown (generates_only asked) e in summed_up Unknown is.0 asked is.1 is.2;
     ran = ran;
     asked = asked_by;
     usage = usage;
@@ -589,7 +631,8 @@ module _ (c : Call) (a : Answer) (right : IsRight c.request a) (reads : ReadsOnl
     runs = λ p path choices steps malloc named steady. runs steady p path choices steps malloc named;
     refuses = λ named steady. refuses steady named;
     refuses_boxes = λ asked steady. refuses_boxes steady asked;
-    refuses_gen = λ asked steady. refuses_gen steady asked;
+    judges_gen = λ asked steady. judges_gen steady asked;
+    refuses_dll = λ phases asked steady. refuses_dll steady phases asked;
     reads_only = reads;
     status = status_below_eight c.status a status;
   }

@@ -1,7 +1,9 @@
 pub mod Calls
 pub mod Delivery
+pub mod Generated
 pub mod Names
 pub mod Promises
+pub mod Tables
 pub mod Texts
 pub mod Verdict
 pub mod inner

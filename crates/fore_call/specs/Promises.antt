@@ -8,9 +8,10 @@ use Rattle.fore_read.specs.declared.fault.Refusal.{Refusal}
 use Rattle.fore_report.specs.Reports.{IsReport}
 use Rattle.fore_report.specs.declared.verdict.Verdict.{Verdict}
 use Rattle.fore_report.specs.declared.verdict.Verdict.TheVariants.{Safe, Unsafe, Unknown}
+use Rattle.fore_words.specs.declared.asked.Kind.TheVariants.{DllPhases}
 use Rattle.fore_words.specs.declared.asked.Settings.{Settings}
 use Rattle.fore_words.specs.declared.asked.Asked.TheVariants.{Verify, Run}
-use Rattle.fore_words.specs.Words.{AsksNothing}
+use Rattle.fore_words.specs.Words.{AsksToGen, AsksNothing}
 use Rattle.fore_call.specs.declared.answer.Answer.{Answer}
 use Rattle.fore_call.specs.declared.answer.Answer.TheVariants.{Verified, Ran, Usage, Refused, ReadFault}
 use Rattle.fore_call.specs.declared.status.TheConstants.{
@@ -27,14 +28,15 @@ use Rattle.fore_call.specs.Calls.{Call}
 use Rattle.fore_call.specs.Delivery.{IsCutShort, Told, WroteNothing}
 use Rattle.fore_call.specs.Names.{Verifies, VerifiesByBoxes, Runs, Generates}
 use Rattle.fore_call.specs.Texts.{run_status, status_of}
+use Rattle.fore_call.specs.Tables.{no_boxes}
 use Rattle.fore_call.specs.Verdict.{
-  no_boxes,
   IsRight,
   NothingFailed,
   NamesProgram,
   NamesOther,
   ReadsOnly,
   VerifiesTo,
+  GeneratesTo,
 }
 
 -- the status of a verdict, or of how a run came out
@@ -58,6 +60,12 @@ pub record Reported (c : Call) (verdict : Verdict) : Type 0 where
   pub means : VerifiesTo c.request (λ p settings. IsReport (no_boxes p.shapes) p settings text verdict)
   pub told : Told c.out c.notes (Verified verdict text)
 
+-- exactly the report with this verdict was written, on the generated program
+pub record SummedUp (c : Call) (verdict : Verdict) : Type 0 where
+  pub text : List ℕ
+  pub means : GeneratesTo c.request verdict text
+  pub told : Told c.out c.notes (Verified verdict text)
+
 pub record Promises (c : Call) : Type 0 where
   -- SAFE: no choices and no number of steps lead the program of the file to a fault
   pub is_safe : Verifies c.request.words → c.status ≡ NO_FAULT → Reported c Safe
@@ -65,10 +73,14 @@ pub record Promises (c : Call) : Type 0 where
   pub is_unsafe : Verifies c.request.words → c.status ≡ FAULT → Reported c Unsafe
   -- UNKNOWN: as many abstract states are kept as may be, or the choices of the printed abstract trace meet no fault
   pub is_unknown : Verifies c.request.words → c.status ≡ UNKNOWN → Reported c Unknown
+  -- the same of a generated program
+  pub gen_is_safe : Generates c.request.words → c.status ≡ NO_FAULT → SummedUp c Safe
+  pub gen_is_unsafe : Generates c.request.words → c.status ≡ FAULT → SummedUp c Unsafe
+  pub gen_is_unknown : Generates c.request.words → c.status ≡ UNKNOWN → SummedUp c Unknown
   -- so came the run out
   pub ran : Runs c.request.words → IsResult c.status → (outcome : Outcome) × Answers c (Ran outcome)
-  -- each result answers one of the two commands
-  pub asked : IsResult c.status → Verifies c.request.words ⊎ Runs c.request.words
+  -- each result answers one of the three commands
+  pub asked : IsResult c.status → Verifies c.request.words ⊎ Runs c.request.words ⊎ Generates c.request.words
   -- the words ask nothing
   pub usage : c.status ≡ USAGE → Answers c Usage
   -- a file breaks the printed rule, or there is no answer yet to what is asked
@@ -95,8 +107,10 @@ pub record Promises (c : Call) : Type 0 where
   pub refuses : NamesOther c.request → NothingFailed c → IsRefusal c.status
   -- what is to be verified with boxes is refused, for now
   pub refuses_boxes : VerifiesByBoxes c.request.words → NothingFailed c → IsRefusal c.status
-  -- a program that is to be generated is refused, for now
-  pub refuses_gen : Generates c.request.words → NothingFailed c → IsRefusal c.status
+  -- a generated program of doubly linked lists is refused, for now
+  pub refuses_dll : (phases : ℕ) → AsksToGen c.request.words DllPhases phases → NothingFailed c → IsRefusal c.status
+  -- a generated program gets a verdict, or is refused
+  pub judges_gen : Generates c.request.words → NothingFailed c → IsResult c.status ⊎ IsRefusal c.status
   -- no file is read but the C file, and then the file of boxes, that the words name, each at most once
   pub reads_only : ReadsOnly c.request
   -- there are no other statuses

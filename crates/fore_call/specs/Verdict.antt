@@ -17,18 +17,17 @@ use Rattle.fore_read.specs.Readings.{Reading, AreReadings, HasFailed}
 use Rattle.fore_read.specs.Files.{GivesProgram, RefusesFile, FailsFile, IsTableFile, AreRefusedBoxes}
 use Rattle.fore_report.specs.Reports.{IsReport}
 use Rattle.fore_report.specs.declared.verdict.Verdict.{Verdict}
+use Rattle.fore_words.specs.declared.asked.Kind.{Kind}
 use Rattle.fore_words.specs.declared.asked.Settings.{Settings}
 use Rattle.fore_words.specs.declared.asked.Asked.{Asked}
 use Rattle.fore_words.specs.declared.asked.Asked.TheVariants.{Verify, Run, Gen}
-use Rattle.fore_words.specs.Words.{IsAsked, AsksToVerify, AsksNothing}
+use Rattle.fore_words.specs.Words.{IsAsked, AsksToVerify, AsksToGen, AsksNothing}
 use Rattle.fore_call.specs.declared.answer.Answer.{Answer}
 use Rattle.fore_call.specs.declared.answer.Answer.TheVariants.{Verified, Ran, Usage, Refused, ReadFault, NoMemory}
 use Rattle.fore_call.specs.Calls.{Request, Call}
+use Rattle.fore_call.specs.Generated.{IsGenerated, RefusesGenerated}
 use Rattle.fore_call.specs.Names.{file_of, Names, LetRead}
-
--- the table of words without a file of boxes, over these structs
-abbrev pub no_boxes : Shapes → Boxes
-no_boxes shapes = record { face = record { shapes = shapes; boxes = [] }; defs = [] }
+use Rattle.fore_call.specs.Tables.{no_boxes}
 
 -- the file of boxes of this path has a table, and is refused, since no command uses boxes yet
 abbrev pub AreUnused : Option (List ℕ) → List ℕ → Shapes → List NamedFile → Refusal → Type 0
@@ -51,12 +50,12 @@ module _ (r : Reading) where
   abbrev pub FailsBoxes : List ℕ → List ℕ → Type 0
   FailsBoxes path boxes = HasProgram path (λ p. HasFailed r boxes)
 
-  -- what is asked is refused: by the C file, or by the file of boxes, or since no program is generated yet
+  -- what is asked is refused: by the C file, or by the file of boxes, or by the generated text
   abbrev pub IsRefused : Asked → Refusal → Type 0
   IsRefused (Verify path None settings) why = RefusesFile r path why
   IsRefused (Verify path (Some boxes) settings) why = RefusesFile r path why ⊎ RefusesBoxes path boxes why
   IsRefused (Run path choices steps malloc) why = RefusesFile r path why
-  IsRefused (Gen kind phases) why = (why ≡ refusal.NoGen) × AreReadings r []
+  IsRefused (Gen kind phases) why = RefusesGenerated kind phases why × AreReadings r []
 
   -- a file that is asked for was not read
   abbrev pub IsReadFault : Asked → Type 0
@@ -71,7 +70,7 @@ module _ (r : Reading) where
       HasProgram path (λ p. IsReport (no_boxes p.shapes) p settings text verdict)
   IsVerified (Verify path (Some boxes) settings) verdict text = ⊥
   IsVerified (Run path choices steps malloc) verdict text = ⊥
-  IsVerified (Gen kind phases) verdict text = ⊥
+  IsVerified (Gen kind phases) verdict text = AreReadings r [] × IsGenerated kind phases verdict text
 
   -- so the run that is asked for comes out
   abbrev pub IsRun : Asked → Outcome → Type 0
@@ -107,6 +106,12 @@ abbrev pub VerifiesTo : Request → (Program → Settings → Type 0) → Type 0
 VerifiesTo r P =
     (path : List ℕ) × (settings : Settings) × AsksToVerify r.words path None settings
     × HasProgram r.reading path (λ p. P p settings)
+
+-- The words ask for a generated program, no file was read, and this is the report on it.
+abbrev pub GeneratesTo : Request → Verdict → List ℕ → Type 0
+GeneratesTo r verdict text =
+    (kind : Kind) × (phases : ℕ) × AsksToGen r.words kind phases
+    × AreReadings r.reading [] × IsGenerated kind phases verdict text
 
 -- the readings that were answered in this call are some that the words let come; and what the shelf holds stays
 pub record ReadsOnly (r : Request) : Type 0 where

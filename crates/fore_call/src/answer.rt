@@ -1,7 +1,10 @@
 //! What Forester answers to its words.
+ghost use Rattle.std.specs.Prelude.{◌≡◌};
+ghost use Rattle.fore_call.specs.inner.Judging.{answer_to};
+
 use c_types::outcome::Outcome;
 use fore_base::text::Text;
-use fore_read::Refusal;
+use fore_read::{ReadFault, Refusal};
 use fore_report::Verdict;
 
 /// An answer to the words, with what its report prints.
@@ -19,4 +22,15 @@ pub enum Answer {
     ReadFault,
     /// Want of memory.
     NoMemory,
+}
+
+/// What is answered where a file, or a text, is not taken.
+pub(crate) fn answer_to(fault: ReadFault) -> Answer
+    ensures { result ≡ answer_to fault }
+{
+    match fault {
+        ReadFault::Refused(why) => Answer::Refused(why),
+        ReadFault::Failed => Answer::ReadFault,
+        ReadFault::Memory => Answer::NoMemory,
+    }
 }

@@ -4,31 +4,27 @@ ghost use Rattle.fore_read.specs.Readings.{reading_of, ReadsAtMost};
 ghost use Rattle.fore_words.specs.Words.{IsInRange};
 ghost use Rattle.fore_words.specs.declared.asked.Asked.TheVariants as ask;
 ghost use Rattle.fore_call.specs.Calls.{request_of};
-ghost use Rattle.fore_call.specs.Verdict.{no_boxes, IsRight, IsRightFor, ReadsOnly};
+ghost use Rattle.fore_call.specs.Verdict.{IsRight, IsRightFor, ReadsOnly};
 ghost use Rattle.fore_call.specs.inner.Judging.{
   SettingsFit,
   IsVerdict,
   IsRunOf,
   IsBoxesAnswer,
   ReadsFor,
-  answer_to,
 };
 
-use crate::answer::Answer;
-use c_cfg::laws::edges_in_range;
-use c_lower::lower::lower;
+use crate::answer::{Answer, answer_to};
+use crate::exploring::{empty_table, explored};
+use crate::generated::generated;
 use c_machine::run::run;
 use c_types::mode::MallocMode;
 use c_types::program::Typed;
-use fa_core::table::BoxTable;
-use fix_engine::explore;
 use fore_base::memory::Mem;
 use fore_base::shape::Shapes;
 use fore_base::shelf::Shelf;
-use fore_read::{ReadFault, Refusal, read_program, read_table};
+use fore_read::{Refusal, read_program, read_table};
 use fore_report::report;
 use fore_words::{Asked, Settings, WordsFault, read_words};
-use par_kit::crew::Crew;
 use par_kit::gate::Gate;
 use std::alloc::Global;
 use std::thread::Threads;
@@ -83,18 +79,7 @@ fn answer_asked<R: Threads + Sync, L: Shelf, G: Gate>(
             let choices = choices.as_slice();
             run_file(alloc, path.as_str(), choices, *steps, *malloc, shelf)
         }
-        Asked::Gen { .. } => Answer::Refused(Refusal::NoGen),
-    }
-}
-
-/// What is answered where a file is not taken.
-fn answer_to(fault: ReadFault) -> Answer
-    ensures { result ≡ answer_to fault }
-{
-    match fault {
-        ReadFault::Refused(why) => Answer::Refused(why),
-        ReadFault::Failed => Answer::ReadFault,
-        ReadFault::Memory => Answer::NoMemory,
+        Asked::Gen { kind, phases } => generated(rt, alloc, *kind, *phases, gate),
     }
 }
 
@@ -193,14 +178,14 @@ fn verify<R: Threads + Sync, G: Gate>(
     requires { SettingsFit settings }
     ensures { IsVerdict program.now settings result }
 {
-    match explored(rt, alloc, program, settings, gate) {
+    match reported(rt, alloc, program, settings, gate) {
         Ok(answer) => answer,
         Err(_) => Answer::NoMemory,
     }
 }
 
 /// Explores the program's control graph, and reports what was found.
-fn explored<R: Threads + Sync, G: Gate>(
+fn reported<R: Threads + Sync, G: Gate>(
     rt: &R,
     alloc: Global,
     program: &Typed,
@@ -210,30 +195,8 @@ fn explored<R: Threads + Sync, G: Gate>(
     requires { SettingsFit settings }
     ensures { IfOk result (IsVerdict program.now settings) }
 {
-    let graph = lower(alloc, program, settings.malloc)?;
-    edges_in_range(program, settings.malloc, &graph);
     let table = empty_table(alloc, &program.shapes)?;
-    let crew = Crew {
-        jobs: settings.jobs as usize,
-        gate,
-    };
-    let found = explore(
-        rt,
-        alloc,
-        &graph,
-        &table,
-        settings.height,
-        settings.budget,
-        &crew,
-    )?;
+    let (graph, found) = explored(rt, alloc, program, &table, settings, gate)?;
     let (verdict, text) = report(alloc, &found, settings, &table, &graph, program)?;
     Ok(Answer::Verified { verdict, text })
-}
-
-/// The table without boxes over the structs of a program.
-fn empty_table(alloc: Global, shapes: &Shapes) -> Mem<BoxTable>
-    ensures { IfOk result (λ table. table ≡ no_boxes shapes.now) }
-{
-    let table = BoxTable::empty(alloc, shapes)?;
-    Ok(table)
 }

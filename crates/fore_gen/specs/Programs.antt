@@ -1,5 +1,5 @@
 -- The texts of generated programs.
-use Rattle.std.specs.Prelude.{ℕ, List, [], ◌∷◌, ◌++◌, codes, flat_map}
+use Rattle.std.specs.Prelude.{ℕ, suc, List, [], ◌∷◌, ◌++◌, codes, flat_map, if◌then◌else◌, nat_eq}
 use Rattle.std.specs.List.{repeat}
 use Rattle.fore_words.specs.Usage.{ended_line}
 use Rattle.fore_words.specs.declared.asked.Kind.{Kind}
@@ -100,3 +100,8 @@ tail_text = lines_text (codes "return 0;" ∷ codes "}" ∷ [])
 -- the program of this kind with so many phases
 abbrev pub program_text : Kind → ℕ → List ℕ
 program_text kind phases = head_text kind ++ (repeat phases (phase_text kind) ++ tail_text)
+
+-- how many lines a text has: one for each newline
+abbrev pub count_lines : List ℕ → ℕ
+count_lines [] = 0
+count_lines (b ∷ bs) = if nat_eq b 10 then suc (count_lines bs) else count_lines bs

@@ -1,7 +1,7 @@
 // Generated programs, whole.
 ghost use Rattle.std.specs.Prelude.{◌≡◌, ◌++◌, IfOk, OnOk};
 ghost use Rattle.std.specs.List.{repeat};
-ghost use Rattle.fore_gen.specs.Programs.{phase_text, program_text};
+ghost use Rattle.fore_gen.specs.Programs.{count_lines, phase_text, program_text};
 
 use crate::parts;
 use fore_base::memory::Mem;
@@ -29,4 +29,17 @@ fn put_phases(text: &mut Text, phase: &[u8], phases: u32) -> Mem<()>
         text.put(phase)?;
     }
     Ok(())
+}
+
+/// How many lines a text has: one for each newline.
+pub fn count_lines(text: &[u8]) -> usize
+    ensures { result ≡ count_lines text.now }
+{
+    let mut lines = 0;
+    for byte in text {
+        if *byte == b'\n' {
+            lines += 1;
+        }
+    }
+    lines
 }

@@ -20,7 +20,7 @@ use Rattle.fore_read.specs.declared.fault.Refusal.TheVariants.{
 }
 use Rattle.fore_read.specs.Readings.{Reading, AreReadings, IsRead}
 use Rattle.fore_read.specs.Files.{GivesProgram, IsFileFault, GivesTable, AreBoxesFault}
-use Rattle.fore_read.specs.inner.Taking.{IsProgramFault, IsTableFault}
+use Rattle.fore_read.specs.Bytes.{IsProgramFault, IsTableFault}
 
 -- of a C file
 module _ (r : Reading) (path bytes : List ℕ) (given : AreReadings r (reading path bytes ∷ []))

@@ -3,7 +3,7 @@ ghost use Rattle.std.specs.Prelude.{◌≤◌, length, IfOk, IfErr};
 ghost use Rattle.fa_text.specs.Files.{IsBoxFile};
 ghost use Rattle.fore_read.specs.Readings.{reading_of, ReadsAtMost};
 ghost use Rattle.fore_read.specs.Files.{GivesTable, AreBoxesFault};
-ghost use Rattle.fore_read.specs.inner.Taking.{IsTableFault};
+ghost use Rattle.fore_read.specs.Bytes.{IsTableFault};
 
 use crate::fault::{ReadFault, Refusal, not_given};
 use fa_core::table::BoxTable;
@@ -35,8 +35,12 @@ pub fn read_table<L: Shelf>(
     }
 }
 
-/// The table of the text of a file of boxes.
-fn table_of(alloc: Global, text: &[u8], shapes: &Shapes) -> Result<BoxTable, ReadFault>
+/// The table of the text of a file of boxes, of at most `BOX_FILE_BYTES` bytes, over the structs of a program.
+///
+/// # Errors
+///
+/// `Refused` where it breaks a rule, by the first one. `Memory` for want of memory.
+pub fn table_of(alloc: Global, text: &[u8], shapes: &Shapes) -> Result<BoxTable, ReadFault>
     requires { length text.now ≤ BOX_FILE_BYTES }
     ensures ok { IfOk result (IsBoxFile text.now shapes.now) }
     ensures err { IfErr result (IsTableFault text.now shapes.now) }

@@ -3,7 +3,7 @@ ghost use Rattle.std.specs.Prelude.{◌≤◌, [], length, IfOk, IfErr};
 ghost use Rattle.c_front.specs.Files.{IsProgramOf};
 ghost use Rattle.fore_read.specs.Readings.{reading_of, ReadsAtMost};
 ghost use Rattle.fore_read.specs.Files.{GivesProgram, IsFileFault};
-ghost use Rattle.fore_read.specs.inner.Taking.{IsProgramFault};
+ghost use Rattle.fore_read.specs.Bytes.{IsProgramFault};
 
 use crate::fault::{ReadFault, Refusal, not_given};
 use c_front::{FileFault, program_in};
@@ -29,8 +29,12 @@ pub fn read_program<L: Shelf>(alloc: Global, shelf: &mut L, path: &str) -> Resul
     }
 }
 
-/// The program of the bytes of a C file.
-fn program_of(alloc: Global, bytes: &[u8]) -> Result<Typed, ReadFault>
+/// The program of the bytes of a C file, at most `FILE_BYTES` of them.
+///
+/// # Errors
+///
+/// `Refused` where they break a rule, by the first one. `Memory` for want of memory.
+pub fn program_of(alloc: Global, bytes: &[u8]) -> Result<Typed, ReadFault>
     requires { length bytes.now ≤ FILE_BYTES }
     ensures ok { IfOk result (IsProgramOf bytes.now) }
     ensures err { IfErr result (IsProgramFault bytes.now) }

@@ -156,7 +156,7 @@ fn put_spaced(text: &mut Text, numbers: &[u32]) -> Mem<()>
 }
 
 /// A word, and a number that ends its line.
-fn put_counted(text: &mut Text, word: &[u8], number: u64) -> Mem<()>
+pub(crate) fn put_counted(text: &mut Text, word: &[u8], number: u64) -> Mem<()>
     ensures { OnOk result (text.new ≡ text.old ++ (word.now ++ (decimal number ++ 10 ∷ []))) }
 {
     text.put(word)?;

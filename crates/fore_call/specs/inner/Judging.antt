@@ -10,14 +10,18 @@ use Rattle.fore_read.specs.declared.fault.ReadFault.{ReadFault as Fault}
 use Rattle.fore_read.specs.declared.fault.ReadFault.TheVariants as fault
 use Rattle.fore_read.specs.Files.{AreRefusedBoxes}
 use Rattle.fore_report.specs.Reports.{IsReport}
+use Rattle.fore_report.specs.Summaries.{IsSummary}
+use Rattle.fore_words.specs.declared.asked.Kind.{Kind}
 use Rattle.fore_words.specs.declared.asked.Settings.{Settings}
 use Rattle.fore_words.specs.declared.asked.Asked.{Asked}
 use Rattle.fore_words.specs.declared.asked.TheConstants.{MOST_HEIGHT, MOST_JOBS}
 use Rattle.fore_words.specs.Words.{IsUpTo}
 use Rattle.fore_call.specs.declared.answer.Answer.{Answer}
 use Rattle.fore_call.specs.declared.answer.Answer.TheVariants.{Verified, Ran, Usage, Refused, ReadFault, NoMemory}
+use Rattle.fore_call.specs.Generated.{gen_settings, IsGenerated, RefusesGenerated}
 use Rattle.fore_call.specs.Names.{LetsRead}
-use Rattle.fore_call.specs.Verdict.{no_boxes, AreUnused}
+use Rattle.fore_call.specs.Tables.{no_boxes}
+use Rattle.fore_call.specs.Verdict.{AreUnused}
 
 -- the height, the budget and the jobs are in their ranges
 pub record SettingsFit (settings : Settings) : Type 0 where
@@ -33,6 +37,25 @@ IsVerdict p settings Usage = ⊥
 IsVerdict p settings (Refused why) = ⊥
 IsVerdict p settings ReadFault = ⊥
 IsVerdict p settings NoMemory = ⊤
+
+-- what is answered of a generated program
+abbrev pub IsGeneratedAnswer : Kind → ℕ → Answer → Type 0
+IsGeneratedAnswer kind phases (Verified verdict text) = IsGenerated kind phases verdict text
+IsGeneratedAnswer kind phases (Ran outcome) = ⊥
+IsGeneratedAnswer kind phases Usage = ⊥
+IsGeneratedAnswer kind phases (Refused why) = RefusesGenerated kind phases why
+IsGeneratedAnswer kind phases ReadFault = ⊥
+IsGeneratedAnswer kind phases NoMemory = ⊤
+
+-- what is answered of a generated program that is verified by the table without boxes
+abbrev pub IsSummedUp : Kind → ℕ → ℕ → Program → Answer → Type 0
+IsSummedUp kind phases lines p (Verified verdict text) =
+    IsSummary (no_boxes p.shapes) p gen_settings kind phases lines text verdict
+IsSummedUp kind phases lines p (Ran outcome) = ⊥
+IsSummedUp kind phases lines p Usage = ⊥
+IsSummedUp kind phases lines p (Refused why) = ⊥
+IsSummedUp kind phases lines p ReadFault = ⊥
+IsSummedUp kind phases lines p NoMemory = ⊤
 
 -- what `run` answers of a program, whose `malloc` answers by the mode
 abbrev pub IsRunOf : Program → MallocMode → List ℕ → ℕ → Answer → Type 0

@@ -2,7 +2,7 @@ use Rattle.std.proofs.Common.{[], ◌∷◌, IfOk, IfErr, refl, subst}
 use Rattle.fore_base.specs.NamedFiles.{reading}
 use Rattle.fa_text.specs.Files.{IsBoxFile}
 use Rattle.fore_read.specs.Readings.{reading_of}
-use Rattle.fore_read.specs.inner.Taking.{IsTableFault}
+use Rattle.fore_read.specs.Bytes.{IsTableFault}
 use Rattle.fore_read.proofs.Taking.{gives_table, boxes_fault}
 use Rattle.fore_read.proofs.boxes.read_table.Goals as goal
 

@@ -2,7 +2,7 @@ use Rattle.std.proofs.Common.{[], ◌∷◌, IfOk, IfErr, refl, subst}
 use Rattle.fore_base.specs.NamedFiles.{reading}
 use Rattle.c_front.specs.Files.{IsProgramOf}
 use Rattle.fore_read.specs.Readings.{reading_of}
-use Rattle.fore_read.specs.inner.Taking.{IsProgramFault}
+use Rattle.fore_read.specs.Bytes.{IsProgramFault}
 use Rattle.fore_read.proofs.Taking.{gives_program, file_fault}
 use Rattle.fore_read.proofs.program.read_program.Goals as goal
 

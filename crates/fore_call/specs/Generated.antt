@@ -1,0 +1,61 @@
+-- What is answered of a generated program.
+use Rattle.std.specs.Prelude.{◌≡◌, ◌<◌, ℕ, List, length}
+use Rattle.fore_base.specs.declared.limits.TheConstants.{FILE_BYTES}
+use Rattle.fore_base.specs.declared.shape.Shapes.{Shapes}
+use Rattle.c_types.specs.Program.{Program}
+use Rattle.c_types.specs.declared.mode.MallocMode.TheVariants.{Always}
+use Rattle.c_front.specs.Files.{IsProgramOf, BreaksFirst}
+use Rattle.fa_core.specs.Boxes.{Boxes}
+use Rattle.fore_gen.specs.Programs.{program_text, count_lines}
+use Rattle.fore_read.specs.declared.fault.Refusal.{Refusal}
+use Rattle.fore_read.specs.declared.fault.Refusal.TheVariants.{
+  TooLong,
+  Breaks,
+  NoGen,
+  BoxesTooLong,
+  BoxRule,
+  BoxLimit,
+  NoBoxes,
+}
+use Rattle.fore_report.specs.Summaries.{IsSummary}
+use Rattle.fore_report.specs.declared.verdict.Verdict.{Verdict}
+use Rattle.fore_words.specs.declared.asked.Kind.{Kind}
+use Rattle.fore_words.specs.declared.asked.Kind.TheVariants.{ListPhases, DllPhases, TreePhases}
+use Rattle.fore_words.specs.declared.asked.Settings.{Settings}
+use Rattle.fore_words.specs.declared.asked.TheConstants.{HEIGHT, MOST_BUDGET, JOBS}
+use Rattle.fore_call.specs.Tables.{no_boxes}
+
+-- how a generated program is verified
+abbrev pub gen_settings : Settings
+gen_settings = record { height = HEIGHT; budget = MOST_BUDGET; jobs = JOBS; malloc = Always }
+
+-- the table of boxes by which the programs of a kind are verified, over their structs; none yet for those of doubly
+-- linked lists
+abbrev pub IsTableFor : Kind → Shapes → Boxes → Type 0
+IsTableFor ListPhases shapes t = t ≡ no_boxes shapes
+IsTableFor DllPhases shapes t = ⊥
+IsTableFor TreePhases shapes t = t ≡ no_boxes shapes
+
+-- The generated text is that of a program, which is verified by the table of its kind, and this is the report on it.
+pub record IsGenerated (kind : Kind) (phases : ℕ) (verdict : Verdict) (text : List ℕ) : Type 0 where
+  pub program : Program
+  pub table : Boxes
+  pub is : IsProgramOf (program_text kind phases) program
+  pub by : IsTableFor kind program.shapes table
+  pub sums_up : IsSummary table program gen_settings kind phases (count_lines (program_text kind phases)) text verdict
+
+-- programs of this kind are not verified yet, since they want boxes
+abbrev pub WantsBoxes : Kind → Type 0
+WantsBoxes ListPhases = ⊥
+WantsBoxes DllPhases = Unit {0}
+WantsBoxes TreePhases = ⊥
+
+-- the generated text is refused as that of a C file, or its kind is not verified yet
+abbrev pub RefusesGenerated : Kind → ℕ → Refusal → Type 0
+RefusesGenerated kind phases TooLong = FILE_BYTES < length (program_text kind phases)
+RefusesGenerated kind phases (Breaks b) = BreaksFirst (program_text kind phases) b
+RefusesGenerated kind phases NoGen = WantsBoxes kind
+RefusesGenerated kind phases BoxesTooLong = ⊥
+RefusesGenerated kind phases (BoxRule rule line) = ⊥
+RefusesGenerated kind phases (BoxLimit line) = ⊥
+RefusesGenerated kind phases NoBoxes = ⊥
