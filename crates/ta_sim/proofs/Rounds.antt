@@ -1,6 +1,9 @@
 -- What a round leaves: rows that still relate what simulates, and in the end a simulation.
 use Rattle.std.proofs.Common.{◌≡◌, inl, inr, ℕ, zero, suc, ◌<◌, ◌≤◌, Bool, true, false, true≢false, List, [], ◌∷◌, ◌++◌}
 use Rattle.std.proofs.Common.{length, get_or, replicate, refl, sym, ap, subst, ◌∙◌, arith}
+use Rattle.std.proofs.Common.{◌+◌, take}
+use Rattle.std.proofs.Math.Nat.{zero-add}
+use Rattle.std.proofs.Math.Seq.{take-append_seam}
 use Rattle.std.proofs.lemmas.Bool.{cases_lt}
 use Rattle.std.proofs.lemmas.List.{get_or_push, get_or_append_left, get_or-replicate, length-append, length-replicate}
 use Rattle.fore_base.specs.Lists.{IsIn, Every, Paired}
@@ -130,3 +133,22 @@ rows_made n P rows e h = record {
   only = λ p q r. let l = row_there rows p q r in let w = (h p l).only q r in (rw (← e) l, w.0, w.1);
   each = λ p q l k r. (h p (rw e l)).each q (k, r);
 }
+
+-- Rows that are filled
+
+-- rows that are as long as square ones are square
+pub kept_square : (n : ℕ) (old new : List (List Bool)) → AreSquare n old → length new ≡ length old
+    → ((k : ℕ) → k < length old → length (get_or new k []) ≡ length (get_or old k [])) → AreSquare n new
+kept_square n old new s e f = (
+  e ∙ s.0,
+  every_row n new (λ p l. let k : p < length old = omega (arith, e, l) in f p k ∙ row_long n old p s.1 k),
+)
+
+pub rows_filled : (n : ℕ) (P : ℕ → ℕ → Type 0) (rows : List (List Bool)) → length rows ≡ n
+    → ((k : ℕ) → k < length rows → MarksOf n (λ q. (q < n) × P (0 + k) q) (get_or rows k [])) → AreRowsOf n P rows
+rows_filled n P rows e f = rows_made n P rows e
+    (λ k l. subst (λ (x : ℕ). MarksOf n (λ q. (q < n) × P x q) (get_or rows k [])) (zero-add k) (f k l))
+
+-- a vector that was lent out as a slice of its own length holds what came back
+pub lent : (n : ℕ) (rows more : List (List Bool)) → length rows ≡ n → take n (rows ++ more) ≡ rows
+lent n rows more e = subst (λ (x : ℕ). take x (rows ++ more) ≡ rows) e (take-append_seam rows more)

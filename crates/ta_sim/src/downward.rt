@@ -1,19 +1,19 @@
 // The greatest downward simulation.
 
-ghost use Rattle.std.specs.Prelude.{◌≡◌, ◌↔◌, ◌<◌, ℕ, List, IsTrue, IfOk};
+ghost use Rattle.std.specs.Prelude.{◌≡◌, ◌↔◌, ◌<◌, ℕ, List, IsTrue, IfOk, OnOk};
 ghost use Rattle.fore_base.specs.Lists.{Every};
 ghost use Rattle.par_kit.specs.Crews.{IsJobs};
 ghost use Rattle.ta_core.specs.Auto.{IsRankedRule};
 ghost use Rattle.ta_core.specs.Simulations.{IsDownward, IsSimulated};
-ghost use Rattle.ta_sim.specs.Relations.{AreSquare, Holds};
+ghost use Rattle.ta_sim.specs.Relations.{AreSquare, Holds, Relates};
 ghost use Rattle.ta_sim.specs.inner.Matching.{AreByState, IsMatch};
 ghost use Rattle.ta_sim.specs.inner.Refining.{Includes, Refines};
 
+use crate::filling::fill_table;
 use crate::grouping::by_state;
 use crate::matching::{Matching, Staying};
-use crate::refining::{all_pairs, renew};
+use crate::refining::{all_pairs, exchange};
 use crate::relation::{Relation, are_related};
-use crate::tabling::rows_of;
 use fore_base::list::List;
 use fore_base::memory::Mem;
 use par_kit::crew::Crew;
@@ -21,7 +21,6 @@ use par_kit::gate::Gate;
 use std::alloc::Global;
 use std::thread::Threads;
 use ta_core::auto::{Auto, Rule};
-use ta_core::rounds::{Rounds, settle};
 
 /// The greatest downward simulation on the automaton's states: it is a simulation, and each simulation is within it.
 /// The crew runs 1 to 64 jobs and has no bearing on the answer.
@@ -30,12 +29,12 @@ use ta_core::rounds::{Rounds, settle};
 ///
 /// Want of memory.
 pub fn downward<R: Threads + Sync, G: Gate>(
-    _rt: &R,
+    rt: &R,
     alloc: Global,
     auto: &Auto,
-    _crew: &Crew<'_, G>,
+    crew: &Crew<'_, G>,
 ) -> Mem<Relation>
-    requires { IsJobs _crew.now.jobs }
+    requires { IsJobs crew.now.jobs }
     ensures size { IfOk result (λ made. made.size ≡ auto.now.states) }
     ensures simulation { IfOk result (λ made. IsDownward auto.now.rules (Holds made)) }
     ensures greatest { IfOk result
@@ -44,14 +43,7 @@ pub fn downward<R: Threads + Sync, G: Gate>(
 {
     let rules = auto.rules.as_slice();
     let groups = by_state(alloc, rules, auto.states)?;
-    let mut rows = all_pairs(alloc, auto.states)?;
-    let refining = Refining {
-        alloc,
-        rules,
-        groups: groups.as_slice(),
-        states: auto.states,
-    };
-    settle(&refining, &mut rows)?;
+    let rows = refined(rt, alloc, rules, groups.as_slice(), auto.states, crew)?;
     Ok(Relation {
         size: auto.states,
         rows,
@@ -81,50 +73,49 @@ fn is_rule_match(rows: &[List<bool>], rule: &Rule, other: &Rule) -> bool
         && are_related(rows, rule.children.as_slice(), other.children.as_slice())
 }
 
-/// What takes pairs away from rows.
-#[derive(Clone, Copy)]
-struct Refining<'a> {
+/// The rows of the greatest downward simulation: pairs are taken away until none is.
+fn refined<R: Threads + Sync, G: Gate>(
+    rt: &R,
     alloc: Global,
-    rules: &'a [Rule],
-    groups: &'a [List<Rule>],
+    rules: &[Rule],
+    groups: &[List<Rule>],
     states: u32,
-}
-
-impl Rounds<List<List<bool>>> for Refining<'_> {
-    ghost use Rattle.fore_base.specs.Lists.{Every};
-    ghost use Rattle.ta_core.specs.Auto.{IsRankedRule};
-    ghost use Rattle.ta_core.specs.Simulations.{IsDownward};
-    ghost use Rattle.ta_sim.specs.Relations.{AreSquare, Relates};
-    ghost use Rattle.ta_sim.specs.inner.Matching.{AreByState};
-    ghost use Rattle.ta_sim.specs.inner.Refining.{Includes, pair_count};
-
-    ghost keeps = { λ r rows. Every (IsRankedRule r.states) r.rules.now × AreByState r.rules.now r.states r.groups.now
-        × AreSquare r.states rows × Includes r.states r.rules.now rows };
-
-    ghost is_settled = { λ r rows. IsDownward r.rules.now (Relates rows) };
-
-    ghost left = { λ r rows. pair_count rows };
-
-    fn round(&self, rows: &mut List<List<bool>>) -> Mem<bool> {
-        refine(self.alloc, self.rules, self.groups, self.states, rows)
-    }
+    crew: &Crew<'_, G>,
+) -> Mem<List<List<bool>>>
+    requires jobs { IsJobs crew.now.jobs }
+    requires proper { Every (IsRankedRule states) rules.now }
+    requires grouped { AreByState rules.now states groups.now }
+    ensures square { IfOk result (AreSquare states) }
+    ensures includes { IfOk result (Includes states rules.now) }
+    ensures simulation { IfOk result (λ rows. IsDownward rules.now (Relates rows)) }
+{
+    let mut rows = all_pairs(alloc, states)?.into_vec();
+    let mut next = all_pairs(alloc, states)?.into_vec();
+    'rounds: while refine(rt, alloc, rules, groups, states, &mut rows, &mut next, crew)? {}
+    Ok(List::from_vec(rows))
 }
 
 /// Takes away each pair of which the second state has no rule that matches one of the first, by the relation as it was,
-/// and says whether there was one.
-fn refine(
+/// and says whether there was one. The rows are filled in the place of `next`, which then has those as they were.
+fn refine<R: Threads + Sync, G: Gate>(
+    rt: &R,
     alloc: Global,
     _rules: &[Rule],
     groups: &[List<Rule>],
     states: u32,
-    rows: &mut List<List<bool>>,
+    rows: &mut Vec<List<bool>>,
+    next: &mut Vec<List<bool>>,
+    crew: &Crew<'_, G>,
 ) -> Mem<bool>
+    requires jobs { IsJobs crew.now.jobs }
     requires proper { Every (IsRankedRule states) _rules.now }
     requires grouped { AreByState _rules.now states groups.now }
-    requires square { AreSquare states rows.old }
-    ensures square { AreSquare states rows.new }
-    ensures includes { Includes states _rules.now rows.old → Includes states _rules.now rows.new }
-    ensures refines { IfOk result (Refines _rules.now rows.old rows.new) }
+    requires square { AreSquare states rows.old.items }
+    requires next { AreSquare states next.old.items }
+    ensures square { OnOk result (AreSquare states rows.new.items × AreSquare states next.new.items) }
+    ensures includes { OnOk result (Includes states _rules.now rows.old.items
+        → Includes states _rules.now rows.new.items) }
+    ensures refines { IfOk result (Refines _rules.now rows.old.items rows.new.items) }
 {
     let matching = ByChildren {
         rows: rows.as_slice(),
@@ -134,7 +125,7 @@ fn refine(
         groups,
         rows: rows.as_slice(),
     };
-    let next = rows_of(alloc, &staying, states)?;
-    let changed = renew(rows, next);
+    fill_table(rt, alloc, &staying, states, next, crew)?;
+    let changed = exchange(rows, next);
     Ok(changed)
 }

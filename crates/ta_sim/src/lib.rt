@@ -8,6 +8,7 @@
 
 pub mod crossing;
 pub mod downward;
+mod filling;
 mod grouping;
 pub mod laws;
 mod matching;

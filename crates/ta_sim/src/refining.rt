@@ -5,6 +5,7 @@ ghost use Rattle.std.specs.Prelude.{◌≡◌, ◌↔◌, ◌≢◌, List, repli
 use fore_base::list::List;
 use fore_base::memory::Mem;
 use std::alloc::Global;
+use std::mem::swap;
 
 /// Rows that relate each two states.
 pub fn all_pairs(alloc: Global, states: u32) -> Mem<List<List<bool>>>
@@ -26,6 +27,17 @@ pub fn renew(rows: &mut List<List<bool>>, next: List<List<bool>>) -> bool
 {
     let same = are_same(next.as_slice(), rows.as_slice());
     *rows = next;
+    !same
+}
+
+/// Changes the rows for the next ones, and says whether they differ.
+pub fn exchange(rows: &mut Vec<List<bool>>, next: &mut Vec<List<bool>>) -> bool
+    ensures rows { (rows.new.items ≡ next.old.items) × (next.new.items ≡ rows.old.items) }
+    ensures same { result ≡ false → rows.old.items ≡ next.old.items }
+    ensures differ { result ≡ true → rows.old.items ≢ next.old.items }
+{
+    let same = are_same(rows.as_slice(), next.as_slice());
+    swap(rows, next);
     !same
 }
 

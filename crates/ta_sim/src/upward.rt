@@ -1,6 +1,6 @@
 // The greatest upward simulation by a relation.
 
-ghost use Rattle.std.specs.Prelude.{◌≡◌, ◌↔◌, ◌<◌, ℕ, IsTrue, IfOk};
+ghost use Rattle.std.specs.Prelude.{◌≡◌, ◌↔◌, ◌<◌, ℕ, IsTrue, IfOk, OnOk};
 ghost use Rattle.fore_base.specs.Marks.{MarksOf};
 ghost use Rattle.fore_base.specs.Lists.{Every, IsIn};
 ghost use Rattle.par_kit.specs.Crews.{IsJobs};
@@ -10,9 +10,10 @@ ghost use Rattle.ta_sim.specs.Relations.{AreRowsOf, AreSquare, Holds, Relates};
 ghost use Rattle.ta_sim.specs.inner.Using.{AreByChild};
 ghost use Rattle.ta_sim.specs.inner.Raising.{AreRelatedBut, IsRaise, IncludesUpward, Raises};
 
+use crate::filling::fill_table;
 use crate::grouping::{Use, by_child};
 use crate::matching::{Matching, Staying};
-use crate::refining::renew;
+use crate::refining::{all_pairs, exchange, renew};
 use crate::relation::{Relation, entry_at};
 use crate::tabling::{Pairs, rows_of};
 use fore_base::list::List;
@@ -32,20 +33,34 @@ use ta_core::rounds::{Rounds, settle};
 ///
 /// Want of memory.
 pub fn upward<R: Threads + Sync, G: Gate>(
-    _rt: &R,
+    rt: &R,
     alloc: Global,
     auto: &Auto,
     down: &Relation,
-    _crew: &Crew<'_, G>,
+    crew: &Crew<'_, G>,
 ) -> Mem<Relation>
-    requires jobs { IsJobs _crew.now.jobs }
+    requires jobs { IsJobs crew.now.jobs }
     requires size { down.now.size ≡ auto.now.states }
     ensures size { IfOk result (λ made. made.size ≡ auto.now.states) }
     ensures simulation { IfOk result (λ made. IsUpward auto.now (Holds down.now) (Holds made)) }
     ensures greatest { IfOk result (λ made. (p q : ℕ) → p < auto.now.states → q < auto.now.states
         → IsSimulatedUpward auto.now (Holds down.now) p q → Holds made p q) }
 {
-    upward_alone(alloc, auto, down)
+    let uses = by_child(alloc, auto.rules.as_slice(), auto.states)?;
+    let rows = root_pairs(alloc, auto)?;
+    let rows = raised(
+        rt,
+        alloc,
+        auto,
+        uses.as_slice(),
+        down.rows.as_slice(),
+        rows,
+        crew,
+    )?;
+    Ok(Relation {
+        size: auto.states,
+        rows,
+    })
 }
 
 /// The same relation as `upward` gives, without a crew.
@@ -217,5 +232,66 @@ fn raise(
     };
     let next = rows_of(alloc, &staying, auto.states)?;
     let changed = renew(rows, next);
+    Ok(changed)
+}
+
+/// The rows of the greatest upward simulation, from rows that include it: pairs are taken away until none is.
+fn raised<R: Threads + Sync, G: Gate>(
+    rt: &R,
+    alloc: Global,
+    auto: &Auto,
+    uses: &[List<Use>],
+    down: &[List<bool>],
+    rows: List<List<bool>>,
+    crew: &Crew<'_, G>,
+) -> Mem<List<List<bool>>>
+    requires jobs { IsJobs crew.now.jobs }
+    requires used { AreByChild auto.now.rules auto.now.states uses.now }
+    requires square { AreSquare auto.now.states rows }
+    requires roots { KeepsRoots auto.now (Relates rows) }
+    requires includes { IncludesUpward auto.now down.now rows }
+    ensures square { IfOk result (AreSquare auto.now.states) }
+    ensures includes { IfOk result (IncludesUpward auto.now down.now) }
+    ensures simulation { IfOk result (λ made. IsUpward auto.now (Relates down.now) (Relates made)) }
+{
+    let mut rows = rows.into_vec();
+    let mut next = all_pairs(alloc, auto.states)?.into_vec();
+    'rounds: while raise_by(rt, alloc, auto, uses, down, &mut rows, &mut next, crew)? {}
+    Ok(List::from_vec(rows))
+}
+
+/// As `raise`, by the crew. The rows are filled in the place of `next`, which then has those as they were.
+fn raise_by<R: Threads + Sync, G: Gate>(
+    rt: &R,
+    alloc: Global,
+    auto: &Auto,
+    uses: &[List<Use>],
+    down: &[List<bool>],
+    rows: &mut Vec<List<bool>>,
+    next: &mut Vec<List<bool>>,
+    crew: &Crew<'_, G>,
+) -> Mem<bool>
+    requires jobs { IsJobs crew.now.jobs }
+    requires used { AreByChild auto.now.rules auto.now.states uses.now }
+    requires square { AreSquare auto.now.states rows.old.items }
+    requires next { AreSquare auto.now.states next.old.items }
+    requires roots { KeepsRoots auto.now (Relates rows.old.items) }
+    ensures square { OnOk result (AreSquare auto.now.states rows.new.items × AreSquare auto.now.states next.new.items) }
+    ensures roots { OnOk result (KeepsRoots auto.now (Relates rows.new.items)) }
+    ensures includes { OnOk result (IncludesUpward auto.now down.now rows.old.items
+        → IncludesUpward auto.now down.now rows.new.items) }
+    ensures raises { IfOk result (Raises auto.now down.now rows.old.items rows.new.items) }
+{
+    let matching = ByOthers {
+        down,
+        rows: rows.as_slice(),
+    };
+    let staying = Staying {
+        matching: &matching,
+        groups: uses,
+        rows: rows.as_slice(),
+    };
+    fill_table(rt, alloc, &staying, auto.states, next, crew)?;
+    let changed = exchange(rows, next);
     Ok(changed)
 }
