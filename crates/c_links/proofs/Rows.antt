@@ -32,9 +32,10 @@ two = refl
 always : edges_in Always (edge 5 3 9 (New 1 4) None ∷ []) ≡ edge 5 3 9 (New 1 4) None ∷ []
 always = refl
 
--- where it may fail, x1 = malloc(..) is the null pointer for the choice 0 and a new cell for the choice 1; a free stays,
--- and an edge that has its choice
+-- where it may fail, x1 = malloc(..) is the null pointer for the choice 0 and a new cell for the choice 1; a free
+-- stays, and an edge that has its choice
 fails : edges_in MayFail
-    (edge 5 3 9 (New 1 4) None ∷ edge 6 9 2 (Free 1) None ∷ edge 6 2 2 (Choose None) (Some 1) ∷ []) ≡ edge 5 3 9 (CopyPtr 1 PtrNull) (Some 0) ∷ edge 5 3 9 (New 1 4) (Some 1) ∷ edge 6 9 2 (Free 1) None
+    (edge 5 3 9 (New 1 4) None ∷ edge 6 9 2 (Free 1) None ∷ edge 6 2 2 (Choose None) (Some 1) ∷ [])
+    ≡ edge 5 3 9 (CopyPtr 1 PtrNull) (Some 0) ∷ edge 5 3 9 (New 1 4) (Some 1) ∷ edge 6 9 2 (Free 1) None
     ∷ edge 6 2 2 (Choose None) (Some 1) ∷ []
 fails = refl

@@ -15,7 +15,8 @@ use Rattle.c_types.specs.Runs.{supply, after_turn, at_end, go, own_line, empty_s
 use Rattle.c_machine.specs.declared.state.Turn.{Turn}
 use Rattle.c_machine.specs.declared.state.Turn.TheVariants.{Next, Fault, Ended, NeedsChoice}
 use Rattle.c_machine.specs.declared.state.Machine.{Machine}
-use Rattle.c_machine.specs.Machines.{program_of, mode_of, todo, store_of, over_of, is_done, chosen, Stepped, Answers}
+use Rattle.c_machine.specs.Machines.{program_of, mode_of, todo, store_of, over_of, is_done, Stepped, Answers}
+use Rattle.c_acts.specs.Choices.{chosen}
 use Rattle.c_machine.specs.inner.Going.{going}
 
 module _ (shapes : List Shape) (mode : MallocMode) where

@@ -9,7 +9,7 @@ use Rattle.c_types.specs.Control.{Items, Done, Do, Close, If, Loop, Again, DoLoo
 use Rattle.c_types.specs.Steps.{Goes, Stops, Faults, mark_of}
 use Rattle.c_machine.specs.declared.state.Machine.{Machine}
 use Rattle.c_machine.specs.declared.state.Turn.TheVariants.{Next, Fault, Ended, NeedsChoice}
-use Rattle.c_machine.specs.Machines.{todo, store_of, over_of, spare_for, is_done, chosen, Stepped, Answers}
+use Rattle.c_machine.specs.Machines.{todo, store_of, over_of, spare_for, is_done, Stepped, Answers}
 
 -- Steps that take no memory
 
@@ -51,23 +51,6 @@ a_do_left = refl
 
 a_do_round_left : is_done (DoAgain (Ask Choice 7) Done Done) ≡ false
 a_do_round_left = refl
-
--- The choice on which a step is taken
-
-none_is_needed : chosen false None ≡ Some 0
-none_is_needed = refl
-
-one_is_ignored : chosen false (Some 1) ≡ Some 0
-one_is_ignored = refl
-
-one_is_taken : chosen true (Some 1) ≡ Some 1
-one_is_taken = refl
-
-zero_is_taken : chosen true (Some 0) ≡ Some 0
-zero_is_taken = refl
-
-one_is_missed : chosen true None ≡ None
-one_is_missed = refl
 
 -- What is answered
 

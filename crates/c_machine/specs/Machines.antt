@@ -49,11 +49,6 @@ is_done (Again c n b is) = false
 is_done (DoLoop c b is) = false
 is_done (DoAgain c b is) = false
 
--- the choice on which a step is taken: a step that needs none ignores it; none where one is needed and not given
-abbrev pub chosen : Bool → Option ℕ → Option ℕ
-chosen false choice = Some 0
-chosen true choice = choice
-
 -- what a machine answers to a step that goes so, and where it is then
 abbrev pub Stepped : steps.Turn → Machine → Machine → Turn → Type 0
 Stepped (Goes is s) old new answer = (answer ≡ Next) × (todo new ≡ opened is) × (store_of new ≡ s)

@@ -1,9 +1,4 @@
 pub mod Acts
-pub mod Marking
-pub mod Rising
-pub mod Sizes
-pub mod Needs
 pub mod Going
 pub mod Losing
-pub mod EdgeSteps
-pub mod Outgoing
+pub mod Needs

@@ -5,11 +5,11 @@ ghost use Rattle.std.specs.Vec.{vec_len, vec_capacity};
 ghost use Rattle.c_types.specs.Control.{Items, after_again, from_again, closed_ptrs, closed_datums};
 ghost use Rattle.fore_base.specs.Stores.{kill};
 ghost use Rattle.c_machine.specs.Pending.{pending, ends_in, ends_in_each, leaving, left_round};
-ghost use Rattle.c_machine.specs.inner.Sizes.{IsNoLarger};
+ghost use Rattle.c_heap.specs.Sizes.{IsNoLarger};
 
-use crate::heap::Heap;
 use crate::items::Item;
 use crate::opening::{put, take};
+use c_heap::heap::Heap;
 use c_types::program::Stmt;
 
 /// Lets the variables of the blocks among these statements die.

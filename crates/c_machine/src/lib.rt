@@ -8,27 +8,14 @@
 
 mod acting;
 mod answering;
-mod blank;
-mod cells;
-mod data;
-mod edge_step;
-pub mod graph_run;
-mod heap;
 mod items;
-mod leak;
 mod leaving;
 mod losing;
 mod machine;
 mod opening;
-mod outgoing;
-mod paths;
 mod rooms;
 pub mod run;
-mod search;
-mod seats;
-mod spares;
 pub mod state;
-mod values;
 
 pub use crate::state::{Machine, Turn};
 pub use c_types::outcome;

@@ -8,9 +8,9 @@ ghost use Rattle.c_types.specs.Steps.{read, below};
 ghost use Rattle.c_machine.specs.Pending.{pending};
 ghost use Rattle.c_machine.specs.inner.Losing.{some_true, held_in_each};
 
-use crate::heap::Heap;
 use crate::items::Item;
-use crate::paths::read;
+use c_acts::paths::read;
+use c_heap::heap::Heap;
 use c_types::program::{Act, Path, PtrRhs, Stmt};
 use fore_base::store::Value;
 

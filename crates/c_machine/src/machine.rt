@@ -4,64 +4,34 @@ ghost use Rattle.std.specs.Prelude.{◌≡◌, ◌<◌, ◌≤◌, ◌+◌, ◌^
 ghost use Rattle.fore_base.specs.Heap.{leaks};
 ghost use Rattle.c_machine.specs.declared.items.Part.{Part};
 ghost use Rattle.c_types.specs.Control.{Items, opened, start_of};
-ghost use Rattle.c_types.specs.Steps.{turn_of, takes, mark_of, ptr_rhs_takes, act_takes, atom_takes};
+ghost use Rattle.c_types.specs.Steps.{turn_of, takes, mark_of};
 ghost use Rattle.c_types.specs.Runs.{empty_store};
 ghost use Rattle.c_machine.specs.inner.Acts.{TurnIs};
-ghost use Rattle.c_machine.specs.inner.Needs.{made_at, IsRoomy};
+ghost use Rattle.c_machine.specs.inner.Needs.{made_at};
+ghost use Rattle.c_heap.specs.Needs.{IsRoomy};
 ghost use Rattle.c_machine.specs.Pending.{facing, left_of, is_open, IsReady};
-ghost use Rattle.c_machine.specs.inner.Sizes.{IsLittleLarger};
-ghost use Rattle.c_machine.specs.Machines.{program_of, mode_of, todo, store_of, over_of, spare_of, is_done, chosen};
+ghost use Rattle.c_heap.specs.Sizes.{IsLittleLarger};
+ghost use Rattle.c_machine.specs.Machines.{program_of, mode_of, todo, store_of, over_of, spare_of, is_done};
+ghost use Rattle.c_acts.specs.Choices.{chosen};
 ghost use Rattle.c_machine.specs.Machines.{Stepped};
 ghost use Rattle.c_machine.specs.Machines.{Answers};
 
 use crate::acting::{Pace, settle, take_act};
 use crate::answering::answer;
-use crate::data::outcome_of;
-use crate::heap::Heap;
 use crate::items::{Control, Front};
 use crate::losing::hold_cell;
-use crate::spares::Rooms;
+use crate::rooms::shape_made;
 use crate::state::{Machine, Turn};
+use c_acts::data::outcome_of;
+use c_acts::taking::{act_takes, atom_takes};
+use c_heap::heap::Heap;
+use c_heap::spares::Rooms;
 use c_types::mode::MallocMode;
-use c_types::program::{Act, Atom, DataRhs, PtrRhs, Typed};
+use c_types::program::Typed;
 use fore_base::memory::Mem;
 use fore_base::shape::Shape;
 use fore_base::store::Store;
 use std::alloc::Global;
-
-fn atom_takes(atom: &Atom) -> bool
-    ensures { result ≡ atom_takes atom.now }
-{
-    match atom {
-        Atom::Choice => true,
-        _ => false,
-    }
-}
-
-fn ptr_rhs_takes(mode: MallocMode, from: &PtrRhs) -> bool
-    ensures { result ≡ ptr_rhs_takes mode from.now }
-{
-    match mode {
-        MallocMode::Always => false,
-        MallocMode::MayFail => match from {
-            PtrRhs::New(_) => true,
-            _ => false,
-        },
-    }
-}
-
-fn act_takes(mode: MallocMode, act: &Act) -> bool
-    ensures { result ≡ act_takes mode act.now }
-{
-    match act {
-        Act::SetPtr { from, .. } => ptr_rhs_takes(mode, from),
-        Act::SetData {
-            from: DataRhs::Choice,
-            ..
-        } => true,
-        _ => false,
-    }
-}
 
 /// Whether the step from an open front takes a choice.
 #[tactic(auto, using(crate::proofs::Fronts::fronts))]
@@ -211,8 +181,8 @@ impl<'p> Machine<'p> {
         self.control.open()?;
         let program = self.program;
         let shapes = program.shapes.structs.as_slice();
-        self.rooms
-            .make(self.alloc, shapes, self.control.front, &self.heap)?;
+        let made = shape_made(self.control.front);
+        self.rooms.make(self.alloc, shapes, made, &self.heap)?;
         self.reserved = true;
         Ok(())
     }

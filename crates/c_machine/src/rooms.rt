@@ -1,22 +1,13 @@
-//! What is made ready before a step, so that the step takes no memory.
+//! The cell that a step makes.
 
-ghost use Rattle.std.specs.Prelude.{◌≡◌, OnOk, IfOk};
-ghost use Rattle.c_machine.specs.inner.Needs.{made_from, made_by, made_at, cell_for, IsRoomy};
+ghost use Rattle.std.specs.Prelude.{◌≡◌};
+ghost use Rattle.c_machine.specs.inner.Needs.{made_at};
 
-use crate::blank::blank_cell;
-use crate::heap::Heap;
 use crate::items::Front;
-use crate::leak::{make_room, no_marks};
-use crate::seats::make_seats;
-use crate::spares::Rooms;
 use c_types::program::{Act, PtrRhs};
-use fore_base::memory::Mem;
-use fore_base::shape::Shape;
-use fore_base::store::CellRec;
-use std::alloc::{AllocError, Global};
 
 /// The struct of the cell that an act makes, if it makes one.
-fn shape_made(front: Front) -> Option<u32>
+pub fn shape_made(front: Front) -> Option<u32>
     ensures { result ≡ made_at front.entry }
 {
     match front {
@@ -28,44 +19,5 @@ fn shape_made(front: Front) -> Option<u32>
             _ => None,
         },
         _ => None,
-    }
-}
-
-fn blank_for(
-    alloc: Global,
-    shapes: &[Shape],
-    number: u64,
-    shape: Option<u32>,
-) -> Mem<Option<CellRec>>
-    ensures { IfOk result (λ cell. cell ≡ cell_for shapes.now number shape) }
-{
-    match shape {
-        None => Ok(None),
-        Some(shape) => {
-            let cell = blank_cell(alloc, shapes, number, shape)?;
-            Ok(Some(cell))
-        }
-    }
-}
-
-impl Rooms {
-    pub fn new(alloc: Global) -> Rooms {
-        Rooms {
-            marks: no_marks(alloc),
-            seats: Vec::new(alloc),
-            blank: None,
-        }
-    }
-
-    /// Makes ready what the step from this front and this store needs.
-    pub fn make(&mut self, alloc: Global, shapes: &[Shape], front: Front, heap: &Heap) -> Mem<()>
-        ensures { OnOk result (IsRoomy shapes.now heap.now (made_at front.entry) self.new) }
-    {
-        let count = heap.count();
-        let more = count.checked_add(1).ok_or(AllocError)?;
-        make_room(&mut self.marks, more)?;
-        make_seats(&mut self.seats, count)?;
-        self.blank = blank_for(alloc, shapes, heap.next(), shape_made(front))?;
-        Ok(())
     }
 }

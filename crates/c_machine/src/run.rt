@@ -5,10 +5,13 @@ ghost use Rattle.std.specs.Prelude.{MatchResult, Some, None};
 ghost use Rattle.c_types.specs.declared.outcome.Outcome.{Outcome as Out};
 ghost use Rattle.c_types.specs.Steps.{takes};
 ghost use Rattle.c_types.specs.Runs.{supply, run};
-ghost use Rattle.c_machine.specs.Machines.{todo, store_of, over_of, spare_of, program_of, mode_of, chosen};
-ghost use Rattle.c_machine.specs.inner.Going.{going, or_none};
+ghost use Rattle.c_machine.specs.Machines.{todo, store_of, over_of, spare_of, program_of, mode_of};
+ghost use Rattle.c_acts.specs.Choices.{chosen};
+ghost use Rattle.c_machine.specs.inner.Going.{going};
+ghost use Rattle.c_acts.specs.Choices.{or_none};
 
 use crate::state::{Machine, Turn};
+use c_acts::choices::supply;
 use c_types::mode::MallocMode;
 use c_types::outcome::Outcome;
 use c_types::program::Typed;
@@ -56,39 +59,6 @@ fn run_on(machine: &mut Machine, choices: &[u8], limit: u64) -> Mem<Outcome>
         return Ok(Outcome::Ended { step: limit });
     }
     Ok(Outcome::StillRunning)
-}
-
-/// The choice of a step, where it needs one, or how the run comes out for want of one. `used` counts the choices.
-pub(crate) fn supply(
-    needed: bool,
-    choices: &[u8],
-    used: &mut usize,
-    step: u64,
-) -> Result<Option<u8>, Outcome>
-    requires used { used.old ≤ length choices.now }
-    ensures given { MatchResult result (λ choice. (next : ℕ → List ℕ → ℕ → Out)
-        → supply needed (drop used.old choices.now) step used.old next
-        ≡ next (or_none choice) (drop used.new choices.now) used.new)
-        (λ outcome. (next : ℕ → List ℕ → ℕ → Out) → supply needed (drop used.old choices.now) step used.old next
-        ≡ outcome) }
-    ensures choice { IfOk result (λ choice. (chosen needed choice ≡ Some (or_none choice))
-        × IfSome choice (λ x. x < 2)) }
-    ensures used { used.new ≤ length choices.now }
-{
-    if !needed {
-        return Ok(None);
-    }
-    match choices.get(*used) {
-        None => Err(Outcome::Starved { step }),
-        Some(choice) => if *choice < 2 {
-            *used += 1;
-            Ok(Some(*choice))
-        } else {
-            Err(Outcome::BadChoice {
-                index: *used as u64,
-            })
-        },
-    }
 }
 
 /// Takes one step of a run, or says how the run comes out.

@@ -2,12 +2,13 @@
 
 ghost use Rattle.std.specs.Prelude.{◌≡◌, true, false, None};
 ghost use Rattle.fore_base.specs.Heap.{leaks};
-ghost use Rattle.c_machine.specs.inner.Needs.{made_at, IsRoomy};
+ghost use Rattle.c_machine.specs.inner.Needs.{made_at};
+ghost use Rattle.c_heap.specs.Needs.{IsRoomy};
 ghost use Rattle.c_machine.specs.Pending.{IsReady};
 
-use crate::heap::Heap;
 use crate::items::Control;
-use crate::spares::Rooms;
+use c_heap::heap::Heap;
+use c_heap::spares::Rooms;
 use c_types::mode::MallocMode;
 use c_types::program::Typed;
 use fore_base::fault::Fault;

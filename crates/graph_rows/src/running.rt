@@ -7,7 +7,7 @@ use anyhow::{Context, Result, bail};
 use c_cfg::graph::Graph;
 use c_lower::lower::lower;
 use c_machine::Machine;
-use c_machine::graph_run::graph_run;
+use c_walks::graph_run::graph_run;
 use c_machine::run::run;
 use c_types::mode::MallocMode;
 use c_types::outcome::Outcome;

@@ -2,13 +2,8 @@
 use Rattle.std.specs.Prelude.{◌≡◌, Result, Ok, Err}
 use Rattle.fore_base.specs.declared.fault.Fault.{Fault as Kind}
 use Rattle.fore_base.specs.declared.store.Store.{Store}
-use Rattle.fore_base.specs.Stores.{onward, freed}
-use Rattle.c_types.specs.declared.program.Path.{Path}
-use Rattle.c_types.specs.declared.program.DataPath.{DataPath}
-use Rattle.c_types.specs.declared.program.DataRhs.{DataRhs}
-use Rattle.std.specs.Prelude.{ℕ}
 use Rattle.c_types.specs.Control.{Items, opened}
-use Rattle.c_types.specs.Steps.{Turn, Goes, Stops, Faults, read, write_path, read_data_rhs, write_data, settle}
+use Rattle.c_types.specs.Steps.{Turn, Goes, Stops, Faults, settle}
 use Rattle.c_machine.specs.declared.items.Control.{Control}
 use Rattle.c_machine.specs.declared.acting.Pace.{Pace}
 use Rattle.c_machine.specs.declared.acting.Pace.TheVariants.{Goes as PaceGoes, Stops as PaceStops, Faults as PaceFaults}
@@ -19,22 +14,6 @@ abbrev pub turn_seen : Pace → Items → Store → Turn
 turn_seen PaceGoes is s = Goes is s
 turn_seen PaceStops is s = Stops
 turn_seen (PaceFaults kind) is s = Faults kind
-
--- a copy from one path to another
-abbrev pub copied : Store → Path → Path → Result Store Kind
-copied s to from = onward (read s from) (λ v. write_path s to.var to.fields v)
-
-abbrev pub copied_data : Store → DataPath → DataRhs → ℕ → Result Store Kind
-copied_data s to from x = onward (read_data_rhs s from x) (λ d. write_data s to d)
-
--- the end of the cell at the end of a path
-abbrev pub freed_at : Store → Path → Result Store Kind
-freed_at s path = onward (read s path) (λ v. freed s v)
-
--- the store after something was done, or the fault that was met
-abbrev pub done_to : Result Unit Kind → Store → Result Store Kind
-done_to (Ok done) s = Ok s
-done_to (Err kind) s = Err kind
 
 -- the turn after something was done, or met a fault
 abbrev pub settled_as : Result Unit Kind → Store → Items → Turn

@@ -1,5 +1,5 @@
 -- The rest of a run from items that are opened.
-use Rattle.std.specs.Prelude.{ℕ, zero, suc, List, Option, Some, None}
+use Rattle.std.specs.Prelude.{ℕ, zero, suc, List}
 use Rattle.fore_base.specs.declared.shape.Shape.{Shape}
 use Rattle.fore_base.specs.declared.store.Store.{Store}
 use Rattle.c_types.specs.declared.mode.MallocMode.{MallocMode}
@@ -13,8 +13,3 @@ going shapes mode zero step is s cs used = at_end is step
 going shapes mode (suc n) step is s cs used =
     advance shapes mode own_line at_end is (λ step' js t ds u. go shapes mode own_line at_end n step' js t ds u) step s
     cs used
-
--- the choice, or 0 where there is none
-abbrev pub or_none : Option ℕ → ℕ
-or_none None = 0
-or_none (Some x) = x

@@ -1,5 +1,5 @@
 use Rattle.std.proofs.Common.{◌≡◌, map, drop}
-use Rattle.c_machine.specs.inner.Sizes.{IsNoLarger}
+use Rattle.c_heap.specs.Sizes.{IsNoLarger}
 use Rattle.c_machine.specs.Pending.{ends_in, ends_in_each}
 use Rattle.c_machine.proofs.leaving.+end_blocks.Given as goal
 

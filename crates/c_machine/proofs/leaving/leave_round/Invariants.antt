@@ -1,6 +1,6 @@
 use Rattle.std.proofs.Common.{◌≡◌}
 use Rattle.std.specs.Vec.{vec_len}
-use Rattle.c_machine.specs.inner.Sizes.{IsNoLarger}
+use Rattle.c_heap.specs.Sizes.{IsNoLarger}
 use Rattle.c_machine.specs.Pending.{pending, leaving, left_round}
 use Rattle.c_machine.proofs.leaving.leave_round.Given as goal
 

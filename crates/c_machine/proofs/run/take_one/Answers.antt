@@ -2,8 +2,9 @@ use Rattle.std.proofs.Common.{◌≡◌, ◌+◌, ℕ, false, List, Some, drop, 
 use Rattle.c_types.specs.Steps.{turn_of, takes, mark_of}
 use Rattle.c_types.specs.Runs.{supply, go, at_end, own_line}
 use Rattle.c_machine.specs.declared.state.Turn.TheVariants.{Next, Fault}
-use Rattle.c_machine.specs.Machines.{program_of, mode_of, todo, store_of, is_done, chosen, Stepped}
-use Rattle.c_machine.specs.inner.Going.{or_none}
+use Rattle.c_machine.specs.Machines.{program_of, mode_of, todo, store_of, is_done, Stepped}
+use Rattle.c_acts.specs.Choices.{chosen}
+use Rattle.c_acts.specs.Choices.{or_none}
 use Rattle.c_machine.proofs.Goings.{next_of, steps_on, turn_next, turn_fault, answered}
 use Rattle.c_machine.proofs.run.take_one.Goals as goal
 

@@ -1,0 +1,5 @@
+pub mod CellLemmas
+pub mod Lengths
+pub mod Marked
+pub mod Searching
+pub mod ShapeLemmas

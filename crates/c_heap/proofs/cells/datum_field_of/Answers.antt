@@ -1,0 +1,16 @@
+use Rattle.std.proofs.Common.{Some, None, sym, ◌∙◌}
+use Rattle.c_heap.proofs.CellLemmas.{placed, datum_some, datum_none}
+use Rattle.c_heap.proofs.cells.datum_field_of.Goals as goal
+
+pub returns-in-Some : goal.returns-in-Some
+returns-in-Some c =
+    c.get_or.ensures
+    ∙ sym (datum_some c.args.number c.args.field c.in-Some.at c.args.cells.now c.index-cells-at.result
+    (placed c.args.number c.args.cells.now c.position_of.result (Some c.in-Some.at) c.position_of.ensures.position
+    c.in-Some.is))
+
+pub returns-in-None : goal.returns-in-None
+returns-in-None c =
+    sym
+    (datum_none c.args.number c.args.field c.args.cells.now
+    (placed c.args.number c.args.cells.now c.position_of.result None c.position_of.ensures.position c.in-None.is))

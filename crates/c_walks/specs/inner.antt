@@ -1,0 +1,2 @@
+pub mod EdgeSteps
+pub mod Outgoing
