@@ -68,7 +68,7 @@ some_dressed t F over =
 -- Items of a tree.
 
 -- the tree of a root has its items among all
-tree_among : (vs : List Value) (d : Nodes) (k : ℕ) (n : Node) → node_at d k ≡ Some n → (y : Item)
+pub tree_among : (vs : List Value) (d : Nodes) (k : ℕ) (n : Node) → node_at d k ≡ Some n → (y : Item)
     → IsIn y (tree_items vs n) → IsIn y (forest_items vs d)
 tree_among vs no_nodes k n e y i = absurd (none-some n e)
 tree_among vs (more m ns) zero n e y i =
@@ -78,7 +78,7 @@ tree_among vs (more m ns) (suc k) n e y i =
     in_right y (tree_items vs m) (forest_items vs ns) (tree_among vs ns k n e y i)
 
 -- a slot of its top is one of them
-slot_among : (vs : List Value) (d : Nodes) (k c s : ℕ) (ds : List Datum) (ps : Parts)
+pub slot_among : (vs : List Value) (d : Nodes) (k c s : ℕ) (ds : List Datum) (ps : Parts)
     → node_at d k ≡ Some (node c s ds ps) → (p : ℕ) (x : Part) → slice_get (listed ps) p ≡ Some x
     → IsIn (part_item vs c x) (forest_items vs d)
 slot_among vs d k c s ds ps e p x h = tree_among vs d k (node c s ds ps) e (part_item vs c x)

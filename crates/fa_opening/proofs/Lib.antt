@@ -1,5 +1,7 @@
 pub mod BaredFields
+pub mod BaredKept
 pub mod BaredRoots
+pub mod ClearedCells
 pub mod LiftedGivers
 pub mod LowerEdges
 pub mod OneEdge

@@ -17,7 +17,7 @@ use Rattle.fa_core.specs.Filled.{IsFilled, TreesFilled, covers, fields_of}
 use Rattle.fa_core.specs.Member.{OfForest}
 use Rattle.fa_core.specs.Rearranged.{Rearranged, empty, keep, swap, chain, often}
 use Rattle.fa_core.specs.Ways.{gives_out_of}
-use Rattle.fa_core.proofs.Counts.{often_both, often_in, often_out, often_same}
+use Rattle.fa_core.proofs.Counts.{in_or_out, often_both, often_in, often_out, often_same}
 use Rattle.fa_core.proofs.Dressing.{choice_of, numbered_distinct}
 use Rattle.fa_core.proofs.FilledCells.{cells_filled}
 use Rattle.fa_core.proofs.FilledKept.{apart_by, forest_numbers}
@@ -45,6 +45,13 @@ often_distinct f (x ∷ xs) h = here (nat_eq f x) refl (often_distinct f xs h.1)
     here true e k =
         let z = often_out f xs (subst (λ (n : ℕ). IsIn n xs → ⊥) (sym (eqb-true f x e)) h.0) in omega (arith, z)
     here false e k = k
+
+-- what is counted once is there
+often_there : (f : ℕ) (xs : List ℕ) → 1 ≤ often f xs → IsIn f xs
+often_there f xs h = elim (in_or_out f xs) [
+  | inl i ↦ i
+  | inr d ↦ (let z = often_out f xs d in absurd (omega (arith, h, z)))
+]
 
 module _ (bs : List BoxFace) (n f : ℕ) where
   -- how often the slots cover the field, and give it to the cell
@@ -196,10 +203,11 @@ module _ (bs : List BoxFace) (n f : ℕ) where
       (λ w. a.0 (subst (λ (z : ℕ). IsIn z (map cell_number xs)) (e ∙ sym w) (number_in xs x i))) in
       omega (arith, k, z)
 
-  -- the field is covered or given once at most
-  once_total : (face : Face) (d : Nodes) → face.boxes ≡ bs → IsDistinct (map cell_number (cells d)) → (x : SeenCell)
-      → IsIn x (cells d) → x.cell ≡ n → IsFilledCell face (cells d) x → total (items d) ≤ 1
-  once_total face d b a x i e h =
+  -- the field is covered or given as often as the struct has it
+  fields_total : (face : Face) (d : Nodes) → face.boxes ≡ bs → IsDistinct (map cell_number (cells d)) → (x : SeenCell)
+      → IsIn x (cells d) → x.cell ≡ n → IsFilledCell face (cells d) x
+      → total (items d) ≡ often f (fields_of face.shapes.structs x.shape)
+  fields_total face d b a x i e h =
       let k = total_same (cells_items d) in
       let p = cells_total (cells d) in
       let q = one_owns (cells d) a x i e in
@@ -211,9 +219,16 @@ module _ (bs : List BoxFace) (n f : ℕ) where
       (flat_map (covers z) (slots_seen x.slots) ++ gives_to z x.cell (cells d))) b h.once) in
       let m = often_same f all in
       let o = often_both f (flat_map (covers bs) (slots_seen x.slots)) (gives_to bs n (cells d)) in
+      omega (arith, k, p, q, m, o)
+
+  -- once at most
+  once_total : (face : Face) (d : Nodes) → face.boxes ≡ bs → IsDistinct (map cell_number (cells d)) → (x : SeenCell)
+      → IsIn x (cells d) → x.cell ≡ n → IsFilledCell face (cells d) x → total (items d) ≤ 1
+  once_total face d b a x i e h =
+      let k = fields_total face d b a x i e h in
       let l = often_distinct f (fields_of face.shapes.structs x.shape)
       (numbered_distinct 0 (targets_of face.shapes.structs x.shape)) in
-      omega (arith, k, p, q, m, o, l)
+      omega (arith, k, l)
 
   -- an edge for the field counts
   edge_counts : (y : Item) → IsEdgeFor bs n f y → 1 ≤ weight y
@@ -259,3 +274,67 @@ module _ (bs : List BoxFace) (n f : ℕ) where
       let v = edge_counts y k in
       let w = weight_in y others i in
       omega (arith, one, q, u, v, w)
+
+  -- a slot of the field counts
+  field_counts : (v : Value) → 1 ≤ weight (HasSlot n (SeenField f v))
+  field_counts v =
+      let z = is_here n (own (SeenField f v ∷ [])) refl in
+      let p = often_both f (f ∷ []) [] in
+      let q = often_in f (f ∷ []) (inl refl) in
+      omega (arith, z, p, q)
+
+  -- two items of the list count together
+  two_in : (x y : Item) (zs : List Item) → IsIn x zs → IsIn y zs → (x ≡ y → ⊥) → weight x + weight y ≤ total zs
+  two_in x y [] i j d = absurd i
+  two_in x y (z ∷ zs) (inl e) (inl w) d = absurd (d (e ∙ sym w))
+  two_in x y (z ∷ zs) (inl e) (inr j) d =
+      let k = ap weight e in
+      let l = weight_in y zs j in
+      omega (arith, k, l)
+  two_in x y (z ∷ zs) (inr i) (inl w) d =
+      let k = ap weight w in
+      let l = weight_in x zs i in
+      omega (arith, k, l)
+  two_in x y (z ∷ zs) (inr i) (inr j) d = let l = two_in x y zs i j d in omega (arith, l)
+
+  abbrev IsFieldItem : Item → Type 0
+  IsFieldItem (IsCell c s ds) = ⊥
+  IsFieldItem (HasSlot c (SeenField g v)) = Unit {0}
+  IsFieldItem (HasSlot c (SeenLink b i v)) = ⊥
+  IsFieldItem (HasSlot c (SeenHook b i)) = ⊥
+
+  edge_no_field : (y : Item) → IsEdgeFor bs n f y → IsFieldItem y → ⊥
+  edge_no_field (IsCell c s ds) h k = k
+  edge_no_field (HasSlot c (SeenField g v)) (inl h) k = h.1
+  edge_no_field (HasSlot c (SeenField g v)) (inr h) k = h
+  edge_no_field (HasSlot c (SeenLink b i v)) h k = k
+  edge_no_field (HasSlot c (SeenHook b i)) h k = k
+
+  module _ (face : Face) (d : Nodes) (b : face.boxes ≡ bs) (a : IsDistinct (all_numbers d))
+      (filled : Every (IsFilledCell face (cells d)) (cells d)) (x : SeenCell) (i : IsIn x (cells d)) (e : x.cell ≡ n)
+    where
+      apart : IsDistinct (map cell_number (cells d))
+      apart = subst IsDistinct (sym (forest_numbers (roots_of d) d)) a
+
+      own_filled : IsFilledCell face (cells d) x
+      own_filled = every_in (IsFilledCell face (cells d)) (cells d) x filled i
+
+      -- where the field is a slot of the cell, no box edge is for it
+      pub field_alone : (v : Value) → IsIn (HasSlot n (SeenField f v)) (items d) → (y : Item) → IsIn y (items d)
+          → IsEdgeFor bs n f y → ⊥
+      field_alone v j y k h =
+          let one = once_total face d b apart x i e own_filled in
+          let p = field_counts v in
+          let q = edge_counts y h in
+          let w = two_in (HasSlot n (SeenField f v)) y (items d) j k
+          (λ z. edge_no_field y h (subst IsFieldItem z tt)) in
+          omega (arith, one, p, q, w)
+
+      -- a box edge is for a field of the struct
+      pub edge_field : (y : Item) → IsIn y (items d) → IsEdgeFor bs n f y
+          → IsIn f (fields_of face.shapes.structs x.shape)
+      edge_field y k h =
+          let t = fields_total face d b apart x i e own_filled in
+          let q = edge_counts y h in
+          let w = weight_in y (items d) k in
+          often_there f (fields_of face.shapes.structs x.shape) (omega (arith, t, q, w))

@@ -126,6 +126,26 @@ module _ (bs : List BoxFace) (r : ℕ) (P : ℕ → Type 0) where
           ),
         )
 
+    -- more fields
+    opened_more : (Q : ℕ → Type 0) → ((f : ℕ) → P f → Q f) → (F G : Forest) (d e : Nodes) → IsOpened bs r P F G d e
+        → IsOpened bs r Q F G d e
+    opened_more Q w F G d e o = record {
+      same_facts = o.same_facts;
+      stays = λ y i. elim (o.stays y i) [ inl j ↦ inl j | inr (f, h, k) ↦ inr (f, w f h, k) ];
+      vars = o.vars;
+      data_vars = o.data_vars;
+    }
+
+    pub from_more : (Q : ℕ → Type 0) → ((f : ℕ) → P f → Q f) → (F G : Forest) → OpensFrom bs T r P F G
+        → OpensFrom bs T r Q F G
+    from_more Q w F G a e h = let k = a e h in (k.0, k.1, opened_more Q w F G k.0 e k.2)
+
+    pub into_more : (Q : ℕ → Type 0) → ((f : ℕ) → P f → Q f) → (F : Forest) (Gs : List Forest)
+        → OpensInto bs T r P F Gs → OpensInto bs T r Q F Gs
+    into_more Q w F Gs a d h =
+        let k = a d h in
+        (k.0, k.1, (k.2.0, k.2.1, opened_more Q w F k.0 d k.2.0 k.2.2))
+
     pub from_regrouped : (F G : Forest) → Regroups T F G → OpensFrom bs T r P F G
     from_regrouped F G c e h =
         let w = c e h in

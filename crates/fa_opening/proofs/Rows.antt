@@ -3,13 +3,18 @@ use Rattle.std.proofs.Common.{◌≡◌, inl, inr, true, false, List, [], ◌∷
 use Rattle.fore_base.specs.declared.store.Value.{Value}
 use Rattle.fore_base.specs.declared.store.Value.TheVariants.{Null as NullValue, Uninit as UninitValue}
 use Rattle.fore_base.specs.declared.store.Value.TheVariants.{Dangling as DanglingValue, Cell as CellValue}
+use Rattle.ta_core.specs.Auto.{automaton}
+use Rattle.ta_core.specs.declared.symbol.Slot.{Slot}
 use Rattle.ta_core.specs.declared.symbol.Slot.TheVariants.{Field, Link, Hook}
+use Rattle.ta_core.specs.declared.symbol.Symbol.TheVariants.{Cell}
+use Rattle.fa_core.specs.declared.forest.Forest.{Forest}
 use Rattle.fa_core.specs.declared.faces.BoxFace.{BoxFace}
 use Rattle.fa_core.specs.declared.forest.Target.TheVariants.{At, Null}
 use Rattle.fa_core.specs.Dressed.{Nodes, node, no_parts, field, link, leaf, no_nodes, more}
 use Rattle.fa_core.specs.Dressed.{SeenField, SeenLink, SeenHook}
 use Rattle.fa_unfold.specs.Opens.{IsCell, HasSlot}
-use Rattle.fa_opening.specs.Opened.{CoversAt, GivesAt, IsEdgeFor, IsEdgeForRoot, slot_covers}
+use Rattle.fa_opening.specs.Opened.{CoversAt, GivesAt, HasFieldsAlone, IsAnyField, IsEdgeFor, IsEdgeForRoot}
+use Rattle.fa_opening.specs.Opened.{slot_covers}
 
 -- box 0 covers field 0 at its input and gives field 1 to its output, box 1 covers field 2 and has no output
 abbrev faces : List BoxFace
@@ -87,3 +92,24 @@ field_slot = refl
 
 no_box : slot_covers faces 0 (Link 7) ≡ false
 no_box = refl
+
+-- A root with two fields, and one with a field and an edge.
+
+abbrev with_slots : List Slot → Forest
+with_slots ss = record {
+  autos = automaton 1 (0 ∷ []) (record { state = 0; symbol = Cell 0 [] ss; children = [] } ∷ []) ∷ [];
+  vars = At 0 ∷ [];
+  data_vars = [];
+}
+
+fields_alone : HasFieldsAlone (with_slots (Field 0 ∷ Field 2 ∷ [])) 0
+fields_alone = (tt, (tt, tt))
+
+a_link_is_no_field : HasFieldsAlone (with_slots (Field 0 ∷ Link 0 ∷ [])) 0 → ⊥
+a_link_is_no_field h = h.1.0
+
+a_hook_is_no_field : HasFieldsAlone (with_slots (Hook 1 ∷ [])) 0 → ⊥
+a_hook_is_no_field h = h.0
+
+any_field : IsAnyField 3
+any_field = tt

@@ -13,6 +13,7 @@ use Rattle.ta_core.specs.Single.{HasOneTop}
 use Rattle.ta_core.specs.declared.auto.Rule.{Rule}
 use Rattle.ta_core.specs.declared.symbol.Slot.{Slot}
 use Rattle.ta_core.specs.declared.symbol.Slot.TheVariants.{Field, Link, Hook}
+use Rattle.ta_core.specs.declared.symbol.Symbol.TheVariants.{Cell as CellSymbol}
 use Rattle.fa_core.specs.declared.boxes.BoxDef.{BoxDef}
 use Rattle.fa_core.specs.declared.faces.BoxFace.{BoxFace}
 use Rattle.fa_core.specs.declared.forest.Forest.{Forest}
@@ -72,14 +73,19 @@ module _ (T : List BoxDef) (F : Forest) (d : Nodes) (of : OfForest T F d) (u : �
   abbrev a : Automaton
   a = component_at F.autos u
 
-  -- the slots of the root's cell are those of its one rule
-  pub top_slots : (c s : ℕ) (ds : List Datum) (ps : Parts) → node_at d u ≡ Some (node c s ds ps)
-      → root_slots F u ≡ slots_of ps
-  top_slots c s ds ps e =
+  -- the root's cell is that of its one rule
+  pub top_symbol : (c s : ℕ) (ds : List Datum) (ps : Parts) → node_at d u ≡ Some (node c s ds ps)
+      → (top_rule a).symbol ≡ CellSymbol s ds (slots_of ps)
+  top_symbol c s ds ps e =
       let k = tree_at T F.autos u d there of in
       let l : InLanguage a (bare (node c s ds ps)) =
       subst (λ (n : Node). InLanguage a (bare n)) (same_Some k.0 (node c s ds ps) (sym k.1 ∙ e)) k.2 in
-      ap symbol_slots ((tree_by_top a top (bare (node c s ds ps)) l).0 ∙ cell_top c s ds ps)
+      (tree_by_top a top (bare (node c s ds ps)) l).0 ∙ cell_top c s ds ps
+
+  -- so its slots are those of the rule
+  pub top_slots : (c s : ℕ) (ds : List Datum) (ps : Parts) → node_at d u ≡ Some (node c s ds ps)
+      → root_slots F u ≡ slots_of ps
+  top_slots c s ds ps e = ap symbol_slots (top_symbol c s ds ps e)
 
   -- so is the one at each place
   pub slot_at : (c s : ℕ) (ds : List Datum) (ps : Parts) → node_at d u ≡ Some (node c s ds ps) → (p : ℕ) (x : Part)

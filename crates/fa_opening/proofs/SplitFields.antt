@@ -166,7 +166,7 @@ stays_shown S signed r f b none = (
       root = b.bared.root;
       top = b.bared.top;
       leaf = λ p w. absurd (none-some p (sym none ∙ w));
-      lacks = λ w. bared_lacks S.face S.forest r f signed.sound b.bared none;
+      lacks = λ w. bared_lacks S.face S.forest r signed.sound b.bared.root b.bared.top f b.bared none;
     };
     regroups = λ T. regroups_self T S.forest;
   },

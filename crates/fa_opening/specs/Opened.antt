@@ -49,6 +49,10 @@ IsEdgeForSome bs r P d y = (f : ℕ) × P f × IsEdgeForRoot bs r f d y
 abbrev pub IsThatField : ℕ → ℕ → Type 0
 IsThatField f g = g ≡ f
 
+-- any field
+abbrev pub IsAnyField : ℕ → Type 0
+IsAnyField g = Unit {0}
+
 -- e of G says what d of F says: the same facts, variables and data; and each cell and slot of d stays, but for box
 -- edges that cover a field that meets P at the cell of root r, or give one to that cell
 pub record IsOpened (bs : List BoxFace) (r : ℕ) (P : ℕ → Type 0) (F G : Forest) (d e : Nodes) : Type 0 where
@@ -81,3 +85,13 @@ pub record IsBared (bs : List BoxFace) (r f : ℕ) (F : Forest) : Type 0 where
   pub top : HasOneTop (component_at F.autos r)
   pub covered : Every (λ s. slot_covers bs f s ≡ false) (root_slots F r)
   pub given : (t : ℕ) → IsProvider bs F r f t → ⊥
+
+-- the slot is a field
+abbrev pub IsField : Slot → Type 0
+IsField (Field f) = Unit {0}
+IsField (Link b) = ⊥
+IsField (Hook b) = ⊥
+
+-- each slot of the one rule of root r is a field
+abbrev pub HasFieldsAlone : Forest → ℕ → Type 0
+HasFieldsAlone F r = Every IsField (root_slots F r)
