@@ -1,9 +1,10 @@
-pub mod ChildNamed
 pub mod FieldPlaces
 pub mod FieldsOpened
+pub mod FreedCells
 pub mod FreedChild
 pub mod Keeping
 pub mod Needing
+pub mod NulledFields
 pub mod OpenedForests
 pub mod OpenedRefines
 pub mod Pieces

@@ -1,39 +1,39 @@
 -- A forest split before an edge: pieces sorted, and pieces of pieces.
-use Rattle.std.proofs.Common.{◌≡◌, ◌≢◌, ◌⊎◌, inl, inr, ℕ, ◌+◌, Bool, true, false, nat_eq, if◌then◌else◌, List, [], ◌∷◌}
-use Rattle.std.proofs.Common.{◌++◌, length, refl, sym, ap, subst, ◌∙◌, true≢false, slice_index_or, append_assoc}
-use Rattle.std.proofs.Common.{append-nil, arith}
-use Rattle.std.proofs.lemmas.Bool.{eqb-true, eq-eqb}
+use Rattle.std.proofs.Common.{◌≡◌, ◌≢◌, ◌⊎◌, inl, inr, ℕ, ◌+◌, List, [], ◌∷◌, ◌++◌, length, refl, sym, ap, subst, ◌∙◌}
+use Rattle.std.proofs.Common.{slice_index_or, append_assoc, append-nil, arith}
 use Rattle.fore_base.specs.Lists.{IsIn, Every}
 use Rattle.fore_base.specs.declared.fault.Fault.TheVariants.{Leak}
 use Rattle.fore_base.specs.declared.store.Store.{Store}
-use Rattle.fore_base.proofs.ListLemmas.{in_map, in_mapped, every_in, in_every, every_append, every_weaker, every_map}
+use Rattle.fore_base.proofs.ListLemmas.{in_last, in_left, in_map, in_mapped, every_in, in_every, every_append}
+use Rattle.fore_base.proofs.ListLemmas.{every_weaker, every_map, every_push}
 use Rattle.ta_core.specs.Auto.{IsRanked}
 use Rattle.fa_core.specs.declared.boxes.BoxDef.{BoxDef}
+use Rattle.fa_core.specs.declared.faces.BoxFace.{BoxFace}
 use Rattle.fa_core.specs.declared.faces.Face.{Face}
 use Rattle.fa_core.specs.declared.forest.Forest.{Forest}
 use Rattle.fa_core.specs.declared.forest.Target.{Target}
-use Rattle.fa_core.specs.declared.forest.Target.TheVariants.{Uninit}
-use Rattle.fa_core.specs.Boxless.{HasNoBoxes}
-use Rattle.fa_core.specs.Filled.{IsSound}
+use Rattle.fa_core.specs.declared.forest.Target.TheVariants.{Uninit, At}
+use Rattle.fa_core.specs.Filled.{IsFilled, IsSound}
 use Rattle.fa_core.specs.Member.{Stands, Regroups, RegroupsInto}
 use Rattle.fa_core.proofs.Regrouped.{members_regrouped, members_split}
 use Rattle.fa_sound.specs.Soundness.{SoundForest}
 use Rattle.fa_split.specs.Divided.{forests, HasVarsOf}
 use Rattle.fa_split.specs.Split.{CanSplit, split_leaf, split_cells, IsSplitOf}
-use Rattle.fa_split.proofs.SplitCells.{refers_well}
 use Rattle.fa_split.proofs.Steps.{forests_both}
 use Rattle.c_cfg.specs.Edges.{Faulted, gstep}
 use Rattle.c_cfg.specs.declared.graph.Edge.{Edge}
 use Rattle.sym_core.specs.Cases.{BadAt, StandsInOne, IsMet, IsTrueBad}
 use Rattle.sym_core.specs.Refined.{Refines}
 use Rattle.sym_core.proofs.Refining.{regroups_refine}
+use Rattle.sym_step.specs.Freed.{NeverLeadsBack}
 use Rattle.sym_step.specs.Posts.{bads, HasAsMany}
 use Rattle.sym_step.specs.declared.posts.Bad.{Bad}
-use Rattle.sym_step.specs.inner.Opening.{IsFreeAt, IsShown, IsOpening, of_count, leaks_but, IsOpeningBy}
-use Rattle.sym_step.specs.inner.Stepping.{IsStepping, IsSteppingBy, IsLike}
+use Rattle.sym_step.specs.inner.Opening.{AreSorted, IsFreeAt, IsFreed, IsLost, IsOpeningBy, IsShown, IsSortedTo}
+use Rattle.sym_step.specs.inner.Opening.{leak_at}
+use Rattle.sym_step.specs.inner.Stepping.{IsLike, IsSteppingBy, IsThat}
 use Rattle.sym_step.proofs.FreedChild.{cells_leak}
-use Rattle.sym_step.proofs.Pieces.{leaf_piece, leaf_count, cells_count}
-use Rattle.sym_step.proofs.Showing.{shown_next, shown_on}
+use Rattle.sym_step.proofs.Pieces.{cells_piece, leaf_count, leaf_piece}
+use Rattle.sym_step.proofs.Showing.{shown_next}
 use Rattle.sym_step.proofs.Stepping.{begins, one_taken, stepping_fewer}
 
 -- Forests alike.
@@ -55,69 +55,59 @@ bads_both (x ∷ xs) ys = ap (λ (bs : List BadAt). record { fault = x.fault; at
 
 -- Sorted pieces.
 
-abbrev pub roots : SoundForest → ℕ
-roots s = length s.forest.autos
+in_more : (ss : List SoundForest) (s : SoundForest) (xs : List SoundForest) → Every (λ x. IsIn x ss) xs
+    → Every (λ x. IsIn x (ss ++ s ∷ [])) xs
+in_more ss s xs h = every_weaker (λ x. IsIn x ss) (λ x. IsIn x (ss ++ s ∷ [])) xs (λ x i. in_left x ss (s ∷ []) i) h
 
-kept_in : (n : ℕ) (ss : List SoundForest) (s : SoundForest) → IsIn s (of_count n ss) → IsIn s ss × (roots s ≡ n)
-kept_in n [] s i = absurd i
-kept_in n (t ∷ ss) s i = here (nat_eq (roots t) n) refl (λ j. kept_in n ss s j) i
-  where
-    here : (b : Bool) → nat_eq (roots t) n ≡ b → (IsIn s (of_count n ss) → IsIn s ss × (roots s ≡ n))
-        → IsIn s (if b then t ∷ of_count n ss else of_count n ss) → IsIn s (t ∷ ss) × (roots s ≡ n)
-    here true e rec (inl q) = (inl q, ap roots q ∙ eqb-true (roots t) n e)
-    here true e rec (inr j) = (let k = rec j in (inr k.0, k.1))
-    here false e rec j = (let k = rec j in (inr k.0, k.1))
+lost_more : (n : ℕ) (ss : List SoundForest) (s : SoundForest) (bs : List Bad) → Every (IsLost n ss) bs
+    → Every (IsLost n (ss ++ s ∷ [])) bs
+lost_more n ss s bs h = every_weaker (IsLost n ss) (IsLost n (ss ++ s ∷ [])) bs
+    (λ b k. record {
+      piece = in_left b.at ss (s ∷ []) k.piece;
+      sound = k.sound;
+      many = k.many;
+      forward = k.forward;
+      leaks = k.leaks;
+    })
+    h
 
-abbrev IsLost : ℕ → List SoundForest → Bad → Type 0
-IsLost n ss b = IsIn b.at ss × (roots b.at ≢ n) × (b.fault ≡ Leak)
+sorted_more : (ready more : List SoundForest) (faults bad : List Bad) (ss : List SoundForest)
+    → ((s : SoundForest) → IsIn s ready → IsIn s more) → ((b : Bad) → IsIn b faults → IsIn b bad)
+    → Every (IsSortedTo ready faults) ss → Every (IsSortedTo more bad) ss
+sorted_more ready more faults bad ss f g h = every_weaker (IsSortedTo ready faults) (IsSortedTo more bad) ss
+    (λ s k. elim k [ inl i ↦ inl (f s i) | inr i ↦ inr (g (leak_at s) i) ]) h
 
-lost_in : (n : ℕ) (ss : List SoundForest) (b : Bad) → IsIn b (leaks_but n ss) → IsLost n ss b
-lost_in n [] b i = absurd i
-lost_in n (t ∷ ss) b i = here (nat_eq (roots t) n) refl (λ j. lost_in n ss b j) i
-  where
-    later : IsLost n ss b → IsLost n (t ∷ ss) b
-    later k = (inr k.0, k.1, k.2)
+pub sorted_none : (n : ℕ) → AreSorted n [] [] []
+sorted_none n = record { ready_in = tt; lost = tt; all = tt }
 
-    here : (c : Bool) → nat_eq (roots t) n ≡ c → (IsIn b (leaks_but n ss) → IsLost n ss b)
-        → IsIn b (if c then leaks_but n ss else record { fault = Leak; at = t } ∷ leaks_but n ss) → IsLost n (t ∷ ss) b
-    here true e rec j = later (rec j)
-    here false e rec (inl q) = (
-      inl (ap (λ (x : Bad). x.at) q),
-      (λ w. true≢false (sym (eq-eqb (roots t) n (ap (λ (x : Bad). roots x.at) (sym q) ∙ w)) ∙ e)),
-      ap (λ (x : Bad). x.fault) q,
-    )
-    here false e rec (inr j) = later (rec j)
+pub sorted_ready : (n : ℕ) (ss ready : List SoundForest) (faults : List Bad) (s : SoundForest)
+    → AreSorted n ss ready faults → AreSorted n (ss ++ s ∷ []) (ready ++ s ∷ []) faults
+sorted_ready n ss ready faults s h = record {
+  ready_in = every_push (λ x. IsIn x (ss ++ s ∷ [])) ready s (in_more ss s ready h.ready_in) (in_last s ss);
+  lost = lost_more n ss s faults h.lost;
+  all = every_push (IsSortedTo (ready ++ s ∷ []) faults) ss s
+      (sorted_more ready (ready ++ s ∷ []) faults faults ss (λ x i. in_left x ready (s ∷ []) i) (λ b i. i) h.all)
+      (inl (in_last s ready));
+}
 
-abbrev IsSorted : ℕ → List SoundForest → SoundForest → Type 0
-IsSorted n ss s = IsIn s (of_count n ss) ⊎ ((roots s ≢ n) × IsIn (record { fault = Leak; at = s }) (leaks_but n ss))
+pub sorted_lost : (n : ℕ) (ss ready : List SoundForest) (faults : List Bad) (s : SoundForest)
+    → IsSound s.face s.forest → length s.forest.autos ≢ n → NeverLeadsBack s.face.boxes s.forest n
+    → AreSorted n ss ready faults → AreSorted n (ss ++ s ∷ []) ready (faults ++ leak_at s ∷ [])
+sorted_lost n ss ready faults s sound many forward h = record {
+  ready_in = in_more ss s ready h.ready_in;
+  lost = every_push (IsLost n (ss ++ s ∷ [])) faults (leak_at s) (lost_more n ss s faults h.lost)
+      (record { piece = in_last s ss; sound = sound; many = many; forward = forward; leaks = refl });
+  all = every_push (IsSortedTo ready (faults ++ leak_at s ∷ [])) ss s
+      (sorted_more ready ready faults (faults ++ leak_at s ∷ []) ss (λ x i. i)
+      (λ b i. in_left b faults (leak_at s ∷ []) i) h.all)
+      (inr (in_last (leak_at s) faults));
+}
 
-sorted_in : (n : ℕ) (ss : List SoundForest) (s : SoundForest) → IsIn s ss → IsSorted n ss s
-sorted_in n [] s i = absurd i
-sorted_in n (t ∷ ss) s (inl q) = here (nat_eq (roots t) n) refl
-  where
-    here : (b : Bool) → nat_eq (roots t) n ≡ b → IsIn s (if b then t ∷ of_count n ss else of_count n ss)
-        ⊎ ((roots s ≢ n) × IsIn (record { fault = Leak; at = s })
-        (if b then leaks_but n ss else record { fault = Leak; at = t } ∷ leaks_but n ss))
-    here true e = inl (inl q)
-    here false e =
-        inr (
-          (λ w. true≢false (sym (eq-eqb (roots t) n (ap roots (sym q) ∙ w)) ∙ e)),
-          inl (ap (λ (x : SoundForest). record { fault = Leak; at = x }) q),
-        )
-sorted_in n (t ∷ ss) s (inr i) = here (nat_eq (roots t) n) (sorted_in n ss s i)
-  where
-    here : (b : Bool) → IsSorted n ss s → IsIn s (if b then t ∷ of_count n ss else of_count n ss)
-        ⊎ ((roots s ≢ n) × IsIn (record { fault = Leak; at = s })
-        (if b then leaks_but n ss else record { fault = Leak; at = t } ∷ leaks_but n ss))
-    here true (inl j) = inl (inr j)
-    here true (inr (d, j)) = inr (d, j)
-    here false (inl j) = inl j
-    here false (inr (d, j)) = inr (d, inr j)
-
--- A child of a freed cell: the forests of leaves are to go on, and the one in which it is a cell is a leak.
-module _ (G : SoundForest) (r p : ℕ) (e : Edge) (sound : IsSound G.face G.forest)
-    (ranked : Every IsRanked G.forest.autos) (plain : Every HasNoBoxes G.forest.autos) (can : CanSplit G.forest r p)
-    (frees : IsFreeAt G.forest e r) (shown : IsShown G.forest r p G.forest) where
+-- A child of a freed cell: the forests of leaves are to go on, and so is the one in which it is a cell to which a way
+-- back leads; the one in which it is another cell is a leak.
+module _ (T : List BoxDef) (G : SoundForest) (r p : ℕ) (e : Edge) (sound : IsSound G.face G.forest)
+    (ranked : Every IsRanked G.forest.autos) (can : CanSplit G.forest r p) (freed : IsFreed T r e G)
+    (shown : IsShown G.forest r p G.forest) where
   module _
       (ss : List SoundForest) (dressed : (T : List BoxDef) → Every (IsSplitOf T G.forest r p) (forests ss))
       (regroup : (T : List BoxDef) → Every (Regroups T G.forest) (forests ss))
@@ -129,102 +119,112 @@ module _ (G : SoundForest) (r p : ℕ) (e : Edge) (sound : IsSound G.face G.fore
     forest_in : (s : SoundForest) → IsIn s ss → IsIn s.forest (forests ss)
     forest_in s i = in_map (λ (t : SoundForest). t.forest) s ss i
 
+    face_same : (s : SoundForest) → IsIn s ss → s.face ≡ G.face
+    face_same s i = every_in (λ (t : SoundForest). t.face ≡ G.face) ss s faces i
+
     piece_like : (s : SoundForest) → IsIn s ss → IsLike G.face G.forest s
     piece_like s i =
         let v = every_in (HasVarsOf G.forest) (forests ss) s.forest vars (forest_in s i) in
         record {
-          face = every_in (λ (t : SoundForest). t.face ≡ G.face) ss s faces i;
+          face = face_same s i;
           counts = (ap (λ (ts : List Target). length ts) v.0, ap (λ ds. length ds) v.1);
         }
 
-    piece_regroups : (T : List BoxDef) (s : SoundForest) → IsIn s ss → Regroups T G.forest s.forest
-    piece_regroups T s i = every_in (Regroups T G.forest) (forests ss) s.forest (regroup T) (forest_in s i)
+    piece_regroups : (U : List BoxDef) (s : SoundForest) → IsIn s ss → Regroups U G.forest s.forest
+    piece_regroups U s i = every_in (Regroups U G.forest) (forests ss) s.forest (regroup U) (forest_in s i)
 
-    -- with as many roots, the child is a leaf
-    kept_shown : (s : SoundForest) → IsIn s ss → roots s ≡ n → IsShown G.forest r (p + 1) s.forest
-    kept_shown s i e = here (every_in (IsSplitOf [] G.forest r p) (forests ss) s.forest (dressed []) (forest_in s i))
+    -- one leaf stands at the place
+    piece_shown : (s : SoundForest) → IsIn s ss → IsShown G.forest r (p + 1) s.forest
+    piece_shown s i = here (every_in (IsSplitOf [] G.forest r p) (forests ss) s.forest (dressed []) (forest_in s i))
       where
         here : IsSplitOf [] G.forest r p s.forest → IsShown G.forest r (p + 1) s.forest
         here (inl (y, m, is, c, d)) =
             subst (λ (H : Forest). IsShown G.forest r (p + 1) H) (sym is)
-            (shown_next G.face.shapes.structs G.forest (refers_well G.face G.forest sound) shown.tops r p ranked can
-            shown y
-            (split_leaf G.forest r p y) (leaf_piece G.forest r p ranked can y)
-            (leaf_count G.forest r p ranked can y))
-        here (inr (m, is, d)) = absurd
-            (let w = cells_count G.forest r p ranked can in
-            let v : n ≡ length (split_cells G.forest r p).autos = sym e ∙ ap (λ (H : Forest). length H.autos) is in
-            omega (arith, w, v))
+            (shown_next G.forest r p ranked can shown y (split_leaf G.forest r p y)
+            (leaf_piece G.forest r p ranked can y))
+        here (inr (m, is, d)) =
+            subst (λ (H : Forest). IsShown G.forest r (p + 1) H) (sym is)
+            (shown_next G.forest r p ranked can shown (At n) (split_cells G.forest r p)
+            (cells_piece G.forest r p ranked can))
 
-    -- with another number of roots, it is a cell, and that leaks
-    lost_leaks : (s : SoundForest) → IsIn s ss → roots s ≢ n → (T : List BoxDef) (t : Store)
-        → Stands G.face.shapes.structs T s.forest t → gstep G.face.shapes.structs e t ≡ Faulted Leak
-    lost_leaks s i d T t h =
-        here (every_in (IsSplitOf [] G.forest r p) (forests ss) s.forest (dressed []) (forest_in s i))
+    -- a cell to which no way back leads leaks
+    lost_leaks : (b : Bad) → IsLost n ss b → (t : Store) → Stands G.face.shapes.structs T b.at.forest t
+        → gstep G.face.shapes.structs e t ≡ Faulted Leak
+    lost_leaks b k t h =
+        here (every_in (IsSplitOf [] G.forest r p) (forests ss) b.at.forest (dressed []) (forest_in b.at k.piece))
       where
-        here : IsSplitOf [] G.forest r p s.forest → gstep G.face.shapes.structs e t ≡ Faulted Leak
-        here (inl (y, m, is, c, k)) =
-            absurd (d (ap (λ (H : Forest). length H.autos) is ∙ leaf_count G.forest r p ranked can y))
-        here (inr (m, is, k)) = cells_leak G.face G.forest r p sound ranked plain can e frees T t
+        here : IsSplitOf [] G.forest r p b.at.forest → gstep G.face.shapes.structs e t ≡ Faulted Leak
+        here (inl (y, m, is, c, d)) =
+            absurd (k.many (ap (λ (H : Forest). length H.autos) is ∙ leaf_count G.forest r p ranked can y))
+        here (inr (m, is, d)) =
+            cells_leak G.face T freed.table G.forest r p sound ranked can freed.fields
+            (subst (λ (f : Face). IsFilled f (split_cells G.forest r p)) (face_same b.at k.piece)
+            (subst (λ (H : Forest). IsFilled b.at.face H) is k.sound.well_formed.filled))
+            (subst (λ (f : Face). NeverLeadsBack f.boxes (split_cells G.forest r p) n) (face_same b.at k.piece)
+            (subst (λ (H : Forest). NeverLeadsBack b.at.face.boxes H n) is k.forward)) e freed.frees t
             (subst (λ (H : Forest). Stands G.face.shapes.structs T H t) is h)
 
-    abbrev kept : List SoundForest
-    kept = of_count n ss
+    module _ (kept : List SoundForest) (lost : List Bad) (sorted : AreSorted n ss kept lost) where
+      lost_true : (b : Bad) → IsIn b lost → IsTrueBad G.face T G.forest e (record { fault = b.fault; at = b.at.forest })
+      lost_true b i t h =
+          let k = every_in (IsLost n ss) lost b sorted.lost i in (
+            members_regrouped G.face.shapes.structs T G.forest b.at.forest (piece_regroups T b.at k.piece) t h,
+            lost_leaks b k t h ∙ ap Faulted (sym k.leaks),
+          )
 
-    abbrev lost : List Bad
-    lost = leaks_but n ss
+      abbrev Left : Store → Type 0
+      Left t = StandsInOne G.face T (forests kept) t
+          ⊎ IsMet G.face T [] (bads lost) t (gstep G.face.shapes.structs e t)
 
-    lost_true : (T : List BoxDef) (b : Bad) → IsIn b lost
-        → IsTrueBad G.face T G.forest e (record { fault = b.fault; at = b.at.forest })
-    lost_true T b i t h =
-        let k = lost_in n ss b i in (
-          members_regrouped G.face.shapes.structs T G.forest b.at.forest (piece_regroups T b.at k.0) t h,
-          lost_leaks b.at k.0 k.1 T t h ∙ ap Faulted (sym k.2),
-        )
+      in_piece : (t : Store) → (H : Forest) × IsIn H (forests ss) × Stands G.face.shapes.structs T H t → Left t
+      in_piece t (H, i, h) = here (in_mapped (λ (s : SoundForest). s.forest) H ss i)
+        where
+          here : (s : SoundForest) × IsIn s ss × (H ≡ s.forest) → Left t
+          here (s, j, q) = elim (every_in (IsSortedTo kept lost) ss s sorted.all j) [
+            | inl k ↦ inl (s.forest, in_map (λ (x : SoundForest). x.forest) s kept k, own)
+            | inr k ↦ inr
+                (subst (IsMet G.face T [] (bads lost) t)
+                (sym (lost_leaks (leak_at s) (every_in (IsLost n ss) lost (leak_at s) sorted.lost k) t own)) (
+                  record { fault = Leak; at = s.forest },
+                  in_map (λ (b : Bad). record { fault = b.fault; at = b.at.forest }) (leak_at s) lost k,
+                  refl,
+                  own,
+                ))
+          ]
+            where
+              own : Stands G.face.shapes.structs T s.forest t
+              own = subst (λ (X : Forest). Stands G.face.shapes.structs T X t) q h
 
-    abbrev Left : List BoxDef → Store → Type 0
-    Left T t = StandsInOne G.face T (forests kept) t ⊎ IsMet G.face T [] (bads lost) t (gstep G.face.shapes.structs e t)
+      kept_in : (s : SoundForest) → IsIn s kept → IsIn s ss
+      kept_in s i = every_in (λ x. IsIn x ss) kept s sorted.ready_in i
 
-    in_piece : (T : List BoxDef) (t : Store) → (H : Forest) × IsIn H (forests ss) × Stands G.face.shapes.structs T H t
-        → Left T t
-    in_piece T t (H, i, h) = here (in_mapped (λ (s : SoundForest). s.forest) H ss i)
-      where
-        here : (s : SoundForest) × IsIn s ss × (H ≡ s.forest) → Left T t
-        here (s, j, q) = elim (sorted_in n ss s j) [
-          | inl k ↦ inl (s.forest, in_map (λ (x : SoundForest). x.forest) s kept k, own)
-          | inr k ↦ inr
-              (subst (IsMet G.face T [] (bads lost) t) (sym (lost_leaks s j k.0 T t own)) (
-                record { fault = Leak; at = s.forest },
-                in_map (λ (b : Bad). record { fault = b.fault; at = b.at.forest }) (record { fault = Leak; at = s })
-                    lost
-                    k.1,
-                refl,
-                own,
-              ))
-        ]
-          where
-            own : Stands G.face.shapes.structs T s.forest t
-            own = subst (λ (X : Forest). Stands G.face.shapes.structs T X t) q h
-
-    pub child_opened : IsOpening G.face G.forest e (IsShown G.forest r (p + 1)) [] kept lost
-    child_opened = record {
-      stepping = record {
-        whole = λ T k t h. in_piece T t (members_split G.face.shapes.structs T G.forest (forests ss) (whole T) t h);
-        refines = λ T k. every_map (λ (s : SoundForest). s.forest) (Refines G.face T e.instr G.forest) kept
-            (in_every (λ (s : SoundForest). Refines G.face T e.instr G.forest s.forest) kept
-            (λ s i. regroups_refine G.face T e.instr G.forest s.forest (piece_regroups T s (kept_in n ss s i).0)));
-        keeps = λ T k. tt;
-        bads = λ T k. every_map (λ (b : Bad). record { fault = b.fault; at = b.at.forest })
-            (IsTrueBad G.face T G.forest e) lost
+      child_here : IsSteppingBy (IsThat T) G.face G.forest e (forests kept) [] (bads lost)
+      child_here = record {
+        whole = λ U q t h. subst
+            (λ (V : List BoxDef). StandsInOne G.face V (forests kept) t
+            ⊎ IsMet G.face V [] (bads lost) t (gstep G.face.shapes.structs e t)) (sym q)
+            (in_piece t (members_split G.face.shapes.structs T G.forest (forests ss) (whole T) t
+            (subst (λ (V : List BoxDef). Stands G.face.shapes.structs V G.forest t) q h)));
+        refines = λ U q. every_map (λ (s : SoundForest). s.forest) (Refines G.face U e.instr G.forest) kept
+            (in_every (λ (s : SoundForest). Refines G.face U e.instr G.forest s.forest) kept
+            (λ s i. regroups_refine G.face U e.instr G.forest s.forest (piece_regroups U s (kept_in s i))));
+        keeps = λ U q. tt;
+        bads = λ U q. subst (λ (V : List BoxDef). Every (IsTrueBad G.face V G.forest e) (bads lost)) (sym q)
+            (every_map (λ (b : Bad). record { fault = b.fault; at = b.at.forest }) (IsTrueBad G.face T G.forest e) lost
             (in_every (λ (b : Bad). IsTrueBad G.face T G.forest e (record { fault = b.fault; at = b.at.forest })) lost
-            (λ b i. lost_true T b i));
-      };
-      ready = every_map (λ (s : SoundForest). s.forest) (IsShown G.forest r (p + 1)) kept
-          (in_every (λ (s : SoundForest). IsShown G.forest r (p + 1) s.forest) kept
-          (λ s i. let k = kept_in n ss s i in kept_shown s k.0 k.1));
-      like = in_every (IsLike G.face G.forest) kept (λ s i. piece_like s (kept_in n ss s i).0);
-      bad_like = in_every (λ (b : Bad). IsLike G.face G.forest b.at) lost (λ b i. piece_like b.at (lost_in n ss b i).0);
-    }
+            lost_true));
+      }
+
+      pub child_opened : IsOpeningBy (IsThat T) G.face G.forest e (IsShown G.forest r (p + 1)) [] kept lost
+      child_opened = record {
+        stepping = child_here;
+        ready = every_map (λ (s : SoundForest). s.forest) (IsShown G.forest r (p + 1)) kept
+            (in_every (λ (s : SoundForest). IsShown G.forest r (p + 1) s.forest) kept
+            (λ s i. piece_shown s (kept_in s i)));
+        like = in_every (IsLike G.face G.forest) kept (λ s i. piece_like s (kept_in s i));
+        bad_like = in_every (λ (b : Bad). IsLike G.face G.forest b.at) lost
+            (λ b i. piece_like b.at (every_in (IsLost n ss) lost b sorted.lost i).piece);
+      }
 
 -- The forest as it is.
 pub unopened : {Q : List BoxDef → Type 0} → (face : Face) (F : Forest) (e : Edge) (P : Forest → Type 0)
@@ -236,35 +236,24 @@ unopened {Q = Q} face F e P s is like p = record {
   bad_like = tt;
 }
 
--- What is said of some tables is said of fewer.
-pub opening_fewer : {Q R : List BoxDef → Type 0} → ((T : List BoxDef) → Q T → R T) → (face : Face) (F : Forest)
-    (e : Edge) (P : Forest → Type 0) (todo made : List SoundForest) (faults : List Bad)
-    → IsOpeningBy R face F e P todo made faults → IsOpeningBy Q face F e P todo made faults
-opening_fewer w face F e P todo made faults a =
-    record {
-      stepping = stepping_fewer face e w F (forests todo ++ forests made) [] (bads faults) a.stepping;
-      ready = a.ready;
-      like = a.like;
-      bad_like = a.bad_like;
-    }
-
 -- What is shown may be said otherwise.
-pub opening_weaker : (face : Face) (F : Forest) (e : Edge) (P Q : Forest → Type 0) (todo made : List SoundForest)
-    (faults : List Bad) → ((H : Forest) → P H → Q H) → IsOpening face F e P todo made faults
-    → IsOpening face F e Q todo made faults
-opening_weaker face F e P Q todo made faults w a =
+pub opening_weaker : {Q : List BoxDef → Type 0} → (face : Face) (F : Forest) (e : Edge) (P R : Forest → Type 0)
+    (todo made : List SoundForest) (faults : List Bad) → ((H : Forest) → P H → R H)
+    → IsOpeningBy Q face F e P todo made faults → IsOpeningBy Q face F e R todo made faults
+opening_weaker face F e P R todo made faults w a =
     record {
       stepping = a.stepping;
-      ready = every_weaker P Q (forests made) w a.ready;
+      ready = every_weaker P R (forests made) w a.ready;
       like = a.like;
       bad_like = a.bad_like;
     }
 
 -- All that was made is to do.
-pub opening_again : (face : Face) (F : Forest) (e : Edge) (P Q : Forest → Type 0) (made : List SoundForest)
-    (faults : List Bad) → IsOpening face F e P [] made faults → IsOpening face F e Q made [] faults
-opening_again face F e P Q made faults a = record {
-  stepping = subst (λ (Hs : List Forest). IsStepping face F e Hs [] (bads faults)) (sym (append-nil (forests made)))
+pub opening_again : {Q : List BoxDef → Type 0} → (face : Face) (F : Forest) (e : Edge) (P R : Forest → Type 0)
+    (made : List SoundForest) (faults : List Bad) → IsOpeningBy Q face F e P [] made faults
+    → IsOpeningBy Q face F e R made [] faults
+opening_again {Q = Q} face F e P R made faults a = record {
+  stepping = subst (λ (Hs : List Forest). IsSteppingBy Q face F e Hs [] (bads faults)) (sym (append-nil (forests made)))
       a.stepping;
   ready = tt;
   like = tt;
@@ -275,71 +264,29 @@ opening_again face F e P Q made faults a = record {
 pub frees_still : (F G : Forest) (e : Edge) (r : ℕ) → G.vars ≡ F.vars → IsFreeAt F e r → IsFreeAt G e r
 frees_still F G e r same (b, is, at) = (b, is, ap (λ (vs : List Target). slice_index_or vs b Uninit) same ∙ at)
 
--- One more piece sorted.
-
-pub keep_more : (n : ℕ) (done : List SoundForest) (lost : List Bad) (s : SoundForest) (ss all : List SoundForest)
-    → roots s ≡ n → (done ++ of_count n (s ∷ ss) ≡ of_count n all) × (lost ++ leaks_but n (s ∷ ss) ≡ leaks_but n all)
-    → ((done ++ s ∷ []) ++ of_count n ss ≡ of_count n all) × (lost ++ leaks_but n ss ≡ leaks_but n all)
-keep_more n done lost s ss all e h =
-    let w : nat_eq (roots s) n ≡ true = eq-eqb (roots s) n e in
-    let k = rw w at h in
-    (append_assoc done (s ∷ []) (of_count n ss) ∙ k.0, k.1)
-
-pub lose_more : (n : ℕ) (done : List SoundForest) (lost : List Bad) (s : SoundForest) (ss all : List SoundForest)
-    → roots s ≢ n → (done ++ of_count n (s ∷ ss) ≡ of_count n all) × (lost ++ leaks_but n (s ∷ ss) ≡ leaks_but n all)
-    → (done ++ of_count n ss ≡ of_count n all)
-    × ((lost ++ record { fault = Leak; at = s } ∷ []) ++ leaks_but n ss ≡ leaks_but n all)
-lose_more n done lost s ss all d h = here (nat_eq (roots s) n) refl h
-  where
-    here : (b : Bool) → nat_eq (roots s) n ≡ b
-        → (done ++ (if b then s ∷ of_count n ss else of_count n ss) ≡ of_count n all)
-        × (lost ++ (if b then leaks_but n ss else record { fault = Leak; at = s } ∷ leaks_but n ss) ≡ leaks_but n all)
-        → (done ++ of_count n ss ≡ of_count n all)
-        × ((lost ++ record { fault = Leak; at = s } ∷ []) ++ leaks_but n ss ≡ leaks_but n all)
-    here true e k = absurd (d (eqb-true (roots s) n e))
-    here false e k = (k.0, append_assoc lost (record { fault = Leak; at = s } ∷ []) (leaks_but n ss) ∙ k.1)
-
--- A list of pieces, none of which is a fault.
-pub all_ready : (face : Face) (F : Forest) (e : Edge) (P : Forest → Type 0) (ss : List SoundForest)
-    → ((T : List BoxDef) → Every (Regroups T F) (forests ss)) → ((T : List BoxDef) → RegroupsInto T F (forests ss))
-    → Every P (forests ss) → Every (IsLike face F) ss → IsOpening face F e P [] ss []
-all_ready face F e P ss regroup whole p like = record {
-  stepping = record {
-    whole = λ T t s h. inl (members_split face.shapes.structs T F (forests ss) (whole T) s h);
-    refines = λ T t. every_weaker (Regroups T F) (Refines face T e.instr F) (forests ss)
-        (λ H g. regroups_refine face T e.instr F H g) (regroup T);
-    keeps = λ T t. tt;
-    bads = λ T t. tt;
-  };
-  ready = p;
-  like = like;
-  bad_like = tt;
-}
-
 -- One forest of the list, opened further.
-module _ (face : Face) (F : Forest) (e : Edge) (r p : ℕ) (G : SoundForest) (todo ready : List SoundForest)
-    (faults : List Bad) (more : List SoundForest) (bad : List Bad)
-    (a : IsOpening face F e (IsShown F r (p + 1)) (G ∷ todo) ready faults) (like : IsLike face F G)
-    (shown : IsShown F r p G.forest) (b : IsOpening G.face G.forest e (IsShown G.forest r (p + 1)) [] more bad)
+module _ {Q : List BoxDef → Type 0} (face : Face) (F : Forest) (e : Edge) (P : Forest → Type 0) (G : SoundForest)
+    (todo ready : List SoundForest) (faults : List Bad) (more : List SoundForest) (bad : List Bad)
+    (a : IsOpeningBy Q face F e P (G ∷ todo) ready faults) (like : IsLike face F G)
+    (b : IsOpeningBy Q G.face G.forest e P [] more bad)
   where
-    own : IsStepping face G.forest e (forests more) [] (bads bad)
-    own = subst (λ (f : Face). IsStepping f G.forest e (forests more) [] (bads bad)) like.face b.stepping
+    own : IsSteppingBy Q face G.forest e (forests more) [] (bads bad)
+    own = subst (λ (f : Face). IsSteppingBy Q f G.forest e (forests more) [] (bads bad)) like.face b.stepping
 
-    stepped : IsStepping face F e ((forests todo ++ forests ready) ++ forests more) ([] ++ []) (bads faults ++ bads bad)
+    stepped : IsSteppingBy Q face F e ((forests todo ++ forests ready) ++ forests more) ([] ++ [])
+        (bads faults ++ bads bad)
     stepped = one_taken face e F G.forest (forests todo ++ forests ready) (forests more) [] [] (bads faults) (bads bad)
         a.stepping own
 
-    pub opened_more : IsOpening face F e (IsShown F r (p + 1)) todo (ready ++ more) (faults ++ bad)
+    pub opened_more : IsOpeningBy Q face F e P todo (ready ++ more) (faults ++ bad)
     opened_more = record {
-      stepping = subst (λ (bs : List BadAt). IsStepping face F e (forests todo ++ forests (ready ++ more)) [] bs)
+      stepping = subst (λ (bs : List BadAt). IsSteppingBy Q face F e (forests todo ++ forests (ready ++ more)) [] bs)
           (sym (bads_both faults bad))
-          (subst (λ (Hs : List Forest). IsStepping face F e Hs [] (bads faults ++ bads bad))
+          (subst (λ (Hs : List Forest). IsSteppingBy Q face F e Hs [] (bads faults ++ bads bad))
           (append_assoc (forests todo) (forests ready) (forests more)
           ∙ ap (λ (Hs : List Forest). forests todo ++ Hs) (sym (forests_both ready more))) stepped);
-      ready = subst (Every (IsShown F r (p + 1))) (sym (forests_both ready more))
-          (every_append (IsShown F r (p + 1)) (forests ready) (forests more) a.ready
-          (every_weaker (IsShown G.forest r (p + 1)) (IsShown F r (p + 1)) (forests more)
-          (λ H k. shown_on F G.forest H r p (p + 1) shown k) b.ready));
+      ready = subst (Every P) (sym (forests_both ready more))
+          (every_append P (forests ready) (forests more) a.ready b.ready);
       like = every_append (IsLike face F) ready more a.like
           (every_weaker (IsLike G.face G.forest) (IsLike face F) more (λ s k. like_on face F G s like k) b.like);
       bad_like = every_append (λ (x : Bad). IsLike face F x.at) faults bad a.bad_like

@@ -85,7 +85,7 @@ pub record IsPiece (F : Forest) (r p : ℕ) (y : Target) (G : Forest) : Type 0 w
   pub here : component_at G.autos r ≡ fixed (component_at F.autos r) p y
   pub others : (k : ℕ) → k < length F.autos → k ≢ r → component_at G.autos k ≡ component_at F.autos k
 
-same_or_other : (m n : ℕ) → (m ≡ n) ⊎ (m ≢ n)
+pub same_or_other : (m n : ℕ) → (m ≡ n) ⊎ (m ≢ n)
 same_or_other m n = elim (nat_cases m n) [
   | inl l ↦ inr (λ e. omega (arith, l, e))
   | inr l ↦ elim (nat_cases n m) [
@@ -131,14 +131,10 @@ module _ (F : Forest) (r p : ℕ) (ranked : Every IsRanked F.autos) (can : CanSp
         ∙ component_other F.autos r k (fixed a p (At (length F.autos))) d;
   }
 
-  module _ (tops : Every HasOneTop F.autos) (y : Target) (G : Forest) (piece : IsPiece F r p y G) where
-    -- the roots that were there have one rule each
-    pub tops_stay : (k : ℕ) → k < length F.autos → HasOneTop (component_at G.autos k)
-    tops_stay k l = elim (same_or_other k r) [
-      | inl e ↦ subst (λ (n : ℕ). HasOneTop (component_at G.autos n)) (sym e)
-          (subst HasOneTop (sym piece.here) (fixed_one a p y a_ranked can.top can.place))
-      | inr d ↦ subst HasOneTop (sym (piece.others k l d)) (component_has HasOneTop F.autos k tops l)
-    ]
+  module _ (y : Target) (G : Forest) (piece : IsPiece F r p y G) where
+    -- the root has one rule
+    pub top_there : HasOneTop (component_at G.autos r)
+    top_there = subst HasOneTop (sym piece.here) (fixed_one a p y a_ranked can.top can.place)
 
     pub symbol_there : (top_rule (component_at G.autos r)).symbol ≡ (top_rule a).symbol
     symbol_there = ap (λ (c : Automaton). (top_rule c).symbol) piece.here

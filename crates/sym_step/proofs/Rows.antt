@@ -1,8 +1,19 @@
--- Worked values: what each kind of edge needs, faults without faces, forests with as many variables, and pieces sorted.
-use Rattle.std.proofs.Common.{◌≡◌, true, false, [], ◌∷◌, refl, Some, arith}
-use Rattle.fore_base.specs.declared.fault.Fault.TheVariants.{NullDeref, Leak}
+-- Worked values: what each kind of edge needs, faults without faces, forests with as many variables, and roots to which
+-- ways back lead.
+use Rattle.std.proofs.Common.{◌≡◌, inl, inr, ℕ, true, false, true≢false, List, [], ◌∷◌, map, refl, sym, ap, subst}
+use Rattle.std.proofs.Common.{Some, arith}
+use Rattle.fore_base.specs.Lists.{Every}
+use Rattle.fore_base.specs.declared.fault.Fault.TheVariants.{NullDeref}
 use Rattle.fore_base.specs.declared.store.Datum.TheVariants.{Known, Undefined}
 use Rattle.ta_core.specs.Auto.{Automaton, automaton}
+use Rattle.ta_core.specs.Language.{InLanguage, RunOf, RunEach, run, run_more, run_none}
+use Rattle.ta_core.specs.declared.auto.Rule.{Rule}
+use Rattle.ta_core.specs.declared.symbol.Slot.TheVariants.{Link}
+use Rattle.ta_core.specs.declared.symbol.Symbol.TheVariants.{Ref, Cell as CellSymbol}
+use Rattle.ta_core.specs.declared.tree.Tree.{Tree, Tree-F, fold-roll-Tree, out-roll-Tree, roll-Tree}
+use Rattle.fa_core.specs.declared.faces.BoxFace.{BoxFace}
+use Rattle.fa_core.specs.declared.signature.RefMark.{RefMark}
+use Rattle.fa_core.specs.Ways.{Way, signature, ways, ways_at}
 use Rattle.fa_core.specs.declared.faces.Face.{Face}
 use Rattle.fa_core.specs.declared.forest.Forest.{Forest}
 use Rattle.fa_core.specs.declared.forest.Target.TheVariants.{Null, At}
@@ -12,9 +23,9 @@ use Rattle.c_cfg.specs.declared.graph.DataArg.TheVariants.{Var as ArgVar}
 use Rattle.c_cfg.specs.declared.graph.PtrArg.TheVariants.{Var as PtrVar}
 use Rattle.c_cfg.specs.declared.graph.Instr.TheVariants.{CopyPtr, LoadPtr, StorePtr, StoreConst, New, Free, Kill}
 use Rattle.c_cfg.specs.declared.graph.Instr.TheVariants.{CopyData, LoadData, StoreData, TestPtr, TestData, Choose, Stop}
+use Rattle.sym_step.specs.Freed.{NeverLeadsBack}
 use Rattle.sym_step.specs.Posts.{bads, HasAsMany}
 use Rattle.sym_step.specs.inner.Needing.{needs_of}
-use Rattle.sym_step.specs.inner.Opening.{of_count, leaks_but}
 use Rattle.sym_step.specs.declared.needs.Needed.TheVariants.{Nothing, Field, Cell}
 
 -- What edges need: `x1 = x2->f3`, `x1->f3 = x2`, `x1->f3 = NULL`, `x1->f3 = 5`, `free(x2)`.
@@ -95,11 +106,64 @@ short_has_fewer h = let w = h.0 in omega (arith, w)
 one_bad : bads (record { fault = NullDeref; at = signed two } ∷ []) ≡ record { fault = NullDeref; at = two } ∷ []
 one_bad = refl
 
--- one root was there before: the forest with two is a leak
+-- Roots to which no way back leads: the cell of root 0 has an edge of box dll to root 1, which leads back from there,
+-- and root 1 has no tree.
 
-those_of_one_root : of_count 1 (signed one ∷ signed two ∷ signed one ∷ []) ≡ signed one ∷ signed one ∷ []
-those_of_one_root = refl
+abbrev dll : List BoxFace
+dll = record { input = 0; output = Some 0; gives_in = 0 ∷ []; gives_out = 1 ∷ []; back = true } ∷ []
 
-the_others_leak : leaks_but 1 (signed one ∷ signed two ∷ signed one ∷ []) ≡ record { fault = Leak; at = signed two }
-    ∷ []
-the_others_leak = refl
+abbrev rules : List Rule
+rules =
+    record { state = 0; symbol = CellSymbol 0 [] (Link 0 ∷ []); children = 1 ∷ [] }
+    ∷ record { state = 1; symbol = Ref 1; children = [] } ∷ []
+
+abbrev linked : Forest
+linked =
+    record {
+      autos = automaton 2 (0 ∷ []) rules ∷ automaton 1 (0 ∷ []) [] ∷ [];
+      vars = At 0 ∷ At 1 ∷ [];
+      data_vars = [];
+    }
+
+opened : (x : Tree-F Tree) → ways (roll-Tree x) ≡ ways_at x.symbol (map ways x.children)
+opened x = fold-roll-Tree (List Way) (λ t. ways_at t.symbol t.children) x
+
+abbrev end_layer : Tree-F Tree
+end_layer = record { symbol = Ref 1; children = [] }
+
+abbrev top_layer : Tree-F Tree
+top_layer = record { symbol = CellSymbol 0 [] (Link 0 ∷ []); children = roll-Tree end_layer ∷ [] }
+
+end_runs : RunOf rules 1 (roll-Tree end_layer)
+end_runs =
+    run (record { state = 1; symbol = Ref 1; children = [] }) (inr (inl refl)) refl
+    (sym (ap (λ (x : Tree-F Tree). x.symbol) (out-roll-Tree end_layer)))
+    (subst (RunEach rules []) (sym (ap (λ (x : Tree-F Tree). x.children) (out-roll-Tree end_layer))) run_none)
+
+top_runs : InLanguage (automaton 2 (0 ∷ []) rules) (roll-Tree top_layer)
+top_runs = (
+  0,
+  inl refl,
+  run (record { state = 0; symbol = CellSymbol 0 [] (Link 0 ∷ []); children = 1 ∷ [] }) (inl refl) refl
+      (sym (ap (λ (x : Tree-F Tree). x.symbol) (out-roll-Tree top_layer)))
+      (subst (RunEach rules (1 ∷ [])) (sym (ap (λ (x : Tree-F Tree). x.children) (out-roll-Tree top_layer)))
+      (run_more end_runs run_none)),
+)
+
+top_ways : ways (roll-Tree top_layer) ≡ record { root = 1; steps = record { slot = Link 0; refers = 1 ∷ [] } ∷ [] } ∷ []
+top_ways = simp opened
+
+top_sign : signature dll (roll-Tree top_layer)
+    ≡ record { root = 1; many = false; provided = 1 ∷ []; back = true; reach = 1 ∷ [] } ∷ []
+top_sign = rw top_ways refl
+
+an_edge_leads_back : NeverLeadsBack dll linked 0 → ⊥
+an_edge_leads_back h =
+    true≢false
+    (subst (λ (ms : List RefMark). Every (λ m. m.back ≡ false) ms) top_sign (h (roll-Tree top_layer) top_runs)).0
+
+no_tree_runs : (q : ℕ) (t : Tree) → RunOf [] q t → ⊥
+no_tree_runs q t (run r i e w c) = i
+
+no_tree_leads_back : NeverLeadsBack dll linked 1
+no_tree_leads_back t i = absurd (no_tree_runs i.0 t i.2)

@@ -22,7 +22,7 @@ use Rattle.sym_step.specs.inner.Needing.{AreNeeds}
 use Rattle.sym_step.specs.declared.needs.Needed.TheVariants.{Nothing, Field, Cell}
 use Rattle.sym_step.specs.inner.Opening.{width, IsShown}
 use Rattle.sym_step.proofs.FieldPlaces.{field_within}
-use Rattle.sym_step.proofs.Pieces.{IsPiece, tops_stay, symbol_there, width_there, leaf_there, leaf_kept}
+use Rattle.sym_step.proofs.Pieces.{IsPiece, leaf_kept, leaf_there, symbol_there, top_there, width_there}
 
 abbrev pub root_number : Target → ℕ
 root_number Null = 0
@@ -41,12 +41,6 @@ pub target_in : (vs : List Target) (b r : ℕ) → slice_index_or vs b Uninit �
 target_in [] b r h = absurd (subst IsAt (sym h) tt)
 target_in (v ∷ vs) zero r h = inl (sym h)
 target_in (v ∷ vs) (suc b) r h = inr (target_in vs b r h)
-
--- what holds of the component of each root holds of each component
-each_component : (P : Automaton → Type 0) (autos : List Automaton)
-    → ((k : ℕ) → k < length autos → P (component_at autos k)) → Every P autos
-each_component P [] h = tt
-each_component P (a ∷ autos) h = (h 0 (omega arith), each_component P autos (λ k l. h (suc k) (omega (arith, l))))
 
 below_next : (k p : ℕ) → k < p + 1 → (k ≡ p) ⊎ (k < p)
 below_next zero zero l = inl refl
@@ -86,74 +80,58 @@ module _ (hs : List Shape) (F : Forest) (well : RefersWell F) (tops : Every HasO
             absurd (none r (subst (λ (x : ℕ). target_at F x ≡ At r) (needs.1 c e) t));
       }
 
-  same_root : (b c r q : ℕ) → target_at F b ≡ At r → target_at F c ≡ At q → c ≡ b → q ≡ r
-  same_root b c r q h t e = ap root_number (sym t ∙ ap (λ (x : ℕ). target_at F x) e ∙ h)
+-- The places of a root, one after the other.
 
-  -- The places of a root, one after the other.
+pub shown_first : (F : Forest) (r : ℕ) → r < length F.autos → HasOneTop (component_at F.autos r) → IsShown F r 0 F
+shown_first F r root top = record {
+  root = root;
+  top = top;
+  vars = refl;
+  symbol = refl;
+  wide = refl;
+  leaves = λ k l. absurd (omega (arith, l));
+}
 
-  pub shown_first : (r : ℕ) → IsShown F r 0 F
-  shown_first r =
-      record {
-        count = refl;
-        vars = refl;
-        tops = tops;
-        symbol = refl;
-        wide = refl;
-        leaves = λ k l. absurd (omega (arith, l));
-      }
+pub shown_next : (F : Forest) (r p : ℕ) → Every IsRanked F.autos → (can : CanSplit F r p) → IsShown F r p F
+    → (y : Target) (G : Forest) → IsPiece F r p y G → IsShown F r (p + 1) G
+shown_next F r p ranked can shown y G piece = record {
+  root = (let l = can.root in let w = piece.few in omega (arith, l, w));
+  top = top_there F r p ranked can y G piece;
+  vars = piece.vars;
+  symbol = symbol_there F r p ranked can y G piece;
+  wide = width_there F r p ranked can y G piece;
+  leaves = λ k l. elim (below_next k p l) [
+    | inl e ↦ (y, subst (λ (x : ℕ). IsLeafPlace G r x y) (sym e) (leaf_there F r p ranked can y G piece))
+    | inr m ↦ (
+      (shown.leaves k m).0,
+      leaf_kept F r p ranked can y G piece k (shown.leaves k m).0 (λ e. omega (arith, e, m))
+          (let q = can.place in omega (arith, m, q)) (shown.leaves k m).1,
+    )
+  ];
+}
 
-  pub shown_next : (r p : ℕ) → Every IsRanked F.autos → (can : CanSplit F r p) → IsShown F r p F
-      → (y : Target) (G : Forest) → IsPiece F r p y G → length G.autos ≡ length F.autos → IsShown F r (p + 1) G
-  shown_next r p ranked can shown y G piece count = record {
-    count = count;
-    vars = piece.vars;
-    tops = each_component HasOneTop G.autos
-        (λ k l. tops_stay F r p ranked can tops y G piece k (omega (arith, l, count)));
-    symbol = symbol_there F r p ranked can tops y G piece;
-    wide = width_there F r p ranked can tops y G piece;
-    leaves = λ k l. elim (below_next k p l) [
-      | inl e ↦ (y, subst (λ (x : ℕ). IsLeafPlace G r x y) (sym e) (leaf_there F r p ranked can tops y G piece))
-      | inr m ↦ (
-        (shown.leaves k m).0,
-        leaf_kept F r p ranked can tops y G piece k (shown.leaves k m).0 (λ e. omega (arith, e, m))
-            (let q = can.place in omega (arith, m, q)) (shown.leaves k m).1,
-      )
-    ];
-  }
-
-  -- where each place is shown, the forest shows what a free needs
-  pub cell_shown : (i : Instr) (b r : ℕ) → AreNeeds i (Cell b) → target_at F b ≡ At r → Every IsRanked F.autos
-      → ((g : ℕ) → place_at F r g ≡ None → StructLacks hs (shape_at F r) g) → (G : Forest) → IsShown F r (width F r) G
-      → IsExplicit hs G i
-  cell_shown i b r needs at ranked lacked G shown = record {
-    tops = λ k j. component_has HasOneTop G.autos k shown.tops
-        (let l = well.vars k (subst (λ (vs : List Target). IsIn (At k) vs) shown.vars j) in let w = shown.count in
-        omega (arith, l, w));
-    plain = λ c q g e t n.
-        let same : q ≡ r = same_root b c r q at
-        (ap (λ (vs : List Target). slice_index_or vs c Uninit) (sym shown.vars) ∙ t) (needs.1 c e) in
-        let low : r < length F.autos = root_there b r at in
-        let there : r < length G.autos = (let w = shown.count in omega (arith, low, w)) in
-        subst (λ (x : ℕ). IsPlainAt hs G x g) (sym same) (record {
-          root = there;
-          top = component_has HasOneTop G.autos r shown.tops there;
-          leaf = λ k h. shown.leaves k
-              (field_within (component_at F.autos r) g k (component_has IsRanked F.autos r ranked low)
-              (component_has HasOneTop F.autos r tops low)
-              (ap (λ (x : Symbol). field_place g (symbol_slots x)) (sym shown.symbol) ∙ h));
-          lacks = λ h.
-              subst (λ (x : Symbol). StructLacks hs (symbol_shape x) g) (sym shown.symbol)
-              (lacked g (ap (λ (x : Symbol). field_place g (symbol_slots x)) (sym shown.symbol) ∙ h));
-        });
-  }
+-- where each place is shown, each field of the root is
+pub cell_shown : (hs : List Shape) (F : Forest) (r : ℕ) → Every IsRanked F.autos → r < length F.autos
+    → HasOneTop (component_at F.autos r) → ((g : ℕ) → place_at F r g ≡ None → StructLacks hs (shape_at F r) g)
+    → (G : Forest) → IsShown F r (width F r) G → (g : ℕ) → IsPlainAt hs G r g
+cell_shown hs F r ranked root top lacked G shown g = record {
+  root = shown.root;
+  top = shown.top;
+  leaf = λ k h. shown.leaves k
+      (field_within (component_at F.autos r) g k (component_has IsRanked F.autos r ranked root) top
+      (ap (λ (x : Symbol). field_place g (symbol_slots x)) (sym shown.symbol) ∙ h));
+  lacks = λ h.
+      subst (λ (x : Symbol). StructLacks hs (symbol_shape x) g) (sym shown.symbol)
+      (lacked g (ap (λ (x : Symbol). field_place g (symbol_slots x)) (sym shown.symbol) ∙ h));
+}
 
 -- first to the one place, then to the other
 pub shown_on : (F G H : Forest) (r p q : ℕ) → IsShown F r p G → IsShown G r q H → IsShown F r q H
 shown_on F G H r p q a b =
     record {
-      count = b.count ∙ a.count;
+      root = b.root;
+      top = b.top;
       vars = b.vars ∙ a.vars;
-      tops = b.tops;
       symbol = b.symbol ∙ a.symbol;
       wide = b.wide ∙ a.wide;
       leaves = b.leaves;
@@ -161,5 +139,5 @@ shown_on F G H r p q a b =
 
 -- what was shown is shown of the forest itself
 pub shown_self : (F G : Forest) (r p : ℕ) → IsShown F r p G → IsShown G r p G
-shown_self F G r p a = record
-    { count = refl; vars = refl; tops = a.tops; symbol = refl; wide = refl; leaves = a.leaves }
+shown_self F G r p a =
+    record { root = a.root; top = a.top; vars = refl; symbol = refl; wide = refl; leaves = a.leaves }

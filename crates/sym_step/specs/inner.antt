@@ -1,3 +1,4 @@
+pub mod Leading
 pub mod Needing
 pub mod Opening
 pub mod Stepping

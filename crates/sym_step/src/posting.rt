@@ -1,6 +1,6 @@
 // One step of a canonical forest along an edge.
 
-ghost use Rattle.std.specs.Prelude.{◌≡◌, ◌≤◌, ℕ, true, [], ◌∷◌, length, IfOk};
+ghost use Rattle.std.specs.Prelude.{◌≡◌, ◌≤◌, true, [], ◌∷◌, length, IfOk};
 ghost use Rattle.fore_base.specs.Lists.{Every};
 ghost use Rattle.par_kit.specs.Crews.{IsJobs};
 ghost use Rattle.fa_core.specs.Boxes.{IsTableOf};
@@ -11,7 +11,6 @@ ghost use Rattle.fa_core.specs.Faces.{IsGiving};
 ghost use Rattle.fa_split.specs.Divided.{forests};
 ghost use Rattle.fa_join.specs.Joinable.{NoneJoinable};
 ghost use Rattle.c_cfg.specs.Ranges.{EdgeFits};
-ghost use Rattle.c_cfg.specs.declared.graph.Instr.TheVariants.{Free};
 ghost use Rattle.sym_core.specs.Cases.{AllCases, CaseOf, IsTrueBad};
 ghost use Rattle.sym_core.specs.Explicit.{IsExplicit};
 ghost use Rattle.sym_core.specs.Kept.{Keeps};
@@ -38,7 +37,7 @@ use std::thread::Threads;
 /// What the edge makes of the members of a canonical forest: each goes on into a member of a `next`, or meets the fault
 /// of a Bad in which it stands, or does not pass the edge. Each member of a `next` comes so, and each member of a Bad
 /// meets its fault. A quiet edge gives at most one `next`. The crew runs 1 to 64 jobs and has no bearing on the answer.
-/// All this is by the insides of the table. Err is want of memory. A Free is taken so far with the empty table alone.
+/// All this is by the insides of the table. Err is want of memory.
 pub fn post<R: Threads + Sync, G: Gate>(
     rt: &R,
     alloc: Global,
@@ -50,7 +49,6 @@ pub fn post<R: Threads + Sync, G: Gate>(
     requires jobs { IsJobs crew.now.jobs }
     requires canonical { IsCanonical forest.now.face forest.now.forest }
     requires face { forest.now.face ≡ table.now.face }
-    requires freed { (b : ℕ) → edge.now.instr ≡ Free b → table.now.defs ≡ [] }
     requires fits { EdgeFits (length forest.now.forest.vars) (length forest.now.forest.data_vars)
         forest.now.face.shapes.structs
         edge.now }
