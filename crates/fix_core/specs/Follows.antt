@@ -1,7 +1,8 @@
 -- Which abstract states follow one another: what an edge makes of a forest, folded and abstracted at loop heads.
 use Rattle.std.specs.Prelude.{◌≡◌, ℕ, List, [], length, Bool, true, false, Some, None}
-use Rattle.fore_base.specs.Lists.{Paired}
+use Rattle.fore_base.specs.Lists.{Every, Paired}
 use Rattle.fore_base.specs.declared.store.Store.{Store}
+use Rattle.ta_core.specs.Auto.{IsRanked}
 use Rattle.ta_core.specs.Language.{HasSameLanguage}
 use Rattle.fa_core.specs.Boxes.{Boxes}
 use Rattle.fa_core.specs.Canonical.{IsCanonical}
@@ -39,10 +40,11 @@ module _ (T : Boxes) where
   abbrev pub passed_by : Edge → Store → Pass
   passed_by e s = gstep T.face.shapes.structs e s
 
-  -- M is a case of the edge from F, sound and canonical: its members come from F by the edge, and it keeps the box
-  -- edges that the edge does not need
+  -- M is a case of the edge from F, sound and canonical, with rules that have as many children as their symbols: its
+  -- members come from F by the edge, and it keeps the box edges that the edge does not need
   pub record IsCase (F : Forest) (e : Edge) (M : Forest) : Type 0 where
     pub sound : IsSound T.face M
+    pub ranked : Every IsRanked M.autos
     pub canonical : IsCanonical T.face M
     pub true_case : CaseOf T.face T.defs F e M
     pub keeps : Keeps T.face T.defs F e M

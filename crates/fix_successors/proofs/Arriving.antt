@@ -5,6 +5,7 @@ use Rattle.std.proofs.Common.{arith, inl, inr, true≢false}
 use Rattle.fore_base.specs.declared.store.Store.{Store}
 use Rattle.fore_base.specs.Lists.{IsIn, Every, Paired}
 use Rattle.fore_base.proofs.ListLemmas.{paired_same}
+use Rattle.ta_core.specs.Auto.{IsRanked}
 use Rattle.ta_core.specs.Language.{HasSameLanguage}
 use Rattle.fa_core.specs.Boxes.{Boxes}
 use Rattle.fa_core.specs.Canonical.{IsCanonical}
@@ -108,7 +109,13 @@ module _ (T : Boxes) (g : ControlGraph) (k : ℕ) (F : Forest) (e : Edge) where
   -- at a loop head
 
   case_is : (M : SoundForest) → IsSound T.face M.forest → IsRawCase T g F e M → IsCase T F e M.forest
-  case_is M sound c = record { sound = sound; canonical = c.normal.canonical; true_case = c.true_case; keeps = c.keeps }
+  case_is M sound c = record {
+    sound = sound;
+    ranked = c.ranked;
+    canonical = c.normal.canonical;
+    true_case = c.true_case;
+    keeps = c.keeps;
+  }
 
   settled_each : (Ms : List SoundForest) (made : List AbstractState) → is_head g e.to ≡ true
       → Every (IsRawCase T g F e) Ms → Paired (IsSettling T g k) Ms made
@@ -265,10 +272,11 @@ module _ (T : Boxes) (g : ControlGraph) (k : ℕ) (F : Forest) (e : Edge) where
   pub raw_cases : (face : Face) (Ms : List SoundForest) → face ≡ T.face → HasItsVars g F
       → Every (λ (s : SoundForest). IsCanonical s.face s.forest) Ms → Every (λ (s : SoundForest). Reduced s.forest) Ms
       → Every (λ (s : SoundForest). s.face ≡ face) Ms → Every (λ (s : SoundForest). HasAsMany F s.forest) Ms
+      → Every (λ (s : SoundForest). Every IsRanked s.forest.autos) Ms
       → Every (CaseOf face T.defs F e) (forests Ms) → Every (Keeps face T.defs F e) (forests Ms)
       → Every (IsRawCase T g F e) Ms
-  raw_cases face [] is vars canonical reduced faces many true_cases keeps = tt
-  raw_cases face (M ∷ Ms) is vars canonical reduced faces many true_cases keeps =
+  raw_cases face [] is vars canonical reduced faces many ranked true_cases keeps = tt
+  raw_cases face (M ∷ Ms) is vars canonical reduced faces many ranked true_cases keeps =
       let own : M.face ≡ T.face = faces.0 ∙ is in (
         record {
           normal =
@@ -278,10 +286,11 @@ module _ (T : Boxes) (g : ControlGraph) (k : ℕ) (F : Forest) (e : Edge) where
                 reduced = reduced.0;
                 vars = record { vars = many.0.0 ∙ vars.vars; data_vars = many.0.1 ∙ vars.data_vars };
               };
+          ranked = ranked.0;
           true_case = subst (λ z. CaseOf z T.defs F e M.forest) is true_cases.0;
           keeps = subst (λ z. Keeps z T.defs F e M.forest) is keeps.0;
         },
-        raw_cases face Ms is vars canonical.1 reduced.1 faces.1 many.1 true_cases.1 keeps.1,
+        raw_cases face Ms is vars canonical.1 reduced.1 faces.1 many.1 ranked.1 true_cases.1 keeps.1,
       )
 
 module _ (T : Boxes) (g : ControlGraph) (k : ℕ) (e : Edge) (Ms : List SoundForest) where

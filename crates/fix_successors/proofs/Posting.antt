@@ -4,6 +4,7 @@ use Rattle.std.proofs.Common.{sym, ap, ◌∙◌, subst}
 use Rattle.fore_base.specs.Lists.{Every}
 use Rattle.fore_base.specs.declared.shape.Shapes.{Shapes}
 use Rattle.fore_base.proofs.ListLemmas.{every_weaker}
+use Rattle.ta_core.specs.Auto.{IsRanked}
 use Rattle.fa_core.specs.Boxes.{Boxes}
 use Rattle.fa_core.specs.Canonical.{IsCanonical}
 use Rattle.fa_core.specs.Covering.{Reduced}
@@ -43,14 +44,16 @@ pub post_is : (T : Boxes) (g : ControlGraph) (s : SoundForest) (e : Edge) (p : P
     → Every (λ (x : SoundForest). Reduced x.forest) p.next
     → Every (λ (x : SoundForest). x.face ≡ s.face) p.next
     → Every (λ (x : SoundForest). HasAsMany s.forest x.forest) p.next
+    → Every (λ (x : SoundForest). Every IsRanked x.forest.autos) p.next
     → NoneJoinable s.face.boxes (forests p.next)
     → (is_quiet e.instr ≡ true → length p.next ≤ 1)
     → Every (λ (b : Bad). b.at.face ≡ s.face) p.faults
     → IsPost T g s.forest e p
-post_is T g s e p n all keeps true_cases true_bads canonical reduced faces many apart quiet bad_faces = record {
+post_is T g s e p n all keeps true_cases true_bads canonical reduced faces many ranked apart quiet bad_faces = record {
   all = subst (λ z. AllCases z T.defs s.forest e (forests p.next) (bads p.faults)) n.face all;
   nexts = record {
-    each = raw_cases T g 0 s.forest e s.face p.next n.face n.vars canonical reduced faces many true_cases keeps;
+    each =
+        raw_cases T g 0 s.forest e s.face p.next n.face n.vars canonical reduced faces many ranked true_cases keeps;
     apart = subst (λ (z : Face). NoneJoinable z.boxes (forests p.next)) n.face apart;
     quiet = quiet;
   };

@@ -2,6 +2,7 @@
 use Rattle.std.specs.Prelude.{◌≡◌, ◌≤◌, ℕ, List, [], ◌∷◌, length, true, false, None, Some}
 use Rattle.fore_base.specs.declared.store.Store.{Store}
 use Rattle.fore_base.specs.Lists.{IsIn, Every, Paired}
+use Rattle.ta_core.specs.Auto.{IsRanked}
 use Rattle.fa_core.specs.Boxes.{Boxes}
 use Rattle.fa_core.specs.Canonical.{IsCanonical}
 use Rattle.fa_core.specs.Covering.{Reduced}
@@ -55,6 +56,7 @@ module _ (T : Boxes) where
     -- the forest is a case of the edge from F
     pub record IsRawCase (F : Forest) (e : Edge) (M : SoundForest) : Type 0 where
       pub normal : IsNormal T g M
+      pub ranked : Every IsRanked M.forest.autos
       pub true_case : CaseOf T.face T.defs F e M.forest
       pub keeps : Keeps T.face T.defs F e M.forest
 

@@ -1,11 +1,14 @@
 // The post of an edge: what it makes of the forest of a node.
 ghost use Rattle.std.specs.Prelude.{IfOk};
+ghost use Rattle.fore_base.specs.Lists.{Every};
+ghost use Rattle.ta_core.specs.Auto.{IsRanked};
 ghost use Rattle.c_cfg.specs.Ranges.{IsEdgeOf};
 ghost use Rattle.fix_successors.specs.Posting.{IsPost};
 ghost use Rattle.fix_successors.specs.Ready.{IsNormal};
 
 use crate::task::Task;
 use c_cfg::graph::Edge;
+use fa_sound::Sound;
 use fix_core::nodes::Due;
 use fore_base::memory::Mem;
 use par_kit::crew::Crew;
@@ -33,5 +36,15 @@ pub fn post_of<R: Threads + Sync>(task: &Task<'_, R>, due: &Due, edge: &Edge) ->
         task.table(),
         &alone,
     )?;
+    are_ranked(made.next.as_slice());
     Ok(made)
+}
+
+/// Does nothing, and says that the rules of each forest have as many children as their symbols.
+fn are_ranked(forests: &[Sound])
+    ensures { Every (λ s. Every IsRanked s.forest.autos) forests.now }
+{
+    for forest in forests {
+        forest.known();
+    }
 }

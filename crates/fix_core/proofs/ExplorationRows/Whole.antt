@@ -109,6 +109,7 @@ to_null : IsCase table (bare Uninit) e0 (bare Null)
 to_null =
     record {
       sound = null_sound;
+      ranked = tt;
       canonical = null_canonical;
       true_case = λ u m. true_case u m;
       keeps = λ d u b. keeps d u b;
@@ -140,6 +141,7 @@ still_null : IsCase table (bare Null) e2 (bare Null)
 still_null =
     record {
       sound = null_sound;
+      ranked = tt;
       canonical = null_canonical;
       true_case = λ u m. true_case u m;
       keeps = λ d u b. keeps d u b;
