@@ -1,15 +1,16 @@
 -- What is right for one file after another is right for what is asked, and what is right for that for the words.
-use Rattle.std.proofs.Common.{◌≤◌, ◌⊎◌, inl, inr, List, [], ◌∷◌, ◌++◌, ℕ, None, Some, sym, ◌∙◌, ap, subst, refl, arith}
+use Rattle.std.proofs.Common.{◌≡◌, ◌≤◌, ◌⊎◌, inl, inr, List, [], ◌∷◌, ◌++◌, ℕ, None, Some, sym, ◌∙◌, ap, subst, refl, arith}
 use Rattle.std.proofs.lemmas.List.{append_assoc}
 use Rattle.fore_base.specs.NamedFiles.{reading}
 use Rattle.fore_base.specs.Outside.{Rose}
 use Rattle.fore_base.specs.declared.named_files.NamedFile.{NamedFile}
 use Rattle.c_types.specs.Program.{Program}
+use Rattle.fa_core.specs.Boxes.{Boxes}
 use Rattle.c_types.specs.declared.mode.MallocMode.{MallocMode}
 use Rattle.fore_read.specs.Readings.{ShelfView, Reading, AreReadings, AreAtMost, ReadsAtMost}
 use Rattle.fore_read.specs.declared.fault.ReadFault.{ReadFault as Fault}
 use Rattle.fore_read.specs.declared.fault.ReadFault.TheVariants as fault
-use Rattle.fore_read.specs.Files.{GivesProgram, IsFileFault, AreRefusedBoxes}
+use Rattle.fore_read.specs.Files.{GivesProgram, IsFileFault, GivesTable, IsTableFile, AreBoxesFault, AreRefusedBoxes}
 use Rattle.fore_words.specs.declared.asked.Kind.{Kind}
 use Rattle.fore_words.specs.declared.asked.Settings.{Settings}
 use Rattle.fore_words.specs.declared.asked.Asked.{Asked}
@@ -19,8 +20,8 @@ use Rattle.fore_call.specs.declared.answer.Answer.{Answer}
 use Rattle.fore_call.specs.declared.answer.Answer.TheVariants.{Verified, Ran, Usage, Refused, ReadFault, NoMemory}
 use Rattle.fore_call.specs.Calls.{Request}
 use Rattle.fore_call.specs.Names.{LetsRead}
-use Rattle.fore_call.specs.Verdict.{IsRight, IsRightFor, ReadsOnly, AreUnused}
-use Rattle.fore_call.specs.inner.Judging.{IsBoxesAnswer, IsGeneratedAnswer, ReadsFor, answer_to}
+use Rattle.fore_call.specs.Verdict.{IsRight, IsRightFor, ReadsOnly}
+use Rattle.fore_call.specs.inner.Judging.{IsBoxesAnswer, IsVerdict, IsGeneratedAnswer, ReadsFor, answer_to}
 
 -- A file that is not taken
 
@@ -73,17 +74,23 @@ module _ (old mid new : ShelfView) (path : List ℕ) (p : Program) (gives : Give
   }
 
   -- what is right for the file of boxes is right for both
-  pub right_for_both : (a : Answer) → IsBoxesAnswer (from mid new) boxes p.shapes a
+  pub right_for_both : (a : Answer) → IsBoxesAnswer (from mid new) boxes p settings a
       → IsRightFor (from old new) (Verify path (Some boxes) settings) a
-  right_for_both (Verified verdict text) h = absurd h
+  right_for_both (Verified verdict text) h = record {
+    program = p;
+    table = h.1;
+    done = h.0;
+    gives = file_of_both h.0 h.2;
+    table_is = subst (λ told. IsTableFile told boxes p.shapes h.0 h.1) (reads.holds boxes) h.3;
+    has = h.4;
+  }
   right_for_both (Ran outcome) h = absurd h
   right_for_both Usage h = absurd h
   right_for_both (Refused why) h = inr (
     p,
     h.0,
     file_of_both h.0 h.1,
-    subst (λ told. AreRefusedBoxes told boxes p.shapes h.0 why ⊎ AreUnused told boxes p.shapes h.0 why)
-        (reads.holds boxes) h.2,
+    subst (λ told. AreRefusedBoxes told boxes p.shapes h.0 why) (reads.holds boxes) h.2,
   )
   right_for_both ReadFault h = inr (
     p,
@@ -107,6 +114,27 @@ module _ (old mid new : ShelfView) (path : List ℕ) (p : Program) (gives : Give
     let_come = lets_both h.done h.at_most;
     holds = λ q. h.holds q ∙ reads.holds q;
   }
+
+-- A file of boxes, by whose table a program is verified
+
+module _ (r : Reading) (boxes : List ℕ) (p : Program) (settings : Settings) where
+  -- the table has the structs of the program
+  pub structs_of_table : (t : Boxes) → GivesTable r boxes p.shapes t → t.face.shapes ≡ p.shapes
+  structs_of_table t h = ap (λ f. f.shapes) h.2.is.face
+
+  pub verdict_by_table : (t : Boxes) → GivesTable r boxes p.shapes t → (a : Answer) → IsVerdict t p settings a
+      → IsBoxesAnswer r boxes p settings a
+  verdict_by_table t given (Verified verdict text) h = (given.0, t, given.1, given.2, h)
+  verdict_by_table t given (Ran outcome) h = absurd h
+  verdict_by_table t given Usage h = absurd h
+  verdict_by_table t given (Refused why) h = absurd h
+  verdict_by_table t given ReadFault h = absurd h
+  verdict_by_table t given NoMemory h = tt
+
+  pub no_table : (f : Fault) → AreBoxesFault r boxes p.shapes f → IsBoxesAnswer r boxes p settings (answer_to f)
+  no_table (fault.Refused why) h = h
+  no_table fault.Failed h = h
+  no_table fault.Memory h = tt
 
 -- A generated program
 

@@ -38,11 +38,9 @@ use Rattle.fa_core.specs.Boxes.{Boxes}
 use Rattle.fore_read.specs.declared.fault.Refusal.TheVariants.{
   TooLong,
   Breaks,
-  NoGen,
   BoxesTooLong,
   BoxRule,
   BoxLimit,
-  NoBoxes,
 }
 use Rattle.fore_read.specs.Readings.{ShelfView, Reading}
 use Rattle.fore_read.specs.Files.{GivesProgram, IsTableFile}
@@ -59,6 +57,13 @@ use Rattle.fore_call.specs.Names.{file_of, boxes_of, LetsRead, LetRead, Names}
 use Rattle.fore_call.specs.Texts.{out_text, notes_text, status_of}
 use Rattle.fore_call.specs.Delivery.{IsUntouched, Wrote, IsCut, IsCutShort}
 use Rattle.fore_call.specs.Promises.{IsResult, IsRefusal, Answers}
+use Rattle.c_front.specs.declared.broken.Broken.{Broken}
+use Rattle.c_front.specs.Files.{IsProgramOf}
+use Rattle.fore_gen.specs.Programs.{program_text}
+use Rattle.fore_gen.specs.Boxes.{dll_box_text}
+use Rattle.fa_text.specs.Files.{IsFirst}
+use Rattle.fa_text.specs.declared.fault.BoxFault.TheVariants.{Rule}
+use Rattle.fore_report.specs.Reports.{IsReport}
 use Rattle.fore_call.specs.Tables.{no_boxes}
 use Rattle.fore_call.specs.Verdict.{IsRefused, IsReadFault, IsRightFor, IsRight, ReadsOnly, NothingFailed}
 
@@ -153,9 +158,6 @@ on_usage = refl
 on_long : notes_text (Refused TooLong) ≡ codes "refused K1 file" ++ 10 ∷ []
 on_long = refl
 
-on_gen : notes_text (Refused NoGen) ≡ codes "refused N1 file" ++ 10 ∷ []
-on_gen = refl
-
 on_long_boxes : notes_text (Refused BoxesTooLong) ≡ codes "refused K1 boxes" ++ 10 ∷ []
 on_long_boxes = refl
 
@@ -166,9 +168,6 @@ on_box_rule = refl
 on_box_limit : notes_text (Refused (BoxLimit 130)) ≡ codes "refused K6 line 130" ++ 10 ∷ []
 unfolding digits
 on_box_limit = refl
-
-on_boxes : notes_text (Refused NoBoxes) ≡ codes "refused N2 boxes" ++ 10 ∷ []
-on_boxes = refl
 
 abbrev at_place : Letter → ℕ → ℕ → ℕ → Answer
 at_place letter number line column =
@@ -284,15 +283,14 @@ no_verdict_on_a_run h = h
 no_outcome_for_a_verdict : IsRightFor idle plain (Ran (Ended 0)) → ⊥
 no_outcome_for_a_verdict h = h
 
-no_verdict_by_boxes : IsRightFor idle boxed (Verified Safe (codes "SAFE")) → ⊥
-no_verdict_by_boxes h = h
+no_verdict_unread : IsRightFor idle boxed (Verified Safe (codes "SAFE")) → ⊥
+no_verdict_unread h = cc (h.gives.given)
 
 no_outcome_by_boxes : IsRightFor idle boxed (Ran (Ended 0)) → ⊥
 no_outcome_by_boxes h = h
 
-nothing_generated : (IsRightFor idle generated_dll (Verified Safe []) → ⊥)
-    × (IsRightFor idle generated (Ran (Ended 0)) → ⊥)
-nothing_generated = (λ h. h.1.by, λ h. h)
+no_run_of_generation : IsRightFor idle generated (Ran (Ended 0)) → ⊥
+no_run_of_generation h = h
 
 -- the report on a generated program comes where no file was read
 no_file_for_generation : IsRightFor (from (gave []) (gave (of_x [] ∷ []))) generated (Verified Safe []) → ⊥
@@ -307,41 +305,45 @@ module _ (p : Program) (r : Reading) where
       → IsRightFor r (Run (codes "x.c") (1 ∷ []) 9 mode) (Ran (run p mode (1 ∷ []) 9))
   ran_in_the_mode mode gives = (p, gives, refl)
 
--- a generated program of doubly linked lists is refused by N1, with no file read, and nothing else is refused by it
-refused_generation : IsRefused idle generated_dll NoGen
-refused_generation = (tt, refl)
+-- a generated program is refused with no file read, and lists by no rule of boxes
+module _ (shapes : Shapes) (b : Broken) where
+  read_for_generation : IsRefused (from (gave []) (gave (of_x [] ∷ []))) generated (Breaks b) → ⊥
+  read_for_generation h = cc (h.1)
 
-read_for_generation : IsRefused (from (gave []) (gave (of_x [] ∷ []))) generated_dll NoGen → ⊥
-read_for_generation h = cc (h.1)
+  other_generations : (IsRefused idle generated (BoxRule 2 6) → ⊥) × (IsRefused idle generated BoxesTooLong → ⊥)
+  other_generations = (λ h. h.0.2, λ h. h.0)
 
-other_generations : (IsRefused idle generated NoGen → ⊥) × (IsRefused idle (Gen TreePhases 3) NoGen → ⊥)
-other_generations = (λ h. h.0, λ h. h.0)
-
-another_refusal : IsRefused idle generated BoxesTooLong → ⊥
-another_refusal h = h.0
-
-no_generation : IsRefused idle plain NoGen → ⊥
-no_generation h = h.2
+  dll_refused_by_boxes : (p : Program) → IsProgramOf (program_text DllPhases 3) p
+      → IsFirst dll_box_text p.shapes (Rule 2 6) → IsRefused idle generated_dll (BoxRule 2 6)
+  dll_refused_by_boxes p is first = ((p, is, first), refl)
 
 -- a file that is told is too long only if it is
 not_long : IsRefused (from (tells (codes "int") []) (tells (codes "int") [])) plain TooLong → ⊥
 not_long h = omega (arith, h.2.1)
 
 -- boxes are never the reason where none are asked for
-no_boxes_asked : (IsRefused idle plain BoxesTooLong → ⊥) × (IsRefused idle plain NoBoxes → ⊥)
-    × (IsRefused idle plain (BoxRule 2 6) → ⊥) × (IsRefused idle ran_x NoBoxes → ⊥)
-no_boxes_asked = (λ h. h.2, λ h. h.2, λ h. h.2, λ h. h.2)
+no_boxes_asked : (IsRefused idle plain BoxesTooLong → ⊥) × (IsRefused idle plain (BoxRule 2 6) → ⊥)
+    × (IsRefused idle ran_x (BoxLimit 6) → ⊥)
+no_boxes_asked = (λ h. h.2, λ h. h.2, λ h. h.2)
 
--- a file of boxes is refused only after the C file gave a program, and for a table only by N2
+-- the report by boxes is one by their table, over the structs of the program; a file of boxes is refused only after
+-- the C file gave a program
 module _ (p : Program) (t : Boxes) (r : Reading) where
-  unused : GivesProgram r (codes "x.c") (of_box ∷ []) p
+  by_the_table : GivesProgram r (codes "x.c") (of_box ∷ []) p
       → IsTableFile (r.before.holds (codes "x.box")) (codes "x.box") p.shapes (of_box ∷ []) t
-      → IsRefused r boxed NoBoxes
-  unused gives table = inr (p, of_box ∷ [], gives, inr (refl, t, table))
+      → IsReport t p usual (codes "SAFE") Safe → IsRightFor r boxed (Verified Safe (codes "SAFE"))
+  by_the_table gives table report = record {
+    program = p;
+    table = t;
+    done = of_box ∷ [];
+    gives = gives;
+    table_is = table;
+    has = report;
+  }
 
   too_long_boxes : GivesProgram (from (gave []) (gave (of_x (codes "int") ∷ []))) (codes "x.c") [] p
       → IsRefused (from (gave []) (gave (of_x (codes "int") ∷ []))) boxed BoxesTooLong
-  too_long_boxes gives = inr (p, [], gives, inl (refl, tt))
+  too_long_boxes gives = inr (p, [], gives, refl, tt)
 
 nothing_gives_no_program : (p : Program) (more : List NamedFile) → GivesProgram idle (codes "x.c") more p → ⊥
 nothing_gives_no_program p more h = cc (h.given)

@@ -32,37 +32,38 @@ use Rattle.c_front.specs.Files.{IsProgramOf, BreaksFirst}
 use Rattle.c_front.proofs.FileLaws.{one_program, program_or_breach}
 use Rattle.fore_base.specs.NamedFiles.{reading}
 use Rattle.fore_base.specs.declared.named_files.NamedFile.{NamedFile}
-use Rattle.fore_base.specs.declared.limits.TheConstants.{FILE_BYTES}
+use Rattle.fore_base.specs.declared.limits.TheConstants.{FILE_BYTES, BOX_FILE_BYTES}
+use Rattle.fore_base.specs.declared.shape.Shapes.{Shapes}
+use Rattle.fa_core.specs.Boxes.{Boxes}
+use Rattle.fa_text.specs.Files.{IsBoxFile, IsFirst}
+use Rattle.fa_text.specs.declared.fault.BoxFault.{BoxFault}
+use Rattle.fa_text.specs.declared.fault.BoxFault.TheVariants.{Rule, Limit}
 use Rattle.fore_read.specs.Readings.{Reading, AreReadings, HasFailed, IsRead}
-use Rattle.fore_read.specs.Files.{GivesProgram, RefusesFile}
+use Rattle.fore_read.specs.Files.{GivesProgram, RefusesFile, IsTableFile, BreaksBoxes, AreRefusedBoxes}
 use Rattle.fore_read.specs.declared.fault.Refusal.{Refusal}
 use Rattle.fore_read.specs.declared.fault.Refusal.TheVariants.{
   TooLong,
   Breaks,
-  NoGen,
   BoxesTooLong,
   BoxRule,
   BoxLimit,
-  NoBoxes,
 }
 use Rattle.fore_report.specs.Reports.{IsReport}
 use Rattle.fore_report.specs.declared.verdict.Verdict.{Verdict}
 use Rattle.fore_report.specs.declared.verdict.Verdict.TheVariants.{Safe, Unsafe, Unknown}
 use Rattle.fore_words.specs.declared.asked.Kind.{Kind}
-use Rattle.fore_words.specs.declared.asked.Kind.TheVariants.{DllPhases}
 use Rattle.fore_words.specs.declared.asked.Settings.{Settings}
 use Rattle.fore_words.specs.declared.asked.Asked.{Asked}
 use Rattle.fore_words.specs.declared.asked.Asked.TheVariants.{Verify, Run, Gen}
-use Rattle.fore_words.specs.Words.{IsAsked, AsksToGen, AsksNothing}
+use Rattle.fore_words.specs.Words.{IsAsked, AsksNothing}
 use Rattle.fore_words.proofs.OneThing.{one_thing}
 use Rattle.fore_call.specs.declared.answer.Answer.{Answer}
 use Rattle.fore_call.specs.declared.answer.Answer.TheVariants.{Verified, Ran, Usage, Refused, ReadFault, NoMemory}
 use Rattle.fore_call.specs.Calls.{Request, Writing, Call}
 use Rattle.fore_call.specs.Delivery.{IsCutShort, Told, WroteNothing}
-use Rattle.fore_call.specs.Names.{Verifies, VerifiesByBoxes, Runs, Generates, file_of, boxes_of}
+use Rattle.fore_call.specs.Names.{Verifies, Runs, Generates, file_of, boxes_of}
 use Rattle.fore_call.specs.Promises.{IsResult, IsRefusal, Answers, Reported, SummedUp, Promises}
 use Rattle.fore_call.specs.Texts.{out_text, notes_text, run_status, verdict_status, status_of}
-use Rattle.fore_call.specs.Tables.{no_boxes}
 use Rattle.fore_call.specs.Verdict.{
   IsVerified,
   IsRun,
@@ -78,6 +79,10 @@ use Rattle.fore_call.specs.Verdict.{
   HasBytes,
   NamesProgram,
   NamesOther,
+  HasBoxBytes,
+  NamesBoth,
+  IsBoxText,
+  IsOtherBoxes,
 }
 
 -- Statuses of runs and of verdicts
@@ -126,6 +131,11 @@ verdict_ends Safe = inl refl
 verdict_ends Unsafe = inr (inl refl)
 verdict_ends Unknown = inr (inr refl)
 
+-- a text that has a table breaks no rule of boxes
+abbrev pub BreaksNone : Type 0
+BreaksNone = (text : List ℕ) (shapes : Shapes) (table : Boxes) (fault : BoxFault) → IsBoxFile text shapes table
+    → IsFirst text shapes fault → ⊥
+
 -- The answer by its status and by what was asked
 
 module _ (r : Request) where
@@ -134,7 +144,7 @@ module _ (r : Request) where
   at asked is a h = subst (λ other. IsRightFor r.reading other a) (one_thing r.words h.0 asked h.1 is) h.2
 
   not_ran : (o : Outcome) → Verifies r.words → IsRight r (Ran o) → ⊥
-  not_ran o v h = at (Verify v.0 None v.1) v.2 (Ran o) h
+  not_ran o v h = at (Verify v.0 v.1 v.2) v.3 (Ran o) h
 
   not_ran_generated : (o : Outcome) → Generates r.words → IsRight r (Ran o) → ⊥
   not_ran_generated o g h = at (Gen g.0 g.1) g.2 (Ran o) h
@@ -144,8 +154,8 @@ module _ (r : Request) where
 
   -- what was verified is a report of the program of the file
   pub verified_to : (v : Verdict) (text : List ℕ) → Verifies r.words → IsRight r (Verified v text)
-      → VerifiesTo r (λ p settings. IsReport (no_boxes p.shapes) p settings text v)
-  verified_to v text w h = (w.0, w.1, w.2, at (Verify w.0 None w.1) w.2 (Verified v text) h)
+      → VerifiesTo r (λ t p settings. IsReport t p settings text v)
+  verified_to v text w h = (w.0, w.1, w.2, w.3, at (Verify w.0 w.1 w.2) w.3 (Verified v text) h)
 
   -- or one of the generated program
   pub generated_to : (v : Verdict) (text : List ℕ) → Generates r.words → IsRight r (Verified v text)
@@ -215,8 +225,7 @@ module _ (r : Request) where
 
   verified_asks : (v : Verdict) (text : List ℕ) (asked : Asked) → IsAsked r.words asked
       → IsRightFor r.reading asked (Verified v text) → Verifies r.words ⊎ Runs r.words ⊎ Generates r.words
-  verified_asks v text (Verify path None settings) is right = inl (path, settings, is)
-  verified_asks v text (Verify path (Some boxes) settings) is right = absurd right
+  verified_asks v text (Verify path boxes settings) is right = inl (path, boxes, settings, is)
   verified_asks v text (Run path choices steps malloc) is right = absurd right
   verified_asks v text (Gen kind phases) is right = inr (inr (kind, phases, is))
 
@@ -367,11 +376,9 @@ module _ (r : Reading) (path bytes : List ℕ) (known : Known r path bytes) wher
   not_refused p short is (Breaks b) h =
       let same : h.2.0 ≡ bytes = read_known h.2.0 [] (subst (λ done. AreReadings r done) h.2.1 h.1) h.2.2 in
       program_or_breach bytes p b is (subst (λ l. BreaksFirst l b) same h.2.3)
-  not_refused p short is NoGen h = h.2
   not_refused p short is BoxesTooLong h = h.2
   not_refused p short is (BoxRule rule line) h = h.2
   not_refused p short is (BoxLimit line) h = h.2
-  not_refused p short is NoBoxes h = h.2
 
 abbrev path_in : Option (List ℕ) → List ℕ
 path_in (Some path) = path
@@ -460,13 +467,127 @@ module _ (r : Request) (bytes : List ℕ) (p : Program) (short : length bytes �
         absurd (no_read_fault r.reading (Run path choices steps malloc) well (run_here ReadFault h))
     due_for_run NoMemory h = inr refl
 
+-- A file of boxes whose bytes are known
+
+-- the bytes of the second reading
+abbrev second_bytes : List NamedFile → List ℕ
+second_bytes [] = []
+second_bytes (x ∷ []) = []
+second_bytes (x ∷ y ∷ ys) = y.bytes
+
+-- one reading is not two
+one_is_not_two : (r : Reading) (a b c : NamedFile) → AreReadings r (a ∷ []) → AreReadings r (b ∷ c ∷ []) → ⊥
+one_is_not_two r a b c one two =
+    omega (arith, ap length (sym one ∙ two), length-append r.before.given (a ∷ []),
+    length-append r.before.given (b ∷ c ∷ []))
+
+module _ (r : Reading) (boxes bytes : List ℕ) (known : HasBoxBytes r boxes bytes) where
+  -- the bytes that were read are those of the file
+  boxes_known : (file : NamedFile) (text : List ℕ) → AreReadings r (file ∷ reading boxes text ∷ [])
+      → IsRead (r.before.holds boxes) BOX_FILE_BYTES text → text ≡ bytes
+  boxes_known file text reads is = elim known [
+    | inl told ↦ subst (λ o. IfSome o (λ held. text ≡ held)) told is.held
+    | inr given ↦ ap second_bytes
+        (append_cancel_left r.before.given (file ∷ reading boxes text ∷ []) (given.0 ∷ reading boxes bytes ∷ [])
+        (sym reads ∙ given.1))
+  ]
+
+  -- a file of boxes that is refused as too long is
+  long_boxes_known : (file : NamedFile) → AreReadings r (file ∷ [])
+      → IfSome (r.before.holds boxes) (λ held. BOX_FILE_BYTES < length held) → BOX_FILE_BYTES < length bytes
+  long_boxes_known file one long = elim known [
+    | inl told ↦ subst (λ o. IfSome o (λ held. BOX_FILE_BYTES < length held)) told long
+    | inr given ↦ absurd (one_is_not_two r file given.0 (reading boxes bytes) one given.1)
+  ]
+
+module _ (r : Request) (path boxes bytes : List ℕ) (settings : Settings) (p : Program)
+    (named : NamesBoth r path boxes settings p bytes)
+    (well : ReadsWell r.reading (Verify path (Some boxes) settings)) (breaks_none : BreaksNone) where
+  abbrev both : Asked
+  both = Verify path (Some boxes) settings
+
+  file_known : Known r.reading path named.program.bytes
+  file_known = known_of r both named.program.bytes path named.program.file refl
+
+  abbrev both_here : (a : Answer) → ForAsked r a → IsRightFor r.reading both a
+  both_here = at r both named.program.file.is_asked
+
+  -- the program that was read is that of the file
+  same_program : (q : Program) (done : List NamedFile) → GivesProgram r.reading path done q → p ≡ q
+  same_program q done gives =
+      one_program named.program.bytes p q named.program.is
+      (program_known r.reading path named.program.bytes file_known q done gives)
+
+  -- the table that was read is that of the bytes
+  table_known : (q : Program) (done : List NamedFile) (t : Boxes) → GivesProgram r.reading path done q
+      → IsTableFile (r.reading.before.holds boxes) boxes q.shapes done t → IsBoxText bytes p.shapes t
+  table_known q done t gives is =
+      let reads = subst (λ (xs : List NamedFile). AreReadings r.reading (reading path gives.bytes ∷ xs)) is.given
+          gives.given in
+      let same = boxes_known r.reading boxes bytes named.bytes_are (reading path gives.bytes) is.text reads is.read in
+      record {
+        within = subst (λ (b : List ℕ). length b ≤ BOX_FILE_BYTES) same is.read.within;
+        is = subst (λ (b : List ℕ). IsBoxFile b p.shapes t) same
+            (subst (λ (x : Program). IsBoxFile is.text x.shapes t) (sym (same_program q done gives)) is.is);
+      }
+
+  -- the rule that was broken is one of the bytes
+  rule_known : (q : Program) (done : List NamedFile) (f : BoxFault) → GivesProgram r.reading path done q
+      → BreaksBoxes (r.reading.before.holds boxes) boxes q.shapes done f → IsFirst bytes p.shapes f
+  rule_known q done f gives h =
+      let reads = subst (λ (xs : List NamedFile). AreReadings r.reading (reading path gives.bytes ∷ xs)) h.given
+          gives.given in
+      let same = boxes_known r.reading boxes bytes named.bytes_are (reading path gives.bytes) h.text reads h.read in
+      subst (λ (b : List ℕ). IsFirst b p.shapes f) same
+      (subst (λ (x : Program). IsFirst h.text x.shapes f) (sym (same_program q done gives)) h.first)
+
+  -- where the bytes are those of a table, they are not refused
+  module _ (t : Boxes) (is : IsBoxText bytes p.shapes t) where
+    boxes_not_refused : (q : Program) (done : List NamedFile) → GivesProgram r.reading path done q → (why : Refusal)
+        → AreRefusedBoxes (r.reading.before.holds boxes) boxes q.shapes done why → ⊥
+    boxes_not_refused q done gives BoxesTooLong h =
+        let one = subst (λ (xs : List NamedFile). AreReadings r.reading (reading path gives.bytes ∷ xs)) h.0
+            gives.given in
+        omega (arith, is.within,
+        long_boxes_known r.reading boxes bytes named.bytes_are (reading path gives.bytes) one h.1)
+    boxes_not_refused q done gives (BoxRule rule line) h =
+        breaks_none bytes p.shapes t (Rule rule line) is.is (rule_known q done (Rule rule line) gives h)
+    boxes_not_refused q done gives (BoxLimit line) h =
+        breaks_none bytes p.shapes t (Limit line) is.is (rule_known q done (Limit line) gives h)
+    boxes_not_refused q done gives TooLong h = h
+    boxes_not_refused q done gives (Breaks b) h = h
+
+    refused_by_none : (why : Refusal) → IsRightFor r.reading both (Refused why) → ⊥
+    refused_by_none why (inl h) =
+        not_refused r.reading path named.program.bytes file_known p named.program.within named.program.is why h
+    refused_by_none why (inr h) = boxes_not_refused h.0 h.1 h.2 why h.3
+
+    due_for_boxes : (a : Answer) → IsRight r a → IsResult (status_of a) ⊎ (status_of a ≡ 7)
+    due_for_boxes (Verified v text) h = inl (verdict_ends v)
+    due_for_boxes (Ran o) h = absurd (both_here (Ran o) h)
+    due_for_boxes Usage h = absurd (h both named.program.file.is_asked)
+    due_for_boxes (Refused why) h = absurd (refused_by_none why (both_here (Refused why) h))
+    due_for_boxes ReadFault h = absurd (no_read_fault r.reading both well (both_here ReadFault h))
+    due_for_boxes NoMemory h = inr refl
+
+  -- where they are not, nothing is verified
+  boxes_not_verified : IsOtherBoxes bytes p.shapes → (v : Verdict) (text : List ℕ)
+      → IsVerified r.reading both v text → ⊥
+  boxes_not_verified other v text h =
+      let is = table_known h.program h.done h.table h.gives h.table_is in elim other [
+        | inl long ↦ omega (arith, long, is.within)
+        | inr first ↦ breaks_none bytes p.shapes h.table first.0 is.is first.1
+      ]
+
 -- a file that is to be refused is neither verified nor run
 module _ (r : Request) (bytes : List ℕ) (other : IsOther bytes) where
   others_not_verified : (asked : Asked) → HasBytes r asked bytes → (v : Verdict) (text : List ℕ)
       → IsVerified r.reading asked v text → ⊥
   others_not_verified (Verify path None settings) file v text h =
       no_program r.reading path bytes (known_of r (Verify path None settings) bytes path file refl) other h.0 [] h.1
-  others_not_verified (Verify path (Some boxes) settings) file v text h = h
+  others_not_verified (Verify path (Some boxes) settings) file v text h =
+      no_program r.reading path bytes (known_of r (Verify path (Some boxes) settings) bytes path file refl) other
+      h.program h.done h.gives
   others_not_verified (Run path choices steps malloc) file v text h = h
   others_not_verified (Gen kind phases) file v text h = cc (file.of)
 
@@ -481,7 +602,7 @@ module _ (c : Call) (a : Answer) (right : IsRight c.request a) (reads : ReadsOnl
     (status : (c.status ≡ status_of a) ⊎ (c.status ≡ 6) ⊎ (c.status ≡ 7))
     (told : c.status ≡ status_of a → Told c.out c.notes a)
     (written : c.status ≡ 6 → IsCutShort c.out c.notes a)
-    (memory : c.status ≡ 7 → WroteNothing c.out c.notes) where
+    (memory : c.status ≡ 7 → WroteNothing c.out c.notes) (breaks_none : BreaksNone) where
   own : (n : ℕ) → c.status ≡ n → n < 6 → c.status ≡ status_of a
   own n e less = own_status c.status n a status e less
 
@@ -596,11 +717,20 @@ module _ (c : Call) (a : Answer) (right : IsRight c.request a) (reads : ReadsOnl
         (others_not_verified c.request named.bytes named.other named.asked named.file)
         (others_not_run c.request named.bytes named.other named.asked named.file)
 
-    refuses_boxes : VerifiesByBoxes c.request.words → IsRefusal c.status
-    refuses_boxes v = refusal (Verify v.0 (Some v.1) v.2) v.3 (λ v text h. h) (λ o h. h)
+    judges_by_boxes : (p : Program) (t : Boxes) (path boxes bytes : List ℕ) (settings : Settings)
+        → NamesBoth c.request path boxes settings p bytes → IsBoxText bytes p.shapes t
+        → IsResult c.status ⊎ (c.status ≡ 7)
+    judges_by_boxes p t path boxes bytes settings named is =
+        mostly IsResult
+        (due_for_boxes c.request path boxes bytes settings p named
+        (reads_well (Verify path (Some boxes) settings) named.program.file.is_asked) breaks_none t is a right)
 
-    refuses_dll : (phases : ℕ) → AsksToGen c.request.words DllPhases phases → IsRefusal c.status
-    refuses_dll phases g = refusal (Gen DllPhases phases) g (λ v text h. h.1.by) (λ o h. h)
+    refuses_boxes : (p : Program) (path boxes bytes : List ℕ) (settings : Settings)
+        → NamesBoth c.request path boxes settings p bytes → IsOtherBoxes bytes p.shapes → IsRefusal c.status
+    refuses_boxes p path boxes bytes settings named other =
+        refusal (Verify path (Some boxes) settings) named.program.file.is_asked
+        (boxes_not_verified c.request path boxes bytes settings p named
+        (reads_well (Verify path (Some boxes) settings) named.program.file.is_asked) breaks_none other) (λ o h. h)
 
     judges_gen : Generates c.request.words → IsResult c.status ⊎ IsRefusal c.status
     judges_gen g = elim (mostly (λ m. IsResult m ⊎ (m ≡ 4)) (
@@ -630,9 +760,11 @@ module _ (c : Call) (a : Answer) (right : IsRight c.request a) (reads : ReadsOnl
     judges = λ p path settings named steady. judges steady p path settings named;
     runs = λ p path choices steps malloc named steady. runs steady p path choices steps malloc named;
     refuses = λ named steady. refuses steady named;
-    refuses_boxes = λ asked steady. refuses_boxes steady asked;
+    judges_by_boxes = λ p t path boxes bytes settings named is steady.
+        judges_by_boxes steady p t path boxes bytes settings named is;
+    refuses_boxes = λ p path boxes bytes settings named other steady.
+        refuses_boxes steady p path boxes bytes settings named other;
     judges_gen = λ asked steady. judges_gen steady asked;
-    refuses_dll = λ phases asked steady. refuses_dll steady phases asked;
     reads_only = reads;
     status = status_below_eight c.status a status;
   }

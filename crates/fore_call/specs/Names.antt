@@ -8,14 +8,10 @@ use Rattle.fore_words.specs.declared.asked.Asked.{Asked}
 use Rattle.fore_words.specs.declared.asked.Asked.TheVariants.{Verify, Run, Gen}
 use Rattle.fore_words.specs.Words.{IsAsked, AsksToVerify, AsksToRun, AsksToGen}
 
--- the words ask to verify a file, without a file of boxes
+-- the words ask to verify a file, with a file of boxes or without one
 abbrev pub Verifies : List (List ℕ) → Type 0
-Verifies words = (path : List ℕ) × (settings : Settings) × AsksToVerify words path None settings
-
--- the words ask to verify a file, with a file of boxes
-abbrev pub VerifiesByBoxes : List (List ℕ) → Type 0
-VerifiesByBoxes words =
-    (path : List ℕ) × (boxes : List ℕ) × (settings : Settings) × AsksToVerify words path (Some boxes) settings
+Verifies words =
+    (path : List ℕ) × (boxes : Option (List ℕ)) × (settings : Settings) × AsksToVerify words path boxes settings
 
 -- the words ask to run a file
 abbrev pub Runs : List (List ℕ) → Type 0

@@ -4,14 +4,14 @@ use Rattle.c_types.specs.declared.mode.MallocMode.{MallocMode}
 use Rattle.c_types.specs.declared.outcome.Outcome.{Outcome}
 use Rattle.c_types.specs.Program.{Program}
 use Rattle.c_types.specs.Runs.{run}
+use Rattle.fa_core.specs.Boxes.{Boxes}
 use Rattle.fore_read.specs.declared.fault.Refusal.{Refusal}
 use Rattle.fore_report.specs.Reports.{IsReport}
 use Rattle.fore_report.specs.declared.verdict.Verdict.{Verdict}
 use Rattle.fore_report.specs.declared.verdict.Verdict.TheVariants.{Safe, Unsafe, Unknown}
-use Rattle.fore_words.specs.declared.asked.Kind.TheVariants.{DllPhases}
 use Rattle.fore_words.specs.declared.asked.Settings.{Settings}
 use Rattle.fore_words.specs.declared.asked.Asked.TheVariants.{Verify, Run}
-use Rattle.fore_words.specs.Words.{AsksToGen, AsksNothing}
+use Rattle.fore_words.specs.Words.{AsksNothing}
 use Rattle.fore_call.specs.declared.answer.Answer.{Answer}
 use Rattle.fore_call.specs.declared.answer.Answer.TheVariants.{Verified, Ran, Usage, Refused, ReadFault}
 use Rattle.fore_call.specs.declared.status.TheConstants.{
@@ -26,13 +26,15 @@ use Rattle.fore_call.specs.declared.status.TheConstants.{
 }
 use Rattle.fore_call.specs.Calls.{Call}
 use Rattle.fore_call.specs.Delivery.{IsCutShort, Told, WroteNothing}
-use Rattle.fore_call.specs.Names.{Verifies, VerifiesByBoxes, Runs, Generates}
+use Rattle.fore_call.specs.Names.{Verifies, Runs, Generates}
 use Rattle.fore_call.specs.Texts.{run_status, status_of}
-use Rattle.fore_call.specs.Tables.{no_boxes}
 use Rattle.fore_call.specs.Verdict.{
   IsRight,
   NothingFailed,
   NamesProgram,
+  NamesBoth,
+  IsBoxText,
+  IsOtherBoxes,
   NamesOther,
   ReadsOnly,
   VerifiesTo,
@@ -53,11 +55,11 @@ pub record Answers (c : Call) (due : Answer) : Type 0 where
   pub status : c.status ≡ status_of due
   pub told : Told c.out c.notes due
 
--- exactly the report with this verdict was written, on the program of the bytes that were read in this call; it was
--- verified by the empty table
+-- exactly the report with this verdict was written, on the program of the bytes that were read in this call, by the
+-- table of the file of boxes, where the words name one
 pub record Reported (c : Call) (verdict : Verdict) : Type 0 where
   pub text : List ℕ
-  pub means : VerifiesTo c.request (λ p settings. IsReport (no_boxes p.shapes) p settings text verdict)
+  pub means : VerifiesTo c.request (λ t p settings. IsReport t p settings text verdict)
   pub told : Told c.out c.notes (Verified verdict text)
 
 -- exactly the report with this verdict was written, on the generated program
@@ -83,7 +85,7 @@ pub record Promises (c : Call) : Type 0 where
   pub asked : IsResult c.status → Verifies c.request.words ⊎ Runs c.request.words ⊎ Generates c.request.words
   -- the words ask nothing
   pub usage : c.status ≡ USAGE → Answers c Usage
-  -- a file breaks the printed rule, or there is no answer yet to what is asked
+  -- a file breaks the printed rule
   pub refused : c.status ≡ REFUSED → (why : Refusal) × Answers c (Refused why)
   -- reading a file has failed
   pub not_read : c.status ≡ NOT_READ → Answers c ReadFault
@@ -105,10 +107,14 @@ pub record Promises (c : Call) : Type 0 where
       → NothingFailed c → (c.status ≡ run_status (run p malloc choices steps)) ⊎ (c.status ≡ NO_MEMORY)
   -- a C file that is to be refused is refused
   pub refuses : NamesOther c.request → NothingFailed c → IsRefusal c.status
-  -- what is to be verified with boxes is refused, for now
-  pub refuses_boxes : VerifiesByBoxes c.request.words → NothingFailed c → IsRefusal c.status
-  -- a generated program of doubly linked lists is refused, for now
-  pub refuses_dll : (phases : ℕ) → AsksToGen c.request.words DllPhases phases → NothingFailed c → IsRefusal c.status
+  -- with a file of boxes that gives a table, too
+  pub judges_by_boxes : (p : Program) (t : Boxes) (path boxes bytes : List ℕ) (settings : Settings)
+      → NamesBoth c.request path boxes settings p bytes → IsBoxText bytes p.shapes t
+      → NothingFailed c → IsResult c.status ⊎ (c.status ≡ NO_MEMORY)
+  -- a file of boxes that is to be refused is refused
+  pub refuses_boxes : (p : Program) (path boxes bytes : List ℕ) (settings : Settings)
+      → NamesBoth c.request path boxes settings p bytes → IsOtherBoxes bytes p.shapes
+      → NothingFailed c → IsRefusal c.status
   -- a generated program gets a verdict, or is refused
   pub judges_gen : Generates c.request.words → NothingFailed c → IsResult c.status ⊎ IsRefusal c.status
   -- no file is read but the C file, and then the file of boxes, that the words name, each at most once

@@ -9,11 +9,9 @@ use Rattle.fore_read.specs.declared.fault.Refusal.{Refusal}
 use Rattle.fore_read.specs.declared.fault.Refusal.TheVariants.{
   TooLong,
   Breaks,
-  NoGen,
   BoxesTooLong,
   BoxRule,
   BoxLimit,
-  NoBoxes,
 }
 use Rattle.fore_report.specs.Texts.{run_text}
 use Rattle.fore_report.specs.declared.verdict.Verdict.{Verdict}
@@ -46,11 +44,9 @@ box_text letter number line =
 abbrev pub refusal_text : Refusal → List ℕ
 refusal_text TooLong = ended_line (codes "refused K1 file")
 refusal_text (Breaks b) = broken_text b
-refusal_text NoGen = ended_line (codes "refused N1 file")
 refusal_text BoxesTooLong = ended_line (codes "refused K1 boxes")
 refusal_text (BoxRule rule line) = box_text (codes "B") rule line
 refusal_text (BoxLimit line) = box_text (codes "K") 6 line
-refusal_text NoBoxes = ended_line (codes "refused N2 boxes")
 
 -- what goes to standard output
 abbrev pub out_text : Answer → List ℕ

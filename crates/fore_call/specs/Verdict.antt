@@ -2,7 +2,7 @@
 use Rattle.std.specs.Prelude.{◌≡◌, ◌≤◌, ◌<◌, ◌⊎◌, ⊤, ℕ, List, [], ◌∷◌, Option, Some, None, length}
 use Rattle.fore_base.specs.NamedFiles.{reading}
 use Rattle.fore_base.specs.Outside.{Rose}
-use Rattle.fore_base.specs.declared.limits.TheConstants.{FILE_BYTES}
+use Rattle.fore_base.specs.declared.limits.TheConstants.{FILE_BYTES, BOX_FILE_BYTES}
 use Rattle.fore_base.specs.declared.named_files.NamedFile.{NamedFile}
 use Rattle.fore_base.specs.declared.shape.Shapes.{Shapes}
 use Rattle.c_types.specs.declared.outcome.Outcome.{Outcome}
@@ -11,8 +11,9 @@ use Rattle.c_types.specs.Runs.{run}
 use Rattle.c_front.specs.declared.broken.Broken.{Broken}
 use Rattle.c_front.specs.Files.{IsProgramOf, BreaksFirst}
 use Rattle.fa_core.specs.Boxes.{Boxes}
+use Rattle.fa_text.specs.Files.{IsBoxFile, IsFirst}
+use Rattle.fa_text.specs.declared.fault.BoxFault.{BoxFault}
 use Rattle.fore_read.specs.declared.fault.Refusal.{Refusal}
-use Rattle.fore_read.specs.declared.fault.Refusal.TheVariants as refusal
 use Rattle.fore_read.specs.Readings.{Reading, AreReadings, HasFailed}
 use Rattle.fore_read.specs.Files.{GivesProgram, RefusesFile, FailsFile, IsTableFile, AreRefusedBoxes}
 use Rattle.fore_report.specs.Reports.{IsReport}
@@ -29,22 +30,32 @@ use Rattle.fore_call.specs.Generated.{IsGenerated, RefusesGenerated}
 use Rattle.fore_call.specs.Names.{file_of, Names, LetRead}
 use Rattle.fore_call.specs.Tables.{no_boxes}
 
--- the file of boxes of this path has a table, and is refused, since no command uses boxes yet
-abbrev pub AreUnused : Option (List ℕ) → List ℕ → Shapes → List NamedFile → Refusal → Type 0
-AreUnused told boxes shapes done why = (why ≡ refusal.NoBoxes) × (t : Boxes) × IsTableFile told boxes shapes done t
-
 -- By what the shelf told before and after the call.
 module _ (r : Reading) where
   -- the file of this path was read and nothing else, and its bytes are those of a program with the property
   abbrev pub HasProgram : List ℕ → (Program → Type 0) → Type 0
   HasProgram path P = (p : Program) × GivesProgram r path [] p × P p
 
+  -- the files of both paths were read, in this order, and nothing else; their bytes are those of a program, and of a
+  -- table over its structs, with the property
+  pub record HasBoth (path boxes : List ℕ) (P : Boxes → Program → Type 0) : Type 0 where
+    pub program : Program
+    pub table : Boxes
+    pub done : List NamedFile
+    pub gives : GivesProgram r path done program
+    pub table_is : IsTableFile (r.before.holds boxes) boxes program.shapes done table
+    pub has : P table program
+
+  -- the C file gives a program, and the file of boxes a table, where one is named; else the table has no boxes
+  abbrev pub HasFiles : List ℕ → Option (List ℕ) → (Boxes → Program → Type 0) → Type 0
+  HasFiles path None P = HasProgram path (λ p. P (no_boxes p.shapes) p)
+  HasFiles path (Some boxes) P = HasBoth path boxes P
+
   -- the file of the first path gives a program, and that of the other is then refused over its structs
   abbrev pub RefusesBoxes : List ℕ → List ℕ → Refusal → Type 0
   RefusesBoxes path boxes why =
       (p : Program) × (done : List NamedFile) × GivesProgram r path done p
-      × (AreRefusedBoxes (r.before.holds boxes) boxes p.shapes done why
-      ⊎ AreUnused (r.before.holds boxes) boxes p.shapes done why)
+      × AreRefusedBoxes (r.before.holds boxes) boxes p.shapes done why
 
   -- the file of the first path gives a program, and the reading of the other has failed
   abbrev pub FailsBoxes : List ℕ → List ℕ → Type 0
@@ -66,9 +77,8 @@ module _ (r : Reading) where
 
   -- this is the report, with this verdict, on what is asked
   abbrev pub IsVerified : Asked → Verdict → List ℕ → Type 0
-  IsVerified (Verify path None settings) verdict text =
-      HasProgram path (λ p. IsReport (no_boxes p.shapes) p settings text verdict)
-  IsVerified (Verify path (Some boxes) settings) verdict text = ⊥
+  IsVerified (Verify path boxes settings) verdict text =
+      HasFiles path boxes (λ t p. IsReport t p settings text verdict)
   IsVerified (Run path choices steps malloc) verdict text = ⊥
   IsVerified (Gen kind phases) verdict text = AreReadings r [] × IsGenerated kind phases verdict text
 
@@ -100,12 +110,13 @@ IsRight r (Refused why) = ForAsked r (Refused why)
 IsRight r ReadFault = ForAsked r ReadFault
 IsRight r NoMemory = ⊤
 
--- The words ask to verify a file without boxes, and the bytes that the shelf gave for it in this call are the text of a
--- program p of which this is true: P p settings, with the settings of the words.
-abbrev pub VerifiesTo : Request → (Program → Settings → Type 0) → Type 0
+-- The words ask to verify a file, and the bytes that the shelf gave for it in this call are the text of a program p, and
+-- those of the file of boxes, where one is named, that of a table t over its structs, of which this is true: P t p
+-- settings, with the settings of the words. Where none is named the table has no boxes.
+abbrev pub VerifiesTo : Request → (Boxes → Program → Settings → Type 0) → Type 0
 VerifiesTo r P =
-    (path : List ℕ) × (settings : Settings) × AsksToVerify r.words path None settings
-    × HasProgram r.reading path (λ p. P p settings)
+    (path : List ℕ) × (boxes : Option (List ℕ)) × (settings : Settings) × AsksToVerify r.words path boxes settings
+    × HasFiles r.reading path boxes (λ t p. P t p settings)
 
 -- The words ask for a generated program, no file was read, and this is the report on it.
 abbrev pub GeneratesTo : Request → Verdict → List ℕ → Type 0
@@ -151,3 +162,25 @@ pub record NamesOther (r : Request) : Type 0 where
   pub bytes : List ℕ
   pub file : HasBytes r asked bytes
   pub other : IsOther bytes
+
+-- the file of boxes of this path has these bytes: the shelf tells that it holds them, or gave them as the second
+-- reading of this call
+abbrev pub HasBoxBytes : Reading → List ℕ → List ℕ → Type 0
+HasBoxBytes r boxes bytes =
+    (r.before.holds boxes ≡ Some bytes)
+    ⊎ ((file : NamedFile) × AreReadings r (file ∷ reading boxes bytes ∷ []))
+
+-- the words ask this of a C file of this program and of a file of boxes of these bytes
+pub record NamesBoth (r : Request) (path boxes : List ℕ) (settings : Settings) (p : Program) (bytes : List ℕ) : Type 0
+    where
+  pub program : NamesProgram r (Verify path (Some boxes) settings) p
+  pub bytes_are : HasBoxBytes r.reading boxes bytes
+
+-- the bytes are those of a table over these structs
+pub record IsBoxText (bytes : List ℕ) (shapes : Shapes) (t : Boxes) : Type 0 where
+  pub within : length bytes ≤ BOX_FILE_BYTES
+  pub is : IsBoxFile bytes shapes t
+
+-- the bytes are too many for a file of boxes, or break a rule of boxes over these structs
+abbrev pub IsOtherBoxes : List ℕ → Shapes → Type 0
+IsOtherBoxes bytes shapes = (BOX_FILE_BYTES < length bytes) ⊎ ((fault : BoxFault) × IsFirst bytes shapes fault)

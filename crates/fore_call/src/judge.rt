@@ -4,6 +4,7 @@ ghost use Rattle.fore_read.specs.Readings.{reading_of, ReadsAtMost};
 ghost use Rattle.fore_words.specs.Words.{IsInRange};
 ghost use Rattle.fore_words.specs.declared.asked.Asked.TheVariants as ask;
 ghost use Rattle.fore_call.specs.Calls.{request_of};
+ghost use Rattle.fore_call.specs.Tables.{no_boxes};
 ghost use Rattle.fore_call.specs.Verdict.{IsRight, IsRightFor, ReadsOnly};
 ghost use Rattle.fore_call.specs.inner.Judging.{
   SettingsFit,
@@ -19,10 +20,10 @@ use crate::generated::generated;
 use c_machine::run::run;
 use c_types::mode::MallocMode;
 use c_types::program::Typed;
+use fa_core::table::BoxTable;
 use fore_base::memory::Mem;
-use fore_base::shape::Shapes;
 use fore_base::shelf::Shelf;
-use fore_read::{Refusal, read_program, read_table};
+use fore_read::{read_program, read_table};
 use fore_report::report;
 use fore_words::{Asked, Settings, WordsFault, read_words};
 use par_kit::gate::Gate;
@@ -69,7 +70,7 @@ fn answer_asked<R: Threads + Sync, L: Shelf, G: Gate>(
             path,
             boxes: Some(boxes),
             settings,
-        } => refuse_boxes(alloc, path.as_str(), boxes.as_str(), *settings, shelf),
+        } => verify_by_boxes(rt, alloc, path.as_str(), boxes.as_str(), *settings, shelf, gate),
         Asked::Run {
             path,
             choices,
@@ -97,37 +98,66 @@ fn verify_file<R: Threads + Sync, L: Shelf, G: Gate>(
     ensures reads { ReadsAtMost (reading_of L.Shelf shelf.old shelf.new) path.now }
 {
     match read_program(alloc, shelf, path) {
-        Ok(program) => verify(rt, alloc, &program, settings, gate),
+        Ok(program) => verify_plain(rt, alloc, &program, settings, gate),
         Err(fault) => answer_to(fault),
     }
 }
 
-/// The answer to a file that is to be verified with a file of boxes: a refusal, for now.
-fn refuse_boxes<L: Shelf>(
+/// The answer to a program that is to be verified without boxes.
+fn verify_plain<R: Threads + Sync, G: Gate>(
+    rt: &R,
+    alloc: Global,
+    program: &Typed,
+    settings: Settings,
+    gate: &G,
+) -> Answer
+    requires { SettingsFit settings }
+    ensures { IsVerdict (no_boxes program.now.shapes) program.now settings result }
+{
+    match empty_table(alloc, &program.shapes) {
+        Ok(table) => verify(rt, alloc, program, &table, settings, gate),
+        Err(_) => Answer::NoMemory,
+    }
+}
+
+/// The answer to a file that is to be verified with a file of boxes.
+fn verify_by_boxes<R: Threads + Sync, L: Shelf, G: Gate>(
+    rt: &R,
     alloc: Global,
     path: &str,
     boxes: &str,
-    _settings: Settings,
+    settings: Settings,
     shelf: &mut L,
+    gate: &G,
 ) -> Answer
+    requires { SettingsFit settings }
     ensures right { IsRightFor (reading_of L.Shelf shelf.old shelf.new)
-        (ask.Verify path.now (Some boxes.now) _settings) result }
+        (ask.Verify path.now (Some boxes.now) settings) result }
     ensures reads { ReadsFor (reading_of L.Shelf shelf.old shelf.new)
-        (ask.Verify path.now (Some boxes.now) _settings) }
+        (ask.Verify path.now (Some boxes.now) settings) }
 {
     match read_program(alloc, shelf, path) {
-        Ok(program) => answer_boxes(alloc, boxes, &program.shapes, shelf),
+        Ok(program) => answer_boxes(rt, alloc, boxes, &program, settings, shelf, gate),
         Err(fault) => answer_to(fault),
     }
 }
 
-/// The answer to a file of boxes over the structs of a program.
-fn answer_boxes<L: Shelf>(alloc: Global, path: &str, shapes: &Shapes, shelf: &mut L) -> Answer
-    ensures right { IsBoxesAnswer (reading_of L.Shelf shelf.old shelf.new) path.now shapes.now result }
+/// The answer to a file of boxes by which a program is to be verified.
+fn answer_boxes<R: Threads + Sync, L: Shelf, G: Gate>(
+    rt: &R,
+    alloc: Global,
+    path: &str,
+    program: &Typed,
+    settings: Settings,
+    shelf: &mut L,
+    gate: &G,
+) -> Answer
+    requires { SettingsFit settings }
+    ensures right { IsBoxesAnswer (reading_of L.Shelf shelf.old shelf.new) path.now program.now settings result }
     ensures reads { ReadsAtMost (reading_of L.Shelf shelf.old shelf.new) path.now }
 {
-    match read_table(alloc, shelf, path, shapes) {
-        Ok(_) => Answer::Refused(Refusal::NoBoxes),
+    match read_table(alloc, shelf, path, &program.shapes) {
+        Ok(table) => verify(rt, alloc, program, &table, settings, gate),
         Err(fault) => answer_to(fault),
     }
 }
@@ -167,18 +197,20 @@ fn run_program(
     }
 }
 
-/// The answer to a program that is to be verified without boxes.
+/// The answer to a program that is to be verified by a table of boxes.
 fn verify<R: Threads + Sync, G: Gate>(
     rt: &R,
     alloc: Global,
     program: &Typed,
+    table: &BoxTable,
     settings: Settings,
     gate: &G,
 ) -> Answer
-    requires { SettingsFit settings }
-    ensures { IsVerdict program.now settings result }
+    requires settings { SettingsFit settings }
+    requires shapes { table.now.face.shapes ≡ program.now.shapes }
+    ensures { IsVerdict table.now program.now settings result }
 {
-    match reported(rt, alloc, program, settings, gate) {
+    match reported(rt, alloc, program, table, settings, gate) {
         Ok(answer) => answer,
         Err(_) => Answer::NoMemory,
     }
@@ -189,14 +221,15 @@ fn reported<R: Threads + Sync, G: Gate>(
     rt: &R,
     alloc: Global,
     program: &Typed,
+    table: &BoxTable,
     settings: Settings,
     gate: &G,
 ) -> Mem<Answer>
-    requires { SettingsFit settings }
-    ensures { IfOk result (IsVerdict program.now settings) }
+    requires settings { SettingsFit settings }
+    requires shapes { table.now.face.shapes ≡ program.now.shapes }
+    ensures { IfOk result (IsVerdict table.now program.now settings) }
 {
-    let table = empty_table(alloc, &program.shapes)?;
-    let (graph, found) = explored(rt, alloc, program, &table, settings, gate)?;
-    let (verdict, text) = report(alloc, &found, settings, &table, &graph, program)?;
+    let (graph, found) = explored(rt, alloc, program, table, settings, gate)?;
+    let (verdict, text) = report(alloc, &found, settings, table, &graph, program)?;
     Ok(Answer::Verified { verdict, text })
 }

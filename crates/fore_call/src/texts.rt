@@ -29,11 +29,9 @@ pub fn refusal_line(alloc: Global, why: Refusal) -> Mem<Text>
     match why {
         Refusal::TooLong => Text::from_slice(alloc, b"refused K1 file\n"),
         Refusal::Breaks(broken) => broken_line(alloc, broken),
-        Refusal::NoGen => Text::from_slice(alloc, b"refused N1 file\n"),
         Refusal::BoxesTooLong => Text::from_slice(alloc, b"refused K1 boxes\n"),
         Refusal::BoxRule { rule, line } => box_line(alloc, b"B", rule, line),
         Refusal::BoxLimit { line } => box_line(alloc, b"K", 6, line),
-        Refusal::NoBoxes => Text::from_slice(alloc, b"refused N2 boxes\n"),
     }
 }
 

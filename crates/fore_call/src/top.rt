@@ -4,6 +4,7 @@ ghost use Rattle.fore_call.specs.Promises.{Promises};
 
 use crate::deliver::deliver;
 use crate::judge::answer;
+use fa_text::laws::tables_break_none;
 use fore_base::shelf::Shelf;
 use fore_base::sink::Sink;
 use par_kit::gate::Gate;
@@ -19,9 +20,8 @@ use std::thread::Threads;
 /// printed fault. `USAGE`: the words do not read. `UNKNOWN`: neither was found, since as many abstract states are
 /// kept as may be, or since the choices of the printed abstract trace meet no fault in up to 1,000,000 steps; or
 /// the run has too few choices, or a wrong one, or still runs. `REFUSED`: the C file has more than 1,048,576 bytes,
-/// or breaks a rule; or it does not, and the file of boxes has more than 65,536, or breaks a rule, or breaks none,
-/// since boxes are not used yet; or programs are not generated yet. `NOT_READ`: a file could not be read.
-/// `NOT_WRITTEN`: a sink failed. `NO_MEMORY`: want of memory, and nothing was written.
+/// or breaks a rule; or it does not, and the file of boxes has more than 65,536, or breaks a rule. `NOT_READ`: a file
+/// could not be read. `NOT_WRITTEN`: a sink failed. `NO_MEMORY`: want of memory, and nothing was written.
 pub fn forester<R: Threads + Sync, L: Shelf, K: Sink, E: Sink, G: Gate>(
     rt: &R,
     alloc: Global,
@@ -38,6 +38,7 @@ pub fn forester<R: Threads + Sync, L: Shelf, K: Sink, E: Sink, G: Gate>(
       status = result;
     }) }
 {
+    tables_break_none();
     let due = answer(rt, alloc, words, shelf, gate);
     deliver(alloc, due, out, notes)
 }

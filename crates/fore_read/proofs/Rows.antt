@@ -11,11 +11,9 @@ use Rattle.fore_read.specs.declared.fault.ReadFault.TheVariants.{Failed, Memory}
 use Rattle.fore_read.specs.declared.fault.Refusal.TheVariants.{
   TooLong,
   Breaks,
-  NoGen,
   BoxesTooLong,
   BoxRule,
   BoxLimit,
-  NoBoxes,
 }
 use Rattle.fore_read.specs.Readings.{
   ShelfView,
@@ -135,12 +133,10 @@ module _ (b : Broken) where
   breaks_unread h = cc (h.1)
 
 -- no other reason is one of a C file
-others_of_files : (done : List NamedFile) → (IsRefusedFile None (codes "x.c") done NoGen → ⊥)
-    × (IsRefusedFile None (codes "x.c") done BoxesTooLong → ⊥)
+others_of_files : (done : List NamedFile) → (IsRefusedFile None (codes "x.c") done BoxesTooLong → ⊥)
     × (IsRefusedFile None (codes "x.c") done (BoxRule 2 6) → ⊥)
     × (IsRefusedFile None (codes "x.c") done (BoxLimit 6) → ⊥)
-    × (IsRefusedFile None (codes "x.c") done NoBoxes → ⊥)
-others_of_files done = (λ h. h, λ h. h, λ h. h, λ h. h, λ h. h)
+others_of_files done = (λ h. h, λ h. h, λ h. h)
 
 -- the same of a file of boxes
 module _ (shapes : Shapes) where
@@ -182,9 +178,7 @@ module _ (shapes : Shapes) where
   others_of_boxes : (done : List NamedFile) (b : Broken)
       → (AreRefusedBoxes None (codes "x.box") shapes done TooLong → ⊥)
       × (AreRefusedBoxes None (codes "x.box") shapes done (Breaks b) → ⊥)
-      × (AreRefusedBoxes None (codes "x.box") shapes done NoGen → ⊥)
-      × (AreRefusedBoxes None (codes "x.box") shapes done NoBoxes → ⊥)
-  others_of_boxes done b = (λ h. h, λ h. h, λ h. h, λ h. h)
+  others_of_boxes done b = (λ h. h, λ h. h)
 
   -- a fault wants a count that rose, and want of memory nothing
   failed_boxes : AreBoxesFault (from (failed 0) (failed 1)) (codes "x.box") shapes Failed

@@ -12,11 +12,9 @@ use Rattle.fore_read.specs.declared.fault.ReadFault.TheVariants.{Refused, Failed
 use Rattle.fore_read.specs.declared.fault.Refusal.TheVariants.{
   TooLong,
   Breaks,
-  NoGen,
   BoxesTooLong,
   BoxRule,
   BoxLimit,
-  NoBoxes,
 }
 use Rattle.fore_read.specs.Readings.{Reading, AreReadings, IsRead}
 use Rattle.fore_read.specs.Files.{GivesProgram, IsFileFault, GivesTable, AreBoxesFault}
@@ -34,11 +32,9 @@ module _ (r : Reading) (path bytes : List ℕ) (given : AreReadings r (reading p
   file_fault (Ok p) h = tt
   file_fault (Err (Refused (Breaks b))) h = (reading path bytes ∷ [], given, (bytes, refl, read, h))
   file_fault (Err (Refused TooLong)) h = absurd h
-  file_fault (Err (Refused NoGen)) h = absurd h
   file_fault (Err (Refused BoxesTooLong)) h = absurd h
   file_fault (Err (Refused (BoxRule rule line))) h = absurd h
   file_fault (Err (Refused (BoxLimit line))) h = absurd h
-  file_fault (Err (Refused NoBoxes)) h = absurd h
   file_fault (Err Failed) h = absurd h
   file_fault (Err Memory) h = tt
 
@@ -60,8 +56,6 @@ module _ (r : Reading) (path text : List ℕ) (shapes : Shapes) (given : AreRead
       (reading path text ∷ [], given, record { text = text; given = refl; read = read; first = h })
   boxes_fault (Err (Refused TooLong)) h = absurd h
   boxes_fault (Err (Refused (Breaks b))) h = absurd h
-  boxes_fault (Err (Refused NoGen)) h = absurd h
   boxes_fault (Err (Refused BoxesTooLong)) h = absurd h
-  boxes_fault (Err (Refused NoBoxes)) h = absurd h
   boxes_fault (Err Failed) h = absurd h
   boxes_fault (Err Memory) h = tt

@@ -30,11 +30,9 @@ abbrev pub IsRefusedFile : Option (List ℕ) → List ℕ → List NamedFile →
 IsRefusedFile told path done refusal.TooLong = (done ≡ []) × IsTooLong told FILE_BYTES
 IsRefusedFile told path done (refusal.Breaks b) =
     (bytes : List ℕ) × (done ≡ reading path bytes ∷ []) × IsRead told FILE_BYTES bytes × BreaksFirst bytes b
-IsRefusedFile told path done refusal.NoGen = ⊥
 IsRefusedFile told path done refusal.BoxesTooLong = ⊥
 IsRefusedFile told path done (refusal.BoxRule rule line) = ⊥
 IsRefusedFile told path done (refusal.BoxLimit line) = ⊥
-IsRefusedFile told path done refusal.NoBoxes = ⊥
 
 -- nothing but the file of this path was read, and it is refused
 abbrev pub RefusesFile : Reading → List ℕ → Refusal → Type 0
@@ -77,8 +75,6 @@ AreRefusedBoxes told path shapes done (refusal.BoxRule rule line) =
 AreRefusedBoxes told path shapes done (refusal.BoxLimit line) = BreaksBoxes told path shapes done (Limit line)
 AreRefusedBoxes told path shapes done refusal.TooLong = ⊥
 AreRefusedBoxes told path shapes done (refusal.Breaks b) = ⊥
-AreRefusedBoxes told path shapes done refusal.NoGen = ⊥
-AreRefusedBoxes told path shapes done refusal.NoBoxes = ⊥
 
 -- what was read is the file of this path, and gives the table
 abbrev pub GivesTable : Reading → List ℕ → Shapes → Boxes → Type 0

@@ -12,16 +12,12 @@ pub enum Refusal {
     TooLong,
     /// The first rule that the C file breaks.
     Breaks(Broken),
-    /// N1: programs are not generated yet.
-    NoGen,
     /// K1: the file of boxes has more bytes than the limit.
     BoxesTooLong,
     /// The number of the first rule of boxes that the file of boxes breaks, and the line.
     BoxRule { rule: u8, line: u32 },
     /// K6: the file of boxes has too many boxes. The first line of the first that is too many.
     BoxLimit { line: u32 },
-    /// N2: no command uses boxes yet.
-    NoBoxes,
 }
 
 /// Why a file is not taken.

@@ -38,7 +38,6 @@ pub fn report(
     program: &Typed,
 ) -> Mem<(Verdict, Text)>
     requires shapes { graph.now.shapes ≡ table.now.face.shapes }
-    requires empty { table.now.defs ≡ [] }
     requires lowered { LowerOf program.now settings.malloc graph.now }
     requires explored { IsExplored table.now graph.now settings.height settings.budget found.now }
     ensures { IfOk result (λ made.

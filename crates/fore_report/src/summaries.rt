@@ -1,5 +1,5 @@
 //! The report on a generated program.
-ghost use Rattle.std.specs.Prelude.{◌≡◌, ◌++◌, [], IfOk, OnOk};
+ghost use Rattle.std.specs.Prelude.{◌≡◌, ◌++◌, IfOk, OnOk};
 ghost use Rattle.c_cfg.specs.Lowering.{LowerOf};
 ghost use Rattle.fix_core.specs.Explorations.{IsExplored};
 ghost use Rattle.fore_report.specs.Summaries.{
@@ -38,7 +38,6 @@ pub fn summary(
     program: &Typed,
 ) -> Mem<(Verdict, Text)>
     requires shapes { graph.now.shapes ≡ table.now.face.shapes }
-    requires empty { table.now.defs ≡ [] }
     requires lowered { LowerOf program.now settings.malloc graph.now }
     requires explored { IsExplored table.now graph.now settings.height settings.budget found.now }
     ensures { IfOk result (λ made.

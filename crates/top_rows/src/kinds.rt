@@ -4,7 +4,8 @@
 // - `call WORDS | FILE`: of the words over the file x.c.
 // - `lines WORDS | LINES`: of the words over a file with these lines in its main, of which the first is line 3.
 // - `until WORDS | FILE | LAST`: the same as `call`, and of standard output only what stands before LAST.
-// - `boxes READ WORDS | FILE | BOXES`: over the files x.c and x.box, where this read fails.
+// - `boxes READ WORDS | FILE | BOXES | LAST`: over the files x.c and x.box, where this read fails; where there is a LAST,
+//   of standard output only what stands before it.
 // - `changing WORDS | FIRST | LATER`: over files that all have the first bytes at the first read, and then the others.
 // - `failing MOST READ OUT NOTES WORDS | FILE`: where a put takes at most MOST bytes, and these reads and puts fail.
 // - `prefixes STATUSES FIRST LAST WORDS | FILE | BOXES`: over each beginning of the last file, of FIRST to LAST bytes.
@@ -102,7 +103,10 @@ fn with_boxes<R: Threads + Sync>(
         Some(boxes.as_slice()),
         ends,
     )?;
-    shown(alloc, &told)
+    match others.get(1) {
+        Some(last) => shown_until(alloc, &told, last),
+        None => shown(alloc, &told),
+    }
 }
 
 fn changing<R: Threads + Sync>(
