@@ -1,5 +1,7 @@
 pub mod Arriving
 pub mod Exits
+pub mod Freeing
 pub mod Images
 pub mod Posting
 pub mod Ready
+pub mod inner

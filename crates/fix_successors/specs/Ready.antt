@@ -9,6 +9,7 @@ use Rattle.c_cfg.specs.Graphs.{ControlGraph}
 use Rattle.c_cfg.specs.Ranges.{IsEdgeOf}
 use Rattle.fix_core.specs.Follows.{HasItsVars}
 use Rattle.fix_successors.specs.Exits.{AreExits}
+use Rattle.fix_successors.specs.Freeing.{FreesPlainly}
 
 -- a graph and a table, the height and the budget; and the numbers of the edges of each location
 pub record Job : Type 0 where
@@ -25,8 +26,7 @@ pub record IsReady (j : Job) : Type 0 where
   pub entry : 0 < j.graph.locations
   pub edges : Every (IsEdgeOf j.graph) j.graph.edges
   pub shapes : j.graph.shapes ≡ j.table.face.shapes
-  pub no_boxes : j.table.defs ≡ []
-  pub no_faces : j.table.face.boxes ≡ []
+  pub freed : FreesPlainly j.table j.graph
   pub exits : AreExits j.graph (length j.graph.edges) j.exits
 
 -- a canonical and reduced forest over the table's face, with the graph's variables
