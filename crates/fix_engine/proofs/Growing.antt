@@ -1,11 +1,11 @@
 -- An exploration with one node more.
 use Rattle.std.proofs.Common.{◌≡◌, ◌⊎◌, ℕ, suc, zero, ◌+◌, ◌<◌, ◌≤◌, List, [], ◌∷◌, ◌++◌, length, Some}
-use Rattle.std.proofs.Common.{Bool, true, false, nat_eq, if◌then◌else◌, refl, sym, ap, ◌∙◌, subst, arith, inl, inr}
+use Rattle.std.proofs.Common.{Bool, true, false, nat_eq, if◌then◌else◌, refl, sym, ap, ap₂, ◌∙◌, subst, arith, inl, inr}
 use Rattle.std.proofs.lemmas.Bool.{eqb-true, eq-eqb}
 use Rattle.std.proofs.lemmas.Option.{none-some, slice_get_within}
 use Rattle.fore_base.specs.declared.fault.Fault.{Fault as Kind}
 use Rattle.fore_base.specs.declared.store.Store.{Store}
-use Rattle.fore_base.specs.Lists.{Every}
+use Rattle.fore_base.specs.Lists.{IsIn, Every}
 use Rattle.fa_core.specs.Boxes.{Boxes}
 use Rattle.fa_core.specs.Covering.{Covers}
 use Rattle.fa_core.specs.declared.forest.Forest.{Forest}
@@ -14,11 +14,11 @@ use Rattle.c_cfg.specs.Edges.{Pass, Passed, Faulted, Halted, NotPassed}
 use Rattle.c_cfg.specs.Graphs.{ControlGraph}
 use Rattle.fix_core.specs.declared.nodes.Node.{Node}
 use Rattle.fix_core.specs.States.{AbstractState}
-use Rattle.fix_core.specs.Follows.{Arrives, IsStateAt, Settles, passed_by}
+use Rattle.fix_core.specs.Follows.{Settles, passed_by}
 use Rattle.fix_core.specs.Explorations.{IsNode, IsEdge, is_head, IsChild, NoLater, FollowsEarlier, IsHoused}
 use Rattle.fix_core.specs.Explorations.{IsCared, IsCalm}
 use Rattle.fix_core.specs.Explorations.{EdgeDone, EarlierDone, CalmUpTo, Done, IsApart, Exploration}
-use Rattle.fix_successors.specs.Arriving.{AreOfTwoCases}
+use Rattle.fix_successors.specs.Arriving.{Arrival, AreApart, IsArrival}
 use Rattle.fix_engine.specs.inner.Taking.{child, Grows, IsMid}
 use Rattle.fix_core.proofs.Lists.{some_same, length_push, get_more, get_push, at_within, in_left, in_right}
 use Rattle.fix_core.proofs.Lists.{every_in}
@@ -100,38 +100,24 @@ instead_elsewhere old n j F less = here (nat_eq j n) refl
     here true is = absurd (omega (arith, less, eqb-true j n is))
     here false is = refl
 
+abbrev pair : AbstractState → Forest → Arrival
+pair a G = record { state = a; grouped = G }
+
+same_arrival : (a b : AbstractState) (G H : Forest) → a ≡ b → G ≡ H → pair a G ≡ pair b H
+same_arrival a b G H s t = ap₂ pair s t
+
 module _ (T : Boxes) (g : ControlGraph) (k : ℕ) where
-  -- what the case of a state was regrouped into
-  abbrev grouped_of : (head : Bool) (F : Forest) (e : Edge) (a : AbstractState) → IsStateAt T head k F e a → Forest
-  grouped_of true F e a st = st.grouped
-  grouped_of false F e a st = a.forest
-
-  groups_of : (head : Bool) (F : Forest) (e : Edge) (a : AbstractState) (st : IsStateAt T head k F e a) (M : Forest)
-      → a.middle ≡ Some M
-      → Settles T k M (grouped_of head F e a st) a
-  groups_of true F e a st M is =
-      subst (λ z. Settles T k z st.grouped a) (some_same st.middle M (sym st.settles.middle ∙ is)) st.settles
-  groups_of false F e a st M is = absurd (none-some M (sym st.no_middle ∙ is))
-
-  -- states of two cases are apart, whatever they were regrouped into
-  two_apart : (e : Edge) (a b : AbstractState) (G H : Forest) → AreOfTwoCases T g e a b → IsApart T g k e a b G H
-  two_apart e a b G H two = record {
-    joinable = two.joinable;
-    quiet_at = λ q. absurd (two.not_quiet q);
-    quiet_same = λ q. absurd (two.not_quiet q);
-    middles = λ M N is js. inr (two.middles M N is js);
-  }
-
   -- one more state of edge c of node `at`
-  module _ (nodes : List Node) (at c : ℕ) (before : List AbstractState) (mid : IsMid T g k nodes at c before)
+  module _ (nodes : List Node) (at c : ℕ) (before : List Arrival) (mid : IsMid T g k nodes at c before)
       (parent : Node) (is : IsNode nodes at parent) (e : Edge) (is_edge : IsEdge g c e)
       (from : e.from ≡ parent.head.location)
-      (calm : IsCalm T parent e) (a : AbstractState) (arrives : Arrives T g (is_head g e.to) k parent.state.forest e a)
-      (apart : Every (λ b. AreOfTwoCases T g e b a) before)
-      (fresh : (j : ℕ) (m : Node) → IsNode nodes j m → m.head.location ≡ e.to → Covers m.state.forest a.forest → ⊥)
+      (calm : IsCalm T parent e) (a : Arrival) (arrival : IsArrival T g k parent.state.forest e a)
+      (apart : Every (λ b. AreApart T g k e b a) before)
+      (fresh : (j : ℕ) (m : Node) → IsNode nodes j m → m.head.location ≡ e.to → Covers m.state.forest a.state.forest
+      → ⊥)
     where
       abbrev new : Node
-      new = child at c e a
+      new = child at c e a.state
 
       abbrev more : List Node
       more = nodes ++ new ∷ []
@@ -163,7 +149,7 @@ module _ (T : Boxes) (g : ControlGraph) (k : ℕ) where
         number = c;
         edge = e;
         is_edge = is_edge;
-        follows = record { from = sym from; to = refl; child = new_child; choice = refl; state = arrives };
+        follows = record { from = sym from; to = refl; child = new_child; choice = refl; state = arrival.arrives };
       }
 
       follow : (j : ℕ) (n : Node) → 0 < j → IsNode more j n → FollowsEarlier T g k more j n
@@ -176,11 +162,11 @@ module _ (T : Boxes) (g : ControlGraph) (k : ℕ) where
       -- of two nodes the later one is new, or none is
       data Two (i j : ℕ) (m n : Node) : Type 0 where
         both_old : IsNode nodes i m → IsNode nodes j n → Two i j m n
-        later_new : IsNode nodes i m → n ≡ new → Two i j m n
+        later_new : IsNode nodes i m → j ≡ length nodes → n ≡ new → Two i j m n
 
       two : (i j : ℕ) (m n : Node) → i < j → IsNode more i m → IsNode more j n → Two i j m n
       two i j m n less h l = elim (get_push nodes new i m h) [
-        | inl old ↦ elim (get_push nodes new j n l) [ inl also ↦ both_old old also | inr p ↦ later_new old p.1 ]
+        | inl old ↦ elim (get_push nodes new j n l) [ inl also ↦ both_old old also | inr p ↦ later_new old p.0 p.1 ]
         | inr p ↦ absurd (omega (arith, p.0, less, slice_get_within more j n l, length_push nodes new))
       ]
 
@@ -189,7 +175,7 @@ module _ (T : Boxes) (g : ControlGraph) (k : ℕ) where
           → Covers m.state.forest n.state.forest → ⊥
       fresh_more i j m n less h l there cov = elim (two i j m n less h l) [
         | both_old p q ↦ mid.explored.fresh i j m n less p q there cov
-        | later_new p q ↦ fresh i m p (there ∙ ap (λ z. z.head.location) q)
+        | later_new p last q ↦ fresh i m p (there ∙ ap (λ z. z.head.location) q)
             (subst (λ z. Covers m.state.forest z.state.forest) q cov)
       ]
 
@@ -204,7 +190,7 @@ module _ (T : Boxes) (g : ControlGraph) (k : ℕ) where
           → IsChild n q f → NoLater p d q f
       order i j m n p d q f less h l cm cn = elim (two i j m n less h l) [
         | both_old x y ↦ mid.explored.order i j m n p d q f less x y cm cn
-        | later_new x y ↦
+        | later_new x last y ↦
             let w = new_is n q f y cn in
             subst (λ z. NoLater p d z f) w.0 (subst (λ z. NoLater p d at z) w.1 (mid.last i m p d x cm))
       ]
@@ -258,17 +244,14 @@ module _ (T : Boxes) (g : ControlGraph) (k : ℕ) where
             subst (λ z. CalmUpTo T g z d) (parent_is q p (sym v.0) hp) (subst (CalmUpTo T g parent) v.1 here)
       ]
 
-      abbrev own_grouped : Forest
-      own_grouped = grouped_of (is_head g e.to) parent.state.forest e a arrives.state
-
       abbrev grouped : ℕ → Forest
-      grouped = instead mid.explored.grouped (length nodes) own_grouped
+      grouped = instead mid.explored.grouped (length nodes) a.grouped
 
-      grouped_new : (j : ℕ) → j ≡ length nodes → grouped j ≡ own_grouped
-      grouped_new j same = ap grouped same ∙ instead_there mid.explored.grouped (length nodes) own_grouped
+      grouped_new : (j : ℕ) → j ≡ length nodes → grouped j ≡ a.grouped
+      grouped_new j same = ap grouped same ∙ instead_there mid.explored.grouped (length nodes) a.grouped
 
       grouped_old : (j : ℕ) (n : Node) → IsNode nodes j n → grouped j ≡ mid.explored.grouped j
-      grouped_old j n h = instead_elsewhere mid.explored.grouped (length nodes) j own_grouped
+      grouped_old j n h = instead_elsewhere mid.explored.grouped (length nodes) j a.grouped
           (slice_get_within nodes j n h)
 
       groups : (j : ℕ) (n : Node) (M : Forest) → IsNode more j n → n.state.middle ≡ Some M
@@ -276,11 +259,10 @@ module _ (T : Boxes) (g : ControlGraph) (k : ℕ) where
       groups j n M h m = elim (get_push nodes new j n h) [
         | inl old ↦ subst (λ z. Settles T k M z n.state) (sym (grouped_old j n old)) (mid.explored.groups j n M old m)
         | inr w ↦
-            let own : a.middle ≡ Some M = sym (ap (λ z. z.state.middle) w.1) ∙ m in
-            let one : Settles T k M own_grouped a =
-            groups_of (is_head g e.to) parent.state.forest e a arrives.state M own in
+            let one : Settles T k M a.grouped a.state =
+            arrival.groups M (sym (ap (λ z. z.state.middle) w.1) ∙ m) in
             subst (λ z. Settles T k M z n.state) (sym (grouped_new j w.0))
-            (subst (λ z. Settles T k M own_grouped z.state) (sym w.1) one)
+            (subst (λ z. Settles T k M a.grouped z.state) (sym w.1) one)
       ]
 
       apart_more : (i j : ℕ) (m n : Node) (p d : ℕ) (f : Edge) → i < j → IsNode more i m → IsNode more j n
@@ -292,16 +274,18 @@ module _ (T : Boxes) (g : ControlGraph) (k : ℕ) where
             subst (λ z. IsApart T g k f m.state n.state z (grouped j)) (sym (grouped_old i m x))
             (subst (λ z. IsApart T g k f m.state n.state (mid.explored.grouped i) z) (sym (grouped_old j n y))
             (mid.explored.apart i j m n p d f less x y cm cn ie))
-        | later_new x y ↦
+        | later_new x last y ↦
             let w = new_is n p d y cn in
             let mine : IsChild m at c =
             record { parent = cm.parent ∙ ap Some (sym w.0); edge = cm.edge ∙ ap Some (sym w.1) } in
             let same : e ≡ f = some_same e f (sym is_edge ∙ (subst (λ z. IsEdge g z f) (sym w.1) ie)) in
-            let one : AreOfTwoCases T g e m.state a =
-            every_in (λ b. AreOfTwoCases T g e b a) before m.state apart (mid.those i m x mine) in
-            two_apart f m.state n.state (grouped i) (grouped j)
-            (subst (λ z. AreOfTwoCases T g z m.state n.state) same
-            (subst (λ z. AreOfTwoCases T g e m.state z.state) (sym y) one))
+            let one : IsApart T g k e m.state a.state (mid.explored.grouped i) a.grouped =
+            every_in (λ b. AreApart T g k e b a) before
+            (pair m.state (mid.explored.grouped i)) apart (mid.those i m x mine) in
+            subst (λ z. IsApart T g k f m.state n.state z (grouped j)) (sym (grouped_old i m x))
+            (subst (λ z. IsApart T g k f m.state n.state (mid.explored.grouped i) z) (sym (grouped_new j last))
+            (subst (λ z. IsApart T g k z m.state n.state (mid.explored.grouped i) a.grouped) same
+            (subst (λ z. IsApart T g k e m.state z.state (mid.explored.grouped i) a.grouped) (sym y) one)))
       ]
 
       pub grown : Exploration T g k more
@@ -336,6 +320,7 @@ module _ (T : Boxes) (g : ControlGraph) (k : ℕ) where
       }
 
       pub mid_grown : IsMid T g k more at c (before ++ a ∷ [])
+      unfolding grown
       mid_grown = record {
         explored = grown;
         inside = omega (arith, mid.inside, length_push nodes new);
@@ -346,7 +331,10 @@ module _ (T : Boxes) (g : ControlGraph) (k : ℕ) where
           | inr w ↦ let v = new_is n p d w.1 ch in inr (sym v.0, omega (arith, v.1))
         ];
         those = λ j n h ch. elim (get_push nodes new j n h) [
-          | inl old ↦ in_left before (a ∷ []) n.state (mid.those j n old ch)
-          | inr w ↦ in_right before (a ∷ []) n.state (inl (ap (λ z. z.state) w.1))
+          | inl old ↦ in_left before (a ∷ []) (pair n.state (grouped j))
+              (subst (λ z. IsIn (pair n.state z) before) (sym (grouped_old j n old))
+              (mid.those j n old ch))
+          | inr w ↦ in_right before (a ∷ []) (pair n.state (grouped j))
+              (inl (same_arrival n.state a.state (grouped j) a.grouped (ap (λ z. z.state) w.1) (grouped_new j w.0)))
         ];
       }

@@ -5,7 +5,7 @@ use Rattle.std.proofs.Common.{inr}
 use Rattle.std.proofs.lemmas.Option.{slice_get_within}
 use Rattle.fore_base.specs.declared.store.Store.{Store}
 use Rattle.fore_base.specs.Lists.{IsIn, Every}
-use Rattle.fore_base.proofs.ListLemmas.{place_of}
+use Rattle.fore_base.proofs.ListLemmas.{place_of, in_mapped}
 use Rattle.fa_core.specs.Boxes.{Boxes}
 use Rattle.fa_core.specs.Filled.{IsSound}
 use Rattle.fa_sound.specs.Soundness.{SoundForest}
@@ -20,11 +20,11 @@ use Rattle.fix_core.specs.declared.nodes.Node.{Node}
 use Rattle.fix_successors.specs.declared.images.EdgeImage.{EdgeImage}
 use Rattle.fix_engine.specs.declared.taking.Taken.{Taken}
 use Rattle.fix_engine.specs.declared.taking.Taken.TheVariants.{All, Fault, Full as Over}
-use Rattle.fix_core.specs.Explorations.{IsNode, IsEdge, is_head, IsChild, NoLater, IsHoused, IsCared, IsCalm}
+use Rattle.fix_core.specs.Explorations.{IsNode, IsEdge, IsChild, NoLater, IsHoused, IsCared, IsCalm}
 use Rattle.fix_core.specs.Explorations.{EdgeDone, EarlierDone, Done, Exploration, IsExplored, AbstractTrace}
-use Rattle.fix_core.specs.Follows.{IsMember, passed_by, Arrives}
+use Rattle.fix_core.specs.Follows.{IsMember, passed_by}
 use Rattle.fix_core.specs.States.{AbstractState}
-use Rattle.fix_successors.specs.Arriving.{AreOfTwoCases}
+use Rattle.fix_successors.specs.Arriving.{Arrival, states_of, AreApart, IsArrival}
 use Rattle.fix_successors.specs.Images.{IsTrueFault, IsKeptIn, AreSuccessors, IsEdgeImage, IsImageAt, AreImages}
 use Rattle.fix_successors.specs.Images.{edge_numbers}
 use Rattle.fix_core.specs.Covered.{IsCovered, NoneCovers, IsPlaced}
@@ -32,31 +32,38 @@ use Rattle.fix_core.specs.declared.nodes.Placed.{Placed}
 use Rattle.fix_core.specs.declared.nodes.Placed.TheVariants.{Covered, Added, Full as NoRoom}
 use Rattle.fix_successors.specs.Exits.{Rises}
 use Rattle.fix_successors.specs.Ready.{IsNormal}
-use Rattle.fix_engine.specs.inner.Taking.{child, Grows, AreHoused, AreDue, IsMid, AreTaken, IsEdgeTaken, IsStage}
+use Rattle.fix_engine.specs.inner.Taking.{child, Grows, AreHoused, AreDue, IsMid, AreTaken, AreFirstTaken}
+use Rattle.fix_engine.specs.inner.Taking.{IsEdgeTaken, IsStage}
 use Rattle.fix_engine.specs.inner.Taking.{IsFront, IsFault, all_or_full, IsTakenEdge, IsTakenNode}
 use Rattle.fix_trace.specs.Tracing.{IsTraceTo}
 use Rattle.fix_core.proofs.Lists.{some_same, length_push, get_last, in_at, in_left}
-use Rattle.fix_core.proofs.Lists.{every_in, every_of, every_both, take_at, at_within}
+use Rattle.fix_core.proofs.Lists.{every_in, every_of, every_both, take_at, take_all, at_within}
 use Rattle.fix_core.proofs.Numbered.{one_node}
 use Rattle.fix_successors.proofs.Lists.{before_each}
 use Rattle.fix_core.proofs.Covering.{covered_member}
 use Rattle.fix_engine.proofs.Growing.{grows_push, grows_same, grows_then, housed_more, edge_more}
 use Rattle.fix_engine.proofs.Growing.{grown, mid_grown}
 
+length_states : (xs : List Arrival) → length (states_of xs) ≡ length xs
+length_states [] = refl
+length_states (x ∷ xs) = ap suc (length_states xs)
+
 module _ (T : Boxes) (g : ControlGraph) (k : ℕ) where
   -- the states of an edge
 
-  pub taken_start : (nodes : List Node) (at c budget : ℕ) → IsMid T g k nodes at c [] → length nodes ≤ budget
-      → AreTaken T g k nodes at c budget [] nodes true
-  taken_start nodes at c budget mid within = (mid, grows_same nodes, within, λ e ie. tt)
+  pub taken_start : (nodes : List Node) (at c budget : ℕ) (states : List AbstractState) → IsMid T g k nodes at c []
+      → length nodes ≤ budget → AreDue T g k nodes at c states
+      → AreFirstTaken T g k nodes at c budget states 0 nodes true
+  taken_start nodes at c budget states mid within due =
+      record { due = due; taken = (mid, grows_same nodes, within, λ e ie. tt) }
 
-  housed_all : (nodes more : List Node) (location : ℕ) (states : List AbstractState) → Grows nodes more
-      → AreHoused T g nodes location states → AreHoused T g more location states
+  housed_all : (nodes more : List Node) (location : ℕ) (arrivals : List Arrival) → Grows nodes more
+      → AreHoused T g nodes location arrivals → AreHoused T g more location arrivals
   housed_all nodes more location [] gr h = tt
   housed_all nodes more location (a ∷ as') gr h =
       (λ s m. housed_more T g nodes more gr location s (h.0 s m), housed_all nodes more location as' gr h.1)
 
-  mid_weaker : (nodes : List Node) (at c : ℕ) (before more : List AbstractState) → IsMid T g k nodes at c before
+  mid_weaker : (nodes : List Node) (at c : ℕ) (before more : List Arrival) → IsMid T g k nodes at c before
       → IsMid T g k nodes at c (before ++ more)
   mid_weaker nodes at c before more m =
       record {
@@ -65,49 +72,51 @@ module _ (T : Boxes) (g : ControlGraph) (k : ℕ) where
         done = m.done;
         earlier = m.earlier;
         last = m.last;
-        those = λ j n is ch. in_left before more n.state (m.those j n is ch);
+        those = λ j n is ch. in_left before more (record { state = n.state; grouped = m.explored.grouped j })
+            (m.those j n is ch);
       }
 
-  module _ (start nodes : List Node) (at c budget : ℕ) (states : List AbstractState) (i : ℕ) (a : AbstractState)
-      (e : Edge)
-      (is : slice_get states i ≡ Some a) (is_edge : IsEdge g c e)
-      (before : AreTaken T g k start at c budget (take i states) nodes true) where
+  module _ (start nodes : List Node) (at c budget : ℕ) (states : List AbstractState) (due : AreDue T g k start at c states)
+      (i : ℕ) (x : Arrival) (e : Edge) (is : slice_get due.targets.arrivals i ≡ Some x) (is_edge : IsEdge g c e)
+      (before : AreTaken T g k start at c budget (take i due.targets.arrivals) nodes true) where
+    abbrev all : List Arrival
+    all = due.targets.arrivals
+
     same_edge : (f : Edge) → IsEdge g c f → e ≡ f
     same_edge f h = some_same e f (sym is_edge ∙ h)
 
-    taken_covered : IsCovered nodes e.to a.forest
-        → AreTaken T g k start at c budget (take (i + 1) states) nodes true
-    taken_covered cov = rw (take_at states i a is) (
-      mid_weaker nodes at c (take i states) (a ∷ []) before.0,
+    taken_covered : IsCovered nodes e.to x.state.forest → AreTaken T g k start at c budget (take (i + 1) all) nodes true
+    taken_covered cov = rw (take_at all i x is) (
+      mid_weaker nodes at c (take i all) (x ∷ []) before.0,
       before.1,
       before.2,
       λ f ie.
-          every_both (λ (z : AbstractState). (s : Store) → IsMember T z.forest s → IsHoused T g nodes f.to s)
-          (take i states) (a ∷ []) (before.3 f ie) (
+          every_both (λ (z : Arrival). (s : Store) → IsMember T z.state.forest s → IsHoused T g nodes f.to s)
+          (take i all) (x ∷ []) (before.3 f ie) (
             λ s m.
                 record {
                   at = cov.at;
                   node = cov.node;
                   is = cov.is;
                   there = cov.there ∙ ap (λ z. z.to) (same_edge f ie);
-                  member = covered_member T.face.shapes.structs T.defs cov.node.state.forest a.forest s cov.covers m;
+                  member = covered_member T.face.shapes.structs T.defs cov.node.state.forest x.state.forest s cov.covers
+                      m;
                 },
             tt,
           ),
     )
 
-    module _ (due : AreDue T g k start at c states) (none : NoneCovers nodes e.to a.forest) where
+    module _ (none : NoneCovers nodes e.to x.state.forest) where
       due_edge : due.edge ≡ e
       due_edge = sym (same_edge due.edge due.is_edge)
 
-      arrives : Arrives T g (is_head g e.to) k due.parent.state.forest e a
-      arrives = subst (λ z. Arrives T g (is_head g z.to) k due.parent.state.forest z a) due_edge
-          (every_in (Arrives T g (is_head g due.edge.to) k due.parent.state.forest due.edge) states a due.each
-          (in_at states i a is))
+      arrival : IsArrival T g k due.parent.state.forest e x
+      arrival = subst (λ z. IsArrival T g k due.parent.state.forest z x) due_edge
+          (every_in (IsArrival T g k due.parent.state.forest due.edge) all x due.targets.each (in_at all i x is))
 
-      apart : Every (λ b. AreOfTwoCases T g e b a) (take i states)
-      apart = subst (λ z. Every (λ b. AreOfTwoCases T g z b a) (take i states)) due_edge
-          (before_each (AreOfTwoCases T g due.edge) states i a due.apart is)
+      apart : Every (λ b. AreApart T g k e b x) (take i all)
+      apart = subst (λ z. Every (λ b. AreApart T g k z b x) (take i all)) due_edge
+          (before_each (AreApart T g k due.edge) all i x due.targets.apart is)
 
       calm : IsCalm T due.parent e
       calm = subst (IsCalm T due.parent) due_edge due.calm
@@ -119,38 +128,38 @@ module _ (T : Boxes) (g : ControlGraph) (k : ℕ) where
       parent_is = before.1 at due.parent due.is
 
       more : List Node
-      more = nodes ++ child at c e a ∷ []
+      more = nodes ++ child at c e x.state ∷ []
 
-      taken_full : length nodes ≡ budget → AreTaken T g k start at c budget states nodes false
+      taken_full : length nodes ≡ budget → (l : List Arrival) → AreTaken T g k start at c budget l nodes false
       unfolding more
-      taken_full many = (
+      taken_full many l = (
         before.0.explored,
         record {
           many = many;
-          further = child at c e a;
-          again = grown T g k nodes at c (take i states) before.0 due.parent parent_is e is_edge from calm a arrives
+          further = child at c e x.state;
+          again = grown T g k nodes at c (take i all) before.0 due.parent parent_is e is_edge from calm x arrival
               apart none;
         },
       )
 
-      taken_pushed : (length nodes ≡ budget → ⊥) → (n : Node) → n ≡ child at c e a
-          → AreTaken T g k start at c budget (take (i + 1) states) (nodes ++ n ∷ []) true
+      taken_pushed : (length nodes ≡ budget → ⊥) → (n : Node) → n ≡ child at c e x.state
+          → AreTaken T g k start at c budget (take (i + 1) all) (nodes ++ n ∷ []) true
       unfolding more
-      taken_pushed room n same = rw (same, take_at states i a is) (
-        mid_grown T g k nodes at c (take i states) before.0 due.parent parent_is e is_edge from calm a arrives apart
+      taken_pushed room n same = rw (same, take_at all i x is) (
+        mid_grown T g k nodes at c (take i all) before.0 due.parent parent_is e is_edge from calm x arrival apart
             none,
-        grows_then start nodes (nodes ++ child at c e a ∷ []) before.1 (grows_push nodes (child at c e a)),
+        grows_then start nodes (nodes ++ child at c e x.state ∷ []) before.1 (grows_push nodes (child at c e x.state)),
         fits,
         λ f ie.
-            every_both (λ (z : AbstractState). (s : Store) → IsMember T z.forest s
-            → IsHoused T g (nodes ++ child at c e a ∷ []) f.to s) (take i states) (a ∷ [])
-            (housed_all nodes (nodes ++ child at c e a ∷ []) f.to (take i states) (grows_push nodes (child at c e a))
-            (before.3 f ie)) (
+            every_both (λ (z : Arrival). (s : Store) → IsMember T z.state.forest s
+            → IsHoused T g (nodes ++ child at c e x.state ∷ []) f.to s) (take i all) (x ∷ [])
+            (housed_all nodes (nodes ++ child at c e x.state ∷ []) f.to (take i all)
+            (grows_push nodes (child at c e x.state)) (before.3 f ie)) (
               λ s m.
                   record {
                     at = length nodes;
-                    node = child at c e a;
-                    is = get_last nodes (child at c e a);
+                    node = child at c e x.state;
+                    is = get_last nodes (child at c e x.state);
                     there = ap (λ z. z.to) (same_edge f ie);
                     member = m;
                   },
@@ -158,22 +167,58 @@ module _ (T : Boxes) (g : ControlGraph) (k : ℕ) where
             ),
       )
         where
-          fits : length (nodes ++ child at c e a ∷ []) ≤ budget
-          fits = omega (arith, before.2, length_push nodes (child at c e a), room)
+          fits : length (nodes ++ child at c e x.state ∷ []) ≤ budget
+          fits = omega (arith, before.2, length_push nodes (child at c e x.state), room)
 
     -- a state that was covered, or is the last node
-    pub taken_placed : (p : Placed) (more : List Node) → (p ≡ NoRoom → ⊥) → AreDue T g k start at c states
-        → IsPlaced nodes (child at c e a) budget more p
-        → AreTaken T g k start at c budget (take (i + 1) states) more true
-    taken_placed Covered more not due placed = rw placed.1 (taken_covered placed.0)
-    taken_placed Added more not due placed =
-        rw placed.2 (taken_pushed due placed.0 placed.1 (child at c e a) refl)
-    taken_placed NoRoom more not due placed = absurd (not refl)
+    placed_on : (p : Placed) (more : List Node) → (p ≡ NoRoom → ⊥)
+        → IsPlaced nodes (child at c e x.state) budget more p
+        → AreTaken T g k start at c budget (take (i + 1) all) more true
+    placed_on Covered more not placed = rw placed.1 (taken_covered placed.0)
+    placed_on Added more not placed =
+        rw placed.2 (taken_pushed placed.0 placed.1 (child at c e x.state) refl)
+    placed_on NoRoom more not placed = absurd (not refl)
+
+  -- the arrival of a state
+  arrival_at : (arrivals : List Arrival) (states : List AbstractState) (i : ℕ) (a : AbstractState)
+      → states_of arrivals ≡ states → slice_get states i ≡ Some a
+      → (x : Arrival) × (slice_get arrivals i ≡ Some x) × (a ≡ x.state)
+  arrival_at arrivals states i a are is = here arrivals i (subst (λ z. slice_get z i ≡ Some a) (sym are) is)
+    where
+      here : (xs : List Arrival) (i : ℕ) → slice_get (states_of xs) i ≡ Some a
+          → (x : Arrival) × (slice_get xs i ≡ Some x) × (a ≡ x.state)
+      here [] i h = cc
+      here (y ∷ ys) zero h = (y, refl, some_same a y.state (sym h))
+      here (y ∷ ys) (suc i) h = here ys i h
+
+  module _ (start nodes : List Node) (at c budget : ℕ) (states : List AbstractState) (i : ℕ) (a : AbstractState)
+      (e : Edge) (is : slice_get states i ≡ Some a) (is_edge : IsEdge g c e)
+      (before : AreFirstTaken T g k start at c budget states i nodes true) where
+    -- a state that was covered, or is the last node
+    pub taken_placed : (p : Placed) (more : List Node) → (p ≡ NoRoom → ⊥)
+        → IsPlaced nodes (child at c e a) budget more p → AreFirstTaken T g k start at c budget states (i + 1) more true
+    taken_placed p more not placed =
+        let due = before.due in
+        let w = arrival_at due.targets.arrivals states i a due.targets.are is in
+        record {
+          due = due;
+          taken = placed_on start nodes at c budget states due i w.0 e w.1 is_edge before.taken p more not
+              (subst (λ z. IsPlaced nodes (child at c e z) budget more p) w.2 placed);
+        }
 
     -- a state for which the budget has no room
-    pub taken_over : (more : List Node) → AreDue T g k start at c states
-        → IsPlaced nodes (child at c e a) budget more NoRoom → AreTaken T g k start at c budget states more false
-    taken_over more due placed = rw placed.2 (taken_full due placed.0 placed.1)
+    pub taken_over : (more : List Node) (n : ℕ) → IsPlaced nodes (child at c e a) budget more NoRoom
+        → AreFirstTaken T g k start at c budget states n more false
+    taken_over more n placed =
+        let due = before.due in
+        let w = arrival_at due.targets.arrivals states i a due.targets.are is in
+        let p = subst (λ z. IsPlaced nodes (child at c e z) budget more NoRoom) w.2 placed in
+        record {
+          due = due;
+          taken = rw p.2
+              (taken_full start nodes at c budget states due i w.0 e w.1 is_edge before.taken p.0 p.1
+              (take n due.targets.arrivals));
+        }
 
   -- an edge
 
@@ -206,41 +251,52 @@ module _ (T : Boxes) (g : ControlGraph) (k : ℕ) where
     is_edge = m.made.is;
     from = m.made.from;
     calm = edge_calm nodes at x states m arr;
-    each = arr.each;
-    apart = arr.apart;
+    targets = arr.targets;
   }
 
-  cared_of : (ns : List Node) (to : ℕ) (p : Pass) (states : List AbstractState) → IsKeptIn T g states p
-      → AreHoused T g ns to states → IsCared T g ns to p
-  cared_of ns to (Passed t) states h housed =
-      every_in (λ (z : AbstractState). (u : Store) → IsMember T z.forest u → IsHoused T g ns to u) states
-      h.state housed h.listed t h.member
-  cared_of ns to (Faulted f) states h housed = h
-  cared_of ns to Halted states h housed = tt
-  cared_of ns to NotPassed states h housed = tt
+  cared_of : (ns : List Node) (to : ℕ) (p : Pass) (arrivals : List Arrival) → IsKeptIn T g (states_of arrivals) p
+      → AreHoused T g ns to arrivals → IsCared T g ns to p
+  cared_of ns to (Passed t) arrivals h housed =
+      let x = in_mapped (λ (z : Arrival). z.state) h.state arrivals h.listed in
+      every_in (λ (z : Arrival). (u : Store) → IsMember T z.state.forest u → IsHoused T g ns to u) arrivals
+      x.0 housed x.1 t (subst (λ (z : AbstractState). IsMember T z.forest t) x.2 h.member)
+  cared_of ns to (Faulted f) arrivals h housed = h
+  cared_of ns to Halted arrivals h housed = tt
+  cared_of ns to NotPassed arrivals h housed = tt
 
   pub edge_taken : (nodes more : List Node) (at budget : ℕ) (x : EdgeImage) (states : List AbstractState)
       (m : IsImageAt T g k nodes at x) → AreSuccessors T g k m.node.state.forest m.made.edge states
-      → AreTaken T g k nodes at x.edge budget states more true → IsEdgeTaken T g k nodes more at x.edge
-  edge_taken nodes more at budget x states m arr t = record {
-    states = states;
+      → AreFirstTaken T g k nodes at x.edge budget states (length states) more true
+      → IsEdgeTaken T g k nodes more at x.edge
+  edge_taken nodes more at budget x states m arr f = record {
+    arrivals = f.due.targets.arrivals;
     mid = t.0;
     grows = t.1;
     edge = λ n e is ie fr s st.
         let same_node : m.node ≡ n = one_node more at m.node n (t.1 at m.node m.is) is in
         let same : m.made.edge ≡ e = some_same m.made.edge e (sym m.made.is ∙ ie) in
         let one : IsCared T g more m.made.edge.to (passed_by T m.made.edge s) =
-        cared_of more m.made.edge.to (passed_by T m.made.edge s) states
-        (arr.kept s (subst (λ z. IsMember T z.state.forest s) (sym same_node) st)) (t.3 m.made.edge m.made.is) in
+        cared_of more m.made.edge.to (passed_by T m.made.edge s) f.due.targets.arrivals
+        (subst (λ z. IsKeptIn T g z (passed_by T m.made.edge s)) (sym f.due.targets.are)
+        (arr.kept s (subst (λ z. IsMember T z.state.forest s) (sym same_node) st)))
+        (t.3 m.made.edge m.made.is) in
         subst (λ z. IsCared T g more z.to (passed_by T z s)) same one;
   }
+    where
+      many : length states ≡ length f.due.targets.arrivals
+      many = ap length (sym f.due.targets.are) ∙ length_states f.due.targets.arrivals
+
+      t : AreTaken T g k nodes at x.edge budget f.due.targets.arrivals more true
+      t = subst (λ z. AreTaken T g k nodes at x.edge budget z more true)
+          (take_all f.due.targets.arrivals (length states) (omega (arith, many))) f.taken
 
   pub edge_ended : (nodes later : List Node) (at budget : ℕ) (x : EdgeImage) (states : List AbstractState) (room : Bool)
       (m : IsImageAt T g k nodes at x) → AreSuccessors T g k m.node.state.forest m.made.edge states
-      → AreTaken T g k nodes at x.edge budget states later room
+      → AreFirstTaken T g k nodes at x.edge budget states (length states) later room
       → IsTakenEdge T g k nodes at x.edge budget later (all_or_full room)
-  edge_ended nodes later at budget x states true m arr t = (edge_taken nodes later at budget x states m arr t, t.2)
-  edge_ended nodes later at budget x states false m arr t = t
+  edge_ended nodes later at budget x states true m arr f =
+      (edge_taken nodes later at budget x states m arr f, f.taken.2)
+  edge_ended nodes later at budget x states false m arr f = f.taken
 
   -- a node
 
@@ -386,7 +442,11 @@ module _ (T : Boxes) (g : ControlGraph) (k : ℕ) where
   pub due_over : (nodes : List Node) (at c : ℕ) (states : List AbstractState) (a : AbstractState)
       → AreDue T g k nodes at c states → IsIn a states → a.face ≡ T.face
   due_over nodes at c states a due h =
-      (every_in (Arrives T g (is_head g due.edge.to) k due.parent.state.forest due.edge) states a due.each h).face
+      let x = in_mapped (λ (z : Arrival). z.state) a due.targets.arrivals
+      (subst (IsIn a) (sym due.targets.are) h) in
+      ap (λ z. z.face) x.2
+      ∙ (every_in (IsArrival T g k due.parent.state.forest due.edge) due.targets.arrivals x.0 due.targets.each
+      x.1).arrives.face
 
   -- each node stands at a location of the graph
   pub node_inside : (nodes : List Node) (j : ℕ) (n : Node) → Every (IsEdgeOf g) g.edges → 0 < g.locations

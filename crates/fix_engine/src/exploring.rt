@@ -1,5 +1,5 @@
 // The exploration: a work list of nodes, first in, first out, taken up in rounds.
-ghost use Rattle.std.specs.Prelude.{◌≡◌, ◌≤◌, [], IfOk};
+ghost use Rattle.std.specs.Prelude.{◌≡◌, ◌≤◌, IfOk};
 ghost use Rattle.fore_base.specs.Lists.{Every};
 ghost use Rattle.par_kit.specs.Crews.{IsJobs};
 ghost use Rattle.c_cfg.specs.Ranges.{IsEdgeOf};
@@ -20,13 +20,13 @@ use std::alloc::Global;
 use std::thread::Threads;
 
 /// Explores the graph from its entry. Nodes are taken up in order, the edges of a node by number, the faults of an edge
-/// before its successors. At a loop head a successor is abstracted to the height. A successor that a node of its
-/// location covers is dropped. In each round the crew makes what the edges make of the next nodes, at most one node for
-/// each job.
+/// before its successors. At a loop head a successor is folded by the boxes of the table until nothing can be folded,
+/// made canonical, and abstracted to the height. A successor that a node of its location covers is dropped. In each
+/// round the crew makes what the edges make of the next nodes, at most one node for each job.
 ///
 /// It ends with the first fault; with a successor for which the budget of nodes has no room; or when every node is
 /// done. The height is 1 to 4, and the budget at least 1. Each number in the graph's edges is in range, and the graph's
-/// structs are the table's. So far the table has no boxes. The crew runs 1 to 64 jobs and has no bearing on the answer.
+/// structs are the table's. The crew runs 1 to 64 jobs and has no bearing on the answer.
 ///
 /// # Errors
 ///
@@ -45,7 +45,6 @@ pub fn explore<R: Threads + Sync, G: Gate>(
     requires budget { 1 ≤ budget }
     requires edges { Every (IsEdgeOf graph.now) graph.now.edges }
     requires shapes { graph.now.shapes ≡ table.now.face.shapes }
-    requires empty { table.now.defs ≡ [] }
     ensures { IfOk result (IsExplored table.now graph.now height budget) }
 {
     table.known();

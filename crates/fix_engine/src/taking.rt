@@ -5,7 +5,7 @@ ghost use Rattle.fore_base.specs.Lists.{Every};
 ghost use Rattle.fix_successors.specs.Images.{IsImageAt, edge_numbers};
 ghost use Rattle.fix_successors.specs.Exits.{Rises};
 ghost use Rattle.fix_core.specs.States.{AbstractState};
-ghost use Rattle.fix_engine.specs.inner.Taking.{AreDue, AreTaken, IsMid, IsStage, IsTakenEdge, IsTakenNode};
+ghost use Rattle.fix_engine.specs.inner.Taking.{AreDue, AreFirstTaken, IsMid, IsStage, IsTakenEdge, IsTakenNode};
 ghost use Rattle.fix_engine.specs.inner.Taking.{all_or_full, child};
 
 use c_cfg::graph::Edge;
@@ -101,8 +101,8 @@ fn take_states<R: Threads + Sync>(
     requires within { length nodes.old ≤ task.now.budget }
     requires due { AreDue task.now.table task.now.graph task.now.height nodes.old at number states.now }
     ensures { IfOk result
-        (AreTaken task.now.table task.now.graph task.now.height nodes.old at number task.now.budget states.now
-        nodes.new) }
+        (AreFirstTaken task.now.table task.now.graph task.now.height nodes.old at number task.now.budget states.now
+        (length states.now) nodes.new) }
 {
     task.known();
     let head = head_of(at, number, edge_at(task.graph(), number));

@@ -72,7 +72,6 @@ module _ (T : Boxes) (g : ControlGraph) where
   successors k F e p states post none f =
       let arrived = f post.nexts in
       record {
-        each = arrived.each;
-        apart = arrived.apart;
+        targets = arrived.targets;
         kept = λ s st. kept_of (passed_by T e s) s p.next p.faults states none (post.all s st) arrived.kept;
       }

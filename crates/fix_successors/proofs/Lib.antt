@@ -4,4 +4,6 @@ pub mod Listing
 pub mod Lists
 pub mod LocationEdges
 pub mod Posting
+pub mod Regrouping
 pub mod Rows
+pub mod Settled

@@ -1,15 +1,20 @@
 -- Worked values of the words on successors, each made by hand from what the word says.
-use Rattle.std.proofs.Common.{◌≡◌, ◌<◌, ℕ, [], ◌∷◌, None, refl, arith, inl}
+use Rattle.std.proofs.Common.{◌≡◌, ◌<◌, ℕ, List, [], ◌∷◌, None, refl, sym, ◌∙◌, subst, arith, inl}
 use Rattle.fore_base.specs.declared.fault.Fault.TheVariants.{Leak}
 use Rattle.fore_base.specs.declared.store.Store.{Store}
+use Rattle.fore_base.specs.Lists.{IsIn}
 use Rattle.fa_core.specs.Boxes.{Boxes}
+use Rattle.fa_core.specs.declared.boxes.BoxDef.{BoxDef}
+use Rattle.fa_core.specs.declared.forest.Forest.{Forest}
 use Rattle.fa_sound.specs.Soundness.{SoundForest}
 use Rattle.c_cfg.specs.Edges.{Passed, Faulted, Halted, NotPassed}
 use Rattle.c_cfg.specs.Graphs.{ControlGraph}
+use Rattle.c_cfg.specs.declared.graph.Edge.{Edge}
+use Rattle.c_cfg.specs.declared.graph.Instr.TheVariants.{Free}
 use Rattle.fix_core.specs.Follows.{IsMember}
 use Rattle.fix_core.specs.States.{AbstractState}
 use Rattle.fix_successors.specs.declared.images.EdgeImage.{EdgeImage}
-use Rattle.fix_successors.specs.Arriving.{EachTwo, carried}
+use Rattle.fix_successors.specs.Arriving.{EachTwo, states_of, carried}
 use Rattle.fix_successors.specs.Exits.{Rises}
 use Rattle.fix_successors.specs.Images.{IsKeptIn, edge_numbers}
 
@@ -32,6 +37,10 @@ numbers x y e f = rw (e, f) refl
 carried_as_it_is : (M : SoundForest)
     → carried M ≡ record { face = M.face; forest = M.forest; middle = None; folds = [] }
 carried_as_it_is M = refl
+
+states : (a b : AbstractState) (F G : Forest)
+    → states_of (record { state = a; grouped = F } ∷ record { state = b; grouped = G } ∷ []) ≡ a ∷ b ∷ []
+states a b F G = refl
 
 module _ (T : Boxes) (g : ControlGraph) (a : AbstractState) (s : Store) where
   -- a member that passes is in one of the states, and no member meets a fault

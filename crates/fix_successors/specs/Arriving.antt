@@ -1,14 +1,12 @@
 -- The cases of an edge, and what becomes of them.
-use Rattle.std.specs.Prelude.{◌≡◌, ◌≤◌, ℕ, List, [], ◌∷◌, length, true, false, None, Some}
+use Rattle.std.specs.Prelude.{◌≡◌, ◌≤◌, ℕ, List, [], ◌∷◌, map, length, true, None, Some}
 use Rattle.fore_base.specs.declared.store.Store.{Store}
 use Rattle.fore_base.specs.Lists.{IsIn, Every, Paired}
 use Rattle.ta_core.specs.Auto.{IsRanked}
 use Rattle.fa_core.specs.Boxes.{Boxes}
-use Rattle.fa_core.specs.Canonical.{IsCanonical}
-use Rattle.fa_core.specs.Covering.{Reduced}
 use Rattle.fa_core.specs.Filled.{IsSound}
 use Rattle.fa_core.specs.declared.forest.Forest.{Forest}
-use Rattle.fa_join.specs.Joinable.{Joinable, NoneJoinable}
+use Rattle.fa_join.specs.Joinable.{NoneJoinable}
 use Rattle.fa_sound.specs.Soundness.{SoundForest}
 use Rattle.fa_sound.specs.Unions.{forests}
 use Rattle.c_cfg.specs.Graphs.{ControlGraph}
@@ -16,8 +14,8 @@ use Rattle.c_cfg.specs.declared.graph.Edge.{Edge}
 use Rattle.sym_core.specs.Cases.{CaseOf}
 use Rattle.sym_core.specs.Kept.{Keeps}
 use Rattle.sym_core.specs.Quiet.{is_quiet}
-use Rattle.fix_core.specs.Explorations.{is_head}
-use Rattle.fix_core.specs.Follows.{HasItsVars, IsMember, Settles, Arrives}
+use Rattle.fix_core.specs.Explorations.{is_head, IsApart}
+use Rattle.fix_core.specs.Follows.{IsMember, Settles, Arrives}
 use Rattle.fix_core.specs.States.{AbstractState}
 use Rattle.fix_successors.specs.Ready.{IsNormal}
 
@@ -25,6 +23,15 @@ use Rattle.fix_successors.specs.Ready.{IsNormal}
 abbrev pub EachTwo : {X : Type 0} → (X → X → Type 0) → List X → Type 0
 EachTwo P [] = Unit {0}
 EachTwo P (x ∷ xs) = Every (P x) xs × EachTwo P xs
+
+-- a state, and what its case was folded and regrouped into where it stands at a loop head
+pub record Arrival : Type 0 where
+  pub state : AbstractState
+  pub grouped : Forest
+
+-- the states
+abbrev pub states_of : List Arrival → List AbstractState
+states_of xs = map (λ (x : Arrival). x.state) xs
 
 -- the state of the forest as it is
 abbrev pub carried : SoundForest → AbstractState
@@ -66,31 +73,24 @@ module _ (T : Boxes) where
       pub apart : NoneJoinable T.face.boxes (forests Ms)
       pub quiet : is_quiet e.instr ≡ true → length Ms ≤ 1
 
-    -- the states are of two cases of the edge, which are not joinable; a quiet edge has no two
-    pub record AreOfTwoCases (e : Edge) (a b : AbstractState) : Type 0 where
-      pub joinable : is_head g e.to ≡ false → Joinable T.face.boxes a.forest b.forest → ⊥
-      pub not_quiet : is_quiet e.instr ≡ true → ⊥
-      pub middles : (M N : Forest) → a.middle ≡ Some M → b.middle ≡ Some N → Joinable T.face.boxes M N → ⊥
-
     module _ (k : ℕ) where
-      -- the state is what M becomes at a loop head
-      pub record IsSettling (M : SoundForest) (a : AbstractState) : Type 0 where
-        pub case_sound : IsSound T.face M.forest
-        pub grouped : Forest
-        pub settles : Settles T k M.forest grouped a
-        pub face : a.face ≡ T.face
-        pub sound : IsSound T.face a.forest
-        pub canonical : IsCanonical T.face a.forest
-        pub reduced : Reduced a.forest
-        pub vars : HasItsVars g a.forest
-        pub kept : (s : Store) → IsMember T M.forest s → IsMember T a.forest s
+      -- the edge leads from F to the state, whose case was folded and regrouped into this forest, if it was
+      pub record IsArrival (F : Forest) (e : Edge) (x : Arrival) : Type 0 where
+        pub arrives : Arrives T g (is_head g e.to) k F e x.state
+        pub groups : (M : Forest) → x.state.middle ≡ Some M → Settles T k M x.grouped x.state
 
-      -- the states are what the forests become there
-      abbrev pub AreSettled : List SoundForest → List AbstractState → Type 0
-      AreSettled Ms made = Paired IsSettling Ms made
+      -- two states to which the edge leads
+      abbrev pub AreApart : Edge → Arrival → Arrival → Type 0
+      AreApart e x y = IsApart T g k e x.state y.state x.grouped y.grouped
+
+      -- the edge leads from F to these states; no case is cut in one child
+      pub record AreTargets (F : Forest) (e : Edge) (states : List AbstractState) : Type 0 where
+        pub arrivals : List Arrival
+        pub are : states_of arrivals ≡ states
+        pub each : Every (IsArrival F e) arrivals
+        pub apart : EachTwo (AreApart e) arrivals
 
       -- the states are what the cases of an edge become
       pub record AreArrivals (F : Forest) (e : Edge) (Ms : List SoundForest) (made : List AbstractState) : Type 0 where
-        pub each : Every (Arrives T g (is_head g e.to) k F e) made
-        pub apart : EachTwo (AreOfTwoCases e) made
+        pub targets : AreTargets F e made
         pub kept : (s : Store) → StandsInCase Ms s → IsHeld made s

@@ -9,14 +9,14 @@ use Rattle.c_cfg.specs.Edges.{Pass, Passed, Faulted, Halted, NotPassed}
 use Rattle.c_cfg.specs.Graphs.{ControlGraph}
 use Rattle.c_cfg.specs.declared.graph.Edge.{Edge}
 use Rattle.sym_step.specs.declared.posts.Bad.{Bad}
-use Rattle.fix_core.specs.Explorations.{is_head, IsEdge, IsNode}
-use Rattle.fix_core.specs.Follows.{IsMember, passed_by, Arrives}
+use Rattle.fix_core.specs.Explorations.{IsEdge, IsNode}
+use Rattle.fix_core.specs.Follows.{IsMember, passed_by}
 use Rattle.fix_core.specs.States.{AbstractState}
 use Rattle.fix_core.specs.declared.nodes.Node.{Node}
 use Rattle.fix_successors.specs.declared.images.EdgeImage.{EdgeImage}
 use Rattle.fix_successors.specs.declared.images.Image.{Image}
 use Rattle.fix_successors.specs.declared.images.Image.TheVariants.{Fault, States}
-use Rattle.fix_successors.specs.Arriving.{EachTwo, AreOfTwoCases, IsHeld}
+use Rattle.fix_successors.specs.Arriving.{AreTargets, IsHeld}
 use Rattle.fix_successors.specs.Exits.{Rises}
 
 -- the numbers of the edges
@@ -38,10 +38,9 @@ module _ (T : Boxes) (g : ControlGraph) where
   IsKeptIn states NotPassed = Unit {0}
 
   -- The states are those to which the edge leads from F: what it makes of a member of F is no fault, and a member of
-  -- one of them. Each is a case, at a loop head folded and abstracted, and two are of two cases.
+  -- one of them. Each is a case, at a loop head folded and abstracted, and no case is cut in one child.
   pub record AreSuccessors (k : ℕ) (F : Forest) (e : Edge) (states : List AbstractState) : Type 0 where
-    pub each : Every (Arrives T g (is_head g e.to) k F e) states
-    pub apart : EachTwo (AreOfTwoCases T g e) states
+    pub targets : AreTargets T g k F e states
     pub kept : (s : Store) → IsMember T F s → IsKeptIn states (passed_by T e s)
 
   -- what the edge makes of F: a fault of some of its members, or no fault and these states

@@ -3,3 +3,4 @@ pub mod Exits
 pub mod Images
 pub mod Posting
 pub mod Ready
+pub mod inner

@@ -25,8 +25,6 @@ pub record IsReady (j : Job) : Type 0 where
   pub entry : 0 < j.graph.locations
   pub edges : Every (IsEdgeOf j.graph) j.graph.edges
   pub shapes : j.graph.shapes ≡ j.table.face.shapes
-  pub no_boxes : j.table.defs ≡ []
-  pub no_faces : j.table.face.boxes ≡ []
   pub exits : AreExits j.graph (length j.graph.edges) j.exits
 
 -- a canonical and reduced forest over the table's face, with the graph's variables

@@ -1,6 +1,6 @@
 // What the edges of its location make of a node: each a fault, or states.
 ghost use Rattle.std.specs.Prelude.{◌≡◌, ◌<◌, length, IfOk};
-ghost use Rattle.c_cfg.specs.Ranges.{IsEdgeOf};
+ghost use Rattle.fore_base.specs.Lists.{IsIn};
 ghost use Rattle.fa_core.specs.Filled.{IsSound};
 ghost use Rattle.fix_successors.specs.Images.{AreImages, IsImage};
 ghost use Rattle.fix_successors.specs.Ready.{IsNormal};
@@ -56,13 +56,15 @@ pub fn images_of<R: Threads + Sync>(task: &Task<'_, R>, due: &Due) -> Mem<List<E
     Ok(all)
 }
 
-/// What an edge makes of a node, from its post: the first fault, else the states of the cases. Err is want of memory.
+/// What an edge of the graph makes of a node, from its post: the first fault, else the states of the cases. Err is want
+/// of memory.
 fn image_of<R: Threads + Sync>(task: &Task<'_, R>, due: &Due, edge: &Edge) -> Mem<Image>
     requires normal { IsNormal task.now.table task.now.graph due.now.forest }
-    requires edge { IsEdgeOf task.now.graph edge.now }
+    requires listed { IsIn edge.now task.now.graph.edges }
     ensures { IfOk result
         (IsImage task.now.table task.now.graph task.now.height due.now.forest.forest edge.now) }
 {
+    task.known();
     let post = post_of(task, due, edge)?;
     if let Some(first) = post.faults.get(0) {
         let bad = copy_bad(task.alloc(), first)?;

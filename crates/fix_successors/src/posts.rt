@@ -1,6 +1,6 @@
 // The post of an edge: what it makes of the forest of a node.
 ghost use Rattle.std.specs.Prelude.{IfOk};
-ghost use Rattle.fore_base.specs.Lists.{Every};
+ghost use Rattle.fore_base.specs.Lists.{Every, IsIn};
 ghost use Rattle.ta_core.specs.Auto.{IsRanked};
 ghost use Rattle.c_cfg.specs.Ranges.{IsEdgeOf};
 ghost use Rattle.fix_successors.specs.Posting.{IsPost};
@@ -16,10 +16,10 @@ use par_kit::gate::NoGate;
 use std::thread::Threads;
 use sym_step::{Post, post};
 
-/// The post of one edge. Err is want of memory.
+/// The post of one edge of the graph. Err is want of memory.
 pub fn post_of<R: Threads + Sync>(task: &Task<'_, R>, due: &Due, edge: &Edge) -> Mem<Post>
     requires normal { IsNormal task.now.table task.now.graph due.now.forest }
-    requires edge { IsEdgeOf task.now.graph edge.now }
+    requires listed { IsIn edge.now task.now.graph.edges }
     ensures { IfOk result (IsPost task.now.table task.now.graph due.now.forest.forest edge.now) }
 {
     task.known();

@@ -2,8 +2,6 @@
 ghost use Rattle.std.specs.Prelude.{◌≡◌, ◌≤◌, ◌<◌, ◌-◌, ◌^◌, [], true, IfOk};
 ghost use Rattle.c_cfg.specs.LoopFree.{has_no_loop};
 ghost use Rattle.c_cfg.specs.Lowering.{LowerOf};
-ghost use Rattle.fore_base.specs.Lists.{Every};
-ghost use Rattle.fa_core.specs.Boxless.{HasNoBoxes};
 ghost use Rattle.fix_core.specs.Explorations.{IsExplored};
 ghost use Rattle.fix_verdict.specs.inner.Judging.{IsReplayed};
 ghost use Rattle.fix_verdict.specs.Verdicts.{IsNeverLoose, IsVerdict};
@@ -62,11 +60,9 @@ pub fn judge(
     requires explored { IsExplored table.now graph.now height budget found.now }
     requires lowered { LowerOf program.now mode graph.now }
     requires shapes { graph.now.shapes ≡ table.now.face.shapes }
-    requires empty { table.now.defs ≡ [] }
     ensures verdict { IfOk result (IsVerdict table.now program.now mode graph.now height budget found.now) }
     ensures loops { has_no_loop program.now ≡ true → IfOk result IsNeverLoose }
 {
-    table.known();
     graphs_agree(program, mode, graph);
     edges_make_runs(program, mode, graph);
     edges_in_range(program, mode, graph);
@@ -108,7 +104,6 @@ fn judge_trace(
 ) -> Mem<Verdict>
     requires below { steps < 2 ^ 64 - 1 }
     requires face { table.now.face ≡ trace.now.last.face }
-    requires plain { Every HasNoBoxes trace.now.last.forest.autos }
     ensures { IfOk result (IsReplayed table.now program.now mode trace.now steps) }
 {
     match replay(alloc, program, mode, trace.choices.as_slice(), steps)? {

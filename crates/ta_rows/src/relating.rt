@@ -3,8 +3,8 @@
 // - `simulation JOBS | AUTOMATON`: the number of its states, and the pairs of its greatest downward simulation, of
 // which
 //   the second state simulates the first. It is computed by 1 or 64 jobs.
-// - `upward | AUTOMATON`, `upward alone | AUTOMATON`: the same of its greatest upward simulation by that one, with a
-//   crew and without.
+// - `upward | AUTOMATON`, `upward alone | AUTOMATON`: the same of its greatest upward simulation by that one, by 64 jobs
+//   and without a crew.
 // - `included | AUTOMATON | AUTOMATON`: whether each tree of the first is one of the second.
 // - `missing | AUTOMATON | AUTOMATON | ..`: for the tree that shows that the second has not all trees of the first,
 // which
@@ -65,7 +65,7 @@ fn simulation<R: Threads + Sync>(rt: &R, alloc: Global, first: &str, jobs: usize
 
 fn raised<R: Threads + Sync>(rt: &R, alloc: Global, first: &str) -> Result<String> {
     let crew = Crew {
-        jobs: 1,
+        jobs: 64,
         gate: &NoGate,
     };
     let auto = auto(alloc, first)?;

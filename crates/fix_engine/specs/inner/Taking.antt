@@ -1,5 +1,5 @@
 -- What holds while an exploration goes on.
-use Rattle.std.specs.Prelude.{◌≡◌, ◌⊎◌, ◌<◌, ◌≤◌, ◌+◌, ℕ, List, length, Bool, true, false, Some}
+use Rattle.std.specs.Prelude.{◌≡◌, ◌⊎◌, ◌<◌, ◌≤◌, ◌+◌, ℕ, List, length, take, Bool, true, false, Some}
 use Rattle.fore_base.specs.declared.store.Store.{Store}
 use Rattle.fore_base.specs.Lists.{IsIn, Every}
 use Rattle.fa_core.specs.Boxes.{Boxes}
@@ -11,11 +11,11 @@ use Rattle.sym_step.specs.declared.posts.Bad.{Bad}
 use Rattle.fix_core.specs.declared.nodes.Node.{Node}
 use Rattle.fix_engine.specs.declared.taking.Taken.{Taken}
 use Rattle.fix_engine.specs.declared.taking.Taken.TheVariants.{All, Fault, Full as Over}
-use Rattle.fix_core.specs.Explorations.{IsNode, IsEdge, is_head, IsChild, NoLater, IsHoused, IsCalm, EdgeDone}
+use Rattle.fix_core.specs.Explorations.{IsNode, IsEdge, IsChild, NoLater, IsHoused, IsCalm, EdgeDone}
 use Rattle.fix_core.specs.Explorations.{EarlierDone, Done, Exploration, Full}
-use Rattle.fix_core.specs.Follows.{IsMember, passed_by, Arrives}
+use Rattle.fix_core.specs.Follows.{IsMember, passed_by}
 use Rattle.fix_core.specs.States.{AbstractState}
-use Rattle.fix_successors.specs.Arriving.{EachTwo, AreOfTwoCases}
+use Rattle.fix_successors.specs.Arriving.{Arrival, AreTargets}
 
 -- the node that an edge leads to
 abbrev pub child : ℕ → ℕ → Edge → AbstractState → Node
@@ -33,9 +33,9 @@ Grows nodes more = (j : ℕ) (n : Node) → IsNode nodes j n → IsNode more j n
 
 module _ (T : Boxes) (g : ControlGraph) where
   -- each member of the states is a member of a node of the location
-  abbrev pub AreHoused : List Node → ℕ → List AbstractState → Type 0
-  AreHoused nodes location states =
-      Every (λ (a : AbstractState). (s : Store) → IsMember T a.forest s → IsHoused T g nodes location s) states
+  abbrev pub AreHoused : List Node → ℕ → List Arrival → Type 0
+  AreHoused nodes location arrivals =
+      Every (λ (x : Arrival). (s : Store) → IsMember T x.state.forest s → IsHoused T g nodes location s) arrivals
 
   -- a fault on an edge of node `at`, of which the edges before are done
   pub record IsFault (nodes : List Node) (at c : ℕ) (bad : Bad) : Type 0 where
@@ -59,29 +59,35 @@ module _ (T : Boxes) (g : ControlGraph) where
       pub is_edge : IsEdge g c edge
       pub from : edge.from ≡ parent.head.location
       pub calm : IsCalm T parent edge
-      pub each : Every (Arrives T g (is_head g edge.to) k parent.state.forest edge) states
-      pub apart : EachTwo (AreOfTwoCases T g edge) states
+      pub targets : AreTargets T g k parent.state.forest edge states
 
     -- In the middle of edge c of node `at`, of whose states these were taken up: the nodes before are done, and the
     -- edges before; and no node is a child of a later edge.
-    pub record IsMid (nodes : List Node) (at c : ℕ) (before : List AbstractState) : Type 0 where
+    pub record IsMid (nodes : List Node) (at c : ℕ) (before : List Arrival) : Type 0 where
       pub explored : Exploration T g k nodes
       pub inside : at < length nodes
       pub done : (j : ℕ) → j < at → Done T g nodes j
       pub earlier : (parent : Node) → IsNode nodes at parent → EarlierDone T g nodes parent c
       pub last : (j : ℕ) (n : Node) (p d : ℕ) → IsNode nodes j n → IsChild n p d → NoLater p d at c
-      pub those : (j : ℕ) (n : Node) → IsNode nodes j n → IsChild n at c → IsIn n.state before
+      pub those : (j : ℕ) (n : Node) → IsNode nodes j n → IsChild n at c
+          → IsIn (record { state = n.state; grouped = explored.grouped j }) before
 
     -- the states of edge c of node `at` were taken up: all, or so many that a further node would go past the budget
-    abbrev pub AreTaken : List Node → ℕ → ℕ → ℕ → List AbstractState → List Node → Bool → Type 0
-    AreTaken nodes at c budget states more true = IsMid more at c states × Grows nodes more × (length more ≤ budget)
-        × ((e : Edge) → IsEdge g c e → AreHoused more e.to states)
-    AreTaken nodes at c budget states more false = Exploration T g k more × Full T g k more budget
+    abbrev pub AreTaken : List Node → ℕ → ℕ → ℕ → List Arrival → List Node → Bool → Type 0
+    AreTaken nodes at c budget before more true = IsMid more at c before × Grows nodes more × (length more ≤ budget)
+        × ((e : Edge) → IsEdge g c e → AreHoused more e.to before)
+    AreTaken nodes at c budget before more false = Exploration T g k more × Full T g k more budget
+
+    -- so were the first i of the states to which the edge leads
+    pub record AreFirstTaken (nodes : List Node) (at c budget : ℕ) (states : List AbstractState) (i : ℕ)
+        (more : List Node) (room : Bool) : Type 0 where
+      pub due : AreDue nodes at c states
+      pub taken : AreTaken nodes at c budget (take i due.targets.arrivals) more room
 
     -- Edge c of node `at` was taken up whole.
     pub record IsEdgeTaken (nodes more : List Node) (at c : ℕ) : Type 0 where
-      pub states : List AbstractState
-      pub mid : IsMid more at c states
+      pub arrivals : List Arrival
+      pub mid : IsMid more at c arrivals
       pub grows : Grows nodes more
       pub edge : (n : Node) (e : Edge) → IsNode more at n → IsEdge g c e → e.from ≡ n.head.location
           → EdgeDone T g more n e

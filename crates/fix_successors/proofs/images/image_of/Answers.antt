@@ -1,5 +1,7 @@
 use Rattle.std.proofs.Common.{◌≡◌, ◌∙◌, slice_get, Some, sym, ap, subst}
 use Rattle.std.specs.Option.{option_copied}
+use Rattle.fore_base.proofs.ListLemmas.{every_in}
+use Rattle.c_cfg.specs.Ranges.{IsEdgeOf}
 use Rattle.fix_core.proofs.Lists.{none_first}
 use Rattle.fix_successors.specs.Images.{IsTrueFault}
 use Rattle.fix_successors.proofs.Imaged.{true_fault, post_normal, successors}
@@ -15,6 +17,12 @@ returns-in-Some g c =
     let is : slice_get p.faults 0 ≡ Some first = sym c.get.ensures.value ∙ ap (λ z. option_copied z) c.in-Some.is in
     subst (IsTrueFault t.table t.graph F e) (sym c.in_ok-bad.ensures.same)
     (true_fault t.table t.graph F e p first c.in_ok-post.ensures is c.copy_bad.ensures.sound)
+
+pub arrivals_of-requires-clause-location : goal.arrivals_of-requires-clause-location
+arrivals_of-requires-clause-location g c =
+    let t = c.args.task.now in
+    λ κs within.
+    (every_in (IsEdgeOf t.graph) t.graph.edges c.args.edge.now c.known.ensures.edges c.requires.listed).to
 
 pub arrivals_of-requires-clause-normal : goal.arrivals_of-requires-clause-normal
 arrivals_of-requires-clause-normal g c =

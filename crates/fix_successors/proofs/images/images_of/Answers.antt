@@ -1,7 +1,5 @@
 use Rattle.std.proofs.Common.{◌∙◌, length, get_or, sym, ap, subst}
 use Rattle.std.proofs.lemmas.Option.{slice_get-get_or}
-use Rattle.fore_base.proofs.ListLemmas.{every_in}
-use Rattle.c_cfg.specs.Ranges.{IsEdgeOf}
 use Rattle.fix_core.specs.Explorations.{IsEdge}
 use Rattle.fix_core.specs.Listed.{numbers_at}
 use Rattle.fix_core.proofs.Lists.{in_at, take_next, take_all}
@@ -23,14 +21,13 @@ edge_at-edge-requires g c =
     (get_or numbers c.loop-number.number-index 0) are
     (slice_get-get_or numbers c.loop-number.number-index 0 c.loop-number-test.true))
 
-pub image_of-requires-clause-edge : goal.image_of-requires-clause-edge
-image_of-requires-clause-edge g c =
+pub image_of-requires-clause-listed : goal.image_of-requires-clause-listed
+image_of-requires-clause-listed g c =
     let t = c.args.task.now in
     let e = c.edge_at-edge.result.now in
     let number = get_or c.exits_at-number-items.result.now c.loop-number.number-index 0 in
     let is_edge : IsEdge t.graph number e = subst (λ z. IsEdge z number e) c.graph.ensures c.edge_at-edge.ensures in
-    λ κs within. every_in (IsEdgeOf t.graph) t.graph.edges e c.known.ensures.edges
-    (in_at t.graph.edges number e is_edge)
+    λ κs within. in_at t.graph.edges number e is_edge
 
 pub loop-number-preserved : goal.loop-number-preserved
 loop-number-preserved g c =

@@ -1,7 +1,16 @@
 use Rattle.std.proofs.Common.{◌≤◌, length}
 use Rattle.std.proofs.lemmas.Result.{IfOk-at_ok}
-use Rattle.fix_successors.proofs.Posting.{post_is}
+use Rattle.fore_base.proofs.ListLemmas.{every_in}
+use Rattle.c_cfg.specs.Ranges.{IsEdgeOf}
+use Rattle.fix_successors.proofs.Posting.{edge_fits, post_is}
 use Rattle.fix_successors.proofs.posts.post_of.Goals as goal
+
+pub post-requires-clause-fits : goal.post-requires-clause-fits
+post-requires-clause-fits g c = λ κs within.
+    let t = c.args.task.now in
+    edge_fits t.table t.graph c.args.due.now.forest c.args.edge.now c.requires.normal
+    (every_in (IsEdgeOf t.graph) t.graph.edges c.args.edge.now c.known.ensures.edges c.requires.listed)
+    c.known.ensures.shapes
 
 pub returns : goal.returns
 returns g c =

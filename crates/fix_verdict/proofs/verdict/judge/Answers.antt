@@ -1,6 +1,4 @@
-use Rattle.std.proofs.Common.{◌∙◌, ◌≤◌, length, IfOk, sym, ap, subst, arith}
-use Rattle.fa_core.specs.Boxes.{faces_of}
-use Rattle.fa_core.proofs.Boxless.{sound_plain}
+use Rattle.std.proofs.Common.{◌∙◌, ◌≤◌, length, IfOk, sym, subst, arith}
 use Rattle.fix_verdict.specs.declared.verdict.Verdict.TheVariants.{Safe}
 use Rattle.fix_core.specs.Explorations.{IsExplored}
 use Rattle.fix_verdict.specs.Verdicts.{IsVerdict}
@@ -16,13 +14,6 @@ replay_steps-steps-requires c =
     (c.graphs_agree.ensures c.requires.lowered) c.requires.shapes c.args.height c.in-Faulty.nodes c.in-Faulty.trace
     x.0 x.1 in
     omega (arith, short, x.2, c.ranges.budget)
-
-pub judge_trace-requires-clause-plain : goal.judge_trace-requires-clause-plain
-judge_trace-requires-clause-plain c =
-    let x = subst (IsExplored c.args.table.now c.args.graph.now c.args.height c.args.budget) c.in-Faulty.is
-    c.requires.explored in
-    sound_plain c.args.table.now.face c.in-Faulty.trace.last.forest x.1.sound
-    (c.known.ensures.faces ∙ ap faces_of c.requires.empty)
 
 pub returns-in-Closed-clause-verdict : goal.returns-in-Closed-clause-verdict
 returns-in-Closed-clause-verdict c =
