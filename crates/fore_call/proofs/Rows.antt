@@ -343,7 +343,7 @@ module _ (p : Program) (t : Boxes) (r : Reading) where
 
   too_long_boxes : GivesProgram (from (gave []) (gave (of_x (codes "int") ∷ []))) (codes "x.c") [] p
       → IsRefused (from (gave []) (gave (of_x (codes "int") ∷ []))) boxed BoxesTooLong
-  too_long_boxes gives = inr (p, [], gives, refl, tt)
+  too_long_boxes gives = inr (p, [], gives, (refl, tt))
 
 nothing_gives_no_program : (p : Program) (more : List NamedFile) → GivesProgram idle (codes "x.c") more p → ⊥
 nothing_gives_no_program p more h = cc (h.given)

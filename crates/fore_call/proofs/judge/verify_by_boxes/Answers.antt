@@ -1,31 +1,24 @@
-use Rattle.std.proofs.Common.{◌≡◌, rules, Some, sym, subst}
+use Rattle.std.proofs.Common.{Some, sym, subst}
 use Rattle.fore_read.specs.Readings.{shelf_view, reading_of}
 use Rattle.fore_words.specs.declared.asked.Asked.TheVariants.{Verify}
 use Rattle.fore_call.specs.Verdict.{IsRightFor}
-use Rattle.fore_call.specs.inner.Judging.{IsBoxesAnswer}
 use Rattle.fore_call.proofs.JudgeLemmas.{not_with_boxes, right_for_both, reads_both}
-use Rattle.fore_call.proofs.judge.refuse_boxes.Goals as goal
+use Rattle.fore_call.proofs.judge.verify_by_boxes.Goals as goal
 
 pub returns-in-Ok-clause-right : goal.returns-in-Ok-clause-right
 returns-in-Ok-clause-right g c =
-    let same : c.program.inside.shapes ≡ c.in-Ok.program.shapes = search rules in
     right_for_both (shelf_view g.L.Shelf c.args.shelf.now) (shelf_view g.L.Shelf c.read_program.new.shelf)
     (shelf_view g.L.Shelf c.answer_boxes.new.shelf) c.args.path.now c.in-Ok.program c.in-Ok.ensures.ok
-    c.read_program.ensures.reads c.args.boxes.now c.args._settings c.answer_boxes.result
-    (subst
-    (λ shapes.
-    IsBoxesAnswer (reading_of g.L.Shelf c.read_program.new.shelf c.answer_boxes.new.shelf) c.args.boxes.now shapes
-    c.answer_boxes.result)
-    same c.answer_boxes.ensures.right)
+    c.read_program.ensures.reads c.args.boxes.now c.args.settings c.answer_boxes.result c.answer_boxes.ensures.right
 
 pub returns-in-Ok-clause-reads : goal.returns-in-Ok-clause-reads
 returns-in-Ok-clause-reads g c =
     reads_both (shelf_view g.L.Shelf c.args.shelf.now) (shelf_view g.L.Shelf c.read_program.new.shelf)
     (shelf_view g.L.Shelf c.answer_boxes.new.shelf) c.args.path.now c.in-Ok.program c.in-Ok.ensures.ok
-    c.read_program.ensures.reads c.args.boxes.now c.args._settings c.answer_boxes.ensures.reads
+    c.read_program.ensures.reads c.args.boxes.now c.args.settings c.answer_boxes.ensures.reads
 
 pub returns-in-Err-clause-right : goal.returns-in-Err-clause-right
 returns-in-Err-clause-right g c =
     let r = reading_of g.L.Shelf c.args.shelf.now c.read_program.new.shelf in
-    subst (IsRightFor r (Verify c.args.path.now (Some c.args.boxes.now) c.args._settings)) (sym c.answer_to.ensures)
-    (not_with_boxes r c.args.path.now c.args.boxes.now c.args._settings c.in-Err.fault c.in-Err.ensures.err)
+    subst (IsRightFor r (Verify c.args.path.now (Some c.args.boxes.now) c.args.settings)) (sym c.answer_to.ensures)
+    (not_with_boxes r c.args.path.now c.args.boxes.now c.args.settings c.in-Err.fault c.in-Err.ensures.err)
