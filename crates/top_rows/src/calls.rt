@@ -7,6 +7,7 @@ use fore_base::memory::Mem;
 use fore_base::shelf::Shelf;
 use fore_call::forester;
 use par_kit::gate::NoGate;
+use row_reports::least_report;
 use std::alloc::Global;
 use std::thread::Threads;
 
@@ -121,6 +122,13 @@ pub fn shown_until(alloc: Global, told: &Told, last: &str) -> Result<String> {
         .split_once(last)
         .context("no such text on standard output")?;
     Ok(format!(in alloc; "{} {before:?}.. {notes:?}", told.status)?)
+}
+
+/// The same, with the report on standard output by the least automata of its components.
+pub fn shown_least(alloc: Global, told: &Told) -> Result<String> {
+    let out = least_report(alloc, text_of(told.out.bytes())?)?;
+    let notes = text_of(told.notes.bytes())?;
+    Ok(format!(in alloc; "{} {out:?} {notes:?}", told.status)?)
 }
 
 fn text_of<'a>(bytes: &'a [u8]) -> Result<&'a str> {

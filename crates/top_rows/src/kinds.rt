@@ -4,25 +4,31 @@
 // - `call WORDS | FILE`: of the words over the file x.c.
 // - `lines WORDS | LINES`: of the words over a file with these lines in its main, of which the first is line 3.
 // - `until WORDS | FILE | LAST`: the same as `call`, and of standard output only what stands before LAST.
+// - `least WORDS | FILE`: the same as `call`, and each component of a report by the least automaton of its trees.
 // - `boxes READ WORDS | FILE | BOXES | LAST`: over the files x.c and x.box, where this read fails; where there is a LAST,
 //   of standard output only what stands before it.
 // - `changing WORDS | FIRST | LATER`: over files that all have the first bytes at the first read, and then the others.
 // - `failing MOST READ OUT NOTES WORDS | FILE`: where a put takes at most MOST bytes, and these reads and puts fail.
 // - `prefixes STATUSES FIRST LAST WORDS | FILE | BOXES`: over each beginning of the last file, of FIRST to LAST bytes.
+// - `fronts STATUSES FIRST LAST WORDS | FILE | BOXES`: over each beginning of FILE, beside the whole of BOXES.
+// - `noted STATUSES FIRST LAST WORDS | FILE | BOXES`: over each beginning of the last file: each line that is noted,
+//   with the first length at which it comes after another one.
 // - `replaced STATUSES WORDS | FILE | BOXES`: over the last file with each byte in turn replaced by each of five strange
 //   ones.
 // - `puts MOST WORDS | FILE`: where a put takes at most MOST bytes, and each put in turn fails.
+// - `component | REPORT`: the report, each component by the least automaton of its trees.
 // - `report NUMBER LINE STEP | NAME`: the report on a fault of this number.
 
-use crate::calls::{Ends, STEADY, call, call_over, shown, shown_until};
+use crate::calls::{Ends, STEADY, call, call_over, shown, shown_least, shown_until};
 use crate::shelves::ChangingShelf;
-use crate::tables::{Varied, prefixes, puts, replaced};
+use crate::tables::{Varied, noted, prefixes, puts, replaced};
 use crate::texts::main_of;
 use anyhow::{Context, Result, bail};
 use fore_base::fault::Fault;
 use fore_base::text::Text;
 use fore_report::texts::unsafe_report;
 use row_kit::Answers;
+use row_reports::least_report;
 use row_texts::read_text;
 use std::alloc::Global;
 use std::thread::Threads;
@@ -45,11 +51,15 @@ impl Answers for Kinds {
         let file = file_of(alloc, kind, file)?;
         match *kind {
             "call" | "lines" => steady(rt, alloc, words, &file),
+            "least" => least(rt, alloc, words, &file),
+            "component" => component(alloc, &file),
             "until" => until(rt, alloc, words, &file, others),
             "boxes" => with_boxes(rt, alloc, words, &file, others),
             "changing" => changing(rt, alloc, words, file, others),
             "failing" => failing(rt, alloc, words, &file),
-            "prefixes" | "replaced" => tables(rt, alloc, kind, words, &file, others),
+            "prefixes" | "fronts" | "noted" | "replaced" => {
+                tables(rt, alloc, kind, words, &file, others)
+            }
             "puts" => each_put(rt, alloc, words, &file),
             "report" => report(alloc, words),
             _ => bail!("no such kind"),
@@ -68,6 +78,19 @@ fn file_of(alloc: Global, kind: &str, text: &str) -> Result<Text> {
 fn steady<R: Threads + Sync>(rt: &R, alloc: Global, words: &[&str], file: &Text) -> Result<String> {
     let told = call(rt, alloc, words, file.as_slice(), None, STEADY)?;
     shown(alloc, &told)
+}
+
+fn least<R: Threads + Sync>(rt: &R, alloc: Global, words: &[&str], file: &Text) -> Result<String> {
+    let told = call(rt, alloc, words, file.as_slice(), None, STEADY)?;
+    shown_least(alloc, &told)
+}
+
+fn component(alloc: Global, report: &Text) -> Result<String> {
+    let report = str::from_utf8(report.as_slice())
+        .ok()
+        .context("bytes that are no text")?;
+    let least = least_report(alloc, report)?;
+    Ok(format!(in alloc; "{least:?}")?)
 }
 
 fn until<R: Threads + Sync>(
@@ -170,24 +193,29 @@ fn tables<'a, R: Threads + Sync>(
         words,
         file,
         boxes,
+        keeps_boxes: kind == "fronts",
     };
     match kind {
-        "prefixes" => each_prefix(rt, alloc, &varied),
-        _ => replaced(rt, alloc, &varied),
+        "replaced" => replaced(rt, alloc, &varied),
+        _ => each_prefix(rt, alloc, kind, &varied),
     }
 }
 
-fn each_prefix<R: Threads + Sync>(rt: &R, alloc: Global, varied: &Varied<'_>) -> Result<String> {
+fn each_prefix<R: Threads + Sync>(
+    rt: &R,
+    alloc: Global,
+    kind: &str,
+    varied: &Varied<'_>,
+) -> Result<String> {
     let (first, words) = varied.words.split_first().context("no first number")?;
     let (last, words) = words.split_first().context("no last number")?;
     let varied = Varied { words, ..*varied };
-    prefixes(
-        rt,
-        alloc,
-        &varied,
-        first.parse::<usize>()?,
-        last.parse::<usize>()?,
-    )
+    let first = first.parse::<usize>()?;
+    let last = last.parse::<usize>()?;
+    match kind {
+        "noted" => noted(rt, alloc, &varied, first, last),
+        _ => prefixes(rt, alloc, &varied, first, last),
+    }
 }
 
 fn each_put<R: Threads + Sync>(

@@ -10,21 +10,22 @@ use std::thread::Threads;
 /// What stands in the place of each byte in turn.
 const STRANGE: &[u8] = &[b'#', b'"', b'(', 0, 255];
 
-/// The words, the file x.c, and the file x.box where there is one: it is the last of them that is changed. The digits are
-/// those of the statuses that may come.
+/// The words, the file x.c, and the file x.box where there is one: it is the last of them that is changed, or the first
+/// where the boxes are kept. The digits are those of the statuses that may come.
 #[derive(Clone, Copy)]
 pub struct Varied<'a> {
     pub statuses: &'a str,
     pub words: &'a [&'a str],
     pub file: &'a [u8],
     pub boxes: Option<&'a [u8]>,
+    pub keeps_boxes: bool,
 }
 
 /// The bytes that are changed.
 fn varied_bytes<'a>(varied: &Varied<'a>) -> &'a [u8] {
     match varied.boxes {
-        None => varied.file,
-        Some(boxes) => boxes,
+        Some(boxes) if !varied.keeps_boxes => boxes,
+        _ => varied.file,
     }
 }
 
@@ -36,8 +37,10 @@ fn call_with<R: Threads + Sync>(
     bytes: &[u8],
 ) -> Result<Told> {
     match varied.boxes {
-        None => call(rt, alloc, varied.words, bytes, None, STEADY),
-        Some(_) => call(rt, alloc, varied.words, varied.file, Some(bytes), STEADY),
+        Some(_) if !varied.keeps_boxes => {
+            call(rt, alloc, varied.words, varied.file, Some(bytes), STEADY)
+        }
+        boxes => call(rt, alloc, varied.words, bytes, boxes, STEADY),
     }
 }
 
@@ -75,6 +78,55 @@ pub fn prefixes<R: Threads + Sync>(
         count = count.saturating_add(1);
     }
     counted(alloc, count)
+}
+
+/// What is noted over the beginnings of the file, of `first` bytes to `last` bytes: each line, with the first length at
+/// which it comes after another one.
+pub fn noted<R: Threads + Sync>(
+    rt: &R,
+    alloc: Global,
+    varied: &Varied<'_>,
+    first: usize,
+    last: usize,
+) -> Result<String> {
+    let whole = varied_bytes(varied);
+    let mut out = String::new(alloc);
+    let mut before = String::new(alloc);
+    for length in first..=last {
+        let bytes = whole.get(..length).context("no such beginning")?;
+        let note = note_with(rt, alloc, varied, bytes)?;
+        if note.as_str() != before.as_str() {
+            put_note(&mut out, length, note.as_str())?;
+            before = note;
+        }
+    }
+    Ok(out)
+}
+
+/// What is on standard error with these bytes in their place, without the end of its line; and what came of the call
+/// where that was not wanted.
+fn note_with<R: Threads + Sync>(
+    rt: &R,
+    alloc: Global,
+    varied: &Varied<'_>,
+    bytes: &[u8],
+) -> Result<String> {
+    let told = call_with(rt, alloc, varied, bytes)?;
+    if !is_wanted(&told, varied.statuses) {
+        return shown(alloc, &told);
+    }
+    let note = str::from_utf8(told.notes.bytes())
+        .ok()
+        .context("bytes that are no text")?;
+    Ok(String::from_str(alloc, note.trim_end())?)
+}
+
+fn put_note(out: &mut String, length: usize, note: &str) -> Result<()> {
+    if !out.is_empty() {
+        write!(out, ", ")?;
+    }
+    write!(out, "from {length}: {note}")?;
+    Ok(())
 }
 
 /// The calls over the file with each byte in turn replaced by each of the strange ones.
