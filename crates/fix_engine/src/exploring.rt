@@ -27,8 +27,8 @@ use std::thread::Threads;
 ///
 /// It ends with the first fault; with a successor for which the budget of nodes has no room; or when every node is
 /// done. The height is 1 to 4, and the budget at least 1. Each number in the graph's edges is in range, and the graph's
-/// structs are the table's. So far a graph with an edge that frees is explored with the empty table alone. The crew runs
-/// 1 to 64 jobs and has no bearing on the answer.
+/// structs are the table's. So far a graph with an edge that frees is explored with the empty table alone. The crew
+/// runs 1 to 64 jobs and has no bearing on the answer.
 ///
 /// # Errors
 ///
