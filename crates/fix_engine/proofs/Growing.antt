@@ -15,7 +15,7 @@ use Rattle.c_cfg.specs.Graphs.{ControlGraph}
 use Rattle.fix_core.specs.declared.nodes.Node.{Node}
 use Rattle.fix_core.specs.States.{AbstractState}
 use Rattle.fix_core.specs.Follows.{Settles, passed_by}
-use Rattle.fix_core.specs.Explorations.{IsNode, IsEdge, is_head, IsChild, NoLater, FollowsEarlier, IsHoused}
+use Rattle.fix_core.specs.Explorations.{IsNode, IsEdge, IsChild, NoLater, FollowsEarlier, IsHoused}
 use Rattle.fix_core.specs.Explorations.{IsCared, IsCalm}
 use Rattle.fix_core.specs.Explorations.{EdgeDone, EarlierDone, CalmUpTo, Done, IsApart, Exploration}
 use Rattle.fix_successors.specs.Arriving.{Arrival, AreApart, IsArrival}

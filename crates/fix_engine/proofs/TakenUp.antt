@@ -76,8 +76,8 @@ module _ (T : Boxes) (g : ControlGraph) (k : ℕ) where
             (m.those j n is ch);
       }
 
-  module _ (start nodes : List Node) (at c budget : ℕ) (states : List AbstractState) (due : AreDue T g k start at c states)
-      (i : ℕ) (x : Arrival) (e : Edge) (is : slice_get due.targets.arrivals i ≡ Some x) (is_edge : IsEdge g c e)
+  module _ (start nodes : List Node) (at c budget : ℕ) (states : List AbstractState)
+      (due : AreDue T g k start at c states) (i : ℕ) (x : Arrival) (e : Edge) (is : slice_get due.targets.arrivals i ≡ Some x) (is_edge : IsEdge g c e)
       (before : AreTaken T g k start at c budget (take i due.targets.arrivals) nodes true) where
     abbrev all : List Arrival
     all = due.targets.arrivals

@@ -29,7 +29,6 @@ use Rattle.fix_core.specs.States.{AbstractState}
 use Rattle.fix_core.proofs.Lists.{some_same, every_at}
 use Rattle.fix_successors.specs.Arriving.{Arrival, states_of, EachTwo, carried, AreCarried, IsCarriedOver, IsHeld}
 use Rattle.fix_successors.specs.Arriving.{IsRawCase, AreCases, IsArrival, AreApart, AreArrivals}
-use Rattle.fix_successors.specs.Ready.{IsNormal}
 use Rattle.fix_successors.specs.inner.Settling.{groups_of, all_of, IsSettling, AreSettled, AreAllSettled}
 use Rattle.fix_successors.proofs.Lists.{each_two_append}
 use Rattle.fix_successors.proofs.Regrouping.{same_trees}

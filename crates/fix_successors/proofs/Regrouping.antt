@@ -126,7 +126,8 @@ module _ (T : Boxes) (g : ControlGraph) (table : IsBoxTable T) (insides : AreRan
           (in_every (λ (s : SoundForest). HasAsManyVariables F.forest s.forest) cs
           (λ s i. (
             every_in (λ (z : SoundForest). length z.forest.vars ≡ length F.forest.vars) cs s vars i,
-            ap (λ ds. length ds) (every_in (λ (z : SoundForest). z.forest.data_vars ≡ F.forest.data_vars) cs s datums i),
+            ap (λ ds. length ds)
+                (every_in (λ (z : SoundForest). z.forest.data_vars ≡ F.forest.data_vars) cs s datums i),
           )))
 
       normal : (s : SoundForest) → IsIn s js → IsNormal T g s

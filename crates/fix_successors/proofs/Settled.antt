@@ -1,5 +1,5 @@
 -- What a case becomes at a loop head, from the forests into which it was regrouped.
-use Rattle.std.proofs.Common.{◌≡◌, ℕ, List, [], ◌∷◌, ◌++◌, map, length, refl, sym, ap, ap₂, ◌∙◌, subst, inl, inr}
+use Rattle.std.proofs.Common.{◌≡◌, ℕ, List, [], ◌∷◌, ◌++◌, length, refl, sym, ap, ap₂, ◌∙◌, subst, inl, inr}
 use Rattle.std.proofs.lemmas.List.{map-append, append-nil, append_assoc}
 use Rattle.fore_base.specs.declared.store.Store.{Store}
 use Rattle.fore_base.specs.Lists.{IsIn, Every, Paired}
@@ -8,14 +8,13 @@ use Rattle.fa_core.specs.Boxes.{Boxes}
 use Rattle.fa_core.specs.LeastFolds.{FoldsTo}
 use Rattle.fa_core.specs.Member.{Regroups}
 use Rattle.fa_core.specs.declared.folds.FoldStep.{FoldStep}
-use Rattle.fa_core.specs.declared.forest.Forest.{Forest}
 use Rattle.fa_join.specs.Joinable.{NoneJoinable}
 use Rattle.fa_sound.specs.Soundness.{SoundForest}
 use Rattle.fa_sound.specs.Unions.{forests}
 use Rattle.c_cfg.specs.Graphs.{ControlGraph}
 use Rattle.fix_core.specs.Follows.{IsMember, SameLanguages}
 use Rattle.fix_core.specs.States.{AbstractState}
-use Rattle.fix_successors.specs.Arriving.{Arrival, states_of, IsHeld, StandsInCase}
+use Rattle.fix_successors.specs.Arriving.{Arrival, states_of, IsHeld}
 use Rattle.fix_successors.specs.Ready.{IsNormal}
 use Rattle.fix_successors.specs.inner.Settling.{groups_of, all_of, IsRegrouped, IsAbstracted, IsSettling, AreSettled}
 use Rattle.fix_successors.specs.inner.Settling.{IsSettled, AreAllSettled}

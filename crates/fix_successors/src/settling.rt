@@ -6,7 +6,8 @@ ghost use Rattle.fa_merge.specs.Reached.{AreAllReached};
 ghost use Rattle.fa_sound.specs.Soundness.{IsSigned};
 ghost use Rattle.fix_core.specs.Follows.{HasItsVars};
 ghost use Rattle.fix_successors.specs.Ready.{IsNormal};
-ghost use Rattle.fix_successors.specs.inner.Settling.{AreAllSettled, AreNormalForms, IsAbstracted, IsRegrouped, IsSettled};
+ghost use Rattle.fix_successors.specs.inner.Settling.{AreAllSettled, AreNormalForms, IsAbstracted, IsRegrouped};
+ghost use Rattle.fix_successors.specs.inner.Settling.{IsSettled};
 
 use crate::task::Task;
 use fa_abstract::abstracted;

@@ -16,7 +16,8 @@ returns g c =
     let made = c.in_ok-forest.forest in
     let folds = c.args.folds.now in
     let face : made.face ≡ t.table.face = c.in_ok-forest.ensures.face ∙ c.requires.normal.face in
-    let is : c.settled.result ≡ record { face = made.face; forest = made.forest; middle = Some M.forest; folds = folds } =
+    let is : c.settled.result
+    ≡ record { face = made.face; forest = made.forest; middle = Some M.forest; folds = folds } =
     c.settled.ensures
     ∙ ap₂ (λ (z : SoundForest) (w : List FoldStep).
     record { face = made.face; forest = made.forest; middle = Some z.forest; folds = w }) c.in_ok-middle.ensures

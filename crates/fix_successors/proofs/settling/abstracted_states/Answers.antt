@@ -1,4 +1,4 @@
-use Rattle.std.proofs.Common.{◌+◌, take, subst}
+use Rattle.std.proofs.Common.{◌+◌, take}
 use Rattle.fore_base.specs.Lists.{Paired}
 use Rattle.fore_base.proofs.ListLemmas.{every_at, paired_push, take_item}
 use Rattle.fix_successors.specs.Ready.{IsNormal}

@@ -5,4 +5,5 @@ use Rattle.fix_successors.proofs.settling.abstracted_states.Given as goal
 
 abbrev pub invariant-loop-group : goal.invariant-loop-group
 invariant-loop-group g l =
-    Paired (IsAbstracted l.task.table l.task.graph l.task.height l.middle l.folds) (take l.group-index l.groups) l.states
+    Paired (IsAbstracted l.task.table l.task.graph l.task.height l.middle l.folds)
+    (take l.group-index l.groups) l.states

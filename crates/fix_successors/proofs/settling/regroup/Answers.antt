@@ -1,11 +1,9 @@
-use Rattle.std.proofs.Common.{◌≡◌, ◌∙◌, [], ◌∷◌, true≢false, sym, ap, subst}
+use Rattle.std.proofs.Common.{◌≡◌, ◌∙◌, true≢false, sym, subst}
 use Rattle.fore_base.specs.Lists.{Every}
 use Rattle.fa_core.specs.LeastFolds.{FoldsTo}
-use Rattle.fa_core.specs.declared.forest.Forest.{Forest}
-use Rattle.fa_sound.specs.Soundness.{SoundForest}
 use Rattle.fa_sound.specs.Unions.{forests}
 use Rattle.fix_core.specs.Follows.{SameLanguages}
-use Rattle.fix_successors.specs.inner.Settling.{AreNormalForms, IsRegrouped}
+use Rattle.fix_successors.specs.inner.Settling.{AreNormalForms}
 use Rattle.fix_successors.proofs.Regrouping.{all_reached, as_many, forms_alone, none_leaks, not_folded, regrouped}
 use Rattle.fix_successors.proofs.Regrouping.{trees_alone}
 use Rattle.fix_successors.proofs.settling.regroup.Goals as goal
