@@ -1,12 +1,12 @@
 -- In an exploration of a graph without loop heads no node has a box edge, and the rules of each node have as many
 -- children as their symbols.
-use Rattle.std.proofs.Common.{◌≡◌, ◌<◌, ℕ, zero, suc, false, List, [], ◌∷◌, length, refl, sym, subst, ap, ◌∙◌, arith}
+use Rattle.std.proofs.Common.{◌≡◌, ℕ, zero, suc, false, List, [], ◌∷◌, refl, sym, subst, arith}
 use Rattle.fore_base.specs.Lists.{Every}
 use Rattle.ta_core.specs.Auto.{Automaton, IsRanked}
 use Rattle.c_types.specs.Runs.{empty_store}
 use Rattle.c_cfg.specs.Graphs.{ControlGraph}
 use Rattle.fa_core.specs.Boxes.{Boxes}
-use Rattle.fa_core.specs.Dressed.{Nodes, Fact, node, more, no_nodes, facts}
+use Rattle.fa_core.specs.Dressed.{Nodes, node, more, no_nodes, facts}
 use Rattle.fa_core.specs.Member.{TreesOf}
 use Rattle.fa_core.specs.Rearranged.{Rearranged}
 use Rattle.fa_core.specs.declared.boxes.BoxDef.{BoxDef}
@@ -46,7 +46,8 @@ module _ (T : Boxes) (none : T.face.boxes ≡ []) (g : ControlGraph) (k : ℕ) (
 
   bare_node : (j : ℕ) (n : Node) → IsNode nodes j n → IsBare n.state.forest
   bare_node zero n is =
-      subst (λ (z : Node). IsBare z.state.forest) (one_node nodes 0 explored.first.node n explored.first.is is) (record {
+      let same = one_node nodes 0 explored.first.node n explored.first.is is in
+      subst (λ (z : Node). IsBare z.state.forest) same (record {
         plain = sound_plain T.face explored.first.node.state.forest explored.first.sound none;
         ranked = first_ranked;
       })

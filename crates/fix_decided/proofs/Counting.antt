@@ -1,6 +1,6 @@
 -- As many different prefixes as nodes.
-use Rattle.std.proofs.Common.{◌≡◌, ◌<◌, ◌≤◌, ℕ, zero, suc, false, true, not, List, [], ◌∷◌, length, inl, inr, refl, sym, ap}
-use Rattle.std.proofs.Common.{◌∙◌, subst, arith, Bool, slice_index_or}
+use Rattle.std.proofs.Common.{◌≡◌, ◌<◌, ◌≤◌, ℕ, zero, suc, false, true, not, List, [], ◌∷◌, length, inl, inr, refl}
+use Rattle.std.proofs.Common.{sym, ap, ◌∙◌, subst, arith, Bool, slice_index_or}
 use Rattle.std.specs.List.{list_all}
 use Rattle.fore_base.specs.Lists.{IsIn, IsDistinct, Every}
 use Rattle.c_cfg.specs.Graphs.{ControlGraph}
@@ -12,7 +12,7 @@ use Rattle.fix_core.specs.Explorations.{IsNode, is_head, Exploration}
 use Rattle.fix_core.proofs.Lists.{at_within, in_at, every_in}
 use Rattle.fix_decided.specs.Bare.{IsBare, AreBare}
 use Rattle.fix_decided.proofs.OneCover.{trail_covers}
-use Rattle.fix_decided.proofs.Trails.{IsTrail, end_of, trail_to, trail_ends, trail_prefix}
+use Rattle.fix_decided.proofs.Trails.{IsTrail, trail_to, trail_ends, trail_prefix}
 
 -- where no location is a loop head, none is
 pub no_heads : (heads : List Bool) (location : ℕ) → list_all not heads ≡ true → slice_index_or heads location false

@@ -1,5 +1,5 @@
 -- A budget of as many nodes as the graph has prefixes is never full.
-use Rattle.std.proofs.Common.{◌≡◌, ◌≤◌, ℕ, suc, true, not, List, [], ◌∷◌, ◌++◌, length, ap, ◌∙◌, arith}
+use Rattle.std.proofs.Common.{◌≡◌, ◌≤◌, ℕ, true, not, List, [], ◌∷◌, ◌++◌, length, arith}
 use Rattle.std.specs.List.{list_all}
 use Rattle.c_cfg.specs.Graphs.{ControlGraph}
 use Rattle.c_prefixes.specs.Prefixes.{AtMost}

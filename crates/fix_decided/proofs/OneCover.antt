@@ -1,6 +1,5 @@
 -- Of two nodes that were reached by the same edges each covers the other.
-use Rattle.std.proofs.Common.{◌≡◌, ℕ, false, List, sym, ◌∙◌, subst}
-use Rattle.fore_base.specs.Lists.{Every}
+use Rattle.std.proofs.Common.{◌≡◌, ℕ, false, List, subst}
 use Rattle.fore_base.specs.Heap.{IsAlike}
 use Rattle.fore_base.specs.declared.store.Store.{Store}
 use Rattle.c_cfg.specs.Edges.{Pass, Passed}

@@ -1,7 +1,6 @@
 -- Worked answers: which forests are bare, and which ends are decided.
-use Rattle.std.proofs.Common.{◌≡◌, ◌<◌, ℕ, List, [], ◌∷◌, refl, lit<, arith}
+use Rattle.std.proofs.Common.{◌≡◌, ℕ, List, [], ◌∷◌, refl, lit<, arith}
 use Rattle.ta_core.specs.Auto.{automaton}
-use Rattle.ta_core.specs.declared.auto.Rule.{Rule}
 use Rattle.ta_core.specs.declared.symbol.Slot.TheVariants.{Field, Link, Hook}
 use Rattle.ta_core.specs.declared.symbol.Symbol.{Symbol}
 use Rattle.ta_core.specs.declared.symbol.Symbol.TheVariants.{Null, Cell}

@@ -9,7 +9,7 @@ use Rattle.c_cfg.specs.GraphRuns.{out_of}
 use Rattle.c_prefixes.specs.Prefixes.{IsPathFrom, IsPrefix}
 use Rattle.fa_core.specs.Boxes.{Boxes}
 use Rattle.fix_core.specs.declared.nodes.Node.{Node}
-use Rattle.fix_core.specs.Explorations.{IsNode, IsEdge, FollowsEarlier, Exploration}
+use Rattle.fix_core.specs.Explorations.{IsNode, FollowsEarlier, Exploration}
 use Rattle.fix_core.proofs.Lists.{at_within, in_at}
 use Rattle.fix_core.proofs.Numbered.{one_node}
 
@@ -94,8 +94,8 @@ module _ (T : Boxes) (g : ControlGraph) (k : ℕ) (nodes : List Node) where
         ap (λ (z : Node). z.head.location) (one_node nodes 0 n explored.first.node is explored.first.is)
         ∙ explored.first.entry
     trail_ends j es n (goes m before more f m_is t is_more) is =
-        ap (λ (z : Node). z.head.location) (one_node nodes j n m is m_is) ∙ f.follows.to ∙ sym (end_push 0 before f.edge)
-        ∙ ap (end_of 0) (sym is_more)
+        ap (λ (z : Node). z.head.location) (one_node nodes j n m is m_is) ∙ f.follows.to
+        ∙ sym (end_push 0 before f.edge) ∙ ap (end_of 0) (sym is_more)
 
     -- it is a prefix of the graph
     pub trail_prefix : (j : ℕ) (es : List Edge) → IsTrail j es → IsPrefix g es

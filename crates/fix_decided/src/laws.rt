@@ -18,8 +18,8 @@ pub fn nodes_are_at_most_prefixes()
         → list_all not g.heads ≡ true → Exploration T g k nodes → AreBare nodes → AtMost b g → length nodes ≤ b }
 {}
 
-/// By a table without boxes no node of an exploration of a graph without loop heads has a box edge, and each rule has as
-/// many children as its symbol. So where the budget is as large as the number of prefixes it is never full.
+/// By a table without boxes no node of an exploration of a graph without loop heads has a box edge, and each rule has
+/// as many children as its symbol. So where the budget is as large as the number of prefixes it is never full.
 pub fn enough_nodes_decide()
     ensures bare { (T : Boxes) (g : ControlGraph) (k : ℕ) (nodes : List Node) → T.face.boxes ≡ []
         → list_all not g.heads ≡ true → Exploration T g k nodes → AreBare nodes }

@@ -1,9 +1,12 @@
 // The exploration: a work list of nodes, first in, first out, taken up in rounds.
-ghost use Rattle.std.specs.Prelude.{◌≡◌, ◌≤◌, IfOk};
+ghost use Rattle.std.specs.Prelude.{◌≡◌, ◌≤◌, [], true, not, IfOk};
+ghost use Rattle.std.specs.List.{list_all};
 ghost use Rattle.fore_base.specs.Lists.{Every};
 ghost use Rattle.par_kit.specs.Crews.{IsJobs};
 ghost use Rattle.c_cfg.specs.Ranges.{IsEdgeOf};
+ghost use Rattle.c_prefixes.specs.Prefixes.{AtMost};
 ghost use Rattle.fix_core.specs.Explorations.{IsExplored};
+ghost use Rattle.fix_decided.specs.Decided.{IsDecided};
 
 use crate::first::first_node;
 use crate::rounds::{round_of, take_round};
@@ -11,6 +14,7 @@ use crate::taking::Taken;
 use c_cfg::graph::Graph;
 use fa_core::table::BoxTable;
 use fix_core::explored::Explored;
+use fix_decided::laws::enough_nodes_decide;
 use fix_successors::{Task, exits_of};
 use fix_trace::trace_to;
 use fore_base::memory::Mem;
@@ -27,6 +31,9 @@ use std::thread::Threads;
 /// It ends with the first fault; with a successor for which the budget of nodes has no room; or when every node is
 /// done. The height is 1 to 4, and the budget at least 1. Each number in the graph's edges is in range, and the graph's
 /// structs are the table's. The crew runs 1 to 64 jobs and has no bearing on the answer.
+///
+/// A graph without loop heads is decided by the empty table where the budget is as large as the number of its prefixes:
+/// then the budget is never full.
 ///
 /// # Errors
 ///
@@ -45,9 +52,14 @@ pub fn explore<R: Threads + Sync, G: Gate>(
     requires budget { 1 ≤ budget }
     requires edges { Every (IsEdgeOf graph.now) graph.now.edges }
     requires shapes { graph.now.shapes ≡ table.now.face.shapes }
-    ensures { IfOk result (IsExplored table.now graph.now height budget) }
+    ensures explored { IfOk result (IsExplored table.now graph.now height budget) }
+    ensures decides { table.now.defs ≡ []
+        → list_all not graph.now.heads ≡ true
+        → AtMost budget graph.now
+        → IfOk result IsDecided }
 {
     table.known();
+    enough_nodes_decide();
     let exits = exits_of(alloc, graph)?;
     let task = Task::new(rt, alloc, graph, table, exits.as_slice(), height, budget);
     work(&task, crew)
