@@ -20,18 +20,17 @@ use Rattle.fa_folding.proofs.FoldWhole.{folds_made}
 use Rattle.fa_folding.proofs.FoldedRanked.{folds_foldable}
 use Rattle.fa_folding.proofs.FoldedSound.{folds_sound}
 use Rattle.fa_merge.specs.Reordered.{IsOrderOf, counted, reordered}
-use Rattle.fa_fold.specs.Sites.{OutputFits}
-use Rattle.fa_fold.specs.declared.ports.Port.{Port}
+use Rattle.fa_part.specs.Sites.{OutputFits}
+use Rattle.fa_part.specs.declared.ports.Port.{Port}
 use Rattle.fa_fold.specs.inner.Folds.{IsFoldable, fold_of}
-use Rattle.fa_fold.specs.inner.Found.{AreInnerRoots}
-use Rattle.fa_fold.specs.inner.Made.{IsMade}
-use Rattle.fa_fold.specs.inner.Ports.{IsPortOf, IsTakenOnce, ports_of, shapes_of}
+use Rattle.fa_part.specs.Made.{IsMade}
+use Rattle.fa_part.specs.Ports.{AreInnerRoots, IsPortOf, IsTakenOnce, ports_of, shapes_of}
 use Rattle.fa_fold.specs.TopFields.{all_top_fields}
 use Rattle.fa_fold.proofs.FallingFolds.{folds_fall}
 use Rattle.fa_fold.proofs.OneParts.{within_by_other}
-use Rattle.fa_fold.proofs.PartRoots.{one_inner}
-use Rattle.fa_fold.proofs.PortLists.{each_once, each_port}
-use Rattle.fa_fold.proofs.WholeParts.{is_part, one_ports}
+use Rattle.fa_part.proofs.PartRoots.{one_inner}
+use Rattle.fa_part.proofs.PortLists.{each_once, each_port}
+use Rattle.fa_part.proofs.WholeParts.{is_part, one_ports}
 
 pub is_over : (T : Boxes) (face : Face) (F : Forest) → IsBoxTable T → AreRankedInsides T.defs → T.face ≡ face
     → IsSound face F → Every IsRanked F.autos → IsOver T F

@@ -16,8 +16,8 @@ use Rattle.fa_core.specs.declared.boxes.BoxDef.{BoxDef}
 use Rattle.fa_core.specs.declared.faces.BoxFace.{BoxFace}
 use Rattle.fa_core.specs.declared.faces.Face.{Face}
 use Rattle.fa_core.specs.declared.forest.Forest.{Forest}
-use Rattle.fa_fold.proofs.PartRoots.{one_inner}
-use Rattle.fa_fold.proofs.WholeParts.{one_ports}
+use Rattle.fa_part.proofs.PartRoots.{one_inner}
+use Rattle.fa_part.proofs.WholeParts.{one_ports}
 
 -- what g makes of the trees of one automaton is one language
 one_language : (g : Tree → Tree) (autos : List Automaton) (r : ℕ) (b c : Automaton)

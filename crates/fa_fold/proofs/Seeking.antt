@@ -11,7 +11,7 @@ use Rattle.fa_core.specs.declared.boxes.BoxDef.{BoxDef}
 use Rattle.fa_core.specs.declared.faces.BoxFace.{BoxFace}
 use Rattle.fa_core.specs.declared.forest.Forest.{Forest}
 use Rattle.fa_fold.specs.Least.{IsLeastSite}
-use Rattle.fa_fold.specs.Sites.{BoxFits, IsSite, OutputFits}
+use Rattle.fa_part.specs.Sites.{BoxFits, IsSite, OutputFits}
 use Rattle.fa_fold.specs.declared.least.FoldSite.{FoldSite}
 use Rattle.fa_fold.specs.inner.Seeking.{CanNotFold, CanNotFoldAt, HasNoEnd, HasOutput, IsLeastAt, IsLeastEnd, IsLeastOf}
 use Rattle.fa_fold.proofs.FoldSites.{output_right}

@@ -2,6 +2,4 @@ pub mod All
 pub mod Folds
 pub mod inner
 pub mod Least
-pub mod Parts
-pub mod Sites
 pub mod TopFields

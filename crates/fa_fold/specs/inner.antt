@@ -1,10 +1,3 @@
-pub mod Added
-pub mod Automata
-pub mod Edges
+pub mod Fields
 pub mod Folds
-pub mod Found
-pub mod Made
-pub mod Ports
-pub mod Referring
 pub mod Seeking
-pub mod Thin

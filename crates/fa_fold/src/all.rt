@@ -1,6 +1,7 @@
 // All folds of a forest.
 
 ghost use Rattle.std.specs.Prelude.{◌≡◌, ◌<◌, length, List, IfOk};
+ghost use Rattle.fore_base.specs.Lists.{Paired};
 ghost use Rattle.fore_base.specs.declared.shape.Shape.{Shape};
 ghost use Rattle.fore_base.specs.declared.store.Store.{Store};
 ghost use Rattle.fa_core.specs.LeastFolds.{FoldsTo, IsFolded, IsLeastFold};
@@ -9,13 +10,15 @@ ghost use Rattle.fa_merge.specs.Reached.{DoesNoneLeak, NeverLeaks};
 ghost use Rattle.fa_fold.specs.All.{HasAsManyVariables};
 ghost use Rattle.fa_fold.specs.Least.{IsLeastSite};
 ghost use Rattle.fa_fold.specs.TopFields.{all_top_fields};
+ghost use Rattle.fa_part.specs.Ports.{AreFieldsOf};
 
-use crate::folds::fold_once;
-use crate::least::{FoldSite, least_fold};
+use crate::folds::fold_by;
+use crate::least::{FoldSite, least_by};
 use fa_back::ranked_insides;
 use fa_core::folds::FoldStep;
 use fa_core::table::BoxTable;
 use fa_merge::laws::{all_leak_or_none, sound_forests_have_members};
+use fa_part::{PortFields, table_fields};
 use fa_sound::Sound;
 use fore_base::list::{Copies, List};
 use fore_base::memory::Mem;
@@ -44,10 +47,11 @@ pub fn fold_all(alloc: Global, forest: &Sound, table: &BoxTable) -> Mem<(Sound, 
     ranked_insides(table);
     all_leak_or_none();
     sound_forests_have_members();
+    let fields = table_fields(alloc, table)?;
     let mut folded = forest.copy(alloc)?;
     let mut steps = List::new(alloc);
-    'folds: while let Some(site) = least_fold(alloc, &folded, table)? {
-        let (next, step) = fold_least(alloc, &folded, table, &site)?;
+    'folds: while let Some(site) = least_by(alloc, &folded, table, &fields)? {
+        let (next, step) = fold_least(alloc, &folded, table, &fields, &site)?;
         folded = next;
         steps.push(step)?;
     }
@@ -60,9 +64,11 @@ fn fold_least(
     alloc: Global,
     forest: &Sound,
     table: &BoxTable,
+    fields: &List<PortFields>,
     site: &FoldSite,
 ) -> Mem<(Sound, FoldStep)>
     requires face { table.now.face ≡ forest.now.face }
+    requires fields { Paired (AreFieldsOf table.now.face.boxes) table.now.defs fields.now }
     requires site { IsLeastSite table.now forest.now.forest site.now }
     ensures fold { IfOk result (λ made. IsLeastFold table.now forest.now.forest made.1 made.0.forest) }
     ensures face { IfOk result (λ made. made.0.face ≡ forest.now.face) }
@@ -71,6 +77,15 @@ fn fold_least(
     ensures members { IfOk result (λ made. (hs : List Shape) (s : Store)
         → Stands hs table.now.defs forest.now.forest s → Stands hs table.now.defs made.0.forest s) }
 {
-    let made = fold_once(alloc, forest, table, site.box_no, site.input, site.output)?;
+    let own = fields.at(site.box_no as usize);
+    let made = fold_by(
+        alloc,
+        forest,
+        table,
+        own,
+        site.box_no,
+        site.input,
+        site.output,
+    )?;
     Ok(made)
 }

@@ -9,19 +9,17 @@ ghost use Rattle.fa_core.specs.LeastFolds.{CanFold};
 ghost use Rattle.fa_core.specs.Member.{Stands};
 ghost use Rattle.fa_fold.specs.Folds.{IsStepAt};
 ghost use Rattle.fa_fold.specs.TopFields.{all_top_fields};
+ghost use Rattle.fa_fold.specs.inner.Fields.{AreBoxFields};
 ghost use Rattle.fa_fold.specs.inner.Folds.{IsFoldable, fold_of};
-ghost use Rattle.fa_fold.specs.inner.Found.{AreInnerRoots};
-ghost use Rattle.fa_fold.specs.inner.Made.{IsMade};
-ghost use Rattle.fa_fold.specs.inner.Ports.{IsPortOf, ports_of};
+ghost use Rattle.fa_part.specs.Made.{IsMade};
+ghost use Rattle.fa_part.specs.Ports.{AreInnerRoots, IsPortOf, ports_of};
 
-use crate::finding::lone_roots;
 use crate::folded::fold_at;
-use crate::parts::made_part;
-use crate::ports::{Port, ports_for};
 use fa_back::ranked_insides;
 use fa_core::boxes::BoxDef;
 use fa_core::folds::FoldStep;
 use fa_core::table::BoxTable;
+use fa_part::{Port, PortFields, box_fields, lone_roots, made_part, ports_at};
 use fa_sound::Sound;
 use fore_base::list::List;
 use fore_base::memory::Mem;
@@ -53,10 +51,37 @@ pub fn fold_once(
     ensures members { IfOk result (λ made. (hs : List Shape) (s : Store)
         → Stands hs table.now.defs forest.now.forest s → Stands hs table.now.defs made.0.forest s) }
 {
+    let fields = box_fields(alloc, table, box_no)?;
+    fold_by(alloc, forest, table, &fields, box_no, input, output)
+}
+
+/// That fold, of a box of which it is known which fields its ports cover. Err is want of memory, also where numbers of
+/// states and roots do not fit 32 bits.
+pub(crate) fn fold_by(
+    alloc: Global,
+    forest: &Sound,
+    table: &BoxTable,
+    fields: &PortFields,
+    box_no: u32,
+    input: u32,
+    output: Option<u32>,
+) -> Mem<(Sound, FoldStep)>
+    requires face { table.now.face ≡ forest.now.face }
+    requires fields { AreBoxFields table.now box_no fields.now }
+    requires can { CanFold table.now forest.now.forest box_no input output }
+    ensures fold { IfOk result
+        (λ made. IsFold table.now.face.boxes table.now.defs forest.now.forest made.1 made.0.forest) }
+    ensures step { IfOk result (λ made. IsStepAt box_no input output made.1) }
+    ensures face { IfOk result (λ made. made.0.face ≡ forest.now.face) }
+    ensures falls { IfOk result
+        (λ made. all_top_fields made.0.forest.autos < all_top_fields forest.now.forest.autos) }
+    ensures members { IfOk result (λ made. (hs : List Shape) (s : Store)
+        → Stands hs table.now.defs forest.now.forest s → Stands hs table.now.defs made.0.forest s) }
+{
     forest.known();
     table.known();
     ranked_insides(table);
-    let made = fold_found(alloc, forest, table, box_no, input, output)?;
+    let made = fold_found(alloc, forest, table, fields, box_no, input, output)?;
     Ok(made)
 }
 
@@ -64,11 +89,13 @@ fn fold_found(
     alloc: Global,
     forest: &Sound,
     table: &BoxTable,
+    fields: &PortFields,
     box_no: u32,
     input: u32,
     output: Option<u32>,
 ) -> Mem<(Sound, FoldStep)>
     requires face { table.now.face ≡ forest.now.face }
+    requires fields { AreBoxFields table.now box_no fields.now }
     requires can { CanFold table.now forest.now.forest box_no input output }
     ensures fold { IfOk result
         (λ made. IsFold table.now.face.boxes table.now.defs forest.now.forest made.1 made.0.forest) }
@@ -81,7 +108,7 @@ fn fold_found(
     table.known();
     ranked_insides(table);
     let def = table.box_def(box_no);
-    let ports = ports_for(alloc, table.face().boxes.as_slice(), def, input, output)?;
+    let ports = ports_at(alloc, def, fields, input, output)?;
     match lone_roots(alloc, forest, ports.as_slice())? {
         None => unreachable!(),
         Some(inner) => fold_ports(

@@ -3,7 +3,11 @@
 // Each word of a text is a box. Of nodes: `to` leads along one pointer, `far` along an edge of `to`, `hop` along two
 // pointers through a node between, `ring` is a pointer back to its own cell, and `pair` two nodes that point to each
 // other. Of pairs: `dll` leads to the next and back, `step` along the first pointer, and `seg` has both pointers of a
-// cell and a list of any length between. Of items: `item` leads along the pointer.
+// cell and a list of any length between; `turn` is a second pointer back to its own cell, and `halt` leads to a pair
+// with such an edge that points to the output; `fork` has one pointer to the output and the other to a pair of null
+// pointers, in either order; `both` has two pairs between, one behind each pointer, and `crossed` has them too, but
+// numbers the one behind the second pointer first. Of items: `item` leads along the pointer, and `items` along two,
+// through an item with 2 between.
 
 use anyhow::{Result, bail};
 use fa_core::table::BoxTable;
@@ -38,8 +42,30 @@ const STEP: &str = "box step in pair out pair\nroot 0 s0\ns0 = pair(a=s1)\ns1 = 
 const SEG: &str = "box seg in pair out pair\nroot 0 s0\ns0 = pair(a=s1,b=s2)\ns1 = ref 1\n\
     s1 = pair(a=s1,b=s3)\ns2 = ref 1\ns3 = null\nroot 1 s0\ns0 = pair()\nend\n";
 
+const TURN: &str = "box turn in pair\nroot 0 s0\ns0 = pair(b=s1)\ns1 = ref 0\nend\n";
+
+const HALT: &str = "box halt in pair out pair\nroot 0 s0\ns0 = pair(a=s1)\ns1 = ref 2\n\
+    root 1 s0\ns0 = pair()\nroot 2 s0\ns0 = pair(a=s1,@turn)\ns1 = ref 1\nend\n";
+
+const FORK: &str =
+    "box fork in pair out pair\nroot 0 s0 s3\ns0 = pair(a=s1,b=s2)\ns1 = ref 1\ns2 = ref 2\n\
+    s3 = pair(a=s2,b=s1)\nroot 1 s0\ns0 = pair()\nroot 2 s0\ns0 = pair(a=s1,b=s1)\ns1 = null\nend\n";
+
+const BOTH: &str =
+    "box both in pair out pair\nroot 0 s0\ns0 = pair(a=s1,b=s2)\ns1 = ref 2\ns2 = ref 3\n\
+    root 1 s0\ns0 = pair()\nroot 2 s0\ns0 = pair(a=s1,b=s2)\ns1 = ref 1\ns2 = null\n\
+    root 3 s0\ns0 = pair(a=s1,b=s2)\ns1 = ref 1\ns2 = uninit\nend\n";
+
+const CROSSED: &str =
+    "box crossed in pair out pair\nroot 0 s0\ns0 = pair(a=s1,b=s2)\ns1 = ref 3\ns2 = ref 2\n\
+    root 1 s0\ns0 = pair()\nroot 2 s0\ns0 = pair(a=s1,b=s2)\ns1 = ref 1\ns2 = uninit\n\
+    root 3 s0\ns0 = pair(a=s1,b=s2)\ns1 = ref 1\ns2 = null\nend\n";
+
 const ITEM: &str = "box item in item out item\nroot 0 s0\ns0 = item(b=s1)\ns1 = ref 1\n\
     root 1 s0\ns0 = item()\nend\n";
+
+const ITEMS: &str = "box items in item out item\nroot 0 s0\ns0 = item(b=s1)\ns1 = ref 2\n\
+    root 1 s0\ns0 = item()\nroot 2 s0\ns0 = item[a=2](b=s1)\ns1 = ref 1\nend\n";
 
 /// The table of these boxes.
 pub fn table_of(alloc: Global, names: &str) -> Result<BoxTable> {
@@ -67,7 +93,13 @@ fn box_of(name: &str) -> Result<&'static str> {
         "dll" => Ok(DLL),
         "step" => Ok(STEP),
         "seg" => Ok(SEG),
+        "turn" => Ok(TURN),
+        "halt" => Ok(HALT),
+        "fork" => Ok(FORK),
+        "both" => Ok(BOTH),
+        "crossed" => Ok(CROSSED),
         "item" => Ok(ITEM),
+        "items" => Ok(ITEMS),
         _ => bail!("no such box"),
     }
 }

@@ -1,7 +1,8 @@
-//! Rows of folding: the part of a forest that an edge of a box can take the place of, whether it is within the box, and
-//! all folds of a forest.
+//! Rows of folding: the part of a forest that an edge of a box can take the place of, whether it is within the box, all
+//! folds of a forest, the canonical forms of the forest after them, and what an edge of these is unfolded into.
 #![tactic(auto)]
 
+mod canonizing;
 mod files;
 mod folds;
 mod parts;
@@ -19,7 +20,7 @@ struct FoldRows;
 impl Answers for FoldRows {
     fn answer<R: Threads + Sync>(
         &self,
-        _rt: &R,
+        rt: &R,
         alloc: Global,
         head: &str,
         texts: &[&str],
@@ -30,6 +31,10 @@ impl Answers for FoldRows {
             Some("part") => parts::part_letter(alloc, head, forest, boxes, wanted),
             Some("within") => parts::within_answer(alloc, head, forest, boxes),
             Some("fold") => folds::folds_answer(alloc, forest, boxes, wanted),
+            Some("canonical") => { canonizing::canonical_letters(rt, alloc, forest, boxes, wanted) }
+            Some("unfolded") => {
+                canonizing::unfolded_letters(rt, alloc, head, forest, boxes, wanted)
+            }
             _ => bail!("no such kind"),
         }
     }

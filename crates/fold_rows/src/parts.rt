@@ -4,7 +4,8 @@ use crate::files::table_of;
 use anyhow::{Context, Result, bail};
 use fa_core::boxes::BoxDef;
 use fa_core::table::BoxTable;
-use fa_fold::{is_site, is_within, part};
+use fa_fold::is_within;
+use fa_part::{is_site, part};
 use fa_sound::Sound;
 use row_forests::{forest_of, letter};
 use std::alloc::Global;
@@ -105,6 +106,7 @@ fn site_of(head: &str) -> Result<Site> {
     })
 }
 
-fn word_at<'a>(head: &'a str, place: usize) -> Result<&'a str> {
+/// The word of the head at this place.
+pub fn word_at<'a>(head: &'a str, place: usize) -> Result<&'a str> {
     head.split(' ').nth(place).context("a word too few")
 }

@@ -5,9 +5,9 @@ use Rattle.fa_core.specs.Filled.{IsSound}
 use Rattle.fa_core.specs.Folding.{FoldOf}
 use Rattle.fa_core.specs.declared.boxes.BoxDef.{BoxDef}
 use Rattle.fa_core.specs.declared.forest.Forest.{Forest}
-use Rattle.fa_fold.specs.declared.ports.Port.{Port}
-use Rattle.fa_fold.specs.inner.Made.{IsMade}
-use Rattle.fa_fold.specs.inner.Ports.{ports_of}
+use Rattle.fa_part.specs.declared.ports.Port.{Port}
+use Rattle.fa_part.specs.Made.{IsMade}
+use Rattle.fa_part.specs.Ports.{ports_of}
 use Rattle.fa_fold.specs.TopFields.{all_top_fields}
 use Rattle.fa_folding.specs.Made.{AreFoldable, folded_forest, kept_first, kept_of, new_output}
 use Rattle.fa_merge.specs.Reordered.{IsOrderOf, counted, reordered}

@@ -1,4 +1,5 @@
-use Rattle.fa_fold.proofs.FoldSites.{inner_there, is_foldable, is_over, ports_there, some_part}
+use Rattle.fa_part.proofs.BoxFields.{ports_made}
+use Rattle.fa_fold.proofs.FoldSites.{inner_there, is_foldable, is_over, output_right, ports_there, some_part}
 use Rattle.fa_fold.proofs.folds.fold_found.Goals as goal
 
 pub lone_roots-requires : goal.lone_roots-requires
@@ -9,10 +10,12 @@ lone_roots-requires c =
     let ports = c.in_ok-ports.ports in
     let over = is_over T c.args.forest.now.face F c.known-2.ensures c.ranked_insides.ensures c.requires.face
     c.known.ensures.sound c.known.ensures.ranked in
-    let are = rw (c.as_slice.ensures, c.face.ensures) at c.in_ok-ports.ensures in
+    let are = ports_made T.face.boxes b c.args.fields.now c.args.input c.args.output ports
+    (output_right T F c.args.box_no c.args.input c.args.output b c.box_def-def.ensures c.requires.can)
+    (c.requires.fields b c.box_def-def.ensures) c.in_ok-ports.ensures in
     let some = some_part T F over c.args.box_no c.args.input c.args.output b c.box_def-def.ensures ports are
     c.requires.can in
-    rw c.as_slice-2.ensures
+    rw c.as_slice.ensures
     (ports_there T F over c.args.box_no c.args.input c.args.output b c.box_def-def.ensures ports are some)
 
 pub unreachable-requires : goal.unreachable-requires
@@ -23,10 +26,12 @@ unreachable-requires c =
     let ports = c.in_ok-ports.ports in
     let over = is_over T c.args.forest.now.face F c.known-2.ensures c.ranked_insides.ensures c.requires.face
     c.known.ensures.sound c.known.ensures.ranked in
-    let are = rw (c.as_slice.ensures, c.face.ensures) at c.in_ok-ports.ensures in
+    let are = ports_made T.face.boxes b c.args.fields.now c.args.input c.args.output ports
+    (output_right T F c.args.box_no c.args.input c.args.output b c.box_def-def.ensures c.requires.can)
+    (c.requires.fields b c.box_def-def.ensures) c.in_ok-ports.ensures in
     let some = some_part T F over c.args.box_no c.args.input c.args.output b c.box_def-def.ensures ports are
     c.requires.can in
-    let none = rw (c.in-None.is, c.as_slice-2.ensures) at c.in_ok-lone_roots.ensures in
+    let none = rw (c.in-None.is, c.as_slice.ensures) at c.in_ok-lone_roots.ensures in
     none some.part.inner
     (inner_there T F over c.args.box_no c.args.input c.args.output b c.box_def-def.ensures ports are some)
 
@@ -38,7 +43,9 @@ fold_ports-requires-clause-ports c =
     let ports = c.in_ok-ports.ports in
     let over = is_over T c.args.forest.now.face F c.known-2.ensures c.ranked_insides.ensures c.requires.face
     c.known.ensures.sound c.known.ensures.ranked in
-    let are = rw (c.as_slice.ensures, c.face.ensures) at c.in_ok-ports.ensures in
+    let are = ports_made T.face.boxes b c.args.fields.now c.args.input c.args.output ports
+    (output_right T F c.args.box_no c.args.input c.args.output b c.box_def-def.ensures c.requires.can)
+    (c.requires.fields b c.box_def-def.ensures) c.in_ok-ports.ensures in
     let some = some_part T F over c.args.box_no c.args.input c.args.output b c.box_def-def.ensures ports are
     c.requires.can in
     rw c.as_slice-in-Some.ensures
@@ -46,7 +53,7 @@ fold_ports-requires-clause-ports c =
 
 pub fold_ports-requires-clause-inner : goal.fold_ports-requires-clause-inner
 fold_ports-requires-clause-inner c =
-    let found = rw (c.in-Some.is, c.as_slice-2.ensures) at c.in_ok-lone_roots.ensures in
+    let found = rw (c.in-Some.is, c.as_slice.ensures) at c.in_ok-lone_roots.ensures in
     rw c.as_slice-in-Some.ensures found
 
 pub fold_ports-requires-clause-can : goal.fold_ports-requires-clause-can
@@ -57,10 +64,12 @@ fold_ports-requires-clause-can c =
     let ports = c.in_ok-ports.ports in
     let over = is_over T c.args.forest.now.face F c.known-2.ensures c.ranked_insides.ensures c.requires.face
     c.known.ensures.sound c.known.ensures.ranked in
-    let are = rw (c.as_slice.ensures, c.face.ensures) at c.in_ok-ports.ensures in
+    let are = ports_made T.face.boxes b c.args.fields.now c.args.input c.args.output ports
+    (output_right T F c.args.box_no c.args.input c.args.output b c.box_def-def.ensures c.requires.can)
+    (c.requires.fields b c.box_def-def.ensures) c.in_ok-ports.ensures in
     let some = some_part T F over c.args.box_no c.args.input c.args.output b c.box_def-def.ensures ports are
     c.requires.can in
-    let found = rw (c.in-Some.is, c.as_slice-2.ensures) at c.in_ok-lone_roots.ensures in
+    let found = rw (c.in-Some.is, c.as_slice.ensures) at c.in_ok-lone_roots.ensures in
     rw c.as_slice-in-Some.ensures
     (is_foldable T F over c.args.box_no c.args.input c.args.output b c.box_def-def.ensures ports are some
     c.in-Some.inner found)

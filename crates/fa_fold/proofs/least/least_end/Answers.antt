@@ -6,7 +6,7 @@ use Rattle.fa_fold.proofs.least.least_end.Goals as goal
 
 pub returns-then-branch : goal.returns-then-branch
 returns-then-branch c = record {
-  can = c.in_ok-is_within.ensures.0 c.if-branch.true;
+  can = c.in_ok-is_within_by.ensures.0 c.if-branch.true;
   least = none_before (λ (j : ℕ). CanFold c.args.table.now c.args.forest.now.forest c.args.box_no c.args.input (Some j))
       c.loop-end.end c.loop-end.invariant;
 }
@@ -15,7 +15,7 @@ pub loop-end-preserved : goal.loop-end-preserved
 loop-end-preserved c =
     none_up_to (λ (j : ℕ). CanFold c.args.table.now c.args.forest.now.forest c.args.box_no c.args.input (Some j))
     c.loop-end.end c.loop-end.invariant
-    (λ can. true≢false (sym (c.in_ok-is_within.ensures.1 can) ∙ c.if-branch.false))
+    (λ can. true≢false (sym (c.in_ok-is_within_by.ensures.1 can) ∙ c.if-branch.false))
 
 pub returns : goal.returns
 returns c = λ j can.

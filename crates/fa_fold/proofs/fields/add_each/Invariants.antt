@@ -1,6 +1,0 @@
-use Rattle.std.proofs.Common.{take}
-use Rattle.fa_fold.specs.inner.Added.{Adds}
-use Rattle.fa_fold.proofs.fields.add_each.Given as goal
-
-abbrev pub invariant-loop-field : goal.invariant-loop-field
-invariant-loop-field l = Adds l.initial.fields (take l.field-index l.more) l.fields

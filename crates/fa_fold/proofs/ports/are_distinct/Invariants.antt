@@ -1,6 +1,0 @@
-use Rattle.std.proofs.Common.{◌↔◌, drop}
-use Rattle.fore_base.specs.Lists.{IsDistinct}
-use Rattle.fa_fold.proofs.ports.are_distinct.Given as goal
-
-abbrev pub invariant-loop-place : goal.invariant-loop-place
-invariant-loop-place l = IsDistinct (drop l.place l.numbers) ↔ IsDistinct l.numbers
