@@ -1,18 +1,18 @@
-// boxed-step: what an edge that frees nothing makes of a canonical forest, over the boxes that the second text names.
+// boxed-step: what an edge makes of a canonical forest, over the boxes that the second text names.
 //
-// The boxes stand in files over the structs of rows. dll leads from a pair to the next by a, and back by b. ring is the
-// pointer of a node to itself. tower has two: the pointer of a node to another, and two such edges with a node between.
+// The boxes stand in files over the structs of rows. dll leads from a pair to the next by a, and back by b, and trios
+// does so from a trio to the next. ring is the pointer of a node to itself. tower has two: the pointer of a node to
+// another, and two such edges with a node between.
 
-ghost use Rattle.std.specs.Prelude.{◌≡◌, ℕ, false, length};
+ghost use Rattle.std.specs.Prelude.{◌≡◌, length};
 ghost use Rattle.fa_core.specs.Canonical.{IsCanonical};
 ghost use Rattle.c_cfg.specs.Ranges.{EdgeFits};
-ghost use Rattle.c_cfg.specs.declared.graph.Instr.TheVariants.{Free};
 
 use crate::edges::edge;
 use crate::stepping::fits_forest;
 use crate::telling::told;
 use anyhow::{Context, Result, bail};
-use c_cfg::graph::{Edge, Instr};
+use c_cfg::graph::Edge;
 use fa_core::table::BoxTable;
 use fa_order::is_canonical;
 use fa_sound::Sound;
@@ -28,6 +28,9 @@ use sym_step::posts::Post;
 
 const DLL: &str = "box dll in pair out pair\nroot 0 s0\ns0 = pair(a=s1)\ns1 = ref 1\n\
     root 1 s0\ns0 = pair(b=s1)\ns1 = ref 0\nend\n";
+
+const TRIOS: &str = "box dll in trio out trio\nroot 0 s0\ns0 = trio(a=s1)\ns1 = ref 1\n\
+    root 1 s0\ns0 = trio(b=s1)\ns1 = ref 0\nend\n";
 
 const RING: &str = "box ring in node\nroot 0 s0\ns0 = node(a=s1)\ns1 = ref 0\nend\n";
 
@@ -60,6 +63,7 @@ fn table_of(alloc: Global, name: &str) -> Result<BoxTable> {
 fn file_of(name: &str) -> Result<&'static str> {
     match name {
         "dll" => Ok(DLL),
+        "trios" => Ok(TRIOS),
         "ring" => Ok(RING),
         "tower" => Ok(TOWER),
         _ => bail!("no such file"),
@@ -100,9 +104,6 @@ fn passed<R: Threads + Sync>(
 ) -> Result<Post>
     requires { forest.now.face ≡ table.now.face }
 {
-    if frees(&edge.instr) {
-        bail!("an edge that frees");
-    }
     if !fits_forest(edge, forest) {
         bail!("a number out of range");
     }
@@ -110,12 +111,6 @@ fn passed<R: Threads + Sync>(
         bail!("not canonical");
     }
     posted(rt, alloc, forest, edge, table)
-}
-
-fn frees(instr: &Instr) -> bool
-    ensures { result ≡ false → (b : ℕ) → instr.now ≡ Free b → ⊥ }
-{
-    matches!(instr, Instr::Free { .. })
 }
 
 fn posted<R: Threads + Sync>(
@@ -126,7 +121,6 @@ fn posted<R: Threads + Sync>(
     table: &BoxTable,
 ) -> Result<Post>
     requires face { forest.now.face ≡ table.now.face }
-    requires frees { (b : ℕ) → edge.now.instr ≡ Free b → ⊥ }
     requires canonical { IsCanonical forest.now.face forest.now.forest }
     requires fits { EdgeFits (length forest.now.forest.vars) (length forest.now.forest.data_vars)
         forest.now.face.shapes.structs edge.now }
