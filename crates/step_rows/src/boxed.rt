@@ -4,7 +4,7 @@
 // does so from a trio to the next. ring is the pointer of a node to itself. tower has two: the pointer of a node to
 // another, and two such edges with a node between.
 
-ghost use Rattle.std.specs.Prelude.{◌≡◌, length};
+ghost use Rattle.std.specs.Prelude.{◌≡◌, length, IfOk};
 ghost use Rattle.fa_core.specs.Canonical.{IsCanonical};
 ghost use Rattle.c_cfg.specs.Ranges.{EdgeFits};
 
@@ -17,6 +17,7 @@ use fa_core::table::BoxTable;
 use fa_order::is_canonical;
 use fa_sound::Sound;
 use fa_text::read_boxes;
+use fore_base::shape::Shapes;
 use fore_base::text::Text;
 use par_kit::crew::Crew;
 use par_kit::gate::NoGate;
@@ -49,15 +50,19 @@ pub fn boxed_step<R: Threads + Sync>(
     let (first, others) = texts.split_first().context("no forest")?;
     let (boxes, wanted) = others.split_first().context("no boxes")?;
     let edge = edge(alloc, 0, 1, what)?;
-    let table = table_of(alloc, boxes)?;
+    let face = face(alloc)?;
+    let table = table_of(alloc, boxes, &face.shapes)?;
     let made = stepped(rt, alloc, &edge, first, &table)?;
     told(alloc, &made, wanted)
 }
 
-fn table_of(alloc: Global, name: &str) -> Result<BoxTable> {
+// The boxes of the file of this name, over the structs.
+pub fn table_of(alloc: Global, name: &str, shapes: &Shapes) -> Result<BoxTable>
+    ensures { IfOk result (λ table. table.face.shapes ≡ shapes.now) }
+{
     let mut text = Text::new(alloc);
     text.put(file_of(name)?.as_bytes())?;
-    read(alloc, &text)
+    read(alloc, &text, shapes)
 }
 
 fn file_of(name: &str) -> Result<&'static str> {
@@ -70,12 +75,13 @@ fn file_of(name: &str) -> Result<&'static str> {
     }
 }
 
-fn read(alloc: Global, text: &Text) -> Result<BoxTable> {
-    let face = face(alloc)?;
+fn read(alloc: Global, text: &Text, shapes: &Shapes) -> Result<BoxTable>
+    ensures { IfOk result (λ table. table.face.shapes ≡ shapes.now) }
+{
     if text.len() > 65536 {
         bail!("a long file");
     }
-    match read_boxes(alloc, text.as_slice(), &face.shapes) {
+    match read_boxes(alloc, text.as_slice(), shapes) {
         Ok(table) => Ok(table),
         Err(_) => bail!("no file of boxes"),
     }
