@@ -478,8 +478,12 @@ second_bytes (x ∷ y ∷ ys) = y.bytes
 -- one reading is not two
 one_is_not_two : (r : Reading) (a b c : NamedFile) → AreReadings r (a ∷ []) → AreReadings r (b ∷ c ∷ []) → ⊥
 one_is_not_two r a b c one two =
-    omega (arith, ap length (sym one ∙ two), length-append r.before.given (a ∷ []),
-    length-append r.before.given (b ∷ c ∷ []))
+    omega (
+      arith,
+      ap length (sym one ∙ two),
+      length-append r.before.given (a ∷ []),
+      length-append r.before.given (b ∷ c ∷ []),
+    )
 
 module _ (r : Reading) (boxes bytes : List ℕ) (known : HasBoxBytes r boxes bytes) where
   -- the bytes that were read are those of the file
@@ -523,7 +527,7 @@ module _ (r : Request) (path boxes bytes : List ℕ) (settings : Settings) (p : 
       → IsTableFile (r.reading.before.holds boxes) boxes q.shapes done t → IsBoxText bytes p.shapes t
   table_known q done t gives is =
       let reads = subst (λ (xs : List NamedFile). AreReadings r.reading (reading path gives.bytes ∷ xs)) is.given
-          gives.given in
+      gives.given in
       let same = boxes_known r.reading boxes bytes named.bytes_are (reading path gives.bytes) is.text reads is.read in
       record {
         within = subst (λ (b : List ℕ). length b ≤ BOX_FILE_BYTES) same is.read.within;
@@ -536,7 +540,7 @@ module _ (r : Request) (path boxes bytes : List ℕ) (settings : Settings) (p : 
       → BreaksBoxes (r.reading.before.holds boxes) boxes q.shapes done f → IsFirst bytes p.shapes f
   rule_known q done f gives h =
       let reads = subst (λ (xs : List NamedFile). AreReadings r.reading (reading path gives.bytes ∷ xs)) h.given
-          gives.given in
+      gives.given in
       let same = boxes_known r.reading boxes bytes named.bytes_are (reading path gives.bytes) h.text reads h.read in
       subst (λ (b : List ℕ). IsFirst b p.shapes f) same
       (subst (λ (x : Program). IsFirst h.text x.shapes f) (sym (same_program q done gives)) h.first)
@@ -547,9 +551,12 @@ module _ (r : Request) (path boxes bytes : List ℕ) (settings : Settings) (p : 
         → AreRefusedBoxes (r.reading.before.holds boxes) boxes q.shapes done why → ⊥
     boxes_not_refused q done gives BoxesTooLong h =
         let one = subst (λ (xs : List NamedFile). AreReadings r.reading (reading path gives.bytes ∷ xs)) h.0
-            gives.given in
-        omega (arith, is.within,
-        long_boxes_known r.reading boxes bytes named.bytes_are (reading path gives.bytes) one h.1)
+        gives.given in
+        omega (
+          arith,
+          is.within,
+          long_boxes_known r.reading boxes bytes named.bytes_are (reading path gives.bytes) one h.1,
+        )
     boxes_not_refused q done gives (BoxRule rule line) h =
         breaks_none bytes p.shapes t (Rule rule line) is.is (rule_known q done (Rule rule line) gives h)
     boxes_not_refused q done gives (BoxLimit line) h =
@@ -734,12 +741,12 @@ module _ (c : Call) (a : Answer) (right : IsRight c.request a) (reads : ReadsOnl
 
     judges_gen : Generates c.request.words → IsResult c.status ⊎ IsRefusal c.status
     judges_gen g = elim (mostly (λ m. IsResult m ⊎ (m ≡ 4)) (
-      due_for_gen c.request g.0 g.1 g.2 (reads_well (Gen g.0 g.1) g.2) a right
-    )) [
-      | inl (inl result) ↦ inl result
-      | inl (inr refused) ↦ inr (inl refused)
-      | inr memory ↦ inr (inr memory)
-    ]
+        due_for_gen c.request g.0 g.1 g.2 (reads_well (Gen g.0 g.1) g.2) a right
+        )) [
+          | inl (inl result) ↦ inl result
+          | inl (inr refused) ↦ inr (inl refused)
+          | inr memory ↦ inr (inr memory)
+        ]
 
   pub promises : Promises c
   promises = record {

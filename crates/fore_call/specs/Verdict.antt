@@ -172,9 +172,9 @@ HasBoxBytes r boxes bytes =
 
 -- the words ask this of a C file of this program and of a file of boxes of these bytes
 pub record NamesBoth (r : Request) (path boxes : List ℕ) (settings : Settings) (p : Program) (bytes : List ℕ) : Type 0
-    where
-  pub program : NamesProgram r (Verify path (Some boxes) settings) p
-  pub bytes_are : HasBoxBytes r.reading boxes bytes
+  where
+    pub program : NamesProgram r (Verify path (Some boxes) settings) p
+    pub bytes_are : HasBoxBytes r.reading boxes bytes
 
 -- the bytes are those of a table over these structs
 pub record IsBoxText (bytes : List ℕ) (shapes : Shapes) (t : Boxes) : Type 0 where

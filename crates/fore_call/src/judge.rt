@@ -70,7 +70,15 @@ fn answer_asked<R: Threads + Sync, L: Shelf, G: Gate>(
             path,
             boxes: Some(boxes),
             settings,
-        } => verify_by_boxes(rt, alloc, path.as_str(), boxes.as_str(), *settings, shelf, gate),
+        } => verify_by_boxes(
+            rt,
+            alloc,
+            path.as_str(),
+            boxes.as_str(),
+            *settings,
+            shelf,
+            gate,
+        ),
         Asked::Run {
             path,
             choices,

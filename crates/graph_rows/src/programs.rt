@@ -5,8 +5,8 @@ ghost use Rattle.std.specs.Prelude.{◌≤◌, length};
 
 use anyhow::{Context, Result, bail};
 use c_cfg::graph::Graph;
-use c_lower::lower::lower;
 use c_front::program_in;
+use c_lower::lower::lower;
 use c_types::mode::MallocMode;
 use c_types::program::Typed;
 use fore_base::limits::FILE_BYTES;

@@ -16,7 +16,7 @@ returns c = λ def there.
     let T = c.args.table.now in
     let b = c.box_def.result.now in
     let fields = IfOk-at_ok (AreFieldsOf T.face.boxes b) c.in_ok-fields.was (c.box_fields.ensures b c.box_def.ensures)
-        in
+    in
     subst
     (λ (z : BoxDef). IfOk c.part_by.result
     (IsPartOrNone T.face.boxes c.args.forest.now.forest z c.args.input c.args.output))
