@@ -61,11 +61,21 @@ use Rattle.c_front.specs.declared.broken.Broken.{Broken}
 use Rattle.c_front.specs.Files.{IsProgramOf}
 use Rattle.fore_gen.specs.Programs.{program_text}
 use Rattle.fore_gen.specs.Boxes.{dll_box_text}
-use Rattle.fa_text.specs.Files.{IsFirst}
+use Rattle.fa_text.specs.Files.{IsBoxFile, IsFirst}
 use Rattle.fa_text.specs.declared.fault.BoxFault.TheVariants.{Rule}
 use Rattle.fore_report.specs.Reports.{IsReport}
+use Rattle.fore_call.specs.Generated.{gen_settings, IsTableFor}
 use Rattle.fore_call.specs.Tables.{no_boxes}
-use Rattle.fore_call.specs.Verdict.{IsRefused, IsReadFault, IsRightFor, IsRight, ReadsOnly, NothingFailed}
+use Rattle.fore_call.specs.Verdict.{
+  IsRefused,
+  IsReadFault,
+  IsRightFor,
+  IsRight,
+  ReadsOnly,
+  NothingFailed,
+  HasBoxBytes,
+  IsOtherBoxes,
+}
 
 -- What is asked
 
@@ -304,6 +314,27 @@ module _ (p : Program) (r : Reading) where
   ran_in_the_mode : (mode : MallocMode) → GivesProgram r (codes "x.c") [] p
       → IsRightFor r (Run (codes "x.c") (1 ∷ []) 9 mode) (Ran (run p mode (1 ∷ []) 9))
   ran_in_the_mode mode gives = (p, gives, refl)
+
+-- a generated program is verified with height 1 and at most 100,000 abstract states, and each `malloc` gives a cell
+generated_settings : gen_settings ≡ record { height = 1; budget = 100000; jobs = 1; malloc = Always }
+generated_settings = refl
+
+-- lists and trees without boxes, lists that are linked both ways by their box
+tables_of_kinds : (shapes : Shapes) (t : Boxes) → IsTableFor ListPhases shapes (no_boxes shapes)
+    × IsTableFor TreePhases shapes (no_boxes shapes)
+    × (IsBoxFile dll_box_text shapes t → IsTableFor DllPhases shapes t)
+tables_of_kinds shapes t = (refl, refl, λ is. is)
+
+-- what the shelf holds, or gave in the second reading, are the bytes of the file of boxes; not those of the first
+box_bytes_told : HasBoxBytes (from (tells (codes "b") []) (tells (codes "b") [])) (codes "x.box") (codes "b")
+box_bytes_told = inl refl
+
+box_bytes_given : HasBoxBytes (from (gave []) (gave (of_x (codes "int") ∷ of_box ∷ []))) (codes "x.box") of_box.bytes
+box_bytes_given = inr (of_x (codes "int"), refl)
+
+-- more bytes than a file of boxes may have
+other_boxes : (shapes : Shapes) (bytes : List ℕ) → 65536 < length bytes → IsOtherBoxes bytes shapes
+other_boxes shapes bytes long = inl long
 
 -- a generated program is refused with no file read, and lists by no rule of boxes
 module _ (shapes : Shapes) (b : Broken) where

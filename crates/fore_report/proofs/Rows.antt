@@ -28,7 +28,10 @@ use Rattle.fix_core.specs.declared.nodes.Node.{Node}
 use Rattle.fore_words.specs.Usage.{ended_line}
 use Rattle.fore_words.specs.declared.asked.Settings.{Settings}
 use Rattle.fore_report.specs.declared.verdict.Verdict.TheVariants.{Safe, Unsafe, Unknown}
+use Rattle.fix_verdict.specs.declared.verdict.Verdict.TheVariants as finding
+use Rattle.fore_words.specs.declared.asked.Kind.TheVariants.{ListPhases, DllPhases, TreePhases}
 use Rattle.fore_report.specs.Reports.{IsReportOf}
+use Rattle.fore_report.specs.Summaries.{kept, summary_text, verdict_of}
 use Rattle.fore_report.specs.Texts.{
   fault_text,
   fault_line,
@@ -179,3 +182,38 @@ module _ (t : Boxes) (p : Program) (graph : ControlGraph) (nodes : List Node) (t
   unsafe_in_the_mode : (h : IsReportOf t p graph may_fail (Faulty nodes trace) Unsafe text)
       → run p MayFail trace.choices h.step ≡ Fault h.kind h.line h.step
   unsafe_in_the_mode h = h.means.meets
+
+-- Generated programs
+
+on_generated_list : summary_text ListPhases 3 46 finding.Safe 121 ≡ codes "gen list 3" ++ 10 ∷ codes "lines 46"
+    ++ 10 ∷ codes "SAFE" ++ 10 ∷ codes "nodes 121" ++ 10 ∷ []
+unfolding digits
+on_generated_list = refl
+
+-- where a fault was found it is not said how many states were kept
+on_generated_tree : summary_text TreePhases 1 27 (finding.Unsafe Leak 5 2) 9 ≡ codes "gen tree 1"
+    ++ 10 ∷ codes "lines 27" ++ 10 ∷ codes "UNSAFE" ++ 10 ∷ []
+unfolding digits
+on_generated_tree = refl
+
+on_full_budget : summary_text DllPhases 2 41 finding.FullBudget 7 ≡ codes "gen dll 2" ++ 10 ∷ codes "lines 41"
+    ++ 10 ∷ codes "UNKNOWN budget" ++ 10 ∷ codes "nodes 7" ++ 10 ∷ []
+unfolding digits
+on_full_budget = refl
+
+verdicts : (verdict_of finding.Safe ≡ Safe) × (verdict_of (finding.Unsafe Leak 5 2) ≡ Unsafe)
+    × (verdict_of finding.FullBudget ≡ Unknown)
+verdicts = (refl, refl, refl)
+
+module _ (sample : Store) where
+  on_loose_trace : summary_text ListPhases 1 20 (finding.LooseTrace sample) 4 ≡ codes "gen list 1"
+      ++ 10 ∷ codes "lines 20" ++ 10 ∷ codes "UNKNOWN trace" ++ 10 ∷ codes "nodes 4" ++ 10 ∷ []
+  unfolding digits
+  on_loose_trace = refl
+
+  loose_is_unknown : verdict_of (finding.LooseTrace sample) ≡ Unknown
+  loose_is_unknown = refl
+
+kept_states : (a b : Node) (trace : AbsTrace) → (kept (Closed (a ∷ b ∷ [])) ≡ 2) × (kept (Spent (a ∷ [])) ≡ 1)
+    × (kept (Faulty [] trace) ≡ 0)
+kept_states a b trace = (refl, refl, refl)
