@@ -132,7 +132,7 @@ fn verify_plain<R: Threads + Sync, G: Gate>(
 fn verify_by_boxes<R: Threads + Sync, L: Shelf, G: Gate>(
     rt: &R,
     alloc: Global,
-    path: &str,
+    file: &str,
     boxes: &str,
     settings: Settings,
     shelf: &mut L,
@@ -140,11 +140,11 @@ fn verify_by_boxes<R: Threads + Sync, L: Shelf, G: Gate>(
 ) -> Answer
     requires { SettingsFit settings }
     ensures right { IsRightFor (reading_of L.Shelf shelf.old shelf.new)
-        (ask.Verify path.now (Some boxes.now) settings) result }
+        (ask.Verify file.now (Some boxes.now) settings) result }
     ensures reads { ReadsFor (reading_of L.Shelf shelf.old shelf.new)
-        (ask.Verify path.now (Some boxes.now) settings) }
+        (ask.Verify file.now (Some boxes.now) settings) }
 {
-    match read_program(alloc, shelf, path) {
+    match read_program(alloc, shelf, file) {
         Ok(program) => answer_boxes(rt, alloc, boxes, &program, settings, shelf, gate),
         Err(fault) => answer_to(fault),
     }
