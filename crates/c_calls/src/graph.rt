@@ -100,6 +100,7 @@ impl CallGraph {
     {
         self.leads_to(alloc, function, function)
     }
+
     /// For each function what it weighs, or `cap` where that is less: the statements of its body, of which
     /// `statements` tells the number for each function, and for each call in it what the called function weighs. Where
     /// a function leads to itself, calls are followed as deep as there are functions.
