@@ -7,7 +7,7 @@ use Rattle.fore_base.specs.Lists.{IsIn}
 use Rattle.fore_base.proofs.ListLemmas.{in_left, in_right, in_append, in_last, in_push}
 use Rattle.c_calls.proofs.Places.{same_or_not, caller_within}
 use Rattle.c_calls.specs.Calls.{called_by, AreCallers}
-use Rattle.c_calls.specs.inner.Search.{Adds, AreCallersUpTo}
+use Rattle.c_calls.specs.inner.Turning.{Adds, AreCallersUpTo}
 
 pub adds_none : (f : ℕ) (table : List (List ℕ)) → Adds f [] table table
 adds_none f table = record {

@@ -1,7 +1,7 @@
 mod Callers
 mod Capping
 mod FewCalls
+mod Leading
 mod Places
 mod Rows
-mod Searches
 mod Weighed

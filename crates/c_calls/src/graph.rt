@@ -5,12 +5,12 @@ ghost use Rattle.fore_base.specs.Marks.{MarksOf};
 ghost use Rattle.c_calls.specs.Calls.{AreCalls, Leads};
 ghost use Rattle.c_calls.specs.Weights.{AreWeights};
 
-use crate::search::search;
 use crate::turning::callers_of;
 use crate::weighing;
 use fore_base::list::List;
 use fore_base::marks::is_marked;
 use fore_base::memory::Mem;
+use fore_search::search;
 use std::alloc::Global;
 use std::marker::Model;
 

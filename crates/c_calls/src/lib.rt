@@ -10,7 +10,6 @@
 pub mod crossing;
 pub mod graph;
 pub mod laws;
-mod search;
 mod turning;
 mod weighing;
 

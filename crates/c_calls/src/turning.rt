@@ -3,7 +3,7 @@
 ghost use Rattle.std.specs.Prelude.{◌≡◌, ◌<◌, ◌^◌, [], ◌∷◌, length, replicate, IfOk, OnOk};
 ghost use Rattle.fore_base.specs.Lists.{Every};
 ghost use Rattle.c_calls.specs.Calls.{AreCalls, AreCallers};
-ghost use Rattle.c_calls.specs.inner.Search.{Adds};
+ghost use Rattle.c_calls.specs.inner.Turning.{Adds};
 
 use fore_base::list::List;
 use fore_base::memory::Mem;

@@ -12,9 +12,10 @@ use Rattle.fore_base.proofs.Leaks.{reached_or_left, left_is_closed, IsClosed, in
 use Rattle.fore_base.proofs.ListLemmas.{in_map, in_mapped}
 use Rattle.fa_core.specs.declared.signature.Signature.{Signature}
 use Rattle.fa_back.specs.Reached.{SignReached, AllNameBelow}
-use Rattle.fa_back.specs.inner.Search.{row, table_of, Arrives, start, next}
+use Rattle.fore_search.specs.Reached.{row, IsReached, start, next}
+use Rattle.fa_back.specs.inner.HopTables.{table_of}
 use Rattle.fa_back.proofs.FactParts.{number_of}
-use Rattle.fa_back.proofs.Tabled.{arrives_signed, signed_arrives}
+use Rattle.fa_back.proofs.Tabled.{reached_signed, signed_reached}
 
 -- The store.
 
@@ -62,39 +63,39 @@ not_left s left closed n (by_field d there reached j) c g e =
     (closed.kept c d g there (subst (λ (m : ℕ). IsIn (Cell m) d.fields) (sym e) j)) refl
 
 module _ (table : List (List ℕ)) (from : List ℕ) (r : ℕ) where
-  reach_arrives : (n : ℕ) → Reach (store_of table from r) n → Arrives table from n
-  reach_arrives n (by_var i) =
+  reach_reached : (n : ℕ) → Reach (store_of table from r) n → IsReached table from n
+  reach_reached n (by_var i) =
       let k = in_mapped Cell (Cell n) from i in
       start (subst (λ (m : ℕ). IsIn m from) (sym (ap number_of k.2)) k.1)
-  reach_arrives n (by_field c (inl e) w j) = absurd (subst (λ (z : CellRec). IsIn (Cell n) z.fields) e j)
-  reach_arrives n (by_field c (inr i) w j) =
+  reach_reached n (by_field c (inl e) w j) = absurd (subst (λ (z : CellRec). IsIn (Cell n) z.fields) e j)
+  reach_reached n (by_field c (inr i) w j) =
       let h = cell_in 0 table c i in
       let here : 0 + h.0 ≡ h.0 = omega arith in
       let k = in_mapped Cell (Cell n) (row table h.0) (subst (λ (z : CellRec). IsIn (Cell n) z.fields) h.1 j) in
-      next h.0 (subst (Arrives table from) (ap (λ (z : CellRec). z.number) h.1 ∙ here) (reach_arrives c.number w))
+      next h.0 (subst (IsReached table from) (ap (λ (z : CellRec). z.number) h.1 ∙ here) (reach_reached c.number w))
       (subst (λ (m : ℕ). IsIn m (row table h.0)) (sym (ap number_of k.2)) k.1)
 
-  arrives_reach : (n : ℕ) → Arrives table from n → Reach (store_of table from r) n
-  arrives_reach n (start i) = by_var (in_map Cell n from i)
-  arrives_reach n (next q h i) =
+  reached_reach : (n : ℕ) → IsReached table from n → Reach (store_of table from r) n
+  reached_reach n (start i) = by_var (in_map Cell n from i)
+  reached_reach n (next q h i) =
       let here : q ≡ 0 + q = omega arith in
       by_field (cell_of (0 + q) (row table q)) (inr (in_cells 0 table q n i))
-      (subst (Reach (store_of table from r)) here (arrives_reach q h)) (in_map Cell n (row table q) i)
+      (subst (Reach (store_of table from r)) here (reached_reach q h)) (in_map Cell n (row table q) i)
 
-  arrives_or_not : Arrives table from r ⊎ (Arrives table from r → ⊥)
-  arrives_or_not =
+  reached_or_not : IsReached table from r ⊎ (IsReached table from r → ⊥)
+  reached_or_not =
       let s = store_of table from r in
       elim (reached_or_left s (length s.cells) s.vars s.cells (λ m g. by_var g) (λ d g. g) (cell_of r []) (inl refl)) [
-        | inl h ↦ inl (reach_arrives r h)
+        | inl h ↦ inl (reach_reached r h)
         | inr i ↦ inr
             (λ h. not_left s (left_after (length s.cells) s.vars s.cells)
-            (left_is_closed (length s.cells) s.vars s.cells (omega arith)) r (arrives_reach r h) (cell_of r []) i refl)
+            (left_is_closed (length s.cells) s.vars s.cells (omega arith)) r (reached_reach r h) (cell_of r []) i refl)
       ]
 
 -- a root is reached by the signatures, or it is not
 pub reached_or_not : (ss : List Signature) → AllNameBelow (length ss) ss → (from : List ℕ) (r : ℕ)
     → SignReached ss from r ⊎ (SignReached ss from r → ⊥)
-reached_or_not ss within from r = elim (arrives_or_not (table_of ss) from r) [
-  | inl h ↦ inl (arrives_signed ss within from r h)
-  | inr h ↦ inr (λ w. h (signed_arrives ss within from r w))
+reached_or_not ss within from r = elim (reached_or_not (table_of ss) from r) [
+  | inl h ↦ inl (reached_signed ss within from r h)
+  | inr h ↦ inr (λ w. h (signed_reached ss within from r w))
 ]

@@ -18,7 +18,6 @@ pub mod ByMarks
 pub mod Insides
 pub mod Dressable
 pub mod InsideLaws
-pub mod Searches
 pub mod Tabled
 pub mod ForestLaws
 pub mod Rows

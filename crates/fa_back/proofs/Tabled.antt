@@ -21,8 +21,8 @@ use Rattle.fa_back.specs.Reached.{
   AllNameBelow,
   NamesBelow,
 }
-use Rattle.fa_back.specs.inner.Search.{hop, back_hops, mark_hops, tree_hops, row, put_hop, put_hops, table_of, Arrives}
-use Rattle.fa_back.specs.inner.Search.{start, next}
+use Rattle.fore_search.specs.Reached.{row, IsReached, start, next}
+use Rattle.fa_back.specs.inner.HopTables.{hop, back_hops, mark_hops, tree_hops, put_hop, put_hops, table_of}
 use Rattle.fa_back.proofs.RootMarks.{in_flat, flat_in}
 use Rattle.fa_back.proofs.FactParts.{same_or_not}
 
@@ -238,32 +238,32 @@ module _ (ss : List Signature) (within : AllNameBelow (length ss) ss) where
           ]
         ]
 
-    pub arrives_signed : (r : ℕ) → Arrives (table_of ss) from r → SignReached ss from r
-    arrives_signed r (start i) = from_there i
-    arrives_signed r (next q h i) = by_mark q r (arrives_signed q h) (in_hops 0 ss (hop q r) (table_hop q r i))
+    pub reached_signed : (r : ℕ) → IsReached (table_of ss) from r → SignReached ss from r
+    reached_signed r (start i) = from_there i
+    reached_signed r (next q h i) = by_mark q r (reached_signed q h) (in_hops 0 ss (hop q r) (table_hop q r i))
 
     there : (j : ℕ) (m : RefMark) (x : Hop) → IsMarkAt ss j m → IsIn x (mark_hops j m) → IsIn x (tree_hops 0 ss)
     there j m x h i =
         let here : j ≡ 0 + j = omega arith in
         hops_in 0 ss j h.0 m x h.1 h.2 (subst (λ (n : ℕ). IsIn x (mark_hops n m)) here i)
 
-    pub signed_arrives : (r : ℕ) → SignReached ss from r → Arrives (table_of ss) from r
-    signed_arrives r (from_there i) = start i
-    signed_arrives r (down_to j m h i e) =
-        next j (signed_arrives j h) (hop_table j r (there j m (hop j r) i (inl (ap (hop j) (sym e)))))
-    signed_arrives r (back_to m h i b) =
-        next m.root (signed_arrives m.root h) (hop_table m.root r (there r m (hop m.root r) i
+    pub signed_reached : (r : ℕ) → SignReached ss from r → IsReached (table_of ss) from r
+    signed_reached r (from_there i) = start i
+    signed_reached r (down_to j m h i e) =
+        next j (signed_reached j h) (hop_table j r (there j m (hop j r) i (inl (ap (hop j) (sym e)))))
+    signed_reached r (back_to m h i b) =
+        next m.root (signed_reached m.root h) (hop_table m.root r (there r m (hop m.root r) i
         (inr (in_left (hop m.root r) (back_hops r m) (map (hop m.root) m.reach) (back_there r m b)))))
-    signed_arrives r (reach_to j m h i k) =
-        next m.root (signed_arrives m.root h) (hop_table m.root r (there j m (hop m.root r) i
+    signed_reached r (reach_to j m h i k) =
+        next m.root (signed_reached m.root h) (hop_table m.root r (there j m (hop m.root r) i
         (inr (in_right (hop m.root r) (back_hops j m) (map (hop m.root) m.reach) (in_map (hop m.root) r m.reach k)))))
 
   -- marks by the table are marks by the signatures
-  pub marks_signed : (from : List ℕ) (marks : List Bool) → MarksOf (length (table_of ss)) (Arrives (table_of ss) from)
+  pub marks_signed : (from : List ℕ) (marks : List Bool) → MarksOf (length (table_of ss)) (IsReached (table_of ss) from)
       marks
       → MarksOf (length ss) (SignReached ss from) marks
   marks_signed from marks m = record {
     long = m.long ∙ table_long;
-    only = λ q h. arrives_signed from q (m.only q h);
-    each = λ q h. m.each q (signed_arrives from q h);
+    only = λ q h. reached_signed from q (m.only q h);
+    each = λ q h. m.each q (signed_reached from q h);
   }

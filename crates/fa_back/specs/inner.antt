@@ -1,2 +1,2 @@
+pub mod HopTables
 pub mod Hops
-pub mod Search

@@ -2,7 +2,7 @@
 
 ghost use Rattle.std.specs.Prelude.{◌≡◌, ◌<◌, ◌++◌, ◌^◌, [], length, map, flat_map, replicate, IfOk, OnOk};
 ghost use Rattle.fore_base.specs.Lists.{Every};
-ghost use Rattle.fa_back.specs.inner.Search.{hop, back_hops, mark_hops, tree_hops, put_hop, put_hops, table_of};
+ghost use Rattle.fa_back.specs.inner.HopTables.{hop, back_hops, mark_hops, tree_hops, put_hop, put_hops, table_of};
 ghost use Rattle.fa_back.specs.Reached.{AllNameBelow};
 
 use fa_core::signature::{RefMark, Signature};

@@ -1,5 +1,5 @@
 use Rattle.std.proofs.Common.{take}
-use Rattle.c_calls.specs.inner.Search.{Adds}
+use Rattle.c_calls.specs.inner.Turning.{Adds}
 use Rattle.c_calls.proofs.turning.add_caller.Given as goal
 
 abbrev pub invariant-loop-function : goal.invariant-loop-function

@@ -2,7 +2,7 @@ use Rattle.std.proofs.Common.{◌≡◌, ◌∷◌, [], ◌++◌, List, ℕ, set
 use Rattle.c_calls.proofs.Callers.{adds_one}
 use Rattle.c_calls.proofs.Places.{called_got}
 use Rattle.c_calls.specs.Calls.{called_by}
-use Rattle.c_calls.specs.inner.Search.{Adds}
+use Rattle.c_calls.specs.inner.Turning.{Adds}
 use Rattle.c_calls.proofs.turning.add_one.Goals as goal
 
 pub returns : goal.returns

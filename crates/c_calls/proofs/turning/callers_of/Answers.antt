@@ -2,7 +2,7 @@ use Rattle.std.proofs.Common.{◌≡◌, List, ℕ, subst, ◌∙◌}
 use Rattle.c_calls.proofs.Callers.{callers_more}
 use Rattle.c_calls.proofs.Places.{called_item}
 use Rattle.c_calls.specs.Calls.{called_by}
-use Rattle.c_calls.specs.inner.Search.{Adds}
+use Rattle.c_calls.specs.inner.Turning.{Adds}
 use Rattle.c_calls.proofs.turning.callers_of.Goals as goal
 
 pub loop-caller-preserved : goal.loop-caller-preserved

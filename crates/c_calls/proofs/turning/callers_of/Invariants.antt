@@ -1,4 +1,4 @@
-use Rattle.c_calls.specs.inner.Search.{AreCallersUpTo}
+use Rattle.c_calls.specs.inner.Turning.{AreCallersUpTo}
 use Rattle.c_calls.proofs.turning.callers_of.Given as goal
 
 abbrev pub invariant-loop-caller : goal.invariant-loop-caller

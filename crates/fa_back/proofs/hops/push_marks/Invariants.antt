@@ -1,5 +1,5 @@
 use Rattle.std.proofs.Common.{◌≡◌, ◌++◌, drop, flat_map}
-use Rattle.fa_back.specs.inner.Search.{mark_hops}
+use Rattle.fa_back.specs.inner.HopTables.{mark_hops}
 use Rattle.fa_back.proofs.hops.push_marks.Given as goal
 
 abbrev pub invariant-loop-mark : goal.invariant-loop-mark

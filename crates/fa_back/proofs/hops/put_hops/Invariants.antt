@@ -1,5 +1,5 @@
 use Rattle.std.proofs.Common.{◌≡◌, drop, length}
-use Rattle.fa_back.specs.inner.Search.{put_hops}
+use Rattle.fa_back.specs.inner.HopTables.{put_hops}
 use Rattle.fa_back.proofs.hops.put_hops.Given as goal
 
 abbrev pub invariant-loop-hop : goal.invariant-loop-hop

@@ -1,5 +1,5 @@
 use Rattle.std.proofs.Common.{◌≡◌, ◌++◌, drop}
-use Rattle.fa_back.specs.inner.Search.{tree_hops}
+use Rattle.fa_back.specs.inner.HopTables.{tree_hops}
 use Rattle.fa_back.proofs.hops.tree_hops.Given as goal
 
 abbrev pub invariant-loop-signature : goal.invariant-loop-signature

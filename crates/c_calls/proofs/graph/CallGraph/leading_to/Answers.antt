@@ -4,9 +4,9 @@ use Rattle.fore_base.specs.Lists.{IsIn}
 use Rattle.fore_base.specs.Marks.{MarksOf}
 use Rattle.fore_base.proofs.ListLemmas.{in_every}
 use Rattle.c_calls.proofs.Places.{called_got}
-use Rattle.c_calls.proofs.Searches.{callers_below, marks_leading}
+use Rattle.c_calls.proofs.Leading.{callers_below, marks_leading}
 use Rattle.c_calls.specs.Calls.{called_by}
-use Rattle.c_calls.specs.inner.Search.{Arrives}
+use Rattle.fore_search.specs.Reached.{IsReached}
 use Rattle.c_calls.proofs.graph.CallGraph.leading_to.Goals as goal
 
 pub search-requires-clause-from : goal.search-requires-clause-from
@@ -29,4 +29,4 @@ returns c =
     IfOk-weaker c.search.result _ _
     (λ marks m. rw (← c.self.view_is)
     (marks_leading c.self.inside.calls callers c.args.to c.self.invariant.2 marks
-    (subst (λ (z : List ℕ). MarksOf (length callers) (Arrives callers z) marks) (sym e) m))) c.search.ensures
+    (subst (λ (z : List ℕ). MarksOf (length callers) (IsReached callers z) marks) (sym e) m))) c.search.ensures

@@ -1,7 +1,8 @@
--- The search for what some functions lead to by a table, step by step.
-use Rattle.std.proofs.Common.{◌≡◌, ◌⊎◌, inl, inr, ℕ, ◌<◌, ◌+◌, ◌-◌, Bool, true, false, true≢false, List, []}
-use Rattle.std.proofs.Common.{◌∷◌, ◌++◌, length, get_or, set, replicate, refl, sym, subst, ◌∙◌, arith}
+-- The search for what is reached by a table, step by step.
+use Rattle.std.proofs.Common.{◌≡◌, ◌⊎◌, inl, inr, ℕ, zero, suc, ◌<◌, ◌+◌, ◌-◌, Bool, true, false, true≢false, List, []}
+use Rattle.std.proofs.Common.{◌∷◌, ◌++◌, length, get_or, set, replicate, refl, sym, subst, ◌∙◌, arith, Some, slice_get}
 use Rattle.std.proofs.lemmas.List.{length-set, length_push}
+use Rattle.std.proofs.lemmas.Option.{none-some, same_Some}
 use Rattle.fore_base.specs.Lists.{IsIn, Every}
 use Rattle.fore_base.specs.Marks.{IsMarked, MarksOf, marked_count}
 use Rattle.fore_base.proofs.ListLemmas.{in_left, in_right, in_last, in_push, every_append, every_weaker, every_in}
@@ -14,11 +15,10 @@ use Rattle.fore_base.proofs.MarkLemmas.{
   marked_default,
 }
 use Rattle.fore_base.proofs.MarkLemmas.{count_within, count_set}
-use Rattle.c_calls.proofs.Places.{caller_within}
-use Rattle.c_calls.specs.Calls.{called_by, AreCallers, Leads, at_once, through}
-use Rattle.c_calls.specs.inner.Search.{Arrives, start, next, Visits, Searching}
+use Rattle.fore_search.specs.Reached.{row, IsReached, start, next}
+use Rattle.fore_search.specs.inner.Search.{Visits, Searching}
 
--- Functions that are marked.
+-- Numbers that are marked.
 
 pub visits_none : (marks : List Bool) (todo : List ℕ) → Visits [] marks todo marks todo
 visits_none marks todo = record {
@@ -92,6 +92,12 @@ visits_new marks todo r l e = record {
 
 -- The search.
 
+-- the row of q, read at its place
+pub row_got : (table : List (List ℕ)) (q : ℕ) (x : List ℕ) → slice_get table q ≡ Some x → row table q ≡ x
+row_got [] q x e = absurd (none-some x e)
+row_got (y ∷ table) zero x e = same_Some y x e
+row_got (y ∷ table) (suc q) x e = row_got table q x e
+
 module _ (table : List (List ℕ)) (from : List ℕ) where
   pub search_first : (n : ℕ) (marks : List Bool) (todo : List ℕ) → length marks ≡ length table
       → Visits from (replicate n false) [] marks todo → Searching table from marks todo
@@ -103,90 +109,65 @@ module _ (table : List (List ℕ)) (from : List ℕ) where
     closed = λ q h. elim (v.only q h) [ inl m ↦ absurd (unmarked_none n q m) | inr k ↦ inl k.1 ];
   }
 
-  pub search_next : (marks : List Bool) (rest : List ℕ) (function : ℕ) (new : List Bool) (later : List ℕ)
-      → Searching table from marks (rest ++ function ∷ []) → Visits (called_by table function) marks rest new later
+  pub search_next : (marks : List Bool) (rest : List ℕ) (number : ℕ) (new : List Bool) (later : List ℕ)
+      → Searching table from marks (rest ++ number ∷ []) → Visits (row table number) marks rest new later
       → Searching table from new later
-  search_next marks rest function new later s v = record {
+  search_next marks rest number new later s v = record {
     long = v.long ∙ s.long;
     only = λ q h. elim (v.only q h) [
       | inl m ↦ s.only q m
-      | inr k ↦ next function (s.only function (s.due function (in_last function rest))) k.0
+      | inr k ↦ next number (s.only number (s.due number (in_last number rest))) k.0
     ];
     first = every_weaker (IsMarked marks) (IsMarked new) from v.stay s.first;
     due = λ q h. elim (v.due q h) [
-      | inl i ↦ v.stay q (s.due q (in_left q rest (function ∷ []) i))
+      | inl i ↦ v.stay q (s.due q (in_left q rest (number ∷ []) i))
       | inr m ↦ m
     ];
     closed = closed;
   }
     where
-      closed : (q : ℕ) → IsMarked new q → IsIn q later ⊎ Every (IsMarked new) (called_by table q)
+      closed : (q : ℕ) → IsMarked new q → IsIn q later ⊎ Every (IsMarked new) (row table q)
       closed q h = elim (v.only q h) [
         | inl m ↦ elim (s.closed q m) [
-          | inl i ↦ elim (in_push function q rest i) [
+          | inl i ↦ elim (in_push number q rest i) [
             | inl j ↦ inl (v.kept q j)
-            | inr e ↦ inr (subst (λ (n : ℕ). Every (IsMarked new) (called_by table n)) (sym e) v.all)
+            | inr e ↦ inr (subst (λ (n : ℕ). Every (IsMarked new) (row table n)) (sym e) v.all)
           ]
-          | inr k ↦ inr (every_weaker (IsMarked marks) (IsMarked new) (called_by table q) v.stay k)
+          | inr k ↦ inr (every_weaker (IsMarked marks) (IsMarked new) (row table q) v.stay k)
         ]
         | inr k ↦ inl k.1
       ]
 
   pub search_done : (marks : List Bool) → Searching table from marks []
-      → MarksOf (length table) (Arrives table from) marks
+      → MarksOf (length table) (IsReached table from) marks
   search_done marks s = record { long = s.long; only = s.only; each = each }
     where
-      closed : (q r : ℕ) → IsMarked marks q → IsIn r (called_by table q) → IsMarked marks r
+      closed : (q r : ℕ) → IsMarked marks q → IsIn r (row table q) → IsMarked marks r
       closed q r m i = elim (s.closed q m) [
         | inl j ↦ absurd j
-        | inr k ↦ every_in (IsMarked marks) (called_by table q) r k i
+        | inr k ↦ every_in (IsMarked marks) (row table q) r k i
       ]
 
-      each : (q : ℕ) → Arrives table from q → IsMarked marks q
+      each : (q : ℕ) → IsReached table from q → IsMarked marks q
       each q (start i) = every_in (IsMarked marks) from q s.first i
       each q (next p h i) = closed p q (each p h) i
 
-  pub search_place : (marks : List Bool) (rest : List ℕ) (function : ℕ)
-      → Searching table from marks (rest ++ function ∷ [])
-      → function < length table
-  search_place marks rest function s =
-      subst (λ (n : ℕ). function < n) s.long (marked_below marks function (s.due function (in_last function rest)))
+  pub search_place : (marks : List Bool) (rest : List ℕ) (number : ℕ)
+      → Searching table from marks (rest ++ number ∷ [])
+      → number < length table
+  search_place marks rest number s =
+      subst (λ (n : ℕ). number < n) s.long (marked_below marks number (s.due number (in_last number rest)))
 
-  -- the list of functions to be looked at, and how many have no mark
-  pub search_falls : (marks : List Bool) (rest : List ℕ) (function : ℕ) (new : List Bool) (later : List ℕ)
-      → Searching table from marks (rest ++ function ∷ []) → Visits (called_by table function) marks rest new later
+  -- the list of numbers to be looked at, and how many have no mark
+  pub search_falls : (marks : List Bool) (rest : List ℕ) (number : ℕ) (new : List Bool) (later : List ℕ)
+      → Searching table from marks (rest ++ number ∷ []) → Visits (row table number) marks rest new later
       → length later + (length table - marked_count new)
-      < length (rest ++ function ∷ []) + (length table - marked_count marks)
-  search_falls marks rest function new later s v =
-      let long = length_push rest function in
+      < length (rest ++ number ∷ []) + (length table - marked_count marks)
+  search_falls marks rest number new later s v =
+      let long = length_push rest number in
       let even = v.even in
       let old = count_within marks in
       let now = count_within new in
       let same = s.long in
       let also = v.long in
       omega (arith, long, even, old, now, same, also)
-
--- The functions that lead to one, as those to which its callers lead by the calls turned round.
-
-module _ (calls callers : List (List ℕ)) (to : ℕ) (turned : AreCallers calls callers) where
-  arrives_leads : (f : ℕ) → Arrives callers (called_by callers to) f → Leads calls f to
-  arrives_leads f (start i) = at_once (turned.only f to i)
-  arrives_leads f (next q a i) = through q (turned.only f q i) (arrives_leads q a)
-
-  leads_arrives : (f : ℕ) → Leads calls f to → Arrives callers (called_by callers to) f
-  leads_arrives f (at_once i) = start (turned.each f to i)
-  leads_arrives f (through h i l) = next h (leads_arrives h l) (turned.each f h i)
-
-  pub callers_below : (q r : ℕ) → IsIn r (called_by callers q) → r < length callers
-  callers_below q r i =
-      let l = caller_within calls r q (turned.only r q i) in
-      let n = turned.long in
-      omega (arith, l, n)
-
-  pub marks_leading : (marks : List Bool) → MarksOf (length callers) (Arrives callers (called_by callers to)) marks
-      → MarksOf (length calls) (λ f. Leads calls f to) marks
-  marks_leading marks m = record {
-    long = m.long ∙ turned.long;
-    only = λ f h. arrives_leads f (m.only f h);
-    each = λ f l. m.each f (leads_arrives f l);
-  }
