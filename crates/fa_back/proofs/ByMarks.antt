@@ -1,10 +1,9 @@
 -- The roots that are reached follow from the signatures of the trees alone.
-use Rattle.std.proofs.Common.{◌≡◌, inl, inr, ℕ, zero, suc, Bool, true, false, true≢false, cond, ◌&&◌, nat_eq}
-use Rattle.std.proofs.Common.{List, [], ◌∷◌, flat_map, refl, sym, ap, subst, ◌∙◌, Some, slice_get}
-use Rattle.std.proofs.lemmas.Bool.{eqb-true, eq-eqb}
+use Rattle.std.proofs.Common.{◌≡◌, inl, inr, ℕ, zero, suc}
+use Rattle.std.proofs.Common.{List, [], ◌∷◌, refl, sym, ap, subst, ◌∙◌, Some, slice_get}
 use Rattle.std.proofs.lemmas.Option.{none-some, same_Some}
 use Rattle.fore_base.specs.Lists.{IsIn, Paired}
-use Rattle.fore_base.proofs.ListLemmas.{in_left, in_right, in_append, in_map, in_mapped}
+use Rattle.fore_base.proofs.ListLemmas.{in_map}
 use Rattle.ta_core.specs.declared.tree.Tree.{Tree}
 use Rattle.fa_core.specs.declared.faces.BoxFace.{BoxFace}
 use Rattle.fa_core.specs.declared.forest.Target.{Target}
@@ -13,9 +12,7 @@ use Rattle.fa_core.specs.declared.forest.Target.TheVariants.{Dangling as Danglin
 use Rattle.fa_core.specs.declared.signature.RefMark.{RefMark}
 use Rattle.fa_core.specs.declared.signature.Signature.{Signature}
 use Rattle.fa_core.specs.Canonical.{LeadsBack, RefersTo, var_roots}
-use Rattle.fa_core.specs.Ways.{Way, ways, to_root, has, once, any_back, leads_back, led_to, roots_met, mark, signature}
-use Rattle.fa_core.proofs.Numbers.{has_once, has_filter, or_left, or_right, or_cases}
-use Rattle.fa_core.proofs.WayParts.{way_roots, tree_in, collect_in}
+use Rattle.fa_core.specs.Ways.{Way, ways, to_root, mark}
 use Rattle.fa_back.specs.Reached.{RootReached, by_var, by_tree, by_way, IsMarkAt, SignReached, from_there, down_to}
 use Rattle.fa_back.specs.Reached.{back_to, reach_to, IsSignedBy}
 use Rattle.fa_back.proofs.RootMarks.{in_to_root, to_root_in, back_any, any_of_back, mark_in, in_mark, way_led, led_way}

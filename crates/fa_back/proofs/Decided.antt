@@ -6,7 +6,6 @@ use Rattle.fore_base.specs.Heap.{Reach, by_var, by_field, is_named, left_after}
 use Rattle.fore_base.specs.Lists.{IsIn}
 use Rattle.fore_base.specs.declared.store.CellRec.{CellRec}
 use Rattle.fore_base.specs.declared.store.Store.{Store}
-use Rattle.fore_base.specs.declared.store.Value.{Value}
 use Rattle.fore_base.specs.declared.store.Value.TheVariants.{Cell}
 use Rattle.fore_base.proofs.Leaks.{reached_or_left, left_is_closed, IsClosed, in_is_named}
 use Rattle.fore_base.proofs.ListLemmas.{in_map, in_mapped}
@@ -82,8 +81,8 @@ module _ (table : List (List ℕ)) (from : List ℕ) (r : ℕ) where
       by_field (cell_of (0 + q) (row table q)) (inr (in_cells 0 table q n i))
       (subst (Reach (store_of table from r)) here (reached_reach q h)) (in_map Cell n (row table q) i)
 
-  reached_or_not : IsReached table from r ⊎ (IsReached table from r → ⊥)
-  reached_or_not =
+  from_or_not : IsReached table from r ⊎ (IsReached table from r → ⊥)
+  from_or_not =
       let s = store_of table from r in
       elim (reached_or_left s (length s.cells) s.vars s.cells (λ m g. by_var g) (λ d g. g) (cell_of r []) (inl refl)) [
         | inl h ↦ inl (reach_reached r h)
@@ -95,7 +94,7 @@ module _ (table : List (List ℕ)) (from : List ℕ) (r : ℕ) where
 -- a root is reached by the signatures, or it is not
 pub reached_or_not : (ss : List Signature) → AllNameBelow (length ss) ss → (from : List ℕ) (r : ℕ)
     → SignReached ss from r ⊎ (SignReached ss from r → ⊥)
-reached_or_not ss within from r = elim (reached_or_not (table_of ss) from r) [
+reached_or_not ss within from r = elim (from_or_not (table_of ss) from r) [
   | inl h ↦ inl (reached_signed ss within from r h)
   | inr h ↦ inr (λ w. h (signed_reached ss within from r w))
 ]

@@ -1,5 +1,5 @@
 -- A member of a forest, by a table of boxes, has leaked exactly where some root of its dressed forest is not reached.
-use Rattle.std.proofs.Common.{◌≡◌, inl, inr, ℕ, suc, List, [], ◌∷◌, ◌++◌, map, flat_map, refl, sym, ap, ap₂, subst, ◌∙◌}
+use Rattle.std.proofs.Common.{◌≡◌, inl, inr, ℕ, suc, List, [], ◌∷◌, ◌++◌, map, refl, sym, ap, ap₂, subst, ◌∙◌}
 use Rattle.std.proofs.Common.{Some}
 use Rattle.fore_base.specs.Lists.{IsIn, IsDistinct}
 use Rattle.fore_base.specs.Heap.{Reach, by_var, by_field, Leaked, HasCell, AllDiffer}
