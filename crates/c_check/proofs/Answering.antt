@@ -10,10 +10,10 @@ use Rattle.c_typing.specs.Typing.{breaches, breaches_of, IsFirstFault, TypedOf}
 use Rattle.c_typing.proofs.SoundFiles.{file_typed}
 use Rattle.c_typing.specs.declared.fault.TypeFault.{TypeFault}
 use Rattle.c_typing.specs.declared.fault.TypeFault.TheVariants.{Memory}
-use Rattle.c_check.specs.inner.First.{first_from}
-use Rattle.c_check.specs.inner.Meeting.{met}
+use Rattle.c_expressions.specs.First.{first_from}
+use Rattle.c_expressions.specs.Meeting.{met}
 use Rattle.c_check.proofs.FirstFaults.{found_first, found_none}
-use Rattle.c_check.proofs.MeetingLemmas.{met-breaches}
+use Rattle.c_expressions.proofs.MeetingLemmas.{met-breaches}
 
 module _ (u : whole.Unit) (g : Globals) (tables : g ≡ globals_of u.items) where
   found_unit : (o : Option TypeFault) → o ≡ met g None (unit_sites g u) → o ≡ first_from None (breaches u)

@@ -15,9 +15,9 @@ use Rattle.c_typing.specs.Texts.{has}
 use Rattle.c_typing.specs.declared.fault.TypeFault.{TypeFault}
 use Rattle.c_typing.specs.declared.meaning.Kind.{Kind}
 use Rattle.c_typing.specs.declared.meaning.Kind.TheVariants.{Points, Datum}
-use Rattle.c_check.specs.inner.Meeting.{met}
-use Rattle.c_check.specs.inner.ScopeTables.{outer, left}
-use Rattle.c_check.proofs.MeetingLemmas.{met-nil, met-append}
+use Rattle.c_expressions.specs.Meeting.{met}
+use Rattle.c_scopes.specs.InScope.{outer, left}
+use Rattle.c_expressions.proofs.MeetingLemmas.{met-nil, met-append}
 
 -- Blocks round the innermost one
 

@@ -15,9 +15,9 @@ use Rattle.c_typing.specs.Sites.{Counts}
 use Rattle.c_typing.specs.declared.fault.TypeFault.{TypeFault}
 use Rattle.c_typing.specs.declared.fault.TypeFault.TheVariants.{Limit}
 use Rattle.c_check.specs.inner.Counting.{passed, all_passed}
-use Rattle.c_check.specs.inner.First.{first_from}
-use Rattle.c_check.specs.inner.Meeting.{noted}
-use Rattle.c_check.proofs.MeetingLemmas.{noted-Counts}
+use Rattle.c_expressions.specs.First.{first_from}
+use Rattle.c_expressions.specs.Meeting.{noted}
+use Rattle.c_expressions.proofs.MeetingLemmas.{noted-Counts}
 
 pub passed-none : (c : Count) → all_passed c [] ≡ c
 unfolding all_passed

@@ -10,7 +10,7 @@ use Rattle.c_typing.proofs.TypingLaws.{first_there, level_faults, one_first, one
 use Rattle.c_typing.proofs.TypingLaws.{typed_or_fault}
 use Rattle.c_typing.specs.declared.fault.TypeFault.{TypeFault}
 use Rattle.c_typing.specs.declared.fault.TypeFault.TheVariants.{Rule, Limit, Memory}
-use Rattle.c_check.specs.inner.First.{earlier_of, first_from}
+use Rattle.c_expressions.specs.First.{earlier_of, first_from}
 
 -- the first of a list with two in front is the first with the earlier of these in front
 kept : (d x : TypeFault) (xs : List TypeFault) (f : TypeFault) → IsFirst f (d ∷ x ∷ xs)

@@ -12,9 +12,9 @@ use Rattle.c_typing.proofs.Breaching as breaching
 use Rattle.c_typing.proofs.Breaching.{fault_at}
 use Rattle.c_typing.specs.declared.fault.TypeFault.{TypeFault}
 use Rattle.c_typing.specs.declared.fault.TypeFault.TheVariants.{Rule, Limit}
-use Rattle.c_check.specs.inner.First.{first_from}
-use Rattle.c_check.specs.inner.Meeting.{noted, noted_when}
-use Rattle.c_check.proofs.MeetingLemmas.{one, two}
+use Rattle.c_expressions.specs.First.{first_from}
+use Rattle.c_expressions.specs.Meeting.{noted, noted_when}
+use Rattle.c_expressions.proofs.MeetingLemmas.{one, two}
 
 module _ (g : Globals) (found : Option TypeFault) where
   pub noted-Struct : (n : Name) (earlier : List Text) (count : ℕ) →

@@ -21,9 +21,9 @@ use Rattle.c_check.specs.declared.definitions.Seen as kept
 use Rattle.c_check.specs.inner.Items.{with_name, with_names, kept_member_sites, kept_fields_sites, kept_value_sites}
 use Rattle.c_check.specs.inner.Items.{kept_struct_sites, kept_structs, kept_after, kept_item_sites, kept_items_sites}
 use Rattle.c_check.specs.inner.Items.{is_main_item, any_main, nothing_kept}
-use Rattle.c_check.specs.inner.Meeting.{met, noted, noted_when}
+use Rattle.c_expressions.specs.Meeting.{met, noted, noted_when}
 use Rattle.c_check.proofs.ItemLemmas.{noted-Struct, noted-Member, noted-Value, noted-Enum}
-use Rattle.c_check.proofs.MeetingLemmas.{met-append, met-cons, met-one}
+use Rattle.c_expressions.proofs.MeetingLemmas.{met-append, met-cons, met-one}
 
 -- the same names are there
 record Alike (names earlier : List Text) : Type 0 where

@@ -5,8 +5,8 @@ use Rattle.c_typing.specs.Globals.{Globals}
 use Rattle.c_typing.specs.Sites.{Site}
 use Rattle.c_typing.specs.Texts.{each_of}
 use Rattle.c_typing.specs.declared.fault.TypeFault.{TypeFault}
-use Rattle.c_check.specs.inner.Meeting.{met}
-use Rattle.c_check.proofs.MeetingLemmas.{met-nil, met-append}
+use Rattle.c_expressions.specs.Meeting.{met}
+use Rattle.c_expressions.proofs.MeetingLemmas.{met-nil, met-append}
 
 -- one item more was gone through
 pub turn : {X Y : Type 0} (F : List X → Y) (xs : List X) (i : ℕ) (x : X) → i < length xs → x ≡ get_or xs i x

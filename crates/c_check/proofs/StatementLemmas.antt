@@ -9,9 +9,9 @@ use Rattle.c_typing.specs.Globals.{Globals}
 use Rattle.c_typing.specs.Scopes.{Scope, past_part, past_parts}
 use Rattle.c_typing.specs.Sites.{Site}
 use Rattle.c_typing.specs.declared.fault.TypeFault.{TypeFault}
-use Rattle.c_check.specs.inner.Meeting.{met}
+use Rattle.c_expressions.specs.Meeting.{met}
 use Rattle.c_check.proofs.Swapping.{met-swap}
-use Rattle.c_check.proofs.MeetingLemmas.{met-nil, met-append}
+use Rattle.c_expressions.proofs.MeetingLemmas.{met-nil, met-append}
 
 module _ (g : Globals) (f0 : Option TypeFault) where
   -- the sites of a statement are those of its one part

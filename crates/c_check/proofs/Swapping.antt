@@ -9,10 +9,10 @@ use Rattle.c_typing.specs.Typing.{breaches_of, IsFirst}
 use Rattle.c_typing.proofs.Breaching.{breaches-append}
 use Rattle.c_typing.proofs.TypingLaws.{one_first}
 use Rattle.c_typing.specs.declared.fault.TypeFault.{TypeFault}
-use Rattle.c_check.specs.inner.First.{first_from}
-use Rattle.c_check.specs.inner.Meeting.{met}
+use Rattle.c_expressions.specs.First.{first_from}
+use Rattle.c_expressions.specs.Meeting.{met}
 use Rattle.c_check.proofs.FirstFaults.{found_first, found_none}
-use Rattle.c_check.proofs.MeetingLemmas.{met-breaches}
+use Rattle.c_expressions.proofs.MeetingLemmas.{met-breaches}
 
 -- the items of one list are items of another
 Within : List TypeFault → List TypeFault → Type 0

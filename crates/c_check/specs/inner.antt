@@ -1,9 +1,4 @@
 pub mod Assigning
 pub mod Counting
-pub mod Definitions
-pub mod Directories
-pub mod First
 pub mod Items
 pub mod Making
-pub mod Meeting
-pub mod ScopeTables

@@ -7,11 +7,11 @@ ghost use Rattle.c_typing.specs.Scopes.{or_zero};
 ghost use Rattle.c_types.specs.declared.program.DataRhs.TheVariants as data_rhs;
 ghost use Rattle.c_types.specs.declared.program.PtrRhs.TheVariants as ptr_rhs;
 
-use crate::calls::is_error;
-use crate::meanings::{meaning_of_operand, meaning_of_path};
-use crate::scopes::{Scope, or_zero};
-use crate::tables::Tables;
 use c_ast::{Operand, Rhs, Simple};
+use c_expressions::calls::is_error;
+use c_expressions::meanings::{meaning_of_operand, meaning_of_path};
+use c_scopes::scopes::{Scope, or_zero};
+use c_tables::tables::Tables;
 use c_types::{Act, DataPath, DataRhs, PtrRhs, Stmt};
 use c_typing::Meaning;
 use fore_base::boxed::Boxed;

@@ -8,26 +8,26 @@ ghost use Rattle.c_typing.specs.Scopes.{all_declared, declared, past_declare, pa
 ghost use Rattle.c_typing.specs.Scopes.{past_block, past_stmt, past_other, opened, closed, kind_of, declarators_of};
 ghost use Rattle.c_typing.specs.Sites.{simple_sites, cond_sites, wanted_sites, rhs_sites, want_of_kind};
 ghost use Rattle.c_check.specs.inner.Assigning.{assign_sites, free_sites};
-ghost use Rattle.c_check.specs.inner.Meeting.{met};
-ghost use Rattle.c_check.specs.inner.ScopeTables.{outer};
+ghost use Rattle.c_expressions.specs.Meeting.{met};
+ghost use Rattle.c_scopes.specs.InScope.{outer};
 
-use crate::calls::calls;
-use crate::conditions::cond_faults;
-use crate::meanings::meaning_of_path;
-use crate::noting::{defines_variable, jumps, stands};
-use crate::operands::{path_faults, read_faults, rhs_faults, wanted_faults};
-use crate::scopes::Scope;
-use crate::tables::Tables;
 use crate::types::uses_type;
-use crate::wants::{want_of_kind, want_of_target};
 use c_ast::{Block, Cond, Declarator, Declare, First, Operand, Part, Path, Rhs, Simple, Stmt};
+use c_expressions::calls::calls;
+use c_expressions::conditions::cond_faults;
+use c_expressions::meanings::meaning_of_path;
+use c_expressions::noting::{defines_variable, jumps, stands};
+use c_expressions::operands::{path_faults, read_faults, rhs_faults, wanted_faults};
+use c_expressions::wants::{want_of_kind, want_of_target};
+use c_scopes::scopes::Scope;
+use c_tables::tables::Tables;
 use c_typing::{Kind, Spot, TypeFault, Want};
 use fore_base::boxed::Boxed;
 use fore_base::memory::Mem;
 use std::alloc::Global;
 
 /// What an assignment breaks.
-#[tactic(auto, using(crate::proofs::MeetingLemmas::meeting))]
+#[tactic(auto, using(c_expressions::proofs::MeetingLemmas::meeting))]
 fn assign_faults(
     alloc: Global,
     tables: &Tables,
@@ -44,7 +44,7 @@ fn assign_faults(
 }
 
 /// What a `free` breaks.
-#[tactic(auto, using(crate::proofs::MeetingLemmas::meeting))]
+#[tactic(auto, using(c_expressions::proofs::MeetingLemmas::meeting))]
 fn free_faults(
     alloc: Global,
     tables: &Tables,
@@ -61,7 +61,7 @@ fn free_faults(
 }
 
 /// What a statement without parts breaks.
-#[tactic(auto, using(crate::proofs::MeetingLemmas::meeting))]
+#[tactic(auto, using(c_expressions::proofs::MeetingLemmas::meeting))]
 pub fn simple_faults(
     alloc: Global,
     tables: &Tables,
@@ -78,7 +78,7 @@ pub fn simple_faults(
     }
 }
 
-#[tactic(auto, using(crate::proofs::MeetingLemmas::meeting))]
+#[tactic(auto, using(c_expressions::proofs::MeetingLemmas::meeting))]
 fn maybe_simple_faults(
     alloc: Global,
     tables: &Tables,
@@ -96,7 +96,7 @@ fn maybe_simple_faults(
     }
 }
 
-#[tactic(auto, using(crate::proofs::MeetingLemmas::meeting))]
+#[tactic(auto, using(c_expressions::proofs::MeetingLemmas::meeting))]
 fn maybe_cond_faults(
     alloc: Global,
     tables: &Tables,
@@ -115,7 +115,7 @@ fn maybe_cond_faults(
 }
 
 /// What the operand of a `return` breaks.
-#[tactic(auto, using(crate::proofs::MeetingLemmas::meeting))]
+#[tactic(auto, using(c_expressions::proofs::MeetingLemmas::meeting))]
 fn returned_faults(
     alloc: Global,
     tables: &Tables,
@@ -141,7 +141,7 @@ fn returned_faults(
     }
 }
 
-#[tactic(auto, using(crate::proofs::MeetingLemmas::meeting))]
+#[tactic(auto, using(c_expressions::proofs::MeetingLemmas::meeting))]
 fn maybe_rhs_faults(
     alloc: Global,
     tables: &Tables,
@@ -161,7 +161,7 @@ fn maybe_rhs_faults(
 }
 
 /// What a declarator breaks, which is in scope from then on, also in its own initialiser.
-#[tactic(auto, using(crate::proofs::MeetingLemmas::meeting, crate::proofs::BodyLemmas::scoping))]
+#[tactic(auto, using(c_expressions::proofs::MeetingLemmas::meeting, crate::proofs::BodyLemmas::scoping))]
 fn declarator_faults(
     alloc: Global,
     tables: &Tables,
@@ -180,7 +180,7 @@ fn declarator_faults(
     maybe_rhs_faults(alloc, tables, scope, kind, &declarator.from, found)
 }
 
-#[tactic(auto, using(crate::proofs::MeetingLemmas::meeting, crate::proofs::BodyLemmas::scoping))]
+#[tactic(auto, using(c_expressions::proofs::MeetingLemmas::meeting, crate::proofs::BodyLemmas::scoping))]
 fn declarators_faults(
     alloc: Global,
     tables: &Tables,
@@ -221,7 +221,7 @@ pub fn declarators_of(declare: &Declare) -> &[Declarator]
 }
 
 /// What a declaration breaks.
-#[tactic(auto, using(crate::proofs::MeetingLemmas::meeting, crate::proofs::BodyLemmas::scoping))]
+#[tactic(auto, using(c_expressions::proofs::MeetingLemmas::meeting, crate::proofs::BodyLemmas::scoping))]
 fn declare_faults(
     alloc: Global,
     tables: &Tables,
@@ -240,7 +240,7 @@ fn declare_faults(
 }
 
 /// What stands first in the head of a `for` breaks.
-#[tactic(auto, using(crate::proofs::MeetingLemmas::meeting, crate::proofs::BodyLemmas::scoping))]
+#[tactic(auto, using(c_expressions::proofs::MeetingLemmas::meeting, crate::proofs::BodyLemmas::scoping))]
 fn first_faults(
     alloc: Global,
     tables: &Tables,
@@ -394,7 +394,7 @@ fn stmt_faults(
 }
 
 #[cycle(stmt)]
-#[tactic(auto, using(crate::proofs::MeetingLemmas::meeting))]
+#[tactic(auto, using(c_expressions::proofs::MeetingLemmas::meeting))]
 fn other_faults(
     alloc: Global,
     tables: &Tables,

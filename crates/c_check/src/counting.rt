@@ -5,11 +5,11 @@ ghost use Rattle.c_typing.specs.BodySites.{stmt_places, block_places, other_plac
 ghost use Rattle.c_typing.specs.Sites.{Counts};
 ghost use Rattle.c_typing.specs.Texts.{joined};
 ghost use Rattle.c_check.specs.inner.Counting.{passed, all_passed};
-ghost use Rattle.c_check.specs.inner.Meeting.{noted};
+ghost use Rattle.c_expressions.specs.Meeting.{noted};
 
-use crate::first::note_limit;
-use crate::tables::Tables;
 use c_ast::{Block, Data, Declare, First, Part, Simple, Stmt};
+use c_expressions::first::note_limit;
+use c_tables::tables::Tables;
 use c_typing::TypeFault;
 use fore_base::boxed::Boxed;
 use fore_base::limits::STATEMENTS;

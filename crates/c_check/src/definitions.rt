@@ -6,14 +6,14 @@ ghost use Rattle.c_typing.specs.Texts.{has};
 ghost use Rattle.c_typing.specs.declared.fault.TypeFault.TheVariants.{Rule, Limit};
 ghost use Rattle.c_check.specs.inner.Items.{with_name, with_names, kept_member_sites, kept_fields_sites};
 ghost use Rattle.c_check.specs.inner.Items.{kept_value_sites, kept_structs, kept_struct_sites, kept_enums};
-ghost use Rattle.c_check.specs.inner.Meeting.{met, noted, noted_when};
+ghost use Rattle.c_expressions.specs.Meeting.{met, noted, noted_when};
 
-use crate::first::note_limit;
-use crate::naming::{self, one_more};
-use crate::noting::{note_when, uses_struct};
-use crate::tables::Tables;
 use crate::types::uses_field_type;
 use c_ast::{Field, Name};
+use c_expressions::first::note_limit;
+use c_expressions::noting::{note_when, uses_struct};
+use c_tables::naming::{self, one_more};
+use c_tables::tables::Tables;
 use c_typing::TypeFault;
 use fore_base::limits::{ENUMERATORS, FIELDS, STRUCTS};
 use fore_base::list::List;
@@ -87,7 +87,7 @@ fn defines_member(
 }
 
 /// Fields of one line, after so many others: how many there are then.
-#[tactic(auto, using(crate::proofs::MeetingLemmas::meeting))]
+#[tactic(auto, using(c_expressions::proofs::MeetingLemmas::meeting))]
 fn defines_members(
     tables: &Tables,
     names: &mut Names,
@@ -118,7 +118,7 @@ fn names_of(field: &Field) -> &[Name]
 }
 
 /// A line of fields.
-#[tactic(auto, using(crate::proofs::MeetingLemmas::meeting))]
+#[tactic(auto, using(c_expressions::proofs::MeetingLemmas::meeting))]
 fn defines_field(
     tables: &Tables,
     names: &mut Names,
@@ -137,7 +137,7 @@ fn defines_field(
 }
 
 /// The fields of a struct.
-#[tactic(auto, using(crate::proofs::MeetingLemmas::meeting))]
+#[tactic(auto, using(c_expressions::proofs::MeetingLemmas::meeting))]
 fn defines_fields(
     alloc: Global,
     tables: &Tables,
@@ -178,7 +178,7 @@ fn defines_struct(
 }
 
 /// A struct, which without braces is named only.
-#[tactic(auto, using(crate::proofs::MeetingLemmas::meeting))]
+#[tactic(auto, using(c_expressions::proofs::MeetingLemmas::meeting))]
 pub fn struct_item(
     alloc: Global,
     tables: &Tables,
@@ -223,7 +223,7 @@ fn defines_value(
 }
 
 /// The enumerators of an enumeration.
-#[tactic(auto, using(crate::proofs::MeetingLemmas::meeting))]
+#[tactic(auto, using(c_expressions::proofs::MeetingLemmas::meeting))]
 fn defines_values(
     tables: &Tables,
     names: &mut Names,
@@ -254,7 +254,7 @@ fn defines_enum(
 }
 
 /// An enumeration with its enumerators.
-#[tactic(auto, using(crate::proofs::MeetingLemmas::meeting))]
+#[tactic(auto, using(c_expressions::proofs::MeetingLemmas::meeting))]
 pub fn enum_item(
     tables: &Tables,
     seen: &mut Seen,

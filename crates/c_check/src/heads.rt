@@ -4,13 +4,13 @@ ghost use Rattle.c_typing.specs.BodySites.{maybe_sites, type_sites};
 ghost use Rattle.c_typing.specs.ItemSites.{gives_sites, global_sites, head_sites, params_sites};
 ghost use Rattle.c_typing.specs.Scopes.{declarators_of};
 ghost use Rattle.c_typing.specs.Sites.{Declares, Functions, Globally};
-ghost use Rattle.c_check.specs.inner.Meeting.{met, noted};
+ghost use Rattle.c_expressions.specs.Meeting.{met, noted};
 
-use crate::noting::note_when;
 use crate::profile::{is_allowed_head, is_main, is_main_head};
-use crate::tables::Tables;
 use crate::types::{uses_params, uses_result, uses_type};
 use c_ast::{Declarator, Declare, Head, Name};
+use c_expressions::noting::note_when;
+use c_tables::tables::Tables;
 use c_typing::TypeFault;
 
 /// A prototype is declared.
@@ -23,7 +23,7 @@ fn declares(tables: &Tables, head: &Head, found: &mut Option<TypeFault>)
 }
 
 /// A prototype, with the types that it names.
-#[tactic(auto, using(crate::proofs::MeetingLemmas::meeting))]
+#[tactic(auto, using(c_expressions::proofs::MeetingLemmas::meeting))]
 pub fn proto_item(tables: &Tables, head: &Head, found: &mut Option<TypeFault>)
     ensures { found.new ≡ met tables.now found.old (head_sites (Declares head.now) head.now) }
 {
@@ -49,7 +49,7 @@ fn functions(tables: &Tables, main: bool, head: &Head, found: &mut Option<TypeFa
 }
 
 /// The head of a function, with the types that it names.
-#[tactic(auto, using(crate::proofs::MeetingLemmas::meeting))]
+#[tactic(auto, using(c_expressions::proofs::MeetingLemmas::meeting))]
 pub fn function_head(tables: &Tables, main: bool, head: &Head, found: &mut Option<TypeFault>)
     ensures { found.new ≡ met tables.now found.old (head_sites (Functions main head.now) head.now) }
 {
@@ -68,7 +68,7 @@ fn declares_globally(tables: &Tables, name: &Name, found: &mut Option<TypeFault>
 }
 
 /// The first variable of a declaration at file level.
-#[tactic(auto, using(crate::proofs::MeetingLemmas::meeting))]
+#[tactic(auto, using(c_expressions::proofs::MeetingLemmas::meeting))]
 fn first_global(tables: &Tables, vars: &[Declarator], found: &mut Option<TypeFault>)
     ensures { found.new ≡ met tables.now found.old (global_sites tables.now vars.now) }
 {
@@ -89,7 +89,7 @@ fn declarators_of(declare: &Declare) -> &[Declarator]
 }
 
 /// A declaration at file level.
-#[tactic(auto, using(crate::proofs::MeetingLemmas::meeting))]
+#[tactic(auto, using(c_expressions::proofs::MeetingLemmas::meeting))]
 pub fn global_item(tables: &Tables, declare: &Declare, found: &mut Option<TypeFault>)
     ensures { found.new ≡ met tables.now found.old
         (type_sites declare.now ++ global_sites tables.now (declarators_of declare.now)) }

@@ -5,22 +5,22 @@ ghost use Rattle.c_typing.specs.Profile.{is_main};
 ghost use Rattle.c_typing.specs.Scopes.{empty_scope};
 ghost use Rattle.c_check.specs.inner.Items.{is_main_item, kept_after, kept_function_sites, kept_item_sites};
 ghost use Rattle.c_check.specs.inner.Items.{kept_items_sites, nothing_kept, any_main};
-ghost use Rattle.c_check.specs.inner.Meeting.{met};
+ghost use Rattle.c_expressions.specs.Meeting.{met};
 
 use crate::bodies::block_faults;
 use crate::counting::counts;
 use crate::definitions::{Seen, enum_item, struct_item};
 use crate::heads::{function_head, global_item, proto_item};
 use crate::profile::is_main;
-use crate::scopes::Scope;
-use crate::tables::Tables;
 use c_ast::{Block, Head, Item};
+use c_scopes::scopes::Scope;
+use c_tables::tables::Tables;
 use c_typing::TypeFault;
 use fore_base::memory::Mem;
 use std::alloc::Global;
 
 /// What the body of main breaks.
-#[tactic(auto, using(crate::proofs::MeetingLemmas::meeting))]
+#[tactic(auto, using(c_expressions::proofs::MeetingLemmas::meeting))]
 fn main_faults(
     alloc: Global,
     tables: &Tables,
@@ -34,7 +34,7 @@ fn main_faults(
 }
 
 /// What the body of main breaks, in an empty scope.
-#[tactic(auto, using(crate::proofs::MeetingLemmas::meeting))]
+#[tactic(auto, using(c_expressions::proofs::MeetingLemmas::meeting))]
 fn faults_within(
     alloc: Global,
     tables: &Tables,
@@ -51,7 +51,7 @@ fn faults_within(
 }
 
 /// The body of a function, which is looked at where it is that of the first `main`.
-#[tactic(auto, using(crate::proofs::MeetingLemmas::meeting))]
+#[tactic(auto, using(c_expressions::proofs::MeetingLemmas::meeting))]
 fn function_body(
     alloc: Global,
     tables: &Tables,
@@ -68,7 +68,7 @@ fn function_body(
 }
 
 /// A function: its head, and its body where it is the first `main`. Tells whether there was a `main` then.
-#[tactic(auto, using(crate::proofs::MeetingLemmas::meeting))]
+#[tactic(auto, using(c_expressions::proofs::MeetingLemmas::meeting))]
 fn function_item(
     alloc: Global,
     tables: &Tables,

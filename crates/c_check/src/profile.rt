@@ -4,8 +4,8 @@ ghost use Rattle.c_typing.specs.Profile.{is_allowed_head, is_int_type, is_main, 
 ghost use Rattle.c_typing.specs.Profile.{has_no_params, errors};
 ghost use Rattle.c_typing.specs.Texts.{has};
 
-use crate::calls::{is_choice, is_error};
 use c_ast::{Data, Head, Params, ReturnType};
+use c_expressions::calls::{is_choice, is_error};
 
 /// Whether the name is `main`.
 pub fn is_main(head: &Head) -> bool

@@ -5,10 +5,10 @@ ghost use Rattle.c_typing.specs.Programs.{program_in, program_with, program_with
 ghost use Rattle.c_check.specs.inner.Items.{body_of_main};
 
 use crate::profile::is_main;
-use crate::scopes::Scope;
 use crate::statements::block_stmts;
-use crate::tables::Tables;
 use c_ast::{Block, Item};
+use c_scopes::scopes::Scope;
+use c_tables::tables::Tables;
 use c_types::Typed;
 use fore_base::list::List;
 use fore_base::memory::Mem;

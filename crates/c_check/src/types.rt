@@ -3,15 +3,15 @@ ghost use Rattle.std.specs.Prelude.{◌≡◌};
 ghost use Rattle.c_typing.specs.BodySites.{data_sites, maybe_sites, type_sites};
 ghost use Rattle.c_typing.specs.ItemSites.{gives_sites, param_sites, params_sites, field_type_sites};
 ghost use Rattle.c_typing.specs.Texts.{each_of};
-ghost use Rattle.c_check.specs.inner.Meeting.{met};
+ghost use Rattle.c_expressions.specs.Meeting.{met};
 
-use crate::noting::{uses_enum, uses_struct};
-use crate::tables::Tables;
 use c_ast::{Data, Declare, Field, Param, Params, ReturnType};
+use c_expressions::noting::{uses_enum, uses_struct};
+use c_tables::tables::Tables;
 use c_typing::TypeFault;
 
 /// A type of data is named.
-#[tactic(auto, using(crate::proofs::MeetingLemmas::meeting))]
+#[tactic(auto, using(c_expressions::proofs::MeetingLemmas::meeting))]
 pub fn uses_data(tables: &Tables, data: &Data, found: &mut Option<TypeFault>)
     ensures { found.new ≡ met tables.now found.old (data_sites data.now) }
 {
@@ -22,7 +22,7 @@ pub fn uses_data(tables: &Tables, data: &Data, found: &mut Option<TypeFault>)
 }
 
 /// The type of a declaration.
-#[tactic(auto, using(crate::proofs::MeetingLemmas::meeting))]
+#[tactic(auto, using(c_expressions::proofs::MeetingLemmas::meeting))]
 pub fn uses_type(tables: &Tables, declare: &Declare, found: &mut Option<TypeFault>)
     ensures { found.new ≡ met tables.now found.old (type_sites declare.now) }
 {
@@ -33,7 +33,7 @@ pub fn uses_type(tables: &Tables, declare: &Declare, found: &mut Option<TypeFaul
 }
 
 /// The type of a line of fields.
-#[tactic(auto, using(crate::proofs::MeetingLemmas::meeting))]
+#[tactic(auto, using(c_expressions::proofs::MeetingLemmas::meeting))]
 pub fn uses_field_type(tables: &Tables, field: &Field, found: &mut Option<TypeFault>)
     ensures { found.new ≡ met tables.now found.old (field_type_sites field.now) }
 {
@@ -44,7 +44,7 @@ pub fn uses_field_type(tables: &Tables, field: &Field, found: &mut Option<TypeFa
 }
 
 /// What a function gives.
-#[tactic(auto, using(crate::proofs::MeetingLemmas::meeting))]
+#[tactic(auto, using(c_expressions::proofs::MeetingLemmas::meeting))]
 pub fn uses_result(tables: &Tables, gives: &ReturnType, found: &mut Option<TypeFault>)
     ensures { found.new ≡ met tables.now found.old (gives_sites gives.now) }
 {
@@ -55,7 +55,7 @@ pub fn uses_result(tables: &Tables, gives: &ReturnType, found: &mut Option<TypeF
     }
 }
 
-#[tactic(auto, using(crate::proofs::MeetingLemmas::meeting))]
+#[tactic(auto, using(c_expressions::proofs::MeetingLemmas::meeting))]
 fn uses_param(tables: &Tables, param: &Param, found: &mut Option<TypeFault>)
     ensures { found.new ≡ met tables.now found.old (param_sites param.now) }
 {
@@ -65,7 +65,7 @@ fn uses_param(tables: &Tables, param: &Param, found: &mut Option<TypeFault>)
     }
 }
 
-#[tactic(auto, using(crate::proofs::MeetingLemmas::meeting))]
+#[tactic(auto, using(c_expressions::proofs::MeetingLemmas::meeting))]
 fn uses_all(tables: &Tables, params: &[Param], found: &mut Option<TypeFault>)
     ensures { found.new ≡ met tables.now found.old (each_of param_sites params.now) }
 {
@@ -75,7 +75,7 @@ fn uses_all(tables: &Tables, params: &[Param], found: &mut Option<TypeFault>)
 }
 
 /// The types of parameters.
-#[tactic(auto, using(crate::proofs::MeetingLemmas::meeting))]
+#[tactic(auto, using(c_expressions::proofs::MeetingLemmas::meeting))]
 pub fn uses_params(tables: &Tables, params: &Option<Params>, found: &mut Option<TypeFault>)
     ensures { found.new ≡ met tables.now found.old (maybe_sites params_sites params.now) }
 {

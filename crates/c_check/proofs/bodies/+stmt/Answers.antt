@@ -7,10 +7,10 @@ use Rattle.c_typing.proofs.ScopeLayers.{past-For-stmt}
 use Rattle.c_typing.proofs.SiteLayers.{part-Declare, part-Stmt, block-parts, stmt-Empty, stmt-Block, stmt-Simple}
 use Rattle.c_typing.proofs.SiteLayers.{stmt-While, stmt-Do, stmt-For, stmt-Return, stmt-Break, stmt-Continue}
 use Rattle.c_typing.proofs.SiteLayers.{stmt-Assert, stmt-If}
-use Rattle.c_check.specs.inner.Meeting.{met}
-use Rattle.c_check.specs.inner.ScopeTables.{outer}
+use Rattle.c_expressions.specs.Meeting.{met}
+use Rattle.c_scopes.specs.InScope.{outer}
 use Rattle.c_check.proofs.BodyLemmas.{left_closed, outer-past_first}
-use Rattle.c_check.proofs.MeetingLemmas.{met-nil, met-one}
+use Rattle.c_expressions.proofs.MeetingLemmas.{met-nil, met-one}
 use Rattle.c_check.proofs.StatementLemmas.{whole, both, both_turned, all_three, after_one, after_two, past_step}
 use Rattle.c_check.proofs.StatementLemmas.{parts_step, parts_end}
 use Rattle.c_check.proofs.bodies.«+stmt».Goals as goal

@@ -1,7 +1,7 @@
 use Rattle.std.proofs.Common.{◌+◌, drop, sym, ap, ◌∙◌}
 use Rattle.c_typing.specs.BodySites.{declarator_sites, declarators_sites}
 use Rattle.c_typing.specs.Scopes.{all_declared}
-use Rattle.c_check.specs.inner.Meeting.{met}
+use Rattle.c_expressions.specs.Meeting.{met}
 use Rattle.c_check.proofs.BodyLemmas.{declared_step, declarators_step, declarators_end}
 use Rattle.c_check.proofs.bodies.declarators_faults.Goals as goal
 

@@ -1,7 +1,7 @@
 use Rattle.std.proofs.Common.{◌≡◌, drop}
 use Rattle.c_typing.specs.BodySites.{declarators_sites}
 use Rattle.c_typing.specs.Scopes.{all_declared}
-use Rattle.c_check.specs.inner.Meeting.{met}
+use Rattle.c_expressions.specs.Meeting.{met}
 use Rattle.c_check.proofs.bodies.declarators_faults.Given as goal
 
 abbrev pub invariant-loop-var : goal.invariant-loop-var

@@ -3,7 +3,7 @@ use Rattle.fore_base.specs.declared.place.Place.{Place}
 use Rattle.c_typing.proofs.Breaching.{fault_at}
 use Rattle.c_typing.specs.BodySites.{block_places}
 use Rattle.c_typing.specs.declared.fault.TypeFault.TheVariants.{Limit}
-use Rattle.c_check.specs.inner.First.{first_from}
+use Rattle.c_expressions.specs.First.{first_from}
 use Rattle.c_check.proofs.CountingLemmas.{counted}
 use Rattle.c_check.proofs.counting.counts.Goals as goal
 

@@ -1,6 +1,6 @@
 use Rattle.std.proofs.Common.{◌≡◌, [], drop}
 use Rattle.c_check.specs.inner.Items.{kept_fields_sites}
-use Rattle.c_check.specs.inner.Meeting.{met}
+use Rattle.c_expressions.specs.Meeting.{met}
 use Rattle.c_check.proofs.definitions.defines_fields.Given as goal
 
 abbrev pub invariant-loop-field : goal.invariant-loop-field

@@ -2,9 +2,9 @@ use Rattle.std.proofs.Common.{◌+◌, List, drop, sym, ap, ◌∙◌}
 use Rattle.std.proofs.lemmas.List.{at_drop_all}
 use Rattle.c_ast.specs.declared.operands.Name.{Name}
 use Rattle.c_check.specs.inner.Items.{kept_value_sites, with_names}
-use Rattle.c_check.specs.inner.Meeting.{met}
+use Rattle.c_expressions.specs.Meeting.{met}
 use Rattle.c_check.proofs.LoopLemmas.{turn}
-use Rattle.c_check.proofs.MeetingLemmas.{met-cons, met-nil}
+use Rattle.c_expressions.proofs.MeetingLemmas.{met-cons, met-nil}
 use Rattle.c_check.proofs.definitions.defines_values.Goals as goal
 
 pub loop-count-preserved : goal.loop-count-preserved

@@ -1,6 +1,6 @@
 use Rattle.std.proofs.Common.{◌≡◌, drop}
 use Rattle.c_check.specs.inner.Items.{kept_value_sites, with_names}
-use Rattle.c_check.specs.inner.Meeting.{met}
+use Rattle.c_expressions.specs.Meeting.{met}
 use Rattle.c_check.proofs.definitions.defines_values.Given as goal
 
 abbrev pub invariant-loop-count : goal.invariant-loop-count

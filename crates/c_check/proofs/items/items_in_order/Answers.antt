@@ -2,9 +2,9 @@ use Rattle.std.proofs.Common.{◌≡◌, ◌+◌, ◌||◌, Bool, true, false, L
 use Rattle.std.proofs.lemmas.List.{at_drop_all}
 use Rattle.c_ast.specs.declared.items.Item.{Item}
 use Rattle.c_check.specs.inner.Items.{any_main, is_main_item, kept_after, kept_item_sites, kept_items_sites}
-use Rattle.c_check.specs.inner.Meeting.{met}
+use Rattle.c_expressions.specs.Meeting.{met}
 use Rattle.c_check.proofs.LoopLemmas.{turn}
-use Rattle.c_check.proofs.MeetingLemmas.{met-append, met-nil}
+use Rattle.c_expressions.proofs.MeetingLemmas.{met-append, met-nil}
 use Rattle.c_check.proofs.items.items_in_order.Goals as goal
 
 or_or : (a b c : Bool) → ((a || b) || c) ≡ (a || (b || c))

@@ -1,6 +1,6 @@
 use Rattle.std.proofs.Common.{◌≡◌, ◌||◌, false, drop}
 use Rattle.c_check.specs.inner.Items.{any_main, kept_items_sites, nothing_kept}
-use Rattle.c_check.specs.inner.Meeting.{met}
+use Rattle.c_expressions.specs.Meeting.{met}
 use Rattle.c_check.proofs.items.items_in_order.Given as goal
 
 abbrev pub invariant-loop-item : goal.invariant-loop-item

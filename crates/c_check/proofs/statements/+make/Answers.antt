@@ -11,7 +11,7 @@ use Rattle.c_typing.proofs.ProgramLayers.{made-Return-stmt, made-Break-stmt, mad
 use Rattle.c_typing.proofs.ProgramLayers.{made-If-stmt}
 use Rattle.c_typing.proofs.ScopeLayers.{past-For-stmt}
 use Rattle.c_check.specs.inner.Making.{first_stmts, for_body, for_made, group_first, past_for}
-use Rattle.c_check.specs.inner.ScopeTables.{outer}
+use Rattle.c_scopes.specs.InScope.{outer}
 use Rattle.c_check.proofs.BodyLemmas.{left_closed, outer-past_first}
 use Rattle.c_check.proofs.MakingLemmas.{made_as, stmts_step, same_group, for_as}
 use Rattle.c_check.proofs.StatementLemmas.{past_step}

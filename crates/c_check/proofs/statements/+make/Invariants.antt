@@ -1,7 +1,7 @@
 use Rattle.std.proofs.Common.{◌≡◌, ◌++◌, drop}
 use Rattle.c_typing.specs.Programs.{parts_stmts}
 use Rattle.c_typing.specs.Scopes.{past_parts}
-use Rattle.c_check.specs.inner.ScopeTables.{outer}
+use Rattle.c_scopes.specs.InScope.{outer}
 use Rattle.c_check.proofs.statements.«+make».Given as goal
 
 abbrev pub invariant-parts_stmts-loop-part : goal.invariant-parts_stmts-loop-part

@@ -1,7 +1,7 @@
 use Rattle.std.proofs.Common.{◌≡◌, drop}
 use Rattle.c_typing.specs.ItemSites.{param_sites}
 use Rattle.c_typing.specs.Texts.{each_of}
-use Rattle.c_check.specs.inner.Meeting.{met}
+use Rattle.c_expressions.specs.Meeting.{met}
 use Rattle.c_check.proofs.types.uses_all.Given as goal
 
 abbrev pub invariant-loop-param : goal.invariant-loop-param

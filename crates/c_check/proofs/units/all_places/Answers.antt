@@ -1,7 +1,7 @@
 use Rattle.std.proofs.Common.{false, ap, ◌∙◌}
 use Rattle.c_typing.specs.Sites.{Ends, Overflows}
 use Rattle.c_check.specs.inner.Items.{any_main, kept_items_sites, nothing_kept}
-use Rattle.c_check.specs.inner.Meeting.{met, noted}
+use Rattle.c_expressions.specs.Meeting.{met, noted}
 use Rattle.c_check.proofs.KeptLemmas.{whole_met}
 use Rattle.c_check.proofs.units.all_places.Goals as goal
 

@@ -1,7 +1,0 @@
-use Rattle.c_check.proofs.ScopeLemmas.{left_kept}
-use Rattle.c_check.proofs.scopes.Table.leave.Goals as goal
-
-pub returns-in-Some-clause-kept : goal.returns-in-Some-clause-kept
-returns-in-Some-clause-kept c =
-    left_kept c.args.self.now c.pop.new.self c.in-Some.block c.unbind.new.meant c.requires c.in-Some.ensures
-    c.unbind.ensures

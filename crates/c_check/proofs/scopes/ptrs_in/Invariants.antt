@@ -1,6 +1,0 @@
-use Rattle.std.proofs.Common.{◌≡◌, take, reverse}
-use Rattle.c_check.specs.inner.ScopeTables.{ptrs_in}
-use Rattle.c_check.proofs.scopes.ptrs_in.Given as goal
-
-abbrev pub invariant-loop-entry : goal.invariant-loop-entry
-invariant-loop-entry l = l.numbers ≡ ptrs_in (reverse (take l.entry-index l.block))
