@@ -1,4 +1,5 @@
--- The graph of a program without loops has a number of prefixes: each of its edges leads on in the text.
+-- The graph of a program without loops has a number of prefixes: each of its edges leads on in the text. The number is
+-- that of the program.
 use Rattle.std.proofs.Common.{◌≡◌, ℕ, Bool, true, false, List, [], ◌∷◌, ◌++◌, length, Some, refl, sym, ap, subst, ◌∙◌}
 use Rattle.fore_base.specs.Lists.{Every}
 use Rattle.fore_base.proofs.ListLemmas.{every_parts}
@@ -11,7 +12,7 @@ use Rattle.c_types.specs.declared.program.Atom.TheVariants.{Choice as ChoiceAtom
 use Rattle.c_types.specs.declared.program.Atom.TheVariants.{Data as DataAtom}
 use Rattle.c_types.specs.Control.{Items, Done, Do, Close, If, Loop, Again, DoLoop, DoAgain, Test, Ask, Not, Both}
 use Rattle.c_types.specs.Control.{Either}
-use Rattle.c_types.specs.Control.{◌then◌, ask, opened, open_before}
+use Rattle.c_types.specs.Control.{◌then◌, ask, opened, open_before, start_of}
 use Rattle.c_types.specs.Program.{Program}
 use Rattle.c_cfg.specs.declared.graph.Edge.{Edge}
 use Rattle.c_cfg.specs.declared.graph.Instr.{Instr}
@@ -28,7 +29,9 @@ use Rattle.c_cfg.proofs.FreeOfLoops.{free_graph}
 use Rattle.c_cfg.proofs.Opening.{open_then}
 use Rattle.c_prefixes.specs.Prefixes.{paths_from}
 use Rattle.c_prefixes.proofs.FreeItems.{IsFree, then_free, none_after, none_from, free_items}
-use Rattle.c_prefixes.proofs.Sums.{HasNumber, number_here, one_number, two_number}
+use Rattle.c_prefixes.proofs.ItemCounts.{act_after, act_same, atom_count, count_remarked, items_count, row_count}
+use Rattle.c_prefixes.proofs.ItemCounts.{test_count, way_count}
+use Rattle.c_prefixes.proofs.Sums.{IsNumber, none_here, one_here, one_only, two_here}
 
 then_done : (r : Items) → r then Done ≡ r
 then_done Done = refl
@@ -42,123 +45,157 @@ then_done (DoAgain c b is) = ap (DoAgain c b) (then_done is)
 
 module _ (nv nd : ℕ) (edges : List Edge) where
   -- along a way
-  way_number : (line : ℕ) (links : List Link) (k : ℕ) (way : List ℕ) (to : ℕ) → IsWay edges line links k way to
-      → HasNumber edges to → HasNumber edges k
-  way_number line [] k [] to w h = subst (HasNumber edges) (sym w) h
-  way_number line [] k (m ∷ ms) to w h = absurd w
-  way_number line (l ∷ ls) k [] to w h = absurd w
-  way_number line (One i ∷ ls) k (m ∷ ms) to w h =
-      one_number edges k (edge line k m i _) w.0 (way_number line ls m ms to w.1 h)
-  way_number line (Two i j ∷ ls) k (m ∷ ms) to w h =
-      let n = way_number line ls m ms to w.1 h in
-      two_number edges k (edge line k m i _) (edge line k m j _) w.0 n n
+  way_number : (line : ℕ) (links : List Link) (k : ℕ) (way : List ℕ) (to n : ℕ) → IsWay edges line links k way to
+      → IsNumber edges to n → IsNumber edges k (way_count links n)
+  way_number line [] k [] to n w h = subst (λ (j : ℕ). IsNumber edges j n) (sym w) h
+  way_number line [] k (m ∷ ms) to n w h = absurd w
+  way_number line (l ∷ ls) k [] to n w h = absurd w
+  way_number line (One i ∷ ls) k (m ∷ ms) to n w h =
+      one_here edges k (edge line k m i _) (way_count ls n) w.0 (way_number line ls m ms to n w.1 h)
+  way_number line (Two i j ∷ ls) k (m ∷ ms) to n w h =
+      let c = way_number line ls m ms to n w.1 h in
+      two_here edges k (edge line k m i _) (edge line k m j _) (way_count ls n) (way_count ls n) w.0 c c
 
   -- a comparison
   row_number : (line : ℕ) (loads : List Link) (test : Bool → Instr) (ends : List Link) (k : ℕ) (mids : List ℕ)
-      (same other : ℕ) → IsTestRow edges line loads test ends k mids same other → HasNumber edges same
-      → HasNumber edges other → HasNumber edges k
-  row_number line loads test ends k mids same other r h g =
-      way_number line loads k r.front r.tested r.reads
-      (two_number edges r.tested (edge line r.tested r.if_same (test true) _)
-      (edge line r.tested r.if_other (test false) _) r.compares
-      (way_number line ends r.if_same r.after_same same r.same_ends h)
-      (way_number line ends r.if_other r.after_other other r.other_ends g))
+      (same other a b : ℕ) → IsTestRow edges line loads test ends k mids same other → IsNumber edges same a
+      → IsNumber edges other b → IsNumber edges k (row_count loads ends a b)
+  row_number line loads test ends k mids same other a b r h g =
+      way_number line loads k r.front r.tested _ r.reads
+      (two_here edges r.tested (edge line r.tested r.if_same (test true) _)
+      (edge line r.tested r.if_other (test false) _) (way_count ends a) (way_count ends b) r.compares
+      (way_number line ends r.if_same r.after_same same a r.same_ends h)
+      (way_number line ends r.if_other r.after_other other b r.other_ends g))
 
   -- an atom
-  atom_number : (a : Atom) (line k : ℕ) (mids : List ℕ) (yes' no' : ℕ) → IsAtomRow nv nd edges a line k mids yes' no'
-      → HasNumber edges yes' → HasNumber edges no' → HasNumber edges k
-  atom_number ChoiceAtom line k mids yes' no' r h g =
-      two_number edges k (edge line k no' _ _) (edge line k yes' _ _) r.0 g h
-  atom_number (KnownAtom true) line k mids yes' no' r h g = one_number edges k (edge line k yes' _ _) r.0 h
-  atom_number (KnownAtom false) line k mids yes' no' r h g = one_number edges k (edge line k no' _ _) r.0 g
-  atom_number (PtrAtom l r true) line k mids yes' no' t h g = row_number line _ _ _ k mids yes' no' t h g
-  atom_number (PtrAtom l r false) line k mids yes' no' t h g = row_number line _ _ _ k mids no' yes' t g h
-  atom_number (DataAtom l r true) line k mids yes' no' t h g = row_number line _ _ _ k mids yes' no' t h g
-  atom_number (DataAtom l r false) line k mids yes' no' t h g = row_number line _ _ _ k mids no' yes' t g h
+  atom_number : (x : Atom) (line k : ℕ) (mids : List ℕ) (yes' no' a b : ℕ)
+      → IsAtomRow nv nd edges x line k mids yes' no' → IsNumber edges yes' a → IsNumber edges no' b
+      → IsNumber edges k (atom_count nv nd x a b)
+  atom_number ChoiceAtom line k mids yes' no' a b r h g =
+      two_here edges k (edge line k no' _ _) (edge line k yes' _ _) b a r.0 g h
+  atom_number (KnownAtom true) line k mids yes' no' a b r h g = one_here edges k (edge line k yes' _ _) a r.0 h
+  atom_number (KnownAtom false) line k mids yes' no' a b r h g = one_here edges k (edge line k no' _ _) b r.0 g
+  atom_number (PtrAtom l r true) line k mids yes' no' a b t h g =
+      row_number line _ _ _ k mids yes' no' a b t h g
+  atom_number (PtrAtom l r false) line k mids yes' no' a b t h g =
+      row_number line _ _ _ k mids no' yes' b a t g h
+  atom_number (DataAtom l r true) line k mids yes' no' a b t h g =
+      row_number line _ _ _ k mids yes' no' a b t h g
+  atom_number (DataAtom l r false) line k mids yes' no' a b t h g =
+      row_number line _ _ _ k mids no' yes' b a t g h
 
   module _ (mode : MallocMode) (line : ℕ → ℕ) (at : Items → ℕ) (mids : Items → List ℕ)
       (exit : out_of edges (at Done) ≡ []) where
     abbrev Row : Items → Type 0
     Row = IsRow nv nd edges mode line at mids
 
-    exit_number : HasNumber edges (at Done)
-    exit_number = number_here edges (at Done) [] exit (λ e i. absurd i)
+    exit_number : IsNumber edges (at Done) 1
+    exit_number = none_here edges (at Done) exit
 
     -- a test, by its sides
-    test_number : (c : Test) (x y r : Items) → Every Row (test_places c x y r)
-        → HasNumber edges (at (opened (x then r))) → HasNumber edges (at (opened (y then r)))
-        → HasNumber edges (at (ask c x y r))
-    test_number (Ask a m) x y r h hx hy =
-        atom_number a (line m) (at (If (Ask a m) x y r)) (mids (If (Ask a m) x y r)) (at (opened (x then r)))
-        (at (opened (y then r))) h.0 hx hy
-    test_number (Not c) x y r h hx hy = test_number c y x r h hy hx
-    test_number (Both c d) x y r h hx hy =
+    test_number : (c : Test) (x y r : Items) (a b : ℕ) → Every Row (test_places c x y r)
+        → IsNumber edges (at (opened (x then r))) a → IsNumber edges (at (opened (y then r))) b
+        → IsNumber edges (at (ask c x y r)) (test_count nv nd c a b)
+    test_number (Ask z m) x y r a b h hx hy =
+        atom_number z (line m) (at (If (Ask z m) x y r)) (mids (If (Ask z m) x y r)) (at (opened (x then r)))
+        (at (opened (y then r))) a b h.0 hx hy
+    test_number (Not c) x y r a b h hx hy = test_number c y x r b a h hy hx
+    test_number (Both c d) x y r a b h hx hy =
         let k = every_parts Row (test_places c (If d x y Done) y r) (test_places d x y r) h in
-        let z : HasNumber edges (at (opened ((If d x y Done) then r))) =
-        subst (λ (z : Items). HasNumber edges (at (ask d x y z))) (sym (then_done r))
-        (test_number d x y r k.1 hx hy) in
-        test_number c (If d x y Done) y r k.0 z hy
-    test_number (Either c d) x y r h hx hy =
+        let z : IsNumber edges (at (opened ((If d x y Done) then r))) (test_count nv nd d a b) =
+        subst (λ (z : Items). IsNumber edges (at (ask d x y z)) (test_count nv nd d a b)) (sym (then_done r))
+        (test_number d x y r a b k.1 hx hy) in
+        test_number c (If d x y Done) y r (test_count nv nd d a b) b k.0 z hy
+    test_number (Either c d) x y r a b h hx hy =
         let k = every_parts Row (test_places c x (If d x y Done) r) (test_places d x y r) h in
-        let z : HasNumber edges (at (opened ((If d x y Done) then r))) =
-        subst (λ (z : Items). HasNumber edges (at (ask d x y z))) (sym (then_done r))
-        (test_number d x y r k.1 hx hy) in
-        test_number c x (If d x y Done) r k.0 hx z
+        let z : IsNumber edges (at (opened ((If d x y Done) then r))) (test_count nv nd d a b) =
+        subst (λ (z : Items). IsNumber edges (at (ask d x y z)) (test_count nv nd d a b)) (sym (then_done r))
+        (test_number d x y r a b k.1 hx hy) in
+        test_number c x (If d x y Done) r a (test_count nv nd d a b) k.0 hx z
 
     -- what some items open to before others, and what the whole opens to
-    whole : (is r : Items) → HasNumber edges (at (open_before is r (opened r)))
-        → HasNumber edges (at (opened (is then r)))
-    whole is r h = subst (λ (z : Items). HasNumber edges (at z))
+    whole : (is r : Items) (n : ℕ) → IsNumber edges (at (open_before is r (opened r))) n
+        → IsNumber edges (at (opened (is then r))) n
+    whole is r n h = subst (λ (z : Items). IsNumber edges (at z) n)
         (sym (open_then is r Done Done ∙ ap (λ (z : Items). open_before is z (opened r)) (then_done r))) h
 
     -- after an act
-    act_number : (a : Act) (is : Items) → IsFree is → HasNumber edges (at (opened is))
-        → HasNumber edges (at (opened (followed_by a is)))
-    act_number (SetPtr to from) is f h = h
-    act_number (SetData to from) is f h = h
-    act_number (Free p) is f h = h
-    act_number Error is f h = exit_number
-    act_number Halt is f h = exit_number
-    act_number (Return operand) is f h = exit_number
-    act_number Break is f h = subst (λ (z : Items). HasNumber edges (at (opened z)))
+    act_number : (a : Act) (is : Items) (n : ℕ) → IsFree is → IsNumber edges (at (opened is)) n
+        → IsNumber edges (at (opened (followed_by a is))) (act_after a n)
+    act_number (SetPtr to from) is n f h = h
+    act_number (SetData to from) is n f h = h
+    act_number (Free p) is n f h = h
+    act_number Error is n f h = exit_number
+    act_number Halt is n f h = exit_number
+    act_number (Return operand) is n f h = exit_number
+    act_number Break is n f h = subst (λ (z : Items). IsNumber edges (at (opened z)) 1)
         (sym (none_after is f)) exit_number
-    act_number Continue is f h =
-        subst (λ (z : Items). HasNumber edges (at (opened z))) (sym (none_from is f)) exit_number
+    act_number Continue is n f h =
+        subst (λ (z : Items). IsNumber edges (at (opened z)) 1) (sym (none_from is f)) exit_number
 
     -- items without a loop, before others
-    items_number : (is r : Items) → IsFree is → IsFree r → Every Row (places is r) → HasNumber edges (at (opened r))
-        → HasNumber edges (at (open_before is r (opened r)))
-    items_number Done r f g rows h = h
-    items_number (Do a m is) r f g rows h =
-        let n = whole is r (items_number is r f g rows.1 h) in
-        way_number (line m) (links_in mode (act_row nv nd a (is then r))) (at (Do a m (is then r))) rows.0.way
-        (at (opened (followed_by a (is then r)))) rows.0.leads
-        (act_number a (is then r) (then_free is r f g) n)
-    items_number (Close ps ds m is) r f g rows h =
-        let n = whole is r (items_number is r f g rows.1 h) in
+    items_number : (is r : Items) (n : ℕ) → IsFree is → IsFree r → Every Row (places is r)
+        → IsNumber edges (at (opened r)) n
+        → IsNumber edges (at (open_before is r (opened r))) (items_count nv nd mode is n)
+    items_number Done r n f g rows h = h
+    items_number (Do a m is) r n f g rows h =
+        let c = items_count nv nd mode is n in
+        let w = whole is r c (items_number is r n f g rows.1 h) in
+        subst (λ (j : ℕ). IsNumber edges (at (Do a m (is then r))) j)
+        (sym (act_same nv nd mode a (is then r) (act_after a c)))
+        (way_number (line m) (links_in mode (act_row nv nd a (is then r))) (at (Do a m (is then r))) rows.0.way
+        (at (opened (followed_by a (is then r)))) (act_after a c) rows.0.leads
+        (act_number a (is then r) c (then_free is r f g) w))
+    items_number (Close ps ds m is) r n f g rows h =
+        let c = items_count nv nd mode is n in
+        let w = whole is r c (items_number is r n f g rows.1 h) in
         way_number (line m) (One (Kill ps ds) ∷ []) (at (Close ps ds m (is then r))) rows.0.way
-        (at (opened (is then r)))
-        rows.0.leads n
-    items_number (If c x y is) r f g rows h =
-        let a = every_parts Row (test_places c x y (is then r))
+        (at (opened (is then r))) c rows.0.leads w
+    items_number (If c x y is) r n f g rows h =
+        let i = every_parts Row (test_places c x y (is then r))
         (places x (is then r) ++ (places y (is then r) ++ places is r)) rows in
-        let b = every_parts Row (places x (is then r)) (places y (is then r) ++ places is r) a.1 in
-        let e = every_parts Row (places y (is then r)) (places is r) b.1 in
-        let n = whole is r (items_number is r f.2 g e.1 h) in
+        let j = every_parts Row (places x (is then r)) (places y (is then r) ++ places is r) i.1 in
+        let k = every_parts Row (places y (is then r)) (places is r) j.1 in
+        let q = items_count nv nd mode is n in
+        let a = items_count nv nd mode x q in
+        let b = items_count nv nd mode y q in
+        let w = whole is r q (items_number is r n f.2 g k.1 h) in
         let t = then_free is r f.2 g in
-        test_number c x y (is then r) a.0 (whole x (is then r) (items_number x (is then r) f.0 t b.0 n))
-        (whole y (is then r) (items_number y (is then r) f.1 t e.0 n))
-    items_number (Loop c n b is) r f g rows h = absurd f
-    items_number (Again c n b is) r f g rows h = absurd f
-    items_number (DoLoop c b is) r f g rows h = absurd f
-    items_number (DoAgain c b is) r f g rows h = absurd f
+        test_number c x y (is then r) a b i.0 (whole x (is then r) a (items_number x (is then r) q f.0 t j.0 w))
+        (whole y (is then r) b (items_number y (is then r) q f.1 t k.0 w))
+    items_number (Loop c j b is) r n f g rows h = absurd f
+    items_number (Again c j b is) r n f g rows h = absurd f
+    items_number (DoLoop c b is) r n f g rows h = absurd f
+    items_number (DoAgain c b is) r n f g rows h = absurd f
 
--- the graph of a program without loops
+-- the number of prefixes of each graph of a program without loops
+abbrev program_count : Program → MallocMode → ℕ
+program_count p mode = items_count (length p.vars) (length p.data_vars) mode (start_of p) 1
+
+program_number : (p : Program) (mode : MallocMode) (g : ControlGraph) → LowerOf p mode g → has_no_loop p ≡ true
+    → IsNumber g.edges 0 (program_count p mode)
+program_number p mode g low none =
+    let nv = length p.vars in
+    let nd = length p.data_vars in
+    let f = free_items p mode g low (free_graph p mode g low ∙ none) in
+    let e : items_count nv nd mode low.items 1 ≡ program_count p mode =
+    sym (count_remarked nv nd mode low.line low.items 1)
+    ∙ ap (λ (z : Items). items_count nv nd mode z 1) low.is_program in
+    subst (IsNumber g.edges 0) e
+    (subst (λ (k : ℕ). IsNumber g.edges k (items_count nv nd mode low.items 1)) low.entry
+    (items_number nv nd g.edges mode low.line low.at low.mids low.exit low.items Done 1 f tt low.rows
+    (exit_number nv nd g.edges mode low.line low.at low.mids low.exit)))
+
 pub loop_free_number : (p : Program) (mode : MallocMode) (g : ControlGraph) → LowerOf p mode g → has_no_loop p ≡ true
     → (n : ℕ) × (b : ℕ) × (paths_from g.edges n 0 ≡ Some b)
 loop_free_number p mode g low none =
-    let f = free_items p mode g low (free_graph p mode g low ∙ none) in
-    subst (HasNumber g.edges) low.entry
-    (items_number (length p.vars) (length p.data_vars) g.edges mode low.line low.at low.mids low.exit low.items Done f
-    tt low.rows
-    (exit_number (length p.vars) (length p.data_vars) g.edges mode low.line low.at low.mids low.exit))
+    let w = program_number p mode g low none in (w.0, program_count p mode, w.1)
+
+-- two graphs of one program
+pub same_number : (p : Program) (mode : MallocMode) (g h : ControlGraph) (n b : ℕ) → LowerOf p mode g
+    → LowerOf p mode h → has_no_loop p ≡ true → paths_from g.edges n 0 ≡ Some b
+    → (m : ℕ) × (paths_from h.edges m 0 ≡ Some b)
+same_number p mode g h n b low other none e =
+    subst (IsNumber h.edges 0)
+    (one_only g.edges 0 (program_count p mode) b (program_number p mode g low none) (n, e))
+    (program_number p mode h other none)

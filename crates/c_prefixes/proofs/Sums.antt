@@ -1,11 +1,11 @@
--- Where the paths of each edge that begins at a location have a number, so have those of the location.
-use Rattle.std.proofs.Common.{◌≡◌, inl, inr, ℕ, zero, suc, ◌+◌, List, [], ◌∷◌, map, Option, Some, None, refl, sym, ap}
+-- How many paths begin at a location, by how many begin where its edges end.
+use Rattle.std.proofs.Common.{◌≡◌, ℕ, zero, suc, ◌+◌, List, [], ◌∷◌, map, Option, Some, None, refl, sym, ap}
 use Rattle.std.proofs.Common.{subst, ◌∙◌, arith}
-use Rattle.std.proofs.lemmas.Option.{none-some}
-use Rattle.fore_base.specs.Lists.{IsIn}
+use Rattle.std.proofs.lemmas.Option.{none-some, same_Some}
 use Rattle.c_cfg.specs.declared.graph.Edge.{Edge}
 use Rattle.c_cfg.specs.GraphRuns.{out_of}
 use Rattle.c_prefixes.specs.Prefixes.{plus, sum_there, empty_path, paths_from}
+use Rattle.c_prefixes.proofs.ItemCounts.{one_after, two_after}
 
 -- the sum stays where each number that is there stays
 sum_more : (f g : Edge → Option ℕ) → ((e : Edge) (a : ℕ) → f e ≡ Some a → g e ≡ Some a) → (es : List Edge) (b : ℕ)
@@ -52,39 +52,38 @@ module _ (edges : List Edge) where
       let e : suc (m + n) ≡ suc m + n = omega arith in
       subst (λ (j : ℕ). paths_from edges j k ≡ Some b) e (one_more (m + n) k b (some_more m n k b h))
 
-  -- the paths from the location have a number
-  abbrev pub HasNumber : ℕ → Type 0
-  HasNumber k = (n : ℕ) × (b : ℕ) × (paths_from edges n k ≡ Some b)
+  -- b paths begin at the location
+  abbrev pub IsNumber : ℕ → ℕ → Type 0
+  IsNumber k b = (n : ℕ) × (paths_from edges n k ≡ Some b)
 
-  sums : (es : List Edge) → ((e : Edge) → IsIn e es → HasNumber e.to) → (n : ℕ) × (c : ℕ)
-      × (sum_there (map (after n) es) ≡ Some c)
-  sums [] h = (0, 0, refl)
-  sums (e ∷ es) h =
-      let a = h e (inl refl) in
-      let r = sums es (λ x i. h x (inr i)) in
-      let u : r.0 + a.0 ≡ a.0 + r.0 = omega arith in
-      let p : paths_from edges (a.0 + r.0) e.to ≡ Some a.1 =
-      subst (λ (j : ℕ). paths_from edges j e.to ≡ Some a.1) u (some_more r.0 a.0 e.to a.1 a.2) in
-      let q = sum_more (after r.0) (after (a.0 + r.0)) (λ x b y. some_more a.0 r.0 x.to b y) es r.1 r.2 in (
-        a.0 + r.0,
-        a.1 + r.1,
-        ap (λ (o : Option ℕ). sum_there (o ∷ map (after (a.0 + r.0)) es)) p ∙ ap (plus a.1) q,
+  -- it is the only number
+  pub one_only : (k b c : ℕ) → IsNumber k b → IsNumber k c → b ≡ c
+  one_only k b c h g =
+      let e : g.0 + h.0 ≡ h.0 + g.0 = omega arith in
+      let x : paths_from edges (h.0 + g.0) k ≡ Some b =
+      subst (λ (j : ℕ). paths_from edges j k ≡ Some b) e (some_more g.0 h.0 k b h.1) in
+      same_Some b c (sym x ∙ some_more h.0 g.0 k c g.1)
+
+  -- a location at which no edge begins, one does, or two do
+  pub none_here : (k : ℕ) → out_of edges k ≡ [] → IsNumber k 1
+  none_here k q = (0, ap empty_path q)
+
+  pub one_here : (k : ℕ) (e : Edge) (a : ℕ) → out_of edges k ≡ e ∷ [] → IsNumber e.to a → IsNumber k (one_after a)
+  one_here k e a q h = (
+    suc h.0,
+    ap (λ (xs : List Edge). plus 1 (sum_there (map (after h.0) xs))) q
+        ∙ ap (λ (o : Option ℕ). plus 1 (sum_there (o ∷ []))) h.1,
+  )
+
+  pub two_here : (k : ℕ) (e f : Edge) (a b : ℕ) → out_of edges k ≡ e ∷ f ∷ [] → IsNumber e.to a → IsNumber f.to b
+      → IsNumber k (two_after a b)
+  two_here k e f a b q h g =
+      let u : g.0 + h.0 ≡ h.0 + g.0 = omega arith in
+      let x : paths_from edges (h.0 + g.0) e.to ≡ Some a =
+      subst (λ (j : ℕ). paths_from edges j e.to ≡ Some a) u (some_more g.0 h.0 e.to a h.1) in
+      let y = some_more h.0 g.0 f.to b g.1 in (
+        suc (h.0 + g.0),
+        ap (λ (xs : List Edge). plus 1 (sum_there (map (after (h.0 + g.0)) xs))) q
+            ∙ (ap (λ (o : Option ℕ). plus 1 (sum_there (o ∷ after (h.0 + g.0) f ∷ []))) x
+            ∙ ap (λ (o : Option ℕ). plus 1 (sum_there (Some a ∷ o ∷ []))) y),
       )
-
-  -- a location at which these edges begin
-  pub number_here : (k : ℕ) (es : List Edge) → out_of edges k ≡ es → ((e : Edge) → IsIn e es → HasNumber e.to)
-      → HasNumber k
-  number_here k es q h =
-      let s = sums es h in
-      (suc s.0, 1 + s.1, ap (λ (xs : List Edge). plus 1 (sum_there (map (after s.0) xs))) q ∙ ap (plus 1) s.2)
-
-  pub one_number : (k : ℕ) (e : Edge) → out_of edges k ≡ e ∷ [] → HasNumber e.to → HasNumber k
-  one_number k e q h = number_here k (e ∷ []) q
-      (λ x i. elim i [ inl z ↦ subst (λ (y : Edge). HasNumber y.to) (sym z) h | inr z ↦ absurd z ])
-
-  pub two_number : (k : ℕ) (e f : Edge) → out_of edges k ≡ e ∷ f ∷ [] → HasNumber e.to → HasNumber f.to → HasNumber k
-  two_number k e f q h g = number_here k (e ∷ f ∷ []) q
-      (λ x i. elim i [
-        | inl z ↦ subst (λ (y : Edge). HasNumber y.to) (sym z) h
-        | inr j ↦ elim j [ inl z ↦ subst (λ (y : Edge). HasNumber y.to) (sym z) g | inr z ↦ absurd z ]
-      ])

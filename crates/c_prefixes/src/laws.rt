@@ -21,3 +21,10 @@ pub fn loop_free_graphs_are_counted()
     ensures { (p : Program) (mode : MallocMode) (g : ControlGraph) → LowerOf p mode g → has_no_loop p ≡ true
         → (n : ℕ) × (b : ℕ) × (paths_from g.edges n 0 ≡ Some b) }
 {}
+
+/// Each two graphs of a program without loops, for one mode of `malloc`, have as many prefixes: so the number of one of
+/// them is that of the program.
+pub fn graphs_have_one_number()
+    ensures { (p : Program) (mode : MallocMode) (g h : ControlGraph) (n b : ℕ) → LowerOf p mode g → LowerOf p mode h
+        → has_no_loop p ≡ true → paths_from g.edges n 0 ≡ Some b → (m : ℕ) × (paths_from h.edges m 0 ≡ Some b) }
+{}
