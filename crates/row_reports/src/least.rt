@@ -1,33 +1,24 @@
 // Reports in which each component stands by the least automaton of its trees that reads them from the top.
 //
-// A cell has one pointer at most, so each tree is a chain. What may stand in a chain behind its first cells is a set of
-// rules: those of the root states at the top, and behind a cell those of the states in which cells of this symbol end.
-// Two such sets are one state where the chains that begin in them are the same. States are numbered as they are met
-// from the top, and the rules of each stand in the order of their symbols.
+// Of a cell one slot at most ends in cells, so each tree is a chain (`chains`). What may stand in a chain behind its first
+// cells is a set of rules: those of the root states at the top, and behind a cell those of the states in which cells of
+// this symbol end. Two such sets are one state where the chains that begin in them are the same. States are numbered as
+// they are met from the top, and the rules of each stand in the order of their symbols.
 
+use crate::chains::{Rule, rules_of, state_of};
 use anyhow::{Context, Result, bail};
 use std::alloc::Global;
 
-/// How many states an automaton of a report has at most.
-const STATES: u32 = 8;
-
-/// How far chains are looked at, and how many states are printed at most: there are fewer sets of so many states, and
+/// How far chains are looked at, and how many states are printed at most: there are fewer sets of states, and
 /// two sets with different chains have different ones that are no longer than there are sets.
 const LOOK: usize = 256;
-
-/// A rule of a component: the symbol is the term as far as the state of its child, or the whole term of a leaf.
-#[derive(Drop)]
-struct Rule<'a> {
-    state: u32,
-    symbol: &'a str,
-    child: Option<u32>,
-}
 
 /// The report with the components by their least automata.
 ///
 /// # Errors
 ///
-/// A cell with two pointers, an automaton of many states, a text that is no report, and want of memory.
+/// A cell with two slots below which cells stand, or with a slot that has several leaves, an automaton of many states, a
+/// text that is no report, and want of memory.
 pub fn least_report(alloc: Global, report: &str) -> Result<String> {
     let mut out = String::new(alloc);
     let mut pieces = report.split("\nroot ");
@@ -58,51 +49,8 @@ fn put_piece(alloc: Global, out: &mut String, piece: &str) -> Result<()> {
     Ok(())
 }
 
-fn rules_of<'a>(alloc: Global, lines: &'a str) -> Result<Vec<Rule<'a>>> {
-    let mut rules = Vec::new(alloc);
-    for line in lines.lines() {
-        if let Some((state, term)) = line.split_once(" = ") {
-            rules.push(rule_of(state, term)?)?;
-        }
-    }
-    Ok(rules)
-}
-
-fn rule_of<'a>(state: &str, term: &'a str) -> Result<Rule<'a>> {
-    let state = state_of(state)?;
-    let Some((symbol, end)) = term.split_once("=s") else {
-        return Ok(Rule {
-            state,
-            symbol: term,
-            child: None,
-        });
-    };
-    let child = end.strip_suffix(")").context("a cell without an end")?;
-    let child = child.parse::<u32>().context("a cell with two pointers")?;
-    Ok(Rule {
-        state,
-        symbol,
-        child: Some(child),
-    })
-}
-
-/// The number of a state.
-fn state_of(word: &str) -> Result<u32> {
-    let digits = word.strip_prefix("s").context("no state")?;
-    let state = digits.parse::<u32>()?;
-    if STATES <= state {
-        bail!("a state above the greatest");
-    }
-    Ok(state)
-}
-
 /// The component of this head: its number and its root states.
-fn put_component<'a>(
-    alloc: Global,
-    out: &mut String,
-    head: &str,
-    rules: &'a [Rule<'a>],
-) -> Result<()> {
+fn put_component<'a>(alloc: Global, out: &mut String, head: &str, rules: &'a [Rule]) -> Result<()> {
     let mut words = head.split(' ');
     let number = words.next().context("no number of a component")?;
     write!(out, "root {number} s0\n")?;
@@ -119,7 +67,7 @@ fn put_component<'a>(
 }
 
 /// The rules of these states.
-fn rules_at<'a>(alloc: Global, rules: &'a [Rule<'a>], states: &[u32]) -> Result<Vec<&'a Rule<'a>>> {
+fn rules_at<'a>(alloc: Global, rules: &'a [Rule], states: &[u32]) -> Result<Vec<&'a Rule>> {
     let mut found = Vec::new(alloc);
     for rule in rules {
         if states.contains(&rule.state) {
@@ -133,8 +81,8 @@ fn rules_at<'a>(alloc: Global, rules: &'a [Rule<'a>], states: &[u32]) -> Result<
 fn put_state<'a>(
     alloc: Global,
     out: &mut String,
-    rules: &'a [Rule<'a>],
-    known: &mut Vec<Vec<&'a Rule<'a>>>,
+    rules: &'a [Rule],
+    known: &mut Vec<Vec<&'a Rule>>,
     at: usize,
 ) -> Result<()> {
     let symbols = match known.get(at) {
@@ -144,22 +92,23 @@ fn put_state<'a>(
     for symbol in symbols.as_slice() {
         let set = known.get(at).context("no such state")?;
         let next = below(alloc, rules, set.as_slice(), symbol)?;
-        if next.is_empty() {
-            write!(out, "s{at} = {symbol}\n")?;
-        } else {
-            let number = number_of(alloc, rules, known, next)?;
-            write!(out, "s{at} = {symbol}=s{number})\n")?;
+        match symbol.split_once('*') {
+            None => write!(out, "s{at} = {symbol}\n")?,
+            Some((front, back)) => {
+                let number = number_of(alloc, rules, known, next)?;
+                write!(out, "s{at} = {front}s{number}{back}\n")?;
+            }
         }
     }
     Ok(())
 }
 
 /// The symbols of the set, each once, in the order of their texts.
-fn symbols_of<'a>(alloc: Global, set: &[&'a Rule<'a>]) -> Result<Vec<&'a str>> {
+fn symbols_of<'a>(alloc: Global, set: &[&'a Rule]) -> Result<Vec<&'a str>> {
     let mut symbols: Vec<&'a str> = Vec::new(alloc);
     for rule in set {
-        if !symbols.as_slice().contains(&rule.symbol) {
-            symbols.push(rule.symbol)?;
+        if !symbols.as_slice().contains(&rule.symbol.as_str()) {
+            symbols.push(rule.symbol.as_str())?;
         }
     }
     symbols.sort()?;
@@ -169,13 +118,13 @@ fn symbols_of<'a>(alloc: Global, set: &[&'a Rule<'a>]) -> Result<Vec<&'a str>> {
 /// The rules of the states in which cells of this symbol end: none for a leaf.
 fn below<'a>(
     alloc: Global,
-    rules: &'a [Rule<'a>],
-    set: &[&'a Rule<'a>],
+    rules: &'a [Rule],
+    set: &[&'a Rule],
     symbol: &str,
-) -> Result<Vec<&'a Rule<'a>>> {
+) -> Result<Vec<&'a Rule>> {
     let mut states = Vec::new(alloc);
     for rule in set {
-        if rule.symbol == symbol {
+        if rule.symbol.as_str() == symbol {
             if let Some(child) = rule.child {
                 states.push(child)?;
             }
@@ -187,9 +136,9 @@ fn below<'a>(
 /// The number of the known set with the same chains; a set of others becomes the last.
 fn number_of<'a>(
     alloc: Global,
-    rules: &'a [Rule<'a>],
-    known: &mut Vec<Vec<&'a Rule<'a>>>,
-    set: Vec<&'a Rule<'a>>,
+    rules: &'a [Rule],
+    known: &mut Vec<Vec<&'a Rule>>,
+    set: Vec<&'a Rule>,
 ) -> Result<usize> {
     for (number, other) in known.iter().enumerate() {
         if are_alike(alloc, rules, other.as_slice(), set.as_slice(), LOOK)? {
@@ -207,9 +156,9 @@ fn number_of<'a>(
 /// Whether the chains of at most so many cells that begin in one set are those that begin in the other.
 fn are_alike<'a>(
     alloc: Global,
-    rules: &'a [Rule<'a>],
-    left: &[&'a Rule<'a>],
-    right: &[&'a Rule<'a>],
+    rules: &'a [Rule],
+    left: &[&'a Rule],
+    right: &[&'a Rule],
     look: usize,
 ) -> Result<bool> {
     let symbols = symbols_of(alloc, left)?;
