@@ -1,5 +1,5 @@
--- How many paths begin at a place, by how many begin where its step leads. Marks have no bearing on it, so it is a number
--- of the program.
+-- How many paths begin at a place, by how many begin where its step leads. Marks have no bearing on it, so it is a
+-- number of the program.
 use Rattle.std.proofs.Common.{◌≡◌, ℕ, ◌+◌, true, false, List, [], ◌∷◌, refl, ap, ◌∙◌}
 use Rattle.c_types.specs.declared.mode.MallocMode.{MallocMode}
 use Rattle.c_types.specs.declared.mode.MallocMode.TheVariants.{Always, MayFail}

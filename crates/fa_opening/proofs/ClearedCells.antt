@@ -12,6 +12,7 @@ use Rattle.fa_core.specs.declared.forest.Forest.{Forest}
 use Rattle.fa_core.specs.declared.forest.Target.{Target}
 use Rattle.fa_core.specs.declared.forest.Target.TheVariants.{At}
 use Rattle.fa_core.specs.Boxes.{Boxes, IsBoxTable}
+use Rattle.fa_core.specs.Boxless.{HasNoBoxes}
 use Rattle.fa_core.specs.Dressed.{Nodes, SeenField, SeenLink, SeenHook}
 use Rattle.fa_core.specs.Filled.{fields_in, gives_in_of}
 use Rattle.fa_core.specs.Member.{Regroups, RegroupsInto}
@@ -24,6 +25,7 @@ use Rattle.fa_sound.specs.Unions.{forests}
 use Rattle.fa_split.specs.Divided.{HasVarsOf}
 use Rattle.fa_unfold.specs.Opens.{Item, IsCell, HasSlot}
 use Rattle.fa_opening.specs.Opened.{HasFieldsAlone, IsAnyField, IsBared, IsEdgeFor, IsThatField, OpensFrom, OpensInto}
+use Rattle.fa_opening.specs.Opened.{StaysPlain}
 use Rattle.fa_opening.specs.inner.Clearing.{AreIn, AreNamed, IsCleared, IsOpenedPart}
 use Rattle.fa_opening.specs.inner.Rounds.{IsAtRoot, OfSome}
 use Rattle.fa_opening.proofs.BaredFields.{bared_fields}
@@ -80,6 +82,11 @@ module _ (t : Boxes) (table : IsBoxTable t) (insides : AreRankedInsides t.defs) 
   cleared_vars fs parts h = every_forest (HasVarsOf F) parts
       (every_weaker (IsCleared t r F fs) (λ s. HasVarsOf F s.forest) parts (λ s k. k.vars_kept) h)
 
+  pub cleared_plain : (fs : List ℕ) (parts : List SoundForest) → Every (IsCleared t r F fs) parts
+      → Every (StaysPlain F) (forests parts)
+  cleared_plain fs parts h = every_forest (StaysPlain F) parts
+      (every_weaker (IsCleared t r F fs) (λ s. StaysPlain F s.forest) parts (λ s k. k.plain_kept) h)
+
   pub cleared_from : (fs : List ℕ) (parts : List SoundForest) → Every (IsCleared t r F fs) parts
       → Every (OpensFrom bs T r IsAnyField F) (forests parts)
   cleared_from fs parts h = every_forest (OpensFrom bs T r IsAnyField F) parts
@@ -100,6 +107,7 @@ module _ (t : Boxes) (table : IsBoxTable t) (insides : AreRankedInsides t.defs) 
         signed = b.signed;
         face_kept = b.face_kept ∙ a.face_kept;
         vars_kept = (b.vars_kept.0 ∙ a.vars_kept.0, b.vars_kept.1 ∙ a.vars_kept.1);
+        plain_kept = λ plain. b.plain_kept (a.plain_kept plain);
         top = b.bared.top;
         bared = every_push (λ g. IsBared bs r g s.forest) fs f
             (every_weaker (λ g. IsBared bs r g S.forest) (λ g. IsBared bs r g s.forest) fs
@@ -157,14 +165,17 @@ module _ (t : Boxes) (table : IsBoxTable t) (insides : AreRankedInsides t.defs) 
 pub cleared_first : (t : Boxes) (r : ℕ) (s : SoundForest) → t.face ≡ s.face → (made : List SoundForest)
     → Every IsSigned made → Every (λ (z : SoundForest). z.face ≡ s.face) made
     → Every (HasVarsOf s.forest) (forests made)
+    → (Every HasNoBoxes s.forest.autos → Every (λ (G : Forest). Every HasNoBoxes G.autos) (forests made))
     → Every (λ (G : Forest). HasOneTop (component_at G.autos r)) (forests made)
     → Every (Regroups t.defs s.forest) (forests made) → Every (IsCleared t r s.forest []) made
-cleared_first t r s face made known faces vars tops regroups = in_every (IsCleared t r s.forest []) made
+cleared_first t r s face made known faces vars plains tops regroups = in_every (IsCleared t r s.forest []) made
     (λ z i. (let j = in_forests made z i in
     record {
       signed = every_in IsSigned made z known i;
       face_kept = every_in (λ (z : SoundForest). z.face ≡ s.face) made z faces i ∙ sym face;
       vars_kept = every_in (HasVarsOf s.forest) (forests made) z.forest vars j;
+      plain_kept = λ plain. every_in (λ (G : Forest). Every HasNoBoxes G.autos) (forests made) z.forest
+          (plains plain) j;
       top = every_in (λ (G : Forest). HasOneTop (component_at G.autos r)) (forests made) z.forest tops j;
       bared = tt;
       from = from_regrouped t.face.boxes r IsAnyField t.defs s.forest z.forest
@@ -175,14 +186,16 @@ cleared_first t r s face made known faces vars tops regroups = in_every (IsClear
 pub opened_parts : (t : Boxes) (r f : ℕ) (s : SoundForest) → t.face ≡ s.face → (made : List SoundForest)
     → Every IsSigned made → Every (IsBared s.face.boxes r f) (forests made)
     → Every (λ (z : SoundForest). z.face ≡ s.face) made → Every (HasVarsOf s.forest) (forests made)
+    → Every (StaysPlain s.forest) (forests made)
     → Every (OpensFrom s.face.boxes t.defs r (IsThatField f) s.forest) (forests made)
     → Every (IsOpenedPart t r f s) made
-opened_parts t r f s face made known bares faces vars each = in_every (IsOpenedPart t r f s) made
+opened_parts t r f s face made known bares faces vars stays each = in_every (IsOpenedPart t r f s) made
     (λ z i. (let j = in_forests made z i in
     record {
       signed = every_in IsSigned made z known i;
       face_kept = every_in (λ (z : SoundForest). z.face ≡ s.face) made z faces i;
       vars_kept = every_in (HasVarsOf s.forest) (forests made) z.forest vars j;
+      plain_kept = every_in (StaysPlain s.forest) (forests made) z.forest stays j;
       bared = subst (λ (x : Face). IsBared x.boxes r f z.forest) (sym face)
           (every_in (IsBared s.face.boxes r f) (forests made) z.forest bares j);
       from = subst (λ (x : Face). OpensFrom x.boxes t.defs r (IsThatField f) s.forest z.forest) (sym face)

@@ -6,6 +6,7 @@ pub mod LiftedGivers
 pub mod LowerEdges
 pub mod OneEdge
 pub mod OpenedForests
+pub mod PlainForests
 pub mod Rounds
 mod Rows
 pub mod ShownFields

@@ -12,6 +12,7 @@ use Rattle.fa_core.specs.declared.forest.Forest.{Forest}
 use Rattle.fa_core.specs.declared.forest.Target.{Target}
 use Rattle.fa_core.specs.declared.forest.Target.TheVariants.{At}
 use Rattle.fa_core.specs.Boxes.{Boxes, IsBoxTable}
+use Rattle.fa_core.specs.Boxless.{HasNoBoxes}
 use Rattle.fa_core.specs.Dressed.{cells}
 use Rattle.fa_core.specs.Member.{Regroups, RegroupsInto}
 use Rattle.fa_core.proofs.Rearranging.{same}
@@ -23,7 +24,7 @@ use Rattle.fa_split.specs.Divided.{HasVarsOf}
 use Rattle.fa_lift.specs.Lift.{IsLiftOf, IsProvider}
 use Rattle.fa_unfold.specs.UnfoldingOf.{root_slots}
 use Rattle.fa_unfold.proofs.CutLists.{forests_left, forests_right}
-use Rattle.fa_opening.specs.Opened.{IsBared, IsThatField, OpensFrom, OpensInto, slot_covers}
+use Rattle.fa_opening.specs.Opened.{IsBared, IsThatField, OpensFrom, OpensInto, StaysPlain, slot_covers}
 use Rattle.fa_opening.specs.inner.Rounds.{HasGiver, IsAtRoot, IsChoiceOf, IsCoverAt, IsLowered, IsReady}
 use Rattle.fa_opening.specs.inner.Rounds.{IsRound, IsStepped, OfSome}
 use Rattle.fa_opening.proofs.BaredRoots.{bared}
@@ -109,6 +110,7 @@ module _ (t : Boxes) (r f : ℕ) where
       stage = record {
         face_kept = sym ready.at.face;
         vars_kept = (refl, refl);
+        plain_kept = λ plain. plain;
         top = ready.top;
         from = from_self bs r (IsThatField f) T s.forest;
       };
@@ -147,9 +149,10 @@ module _ (t : Boxes) (r f : ℕ) where
         (lifted_giver s.face.boxes r f s.forest k signed.ranked h.there S.forest
         (every_in (IsLiftOf s.face.boxes s.forest r f k) (forests parts) S.forest lifts (in_forests parts S i))))
 
-    pub lifted_lowered : Every (Regroups T s.forest) (forests parts) → (made : List SoundForest)
+    pub lifted_lowered : (Every HasNoBoxes s.forest.autos → ⊥) → Every (Regroups T s.forest) (forests parts)
+        → (made : List SoundForest)
         → Every (OfSome (λ S. IsLowered t r f S.forest) parts) made → Every (IsLowered t r f s.forest) made
-    lifted_lowered regroups made h =
+    lifted_lowered boxed regroups made h =
         every_weaker (OfSome (λ S. IsLowered t r f S.forest) parts) (IsLowered t r f s.forest) made
         (λ z k. one z k.0 k.1 k.2) h
       where
@@ -161,6 +164,7 @@ module _ (t : Boxes) (r f : ℕ) where
               stage = record {
                 face_kept = k.stage.face_kept;
                 vars_kept = (k.stage.vars_kept.0 ∙ v.0, k.stage.vars_kept.1 ∙ v.1);
+                plain_kept = λ plain. absurd (boxed plain);
                 top = k.stage.top;
                 from = from_on bs r (IsThatField f) T s.forest S.forest z.forest v.0 target
                     (from_regrouped bs r (IsThatField f) T s.forest S.forest c) k.stage.from;
@@ -208,6 +212,7 @@ module _ (t : Boxes) (r f : ℕ) where
                   w.stage.vars_kept.0 ∙ o.stage.vars_kept.0,
                   w.stage.vars_kept.1 ∙ o.stage.vars_kept.1,
                 );
+                plain_kept = λ plain. w.stage.plain_kept (o.stage.plain_kept plain);
                 top = w.stage.top;
                 from = from_on bs r (IsThatField f) T F S.forest z.forest o.stage.vars_kept.0 target o.stage.from
                     w.stage.from;
@@ -234,9 +239,10 @@ module _ (t : Boxes) (r f : ℕ) where
   pub round_first : (s : SoundForest) → t.face ≡ s.face → IsSigned s → IsBoxTable t → AreRankedInsides t.defs
       → IsIn (At r) s.forest.vars → (made : List SoundForest) → Every (λ (z : SoundForest). z.face ≡ s.face) made
       → Every (HasVarsOf s.forest) (forests made)
+      → (Every HasNoBoxes s.forest.autos → Every (λ (G : Forest). Every HasNoBoxes G.autos) (forests made))
       → Every (λ (G : Forest). HasOneTop (component_at G.autos r)) (forests made)
       → Every (Regroups T s.forest) (forests made) → Every (IsRound t r f s.forest (length T)) made
-  round_first s face signed table insides target made faces vars tops regroups =
+  round_first s face signed table insides target made faces vars plains tops regroups =
       in_every (IsRound t r f s.forest (length T)) made (λ z i. one z i (in_forests made z i))
     where
       one : (z : SoundForest) → IsIn z made → IsIn z.forest (forests made) → IsRound t r f s.forest (length T) z
@@ -247,6 +253,8 @@ module _ (t : Boxes) (r f : ℕ) where
             stage = record {
               face_kept = every_in (λ (z : SoundForest). z.face ≡ s.face) made z faces i ∙ sym face;
               vars_kept = v;
+              plain_kept = λ plain. every_in (λ (G : Forest). Every HasNoBoxes G.autos) (forests made) z.forest
+                  (plains plain) j;
               top = every_in (λ (G : Forest). HasOneTop (component_at G.autos r)) (forests made) z.forest tops j;
               from = from_regrouped bs r (IsThatField f) T s.forest z.forest c;
             };
@@ -278,6 +286,10 @@ module _ (t : Boxes) (r f : ℕ) where
     pub last_vars : Every (HasVarsOf F) (forests made)
     last_vars = every_forest (HasVarsOf F) made
         (every_weaker (IsRound t r f F 0) (λ z. HasVarsOf F z.forest) made (λ z w. w.stage.vars_kept) h)
+
+    pub last_plain : Every (StaysPlain F) (forests made)
+    last_plain = every_forest (StaysPlain F) made
+        (every_weaker (IsRound t r f F 0) (λ z. StaysPlain F z.forest) made (λ z w. w.stage.plain_kept) h)
 
     pub last_from : Every (OpensFrom bs T r (IsThatField f) F) (forests made)
     last_from = every_forest (OpensFrom bs T r (IsThatField f) F) made

@@ -16,7 +16,7 @@ use Rattle.fa_split.specs.Divided.{HasVarsOf}
 use Rattle.fa_split.specs.Giving.{RulesGive}
 use Rattle.fa_split.proofs.LinksGive.{faces_give}
 use Rattle.fa_edit.specs.Plain.{IsPlainAt}
-use Rattle.fa_opening.specs.Opened.{IsBared, IsThatField, OpensFrom, OpensInto}
+use Rattle.fa_opening.specs.Opened.{IsBared, IsThatField, OpensFrom, OpensInto, StaysPlain}
 use Rattle.fa_opening.specs.inner.Rounds.{OfSome}
 use Rattle.fa_opening.specs.inner.Showing.{IsBaredPart, IsShownOf}
 use Rattle.fa_opening.proofs.OpenedForests.{from_on, from_regrouped, into_on, into_regrouped}
@@ -62,6 +62,15 @@ module _ (s : SoundForest) (r f : ℕ) (parts : List SoundForest) (vars : Every 
       one z S i k =
           let v = every_in (HasVarsOf s.forest) (forests parts) S.forest vars (in_forests parts S i) in
           (k.vars_kept.0 ∙ v.0, k.vars_kept.1 ∙ v.1)
+
+-- none has box edges where the first forest has none
+pub shown_stays : (F : Forest) (r f : ℕ) (parts : List SoundForest) → Every (StaysPlain F) (forests parts)
+    → (made : List SoundForest) → Every (OfSome (IsShownOf r f) parts) made → Every (StaysPlain F) (forests made)
+shown_stays F r f parts stays made h = every_forest (StaysPlain F) made
+    (every_weaker (OfSome (IsShownOf r f) parts) (λ z. StaysPlain F z.forest) made
+    (λ z k none.
+    k.2.plain_kept
+    (every_in (StaysPlain F) (forests parts) k.0.forest stays (in_forests parts k.0 k.1) none)) h)
 
 module _ (s : SoundForest) (T : List BoxDef) (r f : ℕ) (target : IsIn (At r) s.forest.vars) (parts : List SoundForest)
     (vars : Every (HasVarsOf s.forest) (forests parts)) where

@@ -11,6 +11,7 @@ use Rattle.ta_core.specs.Single.{HasOneTop}
 use Rattle.ta_core.specs.declared.auto.Rule.{Rule}
 use Rattle.ta_core.specs.declared.symbol.Symbol.{Symbol}
 use Rattle.ta_core.specs.declared.symbol.Symbol.TheVariants.{Null, Uninit, Dangling, Ref, Cell}
+use Rattle.fa_core.specs.Boxless.{HasNoBoxes}
 use Rattle.fa_core.specs.declared.boxes.BoxDef.{BoxDef}
 use Rattle.fa_core.specs.declared.forest.Forest.{Forest}
 use Rattle.fa_core.specs.declared.forest.Target.{Target}
@@ -143,13 +144,17 @@ module _ (S : SoundForest) (signed : IsSigned S) (r f p : ℕ) (part : IsBaredPa
           omega (arith, m, n, l)
 
   pub split_shown : (made : List SoundForest) → Every (λ (s : SoundForest). s.face ≡ S.face) made
-      → Every (HasVarsOf F) (forests made) → ((T : List BoxDef) → Every (IsSplitOf T F r p) (forests made))
+      → Every (HasVarsOf F) (forests made)
+      → (Every HasNoBoxes F.autos → Every (λ (G : Forest). Every HasNoBoxes G.autos) (forests made))
+      → ((T : List BoxDef) → Every (IsSplitOf T F r p) (forests made))
       → ((T : List BoxDef) → Every (Regroups T F) (forests made)) → Every (IsShownOf r f S) made
-  split_shown made faces vars dressed regroups = in_every (IsShownOf r f S) made
+  split_shown made faces vars plains dressed regroups = in_every (IsShownOf r f S) made
       (λ s i. (let j = in_forests made s i in
       record {
         face_kept = every_in (λ (s : SoundForest). s.face ≡ S.face) made s faces i;
         vars_kept = every_in (HasVarsOf F) (forests made) s.forest vars j;
+        plain_kept = λ none. every_in (λ (G : Forest). Every HasNoBoxes G.autos) (forests made) s.forest
+            (plains none) j;
         plain = split_plain [] s.forest (every_in (IsSplitOf [] F r p) (forests made) s.forest (dressed []) j);
         regroups = λ T. every_in (Regroups T F) (forests made) s.forest (regroups T) j;
       }))
@@ -162,6 +167,7 @@ stays_shown S signed r f b none = (
   record {
     face_kept = refl;
     vars_kept = (refl, refl);
+    plain_kept = λ none. none;
     plain = record {
       root = b.bared.root;
       top = b.bared.top;

@@ -22,6 +22,7 @@ use Rattle.fa_opening.specs.Opened.{IsThatField, OpensFrom, OpensInto}
 use Rattle.fa_opening.specs.inner.Rounds.{IsChoiceOf, IsLowered, IsNeeded, OfSome}
 use Rattle.fa_opening.proofs.LowerEdges.{below_regrouped, below_unfolded}
 use Rattle.fa_opening.proofs.OpenedForests.{from_on, from_regrouped, into_on, into_regrouped, unfolded_opened}
+use Rattle.fa_opening.proofs.PlainForests.{none_needed}
 use Rattle.fa_opening.proofs.SlotEdges.{needed_edge}
 
 -- a sound forest over the face of a table
@@ -99,6 +100,7 @@ module _ (t : Boxes) (s : SoundForest) (face : t.face ≡ s.face) (signed : IsSi
                 face_kept = k.face_kept
                     ∙ every_in (λ (z : SoundForest). z.face ≡ s.face) parts S faces i ∙ sym face;
                 vars_kept = (k.vars_kept.0 ∙ v.0, k.vars_kept.1 ∙ v.1);
+                plain_kept = λ plain. absurd (none_needed F plain bs r f u p need);
                 top = k.top;
                 from = from_on bs r (IsThatField f) t.defs F S.forest z.forest v.0 target (one_from S.forest from)
                     (from_regrouped bs r (IsThatField f) t.defs S.forest z.forest (k.regroups t.defs));

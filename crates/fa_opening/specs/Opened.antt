@@ -8,6 +8,7 @@ use Rattle.ta_core.specs.declared.symbol.Slot.TheVariants.{Field, Link, Hook}
 use Rattle.fa_core.specs.declared.boxes.BoxDef.{BoxDef}
 use Rattle.fa_core.specs.declared.faces.BoxFace.{BoxFace}
 use Rattle.fa_core.specs.declared.forest.Forest.{Forest}
+use Rattle.fa_core.specs.Boxless.{HasNoBoxes}
 use Rattle.fa_core.specs.Dressed.{Nodes, Seen, SeenField, SeenLink, SeenHook, facts, nth_value, roots_of, value_in}
 use Rattle.fa_core.specs.Filled.{covers, gives_in_of}
 use Rattle.fa_core.specs.Member.{OfForest}
@@ -69,6 +70,12 @@ OpensFrom bs T r P F G = (e : Nodes) → OfForest T G e → (d : Nodes) × OfFor
 abbrev pub OpensInto : List BoxFace → List BoxDef → ℕ → (ℕ → Type 0) → Forest → List Forest → Type 0
 OpensInto bs T r P F Gs = (d : Nodes) → OfForest T F d
     → (G : Forest) × IsIn G Gs × ((e : Nodes) × OfForest T G e × IsOpened bs r P F G d e)
+
+-- Forests without box edges.
+
+-- G has no box edge where F has none
+abbrev pub StaysPlain : Forest → Forest → Type 0
+StaysPlain F G = Every HasNoBoxes F.autos → Every HasNoBoxes G.autos
 
 -- Roots of forests.
 

@@ -8,7 +8,7 @@ ghost use Rattle.fa_sound.specs.Unions.{forests};
 ghost use Rattle.fa_split.specs.Divided.{HasVarsOf};
 ghost use Rattle.fa_unfold.specs.UnfoldingOf.{HaveMembersOf};
 ghost use Rattle.fa_opening.specs.Opened.{HasFieldsAlone, IsAnyField, IsBared, IsThatField, OpensFrom};
-ghost use Rattle.fa_opening.specs.Opened.{OpensInto};
+ghost use Rattle.fa_opening.specs.Opened.{OpensInto, StaysPlain};
 ghost use Rattle.fa_opening.specs.inner.Clearing.{AreIn, AreNamed, IsCleared, IsOpenedPart};
 ghost use Rattle.fa_opening.specs.inner.Rounds.{IsAtRoot, OfSome};
 
@@ -27,7 +27,8 @@ use std::alloc::Global;
 /// The forests in which each box edge that covers a field of the root's cell, or gives that cell one, is replaced by
 /// the inside of its box, as `open_edges` does it for one field: in the end each field of the cell's struct is a slot
 /// of the root's one rule. A variable is at the root. The root keeps its number, and so does each other; further roots
-/// come behind. Err is want of memory, also where numbers of states and roots do not fit 32 bits.
+/// come behind. Where the forest has no box edge, none of these has one. Err is want of memory, also where numbers of
+/// states and roots do not fit 32 bits.
 pub fn open_cell(alloc: Global, forest: &Sound, table: &BoxTable, root: u32) -> Mem<List<Sound>>
     requires face { table.now.face ≡ forest.now.face }
     requires target { IsIn (At root) forest.now.forest.vars }
@@ -36,6 +37,7 @@ pub fn open_cell(alloc: Global, forest: &Sound, table: &BoxTable, root: u32) -> 
     ensures fields { IfOk result (λ made. Every (λ G. HasFieldsAlone G root) (forests made)) }
     ensures face { IfOk result (λ made. Every (λ s. s.face ≡ forest.now.face) made) }
     ensures vars { IfOk result (λ made. Every (HasVarsOf forest.now.forest) (forests made)) }
+    ensures stays { IfOk result (λ made. Every (StaysPlain forest.now.forest) (forests made)) }
     ensures each { IfOk result (λ made.
         Every (OpensFrom forest.now.face.boxes table.now.defs root IsAnyField forest.now.forest) (forests made)) }
     ensures whole { IfOk result (λ made.

@@ -10,7 +10,7 @@ ghost use Rattle.fa_sound.specs.Unions.{forests};
 ghost use Rattle.fa_split.specs.Divided.{HasVarsOf};
 ghost use Rattle.fa_edit.specs.Plain.{IsPlainAt, place_at};
 ghost use Rattle.fa_unfold.specs.UnfoldingOf.{HaveMembersOf};
-ghost use Rattle.fa_opening.specs.Opened.{IsThatField, OpensFrom, OpensInto};
+ghost use Rattle.fa_opening.specs.Opened.{IsThatField, OpensFrom, OpensInto, StaysPlain};
 ghost use Rattle.fa_opening.specs.inner.Rounds.{OfSome};
 ghost use Rattle.fa_opening.specs.inner.Showing.{IsBaredPart, IsShownOf};
 
@@ -25,8 +25,8 @@ use fore_base::memory::Mem;
 use std::alloc::Global;
 
 /// The forests of `open_edges`, split at the field: one leaf stands there, or the struct has no such field. Where the
-/// child may be a cell, its cells are a new last root. Err is want of memory, also where numbers of states and roots do
-/// not fit 32 bits.
+/// child may be a cell, its cells are a new last root. Where the forest has no box edge, none of these has one. Err is
+/// want of memory, also where numbers of states and roots do not fit 32 bits.
 pub fn open_field(
     alloc: Global,
     forest: &Sound,
@@ -40,6 +40,7 @@ pub fn open_field(
         Every (λ G. IsPlainAt forest.now.face.shapes.structs G root field) (forests made)) }
     ensures face { IfOk result (λ made. Every (λ s. s.face ≡ forest.now.face) made) }
     ensures vars { IfOk result (λ made. Every (HasVarsOf forest.now.forest) (forests made)) }
+    ensures stays { IfOk result (λ made. Every (StaysPlain forest.now.forest) (forests made)) }
     ensures each { IfOk result (λ made.
         Every (OpensFrom forest.now.face.boxes table.now.defs root (IsThatField field) forest.now.forest)
         (forests made)) }

@@ -8,7 +8,7 @@ ghost use Rattle.fa_sound.specs.Unions.{forests};
 ghost use Rattle.fa_split.specs.Divided.{HasVarsOf};
 ghost use Rattle.fa_lift.specs.Lift.{IsProvider};
 ghost use Rattle.fa_unfold.specs.UnfoldingOf.{HaveMembersOf, root_slots};
-ghost use Rattle.fa_opening.specs.Opened.{IsBared, IsThatField, OpensFrom, OpensInto, slot_covers};
+ghost use Rattle.fa_opening.specs.Opened.{IsBared, IsThatField, OpensFrom, OpensInto, StaysPlain, slot_covers};
 ghost use Rattle.fa_opening.specs.inner.Rounds.{HasGiver, IsAtRoot, IsCoverAt, IsLowered, IsReady, IsStepped};
 ghost use Rattle.fa_opening.specs.inner.Rounds.{OfSome};
 
@@ -56,7 +56,8 @@ fn is_at(target: &Target, root: u32) -> bool
 /// The forests in which each box edge that covers the field at the root's cell, or gives it to that cell, is replaced
 /// by the inside of its box, and so on while the inside of one has another: in the end the field is a slot of the
 /// root's one rule, or none of its struct's. A variable is at the root. The root keeps its number, and so does each
-/// other; further roots come behind. Err is want of memory, also where numbers of states and roots do not fit 32 bits.
+/// other; further roots come behind. Where the forest has no box edge, whatever the table, none of these has one. Err
+/// is want of memory, also where numbers of states and roots do not fit 32 bits.
 pub fn open_edges(
     alloc: Global,
     forest: &Sound,
@@ -70,6 +71,7 @@ pub fn open_edges(
         (λ made. Every (IsBared forest.now.face.boxes root field) (forests made)) }
     ensures face { IfOk result (λ made. Every (λ s. s.face ≡ forest.now.face) made) }
     ensures vars { IfOk result (λ made. Every (HasVarsOf forest.now.forest) (forests made)) }
+    ensures stays { IfOk result (λ made. Every (StaysPlain forest.now.forest) (forests made)) }
     ensures each { IfOk result (λ made.
         Every (OpensFrom forest.now.face.boxes table.now.defs root (IsThatField field) forest.now.forest)
         (forests made)) }

@@ -8,7 +8,7 @@ use Rattle.fa_core.specs.Boxes.{Boxes}
 use Rattle.fa_sound.specs.Components.{component_at}
 use Rattle.fa_sound.specs.Soundness.{SoundForest, IsSigned}
 use Rattle.fa_split.specs.Divided.{HasVarsOf}
-use Rattle.fa_opening.specs.Opened.{IsAnyField, IsBared, IsThatField, OpensFrom}
+use Rattle.fa_opening.specs.Opened.{IsAnyField, IsBared, IsThatField, OpensFrom, StaysPlain}
 
 -- each of the numbers is in the list
 abbrev pub AreIn : List ℕ → List ℕ → Type 0
@@ -23,6 +23,7 @@ pub record IsOpenedPart (t : Boxes) (r f : ℕ) (S s : SoundForest) : Type 0 whe
   pub signed : IsSigned s
   pub face_kept : s.face ≡ S.face
   pub vars_kept : HasVarsOf S.forest s.forest
+  pub plain_kept : StaysPlain S.forest s.forest
   pub bared : IsBared t.face.boxes r f s.forest
   pub from : OpensFrom t.face.boxes t.defs r (IsThatField f) S.forest s.forest
 
@@ -31,6 +32,7 @@ pub record IsCleared (t : Boxes) (r : ℕ) (F : Forest) (fs : List ℕ) (s : Sou
   pub signed : IsSigned s
   pub face_kept : s.face ≡ t.face
   pub vars_kept : HasVarsOf F s.forest
+  pub plain_kept : StaysPlain F s.forest
   pub top : HasOneTop (component_at s.forest.autos r)
   pub bared : Every (λ f. IsBared t.face.boxes r f s.forest) fs
   pub from : OpensFrom t.face.boxes t.defs r IsAnyField F s.forest

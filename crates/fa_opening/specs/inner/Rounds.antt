@@ -21,7 +21,7 @@ use Rattle.fa_lift.specs.Lift.{MayRefer, slot_gives}
 use Rattle.fa_unfold.specs.Opens.{Item, item_boxes, items}
 use Rattle.fa_unfold.specs.Slots.{Place, rule_places}
 use Rattle.fa_unfold.specs.UnfoldingOf.{root_slots}
-use Rattle.fa_opening.specs.Opened.{IsBared, IsEdgeForRoot, IsThatField, OpensFrom, slot_covers}
+use Rattle.fa_opening.specs.Opened.{IsBared, IsEdgeForRoot, IsThatField, OpensFrom, StaysPlain, slot_covers}
 
 -- the slot is there and is a box edge that covers field f
 abbrev pub IsCoverAt : List BoxFace → ℕ → Option Slot → Type 0
@@ -86,6 +86,7 @@ pub record IsReady (t : Boxes) (r : ℕ) (s : SoundForest) : Type 0 where
 pub record IsStage (t : Boxes) (r f : ℕ) (F : Forest) (s : SoundForest) : Type 0 where
   pub face_kept : s.face ≡ t.face
   pub vars_kept : HasVarsOf F s.forest
+  pub plain_kept : StaysPlain F s.forest
   pub top : HasOneTop (component_at s.forest.autos r)
   pub from : OpensFrom t.face.boxes t.defs r (IsThatField f) F s.forest
 

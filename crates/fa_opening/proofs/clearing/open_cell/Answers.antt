@@ -6,7 +6,7 @@ use Rattle.fa_sound.specs.Unions.{forests}
 use Rattle.fa_opening.specs.Opened.{IsAnyField, IsBared, OpensFrom, OpensInto}
 use Rattle.fa_opening.specs.inner.Clearing.{AreNamed}
 use Rattle.fa_opening.proofs.ClearedCells.{cleared_bared, cleared_face, cleared_fields, cleared_first, cleared_from}
-use Rattle.fa_opening.proofs.ClearedCells.{cleared_vars}
+use Rattle.fa_opening.proofs.ClearedCells.{cleared_plain, cleared_vars}
 use Rattle.fa_opening.proofs.OpenedForests.{into_regrouped, members_opened}
 use Rattle.fa_opening.proofs.Steps.{root_there}
 use Rattle.fa_opening.proofs.clearing.open_cell.Goals as goal
@@ -20,7 +20,7 @@ open_fields-requires-clause-each c =
     let s = c.args.forest.now in
     let m = c.in_ok-chosen.ensures in
     cleared_first t c.args.root s c.requires.face c.in_ok-chosen.chosen
-    (rw c.as_slice-2.ensures at c.known_each.ensures) m.face m.vars m.tops (m.regroups t.defs)
+    (rw c.as_slice-2.ensures at c.known_each.ensures) m.face m.vars m.plain m.tops (m.regroups t.defs)
 
 pub open_fields-requires-clause-whole : goal.open_fields-requires-clause-whole
 open_fields-requires-clause-whole c =
@@ -62,6 +62,13 @@ returns-clause-vars c =
     let t = c.args.table.now in
     let s = c.args.forest.now in
     cleared_vars t c.known-2.ensures c.ranked_insides.ensures c.args.root s.forest c.requires.target
+    c.in_ok-fields.fields c.in_ok-made.made (rw c.as_slice-3.ensures at c.in_ok-made.ensures.each)
+
+pub returns-clause-stays : goal.returns-clause-stays
+returns-clause-stays c =
+    let t = c.args.table.now in
+    let s = c.args.forest.now in
+    cleared_plain t c.known-2.ensures c.ranked_insides.ensures c.args.root s.forest c.requires.target
     c.in_ok-fields.fields c.in_ok-made.made (rw c.as_slice-3.ensures at c.in_ok-made.ensures.each)
 
 pub returns-clause-each : goal.returns-clause-each

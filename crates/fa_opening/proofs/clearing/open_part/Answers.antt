@@ -15,7 +15,7 @@ pub returns-clause-each : goal.returns-clause-each
 returns-clause-each c =
     let m = c.in_ok-made.ensures in
     opened_parts c.args.table.now c.args.root c.args.field c.args.part.now c.requires.face c.in_ok-made.made
-    (rw c.as_slice.ensures at c.known_each.ensures) m.bared m.face m.vars m.each
+    (rw c.as_slice.ensures at c.known_each.ensures) m.bared m.face m.vars m.stays m.each
 
 pub returns-clause-whole : goal.returns-clause-whole
 returns-clause-whole c =

@@ -1,7 +1,8 @@
 use Rattle.fa_sound.specs.Unions.{forests}
 use Rattle.fa_opening.specs.Opened.{IsThatField}
 use Rattle.fa_opening.proofs.OpenedForests.{members_opened}
-use Rattle.fa_opening.proofs.ShownFields.{shown_face, shown_from, shown_parts, shown_plain, shown_vars, shown_whole}
+use Rattle.fa_opening.proofs.ShownFields.{shown_face, shown_from, shown_parts, shown_plain, shown_stays, shown_vars}
+use Rattle.fa_opening.proofs.ShownFields.{shown_whole}
 use Rattle.fa_opening.proofs.fields.open_field.Goals as goal
 
 pub split_each-requires : goal.split_each-requires
@@ -28,6 +29,11 @@ returns-clause-vars c =
     let m = c.in_ok-bared.ensures in
     shown_vars c.args.forest.now c.args.root c.args.field c.in_ok-bared.bared m.vars c.in_ok-made.made
     (rw c.as_slice.ensures at c.in_ok-made.ensures.each)
+
+pub returns-clause-stays : goal.returns-clause-stays
+returns-clause-stays c =
+    shown_stays c.args.forest.now.forest c.args.root c.args.field c.in_ok-bared.bared c.in_ok-bared.ensures.stays
+    c.in_ok-made.made (rw c.as_slice.ensures at c.in_ok-made.ensures.each)
 
 pub returns-clause-each : goal.returns-clause-each
 returns-clause-each c =

@@ -12,4 +12,4 @@ pub returns-clause-each : goal.returns-clause-each
 returns-clause-each c =
     let m = c.in_ok-made.ensures in
     split_shown c.args.part.now c.known.ensures c.args.root c.args._field c.args.place c.requires.bared
-    c.requires.place c.in_ok-made.made m.face m.vars m.dressed m.regroups
+    c.requires.place c.in_ok-made.made m.face m.vars m.plain m.dressed m.regroups

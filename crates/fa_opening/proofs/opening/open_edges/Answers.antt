@@ -5,8 +5,8 @@ use Rattle.fa_sound.specs.Unions.{forests}
 use Rattle.fa_opening.specs.Opened.{IsBared, IsThatField, OpensFrom, OpensInto}
 use Rattle.fa_opening.specs.inner.Rounds.{IsRound}
 use Rattle.fa_opening.proofs.OpenedForests.{into_regrouped, members_opened}
-use Rattle.fa_opening.proofs.Rounds.{last_bared, last_face, last_from, last_vars, round_first, round_next, round_ready}
-use Rattle.fa_opening.proofs.Rounds.{round_whole}
+use Rattle.fa_opening.proofs.Rounds.{last_bared, last_face, last_from, last_plain, last_vars, round_first}
+use Rattle.fa_opening.proofs.Rounds.{round_next, round_ready, round_whole}
 use Rattle.fa_opening.proofs.Steps.{root_there}
 use Rattle.fa_opening.proofs.opening.open_edges.Goals as goal
 
@@ -22,7 +22,8 @@ loop-round-init c =
           (let z : length t.defs ≡ k = omega (arith, e) in
           subst (λ (n : ℕ). Every (IsRound t c.args.root c.args.field s.forest n) c.in_ok-made.made) z
           (round_first t c.args.root c.args.field s c.requires.face c.known.ensures c.known-2.ensures
-          c.ranked_insides.ensures c.requires.target c.in_ok-made.made m.face m.vars m.tops (m.regroups t.defs)))),
+          c.ranked_insides.ensures c.requires.target c.in_ok-made.made m.face m.vars m.plain m.tops
+          (m.regroups t.defs)))),
       into_regrouped t.face.boxes c.args.root (IsThatField c.args.field) t.defs s.forest (forests c.in_ok-made.made)
           (m.whole t.defs),
     )
@@ -89,6 +90,15 @@ returns-clause-vars c =
     let z = none_left (length t.defs) c.loop-round._round c.len-round-end.result c.loop-round-test.false
     c.loop-round.auto._round-end c.len-round-end.ensures in
     last_vars t c.args.root c.args.field F c.known-2.ensures c.ranked_insides.ensures c.requires.target
+    c.loop-round.made (rw c.as_slice-2.ensures at c.known_each.ensures) (c.loop-round.invariant.0 0 z)
+
+pub returns-clause-stays : goal.returns-clause-stays
+returns-clause-stays c =
+    let t = c.args.table.now in
+    let F = c.args.forest.now.forest in
+    let z = none_left (length t.defs) c.loop-round._round c.len-round-end.result c.loop-round-test.false
+    c.loop-round.auto._round-end c.len-round-end.ensures in
+    last_plain t c.args.root c.args.field F c.known-2.ensures c.ranked_insides.ensures c.requires.target
     c.loop-round.made (rw c.as_slice-2.ensures at c.known_each.ensures) (c.loop-round.invariant.0 0 z)
 
 pub returns-clause-each : goal.returns-clause-each

@@ -1,6 +1,7 @@
 use Rattle.std.proofs.Common.{subst}
 use Rattle.fa_core.specs.declared.faces.Face.{Face}
 use Rattle.fa_opening.specs.Opened.{IsBared}
+use Rattle.fa_opening.proofs.PlainForests.{none_provides}
 use Rattle.fa_opening.proofs.Rounds.{lifted_lowered, lifted_whole, parts_give, parts_ready, stepped}
 use Rattle.fa_opening.proofs.opening.step_lifted.Goals as goal
 
@@ -30,7 +31,9 @@ returns-clause-each c =
     c.requires.given.1)
     c.in_ok-made.made
     (lifted_lowered c.args.table.now c.args.root c.args.field s at.face c.known.ensures at.target
-    c.in_ok-lifted.lifted m.face m.vars (m.regroups c.args.table.now.defs) c.in_ok-made.made
+    c.in_ok-lifted.lifted m.face m.vars
+    (λ plain. none_provides s.forest plain s.face.boxes c.args.root c.args.field c.requires.given.0 c.requires.given.1)
+    (m.regroups c.args.table.now.defs) c.in_ok-made.made
     (rw c.as_slice.ensures at c.in_ok-made.ensures.each))
 
 pub returns-clause-whole : goal.returns-clause-whole
