@@ -39,7 +39,7 @@ use Rattle.c_types.specs.declared.program.Dest.{Dest}
 use Rattle.c_types.specs.declared.program.Dest.TheVariants.{Ptr as PtrDest, Data as DataDest}
 use Rattle.c_types.specs.Control.{Items, Done, Do, Close, If, Loop, Again, DoLoop, DoAgain, Enter, Leave, Exit, Ask, Not}
 use Rattle.c_types.specs.Control.{Both, Either, closed_ptrs, closed_datums, after_again, from_again, from_exit, ◌then◌}
-use Rattle.c_types.specs.Control.{ptr_vars, datum_vars, with_result}
+use Rattle.c_types.specs.Control.{with_result}
 use Rattle.c_types.specs.Steps.{Goes, Stops, Faults, read, read_data, read_op, read_data_op, read_data_rhs, look_at}
 use Rattle.c_types.specs.Steps.{same_values, same_datums, atom_of, write_path, write_data, makes_cell, assign_new}
 use Rattle.c_types.specs.Steps.{assign, assign_data, free_path, settle, settled, finished, all_dead, below, act_turn}

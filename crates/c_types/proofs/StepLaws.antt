@@ -24,7 +24,7 @@ use Rattle.c_types.specs.declared.program.Arg.TheVariants.{Ptr as PtrArg, Data a
 use Rattle.c_types.specs.declared.program.PtrOp.TheVariants.{Path as OpPath, Null as OpNull}
 use Rattle.c_types.specs.declared.program.Dest.{Dest}
 use Rattle.c_types.specs.declared.program.Dest.TheVariants.{Ptr as PtrDest, Data as DataDest}
-use Rattle.c_types.specs.Program.{Program, is_target, both_targets, path_target, var_target, rhs_typed, arg_typed}
+use Rattle.c_types.specs.Program.{Program, is_target, both_targets, path_target, rhs_typed, arg_typed}
 use Rattle.c_types.specs.Program.{args_typed, value_typed, dest_typed, to_typed, is_typed}
 use Rattle.c_types.specs.Control.{Items, Done, Do, Close, If, Loop, Again, DoLoop, DoAgain, Enter, Leave, Exit, Ask, Not}
 use Rattle.c_types.specs.Control.{Both, Either, ◌then◌, opened, after_again, from_again, from_exit, closed_ptrs}
