@@ -4,7 +4,8 @@ use Rattle.std.specs.List.{list_all}
 use Rattle.c_calls.specs.Calls.{none_recurs}
 use Rattle.c_types.specs.declared.program.Func.{Func}
 use Rattle.c_types.specs.declared.program.VarRef.{VarRef}
-use Rattle.c_types.specs.Bodies.{none_among, body_names, body_declares, func_vars, all_different, keeps_to_main, calls_of}
+use Rattle.c_types.specs.Bodies.{none_among, body_names, body_declares, func_vars, all_different, keeps_to_main}
+use Rattle.c_types.specs.Bodies.{calls_of}
 use Rattle.c_types.specs.Program.{Program, var_typed, bodies_typed, funcs_typed}
 use Rattle.c_types.specs.declared.program.Stmt.{Stmt-F}
 use Rattle.c_types.specs.Control.{Items, Done, all_before, items_step, body_within, items_of, start_of}

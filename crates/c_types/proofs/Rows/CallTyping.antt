@@ -10,8 +10,8 @@ use Rattle.c_types.specs.declared.program.Stmt.{Stmt}
 use Rattle.c_types.specs.declared.program.Stmt.TheVariants.{Group, Call, While}
 use Rattle.c_types.specs.Program.{Program, is_typed}
 use Rattle.c_types.proofs.Layers.{typed_layers}
-use Rattle.c_types.proofs.Rows.Forms.{var, arrow, copy, put, leave, break, literal, has, func, back, back_none, give_ptr}
-use Rattle.c_types.proofs.Rows.Forms.{give_null, give_datum, give_known}
+use Rattle.c_types.proofs.Rows.Forms.{var, arrow, copy, put, leave, break, literal, has, func, back, back_none}
+use Rattle.c_types.proofs.Rows.Forms.{give_ptr, give_null, give_datum, give_known}
 use Rattle.c_types.proofs.Rows.Typing.{both, variable}
 
 -- struct node *f(struct node *p) { struct item *l; .. }  int g(int a) { .. }  void h(void) { .. }
@@ -143,8 +143,8 @@ calls_another : f_accepts (calls 1 (give_known 1 ∷ [])) ≡ true
 unfolding is_typed
 calls_another = simp typed_layers refl
 
-calls_a_later_and_an_earlier : is_typed (program (f (calls 2 [] ∷ []) ∷ g [] ∷ h (calls 1 (give_known 1 ∷ []) ∷ []) ∷ []) [])
-    ≡ true
+calls_a_later_and_an_earlier :
+    is_typed (program (f (calls 2 [] ∷ []) ∷ g [] ∷ h (calls 1 (give_known 1 ∷ []) ∷ []) ∷ []) []) ≡ true
 unfolding is_typed
 calls_a_later_and_an_earlier = simp typed_layers refl
 

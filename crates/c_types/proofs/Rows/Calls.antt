@@ -19,9 +19,9 @@ use Rattle.c_types.specs.Control.{Done, Enter, Leave, Exit}
 use Rattle.c_types.specs.Runs.{run}
 use Rattle.c_types.specs.Losses.{loses}
 use Rattle.c_types.proofs.Layers.{layers}
-use Rattle.c_types.proofs.Rows.Forms.{always, failing, nodes, items, var, arrow, arrows, key, choice, literal, has, compare_data}
-use Rattle.c_types.proofs.Rows.Forms.{null, new, copy, copy_data, free, put, halt, leave, break, with_funcs, func}
-use Rattle.c_types.proofs.Rows.Forms.{give_ptr, give_null, give_datum, give_known, back, back_none}
+use Rattle.c_types.proofs.Rows.Forms.{always, failing, nodes, items, var, arrow, arrows, key, choice, literal, has}
+use Rattle.c_types.proofs.Rows.Forms.{compare_data, null, new, copy, copy_data, free, put, halt, leave, break}
+use Rattle.c_types.proofs.Rows.Forms.{with_funcs, func, give_ptr, give_null, give_datum, give_known, back, back_none}
 
 -- Variables are numbered in order of declaration: the result at its function's name, then parameters, then locals.
 
@@ -227,8 +227,9 @@ local_dies :
     (with_funcs [] 0 4
     (func (DatumVar 1 ∷ []) (DatumVar 2 ∷ []) (Some (DatumVar 0))
     (Branch (has 1 1 2) (put (DataVar 2) 1 3 ∷ []) [] ∷ back 0 (give_datum (DataVar 2)) 4 ∷ []) [] (2 ∷ []) 4 ∷ [])
-    (Call 0 (give_known 1 ∷ []) (Some (DataDest (DataVar 3))) 5 ∷ Call 0 (give_known 0 ∷ []) (Some (DataDest (DataVar 3))) 6
-    ∷ Branch (has 3 1 7) [] [] ∷ []) [] (3 ∷ []) 8) [] 20 ≡ Fault IndetTest 7 10
+    (Call 0 (give_known 1 ∷ []) (Some (DataDest (DataVar 3))) 5
+    ∷ Call 0 (give_known 0 ∷ []) (Some (DataDest (DataVar 3))) 6 ∷ Branch (has 3 1 7) [] [] ∷ []) [] (3 ∷ []) 8) [] 20
+    ≡ Fault IndetTest 7 10
 unfolding leaks run
 local_dies = simp layers refl
 
@@ -259,7 +260,8 @@ break_after_a_longer_call : always breaking (1 ∷ 0 ∷ []) 20 ≡ Ended 7
 unfolding leaks run
 break_after_a_longer_call = simp layers refl
 
--- a `return` within loops and blocks removes all of them: 2 void f(void) { while (1) { int y;  3 y = 1;  4 return; } } 5
+-- a `return` within loops and blocks removes all of them:
+-- 2 void f(void) { while (1) { int y;  3 y = 1;  4 return; } } 5
 -- 6 while (1) { 7 f();  8 break; }  9 return 0;
 return_from_a_loop :
     always
@@ -280,8 +282,8 @@ id_of_id :
     (with_funcs nodes 5 0
     (func (PtrVar 1 ∷ []) [] (Some (PtrVar 0)) (back 0 (give_ptr (var 1)) 2 ∷ []) [] [] 2
     ∷ func (PtrVar 3 ∷ []) [] (Some (PtrVar 2))
-    (Call 0 (give_ptr (var 3) ∷ []) (Some (PtrDest (var 3))) 4 ∷ Call 0 (give_ptr (var 3) ∷ []) (Some (PtrDest (var 3))) 5
-    ∷ back 1 (give_ptr (var 3)) 6 ∷ []) [] [] 6 ∷ [])
+    (Call 0 (give_ptr (var 3) ∷ []) (Some (PtrDest (var 3))) 4
+    ∷ Call 0 (give_ptr (var 3) ∷ []) (Some (PtrDest (var 3))) 5 ∷ back 1 (give_ptr (var 3)) 6 ∷ []) [] [] 6 ∷ [])
     (new (var 4) 7 ∷ null (arrow 4 0) 8 ∷ Call 1 (give_ptr (arrow 4 0) ∷ []) (Some (PtrDest (arrow 4 0))) 9
     ∷ free (var 4) 10 ∷ leave 11 ∷ []) (4 ∷ []) [] 12) [] 30 ≡ Ended 13
 unfolding leaks run
