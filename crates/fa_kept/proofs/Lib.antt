@@ -1,5 +1,6 @@
 mod Entries
-mod Growing
+pub mod Growing
+mod Passing
 mod Reading
 mod Remembered
 mod Rows

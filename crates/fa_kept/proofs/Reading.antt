@@ -1,13 +1,15 @@
 -- Covering over numbers, and covering of the forests as which kept forests read.
 use Rattle.std.proofs.Common.{◌≡◌, ◌↔◌, ℕ, zero, suc, ◌<◌, Bool, IsTrue, List, [], ◌∷◌, length, get_or, take}
-use Rattle.std.proofs.Common.{refl, sym, ◌∙◌, subst, arith}
+use Rattle.std.proofs.Common.{Option, Some, None, MatchOption, refl, sym, ◌∙◌, subst, arith}
+use Rattle.std.proofs.lemmas.Option.{slice_get_within, get_or_from_slice_get}
 use Rattle.fore_base.specs.Lists.{Every, Paired}
 use Rattle.ta_core.specs.Auto.{Automaton}
 use Rattle.ta_core.specs.Language.{IsWithin}
 use Rattle.fa_core.specs.Covering.{Covers}
 use Rattle.fa_core.specs.declared.forest.Forest.{Forest}
 use Rattle.fa_sound.specs.Soundness.{SoundForest}
-use Rattle.fa_cover.specs.Firsts.{NoneCovers, IsFirstCover}
+use Rattle.par_kit.specs.Phases.{IsFirst}
+use Rattle.fa_cover.specs.Firsts.{NoneCovers, IsFirstCover, FirstCover}
 use Rattle.fa_pool.specs.Pools.{IsNumber, ReadsAs}
 use Rattle.fa_pool.specs.declared.kept.Kept.{Kept}
 use Rattle.fa_kept.specs.Memos.{IsWithinAt}
@@ -60,6 +62,17 @@ module _ (pool : List Automaton) where
   decides_covering wide narrow F G f g holds d =
       let b = by_numbers wide narrow F G f g in ((λ e. b.0 (d.0 e)), (λ k. d.1 (b.1 k)))
 
+  -- forests that look alike, where it is known whether their parts are within each other
+  pub looks_known : (wide narrow : Kept) (r : Option Bool)
+      → (narrow.vars ≡ wide.vars) × (narrow.data_vars ≡ wide.data_vars) × (length narrow.parts ≡ length wide.parts)
+      → MatchOption r (Unit {0}) (λ holds. IsTrue holds ↔ Paired (IsWithinAt pool) narrow.parts wide.parts)
+      → MatchOption r (Unit {0}) (λ holds. IsTrue holds ↔ CoversByNumbers pool wide narrow)
+  looks_known wide narrow None look d = tt
+  looks_known wide narrow (Some holds) look d = (
+    (λ e. record { vars = look.0; data_vars = look.1; within = d.0 e }),
+    (λ c. d.1 c.within),
+  )
+
   -- the kept forest reads as that of the node
   abbrev pub IsKeptNode : Kept → SoundForest → Type 0
   IsKeptNode kept node = ReadsAs pool kept node.forest
@@ -91,3 +104,11 @@ module _ (pool : List Automaton) where
     first_read (n ∷ nodes) (s ∷ all) (suc i) node p low at none c =
         let r = first_read nodes all i node p.1 (omega (arith, low)) at none.1 c in
         (r.0, r.1, r.2, (λ d. none.0 ((by_numbers n kept s.forest F p.0 reads).1 d), r.3))
+
+    -- what is the first by numbers is the first of the forests
+    pub first_as_read : (nodes : List Kept) (all : List SoundForest) (found : Option ℕ) → Paired IsKeptNode nodes all
+        → IsFirst (λ node. CoversByNumbers pool node kept) nodes found → FirstCover all F found
+    first_as_read nodes all None p none = none_read nodes all p none
+    first_as_read nodes all (Some i) p least =
+        first_read nodes all i least.0 p (slice_get_within nodes i least.0 least.1)
+        (sym (get_or_from_slice_get nodes i least.0 least.0 least.1)) least.3 least.2

@@ -8,6 +8,7 @@ use Rattle.ta_core.specs.declared.auto.Rule.{Rule}
 use Rattle.ta_core.specs.declared.symbol.Symbol.TheVariants.{Null}
 use Rattle.ta_core.proofs.Runs.{tree_of, run_tree}
 use Rattle.fa_kept.specs.Memos.{Answer, answer, Lacks, IsWithinAt, IsRight, Agrees}
+use Rattle.fa_kept.specs.inner.Asking.{AreRight, IsPassedTo, found_is, passed_one}
 
 -- the rule of a leaf that is null, an automaton whose one tree this leaf is, and one that has no tree
 abbrev leaf : Rule
@@ -104,3 +105,46 @@ not_with_one_wrong h = wrong_no h.1.0
 
 not_with_a_shorter_pool : Agrees (answer 1 0 true ∷ []) (one ∷ []) → ⊥
 not_with_a_shorter_pool h = let low = h.0.narrow in omega (arith, low)
+
+-- What is found for two numbers
+
+found_3_in_5 : found_is 3 5 true ≡ record { narrow = 3; wide = 5; within = true }
+found_3_in_5 = refl
+
+both_right : AreRight pool (found_is 1 0 true ∷ found_is 0 1 false ∷ [])
+both_right = (right_yes, (right_no, tt))
+
+one_wrong : AreRight pool (found_is 1 0 true ∷ found_is 0 1 true ∷ []) → ⊥
+one_wrong h = wrong_yes h.1.0
+
+-- How far the first 5 of a list was looked for
+
+abbrev is_five : ℕ → Type 0
+is_five n = n ≡ 5
+
+met_behind_two : IsPassedTo is_five (3 ∷ 4 ∷ 5 ∷ []) 2 true
+met_behind_two = (5, refl, refl, ((λ e. omega (arith, e)), ((λ e. omega (arith, e)), tt)))
+
+not_the_second_of_two : IsPassedTo is_five (5 ∷ 5 ∷ []) 1 true → ⊥
+not_the_second_of_two least = least.3.0 refl
+
+not_met : IsPassedTo is_five (4 ∷ []) 0 true → ⊥
+not_met least = let same = same_Some 4 least.0 least.1 in let is = least.2 in omega (arith, same, is)
+
+two_passed : IsPassedTo is_five (3 ∷ 4 ∷ 5 ∷ []) 2 false
+two_passed = (omega arith, omega arith, ((λ e. omega (arith, e)), ((λ e. omega (arith, e)), tt)))
+
+none_passed : IsPassedTo is_five (3 ∷ []) 0 false → ⊥
+none_passed p = let some = p.0 in omega (arith, some)
+
+past_the_end : IsPassedTo is_five (3 ∷ []) 2 false → ⊥
+past_the_end p = let few = p.1 in omega (arith, few)
+
+five_passed : IsPassedTo is_five (5 ∷ []) 1 false → ⊥
+five_passed p = p.2.0 refl
+
+one_met : passed_one true ≡ record { count = 0; met = true }
+one_met = refl
+
+one_gone : passed_one false ≡ record { count = 1; met = false }
+one_gone = refl

@@ -10,8 +10,9 @@ ghost use Rattle.fa_cover.specs.Firsts.{FirstCover};
 ghost use Rattle.fa_pool.specs.Pools.{ReadsAs, IsKeptIn};
 ghost use Rattle.fa_kept.specs.Memos.{Agrees};
 
+use crate::asking::ask;
 use crate::memo::Memo;
-use crate::within::is_covered;
+use crate::portions::{first_among, remember};
 use fa_pool::{Kept, Pool};
 use fore_base::memory::Mem;
 use par_kit::crew::Crew;
@@ -39,26 +40,28 @@ pub fn covers_kept(
     ensures exact { IfOk result (λ yes. (F G : Forest) → ReadsAs pool.now wide.now F → ReadsAs pool.now narrow.now G
         → (IsTrue yes ↔ Covers F G)) }
 {
-    is_covered(alloc, pool, memo, wide, narrow)
+    let asked = ask(alloc, pool, memo, wide, narrow)?;
+    remember(memo, asked.found.as_slice())?;
+    Ok(asked.covers)
 }
 
 /// The least index whose forest covers the given one, None exactly where none does: what `first_cover` answers on the
 /// forests as which the kept ones read. The memo agrees with the pool, and still does afterwards. The crew runs 1 to 64
-/// jobs and has no bearing on the answer.
+/// jobs, which ask neighbours at once where the memo does not know, and has no bearing on the answer.
 ///
 /// # Errors
 ///
 /// Want of memory; the memo may then have further answers.
 pub fn first_kept<R: Threads + Sync, G: Gate>(
-    _rt: &R,
+    rt: &R,
     alloc: Global,
     pool: &Pool,
     memo: &mut Memo,
     nodes: &[Kept],
     forest: &Kept,
-    _crew: &Crew<'_, G>,
+    crew: &Crew<'_, G>,
 ) -> Mem<Option<usize>>
-    requires jobs { IsJobs _crew.now.jobs }
+    requires jobs { IsJobs crew.now.jobs }
     requires agrees { Agrees memo.old pool.now }
     requires nodes { Every (IsKeptIn pool.now) nodes.now }
     requires forest { IsKeptIn pool.now forest.now }
@@ -67,12 +70,5 @@ pub fn first_kept<R: Threads + Sync, G: Gate>(
         → Paired (λ kept node. ReadsAs pool.now kept node.forest) nodes.now all → ReadsAs pool.now forest.now F
         → FirstCover all F found) }
 {
-    // One at a time. Several jobs may take a portion of neighbours each, with the answers that they found merged into
-    // the memo here, up to the first portion with a cover: portions of one ask what this loop asks.
-    for (place, node) in nodes.iter().enumerate() {
-        if is_covered(alloc, pool, memo, node, forest)? {
-            return Ok(Some(place));
-        }
-    }
-    Ok(None)
+    first_among(rt, alloc, pool, memo, nodes, forest, crew)
 }

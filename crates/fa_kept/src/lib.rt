@@ -7,10 +7,12 @@
 //! nothing that the memo knows; `first_kept` is the least index of a list whose kept forest covers another.
 #![tactic(auto)]
 
+mod asking;
 pub mod covering;
 pub mod crossing;
 pub mod laws;
 pub mod memo;
+mod portions;
 mod within;
 
 pub use covering::{covers_kept, first_kept};

@@ -1,169 +1,150 @@
 -- Each pair is covered by one that no later one covers; so the rules need be taken over these alone.
-use Rattle.std.proofs.Common.{◌≡◌, inl, inr, ℕ, zero, suc, ◌+◌, ◌<◌, Bool, true, false, true≢false, nat_lt, List, []}
-use Rattle.std.proofs.Common.{◌∷◌, ◌++◌, length, get_or, take, slice_get, Some, refl, sym, ap, subst, ◌∙◌, ◌^◌}
-use Rattle.std.proofs.Common.{MatchBool, arith}
-use Rattle.std.proofs.lemmas.Bool.{ltb-true, ltb-false, and_from, and_parts}
-use Rattle.std.proofs.lemmas.List.{append-nil, length-append, nil_from_length}
-use Rattle.std.proofs.lemmas.Option.{none-some, same_Some}
-use Rattle.fore_base.specs.Lists.{IsIn, Every, Paired}
+use Rattle.std.proofs.Common.{◌≡◌, ◌⊎◌, inl, inr, ℕ, zero, suc, ◌<◌, ◌+◌, Bool, true, false, List, [], ◌∷◌, ◌++◌, length}
+use Rattle.std.proofs.Common.{drop, get_or, slice_get, Some, MatchBool, IsTrue, refl, sym, ap, subst, arith}
+use Rattle.std.proofs.lemmas.List.{append_assoc}
+use Rattle.fore_base.specs.Lists.{IsIn, Every}
+use Rattle.fore_base.specs.Marks.{IsMarked}
+use Rattle.fore_base.proofs.ListLemmas.{every_in}
+use Rattle.fore_base.proofs.MarkLemmas.{marked_below}
 use Rattle.ta_core.specs.Auto.{Automaton}
-use Rattle.fore_base.specs.Marks.{IsMarked, marked_each}
-use Rattle.ta_core.specs.declared.auto.Rule.{Rule}
-use Rattle.fore_base.proofs.ListLemmas.{every_in, in_every}
-use Rattle.ta_incl.specs.declared.exploring.Recent.{Recent}
 use Rattle.ta_incl.specs.declared.found.Found.{Found}
-use Rattle.ta_incl.specs.inner.Founds.{AreAt, HaveStates, sets_of, IsPart, AreLasting, AreFresh, IsDerived, Widens}
-use Rattle.ta_incl.specs.inner.Founds.{Grows, all_below, are_old, IsCovered, CoversFrom, CoversRule, CoversRules}
-use Rattle.ta_incl.proofs.Covering.{covered_more}
+use Rattle.ta_incl.specs.declared.order.Order.{Order}
+use Rattle.ta_incl.specs.declared.order.Orders.{Orders}
+use Rattle.ta_incl.specs.inner.Founds.{AreAt, IsCover, HasCover, AreLasting, IsAbove, AreAbove, IsProper}
+use Rattle.ta_incl.specs.inner.Orders.{AreUpward}
+use Rattle.ta_incl.proofs.Covering.{cover_left, cover_right, cover_joined}
 
--- at this place stands a pair with a mark that covers f
-pub record LastsFor (found : List Found) (marks : List Bool) (f : Found) : Type 0 where
-  pub place : ℕ
-  pub pair : Found
-  pub at : slice_get found place ≡ Some pair
-  pub marked : IsMarked marks place
-  pub state : pair.state ≡ f.state
-  pub part : IsPart pair.marks f.marks
+-- there is a mark for each pair
+pub lasting_long : (order : Order) (found : List Found) (marks : List Bool) → AreLasting order found marks
+    → length marks ≡ length found
+lasting_long order [] [] h = refl
+lasting_long order [] (m ∷ marks) h = absurd h
+lasting_long order (f ∷ found) [] h = absurd h
+lasting_long order (f ∷ found) (m ∷ marks) h = ap suc (lasting_long order found marks h.1)
 
-further : (x : Found) (found : List Found) (m : Bool) (marks : List Bool) (f : Found) → LastsFor found marks f
-    → LastsFor (x ∷ found) (m ∷ marks) f
-further x found m marks f h =
-    record { place = suc h.place; pair = h.pair; at = h.at; marked = h.marked; state = h.state; part = h.part }
+-- the mark of the first pair that is left, and those of the others
+lasting_behind : (order : Order) (f : Found) (fs : List Found) (i : ℕ) (live : List Bool)
+    → AreLasting order (f ∷ fs) (drop i live)
+    → MatchBool (get_or live i false) (HasCover order fs f → ⊥) (HasCover order fs f)
+    × AreLasting order fs (drop (suc i) live)
+lasting_behind order f fs zero [] h = absurd h
+lasting_behind order f fs zero (m ∷ live) h = h
+lasting_behind order f fs (suc i) [] h = absurd h
+lasting_behind order f fs (suc i) (m ∷ live) h = lasting_behind order f fs i live h
 
--- each pair is covered by one that lasts
-pub lasts_for : (found : List Found) (marks : List Bool) (f : Found) → AreLasting found marks → IsIn f found
-    → LastsFor found marks f
-lasts_for [] marks f h i = absurd i
-lasts_for (x ∷ found) [] f h i = absurd h
-lasts_for (x ∷ found) (m ∷ marks) f h (inr i) = further x found m marks f (lasts_for found marks f h.1 i)
-lasts_for (x ∷ found) (true ∷ marks) f h (inl e) =
-    record {
-      place = zero;
-      pair = x;
-      at = refl;
-      marked = refl;
-      state = ap (λ (g : Found). g.state) (sym e);
-      part = subst (λ (g : Found). IsPart x.marks g.marks) (sym e) (λ q m. m);
-    }
-lasts_for (x ∷ found) (false ∷ marks) f h (inl e) =
-    let c = h.0 in
-    let l = lasts_for found marks c.0 h.1 c.1 in
-    further x found false marks f (record {
-      place = l.place;
-      pair = l.pair;
-      at = l.at;
-      marked = l.marked;
-      state = l.state ∙ c.2.0 ∙ ap (λ (g : Found). g.state) (sym e);
-      part = λ q m. subst (λ (g : Found). IsMarked g.marks q) (sym e) (c.2.1 q (l.part q m));
-    })
-
--- the sets of the first pairs are within those of the second ones, place by place
-abbrev pub ArePart : List Found → List Found → Type 0
-ArePart = Paired (λ x y. IsPart x.marks y.marks)
-
--- so for each of several pairs with the states
-pub last_each : (found : List Found) (marks : List Bool) (qs : List ℕ) (items : List Found) → AreLasting found marks
-    → Every (λ f. IsIn f found) items → HaveStates qs items → (places : List ℕ) × (others : List Found)
-    × AreAt found places others × Every (IsMarked marks) places × HaveStates qs others × ArePart others items
-last_each found marks [] [] h i s = ([], [], tt, tt, tt, tt)
-last_each found marks [] (f ∷ items) h i s = absurd s
-last_each found marks (q ∷ qs) [] h i s = absurd s
-last_each found marks (q ∷ qs) (f ∷ items) h i s =
-    let l = lasts_for found marks f h i.0 in
-    let w = last_each found marks qs items h i.1 s.1 in
-    (l.place ∷ w.0, l.pair ∷ w.1, (l.at, w.2), (l.marked, w.3), (l.state ∙ s.0, w.4), (l.part, w.5))
-
--- more marks
-marked_more : (qs : List ℕ) (others items : List Found) → ArePart others items → marked_each qs (sets_of others) ≡ true
-    → marked_each qs (sets_of items) ≡ true
-marked_more [] [] [] p h = refl
-marked_more [] [] (f ∷ items) p h = absurd p
-marked_more [] (g ∷ others) items p h = absurd (true≢false (sym h))
-marked_more (q ∷ qs) [] items p h = absurd (true≢false (sym h))
-marked_more (q ∷ qs) (g ∷ others) [] p h = absurd p
-marked_more (q ∷ qs) (g ∷ others) (f ∷ items) p h =
-    and_from (get_or f.marks q false) (marked_each qs (sets_of items))
-    (p.0 q (and_parts (get_or g.marks q false) (marked_each qs (sets_of others)) h).0)
-    (marked_more qs others items p.1 (and_parts (get_or g.marks q false) (marked_each qs (sets_of others)) h).1)
-
--- what covers the rule over pairs with lesser sets covers it over these
-pub covered_lesser : (b : Automaton) (found : List Found) (r : Rule) (others items : List Found) → ArePart others items
-    → IsCovered b found r others → IsCovered b found r items
-covered_lesser b found r others items p h =
-    (h.0, h.1, h.2, λ q m. let t = h.3 q m in (t.0, t.1, t.2, (t.3.0, marked_more t.0.children others items p t.3.1)))
-
--- an item at a place below n is one of the first n
-taken : {X : Type 0} (n : ℕ) (xs : List X) (i : ℕ) (x : X) → i < n → slice_get xs i ≡ Some x → IsIn x (take n xs)
-taken n [] i x l e = absurd (none-some x e)
-taken zero (y ∷ xs) i x l e = absurd (omega (arith, l))
-taken (suc n) (y ∷ xs) zero x l e = inl (sym (same_Some y x e))
-taken (suc n) (y ∷ xs) (suc i) x l e = inr (taken n xs i x (omega (arith, l)) e)
-
--- pairs at places below n are of the first n
-below_taken : (n : ℕ) (found : List Found) (places : List ℕ) (items : List Found) → all_below n places ≡ true
-    → AreAt found places items → Every (λ f. IsIn f (take n found)) items
-below_taken n found [] [] e a = tt
-below_taken n found [] (f ∷ items) e a = absurd a
-below_taken n found (i ∷ places) [] e a = absurd a
-below_taken n found (i ∷ places) (f ∷ items) e a = (
-  taken n found i f (ltb-true i n (and_parts (nat_lt i n) (all_below n places) e).0) a.0,
-  below_taken n found places items (and_parts (nat_lt i n) (all_below n places) e).1 a.1,
-)
-
-module _ (b : Automaton) (old added : List Found) (recent : Recent) (last : AreLasting old recent.marks) where
-  -- what a rule gives over pairs of earlier rounds alone was covered before, and the last round took it over each other
-  -- choice
-  rule_covered : (r : Rule) → (0 < recent.start → CoversRule b (take recent.start old) old r)
-      → CoversFrom b old recent (old ++ added) r [] → CoversRule b old (old ++ added) r
-  rule_covered r closed now items i s =
-      let w = last_each old recent.marks r.children items last i s in
-      covered_lesser b (old ++ added) r w.1 items w.5 (either (are_old recent.start w.0) w.0 w.1 refl w.2 w.3 w.4)
-    where
-      either : (t : Bool) (places : List ℕ) (others : List Found) → are_old recent.start places ≡ t
-          → AreAt old places others → Every (IsMarked recent.marks) places → HaveStates r.children others
-          → IsCovered b (old ++ added) r others
-      either false places others e a m h = now places others a m h e
-      either true places others e a m h =
-          let l = ltb-true 0 recent.start (and_parts (nat_lt 0 recent.start) (all_below recent.start places) e).0 in
-          covered_more b old added r others
-          (closed l others
-          (below_taken recent.start old places others
-          (and_parts (nat_lt 0 recent.start) (all_below recent.start places) e).1 a) h)
-
-  pub rules_covered : (rules : List Rule) → (0 < recent.start → CoversRules b (take recent.start old) old rules)
-      → Every (λ r. CoversFrom b old recent (old ++ added) r []) rules → CoversRules b old (old ++ added) rules
-  rules_covered rules closed now =
-      in_every _ rules
-      (λ r i. rule_covered r (λ l. every_in (CoversRule b (take recent.start old) old) rules r (closed l) i)
-      (every_in (λ s. CoversFrom b old recent (old ++ added) s []) rules r now i))
-
--- a round that added pairs, or none
-pub grown : (rules : List Rule) (b : Automaton) (recent : Recent) (old added new : List Found) (n m : ℕ)
-    → new ≡ old ++ added → n ≡ length old → m ≡ length new → m < 2 ^ 64 → AreLasting old recent.marks
-    → (0 < recent.start → CoversRules b (take recent.start old) old rules) → Widens (IsDerived rules b old) old [] added
-    → Every (λ r. CoversFrom b old recent (old ++ added) r []) rules → Grows rules b old new n (nat_lt n m)
-grown rules b recent old added new n m e l k f last closed w now = (
-  which (nat_lt n m) refl,
-  l,
-  subst (λ (found : List Found). CoversRules b old found rules) (sym e)
-      (rules_covered b old added recent last rules closed now),
-)
+pub lasting_at : (order : Order) (f : Found) (fs : List Found) (i : ℕ) (live : List Bool)
+    → AreLasting order (f ∷ fs) (drop i live)
+    → MatchBool (get_or live i false) (HasCover order fs f → ⊥) (HasCover order fs f)
+    × AreLasting order fs (drop (i + 1) live)
+lasting_at order f fs i live h =
+    let k = lasting_behind order f fs i live h in
+    (k.0, subst (λ (n : ℕ). AreLasting order fs (drop n live)) (next i) k.1)
   where
-    long : length new ≡ length old + length added
-    long = ap length e ∙ length-append old added
+    next : (n : ℕ) → suc n ≡ n + 1
+    next n = omega arith
 
-    which : (t : Bool) → nat_lt n m ≡ t
-        → MatchBool t (Widens (IsDerived rules b old) [] old new × (length old < length new) × (length new < 2 ^ 64))
-        (new ≡ old)
-    which true t = let i = ltb-true n m t in (
+-- one more mark, among further pairs
+pub still_step : (order : Order) (f : Found) (fs added : List Found) (i : ℕ) (live marks : List Bool) (n : Bool)
+    (all : List Found) → AreLasting order (f ∷ fs) (drop i live)
+    → (IsTrue n → IsMarked live i × (HasCover order added f → ⊥))
+    → (n ≡ false → (get_or live i false ≡ false) ⊎ HasCover order added f)
+    → ((more : List Bool) → AreLasting order ((f ∷ fs) ++ added) more → AreLasting order all (marks ++ more))
+    → (more : List Bool) → AreLasting order (fs ++ added) more → AreLasting order all ((marks ++ n ∷ []) ++ more)
+still_step order f fs added i live marks n all h on off k more m =
+    subst (AreLasting order all) (sym (append_assoc marks (n ∷ []) more)) (k (n ∷ more) (mark n refl, m))
+  where
+    was : (t : Bool) → get_or live i false ≡ t → MatchBool t (HasCover order fs f → ⊥) (HasCover order fs f)
+    was t e = subst (λ (b : Bool). MatchBool b (HasCover order fs f → ⊥) (HasCover order fs f)) e
+        (lasting_at order f fs i live h).0
+
+    mark : (t : Bool) → n ≡ t
+        → MatchBool t (HasCover order (fs ++ added) f → ⊥) (HasCover order (fs ++ added) f)
+    mark true e = λ c. let y = on e in y.1 (cover_joined order fs added f (was true y.0) c)
+    mark false e = elim (off e) [
+      | inl d ↦ cover_left order fs added f (was false d)
+      | inr d ↦ cover_right order fs added f d
+    ]
+
+-- what no later pair covers among more, none covers among fewer
+pub lasting_less : (order : Order) (found added : List Found) (news olds : List Bool) (i : ℕ)
+    → AreLasting order (found ++ added) news → AreLasting order found olds → i < length found → IsMarked news i
+    → IsMarked olds i
+lasting_less order [] added news olds i h k l m = absurd (omega (arith, l))
+lasting_less order (f ∷ found) added [] olds i h k l m = absurd h
+lasting_less order (f ∷ found) added (n ∷ news) [] i h k l m = absurd k
+lasting_less order (f ∷ found) added (n ∷ news) (true ∷ olds) zero h k l m = refl
+lasting_less order (f ∷ found) added (n ∷ news) (false ∷ olds) zero h k l m =
+    absurd (subst (λ (b : Bool). MatchBool b (HasCover order (found ++ added) f → ⊥) (HasCover order (found ++ added) f))
+    m h.0 (cover_left order found added f k.0))
+lasting_less order (f ∷ found) added (n ∷ news) (o ∷ olds) (suc i) h k l m =
+    lasting_less order found added news olds i h.1 k.1 (omega (arith, l)) m
+
+module _ (a b : Automaton) (orders : Orders) (up : AreUpward a b orders) where
+  cover_above : (f g : Found) → IsProper a b orders g → IsCover orders.left f g → IsAbove orders f g
+  cover_above f g p h = record { state = h.0; set = λ m k. (p.under.only m (h.1 m k)).1 }
+
+  above_same : (f : Found) → IsProper a b orders f → IsAbove orders f f
+  above_same f p = record {
+    state = up.left.same f.state p.state;
+    set = λ m k. (m, k, up.right.same m (rw p.long at (marked_below f.marks m k)));
+  }
+
+  above_through : (f g h : Found) → IsProper a b orders g → IsAbove orders f g → IsAbove orders g h → IsAbove orders f h
+  above_through f g h p u v = record {
+    state = up.left.through h.state g.state f.state p.state v.state u.state;
+    set = λ m i.
+        let k = u.set m i in
+        let l = v.set k.0 k.1 in
+        (l.0, l.1, up.right.through m k.0 l.0 (rw p.long at (marked_below g.marks k.0 k.1)) k.2 l.2);
+  }
+
+  -- at this place stands a pair with a mark that is above f
+  pub record LastsFor (found : List Found) (marks : List Bool) (f : Found) : Type 0 where
+    pub place : ℕ
+    pub pair : Found
+    pub at : slice_get found place ≡ Some pair
+    pub marked : IsMarked marks place
+    pub above : IsAbove orders pair f
+
+  further : (x : Found) (found : List Found) (m : Bool) (marks : List Bool) (f g : Found) → IsProper a b orders f
+      → LastsFor found marks f → IsAbove orders f g → LastsFor (x ∷ found) (m ∷ marks) g
+  further x found m marks f g p h u =
       record {
-        more = added;
-        is = e;
-        each = subst (Every (IsDerived rules b old)) (sym w.is) w.each;
-        fresh = λ h. subst AreFresh (sym e) (w.fresh (subst AreFresh (sym (append-nil old)) h));
-      },
-      omega (arith, i, l, k),
-      omega (arith, f, k),
-    )
-    which false t = let i = ltb-false n m t in let j = long in
-        e ∙ ap (λ (xs : List Found). old ++ xs) (nil_from_length added (omega (arith, i, j, l, k))) ∙ append-nil old
+        place = suc h.place;
+        pair = h.pair;
+        at = h.at;
+        marked = h.marked;
+        above = above_through h.pair f g p h.above u;
+      }
+
+  -- each pair is covered by one that lasts
+  pub lasts_for : (found : List Found) (marks : List Bool) (f : Found) → AreLasting orders.left found marks
+      → Every (IsProper a b orders) found → IsIn f found → LastsFor found marks f
+  lasts_for [] marks f h p i = absurd i
+  lasts_for (x ∷ found) [] f h p i = absurd h
+  lasts_for (x ∷ found) (m ∷ marks) f h p (inr i) =
+      let q = every_in (IsProper a b orders) found f p.1 i in
+      further x found m marks f f q (lasts_for found marks f h.1 p.1 i) (above_same f q)
+  lasts_for (x ∷ found) (true ∷ marks) f h p (inl e) =
+      record {
+        place = zero;
+        pair = x;
+        at = refl;
+        marked = refl;
+        above = subst (λ (g : Found). IsAbove orders x g) (sym e) (above_same x p.0);
+      }
+  lasts_for (x ∷ found) (false ∷ marks) f h p (inl e) =
+      let c = h.0 in
+      further x found false marks c.0 f (every_in (IsProper a b orders) found c.0 p.1 c.1)
+      (lasts_for found marks c.0 h.1 p.1 c.1)
+      (subst (λ (g : Found). IsAbove orders c.0 g) (sym e) (cover_above c.0 x p.0 c.2))
+
+  -- so for each of several pairs
+  pub last_each : (found : List Found) (marks : List Bool) (items : List Found) → AreLasting orders.left found marks
+      → Every (IsProper a b orders) found → Every (λ f. IsIn f found) items → (places : List ℕ) × (others : List Found)
+      × AreAt found places others × Every (IsMarked marks) places × AreAbove orders others items
+  last_each found marks [] h p i = ([], [], tt, tt, tt)
+  last_each found marks (f ∷ items) h p i =
+      let l = lasts_for found marks f h p i.0 in
+      let w = last_each found marks items h p i.1 in
+      (l.place ∷ w.0, l.pair ∷ w.1, (l.at, w.2), (l.marked, w.3), (l.above, w.4))

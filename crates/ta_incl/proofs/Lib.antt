@@ -7,6 +7,9 @@ pub mod Keeping
 pub mod Lasting
 pub mod Places
 mod Rows
-pub mod Rounding
+pub mod Searched
+pub mod Showing
+pub mod Sides
 pub mod Tasks
 pub mod Trees
+pub mod Upward

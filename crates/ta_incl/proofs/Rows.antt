@@ -12,7 +12,7 @@ use Rattle.ta_incl.specs.declared.inclusion.Pair.{Pair}
 use Rattle.ta_incl.specs.declared.inclusion.Inclusion.TheVariants.{Yes, No}
 use Rattle.ta_incl.specs.Inclusions.{IsSubset, IsAntichain, IsBelow, Subsumes, Leads, Gives, AreFor, IsClosed}
 use Rattle.ta_incl.specs.Inclusions.{MeetsRoots, IsMissing, IfYes, IfNo}
-use Rattle.ta_incl.proofs.Answering.{below_same}
+use Rattle.ta_incl.proofs.Upward.{below_same}
 
 -- a rule q = y for a leaf, and q = n(p), with a reference in place of a cell's symbol, whose number of children nothing
 -- here looks at

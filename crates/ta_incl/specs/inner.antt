@@ -1,3 +1,4 @@
 pub mod Answers
 pub mod Founds
+pub mod Orders
 pub mod Tasks

@@ -1,103 +1,119 @@
-// One round of the search: which pairs the rules of the left automaton give over those that are there.
+// One step of the search: which pairs the rules of the left automaton give over those that are ready.
 
-ghost use Rattle.std.specs.Prelude.{◌≡◌, ◌↔◌, ◌<◌, List, [], ◌++◌, ◌∷◌, length, take, IsTrue, IfOk, OnOk};
+ghost use Rattle.std.specs.Prelude.{◌≡◌, ◌↔◌, ◌<◌, ℕ, List, [], ◌++◌, ◌∷◌, length, false, IsTrue, IfOk, OnOk};
 ghost use Rattle.fore_base.specs.Lists.{Every};
 ghost use Rattle.fore_base.specs.Marks.{IsMarked};
-ghost use Rattle.ta_incl.specs.inner.Founds.{AreAt, sets_of, IsBegun, IsFull, IsFrom, IsDerived, AreLasting, all_below};
-ghost use Rattle.ta_incl.specs.inner.Founds.{are_old, CoversAt, CoversFrom, CoversRules, Widens, Grows, IsExplored};
+ghost use Rattle.ta_core.specs.Auto.{Automaton};
+ghost use Rattle.ta_incl.specs.inner.Founds.{AreAt, HaveStates, sets_of, IsBegun, IsFull, IsFrom, IsDerived, HasUnder};
+ghost use Rattle.ta_incl.specs.inner.Founds.{is_among, is_due, CoversAt, CoversFrom, Widens};
+ghost use Rattle.ta_incl.specs.inner.Orders.{AreUpward};
 
-use crate::found::{Found, is_covered, lasting, mark_at};
+use crate::failing::is_one_of;
+use crate::found::{Found, is_covered, mark_at};
+use crate::order::{Orders, states_under};
 use fore_base::list::{Copies, List};
 use fore_base::memory::Mem;
 use std::alloc::Global;
 use ta_core::accepting::top_states;
 use ta_core::auto::{Auto, Rule};
 
-/// Takes each rule once over the pairs that are there, those from `start` on being the pairs of the last round, and
-/// says whether this gave a further one. `start` is moved to the first further one.
-pub fn grow(
-    alloc: Global,
-    rules: &[Rule],
-    right: &Auto,
-    start: &mut usize,
-    found: &mut List<Found>,
-) -> Mem<bool>
-    requires { 0 < start.old → CoversRules right.now (take start.old found.old) found.old rules.now }
-    ensures { IfOk result (Grows rules.now right.now found.old found.new start.new) }
-{
-    let before = found.len();
-    let marks = lasting(alloc, found.as_slice())?;
-    let recent = Recent {
-        start: *start,
-        marks,
-    };
-    let added = round(alloc, rules, right, found.as_slice(), &recent)?;
-    found.append(added)?;
-    *start = before;
-    Ok(found.len() > before)
-}
-
-/// What a round combines: the pairs that have marks, as far as one of them is at this place or behind it.
+/// What a step combines: the pairs that are ready have marks, and the pair at this place, if there is one, is taken up:
+/// it is one of those that are combined.
 #[derive(Drop)]
-struct Recent {
-    start: usize,
-    marks: List<bool>,
+pub struct Turn {
+    pub at: Option<usize>,
+    pub ready: List<bool>,
 }
 
 /// The further pairs that the rules give over those that are there.
-fn round(
+pub fn step(
     alloc: Global,
+    orders: &Orders,
     rules: &[Rule],
     right: &Auto,
     found: &[Found],
-    recent: &Recent,
+    turn: &Turn,
 ) -> Mem<List<Found>>
-    ensures widens { IfOk result (Widens (IsDerived rules.now right.now found.now) found.now []) }
+    requires { (a : Automaton) × AreUpward a right.now orders.now × Every (λ r. r.state < a.states) rules.now }
+    ensures widens { IfOk result
+        (Widens orders.now.left (λ f. IsDerived rules.now right.now found.now f × HasUnder right.now orders.now.right f)
+        found.now []) }
     ensures covers { IfOk result
-        (λ added. Every (λ r. CoversFrom right.now found.now recent.now (found.now ++ added) r []) rules.now) }
+        (λ added. Every (λ r. CoversFrom right.now orders.now found.now turn.now (found.now ++ added) r []) rules.now) }
 {
     let mut added = List::new(alloc);
     for (place, rule) in rules.iter().enumerate() {
-        extend(alloc, place, rule, right, found, recent, &[], &mut added)?;
+        if may_serve(rule, found, turn) {
+            extend(
+                alloc,
+                orders,
+                place,
+                rule,
+                right,
+                found,
+                turn,
+                &[],
+                &mut added,
+            )?;
+        }
     }
     Ok(added)
+}
+
+/// Whether a child of the rule is the state of the pair that is taken up, if there is one.
+fn may_serve(rule: &Rule, found: &[Found], turn: &Turn) -> bool
+    ensures { result ≡ false → (places : List ℕ) (items : List Found) → AreAt found.now places items
+        → HaveStates rule.now.children items → is_due turn.now.at places ≡ false }
+{
+    match turn.at {
+        None => true,
+        Some(at) => match found.get(at) {
+            Some(pair) => is_one_of(pair.state, rule.children.as_slice()),
+            None => false,
+        },
+    }
 }
 
 /// Adds what the rule, which has this place, gives over the pairs at these places and each choice of pairs for the
 /// further children.
 fn extend(
     alloc: Global,
+    orders: &Orders,
     place: usize,
     rule: &Rule,
     right: &Auto,
     found: &[Found],
-    recent: &Recent,
+    turn: &Turn,
     from: &[usize],
     added: &mut List<Found>,
 ) -> Mem<()>
-    requires { IsBegun found.now rule.now from.now }
-    ensures widens { OnOk result (Widens (IsFrom right.now found.now place rule.now) found.now added.old added.new) }
+    requires begun { IsBegun found.now rule.now from.now }
+    requires upward { (a : Automaton) × AreUpward a right.now orders.now × (rule.now.state < a.states) }
+    ensures widens { OnOk result
+        (Widens orders.now.left
+        (λ f. IsFrom right.now found.now place rule.now f × HasUnder right.now orders.now.right f)
+        found.now added.old added.new) }
     ensures covers { OnOk result
-        (CoversFrom right.now found.now recent.now (found.now ++ added.new)
-        rule.now from.now) }
+        (CoversFrom right.now orders.now found.now turn.now (found.now ++ added.new) rule.now from.now) }
 {
     if from.len() >= rule.children.len() {
-        if is_old(recent.start, from) {
+        if !is_due(turn.at, from) {
             return Ok(());
         }
-        return add(alloc, place, rule, right, found, from, added);
+        return add(alloc, orders, place, rule, right, found, from, added);
     }
     let state = *rule.children.at(from.len());
     for (next, pair) in found.iter().enumerate() {
-        if fits(recent, next, pair, state) {
+        if fits(turn, from, next, pair, state, rule.children.len()) {
             let longer = with_place(alloc, from, next)?;
             extend(
                 alloc,
+                orders,
                 place,
                 rule,
                 right,
                 found,
-                recent,
+                turn,
                 longer.as_slice(),
                 added,
             )?;
@@ -106,34 +122,76 @@ fn extend(
     Ok(())
 }
 
-/// Whether the pair, which has this place, has the state and a mark.
-fn fits(recent: &Recent, place: usize, pair: &Found, state: u32) -> bool
-    ensures { IsTrue result ↔ ((pair.now.state ≡ state) × IsMarked recent.now.marks place) }
+/// Whether the pair, which has this place, has the state and is ready, and the pair that is taken up stands for one of
+/// so many children, or can still come to.
+fn fits(
+    turn: &Turn,
+    from: &[usize],
+    place: usize,
+    pair: &Found,
+    state: u32,
+    children: usize,
+) -> bool
+    requires { length from.now < children }
+    ensures fits { IsTrue result → (pair.now.state ≡ state) × IsMarked turn.now.ready place }
+    ensures late { result ≡ false → pair.now.state ≡ state → IsMarked turn.now.ready place → (rest : List ℕ)
+        → length (from.now ++ place ∷ rest) ≡ children → is_due turn.now.at (from.now ++ place ∷ rest) ≡ false }
 {
-    pair.state == state && mark_at(recent.marks.as_slice(), place)
+    if pair.state != state {
+        return false;
+    }
+    if !mark_at(turn.ready.as_slice(), place) {
+        return false;
+    }
+    can_be_due(turn.at, from, place, children)
 }
 
-/// Whether there is a last round, and none of the places is of it.
-fn is_old(start: usize, places: &[usize]) -> bool
-    ensures { result ≡ are_old start places.now }
+/// Whether the pair that is taken up, if there is one, is at one of the places.
+fn is_due(at: Option<usize>, places: &[usize]) -> bool
+    ensures { result ≡ is_due at places.now }
 {
-    0 < start && are_before(start, places)
+    match at {
+        None => true,
+        Some(place) => is_place_of(place, places),
+    }
 }
 
-fn are_before(start: usize, places: &[usize]) -> bool
-    ensures { result ≡ all_below start places.now }
+/// Whether the pair that is taken up can still come to stand for one of so many children, where these places and the
+/// next one are taken.
+fn can_be_due(at: Option<usize>, places: &[usize], next: usize, children: usize) -> bool
+    requires { length places.now < children }
+    ensures { result ≡ false → (rest : List ℕ) → length (places.now ++ next ∷ rest) ≡ children
+        → is_due at (places.now ++ next ∷ rest) ≡ false }
 {
-    for place in places {
-        if *place >= start {
-            return false;
+    match at {
+        None => true,
+        Some(place) => {
+            if next == place {
+                return true;
+            }
+            if children - places.len() > 1 {
+                return true;
+            }
+            is_place_of(place, places)
         }
     }
-    true
+}
+
+fn is_place_of(place: usize, places: &[usize]) -> bool
+    ensures { result ≡ is_among place places.now }
+{
+    for other in places {
+        if *other == place {
+            return true;
+        }
+    }
+    false
 }
 
 /// Adds the pair that the rule gives over the pairs at these places, unless one covers it.
 fn add(
     alloc: Global,
+    orders: &Orders,
     place: usize,
     rule: &Rule,
     right: &Auto,
@@ -141,9 +199,14 @@ fn add(
     from: &[usize],
     added: &mut List<Found>,
 ) -> Mem<()>
-    requires { IsFull found.now rule.now from.now }
-    ensures widens { OnOk result (Widens (IsFrom right.now found.now place rule.now) found.now added.old added.new) }
-    ensures covers { OnOk result (CoversAt right.now found.now (found.now ++ added.new) rule.now from.now) }
+    requires full { IsFull found.now rule.now from.now }
+    requires upward { (a : Automaton) × AreUpward a right.now orders.now × (rule.now.state < a.states) }
+    ensures widens { OnOk result
+        (Widens orders.now.left
+        (λ f. IsFrom right.now found.now place rule.now f × HasUnder right.now orders.now.right f)
+        found.now added.old added.new) }
+    ensures covers { OnOk result
+        (CoversAt right.now orders.now found.now (found.now ++ added.new) rule.now from.now) }
 {
     let sets = sets_at(alloc, found, from)?;
     let marks = top_states(
@@ -153,16 +216,19 @@ fn add(
         &rule.symbol,
         &sets,
     )?;
-    if is_covered(found, added.as_slice(), rule.state, marks.as_slice()) {
-        return Ok(());
-    }
+    let under = states_under(alloc, &orders.right, right.states, marks.as_slice())?;
     let from = List::from_slice(alloc, from)?;
-    added.push(Found {
+    let pair = Found {
         state: rule.state,
         marks,
+        under,
         rule: place,
         from,
-    })
+    };
+    if is_covered(&orders.left, found, added.as_slice(), &pair) {
+        return Ok(());
+    }
+    added.push(pair)
 }
 
 /// The sets of the pairs at these places.

@@ -26,7 +26,8 @@ fn is_failing(lefts: &[u32], rights: &[u32], pair: &Found) -> bool
     is_one_of(pair.state, lefts) && !is_some_marked(pair.marks.as_slice(), rights)
 }
 
-fn is_one_of(state: u32, states: &[u32]) -> bool
+/// Whether the state is one of these.
+pub fn is_one_of(state: u32, states: &[u32]) -> bool
     ensures { IsTrue result ↔ IsIn state states.now }
 {
     for other in states {

@@ -9,7 +9,7 @@ use crate::comparing::are_equal;
 use crate::failing::failing;
 use crate::growing::tree_at;
 use crate::inclusion::Inclusion;
-use crate::searching::explored;
+use crate::searching::{Findings, explored};
 use crate::thinning::{pairs_of, thinned};
 use fore_base::memory::Mem;
 use std::alloc::Global;
@@ -34,18 +34,19 @@ pub fn included(alloc: Global, left: &Auto, right: &Auto) -> Mem<Inclusion>
 fn answered(alloc: Global, left: &Auto, right: &Auto) -> Mem<Inclusion>
     ensures { IfOk result (Answers left.now right.now) }
 {
-    let found = explored(alloc, left, right)?;
+    let search = explored(alloc, left, right)?;
     match failing(
         left.roots.as_slice(),
         right.roots.as_slice(),
-        found.as_slice(),
+        search.found.as_slice(),
     ) {
         Some(place) => {
-            let tree = tree_at(alloc, &left.rules, found.as_slice(), place)?;
+            let tree = tree_at(alloc, &left.rules, search.found.as_slice(), place)?;
             Ok(Inclusion::No { tree })
         }
         None => {
-            let kept = thinned(alloc, found)?;
+            let Findings { orders, found } = search;
+            let kept = thinned(alloc, &orders.left, found)?;
             let pairs = pairs_of(alloc, right.states, kept.as_slice())?;
             Ok(Inclusion::Yes { pairs })
         }
@@ -64,11 +65,11 @@ pub fn is_included(alloc: Global, left: &Auto, right: &Auto) -> Mem<bool>
     if are_equal(left, right) {
         return Ok(true);
     }
-    let found = explored(alloc, left, right)?;
+    let search = explored(alloc, left, right)?;
     let place = failing(
         left.roots.as_slice(),
         right.roots.as_slice(),
-        found.as_slice(),
+        search.found.as_slice(),
     );
     Ok(place.is_none())
 }

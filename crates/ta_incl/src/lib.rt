@@ -16,6 +16,7 @@ mod found;
 mod growing;
 pub mod including;
 pub mod inclusion;
+mod order;
 mod searching;
 mod thinning;
 

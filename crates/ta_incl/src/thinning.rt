@@ -3,24 +3,26 @@
 ghost use Rattle.std.specs.Prelude.{◌≡◌, ◌↔◌, ℕ, length, IfOk};
 ghost use Rattle.fore_base.specs.Lists.{IsIn, Every, Paired};
 ghost use Rattle.fore_base.specs.Marks.{IsMarked};
-ghost use Rattle.ta_incl.specs.inner.Founds.{AreFresh, IsThinned, IsPairOf};
+ghost use Rattle.ta_incl.specs.inner.Founds.{AreFresh, IsCover, IsThinned, IsPairOf};
 
 use crate::found::{Found, has_cover};
 use crate::inclusion::Pair;
+use crate::order::Order;
 use fore_base::list::List;
 use fore_base::marks::is_marked;
 use fore_base::memory::Mem;
 use std::alloc::Global;
 
 /// Those pairs that no later one covers, the last one first.
-pub fn thinned(alloc: Global, found: List<Found>) -> Mem<List<Found>>
-    requires { AreFresh found }
-    ensures { IfOk result (IsThinned found) }
+pub fn thinned(alloc: Global, order: &Order, found: List<Found>) -> Mem<List<Found>>
+    requires fresh { AreFresh order.now found }
+    requires same { Every (λ f. IsCover order.now f f) found }
+    ensures { IfOk result (IsThinned order.now found) }
 {
     let mut rest = found;
     let mut kept = List::new(alloc);
     'pairs: while let Some(pair) = rest.pop() {
-        if !has_cover(kept.as_slice(), pair.state, pair.marks.as_slice()) {
+        if !has_cover(order, kept.as_slice(), &pair) {
             kept.push(pair)?;
         }
     }

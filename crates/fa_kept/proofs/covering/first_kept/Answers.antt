@@ -1,21 +1,22 @@
-use Rattle.std.proofs.Common.{List, subst}
-use Rattle.std.proofs.lemmas.List.{take_all}
-use Rattle.fore_base.specs.Lists.{Every}
-use Rattle.fa_pool.specs.declared.kept.Kept.{Kept}
+use Rattle.std.proofs.Common.{List, Option, ℕ}
+use Rattle.std.proofs.lemmas.Result.{IfOk-weaker}
+use Rattle.fore_base.specs.Lists.{Paired}
+use Rattle.par_kit.specs.Phases.{IsFirst}
+use Rattle.fa_core.specs.declared.forest.Forest.{Forest}
+use Rattle.fa_sound.specs.Soundness.{SoundForest}
+use Rattle.fa_cover.specs.Firsts.{FirstCover}
+use Rattle.fa_pool.specs.Pools.{ReadsAs}
 use Rattle.fa_kept.specs.inner.Within.{CoversByNumbers}
-use Rattle.fa_kept.proofs.Reading.{first_read, none_read}
+use Rattle.fa_kept.proofs.Reading.{first_as_read}
 use Rattle.fa_kept.proofs.covering.first_kept.Goals as goal
 
-pub returns-then-branch-clause-first : goal.returns-then-branch-clause-first
-returns-then-branch-clause-first g c = λ all F kept reads.
-    first_read c.args.pool.now c.args.forest.now F reads c.args.nodes.now all c.loop-place.place
-    c.index-nodes-place.result kept c.loop-place-test.true c.index-nodes-place.is c.loop-place.invariant.1
-    (c.in_ok-is_covered.ensures.exact.0 c.if-branch.true)
-
 pub returns-clause-first : goal.returns-clause-first
-returns-clause-first g c = λ all F kept reads.
+returns-clause-first g c =
+    let pool = c.args.pool.now in
     let nodes = c.args.nodes.now in
-    let none = subst
-    (λ (ns : List Kept). Every (λ node. CoversByNumbers c.args.pool.now node c.args.forest.now → ⊥) ns)
-    (take_all c.loop-place.place nodes c.loop-place-test.false) c.loop-place.invariant.1 in
-    none_read c.args.pool.now c.args.forest.now F reads nodes all kept none
+    let kept = c.args.forest.now in
+    IfOk-weaker c.first_among.result (IsFirst (λ node. CoversByNumbers pool node kept) nodes)
+    (λ (found : Option ℕ). (all : List SoundForest) (F : Forest)
+    → Paired (λ k node. ReadsAs pool k node.forest) nodes all → ReadsAs pool kept F → FirstCover all F found)
+    (λ found first all F read is. first_as_read pool kept F is nodes all found read first)
+    c.first_among.ensures.first

@@ -5,7 +5,7 @@ use Rattle.fa_kept.proofs.within.are_within.Goals as goal
 
 pub loop-place-preserved : goal.loop-place-preserved
 loop-place-preserved c = (
-  c.in_ok-is_within.ensures.agrees,
+  c.in_ok-is_within.ensures.found,
   pair_goes_on (IsWithinAt c.args.pool.now) c.args.narrow.now c.args.wide.now c.loop-place.place _ _
       c.loop-place-test.true (get_or_default c.args.narrow.now c.loop-place.place _ _ c.loop-place-test.true)
       (get_or_default c.args.wide.now c.loop-place.place _ _ (rw (← c.requires.long) c.loop-place-test.true))
