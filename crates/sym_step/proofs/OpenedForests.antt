@@ -7,6 +7,7 @@ use Rattle.fore_base.specs.declared.store.Store.{Store}
 use Rattle.fore_base.proofs.ListLemmas.{in_last, in_left, in_map, in_mapped, every_in, in_every, every_append}
 use Rattle.fore_base.proofs.ListLemmas.{every_weaker, every_map, every_push}
 use Rattle.ta_core.specs.Auto.{IsRanked}
+use Rattle.fa_core.specs.Boxless.{HasNoBoxes}
 use Rattle.fa_core.specs.declared.boxes.BoxDef.{BoxDef}
 use Rattle.fa_core.specs.declared.faces.BoxFace.{BoxFace}
 use Rattle.fa_core.specs.declared.faces.Face.{Face}
@@ -44,10 +45,14 @@ many_self F = (refl, refl)
 pub like_on : (face : Face) (F : Forest) (s t : SoundForest) → IsLike face F s → IsLike s.face s.forest t
     → IsLike face F t
 like_on face F s t a b =
-    record { face = b.face ∙ a.face; counts = (b.counts.0 ∙ a.counts.0, b.counts.1 ∙ a.counts.1) }
+    record {
+      face = b.face ∙ a.face;
+      counts = (b.counts.0 ∙ a.counts.0, b.counts.1 ∙ a.counts.1);
+      plain = λ none. b.plain (a.plain none);
+    }
 
 pub like_self : (s : SoundForest) → IsLike s.face s.forest s
-like_self s = record { face = refl; counts = many_self s.forest }
+like_self s = record { face = refl; counts = many_self s.forest; plain = λ none. none }
 
 pub bads_both : (xs ys : List Bad) → bads (xs ++ ys) ≡ bads xs ++ bads ys
 bads_both [] ys = refl
@@ -112,7 +117,8 @@ module _ (T : List BoxDef) (G : SoundForest) (r p : ℕ) (e : Edge) (sound : IsS
       (ss : List SoundForest) (dressed : (T : List BoxDef) → Every (IsSplitOf T G.forest r p) (forests ss))
       (regroup : (T : List BoxDef) → Every (Regroups T G.forest) (forests ss))
       (whole : (T : List BoxDef) → RegroupsInto T G.forest (forests ss))
-      (faces : Every (λ (s : SoundForest). s.face ≡ G.face) ss) (vars : Every (HasVarsOf G.forest) (forests ss)) where
+      (faces : Every (λ (s : SoundForest). s.face ≡ G.face) ss) (vars : Every (HasVarsOf G.forest) (forests ss))
+      (plains : Every HasNoBoxes G.forest.autos → Every (λ (H : Forest). Every HasNoBoxes H.autos) (forests ss)) where
     abbrev n : ℕ
     n = length G.forest.autos
 
@@ -128,6 +134,8 @@ module _ (T : List BoxDef) (G : SoundForest) (r p : ℕ) (e : Edge) (sound : IsS
         record {
           face = face_same s i;
           counts = (ap (λ (ts : List Target). length ts) v.0, ap (λ ds. length ds) v.1);
+          plain = λ none. every_in (λ (H : Forest). Every HasNoBoxes H.autos) (forests ss) s.forest (plains none)
+              (forest_in s i);
         }
 
     piece_regroups : (U : List BoxDef) (s : SoundForest) → IsIn s ss → Regroups U G.forest s.forest

@@ -5,6 +5,7 @@ use Rattle.fore_base.specs.declared.store.Store.{Store}
 use Rattle.fore_base.specs.declared.fault.Fault.{Fault}
 use Rattle.fore_base.proofs.ListLemmas.{in_map, every_in, in_every, every_append, every_weaker, every_map}
 use Rattle.fa_core.specs.Boxes.{IsTableOf}
+use Rattle.fa_core.specs.Boxless.{HasNoBoxes}
 use Rattle.fa_core.specs.Canonical.{IsCanonical}
 use Rattle.fa_core.specs.Covering.{Reduced}
 use Rattle.fa_core.specs.declared.boxes.BoxDef.{BoxDef}
@@ -182,13 +183,24 @@ module _ {P : List BoxDef → Type 0} (face : Face) (F : Forest) (e : Edge) (mad
   bad_counts = every_weaker (λ (b : Bad). IsLike face F b.at) (λ (b : Bad). HasAsMany F b.at.forest) faults
       (λ b k. k.counts) a.bad_like
 
+  -- without box edges where F has none
+  pub settled_plain : Every HasNoBoxes F.autos → Every (λ (s : SoundForest). Every HasNoBoxes s.forest.autos) made
+  settled_plain none = every_weaker (IsNext face F) (λ (s : SoundForest). Every HasNoBoxes s.forest.autos) made
+      (λ s k. k.like.plain none) a.next
+
+  pub bad_plain : Every HasNoBoxes F.autos → Every (λ (b : Bad). Every HasNoBoxes b.at.forest.autos) faults
+  bad_plain none = every_weaker (λ (b : Bad). IsLike face F b.at) (λ (b : Bad). Every HasNoBoxes b.at.forest.autos)
+      faults (λ b k. k.plain none) a.bad_like
+
   -- with other forests that have the same dressed forests
   pub settled_joined : (joined : List SoundForest) → ((T : List BoxDef) → IsJoined T (forests made) (forests joined))
       → Every (λ (s : SoundForest). IsCanonical s.face s.forest) joined
       → Every (λ (s : SoundForest). Reduced s.forest) joined
+      → (Every (λ (s : SoundForest). Every HasNoBoxes s.forest.autos) made
+      → Every (λ (s : SoundForest). Every HasNoBoxes s.forest.autos) joined)
       → Every (λ (s : SoundForest). s.face ≡ face) joined
       → Every (λ (s : SoundForest). HasDressed s.forest) joined → IsSettlingBy P face F e [] joined faults
-  settled_joined joined same canonical reduced faces some = record {
+  settled_joined joined same canonical reduced plains faces some = record {
     stepping = stepping_joined face F e (forests made) (forests joined) (bads faults) same a.stepping;
     next = in_every (IsNext face F) joined (λ s i. record {
       like = record {
@@ -197,6 +209,8 @@ module _ {P : List BoxDef → Type 0} (face : Face) (F : Forest) (e : Edge) (mad
             (every_map (λ (t : SoundForest). t.forest) (HasAsMany F) made settled_counts) s.forest
             (in_map (λ (t : SoundForest). t.forest) s joined i)
             (every_in (λ (t : SoundForest). HasDressed t.forest) joined s some i);
+        plain = λ none. every_in (λ (t : SoundForest). Every HasNoBoxes t.forest.autos) joined s
+            (plains (settled_plain none)) i;
       };
       canonical = every_in (λ (t : SoundForest). IsCanonical t.face t.forest) joined s canonical i;
       reduced = every_in (λ (t : SoundForest). Reduced t.forest) joined s reduced i;

@@ -5,6 +5,7 @@ use Rattle.std.proofs.lemmas.Bool.{eqb-true, eq-eqb}
 use Rattle.fore_base.specs.Lists.{IsIn, Every}
 use Rattle.fore_base.proofs.ListLemmas.{every_in, every_weaker, in_every, in_left, in_map, in_mapped, in_right}
 use Rattle.ta_core.specs.Single.{HasOneTop}
+use Rattle.fa_core.specs.Boxless.{HasNoBoxes}
 use Rattle.fa_core.specs.Member.{Regroups, RegroupsInto}
 use Rattle.fa_core.specs.declared.boxes.BoxDef.{BoxDef}
 use Rattle.fa_core.specs.declared.forest.Forest.{Forest}
@@ -16,6 +17,7 @@ use Rattle.fa_split.specs.Chosen.{IsChosenOf, chosen}
 use Rattle.fa_split.specs.Divided.{forests, HasVarsOf}
 use Rattle.fa_split.proofs.OtherComponent.{component_other}
 use Rattle.fa_split.proofs.Steps.{forests_both}
+use Rattle.fa_opening.specs.Opened.{StaysPlain}
 use Rattle.sym_step.specs.inner.Topping.{IsChoosing, IsToppedAt, IsTopped, OfSome}
 
 same_or_not : (j r : ℕ) → (j ≡ r) ⊎ (j ≢ r)
@@ -31,6 +33,7 @@ pub choosing_self : (S : SoundForest) → IsChoosing S S
 choosing_self S = record {
   face_kept = refl;
   vars_kept = (refl, refl);
+  plain_kept = λ plain. plain;
   long = refl;
   same = λ k h. refl;
   regroups = λ T. regroups_same T S.forest;
@@ -40,6 +43,7 @@ choosing_on : (S m s : SoundForest) → IsChoosing S m → IsChoosing m s → Is
 choosing_on S m s a b = record {
   face_kept = b.face_kept ∙ a.face_kept;
   vars_kept = (b.vars_kept.0 ∙ a.vars_kept.0, b.vars_kept.1 ∙ a.vars_kept.1);
+  plain_kept = λ plain. b.plain_kept (a.plain_kept plain);
   long = b.long ∙ a.long;
   same = λ k h. b.same k (subst HasOneTop (sym (a.same k h)) h) ∙ a.same k h;
   regroups = λ T. regroups_on T S.forest m.forest s.forest (a.regroups T) (b.regroups T);
@@ -110,7 +114,8 @@ pub stays_topped : (r : ℕ) (S : SoundForest) → (IsIn (At r) S.forest.vars �
 stays_topped r S h = record { chosen = choosing_self S; top = h }
 
 module _ (S : SoundForest) (r : ℕ) (none : HasOneTop (component_at S.forest.autos r) → ⊥) (s : SoundForest)
-    (face : s.face ≡ S.face) (vars : HasVarsOf S.forest s.forest) (top : HasOneTop (component_at s.forest.autos r))
+    (face : s.face ≡ S.face) (vars : HasVarsOf S.forest s.forest) (stays : StaysPlain S.forest s.forest)
+    (top : HasOneTop (component_at s.forest.autos r))
     (regroups : (T : List BoxDef) → Regroups T S.forest s.forest) (is : IsChosenOf [] S.forest r s.forest) where
   other : (k : ℕ) → HasOneTop (component_at S.forest.autos k) → component_at s.forest.autos k
       ≡ component_at S.forest.autos k
@@ -125,6 +130,7 @@ module _ (S : SoundForest) (r : ℕ) (none : HasOneTop (component_at S.forest.au
     chosen = record {
       face_kept = face;
       vars_kept = vars;
+      plain_kept = stays;
       long = ap (λ (F : Forest). length F.autos) is.3
           ∙ length-set S.forest.autos r (chosen (component_at S.forest.autos r) is.0);
       same = other;
@@ -135,13 +141,14 @@ module _ (S : SoundForest) (r : ℕ) (none : HasOneTop (component_at S.forest.au
 
 pub each_topped : (S : SoundForest) (r : ℕ) → (HasOneTop (component_at S.forest.autos r) → ⊥)
     → (ss : List SoundForest) → Every (λ s. s.face ≡ S.face) ss → Every (HasVarsOf S.forest) (forests ss)
+    → (Every HasNoBoxes S.forest.autos → Every (λ (G : Forest). Every HasNoBoxes G.autos) (forests ss))
     → Every (λ G. HasOneTop (component_at G.autos r)) (forests ss)
     → ((T : List BoxDef) → Every (Regroups T S.forest) (forests ss))
     → ((T : List BoxDef) → Every (IsChosenOf T S.forest r) (forests ss)) → Every (IsToppedAt r S) ss
-each_topped S r none [] a b c d e = tt
-each_topped S r none (s ∷ ss) a b c d e = (
-  one_topped S r none s a.0 b.0 c.0 (λ T. (d T).0) (e []).0,
-  each_topped S r none ss a.1 b.1 c.1 (λ T. (d T).1) (λ T. (e T).1),
+each_topped S r none [] a b p c d e = tt
+each_topped S r none (s ∷ ss) a b p c d e = (
+  one_topped S r none s a.0 b.0 (λ plain. (p plain).0) c.0 (λ T. (d T).0) (e []).0,
+  each_topped S r none ss a.1 b.1 (λ plain. (p plain).1) c.1 (λ T. (d T).1) (λ T. (e T).1),
 )
 
 pub alone_topped : (r : ℕ) (S : SoundForest) (made : List SoundForest) → made ≡ S ∷ []

@@ -18,7 +18,7 @@ use Rattle.fa_split.specs.Split.{top_rule}
 use Rattle.c_cfg.specs.declared.graph.Edge.{Edge}
 use Rattle.c_cfg.specs.declared.graph.Instr.TheVariants.{Free}
 use Rattle.fa_edit.specs.Plain.{IsLeafPlace, IsPlainAt}
-use Rattle.fa_opening.specs.Opened.{HasFieldsAlone, IsBared}
+use Rattle.fa_opening.specs.Opened.{HasFieldsAlone, IsBared, StaysPlain}
 use Rattle.sym_core.specs.Explicit.{target_at}
 use Rattle.sym_core.specs.Kept.{Needs}
 use Rattle.sym_step.specs.Freed.{NeverLeadsBack}
@@ -35,10 +35,11 @@ IsFreeAt F e r = (b : ℕ) × (e.instr ≡ Free b) × (target_at F b ≡ At r)
 abbrev pub width : Forest → ℕ → ℕ
 width F r = length (top_rule (component_at F.autos r)).children
 
--- s is F with no box edge for a field of root r, each slot of whose one rule is a field
+-- s is F with no box edge for a field of root r, each slot of whose one rule is a field, and with none where F has none
 pub record IsCellOf (F : SoundForest) (r : ℕ) (s : SoundForest) : Type 0 where
   pub face_kept : s.face ≡ F.face
   pub vars_kept : HasVarsOf F.forest s.forest
+  pub plain_kept : StaysPlain F.forest s.forest
   pub bared : (f : ℕ) → IsBared s.face.boxes r f s.forest
   pub fields : HasFieldsAlone s.forest r
 

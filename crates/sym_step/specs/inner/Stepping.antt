@@ -12,6 +12,7 @@ use Rattle.fa_core.specs.declared.faces.Face.{Face}
 use Rattle.fa_core.specs.declared.forest.Forest.{Forest}
 use Rattle.fa_sound.specs.Soundness.{SoundForest}
 use Rattle.fa_split.specs.Divided.{forests}
+use Rattle.fa_opening.specs.Opened.{StaysPlain}
 use Rattle.c_cfg.specs.Edges.{gstep}
 use Rattle.c_cfg.specs.declared.graph.Edge.{Edge}
 use Rattle.sym_core.specs.Cases.{BadAt, StandsInOne, IsMet, IsTrueBad}
@@ -44,10 +45,11 @@ pub record IsSteppingBy (P : List BoxDef → Type 0) (face : Face) (F : Forest) 
 abbrev pub IsStepping : Face → Forest → Edge → List Forest → List Forest → List BadAt → Type 0
 IsStepping face F e Gs Ns Bads = IsSteppingBy (IsTableOf face) face F e Gs Ns Bads
 
--- the forest stands over the face, and has as many variables as F
+-- the forest stands over the face, has as many variables as F, and no box edge where F has none
 pub record IsLike (over : Face) (F : Forest) (s : SoundForest) : Type 0 where
   pub face : s.face ≡ over
   pub counts : HasAsMany F s.forest
+  pub plain : StaysPlain F s.forest
 
 -- besides, it shows what the edge needs
 pub record IsReady (face : Face) (F : Forest) (e : Edge) (s : SoundForest) : Type 0 where

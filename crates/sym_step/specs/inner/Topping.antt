@@ -8,11 +8,14 @@ use Rattle.fa_core.specs.declared.forest.Target.TheVariants.{At}
 use Rattle.fa_sound.specs.Components.{component_at}
 use Rattle.fa_sound.specs.Soundness.{SoundForest}
 use Rattle.fa_split.specs.Divided.{HasVarsOf}
+use Rattle.fa_opening.specs.Opened.{StaysPlain}
 
--- s regroups S: with as many roots and the same variables, and a root that has one rule has the same component
+-- s regroups S: with as many roots and the same variables, and a root that has one rule has the same component; s has
+-- no box edge where S has none
 pub record IsChoosing (S s : SoundForest) : Type 0 where
   pub face_kept : s.face ≡ S.face
   pub vars_kept : HasVarsOf S.forest s.forest
+  pub plain_kept : StaysPlain S.forest s.forest
   pub long : length s.forest.autos ≡ length S.forest.autos
   pub same : (k : ℕ) → HasOneTop (component_at S.forest.autos k) → component_at s.forest.autos k
       ≡ component_at S.forest.autos k

@@ -7,5 +7,6 @@ returns-clause-settles g c =
     settled_joined F.face F.forest c.args._edge.now c.args.settled.next c.args.settled.faults c.requires.settles
     c.in_ok-next.next
     c.in_ok-next.ensures.joined c.in_ok-next.ensures.canonical c.in_ok-next.ensures.reduced
+    c.in_ok-next.ensures.plain
     (rw c.face.ensures at c.in_ok-next.ensures.faces)
     (rw c.as_slice.ensures at c.are_dressed.ensures)

@@ -1,14 +1,11 @@
-use Rattle.std.proofs.Common.{◌≡◌, ◌∙◌, List, [], ◌∷◌, refl, ap, sym, subst, arith}
+use Rattle.std.proofs.Common.{◌≡◌, refl, sym, subst, arith}
 use Rattle.fore_base.specs.Lists.{Every}
 use Rattle.fa_core.specs.Boxes.{Boxes, IsBoxTable, IsTableOf}
-use Rattle.fa_core.specs.Boxless.{HasNoBoxes}
 use Rattle.fa_core.specs.Faces.{IsGiving}
 use Rattle.fa_core.specs.declared.faces.Face.{Face}
 use Rattle.fa_core.proofs.TablesGive.{tables_give}
-use Rattle.fa_sound.specs.Soundness.{SoundForest}
-use Rattle.sym_step.specs.declared.posts.Bad.{Bad}
 use Rattle.sym_step.proofs.SettledForests.{settled_all, settled_cases, settled_canonical, settled_reduced}
-use Rattle.sym_step.proofs.SettledForests.{settled_face, settled_counts, bad_face, bad_counts}
+use Rattle.sym_step.proofs.SettledForests.{settled_face, settled_counts, settled_plain, bad_face, bad_counts, bad_plain}
 use Rattle.sym_step.proofs.posting.post.Goals as goal
 
 own_table : (face : Face) (t : Boxes) → face ≡ t.face → IsBoxTable t → IsTableOf face t.defs
@@ -16,21 +13,6 @@ own_table face t e k = subst (λ (f : Face). IsTableOf f t.defs) (sym e) k
 
 own_gives : (face : Face) (t : Boxes) → face ≡ t.face → IsBoxTable t → Every IsGiving face.boxes
 own_gives face t e k = subst (λ (f : Face). Every IsGiving f.boxes) (sym e) (tables_give t k)
-
--- forests over a face without boxes
-plain_over : (face : Face) → face.boxes ≡ [] → (ss : List SoundForest) → Every (λ (s : SoundForest). s.face ≡ face) ss
-    → Every (λ (s : SoundForest). s.face.boxes ≡ [] → Every HasNoBoxes s.forest.autos) ss
-    → Every (λ (s : SoundForest). Every HasNoBoxes s.forest.autos) ss
-plain_over face none [] a b = tt
-plain_over face none (s ∷ ss) a b =
-    (b.0 (ap (λ (f : Face). f.boxes) a.0 ∙ none), plain_over face none ss a.1 b.1)
-
-bads_plain_over : (face : Face) → face.boxes ≡ [] → (bs : List Bad) → Every (λ (b : Bad). b.at.face ≡ face) bs
-    → Every (λ (b : Bad). b.at.face.boxes ≡ [] → Every HasNoBoxes b.at.forest.autos) bs
-    → Every (λ (b : Bad). Every HasNoBoxes b.at.forest.autos) bs
-bads_plain_over face none [] a c = tt
-bads_plain_over face none (b ∷ bs) a c =
-    (c.0 (ap (λ (f : Face). f.boxes) a.0 ∙ none), bads_plain_over face none bs a.1 c.1)
 
 pub settle_each-requires-clause-table : goal.settle_each-requires-clause-table
 settle_each-requires-clause-table g c κs within =
@@ -83,9 +65,7 @@ pub returns-clause-plain : goal.returns-clause-plain
 returns-clause-plain g c = λ none.
     let F = c.args.forest.now in
     let p = c.in_ok-made.made in
-    plain_over F.face none p.next
-    (settled_face F.face F.forest c.args.edge.now p.next p.faults c.in_ok-made.ensures.settles)
-    (rw c.as_slice.ensures at c.are_plain.ensures)
+    settled_plain F.face F.forest c.args.edge.now p.next p.faults c.in_ok-made.ensures.settles none
 
 pub returns-clause-face : goal.returns-clause-face
 returns-clause-face g c =
@@ -112,9 +92,7 @@ pub returns-clause-bad_plain : goal.returns-clause-bad_plain
 returns-clause-bad_plain g c = λ none.
     let F = c.args.forest.now in
     let p = c.in_ok-made.made in
-    bads_plain_over F.face none p.faults
-    (bad_face F.face F.forest c.args.edge.now p.next p.faults c.in_ok-made.ensures.settles)
-    (rw c.as_slice-2.ensures at c.bads_are_plain.ensures)
+    bad_plain F.face F.forest c.args.edge.now p.next p.faults c.in_ok-made.ensures.settles none
 
 pub returns-clause-bad_face : goal.returns-clause-bad_face
 returns-clause-bad_face g c =

@@ -38,7 +38,7 @@ pub settle_edited-requires-clause-like : goal.settle_edited-requires-clause-like
 settle_edited-requires-clause-like g c = λ ls w.
     let s = c.args.forest.now in
     let form = subst (IfGoes (HasForm s)) c.in-Goes.is c.in_ok-made.ensures.form in
-    record { face = form.face; counts = (form.vars, form.data_vars) }
+    record { face = form.face; counts = (form.vars, form.data_vars); plain = form.plain }
 
 pub settle_edited-requires-clause-calm : goal.settle_edited-requires-clause-calm
 settle_edited-requires-clause-calm g c = λ ls w q.

@@ -23,4 +23,4 @@ returns-clause-each c =
     ∙ ap (λ (F : Forest). component_at F.autos c.args.root) c.forest-2.ensures in
     each_topped S c.args.root
     (λ h. true≢false (sym (c.has_one_top.ensures.1 (subst HasOneTop (sym is) h)) ∙ c.if-has_one_top.false))
-    c.in_ok-made.made m.face m.vars m.tops m.regroups m.dressed
+    c.in_ok-made.made m.face m.vars m.plain m.tops m.regroups m.dressed
