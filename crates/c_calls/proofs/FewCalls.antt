@@ -160,34 +160,41 @@ module _ (calls : List (List ℕ)) where
   pub none_test : NoneRecurs calls → none_recurs calls ≡ true
   none_test h = below_test h (length calls)
 
-  -- Weights where no function leads to itself. `before` are functions that lead to f, none of them twice.
+  -- Where no function leads to itself. `before` are functions that lead to f, none of them twice.
 
-  module _ (statements : List ℕ) (free : NoneRecurs calls) where
-    -- a chain of n functions more may be followed
-    record Room (n f : ℕ) (before : List ℕ) : Type 0 where
-      long : length before + n ≡ length calls
-      distinct : IsDistinct before
-      leads : Every (λ x. (x < length calls) × Leads calls x f) before
+  -- a chain of n functions more may be followed
+  pub record Room (n f : ℕ) (before : List ℕ) : Type 0 where
+    pub long : length before + n ≡ length calls
+    pub distinct : IsDistinct before
+    pub leads : Every (λ x. (x < length calls) × Leads calls x f) before
 
+  pub first_room : (f : ℕ) → Room (length calls) f []
+  first_room f = record { long = omega arith; distinct = tt; leads = tt }
+
+  module _ (free : NoneRecurs calls) where
     -- f is none of those before it
     fresh : (n f : ℕ) (before : List ℕ) → Room n f before → IsIn f before → ⊥
     fresh n f before r i = free f (every_in (λ x. (x < length calls) × Leads calls x f) before f r.leads i).1
 
-    -- at the end of the room nothing is called
-    calls_none : (f g : ℕ) (before : List ℕ) → Room 0 f before → IsIn g (called_by calls f) → ⊥
-    calls_none f g before r i =
+    -- at the end of the room no function is left
+    pub none_left : (f : ℕ) (before : List ℕ) → Room 0 f before → f < length calls → ⊥
+    none_left f before r within =
         let few = few_below (f ∷ before) (length calls) (fresh 0 f before r, r.distinct) (
-          caller_within calls f g i,
+          within,
           every_weaker (λ x. (x < length calls) × Leads calls x f) (λ x. x < length calls) before (λ x p. p.0) r.leads,
         ) in
         let long = r.long in
         omega (arith, few, long)
 
+    -- so nothing is called there
+    calls_none : (f g : ℕ) (before : List ℕ) → Room 0 f before → IsIn g (called_by calls f) → ⊥
+    calls_none f g before r i = none_left f before r (caller_within calls f g i)
+
     leads_on : (x f g : ℕ) → Leads calls x f → IsIn g (called_by calls f) → Leads calls x g
     leads_on x f g (at_once i) k = through f i (at_once k)
     leads_on x f g (through h i l) k = through h i (leads_on h f g l k)
 
-    next_room : (n f g : ℕ) (before : List ℕ) → Room (suc n) f before → IsIn g (called_by calls f)
+    pub next_room : (n f g : ℕ) (before : List ℕ) → Room (suc n) f before → IsIn g (called_by calls f)
         → Room n g (f ∷ before)
     next_room n f g before r i = record {
       long = (let l = r.long in omega (arith, l));
@@ -199,6 +206,9 @@ module _ (calls : List (List ℕ)) where
       );
     }
 
+  -- Weights where no function leads to itself
+
+  module _ (statements : List ℕ) (free : NoneRecurs calls) where
     sum_weighs : (w : ℕ → ℕ) (gs : List ℕ) → ((g : ℕ) → IsIn g gs → Weighs statements calls g (w g))
         → Weigh statements calls gs (sum_of (map w gs))
     sum_weighs w [] h = none refl
@@ -211,10 +221,10 @@ module _ (calls : List (List ℕ)) where
     weighs_within : (n f : ℕ) (before : List ℕ) → Room n f before
         → Weighs statements calls f (weight_within statements calls n f)
     weighs_within zero f before r =
-        weighs (nothing_called (called_by calls f) (λ g i. calls_none f g before r i)) (omega arith)
+        weighs (nothing_called (called_by calls f) (λ g i. calls_none free f g before r i)) (omega arith)
     weighs_within (suc n) f before r =
         weighs (sum_weighs (weight_within statements calls n) (called_by calls f)
-        (λ g i. weighs_within n g (f ∷ before) (next_room n f g before r i))) refl
+        (λ g i. weighs_within n g (f ∷ before) (next_room free n f g before r i))) refl
 
     pub each_weighs : (f : ℕ) → Weighs statements calls f (weight_of statements calls f)
-    each_weighs f = weighs_within (length calls) f [] (record { long = omega arith; distinct = tt; leads = tt })
+    each_weighs f = weighs_within (length calls) f [] (first_room f)

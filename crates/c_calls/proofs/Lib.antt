@@ -1,6 +1,6 @@
 mod Callers
 mod Capping
-mod FewCalls
+pub mod FewCalls
 mod Places
 mod Rows
 mod Searches

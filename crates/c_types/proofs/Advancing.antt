@@ -7,7 +7,7 @@ use Rattle.fore_base.specs.declared.store.Store.{Store}
 use Rattle.c_types.specs.declared.mode.MallocMode.{MallocMode}
 use Rattle.c_types.specs.declared.outcome.Outcome.{Outcome}
 use Rattle.c_types.specs.declared.outcome.Outcome.TheVariants.{Ended, Fault, Starved, BadChoice, StillRunning}
-use Rattle.c_types.specs.Control.{Items, Done, Do, Close, If, Loop, Again, DoLoop, DoAgain, opened}
+use Rattle.c_types.specs.Control.{Items, Done, Do, Close, If, Loop, Again, DoLoop, DoAgain, Enter, Leave, Exit, opened}
 use Rattle.c_types.specs.Steps.{Turn, Goes, Stops, Faults, turn_of, takes, mark_of}
 use Rattle.c_types.specs.Runs.{supply, after_turn, at_end, advance, go}
 use Rattle.c_types.specs.Over.{IsOver}
@@ -86,6 +86,12 @@ module _ (shapes : List Shape) (mode : MallocMode) (line : ℕ → ℕ) where
       supply_advances (turn_of shapes mode (DoLoop c b is) s) (line 0) (step + 1) false cs used
   advances (DoAgain c b is) step s cs used =
       supply_advances (turn_of shapes mode (DoAgain c b is) s) (line 0) (step + 1) false cs used
+  advances (Enter vs ws m is) step s cs used =
+      supply_advances (turn_of shapes mode (Enter vs ws m is) s) (line m) (step + 1) false cs used
+  advances (Leave v vs a m is) step s cs used =
+      supply_advances (turn_of shapes mode (Leave v vs a m is) s) (line m) (step + 1) false cs used
+  advances (Exit v vs d m is) step s cs used =
+      supply_advances (turn_of shapes mode (Exit v vs d m is) s) (line m) (step + 1) false cs used
 
   -- A run that is over stays so with more steps.
 
@@ -99,6 +105,9 @@ module _ (shapes : List Shape) (mode : MallocMode) (line : ℕ → ℕ) where
   over_at_once (Again c n b is) m step s cs used next over = absurd over
   over_at_once (DoLoop c b is) m step s cs used next over = absurd over
   over_at_once (DoAgain c b is) m step s cs used next over = absurd over
+  over_at_once (Enter vs ws k is) m step s cs used next over = absurd over
+  over_at_once (Leave v vs a k is) m step s cs used next over = absurd over
+  over_at_once (Exit v vs d k is) m step s cs used next over = absurd over
 
   pub stays_over : (n m step : ℕ) (is : Items) (s : Store) (cs : List ℕ) (used : ℕ) → n ≤ m
       → IsOver (go shapes mode line at_end n step is s cs used) → go shapes mode line at_end m step is s cs used
@@ -142,6 +151,9 @@ module _ (shapes : List Shape) (mode : MallocMode) (line : ℕ → ℕ) where
   still_runs (Again c n b is) step kind at met e = cc
   still_runs (DoLoop c b is) step kind at met e = cc
   still_runs (DoAgain c b is) step kind at met e = cc
+  still_runs (Enter vs ws m is) step kind at met e = cc
+  still_runs (Leave v vs a m is) step kind at met e = cc
+  still_runs (Exit v vs d m is) step kind at met e = cc
 
   decided_step : (step : ℕ) (o : Outcome) (kind : Kind) (at met : ℕ) → DecidedAt step o → o ≡ Fault kind at met
       → met ≡ step

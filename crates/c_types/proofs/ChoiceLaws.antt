@@ -7,7 +7,8 @@ use Rattle.c_types.specs.declared.mode.MallocMode.{MallocMode}
 use Rattle.c_types.specs.declared.outcome.Outcome.{Outcome}
 use Rattle.c_types.specs.declared.outcome.Outcome.TheVariants.{Ended, Starved, BadChoice, StillRunning}
 use Rattle.c_types.specs.Program.{Program}
-use Rattle.c_types.specs.Control.{Items, Done, Do, Close, If, Loop, Again, DoLoop, DoAgain, opened, start_of}
+use Rattle.c_types.specs.Control.{Items, Done, Do, Close, If, Loop, Again, DoLoop, DoAgain, Enter, Leave, Exit, opened}
+use Rattle.c_types.specs.Control.{start_of}
 use Rattle.c_types.specs.Steps.{Turn, Goes, Stops, Faults, turn_of, takes, mark_of}
 use Rattle.c_types.specs.Runs.{supply, after_turn, unless_done, at_end, go, run, own_line, empty_store}
 use Rattle.c_types.specs.Over.{IsStarved}
@@ -28,6 +29,9 @@ end_or_open (Loop c n b is) = inr (record { goes = λ step o. refl })
 end_or_open (Again c n b is) = inr (record { goes = λ step o. refl })
 end_or_open (DoLoop c b is) = inr (record { goes = λ step o. refl })
 end_or_open (DoAgain c b is) = inr (record { goes = λ step o. refl })
+end_or_open (Enter vs ws m is) = inr (record { goes = λ step o. refl })
+end_or_open (Leave v vs a m is) = inr (record { goes = λ step o. refl })
+end_or_open (Exit v vs d m is) = inr (record { goes = λ step o. refl })
 
 -- the rest of a run, given a choice, the choices that are left, and how many were used
 abbrev Given : Type 0

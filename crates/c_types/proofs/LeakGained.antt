@@ -1,6 +1,6 @@
 -- Changes of a store that bring no reference but to cells that were reached: a cell that had leaked stays so.
 use Rattle.std.proofs.Common.{◌≡◌, ◌⊎◌, inl, inr, ℕ, zero, suc, Bool, true, false, nat_eq, if◌then◌else◌, Result, Ok}
-use Rattle.std.proofs.Common.{Err, List, [], ◌∷◌, slice_set, slice_index_or, refl, sym, ap, ◌∙◌, subst, true≢false}
+use Rattle.std.proofs.Common.{Err, Option, Some, None, List, [], ◌∷◌, slice_set, slice_index_or, refl, sym, ap, ◌∙◌, subst, true≢false}
 use Rattle.std.proofs.lemmas.Bool.{eqb-true}
 use Rattle.fore_base.specs.declared.fault.Fault.{Fault}
 use Rattle.fore_base.specs.declared.fault.Fault.TheVariants.{Leak}
@@ -12,7 +12,7 @@ use Rattle.fore_base.specs.declared.store.CellRec.{CellRec}
 use Rattle.fore_base.specs.declared.store.Store.{Store}
 use Rattle.fore_base.specs.Lists.{IsIn, Paired}
 use Rattle.fore_base.specs.Heap.{Reach, by_var, by_field, Leaked, leaks}
-use Rattle.fore_base.specs.Stores.{onward, var_of, set_var, set_datum, set_each, kill, field_in, with_field, with_datum}
+use Rattle.fore_base.specs.Stores.{onward, var_of, datum_of, set_var, set_datum, set_each, kill, field_in, with_field, with_datum}
 use Rattle.fore_base.specs.Stores.{walk, write_from, store_datum, freed}
 use Rattle.fore_base.proofs.ListLemmas.{paired_same}
 use Rattle.fore_base.proofs.Leaks.{leaks_leaked, sound_unleaked}
@@ -24,11 +24,23 @@ use Rattle.c_types.specs.declared.program.PtrRhs.{PtrRhs}
 use Rattle.c_types.specs.declared.program.PtrRhs.TheVariants.{Path as RhsPath, Null as RhsNull, New as RhsNew}
 use Rattle.c_types.specs.declared.program.Act.{Act}
 use Rattle.c_types.specs.declared.program.Act.TheVariants.{SetPtr, SetData, Free, Error, Halt, Return, Break, Continue}
-use Rattle.c_types.specs.Control.{Items, Done, Do, Close, If, Loop, Again, DoLoop, DoAgain, Ask, Not, Both, Either}
-use Rattle.c_types.specs.Control.{closed_ptrs, closed_datums, after_again, from_again, ◌then◌}
+use Rattle.c_types.specs.declared.program.Act.TheVariants.{Leave as LeaveAct}
+use Rattle.c_types.specs.declared.program.PtrOp.{PtrOp}
+use Rattle.c_types.specs.declared.program.PtrOp.TheVariants.{Path as OpPath, Null as OpNull}
+use Rattle.c_types.specs.declared.program.VarRef.{VarRef}
+use Rattle.c_types.specs.declared.program.VarRef.TheVariants.{Ptr as PtrVar, Data as DatumVar}
+use Rattle.c_types.specs.declared.program.Arg.{Arg}
+use Rattle.c_types.specs.declared.program.Arg.TheVariants.{Ptr as PtrArg, Data as DataArg}
+use Rattle.c_types.specs.declared.program.Dest.{Dest}
+use Rattle.c_types.specs.declared.program.Dest.TheVariants.{Ptr as PtrDest, Data as DataDest}
+use Rattle.c_types.specs.Control.{Items, Done, Do, Close, If, Loop, Again, DoLoop, DoAgain, Enter, Leave, Exit, Ask, Not}
+use Rattle.c_types.specs.Control.{Both, Either, closed_ptrs, closed_datums, after_again, from_again, from_exit, ◌then◌}
+use Rattle.c_types.specs.Control.{ptr_vars, datum_vars, with_result}
 use Rattle.c_types.specs.Steps.{Goes, Faults, read, read_data_rhs, look_at, atom_of, write_path, write_data, assign}
 use Rattle.c_types.specs.Steps.{assign_data, free_path, settle, settled, act_turn, test_turn, turn_of}
+use Rattle.c_types.specs.Steps.{read_op, read_data_op, give, enter, give_back, without, leave, hand, hand_over, exit}
 use Rattle.c_types.specs.Losses.{is_cell, got_cell, assign_loses, act_loses, loses}
+use Rattle.c_types.proofs.Fitting.{Gives, onward_gives}
 use Rattle.c_types.proofs.Turns.{finished_stops}
 
 -- what the value refers to is reached
@@ -249,6 +261,82 @@ freed_adds s Uninit none t e = cc
 freed_adds s Dangling none t e = cc
 freed_adds s (Cell n) none t e = absurd (true≢false none)
 
+-- Calls: several changes, one after the other
+
+told_before : (u s : Store) (v : Value) → Adds u s → IsTold s v → IsTold u v
+told_before u s v a told n e = reach_back u s a (told n e)
+
+set_var_more : (u s : Store) (x : ℕ) (v : Value) → Adds u s → IsTold s v → Adds u (set_var s x v)
+set_var_more u s x v a told = record {
+  vars = λ n h. elim (in_set s.vars x v n h) [ inl i ↦ a.vars n i | inr e ↦ told_before u s v a told n e ];
+  cells = a.cells;
+}
+
+kill_more : (u s : Store) (ps ds : List ℕ) → Adds u s → Adds u (kill ps ds s)
+kill_more u s ps ds a = record { vars = λ n h. a.vars n (in_unset s.vars ps n h); cells = a.cells }
+
+read_op_told : (s : Store) (q : PtrOp) → Gives (IsTold s) (read_op s q)
+read_op_told s OpNull = null_told s
+read_op_told s (OpPath q) = here (read s q) refl
+  where
+    here : (r : Result Value Fault) → read s q ≡ r → Gives (IsTold s) r
+    here (Ok v) is = read_told s q v is
+    here (Err k) is = tt
+
+always : {A : Type 0} (r : Result A Fault) → Gives (λ a. Unit {0}) r
+always (Ok a) = tt
+always (Err k) = tt
+
+give_adds : (u s : Store) (v : VarRef) (a : Arg) → Adds u s → Gives (Adds u) (give s v a)
+give_adds u s (PtrVar x) (PtrArg q) a =
+    onward_gives (IsTold s) (Adds u) (read_op s q) (λ w. Ok (set_var s x w)) (read_op_told s q)
+    (λ w told. set_var_more u s x w a told)
+give_adds u s (PtrVar x) (DataArg q) a = a
+give_adds u s (DatumVar x) (PtrArg q) a = a
+give_adds u s (DatumVar x) (DataArg q) a =
+    onward_gives (λ d. Unit {0}) (Adds u) (read_data_op s q) (λ d. Ok (set_datum s x d)) (always (read_data_op s q))
+    (λ d this. record { vars = a.vars; cells = a.cells })
+
+enter_adds : (u s : Store) (vs : List VarRef) (ws : List Arg) → Adds u s → Gives (Adds u) (enter s vs ws)
+enter_adds u s [] ws a = a
+enter_adds u s (v ∷ vs) [] a = a
+enter_adds u s (v ∷ vs) (w ∷ ws) a =
+    onward_gives (Adds u) (Adds u) (give s v w) (λ t. enter t vs ws) (give_adds u s v w a)
+    (λ t this. enter_adds u t vs ws this)
+
+without_adds : (u : Store) (vs : List VarRef) (r : Result Store Fault) → Gives (Adds u) r
+    → Gives (Adds u) (onward r (λ t. Ok (without vs t)))
+without_adds u vs r a =
+    onward_gives (Adds u) (Adds u) r (λ t. Ok (without vs t)) a
+    (λ t this. kill_more u t (ptr_vars vs) (datum_vars vs) this)
+
+give_back_adds : (s : Store) (v : Option VarRef) (a : Option Arg) → Gives (Adds s) (give_back s v a)
+give_back_adds s None a = adds_none s
+give_back_adds s (Some v) None = adds_none s
+give_back_adds s (Some v) (Some a) = give_adds s s v a (adds_none s)
+
+gives_all : (s : Store) (r : Result Store Fault) → AddsAll s r → Gives (Adds s) r
+gives_all s (Ok t) h = h t refl
+gives_all s (Err k) h = tt
+
+all_given : (s : Store) (r : Result Store Fault) → Gives (Adds s) r → AddsAll s r
+all_given s (Ok u) h t e = let same : u ≡ t = cc in subst (Adds s) same h
+all_given s (Err k) h t e = cc
+
+hand_adds : (s : Store) (v : VarRef) (d : Dest) → Gives (Adds s) (hand s v d)
+hand_adds s (PtrVar x) (PtrDest q) =
+    gives_all s (write_path s q.var q.fields (var_of s x))
+    (write_path_adds s q.var q.fields (var_of s x) (var_told s x))
+hand_adds s (PtrVar x) (DataDest q) = adds_none s
+hand_adds s (DatumVar x) (PtrDest q) = adds_none s
+hand_adds s (DatumVar x) (DataDest q) =
+    gives_all s (write_data s q (datum_of s x)) (write_data_adds s q (datum_of s x))
+
+hand_over_adds : (s : Store) (v : Option VarRef) (d : Option Dest) → Gives (Adds s) (hand_over s v d)
+hand_over_adds s None d = adds_none s
+hand_over_adds s (Some v) None = adds_none s
+hand_over_adds s (Some v) (Some d) = hand_adds s v d
+
 -- Turns
 
 leaked_settles : (t : Store) (is js : Items) (u : Store) → leaks t ≡ true → settle t is ≡ Goes js u → ⊥
@@ -272,6 +360,7 @@ module _ (shapes : List Shape) (mode : MallocMode) where
       (onward_adds s (read s p) (freed s) (λ v same. freed_adds s v (ap got_cell (sym same) ∙ none))) leak e
   act_leaks Error is js s t x none leak e = cc
   act_leaks Halt is js s t x none leak e = cc
+  act_leaks (LeaveAct f value) is js s t x none leak e = cc
   act_leaks (Return operand) is js s t x none leak e = finished_stops (look_at s operand) js t e
   act_leaks Break is js s t x none leak e =
       leaked_settles _ (after_again is) js t (added_leaks s _ (kill_adds s (closed_ptrs is) (closed_datums is)) leak) e
@@ -300,3 +389,12 @@ module _ (shapes : List Shape) (mode : MallocMode) where
   turn_leaks (Again c n b is) js s t x none leak e = cc
   turn_leaks (DoLoop c b is) js s t x none leak e = cc
   turn_leaks (DoAgain c b is) js s t x none leak e = cc
+  turn_leaks (Enter vs ws m is) js s t x none leak e =
+      settled_leaks s (enter s vs ws) is js t (all_given s (enter s vs ws) (enter_adds s s vs ws (adds_none s))) leak e
+  turn_leaks (Leave v vs a m is) js s t x none leak e =
+      settled_leaks s (leave s v vs a) (from_exit is) js t
+      (all_given s (leave s v vs a) (without_adds s vs (give_back s v a) (give_back_adds s v a))) leak e
+  turn_leaks (Exit v vs d m is) js s t x none leak e =
+      settled_leaks s (exit s v vs d) is js t
+      (all_given s (exit s v vs d)
+      (without_adds s (with_result v vs) (hand_over s v d) (hand_over_adds s v d))) leak e

@@ -74,7 +74,7 @@ kept_sound s t k sound = here (leaks t) refl
     here true is = absurd (leaked (leaks_leaked t is))
     here false is = is
 
-same_cells : (cs : List CellRec) → Paired KeptCell cs cs
+pub same_cells : (cs : List CellRec) → Paired KeptCell cs cs
 same_cells cs = paired_same KeptCell (λ c. (refl, λ n h. h)) cs
 
 pub keeps_all : (s : Store) → Keeps s s
@@ -109,7 +109,7 @@ set_var_keeps s x v e = record { vars = set_kept s.vars x v e; cells = same_cell
 pub set_datum_keeps : (s : Store) (x : ℕ) (d : Datum) → Keeps s (set_datum s x d)
 set_datum_keeps s x d = record { vars = λ n h. h; cells = same_cells s.cells }
 
-or_none : (a b : Bool) → (a || b) ≡ false → (a ≡ false) × (b ≡ false)
+pub or_none : (a b : Bool) → (a || b) ≡ false → (a ≡ false) × (b ≡ false)
 or_none true b e = absurd (true≢false e)
 or_none false b e = (refl, e)
 
@@ -179,7 +179,26 @@ store_datum_keeps s t Dangling f d e = cc
 store_datum_keeps s t (Cell n) f d e = let same : record s { cells = with_datum s.cells n f d } ≡ t = cc in
     subst (Keeps s) same (datum_keeps s n f d)
 
+pub store_datum_vars : (s t : Store) (v : Value) (f : ℕ) (d : Datum) → store_datum s v f d ≡ Ok t → t.vars ≡ s.vars
+store_datum_vars s t Null f d e = cc
+store_datum_vars s t Uninit f d e = cc
+store_datum_vars s t Dangling f d e = cc
+store_datum_vars s t (Cell n) f d e = let same : record s { cells = with_datum s.cells n f d } ≡ t = cc in
+    ap (λ (u : Store). u.vars) (sym same)
+
 -- Paths: what stood at the end of the path was no cell
+
+pub write_from_vars : (s t : Store) (fs : List ℕ) (v : Value) (f : ℕ) (new : Value) → write_from s v f fs new ≡ Ok t
+    → t.vars ≡ s.vars
+write_from_vars s t [] Null f new e = cc
+write_from_vars s t [] Uninit f new e = cc
+write_from_vars s t [] Dangling f new e = cc
+write_from_vars s t [] (Cell n) f new e = let same : record s { cells = with_field s.cells n f new } ≡ t = cc in
+    ap (λ (u : Store). u.vars) (sym same)
+write_from_vars s t (g ∷ gs) Null f new e = cc
+write_from_vars s t (g ∷ gs) Uninit f new e = cc
+write_from_vars s t (g ∷ gs) Dangling f new e = cc
+write_from_vars s t (g ∷ gs) (Cell n) f new e = write_from_vars s t gs (field_in s.cells n f) g new e
 
 pub write_from_keeps : (s t : Store) (fs : List ℕ) (v : Value) (f : ℕ) (old new : Value) → walk s v (f ∷ fs) ≡ Ok old
     → is_cell old ≡ false → write_from s v f fs new ≡ Ok t → Keeps s t

@@ -1,6 +1,6 @@
 -- A step that takes no reference to a cell away: its leak test has the answer that it had before.
 use Rattle.std.proofs.Common.{◌≡◌, ℕ, Bool, true, false, if◌then◌else◌, Option, Some, None, Result, Ok, Err, List, []}
-use Rattle.std.proofs.Common.{◌∷◌, length, refl, sym, ap, ◌∙◌, subst, true≢false}
+use Rattle.std.proofs.Common.{◌∷◌, ◌||◌, length, slice_index_or, refl, sym, ap, ◌∙◌, subst, true≢false}
 use Rattle.fore_base.specs.declared.fault.Fault.{Fault}
 use Rattle.fore_base.specs.declared.fault.Fault.TheVariants.{Leak}
 use Rattle.fore_base.specs.declared.shape.Shape.{Shape}
@@ -10,7 +10,7 @@ use Rattle.fore_base.specs.declared.store.Datum.{Datum}
 use Rattle.fore_base.specs.declared.store.Datum.TheVariants.{Undefined, Known}
 use Rattle.fore_base.specs.declared.store.Store.{Store}
 use Rattle.fore_base.specs.Heap.{leaks}
-use Rattle.fore_base.specs.Stores.{onward, followed, load_datum, store_at, store_datum, var_of, set_datum, field_in}
+use Rattle.fore_base.specs.Stores.{onward, followed, load_datum, store_at, store_datum, var_of, datum_of, set_datum, field_in}
 use Rattle.fore_base.specs.Stores.{walk, write_from, freed}
 use Rattle.c_types.specs.declared.mode.MallocMode.{MallocMode}
 use Rattle.c_types.specs.declared.program.Path.{Path}
@@ -30,15 +30,26 @@ use Rattle.c_types.specs.declared.program.Atom.TheVariants.{Choice as ChoiceAtom
 use Rattle.c_types.specs.declared.program.Atom.TheVariants.{Data as DataAtom}
 use Rattle.c_types.specs.declared.program.Act.{Act}
 use Rattle.c_types.specs.declared.program.Act.TheVariants.{SetPtr, SetData, Free, Error, Halt, Return, Break, Continue}
-use Rattle.c_types.specs.Control.{Items, Done, Do, Close, If, Loop, Again, DoLoop, DoAgain, Ask, Not, Both, Either}
-use Rattle.c_types.specs.Control.{closed_ptrs, closed_datums, after_again, from_again, ◌then◌}
+use Rattle.c_types.specs.declared.program.Act.TheVariants.{Leave as LeaveAct}
+use Rattle.c_types.specs.declared.program.VarRef.{VarRef}
+use Rattle.c_types.specs.declared.program.VarRef.TheVariants.{Ptr as PtrVar, Data as DatumVar}
+use Rattle.c_types.specs.declared.program.Arg.{Arg}
+use Rattle.c_types.specs.declared.program.Arg.TheVariants.{Ptr as PtrArg, Data as DataArg}
+use Rattle.c_types.specs.declared.program.Dest.{Dest}
+use Rattle.c_types.specs.declared.program.Dest.TheVariants.{Ptr as PtrDest, Data as DataDest}
+use Rattle.c_types.specs.Control.{Items, Done, Do, Close, If, Loop, Again, DoLoop, DoAgain, Enter, Leave, Exit, Ask, Not}
+use Rattle.c_types.specs.Control.{Both, Either, closed_ptrs, closed_datums, after_again, from_again, from_exit, ◌then◌}
+use Rattle.c_types.specs.Control.{ptr_vars, datum_vars, with_result}
 use Rattle.c_types.specs.Steps.{Goes, Stops, Faults, read, read_data, read_op, read_data_op, read_data_rhs, look_at}
 use Rattle.c_types.specs.Steps.{same_values, same_datums, atom_of, write_path, write_data, makes_cell, assign_new}
 use Rattle.c_types.specs.Steps.{assign, assign_data, free_path, settle, settled, finished, all_dead, below, act_turn}
 use Rattle.c_types.specs.Steps.{test_turn, turn_of}
-use Rattle.c_types.specs.Losses.{is_cell, got_cell, assign_loses, act_loses, loses}
+use Rattle.c_types.specs.Steps.{give, enter, give_back, without, leave, hand, hand_over, exit}
+use Rattle.c_types.specs.Losses.{is_cell, got_cell, assign_loses, act_loses, dest_loses, to_loses, vars_hold, loses}
 use Rattle.c_types.proofs.LeakKept.{Keeps, kept_sound, keeps_all, set_datum_keeps, kill_keeps, store_datum_keeps}
-use Rattle.c_types.proofs.LeakKept.{write_path_keeps}
+use Rattle.c_types.proofs.LeakKept.{write_path_keeps, write_from_keeps, write_from_vars, store_datum_vars, or_none}
+use Rattle.c_types.proofs.HeldOn.{HoldsOn, holds_same, holds_keeps, set_holds, enter_holds, leave_holds, without_holds}
+use Rattle.c_types.proofs.Fitting.{Gives}
 
 -- No fault of an evaluation is a leak
 
@@ -218,6 +229,94 @@ assign_new_clean : (shapes : List Shape) (b : Bool) (s : Store) (to : Path) (sha
 assign_new_clean shapes true s to shape = write_path_clean _ to.var to.fields (Cell s.next)
 assign_new_clean shapes false s to shape = write_path_clean s to.var to.fields Null
 
+-- Calls
+
+give_clean : (s : Store) (v : VarRef) (a : Arg) → NoLeak (give s v a)
+give_clean s (PtrVar x) (PtrArg q) = onward_clean (read_op s q) _ (read_op_clean s q) (λ w. tt)
+give_clean s (PtrVar x) (DataArg q) = tt
+give_clean s (DatumVar x) (PtrArg q) = tt
+give_clean s (DatumVar x) (DataArg q) = onward_clean (read_data_op s q) _ (read_data_op_clean s q) (λ d. tt)
+
+enter_clean : (s : Store) (vs : List VarRef) (ws : List Arg) → NoLeak (enter s vs ws)
+enter_clean s [] ws = tt
+enter_clean s (v ∷ vs) [] = tt
+enter_clean s (v ∷ vs) (a ∷ ws) =
+    onward_clean (give s v a) (λ t. enter t vs ws) (give_clean s v a) (λ t. enter_clean t vs ws)
+
+give_back_clean : (s : Store) (v : Option VarRef) (a : Option Arg) → NoLeak (give_back s v a)
+give_back_clean s None a = tt
+give_back_clean s (Some v) None = tt
+give_back_clean s (Some v) (Some a) = give_clean s v a
+
+leave_clean : (s : Store) (v : Option VarRef) (vs : List VarRef) (a : Option Arg) → NoLeak (leave s v vs a)
+leave_clean s v vs a = onward_clean (give_back s v a) (λ t. Ok (without vs t)) (give_back_clean s v a) (λ t. tt)
+
+hand_clean : (s : Store) (v : VarRef) (d : Dest) → NoLeak (hand s v d)
+hand_clean s (PtrVar x) (PtrDest q) = write_path_clean s q.var q.fields (var_of s x)
+hand_clean s (PtrVar x) (DataDest q) = tt
+hand_clean s (DatumVar x) (PtrDest q) = tt
+hand_clean s (DatumVar x) (DataDest q) = write_data_clean s q (datum_of s x)
+
+hand_over_clean : (s : Store) (v : Option VarRef) (d : Option Dest) → NoLeak (hand_over s v d)
+hand_over_clean s None d = tt
+hand_over_clean s (Some v) None = tt
+hand_over_clean s (Some v) (Some d) = hand_clean s v d
+
+exit_clean : (s : Store) (v : Option VarRef) (vs : List VarRef) (d : Option Dest) → NoLeak (exit s v vs d)
+exit_clean s v vs d =
+    onward_clean (hand_over s v d) (λ t. Ok (without (with_result v vs) t)) (hand_over_clean s v d) (λ t. tt)
+
+-- what a change gives, by what it does where it gives something
+gives_by : {A : Type 0} (P : A → Type 0) (r : Result A Fault) → ((a : A) → r ≡ Ok a → P a) → Gives P r
+gives_by P (Ok a) h = h a refl
+gives_by P (Err k) h = tt
+
+held_keeps : (s : Store) (r : Result Store Fault) → Gives (HoldsOn s) r → KeepsAll s r
+held_keeps s (Ok u) h t e = let same : u ≡ t = cc in subst (Keeps s) same (holds_keeps s u h)
+held_keeps s (Err k) h t e = cc
+
+-- a cell's fields change, and no variable does
+fields_hold : (s t : Store) → t.vars ≡ s.vars → Keeps s t → HoldsOn s t
+fields_hold s t same keeps = record {
+  vars = λ k n e. ap (λ vs. slice_index_or vs k Uninit) same ∙ e;
+  cells = keeps.cells;
+}
+
+path_holds : (s : Store) (x : ℕ) (fs : List ℕ) (w : Value) → got_cell (walk s (var_of s x) fs) ≡ false
+    → Gives (HoldsOn s) (write_path s x fs w)
+path_holds s x [] w none = set_holds s s x w none (holds_same s)
+path_holds s x (f ∷ fs) w none = gives_by (HoldsOn s) (write_from s (var_of s x) f fs w) (λ t e.
+    let old : (v : Value) × (walk s (var_of s x) (f ∷ fs) ≡ Ok v) = walk_wrote s t fs (var_of s x) f w e in
+    fields_hold s t (write_from_vars s t fs (var_of s x) f w e)
+    (write_from_keeps s t fs (var_of s x) f old.0 w old.1 (ap got_cell (sym old.1) ∙ none) e))
+
+data_holds : (s : Store) (q : DataPath) (d : Datum) → Gives (HoldsOn s) (write_data s q d)
+data_holds s (DataVar x) d = record { vars = λ k n e. e; cells = (set_datum_keeps s x d).cells }
+data_holds s (DataField base f) d = gives_by (HoldsOn s) (write_data s (DataField base f) d) (λ t e.
+    fields_hold s t (kept_vars t (read s base) e) (write_data_keeps s (DataField base f) d t e))
+  where
+    kept_vars : (t : Store) (r : Result Value Fault) → onward r (λ v. store_datum s v f d) ≡ Ok t → t.vars ≡ s.vars
+    kept_vars t (Ok v) e = store_datum_vars s t v f d e
+    kept_vars t (Err k) e = cc
+
+hand_holds : (s : Store) (v : VarRef) (d : Dest) → dest_loses s d ≡ false → Gives (HoldsOn s) (hand s v d)
+hand_holds s (PtrVar x) (PtrDest q) none = path_holds s q.var q.fields (var_of s x) none
+hand_holds s (PtrVar x) (DataDest q) none = holds_same s
+hand_holds s (DatumVar x) (PtrDest q) none = holds_same s
+hand_holds s (DatumVar x) (DataDest q) none = data_holds s q (datum_of s x)
+
+hand_over_holds : (s : Store) (v : Option VarRef) (d : Option Dest) → to_loses s d ≡ false
+    → Gives (HoldsOn s) (hand_over s v d)
+hand_over_holds s None d none = holds_same s
+hand_over_holds s (Some v) None none = holds_same s
+hand_over_holds s (Some v) (Some d) none = hand_holds s v d none
+
+exit_holds : (s : Store) (v : Option VarRef) (vs : List VarRef) (d : Option Dest)
+    → (to_loses s d || vars_hold s (with_result v vs)) ≡ false → Gives (HoldsOn s) (exit s v vs d)
+exit_holds s v vs d none =
+    let parts = or_none (to_loses s d) (vars_hold s (with_result v vs)) none in
+    without_holds s (with_result v vs) (hand_over s v d) parts.1 (hand_over_holds s v d parts.0)
+
 -- Turns
 
 sound_settles : (t : Store) (is : Items) → leaks t ≡ false → settle t is ≡ Faults Leak → ⊥
@@ -256,6 +355,7 @@ module _ (shapes : List Shape) (mode : MallocMode) where
       (free_keeps s p none) sound e
   act_sound Error is s x none sound e = cc
   act_sound Halt is s x none sound e = cc
+  act_sound (LeaveAct f value) is s x none sound e = cc
   act_sound (Return operand) is s x none sound e =
       finished_sound s (look_at s operand) (look_at_clean s operand)
       (λ t same. subst (λ (u : Store). leaks (all_dead u) ≡ false) (look_keeps s operand t same)
@@ -285,3 +385,12 @@ module _ (shapes : List Shape) (mode : MallocMode) where
   turn_sound (Again c n b is) s x none sound e = cc
   turn_sound (DoLoop c b is) s x none sound e = cc
   turn_sound (DoAgain c b is) s x none sound e = cc
+  turn_sound (Enter vs ws m is) s x none sound e =
+      settled_sound s (enter s vs ws) is (enter_clean s vs ws)
+      (held_keeps s (enter s vs ws) (enter_holds s s vs ws none (holds_same s))) sound e
+  turn_sound (Leave v vs a m is) s x none sound e =
+      settled_sound s (leave s v vs a) (from_exit is) (leave_clean s v vs a)
+      (held_keeps s (leave s v vs a) (leave_holds s v vs a none)) sound e
+  turn_sound (Exit v vs d m is) s x none sound e =
+      settled_sound s (exit s v vs d) is (exit_clean s v vs d)
+      (held_keeps s (exit s v vs d) (exit_holds s v vs d none)) sound e

@@ -12,3 +12,5 @@ pub mod LeakKept
 pub mod ChoiceLaws
 pub mod LeakTests
 pub mod LeakGained
+pub mod HeldOn
+pub mod DeepCalls

@@ -1,12 +1,12 @@
 -- Steps keep stores proper and fitting.
 use Rattle.std.proofs.Common.{◌≡◌, ◌<◌, ℕ, Bool, true, false, is_some, Option, Some, None, Result, Ok, Err, length}
-use Rattle.std.proofs.Common.{refl, sym, ap, subst, true≢false}
-use Rattle.std.proofs.lemmas.Bool.{eqb-true}
+use Rattle.std.proofs.Common.{List, [], ◌∷◌, refl, sym, ap, subst, true≢false}
+use Rattle.std.proofs.lemmas.Bool.{eqb-true, and_parts}
 use Rattle.fore_base.specs.declared.fault.Fault.{Fault}
 use Rattle.fore_base.specs.declared.store.Value.TheVariants.{Null, Cell}
 use Rattle.fore_base.specs.declared.store.Datum.{Datum}
 use Rattle.fore_base.specs.declared.store.Store.{Store}
-use Rattle.fore_base.specs.Stores.{kill, store_datum, grown, freed}
+use Rattle.fore_base.specs.Stores.{var_of, datum_of, set_var, set_datum, kill, store_datum, grown, freed}
 use Rattle.fore_base.specs.Heap.{IsProper, leaks}
 use Rattle.c_types.specs.declared.mode.MallocMode.{MallocMode}
 use Rattle.c_types.specs.declared.program.Path.{Path}
@@ -16,11 +16,21 @@ use Rattle.c_types.specs.declared.program.PtrRhs.{PtrRhs}
 use Rattle.c_types.specs.declared.program.PtrRhs.TheVariants.{Path as RhsPath, Null as RhsNull, New as RhsNew}
 use Rattle.c_types.specs.declared.program.Act.{Act}
 use Rattle.c_types.specs.declared.program.Act.TheVariants.{SetPtr, SetData, Free, Error, Halt, Return, Break, Continue}
-use Rattle.c_types.specs.Program.{Program, is_target, both_targets, path_target, rhs_typed, is_typed}
-use Rattle.c_types.specs.Control.{Items, Done, Do, Close, If, Loop, Again, DoLoop, DoAgain, Ask, Not, Both, Either}
-use Rattle.c_types.specs.Control.{◌then◌, opened, after_again, from_again, closed_ptrs, closed_datums, start_of}
+use Rattle.c_types.specs.declared.program.Act.TheVariants.{Leave as LeaveAct}
+use Rattle.c_types.specs.declared.program.VarRef.{VarRef}
+use Rattle.c_types.specs.declared.program.VarRef.TheVariants.{Ptr as PtrVar, Data as DatumVar}
+use Rattle.c_types.specs.declared.program.Arg.{Arg}
+use Rattle.c_types.specs.declared.program.Arg.TheVariants.{Ptr as PtrArg, Data as DataArg}
+use Rattle.c_types.specs.declared.program.PtrOp.TheVariants.{Path as OpPath, Null as OpNull}
+use Rattle.c_types.specs.declared.program.Dest.{Dest}
+use Rattle.c_types.specs.declared.program.Dest.TheVariants.{Ptr as PtrDest, Data as DataDest}
+use Rattle.c_types.specs.Program.{Program, is_target, both_targets, path_target, var_target, rhs_typed, arg_typed}
+use Rattle.c_types.specs.Program.{args_typed, value_typed, dest_typed, to_typed, is_typed}
+use Rattle.c_types.specs.Control.{Items, Done, Do, Close, If, Loop, Again, DoLoop, DoAgain, Enter, Leave, Exit, Ask, Not}
+use Rattle.c_types.specs.Control.{Both, Either, ◌then◌, opened, after_again, from_again, from_exit, closed_ptrs}
+use Rattle.c_types.specs.Control.{closed_datums, ptr_vars, datum_vars, with_result, start_of}
 use Rattle.c_types.specs.Steps.{Turn, Goes, Stops, Faults, read, read_data_rhs, write_path, write_data, blank}
-use Rattle.c_types.specs.Steps.{makes_cell}
+use Rattle.c_types.specs.Steps.{◌>>=◌, makes_cell, read_data_op, give, enter, give_back, without, leave, hand, hand_over, exit}
 use Rattle.c_types.specs.Steps.{assign_new, assign, look_at, all_dead, settle, settled, finished, act_turn, test_turn}
 use Rattle.c_types.specs.Steps.{atom_of, turn_of}
 use Rattle.c_types.specs.Runs.{empty_store}
@@ -28,8 +38,8 @@ use Rattle.c_types.specs.Fits.{PointsTo, FitsProgram, Visited, start, step, ActF
 use Rattle.c_types.proofs.Fitting.{Gives, onward_gives, PathLeads, path_leads, path_below, Sound, is_sound, sound_fits}
 use Rattle.c_types.proofs.Fitting.{sound_proper, read_gives, path_sound, set_datum_sound, store_datum_sound, kill_sound}
 use Rattle.c_types.proofs.Fitting.{grown_sound, grown_points, freed_sound, empty_sound}
-use Rattle.c_types.proofs.ItemsTyped.{then_fit, opened_fit, after_fit, from_fit, has_shapes_typed, has_vars_typed}
-use Rattle.c_types.proofs.ItemsTyped.{start_fits}
+use Rattle.c_types.proofs.ItemsTyped.{then_fit, opened_fit, after_fit, from_fit, exit_fit, has_shapes_typed}
+use Rattle.c_types.proofs.ItemsTyped.{has_vars_typed, start_fits}
 
 -- where a turn goes on, what it goes on with meets P
 abbrev pub TurnGives : (Items → Store → Type 0) → Turn → Type 0
@@ -118,6 +128,84 @@ module _ (p : Program) (typed : is_typed p ≡ true) where
       onward_gives (λ v. Unit {0}) (Sound p) (read s base) (λ v. store_datum s v f d) (always (read s base))
       (λ v this. store_datum_sound p s v f d sound)
 
+  -- Calls
+
+  abbrev fits_arg : VarRef → Arg → Type 0
+  fits_arg v a = arg_typed p.shapes.structs p.vars (length p.data_vars) v a ≡ true
+
+  -- the path of a variable alone
+  abbrev bare : ℕ → Path
+  bare x = record { var = x; fields = [] }
+
+  give_sound : (s : Store) (v : VarRef) (a : Arg) → fits_arg v a → Sound p s → Gives (Sound p) (give s v a)
+  give_sound s (PtrVar x) (PtrArg (OpPath q)) e sound =
+      let both : (t : ℕ) × (target (bare x) ≡ Some t) × (target q ≡ Some t) = agreed (target (bare x)) (target q) e in
+      onward_gives (PointsTo s.cells both.0) (Sound p) (read s q) (λ w. Ok (set_var s x w))
+      (read_gives p s q both.0 sound (path_leads p q both.0 both.2))
+      (λ w points. path_sound p s (bare x) both.0 w sound (path_leads p (bare x) both.0 both.1) points)
+  give_sound s (PtrVar x) (PtrArg OpNull) e sound =
+      let some : (t : ℕ) × (target (bare x) ≡ Some t) = some_target (target (bare x)) e in
+      path_sound p s (bare x) some.0 Null sound (path_leads p (bare x) some.0 some.1) tt
+  give_sound s (PtrVar x) (DataArg q) e sound = sound
+  give_sound s (DatumVar x) (PtrArg q) e sound = sound
+  give_sound s (DatumVar x) (DataArg q) e sound =
+      onward_gives (λ d. Unit {0}) (Sound p) (read_data_op s q) (λ d. Ok (set_datum s x d)) (always (read_data_op s q))
+      (λ d this. set_datum_sound p s x d sound)
+
+  enter_sound : (s : Store) (vs : List VarRef) (ws : List Arg)
+      → args_typed p.shapes.structs p.vars (length p.data_vars) vs ws ≡ true → Sound p s
+      → Gives (Sound p) (enter s vs ws)
+  enter_sound s [] ws e sound = sound
+  enter_sound s (v ∷ vs) [] e sound = sound
+  enter_sound s (v ∷ vs) (a ∷ ws) e sound =
+      let parts = and_parts (arg_typed p.shapes.structs p.vars (length p.data_vars) v a)
+      (args_typed p.shapes.structs p.vars (length p.data_vars) vs ws) e in
+      onward_gives (Sound p) (Sound p) (give s v a) (λ t. enter t vs ws) (give_sound s v a parts.0 sound)
+      (λ t this. enter_sound t vs ws parts.1 this)
+
+  give_back_sound : (s : Store) (result : Option VarRef) (value : Option Arg)
+      → value_typed p.shapes.structs p.vars (length p.data_vars) result value ≡ true → Sound p s
+      → Gives (Sound p) (give_back s result value)
+  give_back_sound s None value e sound = sound
+  give_back_sound s (Some v) None e sound = sound
+  give_back_sound s (Some v) (Some a) e sound = give_sound s v a e sound
+
+  without_sound : (vs : List VarRef) (r : Result Store Fault) → Gives (Sound p) r
+      → Gives (Sound p) (r >>= (λ t. Ok (without vs t)))
+  without_sound vs r sound =
+      onward_gives (Sound p) (Sound p) r (λ t. Ok (without vs t)) sound
+      (λ t this. kill_sound p (ptr_vars vs) (datum_vars vs) t this)
+
+  leave_sound : (s : Store) (result : Option VarRef) (locals : List VarRef) (value : Option Arg)
+      → value_typed p.shapes.structs p.vars (length p.data_vars) result value ≡ true → Sound p s
+      → Gives (Sound p) (leave s result locals value)
+  leave_sound s result locals value e sound =
+      without_sound locals (give_back s result value) (give_back_sound s result value e sound)
+
+  hand_sound : (s : Store) (v : VarRef) (d : Dest)
+      → dest_typed p.shapes.structs p.vars (length p.data_vars) v d ≡ true → Sound p s
+      → Gives (Sound p) (hand s v d)
+  hand_sound s (PtrVar x) (PtrDest q) e sound =
+      let both : (t : ℕ) × (target (bare x) ≡ Some t) × (target q ≡ Some t) = agreed (target (bare x)) (target q) e in
+      path_sound p s q both.0 (var_of s x) sound (path_leads p q both.0 both.2)
+      (read_gives p s (bare x) both.0 sound (path_leads p (bare x) both.0 both.1))
+  hand_sound s (PtrVar x) (DataDest q) e sound = sound
+  hand_sound s (DatumVar x) (PtrDest q) e sound = sound
+  hand_sound s (DatumVar x) (DataDest q) e sound = write_data_sound s q (datum_of s x) sound
+
+  hand_over_sound : (s : Store) (result : Option VarRef) (to' : Option Dest)
+      → to_typed p.shapes.structs p.vars (length p.data_vars) result to' ≡ true → Sound p s
+      → Gives (Sound p) (hand_over s result to')
+  hand_over_sound s None to' e sound = sound
+  hand_over_sound s (Some v) None e sound = sound
+  hand_over_sound s (Some v) (Some d) e sound = hand_sound s v d e sound
+
+  exit_sound : (s : Store) (result : Option VarRef) (params : List VarRef) (to' : Option Dest)
+      → to_typed p.shapes.structs p.vars (length p.data_vars) result to' ≡ true → Sound p s
+      → Gives (Sound p) (exit s result params to')
+  exit_sound s result params to' e sound =
+      without_sound (with_result result params) (hand_over s result to') (hand_over_sound s result to' e sound)
+
   with_items : (is : Items) (r : Result Store Fault) → ItemsFit p is → Gives (Sound p) r → Gives (λ s. Goods is s) r
   with_items is (Ok s) fit sound = (fit, sound)
   with_items is (Err k) fit sound = tt
@@ -138,6 +226,7 @@ module _ (p : Program) (typed : is_typed p ≡ true) where
   act_gives mode Error is s x e this = tt
   act_gives mode Halt is s x e this = tt
   act_gives mode (Return operand) is s x e this = finished_gives Goods (look_at s operand)
+  act_gives mode (LeaveAct f value) is s x e this = tt
   act_gives mode Break is s x e this =
       settle_gives Goods (kill (closed_ptrs is) (closed_datums is) s) (after_again is)
       (after_fit p is this.0, kill_sound p (closed_ptrs is) (closed_datums is) s this.1)
@@ -168,6 +257,16 @@ module _ (p : Program) (typed : is_typed p ≡ true) where
   step_gives mode (Again c n b is) s x this = tt
   step_gives mode (DoLoop c b is) s x this = tt
   step_gives mode (DoAgain c b is) s x this = tt
+  step_gives mode (Enter vs ws m is) s x this =
+      settled_gives Goods (enter s vs ws) is
+      (with_items is (enter s vs ws) this.0.1 (enter_sound s vs ws this.0.0.args_fit this.1))
+  step_gives mode (Leave v vs a m is) s x this =
+      settled_gives Goods (leave s v vs a) (from_exit is)
+      (with_items (from_exit is) (leave s v vs a) (exit_fit p is this.0.1)
+      (leave_sound s v vs a this.0.0.value_fits this.1))
+  step_gives mode (Exit v vs d m is) s x this =
+      settled_gives Goods (exit s v vs d) is
+      (with_items is (exit s v vs d) this.0.1 (exit_sound s v vs d this.0.0.to_fits this.1))
 
   goes_good : (mode : MallocMode) (is js : Items) (s t : Store) (x : ℕ) → Goods is s
       → turn_of p.shapes.structs mode (opened is) s x ≡ Goes js t

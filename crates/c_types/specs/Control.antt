@@ -1,6 +1,13 @@
 -- The list of pending items, first item first, and its opening.
-use Rattle.std.specs.Prelude.{ℕ, List, [], ◌∷◌, map, true, nat_lt, if◌then◌else◌}
+use Rattle.std.specs.Prelude.{ℕ, zero, suc, List, [], ◌∷◌, map, length, true, nat_lt, if◌then◌else◌, slice_get}
+use Rattle.std.specs.Prelude.{Option, Some, None}
+use Rattle.c_types.specs.declared.program.VarRef.{VarRef}
+use Rattle.c_types.specs.declared.program.VarRef.TheVariants.{Ptr as PtrVar, Data as DatumVar}
+use Rattle.c_types.specs.declared.program.Arg.{Arg}
+use Rattle.c_types.specs.declared.program.Dest.{Dest}
 use Rattle.c_types.specs.declared.program.Act.{Act}
+use Rattle.c_types.specs.declared.program.Act.TheVariants.{SetPtr, SetData, Free, Error, Halt, Return, Break, Continue}
+use Rattle.c_types.specs.declared.program.Act.TheVariants.{Leave as LeaveAct}
 use Rattle.c_types.specs.declared.program.Atom.{Atom}
 use Rattle.c_types.specs.declared.program.Atom.TheVariants.{Known as KnownAtom}
 use Rattle.c_types.specs.declared.program.Cond.{Cond, Cond-F, fold-Cond}
@@ -8,10 +15,12 @@ use Rattle.c_types.specs.declared.program.Cond.TheOpen.{Atom as Atom-F, Not as N
 use Rattle.c_types.specs.declared.program.Stmt.{Stmt, Stmt-F, fold-Stmt}
 use Rattle.c_types.specs.declared.program.Stmt.TheOpen.{Do as Do-F, Branch as Branch-F, While as While-F}
 use Rattle.c_types.specs.declared.program.Stmt.TheOpen.{DoWhile as DoWhile-F, For as For-F, Group as Group-F}
+use Rattle.c_types.specs.declared.program.Stmt.TheOpen.{Call as Call-F}
+use Rattle.c_types.specs.declared.program.Func.{Func}
 use Rattle.c_types.specs.Program.{Program}
 
--- A condition of binary parts. The number beside an act, an atom or a Close is its mark; in a program's own items it is
--- the line.
+-- A condition of binary parts. The number beside an act, an atom, a Close, an Enter, a Leave or an Exit is its mark; in
+-- a program's own items it is the line.
 pub data Test : Type 0 where
   Ask : Atom → ℕ → Test
   Not : Test → Test
@@ -32,6 +41,12 @@ pub data Items : Type 0 where
   -- `do` (6.8.5.2)
   DoLoop : (test : Test) → (body : Items) → Items → Items
   DoAgain : (test : Test) → (body : Items) → Items → Items
+  -- a function is called: its parameters, and what they are given (6.5.2.2)
+  Enter : (params : List VarRef) → (args : List Arg) → ℕ → Items → Items
+  -- `return` of a function: its result, its local variables, and what it returns (6.8.6.4)
+  Leave : (result : Option VarRef) → (locals : List VarRef) → (value : Option Arg) → ℕ → Items → Items
+  -- the end of a call: the function's result and parameters, and what the result is assigned to
+  Exit : (result : Option VarRef) → (params : List VarRef) → (to' : Option Dest) → ℕ → Items → Items
 
 -- items before others
 infixr 60 ◌then◌
@@ -44,6 +59,9 @@ abbrev pub ◌then◌ : Items → Items → Items
 ◌then◌ (Again c n b is) r = Again c n b (is then r)
 ◌then◌ (DoLoop c b is) r = DoLoop c b (is then r)
 ◌then◌ (DoAgain c b is) r = DoAgain c b (is then r)
+◌then◌ (Enter vs ws m is) r = Enter vs ws m (is then r)
+◌then◌ (Leave v vs a m is) r = Leave v vs a m (is then r)
+◌then◌ (Exit v vs d m is) r = Exit v vs d m (is then r)
 
 -- A test opens to its first atom; `!` changes the sides, `&&` and `||` go from the left and stop early (6.5.3.3,
 -- 6.5.13, 6.5.14).
@@ -71,8 +89,12 @@ open_before (Loop c n b is) r o = ask c (round c n b) Done (is then r)
 open_before (Again c n b is) r o = open_before n (Loop c n b (is then r)) (ask c (round c n b) Done (is then r))
 open_before (DoLoop c b is) r o = open_before b (DoAgain c b (is then r)) (ask c (do_round c b) Done (is then r))
 open_before (DoAgain c b is) r o = ask c (do_round c b) Done (is then r)
+open_before (Enter vs ws m is) r o = Enter vs ws m (is then r)
+open_before (Leave v vs a m is) r o = Leave v vs a m (is then r)
+open_before (Exit v vs d m is) r o = Exit v vs d m (is then r)
 
--- the list with its front opened: it begins with an act, the test of an atom or a Close, or is Done
+-- the list with its front opened: it begins with an act, the test of an atom, a Close, an Enter, a Leave or an Exit,
+-- or is Done
 abbrev pub opened : Items → Items
 opened is = open_before is Done Done
 
@@ -86,6 +108,9 @@ after_again (Loop c n b is) = after_again is
 after_again (Again c n b is) = is
 after_again (DoLoop c b is) = after_again is
 after_again (DoAgain c b is) = is
+after_again (Enter vs ws m is) = after_again is
+after_again (Leave v vs a m is) = after_again is
+after_again (Exit v vs d m is) = after_again is
 
 -- `continue`: the items from the first Again on (6.8.6.2)
 abbrev pub from_again : Items → Items
@@ -97,6 +122,23 @@ from_again (Loop c n b is) = from_again is
 from_again (Again c n b is) = Again c n b is
 from_again (DoLoop c b is) = from_again is
 from_again (DoAgain c b is) = DoAgain c b is
+from_again (Enter vs ws m is) = from_again is
+from_again (Leave v vs a m is) = from_again is
+from_again (Exit v vs d m is) = from_again is
+
+-- `return` of a function: the items from the first Exit on (6.8.6.4)
+abbrev pub from_exit : Items → Items
+from_exit Done = Done
+from_exit (Do a m is) = from_exit is
+from_exit (Close ps ds m is) = from_exit is
+from_exit (If c x y is) = from_exit is
+from_exit (Loop c n b is) = from_exit is
+from_exit (Again c n b is) = from_exit is
+from_exit (DoLoop c b is) = from_exit is
+from_exit (DoAgain c b is) = from_exit is
+from_exit (Enter vs ws m is) = from_exit is
+from_exit (Leave v vs a m is) = from_exit is
+from_exit (Exit v vs d m is) = Exit v vs d m is
 
 -- a rising list with one number more
 abbrev pub insert : ℕ → List ℕ → List ℕ
@@ -118,6 +160,9 @@ closed_ptrs (Loop c n b is) = closed_ptrs is
 closed_ptrs (Again c n b is) = []
 closed_ptrs (DoLoop c b is) = closed_ptrs is
 closed_ptrs (DoAgain c b is) = []
+closed_ptrs (Enter vs ws m is) = closed_ptrs is
+closed_ptrs (Leave v vs a m is) = closed_ptrs is
+closed_ptrs (Exit v vs d m is) = closed_ptrs is
 
 abbrev pub closed_datums : Items → List ℕ
 closed_datums Done = []
@@ -128,6 +173,26 @@ closed_datums (Loop c n b is) = closed_datums is
 closed_datums (Again c n b is) = []
 closed_datums (DoLoop c b is) = closed_datums is
 closed_datums (DoAgain c b is) = []
+closed_datums (Enter vs ws m is) = closed_datums is
+closed_datums (Leave v vs a m is) = closed_datums is
+closed_datums (Exit v vs d m is) = closed_datums is
+
+-- the pointer variables of a list, rising
+abbrev pub ptr_vars : List VarRef → List ℕ
+ptr_vars [] = []
+ptr_vars (PtrVar x ∷ vs) = insert x (ptr_vars vs)
+ptr_vars (DatumVar x ∷ vs) = ptr_vars vs
+
+-- the data variables of a list, rising
+abbrev pub datum_vars : List VarRef → List ℕ
+datum_vars [] = []
+datum_vars (PtrVar x ∷ vs) = datum_vars vs
+datum_vars (DatumVar x ∷ vs) = insert x (datum_vars vs)
+
+-- a result, if there is one, and other variables
+abbrev pub with_result : Option VarRef → List VarRef → List VarRef
+with_result None vs = vs
+with_result (Some v) vs = v ∷ vs
 
 -- The items of a program
 
@@ -158,18 +223,52 @@ closes [] [] m r = r
 closes [] (d ∷ ds) m r = Close [] (d ∷ ds) m r
 closes (p ∷ ps) ds m r = Close (p ∷ ps) ds m r
 
--- a statement's items, before others, by its outer part (6.8.2, 6.8.4, 6.8.5)
-abbrev pub items_step : Stmt-F (Items → Items) → Items → Items
-items_step (Do-F a line) r = Do a line r
-items_step (Branch-F c x y) r = If (test_of c) (all_before x Done) (all_before y Done) r
-items_step (While-F c b) r = Loop (test_of c) Done (all_before b Done) r
-items_step (DoWhile-F c b) r = DoLoop (test_of c) (all_before b Done) r
-items_step (For-F c n b) r = Loop (test_of c) (all_before n Done) (all_before b Done) r
-items_step (Group-F b ps ds m) r = all_before b (closes ps ds m r)
+-- the items of a `return`, with what it takes from its function; a program's are of functions that are there
+abbrev pub leave_items : Option Func → ℕ → Option Arg → ℕ → Items → Items
+leave_items None f value m r = Do (LeaveAct f value) m r
+leave_items (Some g) f value m r = Leave g.result g.locals value m r
 
-abbrev pub items_of : Stmt → Items → Items
-items_of = fold-Stmt (Items → Items) items_step
+-- the items of an act
+abbrev pub act_items : List Func → Act → ℕ → Items → Items
+act_items funcs (SetPtr to from) m r = Do (SetPtr to from) m r
+act_items funcs (SetData to from) m r = Do (SetData to from) m r
+act_items funcs (Free p) m r = Do (Free p) m r
+act_items funcs Error m r = Do Error m r
+act_items funcs Halt m r = Do Halt m r
+act_items funcs (Return operand) m r = Do (Return operand) m r
+act_items funcs (LeaveAct f value) m r = leave_items (slice_get funcs f) f value m r
+act_items funcs Break m r = Do Break m r
+act_items funcs Continue m r = Do Continue m r
+
+-- the items of a call: those of the body of its function, as `inside` gives them, between its Enter and its Exit; a
+-- program's are of functions that are there
+abbrev pub call_items : (List Stmt → Items → Items) → Option Func → List Arg → Option Dest → ℕ → Items → Items
+call_items inside None args to m r = r
+call_items inside (Some g) args to m r = Enter g.params args m (inside g.body (Exit g.result g.params to m r))
+
+-- a statement's items, before others, by its outer part (6.8.2, 6.8.4, 6.8.5)
+abbrev pub items_step : List Func → (List Stmt → Items → Items) → Stmt-F (Items → Items) → Items → Items
+items_step funcs inside (Do-F a line) r = act_items funcs a line r
+items_step funcs inside (Branch-F c x y) r = If (test_of c) (all_before x Done) (all_before y Done) r
+items_step funcs inside (While-F c b) r = Loop (test_of c) Done (all_before b Done) r
+items_step funcs inside (DoWhile-F c b) r = DoLoop (test_of c) (all_before b Done) r
+items_step funcs inside (For-F c n b) r = Loop (test_of c) (all_before n Done) (all_before b Done) r
+items_step funcs inside (Group-F b ps ds m) r = all_before b (closes ps ds m r)
+items_step funcs inside (Call-F f args to line) r = call_items inside (slice_get funcs f) args to line r
+
+-- a statement's items, before others, where `inside` gives the items of the bodies of called functions
+abbrev pub items_by : List Func → (List Stmt → Items → Items) → Stmt → Items → Items
+items_by funcs inside = fold-Stmt (Items → Items) (items_step funcs inside)
+
+-- the items of a called function's body, before others, where calls are followed n deep: deeper bodies have none
+abbrev pub body_within : List Func → ℕ → List Stmt → Items → Items
+body_within funcs zero body r = r
+body_within funcs (suc n) body r = all_before (map (items_by funcs (body_within funcs n)) body) r
+
+-- a statement's items, before others: no chain of calls is longer than there are functions
+abbrev pub items_of : List Func → Stmt → Items → Items
+items_of funcs = items_by funcs (body_within funcs (length funcs))
 
 -- the items with which a run begins
 abbrev pub start_of : Program → Items
-start_of p = all_before (map items_of p.body) Done
+start_of p = all_before (map (items_of p.funcs) p.body) Done

@@ -1,17 +1,22 @@
 -- When a store fits a program, which stores a run visits, and when pending items are well typed.
-use Rattle.std.specs.Prelude.{◌≡◌, ◌<◌, ◌⊎◌, ℕ, true, List, [], ◌∷◌, length}
+use Rattle.std.specs.Prelude.{◌≡◌, ◌<◌, ◌⊎◌, ℕ, true, Option, None, List, [], ◌∷◌, length}
 use Rattle.fore_base.specs.declared.shape.Shape.{Shape}
 use Rattle.fore_base.specs.declared.store.Value.{Value}
 use Rattle.fore_base.specs.declared.store.Value.TheVariants.{Cell}
 use Rattle.fore_base.specs.declared.store.CellRec.{CellRec}
 use Rattle.fore_base.specs.declared.store.Store.{Store}
-use Rattle.fore_base.specs.Lists.{Every}
+use Rattle.fore_base.specs.Lists.{Every, IsIn}
 use Rattle.c_types.specs.declared.mode.MallocMode.{MallocMode}
 use Rattle.c_types.specs.declared.program.VarDef.{VarDef}
+use Rattle.c_types.specs.declared.program.VarRef.{VarRef}
+use Rattle.c_types.specs.declared.program.Arg.{Arg}
+use Rattle.c_types.specs.declared.program.Dest.{Dest}
 use Rattle.c_types.specs.declared.program.Act.{Act}
+use Rattle.c_types.specs.declared.program.Func.{Func}
 use Rattle.fore_base.specs.Shapes.{targets_of, datums_of}
-use Rattle.c_types.specs.Program.{Program, InBody, act_typed}
-use Rattle.c_types.specs.Control.{Items, Done, Do, Close, If, Loop, Again, DoLoop, DoAgain, opened, start_of}
+use Rattle.c_types.specs.Program.{Program, InBody, act_typed, args_typed, value_typed, to_typed}
+use Rattle.c_types.specs.Control.{Items, Done, Do, Close, If, Loop, Again, DoLoop, DoAgain, Enter, Leave, Exit, opened}
+use Rattle.c_types.specs.Control.{start_of}
 use Rattle.c_types.specs.Steps.{Goes, turn_of}
 use Rattle.c_types.specs.Runs.{empty_store}
 
@@ -57,11 +62,34 @@ pub data Visited (p : Program) (mode : MallocMode) : Items → Store → Type 0 
   step : {is js : Items} {s t : Store} (choice : ℕ) → Visited p mode is s
       → turn_of p.shapes.structs mode (opened is) s choice ≡ Goes js t → Visited p mode js t
 
--- an act is one of the program's, wherever it stands
+-- an act is one of the program's, wherever it stands; a Leave is an item of its own
 abbrev pub ActFits : Program → Act → Type 0
-ActFits p a = act_typed p.shapes.structs p.vars (length p.data_vars) a InBody ≡ true
+ActFits p a = act_typed p.shapes.structs p.vars (length p.data_vars) p.funcs None a InBody ≡ true
 
--- each act of the items is one of the program's
+-- an Enter is one of a function of the program, and its arguments fit the parameters
+pub record EnterFits (p : Program) (params : List VarRef) (args : List Arg) : Type 0 where
+  pub func : Func
+  pub is_there : IsIn func p.funcs
+  pub params_are : params ≡ func.params
+  pub args_fit : args_typed p.shapes.structs p.vars (length p.data_vars) params args ≡ true
+
+-- a Leave is one of a function of the program, and what it returns fits the result
+pub record LeaveFits (p : Program) (result : Option VarRef) (locals : List VarRef) (value : Option Arg) : Type 0 where
+  pub func : Func
+  pub is_there : IsIn func p.funcs
+  pub result_is : result ≡ func.result
+  pub locals_are : locals ≡ func.locals
+  pub value_fits : value_typed p.shapes.structs p.vars (length p.data_vars) result value ≡ true
+
+-- an Exit is one of a function of the program, and its result fits what it is assigned to
+pub record ExitFits (p : Program) (result : Option VarRef) (params : List VarRef) (to' : Option Dest) : Type 0 where
+  pub func : Func
+  pub is_there : IsIn func p.funcs
+  pub result_is : result ≡ func.result
+  pub params_are : params ≡ func.params
+  pub to_fits : to_typed p.shapes.structs p.vars (length p.data_vars) result to' ≡ true
+
+-- each act, each call and each `return` of the items is one of the program's
 abbrev pub ItemsFit : Program → Items → Type 0
 ItemsFit p Done = Unit {0}
 ItemsFit p (Do a m is) = ActFits p a × ItemsFit p is
@@ -71,3 +99,6 @@ ItemsFit p (Loop c n b is) = ItemsFit p n × ItemsFit p b × ItemsFit p is
 ItemsFit p (Again c n b is) = ItemsFit p n × ItemsFit p b × ItemsFit p is
 ItemsFit p (DoLoop c b is) = ItemsFit p b × ItemsFit p is
 ItemsFit p (DoAgain c b is) = ItemsFit p b × ItemsFit p is
+ItemsFit p (Enter vs ws m is) = EnterFits p vs ws × ItemsFit p is
+ItemsFit p (Leave v vs a m is) = LeaveFits p v vs a × ItemsFit p is
+ItemsFit p (Exit v vs d m is) = ExitFits p v vs d × ItemsFit p is

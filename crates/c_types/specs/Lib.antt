@@ -1,3 +1,4 @@
+pub mod Bodies
 pub mod Control
 pub mod Fits
 pub mod Losses

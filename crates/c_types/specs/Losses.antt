@@ -1,6 +1,7 @@
 -- Steps that take a reference to a cell away. The leak test of any other step has the answer that it had before the
 -- step.
 use Rattle.std.specs.Prelude.{ℕ, List, [], ◌∷◌, length, Bool, true, false, ◌||◌, Result, Ok, Err, slice_index_or}
+use Rattle.std.specs.Prelude.{Option, Some, None}
 use Rattle.fore_base.specs.declared.fault.Fault.{Fault}
 use Rattle.fore_base.specs.declared.store.Value.{Value}
 use Rattle.fore_base.specs.declared.store.Value.TheVariants.{Uninit, Cell}
@@ -10,7 +11,12 @@ use Rattle.c_types.specs.declared.program.PtrRhs.{PtrRhs}
 use Rattle.c_types.specs.declared.program.PtrRhs.TheVariants.{Path as RhsPath, Null as RhsNull, New as RhsNew}
 use Rattle.c_types.specs.declared.program.Act.{Act}
 use Rattle.c_types.specs.declared.program.Act.TheVariants.{SetPtr, SetData, Free, Error, Halt, Return, Break, Continue}
-use Rattle.c_types.specs.Control.{Items, Done, Do, Close, If, Loop, Again, DoLoop, DoAgain, closed_ptrs}
+use Rattle.c_types.specs.declared.program.Act.TheVariants.{Leave as LeaveAct}
+use Rattle.c_types.specs.declared.program.VarRef.{VarRef}
+use Rattle.c_types.specs.declared.program.Dest.{Dest}
+use Rattle.c_types.specs.declared.program.Dest.TheVariants.{Ptr as PtrDest, Data as DataDest}
+use Rattle.c_types.specs.Control.{Items, Done, Do, Close, If, Loop, Again, DoLoop, DoAgain, Enter, Leave, Exit}
+use Rattle.c_types.specs.Control.{closed_ptrs, ptr_vars, with_result}
 use Rattle.c_types.specs.Steps.{read, below}
 
 -- the value refers to a cell
@@ -43,8 +49,22 @@ act_loses (Free p) is s = got_cell (read s p)
 act_loses Error is s = false
 act_loses Halt is s = false
 act_loses (Return operand) is s = hold_cell s.vars (below (length s.vars))
+act_loses (LeaveAct f value) is s = false
 act_loses Break is s = hold_cell s.vars (closed_ptrs is)
 act_loses Continue is s = hold_cell s.vars (closed_ptrs is)
+
+-- what the result of a call is assigned to refers to a cell
+abbrev pub dest_loses : Store → Dest → Bool
+dest_loses s (PtrDest p) = got_cell (read s p)
+dest_loses s (DataDest p) = false
+
+abbrev pub to_loses : Store → Option Dest → Bool
+to_loses s None = false
+to_loses s (Some d) = dest_loses s d
+
+-- one of the variables, of either kind, refers to a cell
+abbrev pub vars_hold : Store → List VarRef → Bool
+vars_hold s vs = hold_cell s.vars (ptr_vars vs)
 
 -- the step of an opened list does
 abbrev pub loses : Items → Store → Bool
@@ -56,3 +76,6 @@ loses (Loop c n b is) s = false
 loses (Again c n b is) s = false
 loses (DoLoop c b is) s = false
 loses (DoAgain c b is) s = false
+loses (Enter vs ws m is) s = vars_hold s vs
+loses (Leave v vs a m is) s = vars_hold s (with_result v vs)
+loses (Exit v vs d m is) s = to_loses s d || vars_hold s (with_result v vs)

@@ -8,7 +8,8 @@ use Rattle.c_types.specs.declared.mode.MallocMode.{MallocMode}
 use Rattle.c_types.specs.declared.outcome.Outcome.{Outcome}
 use Rattle.c_types.specs.declared.outcome.Outcome.TheVariants.{Ended, Fault, Starved, BadChoice, StillRunning}
 use Rattle.c_types.specs.Program.{Program}
-use Rattle.c_types.specs.Control.{Items, Done, Do, Close, If, Loop, Again, DoLoop, DoAgain, opened, start_of}
+use Rattle.c_types.specs.Control.{Items, Done, Do, Close, If, Loop, Again, DoLoop, DoAgain, Enter, Leave, Exit, opened}
+use Rattle.c_types.specs.Control.{start_of}
 use Rattle.c_types.specs.Steps.{Turn, Goes, Stops, Faults, turn_of, takes, mark_of}
 
 -- The choice of a step, where it takes one: `next` is given the choice, the choices that are left, and how many were
@@ -35,6 +36,9 @@ unless_done (Loop c n b is) step o = o
 unless_done (Again c n b is) step o = o
 unless_done (DoLoop c b is) step o = o
 unless_done (DoAgain c b is) step o = o
+unless_done (Enter vs ws m is) step o = o
+unless_done (Leave v vs a m is) step o = o
+unless_done (Exit v vs d m is) step o = o
 
 -- what a run answers when all its steps were taken
 abbrev pub at_end : Items → ℕ → Outcome

@@ -26,15 +26,23 @@ use Rattle.c_types.specs.declared.program.DataRhs.TheVariants.{Path as DataRhsPa
 use Rattle.c_types.specs.declared.program.DataRhs.TheVariants.{Choice as DataRhsChoice}
 use Rattle.c_types.specs.declared.program.Act.{Act}
 use Rattle.c_types.specs.declared.program.Act.TheVariants.{SetPtr, SetData, Free, Error, Halt, Return, Break, Continue}
+use Rattle.c_types.specs.declared.program.Act.TheVariants.{Leave as LeaveAct}
 use Rattle.c_types.specs.declared.program.PtrOp.{PtrOp}
 use Rattle.c_types.specs.declared.program.PtrOp.TheVariants.{Path as OpPath, Null as OpNull}
 use Rattle.c_types.specs.declared.program.DataOp.{DataOp}
 use Rattle.c_types.specs.declared.program.DataOp.TheVariants.{Path as DataOpPath, Known as DataOpKnown}
+use Rattle.c_types.specs.declared.program.VarRef.{VarRef}
+use Rattle.c_types.specs.declared.program.VarRef.TheVariants.{Ptr as PtrVar, Data as DatumVar}
+use Rattle.c_types.specs.declared.program.Arg.{Arg}
+use Rattle.c_types.specs.declared.program.Arg.TheVariants.{Ptr as PtrArg, Data as DataArg}
+use Rattle.c_types.specs.declared.program.Dest.{Dest}
+use Rattle.c_types.specs.declared.program.Dest.TheVariants.{Ptr as PtrDest, Data as DataDest}
 use Rattle.c_types.specs.declared.program.Atom.{Atom}
 use Rattle.c_types.specs.declared.program.Atom.TheVariants.{Choice as ChoiceAtom, Known as KnownAtom, Ptr as PtrAtom}
 use Rattle.c_types.specs.declared.program.Atom.TheVariants.{Data as DataAtom}
 use Rattle.c_types.specs.Control.{Items, Done, Do, Close, If, Loop, Again, DoLoop, DoAgain, Ask, Not, Both, Either}
-use Rattle.c_types.specs.Control.{◌then◌, after_again, from_again, closed_ptrs, closed_datums}
+use Rattle.c_types.specs.Control.{Enter, Leave, Exit, ◌then◌, after_again, from_again, from_exit, closed_ptrs}
+use Rattle.c_types.specs.Control.{closed_datums, ptr_vars, datum_vars, with_result}
 
 -- In a `do` block the order of the lines is the order of evaluation, and the first fault ends it.
 infixl 10 ◌>>=◌
@@ -170,6 +178,62 @@ free_path s p = do
   v ← read s p
   freed s v
 
+-- Calls (6.5.2.2)
+
+-- a variable is given the value of an operand (of its own kind, in a program)
+abbrev pub give : Store → VarRef → Arg → Result Store Fault
+give s (PtrVar x) (PtrArg p) = do
+  v ← read_op s p
+  Ok (set_var s x v)
+give s (PtrVar x) (DataArg p) = Ok s
+give s (DatumVar x) (PtrArg p) = Ok s
+give s (DatumVar x) (DataArg p) = do
+  d ← read_data_op s p
+  Ok (set_datum s x d)
+
+-- a call begins: each parameter is given the value of its argument, from the left (6.5.2.2 leaves the order open)
+abbrev pub enter : Store → List VarRef → List Arg → Result Store Fault
+enter s [] ws = Ok s
+enter s (v ∷ vs) [] = Ok s
+enter s (v ∷ vs) (a ∷ ws) = do
+  t ← give s v a
+  enter t vs ws
+
+-- what is returned is given to the result (6.8.6.4)
+abbrev pub give_back : Store → Option VarRef → Option Arg → Result Store Fault
+give_back s None value = Ok s
+give_back s (Some v) None = Ok s
+give_back s (Some v) (Some a) = give s v a
+
+-- these variables die (6.2.4)
+abbrev pub without : List VarRef → Store → Store
+without vs s = kill (ptr_vars vs) (datum_vars vs) s
+
+-- `return` of a function: the local variables die after what is returned was looked at
+abbrev pub leave : Store → Option VarRef → List VarRef → Option Arg → Result Store Fault
+leave s result locals value = do
+  t ← give_back s result value
+  Ok (without locals t)
+
+-- what a variable holds is assigned there (to what is of its own kind, in a program); it may be indeterminate
+abbrev pub hand : Store → VarRef → Dest → Result Store Fault
+hand s (PtrVar x) (PtrDest p) = write_path s p.var p.fields (var_of s x)
+hand s (PtrVar x) (DataDest p) = Ok s
+hand s (DatumVar x) (PtrDest p) = Ok s
+hand s (DatumVar x) (DataDest p) = write_data s p (datum_of s x)
+
+-- the result is assigned to the target of the call, if it has one
+abbrev pub hand_over : Store → Option VarRef → Option Dest → Result Store Fault
+hand_over s None to' = Ok s
+hand_over s (Some v) None = Ok s
+hand_over s (Some v) (Some d) = hand s v d
+
+-- a call ends: the result and the parameters die after the result was assigned
+abbrev pub exit : Store → Option VarRef → List VarRef → Option Dest → Result Store Fault
+exit s result params to' = do
+  t ← hand_over s result to'
+  Ok (without (with_result result params) t)
+
 -- Steps
 
 -- the numbers below n
@@ -202,6 +266,7 @@ finished (Ok s) = if leaks (all_dead s) then Faults Leak else Stops
 finished (Err k) = Faults k
 
 -- what an act does, `is` being the items after it: `exit` and `abort` (7.22.4) and errors (7.2.1.1) make no leak test
+-- (a Leave of a function that is there is an item of its own)
 abbrev pub act_turn : List Shape → MallocMode → Act → Items → Store → ℕ → Turn
 act_turn shapes mode (SetPtr to from) is s x = settled (assign shapes mode s to from x) is
 act_turn shapes mode (SetData to from) is s x = settled (assign_data s to from x) is
@@ -209,6 +274,7 @@ act_turn shapes mode (Free p) is s x = settled (free_path s p) is
 act_turn shapes mode Error is s x = Faults Assertion
 act_turn shapes mode Halt is s x = Stops
 act_turn shapes mode (Return operand) is s x = finished (look_at s operand)
+act_turn shapes mode (LeaveAct f value) is s x = Stops
 act_turn shapes mode Break is s x = settle (kill (closed_ptrs is) (closed_datums is) s) (after_again is)
 act_turn shapes mode Continue is s x = settle (kill (closed_ptrs is) (closed_datums is) s) (from_again is)
 
@@ -231,6 +297,9 @@ turn_of shapes mode (Loop c n b is) s x = Stops
 turn_of shapes mode (Again c n b is) s x = Stops
 turn_of shapes mode (DoLoop c b is) s x = Stops
 turn_of shapes mode (DoAgain c b is) s x = Stops
+turn_of shapes mode (Enter vs ws m is) s x = settled (enter s vs ws) is
+turn_of shapes mode (Leave v vs a m is) s x = settled (leave s v vs a) (from_exit is)
+turn_of shapes mode (Exit v vs d m is) s x = settled (exit s v vs d) is
 
 -- Whether the first item of an opened list takes a choice, and its mark
 
@@ -259,6 +328,7 @@ act_takes mode (Free p) = false
 act_takes mode Error = false
 act_takes mode Halt = false
 act_takes mode (Return operand) = false
+act_takes mode (LeaveAct f value) = false
 act_takes mode Break = false
 act_takes mode Continue = false
 
@@ -274,6 +344,9 @@ takes mode (Loop c n b is) = false
 takes mode (Again c n b is) = false
 takes mode (DoLoop c b is) = false
 takes mode (DoAgain c b is) = false
+takes mode (Enter vs ws m is) = false
+takes mode (Leave v vs a m is) = false
+takes mode (Exit v vs d m is) = false
 
 abbrev pub mark_of : Items → ℕ
 mark_of Done = 0
@@ -287,3 +360,6 @@ mark_of (Loop c n b is) = 0
 mark_of (Again c n b is) = 0
 mark_of (DoLoop c b is) = 0
 mark_of (DoAgain c b is) = 0
+mark_of (Enter vs ws m is) = m
+mark_of (Leave v vs a m is) = m
+mark_of (Exit v vs d m is) = m

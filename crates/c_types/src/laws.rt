@@ -1,7 +1,14 @@
 // Laws of runs and steps: each is the contract of a function that does nothing.
 
-ghost use Rattle.std.specs.Prelude.{◌≡◌, ◌≤◌, ◌-◌, ◌++◌, ◌∷◌, ℕ, true, false, List, length};
-ghost use Rattle.c_types.specs.Control.{Items, opened, start_of};
+ghost use Rattle.std.specs.Prelude.{◌≡◌, ◌≤◌, ◌-◌, ◌++◌, ◌∷◌, ℕ, true, false, List, length, map};
+ghost use Rattle.std.specs.Prelude.{Option, Some, slice_get};
+ghost use Rattle.c_types.specs.declared.program.Arg.{Arg};
+ghost use Rattle.c_types.specs.declared.program.Dest.{Dest};
+ghost use Rattle.c_types.specs.declared.program.Func.{Func};
+ghost use Rattle.c_types.specs.declared.program.Stmt.{Stmt};
+ghost use Rattle.c_types.specs.declared.program.Stmt.TheVariants.{Call};
+ghost use Rattle.c_types.specs.Control.{Items, Enter, Exit, all_before, items_by, body_within, items_of, opened};
+ghost use Rattle.c_types.specs.Control.{start_of};
 ghost use Rattle.c_types.specs.Steps.{Goes, Faults, turn_of};
 ghost use Rattle.c_types.specs.Losses.{loses};
 ghost use Rattle.c_types.specs.Runs.{run, empty_store};
@@ -71,6 +78,20 @@ pub fn steps_keep_stores(program: &Typed)
         × FitsProgram program.now t }
     ensures visited { (mode : MallocMode) (is : Items) (s : Store) → Visited program.now mode is s → IsProper s
         × FitsProgram program.now s }
+{
+    let _body = &program.body;
+}
+
+/// The items of a call are its Enter, those of the statements of its function's body, and its Exit: no function leads to
+/// itself by calls, so to follow calls deeper than there are functions changes nothing.
+pub fn calls_end(program: &Typed)
+    ensures deeper { (depth : ℕ) (s : Stmt) (r : Items) → length program.now.funcs ≤ depth
+        → items_by program.now.funcs (body_within program.now.funcs depth) s r ≡ items_of program.now.funcs s r }
+    ensures called { (f : ℕ) (g : Func) (args : List Arg) (target : Option Dest) (line : ℕ) (r : Items)
+        → slice_get program.now.funcs f ≡ Some g
+        → items_of program.now.funcs (Call f args target line) r
+        ≡ Enter g.params args line
+        (all_before (map (items_of program.now.funcs) g.body) (Exit g.result g.params target line r)) }
 {
     let _body = &program.body;
 }

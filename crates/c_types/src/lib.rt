@@ -15,5 +15,5 @@ pub mod program;
 pub use crate::mode::MallocMode;
 pub use crate::outcome::Outcome;
 pub use crate::program::{
-    Act, Atom, Cond, DataOp, DataPath, DataRhs, Path, PtrOp, PtrRhs, Stmt, Typed, VarDef,
+    Act, Arg, Atom, Cond, DataOp, DataPath, DataRhs, Dest, Func, Path, PtrOp, PtrRhs, Stmt, Typed, VarDef, VarRef,
 };

@@ -61,8 +61,10 @@ pub enum Act {
     Error,
     /// `exit` or `abort` (7.22.4).
     Halt,
-    /// `return`, with the datum that it looks at, if any (6.8.6.4).
+    /// `return` of `main`, with the datum that it looks at, if any (6.8.6.4).
     Return(Option<DataPath>),
+    /// `return` of the function of this number, with what it returns, if anything (6.8.6.4).
+    Leave { func: u32, value: Option<Arg> },
     /// `break` (6.8.6.3).
     Break,
     /// `continue` (6.8.6.2).
@@ -85,6 +87,33 @@ pub enum DataOp {
     Path(DataPath),
     /// A number, at most `DATUM`.
     Known(u8),
+}
+
+/// A variable, by its number among those of its kind.
+#[derive(Drop)]
+pub enum VarRef {
+    /// The pointer variable of this number.
+    Ptr(u32),
+    /// The data variable of this number.
+    Data(u32),
+}
+
+/// What is given to a parameter, or returned (6.5.2.2, 6.8.6.4).
+#[derive(Drop)]
+pub enum Arg {
+    /// A pointer.
+    Ptr(PtrOp),
+    /// A datum.
+    Data(DataOp),
+}
+
+/// What the result of a call is assigned to (6.5.16.1).
+#[derive(Drop)]
+pub enum Dest {
+    /// A pointer.
+    Ptr(Path),
+    /// A datum.
+    Data(DataPath),
 }
 
 /// A test without parts.
@@ -158,6 +187,14 @@ pub enum Stmt {
         datums: List<u32>,
         close: u32,
     },
+    /// A call of the function of this number, with what is given to its parameters, in order, and what its result is
+    /// assigned to, if anything (6.5.2.2).
+    Call {
+        func: u32,
+        args: List<Arg>,
+        to: Option<Dest>,
+        line: u32,
+    },
 }
 
 /// A pointer variable: its name, and the number of the struct to which it points.
@@ -169,13 +206,35 @@ pub struct VarDef {
     pub shape: u32,
 }
 
-/// A program: its structs, its pointer and data variables in order of declaration, and the one group of main's block.
+/// A function besides `main`. No function is ever active twice, so its parameters, its result and its local variables
+/// are variables of the program.
+#[derive(Drop)]
+pub struct Func {
+    /// The function's name.
+    pub name: Text,
+    /// Its parameters, in order.
+    pub params: List<VarRef>,
+    /// The variables that its body declares.
+    pub locals: List<VarRef>,
+    /// The variable that holds its result, if it has one.
+    pub result: Option<VarRef>,
+    /// The one group of its block.
+    pub body: List<Stmt>,
+}
+
+/// A program: its structs, its pointer and data variables in order of declaration, its functions besides `main` in
+/// order of definition, and the one group of main's block.
 ///
 /// Every number in it is in range; each field on a path is one of the struct and kind that stands there; both sides of
-/// an assignment or
-/// comparison, and a new cell and its target, agree in struct; a known datum is at most `DATUM`; each `&&` and `||` has
-/// a part; each `break` and
-/// `continue` stands in the body of a loop, and none in what a `for` does between its rounds.
+/// an assignment or comparison, and a new cell and its target, agree in struct; a known datum is at most `DATUM`; each
+/// `&&` and `||` has a part; each `break` and `continue` stands in the body of a loop of its function, and none in what
+/// a `for` does between its rounds.
+///
+/// No function leads by calls to itself. Each call has an argument for each parameter, of its kind and struct, and
+/// assigns a result only where there is one, to what is of its kind and struct. A `Leave` stands in the body of its
+/// function, with a value of the kind and struct of the result exactly where there is one; a `Return` stands in `main`
+/// alone. Parameters, results and local variables of functions are all different; a body names only variables of its
+/// own, and no result; the local variables of a function are those that the groups of its body declare.
 #[derive(Drop)]
 pub struct Typed {
     /// The structs.
@@ -184,6 +243,8 @@ pub struct Typed {
     pub vars: List<VarDef>,
     /// The names of the data variables.
     pub data_vars: List<Text>,
+    /// The functions besides `main`.
+    pub funcs: List<Func>,
     /// The one group of main's block.
     pub body: List<Stmt>,
 }
@@ -198,7 +259,13 @@ impl Model for Typed {
 
     ghost coded = { Prim.hlevel (codes, stmt.the_row.coded) };
 
-    ghost view = { λ p. record { shapes = p.shapes; vars = p.vars; data_vars = p.data_vars; body = p.body } };
+    ghost view = { λ p. record {
+        shapes = p.shapes;
+        vars = p.vars;
+        data_vars = p.data_vars;
+        funcs = p.funcs;
+        body = p.body;
+    } };
 
     ghost invariant = { λ p.
         is_typed
@@ -206,6 +273,7 @@ impl Model for Typed {
           shapes = p.shapes;
           vars = p.vars;
           data_vars = p.data_vars;
+          funcs = p.funcs;
           body = p.body;
         }) ≡ true };
 }

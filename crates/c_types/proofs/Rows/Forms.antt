@@ -140,6 +140,7 @@ main shapes ptrs datums body close =
       shapes = record { structs = shapes };
       vars = replicate ptrs (record { name = []; shape = 0 });
       data_vars = replicate datums [];
+      funcs = [];
       body = Group body [] [] close ∷ [];
     }
 
@@ -150,6 +151,7 @@ main_with shapes ptrs datums body ps ds close =
       shapes = record { structs = shapes };
       vars = replicate ptrs (record { name = []; shape = 0 });
       data_vars = replicate datums [];
+      funcs = [];
       body = Group body ps ds close ∷ [];
     }
 

@@ -9,7 +9,8 @@ use Rattle.c_types.proofs.Rows.Forms.{pointer_to, datum, halt}
 use Rattle.c_types.proofs.Rows.Typing.{both, variable, program, wrong}
 
 abbrev of : List Shape → List VarDef → List Stmt → Program
-of shapes vars body = record { shapes = record { structs = shapes }; vars = vars; data_vars = []; body = body }
+of shapes vars body =
+    record { shapes = record { structs = shapes }; vars = vars; data_vars = []; funcs = []; body = body }
 
 empty_program : is_typed (of [] [] []) ≡ true
 unfolding is_typed

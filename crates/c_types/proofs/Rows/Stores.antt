@@ -132,6 +132,7 @@ both = record {
       };
   vars = record { name = []; shape = 0 } ∷ record { name = []; shape = 1 } ∷ [];
   data_vars = [] ∷ [];
+  funcs = [];
   body = [];
 }
 

@@ -32,6 +32,7 @@ program body =
       shapes = record { structs = both };
       vars = (variable 0 ∷ variable 1 ∷ variable 1 ∷ []);
       data_vars = ([] ∷ [] ∷ []);
+      funcs = [];
       body = body;
     }
 
