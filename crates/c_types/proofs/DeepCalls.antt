@@ -1,7 +1,6 @@
 -- Calls that are followed deeper than there are functions: where no function leads to itself, that changes nothing.
-use Rattle.std.proofs.Common.{◌≡◌, ◌<◌, ◌≤◌, ◌⊎◌, inl, inr, ℕ, zero, suc, true, Option, Some, None, List, [], ◌∷◌, ◌++◌}
+use Rattle.std.proofs.Common.{◌≡◌, ◌<◌, ◌≤◌, inl, inr, ℕ, zero, suc, true, Option, Some, None, List, [], ◌∷◌, ◌++◌}
 use Rattle.std.proofs.Common.{map, length, slice_get, refl, sym, ap, ◌∙◌, subst, arith}
-use Rattle.std.specs.List.{flat_map}
 use Rattle.std.proofs.lemmas.Option.{slice_get_within}
 use Rattle.fore_base.specs.Lists.{IsIn}
 use Rattle.c_calls.specs.Calls.{called_by, NoneRecurs}
@@ -137,7 +136,8 @@ module _ (funcs : List Func) (free : NoneRecurs (calls_of funcs)) where
   -- where n functions more may follow, the body of f has the same items for each depth from n - 1 on
   deep_same : (n f : ℕ) (before : List ℕ) → Room (calls_of funcs) (suc n) f before → (g : Func)
       → slice_get funcs f ≡ Some g
-      → (k m : ℕ) → n ≤ k → n ≤ m → (r : Items) → body_within funcs (suc k) g.body r ≡ body_within funcs (suc m) g.body r
+      → (k m : ℕ) → n ≤ k → n ≤ m → (r : Items)
+      → body_within funcs (suc k) g.body r ≡ body_within funcs (suc m) g.body r
   deep_same zero f before room g at k m less fewer r =
       body_same funcs (body_within funcs k) (body_within funcs m) g.body
       (λ h called c got q. absurd (none_left (calls_of funcs) free h (f ∷ before)

@@ -1,8 +1,8 @@
 -- Changes after which each variable that held a cell still holds it: of several changes one after the other it is
 -- enough that none is of a variable that held a cell before the first.
-use Rattle.std.proofs.Common.{◌≡◌, inl, inr, ℕ, zero, suc, Bool, true, false, ◌||◌, nat_eq, nat_lt, if◌then◌else◌}
+use Rattle.std.proofs.Common.{◌≡◌, inl, inr, ℕ, zero, suc, Bool, true, false, ◌||◌, nat_lt, if◌then◌else◌}
 use Rattle.std.proofs.Common.{Option, Some, None, Result, Ok, Err, List, [], ◌∷◌, slice_set, slice_index_or, refl, sym}
-use Rattle.std.proofs.Common.{ap, ◌∙◌, subst, true≢false}
+use Rattle.std.proofs.Common.{ap, ◌∙◌, true≢false}
 use Rattle.fore_base.specs.declared.fault.Fault.{Fault}
 use Rattle.fore_base.specs.declared.store.Value.{Value}
 use Rattle.fore_base.specs.declared.store.Value.TheVariants.{Uninit, Cell}
@@ -49,8 +49,8 @@ set_holds_at : (us ts : List Value) (x : ℕ) (v : Value) → is_cell (slice_ind
     → ((k n : ℕ) → slice_index_or us k Uninit ≡ Cell n → slice_index_or ts k Uninit ≡ Cell n)
     → (k n : ℕ) → slice_index_or us k Uninit ≡ Cell n → slice_index_or (slice_set ts x v) k Uninit ≡ Cell n
 set_holds_at us ts x v none h k n e =
-    elsewhere ts x k (λ same. true≢false (sym (ap is_cell (sym (ap (λ j. slice_index_or us j Uninit) same) ∙ e)) ∙ none))
-    (h k n e)
+    elsewhere ts x k
+    (λ same. true≢false (sym (ap is_cell (sym (ap (λ j. slice_index_or us j Uninit) same) ∙ e)) ∙ none)) (h k n e)
   where
     elsewhere : (ws : List Value) (y j : ℕ) → (j ≡ y → ⊥) → slice_index_or ws j Uninit ≡ Cell n
         → slice_index_or (slice_set ws y v) j Uninit ≡ Cell n

@@ -1,5 +1,5 @@
 -- Opening, `break` and `continue` keep the acts of the items typed, and a well typed program begins with typed acts.
-use Rattle.std.proofs.Common.{◌≡◌, ℕ, zero, suc, Bool, true, false, ◌&&◌, Option, Some, None, is_none, List, [], ◌∷◌}
+use Rattle.std.proofs.Common.{◌≡◌, ℕ, zero, suc, Bool, true, ◌&&◌, Option, Some, None, is_none, List, [], ◌∷◌}
 use Rattle.std.proofs.Common.{length, map, slice_get, inl, inr, refl, sym, ap, ◌∙◌, subst, true≢false}
 use Rattle.std.proofs.lemmas.Bool.{and_parts}
 use Rattle.std.specs.List.{list_all}
@@ -11,7 +11,6 @@ use Rattle.c_types.specs.declared.program.Act.TheVariants.{SetPtr, SetData, Free
 use Rattle.c_types.specs.declared.program.Act.TheVariants.{Leave as LeaveAct}
 use Rattle.c_types.specs.declared.program.Arg.{Arg}
 use Rattle.c_types.specs.declared.program.Dest.{Dest}
-use Rattle.c_types.specs.declared.program.VarRef.{VarRef}
 use Rattle.c_types.specs.declared.program.Func.{Func}
 use Rattle.c_types.specs.declared.program.Cond.{Cond}
 use Rattle.c_types.specs.declared.program.Stmt.{Stmt, Stmt-F, roll-Stmt, map-Stmt, fold-roll-Stmt, ind-Stmt}
@@ -20,14 +19,14 @@ use Rattle.c_types.specs.declared.program.Stmt.TheOpen.{DoWhile as DoWhile-F, Fo
 use Rattle.c_types.specs.declared.program.Stmt.TheOpen.{Call as Call-F}
 use Rattle.c_types.specs.Bodies.{calls_of, func_vars, all_different, keeps_to_own, keeps_to_main}
 use Rattle.c_types.specs.Program.{Program, Spot, Outside, InNext, body_of, act_typed, cond_typed, each_typed, all_below}
-use Rattle.c_types.specs.Program.{is_home, args_typed, value_typed, to_typed, returns_typed, call_typed, body_typed}
+use Rattle.c_types.specs.Program.{is_home, args_typed, to_typed, returns_typed, call_typed, body_typed}
 use Rattle.c_types.specs.Program.{stmt_typed_step, stmt_typed, bodies_typed, shapes_typed, vars_typed, funcs_typed}
 use Rattle.c_types.specs.Program.{var_typed, is_typed}
 use Rattle.c_types.specs.Control.{Test, Ask, Not, Both, Either, Items, Done, Do, Close, If, Loop, Again, DoLoop}
 use Rattle.c_types.specs.Control.{DoAgain, Enter, Leave, Exit, ◌then◌, ask, round, do_round, open_before, opened}
 use Rattle.c_types.specs.Control.{after_again, from_again, from_exit, all_before, closes, act_items, leave_items}
-use Rattle.c_types.specs.Control.{call_items, items_step, items_by, body_within, items_of, start_of}
-use Rattle.c_types.specs.Fits.{ActFits, EnterFits, LeaveFits, ExitFits, ItemsFit}
+use Rattle.c_types.specs.Control.{call_items, items_step, items_by, body_within, start_of}
+use Rattle.c_types.specs.Fits.{ItemsFit}
 
 module _ (p : Program) where
   -- Opening

@@ -92,7 +92,7 @@ module _ (funcs : List Func) (inside : List Stmt → Items → Items) where
   by-Call f args to' line r = by_items (Call f args to' line) _ r (outs-Call f args to' line)
 
 -- without functions each act is an item as it stands
-acts_none : (a : Act) (line : ℕ) (r : Items) → act_items [] a line r ≡ DoItem a line r
+pub acts_none : (a : Act) (line : ℕ) (r : Items) → act_items [] a line r ≡ DoItem a line r
 acts_none (SetPtr to from) line r = refl
 acts_none (SetData to from) line r = refl
 acts_none (Free p) line r = refl

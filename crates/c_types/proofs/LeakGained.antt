@@ -1,6 +1,7 @@
 -- Changes of a store that bring no reference but to cells that were reached: a cell that had leaked stays so.
 use Rattle.std.proofs.Common.{◌≡◌, ◌⊎◌, inl, inr, ℕ, zero, suc, Bool, true, false, nat_eq, if◌then◌else◌, Result, Ok}
-use Rattle.std.proofs.Common.{Err, Option, Some, None, List, [], ◌∷◌, slice_set, slice_index_or, refl, sym, ap, ◌∙◌, subst, true≢false}
+use Rattle.std.proofs.Common.{Err, Option, Some, None, List, [], ◌∷◌, slice_set, slice_index_or, refl, sym, ap, ◌∙◌}
+use Rattle.std.proofs.Common.{subst, true≢false}
 use Rattle.std.proofs.lemmas.Bool.{eqb-true}
 use Rattle.fore_base.specs.declared.fault.Fault.{Fault}
 use Rattle.fore_base.specs.declared.fault.Fault.TheVariants.{Leak}
@@ -12,8 +13,8 @@ use Rattle.fore_base.specs.declared.store.CellRec.{CellRec}
 use Rattle.fore_base.specs.declared.store.Store.{Store}
 use Rattle.fore_base.specs.Lists.{IsIn, Paired}
 use Rattle.fore_base.specs.Heap.{Reach, by_var, by_field, Leaked, leaks}
-use Rattle.fore_base.specs.Stores.{onward, var_of, datum_of, set_var, set_datum, set_each, kill, field_in, with_field, with_datum}
-use Rattle.fore_base.specs.Stores.{walk, write_from, store_datum, freed}
+use Rattle.fore_base.specs.Stores.{onward, var_of, datum_of, set_var, set_datum, set_each, kill, field_in, with_field}
+use Rattle.fore_base.specs.Stores.{with_datum, walk, write_from, store_datum, freed}
 use Rattle.fore_base.proofs.ListLemmas.{paired_same}
 use Rattle.fore_base.proofs.Leaks.{leaks_leaked, sound_unleaked}
 use Rattle.c_types.specs.declared.mode.MallocMode.{MallocMode}
@@ -33,8 +34,9 @@ use Rattle.c_types.specs.declared.program.Arg.{Arg}
 use Rattle.c_types.specs.declared.program.Arg.TheVariants.{Ptr as PtrArg, Data as DataArg}
 use Rattle.c_types.specs.declared.program.Dest.{Dest}
 use Rattle.c_types.specs.declared.program.Dest.TheVariants.{Ptr as PtrDest, Data as DataDest}
-use Rattle.c_types.specs.Control.{Items, Done, Do, Close, If, Loop, Again, DoLoop, DoAgain, Enter, Leave, Exit, Ask, Not}
-use Rattle.c_types.specs.Control.{Both, Either, closed_ptrs, closed_datums, after_again, from_again, from_exit, ◌then◌}
+use Rattle.c_types.specs.Control.{Items, Done, Do, Close, If, Loop, Again, DoLoop, DoAgain, Enter, Leave, Exit, Ask}
+use Rattle.c_types.specs.Control.{Not, Both, Either, closed_ptrs, closed_datums, after_again, from_again, from_exit}
+use Rattle.c_types.specs.Control.{◌then◌}
 use Rattle.c_types.specs.Control.{ptr_vars, datum_vars, with_result}
 use Rattle.c_types.specs.Steps.{Goes, Faults, read, read_data_rhs, look_at, atom_of, write_path, write_data, assign}
 use Rattle.c_types.specs.Steps.{assign_data, free_path, settle, settled, act_turn, test_turn, turn_of}

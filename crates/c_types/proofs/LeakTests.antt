@@ -10,8 +10,8 @@ use Rattle.fore_base.specs.declared.store.Datum.{Datum}
 use Rattle.fore_base.specs.declared.store.Datum.TheVariants.{Undefined, Known}
 use Rattle.fore_base.specs.declared.store.Store.{Store}
 use Rattle.fore_base.specs.Heap.{leaks}
-use Rattle.fore_base.specs.Stores.{onward, followed, load_datum, store_at, store_datum, var_of, datum_of, set_datum, field_in}
-use Rattle.fore_base.specs.Stores.{walk, write_from, freed}
+use Rattle.fore_base.specs.Stores.{onward, followed, load_datum, store_at, store_datum, var_of, datum_of, set_datum}
+use Rattle.fore_base.specs.Stores.{field_in, walk, write_from, freed}
 use Rattle.c_types.specs.declared.mode.MallocMode.{MallocMode}
 use Rattle.c_types.specs.declared.program.Path.{Path}
 use Rattle.c_types.specs.declared.program.DataPath.{DataPath}
@@ -37,9 +37,10 @@ use Rattle.c_types.specs.declared.program.Arg.{Arg}
 use Rattle.c_types.specs.declared.program.Arg.TheVariants.{Ptr as PtrArg, Data as DataArg}
 use Rattle.c_types.specs.declared.program.Dest.{Dest}
 use Rattle.c_types.specs.declared.program.Dest.TheVariants.{Ptr as PtrDest, Data as DataDest}
-use Rattle.c_types.specs.Control.{Items, Done, Do, Close, If, Loop, Again, DoLoop, DoAgain, Enter, Leave, Exit, Ask, Not}
-use Rattle.c_types.specs.Control.{Both, Either, closed_ptrs, closed_datums, after_again, from_again, from_exit, ◌then◌}
-use Rattle.c_types.specs.Control.{ptr_vars, datum_vars, with_result}
+use Rattle.c_types.specs.Control.{Items, Done, Do, Close, If, Loop, Again, DoLoop, DoAgain, Enter, Leave, Exit, Ask}
+use Rattle.c_types.specs.Control.{Not, Both, Either, closed_ptrs, closed_datums, after_again, from_again, from_exit}
+use Rattle.c_types.specs.Control.{◌then◌}
+use Rattle.c_types.specs.Control.{with_result}
 use Rattle.c_types.specs.Steps.{Goes, Stops, Faults, read, read_data, read_op, read_data_op, read_data_rhs, look_at}
 use Rattle.c_types.specs.Steps.{same_values, same_datums, atom_of, write_path, write_data, makes_cell, assign_new}
 use Rattle.c_types.specs.Steps.{assign, assign_data, free_path, settle, settled, finished, all_dead, below, act_turn}

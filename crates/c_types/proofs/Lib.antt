@@ -14,3 +14,4 @@ pub mod LeakTests
 pub mod LeakGained
 pub mod HeldOn
 pub mod DeepCalls
+pub mod NoFunctions

@@ -9,6 +9,8 @@ mod Allocations
 mod Lifetimes
 mod Data
 mod Choices
+mod Calls
+mod CallTyping
 mod Typing
 mod Programs
 mod Stores

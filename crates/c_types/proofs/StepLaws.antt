@@ -24,13 +24,14 @@ use Rattle.c_types.specs.declared.program.Arg.TheVariants.{Ptr as PtrArg, Data a
 use Rattle.c_types.specs.declared.program.PtrOp.TheVariants.{Path as OpPath, Null as OpNull}
 use Rattle.c_types.specs.declared.program.Dest.{Dest}
 use Rattle.c_types.specs.declared.program.Dest.TheVariants.{Ptr as PtrDest, Data as DataDest}
-use Rattle.c_types.specs.Program.{Program, is_target, both_targets, path_target, var_target, rhs_typed, arg_typed}
+use Rattle.c_types.specs.Program.{Program, is_target, both_targets, path_target, rhs_typed, arg_typed}
 use Rattle.c_types.specs.Program.{args_typed, value_typed, dest_typed, to_typed, is_typed}
-use Rattle.c_types.specs.Control.{Items, Done, Do, Close, If, Loop, Again, DoLoop, DoAgain, Enter, Leave, Exit, Ask, Not}
-use Rattle.c_types.specs.Control.{Both, Either, ◌then◌, opened, after_again, from_again, from_exit, closed_ptrs}
+use Rattle.c_types.specs.Control.{Items, Done, Do, Close, If, Loop, Again, DoLoop, DoAgain, Enter, Leave, Exit, Ask}
+use Rattle.c_types.specs.Control.{Not, Both, Either, ◌then◌, opened, after_again, from_again, from_exit, closed_ptrs}
 use Rattle.c_types.specs.Control.{closed_datums, ptr_vars, datum_vars, with_result, start_of}
 use Rattle.c_types.specs.Steps.{Turn, Goes, Stops, Faults, read, read_data_rhs, write_path, write_data, blank}
-use Rattle.c_types.specs.Steps.{◌>>=◌, makes_cell, read_data_op, give, enter, give_back, without, leave, hand, hand_over, exit}
+use Rattle.c_types.specs.Steps.{◌>>=◌, makes_cell, read_data_op, give, enter, give_back, without, leave, hand}
+use Rattle.c_types.specs.Steps.{hand_over, exit}
 use Rattle.c_types.specs.Steps.{assign_new, assign, look_at, all_dead, settle, settled, finished, act_turn, test_turn}
 use Rattle.c_types.specs.Steps.{atom_of, turn_of}
 use Rattle.c_types.specs.Runs.{empty_store}

@@ -82,8 +82,8 @@ pub fn steps_keep_stores(program: &Typed)
     let _body = &program.body;
 }
 
-/// The items of a call are its Enter, those of the statements of its function's body, and its Exit: no function leads to
-/// itself by calls, so to follow calls deeper than there are functions changes nothing.
+/// The items of a call are its Enter, those of the statements of its function's body, and its Exit: no function leads
+/// to itself by calls, so to follow calls deeper than there are functions changes nothing.
 pub fn calls_end(program: &Typed)
     ensures deeper { (depth : ℕ) (s : Stmt) (r : Items) → length program.now.funcs ≤ depth
         → items_by program.now.funcs (body_within program.now.funcs depth) s r ≡ items_of program.now.funcs s r }

@@ -15,5 +15,6 @@ pub mod program;
 pub use crate::mode::MallocMode;
 pub use crate::outcome::Outcome;
 pub use crate::program::{
-    Act, Arg, Atom, Cond, DataOp, DataPath, DataRhs, Dest, Func, Path, PtrOp, PtrRhs, Stmt, Typed, VarDef, VarRef,
+    Act, Arg, Atom, Cond, DataOp, DataPath, DataRhs, Dest, Func, Path, PtrOp, PtrRhs, Stmt, Typed,
+    VarDef, VarRef,
 };

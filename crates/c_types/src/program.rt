@@ -260,11 +260,11 @@ impl Model for Typed {
     ghost coded = { Prim.hlevel (codes, stmt.the_row.coded) };
 
     ghost view = { λ p. record {
-        shapes = p.shapes;
-        vars = p.vars;
-        data_vars = p.data_vars;
-        funcs = p.funcs;
-        body = p.body;
+      shapes = p.shapes;
+      vars = p.vars;
+      data_vars = p.data_vars;
+      funcs = p.funcs;
+      body = p.body;
     } };
 
     ghost invariant = { λ p.

@@ -1,6 +1,6 @@
 -- Assignments, comparisons and truths of what is good are typed.
-use Rattle.std.proofs.Common.{◌≡◌, ℕ, Bool, true, false, ◌&&◌, nat_eq, List, Option, Some, None, is_some, refl, sym, ap}
-use Rattle.std.proofs.Common.{◌∙◌}
+use Rattle.std.proofs.Common.{◌≡◌, ℕ, Bool, true, false, ◌&&◌, nat_eq, List, [], Option, Some, None, is_some, refl}
+use Rattle.std.proofs.Common.{sym, ap, ◌∙◌}
 use Rattle.std.proofs.lemmas.Bool.{eq-eqb, eqb-true, not-false}
 use Rattle.c_types.specs.Program.{Spot, is_target, both_targets, path_target, rhs_typed, data_rhs_typed, act_typed}
 use Rattle.c_types.specs.Program.{ops_typed, data_op_typed, atom_typed}
@@ -61,7 +61,7 @@ module _ (g : Globals) (V : List VarDef) (D : ℕ) where
   -- what is assigned to a good target
   pub assigned_typed : (target m : Meaning) (spot : Spot) → GoodMeaning g V D target → GoodMeaning g V D m
       → differ (struct_at target) (struct_at m) ≡ false
-      → act_typed (shapes g V D) V D (assigned target (ptr_rhs_of m) (data_rhs_of m)) spot ≡ true
+      → act_typed (shapes g V D) V D [] None (assigned target (ptr_rhs_of m) (data_rhs_of m)) spot ≡ true
   assigned_typed (Pointer p None) m spot good other same = absurd good
   assigned_typed (Pointer p (Some s)) m spot good other same =
       ptr_rhs_good (path_target (shapes g V D) V D p) s m good other same
@@ -75,7 +75,8 @@ module _ (g : Globals) (V : List VarDef) (D : ℕ) where
 
   -- a new cell is of the target's struct
   pub new_typed : (target : Meaning) (spot : Spot) → GoodMeaning g V D target
-      → act_typed (shapes g V D) V D (assigned target (ptr_rhs.New (target_struct target)) (data_rhs.Known 0)) spot
+      → act_typed (shapes g V D) V D [] None (assigned target (ptr_rhs.New (target_struct target)) (data_rhs.Known 0))
+      spot
       ≡ true
   new_typed (Pointer p None) spot good = absurd good
   new_typed (Pointer p (Some s)) spot good = ap (λ o. is_target o s) good ∙ eq-eqb s s refl
@@ -86,7 +87,8 @@ module _ (g : Globals) (V : List VarDef) (D : ℕ) where
   new_typed CallThere spot good = refl
   new_typed Broken spot good = refl
 
-  pub freed_typed : (m : Meaning) (spot : Spot) → GoodMeaning g V D m → act_typed (shapes g V D) V D (freed m) spot
+  pub freed_typed : (m : Meaning) (spot : Spot) → GoodMeaning g V D m
+      → act_typed (shapes g V D) V D [] None (freed m) spot
       ≡ true
   freed_typed (Pointer p None) spot good = absurd good
   freed_typed (Pointer p (Some s)) spot good = ap is_some good
@@ -98,7 +100,7 @@ module _ (g : Globals) (V : List VarDef) (D : ℕ) where
   freed_typed Broken spot good = refl
 
   pub returned_good : (m : Meaning) (spot : Spot) → GoodMeaning g V D m
-      → act_typed (shapes g V D) V D (act.Return (returned m)) spot ≡ true
+      → act_typed (shapes g V D) V D [] None (act.Return (returned m)) spot ≡ true
   returned_good (Pointer p to) spot good = refl
   returned_good (Datum d) spot good = good
   returned_good (Known k) spot good = refl

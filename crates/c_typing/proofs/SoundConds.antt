@@ -60,24 +60,24 @@ wanted-target meaning.Broken = refl
 module _ (g : Globals) (V : List VarDef) (D : ℕ) where
   -- each of these statements is typed there
   abbrev pub Typed : List Stmt → Spot → Type 0
-  Typed ss spot = each_typed (shapes g V D) V D (map (stmt_typed (shapes g V D) V D) ss) spot ≡ true
+  Typed ss spot = each_typed (shapes g V D) V D (map (stmt_typed (shapes g V D) V D [] None) ss) spot ≡ true
 
   both : (x y : Bool) → x ≡ true → y ≡ true → (x && y) ≡ true
   both x y left right = ap (λ b. b && y) left ∙ right
 
-  pub typed_one : (s : Stmt) (spot : Spot) → stmt_typed (shapes g V D) V D s spot ≡ true → Typed (s ∷ []) spot
+  pub typed_one : (s : Stmt) (spot : Spot) → stmt_typed (shapes g V D) V D [] None s spot ≡ true → Typed (s ∷ []) spot
   typed_one s spot e = ap (λ b. b && true) e
 
-  pub typed_act : (a : Act) (line : ℕ) (spot : Spot) → act_typed (shapes g V D) V D a spot ≡ true
+  pub typed_act : (a : Act) (line : ℕ) (spot : Spot) → act_typed (shapes g V D) V D [] None a spot ≡ true
       → Typed (Do a line ∷ []) spot
-  typed_act a line spot e = typed_one (Do a line) spot (typed-Do (shapes g V D) V D a line spot ∙ e)
+  typed_act a line spot e = typed_one (Do a line) spot (typed-Do (shapes g V D) V D [] None a line spot ∙ e)
 
   pub typed_append : (xs ys : List Stmt) (spot : Spot) → Typed xs spot → Typed ys spot → Typed (xs ++ ys) spot
   typed_append [] ys spot left right = right
   typed_append (x ∷ xs) ys spot left right =
-      let halves : (stmt_typed (shapes g V D) V D x spot ≡ true) × Typed xs spot =
-      and_parts (stmt_typed (shapes g V D) V D x spot) _ left in
-      both (stmt_typed (shapes g V D) V D x spot) _ halves.0 (typed_append xs ys spot halves.1 right)
+      let halves : (stmt_typed (shapes g V D) V D [] None x spot ≡ true) × Typed xs spot =
+      and_parts (stmt_typed (shapes g V D) V D [] None x spot) _ left in
+      both (stmt_typed (shapes g V D) V D [] None x spot) _ halves.0 (typed_append xs ys spot halves.1 right)
 
   -- parts of a condition
   each_part : {X : Type 0} (sites : X → List Site) (made : X → Cond) (xs : List X)
@@ -99,7 +99,7 @@ module _ (g : Globals) (V : List VarDef) (D : ℕ) where
 
     pub assignment_typed : (target : Meaning) (w : Want) (r : Rhs) (spot : Spot) → GoodMeaning g V D target
         → wanted_struct w ≡ struct_at target → IsClean g (rhs_sites g scope w r)
-        → act_typed (shapes g V D) V D (assignment g scope target r) spot ≡ true
+        → act_typed (shapes g V D) V D [] None (assignment g scope target r) spot ≡ true
     assignment_typed target w (rhs.Operand o) spot good same c =
         let wanted : IsClean g (wanted_sites g scope Right w o) =
         (clean_parts g (choice_sites g scope w (out-Operand o)) (wanted_sites g scope Right w o) c).1 in
@@ -112,10 +112,10 @@ module _ (g : Globals) (V : List VarDef) (D : ℕ) where
         (subst (λ t. differ t (struct_at (meaning_of_operand g scope o)) ≡ false) same agree)
     assignment_typed target w (rhs.Malloc cast at size) spot good same c = new_typed g V D target spot good
 
-    call_typed : (x : Text) (spot : Spot) → act_typed (shapes g V D) V D (call_act x) spot ≡ true
+    call_typed : (x : Text) (spot : Spot) → act_typed (shapes g V D) V D [] None (call_act x) spot ≡ true
     call_typed x spot = either (has x errors)
       where
-        either : (error : Bool) → act_typed (shapes g V D) V D (cond error act.Error act.Halt) spot ≡ true
+        either : (error : Bool) → act_typed (shapes g V D) V D [] None (cond error act.Error act.Halt) spot ≡ true
         either true = refl
         either false = refl
 
@@ -139,7 +139,7 @@ module _ (g : Globals) (V : List VarDef) (D : ℕ) where
     maybe_simple_typed (Some s) spot c = simple_typed s spot c
 
     pub returned_typed : (o : Option Operand) (spot : Spot)
-        → act_typed (shapes g V D) V D (act.Return (returned_operand g scope o)) spot ≡ true
+        → act_typed (shapes g V D) V D [] None (act.Return (returned_operand g scope o)) spot ≡ true
     returned_typed None spot = refl
     returned_typed (Some o) spot = returned_good g V D (meaning_of_operand g scope o) spot (means o)
 

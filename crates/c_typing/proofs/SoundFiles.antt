@@ -13,7 +13,9 @@ use Rattle.c_ast.specs.declared.items.Item.TheVariants as item
 use Rattle.c_ast.specs.declared.items.Unit as whole
 use Rattle.c_ast.specs.declared.operands.Name.{Name}
 use Rattle.c_ast.specs.declared.statements.Block.{Block}
-use Rattle.c_types.specs.Program.{Outside, all_below, shapes_typed, vars_typed, each_typed, stmt_typed, is_typed}
+use Rattle.c_types.specs.Program.{Outside, all_below, shapes_typed, vars_typed, each_typed, stmt_typed, funcs_typed}
+use Rattle.c_types.specs.Program.{is_typed}
+use Rattle.c_types.proofs.NoFunctions.{no_funcs_typed}
 use Rattle.c_types.specs.declared.program.VarDef.{VarDef}
 use Rattle.c_typing.specs.BodySites.{block_sites, block_places}
 use Rattle.c_typing.specs.Globals.{Globals, Definition, defined_name, maybe_defined, structs_in, struct_definitions}
@@ -195,7 +197,7 @@ module _ (g : Globals) (globals : GoodGlobals (length g.structs) g) where
 
   abbrev body_typed : Block → Bool
   body_typed b = each_typed (map shape_of g.structs) (vars_of b) (count_of b)
-      (map (stmt_typed (map shape_of g.structs) (vars_of b) (count_of b)) (block_stmts g b empty_scope)) Outside
+      (map (stmt_typed (map shape_of g.structs) (vars_of b) (count_of b) [] None) (block_stmts g b empty_scope)) Outside
 
   with_typed : (b : Block) → IsClean g (block_sites g b false empty_scope) → is_typed (program_with g b) ≡ true
   unfolding is_typed
@@ -205,12 +207,16 @@ module _ (g : Globals) (globals : GoodGlobals (length g.structs) g) where
       (([], sym (append-nil (vars_of b))), omega (arith)) (tt, refl) c in
       let vars : vars_typed (length (map shape_of g.structs)) (vars_of b) ≡ true =
       subst (λ n. vars_typed n (vars_of b) ≡ true) (sym (length-map g.structs shape_of)) r.1 in
-      ap (λ k. (k && vars_typed (length (map shape_of g.structs)) (vars_of b)) && body_typed b) all_shapes
-      ∙ ap (λ k. k && body_typed b) vars ∙ r.0
+      let functions : funcs_typed (program_with g b) ≡ true = no_funcs_typed (program_with g b) refl in
+      ap (λ k. ((k && vars_typed (length (map shape_of g.structs)) (vars_of b)) && body_typed b)
+      && funcs_typed (program_with g b)) all_shapes
+      ∙ ap (λ k. (k && body_typed b) && funcs_typed (program_with g b)) vars
+      ∙ ap (λ k. k && funcs_typed (program_with g b)) r.0
+      ∙ functions
 
   without_typed : is_typed (program_without g) ≡ true
   unfolding is_typed
-  without_typed = ap (λ k. (k && true) && true) all_shapes
+  without_typed = ap (λ k. ((k && true) && true) && true) all_shapes
 
   -- the first main is the one whose body is looked at
   rest : (s : Seen) (i : Item) (is : List Item) → IsClean g (items_sites g s (i ∷ is))

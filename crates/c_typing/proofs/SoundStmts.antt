@@ -134,8 +134,8 @@ module _ (g : Globals) (V : List VarDef) (D n : ℕ) (size : length g.structs �
       → GoodBlocks g V D scope.blocks → Typed g V D (grouped body scope line ∷ []) spot
   group_typed body scope line spot typed blocks =
       typed_one g V D (grouped body scope line) spot
-      (typed-Group (shapes g V D) V D body (ptrs_of (innermost scope.blocks)) (datums_of (innermost scope.blocks)) line
-      spot
+      (typed-Group (shapes g V D) V D [] None body (ptrs_of (innermost scope.blocks))
+      (datums_of (innermost scope.blocks)) line spot
       ∙ ap
       (λ b. b
       && (all_below (length V) (ptrs_of (innermost scope.blocks))
@@ -205,7 +205,7 @@ module _ (g : Globals) (V : List VarDef) (D n : ℕ) (size : length g.structs �
   first_typed first.Nothing scope w ready c = ready
 
   abbrev each : List Stmt → Spot → Bool
-  each ss = each_typed (shapes g V D) V D (map (stmt_typed (shapes g V D) V D) ss)
+  each ss = each_typed (shapes g V D) V D (map (stmt_typed (shapes g V D) V D [] None) ss)
 
   loop_typed : (at : Place) (c : Option tree.Cond) (next : Option Simple) (body : tree'.Stmt) (loop : Bool)
       (scope : Scope) → Ready scope
@@ -215,8 +215,8 @@ module _ (g : Globals) (V : List VarDef) (D n : ℕ) (size : length g.structs �
   loop_typed at c next body loop scope ready test step round =
       typed_one g V D (For (maybe_cond g scope at.line c) (maybe_simple g scope next) (stmt_stmts g body scope))
       (spot_of loop)
-      (typed-For (shapes g V D) V D (maybe_cond g scope at.line c) (maybe_simple g scope next) (stmt_stmts g body scope)
-      (spot_of loop)
+      (typed-For (shapes g V D) V D [] None (maybe_cond g scope at.line c) (maybe_simple g scope next)
+      (stmt_stmts g body scope) (spot_of loop)
       ∙ ap
       (λ b. b
       && (each (maybe_simple g scope next) InNext && each (stmt_stmts g body scope) (body_of (spot_of loop)))) test
@@ -286,7 +286,7 @@ module _ (g : Globals) (V : List VarDef) (D n : ℕ) (size : length g.structs �
       told _ _ (spot_of loop) _ _ (made.made-If-stmt g at c s other scope) (past.past-If-stmt g at c s other scope) (
         typed_one g V D (Branch (cond_of g scope c) (stmt_stmts g s scope) (other_stmts g other (past_stmt g s scope)))
             (spot_of loop)
-            (typed-Branch (shapes g V D) V D (cond_of g scope c) (stmt_stmts g s scope)
+            (typed-Branch (shapes g V D) V D [] None (cond_of g scope c) (stmt_stmts g s scope)
             (other_stmts g other (past_stmt g s scope)) (spot_of loop)
             ∙ ap
             (λ b. b
@@ -306,13 +306,15 @@ module _ (g : Globals) (V : List VarDef) (D n : ℕ) (size : length g.structs �
       ok true scope (subst (Within g V D) (past.past-While-stmt g at c body scope) w) ready all.1 in
       told _ _ (spot_of loop) _ _ (made.made-While-stmt g at c body scope) (past.past-While-stmt g at c body scope) (
         typed_one g V D (While (cond_of g scope c) (stmt_stmts g body scope)) (spot_of loop)
-            (typed-While (shapes g V D) V D (cond_of g scope c) (stmt_stmts g body scope) (spot_of loop)
+            (typed-While (shapes g V D) V D [] None (cond_of g scope c) (stmt_stmts g body scope) (spot_of loop)
             ∙ ap
-            (λ b. b && each_typed (shapes g V D) V D (map (stmt_typed (shapes g V D) V D) (stmt_stmts g body scope))
+            (λ b. b
+            && each_typed (shapes g V D) V D (map (stmt_typed (shapes g V D) V D [] None) (stmt_stmts g body scope))
             (body_of (spot_of loop))) (cond_is_typed g V D n globals scope ready.0 c all.0)
             ∙ subst
-            (λ spot. each_typed (shapes g V D) V D (map (stmt_typed (shapes g V D) V D) (stmt_stmts g body scope))
-            spot ≡ true) (sym (body_spot loop)) round.0),
+            (λ spot. each_typed (shapes g V D) V D
+            (map (stmt_typed (shapes g V D) V D [] None) (stmt_stmts g body scope)) spot ≡ true)
+            (sym (body_spot loop)) round.0),
         round.1,
       )
 
@@ -325,13 +327,15 @@ module _ (g : Globals) (V : List VarDef) (D n : ℕ) (size : length g.structs �
       ok true scope (subst (Within g V D) (past.past-Do-stmt g at body c scope) w) ready all.0 in
       told _ _ (spot_of loop) _ _ (made.made-Do-stmt g at body c scope) (past.past-Do-stmt g at body c scope) (
         typed_one g V D (DoWhile (cond_of g scope c) (stmt_stmts g body scope)) (spot_of loop)
-            (typed-DoWhile (shapes g V D) V D (cond_of g scope c) (stmt_stmts g body scope) (spot_of loop)
+            (typed-DoWhile (shapes g V D) V D [] None (cond_of g scope c) (stmt_stmts g body scope) (spot_of loop)
             ∙ ap
-            (λ b. b && each_typed (shapes g V D) V D (map (stmt_typed (shapes g V D) V D) (stmt_stmts g body scope))
+            (λ b. b
+            && each_typed (shapes g V D) V D (map (stmt_typed (shapes g V D) V D [] None) (stmt_stmts g body scope))
             (body_of (spot_of loop))) (cond_is_typed g V D n globals scope ready.0 c all.1)
             ∙ subst
-            (λ spot. each_typed (shapes g V D) V D (map (stmt_typed (shapes g V D) V D) (stmt_stmts g body scope))
-            spot ≡ true) (sym (body_spot loop)) round.0),
+            (λ spot. each_typed (shapes g V D) V D
+            (map (stmt_typed (shapes g V D) V D [] None) (stmt_stmts g body scope)) spot ≡ true)
+            (sym (body_spot loop)) round.0),
         round.1,
       )
 
@@ -412,11 +416,11 @@ module _ (g : Globals) (V : List VarDef) (D n : ℕ) (size : length g.structs �
     of_Assert = λ at x loop scope w ready c.
         told _ _ (spot_of loop) _ _ (made.made-Assert-stmt g at x scope) (past.past-Assert-stmt g at x scope) (
           typed_one g V D (Branch (cond_of g scope x) [] (Do act.Error at.line ∷ [])) (spot_of loop)
-              (typed-Branch (shapes g V D) V D (cond_of g scope x) [] (Do act.Error at.line ∷ []) (spot_of loop)
+              (typed-Branch (shapes g V D) V D [] None (cond_of g scope x) [] (Do act.Error at.line ∷ []) (spot_of loop)
               ∙ ap
               (λ b. b
               && (true && each_typed (shapes g V D) V D
-              (map (stmt_typed (shapes g V D) V D) (Do act.Error at.line ∷ [])) (spot_of loop)))
+              (map (stmt_typed (shapes g V D) V D [] None) (Do act.Error at.line ∷ [])) (spot_of loop)))
               (cond_is_typed g V D n globals scope ready.0 x
               (subst (IsClean g) (sites.stmt-Assert g at x loop scope) c))
               ∙ typed_act g V D act.Error at.line (spot_of loop) refl),

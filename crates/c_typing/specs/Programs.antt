@@ -367,12 +367,13 @@ program_with g b = record {
   shapes = record { structs = map shape_of g.structs };
   vars = (past_block g b empty_scope).vars;
   data_vars = (past_block g b empty_scope).data_vars;
+  funcs = [];
   body = block_stmts g b empty_scope;
 }
 
 abbrev pub program_without : Globals → Program
 program_without g = record
-    { shapes = record { structs = map shape_of g.structs }; vars = []; data_vars = []; body = [] }
+    { shapes = record { structs = map shape_of g.structs }; vars = []; data_vars = []; funcs = []; body = [] }
 
 -- the program of the first main
 abbrev pub program_in : Globals → List Item → Program

@@ -1,5 +1,5 @@
 -- Short words for the programs of the rows.
-use Rattle.std.proofs.Common.{ℕ, Bool, true, false, None, List, [], ◌∷◌, replicate}
+use Rattle.std.proofs.Common.{ℕ, Bool, true, false, Option, Some, None, List, [], ◌∷◌, replicate}
 use Rattle.fore_base.specs.declared.shape.Shape.{Shape}
 use Rattle.fore_base.specs.declared.shape.FieldDef.{FieldDef}
 use Rattle.fore_base.specs.declared.shape.FieldKind.TheVariants.{Pointer, Datum}
@@ -11,7 +11,12 @@ use Rattle.c_types.specs.declared.program.DataPath.TheVariants.{Var as DataVar, 
 use Rattle.c_types.specs.declared.program.PtrRhs.TheVariants.{Path as RhsPath, Null as RhsNull, New as RhsNew}
 use Rattle.c_types.specs.declared.program.DataRhs.TheVariants.{Path as DataRhsPath, Known as DataRhsKnown}
 use Rattle.c_types.specs.declared.program.DataRhs.TheVariants.{Choice as DataRhsChoice}
-use Rattle.c_types.specs.declared.program.Act.TheVariants.{SetPtr, SetData, Free, Error, Halt, Return, Break, Continue}
+use Rattle.c_types.specs.declared.program.Act.TheVariants.{SetPtr, SetData, Free, Error, Halt, Return, Leave, Break}
+use Rattle.c_types.specs.declared.program.Act.TheVariants.{Continue}
+use Rattle.c_types.specs.declared.program.VarRef.{VarRef}
+use Rattle.c_types.specs.declared.program.Arg.{Arg}
+use Rattle.c_types.specs.declared.program.Arg.TheVariants.{Ptr as PtrArg, Data as DataArg}
+use Rattle.c_types.specs.declared.program.Func.{Func}
 use Rattle.c_types.specs.declared.program.PtrOp.{PtrOp}
 use Rattle.c_types.specs.declared.program.PtrOp.TheVariants.{Path as OpPath, Null as OpNull}
 use Rattle.c_types.specs.declared.program.DataOp.{DataOp}
@@ -152,6 +157,44 @@ main_with shapes ptrs datums body ps ds close =
       vars = replicate ptrs (record { name = []; shape = 0 });
       data_vars = replicate datums [];
       funcs = [];
+      body = Group body ps ds close ∷ [];
+    }
+
+-- Functions
+
+-- a function with these parameters, local variables and result, whose block declares these variables and ends there
+abbrev pub func : List VarRef → List VarRef → Option VarRef → List Stmt → List ℕ → List ℕ → ℕ → Func
+func params locals result body ps ds close =
+    record { name = []; params = params; locals = locals; result = result; body = Group body ps ds close ∷ [] }
+
+-- `return` of the function f, with a value or without one
+abbrev pub back : ℕ → Arg → ℕ → Stmt
+back f value line = Do (Leave f (Some value)) line
+
+abbrev pub back_none : ℕ → ℕ → Stmt
+back_none f line = Do (Leave f None) line
+
+-- arguments and values
+abbrev pub give_ptr : Path → Arg
+give_ptr p = PtrArg (OpPath p)
+
+abbrev pub give_null : Arg
+give_null = PtrArg OpNull
+
+abbrev pub give_datum : DataPath → Arg
+give_datum p = DataArg (DataOpPath p)
+
+abbrev pub give_known : ℕ → Arg
+give_known k = DataArg (DataOpKnown k)
+
+-- a program with functions
+abbrev pub with_funcs : List Shape → ℕ → ℕ → List Func → List Stmt → List ℕ → List ℕ → ℕ → Program
+with_funcs shapes ptrs datums funcs body ps ds close =
+    record {
+      shapes = record { structs = shapes };
+      vars = replicate ptrs (record { name = []; shape = 0 });
+      data_vars = replicate datums [];
+      funcs = funcs;
       body = Group body ps ds close ∷ [];
     }
 

@@ -578,6 +578,7 @@ smallest_file : program_of
       shapes = record { structs = [] };
       vars = [];
       data_vars = [];
+      funcs = [];
       body = Group [] [] [] 205 ∷ [];
     }
 unfolding program_of
@@ -632,6 +633,7 @@ list_of_nodes : program_of
       };
       vars = record { name = codes "l"; shape = 0 } ∷ record { name = codes "n"; shape = 0 } ∷ [];
       data_vars = [];
+      funcs = [];
       body =
           Group (Do (SetPtr (ptr 0 []) ptr_rhs.Null) 226
           ∷ While (single (Atom atom.Choice 232))
@@ -660,6 +662,7 @@ first_main :
       shapes = record { structs = [] };
       vars = [];
       data_vars = codes "x" ∷ [];
+      funcs = [];
       body = Group (Do (SetData (Var 0) (data_rhs.Known 3)) 215 ∷ []) [] (0 ∷ []) 219 ∷ [];
     }
 unfolding program_of
