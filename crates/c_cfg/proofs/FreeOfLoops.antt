@@ -9,7 +9,7 @@ use Rattle.fore_base.proofs.ListLemmas.{in_left, in_right, in_map, number_in, in
 use Rattle.c_types.specs.declared.mode.MallocMode.{MallocMode}
 use Rattle.c_types.specs.Program.{Program}
 use Rattle.c_types.specs.Control.{Items, Done, Do, Close, If, Loop, Again, DoLoop, DoAgain, Test, Ask, Not, Both}
-use Rattle.c_types.specs.Control.{Either, ◌then◌, ask, round, do_round}
+use Rattle.c_types.specs.Control.{Either, Enter, Leave, Exit, ◌then◌, ask, round, do_round}
 use Rattle.c_types.specs.Steps.{below}
 use Rattle.c_cfg.specs.Graphs.{ControlGraph}
 use Rattle.c_cfg.specs.Places.{test_places, places, heads, remark}
@@ -29,6 +29,9 @@ free_remarked f (Loop c n b is) = refl
 free_remarked f (Again c n b is) = refl
 free_remarked f (DoLoop c b is) = refl
 free_remarked f (DoAgain c b is) = refl
+free_remarked f (Enter vs ws m is) = free_remarked f is
+free_remarked f (Leave v vs a m is) = free_remarked f is
+free_remarked f (Exit v vs d m is) = free_remarked f is
 
 -- Loop heads
 
@@ -45,6 +48,9 @@ no_heads (Loop c n b is) r e = absurd (true≢false (sym e))
 no_heads (Again c n b is) r e = absurd (true≢false (sym e))
 no_heads (DoLoop c b is) r e = absurd (true≢false (sym e))
 no_heads (DoAgain c b is) r e = absurd (true≢false (sym e))
+no_heads (Enter vs ws m is) r e = no_heads is r e
+no_heads (Leave v vs a m is) r e = no_heads is r e
+no_heads (Exit v vs d m is) r e = no_heads is r e
 
 asks_place : (c : Test) (x y r : Items) → IsIn (ask c x y r) (test_places c x y r)
 asks_place (Ask a m) x y r = inl refl
@@ -115,6 +121,12 @@ some_head (DoAgain c b is) r e = record {
   is_head = inl refl;
   is_place = in_left _ (test_places c (do_round c b) Done (is then r)) _ (asks_place c (do_round c b) Done (is then r));
 }
+some_head (Enter vs ws m is) r e = let h = some_head is r e in
+    record { head = h.head; is_head = h.is_head; is_place = inr h.is_place }
+some_head (Leave v vs a m is) r e = let h = some_head is r e in
+    record { head = h.head; is_head = h.is_head; is_place = inr h.is_place }
+some_head (Exit v vs d m is) r e = let h = some_head is r e in
+    record { head = h.head; is_head = h.is_head; is_place = inr h.is_place }
 
 -- Entries
 

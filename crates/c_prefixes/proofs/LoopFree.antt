@@ -5,13 +5,13 @@ use Rattle.fore_base.proofs.ListLemmas.{every_parts}
 use Rattle.c_types.specs.declared.mode.MallocMode.{MallocMode}
 use Rattle.c_types.specs.declared.program.Act.{Act}
 use Rattle.c_types.specs.declared.program.Act.TheVariants.{SetPtr, SetData, Free, Error, Halt, Return, Break}
-use Rattle.c_types.specs.declared.program.Act.TheVariants.{Continue}
+use Rattle.c_types.specs.declared.program.Act.TheVariants.{Continue, Leave as LeaveAct}
 use Rattle.c_types.specs.declared.program.Atom.{Atom}
 use Rattle.c_types.specs.declared.program.Atom.TheVariants.{Choice as ChoiceAtom, Known as KnownAtom, Ptr as PtrAtom}
 use Rattle.c_types.specs.declared.program.Atom.TheVariants.{Data as DataAtom}
-use Rattle.c_types.specs.Control.{Items, Done, Do, Close, If, Loop, Again, DoLoop, DoAgain, Test, Ask, Not, Both}
-use Rattle.c_types.specs.Control.{Either}
-use Rattle.c_types.specs.Control.{◌then◌, ask, opened, open_before}
+use Rattle.c_types.specs.Control.{Items, Done, Do, Close, If, Loop, Again, DoLoop, DoAgain, Enter, Leave, Exit, Test}
+use Rattle.c_types.specs.Control.{Ask, Not, Both, Either}
+use Rattle.c_types.specs.Control.{◌then◌, ask, opened, open_before, from_exit}
 use Rattle.c_types.specs.Program.{Program}
 use Rattle.c_cfg.specs.declared.graph.Edge.{Edge}
 use Rattle.c_cfg.specs.declared.graph.Instr.{Instr}
@@ -20,7 +20,7 @@ use Rattle.c_cfg.specs.GraphRuns.{out_of}
 use Rattle.c_cfg.specs.Graphs.{ControlGraph}
 use Rattle.c_cfg.specs.declared.link.Link.{Link}
 use Rattle.c_cfg.specs.declared.link.Link.TheVariants.{One, Two}
-use Rattle.c_cfg.specs.Links.{act_row, links_in}
+use Rattle.c_cfg.specs.Links.{act_row, links_in, enter_row, leave_row, exit_row}
 use Rattle.c_cfg.specs.LoopFree.{has_no_loop}
 use Rattle.c_cfg.specs.Lowering.{LowerOf, IsWay, IsTestRow, IsAtomRow, IsRow, edge, followed_by}
 use Rattle.c_cfg.specs.Places.{test_places, places}
@@ -39,6 +39,9 @@ then_done (Loop c n b is) = ap (Loop c n b) (then_done is)
 then_done (Again c n b is) = ap (Again c n b) (then_done is)
 then_done (DoLoop c b is) = ap (DoLoop c b) (then_done is)
 then_done (DoAgain c b is) = ap (DoAgain c b) (then_done is)
+then_done (Enter vs ws m is) = ap (Enter vs ws m) (then_done is)
+then_done (Leave v vs a m is) = ap (Leave v vs a m) (then_done is)
+then_done (Exit v vs d m is) = ap (Exit v vs d m) (then_done is)
 
 module _ (nv nd : ℕ) (edges : List Edge) where
   -- along a way
@@ -120,38 +123,69 @@ module _ (nv nd : ℕ) (edges : List Edge) where
     act_number Error is f h = exit_number
     act_number Halt is f h = exit_number
     act_number (Return operand) is f h = exit_number
+    act_number (LeaveAct g value) is f h = exit_number
     act_number Break is f h = subst (λ (z : Items). HasNumber edges (at (opened z)))
         (sym (none_after is f)) exit_number
     act_number Continue is f h =
         subst (λ (z : Items). HasNumber edges (at (opened z))) (sym (none_from is f)) exit_number
 
+    -- what some items open to before others has a number, and so has the first Exit among both
+    abbrev AreNumbered : Items → Items → Type 0
+    AreNumbered is r = HasNumber edges (at (open_before is r (opened r)))
+        × HasNumber edges (at (opened (from_exit (is then r))))
+
     -- items without a loop, before others
     items_number : (is r : Items) → IsFree is → IsFree r → Every Row (places is r) → HasNumber edges (at (opened r))
-        → HasNumber edges (at (open_before is r (opened r)))
-    items_number Done r f g rows h = h
-    items_number (Do a m is) r f g rows h =
-        let n = whole is r (items_number is r f g rows.1 h) in
-        way_number (line m) (links_in mode (act_row nv nd a (is then r))) (at (Do a m (is then r))) rows.0.way
-        (at (opened (followed_by a (is then r)))) rows.0.leads
-        (act_number a (is then r) (then_free is r f g) n)
-    items_number (Close ps ds m is) r f g rows h =
-        let n = whole is r (items_number is r f g rows.1 h) in
-        way_number (line m) (One (Kill ps ds) ∷ []) (at (Close ps ds m (is then r))) rows.0.way
-        (at (opened (is then r)))
-        rows.0.leads n
-    items_number (If c x y is) r f g rows h =
+        → HasNumber edges (at (opened (from_exit r))) → AreNumbered is r
+    items_number Done r f g rows h e = (h, e)
+    items_number (Do a m is) r f g rows h e =
+        let n = items_number is r f g rows.1 h e in (
+          way_number (line m) (links_in mode (act_row nv nd a (is then r))) (at (Do a m (is then r))) rows.0.way
+              (at (opened (followed_by a (is then r)))) rows.0.leads
+              (act_number a (is then r) (then_free is r f g) (whole is r n.0)),
+          n.1,
+        )
+    items_number (Close ps ds m is) r f g rows h e =
+        let n = items_number is r f g rows.1 h e in (
+          way_number (line m) (One (Kill ps ds) ∷ []) (at (Close ps ds m (is then r))) rows.0.way
+              (at (opened (is then r))) rows.0.leads (whole is r n.0),
+          n.1,
+        )
+    items_number (If c x y is) r f g rows h e =
         let a = every_parts Row (test_places c x y (is then r))
         (places x (is then r) ++ (places y (is then r) ++ places is r)) rows in
         let b = every_parts Row (places x (is then r)) (places y (is then r) ++ places is r) a.1 in
-        let e = every_parts Row (places y (is then r)) (places is r) b.1 in
-        let n = whole is r (items_number is r f.2 g e.1 h) in
+        let d = every_parts Row (places y (is then r)) (places is r) b.1 in
+        let n = items_number is r f.2 g d.1 h e in
         let t = then_free is r f.2 g in
-        test_number c x y (is then r) a.0 (whole x (is then r) (items_number x (is then r) f.0 t b.0 n))
-        (whole y (is then r) (items_number y (is then r) f.1 t e.0 n))
-    items_number (Loop c n b is) r f g rows h = absurd f
-    items_number (Again c n b is) r f g rows h = absurd f
-    items_number (DoLoop c b is) r f g rows h = absurd f
-    items_number (DoAgain c b is) r f g rows h = absurd f
+        let w = whole is r n.0 in (
+          test_number c x y (is then r) a.0 (whole x (is then r) (items_number x (is then r) f.0 t b.0 w n.1).0)
+              (whole y (is then r) (items_number y (is then r) f.1 t d.0 w n.1).0),
+          n.1,
+        )
+    items_number (Loop c n b is) r f g rows h e = absurd f
+    items_number (Again c n b is) r f g rows h e = absurd f
+    items_number (DoLoop c b is) r f g rows h e = absurd f
+    items_number (DoAgain c b is) r f g rows h e = absurd f
+    items_number (Enter vs ws m is) r f g rows h e =
+        let n = items_number is r f g rows.1 h e in (
+          way_number (line m) (enter_row nv nd vs ws) (at (Enter vs ws m (is then r))) rows.0.way
+              (at (opened (is then r))) rows.0.leads (whole is r n.0),
+          n.1,
+        )
+    items_number (Leave v vs a m is) r f g rows h e =
+        let n = items_number is r f g rows.1 h e in (
+          way_number (line m) (leave_row nv nd v vs a) (at (Leave v vs a m (is then r))) rows.0.way
+              (at (opened (from_exit (is then r)))) rows.0.leads n.1,
+          n.1,
+        )
+    items_number (Exit v vs d m is) r f g rows h e =
+        let n = items_number is r f g rows.1 h e in
+        let own = way_number (line m) (exit_row nv nd v vs d) (at (Exit v vs d m (is then r))) rows.0.way
+        (at (opened (is then r))) rows.0.leads (whole is r n.0) in
+        let same : opened (Exit v vs d m (is then r)) ≡ Exit v vs d m (is then r) =
+        ap (Exit v vs d m) (then_done (is then r)) in
+        (own, subst (λ (z : Items). HasNumber edges (at z)) (sym same) own)
 
 -- the graph of a program without loops
 pub loop_free_number : (p : Program) (mode : MallocMode) (g : ControlGraph) → LowerOf p mode g → has_no_loop p ≡ true
@@ -161,4 +195,5 @@ loop_free_number p mode g low none =
     subst (HasNumber g.edges) low.entry
     (items_number (length p.vars) (length p.data_vars) g.edges mode low.line low.at low.mids low.exit low.items Done f
     tt low.rows
-    (exit_number (length p.vars) (length p.data_vars) g.edges mode low.line low.at low.mids low.exit))
+    (exit_number (length p.vars) (length p.data_vars) g.edges mode low.line low.at low.mids low.exit)
+    (exit_number (length p.vars) (length p.data_vars) g.edges mode low.line low.at low.mids low.exit)).0
