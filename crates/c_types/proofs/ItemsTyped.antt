@@ -24,7 +24,8 @@ use Rattle.c_types.specs.Program.{stmt_typed_step, stmt_typed, bodies_typed, sha
 use Rattle.c_types.specs.Program.{var_typed, is_typed}
 use Rattle.c_types.specs.Control.{Test, Ask, Not, Both, Either, Items, Done, Do, Close, If, Loop, Again, DoLoop}
 use Rattle.c_types.specs.Control.{DoAgain, Enter, Leave, Exit, ◌then◌, ask, round, do_round, open_before, opened}
-use Rattle.c_types.specs.Control.{after_again, from_again, from_exit, all_before, closes, act_items, leave_items}
+use Rattle.c_types.specs.Control.{after_again, from_again, exit_after, from_exit, all_before, closes, act_items}
+use Rattle.c_types.specs.Control.{leave_items}
 use Rattle.c_types.specs.Control.{call_items, items_step, items_by, body_within, start_of}
 use Rattle.c_types.specs.Fits.{ItemsFit}
 
@@ -111,18 +112,22 @@ module _ (p : Program) where
 
   -- `return` of a function
 
+  exit_after_fit : (n : ℕ) (is : Items) → ItemsFit p is → ItemsFit p (exit_after n is)
+  exit_after_fit n Done fit = tt
+  exit_after_fit n (Do a m is) fit = exit_after_fit n is fit.1
+  exit_after_fit n (Close ps ds m is) fit = exit_after_fit n is fit
+  exit_after_fit n (If c x y is) fit = exit_after_fit n is fit.2
+  exit_after_fit n (Loop c b d is) fit = exit_after_fit n is fit.2
+  exit_after_fit n (Again c b d is) fit = exit_after_fit n is fit.2
+  exit_after_fit n (DoLoop c b is) fit = exit_after_fit n is fit.1
+  exit_after_fit n (DoAgain c b is) fit = exit_after_fit n is fit.1
+  exit_after_fit n (Enter vs ws m is) fit = exit_after_fit (suc n) is fit.1
+  exit_after_fit n (Leave v vs a m is) fit = exit_after_fit n is fit.1
+  exit_after_fit zero (Exit v vs d m is) fit = fit
+  exit_after_fit (suc n) (Exit v vs d m is) fit = exit_after_fit n is fit.1
+
   pub exit_fit : (is : Items) → ItemsFit p is → ItemsFit p (from_exit is)
-  exit_fit Done fit = tt
-  exit_fit (Do a m is) fit = exit_fit is fit.1
-  exit_fit (Close ps ds m is) fit = exit_fit is fit
-  exit_fit (If c x y is) fit = exit_fit is fit.2
-  exit_fit (Loop c n b is) fit = exit_fit is fit.2
-  exit_fit (Again c n b is) fit = exit_fit is fit.2
-  exit_fit (DoLoop c b is) fit = exit_fit is fit.1
-  exit_fit (DoAgain c b is) fit = exit_fit is fit.1
-  exit_fit (Enter vs ws m is) fit = exit_fit is fit.1
-  exit_fit (Leave v vs a m is) fit = exit_fit is fit.1
-  exit_fit (Exit v vs d m is) fit = fit
+  exit_fit is fit = exit_after_fit 0 is fit
 
   -- The items of statements
 

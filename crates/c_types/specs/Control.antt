@@ -126,19 +126,24 @@ from_again (Enter vs ws m is) = from_again is
 from_again (Leave v vs a m is) = from_again is
 from_again (Exit v vs d m is) = from_again is
 
--- `return` of a function: the items from the first Exit on (6.8.6.4)
+-- the items from the first Exit on that ends none of n calls: a call that is still to come has an Exit of its own
+abbrev pub exit_after : ℕ → Items → Items
+exit_after n Done = Done
+exit_after n (Do a m is) = exit_after n is
+exit_after n (Close ps ds m is) = exit_after n is
+exit_after n (If c x y is) = exit_after n is
+exit_after n (Loop c b d is) = exit_after n is
+exit_after n (Again c b d is) = exit_after n is
+exit_after n (DoLoop c b is) = exit_after n is
+exit_after n (DoAgain c b is) = exit_after n is
+exit_after n (Enter vs ws m is) = exit_after (suc n) is
+exit_after n (Leave v vs a m is) = exit_after n is
+exit_after zero (Exit v vs d m is) = Exit v vs d m is
+exit_after (suc n) (Exit v vs d m is) = exit_after n is
+
+-- `return` of a function: the items from the Exit of its own call on (6.8.6.4)
 abbrev pub from_exit : Items → Items
-from_exit Done = Done
-from_exit (Do a m is) = from_exit is
-from_exit (Close ps ds m is) = from_exit is
-from_exit (If c x y is) = from_exit is
-from_exit (Loop c n b is) = from_exit is
-from_exit (Again c n b is) = from_exit is
-from_exit (DoLoop c b is) = from_exit is
-from_exit (DoAgain c b is) = from_exit is
-from_exit (Enter vs ws m is) = from_exit is
-from_exit (Leave v vs a m is) = from_exit is
-from_exit (Exit v vs d m is) = Exit v vs d m is
+from_exit is = exit_after 0 is
 
 -- a rising list with one number more
 abbrev pub insert : ℕ → List ℕ → List ℕ

@@ -272,6 +272,28 @@ return_from_a_loop :
 unfolding leaks run
 return_from_a_loop = simp layers refl
 
+-- a `return` leaves its own call, whatever calls its body would still make, and whatever these would call:
+-- int f(int a) { 2 if (a == 1) { 3 return 1; } 4 g();  5 return 0; }  void g(void) { 6 h(); }  void h(void) { } 7
+-- 8 b = f(..);  9 if (b == 1) 10 exit(0);  11 return 0;  (0 is the result, 1 is a, 2 is b)
+abbrev returning : ℕ → Program
+returning k =
+    with_funcs [] 0 3
+    (func (DatumVar 1 ∷ []) [] (Some (DatumVar 0))
+    (Branch (has 1 1 2) (back 0 (give_known 1) 3 ∷ []) [] ∷ Call 1 [] None 4 ∷ back 0 (give_known 0) 5 ∷ []) [] [] 5
+    ∷ func [] [] None (Call 2 [] None 6 ∷ []) [] [] 6 ∷ func [] [] None [] [] [] 7 ∷ [])
+    (Call 0 (give_known k ∷ []) (Some (DataDest (DataVar 2))) 8 ∷ Branch (has 2 1 9) (halt 10 ∷ []) [] ∷ leave 11 ∷ [])
+    [] (2 ∷ []) 12
+
+-- Enter, test, Leave, Exit, test, exit
+return_before_a_call : always (returning 1) [] 20 ≡ Ended 6
+unfolding leaks run
+return_before_a_call = simp layers refl
+
+-- Enter, test, Enter and Exit of g and of h, Leave, Exit, test, return
+no_return_before_a_call : always (returning 0) [] 20 ≡ Ended 10
+unfolding leaks run
+no_return_before_a_call = simp layers refl
+
 -- A call within a call, and a target with an arrow
 
 -- 2 struct node *id(struct node *a) { return a; }  (0 is the result, 1 is a)
