@@ -1,5 +1,5 @@
 -- Where a step leads is a place again, or the exit.
-use Rattle.std.proofs.Common.{◌≡◌, ℕ, List, [], ◌∷◌, refl, ap, subst}
+use Rattle.std.proofs.Common.{◌≡◌, ℕ, zero, suc, List, [], ◌∷◌, refl, ap, subst}
 use Rattle.fore_base.specs.Lists.{Every}
 use Rattle.fore_base.proofs.ListLemmas.{every_append, every_parts}
 use Rattle.c_types.specs.declared.program.Act.{Act}
@@ -7,7 +7,7 @@ use Rattle.c_types.specs.declared.program.Act.TheVariants.{SetPtr, SetData, Free
 use Rattle.c_types.specs.declared.program.Act.TheVariants.{Leave as LeaveAct}
 use Rattle.c_types.specs.Control.{Items, Done, Do, Close, If, Loop, Again, DoLoop, DoAgain, Test, Ask, Not, Both}
 use Rattle.c_types.specs.Control.{Either, Enter, Leave, Exit, ◌then◌, ask, round, do_round, open_before, opened}
-use Rattle.c_types.specs.Control.{after_again, from_again, from_exit}
+use Rattle.c_types.specs.Control.{after_again, from_again, exit_after, from_exit}
 use Rattle.c_cfg.specs.Places.{test_places, places}
 use Rattle.c_cfg.specs.Lowering.{followed_by}
 use Rattle.c_cfg.proofs.Opening.{then_then}
@@ -191,18 +191,22 @@ module _ (R : Items → Type 0) where
   each_from (Leave v vs a m is) h = each_from is h.1
   each_from (Exit v vs d m is) h = each_from is h.1
 
+  each_exit_after : (n : ℕ) (is : Items) → Each is Done → Each (exit_after n is) Done
+  each_exit_after n Done h = tt
+  each_exit_after n (Do a m is) h = each_exit_after n is h.1
+  each_exit_after n (Close ps ds m is) h = each_exit_after n is h.1
+  each_exit_after n (If c x y is) h = each_exit_after n is h.3
+  each_exit_after n (Loop c k b is) h = each_exit_after n is h.3
+  each_exit_after n (Again c k b is) h = each_exit_after n is h.3
+  each_exit_after n (DoLoop c b is) h = each_exit_after n is h.2
+  each_exit_after n (DoAgain c b is) h = each_exit_after n is h.2
+  each_exit_after n (Enter vs ws m is) h = each_exit_after (suc n) is h.1
+  each_exit_after n (Leave v vs a m is) h = each_exit_after n is h.1
+  each_exit_after zero (Exit v vs d m is) h = h
+  each_exit_after (suc n) (Exit v vs d m is) h = each_exit_after n is h.1
+
   pub each_exit : (is : Items) → Each is Done → Each (from_exit is) Done
-  each_exit Done h = tt
-  each_exit (Do a m is) h = each_exit is h.1
-  each_exit (Close ps ds m is) h = each_exit is h.1
-  each_exit (If c x y is) h = each_exit is h.3
-  each_exit (Loop c n b is) h = each_exit is h.3
-  each_exit (Again c n b is) h = each_exit is h.3
-  each_exit (DoLoop c b is) h = each_exit is h.2
-  each_exit (DoAgain c b is) h = each_exit is h.2
-  each_exit (Enter vs ws m is) h = each_exit is h.1
-  each_exit (Leave v vs a m is) h = each_exit is h.1
-  each_exit (Exit v vs d m is) h = h
+  each_exit is h = each_exit_after 0 is h
 
   -- The places after each place
 

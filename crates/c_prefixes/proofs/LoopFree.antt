@@ -1,17 +1,20 @@
 -- The graph of a program without loops has a number of prefixes: each of its edges leads on in the text.
-use Rattle.std.proofs.Common.{◌≡◌, ℕ, Bool, true, false, List, [], ◌∷◌, ◌++◌, length, Some, refl, sym, ap, subst, ◌∙◌}
+use Rattle.std.proofs.Common.{◌≡◌, ℕ, zero, suc, Bool, true, false, List, [], ◌∷◌, ◌++◌, length, Option, Some, refl}
+use Rattle.std.proofs.Common.{sym, ap, subst, ◌∙◌}
 use Rattle.fore_base.specs.Lists.{Every}
 use Rattle.fore_base.proofs.ListLemmas.{every_parts}
 use Rattle.c_types.specs.declared.mode.MallocMode.{MallocMode}
 use Rattle.c_types.specs.declared.program.Act.{Act}
 use Rattle.c_types.specs.declared.program.Act.TheVariants.{SetPtr, SetData, Free, Error, Halt, Return, Break}
 use Rattle.c_types.specs.declared.program.Act.TheVariants.{Continue, Leave as LeaveAct}
+use Rattle.c_types.specs.declared.program.VarRef.{VarRef}
+use Rattle.c_types.specs.declared.program.Dest.{Dest}
 use Rattle.c_types.specs.declared.program.Atom.{Atom}
 use Rattle.c_types.specs.declared.program.Atom.TheVariants.{Choice as ChoiceAtom, Known as KnownAtom, Ptr as PtrAtom}
 use Rattle.c_types.specs.declared.program.Atom.TheVariants.{Data as DataAtom}
 use Rattle.c_types.specs.Control.{Items, Done, Do, Close, If, Loop, Again, DoLoop, DoAgain, Enter, Leave, Exit, Test}
 use Rattle.c_types.specs.Control.{Ask, Not, Both, Either}
-use Rattle.c_types.specs.Control.{◌then◌, ask, opened, open_before, from_exit}
+use Rattle.c_types.specs.Control.{◌then◌, ask, opened, open_before, exit_after, from_exit}
 use Rattle.c_types.specs.Program.{Program}
 use Rattle.c_cfg.specs.declared.graph.Edge.{Edge}
 use Rattle.c_cfg.specs.declared.graph.Instr.{Instr}
@@ -129,14 +132,22 @@ module _ (nv nd : ℕ) (edges : List Edge) where
     act_number Continue is f h =
         subst (λ (z : Items). HasNumber edges (at (opened z))) (sym (none_from is f)) exit_number
 
-    -- what some items open to before others has a number, and so has the first Exit among both
+    -- each Exit among some items, from its call's end on
+    abbrev ExitsNumbered : Items → Type 0
+    ExitsNumbered is = (k : ℕ) → HasNumber edges (at (opened (exit_after k is)))
+
+    exits_number : (v : Option VarRef) (vs : List VarRef) (d : Option Dest) (m : ℕ) (is : Items)
+        → HasNumber edges (at (opened (Exit v vs d m is))) → ExitsNumbered is → ExitsNumbered (Exit v vs d m is)
+    exits_number v vs d m is own later zero = own
+    exits_number v vs d m is own later (suc k) = later k
+
+    -- what some items open to before others has a number, and so has each Exit among both
     abbrev AreNumbered : Items → Items → Type 0
-    AreNumbered is r = HasNumber edges (at (open_before is r (opened r)))
-        × HasNumber edges (at (opened (from_exit (is then r))))
+    AreNumbered is r = HasNumber edges (at (open_before is r (opened r))) × ExitsNumbered (is then r)
 
     -- items without a loop, before others
     items_number : (is r : Items) → IsFree is → IsFree r → Every Row (places is r) → HasNumber edges (at (opened r))
-        → HasNumber edges (at (opened (from_exit r))) → AreNumbered is r
+        → ExitsNumbered r → AreNumbered is r
     items_number Done r f g rows h e = (h, e)
     items_number (Do a m is) r f g rows h e =
         let n = items_number is r f g rows.1 h e in (
@@ -171,12 +182,12 @@ module _ (nv nd : ℕ) (edges : List Edge) where
         let n = items_number is r f g rows.1 h e in (
           way_number (line m) (enter_row nv nd vs ws) (at (Enter vs ws m (is then r))) rows.0.way
               (at (opened (is then r))) rows.0.leads (whole is r n.0),
-          n.1,
+          (λ k. n.1 (suc k)),
         )
     items_number (Leave v vs a m is) r f g rows h e =
         let n = items_number is r f g rows.1 h e in (
           way_number (line m) (leave_row nv nd v vs a) (at (Leave v vs a m (is then r))) rows.0.way
-              (at (opened (from_exit (is then r)))) rows.0.leads n.1,
+              (at (opened (from_exit (is then r)))) rows.0.leads (n.1 0),
           n.1,
         )
     items_number (Exit v vs d m is) r f g rows h e =
@@ -185,7 +196,8 @@ module _ (nv nd : ℕ) (edges : List Edge) where
         (at (opened (is then r))) rows.0.leads (whole is r n.0) in
         let same : opened (Exit v vs d m (is then r)) ≡ Exit v vs d m (is then r) =
         ap (Exit v vs d m) (then_done (is then r)) in
-        (own, subst (λ (z : Items). HasNumber edges (at z)) (sym same) own)
+        let opens = subst (λ (z : Items). HasNumber edges (at z)) (sym same) own in
+        (own, exits_number v vs d m (is then r) opens n.1)
 
 -- the graph of a program without loops
 pub loop_free_number : (p : Program) (mode : MallocMode) (g : ControlGraph) → LowerOf p mode g → has_no_loop p ≡ true
@@ -196,4 +208,4 @@ loop_free_number p mode g low none =
     (items_number (length p.vars) (length p.data_vars) g.edges mode low.line low.at low.mids low.exit low.items Done f
     tt low.rows
     (exit_number (length p.vars) (length p.data_vars) g.edges mode low.line low.at low.mids low.exit)
-    (exit_number (length p.vars) (length p.data_vars) g.edges mode low.line low.at low.mids low.exit)).0
+    (λ k. exit_number (length p.vars) (length p.data_vars) g.edges mode low.line low.at low.mids low.exit)).0

@@ -14,7 +14,7 @@ use Rattle.c_types.specs.declared.program.Act.TheVariants.{Leave as LeaveAct}
 use Rattle.c_types.specs.Program.{Program}
 use Rattle.c_types.specs.Control.{Items, Done, Do, Close, If, Loop, Again, DoLoop, DoAgain, Test, Ask, Not, Both}
 use Rattle.c_types.specs.Control.{Either, Enter, Leave, Exit, ◌then◌, ask, round, do_round, open_before, opened}
-use Rattle.c_types.specs.Control.{after_again, from_again, from_exit}
+use Rattle.c_types.specs.Control.{after_again, from_again, exit_after, from_exit}
 use Rattle.c_types.specs.Control.{closed_ptrs, closed_datums, merged}
 use Rattle.c_types.specs.Steps.{assign, assign_data, free_path, look_at, all_dead, settle, settled, finished, act_turn}
 use Rattle.c_types.specs.Steps.{act_takes, atom_of, atom_takes, test_turn, enter, leave, exit}
@@ -105,18 +105,22 @@ module _ (f : ℕ → ℕ) where
   remark_from (Leave v vs a m is) = remark_from is
   remark_from (Exit v vs d m is) = remark_from is
 
+  remark_exit_after : (n : ℕ) (is : Items) → exit_after n (remark f is) ≡ remark f (exit_after n is)
+  remark_exit_after n Done = refl
+  remark_exit_after n (Do a m is) = remark_exit_after n is
+  remark_exit_after n (Close ps ds m is) = remark_exit_after n is
+  remark_exit_after n (If c x y is) = remark_exit_after n is
+  remark_exit_after n (Loop c k b is) = remark_exit_after n is
+  remark_exit_after n (Again c k b is) = remark_exit_after n is
+  remark_exit_after n (DoLoop c b is) = remark_exit_after n is
+  remark_exit_after n (DoAgain c b is) = remark_exit_after n is
+  remark_exit_after n (Enter vs ws m is) = remark_exit_after (suc n) is
+  remark_exit_after n (Leave v vs a m is) = remark_exit_after n is
+  remark_exit_after zero (Exit v vs d m is) = refl
+  remark_exit_after (suc n) (Exit v vs d m is) = remark_exit_after n is
+
   remark_exit : (is : Items) → from_exit (remark f is) ≡ remark f (from_exit is)
-  remark_exit Done = refl
-  remark_exit (Do a m is) = remark_exit is
-  remark_exit (Close ps ds m is) = remark_exit is
-  remark_exit (If c x y is) = remark_exit is
-  remark_exit (Loop c n b is) = remark_exit is
-  remark_exit (Again c n b is) = remark_exit is
-  remark_exit (DoLoop c b is) = remark_exit is
-  remark_exit (DoAgain c b is) = remark_exit is
-  remark_exit (Enter vs ws m is) = remark_exit is
-  remark_exit (Leave v vs a m is) = remark_exit is
-  remark_exit (Exit v vs d m is) = refl
+  remark_exit is = remark_exit_after 0 is
 
   remark_ptrs : (is : Items) → closed_ptrs (remark f is) ≡ closed_ptrs is
   remark_ptrs Done = refl
