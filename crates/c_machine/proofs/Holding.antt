@@ -1,5 +1,6 @@
 -- Which variables of the blocks that are left refer to a cell.
 use Rattle.std.proofs.Common.{Bor, ◌≡◌, ℕ, zero, suc, Bool, true, false, ◌||◌, nat_lt, if◌then◌else◌, List, [], ◌∷◌}
+use Rattle.std.proofs.Common.{Option}
 use Rattle.std.proofs.Common.{◌++◌, map, length, take, slice_index_or, ◌≤◌, refl, sym, ap, ◌∙◌, subst, arith}
 use Rattle.std.proofs.Math.Seq.{take-suc, take-length}
 use Rattle.std.proofs.lemmas.List.{map-append}
@@ -10,10 +11,15 @@ use Rattle.c_types.specs.declared.program.Cond.{Cond}
 use Rattle.c_types.specs.declared.program.Stmt.{Stmt, Stmt-F, map-Stmt, roll-Stmt, ind-Stmt, fold-roll-Stmt}
 use Rattle.c_types.specs.declared.program.Stmt.TheVariants.{Do as StmtDo, Branch, While, DoWhile, For, Group, rolls-Do}
 use Rattle.c_types.specs.declared.program.Stmt.TheVariants.{rolls-Branch, rolls-While, rolls-DoWhile, rolls-For}
-use Rattle.c_types.specs.declared.program.Stmt.TheVariants.{rolls-Group}
+use Rattle.c_types.specs.declared.program.Stmt.TheVariants.{rolls-Group, Call, rolls-Call}
+use Rattle.c_types.specs.declared.program.Arg.{Arg}
+use Rattle.c_types.specs.declared.program.Dest.{Dest}
+use Rattle.c_types.proofs.Layers.{acts_none}
+use Rattle.c_types.proofs.NoFunctions.{plain_step}
 use Rattle.c_types.specs.declared.program.Stmt.TheOpen.{Do as Do-F, Branch as Branch-F, While as While-F}
 use Rattle.c_types.specs.declared.program.Stmt.TheOpen.{DoWhile as DoWhile-F, For as For-F, Group as Group-F}
-use Rattle.c_types.specs.Control.{Items, insert, merged, closed_ptrs, all_before, closes, items_step, items_of}
+use Rattle.c_types.specs.declared.program.Stmt.TheOpen.{Call as Call-F}
+use Rattle.c_types.specs.Control.{Items, insert, merged, closed_ptrs, all_before, closes, items_of}
 use Rattle.c_types.specs.Steps.{below}
 use Rattle.c_types.specs.Losses.{is_cell, hold_cell}
 use Rattle.c_machine.specs.declared.items.Item.{Item}
@@ -95,23 +101,23 @@ module _ (vs : List Value) where
   Holds f held = (r : Items) → hold_cell vs (closed_ptrs (f r)) ≡ held || hold_cell vs (closed_ptrs r)
 
   abbrev HoldsAs : Stmt → Type 0
-  HoldsAs s = Holds (items_of s) (held_in vs s)
+  HoldsAs s = Holds (items_of [] s) (held_in vs s)
 
   each_holds : (es : List ((s : Stmt) × HoldsAs s))
-      → Holds (all_before (map items_of (map (λ e. e.0) es))) (some_true (map (held_in vs) (map (λ e. e.0) es)))
+      → Holds (all_before (map (items_of []) (map (λ e. e.0) es))) (some_true (map (held_in vs) (map (λ e. e.0) es)))
   each_holds [] = λ r. refl
   each_holds (e ∷ es) = λ r.
-      e.1 (all_before (map items_of (map (λ x. x.0) es)) r)
+      e.1 (all_before (map (items_of []) (map (λ x. x.0) es)) r)
       ∙ ap (λ b. held_in vs e.0 || b) (each_holds es r)
       ∙ sym
       (or_assoc (held_in vs e.0) (some_true (map (held_in vs) (map (λ x. x.0) es))) (hold_cell vs (closed_ptrs r)))
 
   abbrev LayerHolds : Stmt-F Stmt → Type 0
-  LayerHolds y = Holds (items_step (map-Stmt Stmt (Items → Items) items_of y))
+  LayerHolds y = Holds (plain_step (map-Stmt Stmt (Items → Items) (items_of []) y))
       (held_step vs (map-Stmt Stmt Bool (held_in vs) y))
 
   layer_holds : (y : Stmt-F ((s : Stmt) × HoldsAs s)) → LayerHolds (map-Stmt ((s : Stmt) × HoldsAs s) Stmt (λ e. e.0) y)
-  layer_holds (Do-F a line) = λ r. refl
+  layer_holds (Do-F a line) = λ r. ap (λ z. hold_cell vs (closed_ptrs z)) (acts_none a line r)
   layer_holds (Branch-F c x y) = λ r. refl
   layer_holds (While-F c b) = λ r. refl
   layer_holds (DoWhile-F c b) = λ r. refl
@@ -121,12 +127,13 @@ module _ (vs : List Value) where
       each_holds b (closes ps ds m r)
       ∙ ap (λ x. bs || x) (hold_closes vs ps ds m r)
       ∙ sym (or_assoc bs (hold_cell vs ps) (hold_cell vs (closed_ptrs r)))
+  layer_holds (Call-F f args to' line) = λ r. refl
 
   stmt_holds : (s : Stmt) → HoldsAs s
   stmt_holds = ind-Stmt HoldsAs (λ x y is.
       let here : LayerHolds x = subst LayerHolds is (layer_holds y) in
-      subst (λ f. Holds f (held_in vs (roll-Stmt x))) (sym (fold-roll-Stmt (Items → Items) items_step x))
-      (subst (λ b. Holds (items_step (map-Stmt Stmt (Items → Items) items_of x)) b)
+      subst (λ f. Holds f (held_in vs (roll-Stmt x))) (sym (fold-roll-Stmt (Items → Items) plain_step x))
+      (subst (λ b. Holds (plain_step (map-Stmt Stmt (Items → Items) (items_of []) x)) b)
       (sym (fold-roll-Stmt Bool (held_step vs) x)) here))
 
   pub block_holds : (ss : List Stmt) (r : Items) → hold_cell vs (closed_ptrs (block ss r)) ≡ held_in_each vs ss
@@ -158,7 +165,12 @@ pub held-Group : (vs : List Value) (b : List Stmt) (ps ds : List ℕ) (m : ℕ) 
 held-Group vs b ps ds m = ap (held_in vs) (sym (rolls-Group b ps ds m))
     ∙ fold-roll-Stmt Bool (held_step vs) (Group-F b ps ds m)
 
-pub ruleset held = (held-Do, held-Branch, held-While, held-DoWhile, held-For, held-Group)
+pub held-Call : (vs : List Value) (f : ℕ) (args : List Arg) (to' : Option Dest) (line : ℕ)
+    → held_in vs (Call f args to' line) ≡ false
+held-Call vs f args to' line = ap (held_in vs) (sym (rolls-Call f args to' line))
+    ∙ fold-roll-Stmt Bool (held_step vs) (Call-F f args to' line)
+
+pub ruleset held = (held-Do, held-Branch, held-While, held-DoWhile, held-For, held-Group, held-Call)
 
 -- The stack
 

@@ -1,6 +1,6 @@
 -- `break` and `continue` on the machine's stack.
 use Rattle.std.proofs.Common.{◌≡◌, ℕ, zero, suc, List, [], ◌∷◌, Bool, true, false, nat_lt, if◌then◌else◌, map, refl}
-use Rattle.std.proofs.Common.{sym, ap, ◌∙◌, subst}
+use Rattle.std.proofs.Common.{Option, sym, ap, ◌∙◌, subst}
 use Rattle.std.specs.Prelude.{slice_set}
 use Rattle.fore_base.specs.declared.store.Store.{Store}
 use Rattle.fore_base.specs.declared.store.Value.TheVariants.{Uninit}
@@ -11,11 +11,16 @@ use Rattle.c_types.specs.declared.program.Cond.{Cond}
 use Rattle.c_types.specs.declared.program.Stmt.{Stmt, Stmt-F, map-Stmt, roll-Stmt, ind-Stmt, fold-roll-Stmt}
 use Rattle.c_types.specs.declared.program.Stmt.TheVariants.{Do as StmtDo, Branch, While, DoWhile, For, Group, rolls-Do}
 use Rattle.c_types.specs.declared.program.Stmt.TheVariants.{rolls-Branch, rolls-While, rolls-DoWhile, rolls-For}
-use Rattle.c_types.specs.declared.program.Stmt.TheVariants.{rolls-Group}
+use Rattle.c_types.specs.declared.program.Stmt.TheVariants.{rolls-Group, Call, rolls-Call}
+use Rattle.c_types.specs.declared.program.Arg.{Arg}
+use Rattle.c_types.specs.declared.program.Dest.{Dest}
+use Rattle.c_types.proofs.Layers.{acts_none}
+use Rattle.c_types.proofs.NoFunctions.{plain_step}
 use Rattle.c_types.specs.declared.program.Stmt.TheOpen.{Do as Do-F, Branch as Branch-F, While as While-F}
 use Rattle.c_types.specs.declared.program.Stmt.TheOpen.{DoWhile as DoWhile-F, For as For-F, Group as Group-F}
+use Rattle.c_types.specs.declared.program.Stmt.TheOpen.{Call as Call-F}
 use Rattle.c_types.specs.Control.{Items, Done, Loop, Test, after_again, from_again, insert, merged, closed_ptrs}
-use Rattle.c_types.specs.Control.{closed_datums, all_before, closes, items_step, items_of}
+use Rattle.c_types.specs.Control.{closed_datums, all_before, closes, items_of}
 use Rattle.c_machine.specs.Pending.{block, ends_in_each, ends_step, ends_in, leaving, left_round}
 
 -- Variables that die, in any order
@@ -81,26 +86,30 @@ from_closes [] (d ∷ ds) m r = refl
 from_closes (p ∷ ps) ds m r = refl
 
 abbrev LeavesAs : Stmt → Type 0
-LeavesAs s = Leaves (items_of s) (ends_in s)
+LeavesAs s = Leaves (items_of [] s) (ends_in s)
 
 each_leaves : (es : List ((s : Stmt) × LeavesAs s))
-    → Leaves (all_before (map items_of (map (λ e. e.0) es))) (ends_in_each (map ends_in (map (λ e. e.0) es)))
+    → Leaves (all_before (map (items_of []) (map (λ e. e.0) es))) (ends_in_each (map ends_in (map (λ e. e.0) es)))
 each_leaves [] = record { dies = λ r s. refl; after = λ r. refl; from = λ r. refl }
 each_leaves (e ∷ es) =
     let rest = each_leaves es in
     record {
-      dies = λ r s. e.1.dies (all_before (map items_of (map (λ x. x.0) es)) r) s ∙ rest.dies r (ends_in e.0 s);
-      after = λ r. e.1.after (all_before (map items_of (map (λ x. x.0) es)) r) ∙ rest.after r;
-      from = λ r. e.1.from (all_before (map items_of (map (λ x. x.0) es)) r) ∙ rest.from r;
+      dies = λ r s. e.1.dies (all_before (map (items_of []) (map (λ x. x.0) es)) r) s ∙ rest.dies r (ends_in e.0 s);
+      after = λ r. e.1.after (all_before (map (items_of []) (map (λ x. x.0) es)) r) ∙ rest.after r;
+      from = λ r. e.1.from (all_before (map (items_of []) (map (λ x. x.0) es)) r) ∙ rest.from r;
     }
 
 abbrev LayerLeaves : Stmt-F Stmt → Type 0
-LayerLeaves y = Leaves (items_step (map-Stmt Stmt (Items → Items) items_of y))
+LayerLeaves y = Leaves (plain_step (map-Stmt Stmt (Items → Items) (items_of []) y))
     (ends_step (map-Stmt Stmt (Store → Store) ends_in y))
 
 layer_leaves : (y : Stmt-F ((s : Stmt) × LeavesAs s))
     → LayerLeaves (map-Stmt ((s : Stmt) × LeavesAs s) Stmt (λ e. e.0) y)
-layer_leaves (Do-F a line) = record { dies = λ r s. refl; after = λ r. refl; from = λ r. refl }
+layer_leaves (Do-F a line) = record {
+  dies = λ r s. ap (λ z. leaving z s) (acts_none a line r);
+  after = λ r. ap after_again (acts_none a line r);
+  from = λ r. ap from_again (acts_none a line r);
+}
 layer_leaves (Branch-F c x y) = record { dies = λ r s. refl; after = λ r. refl; from = λ r. refl }
 layer_leaves (While-F c b) = record { dies = λ r s. refl; after = λ r. refl; from = λ r. refl }
 layer_leaves (DoWhile-F c b) = record { dies = λ r s. refl; after = λ r. refl; from = λ r. refl }
@@ -113,12 +122,13 @@ layer_leaves (Group-F b ps ds m) =
       after = λ r. rest.after (closes ps ds m r) ∙ after_closes ps ds m r;
       from = λ r. rest.from (closes ps ds m r) ∙ from_closes ps ds m r;
     }
+layer_leaves (Call-F f args to' line) = record { dies = λ r s. refl; after = λ r. refl; from = λ r. refl }
 
 stmt_leaves : (s : Stmt) → LeavesAs s
 stmt_leaves = ind-Stmt LeavesAs (λ x y is.
     let here : LayerLeaves x = subst LayerLeaves is (layer_leaves y) in
-    subst (λ f. Leaves f (ends_in (roll-Stmt x))) (sym (fold-roll-Stmt (Items → Items) items_step x))
-    (subst (λ f. Leaves (items_step (map-Stmt Stmt (Items → Items) items_of x)) f)
+    subst (λ f. Leaves f (ends_in (roll-Stmt x))) (sym (fold-roll-Stmt (Items → Items) plain_step x))
+    (subst (λ f. Leaves (plain_step (map-Stmt Stmt (Items → Items) (items_of []) x)) f)
     (sym (fold-roll-Stmt (Store → Store) ends_step x)) here))
 
 pub block_dies : (ss : List Stmt) (r : Items) (s : Store) → leaving (block ss r) s
@@ -179,6 +189,11 @@ pub ends-Group : (b : List Stmt) (ps ds : List ℕ) (m : ℕ) (s : Store) → en
 ends-Group b ps ds m s = ap (λ z. ends_in z s) (sym (rolls-Group b ps ds m))
     ∙ ap (λ f. f s) (fold-roll-Stmt (Store → Store) ends_step (Group-F b ps ds m))
 
-pub ruleset ends = (ends-Do, ends-Branch, ends-While, ends-DoWhile, ends-For, ends-Group)
+pub ends-Call : (f : ℕ) (args : List Arg) (to' : Option Dest) (line : ℕ) (s : Store)
+    → ends_in (Call f args to' line) s ≡ s
+ends-Call f args to' line s = ap (λ z. ends_in z s) (sym (rolls-Call f args to' line))
+    ∙ ap (λ g. g s) (fold-roll-Stmt (Store → Store) ends_step (Call-F f args to' line))
+
+pub ruleset ends = (ends-Do, ends-Branch, ends-While, ends-DoWhile, ends-For, ends-Group, ends-Call)
 
 pub ruleset leaves = (block_dies, block_goes, leaving_closes, closes_goes, loop_goes, round_done)

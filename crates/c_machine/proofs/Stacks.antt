@@ -1,20 +1,26 @@
 -- The machine's stack and its opening, an entry and a layer at a time.
-use Rattle.std.proofs.Common.{◌≡◌, ℕ, ◌+◌, List, [], ◌∷◌, ◌++◌, map, refl, sym, ap, ◌∙◌, subst, arith}
+use Rattle.std.proofs.Common.{◌≡◌, ℕ, ◌+◌, Option, List, [], ◌∷◌, ◌++◌, map, refl, sym, ap, ◌∙◌, subst, arith}
 use Rattle.c_types.specs.declared.program.Atom.{Atom}
 use Rattle.c_types.specs.declared.program.Cond.{Cond, fold-roll-Cond}
 use Rattle.c_types.specs.declared.program.Cond.TheVariants.{Atom as CondAtom, Not as CondNot, All as CondAll}
 use Rattle.c_types.specs.declared.program.Cond.TheVariants.{Any as CondAny, rolls-Atom, rolls-Not, rolls-All, rolls-Any}
 use Rattle.c_types.specs.declared.program.Cond.TheOpen.{Atom as Atom-F, Not as Not-F, All as All-F, Any as Any-F}
 use Rattle.c_types.specs.declared.program.Stmt.{Stmt, Stmt-F, map-Stmt, ind-Stmt, fold-roll-Stmt}
-use Rattle.c_types.specs.declared.program.Stmt.TheVariants.{DoWhile, Group, rolls-DoWhile, rolls-Group}
+use Rattle.c_types.specs.declared.program.Stmt.TheVariants.{DoWhile, Group, Call, rolls-DoWhile, rolls-Group}
+use Rattle.c_types.specs.declared.program.Stmt.TheVariants.{rolls-Call}
+use Rattle.c_types.specs.declared.program.Arg.{Arg}
+use Rattle.c_types.specs.declared.program.Dest.{Dest}
 use Rattle.c_types.specs.declared.program.Stmt.TheOpen.{Do as Do-F, Branch as Branch-F, While as While-F}
 use Rattle.c_types.specs.declared.program.Stmt.TheOpen.{DoWhile as DoWhile-F, For as For-F, Group as Group-F}
-use Rattle.c_types.specs.Control.{Items, Done, Do, Close, If, Loop, Again, DoLoop, DoAgain, Test, Both, Either, ◌then◌}
+use Rattle.c_types.specs.declared.program.Stmt.TheOpen.{Call as Call-F}
+use Rattle.c_types.specs.Control.{Items, Done, Do, Close, If, Loop, Again, DoLoop, DoAgain, Enter, Leave, Exit, Test}
+use Rattle.c_types.specs.Control.{Both, Either, ◌then◌}
 use Rattle.c_types.specs.Control.{ask, round, do_round, open_before, opened, joined, test_of, all_before, closes}
-use Rattle.c_types.specs.Control.{items_step, items_of}
+use Rattle.c_types.specs.Control.{items_of}
 use Rattle.c_types.proofs.Turns.{then_done}
 use Rattle.c_types.proofs.Layers.{test-Atom, test-Not, test-All, test-Any, items-Do, items-Branch, items-While}
-use Rattle.c_types.proofs.Layers.{items-For, items-DoWhile, items-Group}
+use Rattle.c_types.proofs.Layers.{items-For, items-DoWhile, items-Group, items-Call, acts_none}
+use Rattle.c_types.proofs.NoFunctions.{plain_step}
 use Rattle.c_machine.specs.declared.items.Item.{Item}
 use Rattle.c_machine.specs.declared.items.Part.{Part}
 use Rattle.fore_base.specs.Lists.{sum_of}
@@ -32,6 +38,9 @@ then_then (Loop c n b is) d r = ap (Loop c n b) (then_then is d r)
 then_then (Again c n b is) d r = ap (Again c n b) (then_then is d r)
 then_then (DoLoop c b is) d r = ap (DoLoop c b) (then_then is d r)
 then_then (DoAgain c b is) d r = ap (DoAgain c b) (then_then is d r)
+then_then (Enter vs ws m is) d r = ap (Enter vs ws m) (then_then is d r)
+then_then (Leave v vs a m is) d r = ap (Leave v vs a m) (then_then is d r)
+then_then (Exit v vs e m is) d r = ap (Exit v vs e m) (then_then is d r)
 
 -- opening some items that stand before others
 pub open_then : (c d r o : Items) → open_before (c then d) r o ≡ open_before c (d then r) (open_before d r o)
@@ -45,6 +54,9 @@ open_then (Again c n b is) d r o =
 open_then (DoLoop c b is) d r o =
     ap (λ z. open_before b (DoAgain c b z) (ask c (do_round c b) Done z)) (then_then is d r)
 open_then (DoAgain c b is) d r o = ap (λ z. ask c (do_round c b) Done z) (then_then is d r)
+open_then (Enter vs ws m is) d r o = ap (Enter vs ws m) (then_then is d r)
+open_then (Leave v vs a m is) d r o = ap (Leave v vs a m) (then_then is d r)
+open_then (Exit v vs e m is) d r o = ap (Exit v vs e m) (then_then is d r)
 
 -- Statements
 
@@ -57,34 +69,36 @@ closes_then [] [] m c r = refl
 closes_then [] (d ∷ ds) m c r = refl
 closes_then (p ∷ ps) ds m c r = refl
 
-each_before : (es : List ((s : Stmt) × StandsBefore (items_of s)))
-    → StandsBefore (all_before (map items_of (map (λ e. e.0) es)))
+each_before : (es : List ((s : Stmt) × StandsBefore (items_of [] s)))
+    → StandsBefore (all_before (map (items_of []) (map (λ e. e.0) es)))
 each_before [] c r = refl
-each_before (e ∷ es) c r = ap (items_of e.0) (each_before es c r)
-    ∙ e.1 (all_before (map items_of (map (λ e. e.0) es)) c) r
+each_before (e ∷ es) c r = ap (items_of [] e.0) (each_before es c r)
+    ∙ e.1 (all_before (map (items_of []) (map (λ e. e.0) es)) c) r
 
-layer_before : (y : Stmt-F ((s : Stmt) × StandsBefore (items_of s)))
+layer_before : (y : Stmt-F ((s : Stmt) × StandsBefore (items_of [] s)))
     → StandsBefore
-    (items_step
-    (map-Stmt Stmt (Items → Items) items_of (map-Stmt ((s : Stmt) × StandsBefore (items_of s)) Stmt (λ e. e.0) y)))
-layer_before (Do-F a line) c r = refl
+    (plain_step
+    (map-Stmt Stmt (Items → Items) (items_of [])
+    (map-Stmt ((s : Stmt) × StandsBefore (items_of [] s)) Stmt (λ e. e.0) y)))
+layer_before (Do-F a line) c r = acts_none a line (c then r) ∙ ap (λ z. z then r) (sym (acts_none a line c))
 layer_before (Branch-F t x y) c r = refl
 layer_before (While-F t b) c r = refl
 layer_before (DoWhile-F t b) c r = refl
 layer_before (For-F t n b) c r = refl
-layer_before (Group-F b ps ds m) c r = ap (all_before (map items_of (map (λ e. e.0) b))) (closes_then ps ds m c r)
+layer_before (Group-F b ps ds m) c r = ap (all_before (map (items_of []) (map (λ e. e.0) b))) (closes_then ps ds m c r)
     ∙ each_before b (closes ps ds m c) r
+layer_before (Call-F f args to' line) c r = refl
 
-items_before : (s : Stmt) → StandsBefore (items_of s)
-items_before = ind-Stmt (λ s. StandsBefore (items_of s)) (λ x y is.
-    let here : StandsBefore (items_step (map-Stmt Stmt (Items → Items) items_of x)) =
-    subst (λ z. StandsBefore (items_step (map-Stmt Stmt (Items → Items) items_of z))) is (layer_before y) in
-    λ c r. ap (λ f. f (c then r)) (fold-roll-Stmt (Items → Items) items_step x) ∙ here c r
-    ∙ ap (λ f. f c then r) (sym (fold-roll-Stmt (Items → Items) items_step x)))
+items_before : (s : Stmt) → StandsBefore (items_of [] s)
+items_before = ind-Stmt (λ s. StandsBefore (items_of [] s)) (λ x y is.
+    let here : StandsBefore (plain_step (map-Stmt Stmt (Items → Items) (items_of []) x)) =
+    subst (λ z. StandsBefore (plain_step (map-Stmt Stmt (Items → Items) (items_of []) z))) is (layer_before y) in
+    λ c r. ap (λ f. f (c then r)) (fold-roll-Stmt (Items → Items) plain_step x) ∙ here c r
+    ∙ ap (λ f. f c then r) (sym (fold-roll-Stmt (Items → Items) plain_step x)))
 
 all_then : (ss : List Stmt) (c r : Items) → block ss (c then r) ≡ block ss c then r
 all_then [] c r = refl
-all_then (s ∷ ss) c r = ap (items_of s) (all_then ss c r) ∙ items_before s (block ss c) r
+all_then (s ∷ ss) c r = ap (items_of [] s) (all_then ss c r) ∙ items_before s (block ss c) r
 
 pub block_then : (ss : List Stmt) (r : Items) → block ss Done then r ≡ block ss r
 block_then ss r = sym (all_then ss Done r)
@@ -162,6 +176,10 @@ open-Any c cs w r = ap (λ t. opened (test_before t w r)) (test-Any (c ∷ cs)) 
 pub weight-DoWhile : (c : Cond) (b : List Stmt) → weight_of (DoWhile c b) ≡ block_weight b + 3
 weight-DoWhile c b = ap weight_of (sym (rolls-DoWhile c b)) ∙ fold-roll-Stmt ℕ weight_step (DoWhile-F c b)
 
+pub weight-Call : (f : ℕ) (args : List Arg) (to' : Option Dest) (line : ℕ) → weight_of (Call f args to' line) ≡ 1
+weight-Call f args to' line = ap weight_of (sym (rolls-Call f args to' line))
+    ∙ fold-roll-Stmt ℕ weight_step (Call-F f args to' line)
+
 pub weight-Group : (b : List Stmt) (ps ds : List ℕ) (m : ℕ) → weight_of (Group b ps ds m) ≡ block_weight b + 3
 weight-Group b ps ds m = ap weight_of (sym (rolls-Group b ps ds m)) ∙ fold-roll-Stmt ℕ weight_step (Group-F b ps ds m)
 
@@ -214,10 +232,12 @@ pub ruleset layers = (
   items-For,
   items-DoWhile,
   items-Group,
+  items-Call,
   opened-DoLoop,
   opened-Again,
   weight-DoWhile,
   weight-Group,
+  weight-Call,
 )
 
 pub ruleset conditions = (

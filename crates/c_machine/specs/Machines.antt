@@ -3,7 +3,7 @@ use Rattle.std.specs.Prelude.{◌≡◌, ℕ, Bool, true, false, Option, Some, N
 use Rattle.fore_base.specs.declared.store.Store.{Store}
 use Rattle.c_types.specs.declared.mode.MallocMode.{MallocMode}
 use Rattle.c_types.specs.Program.{Program}
-use Rattle.c_types.specs.Control.{Items, Done, Do, Close, If, Loop, Again, DoLoop, DoAgain, opened}
+use Rattle.c_types.specs.Control.{Items, Done, Do, Close, If, Loop, Again, DoLoop, DoAgain, Enter, Leave, Exit, opened}
 use Rattle.c_types.specs.Steps.{Goes, Stops, Faults, turn_of, mark_of}
 use Rattle.c_types.specs.Steps as steps
 use Rattle.c_machine.specs.Pending.{left_of}
@@ -48,6 +48,9 @@ is_done (Loop c n b is) = false
 is_done (Again c n b is) = false
 is_done (DoLoop c b is) = false
 is_done (DoAgain c b is) = false
+is_done (Enter vs ws m is) = false
+is_done (Leave v vs a m is) = false
+is_done (Exit v vs d m is) = false
 
 -- what a machine answers to a step that goes so, and where it is then
 abbrev pub Stepped : steps.Turn → Machine → Machine → Turn → Type 0

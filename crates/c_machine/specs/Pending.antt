@@ -8,6 +8,7 @@ use Rattle.c_types.specs.declared.program.Cond.TheOpen.{Atom as Atom-F, Not as N
 use Rattle.c_types.specs.declared.program.Stmt.{Stmt, Stmt-F, fold-Stmt}
 use Rattle.c_types.specs.declared.program.Stmt.TheOpen.{Do as Do-F, Branch as Branch-F, While as While-F}
 use Rattle.c_types.specs.declared.program.Stmt.TheOpen.{DoWhile as DoWhile-F, For as For-F, Group as Group-F}
+use Rattle.c_types.specs.declared.program.Stmt.TheOpen.{Call as Call-F}
 use Rattle.c_types.specs.Control.{Test, Ask, Both, Either, Items, Done, Do, Close, If, Loop, Again, DoAgain, ◌then◌}
 use Rattle.c_types.specs.Control.{round, do_round, opened, joined, test_of, items_of, all_before, closes, after_again}
 use Rattle.c_types.specs.Control.{from_again, closed_ptrs, closed_datums}
@@ -27,9 +28,9 @@ use Rattle.c_machine.specs.declared.items.Control.{Control}
 use Rattle.c_machine.specs.declared.answering.Past.{Past}
 use Rattle.c_machine.specs.declared.answering.Past.TheVariants.{Known, Asks}
 
--- the items of some statements, before others
+-- the items of some statements of a program without functions, before others
 abbrev pub block : List Stmt → Items → Items
-block ss r = all_before (map items_of ss) r
+block ss r = all_before (map (items_of []) ss) r
 
 -- an entry of the stack, before others
 abbrev pub before : Item → Items → Items
@@ -140,6 +141,7 @@ weight_step (While-F c b) = 1
 weight_step (DoWhile-F c b) = sum_of b + 3
 weight_step (For-F c n b) = 1
 weight_step (Group-F b ps ds m) = sum_of b + 3
+weight_step (Call-F f args to' line) = 1
 
 abbrev pub weight_of : Stmt → ℕ
 weight_of = fold-Stmt ℕ weight_step
@@ -190,6 +192,7 @@ ends_step (While-F c b) s = s
 ends_step (DoWhile-F c b) s = s
 ends_step (For-F c n b) s = s
 ends_step (Group-F b ps ds m) s = kill ps ds (ends_in_each b s)
+ends_step (Call-F f args to' line) s = s
 
 abbrev pub ends_in : Stmt → Store → Store
 ends_in = fold-Stmt (Store → Store) ends_step

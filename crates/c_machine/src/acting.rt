@@ -107,7 +107,8 @@ pub fn take_act<'p>(
             settle(heap, &mut rooms.marks, done, lost)
         }
         Act::Error => Pace::Faults(Fault::Assertion),
-        Act::Halt => Pace::Stops,
+        // Without functions nothing is left by a `return` but `main`.
+        Act::Halt | Act::Leave { .. } => Pace::Stops,
         Act::Return(operand) => {
             let looked = look(heap, operand);
             finish(heap, &mut rooms.marks, looked)

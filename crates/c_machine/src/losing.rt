@@ -112,6 +112,6 @@ pub fn act_loses(heap: &Heap, stack: &[Item], act: &Act) -> bool
         Act::Free(path) => leads_to_cell(heap, path),
         Act::Return(_) => some_holds_cell(heap),
         Act::Break | Act::Continue => round_holds_cell(heap, stack),
-        Act::SetData { .. } | Act::Error | Act::Halt => false,
+        Act::SetData { .. } | Act::Error | Act::Halt | Act::Leave { .. } => false,
     }
 }

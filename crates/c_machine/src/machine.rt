@@ -1,6 +1,7 @@
 //! The machine: a program's store and what is left to do, a step at a time.
 
-ghost use Rattle.std.specs.Prelude.{◌≡◌, ◌<◌, ◌≤◌, ◌+◌, ◌^◌, true, false, IfOk, List, IfSome, OnOk, Some, None, length};
+ghost use Rattle.std.specs.Prelude.{◌≡◌, ◌<◌, ◌≤◌, ◌+◌, ◌^◌, true, false, IfOk, List, [], IfSome, OnOk, Some, None};
+ghost use Rattle.std.specs.Prelude.{length};
 ghost use Rattle.fore_base.specs.Heap.{leaks};
 ghost use Rattle.c_machine.specs.declared.items.Part.{Part};
 ghost use Rattle.c_types.specs.Control.{Items, opened, start_of};
@@ -128,13 +129,14 @@ fn take_step<'p>(
 }
 
 impl<'p> Machine<'p> {
-    /// The machine at the start of a program, whose `malloc` answers by the mode: nothing is set, and there are no
-    /// cells.
+    /// The machine at the start of a program without functions, whose `malloc` answers by the mode: nothing is set, and
+    /// there are no cells.
     ///
     /// # Errors
     ///
     /// Want of memory.
     pub fn new(alloc: Global, program: &'p Typed, mode: MallocMode) -> Mem<Machine<'p>>
+        requires plain { program.now.funcs ≡ [] }
         ensures items { IfOk result (λ machine. todo machine ≡ opened (start_of program.now)) }
         ensures store { IfOk result (λ machine. store_of machine
             ≡ empty_store (length program.now.vars) (length program.now.data_vars)) }

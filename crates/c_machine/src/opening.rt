@@ -48,7 +48,7 @@ pub fn take<'p>(stack: &mut Vec<Item<'p>>) -> Option<Item<'p>>
 fn open_stmt<'p>(stack: &mut Vec<Item<'p>>, stmt: &'p Stmt) -> Front<'p>
     requires { vec_len stack.old + 2 ≤ vec_capacity stack.old }
     ensures left { opened (facing result [] (pending stack.new.items))
-        ≡ opened (items_of stmt.now (pending stack.old.items)) }
+        ≡ opened (items_of [] stmt.now (pending stack.old.items)) }
     ensures weight { stack_weight stack.new.items + shut_weight result
         ≤ weight_of stmt.now + stack_weight stack.old.items }
 {
@@ -105,6 +105,8 @@ fn open_stmt<'p>(stack: &mut Vec<Item<'p>>, stmt: &'p Stmt) -> Front<'p>
             put(stack, Item::Block(body.as_slice()));
             Front::Shut
         }
+        // Without functions a call has no items.
+        Stmt::Call { .. } => Front::Shut,
     }
 }
 
@@ -198,9 +200,9 @@ fn open_cond<'p>(parts: &mut Vec<Part<'p>>, cond: &'p Cond, sides: Sides<'p>) ->
 }
 
 impl<'p> Control<'p> {
-    /// What is left of these statements at first.
+    /// What is left at first of these statements of a program without functions.
     pub fn new(alloc: Global, body: &'p [Stmt]) -> Mem<Control<'p>>
-        ensures { IfOk result (λ control. left_of control ≡ opened (all_before (map items_of body.now) Done)) }
+        ensures { IfOk result (λ control. left_of control ≡ opened (all_before (map (items_of []) body.now) Done)) }
     {
         let mut stack = Vec::with_capacity(alloc, 1)?;
         put(&mut stack, Item::Block(body));

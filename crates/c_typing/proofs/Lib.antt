@@ -4,6 +4,7 @@ pub mod ConditionLayers
 pub mod Formulas
 pub mod Layers
 pub mod PlaceLayers
+pub mod PlainPrograms
 pub mod ProgramLayers
 pub mod Rows
 pub mod ScopeLaws

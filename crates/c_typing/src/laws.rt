@@ -19,6 +19,11 @@ pub fn first_faults_are_unique()
     ensures there { (u : whole.Unit) → (breaches u ≡ []) ⊎ ((e : Broken) × IsFirstFault u e) }
 {}
 
+/// The program of a file has no functions besides `main`: a file that defines another one breaks a rule.
+pub fn programs_have_no_functions()
+    ensures { (u : whole.Unit) (p : Program) → TypedOf u p → p.funcs ≡ [] }
+{}
+
 /// The program of a file that breaks no rule is well typed: it keeps what a `Typed` keeps.
 pub fn unbroken_files_are_typed()
     ensures { (u : whole.Unit) → breaches u ≡ [] → is_typed (program_of u) ≡ true }

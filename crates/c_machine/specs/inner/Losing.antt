@@ -4,6 +4,7 @@ use Rattle.fore_base.specs.declared.store.Value.{Value}
 use Rattle.c_types.specs.declared.program.Stmt.{Stmt, Stmt-F, fold-Stmt}
 use Rattle.c_types.specs.declared.program.Stmt.TheOpen.{Do as Do-F, Branch as Branch-F, While as While-F}
 use Rattle.c_types.specs.declared.program.Stmt.TheOpen.{DoWhile as DoWhile-F, For as For-F, Group as Group-F}
+use Rattle.c_types.specs.declared.program.Stmt.TheOpen.{Call as Call-F}
 use Rattle.c_types.specs.Losses.{hold_cell}
 
 -- one of them is true
@@ -18,6 +19,7 @@ held_step vs (While-F c b) = false
 held_step vs (DoWhile-F c b) = false
 held_step vs (For-F c n b) = false
 held_step vs (Group-F b ps ds m) = some_true b || hold_cell vs ps
+held_step vs (Call-F f args to' line) = false
 
 -- a variable of the statement, if it is a block, or of a block among what it holds, refers to a cell
 abbrev pub held_in : List Value → Stmt → Bool

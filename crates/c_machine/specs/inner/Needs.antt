@@ -1,7 +1,8 @@
 -- The cells that a step makes.
 use Rattle.std.specs.Prelude.{ℕ, Option, None}
 use Rattle.c_types.specs.declared.program.Act.{Act}
-use Rattle.c_types.specs.declared.program.Act.TheVariants.{SetPtr, SetData, Free, Error, Halt, Return, Break, Continue}
+use Rattle.c_types.specs.declared.program.Act.TheVariants.{SetPtr, SetData, Free, Error, Halt, Return, Leave, Break}
+use Rattle.c_types.specs.declared.program.Act.TheVariants.{Continue}
 use Rattle.c_acts.specs.Making.{made_from}
 use Rattle.c_machine.specs.declared.items.Front.{Front}
 use Rattle.c_machine.specs.declared.items.Front.TheVariants.{Shut, Asked, Act as FrontAct, Test as FrontTest, Truth}
@@ -15,6 +16,7 @@ made_by (Free p) = None
 made_by Error = None
 made_by Halt = None
 made_by (Return operand) = None
+made_by (Leave f value) = None
 made_by Break = None
 made_by Continue = None
 
