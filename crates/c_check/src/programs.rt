@@ -27,6 +27,7 @@ fn program_with(alloc: Global, tables: &Tables, body: &Block) -> Mem<Typed>
         shapes,
         vars,
         data_vars,
+        funcs: List::new(alloc),
         body: stmts,
     })
 }
@@ -41,6 +42,7 @@ fn program_without(alloc: Global, tables: &Tables) -> Mem<Typed>
         shapes,
         vars: List::new(alloc),
         data_vars: List::new(alloc),
+        funcs: List::new(alloc),
         body: List::new(alloc),
     })
 }
