@@ -11,7 +11,8 @@ use Rattle.c_types.specs.declared.program.Atom.TheVariants.{Choice as ChoiceAtom
 use Rattle.c_types.specs.declared.program.Atom.TheVariants.{Data as DataAtom}
 use Rattle.c_types.specs.declared.mode.MallocMode.{MallocMode}
 use Rattle.c_types.specs.Program.{Program}
-use Rattle.c_types.specs.Control.{Items, Done, Do, Close, If, Loop, Again, DoLoop, DoAgain, Ask, Not, Both, Either}
+use Rattle.c_types.specs.Control.{Items, Done, Do, Close, If, Loop, Again, DoLoop, DoAgain, Enter, Leave, Exit, Ask}
+use Rattle.c_types.specs.Control.{Not, Both, Either}
 use Rattle.c_types.specs.Runs.{supply}
 use Rattle.c_cfg.specs.declared.graph.Instr.{Instr}
 use Rattle.c_cfg.specs.declared.graph.Instr.TheVariants.{Choose}
@@ -85,6 +86,9 @@ module _ (p : Program) (mode : MallocMode) (g : ControlGraph) (low : LowerOf p m
   good (Again c n b is) = tt
   good (DoLoop c b is) = tt
   good (DoAgain c b is) = tt
+  good (Enter vs ws m is) = every_true _
+  good (Leave v vs a m is) = every_true _
+  good (Exit v vs d m is) = every_true _
 
   pub leads : (c : Items) → PlaceLeads (λ k. Unit {0}) low.at c
   leads Done = tt
@@ -98,6 +102,9 @@ module _ (p : Program) (mode : MallocMode) (g : ControlGraph) (low : LowerOf p m
   leads (Again c n b is) = tt
   leads (DoLoop c b is) = tt
   leads (DoAgain c b is) = tt
+  leads (Enter vs ws m is) = tt
+  leads (Leave v vs a m is) = tt
+  leads (Exit v vs d m is) = tt
 
   every_of : (Q : Items → Type 0) → ((c : Items) → Q c) → (cs : List Items) → Every Q cs
   every_of Q q [] = tt

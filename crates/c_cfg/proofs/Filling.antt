@@ -14,11 +14,21 @@ use Rattle.c_types.specs.declared.program.DataRhs.TheVariants.{Path as DataRhsPa
 use Rattle.c_types.specs.declared.program.DataRhs.TheVariants.{Choice as DataRhsChoice}
 use Rattle.c_types.specs.declared.program.Act.{Act}
 use Rattle.c_types.specs.declared.program.Act.TheVariants.{SetPtr, SetData, Free as FreeAct, Error, Halt, Return, Break}
-use Rattle.c_types.specs.declared.program.Act.TheVariants.{Continue}
+use Rattle.c_types.specs.declared.program.Act.TheVariants.{Continue, Leave as LeaveAct}
+use Rattle.c_types.specs.declared.program.VarRef.{VarRef}
+use Rattle.c_types.specs.declared.program.VarRef.TheVariants.{Ptr as PtrRef, Data as DataRef}
+use Rattle.c_types.specs.declared.program.Arg.{Arg}
+use Rattle.c_types.specs.declared.program.Arg.TheVariants.{Ptr as GivenPtr, Data as GivenData}
+use Rattle.c_types.specs.declared.program.Dest.{Dest}
+use Rattle.c_types.specs.declared.program.PtrOp.{PtrOp}
+use Rattle.c_types.specs.declared.program.PtrOp.TheVariants.{Path as OpPath, Null as OpNull}
+use Rattle.c_types.specs.declared.program.DataOp.{DataOp}
+use Rattle.c_types.specs.declared.program.DataOp.TheVariants.{Path as DataOpPath, Known as DataOpKnown}
 use Rattle.c_types.specs.Control.{Items, Done}
 use Rattle.c_cfg.specs.declared.graph.Instr.{Instr}
 use Rattle.c_cfg.specs.Links.{Link, links_in, loads, loads_but_last, data_loads, var_row, path_row, ptr_row}
-use Rattle.c_cfg.specs.Links.{data_var_row, data_field_row, data_row, return_row, act_row}
+use Rattle.c_cfg.specs.Links.{data_var_row, data_field_row, data_row, return_row, act_row, give_path, give_ptr}
+use Rattle.c_cfg.specs.Links.{give_datum, give_links, give_each, enter_row, leave_row, hand_links, exit_row}
 
 abbrev pub Filled : List Link → Type 0
 Filled [] = ⊥
@@ -101,8 +111,46 @@ module _ (nv nd : ℕ) where
   act_filled Error is = tt
   act_filled Halt is = tt
   act_filled (Return operand) is = return_filled operand
+  act_filled (LeaveAct f value) is = tt
   act_filled Break is = tt
   act_filled Continue is = tt
+
+  -- Calls
+
+  path_given : (x b : ℕ) (fs : List ℕ) (xs : List Link) → Filled (give_path nv nd x b fs ++ xs)
+  path_given x b [] xs = tt
+  path_given x b (f ∷ fs) xs = but_last_filled nv b f fs _ xs
+
+  ptr_given : (x : ℕ) (p : PtrOp) (xs : List Link) → Filled (give_ptr nv nd x p ++ xs)
+  ptr_given x (OpPath q) xs = path_given x q.var q.fields xs
+  ptr_given x OpNull xs = tt
+
+  datum_given : (x : ℕ) (p : DataOp) (xs : List Link) → Filled (give_datum nv nd x p ++ xs)
+  datum_given x (DataOpPath (DataVar y)) xs = tt
+  datum_given x (DataOpPath (DataField base f)) xs = data_filled nv x f base xs
+  datum_given x (DataOpKnown k) xs = tt
+
+  given : (v : VarRef) (a : Arg) (xs : List Link) → Filled (give_links nv nd v a ++ xs)
+  given (PtrRef x) (GivenPtr p) xs = ptr_given x p xs
+  given (PtrRef x) (GivenData p) xs = tt
+  given (DataRef x) (GivenPtr p) xs = tt
+  given (DataRef x) (GivenData p) xs = datum_given x p xs
+
+  pub enter_filled : (vs : List VarRef) (ws : List Arg) → Filled (enter_row nv nd vs ws)
+  enter_filled [] ws = tt
+  enter_filled (v ∷ vs) [] = tt
+  enter_filled (v ∷ vs) (a ∷ ws) =
+      filled_before (give_each nv nd (v ∷ vs) (a ∷ ws)) _ (given v a (give_each nv nd vs ws))
+
+  pub leave_filled : (v : Option VarRef) (vs : List VarRef) (a : Option Arg) → Filled (leave_row nv nd v vs a)
+  leave_filled None vs a = tt
+  leave_filled (Some v) vs None = tt
+  leave_filled (Some v) vs (Some a) = filled_after (give_links nv nd v a) _ []
+
+  pub exit_filled : (v : Option VarRef) (vs : List VarRef) (d : Option Dest) → Filled (exit_row nv nd v vs d)
+  exit_filled None vs d = tt
+  exit_filled (Some v) vs None = tt
+  exit_filled (Some v) vs (Some d) = filled_after (hand_links nv nd v d) _ []
 
   pub row_length : (a : Act) (is : Items) → length (act_row nv nd a is) ≡ length (act_row nv nd a Done)
   row_length (SetPtr to from) is = refl
@@ -111,6 +159,7 @@ module _ (nv nd : ℕ) where
   row_length Error is = refl
   row_length Halt is = refl
   row_length (Return operand) is = refl
+  row_length (LeaveAct f value) is = refl
   row_length Break is = refl
   row_length Continue is = refl
 

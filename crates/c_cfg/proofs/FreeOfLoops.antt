@@ -6,29 +6,15 @@ use Rattle.std.proofs.lemmas.Bool.{and_parts}
 use Rattle.std.proofs.lemmas.List.Sorted.{list_any-IsPermutation}
 use Rattle.fore_base.specs.Lists.{IsIn}
 use Rattle.fore_base.proofs.ListLemmas.{in_left, in_right, in_map, number_in, in_number}
-use Rattle.c_types.specs.declared.program.Stmt.{Stmt, Stmt-F, fold-roll-Stmt, map-Stmt, ind-Stmt}
-use Rattle.c_types.specs.declared.program.Stmt.TheOpen.{Do as Do-F, Branch as Branch-F, While as While-F}
-use Rattle.c_types.specs.declared.program.Stmt.TheOpen.{DoWhile as DoWhile-F, For as For-F, Group as Group-F}
 use Rattle.c_types.specs.declared.mode.MallocMode.{MallocMode}
 use Rattle.c_types.specs.Program.{Program}
 use Rattle.c_types.specs.Control.{Items, Done, Do, Close, If, Loop, Again, DoLoop, DoAgain, Test, Ask, Not, Both}
-use Rattle.c_types.specs.Control.{Either, ◌then◌, ask, round, do_round, all_before, closes, items_step, items_of}
-use Rattle.c_types.specs.Control.{start_of}
+use Rattle.c_types.specs.Control.{Either, Enter, Leave, Exit, ◌then◌, ask, round, do_round}
 use Rattle.c_types.specs.Steps.{below}
 use Rattle.c_cfg.specs.Graphs.{ControlGraph}
 use Rattle.c_cfg.specs.Places.{test_places, places, heads, remark}
 use Rattle.c_cfg.specs.Lowering.{LowerOf, numbers, is_one_of}
-use Rattle.c_cfg.specs.LoopFree.{all_free, free_step, stmt_free, has_no_loop}
-
-abbrev items_free : Items → Bool
-items_free Done = true
-items_free (Do a m is) = items_free is
-items_free (Close ps ds m is) = items_free is
-items_free (If c x y is) = (items_free x && items_free y) && items_free is
-items_free (Loop c n b is) = false
-items_free (Again c n b is) = false
-items_free (DoLoop c b is) = false
-items_free (DoAgain c b is) = false
+use Rattle.c_cfg.specs.LoopFree.{items_free, has_no_loop}
 
 -- marks have no bearing
 free_remarked : (f : ℕ → ℕ) (is : Items) → items_free (remark f is) ≡ items_free is
@@ -43,68 +29,9 @@ free_remarked f (Loop c n b is) = refl
 free_remarked f (Again c n b is) = refl
 free_remarked f (DoLoop c b is) = refl
 free_remarked f (DoAgain c b is) = refl
-
-and_true : (b : Bool) → (b && true) ≡ b
-and_true true = refl
-and_true false = refl
-
-and_assoc : (a b c : Bool) → (a && (b && c)) ≡ ((a && b) && c)
-and_assoc true b c = refl
-and_assoc false b c = refl
-
--- Statements
-
-abbrev IsToldFree : Stmt → Type 0
-IsToldFree s = (r : Items) → items_free (items_of s r) ≡ (stmt_free s && items_free r)
-
-abbrev Told : Type 0
-Told = (s : Stmt) × IsToldFree s
-
-each_free : (es : List Told) (r : Items) → items_free (all_before (map items_of (map (λ e. e.0) es)) r)
-    ≡ (all_free (map stmt_free (map (λ e. e.0) es)) && items_free r)
-each_free [] r = refl
-each_free (e ∷ es) r =
-    e.1 (all_before (map items_of (map (λ e. e.0) es)) r) ∙ ap (λ b. stmt_free e.0 && b) (each_free es r)
-    ∙ and_assoc (stmt_free e.0) (all_free (map stmt_free (map (λ e. e.0) es))) (items_free r)
-
-side_free : (es : List Told) → items_free (all_before (map items_of (map (λ e. e.0) es)) Done)
-    ≡ all_free (map stmt_free (map (λ e. e.0) es))
-side_free es = each_free es Done ∙ and_true (all_free (map stmt_free (map (λ e. e.0) es)))
-
-closes_free : (ps ds : List ℕ) (m : ℕ) (r : Items) → items_free (closes ps ds m r) ≡ items_free r
-closes_free [] [] m r = refl
-closes_free [] (d ∷ ds) m r = refl
-closes_free (p ∷ ps) ds m r = refl
-
-abbrev LayerFree : Stmt-F Stmt → Type 0
-LayerFree x = (r : Items) → items_free (items_step (map-Stmt Stmt (Items → Items) items_of x) r)
-    ≡ (free_step (map-Stmt Stmt Bool stmt_free x) && items_free r)
-
-layer_free : (y : Stmt-F Told) → LayerFree (map-Stmt Told Stmt (λ e. e.0) y)
-layer_free (Do-F a line) r = refl
-layer_free (Branch-F t x y) r =
-    ap (λ b. (b && items_free (all_before (map items_of (map (λ e. e.0) y)) Done)) && items_free r) (side_free x)
-    ∙ ap (λ b. (all_free (map stmt_free (map (λ e. e.0) x)) && b) && items_free r) (side_free y)
-layer_free (While-F t b) r = refl
-layer_free (DoWhile-F t b) r = refl
-layer_free (For-F t n b) r = refl
-layer_free (Group-F b ps ds m) r = each_free b (closes ps ds m r)
-    ∙ ap (λ c. all_free (map stmt_free (map (λ e. e.0) b)) && c) (closes_free ps ds m r)
-
-stmt_told : (s : Stmt) → IsToldFree s
-stmt_told = ind-Stmt IsToldFree (λ x y is.
-    let here : LayerFree x = subst LayerFree is (layer_free y) in
-    λ r. ap (λ f. items_free (f r)) (fold-roll-Stmt (Items → Items) items_step x) ∙ here r
-    ∙ ap (λ b. b && items_free r) (sym (fold-roll-Stmt Bool free_step x)))
-
-all_told : (ss : List Stmt) (r : Items) → items_free (all_before (map items_of ss) r)
-    ≡ (all_free (map stmt_free ss) && items_free r)
-all_told [] r = refl
-all_told (s ∷ ss) r = stmt_told s (all_before (map items_of ss) r) ∙ ap (λ b. stmt_free s && b) (all_told ss r)
-    ∙ and_assoc (stmt_free s) (all_free (map stmt_free ss)) (items_free r)
-
-program_told : (p : Program) → items_free (start_of p) ≡ has_no_loop p
-program_told p = all_told p.body Done ∙ and_true (has_no_loop p)
+free_remarked f (Enter vs ws m is) = free_remarked f is
+free_remarked f (Leave v vs a m is) = free_remarked f is
+free_remarked f (Exit v vs d m is) = free_remarked f is
 
 -- Loop heads
 
@@ -121,6 +48,9 @@ no_heads (Loop c n b is) r e = absurd (true≢false (sym e))
 no_heads (Again c n b is) r e = absurd (true≢false (sym e))
 no_heads (DoLoop c b is) r e = absurd (true≢false (sym e))
 no_heads (DoAgain c b is) r e = absurd (true≢false (sym e))
+no_heads (Enter vs ws m is) r e = no_heads is r e
+no_heads (Leave v vs a m is) r e = no_heads is r e
+no_heads (Exit v vs d m is) r e = no_heads is r e
 
 asks_place : (c : Test) (x y r : Items) → IsIn (ask c x y r) (test_places c x y r)
 asks_place (Ask a m) x y r = inl refl
@@ -191,6 +121,12 @@ some_head (DoAgain c b is) r e = record {
   is_head = inl refl;
   is_place = in_left _ (test_places c (do_round c b) Done (is then r)) _ (asks_place c (do_round c b) Done (is then r));
 }
+some_head (Enter vs ws m is) r e = let h = some_head is r e in
+    record { head = h.head; is_head = h.is_head; is_place = inr h.is_place }
+some_head (Leave v vs a m is) r e = let h = some_head is r e in
+    record { head = h.head; is_head = h.is_head; is_place = inr h.is_place }
+some_head (Exit v vs d m is) r e = let h = some_head is r e in
+    record { head = h.head; is_head = h.is_head; is_place = inr h.is_place }
 
 -- Entries
 
@@ -213,7 +149,7 @@ none_true (k ∷ ks) = none_true ks
 pub free_graph : (p : Program) (mode : MallocMode) (g : ControlGraph) → LowerOf p mode g
     → list_all not g.heads ≡ has_no_loop p
 free_graph p mode g low = ap (list_all not) low.heads_are ∙ by (items_free low.items) refl
-    ∙ sym (free_remarked low.line low.items) ∙ ap items_free low.is_program ∙ program_told p
+    ∙ sym (free_remarked low.line low.items) ∙ ap items_free low.is_program
   where
     by : (b : Bool) → items_free low.items ≡ b
         → list_all not (map (is_one_of (map low.at (heads low.items Done))) (below g.locations)) ≡ items_free low.items

@@ -14,7 +14,7 @@ use Rattle.c_types.specs.declared.program.DataRhs.TheVariants.{Path as DataRhsPa
 use Rattle.c_types.specs.declared.program.DataRhs.TheVariants.{Choice as DataRhsChoice}
 use Rattle.c_types.specs.declared.program.Act.{Act}
 use Rattle.c_types.specs.declared.program.Act.TheVariants.{SetPtr, SetData, Free as FreeAct, Error, Halt, Return, Break}
-use Rattle.c_types.specs.declared.program.Act.TheVariants.{Continue}
+use Rattle.c_types.specs.declared.program.Act.TheVariants.{Continue, Leave as LeaveAct}
 use Rattle.c_types.specs.declared.program.PtrOp.{PtrOp}
 use Rattle.c_types.specs.declared.program.PtrOp.TheVariants.{Path as OpPath, Null as OpNull}
 use Rattle.c_types.specs.declared.program.DataOp.{DataOp}
@@ -22,13 +22,22 @@ use Rattle.c_types.specs.declared.program.DataOp.TheVariants.{Path as DataOpPath
 use Rattle.c_types.specs.declared.program.Atom.TheVariants.{Choice as ChoiceAtom, Known as KnownAtom, Ptr as PtrAtom}
 use Rattle.c_types.specs.declared.program.Atom.TheVariants.{Data as DataAtom}
 use Rattle.c_types.specs.Program.{Program}
-use Rattle.c_types.specs.Control.{Items, Done, Do, Close, If, Loop, Again, DoLoop, DoAgain, Ask, Not, Both, Either}
+use Rattle.c_types.specs.Control.{Items, Done, Do, Close, If, Loop, Again, DoLoop, DoAgain, Enter, Leave, Exit, Ask}
+use Rattle.c_types.specs.Control.{Not, Both, Either}
 use Rattle.c_cfg.specs.declared.graph.Instr.{Instr}
 use Rattle.c_cfg.specs.declared.graph.Edge.{Edge}
 use Rattle.c_cfg.specs.Graphs.{ControlGraph, is_choose}
 use Rattle.c_cfg.specs.Graphs.{HasChoiceAsChoose}
 use Rattle.c_cfg.specs.Links.{Link, One, Two, loads, loads_but_last, used, ends, data_loads, op_loads, data_op_loads}
 use Rattle.c_cfg.specs.Links.{var_row, path_row, ptr_row, data_var_row, data_field_row, data_row, return_row, act_row}
+use Rattle.c_cfg.specs.Links.{give_path, give_ptr, give_datum, give_links, give_each, enter_row, leave_row, hand_ptr}
+use Rattle.c_cfg.specs.Links.{hand_datum, hand_links, exit_row}
+use Rattle.c_types.specs.declared.program.VarRef.{VarRef}
+use Rattle.c_types.specs.declared.program.VarRef.TheVariants.{Ptr as PtrRef, Data as DataRef}
+use Rattle.c_types.specs.declared.program.Arg.{Arg}
+use Rattle.c_types.specs.declared.program.Arg.TheVariants.{Ptr as GivenPtr, Data as GivenData}
+use Rattle.c_types.specs.declared.program.Dest.{Dest}
+use Rattle.c_types.specs.declared.program.Dest.TheVariants.{Ptr as ToPtr, Data as ToData}
 use Rattle.c_cfg.specs.GraphRuns.{out_of}
 use Rattle.c_cfg.specs.Places.{places}
 use Rattle.c_cfg.specs.Lowering.{link_edges, numbers, LowerOf}
@@ -137,9 +146,67 @@ module _ (nv nd : ℕ) where
   act_fits (FreeAct p) is = fit_more (loads nv p.var p.fields) _ (loads_fit nv p.var p.fields) (refl, ends_fit _ [])
   act_fits Error is = (refl, tt)
   act_fits Halt is = (refl, tt)
+  act_fits (LeaveAct f value) is = (refl, tt)
   act_fits (Return operand) is = return_fits operand
   act_fits Break is = (refl, tt)
   act_fits Continue is = (refl, tt)
+
+  -- Calls
+
+  path_given_fits : (x b : ℕ) (fs : List ℕ) → Fit (give_path nv nd x b fs)
+  path_given_fits x b [] = (refl, tt)
+  path_given_fits x b (f ∷ fs) = last_fits nv b f fs _ (λ c g. refl)
+
+  ptr_given_fits : (x : ℕ) (p : PtrOp) → Fit (give_ptr nv nd x p)
+  ptr_given_fits x (OpPath q) = path_given_fits x q.var q.fields
+  ptr_given_fits x OpNull = (refl, tt)
+
+  datum_given_fits : (x : ℕ) (p : DataOp) → Fit (give_datum nv nd x p)
+  datum_given_fits x (DataOpPath (DataVar y)) = (refl, tt)
+  datum_given_fits x (DataOpPath (DataField base f)) = data_fit nv x (DataField base f)
+  datum_given_fits x (DataOpKnown k) = (refl, tt)
+
+  given_fits : (v : VarRef) (a : Arg) → Fit (give_links nv nd v a)
+  given_fits (PtrRef x) (GivenPtr p) = ptr_given_fits x p
+  given_fits (PtrRef x) (GivenData p) = (refl, tt)
+  given_fits (DataRef x) (GivenPtr p) = (refl, tt)
+  given_fits (DataRef x) (GivenData p) = datum_given_fits x p
+
+  each_given_fits : (vs : List VarRef) (ws : List Arg) → Fit (give_each nv nd vs ws)
+  each_given_fits [] ws = tt
+  each_given_fits (v ∷ vs) [] = tt
+  each_given_fits (v ∷ vs) (a ∷ ws) = fit_more (give_links nv nd v a) _ (given_fits v a) (each_given_fits vs ws)
+
+  pub enter_fits : (vs : List VarRef) (ws : List Arg) → Fit (enter_row nv nd vs ws)
+  enter_fits [] ws = (refl, tt)
+  enter_fits (v ∷ vs) [] = (refl, tt)
+  enter_fits (v ∷ vs) (a ∷ ws) =
+      fit_more (give_each nv nd (v ∷ vs) (a ∷ ws)) _ (each_given_fits (v ∷ vs) (a ∷ ws)) (ends_fit _ [])
+
+  pub leave_fits : (v : Option VarRef) (vs : List VarRef) (a : Option Arg) → Fit (leave_row nv nd v vs a)
+  leave_fits None vs a = (refl, tt)
+  leave_fits (Some v) vs None = (refl, tt)
+  leave_fits (Some v) vs (Some a) = fit_more (give_links nv nd v a) _ (given_fits v a) (refl, tt)
+
+  hand_ptr_fits : (x y : ℕ) (fs : List ℕ) → Fit (hand_ptr nv nd x y fs)
+  hand_ptr_fits x y [] = (refl, tt)
+  hand_ptr_fits x y (f ∷ fs) = last_fits (nv + 1) y f fs _ (λ c g. refl)
+
+  hand_datum_fits : (x : ℕ) (p : DataPath) → Fit (hand_datum nv nd x p)
+  hand_datum_fits x (DataVar y) = (refl, tt)
+  hand_datum_fits x (DataField base f) =
+      fit_more (loads (nv + 1) base.var base.fields) _ (loads_fit (nv + 1) base.var base.fields) (refl, tt)
+
+  handed_fits : (v : VarRef) (d : Dest) → Fit (hand_links nv nd v d)
+  handed_fits (PtrRef x) (ToPtr p) = hand_ptr_fits x p.var p.fields
+  handed_fits (PtrRef x) (ToData p) = tt
+  handed_fits (DataRef x) (ToPtr p) = tt
+  handed_fits (DataRef x) (ToData p) = hand_datum_fits x p
+
+  pub exit_fits : (v : Option VarRef) (vs : List VarRef) (d : Option Dest) → Fit (exit_row nv nd v vs d)
+  exit_fits None vs d = (refl, tt)
+  exit_fits (Some v) vs None = (refl, tt)
+  exit_fits (Some v) vs (Some d) = fit_more (hand_links nv nd v d) _ (handed_fits v d) (refl, tt)
 
 -- Edges
 
@@ -184,6 +251,9 @@ module _ (p : Program) (g : ControlGraph) (low : LowerOf p Always g) where
   place_good (Again c n b is) = tt
   place_good (DoLoop c b is) = tt
   place_good (DoAgain c b is) = tt
+  place_good (Enter vs ws m is) = enter_fits (length p.vars) (length p.data_vars) vs ws
+  place_good (Leave v vs a m is) = leave_fits (length p.vars) (length p.data_vars) v vs a
+  place_good (Exit v vs d m is) = exit_fits (length p.vars) (length p.data_vars) v vs d
 
   pub stand_at_chooses : Every HasChoiceAsChoose g.edges
   stand_at_chooses = in_every HasChoiceAsChoose g.edges (λ e i.

@@ -1,11 +1,13 @@
 -- Where a step leads is a place again, or the exit.
-use Rattle.std.proofs.Common.{◌≡◌, ℕ, List, [], ◌∷◌, refl, ap, subst}
+use Rattle.std.proofs.Common.{◌≡◌, ℕ, zero, suc, List, [], ◌∷◌, refl, ap, subst}
 use Rattle.fore_base.specs.Lists.{Every}
 use Rattle.fore_base.proofs.ListLemmas.{every_append, every_parts}
 use Rattle.c_types.specs.declared.program.Act.{Act}
 use Rattle.c_types.specs.declared.program.Act.TheVariants.{SetPtr, SetData, Free, Error, Halt, Return, Break, Continue}
+use Rattle.c_types.specs.declared.program.Act.TheVariants.{Leave as LeaveAct}
 use Rattle.c_types.specs.Control.{Items, Done, Do, Close, If, Loop, Again, DoLoop, DoAgain, Test, Ask, Not, Both}
-use Rattle.c_types.specs.Control.{Either, ◌then◌, ask, round, do_round, open_before, opened, after_again, from_again}
+use Rattle.c_types.specs.Control.{Either, Enter, Leave, Exit, ◌then◌, ask, round, do_round, open_before, opened}
+use Rattle.c_types.specs.Control.{after_again, from_again, exit_after, from_exit}
 use Rattle.c_cfg.specs.Places.{test_places, places}
 use Rattle.c_cfg.specs.Lowering.{followed_by}
 use Rattle.c_cfg.proofs.Opening.{then_then}
@@ -20,6 +22,9 @@ then_done (Loop c n b is) = ap (Loop c n b) (then_done is)
 then_done (Again c n b is) = ap (Again c n b) (then_done is)
 then_done (DoLoop c b is) = ap (DoLoop c b) (then_done is)
 then_done (DoAgain c b is) = ap (DoAgain c b) (then_done is)
+then_done (Enter vs ws m is) = ap (Enter vs ws m) (then_done is)
+then_done (Leave v vs a m is) = ap (Leave v vs a m) (then_done is)
+then_done (Exit v vs d m is) = ap (Exit v vs d m) (then_done is)
 
 module _ (R : Items → Type 0) where
   -- R at each place of a test, and of items that stand before others
@@ -40,6 +45,9 @@ module _ (R : Items → Type 0) where
       × Each n (Loop c n b (is then r)) × Each is r
   Each (DoLoop c b is) r = EachTest c (do_round c b) Done (is then r) × Each b (DoAgain c b (is then r)) × Each is r
   Each (DoAgain c b is) r = EachTest c (do_round c b) Done (is then r) × Each b (DoAgain c b (is then r)) × Each is r
+  Each (Enter vs ws m is) r = R (Enter vs ws m (is then r)) × Each is r
+  Each (Leave v vs a m is) r = R (Leave v vs a m (is then r)) × Each is r
+  Each (Exit v vs d m is) r = R (Exit v vs d m (is then r)) × Each is r
 
   each_test : (c : Test) (x y r : Items) → Every R (test_places c x y r) → EachTest c x y r
   each_test (Ask a m) x y r h = h.0
@@ -83,6 +91,9 @@ module _ (R : Items → Type 0) where
       let h1 = every_parts R (test_places c (do_round c b) Done (is then r)) _ h in let h2 =
       every_parts R (places b (DoAgain c b (is then r))) _ h1.1 in
       (each_test c (do_round c b) Done (is then r) h1.0, each b (DoAgain c b (is then r)) h2.0, each is r h2.1)
+  each (Enter vs ws m is) r h = (h.0, each is r h.1)
+  each (Leave v vs a m is) r h = (h.0, each is r h.1)
+  each (Exit v vs d m is) r h = (h.0, each is r h.1)
 
   -- items before items before others
   each_then : (c d r : Items) → Each c (d then r) → Each d r → Each (c then d) r
@@ -97,6 +108,9 @@ module _ (R : Items → Type 0) where
       (rw (then_then is d r) h.0, rw (then_then is d r) h.1, rw (then_then is d r) h.2, each_then is d r h.3 k)
   each_then (DoLoop c b is) d r h k = (rw (then_then is d r) h.0, rw (then_then is d r) h.1, each_then is d r h.2 k)
   each_then (DoAgain c b is) d r h k = (rw (then_then is d r) h.0, rw (then_then is d r) h.1, each_then is d r h.2 k)
+  each_then (Enter vs ws m is) d r h k = (rw (then_then is d r) h.0, each_then is d r h.1 k)
+  each_then (Leave v vs a m is) d r h k = (rw (then_then is d r) h.0, each_then is d r h.1 k)
+  each_then (Exit v vs e m is) d r h k = (rw (then_then is d r) h.0, each_then is d r h.1 k)
 
   -- an opened list, with all places after it
   abbrev pub Front : Items → Type 0
@@ -143,6 +157,9 @@ module _ (R : Items → Type 0) where
       each_open b (DoAgain c b q) (ask c (do_round c b) Done q) h.1 (rw (then_done q) (h.0, h.1, hq))
       (each_do c b q h.0 h.1 hq)
   each_open (DoAgain c b is) r o h hr ho = each_do c b (is then r) h.0 h.1 (whole is r h.2 hr)
+  each_open (Enter vs ws m is) r o h hr ho = (h.0, (rw (then_done (is then r)) h.0, whole is r h.1 hr))
+  each_open (Leave v vs a m is) r o h hr ho = (h.0, (rw (then_done (is then r)) h.0, whole is r h.1 hr))
+  each_open (Exit v vs d m is) r o h hr ho = (h.0, (rw (then_done (is then r)) h.0, whole is r h.1 hr))
 
   -- the front of pending items, all of whose places are known
   pub each_opened : (c : Items) → R Done → Each c Done → Front (opened c)
@@ -157,6 +174,9 @@ module _ (R : Items → Type 0) where
   each_after (Again c n b is) h = h.3
   each_after (DoLoop c b is) h = each_after is h.2
   each_after (DoAgain c b is) h = h.2
+  each_after (Enter vs ws m is) h = each_after is h.1
+  each_after (Leave v vs a m is) h = each_after is h.1
+  each_after (Exit v vs d m is) h = each_after is h.1
 
   pub each_from : (is : Items) → Each is Done → Each (from_again is) Done
   each_from Done h = tt
@@ -167,6 +187,26 @@ module _ (R : Items → Type 0) where
   each_from (Again c n b is) h = h
   each_from (DoLoop c b is) h = each_from is h.2
   each_from (DoAgain c b is) h = h
+  each_from (Enter vs ws m is) h = each_from is h.1
+  each_from (Leave v vs a m is) h = each_from is h.1
+  each_from (Exit v vs d m is) h = each_from is h.1
+
+  each_exit_after : (n : ℕ) (is : Items) → Each is Done → Each (exit_after n is) Done
+  each_exit_after n Done h = tt
+  each_exit_after n (Do a m is) h = each_exit_after n is h.1
+  each_exit_after n (Close ps ds m is) h = each_exit_after n is h.1
+  each_exit_after n (If c x y is) h = each_exit_after n is h.3
+  each_exit_after n (Loop c k b is) h = each_exit_after n is h.3
+  each_exit_after n (Again c k b is) h = each_exit_after n is h.3
+  each_exit_after n (DoLoop c b is) h = each_exit_after n is h.2
+  each_exit_after n (DoAgain c b is) h = each_exit_after n is h.2
+  each_exit_after n (Enter vs ws m is) h = each_exit_after (suc n) is h.1
+  each_exit_after n (Leave v vs a m is) h = each_exit_after n is h.1
+  each_exit_after zero (Exit v vs d m is) h = h
+  each_exit_after (suc n) (Exit v vs d m is) h = each_exit_after n is h.1
+
+  pub each_exit : (is : Items) → Each is Done → Each (from_exit is) Done
+  each_exit is h = each_exit_after 0 is h
 
   -- The places after each place
 
@@ -222,6 +262,12 @@ module _ (R : Items → Type 0) where
       (tests_after c (do_round c b) Done q h.0 (each_do_round c b q h.0 h.1) tt hq)
       (every_append After (places b (DoAgain c b q)) _
       (places_after b (DoAgain c b q) h.1 (rw (then_done q) (h.0, h.1, hq))) (places_after is r h.2 hr))
+  places_after (Enter vs ws m is) r h hr =
+      ((rw (then_done (is then r)) h.0, whole is r h.1 hr), places_after is r h.1 hr)
+  places_after (Leave v vs a m is) r h hr =
+      ((rw (then_done (is then r)) h.0, whole is r h.1 hr), places_after is r h.1 hr)
+  places_after (Exit v vs d m is) r h hr =
+      ((rw (then_done (is then r)) h.0, whole is r h.1 hr), places_after is r h.1 hr)
 
 -- Where T holds of the exit and of each place, it holds of each location to which a step leads.
 module _ (T : ℕ → Type 0) (at : Items → ℕ) where
@@ -235,6 +281,7 @@ module _ (T : ℕ → Type 0) (at : Items → ℕ) where
   act_leads Error is d h = d
   act_leads Halt is d h = d
   act_leads (Return operand) is d h = d
+  act_leads (LeaveAct f value) is d h = d
   act_leads Break is d h = (each_opened There (after_again is) d (each_after There is h)).0
   act_leads Continue is d h = (each_opened There (from_again is) d (each_from There is h)).0
 
@@ -255,6 +302,9 @@ module _ (T : ℕ → Type 0) (at : Items → ℕ) where
   place_leads (Again c n b is) d h = tt
   place_leads (DoLoop c b is) d h = tt
   place_leads (DoAgain c b is) d h = tt
+  place_leads (Enter vs ws m is) d h = (each_opened There is d h.1).0
+  place_leads (Leave v vs a m is) d h = (each_opened There (from_exit is) d (each_exit There is h.1)).0
+  place_leads (Exit v vs e m is) d h = (each_opened There is d h.1).0
 
   all_lead : (cs : List Items) → There Done → Every (λ c. Each There c Done) cs → Every (PlaceLeads T at) cs
   all_lead [] d h = tt

@@ -13,7 +13,7 @@ use Rattle.c_types.specs.declared.program.Atom.TheVariants.{Data as DataAtom}
 use Rattle.c_types.specs.declared.mode.MallocMode.{MallocMode}
 use Rattle.c_types.specs.Program.{Program}
 use Rattle.c_types.specs.Control.{Items, Done, Do, Close, If, Loop, Again, DoLoop, DoAgain, Test, Ask, Not, Both}
-use Rattle.c_types.specs.Control.{Either, ◌then◌, opened, round, do_round}
+use Rattle.c_types.specs.Control.{Either, Enter, Leave, Exit, ◌then◌, opened, round, do_round, from_exit}
 use Rattle.c_types.specs.Steps.{below}
 use Rattle.c_cfg.specs.declared.graph.Instr.{Instr}
 use Rattle.c_cfg.specs.declared.graph.Instr.TheVariants.{Kill, Choose}
@@ -21,11 +21,11 @@ use Rattle.c_cfg.specs.declared.graph.Edge.{Edge}
 use Rattle.c_cfg.specs.Graphs.{ControlGraph}
 use Rattle.c_cfg.specs.GraphRuns.{out_of}
 use Rattle.c_cfg.specs.Links.{Link, One, links_in, act_row, ptr_loads, ptr_test, ptr_ends, cmp_loads, data_test}
-use Rattle.c_cfg.specs.Links.{data_ends}
+use Rattle.c_cfg.specs.Links.{data_ends, enter_row, leave_row, exit_row}
 use Rattle.c_cfg.specs.Places.{test_places, places}
 use Rattle.c_cfg.specs.Lowering.{edge, link_edges, IsWay, but_last, IsWayOver, IsTestRow, IsRow, IsAtomRow, followed_by}
 use Rattle.c_cfg.specs.Lowering.{numbers, LowerOf}
-use Rattle.c_cfg.proofs.Filling.{Filled, filled_in, act_filled}
+use Rattle.c_cfg.proofs.Filling.{Filled, filled_in, act_filled, enter_filled, leave_filled, exit_filled}
 use Rattle.c_cfg.proofs.Spans.{Within, out_off}
 
 -- the numbers below n
@@ -97,6 +97,9 @@ places_step (DoAgain c b is) r =
     every_append IsStep (test_places c (do_round c b) Done (is then r)) _ (tests_step c (do_round c b) Done (is then r))
     (every_append IsStep (places b (DoAgain c b (is then r))) _ (places_step b (DoAgain c b (is then r)))
     (places_step is r))
+places_step (Enter vs ws m is) r = (tt, places_step is r)
+places_step (Leave v vs a m is) r = (tt, places_step is r)
+places_step (Exit v vs d m is) r = (tt, places_step is r)
 
 module _ (nv nd : ℕ) (L : Link → Type 0) (C : (Bool → Instr) → Type 0) where
   -- L of the links of a place, and C of its test
@@ -118,6 +121,9 @@ module _ (nv nd : ℕ) (L : Link → Type 0) (C : (Bool → Instr) → Type 0) w
   PlaceGood mode (Again c n b is) = Unit {0}
   PlaceGood mode (DoLoop c b is) = Unit {0}
   PlaceGood mode (DoAgain c b is) = Unit {0}
+  PlaceGood mode (Enter vs ws m is) = Every L (enter_row nv nd vs ws)
+  PlaceGood mode (Leave v vs a m is) = Every L (leave_row nv nd v vs a)
+  PlaceGood mode (Exit v vs d m is) = Every L (exit_row nv nd v vs d)
 
 module _ (T : ℕ → Type 0) (at : Items → ℕ) where
   -- T of the locations to which its step leads
@@ -133,6 +139,9 @@ module _ (T : ℕ → Type 0) (at : Items → ℕ) where
   PlaceLeads (Again c n b is) = Unit {0}
   PlaceLeads (DoLoop c b is) = Unit {0}
   PlaceLeads (DoAgain c b is) = Unit {0}
+  PlaceLeads (Enter vs ws m is) = T (at (opened is))
+  PlaceLeads (Leave v vs a m is) = T (at (opened (from_exit is)))
+  PlaceLeads (Exit v vs d m is) = T (at (opened is))
 
 -- P is to hold of the edges that leave a location, T of the locations to which they lead, L of links, C of tests.
 module _ (edges : List Edge) (P : List Edge → Type 0) (T : ℕ → Type 0) (L : Link → Type 0) (C : (Bool → Instr) → Type 0)
@@ -255,6 +264,15 @@ module _ (edges : List Edge) (P : List Edge → Type 0) (T : ℕ → Type 0) (L 
     place_has (Again c n b is) o r g d t = absurd r
     place_has (DoLoop c b is) o r g d t = absurd r
     place_has (DoAgain c b is) o r g d t = absurd r
+    place_has (Enter vs ws m is) o r g d t =
+        over_has (line m) (enter_row nv nd vs ws) (at (Enter vs ws m is)) (mids (Enter vs ws m is)) _ r
+        (enter_filled nv nd vs ws) g d t
+    place_has (Leave v vs a m is) o r g d t =
+        over_has (line m) (leave_row nv nd v vs a) (at (Leave v vs a m is)) (mids (Leave v vs a m is)) _ r
+        (leave_filled nv nd v vs a) g d t
+    place_has (Exit v vs e m is) o r g d t =
+        over_has (line m) (exit_row nv nd v vs e) (at (Exit v vs e m is)) (mids (Exit v vs e m is)) _ r
+        (exit_filled nv nd v vs e) g d t
 
     every_has : (cs : List Items) → Every IsStep cs → Every (IsRow nv nd edges mode line at mids) cs
         → Every (PlaceGood nv nd L C mode) cs → Every (PlaceLeads T at) cs → Every T (numbers at mids cs)

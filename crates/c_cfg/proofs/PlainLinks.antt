@@ -15,6 +15,13 @@ use Rattle.c_types.specs.declared.program.PtrOp.{PtrOp}
 use Rattle.c_types.specs.declared.program.PtrOp.TheVariants.{Path as OpPath, Null as OpNull}
 use Rattle.c_types.specs.declared.program.DataOp.{DataOp}
 use Rattle.c_types.specs.declared.program.DataOp.TheVariants.{Path as DataOpPath, Known as DataOpKnown}
+use Rattle.c_types.specs.declared.program.VarRef.{VarRef}
+use Rattle.c_types.specs.declared.program.VarRef.TheVariants.{Ptr as PtrRef, Data as DataRef}
+use Rattle.c_types.specs.declared.program.Arg.{Arg}
+use Rattle.c_types.specs.declared.program.Arg.TheVariants.{Ptr as GivenPtr, Data as GivenData}
+use Rattle.c_types.specs.declared.program.Dest.{Dest}
+use Rattle.c_types.specs.declared.program.Dest.TheVariants.{Ptr as ToPtr, Data as ToData}
+use Rattle.c_types.specs.Control.{with_result}
 use Rattle.c_types.specs.Steps.{data_rhs_takes, below}
 use Rattle.c_cfg.specs.declared.graph.Const.TheVariants.{Null as ConstNull, Known as ConstKnown}
 use Rattle.c_cfg.specs.declared.graph.Instr.{Instr}
@@ -23,6 +30,8 @@ use Rattle.c_cfg.specs.Links.{Link, One, Two, failing, links_in, loads, holder, 
 use Rattle.c_cfg.specs.Links.{data_used, data_holder, loads_but_last, ends, data_loads, op_loads, data_op_loads}
 use Rattle.c_cfg.specs.Links.{ptr_row}
 use Rattle.c_cfg.specs.Links.{data_row, free_row, return_row, ptr_loads, cmp_loads}
+use Rattle.c_cfg.specs.Links.{give_path, give_ptr, give_datum, give_links, given_used, give_each, each_used, enter_row}
+use Rattle.c_cfg.specs.Links.{die, leave_row, hand_ptr, hand_datum, hand_links, dest_used, exit_row}
 
 -- each is one edge, and none is a New
 abbrev pub ArePlain : List Link → Type 0
@@ -167,4 +176,68 @@ module _ (nv nd : ℕ) where
   returned_plain None = (refl, tt)
   returned_plain (Some q) =
       both_plain (data_loads nv nd q) (One (Kill (below (nv + 2)) (below (nd + 2))) ∷ []) (data_plain nv nd q)
+      (refl, tt)
+
+  -- Calls
+
+  path_given : (x b : ℕ) (fs : List ℕ) → ArePlain (give_path nv nd x b fs)
+  path_given x b [] = (refl, tt)
+  path_given x b (f ∷ fs) = last_plain nv b f fs (λ c g. LoadPtr x c g) (λ c g. refl)
+
+  ptr_given : (x : ℕ) (q : PtrOp) → ArePlain (give_ptr nv nd x q)
+  ptr_given x (OpPath q) = path_given x q.var q.fields
+  ptr_given x OpNull = (refl, tt)
+
+  datum_given : (x : ℕ) (q : DataOp) → ArePlain (give_datum nv nd x q)
+  datum_given x (DataOpPath (DataVar y)) = (refl, tt)
+  datum_given x (DataOpPath (DataField base f)) = data_plain nv x (DataField base f)
+  datum_given x (DataOpKnown k) = (refl, tt)
+
+  given : (v : VarRef) (a : Arg) → ArePlain (give_links nv nd v a)
+  given (PtrRef x) (GivenPtr q) = ptr_given x q
+  given (PtrRef x) (GivenData q) = (refl, tt)
+  given (DataRef x) (GivenPtr q) = (refl, tt)
+  given (DataRef x) (GivenData q) = datum_given x q
+
+  each_given : (vs : List VarRef) (ws : List Arg) → ArePlain (give_each nv nd vs ws)
+  each_given [] ws = tt
+  each_given (v ∷ vs) [] = tt
+  each_given (v ∷ vs) (a ∷ ws) =
+      both_plain (give_links nv nd v a) (give_each nv nd vs ws) (given v a) (each_given vs ws)
+
+  pub enter_plain : (vs : List VarRef) (ws : List Arg) → ArePlain (enter_row nv nd vs ws)
+  enter_plain [] ws = (refl, tt)
+  enter_plain (v ∷ vs) [] = (refl, tt)
+  enter_plain (v ∷ vs) (a ∷ ws) =
+      both_plain (give_each nv nd (v ∷ vs) (a ∷ ws)) (ends (each_used nv nd (a ∷ ws)) [])
+      (each_given (v ∷ vs) (a ∷ ws)) (ends_plain (each_used nv nd (a ∷ ws)) [])
+
+  pub leave_plain : (v : Option VarRef) (vs : List VarRef) (a : Option Arg) → ArePlain (leave_row nv nd v vs a)
+  leave_plain None vs a = (refl, tt)
+  leave_plain (Some v) vs None = (refl, tt)
+  leave_plain (Some v) vs (Some a) =
+      both_plain (give_links nv nd v a) (die nv nd vs (given_used nv nd a) ∷ []) (given v a) (refl, tt)
+
+  ptr_handed : (x y : ℕ) (fs : List ℕ) → ArePlain (hand_ptr nv nd x y fs)
+  ptr_handed x y [] = (refl, tt)
+  ptr_handed x y (f ∷ fs) = last_plain (nv + 1) y f fs (λ b g. StorePtr b g x) (λ c g. refl)
+
+  datum_handed : (x : ℕ) (q : DataPath) → ArePlain (hand_datum nv nd x q)
+  datum_handed x (DataVar y) = (refl, tt)
+  datum_handed x (DataField base f) =
+      both_plain (loads (nv + 1) base.var base.fields)
+      (One (StoreData (holder (nv + 1) base.var base.fields) f x) ∷ []) (loads_plain (nv + 1) base.var base.fields)
+      (refl, tt)
+
+  handed : (v : VarRef) (d : Dest) → ArePlain (hand_links nv nd v d)
+  handed (PtrRef x) (ToPtr q) = ptr_handed x q.var q.fields
+  handed (PtrRef x) (ToData q) = tt
+  handed (DataRef x) (ToPtr q) = tt
+  handed (DataRef x) (ToData q) = datum_handed x q
+
+  pub exit_plain : (v : Option VarRef) (vs : List VarRef) (d : Option Dest) → ArePlain (exit_row nv nd v vs d)
+  exit_plain None vs d = (refl, tt)
+  exit_plain (Some v) vs None = (refl, tt)
+  exit_plain (Some v) vs (Some d) =
+      both_plain (hand_links nv nd v d) (die nv nd (with_result (Some v) vs) (dest_used nv nd d) ∷ []) (handed v d)
       (refl, tt)

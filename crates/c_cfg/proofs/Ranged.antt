@@ -1,25 +1,29 @@
 -- The items of a well typed program, and the places among them, have numbers in range.
-use Rattle.std.proofs.Common.{◌≡◌, ◌<◌, ℕ, Bool, true, false, ◌&&◌, List, [], ◌∷◌, length, map, refl, sym, ap, ◌∙◌}
-use Rattle.std.proofs.Common.{subst}
+use Rattle.std.proofs.Common.{◌≡◌, ◌<◌, ℕ, Bool, true, false, ◌&&◌, None, List, [], ◌∷◌, length, map, refl, sym, ap}
+use Rattle.std.proofs.Common.{◌∙◌, subst}
 use Rattle.std.specs.Prelude.{nat_lt, if◌then◌else◌}
 use Rattle.std.proofs.lemmas.Bool.{and_parts, ltb-true}
 use Rattle.fore_base.specs.Lists.{Every}
 use Rattle.fore_base.proofs.ListLemmas.{every_append}
 use Rattle.c_types.specs.declared.program.Act.{Act}
 use Rattle.c_types.specs.declared.program.Act.TheVariants.{SetPtr, SetData, Free, Error, Halt, Return, Break, Continue}
+use Rattle.c_types.specs.declared.program.Act.TheVariants.{Leave as LeaveAct}
 use Rattle.c_types.specs.declared.program.Cond.{Cond, Cond-F, roll-Cond, map-Cond, fold-roll-Cond, ind-Cond}
 use Rattle.c_types.specs.declared.program.Cond.TheOpen.{Atom as Atom-F, Not as Not-F, All as All-F, Any as Any-F}
 use Rattle.c_types.specs.declared.program.Stmt.{Stmt, Stmt-F, roll-Stmt, map-Stmt, fold-roll-Stmt, ind-Stmt}
 use Rattle.c_types.specs.declared.program.Stmt.TheOpen.{Do as Do-F, Branch as Branch-F, While as While-F}
 use Rattle.c_types.specs.declared.program.Stmt.TheOpen.{DoWhile as DoWhile-F, For as For-F, Group as Group-F}
+use Rattle.c_types.specs.declared.program.Stmt.TheOpen.{Call as Call-F}
 use Rattle.c_types.specs.Program.{Program, Spot, Outside, InNext, body_of, all_below, act_typed, atom_typed, all_typed}
 use Rattle.c_types.specs.Program.{cond_typed_step, cond_typed, each_typed, stmt_typed_step, stmt_typed, shapes_typed}
-use Rattle.c_types.specs.Program.{vars_typed, is_typed}
+use Rattle.c_types.specs.Program.{vars_typed, funcs_typed, is_typed}
 use Rattle.c_types.specs.Control.{Test, Ask, Not, Both, Either, Items, Done, Do, Close, If, Loop, Again, DoLoop}
-use Rattle.c_types.specs.Control.{DoAgain, ◌then◌, round, do_round, insert, merged, closed_ptrs, closed_datums, joined}
-use Rattle.c_types.specs.Control.{test_step, test_of, all_before, closes, items_step, items_of, start_of}
+use Rattle.c_types.specs.Control.{DoAgain, Enter, Leave, Exit, ◌then◌, round, do_round, insert, merged, closed_ptrs}
+use Rattle.c_types.specs.Control.{closed_datums, joined}
+use Rattle.c_types.specs.Control.{test_step, test_of, all_before, closes, start_of}
 use Rattle.c_types.specs.Fits.{ActFits}
 use Rattle.c_cfg.specs.Places.{test_places, places, remark_test, remark}
+use Rattle.c_cfg.proofs.Opening.{alone_step, alone, start_alone, act_alone}
 
 pub numbers_below : (n : ℕ) (ms : List ℕ) → all_below n ms ≡ true → Every (λ m. m < n) ms
 numbers_below n [] e = tt
@@ -33,7 +37,7 @@ module _ (p : Program) where
   TestTyped (Both c d) = TestTyped c × TestTyped d
   TestTyped (Either c d) = TestTyped c × TestTyped d
 
-  -- each act, atom and Close of the items is one of the program's
+  -- each act, atom and Close of the items is one of the program's, and there is no call
   abbrev pub Ranged : Items → Type 0
   Ranged Done = Unit {0}
   Ranged (Do a m is) = ActFits p a × Ranged is
@@ -44,6 +48,9 @@ module _ (p : Program) where
   Ranged (Again c n b is) = TestTyped c × Ranged n × Ranged b × Ranged is
   Ranged (DoLoop c b is) = TestTyped c × Ranged b × Ranged is
   Ranged (DoAgain c b is) = TestTyped c × Ranged b × Ranged is
+  Ranged (Enter vs ws m is) = ⊥
+  Ranged (Leave v vs a m is) = ⊥
+  Ranged (Exit v vs d m is) = ⊥
 
   -- Places
 
@@ -56,6 +63,9 @@ module _ (p : Program) where
   then_ranged (Again c n b is) r h k = (h.0, h.1, h.2, then_ranged is r h.3 k)
   then_ranged (DoLoop c b is) r h k = (h.0, h.1, then_ranged is r h.2 k)
   then_ranged (DoAgain c b is) r h k = (h.0, h.1, then_ranged is r h.2 k)
+  then_ranged (Enter vs ws m is) r h k = h
+  then_ranged (Leave v vs a m is) r h k = h
+  then_ranged (Exit v vs d m is) r h k = h
 
   round_ranged : (c : Test) (n b : Items) → TestTyped c → Ranged n → Ranged b → Ranged (round c n b)
   round_ranged c n b t hn hb = then_ranged b (Again c n b Done) hb (t, hn, hb, tt)
@@ -110,6 +120,9 @@ module _ (p : Program) where
       (tests_ranged c (do_round c b) Done q h.0 (do_ranged c b h.0 h.1) tt hq)
       (every_append Ranged (places b (DoAgain c b q)) _ (places_ranged b (DoAgain c b q) h.1 (h.0, h.1, hq))
       (places_ranged is r h.2 k))
+  places_ranged (Enter vs ws m is) r h k = absurd h
+  places_ranged (Leave v vs a m is) r h k = absurd h
+  places_ranged (Exit v vs d m is) r h k = absurd h
 
   -- marks have no bearing
 
@@ -128,6 +141,9 @@ module _ (p : Program) where
   unmarked f (Again c n b is) h = (test_unmarked f c h.0, unmarked f n h.1, unmarked f b h.2, unmarked f is h.3)
   unmarked f (DoLoop c b is) h = (test_unmarked f c h.0, unmarked f b h.1, unmarked f is h.2)
   unmarked f (DoAgain c b is) h = (test_unmarked f c h.0, unmarked f b h.1, unmarked f is h.2)
+  unmarked f (Enter vs ws m is) h = h
+  unmarked f (Leave v vs a m is) h = h
+  unmarked f (Exit v vs d m is) h = h
 
   -- Variables that die with `break` and `continue`
 
@@ -155,6 +171,9 @@ module _ (p : Program) where
   closed_ptrs_below (Again c n b is) h = tt
   closed_ptrs_below (DoLoop c b is) h = closed_ptrs_below is h.2
   closed_ptrs_below (DoAgain c b is) h = tt
+  closed_ptrs_below (Enter vs ws m is) h = absurd h
+  closed_ptrs_below (Leave v vs a m is) h = absurd h
+  closed_ptrs_below (Exit v vs d m is) h = absurd h
 
   pub closed_datums_below : (is : Items) → Ranged is → Every (λ x. x < length p.data_vars) (closed_datums is)
   closed_datums_below Done h = tt
@@ -167,6 +186,9 @@ module _ (p : Program) where
   closed_datums_below (Again c n b is) h = tt
   closed_datums_below (DoLoop c b is) h = closed_datums_below is h.2
   closed_datums_below (DoAgain c b is) h = tt
+  closed_datums_below (Enter vs ws m is) h = absurd h
+  closed_datums_below (Leave v vs a m is) h = absurd h
+  closed_datums_below (Exit v vs d m is) h = absurd h
 
   -- Conditions
 
@@ -220,36 +242,38 @@ module _ (p : Program) where
   -- Statements
 
   abbrev typed : Stmt → Spot → Bool
-  typed = stmt_typed p.shapes.structs p.vars (length p.data_vars)
+  typed = stmt_typed p.shapes.structs p.vars (length p.data_vars) p.funcs None
 
   abbrev typed_step : Stmt-F (Spot → Bool) → Spot → Bool
-  typed_step = stmt_typed_step p.shapes.structs p.vars (length p.data_vars)
+  typed_step = stmt_typed_step p.shapes.structs p.vars (length p.data_vars) p.funcs None
 
   abbrev each_is : List (Spot → Bool) → Spot → Bool
   each_is = each_typed p.shapes.structs p.vars (length p.data_vars)
 
-  act_is : (a : Act) (spot : Spot) → act_typed p.shapes.structs p.vars (length p.data_vars) a spot ≡ true → ActFits p a
+  act_is : (a : Act) (spot : Spot) → act_typed p.shapes.structs p.vars (length p.data_vars) p.funcs None a spot ≡ true
+      → ActFits p a
   act_is (SetPtr to from) spot e = e
   act_is (SetData to from) spot e = e
   act_is (Free q) spot e = e
   act_is Error spot e = e
   act_is Halt spot e = e
   act_is (Return operand) spot e = e
+  act_is (LeaveAct f value) spot e = e
   act_is Break spot e = refl
   act_is Continue spot e = refl
 
   abbrev StmtRanged : Stmt → Type 0
-  StmtRanged s = (spot : Spot) (r : Items) → typed s spot ≡ true → Ranged r → Ranged (items_of s r)
+  StmtRanged s = (spot : Spot) (r : Items) → typed s spot ≡ true → Ranged r → Ranged (alone s r)
 
   abbrev bare : List ((s : Stmt) × StmtRanged s) → List Stmt
   bare ss = map (λ e. e.0) ss
 
   all_ranged : (ss : List ((s : Stmt) × StmtRanged s)) (spot : Spot) (r : Items) → each_is (map typed (bare ss)) spot
-      ≡ true → Ranged r → Ranged (all_before (map items_of (bare ss)) r)
+      ≡ true → Ranged r → Ranged (all_before (map alone (bare ss)) r)
   all_ranged [] spot r e rest = rest
   all_ranged (s ∷ ss) spot r e rest =
       let both = and_parts (typed s.0 spot) (each_is (map typed (bare ss)) spot) e in
-      s.1 spot (all_before (map items_of (bare ss)) r) both.0 (all_ranged ss spot r both.1 rest)
+      s.1 spot (all_before (map alone (bare ss)) r) both.0 (all_ranged ss spot r both.1 rest)
 
   closes_ranged : (ps ds : List ℕ) (m : ℕ) (r : Items) → all_below (length p.vars) ps ≡ true
       → all_below (length p.data_vars) ds ≡ true → Ranged r → Ranged (closes ps ds m r)
@@ -262,9 +286,9 @@ module _ (p : Program) where
       ≡ true →
       Ranged r
       → Ranged
-      (items_step (map-Stmt Stmt (Items → Items) items_of (map-Stmt ((s : Stmt) × StmtRanged s) Stmt (λ e. e.0) y))
+      (alone_step (map-Stmt Stmt (Items → Items) alone (map-Stmt ((s : Stmt) × StmtRanged s) Stmt (λ e. e.0) y))
       r)
-  layer_ranged (Do-F a line) spot r e rest = (act_is a spot e, rest)
+  layer_ranged (Do-F a line) spot r e rest = subst Ranged (sym (act_alone a line r)) (act_is a spot e, rest)
   layer_ranged (Branch-F c x y) spot r e rest =
       let xs : Bool = each_is (map typed (bare x)) spot in
       let ys : Bool = each_is (map typed (bare y)) spot in
@@ -294,6 +318,7 @@ module _ (p : Program) where
       let both = and_parts bs (all_below (length p.vars) ps && all_below (length p.data_vars) ds) e in
       let sides = and_parts (all_below (length p.vars) ps) (all_below (length p.data_vars) ds) both.1 in
       all_ranged b spot (closes ps ds m r) both.0 (closes_ranged ps ds m r sides.0 sides.1 rest)
+  layer_ranged (Call-F f args to' line) spot r e rest = rest
 
   rolled_ranged : (x : Stmt-F Stmt) (y : Stmt-F ((s : Stmt) × StmtRanged s))
       → map-Stmt ((s : Stmt) × StmtRanged s) Stmt (λ e. e.0) y ≡ x → StmtRanged (roll-Stmt x)
@@ -302,22 +327,26 @@ module _ (p : Program) where
       let here : typed_step (map-Stmt Stmt (Spot → Bool) typed z) spot ≡ true =
       ap (λ w. typed_step (map-Stmt Stmt (Spot → Bool) typed w) spot) is
       ∙ sym (ap (λ f. f spot) (fold-roll-Stmt (Spot → Bool) typed_step x)) ∙ e in
-      subst Ranged (ap (λ w. items_step (map-Stmt Stmt (Items → Items) items_of w) r) is
-      ∙ sym (ap (λ f. f r) (fold-roll-Stmt (Items → Items) items_step x)))
+      subst Ranged (ap (λ w. alone_step (map-Stmt Stmt (Items → Items) alone w) r) is
+      ∙ sym (ap (λ f. f r) (fold-roll-Stmt (Items → Items) alone_step x)))
       (layer_ranged y spot r here rest)
 
   stmt_ranged : (s : Stmt) → StmtRanged s
   stmt_ranged = ind-Stmt StmtRanged rolled_ranged
 
   body_ranged : (ss : List Stmt) (spot : Spot) (r : Items) → each_is (map typed ss) spot ≡ true → Ranged r
-      → Ranged (all_before (map items_of ss) r)
+      → Ranged (all_before (map alone ss) r)
   body_ranged [] spot r e rest = rest
   body_ranged (s ∷ ss) spot r e rest =
       let both = and_parts (typed s spot) (each_is (map typed ss) spot) e in
-      stmt_ranged s spot (all_before (map items_of ss) r) both.0 (body_ranged ss spot r both.1 rest)
+      stmt_ranged s spot (all_before (map alone ss) r) both.0 (body_ranged ss spot r both.1 rest)
 
-  pub start_ranged : is_typed p ≡ true → Ranged (start_of p)
+  pub start_ranged : is_typed p ≡ true → p.funcs ≡ [] → Ranged (start_of p)
   unfolding is_typed
-  start_ranged e = body_ranged p.body Outside Done
-      (and_parts (shapes_typed (length p.shapes.structs) p.shapes.structs
-      && vars_typed (length p.shapes.structs) p.vars) (each_is (map typed p.body) Outside) e).1 tt
+  start_ranged e none =
+      let shapes : Bool = shapes_typed (length p.shapes.structs) p.shapes.structs
+      && vars_typed (length p.shapes.structs) p.vars in
+      let bodies : Bool = each_is (map typed p.body) Outside in
+      subst Ranged (sym (start_alone p none))
+      (body_ranged p.body Outside Done
+      (and_parts shapes bodies (and_parts (shapes && bodies) (funcs_typed p) e).0).1 tt)

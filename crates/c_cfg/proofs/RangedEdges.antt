@@ -19,7 +19,7 @@ use Rattle.c_types.specs.declared.program.DataRhs.TheVariants.{Path as DataRhsPa
 use Rattle.c_types.specs.declared.program.DataRhs.TheVariants.{Choice as DataRhsChoice}
 use Rattle.c_types.specs.declared.program.Act.{Act}
 use Rattle.c_types.specs.declared.program.Act.TheVariants.{SetPtr, SetData, Free as FreeAct, Error, Halt, Return, Break}
-use Rattle.c_types.specs.declared.program.Act.TheVariants.{Continue}
+use Rattle.c_types.specs.declared.program.Act.TheVariants.{Continue, Leave as LeaveAct}
 use Rattle.c_types.specs.declared.program.PtrOp.{PtrOp}
 use Rattle.c_types.specs.declared.program.PtrOp.TheVariants.{Path as OpPath, Null as OpNull}
 use Rattle.c_types.specs.declared.program.DataOp.{DataOp}
@@ -29,8 +29,8 @@ use Rattle.c_types.specs.declared.program.Atom.TheVariants.{Data as DataAtom}
 use Rattle.c_types.specs.declared.program.VarDef.{VarDef}
 use Rattle.c_types.specs.Program.{Program, path_target, data_typed, data_rhs_typed, returned_typed, ops_typed}
 use Rattle.c_types.specs.Program.{data_op_typed, has_datum, is_target, both_targets, is_typed}
-use Rattle.c_types.specs.Control.{Items, Done, Do, Close, If, Loop, Again, DoLoop, DoAgain, Ask, Not, Both, Either}
-use Rattle.c_types.specs.Control.{closed_ptrs, closed_datums}
+use Rattle.c_types.specs.Control.{Items, Done, Do, Close, If, Loop, Again, DoLoop, DoAgain, Enter, Leave, Exit, Ask}
+use Rattle.c_types.specs.Control.{Not, Both, Either, closed_ptrs, closed_datums}
 use Rattle.c_types.specs.Steps.{below}
 use Rattle.c_types.specs.Fits.{var_targets, ActFits}
 use Rattle.c_types.proofs.CellsFit.{IsAt}
@@ -364,6 +364,7 @@ module _ (p : Program) where
         )
     act_fits Error is e h = ((tt, refl), tt)
     act_fits Halt is e h = ((tt, refl), tt)
+    act_fits (LeaveAct f value) is e h = ((tt, refl), tt)
     act_fits (Return operand) is e h = return_fits operand (operand_fits operand e)
     act_fits Break is e h = closes_fit is h
     act_fits Continue is e h = closes_fit is h
@@ -481,6 +482,9 @@ module _ (p : Program) where
       place_fits (Again c n b is) h = tt
       place_fits (DoLoop c b is) h = tt
       place_fits (DoAgain c b is) h = tt
+      place_fits (Enter vs ws m is) h = absurd h
+      place_fits (Leave v vs a m is) h = absurd h
+      place_fits (Exit v vs d m is) h = absurd h
 
       all_fit : (cs : List Items) → Every (Ranged p) cs → Every Good cs
       all_fit [] h = tt
@@ -492,7 +496,8 @@ module _ (p : Program) where
 abbrev HasRange : Program → ControlGraph → Edge → Type 0
 HasRange p g e = (e.to < g.locations) × EdgeFits (length p.vars + 2) (length p.data_vars + 2) p.shapes.structs e
 
-module _ (p : Program) (typed : is_typed p ≡ true) (mode : MallocMode) (g : ControlGraph) (low : LowerOf p mode g) where
+module _ (p : Program) (typed : is_typed p ≡ true) (none : p.funcs ≡ []) (mode : MallocMode) (g : ControlGraph)
+    (low : LowerOf p mode g) where
   abbrev In : ℕ → Type 0
   In k = k < g.locations
 
@@ -523,7 +528,7 @@ module _ (p : Program) (typed : is_typed p ≡ true) (mode : MallocMode) (g : Co
       choice_fits tt
       (all_fit p typed mode (places low.items Done)
       (places_ranged p low.items Done
-      (unmarked p low.line low.items (subst (Ranged p) (sym low.is_program) (start_ranged p typed))) tt))
+      (unmarked p low.line low.items (subst (Ranged p) (sym low.is_program) (start_ranged p typed none))) tt))
       (places_lead In low.at low.items (exit_below p mode g low) (places_below p mode g low)) (all_below p mode g low)
 
   pub edges_in_range : Every (IsEdgeOf g) g.edges

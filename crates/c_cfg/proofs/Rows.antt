@@ -7,6 +7,8 @@ mod OneEdge
 mod Leaking
 mod Runs
 mod Acts
+mod Calls
+mod Called
 mod Comparisons
 mod Facts
 mod Loopless

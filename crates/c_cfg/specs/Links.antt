@@ -13,12 +13,18 @@ use Rattle.c_types.specs.declared.program.DataRhs.TheVariants.{Path as DataRhsPa
 use Rattle.c_types.specs.declared.program.DataRhs.TheVariants.{Choice as DataRhsChoice}
 use Rattle.c_types.specs.declared.program.Act.{Act}
 use Rattle.c_types.specs.declared.program.Act.TheVariants.{SetPtr, SetData, Free as FreeAct, Error, Halt, Return, Break}
-use Rattle.c_types.specs.declared.program.Act.TheVariants.{Continue}
+use Rattle.c_types.specs.declared.program.Act.TheVariants.{Continue, Leave as LeaveAct}
 use Rattle.c_types.specs.declared.program.PtrOp.{PtrOp}
 use Rattle.c_types.specs.declared.program.PtrOp.TheVariants.{Path as OpPath, Null as OpNull}
 use Rattle.c_types.specs.declared.program.DataOp.{DataOp}
 use Rattle.c_types.specs.declared.program.DataOp.TheVariants.{Path as DataOpPath, Known as DataOpKnown}
-use Rattle.c_types.specs.Control.{Items, closed_ptrs, closed_datums}
+use Rattle.c_types.specs.declared.program.VarRef.{VarRef}
+use Rattle.c_types.specs.declared.program.VarRef.TheVariants.{Ptr as PtrRef, Data as DataRef}
+use Rattle.c_types.specs.declared.program.Arg.{Arg}
+use Rattle.c_types.specs.declared.program.Arg.TheVariants.{Ptr as GivenPtr, Data as GivenData}
+use Rattle.c_types.specs.declared.program.Dest.{Dest}
+use Rattle.c_types.specs.declared.program.Dest.TheVariants.{Ptr as ToPtr, Data as ToData}
+use Rattle.c_types.specs.Control.{Items, closed_ptrs, closed_datums, ptr_vars, datum_vars, with_result}
 use Rattle.c_types.specs.Steps.{below}
 use Rattle.c_cfg.specs.declared.graph.PtrArg.{PtrArg}
 use Rattle.c_cfg.specs.declared.graph.PtrArg.TheVariants.{Var as PtrVar, Null as PtrNull}
@@ -48,6 +54,11 @@ holder t b (f ∷ fs) = t
 abbrev pub used : ℕ → List ℕ → List ℕ
 used t [] = []
 used t (f ∷ fs) = t ∷ []
+
+-- the temporary, if reading the path but for its last arrow uses it
+abbrev pub used_before : ℕ → List ℕ → List ℕ
+used_before t [] = []
+used_before t (f ∷ fs) = used t fs
 
 -- the arrows before the last into t, then the edge of the last one; f is the first arrow, fs are the others
 abbrev pub loads_but_last : ℕ → ℕ → ℕ → List ℕ → (ℕ → ℕ → Instr) → List Link
@@ -198,6 +209,7 @@ module _ (nv nd : ℕ) where
   act_row Error is = One (Stop true) ∷ []
   act_row Halt is = One (Stop false) ∷ []
   act_row (Return operand) is = return_row operand
+  act_row (LeaveAct f value) is = One (Stop false) ∷ []
   act_row Break is = One (Kill (closed_ptrs is) (closed_datums is)) ∷ []
   act_row Continue is = One (Kill (closed_ptrs is) (closed_datums is)) ∷ []
 
@@ -220,6 +232,94 @@ module _ (nv nd : ℕ) where
 
   abbrev pub data_ends : DataOp → DataOp → List Link
   data_ends l r = ends (op_base_used p0 l ++ op_base_used p1 r) (op_data_used d0 l ++ op_data_used d1 r)
+
+  -- Calls (6.5.2.2): what is given to a parameter or returned, its arrows before the last into p0
+
+  -- the pointer variable x is given what stands at the end of the path from b
+  abbrev pub give_path : ℕ → ℕ → List ℕ → List Link
+  give_path x b [] = One (CopyPtr x (PtrVar b)) ∷ []
+  give_path x b (f ∷ fs) = loads_but_last p0 b f fs (λ c g. LoadPtr x c g)
+
+  abbrev pub give_ptr : ℕ → PtrOp → List Link
+  give_ptr x (OpPath q) = give_path x q.var q.fields
+  give_ptr x OpNull = One (CopyPtr x PtrNull) ∷ []
+
+  abbrev pub give_datum : ℕ → DataOp → List Link
+  give_datum x (DataOpPath (DataVar y)) = One (CopyData x (ArgVar y)) ∷ []
+  give_datum x (DataOpPath (DataField base f)) = data_loads p0 x (DataField base f)
+  give_datum x (DataOpKnown k) = One (CopyData x (ArgKnown k)) ∷ []
+
+  -- a variable is given what an operand is (of its own kind, in a program)
+  abbrev pub give_links : VarRef → Arg → List Link
+  give_links (PtrRef x) (GivenPtr p) = give_ptr x p
+  give_links (PtrRef x) (GivenData p) = One (Kill [] []) ∷ []
+  give_links (DataRef x) (GivenPtr p) = One (Kill [] []) ∷ []
+  give_links (DataRef x) (GivenData p) = give_datum x p
+
+  -- p0, if reading the operand uses it
+  abbrev pub given_used : Arg → List ℕ
+  given_used (GivenPtr (OpPath q)) = used_before p0 q.fields
+  given_used (GivenPtr OpNull) = []
+  given_used (GivenData p) = op_base_used p0 p
+
+  -- each parameter is given its argument, the first one first
+  abbrev pub give_each : List VarRef → List Arg → List Link
+  give_each [] ws = []
+  give_each (v ∷ vs) [] = []
+  give_each (v ∷ vs) (a ∷ ws) = give_links v a ++ give_each vs ws
+
+  -- p0 once, if one of the arguments uses it
+  abbrev pub one_used : List ℕ → List ℕ → List ℕ
+  one_used [] ts = ts
+  one_used (t ∷ us) ts = t ∷ []
+
+  abbrev pub each_used : List Arg → List ℕ
+  each_used [] = []
+  each_used (a ∷ ws) = one_used (given_used a) (each_used ws)
+
+  -- a call begins: without an argument an edge that does nothing
+  abbrev pub enter_row : List VarRef → List Arg → List Link
+  enter_row [] ws = One (Kill [] []) ∷ []
+  enter_row (v ∷ vs) [] = One (Kill [] []) ∷ []
+  enter_row (v ∷ vs) (a ∷ ws) = give_each (v ∷ vs) (a ∷ ws) ++ ends (each_used (a ∷ ws)) []
+
+  -- these variables die, and temporaries that stand behind all variables
+  abbrev pub die : List VarRef → List ℕ → Link
+  die vs ts = One (Kill (ptr_vars vs ++ ts) (datum_vars vs))
+
+  -- `return` of a function (6.8.6.4): the result is given what is returned, and the local variables die
+  abbrev pub leave_row : Option VarRef → List VarRef → Option Arg → List Link
+  leave_row None locals value = die locals [] ∷ []
+  leave_row (Some v) locals None = die locals [] ∷ []
+  leave_row (Some v) locals (Some a) = give_links v a ++ die locals (given_used a) ∷ []
+
+  -- what a pointer variable holds is assigned to the path from y: the arrows before the last into p1, the store
+  abbrev pub hand_ptr : ℕ → ℕ → List ℕ → List Link
+  hand_ptr x y [] = One (CopyPtr y (PtrVar x)) ∷ []
+  hand_ptr x y (f ∷ fs) = loads_but_last p1 y f fs (λ b g. StorePtr b g x)
+
+  abbrev pub hand_datum : ℕ → DataPath → List Link
+  hand_datum x (DataVar y) = One (CopyData y (ArgVar x)) ∷ []
+  hand_datum x (DataField base f) = loads p1 base.var base.fields
+      ++ One (StoreData (holder p1 base.var base.fields) f x) ∷ []
+
+  -- what a variable holds is assigned there (to what is of its own kind, in a program)
+  abbrev pub hand_links : VarRef → Dest → List Link
+  hand_links (PtrRef x) (ToPtr p) = hand_ptr x p.var p.fields
+  hand_links (PtrRef x) (ToData p) = []
+  hand_links (DataRef x) (ToPtr p) = []
+  hand_links (DataRef x) (ToData p) = hand_datum x p
+
+  -- p1, if reading the target uses it
+  abbrev pub dest_used : Dest → List ℕ
+  dest_used (ToPtr p) = used_before p1 p.fields
+  dest_used (ToData p) = base_used p1 p
+
+  -- a call ends: the result is assigned, if it is wanted, and the result and the parameters die
+  abbrev pub exit_row : Option VarRef → List VarRef → Option Dest → List Link
+  exit_row None params to' = die params [] ∷ []
+  exit_row (Some v) params None = die (with_result (Some v) params) [] ∷ []
+  exit_row (Some v) params (Some d) = hand_links v d ++ die (with_result (Some v) params) (dest_used d) ∷ []
 
 -- Where a `malloc` may fail (7.22.3)
 

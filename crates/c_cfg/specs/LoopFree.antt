@@ -1,25 +1,24 @@
 -- Programs without loops.
-use Rattle.std.specs.Prelude.{Bool, true, false, ◌&&◌, List, [], ◌∷◌, map}
-use Rattle.c_types.specs.declared.program.Stmt.{Stmt, Stmt-F, fold-Stmt}
-use Rattle.c_types.specs.declared.program.Stmt.TheOpen.{Do as Do-F, Branch as Branch-F, While as While-F}
-use Rattle.c_types.specs.declared.program.Stmt.TheOpen.{DoWhile as DoWhile-F, For as For-F, Group as Group-F}
+use Rattle.std.specs.Prelude.{Bool, true, false, ◌&&◌}
 use Rattle.c_types.specs.Program.{Program}
+use Rattle.c_types.specs.Control.{Items, Done, Do, Close, If, Loop, Again, DoLoop, DoAgain, Enter, Leave, Exit}
+use Rattle.c_types.specs.Control.{start_of}
 
-abbrev pub all_free : List Bool → Bool
-all_free [] = true
-all_free (b ∷ bs) = b && all_free bs
+-- none of the items is a loop, also none in a branch
+abbrev pub items_free : Items → Bool
+items_free Done = true
+items_free (Do a m is) = items_free is
+items_free (Close ps ds m is) = items_free is
+items_free (If c x y is) = (items_free x && items_free y) && items_free is
+items_free (Loop c n b is) = false
+items_free (Again c n b is) = false
+items_free (DoLoop c b is) = false
+items_free (DoAgain c b is) = false
+items_free (Enter vs ws m is) = items_free is
+items_free (Leave v vs a m is) = items_free is
+items_free (Exit v vs d m is) = items_free is
 
-abbrev pub free_step : Stmt-F Bool → Bool
-free_step (Do-F a line) = true
-free_step (Branch-F c x y) = all_free x && all_free y
-free_step (While-F c b) = false
-free_step (DoWhile-F c b) = false
-free_step (For-F c n b) = false
-free_step (Group-F b ps ds m) = all_free b
-
-abbrev pub stmt_free : Stmt → Bool
-stmt_free = fold-Stmt Bool free_step
-
--- no `while`, `do` or `for` (6.8.5)
+-- no `while`, `do` or `for` (6.8.5) in main's body, nor in one to which it leads by calls, whose items stand among its
+-- own
 abbrev pub has_no_loop : Program → Bool
-has_no_loop p = all_free (map stmt_free p.body)
+has_no_loop p = items_free (start_of p)

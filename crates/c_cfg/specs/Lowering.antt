@@ -7,12 +7,13 @@ use Rattle.fore_base.specs.Lists.{Every, IsDistinct}
 use Rattle.c_types.specs.declared.mode.MallocMode.{MallocMode}
 use Rattle.c_types.specs.declared.program.Act.{Act}
 use Rattle.c_types.specs.declared.program.Act.TheVariants.{SetPtr, SetData, Free, Error, Halt, Return, Break, Continue}
+use Rattle.c_types.specs.declared.program.Act.TheVariants.{Leave as LeaveAct}
 use Rattle.c_types.specs.declared.program.Atom.{Atom}
 use Rattle.c_types.specs.declared.program.Atom.TheVariants.{Choice as ChoiceAtom, Known as KnownAtom, Ptr as PtrAtom}
 use Rattle.c_types.specs.declared.program.Atom.TheVariants.{Data as DataAtom}
 use Rattle.c_types.specs.Program.{Program}
 use Rattle.c_types.specs.Control.{Items, Done, Do, Close, If, Loop, Again, DoLoop, DoAgain, Ask, Not, Both, Either}
-use Rattle.c_types.specs.Control.{◌then◌, opened, after_again, from_again, start_of}
+use Rattle.c_types.specs.Control.{Enter, Leave, Exit, ◌then◌, opened, after_again, from_again, from_exit, start_of}
 use Rattle.c_types.specs.Steps.{below, mark_of}
 use Rattle.c_cfg.specs.declared.graph.Instr.{Instr}
 use Rattle.c_cfg.specs.declared.graph.Instr.TheVariants.{Kill, Choose}
@@ -20,7 +21,7 @@ use Rattle.c_cfg.specs.declared.graph.Edge.{Edge}
 use Rattle.c_cfg.specs.Graphs.{ControlGraph}
 use Rattle.c_cfg.specs.GraphRuns.{out_of}
 use Rattle.c_cfg.specs.Links.{Link, One, Two, links_in, act_row, ptr_loads, ptr_test, ptr_ends, cmp_loads, data_test}
-use Rattle.c_cfg.specs.Links.{data_ends}
+use Rattle.c_cfg.specs.Links.{data_ends, enter_row, leave_row, exit_row}
 use Rattle.c_cfg.specs.Places.{places, heads, remark}
 
 -- an edge of a line from k, with its choice if it has one
@@ -76,6 +77,7 @@ followed_by (Free p) is = is
 followed_by Error is = Done
 followed_by Halt is = Done
 followed_by (Return operand) is = Done
+followed_by (LeaveAct f value) is = Done
 followed_by Break is = after_again is
 followed_by Continue is = from_again is
 
@@ -120,6 +122,15 @@ module _ (nv nd : ℕ) (edges : List Edge) where
     IsRow (Again c n b is) = ⊥
     IsRow (DoLoop c b is) = ⊥
     IsRow (DoAgain c b is) = ⊥
+    IsRow (Enter vs ws m is) =
+        IsWayOver edges (line m) (enter_row nv nd vs ws) (at (Enter vs ws m is)) (mids (Enter vs ws m is))
+        (at (opened is))
+    IsRow (Leave v vs a m is) =
+        IsWayOver edges (line m) (leave_row nv nd v vs a) (at (Leave v vs a m is)) (mids (Leave v vs a m is))
+        (at (opened (from_exit is)))
+    IsRow (Exit v vs d m is) =
+        IsWayOver edges (line m) (exit_row nv nd v vs d) (at (Exit v vs d m is)) (mids (Exit v vs d m is))
+        (at (opened is))
 
 -- the locations of the exit and of the places, each place with those in the middle of its step
 abbrev pub numbers : (Items → ℕ) → (Items → List ℕ) → List Items → List ℕ
@@ -135,9 +146,10 @@ InOrder (e ∷ es) = Every (λ f. e.from ≤ f.from) es × InOrder es
 abbrev pub is_one_of : List ℕ → ℕ → Bool
 is_one_of ks k = list_any (λ other. nat_eq other k) ks
 
--- The graph is one of the program, where `malloc` has this mode: each act, atom and Close of the program's items gets a
--- mark of its own, and the mark tells its line. Each pending list has a location. So two places have one location
--- exactly if they are equal as occurrences: joins are shared, a loop is tested at one location, and there is one exit.
+-- The graph is one of the program, where `malloc` has this mode: each act, atom, Close, Enter, Leave and Exit of the
+-- program's items gets a mark of its own, and the mark tells its line. Each pending list has a location. So two places
+-- have one location exactly if they are equal as occurrences: joins are shared, a loop is tested at one location, two
+-- calls of one function have places of their own, and there is one exit.
 pub record LowerOf (p : Program) (mode : MallocMode) (g : ControlGraph) : Type 0 where
   -- the program's items with marks of their own
   pub items : Items

@@ -1,7 +1,7 @@
--- The places of a program: its pending lists that begin with one of its acts, atoms or Closes.
+-- The places of a program: its pending lists that begin with one of its acts, atoms, Closes, Enters, Leaves or Exits.
 use Rattle.std.specs.Prelude.{ℕ, List, [], ◌∷◌, ◌++◌}
 use Rattle.c_types.specs.Control.{Items, Done, Do, Close, If, Loop, Again, DoLoop, DoAgain, Test, Ask, Not, Both}
-use Rattle.c_types.specs.Control.{Either, ◌then◌, ask, round, do_round}
+use Rattle.c_types.specs.Control.{Either, Enter, Leave, Exit, ◌then◌, ask, round, do_round}
 
 -- of a test with these sides that stands before others: one place for each atom
 abbrev pub test_places : Test → Items → Items → Items → List Items
@@ -28,6 +28,9 @@ places (DoLoop c b is) r = places b (DoAgain c b (is then r))
     ++ (test_places c (do_round c b) Done (is then r) ++ places is r)
 places (DoAgain c b is) r = test_places c (do_round c b) Done (is then r)
     ++ (places b (DoAgain c b (is then r)) ++ places is r)
+places (Enter vs ws m is) r = Enter vs ws m (is then r) ∷ places is r
+places (Leave v vs a m is) r = Leave v vs a m (is then r) ∷ places is r
+places (Exit v vs d m is) r = Exit v vs d m (is then r) ∷ places is r
 
 -- the loop heads: the places at which the step of the first atom of a loop's condition begins
 abbrev pub heads : Items → Items → List Items
@@ -43,9 +46,12 @@ heads (Again c n b is) r =
     ∷ (heads n (Loop c n b (is then r)) ++ (heads b (Again c n b (is then r)) ++ heads is r))
 heads (DoLoop c b is) r = ask c (do_round c b) Done (is then r) ∷ (heads b (DoAgain c b (is then r)) ++ heads is r)
 heads (DoAgain c b is) r = ask c (do_round c b) Done (is then r) ∷ (heads b (DoAgain c b (is then r)) ++ heads is r)
+heads (Enter vs ws m is) r = heads is r
+heads (Leave v vs a m is) r = heads is r
+heads (Exit v vs d m is) r = heads is r
 
--- The items with other marks. Where each act, atom and Close has a mark of its own, two equal pending lists are the
--- same occurrences in the text.
+-- The items with other marks. Where each act, atom, Close, Enter, Leave and Exit has a mark of its own, two equal
+-- pending lists are the same occurrences in the text, and in the same calls.
 
 abbrev pub remark_test : (ℕ → ℕ) → Test → Test
 remark_test f (Ask a m) = Ask a (f m)
@@ -62,3 +68,6 @@ remark f (Loop c n b is) = Loop (remark_test f c) (remark f n) (remark f b) (rem
 remark f (Again c n b is) = Again (remark_test f c) (remark f n) (remark f b) (remark f is)
 remark f (DoLoop c b is) = DoLoop (remark_test f c) (remark f b) (remark f is)
 remark f (DoAgain c b is) = DoAgain (remark_test f c) (remark f b) (remark f is)
+remark f (Enter vs ws m is) = Enter vs ws (f m) (remark f is)
+remark f (Leave v vs a m is) = Leave v vs a (f m) (remark f is)
+remark f (Exit v vs d m is) = Exit v vs d (f m) (remark f is)

@@ -6,7 +6,7 @@ use Rattle.c_types.specs.declared.program.PtrRhs.TheVariants.{Null as RhsNull}
 use Rattle.c_types.specs.declared.program.DataPath.TheVariants.{Var as DataVar}
 use Rattle.c_types.specs.declared.program.DataRhs.TheVariants.{Known as DataRhsKnown}
 use Rattle.c_types.specs.declared.program.Act.TheVariants.{SetPtr, SetData, Free as FreeAct, Error, Halt, Return, Break}
-use Rattle.c_types.specs.declared.program.Act.TheVariants.{Continue}
+use Rattle.c_types.specs.declared.program.Act.TheVariants.{Continue, Leave as LeaveAct}
 use Rattle.c_cfg.specs.declared.graph.PtrArg.TheVariants.{Var as PtrVar, Null as PtrNull}
 use Rattle.c_cfg.specs.declared.graph.DataArg.TheVariants.{Known as ArgKnown}
 use Rattle.c_cfg.specs.declared.graph.Instr.{Instr}
@@ -49,6 +49,10 @@ halts = refl
 -- return; of a program with one pointer variable and no datum: it and the temporaries die
 returns : links_of 1 0 [] [] (Return None) ≡ One (Kill (0 ∷ 1 ∷ 2 ∷ []) (0 ∷ 1 ∷ [])) ∷ []
 returns = refl
+
+-- a `return` of a function that is not there ends the run
+leaves : links_of 1 0 [] [] (LeaveAct 0 None) ≡ One (Stop false) ∷ []
+leaves = refl
 
 -- Comparisons, in line 5 from the location 3 on, to 8 where both are equal and to 9 where they are not
 

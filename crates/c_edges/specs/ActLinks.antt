@@ -2,7 +2,7 @@
 use Rattle.std.specs.Prelude.{ℕ, List, [], ◌∷◌}
 use Rattle.c_types.specs.declared.program.Act.{Act}
 use Rattle.c_types.specs.declared.program.Act.TheVariants.{SetPtr, SetData, Free as FreeAct, Error, Halt, Return, Break}
-use Rattle.c_types.specs.declared.program.Act.TheVariants.{Continue}
+use Rattle.c_types.specs.declared.program.Act.TheVariants.{Continue, Leave as LeaveAct}
 use Rattle.c_types.specs.Control.{Done}
 use Rattle.c_cfg.specs.declared.graph.Instr.TheVariants.{Kill}
 use Rattle.c_cfg.specs.declared.link.Link.{Link}
@@ -17,5 +17,6 @@ links_of nv nd ps ds (FreeAct p) = act_row nv nd (FreeAct p) Done
 links_of nv nd ps ds Error = act_row nv nd Error Done
 links_of nv nd ps ds Halt = act_row nv nd Halt Done
 links_of nv nd ps ds (Return operand) = act_row nv nd (Return operand) Done
+links_of nv nd ps ds (LeaveAct f value) = act_row nv nd (LeaveAct f value) Done
 links_of nv nd ps ds Break = One (Kill ps ds) ∷ []
 links_of nv nd ps ds Continue = One (Kill ps ds) ∷ []

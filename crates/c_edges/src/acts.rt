@@ -54,6 +54,7 @@ fn add_act(
         Act::Error => add(links, Instr::Stop { error: true }),
         Act::Halt => add(links, Instr::Stop { error: false }),
         Act::Return(operand) => finish(alloc, links, counts, operand),
+        Act::Leave { .. } => add(links, Instr::Stop { error: false }),
         Act::Break => end_round(alloc, links, ptrs, datums),
         Act::Continue => end_round(alloc, links, ptrs, datums),
     }

@@ -1,10 +1,12 @@
 -- What the code has added of a statement's edges.
 use Rattle.std.specs.Prelude.{get_or, drop, ◌-◌}
-use Rattle.std.proofs.Common.{◌≡◌, ℕ, ◌+◌, ◌<◌, ◌≤◌, List, [], ◌++◌, length, sym, ap, ◌∙◌, arith}
+use Rattle.std.proofs.Common.{◌≡◌, ℕ, ◌+◌, ◌<◌, ◌≤◌, Option, List, [], ◌++◌, length, sym, ap, ◌∙◌, arith}
 use Rattle.std.proofs.lemmas.List.{append-nil, append_assoc}
 use Rattle.c_types.specs.declared.program.Cond.{Cond}
 use Rattle.c_types.specs.declared.program.Stmt.{Stmt}
-use Rattle.c_types.specs.declared.program.Stmt.TheVariants.{Branch, While, DoWhile, For, Group}
+use Rattle.c_types.specs.declared.program.Arg.{Arg}
+use Rattle.c_types.specs.declared.program.Dest.{Dest}
+use Rattle.c_types.specs.declared.program.Stmt.TheVariants.{Branch, While, DoWhile, For, Group, Call}
 use Rattle.c_cfg.specs.declared.graph.Edge.{Edge}
 use Rattle.c_lower.specs.declared.around.Around.{Around}
 use Rattle.c_lower.specs.declared.site.Site.{Site}
@@ -14,7 +16,7 @@ use Rattle.c_lower.specs.inner.Emitting.{first_of, in_loop, closed, close_edges,
 use Rattle.c_lower.specs.inner.Sites.{room, edges_at, stmt_edges, all_edges, span_of, branch_test, branch_spans}
 use Rattle.c_lower.specs.inner.Sites.{loop_test, loop_spans, do_span, do_test, group_spans}
 use Rattle.c_lower.proofs.Layers.{wide-drop, emit-none, emit-drop, emit-end, emit-Branch, emit-While, emit-DoWhile}
-use Rattle.c_lower.proofs.Layers.{emit-For, emit-Group}
+use Rattle.c_lower.proofs.Layers.{emit-For, emit-Group, emit-Call}
 
 -- one list after the other
 two_added : (old a b e1 e2 : List Edge) → e1 ≡ old ++ a → e2 ≡ e1 ++ b → e2 ≡ old ++ (a ++ b)
@@ -24,6 +26,16 @@ three_added : (old a b c e1 e2 e3 : List Edge) → e1 ≡ old ++ a → e2 ≡ e1
     → e3 ≡ old ++ (a ++ (b ++ c))
 three_added old a b c e1 e2 e3 h k l = l ∙ ap (λ es. es ++ c) (two_added old a b e1 e2 h k)
     ∙ append_assoc old (a ++ b) c ∙ ap (λ es. old ++ es) (append_assoc a b c)
+
+-- a call of no function adds none
+pub call_added : (site : Site) (w : Around) (span : Span) (s : Stmt) (old : List Edge) (f : ℕ) (args : List Arg)
+    (to' : Option Dest) (line : ℕ) → s ≡ Call f args to' line
+    → old ≡ old ++ stmt_edges site s w span
+call_added site w span s old f args to' line is =
+    sym (append-nil old)
+    ∙ ap (λ es. old ++ es)
+    (sym (emit-Call site.counts.ptrs site.counts.datums site.exit f args to' line w span.from span.then))
+    ∙ ap (λ z. old ++ stmt_edges site z w span) (sym is)
 
 module _ (site : Site) (w : Around) (span : Span) (s : Stmt) (old e1 e2 : List Edge) where
   pub branch_added : (c : Cond) (x y : List Stmt) (sides : TwoSpans) (e3 : List Edge) → s ≡ Branch c x y

@@ -1,13 +1,16 @@
 -- Which variables die in the rest of a round, a statement at a time.
 use Rattle.std.specs.Prelude.{get_or, drop}
 use Rattle.std.proofs.Common.{◌≡◌, ℕ, zero, suc, ◌+◌, ◌<◌, ◌≤◌, List, [], ◌∷◌, length, refl, sym, ap, ◌∙◌, arith, Bool}
-use Rattle.std.proofs.Common.{true, false}
+use Rattle.std.proofs.Common.{true, false, Option}
 use Rattle.c_types.specs.declared.program.Act.{Act}
 use Rattle.c_types.specs.declared.program.Cond.{Cond}
 use Rattle.c_types.specs.declared.program.Stmt.{Stmt}
-use Rattle.c_types.specs.declared.program.Stmt.TheVariants.{Do as DoStmt, Branch, While, DoWhile, For, Group}
+use Rattle.c_types.specs.declared.program.Arg.{Arg}
+use Rattle.c_types.specs.declared.program.Dest.{Dest}
+use Rattle.c_types.specs.declared.program.Stmt.TheVariants.{Do as DoStmt, Branch, While, DoWhile, For, Group, Call}
 use Rattle.c_types.specs.Control.{Done, ◌then◌, closes, items_of, insert, merged}
 use Rattle.c_types.proofs.Layers.{items-Do, items-Branch, items-While, items-DoWhile, items-For, items-Group}
+use Rattle.c_types.proofs.Layers.{items-Call}
 use Rattle.c_lower.specs.declared.around.Around.{Around}
 use Rattle.c_lower.specs.inner.Emitting.{inside, closed, items_in, inside_stmt, inside_all}
 use Rattle.c_cfg.proofs.Opening.{stmt_stands, all_stand}
@@ -15,12 +18,12 @@ use Rattle.c_lower.proofs.Joined.{inside_both}
 use Rattle.std.proofs.lemmas.List.{drop_all}
 
 -- a list of statements, from the first one on
-pub items-more : (s : Stmt) (ss : List Stmt) → items_in (s ∷ ss) ≡ items_of s Done then items_in ss
+pub items-more : (s : Stmt) (ss : List Stmt) → items_in (s ∷ ss) ≡ items_of [] s Done then items_in ss
 items-more s ss = stmt_stands s Done (items_in ss)
 
 pub inside-more : (w : Around) (s : Stmt) (ss : List Stmt) → inside_all w (s ∷ ss) ≡ inside_stmt (inside_all w ss) s
 unfolding inside_all inside_stmt
-inside-more w s ss = ap (inside w) (items-more s ss) ∙ inside_both w (items_of s Done) (items_in ss)
+inside-more w s ss = ap (inside w) (items-more s ss) ∙ inside_both w (items_of [] s Done) (items_in ss)
 
 pub inside-none : (w : Around) → inside_all w [] ≡ w
 unfolding inside_all
@@ -58,6 +61,11 @@ pub inside-For : (w : Around) (c : Cond) (n b : List Stmt) → inside_stmt w (Fo
 unfolding inside_stmt
 inside-For w c n b = ap (inside w) (items-For c n b Done)
 
+pub inside-Call : (w : Around) (f : ℕ) (args : List Arg) (to' : Option Dest) (line : ℕ)
+    → inside_stmt w (Call f args to' line) ≡ w
+unfolding inside_stmt
+inside-Call w f args to' line = ap (inside w) (items-Call f args to' line Done)
+
 -- from the end on
 pub inside-drop : (w : Around) (i : ℕ) (ss : List Stmt) (s : Stmt) → i < length ss → s ≡ get_or ss i s
     → inside_all w (drop i ss) ≡ inside_stmt (inside_all w (drop (i + 1) ss)) s
@@ -79,6 +87,7 @@ pub ruleset closing = (
   inside-While,
   inside-DoWhile,
   inside-For,
+  inside-Call,
 )
 
 -- what is left of a list into which a number is put, which may have its place already

@@ -3,9 +3,10 @@ use Rattle.std.proofs.Common.{◌≡◌, ℕ, zero, suc, ◌+◌, List, [], ◌�
 use Rattle.std.proofs.lemmas.List.{append_assoc, append-nil, length-replicate}
 use Rattle.c_types.specs.declared.program.Act.{Act}
 use Rattle.c_types.specs.declared.program.Act.TheVariants.{SetPtr, SetData, Free as FreeAct, Error, Halt, Return, Break}
-use Rattle.c_types.specs.declared.program.Act.TheVariants.{Continue}
+use Rattle.c_types.specs.declared.program.Act.TheVariants.{Continue, Leave as LeaveAct}
 use Rattle.c_types.specs.Control.{Items, Done, Do, Close, If, Loop, Again, DoLoop, DoAgain, Test, Ask, Not, Both}
-use Rattle.c_types.specs.Control.{Either, ◌then◌, ask, round, do_round, open_before, opened, after_again, from_again}
+use Rattle.c_types.specs.Control.{Either, Enter, Leave, Exit, ◌then◌, ask, round, do_round, open_before, opened}
+use Rattle.c_types.specs.Control.{after_again, from_again}
 use Rattle.c_types.specs.Control.{closed_ptrs, closed_datums, merged}
 use Rattle.c_types.proofs.Turns.{then_done}
 use Rattle.c_cfg.specs.declared.graph.Instr.TheVariants.{Kill}
@@ -93,6 +94,9 @@ module _ (nv nd exit : ℕ) (line : ℕ → ℕ) where
   after_then (Again c n b is) i r p = absurd p
   after_then (DoLoop c b is) i r p = after_then is _ r p.1
   after_then (DoAgain c b is) i r p = absurd p
+  after_then (Enter vs ws m is) i r p = absurd p
+  after_then (Leave v vs a m is) i r p = absurd p
+  after_then (Exit v vs d m is) i r p = absurd p
 
   from_then : (is : Items) (i : ℕ) (r : Items) → IsPlain is → from_again (number nv nd is i then r) ≡ from_again r
   from_then Done i r p = refl
@@ -103,6 +107,9 @@ module _ (nv nd exit : ℕ) (line : ℕ → ℕ) where
   from_then (Again c n b is) i r p = absurd p
   from_then (DoLoop c b is) i r p = from_then is _ r p.1
   from_then (DoAgain c b is) i r p = absurd p
+  from_then (Enter vs ws m is) i r p = absurd p
+  from_then (Leave v vs a m is) i r p = absurd p
+  from_then (Exit v vs d m is) i r p = absurd p
 
   ptrs_then : (is : Items) (i : ℕ) (r : Items) (ps : List ℕ) → closed_ptrs r ≡ ps
       → closed_ptrs (number nv nd is i then r) ≡ ptrs_of is ps
@@ -114,6 +121,9 @@ module _ (nv nd exit : ℕ) (line : ℕ → ℕ) where
   ptrs_then (Again c n b is) i r qs e = refl
   ptrs_then (DoLoop c b is) i r qs e = ptrs_then is _ r qs e
   ptrs_then (DoAgain c b is) i r qs e = refl
+  ptrs_then (Enter vs ws m is) i r qs e = ptrs_then is _ r qs e
+  ptrs_then (Leave v vs a m is) i r qs e = ptrs_then is _ r qs e
+  ptrs_then (Exit v vs d m is) i r qs e = ptrs_then is _ r qs e
 
   datums_then : (is : Items) (i : ℕ) (r : Items) (ps : List ℕ) → closed_datums r ≡ ps
       → closed_datums (number nv nd is i then r) ≡ datums_of is ps
@@ -125,6 +135,9 @@ module _ (nv nd exit : ℕ) (line : ℕ → ℕ) where
   datums_then (Again c n b is) i r qs e = refl
   datums_then (DoLoop c b is) i r qs e = datums_then is _ r qs e
   datums_then (DoAgain c b is) i r qs e = refl
+  datums_then (Enter vs ws m is) i r qs e = datums_then is _ r qs e
+  datums_then (Leave v vs a m is) i r qs e = datums_then is _ r qs e
+  datums_then (Exit v vs d m is) i r qs e = datums_then is _ r qs e
 
   fits_inside : (is : Items) (i : ℕ) (r : Items) (w : Around) → IsPlain is → Fits r w
       → Fits (number nv nd is i then r) (inside w is)
@@ -144,6 +157,7 @@ module _ (nv nd exit : ℕ) (line : ℕ → ℕ) where
   act_emits Error m i is w k e f = refl
   act_emits Halt m i is w k e f = refl
   act_emits (Return operand) m i is w k e f = refl
+  act_emits (LeaveAct g value) m i is w k e f = refl
   act_emits Break m i is w k e f = rw (f.leaves, f.ptrs, f.datums) refl
   act_emits Continue m i is w k e f = rw (f.agains, f.ptrs, f.datums) refl
 
@@ -192,6 +206,7 @@ module _ (nv nd exit : ℕ) (line : ℕ → ℕ) where
       same_to Error = refl
       same_to Halt = refl
       same_to (Return operand) = refl
+      same_to (LeaveAct g value) = refl
       same_to Break = refl
       same_to Continue = refl
   emits (Close ps ds m is) p i r w k e f h =
@@ -278,3 +293,6 @@ module _ (nv nd exit : ℕ) (line : ℕ → ℕ) where
       (emits is p.1 i2 r w k e f h2)
   emits (Again c n b is) p i r w k e f h = absurd p
   emits (DoAgain c b is) p i r w k e f h = absurd p
+  emits (Enter vs ws m is) p i r w k e f h = absurd p
+  emits (Leave v vs a m is) p i r w k e f h = absurd p
+  emits (Exit v vs d m is) p i r w k e f h = absurd p

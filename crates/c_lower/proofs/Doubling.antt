@@ -10,7 +10,8 @@ use Rattle.c_types.specs.declared.program.Atom.{Atom}
 use Rattle.c_types.specs.declared.program.Atom.TheVariants.{Choice as ChoiceAtom, Known as KnownAtom, Ptr as PtrAtom}
 use Rattle.c_types.specs.declared.program.Atom.TheVariants.{Data as DataAtom}
 use Rattle.c_types.specs.Program.{Program}
-use Rattle.c_types.specs.Control.{Items, Done, Do, Close, If, Loop, Again, DoLoop, DoAgain, Ask, Not, Both, Either}
+use Rattle.c_types.specs.Control.{Items, Done, Do, Close, If, Loop, Again, DoLoop, DoAgain, Enter, Leave, Exit, Ask}
+use Rattle.c_types.specs.Control.{Not, Both, Either}
 use Rattle.c_cfg.specs.declared.graph.Instr.{Instr}
 use Rattle.c_cfg.specs.declared.graph.Instr.TheVariants.{CopyPtr, LoadPtr, StorePtr, StoreConst, New, Free, Kill}
 use Rattle.c_cfg.specs.declared.graph.Instr.TheVariants.{CopyData, LoadData, StoreData, TestPtr, TestData, Choose, Stop}
@@ -20,11 +21,12 @@ use Rattle.c_cfg.specs.GraphRuns.{out_of}
 use Rattle.c_cfg.specs.declared.link.Link.{Link}
 use Rattle.c_cfg.specs.declared.link.Link.TheVariants.{One, Two}
 use Rattle.c_cfg.specs.Links.{failing, failing_link, links_in, ptr_loads, ptr_test, ptr_ends, cmp_loads}
-use Rattle.c_cfg.specs.Links.{data_test, data_ends}
+use Rattle.c_cfg.specs.Links.{data_test, data_ends, enter_row, leave_row, exit_row}
 use Rattle.c_cfg.specs.Places.{places}
 use Rattle.c_cfg.specs.Lowering.{edge, link_edges, IsWay, IsWayOver, IsTestRow, IsAtomRow, IsRow, InOrder, LowerOf}
 use Rattle.c_links.specs.Failing.{edges_for, failing_edges, edges_in}
-use Rattle.c_cfg.proofs.PlainLinks.{ArePlain, kept, ends_plain, ptr_plain, cmp_plain}
+use Rattle.c_cfg.proofs.PlainLinks.{ArePlain, kept, ends_plain, ptr_plain, cmp_plain, enter_plain, leave_plain}
+use Rattle.c_cfg.proofs.PlainLinks.{exit_plain}
 use Rattle.c_cfg.proofs.Spans.{out_more}
 
 -- Which edges begin at a location
@@ -83,6 +85,11 @@ module _ (es : List Edge) where
   plain_in line ls k ms to h w =
       subst (λ ns. IsWay (edges_in MayFail es) line ns k ms to) (kept ls h) (way_in line ls k ms to w)
 
+  over_plain : (line : ℕ) (ls : List Link) (k : ℕ) (mids : List ℕ) (to : ℕ) → ArePlain ls
+      → IsWayOver es line ls k mids to → IsWayOver (edges_in MayFail es) line ls k mids to
+  over_plain line ls k mids to h o = record
+      { way = o.way; leads = plain_in line ls k o.way to h o.leads; middle = o.middle }
+
   test_in : (line : ℕ) (loads : List Link) (test : Bool → Instr) (ends : List Link) (k : ℕ) (mids : List ℕ)
       (same other : ℕ) → ArePlain loads → ArePlain ends → ((b : Bool) → failing (test b) ≡ One (test b))
       → IsTestRow es line loads test ends k mids same other
@@ -140,6 +147,15 @@ module _ (es : List Edge) where
       row_in (Again c n b is) h = h
       row_in (DoLoop c b is) h = h
       row_in (DoAgain c b is) h = h
+      row_in (Enter vs ws m is) h =
+          over_plain (line m) (enter_row nv nd vs ws) (at (Enter vs ws m is)) (mids (Enter vs ws m is)) _
+          (enter_plain nv nd vs ws) h
+      row_in (Leave v vs a m is) h =
+          over_plain (line m) (leave_row nv nd v vs a) (at (Leave v vs a m is)) (mids (Leave v vs a m is)) _
+          (leave_plain nv nd v vs a) h
+      row_in (Exit v vs d m is) h =
+          over_plain (line m) (exit_row nv nd v vs d) (at (Exit v vs d m is)) (mids (Exit v vs d m is)) _
+          (exit_plain nv nd v vs d) h
 
       rows_in : (cs : List Items) → Every (IsRow nv nd es Always line at mids) cs
           → Every (IsRow nv nd (edges_in MayFail es) MayFail line at mids) cs

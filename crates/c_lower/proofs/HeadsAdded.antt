@@ -1,15 +1,18 @@
 -- What the code has added of a statement's loop heads.
 use Rattle.std.specs.Prelude.{get_or, drop}
-use Rattle.std.proofs.Common.{◌≡◌, ℕ, ◌+◌, ◌<◌, ◌≤◌, List, [], ◌∷◌, ◌++◌, length, sym, ap, ◌∙◌}
+use Rattle.std.proofs.Common.{◌≡◌, ℕ, ◌+◌, ◌<◌, ◌≤◌, Option, List, [], ◌∷◌, ◌++◌, length, sym, ap, ◌∙◌}
 use Rattle.std.proofs.lemmas.List.{append-nil, append_assoc}
 use Rattle.c_types.specs.declared.program.Act.{Act}
 use Rattle.c_types.specs.declared.program.Cond.{Cond}
 use Rattle.c_types.specs.declared.program.Stmt.{Stmt}
-use Rattle.c_types.specs.declared.program.Stmt.TheVariants.{Do as DoStmt, Branch, While, DoWhile, For}
+use Rattle.c_types.specs.declared.program.Arg.{Arg}
+use Rattle.c_types.specs.declared.program.Dest.{Dest}
+use Rattle.c_types.specs.declared.program.Stmt.TheVariants.{Do as DoStmt, Branch, While, DoWhile, For, Call}
 use Rattle.c_lower.specs.declared.site.Site.{Site}
 use Rattle.c_lower.specs.inner.Emitting.{wide_stmt}
 use Rattle.c_lower.specs.inner.Sites.{test_room, room, stmt_heads, all_heads}
 use Rattle.c_lower.proofs.Layers.{heads-end, heads-drop, heads-Do, heads-Branch, heads-While, heads-DoWhile, heads-For}
+use Rattle.c_lower.proofs.Layers.{heads-Call}
 
 two_added : (old a b e1 e2 : List ℕ) → e1 ≡ old ++ a → e2 ≡ e1 ++ b → e2 ≡ old ++ (a ++ b)
 two_added old a b e1 e2 h k = k ∙ ap (λ es. es ++ b) h ∙ append_assoc old a b
@@ -26,6 +29,12 @@ module _ (site : Site) (s : Stmt) (at : ℕ) (old : List ℕ) where
   pub do_heads : (a : Act) (line : ℕ) → s ≡ DoStmt a line → old ≡ old ++ stmt_heads site s at
   do_heads a line is = same_heads (DoStmt a line) [] old is (heads-Do site.counts.ptrs site.counts.datums a line at)
       (sym (append-nil old))
+
+  pub call_heads : (f : ℕ) (args : List Arg) (to' : Option Dest) (line : ℕ) → s ≡ Call f args to' line
+      → old ≡ old ++ stmt_heads site s at
+  call_heads f args to' line is =
+      same_heads (Call f args to' line) [] old is
+      (heads-Call site.counts.ptrs site.counts.datums f args to' line at) (sym (append-nil old))
 
   module _ (e1 e2 : List ℕ) where
     pub branch_heads : (c : Cond) (x y : List Stmt) (first second : ℕ) → s ≡ Branch c x y

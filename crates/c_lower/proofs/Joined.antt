@@ -3,8 +3,9 @@ use Rattle.std.proofs.Common.{◌≡◌, ℕ, zero, suc, ◌+◌, List, ◌∷�
 use Rattle.std.proofs.lemmas.List.{append_assoc}
 use Rattle.c_types.specs.declared.program.Act.{Act}
 use Rattle.c_types.specs.declared.program.Act.TheVariants.{SetPtr, SetData, Free as FreeAct, Error, Halt, Return, Break}
-use Rattle.c_types.specs.declared.program.Act.TheVariants.{Continue}
-use Rattle.c_types.specs.Control.{Items, Done, Do, Close, If, Loop, Again, DoLoop, DoAgain, ◌then◌, merged}
+use Rattle.c_types.specs.declared.program.Act.TheVariants.{Continue, Leave as LeaveAct}
+use Rattle.c_types.specs.Control.{Items, Done, Do, Close, If, Loop, Again, DoLoop, DoAgain, Enter, Leave, Exit, ◌then◌}
+use Rattle.c_types.specs.Control.{merged}
 use Rattle.c_cfg.specs.declared.graph.Instr.TheVariants.{Kill}
 use Rattle.c_cfg.specs.declared.graph.Edge.{Edge}
 use Rattle.c_lower.specs.declared.around.Around.{Around}
@@ -27,6 +28,9 @@ ptrs_both (Loop c n b is) d ps = ptrs_both is d ps
 ptrs_both (Again c n b is) d ps = refl
 ptrs_both (DoLoop c b is) d ps = ptrs_both is d ps
 ptrs_both (DoAgain c b is) d ps = refl
+ptrs_both (Enter vs ws m is) e ps = ptrs_both is e ps
+ptrs_both (Leave v vs a m is) e ps = ptrs_both is e ps
+ptrs_both (Exit v vs d m is) e ps = ptrs_both is e ps
 
 datums_both : (c d : Items) (ps : List ℕ) → datums_of (c then d) ps ≡ datums_of c (datums_of d ps)
 datums_both Done d ps = refl
@@ -37,6 +41,9 @@ datums_both (Loop c n b is) d ps = datums_both is d ps
 datums_both (Again c n b is) d ps = refl
 datums_both (DoLoop c b is) d ps = datums_both is d ps
 datums_both (DoAgain c b is) d ps = refl
+datums_both (Enter vs ws m is) e ps = datums_both is e ps
+datums_both (Leave v vs a m is) e ps = datums_both is e ps
+datums_both (Exit v vs d m is) e ps = datums_both is e ps
 
 pub inside_both : (w : Around) (c d : Items) → inside w (c then d) ≡ inside (inside w d) c
 inside_both w c d =
@@ -59,6 +66,9 @@ module _ (nv nd : ℕ) where
   width_then (Again c n b is) d = omega (arith, width_then is d)
   width_then (DoLoop c b is) d = omega (arith, width_then is d)
   width_then (DoAgain c b is) d = omega (arith, width_then is d)
+  width_then (Enter vs ws m is) e = omega (arith, width_then is e)
+  width_then (Leave v vs a m is) e = omega (arith, width_then is e)
+  width_then (Exit v vs d m is) e = omega (arith, width_then is e)
 
 module _ (nv nd exit : ℕ) where
   act_same : (w : Around) (d : Items) (a : Act) (k : ℕ) → act_to exit w a k ≡ act_to exit (inside w d) a k
@@ -68,6 +78,7 @@ module _ (nv nd exit : ℕ) where
   act_same w d Error k = refl
   act_same w d Halt k = refl
   act_same w d (Return operand) k = refl
+  act_same w d (LeaveAct f value) k = refl
   act_same w d Break k = refl
   act_same w d Continue k = refl
 
@@ -150,3 +161,6 @@ module _ (nv nd exit : ℕ) where
       ∙ assoc3 (emit nv nd exit b (in_loop to i1) i i1) (emit_test nv nd c i1 (first_of (width nv nd b) i i1) to) _ _
   emit_then (Again c n b is) p d w i j k e = absurd p
   emit_then (DoAgain c b is) p d w i j k e = absurd p
+  emit_then (Enter vs ws m is) p d w i j k e = absurd p
+  emit_then (Leave v vs a m is) p d w i j k e = absurd p
+  emit_then (Exit v vs b m is) p d w i j k e = absurd p

@@ -1,14 +1,19 @@
 -- The room, the edges and the loop heads of statements, a statement at a time.
 use Rattle.std.specs.Prelude.{get_or, drop}
 use Rattle.std.proofs.Common.{◌≡◌, ℕ, zero, suc, ◌+◌, ◌<◌, ◌≤◌, List, [], ◌∷◌, ◌++◌, length, refl, sym, ap, ◌∙◌, arith}
+use Rattle.std.proofs.Common.{Option}
 use Rattle.std.proofs.lemmas.List.{append-nil}
 use Rattle.c_types.specs.declared.program.Act.{Act}
 use Rattle.c_types.specs.declared.program.Act.TheVariants.{SetPtr, SetData, Free, Error, Halt, Return, Break, Continue}
+use Rattle.c_types.specs.declared.program.Act.TheVariants.{Leave as LeaveAct}
 use Rattle.c_types.specs.declared.program.Cond.{Cond}
 use Rattle.c_types.specs.declared.program.Stmt.{Stmt}
-use Rattle.c_types.specs.declared.program.Stmt.TheVariants.{Do as DoStmt, Branch, While, DoWhile, For, Group}
+use Rattle.c_types.specs.declared.program.Arg.{Arg}
+use Rattle.c_types.specs.declared.program.Dest.{Dest}
+use Rattle.c_types.specs.declared.program.Stmt.TheVariants.{Do as DoStmt, Branch, While, DoWhile, For, Group, Call}
 use Rattle.c_types.specs.Control.{Done, Loop, ◌then◌, closes, test_of, items_of}
 use Rattle.c_types.proofs.Layers.{items-Do, items-Branch, items-While, items-DoWhile, items-For, items-Group}
+use Rattle.c_types.proofs.Layers.{items-Call}
 use Rattle.c_lower.specs.declared.around.Around.{Around}
 use Rattle.c_links.specs.Chains.{chain}
 use Rattle.c_lower.specs.inner.Numbering.{act_width, test_width, width}
@@ -31,13 +36,14 @@ module _ (nv nd : ℕ) where
   links-length w (Free p) = omega (arith, filled_length _ (act_filled nv nd (Free p) Done))
   links-length w Error = refl
   links-length w Halt = refl
+  links-length w (LeaveAct f value) = refl
   links-length w (Return operand) = omega (arith, filled_length _ (act_filled nv nd (Return operand) Done))
   links-length w Break = refl
   links-length w Continue = refl
 
   pub wide-more : (s : Stmt) (ss : List Stmt) → wide_all nv nd (s ∷ ss) ≡ wide_stmt nv nd s + wide_all nv nd ss
   unfolding wide_all wide_stmt
-  wide-more s ss = ap (width nv nd) (items-more s ss) ∙ width_then nv nd (items_of s Done) (items_in ss)
+  wide-more s ss = ap (width nv nd) (items-more s ss) ∙ width_then nv nd (items_of [] s Done) (items_in ss)
 
   pub wide-none : wide_all nv nd [] ≡ 0
   unfolding wide_all
@@ -82,7 +88,7 @@ module _ (nv nd : ℕ) where
   closes_wide [] (d ∷ ds) m = refl
   closes_wide (p ∷ ps) ds m = refl
 
-  group_items : (b : List Stmt) (ps ds : List ℕ) (m : ℕ) → items_of (Group b ps ds m) Done ≡ items_in b
+  group_items : (b : List Stmt) (ps ds : List ℕ) (m : ℕ) → items_of [] (Group b ps ds m) Done ≡ items_in b
       then closes ps ds m Done
   group_items b ps ds m = items-Group b ps ds m Done ∙ all_stand b Done (closes ps ds m Done)
 
@@ -91,6 +97,10 @@ module _ (nv nd : ℕ) where
   unfolding wide_stmt wide_all
   wide-Group b ps ds m = ap (width nv nd) (group_items b ps ds m) ∙ width_then nv nd (items_in b) (closes ps ds m Done)
       ∙ ap (λ n. width nv nd (items_in b) + n) (closes_wide ps ds m)
+
+  pub wide-Call : (f : ℕ) (args : List Arg) (to' : Option Dest) (line : ℕ) → wide_stmt nv nd (Call f args to' line) ≡ 0
+  unfolding wide_stmt
+  wide-Call f args to' line = ap (width nv nd) (items-Call f args to' line Done)
 
   -- Edges
 
@@ -111,8 +121,8 @@ module _ (nv nd : ℕ) where
     unfolding emit_all emit_stmt inside_all wide_stmt wide_all
     emit-more s ss w i next after k e f =
         ap (λ z. emit nv nd exit z w i k) (items-more s ss)
-        ∙ emit_then nv nd exit (items_of s Done) (stmt_plain s Done tt) (items_in ss) w i next k e
-        ∙ ap (λ j. emit nv nd exit (items_of s Done) (inside w (items_in ss)) i j
+        ∙ emit_then nv nd exit (items_of [] s Done) (stmt_plain s Done tt) (items_in ss) w i next k e
+        ∙ ap (λ j. emit nv nd exit (items_of [] s Done) (inside w (items_in ss)) i j
         ++ emit nv nd exit (items_in ss) w next k) (sym f)
 
     pub emit-drop : (i : ℕ) (ss : List Stmt) (s : Stmt) (w : Around) (from next after k : ℕ) → i < length ss
@@ -242,6 +252,11 @@ module _ (nv nd : ℕ) where
         (first_of (close_width ps ds) (i + width nv nd (items_in b)) k) ++ es)
         (closes_edges ps ds m w (i + width nv nd (items_in b)) k)
 
+    pub emit-Call : (f : ℕ) (args : List Arg) (to' : Option Dest) (line : ℕ) (w : Around) (i k : ℕ)
+        → emit_stmt nv nd exit (Call f args to' line) w i k ≡ []
+    unfolding emit_stmt
+    emit-Call f args to' line w i k = ap (λ z. emit nv nd exit z w i k) (items-Call f args to' line Done)
+
   -- Loop heads
 
   pub heads-end : (n : ℕ) (ss : List Stmt) (i : ℕ) → length ss ≤ n → heads_all nv nd (drop n ss) i ≡ []
@@ -252,7 +267,7 @@ module _ (nv nd : ℕ) where
       ≡ heads_stmt nv nd s i ++ heads_all nv nd ss next
   unfolding heads_all heads_stmt wide_stmt
   heads-more s ss i next e = ap (λ z. head_numbers nv nd z i) (items-more s ss)
-      ∙ heads_then nv nd (items_of s Done) (stmt_plain s Done tt) (items_in ss) i next e
+      ∙ heads_then nv nd (items_of [] s Done) (stmt_plain s Done tt) (items_in ss) i next e
 
   pub heads-drop : (i : ℕ) (ss : List Stmt) (s : Stmt) (from next : ℕ) → i < length ss → s ≡ get_or ss i s
       → next ≡ from + wide_stmt nv nd s
@@ -311,8 +326,24 @@ module _ (nv nd : ℕ) where
       ∙ ap (λ ks. head_numbers nv nd (items_in b) i ++ ks) (closes_heads ps ds m (i + width nv nd (items_in b)))
       ∙ append-nil (head_numbers nv nd (items_in b) i)
 
-pub ruleset rooms =
-    (links-length, wide-none, wide-drop, wide-end, wide-Do, wide-Branch, wide-While, wide-DoWhile, wide-For, wide-Group)
+  pub heads-Call : (f : ℕ) (args : List Arg) (to' : Option Dest) (line i : ℕ)
+      → heads_stmt nv nd (Call f args to' line) i ≡ []
+  unfolding heads_stmt
+  heads-Call f args to' line i = ap (λ z. head_numbers nv nd z i) (items-Call f args to' line Done)
+
+pub ruleset rooms = (
+  links-length,
+  wide-none,
+  wide-drop,
+  wide-end,
+  wide-Do,
+  wide-Branch,
+  wide-While,
+  wide-DoWhile,
+  wide-For,
+  wide-Group,
+  wide-Call,
+)
 
 pub ruleset statements = (
   wide-none,
@@ -327,6 +358,7 @@ pub ruleset statements = (
   emit-DoWhile,
   emit-For,
   emit-Group,
+  emit-Call,
 )
 
 pub ruleset loops = (
@@ -341,4 +373,5 @@ pub ruleset loops = (
   heads-DoWhile,
   heads-For,
   heads-Group,
+  heads-Call,
 )

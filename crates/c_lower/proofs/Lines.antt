@@ -6,11 +6,11 @@ use Rattle.std.proofs.lemmas.List.{length-append, length-replicate}
 use Rattle.c_types.specs.declared.program.Atom.{Atom}
 use Rattle.c_types.specs.declared.program.Atom.TheVariants.{Choice as ChoiceAtom, Known as KnownAtom, Ptr as PtrAtom}
 use Rattle.c_types.specs.declared.program.Atom.TheVariants.{Data as DataAtom}
-use Rattle.c_types.specs.Control.{Items, Done, Do, Close, If, Loop, Again, DoLoop, DoAgain, Test, Ask, Not, Both}
-use Rattle.c_types.specs.Control.{Either}
+use Rattle.c_types.specs.Control.{Items, Done, Do, Close, If, Loop, Again, DoLoop, DoAgain, Enter, Leave, Exit, Test}
+use Rattle.c_types.specs.Control.{Ask, Not, Both, Either}
 use Rattle.c_cfg.specs.Places.{remark_test, remark}
 use Rattle.c_lower.specs.inner.Numbering.{act_width, atom_width, test_width, width, number_test, number, test_lines}
-use Rattle.c_lower.specs.inner.Numbering.{lines}
+use Rattle.c_lower.specs.inner.Numbering.{enter_width, leave_width, exit_width, lines}
 
 module _ (nv nd : ℕ) where
   pub test_lines_length : (c : Test) → length (test_lines nv nd c) ≡ test_width nv nd c
@@ -80,6 +80,27 @@ module _ (nv nd : ℕ) where
         length-append (lines nv nd b) (lines nv nd is),
         test_lines_length c,
         lines_length b,
+        lines_length is,
+      )
+  lines_length (Enter vs ws m is) =
+      omega (
+        arith,
+        length-append (replicate (enter_width nv nd vs ws) m) (lines nv nd is),
+        length-replicate (enter_width nv nd vs ws) m,
+        lines_length is,
+      )
+  lines_length (Leave v vs a m is) =
+      omega (
+        arith,
+        length-append (replicate (leave_width nv nd v vs a) m) (lines nv nd is),
+        length-replicate (leave_width nv nd v vs a) m,
+        lines_length is,
+      )
+  lines_length (Exit v vs d m is) =
+      omega (
+        arith,
+        length-append (replicate (exit_width nv nd v vs d) m) (lines nv nd is),
+        length-replicate (exit_width nv nd v vs d) m,
         lines_length is,
       )
 
@@ -188,3 +209,21 @@ module _ (nv nd : ℕ) where
       h1 in
       loop_same (λ c n b is. DoAgain c b is) _ c Done Done _ b _ is (test_back f c _ (lined_front f _ _ _ h)) refl
       (back f b _ (lined_front f _ _ _ h1)) (back f is _ h2)
+  back f (Enter vs ws m is) i h =
+      let w = enter_width nv nd vs ws in
+      ap (λ k. Enter vs ws k (remark f (number nv nd is (i + w))))
+      (replicate_first f i w m (omega arith) (lined_front f i (replicate w m) (lines nv nd is) h))
+      ∙ ap (Enter vs ws m)
+      (back f is (i + w) (lined_back f i w (replicate w m) (lines nv nd is) (length-replicate w m) h))
+  back f (Leave v vs a m is) i h =
+      let w = leave_width nv nd v vs a in
+      ap (λ k. Leave v vs a k (remark f (number nv nd is (i + w))))
+      (replicate_first f i w m (omega arith) (lined_front f i (replicate w m) (lines nv nd is) h))
+      ∙ ap (Leave v vs a m)
+      (back f is (i + w) (lined_back f i w (replicate w m) (lines nv nd is) (length-replicate w m) h))
+  back f (Exit v vs d m is) i h =
+      let w = exit_width nv nd v vs d in
+      ap (λ k. Exit v vs d k (remark f (number nv nd is (i + w))))
+      (replicate_first f i w m (omega arith) (lined_front f i (replicate w m) (lines nv nd is) h))
+      ∙ ap (Exit v vs d m)
+      (back f is (i + w) (lined_back f i w (replicate w m) (lines nv nd is) (length-replicate w m) h))

@@ -1,7 +1,8 @@
 -- The loop heads of numbered items, and of items that stand before items.
 use Rattle.std.proofs.Common.{◌≡◌, ℕ, ◌+◌, List, [], ◌∷◌, ◌++◌, map, refl, sym, ap, ◌∙◌, arith}
 use Rattle.std.proofs.lemmas.List.{append_assoc}
-use Rattle.c_types.specs.Control.{Items, Done, Do, Close, If, Loop, Again, DoLoop, DoAgain, ◌then◌, ask, round}
+use Rattle.c_types.specs.Control.{Items, Done, Do, Close, If, Loop, Again, DoLoop, DoAgain, Enter, Leave, Exit, ◌then◌}
+use Rattle.c_types.specs.Control.{ask, round}
 use Rattle.c_types.specs.Control.{do_round}
 use Rattle.c_cfg.specs.Places.{heads}
 use Rattle.c_lower.specs.inner.Numbering.{act_width, test_width, width, number_test, number, loc}
@@ -45,6 +46,9 @@ module _ (nv nd exit : ℕ) where
       (heads_numbered is p.1 i2 r))
   heads_numbered (Again c n b is) p i r = absurd p
   heads_numbered (DoAgain c b is) p i r = absurd p
+  heads_numbered (Enter vs ws m is) p i r = absurd p
+  heads_numbered (Leave v vs a m is) p i r = absurd p
+  heads_numbered (Exit v vs d m is) p i r = absurd p
 
 module _ (nv nd : ℕ) where
   pub heads_then : (c : Items) → IsPlain c → (d : Items) (i j : ℕ) → j ≡ i + width nv nd c
@@ -75,3 +79,6 @@ module _ (nv nd : ℕ) where
       ∙ sym (append_assoc (i1 ∷ head_numbers nv nd b i) (head_numbers nv nd is i2) (head_numbers nv nd d j))
   heads_then (Again c n b is) p d i j e = absurd p
   heads_then (DoAgain c b is) p d i j e = absurd p
+  heads_then (Enter vs ws m is) p d i j e = absurd p
+  heads_then (Leave v vs a m is) p d i j e = absurd p
+  heads_then (Exit v vs b m is) p d i j e = absurd p

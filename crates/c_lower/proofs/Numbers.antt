@@ -6,7 +6,8 @@ use Rattle.std.proofs.lemmas.List.{append_assoc}
 use Rattle.fore_base.specs.Lists.{IsIn, IsDistinct}
 use Rattle.c_types.specs.declared.program.Atom.TheVariants.{Choice as ChoiceAtom, Known as KnownAtom, Ptr as PtrAtom}
 use Rattle.c_types.specs.declared.program.Atom.TheVariants.{Data as DataAtom}
-use Rattle.c_types.specs.Control.{Items, Done, Do, Close, If, Loop, Again, DoLoop, DoAgain, Ask, Not, Both, Either}
+use Rattle.c_types.specs.Control.{Items, Done, Do, Close, If, Loop, Again, DoLoop, DoAgain, Enter, Leave, Exit, Ask}
+use Rattle.c_types.specs.Control.{Not, Both, Either}
 use Rattle.c_types.specs.Steps.{below, mark_of}
 use Rattle.c_cfg.specs.Lowering.{numbers}
 use Rattle.c_lower.specs.inner.Numbering.{span, loc, place_width, mids_of}
@@ -38,6 +39,9 @@ module _ (nv nd : ℕ) where
   wide (Again c n b is) o = absurd o
   wide (DoLoop c b is) o = absurd o
   wide (DoAgain c b is) o = absurd o
+  wide (Enter vs ws m is) o = refl
+  wide (Leave v vs a m is) o = refl
+  wide (Exit v vs d m is) o = refl
 
   loc_mark : (exit : ℕ) (c : Items) → IsOpen nv nd c → loc nv nd exit c ≡ mark_of c
   loc_mark exit Done o = absurd o
@@ -51,6 +55,9 @@ module _ (nv nd : ℕ) where
   loc_mark exit (Again c n b is) o = absurd o
   loc_mark exit (DoLoop c b is) o = absurd o
   loc_mark exit (DoAgain c b is) o = absurd o
+  loc_mark exit (Enter vs ws m is) o = refl
+  loc_mark exit (Leave v vs a m is) o = refl
+  loc_mark exit (Exit v vs d m is) o = refl
 
   pub numbers_are : (exit : ℕ) (ps : List Items) (i e : ℕ) → Stacked nv nd i ps e
       → numbers (loc nv nd exit) (mids_of nv nd) ps ≡ span i (total ps) ++ (exit ∷ [])

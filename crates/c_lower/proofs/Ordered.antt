@@ -8,8 +8,8 @@ use Rattle.c_types.specs.declared.program.DataOp.{DataOp}
 use Rattle.c_types.specs.declared.program.Atom.{Atom}
 use Rattle.c_types.specs.declared.program.Atom.TheVariants.{Choice as ChoiceAtom, Known as KnownAtom, Ptr as PtrAtom}
 use Rattle.c_types.specs.declared.program.Atom.TheVariants.{Data as DataAtom}
-use Rattle.c_types.specs.Control.{Items, Done, Do, Close, If, Loop, Again, DoLoop, DoAgain, Ask, Not, Both, Either}
-use Rattle.c_types.specs.Control.{opened}
+use Rattle.c_types.specs.Control.{Items, Done, Do, Close, If, Loop, Again, DoLoop, DoAgain, Enter, Leave, Exit, Ask}
+use Rattle.c_types.specs.Control.{Not, Both, Either, opened, from_exit}
 use Rattle.c_types.specs.Steps.{mark_of}
 use Rattle.c_cfg.specs.declared.graph.Instr.{Instr}
 use Rattle.c_cfg.specs.declared.graph.Instr.TheVariants.{Kill}
@@ -18,12 +18,12 @@ use Rattle.c_cfg.specs.GraphRuns.{out_of}
 use Rattle.c_cfg.specs.declared.link.Link.{Link}
 use Rattle.c_cfg.specs.declared.link.Link.TheVariants.{One, Two}
 use Rattle.c_cfg.specs.Links.{ends, act_row, op_used, op_base_used, op_data_used, ptr_loads, ptr_test}
-use Rattle.c_cfg.specs.Links.{ptr_ends, cmp_loads, data_test, data_ends}
+use Rattle.c_cfg.specs.Links.{ptr_ends, cmp_loads, data_test, data_ends, enter_row, leave_row, exit_row}
 use Rattle.c_cfg.specs.Lowering.{edge, link_edges, IsRow, InOrder, followed_by}
 use Rattle.c_links.specs.Chains.{chain}
 use Rattle.c_edges.specs.Comparing.{test_edges}
 use Rattle.c_lower.specs.inner.Numbering.{test_room, act_width, atom_width, loc, place_width, mids_of}
-use Rattle.c_lower.specs.inner.Numbering.{atom_edges, place_edges, all_edges}
+use Rattle.c_lower.specs.inner.Numbering.{enter_width, leave_width, exit_width, atom_edges, place_edges, all_edges}
 use Rattle.c_cfg.proofs.Filling.{row_length, pred_least}
 use Rattle.c_cfg.proofs.Spans.{Within, within_more, within_wide, out_more, out_off, link_within}
 use Rattle.c_lower.proofs.ChainWays.{chain_within, AgreesOn}
@@ -155,6 +155,18 @@ module _ (nv nd : ℕ) where
   good_place exit line (Again c n b is) o = absurd o
   good_place exit line (DoLoop c b is) o = absurd o
   good_place exit line (DoAgain c b is) o = absurd o
+  good_place exit line (Enter vs ws m is) o =
+      let row = enter_row nv nd vs ws in let to = loc nv nd exit (opened is) in
+      good_wide m (m + length row) m (m + enter_width nv nd vs ws) (chain (line m) row m to) (omega arith)
+      (omega (arith, pred_least (length row))) (chain_within (line m) row m to, chain_order (line m) row m to)
+  good_place exit line (Leave v vs a m is) o =
+      let row = leave_row nv nd v vs a in let to = loc nv nd exit (opened (from_exit is)) in
+      good_wide m (m + length row) m (m + leave_width nv nd v vs a) (chain (line m) row m to) (omega arith)
+      (omega (arith, pred_least (length row))) (chain_within (line m) row m to, chain_order (line m) row m to)
+  good_place exit line (Exit v vs d m is) o =
+      let row = exit_row nv nd v vs d in let to = loc nv nd exit (opened is) in
+      good_wide m (m + length row) m (m + exit_width nv nd v vs d) (chain (line m) row m to) (omega arith)
+      (omega (arith, pred_least (length row))) (chain_within (line m) row m to, chain_order (line m) row m to)
 
   stacked_le : (ps : List Items) (i e : ℕ) → Stacked nv nd i ps e → i ≤ e
   stacked_le [] i e h = omega (arith, h)

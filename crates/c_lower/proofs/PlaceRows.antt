@@ -9,8 +9,8 @@ use Rattle.c_types.specs.declared.program.DataOp.{DataOp}
 use Rattle.c_types.specs.declared.program.Atom.{Atom}
 use Rattle.c_types.specs.declared.program.Atom.TheVariants.{Choice as ChoiceAtom, Known as KnownAtom, Ptr as PtrAtom}
 use Rattle.c_types.specs.declared.program.Atom.TheVariants.{Data as DataAtom}
-use Rattle.c_types.specs.Control.{Items, Done, Do, Close, If, Loop, Again, DoLoop, DoAgain, Ask, Not, Both, Either}
-use Rattle.c_types.specs.Control.{opened}
+use Rattle.c_types.specs.Control.{Items, Done, Do, Close, If, Loop, Again, DoLoop, DoAgain, Enter, Leave, Exit, Ask}
+use Rattle.c_types.specs.Control.{Not, Both, Either, opened, from_exit}
 use Rattle.c_types.specs.Steps.{mark_of}
 use Rattle.c_cfg.specs.declared.graph.Instr.{Instr}
 use Rattle.c_cfg.specs.declared.graph.Instr.TheVariants.{Kill}
@@ -19,13 +19,15 @@ use Rattle.c_cfg.specs.GraphRuns.{out_of}
 use Rattle.c_cfg.specs.declared.link.Link.{Link}
 use Rattle.c_cfg.specs.declared.link.Link.TheVariants.{One}
 use Rattle.c_cfg.specs.Links.{ends, act_row, op_used, op_base_used, op_data_used, ptr_loads, ptr_test}
-use Rattle.c_cfg.specs.Links.{ptr_ends, cmp_loads, data_test, data_ends}
-use Rattle.c_cfg.specs.Lowering.{edge, link_edges, IsWay, IsTestRow, IsAtomRow, IsRow, but_last, followed_by}
+use Rattle.c_cfg.specs.Links.{ptr_ends, cmp_loads, data_test, data_ends, enter_row, leave_row, exit_row}
+use Rattle.c_cfg.specs.Lowering.{edge, link_edges, IsWay, IsWayOver, IsTestRow, IsAtomRow, IsRow, but_last}
+use Rattle.c_cfg.specs.Lowering.{followed_by}
 use Rattle.c_lower.specs.inner.Numbering.{span, test_room, atom_width, loc, place_width, mids_of}
 use Rattle.c_links.specs.Chains.{chain}
 use Rattle.c_edges.specs.Comparing.{test_edges}
 use Rattle.c_lower.specs.inner.Numbering.{atom_edges, place_edges}
-use Rattle.c_cfg.proofs.Filling.{filled_length, act_filled, row_length, pred_least}
+use Rattle.c_cfg.proofs.Filling.{filled_length, act_filled, enter_filled, leave_filled, exit_filled, row_length}
+use Rattle.c_cfg.proofs.Filling.{pred_least}
 use Rattle.c_cfg.proofs.Spans.{eq_yes, Within, within_more, within_wide, out_more, out_off, link_out, link_within}
 use Rattle.c_lower.proofs.ChainWays.{chain_within, chain_way, stops, AgreesOn, but_stops, all_stops}
 use Rattle.c_lower.proofs.Stacking.{IsOpen}
@@ -189,6 +191,16 @@ module _ (nv nd : ℕ) (E : List Edge) where
   but_last_row [] k to h = absurd (omega arith)
   but_last_row (l ∷ ls) k to h = but_stops l ls k to
 
+  -- a row whose links lead to one location
+  one_way : (line : ℕ) (row : List Link) (m to : ℕ) → 0 < length row
+      → AgreesOn E (chain line row m to) m (m + suc (pred (length row)))
+      → IsWayOver E line row m (span (m + 1) (pred (length row))) to
+  one_way line row m to f h = record {
+    way = stops row m to;
+    leads = chain_way E line row m to f (λ q x y. h q x (omega (arith, y, pred_least (length row))));
+    middle = sym (but_last_row row m to f);
+  }
+
   pub place_row : (exit : ℕ) (line : ℕ → ℕ) (c : Items) → IsOpen nv nd c
       → AgreesOn E (place_edges nv nd exit line c) (mark_of c) (mark_of c + place_width nv nd c)
       → IsRow nv nd E Always line (loc nv nd exit) (mids_of nv nd) c
@@ -216,3 +228,12 @@ module _ (nv nd : ℕ) (E : List Edge) where
   place_row exit line (Again c n b is) o h = absurd o
   place_row exit line (DoLoop c b is) o h = absurd o
   place_row exit line (DoAgain c b is) o h = absurd o
+  place_row exit line (Enter vs ws m is) o h =
+      let row = enter_row nv nd vs ws in
+      one_way (line m) row m (loc nv nd exit (opened is)) (filled_length row (enter_filled nv nd vs ws)) h
+  place_row exit line (Leave v vs a m is) o h =
+      let row = leave_row nv nd v vs a in
+      one_way (line m) row m (loc nv nd exit (opened (from_exit is))) (filled_length row (leave_filled nv nd v vs a)) h
+  place_row exit line (Exit v vs d m is) o h =
+      let row = exit_row nv nd v vs d in
+      one_way (line m) row m (loc nv nd exit (opened is)) (filled_length row (exit_filled nv nd v vs d)) h

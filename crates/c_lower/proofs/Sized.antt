@@ -12,7 +12,7 @@ use Rattle.c_types.specs.declared.program.DataRhs.TheVariants.{Path as DataRhsPa
 use Rattle.c_types.specs.declared.program.DataRhs.TheVariants.{Choice as DataRhsChoice}
 use Rattle.c_types.specs.declared.program.Act.{Act}
 use Rattle.c_types.specs.declared.program.Act.TheVariants.{SetPtr, SetData, Free as FreeAct, Error, Halt, Return, Break}
-use Rattle.c_types.specs.declared.program.Act.TheVariants.{Continue}
+use Rattle.c_types.specs.declared.program.Act.TheVariants.{Continue, Leave as LeaveAct}
 use Rattle.c_types.specs.declared.program.PtrOp.{PtrOp}
 use Rattle.c_types.specs.declared.program.PtrOp.TheVariants.{Path as OpPath, Null as OpNull}
 use Rattle.c_types.specs.declared.program.DataOp.{DataOp}
@@ -178,6 +178,7 @@ module _ (nv nd : ℕ) where
       in let l = loads_long nv q.var q.fields in let u = one_end nv q.fields in omega (arith, e, l, u)
   act_long Error = refl
   act_long Halt = refl
+  act_long (LeaveAct f value) = refl
   act_long (Return operand) = return_long operand
   act_long Break = refl
   act_long Continue = refl

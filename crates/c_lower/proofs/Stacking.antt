@@ -2,15 +2,16 @@
 use Rattle.std.proofs.Common.{◌≡◌, ℕ, zero, suc, ◌+◌, ◌<◌, List, [], ◌∷◌, ◌++◌, refl, sym, ap, ◌∙◌, subst, arith}
 use Rattle.c_types.specs.declared.program.Atom.TheVariants.{Choice as ChoiceAtom, Known as KnownAtom, Ptr as PtrAtom}
 use Rattle.c_types.specs.declared.program.Atom.TheVariants.{Data as DataAtom}
-use Rattle.c_types.specs.Control.{Items, Done, Do, Close, If, Loop, Again, DoLoop, DoAgain, Test, Ask, Not, Both}
-use Rattle.c_types.specs.Control.{Either, ask, open_before}
+use Rattle.c_types.specs.Control.{Items, Done, Do, Close, If, Loop, Again, DoLoop, DoAgain, Enter, Leave, Exit, Test}
+use Rattle.c_types.specs.Control.{Ask, Not, Both, Either, ask, open_before}
 use Rattle.c_types.specs.Steps.{mark_of}
 use Rattle.c_cfg.specs.Places.{test_places, places}
-use Rattle.c_lower.specs.inner.Numbering.{act_width, test_width, width, number_test, number, loc, place_width}
+use Rattle.c_lower.specs.inner.Numbering.{act_width, enter_width, leave_width, exit_width, test_width, width}
+use Rattle.c_lower.specs.inner.Numbering.{number_test, number, loc, place_width}
 use Rattle.c_lower.specs.inner.Emitting.{first_of}
 
 module _ (nv nd : ℕ) where
-  -- an opened list that begins with an act, an atom or a Close
+  -- an opened list that begins with a step
   abbrev pub IsOpen : Items → Type 0
   IsOpen Done = ⊥
   IsOpen (Do a m is) = Unit {0}
@@ -23,6 +24,9 @@ module _ (nv nd : ℕ) where
   IsOpen (Again c n b is) = ⊥
   IsOpen (DoLoop c b is) = ⊥
   IsOpen (DoAgain c b is) = ⊥
+  IsOpen (Enter vs ws m is) = Unit {0}
+  IsOpen (Leave v vs a m is) = Unit {0}
+  IsOpen (Exit v vs d m is) = Unit {0}
 
   -- the places take the locations from i to e, each from its mark on
   abbrev pub Stacked : ℕ → List Items → ℕ → Type 0
@@ -91,6 +95,15 @@ module _ (nv nd : ℕ) where
   stacked (DoAgain c b is) i r =
       three i _ _ _ _ _ _ (stacked_test c i _ _ _) (stacked b (i + test_width nv nd c) _)
       (stacked is (i + test_width nv nd c + width nv nd b) r)
+  stacked (Enter vs ws m is) i r =
+      let w = enter_width nv nd vs ws in
+      (tt, refl, stacked_to _ (i + w) (i + w + width nv nd is) _ (omega arith) (stacked is (i + w) r))
+  stacked (Leave v vs a m is) i r =
+      let w = leave_width nv nd v vs a in
+      (tt, refl, stacked_to _ (i + w) (i + w + width nv nd is) _ (omega arith) (stacked is (i + w) r))
+  stacked (Exit v vs d m is) i r =
+      let w = exit_width nv nd v vs d in
+      (tt, refl, stacked_to _ (i + w) (i + w + width nv nd is) _ (omega arith) (stacked is (i + w) r))
 
   first_wide : (w i k : ℕ) → 0 < w → first_of w i k ≡ i
   first_wide zero i k h = absurd (omega arith)
@@ -136,3 +149,9 @@ module _ (nv nd : ℕ) where
       ∙ sym (first_wide (width nv nd (DoLoop c b is)) i (loc nv nd exit o) (omega (arith, test_wide c)))
   loc_open exit (DoAgain c b is) i r o = loc_ask exit i c _ _ _
       ∙ sym (first_wide (width nv nd (DoAgain c b is)) i (loc nv nd exit o) (omega (arith, test_wide c)))
+  loc_open exit (Enter vs ws m is) i r o =
+      sym (first_wide (width nv nd (Enter vs ws m is)) i (loc nv nd exit o) (omega arith))
+  loc_open exit (Leave v vs a m is) i r o =
+      sym (first_wide (width nv nd (Leave v vs a m is)) i (loc nv nd exit o) (omega arith))
+  loc_open exit (Exit v vs d m is) i r o =
+      sym (first_wide (width nv nd (Exit v vs d m is)) i (loc nv nd exit o) (omega arith))

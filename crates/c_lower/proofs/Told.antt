@@ -6,7 +6,8 @@ use Rattle.fore_base.specs.Lists.{Every}
 use Rattle.c_types.specs.declared.program.Atom.{Atom}
 use Rattle.c_types.specs.declared.program.Atom.TheVariants.{Choice as ChoiceAtom, Known as KnownAtom, Ptr as PtrAtom}
 use Rattle.c_types.specs.declared.program.Atom.TheVariants.{Data as DataAtom}
-use Rattle.c_types.specs.Control.{Items, Done, Do, Close, If, Loop, Again, DoLoop, DoAgain, Ask, Not, Both, Either}
+use Rattle.c_types.specs.Control.{Items, Done, Do, Close, If, Loop, Again, DoLoop, DoAgain, Enter, Leave, Exit, Ask}
+use Rattle.c_types.specs.Control.{Not, Both, Either}
 use Rattle.c_cfg.specs.declared.graph.PtrArg.TheVariants.{Var as PtrVar, Null as PtrNull}
 use Rattle.c_cfg.specs.declared.graph.Instr.{Instr}
 use Rattle.c_cfg.specs.declared.graph.Instr.TheVariants.{CopyPtr, LoadPtr, StorePtr, StoreConst, New, Free, Kill}
@@ -15,14 +16,14 @@ use Rattle.c_cfg.specs.declared.graph.Edge.{Edge}
 use Rattle.c_cfg.specs.Graphs.{has_choice, is_none_or, is_choose, may_have, HasItsChoice}
 use Rattle.c_cfg.specs.declared.link.Link.{Link}
 use Rattle.c_cfg.specs.Links.{op_loads, data_op_loads}
-use Rattle.c_cfg.specs.Links.{act_row}
+use Rattle.c_cfg.specs.Links.{act_row, enter_row, leave_row, exit_row}
 use Rattle.c_cfg.specs.Links.{ptr_loads, cmp_loads, ptr_test, data_test, ptr_ends, data_ends}
 use Rattle.c_cfg.specs.Lowering.{link_edges}
 use Rattle.c_links.specs.Chains.{chain}
 use Rattle.c_edges.specs.Comparing.{test_edges}
 use Rattle.c_lower.specs.inner.Numbering.{atom_edges, place_edges, all_edges}
 use Rattle.c_cfg.proofs.ItsChoices.{Fit, fit_more, ends_fit, op_fit, data_op_fit, act_fits, Told, told_more}
-use Rattle.c_cfg.proofs.ItsChoices.{link_told}
+use Rattle.c_cfg.proofs.ItsChoices.{link_told, enter_fits, leave_fits, exit_fits}
 
 chain_told : (line : ℕ) (ls : List Link) (k to : ℕ) → Fit ls → Told (chain line ls k to)
 chain_told line [] k to h = tt
@@ -77,6 +78,10 @@ module _ (nv nd : ℕ) where
   place_told exit line (Again c n b is) = tt
   place_told exit line (DoLoop c b is) = tt
   place_told exit line (DoAgain c b is) = tt
+  place_told exit line (Enter vs ws m is) = chain_told (line m) (enter_row nv nd vs ws) m _ (enter_fits nv nd vs ws)
+  place_told exit line (Leave v vs a m is) =
+      chain_told (line m) (leave_row nv nd v vs a) m _ (leave_fits nv nd v vs a)
+  place_told exit line (Exit v vs d m is) = chain_told (line m) (exit_row nv nd v vs d) m _ (exit_fits nv nd v vs d)
 
   pub all_told : (exit : ℕ) (line : ℕ → ℕ) (ps : List Items) → Told (all_edges nv nd exit line ps)
   all_told exit line [] = tt

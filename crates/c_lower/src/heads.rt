@@ -43,6 +43,7 @@ impl Site {
                 self.add_heads(heads, next.as_slice(), between)
             }
             Stmt::Group { body, .. } => self.add_heads(heads, body.as_slice(), at),
+            Stmt::Call { .. } => Ok(()),
         }
     }
 

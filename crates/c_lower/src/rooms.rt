@@ -62,6 +62,7 @@ impl Site {
                 let end = self.after_all(body.as_slice(), at)?;
                 sum(end, close_room(ptrs.as_slice(), datums.as_slice()))
             }
+            Stmt::Call { .. } => Ok(at),
         }
     }
 

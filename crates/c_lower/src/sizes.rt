@@ -42,6 +42,7 @@ pub fn act_size(act: &Act) -> Mem<u32>
         Act::Error => Ok(1),
         Act::Halt => Ok(1),
         Act::Return(operand) => return_size(operand),
+        Act::Leave { .. } => Ok(1),
         Act::Break => Ok(1),
         Act::Continue => Ok(1),
     }

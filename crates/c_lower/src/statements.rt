@@ -25,6 +25,7 @@ fn act_to(act: &Act, around: &Around, exit: u32, then: u32) -> u32
         Act::Error => exit,
         Act::Halt => exit,
         Act::Return(_) => exit,
+        Act::Leave { .. } => exit,
         Act::Break => around.leave,
         Act::Continue => around.again,
     }
@@ -95,6 +96,7 @@ impl Site {
                 self.add_all(edges, body.as_slice(), &inner, spans.first)?;
                 self.add_close(edges, ptrs, datums, *close, spans.second)
             }
+            Stmt::Call { .. } => Ok(()),
         }
     }
 

@@ -7,8 +7,8 @@ use Rattle.std.proofs.lemmas.List.Sorted.{list_any-IsPermutation}
 use Rattle.fore_base.specs.Lists.{IsIn}
 use Rattle.fore_base.proofs.ListLemmas.{in_append, in_left, in_right, in_map, in_number, number_in}
 use Rattle.c_types.specs.declared.mode.MallocMode.{MallocMode}
-use Rattle.c_types.specs.Control.{Items, Done, Do, Close, If, Loop, Again, DoLoop, DoAgain, Test, Ask, Not, Both}
-use Rattle.c_types.specs.Control.{Either}
+use Rattle.c_types.specs.Control.{Items, Done, Do, Close, If, Loop, Again, DoLoop, DoAgain, Enter, Leave, Exit, Test}
+use Rattle.c_types.specs.Control.{Ask, Not, Both, Either}
 use Rattle.c_types.specs.Control.{◌then◌, ask, round, do_round, after_again, from_again}
 use Rattle.c_types.specs.Program.{Program}
 use Rattle.c_types.specs.Steps.{below}
@@ -26,6 +26,9 @@ IsFree (Loop c n b is) = ⊥
 IsFree (Again c n b is) = ⊥
 IsFree (DoLoop c b is) = ⊥
 IsFree (DoAgain c b is) = ⊥
+IsFree (Enter vs ws m is) = IsFree is
+IsFree (Leave v vs a m is) = IsFree is
+IsFree (Exit v vs d m is) = IsFree is
 
 abbrev IsNone : List Items → Type 0
 IsNone [] = Unit {0}
@@ -57,6 +60,9 @@ free_of (Loop c n b is) r e = some_none _ _ e
 free_of (Again c n b is) r e = some_none _ _ e
 free_of (DoLoop c b is) r e = some_none _ _ e
 free_of (DoAgain c b is) r e = some_none _ _ e
+free_of (Enter vs ws m is) r e = free_of is r e
+free_of (Leave v vs a m is) r e = free_of is r e
+free_of (Exit v vs d m is) r e = free_of is r e
 
 pub then_free : (c d : Items) → IsFree c → IsFree d → IsFree (c then d)
 then_free Done d h k = k
@@ -67,6 +73,9 @@ then_free (Loop c n b is) d h k = absurd h
 then_free (Again c n b is) d h k = absurd h
 then_free (DoLoop c b is) d h k = absurd h
 then_free (DoAgain c b is) d h k = absurd h
+then_free (Enter vs ws m is) d h k = then_free is d h k
+then_free (Leave v vs a m is) d h k = then_free is d h k
+then_free (Exit v vs e m is) d h k = then_free is d h k
 
 -- where there is no loop nothing is left after `break`, nor after `continue`
 pub none_after : (is : Items) → IsFree is → after_again is ≡ Done
@@ -78,6 +87,9 @@ none_after (Loop c n b is) h = absurd h
 none_after (Again c n b is) h = absurd h
 none_after (DoLoop c b is) h = absurd h
 none_after (DoAgain c b is) h = absurd h
+none_after (Enter vs ws m is) h = none_after is h
+none_after (Leave v vs a m is) h = none_after is h
+none_after (Exit v vs d m is) h = none_after is h
 
 pub none_from : (is : Items) → IsFree is → from_again is ≡ Done
 none_from Done h = refl
@@ -88,6 +100,9 @@ none_from (Loop c n b is) h = absurd h
 none_from (Again c n b is) h = absurd h
 none_from (DoLoop c b is) h = absurd h
 none_from (DoAgain c b is) h = absurd h
+none_from (Enter vs ws m is) h = none_from is h
+none_from (Leave v vs a m is) h = none_from is h
+none_from (Exit v vs d m is) h = none_from is h
 
 -- Loop heads are places.
 
@@ -145,6 +160,9 @@ head_place h (DoAgain c b is) r (inl e) =
 head_place h (DoAgain c b is) r (inr i) = in_right h (test_places c (do_round c b) Done (is then r)) _
     (two_parts h (heads b (DoAgain c b (is then r))) _ (places b (DoAgain c b (is then r))) _
     (head_place h b (DoAgain c b (is then r))) (head_place h is r) i)
+head_place h (Enter vs ws m is) r i = inr (head_place h is r i)
+head_place h (Leave v vs a m is) r i = inr (head_place h is r i)
+head_place h (Exit v vs d m is) r i = inr (head_place h is r i)
 
 -- Where no entry is a loop head there is none.
 

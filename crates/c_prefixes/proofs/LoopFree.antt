@@ -1,18 +1,21 @@
 -- The graph of a program without loops has a number of prefixes: each of its edges leads on in the text. The number is
 -- that of the program.
-use Rattle.std.proofs.Common.{◌≡◌, ℕ, Bool, true, false, List, [], ◌∷◌, ◌++◌, length, Some, refl, sym, ap, subst, ◌∙◌}
+use Rattle.std.proofs.Common.{◌≡◌, ℕ, zero, suc, Bool, true, false, List, [], ◌∷◌, ◌++◌, length, Option, Some, refl}
+use Rattle.std.proofs.Common.{sym, ap, subst, ◌∙◌}
 use Rattle.fore_base.specs.Lists.{Every}
 use Rattle.fore_base.proofs.ListLemmas.{every_parts}
 use Rattle.c_types.specs.declared.mode.MallocMode.{MallocMode}
 use Rattle.c_types.specs.declared.program.Act.{Act}
 use Rattle.c_types.specs.declared.program.Act.TheVariants.{SetPtr, SetData, Free, Error, Halt, Return, Break}
-use Rattle.c_types.specs.declared.program.Act.TheVariants.{Continue}
+use Rattle.c_types.specs.declared.program.Act.TheVariants.{Continue, Leave as LeaveAct}
+use Rattle.c_types.specs.declared.program.VarRef.{VarRef}
+use Rattle.c_types.specs.declared.program.Dest.{Dest}
 use Rattle.c_types.specs.declared.program.Atom.{Atom}
 use Rattle.c_types.specs.declared.program.Atom.TheVariants.{Choice as ChoiceAtom, Known as KnownAtom, Ptr as PtrAtom}
 use Rattle.c_types.specs.declared.program.Atom.TheVariants.{Data as DataAtom}
-use Rattle.c_types.specs.Control.{Items, Done, Do, Close, If, Loop, Again, DoLoop, DoAgain, Test, Ask, Not, Both}
-use Rattle.c_types.specs.Control.{Either}
-use Rattle.c_types.specs.Control.{◌then◌, ask, opened, open_before, start_of}
+use Rattle.c_types.specs.Control.{Items, Done, Do, Close, If, Loop, Again, DoLoop, DoAgain, Enter, Leave, Exit, Test}
+use Rattle.c_types.specs.Control.{Ask, Not, Both, Either}
+use Rattle.c_types.specs.Control.{◌then◌, ask, opened, open_before, exit_after, from_exit, start_of}
 use Rattle.c_types.specs.Program.{Program}
 use Rattle.c_cfg.specs.declared.graph.Edge.{Edge}
 use Rattle.c_cfg.specs.declared.graph.Instr.{Instr}
@@ -21,7 +24,7 @@ use Rattle.c_cfg.specs.GraphRuns.{out_of}
 use Rattle.c_cfg.specs.Graphs.{ControlGraph}
 use Rattle.c_cfg.specs.declared.link.Link.{Link}
 use Rattle.c_cfg.specs.declared.link.Link.TheVariants.{One, Two}
-use Rattle.c_cfg.specs.Links.{act_row, links_in}
+use Rattle.c_cfg.specs.Links.{act_row, links_in, enter_row, leave_row, exit_row}
 use Rattle.c_cfg.specs.LoopFree.{has_no_loop}
 use Rattle.c_cfg.specs.Lowering.{LowerOf, IsWay, IsTestRow, IsAtomRow, IsRow, edge, followed_by}
 use Rattle.c_cfg.specs.Places.{test_places, places}
@@ -29,7 +32,7 @@ use Rattle.c_cfg.proofs.FreeOfLoops.{free_graph}
 use Rattle.c_cfg.proofs.Opening.{open_then}
 use Rattle.c_prefixes.specs.Prefixes.{paths_from}
 use Rattle.c_prefixes.proofs.FreeItems.{IsFree, then_free, none_after, none_from, free_items}
-use Rattle.c_prefixes.proofs.ItemCounts.{act_after, act_same, atom_count, count_remarked, items_count, row_count}
+use Rattle.c_prefixes.proofs.ItemCounts.{act_after, act_same, atom_count, count_remarked, counts, exits_from, row_count}
 use Rattle.c_prefixes.proofs.ItemCounts.{test_count, way_count}
 use Rattle.c_prefixes.proofs.Sums.{IsNumber, none_here, one_here, one_only, two_here}
 
@@ -42,6 +45,9 @@ then_done (Loop c n b is) = ap (Loop c n b) (then_done is)
 then_done (Again c n b is) = ap (Again c n b) (then_done is)
 then_done (DoLoop c b is) = ap (DoLoop c b) (then_done is)
 then_done (DoAgain c b is) = ap (DoAgain c b) (then_done is)
+then_done (Enter vs ws m is) = ap (Enter vs ws m) (then_done is)
+then_done (Leave v vs a m is) = ap (Leave v vs a m) (then_done is)
+then_done (Exit v vs d m is) = ap (Exit v vs d m) (then_done is)
 
 module _ (nv nd : ℕ) (edges : List Edge) where
   -- along a way
@@ -128,49 +134,96 @@ module _ (nv nd : ℕ) (edges : List Edge) where
     act_number Error is n f h = exit_number
     act_number Halt is n f h = exit_number
     act_number (Return operand) is n f h = exit_number
+    act_number (LeaveAct g value) is n f h = exit_number
     act_number Break is n f h = subst (λ (z : Items). IsNumber edges (at (opened z)) 1)
         (sym (none_after is f)) exit_number
     act_number Continue is n f h =
         subst (λ (z : Items). IsNumber edges (at (opened z)) 1) (sym (none_from is f)) exit_number
 
+    -- each Exit behind some items that ends none of their own calls
+    abbrev ExitsNumbered : Items → (ℕ → ℕ) → Type 0
+    ExitsNumbered is e = (k : ℕ) → IsNumber edges (at (opened (exit_after k is))) (e k)
+
+    exits_number : (v : Option VarRef) (vs : List VarRef) (d : Option Dest) (m : ℕ) (is : Items) (n : ℕ) (e : ℕ → ℕ)
+        → IsNumber edges (at (opened (Exit v vs d m is))) n → ExitsNumbered is e
+        → ExitsNumbered (Exit v vs d m is) (exits_from n e)
+    exits_number v vs d m is n e own later zero = own
+    exits_number v vs d m is n e own later (suc k) = later k
+
+    -- what some items open to before others has a number, and so has each Exit among both
+    abbrev AreNumbered : Items → Items → ℕ × (ℕ → ℕ) → Type 0
+    AreNumbered is r c = IsNumber edges (at (open_before is r (opened r))) c.0 × ExitsNumbered (is then r) c.1
+
     -- items without a loop, before others
-    items_number : (is r : Items) (n : ℕ) → IsFree is → IsFree r → Every Row (places is r)
-        → IsNumber edges (at (opened r)) n
-        → IsNumber edges (at (open_before is r (opened r))) (items_count nv nd mode is n)
-    items_number Done r n f g rows h = h
-    items_number (Do a m is) r n f g rows h =
-        let c = items_count nv nd mode is n in
-        let w = whole is r c (items_number is r n f g rows.1 h) in
-        subst (λ (j : ℕ). IsNumber edges (at (Do a m (is then r))) j)
-        (sym (act_same nv nd mode a (is then r) (act_after a c)))
-        (way_number (line m) (links_in mode (act_row nv nd a (is then r))) (at (Do a m (is then r))) rows.0.way
-        (at (opened (followed_by a (is then r)))) (act_after a c) rows.0.leads
-        (act_number a (is then r) c (then_free is r f g) w))
-    items_number (Close ps ds m is) r n f g rows h =
-        let c = items_count nv nd mode is n in
-        let w = whole is r c (items_number is r n f g rows.1 h) in
-        way_number (line m) (One (Kill ps ds) ∷ []) (at (Close ps ds m (is then r))) rows.0.way
-        (at (opened (is then r))) c rows.0.leads w
-    items_number (If c x y is) r n f g rows h =
-        let i = every_parts Row (test_places c x y (is then r))
-        (places x (is then r) ++ (places y (is then r) ++ places is r)) rows in
-        let j = every_parts Row (places x (is then r)) (places y (is then r) ++ places is r) i.1 in
-        let k = every_parts Row (places y (is then r)) (places is r) j.1 in
-        let q = items_count nv nd mode is n in
-        let a = items_count nv nd mode x q in
-        let b = items_count nv nd mode y q in
-        let w = whole is r q (items_number is r n f.2 g k.1 h) in
-        let t = then_free is r f.2 g in
-        test_number c x y (is then r) a b i.0 (whole x (is then r) a (items_number x (is then r) q f.0 t j.0 w))
-        (whole y (is then r) b (items_number y (is then r) q f.1 t k.0 w))
-    items_number (Loop c j b is) r n f g rows h = absurd f
-    items_number (Again c j b is) r n f g rows h = absurd f
-    items_number (DoLoop c b is) r n f g rows h = absurd f
-    items_number (DoAgain c b is) r n f g rows h = absurd f
+    items_number : (is r : Items) (n : ℕ) (e : ℕ → ℕ) → IsFree is → IsFree r → Every Row (places is r)
+        → IsNumber edges (at (opened r)) n → ExitsNumbered r e → AreNumbered is r (counts nv nd mode is n e)
+    items_number Done r n e f g rows h x = (h, x)
+    items_number (Do a m is) r n e f g rows h x =
+        let c = counts nv nd mode is n e in
+        let q = items_number is r n e f g rows.1 h x in
+        let w = whole is r c.0 q.0 in (
+          subst (λ (j : ℕ). IsNumber edges (at (Do a m (is then r))) j)
+              (sym (act_same nv nd mode a (is then r) (act_after a c.0)))
+              (way_number (line m) (links_in mode (act_row nv nd a (is then r))) (at (Do a m (is then r))) rows.0.way
+              (at (opened (followed_by a (is then r)))) (act_after a c.0) rows.0.leads
+              (act_number a (is then r) c.0 (then_free is r f g) w)),
+          q.1,
+        )
+    items_number (Close ps ds m is) r n e f g rows h x =
+        let c = counts nv nd mode is n e in
+        let q = items_number is r n e f g rows.1 h x in (
+          way_number (line m) (One (Kill ps ds) ∷ []) (at (Close ps ds m (is then r))) rows.0.way
+              (at (opened (is then r))) c.0 rows.0.leads (whole is r c.0 q.0),
+          q.1,
+        )
+    items_number (If c y z is) r n e f g rows h x =
+        let i = every_parts Row (test_places c y z (is then r))
+        (places y (is then r) ++ (places z (is then r) ++ places is r)) rows in
+        let j = every_parts Row (places y (is then r)) (places z (is then r) ++ places is r) i.1 in
+        let k = every_parts Row (places z (is then r)) (places is r) j.1 in
+        let d = counts nv nd mode is n e in
+        let a = (counts nv nd mode y d.0 d.1).0 in
+        let b = (counts nv nd mode z d.0 d.1).0 in
+        let q = items_number is r n e f.2 g k.1 h x in
+        let w = whole is r d.0 q.0 in
+        let t = then_free is r f.2 g in (
+          test_number c y z (is then r) a b i.0
+              (whole y (is then r) a (items_number y (is then r) d.0 d.1 f.0 t j.0 w q.1).0)
+              (whole z (is then r) b (items_number z (is then r) d.0 d.1 f.1 t k.0 w q.1).0),
+          q.1,
+        )
+    items_number (Loop c j b is) r n e f g rows h x = absurd f
+    items_number (Again c j b is) r n e f g rows h x = absurd f
+    items_number (DoLoop c b is) r n e f g rows h x = absurd f
+    items_number (DoAgain c b is) r n e f g rows h x = absurd f
+    items_number (Enter vs ws m is) r n e f g rows h x =
+        let c = counts nv nd mode is n e in
+        let q = items_number is r n e f g rows.1 h x in (
+          way_number (line m) (enter_row nv nd vs ws) (at (Enter vs ws m (is then r))) rows.0.way
+              (at (opened (is then r))) c.0 rows.0.leads (whole is r c.0 q.0),
+          (λ k. q.1 (suc k)),
+        )
+    items_number (Leave v vs a m is) r n e f g rows h x =
+        let c = counts nv nd mode is n e in
+        let q = items_number is r n e f g rows.1 h x in (
+          way_number (line m) (leave_row nv nd v vs a) (at (Leave v vs a m (is then r))) rows.0.way
+              (at (opened (from_exit (is then r)))) (c.1 0) rows.0.leads (q.1 0),
+          q.1,
+        )
+    items_number (Exit v vs d m is) r n e f g rows h x =
+        let c = counts nv nd mode is n e in
+        let q = items_number is r n e f g rows.1 h x in
+        let own = way_number (line m) (exit_row nv nd v vs d) (at (Exit v vs d m (is then r))) rows.0.way
+        (at (opened (is then r))) c.0 rows.0.leads (whole is r c.0 q.0) in
+        let same : opened (Exit v vs d m (is then r)) ≡ Exit v vs d m (is then r) =
+        ap (Exit v vs d m) (then_done (is then r)) in
+        let first = way_count (exit_row nv nd v vs d) c.0 in
+        let opens = subst (λ (z : Items). IsNumber edges (at z) first) (sym same) own in
+        (own, exits_number v vs d m (is then r) first c.1 opens q.1)
 
 -- the number of prefixes of each graph of a program without loops
 abbrev program_count : Program → MallocMode → ℕ
-program_count p mode = items_count (length p.vars) (length p.data_vars) mode (start_of p) 1
+program_count p mode = (counts (length p.vars) (length p.data_vars) mode (start_of p) 1 (λ k. 1)).0
 
 program_number : (p : Program) (mode : MallocMode) (g : ControlGraph) → LowerOf p mode g → has_no_loop p ≡ true
     → IsNumber g.edges 0 (program_count p mode)
@@ -178,13 +231,14 @@ program_number p mode g low none =
     let nv = length p.vars in
     let nd = length p.data_vars in
     let f = free_items p mode g low (free_graph p mode g low ∙ none) in
-    let e : items_count nv nd mode low.items 1 ≡ program_count p mode =
-    sym (count_remarked nv nd mode low.line low.items 1)
-    ∙ ap (λ (z : Items). items_count nv nd mode z 1) low.is_program in
+    let e : (counts nv nd mode low.items 1 (λ k. 1)).0 ≡ program_count p mode =
+    sym (count_remarked nv nd mode low.line low.items 1 1 (λ k. 1) (λ k. 1) (refl, λ k. refl)).0
+    ∙ ap (λ (z : Items). (counts nv nd mode z 1 (λ k. 1)).0) low.is_program in
+    let last = exit_number nv nd g.edges mode low.line low.at low.mids low.exit in
     subst (IsNumber g.edges 0) e
-    (subst (λ (k : ℕ). IsNumber g.edges k (items_count nv nd mode low.items 1)) low.entry
-    (items_number nv nd g.edges mode low.line low.at low.mids low.exit low.items Done 1 f tt low.rows
-    (exit_number nv nd g.edges mode low.line low.at low.mids low.exit)))
+    (subst (λ (k : ℕ). IsNumber g.edges k (counts nv nd mode low.items 1 (λ k. 1)).0) low.entry
+    (items_number nv nd g.edges mode low.line low.at low.mids low.exit low.items Done 1 (λ k. 1) f tt low.rows last
+    (λ k. last)).0)
 
 pub loop_free_number : (p : Program) (mode : MallocMode) (g : ControlGraph) → LowerOf p mode g → has_no_loop p ≡ true
     → (n : ℕ) × (b : ℕ) × (paths_from g.edges n 0 ≡ Some b)

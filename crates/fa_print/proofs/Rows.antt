@@ -132,6 +132,7 @@ program = record {
   vars = record { name = codes "x"; shape = 0 } ∷ record { name = codes "y"; shape = 0 }
       ∷ record { name = codes "x"; shape = 1 } ∷ [];
   data_vars = codes "hue" ∷ codes "key" ∷ [];
+  funcs = [];
   body = [];
 }
 

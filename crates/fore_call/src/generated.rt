@@ -1,5 +1,5 @@
 // The answer to a wish for a generated program.
-ghost use Rattle.std.specs.Prelude.{◌≡◌, IfOk, IfErr};
+ghost use Rattle.std.specs.Prelude.{◌≡◌, [], IfOk, IfErr};
 ghost use Rattle.c_front.specs.Files.{IsProgramOf};
 ghost use Rattle.fore_gen.specs.Programs.{count_lines, program_text};
 ghost use Rattle.fore_call.specs.Generated.{gen_settings, IsTableFor};
@@ -69,6 +69,7 @@ fn verify_program<R: Threads + Sync, G: Gate>(
     program: &Typed,
     gate: &G,
 ) -> Answer
+    requires plain { program.now.funcs ≡ [] }
     requires lines { lines ≡ count_lines (program_text kind phases) }
     requires program { IsProgramOf (program_text kind phases) program.now }
     ensures { IsGeneratedAnswer kind phases result }
@@ -104,7 +105,8 @@ fn sum_up<R: Threads + Sync, G: Gate>(
     table: &BoxTable,
     gate: &G,
 ) -> Answer
-    requires { table.now.face.shapes ≡ program.now.shapes }
+    requires plain { program.now.funcs ≡ [] }
+    requires shapes { table.now.face.shapes ≡ program.now.shapes }
     ensures { IsSummedUp kind phases lines table.now program.now result }
 {
     match summed_up(rt, alloc, kind, phases, lines, program, table, gate) {
@@ -124,7 +126,8 @@ fn summed_up<R: Threads + Sync, G: Gate>(
     table: &BoxTable,
     gate: &G,
 ) -> Mem<Answer>
-    requires { table.now.face.shapes ≡ program.now.shapes }
+    requires plain { program.now.funcs ≡ [] }
+    requires shapes { table.now.face.shapes ≡ program.now.shapes }
     ensures { IfOk result (IsSummedUp kind phases lines table.now program.now) }
 {
     let settings = gen_settings();

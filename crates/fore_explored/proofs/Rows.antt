@@ -41,6 +41,7 @@ program = record {
   shapes = shapes;
   vars = record { name = codes "l"; shape = 0 } ∷ [];
   data_vars = codes "k" ∷ [];
+  funcs = [];
   body = [];
 }
 

@@ -1,9 +1,9 @@
 // Programs as the body of a `main`.
 //
 // Before a body stand two lines, structs and the head of `main`; so the first line of a body is line 3.
-ghost use Rattle.std.specs.Prelude.{◌≤◌, length};
+ghost use Rattle.std.specs.Prelude.{◌≡◌, ◌≤◌, [], length, IfOk};
 
-use anyhow::{Context, Result, bail};
+use anyhow::{Result, bail};
 use c_cfg::graph::Graph;
 use c_front::program_in;
 use c_lower::lower::lower;
@@ -25,7 +25,9 @@ pub const GRAPH_HEAD: &str =
      int main(void) {\n";
 
 /// The program of a body behind a head.
-pub fn program_of(alloc: Global, head: &str, body: &[u8]) -> Result<Typed> {
+pub fn program_of(alloc: Global, head: &str, body: &[u8]) -> Result<Typed>
+    ensures { IfOk result (λ p. p.funcs ≡ []) }
+{
     let mut text = Text::new(alloc);
     text.put(head.as_bytes())?;
     text.put(body)?;
@@ -33,9 +35,10 @@ pub fn program_of(alloc: Global, head: &str, body: &[u8]) -> Result<Typed> {
     if text.len() > FILE_BYTES {
         bail!("too long");
     }
-    program_in(alloc, text.as_slice())
-        .ok()
-        .context("no program")
+    match program_in(alloc, text.as_slice()) {
+        Ok(program) => Ok(program),
+        Err(_) => bail!("no program"),
+    }
 }
 
 /// The graph of a body, where `malloc` has this mode.

@@ -11,6 +11,7 @@ use Rattle.c_types.specs.declared.mode.MallocMode.{MallocMode}
 use Rattle.c_types.specs.declared.program.DataPath.{DataPath}
 use Rattle.c_types.specs.declared.program.Act.{Act}
 use Rattle.c_types.specs.declared.program.Act.TheVariants.{SetPtr, SetData, Free, Error, Halt, Return, Break, Continue}
+use Rattle.c_types.specs.declared.program.Act.TheVariants.{Leave as LeaveAct}
 use Rattle.c_types.specs.Program.{Program, is_typed}
 use Rattle.c_types.specs.Control.{Items, after_again, from_again, closed_ptrs, closed_datums}
 use Rattle.c_types.specs.Steps.{Turn, Goes, Stops, Faults, read_data, look_at, assign, assign_data, free_path, all_dead}
@@ -52,6 +53,7 @@ stop_of (SetData to from) s = Halted
 stop_of (Free p) s = Halted
 stop_of Error s = Halted
 stop_of Halt s = Halted
+stop_of (LeaveAct f value) s = Halted
 stop_of (Return operand) s = Passed (ext0 (all_dead s))
 stop_of Break s = Halted
 stop_of Continue s = Halted
@@ -106,6 +108,7 @@ module _ (p : Program) (typed : is_typed p ≡ true) (choice : ℕ) (s : Store) 
         ∙ free_passes p choice s sound whole q fits ∙ done_turn Halted (free_path s q) is
     act_passes Error is fits = plainly false (One (Stop true) ∷ []) (refl, tt)
     act_passes Halt is fits = plainly false (One (Stop false) ∷ []) (refl, tt)
+    act_passes (LeaveAct f value) is fits = plainly false (One (Stop false) ∷ []) (refl, tt)
     act_passes (Return operand) is fits =
         plainly false (return_row (length p.vars) (length p.data_vars) operand)
         (returned_plain (length p.vars) (length p.data_vars) operand)
@@ -148,6 +151,7 @@ act_to shapes mode (SetData to from) is s x = settled_to (assign_data s to from 
 act_to shapes mode (Free p) is s x = settled_to (free_path s p) is
 act_to shapes mode Error is s x = tt
 act_to shapes mode Halt is s x = tt
+act_to shapes mode (LeaveAct f value) is s x = tt
 act_to shapes mode (Return operand) is s x = finished_to (look_at s operand) _
 act_to shapes mode Break is s x = settle_to (kill (closed_ptrs is) (closed_datums is) s) (after_again is)
 act_to shapes mode Continue is s x = settle_to (kill (closed_ptrs is) (closed_datums is) s) (from_again is)

@@ -126,7 +126,8 @@ from_graph (Starved step) r t f s h v = sym f ∙ stays_stepless r t h v
 from_graph (BadChoice index) r t f s h v = sym f ∙ stays_stepless r t h v
 from_graph StillRunning r t f s h v = absurd (subst IsOver s v)
 
-module _ (p : Program) (typed : is_typed p ≡ true) (mode : MallocMode) (g : ControlGraph) (low : LowerOf p mode g) where
+module _ (p : Program) (typed : is_typed p ≡ true) (none : p.funcs ≡ []) (mode : MallocMode) (g : ControlGraph)
+    (low : LowerOf p mode g) where
   abbrev pub first : Store
   first = empty_store (length p.vars) (length p.data_vars)
 
@@ -137,7 +138,7 @@ module _ (p : Program) (typed : is_typed p ≡ true) (mode : MallocMode) (g : Co
       sizes (places low.items Done)
   rowed = bounded _ (Ranged p) sizes (places low.items Done) low.rows
       (places_ranged p low.items Done
-      (unmarked p low.line low.items (subst (Ranged p) (sym low.is_program) (start_ranged p typed))) tt)
+      (unmarked p low.line low.items (subst (Ranged p) (sym low.is_program) (start_ranged p typed none))) tt)
 
   pub ready : Ready p typed mode g.edges low.line low.at low.mids rowed.most low.exit low.items first
   ready = record {

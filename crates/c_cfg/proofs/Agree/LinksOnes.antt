@@ -6,6 +6,7 @@ use Rattle.c_types.specs.declared.program.PtrRhs.{PtrRhs}
 use Rattle.c_types.specs.declared.program.PtrRhs.TheVariants.{Path as RhsPath, Null as RhsNull, New as RhsNew}
 use Rattle.c_types.specs.declared.program.Act.{Act}
 use Rattle.c_types.specs.declared.program.Act.TheVariants.{SetPtr, SetData, Free, Error, Halt, Return, Break, Continue}
+use Rattle.c_types.specs.declared.program.Act.TheVariants.{Leave as LeaveAct}
 use Rattle.c_types.specs.declared.program.PtrOp.{PtrOp}
 use Rattle.c_types.specs.declared.program.DataOp.{DataOp}
 use Rattle.c_types.specs.Control.{Items, closed_ptrs, closed_datums}
@@ -71,6 +72,7 @@ module _ (nv nd : ℕ) where
   act_row_takes mode (Free q) is = in_mode mode false (free_row nv nd q) (freed_plain nv nd q)
   act_row_takes mode Error is = in_mode mode false (One (Stop true) ∷ []) (refl, tt)
   act_row_takes mode Halt is = in_mode mode false (One (Stop false) ∷ []) (refl, tt)
+  act_row_takes mode (LeaveAct f value) is = in_mode mode false (One (Stop false) ∷ []) (refl, tt)
   act_row_takes mode (Return operand) is =
       in_mode mode false (return_row nv nd operand) (returned_plain nv nd operand)
   act_row_takes mode Break is = in_mode mode false (One (Kill (closed_ptrs is) (closed_datums is)) ∷ []) (refl, tt)

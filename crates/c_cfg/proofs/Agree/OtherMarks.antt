@@ -10,12 +10,14 @@ use Rattle.c_types.specs.declared.mode.MallocMode.{MallocMode}
 use Rattle.c_types.specs.declared.outcome.Outcome.{Outcome}
 use Rattle.c_types.specs.declared.program.Act.{Act}
 use Rattle.c_types.specs.declared.program.Act.TheVariants.{SetPtr, SetData, Free, Error, Halt, Return, Break, Continue}
+use Rattle.c_types.specs.declared.program.Act.TheVariants.{Leave as LeaveAct}
 use Rattle.c_types.specs.Program.{Program}
 use Rattle.c_types.specs.Control.{Items, Done, Do, Close, If, Loop, Again, DoLoop, DoAgain, Test, Ask, Not, Both}
-use Rattle.c_types.specs.Control.{Either, ◌then◌, ask, round, do_round, open_before, opened, after_again, from_again}
+use Rattle.c_types.specs.Control.{Either, Enter, Leave, Exit, ◌then◌, ask, round, do_round, open_before, opened}
+use Rattle.c_types.specs.Control.{after_again, from_again, exit_after, from_exit}
 use Rattle.c_types.specs.Control.{closed_ptrs, closed_datums, merged}
 use Rattle.c_types.specs.Steps.{assign, assign_data, free_path, look_at, all_dead, settle, settled, finished, act_turn}
-use Rattle.c_types.specs.Steps.{act_takes, atom_of, atom_takes, test_turn}
+use Rattle.c_types.specs.Steps.{act_takes, atom_of, atom_takes, test_turn, enter, leave, exit}
 use Rattle.c_types.specs.Runs.{supply, after_turn, at_end, advance, go, own_line}
 use Rattle.c_types.specs.Fits.{ItemsFit}
 use Rattle.c_cfg.specs.Places.{remark, remark_test}
@@ -30,6 +32,9 @@ module _ (f : ℕ → ℕ) where
   remark_then (Again c n b is) d = ap (Again (remark_test f c) (remark f n) (remark f b)) (remark_then is d)
   remark_then (DoLoop c b is) d = ap (DoLoop (remark_test f c) (remark f b)) (remark_then is d)
   remark_then (DoAgain c b is) d = ap (DoAgain (remark_test f c) (remark f b)) (remark_then is d)
+  remark_then (Enter vs ws m is) d = ap (Enter vs ws (f m)) (remark_then is d)
+  remark_then (Leave v vs a m is) d = ap (Leave v vs a (f m)) (remark_then is d)
+  remark_then (Exit v vs e m is) d = ap (Exit v vs e (f m)) (remark_then is d)
 
   remark_ask : (c : Test) (x y r : Items) → remark f (ask c x y r)
       ≡ ask (remark_test f c) (remark f x) (remark f y) (remark f r)
@@ -70,6 +75,9 @@ module _ (f : ℕ → ℕ) where
       (asks c (do_round c b) (is then r) _ _ (remark_then b (DoAgain c b Done)) (remark_then is r))
   remark_open (DoAgain c b is) r o =
       asks c (do_round c b) (is then r) _ _ (remark_then b (DoAgain c b Done)) (remark_then is r)
+  remark_open (Enter vs ws m is) r o = ap (Enter vs ws (f m)) (remark_then is r)
+  remark_open (Leave v vs a m is) r o = ap (Leave v vs a (f m)) (remark_then is r)
+  remark_open (Exit v vs d m is) r o = ap (Exit v vs d (f m)) (remark_then is r)
 
   remark_after : (is : Items) → after_again (remark f is) ≡ remark f (after_again is)
   remark_after Done = refl
@@ -80,6 +88,9 @@ module _ (f : ℕ → ℕ) where
   remark_after (Again c n b is) = refl
   remark_after (DoLoop c b is) = remark_after is
   remark_after (DoAgain c b is) = refl
+  remark_after (Enter vs ws m is) = remark_after is
+  remark_after (Leave v vs a m is) = remark_after is
+  remark_after (Exit v vs d m is) = remark_after is
 
   remark_from : (is : Items) → from_again (remark f is) ≡ remark f (from_again is)
   remark_from Done = refl
@@ -90,6 +101,26 @@ module _ (f : ℕ → ℕ) where
   remark_from (Again c n b is) = refl
   remark_from (DoLoop c b is) = remark_from is
   remark_from (DoAgain c b is) = refl
+  remark_from (Enter vs ws m is) = remark_from is
+  remark_from (Leave v vs a m is) = remark_from is
+  remark_from (Exit v vs d m is) = remark_from is
+
+  remark_exit_after : (n : ℕ) (is : Items) → exit_after n (remark f is) ≡ remark f (exit_after n is)
+  remark_exit_after n Done = refl
+  remark_exit_after n (Do a m is) = remark_exit_after n is
+  remark_exit_after n (Close ps ds m is) = remark_exit_after n is
+  remark_exit_after n (If c x y is) = remark_exit_after n is
+  remark_exit_after n (Loop c k b is) = remark_exit_after n is
+  remark_exit_after n (Again c k b is) = remark_exit_after n is
+  remark_exit_after n (DoLoop c b is) = remark_exit_after n is
+  remark_exit_after n (DoAgain c b is) = remark_exit_after n is
+  remark_exit_after n (Enter vs ws m is) = remark_exit_after (suc n) is
+  remark_exit_after n (Leave v vs a m is) = remark_exit_after n is
+  remark_exit_after zero (Exit v vs d m is) = refl
+  remark_exit_after (suc n) (Exit v vs d m is) = remark_exit_after n is
+
+  remark_exit : (is : Items) → from_exit (remark f is) ≡ remark f (from_exit is)
+  remark_exit is = remark_exit_after 0 is
 
   remark_ptrs : (is : Items) → closed_ptrs (remark f is) ≡ closed_ptrs is
   remark_ptrs Done = refl
@@ -100,6 +131,9 @@ module _ (f : ℕ → ℕ) where
   remark_ptrs (Again c n b is) = refl
   remark_ptrs (DoLoop c b is) = remark_ptrs is
   remark_ptrs (DoAgain c b is) = refl
+  remark_ptrs (Enter vs ws m is) = remark_ptrs is
+  remark_ptrs (Leave v vs a m is) = remark_ptrs is
+  remark_ptrs (Exit v vs d m is) = remark_ptrs is
 
   remark_datums : (is : Items) → closed_datums (remark f is) ≡ closed_datums is
   remark_datums Done = refl
@@ -110,6 +144,9 @@ module _ (f : ℕ → ℕ) where
   remark_datums (Again c n b is) = refl
   remark_datums (DoLoop c b is) = remark_datums is
   remark_datums (DoAgain c b is) = refl
+  remark_datums (Enter vs ws m is) = remark_datums is
+  remark_datums (Leave v vs a m is) = remark_datums is
+  remark_datums (Exit v vs d m is) = remark_datums is
 
   -- Steps
 
@@ -132,10 +169,14 @@ module _ (f : ℕ → ℕ) where
         here true leak = rw leak refl
         here false fine = rw fine (ap (λ z. next z s) e ∙ same is s)
 
+    settled_as : (r : Result Store Kind) (is js : Items) → js ≡ remark f is → after_turn (settled r js) line step next
+        ≡ after_turn (settled r is) line step other
+    settled_as (Ok s) is js e = settle_same s is js e
+    settled_as (Err k) is js e = refl
+
     settled_same : (r : Result Store Kind) (is : Items) → after_turn (settled r (remark f is)) line step next
         ≡ after_turn (settled r is) line step other
-    settled_same (Ok s) is = settle_same s is (remark f is) refl
-    settled_same (Err k) is = refl
+    settled_same r is = settled_as r is (remark f is) refl
 
     finished_same : (r : Result Store Kind) → after_turn (finished r) line step next
         ≡ after_turn (finished r) line step other
@@ -162,6 +203,7 @@ module _ (f : ℕ → ℕ) where
     act_same shapes mode (Free p) is s x = settled_same (free_path s p) is
     act_same shapes mode Error is s x = refl
     act_same shapes mode Halt is s x = refl
+    act_same shapes mode (LeaveAct g value) is s x = refl
     act_same shapes mode (Return operand) is s x = finished_same (look_at s operand)
     act_same shapes mode Break is s x =
         ap
@@ -205,6 +247,15 @@ module _ (f : ℕ → ℕ) where
     advance_same next other same (Again c n b is) st s cs u = refl
     advance_same next other same (DoLoop c b is) st s cs u = refl
     advance_same next other same (DoAgain c b is) st s cs u = refl
+    advance_same next other same (Enter vs ws m is) st s cs u =
+        settled_same (f m) (st + 1) (λ js t. next (st + 1) js t cs u) (λ js t. other (st + 1) js t cs u)
+        (λ js t. same (st + 1) js t cs u) (enter s vs ws) is
+    advance_same next other same (Leave v vs a m is) st s cs u =
+        settled_as (f m) (st + 1) (λ js t. next (st + 1) js t cs u) (λ js t. other (st + 1) js t cs u)
+        (λ js t. same (st + 1) js t cs u) (leave s v vs a) (from_exit is) (from_exit (remark f is)) (remark_exit is)
+    advance_same next other same (Exit v vs d m is) st s cs u =
+        settled_same (f m) (st + 1) (λ js t. next (st + 1) js t cs u) (λ js t. other (st + 1) js t cs u)
+        (λ js t. same (st + 1) js t cs u) (exit s v vs d) is
 
     end_same : (o : Items) (st : ℕ) → at_end (remark f o) st ≡ at_end o st
     end_same Done st = refl
@@ -215,6 +266,9 @@ module _ (f : ℕ → ℕ) where
     end_same (Again c n b is) st = refl
     end_same (DoLoop c b is) st = refl
     end_same (DoAgain c b is) st = refl
+    end_same (Enter vs ws m is) st = refl
+    end_same (Leave v vs a m is) st = refl
+    end_same (Exit v vs d m is) st = refl
 
     pub go_same : (n st : ℕ) (c : Items) (s : Store) (cs : List ℕ) (u : ℕ)
         → go shapes mode own_line at_end n st (remark f c) s cs u ≡ go shapes mode f at_end n st c s cs u
@@ -240,3 +294,6 @@ module _ (f : ℕ → ℕ) where
     items_marked (Again c n b is) h = (items_marked n h.0, items_marked b h.1, items_marked is h.2)
     items_marked (DoLoop c b is) h = (items_marked b h.0, items_marked is h.1)
     items_marked (DoAgain c b is) h = (items_marked b h.0, items_marked is h.1)
+    items_marked (Enter vs ws m is) h = (h.0, items_marked is h.1)
+    items_marked (Leave v vs a m is) h = (h.0, items_marked is h.1)
+    items_marked (Exit v vs d m is) h = (h.0, items_marked is h.1)

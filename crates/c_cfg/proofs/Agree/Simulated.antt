@@ -12,8 +12,8 @@ use Rattle.c_types.specs.declared.program.Atom.{Atom}
 use Rattle.c_types.specs.declared.program.Atom.TheVariants.{Choice as ChoiceAtom, Known as KnownAtom, Ptr as PtrAtom}
 use Rattle.c_types.specs.declared.program.Atom.TheVariants.{Data as DataAtom}
 use Rattle.c_types.specs.Program.{Program, is_typed}
-use Rattle.c_types.specs.Control.{Items, Done, Do, Close, If, Loop, Again, DoLoop, DoAgain, Ask, Not, Both, Either}
-use Rattle.c_types.specs.Control.{◌then◌, opened}
+use Rattle.c_types.specs.Control.{Items, Done, Do, Close, If, Loop, Again, DoLoop, DoAgain, Enter, Leave, Exit, Ask}
+use Rattle.c_types.specs.Control.{Not, Both, Either, ◌then◌, opened}
 use Rattle.c_types.specs.Steps.{Goes, turn_of}
 use Rattle.c_types.specs.Runs.{supply, at_end, advance, go}
 use Rattle.c_types.specs.Fits.{FitsProgram, ItemsFit}
@@ -234,6 +234,9 @@ module _ (p : Program) (typed : is_typed p ≡ true) (mode : MallocMode) (edges 
   over_start (Again c n b is) st m q g cs u = tt
   over_start (DoLoop c b is) st m q g cs u = tt
   over_start (DoAgain c b is) st m q g cs u = tt
+  over_start (Enter vs ws k is) st m q g cs u = tt
+  over_start (Leave v vs a k is) st m q g cs u = tt
+  over_start (Exit v vs d k is) st m q g cs u = tt
 
   -- where the program's run is over, so is the graph's
   pub over : (n m : ℕ) → fuel most n ≤ m → (c : Items) (s : Store) → Ready c s → (st q : ℕ) (cs : List ℕ) (u : ℕ)
@@ -277,6 +280,9 @@ module _ (p : Program) (typed : is_typed p ≡ true) (mode : MallocMode) (edges 
   still_start (Again c k b is) h st q = absurd h.0
   still_start (DoLoop c b is) h st q = absurd h.0
   still_start (DoAgain c b is) h st q = absurd h.0
+  still_start (Enter vs ws m is) h st q = absurd h.1
+  still_start (Leave v vs a m is) h st q = absurd h.1
+  still_start (Exit v vs d m is) h st q = absurd h.1
 
   -- one step, given the runs after it
   module _ (n : ℕ) (later : (c : Items) (s : Store) → Ready c s → (st q : ℕ) (cs : List ℕ) (u : ℕ)
@@ -327,6 +333,9 @@ module _ (p : Program) (typed : is_typed p ≡ true) (mode : MallocMode) (edges 
     step_goes (Again d k b js) h is = absurd h.0
     step_goes (DoLoop d b js) h is = absurd h.0
     step_goes (DoAgain d b js) h is = absurd h.0
+    step_goes (Enter vs ws m js) h is = absurd h.1
+    step_goes (Leave v vs a m js) h is = absurd h.1
+    step_goes (Exit v vs d m js) h is = absurd h.1
 
   -- while the program's run goes on, so does the graph's
   pub goes_on : (n : ℕ) (c : Items) (s : Store) → Ready c s → (st q : ℕ) (cs : List ℕ) (u : ℕ)

@@ -12,14 +12,15 @@ use Rattle.c_types.specs.declared.outcome.Outcome.{Outcome}
 use Rattle.c_types.specs.declared.outcome.Outcome.TheVariants.{Ended, Fault, StillRunning}
 use Rattle.c_types.specs.declared.program.Act.{Act}
 use Rattle.c_types.specs.declared.program.Act.TheVariants.{SetPtr, SetData, Free, Error, Halt, Return, Break, Continue}
+use Rattle.c_types.specs.declared.program.Act.TheVariants.{Leave as LeaveAct}
 use Rattle.c_types.specs.declared.program.PtrOp.{PtrOp}
 use Rattle.c_types.specs.declared.program.DataOp.{DataOp}
 use Rattle.c_types.specs.declared.program.Atom.{Atom}
 use Rattle.c_types.specs.declared.program.Atom.TheVariants.{Choice as ChoiceAtom, Known as KnownAtom, Ptr as PtrAtom}
 use Rattle.c_types.specs.declared.program.Atom.TheVariants.{Data as DataAtom}
 use Rattle.c_types.specs.Program.{Program, is_typed}
-use Rattle.c_types.specs.Control.{Items, Done, Do, Close, If, Loop, Again, DoLoop, DoAgain, Ask, Not, Both, Either}
-use Rattle.c_types.specs.Control.{◌then◌, opened}
+use Rattle.c_types.specs.Control.{Items, Done, Do, Close, If, Loop, Again, DoLoop, DoAgain, Enter, Leave, Exit, Ask}
+use Rattle.c_types.specs.Control.{Not, Both, Either, ◌then◌, opened}
 use Rattle.c_types.specs.Steps.{Turn, Goes, Stops, Faults, read_op, read_data_op, same_values, same_datums, agrees}
 use Rattle.c_types.specs.Steps.{atom_of, act_takes, all_dead, settle, act_turn, test_turn, turn_of}
 use Rattle.c_types.specs.Runs.{supply, after_turn, at_end, advance}
@@ -31,7 +32,8 @@ use Rattle.c_cfg.specs.declared.graph.Instr.TheVariants.{Kill, Choose}
 use Rattle.c_cfg.specs.declared.graph.Edge.{Edge}
 use Rattle.c_cfg.specs.Edges.{Pass, Halted}
 use Rattle.c_cfg.specs.GraphRuns.{out_of, unless_left, leave}
-use Rattle.c_cfg.specs.Links.{Link, One, links_in, act_row, ptr_loads, ptr_ends, cmp_loads, data_ends}
+use Rattle.c_cfg.specs.Links.{Link, One, links_in, act_row, ptr_loads, ptr_ends, cmp_loads, data_ends, enter_row}
+use Rattle.c_cfg.specs.Links.{leave_row, exit_row}
 use Rattle.c_cfg.specs.Lowering.{edge, IsTestRow, IsRow, followed_by}
 use Rattle.c_cfg.proofs.Agree.Temporaries.{ext0}
 use Rattle.c_cfg.proofs.Agree.Passing.{settled_pass, onward_onward}
@@ -64,6 +66,9 @@ module _ (nv nd : ℕ) where
   size (Again c n b is) = 0
   size (DoLoop c b is) = 0
   size (DoAgain c b is) = 0
+  size (Enter vs ws m is) = length (enter_row nv nd vs ws)
+  size (Leave v vs a m is) = length (leave_row nv nd v vs a)
+  size (Exit v vs d m is) = length (exit_row nv nd v vs d)
 
 -- the side of a test
 abbrev pub side : Items → Items → Items → Bool → Items
@@ -112,6 +117,7 @@ module _ (p : Program) (mode : MallocMode) (edges : List Edge) (line : ℕ → �
   each_followed (Free q) is h = h
   each_followed Error is h = tt
   each_followed Halt is h = tt
+  each_followed (LeaveAct f value) is h = tt
   each_followed (Return operand) is h = tt
   each_followed Break is h = each_after IsKnown is h
   each_followed Continue is h = each_from IsKnown is h
@@ -165,6 +171,7 @@ module _ (p : Program) (typed : is_typed p ≡ true) (mode : MallocMode) (Rel : 
     act_stops (Free g) is l ds v = λ r. equal _ _ refl
     act_stops Error is l ds v = λ r. equal _ _ refl
     act_stops Halt is l ds v = λ r. equal _ _ refl
+    act_stops (LeaveAct f value) is l ds v = λ r. equal _ _ refl
     act_stops (Return operand) is l ds v = λ r. equal _ _ (sym (exit_ends exit n r (ext0 (all_dead s)) ds v))
     act_stops Break is l ds v = λ r. equal _ _ refl
     act_stops Continue is l ds v = λ r. equal _ _ refl
@@ -349,3 +356,6 @@ module _ (p : Program) (typed : is_typed p ≡ true) (mode : MallocMode) (Rel : 
     step_alike (Again c k b is) h fits on = absurd h.0.0
     step_alike (DoLoop c b is) h fits on = absurd h.0.0
     step_alike (DoAgain c b is) h fits on = absurd h.0.0
+    step_alike (Enter vs ws m is) h fits on = absurd h.0.1
+    step_alike (Leave v vs a m is) h fits on = absurd h.0.1
+    step_alike (Exit v vs d m is) h fits on = absurd h.0.1

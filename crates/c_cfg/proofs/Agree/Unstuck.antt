@@ -13,12 +13,13 @@ use Rattle.fore_base.proofs.ListLemmas.{every_in, every_parts}
 use Rattle.c_types.specs.declared.mode.MallocMode.{MallocMode}
 use Rattle.c_types.specs.declared.program.Act.{Act}
 use Rattle.c_types.specs.declared.program.Act.TheVariants.{SetPtr, SetData, Free, Error, Halt, Return, Break, Continue}
+use Rattle.c_types.specs.declared.program.Act.TheVariants.{Leave as LeaveAct}
 use Rattle.c_types.specs.declared.program.Atom.{Atom}
 use Rattle.c_types.specs.declared.program.Atom.TheVariants.{Choice as ChoiceAtom, Known as KnownAtom, Ptr as PtrAtom}
 use Rattle.c_types.specs.declared.program.Atom.TheVariants.{Data as DataAtom}
 use Rattle.c_types.specs.Program.{Program, is_typed}
-use Rattle.c_types.specs.Control.{Items, Done, Do, Close, If, Loop, Again, DoLoop, DoAgain, Ask, Not, Both, Either}
-use Rattle.c_types.specs.Control.{◌then◌, opened}
+use Rattle.c_types.specs.Control.{Items, Done, Do, Close, If, Loop, Again, DoLoop, DoAgain, Enter, Leave, Exit, Ask}
+use Rattle.c_types.specs.Control.{Not, Both, Either, ◌then◌, opened}
 use Rattle.c_types.specs.Steps.{Turn, Goes, Stops, Faults, act_takes, settle, act_turn, turn_of, all_dead, below}
 use Rattle.c_types.specs.Fits.{ItemsFit}
 use Rattle.c_types.proofs.ItemsTyped.{then_fit, opened_fit}
@@ -178,6 +179,7 @@ module _ (p : Program) (typed : is_typed p ≡ true) (mode : MallocMode) (edges 
   among_followed (Free q) is h = h
   among_followed Error is h = tt
   among_followed Halt is h = tt
+  among_followed (LeaveAct f value) is h = tt
   among_followed (Return operand) is h = tt
   among_followed Break is h = each_after Among is h
   among_followed Continue is h = each_from Among is h
@@ -485,6 +487,7 @@ module _ (p : Program) (typed : is_typed p ≡ true) (mode : MallocMode) (edges 
     act_stops (Free q) is = tt
     act_stops Error is = tt
     act_stops Halt is = tt
+    act_stops (LeaveAct f value) is = tt
     act_stops (Return operand) is =
         inl
         (record { store = all_dead t; is_at = refl; is_ext = refl; sized = dead_sized _ _ t (sound_sized p t r.sound) })
@@ -582,6 +585,9 @@ module _ (p : Program) (typed : is_typed p ≡ true) (mode : MallocMode) (edges 
     place_steps (Again d k b is) e h among fits = absurd h.0.0
     place_steps (DoLoop d b is) e h among fits = absurd h.0.0
     place_steps (DoAgain d b is) e h among fits = absurd h.0.0
+    place_steps (Enter vs ws m is) e h among fits = absurd h.0.1
+    place_steps (Leave v vs a m is) e h among fits = absurd h.0.1
+    place_steps (Exit v vs d m is) e h among fits = absurd h.0.1
 
   -- Wherever a run can be
 
@@ -623,17 +629,18 @@ module _ (p : Program) (typed : is_typed p ≡ true) (mode : MallocMode) (edges 
       here (l ∷ ls) [] e h inside = absurd e
       here (l ∷ ls) (m ∷ ms) e h inside = inl inside.0
 
-module _ (p : Program) (typed : is_typed p ≡ true) (mode : MallocMode) (g : ControlGraph) (low : LowerOf p mode g) where
+module _ (p : Program) (typed : is_typed p ≡ true) (none : p.funcs ≡ []) (mode : MallocMode) (g : ControlGraph)
+    (low : LowerOf p mode g) where
   abbrev IsSeen : ℕ → Store → Type 0
   IsSeen k s = Seen p typed mode g.edges low.line low.at low.mids
-      (rowed p typed mode g low).most low.exit (places low.items Done) k s
+      (rowed p typed none mode g low).most low.exit (places low.items Done) k s
 
   steps : (k : ℕ) (s : Store) → IsSeen k s
       → StepsOn p typed mode g.edges low.line low.at low.mids
-      (rowed p typed mode g low).most low.exit (places low.items Done)
+      (rowed p typed none mode g low).most low.exit (places low.items Done)
       (out_of g.edges k) s
   steps k s h = seen_steps p typed mode g.edges low.line low.at low.mids
-      (rowed p typed mode g low).most low.exit
+      (rowed p typed none mode g low).most low.exit
       (places low.items Done) k s h
 
   same_shapes : g.shapes.structs ≡ p.shapes.structs
@@ -642,22 +649,22 @@ module _ (p : Program) (typed : is_typed p ≡ true) (mode : MallocMode) (g : Co
   visits_seen : {k : ℕ} {s : Store} → Visits g k s → IsSeen k s
   visits_seen begin =
       here_seen p typed mode g.edges low.line low.at low.mids
-      (rowed p typed mode g low).most low.exit (places low.items Done) 0 _
+      (rowed p typed none mode g low).most low.exit (places low.items Done) 0 _
       (inl
       (inr
       (record {
         items = low.items;
-        store = first p typed mode g low;
+        store = first p typed none mode g low;
         is_at = sym low.entry;
-        is_ext = sym (begins p typed mode g low);
-        is_ready = ready p typed mode g low;
+        is_ext = sym (begins p typed none mode g low);
+        is_ready = ready p typed none mode g low;
         among =
             each _ low.items Done (every_own (places low.items Done));
       })))
   visits_seen (by_edge {k} {s} {t} e before there got) =
       every_in
       (Good p typed mode g.edges low.line low.at low.mids
-      (rowed p typed mode g low).most low.exit (places low.items Done) s)
+      (rowed p typed none mode g low).most low.exit (places low.items Done) s)
       (out_of g.edges k) e ((steps k s (visits_seen before)).each_good) there t
       (subst (λ shapes. gstep shapes e s ≡ Passed t) same_shapes got)
 
@@ -669,11 +676,11 @@ module _ (p : Program) (typed : is_typed p ≡ true) (mode : MallocMode) (g : Co
   -- in the middle of the step of a place
   abbrev pub Middle : ℕ → Type 0
   Middle k = IsMid p typed mode g.edges low.line low.at low.mids
-      (rowed p typed mode g low).most low.exit (places low.items Done) k
+      (rowed p typed none mode g low).most low.exit (places low.items Done) k
 
   pub middle_or_unset : (k : ℕ) (s : Store) → Visits g k s → Middle k
       ⊎ TemporariesUnset (length p.vars) (length p.data_vars) s
   middle_or_unset k s visits =
       seen_unset p typed mode g.edges low.line low.at low.mids
-      (rowed p typed mode g low).most low.exit (places low.items Done) k
+      (rowed p typed none mode g low).most low.exit (places low.items Done) k
       s (visits_seen visits)

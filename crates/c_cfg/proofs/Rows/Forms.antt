@@ -81,5 +81,6 @@ main ptrs datums body =
       shapes = record { structs = two };
       vars = replicate ptrs (record { name = []; shape = 0 });
       data_vars = replicate datums [];
+      funcs = [];
       body = Group body [] [] 0 ∷ [];
     }

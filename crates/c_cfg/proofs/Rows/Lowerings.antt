@@ -21,7 +21,7 @@ use Rattle.c_types.specs.declared.program.Cond.TheVariants.{Any as AnyCond}
 use Rattle.c_types.specs.declared.program.Stmt.TheVariants.{Do as DoStmt, Branch, While, DoWhile, For, Group}
 use Rattle.c_types.specs.Program.{Program}
 use Rattle.c_types.specs.Control.{Items, Done, Do, Close, If, Loop, Again, DoLoop, DoAgain, Ask, Not, Both, Either}
-use Rattle.c_types.specs.Control.{start_of}
+use Rattle.c_types.specs.Control.{Enter, Leave, Exit, start_of}
 use Rattle.c_types.specs.Steps.{mark_of}
 use Rattle.c_types.proofs.Layers.{layers}
 use Rattle.c_cfg.specs.declared.graph.PtrArg.TheVariants.{Var as PtrVar, Null as PtrNull}
@@ -43,6 +43,9 @@ located exit (Loop c n b is) = exit
 located exit (Again c n b is) = exit
 located exit (DoLoop c b is) = exit
 located exit (DoAgain c b is) = exit
+located exit (Enter vs ws m is) = m
+located exit (Leave v vs a m is) = m
+located exit (Exit v vs d m is) = m
 
 -- that numbers differ, by a test
 abbrev all_differ : List ℕ → Bool
@@ -207,7 +210,7 @@ going_on_is : remark going_on_line going_on_items ≡ start_of going_on
 going_on_is = simp layers refl
 
 -- a step of one edge, to this location
-abbrev one : ℕ → List ℕ
+abbrev pub one : ℕ → List ℕ
 one to = to ∷ []
 
 going_on_lowers : LowerOf going_on Always going_on_graph

@@ -2,11 +2,11 @@
 use Rattle.std.specs.Prelude.{ℕ, zero, suc, ◌+◌, List, [], ◌∷◌, ◌++◌, None, map}
 use Rattle.c_types.specs.declared.program.Act.{Act}
 use Rattle.c_types.specs.declared.program.Act.TheVariants.{SetPtr, SetData, Free as FreeAct, Error, Halt, Return, Break}
-use Rattle.c_types.specs.declared.program.Act.TheVariants.{Continue}
+use Rattle.c_types.specs.declared.program.Act.TheVariants.{Continue, Leave as LeaveAct}
 use Rattle.c_types.specs.declared.program.Cond.{Cond}
 use Rattle.c_types.specs.declared.program.Stmt.{Stmt}
 use Rattle.c_types.specs.Control.{Items, Done, Do, Close, If, Loop, Again, DoLoop, DoAgain, Test, Ask, Not, Both}
-use Rattle.c_types.specs.Control.{Either, joined, merged, test_of, items_of, all_before}
+use Rattle.c_types.specs.Control.{Either, Enter, Leave, Exit, joined, merged, test_of, items_of, all_before}
 use Rattle.c_cfg.specs.declared.graph.Instr.TheVariants.{Kill}
 use Rattle.c_cfg.specs.declared.graph.Edge.{Edge}
 use Rattle.c_lower.specs.declared.around.Around.{Around}
@@ -33,6 +33,9 @@ ptrs_of (Loop c n b is) base = ptrs_of is base
 ptrs_of (Again c n b is) base = []
 ptrs_of (DoLoop c b is) base = ptrs_of is base
 ptrs_of (DoAgain c b is) base = []
+ptrs_of (Enter vs ws m is) base = ptrs_of is base
+ptrs_of (Leave v vs a m is) base = ptrs_of is base
+ptrs_of (Exit v vs d m is) base = ptrs_of is base
 
 abbrev pub datums_of : Items → List ℕ → List ℕ
 datums_of Done base = base
@@ -43,6 +46,9 @@ datums_of (Loop c n b is) base = datums_of is base
 datums_of (Again c n b is) base = []
 datums_of (DoLoop c b is) base = datums_of is base
 datums_of (DoAgain c b is) base = []
+datums_of (Enter vs ws m is) base = datums_of is base
+datums_of (Leave v vs a m is) base = datums_of is base
+datums_of (Exit v vs d m is) base = datums_of is base
 
 -- what is around a part that stands before these items
 abbrev pub inside : Around → Items → Around
@@ -89,11 +95,12 @@ module _ (exit : ℕ) where
   act_to w Error k = exit
   act_to w Halt k = exit
   act_to w (Return operand) k = exit
+  act_to w (LeaveAct f value) k = exit
   act_to w Break k = w.leave
   act_to w Continue k = w.again
 
 module _ (nv nd exit : ℕ) where
-  -- items whose first location is i and that stand before the location k
+  -- items whose first location is i and that stand before the location k (there is no Again, and no call)
   abbrev pub emit : Items → Around → ℕ → ℕ → List Edge
   emit Done w i k = []
   emit (Do a m is) w i k =
@@ -117,6 +124,9 @@ module _ (nv nd exit : ℕ) where
       emit b (in_loop after i1) i i1 ++ (emit_test nv nd c i1 (first_of (width nv nd b) i i1) after ++ emit is w i2 k)
   emit (Again c n b is) w i k = []
   emit (DoAgain c b is) w i k = []
+  emit (Enter vs ws m is) w i k = []
+  emit (Leave v vs a m is) w i k = []
+  emit (Exit v vs d m is) w i k = []
 
 -- The loop heads among them
 module _ (nv nd : ℕ) where
@@ -135,6 +145,9 @@ module _ (nv nd : ℕ) where
       i1 ∷ head_numbers b i ++ head_numbers is i2
   head_numbers (Again c n b is) i = []
   head_numbers (DoAgain c b is) i = []
+  head_numbers (Enter vs ws m is) i = []
+  head_numbers (Leave v vs a m is) i = []
+  head_numbers (Exit v vs d m is) i = []
 
 -- Conditions
 
@@ -145,13 +158,13 @@ joint_of Any = Either
 
 -- Statements
 
--- the items of a block's statements
+-- the items of a block's statements, in a program without functions
 abbrev pub items_in : List Stmt → Items
-items_in body = all_before (map items_of body) Done
+items_in body = all_before (map (items_of []) body) Done
 
 -- what is around a statement that stands before this one
 unfoldable pub inside_stmt : Around → Stmt → Around
-inside_stmt w s = inside w (items_of s Done)
+inside_stmt w s = inside w (items_of [] s Done)
 
 -- what is around a statement that stands before these
 unfoldable pub inside_all : Around → List Stmt → Around
@@ -174,7 +187,7 @@ module _ (nv nd : ℕ) where
 
   -- how many locations a statement takes, and all statements of a list
   unfoldable pub wide_stmt : Stmt → ℕ
-  wide_stmt s = width nv nd (items_of s Done)
+  wide_stmt s = width nv nd (items_of [] s Done)
 
   unfoldable pub wide_all : List Stmt → ℕ
   wide_all body = width nv nd (items_in body)
@@ -182,13 +195,13 @@ module _ (nv nd : ℕ) where
   module _ (exit : ℕ) where
     -- the edges of a statement, and of all statements of a list
     unfoldable pub emit_stmt : Stmt → Around → ℕ → ℕ → List Edge
-    emit_stmt s w i k = emit nv nd exit (items_of s Done) w i k
+    emit_stmt s w i k = emit nv nd exit (items_of [] s Done) w i k
 
     unfoldable pub emit_all : List Stmt → Around → ℕ → ℕ → List Edge
     emit_all body w i k = emit nv nd exit (items_in body) w i k
 
   unfoldable pub heads_stmt : Stmt → ℕ → List ℕ
-  heads_stmt s i = head_numbers nv nd (items_of s Done) i
+  heads_stmt s i = head_numbers nv nd (items_of [] s Done) i
 
   unfoldable pub heads_all : List Stmt → ℕ → List ℕ
   heads_all body i = head_numbers nv nd (items_in body) i

@@ -1,20 +1,24 @@
 -- One lowering: locations are numbered in order of the text, those in the middle of a step after the one at which it
 -- begins, and the exit last.
 use Rattle.std.specs.Prelude.{ℕ, zero, suc, pred, ◌+◌, List, [], ◌∷◌, ◌++◌, length, map, replicate, Bool, true, false}
-use Rattle.std.specs.Prelude.{Some, None, slice_index_or}
+use Rattle.std.specs.Prelude.{Option, Some, None, slice_index_or}
 use Rattle.c_types.specs.declared.program.Act.{Act}
+use Rattle.c_types.specs.declared.program.VarRef.{VarRef}
+use Rattle.c_types.specs.declared.program.Arg.{Arg}
+use Rattle.c_types.specs.declared.program.Dest.{Dest}
 use Rattle.c_types.specs.declared.program.Atom.{Atom}
 use Rattle.c_types.specs.declared.program.Atom.TheVariants.{Choice as ChoiceAtom, Known as KnownAtom, Ptr as PtrAtom}
 use Rattle.c_types.specs.declared.program.Atom.TheVariants.{Data as DataAtom}
 use Rattle.c_types.specs.Program.{Program}
 use Rattle.c_types.specs.Control.{Items, Done, Do, Close, If, Loop, Again, DoLoop, DoAgain, Test, Ask, Not, Both}
-use Rattle.c_types.specs.Control.{Either, ◌then◌, opened, start_of}
+use Rattle.c_types.specs.Control.{Either, Enter, Leave, Exit, ◌then◌, opened, from_exit, start_of}
 use Rattle.c_types.specs.Steps.{below, mark_of}
 use Rattle.c_cfg.specs.declared.graph.Instr.TheVariants.{Kill, Choose}
 use Rattle.c_cfg.specs.declared.graph.Edge.{Edge}
 use Rattle.c_cfg.specs.Graphs.{ControlGraph}
 use Rattle.c_cfg.specs.declared.link.Link.{Link}
-use Rattle.c_cfg.specs.Links.{act_row, ptr_loads, ptr_test, ptr_ends, cmp_loads, data_test, data_ends}
+use Rattle.c_cfg.specs.Links.{act_row, ptr_loads, ptr_test, ptr_ends, cmp_loads, data_test, data_ends, enter_row}
+use Rattle.c_cfg.specs.Links.{leave_row, exit_row}
 use Rattle.c_cfg.specs.Places.{places, heads}
 use Rattle.c_cfg.specs.Lowering.{edge, followed_by, is_one_of}
 use Rattle.c_links.specs.Chains.{chain}
@@ -33,6 +37,15 @@ module _ (nv nd : ℕ) where
   -- how many locations a step takes
   abbrev pub act_width : Act → ℕ
   act_width a = suc (pred (length (act_row nv nd a Done)))
+
+  abbrev pub enter_width : List VarRef → List Arg → ℕ
+  enter_width vs ws = suc (pred (length (enter_row nv nd vs ws)))
+
+  abbrev pub leave_width : Option VarRef → List VarRef → Option Arg → ℕ
+  leave_width v vs a = suc (pred (length (leave_row nv nd v vs a)))
+
+  abbrev pub exit_width : Option VarRef → List VarRef → Option Dest → ℕ
+  exit_width v vs d = suc (pred (length (exit_row nv nd v vs d)))
 
   abbrev pub atom_width : Atom → ℕ
   atom_width ChoiceAtom = 1
@@ -55,6 +68,9 @@ module _ (nv nd : ℕ) where
   width (Again c n b is) = width n + (test_width c + (width b + width is))
   width (DoLoop c b is) = width b + (test_width c + width is)
   width (DoAgain c b is) = test_width c + (width b + width is)
+  width (Enter vs ws m is) = enter_width vs ws + width is
+  width (Leave v vs a m is) = leave_width v vs a + width is
+  width (Exit v vs d m is) = exit_width v vs d + width is
 
   -- marks that are the locations, from i on
   abbrev pub number_test : Test → ℕ → Test
@@ -79,6 +95,9 @@ module _ (nv nd : ℕ) where
   number (DoLoop c b is) i = DoLoop (number_test c (i + width b)) (number b i) (number is (i + width b + test_width c))
   number (DoAgain c b is) i =
       DoAgain (number_test c i) (number b (i + test_width c)) (number is (i + test_width c + width b))
+  number (Enter vs ws m is) i = Enter vs ws i (number is (i + enter_width vs ws))
+  number (Leave v vs a m is) i = Leave v vs a i (number is (i + leave_width v vs a))
+  number (Exit v vs d m is) i = Exit v vs d i (number is (i + exit_width v vs d))
 
   -- each location's line
   abbrev pub test_lines : Test → List ℕ
@@ -96,6 +115,9 @@ module _ (nv nd : ℕ) where
   lines (Again c n b is) = lines n ++ (test_lines c ++ (lines b ++ lines is))
   lines (DoLoop c b is) = lines b ++ (test_lines c ++ lines is)
   lines (DoAgain c b is) = test_lines c ++ (lines b ++ lines is)
+  lines (Enter vs ws m is) = replicate (enter_width vs ws) m ++ lines is
+  lines (Leave v vs a m is) = replicate (leave_width v vs a) m ++ lines is
+  lines (Exit v vs d m is) = replicate (exit_width v vs d) m ++ lines is
 
   abbrev pub place_width : Items → ℕ
   place_width Done = 0
@@ -109,6 +131,9 @@ module _ (nv nd : ℕ) where
   place_width (Again c n b is) = 0
   place_width (DoLoop c b is) = 0
   place_width (DoAgain c b is) = 0
+  place_width (Enter vs ws m is) = enter_width vs ws
+  place_width (Leave v vs a m is) = leave_width v vs a
+  place_width (Exit v vs d m is) = exit_width v vs d
 
   abbrev pub mids_of : Items → List ℕ
   mids_of c = span (mark_of c + 1) (pred (place_width c))
@@ -141,6 +166,9 @@ module _ (nv nd : ℕ) where
     loc (Again c n b is) = 0
     loc (DoLoop c b is) = 0
     loc (DoAgain c b is) = 0
+    loc (Enter vs ws m is) = m
+    loc (Leave v vs a m is) = m
+    loc (Exit v vs d m is) = m
 
     -- the edges of a place
     abbrev pub place_edges : (ℕ → ℕ) → Items → List Edge
@@ -156,6 +184,9 @@ module _ (nv nd : ℕ) where
     place_edges line (Again c n b is) = []
     place_edges line (DoLoop c b is) = []
     place_edges line (DoAgain c b is) = []
+    place_edges line (Enter vs ws m is) = chain (line m) (enter_row nv nd vs ws) m (loc (opened is))
+    place_edges line (Leave v vs a m is) = chain (line m) (leave_row nv nd v vs a) m (loc (opened (from_exit is)))
+    place_edges line (Exit v vs d m is) = chain (line m) (exit_row nv nd v vs d) m (loc (opened is))
 
     abbrev pub all_edges : (ℕ → ℕ) → List Items → List Edge
     all_edges line [] = []
@@ -179,12 +210,16 @@ module _ (nv nd : ℕ) (items : Items) where
   abbrev pub heads_of : List Bool
   heads_of = map (is_one_of (map (loc nv nd exit_of) (heads numbered Done))) (below (exit_of + 1))
 
-abbrev pub lowered : Program → ControlGraph
-lowered p = record {
-  locations = exit_of (length p.vars) (length p.data_vars) (start_of p) + 1;
+-- a graph for these items, with a program's variables and structs
+abbrev pub graph_for : Program → Items → ControlGraph
+graph_for p is = record {
+  locations = exit_of (length p.vars) (length p.data_vars) is + 1;
   ptrs = length p.vars + 2;
   datums = length p.data_vars + 2;
-  edges = edges_of (length p.vars) (length p.data_vars) (start_of p);
-  heads = heads_of (length p.vars) (length p.data_vars) (start_of p);
+  edges = edges_of (length p.vars) (length p.data_vars) is;
+  heads = heads_of (length p.vars) (length p.data_vars) is;
   shapes = p.shapes;
 }
+
+abbrev pub lowered : Program → ControlGraph
+lowered p = graph_for p (start_of p)

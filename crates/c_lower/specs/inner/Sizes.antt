@@ -9,6 +9,7 @@ use Rattle.c_types.specs.declared.program.DataRhs.TheVariants.{Path as DataRhsPa
 use Rattle.c_types.specs.declared.program.DataRhs.TheVariants.{Choice as DataRhsChoice}
 use Rattle.c_types.specs.declared.program.Act.{Act}
 use Rattle.c_types.specs.declared.program.Act.TheVariants.{SetPtr, SetData, Free, Error, Halt, Return, Break, Continue}
+use Rattle.c_types.specs.declared.program.Act.TheVariants.{Leave as LeaveAct}
 use Rattle.c_types.specs.declared.program.PtrOp.{PtrOp}
 use Rattle.c_types.specs.declared.program.PtrOp.TheVariants.{Path as OpPath, Null as OpNull}
 use Rattle.c_types.specs.declared.program.DataOp.{DataOp}
@@ -81,6 +82,7 @@ act_size (Free q) = step_size (length q.fields)
 act_size Error = 1
 act_size Halt = 1
 act_size (Return operand) = return_size operand
+act_size (LeaveAct f value) = 1
 act_size Break = 1
 act_size Continue = 1
 

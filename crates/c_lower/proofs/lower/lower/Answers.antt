@@ -25,9 +25,10 @@ invariant_of-result c =
     let few : length c.in_ok-edges.edges < 2 ^ 32 = search rules in
     record {
       entry = omega (arith, locations);
-      heads = omega (arith, locations, heads_long p e exit c.in_ok-heads.heads heads);
+      heads = omega (arith, locations, heads_long p c.requires e exit c.in_ok-heads.heads heads);
       few = few;
-      choices = subst (Every HasItsChoice) (sym all) (choices_told p e exit c.args.mode c.in_ok-sure.sure edges);
+      choices = subst (Every HasItsChoice) (sym all)
+          (choices_told p c.requires e exit c.args.mode c.in_ok-sure.sure edges);
     }
 
 pub returns : goal.returns
@@ -46,12 +47,13 @@ returns c =
     let shapes : c.in_ok-shapes.shapes ≡ p.shapes = search rules in
     let low = subst
     (λ (es : List Edge). LowerOf p c.args.mode
-    (graph_of p c.in_ok-locations.locations c.all_ptrs.result c.all_datums.result es c.in_ok-heads.heads
-    c.in_ok-shapes.shapes)) (sym all)
-    (built p e exit c.args.mode c.in_ok-locations.locations c.all_ptrs.result c.all_datums.result c.in_ok-sure.sure
-    c.in_ok-heads.heads c.in_ok-shapes.shapes locations ptrs datums edges heads shapes) in
+    (graph_of p c.requires c.in_ok-locations.locations c.all_ptrs.result c.all_datums.result es
+    c.in_ok-heads.heads c.in_ok-shapes.shapes)) (sym all)
+    (built p c.requires e exit c.args.mode c.in_ok-locations.locations c.all_ptrs.result c.all_datums.result
+    c.in_ok-sure.sure c.in_ok-heads.heads c.in_ok-shapes.shapes locations ptrs datums edges heads shapes) in
     record {
       lowers = low;
       agrees =
-          agree p (subst (λ (q : Program). is_typed q ≡ true) c.program.view_is c.program.invariant) c.args.mode _ low;
+          agree p (subst (λ (q : Program). is_typed q ≡ true) c.program.view_is c.program.invariant) c.requires
+          c.args.mode _ low;
     }

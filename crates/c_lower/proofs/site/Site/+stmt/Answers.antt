@@ -4,7 +4,7 @@ use Rattle.c_lower.specs.inner.Emitting.{in_loop, closed, close_edges, inside_al
 use Rattle.c_lower.specs.inner.Sites.{stmt_edges, all_edges, span_of, branch_test, branch_spans, loop_test, loop_spans}
 use Rattle.c_lower.specs.inner.Sites.{do_span, do_test, group_spans}
 use Rattle.c_lower.proofs.Adding.{branch_added, for_added, while_added, do_added, group_added, room_left, one_added}
-use Rattle.c_lower.proofs.Adding.{none_left}
+use Rattle.c_lower.proofs.Adding.{call_added, none_left}
 use Rattle.c_lower.proofs.site.Site.+stmt.Goals as goal
 
 pub add_all-loop-at-preserved : goal.add_all-loop-at-preserved
@@ -27,6 +27,11 @@ add_all-loop-at-preserved t c =
 pub add_all-returns : goal.add_all-returns
 add_all-returns t c = none_left c.args.self.now c.args.body.now c.args.around.now c.loop-at.at c.loop-at.from
     c.args.span.then _ _ c.loop-at-test.false c.loop-at.invariant.edges
+
+pub add_stmt-returns-in-Call : goal.add_stmt-returns-in-Call
+add_stmt-returns-in-Call t c =
+    call_added c.args.self.now c.args.around.now c.args.span c.args.stmt.now c.args.edges.now c.in-Call.func
+    c.in-Call.args c.in-Call.to c.in-Call.line c.in-Call.is
 
 pub add_stmt-returns-in_ok-add_all-in-Branch : goal.add_stmt-returns-in_ok-add_all-in-Branch
 add_stmt-returns-in_ok-add_all-in-Branch t c =

@@ -3,7 +3,7 @@ use Rattle.std.proofs.lemmas.Result.{on_ok_weaker}
 use Rattle.c_lower.specs.inner.Emitting.{wide_stmt}
 use Rattle.c_lower.specs.inner.Sites.{test_room, room, stmt_heads, all_heads}
 use Rattle.c_lower.proofs.HeadsAdded.{do_heads, branch_heads, while_heads, do_while_heads, for_heads, one_headed}
-use Rattle.c_lower.proofs.HeadsAdded.{none_headed}
+use Rattle.c_lower.proofs.HeadsAdded.{call_heads, none_headed}
 use Rattle.c_lower.proofs.site.Site.+stmt_heads.Goals as goal
 
 pub add_heads-loop-stmt-preserved : goal.add_heads-loop-stmt-preserved
@@ -21,6 +21,11 @@ add_heads-returns t c = none_headed c.args.self.now c.args.body.now c.loop-stmt.
 pub add_heads_of-returns-in-Do : goal.add_heads_of-returns-in-Do
 add_heads_of-returns-in-Do t c =
     do_heads c.args.self.now c.args.stmt.now c.args.at c.args.heads.now c.in-Do.act c.in-Do.line c.in-Do.is
+
+pub add_heads_of-returns-in-Call : goal.add_heads_of-returns-in-Call
+add_heads_of-returns-in-Call t c =
+    call_heads c.args.self.now c.args.stmt.now c.args.at c.args.heads.now c.in-Call.func c.in-Call.args c.in-Call.to
+    c.in-Call.line c.in-Call.is
 
 pub add_heads_of-returns-in_ok-add_heads-in-Branch : goal.add_heads_of-returns-in_ok-add_heads-in-Branch
 add_heads_of-returns-in_ok-add_heads-in-Branch t c =
