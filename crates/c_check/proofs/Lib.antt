@@ -5,7 +5,6 @@ pub mod FirstFaults
 pub mod ItemLemmas
 pub mod KeptLemmas
 pub mod LoopLemmas
-pub mod MakingLemmas
 pub mod ProgramLemmas
 pub mod StatementLemmas
 pub mod Swapping

@@ -6,7 +6,7 @@ use Rattle.fore_base.proofs.ListLemmas.{drop_item}
 use Rattle.c_ast.specs.declared.statements.Part.{Part}
 use Rattle.c_typing.specs.BodySites.{part_sites, parts_sites}
 use Rattle.c_typing.specs.Globals.{Globals}
-use Rattle.c_typing.specs.Scopes.{Scope, past_part, past_parts}
+use Rattle.c_typing.specs.Scopes.{Scope, past_part}
 use Rattle.c_typing.specs.Sites.{Site}
 use Rattle.c_typing.specs.declared.fault.TypeFault.{TypeFault}
 use Rattle.c_expressions.specs.Meeting.{met}
@@ -53,10 +53,6 @@ module _ (g : Globals) (f0 : Option TypeFault) where
 
 module _ (g : Globals) (parts : List Part) (i : ℕ) (p : Part) (within : i < length parts) (is : p ≡ get_or parts i p)
   where
-    pub past_step : (scope : Scope) → past_parts g (drop i parts) scope
-        ≡ past_parts g (drop (i + 1) parts) (past_part g p scope)
-    past_step scope = ap (λ ps. past_parts g ps scope) (drop_item parts i p within is)
-
     pub parts_step : (found : Option TypeFault) (loop : Bool) (scope : Scope) →
         met g found (parts_sites g (drop i parts) loop scope)
         ≡ met g (met g found (part_sites g p loop scope))

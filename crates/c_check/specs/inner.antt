@@ -1,4 +1,3 @@
 pub mod Assigning
 pub mod Counting
 pub mod Items
-pub mod Making

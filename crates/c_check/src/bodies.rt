@@ -5,7 +5,7 @@ ghost use Rattle.c_ast.specs.declared.simples.Simple.{Simple};
 ghost use Rattle.c_typing.specs.BodySites.{maybe_sites, declarator_sites, declarators_sites, declare_sites};
 ghost use Rattle.c_typing.specs.BodySites.{first_sites, part_sites, parts_sites, block_sites, stmt_sites, other_sites};
 ghost use Rattle.c_typing.specs.Scopes.{all_declared, declared, past_declare, past_first, past_part, past_parts};
-ghost use Rattle.c_typing.specs.Scopes.{past_block, past_stmt, past_other, opened, closed, kind_of, declarators_of};
+ghost use Rattle.c_typing.specs.Scopes.{past_block, past_stmt, past_other, opened, closed};
 ghost use Rattle.c_typing.specs.Sites.{simple_sites, cond_sites, wanted_sites, rhs_sites, want_of_kind};
 ghost use Rattle.c_check.specs.inner.Assigning.{assign_sites, free_sites};
 ghost use Rattle.c_expressions.specs.Meeting.{met};
@@ -19,6 +19,7 @@ use c_expressions::meanings::meaning_of_path;
 use c_expressions::noting::{defines_variable, jumps, stands};
 use c_expressions::operands::{path_faults, read_faults, rhs_faults, wanted_faults};
 use c_expressions::wants::{want_of_kind, want_of_target};
+use c_making::declaring::{declarators_of, kind_of};
 use c_scopes::scopes::Scope;
 use c_tables::tables::Tables;
 use c_typing::{Kind, Spot, TypeFault, Want};
@@ -161,7 +162,7 @@ fn maybe_rhs_faults(
 }
 
 /// What a declarator breaks, which is in scope from then on, also in its own initialiser.
-#[tactic(auto, using(c_expressions::proofs::MeetingLemmas::meeting, crate::proofs::BodyLemmas::scoping))]
+#[tactic(auto, using(c_expressions::proofs::MeetingLemmas::meeting, c_making::proofs::ScopeSteps::scoping))]
 fn declarator_faults(
     alloc: Global,
     tables: &Tables,
@@ -180,7 +181,7 @@ fn declarator_faults(
     maybe_rhs_faults(alloc, tables, scope, kind, &declarator.from, found)
 }
 
-#[tactic(auto, using(c_expressions::proofs::MeetingLemmas::meeting, crate::proofs::BodyLemmas::scoping))]
+#[tactic(auto, using(c_expressions::proofs::MeetingLemmas::meeting, c_making::proofs::ScopeSteps::scoping))]
 fn declarators_faults(
     alloc: Global,
     tables: &Tables,
@@ -200,28 +201,8 @@ fn declarators_faults(
     Ok(())
 }
 
-/// What a declaration declares: a pointer to this struct, or a datum.
-pub fn kind_of(tables: &Tables, declare: &Declare) -> Kind
-    ensures { result ≡ kind_of tables.now declare.now }
-{
-    match declare {
-        Declare::Pointers { name, .. } => Kind::Points(tables.struct_of(name.text.as_slice())),
-        Declare::Datums { .. } => Kind::Datum,
-    }
-}
-
-/// The declarators of a declaration.
-pub fn declarators_of(declare: &Declare) -> &[Declarator]
-    ensures { result.now ≡ declarators_of declare.now }
-{
-    match declare {
-        Declare::Pointers { vars, .. } => vars.as_slice(),
-        Declare::Datums { vars, .. } => vars.as_slice(),
-    }
-}
-
 /// What a declaration breaks.
-#[tactic(auto, using(c_expressions::proofs::MeetingLemmas::meeting, crate::proofs::BodyLemmas::scoping))]
+#[tactic(auto, using(c_expressions::proofs::MeetingLemmas::meeting, c_making::proofs::ScopeSteps::scoping))]
 fn declare_faults(
     alloc: Global,
     tables: &Tables,
@@ -240,7 +221,7 @@ fn declare_faults(
 }
 
 /// What stands first in the head of a `for` breaks.
-#[tactic(auto, using(c_expressions::proofs::MeetingLemmas::meeting, crate::proofs::BodyLemmas::scoping))]
+#[tactic(auto, using(c_expressions::proofs::MeetingLemmas::meeting, c_making::proofs::ScopeSteps::scoping))]
 fn first_faults(
     alloc: Global,
     tables: &Tables,
@@ -260,7 +241,7 @@ fn first_faults(
 
 /// What a block breaks.
 #[cycle(stmt)]
-#[tactic(auto, using(c_typing::proofs::ScopeLayers::scope_layers, crate::proofs::BodyLemmas::scoping))]
+#[tactic(auto, using(c_typing::proofs::ScopeLayers::scope_layers, c_making::proofs::ScopeSteps::scoping))]
 pub fn block_faults(
     alloc: Global,
     tables: &Tables,
@@ -283,7 +264,7 @@ pub fn block_faults(
 
 /// What parts of a block break, each in the scope that those before it leave.
 #[cycle(stmt)]
-#[tactic(auto, using(c_typing::proofs::ScopeLayers::scope_layers, crate::proofs::BodyLemmas::scoping))]
+#[tactic(auto, using(c_typing::proofs::ScopeLayers::scope_layers, c_making::proofs::ScopeSteps::scoping))]
 fn parts_faults(
     alloc: Global,
     tables: &Tables,
@@ -305,7 +286,7 @@ fn parts_faults(
 }
 
 #[cycle(stmt)]
-#[tactic(auto, using(c_typing::proofs::ScopeLayers::scope_layers, crate::proofs::BodyLemmas::scoping))]
+#[tactic(auto, using(c_typing::proofs::ScopeLayers::scope_layers, c_making::proofs::ScopeSteps::scoping))]
 fn part_faults(
     alloc: Global,
     tables: &Tables,
@@ -328,7 +309,7 @@ fn part_faults(
 
 /// What a statement breaks.
 #[cycle(stmt)]
-#[tactic(auto, using(c_typing::proofs::ScopeLayers::scope_layers, crate::proofs::BodyLemmas::scoping))]
+#[tactic(auto, using(c_typing::proofs::ScopeLayers::scope_layers, c_making::proofs::ScopeSteps::scoping))]
 fn stmt_faults(
     alloc: Global,
     tables: &Tables,

@@ -2,10 +2,9 @@
 //!
 //! `check` is the only call. `items`, with `definitions`, `heads` and `types`, goes through the items in order, and
 //! `bodies` through the body of main. Each keeps the first fault so far, wherever its place is, so that nothing is
-//! assumed of places. `programs`, with `statements` and `acts`, makes the program of a unit that breaks nothing.
+//! assumed of places. `programs` makes the program of a unit that breaks nothing.
 #![tactic(auto)]
 
-mod acts;
 mod bodies;
 mod counting;
 mod definitions;
@@ -13,7 +12,6 @@ mod heads;
 mod items;
 mod profile;
 mod programs;
-mod statements;
 mod types;
 mod units;
 

@@ -5,8 +5,8 @@ ghost use Rattle.c_typing.specs.Programs.{program_in, program_with, program_with
 ghost use Rattle.c_check.specs.inner.Items.{body_of_main};
 
 use crate::profile::is_main;
-use crate::statements::block_stmts;
 use c_ast::{Block, Item};
+use c_making::block_stmts;
 use c_scopes::scopes::Scope;
 use c_tables::tables::Tables;
 use c_types::Typed;

@@ -9,9 +9,9 @@ use Rattle.c_typing.proofs.SiteLayers.{stmt-While, stmt-Do, stmt-For, stmt-Retur
 use Rattle.c_typing.proofs.SiteLayers.{stmt-Assert, stmt-If}
 use Rattle.c_expressions.specs.Meeting.{met}
 use Rattle.c_scopes.specs.InScope.{outer}
-use Rattle.c_check.proofs.BodyLemmas.{left_closed, outer-past_first}
+use Rattle.c_making.proofs.ScopeSteps.{left_closed, outer-past_first, past_step}
 use Rattle.c_expressions.proofs.MeetingLemmas.{met-nil, met-one}
-use Rattle.c_check.proofs.StatementLemmas.{whole, both, both_turned, all_three, after_one, after_two, past_step}
+use Rattle.c_check.proofs.StatementLemmas.{whole, both, both_turned, all_three, after_one, after_two}
 use Rattle.c_check.proofs.StatementLemmas.{parts_step, parts_end}
 use Rattle.c_check.proofs.bodies.«+stmt».Goals as goal
 

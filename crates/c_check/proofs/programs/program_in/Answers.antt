@@ -3,7 +3,7 @@ use Rattle.std.specs.Prelude.{option_copied}
 use Rattle.c_ast.specs.declared.items.Item.{Item}
 use Rattle.c_typing.specs.Programs.{program_in}
 use Rattle.c_check.proofs.LoopLemmas.{turn}
-use Rattle.c_check.proofs.MakingLemmas.{made_as}
+use Rattle.c_making.proofs.MakingLemmas.{made_as}
 use Rattle.c_check.proofs.ProgramLemmas.{at_main}
 use Rattle.c_check.proofs.programs.program_in.Goals as goal
 

@@ -14,7 +14,7 @@ use Rattle.c_types.specs.declared.program.Stmt.TheVariants.{Group}
 use Rattle.c_typing.specs.Globals.{Globals}
 use Rattle.c_typing.specs.Programs.{for_stmts, part_stmts, parts_stmts, stmt_stmts, ptrs_of, datums_of}
 use Rattle.c_typing.specs.Scopes.{Scope, Var, innermost, past_part}
-use Rattle.c_check.specs.inner.Making.{group_first, for_made}
+use Rattle.c_making.specs.inner.Making.{group_first, for_made}
 
 -- what was made is equal to what it has to be
 pub made_as : {X E : Type 0} (r : Result X E) (a b : X) → b ≡ a → IfOk r (λ x. x ≡ a) → IfOk r (λ x. x ≡ b)

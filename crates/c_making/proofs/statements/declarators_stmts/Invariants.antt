@@ -1,7 +1,7 @@
 use Rattle.std.proofs.Common.{◌≡◌, ◌++◌, drop}
 use Rattle.c_typing.specs.Programs.{declarators_stmts}
 use Rattle.c_typing.specs.Scopes.{all_declared}
-use Rattle.c_check.proofs.statements.declarators_stmts.Given as goal
+use Rattle.c_making.proofs.statements.declarators_stmts.Given as goal
 
 abbrev pub invariant-loop-var : goal.invariant-loop-var
 invariant-loop-var l = record {

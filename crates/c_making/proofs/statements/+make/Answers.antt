@@ -10,12 +10,11 @@ use Rattle.c_typing.proofs.ProgramLayers.{made-Simple-stmt, made-While-stmt, mad
 use Rattle.c_typing.proofs.ProgramLayers.{made-Return-stmt, made-Break-stmt, made-Continue-stmt, made-Assert-stmt}
 use Rattle.c_typing.proofs.ProgramLayers.{made-If-stmt}
 use Rattle.c_typing.proofs.ScopeLayers.{past-For-stmt}
-use Rattle.c_check.specs.inner.Making.{first_stmts, for_body, for_made, group_first, past_for}
+use Rattle.c_making.specs.inner.Making.{first_stmts, for_body, for_made, group_first, past_for}
 use Rattle.c_scopes.specs.InScope.{outer}
-use Rattle.c_check.proofs.BodyLemmas.{left_closed, outer-past_first}
-use Rattle.c_check.proofs.MakingLemmas.{made_as, stmts_step, same_group, for_as}
-use Rattle.c_check.proofs.StatementLemmas.{past_step}
-use Rattle.c_check.proofs.statements.«+make».Goals as goal
+use Rattle.c_making.proofs.ScopeSteps.{left_closed, outer-past_first, past_step}
+use Rattle.c_making.proofs.MakingLemmas.{made_as, stmts_step, same_group, for_as}
+use Rattle.c_making.proofs.statements.«+make».Goals as goal
 
 pub block_stmts-returns-clause-stmts : goal.block_stmts-returns-clause-stmts
 block_stmts-returns-clause-stmts t c =

@@ -8,11 +8,11 @@ ghost use Rattle.c_typing.specs.Programs.{part_stmts, parts_stmts, block_stmts, 
 ghost use Rattle.c_typing.specs.Programs.{returned_operand};
 ghost use Rattle.c_typing.specs.Scopes.{all_declared, declared, past_declare, past_first, past_part, past_parts};
 ghost use Rattle.c_typing.specs.Scopes.{past_block, past_stmt, past_other, opened};
-ghost use Rattle.c_check.specs.inner.Making.{first_stmts, group_first, for_body, past_for, for_made};
+ghost use Rattle.c_making.specs.inner.Making.{first_stmts, group_first, for_body, past_for, for_made};
 ghost use Rattle.c_scopes.specs.InScope.{outer};
 
 use crate::acts::{assignment, doing, maybe_simple, one, returned_operand, simple_stmts};
-use crate::bodies::{declarators_of, kind_of};
+use crate::declaring::{declarators_of, kind_of};
 use c_ast::{Block, Cond, Declarator, Declare, First, Operand, Part, Rhs, Simple, Stmt as Named};
 use c_expressions::conditions::{cond_of, maybe_cond};
 use c_expressions::meanings::variable;
@@ -195,7 +195,7 @@ fn assert_stmts(
 
 /// The statement that a block is.
 #[cycle(make)]
-#[tactic(auto, using(c_typing::proofs::ScopeLayers::scope_layers, crate::proofs::BodyLemmas::scoping))]
+#[tactic(auto, using(c_typing::proofs::ScopeLayers::scope_layers, crate::proofs::ScopeSteps::scoping))]
 pub fn block_stmts(
     alloc: Global,
     tables: &Tables,
@@ -215,7 +215,7 @@ pub fn block_stmts(
 }
 
 #[cycle(make)]
-#[tactic(auto, using(c_typing::proofs::ScopeLayers::scope_layers, crate::proofs::BodyLemmas::scoping))]
+#[tactic(auto, using(c_typing::proofs::ScopeLayers::scope_layers, crate::proofs::ScopeSteps::scoping))]
 fn parts_stmts(alloc: Global, tables: &Tables, scope: &mut Scope, parts: &[Part]) -> Mem<List<Stmt>>
     ensures past { OnOk result (scope.new ≡ past_parts tables.now parts.now scope.old) }
     ensures outer { OnOk result (outer scope.new.blocks ≡ outer scope.old.blocks) }
@@ -230,7 +230,7 @@ fn parts_stmts(alloc: Global, tables: &Tables, scope: &mut Scope, parts: &[Part]
 }
 
 #[cycle(make)]
-#[tactic(auto, using(c_typing::proofs::ScopeLayers::scope_layers, crate::proofs::BodyLemmas::scoping))]
+#[tactic(auto, using(c_typing::proofs::ScopeLayers::scope_layers, crate::proofs::ScopeSteps::scoping))]
 fn part_stmts(alloc: Global, tables: &Tables, scope: &mut Scope, part: &Part) -> Mem<List<Stmt>>
     ensures past { OnOk result (scope.new ≡ past_part tables.now part.now scope.old) }
     ensures outer { OnOk result (outer scope.new.blocks ≡ outer scope.old.blocks) }
@@ -244,7 +244,7 @@ fn part_stmts(alloc: Global, tables: &Tables, scope: &mut Scope, part: &Part) ->
 
 /// The statements that a statement is.
 #[cycle(make)]
-#[tactic(auto, using(c_typing::proofs::ScopeLayers::scope_layers, crate::proofs::BodyLemmas::scoping))]
+#[tactic(auto, using(c_typing::proofs::ScopeLayers::scope_layers, crate::proofs::ScopeSteps::scoping))]
 fn stmt_stmts(alloc: Global, tables: &Tables, scope: &mut Scope, stmt: &Named) -> Mem<List<Stmt>>
     ensures past { OnOk result (scope.new ≡ past_stmt tables.now stmt.now scope.old) }
     ensures blocks { OnOk result (scope.new.blocks ≡ scope.old.blocks) }
@@ -310,7 +310,7 @@ fn headed(
 
 /// The statements that a `for` is.
 #[cycle(make)]
-#[tactic(auto, using(crate::proofs::BodyLemmas::scoping))]
+#[tactic(auto, using(crate::proofs::ScopeSteps::scoping))]
 fn for_stmts(
     alloc: Global,
     tables: &Tables,

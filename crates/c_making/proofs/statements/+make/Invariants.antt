@@ -2,7 +2,7 @@ use Rattle.std.proofs.Common.{◌≡◌, ◌++◌, drop}
 use Rattle.c_typing.specs.Programs.{parts_stmts}
 use Rattle.c_typing.specs.Scopes.{past_parts}
 use Rattle.c_scopes.specs.InScope.{outer}
-use Rattle.c_check.proofs.statements.«+make».Given as goal
+use Rattle.c_making.proofs.statements.«+make».Given as goal
 
 abbrev pub invariant-parts_stmts-loop-part : goal.invariant-parts_stmts-loop-part
 invariant-parts_stmts-loop-part l = record {
