@@ -45,6 +45,11 @@ act_after (LeaveAct f value) n = 1
 act_after Break n = 1
 act_after Continue n = 1
 
+-- of an Exit and of those behind it
+abbrev pub exits_from : ℕ → (ℕ → ℕ) → ℕ → ℕ
+exits_from own later zero = own
+exits_from own later (suc k) = later k
+
 module _ (nv nd : ℕ) where
   abbrev pub atom_count : Atom → ℕ → ℕ → ℕ
   atom_count ChoiceAtom a b = two_after b a
@@ -94,11 +99,6 @@ module _ (nv nd : ℕ) where
             ≡ way_count (links_in m (act_row nv nd Continue is)) n
         one_kill Always = refl
         one_kill MayFail = refl
-
-    -- of an Exit and of those behind it
-    abbrev pub exits_from : ℕ → (ℕ → ℕ) → ℕ → ℕ
-    exits_from own later zero = own
-    exits_from own later (suc k) = later k
 
     -- of items without a loop, and of each Exit among them that ends none of their own calls; n and e are those of what
     -- stands behind the items
