@@ -5,6 +5,7 @@ use Rattle.fore_base.specs.declared.store.Store.{Store}
 use Rattle.ta_core.specs.Auto.{IsRanked}
 use Rattle.ta_core.specs.Language.{HasSameLanguage}
 use Rattle.fa_core.specs.Boxes.{Boxes}
+use Rattle.fa_core.specs.Boxless.{HasNoBoxes}
 use Rattle.fa_core.specs.Canonical.{IsCanonical}
 use Rattle.fa_core.specs.Covering.{Reduced}
 use Rattle.fa_core.specs.Filled.{IsSound}
@@ -41,11 +42,13 @@ module _ (T : Boxes) where
   passed_by e s = gstep T.face.shapes.structs e s
 
   -- M is a case of the edge from F, sound and canonical, with rules that have as many children as their symbols: its
-  -- members come from F by the edge, and it keeps the box edges that the edge does not need
+  -- members come from F by the edge, it keeps the box edges that the edge does not need, and it has none where F has
+  -- none
   pub record IsCase (F : Forest) (e : Edge) (M : Forest) : Type 0 where
     pub sound : IsSound T.face M
     pub ranked : Every IsRanked M.autos
     pub canonical : IsCanonical T.face M
+    pub plain : Every HasNoBoxes F.autos → Every HasNoBoxes M.autos
     pub true_case : CaseOf T.face T.defs F e M
     pub keeps : Keeps T.face T.defs F e M
 

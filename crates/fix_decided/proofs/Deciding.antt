@@ -13,12 +13,11 @@ use Rattle.fix_decided.specs.Decided.{IsDecided}
 use Rattle.fix_decided.proofs.BareNodes.{bare_nodes}
 use Rattle.fix_decided.proofs.Counting.{at_most_prefixes, no_heads}
 
-module _ (T : Boxes) (table : IsBoxTable T) (none : T.face.boxes ≡ []) (g : ControlGraph)
-    (free : list_all not g.heads ≡ true) (k b : ℕ) where
+module _ (T : Boxes) (table : IsBoxTable T) (g : ControlGraph) (free : list_all not g.heads ≡ true) (k b : ℕ) where
   pub few_nodes : (nodes : List Node) → Exploration T g k nodes → AtMost b g → length nodes ≤ b
   few_nodes nodes explored most =
       at_most_prefixes T table g k nodes explored (λ l. no_heads g.heads l free)
-      (bare_nodes T none g k nodes explored (λ l. no_heads g.heads l free)) b most
+      (bare_nodes T g k nodes explored (λ l. no_heads g.heads l free)) b most
 
   pub decided : (found : Explored) → IsExplored T g k b found → AtMost b g → IsDecided found
   decided (Closed nodes) h most = tt

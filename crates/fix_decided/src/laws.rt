@@ -1,6 +1,6 @@
 // Laws of explorations of graphs without loop heads, each the contract of a function that does nothing.
 
-ghost use Rattle.std.specs.Prelude.{◌≡◌, ◌≤◌, ℕ, [], List, length, true, not};
+ghost use Rattle.std.specs.Prelude.{◌≡◌, ◌≤◌, ℕ, List, length, true, not};
 ghost use Rattle.std.specs.List.{list_all};
 ghost use Rattle.c_cfg.specs.Graphs.{ControlGraph};
 ghost use Rattle.c_prefixes.specs.Prefixes.{AtMost};
@@ -18,12 +18,13 @@ pub fn nodes_are_at_most_prefixes()
         → list_all not g.heads ≡ true → Exploration T g k nodes → AreBare nodes → AtMost b g → length nodes ≤ b }
 {}
 
-/// By a table without boxes no node of an exploration of a graph without loop heads has a box edge, and each rule has
-/// as many children as its symbol. So where the budget is as large as the number of prefixes it is never full.
+/// Whatever the table, no node of an exploration of a graph without loop heads has a box edge, since nothing is folded
+/// but at loop heads, and each rule has as many children as its symbol. So where the budget is as large as the number
+/// of prefixes it is never full.
 pub fn enough_nodes_decide()
-    ensures bare { (T : Boxes) (g : ControlGraph) (k : ℕ) (nodes : List Node) → T.face.boxes ≡ []
+    ensures bare { (T : Boxes) (g : ControlGraph) (k : ℕ) (nodes : List Node)
         → list_all not g.heads ≡ true → Exploration T g k nodes → AreBare nodes }
     ensures decides { (T : Boxes) (g : ControlGraph) (k budget : ℕ) (found : Explored) → IsBoxTable T
-        → T.face.boxes ≡ [] → list_all not g.heads ≡ true → AtMost budget g → IsExplored T g k budget found
+        → list_all not g.heads ≡ true → AtMost budget g → IsExplored T g k budget found
         → IsDecided found }
 {}

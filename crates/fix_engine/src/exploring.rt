@@ -1,5 +1,5 @@
 // The exploration: a work list of nodes, first in, first out, taken up in rounds.
-ghost use Rattle.std.specs.Prelude.{◌≡◌, ◌≤◌, [], true, not, IfOk};
+ghost use Rattle.std.specs.Prelude.{◌≡◌, ◌≤◌, true, not, IfOk};
 ghost use Rattle.std.specs.List.{list_all};
 ghost use Rattle.fore_base.specs.Lists.{Every};
 ghost use Rattle.par_kit.specs.Crews.{IsJobs};
@@ -32,7 +32,7 @@ use std::thread::Threads;
 /// done. The height is 1 to 4, and the budget at least 1. Each number in the graph's edges is in range, and the graph's
 /// structs are the table's. The crew runs 1 to 64 jobs and has no bearing on the answer.
 ///
-/// A graph without loop heads is decided by the empty table where the budget is as large as the number of its prefixes:
+/// A graph without loop heads is decided, by any table, where the budget is as large as the number of its prefixes:
 /// then the budget is never full.
 ///
 /// # Errors
@@ -53,10 +53,7 @@ pub fn explore<R: Threads + Sync, G: Gate>(
     requires edges { Every (IsEdgeOf graph.now) graph.now.edges }
     requires shapes { graph.now.shapes ≡ table.now.face.shapes }
     ensures explored { IfOk result (IsExplored table.now graph.now height budget) }
-    ensures decides { table.now.defs ≡ []
-        → list_all not graph.now.heads ≡ true
-        → AtMost budget graph.now
-        → IfOk result IsDecided }
+    ensures decides { list_all not graph.now.heads ≡ true → AtMost budget graph.now → IfOk result IsDecided }
 {
     table.known();
     enough_nodes_decide();

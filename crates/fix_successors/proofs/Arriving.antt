@@ -7,6 +7,7 @@ use Rattle.fore_base.specs.Lists.{IsIn, Every, Paired}
 use Rattle.fore_base.proofs.ListLemmas.{every_append}
 use Rattle.ta_core.specs.Auto.{IsRanked}
 use Rattle.fa_core.specs.Boxes.{Boxes}
+use Rattle.fa_core.specs.Boxless.{HasNoBoxes}
 use Rattle.fa_core.specs.Canonical.{IsCanonical}
 use Rattle.fa_core.specs.Covering.{Reduced}
 use Rattle.fa_core.specs.Filled.{IsSound}
@@ -55,6 +56,7 @@ module _ (T : Boxes) (g : ControlGraph) (k : ℕ) (F : Forest) (e : Edge) where
     sound = sound;
     ranked = c.ranked;
     canonical = c.normal.canonical;
+    plain = c.plain;
     true_case = c.true_case;
     keeps = c.keeps;
   }
@@ -303,10 +305,11 @@ module _ (T : Boxes) (g : ControlGraph) (k : ℕ) (F : Forest) (e : Edge) where
       → Every (λ (s : SoundForest). IsCanonical s.face s.forest) Ms → Every (λ (s : SoundForest). Reduced s.forest) Ms
       → Every (λ (s : SoundForest). s.face ≡ face) Ms → Every (λ (s : SoundForest). HasAsMany F s.forest) Ms
       → Every (λ (s : SoundForest). Every IsRanked s.forest.autos) Ms
+      → (Every HasNoBoxes F.autos → Every (λ (s : SoundForest). Every HasNoBoxes s.forest.autos) Ms)
       → Every (CaseOf face T.defs F e) (forests Ms) → Every (Keeps face T.defs F e) (forests Ms)
       → Every (IsRawCase T g F e) Ms
-  raw_cases face [] is vars canonical reduced faces many ranked true_cases keeps = tt
-  raw_cases face (M ∷ Ms) is vars canonical reduced faces many ranked true_cases keeps =
+  raw_cases face [] is vars canonical reduced faces many ranked plains true_cases keeps = tt
+  raw_cases face (M ∷ Ms) is vars canonical reduced faces many ranked plains true_cases keeps =
       let own : M.face ≡ T.face = faces.0 ∙ is in (
         record {
           normal =
@@ -317,10 +320,12 @@ module _ (T : Boxes) (g : ControlGraph) (k : ℕ) (F : Forest) (e : Edge) where
                 vars = record { vars = many.0.0 ∙ vars.vars; data_vars = many.0.1 ∙ vars.data_vars };
               };
           ranked = ranked.0;
+          plain = λ none. (plains none).0;
           true_case = subst (λ z. CaseOf z T.defs F e M.forest) is true_cases.0;
           keeps = subst (λ z. Keeps z T.defs F e M.forest) is keeps.0;
         },
-        raw_cases face Ms is vars canonical.1 reduced.1 faces.1 many.1 ranked.1 true_cases.1 keeps.1,
+        raw_cases face Ms is vars canonical.1 reduced.1 faces.1 many.1 ranked.1 (λ none. (plains none).1) true_cases.1
+            keeps.1,
       )
 
 module _ (T : Boxes) (g : ControlGraph) (k : ℕ) (e : Edge) (Ms : List SoundForest) where

@@ -6,6 +6,7 @@ use Rattle.fore_base.specs.declared.shape.Shapes.{Shapes}
 use Rattle.fore_base.proofs.ListLemmas.{every_weaker}
 use Rattle.ta_core.specs.Auto.{IsRanked}
 use Rattle.fa_core.specs.Boxes.{Boxes}
+use Rattle.fa_core.specs.Boxless.{HasNoBoxes}
 use Rattle.fa_core.specs.Canonical.{IsCanonical}
 use Rattle.fa_core.specs.Covering.{Reduced}
 use Rattle.fa_core.specs.declared.faces.Face.{Face}
@@ -45,19 +46,22 @@ pub post_is : (T : Boxes) (g : ControlGraph) (s : SoundForest) (e : Edge) (p : P
     → Every (λ (x : SoundForest). x.face ≡ s.face) p.next
     → Every (λ (x : SoundForest). HasAsMany s.forest x.forest) p.next
     → Every (λ (x : SoundForest). Every IsRanked x.forest.autos) p.next
+    → (Every HasNoBoxes s.forest.autos → Every (λ (x : SoundForest). Every HasNoBoxes x.forest.autos) p.next)
     → NoneJoinable s.face.boxes (forests p.next)
     → (is_quiet e.instr ≡ true → length p.next ≤ 1)
     → Every (λ (b : Bad). b.at.face ≡ s.face) p.faults
     → IsPost T g s.forest e p
-post_is T g s e p n all keeps true_cases true_bads canonical reduced faces many ranked apart quiet bad_faces = record {
-  all = subst (λ z. AllCases z T.defs s.forest e (forests p.next) (bads p.faults)) n.face all;
-  nexts = record {
-    each =
-        raw_cases T g 0 s.forest e s.face p.next n.face n.vars canonical reduced faces many ranked true_cases keeps;
-    apart = subst (λ (z : Face). NoneJoinable z.boxes (forests p.next)) n.face apart;
-    quiet = quiet;
-  };
-  true_bads = subst (λ z. Every (IsTrueBad z T.defs s.forest e) (bads p.faults)) n.face true_bads;
-  faces = every_weaker (λ (b : Bad). b.at.face ≡ s.face) (λ (b : Bad). b.at.face ≡ T.face) p.faults (λ b h. h ∙ n.face)
-      bad_faces;
-}
+post_is T g s e p n all keeps true_cases true_bads canonical reduced faces many ranked plains apart quiet
+    bad_faces = record {
+      all = subst (λ z. AllCases z T.defs s.forest e (forests p.next) (bads p.faults)) n.face all;
+      nexts = record {
+        each =
+            raw_cases T g 0 s.forest e s.face p.next n.face n.vars canonical reduced faces many ranked plains true_cases
+            keeps;
+        apart = subst (λ (z : Face). NoneJoinable z.boxes (forests p.next)) n.face apart;
+        quiet = quiet;
+      };
+      true_bads = subst (λ z. Every (IsTrueBad z T.defs s.forest e) (bads p.faults)) n.face true_bads;
+      faces = every_weaker (λ (b : Bad). b.at.face ≡ s.face) (λ (b : Bad). b.at.face ≡ T.face) p.faults
+          (λ b h. h ∙ n.face) bad_faces;
+    }

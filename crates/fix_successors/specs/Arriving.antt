@@ -4,6 +4,7 @@ use Rattle.fore_base.specs.declared.store.Store.{Store}
 use Rattle.fore_base.specs.Lists.{IsIn, Every, Paired}
 use Rattle.ta_core.specs.Auto.{IsRanked}
 use Rattle.fa_core.specs.Boxes.{Boxes}
+use Rattle.fa_core.specs.Boxless.{HasNoBoxes}
 use Rattle.fa_core.specs.Filled.{IsSound}
 use Rattle.fa_core.specs.declared.forest.Forest.{Forest}
 use Rattle.fa_join.specs.Joinable.{NoneJoinable}
@@ -64,6 +65,7 @@ module _ (T : Boxes) where
     pub record IsRawCase (F : Forest) (e : Edge) (M : SoundForest) : Type 0 where
       pub normal : IsNormal T g M
       pub ranked : Every IsRanked M.forest.autos
+      pub plain : Every HasNoBoxes F.autos → Every HasNoBoxes M.forest.autos
       pub true_case : CaseOf T.face T.defs F e M.forest
       pub keeps : Keeps T.face T.defs F e M.forest
 

@@ -1,5 +1,5 @@
 -- Worked values of the words on verdicts, each made by hand from what the word says.
-use Rattle.std.proofs.Common.{◌≡◌, ◌∙◌, ◌<◌, inl, inr, List, [], ◌∷◌, length, ℕ, Some, sym, subst, arith}
+use Rattle.std.proofs.Common.{◌≡◌, ◌∙◌, ◌<◌, inl, inr, List, [], ◌∷◌, length, ℕ, true, Some, sym, subst, arith}
 use Rattle.std.proofs.lemmas.Option.{none-some, same_Some}
 use Rattle.fore_base.specs.declared.fault.Fault.TheVariants.{Leak}
 use Rattle.fore_base.specs.declared.store.Store.{Store}
@@ -9,6 +9,8 @@ use Rattle.c_types.specs.Over.{IsFault}
 use Rattle.c_types.specs.Program.{Program}
 use Rattle.c_types.specs.Runs.{run}
 use Rattle.c_types.specs.declared.outcome.Outcome.TheVariants.{StillRunning, Fault}
+use Rattle.c_cfg.specs.LoopFree.{has_no_loop}
+use Rattle.c_prefixes.specs.Prefixes.{AtMost}
 use Rattle.fa_core.specs.Boxes.{Boxes}
 use Rattle.fa_core.specs.declared.forest.Forest.{Forest}
 use Rattle.fa_core.specs.declared.forest.Target.TheVariants.{Uninit}
@@ -90,6 +92,11 @@ module _ (T : Boxes) (p : Program) (m : MallocMode) (k budget : ℕ) (tr : AbsTr
   loose_in_its_steps : tr.steps ≡ 3 → run p m tr.choices 3 ≡ Fault Leak 7 2
       → IsVerdict T p m graph k budget (Faulty nodes tr) (LooseTrace s) → ⊥
   loose_in_its_steps steps e h = h.no_fault 3 (inr (omega (arith, steps))) (subst IsFault (sym e) tt)
+
+  -- a budget as large as the number of prefixes is not full, where there is no loop
+  spent_with_few_prefixes : has_no_loop p ≡ true → AtMost budget graph
+      → IsVerdict T p m graph k budget (Spent nodes) FullBudget → ⊥
+  spent_with_few_prefixes free most h = h.prefixes free most
 
   spent_is_not_safe : IsVerdict T p m graph k budget (Spent nodes) Safe → ⊥
   spent_is_not_safe h = h

@@ -1,5 +1,5 @@
 -- What the verdicts say of a program, whose `malloc` answers by a mode.
-use Rattle.std.specs.Prelude.{◌≡◌, ◌⊎◌, ◌<◌, ◌≤◌, ℕ, List, length, Some}
+use Rattle.std.specs.Prelude.{◌≡◌, ◌⊎◌, ◌<◌, ◌≤◌, ℕ, List, length, true, Some}
 use Rattle.fore_base.specs.declared.fault.Fault.{Fault as Kind}
 use Rattle.fore_base.specs.declared.store.Store.{Store}
 use Rattle.fore_base.specs.Lists.{IsIn, Every}
@@ -11,6 +11,8 @@ use Rattle.c_types.specs.Runs.{run}
 use Rattle.fa_core.specs.Boxes.{Boxes}
 use Rattle.fa_core.specs.declared.forest.Forest.{Forest}
 use Rattle.c_cfg.specs.Graphs.{ControlGraph}
+use Rattle.c_cfg.specs.LoopFree.{has_no_loop}
+use Rattle.c_prefixes.specs.Prefixes.{AtMost}
 use Rattle.fix_core.specs.declared.explored.AbsTrace.{AbsTrace}
 use Rattle.fix_core.specs.declared.explored.Explored.{Explored}
 use Rattle.fix_core.specs.declared.explored.Explored.TheVariants.{Closed, Faulty, Spent}
@@ -39,10 +41,12 @@ module _ (T : Boxes) where
       pub closed : IsClosed T g nodes
       pub within : length nodes ≤ budget
 
-    -- The budget is full: the nodes are an exploration, as many as the budget, and a further node would be one too.
+    -- The budget is full: the nodes are an exploration, as many as the budget, and a further node would be one too. If
+    -- the program has no loop, its graph has more prefixes than the budget.
     pub record BudgetMeans (budget : ℕ) (nodes : List Node) : Type 0 where
       pub explored : Exploration T g k nodes
       pub full : Full T g k nodes budget
+      pub prefixes : has_no_loop p ≡ true → AtMost budget g → ⊥
 
     -- An abstract trace of an exploration of at most the budget of nodes. Each of its choices is 0 or 1.
     pub record TraceOf (budget : ℕ) (nodes : List Node) (tr : AbsTrace) : Type 0 where

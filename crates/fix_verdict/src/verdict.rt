@@ -16,6 +16,7 @@ use c_types::program::Typed;
 use fa_core::table::BoxTable;
 use fa_sample::sample;
 use fix_core::explored::{AbsTrace, Explored};
+use fix_decided::laws::enough_nodes_decide;
 use fore_base::fault::Fault;
 use fore_base::memory::Mem;
 use fore_base::store::Store;
@@ -33,7 +34,7 @@ pub enum Verdict {
     Safe,
     /// The run on the trace's choices meets this fault, in this line at this step.
     Unsafe { kind: Fault, line: u32, step: u64 },
-    /// Not known: the budget is full.
+    /// Not known: the budget is full. If the program has no loop, its graph has more prefixes than the budget.
     FullBudget,
     /// Not known: the run on the trace's choices meets no fault in up to `REPLAY_STEPS` steps. Here is a member of the
     /// trace's last forest.
@@ -42,7 +43,7 @@ pub enum Verdict {
 
 /// The verdict on a program without functions, whose `malloc` answers by the mode, from what the exploration of its
 /// graph found. A trace counts only where the program's own run on its choices meets a fault, be it after the trace's
-/// last step. Without loops a trace is never loose.
+/// last step. Without loops a trace is never loose, and the budget is full only where the graph has more prefixes.
 ///
 /// # Errors
 ///
@@ -71,6 +72,8 @@ pub fn judge(
     loop_free_graphs(program, mode, graph);
     over_stays(program);
     fault_at_its_step(program);
+    enough_nodes_decide();
+    table.known();
     match found {
         Explored::Closed { .. } => Ok(Verdict::Safe),
         Explored::Spent { .. } => Ok(Verdict::FullBudget),

@@ -19,7 +19,11 @@ use Rattle.std.proofs.Common.{
   Option,
   Some,
   None,
+  false,
   refl,
+  sym,
+  ◌∙◌,
+  true≢false,
   arith,
 }
 use Rattle.std.specs.Fmt.{digits}
@@ -32,6 +36,9 @@ use Rattle.c_types.specs.declared.mode.MallocMode.TheVariants.{Always}
 use Rattle.c_types.specs.Runs.{run}
 use Rattle.c_types.specs.declared.outcome.Outcome.TheVariants.{Ended, Fault, Starved, BadChoice, StillRunning}
 use Rattle.fore_base.specs.declared.fault.Fault.TheVariants.{NullDeref, Leak}
+use Rattle.c_cfg.specs.Graphs.{ControlGraph}
+use Rattle.c_cfg.specs.LoopFree.{has_no_loop}
+use Rattle.c_cfg.specs.Lowering.{LowerOf}
 use Rattle.c_front.specs.declared.broken.Letter.{Letter}
 use Rattle.c_front.specs.declared.broken.Letter.TheVariants.{Lexical, Profile, Syntax, Typing, Limit}
 use Rattle.fa_core.specs.Boxes.{Boxes}
@@ -56,7 +63,7 @@ use Rattle.fore_call.specs.Calls.{Request, Writing, Call}
 use Rattle.fore_call.specs.Names.{file_of, boxes_of, LetsRead, LetRead, Names}
 use Rattle.fore_call.specs.Texts.{out_text, notes_text, status_of}
 use Rattle.fore_call.specs.Delivery.{IsUntouched, Wrote, IsCut, IsCutShort}
-use Rattle.fore_call.specs.Promises.{IsResult, IsRefusal, Answers}
+use Rattle.fore_call.specs.Promises.{IsResult, IsDecision, IsRefusal, FitsBudget, Answers}
 use Rattle.c_front.specs.declared.broken.Broken.{Broken}
 use Rattle.c_front.specs.Files.{IsProgramOf}
 use Rattle.fore_gen.specs.Programs.{program_text}
@@ -478,6 +485,28 @@ usage_is_no_result : IsResult 2 → ⊥
 usage_is_no_result (inl e) = omega (arith, e)
 usage_is_no_result (inr (inl e)) = omega (arith, e)
 usage_is_no_result (inr (inr e)) = omega (arith, e)
+
+decisions : IsDecision 0 × IsDecision 1
+decisions = (inl refl, inr refl)
+
+unknown_is_no_decision : IsDecision 3 → ⊥
+unknown_is_no_decision (inl e) = omega (arith, e)
+unknown_is_no_decision (inr e) = omega (arith, e)
+
+no_memory_is_no_decision : IsDecision 7 → ⊥
+no_memory_is_no_decision (inl e) = omega (arith, e)
+no_memory_is_no_decision (inr e) = omega (arith, e)
+
+-- a program with a loop fits no budget
+loops_fit_no_budget : (p : Program) → has_no_loop p ≡ false → FitsBudget p usual → ⊥
+loops_fit_no_budget p loops fits = true≢false (sym fits.free ∙ loops)
+
+-- the empty list of edges is a prefix of each graph, so no program fits a budget of none
+abbrev spent : Settings
+spent = record { height = 1; budget = 0; jobs = 1; malloc = Always }
+
+none_fits_nothing : (p : Program) (g : ControlGraph) → LowerOf p Always g → FitsBudget p spent → ⊥
+none_fits_nothing p g is fits = let few = fits.few g is ([] ∷ []) ((λ i. i), tt) (tt, tt) in omega (arith, few)
 
 refusals : IsRefusal 4 × IsRefusal 7
 refusals = (inl refl, inr refl)

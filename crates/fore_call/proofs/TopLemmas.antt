@@ -48,7 +48,9 @@ use Rattle.fore_read.specs.declared.fault.Refusal.TheVariants.{
   BoxRule,
   BoxLimit,
 }
-use Rattle.fore_report.specs.Reports.{IsReport}
+use Rattle.fix_core.specs.declared.explored.Explored.{Explored}
+use Rattle.fix_core.specs.declared.explored.Explored.TheVariants.{Closed, Faulty, Spent}
+use Rattle.fore_report.specs.Reports.{IsReport, IsReportOf}
 use Rattle.fore_report.specs.declared.verdict.Verdict.{Verdict}
 use Rattle.fore_report.specs.declared.verdict.Verdict.TheVariants.{Safe, Unsafe, Unknown}
 use Rattle.fore_words.specs.declared.asked.Kind.{Kind}
@@ -62,7 +64,9 @@ use Rattle.fore_call.specs.declared.answer.Answer.TheVariants.{Verified, Ran, Us
 use Rattle.fore_call.specs.Calls.{Request, Writing, Call}
 use Rattle.fore_call.specs.Delivery.{IsCutShort, Told, WroteNothing}
 use Rattle.fore_call.specs.Names.{Verifies, Runs, Generates, file_of, boxes_of}
-use Rattle.fore_call.specs.Promises.{IsResult, IsRefusal, Answers, Reported, SummedUp, Promises}
+use Rattle.fore_call.specs.Promises.{IsResult, IsDecision, IsRefusal, FitsBudget, Answers, Reported, SummedUp}
+use Rattle.fore_call.specs.Promises.{Promises}
+use Rattle.fore_call.specs.Tables.{no_boxes}
 use Rattle.fore_call.specs.Texts.{out_text, notes_text, run_status, verdict_status, status_of}
 use Rattle.fore_call.specs.Verdict.{
   IsVerified,
@@ -604,6 +608,16 @@ module _ (r : Request) (bytes : List ℕ) (other : IsOther bytes) where
   others_not_run (Verify path boxes settings) file o h = h
   others_not_run (Gen kind phases) file o h = h
 
+-- a report of UNKNOWN is one of a program that has a loop, or whose graph has more prefixes than the budget
+unknown_fits_not : (t : Boxes) (p : Program) (settings : Settings) (text : List ℕ)
+    → IsReport t p settings text Unknown → FitsBudget p settings → ⊥
+unknown_fits_not t p settings text r fits = here r.found r.reports
+  where
+    here : (found : Explored) → IsReportOf t p r.graph settings found Unknown text → ⊥
+    here (Closed nodes) h = h
+    here (Faulty nodes trace) h = h.loops fits.free
+    here (Spent nodes) h = h.means.prefixes fits.free (fits.few r.graph r.lowered)
+
 -- A call that delivered the right answer keeps every promise.
 module _ (c : Call) (a : Answer) (right : IsRight c.request a) (reads : ReadsOnly c.request)
     (status : (c.status ≡ status_of a) ⊎ (c.status ≡ 6) ⊎ (c.status ≡ 7))
@@ -704,6 +718,32 @@ module _ (c : Call) (a : Answer) (right : IsRight c.request a) (reads : ReadsOnl
         (due_for_verify c.request named.bytes p named.within named.is path settings named.file
         (reads_well (Verify path None settings) named.file.is_asked) a right)
 
+    -- a result that is not UNKNOWN is a decision
+    decision : (asked : Asked) → IsAsked c.request.words asked → Verifies c.request.words
+        → ((text : List ℕ) → IsVerified c.request.reading asked Unknown text → ⊥)
+        → IsResult c.status ⊎ (c.status ≡ 7) → IsDecision c.status ⊎ (c.status ≡ 7)
+    decision asked is verifies known due = elim due [
+      | inl (inl e) ↦ inl (inl e)
+      | inl (inr (inl e)) ↦ inl (inr e)
+      | inl (inr (inr e)) ↦
+          let w = unknown (verifies_only verifies) e in
+          absurd
+          (known w.0 (at c.request asked is (Verified Unknown w.0) (subst (IsRight c.request) w.1 right)))
+      | inr e ↦ inr e
+    ]
+
+    decides : (p : Program) (path : List ℕ) (settings : Settings)
+        → NamesProgram c.request (Verify path None settings) p → FitsBudget p settings
+        → IsDecision c.status ⊎ (c.status ≡ 7)
+    decides p path settings named fits =
+        decision (Verify path None settings) named.file.is_asked (path, None, settings, named.file.is_asked)
+        (λ text h.
+        (let same : p ≡ h.0 = one_program named.bytes p h.0 named.is
+        (program_known c.request.reading path named.bytes
+        (known_of c.request (Verify path None settings) named.bytes path named.file refl) h.0 [] h.1) in
+        unknown_fits_not (no_boxes h.0.shapes) h.0 settings text h.2
+        (subst (λ (q : Program). FitsBudget q settings) same fits))) (judges p path settings named)
+
     runs : (p : Program) (path choices : List ℕ) (steps : ℕ) (malloc : MallocMode)
         → NamesProgram c.request (Run path choices steps malloc) p
         → (c.status ≡ run_status (run p malloc choices steps)) ⊎ (c.status ≡ 7)
@@ -731,6 +771,20 @@ module _ (c : Call) (a : Answer) (right : IsRight c.request a) (reads : ReadsOnl
         mostly IsResult
         (due_for_boxes c.request path boxes bytes settings p named
         (reads_well (Verify path (Some boxes) settings) named.program.file.is_asked) breaks_none t is a right)
+
+    decides_by_boxes : (p : Program) (t : Boxes) (path boxes bytes : List ℕ) (settings : Settings)
+        → NamesBoth c.request path boxes settings p bytes → IsBoxText bytes p.shapes t → FitsBudget p settings
+        → IsDecision c.status ⊎ (c.status ≡ 7)
+    decides_by_boxes p t path boxes bytes settings named is fits =
+        let both : Asked = Verify path (Some boxes) settings in
+        let asked = named.program.file.is_asked in
+        decision both asked (path, Some boxes, settings, asked)
+        (λ text h.
+        (let same = same_program c.request path boxes bytes settings p named (reads_well both asked) breaks_none
+        h.program h.done h.gives in
+        unknown_fits_not h.table h.program settings text h.has
+        (subst (λ (q : Program). FitsBudget q settings) same fits)))
+        (judges_by_boxes p t path boxes bytes settings named is)
 
     refuses_boxes : (p : Program) (path boxes bytes : List ℕ) (settings : Settings)
         → NamesBoth c.request path boxes settings p bytes → IsOtherBoxes bytes p.shapes → IsRefusal c.status
@@ -769,6 +823,9 @@ module _ (c : Call) (a : Answer) (right : IsRight c.request a) (reads : ReadsOnl
     refuses = λ named steady. refuses steady named;
     judges_by_boxes = λ p t path boxes bytes settings named is steady.
         judges_by_boxes steady p t path boxes bytes settings named is;
+    decides = λ p path settings named fits steady. decides steady p path settings named fits;
+    decides_by_boxes = λ p t path boxes bytes settings named is fits steady.
+        decides_by_boxes steady p t path boxes bytes settings named is fits;
     refuses_boxes = λ p path boxes bytes settings named other steady.
         refuses_boxes steady p path boxes bytes settings named other;
     judges_gen = λ asked steady. judges_gen steady asked;

@@ -1,9 +1,13 @@
 -- What holds of every call of the program.
-use Rattle.std.specs.Prelude.{◌≡◌, ◌<◌, ◌⊎◌, ℕ, List, None}
+use Rattle.std.specs.Prelude.{◌≡◌, ◌<◌, ◌⊎◌, ℕ, List, None, true}
 use Rattle.c_types.specs.declared.mode.MallocMode.{MallocMode}
 use Rattle.c_types.specs.declared.outcome.Outcome.{Outcome}
 use Rattle.c_types.specs.Program.{Program}
 use Rattle.c_types.specs.Runs.{run}
+use Rattle.c_cfg.specs.Graphs.{ControlGraph}
+use Rattle.c_cfg.specs.LoopFree.{has_no_loop}
+use Rattle.c_cfg.specs.Lowering.{LowerOf}
+use Rattle.c_prefixes.specs.Prefixes.{AtMost}
 use Rattle.fa_core.specs.Boxes.{Boxes}
 use Rattle.fore_read.specs.declared.fault.Refusal.{Refusal}
 use Rattle.fore_report.specs.Reports.{IsReport}
@@ -45,9 +49,20 @@ use Rattle.fore_call.specs.Verdict.{
 abbrev pub IsResult : ℕ → Type 0
 IsResult n = (n ≡ NO_FAULT) ⊎ (n ≡ FAULT) ⊎ (n ≡ UNKNOWN)
 
+-- the status of SAFE or of UNSAFE
+abbrev pub IsDecision : ℕ → Type 0
+IsDecision n = (n ≡ NO_FAULT) ⊎ (n ≡ FAULT)
+
 -- the status of a refusal, or want of memory
 abbrev pub IsRefusal : ℕ → Type 0
 IsRefusal n = (n ≡ REFUSED) ⊎ (n ≡ NO_MEMORY)
+
+-- The program has no loop, and its control graph, where `malloc` answers by the mode of the words, has no more prefixes
+-- than may be kept of abstract states: no list of different lists of edges that begin at the entry, each edge starting
+-- where the one before ended, is longer than the budget.
+pub record FitsBudget (p : Program) (settings : Settings) : Type 0 where
+  pub free : has_no_loop p ≡ true
+  pub few : (g : ControlGraph) → LowerOf p settings.malloc g → AtMost settings.budget g
 
 -- the call gave this answer: it is right, the status is its own, and both sinks got exactly its text
 pub record Answers (c : Call) (due : Answer) : Type 0 where
@@ -111,6 +126,15 @@ pub record Promises (c : Call) : Type 0 where
   pub judges_by_boxes : (p : Program) (t : Boxes) (path boxes bytes : List ℕ) (settings : Settings)
       → NamesBoth c.request path boxes settings p bytes → IsBoxText bytes p.shapes t
       → NothingFailed c → IsResult c.status ⊎ (c.status ≡ NO_MEMORY)
+  -- a program without loops is decided, that is, SAFE or UNSAFE, where its control graph has no more prefixes than the
+  -- budget
+  pub decides : (p : Program) (path : List ℕ) (settings : Settings)
+      → NamesProgram c.request (Verify path None settings) p → FitsBudget p settings
+      → NothingFailed c → IsDecision c.status ⊎ (c.status ≡ NO_MEMORY)
+  -- with a file of boxes that gives a table, too
+  pub decides_by_boxes : (p : Program) (t : Boxes) (path boxes bytes : List ℕ) (settings : Settings)
+      → NamesBoth c.request path boxes settings p bytes → IsBoxText bytes p.shapes t → FitsBudget p settings
+      → NothingFailed c → IsDecision c.status ⊎ (c.status ≡ NO_MEMORY)
   -- a file of boxes that is to be refused is refused
   pub refuses_boxes : (p : Program) (path boxes bytes : List ℕ) (settings : Settings)
       → NamesBoth c.request path boxes settings p bytes → IsOtherBoxes bytes p.shapes

@@ -42,7 +42,8 @@ module _ (t : Boxes) (p : Program) (graph : ControlGraph) (settings : Settings) 
     pub prints : text ≡ unsafe_text kind line step trace.choices
 
   -- UNKNOWN budget: the printed abstract states are an exploration of the program's control graph, as many as the
-  -- budget, and a further one is wanted; no earlier one of its location covers any of them.
+  -- budget, and a further one is wanted; no earlier one of its location covers any of them. If the program has no loop,
+  -- its control graph has more prefixes than the budget.
   pub record IsBudgetReport (nodes : List Node) (text : List ℕ) : Type 0 where
     pub means : BudgetMeans t p settings.malloc graph settings.height settings.budget nodes
     pub prints : text ≡ budget_text (explored_text nodes)

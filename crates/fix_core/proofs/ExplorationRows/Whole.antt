@@ -111,6 +111,7 @@ to_null =
       sound = null_sound;
       ranked = tt;
       canonical = null_canonical;
+      plain = λ none. tt;
       true_case = λ u m. true_case u m;
       keeps = λ d u b. keeps d u b;
     }
@@ -143,6 +144,7 @@ still_null =
       sound = null_sound;
       ranked = tt;
       canonical = null_canonical;
+      plain = λ none. tt;
       true_case = λ u m. true_case u m;
       keeps = λ d u b. keeps d u b;
     }

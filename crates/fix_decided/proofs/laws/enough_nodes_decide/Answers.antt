@@ -4,9 +4,8 @@ use Rattle.fix_decided.proofs.Deciding.{decided}
 use Rattle.fix_decided.proofs.laws.enough_nodes_decide.Goals as goal
 
 pub returns-clause-bare : goal.returns-clause-bare
-returns-clause-bare c = λ T g k nodes none free explored.
-    bare_nodes T none g k nodes explored (λ l. no_heads g.heads l free)
+returns-clause-bare c = λ T g k nodes free explored. bare_nodes T g k nodes explored (λ l. no_heads g.heads l free)
 
 pub returns-clause-decides : goal.returns-clause-decides
-returns-clause-decides c = λ T g k budget found table none free most explored.
-    decided T table none g free k budget found explored most
+returns-clause-decides c = λ T g k budget found table free most explored.
+    decided T table g free k budget found explored most

@@ -20,5 +20,5 @@ returns g c =
     post_is t.table t.graph s c.args.edge.now c.in_ok-made.made c.requires.normal
     (rw c.table-2.ensures at f.all) (rw c.table-2.ensures at f.keeps) (rw c.table-2.ensures at f.true_cases)
     (rw c.table-2.ensures at f.bads) f.canonical f.reduced f.face f.vars
-    (rw c.as_slice.ensures at c.are_ranked.ensures) f.apart
+    (rw c.as_slice.ensures at c.are_ranked.ensures) f.plain f.apart
     (λ q. IfOk-at_ok (λ z. length z.next ≤ 1) c.in_ok-made.was (c.post.ensures.quiet q)) f.bad_face

@@ -1,5 +1,6 @@
 use Rattle.std.proofs.Common.{◌∙◌, ◌≤◌, length, IfOk, sym, subst, arith}
-use Rattle.fix_verdict.specs.declared.verdict.Verdict.TheVariants.{Safe}
+use Rattle.fix_core.specs.declared.explored.Explored.TheVariants.{Spent}
+use Rattle.fix_verdict.specs.declared.verdict.Verdict.TheVariants.{FullBudget, Safe}
 use Rattle.fix_core.specs.Explorations.{IsExplored}
 use Rattle.fix_verdict.specs.Verdicts.{IsVerdict}
 use Rattle.fix_verdict.proofs.Judging.{safe_means, if_replayed, if_never_loose, no_heads, runs_go_by, trace_short}
@@ -25,6 +26,20 @@ returns-in-Closed-clause-verdict c =
     c.in-Closed.nodes
     (subst (IsExplored c.args.table.now c.args.graph.now c.args.height c.args.budget) c.in-Closed.is
     c.requires.explored))
+
+pub returns-in-Spent-clause-verdict : goal.returns-in-Spent-clause-verdict
+returns-in-Spent-clause-verdict c =
+    let T = c.args.table.now in
+    let g = c.args.graph.now in
+    let x = subst (IsExplored T g c.args.height c.args.budget) c.in-Spent.is c.requires.explored in
+    subst (λ z. IsVerdict T c.args.program.now c.args.mode g c.args.height c.args.budget z FullBudget)
+    (sym c.in-Spent.is)
+    (record {
+      explored = x.0;
+      full = x.1;
+      prefixes = λ free most. c.enough_nodes_decide.ensures.decides T g c.args.height c.args.budget
+          (Spent c.in-Spent.nodes) c.known.ensures (c.loop_free_graphs.ensures c.requires.lowered ∙ free) most x;
+    })
 
 pub returns-in-Faulty-clause-verdict : goal.returns-in-Faulty-clause-verdict
 returns-in-Faulty-clause-verdict c =
