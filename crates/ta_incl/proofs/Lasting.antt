@@ -1,6 +1,6 @@
 -- Each pair is covered by one that no later one covers; so the rules need be taken over these alone.
-use Rattle.std.proofs.Common.{◌≡◌, ◌⊎◌, inl, inr, ℕ, zero, suc, ◌<◌, ◌+◌, Bool, true, false, List, [], ◌∷◌, ◌++◌, length}
-use Rattle.std.proofs.Common.{drop, get_or, slice_get, Some, MatchBool, IsTrue, refl, sym, ap, subst, arith}
+use Rattle.std.proofs.Common.{◌≡◌, ◌⊎◌, inl, inr, ℕ, zero, suc, ◌<◌, ◌+◌, Bool, true, false, List, [], ◌∷◌, ◌++◌}
+use Rattle.std.proofs.Common.{length, drop, get_or, slice_get, Some, MatchBool, IsTrue, refl, sym, ap, subst, arith}
 use Rattle.std.proofs.lemmas.List.{append_assoc}
 use Rattle.fore_base.specs.Lists.{IsIn, Every}
 use Rattle.fore_base.specs.Marks.{IsMarked}
@@ -74,8 +74,9 @@ lasting_less order (f ∷ found) added [] olds i h k l m = absurd h
 lasting_less order (f ∷ found) added (n ∷ news) [] i h k l m = absurd k
 lasting_less order (f ∷ found) added (n ∷ news) (true ∷ olds) zero h k l m = refl
 lasting_less order (f ∷ found) added (n ∷ news) (false ∷ olds) zero h k l m =
-    absurd (subst (λ (b : Bool). MatchBool b (HasCover order (found ++ added) f → ⊥) (HasCover order (found ++ added) f))
-    m h.0 (cover_left order found added f k.0))
+    absurd
+    (subst (λ (b : Bool). MatchBool b (HasCover order (found ++ added) f → ⊥) (HasCover order (found ++ added) f)) m h.0
+    (cover_left order found added f k.0))
 lasting_less order (f ∷ found) added (n ∷ news) (o ∷ olds) (suc i) h k l m =
     lasting_less order found added news olds i h.1 k.1 (omega (arith, l)) m
 

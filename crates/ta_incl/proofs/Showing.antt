@@ -1,5 +1,5 @@
--- A pair that another one covers hides no tree: what the rules give over the others is enough, and pairs that cover what
--- the rules give over them stand for all trees.
+-- A pair that another one covers hides no tree: what the rules give over the others is enough, and pairs that cover
+-- what the rules give over them stand for all trees.
 use Rattle.std.proofs.Common.{◌≡◌, ℕ, ◌<◌, Bool, true, false, true≢false, List, [], ◌∷◌, get_or, refl, sym, subst, ◌∙◌}
 use Rattle.std.proofs.lemmas.Bool.{and_from, and_parts}
 use Rattle.fore_base.specs.Lists.{IsIn, Every, Paired}

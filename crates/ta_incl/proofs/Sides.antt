@@ -83,8 +83,8 @@ module _ (a b : Automaton) (pa : IsRanked a) (pb : IsRanked b) (order : Order) w
   from_right : (x y : ℕ) → on_right a.states order x y ≡ true → (a.states ≤ x) × (a.states ≤ y)
       × AreOrdered order (x - a.states) (y - a.states)
   from_right x y h =
-      let f = and_parts (nat_lt a.states (suc x)) (nat_lt a.states (suc y) && below order (x - a.states) (y - a.states)) h
-      in
+      let f = and_parts (nat_lt a.states (suc x))
+      (nat_lt a.states (suc y) && below order (x - a.states) (y - a.states)) h in
       let g = and_parts (nat_lt a.states (suc y)) (below order (x - a.states) (y - a.states)) f.1 in
       let l = ltb-true a.states (suc x) f.0 in
       let k = ltb-true a.states (suc y) g.0 in
@@ -170,7 +170,8 @@ module _ (a b : Automaton) (pa : IsRanked a) (pb : IsRanked b) (order : Order) w
             in_right (renumbered (shift a.states) w.0) a.rules (map (renumbered (shift a.states)) b.rules)
                 (in_map (renumbered (shift a.states)) w.0 b.rules w.1),
             w.2 ∙ ap (λ (t : Rule). t.symbol) (sym e),
-            subst (λ (t : Rule). PairedBut (λ x y. x ≡ y) i x y t.children (map (shift a.states) w.0.children)) (sym e) but,
+            subst (λ (t : Rule). PairedBut (λ x y. x ≡ y) i x y t.children (map (shift a.states) w.0.children)) (sym e)
+                but,
             subst (λ (t : Rule). on_right a.states order t.state (shift a.states w.0.state) ≡ true) (sym e)
                 (to_right s.state w.0.state w.4),
           )

@@ -40,7 +40,8 @@ but_on i p q r (x ∷ xs) (y ∷ ys) [] h k = absurd k
 but_on zero p q r (x ∷ xs) (y ∷ ys) (z ∷ zs) h k = (h.0, k.1, pairs_on xs ys zs h.2 k.2)
 but_on (suc i) p q r (x ∷ xs) (y ∷ ys) (z ∷ zs) h k = (h.0 ∙ k.0, but_on i p q r xs ys zs h.1 k.1)
 
--- where one relation is within another on what meets P, lists of it that are related but at one place are so by the other
+-- where one relation is within another on what meets P, lists of it that are related but at one place are so by the
+-- other
 module _ (P : ℕ → Type 0) (D E : ℕ → ℕ → Type 0) (f : (x y : ℕ) → P x → D x y → E x y) where
   pairs_wider : (xs ys : List ℕ) → Every P xs → Paired D xs ys → Paired E xs ys
   pairs_wider [] [] l h = tt

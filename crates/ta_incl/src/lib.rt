@@ -4,8 +4,9 @@
 //! refutes it; `is_included` says it alone, and makes no tree.
 //! - `Inclusion` is the answer, and `Pair` what a Yes carries: a state of the left automaton with a set of states of
 //! the right one.
-//! - The search (`searching`) finds pairs from the leaves upward, round by round (`exploring`); `failing` finds one
-//! that shows a No, `growing` makes its tree, and `thinning` keeps the pairs of a Yes.
+//! - The search (`searching`) finds pairs from the leaves upward, step by step (`exploring`), and drops those that
+//! others cover (`found`), by what is below what (`order`); `failing` finds one that shows a No, `growing` makes its
+//! tree, and `thinning` keeps the pairs of a Yes.
 #![tactic(auto)]
 
 mod comparing;

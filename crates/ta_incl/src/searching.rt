@@ -1,7 +1,7 @@
 // The search: which pairs the rules of the left automaton give, from the leaves upward.
 
-ghost use Rattle.std.specs.Prelude.{◌≡◌, ◌↔◌, ◌<◌, ◌≤◌, ◌-◌, ◌^◌, ℕ, [], ◌++◌, false, length, slice_index_or, IfOk, OnOk};
-ghost use Rattle.std.specs.Prelude.{MatchBool, MatchOption};
+ghost use Rattle.std.specs.Prelude.{◌≡◌, ◌↔◌, ◌<◌, ◌≤◌, ◌-◌, ◌^◌, ℕ, [], ◌++◌, false, length, slice_index_or};
+ghost use Rattle.std.specs.Prelude.{IfOk, OnOk, MatchBool, MatchOption};
 ghost use Rattle.fore_base.specs.Marks.{IsMarked, marked_count};
 ghost use Rattle.ta_incl.specs.inner.Founds.{IsDerived, HasUnder, Widens, is_due};
 ghost use Rattle.ta_incl.specs.inner.Founds.{IsSearch, IsReady, CoversReady, IsExplored};
@@ -28,8 +28,8 @@ pub struct Findings {
 /// With more states than so many in both automata no tables are made.
 const MOST: usize = 4096;
 
-/// The pairs that are found until one fails, or no rule gives a further one. The search begins with equality, and begins
-/// anew with the simulations where it has found many pairs.
+/// The pairs that are found until one fails, or no rule gives a further one. The search begins with equality, and
+/// begins anew with the simulations where it has found many pairs.
 pub fn explored(alloc: Global, left: &Auto, right: &Auto) -> Mem<Findings>
     ensures { IfOk result (λ x. IsExplored left.now right.now x.orders x.found) }
 {
