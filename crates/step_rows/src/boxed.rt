@@ -1,8 +1,9 @@
 // boxed-step: what an edge makes of a canonical forest, over the boxes that the second text names.
 //
 // The boxes stand in files over the structs of rows. dll leads from a pair to the next by a, and back by b, and trios
-// does so from a trio to the next. ring is the pointer of a node to itself. tower has two: the pointer of a node to
-// another, and two such edges with a node between.
+// does so from a trio to the next. seg is one of both fields of a pair and goes past a list of any length. ring is the
+// pointer of a node to itself. tower has two: the pointer of a node to another, and two such edges with a node between.
+// twice has dll, and two edges of it with a pair between. items has the pointer of an item to another, and to itself.
 
 ghost use Rattle.std.specs.Prelude.{◌≡◌, length, IfOk};
 ghost use Rattle.fa_core.specs.Canonical.{IsCanonical};
@@ -33,12 +34,24 @@ const DLL: &str = "box dll in pair out pair\nroot 0 s0\ns0 = pair(a=s1)\ns1 = re
 const TRIOS: &str = "box dll in trio out trio\nroot 0 s0\ns0 = trio(a=s1)\ns1 = ref 1\n\
     root 1 s0\ns0 = trio(b=s1)\ns1 = ref 0\nend\n";
 
+const SEG: &str = "box seg in pair out pair\nroot 0 s0\ns0 = pair(a=s1,b=s2)\ns1 = ref 1\n\
+    s1 = pair(a=s1,b=s3)\ns2 = ref 1\ns3 = null\nroot 1 s0\ns0 = pair()\nend\n";
+
 const RING: &str = "box ring in node\nroot 0 s0\ns0 = node(a=s1)\ns1 = ref 0\nend\n";
 
 const TOWER: &str = "box to in node out node\nroot 0 s0\ns0 = node(a=s1)\ns1 = ref 1\n\
     root 1 s0\ns0 = node()\nend\n\
     box two in node out node\nroot 0 s0\ns0 = node(@to=s1)\ns1 = node(@to=s2)\ns2 = ref 1\n\
     root 1 s0\ns0 = node()\nend\n";
+
+const TWICE: &str = "box dll in pair out pair\nroot 0 s0\ns0 = pair(a=s1)\ns1 = ref 1\n\
+    root 1 s0\ns0 = pair(b=s1)\ns1 = ref 0\nend\n\
+    box two in pair out pair\nroot 0 s0\ns0 = pair(@dll=s1)\ns1 = pair(@dll=s2)\ns2 = ref 1\n\
+    root 1 s0\ns0 = pair()\nend\n";
+
+const ITEMS: &str = "box to in item out item\nroot 0 s0\ns0 = item(b=s1)\ns1 = ref 1\n\
+    root 1 s0\ns0 = item()\nend\n\
+    box own in item\nroot 0 s0\ns0 = item(b=s1)\ns1 = ref 0\nend\n";
 
 // Which of the further texts the forests behind the edge are, and at which of them the faults are met.
 pub fn boxed_step<R: Threads + Sync>(
@@ -70,7 +83,10 @@ fn file_of(name: &str) -> Result<&'static str> {
         "dll" => Ok(DLL),
         "trios" => Ok(TRIOS),
         "ring" => Ok(RING),
+        "seg" => Ok(SEG),
         "tower" => Ok(TOWER),
+        "twice" => Ok(TWICE),
+        "items" => Ok(ITEMS),
         _ => bail!("no such file"),
     }
 }
