@@ -133,6 +133,46 @@ impl<'a> RowWorker for Counting<'a> {
     }
 }
 
+// Counts each row, and leaves it as it is.
+#[derive(Drop)]
+struct CountingRows<'a> {
+    turns: &'a Turns,
+}
+
+impl<'a> RowWorker for CountingRows<'a> {
+    ghost use Rattle.std.specs.Prelude.{◌≡◌};
+
+    ghost accepts = { λ worker index long. Unit {0} };
+
+    ghost is_row = { λ worker index row. Unit {0} };
+
+    fn row(&self, _alloc: Global, _index: usize, _row: &mut List<bool>) -> Mem<()> {
+        self.turns.count();
+        Ok(())
+    }
+}
+
+// Whether the pieces of `fill_rows` take their turns.
+fn rows_are_even<R: Threads + Sync>(
+    rt: &R,
+    alloc: Global,
+    length: usize,
+    jobs: usize,
+) -> Mem<bool> {
+    let mut rows = Vec::new(alloc);
+    for _row in 0..length {
+        rows.push(List::new(alloc))?;
+    }
+    let turns = Turns::new(length, jobs, false);
+    let crew = Crew {
+        jobs: jobs.clamp(1, 64),
+        gate: &turns,
+    };
+    let worker = CountingRows { turns: &turns };
+    fill_rows(rt, alloc, rows.as_mut_slice(), &worker, &crew)?;
+    Ok(turns.went_well())
+}
+
 // Whether the pieces of `first_index` and `make_all` take their turns.
 fn are_even<R: Threads + Sync>(
     rt: &R,
@@ -194,6 +234,37 @@ fn rows_are_shared_out_evenly(rt: HostRuntime) {
             }
             _ => assert!(rt; false),
         }
+    }
+}
+
+#[test]
+fn rows_of_each_number_are_shared_out(rt: HostRuntime) {
+    for length in LENGTHS {
+        for jobs in JOBS {
+            assert!(rt; rows_are_even(&rt, rt.alloc(), length, jobs) == Ok(true));
+        }
+    }
+}
+
+// The third item is the first that is 0; products stand in the order of their items.
+#[test]
+fn pieces_answer_as_one(rt: HostRuntime) {
+    let turns = Turns::new(4, 4, false);
+    let counting = Counting { turns: &turns };
+    let gate = NoGate;
+    let four = Crew {
+        jobs: 4,
+        gate: &gate,
+    };
+    let found = first_index(&rt, rt.alloc(), &[3u32, 7, 0, 0], &counting, &four);
+    assert!(rt; found == Ok(Some(2)));
+    let two = Crew {
+        jobs: 2,
+        gate: &gate,
+    };
+    match make_all(&rt, rt.alloc(), &[3u32, 4, 5], &counting, &two) {
+        Ok(made) => assert!(rt; made.as_slice() == [3u32, 4, 5].as_slice()),
+        Err(_) => assert!(rt; false),
     }
 }
 
