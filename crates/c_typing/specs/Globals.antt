@@ -1,27 +1,36 @@
--- What the items of a file define: structs, enumerations and enumerators. They are known in the whole file. Of two
--- definitions of one name
--- the first counts.
-use Rattle.std.specs.Prelude.{ℕ, zero, suc, cond, nat_le, List, [], ◌∷◌, map, Option, Some, None}
+-- What the items of a file define: structs, enumerations, enumerators and functions. They are known in the whole file.
+-- Of two definitions of one name the first counts.
+use Rattle.std.specs.Prelude.{ℕ, zero, suc, Bool, cond, nat_le, List, [], ◌∷◌, map, codes, Option, Some, None}
 use Rattle.fore_base.specs.declared.limits.TheConstants.{DATUM}
 use Rattle.c_ast.specs.declared.items.Field.{Field}
 use Rattle.c_ast.specs.declared.items.Field.TheVariants as field
+use Rattle.c_ast.specs.declared.items.Head.{Head}
 use Rattle.c_ast.specs.declared.items.Item.{Item}
 use Rattle.c_ast.specs.declared.items.Item.TheVariants as item
+use Rattle.c_ast.specs.declared.items.Param.{Param}
+use Rattle.c_ast.specs.declared.items.Param.TheVariants as param
+use Rattle.c_ast.specs.declared.items.Params.{Params}
+use Rattle.c_ast.specs.declared.items.Params.TheVariants as params
+use Rattle.c_ast.specs.declared.items.ReturnType.{ReturnType}
+use Rattle.c_ast.specs.declared.items.ReturnType.TheVariants as gives
 use Rattle.c_ast.specs.declared.operands.Name.{Name}
 use Rattle.c_typing.specs.Texts.{Text, same, number_of, firsts, each_of}
 use Rattle.c_typing.specs.declared.meaning.Enumerator.{Enumerator}
 use Rattle.c_typing.specs.declared.meaning.FieldUse.{FieldUse}
 use Rattle.c_typing.specs.declared.meaning.FieldUse.TheVariants as use_of
+use Rattle.c_typing.specs.declared.meaning.FunctionDef.{FunctionDef}
 use Rattle.c_typing.specs.declared.meaning.Kind.{Kind}
 use Rattle.c_typing.specs.declared.meaning.Kind.TheVariants.{Points, Datum}
 use Rattle.c_typing.specs.declared.meaning.Member.{Member}
 use Rattle.c_typing.specs.declared.meaning.StructDef.{StructDef}
 
--- the structs in order of their definitions, the names of the enumerations, and the enumerators
+-- the structs in order of their definitions, the names of the enumerations, the enumerators, and the functions besides
+-- `main` in order of their definitions
 pub record Globals : Type 0 where
   pub structs : List StructDef
   pub enums : List Text
   pub values : List Enumerator
+  pub functions : List FunctionDef
 
 abbrev pub text_of : Name → Text
 text_of n = n.text
@@ -102,8 +111,61 @@ value_name v = v.name
 abbrev pub values_of : List Item → List Enumerator
 values_of items = firsts value_name [] (each_of values_in items)
 
+-- Functions (6.9.1). What their heads say is told by numbers of structs, given the names of all structs.
+
+abbrev pub is_main : Head → Bool
+is_main h = same h.name.text (codes "main")
+
+-- what a function returns: nothing, or a value of this kind
+abbrev pub result_kind : List Text → ReturnType → Option Kind
+result_kind names (gives.Void at) = None
+result_kind names (gives.Data d) = Some Datum
+result_kind names (gives.Pointer at name) = Some (Points (number_of name.text names))
+
+abbrev pub param_kind : List Text → Param → Kind
+param_kind names (param.Pointer at shape name) = Points (number_of shape.text names)
+param_kind names (param.Datum base name) = Datum
+
+abbrev pub listed : Params → List Param
+listed (params.Void at) = []
+listed (params.List ps) = ps
+
+-- `()` and `(void)` both have no parameters
+abbrev pub params_of : Option Params → List Param
+params_of None = []
+params_of (Some ps) = listed ps
+
+abbrev pub function_of : List Text → Head → FunctionDef
+function_of names h = record {
+  name = h.name.text;
+  result = result_kind names h.gives;
+  params = map (param_kind names) (params_of h.params);
+}
+
+abbrev pub head_name : Head → Text
+head_name h = h.name.text
+
+abbrev pub functions_in : Item → List Head
+functions_in (item.Struct at name fields) = []
+functions_in (item.Enum at name values) = []
+functions_in (item.Proto outer head) = []
+functions_in (item.Function head body) = cond (is_main head) [] (head ∷ [])
+functions_in (item.Declare d) = []
+
+-- the heads of the functions, of each name the first, without `main`
+abbrev pub function_heads : List Item → List Head
+function_heads items = firsts head_name [] (each_of functions_in items)
+
+abbrev pub functions_of : List Item → List FunctionDef
+functions_of items = map (function_of (map defined_name (struct_definitions items))) (function_heads items)
+
 abbrev pub globals_of : List Item → Globals
-globals_of items = record { structs = structs_of items; enums = enums_of items; values = values_of items }
+globals_of items = record {
+  structs = structs_of items;
+  enums = enums_of items;
+  values = values_of items;
+  functions = functions_of items;
+}
 
 -- What a name means
 
@@ -113,6 +175,13 @@ struct_name s = s.name
 -- the number of the struct of this name
 abbrev pub struct_number : Globals → Text → Option ℕ
 struct_number g x = number_of x (map struct_name g.structs)
+
+abbrev pub function_name : FunctionDef → Text
+function_name f = f.name
+
+-- the number of the function of this name; none is that of `main`
+abbrev pub function_number : Globals → Text → Option ℕ
+function_number g x = number_of x (map function_name g.functions)
 
 abbrev pub value_in : Text → List Enumerator → Option ℕ
 value_in x [] = None

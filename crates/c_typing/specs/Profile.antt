@@ -10,6 +10,7 @@ use Rattle.c_ast.specs.declared.operands.Operand.{Operand}
 use Rattle.c_ast.specs.declared.statements.Data.{Data}
 use Rattle.c_ast.specs.declared.statements.Data.TheVariants as data'
 use Rattle.c_typing.specs.Globals.{Globals}
+pub use Rattle.c_typing.specs.Globals.{is_main}
 use Rattle.c_typing.specs.Meanings.{meaning_of_operand}
 use Rattle.c_typing.specs.Scopes.{Scope}
 use Rattle.c_typing.specs.Texts.{Text, same, has, is_empty}
@@ -63,9 +64,6 @@ abbrev pub has_no_params : Option Params → Bool
 has_no_params None = true
 has_no_params (Some (params.Void at)) = true
 has_no_params (Some (params.List ps)) = false
-
-abbrev pub is_main : Head → Bool
-is_main h = same h.name.text (codes "main")
 
 -- `int main()`
 abbrev pub is_main_head : Head → Bool

@@ -1,7 +1,9 @@
 // Values that hold only data can be shared between threads and moved to another.
 
 use crate::fault::TypeFault;
-use crate::meaning::{Enumerator, FieldUse, Kind, Meaning, Member, Spot, StructDef, Want};
+use crate::meaning::{
+    Enumerator, FieldUse, FunctionDef, Kind, Meaning, Member, Spot, StructDef, Want,
+};
 use fore_base::crossing::crosses;
 
 /// Faults cross threads.
@@ -27,6 +29,11 @@ pub fn struct_crosses(def: &StructDef) {
 /// Enumerators cross threads.
 pub fn enumerator_crosses(value: &Enumerator) {
     crosses(value)
+}
+
+/// Functions cross threads.
+pub fn function_crosses(def: &FunctionDef) {
+    crosses(def)
 }
 
 /// Uses of fields cross threads.

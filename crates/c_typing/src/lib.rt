@@ -12,4 +12,6 @@ pub mod laws;
 pub mod meaning;
 
 pub use fault::TypeFault;
-pub use meaning::{Enumerator, FieldUse, Kind, Meaning, Member, Spot, StructDef, Want};
+pub use meaning::{
+    Enumerator, FieldUse, FunctionDef, Kind, Meaning, Member, Spot, StructDef, Want,
+};

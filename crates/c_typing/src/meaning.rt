@@ -1,4 +1,4 @@
-// What names mean: the structs, fields and enumerators of a file, and what an operand is.
+// What names mean: the structs, fields, enumerators and functions of a file, and what an operand is.
 
 use c_types::{DataPath, Path};
 use fore_base::list::List;
@@ -34,6 +34,16 @@ pub struct Enumerator {
     pub name: Text,
     /// Its place in its enumeration, from 0. It is 0 where that is greater than a datum, which breaks a limit.
     pub value: u8,
+}
+
+/// A function besides `main`, as its head tells it. Its number is its position among those of its file.
+#[derive(Drop)]
+pub struct FunctionDef {
+    pub name: Text,
+    /// What it returns, if anything.
+    pub result: Option<Kind>,
+    /// What its parameters hold, in order.
+    pub params: List<Kind>,
 }
 
 /// A field of a struct as it is used: its number among the fields of its kind, and the struct to which it points.

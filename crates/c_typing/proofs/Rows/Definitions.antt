@@ -3,10 +3,14 @@ use Rattle.std.proofs.Common.{◌≡◌, List, [], ◌∷◌, Some, None, codes,
 use Rattle.c_ast.specs.declared.items.Field.TheVariants as field
 use Rattle.c_ast.specs.declared.items.Item.{Item}
 use Rattle.c_ast.specs.declared.items.Item.TheVariants as item
+use Rattle.c_ast.specs.declared.items.Param.TheVariants as param
+use Rattle.c_ast.specs.declared.items.Params.TheVariants as params
+use Rattle.c_ast.specs.declared.items.ReturnType.TheVariants as gives
 use Rattle.c_ast.specs.declared.statements.Data.TheVariants as data'
-use Rattle.c_typing.specs.Globals.{globals_of, struct_number, value_of, field_use}
+use Rattle.c_typing.specs.Globals.{globals_of, struct_number, value_of, field_use, function_number}
 use Rattle.c_typing.specs.declared.meaning.FieldUse.TheVariants as use_of
-use Rattle.c_typing.proofs.Rows.Forms.{at, name, file}
+use Rattle.c_typing.specs.declared.meaning.Kind.TheVariants.{Points, Datum}
+use Rattle.c_typing.proofs.Rows.Forms.{at, name, block, head, file}
 
 -- struct none; struct node { struct node *next; int key; }; struct item { struct node *head; struct item *twin; struct
 -- none *lost; int mark; }; enum color { RED, BLUE };
@@ -102,3 +106,52 @@ greatest_value = refl
 
 value_too_great : value_of (globals_of many) (codes "A16") ≡ Some 0
 value_too_great = refl
+
+-- void f(void) { } int g(int a, struct node *b, enum e c) { } int main(int a) { } struct node *h(struct none *d) { }
+-- int f(int a) { } enum e k() { } struct none *m(void); struct node { int key; };
+-- A prototype defines nothing, `main` is left out, and the struct may come later.
+abbrev several : List Item
+several =
+    item.Function (head (gives.Void (at 200)) (name (codes "f") 201) (Some (params.Void (at 203)))) (block 205 [] 206)
+    ∷ item.Function
+    (head (gives.Data (data'.Int (at 207))) (name (codes "g") 208)
+    (Some
+    (params.List
+    (param.Datum (data'.Int (at 210)) (name (codes "a") 211)
+    ∷ param.Pointer (at 213) (name (codes "node") 214) (name (codes "b") 216)
+    ∷ param.Datum (data'.Enum (at 218) (name (codes "e") 219)) (name (codes "c") 220) ∷ [])))) (block 222 [] 223)
+    ∷ item.Function
+    (head (gives.Data (data'.Int (at 224))) (name (codes "main") 225)
+    (Some (params.List (param.Datum (data'.Int (at 227)) (name (codes "a") 228) ∷ [])))) (block 230 [] 231)
+    ∷ item.Function
+    (head (gives.Pointer (at 232) (name (codes "node") 233)) (name (codes "h") 235)
+    (Some (params.List (param.Pointer (at 237) (name (codes "none") 238) (name (codes "d") 240) ∷ []))))
+    (block 242 [] 243)
+    ∷ item.Function
+    (head (gives.Data (data'.Int (at 244))) (name (codes "f") 245)
+    (Some (params.List (param.Datum (data'.Int (at 247)) (name (codes "a") 248) ∷ [])))) (block 250 [] 251)
+    ∷ item.Function (head (gives.Data (data'.Enum (at 252) (name (codes "e") 253))) (name (codes "k") 254) None)
+    (block 257 [] 258)
+    ∷ item.Proto None
+    (head (gives.Pointer (at 259) (name (codes "none") 260)) (name (codes "m") 262) (Some (params.Void (at 264))))
+    ∷ item.Struct (at 267) (name (codes "node") 268)
+    (Some (field.Datums (data'.Int (at 270)) ((name (codes "key") 271) ∷ []) ∷ [])) ∷ []
+
+functions_of_the_rows : (globals_of several).functions
+    ≡ record { name = codes "f"; result = None; params = [] }
+    ∷ record { name = codes "g"; result = Some Datum; params = Datum ∷ Points (Some 0) ∷ Datum ∷ [] }
+    ∷ record { name = codes "h"; result = Some (Points (Some 0)); params = Points None ∷ [] }
+    ∷ record { name = codes "k"; result = Some Datum; params = [] } ∷ []
+functions_of_the_rows = refl
+
+first_function : function_number (globals_of several) (codes "f") ≡ Some 0
+first_function = refl
+
+last_function : function_number (globals_of several) (codes "k") ≡ Some 3
+last_function = refl
+
+no_number_of_main : function_number (globals_of several) (codes "main") ≡ None
+no_number_of_main = refl
+
+no_number_of_a_prototype : function_number (globals_of several) (codes "m") ≡ None
+no_number_of_a_prototype = refl

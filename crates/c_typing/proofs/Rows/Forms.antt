@@ -91,6 +91,7 @@ file = record {
       } ∷ [];
   enums = codes "color" ∷ [];
   values = record { name = codes "RED"; value = 0 } ∷ record { name = codes "BLUE"; value = 1 } ∷ [];
+  functions = [];
 }
 
 -- in a block: struct node *p; struct item *q, *r; int x, y;
