@@ -13,7 +13,7 @@ use Rattle.c_types.specs.declared.program.Path.{Path}
 use Rattle.c_typing.specs.Globals.{Globals, struct_number, value_of, field_use}
 use Rattle.c_typing.specs.Profile.{is_allowed, is_allowed_head, is_main, is_main_head}
 use Rattle.c_typing.specs.Rules.{when, maybe_place, differ, wanted_struct, wants_pointer, wants_datum, is_datum}
-use Rattle.c_typing.specs.Rules.{is_pointer}
+use Rattle.c_typing.specs.Rules.{is_pointer, may_return}
 use Rattle.c_typing.specs.Scopes.{Scope, look_up}
 use Rattle.c_typing.specs.Sites as site
 use Rattle.c_typing.specs.Sites.{Site, struct_at}
@@ -21,6 +21,7 @@ use Rattle.c_typing.specs.Texts.{Text, has}
 use Rattle.c_typing.specs.Typing.{breaches_at, breaches_of}
 use Rattle.c_typing.specs.declared.fault.TypeFault.{TypeFault}
 use Rattle.c_typing.specs.declared.fault.TypeFault.TheVariants.{Rule, Limit}
+use Rattle.c_typing.specs.declared.limits.TheConstants.{FUNCTIONS}
 use Rattle.c_typing.specs.declared.meaning.Meaning.{Meaning}
 use Rattle.c_typing.specs.declared.meaning.Meaning.TheVariants as meaning
 use Rattle.c_typing.specs.declared.meaning.Want.{Want}
@@ -99,6 +100,15 @@ module _ (g : Globals) where
       ≡ fault_when (has n.text earlier) (Rule 5 n.at)
   at-Enum n earlier count = one (Rule 5) _ n.at
 
+  pub at-Function : (n : Name) (earlier : List Text) (count : ℕ)
+      → breaches_at g (site.Defines site.Function n earlier count) ≡ fault_when (has n.text earlier) (Rule 5 n.at)
+      ++ fault_when (nat_eq count FUNCTIONS) (Limit 10 n.at)
+  at-Function n earlier count = two (Rule 5) (Limit 10) _ _ n.at
+
+  pub at-Parameter : (n : Name) (earlier : List Text) (count : ℕ)
+      → breaches_at g (site.Defines site.Parameter n earlier count) ≡ fault_when (has n.text earlier) (Rule 5 n.at)
+  at-Parameter n earlier count = one (Rule 5) _ n.at
+
   pub at-Begins : (scope : Scope) (b : Bool) (n : Name) → breaches_at g (site.Begins scope b n)
       ≡ fault_when (not (is_some (look_up scope n.text) || (not b && is_some (value_of g n.text)))) (Rule 3 n.at)
   at-Begins scope b n = one (Rule 3) _ n.at
@@ -163,6 +173,10 @@ module _ (g : Globals) where
   pub at-Jumps : (b : Bool) (at : Place) → breaches_at g (site.Jumps b at) ≡ fault_when (not b) (Rule 11 at)
   at-Jumps b at = one (Rule 11) _ at
 
+  pub at-Returns : (home : Option ℕ) (operand : Bool) (at : Place) → breaches_at g (site.Returns home operand at)
+      ≡ fault_when (not (may_return g home operand)) (Rule 16 at)
+  at-Returns home operand at = one (Rule 16) _ at
+
   pub at-Counts : (places : List Place) → breaches_at g (site.Counts places)
       ≡ fault_at (Limit 7) (slice_get places STATEMENTS)
   at-Counts places = maybe (Limit 7) _
@@ -194,6 +208,8 @@ pub ruleset breaching = (
   at-Variable,
   at-Value,
   at-Enum,
+  at-Function,
+  at-Parameter,
   at-Begins,
   at-Follows-Pointer,
   at-Follows-Undefined,
@@ -211,6 +227,7 @@ pub ruleset breaching = (
   at-Sizes,
   at-Calls,
   at-Jumps,
+  at-Returns,
   at-Counts,
   at-Declares,
   at-Functions,

@@ -1,9 +1,11 @@
 -- What is known at sites where nothing is broken.
-use Rattle.std.proofs.Common.{◌≡◌, Bool, true, false, List, [], ◌∷◌, ◌++◌, is_some, refl, sym, ◌∙◌}
+use Rattle.std.proofs.Common.{◌≡◌, Bool, true, false, not, ◌&&◌, List, [], ◌∷◌, ◌++◌, is_some, refl, sym, ap, ◌∙◌}
 use Rattle.std.proofs.lemmas.Bool.{not-false}
 use Rattle.fore_base.specs.declared.place.Place.{Place}
+use Rattle.c_ast.specs.declared.items.Head.{Head}
 use Rattle.c_ast.specs.declared.operands.Name.{Name}
-use Rattle.c_typing.specs.Globals.{Globals, struct_number}
+use Rattle.c_typing.specs.Globals.{Globals, struct_number, is_main}
+use Rattle.c_typing.specs.Profile.{is_main_head}
 use Rattle.c_typing.specs.Rules.{differ, wanted_struct}
 use Rattle.c_typing.specs.Sites as site
 use Rattle.c_typing.specs.Sites.{Site, struct_at}
@@ -12,7 +14,7 @@ use Rattle.c_typing.specs.declared.fault.TypeFault.{TypeFault}
 use Rattle.c_typing.specs.declared.fault.TypeFault.TheVariants.{Rule}
 use Rattle.c_typing.specs.declared.meaning.Meaning.{Meaning}
 use Rattle.c_typing.specs.declared.meaning.Want.{Want}
-use Rattle.c_typing.proofs.Breaching.{fault_when, breaches-append, at-UsesStruct, at-Stands, at-Jumps}
+use Rattle.c_typing.proofs.Breaching.{fault_when, breaches-append, at-UsesStruct, at-Stands, at-Jumps, at-Functions}
 
 -- nothing is broken at these sites
 abbrev pub IsClean : Globals → List Site → Type 0
@@ -46,3 +48,15 @@ module _ (g : Globals) where
   -- a jump stands in a loop
   pub in_loop : (b : Bool) (at : Place) → breaches_at g (site.Jumps b at) ≡ [] → b ≡ true
   in_loop b at c = not-false b (never _ (Rule 11 at) (sym (at-Jumps g b at) ∙ c))
+
+  -- the first definition of a function is that of `main`
+  pub main_alone : (h : Head) → breaches_at g (site.Functions false h) ≡ [] → (is_main h ≡ true)
+      × (is_main_head h ≡ true)
+  main_alone h c =
+      let halves : (fault_when (not (is_main h)) (Rule 13 h.name.at) ≡ [])
+      × (fault_when (is_main h && not (is_main_head h)) (Rule 15 h.name.at) ≡ []) =
+      empty_parts _ _ (sym (at-Functions g false h) ∙ c) in
+      let main : is_main h ≡ true = not-false (is_main h) (never _ (Rule 13 h.name.at) halves.0) in
+      (main,
+      not-false (is_main_head h)
+      (ap (λ b. b && not (is_main_head h)) (sym main) ∙ never _ (Rule 15 h.name.at) halves.1))

@@ -1,5 +1,6 @@
 -- The sites of each kind of part, statement and block.
-use Rattle.std.proofs.Common.{◌≡◌, Bool, true, List, [], ◌∷◌, ◌++◌, Option, Some, None, map, refl, sym, ap, ◌∙◌}
+use Rattle.std.proofs.Common.{◌≡◌, Bool, true, List, [], ◌∷◌, ◌++◌, Option, Some, None, is_some, map, refl, sym, ap}
+use Rattle.std.proofs.Common.{◌∙◌}
 use Rattle.fore_base.specs.declared.place.Place.{Place}
 use Rattle.c_ast.specs.declared.conditions.Cond.{Cond}
 use Rattle.c_ast.specs.declared.operands.Operand.{Operand}
@@ -17,8 +18,7 @@ use Rattle.c_typing.specs.BodySites.{block_step, stmt_step, part_sites, stmt_sit
 use Rattle.c_typing.specs.BodySites.{other_sites}
 use Rattle.c_typing.specs.Globals.{Globals}
 use Rattle.c_typing.specs.Scopes.{Scope, opened, past_first, past_part, past_stmt}
-use Rattle.c_typing.specs.Sites.{Jumps, wanted_sites, simple_sites, cond_sites}
-use Rattle.c_typing.specs.declared.meaning.Want.TheVariants.{Datum as ADatum}
+use Rattle.c_typing.specs.Sites.{Returns, Jumps, want_of_return, wanted_sites, simple_sites, cond_sites}
 use Rattle.c_typing.specs.declared.meaning.Spot.TheVariants.{Elsewhere}
 
 module _ (g : Globals) where
@@ -85,7 +85,8 @@ module _ (g : Globals) where
       (layer.For at f c next body))
 
   pub stmt-Return : (at : Place) (o : Option Operand) (loop : Bool) (scope : Scope)
-      → stmt_sites g (stmt.Return at o) loop scope ≡ maybe_sites (wanted_sites g scope Elsewhere ADatum) o
+      → stmt_sites g (stmt.Return at o) loop scope ≡ Returns scope.home (is_some o) at
+      ∷ maybe_sites (wanted_sites g scope Elsewhere (want_of_return g scope.home)) o
   stmt-Return at o loop scope = ap (λ s. stmt_sites g s loop scope) (sym (stmt.rolls-Return at o))
       ∙ ap (λ f. f loop scope)
       (para-roll-Stmt (Sites g) (Sites g) (Sites g) (part_step g) (stmt_step g) (block_step g) (layer.Return at o))

@@ -1,7 +1,9 @@
 -- The program of a file where nothing is broken is typed.
-use Rattle.std.proofs.Common.{◌≡◌, ℕ, suc, Bool, true, false, not, ◌&&◌, ◌||◌, cond, nat_le, List, [], ◌∷◌, ◌++◌}
-use Rattle.std.proofs.Common.{length, map, Option, Some, None, refl, sym, ap, ◌∙◌, subst, arith}
+use Rattle.std.proofs.Common.{◌≡◌, ℕ, suc, Bool, true, false, ◌&&◌, cond, nat_le, List, [], ◌∷◌, ◌++◌, length}
+use Rattle.std.proofs.Common.{map, codes, Option, Some, None, refl, sym, ap, ◌∙◌, subst, arith, true≢false}
+use Rattle.std.proofs.lemmas.Bool.{and_parts, false_from_ne_true, or_from, or_parts}
 use Rattle.std.proofs.lemmas.List.{append-nil, length-map}
+use Rattle.std.specs.Cmp.Lexicographic.{bytes_decides}
 use Rattle.fore_base.specs.Lists.{Every}
 use Rattle.fore_base.specs.Shapes.{targets_in, target_before}
 use Rattle.fore_base.specs.declared.limits.TheConstants.{DATUM}
@@ -10,6 +12,8 @@ use Rattle.c_ast.specs.declared.items.Field.TheVariants as field
 use Rattle.c_ast.specs.declared.items.Head.{Head}
 use Rattle.c_ast.specs.declared.items.Item.{Item}
 use Rattle.c_ast.specs.declared.items.Item.TheVariants as item
+use Rattle.c_ast.specs.declared.items.Params.{Params}
+use Rattle.c_ast.specs.declared.items.Params.TheVariants as params
 use Rattle.c_ast.specs.declared.items.Unit as whole
 use Rattle.c_ast.specs.declared.operands.Name.{Name}
 use Rattle.c_ast.specs.declared.statements.Block.{Block}
@@ -20,22 +24,26 @@ use Rattle.c_types.specs.declared.program.VarDef.{VarDef}
 use Rattle.c_typing.specs.BodySites.{block_sites, block_places}
 use Rattle.c_typing.specs.Globals.{Globals, Definition, defined_name, maybe_defined, structs_in, struct_definitions}
 use Rattle.c_typing.specs.Globals.{pointer_member, datum_member, members_in, struct_of, datum_of, values_from}
-use Rattle.c_typing.specs.Globals.{values_in, value_name, globals_of, struct_name}
+use Rattle.c_typing.specs.Globals.{values_in, value_name, globals_of, struct_name, struct_names, is_main, result_kind}
+use Rattle.c_typing.specs.Globals.{params_of, function_of, head_name, functions_in, function_heads, functions_of}
+use Rattle.c_typing.specs.Globals.{function_name, function_number}
 use Rattle.c_typing.specs.ItemSites.{Seen, nothing_seen, seen_after, names_of, member_sites, field_type_sites}
-use Rattle.c_typing.specs.ItemSites.{fields_sites, struct_sites, head_sites, body_sites, item_sites, items_sites}
-use Rattle.c_typing.specs.Profile.{is_main}
+use Rattle.c_typing.specs.ItemSites.{fields_sites, struct_sites, gives_sites, named_sites, result_sites}
+use Rattle.c_typing.specs.ItemSites.{own_params_sites, head_sites, body_sites, item_sites, items_sites}
+use Rattle.c_typing.specs.Profile.{gives_int, has_no_params, is_main_head}
 use Rattle.c_typing.specs.Programs.{field_of, field_kind_of, shape_of, program_with, program_without, program_in}
 use Rattle.c_typing.specs.Programs.{program_of, block_stmts}
-use Rattle.c_typing.specs.Scopes.{empty_scope, past_block}
+use Rattle.c_typing.specs.Scopes.{Scope, empty_scope, opened, past_block, result_declared, begun, result_of}
+use Rattle.c_typing.specs.Scopes.{past_result, past_params, past_head, past_item}
 use Rattle.c_typing.specs.Sites as site
 use Rattle.c_typing.specs.Sites.{Site}
-use Rattle.c_typing.specs.Texts.{Text, has, number_of, firsts, each_of}
-use Rattle.c_typing.specs.Typing.{breaches}
+use Rattle.c_typing.specs.Texts.{Text, same, has, number_of, one_more, firsts, each_of}
+use Rattle.c_typing.specs.Typing.{breaches_at, breaches}
 use Rattle.c_typing.specs.declared.meaning.Kind.{Kind}
 use Rattle.c_typing.specs.declared.meaning.Kind.TheVariants.{Points, Datum}
 use Rattle.c_typing.specs.declared.meaning.Member.{Member}
 use Rattle.c_typing.specs.declared.meaning.StructDef.{StructDef}
-use Rattle.c_typing.proofs.Clean.{IsClean, clean_parts, clean_first, struct_there}
+use Rattle.c_typing.proofs.Clean.{IsClean, clean_parts, clean_first, struct_there, main_alone}
 use Rattle.c_typing.proofs.Sound.{GoodKind, GoodMember, GoodStruct, GoodValue, GoodGlobals}
 use Rattle.c_typing.proofs.SoundStmts.{struct_kind, block_typed}
 
@@ -109,21 +117,23 @@ module _ (g : Globals) where
     tt,
   )
 
-  item_clean : (s : Seen) (i : Item) → IsClean g (item_sites g s i) → Every DefinitionClean (structs_in i)
-  item_clean s (item.Struct at name fields) c = struct_clean s name fields c
-  item_clean s (item.Enum at name values) c = tt
-  item_clean s (item.Proto outer head) c = tt
-  item_clean s (item.Function head body) c = tt
-  item_clean s (item.Declare d) c = tt
+  item_clean : (s : Seen) (i : Item) (scope : Scope) → IsClean g (item_sites g s i scope)
+      → Every DefinitionClean (structs_in i)
+  item_clean s (item.Struct at name fields) scope c = struct_clean s name fields c
+  item_clean s (item.Enum at name values) scope c = tt
+  item_clean s (item.Proto outer head) scope c = tt
+  item_clean s (item.Function head body) scope c = tt
+  item_clean s (item.Declare d) scope c = tt
 
-  items_clean : (s : Seen) (is : List Item) → IsClean g (items_sites g s is)
+  items_clean : (s : Seen) (is : List Item) (scope : Scope) → IsClean g (items_sites g s is scope)
       → Every DefinitionClean (each_of structs_in is)
-  items_clean s [] c = tt
-  items_clean s (i ∷ is) c =
-      let halves : IsClean g (item_sites g s i) × IsClean g (items_sites g (seen_after s i) is) =
-      clean_parts g (item_sites g s i) (items_sites g (seen_after s i) is) c in
-      every_append DefinitionClean (structs_in i) (each_of structs_in is) (item_clean s i halves.0)
-      (items_clean (seen_after s i) is halves.1)
+  items_clean s [] scope c = tt
+  items_clean s (i ∷ is) scope c =
+      let halves : IsClean g (item_sites g s i scope)
+      × IsClean g (items_sites g (seen_after s i) is (past_item g i scope)) =
+      clean_parts g (item_sites g s i scope) (items_sites g (seen_after s i) is (past_item g i scope)) c in
+      every_append DefinitionClean (structs_in i) (each_of structs_in is) (item_clean s i scope halves.0)
+      (items_clean (seen_after s i) is (past_item g i scope) halves.1)
 
   -- the fields of a struct, given the names of all structs
   module _ (names : List Text) (known : map struct_name g.structs ≡ names) where
@@ -155,13 +165,13 @@ module _ (g : Globals) where
     structs_good [] all = tt
     structs_good (d ∷ ds) all = (each_member d.1 all.0, structs_good ds all.1)
 
-globals_good : (is : List Item) → IsClean (globals_of is) (items_sites (globals_of is) nothing_seen is)
+globals_good : (is : List Item) → IsClean (globals_of is) (items_sites (globals_of is) nothing_seen is empty_scope)
     → GoodGlobals (length (globals_of is).structs) (globals_of is)
 globals_good is c =
     let names : List Text = map defined_name (struct_definitions is) in (
       structs_good (globals_of is) names (names-same names (struct_definitions is)) (struct_definitions is)
           (firsts_every (DefinitionClean (globals_of is)) defined_name [] (each_of structs_in is)
-          (items_clean (globals_of is) nothing_seen is c)),
+          (items_clean (globals_of is) nothing_seen is empty_scope c)),
       firsts_every GoodValue value_name [] (each_of values_in is) (all_values is),
     )
 
@@ -182,28 +192,76 @@ shapes_good n [] all = refl
 shapes_good n (s ∷ ss) all = ap (λ b. b && shapes_typed n (map shape_of ss)) (targets_below n s.fields all.0)
     ∙ shapes_good n ss all.1
 
+-- `main` has no number among the functions.
+
+other_way : (x y : Text) → same y x ≡ false → same x y ≡ false
+other_way x y differ = false_from_ne_true (same x y)
+    (λ is. true≢false (sym ((bytes_decides y x).1 (sym ((bytes_decides x y).0 is))) ∙ differ))
+
+number-none : (x : Text) (ys : List Text) → has x ys ≡ false → number_of x ys ≡ None
+number-none x [] none = refl
+number-none x (y ∷ ys) none = let h : (same x y ≡ false) × (has x ys ≡ false) = or_parts (same x y) (has x ys) none in
+    ap (λ b. cond b (Some 0) (one_more (number_of x ys))) h.0 ∙ ap one_more (number-none x ys h.1)
+
+abbrev IsOther : Head → Type 0
+IsOther h = is_main h ≡ false
+
+item_others : (i : Item) → Every IsOther (functions_in i)
+item_others (item.Struct at name fields) = tt
+item_others (item.Enum at name values) = tt
+item_others (item.Proto outer head) = tt
+item_others (item.Function head body) = either (is_main head) refl
+  where
+    either : (k : Bool) → is_main head ≡ k → Every IsOther (cond k [] (head ∷ []))
+    either true is = tt
+    either false is = (is, tt)
+item_others (item.Declare d) = tt
+
+all_others : (is : List Item) → Every IsOther (each_of functions_in is)
+all_others [] = tt
+all_others (i ∷ is) = every_append IsOther (functions_in i) (each_of functions_in is) (item_others i) (all_others is)
+
+main_absent : (names : List Text) (hs : List Head) → Every IsOther hs
+    → has (codes "main") (map function_name (map (function_of names) hs)) ≡ false
+main_absent names [] all = refl
+main_absent names (h ∷ hs) all = or_from (same (codes "main") h.name.text) _ (other_way (codes "main") h.name.text all.0)
+    (main_absent names hs all.1)
+
+main_unnumbered : (is : List Item) → function_number (globals_of is) (codes "main") ≡ None
+main_unnumbered is =
+    number-none (codes "main") (map function_name (functions_of is))
+    (main_absent (map defined_name (struct_definitions is)) (function_heads is)
+    (firsts_every IsOther head_name [] (each_of functions_in is) (all_others is)))
+
+no_params : (ps : Option Params) → has_no_params ps ≡ true → params_of ps ≡ []
+no_params None is = refl
+no_params (Some (params.Void at)) is = refl
+no_params (Some (params.List ps)) is = absurd (true≢false (sym is))
+
 -- Programs
 
-module _ (g : Globals) (globals : GoodGlobals (length g.structs) g) where
+module _ (g : Globals) (globals : GoodGlobals (length g.structs) g) (unnumbered : function_number g (codes "main")
+    ≡ None) where
   all_shapes : shapes_typed (length (map shape_of g.structs)) (map shape_of g.structs) ≡ true
   all_shapes = subst (λ n. shapes_typed n (map shape_of g.structs) ≡ true) (sym (length-map g.structs shape_of))
       (shapes_good (length g.structs) g.structs globals.0)
 
   abbrev vars_of : Block → List VarDef
-  vars_of b = (past_block g b empty_scope).vars
+  vars_of b = (past_block g b (opened empty_scope)).vars
 
   abbrev count_of : Block → ℕ
-  count_of b = length (past_block g b empty_scope).data_vars
+  count_of b = length (past_block g b (opened empty_scope)).data_vars
 
   abbrev body_typed : Block → Bool
   body_typed b = each_typed (map shape_of g.structs) (vars_of b) (count_of b)
-      (map (stmt_typed (map shape_of g.structs) (vars_of b) (count_of b) [] None) (block_stmts g b empty_scope)) Outside
+      (map (stmt_typed (map shape_of g.structs) (vars_of b) (count_of b) [] None) (block_stmts g b (opened empty_scope)))
+      Outside
 
-  with_typed : (b : Block) → IsClean g (block_sites g b false empty_scope) → is_typed (program_with g b) ≡ true
+  with_typed : (b : Block) → IsClean g (block_sites g b false (opened empty_scope)) → is_typed (program_with g b) ≡ true
   unfolding is_typed
   with_typed b c =
       let r : (body_typed b ≡ true) × (vars_typed (length g.structs) (vars_of b) ≡ true) =
-      block_typed g (vars_of b) (count_of b) (length g.structs) refl globals b false empty_scope
+      block_typed g (vars_of b) (count_of b) (length g.structs) refl globals b false (opened empty_scope)
       (([], sym (append-nil (vars_of b))), omega (arith)) (tt, refl) c in
       let vars : vars_typed (length (map shape_of g.structs)) (vars_of b) ≡ true =
       subst (λ n. vars_typed n (vars_of b) ≡ true) (sym (length-map g.structs shape_of)) r.1 in
@@ -218,21 +276,44 @@ module _ (g : Globals) (globals : GoodGlobals (length g.structs) g) where
   unfolding is_typed
   without_typed = ap (λ k. ((k && true) && true) && true) all_shapes
 
-  -- the first main is the one whose body is looked at
-  rest : (s : Seen) (i : Item) (is : List Item) → IsClean g (items_sites g s (i ∷ is))
-      → IsClean g (items_sites g (seen_after s i) is)
-  rest s i is c = (clean_parts g (item_sites g s i) (items_sites g (seen_after s i) is) c).1
+  rest : (s : Seen) (i : Item) (is : List Item) → IsClean g (items_sites g s (i ∷ is) empty_scope)
+      → IsClean g (items_sites g (seen_after s i) is (past_item g i empty_scope))
+  rest s i is c =
+      (clean_parts g (item_sites g s i empty_scope) (items_sites g (seen_after s i) is (past_item g i empty_scope)) c).1
 
-  main_clean : (s : Seen) (h : Head) (b : Block) → s.main ≡ false → is_main h ≡ true
-      → IsClean g (item_sites g s (item.Function h b)) → IsClean g (block_sites g b false empty_scope)
-  main_clean s h b none is c =
-      let body : IsClean g (body_sites g (not s.main && is_main h) b) =
-      (clean_parts g (head_sites (site.Functions s.main h) h) (body_sites g (not s.main && is_main h) b) c).1 in
-      let first : IsClean g (body_sites g true b) =
-      subst (λ k. IsClean g (body_sites g k b)) (ap (λ k. not k && is_main h) none ∙ is) body in
-      (clean_parts g (block_sites g b false empty_scope) (site.Counts (block_places b).within ∷ []) first).0
+  -- nothing is in scope where the body of `main` begins
+  main_scope : (h : Head) → is_main h ≡ true → is_main_head h ≡ true → past_head g h empty_scope ≡ opened empty_scope
+  main_scope h main right =
+      let unnamed : function_number g h.name.text ≡ None =
+      ap (λ x. function_number g x) ((bytes_decides h.name.text (codes "main")).0 main) ∙ unnumbered in
+      let none : params_of h.params ≡ [] =
+      no_params h.params (and_parts (gives_int h.gives) (has_no_params h.params) right).1 in
+      ap (λ ps. past_params g ps (opened (past_result g h empty_scope))) none
+      ∙ ap (λ b. opened (result_declared (cond b None (result_kind (struct_names g) h.gives)) h.name.text
+      (begun g h empty_scope))) main
+      ∙ ap (λ n. opened (record { home = n; blocks = []; vars = []; data_vars = [] })) unnamed
 
-  items_typed : (s : Seen) (is : List Item) → s.main ≡ false → IsClean g (items_sites g s is)
+  -- a function is `main` where nothing is broken, and its body breaks nothing
+  main_clean : (s : Seen) (h : Head) (b : Block) → s.main ≡ false → IsClean g (item_sites g s (item.Function h b)
+      empty_scope) → (is_main h ≡ true) × IsClean g (block_sites g b false (opened empty_scope))
+  main_clean s h b none c =
+      let parts : IsClean g (head_sites g s h empty_scope) × IsClean g (body_sites g b (past_head g h empty_scope)) =
+      clean_parts g (head_sites g s h empty_scope) (body_sites g b (past_head g h empty_scope)) c in
+      let later : IsClean g (named_sites s h ++ result_sites (result_of g h) h.name (begun g h empty_scope)
+      ++ own_params_sites g (params_of h.params) (opened (past_result g h empty_scope))) =
+      (clean_parts g (gives_sites h.gives) _ parts.0).1 in
+      let named : IsClean g (named_sites s h) = (clean_parts g (named_sites s h) _ later).0 in
+      let function : breaches_at g (site.Functions s.main h) ≡ [] =
+      (clean_first g (site.Functions s.main h) []
+      (clean_first g (site.Defines site.Function h.name [] (length s.functions)) (site.Functions s.main h ∷ []) named).1).0 in
+      let main : (is_main h ≡ true) × (is_main_head h ≡ true) =
+      main_alone g h (subst (λ k. breaches_at g (site.Functions k h) ≡ []) none function) in
+      (main.0,
+      subst (λ scope. IsClean g (block_sites g b false scope)) (main_scope h main.0 main.1)
+      (clean_parts g (block_sites g b false (past_head g h empty_scope)) (site.Counts (block_places b).within ∷ [])
+      parts.1).0)
+
+  items_typed : (s : Seen) (is : List Item) → s.main ≡ false → IsClean g (items_sites g s is empty_scope)
       → is_typed (program_in g is) ≡ true
   items_typed s [] none c = without_typed
   items_typed s (item.Struct at name fields ∷ is) none c =
@@ -244,21 +325,16 @@ module _ (g : Globals) (globals : GoodGlobals (length g.structs) g) where
   items_typed s (item.Declare d ∷ is) none c =
       items_typed (seen_after s (item.Declare d)) is none (rest s (item.Declare d) is c)
   items_typed s (item.Function h b ∷ is) none c =
-      either (is_main h) refl
-      (λ none'. items_typed (seen_after s (item.Function h b)) is none' (rest s (item.Function h b) is c))
-    where
-      either : (k : Bool) → is_main h ≡ k → ((s.main || is_main h) ≡ false → is_typed (program_in g is) ≡ true)
-          → is_typed (cond k (program_with g b) (program_in g is)) ≡ true
-      either true main later =
-          with_typed b
-          (main_clean s h b none main
-          (clean_parts g (item_sites g s (item.Function h b)) (items_sites g (seen_after s (item.Function h b)) is)
-          c).0)
-      either false main later = later (ap (λ k. k || is_main h) none ∙ main)
+      let here : (is_main h ≡ true) × IsClean g (block_sites g b false (opened empty_scope)) =
+      main_clean s h b none
+      (clean_parts g (item_sites g s (item.Function h b) empty_scope)
+      (items_sites g (seen_after s (item.Function h b)) is (past_item g (item.Function h b) empty_scope)) c).0 in
+      ap (λ k. is_typed (cond k (program_with g b) (program_in g is))) here.0 ∙ with_typed b here.1
 
 pub file_typed : (u : whole.Unit) → breaches u ≡ [] → is_typed (program_of u) ≡ true
 unfolding breaches program_of
 file_typed u c =
-    let items : IsClean (globals_of u.items) (items_sites (globals_of u.items) nothing_seen u.items) =
-    (clean_parts (globals_of u.items) (items_sites (globals_of u.items) nothing_seen u.items) _ c).0 in
-    items_typed (globals_of u.items) (globals_good u.items items) nothing_seen u.items refl items
+    let items : IsClean (globals_of u.items) (items_sites (globals_of u.items) nothing_seen u.items empty_scope) =
+    (clean_parts (globals_of u.items) (items_sites (globals_of u.items) nothing_seen u.items empty_scope) _ c).0 in
+    items_typed (globals_of u.items) (globals_good u.items items) (main_unnumbered u.items) nothing_seen u.items refl
+    items

@@ -1,5 +1,5 @@
 -- The places of a body where a rule may be broken, in the order of the text, and the places of its statements.
-use Rattle.std.specs.Prelude.{Bool, true, List, [], ◌∷◌, ◌++◌, map, Option, Some, None}
+use Rattle.std.specs.Prelude.{Bool, true, List, [], ◌∷◌, ◌++◌, map, Option, Some, None, is_some}
 use Rattle.fore_base.specs.declared.place.Place.{Place}
 use Rattle.c_ast.specs.declared.conditions.Cond.{Cond}
 use Rattle.c_ast.specs.declared.operands.Call.{out-Call}
@@ -19,11 +19,10 @@ use Rattle.c_ast.specs.declared.statements.Stmt.{Stmt, para-Stmt, fold-Stmt, Stm
 use Rattle.c_typing.specs.Globals.{Globals}
 use Rattle.c_typing.specs.Scopes.{Scope, innermost, var_name, declared_so_far, opened, declared, kind_of}
 use Rattle.c_typing.specs.Scopes.{declarators_of, past_first, past_part, past_stmt}
-use Rattle.c_typing.specs.Sites.{Site, UsesStruct, UsesEnum, Defines, Jumps, Variable, want_of_kind, wanted_sites}
-use Rattle.c_typing.specs.Sites.{rhs_sites, simple_sites, cond_sites}
+use Rattle.c_typing.specs.Sites.{Site, UsesStruct, UsesEnum, Defines, Returns, Jumps, Variable, want_of_kind}
+use Rattle.c_typing.specs.Sites.{want_of_return, wanted_sites, rhs_sites, simple_sites, cond_sites}
 use Rattle.c_typing.specs.Texts.{joined}
 use Rattle.c_typing.specs.declared.meaning.Kind.{Kind}
-use Rattle.c_typing.specs.declared.meaning.Want.TheVariants.{Datum as ADatum}
 use Rattle.c_typing.specs.declared.meaning.Spot.TheVariants.{Elsewhere}
 
 -- the sites of what may be missing
@@ -88,7 +87,7 @@ module _ (g : Globals) where
   rest_sites c next body scope = maybe_sites (cond_sites g scope) c ++ maybe_sites (simple_sites g scope) next
       ++ body.1 true scope
 
-  -- `return` wants a datum or nothing
+  -- `return` wants what the function around gives
   abbrev pub stmt_step : Stmt-F (part.Part × Sites) (Stmt × Sites) (Block × Sites) → Sites
   stmt_step (stmt.Empty at) loop scope = []
   stmt_step (stmt.Block b) loop scope = b.1 loop scope
@@ -99,7 +98,8 @@ module _ (g : Globals) where
   stmt_step (stmt.Do at body c) loop scope = body.1 true scope ++ cond_sites g scope c
   stmt_step (stmt.For at f c next body) loop scope =
       first_sites f (opened scope) ++ rest_sites c next body (past_first g f (opened scope))
-  stmt_step (stmt.Return at o) loop scope = maybe_sites (wanted_sites g scope Elsewhere ADatum) o
+  stmt_step (stmt.Return at o) loop scope =
+      Returns scope.home (is_some o) at ∷ maybe_sites (wanted_sites g scope Elsewhere (want_of_return g scope.home)) o
   stmt_step (stmt.Break at) loop scope = Jumps loop at ∷ []
   stmt_step (stmt.Continue at) loop scope = Jumps loop at ∷ []
   stmt_step (stmt.Assert at c) loop scope = cond_sites g scope c

@@ -1,6 +1,7 @@
 -- What the items of a file define: structs, enumerations, enumerators and functions. They are known in the whole file.
 -- Of two definitions of one name the first counts.
 use Rattle.std.specs.Prelude.{ℕ, zero, suc, Bool, cond, nat_le, List, [], ◌∷◌, map, codes, Option, Some, None}
+use Rattle.std.specs.Prelude.{slice_get}
 use Rattle.fore_base.specs.declared.limits.TheConstants.{DATUM}
 use Rattle.c_ast.specs.declared.items.Field.{Field}
 use Rattle.c_ast.specs.declared.items.Field.TheVariants as field
@@ -172,16 +173,27 @@ globals_of items = record {
 abbrev pub struct_name : StructDef → Text
 struct_name s = s.name
 
+abbrev pub struct_names : Globals → List Text
+struct_names g = map struct_name g.structs
+
 -- the number of the struct of this name
 abbrev pub struct_number : Globals → Text → Option ℕ
-struct_number g x = number_of x (map struct_name g.structs)
+struct_number g x = number_of x (struct_names g)
 
 abbrev pub function_name : FunctionDef → Text
 function_name f = f.name
 
--- the number of the function of this name; none is that of `main`
+-- the number of the function of this name; `main` has none
 abbrev pub function_number : Globals → Text → Option ℕ
 function_number g x = number_of x (map function_name g.functions)
+
+abbrev pub maybe_result : Option FunctionDef → Option Kind
+maybe_result None = None
+maybe_result (Some f) = f.result
+
+-- what the function of this number returns: nothing, or a value of this kind
+abbrev pub result_at : Globals → ℕ → Option Kind
+result_at g n = maybe_result (slice_get g.functions n)
 
 abbrev pub value_in : Text → List Enumerator → Option ℕ
 value_in x [] = None

@@ -1,5 +1,5 @@
 -- The places of a file where a rule may be broken, in the order of the text.
-use Rattle.std.specs.Prelude.{ℕ, suc, Bool, true, false, not, ◌&&◌, ◌||◌, List, [], ◌∷◌, ◌++◌, map, length, Option}
+use Rattle.std.specs.Prelude.{ℕ, suc, Bool, false, ◌||◌, List, [], ◌∷◌, ◌++◌, map, length, Option}
 use Rattle.std.specs.Prelude.{Some, None}
 use Rattle.c_ast.specs.declared.items.Field.{Field}
 use Rattle.c_ast.specs.declared.items.Field.TheVariants as field
@@ -8,32 +8,32 @@ use Rattle.c_ast.specs.declared.items.Item.{Item}
 use Rattle.c_ast.specs.declared.items.Item.TheVariants as item
 use Rattle.c_ast.specs.declared.items.Param.{Param}
 use Rattle.c_ast.specs.declared.items.Param.TheVariants as param
-use Rattle.c_ast.specs.declared.items.Params.{Params}
-use Rattle.c_ast.specs.declared.items.Params.TheVariants as params
 use Rattle.c_ast.specs.declared.items.ReturnType.{ReturnType}
 use Rattle.c_ast.specs.declared.items.ReturnType.TheVariants as gives
 use Rattle.c_ast.specs.declared.items.Unit as whole
 use Rattle.c_ast.specs.declared.operands.Name.{Name}
 use Rattle.c_ast.specs.declared.statements.Block.{Block}
 use Rattle.c_ast.specs.declared.statements.Declarator.{Declarator}
-use Rattle.c_typing.specs.BodySites.{maybe_sites, data_sites, type_sites, block_sites, block_places}
-use Rattle.c_typing.specs.Globals.{Globals, text_of}
-use Rattle.c_typing.specs.Profile.{is_main}
-use Rattle.c_typing.specs.Scopes.{empty_scope, declarators_of}
-use Rattle.c_typing.specs.Sites.{Struct, Enum, Value, Member, Site, UsesStruct, Defines, Counts, Declares, Functions}
-use Rattle.c_typing.specs.Sites.{Globally, Ends, Overflows}
-use Rattle.c_typing.specs.Texts.{Text, each_of}
+use Rattle.c_typing.specs.BodySites.{data_sites, type_sites, block_sites, block_places}
+use Rattle.c_typing.specs.Globals.{Globals, text_of, struct_names, is_main, param_kind, params_of}
+use Rattle.c_typing.specs.Scopes.{Scope, empty_scope, innermost, var_name, declared_so_far, opened, declared}
+use Rattle.c_typing.specs.Scopes.{declarators_of, begun, result_of, past_result, param_name, past_head, past_item}
+use Rattle.c_typing.specs.Sites.{Struct, Enum, Value, Member, Variable, Function, Parameter, Site, UsesStruct, Defines}
+use Rattle.c_typing.specs.Sites.{Counts, Declares, Functions, Globally, Ends, Overflows}
+use Rattle.c_typing.specs.Texts.{Text}
+use Rattle.c_typing.specs.declared.meaning.Kind.{Kind}
 
--- what the items so far define: the names of structs with braces, of enumerations and of enumerators, each as often as
--- it comes, and whether one is main
+-- what the items so far define: the names of structs with braces, of enumerations, of enumerators and of functions, each
+-- as often as it comes, and whether one is main
 pub record Seen : Type 0 where
   pub structs : List Text
   pub enums : List Text
   pub values : List Text
+  pub functions : List Text
   pub main : Bool
 
 abbrev pub nothing_seen : Seen
-nothing_seen = record { structs = []; enums = []; values = []; main = false }
+nothing_seen = record { structs = []; enums = []; values = []; functions = []; main = false }
 
 -- after a struct with these fields, if any
 abbrev pub structs_seen : List Text → Name → Option (List Field) → List Text
@@ -42,17 +42,30 @@ structs_seen seen name (Some fields) = seen ++ name.text ∷ []
 
 abbrev pub seen_after : Seen → Item → Seen
 seen_after s (item.Struct at name fields) =
-    record { structs = structs_seen s.structs name fields; enums = s.enums; values = s.values; main = s.main }
+    record {
+      structs = structs_seen s.structs name fields;
+      enums = s.enums;
+      values = s.values;
+      functions = s.functions;
+      main = s.main;
+    }
 seen_after s (item.Enum at name values) =
     record {
       structs = s.structs;
       enums = s.enums ++ name.text ∷ [];
       values = s.values ++ map text_of values;
+      functions = s.functions;
       main = s.main;
     }
 seen_after s (item.Proto outer head) = s
 seen_after s (item.Function head body) =
-    record { structs = s.structs; enums = s.enums; values = s.values; main = s.main || is_main head }
+    record {
+      structs = s.structs;
+      enums = s.enums;
+      values = s.values;
+      functions = s.functions ++ head.name.text ∷ [];
+      main = s.main || is_main head;
+    }
 seen_after s (item.Declare d) = s
 
 -- Definitions: names of one family, one after the other, each counted with those before it
@@ -95,39 +108,62 @@ abbrev pub param_sites : Param → List Site
 param_sites (param.Pointer at shape name) = UsesStruct shape ∷ []
 param_sites (param.Datum base name) = data_sites base
 
-abbrev pub params_sites : Params → List Site
-params_sites (params.Void at) = []
-params_sites (params.List ps) = each_of param_sites ps
+-- parameters of a prototype: none may repeat one before it
+abbrev pub proto_params_sites : List Text → List Param → List Site
+proto_params_sites earlier [] = []
+proto_params_sites earlier (p ∷ ps) = (param_sites p ++ Defines Parameter (param_name p) earlier 0 ∷ [])
+    ++ proto_params_sites (earlier ++ (param_name p).text ∷ []) ps
 
 -- the name comes between the type and the parameters
-abbrev pub head_sites : Site → Head → List Site
-head_sites at_name h = gives_sites h.gives ++ at_name ∷ maybe_sites params_sites h.params
+abbrev pub proto_sites : Head → List Site
+proto_sites h = gives_sites h.gives ++ Declares h ∷ proto_params_sites [] (params_of h.params)
+
+-- A definition, after so many others, is refused as what it is, and no second one for its name.
+abbrev pub named_sites : Seen → Head → List Site
+named_sites s h = Defines Function h.name [] (length s.functions) ∷ Functions s.main h ∷ []
+
+-- a result is declared at the name of its function
+abbrev pub result_sites : Option Kind → Name → Scope → List Site
+result_sites None name scope = []
+result_sites (Some k) name scope = Defines Variable name [] (declared_so_far scope) ∷ []
 
 module _ (g : Globals) where
-  -- only the body of the first main is looked at
-  abbrev pub body_sites : Bool → Block → List Site
-  body_sites true b = block_sites g b false empty_scope ++ Counts (block_places b).within ∷ []
-  body_sites false b = []
+  -- parameters of a definition: each is a variable
+  abbrev pub own_param_sites : Param → Scope → List Site
+  own_param_sites p scope =
+      param_sites p
+      ++ Defines Variable (param_name p) (map var_name (innermost scope.blocks)) (declared_so_far scope) ∷ []
 
-  abbrev pub is_first_main : Seen → Head → Bool
-  is_first_main s h = not s.main && is_main h
+  abbrev pub own_params_sites : List Param → Scope → List Site
+  own_params_sites [] scope = []
+  own_params_sites (p ∷ ps) scope = own_param_sites p scope
+      ++ own_params_sites ps (declared scope (param_name p).text (param_kind (struct_names g) p))
+
+  abbrev pub head_sites : Seen → Head → Scope → List Site
+  head_sites s h scope =
+      gives_sites h.gives ++ named_sites s h ++ result_sites (result_of g h) h.name (begun g h scope)
+      ++ own_params_sites (params_of h.params) (opened (past_result g h scope))
+
+  -- a body, outside loops, and its statements
+  abbrev pub body_sites : Block → Scope → List Site
+  body_sites b scope = block_sites g b false scope ++ Counts (block_places b).within ∷ []
 
   abbrev pub global_sites : List Declarator → List Site
   global_sites [] = []
   global_sites (d ∷ ds) = Globally d.name ∷ []
 
-  abbrev pub item_sites : Seen → Item → List Site
-  item_sites s (item.Struct at name fields) = struct_sites s name fields
-  item_sites s (item.Enum at name values) = Defines Enum name s.enums (length s.enums) ∷ value_sites s.values 0 values
-  item_sites s (item.Proto outer head) = head_sites (Declares head) head
-  item_sites s (item.Function head body) = head_sites (Functions s.main head) head
-      ++ body_sites (is_first_main s head) body
-  item_sites s (item.Declare d) = type_sites d ++ global_sites (declarators_of d)
+  abbrev pub item_sites : Seen → Item → Scope → List Site
+  item_sites s (item.Struct at name fields) scope = struct_sites s name fields
+  item_sites s (item.Enum at name values) scope =
+      Defines Enum name s.enums (length s.enums) ∷ value_sites s.values 0 values
+  item_sites s (item.Proto outer head) scope = proto_sites head
+  item_sites s (item.Function head body) scope = head_sites s head scope ++ body_sites body (past_head g head scope)
+  item_sites s (item.Declare d) scope = type_sites d ++ global_sites (declarators_of d)
 
-  -- what the items so far define is handed on
-  abbrev pub items_sites : Seen → List Item → List Site
-  items_sites s [] = []
-  items_sites s (i ∷ is) = item_sites s i ++ items_sites (seen_after s i) is
+  -- what the items so far define and declare is handed on
+  abbrev pub items_sites : Seen → List Item → Scope → List Site
+  items_sites s [] scope = []
+  items_sites s (i ∷ is) scope = item_sites s i scope ++ items_sites (seen_after s i) is (past_item g i scope)
 
 abbrev pub all_seen : Seen → List Item → Seen
 all_seen s [] = s
@@ -135,5 +171,5 @@ all_seen s (i ∷ is) = all_seen (seen_after s i) is
 
 -- all places of a file
 abbrev pub unit_sites : Globals → whole.Unit → List Site
-unit_sites g u = items_sites g nothing_seen u.items ++ Ends (all_seen nothing_seen u.items).main u.end
+unit_sites g u = items_sites g nothing_seen u.items empty_scope ++ Ends (all_seen nothing_seen u.items).main u.end
     ∷ Overflows u.over ∷ []

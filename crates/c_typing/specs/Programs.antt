@@ -361,14 +361,14 @@ field_of m = record { name = m.name; kind = field_kind_of m.kind }
 abbrev pub shape_of : StructDef → Shape
 shape_of s = record { name = s.name; fields = map field_of s.fields }
 
--- the program of main's block
+-- the program of main's block, which stands in that of its parameters: there are none
 abbrev pub program_with : Globals → Block → Program
 program_with g b = record {
   shapes = record { structs = map shape_of g.structs };
-  vars = (past_block g b empty_scope).vars;
-  data_vars = (past_block g b empty_scope).data_vars;
+  vars = (past_block g b (opened empty_scope)).vars;
+  data_vars = (past_block g b (opened empty_scope)).data_vars;
   funcs = [];
-  body = block_stmts g b empty_scope;
+  body = block_stmts g b (opened empty_scope);
 }
 
 abbrev pub program_without : Globals → Program

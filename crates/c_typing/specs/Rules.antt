@@ -3,13 +3,14 @@ use Rattle.std.specs.Prelude.{ℕ, Bool, true, false, not, ◌&&◌, ◌||◌, n
 use Rattle.std.specs.Prelude.{slice_get}
 use Rattle.fore_base.specs.declared.limits.TheConstants.{STRUCTS, FIELDS, VARIABLES, ENUMERATORS, STATEMENTS}
 use Rattle.fore_base.specs.declared.place.Place.{Place}
-use Rattle.c_typing.specs.Globals.{Globals, struct_number, value_of, field_use}
-use Rattle.c_typing.specs.Profile.{is_allowed, is_allowed_head, is_main, is_main_head}
+use Rattle.c_typing.specs.Globals.{Globals, struct_number, value_of, field_use, is_main, result_at}
+use Rattle.c_typing.specs.Profile.{is_allowed, is_allowed_head, is_main_head}
 use Rattle.c_typing.specs.Scopes.{look_up}
-use Rattle.c_typing.specs.Sites.{Struct, Value, Member, Variable, Site, UsesStruct, UsesEnum, Defines, Begins, Follows}
-use Rattle.c_typing.specs.Sites.{Measures, Stands, Chooses, Allocates, Casts, Sizes, Calls, Jumps, Counts, Declares}
-use Rattle.c_typing.specs.Sites.{Functions, Globally, Ends, Overflows, struct_at}
+use Rattle.c_typing.specs.Sites.{Struct, Value, Member, Variable, Function, Site, UsesStruct, UsesEnum, Defines, Begins}
+use Rattle.c_typing.specs.Sites.{Follows, Measures, Stands, Chooses, Allocates, Casts, Sizes, Calls, Jumps, Returns}
+use Rattle.c_typing.specs.Sites.{Counts, Declares, Functions, Globally, Ends, Overflows, struct_at}
 use Rattle.c_typing.specs.Texts.{has}
+use Rattle.c_typing.specs.declared.limits.TheConstants.{FUNCTIONS}
 use Rattle.c_typing.specs.declared.meaning.Meaning.{Meaning}
 use Rattle.c_typing.specs.declared.meaning.Meaning.TheVariants as meaning
 use Rattle.c_typing.specs.declared.meaning.Want.{Want}
@@ -70,6 +71,12 @@ abbrev pub lacks_field : Globals → Meaning → List ℕ → Bool
 lacks_field g (meaning.Pointer p (Some shape)) x = not (is_some (field_use g shape x))
 lacks_field g _ x = false
 
+-- a function returns a value exactly where it has a result; `main` may leave it out
+abbrev pub may_return : Globals → Option ℕ → Bool → Bool
+may_return g None operand = true
+may_return g (Some f) true = is_some (result_at g f)
+may_return g (Some f) false = not (is_some (result_at g f))
+
 module _ (g : Globals) where
   -- T1: a struct that is not defined, at its name
   abbrev pub t1 : Site → List Place
@@ -94,7 +101,7 @@ module _ (g : Globals) where
   t4 _ = []
 
   -- T5: a second struct, enumeration or enumerator of one name, a second field of one struct, a second variable of one
-  -- block, at the second name
+  -- block, a second parameter of one function, at the second name
   abbrev pub t5 : Site → List Place
   t5 (Defines family name earlier count) = when (has name.text earlier) name.at
   t5 _ = []
@@ -157,6 +164,12 @@ module _ (g : Globals) where
   t15 (Functions main h) = when (not main && (is_main h && not (is_main_head h))) h.name.at
   t15 _ = []
 
+  -- T16: a `return` with an operand in a function without a result, or without one in another function than main that
+  -- has a result, at the word
+  abbrev pub t16 : Site → List Place
+  t16 (Returns home operand at) = when (not (may_return g home operand)) at
+  t16 _ = []
+
   -- K2: the first struct above the limit, at its name
   abbrev pub k2 : Site → List Place
   k2 (Defines Struct name earlier count) = when (nat_eq count STRUCTS) name.at
@@ -186,3 +199,8 @@ module _ (g : Globals) where
   abbrev pub k8 : Site → List Place
   k8 (Overflows over) = maybe_place over
   k8 _ = []
+
+  -- K10: the first definition of a function above the limit, at its name
+  abbrev pub k10 : Site → List Place
+  k10 (Defines Function name earlier count) = when (nat_eq count FUNCTIONS) name.at
+  k10 _ = []

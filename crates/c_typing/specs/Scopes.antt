@@ -1,6 +1,12 @@
 -- The variables that are in scope at a place of a body, and those that were declared before it (ISO/IEC 9899:2011,
 -- 6.2.1).
-use Rattle.std.specs.Prelude.{ℕ, ◌+◌, cond, List, [], ◌∷◌, ◌++◌, map, length, Option, Some, None}
+use Rattle.std.specs.Prelude.{ℕ, ◌+◌, cond, List, [], ◌∷◌, ◌++◌, map, length, codes, Option, Some, None}
+use Rattle.c_ast.specs.declared.items.Head.{Head}
+use Rattle.c_ast.specs.declared.items.Item.{Item}
+use Rattle.c_ast.specs.declared.items.Item.TheVariants as item
+use Rattle.c_ast.specs.declared.items.Param.{Param}
+use Rattle.c_ast.specs.declared.items.Param.TheVariants as param
+use Rattle.c_ast.specs.declared.operands.Name.{Name}
 use Rattle.c_ast.specs.declared.statements.Block.{Block, fold-Block, Block-F}
 use Rattle.c_ast.specs.declared.statements.Declarator.{Declarator}
 use Rattle.c_ast.specs.declared.statements.Declare.{Declare}
@@ -11,7 +17,8 @@ use Rattle.c_ast.specs.declared.statements.Part as part
 use Rattle.c_ast.specs.declared.statements.Part.TheOpen as stmt
 use Rattle.c_ast.specs.declared.statements.Stmt.{Stmt, fold-Stmt, Stmt-F}
 use Rattle.c_types.specs.declared.program.VarDef.{VarDef}
-use Rattle.c_typing.specs.Globals.{Globals, struct_number}
+use Rattle.c_typing.specs.Globals.{Globals, struct_number, struct_names, function_number, is_main, result_kind}
+use Rattle.c_typing.specs.Globals.{param_kind, params_of}
 use Rattle.c_typing.specs.Texts.{Text, same, has, joined}
 use Rattle.c_typing.specs.declared.meaning.Kind.{Kind}
 use Rattle.c_typing.specs.declared.meaning.Kind.TheVariants.{Points, Datum}
@@ -22,16 +29,17 @@ pub record Var : Type 0 where
   pub kind : Kind
   pub number : ℕ
 
--- The blocks that are open, innermost first, each with the variables that it has declared so far, the last one first.
--- And all variables of the
--- file so far, also those of blocks that are closed: pointers and data apart, in order.
+-- The number of the function around, none being that of `main`. The blocks that are open, innermost first, each with the
+-- variables that it has declared so far, the last one first. And all variables of the file so far, also those of blocks
+-- that are closed: pointers and data apart, in order.
 pub record Scope : Type 0 where
+  pub home : Option ℕ
   pub blocks : List (List Var)
   pub vars : List VarDef
   pub data_vars : List Text
 
 abbrev pub empty_scope : Scope
-empty_scope = record { blocks = []; vars = []; data_vars = [] }
+empty_scope = record { home = None; blocks = []; vars = []; data_vars = [] }
 
 abbrev pub var_name : Var → Text
 var_name v = v.name
@@ -54,11 +62,13 @@ declared_so_far scope = length scope.vars + length scope.data_vars
 
 -- one more block is open
 abbrev pub opened : Scope → Scope
-opened scope = record { blocks = [] ∷ scope.blocks; vars = scope.vars; data_vars = scope.data_vars }
+opened scope = record
+    { home = scope.home; blocks = [] ∷ scope.blocks; vars = scope.vars; data_vars = scope.data_vars }
 
 -- the blocks that were open before, after what was declared within
 abbrev pub closed : Scope → Scope → Scope
-closed before within = record { blocks = before.blocks; vars = within.vars; data_vars = within.data_vars }
+closed before within = record
+    { home = before.home; blocks = before.blocks; vars = within.vars; data_vars = within.data_vars }
 
 -- The innermost block with one more variable. Of two variables of one name in one block the first counts.
 abbrev pub with_var : Var → List (List Var) → List (List Var)
@@ -73,11 +83,13 @@ or_zero (Some n) = n
 -- after a declarator
 abbrev pub declared : Scope → Text → Kind → Scope
 declared scope x (Points to) = record {
+  home = scope.home;
   blocks = with_var (record { name = x; kind = Points to; number = length scope.vars }) scope.blocks;
   vars = scope.vars ++ (record { name = x; shape = or_zero to }) ∷ [];
   data_vars = scope.data_vars;
 }
 declared scope x Datum = record {
+  home = scope.home;
   blocks = with_var (record { name = x; kind = Datum; number = length scope.data_vars }) scope.blocks;
   vars = scope.vars;
   data_vars = scope.data_vars ++ x ∷ [];
@@ -96,6 +108,20 @@ kind_of g (declare.Datums base vars) = Datum
 abbrev pub declarators_of : Declare → List Declarator
 declarators_of (declare.Pointers at name vars) = vars
 declarators_of (declare.Datums base vars) = vars
+
+-- The result of `f` is a variable that is printed as `f()`. It is declared where no block is open, so it is in scope
+-- nowhere.
+abbrev pub result_declared : Option Kind → Text → Scope → Scope
+result_declared None x scope = scope
+result_declared (Some k) x scope = declared scope (x ++ codes "()") k
+
+abbrev pub param_name : Param → Name
+param_name (param.Pointer at shape name) = name
+param_name (param.Datum base name) = name
+
+-- between functions no block is open
+abbrev pub outside : Scope → Scope
+outside scope = record { home = None; blocks = []; vars = scope.vars; data_vars = scope.data_vars }
 
 module _ (g : Globals) where
   abbrev pub past_declare : Declare → Scope → Scope
@@ -154,3 +180,34 @@ module _ (g : Globals) where
   abbrev pub past_other : Option Stmt → Scope → Scope
   past_other None scope = scope
   past_other (Some s) scope = past_stmt s scope
+
+  -- Functions (6.9.1): what was declared so far is handed on from one to the next, also from one that is refused.
+
+  -- in a function with this head, of which nothing is declared yet
+  abbrev pub begun : Head → Scope → Scope
+  begun h scope = record
+      { home = function_number g h.name.text; blocks = []; vars = scope.vars; data_vars = scope.data_vars }
+
+  -- what the result of a function with this head is, if it has one; that of `main` is no variable
+  abbrev pub result_of : Head → Option Kind
+  result_of h = cond (is_main h) None (result_kind (struct_names g) h.gives)
+
+  abbrev pub past_result : Head → Scope → Scope
+  past_result h scope = result_declared (result_of h) h.name.text (begun h scope)
+
+  abbrev pub past_params : List Param → Scope → Scope
+  past_params [] scope = scope
+  past_params (p ∷ ps) scope =
+      past_params ps (declared scope (param_name p).text (param_kind (struct_names g) p))
+
+  -- where the body of a function begins: its parameters are in a block of their own
+  abbrev pub past_head : Head → Scope → Scope
+  past_head h scope = past_params (params_of h.params) (opened (past_result h scope))
+
+  -- after an item
+  abbrev pub past_item : Item → Scope → Scope
+  past_item (item.Struct at name fields) scope = scope
+  past_item (item.Enum at name values) scope = scope
+  past_item (item.Proto outer head) scope = scope
+  past_item (item.Function head body) scope = outside (past_block body (past_head head scope))
+  past_item (item.Declare d) scope = scope

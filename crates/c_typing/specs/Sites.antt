@@ -22,7 +22,7 @@ use Rattle.c_ast.specs.declared.simples.Simple.{Simple}
 use Rattle.c_ast.specs.declared.simples.Simple.TheVariants as simple
 use Rattle.c_ast.specs.declared.simples.Size.{Size}
 use Rattle.c_ast.specs.declared.simples.Size.TheVariants as size
-use Rattle.c_typing.specs.Globals.{Globals, struct_number}
+use Rattle.c_typing.specs.Globals.{Globals, struct_number, result_at}
 use Rattle.c_typing.specs.Meanings.{meaning_of_name, meaning_of_path, meaning_of_operand, place_of_operand, followed}
 use Rattle.c_typing.specs.Profile.{is_allowed}
 use Rattle.c_typing.specs.Scopes.{Scope}
@@ -43,6 +43,9 @@ pub data Family : Type 0 where
   Value : Family
   Member : Family
   Variable : Family
+  Function : Family
+  -- of a prototype, whose parameters are no variables
+  Parameter : Family
 
 pub data Site : Type 0 where
   -- a struct is named
@@ -71,7 +74,9 @@ pub data Site : Type 0 where
   Calls : Scope → Spot → Name → List Operand → Site
   -- a `break` or `continue`, and whether a loop is open
   Jumps : Bool → Place → Site
-  -- the statements and declarations in main's block, in order
+  -- a `return`: the function around, none being `main`, and whether it has an operand
+  Returns : Option ℕ → Bool → Place → Site
+  -- the statements and declarations in the block of a function, in order
   Counts : List Place → Site
   -- a prototype
   Declares : Head → Site
@@ -89,6 +94,15 @@ pub data Site : Type 0 where
 abbrev pub want_of_kind : Kind → Want
 want_of_kind (Points to) = APointer to
 want_of_kind DatumKind = ADatum
+
+abbrev pub want_of_result : Option Kind → Want
+want_of_result None = Either
+want_of_result (Some k) = want_of_kind k
+
+-- what `return` wants in the function of this number, or in `main`: a datum
+abbrev pub want_of_return : Globals → Option ℕ → Want
+want_of_return g None = ADatum
+want_of_return g (Some f) = want_of_result (result_at g f)
 
 -- what is wanted of the right side, by the target; of a target that breaks a rule nothing is
 abbrev pub want_of_target : Meaning → Want

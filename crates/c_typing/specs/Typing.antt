@@ -7,8 +7,8 @@ use Rattle.c_typing.specs.Globals.{Globals, globals_of}
 use Rattle.c_typing.specs.ItemSites.{unit_sites}
 use Rattle.c_typing.specs.Orders.{before}
 use Rattle.c_typing.specs.Programs.{program_of}
-use Rattle.c_typing.specs.Rules.{t1, t2, t3, t4, t5, t6, t7, t8, t9, t10, t11, t12, t13, t14, t15, k2, k3, k4, k5, k7}
-use Rattle.c_typing.specs.Rules.{k8}
+use Rattle.c_typing.specs.Rules.{t1, t2, t3, t4, t5, t6, t7, t8, t9, t10, t11, t12, t13, t14, t15, t16, k2, k3, k4, k5}
+use Rattle.c_typing.specs.Rules.{k7, k8, k10}
 use Rattle.c_typing.specs.Sites.{Site}
 use Rattle.c_typing.specs.Texts.{each_of, joined}
 use Rattle.c_typing.specs.declared.fault.TypeFault.{TypeFault}
@@ -22,10 +22,10 @@ breaches_at g s = joined
     ∷ map (Rule 6) (t6 g s) ∷ map (Rule 7) (t7 g s) ∷ map (Rule 8) (t8 g s) ∷ map (Rule 9) (t9 g s)
     ∷ map (Rule 10) (t10 g s)
     ∷ map (Rule 11) (t11 g s) ∷ map (Rule 12) (t12 g s) ∷ map (Rule 13) (t13 g s) ∷ map (Rule 14) (t14 g s)
-    ∷ map (Rule 15) (t15 g s)
+    ∷ map (Rule 15) (t15 g s) ∷ map (Rule 16) (t16 g s)
     ∷ map (Limit 2) (k2 g s) ∷ map (Limit 3) (k3 g s) ∷ map (Limit 4) (k4 g s) ∷ map (Limit 5) (k5 g s)
     ∷ map (Limit 7) (k7 g s)
-    ∷ map (Limit 8) (k8 g s) ∷ [])
+    ∷ map (Limit 8) (k8 g s) ∷ map (Limit 10) (k10 g s) ∷ [])
 
 -- all that is broken at these sites
 abbrev pub breaches_of : Globals → List Site → List TypeFault

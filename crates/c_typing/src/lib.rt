@@ -9,6 +9,7 @@
 pub mod crossing;
 pub mod fault;
 pub mod laws;
+pub mod limits;
 pub mod meaning;
 
 pub use fault::TypeFault;

@@ -97,6 +97,7 @@ file = record {
 -- in a block: struct node *p; struct item *q, *r; int x, y;
 abbrev pub here : Scope
 here = record {
+  home = None;
   blocks =
       (record { name = codes "y"; kind = Datum; number = 1 } ∷ record { name = codes "x"; kind = Datum; number = 0 }
       ∷ record { name = codes "r"; kind = Points (Some 1); number = 2 }

@@ -382,7 +382,7 @@ texts zero = []
 texts (suc n) = [] ∷ texts n
 
 abbrev crowded : ℕ → Scope
-crowded n = record { blocks = []; vars = []; data_vars = texts n }
+crowded n = record { home = None; blocks = []; vars = []; data_vars = texts n }
 
 abbrev breaks_after : ℕ → Stmt → List TypeFault
 breaks_after n s = breaches_of file (stmt_sites file s false (crowded n))
