@@ -56,7 +56,8 @@ module _ (g : Globals) where
       let halves : (fault_when (not (is_main h)) (Rule 13 h.name.at) ≡ [])
       × (fault_when (is_main h && not (is_main_head h)) (Rule 15 h.name.at) ≡ []) =
       empty_parts _ _ (sym (at-Functions g false h) ∙ c) in
-      let main : is_main h ≡ true = not-false (is_main h) (never _ (Rule 13 h.name.at) halves.0) in
-      (main,
-      not-false (is_main_head h)
-      (ap (λ b. b && not (is_main_head h)) (sym main) ∙ never _ (Rule 15 h.name.at) halves.1))
+      let main : is_main h ≡ true = not-false (is_main h) (never _ (Rule 13 h.name.at) halves.0) in (
+        main,
+        not-false (is_main_head h)
+            (ap (λ b. b && not (is_main_head h)) (sym main) ∙ never _ (Rule 15 h.name.at) halves.1),
+      )

@@ -4,6 +4,7 @@ pub mod Blocks
 pub mod Definitions
 pub mod Files
 pub mod Forms
+pub mod Functions
 pub mod Limits
 pub mod Orders
 pub mod Tests

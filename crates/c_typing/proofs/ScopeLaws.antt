@@ -114,7 +114,8 @@ module _ (g : Globals) (V : List VarDef) (D : ℕ) where
     of_Simple = λ s scope. carried scope _ _ (past-Simple-stmt g s scope) (unmoved scope);
     of_If = λ at c s other ok ok' scope.
         carried scope _ _ (past-If-stmt g at c s other scope)
-        (chained scope (past_stmt g s scope) _ (ok scope) (other_keeps other ok' (past_stmt g s scope)));
+        (chained scope (past_stmt g s scope) (past_other g other (past_stmt g s scope)) (ok scope)
+        (other_keeps other ok' (past_stmt g s scope)));
     of_While = λ at c body ok scope. carried scope _ _ (past-While-stmt g at c body scope) (ok scope);
     of_Do = λ at body c ok scope. carried scope _ _ (past-Do-stmt g at body c scope) (ok scope);
     of_For = λ at f c next body ok scope.

@@ -299,19 +299,25 @@ module _ (g : Globals) (globals : GoodGlobals (length g.structs) g) (unnumbered 
   main_clean s h b none c =
       let parts : IsClean g (head_sites g s h empty_scope) × IsClean g (body_sites g b (past_head g h empty_scope)) =
       clean_parts g (head_sites g s h empty_scope) (body_sites g b (past_head g h empty_scope)) c in
-      let later : IsClean g (named_sites s h ++ result_sites (result_of g h) h.name (begun g h empty_scope)
-      ++ own_params_sites g (params_of h.params) (opened (past_result g h empty_scope))) =
-      (clean_parts g (gives_sites h.gives) _ parts.0).1 in
-      let named : IsClean g (named_sites s h) = (clean_parts g (named_sites s h) _ later).0 in
+      let first : IsClean g ((gives_sites h.gives ++ named_sites s h)
+      ++ result_sites (result_of g h) h.name (begun g h empty_scope)) =
+      (clean_parts g ((gives_sites h.gives ++ named_sites s h)
+      ++ result_sites (result_of g h) h.name (begun g h empty_scope))
+      (own_params_sites g (params_of h.params) (opened (past_result g h empty_scope))) parts.0).0 in
+      let begin : IsClean g (gives_sites h.gives ++ named_sites s h) =
+      (clean_parts g (gives_sites h.gives ++ named_sites s h)
+      (result_sites (result_of g h) h.name (begun g h empty_scope)) first).0 in
+      let named : IsClean g (named_sites s h) = (clean_parts g (gives_sites h.gives) (named_sites s h) begin).1 in
       let function : breaches_at g (site.Functions s.main h) ≡ [] =
       (clean_first g (site.Functions s.main h) []
       (clean_first g (site.Defines site.Function h.name [] (length s.functions)) (site.Functions s.main h ∷ []) named).1).0 in
       let main : (is_main h ≡ true) × (is_main_head h ≡ true) =
-      main_alone g h (subst (λ k. breaches_at g (site.Functions k h) ≡ []) none function) in
-      (main.0,
-      subst (λ scope. IsClean g (block_sites g b false scope)) (main_scope h main.0 main.1)
-      (clean_parts g (block_sites g b false (past_head g h empty_scope)) (site.Counts (block_places b).within ∷ [])
-      parts.1).0)
+      main_alone g h (subst (λ k. breaches_at g (site.Functions k h) ≡ []) none function) in (
+        main.0,
+        subst (λ scope. IsClean g (block_sites g b false scope)) (main_scope h main.0 main.1)
+            (clean_parts g (block_sites g b false (past_head g h empty_scope)) (site.Counts (block_places b).within ∷ [])
+            parts.1).0,
+      )
 
   items_typed : (s : Seen) (is : List Item) → s.main ≡ false → IsClean g (items_sites g s is empty_scope)
       → is_typed (program_in g is) ≡ true

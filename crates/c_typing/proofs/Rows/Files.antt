@@ -48,16 +48,16 @@ prototype_is_no_main : breaches
 unfolding breaches
 prototype_is_no_main = refl
 
--- void f(void) { x = y; f(); } : its body is not looked at
+-- void f(void) { x = y; f(); }
 other_function : breaches
     (unit
     (item.Function (head (gives.Void (at 200)) (name (codes "f") 201) (Some (params.Void (at 203))))
     (block 205
     (part'.Stmt (stmt.Simple (simple.Assign (var (codes "x") 206) (rhs.Operand (operand.Path (var (codes "y") 208)))))
     ∷ part'.Stmt (stmt.Simple (simple.Call (call (codes "f") 210 []))) ∷ []) 214) ∷ []) 215) ≡ Rule 13 (at 201)
-    ∷ Rule 12 (at 215) ∷ []
+    ∷ Rule 3 (at 206) ∷ Rule 3 (at 208) ∷ Rule 15 (at 210) ∷ Rule 12 (at 215) ∷ []
 unfolding breaches
-other_function = refl
+other_function = simp layers refl
 
 -- int main(void) { } int main(void) { x = 1; }
 second_main :
@@ -67,7 +67,7 @@ second_main :
     (block 205 [] 206) ∷ item.Function
     (head (gives.Data (data'.Int (at 207))) (name (codes "main") 208) (Some (params.Void (at 210))))
     (block 212 (part'.Stmt (stmt.Simple (simple.Assign (var (codes "x") 213) (rhs.Operand (number (codes "1") 215))))
-    ∷ []) 217) ∷ []) 218) ≡ Rule 13 (at 208) ∷ []
+    ∷ []) 217) ∷ []) 218) ≡ Rule 13 (at 208) ∷ Rule 3 (at 213) ∷ []
 unfolding breaches
 second_main = simp layers refl
 
@@ -113,14 +113,14 @@ main_of_a_pointer : breaches
 unfolding breaches
 main_of_a_pointer = simp layers refl
 
--- int main(int a) { a = 1; }: its body is looked at, without the parameter
+-- int main(int a) { a = 1; }: its body is looked at, with the parameter
 main_with_a_parameter : breaches
     (unit
     (item.Function
     (head (gives.Data (data'.Int (at 200))) (name (codes "main") 201)
     (Some (params.List (param.Datum (data'.Int (at 203)) (name (codes "a") 204) ∷ []))))
     (block 206 (part'.Stmt (stmt.Simple (simple.Assign (var (codes "a") 207) (rhs.Operand (number (codes "1") 209))))
-    ∷ []) 211) ∷ []) 212) ≡ Rule 15 (at 201) ∷ Rule 3 (at 207) ∷ []
+    ∷ []) 211) ∷ []) 212) ≡ Rule 15 (at 201) ∷ []
 unfolding breaches
 main_with_a_parameter = simp layers refl
 
@@ -152,7 +152,7 @@ function_between_mains :
     (block 212 [] 213) ∷ item.Function
     (head (gives.Data (data'.Int (at 214))) (name (codes "main") 215) (Some (params.Void (at 217))))
     (block 219 (part'.Stmt (stmt.Simple (simple.Assign (var (codes "x") 220) (rhs.Operand (number (codes "1") 222))))
-    ∷ []) 224) ∷ []) 225) ≡ Rule 13 (at 208) ∷ Rule 13 (at 215) ∷ []
+    ∷ []) 224) ∷ []) 225) ≡ Rule 13 (at 208) ∷ Rule 13 (at 215) ∷ Rule 3 (at 220) ∷ []
 unfolding breaches
 function_between_mains = simp layers refl
 

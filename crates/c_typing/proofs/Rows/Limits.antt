@@ -546,12 +546,7 @@ main_block :
 main_block = simp layers refl
 
 -- int main() { ; ; } has two statements, and its own block is none
-body_counts : (g : Globals)
-    → body_sites g true (block 200 (part'.Stmt (stmt.Empty (at 201)) ∷ part'.Stmt (stmt.Empty (at 202)) ∷ []) 203)
+body_counts : (g : Globals) (scope : Scope)
+    → body_sites g (block 200 (part'.Stmt (stmt.Empty (at 201)) ∷ part'.Stmt (stmt.Empty (at 202)) ∷ []) 203) scope
     ≡ Counts (at 201 ∷ at 202 ∷ []) ∷ []
-body_counts g = simp layers refl
-
--- a body that is not looked at has none
-no_body_counts : (g : Globals)
-    → body_sites g false (block 200 (part'.Stmt (stmt.Empty (at 201)) ∷ part'.Stmt (stmt.Empty (at 202)) ∷ []) 203) ≡ []
-no_body_counts g = refl
+body_counts g scope = simp layers refl
