@@ -17,8 +17,9 @@ use Rattle.c_ast.specs.declared.items.Params.TheVariants as params
 use Rattle.c_ast.specs.declared.items.Unit as whole
 use Rattle.c_ast.specs.declared.operands.Name.{Name}
 use Rattle.c_ast.specs.declared.statements.Block.{Block}
-use Rattle.c_types.specs.Program.{Outside, all_below, shapes_typed, vars_typed, each_typed, stmt_typed, funcs_typed}
-use Rattle.c_types.specs.Program.{is_typed}
+use Rattle.c_types.specs.Program.{Spot, Outside, all_below, shapes_typed, vars_typed, each_typed, stmt_typed}
+use Rattle.c_types.specs.Program.{funcs_typed, is_typed}
+use Rattle.c_types.specs.declared.program.Stmt.{Stmt}
 use Rattle.c_types.proofs.NoFunctions.{no_funcs_typed}
 use Rattle.c_types.specs.declared.program.VarDef.{VarDef}
 use Rattle.c_typing.specs.BodySites.{block_sites, block_places}
@@ -224,7 +225,8 @@ all_others (i ∷ is) = every_append IsOther (functions_in i) (each_of functions
 main_absent : (names : List Text) (hs : List Head) → Every IsOther hs
     → has (codes "main") (map function_name (map (function_of names) hs)) ≡ false
 main_absent names [] all = refl
-main_absent names (h ∷ hs) all = or_from (same (codes "main") h.name.text) _ (other_way (codes "main") h.name.text all.0)
+main_absent names (h ∷ hs) all =
+    or_from (same (codes "main") h.name.text) _ (other_way (codes "main") h.name.text all.0)
     (main_absent names hs all.1)
 
 main_unnumbered : (is : List Item) → function_number (globals_of is) (codes "main") ≡ None
@@ -252,10 +254,12 @@ module _ (g : Globals) (globals : GoodGlobals (length g.structs) g) (unnumbered 
   abbrev count_of : Block → ℕ
   count_of b = length (past_block g b (opened empty_scope)).data_vars
 
+  abbrev is_right : Block → Stmt → Spot → Bool
+  is_right b = stmt_typed (map shape_of g.structs) (vars_of b) (count_of b) [] None
+
   abbrev body_typed : Block → Bool
   body_typed b = each_typed (map shape_of g.structs) (vars_of b) (count_of b)
-      (map (stmt_typed (map shape_of g.structs) (vars_of b) (count_of b) [] None) (block_stmts g b (opened empty_scope)))
-      Outside
+      (map (is_right b) (block_stmts g b (opened empty_scope))) Outside
 
   with_typed : (b : Block) → IsClean g (block_sites g b false (opened empty_scope)) → is_typed (program_with g b) ≡ true
   unfolding is_typed
@@ -308,16 +312,17 @@ module _ (g : Globals) (globals : GoodGlobals (length g.structs) g) (unnumbered 
       (clean_parts g (gives_sites h.gives ++ named_sites s h)
       (result_sites (result_of g h) h.name (begun g h empty_scope)) first).0 in
       let named : IsClean g (named_sites s h) = (clean_parts g (gives_sites h.gives) (named_sites s h) begin).1 in
+      let last : IsClean g (site.Functions s.main h ∷ []) =
+      (clean_first g (site.Defines site.Function h.name [] (length s.functions)) (site.Functions s.main h ∷ [])
+      named).1 in
       let function : breaches_at g (site.Functions s.main h) ≡ [] =
-      (clean_first g (site.Functions s.main h) []
-      (clean_first g (site.Defines site.Function h.name [] (length s.functions)) (site.Functions s.main h ∷ []) named).1).0 in
+      (clean_first g (site.Functions s.main h) [] last).0 in
       let main : (is_main h ≡ true) × (is_main_head h ≡ true) =
-      main_alone g h (subst (λ k. breaches_at g (site.Functions k h) ≡ []) none function) in (
-        main.0,
-        subst (λ scope. IsClean g (block_sites g b false scope)) (main_scope h main.0 main.1)
-            (clean_parts g (block_sites g b false (past_head g h empty_scope)) (site.Counts (block_places b).within ∷ [])
-            parts.1).0,
-      )
+      main_alone g h (subst (λ k. breaches_at g (site.Functions k h) ≡ []) none function) in
+      let block : IsClean g (block_sites g b false (past_head g h empty_scope)) =
+      (clean_parts g (block_sites g b false (past_head g h empty_scope)) (site.Counts (block_places b).within ∷ [])
+      parts.1).0 in
+      (main.0, subst (λ scope. IsClean g (block_sites g b false scope)) (main_scope h main.0 main.1) block)
 
   items_typed : (s : Seen) (is : List Item) → s.main ≡ false → IsClean g (items_sites g s is empty_scope)
       → is_typed (program_in g is) ≡ true

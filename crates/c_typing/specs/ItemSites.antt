@@ -23,8 +23,8 @@ use Rattle.c_typing.specs.Sites.{Counts, Declares, Functions, Globally, Ends, Ov
 use Rattle.c_typing.specs.Texts.{Text}
 use Rattle.c_typing.specs.declared.meaning.Kind.{Kind}
 
--- what the items so far define: the names of structs with braces, of enumerations, of enumerators and of functions, each
--- as often as it comes, and whether one is main
+-- what the items so far define: the names of structs with braces, of enumerations, of enumerators and of functions,
+-- each as often as it comes, and whether one is main
 pub record Seen : Type 0 where
   pub structs : List Text
   pub enums : List Text

@@ -29,9 +29,9 @@ pub record Var : Type 0 where
   pub kind : Kind
   pub number : ℕ
 
--- The number of the function around, none being that of `main`. The blocks that are open, innermost first, each with the
--- variables that it has declared so far, the last one first. And all variables of the file so far, also those of blocks
--- that are closed: pointers and data apart, in order.
+-- The number of the function around, none being that of `main`. The blocks that are open, innermost first, each with
+-- the variables that it has declared so far, the last one first. And all variables of the file so far, also those of
+-- blocks that are closed: pointers and data apart, in order.
 pub record Scope : Type 0 where
   pub home : Option ℕ
   pub blocks : List (List Var)

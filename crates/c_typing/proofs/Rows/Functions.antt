@@ -25,7 +25,8 @@ use Rattle.c_typing.specs.declared.fault.TypeFault.{TypeFault}
 use Rattle.c_typing.specs.declared.fault.TypeFault.TheVariants.{Rule, Limit}
 use Rattle.c_typing.specs.declared.meaning.Kind.TheVariants.{Points, Datum}
 use Rattle.c_typing.proofs.Layers.{layers}
-use Rattle.c_typing.proofs.Rows.Forms.{at, name, var, call, number, condition, conjunction, plain, block, head, unit, file}
+use Rattle.c_typing.proofs.Rows.Forms.{at, name, var, call, number, condition, conjunction, plain, block, head, unit}
+use Rattle.c_typing.proofs.Rows.Forms.{file}
 
 -- Parameters are variables of their function
 
@@ -452,8 +453,7 @@ variable_of_main_65 = simp layers refl
 -- what a function breaks after so many others
 abbrev breaks_behind : ℕ → Item → List TypeFault
 breaks_behind n i =
-    breaches_of file
-    (item_sites file (record { structs = []; enums = []; values = []; functions = texts n; main = false }) i empty_scope)
+    breaches_of file (item_sites file (record nothing_seen { functions = texts n }) i empty_scope)
 
 -- void f(void) { }
 function_64 : breaks_behind 63 (item.Function (head (gives.Void (at 200)) (name (codes "f") 201) (Some (params.Void
