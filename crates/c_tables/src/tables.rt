@@ -1,15 +1,16 @@
 // What the items of a unit define, to be found by names.
 ghost use Rattle.std.specs.Prelude.{◌≡◌, [], map, IfOk, OnOk};
 ghost use Rattle.c_typing.specs.Globals.{globals_of, fields_of, struct_number, field_use, use_in, value_of, value_in};
-ghost use Rattle.c_typing.specs.Globals.{value_name};
+ghost use Rattle.c_typing.specs.Globals.{function_number, param_kind, result_at, result_kind, struct_names, value_name};
 ghost use Rattle.c_typing.specs.Programs.{field_kind_of, field_of, shape_of};
 ghost use Rattle.c_typing.specs.Texts.{has};
 
 use crate::defined::{self, Values};
+use crate::functions::{self, Functions};
 use crate::naming;
 use crate::structs::Struct;
-use c_ast::Item;
-use c_typing::{Enumerator, FieldUse, Kind, Member};
+use c_ast::{Item, Param, ReturnType};
+use c_typing::{Enumerator, FieldUse, FunctionDef, Kind, Member};
 use fore_base::list::{Copies, List};
 use fore_base::memory::Mem;
 use fore_base::names::Names;
@@ -17,7 +18,7 @@ use fore_base::shape::{FieldDef, FieldKind, Shape, Shapes};
 use std::alloc::Global;
 use std::marker::Model;
 
-/// The structs, enumerations and enumerators of a unit, of each name the first, to be found by their names.
+/// The structs, enumerations, enumerators and functions of a unit, of each name the first, to be found by their names.
 #[derive(Drop)]
 pub struct Tables {
     struct_names: Names,
@@ -25,17 +26,20 @@ pub struct Tables {
     enums: Names,
     value_names: Names,
     values: List<Enumerator>,
+    function_names: Names,
+    functions: List<FunctionDef>,
 }
 
 impl Model for Tables {
     ghost use Rattle.std.specs.Prelude.{◌≡◌, map};
-    ghost use Rattle.c_typing.specs.Globals.{Globals, struct_name, value_name};
+    ghost use Rattle.c_typing.specs.Globals.{Globals, function_name, struct_name, value_name};
 
     ghost Value = { Globals };
 
-    ghost view = { λ t. record { structs = t.structs; enums = t.enums; values = t.values } };
+    ghost view = { λ t. record { structs = t.structs; enums = t.enums; values = t.values; functions = t.functions } };
 
-    ghost invariant = { λ t. (t.struct_names ≡ map struct_name t.structs) × (t.value_names ≡ map value_name t.values) };
+    ghost invariant = { λ t. (t.struct_names ≡ map struct_name t.structs)
+        × ((t.value_names ≡ map value_name t.values) × (t.function_names ≡ map function_name t.functions)) };
 }
 
 impl Tables {
@@ -48,12 +52,15 @@ impl Tables {
         let structs = defined::structs(alloc, &struct_names, items)?;
         let enums = defined::enum_names(alloc, items)?;
         let Values { names, values } = Values::of(alloc, items)?;
+        let all = Functions::of(alloc, &struct_names, items)?;
         Ok(Tables {
             struct_names,
             structs,
             enums,
             value_names: names,
             values,
+            function_names: all.names,
+            functions: all.functions,
         })
     }
 
@@ -91,6 +98,44 @@ impl Tables {
         ensures { result ≡ has name.now self.now.enums }
     {
         naming::is_there(&self.enums, name)
+    }
+
+    /// The number of the function of a name; None where none is defined, and for `main`.
+    pub fn function_of(&self, name: &[u8]) -> Option<u32>
+        ensures { result ≡ function_number self.now name.now }
+    {
+        naming::find(&self.function_names, name)
+    }
+
+    /// What a function gives.
+    pub fn result_kind(&self, gives: &ReturnType) -> Option<Kind>
+        ensures { result ≡ result_kind (struct_names self.now) gives.now }
+    {
+        functions::result_kind(&self.struct_names, gives)
+    }
+
+    /// What a parameter holds.
+    pub fn param_kind(&self, param: &Param) -> Kind
+        ensures { result ≡ param_kind (struct_names self.now) param.now }
+    {
+        functions::param_kind(&self.struct_names, param)
+    }
+
+    /// What the function of this number returns, if anything.
+    pub fn result_at(&self, function: u32) -> Option<Kind>
+        ensures { result ≡ result_at self.now function }
+    {
+        match self.functions.get(function as usize) {
+            Some(one) => one.result,
+            None => None,
+        }
+    }
+
+    /// The functions besides `main`, by their numbers.
+    pub fn functions(&self) -> &[FunctionDef]
+        ensures { result.now ≡ self.now.functions }
+    {
+        self.functions.as_slice()
     }
 }
 
