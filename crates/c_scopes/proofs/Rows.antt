@@ -42,7 +42,13 @@ closes : left (record {
   blocks = (var b Datum 0 ∷ []) ∷ (var a (Points (Some 0)) 0 ∷ []) ∷ [];
   vars = def a 0 ∷ [];
   data_vars = b ∷ [];
-}) ≡ record { blocks = (var a (Points (Some 0)) 0 ∷ []) ∷ []; vars = def a 0 ∷ []; data_vars = b ∷ [] }
+  home = Some 3;
+}) ≡ record {
+  blocks = (var a (Points (Some 0)) 0 ∷ []) ∷ [];
+  vars = def a 0 ∷ [];
+  data_vars = b ∷ [];
+  home = Some 3;
+}
 closes = refl
 
 none_open : outer {X = ℕ} [] ≡ []
@@ -62,9 +68,11 @@ shadows : scope_of (record {
       ∷ record { name = 0; meant = meant 2 2; under = Some (meant 0 1) } ∷ []) ∷ [];
   vars = [];
   data_vars = a ∷ b ∷ a ∷ [];
+  home = Some 1;
 }) ≡ record {
   blocks = (var a Datum 2 ∷ var b Datum 1 ∷ []) ∷ (var a Datum 0 ∷ []) ∷ [];
   vars = [];
   data_vars = a ∷ b ∷ a ∷ [];
+  home = Some 1;
 }
 shadows = refl

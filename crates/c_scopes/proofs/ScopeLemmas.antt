@@ -202,7 +202,7 @@ pub grown_same : (t : Table) (names : List (List ℕ)) (meant : List (Option Mea
 grown_same t names meant text kept (inl e) = ap (λ ns. scope_of (record t { names = ns; meant = meant })) e
 grown_same t names meant text kept (inr e) =
     ap (λ ns. scope_of (record t { names = ns; meant = meant })) e
-    ∙ ap (λ bs. record { blocks = bs; vars = t.vars; data_vars = t.data_vars })
+    ∙ ap (λ bs. record { blocks = bs; vars = t.vars; data_vars = t.data_vars; home = t.home })
     (blocks_push t.names text (turned t.blocks) kept.named)
 
 -- Entering and leaving a block
@@ -227,7 +227,7 @@ entered_kept t blocks kept is =
 pub entered_as : (t : Table) (blocks : List (List Entry)) → blocks ≡ t.blocks ++ [] ∷ []
     → scope_of (record t { blocks = blocks }) ≡ opened (scope_of t)
 entered_as t blocks is =
-    ap (λ bs. record { blocks = map (vars_of t.names) bs; vars = t.vars; data_vars = t.data_vars })
+    ap (λ bs. record { blocks = map (vars_of t.names) bs; vars = t.vars; data_vars = t.data_vars; home = t.home })
     (ap turned is ∙ turned_push t.blocks [])
 
 length-unbound : (es : List Entry) (meant : List (Option Meant)) → length (unbound es meant) ≡ length meant
@@ -259,7 +259,7 @@ left_kept t blocks b meant kept is now =
 pub left_as : (t : Table) (blocks : List (List Entry)) (b : List Entry) (meant : List (Option Meant))
     → t.blocks ≡ blocks ++ b ∷ [] → scope_of (record t { blocks = blocks; meant = meant }) ≡ left (scope_of t)
 left_as t blocks b meant is =
-    ap (λ bs. left (record { blocks = map (vars_of t.names) bs; vars = t.vars; data_vars = t.data_vars }))
+    ap (λ bs. left (record { blocks = map (vars_of t.names) bs; vars = t.vars; data_vars = t.data_vars; home = t.home }))
     (sym (ap turned is ∙ turned_push blocks b))
 
 pub none_left : (t : Table) → t.blocks ≡ [] → scope_of t ≡ left (scope_of t)
@@ -360,7 +360,7 @@ pub shut_same : (t : Table) (n : ℕ) (what : Found) → IsKept t → IsDistinct
     → is_shut (slice_index_or t.meant n None) (length t.blocks) ≡ true →
     scope_of t ≡ bound (name_at t.names n) what (scope_of t)
 shut_same t n what kept d within shut =
-    ap (λ bs. record { blocks = bs; vars = t.vars; data_vars = t.data_vars })
+    ap (λ bs. record { blocks = bs; vars = t.vars; data_vars = t.data_vars; home = t.home })
     (with_var_shut (record { name = name_at t.names n; kind = what.kind; number = what.number }) (scope_of t).blocks
     (sym (shut_as t n kept d within) ∙ shut))
 
@@ -368,7 +368,7 @@ pub open_pushes : (t : Table) (n : ℕ) (what : Found) → IsKept t → IsDistin
     → is_shut (slice_index_or t.meant n None) (length t.blocks) ≡ false →
     pushed (name_at t.names n) what (scope_of t) ≡ bound (name_at t.names n) what (scope_of t)
 open_pushes t n what kept d within open_ =
-    ap (λ bs. record { blocks = bs; vars = t.vars; data_vars = t.data_vars })
+    ap (λ bs. record { blocks = bs; vars = t.vars; data_vars = t.data_vars; home = t.home })
     (with_var_open (record { name = name_at t.names n; kind = what.kind; number = what.number }) (scope_of t).blocks
     (sym (shut_as t n kept d within) ∙ open_))
 
@@ -418,7 +418,7 @@ module _ (t : Table) (n : ℕ) (what : Found) where
       → turned blocks ≡ with_entry (new_entry under) (turned t.blocks) →
       scope_of (record t { blocks = blocks; meant = meant }) ≡ pushed (name_at t.names n) what (scope_of t)
   pushed_as under blocks meant is =
-      ap (λ bs. record { blocks = bs; vars = t.vars; data_vars = t.data_vars })
+      ap (λ bs. record { blocks = bs; vars = t.vars; data_vars = t.data_vars; home = t.home })
       (ap (map (vars_of t.names)) is ∙ here (turned t.blocks))
     where
       here : (bs : List (List Entry)) → map (vars_of t.names) (with_entry (new_entry under) bs)
@@ -493,23 +493,23 @@ not_taken t text kept absent = sym (here (turned t.blocks) kept.named)
         (every_parts (λ (e : Entry). e.name < length t.names) b (flat bs) named).0
 
 pub added_as : (t u : Table) (x : List ℕ) (kind : Kind) (number : ℕ) → u.names ≡ t.names → u.blocks ≡ t.blocks
-    → u.vars ≡ more_vars kind x t.vars → u.data_vars ≡ more_data kind x t.data_vars →
+    → u.vars ≡ more_vars kind x t.vars → u.data_vars ≡ more_data kind x t.data_vars → u.home ≡ t.home →
     number ≡ next_number kind t.vars t.data_vars → bound x (record { kind = kind; number = number }) (scope_of u)
     ≡ declared (scope_of t) x kind
-added_as t u x (Points to) number names blocks vars data_vars is =
+added_as t u x (Points to) number names blocks vars data_vars home is =
     let now : scope_of u ≡ record
-    { blocks = (scope_of t).blocks; vars = more_vars (Points to) x t.vars; data_vars = t.data_vars } = cc in
+    { blocks = (scope_of t).blocks; vars = more_vars (Points to) x t.vars; data_vars = t.data_vars; home = t.home } = cc in
     ap (bound x (record { kind = Points to; number = number })) now
     ∙ ap
     (λ (n : ℕ). bound x (record { kind = Points to; number = n })
-    (record { blocks = (scope_of t).blocks; vars = more_vars (Points to) x t.vars; data_vars = t.data_vars })) is
-added_as t u x Datum number names blocks vars data_vars is =
+    (record { blocks = (scope_of t).blocks; vars = more_vars (Points to) x t.vars; data_vars = t.data_vars; home = t.home })) is
+added_as t u x Datum number names blocks vars data_vars home is =
     let now : scope_of u ≡ record
-    { blocks = (scope_of t).blocks; vars = t.vars; data_vars = more_data Datum x t.data_vars } = cc in
+    { blocks = (scope_of t).blocks; vars = t.vars; data_vars = more_data Datum x t.data_vars; home = t.home } = cc in
     ap (bound x (record { kind = Datum; number = number })) now
     ∙ ap
     (λ (n : ℕ). bound x (record { kind = Datum; number = n })
-    (record { blocks = (scope_of t).blocks; vars = t.vars; data_vars = more_data Datum x t.data_vars })) is
+    (record { blocks = (scope_of t).blocks; vars = t.vars; data_vars = more_data Datum x t.data_vars; home = t.home })) is
 
 -- adding changes only what was declared
 pub added_kept : (t u : Table) → IsKept t → u.names ≡ t.names → u.meant ≡ t.meant → u.blocks ≡ t.blocks → IsKept u

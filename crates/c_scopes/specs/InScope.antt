@@ -1,4 +1,4 @@
--- What is found in a scope, the number that comes next, and what is in scope once a block is closed.
+-- What is found in a scope, the number that comes next, and what is in scope once a block is closed or a function begins.
 use Rattle.std.specs.Prelude.{ℕ, List, [], ◌∷◌, Option, Some, None, length}
 use Rattle.c_types.specs.declared.program.VarDef.{VarDef}
 use Rattle.c_typing.specs.Scopes.{Scope, Var}
@@ -15,6 +15,10 @@ found_as (Some v) = Some (record { kind = v.kind; number = v.number })
 abbrev pub next_number : Kind → List VarDef → List (List ℕ) → ℕ
 next_number (Points to) vars data_vars = length vars
 next_number Datum vars data_vars = length data_vars
+
+-- In the function of this number, or in none; no block is open. What was declared stays declared.
+abbrev pub moved : Option ℕ → Scope → Scope
+moved home scope = record { home = home; blocks = []; vars = scope.vars; data_vars = scope.data_vars }
 
 -- all blocks but the innermost one
 abbrev pub outer : {X : Type 0} → List (List X) → List (List X)

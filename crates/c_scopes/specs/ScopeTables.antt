@@ -21,7 +21,12 @@ turned blocks = map reverse (reverse blocks)
 
 -- the scope that the table stands for
 abbrev pub scope_of : Table → Scope
-scope_of t = record { blocks = map (vars_of t.names) (turned t.blocks); vars = t.vars; data_vars = t.data_vars }
+scope_of t = record {
+  blocks = map (vars_of t.names) (turned t.blocks);
+  vars = t.vars;
+  data_vars = t.data_vars;
+  home = t.home;
+}
 
 -- all entries, the newest first
 abbrev pub flat : List (List Entry) → List Entry

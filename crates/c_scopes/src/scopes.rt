@@ -6,7 +6,7 @@ ghost use Rattle.c_typing.specs.Texts.{has};
 ghost use Rattle.c_typing.specs.Scopes.{look_up, empty_scope, innermost, var_name, declared_so_far, declared, opened};
 ghost use Rattle.c_typing.specs.Scopes.{or_zero};
 ghost use Rattle.c_typing.specs.Programs.{ptrs_of, datums_of};
-ghost use Rattle.c_scopes.specs.InScope.{found_as, left, next_number};
+ghost use Rattle.c_scopes.specs.InScope.{found_as, left, moved, next_number};
 ghost use Rattle.c_scopes.specs.ScopeTables.{IsKept, scope_of, turned};
 ghost use Rattle.c_scopes.specs.inner.Entries.{Grew, bound, datums_in, first_block, is_at, is_shut, more_data};
 ghost use Rattle.c_scopes.specs.inner.Entries.{more_vars, name_at, ptrs_in, pushed, unbound, with_entry};
@@ -43,8 +43,8 @@ struct Entry {
     under: Option<Meant>,
 }
 
-/// The names that were declared so far, what each of them means now, and the variables of the open blocks, innermost
-/// last.
+/// The names that were declared so far, what each of them means now, the variables of the open blocks, innermost last,
+/// and the function around.
 #[derive(Drop)]
 struct Table {
     names: Names,
@@ -52,6 +52,7 @@ struct Table {
     blocks: List<List<Entry>>,
     vars: List<VarDef>,
     data_vars: List<Text>,
+    home: Option<u32>,
 }
 
 /// The number of a name, which is added with no meaning if it is new.
@@ -216,6 +217,7 @@ impl Table {
         ensures names { self.new.names ≡ self.old.names }
         ensures meant { self.new.meant ≡ self.old.meant }
         ensures blocks { self.new.blocks ≡ self.old.blocks }
+        ensures home { self.new.home ≡ self.old.home }
     {
         let name = Text::from_slice(alloc, name)?;
         match kind {
@@ -318,6 +320,16 @@ impl Table {
         datums_in(alloc, innermost(&self.blocks))
     }
 
+    /// Goes to the function of this number, or out of all. No block is open.
+    fn move_to(&mut self, home: Option<u32>)
+        requires kept { IsKept self.old }
+        requires shut { (scope_of self.old).blocks ≡ [] }
+        ensures kept { IsKept self.new }
+        ensures moved { scope_of self.new ≡ moved home (scope_of self.old) }
+    {
+        self.home = home;
+    }
+
     /// Opens a block.
     fn enter(&mut self, alloc: Global) -> Mem<()>
         requires { IsKept self.old }
@@ -368,8 +380,24 @@ impl Scope {
             blocks: List::new(alloc),
             vars: List::new(alloc),
             data_vars: List::new(alloc),
+            home: None,
         };
         Scope { table }
+    }
+
+    /// The function around, by its number; None in `main` and outside of functions.
+    pub fn home(&self) -> Option<u32>
+        ensures { result ≡ self.now.home }
+    {
+        self.table.home
+    }
+
+    /// Begins the function of this number, or leaves all. No block is open.
+    pub fn move_to(&mut self, home: Option<u32>)
+        requires { self.old.blocks ≡ [] }
+        ensures { self.new ≡ moved home self.old }
+    {
+        self.table.move_to(home);
     }
 
     /// The innermost variable of a name.
