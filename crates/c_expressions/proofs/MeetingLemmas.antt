@@ -10,9 +10,10 @@ use Rattle.c_ast.specs.declared.operands.Operand.{Operand}
 use Rattle.c_typing.specs.Globals.{Globals, struct_number, value_of}
 use Rattle.c_typing.specs.Profile.{is_allowed}
 use Rattle.c_typing.specs.Rules.{differ, wanted_struct, wants_pointer, wants_datum, is_datum, is_pointer, lacks_field}
+use Rattle.c_typing.specs.Rules.{may_return}
 use Rattle.c_typing.specs.Scopes.{Scope, look_up}
 use Rattle.c_typing.specs.Sites.{Site, UsesStruct, UsesEnum, Defines, Variable, Begins, Follows, Measures, Stands}
-use Rattle.c_typing.specs.Sites.{Chooses, Allocates, Casts, Sizes, Calls, Jumps, Counts, struct_at}
+use Rattle.c_typing.specs.Sites.{Chooses, Allocates, Casts, Sizes, Calls, Jumps, Returns, Counts, struct_at}
 use Rattle.c_typing.specs.Texts.{Text, has}
 use Rattle.c_typing.specs.Typing.{breaches_at, breaches_of}
 use Rattle.c_typing.proofs.Breaching as breaching
@@ -157,6 +158,10 @@ module _ (g : Globals) (found : Option TypeFault) where
       ≡ noted_when (not loop) (Rule 11 at) found
   noted-Jumps loop at = one g found _ _ _ (breaching.at-Jumps g loop at)
 
+  pub noted-Returns : (home : Option ℕ) (operand : Bool) (at : Place) → noted g found (Returns home operand at)
+      ≡ noted_when (not (may_return g home operand)) (Rule 16 at) found
+  noted-Returns home operand at = one g found _ _ _ (breaching.at-Returns g home operand at)
+
   pub noted-Counts : (places : List Place) → noted g found (Counts places)
       ≡ first_from found (fault_at (Limit 7) (slice_get places STATEMENTS))
   unfolding noted
@@ -176,5 +181,6 @@ pub ruleset sites = (
   noted-Sizes,
   noted-Calls,
   noted-Jumps,
+  noted-Returns,
   noted-Counts,
 )

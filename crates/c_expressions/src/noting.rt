@@ -1,9 +1,9 @@
 // What each kind of place in a body breaks.
 ghost use Rattle.std.specs.Prelude.{◌≡◌, not, ◌||◌, ◌&&◌, map};
-ghost use Rattle.c_typing.specs.Rules.{lacks_field};
+ghost use Rattle.c_typing.specs.Rules.{lacks_field, may_return};
 ghost use Rattle.c_typing.specs.Scopes.{var_name, innermost, declared_so_far};
 ghost use Rattle.c_typing.specs.Sites.{UsesStruct, UsesEnum, Defines, Variable, Begins, Follows, Measures, Stands};
-ghost use Rattle.c_typing.specs.Sites.{Chooses, Allocates, Casts, Sizes, Jumps};
+ghost use Rattle.c_typing.specs.Sites.{Chooses, Allocates, Casts, Sizes, Jumps, Returns};
 ghost use Rattle.c_typing.specs.declared.fault.TypeFault.TheVariants.{Rule};
 ghost use Rattle.c_expressions.specs.Meeting.{noted, noted_when};
 ghost use Rattle.c_expressions.specs.inner.DataPaths.{is_data_path};
@@ -187,6 +187,33 @@ pub fn sizes(
 {
     let _tables = tables;
     note_when(differ(wanted_struct(want), shape), 10, at, found);
+}
+
+/// Whether a `return` of this function, or of `main`, may have an operand, or may have none.
+fn may_return(tables: &Tables, home: Option<u32>, operand: bool) -> bool
+    ensures { result ≡ may_return tables.now home operand }
+{
+    match home {
+        None => true,
+        Some(function) => {
+            let returns = tables.result_at(function).is_some();
+            if operand { returns } else { !returns }
+        }
+    }
+}
+
+/// A `return` of a function, or of `main`, and whether it has an operand.
+#[tactic(auto, using(crate::proofs::MeetingLemmas::sites))]
+pub fn returns(
+    tables: &Tables,
+    home: Option<u32>,
+    operand: bool,
+    at: Place,
+    found: &mut Option<TypeFault>,
+)
+    ensures { found.new ≡ noted tables.now found.old (Returns home operand at) }
+{
+    note_when(!may_return(tables, home, operand), 16, at, found);
 }
 
 /// A `break` or `continue`, and whether a loop is open.

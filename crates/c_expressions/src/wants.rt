@@ -1,8 +1,10 @@
 // What is wanted where an operand stands.
 ghost use Rattle.std.specs.Prelude.{◌≡◌};
 ghost use Rattle.c_typing.specs.Rules.{wanted_struct, wants_pointer, wants_datum, is_datum, is_pointer, differ};
-ghost use Rattle.c_typing.specs.Sites.{struct_at, want_of_kind, want_of_target, want_of_left};
+ghost use Rattle.c_typing.specs.Sites.{struct_at, want_of_kind, want_of_left, want_of_result, want_of_return};
+ghost use Rattle.c_typing.specs.Sites.{want_of_target};
 
+use c_tables::tables::Tables;
 use c_typing::{Kind, Meaning, Want};
 
 /// What is wanted of an initialiser.
@@ -12,6 +14,26 @@ pub fn want_of_kind(kind: Kind) -> Want
     match kind {
         Kind::Points(to) => Want::Pointer(to),
         Kind::Datum => Want::Datum,
+    }
+}
+
+/// What is wanted of what a function with this result returns.
+fn want_of_result(kind: Option<Kind>) -> Want
+    ensures { result ≡ want_of_result kind }
+{
+    match kind {
+        Some(kind) => want_of_kind(kind),
+        None => Want::Either,
+    }
+}
+
+/// What a `return` wants in the function of this number, or in `main`.
+pub fn want_of_return(tables: &Tables, home: Option<u32>) -> Want
+    ensures { result ≡ want_of_return tables.now home }
+{
+    match home {
+        Some(function) => want_of_result(tables.result_at(function)),
+        None => Want::Datum,
     }
 }
 
