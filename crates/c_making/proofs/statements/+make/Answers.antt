@@ -9,10 +9,11 @@ use Rattle.c_typing.proofs.ProgramLayers.{made-Declare, made-Stmt, made-parts, m
 use Rattle.c_typing.proofs.ProgramLayers.{made-Simple-stmt, made-While-stmt, made-Do-stmt, made-For-stmt}
 use Rattle.c_typing.proofs.ProgramLayers.{made-Return-stmt, made-Break-stmt, made-Continue-stmt, made-Assert-stmt}
 use Rattle.c_typing.proofs.ProgramLayers.{made-If-stmt}
-use Rattle.c_typing.proofs.ScopeLayers.{past-For-stmt}
+use Rattle.c_typing.proofs.ScopeLayers.{past-For-stmt, past-parts}
 use Rattle.c_making.specs.inner.Making.{first_stmts, for_body, for_made, group_first, past_for}
 use Rattle.c_scopes.specs.InScope.{outer}
-use Rattle.c_making.proofs.ScopeSteps.{left_closed, outer-past_first, past_step}
+use Rattle.c_making.proofs.ScopeSteps.{home-past_first, home-past_parts, home-past_stmt, left_closed}
+use Rattle.c_making.proofs.ScopeSteps.{outer-past_first, past_step}
 use Rattle.c_making.proofs.MakingLemmas.{made_as, stmts_step, same_group, for_as}
 use Rattle.c_making.proofs.statements.«+make».Goals as goal
 
@@ -32,6 +33,22 @@ block_stmts-returns-clause-stmts t c =
     (c.in_ok-group.ensures ∙ ap (λ x. grouped x c.parts_stmts.new.scope b.close.line) body_as
     ∙ ap (λ s. grouped (parts_stmts g b.parts (opened scope)) s b.close.line) scope_as)
     ∙ sym (made-parts g b.at b.close b.parts scope)
+
+pub block_stmts-returns-clause-past : goal.block_stmts-returns-clause-past
+block_stmts-returns-clause-past t c =
+    let g = c.args.tables.now in
+    let scope = c.args.scope.now in
+    let b = out-Block c.args.block.now in
+    let within = c.parts_stmts.new.scope in
+    let all : within ≡ past_parts g b.parts (opened scope) =
+    c.in_ok-body.ensures.past ∙ ap (λ ps. past_parts g ps c.enter.new.self) c.as_slice.ensures
+    ∙ ap (past_parts g b.parts) c.in_ok-enter.ensures in
+    let outside : outer within.blocks ≡ scope.blocks =
+    c.in_ok-body.ensures.outer ∙ ap (λ (s : Scope). outer s.blocks) c.in_ok-enter.ensures in
+    let stays : within.home ≡ scope.home =
+    ap (λ (s : Scope). s.home) all ∙ home-past_parts g b.parts (opened scope) in
+    c.leave.ensures ∙ left_closed scope within outside stays ∙ ap (closed scope) all
+    ∙ sym (past-parts g b.at b.close b.parts scope)
 
 pub parts_stmts-loop-part-preserved : goal.parts_stmts-loop-part-preserved
 parts_stmts-loop-part-preserved t c =
@@ -216,7 +233,10 @@ for_stmts-returns-clause-past t c =
     ∙ outer-past_first g f (opened scope) in
     let all : within ≡ past_stmt g c.args.body.now (past_first g f (opened scope)) =
     c.in_ok-looped.ensures.past ∙ ap (past_stmt g c.args.body.now) first_as in
-    c.leave.ensures ∙ left_closed scope within outside ∙ ap (closed scope) all
+    let stays : within.home ≡ scope.home =
+    ap (λ (s : Scope). s.home) all ∙ home-past_stmt g c.args.body.now (past_first g f (opened scope))
+    ∙ home-past_first g f (opened scope) in
+    c.leave.ensures ∙ left_closed scope within outside stays ∙ ap (closed scope) all
 
 pub for_stmts-returns-clause-stmts : goal.for_stmts-returns-clause-stmts
 for_stmts-returns-clause-stmts t c =
