@@ -1,17 +1,19 @@
 -- What each kind of place among the items adds to the first fault so far.
-use Rattle.std.proofs.Common.{◌≡◌, ℕ, Bool, true, not, ◌&&◌, ◌||◌, nat_eq, List, Option, ap}
+use Rattle.std.proofs.Common.{◌≡◌, ℕ, Bool, true, false, not, ◌&&◌, ◌||◌, nat_eq, List, [], Option, ap}
 use Rattle.fore_base.specs.declared.limits.TheConstants.{STRUCTS, FIELDS, ENUMERATORS}
 use Rattle.fore_base.specs.declared.place.Place.{Place}
 use Rattle.c_ast.specs.declared.items.Head.{Head}
 use Rattle.c_ast.specs.declared.operands.Name.{Name}
 use Rattle.c_typing.specs.Globals.{Globals}
 use Rattle.c_typing.specs.Profile.{is_allowed_head, is_main, is_main_head}
-use Rattle.c_typing.specs.Sites.{Struct, Enum, Value, Member, Defines, Declares, Functions, Globally, Ends, Overflows}
+use Rattle.c_typing.specs.Sites.{Struct, Enum, Value, Member, Function, Parameter, Defines, Declares, Functions}
+use Rattle.c_typing.specs.Sites.{Globally, Ends, Overflows}
 use Rattle.c_typing.specs.Texts.{Text, has}
 use Rattle.c_typing.proofs.Breaching as breaching
 use Rattle.c_typing.proofs.Breaching.{fault_at}
 use Rattle.c_typing.specs.declared.fault.TypeFault.{TypeFault}
 use Rattle.c_typing.specs.declared.fault.TypeFault.TheVariants.{Rule, Limit}
+use Rattle.c_typing.specs.declared.limits.TheConstants.{FUNCTIONS}
 use Rattle.c_expressions.specs.First.{first_from}
 use Rattle.c_expressions.specs.Meeting.{noted, noted_when}
 use Rattle.c_expressions.proofs.MeetingLemmas.{one, two}
@@ -35,6 +37,15 @@ module _ (g : Globals) (found : Option TypeFault) where
   pub noted-Enum : (n : Name) (earlier : List Text) (count : ℕ) → noted g found (Defines Enum n earlier count)
       ≡ noted_when (has n.text earlier) (Rule 5 n.at) found
   noted-Enum n earlier count = one g found _ _ _ (breaching.at-Enum g n earlier count)
+
+  pub noted-Function : (n : Name) (count : ℕ) → noted g found (Defines Function n [] count)
+      ≡ noted_when (nat_eq count FUNCTIONS) (Limit 10 n.at) found
+  noted-Function n count = two g found _ false (nat_eq count FUNCTIONS) (Rule 5 n.at) (Limit 10 n.at)
+      (breaching.at-Function g n [] count)
+
+  pub noted-Parameter : (n : Name) (earlier : List Text) (count : ℕ) → noted g found (Defines Parameter n earlier count)
+      ≡ noted_when (has n.text earlier) (Rule 5 n.at) found
+  noted-Parameter n earlier count = one g found _ _ _ (breaching.at-Parameter g n earlier count)
 
   pub noted-Declares : (h : Head) → noted g found (Declares h)
       ≡ noted_when (not (is_allowed_head h)) (Rule 15 h.name.at) found
@@ -62,6 +73,8 @@ pub ruleset sites = (
   noted-Member,
   noted-Value,
   noted-Enum,
+  noted-Function,
+  noted-Parameter,
   noted-Declares,
   noted-Functions,
   noted-Globally,

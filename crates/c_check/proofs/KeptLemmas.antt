@@ -4,25 +4,30 @@ use Rattle.std.proofs.Common.{length, Option, Some, None, refl, sym, ap, subst, 
 use Rattle.std.specs.Cmp.Lexicographic.{bytes_decides}
 use Rattle.fore_base.specs.declared.limits.TheConstants.{STRUCTS, FIELDS, ENUMERATORS}
 use Rattle.c_ast.specs.declared.items.Field.{Field}
+use Rattle.c_ast.specs.declared.items.Head.{Head}
 use Rattle.c_ast.specs.declared.items.Item.{Item}
 use Rattle.c_ast.specs.declared.items.Item.TheVariants as item
+use Rattle.c_ast.specs.declared.items.Param.{Param}
 use Rattle.c_ast.specs.declared.items.Unit as whole
 use Rattle.c_ast.specs.declared.operands.Name.{Name}
-use Rattle.c_typing.specs.Globals.{Globals, text_of}
+use Rattle.c_ast.specs.declared.statements.Block.{Block}
+use Rattle.c_typing.specs.Globals.{Globals, is_main, params_of, text_of}
 use Rattle.c_typing.specs.ItemSites.{Seen, nothing_seen, structs_seen, seen_after, all_seen, member_sites}
 use Rattle.c_typing.specs.ItemSites.{field_type_sites, names_of, fields_sites, value_sites, struct_sites, item_sites}
-use Rattle.c_typing.specs.ItemSites.{items_sites, head_sites, body_sites, unit_sites}
-use Rattle.c_typing.specs.Profile.{is_main}
-use Rattle.c_typing.specs.Sites.{Struct, Enum, Value, Member, Site, Defines, Functions, Ends, Overflows}
+use Rattle.c_typing.specs.ItemSites.{items_sites, gives_sites, param_sites, proto_params_sites, proto_sites, head_sites}
+use Rattle.c_typing.specs.ItemSites.{body_sites, unit_sites}
+use Rattle.c_typing.specs.Scopes.{Scope, empty_scope, param_name, past_head, past_item}
+use Rattle.c_typing.specs.Sites.{Struct, Enum, Value, Member, Parameter, Site, Declares, Defines, Ends, Overflows}
 use Rattle.c_typing.specs.Texts.{Text, has, same}
 use Rattle.c_typing.specs.declared.fault.TypeFault.{TypeFault}
 use Rattle.c_typing.specs.declared.fault.TypeFault.TheVariants.{Rule, Limit}
 use Rattle.c_check.specs.declared.definitions.Seen as kept
 use Rattle.c_check.specs.inner.Items.{with_name, with_names, kept_member_sites, kept_fields_sites, kept_value_sites}
 use Rattle.c_check.specs.inner.Items.{kept_struct_sites, kept_structs, kept_after, kept_item_sites, kept_items_sites}
-use Rattle.c_check.specs.inner.Items.{is_main_item, any_main, nothing_kept}
+use Rattle.c_check.specs.inner.Items.{is_main_item, any_main, nothing_kept, kept_params_sites, kept_proto_sites}
+use Rattle.c_check.specs.inner.Items.{kept_function_sites}
 use Rattle.c_expressions.specs.Meeting.{met, noted, noted_when}
-use Rattle.c_check.proofs.ItemLemmas.{noted-Struct, noted-Member, noted-Value, noted-Enum}
+use Rattle.c_check.proofs.ItemLemmas.{noted-Struct, noted-Member, noted-Value, noted-Enum, noted-Parameter}
 use Rattle.c_expressions.proofs.MeetingLemmas.{met-append, met-cons, met-one}
 
 -- the same names are there
@@ -93,6 +98,7 @@ record Keeps (main : Bool) (k : kept.Seen) (s : Seen) : Type 0 where
   count : k.count ≡ length s.structs
   enums : Alike k.enums s.enums
   values : Alike k.values s.values
+  functions : k.functions ≡ length s.functions
   main_is : main ≡ s.main
 
 or_or : (a b c : Bool) → (a || (b || c)) ≡ ((a || b) || c)
@@ -119,9 +125,10 @@ struct_keeps name (Some fields) k s h e =
     (alike_more k.structs s.structs name.text h, omega (arith, length_one s.structs name.text, e))
 
 rest_kept : (name : Name) (fields : Option (List Field)) (k : kept.Seen)
-    → ((kept_structs k name fields).enums ≡ k.enums) × ((kept_structs k name fields).values ≡ k.values)
-rest_kept name None k = (refl, refl)
-rest_kept name (Some fields) k = (refl, refl)
+    → ((kept_structs k name fields).enums ≡ k.enums) × (((kept_structs k name fields).values ≡ k.values)
+    × ((kept_structs k name fields).functions ≡ k.functions))
+rest_kept name None k = (refl, (refl, refl))
+rest_kept name (Some fields) k = (refl, (refl, refl))
 
 keeps_after : (i : Item) (main : Bool) (k : kept.Seen) (s : Seen) → Keeps main k s
     → Keeps (main || is_main_item i) (kept_after k i) (seen_after s i)
@@ -132,7 +139,8 @@ keeps_after (item.Struct at name fields) main k s h =
       structs = structs.0;
       count = structs.1;
       enums = subst (λ (ns : List Text). Alike ns s.enums) (sym rest.0) h.enums;
-      values = subst (λ (ns : List Text). Alike ns s.values) (sym rest.1) h.values;
+      values = subst (λ (ns : List Text). Alike ns s.values) (sym rest.1.0) h.values;
+      functions = rest.1.1 ∙ h.functions;
       main_is = or_false main ∙ h.main_is;
     }
 keeps_after (item.Enum at name values) main k s h = record {
@@ -140,6 +148,7 @@ keeps_after (item.Enum at name values) main k s h = record {
   count = h.count;
   enums = alike_more k.enums s.enums name.text h.enums;
   values = alike_names k.values s.values values h.values;
+  functions = h.functions;
   main_is = or_false main ∙ h.main_is;
 }
 keeps_after (item.Proto outer head) main k s h =
@@ -148,6 +157,7 @@ keeps_after (item.Proto outer head) main k s h =
       count = h.count;
       enums = h.enums;
       values = h.values;
+      functions = h.functions;
       main_is = or_false main
           ∙ h.main_is;
     }
@@ -157,6 +167,7 @@ keeps_after (item.Function head body) main k s h =
       count = h.count;
       enums = h.enums;
       values = h.values;
+      functions = omega (arith, length_one s.functions head.name.text, h.functions);
       main_is = ap (λ b. b || is_main head) h.main_is;
     }
 keeps_after (item.Declare d) main k s h =
@@ -165,6 +176,7 @@ keeps_after (item.Declare d) main k s h =
       count = h.count;
       enums = h.enums;
       values = h.values;
+      functions = h.functions;
       main_is = or_false main
           ∙ h.main_is;
     }
@@ -176,6 +188,7 @@ nothing_keeps =
       count = refl;
       enums = record { same_names = λ x. refl };
       values = record { same_names = λ x. refl };
+      functions = refl;
       main_is = refl;
     }
 
@@ -278,38 +291,76 @@ module _ (g : Globals) where
       ∙ ap (λ n. noted g found (Defines Struct name s.structs n)) e)
       (fields_alike fields _ [] [] 0 (record { same_names = λ x. refl }) refl)
 
-  item_alike : (i : Item) (found : Option TypeFault) (main : Bool) (k : kept.Seen) (s : Seen) → Keeps main k s →
-      met g found (kept_item_sites g main k i) ≡ met g found (item_sites g s i)
-  item_alike (item.Struct at name fields) found main k s h = structs_alike found k s name fields h.structs h.count
-  item_alike (item.Enum at name values) found main k s h =
+  param_alike : (found : Option TypeFault) (n : Name) (names earlier : List Text) → has n.text names
+      ≡ has n.text earlier →
+      noted g found (Defines Parameter n names 0) ≡ noted g found (Defines Parameter n earlier 0)
+  param_alike found n names earlier h =
+      noted-Parameter g found n names 0 ∙ ap (λ b. noted_when b (Rule 5 n.at) found) h
+      ∙ sym (noted-Parameter g found n earlier 0)
+
+  params_alike : (ps : List Param) (found : Option TypeFault) (names earlier : List Text) → Alike names earlier →
+      met g found (kept_params_sites names ps) ≡ met g found (proto_params_sites earlier ps)
+  params_alike [] found names earlier h = refl
+  params_alike (p ∷ ps) found names earlier h =
+      onward found _ _ _ _
+      (onward found (param_sites p) (param_sites p) _ _ refl
+      (next _ _ _ [] [] (param_alike _ (param_name p) names earlier (h.same_names (param_name p).text)) refl))
+      (params_alike ps _ (with_name names (param_name p).text) (earlier ++ (param_name p).text ∷ [])
+      (alike_more names earlier (param_name p).text h))
+
+  protos_alike : (found : Option TypeFault) (h : Head) → met g found (kept_proto_sites h)
+      ≡ met g found (proto_sites h)
+  protos_alike found h =
+      onward found (gives_sites h.gives) (gives_sites h.gives) _ _ refl
+      (next _ (Declares h) (Declares h) _ _ refl
+      (params_alike (params_of h.params) _ [] [] (record { same_names = λ x. refl })))
+
+  -- A definition of a function breaks a limit by how many there were, and no rule by their names.
+  heads_alike : (found : Option TypeFault) (main : Bool) (k : kept.Seen) (s : Seen) (h : Head) (b : Block)
+      (scope : Scope) → Keeps main k s →
+      met g found (kept_function_sites g main k.functions h b scope)
+      ≡ met g found (head_sites g s h scope ++ body_sites g b (past_head g h scope))
+  heads_alike found main k s h b scope keeps =
+      ap (λ m. met g found (kept_function_sites g m k.functions h b scope)) keeps.main_is
+      ∙ ap (λ n. met g found (kept_function_sites g s.main n h b scope)) keeps.functions
+
+  item_alike : (i : Item) (found : Option TypeFault) (main : Bool) (k : kept.Seen) (s : Seen) (scope : Scope)
+      → Keeps main k s →
+      met g found (kept_item_sites g main k i scope) ≡ met g found (item_sites g s i scope)
+  item_alike (item.Struct at name fields) found main k s scope h =
+      structs_alike found k s name fields h.structs h.count
+  item_alike (item.Enum at name values) found main k s scope h =
       next found _ _ _ _
       (enum_alike found name k.enums s.enums 0 (length s.enums) (h.enums.same_names name.text))
       (values_alike values _ k.values s.values 0 0 h.values refl)
-  item_alike (item.Proto outer head) found main k s h = refl
-  item_alike (item.Function head body) found main k s h =
-      ap (λ m. met g found (head_sites (Functions m head) head ++ body_sites g (not m && is_main head) body)) h.main_is
-  item_alike (item.Declare d) found main k s h = refl
+  item_alike (item.Proto outer head) found main k s scope h = protos_alike found head
+  item_alike (item.Function head body) found main k s scope h = heads_alike found main k s head body scope h
+  item_alike (item.Declare d) found main k s scope h = refl
 
-  items_alike : (is : List Item) (found : Option TypeFault) (main : Bool) (k : kept.Seen) (s : Seen) → Keeps main k s →
-      met g found (kept_items_sites g main k is) ≡ met g found (items_sites g s is)
-  items_alike [] found main k s h = refl
-  items_alike (i ∷ is) found main k s h =
-      onward found _ _ _ _ (item_alike i found main k s h)
-      (items_alike is _ (main || is_main_item i) (kept_after k i) (seen_after s i) (keeps_after i main k s h))
+  items_alike : (is : List Item) (found : Option TypeFault) (main : Bool) (k : kept.Seen) (s : Seen) (scope : Scope)
+      → Keeps main k s →
+      met g found (kept_items_sites g main k is scope) ≡ met g found (items_sites g s is scope)
+  items_alike [] found main k s scope h = refl
+  items_alike (i ∷ is) found main k s scope h =
+      onward found _ _ _ _ (item_alike i found main k s scope h)
+      (items_alike is _ (main || is_main_item i) (kept_after k i) (seen_after s i) (past_item g i scope)
+      (keeps_after i main k s h))
 
-  pub all_alike : (found : Option TypeFault) (is : List Item) → met g found (kept_items_sites g false nothing_kept is)
-      ≡ met g found (items_sites g nothing_seen is)
-  all_alike found is = items_alike is found false nothing_kept nothing_seen nothing_keeps
+  pub all_alike : (found : Option TypeFault) (is : List Item)
+      → met g found (kept_items_sites g false nothing_kept is empty_scope)
+      ≡ met g found (items_sites g nothing_seen is empty_scope)
+  all_alike found is = items_alike is found false nothing_kept nothing_seen empty_scope nothing_keeps
 
   -- the items, the end and the first token above the limit
   pub whole_met : (found : Option TypeFault) (u : whole.Unit) (main : Bool) → main ≡ any_main u.items →
-      noted g (noted g (met g found (kept_items_sites g false nothing_kept u.items)) (Ends main u.end))
+      noted g (noted g (met g found (kept_items_sites g false nothing_kept u.items empty_scope)) (Ends main u.end))
       (Overflows u.over) ≡ met g found (unit_sites g u)
   whole_met found u main e =
-      let seen : Option TypeFault = met g found (items_sites g nothing_seen u.items) in
+      let seen : Option TypeFault = met g found (items_sites g nothing_seen u.items empty_scope) in
       let there : Bool = (all_seen nothing_seen u.items).main in
       ap (λ o. noted g (noted g o (Ends main u.end)) (Overflows u.over)) (all_alike found u.items)
       ∙ ap (λ m. noted g (noted g seen (Ends m u.end)) (Overflows u.over)) (e ∙ any_seen u.items)
-      ∙ sym (met-append g found (items_sites g nothing_seen u.items) (Ends there u.end ∷ Overflows u.over ∷ [])
+      ∙ sym (met-append g found (items_sites g nothing_seen u.items empty_scope)
+      (Ends there u.end ∷ Overflows u.over ∷ [])
       ∙ met-cons g seen (Ends there u.end) (Overflows u.over ∷ [])
       ∙ met-one g (noted g seen (Ends there u.end)) (Overflows u.over))

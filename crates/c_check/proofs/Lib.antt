@@ -2,6 +2,7 @@ pub mod Answering
 pub mod BodyLemmas
 pub mod CountingLemmas
 pub mod FirstFaults
+pub mod FunctionLemmas
 pub mod ItemLemmas
 pub mod KeptLemmas
 pub mod LoopLemmas

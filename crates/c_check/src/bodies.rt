@@ -7,7 +7,7 @@ ghost use Rattle.c_typing.specs.BodySites.{first_sites, part_sites, parts_sites,
 ghost use Rattle.c_typing.specs.Scopes.{all_declared, declared, past_declare, past_first, past_part, past_parts};
 ghost use Rattle.c_typing.specs.Scopes.{past_block, past_stmt, past_other, opened, closed};
 ghost use Rattle.c_typing.specs.Sites.{simple_sites, cond_sites, wanted_sites, rhs_sites, want_of_kind};
-ghost use Rattle.c_check.specs.inner.Assigning.{assign_sites, free_sites};
+ghost use Rattle.c_check.specs.inner.Assigning.{assign_sites, free_sites, return_sites};
 ghost use Rattle.c_expressions.specs.Meeting.{met};
 ghost use Rattle.c_scopes.specs.InScope.{outer};
 
@@ -16,15 +16,16 @@ use c_ast::{Block, Cond, Declarator, Declare, First, Operand, Part, Path, Rhs, S
 use c_expressions::calls::calls;
 use c_expressions::conditions::cond_faults;
 use c_expressions::meanings::meaning_of_path;
-use c_expressions::noting::{defines_variable, jumps, stands};
+use c_expressions::noting::{defines_variable, jumps, returns, stands};
 use c_expressions::operands::{path_faults, read_faults, rhs_faults, wanted_faults};
-use c_expressions::wants::{want_of_kind, want_of_target};
+use c_expressions::wants::{want_of_kind, want_of_return, want_of_target};
 use c_making::declaring::{declarators_of, kind_of};
 use c_scopes::scopes::Scope;
 use c_tables::tables::Tables;
 use c_typing::{Kind, Spot, TypeFault, Want};
 use fore_base::boxed::Boxed;
 use fore_base::memory::Mem;
+use fore_base::place::Place;
 use std::alloc::Global;
 
 /// What an assignment breaks.
@@ -115,31 +116,48 @@ fn maybe_cond_faults(
     }
 }
 
-/// What the operand of a `return` breaks.
+/// What the operand of a `return` breaks, if there is one.
 #[tactic(auto, using(c_expressions::proofs::MeetingLemmas::meeting))]
 fn returned_faults(
     alloc: Global,
     tables: &Tables,
     scope: &Scope,
+    want: Want,
     operand: &Option<Operand>,
     found: &mut Option<TypeFault>,
 ) -> Mem<()>
     ensures { OnOk result
         (found.new ≡ met tables.now found.old
-        (maybe_sites (wanted_sites tables.now scope.now Spot.Elsewhere Want.Datum) operand.now)) }
+        (maybe_sites (wanted_sites tables.now scope.now Spot.Elsewhere want) operand.now)) }
 {
     match operand {
-        Some(operand) => wanted_faults(
-            alloc,
-            tables,
-            scope,
-            Spot::Elsewhere,
-            Want::Datum,
-            operand,
-            found,
-        ),
+        Some(operand) => wanted_faults(alloc, tables, scope, Spot::Elsewhere, want, operand, found),
         None => Ok(()),
     }
+}
+
+/// What a `return` breaks in the function around.
+#[tactic(auto, using(c_expressions::proofs::MeetingLemmas::meeting))]
+fn return_faults(
+    alloc: Global,
+    tables: &Tables,
+    scope: &Scope,
+    at: Place,
+    operand: &Option<Operand>,
+    found: &mut Option<TypeFault>,
+) -> Mem<()>
+    ensures { OnOk result (found.new ≡ met tables.now found.old (return_sites tables.now scope.now at operand.now)) }
+{
+    let home = scope.home();
+    returns(tables, home, operand.is_some(), at, found);
+    returned_faults(
+        alloc,
+        tables,
+        scope,
+        want_of_return(tables, home),
+        operand,
+        found,
+    )
 }
 
 #[tactic(auto, using(c_expressions::proofs::MeetingLemmas::meeting))]
@@ -361,7 +379,7 @@ fn stmt_faults(
             scope.leave();
             Ok(())
         }
-        Stmt::Return { operand, .. } => returned_faults(alloc, tables, scope, operand, found),
+        Stmt::Return { at, operand } => return_faults(alloc, tables, scope, *at, operand, found),
         Stmt::Break { at } => {
             jumps(tables, looping, *at, found);
             Ok(())

@@ -22,13 +22,14 @@ use fore_base::names::Names;
 use fore_base::place::Place;
 use std::alloc::Global;
 
-/// What the items so far define: each name once, and how many definitions of structs there were.
+/// What the items so far define: each name once, and how many definitions of structs and of functions there were.
 #[derive(Drop)]
 pub struct Seen {
     pub structs: Names,
     pub count: usize,
     pub enums: Names,
     pub values: Names,
+    pub functions: usize,
 }
 
 impl Seen {
@@ -38,18 +39,20 @@ impl Seen {
         ensures count { result.count ≡ 0 }
         ensures enums { result.enums ≡ [] }
         ensures values { result.values ≡ [] }
+        ensures functions { result.functions ≡ 0 }
     {
         Seen {
             structs: Names::new(alloc),
             count: 0,
             enums: Names::new(alloc),
             values: Names::new(alloc),
+            functions: 0,
         }
     }
 }
 
 /// Notes that a limit is passed at a place, where so many were counted before it.
-fn note_at(count: usize, most: usize, limit: u8, at: Place, found: &mut Option<TypeFault>)
+pub fn note_at(count: usize, most: usize, limit: u8, at: Place, found: &mut Option<TypeFault>)
     ensures { found.new ≡ noted_when (nat_eq count most) (Limit limit at) found.old }
 {
     if count == most {
@@ -58,7 +61,7 @@ fn note_at(count: usize, most: usize, limit: u8, at: Place, found: &mut Option<T
 }
 
 /// A name is defined; `names` are those before it.
-fn defines(names: &mut Names, name: &Name, found: &mut Option<TypeFault>) -> Mem<()>
+pub fn defines(names: &mut Names, name: &Name, found: &mut Option<TypeFault>) -> Mem<()>
     ensures names { OnOk result (names.new ≡ with_name names.old name.now.text) }
     ensures found { OnOk result (found.new ≡ noted_when (has name.now.text names.old) (Rule 5 name.now.at) found.old) }
 {
@@ -166,6 +169,7 @@ fn defines_struct(
     ensures count { OnOk result (seen.new.count ≡ seen.old.count + 1) }
     ensures enums { OnOk result (seen.new.enums ≡ seen.old.enums) }
     ensures values { OnOk result (seen.new.values ≡ seen.old.values) }
+    ensures functions { seen.new.functions ≡ seen.old.functions }
     ensures found { OnOk result
         (found.new ≡ noted tables.now found.old
         (Defines Struct name.now seen.old.structs seen.old.count)) }

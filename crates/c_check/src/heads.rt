@@ -1,17 +1,23 @@
-// Heads of functions and prototypes, and declarations at file level.
-ghost use Rattle.std.specs.Prelude.{◌≡◌, ◌++◌, ◌∷◌};
-ghost use Rattle.c_typing.specs.BodySites.{maybe_sites, type_sites};
-ghost use Rattle.c_typing.specs.ItemSites.{gives_sites, global_sites, head_sites, params_sites};
-ghost use Rattle.c_typing.specs.Scopes.{declarators_of};
-ghost use Rattle.c_typing.specs.Sites.{Declares, Functions, Globally};
+// Prototypes, and declarations at file level.
+ghost use Rattle.std.specs.Prelude.{◌≡◌, ◌++◌, ◌∷◌, [], OnOk};
+ghost use Rattle.c_typing.specs.BodySites.{type_sites};
+ghost use Rattle.c_typing.specs.ItemSites.{global_sites, param_sites};
+ghost use Rattle.c_typing.specs.Scopes.{declarators_of, param_name};
+ghost use Rattle.c_typing.specs.Sites.{Declares, Defines, Globally, Parameter};
+ghost use Rattle.c_check.specs.inner.Items.{kept_params_sites, kept_proto_sites, with_name};
 ghost use Rattle.c_expressions.specs.Meeting.{met, noted};
 
-use crate::profile::{is_allowed_head, is_main, is_main_head};
-use crate::types::{uses_params, uses_result, uses_type};
-use c_ast::{Declarator, Declare, Head, Name};
+use crate::definitions::defines;
+use crate::profile::is_allowed_head;
+use crate::types::{param_name, uses_param, uses_result, uses_type};
+use c_ast::{Declarator, Declare, Head, Name, Param};
 use c_expressions::noting::note_when;
+use c_tables::functions::params_of;
 use c_tables::tables::Tables;
 use c_typing::TypeFault;
+use fore_base::memory::Mem;
+use fore_base::names::Names;
+use std::alloc::Global;
 
 /// A prototype is declared.
 #[tactic(auto, using(crate::proofs::ItemLemmas::sites))]
@@ -22,40 +28,68 @@ fn declares(tables: &Tables, head: &Head, found: &mut Option<TypeFault>)
     note_when(!is_allowed_head(head), 15, head.name.at, found);
 }
 
-/// A prototype, with the types that it names.
+/// A parameter of a prototype is named, which is no variable.
+#[tactic(auto, using(crate::proofs::ItemLemmas::sites))]
+fn defines_param(
+    tables: &Tables,
+    names: &mut Names,
+    name: &Name,
+    found: &mut Option<TypeFault>,
+) -> Mem<()>
+    ensures names { OnOk result (names.new ≡ with_name names.old name.now.text) }
+    ensures found { OnOk result (found.new ≡ noted tables.now found.old (Defines Parameter name.now names.old 0)) }
+{
+    let _tables = tables;
+    defines(names, name, found)
+}
+
+/// A parameter of a prototype, with its type.
 #[tactic(auto, using(c_expressions::proofs::MeetingLemmas::meeting))]
-pub fn proto_item(tables: &Tables, head: &Head, found: &mut Option<TypeFault>)
-    ensures { found.new ≡ met tables.now found.old (head_sites (Declares head.now) head.now) }
+fn proto_param(
+    tables: &Tables,
+    names: &mut Names,
+    param: &Param,
+    found: &mut Option<TypeFault>,
+) -> Mem<()>
+    ensures names { OnOk result (names.new ≡ with_name names.old (param_name param.now).text) }
+    ensures found { OnOk result
+        (found.new ≡ met tables.now found.old
+        (param_sites param.now ++ Defines Parameter (param_name param.now) names.old 0 ∷ [])) }
+{
+    uses_param(tables, param, found);
+    defines_param(tables, names, param_name(param), found)
+}
+
+/// The parameters of a prototype.
+#[tactic(auto, using(c_expressions::proofs::MeetingLemmas::meeting))]
+fn proto_params(
+    alloc: Global,
+    tables: &Tables,
+    params: &[Param],
+    found: &mut Option<TypeFault>,
+) -> Mem<()>
+    ensures { OnOk result (found.new ≡ met tables.now found.old (kept_params_sites [] params.now)) }
+{
+    let mut names = Names::new(alloc);
+    for param in params {
+        proto_param(tables, &mut names, param, found)?;
+    }
+    Ok(())
+}
+
+/// A prototype, with its parameters and the types that it names.
+#[tactic(auto, using(c_expressions::proofs::MeetingLemmas::meeting))]
+pub fn proto_item(
+    alloc: Global,
+    tables: &Tables,
+    head: &Head,
+    found: &mut Option<TypeFault>,
+) -> Mem<()>
+    ensures { OnOk result (found.new ≡ met tables.now found.old (kept_proto_sites head.now)) }
 {
     uses_result(tables, &head.gives, found);
     declares(tables, head, found);
-    uses_params(tables, &head.params, found);
-}
-
-/// A function is defined, where `main` tells whether there was one of that name.
-#[tactic(auto, using(crate::proofs::ItemLemmas::sites))]
-fn functions(tables: &Tables, main: bool, head: &Head, found: &mut Option<TypeFault>)
-    ensures { found.new ≡ noted tables.now found.old (Functions main head.now) }
-{
-    let _tables = tables;
-    let is_main = is_main(head);
-    note_when(main || !is_main, 13, head.name.at, found);
-    note_when(
-        !main && (is_main && !is_main_head(head)),
-        15,
-        head.name.at,
-        found,
-    );
-}
-
-/// The head of a function, with the types that it names.
-#[tactic(auto, using(c_expressions::proofs::MeetingLemmas::meeting))]
-pub fn function_head(tables: &Tables, main: bool, head: &Head, found: &mut Option<TypeFault>)
-    ensures { found.new ≡ met tables.now found.old (head_sites (Functions main head.now) head.now) }
-{
-    uses_result(tables, &head.gives, found);
-    functions(tables, main, head, found);
-    uses_params(tables, &head.params, found);
+    proto_params(alloc, tables, params_of(&head.params), found)
 }
 
 /// A variable is declared at file level.

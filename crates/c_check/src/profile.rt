@@ -1,18 +1,11 @@
 // The heads that prototypes and `main` may have.
 ghost use Rattle.std.specs.Prelude.{◌≡◌, ◌∷◌, codes};
-ghost use Rattle.c_typing.specs.Profile.{is_allowed_head, is_int_type, is_main, is_main_head, gives_int, gives_nothing};
+ghost use Rattle.c_typing.specs.Profile.{is_allowed_head, is_int_type, is_main_head, gives_int, gives_nothing};
 ghost use Rattle.c_typing.specs.Profile.{has_no_params, errors};
 ghost use Rattle.c_typing.specs.Texts.{has};
 
 use c_ast::{Data, Head, Params, ReturnType};
 use c_expressions::calls::{is_choice, is_error};
-
-/// Whether the name is `main`.
-pub fn is_main(head: &Head) -> bool
-    ensures { result ≡ is_main head.now }
-{
-    head.name.text.as_slice() == b"main".as_slice()
-}
 
 /// Whether it gives an `int` and has no parameters.
 pub fn is_main_head(head: &Head) -> bool

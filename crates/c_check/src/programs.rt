@@ -4,10 +4,10 @@ ghost use Rattle.c_types.specs.Program.{is_typed};
 ghost use Rattle.c_typing.specs.Programs.{program_in, program_with, program_without};
 ghost use Rattle.c_check.specs.inner.Items.{body_of_main};
 
-use crate::profile::is_main;
 use c_ast::{Block, Item};
 use c_making::block_stmts;
 use c_scopes::scopes::Scope;
+use c_tables::functions::is_main;
 use c_tables::tables::Tables;
 use c_types::Typed;
 use fore_base::list::List;
@@ -21,6 +21,7 @@ fn program_with(alloc: Global, tables: &Tables, body: &Block) -> Mem<Typed>
 {
     let shapes = tables.shapes(alloc)?;
     let mut scope = Scope::new(alloc);
+    scope.enter(alloc)?;
     let stmts = block_stmts(alloc, tables, &mut scope, body)?;
     let (vars, data_vars) = scope.into_variables();
     Ok(Typed {

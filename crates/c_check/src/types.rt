@@ -1,11 +1,11 @@
 // The types that declarations, fields and heads name.
 ghost use Rattle.std.specs.Prelude.{◌≡◌};
-ghost use Rattle.c_typing.specs.BodySites.{data_sites, maybe_sites, type_sites};
-ghost use Rattle.c_typing.specs.ItemSites.{gives_sites, param_sites, params_sites, field_type_sites};
-ghost use Rattle.c_typing.specs.Texts.{each_of};
+ghost use Rattle.c_typing.specs.BodySites.{data_sites, type_sites};
+ghost use Rattle.c_typing.specs.ItemSites.{gives_sites, param_sites, field_type_sites};
+ghost use Rattle.c_typing.specs.Scopes.{param_name};
 ghost use Rattle.c_expressions.specs.Meeting.{met};
 
-use c_ast::{Data, Declare, Field, Param, Params, ReturnType};
+use c_ast::{Data, Declare, Field, Name, Param, ReturnType};
 use c_expressions::noting::{uses_enum, uses_struct};
 use c_tables::tables::Tables;
 use c_typing::TypeFault;
@@ -55,8 +55,9 @@ pub fn uses_result(tables: &Tables, gives: &ReturnType, found: &mut Option<TypeF
     }
 }
 
+/// The type of a parameter.
 #[tactic(auto, using(c_expressions::proofs::MeetingLemmas::meeting))]
-fn uses_param(tables: &Tables, param: &Param, found: &mut Option<TypeFault>)
+pub fn uses_param(tables: &Tables, param: &Param, found: &mut Option<TypeFault>)
     ensures { found.new ≡ met tables.now found.old (param_sites param.now) }
 {
     match param {
@@ -65,23 +66,12 @@ fn uses_param(tables: &Tables, param: &Param, found: &mut Option<TypeFault>)
     }
 }
 
-#[tactic(auto, using(c_expressions::proofs::MeetingLemmas::meeting))]
-fn uses_all(tables: &Tables, params: &[Param], found: &mut Option<TypeFault>)
-    ensures { found.new ≡ met tables.now found.old (each_of param_sites params.now) }
+/// The name of a parameter.
+pub fn param_name(param: &Param) -> &Name
+    ensures { result.now ≡ param_name param.now }
 {
-    for param in params {
-        uses_param(tables, param, found);
-    }
-}
-
-/// The types of parameters.
-#[tactic(auto, using(c_expressions::proofs::MeetingLemmas::meeting))]
-pub fn uses_params(tables: &Tables, params: &Option<Params>, found: &mut Option<TypeFault>)
-    ensures { found.new ≡ met tables.now found.old (maybe_sites params_sites params.now) }
-{
-    match params {
-        None => {}
-        Some(Params::Void { .. }) => {}
-        Some(Params::List(params)) => uses_all(tables, params.as_slice(), found),
+    match param {
+        Param::Pointer { name, .. } => name,
+        Param::Datum { name, .. } => name,
     }
 }

@@ -1,19 +1,22 @@
 -- The places of a file where a rule may be broken, where of the names that were defined before each is kept once, with
 -- how many there were.
-use Rattle.std.specs.Prelude.{ℕ, ◌+◌, Bool, false, not, ◌&&◌, ◌||◌, cond, List, [], ◌∷◌, ◌++◌, length, Option, Some}
+use Rattle.std.specs.Prelude.{ℕ, ◌+◌, Bool, false, ◌||◌, cond, List, [], ◌∷◌, ◌++◌, length, Option, Some}
 use Rattle.std.specs.Prelude.{None}
 use Rattle.c_ast.specs.declared.items.Field.{Field}
 use Rattle.c_ast.specs.declared.items.Head.{Head}
 use Rattle.c_ast.specs.declared.items.Item.{Item}
 use Rattle.c_ast.specs.declared.items.Item.TheVariants as item
+use Rattle.c_ast.specs.declared.items.Param.{Param}
 use Rattle.c_ast.specs.declared.operands.Name.{Name}
 use Rattle.c_ast.specs.declared.statements.Block.{Block}
 use Rattle.c_typing.specs.BodySites.{type_sites}
-use Rattle.c_typing.specs.Globals.{Globals}
-use Rattle.c_typing.specs.ItemSites.{body_sites, field_type_sites, global_sites, head_sites, names_of}
-use Rattle.c_typing.specs.Profile.{is_main}
-use Rattle.c_typing.specs.Scopes.{declarators_of}
-use Rattle.c_typing.specs.Sites.{Struct, Enum, Value, Member, Site, UsesStruct, Defines, Declares, Functions}
+use Rattle.c_typing.specs.Globals.{Globals, is_main, params_of}
+use Rattle.c_typing.specs.ItemSites.{body_sites, field_type_sites, gives_sites, global_sites, names_of}
+use Rattle.c_typing.specs.ItemSites.{own_params_sites, param_sites, result_sites}
+use Rattle.c_typing.specs.Scopes.{Scope, begun, declarators_of, opened, param_name, past_head, past_item, past_result}
+use Rattle.c_typing.specs.Scopes.{result_of}
+use Rattle.c_typing.specs.Sites.{Struct, Enum, Value, Member, Function, Parameter, Site, UsesStruct, Defines, Declares}
+use Rattle.c_typing.specs.Sites.{Functions}
 use Rattle.c_typing.specs.Texts.{Text, has}
 use Rattle.c_check.specs.declared.definitions.Seen.{Seen}
 
@@ -41,6 +44,15 @@ kept_value_sites names count [] = []
 kept_value_sites names count (n ∷ ns) =
     Defines Value n names count ∷ kept_value_sites (with_name names n.text) (count + 1) ns
 
+-- parameters of a prototype
+abbrev pub kept_params_sites : List Text → List Param → List Site
+kept_params_sites names [] = []
+kept_params_sites names (p ∷ ps) = (param_sites p ++ Defines Parameter (param_name p) names 0 ∷ [])
+    ++ kept_params_sites (with_name names (param_name p).text) ps
+
+abbrev pub kept_proto_sites : Head → List Site
+kept_proto_sites h = gives_sites h.gives ++ Declares h ∷ kept_params_sites [] (params_of h.params)
+
 abbrev pub kept_struct_sites : Seen → Name → Option (List Field) → List Site
 kept_struct_sites s name None = UsesStruct name ∷ []
 kept_struct_sites s name (Some fields) = Defines Struct name s.structs s.count ∷ kept_fields_sites [] 0 fields
@@ -48,7 +60,13 @@ kept_struct_sites s name (Some fields) = Defines Struct name s.structs s.count �
 abbrev pub kept_structs : Seen → Name → Option (List Field) → Seen
 kept_structs s name None = s
 kept_structs s name (Some fields) =
-    record { structs = with_name s.structs name.text; count = s.count + 1; enums = s.enums; values = s.values }
+    record {
+      structs = with_name s.structs name.text;
+      count = s.count + 1;
+      enums = s.enums;
+      values = s.values;
+      functions = s.functions;
+    }
 
 abbrev pub kept_enums : Seen → Name → List Name → Seen
 kept_enums s name values =
@@ -57,6 +75,17 @@ kept_enums s name values =
       count = s.count;
       enums = with_name s.enums name.text;
       values = with_names s.values values;
+      functions = s.functions;
+    }
+
+abbrev pub kept_function : Seen → Seen
+kept_function s =
+    record {
+      structs = s.structs;
+      count = s.count;
+      enums = s.enums;
+      values = s.values;
+      functions = s.functions + 1;
     }
 
 -- what is kept after an item
@@ -64,7 +93,7 @@ abbrev pub kept_after : Seen → Item → Seen
 kept_after s (item.Struct at name fields) = kept_structs s name fields
 kept_after s (item.Enum at name values) = kept_enums s name values
 kept_after s (item.Proto outer head) = s
-kept_after s (item.Function head body) = s
+kept_after s (item.Function head body) = kept_function s
 kept_after s (item.Declare d) = s
 
 -- whether the item is a function of the name `main`
@@ -75,29 +104,39 @@ is_main_item (item.Proto outer head) = false
 is_main_item (item.Function head body) = is_main head
 is_main_item (item.Declare d) = false
 
+-- the name of a function that is defined after so many others
+abbrev pub kept_named_sites : Bool → ℕ → Head → List Site
+kept_named_sites main count h = Defines Function h.name [] count ∷ Functions main h ∷ []
+
 module _ (g : Globals) where
-  abbrev pub kept_function_sites : Bool → Head → Block → List Site
-  kept_function_sites main head body = head_sites (Functions main head) head
-      ++ body_sites g (not main && is_main head) body
+  abbrev pub kept_head_sites : Bool → ℕ → Head → Scope → List Site
+  kept_head_sites main count h scope =
+      gives_sites h.gives ++ kept_named_sites main count h ++ result_sites (result_of g h) h.name (begun g h scope)
+      ++ own_params_sites g (params_of h.params) (opened (past_result g h scope))
 
-  abbrev pub kept_item_sites : Bool → Seen → Item → List Site
-  kept_item_sites main s (item.Struct at name fields) = kept_struct_sites s name fields
-  kept_item_sites main s (item.Enum at name values) = Defines Enum name s.enums 0 ∷ kept_value_sites s.values 0 values
-  kept_item_sites main s (item.Proto outer head) = head_sites (Declares head) head
-  kept_item_sites main s (item.Function head body) = kept_function_sites main head body
-  kept_item_sites main s (item.Declare d) = type_sites d ++ global_sites g (declarators_of d)
+  abbrev pub kept_function_sites : Bool → ℕ → Head → Block → Scope → List Site
+  kept_function_sites main count head body scope = kept_head_sites main count head scope
+      ++ body_sites g body (past_head g head scope)
 
-  abbrev pub kept_items_sites : Bool → Seen → List Item → List Site
-  kept_items_sites main s [] = []
-  kept_items_sites main s (i ∷ is) =
-      kept_item_sites main s i ++ kept_items_sites (main || is_main_item i) (kept_after s i) is
+  abbrev pub kept_item_sites : Bool → Seen → Item → Scope → List Site
+  kept_item_sites main s (item.Struct at name fields) scope = kept_struct_sites s name fields
+  kept_item_sites main s (item.Enum at name values) scope =
+      Defines Enum name s.enums 0 ∷ kept_value_sites s.values 0 values
+  kept_item_sites main s (item.Proto outer head) scope = kept_proto_sites head
+  kept_item_sites main s (item.Function head body) scope = kept_function_sites main s.functions head body scope
+  kept_item_sites main s (item.Declare d) scope = type_sites d ++ global_sites g (declarators_of d)
+
+  abbrev pub kept_items_sites : Bool → Seen → List Item → Scope → List Site
+  kept_items_sites main s [] scope = []
+  kept_items_sites main s (i ∷ is) scope =
+      kept_item_sites main s i scope ++ kept_items_sites (main || is_main_item i) (kept_after s i) is (past_item g i scope)
 
 abbrev pub any_main : List Item → Bool
 any_main [] = false
 any_main (i ∷ is) = is_main_item i || any_main is
 
 abbrev pub nothing_kept : Seen
-nothing_kept = record { structs = []; count = 0; enums = []; values = [] }
+nothing_kept = record { structs = []; count = 0; enums = []; values = []; functions = 0 }
 
 -- the body of an item that is a function of the name `main`
 abbrev pub body_of_main : Item → Option Block

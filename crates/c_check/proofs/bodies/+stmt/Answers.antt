@@ -3,13 +3,14 @@ use Rattle.c_ast.specs.declared.statements.Block.{out-Block}
 use Rattle.c_typing.specs.BodySites.{maybe_sites, first_sites, part_sites, parts_sites, stmt_sites, other_sites}
 use Rattle.c_typing.specs.Sites.{Jumps, cond_sites, simple_sites}
 use Rattle.c_typing.specs.Scopes.{Scope, past_parts, past_stmt, past_first, opened, closed}
-use Rattle.c_typing.proofs.ScopeLayers.{past-For-stmt}
+use Rattle.c_typing.proofs.ScopeLayers.{past-For-stmt, past-parts}
 use Rattle.c_typing.proofs.SiteLayers.{part-Declare, part-Stmt, block-parts, stmt-Empty, stmt-Block, stmt-Simple}
 use Rattle.c_typing.proofs.SiteLayers.{stmt-While, stmt-Do, stmt-For, stmt-Return, stmt-Break, stmt-Continue}
 use Rattle.c_typing.proofs.SiteLayers.{stmt-Assert, stmt-If}
 use Rattle.c_expressions.specs.Meeting.{met}
 use Rattle.c_scopes.specs.InScope.{outer}
-use Rattle.c_making.proofs.ScopeSteps.{left_closed, outer-past_first, past_step}
+use Rattle.c_making.proofs.ScopeSteps.{home-past_first, home-past_parts, home-past_stmt, left_closed}
+use Rattle.c_making.proofs.ScopeSteps.{outer-past_first, past_step}
 use Rattle.c_expressions.proofs.MeetingLemmas.{met-nil, met-one}
 use Rattle.c_check.proofs.StatementLemmas.{whole, both, both_turned, all_three, after_one, after_two}
 use Rattle.c_check.proofs.StatementLemmas.{parts_step, parts_end}
@@ -144,7 +145,10 @@ stmt_faults-returns-in_ok-stmt_faults-in-For-clause-past t c =
     let all : within ≡ past_stmt g c.in-For.body (past_first g f (opened scope)) =
     c.in_ok-stmt_faults-in-For.ensures.past ∙ ap (λ s. past_stmt g s c.first_faults.new.scope) c.get-in-For-2.ensures
     ∙ ap (past_stmt g c.in-For.body) first_as in
-    c.leave.ensures ∙ left_closed scope within outside ∙ ap (closed scope) all
+    let stays : within.home ≡ scope.home =
+    ap (λ (s : Scope). s.home) all ∙ home-past_stmt g c.in-For.body (past_first g f (opened scope))
+    ∙ home-past_first g f (opened scope) in
+    c.leave.ensures ∙ left_closed scope within outside stays ∙ ap (closed scope) all
     ∙ sym (ap (λ s. past_stmt g s scope) c.in-For.is
     ∙ past-For-stmt g c.in-For.at f c.in-For.cond c.in-For.next c.in-For.body scope)
 
@@ -188,7 +192,7 @@ stmt_faults-returns-in-Return-clause-found t c =
     let g = c.args.tables.now in
     whole g c.args.found.now _ _ _ _
     (ap (λ s. stmt_sites g s c.args.looping c.args.scope.now) c.in-Return.is
-    ∙ stmt-Return g c.in-Return.at c.in-Return.operand c.args.looping c.args.scope.now) c.returned_faults.ensures
+    ∙ stmt-Return g c.in-Return.at c.in-Return.operand c.args.looping c.args.scope.now) c.return_faults.ensures
 
 pub stmt_faults-returns-in-Assert-clause-found : goal.stmt_faults-returns-in-Assert-clause-found
 stmt_faults-returns-in-Assert-clause-found t c =
@@ -212,6 +216,22 @@ stmt_faults-returns-in-Continue-clause-found t c =
     ∙ ap (met g c.args.found.now)
     (sym (ap (λ s. stmt_sites g s c.args.looping c.args.scope.now) c.in-Continue.is
     ∙ stmt-Continue g c.in-Continue.at c.args.looping c.args.scope.now))
+
+pub block_faults-returns-clause-past : goal.block_faults-returns-clause-past
+block_faults-returns-clause-past t c =
+    let g = c.args.tables.now in
+    let scope = c.args.scope.now in
+    let b = out-Block c.args.block.now in
+    let within = c.parts_faults.new.scope in
+    let all : within ≡ past_parts g b.parts (opened scope) =
+    c.in_ok-parts_faults.ensures.past ∙ ap (λ ps. past_parts g ps c.enter.new.self) c.as_slice.ensures
+    ∙ ap (past_parts g b.parts) c.in_ok-enter.ensures in
+    let outside : outer within.blocks ≡ scope.blocks =
+    c.in_ok-parts_faults.ensures.outer ∙ ap (λ (s : Scope). outer s.blocks) c.in_ok-enter.ensures in
+    let stays : within.home ≡ scope.home =
+    ap (λ (s : Scope). s.home) all ∙ home-past_parts g b.parts (opened scope) in
+    c.leave.ensures ∙ left_closed scope within outside stays ∙ ap (closed scope) all
+    ∙ sym (past-parts g b.at b.close b.parts scope)
 
 pub block_faults-returns-clause-found : goal.block_faults-returns-clause-found
 block_faults-returns-clause-found t c =
