@@ -1,6 +1,6 @@
-use Rattle.std.proofs.Common.{◌≡◌, false, sym, ap, ◌∙◌}
+use Rattle.std.proofs.Common.{false, sym, ap, ◌∙◌}
 use Rattle.c_typing.specs.BodySites.{block_places, block_sites}
-use Rattle.c_typing.specs.Scopes.{Scope, outside, past_block, past_head}
+use Rattle.c_typing.specs.Scopes.{Scope, outside, past_block}
 use Rattle.c_typing.specs.Sites.{Counts}
 use Rattle.c_scopes.specs.InScope.{outer}
 use Rattle.c_expressions.specs.Meeting.{met}

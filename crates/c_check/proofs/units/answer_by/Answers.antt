@@ -1,6 +1,5 @@
-use Rattle.std.proofs.Common.{◌≡◌, None, IfOk, sym, subst, ap, ◌∙◌}
-use Rattle.c_types.specs.Program.{Program, is_typed}
-use Rattle.c_typing.specs.Globals.{globals_of}
+use Rattle.std.proofs.Common.{◌≡◌, None, IfOk, subst, ap, ◌∙◌}
+use Rattle.c_types.specs.Program.{is_typed}
 use Rattle.c_typing.specs.Programs.{program_in}
 use Rattle.c_check.proofs.Answering.{memory_passed, typed_unit, ok_unit, err_unit}
 use Rattle.c_check.proofs.units.answer_by.Goals as goal
