@@ -1,4 +1,6 @@
 pub mod Breaching
+pub mod CallLaws
+pub mod CalleeLayers
 pub mod Clean
 pub mod ConditionLayers
 pub mod Formulas

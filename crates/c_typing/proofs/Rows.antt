@@ -1,6 +1,7 @@
 -- Worked rows of the definitions, by subject.
 pub mod Assignments
 pub mod Blocks
+pub mod Callees
 pub mod Definitions
 pub mod Files
 pub mod Forms

@@ -4,6 +4,7 @@ use Rattle.std.proofs.Common.{map, codes, Option, Some, None, refl, sym, ap, ◌
 use Rattle.std.proofs.lemmas.Bool.{and_parts, false_from_ne_true, or_from, or_parts}
 use Rattle.std.proofs.lemmas.List.{append-nil, length-map}
 use Rattle.std.specs.Cmp.Lexicographic.{bytes_decides}
+use Rattle.fore_base.proofs.ListLemmas.{every_append}
 use Rattle.fore_base.specs.Lists.{Every}
 use Rattle.fore_base.specs.Shapes.{targets_in, target_before}
 use Rattle.fore_base.specs.declared.limits.TheConstants.{DATUM}
@@ -58,10 +59,6 @@ firsts_every P name seen (x ∷ xs) all =
         → Every P (cond there (firsts name seen xs) (x ∷ firsts name (seen ++ name x ∷ []) xs))
     either true old new = old
     either false old new = (all.0, new)
-
-every_append : {X : Type 0} (P : X → Type 0) (xs ys : List X) → Every P xs → Every P ys → Every P (xs ++ ys)
-every_append P [] ys left right = right
-every_append P (x ∷ xs) ys left right = (left.0, every_append P xs ys left.1 right)
 
 -- Enumerators
 

@@ -1,6 +1,6 @@
 -- What the items of a file define: structs, enumerations, enumerators and functions. They are known in the whole file.
 -- Of two definitions of one name the first counts.
-use Rattle.std.specs.Prelude.{ℕ, zero, suc, Bool, cond, nat_le, List, [], ◌∷◌, map, codes, Option, Some, None}
+use Rattle.std.specs.Prelude.{ℕ, zero, suc, Bool, cond, nat_le, List, [], ◌∷◌, ◌++◌, map, codes, Option, Some, None}
 use Rattle.std.specs.Prelude.{slice_get}
 use Rattle.fore_base.specs.declared.limits.TheConstants.{DATUM}
 use Rattle.c_ast.specs.declared.items.Field.{Field}
@@ -15,6 +15,8 @@ use Rattle.c_ast.specs.declared.items.Params.TheVariants as params
 use Rattle.c_ast.specs.declared.items.ReturnType.{ReturnType}
 use Rattle.c_ast.specs.declared.items.ReturnType.TheVariants as gives
 use Rattle.c_ast.specs.declared.operands.Name.{Name}
+use Rattle.c_ast.specs.declared.statements.Block.{Block}
+use Rattle.c_typing.specs.Callees.{block_callees}
 use Rattle.c_typing.specs.Texts.{Text, same, number_of, firsts, each_of}
 use Rattle.c_typing.specs.declared.meaning.Enumerator.{Enumerator}
 use Rattle.c_typing.specs.declared.meaning.FieldUse.{FieldUse}
@@ -159,6 +161,37 @@ function_heads items = firsts head_name [] (each_of functions_in items)
 
 abbrev pub functions_of : List Item → List FunctionDef
 functions_of items = map (function_of (map defined_name (struct_definitions items))) (function_heads items)
+
+-- Calls of a file: functions by their numbers, and `main` after them
+
+abbrev pub names_of_calls : List Item → List Text
+names_of_calls items = map head_name (function_heads items) ++ codes "main" ∷ []
+
+-- the body of the first function of this name
+abbrev pub body_named : Text → List Item → Option Block
+body_named x [] = None
+body_named x (item.Struct at name fields ∷ is) = body_named x is
+body_named x (item.Enum at name values ∷ is) = body_named x is
+body_named x (item.Proto outer head ∷ is) = body_named x is
+body_named x (item.Function head body ∷ is) = cond (same x head.name.text) (Some body) (body_named x is)
+body_named x (item.Declare d ∷ is) = body_named x is
+
+abbrev pub maybe_number : Option ℕ → List ℕ
+maybe_number None = []
+maybe_number (Some n) = n ∷ []
+
+-- the numbers of those that are among these names
+abbrev pub numbers_among : List Text → List Text → List ℕ
+numbers_among names xs = each_of (λ x. maybe_number (number_of x names)) xs
+
+abbrev pub body_callees : Option Block → List Text
+body_callees None = []
+body_callees (Some b) = block_callees b
+
+-- for each function, and for `main`, the functions that its body calls
+abbrev pub calls_of : List Item → List (List ℕ)
+calls_of items =
+    map (λ x. numbers_among (names_of_calls items) (body_callees (body_named x items))) (names_of_calls items)
 
 abbrev pub globals_of : List Item → Globals
 globals_of items = record {

@@ -1,4 +1,5 @@
 pub mod BodySites
+pub mod Callees
 pub mod Globals
 pub mod ItemSites
 pub mod Meanings
@@ -10,3 +11,4 @@ pub mod Scopes
 pub mod Sites
 pub mod Texts
 pub mod Typing
+pub mod Weights
