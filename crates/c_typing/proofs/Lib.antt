@@ -5,6 +5,7 @@ pub mod Clean
 pub mod ConditionLayers
 pub mod Formulas
 pub mod Layers
+pub mod OwnVariables
 pub mod PlaceLayers
 pub mod PlainPrograms
 pub mod ProgramLayers

@@ -1,6 +1,6 @@
 -- The variables that are in scope at a place of a body, and those that were declared before it (ISO/IEC 9899:2011,
 -- 6.2.1).
-use Rattle.std.specs.Prelude.{ℕ, ◌+◌, cond, List, [], ◌∷◌, ◌++◌, map, length, codes, Option, Some, None}
+use Rattle.std.specs.Prelude.{ℕ, ◌+◌, Bool, cond, nat_lt, List, [], ◌∷◌, ◌++◌, map, length, codes, Option, Some, None}
 use Rattle.c_ast.specs.declared.items.Head.{Head}
 use Rattle.c_ast.specs.declared.items.Item.{Item}
 use Rattle.c_ast.specs.declared.items.Item.TheVariants as item
@@ -17,6 +17,8 @@ use Rattle.c_ast.specs.declared.statements.Part as part
 use Rattle.c_ast.specs.declared.statements.Part.TheOpen as stmt
 use Rattle.c_ast.specs.declared.statements.Stmt.{Stmt, fold-Stmt, Stmt-F}
 use Rattle.c_types.specs.declared.program.VarDef.{VarDef}
+use Rattle.c_types.specs.declared.program.VarRef.{VarRef}
+use Rattle.c_types.specs.declared.program.VarRef.TheVariants as ref
 use Rattle.c_typing.specs.Globals.{Globals, struct_number, struct_names, function_number, is_main, result_kind}
 use Rattle.c_typing.specs.Globals.{param_kind, params_of}
 use Rattle.c_typing.specs.Texts.{Text, same, has, joined}
@@ -59,6 +61,11 @@ innermost (b ∷ bs) = b
 -- how many variables were declared
 abbrev pub declared_so_far : Scope → ℕ
 declared_so_far scope = length scope.vars + length scope.data_vars
+
+-- the variable is one of those that were declared
+abbrev pub is_declared : Scope → VarRef → Bool
+is_declared scope (ref.Ptr x) = nat_lt x (length scope.vars)
+is_declared scope (ref.Data x) = nat_lt x (length scope.data_vars)
 
 -- one more block is open
 abbrev pub opened : Scope → Scope

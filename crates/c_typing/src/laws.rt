@@ -1,9 +1,14 @@
 // What holds of names, types and limits: each law is the contract of a function that does nothing.
 
-ghost use Rattle.std.specs.Prelude.{◌≡◌, ◌⊎◌, true, List, []};
+ghost use Rattle.std.specs.Prelude.{◌≡◌, ◌⊎◌, ◌&&◌, true, not, List, []};
+ghost use Rattle.std.specs.List.{list_all};
 ghost use Rattle.c_ast.specs.declared.items.Unit as whole;
+ghost use Rattle.c_ast.specs.declared.statements.Block.{Block};
+ghost use Rattle.c_types.specs.Bodies.{all_different, body_declares};
 ghost use Rattle.c_types.specs.Program.{Program, is_typed};
-ghost use Rattle.c_typing.specs.Programs.{program_of};
+ghost use Rattle.c_typing.specs.Globals.{Globals};
+ghost use Rattle.c_typing.specs.Programs.{block_stmts, program_of};
+ghost use Rattle.c_typing.specs.Scopes.{Scope, is_declared, past_block};
 ghost use Rattle.c_typing.specs.Typing.{breaches, Breaks, IsFirstFault, TypedOf};
 ghost use Rattle.c_typing.specs.declared.fault.TypeFault.{TypeFault as Broken};
 
@@ -22,6 +27,15 @@ pub fn first_faults_are_unique()
 /// The program of a file has no functions besides `main`: a file that defines another one breaks a rule.
 pub fn programs_have_no_functions()
     ensures { (u : whole.Unit) (p : Program) → TypedOf u p → p.funcs ≡ [] }
+{}
+
+/// The variables that a body declares are all different, and were not declared before it.
+pub fn declared_variables_are_new()
+    ensures different { (g : Globals) (b : Block) (scope : Scope)
+        → all_different (body_declares (block_stmts g b scope)) ≡ true }
+    ensures new { (g : Globals) (b : Block) (scope : Scope)
+        → list_all (λ v. not (is_declared scope v) && is_declared (past_block g b scope) v)
+        (body_declares (block_stmts g b scope)) ≡ true }
 {}
 
 /// The program of a file that breaks no rule is well typed: it keeps what a `Typed` keeps.

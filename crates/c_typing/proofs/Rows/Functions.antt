@@ -16,9 +16,10 @@ use Rattle.c_ast.specs.declared.statements.Data.TheVariants as data'
 use Rattle.c_ast.specs.declared.statements.Declare.TheVariants as declare
 use Rattle.c_ast.specs.declared.statements.Part.TheVariants as part'
 use Rattle.c_ast.specs.declared.statements.Stmt.TheVariants as stmt
+use Rattle.c_types.specs.declared.program.VarRef.TheVariants as ref
 use Rattle.c_typing.specs.Globals.{Globals, globals_of}
 use Rattle.c_typing.specs.ItemSites.{nothing_seen, item_sites, all_seen}
-use Rattle.c_typing.specs.Scopes.{empty_scope, past_head, past_item}
+use Rattle.c_typing.specs.Scopes.{empty_scope, is_declared, past_head, past_item}
 use Rattle.c_typing.specs.Sites.{Function, Functions, Defines, Counts}
 use Rattle.c_typing.specs.Typing.{breaches, breaches_of}
 use Rattle.c_typing.specs.declared.fault.TypeFault.{TypeFault}
@@ -394,6 +395,19 @@ body_of_main : past_head two (head (gives.Data (data'.Int (at 200))) (name (code
       data_vars = codes "a" ∷ [];
     }
 body_of_main = refl
+
+-- which variables were declared: pointers and data apart
+pointer_declared : is_declared (past_item two first empty_scope) (ref.Ptr 1) ≡ true
+pointer_declared = simp layers refl
+
+pointer_not_declared : is_declared (past_item two first empty_scope) (ref.Ptr 2) ≡ false
+pointer_not_declared = simp layers refl
+
+datum_declared : is_declared (past_item two first empty_scope) (ref.Data 1) ≡ true
+datum_declared = simp layers refl
+
+datum_not_declared : is_declared (past_item two first empty_scope) (ref.Data 2) ≡ false
+datum_not_declared = simp layers refl
 
 -- Limits
 
