@@ -28,7 +28,7 @@ then_done (Exit v vs d m is) = ap (Exit v vs d m) (then_done is)
 
 module _ (R : Items → Type 0) where
   -- R at each place of a test, and of items that stand before others
-  abbrev EachTest : Test → Items → Items → Items → Type 0
+  abbrev pub EachTest : Test → Items → Items → Items → Type 0
   EachTest (Ask a m) x y r = R (If (Ask a m) x y r)
   EachTest (Not c) x y r = EachTest c y x r
   EachTest (Both c d) x y r = EachTest c (If d x y Done) y r × EachTest d x y r

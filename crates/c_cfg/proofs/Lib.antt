@@ -1,5 +1,6 @@
 pub mod Agree
 pub mod AlikeStores
+pub mod Calls
 pub mod Closing
 pub mod Fanning
 pub mod Filling
@@ -14,7 +15,10 @@ pub mod Opening
 pub mod PlainLinks
 pub mod Properly
 pub mod Ranged
+pub mod RangedCalls
 pub mod RangedEdges
+pub mod RangedLinks
+pub mod RangedStart
 pub mod Rows
 pub mod SomeFields
 pub mod Spans

@@ -1,5 +1,5 @@
 // Laws of control graphs: each is the contract of a function that does nothing.
-ghost use Rattle.std.specs.Prelude.{◌≡◌, ℕ, [], not};
+ghost use Rattle.std.specs.Prelude.{◌≡◌, ℕ, not};
 ghost use Rattle.std.specs.List.{list_all};
 ghost use Rattle.c_types.specs.declared.mode.MallocMode.TheVariants.{Always};
 ghost use Rattle.c_cfg.specs.Agreement.{Agrees};
@@ -31,42 +31,40 @@ pub fn loop_free_graphs(program: &Typed, mode: MallocMode, graph: &Graph)
     let _heads = &graph.heads;
 }
 
-/// A program without functions, where `malloc` has a mode, and any of its graphs for this mode agree: on the same
-/// choices both meet the same faults in the same lines, both end, or both want a choice, and the program does so after
-/// no more steps than the graph after edges.
+/// A program, where `malloc` has a mode, and any of its graphs for this mode agree: on the same choices both meet the
+/// same faults in the same lines, both end, or both want a choice, and the program does so after no more steps than the
+/// graph after edges.
 pub fn graphs_agree(program: &Typed, mode: MallocMode, graph: &Graph)
-    ensures { program.now.funcs ≡ [] → LowerOf program.now mode graph.now → Agrees program.now mode graph.now }
+    ensures { LowerOf program.now mode graph.now → Agrees program.now mode graph.now }
 {
     let _body = &program.body;
     let _edges = &graph.edges;
 }
 
-/// No run of the graph of a program without functions is stuck: wherever a run comes, on any choices, no edge begins,
-/// or on either choice one of those that begin there is passed, meets a fault, or ends the run.
+/// No run of a program's graph is stuck: wherever a run comes, on any choices, no edge begins, or on either choice one
+/// of those that begin there is passed, meets a fault, or ends the run.
 pub fn runs_are_never_stuck(program: &Typed, mode: MallocMode, graph: &Graph)
-    ensures { program.now.funcs ≡ [] → LowerOf program.now mode graph.now → IsNeverStuck graph.now }
+    ensures { LowerOf program.now mode graph.now → IsNeverStuck graph.now }
 {
     let _body = &program.body;
     let _edges = &graph.edges;
 }
 
-/// Between the steps of a program without functions the temporaries of its graph hold nothing: with whatever store a
-/// run comes, on any choices, to the exit or to a location at which the step of one of the program's places begins, the
-/// two pointers behind the program's are `Uninit`, and the two data `Undefined`.
+/// Between the steps of a program the temporaries of its graph hold nothing: with whatever store a run comes, on any
+/// choices, to the exit or to a location at which the step of one of the program's places begins, the two pointers
+/// behind the program's are `Uninit`, and the two data `Undefined`.
 pub fn temporaries_are_unset_between_steps(program: &Typed, mode: MallocMode, graph: &Graph)
-    ensures { program.now.funcs ≡ [] → (low : LowerOf program.now mode graph.now)
-        → UnsetBetweenSteps program.now mode graph.now low }
+    ensures { (low : LowerOf program.now mode graph.now) → UnsetBetweenSteps program.now mode graph.now low }
 {
     let _body = &program.body;
     let _edges = &graph.edges;
 }
 
-/// Each number of an edge of the graph of a program without functions is in range: it leads from a location to a
-/// location; its variables and structs are the graph's; each of its fields is one of some struct, of its kind; a known
-/// datum is at most `DATUM`; a choice is 0 or 1, and stands where the instruction wants one.
+/// Each number of an edge of a program's graph is in range: it leads from a location to a location; its variables and
+/// structs are the graph's; each of its fields is one of some struct, of its kind; a known datum is at most `DATUM`; a
+/// choice is 0 or 1, and stands where the instruction wants one.
 pub fn edges_in_range(program: &Typed, mode: MallocMode, graph: &Graph)
-    ensures { program.now.funcs ≡ [] → LowerOf program.now mode graph.now
-        → Every (IsEdgeOf graph.now) graph.now.edges }
+    ensures { LowerOf program.now mode graph.now → Every (IsEdgeOf graph.now) graph.now.edges }
 {
     let _body = &program.body;
     let _edges = &graph.edges;

@@ -42,7 +42,7 @@ settle_pass stop t is = here (leaks t) refl
     here true leak = rw (leaks_ext0 t, leak) refl
     here false fine = rw (leaks_ext0 t, fine) refl
 
-done_turn : (stop : Pass) (r : Result Store Fault) (is : Items) → done_pass r ≡ turn_pass stop (settled r is)
+pub done_turn : (stop : Pass) (r : Result Store Fault) (is : Items) → done_pass r ≡ turn_pass stop (settled r is)
 done_turn stop (Ok t) is = settle_pass stop t is
 done_turn stop (Err k) is = refl
 
@@ -132,7 +132,7 @@ settle_to t is = here (leaks t) refl
     here true leak = rw leak tt
     here false fine = rw fine (refl, fine)
 
-settled_to : (r : Result Store Fault) (is : Items) → GoesTo is (settled r is)
+pub settled_to : (r : Result Store Fault) (is : Items) → GoesTo is (settled r is)
 settled_to (Ok t) is = settle_to t is
 settled_to (Err k) is = tt
 

@@ -26,11 +26,15 @@ use Rattle.c_cfg.specs.Places.{places}
 use Rattle.c_cfg.specs.Agreement.{IsFaultAt, IsEnded, IsStarved, IsBadAt, Agrees}
 use Rattle.c_cfg.proofs.Agree.Temporaries.{ext0}
 use Rattle.c_cfg.proofs.Agree.Ways.{stepless}
-use Rattle.c_cfg.proofs.Ranged.{Ranged, places_ranged, unmarked, start_ranged}
+use Rattle.c_cfg.proofs.Ranged.{Ranged, places_ranged, unmarked}
+use Rattle.c_cfg.proofs.RangedStart.{start_ranged}
 use Rattle.c_cfg.proofs.Agree.StepsAlike.{size}
 use Rattle.c_cfg.proofs.Agree.Simulated.{Follows, Still, Stays, longer, fuel, fuel_least, Ready, over, goes_on}
 use Rattle.c_cfg.proofs.Agree.OtherMarks.{go_same, items_marked}
-use Rattle.c_cfg.proofs.Landing.{each}
+use Rattle.c_cfg.proofs.Landing.{Each, each}
+use Rattle.c_cfg.proofs.Calls.Homes.{Homed, each_every, each_unmarked}
+use Rattle.c_cfg.proofs.Calls.BodyHomes.{start_homed}
+use Rattle.c_cfg.proofs.Calls.Safe.{empty_safe}
 
 -- one bound of all sizes
 
@@ -54,6 +58,10 @@ bounded P Q g (x ∷ xs) h k =
       each_most =
           ((h.0, k.0, omega arith), bound_more P Q g rest.most (g x + rest.most) (omega arith) xs rest.each_most);
     }
+
+every_both : {A : Type 0} (P Q : A → Type 0) (xs : List A) → Every P xs → Every Q xs → Every (λ x. P x × Q x) xs
+every_both P Q [] h k = tt
+every_both P Q (x ∷ xs) h k = ((h.0, k.0), every_both P Q xs h.1 k.1)
 
 -- The empty stores
 
@@ -126,7 +134,7 @@ from_graph (Starved step) r t f s h v = sym f ∙ stays_stepless r t h v
 from_graph (BadChoice index) r t f s h v = sym f ∙ stays_stepless r t h v
 from_graph StillRunning r t f s h v = absurd (subst IsOver s v)
 
-module _ (p : Program) (typed : is_typed p ≡ true) (none : p.funcs ≡ []) (mode : MallocMode) (g : ControlGraph)
+module _ (p : Program) (typed : is_typed p ≡ true) (mode : MallocMode) (g : ControlGraph)
     (low : LowerOf p mode g) where
   abbrev pub first : Store
   first = empty_store (length p.vars) (length p.data_vars)
@@ -134,18 +142,28 @@ module _ (p : Program) (typed : is_typed p ≡ true) (none : p.funcs ≡ []) (mo
   abbrev sizes : Items → ℕ
   sizes c = size (length p.vars) (length p.data_vars) c
 
-  pub rowed : Bounded (IsRow (length p.vars) (length p.data_vars) g.edges mode low.line low.at low.mids) (Ranged p)
-      sizes (places low.items Done)
-  rowed = bounded _ (Ranged p) sizes (places low.items Done) low.rows
-      (places_ranged p low.items Done
-      (unmarked p low.line low.items (subst (Ranged p) (sym low.is_program) (start_ranged p typed none))) tt)
+  -- the items, and each of the places, keep the parameters of functions that are not active
+  own_ranged : Ranged p low.items
+  own_ranged = unmarked p low.line low.items (subst (Ranged p) (sym low.is_program) (start_ranged p typed))
+
+  own_homed : Each (Homed p) low.items Done
+  own_homed = each_unmarked p low.line low.items Done
+      (subst (λ c. Each (Homed p) c Done) (sym low.is_program) (start_homed p typed))
+
+  pub rowed : Bounded (IsRow (length p.vars) (length p.data_vars) g.edges mode low.line low.at low.mids)
+      (λ c. Ranged p c × Homed p c) sizes (places low.items Done)
+  rowed = bounded _ (λ c. Ranged p c × Homed p c) sizes (places low.items Done) low.rows
+      (every_both (Ranged p) (Homed p) (places low.items Done) (places_ranged p low.items Done own_ranged tt)
+      (each_every (Homed p) low.items Done own_homed))
 
   pub ready : Ready p typed mode g.edges low.line low.at low.mids rowed.most low.exit low.items first
   ready = record {
     places = each _ low.items Done rowed.each_most;
     fits = items_marked low.line p low.items (subst (ItemsFit p) (sym low.is_program) (start_fits p typed));
+    ranged = own_ranged;
     sound = empty_sound p;
     clear = empty_clear (length p.vars) (length p.data_vars);
+    idle = λ x param absent. empty_safe (length p.vars) (length p.data_vars) x;
   }
 
   made : List Value → List Datum → Store

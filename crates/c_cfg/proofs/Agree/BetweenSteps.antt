@@ -151,7 +151,7 @@ module _ (at : Items → ℕ) (mids : Items → List ℕ) where
   both_count c d (e ∷ es) (inr (inr h)) (inr j) i =
       omega (arith, often_numbers (at c) e es, both_count c d es (inr h) j i)
 
-module _ (p : Program) (typed : is_typed p ≡ true) (none : p.funcs ≡ []) (mode : MallocMode) (g : ControlGraph)
+module _ (p : Program) (typed : is_typed p ≡ true) (mode : MallocMode) (g : ControlGraph)
     (low : LowerOf p mode g) where
   in_no_middle : (c d : Items) → IsIn c (Done ∷ places low.items Done) → IsIn d (places low.items Done)
       → IsIn (low.at c) (low.mids d) → ⊥
@@ -165,9 +165,9 @@ module _ (p : Program) (typed : is_typed p ≡ true) (none : p.funcs ≡ []) (mo
       ))
 
   pub unset_between_steps : UnsetBetweenSteps p mode g low
-  unset_between_steps c h s visits = by (middle_or_unset p typed none mode g low (low.at c) s visits)
+  unset_between_steps c h s visits = by (middle_or_unset p typed mode g low (low.at c) s visits)
     where
-      by : Middle p typed none mode g low (low.at c) ⊎ TemporariesUnset (length p.vars) (length p.data_vars) s
+      by : Middle p typed mode g low (low.at c) ⊎ TemporariesUnset (length p.vars) (length p.data_vars) s
           → TemporariesUnset (length p.vars) (length p.data_vars) s
       by (inl mid) = absurd (in_no_middle c mid.items h mid.is_there mid.is_mid)
       by (inr unset) = unset

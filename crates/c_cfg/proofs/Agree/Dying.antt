@@ -22,7 +22,7 @@ IsCleared t u [] x = x ≡ u
 IsCleared t u (n ∷ []) x = n ≡ t
 IsCleared t u (n ∷ m ∷ ns) x = ⊥
 
-both_cleared : {A : Type 0} (m : ℕ) (xs : List A) (u : A) → length xs ≡ m → (ps qs : List ℕ) (x y : A)
+pub both_cleared : {A : Type 0} (m : ℕ) (xs : List A) (u : A) → length xs ≡ m → (ps qs : List ℕ) (x y : A)
     → IsCleared m u ps x → IsCleared (m + 1) u qs y → set_each (xs ++ x ∷ y ∷ []) (ps ++ qs) u ≡ xs ++ u ∷ u ∷ []
 both_cleared m xs u e [] [] x y a b = ap (λ z. xs ++ z ∷ y ∷ []) a ∙ ap (λ z. xs ++ u ∷ z ∷ []) b
 both_cleared m xs u e [] (n ∷ []) x y a b = set_second xs x y n u (omega (arith, e, b)) ∙ ap (λ z. xs ++ z ∷ u ∷ []) a

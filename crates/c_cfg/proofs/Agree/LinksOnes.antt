@@ -18,7 +18,7 @@ use Rattle.c_cfg.proofs.PlainLinks.{ArePlain, PlainAs, kept, stays, ends_plain, 
 use Rattle.c_cfg.proofs.PlainLinks.{nulled_plain, made_plain, set_data_plain, freed_plain, returned_plain}
 use Rattle.c_cfg.proofs.Agree.Ways.{AreOnes, TakesAs}
 
-plain_ones : (ls : List Link) → ArePlain ls → AreOnes ls
+pub plain_ones : (ls : List Link) → ArePlain ls → AreOnes ls
 plain_ones [] h = tt
 plain_ones (One i ∷ ls) h = plain_ones ls h.1
 plain_ones (Two i j ∷ ls) h = absurd h

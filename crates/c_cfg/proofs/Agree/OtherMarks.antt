@@ -23,7 +23,7 @@ use Rattle.c_types.specs.Fits.{ItemsFit}
 use Rattle.c_cfg.specs.Places.{remark, remark_test}
 
 module _ (f : ℕ → ℕ) where
-  remark_then : (c d : Items) → remark f (c then d) ≡ remark f c then remark f d
+  pub remark_then : (c d : Items) → remark f (c then d) ≡ remark f c then remark f d
   remark_then Done d = refl
   remark_then (Do a m is) d = ap (Do a (f m)) (remark_then is d)
   remark_then (Close ps ds m is) d = ap (Close ps ds (f m)) (remark_then is d)
@@ -79,7 +79,7 @@ module _ (f : ℕ → ℕ) where
   remark_open (Leave v vs a m is) r o = ap (Leave v vs a (f m)) (remark_then is r)
   remark_open (Exit v vs d m is) r o = ap (Exit v vs d (f m)) (remark_then is r)
 
-  remark_after : (is : Items) → after_again (remark f is) ≡ remark f (after_again is)
+  pub remark_after : (is : Items) → after_again (remark f is) ≡ remark f (after_again is)
   remark_after Done = refl
   remark_after (Do a m is) = remark_after is
   remark_after (Close ps ds m is) = remark_after is
@@ -92,7 +92,7 @@ module _ (f : ℕ → ℕ) where
   remark_after (Leave v vs a m is) = remark_after is
   remark_after (Exit v vs d m is) = remark_after is
 
-  remark_from : (is : Items) → from_again (remark f is) ≡ remark f (from_again is)
+  pub remark_from : (is : Items) → from_again (remark f is) ≡ remark f (from_again is)
   remark_from Done = refl
   remark_from (Do a m is) = remark_from is
   remark_from (Close ps ds m is) = remark_from is

@@ -99,8 +99,9 @@ one_link shapes x i g t is = ap (λ z. then_pass (leak_tested z) (λ h. Passed h
 
 -- after the last edge, the Kill of the temporaries, if there is one
 
-killing : (shapes : List Shape) (x : ℕ) (ps : List ℕ) (ds : List ℕ) (t g : Store) → (leaks t ≡ false → leaks g ≡ false)
-    → kill ps ds g ≡ ext0 t → then_pass (leak_tested (Passed g)) (λ h. links_pass shapes x (One (Kill ps ds) ∷ []) h)
+pub killing : (shapes : List Shape) (x : ℕ) (ps : List ℕ) (ds : List ℕ) (t g : Store)
+    → (leaks t ≡ false → leaks g ≡ false) → kill ps ds g ≡ ext0 t
+    → then_pass (leak_tested (Passed g)) (λ h. links_pass shapes x (One (Kill ps ds) ∷ []) h)
     ≡ settled_pass t
 killing shapes x ps ds t g hides dead = here (leaks t) (leaks g) refl refl
   where

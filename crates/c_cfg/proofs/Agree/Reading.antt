@@ -86,10 +86,13 @@ second_slot nv nd s z x d clear = record {
   datum = λ v e b less. datum_ext nv nd s z x v d e b less;
 }
 
--- what a temporary holds after a path was read: a path without arrows does not use it
+-- what a temporary that held z holds after a path was read: a path without arrows does not use it
+abbrev pub held_or : Value → List ℕ → Value → Value
+held_or z [] v = z
+held_or z (f ∷ fs) v = v
+
 abbrev pub held : List ℕ → Value → Value
-held [] v = Uninit
-held (f ∷ fs) v = v
+held fs v = held_or Uninit fs v
 
 -- what a reading gave
 abbrev pub value_of : Result Value Fault → Value
@@ -156,38 +159,54 @@ module _ (p : Program) (s : Store) (sound : Sound p s) (choice : ℕ) where
         ∙ hop (load s w f) w (loads t t fs) (λ v. walk s v fs)
         (λ v got. arrows_on fs v on.0 u (load_points p s sound w v k f on.0 points on.1 got) on.2)
 
-    pub arrows : (fs : List ℕ) (b : ℕ) (w : Value) (k u : ℕ) → var_of (put Uninit e) b ≡ w → PointsTo s.cells k w
-        → Leads p.shapes.structs k fs u → run (loads t b fs) (put Uninit e)
-        ≡ onto (walk s w fs) (λ v. Passed (put (held fs v) e))
-    arrows [] b w k u is points on = refl
-    arrows (f ∷ fs) b w k u is points on =
-        ap (λ z. then_pass (leak_tested z) (λ g. run (loads t t fs) g))
-        (load_raw p s sound (put Uninit e) (slot.cells Uninit e) t b f k on.0 w is points on.1)
-        ∙ hop (load s w f) Uninit (loads t t fs) (λ v. walk s v fs)
-        (λ v got. arrows_on fs v on.0 u (load_points p s sound w v k f on.0 points on.1 got) on.2)
+    module _ (z : Value) where
+      arrows : (fs : List ℕ) (b : ℕ) (w : Value) (k u : ℕ) → var_of (put z e) b ≡ w → PointsTo s.cells k w
+          → Leads p.shapes.structs k fs u → run (loads t b fs) (put z e)
+          ≡ onto (walk s w fs) (λ v. Passed (put (held_or z fs v) e))
+      arrows [] b w k u is points on = refl
+      arrows (f ∷ fs) b w k u is points on =
+          ap (λ r. then_pass (leak_tested r) (λ g. run (loads t t fs) g))
+          (load_raw p s sound (put z e) (slot.cells z e) t b f k on.0 w is points on.1)
+          ∙ hop (load s w f) z (loads t t fs) (λ v. walk s v fs)
+          (λ v got. arrows_on fs v on.0 u (load_points p s sound w v k f on.0 points on.1 got) on.2)
 
-    -- the variable that then holds what was read
-    pub holder_holds : (fs : List ℕ) (b : ℕ) (w v : Value) (k : Datum) → b < length p.vars → var_of s b ≡ w
-        → walk s w fs ≡ Ok v → var_of (put (held fs v) k) (holder t b fs) ≡ v
-    holder_holds [] b w v k less is got = let same : w ≡ v = cc in slot.var Uninit k b less ∙ is ∙ same
-    holder_holds (f ∷ fs) b w v k less is got = slot.holds v k
+      -- the variable that then holds what was read
+      holder_holds : (fs : List ℕ) (b : ℕ) (w v : Value) (k : Datum) → b < length p.vars → var_of s b ≡ w
+          → walk s w fs ≡ Ok v → var_of (put (held_or z fs v) k) (holder t b fs) ≡ v
+      holder_holds [] b w v k less is got = let same : w ≡ v = cc in slot.var z k b less ∙ is ∙ same
+      holder_holds (f ∷ fs) b w v k less is got = slot.holds v k
+
+      all_read : (q : Path) (u : ℕ) → PathLeads p q u → run (loads t q.var q.fields) (put z e)
+          ≡ onto (read s q) (λ v. Passed (put (held_or z q.fields v) e))
+      all_read q u path = arrows q.fields q.var (var_of s q.var) path.first u
+          (slot.var z e q.var (path_less p q u path)) (var_points q u path) path.leads_on
+
+      -- the same before other links
+      pub path_from : (q : Path) (u : ℕ) → PathLeads p q u → (ls : List Link)
+          → run (loads t q.var q.fields ++ ls) (put z e)
+          ≡ onto (read s q) (λ v. run ls (put (held_or z q.fields v) e))
+      path_from q u path ls =
+          links_append p.shapes.structs choice (loads t q.var q.fields) ls (put z e)
+          ∙ ap (λ r. then_pass r (λ g. run ls g)) (all_read q u path)
+          ∙ then_onto (read s q) (λ v. put (held_or z q.fields v) e) (λ g. run ls g)
+
+      pub held_from : (q : Path) (u : ℕ) (v : Value) (k : Datum) → PathLeads p q u → read s q ≡ Ok v
+          → var_of (put (held_or z q.fields v) k) (holder t q.var q.fields) ≡ v
+      held_from q u v k path got = holder_holds q.fields q.var (var_of s q.var) v k (path_less p q u path) refl got
+
+    -- the same where it held nothing
 
     pub path_read : (q : Path) (u : ℕ) → PathLeads p q u → run (loads t q.var q.fields) (put Uninit e)
         ≡ onto (read s q) (λ v. Passed (put (held q.fields v) e))
-    path_read q u path = arrows q.fields q.var (var_of s q.var) path.first u
-        (slot.var Uninit e q.var (path_less p q u path)) (var_points q u path) path.leads_on
+    path_read q u path = all_read Uninit q u path
 
-    -- the same before other links
     pub path_then : (q : Path) (u : ℕ) → PathLeads p q u → (ls : List Link)
         → run (loads t q.var q.fields ++ ls) (put Uninit e) ≡ onto (read s q) (λ v. run ls (put (held q.fields v) e))
-    path_then q u path ls =
-        links_append p.shapes.structs choice (loads t q.var q.fields) ls (put Uninit e)
-        ∙ ap (λ z. then_pass z (λ g. run ls g)) (path_read q u path)
-        ∙ then_onto (read s q) (λ v. put (held q.fields v) e) (λ g. run ls g)
+    path_then q u path ls = path_from Uninit q u path ls
 
     pub path_held : (q : Path) (u : ℕ) (v : Value) (k : Datum) → PathLeads p q u → read s q ≡ Ok v
         → var_of (put (held q.fields v) k) (holder t q.var q.fields) ≡ v
-    path_held q u v k path got = holder_holds q.fields q.var (var_of s q.var) v k (path_less p q u path) refl got
+    path_held q u v k path got = held_from Uninit q u v k path got
 
   -- A datum
 

@@ -19,15 +19,19 @@ use Rattle.c_types.specs.Runs.{supply, at_end, advance, go}
 use Rattle.c_types.specs.Fits.{FitsProgram, ItemsFit}
 use Rattle.c_types.proofs.Fitting.{Sound, is_sound, sound_fits, sound_proper}
 use Rattle.c_types.proofs.ItemsTyped.{opened_fit}
-use Rattle.c_types.proofs.StepLaws.{step_keeps}
+use Rattle.c_types.proofs.StepLaws.{step_keeps, turn_gives}
 use Rattle.c_cfg.specs.declared.graph.Instr.{Instr}
 use Rattle.c_cfg.specs.declared.graph.Edge.{Edge}
 use Rattle.c_cfg.specs.Graphs.{has_choice}
 use Rattle.c_cfg.specs.Edges.{Pass, Passed, Faulted, Halted, NotPassed, gstep}
 use Rattle.c_cfg.specs.GraphRuns.{out_of, is_taken_on, after_pass, unless_left, at_location, first_pass, leave, ggo}
-use Rattle.c_cfg.specs.Links.{Link, One, Two, links_in, act_row}
+use Rattle.c_cfg.specs.Links.{Link, One, Two, links_in, act_row, enter_row, leave_row, exit_row}
 use Rattle.c_cfg.specs.Lowering.{IsWay, IsTestRow, IsRow}
-use Rattle.c_cfg.proofs.Filling.{Filled, filled_length, filled_in, act_filled}
+use Rattle.c_cfg.proofs.Ranged.{Ranged, opened_open}
+use Rattle.c_cfg.proofs.Calls.OpenCalls.{open_vars}
+use Rattle.c_cfg.proofs.Calls.Idle.{Idle, Kept, step_keeps_idle, FreeAt, idle_free}
+use Rattle.c_cfg.proofs.Filling.{Filled, filled_length, filled_in, act_filled, enter_filled, leave_filled}
+use Rattle.c_cfg.proofs.Filling.{exit_filled}
 use Rattle.c_cfg.proofs.Agree.Temporaries.{ext0}
 use Rattle.c_cfg.proofs.Agree.Ways.{stepless}
 use Rattle.c_cfg.proofs.Agree.StepsAlike.{IsKnown, size, exit_ends, step_alike}
@@ -211,18 +215,40 @@ module _ (p : Program) (typed : is_typed p ≡ true) (mode : MallocMode) (edges 
   pub record Ready (c : Items) (s : Store) : Type 0 where
     pub places : Each Place c Done
     pub fits : ItemsFit p c
+    pub ranged : Ranged p c
     pub sound : Sound p s
     pub clear : leaks s ≡ false
+    pub idle : Idle p typed (open_vars 0 c) s
+
+  pub front_of : (c : Items) (s : Store) → Ready c s → Front Place (opened c)
+  front_of c s ready = each_opened Place c (exit, (tt, tt), omega arith) ready.places
+
+  -- the same where the items are opened
+  pub idle_opened : (c : Items) (s : Store) → Ready c s → Idle p typed (open_vars 0 (opened c)) s
+  idle_opened c s ready = subst (λ us. Idle p typed us s) (sym (opened_open p c ready.ranged)) ready.idle
+
+  pub free_of : (c : Items) (s : Store) → Ready c s → FreeAt p typed (opened c) s
+  free_of c s ready =
+      let known : Place (opened c) = (front_of c s ready).0 in
+      idle_free p typed (opened c) s known.1.0 known.1.1 (idle_opened c s ready)
 
   pub next_ready : (c js : Items) (s t : Store) (x : ℕ) → Ready c s → turn_of p.shapes.structs mode (opened c) s x
       ≡ Goes js t → leaks t ≡ false → Each Place js Done → Ready js t
   next_ready c js s t x ready e clear each =
       let kept : ItemsFit p js × IsProper t × FitsProgram p t =
       step_keeps p typed mode c js s t x ready.fits (sound_proper p s ready.sound) (sound_fits p s ready.sound) e in
-      record { places = each; fits = kept.0; sound = is_sound p t kept.1 kept.2; clear = clear }
-
-  pub front_of : (c : Items) (s : Store) → Ready c s → Front Place (opened c)
-  front_of c s ready = each_opened Place c (exit, tt, omega arith) ready.places
+      let known : Place (opened c) = (front_of c s ready).0 in
+      let more : Kept p typed js t =
+      turn_gives (Kept p typed) (turn_of p.shapes.structs mode (opened c) s x) js t
+      (step_keeps_idle p typed mode (opened c) s x known.1.0 known.1.1 (idle_opened c s ready)) e in
+      record {
+        places = each;
+        fits = kept.0;
+        ranged = more.0;
+        sound = is_sound p t kept.1 kept.2;
+        clear = clear;
+        idle = more.1;
+      }
 
   over_start : (o : Items) (st m q : ℕ) (g : Store) (cs : List ℕ) (u : ℕ)
       → Follows (at_end o st) (graph m q (at o) g cs u)
@@ -250,7 +276,7 @@ module _ (p : Program) (typed : is_typed p ≡ true) (mode : MallocMode) (edges 
       subst (λ z. Follows (source (suc n) st c s cs u) (graph z q (at (opened c)) (ext0 s) cs u)) (sym split)
       (step_alike p typed mode Follows follows_equal edges line at mids most exit (m - k)
       (λ st js t ds v. source n st js t ds v) st q s ready.sound ready.clear cs u (opened c) front
-      (opened_fit p c ready.fits)
+      (opened_fit p c ready.fits) (free_of c s ready)
       (λ x ds v js t e clear each st r.
       over n (m - k) (omega (arith, h, least)) js t (next_ready c js s t x ready e clear each) st r ds v))
 
@@ -280,9 +306,15 @@ module _ (p : Program) (typed : is_typed p ≡ true) (mode : MallocMode) (edges 
   still_start (Again c k b is) h st q = absurd h.0
   still_start (DoLoop c b is) h st q = absurd h.0
   still_start (DoAgain c b is) h st q = absurd h.0
-  still_start (Enter vs ws m is) h st q = absurd h.1
-  still_start (Leave v vs a m is) h st q = absurd h.1
-  still_start (Exit v vs d m is) h st q = absurd h.1
+  still_start (Enter vs ws m is) h st q =
+      begun edges (line m) (enter_row (length p.vars) (length p.data_vars) vs ws) _ h.0.way _
+      (enter_filled (length p.vars) (length p.data_vars) vs ws) h.0.leads q
+  still_start (Leave v vs a m is) h st q =
+      begun edges (line m) (leave_row (length p.vars) (length p.data_vars) v vs a) _ h.0.way _
+      (leave_filled (length p.vars) (length p.data_vars) v vs a) h.0.leads q
+  still_start (Exit v vs d m is) h st q =
+      begun edges (line m) (exit_row (length p.vars) (length p.data_vars) v vs d) _ h.0.way _
+      (exit_filled (length p.vars) (length p.data_vars) v vs d) h.0.leads q
 
   -- one step, given the runs after it
   module _ (n : ℕ) (later : (c : Items) (s : Store) → Ready c s → (st q : ℕ) (cs : List ℕ) (u : ℕ)
@@ -297,7 +329,7 @@ module _ (p : Program) (typed : is_typed p ≡ true) (mode : MallocMode) (edges 
         shorter _ (graph (k + n) q (at (opened c)) (ext0 s) cs u) _
         (step_alike p typed mode Still still_equal edges line at mids most exit n
         (λ st js t ds v. source n st js t ds v) st q s ready.sound ready.clear cs u (opened c) (front_of c s ready)
-        (opened_fit p c ready.fits)
+        (opened_fit p c ready.fits) (free_of c s ready)
         (λ x ds v js t e clear each st r. later js t (next_ready c js s t x ready e clear each) st r ds v))
         (longer p.shapes.structs edges (suc n) (k + n) (omega (arith, h)) q (at (opened c)) (ext0 s) cs u)
 
@@ -333,9 +365,18 @@ module _ (p : Program) (typed : is_typed p ≡ true) (mode : MallocMode) (edges 
     step_goes (Again d k b js) h is = absurd h.0
     step_goes (DoLoop d b js) h is = absurd h.0
     step_goes (DoAgain d b js) h is = absurd h.0
-    step_goes (Enter vs ws m js) h is = absurd h.1
-    step_goes (Leave v vs a m js) h is = absurd h.1
-    step_goes (Exit v vs d m js) h is = absurd h.1
+    step_goes (Enter vs ws m js) h is =
+        long (Enter vs ws m js) h is
+        (filled_length (enter_row (length p.vars) (length p.data_vars) vs ws)
+        (enter_filled (length p.vars) (length p.data_vars) vs ws))
+    step_goes (Leave v vs a m js) h is =
+        long (Leave v vs a m js) h is
+        (filled_length (leave_row (length p.vars) (length p.data_vars) v vs a)
+        (leave_filled (length p.vars) (length p.data_vars) v vs a))
+    step_goes (Exit v vs d m js) h is =
+        long (Exit v vs d m js) h is
+        (filled_length (exit_row (length p.vars) (length p.data_vars) v vs d)
+        (exit_filled (length p.vars) (length p.data_vars) v vs d))
 
   -- while the program's run goes on, so does the graph's
   pub goes_on : (n : ℕ) (c : Items) (s : Store) → Ready c s → (st q : ℕ) (cs : List ℕ) (u : ℕ)

@@ -20,9 +20,11 @@ use Rattle.c_types.specs.declared.program.Atom.TheVariants.{Choice as ChoiceAtom
 use Rattle.c_types.specs.declared.program.Atom.TheVariants.{Data as DataAtom}
 use Rattle.c_types.specs.Program.{Program, is_typed}
 use Rattle.c_types.specs.Control.{Items, Done, Do, Close, If, Loop, Again, DoLoop, DoAgain, Enter, Leave, Exit, Ask}
-use Rattle.c_types.specs.Control.{Not, Both, Either, ◌then◌, opened}
+use Rattle.c_types.specs.Control.{Not, Both, Either, ◌then◌, opened, from_exit}
 use Rattle.c_types.specs.Steps.{Turn, Goes, Stops, Faults, read_op, read_data_op, same_values, same_datums, agrees}
-use Rattle.c_types.specs.Steps.{atom_of, act_takes, all_dead, settle, act_turn, test_turn, turn_of}
+use Rattle.c_types.specs.Steps.{atom_of, act_takes, all_dead, enter, leave as leave_of, exit as exit_of, settle}
+use Rattle.c_types.specs.Steps.{settled}
+use Rattle.c_types.specs.Steps.{act_turn, test_turn, turn_of}
 use Rattle.c_types.specs.Runs.{supply, after_turn, at_end, advance}
 use Rattle.c_types.specs.Fits.{ItemsFit}
 use Rattle.c_types.proofs.Fitting.{Sound}
@@ -34,17 +36,21 @@ use Rattle.c_cfg.specs.Edges.{Pass, Halted}
 use Rattle.c_cfg.specs.GraphRuns.{out_of, unless_left, leave}
 use Rattle.c_cfg.specs.Links.{Link, One, links_in, act_row, ptr_loads, ptr_ends, cmp_loads, data_ends, enter_row}
 use Rattle.c_cfg.specs.Links.{leave_row, exit_row}
-use Rattle.c_cfg.specs.Lowering.{edge, IsTestRow, IsRow, followed_by}
+use Rattle.c_cfg.specs.Lowering.{edge, IsWay, IsTestRow, IsRow, followed_by}
 use Rattle.c_cfg.proofs.Agree.Temporaries.{ext0}
-use Rattle.c_cfg.proofs.Agree.Passing.{settled_pass, onward_onward}
+use Rattle.c_cfg.proofs.Agree.Passing.{links_pass, settled_pass, done_pass, onward_onward}
 use Rattle.c_cfg.proofs.Agree.Tested.{Tests, ptr_tests, data_tests}
 use Rattle.c_cfg.proofs.Agree.ActTurns.{turn_pass, settle_pass, stop_of, kill_passes, act_passes, GoesTo, settle_to}
-use Rattle.c_cfg.proofs.Agree.ActTurns.{act_to}
+use Rattle.c_cfg.proofs.Agree.ActTurns.{act_to, done_turn, settled_to}
+use Rattle.c_cfg.proofs.Agree.CallRows.{enter_passes, leave_passes}
+use Rattle.c_cfg.proofs.Agree.ExitRows.{exit_passes}
 use Rattle.c_cfg.proofs.Agree.Ways.{stepless, AreOnes, graph_run, Meets, after_meets, along, row_alike, test_alike}
-use Rattle.c_cfg.proofs.Agree.LinksOnes.{ends_ones, ptr_ones, cmp_ones, act_row_takes}
-use Rattle.c_cfg.proofs.PlainLinks.{length_in}
+use Rattle.c_cfg.proofs.Agree.LinksOnes.{plain_ones, ends_ones, ptr_ones, cmp_ones, act_row_takes}
+use Rattle.c_cfg.proofs.Calls.Homes.{Homed}
+use Rattle.c_cfg.proofs.Calls.Idle.{FreeAt}
+use Rattle.c_cfg.proofs.PlainLinks.{length_in, enter_plain, leave_plain, exit_plain}
 use Rattle.c_cfg.proofs.Ranged.{Ranged}
-use Rattle.c_cfg.proofs.Landing.{Each, Front, whole, each_after, each_from}
+use Rattle.c_cfg.proofs.Landing.{Each, Front, whole, each_after, each_from, each_exit}
 
 module _ (nv nd : ℕ) where
   abbrev pub atom_size : Atom → ℕ
@@ -106,9 +112,10 @@ data_compared s l r equal x =
 
 module _ (p : Program) (mode : MallocMode) (edges : List Edge) (line : ℕ → ℕ) (at : Items → ℕ)
     (mids : Items → List ℕ) (most : ℕ) where
-  -- what is known of a place: its row, that its numbers are in range, and that it takes no more edges than these
+  -- what is known of a place: its row, that its numbers are in range, that its step keeps the parameters of functions
+  -- that are not active, and that it takes no more edges than these
   abbrev pub IsKnown : Items → Type 0
-  IsKnown c = IsRow (length p.vars) (length p.data_vars) edges mode line at mids c × Ranged p c
+  IsKnown c = IsRow (length p.vars) (length p.data_vars) edges mode line at mids c × (Ranged p c × Homed p c)
       × (size (length p.vars) (length p.data_vars) c ≤ most)
 
   pub each_followed : (a : Act) (is : Items) → Each IsKnown is Done → Each IsKnown (followed_by a is) Done
@@ -300,24 +307,39 @@ module _ (p : Program) (typed : is_typed p ≡ true) (mode : MallocMode) (Rel : 
             known_way (If (Ask (KnownAtom false) m) x y is) _ (y then is) h.0.0 refl no_each on
         atom_step (PtrAtom l r true) h on =
             compare_step (PtrAtom l r true) true _ _ _ _ (ptr_compared s l r true 0)
-            (ptr_tests p 0 s sound clear l r h.1.0) (ptr_ones (length p.vars) (length p.data_vars) l r)
+            (ptr_tests p 0 s sound clear l r h.1.0.0) (ptr_ones (length p.vars) (length p.data_vars) l r)
             (ends_ones _ _) _ _ h.0 on
         atom_step (PtrAtom l r false) h on =
             compare_step (PtrAtom l r false) false _ _ _ _ (ptr_compared s l r false 0)
-            (ptr_tests p 0 s sound clear l r h.1.0) (ptr_ones (length p.vars) (length p.data_vars) l r)
+            (ptr_tests p 0 s sound clear l r h.1.0.0) (ptr_ones (length p.vars) (length p.data_vars) l r)
             (ends_ones _ _) _ _ h.0 on
         atom_step (DataAtom l r true) h on =
             compare_step (DataAtom l r true) true _ _ _ _ (data_compared s l r true 0)
-            (data_tests p 0 s sound clear l r h.1.0) (cmp_ones (length p.vars) (length p.data_vars) l r)
+            (data_tests p 0 s sound clear l r h.1.0.0) (cmp_ones (length p.vars) (length p.data_vars) l r)
             (ends_ones _ _) _ _ h.0 on
         atom_step (DataAtom l r false) h on =
             compare_step (DataAtom l r false) false _ _ _ _ (data_compared s l r false 0)
-            (data_tests p 0 s sound clear l r h.1.0) (cmp_ones (length p.vars) (length p.data_vars) l r)
+            (data_tests p 0 s sound clear l r h.1.0.0) (cmp_ones (length p.vars) (length p.data_vars) l r)
             (ends_ones _ _) _ _ h.0 on
 
-    pub step_alike : (o : Items) → Front Place o → ItemsFit p o → Cont o → Goal o
-    step_alike Done h fits on = equal _ _ (sym (exit_ends exit (0 + n) q (ext0 s) cs u))
-    step_alike (Do a m is) h fits on =
+    -- a step of a call, or a `return` of one
+    call_alike : (r : Result Store Kind) (js : Items) (l : ℕ) (ls : List Link) (k : ℕ) (ms : List ℕ)
+        → IsWay edges l ls k ms (at (opened js)) → AreOnes ls
+        → ((x : ℕ) → links_pass p.shapes.structs x ls (ext0 s) ≡ done_pass r) → Each Place js Done
+        → ((x : ℕ) (ds : List ℕ) (v : ℕ) → Then (settled r js) ds v)
+        → Rel (out (settled r js) l cs u) (graph (length ls + n) q k (ext0 s) cs u)
+    call_alike r js l ls k ms w ones passes each on =
+        row_alike Rel equal p.shapes.structs edges false (λ x ds v. out (settled r js) l ds v) (step + 1) l ls k ms
+        (at (opened js)) w ones n q (ext0 s) cs u
+        (λ x ds v.
+        subst
+        (λ z. Meets Rel equal p.shapes.structs edges (out (settled r js) l ds v) l
+        (λ r t. graph n r (at (opened js)) t ds v) z) (sym (passes x ∙ done_turn Halted r js))
+        (turn_meets (settled r js) js l Halted ds v (settled_to r js) each (on x ds v) (halts l js ds v)))
+
+    pub step_alike : (o : Items) → Front Place o → ItemsFit p o → FreeAt p typed o s → Cont o → Goal o
+    step_alike Done h fits free on = equal _ _ (sym (exit_ends exit (0 + n) q (ext0 s) cs u))
+    step_alike (Do a m is) h fits free on =
         subst
         (λ k. Rel (supply (act_takes mode a) cs (step + 1) u
         (λ x ds v. out (act_turn p.shapes.structs mode a is s x) (line m) ds v))
@@ -336,7 +358,7 @@ module _ (p : Program) (typed : is_typed p ≡ true) (mode : MallocMode) (Rel : 
         (turn_meets (act_turn p.shapes.structs mode a is s x) (followed_by a is) (line m) (stop_of a s) ds v
         (act_to p.shapes.structs mode a is s x) (each_followed p mode edges line at mids most a is h.1.1) (on x ds v)
         (act_stops a is (line m) ds v))))
-    step_alike (Close ps ds m is) h fits on =
+    step_alike (Close ps ds m is) h fits free on =
         row_alike Rel equal p.shapes.structs edges false (λ x cs v. out (settle (kill ps ds s) is) (line m) cs v)
         (step + 1) (line m) (One (Kill ps ds) ∷ []) (at (Close ps ds m is)) h.0.0.way (at (opened is)) h.0.0.leads
         tt n q (ext0 s) cs u
@@ -346,16 +368,29 @@ module _ (p : Program) (typed : is_typed p ≡ true) (mode : MallocMode) (Rel : 
         (λ r t. graph n r (at (opened is)) t cs v) z) (sym (kill_passes p typed x s sound clear ps ds Halted is))
         (turn_meets (settle (kill ps ds s) is) is (line m) Halted cs v (settle_to (kill ps ds s) is) h.1.1 (on x cs v)
         (halts (line m) is cs v)))
-    step_alike (If (Ask a m) x y is) h fits on =
+    step_alike (If (Ask a m) x y is) h fits free on =
         atom_step m x y is (whole Place x is (rw (then_done is) at h.1.1) h.1.3)
         (whole Place y is (rw (then_done is) at h.1.2) h.1.3) a h.0 on
-    step_alike (If (Not c) x y is) h fits on = absurd h.0.0
-    step_alike (If (Both c d) x y is) h fits on = absurd h.0.0
-    step_alike (If (Either c d) x y is) h fits on = absurd h.0.0
-    step_alike (Loop c k b is) h fits on = absurd h.0.0
-    step_alike (Again c k b is) h fits on = absurd h.0.0
-    step_alike (DoLoop c b is) h fits on = absurd h.0.0
-    step_alike (DoAgain c b is) h fits on = absurd h.0.0
-    step_alike (Enter vs ws m is) h fits on = absurd h.0.1
-    step_alike (Leave v vs a m is) h fits on = absurd h.0.1
-    step_alike (Exit v vs d m is) h fits on = absurd h.0.1
+    step_alike (If (Not c) x y is) h fits free on = absurd h.0.0
+    step_alike (If (Both c d) x y is) h fits free on = absurd h.0.0
+    step_alike (If (Either c d) x y is) h fits free on = absurd h.0.0
+    step_alike (Loop c k b is) h fits free on = absurd h.0.0
+    step_alike (Again c k b is) h fits free on = absurd h.0.0
+    step_alike (DoLoop c b is) h fits free on = absurd h.0.0
+    step_alike (DoAgain c b is) h fits free on = absurd h.0.0
+    step_alike (Enter vs ws m is) h fits free on =
+        call_alike (enter s vs ws) is (line m) (enter_row (length p.vars) (length p.data_vars) vs ws)
+        (at (Enter vs ws m is)) h.0.0.way h.0.0.leads
+        (plain_ones _ (enter_plain (length p.vars) (length p.data_vars) vs ws))
+        (λ x. enter_passes p typed x s sound clear vs ws fits.0 free) h.1.1 on
+    step_alike (Leave v vs a m is) h fits free on =
+        call_alike (leave_of s v vs a) (from_exit is) (line m)
+        (leave_row (length p.vars) (length p.data_vars) v vs a)
+        (at (Leave v vs a m is)) h.0.0.way h.0.0.leads
+        (plain_ones _ (leave_plain (length p.vars) (length p.data_vars) v vs a))
+        (λ x. leave_passes p typed x s sound clear v vs a fits.0) (each_exit Place is h.1.1) on
+    step_alike (Exit v vs d m is) h fits free on =
+        call_alike (exit_of s v vs d) is (line m) (exit_row (length p.vars) (length p.data_vars) v vs d)
+        (at (Exit v vs d m is)) h.0.0.way h.0.0.leads
+        (plain_ones _ (exit_plain (length p.vars) (length p.data_vars) v vs d))
+        (λ x. exit_passes p typed x s sound clear v vs d fits.0) h.1.1 on

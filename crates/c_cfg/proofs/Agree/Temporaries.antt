@@ -70,19 +70,19 @@ set_anywhere [] (suc (suc n)) u = refl
 set_anywhere (x ∷ xs) zero u = refl
 set_anywhere (x ∷ xs) (suc n) u = ap (λ zs. x ∷ zs) (set_anywhere xs n u)
 
-each_anywhere : {A : Type 0} (xs : List A) (ns : List ℕ) (u : A) → set_each (xs ++ u ∷ u ∷ []) ns u ≡ set_each xs ns u
-    ++ u ∷ u ∷ []
+pub each_anywhere : {A : Type 0} (xs : List A) (ns : List ℕ) (u : A) → set_each (xs ++ u ∷ u ∷ []) ns u
+    ≡ set_each xs ns u ++ u ∷ u ∷ []
 each_anywhere xs [] u = refl
 each_anywhere xs (n ∷ ns) u = ap (λ zs. set_each zs ns u) (set_anywhere xs n u) ∙ each_anywhere (slice_set xs n u) ns u
 
-each_front : {A : Type 0} (m : ℕ) (xs ys : List A) (ns : List ℕ) (v : A) → length xs ≡ m → Every (λ n. n < m) ns
+pub each_front : {A : Type 0} (m : ℕ) (xs ys : List A) (ns : List ℕ) (v : A) → length xs ≡ m → Every (λ n. n < m) ns
     → set_each (xs ++ ys) ns v ≡ set_each xs ns v ++ ys
 each_front m xs ys [] v e less = refl
 each_front m xs ys (n ∷ ns) v e less =
     ap (λ zs. set_each zs ns v) (set_front xs ys n v (omega (arith, e, less.0)))
     ∙ each_front m (slice_set xs n v) ys ns v (length-set xs n v ∙ e) less.1
 
-each_append : {A : Type 0} (xs : List A) (ns ms : List ℕ) (v : A) → set_each xs (ns ++ ms) v
+pub each_append : {A : Type 0} (xs : List A) (ns ms : List ℕ) (v : A) → set_each xs (ns ++ ms) v
     ≡ set_each (set_each xs ns v) ms v
 each_append xs [] ms v = refl
 each_append xs (n ∷ ns) ms v = each_append (slice_set xs n v) ns ms v

@@ -4,7 +4,7 @@ use Rattle.c_cfg.proofs.RangedEdges.{edges_in_range}
 use Rattle.c_cfg.proofs.laws.edges_in_range.Goals as goal
 
 pub returns : goal.returns
-returns c none =
+returns c =
     edges_in_range c.args.program.now
-    (subst (λ (p : Program). is_typed p ≡ true) c.program.view_is c.program.invariant) none c.args.mode
+    (subst (λ (p : Program). is_typed p ≡ true) c.program.view_is c.program.invariant) c.args.mode
     c.args.graph.now

@@ -4,7 +4,7 @@ use Rattle.c_cfg.proofs.Agree.BetweenSteps.{unset_between_steps}
 use Rattle.c_cfg.proofs.laws.temporaries_are_unset_between_steps.Goals as goal
 
 pub returns : goal.returns
-returns c none =
+returns c =
     unset_between_steps c.args.program.now
-    (subst (λ (p : Program). is_typed p ≡ true) c.program.view_is c.program.invariant) none c.args.mode
+    (subst (λ (p : Program). is_typed p ≡ true) c.program.view_is c.program.invariant) c.args.mode
     c.args.graph.now
