@@ -1,8 +1,8 @@
 -- The theorem that a program and its control graph agree, from the stores upwards. The edges of a step, taken one after
--- the other, do what the step does
--- (up to `ActTurns` and `Tested`). A step at a place is the run along the place's edges (`Ways`, `StepsAlike`), for any
--- relation of outcomes that counts
--- no steps; used for two such relations it gives both directions and the bound (`Simulated`, `Agreed`).
+-- the other, do what the step does (up to `ActTurns` and `Tested`; of calls `CallRows` and `ExitRows`). A step at a
+-- place is the run along the place's edges (`Ways`, `StepsAlike`), for any relation of outcomes that counts no steps;
+-- used for two such relations it gives both directions and the bound (`Simulated`, `Agreed`). No run of the graph is
+-- stuck, and between steps the temporaries hold nothing (`Seeing`, `Unstuck`, `BetweenSteps`).
 pub mod ActTurns
 pub mod Agreed
 pub mod Arrows

@@ -1,6 +1,6 @@
 -- Each number of the edges of a call, and of a `return` of a function, is in range.
-use Rattle.std.proofs.Common.{◌≡◌, ◌<◌, ◌+◌, ℕ, Bool, true, nat_lt, Option, Some, None, List, [], ◌∷◌}
-use Rattle.std.proofs.Common.{◌++◌, length, inl, inr, refl, sym, subst}
+use Rattle.std.proofs.Common.{◌≡◌, ◌<◌, ◌+◌, ℕ, Bool, true, nat_lt, Option, Some, None, List, [], ◌∷◌, ◌++◌, length}
+use Rattle.std.proofs.Common.{inl, inr, refl, sym, subst}
 use Rattle.std.specs.List.{list_all, flat_map}
 use Rattle.std.proofs.lemmas.Bool.{and_parts, and_from, ltb-true, leb-true}
 use Rattle.fore_base.specs.declared.limits.TheConstants.{DATUM}
@@ -26,15 +26,14 @@ use Rattle.c_types.specs.Control.{ptr_vars, datum_vars, with_result}
 use Rattle.c_types.specs.Fits.{EnterFits, LeaveFits, ExitFits}
 use Rattle.c_types.proofs.ItemsTyped.{has_vars_known}
 use Rattle.c_cfg.specs.declared.graph.Instr.TheVariants.{LoadPtr, StorePtr}
-use Rattle.c_cfg.specs.Links.{Link, loads, used_before}
-use Rattle.c_cfg.specs.Links.{give_path, give_datum, give_links, given_used, give_each, one_used}
-use Rattle.c_cfg.specs.Links.{each_used, enter_row, die, leave_row, hand_ptr, hand_datum, hand_links, dest_used}
-use Rattle.c_cfg.specs.Links.{exit_row}
+use Rattle.c_cfg.specs.Links.{Link, loads, used_before, give_path, give_datum, give_links, given_used, give_each}
+use Rattle.c_cfg.specs.Links.{one_used, each_used, enter_row, die, leave_row, hand_ptr, hand_datum, hand_links}
+use Rattle.c_cfg.specs.Links.{dest_used, exit_row}
 use Rattle.c_cfg.specs.Ranges.{IsPtrField}
 use Rattle.c_cfg.proofs.Ranged.{insert_below}
-use Rattle.c_cfg.proofs.RangedLinks.{agreed, PathFits, path_fits, some_fits, data_fits, LinkFits}
-use Rattle.c_cfg.proofs.RangedLinks.{All, more, Ptr, Datum, own, own_datum, p0_in, p1_in, loads_fit, holder_fits}
-use Rattle.c_cfg.proofs.RangedLinks.{used_fits, ends_fit, last_fits, data_loads_fit, base_used_fits, wider}
+use Rattle.c_cfg.proofs.RangedLinks.{agreed, PathFits, path_fits, some_fits, data_fits, LinkFits, All, more, Ptr, Datum}
+use Rattle.c_cfg.proofs.RangedLinks.{own, own_datum, p0_in, p1_in, loads_fit, holder_fits, used_fits, ends_fit}
+use Rattle.c_cfg.proofs.RangedLinks.{last_fits, data_loads_fit, base_used_fits, wider}
 
 -- What is true of all items of lists one after the other is true of those of each.
 

@@ -1,6 +1,6 @@
 -- Each number of an edge of a lowered program is in range.
-use Rattle.std.proofs.Common.{◌≡◌, ◌<◌, ◌≤◌, ◌+◌, ℕ, Bool, true, false, List, [], ◌∷◌}
-use Rattle.std.proofs.Common.{length, refl, sym, subst, arith, Option, Some, None}
+use Rattle.std.proofs.Common.{◌≡◌, ◌<◌, ◌≤◌, ◌+◌, ℕ, Bool, true, false, List, [], ◌∷◌, length, refl, sym, subst, arith}
+use Rattle.std.proofs.Common.{Option, Some, None}
 use Rattle.std.proofs.lemmas.Bool.{and_parts, leb-true}
 use Rattle.fore_base.specs.declared.limits.TheConstants.{DATUM}
 use Rattle.fore_base.specs.declared.shape.Shape.{Shape}
@@ -15,8 +15,7 @@ use Rattle.c_types.specs.declared.program.DataOp.{DataOp}
 use Rattle.c_types.specs.declared.program.DataOp.TheVariants.{Path as DataOpPath, Known as DataOpKnown}
 use Rattle.c_types.specs.declared.program.Atom.TheVariants.{Choice as ChoiceAtom, Known as KnownAtom, Ptr as PtrAtom}
 use Rattle.c_types.specs.declared.program.Atom.TheVariants.{Data as DataAtom}
-use Rattle.c_types.specs.Program.{Program, path_target, ops_typed}
-use Rattle.c_types.specs.Program.{data_op_typed, is_typed}
+use Rattle.c_types.specs.Program.{Program, path_target, ops_typed, data_op_typed, is_typed}
 use Rattle.c_types.specs.Control.{Items, Done, Do, Close, If, Loop, Again, DoLoop, DoAgain, Enter, Leave, Exit, Ask}
 use Rattle.c_types.specs.Control.{Not, Both, Either}
 use Rattle.c_cfg.specs.declared.graph.Instr.{Instr}
@@ -25,10 +24,8 @@ use Rattle.c_cfg.specs.declared.graph.Instr.TheVariants.{CopyData, LoadData, Sto
 use Rattle.c_cfg.specs.declared.graph.Edge.{Edge}
 use Rattle.c_cfg.specs.Graphs.{ControlGraph, may_have}
 use Rattle.c_cfg.specs.GraphRuns.{out_of}
-use Rattle.c_cfg.specs.Links.{Link, One, Two}
-use Rattle.c_cfg.specs.Links.{op_loads, op_arg, op_used, data_op_loads, data_op_arg, op_base_used}
-use Rattle.c_cfg.specs.Links.{op_data_used}
-use Rattle.c_cfg.specs.Links.{act_row, failing_link, links_in}
+use Rattle.c_cfg.specs.Links.{Link, One, Two, op_loads, op_arg, op_used, data_op_loads, data_op_arg, op_base_used}
+use Rattle.c_cfg.specs.Links.{op_data_used, act_row, failing_link, links_in}
 use Rattle.c_cfg.specs.Places.{places}
 use Rattle.c_cfg.specs.Lowering.{edge, link_edges, LowerOf}
 use Rattle.c_cfg.specs.Ranges.{PtrArgFits, DataArgFits, EdgeFits, IsEdgeOf}

@@ -1,6 +1,6 @@
 -- Each number of the edges of an act is in range.
-use Rattle.std.proofs.Common.{◌≡◌, ◌<◌, ◌≤◌, ◌+◌, ℕ, zero, suc, true, true≢false, List, [], ◌∷◌}
-use Rattle.std.proofs.Common.{◌++◌, length, refl, sym, ap, arith, Option, Some, None, is_some}
+use Rattle.std.proofs.Common.{◌≡◌, ◌<◌, ◌≤◌, ◌+◌, ℕ, zero, suc, true, true≢false, List, [], ◌∷◌, ◌++◌, length, refl}
+use Rattle.std.proofs.Common.{sym, ap, arith, Option, Some, None, is_some}
 use Rattle.std.proofs.lemmas.Bool.{and_parts, ltb-true, leb-true, eqb-true}
 use Rattle.fore_base.specs.declared.limits.TheConstants.{DATUM}
 use Rattle.fore_base.specs.declared.shape.Shape.{Shape}
@@ -19,10 +19,9 @@ use Rattle.c_types.specs.declared.program.Act.{Act}
 use Rattle.c_types.specs.declared.program.Act.TheVariants.{SetPtr, SetData, Free as FreeAct, Error, Halt, Return, Break}
 use Rattle.c_types.specs.declared.program.Act.TheVariants.{Continue, Leave as LeaveAct}
 use Rattle.c_types.specs.declared.program.VarDef.{VarDef}
-use Rattle.c_types.specs.Program.{Program, path_target, data_typed, data_rhs_typed, returned_typed}
-use Rattle.c_types.specs.Program.{has_datum, is_target, both_targets, is_typed}
-use Rattle.c_types.specs.Control.{Items}
-use Rattle.c_types.specs.Control.{closed_ptrs, closed_datums}
+use Rattle.c_types.specs.Program.{Program, path_target, data_typed, data_rhs_typed, returned_typed, has_datum}
+use Rattle.c_types.specs.Program.{is_target, both_targets, is_typed}
+use Rattle.c_types.specs.Control.{Items, closed_ptrs, closed_datums}
 use Rattle.c_types.specs.Steps.{below}
 use Rattle.c_types.specs.Fits.{var_targets, ActFits}
 use Rattle.c_types.proofs.CellsFit.{IsAt}
@@ -32,8 +31,7 @@ use Rattle.c_cfg.specs.declared.graph.Instr.{Instr}
 use Rattle.c_cfg.specs.declared.graph.Instr.TheVariants.{Kill}
 use Rattle.c_cfg.specs.Graphs.{may_have}
 use Rattle.c_cfg.specs.Links.{Link, One, Two, loads, holder, used, loads_but_last, ends, data_loads, data_holder}
-use Rattle.c_cfg.specs.Links.{base_used, data_used}
-use Rattle.c_cfg.specs.Links.{var_row, path_row, ptr_row, data_var_row, data_field_row, data_row}
+use Rattle.c_cfg.specs.Links.{base_used, data_used, var_row, path_row, ptr_row, data_var_row, data_field_row, data_row}
 use Rattle.c_cfg.specs.Links.{return_row, act_row}
 use Rattle.c_cfg.specs.Ranges.{IsPtrField, IsDataField, InstrFits}
 use Rattle.c_cfg.proofs.Leaving.{below_in}

@@ -20,9 +20,8 @@ use Rattle.c_types.specs.Program.{Program, Spot, Outside, InNext, body_of, is_ho
 use Rattle.c_types.specs.Program.{args_typed, to_typed, returns_typed, call_typed, cond_typed_step, cond_typed}
 use Rattle.c_types.specs.Program.{each_typed, stmt_typed_step, stmt_typed, body_typed, bodies_typed, is_typed}
 use Rattle.c_types.specs.Bodies.{keeps_to_own}
-use Rattle.c_types.specs.Control.{Test, Both, Either, Items, Done, Exit, joined, test_step, test_of, all_before}
-use Rattle.c_types.specs.Control.{closes, act_items, leave_items, call_items, items_step, items_by, body_within}
-use Rattle.c_types.specs.Control.{start_of}
+use Rattle.c_types.specs.Control.{Test, Both, Either, Items, Done, Exit, joined, test_step, test_of, all_before, closes}
+use Rattle.c_types.specs.Control.{act_items, leave_items, call_items, items_step, items_by, body_within, start_of}
 use Rattle.c_types.proofs.ItemsTyped.{has_body_typed, has_bodies_typed}
 use Rattle.c_cfg.proofs.Calls.OpenCalls.{Closed}
 use Rattle.c_cfg.proofs.Calls.Standing.{IsStanding, standing_closed, all_stand, within_stands}

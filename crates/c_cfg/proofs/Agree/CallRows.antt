@@ -1,8 +1,7 @@
 -- The edges with which a call begins, and those of a `return` of a function, do what the step does.
 use Rattle.std.proofs.Common.{◌≡◌, ◌<◌, ◌⊎◌, inl, inr, ℕ, Bool, true, false, true≢false, if◌then◌else◌, Option, Some}
 use Rattle.std.proofs.Common.{None, Ok, List, [], ◌∷◌, ◌++◌, length, slice_index_or, append-nil, append_assoc, refl}
-use Rattle.std.proofs.Common.{sym}
-use Rattle.std.proofs.Common.{ap, ◌∙◌, subst}
+use Rattle.std.proofs.Common.{sym, ap, ◌∙◌, subst}
 use Rattle.std.proofs.lemmas.Bool.{and_parts}
 use Rattle.fore_base.specs.declared.fault.Fault.TheVariants.{Leak}
 use Rattle.fore_base.specs.declared.store.Value.{Value}

@@ -1,7 +1,6 @@
 -- The edges with which a call ends do what the step does.
 use Rattle.std.proofs.Common.{◌≡◌, ◌<◌, ◌+◌, ℕ, true, false, true≢false, nat_lt, Option, Some, None, Result, Ok, Err}
-use Rattle.std.proofs.Common.{List, [], ◌∷◌}
-use Rattle.std.proofs.Common.{◌++◌, length, length-set, refl, sym, ap, ◌∙◌, subst}
+use Rattle.std.proofs.Common.{List, [], ◌∷◌, ◌++◌, length, length-set, refl, sym, ap, ◌∙◌, subst}
 use Rattle.std.proofs.lemmas.Bool.{and_parts, ltb-true}
 use Rattle.fore_base.specs.declared.fault.Fault.{Fault}
 use Rattle.fore_base.specs.declared.store.Value.{Value}
@@ -31,8 +30,7 @@ use Rattle.c_cfg.specs.declared.graph.Instr.{Instr}
 use Rattle.c_cfg.specs.declared.graph.Instr.TheVariants.{CopyPtr, StorePtr, CopyData, StoreData}
 use Rattle.c_cfg.specs.Edges.{Pass, Passed, onto, raw_step, leak_tested}
 use Rattle.c_cfg.specs.Links.{Link, One, loads, holder, used, used_before, die, hand_ptr, hand_datum, hand_links}
-use Rattle.c_cfg.specs.Links.{dest_used}
-use Rattle.c_cfg.specs.Links.{exit_row}
+use Rattle.c_cfg.specs.Links.{dest_used, exit_row}
 use Rattle.c_cfg.proofs.RangedCalls.{Known, ptrs_known, func_known, result_known}
 use Rattle.c_cfg.proofs.Agree.Temporaries.{ext, ext0, Sized, var_ext, datum_ext, set_ext, set_datum_ext}
 use Rattle.c_cfg.proofs.Agree.TempLeaks.{hidden}
@@ -40,8 +38,7 @@ use Rattle.c_cfg.proofs.Agree.Passing.{then_pass, settled_pass, done_pass, onto_
 use Rattle.c_cfg.proofs.Agree.Arrows.{before_last, last_of, loads_are, write_before, LastLeads, last_leads}
 use Rattle.c_cfg.proofs.Agree.OneEdges.{store_raw, store_datum_raw}
 use Rattle.c_cfg.proofs.Agree.Reading.{path_less, sound_sized, Slot, second_slot, held, value_of, FieldTyped}
-use Rattle.c_cfg.proofs.Agree.Reading.{field_typed}
-use Rattle.c_cfg.proofs.Agree.Reading.{data_var_less, read_points, path_then, path_held}
+use Rattle.c_cfg.proofs.Agree.Reading.{field_typed, data_var_less, read_points, path_then, path_held}
 use Rattle.c_cfg.proofs.Agree.Dying.{IsCleared, both_cleared}
 use Rattle.c_cfg.proofs.Agree.PointerRows.{append_on, BothTarget, both_target}
 use Rattle.c_cfg.proofs.Agree.Given.{tested_onto, bare, pass}

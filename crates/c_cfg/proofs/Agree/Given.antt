@@ -1,7 +1,6 @@
 -- The edges that give a variable what an operand is do what the program does, p0 holding anything before.
 use Rattle.std.proofs.Common.{◌≡◌, ◌<◌, ℕ, true, false, true≢false, nat_lt, Option, Result, Ok, Err, List, [], ◌∷◌}
-use Rattle.std.proofs.Common.{◌++◌}
-use Rattle.std.proofs.Common.{length, refl, sym, ap, ◌∙◌}
+use Rattle.std.proofs.Common.{◌++◌, length, refl, sym, ap, ◌∙◌}
 use Rattle.std.proofs.lemmas.Bool.{and_parts, ltb-true}
 use Rattle.fore_base.specs.declared.fault.Fault.{Fault}
 use Rattle.fore_base.specs.declared.store.Value.{Value}

@@ -12,8 +12,7 @@ use Rattle.c_types.specs.declared.program.Act.{Act}
 use Rattle.c_types.specs.declared.program.Act.TheVariants.{SetPtr, SetData, Free, Error, Halt, Return, Break, Continue}
 use Rattle.c_types.specs.declared.program.Act.TheVariants.{Leave as LeaveAct}
 use Rattle.c_types.specs.Program.{Program, is_typed}
-use Rattle.c_types.specs.Control.{Items, Done}
-use Rattle.c_types.specs.Control.{opened}
+use Rattle.c_types.specs.Control.{Items, Done, opened}
 use Rattle.c_cfg.specs.declared.graph.Instr.{Instr}
 use Rattle.c_cfg.specs.declared.graph.Edge.{Edge}
 use Rattle.c_cfg.specs.Edges.{Pass, Passed, Faulted, Halted, NotPassed, onto, if_agreed, raw_step, leak_tested, gstep}
@@ -362,8 +361,8 @@ module _ (p : Program) (typed : is_typed p ≡ true) (mode : MallocMode) (edges 
       })))
 
   -- a comparison's row
-  pub test_row : (l : ℕ) (loads : List Link) (test : Bool → Instr) (ends : List Link) (k : ℕ) (ms : List ℕ) (same other : ℕ)
-      (t : Store) → IsTestRow edges l loads test ends k ms same other → AreOnes loads → AreOnes ends
+  pub test_row : (l : ℕ) (loads : List Link) (test : Bool → Instr) (ends : List Link) (k : ℕ) (ms : List ℕ)
+      (same other : ℕ) (t : Store) → IsTestRow edges l loads test ends k ms same other → AreOnes loads → AreOnes ends
       → (compared : Result Bool Kind) → Tests p 0 t loads test ends compared
       → Settled same (ext0 t) → Settled other (ext0 t) → Every IsMid ms → Steps k (ext0 t)
   test_row l loads test ends k ms same other t row loads_ones ends_ones' compared tests on_same on_other inside =

@@ -30,8 +30,7 @@ use Rattle.c_cfg.specs.Lowering.{IsWay, IsTestRow, IsRow}
 use Rattle.c_cfg.proofs.Ranged.{Ranged, opened_open}
 use Rattle.c_cfg.proofs.Calls.OpenCalls.{open_vars}
 use Rattle.c_cfg.proofs.Calls.Idle.{Idle, Kept, step_keeps_idle, FreeAt, idle_free}
-use Rattle.c_cfg.proofs.Filling.{Filled, filled_length, filled_in, act_filled, enter_filled, leave_filled}
-use Rattle.c_cfg.proofs.Filling.{exit_filled}
+use Rattle.c_cfg.proofs.Filling.{Filled, filled_length, filled_in, act_filled, enter_filled, leave_filled, exit_filled}
 use Rattle.c_cfg.proofs.Agree.Temporaries.{ext0}
 use Rattle.c_cfg.proofs.Agree.Ways.{stepless}
 use Rattle.c_cfg.proofs.Agree.StepsAlike.{IsKnown, size, exit_ends, step_alike}

@@ -23,8 +23,7 @@ use Rattle.c_types.specs.Control.{Items, Done, Do, Close, If, Loop, Again, DoLoo
 use Rattle.c_types.specs.Control.{Not, Both, Either, ◌then◌, opened, from_exit}
 use Rattle.c_types.specs.Steps.{Turn, Goes, Stops, Faults, read_op, read_data_op, same_values, same_datums, agrees}
 use Rattle.c_types.specs.Steps.{atom_of, act_takes, all_dead, enter, leave as leave_of, exit as exit_of, settle}
-use Rattle.c_types.specs.Steps.{settled}
-use Rattle.c_types.specs.Steps.{act_turn, test_turn, turn_of}
+use Rattle.c_types.specs.Steps.{settled, act_turn, test_turn, turn_of}
 use Rattle.c_types.specs.Runs.{supply, after_turn, at_end, advance}
 use Rattle.c_types.specs.Fits.{ItemsFit}
 use Rattle.c_types.proofs.Fitting.{Sound}

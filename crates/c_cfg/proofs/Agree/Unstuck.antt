@@ -1,6 +1,6 @@
 -- No run of a program's graph is stuck.
-use Rattle.std.proofs.Common.{◌≡◌, ◌⊎◌, inl, inr, ℕ, true, false, None, Result}
-use Rattle.std.proofs.Common.{List, [], ◌∷◌, length, refl, sym, ap, ◌∙◌, subst}
+use Rattle.std.proofs.Common.{◌≡◌, ◌⊎◌, inl, inr, ℕ, true, false, None, Result, Bool, List, [], ◌∷◌, length, refl, sym}
+use Rattle.std.proofs.Common.{ap, ◌∙◌, subst, Some}
 use Rattle.fore_base.specs.declared.fault.Fault.{Fault as Kind}
 use Rattle.fore_base.specs.declared.store.Value.TheVariants.{Uninit}
 use Rattle.fore_base.specs.declared.store.Datum.TheVariants.{Undefined}
@@ -24,39 +24,38 @@ use Rattle.c_types.specs.Fits.{ItemsFit}
 use Rattle.c_types.proofs.ItemsTyped.{then_fit, opened_fit}
 use Rattle.c_types.proofs.Turns.{then_done}
 use Rattle.c_types.proofs.CellsFit.{length_set_each}
+use Rattle.c_cfg.specs.declared.graph.Instr.{Instr}
 use Rattle.c_cfg.specs.declared.graph.Instr.TheVariants.{Kill, Choose}
 use Rattle.c_cfg.specs.declared.graph.Edge.{Edge}
 use Rattle.c_cfg.specs.Graphs.{ControlGraph}
-use Rattle.c_cfg.specs.Edges.{Pass, Passed, Halted, NotPassed, leak_tested, gstep}
+use Rattle.c_cfg.specs.Edges.{Pass, Passed, Halted, NotPassed, leak_tested, gstep, raw_step}
 use Rattle.c_cfg.specs.GraphRuns.{out_of}
 use Rattle.c_cfg.specs.Links.{Link, One, Two, links_in, act_row, enter_row, leave_row, exit_row}
-use Rattle.c_cfg.specs.Lowering.{IsWay, but_last, LowerOf, followed_by}
+use Rattle.c_cfg.specs.Lowering.{IsWay, but_last, LowerOf, followed_by, edge, IsTestRow}
 use Rattle.c_cfg.specs.Places.{places}
 use Rattle.c_cfg.specs.Temporaries.{TemporariesUnset}
 use Rattle.c_cfg.specs.Visits.{Visits, begin, by_edge, HasWay, IsNeverStuck}
 use Rattle.c_cfg.proofs.Landing.{Each, Front, each, whole, each_opened, each_exit}
-use Rattle.c_cfg.proofs.PlainLinks.{enter_plain, leave_plain, exit_plain}
-use Rattle.c_cfg.proofs.Ranged.{Ranged, then_ranged}
-use Rattle.c_cfg.proofs.Calls.OpenCalls.{open_vars, Closed}
-use Rattle.c_cfg.proofs.Calls.Idle.{Idle, Kept, idle_free}
 use Rattle.c_cfg.proofs.Filling.{Filled, filled_in, act_filled, enter_filled, leave_filled, exit_filled}
 use Rattle.c_cfg.proofs.Agree.Temporaries.{ext0, Sized, ext_unset}
 use Rattle.c_cfg.proofs.Agree.TempLeaks.{leaks_ext0}
 use Rattle.c_cfg.proofs.Agree.Passing.{links_pass, done_pass}
-use Rattle.c_cfg.proofs.Agree.CallRows.{enter_passes, leave_passes}
-use Rattle.c_cfg.proofs.Agree.ExitRows.{exit_passes}
-use Rattle.c_cfg.proofs.Agree.Tested.{ptr_tests, data_tests}
+use Rattle.c_cfg.proofs.Agree.Tested.{ptr_tests, data_tests, Tests}
 use Rattle.c_cfg.proofs.Agree.ActTurns.{turn_pass, done_turn, stop_of, kill_passes, act_passes, GoesTo, settle_to}
 use Rattle.c_cfg.proofs.Agree.ActTurns.{settled_to, act_to}
 use Rattle.c_cfg.proofs.Agree.Reading.{sound_sized}
-use Rattle.c_cfg.proofs.Agree.Ways.{AreOnes}
+use Rattle.c_cfg.proofs.Agree.Ways.{AreOnes, TakesAs}
 use Rattle.c_cfg.proofs.Agree.LinksOnes.{plain_ones, ends_ones, ptr_ones, cmp_ones, act_row_takes}
 use Rattle.c_cfg.proofs.Agree.StepsAlike.{IsKnown, each_followed}
 use Rattle.c_cfg.proofs.Agree.Simulated.{Ready, next_ready, front_of, idle_opened}
 use Rattle.c_cfg.proofs.Agree.Agreed.{first, rowed, ready, begins}
+use Rattle.c_cfg.proofs.PlainLinks.{enter_plain, leave_plain, exit_plain}
+use Rattle.c_cfg.proofs.Ranged.{Ranged, then_ranged}
+use Rattle.c_cfg.proofs.Calls.OpenCalls.{open_vars, Closed}
+use Rattle.c_cfg.proofs.Calls.Idle.{Idle, Kept, idle_free}
+use Rattle.c_cfg.proofs.Agree.CallRows.{enter_passes, leave_passes}
+use Rattle.c_cfg.proofs.Agree.ExitRows.{exit_passes}
 use Rattle.c_cfg.proofs.Agree.Seeing as seeing
-use Rattle.c_cfg.proofs.Agree.Seeing.{place_mids, among_followed, here_seen, no_edges, one_edge, two_choices, on_edges}
-use Rattle.c_cfg.proofs.Agree.Seeing.{test_steps, way_on, row_steps, test_row}
 
 dead_sized : (nv nd : ℕ) (s : Store) → Sized nv nd s → Sized nv nd (all_dead s)
 dead_sized nv nd s z = record {
@@ -94,14 +93,70 @@ module _ (p : Program) (typed : is_typed p ≡ true) (mode : MallocMode) (edges 
   abbrev Lands : (ℕ → Store → Type 0) → ℕ → Pass → Type 0
   Lands T to z = seeing.Lands p typed mode edges line at mids most exit all T to z
 
+  abbrev AtTest : ℕ → Store → Type 0
+  AtTest k s = seeing.AtTest p typed mode edges line at mids most exit all k s
+
   abbrev Reached : ℕ → Store → Type 0
   Reached k s = seeing.Reached p typed mode edges line at mids most exit all k s
 
   abbrev Seen : ℕ → Store → Type 0
   Seen k s = seeing.Seen p typed mode edges line at mids most exit all k s
 
+  abbrev StepsOn : List Edge → Store → Type 0
+  StepsOn es s = seeing.StepsOn p typed mode edges line at mids most exit all es s
+
   abbrev Steps : ℕ → Store → Type 0
   Steps k s = seeing.Steps p typed mode edges line at mids most exit all k s
+
+  -- the laws of `Seeing`, of this program and graph
+
+  place_mids : (c : Items) → Among c → (c ≡ Done → ⊥) → Every IsMid (mids c)
+  place_mids = seeing.place_mids p typed mode edges line at mids most exit all
+
+  among_followed : (a : Act) (is : Items) → Each Among is Done → Each Among (followed_by a is) Done
+  among_followed = seeing.among_followed p typed mode edges line at mids most exit all
+
+  here_seen : (k : ℕ) (s : Store) → Reached k s → Seen k s
+  here_seen = seeing.here_seen p typed mode edges line at mids most exit all
+
+  no_edges : (s : Store) → StepsOn [] s
+  no_edges = seeing.no_edges p typed mode edges line at mids most exit all
+
+  one_edge : (l k m : ℕ) (i : Instr) (s : Store) → (leak_tested (raw_step p.shapes.structs i 0 s) ≡ NotPassed → ⊥)
+      → ((t : Store) → leak_tested (raw_step p.shapes.structs i 0 s) ≡ Passed t → Seen m t)
+      → StepsOn (edge l k m i None ∷ []) s
+  one_edge = seeing.one_edge p typed mode edges line at mids most exit all
+
+  two_choices : (l k a b : ℕ) (i j : Instr) (s : Store)
+      → (leak_tested (raw_step p.shapes.structs i 0 s) ≡ NotPassed → ⊥)
+      → (leak_tested (raw_step p.shapes.structs j 1 s) ≡ NotPassed → ⊥)
+      → ((t : Store) → leak_tested (raw_step p.shapes.structs i 0 s) ≡ Passed t → Seen a t)
+      → ((t : Store) → leak_tested (raw_step p.shapes.structs j 1 s) ≡ Passed t → Seen b t)
+      → StepsOn (edge l k a i (Some 0) ∷ edge l k b j (Some 1) ∷ []) s
+  two_choices = seeing.two_choices p typed mode edges line at mids most exit all
+
+  on_edges : (k : ℕ) (es : List Edge) (s : Store) → out_of edges k ≡ es → StepsOn es s → Steps k s
+  on_edges = seeing.on_edges p typed mode edges line at mids most exit all
+
+  test_steps : (k : ℕ) (s : Store) → AtTest k s → Steps k s
+  test_steps = seeing.test_steps p typed mode edges line at mids most exit all
+
+  way_on : (T : ℕ → Store → Type 0) → ((k : ℕ) (s : Store) → T k s → Reached k s)
+      → (l : ℕ) (i : Instr) (ls : List Link) (k : ℕ) (ms : List ℕ) (to : ℕ) (s : Store)
+      → IsWay edges l (One i ∷ ls) k ms to → AreOnes ls → Lands T to (pass 0 (One i ∷ ls) s) → Every IsMid (but_last ms)
+      → Steps k s
+  way_on = seeing.way_on p typed mode edges line at mids most exit all
+
+  row_steps : (takes : Bool) (l : ℕ) (ls : List Link) (k : ℕ) (ms : List ℕ) (to : ℕ) (s : Store)
+      → IsWay edges l ls k ms to → TakesAs takes ls → Filled ls → ((x : ℕ) → Lands Settled to (pass x ls s))
+      → Every IsMid (but_last ms) → Steps k s
+  row_steps = seeing.row_steps p typed mode edges line at mids most exit all
+
+  test_row : (l : ℕ) (loads : List Link) (test : Bool → Instr) (ends : List Link) (k : ℕ) (ms : List ℕ) (same other : ℕ)
+      (t : Store) → IsTestRow edges l loads test ends k ms same other → AreOnes loads → AreOnes ends
+      → (compared : Result Bool Kind) → Tests p 0 t loads test ends compared
+      → Settled same (ext0 t) → Settled other (ext0 t) → Every IsMid ms → Steps k (ext0 t)
+  test_row = seeing.test_row p typed mode edges line at mids most exit all
 
   -- A place
 
@@ -168,7 +223,7 @@ module _ (p : Program) (typed : is_typed p ≡ true) (mode : MallocMode) (edges 
     taken js settled u got =
         let both : Passed (ext0 t) ≡ Passed u = sym ext_clear ∙ got in
         let same : ext0 t ≡ u = cc in
-        subst (Seen (at (opened js))) same (here_seen p typed mode edges line at mids most exit all (at (opened js)) (ext0 t) (inl settled))
+        subst (Seen (at (opened js))) same (here_seen (at (opened js)) (ext0 t) (inl settled))
 
     goes_somewhere : leak_tested (Passed (ext0 t)) ≡ NotPassed → ⊥
     goes_somewhere e = cc (ext_clear, e)
@@ -178,27 +233,27 @@ module _ (p : Program) (typed : is_typed p ≡ true) (mode : MallocMode) (edges 
       atom_steps : (a : Atom) → Place (If (Ask a m) x y is) → Every IsMid (mids (If (Ask a m) x y is))
           → Steps (at (If (Ask a m) x y is)) (ext0 t)
       atom_steps ChoiceAtom h inside =
-          on_edges p typed mode edges line at mids most exit all _ _ (ext0 t) h.0.0
-          (two_choices p typed mode edges line at mids most exit all (line m) _ (at (opened (y then is))) (at (opened (x then is))) (Choose None) (Choose None)
+          on_edges _ _ (ext0 t) h.0.0
+          (two_choices (line m) _ (at (opened (y then is))) (at (opened (x then is))) (Choose None) (Choose None)
           (ext0 t) goes_somewhere goes_somewhere (taken (y then is) no_on) (taken (x then is) yes_on))
       atom_steps (KnownAtom true) h inside =
-          on_edges p typed mode edges line at mids most exit all _ _ (ext0 t) h.0.0
-          (one_edge p typed mode edges line at mids most exit all (line m) _ (at (opened (x then is))) (Kill [] []) (ext0 t) goes_somewhere
+          on_edges _ _ (ext0 t) h.0.0
+          (one_edge (line m) _ (at (opened (x then is))) (Kill [] []) (ext0 t) goes_somewhere
           (taken (x then is) yes_on))
       atom_steps (KnownAtom false) h inside =
-          on_edges p typed mode edges line at mids most exit all _ _ (ext0 t) h.0.0
-          (one_edge p typed mode edges line at mids most exit all (line m) _ (at (opened (y then is))) (Kill [] []) (ext0 t) goes_somewhere (taken (y then is) no_on))
+          on_edges _ _ (ext0 t) h.0.0
+          (one_edge (line m) _ (at (opened (y then is))) (Kill [] []) (ext0 t) goes_somewhere (taken (y then is) no_on))
       atom_steps (PtrAtom l q true) h inside =
-          test_row p typed mode edges line at mids most exit all (line m) _ _ _ _ _ _ _ t h.0 (ptr_ones (length p.vars) (length p.data_vars) l q) (ends_ones _ _) _
+          test_row (line m) _ _ _ _ _ _ _ t h.0 (ptr_ones (length p.vars) (length p.data_vars) l q) (ends_ones _ _) _
           (ptr_tests p 0 t r.sound r.clear l q h.1.0.0) yes_on no_on inside
       atom_steps (PtrAtom l q false) h inside =
-          test_row p typed mode edges line at mids most exit all (line m) _ _ _ _ _ _ _ t h.0 (ptr_ones (length p.vars) (length p.data_vars) l q) (ends_ones _ _) _
+          test_row (line m) _ _ _ _ _ _ _ t h.0 (ptr_ones (length p.vars) (length p.data_vars) l q) (ends_ones _ _) _
           (ptr_tests p 0 t r.sound r.clear l q h.1.0.0) no_on yes_on inside
       atom_steps (DataAtom l q true) h inside =
-          test_row p typed mode edges line at mids most exit all (line m) _ _ _ _ _ _ _ t h.0 (cmp_ones (length p.vars) (length p.data_vars) l q) (ends_ones _ _) _
+          test_row (line m) _ _ _ _ _ _ _ t h.0 (cmp_ones (length p.vars) (length p.data_vars) l q) (ends_ones _ _) _
           (data_tests p 0 t r.sound r.clear l q h.1.0.0) yes_on no_on inside
       atom_steps (DataAtom l q false) h inside =
-          test_row p typed mode edges line at mids most exit all (line m) _ _ _ _ _ _ _ t h.0 (cmp_ones (length p.vars) (length p.data_vars) l q) (ends_ones _ _) _
+          test_row (line m) _ _ _ _ _ _ _ t h.0 (cmp_ones (length p.vars) (length p.data_vars) l q) (ends_ones _ _) _
           (data_tests p 0 t r.sound r.clear l q h.1.0.0) no_on yes_on inside
 
     -- a step of a call, or a `return` of one
@@ -208,7 +263,7 @@ module _ (p : Program) (typed : is_typed p ≡ true) (mode : MallocMode) (edges 
         → ((x : ℕ) → pass x ls (ext0 t) ≡ done_pass turned) → Each Place js Done → Each Among js Done
         → Every IsMid (but_last ms) → Steps k (ext0 t)
     call_steps turned o js l ls k ms e is w ones filled passes each among inside =
-        row_steps p typed mode edges line at mids most exit all false l ls k ms (at (opened js)) (ext0 t) w ones filled
+        row_steps false l ls k ms (at (opened js)) (ext0 t) w ones filled
         (λ x. subst (Lands Settled (at (opened js))) (sym (passes x ∙ done_turn Halted turned js))
         (turn_lands (settled turned js) x js Halted (ap (λ z. turn_of p.shapes.structs mode z t x) e ∙ is x)
         (settled_to turned js) each among tt)) inside
@@ -224,9 +279,9 @@ module _ (p : Program) (typed : is_typed p ≡ true) (mode : MallocMode) (edges 
         (idle_opened p typed mode edges line at mids most exit c t r)
 
     place_steps : (o : Items) → opened c ≡ o → Front Place o → Front Among o → ItemsFit p o → Steps (at o) (ext0 t)
-    place_steps Done e h among fits = on_edges p typed mode edges line at mids most exit all (at Done) [] (ext0 t) exit (no_edges p typed mode edges line at mids most exit all (ext0 t))
+    place_steps Done e h among fits = on_edges (at Done) [] (ext0 t) exit (no_edges (ext0 t))
     place_steps (Do a m is) e h among fits =
-        row_steps p typed mode edges line at mids most exit all (act_takes mode a) (line m) (links_in mode (act_row (length p.vars) (length p.data_vars) a is))
+        row_steps (act_takes mode a) (line m) (links_in mode (act_row (length p.vars) (length p.data_vars) a is))
         (at (Do a m is)) h.0.0.way
         (at (opened (followed_by a is))) (ext0 t) h.0.0.leads
         (act_row_takes (length p.vars) (length p.data_vars) mode a is)
@@ -236,15 +291,15 @@ module _ (p : Program) (typed : is_typed p ≡ true) (mode : MallocMode) (edges 
         (sym (act_passes p typed x t r.sound r.clear mode a is fits.0))
         (turn_lands (act_turn p.shapes.structs mode a is t x) x (followed_by a is) (stop_of a t)
         (ap (λ z. turn_of p.shapes.structs mode z t x) e) (act_to p.shapes.structs mode a is t x)
-        (each_followed p mode edges line at mids most a is h.1.1) (among_followed p typed mode edges line at mids most exit all a is among.1.1) (act_stops a is)))
-        (subst (λ ks. Every IsMid ks) h.0.0.middle (place_mids p typed mode edges line at mids most exit all (Do a m is) among.0 (λ e. cc e)))
+        (each_followed p mode edges line at mids most a is h.1.1) (among_followed a is among.1.1) (act_stops a is)))
+        (subst (λ ks. Every IsMid ks) h.0.0.middle (place_mids (Do a m is) among.0 (λ e. cc e)))
     place_steps (Close ps ds m is) e h among fits =
-        row_steps p typed mode edges line at mids most exit all false (line m) (One (Kill ps ds) ∷ []) (at (Close ps ds m is)) h.0.0.way (at (opened is)) (ext0 t)
+        row_steps false (line m) (One (Kill ps ds) ∷ []) (at (Close ps ds m is)) h.0.0.way (at (opened is)) (ext0 t)
         h.0.0.leads tt tt
         (λ x. subst (Lands Settled (at (opened is))) (sym (kill_passes p typed x t r.sound r.clear ps ds Halted is))
         (turn_lands (settle (kill ps ds t) is) x is Halted (ap (λ z. turn_of p.shapes.structs mode z t x) e)
         (settle_to (kill ps ds t) is) h.1.1 among.1.1 tt))
-        (subst (λ ks. Every IsMid ks) h.0.0.middle (place_mids p typed mode edges line at mids most exit all (Close ps ds m is) among.0 (λ e. cc e)))
+        (subst (λ ks. Every IsMid ks) h.0.0.middle (place_mids (Close ps ds m is) among.0 (λ e. cc e)))
     place_steps (If (Ask a m) x y is) e h among fits =
         atom_steps m x y is
         (on_side (x then is) (whole Place x is (rw (then_done is) at h.1.1) h.1.3)
@@ -253,7 +308,7 @@ module _ (p : Program) (typed : is_typed p ≡ true) (mode : MallocMode) (edges 
         (on_side (y then is) (whole Place y is (rw (then_done is) at h.1.2) h.1.3)
         (whole Among y is (rw (then_done is) at among.1.2) among.1.3) (then_fit p y is fits.1 fits.2)
         (side_kept y is h.0.1.0.2 h.0.1.0.3 h.0.1.0.5 (idle_at (If (Ask a m) x y is) e))) a h.0
-        (place_mids p typed mode edges line at mids most exit all (If (Ask a m) x y is) among.0 (λ e. cc e))
+        (place_mids (If (Ask a m) x y is) among.0 (λ e. cc e))
     place_steps (If (Not d) x y is) e h among fits = absurd h.0.0
     place_steps (If (Both d f) x y is) e h among fits = absurd h.0.0
     place_steps (If (Either d f) x y is) e h among fits = absurd h.0.0
@@ -269,7 +324,7 @@ module _ (p : Program) (typed : is_typed p ≡ true) (mode : MallocMode) (edges 
         (enter_filled (length p.vars) (length p.data_vars) vs ws)
         (λ x. enter_passes p typed x t r.sound r.clear vs ws fits.0
         (idle_free p typed (Enter vs ws m is) t h.0.1.0 h.0.1.1 (idle_at (Enter vs ws m is) e))) h.1.1 among.1.1
-        (subst (λ ks. Every IsMid ks) h.0.0.middle (place_mids p typed mode edges line at mids most exit all (Enter vs ws m is) among.0 (λ e. cc e)))
+        (subst (λ ks. Every IsMid ks) h.0.0.middle (place_mids (Enter vs ws m is) among.0 (λ e. cc e)))
     place_steps (Leave v vs a m is) e h among fits =
         call_steps (leave t v vs a) (Leave v vs a m is) (from_exit is) (line m)
         (leave_row (length p.vars) (length p.data_vars) v vs a)
@@ -278,7 +333,7 @@ module _ (p : Program) (typed : is_typed p ≡ true) (mode : MallocMode) (edges 
         (leave_filled (length p.vars) (length p.data_vars) v vs a)
         (λ x. leave_passes p typed x t r.sound r.clear v vs a fits.0) (each_exit Place is h.1.1)
         (each_exit Among is among.1.1)
-        (subst (λ ks. Every IsMid ks) h.0.0.middle (place_mids p typed mode edges line at mids most exit all (Leave v vs a m is) among.0 (λ e. cc e)))
+        (subst (λ ks. Every IsMid ks) h.0.0.middle (place_mids (Leave v vs a m is) among.0 (λ e. cc e)))
     place_steps (Exit v vs d m is) e h among fits =
         call_steps (exit_of t v vs d) (Exit v vs d m is) is (line m)
         (exit_row (length p.vars) (length p.data_vars) v vs d)
@@ -286,19 +341,19 @@ module _ (p : Program) (typed : is_typed p ≡ true) (mode : MallocMode) (edges 
         h.0.0.way e (λ x. refl) h.0.0.leads (plain_ones _ (exit_plain (length p.vars) (length p.data_vars) v vs d))
         (exit_filled (length p.vars) (length p.data_vars) v vs d)
         (λ x. exit_passes p typed x t r.sound r.clear v vs d fits.0) h.1.1 among.1.1
-        (subst (λ ks. Every IsMid ks) h.0.0.middle (place_mids p typed mode edges line at mids most exit all (Exit v vs d m is) among.0 (λ e. cc e)))
+        (subst (λ ks. Every IsMid ks) h.0.0.middle (place_mids (Exit v vs d m is) among.0 (λ e. cc e)))
 
   -- Wherever a run can be
 
   reached_steps : (k : ℕ) (s : Store) → Reached k s → Steps k s
-  reached_steps k s (inl (inl h)) = on_edges p typed mode edges line at mids most exit all k [] s (ap (out_of edges) h.is_at ∙ exit) (no_edges p typed mode edges line at mids most exit all s)
+  reached_steps k s (inl (inl h)) = on_edges k [] s (ap (out_of edges) h.is_at ∙ exit) (no_edges s)
   reached_steps k s (inl (inr h)) =
       let base : Steps (at (opened h.items)) (ext0 h.store) =
       place_steps h.items h.store h.is_ready (opened h.items) refl
       (front_of p typed mode edges line at mids most exit h.items h.store h.is_ready)
       (each_opened Among h.items (inl refl) h.among) (opened_fit p h.items h.is_ready.fits) in
       subst (λ j. Steps j s) (sym h.is_at) (subst (λ u. Steps (at (opened h.items)) u) (sym h.is_ext) base)
-  reached_steps k s (inr h) = test_steps p typed mode edges line at mids most exit all k s h.0
+  reached_steps k s (inr h) = test_steps k s h.0
 
   seen_steps : (k : ℕ) (s : Store) → Seen k s → Steps k s
   seen_steps k s w = here w.links w.way w.leads w.ones w.lands w.insides
@@ -309,7 +364,7 @@ module _ (p : Program) (typed : is_typed p ≡ true) (mode : MallocMode) (edges 
       here [] (m ∷ ms) e ones h inside = absurd e
       here (One i ∷ ls) [] e ones h inside = absurd e
       here (One i ∷ ls) (m ∷ ms) e ones h inside =
-          way_on p typed mode edges line at mids most exit all Reached (λ k s u. u) w.at_line i ls k (m ∷ ms) w.to s e ones h inside.1
+          way_on Reached (λ k s u. u) w.at_line i ls k (m ∷ ms) w.to s e ones h inside.1
       here (Two i j ∷ ls) ms e ones h inside = absurd ones
 
   -- in the middle of a step, or with temporaries that hold nothing

@@ -23,12 +23,11 @@ use Rattle.c_types.specs.declared.program.Stmt.TheOpen.{DoWhile as DoWhile-F, Fo
 use Rattle.c_types.specs.declared.program.Stmt.TheOpen.{Call as Call-F}
 use Rattle.c_types.specs.Bodies.{in_turn, act_names, arg_names, dest_names, maybe_names, cond_names, stmt_names_step}
 use Rattle.c_types.specs.Bodies.{stmt_names, body_names, calls_step, stmt_calls, body_calls, calls_of, keeps_to_own}
-use Rattle.c_types.specs.Program.{Program, Spot, Outside, InNext, body_of, is_in_body, all_below, act_typed}
-use Rattle.c_types.specs.Program.{cond_typed, each_typed, stmt_typed_step, stmt_typed, body_typed, bodies_typed}
-use Rattle.c_types.specs.Program.{is_typed}
-use Rattle.c_types.specs.Control.{Items, Done, Loop, Again, DoAgain, Exit, ◌then◌, round, do_round}
-use Rattle.c_types.specs.Control.{after_again, test_of, all_before, closes, act_items, leave_items, call_items}
-use Rattle.c_types.specs.Control.{items_step, items_by, body_within, start_of}
+use Rattle.c_types.specs.Program.{Program, Spot, Outside, InNext, body_of, is_in_body, all_below, act_typed, cond_typed}
+use Rattle.c_types.specs.Program.{each_typed, stmt_typed_step, stmt_typed, body_typed, bodies_typed, is_typed}
+use Rattle.c_types.specs.Control.{Items, Done, Loop, Again, DoAgain, Exit, ◌then◌, round, do_round, after_again}
+use Rattle.c_types.specs.Control.{test_of, all_before, closes, act_items, leave_items, call_items, items_step, items_by}
+use Rattle.c_types.specs.Control.{body_within, start_of}
 use Rattle.c_types.proofs.ItemsTyped.{has_body_typed, has_bodies_typed}
 use Rattle.c_cfg.proofs.Landing.{Each}
 use Rattle.c_cfg.proofs.Calls.OpenCalls.{open_vars, from_open}

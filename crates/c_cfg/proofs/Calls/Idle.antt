@@ -1,7 +1,6 @@
 -- The parameters of a function that is not active hold no cell: a run begins so, and each step keeps that.
 use Rattle.std.proofs.Common.{◌≡◌, inl, inr, ℕ, Bool, true, false, true≢false, Option, Some, None, Result, Ok, Err}
-use Rattle.std.proofs.Common.{List}
-use Rattle.std.proofs.Common.{◌++◌, refl, sym, ◌∙◌, subst}
+use Rattle.std.proofs.Common.{List, ◌++◌, refl, sym, ◌∙◌, subst}
 use Rattle.fore_base.specs.declared.fault.Fault.{Fault}
 use Rattle.fore_base.specs.declared.store.Store.{Store}
 use Rattle.fore_base.specs.Lists.{IsIn}
@@ -22,8 +21,8 @@ use Rattle.c_types.specs.Bodies.{is_among}
 use Rattle.c_types.specs.Control.{Items, Done, Do, Close, If, Loop, Again, DoLoop, DoAgain, Ask, Not, Both, Either}
 use Rattle.c_types.specs.Control.{Enter, Leave, Exit, ◌then◌, after_again, from_again, from_exit, closed_ptrs}
 use Rattle.c_types.specs.Control.{closed_datums}
-use Rattle.c_types.specs.Steps.{assign, assign_data, free_path, look_at, all_dead, enter, leave, exit, atom_of}
-use Rattle.c_types.specs.Steps.{settle, settled, finished, test_turn, act_turn, turn_of}
+use Rattle.c_types.specs.Steps.{assign, assign_data, free_path, look_at, all_dead, enter, leave, exit, atom_of, settle}
+use Rattle.c_types.specs.Steps.{settled, finished, test_turn, act_turn, turn_of}
 use Rattle.c_types.specs.Fits.{EnterFits, LeaveFits}
 use Rattle.c_types.proofs.Fitting.{Gives}
 use Rattle.c_types.proofs.StepLaws.{TurnGives}

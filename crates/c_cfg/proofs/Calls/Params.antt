@@ -1,7 +1,7 @@
 -- Parameters of a typed program's functions: each is one of one function alone, no result and no local variable is one,
 -- and `main` names none.
-use Rattle.std.proofs.Common.{◌≡◌, inl, inr, ℕ, zero, suc, Bool, true, false, true≢false, not, Some}
-use Rattle.std.proofs.Common.{List, [], ◌∷◌, ◌++◌, length, slice_get, refl, sym, ap, ◌∙◌, subst}
+use Rattle.std.proofs.Common.{◌≡◌, inl, inr, ℕ, zero, suc, Bool, true, false, true≢false, not, Some, List, [], ◌∷◌}
+use Rattle.std.proofs.Common.{◌++◌, length, slice_get, refl, sym, ap, ◌∙◌, subst}
 use Rattle.std.specs.List.{list_all, flat_map}
 use Rattle.std.proofs.lemmas.Bool.{and_parts, eqb-true, eq-eqb}
 use Rattle.fore_base.specs.Lists.{IsIn}
@@ -12,9 +12,8 @@ use Rattle.c_calls.proofs.FewCalls.{test_none}
 use Rattle.c_types.specs.declared.program.VarRef.{VarRef}
 use Rattle.c_types.specs.declared.program.VarRef.TheVariants.{Ptr as PtrVar, Data as DatumVar}
 use Rattle.c_types.specs.declared.program.Func.{Func}
-use Rattle.c_types.specs.Bodies.{same_var, is_among, all_among, all_different, maybe_names, result_var}
-use Rattle.c_types.specs.Bodies.{own_vars, func_vars, calls_of, body_names, body_declares, keeps_to_own}
-use Rattle.c_types.specs.Bodies.{keeps_to_main}
+use Rattle.c_types.specs.Bodies.{same_var, is_among, all_among, all_different, maybe_names, result_var, own_vars}
+use Rattle.c_types.specs.Bodies.{func_vars, calls_of, body_names, body_declares, keeps_to_own, keeps_to_main}
 use Rattle.c_types.specs.Program.{Program, bodies_typed, var_typed, is_typed}
 use Rattle.c_types.proofs.ItemsTyped.{has_funcs_typed, has_none_recurs}
 

@@ -1,8 +1,7 @@
 -- What steps do to a variable that holds no cell, and that they do not set: it still holds none.
 use Rattle.std.proofs.Common.{◌≡◌, inl, inr, ℕ, zero, suc, Bool, true, false, true≢false, nat_lt, if◌then◌else◌, Option}
 use Rattle.std.proofs.Common.{Some, None, Result, Ok, Err, List, [], ◌∷◌, map, replicate, slice_set, slice_index_or}
-use Rattle.std.proofs.Common.{refl}
-use Rattle.std.proofs.Common.{sym, ap, ◌∙◌, subst}
+use Rattle.std.proofs.Common.{refl, sym, ap, ◌∙◌, subst}
 use Rattle.fore_base.specs.declared.fault.Fault.{Fault}
 use Rattle.fore_base.specs.declared.shape.Shape.{Shape}
 use Rattle.fore_base.specs.declared.store.Value.{Value}
@@ -11,8 +10,7 @@ use Rattle.fore_base.specs.declared.store.Datum.{Datum}
 use Rattle.fore_base.specs.declared.store.Store.{Store}
 use Rattle.fore_base.specs.Lists.{IsIn}
 use Rattle.fore_base.specs.Stores.{onward, var_of, set_var, set_datum, set_each, kill, dangle, freed, grown}
-use Rattle.fore_base.specs.Stores.{store_datum}
-use Rattle.fore_base.specs.Stores.{write_from}
+use Rattle.fore_base.specs.Stores.{store_datum, write_from}
 use Rattle.c_types.specs.declared.mode.MallocMode.{MallocMode}
 use Rattle.c_types.specs.declared.program.Path.{Path}
 use Rattle.c_types.specs.declared.program.DataPath.{DataPath}
