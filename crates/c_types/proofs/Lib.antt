@@ -15,3 +15,4 @@ pub mod LeakGained
 pub mod HeldOn
 pub mod DeepCalls
 pub mod NoFunctions
+pub mod OwnExits
