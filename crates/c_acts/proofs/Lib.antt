@@ -1,2 +1,3 @@
+pub mod Dying
 pub mod PathLemmas
 mod Rows

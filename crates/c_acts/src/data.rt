@@ -53,7 +53,7 @@ pub fn read_data_rhs(heap: &Heap, from: &DataRhs, choice: u8) -> Result<Datum, F
     }
 }
 
-fn read_op(heap: &Heap, op: &PtrOp) -> Result<Value, Fault>
+pub fn read_op(heap: &Heap, op: &PtrOp) -> Result<Value, Fault>
     ensures { result ≡ read_op heap.now op.now }
 {
     match op {
@@ -62,7 +62,7 @@ fn read_op(heap: &Heap, op: &PtrOp) -> Result<Value, Fault>
     }
 }
 
-fn read_data_op(heap: &Heap, op: &DataOp) -> Result<Datum, Fault>
+pub fn read_data_op(heap: &Heap, op: &DataOp) -> Result<Datum, Fault>
     ensures { result ≡ read_data_op heap.now op.now }
 {
     match op {

@@ -5,6 +5,7 @@
 #![tactic(auto)]
 
 pub mod assigning;
+pub mod calling;
 pub mod choices;
 pub mod data;
 pub mod paths;
