@@ -75,6 +75,15 @@ module _ (T : Boxes) (g : ControlGraph) (k : ℕ) where
       }
   round_made nodes at dues (Err e) some upto are p = tt
 
+  -- it is made of each node once
+  pub round_few : {E : Type 0} (dues : List Due) (r : Result (List (List EdgeImage)) E) (jobs : ℕ)
+      → length dues ≤ jobs
+      → IfOk r (Paired (λ (d : Due) images. AreImages T g k d.location d.forest.forest images) dues)
+      → IfOk r (λ round. length round ≤ jobs)
+  round_few dues (Ok round) jobs few p =
+      rw (sym (paired_long (λ (d : Due) images. AreImages T g k d.location d.forest.forest images) dues round p)) few
+  round_few dues (Err e) jobs few p = tt
+
   -- nodes that were added later change nothing
   pub images_later : (nodes later : List Node) (j : ℕ) (images : List EdgeImage) → Grows nodes later
       → AreImagesOf T g k nodes j images → AreImagesOf T g k later j images

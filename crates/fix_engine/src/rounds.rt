@@ -51,7 +51,8 @@ pub fn round_of<R: Threads + Sync, G: Gate>(
     requires inside { at < length nodes.now }
     requires jobs { IsJobs crew.now.jobs }
     requires explored { Exploration task.now.table task.now.graph task.now.height nodes.now }
-    ensures { IfOk result (IsRound task.now.table task.now.graph task.now.height nodes.now at) }
+    ensures made { IfOk result (IsRound task.now.table task.now.graph task.now.height nodes.now at) }
+    ensures few { IfOk result (λ round. length round ≤ crew.now.jobs) }
 {
     task.known();
     let left = nodes.len() - at;
