@@ -11,17 +11,19 @@ use Rattle.fore_read.specs.Readings.{ShelfView, Reading, AreReadings, AreAtMost,
 use Rattle.fore_read.specs.declared.fault.ReadFault.{ReadFault as Fault}
 use Rattle.fore_read.specs.declared.fault.ReadFault.TheVariants as fault
 use Rattle.fore_read.specs.Files.{GivesProgram, IsFileFault, GivesTable, IsTableFile, AreBoxesFault, AreRefusedBoxes}
+use Rattle.fore_generated.specs.Generated.{IsGeneratedFault}
 use Rattle.fore_words.specs.declared.asked.Kind.{Kind}
 use Rattle.fore_words.specs.declared.asked.Settings.{Settings}
 use Rattle.fore_words.specs.declared.asked.Asked.{Asked}
 use Rattle.fore_words.specs.declared.asked.Asked.TheVariants.{Verify, Run, Gen}
 use Rattle.fore_words.specs.Words.{IsAsked}
-use Rattle.fore_call.specs.declared.answer.Answer.{Answer}
-use Rattle.fore_call.specs.declared.answer.Answer.TheVariants.{Verified, Ran, Usage, Refused, ReadFault, NoMemory}
+use Rattle.fore_answer.specs.Answers.{answer_to}
+use Rattle.fore_answer.specs.declared.answer.Answer.{Answer}
+use Rattle.fore_answer.specs.declared.answer.Answer.TheVariants.{Verified, Ran, Usage, Refused, ReadFault, NoMemory}
 use Rattle.fore_call.specs.Calls.{Request}
 use Rattle.fore_call.specs.Names.{LetsRead}
 use Rattle.fore_call.specs.Verdict.{IsRight, IsRightFor, ReadsOnly}
-use Rattle.fore_call.specs.inner.Judging.{IsBoxesAnswer, IsVerdict, IsGeneratedAnswer, ReadsFor, answer_to}
+use Rattle.fore_call.specs.inner.Judging.{IsBoxesAnswer, IsVerdict, IsGeneratedAnswer, ReadsFor}
 
 -- A file that is not taken
 
@@ -137,6 +139,13 @@ module _ (r : Reading) (boxes : List ℕ) (p : Program) (settings : Settings) wh
   no_table fault.Memory h = tt
 
 -- A generated program
+
+-- where there is none, its text or the boxes of its kind are refused
+pub not_generated : (kind : Kind) (phases : ℕ) (f : Fault) → IsGeneratedFault kind phases f
+    → IsGeneratedAnswer kind phases (answer_to f)
+not_generated kind phases (fault.Refused why) h = h
+not_generated kind phases fault.Failed h = absurd h
+not_generated kind phases fault.Memory h = tt
 
 -- what is answered of it is right, where nothing is read
 pub right_for_gen : (r : Reading) (kind : Kind) (phases : ℕ) → AreReadings r [] → (a : Answer)

@@ -1,4 +1,3 @@
-mod GeneratedLemmas
 mod Rows
 pub mod JudgeLemmas
 pub mod TopLemmas

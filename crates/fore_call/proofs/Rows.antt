@@ -26,7 +26,6 @@ use Rattle.std.proofs.Common.{
   true≢false,
   arith,
 }
-use Rattle.std.specs.Fmt.{digits}
 use Rattle.fore_base.specs.NamedFiles.{reading}
 use Rattle.fore_base.specs.declared.named_files.NamedFile.{NamedFile}
 use Rattle.fore_base.specs.declared.shape.Shapes.{Shapes}
@@ -35,7 +34,6 @@ use Rattle.c_types.specs.declared.mode.MallocMode.{MallocMode}
 use Rattle.c_types.specs.declared.mode.MallocMode.TheVariants.{Always}
 use Rattle.c_types.specs.Runs.{run}
 use Rattle.c_types.specs.declared.outcome.Outcome.TheVariants.{Ended, Fault, Starved, BadChoice, StillRunning}
-use Rattle.fore_base.specs.declared.fault.Fault.TheVariants.{NullDeref, Leak}
 use Rattle.c_cfg.specs.Graphs.{ControlGraph}
 use Rattle.c_cfg.specs.LoopFree.{has_no_loop}
 use Rattle.c_cfg.specs.Lowering.{LowerOf}
@@ -57,12 +55,13 @@ use Rattle.fore_words.specs.declared.asked.Kind.TheVariants.{ListPhases, DllPhas
 use Rattle.fore_words.specs.declared.asked.Asked.{Asked}
 use Rattle.fore_words.specs.declared.asked.Asked.TheVariants.{Verify, Run, Gen}
 use Rattle.fore_words.specs.Words.{IsAsked, AsksNothing}
-use Rattle.fore_call.specs.declared.answer.Answer.{Answer}
-use Rattle.fore_call.specs.declared.answer.Answer.TheVariants.{Verified, Ran, Usage, Refused, ReadFault, NoMemory}
-use Rattle.fore_call.specs.Calls.{Request, Writing, Call}
+use Rattle.fore_answer.specs.declared.answer.Answer.{Answer}
+use Rattle.fore_answer.specs.declared.answer.Answer.TheVariants.{Verified, Ran, Usage, Refused, ReadFault, NoMemory}
+use Rattle.fore_answer.specs.Writings.{Writing}
+use Rattle.fore_call.specs.Calls.{Request, Call}
 use Rattle.fore_call.specs.Names.{file_of, boxes_of, LetsRead, LetRead, Names}
-use Rattle.fore_call.specs.Texts.{out_text, notes_text, status_of}
-use Rattle.fore_call.specs.Delivery.{IsUntouched, Wrote, IsCut, IsCutShort}
+use Rattle.fore_answer.specs.Texts.{out_text, notes_text, status_of}
+use Rattle.fore_answer.specs.Delivery.{IsUntouched, Wrote, IsCut, IsCutShort}
 use Rattle.fore_call.specs.Promises.{IsResult, IsDecision, IsRefusal, FitsBudget, Answers}
 use Rattle.c_front.specs.declared.broken.Broken.{Broken}
 use Rattle.c_front.specs.Files.{IsProgramOf}
@@ -71,8 +70,6 @@ use Rattle.fore_gen.specs.Boxes.{dll_box_text}
 use Rattle.fa_text.specs.Files.{IsBoxFile, IsFirst}
 use Rattle.fa_text.specs.declared.fault.BoxFault.TheVariants.{Rule}
 use Rattle.fore_report.specs.Reports.{IsReport}
-use Rattle.fore_call.specs.Generated.{gen_settings, IsTableFor}
-use Rattle.fore_call.specs.Tables.{no_boxes}
 use Rattle.fore_call.specs.Verdict.{
   IsRefused,
   IsReadFault,
@@ -152,121 +149,10 @@ boxes_alone h = omega (arith, ap long h)
 three_read : LetsRead boxed (of_x (codes "int") ∷ of_box ∷ of_box ∷ []) → ⊥
 three_read h = h
 
--- Texts
-
-a_report : (out_text (Verified Safe (codes "SAFE")) ≡ codes "SAFE")
-a_report = refl
-
-on_end : out_text (Ran (Ended 14)) ≡ codes "ENDED" ++ 10 ∷ codes "step 14" ++ 10 ∷ []
-unfolding digits
-on_end = refl
-
-on_met_fault : out_text (Ran (Fault NullDeref 20 8)) ≡ codes "FAULT" ++ 10 ∷ codes "fault 1 null dereference"
-    ++ 10 ∷ codes "line 20" ++ 10 ∷ codes "step 8" ++ 10 ∷ []
-unfolding digits
-on_met_fault = refl
-
-on_usage : notes_text Usage
-    ≡ codes "forester verify FILE [--boxes FILE] [--height N] [--steps N] [--jobs N] [--malloc-null]"
-    ++ 10 ∷ codes "forester run FILE [--choices LIST] [--steps N] [--malloc-null]"
-    ++ 10 ∷ codes "forester gen KIND N" ++ 10 ∷ []
-on_usage = refl
-
-on_long : notes_text (Refused TooLong) ≡ codes "refused K1 file" ++ 10 ∷ []
-on_long = refl
-
-on_long_boxes : notes_text (Refused BoxesTooLong) ≡ codes "refused K1 boxes" ++ 10 ∷ []
-on_long_boxes = refl
-
-on_box_rule : notes_text (Refused (BoxRule 2 6)) ≡ codes "refused B2 line 6" ++ 10 ∷ []
-unfolding digits
-on_box_rule = refl
-
-on_box_limit : notes_text (Refused (BoxLimit 130)) ≡ codes "refused K6 line 130" ++ 10 ∷ []
-unfolding digits
-on_box_limit = refl
-
-abbrev at_place : Letter → ℕ → ℕ → ℕ → Answer
-at_place letter number line column =
-    Refused
-    (Breaks (record { letter = letter; number = number; at = record { offset = 0; line = line; column = column } }))
-
-on_rule : notes_text (at_place Typing 15 3 27) ≡ codes "refused T15 3:27" ++ 10 ∷ []
-unfolding digits
-on_rule = refl
-
-on_others : (notes_text (at_place Lexical 2 1 18) ≡ codes "refused L2 1:18" ++ 10 ∷ [])
-    × (notes_text (at_place Profile 10 1 23) ≡ codes "refused P10 1:23" ++ 10 ∷ [])
-unfolding digits
-on_others = (refl, refl)
-
-on_more : (notes_text (at_place Syntax 1 1 27) ≡ codes "refused S1 1:27" ++ 10 ∷ [])
-    × (notes_text (at_place Limit 8 200 1) ≡ codes "refused K8 200:1" ++ 10 ∷ [])
-unfolding digits
-on_more = (refl, refl)
-
-on_read_fault : notes_text ReadFault ≡ codes "read fault" ++ 10 ∷ []
-on_read_fault = refl
-
--- a report goes to standard output alone, and all else to standard error alone
-one_stream : (notes_text (Verified Safe (codes "SAFE")) ≡ []) × (notes_text (Ran StillRunning) ≡ [])
-    × (out_text Usage ≡ []) × (out_text (Refused TooLong) ≡ []) × (out_text ReadFault ≡ [])
-one_stream = (refl, refl, refl, refl, refl)
-
-no_stream : (out_text NoMemory ≡ []) × (notes_text NoMemory ≡ [])
-no_stream = (refl, refl)
-
-statuses : (status_of (Verified Safe []) ≡ 0) × (status_of (Verified Unsafe []) ≡ 1)
-    × (status_of (Verified Unknown []) ≡ 3) × (status_of Usage ≡ 2) × (status_of (Refused TooLong) ≡ 4)
-    × (status_of ReadFault ≡ 5) × (status_of NoMemory ≡ 7)
-statuses = (refl, refl, refl, refl, refl, refl, refl)
-
-run_statuses : (status_of (Ran (Ended 1)) ≡ 0) × (status_of (Ran (Fault Leak 5 2)) ≡ 1)
-    × (status_of (Ran (Starved 1)) ≡ 3) × (status_of (Ran (BadChoice 0)) ≡ 3) × (status_of (Ran StillRunning) ≡ 3)
-run_statuses = (refl, refl, refl, refl, refl)
-
--- Delivery
-
+-- a sink that tells these bytes and faults before, and those after
 abbrev sink : Option (List ℕ) → ℕ → Option (List ℕ) → ℕ → Writing
 sink old failed new fails =
     record { before = record { held = old; faults = failed }; after = record { held = new; faults = fails } }
-
-whole : Wrote (sink (Some (codes "a")) 0 (Some (codes "aSAFE")) 0) (codes "SAFE")
-whole = refl
-
-not_whole : Wrote (sink (Some []) 0 (Some (codes "SAF")) 0) (codes "SAFE") → ⊥
-not_whole h = cc h
-
-untouched : IsUntouched (sink (Some (codes "a")) 0 (Some (codes "a")) 1)
-untouched = refl
-
-a_cut : IsCut (sink (Some []) 0 (Some (codes "SA")) 1) (codes "SAFE")
-a_cut = record { rose = inl (omega arith); grew = record { count = 2; within = omega arith; grew = refl } }
-
-cut_at_once : IsCut (sink (Some []) 0 (Some []) 1) (codes "SAFE")
-cut_at_once = record { rose = inl (omega arith); grew = record { count = 0; within = omega arith; grew = refl } }
-
-not_taken : (n : ℕ) → n < 4 → Some (codes "SAFE") ≡ Some ([] ++ take n (codes "SAFE")) → ⊥
-not_taken zero less e = cc e
-not_taken (suc zero) less e = cc e
-not_taken (suc (suc zero)) less e = cc e
-not_taken (suc (suc (suc zero))) less e = cc e
-not_taken (suc (suc (suc (suc n)))) less e = omega (arith, less)
-
--- a text that is whole is not cut, nor is one of which nothing was due; without a fault no text is cut
-all_is_no_cut : IsCut (sink (Some []) 0 (Some (codes "SAFE")) 1) (codes "SAFE") → ⊥
-all_is_no_cut h = not_taken h.grew.count h.grew.within h.grew.grew
-
-nothing_due : IsCut (sink (Some []) 0 (Some []) 1) [] → ⊥
-nothing_due h = omega (arith, h.grew.within)
-
-no_fault : IsCut (sink (Some []) 0 (Some []) 0) (codes "SAFE") → ⊥
-no_fault h = omega (arith, h.rose)
-
--- the sink to which nothing is due is not to blame
-usage_to_output : IsCutShort (sink (Some []) 0 (Some []) 1) (sink (Some []) 0 (Some []) 0) Usage → ⊥
-usage_to_output (inl cut) = omega (arith, cut.0.grew.within)
-usage_to_output (inr cut) = omega (arith, cut.0.rose)
 
 -- Verdicts
 
@@ -287,10 +173,6 @@ from old new = record { before = old; after = new }
 -- nothing was read
 abbrev idle : Reading
 idle = from (gave []) (gave [])
-
--- the table without boxes has the structs of the program
-table_of_none : (shapes : Shapes) → ((no_boxes shapes).face.shapes ≡ shapes) × ((no_boxes shapes).defs ≡ [])
-table_of_none shapes = (refl, refl)
 
 -- a verdict answers no run, the outcome of a run no wish for a verdict, and neither a file of boxes or a wish for a
 -- generated program
@@ -321,16 +203,6 @@ module _ (p : Program) (r : Reading) where
   ran_in_the_mode : (mode : MallocMode) → GivesProgram r (codes "x.c") [] p
       → IsRightFor r (Run (codes "x.c") (1 ∷ []) 9 mode) (Ran (run p mode (1 ∷ []) 9))
   ran_in_the_mode mode gives = (p, gives, refl)
-
--- a generated program is verified with height 1 and at most 100,000 abstract states, and each `malloc` gives a cell
-generated_settings : gen_settings ≡ record { height = 1; budget = 100000; jobs = 1; malloc = Always }
-generated_settings = refl
-
--- lists and trees without boxes, lists that are linked both ways by their box
-tables_of_kinds : (shapes : Shapes) (t : Boxes) → IsTableFor ListPhases shapes (no_boxes shapes)
-    × IsTableFor TreePhases shapes (no_boxes shapes)
-    × (IsBoxFile dll_box_text shapes t → IsTableFor DllPhases shapes t)
-tables_of_kinds shapes t = (refl, refl, λ is. is)
 
 -- what the shelf holds, or gave in the second reading, are the bytes of the file of boxes; not those of the first
 box_bytes_told : HasBoxBytes (from (tells (codes "b") []) (tells (codes "b") [])) (codes "x.box") (codes "b")

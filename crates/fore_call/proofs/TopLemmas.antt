@@ -59,15 +59,16 @@ use Rattle.fore_words.specs.declared.asked.Asked.{Asked}
 use Rattle.fore_words.specs.declared.asked.Asked.TheVariants.{Verify, Run, Gen}
 use Rattle.fore_words.specs.Words.{IsAsked, AsksNothing}
 use Rattle.fore_words.proofs.OneThing.{one_thing}
-use Rattle.fore_call.specs.declared.answer.Answer.{Answer}
-use Rattle.fore_call.specs.declared.answer.Answer.TheVariants.{Verified, Ran, Usage, Refused, ReadFault, NoMemory}
-use Rattle.fore_call.specs.Calls.{Request, Writing, Call}
-use Rattle.fore_call.specs.Delivery.{IsCutShort, Told, WroteNothing}
+use Rattle.fore_answer.specs.declared.answer.Answer.{Answer}
+use Rattle.fore_answer.specs.declared.answer.Answer.TheVariants.{Verified, Ran, Usage, Refused, ReadFault, NoMemory}
+use Rattle.fore_answer.specs.Writings.{Writing}
+use Rattle.fore_call.specs.Calls.{Request, Call}
+use Rattle.fore_answer.specs.Delivery.{IsCutShort, Told, WroteNothing}
 use Rattle.fore_call.specs.Names.{Verifies, Runs, Generates, file_of, boxes_of}
 use Rattle.fore_call.specs.Promises.{IsResult, IsDecision, IsRefusal, FitsBudget, Answers, Reported, SummedUp}
 use Rattle.fore_call.specs.Promises.{Promises}
-use Rattle.fore_call.specs.Tables.{no_boxes}
-use Rattle.fore_call.specs.Texts.{out_text, notes_text, run_status, verdict_status, status_of}
+use Rattle.fore_read.specs.Tables.{no_boxes}
+use Rattle.fore_answer.specs.Texts.{out_text, notes_text, run_status, verdict_status, status_of}
 use Rattle.fore_call.specs.Verdict.{
   IsVerified,
   IsRun,

@@ -1,40 +1,13 @@
 -- What is answered of a generated program.
-use Rattle.std.specs.Prelude.{◌≡◌, ◌<◌, ℕ, List, length}
-use Rattle.fore_base.specs.declared.limits.TheConstants.{FILE_BYTES}
-use Rattle.fore_base.specs.declared.shape.Shapes.{Shapes}
+use Rattle.std.specs.Prelude.{ℕ, List}
 use Rattle.c_types.specs.Program.{Program}
-use Rattle.c_types.specs.declared.mode.MallocMode.TheVariants.{Always}
-use Rattle.c_front.specs.Files.{IsProgramOf, BreaksFirst}
+use Rattle.c_front.specs.Files.{IsProgramOf}
 use Rattle.fa_core.specs.Boxes.{Boxes}
-use Rattle.fa_text.specs.Files.{IsBoxFile, IsFirst}
-use Rattle.fa_text.specs.declared.fault.BoxFault.TheVariants.{Rule, Limit}
-use Rattle.fore_gen.specs.Boxes.{dll_box_text}
 use Rattle.fore_gen.specs.Programs.{program_text, count_lines}
-use Rattle.fore_read.specs.declared.fault.Refusal.{Refusal}
-use Rattle.fore_read.specs.declared.fault.Refusal.TheVariants.{
-  TooLong,
-  Breaks,
-  BoxesTooLong,
-  BoxRule,
-  BoxLimit,
-}
+use Rattle.fore_generated.specs.Generated.{gen_settings, IsTableFor}
 use Rattle.fore_report.specs.Summaries.{IsSummary}
 use Rattle.fore_report.specs.declared.verdict.Verdict.{Verdict}
 use Rattle.fore_words.specs.declared.asked.Kind.{Kind}
-use Rattle.fore_words.specs.declared.asked.Kind.TheVariants.{ListPhases, DllPhases, TreePhases}
-use Rattle.fore_words.specs.declared.asked.Settings.{Settings}
-use Rattle.fore_words.specs.declared.asked.TheConstants.{HEIGHT, MOST_BUDGET, JOBS}
-use Rattle.fore_call.specs.Tables.{no_boxes}
-
--- how a generated program is verified
-abbrev pub gen_settings : Settings
-gen_settings = record { height = HEIGHT; budget = MOST_BUDGET; jobs = JOBS; malloc = Always }
-
--- the table of boxes by which the programs of a kind are verified, over their structs
-abbrev pub IsTableFor : Kind → Shapes → Boxes → Type 0
-IsTableFor ListPhases shapes t = t ≡ no_boxes shapes
-IsTableFor DllPhases shapes t = IsBoxFile dll_box_text shapes t
-IsTableFor TreePhases shapes t = t ≡ no_boxes shapes
 
 -- The generated text is that of a program, which is verified by the table of its kind, and this is the report on it.
 pub record IsGenerated (kind : Kind) (phases : ℕ) (verdict : Verdict) (text : List ℕ) : Type 0 where
@@ -43,24 +16,3 @@ pub record IsGenerated (kind : Kind) (phases : ℕ) (verdict : Verdict) (text : 
   pub is : IsProgramOf (program_text kind phases) program
   pub by : IsTableFor kind program.shapes table
   pub sums_up : IsSummary table program gen_settings kind phases (count_lines (program_text kind phases)) text verdict
-
--- the boxes of the kind are refused over the structs of a program
-abbrev pub RefusesBoxesOf : Kind → Shapes → Refusal → Type 0
-RefusesBoxesOf ListPhases shapes why = ⊥
-RefusesBoxesOf DllPhases shapes (BoxRule rule line) = IsFirst dll_box_text shapes (Rule rule line)
-RefusesBoxesOf DllPhases shapes (BoxLimit line) = IsFirst dll_box_text shapes (Limit line)
-RefusesBoxesOf DllPhases shapes _ = ⊥
-RefusesBoxesOf TreePhases shapes why = ⊥
-
--- the generated text is that of a program over whose structs the boxes of its kind are refused
-abbrev pub RefusesItsBoxes : Kind → ℕ → Refusal → Type 0
-RefusesItsBoxes kind phases why =
-    (p : Program) × IsProgramOf (program_text kind phases) p × RefusesBoxesOf kind p.shapes why
-
--- the generated text is refused as that of a C file, or the boxes of its kind as a file of boxes
-abbrev pub RefusesGenerated : Kind → ℕ → Refusal → Type 0
-RefusesGenerated kind phases TooLong = FILE_BYTES < length (program_text kind phases)
-RefusesGenerated kind phases (Breaks b) = BreaksFirst (program_text kind phases) b
-RefusesGenerated kind phases BoxesTooLong = ⊥
-RefusesGenerated kind phases (BoxRule rule line) = RefusesItsBoxes kind phases (BoxRule rule line)
-RefusesGenerated kind phases (BoxLimit line) = RefusesItsBoxes kind phases (BoxLimit line)

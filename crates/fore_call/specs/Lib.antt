@@ -1,9 +1,6 @@
 pub mod Calls
-pub mod Delivery
 pub mod Generated
 pub mod Names
 pub mod Promises
-pub mod Tables
-pub mod Texts
 pub mod Verdict
 pub mod inner

@@ -16,9 +16,9 @@ use Rattle.fore_report.specs.declared.verdict.Verdict.TheVariants.{Safe, Unsafe,
 use Rattle.fore_words.specs.declared.asked.Settings.{Settings}
 use Rattle.fore_words.specs.declared.asked.Asked.TheVariants.{Verify, Run}
 use Rattle.fore_words.specs.Words.{AsksNothing}
-use Rattle.fore_call.specs.declared.answer.Answer.{Answer}
-use Rattle.fore_call.specs.declared.answer.Answer.TheVariants.{Verified, Ran, Usage, Refused, ReadFault}
-use Rattle.fore_call.specs.declared.status.TheConstants.{
+use Rattle.fore_answer.specs.declared.answer.Answer.{Answer}
+use Rattle.fore_answer.specs.declared.answer.Answer.TheVariants.{Verified, Ran, Usage, Refused, ReadFault}
+use Rattle.fore_answer.specs.declared.status.TheConstants.{
   NO_FAULT,
   FAULT,
   USAGE,
@@ -29,9 +29,9 @@ use Rattle.fore_call.specs.declared.status.TheConstants.{
   NO_MEMORY,
 }
 use Rattle.fore_call.specs.Calls.{Call}
-use Rattle.fore_call.specs.Delivery.{IsCutShort, Told, WroteNothing}
+use Rattle.fore_answer.specs.Delivery.{IsCutShort, Told, WroteNothing}
 use Rattle.fore_call.specs.Names.{Verifies, Runs, Generates}
-use Rattle.fore_call.specs.Texts.{run_status, status_of}
+use Rattle.fore_answer.specs.Texts.{run_status, status_of}
 use Rattle.fore_call.specs.Verdict.{
   IsRight,
   NothingFailed,

@@ -23,12 +23,13 @@ use Rattle.fore_words.specs.declared.asked.Settings.{Settings}
 use Rattle.fore_words.specs.declared.asked.Asked.{Asked}
 use Rattle.fore_words.specs.declared.asked.Asked.TheVariants.{Verify, Run, Gen}
 use Rattle.fore_words.specs.Words.{IsAsked, AsksToVerify, AsksToGen, AsksNothing}
-use Rattle.fore_call.specs.declared.answer.Answer.{Answer}
-use Rattle.fore_call.specs.declared.answer.Answer.TheVariants.{Verified, Ran, Usage, Refused, ReadFault, NoMemory}
+use Rattle.fore_answer.specs.declared.answer.Answer.{Answer}
+use Rattle.fore_answer.specs.declared.answer.Answer.TheVariants.{Verified, Ran, Usage, Refused, ReadFault, NoMemory}
 use Rattle.fore_call.specs.Calls.{Request, Call}
-use Rattle.fore_call.specs.Generated.{IsGenerated, RefusesGenerated}
+use Rattle.fore_generated.specs.Generated.{RefusesGenerated}
+use Rattle.fore_call.specs.Generated.{IsGenerated}
 use Rattle.fore_call.specs.Names.{file_of, Names, LetRead}
-use Rattle.fore_call.specs.Tables.{no_boxes}
+use Rattle.fore_read.specs.Tables.{no_boxes}
 
 -- By what the shelf told before and after the call.
 module _ (r : Reading) where

@@ -2,7 +2,6 @@
 ghost use Rattle.std.specs.Prelude.{◌≡◌, [], IfOk};
 ghost use Rattle.c_cfg.specs.Lowering.{LowerOf};
 ghost use Rattle.fix_core.specs.Explorations.{IsExplored};
-ghost use Rattle.fore_call.specs.Tables.{no_boxes};
 ghost use Rattle.fore_call.specs.inner.Judging.{SettingsFit};
 
 use c_cfg::graph::Graph;
@@ -12,7 +11,6 @@ use c_types::program::Typed;
 use fa_core::table::BoxTable;
 use fix_engine::{Explored, explore};
 use fore_base::memory::Mem;
-use fore_base::shape::Shapes;
 use fore_words::Settings;
 use par_kit::crew::Crew;
 use par_kit::gate::Gate;
@@ -50,12 +48,4 @@ pub fn explored<R: Threads + Sync, G: Gate>(
         &crew,
     )?;
     Ok((graph, found))
-}
-
-/// The table without boxes over the structs of a program. Err is want of memory.
-pub fn empty_table(alloc: Global, shapes: &Shapes) -> Mem<BoxTable>
-    ensures { IfOk result (λ table. table ≡ no_boxes shapes.now) }
-{
-    let table = BoxTable::empty(alloc, shapes)?;
-    Ok(table)
 }

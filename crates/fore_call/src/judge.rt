@@ -4,7 +4,7 @@ ghost use Rattle.fore_read.specs.Readings.{reading_of, ReadsAtMost};
 ghost use Rattle.fore_words.specs.Words.{IsInRange};
 ghost use Rattle.fore_words.specs.declared.asked.Asked.TheVariants as ask;
 ghost use Rattle.fore_call.specs.Calls.{request_of};
-ghost use Rattle.fore_call.specs.Tables.{no_boxes};
+ghost use Rattle.fore_read.specs.Tables.{no_boxes};
 ghost use Rattle.fore_call.specs.Verdict.{IsRight, IsRightFor, ReadsOnly};
 ghost use Rattle.fore_call.specs.inner.Judging.{
   SettingsFit,
@@ -14,16 +14,16 @@ ghost use Rattle.fore_call.specs.inner.Judging.{
   ReadsFor,
 };
 
-use crate::answer::{Answer, answer_to};
-use crate::exploring::{empty_table, explored};
-use crate::generated::generated;
+use crate::exploring::explored;
+use crate::summing::generated;
 use c_machine::run::run;
 use c_types::mode::MallocMode;
 use c_types::program::Typed;
 use fa_core::table::BoxTable;
+use fore_answer::answer::{Answer, answer_to};
 use fore_base::memory::Mem;
 use fore_base::shelf::Shelf;
-use fore_read::{read_program, read_table};
+use fore_read::{empty_table, read_program, read_table};
 use fore_report::report;
 use fore_words::{Asked, Settings, WordsFault, read_words};
 use par_kit::gate::Gate;

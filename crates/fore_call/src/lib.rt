@@ -2,17 +2,13 @@
 //! and the status.
 //!
 //! `forester` does it over any shelf and any two sinks, and its contract is what is proved of the program. It works out
-//! the answer to the words (`judge`, with `exploring`, and `generated` for programs that `fore_gen` makes), by what
-//! `fore_words`, `fore_read` and `fore_report` give, and delivers it (`deliver`, with `texts`).
+//! the answer to the words (`judge`, with `exploring`, and `summing` for the programs of `fore_generated`), by what
+//! `fore_words`, `fore_read` and `fore_report` give, and lets `fore_answer` deliver it.
 #![tactic(auto)]
 
-pub mod answer;
-mod deliver;
 mod exploring;
-mod generated;
 mod judge;
-pub mod status;
-mod texts;
+mod summing;
 pub mod top;
 
 pub use top::forester;

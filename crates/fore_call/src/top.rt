@@ -1,10 +1,11 @@
 //! The top call: it does all that the program does.
-ghost use Rattle.fore_call.specs.Calls.{request_of, writing_of};
+ghost use Rattle.fore_answer.specs.Writings.{writing_of};
+ghost use Rattle.fore_call.specs.Calls.{request_of};
 ghost use Rattle.fore_call.specs.Promises.{Promises};
 
-use crate::deliver::deliver;
 use crate::judge::answer;
 use fa_text::laws::tables_break_none;
+use fore_answer::deliver::deliver;
 use fore_base::shelf::Shelf;
 use fore_base::sink::Sink;
 use par_kit::gate::Gate;
@@ -15,7 +16,7 @@ use std::thread::Threads;
 /// `run FILE [--choices LIST] [--steps N] [--malloc-null]` or `gen KIND N`. Gives the status with which the program
 /// ends. With `--malloc-null` each `malloc` of the program may give the null pointer, by a choice.
 ///
-/// The statuses stand in `status`. `NO_FAULT`: no choices and no number of steps lead the program of the file to a
+/// The statuses stand in `status` of `fore_answer`. `NO_FAULT`: no choices and no number of steps lead the program of the file to a
 /// fault; or the run has ended. `FAULT`: the printed choices lead it to the printed fault; or the run met the
 /// printed fault. `USAGE`: the words do not read. `UNKNOWN`: neither was found, since as many abstract states are
 /// kept as may be, or since the choices of the printed abstract trace meet no fault in up to 1,000,000 steps; or

@@ -25,6 +25,7 @@ use Rattle.fore_read.specs.Readings.{
   IsTooLong,
 }
 use Rattle.fore_read.specs.Files.{IsRefusedFile, IsFileFault, AreRefusedBoxes, AreBoxesFault}
+use Rattle.fore_read.specs.Tables.{no_boxes}
 
 -- a shelf that gave these readings, and one on which readings have failed
 abbrev gave : List NamedFile → ShelfView
@@ -198,3 +199,7 @@ no_file_fault h = omega (arith, h.1)
 
 file_memory : IsFileFault (from (failed 1) (failed 1)) (codes "x.c") Memory
 file_memory = tt
+
+-- the table without boxes has the structs of the program
+table_of_none : (shapes : Shapes) → ((no_boxes shapes).face.shapes ≡ shapes) × ((no_boxes shapes).defs ≡ [])
+table_of_none shapes = (refl, refl)

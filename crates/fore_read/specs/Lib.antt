@@ -1,4 +1,5 @@
 pub mod Bytes
 pub mod Files
 pub mod Readings
+pub mod Tables
 pub mod inner

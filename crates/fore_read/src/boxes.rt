@@ -1,14 +1,16 @@
-// Reading the table of a file of boxes.
-ghost use Rattle.std.specs.Prelude.{◌≤◌, length, IfOk, IfErr};
+// The table of a file of boxes, and the one without boxes.
+ghost use Rattle.std.specs.Prelude.{◌≡◌, ◌≤◌, length, IfOk, IfErr};
 ghost use Rattle.fa_text.specs.Files.{IsBoxFile};
 ghost use Rattle.fore_read.specs.Readings.{reading_of, ReadsAtMost};
 ghost use Rattle.fore_read.specs.Files.{GivesTable, AreBoxesFault};
 ghost use Rattle.fore_read.specs.Bytes.{IsTableFault};
+ghost use Rattle.fore_read.specs.Tables.{no_boxes};
 
 use crate::fault::{ReadFault, Refusal, not_given};
 use fa_core::table::BoxTable;
 use fa_text::{BoxFault, read_boxes};
 use fore_base::limits::BOX_FILE_BYTES;
+use fore_base::memory::Mem;
 use fore_base::shape::Shapes;
 use fore_base::shelf::Shelf;
 use std::alloc::Global;
@@ -53,4 +55,16 @@ pub fn table_of(alloc: Global, text: &[u8], shapes: &Shapes) -> Result<BoxTable,
         Err(BoxFault::Limit { line }) => Err(ReadFault::Refused(Refusal::BoxLimit { line })),
         Err(BoxFault::Memory) => Err(ReadFault::Memory),
     }
+}
+
+/// The table without boxes over the structs of a program.
+///
+/// # Errors
+///
+/// Want of memory.
+pub fn empty_table(alloc: Global, shapes: &Shapes) -> Mem<BoxTable>
+    ensures { IfOk result (λ table. table ≡ no_boxes shapes.now) }
+{
+    let table = BoxTable::empty(alloc, shapes)?;
+    Ok(table)
 }

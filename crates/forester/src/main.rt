@@ -6,8 +6,8 @@
 
 use fore_base::file_shelf::FileShelf;
 use fore_base::stream_sink::StreamSink;
+use fore_answer::status::{NO_MEMORY, USAGE};
 use fore_call::forester;
-use fore_call::status::{NO_MEMORY, USAGE};
 use par_kit::gate::NoGate;
 use std::alloc::{AllocGlobal, Global};
 use std::env;

@@ -1,14 +1,11 @@
 -- Which answer is right for a program, and what one file and then another gives.
 use Rattle.std.specs.Prelude.{◌≡◌, ◌≤◌, ◌⊎◌, ⊤, ℕ, List, []}
 use Rattle.fore_base.specs.declared.named_files.NamedFile.{NamedFile}
-use Rattle.fore_base.specs.declared.shape.Shapes.{Shapes}
 use Rattle.c_types.specs.declared.mode.MallocMode.{MallocMode}
 use Rattle.c_types.specs.Program.{Program}
 use Rattle.c_types.specs.Runs.{run}
 use Rattle.fa_core.specs.Boxes.{Boxes}
 use Rattle.fore_read.specs.Readings.{Reading, AreReadings, HasFailed}
-use Rattle.fore_read.specs.declared.fault.ReadFault.{ReadFault as Fault}
-use Rattle.fore_read.specs.declared.fault.ReadFault.TheVariants as fault
 use Rattle.fore_read.specs.Files.{IsTableFile, AreRefusedBoxes}
 use Rattle.fore_report.specs.Reports.{IsReport}
 use Rattle.fore_report.specs.Summaries.{IsSummary}
@@ -17,9 +14,10 @@ use Rattle.fore_words.specs.declared.asked.Settings.{Settings}
 use Rattle.fore_words.specs.declared.asked.Asked.{Asked}
 use Rattle.fore_words.specs.declared.asked.TheConstants.{MOST_HEIGHT, MOST_JOBS}
 use Rattle.fore_words.specs.Words.{IsUpTo}
-use Rattle.fore_call.specs.declared.answer.Answer.{Answer}
-use Rattle.fore_call.specs.declared.answer.Answer.TheVariants.{Verified, Ran, Usage, Refused, ReadFault, NoMemory}
-use Rattle.fore_call.specs.Generated.{gen_settings, IsGenerated, RefusesBoxesOf, RefusesGenerated}
+use Rattle.fore_answer.specs.declared.answer.Answer.{Answer}
+use Rattle.fore_answer.specs.declared.answer.Answer.TheVariants.{Verified, Ran, Usage, Refused, ReadFault, NoMemory}
+use Rattle.fore_generated.specs.Generated.{gen_settings, RefusesGenerated}
+use Rattle.fore_call.specs.Generated.{IsGenerated}
 use Rattle.fore_call.specs.Names.{LetsRead}
 
 -- the height, the budget and the jobs are in their ranges
@@ -55,12 +53,6 @@ IsSummedUp kind phases lines t p (Refused why) = ⊥
 IsSummedUp kind phases lines t p ReadFault = ⊥
 IsSummedUp kind phases lines t p NoMemory = ⊤
 
--- why there is no table for a kind over these structs
-abbrev pub IsTableFaultOf : Kind → Shapes → Fault → Type 0
-IsTableFaultOf kind shapes (fault.Refused why) = RefusesBoxesOf kind shapes why
-IsTableFaultOf kind shapes fault.Failed = ⊥
-IsTableFaultOf kind shapes fault.Memory = ⊤
-
 -- what `run` answers of a program, whose `malloc` answers by the mode
 abbrev pub IsRunOf : Program → MallocMode → List ℕ → ℕ → Answer → Type 0
 IsRunOf p malloc choices steps (Verified verdict text) = ⊥
@@ -69,12 +61,6 @@ IsRunOf p malloc choices steps Usage = ⊥
 IsRunOf p malloc choices steps (Refused why) = ⊥
 IsRunOf p malloc choices steps ReadFault = ⊥
 IsRunOf p malloc choices steps NoMemory = ⊤
-
--- what is answered where a file is not taken
-abbrev pub answer_to : Fault → Answer
-answer_to (fault.Refused why) = Refused why
-answer_to fault.Failed = ReadFault
-answer_to fault.Memory = NoMemory
 
 -- how the reading of a file of boxes is answered, by which a program is to be verified
 abbrev pub IsBoxesAnswer : Reading → List ℕ → Program → Settings → Answer → Type 0

@@ -1,4 +1,5 @@
-use Rattle.fore_call.specs.Calls.{request_of, writing_of}
+use Rattle.fore_answer.specs.Writings.{writing_of}
+use Rattle.fore_call.specs.Calls.{request_of}
 use Rattle.fore_call.proofs.TopLemmas.{promises}
 use Rattle.fore_call.proofs.top.forester.Goals as goal
 

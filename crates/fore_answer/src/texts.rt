@@ -1,6 +1,6 @@
 // The lines of refusals, and the statuses of results.
 ghost use Rattle.std.specs.Prelude.{◌≡◌, IfOk};
-ghost use Rattle.fore_call.specs.Texts.{
+ghost use Rattle.fore_answer.specs.Texts.{
   letter_text,
   broken_text,
   box_text,

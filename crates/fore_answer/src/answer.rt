@@ -1,6 +1,6 @@
 //! What Forester answers to its words.
 ghost use Rattle.std.specs.Prelude.{◌≡◌};
-ghost use Rattle.fore_call.specs.inner.Judging.{answer_to};
+ghost use Rattle.fore_answer.specs.Answers.{answer_to};
 
 use c_types::outcome::Outcome;
 use fore_base::text::Text;
@@ -25,7 +25,7 @@ pub enum Answer {
 }
 
 /// What is answered where a file, or a text, is not taken.
-pub(crate) fn answer_to(fault: ReadFault) -> Answer
+pub fn answer_to(fault: ReadFault) -> Answer
     ensures { result ≡ answer_to fault }
 {
     match fault {

@@ -1,9 +1,9 @@
 -- How an answer reaches its two sinks.
 use Rattle.std.specs.Prelude.{◌≡◌, ◌⊎◌, ℕ, List}
 use Rattle.fore_base.specs.Outside.{Rose, Grew, GrewByPrefix}
-use Rattle.fore_call.specs.declared.answer.Answer.{Answer}
-use Rattle.fore_call.specs.Calls.{Writing}
-use Rattle.fore_call.specs.Texts.{out_text, notes_text}
+use Rattle.fore_answer.specs.declared.answer.Answer.{Answer}
+use Rattle.fore_answer.specs.Writings.{Writing}
+use Rattle.fore_answer.specs.Texts.{out_text, notes_text}
 
 -- nothing was written
 abbrev pub IsUntouched : Writing → Type 0

@@ -1,8 +1,8 @@
 //! Delivering an answer: its text goes whole to one of two sinks.
 ghost use Rattle.std.specs.Prelude.{◌≡◌, ◌≤◌, ◌<◌, ◌⊎◌, ℕ, List, Ok};
-ghost use Rattle.fore_call.specs.Calls.{writing_of};
-ghost use Rattle.fore_call.specs.Texts.{status_of};
-ghost use Rattle.fore_call.specs.Delivery.{IsCut, IsCutShort, IsUntouched, Told, Wrote, WroteNothing};
+ghost use Rattle.fore_answer.specs.Writings.{writing_of};
+ghost use Rattle.fore_answer.specs.Texts.{status_of};
+ghost use Rattle.fore_answer.specs.Delivery.{IsCut, IsCutShort, IsUntouched, Told, Wrote, WroteNothing};
 
 use crate::answer::Answer;
 use crate::status::{NO_MEMORY, NOT_READ, NOT_WRITTEN, REFUSED, USAGE};
