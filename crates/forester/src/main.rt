@@ -4,9 +4,9 @@
 //! real shelf and the real sinks, and calls it.
 #![tactic(auto)]
 
+use fore_answer::status::{NO_MEMORY, USAGE};
 use fore_base::file_shelf::FileShelf;
 use fore_base::stream_sink::StreamSink;
-use fore_answer::status::{NO_MEMORY, USAGE};
 use fore_call::forester;
 use par_kit::gate::NoGate;
 use std::alloc::{AllocGlobal, Global};

@@ -12,7 +12,7 @@ replay_steps-steps-requires c =
     c.requires.explored in
     let short : c.in-Faulty.trace.steps ≤ length c.in-Faulty.nodes =
     trace_short c.args.table.now c.args.program.now c.args.mode c.args.graph.now
-    (c.graphs_agree.ensures c.requires.plain c.requires.lowered) c.requires.shapes c.args.height c.in-Faulty.nodes
+    (c.graphs_agree.ensures c.requires.lowered) c.requires.shapes c.args.height c.in-Faulty.nodes
     c.in-Faulty.trace x.0 x.1 in
     omega (arith, short, x.2, c.ranges.budget)
 
@@ -22,7 +22,7 @@ returns-in-Closed-clause-verdict c =
     (λ z. IsVerdict c.args.table.now c.args.program.now c.args.mode c.args.graph.now c.args.height c.args.budget z Safe)
     (sym c.in-Closed.is)
     (safe_means c.args.table.now c.args.program.now c.args.mode c.args.graph.now
-    (c.graphs_agree.ensures c.requires.plain c.requires.lowered) c.requires.shapes c.args.height c.args.budget
+    (c.graphs_agree.ensures c.requires.lowered) c.requires.shapes c.args.height c.args.budget
     c.in-Closed.nodes
     (subst (IsExplored c.args.table.now c.args.graph.now c.args.height c.args.budget) c.in-Closed.is
     c.requires.explored))
@@ -49,10 +49,10 @@ returns-in-Faulty-clause-verdict c =
     let g = c.args.graph.now in
     let x = subst (IsExplored T g c.args.height c.args.budget) c.in-Faulty.is c.requires.explored in
     subst (λ z. IfOk c.judge_trace.result (IsVerdict T p m g c.args.height c.args.budget z)) (sym c.in-Faulty.is)
-    (if_replayed T p m g (c.graphs_agree.ensures c.requires.plain c.requires.lowered) c.requires.shapes c.args.height
+    (if_replayed T p m g (c.graphs_agree.ensures c.requires.lowered) c.requires.shapes c.args.height
     c.args.budget c.in-Faulty.nodes c.in-Faulty.trace
     (runs_go_by T g c.requires.shapes (c.edges_make_runs.ensures c.requires.lowered))
-    (c.edges_in_range.ensures c.requires.plain c.requires.lowered)
+    (c.edges_in_range.ensures c.requires.lowered)
     c.replay_steps-steps.result c.replay_steps-steps.ensures.trace c.replay_steps-steps.ensures.more x
     c.judge_trace.result
     c.judge_trace.ensures)
@@ -64,10 +64,10 @@ returns-in-Faulty-clause-loops c = λ free.
     let m = c.args.mode in
     let g = c.args.graph.now in
     let x = subst (IsExplored T g c.args.height c.args.budget) c.in-Faulty.is c.requires.explored in
-    if_never_loose T p m g (c.graphs_agree.ensures c.requires.plain c.requires.lowered) c.requires.shapes c.args.height
+    if_never_loose T p m g (c.graphs_agree.ensures c.requires.lowered) c.requires.shapes c.args.height
     c.args.budget c.in-Faulty.nodes c.in-Faulty.trace
     (runs_go_by T g c.requires.shapes (c.edges_make_runs.ensures c.requires.lowered))
-    (c.edges_in_range.ensures c.requires.plain c.requires.lowered)
+    (c.edges_in_range.ensures c.requires.lowered)
     c.replay_steps-steps.result c.replay_steps-steps.ensures.trace c.replay_steps-steps.ensures.more x
     c.judge_trace.result
     (λ location. no_heads g.heads location (c.loop_free_graphs.ensures c.requires.lowered ∙ free)) c.judge_trace.ensures
