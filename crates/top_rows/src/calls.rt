@@ -107,6 +107,13 @@ fn sink(alloc: Global, most: usize, fails: u64) -> Mem<MemSink> {
     Ok(sink)
 }
 
+/// Whether both calls told the same.
+pub fn are_alike(left: &Told, right: &Told) -> bool {
+    left.status == right.status
+        && left.out.bytes() == right.out.bytes()
+        && left.notes.bytes() == right.notes.bytes()
+}
+
 /// The status, and both texts in quotes.
 pub fn shown(alloc: Global, told: &Told) -> Result<String> {
     let out = text_of(told.out.bytes())?;
@@ -124,11 +131,24 @@ pub fn shown_until(alloc: Global, told: &Told, last: &str) -> Result<String> {
     Ok(format!(in alloc; "{} {before:?}.. {notes:?}", told.status)?)
 }
 
-/// The same, with the report on standard output by the least automata of its components.
-pub fn shown_least(alloc: Global, told: &Told) -> Result<String> {
-    let out = least_report(alloc, text_of(told.out.bytes())?)?;
+/// The same, with the report on standard output by the least automata of its components; where there is a `last`, only
+/// what stands before it.
+pub fn shown_least(alloc: Global, told: &Told, last: Option<&str>) -> Result<String> {
+    let out = text_of(told.out.bytes())?;
     let notes = text_of(told.notes.bytes())?;
-    Ok(format!(in alloc; "{} {out:?} {notes:?}", told.status)?)
+    match last {
+        None => {
+            let out = least_report(alloc, out)?;
+            Ok(format!(in alloc; "{} {out:?} {notes:?}", told.status)?)
+        }
+        Some(last) => {
+            let (before, _) = out
+                .split_once(last)
+                .context("no such text on standard output")?;
+            let before = least_report(alloc, before)?;
+            Ok(format!(in alloc; "{} {before:?}.. {notes:?}", told.status)?)
+        }
+    }
 }
 
 fn text_of<'a>(bytes: &'a [u8]) -> Result<&'a str> {

@@ -4,9 +4,12 @@
 // - `call WORDS | FILE`: of the words over the file x.c.
 // - `lines WORDS | LINES`: of the words over a file with these lines in its main, of which the first is line 3.
 // - `until WORDS | FILE | LAST`: the same as `call`, and of standard output only what stands before LAST.
-// - `least WORDS | FILE`: the same as `call`, and each component of a report by the least automaton of its trees.
+// - `least WORDS | FILE | BOXES | LAST`: the same as `call`, over the file x.box too where there are boxes, and each
+//   component of a report by the least automaton of its trees; where there is a LAST, only what stands before it.
 // - `boxes READ WORDS | FILE | BOXES | LAST`: over the files x.c and x.box, where this read fails; where there is a LAST,
 //   of standard output only what stands before it.
+// - `alike WORDS | FILE | BOXES | LAST | WORDS`: of both words over the files x.c and x.box, where both calls tell the
+//   same; of standard output only what stands before LAST.
 // - `changing WORDS | FIRST | LATER`: over files that all have the first bytes at the first read, and then the others.
 // - `failing MOST READ OUT NOTES WORDS | FILE`: where a put takes at most MOST bytes, and these reads and puts fail.
 // - `prefixes STATUSES FIRST LAST WORDS | FILE | BOXES`: over each beginning of the last file, of FIRST to LAST bytes.
@@ -19,7 +22,7 @@
 // - `component | REPORT`: the report, each component by the least automaton of its trees.
 // - `report NUMBER LINE STEP | NAME`: the report on a fault of this number.
 
-use crate::calls::{Ends, STEADY, call, call_over, shown, shown_least, shown_until};
+use crate::calls::{Ends, STEADY, are_alike, call, call_over, shown, shown_least, shown_until};
 use crate::shelves::ChangingShelf;
 use crate::tables::{Varied, noted, prefixes, puts, replaced};
 use crate::texts::main_of;
@@ -51,10 +54,11 @@ impl Answers for Kinds {
         let file = file_of(alloc, kind, file)?;
         match *kind {
             "call" | "lines" => steady(rt, alloc, words, &file),
-            "least" => least(rt, alloc, words, &file),
+            "least" => least(rt, alloc, words, &file, others),
             "component" => component(alloc, &file),
             "until" => until(rt, alloc, words, &file, others),
             "boxes" => with_boxes(rt, alloc, words, &file, others),
+            "alike" => alike(rt, alloc, words, &file, others),
             "changing" => changing(rt, alloc, words, file, others),
             "failing" => failing(rt, alloc, words, &file),
             "prefixes" | "fronts" | "noted" | "replaced" => {
@@ -80,9 +84,28 @@ fn steady<R: Threads + Sync>(rt: &R, alloc: Global, words: &[&str], file: &Text)
     shown(alloc, &told)
 }
 
-fn least<R: Threads + Sync>(rt: &R, alloc: Global, words: &[&str], file: &Text) -> Result<String> {
-    let told = call(rt, alloc, words, file.as_slice(), None, STEADY)?;
-    shown_least(alloc, &told)
+fn least<R: Threads + Sync>(
+    rt: &R,
+    alloc: Global,
+    words: &[&str],
+    file: &Text,
+    others: &[&str],
+) -> Result<String> {
+    let boxes = boxes_of(alloc, others)?;
+    let boxes = match &boxes {
+        None => None,
+        Some(text) => Some(text.as_slice()),
+    };
+    let told = call(rt, alloc, words, file.as_slice(), boxes, STEADY)?;
+    shown_least(alloc, &told, others.get(1).copied())
+}
+
+/// The bytes of the file of boxes, if there is one.
+fn boxes_of(alloc: Global, others: &[&str]) -> Result<Option<Text>> {
+    match others.first() {
+        None => Ok(None),
+        Some(text) => Ok(Some(read_text(alloc, text)?)),
+    }
 }
 
 fn component(alloc: Global, report: &Text) -> Result<String> {
@@ -132,6 +155,26 @@ fn with_boxes<R: Threads + Sync>(
     }
 }
 
+fn alike<R: Threads + Sync>(
+    rt: &R,
+    alloc: Global,
+    words: &[&str],
+    file: &Text,
+    others: &[&str],
+) -> Result<String> {
+    let boxes = read_text(alloc, others.first().context("no file of boxes")?)?;
+    let last = others.get(1).context("no last text")?;
+    let others = others.get(2).context("no second words")?;
+    let others: Vec<&str> = others.split(' ').collect(alloc)?;
+    let boxes = Some(boxes.as_slice());
+    let told = call(rt, alloc, words, file.as_slice(), boxes, STEADY)?;
+    let other = call(rt, alloc, others.as_slice(), file.as_slice(), boxes, STEADY)?;
+    if !are_alike(&told, &other) {
+        bail!("two calls that tell different things");
+    }
+    shown_until(alloc, &told, last)
+}
+
 fn changing<R: Threads + Sync>(
     rt: &R,
     alloc: Global,
@@ -179,10 +222,7 @@ fn tables<'a, R: Threads + Sync>(
     others: &[&str],
 ) -> Result<String> {
     let (statuses, words) = words.split_first().context("no statuses")?;
-    let boxes = match others.first() {
-        None => None,
-        Some(text) => Some(read_text(alloc, text)?),
-    };
+    let boxes = boxes_of(alloc, others)?;
     let boxes = match &boxes {
         None => None,
         Some(text) => Some(text.as_slice()),
