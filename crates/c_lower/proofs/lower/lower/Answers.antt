@@ -54,6 +54,6 @@ returns c =
     record {
       lowers = low;
       agrees =
-          agree p (subst (λ (q : Program). is_typed q ≡ true) c.program.view_is c.program.invariant) c.requires
+          agree p (subst (λ (q : Program). is_typed q ≡ true) c.program.view_is c.program.invariant)
           c.args.mode _ low;
     }
