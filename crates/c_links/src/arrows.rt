@@ -1,6 +1,6 @@
 // The links of paths: an arrow at a time.
 ghost use Rattle.std.specs.Prelude.{◌≡◌, ◌++◌, ◌∷◌, [], OnOk, IfOk};
-ghost use Rattle.c_cfg.specs.Links.{loads, holder, used, ends};
+ghost use Rattle.c_cfg.specs.Links.{loads, holder, used, used_before, ends};
 ghost use Rattle.c_links.specs.inner.LastArrows.{last_edge, loads_to};
 
 use c_cfg::graph::{Const, Instr};
@@ -113,6 +113,16 @@ pub fn note_used(list: &mut List<u32>, temp: u32, fields: &[u32]) -> Mem<()>
         return Ok(());
     }
     list.push(temp)
+}
+
+/// Notes the temporary, if reading the arrows before the last one uses it.
+pub fn note_before(list: &mut List<u32>, temp: u32, fields: &[u32]) -> Mem<()>
+    ensures { OnOk result (list.new ≡ list.old ++ used_before temp fields.now) }
+{
+    match fields.split_first() {
+        None => Ok(()),
+        Some((_, others)) => note_used(list, temp, others),
+    }
 }
 
 /// The temporaries that reading the arrows of two paths uses.
