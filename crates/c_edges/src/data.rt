@@ -125,7 +125,8 @@ fn store_datum(
     end_with(links, ptrs, datums)
 }
 
-fn store_from(
+/// Stores a data variable in a field of the cell at the end of a path, whose arrows go into the second temporary.
+pub fn store_from(
     links: &mut List<Link>,
     counts: &Counts,
     base: &Path,

@@ -1,28 +1,30 @@
 -- The edges that the recursion with numbers gives are those of the places.
-use Rattle.std.proofs.Common.{◌≡◌, ℕ, zero, suc, ◌+◌, List, [], ◌∷◌, ◌++◌, refl, sym, ap, ◌∙◌, replicate, arith, None}
+use Rattle.std.proofs.Common.{◌≡◌, ℕ, zero, suc, ◌+◌, ◌≤◌, List, [], ◌∷◌, ◌++◌, refl, sym, ap, ◌∙◌, replicate, arith, None}
 use Rattle.std.proofs.lemmas.List.{append_assoc, append-nil, length-replicate}
 use Rattle.c_types.specs.declared.program.Act.{Act}
 use Rattle.c_types.specs.declared.program.Act.TheVariants.{SetPtr, SetData, Free as FreeAct, Error, Halt, Return, Break}
 use Rattle.c_types.specs.declared.program.Act.TheVariants.{Continue, Leave as LeaveAct}
 use Rattle.c_types.specs.Control.{Items, Done, Do, Close, If, Loop, Again, DoLoop, DoAgain, Test, Ask, Not, Both}
 use Rattle.c_types.specs.Control.{Either, Enter, Leave, Exit, ◌then◌, ask, round, do_round, open_before, opened}
-use Rattle.c_types.specs.Control.{after_again, from_again}
+use Rattle.c_types.specs.Control.{after_again, from_again, exit_after, from_exit}
 use Rattle.c_types.specs.Control.{closed_ptrs, closed_datums, merged}
 use Rattle.c_types.proofs.Turns.{then_done}
 use Rattle.c_cfg.specs.declared.graph.Instr.TheVariants.{Kill}
 use Rattle.c_cfg.specs.declared.graph.Edge.{Edge}
 use Rattle.c_lower.specs.declared.around.Around.{Around}
-use Rattle.c_cfg.specs.Links.{act_row}
+use Rattle.c_cfg.specs.Links.{act_row, enter_row, leave_row, exit_row}
 use Rattle.c_cfg.specs.Places.{test_places, places}
 use Rattle.c_cfg.specs.Lowering.{edge, followed_by}
 use Rattle.c_links.specs.Chains.{chain}
 use Rattle.c_lower.specs.inner.Numbering.{act_width, atom_width, test_width, width, number_test, number, loc}
+use Rattle.c_lower.specs.inner.Numbering.{enter_width, leave_width, exit_width}
 use Rattle.c_lower.specs.inner.Numbering.{atom_edges, place_edges, all_edges, test_lines, lines}
-use Rattle.c_lower.specs.inner.Emitting.{first_of, ptrs_of, datums_of, inside, in_loop, act_to, act_links, emit_test}
-use Rattle.c_lower.specs.inner.Emitting.{emit}
+use Rattle.c_lower.specs.inner.Emitting.{first_of, ptrs_of, datums_of, inside, in_loop, back_of, before, act_to}
+use Rattle.c_lower.specs.inner.Emitting.{act_links, emit_test, emit}
 use Rattle.c_lower.proofs.Lines.{Lined, lined_front, lined_back, replicate_first, atom_wide, test_lines_length}
 use Rattle.c_lower.proofs.Lines.{lines_length}
-use Rattle.c_cfg.proofs.Opening.{then_then, open_then, IsPlain}
+use Rattle.c_cfg.proofs.Opening.{then_then, open_then}
+use Rattle.c_lower.proofs.Standing.{IsWhole}
 use Rattle.c_lower.proofs.Stacking.{loc_open, loc_ask}
 
 module _ (nv nd exit : ℕ) (line : ℕ → ℕ) where
@@ -84,32 +86,35 @@ module _ (nv nd exit : ℕ) (line : ℕ → ℕ) where
     pub agains : loc nv nd exit (opened (from_again r)) ≡ w.again
     pub ptrs : closed_ptrs r ≡ w.ptrs
     pub datums : closed_datums r ≡ w.datums
+    pub backs : loc nv nd exit (opened (from_exit r)) ≡ w.back
 
-  after_then : (is : Items) (i : ℕ) (r : Items) → IsPlain is → after_again (number nv nd is i then r) ≡ after_again r
-  after_then Done i r p = refl
-  after_then (Do a m is) i r p = after_then is _ r p
-  after_then (Close ps ds m is) i r p = after_then is _ r p
-  after_then (If c x y is) i r p = after_then is _ r p.2
-  after_then (Loop c n b is) i r p = after_then is _ r p.2
-  after_then (Again c n b is) i r p = absurd p
-  after_then (DoLoop c b is) i r p = after_then is _ r p.1
-  after_then (DoAgain c b is) i r p = absurd p
-  after_then (Enter vs ws m is) i r p = absurd p
-  after_then (Leave v vs a m is) i r p = absurd p
-  after_then (Exit v vs d m is) i r p = absurd p
+  after_then : (n : ℕ) (is : Items) (i : ℕ) (r : Items) → IsWhole n is → after_again (number nv nd is i then r) ≡ after_again r
+  after_then n Done i r p = refl
+  after_then n (Do a m is) i r p = after_then n is _ r p
+  after_then n (Close ps ds m is) i r p = after_then n is _ r p
+  after_then n (If c x y is) i r p = after_then n is _ r p.2
+  after_then n (Loop c d b is) i r p = after_then n is _ r p.2
+  after_then n (Again c d b is) i r p = absurd p
+  after_then n (DoLoop c b is) i r p = after_then n is _ r p.1
+  after_then n (DoAgain c b is) i r p = absurd p
+  after_then n (Enter vs ws m is) i r p = after_then (suc n) is _ r p
+  after_then n (Leave v vs a m is) i r p = after_then n is _ r p
+  after_then zero (Exit v vs d m is) i r p = absurd p
+  after_then (suc n) (Exit v vs d m is) i r p = after_then n is _ r p
 
-  from_then : (is : Items) (i : ℕ) (r : Items) → IsPlain is → from_again (number nv nd is i then r) ≡ from_again r
-  from_then Done i r p = refl
-  from_then (Do a m is) i r p = from_then is _ r p
-  from_then (Close ps ds m is) i r p = from_then is _ r p
-  from_then (If c x y is) i r p = from_then is _ r p.2
-  from_then (Loop c n b is) i r p = from_then is _ r p.2
-  from_then (Again c n b is) i r p = absurd p
-  from_then (DoLoop c b is) i r p = from_then is _ r p.1
-  from_then (DoAgain c b is) i r p = absurd p
-  from_then (Enter vs ws m is) i r p = absurd p
-  from_then (Leave v vs a m is) i r p = absurd p
-  from_then (Exit v vs d m is) i r p = absurd p
+  from_then : (n : ℕ) (is : Items) (i : ℕ) (r : Items) → IsWhole n is → from_again (number nv nd is i then r) ≡ from_again r
+  from_then n Done i r p = refl
+  from_then n (Do a m is) i r p = from_then n is _ r p
+  from_then n (Close ps ds m is) i r p = from_then n is _ r p
+  from_then n (If c x y is) i r p = from_then n is _ r p.2
+  from_then n (Loop c d b is) i r p = from_then n is _ r p.2
+  from_then n (Again c d b is) i r p = absurd p
+  from_then n (DoLoop c b is) i r p = from_then n is _ r p.1
+  from_then n (DoAgain c b is) i r p = absurd p
+  from_then n (Enter vs ws m is) i r p = from_then (suc n) is _ r p
+  from_then n (Leave v vs a m is) i r p = from_then n is _ r p
+  from_then zero (Exit v vs d m is) i r p = absurd p
+  from_then (suc n) (Exit v vs d m is) i r p = from_then n is _ r p
 
   ptrs_then : (is : Items) (i : ℕ) (r : Items) (ps : List ℕ) → closed_ptrs r ≡ ps
       → closed_ptrs (number nv nd is i then r) ≡ ptrs_of is ps
@@ -139,13 +144,32 @@ module _ (nv nd exit : ℕ) (line : ℕ → ℕ) where
   datums_then (Leave v vs a m is) i r qs e = datums_then is _ r qs e
   datums_then (Exit v vs d m is) i r qs e = datums_then is _ r qs e
 
-  fits_inside : (is : Items) (i : ℕ) (r : Items) (w : Around) → IsPlain is → Fits r w
-      → Fits (number nv nd is i then r) (inside w is)
-  fits_inside is i r w p f = record {
-    leaves = ap (λ z. loc nv nd exit (opened z)) (after_then is i r p) ∙ f.leaves;
-    agains = ap (λ z. loc nv nd exit (opened z)) (from_then is i r p) ∙ f.agains;
+  back_then : (n : ℕ) (is : Items) → IsWhole n is → (m : ℕ) → m ≤ n → (i : ℕ) (r : Items) (b : ℕ)
+      → loc nv nd exit (opened (from_exit r)) ≡ b
+      → loc nv nd exit (opened (exit_after m (number nv nd is i then r))) ≡ back_of nv nd is m i b
+  back_then n Done p m l i r b e = let z : m ≡ 0 = omega (arith, p, l) in
+      ap (λ k. loc nv nd exit (opened (exit_after k r))) z ∙ e
+  back_then n (Do a k is) p m l i r b e = back_then n is p m l _ r b e
+  back_then n (Close ps ds k is) p m l i r b e = back_then n is p m l _ r b e
+  back_then n (If c x y is) p m l i r b e = back_then n is p.2 m l _ r b e
+  back_then n (Loop c x y is) p m l i r b e = back_then n is p.2 m l _ r b e
+  back_then n (Again c x y is) p m l i r b e = absurd p
+  back_then n (DoLoop c y is) p m l i r b e = back_then n is p.1 m l _ r b e
+  back_then n (DoAgain c y is) p m l i r b e = absurd p
+  back_then n (Enter vs ws k is) p m l i r b e = back_then (suc n) is p (suc m) (omega (arith, l)) _ r b e
+  back_then n (Leave v vs a k is) p m l i r b e = back_then n is p m l _ r b e
+  back_then zero (Exit v vs d k is) p m l i r b e = absurd p
+  back_then (suc n) (Exit v vs d k is) p zero l i r b e = refl
+  back_then (suc n) (Exit v vs d k is) p (suc m) l i r b e = back_then n is p m (omega (arith, l)) _ r b e
+
+  fits_before : (n : ℕ) (is : Items) (i : ℕ) (r : Items) (w : Around) → IsWhole n is → Fits r w
+      → Fits (number nv nd is i then r) (before nv nd w is i)
+  fits_before n is i r w p f = record {
+    leaves = ap (λ z. loc nv nd exit (opened z)) (after_then n is i r p) ∙ f.leaves;
+    agains = ap (λ z. loc nv nd exit (opened z)) (from_then n is i r p) ∙ f.agains;
     ptrs = ptrs_then is i r w.ptrs f.ptrs;
     datums = datums_then is i r w.datums f.datums;
+    backs = back_then n is p 0 (omega arith) i r w.back f.backs;
   }
 
   act_emits : (a : Act) (m i : ℕ) (is : Items) (w : Around) (k : ℕ) → loc nv nd exit (opened is) ≡ k → Fits is w
@@ -177,28 +201,30 @@ module _ (nv nd exit : ℕ) (line : ℕ → ℕ) where
       ∙ ap (λ es. a ++ es) (three_more ys zs ws b c d eb ec ed)
 
   -- The contract of the code: for whatever items come after.
-  pub emits : (is : Items) → IsPlain is → (i : ℕ) (r : Items) (w : Around) (k : ℕ) → loc nv nd exit (opened r) ≡ k
+  pub emits : (n : ℕ) (is : Items) → IsWhole n is → (i : ℕ) (r : Items) (w : Around) (k : ℕ) → loc nv nd exit (opened r) ≡ k
       → Fits r w → Lined nv nd line i (lines nv nd is)
       → all_edges nv nd exit line (places (number nv nd is i) r) ≡ emit nv nd exit is w i k
-  emits Done p i r w k e f h = refl
-  emits (Do a m is) p i r w k e f h =
+  emits n Done p i r w k e f h = refl
+  emits n (Do a m is) p i r w k e f h =
       let j = i + act_width nv nd a in
       let after = number nv nd is j then r in
       ap (λ es. es ++ all_edges nv nd exit line (places (number nv nd is j) r))
-      (act_emits a m i after (inside w is) (first_of (width nv nd is) j k) (leads is j r k e)
-      (fits_inside is j r w p f)
+      (act_emits a m i after (before nv nd w is j) (first_of (width nv nd is) j k) (leads is j r k e)
+      (fits_before n is j r w p f)
       ∙ ap
       (λ q. chain q (act_links nv nd (inside w is) a) i
-      (act_to exit (inside w is) a (first_of (width nv nd is) j k)))
+      (act_to exit (before nv nd w is j) a (first_of (width nv nd is) j k)))
       (replicate_first nv nd line i (act_width nv nd a) m (omega arith)
       (lined_front nv nd line i (replicate (act_width nv nd a) m) (lines nv nd is) h))
       ∙ ap (λ t. chain m (act_links nv nd (inside w is) a) i t) (same_to a))
       ∙ ap (λ es. chain m (act_links nv nd (inside w is) a) i (act_to exit w a (first_of (width nv nd is) j k)) ++ es)
-      (emits is p j r w k e f
+      (emits n is p j r w k e f
       (lined_back nv nd line i (act_width nv nd a) (replicate (act_width nv nd a) m) (lines nv nd is)
       (length-replicate (act_width nv nd a) m) h))
     where
-      same_to : (a : Act) → act_to exit (inside w is) a (first_of (width nv nd is) (i + act_width nv nd a) k)
+      same_to : (a : Act)
+          → act_to exit (before nv nd w is (i + act_width nv nd a)) a
+          (first_of (width nv nd is) (i + act_width nv nd a) k)
           ≡ act_to exit w a (first_of (width nv nd is) (i + act_width nv nd a) k)
       same_to (SetPtr to from) = refl
       same_to (SetData to from) = refl
@@ -209,19 +235,19 @@ module _ (nv nd exit : ℕ) (line : ℕ → ℕ) where
       same_to (LeaveAct g value) = refl
       same_to Break = refl
       same_to Continue = refl
-  emits (Close ps ds m is) p i r w k e f h =
+  emits n (Close ps ds m is) p i r w k e f h =
       ap (λ q. edge q i (loc nv nd exit (opened (number nv nd is (i + 1) then r))) (Kill ps ds) None
       ∷ all_edges nv nd exit line (places (number nv nd is (i + 1)) r)) h.0
       ∙ ap (λ q. edge m i q (Kill ps ds) None ∷ all_edges nv nd exit line (places (number nv nd is (i + 1)) r))
       (leads is (i + 1) r k e)
       ∙ ap (λ es. edge m i (first_of (width nv nd is) (i + 1) k) (Kill ps ds) None ∷ es)
-      (emits is p (i + 1) r w k e f h.1)
-  emits (If c x y is) p i r w k e f h =
+      (emits n is p (i + 1) r w k e f h.1)
+  emits n (If c x y is) p i r w k e f h =
       let i1 = i + test_width nv nd c in let i2 = i1 + width nv nd x in let i3 = i2 + width nv nd y in
       let after = first_of (width nv nd is) i3 k in
       let q = number nv nd is i3 then r in
       let eq : loc nv nd exit (opened q) ≡ after = leads is i3 r k e in
-      let fq : Fits q (inside w is) = fits_inside is i3 r w p.2 f in
+      let fq : Fits q (before nv nd w is i3) = fits_before n is i3 r w p.2 f in
       let h1 = lined_back nv nd line i (test_width nv nd c) (test_lines nv nd c)
       (lines nv nd x ++ (lines nv nd y ++ lines nv nd is)) (test_lines_length nv nd c) h in
       let h2 = lined_back nv nd line i1 (width nv nd x) (lines nv nd x) (lines nv nd y ++ lines nv nd is)
@@ -231,11 +257,11 @@ module _ (nv nd exit : ℕ) (line : ℕ → ℕ) where
       (places (number nv nd x i1) q) (places (number nv nd y i2) q) (places (number nv nd is i3) r) _ _ _ _
       (test_emits c i (number nv nd x i1) (number nv nd y i2) q _ _ (leads x i1 q after eq) (leads y i2 q after eq)
       (lined_front nv nd line i (test_lines nv nd c) (lines nv nd x ++ (lines nv nd y ++ lines nv nd is)) h))
-      (emits x p.0 i1 q (inside w is) after eq fq
+      (emits 0 x p.0 i1 q (before nv nd w is i3) after eq fq
       (lined_front nv nd line i1 (lines nv nd x) (lines nv nd y ++ lines nv nd is) h1))
-      (emits y p.1 i2 q (inside w is) after eq fq (lined_front nv nd line i2 (lines nv nd y) (lines nv nd is) h2))
-      (emits is p.2 i3 r w k e f h3)
-  emits (Loop c n b is) p i r w k e f h =
+      (emits 0 y p.1 i2 q (before nv nd w is i3) after eq fq (lined_front nv nd line i2 (lines nv nd y) (lines nv nd is) h2))
+      (emits n is p.2 i3 r w k e f h3)
+  emits l (Loop c n b is) p i r w k e f h =
       let i1 = i + test_width nv nd c in let i2 = i1 + width nv nd b in let i3 = i2 + width nv nd n in
       let after = first_of (width nv nd is) i3 k in
       let again = first_of (width nv nd n) i2 i in
@@ -251,26 +277,26 @@ module _ (nv nd exit : ℕ) (line : ℕ → ℕ) where
       let h2 = lined_back nv nd line i1 (width nv nd b) (lines nv nd b) (lines nv nd n ++ lines nv nd is)
       (lines_length nv nd b) h1 in
       let h3 = lined_back nv nd line i2 (width nv nd n) (lines nv nd n) (lines nv nd is) (lines_length nv nd n) h2 in
-      let fb : Fits (Again C N B q) (in_loop after again) =
-      record { leaves = eq; agains = ea; ptrs = refl; datums = refl } in
-      let g = fits_inside is i3 r w p.2 f in
-      let fn : Fits (Loop C N B q) (inside w is) =
-      record { leaves = g.leaves; agains = g.agains; ptrs = g.ptrs; datums = g.datums } in
+      let g = fits_before l is i3 r w p.2 f in
+      let fb : Fits (Again C N B q) (in_loop after again (back_of nv nd is 0 i3 w.back)) =
+      record { leaves = eq; agains = ea; ptrs = refl; datums = refl; backs = g.backs } in
+      let fn : Fits (Loop C N B q) (before nv nd w is i3) =
+      record { leaves = g.leaves; agains = g.agains; ptrs = g.ptrs; datums = g.datums; backs = g.backs } in
       four_more (test_places C (round C N B) Done q) (places B (Again C N B q)) (places N (Loop C N B q))
       (places (number nv nd is i3) r) _ _ _ _
       (test_emits c i (round C N B) Done q _ _
       (ap (λ z. loc nv nd exit (opened z)) (then_then B (Again C N B Done) q) ∙ leads b i1 (Again C N B q) again ea)
       eq (lined_front nv nd line i (test_lines nv nd c) (lines nv nd b ++ (lines nv nd n ++ lines nv nd is)) h))
-      (emits b p.1 i1 (Again C N B q) _ again ea fb
+      (emits 0 b p.1 i1 (Again C N B q) _ again ea fb
       (lined_front nv nd line i1 (lines nv nd b) (lines nv nd n ++ lines nv nd is) h1))
-      (emits n p.0 i2 (Loop C N B q) (inside w is) i el fn
+      (emits 0 n p.0 i2 (Loop C N B q) (before nv nd w is i3) i el fn
       (lined_front nv nd line i2 (lines nv nd n) (lines nv nd is) h2))
-      (emits is p.2 i3 r w k e f h3)
+      (emits l is p.2 i3 r w k e f h3)
     where
       first_same : (v j a b : ℕ) → a ≡ b → first_of v j a ≡ first_of v j b
       first_same zero j a b e = e
       first_same (suc v) j a b e = refl
-  emits (DoLoop c b is) p i r w k e f h =
+  emits n (DoLoop c b is) p i r w k e f h =
       let i1 = i + width nv nd b in let i2 = i1 + test_width nv nd c in
       let after = first_of (width nv nd is) i2 k in
       let q = number nv nd is i2 then r in
@@ -282,17 +308,51 @@ module _ (nv nd exit : ℕ) (line : ℕ → ℕ) where
       (lines_length nv nd b) h in
       let h2 = lined_back nv nd line i1 (test_width nv nd c) (test_lines nv nd c) (lines nv nd is)
       (test_lines_length nv nd c) h1 in
-      let fb : Fits (DoAgain C B q) (in_loop after i1) =
-      record { leaves = eq; agains = ea; ptrs = refl; datums = refl } in
+      let fb : Fits (DoAgain C B q) (in_loop after i1 (back_of nv nd is 0 i2 w.back)) =
+      record {
+        leaves = eq;
+        agains = ea;
+        ptrs = refl;
+        datums = refl;
+        backs = back_then n is p.1 0 (omega arith) i2 r w.back f.backs;
+      } in
       three_more (places B (DoAgain C B q)) (test_places C (do_round C B) Done q) (places (number nv nd is i2) r) _ _ _
-      (emits b p.0 i (DoAgain C B q) _ i1 ea fb
+      (emits 0 b p.0 i (DoAgain C B q) _ i1 ea fb
       (lined_front nv nd line i (lines nv nd b) (test_lines nv nd c ++ lines nv nd is) h))
       (test_emits c i1 (do_round C B) Done q _ _
       (ap (λ z. loc nv nd exit (opened z)) (then_then B (DoAgain C B Done) q) ∙ leads b i (DoAgain C B q) i1 ea) eq
       (lined_front nv nd line i1 (test_lines nv nd c) (lines nv nd is) h1))
-      (emits is p.1 i2 r w k e f h2)
-  emits (Again c n b is) p i r w k e f h = absurd p
-  emits (DoAgain c b is) p i r w k e f h = absurd p
-  emits (Enter vs ws m is) p i r w k e f h = absurd p
-  emits (Leave v vs a m is) p i r w k e f h = absurd p
-  emits (Exit v vs d m is) p i r w k e f h = absurd p
+      (emits n is p.1 i2 r w k e f h2)
+  emits n (Again c d b is) p i r w k e f h = absurd p
+  emits n (DoAgain c b is) p i r w k e f h = absurd p
+  emits n (Enter vs ws m is) p i r w k e f h =
+      let x = enter_width nv nd vs ws in let j = i + x in
+      ap (λ q. chain q (enter_row nv nd vs ws) i (loc nv nd exit (opened (number nv nd is j then r)))
+      ++ all_edges nv nd exit line (places (number nv nd is j) r))
+      (replicate_first nv nd line i x m (omega arith) (lined_front nv nd line i (replicate x m) (lines nv nd is) h))
+      ∙ ap (λ q. chain m (enter_row nv nd vs ws) i q ++ all_edges nv nd exit line (places (number nv nd is j) r))
+      (leads is j r k e)
+      ∙ ap (λ es. chain m (enter_row nv nd vs ws) i (first_of (width nv nd is) j k) ++ es)
+      (emits (suc n) is p j r w k e f
+      (lined_back nv nd line i x (replicate x m) (lines nv nd is) (length-replicate x m) h))
+  emits n (Leave v vs a m is) p i r w k e f h =
+      let x = leave_width nv nd v vs a in let j = i + x in
+      ap (λ q. chain q (leave_row nv nd v vs a) i (loc nv nd exit (opened (from_exit (number nv nd is j then r))))
+      ++ all_edges nv nd exit line (places (number nv nd is j) r))
+      (replicate_first nv nd line i x m (omega arith) (lined_front nv nd line i (replicate x m) (lines nv nd is) h))
+      ∙ ap (λ q. chain m (leave_row nv nd v vs a) i q ++ all_edges nv nd exit line (places (number nv nd is j) r))
+      (back_then n is p 0 (omega arith) j r w.back f.backs)
+      ∙ ap (λ es. chain m (leave_row nv nd v vs a) i (back_of nv nd is 0 j w.back) ++ es)
+      (emits n is p j r w k e f
+      (lined_back nv nd line i x (replicate x m) (lines nv nd is) (length-replicate x m) h))
+  emits zero (Exit v vs d m is) p i r w k e f h = absurd p
+  emits (suc n) (Exit v vs d m is) p i r w k e f h =
+      let x = exit_width nv nd v vs d in let j = i + x in
+      ap (λ q. chain q (exit_row nv nd v vs d) i (loc nv nd exit (opened (number nv nd is j then r)))
+      ++ all_edges nv nd exit line (places (number nv nd is j) r))
+      (replicate_first nv nd line i x m (omega arith) (lined_front nv nd line i (replicate x m) (lines nv nd is) h))
+      ∙ ap (λ q. chain m (exit_row nv nd v vs d) i q ++ all_edges nv nd exit line (places (number nv nd is j) r))
+      (leads is j r k e)
+      ∙ ap (λ es. chain m (exit_row nv nd v vs d) i (first_of (width nv nd is) j k) ++ es)
+      (emits n is p j r w k e f
+      (lined_back nv nd line i x (replicate x m) (lines nv nd is) (length-replicate x m) h))

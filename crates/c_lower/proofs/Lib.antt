@@ -4,6 +4,7 @@ pub mod Closing
 pub mod Compiled
 pub mod CondLayers
 pub mod Doubling
+pub mod Falling
 pub mod HeadsAdded
 pub mod Joined
 pub mod Layers
@@ -16,4 +17,5 @@ pub mod Ordered
 pub mod PlaceRows
 pub mod Sized
 pub mod Stacking
+pub mod Standing
 pub mod Told

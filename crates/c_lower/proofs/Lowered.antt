@@ -20,14 +20,14 @@ use Rattle.c_types.proofs.CellsFit.{length_set_each}
 use Rattle.c_cfg.specs.Graphs.{ControlGraph, HasItsChoice, HasChoiceAsChoose}
 use Rattle.c_cfg.specs.Lowering.{is_one_of}
 use Rattle.c_lower.specs.inner.Numbering.{heads_of, graph_for}
-use Rattle.c_lower.specs.inner.Emitting.{in_loop, items_in, wide_all, emit_all, head_numbers, heads_all}
+use Rattle.c_lower.specs.inner.Emitting.{in_loop, wide_all, emit_all, head_numbers, heads_all}
 use Rattle.c_links.specs.Failing.{edges_in}
 use Rattle.c_lower.proofs.Compiled.{emits}
 use Rattle.c_lower.proofs.Doubling.{told_in, lowers_in}
 use Rattle.c_lower.proofs.Told.{all_told, all_have}
 use Rattle.c_lower.proofs.LoopHeads.{heads_numbered}
 use Rattle.c_lower.proofs.Marking.{entries_are}
-use Rattle.c_cfg.proofs.Opening.{start_alone, all_plain}
+use Rattle.c_lower.proofs.Standing.{all_whole}
 use Rattle.c_lower.proofs.Lines.{lined_all, back}
 use Rattle.c_lower.proofs.Numbers.{total, total_is, numbers_are, span_below, marks_differ}
 use Rattle.c_lower.proofs.Ordered.{good_all, rows_all}
@@ -81,14 +81,15 @@ lowers p =
       shapes = refl;
     }
 
--- What the code makes of a program without functions is this lowering.
+-- What the code makes of a program is this lowering.
 
-module _ (p : Program) (none : p.funcs ≡ []) where
+module _ (p : Program) where
   abbrev own : Items
-  own = items_in p.body
+  own = start_of p
 
-  own_items : start_of p ≡ own
-  own_items = start_alone p none
+  -- calls are followed as deep as there are functions
+  abbrev deep : ℕ
+  deep = length p.funcs
 
   abbrev nv : ℕ
   nv = length p.vars
@@ -97,54 +98,54 @@ module _ (p : Program) (none : p.funcs ≡ []) where
   nd = length p.data_vars
 
   edges_emitted : edges_of nv nd own
-      ≡ emit_all nv nd (exit_of nv nd own) p.body
-      (in_loop (exit_of nv nd own) (exit_of nv nd own)) 0 (exit_of nv nd own)
+      ≡ emit_all p.funcs deep nv nd (exit_of nv nd own) p.body
+      (in_loop (exit_of nv nd own) (exit_of nv nd own) (exit_of nv nd own)) 0 (exit_of nv nd own)
   unfolding emit_all
   edges_emitted =
       let e = exit_of nv nd own in let line : ℕ → ℕ = line_of nv nd own in
-      emits nv nd e line own (all_plain p.body Done tt) 0 Done (in_loop e e) e refl
-      (record { leaves = refl; agains = refl; ptrs = refl; datums = refl })
+      emits nv nd e line 0 own (all_whole p.funcs deep p.body 0 Done refl) 0 Done (in_loop e e e) e refl
+      (record { leaves = refl; agains = refl; ptrs = refl; datums = refl; backs = refl })
       (lined_all nv nd (lines nv nd own) (lines nv nd own) 0
       (λ k. let z : 0 + k ≡ k = omega arith in ap line z))
 
   heads_entered : heads_of nv nd own
-      ≡ set_each (replicate (exit_of nv nd own + 1) false) (heads_all nv nd p.body 0) true
+      ≡ set_each (replicate (exit_of nv nd own + 1) false) (heads_all p.funcs deep nv nd p.body 0) true
   unfolding heads_all
   heads_entered =
       ap (λ (ks : List ℕ). map (is_one_of ks) (below (exit_of nv nd own + 1)))
-      (heads_numbered nv nd (exit_of nv nd own) own (all_plain p.body Done tt) 0 Done)
+      (heads_numbered nv nd (exit_of nv nd own) 0 own (all_whole p.funcs deep p.body 0 Done refl) 0 Done)
       ∙ sym (entries_are (head_numbers nv nd own 0) (exit_of nv nd own + 1))
 
-  exit_wide : wide_all nv nd p.body ≡ exit_of nv nd own
+  exit_wide : wide_all p.funcs deep nv nd p.body ≡ exit_of nv nd own
   unfolding wide_all
   exit_wide = refl
 
   abbrev pub graph_of : ℕ → ℕ → ℕ → List Edge → List Bool → Shapes → ControlGraph
   graph_of l q d es hs shapes = record { locations = l; ptrs = q; datums = d; edges = es; heads = hs; shapes = shapes }
 
-  module _ (e : ℕ) (exit : e ≡ wide_all nv nd p.body) where
-    pub edges_are : (es : List Edge) → es ≡ emit_all nv nd e p.body (in_loop e e) 0 e → es ≡ edges_of nv nd own
-    edges_are es h = h ∙ ap (λ k. emit_all nv nd k p.body (in_loop k k) 0 k) (exit ∙ exit_wide) ∙ sym edges_emitted
+  module _ (e : ℕ) (exit : e ≡ wide_all p.funcs deep nv nd p.body) where
+    pub edges_are : (es : List Edge) → es ≡ emit_all p.funcs deep nv nd e p.body (in_loop e e e) 0 e → es ≡ edges_of nv nd own
+    edges_are es h = h ∙ ap (λ k. emit_all p.funcs deep nv nd k p.body (in_loop k k k) 0 k) (exit ∙ exit_wide) ∙ sym edges_emitted
 
-    pub heads_have : (hs : List Bool) → hs ≡ set_each (replicate (e + 1) false) (heads_all nv nd p.body 0) true
+    pub heads_have : (hs : List Bool) → hs ≡ set_each (replicate (e + 1) false) (heads_all p.funcs deep nv nd p.body 0) true
         → hs ≡ heads_of nv nd own
-    heads_have hs h = h ∙ ap (λ k. set_each (replicate (k + 1) false) (heads_all nv nd p.body 0) true)
+    heads_have hs h = h ∙ ap (λ k. set_each (replicate (k + 1) false) (heads_all p.funcs deep nv nd p.body 0) true)
         (exit ∙ exit_wide) ∙ sym heads_entered
 
-    pub heads_long : (hs : List Bool) → hs ≡ set_each (replicate (e + 1) false) (heads_all nv nd p.body 0) true
+    pub heads_long : (hs : List Bool) → hs ≡ set_each (replicate (e + 1) false) (heads_all p.funcs deep nv nd p.body 0) true
         → length hs ≡ e + 1
-    heads_long hs h = ap length h ∙ length_set_each (replicate (e + 1) false) (heads_all nv nd p.body 0) true
+    heads_long hs h = ap length h ∙ length_set_each (replicate (e + 1) false) (heads_all p.funcs deep nv nd p.body 0) true
         ∙ length-replicate (e + 1) false
 
-    pub choices_told : (mode : MallocMode) (es : List Edge) → es ≡ emit_all nv nd e p.body (in_loop e e) 0 e
+    pub choices_told : (mode : MallocMode) (es : List Edge) → es ≡ emit_all p.funcs deep nv nd e p.body (in_loop e e e) 0 e
         → Every HasItsChoice (edges_in mode es)
     choices_told mode es h = told_in mode es (all_have es (subst (Every HasChoiceAsChoose) (sym (edges_are es h))
         (all_told nv nd (exit_of nv nd own) (line_of nv nd own)
         (places (numbered nv nd own) Done))))
 
     pub built : (mode : MallocMode) (l q d : ℕ) (es : List Edge) (hs : List Bool) (shapes : Shapes) → l ≡ e + 1
-        → q ≡ nv + 2 → d ≡ nd + 2 → es ≡ emit_all nv nd e p.body (in_loop e e) 0 e
-        → hs ≡ set_each (replicate (e + 1) false) (heads_all nv nd p.body 0) true → shapes ≡ p.shapes
+        → q ≡ nv + 2 → d ≡ nd + 2 → es ≡ emit_all p.funcs deep nv nd e p.body (in_loop e e e) 0 e
+        → hs ≡ set_each (replicate (e + 1) false) (heads_all p.funcs deep nv nd p.body 0) true → shapes ≡ p.shapes
         → LowerOf p mode (graph_of l q d (edges_in mode es) hs shapes)
     built mode l q d es hs shapes el eq ed ee eh es2 =
         let path : graph_of l q d es hs shapes ≡ graph_for p own =
@@ -158,4 +159,4 @@ module _ (p : Program) (none : p.funcs ≡ []) where
         (λ z. graph_of (exit_of nv nd own + 1) (nv + 2) (nd + 2) (edges_of nv nd own)
         (heads_of nv nd own) z) es2 in
         lowers_in mode p (graph_of l q d es hs shapes)
-        (subst (LowerOf p Always) (ap (graph_for p) own_items ∙ sym path) (lowers p))
+        (subst (LowerOf p Always) (sym path) (lowers p))

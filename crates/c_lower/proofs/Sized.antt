@@ -1,6 +1,7 @@
--- How many edges acts and tests have, by the lengths of their paths.
+-- How many edges acts and tests have, by the lengths of their paths, and that each step of a call has as many
+-- locations as links.
 use Rattle.std.proofs.Common.{◌≡◌, ℕ, zero, suc, ◌+◌, ◌<◌, List, [], ◌∷◌, ◌++◌, length, refl, sym, ap, ◌∙◌, arith}
-use Rattle.std.proofs.Common.{Option, Some, None}
+use Rattle.std.proofs.Common.{Option, Some, None, slice_get}
 use Rattle.std.specs.Prelude.{pred}
 use Rattle.c_types.specs.declared.program.Path.{Path}
 use Rattle.c_types.specs.declared.program.DataPath.{DataPath}
@@ -20,7 +21,11 @@ use Rattle.c_types.specs.declared.program.DataOp.TheVariants.{Path as DataOpPath
 use Rattle.c_types.specs.declared.program.Atom.{Atom}
 use Rattle.c_types.specs.declared.program.Atom.TheVariants.{Choice as ChoiceAtom, Known as KnownAtom, Ptr as PtrAtom}
 use Rattle.c_types.specs.declared.program.Atom.TheVariants.{Data as DataAtom}
-use Rattle.c_types.specs.Control.{Done}
+use Rattle.c_types.specs.declared.program.VarRef.{VarRef}
+use Rattle.c_types.specs.declared.program.Arg.{Arg}
+use Rattle.c_types.specs.declared.program.Dest.{Dest}
+use Rattle.c_types.specs.declared.program.Func.{Func}
+use Rattle.c_types.specs.Control.{Done, Do, leave_items, act_items}
 use Rattle.c_cfg.specs.declared.graph.Instr.{Instr}
 use Rattle.c_cfg.specs.declared.graph.Instr.TheVariants.{LoadPtr, StorePtr, StoreConst, Free, Kill, StoreData}
 use Rattle.c_cfg.specs.declared.graph.Const.TheVariants.{Null as ConstNull, Known as ConstKnown}
@@ -29,11 +34,11 @@ use Rattle.c_cfg.specs.declared.link.Link.{Link}
 use Rattle.c_cfg.specs.declared.link.Link.TheVariants.{One}
 use Rattle.c_cfg.specs.Links.{loads, holder, used, loads_but_last, ends, data_loads, op_loads, op_used}
 use Rattle.c_cfg.specs.Links.{data_op_loads, op_base_used, op_data_used, var_row, path_row, ptr_row, data_var_row}
-use Rattle.c_cfg.specs.Links.{data_field_row, data_row, return_row, act_row}
-use Rattle.c_lower.specs.inner.Numbering.{act_width, atom_width}
-use Rattle.c_cfg.proofs.Filling.{filled_length, act_filled}
+use Rattle.c_cfg.specs.Links.{data_field_row, data_row, return_row, act_row, enter_row, leave_row, exit_row}
+use Rattle.c_lower.specs.inner.Numbering.{width, atom_width, enter_width, exit_width}
+use Rattle.c_cfg.proofs.Filling.{Filled, act_filled, enter_filled, leave_filled, exit_filled}
 use Rattle.c_lower.specs.inner.Sizes.{end_size, path_size, var_size, field_size, ptr_size, read_size, data_var_size}
-use Rattle.c_lower.specs.inner.Sizes.{data_field_size, data_size, return_size, act_size, op_size, data_op_size}
+use Rattle.c_lower.specs.inner.Sizes.{data_field_size, data_size, return_size, leave_size, act_size, op_size, data_op_size}
 use Rattle.c_lower.specs.inner.Sizes.{atom_size}
 
 -- Parts
@@ -170,26 +175,44 @@ module _ (nv nd : ℕ) where
   return_long (Some q) = let e = more_long (data_loads nv nd q) (One (Kill (below (nv + 2)) (below (nd + 2))) ∷ []) in
       let l = data_long nv nd q in omega (arith, e, l)
 
-  act_long : (a : Act) → length (act_row nv nd a Done) ≡ act_size a
-  act_long (SetPtr to from) = ptr_long to.var to.fields from
-  act_long (SetData to from) = data_set_long to from
-  act_long (FreeAct q) =
-      let e = more_long (loads nv q.var q.fields) (One (Free (holder nv q.var q.fields)) ∷ ends (used nv q.fields) [])
-      in let l = loads_long nv q.var q.fields in let u = one_end nv q.fields in omega (arith, e, l, u)
-  act_long Error = refl
-  act_long Halt = refl
-  act_long (LeaveAct f value) = refl
-  act_long (Return operand) = return_long operand
-  act_long Break = refl
-  act_long Continue = refl
+  full : (ls : List Link) → Filled ls → suc (pred (length ls)) ≡ length ls
+  full [] h = absurd h
+  full (l ∷ ls) h = refl
 
-  pub act-sized : (a : Act) → act_width nv nd a ≡ act_size a
-  act-sized a = back (length (act_row nv nd a Done)) (filled_length (act_row nv nd a Done) (act_filled nv nd a Done))
-      ∙ act_long a
-    where
-      back : (n : ℕ) → 0 < n → suc (pred n) ≡ n
-      back zero h = absurd (omega (arith, h))
-      back (suc n) h = refl
+  -- an act that is an item as it stands
+  alone : (a : Act) (n : ℕ) → length (act_row nv nd a Done) ≡ n → width nv nd (Do a 0 Done) ≡ n
+  alone a n e = let f = full (act_row nv nd a Done) (act_filled nv nd a Done) in omega (arith, f, e)
+
+  module _ (funcs : List Func) where
+    leave_long : (g : Option Func) (f : ℕ) (value : Option Arg) → width nv nd (leave_items g f value 0 Done)
+        ≡ leave_size nv nd funcs g value
+    leave_long None f value = refl
+    leave_long (Some g) f value =
+        let e = full (leave_row nv nd g.result g.locals value) (leave_filled nv nd g.result g.locals value) in
+        omega (arith, e)
+
+    pub act-sized : (a : Act) → width nv nd (act_items funcs a 0 Done) ≡ act_size nv nd funcs a
+    act-sized (SetPtr to from) = alone (SetPtr to from) _ (ptr_long to.var to.fields from)
+    act-sized (SetData to from) = alone (SetData to from) _ (data_set_long to from)
+    act-sized (FreeAct q) =
+        let e = more_long (loads nv q.var q.fields)
+        (One (Free (holder nv q.var q.fields)) ∷ ends (used nv q.fields) []) in let l = loads_long nv q.var q.fields in
+        let u = one_end nv q.fields in alone (FreeAct q) _ (omega (arith, e, l, u))
+    act-sized Error = refl
+    act-sized Halt = refl
+    act-sized (LeaveAct f value) = leave_long (slice_get funcs f) f value
+    act-sized (Return operand) = alone (Return operand) _ (return_long operand)
+    act-sized Break = refl
+    act-sized Continue = refl
+
+  -- Calls
+
+  pub enter-sized : (vs : List VarRef) (ws : List Arg) → enter_width nv nd vs ws ≡ length (enter_row nv nd vs ws)
+  enter-sized vs ws = full (enter_row nv nd vs ws) (enter_filled nv nd vs ws)
+
+  pub exit-sized : (v : Option VarRef) (vs : List VarRef) (d : Option Dest) → exit_width nv nd v vs d
+      ≡ length (exit_row nv nd v vs d)
+  exit-sized v vs d = full (exit_row nv nd v vs d) (exit_filled nv nd v vs d)
 
   -- Tests
 
@@ -241,4 +264,4 @@ module _ (nv nd : ℕ) where
       data_op_long nv nd l in let right = data_op_long (nv + 1) (nd + 1) r in let end = data_end l r in
       omega (arith, loads_are, left, right, end)
 
-pub ruleset sizes = (act-sized, atom-sized)
+pub ruleset sizes = (act-sized, atom-sized, enter-sized, exit-sized)

@@ -1,3 +1,4 @@
+pub mod Depths
 pub mod Emitting
 pub mod Numbering
 pub mod Sites

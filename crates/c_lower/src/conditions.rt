@@ -14,7 +14,7 @@ use c_types::program::{Atom, Cond};
 use fore_base::list::List;
 use fore_base::memory::Mem;
 
-impl Site {
+impl<'p> Site<'p> {
     #[tactic(auto, using(crate::proofs::Sized::sizes))]
     fn atom_room(&self, atom: &Atom) -> Mem<u32>
         ensures { IfOk result (λ room. room ≡ atom_room self.now atom.now) }

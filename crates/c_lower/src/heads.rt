@@ -10,10 +10,10 @@ use fore_base::list::List;
 use fore_base::memory::Mem;
 use std::alloc::Global;
 
-impl Site {
+impl<'p> Site<'p> {
     /// Adds the loop heads of a statement whose first location is given.
     #[cycle(stmt_heads)]
-    #[tactic(auto, using(crate::proofs::Layers::loops))]
+    #[tactic(auto, using(crate::proofs::Layers::loops, crate::proofs::Falling::falling))]
     fn add_heads_of(&self, heads: &mut List<u32>, stmt: &Stmt, at: u32) -> Mem<()>
         ensures { OnOk result (heads.new ≡ heads.old ++ stmt_heads self.now stmt.now at) }
     {
@@ -43,13 +43,20 @@ impl Site {
                 self.add_heads(heads, next.as_slice(), between)
             }
             Stmt::Group { body, .. } => self.add_heads(heads, body.as_slice(), at),
-            Stmt::Call { .. } => Ok(()),
+            Stmt::Call { func, args, .. } => match self.funcs.get(*func as usize) {
+                None => Ok(()),
+                Some(called) => {
+                    let body = self.after_enter(called, args.as_slice(), at)?;
+                    let stmts = self.reached(called.body.as_slice());
+                    self.deeper().add_heads(heads, stmts, body)
+                }
+            },
         }
     }
 
     /// Adds the loop heads of statements whose first location is given.
     #[cycle(stmt_heads)]
-    #[tactic(auto, using(crate::proofs::Layers::loops))]
+    #[tactic(auto, using(crate::proofs::Layers::loops, crate::proofs::Falling::falling))]
     pub fn add_heads(&self, heads: &mut List<u32>, body: &[Stmt], at: u32) -> Mem<()>
         ensures { OnOk result (heads.new ≡ heads.old ++ all_heads self.now body.now at) }
     {

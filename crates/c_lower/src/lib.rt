@@ -6,6 +6,7 @@
 #![tactic(auto)]
 
 mod around;
+mod calls;
 mod conditions;
 mod heads;
 pub mod lower;

@@ -2,8 +2,7 @@
 ghost use Rattle.std.specs.Prelude.{◌≡◌, ◌<◌, ◌^◌, [], length, IfOk};
 ghost use Rattle.c_cfg.specs.Agreement.{Agrees};
 ghost use Rattle.c_cfg.specs.Lowering.{LowerOf};
-ghost use Rattle.c_lower.specs.inner.Emitting.{wide_all};
-ghost use Rattle.c_lower.specs.inner.Sites.{program_edges};
+ghost use Rattle.c_lower.specs.inner.Sites.{program_edges, program_room};
 
 use crate::around::Around;
 use crate::site::{Site, Span};
@@ -12,7 +11,7 @@ use c_links::counts::Counts;
 use c_links::failing::edges_in;
 use c_links::sums::{count, sum};
 use c_types::MallocMode;
-use c_types::program::{Stmt, Typed};
+use c_types::program::{Func, Stmt, Typed};
 use fore_base::list::{Copies, List};
 use fore_base::memory::Mem;
 use std::alloc::Global;
@@ -30,13 +29,24 @@ pub fn lower(alloc: Global, program: &Typed, mode: MallocMode) -> Mem<Graph>
     ensures lowers { IfOk result (λ graph. LowerOf program.now mode graph) }
     ensures agrees { IfOk result (λ graph. Agrees program.now mode graph) }
 {
+    let _body = &program.body;
+    graph_from(alloc, program, mode)
+}
+
+/// The graph of any program.
+fn graph_from(alloc: Global, program: &Typed, mode: MallocMode) -> Mem<Graph>
+    ensures { IfOk result (λ graph. LowerOf program.now mode graph) }
+{
     let counts = counts_of(program)?;
     let body = program.body.as_slice();
-    let exit = room_of(alloc, counts, body)?;
+    let funcs = &program.funcs;
+    let exit = room_of(alloc, counts, funcs, body)?;
     let site = Site {
         alloc,
         counts,
         exit,
+        funcs,
+        calls: funcs.len(),
     };
     let sure = site.edges_of(body)?;
     let edges = edges_in(alloc, mode, sure)?;
@@ -64,26 +74,28 @@ fn counts_of(program: &Typed) -> Mem<Counts>
     Ok(Counts { ptrs, datums })
 }
 
-/// How many locations a body takes, the exit aside.
-fn room_of(alloc: Global, counts: Counts, body: &[Stmt]) -> Mem<u32>
-    ensures { IfOk result (λ room. room ≡ wide_all counts.ptrs counts.datums body.now) }
+/// How many locations the body of `main` takes, the exit aside.
+fn room_of(alloc: Global, counts: Counts, funcs: &List<Func>, body: &[Stmt]) -> Mem<u32>
+    ensures { IfOk result (λ room. room ≡ program_room counts funcs.now body.now) }
 {
     let site = Site {
         alloc,
         counts,
         exit: 0,
+        funcs,
+        calls: funcs.len(),
     };
     site.all_room(body)
 }
 
-impl Site {
+impl<'p> Site<'p> {
     /// All edges of a program with this body, whose first location is 0.
     pub fn edges_of(&self, body: &[Stmt]) -> Mem<List<Edge>>
         ensures edges { IfOk result (λ edges. edges ≡ program_edges self.now body.now) }
         ensures few { IfOk result (λ edges. length edges < 2 ^ 32) }
     {
         let mut edges = List::new(self.alloc);
-        let around = Around::in_loop(self.alloc, self.exit, self.exit);
+        let around = Around::in_loop(self.alloc, self.exit, self.exit, self.exit);
         let span = Span {
             from: 0,
             then: self.exit,

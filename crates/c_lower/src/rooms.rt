@@ -1,21 +1,38 @@
 // How many locations statements take.
 ghost use Rattle.std.specs.Prelude.{◌≡◌, ◌+◌, IfOk};
 ghost use Rattle.c_lower.specs.inner.Emitting.{close_width};
-ghost use Rattle.c_lower.specs.inner.Sites.{act_room, test_room, stmt_room, room as all_room};
+ghost use Rattle.c_lower.specs.inner.Sites.{act_room, test_room, stmt_room, room as all_room, enter_room, exit_room};
 
 use crate::site::Site;
-use crate::sizes::act_size;
+use crate::sizes::{act_size, enter_size, exit_size};
 use c_links::sums::sum;
-use c_types::program::{Act, Cond, Stmt};
+use c_types::program::{Act, Arg, Cond, Dest, Func, Stmt};
 use fore_base::memory::Mem;
 
-impl Site {
+impl<'p> Site<'p> {
     /// The location after an act: it takes as many as it has links.
     #[tactic(auto, using(crate::proofs::Sized::sizes))]
     fn after_act(&self, act: &Act, at: u32) -> Mem<u32>
         ensures { IfOk result (λ next. next ≡ at + act_room self.now act.now) }
     {
-        let room = act_size(act)?;
+        let room = act_size(self.alloc, &self.counts, self.funcs, act)?;
+        sum(at, room)
+    }
+
+    /// The location after the enter of a call.
+    pub fn after_enter(&self, called: &Func, args: &[Arg], at: u32) -> Mem<u32>
+        ensures { IfOk result (λ next. next ≡ at + enter_room self.now called.now args.now) }
+    {
+        let room = enter_size(self.alloc, &self.counts, called.params.as_slice(), args)?;
+        sum(at, room)
+    }
+
+    /// The location after the exit of a call.
+    pub fn after_exit(&self, called: &Func, to: &Option<Dest>, at: u32) -> Mem<u32>
+        ensures { IfOk result (λ next. next ≡ at + exit_room self.now called.now to.now) }
+    {
+        let params = called.params.as_slice();
+        let room = exit_size(self.alloc, &self.counts, &called.result, params, to)?;
         sum(at, room)
     }
 
@@ -29,7 +46,7 @@ impl Site {
 
     /// The location after a statement.
     #[cycle(stmt_room)]
-    #[tactic(auto, using(crate::proofs::Layers::rooms))]
+    #[tactic(auto, using(crate::proofs::Layers::rooms, crate::proofs::Falling::falling))]
     pub fn after_stmt(&self, stmt: &Stmt, at: u32) -> Mem<u32>
         ensures { IfOk result (λ next. next ≡ at + stmt_room self.now stmt.now) }
     {
@@ -62,13 +79,21 @@ impl Site {
                 let end = self.after_all(body.as_slice(), at)?;
                 sum(end, close_room(ptrs.as_slice(), datums.as_slice()))
             }
-            Stmt::Call { .. } => Ok(at),
+            Stmt::Call { func, args, to, .. } => match self.funcs.get(*func as usize) {
+                None => Ok(at),
+                Some(called) => {
+                    let body = self.after_enter(called, args.as_slice(), at)?;
+                    let stmts = self.reached(called.body.as_slice());
+                    let end = self.deeper().after_all(stmts, body)?;
+                    self.after_exit(called, to, end)
+                }
+            },
         }
     }
 
     /// The location after statements.
     #[cycle(stmt_room)]
-    #[tactic(auto, using(crate::proofs::Layers::rooms))]
+    #[tactic(auto, using(crate::proofs::Layers::rooms, crate::proofs::Falling::falling))]
     pub fn after_all(&self, body: &[Stmt], at: u32) -> Mem<u32>
         ensures { IfOk result (λ next. next ≡ at + all_room self.now body.now) }
     {

@@ -1,13 +1,21 @@
-// How many edges acts and tests have, by the lengths of their paths.
-ghost use Rattle.std.specs.Prelude.{◌≡◌, ◌+◌, length, IfOk};
+// How many edges acts and tests have, by the lengths of their paths, and how many the steps of calls have, by their
+// links.
+ghost use Rattle.std.specs.Prelude.{◌≡◌, ◌+◌, length, slice_get, IfOk};
+ghost use Rattle.c_lower.specs.inner.Numbering.{enter_width, exit_width};
 ghost use Rattle.c_lower.specs.inner.Sizes.{end_size, step_size, path_size, var_size, field_size, ptr_size, read_size};
 ghost use Rattle.c_lower.specs.inner.Sizes.{datum_size, data_var_size, data_field_size, data_size, return_size};
-ghost use Rattle.c_lower.specs.inner.Sizes.{act_size};
+ghost use Rattle.c_lower.specs.inner.Sizes.{act_size, leave_size};
 ghost use Rattle.c_lower.specs.inner.Sizes.{test_size, op_size, data_op_size, atom_size};
 
+use c_edges::calls::{enter_links, exit_links, leave_links};
+use c_links::counts::Counts;
 use c_links::sums::{count, sum};
-use c_types::program::{Act, Atom, DataOp, DataPath, DataRhs, Path, PtrOp, PtrRhs};
+use c_types::program::{
+    Act, Arg, Atom, DataOp, DataPath, DataRhs, Dest, Func, Path, PtrOp, PtrRhs, VarRef,
+};
+use fore_base::list::List;
 use fore_base::memory::Mem;
+use std::alloc::Global;
 
 /// The `Kill` of the temporaries that so many reads use.
 fn end_size(reads: u32) -> u32
@@ -31,9 +39,9 @@ fn arrows(path: &Path) -> Mem<u32>
     count(path.fields.len())
 }
 
-/// How many edges an act has.
-pub fn act_size(act: &Act) -> Mem<u32>
-    ensures { IfOk result (λ size. size ≡ act_size act.now) }
+/// How many edges an act has, in a program with these functions.
+pub fn act_size(alloc: Global, counts: &Counts, funcs: &List<Func>, act: &Act) -> Mem<u32>
+    ensures { IfOk result (λ size. size ≡ act_size counts.now.ptrs counts.now.datums funcs.now act.now) }
 {
     match act {
         Act::SetPtr { to, from } => ptr_size(to.fields.as_slice(), from),
@@ -42,10 +50,56 @@ pub fn act_size(act: &Act) -> Mem<u32>
         Act::Error => Ok(1),
         Act::Halt => Ok(1),
         Act::Return(operand) => return_size(operand),
-        Act::Leave { .. } => Ok(1),
+        Act::Leave { func, value } => leave_size(alloc, counts, funcs, *func, value),
         Act::Break => Ok(1),
         Act::Continue => Ok(1),
     }
+}
+
+/// How many edges a `return` of a function has.
+fn leave_size(
+    alloc: Global,
+    counts: &Counts,
+    funcs: &List<Func>,
+    func: u32,
+    value: &Option<Arg>,
+) -> Mem<u32>
+    ensures { IfOk result (λ size. size
+        ≡ leave_size counts.now.ptrs counts.now.datums funcs.now (slice_get funcs.now func) value.now) }
+{
+    match funcs.get(func as usize) {
+        None => Ok(1),
+        Some(left) => {
+            let locals = left.locals.as_slice();
+            let links = leave_links(alloc, counts, &left.result, locals, value)?;
+            count(links.len())
+        }
+    }
+}
+
+/// How many edges the begin of a call has.
+#[tactic(auto, using(crate::proofs::Sized::sizes))]
+pub fn enter_size(alloc: Global, counts: &Counts, params: &[VarRef], args: &[Arg]) -> Mem<u32>
+    ensures { IfOk result (λ size. size ≡ enter_width counts.now.ptrs counts.now.datums params.now args.now) }
+{
+    let links = enter_links(alloc, counts, params, args)?;
+    count(links.len())
+}
+
+/// How many edges the end of a call has.
+#[tactic(auto, using(crate::proofs::Sized::sizes))]
+pub fn exit_size(
+    alloc: Global,
+    counts: &Counts,
+    source: &Option<VarRef>,
+    params: &[VarRef],
+    to: &Option<Dest>,
+) -> Mem<u32>
+    ensures { IfOk result (λ size. size
+        ≡ exit_width counts.now.ptrs counts.now.datums source.now params.now to.now) }
+{
+    let links = exit_links(alloc, counts, source, params, to)?;
+    count(links.len())
 }
 
 fn ptr_size(to: &[u32], from: &PtrRhs) -> Mem<u32>

@@ -1,6 +1,6 @@
 // The edges of statements.
 ghost use Rattle.std.specs.Prelude.{◌≡◌, ◌<◌, ◌+◌, ◌++◌, drop, length, OnOk, IfOk};
-ghost use Rattle.c_lower.specs.inner.Emitting.{act_to, close_edges};
+ghost use Rattle.c_lower.specs.inner.Emitting.{step_to, close_edges};
 ghost use Rattle.c_lower.specs.inner.Sites.{act_edges, stmt_edges, all_edges, branch_test, branch_spans, loop_test};
 ghost use Rattle.c_lower.specs.inner.Sites.{loop_spans, do_span, do_test, group_spans};
 
@@ -14,23 +14,6 @@ use c_types::program::{Act, Cond, Stmt};
 use fore_base::list::{Copies, List};
 use fore_base::memory::Mem;
 
-/// Where an act leads that stands before a location.
-fn act_to(act: &Act, around: &Around, exit: u32, then: u32) -> u32
-    ensures { result ≡ act_to exit around.now act.now then }
-{
-    match act {
-        Act::SetPtr { .. } => then,
-        Act::SetData { .. } => then,
-        Act::Free(_) => then,
-        Act::Error => exit,
-        Act::Halt => exit,
-        Act::Return(_) => exit,
-        Act::Leave { .. } => exit,
-        Act::Break => around.leave,
-        Act::Continue => around.again,
-    }
-}
-
 /// The statements after the one at a place.
 fn all_after(body: &[Stmt], at: usize) -> &[Stmt]
     requires { at < length body.now }
@@ -39,7 +22,7 @@ fn all_after(body: &[Stmt], at: usize) -> &[Stmt]
     body.split_at(at + 1).1
 }
 
-impl Site {
+impl<'p> Site<'p> {
     fn add_act(
         &self,
         edges: &mut List<Edge>,
@@ -50,14 +33,35 @@ impl Site {
     ) -> Mem<()>
         ensures { OnOk result (edges.new ≡ edges.old ++ act_edges self.now act.now line around.now span) }
     {
-        let links = act_links(self.alloc, &self.counts, act, &around.ptrs, &around.datums)?;
-        let to = act_to(act, around, self.exit, span.then);
+        let (ptrs, datums) = (&around.ptrs, &around.datums);
+        let links = act_links(self.alloc, &self.counts, self.funcs, act, ptrs, datums)?;
+        let to = self.act_to(act, around, span.then);
         add_chain(self.alloc, edges, line, links.as_slice(), span.from, to)
+    }
+
+    /// Where an act leads that stands before a location.
+    fn act_to(&self, act: &Act, around: &Around, then: u32) -> u32
+        ensures { result ≡ step_to self.now.funcs.now self.now.exit around.now act.now then }
+    {
+        match act {
+            Act::SetPtr { .. } => then,
+            Act::SetData { .. } => then,
+            Act::Free(_) => then,
+            Act::Error => self.exit,
+            Act::Halt => self.exit,
+            Act::Return(_) => self.exit,
+            Act::Leave { func, .. } => match self.funcs.get(*func as usize) {
+                None => self.exit,
+                Some(_) => around.back,
+            },
+            Act::Break => around.leave,
+            Act::Continue => around.again,
+        }
     }
 
     /// Adds the edges of a statement with this around it.
     #[cycle(stmt)]
-    #[tactic(auto, using(crate::proofs::Layers::statements))]
+    #[tactic(auto, using(crate::proofs::Layers::statements, crate::proofs::Falling::falling))]
     fn add_stmt(&self, edges: &mut List<Edge>, stmt: &Stmt, around: &Around, span: Span) -> Mem<()>
         ensures { OnOk result (edges.new ≡ edges.old ++ stmt_edges self.now stmt.now around.now span) }
     {
@@ -70,18 +74,18 @@ impl Site {
             }
             Stmt::While { cond, body } => {
                 let round = self.add_loop(edges, cond, &[], body.as_slice(), span)?;
-                let inner = Around::in_loop(self.alloc, span.then, round.first.then);
+                let inner = Around::in_loop(self.alloc, span.then, round.first.then, around.back);
                 self.add_all(edges, body.as_slice(), &inner, round.first)
             }
             Stmt::DoWhile { cond, body } => {
                 let round = self.do_span(body.as_slice(), span.from)?;
-                let inner = Around::in_loop(self.alloc, span.then, round.then);
+                let inner = Around::in_loop(self.alloc, span.then, round.then, around.back);
                 self.add_all(edges, body.as_slice(), &inner, round)?;
                 self.add_do_test(edges, cond, body.as_slice(), round, span.then)
             }
             Stmt::For { cond, next, body } => {
                 let round = self.add_loop(edges, cond, next.as_slice(), body.as_slice(), span)?;
-                let inner = Around::in_loop(self.alloc, span.then, round.first.then);
+                let inner = Around::in_loop(self.alloc, span.then, round.first.then, around.back);
                 self.add_all(edges, body.as_slice(), &inner, round.first)?;
                 self.add_all(edges, next.as_slice(), around, round.second)
             }
@@ -96,13 +100,36 @@ impl Site {
                 self.add_all(edges, body.as_slice(), &inner, spans.first)?;
                 self.add_close(edges, ptrs, datums, *close, spans.second)
             }
-            Stmt::Call { .. } => Ok(()),
+            Stmt::Call {
+                func,
+                args,
+                to,
+                line,
+            } => match self.funcs.get(*func as usize) {
+                None => Ok(()),
+                Some(called) => {
+                    let spans = self.call_spans(called, args.as_slice(), span)?;
+                    let end = spans.second;
+                    self.add_enter(
+                        edges,
+                        called,
+                        args.as_slice(),
+                        *line,
+                        span.from,
+                        spans.first.from,
+                    )?;
+                    let inner = around.in_call(self.alloc, end.from)?;
+                    let stmts = self.reached(called.body.as_slice());
+                    self.deeper().add_all(edges, stmts, &inner, spans.first)?;
+                    self.add_exit(edges, called, to, *line, end)
+                }
+            },
         }
     }
 
     /// Adds the edges of statements with this around them.
     #[cycle(stmt)]
-    #[tactic(auto, using(crate::proofs::Layers::statements))]
+    #[tactic(auto, using(crate::proofs::Layers::statements, crate::proofs::Falling::falling))]
     pub fn add_all(
         &self,
         edges: &mut List<Edge>,
@@ -118,7 +145,7 @@ impl Site {
             let stmt = &body[at];
             let next = self.after_stmt(stmt, from)?;
             let then = first_of(end - next, next, span.then);
-            let inner = around.inside(self.alloc, all_after(body, at))?;
+            let inner = self.inside(around, all_after(body, at))?;
             self.add_stmt(edges, stmt, &inner, Span { from, then })?;
             from = next;
         }

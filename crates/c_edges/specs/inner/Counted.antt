@@ -4,6 +4,8 @@ use Rattle.c_types.specs.declared.program.Path.{Path}
 use Rattle.c_types.specs.declared.program.DataPath.{DataPath}
 use Rattle.c_types.specs.declared.program.DataRhs.{DataRhs}
 use Rattle.c_types.specs.declared.program.DataOp.{DataOp}
+use Rattle.c_types.specs.declared.program.Arg.{Arg}
+use Rattle.c_types.specs.declared.program.Func.{Func}
 use Rattle.c_types.specs.Steps.{below}
 use Rattle.c_cfg.specs.declared.graph.Instr.TheVariants.{Kill, StoreData, Choose}
 use Rattle.c_links.specs.declared.counts.Counts.{Counts}
@@ -11,6 +13,7 @@ use Rattle.c_cfg.specs.declared.link.Link.{Link}
 use Rattle.c_cfg.specs.declared.link.Link.TheVariants.{One, Two}
 use Rattle.c_cfg.specs.Links.{loads, holder, data_var_row, data_field_row, data_row, return_row}
 use Rattle.c_cfg.specs.Links.{cmp_loads}
+use Rattle.c_edges.specs.ActLinks.{return_of}
 
 module _ (n : Counts) where
   abbrev pub data_links : DataPath → DataRhs → List Link
@@ -29,6 +32,10 @@ module _ (n : Counts) where
 
   abbrev pub return_links : Option DataPath → List Link
   return_links operand = return_row n.ptrs n.datums operand
+
+  -- a `return` of a function
+  abbrev pub returned_links : Option Func → Option Arg → List Link
+  returned_links f value = return_of n.ptrs n.datums f value
 
   -- all variables die
   abbrev pub end_links : List Link

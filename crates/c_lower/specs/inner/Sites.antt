@@ -1,27 +1,31 @@
 -- The edges of statements, as the code adds them.
-use Rattle.std.specs.Prelude.{ℕ, ◌+◌, List}
+use Rattle.std.specs.Prelude.{ℕ, pred, ◌+◌, List, length, Option, Bool, true, false, replicate}
 use Rattle.c_types.specs.declared.program.Act.{Act}
 use Rattle.c_types.specs.declared.program.Cond.{Cond}
 use Rattle.c_types.specs.declared.program.Stmt.{Stmt}
-use Rattle.c_types.specs.Control.{test_of}
+use Rattle.c_types.specs.declared.program.Arg.{Arg}
+use Rattle.c_types.specs.declared.program.Dest.{Dest}
+use Rattle.c_types.specs.declared.program.Func.{Func}
+use Rattle.c_types.specs.Control.{Done, test_of, act_items}
+use Rattle.c_cfg.specs.Links.{enter_row, exit_row}
+use Rattle.c_edges.specs.ActLinks.{links_of}
 use Rattle.c_cfg.specs.declared.graph.Edge.{Edge}
 use Rattle.c_lower.specs.declared.around.Around.{Around}
 use Rattle.c_lower.specs.declared.site.Site.{Site}
 use Rattle.c_lower.specs.declared.site.Span.{Span}
 use Rattle.c_lower.specs.declared.site.TwoSpans.{TwoSpans}
 use Rattle.c_links.specs.Chains.{chain}
-use Rattle.c_lower.specs.inner.Numbering.{test_width}
-use Rattle.c_lower.specs.inner.Emitting.{first_of, in_loop, close_width, act_to, act_links, emit_test, wide_all}
-use Rattle.c_lower.specs.inner.Emitting.{emit_stmt, emit_all, heads_stmt, heads_all}
-use Rattle.std.specs.Prelude.{Bool, true, false, replicate}
+use Rattle.c_links.specs.declared.counts.Counts.{Counts}
+use Rattle.c_lower.specs.inner.Emitting.{first_of, in_loop, close_width, step_to, emit_test, reached, wide_all}
+use Rattle.c_lower.specs.inner.Emitting.{emit_stmt, emit_all, heads_stmt, heads_all, inside_stmt, inside_all}
 use Rattle.fore_base.specs.Stores.{set_each}
 use Rattle.c_types.specs.declared.program.Atom.{Atom}
 use Rattle.c_joints.specs.declared.sides.Joint.{Joint}
-use Rattle.c_lower.specs.inner.Numbering.{act_width, atom_width, atom_edges}
+use Rattle.c_lower.specs.inner.Numbering.{width, test_width, atom_width, atom_edges, enter_width, exit_width}
 use Rattle.c_lower.specs.inner.Emitting.{joined_width, emit_parts, wide_stmt}
 
 abbrev pub act_room : Site → Act → ℕ
-act_room site a = act_width site.counts.ptrs site.counts.datums a
+act_room site a = width site.counts.ptrs site.counts.datums (act_items site.funcs.now a 0 Done)
 
 abbrev pub atom_room : Site → Atom → ℕ
 atom_room site a = atom_width site.counts.ptrs site.counts.datums a
@@ -36,26 +40,27 @@ abbrev pub joined_edges : Site → Joint → List Cond → ℕ → ℕ → ℕ �
 joined_edges site joint cs i yes' no' = emit_parts site.counts.ptrs site.counts.datums joint cs i yes' no'
 
 abbrev pub stmt_room : Site → Stmt → ℕ
-stmt_room site s = wide_stmt site.counts.ptrs site.counts.datums s
+stmt_room site s = wide_stmt site.funcs.now site.calls site.counts.ptrs site.counts.datums s
 
 abbrev pub test_room : Site → Cond → ℕ
 test_room site c = test_width site.counts.ptrs site.counts.datums (test_of c)
 
 abbrev pub room : Site → List Stmt → ℕ
-room site body = wide_all site.counts.ptrs site.counts.datums body
+room site body = wide_all site.funcs.now site.calls site.counts.ptrs site.counts.datums body
 
 abbrev pub test_edges : Site → Cond → ℕ → ℕ → ℕ → List Edge
 test_edges site c i yes' no' = emit_test site.counts.ptrs site.counts.datums (test_of c) i yes' no'
 
 abbrev pub edges_at : Site → List Stmt → Around → ℕ → ℕ → List Edge
-edges_at site body w i k = emit_all site.counts.ptrs site.counts.datums site.exit body w i k
+edges_at site body w i k = emit_all site.funcs.now site.calls site.counts.ptrs site.counts.datums site.exit body w i k
 
 abbrev pub act_edges : Site → Act → ℕ → Around → Span → List Edge
 act_edges site a line w span =
-    chain line (act_links site.counts.ptrs site.counts.datums w a) span.from (act_to site.exit w a span.then)
+    chain line (links_of site.funcs.now site.counts.ptrs site.counts.datums w.ptrs w.datums a) span.from
+    (step_to site.funcs.now site.exit w a span.then)
 
 abbrev pub stmt_edges : Site → Stmt → Around → Span → List Edge
-stmt_edges site s w span = emit_stmt site.counts.ptrs site.counts.datums site.exit s w span.from span.then
+stmt_edges site s w span = emit_stmt site.funcs.now site.calls site.counts.ptrs site.counts.datums site.exit s w span.from span.then
 
 abbrev pub all_edges : Site → List Stmt → Around → Span → List Edge
 all_edges site body w span = edges_at site body w span.from span.then
@@ -104,19 +109,60 @@ group_spans site b ps ds span = record {
   second = span_of (span.from + room site b) span.then;
 }
 
+-- Calls
+
+-- a function's body is lowered where calls are followed one less deep
+abbrev pub deeper : Site → Site
+deeper site = record site { calls = pred site.calls }
+
+abbrev pub enter_room : Site → Func → List Arg → ℕ
+enter_room site g args = enter_width site.counts.ptrs site.counts.datums g.params args
+
+abbrev pub body_room : Site → Func → ℕ
+body_room site g = room (deeper site) (reached site.calls g.body)
+
+abbrev pub exit_room : Site → Func → Option Dest → ℕ
+exit_room site g to' = exit_width site.counts.ptrs site.counts.datums g.result g.params to'
+
+-- a call's body stands after its enter, and its exit after its body
+abbrev pub call_spans : Site → Func → List Arg → Span → TwoSpans
+call_spans site g args span = record {
+  first = span_of (span.from + enter_room site g args) (span.from + enter_room site g args + body_room site g);
+  second = span_of (span.from + enter_room site g args + body_room site g) span.then;
+}
+
+abbrev pub enter_edges : Site → Func → List Arg → ℕ → ℕ → ℕ → List Edge
+enter_edges site g args line from to' =
+    chain line (enter_row site.counts.ptrs site.counts.datums g.params args) from to'
+
+abbrev pub exit_edges : Site → Func → Option Dest → ℕ → Span → List Edge
+exit_edges site g dest line span =
+    chain line (exit_row site.counts.ptrs site.counts.datums g.result g.params dest) span.from span.then
+
 -- Loop heads
 
 abbrev pub stmt_heads : Site → Stmt → ℕ → List ℕ
-stmt_heads site s i = heads_stmt site.counts.ptrs site.counts.datums s i
+stmt_heads site s i = heads_stmt site.funcs.now site.calls site.counts.ptrs site.counts.datums s i
 
 abbrev pub all_heads : Site → List Stmt → ℕ → List ℕ
-all_heads site body i = heads_all site.counts.ptrs site.counts.datums body i
+all_heads site body i = heads_all site.funcs.now site.calls site.counts.ptrs site.counts.datums body i
 
--- Programs: what is around their body leads to the exit
+-- Programs: calls are followed as deep as there are functions, and what is around main's body leads to the exit
+
+abbrev pub program_room : Counts → List Func → List Stmt → ℕ
+program_room n funcs body = wide_all funcs (length funcs) n.ptrs n.datums body
 
 abbrev pub program_edges : Site → List Stmt → List Edge
-program_edges site body = edges_at site body (in_loop site.exit site.exit) 0 site.exit
+program_edges site body = edges_at site body (in_loop site.exit site.exit site.exit) 0 site.exit
 
 -- the entries of their loop heads
 abbrev pub entries_of : Site → List Stmt → List Bool
 entries_of site body = set_each (replicate (site.exit + 1) false) (all_heads site body 0) true
+
+-- What is around statements that stand before others
+
+abbrev pub inside_one : Site → Around → Stmt → Around
+inside_one site w s = inside_stmt site.funcs.now site.calls w s
+
+abbrev pub inside_each : Site → Around → List Stmt → Around
+inside_each site w body = inside_all site.funcs.now site.calls w body

@@ -1,5 +1,5 @@
 -- How many edges acts and tests have, by the lengths of their paths.
-use Rattle.std.specs.Prelude.{ℕ, zero, suc, ◌+◌, List, [], ◌∷◌, length, Option, Some, None}
+use Rattle.std.specs.Prelude.{ℕ, zero, suc, ◌+◌, List, [], ◌∷◌, length, Option, Some, None, slice_get}
 use Rattle.c_types.specs.declared.program.DataPath.{DataPath}
 use Rattle.c_types.specs.declared.program.DataPath.TheVariants.{Var as DataVar, Field as DataField}
 use Rattle.c_types.specs.declared.program.PtrRhs.{PtrRhs}
@@ -10,6 +10,8 @@ use Rattle.c_types.specs.declared.program.DataRhs.TheVariants.{Choice as DataRhs
 use Rattle.c_types.specs.declared.program.Act.{Act}
 use Rattle.c_types.specs.declared.program.Act.TheVariants.{SetPtr, SetData, Free, Error, Halt, Return, Break, Continue}
 use Rattle.c_types.specs.declared.program.Act.TheVariants.{Leave as LeaveAct}
+use Rattle.c_types.specs.declared.program.Arg.{Arg}
+use Rattle.c_types.specs.declared.program.Func.{Func}
 use Rattle.c_types.specs.declared.program.PtrOp.{PtrOp}
 use Rattle.c_types.specs.declared.program.PtrOp.TheVariants.{Path as OpPath, Null as OpNull}
 use Rattle.c_types.specs.declared.program.DataOp.{DataOp}
@@ -17,6 +19,7 @@ use Rattle.c_types.specs.declared.program.DataOp.TheVariants.{Path as DataOpPath
 use Rattle.c_types.specs.declared.program.Atom.{Atom}
 use Rattle.c_types.specs.declared.program.Atom.TheVariants.{Choice as ChoiceAtom, Known as KnownAtom, Ptr as PtrAtom}
 use Rattle.c_types.specs.declared.program.Atom.TheVariants.{Data as DataAtom}
+use Rattle.c_cfg.specs.Links.{leave_row}
 
 -- the Kill of the temporaries that so many reads use
 abbrev pub end_size : ℕ → ℕ
@@ -75,16 +78,23 @@ abbrev pub return_size : Option DataPath → ℕ
 return_size None = 1
 return_size (Some q) = read_size q + 1
 
-abbrev pub act_size : Act → ℕ
-act_size (SetPtr to from) = ptr_size to.fields from
-act_size (SetData to from) = data_size to from
-act_size (Free q) = step_size (length q.fields)
-act_size Error = 1
-act_size Halt = 1
-act_size (Return operand) = return_size operand
-act_size (LeaveAct f value) = 1
-act_size Break = 1
-act_size Continue = 1
+-- of a program with nv pointer and nd data variables and these functions
+module _ (nv nd : ℕ) (funcs : List Func) where
+  -- a `return` of a function, and one of a function that is not there
+  abbrev pub leave_size : Option Func → Option Arg → ℕ
+  leave_size None value = 1
+  leave_size (Some g) value = length (leave_row nv nd g.result g.locals value)
+
+  abbrev pub act_size : Act → ℕ
+  act_size (SetPtr to from) = ptr_size to.fields from
+  act_size (SetData to from) = data_size to from
+  act_size (Free q) = step_size (length q.fields)
+  act_size Error = 1
+  act_size Halt = 1
+  act_size (Return operand) = return_size operand
+  act_size (LeaveAct f value) = leave_size (slice_get funcs f) value
+  act_size Break = 1
+  act_size Continue = 1
 
 -- a test after so many reads, whose temporaries die on each branch
 abbrev pub test_size : ℕ → ℕ

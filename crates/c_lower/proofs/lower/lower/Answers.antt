@@ -1,59 +1,16 @@
-use Rattle.std.proofs.Common.{rules, arith, ◌≡◌, ◌+◌, ◌<◌, ◌^◌, List, length, true, false, replicate, sym, subst}
-use Rattle.fore_base.specs.Lists.{Every}
-use Rattle.fore_base.specs.Stores.{set_each}
-use Rattle.c_cfg.specs.declared.graph.Edge.{Edge}
-use Rattle.c_cfg.specs.Graphs.{HasItsChoice}
-use Rattle.c_cfg.specs.Lowering.{LowerOf}
-use Rattle.c_lower.specs.inner.Emitting.{in_loop, wide_all, emit_all, heads_all}
-use Rattle.c_links.specs.Failing.{edges_in}
-use Rattle.c_lower.proofs.Lowered.{graph_of, heads_long, choices_told, built}
+use Rattle.std.proofs.Common.{rules, ◌≡◌, true, subst, IfOk}
+use Rattle.std.proofs.lemmas.Result.{IfOk-weaker}
 use Rattle.c_types.specs.Program.{Program, is_typed}
+use Rattle.c_cfg.specs.Graphs.{ControlGraph}
+use Rattle.c_cfg.specs.Agreement.{Agrees}
+use Rattle.c_cfg.specs.Lowering.{LowerOf}
 use Rattle.c_cfg.proofs.Agree.Agreed.{agree}
 use Rattle.c_lower.proofs.lower.lower.Goals as goal
 
-pub invariant_of-result : goal.invariant_of-result
-invariant_of-result c =
-    let p = c.args.program.now in let e = c.in_ok-exit.exit in
-    let exit : e ≡ wide_all (length p.vars) (length p.data_vars) p.body = search rules in
-    let edges : c.in_ok-sure.sure ≡ emit_all (length p.vars) (length p.data_vars) e p.body (in_loop e e) 0 e =
-    search rules in
-    let all : c.in_ok-edges.edges ≡ edges_in c.args.mode c.in_ok-sure.sure = search rules in
-    let heads : c.in_ok-heads.heads
-    ≡ set_each (replicate (e + 1) false) (heads_all (length p.vars) (length p.data_vars) p.body 0) true =
-    search rules in
-    let locations : c.in_ok-locations.locations ≡ e + 1 = search rules in
-    let few : length c.in_ok-edges.edges < 2 ^ 32 = search rules in
-    record {
-      entry = omega (arith, locations);
-      heads = omega (arith, locations, heads_long p c.requires e exit c.in_ok-heads.heads heads);
-      few = few;
-      choices = subst (Every HasItsChoice) (sym all)
-          (choices_told p c.requires e exit c.args.mode c.in_ok-sure.sure edges);
-    }
-
-pub returns : goal.returns
-returns c =
-    let p = c.args.program.now in let e = c.in_ok-exit.exit in
-    let exit : e ≡ wide_all (length p.vars) (length p.data_vars) p.body = search rules in
-    let edges : c.in_ok-sure.sure ≡ emit_all (length p.vars) (length p.data_vars) e p.body (in_loop e e) 0 e =
-    search rules in
-    let all : c.in_ok-edges.edges ≡ edges_in c.args.mode c.in_ok-sure.sure = search rules in
-    let heads : c.in_ok-heads.heads
-    ≡ set_each (replicate (e + 1) false) (heads_all (length p.vars) (length p.data_vars) p.body 0) true =
-    search rules in
-    let locations : c.in_ok-locations.locations ≡ e + 1 = search rules in
-    let ptrs : c.all_ptrs.result ≡ length p.vars + 2 = search rules in
-    let datums : c.all_datums.result ≡ length p.data_vars + 2 = search rules in
-    let shapes : c.in_ok-shapes.shapes ≡ p.shapes = search rules in
-    let low = subst
-    (λ (es : List Edge). LowerOf p c.args.mode
-    (graph_of p c.requires c.in_ok-locations.locations c.all_ptrs.result c.all_datums.result es
-    c.in_ok-heads.heads c.in_ok-shapes.shapes)) (sym all)
-    (built p c.requires e exit c.args.mode c.in_ok-locations.locations c.all_ptrs.result c.all_datums.result
-    c.in_ok-sure.sure c.in_ok-heads.heads c.in_ok-shapes.shapes locations ptrs datums edges heads shapes) in
-    record {
-      lowers = low;
-      agrees =
-          agree p (subst (λ (q : Program). is_typed q ≡ true) c.program.view_is c.program.invariant)
-          c.args.mode _ low;
-    }
+pub returns-clause-agrees : goal.returns-clause-agrees
+returns-clause-agrees c =
+    let p = c.args.program.now in
+    let typed = subst (λ (q : Program). is_typed q ≡ true) c.program.view_is c.program.invariant in
+    let low : IfOk c.graph_from.result (λ (g : ControlGraph). LowerOf p c.args.mode g) = search rules in
+    IfOk-weaker c.graph_from.result (λ (g : ControlGraph). LowerOf p c.args.mode g)
+    (λ (g : ControlGraph). Agrees p c.args.mode g) (λ g h. agree p typed c.requires c.args.mode g h) low

@@ -1,15 +1,16 @@
-use Rattle.std.proofs.Common.{rules, ◌≡◌, ◌++◌, ◌+◌, ◌∷◌, [], OnOk}
+use Rattle.std.proofs.Common.{rules, ◌≡◌, slice_get, Some, None, ◌++◌, ◌+◌, ◌∷◌, [], OnOk}
 use Rattle.std.proofs.lemmas.Result.{on_ok_weaker}
-use Rattle.c_lower.specs.inner.Emitting.{wide_stmt}
-use Rattle.c_lower.specs.inner.Sites.{test_room, room, stmt_heads, all_heads}
+use Rattle.c_lower.specs.inner.Emitting.{reached, wide_stmt}
+use Rattle.c_lower.specs.inner.Sites.{test_room, room, stmt_heads, all_heads, enter_room}
 use Rattle.c_lower.proofs.HeadsAdded.{do_heads, branch_heads, while_heads, do_while_heads, for_heads, one_headed}
-use Rattle.c_lower.proofs.HeadsAdded.{call_heads, none_headed}
+use Rattle.c_lower.proofs.HeadsAdded.{call_heads, none_heads, none_headed}
+use Rattle.c_lower.proofs.Falling.{call_falls}
 use Rattle.c_lower.proofs.site.Site.+stmt_heads.Goals as goal
 
 pub add_heads-loop-stmt-preserved : goal.add_heads-loop-stmt-preserved
 add_heads-loop-stmt-preserved t c =
     let site = c.args.self.now in let s = c.stmt-item.result in let at = c.loop-stmt.stmt-index in
-    let n : c.in_ok-next.next ≡ c.loop-stmt.from + wide_stmt site.counts.ptrs site.counts.datums s = search rules in
+    let n : c.in_ok-next.next ≡ c.loop-stmt.from + wide_stmt site.funcs.now site.calls site.counts.ptrs site.counts.datums s = search rules in
     let now : c.add_heads_of.new.heads ≡ c.loop-stmt.heads ++ stmt_heads site s c.loop-stmt.from = search rules in
     one_headed site c.args.body.now at s c.loop-stmt.from c.in_ok-next.next _ _ _ c.loop-stmt-test.true c.stmt-item.is n
     c.loop-stmt.invariant now
@@ -22,10 +23,11 @@ pub add_heads_of-returns-in-Do : goal.add_heads_of-returns-in-Do
 add_heads_of-returns-in-Do t c =
     do_heads c.args.self.now c.args.stmt.now c.args.at c.args.heads.now c.in-Do.act c.in-Do.line c.in-Do.is
 
-pub add_heads_of-returns-in-Call : goal.add_heads_of-returns-in-Call
-add_heads_of-returns-in-Call t c =
-    call_heads c.args.self.now c.args.stmt.now c.args.at c.args.heads.now c.in-Call.func c.in-Call.args c.in-Call.to
-    c.in-Call.line c.in-Call.is
+pub add_heads_of-returns-in-None : goal.add_heads_of-returns-in-None
+add_heads_of-returns-in-None t c =
+    let none : slice_get c.args.self.now.funcs.now c.in-Call.func ≡ None = search rules in
+    none_heads c.args.self.now c.args.stmt.now c.args.at c.args.heads.now c.in-Call.func c.in-Call.args c.in-Call.to
+    c.in-Call.line c.in-Call.is none
 
 pub add_heads_of-returns-in_ok-add_heads-in-Branch : goal.add_heads_of-returns-in_ok-add_heads-in-Branch
 add_heads_of-returns-in_ok-add_heads-in-Branch t c =
@@ -83,3 +85,25 @@ add_heads_of-returns-in_ok-add_heads-in-For t c =
     (for_heads site c.args.stmt.now c.args.at c.args.heads.now c.push-in-For.new.self c.add_heads-in-For.new.heads
     c.in-For.cond c.in-For.next c.in-For.body _ _ c.add_heads-in-For-2.new.heads c.in-For.is first between one two)
     three
+
+pub add_heads_of-add_heads-requires-in-Some : goal.add_heads_of-add_heads-requires-in-Some
+add_heads_of-add_heads-requires-in-Some t c =
+    let there : slice_get c.args.self.now.funcs.now c.in-Call.func ≡ Some c.in-Some.called.now = search rules in (
+      call_falls c.args.self.now c.deeper.result c.args.stmt.now c.reached-stmts.result.now c.in-Call.func c.in-Call.args
+          c.in-Call.to c.in-Call.line c.in-Some.called.now t c.in-Call.is there c.deeper.ensures (search rules) c.decreases,
+      tt,
+    )
+
+pub add_heads_of-returns-in_ok-body-in-Some : goal.add_heads_of-returns-in_ok-body-in-Some
+add_heads_of-returns-in_ok-body-in-Some t c =
+    let site = c.args.self.now in let g = c.in-Some.called.now in
+    let there : slice_get site.funcs.now c.in-Call.func ≡ Some g = search rules in
+    let first : c.in_ok-body-in-Some.body ≡ c.args.at + enter_room site g c.in-Call.args = search rules in
+    let stmts : c.reached-stmts.result.now ≡ reached site.calls g.body = search rules in
+    let one : OnOk c.add_heads-in-Some.result
+    (c.add_heads-in-Some.new.heads ≡ c.args.heads.now
+    ++ all_heads c.deeper.result c.reached-stmts.result.now c.in_ok-body-in-Some.body) = search rules in
+    on_ok_weaker _
+    (call_heads site c.args.stmt.now c.args.at c.args.heads.now c.in-Call.func c.in-Call.args c.in-Call.to
+    c.in-Call.line g c.in_ok-body-in-Some.body c.deeper.result c.reached-stmts.result.now
+    c.add_heads-in-Some.new.heads c.in-Call.is there first c.deeper.ensures stmts) one
