@@ -1,6 +1,7 @@
 -- What a call gives, an argument at a time, and which variables die, from the last one on.
 use Rattle.std.specs.Prelude.{get_or, drop}
-use Rattle.std.proofs.Common.{◌≡◌, ℕ, zero, suc, ◌+◌, ◌<◌, ◌≤◌, List, [], ◌∷◌, ◌++◌, length, Some, refl, sym, ap, ◌∙◌, arith}
+use Rattle.std.proofs.Common.{◌≡◌, ℕ, zero, suc, ◌+◌, ◌<◌, ◌≤◌, List, [], ◌∷◌, ◌++◌, length, Some, refl, sym, ap, ◌∙◌}
+use Rattle.std.proofs.Common.{arith}
 use Rattle.c_types.specs.declared.program.VarRef.{VarRef}
 use Rattle.c_types.specs.declared.program.VarRef.TheVariants.{Ptr as PtrVar, Data as DatumVar}
 use Rattle.c_types.specs.declared.program.Arg.{Arg}
@@ -9,7 +10,8 @@ use Rattle.c_types.specs.declared.program.PtrOp.TheVariants.{Path as OpPath, Nul
 use Rattle.c_types.specs.declared.program.DataOp.TheVariants.{Path as DataOpPath, Known as DataOpKnown}
 use Rattle.c_types.specs.declared.program.DataPath.TheVariants.{Var as DataVar, Field as DataField}
 use Rattle.c_types.specs.Control.{ptr_vars, datum_vars, with_result}
-use Rattle.c_cfg.specs.Links.{ends, used, used_before, enter_row, give_links, give_each, given_used, each_used, one_used}
+use Rattle.c_cfg.specs.Links.{ends, used, used_before, enter_row, give_links, give_each, given_used, each_used}
+use Rattle.c_cfg.specs.Links.{one_used}
 use Rattle.c_edges.specs.inner.Calling.{nothing_links, with_ptr, with_datum}
 use Rattle.std.proofs.lemmas.List.{drop_all, append-nil}
 use Rattle.c_cfg.specs.declared.link.Link.{Link}

@@ -58,8 +58,8 @@ returns = refl
 leaves : links_of [] 1 0 [] [] (LeaveAct 0 None) ≡ One (Stop false) ∷ []
 leaves = refl
 
--- Functions: the first has the result d3, the local variables x2 and d4, and nothing else; the second is as the first but
--- has no result
+-- Functions: the first has the result d3, the local variables x2 and d4, and nothing else; the second is as the first
+-- but has no result
 
 abbrev gives : Func
 gives = record { name = []; params = []; locals = PtrRef 2 ∷ DataRef 4 ∷ []; result = Some (DataRef 3); body = [] }

@@ -83,7 +83,8 @@ pub fn note_given(list: &mut List<u32>, counts: &Counts, from: &Arg) -> Mem<()>
     }
 }
 
-/// What a variable holds is assigned to a target of its kind; one of the other kind, which no program has, gets nothing.
+/// What a variable holds is assigned to a target of its kind; one of the other kind, which no program has, gets
+/// nothing.
 pub fn hand(links: &mut List<Link>, counts: &Counts, from: &VarRef, to: &Dest) -> Mem<()>
     ensures { OnOk result (links.new ≡ links.old ++ handed_links counts.now from.now to.now) }
 {

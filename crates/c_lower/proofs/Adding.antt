@@ -1,6 +1,7 @@
 -- What the code has added of a statement's edges.
 use Rattle.std.specs.Prelude.{get_or, drop, ◌-◌}
-use Rattle.std.proofs.Common.{◌≡◌, ℕ, ◌+◌, ◌<◌, ◌≤◌, Option, List, [], ◌++◌, length, slice_get, Some, None, refl, sym, ap, ◌∙◌, arith}
+use Rattle.std.proofs.Common.{◌≡◌, ℕ, ◌+◌, ◌<◌, ◌≤◌, Option, List, [], ◌++◌, length, slice_get, Some, None, refl, sym}
+use Rattle.std.proofs.Common.{ap, ◌∙◌, arith}
 use Rattle.std.proofs.lemmas.List.{append-nil, append_assoc}
 use Rattle.c_types.specs.declared.program.Cond.{Cond}
 use Rattle.c_types.specs.declared.program.Stmt.{Stmt}
@@ -74,7 +75,8 @@ module _ (site : Site) (w : Around) (span : Span) (s : Stmt) (old e1 e2 : List E
       three_added old _ _ _ e1 e2 e3 h (k ∙ ap (λ (v : TwoSpans). e1 ++ all_edges site x w v.first) q)
       (l ∙ ap (λ (v : TwoSpans). e2 ++ all_edges site y w v.second) q)
       ∙ ap (λ es. old ++ es)
-      (sym (emit-Branch site.funcs.now site.calls site.counts.ptrs site.counts.datums site.exit c x y w span.from span.then))
+      (sym (emit-Branch site.funcs.now site.calls site.counts.ptrs site.counts.datums site.exit c x y w span.from
+      span.then))
       ∙ ap (λ z. old ++ stmt_edges site z w span) (sym is)
 
   pub for_added : (c : Cond) (n b : List Stmt) (round : TwoSpans) (inner : Around) (e3 : List Edge) → s ≡ For c n b
@@ -86,7 +88,8 @@ module _ (site : Site) (w : Around) (span : Span) (s : Stmt) (old e1 e2 : List E
       (k ∙ ap (λ v. e1 ++ all_edges site b v round.first) i
       ∙ ap (λ (v : TwoSpans). e1 ++ all_edges site b (in_loop span.then v.first.then w.back) v.first) q)
       (l ∙ ap (λ (v : TwoSpans). e2 ++ all_edges site n w v.second) q)
-      ∙ ap (λ es. old ++ es) (sym (emit-For site.funcs.now site.calls site.counts.ptrs site.counts.datums site.exit c n b w span.from span.then))
+      ∙ ap (λ es. old ++ es) (sym (emit-For site.funcs.now site.calls site.counts.ptrs site.counts.datums site.exit c n
+      b w span.from span.then))
       ∙ ap (λ z. old ++ stmt_edges site z w span) (sym is)
 
   pub while_added : (c : Cond) (b : List Stmt) (round : TwoSpans) (inner : Around) → s ≡ While c b
@@ -99,9 +102,11 @@ module _ (site : Site) (w : Around) (span : Span) (s : Stmt) (old e1 e2 : List E
       ∙ ap (λ (v : TwoSpans). e1 ++ all_edges site b (in_loop span.then v.first.then w.back) v.first) q)
       (sym
       (ap (λ es. e2 ++ es)
-      (emit-none site.funcs.now site.calls site.counts.ptrs site.counts.datums site.exit w (loop_spans site c [] b span).second.from
+      (emit-none site.funcs.now site.calls site.counts.ptrs site.counts.datums site.exit w
+      (loop_spans site c [] b span).second.from
       span.from) ∙ append-nil e2))
-      ∙ ap (λ es. old ++ es) (sym (emit-While site.funcs.now site.calls site.counts.ptrs site.counts.datums site.exit c b w span.from span.then))
+      ∙ ap (λ es. old ++ es) (sym (emit-While site.funcs.now site.calls site.counts.ptrs site.counts.datums site.exit c
+      b w span.from span.then))
       ∙ ap (λ z. old ++ stmt_edges site z w span) (sym is)
 
   pub do_added : (c : Cond) (b : List Stmt) (round : Span) (inner : Around) → s ≡ DoWhile c b
@@ -113,7 +118,8 @@ module _ (site : Site) (w : Around) (span : Span) (s : Stmt) (old e1 e2 : List E
       ∙ ap (λ (v : Span). old ++ all_edges site b (in_loop span.then v.then w.back) v) q)
       (k ∙ ap (λ (v : Span). e1 ++ do_test site c b v span.then) q)
       ∙ ap (λ es. old ++ es)
-      (sym (emit-DoWhile site.funcs.now site.calls site.counts.ptrs site.counts.datums site.exit c b w span.from span.then))
+      (sym (emit-DoWhile site.funcs.now site.calls site.counts.ptrs site.counts.datums site.exit c b w span.from
+      span.then))
       ∙ ap (λ z. old ++ stmt_edges site z w span) (sym is)
 
   pub group_added : (b : List Stmt) (ps ds : List ℕ) (m : ℕ) (spans : TwoSpans) (inner : Around) → s ≡ Group b ps ds m
@@ -125,7 +131,8 @@ module _ (site : Site) (w : Around) (span : Span) (s : Stmt) (old e1 e2 : List E
       ∙ ap (λ (v : TwoSpans). old ++ all_edges site b (closed w ps ds) v.first) q)
       (k ∙ ap (λ (v : TwoSpans). e1 ++ close_edges ps ds m v.second.from v.second.then) q)
       ∙ ap (λ es. old ++ es)
-      (sym (emit-Group site.funcs.now site.calls site.counts.ptrs site.counts.datums site.exit b ps ds m w span.from span.then))
+      (sym (emit-Group site.funcs.now site.calls site.counts.ptrs site.counts.datums site.exit b ps ds m w span.from
+      span.then))
       ∙ ap (λ z. old ++ stmt_edges site z w span) (sym is)
 
 -- one more statement of a list
@@ -133,7 +140,13 @@ module _ (site : Site) (body : List Stmt) (w : Around) (at : ℕ) (s : Stmt) (fr
     (is : s ≡ get_or body at s) (here : from + room site (drop at body) ≡ end)
     (n : next ≡ from + wide_stmt site.funcs.now site.calls site.counts.ptrs site.counts.datums s) where
   pub room_left : next + room site (drop (at + 1) body) ≡ end
-  room_left = omega (arith, here, n, wide-drop site.funcs.now site.calls site.counts.ptrs site.counts.datums at body s h is)
+  room_left = omega (
+    arith,
+    here,
+    n,
+    wide-drop site.funcs.now site.calls site.counts.ptrs site.counts.datums at body s h
+        is,
+  )
 
   pub one_added : (after k : ℕ) (inner : Around) (old e0 e1 : List Edge) → after ≡ first_of (end - next) next k
       → inner ≡ inside_each site w (drop (at + 1) body)
@@ -146,10 +159,12 @@ module _ (site : Site) (body : List Stmt) (w : Around) (at : ℕ) (s : Stmt) (fr
       (now ∙ ap (λ v. e0 ++ stmt_edges site s v (span_of from after)) i)
       ∙ append_assoc e0 _ _
       ∙ ap (λ es. e0 ++ es)
-      (sym (emit-drop site.funcs.now site.calls site.counts.ptrs site.counts.datums site.exit at body s w from next after k h is n a2))
+      (sym (emit-drop site.funcs.now site.calls site.counts.ptrs site.counts.datums site.exit at body s w from next
+      after k h is n a2))
       ∙ was
 
 pub none_left : (site : Site) (body : List Stmt) (w : Around) (at from k : ℕ) (old e0 : List Edge) → length body ≤ at
     → e0 ++ edges_at site (drop at body) w from k ≡ old → e0 ≡ old
 none_left site body w at from k old e0 h was = sym (append-nil e0)
-    ∙ ap (λ es. e0 ++ es) (sym (emit-end site.funcs.now site.calls site.counts.ptrs site.counts.datums site.exit at body w from k h)) ∙ was
+    ∙ ap (λ es. e0 ++ es) (sym (emit-end site.funcs.now site.calls site.counts.ptrs site.counts.datums site.exit at body
+    w from k h)) ∙ was

@@ -1,5 +1,6 @@
 -- The edges that the recursion with numbers gives are those of the places.
-use Rattle.std.proofs.Common.{◌≡◌, ℕ, zero, suc, ◌+◌, ◌≤◌, List, [], ◌∷◌, ◌++◌, refl, sym, ap, ◌∙◌, replicate, arith, None}
+use Rattle.std.proofs.Common.{◌≡◌, ℕ, zero, suc, ◌+◌, ◌≤◌, List, [], ◌∷◌, ◌++◌, refl, sym, ap, ◌∙◌, replicate, arith}
+use Rattle.std.proofs.Common.{None}
 use Rattle.std.proofs.lemmas.List.{append_assoc, append-nil, length-replicate}
 use Rattle.c_types.specs.declared.program.Act.{Act}
 use Rattle.c_types.specs.declared.program.Act.TheVariants.{SetPtr, SetData, Free as FreeAct, Error, Halt, Return, Break}
@@ -88,7 +89,8 @@ module _ (nv nd exit : ℕ) (line : ℕ → ℕ) where
     pub datums : closed_datums r ≡ w.datums
     pub backs : loc nv nd exit (opened (from_exit r)) ≡ w.back
 
-  after_then : (n : ℕ) (is : Items) (i : ℕ) (r : Items) → IsWhole n is → after_again (number nv nd is i then r) ≡ after_again r
+  after_then : (n : ℕ) (is : Items) (i : ℕ) (r : Items) → IsWhole n is → after_again (number nv nd is i then r)
+      ≡ after_again r
   after_then n Done i r p = refl
   after_then n (Do a m is) i r p = after_then n is _ r p
   after_then n (Close ps ds m is) i r p = after_then n is _ r p
@@ -102,7 +104,8 @@ module _ (nv nd exit : ℕ) (line : ℕ → ℕ) where
   after_then zero (Exit v vs d m is) i r p = absurd p
   after_then (suc n) (Exit v vs d m is) i r p = after_then n is _ r p
 
-  from_then : (n : ℕ) (is : Items) (i : ℕ) (r : Items) → IsWhole n is → from_again (number nv nd is i then r) ≡ from_again r
+  from_then : (n : ℕ) (is : Items) (i : ℕ) (r : Items) → IsWhole n is → from_again (number nv nd is i then r)
+      ≡ from_again r
   from_then n Done i r p = refl
   from_then n (Do a m is) i r p = from_then n is _ r p
   from_then n (Close ps ds m is) i r p = from_then n is _ r p
@@ -201,7 +204,8 @@ module _ (nv nd exit : ℕ) (line : ℕ → ℕ) where
       ∙ ap (λ es. a ++ es) (three_more ys zs ws b c d eb ec ed)
 
   -- The contract of the code: for whatever items come after.
-  pub emits : (n : ℕ) (is : Items) → IsWhole n is → (i : ℕ) (r : Items) (w : Around) (k : ℕ) → loc nv nd exit (opened r) ≡ k
+  pub emits : (n : ℕ) (is : Items) → IsWhole n is → (i : ℕ) (r : Items) (w : Around) (k : ℕ) → loc nv nd exit (opened r)
+      ≡ k
       → Fits r w → Lined nv nd line i (lines nv nd is)
       → all_edges nv nd exit line (places (number nv nd is i) r) ≡ emit nv nd exit is w i k
   emits n Done p i r w k e f h = refl
@@ -259,7 +263,8 @@ module _ (nv nd exit : ℕ) (line : ℕ → ℕ) where
       (lined_front nv nd line i (test_lines nv nd c) (lines nv nd x ++ (lines nv nd y ++ lines nv nd is)) h))
       (emits 0 x p.0 i1 q (before nv nd w is i3) after eq fq
       (lined_front nv nd line i1 (lines nv nd x) (lines nv nd y ++ lines nv nd is) h1))
-      (emits 0 y p.1 i2 q (before nv nd w is i3) after eq fq (lined_front nv nd line i2 (lines nv nd y) (lines nv nd is) h2))
+      (emits 0 y p.1 i2 q (before nv nd w is i3) after eq fq
+      (lined_front nv nd line i2 (lines nv nd y) (lines nv nd is) h2))
       (emits n is p.2 i3 r w k e f h3)
   emits l (Loop c n b is) p i r w k e f h =
       let i1 = i + test_width nv nd c in let i2 = i1 + width nv nd b in let i3 = i2 + width nv nd n in

@@ -1,6 +1,7 @@
 -- What the code has added of a statement's loop heads.
 use Rattle.std.specs.Prelude.{get_or, drop}
-use Rattle.std.proofs.Common.{◌≡◌, ℕ, ◌+◌, ◌<◌, ◌≤◌, Option, List, [], ◌∷◌, ◌++◌, length, slice_get, Some, None, sym, ap, ◌∙◌}
+use Rattle.std.proofs.Common.{◌≡◌, ℕ, ◌+◌, ◌<◌, ◌≤◌, Option, List, [], ◌∷◌, ◌++◌, length, slice_get, Some, None, sym}
+use Rattle.std.proofs.Common.{ap, ◌∙◌}
 use Rattle.std.proofs.lemmas.List.{append-nil, append_assoc}
 use Rattle.c_types.specs.declared.program.Act.{Act}
 use Rattle.c_types.specs.declared.program.Cond.{Cond}
@@ -28,7 +29,8 @@ module _ (site : Site) (s : Stmt) (at : ℕ) (old : List ℕ) where
   same_heads z ks e is h k = k ∙ ap (λ ks. old ++ ks) (sym h) ∙ ap (λ z. old ++ stmt_heads site z at) (sym is)
 
   pub do_heads : (a : Act) (line : ℕ) → s ≡ DoStmt a line → old ≡ old ++ stmt_heads site s at
-  do_heads a line is = same_heads (DoStmt a line) [] old is (heads-Do site.funcs.now site.calls site.counts.ptrs site.counts.datums a line at)
+  do_heads a line is = same_heads (DoStmt a line) [] old is (heads-Do site.funcs.now site.calls site.counts.ptrs
+      site.counts.datums a line at)
       (sym (append-nil old))
 
   pub none_heads : (f : ℕ) (args : List Arg) (to' : Option Dest) (line : ℕ) → s ≡ Call f args to' line
@@ -54,20 +56,23 @@ module _ (site : Site) (s : Stmt) (at : ℕ) (old : List ℕ) where
         → first ≡ at + test_room site c → second ≡ first + room site x
         → e1 ≡ old ++ all_heads site x first → e2 ≡ e1 ++ all_heads site y second → e2 ≡ old ++ stmt_heads site s at
     branch_heads c x y first second is f g h k =
-        same_heads (Branch c x y) _ e2 is (heads-Branch site.funcs.now site.calls site.counts.ptrs site.counts.datums c x y at)
+        same_heads (Branch c x y) _ e2 is (heads-Branch site.funcs.now site.calls site.counts.ptrs site.counts.datums c
+        x y at)
         (two_added old _ _ e1 e2 (h ∙ ap (λ i. old ++ all_heads site x i) f)
         (k ∙ ap (λ i. e1 ++ all_heads site y i) (g ∙ ap (λ i. i + room site x) f)))
 
     pub while_heads : (c : Cond) (b : List Stmt) (first : ℕ) → s ≡ While c b → first ≡ at + test_room site c
         → e1 ≡ old ++ at ∷ [] → e2 ≡ e1 ++ all_heads site b first → e2 ≡ old ++ stmt_heads site s at
     while_heads c b first is f h k =
-        same_heads (While c b) _ e2 is (heads-While site.funcs.now site.calls site.counts.ptrs site.counts.datums c b at)
+        same_heads (While c b) _ e2 is (heads-While site.funcs.now site.calls site.counts.ptrs site.counts.datums c b
+        at)
         (two_added old (at ∷ []) _ e1 e2 h (k ∙ ap (λ i. e1 ++ all_heads site b i) f))
 
     pub do_while_heads : (c : Cond) (b : List Stmt) (test : ℕ) → s ≡ DoWhile c b → test ≡ at + room site b
         → e1 ≡ old ++ test ∷ [] → e2 ≡ e1 ++ all_heads site b at → e2 ≡ old ++ stmt_heads site s at
     do_while_heads c b test is f h k =
-        same_heads (DoWhile c b) _ e2 is (heads-DoWhile site.funcs.now site.calls site.counts.ptrs site.counts.datums c b at)
+        same_heads (DoWhile c b) _ e2 is (heads-DoWhile site.funcs.now site.calls site.counts.ptrs site.counts.datums c
+        b at)
         (two_added old ((at + room site b) ∷ []) _ e1 e2 (h ∙ ap (λ i. old ++ i ∷ []) f) k)
 
     pub for_heads : (c : Cond) (n b : List Stmt) (first between : ℕ) (e3 : List ℕ) → s ≡ For c n b
@@ -75,19 +80,23 @@ module _ (site : Site) (s : Stmt) (at : ℕ) (old : List ℕ) where
         → e1 ≡ old ++ at ∷ [] → e2 ≡ e1 ++ all_heads site b first → e3 ≡ e2 ++ all_heads site n between
         → e3 ≡ old ++ stmt_heads site s at
     for_heads c n b first between e3 is f g h k l =
-        same_heads (For c n b) _ e3 is (heads-For site.funcs.now site.calls site.counts.ptrs site.counts.datums c n b at)
+        same_heads (For c n b) _ e3 is (heads-For site.funcs.now site.calls site.counts.ptrs site.counts.datums c n b
+        at)
         (three_added old (at ∷ []) _ _ e1 e2 e3 h (k ∙ ap (λ i. e1 ++ all_heads site b i) f)
         (l ∙ ap (λ i. e2 ++ all_heads site n i) (g ∙ ap (λ i. i + room site b) f)))
 
 pub one_headed : (site : Site) (body : List Stmt) (at : ℕ) (s : Stmt) (from next : ℕ) (old e0 e1 : List ℕ)
-    → at < length body → s ≡ get_or body at s → next ≡ from + wide_stmt site.funcs.now site.calls site.counts.ptrs site.counts.datums s
+    → at < length body → s ≡ get_or body at s → next ≡ from + wide_stmt site.funcs.now site.calls site.counts.ptrs
+    site.counts.datums s
     → e0 ++ all_heads site (drop at body) from ≡ old → e1 ≡ e0 ++ stmt_heads site s from
     → e1 ++ all_heads site (drop (at + 1) body) next ≡ old
 one_headed site body at s from next old e0 e1 h is n was now =
     ap (λ es. es ++ all_heads site (drop (at + 1) body) next) now ∙ append_assoc e0 _ _
-    ∙ ap (λ es. e0 ++ es) (sym (heads-drop site.funcs.now site.calls site.counts.ptrs site.counts.datums at body s from next h is n)) ∙ was
+    ∙ ap (λ es. e0 ++ es) (sym (heads-drop site.funcs.now site.calls site.counts.ptrs site.counts.datums at body s from
+    next h is n)) ∙ was
 
 pub none_headed : (site : Site) (body : List Stmt) (at from : ℕ) (old e0 : List ℕ) → length body ≤ at
     → e0 ++ all_heads site (drop at body) from ≡ old → e0 ≡ old
 none_headed site body at from old e0 h was = sym (append-nil e0)
-    ∙ ap (λ es. e0 ++ es) (sym (heads-end site.funcs.now site.calls site.counts.ptrs site.counts.datums at body from h)) ∙ was
+    ∙ ap (λ es. e0 ++ es) (sym (heads-end site.funcs.now site.calls site.counts.ptrs site.counts.datums at body from h))
+    ∙ was

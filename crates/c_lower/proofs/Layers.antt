@@ -34,18 +34,22 @@ module _ (funcs : List Func) (deep nv nd : ℕ) where
   abbrev under : List Stmt → Items → Items
   under = body_within funcs deep
 
-  pub wide-more : (s : Stmt) (ss : List Stmt) → wide_all funcs deep nv nd (s ∷ ss) ≡ wide_stmt funcs deep nv nd s + wide_all funcs deep nv nd ss
+  pub wide-more : (s : Stmt) (ss : List Stmt) → wide_all funcs deep nv nd (s ∷ ss)
+      ≡ wide_stmt funcs deep nv nd s + wide_all funcs deep nv nd ss
   unfolding wide_all wide_stmt
-  wide-more s ss = ap (width nv nd) (items-more funcs deep s ss) ∙ width_then nv nd (items_one funcs deep s) (items_in funcs deep ss)
+  wide-more s ss = ap (width nv nd) (items-more funcs deep s ss)
+      ∙ width_then nv nd (items_one funcs deep s) (items_in funcs deep ss)
 
   pub wide-none : wide_all funcs deep nv nd [] ≡ 0
   unfolding wide_all
   wide-none = refl
 
-  pub wide-drop : (i : ℕ) (ss : List Stmt) (s : Stmt) → i < length ss → s ≡ get_or ss i s → wide_all funcs deep nv nd (drop i ss)
+  pub wide-drop : (i : ℕ) (ss : List Stmt) (s : Stmt) → i < length ss → s ≡ get_or ss i s
+      → wide_all funcs deep nv nd (drop i ss)
       ≡ wide_stmt funcs deep nv nd s + wide_all funcs deep nv nd (drop (i + 1) ss)
   wide-drop i [] s h e = absurd (omega (arith, h))
-  wide-drop zero (x ∷ ss) s h e = wide-more x ss ∙ ap (λ z. wide_stmt funcs deep nv nd z + wide_all funcs deep nv nd ss) (sym e)
+  wide-drop zero (x ∷ ss) s h e = wide-more x ss ∙ ap (λ z. wide_stmt funcs deep nv nd z + wide_all funcs deep nv nd ss)
+      (sym e)
   wide-drop (suc i) (x ∷ ss) s h e = let q : suc i + 1 ≡ suc (i + 1) = omega arith in
       rw q (wide-drop i ss s (omega (arith, h)) e)
 
@@ -98,14 +102,16 @@ module _ (funcs : List Func) (deep nv nd : ℕ) where
   closes_wide [] (d ∷ ds) m = refl
   closes_wide (p ∷ ps) ds m = refl
 
-  group_items : (b : List Stmt) (ps ds : List ℕ) (m : ℕ) → items_one funcs deep (Group b ps ds m) ≡ items_in funcs deep b
+  group_items : (b : List Stmt) (ps ds : List ℕ) (m : ℕ) → items_one funcs deep (Group b ps ds m)
+      ≡ items_in funcs deep b
       then closes ps ds m Done
   group_items b ps ds m = by-Group funcs under b ps ds m Done ∙ all_stand funcs deep b Done (closes ps ds m Done)
 
   pub wide-Group : (b : List Stmt) (ps ds : List ℕ) (m : ℕ) → wide_stmt funcs deep nv nd (Group b ps ds m)
       ≡ wide_all funcs deep nv nd b + close_width ps ds
   unfolding wide_stmt wide_all
-  wide-Group b ps ds m = ap (width nv nd) (group_items b ps ds m) ∙ width_then nv nd (items_in funcs deep b) (closes ps ds m Done)
+  wide-Group b ps ds m = ap (width nv nd) (group_items b ps ds m)
+      ∙ width_then nv nd (items_in funcs deep b) (closes ps ds m Done)
       ∙ ap (λ n. width nv nd (items_in funcs deep b) + n) (closes_wide ps ds m)
 
   pub wide-Call : (f : ℕ) (args : List Arg) (to' : Option Dest) (line : ℕ) (g : Func) → slice_get funcs f ≡ Some g
@@ -139,7 +145,8 @@ module _ (funcs : List Func) (deep nv nd : ℕ) where
 
     emit-more : (s : Stmt) (ss : List Stmt) (w : Around) (i next after k : ℕ) → next ≡ i + wide_stmt funcs deep nv nd s
         → after ≡ first_of (wide_all funcs deep nv nd ss) next k
-        → emit_all funcs deep nv nd exit (s ∷ ss) w i k ≡ emit_stmt funcs deep nv nd exit s (inside_all funcs deep w ss) i after
+        → emit_all funcs deep nv nd exit (s ∷ ss) w i k ≡ emit_stmt funcs deep nv nd exit s (inside_all funcs deep w ss)
+        i after
         ++ emit_all funcs deep nv nd exit ss w next k
     unfolding emit_all emit_stmt inside_all wide_stmt wide_all
     emit-more s ss w i next after k e f =
@@ -155,10 +162,12 @@ module _ (funcs : List Func) (deep nv nd : ℕ) where
     pub emit-drop : (i : ℕ) (ss : List Stmt) (s : Stmt) (w : Around) (from next after k : ℕ) → i < length ss
         → s ≡ get_or ss i s → next ≡ from + wide_stmt funcs deep nv nd s
         → after ≡ first_of (wide_all funcs deep nv nd (drop (i + 1) ss)) next k
-        → emit_all funcs deep nv nd exit (drop i ss) w from k ≡ emit_stmt funcs deep nv nd exit s (inside_all funcs deep w (drop (i + 1) ss)) from after
+        → emit_all funcs deep nv nd exit (drop i ss) w from k
+        ≡ emit_stmt funcs deep nv nd exit s (inside_all funcs deep w (drop (i + 1) ss)) from after
         ++ emit_all funcs deep nv nd exit (drop (i + 1) ss) w next k
     emit-drop i [] s w from next after k h e n f = absurd (omega (arith, h))
-    emit-drop zero (x ∷ ss) s w from next after k h e n f = ap (λ z. emit_all funcs deep nv nd exit (z ∷ ss) w from k) (sym e)
+    emit-drop zero (x ∷ ss) s w from next after k h e n f = ap (λ z. emit_all funcs deep nv nd exit (z ∷ ss) w from k)
+        (sym e)
         ∙ emit-more s ss w from next after k n f
     emit-drop (suc i) (x ∷ ss) s w from next after k h e n f =
         let q : suc i + 1 ≡ suc (i + 1) = omega arith in
@@ -201,9 +210,11 @@ module _ (funcs : List Func) (deep nv nd : ℕ) where
         ∙ ap
         (λ es. emit_test nv nd (test_of c) i
         (first_of (width nv nd (items_in funcs deep x)) (i + test_width nv nd (test_of c)) k)
-        (first_of (width nv nd (items_in funcs deep y)) (i + test_width nv nd (test_of c) + width nv nd (items_in funcs deep x)) k)
+        (first_of (width nv nd (items_in funcs deep y)) (i + test_width nv nd (test_of c) + width nv nd
+        (items_in funcs deep x)) k)
         ++ (emit nv nd exit (items_in funcs deep x) w (i + test_width nv nd (test_of c)) k ++ es))
-        (append-nil (emit nv nd exit (items_in funcs deep y) w (i + test_width nv nd (test_of c) + width nv nd (items_in funcs deep x)) k))
+        (append-nil (emit nv nd exit (items_in funcs deep y) w
+        (i + test_width nv nd (test_of c) + width nv nd (items_in funcs deep x)) k))
 
     emit-loop : (c : Cond) (n b : List Stmt) (w : Around) (i k : ℕ)
         → emit nv nd exit (Loop (test_of c) (items_in funcs deep n) (items_in funcs deep b) Done) w i k
@@ -211,7 +222,8 @@ module _ (funcs : List Func) (deep nv nd : ℕ) where
         (first_of (wide_all funcs deep nv nd b) (i + test_width nv nd (test_of c))
         (first_of (wide_all funcs deep nv nd n) (i + test_width nv nd (test_of c) + wide_all funcs deep nv nd b) i)) k
         ++ (emit_all funcs deep nv nd exit b
-        (in_loop k (first_of (wide_all funcs deep nv nd n) (i + test_width nv nd (test_of c) + wide_all funcs deep nv nd b) i) w.back)
+        (in_loop k (first_of (wide_all funcs deep nv nd n) (i + test_width nv nd (test_of c) + wide_all funcs deep nv nd
+        b) i) w.back)
         (i + test_width nv nd (test_of c))
         (first_of (wide_all funcs deep nv nd n) (i + test_width nv nd (test_of c) + wide_all funcs deep nv nd b) i)
         ++ emit_all funcs deep nv nd exit n w (i + test_width nv nd (test_of c) + wide_all funcs deep nv nd b) i)
@@ -220,14 +232,18 @@ module _ (funcs : List Func) (deep nv nd : ℕ) where
         ap
         (λ es. emit_test nv nd (test_of c) i
         (first_of (width nv nd (items_in funcs deep b)) (i + test_width nv nd (test_of c))
-        (first_of (width nv nd (items_in funcs deep n)) (i + test_width nv nd (test_of c) + width nv nd (items_in funcs deep b)) i)) k
+        (first_of (width nv nd (items_in funcs deep n)) (i + test_width nv nd (test_of c) + width nv nd
+        (items_in funcs deep b)) i)) k
         ++ (emit nv nd exit (items_in funcs deep b)
         (in_loop k
-        (first_of (width nv nd (items_in funcs deep n)) (i + test_width nv nd (test_of c) + width nv nd (items_in funcs deep b)) i) w.back)
+        (first_of (width nv nd (items_in funcs deep n)) (i + test_width nv nd (test_of c) + width nv nd
+        (items_in funcs deep b)) i) w.back)
         (i + test_width nv nd (test_of c))
-        (first_of (width nv nd (items_in funcs deep n)) (i + test_width nv nd (test_of c) + width nv nd (items_in funcs deep b)) i)
+        (first_of (width nv nd (items_in funcs deep n)) (i + test_width nv nd (test_of c) + width nv nd
+        (items_in funcs deep b)) i)
         ++ es))
-        (append-nil (emit nv nd exit (items_in funcs deep n) w (i + test_width nv nd (test_of c) + width nv nd (items_in funcs deep b)) i))
+        (append-nil (emit nv nd exit (items_in funcs deep n) w
+        (i + test_width nv nd (test_of c) + width nv nd (items_in funcs deep b)) i))
 
     pub emit-For : (c : Cond) (n b : List Stmt) (w : Around) (i k : ℕ)
         → emit_stmt funcs deep nv nd exit (For c n b) w i k
@@ -235,7 +251,8 @@ module _ (funcs : List Func) (deep nv nd : ℕ) where
         (first_of (wide_all funcs deep nv nd b) (i + test_width nv nd (test_of c))
         (first_of (wide_all funcs deep nv nd n) (i + test_width nv nd (test_of c) + wide_all funcs deep nv nd b) i)) k
         ++ (emit_all funcs deep nv nd exit b
-        (in_loop k (first_of (wide_all funcs deep nv nd n) (i + test_width nv nd (test_of c) + wide_all funcs deep nv nd b) i) w.back)
+        (in_loop k (first_of (wide_all funcs deep nv nd n) (i + test_width nv nd (test_of c) + wide_all funcs deep nv nd
+        b) i) w.back)
         (i + test_width nv nd (test_of c))
         (first_of (wide_all funcs deep nv nd n) (i + test_width nv nd (test_of c) + wide_all funcs deep nv nd b) i)
         ++ emit_all funcs deep nv nd exit n w (i + test_width nv nd (test_of c) + wide_all funcs deep nv nd b) i)
@@ -248,7 +265,8 @@ module _ (funcs : List Func) (deep nv nd : ℕ) where
         (first_of (wide_all funcs deep nv nd b) (i + test_width nv nd (test_of c))
         (first_of (wide_all funcs deep nv nd []) (i + test_width nv nd (test_of c) + wide_all funcs deep nv nd b) i)) k
         ++ (emit_all funcs deep nv nd exit b
-        (in_loop k (first_of (wide_all funcs deep nv nd []) (i + test_width nv nd (test_of c) + wide_all funcs deep nv nd b) i) w.back)
+        (in_loop k (first_of (wide_all funcs deep nv nd []) (i + test_width nv nd (test_of c) + wide_all funcs deep nv
+        nd b) i) w.back)
         (i + test_width nv nd (test_of c))
         (first_of (wide_all funcs deep nv nd []) (i + test_width nv nd (test_of c) + wide_all funcs deep nv nd b) i)
         ++ emit_all funcs deep nv nd exit [] w (i + test_width nv nd (test_of c) + wide_all funcs deep nv nd b) i)
@@ -257,8 +275,10 @@ module _ (funcs : List Func) (deep nv nd : ℕ) where
 
     pub emit-DoWhile : (c : Cond) (b : List Stmt) (w : Around) (i k : ℕ)
         → emit_stmt funcs deep nv nd exit (DoWhile c b) w i k
-        ≡ emit_all funcs deep nv nd exit b (in_loop k (i + wide_all funcs deep nv nd b) w.back) i (i + wide_all funcs deep nv nd b)
-        ++ emit_test nv nd (test_of c) (i + wide_all funcs deep nv nd b) (first_of (wide_all funcs deep nv nd b) i (i + wide_all funcs deep nv nd b))
+        ≡ emit_all funcs deep nv nd exit b (in_loop k (i + wide_all funcs deep nv nd b) w.back) i
+        (i + wide_all funcs deep nv nd b)
+        ++ emit_test nv nd (test_of c) (i + wide_all funcs deep nv nd b)
+        (first_of (wide_all funcs deep nv nd b) i (i + wide_all funcs deep nv nd b))
         k
     unfolding emit_stmt emit_all wide_all
     emit-DoWhile c b w i k =
@@ -278,7 +298,8 @@ module _ (funcs : List Func) (deep nv nd : ℕ) where
 
     pub emit-Group : (b : List Stmt) (ps ds : List ℕ) (m : ℕ) (w : Around) (i k : ℕ)
         → emit_stmt funcs deep nv nd exit (Group b ps ds m) w i k
-        ≡ emit_all funcs deep nv nd exit b (closed w ps ds) i (first_of (close_width ps ds) (i + wide_all funcs deep nv nd b) k)
+        ≡ emit_all funcs deep nv nd exit b (closed w ps ds) i
+        (first_of (close_width ps ds) (i + wide_all funcs deep nv nd b) k)
         ++ close_edges ps ds m (i + wide_all funcs deep nv nd b) k
     unfolding emit_stmt emit_all wide_all
     emit-Group b ps ds m w i k =
@@ -291,7 +312,8 @@ module _ (funcs : List Func) (deep nv nd : ℕ) where
         ++ emit nv nd exit (closes ps ds m Done) w (i + width nv nd (items_in funcs deep b)) k)
         (before_whole nv nd (closes ps ds m Done) (closes_whole ps ds m 0 Done refl) w
         (i + width nv nd (items_in funcs deep b)) ∙ closes_closed w ps ds m)
-        ∙ ap (λ n. emit nv nd exit (items_in funcs deep b) (closed w ps ds) i (first_of n (i + width nv nd (items_in funcs deep b)) k)
+        ∙ ap (λ n. emit nv nd exit (items_in funcs deep b) (closed w ps ds) i
+        (first_of n (i + width nv nd (items_in funcs deep b)) k)
         ++ emit nv nd exit (closes ps ds m Done) w (i + width nv nd (items_in funcs deep b)) k) (closes_wide ps ds m)
         ∙ ap
         (λ es. emit nv nd exit (items_in funcs deep b) (closed w ps ds) i
@@ -341,15 +363,18 @@ module _ (funcs : List Func) (deep nv nd : ℕ) where
   unfolding heads_all
   heads-end n ss i h = ap (λ (z : List Stmt). head_numbers nv nd (items_in funcs deep z) i) (drop_all n ss h)
 
-  heads-more : (s : Stmt) (ss : List Stmt) (i next : ℕ) → next ≡ i + wide_stmt funcs deep nv nd s → heads_all funcs deep nv nd (s ∷ ss) i
+  heads-more : (s : Stmt) (ss : List Stmt) (i next : ℕ) → next ≡ i + wide_stmt funcs deep nv nd s
+      → heads_all funcs deep nv nd (s ∷ ss) i
       ≡ heads_stmt funcs deep nv nd s i ++ heads_all funcs deep nv nd ss next
   unfolding heads_all heads_stmt wide_stmt
   heads-more s ss i next e = ap (λ z. head_numbers nv nd z i) (items-more funcs deep s ss)
-      ∙ heads_then nv nd 0 (items_one funcs deep s) (stmt_whole funcs deep s 0 Done refl) (items_in funcs deep ss) i next e
+      ∙ heads_then nv nd 0 (items_one funcs deep s) (stmt_whole funcs deep s 0 Done refl) (items_in funcs deep ss) i
+      next e
 
   pub heads-drop : (i : ℕ) (ss : List Stmt) (s : Stmt) (from next : ℕ) → i < length ss → s ≡ get_or ss i s
       → next ≡ from + wide_stmt funcs deep nv nd s
-      → heads_all funcs deep nv nd (drop i ss) from ≡ heads_stmt funcs deep nv nd s from ++ heads_all funcs deep nv nd (drop (i + 1) ss) next
+      → heads_all funcs deep nv nd (drop i ss) from ≡ heads_stmt funcs deep nv nd s from
+      ++ heads_all funcs deep nv nd (drop (i + 1) ss) next
   heads-drop i [] s from next h e n = absurd (omega (arith, h))
   heads-drop zero (x ∷ ss) s from next h e n = ap (λ z. heads_all funcs deep nv nd (z ∷ ss) from) (sym e)
       ∙ heads-more s ss from next n
@@ -383,7 +408,8 @@ module _ (funcs : List Func) (deep nv nd : ℕ) where
   heads-Branch c x y i =
       ap (λ z. head_numbers nv nd z i) (by-Branch funcs under c x y Done)
       ∙ ap (λ ks. head_numbers nv nd (items_in funcs deep x) (i + test_width nv nd (test_of c)) ++ ks)
-      (append-nil (head_numbers nv nd (items_in funcs deep y) (i + test_width nv nd (test_of c) + width nv nd (items_in funcs deep x))))
+      (append-nil (head_numbers nv nd (items_in funcs deep y)
+      (i + test_width nv nd (test_of c) + width nv nd (items_in funcs deep x))))
 
   pub heads-While : (c : Cond) (b : List Stmt) (i : ℕ) → heads_stmt funcs deep nv nd (While c b) i
       ≡ i ∷ heads_all funcs deep nv nd b (i + test_width nv nd (test_of c))
@@ -391,11 +417,13 @@ module _ (funcs : List Func) (deep nv nd : ℕ) where
   heads-While c b i = ap (λ z. head_numbers nv nd z i) (by-While funcs under c b Done)
       ∙ ap (λ ks. i ∷ ks) (append-nil (head_numbers nv nd (items_in funcs deep b) (i + test_width nv nd (test_of c))))
 
-  pub heads-DoWhile : (c : Cond) (b : List Stmt) (i : ℕ) → heads_stmt funcs deep nv nd (DoWhile c b) i ≡ (i + wide_all funcs deep nv nd b)
+  pub heads-DoWhile : (c : Cond) (b : List Stmt) (i : ℕ) → heads_stmt funcs deep nv nd (DoWhile c b) i
+      ≡ (i + wide_all funcs deep nv nd b)
       ∷ heads_all funcs deep nv nd b i
   unfolding heads_stmt heads_all wide_all
   heads-DoWhile c b i = ap (λ z. head_numbers nv nd z i) (by-DoWhile funcs under c b Done)
-      ∙ ap (λ ks. (i + width nv nd (items_in funcs deep b)) ∷ ks) (append-nil (head_numbers nv nd (items_in funcs deep b) i))
+      ∙ ap (λ ks. (i + width nv nd (items_in funcs deep b)) ∷ ks)
+      (append-nil (head_numbers nv nd (items_in funcs deep b) i))
 
   pub heads-For : (c : Cond) (n b : List Stmt) (i : ℕ)
       → heads_stmt funcs deep nv nd (For c n b) i ≡ i ∷ heads_all funcs deep nv nd b (i + test_width nv nd (test_of c))
@@ -404,7 +432,8 @@ module _ (funcs : List Func) (deep nv nd : ℕ) where
   heads-For c n b i =
       ap (λ z. head_numbers nv nd z i) (by-For funcs under c n b Done)
       ∙ ap (λ ks. i ∷ head_numbers nv nd (items_in funcs deep b) (i + test_width nv nd (test_of c)) ++ ks)
-      (append-nil (head_numbers nv nd (items_in funcs deep n) (i + test_width nv nd (test_of c) + width nv nd (items_in funcs deep b))))
+      (append-nil (head_numbers nv nd (items_in funcs deep n)
+      (i + test_width nv nd (test_of c) + width nv nd (items_in funcs deep b))))
 
   closes_heads : (ps ds : List ℕ) (m i : ℕ) → head_numbers nv nd (closes ps ds m Done) i ≡ []
   closes_heads [] [] m i = refl
@@ -416,8 +445,10 @@ module _ (funcs : List Func) (deep nv nd : ℕ) where
   unfolding heads_stmt heads_all
   heads-Group b ps ds m i =
       ap (λ z. head_numbers nv nd z i) (group_items b ps ds m)
-      ∙ heads_then nv nd 0 (items_in funcs deep b) (all_whole funcs deep b 0 Done refl) (closes ps ds m Done) i (i + width nv nd (items_in funcs deep b)) refl
-      ∙ ap (λ ks. head_numbers nv nd (items_in funcs deep b) i ++ ks) (closes_heads ps ds m (i + width nv nd (items_in funcs deep b)))
+      ∙ heads_then nv nd 0 (items_in funcs deep b) (all_whole funcs deep b 0 Done refl) (closes ps ds m Done) i
+      (i + width nv nd (items_in funcs deep b)) refl
+      ∙ ap (λ ks. head_numbers nv nd (items_in funcs deep b) i ++ ks)
+      (closes_heads ps ds m (i + width nv nd (items_in funcs deep b)))
       ∙ append-nil (head_numbers nv nd (items_in funcs deep b) i)
 
   pub heads-Call : (f : ℕ) (args : List Arg) (to' : Option Dest) (line : ℕ) (g : Func) (i : ℕ)

@@ -124,20 +124,26 @@ module _ (p : Program) where
   graph_of l q d es hs shapes = record { locations = l; ptrs = q; datums = d; edges = es; heads = hs; shapes = shapes }
 
   module _ (e : ℕ) (exit : e ≡ wide_all p.funcs deep nv nd p.body) where
-    pub edges_are : (es : List Edge) → es ≡ emit_all p.funcs deep nv nd e p.body (in_loop e e e) 0 e → es ≡ edges_of nv nd own
-    edges_are es h = h ∙ ap (λ k. emit_all p.funcs deep nv nd k p.body (in_loop k k k) 0 k) (exit ∙ exit_wide) ∙ sym edges_emitted
+    pub edges_are : (es : List Edge) → es ≡ emit_all p.funcs deep nv nd e p.body (in_loop e e e) 0 e → es
+        ≡ edges_of nv nd own
+    edges_are es h = h ∙ ap (λ k. emit_all p.funcs deep nv nd k p.body (in_loop k k k) 0 k) (exit ∙ exit_wide)
+        ∙ sym edges_emitted
 
-    pub heads_have : (hs : List Bool) → hs ≡ set_each (replicate (e + 1) false) (heads_all p.funcs deep nv nd p.body 0) true
+    pub heads_have : (hs : List Bool) → hs ≡ set_each (replicate (e + 1) false) (heads_all p.funcs deep nv nd p.body 0)
+        true
         → hs ≡ heads_of nv nd own
     heads_have hs h = h ∙ ap (λ k. set_each (replicate (k + 1) false) (heads_all p.funcs deep nv nd p.body 0) true)
         (exit ∙ exit_wide) ∙ sym heads_entered
 
-    pub heads_long : (hs : List Bool) → hs ≡ set_each (replicate (e + 1) false) (heads_all p.funcs deep nv nd p.body 0) true
+    pub heads_long : (hs : List Bool) → hs ≡ set_each (replicate (e + 1) false) (heads_all p.funcs deep nv nd p.body 0)
+        true
         → length hs ≡ e + 1
-    heads_long hs h = ap length h ∙ length_set_each (replicate (e + 1) false) (heads_all p.funcs deep nv nd p.body 0) true
+    heads_long hs h = ap length h ∙ length_set_each (replicate (e + 1) false) (heads_all p.funcs deep nv nd p.body 0)
+        true
         ∙ length-replicate (e + 1) false
 
-    pub choices_told : (mode : MallocMode) (es : List Edge) → es ≡ emit_all p.funcs deep nv nd e p.body (in_loop e e e) 0 e
+    pub choices_told : (mode : MallocMode) (es : List Edge) → es
+        ≡ emit_all p.funcs deep nv nd e p.body (in_loop e e e) 0 e
         → Every HasItsChoice (edges_in mode es)
     choices_told mode es h = told_in mode es (all_have es (subst (Every HasChoiceAsChoose) (sym (edges_are es h))
         (all_told nv nd (exit_of nv nd own) (line_of nv nd own)

@@ -38,7 +38,8 @@ use Rattle.c_cfg.specs.Links.{data_field_row, data_row, return_row, act_row, ent
 use Rattle.c_lower.specs.inner.Numbering.{width, atom_width, enter_width, exit_width}
 use Rattle.c_cfg.proofs.Filling.{Filled, act_filled, enter_filled, leave_filled, exit_filled}
 use Rattle.c_lower.specs.inner.Sizes.{end_size, path_size, var_size, field_size, ptr_size, read_size, data_var_size}
-use Rattle.c_lower.specs.inner.Sizes.{data_field_size, data_size, return_size, leave_size, act_size, op_size, data_op_size}
+use Rattle.c_lower.specs.inner.Sizes.{data_field_size, data_size, return_size, leave_size, act_size, op_size}
+use Rattle.c_lower.specs.inner.Sizes.{data_op_size}
 use Rattle.c_lower.specs.inner.Sizes.{atom_size}
 
 -- Parts

@@ -1,4 +1,5 @@
--- How much of a program is still to be lowered: a number that falls with each statement and each call that is gone into.
+-- How much of a program is still to be lowered: a number that falls with each statement and each call that is gone
+-- into.
 use Rattle.std.specs.Prelude.{ℕ, zero, suc, ◌+◌, List, [], ◌∷◌, map}
 use Rattle.c_types.specs.declared.program.Func.{Func}
 use Rattle.c_types.specs.declared.program.Stmt.{Stmt, Stmt-F, fold-Stmt}

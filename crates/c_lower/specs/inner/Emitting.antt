@@ -7,7 +7,8 @@ use Rattle.c_types.specs.declared.program.Cond.{Cond}
 use Rattle.c_types.specs.declared.program.Func.{Func}
 use Rattle.c_types.specs.declared.program.Stmt.{Stmt}
 use Rattle.c_types.specs.Control.{Items, Done, Do, Close, If, Loop, Again, DoLoop, DoAgain, Test, Ask, Not, Both}
-use Rattle.c_types.specs.Control.{Either, Enter, Leave, Exit, joined, merged, test_of, items_by, body_within, all_before}
+use Rattle.c_types.specs.Control.{Either, Enter, Leave, Exit, joined, merged, test_of, items_by, body_within}
+use Rattle.c_types.specs.Control.{all_before}
 use Rattle.c_cfg.specs.declared.graph.Instr.TheVariants.{Kill}
 use Rattle.c_cfg.specs.declared.graph.Edge.{Edge}
 use Rattle.c_lower.specs.declared.around.Around.{Around}

@@ -60,7 +60,8 @@ act_edges site a line w span =
     (step_to site.funcs.now site.exit w a span.then)
 
 abbrev pub stmt_edges : Site → Stmt → Around → Span → List Edge
-stmt_edges site s w span = emit_stmt site.funcs.now site.calls site.counts.ptrs site.counts.datums site.exit s w span.from span.then
+stmt_edges site s w span = emit_stmt site.funcs.now site.calls site.counts.ptrs site.counts.datums site.exit s w
+    span.from span.then
 
 abbrev pub all_edges : Site → List Stmt → Around → Span → List Edge
 all_edges site body w span = edges_at site body w span.from span.then

@@ -13,11 +13,13 @@ pub invariant_of-result : goal.invariant_of-result
 invariant_of-result c =
     let p = c.args.program.now in let e = c.in_ok-exit.exit in
     let exit : e ≡ wide_all p.funcs (length p.funcs) (length p.vars) (length p.data_vars) p.body = search rules in
-    let edges : c.in_ok-sure.sure ≡ emit_all p.funcs (length p.funcs) (length p.vars) (length p.data_vars) e p.body (in_loop e e e) 0 e =
+    let edges : c.in_ok-sure.sure ≡ emit_all p.funcs (length p.funcs) (length p.vars) (length p.data_vars) e p.body
+    (in_loop e e e) 0 e =
     search rules in
     let all : c.in_ok-edges.edges ≡ edges_in c.args.mode c.in_ok-sure.sure = search rules in
     let heads : c.in_ok-heads.heads
-    ≡ set_each (replicate (e + 1) false) (heads_all p.funcs (length p.funcs) (length p.vars) (length p.data_vars) p.body 0) true =
+    ≡ set_each (replicate (e + 1) false) (heads_all p.funcs (length p.funcs) (length p.vars) (length p.data_vars) p.body
+    0) true =
     search rules in
     let locations : c.in_ok-locations.locations ≡ e + 1 = search rules in
     let few : length c.in_ok-edges.edges < 2 ^ 32 = search rules in
@@ -33,11 +35,13 @@ pub returns : goal.returns
 returns c =
     let p = c.args.program.now in let e = c.in_ok-exit.exit in
     let exit : e ≡ wide_all p.funcs (length p.funcs) (length p.vars) (length p.data_vars) p.body = search rules in
-    let edges : c.in_ok-sure.sure ≡ emit_all p.funcs (length p.funcs) (length p.vars) (length p.data_vars) e p.body (in_loop e e e) 0 e =
+    let edges : c.in_ok-sure.sure ≡ emit_all p.funcs (length p.funcs) (length p.vars) (length p.data_vars) e p.body
+    (in_loop e e e) 0 e =
     search rules in
     let all : c.in_ok-edges.edges ≡ edges_in c.args.mode c.in_ok-sure.sure = search rules in
     let heads : c.in_ok-heads.heads
-    ≡ set_each (replicate (e + 1) false) (heads_all p.funcs (length p.funcs) (length p.vars) (length p.data_vars) p.body 0) true =
+    ≡ set_each (replicate (e + 1) false) (heads_all p.funcs (length p.funcs) (length p.vars) (length p.data_vars) p.body
+    0) true =
     search rules in
     let locations : c.in_ok-locations.locations ≡ e + 1 = search rules in
     let ptrs : c.all_ptrs.result ≡ length p.vars + 2 = search rules in

@@ -13,7 +13,8 @@ add_all-loop-at-preserved t c =
     let site = c.args.self.now in let body = c.args.body.now in let at = c.loop-at.at in let s =
     c.index-body-at.result in
     let h : at < length body = c.loop-at-test.true in
-    let n : c.in_ok-next.next ≡ c.loop-at.from + wide_stmt site.funcs.now site.calls site.counts.ptrs site.counts.datums s = search rules in
+    let n : c.in_ok-next.next ≡ c.loop-at.from + wide_stmt site.funcs.now site.calls site.counts.ptrs site.counts.datums
+    s = search rules in
     let inner : c.in_ok-inner.inner ≡ inside_each site c.args.around.now (drop (at + 1) body) = search rules in
     let now : c.add_stmt.new.edges ≡ c.loop-at.edges
     ++ stmt_edges site s c.in_ok-inner.inner (span_of c.loop-at.from c.first_of-then.result) = search rules in
@@ -120,11 +121,11 @@ add_stmt-returns-in_ok-add_all-in-Group t c =
 
 pub add_stmt-add_all-requires-in-Some : goal.add_stmt-add_all-requires-in-Some
 add_stmt-add_all-requires-in-Some t c =
-    let there : slice_get c.args.self.now.funcs.now c.in-Call.func ≡ Some c.in-Some.called.now = search rules in (
-      call_falls c.args.self.now c.deeper.result c.args.stmt.now c.reached-stmts.result.now c.in-Call.func c.in-Call.args
-          c.in-Call.to c.in-Call.line c.in-Some.called.now t c.in-Call.is there c.deeper.ensures (search rules) c.decreases,
-      tt,
-    )
+    let there : slice_get c.args.self.now.funcs.now c.in-Call.func ≡ Some c.in-Some.called.now = search rules in
+    let falls = call_falls c.args.self.now c.deeper.result c.args.stmt.now c.reached-stmts.result.now c.in-Call.func
+    c.in-Call.args c.in-Call.to c.in-Call.line c.in-Some.called.now t c.in-Call.is there c.deeper.ensures (search rules)
+    c.decreases in
+    (falls, tt)
 
 pub add_stmt-returns-in_ok-add_all-in-Some : goal.add_stmt-returns-in_ok-add_all-in-Some
 add_stmt-returns-in_ok-add_all-in-Some t c =

@@ -10,7 +10,8 @@ use Rattle.c_lower.proofs.site.Site.+stmt_heads.Goals as goal
 pub add_heads-loop-stmt-preserved : goal.add_heads-loop-stmt-preserved
 add_heads-loop-stmt-preserved t c =
     let site = c.args.self.now in let s = c.stmt-item.result in let at = c.loop-stmt.stmt-index in
-    let n : c.in_ok-next.next ≡ c.loop-stmt.from + wide_stmt site.funcs.now site.calls site.counts.ptrs site.counts.datums s = search rules in
+    let n : c.in_ok-next.next ≡ c.loop-stmt.from + wide_stmt site.funcs.now site.calls site.counts.ptrs
+    site.counts.datums s = search rules in
     let now : c.add_heads_of.new.heads ≡ c.loop-stmt.heads ++ stmt_heads site s c.loop-stmt.from = search rules in
     one_headed site c.args.body.now at s c.loop-stmt.from c.in_ok-next.next _ _ _ c.loop-stmt-test.true c.stmt-item.is n
     c.loop-stmt.invariant now
@@ -88,11 +89,11 @@ add_heads_of-returns-in_ok-add_heads-in-For t c =
 
 pub add_heads_of-add_heads-requires-in-Some : goal.add_heads_of-add_heads-requires-in-Some
 add_heads_of-add_heads-requires-in-Some t c =
-    let there : slice_get c.args.self.now.funcs.now c.in-Call.func ≡ Some c.in-Some.called.now = search rules in (
-      call_falls c.args.self.now c.deeper.result c.args.stmt.now c.reached-stmts.result.now c.in-Call.func c.in-Call.args
-          c.in-Call.to c.in-Call.line c.in-Some.called.now t c.in-Call.is there c.deeper.ensures (search rules) c.decreases,
-      tt,
-    )
+    let there : slice_get c.args.self.now.funcs.now c.in-Call.func ≡ Some c.in-Some.called.now = search rules in
+    let falls = call_falls c.args.self.now c.deeper.result c.args.stmt.now c.reached-stmts.result.now c.in-Call.func
+    c.in-Call.args c.in-Call.to c.in-Call.line c.in-Some.called.now t c.in-Call.is there c.deeper.ensures (search rules)
+    c.decreases in
+    (falls, tt)
 
 pub add_heads_of-returns-in_ok-body-in-Some : goal.add_heads_of-returns-in_ok-body-in-Some
 add_heads_of-returns-in_ok-body-in-Some t c =
