@@ -1,5 +1,5 @@
 // The control graph of a program.
-ghost use Rattle.std.specs.Prelude.{◌≡◌, ◌<◌, ◌^◌, [], length, IfOk};
+ghost use Rattle.std.specs.Prelude.{◌≡◌, ◌<◌, ◌^◌, length, IfOk};
 ghost use Rattle.c_cfg.specs.Agreement.{Agrees};
 ghost use Rattle.c_cfg.specs.Lowering.{LowerOf};
 ghost use Rattle.c_lower.specs.inner.Sites.{program_edges, program_room};
@@ -16,7 +16,7 @@ use fore_base::list::{Copies, List};
 use fore_base::memory::Mem;
 use std::alloc::Global;
 
-/// The control graph of a program without functions, where `malloc` has this mode. On any choices both meet the same
+/// The control graph of a program, where `malloc` has this mode. On any choices both meet the same
 /// faults in the same lines, both end, or both want a choice. The graph's locations are numbered in order of the text,
 /// those in the middle of a step after the one at which it begins, and the exit is the last. They do not depend on the
 /// mode.
@@ -25,7 +25,6 @@ use std::alloc::Global;
 ///
 /// Want of memory, also where there would be more locations, variables or edges than 32 bits count.
 pub fn lower(alloc: Global, program: &Typed, mode: MallocMode) -> Mem<Graph>
-    requires { program.now.funcs ≡ [] }
     ensures lowers { IfOk result (λ graph. LowerOf program.now mode graph) }
     ensures agrees { IfOk result (λ graph. Agrees program.now mode graph) }
 {

@@ -13,4 +13,4 @@ returns-clause-agrees c =
     let typed = subst (λ (q : Program). is_typed q ≡ true) c.program.view_is c.program.invariant in
     let low : IfOk c.graph_from.result (λ (g : ControlGraph). LowerOf p c.args.mode g) = search rules in
     IfOk-weaker c.graph_from.result (λ (g : ControlGraph). LowerOf p c.args.mode g)
-    (λ (g : ControlGraph). Agrees p c.args.mode g) (λ g h. agree p typed c.requires c.args.mode g h) low
+    (λ (g : ControlGraph). Agrees p c.args.mode g) (λ g h. agree p typed c.args.mode g h) low
