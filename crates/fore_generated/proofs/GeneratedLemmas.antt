@@ -1,9 +1,7 @@
 -- Why there is no generated program.
-use Rattle.std.proofs.Common.{◌≡◌, ℕ, List, ap}
-use Rattle.fore_base.specs.declared.shape.Shapes.{Shapes}
+use Rattle.std.proofs.Common.{ℕ}
 use Rattle.c_types.specs.Program.{Program}
 use Rattle.c_front.specs.Files.{IsProgramOf}
-use Rattle.fa_core.specs.Boxes.{Boxes}
 use Rattle.fore_gen.specs.Programs.{program_text}
 use Rattle.fore_read.specs.Bytes.{IsProgramFault}
 use Rattle.fore_read.specs.declared.fault.ReadFault.{ReadFault as Fault}
@@ -11,7 +9,7 @@ use Rattle.fore_read.specs.declared.fault.ReadFault.TheVariants as fault
 use Rattle.fore_read.specs.declared.fault.Refusal.TheVariants.{TooLong, Breaks, BoxesTooLong, BoxRule, BoxLimit}
 use Rattle.fore_words.specs.declared.asked.Kind.{Kind}
 use Rattle.fore_words.specs.declared.asked.Kind.TheVariants.{ListPhases, DllPhases, TreePhases}
-use Rattle.fore_generated.specs.Generated.{IsTableFor, IsTableFaultOf, IsGeneratedFault}
+use Rattle.fore_generated.specs.Generated.{IsTableFaultOf, IsGeneratedFault}
 
 -- where there is no table for the kind, its boxes are refused
 pub no_table : (kind : Kind) (phases : ℕ) (p : Program) → IsProgramOf (program_text kind phases) p → (f : Fault)
@@ -36,9 +34,3 @@ not_taken kind phases (fault.Refused (BoxRule rule line)) h = absurd h
 not_taken kind phases (fault.Refused (BoxLimit line)) h = absurd h
 not_taken kind phases fault.Failed h = absurd h
 not_taken kind phases fault.Memory h = tt
-
--- the table of a kind is one over the structs of the program
-pub structs_of_kind : (kind : Kind) (shapes : Shapes) (t : Boxes) → IsTableFor kind shapes t → t.face.shapes ≡ shapes
-structs_of_kind ListPhases shapes t is = ap (λ b. b.face.shapes) is
-structs_of_kind DllPhases shapes t is = ap (λ f. f.shapes) is.face
-structs_of_kind TreePhases shapes t is = ap (λ b. b.face.shapes) is
