@@ -1,0 +1,5 @@
+pub mod CallingLemmas
+pub mod CountingLemmas
+pub mod FunctionLemmas
+mod NameLemmas
+mod WeightLemmas
