@@ -38,7 +38,8 @@ module _ (names : List Text) where
 
   -- a call, and then what its operands call
   pub called-call : (found : List ℕ) (c : Call) → called names found (call_callees c)
-      ≡ called names (called_one names found (out-Call c).name.text) (joined (map operand_callees (out-Call c).operands))
+      ≡ called names (called_one names found (out-Call c).name.text)
+      (joined (map operand_callees (out-Call c).operands))
   called-call found c =
       ap (called names found)
       (ap call_callees (sym (roll-out-Call c)) ∙ callees-operands (out-Call c).name (out-Call c).operands)

@@ -1,11 +1,11 @@
 //! Which functions the functions of a file call, and what `main` weighs.
 //!
-//! - `calls_of` has for each function, and for `main` after them, the functions that its body calls; `call_graph` is the
-//! graph of these calls.
+//! - `calls_of` has for each function, and for `main` after them, the functions that its body calls; `call_graph` is
+//! the graph of these calls.
 //! - `statements_of` has how many statements each body has, and `main_weight` what `main` weighs.
 //!
-//! `functions` has the names of the functions in their order, `naming` finds them; `operands` and `statements` go through
-//! a body for what it calls, `counting` for how many statements it has.
+//! `functions` has the names of the functions in their order, `naming` finds them, and `bodies` the body of a name;
+//! `operands` and `statements` go through a body for what it calls, `counting` for how many statements it has.
 #![tactic(auto)]
 
 mod bodies;

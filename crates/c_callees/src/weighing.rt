@@ -58,8 +58,8 @@ fn last_of(numbers: &List<u32>) -> u32
 }
 
 /// What `main` weighs, or `cap` where that is less: the statements of its body, and for each call in it what the called
-/// function weighs. `graph` is that of the items' calls. Where a function leads to itself, calls are followed as deep as
-/// there are functions.
+/// function weighs. `graph` is that of the items' calls. Where a function leads to itself, calls are followed as deep
+/// as there are functions.
 ///
 /// # Errors
 ///

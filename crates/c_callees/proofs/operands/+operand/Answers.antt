@@ -10,14 +10,18 @@ pub operands_calls-loop-operand-preserved : goal.operands_calls-loop-operand-pre
 operands_calls-loop-operand-preserved t c =
     let names = c.args.names.now in
     let i = c.loop-operand.operand-index in
-    ap (λ ns. called names ns (joined (map operand_callees (drop (i + 1) c.args.operands.now)))) c.in_ok-operand_calls.ensures
-    ∙ sym (each_called names operand_callees c.args.operands.now i c.loop-operand.found c.operand-item.result c.loop-operand-test.true c.operand-item.is)
+    ap (λ ns. called names ns (joined (map operand_callees (drop (i + 1) c.args.operands.now))))
+    c.in_ok-operand_calls.ensures
+    ∙ sym
+    (each_called names operand_callees c.args.operands.now i c.loop-operand.found c.operand-item.result c.loop-operand-test.true
+    c.operand-item.is)
     ∙ c.loop-operand.invariant
 
 pub operands_calls-returns : goal.operands_calls-returns
 operands_calls-returns t c =
     sym
-    (none_called c.args.names.now operand_callees c.args.operands.now c.loop-operand.operand-index c.loop-operand.found c.loop-operand-test.false)
+    (none_called c.args.names.now operand_callees c.args.operands.now c.loop-operand.operand-index c.loop-operand.found
+    c.loop-operand-test.false)
     ∙ c.loop-operand.invariant
 
 pub call_calls-returns : goal.call_calls-returns

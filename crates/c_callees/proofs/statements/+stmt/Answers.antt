@@ -11,13 +11,16 @@ parts_calls-loop-part-preserved t c =
     let names = c.args.names.now in
     let i = c.loop-part.part-index in
     ap (λ ns. called names ns (joined (map part_callees (drop (i + 1) c.args.parts.now)))) c.in_ok-part_calls.ensures
-    ∙ sym (each_called names part_callees c.args.parts.now i c.loop-part.found c.part-item.result c.loop-part-test.true c.part-item.is)
+    ∙ sym
+    (each_called names part_callees c.args.parts.now i c.loop-part.found c.part-item.result c.loop-part-test.true
+    c.part-item.is)
     ∙ c.loop-part.invariant
 
 pub parts_calls-returns : goal.parts_calls-returns
 parts_calls-returns t c =
     sym
-    (none_called c.args.names.now part_callees c.args.parts.now c.loop-part.part-index c.loop-part.found c.loop-part-test.false)
+    (none_called c.args.names.now part_callees c.args.parts.now c.loop-part.part-index c.loop-part.found
+    c.loop-part-test.false)
     ∙ c.loop-part.invariant
 
 pub stmt_calls-returns-in_ok-other_calls-in-If : goal.stmt_calls-returns-in_ok-other_calls-in-If

@@ -7,7 +7,8 @@ use Rattle.c_callees.proofs.weighing.main_weight.Goals as goal
 
 pub weigh-requires : goal.weigh-requires
 weigh-requires c =
-    ap length (c.as_slice.ensures ∙ c.in_ok-statements.ensures) ∙ statements_long c.args.items.now ∙ sym (ap length c.requires)
+    ap length (c.as_slice.ensures ∙ c.in_ok-statements.ensures) ∙ statements_long c.args.items.now
+    ∙ sym (ap length c.requires)
 
 pub returns : goal.returns
 returns c =
