@@ -5,4 +5,5 @@ pub mod Kept
 pub mod RoundLemmas
 pub mod Stacks
 pub mod Stepping
+pub mod Walks
 mod Rows

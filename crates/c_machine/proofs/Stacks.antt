@@ -1,12 +1,20 @@
 -- The machine's stack and its opening, an entry and a layer at a time.
-use Rattle.std.proofs.Common.{◌≡◌, ℕ, ◌+◌, Option, List, [], ◌∷◌, ◌++◌, map, refl, sym, ap, ◌∙◌, subst, arith}
+use Rattle.std.proofs.Common.{Bor, Bool, true, false}
+use Rattle.std.proofs.Common.{◌≡◌, ℕ, zero, suc, ◌+◌, Option, Some, None, List, [], ◌∷◌, ◌++◌, map, length, slice_get}
+use Rattle.std.proofs.Common.{refl, sym, ap, ◌∙◌, subst, arith}
+use Rattle.std.proofs.lemmas.List.{nil_from_length}
+use Rattle.c_types.specs.declared.program.Act.{Act}
+use Rattle.c_types.specs.declared.program.Act.TheVariants.{SetPtr, SetData, Free, Error, Halt, Return, Break, Continue}
+use Rattle.c_types.specs.declared.program.Act.TheVariants.{Leave as LeaveAct}
+use Rattle.c_types.specs.declared.program.Func.{Func}
 use Rattle.c_types.specs.declared.program.Atom.{Atom}
 use Rattle.c_types.specs.declared.program.Cond.{Cond, fold-roll-Cond}
 use Rattle.c_types.specs.declared.program.Cond.TheVariants.{Atom as CondAtom, Not as CondNot, All as CondAll}
 use Rattle.c_types.specs.declared.program.Cond.TheVariants.{Any as CondAny, rolls-Atom, rolls-Not, rolls-All, rolls-Any}
 use Rattle.c_types.specs.declared.program.Cond.TheOpen.{Atom as Atom-F, Not as Not-F, All as All-F, Any as Any-F}
 use Rattle.c_types.specs.declared.program.Stmt.{Stmt, Stmt-F, map-Stmt, ind-Stmt, fold-roll-Stmt}
-use Rattle.c_types.specs.declared.program.Stmt.TheVariants.{DoWhile, Group, Call, rolls-DoWhile, rolls-Group}
+use Rattle.c_types.specs.declared.program.Stmt.TheVariants.{Do as StmtDo, Branch, While, For, DoWhile, Group, Call}
+use Rattle.c_types.specs.declared.program.Stmt.TheVariants.{rolls-DoWhile, rolls-Group}
 use Rattle.c_types.specs.declared.program.Stmt.TheVariants.{rolls-Call}
 use Rattle.c_types.specs.declared.program.Arg.{Arg}
 use Rattle.c_types.specs.declared.program.Dest.{Dest}
@@ -16,15 +24,21 @@ use Rattle.c_types.specs.declared.program.Stmt.TheOpen.{Call as Call-F}
 use Rattle.c_types.specs.Control.{Items, Done, Do, Close, If, Loop, Again, DoLoop, DoAgain, Enter, Leave, Exit, Test}
 use Rattle.c_types.specs.Control.{Both, Either, ◌then◌}
 use Rattle.c_types.specs.Control.{ask, round, do_round, open_before, opened, joined, test_of, all_before, closes}
-use Rattle.c_types.specs.Control.{items_of}
+use Rattle.c_types.specs.Control.{leave_items, act_items, call_items, items_step, items_by, body_within, items_of, start_of}
 use Rattle.c_types.proofs.Turns.{then_done}
-use Rattle.c_types.proofs.Layers.{test-Atom, test-Not, test-All, test-Any, items-Do, items-Branch, items-While}
-use Rattle.c_types.proofs.Layers.{items-For, items-DoWhile, items-Group, items-Call, acts_none}
-use Rattle.c_types.proofs.NoFunctions.{plain_step}
+use Rattle.c_types.proofs.Layers.{test-Atom, test-Not, test-All, test-Any, by-Do, by-Branch, by-While, by-For}
+use Rattle.c_types.proofs.Layers.{by-DoWhile, by-Group, by-Call}
+use Rattle.c_types.specs.Program.{Program}
+use Rattle.c_machine.specs.declared.items.Body.{Body}
 use Rattle.c_machine.specs.declared.items.Item.{Item}
+use Rattle.c_machine.specs.declared.items.Item.TheVariants.{Block as ItemBlock, Again as ItemAgain}
+use Rattle.c_machine.specs.declared.items.Item.TheVariants.{DoAgain as ItemDoAgain}
+use Rattle.c_machine.specs.declared.items.Sides.{Sides}
+use Rattle.c_machine.specs.declared.items.Sides.TheVariants.{Branch as SideBranch, Round, DoRound}
 use Rattle.c_machine.specs.declared.items.Part.{Part}
 use Rattle.fore_base.specs.Lists.{sum_of}
-use Rattle.c_machine.specs.Pending.{block, before, onto, Ways, and_then, or_else, through, narrowed, test_before}
+use Rattle.c_machine.specs.Pending.{way, ways_of, block}
+use Rattle.c_machine.specs.Pending.{item_of, in_order, before, onto, Ways, and_then, or_else, through, narrowed, test_before}
 use Rattle.c_machine.specs.Pending.{size_step, size_of, weight_step, weight_of, block_weight, item_weight, stack_weight}
 
 -- Items
@@ -64,74 +78,194 @@ open_then (Exit v vs e m is) d r o = ap (Exit v vs e m) (then_then is d r)
 abbrev pub StandsBefore : (Items → Items) → Type 0
 StandsBefore f = (c r : Items) → f (c then r) ≡ f c then r
 
-closes_then : (ps ds : List ℕ) (m : ℕ) (c r : Items) → closes ps ds m (c then r) ≡ closes ps ds m c then r
+closes_then : (ps ds : List ℕ) (m : ℕ) → StandsBefore (closes ps ds m)
 closes_then [] [] m c r = refl
 closes_then [] (d ∷ ds) m c r = refl
 closes_then (p ∷ ps) ds m c r = refl
 
-each_before : (es : List ((s : Stmt) × StandsBefore (items_of [] s)))
-    → StandsBefore (all_before (map (items_of []) (map (λ e. e.0) es)))
-each_before [] c r = refl
-each_before (e ∷ es) c r = ap (items_of [] e.0) (each_before es c r)
-    ∙ e.1 (all_before (map (items_of []) (map (λ e. e.0) es)) c) r
+act_then : (funcs : List Func) (a : Act) (m : ℕ) → StandsBefore (act_items funcs a m)
+act_then funcs (SetPtr to from) m c r = refl
+act_then funcs (SetData to from) m c r = refl
+act_then funcs (Free p) m c r = refl
+act_then funcs Error m c r = refl
+act_then funcs Halt m c r = refl
+act_then funcs (Return operand) m c r = refl
+act_then funcs (LeaveAct f value) m c r = here (slice_get funcs f)
+  where
+    here : (o : Option Func) → leave_items o f value m (c then r) ≡ leave_items o f value m c then r
+    here None = refl
+    here (Some g) = refl
+act_then funcs Break m c r = refl
+act_then funcs Continue m c r = refl
 
-layer_before : (y : Stmt-F ((s : Stmt) × StandsBefore (items_of [] s)))
-    → StandsBefore
-    (plain_step
-    (map-Stmt Stmt (Items → Items) (items_of [])
-    (map-Stmt ((s : Stmt) × StandsBefore (items_of [] s)) Stmt (λ e. e.0) y)))
-layer_before (Do-F a line) c r = acts_none a line (c then r) ∙ ap (λ z. z then r) (sym (acts_none a line c))
-layer_before (Branch-F t x y) c r = refl
-layer_before (While-F t b) c r = refl
-layer_before (DoWhile-F t b) c r = refl
-layer_before (For-F t n b) c r = refl
-layer_before (Group-F b ps ds m) c r = ap (all_before (map (items_of []) (map (λ e. e.0) b))) (closes_then ps ds m c r)
-    ∙ each_before b (closes ps ds m c) r
-layer_before (Call-F f args to' line) c r = refl
+module _ (funcs : List Func) (inside : List Stmt → Items → Items)
+    (bodies : (b : List Stmt) → StandsBefore (inside b)) where
+  abbrev its : Stmt → Items → Items
+  its = items_by funcs inside
 
-items_before : (s : Stmt) → StandsBefore (items_of [] s)
-items_before = ind-Stmt (λ s. StandsBefore (items_of [] s)) (λ x y is.
-    let here : StandsBefore (plain_step (map-Stmt Stmt (Items → Items) (items_of []) x)) =
-    subst (λ z. StandsBefore (plain_step (map-Stmt Stmt (Items → Items) (items_of []) z))) is (layer_before y) in
-    λ c r. ap (λ f. f (c then r)) (fold-roll-Stmt (Items → Items) plain_step x) ∙ here c r
-    ∙ ap (λ f. f c then r) (sym (fold-roll-Stmt (Items → Items) plain_step x)))
+  abbrev bare : List ((s : Stmt) × StandsBefore (its s)) → List Stmt
+  bare es = map (λ e. e.0) es
 
-all_then : (ss : List Stmt) (c r : Items) → block ss (c then r) ≡ block ss c then r
-all_then [] c r = refl
-all_then (s ∷ ss) c r = ap (items_of [] s) (all_then ss c r) ∙ items_before s (block ss c) r
+  each_before : (es : List ((s : Stmt) × StandsBefore (its s))) → StandsBefore (all_before (map its (bare es)))
+  each_before [] c r = refl
+  each_before (e ∷ es) c r = ap (its e.0) (each_before es c r) ∙ e.1 (all_before (map its (bare es)) c) r
 
-pub block_then : (ss : List Stmt) (r : Items) → block ss Done then r ≡ block ss r
-block_then ss r = sym (all_then ss Done r)
+  call_before : (o : Option Func) (args : List Arg) (to' : Option Dest) (m : ℕ)
+      → StandsBefore (call_items inside o args to' m)
+  call_before None args to' m c r = refl
+  call_before (Some g) args to' m c r = ap (Enter g.params args m) (bodies g.body (Exit g.result g.params to' m c) r)
+
+  layer_before : (y : Stmt-F ((s : Stmt) × StandsBefore (its s)))
+      → StandsBefore
+      (items_step funcs inside
+      (map-Stmt Stmt (Items → Items) its (map-Stmt ((s : Stmt) × StandsBefore (its s)) Stmt (λ e. e.0) y)))
+  layer_before (Do-F a line) c r = act_then funcs a line c r
+  layer_before (Branch-F t x y) c r = refl
+  layer_before (While-F t b) c r = refl
+  layer_before (DoWhile-F t b) c r = refl
+  layer_before (For-F t n b) c r = refl
+  layer_before (Group-F b ps ds m) c r = ap (all_before (map its (bare b))) (closes_then ps ds m c r)
+      ∙ each_before b (closes ps ds m c) r
+  layer_before (Call-F f args to' line) c r = call_before (slice_get funcs f) args to' line c r
+
+  stmt_before : (s : Stmt) → StandsBefore (its s)
+  stmt_before = ind-Stmt (λ s. StandsBefore (its s)) (λ x y is.
+      let here : StandsBefore (items_step funcs inside (map-Stmt Stmt (Items → Items) its x)) =
+      subst (λ z. StandsBefore (items_step funcs inside (map-Stmt Stmt (Items → Items) its z))) is (layer_before y) in
+      λ c r. ap (λ f. f (c then r)) (fold-roll-Stmt (Items → Items) (items_step funcs inside) x) ∙ here c r
+      ∙ ap (λ f. f c then r) (sym (fold-roll-Stmt (Items → Items) (items_step funcs inside) x)))
+
+  all_stand : (ss : List Stmt) → StandsBefore (all_before (map its ss))
+  all_stand [] c r = refl
+  all_stand (s ∷ ss) c r = ap (its s) (all_stand ss c r) ∙ stmt_before s (all_before (map its ss) c) r
+
+body_stands : (funcs : List Func) (n : ℕ) (b : List Stmt) → StandsBefore (body_within funcs n b)
+body_stands funcs zero b c r = refl
+body_stands funcs (suc n) b c r = all_stand funcs (body_within funcs n) (body_stands funcs n) b c r
+
+pub block_then : (funcs : List Func) (ss : List Stmt) (r : Items)
+    → in_order funcs ss Done then r ≡ in_order funcs ss r
+unfolding in_order
+block_then funcs ss r =
+    sym (all_stand funcs (body_within funcs (length funcs)) (body_stands funcs (length funcs)) ss Done r)
+
+-- Statements in turn
+
+pub in_order_none : (funcs : List Func) (r : Items) → in_order funcs [] r ≡ r
+unfolding in_order
+in_order_none funcs r = refl
+
+-- an entry of no statements
+pub block_none : (x : Item) (b : Body) (r : Items) → x ≡ ItemBlock b → length b.stmts.now ≡ 0 → r ≡ before x r
+block_none x b r is none = sym
+    (ap (λ z. before z r) is ∙ ap (λ ss. in_order b.program.now.funcs ss r) (nil_from_length b.stmts.now none)
+    ∙ in_order_none b.program.now.funcs r)
+
+pub in_order_more : (funcs : List Func) (s : Stmt) (ss : List Stmt) (r : Items)
+    → in_order funcs (s ∷ ss) r ≡ item_of funcs s (in_order funcs ss r)
+unfolding in_order item_of
+in_order_more funcs s ss r = refl
+
+pub in_order_all : (p : Program) → in_order p.funcs p.body Done ≡ start_of p
+unfolding in_order
+in_order_all p = refl
+
+-- A statement, by its outer part
+
+abbrev deep : List Func → List Stmt → Items → Items
+deep funcs = body_within funcs (length funcs)
+
+pub of-Do : (funcs : List Func) (a : Act) (line : ℕ) (r : Items) → item_of funcs (StmtDo a line) r
+    ≡ act_items funcs a line r
+unfolding item_of
+of-Do funcs = by-Do funcs (deep funcs)
+
+pub of-Branch : (funcs : List Func) (c : Cond) (x y : List Stmt) (r : Items) → item_of funcs (Branch c x y) r
+    ≡ If (test_of c) (in_order funcs x Done) (in_order funcs y Done) r
+unfolding in_order item_of
+of-Branch funcs = by-Branch funcs (deep funcs)
+
+pub of-While : (funcs : List Func) (c : Cond) (b : List Stmt) (r : Items) → item_of funcs (While c b) r
+    ≡ Loop (test_of c) (in_order funcs [] Done) (in_order funcs b Done) r
+unfolding in_order item_of
+of-While funcs = by-While funcs (deep funcs)
+
+pub of-For : (funcs : List Func) (c : Cond) (n b : List Stmt) (r : Items) → item_of funcs (For c n b) r
+    ≡ Loop (test_of c) (in_order funcs n Done) (in_order funcs b Done) r
+unfolding in_order item_of
+of-For funcs = by-For funcs (deep funcs)
+
+pub of-DoWhile : (funcs : List Func) (c : Cond) (b : List Stmt) (r : Items) → item_of funcs (DoWhile c b) r
+    ≡ DoLoop (test_of c) (in_order funcs b Done) r
+unfolding in_order item_of
+of-DoWhile funcs = by-DoWhile funcs (deep funcs)
+
+pub of-Group : (funcs : List Func) (b : List Stmt) (ps ds : List ℕ) (close : ℕ) (r : Items)
+    → item_of funcs (Group b ps ds close) r ≡ in_order funcs b (closes ps ds close r)
+unfolding in_order item_of
+of-Group funcs = by-Group funcs (deep funcs)
+
+pub of_none : (funcs : List Func) (f : ℕ) (args : List Arg) (to' : Option Dest) (line : ℕ) (r : Items)
+    → slice_get funcs f ≡ None → item_of funcs (Call f args to' line) r ≡ r
+unfolding item_of
+of_none funcs f args to' line r at =
+    by-Call funcs (deep funcs) f args to' line r ∙ ap (λ o. call_items (deep funcs) o args to' line r) at
+
+-- a call, as a law of programs says what its items are
+pub of_call : (funcs : List Func) (g : Func) (f : ℕ) (args : List Arg) (to' : Option Dest) (line : ℕ) (r : Items)
+    → items_of funcs (Call f args to' line) r
+    ≡ Enter g.params args line (all_before (map (items_of funcs) g.body) (Exit g.result g.params to' line r))
+    → item_of funcs (Call f args to' line) r
+    ≡ Enter g.params args line (in_order funcs g.body (Exit g.result g.params to' line r))
+unfolding in_order item_of
+of_call funcs g f args to' line r law = law
 
 -- Openings
 
 -- a `do`'s body goes first
-pub opened-DoLoop : (c : Test) (b : List Stmt) (r : Items) → opened (DoLoop c (block b Done) r)
-    ≡ opened (block b (DoAgain c (block b Done) r))
-opened-DoLoop c b r =
-    let is : Items = block b Done in
+pub opened-DoLoop : (funcs : List Func) (c : Test) (b : List Stmt) (r : Items)
+    → opened (DoLoop c (in_order funcs b Done) r) ≡ opened (in_order funcs b (DoAgain c (in_order funcs b Done) r))
+opened-DoLoop funcs c b r =
+    let is : Items = in_order funcs b Done in
     ap (λ z. open_before is (DoAgain c is z) (ask c (do_round c is) Done z)) (then_done r)
     ∙ ap (λ z. open_before is z (ask c (do_round c is) Done r)) (ap (DoAgain c is) (sym (then_done r)))
     ∙ ap (λ z. open_before is (DoAgain c is (r then Done)) (ask c (do_round c is) Done z)) (sym (then_done r))
     ∙ sym (open_then is (DoAgain c is r) Done Done)
-    ∙ ap opened (block_then b (DoAgain c is r))
+    ∙ ap opened (block_then funcs b (DoAgain c is r))
 
 -- what a `for` does next goes before its loop
-pub opened-Again : (c : Test) (n : List Stmt) (b r : Items) → opened (Again c (block n Done) b r)
-    ≡ opened (block n (Loop c (block n Done) b r))
-opened-Again c n b r =
-    let is : Items = block n Done in
+pub opened-Again : (funcs : List Func) (c : Test) (n : List Stmt) (b r : Items)
+    → opened (Again c (in_order funcs n Done) b r)
+    ≡ opened (in_order funcs n (Loop c (in_order funcs n Done) b r))
+opened-Again funcs c n b r =
+    let is : Items = in_order funcs n Done in
     ap (λ z. open_before is (Loop c is b z) (ask c (round c is b) Done z)) (then_done r)
     ∙ ap (λ z. open_before is z (ask c (round c is b) Done r)) (ap (Loop c is b) (sym (then_done r)))
     ∙ ap (λ z. open_before is (Loop c is b (r then Done)) (ask c (round c is b) Done z)) (sym (then_done r))
     ∙ sym (open_then is (Loop c is b r) Done Done)
-    ∙ ap opened (block_then n (Loop c is b r))
+    ∙ ap opened (block_then funcs n (Loop c is b r))
 
 pub opened-Loop : (c : Test) (n b r : Items) → opened (Loop c n b r) ≡ opened (If c (round c n b) Done r)
 opened-Loop c n b r = refl
 
 pub opened-DoAgain : (c : Test) (b r : Items) → opened (DoAgain c b r) ≡ opened (If c (do_round c b) Done r)
 opened-DoAgain c b r = refl
+
+-- The side of a condition that is taken, on the stack
+
+pub branch_yes : (sides : Sides) (yes' no' : Body) (b : Bool) (r s : Items) → sides ≡ SideBranch yes' no' → b ≡ true
+    → s ≡ block yes' r → s ≡ way b (ways_of sides) then r
+branch_yes sides yes' no' b r s at held put =
+    put ∙ sym (block_then yes'.program.now.funcs yes'.stmts.now r)
+    ∙ ap (λ c. way c (ways_of (SideBranch yes' no')) then r) (sym held)
+    ∙ ap (λ x. way b (ways_of x) then r) (sym at)
+
+pub branch_no : (sides : Sides) (yes' no' : Body) (b : Bool) (r s : Items) → sides ≡ SideBranch yes' no' → b ≡ false
+    → s ≡ block no' r → s ≡ way b (ways_of sides) then r
+branch_no sides yes' no' b r s at missed put =
+    put ∙ sym (block_then no'.program.now.funcs no'.stmts.now r)
+    ∙ ap (λ c. way c (ways_of (SideBranch yes' no')) then r) (sym missed)
+    ∙ ap (λ x. way b (ways_of x) then r) (sym at)
 
 -- Conditions, a layer at a time
 
@@ -207,17 +341,35 @@ pub through_parts : (w : Ways) (xs ys : List Part) (x : Part) → xs ≡ ys ++ x
 through_parts w xs ys x e = ap (through w) e ∙ through_push w ys x
 
 -- the yes side of a loop's test, on the stack
-pub turn_then : (c : Test) (n : Items) (b : List Stmt) (r : Items) → round c n (block b Done)
-    then r ≡ block b (Again c n (block b Done) r)
-turn_then c n b r = then_then (block b Done) (Again c n (block b Done) Done) r
-    ∙ block_then b (Again c n (block b Done) r)
+pub turn_then : (funcs : List Func) (c : Test) (n : Items) (b : List Stmt) (r : Items)
+    → round c n (in_order funcs b Done) then r ≡ in_order funcs b (Again c n (in_order funcs b Done) r)
+turn_then funcs c n b r =
+    let is : Items = in_order funcs b Done in
+    then_then is (Again c n is Done) r ∙ block_then funcs b (Again c n is r)
 
-pub do_turn_then : (c : Test) (b : List Stmt) (r : Items) → do_round c (block b Done)
-    then r ≡ block b (DoAgain c (block b Done) r)
-do_turn_then c b r = then_then (block b Done) (DoAgain c (block b Done) Done) r
-    ∙ block_then b (DoAgain c (block b Done) r)
+pub do_turn_then : (funcs : List Func) (c : Test) (b : List Stmt) (r : Items)
+    → do_round c (in_order funcs b Done) then r ≡ in_order funcs b (DoAgain c (in_order funcs b Done) r)
+do_turn_then funcs c b r =
+    let is : Items = in_order funcs b Done in
+    then_then is (DoAgain c is Done) r ∙ block_then funcs b (DoAgain c is r)
 
-pub ruleset sides = (block_then, turn_then, do_turn_then)
+pub round_yes : (sides : Sides) (c : Bor Cond) (n body : Body) (b : Bool) (r q s : Items) → sides ≡ Round c n body
+    → b ≡ true → q ≡ before (ItemAgain c n body) r → s ≡ block body q → s ≡ way b (ways_of sides) then r
+round_yes sides c n body b r q s at held again put =
+    put ∙ ap (block body) again
+    ∙ sym (turn_then body.program.now.funcs (test_of c.now) (block n Done) body.stmts.now r)
+    ∙ ap (λ x. way x (ways_of (Round c n body)) then r) (sym held)
+    ∙ ap (λ x. way b (ways_of x) then r) (sym at)
+
+pub do_round_yes : (sides : Sides) (c : Bor Cond) (body : Body) (b : Bool) (r q s : Items) → sides ≡ DoRound c body
+    → b ≡ true → q ≡ before (ItemDoAgain c body) r → s ≡ block body q → s ≡ way b (ways_of sides) then r
+do_round_yes sides c body b r q s at held again put =
+    put ∙ ap (block body) again
+    ∙ sym (do_turn_then body.program.now.funcs (test_of c.now) body.stmts.now r)
+    ∙ ap (λ x. way x (ways_of (DoRound c body)) then r) (sym held)
+    ∙ ap (λ x. way b (ways_of x) then r) (sym at)
+
+pub ruleset sides = (branch_yes, branch_no, round_yes, do_round_yes)
 
 pub ruleset asking = (ask_all, ask_any, through_push)
 
@@ -226,13 +378,16 @@ pub ruleset parting = (through_push, through_parts)
 pub ruleset pushing = (onto_push, weight_push, through_push)
 
 pub ruleset layers = (
-  items-Do,
-  items-Branch,
-  items-While,
-  items-For,
-  items-DoWhile,
-  items-Group,
-  items-Call,
+  in_order_none,
+  in_order_more,
+  in_order_all,
+  of-Do,
+  of-Branch,
+  of-While,
+  of-For,
+  of-DoWhile,
+  of-Group,
+  of_none,
   opened-DoLoop,
   opened-Again,
   weight-DoWhile,

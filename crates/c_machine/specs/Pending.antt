@@ -1,5 +1,6 @@
 -- What the machine's stack, and what stands before it, mean as pending items.
-use Rattle.std.specs.Prelude.{◌≡◌, ℕ, ◌+◌, ◌≤◌, List, [], ◌∷◌, map, Bool, true, false}
+use Rattle.std.specs.Prelude.{◌≡◌, ℕ, zero, suc, ◌+◌, ◌≤◌, List, [], ◌∷◌, map, length, Bool, true, false, Option, Some}
+use Rattle.std.specs.Prelude.{None, slice_get}
 use Rattle.std.specs.Vec.{vec_len, vec_capacity}
 use Rattle.fore_base.specs.Lists.{sum_of}
 use Rattle.c_types.specs.declared.program.Atom.TheVariants.{Known as KnownAtom}
@@ -9,36 +10,48 @@ use Rattle.c_types.specs.declared.program.Stmt.{Stmt, Stmt-F, fold-Stmt}
 use Rattle.c_types.specs.declared.program.Stmt.TheOpen.{Do as Do-F, Branch as Branch-F, While as While-F}
 use Rattle.c_types.specs.declared.program.Stmt.TheOpen.{DoWhile as DoWhile-F, For as For-F, Group as Group-F}
 use Rattle.c_types.specs.declared.program.Stmt.TheOpen.{Call as Call-F}
-use Rattle.c_types.specs.Control.{Test, Ask, Both, Either, Items, Done, Do, Close, If, Loop, Again, DoAgain, ◌then◌}
-use Rattle.c_types.specs.Control.{round, do_round, opened, joined, test_of, items_of, all_before, closes, after_again}
-use Rattle.c_types.specs.Control.{from_again, closed_ptrs, closed_datums}
+use Rattle.c_types.specs.declared.program.Func.{Func}
+use Rattle.c_types.specs.Control.{Test, Ask, Both, Either, Items, Done, Do, Close, If, Loop, Again, DoAgain, Enter, Leave}
+use Rattle.c_types.specs.Control.{Exit, ◌then◌, round, do_round, opened, joined, test_of, items_of, all_before, closes}
+use Rattle.c_types.specs.Control.{after_again, from_again, closed_ptrs, closed_datums}
 use Rattle.fore_base.specs.declared.store.Store.{Store}
 use Rattle.fore_base.specs.Stores.{kill}
+use Rattle.c_machine.specs.declared.items.Body.{Body}
 use Rattle.c_machine.specs.declared.items.Item.{Item}
 use Rattle.c_machine.specs.declared.items.Item.TheVariants.{Block, Close as ItemClose, Loop as ItemLoop}
 use Rattle.c_machine.specs.declared.items.Item.TheVariants.{Again as ItemAgain, DoAgain as ItemDoAgain}
+use Rattle.c_machine.specs.declared.items.Item.TheVariants.{Exit as ItemExit}
 use Rattle.c_machine.specs.declared.items.Part.{Part}
 use Rattle.c_machine.specs.declared.items.Part.TheVariants.{Negated, AllOf, AnyOf}
 use Rattle.c_machine.specs.declared.items.Sides.{Sides}
 use Rattle.c_machine.specs.declared.items.Sides.TheVariants.{Branch as SideBranch, Round, DoRound}
 use Rattle.c_machine.specs.declared.items.Front.{Front}
 use Rattle.c_machine.specs.declared.items.Front.TheVariants.{Shut, Asked, Act as FrontAct, Test as FrontTest, Truth}
-use Rattle.c_machine.specs.declared.items.Front.TheVariants.{Close as FrontClose, Nothing}
+use Rattle.c_machine.specs.declared.items.Front.TheVariants.{Close as FrontClose, Enter as FrontEnter}
+use Rattle.c_machine.specs.declared.items.Front.TheVariants.{Leave as FrontLeave, Exit as FrontExit, Nothing}
 use Rattle.c_machine.specs.declared.items.Control.{Control}
 use Rattle.c_machine.specs.declared.answering.Past.{Past}
 use Rattle.c_machine.specs.declared.answering.Past.TheVariants.{Known, Asks}
 
--- the items of some statements of a program without functions, before others
-abbrev pub block : List Stmt → Items → Items
-block ss r = all_before (map (items_of []) ss) r
+-- the items of a statement of a program with these functions, before others
+unfoldable pub item_of : List Func → Stmt → Items → Items
+item_of funcs s r = items_of funcs s r
+
+-- the same of some statements in turn
+unfoldable pub in_order : List Func → List Stmt → Items → Items
+in_order funcs ss r = all_before (map (items_of funcs) ss) r
+
+abbrev pub block : Body → Items → Items
+block b r = in_order b.program.now.funcs b.stmts.now r
 
 -- an entry of the stack, before others
 abbrev pub before : Item → Items → Items
-before (Block ss) r = block ss.now r
+before (Block b) r = block b r
 before (ItemClose ps ds m) r = closes ps.now ds.now m r
-before (ItemLoop c n b) r = Loop (test_of c.now) (block n.now Done) (block b.now Done) r
-before (ItemAgain c n b) r = Again (test_of c.now) (block n.now Done) (block b.now Done) r
-before (ItemDoAgain c b) r = DoAgain (test_of c.now) (block b.now Done) r
+before (ItemLoop c n b) r = Loop (test_of c.now) (block n Done) (block b Done) r
+before (ItemAgain c n b) r = Again (test_of c.now) (block n Done) (block b Done) r
+before (ItemDoAgain c b) r = DoAgain (test_of c.now) (block b Done) r
+before (ItemExit g d m) r = Exit g.now.result g.now.params d.now m r
 
 -- a stack, its last entry first
 abbrev pub onto : Items → List Item → Items
@@ -74,9 +87,9 @@ through w [] = w
 through w (x ∷ xs) = through (narrowed x w) xs
 
 abbrev pub ways_of : Sides → Ways
-ways_of (SideBranch x y) = record { when = block x.now Done; otherwise = block y.now Done }
-ways_of (Round c n b) = record { when = round (test_of c.now) (block n.now Done) (block b.now Done); otherwise = Done }
-ways_of (DoRound c b) = record { when = do_round (test_of c.now) (block b.now Done); otherwise = Done }
+ways_of (SideBranch x y) = record { when = block x Done; otherwise = block y Done }
+ways_of (Round c n b) = record { when = round (test_of c.now) (block n Done) (block b Done); otherwise = Done }
+ways_of (DoRound c b) = record { when = do_round (test_of c.now) (block b Done); otherwise = Done }
 
 abbrev pub test_before : Test → Ways → Items → Items
 test_before c w r = If c w.when w.otherwise r
@@ -89,6 +102,9 @@ facing (FrontAct a m) parts r = Do a.now m r
 facing (FrontTest a m sides) parts r = test_before (Ask a.now m) (through (ways_of sides) parts) r
 facing (Truth sides) parts r = test_before (Ask (KnownAtom true) 0) (through (ways_of sides) parts) r
 facing (FrontClose ps ds m) parts r = Close ps.now ds.now m r
+facing (FrontEnter g ws m) parts r = Enter g.now.params ws.now m r
+facing (FrontLeave g a m) parts r = Leave g.now.result g.now.locals a.now m r
+facing (FrontExit g d m) parts r = Exit g.now.result g.now.params d.now m r
 facing Nothing parts r = Done
 
 -- what is left to do, opened
@@ -100,7 +116,7 @@ abbrev pub way : Bool → Ways → Items
 way true w = w.when
 way false w = w.otherwise
 
--- the front is an act, a test, a Close or nothing
+-- the front is what a step is taken from, or nothing
 abbrev pub is_open : Front → Bool
 is_open Shut = false
 is_open (Asked c sides) = false
@@ -108,6 +124,9 @@ is_open (FrontAct a m) = true
 is_open (FrontTest a m sides) = true
 is_open (Truth sides) = true
 is_open (FrontClose ps ds m) = true
+is_open (FrontEnter g ws m) = true
+is_open (FrontLeave g a m) = true
+is_open (FrontExit g d m) = true
 is_open Nothing = true
 
 -- the front is open, and there is room for two entries more
@@ -150,11 +169,12 @@ abbrev pub block_weight : List Stmt → ℕ
 block_weight ss = sum_of (map weight_of ss)
 
 abbrev pub item_weight : Item → ℕ
-item_weight (Block ss) = block_weight ss.now + 1
+item_weight (Block b) = block_weight b.stmts.now + 1
 item_weight (ItemClose ps ds m) = 1
 item_weight (ItemLoop c n b) = 1
-item_weight (ItemAgain c n b) = block_weight n.now + 3
+item_weight (ItemAgain c n b) = block_weight n.stmts.now + 3
 item_weight (ItemDoAgain c b) = 1
+item_weight (ItemExit g d m) = 1
 
 abbrev pub stack_weight : List Item → ℕ
 stack_weight [] = 0
@@ -167,16 +187,23 @@ asked_size (FrontAct a m) = 0
 asked_size (FrontTest a m sides) = 0
 asked_size (Truth sides) = 0
 asked_size (FrontClose ps ds m) = 0
+asked_size (FrontEnter g ws m) = 0
+asked_size (FrontLeave g a m) = 0
+asked_size (FrontExit g d m) = 0
 asked_size Nothing = 0
 
-abbrev pub shut_weight : Front → ℕ
-shut_weight Shut = 1
-shut_weight (Asked c sides) = 0
-shut_weight (FrontAct a m) = 0
-shut_weight (FrontTest a m sides) = 0
-shut_weight (Truth sides) = 0
-shut_weight (FrontClose ps ds m) = 0
-shut_weight Nothing = 0
+-- how much of a stack, of this weight, may still be opened before there is a front
+abbrev pub shut_weight : Front → ℕ → ℕ
+shut_weight Shut weight = weight + 1
+shut_weight (Asked c sides) weight = 0
+shut_weight (FrontAct a m) weight = 0
+shut_weight (FrontTest a m sides) weight = 0
+shut_weight (Truth sides) weight = 0
+shut_weight (FrontClose ps ds m) weight = 0
+shut_weight (FrontEnter g ws m) weight = 0
+shut_weight (FrontLeave g a m) weight = 0
+shut_weight (FrontExit g d m) weight = 0
+shut_weight Nothing weight = 0
 
 -- Leaving a round
 
@@ -185,17 +212,30 @@ abbrev pub ends_in_each : List (Store → Store) → Store → Store
 ends_in_each [] s = s
 ends_in_each (f ∷ fs) s = ends_in_each fs (f s)
 
-abbrev pub ends_step : Stmt-F (Store → Store) → Store → Store
-ends_step (Do-F a line) s = s
-ends_step (Branch-F c x y) s = s
-ends_step (While-F c b) s = s
-ends_step (DoWhile-F c b) s = s
-ends_step (For-F c n b) s = s
-ends_step (Group-F b ps ds m) s = kill ps ds (ends_in_each b s)
-ends_step (Call-F f args to' line) s = s
+-- the same of those that a function holds, as `inside` gives it for its body
+abbrev pub ends_called : (List Stmt → Store → Store) → Option Func → Store → Store
+ends_called inside None s = s
+ends_called inside (Some g) s = inside g.body s
 
-abbrev pub ends_in : Stmt → Store → Store
-ends_in = fold-Stmt (Store → Store) ends_step
+abbrev pub ends_step : List Func → (List Stmt → Store → Store) → Stmt-F (Store → Store) → Store → Store
+ends_step funcs inside (Do-F a line) s = s
+ends_step funcs inside (Branch-F c x y) s = s
+ends_step funcs inside (While-F c b) s = s
+ends_step funcs inside (DoWhile-F c b) s = s
+ends_step funcs inside (For-F c n b) s = s
+ends_step funcs inside (Group-F b ps ds m) s = kill ps ds (ends_in_each b s)
+ends_step funcs inside (Call-F f args to' line) s = ends_called inside (slice_get funcs f) s
+
+abbrev pub ends_by : List Func → (List Stmt → Store → Store) → Stmt → Store → Store
+ends_by funcs inside = fold-Stmt (Store → Store) (ends_step funcs inside)
+
+-- the same of a called function's body, where calls are followed n deep
+abbrev pub ends_within : List Func → ℕ → List Stmt → Store → Store
+ends_within funcs zero body s = s
+ends_within funcs (suc n) body s = ends_in_each (map (ends_by funcs (ends_within funcs n)) body) s
+
+abbrev pub ends_among : List Func → ℕ → List Stmt → Store → Store
+ends_among funcs n ss s = ends_in_each (map (ends_by funcs (ends_within funcs n)) ss) s
 
 -- the variables die of each Close before the first Again
 abbrev pub leaving : Items → Store → Store

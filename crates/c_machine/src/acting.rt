@@ -107,7 +107,7 @@ pub fn take_act<'p>(
             settle(heap, &mut rooms.marks, done, lost)
         }
         Act::Error => Pace::Faults(Fault::Assertion),
-        // Without functions nothing is left by a `return` but `main`.
+        // A `return` of a function that is there is no act: its items leave the call.
         Act::Halt | Act::Leave { .. } => Pace::Stops,
         Act::Return(operand) => {
             let looked = look(heap, operand);

@@ -1,13 +1,20 @@
 //! What the machine has still to do, as it lies in memory: each entry borrows the program, and a rest of a list is one
 //! entry.
 
-use c_types::program::{Act, Atom, Cond, Stmt};
+use c_types::program::{Act, Arg, Atom, Cond, Dest, Func, Stmt, Typed};
+
+/// Statements of a program, whose functions they may call.
+#[derive(Clone, Copy)]
+pub struct Body<'p> {
+    pub program: &'p Typed,
+    pub stmts: &'p [Stmt],
+}
 
 /// A pending item. The last one on the stack comes first.
 #[derive(Clone, Copy)]
 pub enum Item<'p> {
     /// These statements in turn.
-    Block(&'p [Stmt]),
+    Block(Body<'p>),
     /// The end of a block, where these variables die.
     Close {
         ptrs: &'p [u32],
@@ -17,19 +24,25 @@ pub enum Item<'p> {
     /// A `while` or `for` that has not asked its condition yet.
     Loop {
         cond: &'p Cond,
-        next: &'p [Stmt],
-        body: &'p [Stmt],
+        next: Body<'p>,
+        body: Body<'p>,
     },
     /// The end of a round of a `while` or `for`.
     Again {
         cond: &'p Cond,
-        next: &'p [Stmt],
-        body: &'p [Stmt],
+        next: Body<'p>,
+        body: Body<'p>,
     },
     /// The end of a round of a `do`.
     DoAgain {
         cond: &'p Cond,
-        body: &'p [Stmt],
+        body: Body<'p>,
+    },
+    /// The end of a call of this function, whose result is assigned there.
+    Exit {
+        func: &'p Func,
+        to: &'p Option<Dest>,
+        line: u32,
     },
 }
 
@@ -48,19 +61,19 @@ pub enum Part<'p> {
 #[derive(Clone, Copy)]
 pub enum Sides<'p> {
     Branch {
-        yes: &'p [Stmt],
-        no: &'p [Stmt],
+        yes: Body<'p>,
+        no: Body<'p>,
     },
     /// Another round of a `while` or `for`, or on.
     Round {
         cond: &'p Cond,
-        next: &'p [Stmt],
-        body: &'p [Stmt],
+        next: Body<'p>,
+        body: Body<'p>,
     },
     /// Another round of a `do`, or on.
     DoRound {
         cond: &'p Cond,
-        body: &'p [Stmt],
+        body: Body<'p>,
     },
 }
 
@@ -90,6 +103,24 @@ pub enum Front<'p> {
     Close {
         ptrs: &'p [u32],
         datums: &'p [u32],
+        line: u32,
+    },
+    /// The beginning of a call of this function.
+    Enter {
+        func: &'p Func,
+        args: &'p [Arg],
+        line: u32,
+    },
+    /// `return` of this function.
+    Leave {
+        func: &'p Func,
+        value: &'p Option<Arg>,
+        line: u32,
+    },
+    /// The end of a call of this function.
+    Exit {
+        func: &'p Func,
+        to: &'p Option<Dest>,
         line: u32,
     },
     /// Nothing at all is left.

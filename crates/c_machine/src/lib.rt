@@ -8,6 +8,7 @@
 
 mod acting;
 mod answering;
+mod calling;
 mod items;
 mod leaving;
 mod losing;

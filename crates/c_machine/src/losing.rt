@@ -1,17 +1,18 @@
-//! Whether an act, or the end of a block, takes a reference to a cell away. Any other step has the leak test's answer
-//! of before it.
+//! Whether an act, the end of a block, or a step of a call takes a reference to a cell away. Any other step has the leak
+//! test's answer of before it.
 
-ghost use Rattle.std.specs.Prelude.{◌≡◌, length, map};
-ghost use Rattle.c_types.specs.Control.{closed_ptrs};
-ghost use Rattle.c_types.specs.Losses.{is_cell, hold_cell, got_cell, assign_loses, act_loses};
+ghost use Rattle.std.specs.Prelude.{◌≡◌, ◌||◌, [], ◌∷◌, length, map, slice_get};
+ghost use Rattle.c_types.specs.Control.{closed_ptrs, with_result};
+ghost use Rattle.c_types.specs.Losses.{is_cell, hold_cell, got_cell, assign_loses, act_loses, vars_hold, to_loses};
 ghost use Rattle.c_types.specs.Steps.{read, below};
 ghost use Rattle.c_machine.specs.Pending.{pending};
-ghost use Rattle.c_machine.specs.inner.Losing.{some_true, held_in_each};
+ghost use Rattle.c_machine.specs.inner.Losing.{some_true, held_called, held_by, held_within, held_among};
 
-use crate::items::Item;
+use crate::items::{Body, Item};
 use c_acts::paths::read;
 use c_heap::heap::Heap;
-use c_types::program::{Act, Path, PtrRhs, Stmt};
+use c_types::program::{Act, Dest, Func, Path, PtrRhs, Stmt, VarRef};
+use fore_base::list::List;
 use fore_base::store::Value;
 
 fn is_cell(value: Value) -> bool
@@ -72,19 +73,57 @@ fn assign_loses(heap: &Heap, to: &Path, from: &PtrRhs) -> bool
     }
 }
 
-/// Whether a variable of the blocks among these statements refers to a cell.
-#[tactic(auto, using(crate::proofs::Holding::held))]
-fn blocks_hold_cell(heap: &Heap, stmts: &[Stmt]) -> bool
-    ensures { result ≡ held_in_each heap.now.vars stmts.now }
+/// Whether a variable of the blocks among these statements refers to a cell, also of those in the functions that they
+/// call, where calls are followed so deep.
+#[cycle(blocks_hold_cell)]
+#[tactic(auto, using(crate::proofs::Holding::held, crate::proofs::Walks::walks))]
+fn blocks_hold_cell(heap: &Heap, funcs: &List<Func>, stmts: &[Stmt], depth: usize) -> bool
+    ensures { result ≡ held_among heap.now.vars funcs.now depth stmts.now }
 {
     for stmt in stmts {
-        if let Stmt::Group { body, ptrs, .. } = stmt {
-            if blocks_hold_cell(heap, body.as_slice()) || hold_cell(heap, ptrs.as_slice()) {
-                return true;
-            }
+        if stmt_holds_cell(heap, funcs, stmt, depth) {
+            return true;
         }
     }
     false
+}
+
+#[cycle(blocks_hold_cell)]
+#[tactic(auto, using(crate::proofs::Holding::held, crate::proofs::Walks::walks))]
+fn stmt_holds_cell(heap: &Heap, funcs: &List<Func>, stmt: &Stmt, depth: usize) -> bool
+    ensures { result ≡ held_by heap.now.vars funcs.now (held_within heap.now.vars funcs.now depth) stmt.now }
+{
+    match stmt {
+        Stmt::Group { body, ptrs, .. } => {
+            blocks_hold_cell(heap, funcs, body.as_slice(), depth)
+                || hold_cell(heap, ptrs.as_slice())
+        }
+        Stmt::Call { func, .. } => called_holds_cell(heap, funcs, *func, depth),
+        _ => false,
+    }
+}
+
+/// The same of the body of a function that is called.
+#[cycle(blocks_hold_cell)]
+fn called_holds_cell(heap: &Heap, funcs: &List<Func>, called: u32, depth: usize) -> bool
+    ensures { result ≡ held_called (held_within heap.now.vars funcs.now depth) (slice_get funcs.now called) }
+{
+    if depth == 0 {
+        return false;
+    }
+    match funcs.get(called as usize) {
+        Some(func) => blocks_hold_cell(heap, funcs, func.body.as_slice(), depth - 1),
+        None => false,
+    }
+}
+
+/// The same of the statements that are left of a body.
+fn body_holds_cell(heap: &Heap, body: Body) -> bool
+    ensures { result ≡ held_among heap.now.vars body.entry.program.now.funcs (length body.entry.program.now.funcs)
+        body.entry.stmts.now }
+{
+    let program = body.program;
+    blocks_hold_cell(heap, &program.funcs, body.stmts, program.funcs.len())
 }
 
 /// Whether a variable that dies where a round is left refers to a cell.
@@ -95,9 +134,9 @@ fn round_holds_cell(heap: &Heap, stack: &[Item]) -> bool
     match stack.split_last() {
         None => false,
         Some((item, others)) => match *item {
-            Item::Block(stmts) => blocks_hold_cell(heap, stmts) || round_holds_cell(heap, others),
+            Item::Block(body) => body_holds_cell(heap, body) || round_holds_cell(heap, others),
             Item::Close { ptrs, .. } => hold_cell(heap, ptrs) || round_holds_cell(heap, others),
-            Item::Loop { .. } => round_holds_cell(heap, others),
+            Item::Loop { .. } | Item::Exit { .. } => round_holds_cell(heap, others),
             Item::Again { .. } | Item::DoAgain { .. } => false,
         },
     }
@@ -114,4 +153,67 @@ pub fn act_loses(heap: &Heap, stack: &[Item], act: &Act) -> bool
         Act::Break | Act::Continue => round_holds_cell(heap, stack),
         Act::SetData { .. } | Act::Error | Act::Halt | Act::Leave { .. } => false,
     }
+}
+
+/// Whether one of these variables refers to a cell.
+#[tactic(auto, using(crate::proofs::Holding::calls))]
+fn vars_hold(heap: &Heap, vars: &[VarRef]) -> bool
+    ensures { result ≡ vars_hold heap.now vars.now }
+{
+    match vars.split_first() {
+        Some((var, others)) => var_holds(heap, var) || vars_hold(heap, others),
+        None => false,
+    }
+}
+
+fn var_holds(heap: &Heap, var: &VarRef) -> bool
+    ensures { result ≡ vars_hold heap.now (var.now ∷ []) }
+{
+    match var {
+        VarRef::Ptr(var) => is_cell(heap.var(*var)),
+        VarRef::Data(_) => false,
+    }
+}
+
+/// Whether the result, if there is one, or another of these variables refers to a cell.
+#[tactic(auto, using(crate::proofs::Holding::calls))]
+fn call_holds(heap: &Heap, held: &Option<VarRef>, vars: &[VarRef]) -> bool
+    ensures { result ≡ vars_hold heap.now (with_result held.now vars.now) }
+{
+    match held {
+        Some(var) => var_holds(heap, var) || vars_hold(heap, vars),
+        None => vars_hold(heap, vars),
+    }
+}
+
+/// Whether what the result of a call is assigned to refers to a cell.
+fn target_holds(heap: &Heap, to: &Option<Dest>) -> bool
+    ensures { result ≡ to_loses heap.now to.now }
+{
+    match to {
+        Some(Dest::Ptr(path)) => leads_to_cell(heap, path),
+        Some(Dest::Data(_)) | None => false,
+    }
+}
+
+/// Whether the beginning of a call takes a reference to a cell away: a parameter refers to one.
+pub fn enter_loses(heap: &Heap, func: &Func) -> bool
+    ensures { result ≡ vars_hold heap.now func.now.params }
+{
+    vars_hold(heap, func.params.as_slice())
+}
+
+/// Whether a function is left with a reference to a cell in its result or in a local variable, which goes.
+pub fn leave_loses(heap: &Heap, func: &Func) -> bool
+    ensures { result ≡ vars_hold heap.now (with_result func.now.result func.now.locals) }
+{
+    call_holds(heap, &func.result, func.locals.as_slice())
+}
+
+/// Whether the end of a call takes a reference to a cell away: what the result is assigned to, the result or a parameter
+/// refers to one.
+pub fn exit_loses(heap: &Heap, func: &Func, to: &Option<Dest>) -> bool
+    ensures { result ≡ to_loses heap.now to.now || vars_hold heap.now (with_result func.now.result func.now.params) }
+{
+    target_holds(heap, to) || call_holds(heap, &func.result, func.params.as_slice())
 }

@@ -1,6 +1,6 @@
 //! The machine: a program's store and what is left to do, a step at a time.
 
-ghost use Rattle.std.specs.Prelude.{◌≡◌, ◌<◌, ◌≤◌, ◌+◌, ◌^◌, true, false, IfOk, List, [], IfSome, OnOk, Some, None};
+ghost use Rattle.std.specs.Prelude.{◌≡◌, ◌<◌, ◌≤◌, ◌+◌, ◌^◌, true, false, IfOk, List, IfSome, OnOk, Some, None};
 ghost use Rattle.std.specs.Prelude.{length};
 ghost use Rattle.fore_base.specs.Heap.{leaks};
 ghost use Rattle.c_machine.specs.declared.items.Part.{Part};
@@ -19,6 +19,7 @@ ghost use Rattle.c_machine.specs.Machines.{Answers};
 
 use crate::acting::{Pace, settle, take_act};
 use crate::answering::answer;
+use crate::calling::{take_enter, take_exit, take_leave};
 use crate::items::{Control, Front};
 use crate::losing::hold_cell;
 use crate::rooms::shape_made;
@@ -57,6 +58,7 @@ fn line_of(front: Front) -> u32
         Front::Act { line, .. } => line,
         Front::Test { line, .. } => line,
         Front::Close { line, .. } => line,
+        Front::Enter { line, .. } | Front::Leave { line, .. } | Front::Exit { line, .. } => line,
         _ => 0,
     }
 }
@@ -123,20 +125,30 @@ fn take_step<'p>(
             heap.kill(ptrs, datums);
             settle(heap, &mut rooms.marks, Ok(()), lost)
         }
+        Front::Enter { func, args, .. } => {
+            control.front = Front::Shut;
+            take_enter(heap, &mut rooms.marks, func, args)
+        }
+        Front::Leave { func, value, .. } => {
+            control.front = Front::Shut;
+            take_leave(&mut control.stack, heap, &mut rooms.marks, func, value)
+        }
+        Front::Exit { func, to, .. } => {
+            control.front = Front::Shut;
+            take_exit(heap, &mut rooms.marks, func, to)
+        }
         Front::Nothing => Pace::Stops,
         Front::Shut | Front::Asked { .. } => unreachable!(),
     }
 }
 
 impl<'p> Machine<'p> {
-    /// The machine at the start of a program without functions, whose `malloc` answers by the mode: nothing is set, and
-    /// there are no cells.
+    /// The machine at the start of a program whose `malloc` answers by the mode: nothing is set, and there are no cells.
     ///
     /// # Errors
     ///
     /// Want of memory.
     pub fn new(alloc: Global, program: &'p Typed, mode: MallocMode) -> Mem<Machine<'p>>
-        requires plain { program.now.funcs ≡ [] }
         ensures items { IfOk result (λ machine. todo machine ≡ opened (start_of program.now)) }
         ensures store { IfOk result (λ machine. store_of machine
             ≡ empty_store (length program.now.vars) (length program.now.data_vars)) }
@@ -144,7 +156,7 @@ impl<'p> Machine<'p> {
         ensures program { IfOk result (λ machine. program_of machine ≡ program.now) }
         ensures mode { IfOk result (λ machine. mode_of machine ≡ mode) }
     {
-        let control = Control::new(alloc, program.body.as_slice())?;
+        let control = Control::new(alloc, program)?;
         let heap = Heap::empty(alloc, program.vars.len(), program.data_vars.len())?;
         let rooms = Rooms::new(alloc);
         Ok(Machine {

@@ -1,15 +1,18 @@
-//! Opening: the front of what is left becomes an act, the test of an atom, or the end of a block. It takes no step.
+//! Opening: the front of what is left becomes an act, the test of an atom, the end of a block, or a step of a call. It
+//! takes no step.
 
-ghost use Rattle.std.specs.Prelude.{◌≡◌, ◌≢◌, ◌+◌, ◌≤◌, ◌<◌, ◌++◌, ◌∷◌, [], true, false, map, IfOk, OnOk, OnSome};
+ghost use Rattle.std.specs.Prelude.{◌≡◌, ◌≢◌, ◌+◌, ◌≤◌, ◌<◌, ◌++◌, ◌∷◌, [], ℕ, true, false, IfOk, OnOk, OnSome};
 ghost use Rattle.std.specs.Prelude.{MatchOption};
 ghost use Rattle.std.specs.Vec.{vec_len, vec_capacity};
-ghost use Rattle.c_types.specs.Control.{Items, Done, opened, items_of, all_before, test_of};
+ghost use Rattle.c_types.specs.Control.{Items, Done, opened, act_items, start_of, test_of};
 ghost use Rattle.c_machine.specs.Pending.{before, pending, facing, item_weight, stack_weight, weight_of, size_of};
 ghost use Rattle.c_machine.specs.Pending.{asked_size, shut_weight, test_before, through, ways_of, left_of, is_open};
-ghost use Rattle.c_machine.specs.Pending.{IsReady};
+ghost use Rattle.c_machine.specs.Pending.{IsReady, item_of, block, block_weight};
 
-use crate::items::{Control, Front, Item, Part, Sides};
-use c_types::program::{Cond, Stmt};
+use crate::items::{Body, Control, Front, Item, Part, Sides};
+use c_types::laws::calls_end;
+use c_types::program::{Act, Arg, Cond, Dest, Stmt, Typed};
+use fore_base::list::List;
 use fore_base::memory::Mem;
 use std::alloc::Global;
 
@@ -43,49 +46,101 @@ pub fn take<'p>(stack: &mut Vec<Item<'p>>) -> Option<Item<'p>>
     stack.pop()
 }
 
-/// Opens a statement: what comes first of it, while the rest goes on the stack.
+/// Statements of a program.
+fn body_of<'p>(program: &'p Typed, stmts: &'p List<Stmt>) -> Body<'p>
+    ensures { (result.program.now ≡ program.now) × (result.stmts.now ≡ stmts.now) }
+{
+    Body {
+        program,
+        stmts: stmts.as_slice(),
+    }
+}
+
+/// Opens an act: a `return` of a function is a step of its call.
 #[tactic(auto, using(crate::proofs::Stacks::layers))]
-fn open_stmt<'p>(stack: &mut Vec<Item<'p>>, stmt: &'p Stmt) -> Front<'p>
+fn open_act<'p>(program: &'p Typed, act: &'p Act, line: u32) -> Front<'p>
+    ensures left { (r : Items) → opened (facing result [] r) ≡ opened (act_items program.now.funcs act.now line r) }
+    ensures act { (weight : ℕ) → shut_weight result weight ≡ 0 }
+{
+    match act {
+        Act::Leave { func, value } => match program.funcs.get(*func as usize) {
+            Some(func) => Front::Leave { func, value, line },
+            None => Front::Act { act, line },
+        },
+        Act::SetPtr { .. } | Act::SetData { .. } | Act::Free(_) => Front::Act { act, line },
+        Act::Error | Act::Halt | Act::Return(_) => Front::Act { act, line },
+        Act::Break | Act::Continue => Front::Act { act, line },
+    }
+}
+
+/// Opens a call: the function's body goes on the stack, and after it the end of the call.
+#[tactic(auto, using(crate::proofs::Stacks::layers))]
+fn open_call<'p>(
+    stack: &mut Vec<Item<'p>>,
+    program: &'p Typed,
+    called: u32,
+    args: &'p [Arg],
+    to: &'p Option<Dest>,
+    line: u32,
+) -> Front<'p>
     requires { vec_len stack.old + 2 ≤ vec_capacity stack.old }
     ensures left { opened (facing result [] (pending stack.new.items))
-        ≡ opened (items_of [] stmt.now (pending stack.old.items)) }
-    ensures weight { stack_weight stack.new.items + shut_weight result
+        ≡ opened (item_of program.now.funcs (Stmt.Call called args.now to.now line) (pending stack.old.items)) }
+    ensures weight { shut_weight result (stack_weight stack.new.items) ≤ 1 + stack_weight stack.old.items }
+{
+    calls_end(program);
+    match program.funcs.get(called as usize) {
+        Some(func) => {
+            put(stack, Item::Exit { func, to, line });
+            put(stack, Item::Block(body_of(program, &func.body)));
+            Front::Enter { func, args, line }
+        }
+        // No typed program calls one that is not there.
+        None => Front::Shut,
+    }
+}
+
+/// Opens a statement: what comes first of it, while the rest goes on the stack.
+#[tactic(auto, using(crate::proofs::Stacks::layers))]
+fn open_stmt<'p>(stack: &mut Vec<Item<'p>>, program: &'p Typed, stmt: &'p Stmt) -> Front<'p>
+    requires { vec_len stack.old + 2 ≤ vec_capacity stack.old }
+    ensures left { opened (facing result [] (pending stack.new.items))
+        ≡ opened (item_of program.now.funcs stmt.now (pending stack.old.items)) }
+    ensures weight { shut_weight result (stack_weight stack.new.items)
         ≤ weight_of stmt.now + stack_weight stack.old.items }
 {
     match stmt {
-        Stmt::Do { act, line } => Front::Act { act, line: *line },
+        Stmt::Do { act, line } => open_act(program, act, *line),
         Stmt::Branch { cond, yes, no } => Front::Asked {
             cond,
             sides: Sides::Branch {
-                yes: yes.as_slice(),
-                no: no.as_slice(),
+                yes: body_of(program, yes),
+                no: body_of(program, no),
             },
         },
         Stmt::While { cond, body } => Front::Asked {
             cond,
             sides: Sides::Round {
                 cond,
-                next: &[],
-                body: body.as_slice(),
+                next: Body {
+                    program,
+                    stmts: &[],
+                },
+                body: body_of(program, body),
             },
         },
         Stmt::For { cond, next, body } => Front::Asked {
             cond,
             sides: Sides::Round {
                 cond,
-                next: next.as_slice(),
-                body: body.as_slice(),
+                next: body_of(program, next),
+                body: body_of(program, body),
             },
         },
         Stmt::DoWhile { cond, body } => {
-            put(
-                stack,
-                Item::DoAgain {
-                    cond,
-                    body: body.as_slice(),
-                },
-            );
-            put(stack, Item::Block(body.as_slice()));
+            let body = body_of(program, body);
+            put(stack, Item::DoAgain { cond, body });
+            put(stack, Item::Block(body));
             Front::Shut
         }
         Stmt::Group {
@@ -102,11 +157,40 @@ fn open_stmt<'p>(stack: &mut Vec<Item<'p>>, stmt: &'p Stmt) -> Front<'p>
                     line: *close,
                 },
             );
-            put(stack, Item::Block(body.as_slice()));
+            put(stack, Item::Block(body_of(program, body)));
             Front::Shut
         }
-        // Without functions a call has no items.
-        Stmt::Call { .. } => Front::Shut,
+        Stmt::Call {
+            func,
+            args,
+            to,
+            line,
+        } => open_call(stack, program, *func, args.as_slice(), to, *line),
+    }
+}
+
+/// Opens statements in turn: the first of them, while the others go on the stack.
+#[tactic(auto, using(crate::proofs::Stacks::layers))]
+fn open_block<'p>(stack: &mut Vec<Item<'p>>, body: Body<'p>) -> Front<'p>
+    requires { vec_len stack.old + 3 ≤ vec_capacity stack.old }
+    ensures left { opened (facing result [] (pending stack.new.items))
+        ≡ opened (block body.entry (pending stack.old.items)) }
+    ensures weight { shut_weight result (stack_weight stack.new.items)
+        ≤ block_weight body.entry.stmts.now + 1 + stack_weight stack.old.items }
+{
+    let program = body.program;
+    match body.stmts.split_first() {
+        None => Front::Shut,
+        Some((stmt, others)) => {
+            put(
+                stack,
+                Item::Block(Body {
+                    program,
+                    stmts: others,
+                }),
+            );
+            open_stmt(stack, program, stmt)
+        }
     }
 }
 
@@ -116,17 +200,11 @@ fn open_item<'p>(stack: &mut Vec<Item<'p>>, item: Item<'p>) -> Front<'p>
     requires { vec_len stack.old + 3 ≤ vec_capacity stack.old }
     ensures left { opened (facing result [] (pending stack.new.items))
         ≡ opened (before item.entry (pending stack.old.items)) }
-    ensures weight { stack_weight stack.new.items + shut_weight result
+    ensures weight { shut_weight result (stack_weight stack.new.items)
         ≤ item_weight item.entry + stack_weight stack.old.items }
 {
     match item {
-        Item::Block(stmts) => match stmts.split_first() {
-            None => Front::Shut,
-            Some((stmt, others)) => {
-                put(stack, Item::Block(others));
-                open_stmt(stack, stmt)
-            }
-        },
+        Item::Block(body) => open_block(stack, body),
         Item::Close { ptrs, datums, line } => if ptrs.is_empty() && datums.is_empty() {
             Front::Shut
         } else {
@@ -145,6 +223,7 @@ fn open_item<'p>(stack: &mut Vec<Item<'p>>, item: Item<'p>) -> Front<'p>
             cond,
             sides: Sides::DoRound { cond, body },
         },
+        Item::Exit { func, to, line } => Front::Exit { func, to, line },
     }
 }
 
@@ -200,12 +279,13 @@ fn open_cond<'p>(parts: &mut Vec<Part<'p>>, cond: &'p Cond, sides: Sides<'p>) ->
 }
 
 impl<'p> Control<'p> {
-    /// What is left at first of these statements of a program without functions.
-    pub fn new(alloc: Global, body: &'p [Stmt]) -> Mem<Control<'p>>
-        ensures { IfOk result (λ control. left_of control ≡ opened (all_before (map (items_of []) body.now) Done)) }
+    /// What is left of a program at first.
+    #[tactic(auto, using(crate::proofs::Stacks::layers))]
+    pub fn new(alloc: Global, program: &'p Typed) -> Mem<Control<'p>>
+        ensures { IfOk result (λ control. left_of control ≡ opened (start_of program.now)) }
     {
         let mut stack = Vec::with_capacity(alloc, 1)?;
-        put(&mut stack, Item::Block(body));
+        put(&mut stack, Item::Block(body_of(program, &program.body)));
         let parts = Vec::new(alloc);
         Ok(Control {
             front: Front::Shut,
@@ -241,7 +321,7 @@ impl<'p> Control<'p> {
         requires shut { self.old.front ≡ Front.Shut }
         requires room { vec_len self.old.stack + 3 ≤ vec_capacity self.old.stack }
         ensures left { left_of self.new ≡ left_of self.old }
-        ensures weight { stack_weight self.new.stack.items + shut_weight self.new.front
+        ensures weight { shut_weight self.new.front (stack_weight self.new.stack.items)
             ≤ stack_weight self.old.stack.items }
     {
         self.parts.clear();

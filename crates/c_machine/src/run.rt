@@ -1,6 +1,6 @@
 //! Runs of a program on a list of choices.
 
-ghost use Rattle.std.specs.Prelude.{◌≡◌, ◌<◌, ◌≤◌, ◌+◌, ◌-◌, ◌^◌, ℕ, suc, List, [], drop, length, IfOk, IfSome};
+ghost use Rattle.std.specs.Prelude.{◌≡◌, ◌<◌, ◌≤◌, ◌+◌, ◌-◌, ◌^◌, ℕ, suc, List, drop, length, IfOk, IfSome};
 ghost use Rattle.std.specs.Prelude.{MatchResult, Some, None};
 ghost use Rattle.c_types.specs.declared.outcome.Outcome.{Outcome as Out};
 ghost use Rattle.c_types.specs.Steps.{takes};
@@ -18,8 +18,7 @@ use c_types::program::Typed;
 use fore_base::memory::Mem;
 use std::alloc::Global;
 
-/// The run of a program without functions, whose `malloc` answers by the mode, on these choices, of at most `limit`
-/// steps.
+/// The run of a program, whose `malloc` answers by the mode, on these choices, of at most `limit` steps.
 ///
 /// # Errors
 ///
@@ -31,7 +30,6 @@ pub fn run(
     choices: &[u8],
     limit: u64,
 ) -> Mem<Outcome>
-    requires plain { program.now.funcs ≡ [] }
     requires below { limit < 2 ^ 64 - 1 }
     ensures { IfOk result (λ outcome. outcome ≡ run program.now mode choices.now limit) }
 {

@@ -1,7 +1,7 @@
 //! Whether the fault in which an abstract trace ends is one of the program: the program is run on the trace's choices.
 #![tactic(auto)]
 
-ghost use Rattle.std.specs.Prelude.{◌≡◌, ◌<◌, ◌-◌, ◌^◌, [], IfOk};
+ghost use Rattle.std.specs.Prelude.{◌≡◌, ◌<◌, ◌-◌, ◌^◌, IfOk};
 ghost use Rattle.c_types.specs.Runs.{run};
 ghost use Rattle.trace_replay.specs.Replays.{replay_of};
 
@@ -15,8 +15,7 @@ use c_types::program::Typed;
 use fore_base::memory::Mem;
 use std::alloc::Global;
 
-/// Runs a program without functions, whose `malloc` answers by the mode, on the choices of a trace, for at most `steps`
-/// steps.
+/// Runs a program, whose `malloc` answers by the mode, on the choices of a trace, for at most `steps` steps.
 ///
 /// # Errors
 ///
@@ -28,7 +27,6 @@ pub fn replay(
     choices: &[u8],
     steps: u64,
 ) -> Mem<Replay>
-    requires plain { program.now.funcs ≡ [] }
     requires below { steps < 2 ^ 64 - 1 }
     ensures { IfOk result (λ found. found ≡ replay_of (run program.now mode choices.now steps)) }
 {

@@ -4,7 +4,7 @@ use Rattle.c_types.specs.Losses.{act_loses}
 use Rattle.c_types.specs.Steps.{assign, assign_data, act_turn}
 use Rattle.fore_base.specs.Heap.{leaks}
 use Rattle.c_machine.specs.Pending.{pending, leaving}
-use Rattle.c_machine.proofs.Kept.{act_kept, leave_kept}
+use Rattle.c_machine.proofs.Kept.{act_kept, round_kept}
 use Rattle.c_machine.proofs.acting.take_act.Goals as goal
 
 pub settle-requires-clause-kept : goal.settle-requires-clause-kept
@@ -43,7 +43,7 @@ settle-requires-in-Break-clause-kept c = λ h.
     let none : act_loses act is s ≡ false = sym (ap (λ xs. act_loses act (pending xs) s) c.as_slice.ensures.value)
     ∙ sym c.act_loses-lost.ensures ∙ h in
     ap leaks c.leave_round.ensures.store
-    ∙ leave_kept shapes c.args.mode act is s c.args.choice (leaving is s) (after_again is) c.requires.unleaked
+    ∙ round_kept shapes c.args.mode act is s c.args.choice (leaving is s) (after_again is) c.requires.unleaked
     (ap (λ a. act_turn shapes c.args.mode a is s c.args.choice) c.in-Break.is) none
 
 pub settle-requires-in-Continue-clause-kept : goal.settle-requires-in-Continue-clause-kept
@@ -55,5 +55,5 @@ settle-requires-in-Continue-clause-kept c = λ h.
     let none : act_loses act is s ≡ false = sym (ap (λ xs. act_loses act (pending xs) s) c.as_slice.ensures.value)
     ∙ sym c.act_loses-lost.ensures ∙ h in
     ap leaks c.leave_round-in-Continue.ensures.store
-    ∙ leave_kept shapes c.args.mode act is s c.args.choice (leaving is s) (from_again is) c.requires.unleaked
+    ∙ round_kept shapes c.args.mode act is s c.args.choice (leaving is s) (from_again is) c.requires.unleaked
     (ap (λ a. act_turn shapes c.args.mode a is s c.args.choice) c.in-Continue.is) none

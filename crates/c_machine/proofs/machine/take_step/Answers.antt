@@ -2,7 +2,8 @@ use Rattle.std.proofs.Common.{refl, sym, ap, ◌∙◌}
 use Rattle.fore_base.specs.Heap.{leaks}
 use Rattle.c_machine.specs.declared.acting.Pace.TheVariants.{Goes}
 use Rattle.c_machine.specs.Pending.{pending}
-use Rattle.c_machine.proofs.Fronts.{act_comes, test_comes, truth_comes, close_comes}
+use Rattle.c_machine.proofs.Fronts.{act_comes, test_comes, truth_comes, close_comes, enter_comes}
+use Rattle.c_machine.proofs.Fronts.{leave_comes, exit_comes}
 use Rattle.c_machine.proofs.Kept.{settle_goes, close_kept}
 use Rattle.c_machine.proofs.machine.take_step.Goals as goal
 
@@ -37,6 +38,30 @@ returns-in-Close-clause-turn c =
     (pending old.stack.items) c.args.heap.now c.args.choice
     c.in-Close.ptrs c.in-Close.datums c.in-Close.line c.settle.result c.kill.new.self _ c.in-Close.is c.kill.ensures
     c.settle.ensures.turn refl
+
+pub returns-in-Enter-clause-turn : goal.returns-in-Enter-clause-turn
+returns-in-Enter-clause-turn c =
+    let old = c.args.control.now in
+    enter_comes c.args.shapes.now c.args.mode old.front old.parts.items
+    (pending old.stack.items) c.args.heap.now c.args.choice
+    c.in-Enter.func c.in-Enter.args c.in-Enter.line c.take_enter.result c.take_enter.new.heap _ c.in-Enter.is
+    c.take_enter.ensures.turn refl
+
+pub returns-in-Leave-clause-turn : goal.returns-in-Leave-clause-turn
+returns-in-Leave-clause-turn c =
+    let old = c.args.control.now in
+    leave_comes c.args.shapes.now c.args.mode old.front old.parts.items
+    (pending old.stack.items) c.args.heap.now c.args.choice
+    c.in-Leave.func c.in-Leave.value c.in-Leave.line c.take_leave.result (pending c.take_leave.new.stack.items)
+    c.take_leave.new.heap _ c.in-Leave.is c.take_leave.ensures.turn refl
+
+pub returns-in-Exit-clause-turn : goal.returns-in-Exit-clause-turn
+returns-in-Exit-clause-turn c =
+    let old = c.args.control.now in
+    exit_comes c.args.shapes.now c.args.mode old.front old.parts.items
+    (pending old.stack.items) c.args.heap.now c.args.choice
+    c.in-Exit.func c.in-Exit.to c.in-Exit.line c.take_exit.result c.take_exit.new.heap _ c.in-Exit.is
+    c.take_exit.ensures.turn refl
 
 pub settle-requires-clause-kept : goal.settle-requires-clause-kept
 settle-requires-clause-kept c = λ none.

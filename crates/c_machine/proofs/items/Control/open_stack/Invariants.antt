@@ -1,4 +1,4 @@
-use Rattle.std.proofs.Common.{◌≡◌, ◌+◌}
+use Rattle.std.proofs.Common.{◌≡◌}
 use Rattle.c_machine.specs.Pending.{left_of, stack_weight, shut_weight}
 use Rattle.c_machine.proofs.items.Control.open_stack.Given as goal
 
@@ -6,4 +6,4 @@ abbrev pub invariant-loop-self : goal.invariant-loop-self
 invariant-loop-self l = left_of l.self ≡ left_of l.initial.self
 
 abbrev pub decreases-loop-self : goal.decreases-loop-self
-decreases-loop-self l = stack_weight l.self.stack.items + shut_weight l.self.front
+decreases-loop-self l = shut_weight l.self.front (stack_weight l.self.stack.items)
