@@ -12,7 +12,7 @@ use Rattle.c_types.specs.declared.program.DataPath.TheVariants.{Var as DataVar, 
 use Rattle.c_types.specs.Control.{ptr_vars, datum_vars, with_result}
 use Rattle.c_cfg.specs.Links.{ends, used, used_before, enter_row, give_links, give_each, given_used, each_used}
 use Rattle.c_cfg.specs.Links.{one_used}
-use Rattle.c_edges.specs.inner.Calling.{nothing_links, with_ptr, with_datum}
+use Rattle.c_edges.specs.Calling.{nothing_links, with_ptr, with_datum}
 use Rattle.std.proofs.lemmas.List.{drop_all, append-nil}
 use Rattle.c_cfg.specs.declared.link.Link.{Link}
 

@@ -1,3 +1,4 @@
 pub mod ActLinks
+pub mod Calling
 pub mod Comparing
 pub mod inner

@@ -1,7 +1,7 @@
 // The links of the steps of a call: enter, leave and exit.
 ghost use Rattle.std.specs.Prelude.{◌≡◌, ◌++◌, OnOk, IfOk};
-ghost use Rattle.c_edges.specs.inner.Calling.{enter_links, leave_links, exit_links, each_links, each_temps, end_temps};
-ghost use Rattle.c_edges.specs.inner.Calling.{back_links, over_links};
+ghost use Rattle.c_edges.specs.Calling.{enter_links, leave_links, exit_links, each_links, each_temps, end_temps};
+ghost use Rattle.c_edges.specs.Calling.{back_links, over_links};
 
 use crate::dying::end_vars;
 use crate::giving::{add_nothing, give, hand, note_dest, note_given};

@@ -1,7 +1,7 @@
 // The link with which variables die.
 ghost use Rattle.std.specs.Prelude.{◌≡◌, ◌++◌, OnOk, IfOk};
 ghost use Rattle.c_types.specs.Control.{ptr_vars, datum_vars, with_result};
-ghost use Rattle.c_edges.specs.inner.Calling.{with_ptr, with_datum, dead_links};
+ghost use Rattle.c_edges.specs.Calling.{with_ptr, with_datum, dead_links};
 
 use c_cfg::graph::Instr;
 use c_cfg::link::Link;

@@ -1,7 +1,7 @@
 // The links by which a call gives a value to a variable, and hands the value of one over.
 ghost use Rattle.std.specs.Prelude.{◌≡◌, ◌++◌, OnOk};
-ghost use Rattle.c_edges.specs.inner.Calling.{nothing_links, given_links, datum_given_links, given_temps, handed_links};
-ghost use Rattle.c_edges.specs.inner.Calling.{datum_handed_links, dest_temps};
+ghost use Rattle.c_edges.specs.Calling.{nothing_links, given_links, datum_given_links, given_temps, handed_links};
+ghost use Rattle.c_edges.specs.Calling.{datum_handed_links, dest_temps};
 
 use crate::data::store_from;
 use crate::operands::{load_datum, note_base, note_op_base};

@@ -1,7 +1,7 @@
 // The edges of the begin and of the end of a call.
 ghost use Rattle.std.specs.Prelude.{◌≡◌, ◌++◌, OnOk};
 ghost use Rattle.c_links.specs.Chains.{chain};
-ghost use Rattle.c_edges.specs.inner.Calling.{enter_links, exit_links};
+ghost use Rattle.c_edges.specs.Calling.{enter_links, exit_links};
 
 use crate::calls::{enter_links, exit_links};
 use c_cfg::graph::Edge;

@@ -1,5 +1,5 @@
 use Rattle.std.proofs.Common.{◌≡◌, [], drop}
-use Rattle.c_edges.specs.inner.Calling.{each_temps}
+use Rattle.c_edges.specs.Calling.{each_temps}
 use Rattle.c_edges.proofs.calls.each_used.Given as goal
 
 abbrev pub invariant-loop-arg : goal.invariant-loop-arg

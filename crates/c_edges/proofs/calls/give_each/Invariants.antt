@@ -1,5 +1,5 @@
 use Rattle.std.proofs.Common.{◌≡◌, ◌++◌, drop}
-use Rattle.c_edges.specs.inner.Calling.{each_links}
+use Rattle.c_edges.specs.Calling.{each_links}
 use Rattle.c_edges.proofs.calls.give_each.Given as goal
 
 abbrev pub invariant-loop-at : goal.invariant-loop-at
