@@ -1,5 +1,5 @@
 -- The bytes of a file are those of one program, or break one first rule, and not both.
-use Rattle.std.proofs.Common.{◌≡◌, ◌≢◌, ◌⊎◌, inl, inr, ℕ, List, [], sym, ◌∙◌, ap, subst, refl}
+use Rattle.std.proofs.Common.{◌≡◌, ◌≢◌, ◌⊎◌, inl, inr, ℕ, List, sym, ◌∙◌, ap, subst, refl}
 use Rattle.std.proofs.Common.{Result, Ok, Err, IfOk, IfErr}
 use Rattle.fore_base.specs.declared.place.Place.{Place}
 use Rattle.c_ast.specs.declared.items.Unit as whole
@@ -16,7 +16,6 @@ use Rattle.c_lexer.specs.declared.token.Token.{Token}
 use Rattle.c_parser.proofs.ParseLemmas.{one_parse, parsed_or_fault, one_fault}
 use Rattle.c_parser.specs.Parses as parses
 use Rattle.c_types.specs.Program.{Program}
-use Rattle.c_typing.proofs.PlainPrograms.{typed_plain}
 use Rattle.c_typing.proofs.TypingLaws as types
 use Rattle.c_typing.specs.Typing.{TypedOf, IsFirstFault}
 use Rattle.c_typing.specs.declared.fault.TypeFault.{TypeFault}
@@ -26,10 +25,6 @@ use Rattle.c_front.specs.declared.broken.FileFault.{FileFault}
 use Rattle.c_front.specs.declared.broken.FileFault.TheVariants.{Breaks, Memory}
 use Rattle.c_front.specs.Files.{IsProgramOf, BreaksFirst, no_tokens, no_tree, no_types, IsFault, lexical_fault}
 use Rattle.c_front.specs.Files.{syntax_fault, type_fault}
-
--- a program has no functions besides `main`
-pub plain_program : (bytes : List ℕ) (p : Program) → IsProgramOf bytes p → p.funcs ≡ []
-plain_program bytes p is = typed_plain is.unit p is.typed
 
 -- want of memory is no rule
 no_rule : (b : Broken) → Memory ≡ Breaks b → ⊥

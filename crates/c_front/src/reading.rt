@@ -1,5 +1,5 @@
 //! From the bytes to the program.
-ghost use Rattle.std.specs.Prelude.{◌≡◌, ◌≤◌, ◌⊎◌, ℕ, List, [], length, Ok, Err, IfOk, IfErr};
+ghost use Rattle.std.specs.Prelude.{◌≡◌, ◌≤◌, ◌⊎◌, ℕ, List, length, Ok, Err, IfOk, IfErr};
 ghost use Rattle.fore_base.specs.declared.limits.TheConstants.{FILE_BYTES};
 ghost use Rattle.c_lexer.specs.Tokens.{Tokens};
 ghost use Rattle.c_types.specs.Program.{Program};
@@ -20,7 +20,7 @@ use fore_base::list::List;
 use fore_base::place::Place;
 use std::alloc::Global;
 
-/// The program of a file with these bytes. It has no functions besides `main`.
+/// The program of a file with these bytes.
 ///
 /// # Errors
 ///
@@ -35,7 +35,6 @@ pub fn program_in(alloc: Global, bytes: &[u8]) -> Result<Typed, FileFault>
     ensures err { IfErr result (IsFault bytes.now) }
     ensures reads { (p : Program) → IsProgramOf bytes.now p → (result ≡ Ok p) ⊎ (result ≡ Err Memory) }
     ensures finds { (b : Rule) → BreaksFirst bytes.now b → (result ≡ Err (Breaks b)) ⊎ (result ≡ Err Memory) }
-    ensures plain { IfOk result (λ p. p.funcs ≡ []) }
 {
     answer(alloc, bytes)
 }

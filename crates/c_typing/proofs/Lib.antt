@@ -7,7 +7,6 @@ pub mod Formulas
 pub mod Layers
 pub mod OwnVariables
 pub mod PlaceLayers
-pub mod PlainPrograms
 pub mod ProgramLayers
 pub mod Rows
 pub mod ScopeLaws

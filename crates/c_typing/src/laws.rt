@@ -24,11 +24,6 @@ pub fn first_faults_are_unique()
     ensures there { (u : whole.Unit) → (breaches u ≡ []) ⊎ ((e : Broken) × IsFirstFault u e) }
 {}
 
-/// The program of a file has no functions besides `main`: a file that defines another one breaks a rule.
-pub fn programs_have_no_functions()
-    ensures { (u : whole.Unit) (p : Program) → TypedOf u p → p.funcs ≡ [] }
-{}
-
 /// The variables that a body declares are all different, and were not declared before it.
 pub fn declared_variables_are_new()
     ensures different { (g : Globals) (b : Block) (scope : Scope)

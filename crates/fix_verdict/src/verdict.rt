@@ -1,5 +1,5 @@
 // What is said of a program, when its graph was explored.
-ghost use Rattle.std.specs.Prelude.{◌≡◌, ◌≤◌, ◌<◌, ◌-◌, ◌^◌, [], true, IfOk};
+ghost use Rattle.std.specs.Prelude.{◌≡◌, ◌≤◌, ◌<◌, ◌-◌, ◌^◌, true, IfOk};
 ghost use Rattle.c_cfg.specs.LoopFree.{has_no_loop};
 ghost use Rattle.c_cfg.specs.Lowering.{LowerOf};
 ghost use Rattle.fix_core.specs.Explorations.{IsExplored};
@@ -41,9 +41,9 @@ pub enum Verdict {
     LooseTrace { sample: Store },
 }
 
-/// The verdict on a program without functions, whose `malloc` answers by the mode, from what the exploration of its
-/// graph found. A trace counts only where the program's own run on its choices meets a fault, be it after the trace's
-/// last step. Without loops a trace is never loose, and the budget is full only where the graph has more prefixes.
+/// The verdict on a program whose `malloc` answers by the mode, from what the exploration of its graph found. A trace
+/// counts only where the program's own run on its choices meets a fault, be it after the trace's last step. Without
+/// loops a trace is never loose, and the budget is full only where the graph has more prefixes.
 ///
 /// # Errors
 ///
@@ -58,7 +58,6 @@ pub fn judge(
     budget: u32,
     found: &Explored,
 ) -> Mem<Verdict>
-    requires plain { program.now.funcs ≡ [] }
     requires explored { IsExplored table.now graph.now height budget found.now }
     requires lowered { LowerOf program.now mode graph.now }
     requires shapes { graph.now.shapes ≡ table.now.face.shapes }
@@ -106,7 +105,6 @@ fn judge_trace(
     trace: &AbsTrace,
     steps: u64,
 ) -> Mem<Verdict>
-    requires plain { program.now.funcs ≡ [] }
     requires below { steps < 2 ^ 64 - 1 }
     requires face { table.now.face ≡ trace.now.last.face }
     ensures { IfOk result (IsReplayed table.now program.now mode trace.now steps) }

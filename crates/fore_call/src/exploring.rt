@@ -1,5 +1,5 @@
 // What an exploration of a program's control graph finds.
-ghost use Rattle.std.specs.Prelude.{◌≡◌, [], IfOk};
+ghost use Rattle.std.specs.Prelude.{◌≡◌, IfOk};
 ghost use Rattle.c_cfg.specs.Lowering.{LowerOf};
 ghost use Rattle.fix_core.specs.Explorations.{IsExplored};
 ghost use Rattle.fore_call.specs.inner.Judging.{SettingsFit};
@@ -26,7 +26,6 @@ pub fn explored<R: Threads + Sync, G: Gate>(
     settings: Settings,
     gate: &G,
 ) -> Mem<(Graph, Explored)>
-    requires plain { program.now.funcs ≡ [] }
     requires settings { SettingsFit settings }
     requires shapes { table.now.face.shapes ≡ program.now.shapes }
     ensures { IfOk result (λ made. LowerOf program.now settings.malloc made.0

@@ -1,5 +1,5 @@
 //! The answer to the words, and to what they ask.
-ghost use Rattle.std.specs.Prelude.{◌≡◌, List, [], ℕ, Some, None, IfOk};
+ghost use Rattle.std.specs.Prelude.{◌≡◌, List, ℕ, Some, None, IfOk};
 ghost use Rattle.fore_read.specs.Readings.{reading_of, ReadsAtMost};
 ghost use Rattle.fore_words.specs.Words.{IsInRange};
 ghost use Rattle.fore_words.specs.declared.asked.Asked.TheVariants as ask;
@@ -119,8 +119,7 @@ fn verify_plain<R: Threads + Sync, G: Gate>(
     settings: Settings,
     gate: &G,
 ) -> Answer
-    requires plain { program.now.funcs ≡ [] }
-    requires settings { SettingsFit settings }
+    requires { SettingsFit settings }
     ensures { IsVerdict (no_boxes program.now.shapes) program.now settings result }
 {
     match empty_table(alloc, &program.shapes) {
@@ -161,8 +160,7 @@ fn answer_boxes<R: Threads + Sync, L: Shelf, G: Gate>(
     shelf: &mut L,
     gate: &G,
 ) -> Answer
-    requires plain { program.now.funcs ≡ [] }
-    requires settings { SettingsFit settings }
+    requires { SettingsFit settings }
     ensures right { IsBoxesAnswer (reading_of L.Shelf shelf.old shelf.new) path.now program.now settings result }
     ensures reads { ReadsAtMost (reading_of L.Shelf shelf.old shelf.new) path.now }
 {
@@ -199,7 +197,6 @@ fn run_program(
     choices: &[u8],
     steps: u32,
 ) -> Answer
-    requires plain { program.now.funcs ≡ [] }
     ensures { IsRunOf program.now malloc choices.now steps result }
 {
     match run(alloc, program, malloc, choices, steps as u64) {
@@ -217,7 +214,6 @@ fn verify<R: Threads + Sync, G: Gate>(
     settings: Settings,
     gate: &G,
 ) -> Answer
-    requires plain { program.now.funcs ≡ [] }
     requires settings { SettingsFit settings }
     requires shapes { table.now.face.shapes ≡ program.now.shapes }
     ensures { IsVerdict table.now program.now settings result }
@@ -237,7 +233,6 @@ fn reported<R: Threads + Sync, G: Gate>(
     settings: Settings,
     gate: &G,
 ) -> Mem<Answer>
-    requires plain { program.now.funcs ≡ [] }
     requires settings { SettingsFit settings }
     requires shapes { table.now.face.shapes ≡ program.now.shapes }
     ensures { IfOk result (IsVerdict table.now program.now settings) }

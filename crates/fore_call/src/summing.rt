@@ -1,5 +1,5 @@
 // The answer to a wish for a generated program.
-ghost use Rattle.std.specs.Prelude.{◌≡◌, [], IfOk};
+ghost use Rattle.std.specs.Prelude.{◌≡◌, IfOk};
 ghost use Rattle.fore_call.specs.inner.Judging.{IsGeneratedAnswer, IsSummedUp};
 
 use crate::exploring::explored;
@@ -37,8 +37,7 @@ fn sum_up<R: Threads + Sync, G: Gate>(
     made: &Generated,
     gate: &G,
 ) -> Answer
-    requires plain { made.now.program.funcs ≡ [] }
-    requires shapes { made.now.table.face.shapes ≡ made.now.program.shapes }
+    requires { made.now.table.face.shapes ≡ made.now.program.shapes }
     ensures { IsSummedUp kind phases made.now.lines made.now.table made.now.program result }
 {
     match summed_up(rt, alloc, kind, phases, made, gate) {
@@ -56,8 +55,7 @@ fn summed_up<R: Threads + Sync, G: Gate>(
     made: &Generated,
     gate: &G,
 ) -> Mem<Answer>
-    requires plain { made.now.program.funcs ≡ [] }
-    requires shapes { made.now.table.face.shapes ≡ made.now.program.shapes }
+    requires { made.now.table.face.shapes ≡ made.now.program.shapes }
     ensures { IfOk result (IsSummedUp kind phases made.now.lines made.now.table made.now.program) }
 {
     let settings = gen_settings();

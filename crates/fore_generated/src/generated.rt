@@ -1,5 +1,5 @@
 //! A generated program, taken through the front end, with the table of its kind.
-ghost use Rattle.std.specs.Prelude.{◌≡◌, [], IfOk, IfErr};
+ghost use Rattle.std.specs.Prelude.{◌≡◌, IfOk, IfErr};
 ghost use Rattle.c_front.specs.Files.{IsProgramOf};
 ghost use Rattle.fore_gen.specs.Programs.{count_lines, program_text};
 ghost use Rattle.fore_generated.specs.Generated.{gen_settings, IsTableFor, IsTableFaultOf};
@@ -27,7 +27,7 @@ pub struct Generated {
     pub lines: usize,
 }
 
-/// The program of a kind with so many phases. It has no functions besides `main`.
+/// The program of a kind with so many phases.
 ///
 /// # Errors
 ///
@@ -35,7 +35,6 @@ pub struct Generated {
 /// then by the first one. `Memory` for want of memory.
 pub fn generated_program(alloc: Global, kind: Kind, phases: u32) -> Result<Generated, ReadFault>
     ensures ok { IfOk result (IsGeneratedProgram kind phases) }
-    ensures plain { IfOk result (λ made. made.program.funcs ≡ []) }
     ensures shapes { IfOk result (λ made. made.table.face.shapes ≡ made.program.shapes) }
     ensures err { IfErr result (IsGeneratedFault kind phases) }
 {
@@ -49,7 +48,6 @@ pub fn generated_program(alloc: Global, kind: Kind, phases: u32) -> Result<Gener
 fn of_text(alloc: Global, kind: Kind, phases: u32, text: &[u8]) -> Result<Generated, ReadFault>
     requires { text.now ≡ program_text kind phases }
     ensures ok { IfOk result (IsGeneratedProgram kind phases) }
-    ensures plain { IfOk result (λ made. made.program.funcs ≡ []) }
     ensures shapes { IfOk result (λ made. made.table.face.shapes ≡ made.program.shapes) }
     ensures err { IfErr result (IsGeneratedFault kind phases) }
 {
@@ -70,11 +68,9 @@ fn with_table(
     lines: usize,
     program: Typed,
 ) -> Result<Generated, ReadFault>
-    requires plain { program.funcs ≡ [] }
     requires lines { lines ≡ count_lines (program_text kind phases) }
     requires program { IsProgramOf (program_text kind phases) program }
     ensures ok { IfOk result (IsGeneratedProgram kind phases) }
-    ensures plain { IfOk result (λ made. made.program.funcs ≡ []) }
     ensures shapes { IfOk result (λ made. made.table.face.shapes ≡ made.program.shapes) }
     ensures err { IfErr result (IsGeneratedFault kind phases) }
 {

@@ -1,5 +1,5 @@
 // Reading the program of a C file.
-ghost use Rattle.std.specs.Prelude.{◌≡◌, ◌≤◌, [], length, IfOk, IfErr};
+ghost use Rattle.std.specs.Prelude.{◌≤◌, [], length, IfOk, IfErr};
 ghost use Rattle.c_front.specs.Files.{IsProgramOf};
 ghost use Rattle.fore_read.specs.Readings.{reading_of, ReadsAtMost};
 ghost use Rattle.fore_read.specs.Files.{GivesProgram, IsFileFault};
@@ -12,7 +12,7 @@ use fore_base::limits::FILE_BYTES;
 use fore_base::shelf::Shelf;
 use std::alloc::Global;
 
-/// The program of the C file of a path, which is read once. It has no functions besides `main`.
+/// The program of the C file of a path, which is read once.
 ///
 /// # Errors
 ///
@@ -20,7 +20,6 @@ use std::alloc::Global;
 /// it could not be read. `Memory` for want of memory.
 pub fn read_program<L: Shelf>(alloc: Global, shelf: &mut L, path: &str) -> Result<Typed, ReadFault>
     ensures ok { IfOk result (GivesProgram (reading_of L.Shelf shelf.old shelf.new) path.now []) }
-    ensures plain { IfOk result (λ p. p.funcs ≡ []) }
     ensures err { IfErr result (IsFileFault (reading_of L.Shelf shelf.old shelf.new) path.now) }
     ensures reads { ReadsAtMost (reading_of L.Shelf shelf.old shelf.new) path.now }
 {
@@ -30,7 +29,7 @@ pub fn read_program<L: Shelf>(alloc: Global, shelf: &mut L, path: &str) -> Resul
     }
 }
 
-/// The program of the bytes of a C file, at most `FILE_BYTES` of them. It has no functions besides `main`.
+/// The program of the bytes of a C file, at most `FILE_BYTES` of them.
 ///
 /// # Errors
 ///
@@ -38,7 +37,6 @@ pub fn read_program<L: Shelf>(alloc: Global, shelf: &mut L, path: &str) -> Resul
 pub fn program_of(alloc: Global, bytes: &[u8]) -> Result<Typed, ReadFault>
     requires { length bytes.now ≤ FILE_BYTES }
     ensures ok { IfOk result (IsProgramOf bytes.now) }
-    ensures plain { IfOk result (λ p. p.funcs ≡ []) }
     ensures err { IfErr result (IsProgramFault bytes.now) }
 {
     match program_in(alloc, bytes) {

@@ -1,5 +1,5 @@
 //! The report on what an exploration found.
-ghost use Rattle.std.specs.Prelude.{◌≡◌, ℕ, [], true, IfOk};
+ghost use Rattle.std.specs.Prelude.{◌≡◌, ℕ, true, IfOk};
 ghost use Rattle.c_cfg.specs.Lowering.{LowerOf};
 ghost use Rattle.c_cfg.specs.LoopFree.{has_no_loop};
 ghost use Rattle.fix_core.specs.Explorations.{IsExplored};
@@ -26,8 +26,8 @@ use fore_base::text::Text;
 use fore_words::Settings;
 use std::alloc::Global;
 
-/// The verdict on what an exploration of the program's control graph found, with its report, whole. The program has no
-/// functions, and `malloc` answers by the mode of the settings. A trace counts only where the program's own run on its
+/// The verdict on what an exploration of the program's control graph found, with its report, whole. `malloc`
+/// answers by the mode of the settings. A trace counts only where the program's own run on its
 /// choices meets a fault. Err is want of memory.
 pub fn report(
     alloc: Global,
@@ -37,7 +37,6 @@ pub fn report(
     graph: &Graph,
     program: &Typed,
 ) -> Mem<(Verdict, Text)>
-    requires plain { program.now.funcs ≡ [] }
     requires shapes { graph.now.shapes ≡ table.now.face.shapes }
     requires lowered { LowerOf program.now settings.malloc graph.now }
     requires explored { IsExplored table.now graph.now settings.height settings.budget found.now }

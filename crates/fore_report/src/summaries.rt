@@ -1,5 +1,5 @@
 //! The report on a generated program.
-ghost use Rattle.std.specs.Prelude.{◌≡◌, ◌++◌, [], IfOk, OnOk};
+ghost use Rattle.std.specs.Prelude.{◌≡◌, ◌++◌, IfOk, OnOk};
 ghost use Rattle.c_cfg.specs.Lowering.{LowerOf};
 ghost use Rattle.fix_core.specs.Explorations.{IsExplored};
 ghost use Rattle.fore_report.specs.Summaries.{
@@ -37,7 +37,6 @@ pub fn summary(
     graph: &Graph,
     program: &Typed,
 ) -> Mem<(Verdict, Text)>
-    requires plain { program.now.funcs ≡ [] }
     requires shapes { graph.now.shapes ≡ table.now.face.shapes }
     requires lowered { LowerOf program.now settings.malloc graph.now }
     requires explored { IsExplored table.now graph.now settings.height settings.budget found.now }

@@ -1,7 +1,6 @@
 // Programs as the body of a `main`.
 //
 // Before a body stand two lines, structs and the head of `main`; so the first line of a body is line 3.
-ghost use Rattle.std.specs.Prelude.{◌≡◌, ◌≤◌, [], length, IfOk};
 
 use anyhow::{Result, bail};
 use c_cfg::graph::Graph;
@@ -25,9 +24,7 @@ pub const GRAPH_HEAD: &str =
      int main(void) {\n";
 
 /// The program of a body behind a head.
-pub fn program_of(alloc: Global, head: &str, body: &[u8]) -> Result<Typed>
-    ensures { IfOk result (λ p. p.funcs ≡ []) }
-{
+pub fn program_of(alloc: Global, head: &str, body: &[u8]) -> Result<Typed> {
     let mut text = Text::new(alloc);
     text.put(head.as_bytes())?;
     text.put(body)?;

@@ -1,5 +1,5 @@
 // What programs and their graphs do on choices.
-ghost use Rattle.std.specs.Prelude.{◌≡◌, ◌≤◌, []};
+ghost use Rattle.std.specs.Prelude.{◌≤◌};
 
 use crate::outcomes::{put_found, put_outcome, put_turn};
 use crate::programs::{GRAPH_HEAD, RUN_HEAD, graph_of, program_of};
@@ -148,9 +148,7 @@ fn put_turns(
     mode: MallocMode,
     letters: &[u8],
     program: &Typed,
-) -> Result<()>
-    requires { program.now.funcs ≡ [] }
-{
+) -> Result<()> {
     let mut machine = Machine::new(alloc, program, mode)?;
     for (number, letter) in letters.iter().enumerate() {
         let choice = given(*letter)?;
@@ -195,9 +193,7 @@ struct Pair<'a> {
     graph: &'a Graph,
 }
 
-fn put_compared(alloc: Global, out: &mut Text, pair: Pair) -> Mem<()>
-    requires { pair.program.now.funcs ≡ [] }
-{
+fn put_compared(alloc: Global, out: &mut Text, pair: Pair) -> Mem<()> {
     if agree(alloc, out, pair)? && agree_on(alloc, out, pair, &[1, 2, 0])? {
         out.put(b"alike")?;
     }
@@ -205,9 +201,7 @@ fn put_compared(alloc: Global, out: &mut Text, pair: Pair) -> Mem<()>
 }
 
 /// Whether a program and its graph come out alike on each list of up to four choices.
-fn agree(alloc: Global, out: &mut Text, pair: Pair) -> Mem<bool>
-    requires { pair.program.now.funcs ≡ [] }
-{
+fn agree(alloc: Global, out: &mut Text, pair: Pair) -> Mem<bool> {
     for (length, lists) in LENGTHS {
         for number in 0..lists {
             let all = [
@@ -229,9 +223,7 @@ fn bit(number: u8, place: u8) -> u8 {
 }
 
 /// Whether a program and its graph come out alike on these choices. Where not, how they come out is put.
-fn agree_on(alloc: Global, out: &mut Text, pair: Pair, choices: &[u8]) -> Mem<bool>
-    requires { pair.program.now.funcs ≡ [] }
-{
+fn agree_on(alloc: Global, out: &mut Text, pair: Pair, choices: &[u8]) -> Mem<bool> {
     let outcome = run(alloc, pair.program, pair.mode, choices, STEPS)?;
     let edges = match outcome {
         Outcome::StillRunning => STEPS,
