@@ -76,6 +76,12 @@ pub into_itself : (parts : List SoundForest) (S : SoundForest) → IsIn S parts 
 into_itself parts S i T d h =
     (S.forest, in_map (λ (s : SoundForest). s.forest) S parts i, regroups_same T S.forest d h)
 
+pub some_self : (r : ℕ) (parts : List SoundForest) → Every (λ (S : SoundForest). IsToppedAt r S S) parts
+    → Every (OfSome (IsToppedAt r) parts) parts
+some_self r parts h =
+    in_every (OfSome (IsToppedAt r) parts) parts
+    (λ s i. (s, i, every_in (λ (S : SoundForest). IsToppedAt r S S) parts s h i))
+
 pub tops_next : (n : ℕ) (parts ms ss : List SoundForest) → Every (OfSome (IsTopped n) parts) ms
     → Every (OfSome (IsToppedAt n) ms) ss → Every (OfSome (IsTopped (n + 1)) parts) ss
 tops_next n parts ms ss a b =

@@ -1,6 +1,6 @@
 // One rule chosen at each root at which a variable is.
 
-ghost use Rattle.std.specs.Prelude.{List, IfOk};
+ghost use Rattle.std.specs.Prelude.{List, IfOk, IsTrue};
 ghost use Rattle.fore_base.specs.Lists.{IsIn, Every};
 ghost use Rattle.ta_core.specs.Single.{HasOneTop};
 ghost use Rattle.fa_core.specs.Member.{RegroupsInto};
@@ -27,12 +27,49 @@ pub fn top_roots(alloc: Global, parts: List<Sound>, count: u32) -> Mem<List<Soun
 {
     let mut made = parts;
     for root in 0..count {
-        made = top_each(alloc, made.as_slice(), root)?;
+        made = top_all(alloc, made, root)?;
     }
     Ok(made)
 }
 
-/// So at one root.
+/// So at one root. Where each of the forests has one rule there, none is copied.
+#[tactic(auto, using(crate::proofs::ToppedRoots::into_itself))]
+fn top_all(alloc: Global, parts: List<Sound>, root: u32) -> Mem<List<Sound>>
+    ensures each { IfOk result (Every (OfSome (IsToppedAt root) parts)) }
+    ensures whole { IfOk result (λ made. (S : SoundForest) → IsIn S parts
+        → (T : List BoxDef) → RegroupsInto T S.forest (forests made)) }
+{
+    if are_topped(parts.as_slice(), root) {
+        return Ok(parts);
+    }
+    top_each(alloc, parts.as_slice(), root)
+}
+
+/// Whether each of the forests has one rule at the root, or no such root.
+#[tactic(auto, using(fore_base::proofs::ListLemmas::every_push, fore_base::proofs::ListLemmas::take_item))]
+fn are_topped(parts: &[Sound], root: u32) -> bool
+    ensures { IsTrue result → Every (λ (S : SoundForest). IsToppedAt root S S) parts.now }
+{
+    for part in parts {
+        if !is_topped(part, root) {
+            return false;
+        }
+    }
+    true
+}
+
+/// Whether the forest has one rule at the root, or no such root.
+fn is_topped(part: &Sound, root: u32) -> bool
+    ensures { IsTrue result → IsToppedAt root part.now part.now }
+{
+    part.known();
+    if (root as usize) >= part.forest().autos.len() {
+        return true;
+    }
+    has_one_top(component(part.forest(), root))
+}
+
+/// The forests with each choice of one rule at the root.
 fn top_each(alloc: Global, parts: &[Sound], root: u32) -> Mem<List<Sound>>
     ensures each { IfOk result (Every (OfSome (IsToppedAt root) parts.now)) }
     ensures whole { IfOk result (λ made. (S : SoundForest) → IsIn S parts.now

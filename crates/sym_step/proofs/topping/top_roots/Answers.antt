@@ -7,7 +7,7 @@ loop-root-init c = (tops_first c.args.parts, into_itself c.args.parts)
 
 pub loop-root-preserved : goal.loop-root-preserved
 loop-root-preserved c =
-    let k = rw c.as_slice.ensures at c.in_ok-made.ensures in (
+    let k = c.in_ok-made.ensures in (
       tops_next c.loop-root.root c.args.parts c.loop-root.made c.in_ok-made.made c.loop-root.invariant.0 k.each,
       into_next c.args.parts c.loop-root.made c.in_ok-made.made c.loop-root.invariant.1 k.whole,
     )
