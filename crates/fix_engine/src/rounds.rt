@@ -83,12 +83,14 @@ fn dues_of(alloc: Global, nodes: &Nodes, at: u32, many: u32) -> Mem<List<Due>>
 
 /// Takes up the images of a round, node by node, and says at which node the work ended, which is the next one where all
 /// were taken up, and how. Err is want of memory.
-pub fn take_round<R: Threads + Sync>(
+pub fn take_round<R: Threads + Sync, G: Gate>(
     task: &Task<'_, R>,
     nodes: &mut Nodes,
     at: u32,
     round: &[List<EdgeImage>],
+    crew: &Crew<'_, G>,
 ) -> Mem<(u32, Taken)>
+    requires jobs { IsJobs crew.now.jobs }
     requires front { IsFront task.now.table task.now.graph task.now.height nodes.old at task.now.budget }
     requires round { IsRound task.now.table task.now.graph task.now.height nodes.old at round.now }
     requires fits { at + length round.now < 2 ^ 32 }
@@ -98,7 +100,7 @@ pub fn take_round<R: Threads + Sync>(
 {
     let mut here = at;
     for images in round {
-        match take_node(task, nodes, here, images.as_slice())? {
+        match take_node(task, nodes, here, images.as_slice(), crew)? {
             Taken::All => here += 1,
             how => return Ok((here, how)),
         }
