@@ -5,8 +5,8 @@
 
 use crate::noting::Noting;
 use anyhow::{Context, Result, bail};
-use fore_base::mem_shelf::MemShelf;
-use fore_base::mem_sink::MemSink;
+use fore_outside::mem_shelf::MemShelf;
+use fore_outside::mem_sink::MemSink;
 use fore_base::memory::Mem;
 use fore_call::forester;
 use row_kit::Answers;

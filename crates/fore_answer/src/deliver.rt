@@ -8,7 +8,7 @@ use crate::answer::Answer;
 use crate::status::{NO_MEMORY, NOT_READ, NOT_WRITTEN, REFUSED, USAGE};
 use crate::texts::{refusal_line, run_status, verdict_status};
 use fore_base::memory::Mem;
-use fore_base::sink::{Sink, put_all};
+use fore_outside::sink::{Sink, put_all};
 use fore_base::text::Text;
 use fore_report::run_report;
 use fore_words::usage_text;

@@ -5,8 +5,8 @@
 #![tactic(auto)]
 
 use fore_answer::status::{NO_MEMORY, USAGE};
-use fore_base::file_shelf::FileShelf;
-use fore_base::stream_sink::StreamSink;
+use fore_outside::file_shelf::FileShelf;
+use fore_outside::stream_sink::StreamSink;
 use fore_call::forester;
 use par_kit::gate::NoGate;
 use std::alloc::{AllocGlobal, Global};
