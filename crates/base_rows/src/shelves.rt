@@ -2,11 +2,11 @@
 
 use crate::printing::{put_counted, put_quoted, read_numbers};
 use anyhow::{Context, Result, bail};
-use fore_base::file_shelf::{FileShelf, read_within};
 use fore_base::list::List;
-use fore_base::mem_shelf::MemShelf;
-use fore_base::shelf::{Shelf, ShelfFault};
 use fore_base::text::Text;
+use fore_outside::file_shelf::{FileShelf, read_within};
+use fore_outside::mem_shelf::MemShelf;
+use fore_outside::shelf::{Shelf, ShelfFault};
 use row_texts::put_between;
 use std::alloc::Global;
 use std::io;

@@ -2,11 +2,11 @@
 
 use crate::printing::{put_choice, put_counted, put_quoted};
 use anyhow::{Context, Result, bail};
-use fore_base::mem_sink::MemSink;
 use fore_base::memory::Mem;
-use fore_base::sink::put_all;
-use fore_base::stream_sink::StreamSink;
 use fore_base::text::Text;
+use fore_outside::mem_sink::MemSink;
+use fore_outside::sink::put_all;
+use fore_outside::stream_sink::StreamSink;
 use row_texts::put_between;
 use std::alloc::Global;
 use std::io;

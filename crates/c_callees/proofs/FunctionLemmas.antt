@@ -1,5 +1,5 @@
 -- `main` is none of the functions besides it.
-use Rattle.std.proofs.Common.{◌≡◌, Bool, true, false, cond, ◌||◌, List, [], ◌∷◌, ◌++◌, map, codes, refl, sym, ◌∙◌}
+use Rattle.std.proofs.Common.{◌≡◌, Bool, true, false, cond, List, [], ◌∷◌, ◌++◌, map, codes, refl, sym, ◌∙◌}
 use Rattle.std.specs.Cmp.Lexicographic.{bytes_decides}
 use Rattle.std.proofs.lemmas.Bool.{true≢false}
 use Rattle.fore_base.proofs.ListLemmas.{every_append}
@@ -9,7 +9,7 @@ use Rattle.c_ast.specs.declared.items.Item.{Item}
 use Rattle.c_ast.specs.declared.items.Item.TheVariants as item
 use Rattle.c_typing.specs.Globals.{function_heads, functions_in, head_name, is_main}
 use Rattle.c_typing.specs.Texts.{Text, each_of, firsts, has, same}
-use Rattle.c_callees.proofs.NameLemmas.{differs}
+use Rattle.c_names.proofs.NameLemmas.{differs}
 
 abbrev IsOther : Head → Type 0
 IsOther h = is_main h ≡ false

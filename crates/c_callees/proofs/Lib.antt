@@ -1,5 +1,5 @@
 pub mod CallingLemmas
 pub mod CountingLemmas
 pub mod FunctionLemmas
-mod NameLemmas
-mod WeightLemmas
+mod LeadingLemmas
+pub mod WeightLemmas

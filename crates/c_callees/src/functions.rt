@@ -4,8 +4,8 @@ ghost use Rattle.c_ast.specs.declared.items.Head.{Head as AHead};
 ghost use Rattle.c_typing.specs.Globals.{function_heads, functions_in, head_name, is_main, names_of_calls};
 ghost use Rattle.c_typing.specs.Texts.{firsts, has};
 
-use crate::naming;
 use c_ast::{Head, Item};
+use c_names::naming;
 use fore_base::list::List;
 use fore_base::memory::Mem;
 use fore_base::names::Names;
@@ -19,7 +19,8 @@ pub struct Functions {
     pub texts: List<Text>,
 }
 
-fn is_main(head: &Head) -> bool
+/// Whether the name is `main`.
+pub fn is_main(head: &Head) -> bool
     ensures { result ≡ is_main head.now }
 {
     head.name.text.as_slice() == b"main".as_slice()

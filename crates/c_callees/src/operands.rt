@@ -5,8 +5,8 @@ ghost use Rattle.c_typing.specs.Callees.{unary_callees, and_callees, cond_callee
 ghost use Rattle.c_typing.specs.Texts.{joined};
 ghost use Rattle.c_callees.specs.inner.Calling.{called, called_one};
 
-use crate::naming;
 use c_ast::{And, Call, Cond, Operand, Rhs, Test, Unary};
+use c_names::naming;
 use fore_base::list::List;
 use fore_base::memory::Mem;
 use fore_base::names::Names;

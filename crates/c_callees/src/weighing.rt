@@ -1,5 +1,5 @@
 // How many statements the functions of a file have, and what `main` weighs.
-ghost use Rattle.std.specs.Prelude.{◌≡◌, ◌+◌, ℕ, map, min, length, slice_index, IfOk};
+ghost use Rattle.std.specs.Prelude.{◌≡◌, ◌+◌, ℕ, map, min, nat_lt, length, slice_index, IfOk};
 ghost use Rattle.c_typing.specs.Globals.{body_named, calls_of};
 ghost use Rattle.c_typing.specs.Weights.{main_weight, statements_in, statements_of};
 
@@ -8,6 +8,7 @@ use crate::counting::statements_within;
 use crate::functions::Functions;
 use c_ast::Item;
 use c_calls::CallGraph;
+use c_typing::limits::WEIGHT;
 use fore_base::list::List;
 use fore_base::memory::Mem;
 use fore_base::text::Text;
@@ -71,4 +72,17 @@ pub fn main_weight(alloc: Global, graph: &CallGraph, items: &[Item], cap: u32) -
     let statements = statements_of(alloc, items)?;
     let weights = graph.weigh(alloc, statements.as_slice(), cap)?;
     Ok(last_of(&weights))
+}
+
+/// Whether `main` weighs more than it may. `graph` is that of the items' calls.
+///
+/// # Errors
+///
+/// Want of memory, also past 32 bits.
+pub fn is_overweight(alloc: Global, graph: &CallGraph, items: &[Item]) -> Mem<bool>
+    requires { graph.now ≡ calls_of items.now }
+    ensures { IfOk result (λ yes. yes ≡ nat_lt WEIGHT (main_weight items.now)) }
+{
+    let weight = main_weight(alloc, graph, items, WEIGHT as u32 + 1)?;
+    Ok(weight as usize > WEIGHT)
 }

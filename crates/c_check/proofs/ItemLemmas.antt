@@ -1,11 +1,12 @@
 -- What each kind of place among the items adds to the first fault so far.
-use Rattle.std.proofs.Common.{◌≡◌, ℕ, Bool, true, false, not, ◌&&◌, ◌||◌, nat_eq, List, [], Option, ap}
+use Rattle.std.proofs.Common.{◌≡◌, ℕ, Bool, true, not, ◌&&◌, ◌||◌, nat_eq, List, Option, ap}
 use Rattle.fore_base.specs.declared.limits.TheConstants.{STRUCTS, FIELDS, ENUMERATORS}
 use Rattle.fore_base.specs.declared.place.Place.{Place}
 use Rattle.c_ast.specs.declared.items.Head.{Head}
 use Rattle.c_ast.specs.declared.operands.Name.{Name}
+use Rattle.c_typing.specs.Functions.{is_right_prototype}
 use Rattle.c_typing.specs.Globals.{Globals}
-use Rattle.c_typing.specs.Profile.{is_allowed_head, is_main, is_main_head}
+use Rattle.c_typing.specs.Profile.{given, is_main, is_main_head}
 use Rattle.c_typing.specs.Sites.{Struct, Enum, Value, Member, Function, Parameter, Defines, Declares, Functions}
 use Rattle.c_typing.specs.Sites.{Globally, Ends, Overflows}
 use Rattle.c_typing.specs.Texts.{Text, has}
@@ -38,24 +39,23 @@ module _ (g : Globals) (found : Option TypeFault) where
       ≡ noted_when (has n.text earlier) (Rule 5 n.at) found
   noted-Enum n earlier count = one g found _ _ _ (breaching.at-Enum g n earlier count)
 
-  pub noted-Function : (n : Name) (count : ℕ) → noted g found (Defines Function n [] count)
-      ≡ noted_when (nat_eq count FUNCTIONS) (Limit 10 n.at) found
-  noted-Function n count = two g found _ false (nat_eq count FUNCTIONS) (Rule 5 n.at) (Limit 10 n.at)
-      (breaching.at-Function g n [] count)
+  pub noted-Function : (n : Name) (earlier : List Text) (count : ℕ) →
+      noted g found (Defines Function n earlier count)
+      ≡ noted_when (nat_eq count FUNCTIONS) (Limit 10 n.at) (noted_when (has n.text earlier) (Rule 5 n.at) found)
+  noted-Function n earlier count = two g found _ _ _ _ _ (breaching.at-Function g n earlier count)
 
   pub noted-Parameter : (n : Name) (earlier : List Text) (count : ℕ) → noted g found (Defines Parameter n earlier count)
       ≡ noted_when (has n.text earlier) (Rule 5 n.at) found
   noted-Parameter n earlier count = one g found _ _ _ (breaching.at-Parameter g n earlier count)
 
   pub noted-Declares : (h : Head) → noted g found (Declares h)
-      ≡ noted_when (not (is_allowed_head h)) (Rule 15 h.name.at) found
+      ≡ noted_when (not (is_right_prototype g h)) (Rule 15 h.name.at) found
   noted-Declares h = one g found _ _ _ (breaching.at-Declares g h)
 
-  pub noted-Functions : (main : Bool) (h : Head) →
-      noted g found (Functions main h)
-      ≡ noted_when (not main && (is_main h && not (is_main_head h))) (Rule 15 h.name.at)
-      (noted_when (main || not (is_main h)) (Rule 13 h.name.at) found)
-  noted-Functions main h = two g found _ _ _ _ _ (breaching.at-Functions g main h)
+  pub noted-Functions : (h : Head) →
+      noted g found (Functions h)
+      ≡ noted_when (has h.name.text given || (is_main h && not (is_main_head h))) (Rule 15 h.name.at) found
+  noted-Functions h = one g found _ _ _ (breaching.at-Functions g h)
 
   pub noted-Globally : (n : Name) → noted g found (Globally n) ≡ noted_when true (Rule 14 n.at) found
   noted-Globally n = one g found _ true (Rule 14 n.at) (breaching.at-Globally g n)

@@ -15,19 +15,22 @@ use Rattle.c_typing.specs.Globals.{Globals, is_main, params_of, text_of}
 use Rattle.c_typing.specs.ItemSites.{Seen, nothing_seen, structs_seen, seen_after, all_seen, member_sites}
 use Rattle.c_typing.specs.ItemSites.{field_type_sites, names_of, fields_sites, value_sites, struct_sites, item_sites}
 use Rattle.c_typing.specs.ItemSites.{items_sites, gives_sites, param_sites, proto_params_sites, proto_sites, head_sites}
-use Rattle.c_typing.specs.ItemSites.{body_sites, unit_sites}
+use Rattle.c_typing.specs.ItemSites.{body_sites, named_sites, unit_sites}
 use Rattle.c_typing.specs.Scopes.{Scope, empty_scope, param_name, past_head, past_item}
-use Rattle.c_typing.specs.Sites.{Struct, Enum, Value, Member, Parameter, Site, Declares, Defines, Ends, Overflows}
+use Rattle.c_typing.specs.Sites.{Struct, Enum, Value, Member, Function, Parameter, Site, Declares, Defines, Ends}
+use Rattle.c_typing.specs.Sites.{Overflows}
 use Rattle.c_typing.specs.Texts.{Text, has, same}
 use Rattle.c_typing.specs.declared.fault.TypeFault.{TypeFault}
 use Rattle.c_typing.specs.declared.fault.TypeFault.TheVariants.{Rule, Limit}
+use Rattle.c_typing.specs.declared.limits.TheConstants.{FUNCTIONS}
 use Rattle.c_check.specs.declared.definitions.Seen as kept
 use Rattle.c_check.specs.inner.Items.{with_name, with_names, kept_member_sites, kept_fields_sites, kept_value_sites}
 use Rattle.c_check.specs.inner.Items.{kept_struct_sites, kept_structs, kept_after, kept_item_sites, kept_items_sites}
 use Rattle.c_check.specs.inner.Items.{is_main_item, any_main, nothing_kept, kept_params_sites, kept_proto_sites}
-use Rattle.c_check.specs.inner.Items.{kept_function_sites}
+use Rattle.c_check.specs.inner.Items.{kept_function_sites, kept_head_sites, kept_named_sites}
 use Rattle.c_expressions.specs.Meeting.{met, noted, noted_when}
-use Rattle.c_check.proofs.ItemLemmas.{noted-Struct, noted-Member, noted-Value, noted-Enum, noted-Parameter}
+use Rattle.c_check.proofs.ItemLemmas.{noted-Struct, noted-Member, noted-Value, noted-Enum, noted-Function}
+use Rattle.c_check.proofs.ItemLemmas.{noted-Parameter}
 use Rattle.c_expressions.proofs.MeetingLemmas.{met-append, met-cons, met-one}
 
 -- the same names are there
@@ -93,13 +96,13 @@ length_names [] (n ∷ ns) = omega (arith, length_names [] ns)
 length_names (x ∷ xs) ns = omega (arith, length_names xs ns)
 
 -- what is kept is what was seen
-record Keeps (main : Bool) (k : kept.Seen) (s : Seen) : Type 0 where
+record Keeps (k : kept.Seen) (s : Seen) : Type 0 where
   structs : Alike k.structs s.structs
   count : k.count ≡ length s.structs
   enums : Alike k.enums s.enums
   values : Alike k.values s.values
-  functions : k.functions ≡ length s.functions
-  main_is : main ≡ s.main
+  functions : Alike k.functions s.functions
+  function_count : k.function_count ≡ length s.functions
 
 or_or : (a b c : Bool) → (a || (b || c)) ≡ ((a || b) || c)
 or_or true b c = refl
@@ -124,72 +127,73 @@ struct_keeps name None k s h e = (h, e)
 struct_keeps name (Some fields) k s h e =
     (alike_more k.structs s.structs name.text h, omega (arith, length_one s.structs name.text, e))
 
-rest_kept : (name : Name) (fields : Option (List Field)) (k : kept.Seen)
-    → ((kept_structs k name fields).enums ≡ k.enums) × (((kept_structs k name fields).values ≡ k.values)
-    × ((kept_structs k name fields).functions ≡ k.functions))
-rest_kept name None k = (refl, (refl, refl))
-rest_kept name (Some fields) k = (refl, (refl, refl))
+record SameRest (k l : kept.Seen) : Type 0 where
+  enums : l.enums ≡ k.enums
+  values : l.values ≡ k.values
+  functions : l.functions ≡ k.functions
+  function_count : l.function_count ≡ k.function_count
 
-keeps_after : (i : Item) (main : Bool) (k : kept.Seen) (s : Seen) → Keeps main k s
-    → Keeps (main || is_main_item i) (kept_after k i) (seen_after s i)
-keeps_after (item.Struct at name fields) main k s h =
+rest_kept : (name : Name) (fields : Option (List Field)) (k : kept.Seen) → SameRest k (kept_structs k name fields)
+rest_kept name None k = record { enums = refl; values = refl; functions = refl; function_count = refl }
+rest_kept name (Some fields) k = record { enums = refl; values = refl; functions = refl; function_count = refl }
+
+keeps_after : (i : Item) (k : kept.Seen) (s : Seen) → Keeps k s → Keeps (kept_after k i) (seen_after s i)
+keeps_after (item.Struct at name fields) k s h =
     let structs = struct_keeps name fields k s h.structs h.count in
     let rest = rest_kept name fields k in
     record {
       structs = structs.0;
       count = structs.1;
-      enums = subst (λ (ns : List Text). Alike ns s.enums) (sym rest.0) h.enums;
-      values = subst (λ (ns : List Text). Alike ns s.values) (sym rest.1.0) h.values;
-      functions = rest.1.1 ∙ h.functions;
-      main_is = or_false main ∙ h.main_is;
+      enums = subst (λ (ns : List Text). Alike ns s.enums) (sym rest.enums) h.enums;
+      values = subst (λ (ns : List Text). Alike ns s.values) (sym rest.values) h.values;
+      functions = subst (λ (ns : List Text). Alike ns s.functions) (sym rest.functions) h.functions;
+      function_count = rest.function_count ∙ h.function_count;
     }
-keeps_after (item.Enum at name values) main k s h = record {
+keeps_after (item.Enum at name values) k s h = record {
   structs = h.structs;
   count = h.count;
   enums = alike_more k.enums s.enums name.text h.enums;
   values = alike_names k.values s.values values h.values;
   functions = h.functions;
-  main_is = or_false main ∙ h.main_is;
+  function_count = h.function_count;
 }
-keeps_after (item.Proto outer head) main k s h =
+keeps_after (item.Proto outer head) k s h =
     record {
       structs = h.structs;
       count = h.count;
       enums = h.enums;
       values = h.values;
       functions = h.functions;
-      main_is = or_false main
-          ∙ h.main_is;
+      function_count = h.function_count;
     }
-keeps_after (item.Function head body) main k s h =
+keeps_after (item.Function head body) k s h =
     record {
       structs = h.structs;
       count = h.count;
       enums = h.enums;
       values = h.values;
-      functions = omega (arith, length_one s.functions head.name.text, h.functions);
-      main_is = ap (λ b. b || is_main head) h.main_is;
+      functions = alike_more k.functions s.functions head.name.text h.functions;
+      function_count = omega (arith, length_one s.functions head.name.text, h.function_count);
     }
-keeps_after (item.Declare d) main k s h =
+keeps_after (item.Declare d) k s h =
     record {
       structs = h.structs;
       count = h.count;
       enums = h.enums;
       values = h.values;
       functions = h.functions;
-      main_is = or_false main
-          ∙ h.main_is;
+      function_count = h.function_count;
     }
 
-nothing_keeps : Keeps false nothing_kept nothing_seen
+nothing_keeps : Keeps nothing_kept nothing_seen
 nothing_keeps =
     record {
       structs = record { same_names = λ x. refl };
       count = refl;
       enums = record { same_names = λ x. refl };
       values = record { same_names = λ x. refl };
-      functions = refl;
-      main_is = refl;
+      functions = record { same_names = λ x. refl };
+      function_count = refl;
     }
 
 main_seen : (is : List Item) (main : Bool) (s : Seen) → main ≡ s.main → (main || any_main is) ≡ (all_seen s is).main
@@ -315,45 +319,61 @@ module _ (g : Globals) where
       (next _ (Declares h) (Declares h) _ _ refl
       (params_alike (params_of h.params) _ [] [] (record { same_names = λ x. refl })))
 
-  -- A definition of a function breaks a limit by how many there were, and no rule by their names.
-  heads_alike : (found : Option TypeFault) (main : Bool) (k : kept.Seen) (s : Seen) (h : Head) (b : Block)
-      (scope : Scope) → Keeps main k s →
-      met g found (kept_function_sites g main k.functions h b scope)
-      ≡ met g found (head_sites g s h scope ++ body_sites g b (past_head g h scope))
-  heads_alike found main k s h b scope keeps =
-      ap (λ m. met g found (kept_function_sites g m k.functions h b scope)) keeps.main_is
-      ∙ ap (λ n. met g found (kept_function_sites g s.main n h b scope)) keeps.functions
+  function_alike : (found : Option TypeFault) (n : Name) (names earlier : List Text) (count : ℕ) → has n.text names
+      ≡ has n.text earlier →
+      noted g found (Defines Function n names count) ≡ noted g found (Defines Function n earlier count)
+  function_alike found n names earlier count h =
+      noted-Function g found n names count
+      ∙ ap (λ b. noted_when (nat_eq count FUNCTIONS) (Limit 10 n.at) (noted_when b (Rule 5 n.at) found)) h
+      ∙ sym (noted-Function g found n earlier count)
 
-  item_alike : (i : Item) (found : Option TypeFault) (main : Bool) (k : kept.Seen) (s : Seen) (scope : Scope)
-      → Keeps main k s →
-      met g found (kept_item_sites g main k i scope) ≡ met g found (item_sites g s i scope)
-  item_alike (item.Struct at name fields) found main k s scope h =
+  named_alike : (found : Option TypeFault) (k : kept.Seen) (s : Seen) (h : Head) → Keeps k s →
+      met g found (kept_named_sites k.functions k.function_count h) ≡ met g found (named_sites s h)
+  named_alike found k s h keeps =
+      next found _ _ _ _
+      (function_alike found h.name k.functions s.functions k.function_count (keeps.functions.same_names h.name.text)
+      ∙ ap (λ n. noted g found (Defines Function h.name s.functions n)) keeps.function_count) refl
+
+  heads_alike : (found : Option TypeFault) (k : kept.Seen) (s : Seen) (h : Head) (scope : Scope) → Keeps k s →
+      met g found (kept_head_sites g k.functions k.function_count h scope) ≡ met g found (head_sites g s h scope)
+  heads_alike found k s h scope keeps =
+      onward found _ _ _ _
+      (onward found _ _ _ _ (onward found (gives_sites h.gives) (gives_sites h.gives) _ _ refl
+      (named_alike _ k s h keeps)) refl) refl
+
+  functions_alike : (found : Option TypeFault) (k : kept.Seen) (s : Seen) (h : Head) (b : Block) (scope : Scope)
+      → Keeps k s →
+      met g found (kept_function_sites g k.functions k.function_count h b scope)
+      ≡ met g found (head_sites g s h scope ++ body_sites g b (past_head g h scope))
+  functions_alike found k s h b scope keeps = onward found _ _ _ _ (heads_alike found k s h scope keeps) refl
+
+  item_alike : (i : Item) (found : Option TypeFault) (k : kept.Seen) (s : Seen) (scope : Scope) → Keeps k s →
+      met g found (kept_item_sites g k i scope) ≡ met g found (item_sites g s i scope)
+  item_alike (item.Struct at name fields) found k s scope h =
       structs_alike found k s name fields h.structs h.count
-  item_alike (item.Enum at name values) found main k s scope h =
+  item_alike (item.Enum at name values) found k s scope h =
       next found _ _ _ _
       (enum_alike found name k.enums s.enums 0 (length s.enums) (h.enums.same_names name.text))
       (values_alike values _ k.values s.values 0 0 h.values refl)
-  item_alike (item.Proto outer head) found main k s scope h = protos_alike found head
-  item_alike (item.Function head body) found main k s scope h = heads_alike found main k s head body scope h
-  item_alike (item.Declare d) found main k s scope h = refl
+  item_alike (item.Proto outer head) found k s scope h = protos_alike found head
+  item_alike (item.Function head body) found k s scope h = functions_alike found k s head body scope h
+  item_alike (item.Declare d) found k s scope h = refl
 
-  items_alike : (is : List Item) (found : Option TypeFault) (main : Bool) (k : kept.Seen) (s : Seen) (scope : Scope)
-      → Keeps main k s →
-      met g found (kept_items_sites g main k is scope) ≡ met g found (items_sites g s is scope)
-  items_alike [] found main k s scope h = refl
-  items_alike (i ∷ is) found main k s scope h =
-      onward found _ _ _ _ (item_alike i found main k s scope h)
-      (items_alike is _ (main || is_main_item i) (kept_after k i) (seen_after s i) (past_item g i scope)
-      (keeps_after i main k s h))
+  items_alike : (is : List Item) (found : Option TypeFault) (k : kept.Seen) (s : Seen) (scope : Scope) → Keeps k s →
+      met g found (kept_items_sites g k is scope) ≡ met g found (items_sites g s is scope)
+  items_alike [] found k s scope h = refl
+  items_alike (i ∷ is) found k s scope h =
+      onward found _ _ _ _ (item_alike i found k s scope h)
+      (items_alike is _ (kept_after k i) (seen_after s i) (past_item g i scope) (keeps_after i k s h))
 
   pub all_alike : (found : Option TypeFault) (is : List Item)
-      → met g found (kept_items_sites g false nothing_kept is empty_scope)
+      → met g found (kept_items_sites g nothing_kept is empty_scope)
       ≡ met g found (items_sites g nothing_seen is empty_scope)
-  all_alike found is = items_alike is found false nothing_kept nothing_seen empty_scope nothing_keeps
+  all_alike found is = items_alike is found nothing_kept nothing_seen empty_scope nothing_keeps
 
   -- the items, the end and the first token above the limit
   pub whole_met : (found : Option TypeFault) (u : whole.Unit) (main : Bool) → main ≡ any_main u.items →
-      noted g (noted g (met g found (kept_items_sites g false nothing_kept u.items empty_scope)) (Ends main u.end))
+      noted g (noted g (met g found (kept_items_sites g nothing_kept u.items empty_scope)) (Ends main u.end))
       (Overflows u.over) ≡ met g found (unit_sites g u)
   whole_met found u main e =
       let seen : Option TypeFault = met g found (items_sites g nothing_seen u.items empty_scope) in

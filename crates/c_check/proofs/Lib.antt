@@ -1,11 +1,4 @@
+pub mod AnswerLemmas
 pub mod Answering
-pub mod BodyLemmas
-pub mod CountingLemmas
-pub mod FirstFaults
-pub mod FunctionLemmas
 pub mod ItemLemmas
 pub mod KeptLemmas
-pub mod LoopLemmas
-pub mod ProgramLemmas
-pub mod StatementLemmas
-pub mod Swapping

@@ -1,3 +1,2 @@
-pub mod Assigning
-pub mod Counting
+pub mod Heavy
 pub mod Items

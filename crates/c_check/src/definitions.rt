@@ -8,11 +8,11 @@ ghost use Rattle.c_check.specs.inner.Items.{with_name, with_names, kept_member_s
 ghost use Rattle.c_check.specs.inner.Items.{kept_value_sites, kept_structs, kept_struct_sites, kept_enums};
 ghost use Rattle.c_expressions.specs.Meeting.{met, noted, noted_when};
 
-use crate::types::uses_field_type;
 use c_ast::{Field, Name};
+use c_bodies::types::uses_field_type;
 use c_expressions::first::note_limit;
 use c_expressions::noting::{note_when, uses_struct};
-use c_tables::naming::{self, one_more};
+use c_names::naming::{self, one_more};
 use c_tables::tables::Tables;
 use c_typing::TypeFault;
 use fore_base::limits::{ENUMERATORS, FIELDS, STRUCTS};
@@ -29,7 +29,8 @@ pub struct Seen {
     pub count: usize,
     pub enums: Names,
     pub values: Names,
-    pub functions: usize,
+    pub functions: Names,
+    pub function_count: usize,
 }
 
 impl Seen {
@@ -39,14 +40,16 @@ impl Seen {
         ensures count { result.count ≡ 0 }
         ensures enums { result.enums ≡ [] }
         ensures values { result.values ≡ [] }
-        ensures functions { result.functions ≡ 0 }
+        ensures functions { result.functions ≡ [] }
+        ensures function_count { result.function_count ≡ 0 }
     {
         Seen {
             structs: Names::new(alloc),
             count: 0,
             enums: Names::new(alloc),
             values: Names::new(alloc),
-            functions: 0,
+            functions: Names::new(alloc),
+            function_count: 0,
         }
     }
 }
@@ -170,6 +173,7 @@ fn defines_struct(
     ensures enums { OnOk result (seen.new.enums ≡ seen.old.enums) }
     ensures values { OnOk result (seen.new.values ≡ seen.old.values) }
     ensures functions { seen.new.functions ≡ seen.old.functions }
+    ensures function_count { seen.new.function_count ≡ seen.old.function_count }
     ensures found { OnOk result
         (found.new ≡ noted tables.now found.old
         (Defines Struct name.now seen.old.structs seen.old.count)) }

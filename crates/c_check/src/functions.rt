@@ -1,126 +1,98 @@
 // Functions: their heads, with the variables that these declare, and their bodies.
-ghost use Rattle.std.specs.Prelude.{◌≡◌, ◌∷◌, ◌++◌, [], codes, IfOk, OnOk};
-ghost use Rattle.c_typing.specs.Globals.{param_kind, params_of, struct_names};
+ghost use Rattle.std.specs.Prelude.{◌≡◌, [], OnOk};
+ghost use Rattle.c_typing.specs.Globals.{param_kind, struct_names};
 ghost use Rattle.c_typing.specs.ItemSites.{own_param_sites, own_params_sites, result_sites};
-ghost use Rattle.c_typing.specs.Scopes.{begun, declared, declared_so_far, outside, param_name, past_block, past_head};
-ghost use Rattle.c_typing.specs.Scopes.{past_params, past_result, result_declared, result_of};
-ghost use Rattle.c_typing.specs.Sites.{Defines, Function, Functions, Variable};
-ghost use Rattle.c_scopes.specs.InScope.{outer};
-ghost use Rattle.c_check.specs.inner.Items.{kept_function_sites, kept_head_sites, kept_named_sites};
+ghost use Rattle.c_typing.specs.Scopes.{begun, declared, outside, param_name, past_block, past_head, past_params};
+ghost use Rattle.c_typing.specs.Scopes.{past_result, result_of};
+ghost use Rattle.c_typing.specs.Sites.{Defines, Function, Functions};
+ghost use Rattle.c_check.specs.inner.Items.{kept_function_sites, kept_head_sites, kept_named_sites, with_name};
 ghost use Rattle.c_expressions.specs.Meeting.{met, noted};
 
-use crate::bodies::block_faults;
-use crate::counting::counts;
-use crate::definitions::note_at;
-use crate::profile::is_main_head;
-use crate::types::{param_name, uses_param, uses_result};
+use crate::definitions::{defines, note_at};
 use c_ast::{Block, Head, Name, Param};
+use c_bodies::bodies::block_faults;
+use c_bodies::counting::counts;
+use c_bodies::types::{uses_param, uses_result};
 use c_expressions::noting::{defines_variable, note_when};
+use c_functions::given::is_given;
+use c_functions::profile::is_main_head;
+use c_scopes::heads::{begin, declare_param, declare_result, param_name, result_of};
 use c_scopes::scopes::Scope;
 use c_tables::functions::{is_main, params_of};
 use c_tables::tables::Tables;
 use c_typing::limits::FUNCTIONS;
 use c_typing::{Kind, TypeFault};
 use fore_base::memory::Mem;
-use fore_base::text::Text;
+use fore_base::names::Names;
 use std::alloc::Global;
 
-/// A function is defined, after so many others.
+/// A function is defined, after these and so many others.
 #[tactic(auto, using(crate::proofs::ItemLemmas::sites))]
-fn defines_function(tables: &Tables, count: usize, name: &Name, found: &mut Option<TypeFault>)
-    ensures { found.new ≡ noted tables.now found.old (Defines Function name.now [] count) }
-{
-    let _tables = tables;
-    note_at(count, FUNCTIONS, 10, name.at, found);
-}
-
-/// A function is defined, where `main` tells whether there was one of that name.
-#[tactic(auto, using(crate::proofs::ItemLemmas::sites))]
-fn functions(tables: &Tables, main: bool, head: &Head, found: &mut Option<TypeFault>)
-    ensures { found.new ≡ noted tables.now found.old (Functions main head.now) }
-{
-    let _tables = tables;
-    let is_main = is_main(head);
-    note_when(main || !is_main, 13, head.name.at, found);
-    note_when(
-        !main && (is_main && !is_main_head(head)),
-        15,
-        head.name.at,
-        found,
-    );
-}
-
-/// The name of a function that is defined, after so many others.
-#[tactic(auto, using(c_expressions::proofs::MeetingLemmas::meeting))]
-fn named(tables: &Tables, main: bool, count: usize, head: &Head, found: &mut Option<TypeFault>)
-    ensures { found.new ≡ met tables.now found.old (kept_named_sites main count head.now) }
-{
-    defines_function(tables, count, &head.name, found);
-    functions(tables, main, head, found);
-}
-
-/// What the result of a function is, if it has one; that of `main` is no variable.
-fn result_of(tables: &Tables, head: &Head) -> Option<Kind>
-    ensures { result ≡ result_of tables.now head.now }
-{
-    if is_main(head) {
-        return None;
-    }
-    tables.result_kind(&head.gives)
-}
-
-/// The name of the variable that is the result of a function.
-fn result_name(alloc: Global, name: &Text) -> Mem<Text>
-    ensures { IfOk result (λ text. text ≡ name.now ++ codes "()") }
-{
-    let mut text = Text::from_slice(alloc, name.as_slice())?;
-    text.put(b"()".as_slice())?;
-    Ok(text)
-}
-
-/// The result of a function is declared, where no block is open.
-fn declares_result(
-    alloc: Global,
+fn defines_function(
     tables: &Tables,
-    scope: &mut Scope,
-    kind: Kind,
+    names: &mut Names,
+    count: usize,
     name: &Name,
     found: &mut Option<TypeFault>,
 ) -> Mem<()>
-    requires { scope.old.blocks ≡ [] }
-    ensures past { OnOk result (scope.new ≡ declared scope.old (name.now.text ++ codes "()") kind) }
-    ensures found { OnOk result
-        (found.new ≡ noted tables.now found.old (Defines Variable name.now [] (declared_so_far scope.old))) }
+    ensures names { OnOk result (names.new ≡ with_name names.old name.now.text) }
+    ensures found { OnOk result (found.new ≡ noted tables.now found.old (Defines Function name.now names.old count)) }
 {
-    defines_variable(tables, scope, name, found);
-    let text = result_name(alloc, &name.text)?;
-    scope.declare(alloc, text.as_slice(), kind)?;
+    let _tables = tables;
+    defines(names, name, found)?;
+    note_at(count, FUNCTIONS, 10, name.at, found);
     Ok(())
 }
 
-/// What the result of a function breaks, if it has one.
+/// A function is defined.
+#[tactic(auto, using(crate::proofs::ItemLemmas::sites))]
+fn functions(tables: &Tables, head: &Head, found: &mut Option<TypeFault>)
+    ensures { found.new ≡ noted tables.now found.old (Functions head.now) }
+{
+    let _tables = tables;
+    let given = is_given(head.name.text.as_slice());
+    let broken = given || (is_main(head) && !is_main_head(head));
+    note_when(broken, 15, head.name.at, found);
+}
+
+/// The name of a function that is defined, after these and so many others.
+#[tactic(auto, using(c_expressions::proofs::MeetingLemmas::meeting))]
+fn named(
+    tables: &Tables,
+    names: &mut Names,
+    count: usize,
+    head: &Head,
+    found: &mut Option<TypeFault>,
+) -> Mem<()>
+    ensures names { OnOk result (names.new ≡ with_name names.old head.now.name.text) }
+    ensures found { OnOk result
+        (found.new ≡ met tables.now found.old (kept_named_sites names.old count head.now)) }
+{
+    defines_function(tables, names, count, &head.name, found)?;
+    functions(tables, head, found);
+    Ok(())
+}
+
+/// What the result of a function breaks, if it has one. No block is open.
 #[tactic(auto, using(c_expressions::proofs::MeetingLemmas::meeting))]
 fn result_faults(
-    alloc: Global,
     tables: &Tables,
-    scope: &mut Scope,
+    scope: &Scope,
     kind: Option<Kind>,
     name: &Name,
     found: &mut Option<TypeFault>,
-) -> Mem<()>
-    requires { scope.old.blocks ≡ [] }
-    ensures past { OnOk result (scope.new ≡ result_declared kind name.now.text scope.old) }
-    ensures found { OnOk result
-        (found.new ≡ met tables.now found.old (result_sites kind name.now scope.old)) }
+)
+    requires { scope.now.blocks ≡ [] }
+    ensures { found.new ≡ met tables.now found.old (result_sites kind name.now scope.now) }
 {
     match kind {
-        Some(kind) => declares_result(alloc, tables, scope, kind, name, found),
-        None => Ok(()),
+        Some(_) => defines_variable(tables, scope, name, found),
+        None => {}
     }
 }
 
 /// A function begins, and its result is declared, if it has one.
-fn begin(
+fn begins(
     alloc: Global,
     tables: &Tables,
     scope: &mut Scope,
@@ -134,10 +106,10 @@ fn begin(
         (result_sites (result_of tables.now head.now) head.now.name
         (begun tables.now head.now scope.old))) }
 {
-    scope.move_to(tables.function_of(head.name.text.as_slice()));
+    begin(tables, scope, head);
     let kind = result_of(tables, head);
-    result_faults(alloc, tables, scope, kind, &head.name, found)?;
-    Ok(())
+    result_faults(tables, scope, kind, &head.name, found);
+    declare_result(alloc, scope, kind, &head.name.text)
 }
 
 /// What a parameter breaks, which is in scope from then on.
@@ -155,9 +127,8 @@ fn param_faults(
         (found.new ≡ met tables.now found.old (own_param_sites tables.now param.now scope.old)) }
 {
     uses_param(tables, param, found);
-    let name = param_name(param);
-    defines_variable(tables, scope, name, found);
-    scope.declare(alloc, name.text.as_slice(), tables.param_kind(param))
+    defines_variable(tables, scope, param_name(param), found);
+    declare_param(alloc, tables, scope, param)
 }
 
 /// What parameters break, one after the other.
@@ -179,49 +150,50 @@ fn params_faults(
     Ok(())
 }
 
-/// What the head of a function breaks, which is defined after so many others.
+/// What the head of a function breaks, which is defined after these and so many others.
 fn head_faults(
     alloc: Global,
     tables: &Tables,
+    names: &mut Names,
     scope: &mut Scope,
-    main: bool,
     count: usize,
     head: &Head,
     found: &mut Option<TypeFault>,
 ) -> Mem<()>
     requires { scope.old.blocks ≡ [] }
+    ensures names { OnOk result (names.new ≡ with_name names.old head.now.name.text) }
     ensures past { OnOk result (scope.new ≡ past_head tables.now head.now scope.old) }
     ensures found { OnOk result
-        (found.new ≡ met tables.now found.old (kept_head_sites tables.now main count head.now scope.old)) }
+        (found.new ≡ met tables.now found.old (kept_head_sites tables.now names.old count head.now scope.old)) }
 {
     uses_result(tables, &head.gives, found);
-    named(tables, main, count, head, found);
-    begin(alloc, tables, scope, head, found)?;
+    named(tables, names, count, head, found)?;
+    begins(alloc, tables, scope, head, found)?;
     scope.enter(alloc)?;
     params_faults(alloc, tables, scope, params_of(&head.params), found)?;
     Ok(())
 }
 
-/// What a function breaks, which is defined after so many others, where `main` tells whether there was one of that
-/// name.
+/// What a function breaks, which is defined after these and so many others.
 pub fn function_faults(
     alloc: Global,
     tables: &Tables,
+    names: &mut Names,
     scope: &mut Scope,
-    main: bool,
     count: usize,
     head: &Head,
     body: &Block,
     found: &mut Option<TypeFault>,
 ) -> Mem<()>
     requires { scope.old.blocks ≡ [] }
+    ensures names { OnOk result (names.new ≡ with_name names.old head.now.name.text) }
     ensures past { OnOk result
         (scope.new ≡ outside (past_block tables.now body.now (past_head tables.now head.now scope.old))) }
     ensures found { OnOk result
         (found.new ≡ met tables.now found.old
-        (kept_function_sites tables.now main count head.now body.now scope.old)) }
+        (kept_function_sites tables.now names.old count head.now body.now scope.old)) }
 {
-    head_faults(alloc, tables, scope, main, count, head, found)?;
+    head_faults(alloc, tables, names, scope, count, head, found)?;
     block_faults(alloc, tables, scope, false, body, found)?;
     counts(tables, body, found);
     scope.leave();

@@ -8,10 +8,12 @@ ghost use Rattle.c_check.specs.inner.Items.{kept_params_sites, kept_proto_sites,
 ghost use Rattle.c_expressions.specs.Meeting.{met, noted};
 
 use crate::definitions::defines;
-use crate::profile::is_allowed_head;
-use crate::types::{param_name, uses_param, uses_result, uses_type};
 use c_ast::{Declarator, Declare, Head, Name, Param};
+use c_bodies::types::{uses_param, uses_result, uses_type};
 use c_expressions::noting::note_when;
+use c_functions::prototypes::is_right_prototype;
+use c_making::declaring::declarators_of;
+use c_scopes::heads::param_name;
 use c_tables::functions::params_of;
 use c_tables::tables::Tables;
 use c_typing::TypeFault;
@@ -24,8 +26,8 @@ use std::alloc::Global;
 fn declares(tables: &Tables, head: &Head, found: &mut Option<TypeFault>)
     ensures { found.new ≡ noted tables.now found.old (Declares head.now) }
 {
-    let _tables = tables;
-    note_when(!is_allowed_head(head), 15, head.name.at, found);
+    let right = is_right_prototype(tables, head);
+    note_when(!right, 15, head.name.at, found);
 }
 
 /// A parameter of a prototype is named, which is no variable.
@@ -109,16 +111,6 @@ fn first_global(tables: &Tables, vars: &[Declarator], found: &mut Option<TypeFau
     match vars {
         [] => {}
         [var, ..] => declares_globally(tables, &var.name, found),
-    }
-}
-
-/// The variables of a declaration.
-fn declarators_of(declare: &Declare) -> &[Declarator]
-    ensures { result.now ≡ declarators_of declare.now }
-{
-    match declare {
-        Declare::Pointers { vars, .. } => vars.as_slice(),
-        Declare::Datums { vars, .. } => vars.as_slice(),
     }
 }
 

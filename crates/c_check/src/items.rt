@@ -10,9 +10,9 @@ use crate::definitions::{Seen, enum_item, struct_item};
 use crate::functions::function_faults;
 use crate::heads::{global_item, proto_item};
 use c_ast::{Block, Head, Item};
+use c_names::naming::one_more;
 use c_scopes::scopes::Scope;
 use c_tables::functions::is_main;
-use c_tables::naming::one_more;
 use c_tables::tables::Tables;
 use c_typing::TypeFault;
 use fore_base::memory::Mem;
@@ -30,26 +30,26 @@ fn function_item(
     found: &mut Option<TypeFault>,
 ) -> Mem<bool>
     requires { scope.old.blocks ≡ [] }
-    ensures seen { OnOk result (seen.new ≡ kept_function seen.old) }
+    ensures seen { OnOk result (seen.new ≡ kept_function seen.old head.now) }
     ensures past { OnOk result
         (scope.new ≡ outside (past_block tables.now body.now (past_head tables.now head.now scope.old))) }
     ensures blocks { OnOk result (scope.new.blocks ≡ []) }
     ensures found { OnOk result
         (found.new ≡ met tables.now found.old
-        (kept_function_sites tables.now main seen.old.functions head.now body.now scope.old)) }
+        (kept_function_sites tables.now seen.old.functions seen.old.function_count head.now body.now scope.old)) }
     ensures main { IfOk result (λ more. more ≡ (main || is_main head.now)) }
 {
     function_faults(
         alloc,
         tables,
+        &mut seen.functions,
         scope,
-        main,
-        seen.functions,
+        seen.function_count,
         head,
         body,
         found,
     )?;
-    seen.functions = one_more(seen.functions)?;
+    seen.function_count = one_more(seen.function_count)?;
     Ok(main || is_main(head))
 }
 
@@ -69,7 +69,7 @@ fn one_item(
     ensures blocks { OnOk result (scope.new.blocks ≡ []) }
     ensures found { OnOk result
         (found.new ≡ met tables.now found.old
-        (kept_item_sites tables.now main seen.old item.now scope.old)) }
+        (kept_item_sites tables.now seen.old item.now scope.old)) }
     ensures main { IfOk result (λ more. more ≡ (main || is_main_item item.now)) }
 {
     match item {
@@ -104,7 +104,7 @@ pub fn all_items(
 ) -> Mem<bool>
     ensures found { OnOk result
         (found.new ≡ met tables.now found.old
-        (kept_items_sites tables.now false nothing_kept items.now empty_scope)) }
+        (kept_items_sites tables.now nothing_kept items.now empty_scope)) }
     ensures main { IfOk result (λ main. main ≡ any_main items.now) }
 {
     let mut seen = Seen::new(alloc);
@@ -125,7 +125,7 @@ fn items_in_order(
     requires scope { scope.old ≡ empty_scope }
     ensures found { OnOk result
         (found.new ≡ met tables.now found.old
-        (kept_items_sites tables.now false nothing_kept items.now empty_scope)) }
+        (kept_items_sites tables.now nothing_kept items.now empty_scope)) }
     ensures main { IfOk result (λ main. main ≡ any_main items.now) }
 {
     let mut main = false;

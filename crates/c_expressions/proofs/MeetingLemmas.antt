@@ -1,25 +1,27 @@
 -- The first fault so far, over lists of places, and what each kind of place adds.
 use Rattle.std.proofs.Common.{◌≡◌, ℕ, Bool, true, false, not, ◌&&◌, ◌||◌, nat_eq, List, [], ◌∷◌, ◌++◌, Option, Some}
 use Rattle.std.proofs.Common.{None, refl, sym, ap, ◌∙◌}
-use Rattle.std.specs.Prelude.{is_some, slice_get}
+use Rattle.std.specs.Prelude.{is_none, is_some, slice_get}
 use Rattle.fore_base.specs.declared.limits.TheConstants.{VARIABLES, STATEMENTS}
 use Rattle.fore_base.specs.declared.place.Place.{Place}
 use Rattle.c_ast.specs.declared.operands.Arrow.{Arrow}
 use Rattle.c_ast.specs.declared.operands.Name.{Name}
 use Rattle.c_ast.specs.declared.operands.Operand.{Operand}
+use Rattle.c_typing.specs.Functions.{recurs}
 use Rattle.c_typing.specs.Globals.{Globals, struct_number, value_of}
 use Rattle.c_typing.specs.Profile.{is_allowed}
 use Rattle.c_typing.specs.Rules.{differ, wanted_struct, wants_pointer, wants_datum, is_datum, is_pointer, lacks_field}
-use Rattle.c_typing.specs.Rules.{may_return}
+use Rattle.c_typing.specs.Rules.{gives_datum, gives_pointer, may_return, result_struct}
 use Rattle.c_typing.specs.Scopes.{Scope, look_up}
 use Rattle.c_typing.specs.Sites.{Site, UsesStruct, UsesEnum, Defines, Variable, Begins, Follows, Measures, Stands}
-use Rattle.c_typing.specs.Sites.{Chooses, Allocates, Casts, Sizes, Calls, Jumps, Returns, Counts, struct_at}
+use Rattle.c_typing.specs.Sites.{Chooses, Gives, Allocates, Casts, Sizes, Calls, Jumps, Returns, Counts, struct_at}
 use Rattle.c_typing.specs.Texts.{Text, has}
 use Rattle.c_typing.specs.Typing.{breaches_at, breaches_of}
 use Rattle.c_typing.proofs.Breaching as breaching
 use Rattle.c_typing.proofs.Breaching.{fault_when, fault_at}
 use Rattle.c_typing.specs.declared.fault.TypeFault.{TypeFault}
 use Rattle.c_typing.specs.declared.fault.TypeFault.TheVariants.{Rule, Limit}
+use Rattle.c_typing.specs.declared.meaning.Kind.{Kind}
 use Rattle.c_typing.specs.declared.meaning.Meaning.{Meaning}
 use Rattle.c_typing.specs.declared.meaning.Spot.{Spot}
 use Rattle.c_typing.specs.declared.meaning.Want.{Want}
@@ -27,6 +29,7 @@ use Rattle.c_typing.specs.declared.meaning.Meaning.TheVariants as meaning
 use Rattle.c_expressions.specs.First.{first_from}
 use Rattle.c_expressions.specs.Meeting.{noted, met, noted_when}
 use Rattle.c_expressions.specs.inner.DataPaths.{is_data_path}
+use Rattle.c_expressions.specs.inner.Noting.{call_noted}
 use Rattle.c_expressions.proofs.FirstLemmas.{first_from-append}
 
 pub met-nil : (g : Globals) (found : Option TypeFault) → met g found [] ≡ found
@@ -76,15 +79,30 @@ two g found s b c e f is =
     ap (first_from found) is ∙ first_from-append found (fault_when b e) (fault_when c f)
     ∙ ap (λ o. first_from o (fault_when c f)) (from_fault b e found) ∙ from_fault c f (noted_when b e found)
 
+first_three : (found : Option TypeFault) (b c d : Bool) (e f h : TypeFault)
+    → first_from found (fault_when b e ++ fault_when c f ++ fault_when d h)
+    ≡ noted_when d h (noted_when c f (noted_when b e found))
+first_three found b c d e f h =
+    first_from-append found (fault_when b e ++ fault_when c f) (fault_when d h)
+    ∙ ap (λ o. first_from o (fault_when d h)) (first_from-append found (fault_when b e) (fault_when c f)
+    ∙ ap (λ o. first_from o (fault_when c f)) (from_fault b e found) ∙ from_fault c f (noted_when b e found))
+    ∙ from_fault d h (noted_when c f (noted_when b e found))
+
 three : (g : Globals) (found : Option TypeFault) (s : Site) (b c d : Bool) (e f h : TypeFault) → breaches_at g s
     ≡ fault_when b e ++ fault_when c f ++ fault_when d h →
     noted g found s ≡ noted_when d h (noted_when c f (noted_when b e found))
 unfolding noted
-three g found s b c d e f h is =
-    ap (first_from found) is ∙ first_from-append found (fault_when b e ++ fault_when c f) (fault_when d h)
-    ∙ ap (λ o. first_from o (fault_when d h)) (first_from-append found (fault_when b e) (fault_when c f)
-    ∙ ap (λ o. first_from o (fault_when c f)) (from_fault b e found) ∙ from_fault c f (noted_when b e found))
-    ∙ from_fault d h (noted_when c f (noted_when b e found))
+three g found s b c d e f h is = ap (first_from found) is ∙ first_three found b c d e f h
+
+four : (g : Globals) (found : Option TypeFault) (s : Site) (b c d a : Bool) (e f h i : TypeFault) → breaches_at g s
+    ≡ fault_when b e ++ fault_when c f ++ fault_when d h ++ fault_when a i →
+    noted g found s ≡ noted_when a i (noted_when d h (noted_when c f (noted_when b e found)))
+unfolding noted
+four g found s b c d a e f h i is =
+    ap (first_from found) is
+    ∙ first_from-append found (fault_when b e ++ fault_when c f ++ fault_when d h) (fault_when a i)
+    ∙ ap (λ o. first_from o (fault_when a i)) (first_three found b c d e f h)
+    ∙ from_fault a i (noted_when d h (noted_when c f (noted_when b e found)))
 
 pub none : (g : Globals) (found : Option TypeFault) (s : Site) → breaches_at g s ≡ [] → noted g found s ≡ found
 unfolding noted
@@ -151,8 +169,17 @@ module _ (g : Globals) (found : Option TypeFault) where
   noted-Sizes want at shape = one g found _ _ _ (breaching.at-Sizes g want at shape)
 
   pub noted-Calls : (scope : Scope) (spot : Spot) (n : Name) (os : List Operand) →
-      noted g found (Calls scope spot n os) ≡ noted_when (not (is_allowed g scope spot n.text os)) (Rule 15 n.at) found
-  noted-Calls scope spot n os = one g found _ _ _ (breaching.at-Calls g scope spot n os)
+      noted g found (Calls scope spot n os)
+      ≡ call_noted g (recurs g scope.home n.text) (is_allowed g scope spot n.text os) spot n os found
+  noted-Calls scope spot n os = three g found _ _ _ _ _ _ _ (breaching.at-Calls g scope spot n os)
+
+  pub noted-Gives : (want : Want) (at : Place) (result : Option Kind) →
+      noted g found (Gives want at result)
+      ≡ noted_when (is_none result) (Rule 17 at)
+      (noted_when (wants_datum want && gives_pointer result) (Rule 8 at)
+      (noted_when (wants_pointer want && gives_datum result) (Rule 7 at)
+      (noted_when (differ (wanted_struct want) (result_struct result)) (Rule 6 at) found)))
+  noted-Gives want at result = four g found _ _ _ _ _ _ _ _ _ (breaching.at-Gives g want at result)
 
   pub noted-Jumps : (loop : Bool) (at : Place) → noted g found (Jumps loop at)
       ≡ noted_when (not loop) (Rule 11 at) found
@@ -176,6 +203,7 @@ pub ruleset sites = (
   noted-Measures,
   noted-Stands,
   noted-Chooses,
+  noted-Gives,
   noted-Allocates,
   noted-Casts,
   noted-Sizes,

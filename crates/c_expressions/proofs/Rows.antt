@@ -52,7 +52,8 @@ fails = refl
 -- places of a file that defines nothing: a struct that is named there breaks rule 1, an enumeration rule 4
 
 abbrev defines_nothing : Globals
-defines_nothing = record { structs = []; enums = []; values = []; functions = [] }
+defines_nothing =
+    record { structs = []; enums = []; values = []; functions = []; main = None; calls = [] }
 
 abbrev name : ℕ → Name
 name n = record { at = at n; text = 97 ∷ [] }

@@ -1,14 +1,18 @@
 // The functions that a program may call. They go by their names alone: a variable hides none of them.
-ghost use Rattle.std.specs.Prelude.{◌≡◌, ◌∷◌, [], codes, IfOk, OnOk};
+ghost use Rattle.std.specs.Prelude.{◌≡◌, IfOk, OnOk};
 ghost use Rattle.c_ast.specs.declared.operands.Call.{out-Call};
-ghost use Rattle.c_typing.specs.Profile.{errors, is_constant, is_one_constant, is_allowed};
+ghost use Rattle.c_typing.specs.Profile.{is_constant, is_one_constant, is_allowed};
 ghost use Rattle.c_typing.specs.Sites.{Calls};
-ghost use Rattle.c_typing.specs.Texts.{has, is_empty};
+ghost use Rattle.c_typing.specs.Texts.{is_empty};
 ghost use Rattle.c_expressions.specs.Meeting.{noted};
+ghost use Rattle.c_expressions.specs.inner.Noting.{call_noted};
 
 use crate::meanings::meaning_of_operand;
 use crate::noting::note_when;
 use c_ast::{Call, Operand};
+use c_functions::called::{is_called, is_counted};
+use c_functions::given::{is_choice, is_error};
+use c_functions::recursion::recurs;
 use c_scopes::scopes::Scope;
 use c_tables::tables::Tables;
 use c_typing::{Meaning, Spot, TypeFault};
@@ -23,20 +27,6 @@ fn is_empty(operands: &[Operand]) -> bool
         [] => true,
         _ => false,
     }
-}
-
-/// The functions that report an error.
-pub fn is_error(name: &[u8]) -> bool
-    ensures { result ≡ has name.now errors }
-{
-    name == b"__VERIFIER_error".as_slice() || name == b"reach_error".as_slice()
-}
-
-/// The functions that give a choice.
-pub fn is_choice(name: &[u8]) -> bool
-    ensures { result ≡ has name.now (codes "__VERIFIER_nondet_int" ∷ codes "__VERIFIER_nondet_bool" ∷ []) }
-{
-    name == b"__VERIFIER_nondet_int".as_slice() || name == b"__VERIFIER_nondet_bool".as_slice()
 }
 
 /// Whether this is a number, an enumerator, `true` or `false`.
@@ -116,6 +106,27 @@ pub fn is_allowed_call(
     is_allowed(alloc, tables, scope, spot, name, call.operands.as_slice())
 }
 
+/// Notes what a call breaks, of which it is known whether its function leads back to the one around, and whether it is
+/// right by the functions that a program has besides its own.
+fn note_call(
+    tables: &Tables,
+    recurs: bool,
+    allowed: bool,
+    spot: Spot,
+    call: &Call,
+    found: &mut Option<TypeFault>,
+)
+    ensures { found.new ≡ call_noted tables.now recurs allowed spot (out-Call call.now).name
+        (out-Call call.now).operands found.old }
+{
+    let name = call.name.text.as_slice();
+    let operands = call.operands.as_slice();
+    let right = allowed || is_called(tables, spot, name, operands);
+    note_when(recurs, 13, call.name.at, found);
+    note_when(!right, 15, call.name.at, found);
+    note_when(!is_counted(tables, name, operands), 17, call.name.at, found);
+}
+
 /// A call.
 #[tactic(auto, using(crate::proofs::MeetingLemmas::sites))]
 pub fn calls(
@@ -130,7 +141,10 @@ pub fn calls(
         (found.new ≡ noted tables.now found.old
         (Calls scope.now spot (out-Call call.now).name (out-Call call.now).operands)) }
 {
-    let allowed = is_allowed_call(alloc, tables, scope, spot, call)?;
-    note_when(!allowed, 15, call.name.at, found);
+    let name = call.name.text.as_slice();
+    let operands = call.operands.as_slice();
+    let recurs = recurs(alloc, tables, scope.home(), name)?;
+    let allowed = is_allowed(alloc, tables, scope, spot, name, operands)?;
+    note_call(tables, recurs, allowed, spot, call, found);
     Ok(())
 }

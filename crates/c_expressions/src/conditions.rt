@@ -149,7 +149,8 @@ pub fn cond_faults(
     ands_faults(alloc, tables, scope, cond.ands.as_slice(), found)
 }
 
-fn ptr_op_of(meaning: Meaning) -> PtrOp
+/// A pointer in a comparison, or that is given.
+pub fn ptr_op_of(meaning: Meaning) -> PtrOp
     ensures { result ≡ ptr_op_of meaning }
 {
     match meaning {
@@ -163,7 +164,8 @@ fn ptr_op_of(meaning: Meaning) -> PtrOp
     }
 }
 
-fn data_op_of(meaning: Meaning) -> DataOp
+/// A datum in a comparison, or that is given.
+pub fn data_op_of(meaning: Meaning) -> DataOp
     ensures { result ≡ data_op_of meaning }
 {
     match meaning {

@@ -3,19 +3,20 @@ ghost use Rattle.std.specs.Prelude.{◌≡◌, not, ◌||◌, ◌&&◌, map};
 ghost use Rattle.c_typing.specs.Rules.{lacks_field, may_return};
 ghost use Rattle.c_typing.specs.Scopes.{var_name, innermost, declared_so_far};
 ghost use Rattle.c_typing.specs.Sites.{UsesStruct, UsesEnum, Defines, Variable, Begins, Follows, Measures, Stands};
-ghost use Rattle.c_typing.specs.Sites.{Chooses, Allocates, Casts, Sizes, Jumps, Returns};
+ghost use Rattle.c_typing.specs.Sites.{Chooses, Gives, Allocates, Casts, Sizes, Jumps, Returns};
 ghost use Rattle.c_typing.specs.declared.fault.TypeFault.TheVariants.{Rule};
 ghost use Rattle.c_expressions.specs.Meeting.{noted, noted_when};
 ghost use Rattle.c_expressions.specs.inner.DataPaths.{is_data_path};
 
 use crate::first::{note_limit, note_rule};
 use crate::wants::{
-    differ, is_datum, is_pointer, struct_at, wanted_struct, wants_datum, wants_pointer,
+    differ, gives_datum, gives_pointer, is_datum, is_pointer, result_struct, struct_at,
+    wanted_struct, wants_datum, wants_pointer,
 };
 use c_ast::{Arrow, Name};
 use c_scopes::scopes::Scope;
 use c_tables::tables::Tables;
-use c_typing::{Meaning, TypeFault, Want};
+use c_typing::{Kind, Meaning, TypeFault, Want};
 use fore_base::place::Place;
 
 /// Notes that a rule is broken at a place, where the test holds.
@@ -154,6 +155,25 @@ pub fn chooses(tables: &Tables, want: Want, at: Place, found: &mut Option<TypeFa
 {
     let _tables = tables;
     note_when(wants_pointer(want), 7, at, found);
+}
+
+/// A right side that is a call of a function of the file, and what that gives.
+#[tactic(auto, using(crate::proofs::MeetingLemmas::sites))]
+pub fn gives(
+    tables: &Tables,
+    want: Want,
+    at: Place,
+    gives: Option<Kind>,
+    found: &mut Option<TypeFault>,
+)
+    ensures { found.new ≡ noted tables.now found.old (Gives want at gives) }
+{
+    let _tables = tables;
+    let apart = differ(wanted_struct(want), result_struct(gives));
+    note_when(apart, 6, at, found);
+    note_when(wants_pointer(want) && gives_datum(gives), 7, at, found);
+    note_when(wants_datum(want) && gives_pointer(gives), 8, at, found);
+    note_when(gives.is_none(), 17, at, found);
 }
 
 /// A `malloc`.

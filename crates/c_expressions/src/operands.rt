@@ -1,18 +1,16 @@
 // What paths, operands and right sides break.
 ghost use Rattle.std.specs.Prelude.{◌≡◌, not, OnOk};
-ghost use Rattle.c_ast.specs.declared.operands.Operand.{out-Operand};
-ghost use Rattle.c_typing.specs.Sites.{arrow_sites, path_sites, read_sites, operand_sites, wanted_sites, choice_sites};
+ghost use Rattle.c_typing.specs.Sites.{arrow_sites, path_sites, read_sites, operand_sites, wanted_sites};
 ghost use Rattle.c_typing.specs.Sites.{right_sites, cast_sites, starred_sites, size_sites, rhs_sites};
 ghost use Rattle.c_typing.specs.Texts.{is_empty};
 ghost use Rattle.c_expressions.specs.Meeting.{met};
 
-use crate::calls::{calls, is_allowed_call};
+use crate::arguments::right_call_faults;
+use crate::calls::calls;
 use crate::meanings::{
     followed, meaning_of_name, meaning_of_operand, meaning_of_path, place_of_operand,
 };
-use crate::noting::{
-    allocates, begins, casts, chooses, follows, measures, sizes, stands, uses_struct,
-};
+use crate::noting::{allocates, begins, casts, follows, measures, sizes, stands, uses_struct};
 use crate::wants::struct_at;
 use c_ast::{Arrow, Cast, Operand, Path, Rhs, Size};
 use c_scopes::scopes::Scope;
@@ -122,29 +120,8 @@ pub fn wanted_faults(
     Ok(())
 }
 
-/// What a right side that is a choice breaks.
-#[tactic(auto, using(crate::proofs::MeetingLemmas::meeting))]
-fn choice_faults(
-    alloc: Global,
-    tables: &Tables,
-    scope: &Scope,
-    want: Want,
-    operand: &Operand,
-    found: &mut Option<TypeFault>,
-) -> Mem<()>
-    ensures { OnOk result
-        (found.new ≡ met tables.now found.old (choice_sites tables.now scope.now want (out-Operand operand.now))) }
-{
-    if let Operand::Call(call) = operand {
-        if is_allowed_call(alloc, tables, scope, Spot::Right, call)? {
-            chooses(tables, want, call.name.at, found);
-        }
-    }
-    Ok(())
-}
-
 /// What a right side that is an operand breaks.
-#[tactic(auto, using(crate::proofs::MeetingLemmas::meeting))]
+#[tactic(auto, using(crate::proofs::MeetingLemmas::meeting, c_typing::proofs::ConditionLayers::condition_layers))]
 fn right_faults(
     alloc: Global,
     tables: &Tables,
@@ -155,8 +132,16 @@ fn right_faults(
 ) -> Mem<()>
     ensures { OnOk result (found.new ≡ met tables.now found.old (right_sites tables.now scope.now want operand.now)) }
 {
-    choice_faults(alloc, tables, scope, want, operand, found)?;
-    wanted_faults(alloc, tables, scope, Spot::Right, want, operand, found)
+    match operand {
+        Operand::Call(call) => right_call_faults(alloc, tables, scope, want, call, found),
+        Operand::Path(_)
+        | Operand::Number(_)
+        | Operand::Null { .. }
+        | Operand::True { .. }
+        | Operand::False { .. } => {
+            wanted_faults(alloc, tables, scope, Spot::Right, want, operand, found)
+        }
+    }
 }
 
 #[tactic(auto, using(crate::proofs::MeetingLemmas::meeting))]

@@ -1,6 +1,7 @@
 // What is wanted where an operand stands.
 ghost use Rattle.std.specs.Prelude.{◌≡◌};
 ghost use Rattle.c_typing.specs.Rules.{wanted_struct, wants_pointer, wants_datum, is_datum, is_pointer, differ};
+ghost use Rattle.c_typing.specs.Rules.{gives_datum, gives_pointer, result_struct};
 ghost use Rattle.c_typing.specs.Sites.{struct_at, want_of_kind, want_of_left, want_of_result, want_of_return};
 ghost use Rattle.c_typing.specs.Sites.{want_of_target};
 
@@ -125,6 +126,36 @@ pub fn is_pointer(meaning: &Meaning) -> bool
         Meaning::Pointer { .. } | Meaning::Null => true,
         Meaning::Datum(_) | Meaning::Known(_) | Meaning::Zero | Meaning::Call | Meaning::Broken =>
             false,
+    }
+}
+
+/// The struct to which what a function gives points.
+pub fn result_struct(gives: Option<Kind>) -> Option<u32>
+    ensures { result ≡ result_struct gives }
+{
+    match gives {
+        Some(Kind::Points(to)) => to,
+        Some(Kind::Datum) | None => None,
+    }
+}
+
+/// Whether a function gives data.
+pub fn gives_datum(gives: Option<Kind>) -> bool
+    ensures { result ≡ gives_datum gives }
+{
+    match gives {
+        Some(Kind::Datum) => true,
+        Some(Kind::Points(_)) | None => false,
+    }
+}
+
+/// Whether a function gives a pointer.
+pub fn gives_pointer(gives: Option<Kind>) -> bool
+    ensures { result ≡ gives_pointer gives }
+{
+    match gives {
+        Some(Kind::Points(_)) => true,
+        Some(Kind::Datum) | None => false,
     }
 }
 

@@ -1,2 +1,4 @@
+pub mod CallLemmas
+pub mod FunctionLemmas
 pub mod MakingLemmas
 pub mod ScopeSteps

@@ -1,6 +1,7 @@
 -- The statements that parts of a block and a `for` are.
 use Rattle.std.proofs.Common.{◌≡◌, ℕ, ◌+◌, ◌<◌, List, [], ◌∷◌, ◌++◌, Option, Result, IfOk, length, drop, get_or, refl}
-use Rattle.std.proofs.Common.{sym, ap, subst}
+use Rattle.std.proofs.Common.{sym, ap, subst, ◌∙◌}
+use Rattle.std.proofs.lemmas.List.{at_drop_more}
 use Rattle.fore_base.specs.declared.place.Place.{Place}
 use Rattle.fore_base.proofs.ListLemmas.{drop_item}
 use Rattle.c_ast.specs.declared.conditions.Cond.{Cond}
@@ -15,6 +16,11 @@ use Rattle.c_typing.specs.Globals.{Globals}
 use Rattle.c_typing.specs.Programs.{for_stmts, part_stmts, parts_stmts, stmt_stmts, ptrs_of, datums_of}
 use Rattle.c_typing.specs.Scopes.{Scope, Var, innermost, past_part}
 use Rattle.c_making.specs.inner.Making.{group_first, for_made}
+
+-- one item more was gone through
+pub turn : {X Y : Type 0} (F : List X → Y) (xs : List X) (i : ℕ) (x : X) → i < length xs → x ≡ get_or xs i x
+    → F (x ∷ drop (i + 1) xs) ≡ F (drop i xs)
+turn {X} F xs i x h is = sym (at_drop_more F xs i x h ∙ ap (λ (y : X). F (y ∷ drop (i + 1) xs)) (sym is))
 
 -- what was made is equal to what it has to be
 pub made_as : {X E : Type 0} (r : Result X E) (a b : X) → b ≡ a → IfOk r (λ x. x ≡ a) → IfOk r (λ x. x ≡ b)

@@ -1,39 +1,20 @@
-// What assignments and statements without parts do.
-ghost use Rattle.std.specs.Prelude.{◌≡◌, ◌∷◌, [], IfOk};
-ghost use Rattle.c_types.specs.declared.program.Stmt.TheVariants.{Do};
+// What assignments, `free`, `return` of `main` and given functions do.
+ghost use Rattle.std.specs.Prelude.{◌≡◌, IfOk};
 ghost use Rattle.c_typing.specs.Programs.{ptr_rhs_of, data_rhs_of, assigned, target_struct, freed, call_act, returned};
-ghost use Rattle.c_typing.specs.Programs.{assignment, simple_stmts, maybe_simple, returned_operand};
+ghost use Rattle.c_typing.specs.Programs.{assignment, returned_operand};
 ghost use Rattle.c_typing.specs.Scopes.{or_zero};
 ghost use Rattle.c_types.specs.declared.program.DataRhs.TheVariants as data_rhs;
 ghost use Rattle.c_types.specs.declared.program.PtrRhs.TheVariants as ptr_rhs;
 
-use c_ast::{Operand, Rhs, Simple};
-use c_expressions::calls::is_error;
-use c_expressions::meanings::{meaning_of_operand, meaning_of_path};
+use c_ast::{Operand, Rhs};
+use c_expressions::meanings::meaning_of_operand;
+use c_functions::given::is_error;
 use c_scopes::scopes::{Scope, or_zero};
 use c_tables::tables::Tables;
-use c_types::{Act, DataPath, DataRhs, PtrRhs, Stmt};
+use c_types::{Act, DataPath, DataRhs, PtrRhs};
 use c_typing::Meaning;
-use fore_base::boxed::Boxed;
-use fore_base::list::List;
 use fore_base::memory::{Mem, beside};
 use std::alloc::Global;
-
-/// A list of one statement.
-pub fn one(alloc: Global, stmt: Stmt) -> Mem<List<Stmt>>
-    ensures { IfOk result (λ stmts. stmts ≡ stmt ∷ []) }
-{
-    let mut stmts = List::new(alloc);
-    stmts.push(stmt)?;
-    Ok(stmts)
-}
-
-/// A statement without parts.
-pub fn doing(alloc: Global, act: Act, line: u32) -> Mem<List<Stmt>>
-    ensures { IfOk result (λ stmts. stmts ≡ Do act line ∷ []) }
-{
-    one(alloc, Stmt::Do { act, line })
-}
 
 fn ptr_rhs_of(meaning: Meaning) -> PtrRhs
     ensures { result ≡ ptr_rhs_of meaning }
@@ -118,7 +99,8 @@ pub fn assignment(
     }
 }
 
-fn freed(meaning: Meaning) -> Act
+/// `free` of what this is.
+pub fn freed(meaning: Meaning) -> Act
     ensures { result ≡ freed meaning }
 {
     match meaning {
@@ -132,54 +114,14 @@ fn freed(meaning: Meaning) -> Act
     }
 }
 
-fn call_act(name: &[u8]) -> Act
+/// What a call of a given function does as a statement.
+pub fn call_act(name: &[u8]) -> Act
     ensures { result ≡ call_act name.now }
 {
     if is_error(name) {
         Act::Error
     } else {
         Act::Halt
-    }
-}
-
-/// What a statement without parts does.
-pub fn simple_stmts(
-    alloc: Global,
-    tables: &Tables,
-    scope: &Scope,
-    simple: &Simple,
-) -> Mem<List<Stmt>>
-    ensures { IfOk result (λ stmts. stmts ≡ simple_stmts tables.now scope.now simple.now) }
-{
-    match simple {
-        Simple::Assign { to, from } => {
-            let target = meaning_of_path(alloc, tables, scope, to)?;
-            let act = assignment(alloc, tables, scope, target, from)?;
-            doing(alloc, act, to.head.at.line)
-        }
-        Simple::Call(call) => {
-            let act = call_act(call.name.text.as_slice());
-            doing(alloc, act, call.name.at.line)
-        }
-        Simple::Free { at, path } => {
-            let meaning = meaning_of_path(alloc, tables, scope, path)?;
-            doing(alloc, freed(meaning), at.line)
-        }
-    }
-}
-
-/// What a statement does that may be missing.
-pub fn maybe_simple(
-    alloc: Global,
-    tables: &Tables,
-    scope: &Scope,
-    simple: &Option<Boxed<Simple>>,
-) -> Mem<List<Stmt>>
-    ensures { IfOk result (λ stmts. stmts ≡ maybe_simple tables.now scope.now simple.now) }
-{
-    match simple {
-        None => Ok(List::new(alloc)),
-        Some(simple) => simple_stmts(alloc, tables, scope, simple.get()),
     }
 }
 

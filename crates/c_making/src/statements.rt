@@ -1,18 +1,19 @@
 // The statements that parts of a body are.
 ghost use Rattle.std.specs.Prelude.{◌≡◌, ◌++◌, ◌∷◌, [], IfOk, OnOk};
 ghost use Rattle.c_ast.specs.declared.conditions.Cond.{Cond};
-ghost use Rattle.c_types.specs.declared.program.Act.TheVariants.{Error, Return};
+ghost use Rattle.c_types.specs.declared.program.Act.TheVariants.{Error};
 ghost use Rattle.c_types.specs.declared.program.Stmt.TheVariants.{Branch, Do};
 ghost use Rattle.c_typing.specs.Programs.{grouped, next_variable, initialised, declarators_stmts, declare_stmts};
 ghost use Rattle.c_typing.specs.Programs.{part_stmts, parts_stmts, block_stmts, stmt_stmts, other_stmts, cond_of};
-ghost use Rattle.c_typing.specs.Programs.{returned_operand};
+ghost use Rattle.c_typing.specs.Programs.{return_act};
 ghost use Rattle.c_typing.specs.Scopes.{all_declared, declared, past_declare, past_first, past_part, past_parts};
 ghost use Rattle.c_typing.specs.Scopes.{past_block, past_stmt, past_other, opened};
 ghost use Rattle.c_making.specs.inner.Making.{first_stmts, group_first, for_body, past_for, for_made};
 ghost use Rattle.c_scopes.specs.InScope.{outer};
 
-use crate::acts::{assignment, doing, maybe_simple, one, returned_operand, simple_stmts};
+use crate::calling::return_act;
 use crate::declaring::{declarators_of, kind_of};
+use crate::simples::{assign_stmts, doing, maybe_simple, one, simple_stmts};
 use c_ast::{Block, Cond, Declarator, Declare, First, Operand, Part, Rhs, Simple, Stmt as Named};
 use c_expressions::conditions::{cond_of, maybe_cond};
 use c_expressions::meanings::variable;
@@ -60,10 +61,7 @@ fn initialised(
 {
     match from {
         None => Ok(List::new(alloc)),
-        Some(rhs) => {
-            let act = assignment(alloc, tables, scope, target, rhs)?;
-            doing(alloc, act, line)
-        }
+        Some(rhs) => assign_stmts(alloc, tables, scope, target, rhs, line),
     }
 }
 
@@ -163,10 +161,10 @@ fn return_stmts(
     operand: &Option<Operand>,
     line: u32,
 ) -> Mem<List<Stmt>>
-    ensures { IfOk result (λ stmts. stmts ≡ Do (Return (returned_operand tables.now scope.now operand.now)) line ∷ []) }
+    ensures { IfOk result (λ stmts. stmts ≡ Do (return_act tables.now scope.now scope.now.home operand.now) line ∷ []) }
 {
-    let path = returned_operand(alloc, tables, scope, operand)?;
-    doing(alloc, Act::Return(path), line)
+    let act = return_act(alloc, tables, scope, operand)?;
+    doing(alloc, act, line)
 }
 
 /// The statement that an `assert` is.

@@ -1,2 +1,3 @@
+mod HeadLemmas
 pub mod Rows
 pub mod ScopeLemmas

@@ -4,14 +4,14 @@ ghost use Rattle.std.specs.Prelude.{slice_index_or, IfOk, OnOk, OnErr, Some, Non
 ghost use Rattle.fore_base.specs.Lists.{IsDistinct};
 ghost use Rattle.c_typing.specs.Texts.{has};
 ghost use Rattle.c_typing.specs.Scopes.{look_up, empty_scope, innermost, var_name, declared_so_far, declared, opened};
-ghost use Rattle.c_typing.specs.Scopes.{or_zero};
+ghost use Rattle.c_typing.specs.Scopes.{next_ref, or_zero};
 ghost use Rattle.c_typing.specs.Programs.{ptrs_of, datums_of};
 ghost use Rattle.c_scopes.specs.InScope.{found_as, left, moved, next_number};
 ghost use Rattle.c_scopes.specs.ScopeTables.{IsKept, scope_of, turned};
 ghost use Rattle.c_scopes.specs.inner.Entries.{Grew, bound, datums_in, first_block, is_at, is_shut, more_data};
 ghost use Rattle.c_scopes.specs.inner.Entries.{more_vars, name_at, ptrs_in, pushed, unbound, with_entry};
 
-use c_types::VarDef;
+use c_types::{VarDef, VarRef};
 use c_typing::Kind;
 use fore_base::limits::VARIABLES;
 use fore_base::list::List;
@@ -461,6 +461,21 @@ impl Scope {
         match kind {
             Kind::Points(_) => narrow(self.table.vars.len()),
             Kind::Datum => narrow(self.table.data_vars.len()),
+        }
+    }
+
+    /// The variable that the next declaration of this kind declares.
+    ///
+    /// # Errors
+    ///
+    /// Want of memory, where its number does not fit 32 bits.
+    pub fn next_ref(&self, kind: Kind) -> Mem<VarRef>
+        ensures { IfOk result (λ variable. variable ≡ next_ref kind self.now) }
+    {
+        let number = self.next_number(kind)?;
+        match kind {
+            Kind::Points(_) => Ok(VarRef::Ptr(number)),
+            Kind::Datum => Ok(VarRef::Data(number)),
         }
     }
 

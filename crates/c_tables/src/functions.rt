@@ -1,24 +1,19 @@
-// The functions that a unit defines besides `main`, of each name the first, and what heads say.
+// The functions that a unit defines, of each name the first, and what heads say.
 ghost use Rattle.std.specs.Prelude.{◌≡◌, ◌∷◌, ◌++◌, [], List, map, cond, IfOk, OnOk};
 ghost use Rattle.c_ast.specs.declared.items.Head.{Head as AHead};
 ghost use Rattle.c_typing.specs.Globals.{function_heads, function_name, function_of, functions_in, head_name, is_main};
-ghost use Rattle.c_typing.specs.Globals.{param_kind, params_of, result_kind};
+ghost use Rattle.c_typing.specs.Globals.{main_head, maybe_function_of, param_kind, params_of, result_kind};
 ghost use Rattle.c_typing.specs.Texts.{firsts};
 
-use crate::naming;
 use c_ast::{Head, Item, Param, Params, ReturnType};
+pub use c_callees::is_main;
+use c_callees::main_head;
+use c_names::naming;
 use c_typing::{FunctionDef, Kind};
 use fore_base::list::{Copies, List};
-use fore_base::memory::Mem;
+use fore_base::memory::{Mem, beside};
 use fore_base::names::Names;
 use std::alloc::Global;
-
-/// Whether the name is `main`.
-pub fn is_main(head: &Head) -> bool
-    ensures { result ≡ is_main head.now }
-{
-    head.name.text.as_slice() == b"main".as_slice()
-}
 
 /// The parameters in brackets.
 pub fn params_of(params: &Option<Params>) -> &[Param]
@@ -123,6 +118,46 @@ impl Functions {
             return Ok(());
         }
         Ok(())
+    }
+}
+
+/// The first `main`, as its head tells it; `structs` are the names of all structs.
+fn main_of(alloc: Global, structs: &Names, items: &[Item]) -> Mem<Option<FunctionDef>>
+    ensures { IfOk result (λ main. main ≡ maybe_function_of structs.now (main_head items.now)) }
+{
+    match main_head(items) {
+        Some(head) => {
+            let main = function(alloc, structs, head)?;
+            Ok(Some(main))
+        }
+        None => Ok(None),
+    }
+}
+
+/// What the heads of all functions say: those besides `main`, and `main`.
+#[derive(Drop)]
+pub struct Heads {
+    pub names: Names,
+    pub functions: List<FunctionDef>,
+    pub main: Option<FunctionDef>,
+}
+
+impl Heads {
+    /// The heads of the items; `structs` are the names of all structs.
+    pub fn of(alloc: Global, structs: &Names, items: &[Item]) -> Mem<Heads>
+        ensures names { IfOk result (λ h. h.names ≡ map function_name h.functions) }
+        ensures functions { IfOk result (λ h. h.functions
+            ≡ map (function_of structs.now) (function_heads items.now)) }
+        ensures main { IfOk result (λ h. h.main ≡ maybe_function_of structs.now (main_head items.now)) }
+    {
+        let all = Functions::of(alloc, structs, items)?;
+        let main = main_of(alloc, structs, items);
+        let (all, main) = beside(all, main)?;
+        Ok(Heads {
+            names: all.names,
+            functions: all.functions,
+            main,
+        })
     }
 }
 

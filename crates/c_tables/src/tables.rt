@@ -1,131 +1,137 @@
 // What the items of a unit define, to be found by names.
-ghost use Rattle.std.specs.Prelude.{◌≡◌, [], map, IfOk, OnOk};
-ghost use Rattle.c_typing.specs.Globals.{globals_of, fields_of, struct_number, field_use, use_in, value_of, value_in};
-ghost use Rattle.c_typing.specs.Globals.{function_number, param_kind, result_at, result_kind, struct_names, value_name};
-ghost use Rattle.c_typing.specs.Programs.{field_kind_of, field_of, shape_of};
+ghost use Rattle.std.specs.Prelude.{◌≡◌, ◌+◌, length, map, IfOk};
+ghost use Rattle.std.specs.Option.{option_copied};
+ghost use Rattle.c_calls.specs.Calls.{leads_within};
+ghost use Rattle.c_typing.specs.Globals.{globals_of, struct_number, field_use, value_of};
+ghost use Rattle.c_typing.specs.Globals.{function_number, param_kind, result_at, result_kind, struct_names};
+ghost use Rattle.c_typing.specs.Programs.{shape_of};
 ghost use Rattle.c_typing.specs.Texts.{has};
 
-use crate::defined::{self, Values};
-use crate::functions::{self, Functions};
-use crate::naming;
-use crate::structs::Struct;
+use crate::functions::{self, Heads};
 use c_ast::{Item, Param, ReturnType};
-use c_typing::{Enumerator, FieldUse, FunctionDef, Kind, Member};
-use fore_base::list::{Copies, List};
-use fore_base::memory::Mem;
-use fore_base::names::Names;
-use fore_base::shape::{FieldDef, FieldKind, Shape, Shapes};
+use c_callees::Calls;
+use c_calls::CallGraph;
+use c_defined::definitions::Definitions;
+use c_names::naming;
+use c_typing::{FieldUse, FunctionDef, Kind};
+use fore_base::memory::{Mem, beside};
+use fore_base::shape::Shapes;
 use std::alloc::Global;
 use std::marker::Model;
 
-/// The structs, enumerations, enumerators and functions of a unit, of each name the first, to be found by their names.
+/// The structs, enumerations, enumerators and functions of a unit, of each name the first, to be found by their names,
+/// and the calls of its functions.
 #[derive(Drop)]
 pub struct Tables {
-    struct_names: Names,
-    structs: List<Struct>,
-    enums: Names,
-    value_names: Names,
-    values: List<Enumerator>,
-    function_names: Names,
-    functions: List<FunctionDef>,
+    definitions: Definitions,
+    heads: Heads,
+    calls: Calls,
 }
 
 impl Model for Tables {
-    ghost use Rattle.std.specs.Prelude.{◌≡◌, map};
-    ghost use Rattle.c_typing.specs.Globals.{Globals, function_name, struct_name, value_name};
+    ghost use Rattle.std.specs.Prelude.{◌≡◌, ◌+◌, length, map};
+    ghost use Rattle.c_typing.specs.Globals.{Globals, function_name};
 
     ghost Value = { Globals };
 
-    ghost view = { λ t. record { structs = t.structs; enums = t.enums; values = t.values; functions = t.functions } };
+    ghost view = { λ t. record {
+      structs = t.definitions.structs;
+      enums = t.definitions.enums;
+      values = t.definitions.values;
+      functions = t.heads.functions;
+      main = t.heads.main;
+      calls = t.calls;
+    } };
 
-    ghost invariant = { λ t. (t.struct_names ≡ map struct_name t.structs)
-        × ((t.value_names ≡ map value_name t.values) × (t.function_names ≡ map function_name t.functions)) };
+    ghost invariant = { λ t. (t.heads.names ≡ map function_name t.heads.functions)
+        × (length t.calls ≡ length t.heads.functions + 1) };
 }
 
 impl Tables {
     /// What the items define.
-    #[tactic(auto, using(crate::proofs::TableLemmas::names_of_structs))]
+    ///
+    /// # Errors
+    ///
+    /// Want of memory.
     pub fn of(alloc: Global, items: &[Item]) -> Mem<Tables>
         ensures { IfOk result (λ tables. tables ≡ globals_of items.now) }
     {
-        let struct_names = defined::struct_names(alloc, items)?;
-        let structs = defined::structs(alloc, &struct_names, items)?;
-        let enums = defined::enum_names(alloc, items)?;
-        let Values { names, values } = Values::of(alloc, items)?;
-        let all = Functions::of(alloc, &struct_names, items)?;
+        let definitions = Definitions::of(alloc, items)?;
+        let heads = Heads::of(alloc, definitions.struct_names(), items);
+        let (definitions, heads) = beside(definitions, heads)?;
+        let calls = Calls::of(alloc, items)?;
         Ok(Tables {
-            struct_names,
-            structs,
-            enums,
-            value_names: names,
-            values,
-            function_names: all.names,
-            functions: all.functions,
+            definitions,
+            heads,
+            calls,
         })
     }
 
     /// The structs, as a program has them.
+    ///
+    /// # Errors
+    ///
+    /// Want of memory.
     pub fn shapes(&self, alloc: Global) -> Mem<Shapes>
         ensures { IfOk result (λ s. s.structs ≡ map shape_of self.now.structs) }
     {
-        let structs = shapes_of(alloc, &self.structs)?;
-        Ok(Shapes { structs })
+        self.definitions.shapes(alloc)
     }
 
     /// The number of the struct of a name; None where none is defined.
     pub fn struct_of(&self, name: &[u8]) -> Option<u32>
         ensures { result ≡ struct_number self.now name.now }
     {
-        naming::find(&self.struct_names, name)
+        self.definitions.struct_of(name)
     }
 
     /// The field of a name in the struct of a number; None where there is none.
     pub fn field_of(&self, shape: u32, name: &[u8]) -> Option<FieldUse>
         ensures { result ≡ field_use self.now shape name.now }
     {
-        field_in(&self.structs, shape, name)
+        self.definitions.field_of(shape, name)
     }
 
     /// The value of the enumerator of a name; None where there is none.
     pub fn value_of(&self, name: &[u8]) -> Option<u8>
         ensures { result ≡ value_of self.now name.now }
     {
-        found(&self.value_names, &self.values, name)
+        self.definitions.value_of(name)
     }
 
     /// Whether an enumeration of this name is defined.
     pub fn has_enum(&self, name: &[u8]) -> bool
         ensures { result ≡ has name.now self.now.enums }
     {
-        naming::is_there(&self.enums, name)
+        self.definitions.has_enum(name)
     }
 
     /// The number of the function of a name; None where none is defined, and for `main`.
     pub fn function_of(&self, name: &[u8]) -> Option<u32>
         ensures { result ≡ function_number self.now name.now }
     {
-        naming::find(&self.function_names, name)
+        naming::find(&self.heads.names, name)
     }
 
     /// What a function gives.
     pub fn result_kind(&self, gives: &ReturnType) -> Option<Kind>
         ensures { result ≡ result_kind (struct_names self.now) gives.now }
     {
-        functions::result_kind(&self.struct_names, gives)
+        functions::result_kind(self.definitions.struct_names(), gives)
     }
 
     /// What a parameter holds.
     pub fn param_kind(&self, param: &Param) -> Kind
         ensures { result ≡ param_kind (struct_names self.now) param.now }
     {
-        functions::param_kind(&self.struct_names, param)
+        functions::param_kind(self.definitions.struct_names(), param)
     }
 
     /// What the function of this number returns, if anything.
     pub fn result_at(&self, function: u32) -> Option<Kind>
         ensures { result ≡ result_at self.now function }
     {
-        match self.functions.get(function as usize) {
+        match self.heads.functions.get(function as usize) {
             Some(one) => one.result,
             None => None,
         }
@@ -135,78 +141,41 @@ impl Tables {
     pub fn functions(&self) -> &[FunctionDef]
         ensures { result.now ≡ self.now.functions }
     {
-        self.functions.as_slice()
+        self.heads.functions.as_slice()
     }
-}
 
-/// The field of a name in the struct of a number.
-fn field_in(structs: &List<Struct>, shape: u32, name: &[u8]) -> Option<FieldUse>
-    ensures { result ≡ use_in name.now 0 0 (fields_of structs.now shape) }
-{
-    match structs.get(shape as usize) {
-        Some(one) => one.find(name),
-        None => None,
-    }
-}
-
-/// The value of the enumerator of a name, where `names` are the names of `values`.
-fn found(names: &Names, values: &List<Enumerator>, name: &[u8]) -> Option<u8>
-    requires { names.now ≡ map value_name values.now }
-    ensures { result ≡ value_in name.now values.now }
-{
-    names.known_distinct();
-    match names.find(name) {
-        Some(number) => match values.get(number as usize) {
-            Some(one) => Some(one.value),
+    /// The first `main`; None where there is none.
+    pub fn main(&self) -> Option<&FunctionDef>
+        ensures { option_copied result ≡ self.now.main }
+    {
+        match &self.heads.main {
+            Some(main) => Some(main),
             None => None,
-        },
-        None => None,
+        }
     }
-}
 
-fn shapes_of(alloc: Global, structs: &List<Struct>) -> Mem<List<Shape>>
-    ensures { IfOk result (λ shapes. shapes ≡ map shape_of structs.now) }
-{
-    let mut shapes = List::new(alloc);
-    for one in structs.as_slice() {
-        shapes.push(shape(alloc, one)?)?;
+    /// Says that there are the calls of `main` besides those of each function, and does nothing.
+    pub fn known(&self)
+        ensures { length self.now.calls ≡ length self.now.functions + 1 }
+    {
+        let _calls = &self.calls;
     }
-    Ok(shapes)
-}
 
-fn shape(alloc: Global, one: &Struct) -> Mem<Shape>
-    ensures { IfOk result (λ shape. shape ≡ shape_of one.now) }
-{
-    let fields = fields_in(alloc, one.fields())?;
-    let name = one.name().copy(alloc)?;
-    Ok(Shape { name, fields })
-}
-
-fn fields_in(alloc: Global, members: &[Member]) -> Mem<List<FieldDef>>
-    ensures { IfOk result (λ fields. fields ≡ map field_of members.now) }
-{
-    let mut fields = List::new(alloc);
-    for member in members {
-        fields.push(field(alloc, member)?)?;
+    /// The graph of the calls.
+    pub fn graph(&self) -> &CallGraph
+        ensures { result.now ≡ self.now.calls }
+    {
+        self.calls.graph()
     }
-    Ok(fields)
-}
 
-fn field(alloc: Global, member: &Member) -> Mem<FieldDef>
-    ensures { IfOk result (λ field. field ≡ field_of member.now) }
-{
-    let name = member.name.copy(alloc)?;
-    let kind = kind_of(member.kind);
-    Ok(FieldDef { name, kind })
-}
-
-/// A pointer to a struct that is not defined is seen by nobody.
-fn kind_of(kind: Kind) -> FieldKind
-    ensures { result ≡ field_kind_of kind }
-{
-    match kind {
-        Kind::Points(Some(number)) => FieldKind::Pointer(number),
-        Kind::Points(None) => FieldKind::Pointer(0),
-        Kind::Datum => FieldKind::Datum,
+    /// Whether a function leads to another by calls, one or more, `main` having the number after the others.
+    ///
+    /// # Errors
+    ///
+    /// Want of memory.
+    pub fn lead(&self, alloc: Global, from: u32, to: u32) -> Mem<bool>
+        ensures { IfOk result (λ yes. yes ≡ leads_within self.now.calls (length self.now.calls) from to) }
+    {
+        self.calls.lead(alloc, from, to)
     }
 }

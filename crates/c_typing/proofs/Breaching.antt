@@ -1,6 +1,6 @@
 -- What each kind of site breaks, and what lists of sites break.
 use Rattle.std.proofs.Common.{◌≡◌, ℕ, Bool, true, false, not, ◌&&◌, ◌||◌, nat_eq, List, [], ◌∷◌, ◌++◌, Option, Some}
-use Rattle.std.proofs.Common.{None, is_some, map, slice_get, refl, sym, ap, ◌∙◌}
+use Rattle.std.proofs.Common.{None, is_none, is_some, map, slice_get, refl, sym, ap, ◌∙◌}
 use Rattle.std.proofs.lemmas.List.{append_assoc}
 use Rattle.fore_base.specs.declared.limits.TheConstants.{STRUCTS, FIELDS, VARIABLES, ENUMERATORS, STATEMENTS}
 use Rattle.fore_base.specs.declared.place.Place.{Place}
@@ -10,10 +10,11 @@ use Rattle.c_ast.specs.declared.operands.Name.{Name}
 use Rattle.c_ast.specs.declared.operands.Operand.{Operand}
 use Rattle.c_types.specs.declared.program.DataPath.{DataPath}
 use Rattle.c_types.specs.declared.program.Path.{Path}
+use Rattle.c_typing.specs.Functions.{called, is_called, is_counted, is_right_prototype, recurs}
 use Rattle.c_typing.specs.Globals.{Globals, struct_number, value_of, field_use}
-use Rattle.c_typing.specs.Profile.{is_allowed, is_allowed_head, is_main, is_main_head}
+use Rattle.c_typing.specs.Profile.{given, is_allowed, is_main, is_main_head}
 use Rattle.c_typing.specs.Rules.{when, maybe_place, differ, wanted_struct, wants_pointer, wants_datum, is_datum}
-use Rattle.c_typing.specs.Rules.{is_pointer, may_return}
+use Rattle.c_typing.specs.Rules.{is_pointer, may_return, result_struct, gives_datum, gives_pointer}
 use Rattle.c_typing.specs.Scopes.{Scope, look_up}
 use Rattle.c_typing.specs.Sites as site
 use Rattle.c_typing.specs.Sites.{Site, struct_at}
@@ -22,6 +23,7 @@ use Rattle.c_typing.specs.Typing.{breaches_at, breaches_of}
 use Rattle.c_typing.specs.declared.fault.TypeFault.{TypeFault}
 use Rattle.c_typing.specs.declared.fault.TypeFault.TheVariants.{Rule, Limit}
 use Rattle.c_typing.specs.declared.limits.TheConstants.{FUNCTIONS}
+use Rattle.c_typing.specs.declared.meaning.Kind.{Kind}
 use Rattle.c_typing.specs.declared.meaning.Meaning.{Meaning}
 use Rattle.c_typing.specs.declared.meaning.Meaning.TheVariants as meaning
 use Rattle.c_typing.specs.declared.meaning.Want.{Want}
@@ -59,6 +61,12 @@ three f h k false true true at = refl
 three f h k false true false at = refl
 three f h k false false true at = refl
 three f h k false false false at = refl
+
+four : (f h k l : Place → TypeFault) (b c d e : Bool) (at : Place) → map f (when b at)
+    ++ (map h (when c at) ++ (map k (when d at) ++ (map l (when e at) ++ []))) ≡ fault_when b (f at)
+    ++ fault_when c (h at) ++ fault_when d (k at) ++ fault_when e (l at)
+four f h k l true c d e at = ap (λ es. f at ∷ es) (three h k l c d e at)
+four f h k l false c d e at = three h k l c d e at
 
 maybe : (f : Place → TypeFault) (at : Option Place) → map f (maybe_place at) ++ [] ≡ fault_at f at
 maybe f None = refl
@@ -154,6 +162,12 @@ module _ (g : Globals) where
       ≡ fault_when (wants_pointer w) (Rule 7 at)
   at-Chooses w at = one (Rule 7) _ at
 
+  pub at-Gives : (w : Want) (at : Place) (result : Option Kind) → breaches_at g (site.Gives w at result)
+      ≡ fault_when (differ (wanted_struct w) (result_struct result)) (Rule 6 at)
+      ++ fault_when (wants_pointer w && gives_datum result) (Rule 7 at)
+      ++ fault_when (wants_datum w && gives_pointer result) (Rule 8 at) ++ fault_when (is_none result) (Rule 17 at)
+  at-Gives w at result = four (Rule 6) (Rule 7) (Rule 8) (Rule 17) _ _ _ _ at
+
   pub at-Allocates : (w : Want) (at : Place) → breaches_at g (site.Allocates w at)
       ≡ fault_when (wants_datum w) (Rule 8 at)
   at-Allocates w at = one (Rule 8) _ at
@@ -167,8 +181,10 @@ module _ (g : Globals) where
   at-Sizes w at shape = one (Rule 10) _ at
 
   pub at-Calls : (scope : Scope) (spot : Spot) (n : Name) (os : List Operand)
-      → breaches_at g (site.Calls scope spot n os) ≡ fault_when (not (is_allowed g scope spot n.text os)) (Rule 15 n.at)
-  at-Calls scope spot n os = one (Rule 15) _ n.at
+      → breaches_at g (site.Calls scope spot n os) ≡ fault_when (recurs g scope.home n.text) (Rule 13 n.at)
+      ++ fault_when (not (is_allowed g scope spot n.text os || is_called g spot n.text os)) (Rule 15 n.at)
+      ++ fault_when (not (is_counted (called g n.text) os)) (Rule 17 n.at)
+  at-Calls scope spot n os = three (Rule 13) (Rule 15) (Rule 17) _ _ _ n.at
 
   pub at-Jumps : (b : Bool) (at : Place) → breaches_at g (site.Jumps b at) ≡ fault_when (not b) (Rule 11 at)
   at-Jumps b at = one (Rule 11) _ at
@@ -182,13 +198,12 @@ module _ (g : Globals) where
   at-Counts places = maybe (Limit 7) _
 
   pub at-Declares : (h : Head) → breaches_at g (site.Declares h)
-      ≡ fault_when (not (is_allowed_head h)) (Rule 15 h.name.at)
+      ≡ fault_when (not (is_right_prototype g h)) (Rule 15 h.name.at)
   at-Declares h = one (Rule 15) _ h.name.at
 
-  pub at-Functions : (b : Bool) (h : Head) → breaches_at g (site.Functions b h)
-      ≡ fault_when (b || not (is_main h)) (Rule 13 h.name.at)
-      ++ fault_when (not b && (is_main h && not (is_main_head h))) (Rule 15 h.name.at)
-  at-Functions b h = two (Rule 13) (Rule 15) _ _ h.name.at
+  pub at-Functions : (h : Head) → breaches_at g (site.Functions h)
+      ≡ fault_when (has h.name.text given || (is_main h && not (is_main_head h))) (Rule 15 h.name.at)
+  at-Functions h = one (Rule 15) _ h.name.at
 
   pub at-Globally : (n : Name) → breaches_at g (site.Globally n) ≡ Rule 14 n.at ∷ []
   at-Globally n = refl
@@ -222,6 +237,7 @@ pub ruleset breaching = (
   at-Measures,
   at-Stands,
   at-Chooses,
+  at-Gives,
   at-Allocates,
   at-Casts,
   at-Sizes,

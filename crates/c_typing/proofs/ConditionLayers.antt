@@ -22,7 +22,7 @@ use Rattle.c_typing.specs.Meanings.{operand_place, number_meaning, numeral}
 use Rattle.c_typing.specs.Programs.{comparison, truth, all_of, any_of, test_of, unary_of, and_of, cond_of}
 use Rattle.c_typing.specs.Programs as made
 use Rattle.c_typing.specs.Scopes.{Scope}
-use Rattle.c_typing.specs.Sites.{Site, Calls, read_sites, operand_sites, operand_step, choice_sites, choice_at}
+use Rattle.c_typing.specs.Sites.{Site, Calls, read_sites, operand_sites, operand_step, choice_at}
 use Rattle.c_typing.specs.Sites.{compare_sites, test_sites, unary_sites, and_sites, cond_sites}
 use Rattle.c_typing.specs.Sites as sites
 use Rattle.c_typing.specs.Texts.{joined}

@@ -3,8 +3,13 @@ pub mod CallLaws
 pub mod CalleeLayers
 pub mod Clean
 pub mod ConditionLayers
+pub mod FileCounts
+pub mod FileNames
 pub mod Formulas
 pub mod Layers
+pub mod OwnMeanings
+pub mod OwnNames
+pub mod OwnScopes
 pub mod OwnVariables
 pub mod PlaceLayers
 pub mod ProgramLayers
@@ -14,8 +19,11 @@ pub mod ScopeLayers
 pub mod SiteLayers
 pub mod Sound
 pub mod SoundActs
+pub mod SoundCalls
 pub mod SoundConds
 pub mod SoundFiles
+pub mod SoundFunctions
+pub mod SoundHeads
 pub mod SoundStmts
 pub mod Trees
 pub mod TypingLaws

@@ -4,40 +4,42 @@ use Rattle.std.proofs.Common.{◌≡◌, ◌≤◌, ◌<◌, ◌+◌, ℕ, Bool,
 use Rattle.std.proofs.Common.{◌∷◌, ◌++◌, length, map, Option, Some, None, refl, sym, ap, ◌∙◌, subst, arith, true≢false}
 use Rattle.std.proofs.lemmas.Bool.{eq-eqb, eqb-true, false_from_ne_true, lt-ltb, ltb-true}
 use Rattle.std.proofs.lemmas.List.{length-append}
-use Rattle.std.specs.List.{list_any, list_all, flat_map}
+use Rattle.std.specs.List.{list_all}
 use Rattle.fore_base.specs.Lists.{Every}
 use Rattle.fore_base.specs.declared.place.Place.{Place}
 use Rattle.c_ast.specs.declared.conditions.Cond as tree
+use Rattle.c_ast.specs.declared.operands.Call.{Call, out-Call}
 use Rattle.c_ast.specs.declared.operands.Operand.{Operand}
 use Rattle.c_ast.specs.declared.simples.Rhs.{Rhs}
 use Rattle.c_ast.specs.declared.simples.Simple.{Simple}
 use Rattle.c_ast.specs.declared.simples.Simple.TheVariants as simple
-use Rattle.c_ast.specs.declared.statements.Block.{Block, roll-Block}
+use Rattle.c_ast.specs.declared.statements.Block.{Block}
 use Rattle.c_ast.specs.declared.statements.Declarator.{Declarator}
-use Rattle.c_ast.specs.declared.statements.Declare.{Declare}
 use Rattle.c_ast.specs.declared.statements.First.{First}
 use Rattle.c_ast.specs.declared.statements.First.TheVariants as first
 use Rattle.c_ast.specs.declared.statements.Part as part
 use Rattle.c_ast.specs.declared.statements.Part.TheVariants as part'
 use Rattle.c_ast.specs.declared.statements.Stmt as tree'
-use Rattle.c_ast.specs.declared.statements.Stmt.TheVariants as stmt
 use Rattle.c_types.specs.Bodies.{in_turn, same_var, is_among, all_different, stmt_declares, body_declares}
 use Rattle.c_types.specs.declared.program.Act.{Act}
 use Rattle.c_types.specs.declared.program.Act.TheVariants as act
+use Rattle.c_types.specs.declared.program.Dest.{Dest}
 use Rattle.c_types.specs.declared.program.Stmt.{Stmt}
 use Rattle.c_types.specs.declared.program.Stmt.TheVariants.{Do, Branch}
 use Rattle.c_types.specs.declared.program.VarRef.{VarRef}
 use Rattle.c_types.specs.declared.program.VarRef.TheVariants.{Ptr, Data}
 use Rattle.c_types.proofs.Layers.{declares-Do, declares-Branch, declares-While, declares-DoWhile, declares-For}
-use Rattle.c_types.proofs.Layers.{declares-Group}
+use Rattle.c_types.proofs.Layers.{declares-Group, declares-Call}
+use Rattle.c_typing.specs.Functions.{called_number}
 use Rattle.c_typing.specs.Globals.{Globals}
-use Rattle.c_typing.specs.Programs.{simple_stmts, cond_of, maybe_cond, maybe_simple, returned_operand, assignment}
+use Rattle.c_typing.specs.Programs.{simple_stmts, cond_of, maybe_cond, maybe_simple, return_act, call_stmt, stored}
+use Rattle.c_typing.specs.Programs.{right_call}
 use Rattle.c_typing.specs.Programs.{initialised, declarators_stmts, declare_stmts, next_variable, grouped, loop_of}
 use Rattle.c_typing.specs.Programs.{for_stmts, part_stmts, stmt_stmts, block_stmts, parts_stmts, other_stmts, ptrs_of}
 use Rattle.c_typing.specs.Programs.{datums_of, ptr_before, datum_before}
 use Rattle.c_typing.specs.Scopes.{Var, Scope, innermost, var_name, with_var, or_zero, opened, declared, all_declared}
 use Rattle.c_typing.specs.Scopes.{kind_of, declarators_of, past_declare, past_first, past_part, past_parts, past_stmt}
-use Rattle.c_typing.specs.Scopes.{past_block, past_other, is_declared}
+use Rattle.c_typing.specs.Scopes.{past_block, past_other, is_declared, next_ref}
 use Rattle.c_typing.specs.Texts.{Text, has}
 use Rattle.c_typing.specs.declared.meaning.Kind.{Kind}
 use Rattle.c_typing.specs.declared.meaning.Kind.TheVariants.{Points, Datum}
@@ -46,12 +48,12 @@ use Rattle.c_typing.proofs.ScopeLayers as past
 use Rattle.c_typing.proofs.ScopeLaws.{stmt_keeps}
 use Rattle.c_typing.proofs.Trees.{OfOption, Cases, block_holds}
 
-abbrev hit : Bool → ℕ
+abbrev pub hit : Bool → ℕ
 hit true = 1
 hit false = 0
 
 -- the variable of this kind and number
-abbrev ref : Kind → ℕ → VarRef
+abbrev pub ref : Kind → ℕ → VarRef
 ref (Points to) n = Ptr n
 ref Datum n = Data n
 
@@ -73,17 +75,12 @@ one_more n m = either (nat_eq n m) (nat_lt n m) refl refl
     either false true e f = let under : n < m = ltb-true n m f in there (omega (arith, under))
     either false false e f = omega (arith)
 
--- the variable that is declared next
-abbrev next : Kind → Scope → VarRef
-next (Points to) scope = Ptr (length scope.vars)
-next Datum scope = Data (length scope.data_vars)
-
 grown : (n : ℕ) {X : Type 0} (xs : List X) (x : X) → hit (nat_eq n (length xs)) + hit (nat_lt n (length xs))
     ≤ hit (nat_lt n (length (xs ++ x ∷ [])))
 grown n xs x = subst (λ m. hit (nat_eq n (length xs)) + hit (nat_lt n (length xs)) ≤ hit (nat_lt n m))
     (sym (length-append xs (x ∷ []))) (one_more n (length xs))
 
-next_counted : (v : VarRef) (k : Kind) (scope : Scope) (x : Text) → hit (same_var v (next k scope))
+pub next_counted : (v : VarRef) (k : Kind) (scope : Scope) (x : Text) → hit (same_var v (next_ref k scope))
     + hit (is_declared scope v) ≤ hit (is_declared (declared scope x k) v)
 next_counted (Ptr n) (Points to) scope x = grown n scope.vars (record { name = x; shape = or_zero to })
 next_counted (Ptr n) Datum scope x = omega (arith)
@@ -92,23 +89,23 @@ next_counted (Data n) Datum scope x = grown n scope.data_vars x
 
 module _ (v : VarRef) where
   -- how often the variable is one of these
-  abbrev count : List VarRef → ℕ
+  abbrev pub count : List VarRef → ℕ
   count [] = 0
   count (w ∷ ws) = hit (same_var v w) + count ws
 
   -- 1 if it was declared
-  abbrev below : Scope → ℕ
+  abbrev pub below : Scope → ℕ
   below scope = hit (is_declared scope v)
 
   -- how often statements declare it
-  abbrev total : List Stmt → ℕ
+  abbrev pub total : List Stmt → ℕ
   total [] = 0
   total (s ∷ ss) = count (stmt_declares s) + total ss
 
   abbrev inner : Scope → ℕ
   inner scope = count (refs (innermost scope.blocks))
 
-  count-append : (xs ys : List VarRef) → count (xs ++ ys) ≡ count xs + count ys
+  pub count-append : (xs ys : List VarRef) → count (xs ++ ys) ≡ count xs + count ys
   count-append [] ys = omega (arith)
   count-append (x ∷ xs) ys = let rest : count (xs ++ ys) ≡ count xs + count ys = count-append xs ys in omega (arith, rest)
 
@@ -124,7 +121,7 @@ module _ (v : VarRef) where
       + count (in_turn (map stmt_declares ss)) = count-append (stmt_declares s) (in_turn (map stmt_declares ss)) in
       omega (arith, rest, both)
 
-  total-body : (ss : List Stmt) → count (body_declares ss) ≡ total ss
+  pub total-body : (ss : List Stmt) → count (body_declares ss) ≡ total ss
   total-body [] = refl
   total-body (s ∷ ss) =
       let rest : count (body_declares ss) ≡ total ss = total-body ss in
@@ -137,9 +134,21 @@ module _ (v : VarRef) where
   do_none a line = ap (λ xs. count xs + 0) (declares-Do a line)
 
   module _ (g : Globals) where
+    call_none : (scope : Scope) (k : Option ℕ) (os : List Operand) (to : Option Dest) (a : Act) (line : ℕ)
+        → total (call_stmt g scope k os to a line ∷ []) ≡ 0
+    call_none scope None os to a line = do_none a line
+    call_none scope (Some f) os to a line = ap (λ xs. count xs + 0) (declares-Call f _ to line)
+
+    stored_none : (scope : Scope) (c : Option Call) (to : Option Dest) (a : Act) (line : ℕ)
+        → total (stored g scope c to a line ∷ []) ≡ 0
+    stored_none scope None to a line = do_none a line
+    stored_none scope (Some c) to a line =
+        call_none scope (called_number g (out-Call c).name.text) (out-Call c).operands to a line
+
     simple_none : (scope : Scope) (s : Simple) → total (simple_stmts g scope s) ≡ 0
-    simple_none scope (simple.Assign to from) = do_none _ _
-    simple_none scope (simple.Call c) = do_none _ _
+    simple_none scope (simple.Assign to from) = stored_none scope (right_call from) _ _ _
+    simple_none scope (simple.Call c) =
+        call_none scope (called_number g (out-Call c).name.text) (out-Call c).operands _ _ _
     simple_none scope (simple.Free at p) = do_none _ _
 
     next_none : (scope : Scope) (s : Option Simple) → total (maybe_simple g scope s) ≡ 0
@@ -149,7 +158,7 @@ module _ (v : VarRef) where
     initialised_none : (scope : Scope) (k : Kind) (d : Declarator) (from : Option Rhs)
         → total (initialised g (declared scope d.name.text k) (next_variable scope k) d.name.at.line from) ≡ 0
     initialised_none scope k d None = refl
-    initialised_none scope k d (Some r) = do_none _ _
+    initialised_none scope k d (Some r) = stored_none (declared scope d.name.text k) (right_call r) _ _ _
 
     declarators_none : (k : Kind) (ds : List Declarator) (scope : Scope) → total (declarators_stmts g k ds scope) ≡ 0
     declarators_none k [] scope = refl
@@ -241,7 +250,7 @@ module _ (v : VarRef) where
     abbrev StmtOk : tree'.Stmt → Type 0
     StmtOk s = (scope : Scope) → total (stmt_stmts g s scope) + below scope ≤ below (past_stmt g s scope)
 
-    abbrev BlockOk : Block → Type 0
+    abbrev pub BlockOk : Block → Type 0
     BlockOk b = (scope : Scope) → total (block_stmts g b scope) + below scope ≤ below (past_block g b scope)
 
     told : (made ss : List Stmt) (after scope before : Scope) → made ≡ ss → after ≡ scope
@@ -393,7 +402,7 @@ module _ (v : VarRef) where
           (for_counted at f c n body scope ok);
       of_Return = λ at o scope.
           told _ _ _ _ scope (made.made-Return-stmt g at o scope) (past.past-Return-stmt g at o scope)
-          (omega (arith, do_none (act.Return (returned_operand g scope o)) at.line));
+          (omega (arith, do_none (return_act g scope scope.home o) at.line));
       of_Break = λ at scope.
           told _ _ _ _ scope (made.made-Break-stmt g at scope) (past.past-Break-stmt g at scope)
           (omega (arith, do_none act.Break at.line));
@@ -410,16 +419,16 @@ module _ (v : VarRef) where
           ));
     }
 
-    block_counted : (b : Block) → BlockOk b
+    pub block_counted : (b : Block) → BlockOk b
     block_counted = block_holds PartOk StmtOk BlockOk declares_cases
 
 -- What is counted once at most is all different, and what is counted is new.
 
-same_itself : (v : VarRef) → same_var v v ≡ true
+pub same_itself : (v : VarRef) → same_var v v ≡ true
 same_itself (Ptr n) = eq-eqb n n refl
 same_itself (Data n) = eq-eqb n n refl
 
-among_counted : (v : VarRef) (ws : List VarRef) → is_among ws v ≡ true → 1 ≤ count v ws
+pub among_counted : (v : VarRef) (ws : List VarRef) → is_among ws v ≡ true → 1 ≤ count v ws
 among_counted v [] is = absurd (true≢false (sym is))
 among_counted v (w ∷ ws) is = either (same_var v w) (among_counted v ws) is
   where

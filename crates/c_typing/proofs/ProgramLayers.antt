@@ -12,10 +12,10 @@ use Rattle.c_ast.specs.declared.statements.Part.TheOpen as layer
 use Rattle.c_ast.specs.declared.statements.Part.TheVariants as part'
 use Rattle.c_ast.specs.declared.statements.Stmt.{Stmt, para-roll-Stmt}
 use Rattle.c_ast.specs.declared.statements.Stmt.TheVariants as stmt
-use Rattle.c_types.specs.declared.program.Act.TheVariants.{Error, Return, Break, Continue}
+use Rattle.c_types.specs.declared.program.Act.TheVariants.{Error, Break, Continue}
 use Rattle.c_types.specs.declared.program.Stmt.TheVariants.{Do, Branch, While, DoWhile}
 use Rattle.c_typing.specs.Globals.{Globals}
-use Rattle.c_typing.specs.Programs.{grouped, simple_stmts, cond_of, returned_operand, declare_stmts, Stmts, part_step}
+use Rattle.c_typing.specs.Programs.{grouped, simple_stmts, cond_of, return_act, declare_stmts, Stmts, part_step}
 use Rattle.c_typing.specs.Programs.{each_stmts, past_all, block_step, for_stmts, stmt_step, part_stmts, stmt_stmts}
 use Rattle.c_typing.specs.Programs.{block_stmts, parts_stmts, other_stmts}
 use Rattle.c_typing.specs.Scopes.{Scope, opened, past_part, past_parts, past_stmt}
@@ -87,7 +87,7 @@ module _ (g : Globals) where
       (layer.For at f c next body))
 
   pub made-Return-stmt : (at : Place) (o : Option Operand) (scope : Scope) → stmt_stmts g (stmt.Return at o) scope
-      ≡ Do (Return (returned_operand g scope o)) at.line ∷ []
+      ≡ Do (return_act g scope scope.home o) at.line ∷ []
   made-Return-stmt at o scope = ap (λ s. stmt_stmts g s scope) (sym (stmt.rolls-Return at o))
       ∙ ap (λ f. f scope)
       (para-roll-Stmt (Stmts g) (Stmts g) (Stmts g) (part_step g) (stmt_step g) (block_step g) (layer.Return at o))

@@ -25,7 +25,7 @@ use Rattle.c_typing.proofs.ScopeLayers.{past-Simple-stmt, past-While-stmt, past-
 use Rattle.c_typing.proofs.ScopeLayers.{past-Return-stmt, past-Break-stmt, past-Continue-stmt, past-Assert-stmt}
 use Rattle.c_typing.proofs.ScopeLayers.{past-If-stmt}
 use Rattle.c_typing.proofs.Sound.{GoodKind, GoodMeaning, GoodVar, GoodBlocks}
-use Rattle.c_typing.proofs.Trees.{OfOption, Cases, part_holds, stmt_holds}
+use Rattle.c_typing.proofs.Trees.{OfOption, Cases, block_holds, part_holds, stmt_holds}
 
 var-at : (vs : List VarDef) (d : VarDef) (rest : List VarDef) → var_target ((vs ++ d ∷ []) ++ rest) (length vs)
     ≡ Some d.shape
@@ -51,12 +51,20 @@ below_append n (x ∷ xs) ys left right =
     let halves : (nat_lt x n ≡ true) × (all_below n xs ≡ true) = and_parts (nat_lt x n) (all_below n xs) left in
     ap (λ b. b && all_below n (xs ++ ys)) halves.0 ∙ below_append n xs ys halves.1 right
 
+pub home_declared : (scope : Scope) (x : Text) (k : Kind) → (declared scope x k).home ≡ scope.home
+home_declared scope x (Points to) = refl
+home_declared scope x Datum = refl
+
+pub home_all : (k : Kind) (ds : List Declarator) (scope : Scope) → (all_declared k ds scope).home ≡ scope.home
+home_all k [] scope = refl
+home_all k (d ∷ ds) scope = home_all k ds (declared scope d.name.text k) ∙ home_declared scope d.name.text k
+
 module _ (g : Globals) (V : List VarDef) (D : ℕ) where
   -- what was declared is among the variables of the program
   abbrev pub Within : Scope → Type 0
   Within scope = ((rest : List VarDef) × (V ≡ scope.vars ++ rest)) × (length scope.data_vars ≤ D)
 
-  back_declared : (scope : Scope) (x : Text) (k : Kind) → Within (declared scope x k) → Within scope
+  pub back_declared : (scope : Scope) (x : Text) (k : Kind) → Within (declared scope x k) → Within scope
   back_declared scope x (Points to) w =
       ((_, w.0.1 ∙ append_assoc scope.vars (record { name = x; shape = or_zero to } ∷ []) w.0.0), w.1)
   back_declared scope x Datum w = (w.0, omega (arith, w.1, length-append scope.data_vars (x ∷ [])))
@@ -73,10 +81,11 @@ module _ (g : Globals) (V : List VarDef) (D : ℕ) where
   -- A statement keeps the open blocks and what was declared before it.
 
   abbrev PartBack : part.Part → Type 0
-  PartBack p = (scope : Scope) → Within (past_part g p scope) → Within scope
+  PartBack p = (scope : Scope) → (Within (past_part g p scope) → Within scope)
+      × ((past_part g p scope).home ≡ scope.home)
 
   abbrev Keeps : Scope → Scope → Type 0
-  Keeps before after = (after.blocks ≡ before.blocks) × (Within after → Within before)
+  Keeps before after = (after.blocks ≡ before.blocks) × ((Within after → Within before) × (after.home ≡ before.home))
 
   abbrev StmtKeeps : Stmt → Type 0
   StmtKeeps s = (scope : Scope) → Keeps scope (past_stmt g s scope)
@@ -88,12 +97,12 @@ module _ (g : Globals) (V : List VarDef) (D : ℕ) where
   carried before after told is k = subst (λ s. Keeps before s) (sym is) k
 
   unmoved : (scope : Scope) → Keeps scope scope
-  unmoved scope = (refl, λ w. w)
+  unmoved scope = (refl, (λ w. w, refl))
 
   parts_back : (ps : List part.Part) → Every PartBack ps → (scope : Scope) → Within (past_parts g ps scope)
       → Within scope
   parts_back [] all scope w = w
-  parts_back (p ∷ ps) all scope w = all.0 scope (parts_back ps all.1 (past_part g p scope) w)
+  parts_back (p ∷ ps) all scope w = (all.0 scope).0 (parts_back ps all.1 (past_part g p scope) w)
 
   other_keeps : (other : Option Stmt) → OfOption StmtKeeps other → (scope : Scope)
       → Keeps scope (past_other g other scope)
@@ -101,14 +110,21 @@ module _ (g : Globals) (V : List VarDef) (D : ℕ) where
   other_keeps (Some s) ok scope = ok scope
 
   chained : (a b c : Scope) → Keeps a b → Keeps b c → Keeps a c
-  chained a b c left right = (right.0 ∙ left.0, λ w. left.1 (right.1 w))
+  chained a b c left right = (right.0 ∙ left.0, (λ w. left.1.0 (right.1.0 w), right.1.1 ∙ left.1.1))
 
   keep_cases : Cases PartBack StmtKeeps BlockKeeps
   keep_cases = record {
-    of_Declare = λ d scope w. back_all (kind_of g d) (declarators_of d) scope (subst Within (past-Declare g d scope) w);
-    of_Stmt = λ s ok scope w. (ok scope).1 (subst Within (past-Stmt g s scope) w);
+    of_Declare = λ d scope. (
+      λ w. back_all (kind_of g d) (declarators_of d) scope (subst Within (past-Declare g d scope) w),
+      ap (λ s. s.home) (past-Declare g d scope) ∙ home_all (kind_of g d) (declarators_of d) scope,
+    );
+    of_Stmt = λ s ok scope. (
+      λ w. (ok scope).1.0 (subst Within (past-Stmt g s scope) w),
+      ap (λ s. s.home) (past-Stmt g s scope)
+          ∙ (ok scope).1.1,
+    );
     of_parts = λ at close parts all scope.
-        carried scope _ _ (past-parts g at close parts scope) (refl, λ w. parts_back parts all (opened scope) w);
+        carried scope _ _ (past-parts g at close parts scope) (refl, (λ w. parts_back parts all (opened scope) w, refl));
     of_Empty = λ at scope. carried scope _ _ (past-Empty-stmt g at scope) (unmoved scope);
     of_Block = λ b ok scope. carried scope _ _ (past-Block-stmt g b scope) (ok scope);
     of_Simple = λ s scope. carried scope _ _ (past-Simple-stmt g s scope) (unmoved scope);
@@ -120,7 +136,7 @@ module _ (g : Globals) (V : List VarDef) (D : ℕ) where
     of_Do = λ at body c ok scope. carried scope _ _ (past-Do-stmt g at body c scope) (ok scope);
     of_For = λ at f c next body ok scope.
         carried scope _ _ (past-For-stmt g at f c next body scope)
-        (refl, λ w. back_first f (opened scope) ((ok (past_first g f (opened scope))).1 w));
+        (refl, (λ w. back_first f (opened scope) ((ok (past_first g f (opened scope))).1.0 w), refl));
     of_Return = λ at o scope. carried scope _ _ (past-Return-stmt g at o scope) (unmoved scope);
     of_Break = λ at scope. carried scope _ _ (past-Break-stmt g at scope) (unmoved scope);
     of_Continue = λ at scope. carried scope _ _ (past-Continue-stmt g at scope) (unmoved scope);
@@ -136,6 +152,9 @@ module _ (g : Globals) (V : List VarDef) (D : ℕ) where
 
   pub part_back : (p : part.Part) → PartBack p
   part_back = part_holds PartBack StmtKeeps BlockKeeps keep_cases
+
+  pub block_keeps : (b : Block) (scope : Scope) → Keeps scope (past_block g b scope)
+  block_keeps = block_holds PartBack StmtKeeps BlockKeeps keep_cases
 
   -- A variable that is declared is one of the program's.
 

@@ -1,11 +1,12 @@
 -- Assignments, comparisons and truths of what is good are typed.
-use Rattle.std.proofs.Common.{◌≡◌, ℕ, Bool, true, false, ◌&&◌, nat_eq, List, [], Option, Some, None, is_some, refl}
+use Rattle.std.proofs.Common.{◌≡◌, ℕ, Bool, true, false, ◌&&◌, nat_eq, List, Option, Some, None, is_some, refl}
 use Rattle.std.proofs.Common.{sym, ap, ◌∙◌}
 use Rattle.std.proofs.lemmas.Bool.{eq-eqb, eqb-true, not-false}
 use Rattle.c_types.specs.Program.{Spot, is_target, both_targets, path_target, rhs_typed, data_rhs_typed, act_typed}
 use Rattle.c_types.specs.Program.{ops_typed, data_op_typed, atom_typed}
 use Rattle.c_types.specs.declared.program.Act.TheVariants as act
 use Rattle.c_types.specs.declared.program.DataRhs.TheVariants as data_rhs
+use Rattle.c_types.specs.declared.program.Func.{Func}
 use Rattle.c_types.specs.declared.program.PtrRhs.TheVariants as ptr_rhs
 use Rattle.c_types.specs.declared.program.VarDef.{VarDef}
 use Rattle.c_typing.specs.Globals.{Globals}
@@ -18,7 +19,7 @@ use Rattle.c_typing.specs.declared.meaning.Meaning.TheVariants.{Pointer, Datum, 
 use Rattle.c_typing.specs.declared.meaning.Meaning.TheVariants.{Broken}
 use Rattle.c_typing.proofs.Sound.{shapes, GoodMeaning}
 
-one_struct : (s t : ℕ) (a b : Option ℕ) → a ≡ Some s → b ≡ Some t → differ (Some s) (Some t) ≡ false → both_targets a b
+pub one_struct : (s t : ℕ) (a b : Option ℕ) → a ≡ Some s → b ≡ Some t → differ (Some s) (Some t) ≡ false → both_targets a b
     ≡ true
 one_struct s t a b left right same =
     ap (λ o. both_targets o b) left ∙ ap (λ o. is_target o s) right
@@ -29,7 +30,7 @@ module _ (g : Globals) (V : List VarDef) (D : ℕ) where
       ≡ true
   some_target p s is = ap is_some is
 
-  data_op_good : (m : Meaning) → GoodMeaning g V D m → data_op_typed (shapes g V D) V D (data_op_of m) ≡ true
+  pub data_op_good : (m : Meaning) → GoodMeaning g V D m → data_op_typed (shapes g V D) V D (data_op_of m) ≡ true
   data_op_good (Pointer p to) good = refl
   data_op_good (Datum d) good = good
   data_op_good (Known k) good = good
@@ -59,55 +60,55 @@ module _ (g : Globals) (V : List VarDef) (D : ℕ) where
   ptr_rhs_good a s Broken is good same = ap is_some is
 
   -- what is assigned to a good target
-  pub assigned_typed : (target m : Meaning) (spot : Spot) → GoodMeaning g V D target → GoodMeaning g V D m
+  pub assigned_typed : (F : List Func) (H : Option ℕ) (target m : Meaning) (spot : Spot) → GoodMeaning g V D target → GoodMeaning g V D m
       → differ (struct_at target) (struct_at m) ≡ false
-      → act_typed (shapes g V D) V D [] None (assigned target (ptr_rhs_of m) (data_rhs_of m)) spot ≡ true
-  assigned_typed (Pointer p None) m spot good other same = absurd good
-  assigned_typed (Pointer p (Some s)) m spot good other same =
+      → act_typed (shapes g V D) V D F H (assigned target (ptr_rhs_of m) (data_rhs_of m)) spot ≡ true
+  assigned_typed F H (Pointer p None) m spot good other same = absurd good
+  assigned_typed F H (Pointer p (Some s)) m spot good other same =
       ptr_rhs_good (path_target (shapes g V D) V D p) s m good other same
-  assigned_typed (Datum d) m spot good other same =
+  assigned_typed F H (Datum d) m spot good other same =
       ap (λ b. b && data_rhs_typed (shapes g V D) V D (data_rhs_of m)) good ∙ data_rhs_good m other
-  assigned_typed (Known k) m spot good other same = refl
-  assigned_typed Zero m spot good other same = refl
-  assigned_typed Null m spot good other same = refl
-  assigned_typed CallThere m spot good other same = refl
-  assigned_typed Broken m spot good other same = refl
+  assigned_typed F H (Known k) m spot good other same = refl
+  assigned_typed F H Zero m spot good other same = refl
+  assigned_typed F H Null m spot good other same = refl
+  assigned_typed F H CallThere m spot good other same = refl
+  assigned_typed F H Broken m spot good other same = refl
 
   -- a new cell is of the target's struct
-  pub new_typed : (target : Meaning) (spot : Spot) → GoodMeaning g V D target
-      → act_typed (shapes g V D) V D [] None (assigned target (ptr_rhs.New (target_struct target)) (data_rhs.Known 0))
+  pub new_typed : (F : List Func) (H : Option ℕ) (target : Meaning) (spot : Spot) → GoodMeaning g V D target
+      → act_typed (shapes g V D) V D F H (assigned target (ptr_rhs.New (target_struct target)) (data_rhs.Known 0))
       spot
       ≡ true
-  new_typed (Pointer p None) spot good = absurd good
-  new_typed (Pointer p (Some s)) spot good = ap (λ o. is_target o s) good ∙ eq-eqb s s refl
-  new_typed (Datum d) spot good = ap (λ b. b && true) good
-  new_typed (Known k) spot good = refl
-  new_typed Zero spot good = refl
-  new_typed Null spot good = refl
-  new_typed CallThere spot good = refl
-  new_typed Broken spot good = refl
+  new_typed F H (Pointer p None) spot good = absurd good
+  new_typed F H (Pointer p (Some s)) spot good = ap (λ o. is_target o s) good ∙ eq-eqb s s refl
+  new_typed F H (Datum d) spot good = ap (λ b. b && true) good
+  new_typed F H (Known k) spot good = refl
+  new_typed F H Zero spot good = refl
+  new_typed F H Null spot good = refl
+  new_typed F H CallThere spot good = refl
+  new_typed F H Broken spot good = refl
 
-  pub freed_typed : (m : Meaning) (spot : Spot) → GoodMeaning g V D m
-      → act_typed (shapes g V D) V D [] None (freed m) spot
+  pub freed_typed : (F : List Func) (H : Option ℕ) (m : Meaning) (spot : Spot) → GoodMeaning g V D m
+      → act_typed (shapes g V D) V D F H (freed m) spot
       ≡ true
-  freed_typed (Pointer p None) spot good = absurd good
-  freed_typed (Pointer p (Some s)) spot good = ap is_some good
-  freed_typed (Datum d) spot good = refl
-  freed_typed (Known k) spot good = refl
-  freed_typed Zero spot good = refl
-  freed_typed Null spot good = refl
-  freed_typed CallThere spot good = refl
-  freed_typed Broken spot good = refl
+  freed_typed F H (Pointer p None) spot good = absurd good
+  freed_typed F H (Pointer p (Some s)) spot good = ap is_some good
+  freed_typed F H (Datum d) spot good = refl
+  freed_typed F H (Known k) spot good = refl
+  freed_typed F H Zero spot good = refl
+  freed_typed F H Null spot good = refl
+  freed_typed F H CallThere spot good = refl
+  freed_typed F H Broken spot good = refl
 
-  pub returned_good : (m : Meaning) (spot : Spot) → GoodMeaning g V D m
-      → act_typed (shapes g V D) V D [] None (act.Return (returned m)) spot ≡ true
-  returned_good (Pointer p to) spot good = refl
-  returned_good (Datum d) spot good = good
-  returned_good (Known k) spot good = refl
-  returned_good Zero spot good = refl
-  returned_good Null spot good = refl
-  returned_good CallThere spot good = refl
-  returned_good Broken spot good = refl
+  pub returned_good : (F : List Func) (m : Meaning) (spot : Spot) → GoodMeaning g V D m
+      → act_typed (shapes g V D) V D F None (act.Return (returned m)) spot ≡ true
+  returned_good F (Pointer p to) spot good = refl
+  returned_good F (Datum d) spot good = good
+  returned_good F (Known k) spot good = refl
+  returned_good F Zero spot good = refl
+  returned_good F Null spot good = refl
+  returned_good F CallThere spot good = refl
+  returned_good F Broken spot good = refl
 
   -- Atoms
 

@@ -8,8 +8,9 @@ use Rattle.c_ast.specs.declared.conditions.Cond as tree
 use Rattle.c_ast.specs.declared.conditions.Test.{Test}
 use Rattle.c_ast.specs.declared.conditions.Test.TheVariants as test
 use Rattle.c_ast.specs.declared.conditions.Unary.{Unary}
-use Rattle.c_ast.specs.declared.operands.Call.{out-Call}
-use Rattle.c_ast.specs.declared.operands.Operand.{Operand, out-Operand}
+use Rattle.c_ast.specs.declared.operands.Call.{Call, out-Call}
+use Rattle.c_ast.specs.declared.operands.Operand.{Operand, Operand-F, out-Operand}
+use Rattle.c_ast.specs.declared.operands.Operand.TheOpen as operand
 use Rattle.c_ast.specs.declared.simples.Rhs.{Rhs}
 use Rattle.c_ast.specs.declared.simples.Rhs.TheVariants as rhs
 use Rattle.c_ast.specs.declared.simples.Simple.{Simple}
@@ -19,34 +20,39 @@ use Rattle.c_types.specs.declared.program.Act.{Act}
 use Rattle.c_types.specs.declared.program.Act.TheVariants as act
 use Rattle.c_types.specs.declared.program.Atom.TheVariants as atom
 use Rattle.c_types.specs.declared.program.Cond.{Cond}
+use Rattle.c_types.specs.declared.program.Func.{Func}
 use Rattle.c_types.specs.declared.program.Stmt.{Stmt}
 use Rattle.c_types.specs.declared.program.Stmt.TheVariants.{Do}
 use Rattle.c_types.specs.declared.program.VarDef.{VarDef}
 use Rattle.c_types.proofs.Layers.{typed-Atom, typed-Not, typed-All, typed-Any, typed-Do}
 use Rattle.c_typing.specs.BodySites.{maybe_sites}
+use Rattle.c_typing.specs.Functions.{called, called_number, is_counted, recurs}
 use Rattle.c_typing.specs.Globals.{Globals}
-use Rattle.c_typing.specs.Meanings.{meaning_of_path, meaning_of_operand, place_of_operand}
-use Rattle.c_typing.specs.Profile.{errors}
+use Rattle.c_typing.specs.Meanings.{meaning_of_path, meaning_of_operand, operand_meaning, place_of_operand}
+use Rattle.c_typing.specs.Profile.{errors, is_allowed}
 use Rattle.c_typing.specs.Programs.{assignment, simple_stmts, all_of, any_of, test_of, unary_of, and_of, cond_of}
-use Rattle.c_typing.specs.Programs.{maybe_cond, maybe_simple, returned_operand, comparison, truth, call_act}
+use Rattle.c_typing.specs.Programs.{maybe_cond, maybe_simple, comparison, truth, call_act, assign_stmt, call_in, call_stmt}
+use Rattle.c_typing.specs.Programs.{dest_of, stored}
 use Rattle.c_typing.specs.Rules.{differ, wanted_struct}
 use Rattle.c_typing.specs.Scopes.{Scope}
-use Rattle.c_typing.specs.Sites.{Site, want_of_left, want_of_target, struct_at, choice_sites, operand_sites}
+use Rattle.c_typing.specs.Sites.{Site, Calls, Gives, want_of_left, want_of_target, struct_at, operand_sites, choice_at}
+use Rattle.c_typing.specs.Sites.{argument_sites, call_sites, result_at_call, right_step, value_sites}
 use Rattle.c_typing.specs.Sites.{wanted_sites, stands, rhs_sites, target_sites, simple_sites, test_sites, unary_sites}
 use Rattle.c_typing.specs.Sites.{and_sites, cond_sites}
 use Rattle.c_typing.specs.Texts.{Text, has, joined}
 use Rattle.c_typing.specs.declared.meaning.Meaning.{Meaning}
 use Rattle.c_typing.specs.declared.meaning.Meaning.TheVariants as meaning
-use Rattle.c_typing.specs.declared.meaning.Spot.TheVariants.{Right, Elsewhere}
+use Rattle.c_typing.specs.declared.meaning.Spot.TheVariants.{Statement, Right, Elsewhere}
 use Rattle.c_typing.specs.declared.meaning.Want.{Want}
-use Rattle.c_typing.proofs.Clean.{IsClean, clean_parts, clean_first, no_other}
+use Rattle.c_typing.proofs.Clean.{IsClean, clean_parts, clean_first, no_other, call_right, result_right}
 use Rattle.c_typing.proofs.ConditionLayers.{sites-Compare, sites-Unary, sites-Not, sites-Bracket, sites-tests}
 use Rattle.c_typing.proofs.ConditionLayers.{sites-ands, made-Compare, made-Unary, made-Not, made-Bracket, made-Operand}
 use Rattle.c_typing.proofs.ConditionLayers.{made-tests, made-ands}
 use Rattle.c_typing.proofs.Formulas.{CondCases, cond_holds}
 use Rattle.c_typing.proofs.Sound.{GoodGlobals, shapes, GoodMeaning, GoodBlocks, path_good, operand_good}
-use Rattle.c_typing.proofs.SoundActs.{assigned_typed, new_typed, freed_typed, returned_good, truth_typed}
+use Rattle.c_typing.proofs.SoundActs.{assigned_typed, new_typed, freed_typed, truth_typed}
 use Rattle.c_typing.proofs.SoundActs.{comparison_typed}
+use Rattle.c_typing.proofs.SoundCalls.{GoodFuncs, calling_typed, dest_good, no_dest_good}
 
 wanted-target : (m : Meaning) → wanted_struct (want_of_target m) ≡ struct_at m
 wanted-target (meaning.Pointer p to) = refl
@@ -57,27 +63,31 @@ wanted-target meaning.Null = refl
 wanted-target meaning.Call = refl
 wanted-target meaning.Broken = refl
 
-module _ (g : Globals) (V : List VarDef) (D : ℕ) where
+differ-none : (t : Option ℕ) → differ t None ≡ false
+differ-none None = refl
+differ-none (Some s) = refl
+
+module _ (g : Globals) (V : List VarDef) (D : ℕ) (F : List Func) (H : Option ℕ) where
   -- each of these statements is typed there
   abbrev pub Typed : List Stmt → Spot → Type 0
-  Typed ss spot = each_typed (shapes g V D) V D (map (stmt_typed (shapes g V D) V D [] None) ss) spot ≡ true
+  Typed ss spot = each_typed (shapes g V D) V D (map (stmt_typed (shapes g V D) V D F H) ss) spot ≡ true
 
   both : (x y : Bool) → x ≡ true → y ≡ true → (x && y) ≡ true
   both x y left right = ap (λ b. b && y) left ∙ right
 
-  pub typed_one : (s : Stmt) (spot : Spot) → stmt_typed (shapes g V D) V D [] None s spot ≡ true → Typed (s ∷ []) spot
+  pub typed_one : (s : Stmt) (spot : Spot) → stmt_typed (shapes g V D) V D F H s spot ≡ true → Typed (s ∷ []) spot
   typed_one s spot e = ap (λ b. b && true) e
 
-  pub typed_act : (a : Act) (line : ℕ) (spot : Spot) → act_typed (shapes g V D) V D [] None a spot ≡ true
+  pub typed_act : (a : Act) (line : ℕ) (spot : Spot) → act_typed (shapes g V D) V D F H a spot ≡ true
       → Typed (Do a line ∷ []) spot
-  typed_act a line spot e = typed_one (Do a line) spot (typed-Do (shapes g V D) V D [] None a line spot ∙ e)
+  typed_act a line spot e = typed_one (Do a line) spot (typed-Do (shapes g V D) V D F H a line spot ∙ e)
 
   pub typed_append : (xs ys : List Stmt) (spot : Spot) → Typed xs spot → Typed ys spot → Typed (xs ++ ys) spot
   typed_append [] ys spot left right = right
   typed_append (x ∷ xs) ys spot left right =
-      let halves : (stmt_typed (shapes g V D) V D [] None x spot ≡ true) × Typed xs spot =
-      and_parts (stmt_typed (shapes g V D) V D [] None x spot) _ left in
-      both (stmt_typed (shapes g V D) V D [] None x spot) _ halves.0 (typed_append xs ys spot halves.1 right)
+      let halves : (stmt_typed (shapes g V D) V D F H x spot ≡ true) × Typed xs spot =
+      and_parts (stmt_typed (shapes g V D) V D F H x spot) _ left in
+      both (stmt_typed (shapes g V D) V D F H x spot) _ halves.0 (typed_append xs ys spot halves.1 right)
 
   -- parts of a condition
   each_part : {X : Type 0} (sites : X → List Site) (made : X → Cond) (xs : List X)
@@ -90,58 +100,129 @@ module _ (g : Globals) (V : List VarDef) (D : ℕ) where
       clean_parts g (sites x) (joined (map sites xs)) c in
       both (cond_typed (shapes g V D) V D (made x)) _ (all.0 halves.0) (each_part sites made xs all.1 halves.1)
 
-  module _ (n : ℕ) (globals : GoodGlobals n g) (scope : Scope) (blocks : GoodBlocks g V D scope.blocks) where
+  module _ (n : ℕ) (globals : GoodGlobals n g) (scope : Scope) (blocks : GoodBlocks g V D scope.blocks)
+      (funcs : GoodFuncs g V D g.functions F) where
     means : (o : Operand) → GoodMeaning g V D (meaning_of_operand g scope o)
     means o = operand_good g V D n globals scope blocks o
 
     leads : (p : _) → GoodMeaning g V D (meaning_of_path g scope p)
     leads p = path_good g V D n globals scope blocks p
 
-    pub assignment_typed : (target : Meaning) (w : Want) (r : Rhs) (spot : Spot) → GoodMeaning g V D target
-        → wanted_struct w ≡ struct_at target → IsClean g (rhs_sites g scope w r)
-        → act_typed (shapes g V D) V D [] None (assignment g scope target r) spot ≡ true
-    assignment_typed target w (rhs.Operand o) spot good same c =
-        let wanted : IsClean g (wanted_sites g scope Right w o) =
-        (clean_parts g (choice_sites g scope w (out-Operand o)) (wanted_sites g scope Right w o) c).1 in
+    -- what is assigned is no call of a function of the file
+    act_assigned : (target : Meaning) (r : Rhs) (o : Operand) (line : ℕ) (spot : Spot) → r ≡ rhs.Operand o
+        → GoodMeaning g V D target
+        → differ (struct_at target) (struct_at (meaning_of_operand g scope o)) ≡ false
+        → Typed (Do (assignment g scope target (rhs.Operand o)) line ∷ []) spot
+    act_assigned target r o line spot is good agree =
+        typed_act (assignment g scope target (rhs.Operand o)) line spot
+        (assigned_typed g V D F H target (meaning_of_operand g scope o) spot good (means o) agree)
+
+    plain_assigned : (target : Meaning) (o : Operand) (line : ℕ) (spot : Spot) → GoodMeaning g V D target
+        → IsClean g (wanted_sites g scope Right (want_of_target target) o)
+        → Typed (Do (assignment g scope target (rhs.Operand o)) line ∷ []) spot
+    plain_assigned target o line spot good c =
+        let w : Want = want_of_target target in
         let last : IsClean g (stands g scope w o ∷ []) =
-        (clean_parts g (operand_sites g scope Right o) (stands g scope w o ∷ []) wanted).1 in
+        (clean_parts g (operand_sites g scope Right o) (stands g scope w o ∷ []) c).1 in
         let agree : differ (wanted_struct w) (struct_at (meaning_of_operand g scope o)) ≡ false =
         no_other g w (place_of_operand o) (meaning_of_operand g scope o)
         (clean_first g (stands g scope w o) [] last).0 in
-        assigned_typed g V D target (meaning_of_operand g scope o) spot good (means o)
-        (subst (λ t. differ t (struct_at (meaning_of_operand g scope o)) ≡ false) same agree)
-    assignment_typed target w (rhs.Malloc cast at size) spot good same c = new_typed g V D target spot good
+        act_assigned target (rhs.Operand o) o line spot refl good
+        (subst (λ t. differ t (struct_at (meaning_of_operand g scope o)) ≡ false) (wanted-target target) agree)
 
-    call_typed : (x : Text) (spot : Spot) → act_typed (shapes g V D) V D [] None (call_act x) spot ≡ true
+    call_assigned : (target : Meaning) (o : Operand) (c : Call) (line : ℕ) (spot : Spot) → out-Operand o
+        ≡ operand.Call c → GoodMeaning g V D target
+        → IsClean g (value_sites g scope (want_of_target target) c ++ call_sites g scope Right c
+        ++ argument_sites g scope c)
+        → (k : Option ℕ) → called_number g (out-Call c).name.text ≡ k
+        → Typed (call_stmt g scope k (out-Call c).operands (dest_of target)
+        (assignment g scope target (rhs.Operand o)) line ∷ []) spot
+    call_assigned target o c line spot is good clean None none =
+        act_assigned target (rhs.Operand o) o line spot refl good
+        (ap (λ m. differ (struct_at target) (struct_at m)) (ap (operand_meaning g scope) is)
+        ∙ differ-none (struct_at target))
+    call_assigned target o c line spot is good clean (Some f) there =
+        let w : Want = want_of_target target in
+        let x : Text = (out-Call c).name.text in
+        let parts : IsClean g (value_sites g scope w c ++ call_sites g scope Right c)
+        × IsClean g (argument_sites g scope c) =
+        clean_parts g (value_sites g scope w c ++ call_sites g scope Right c) (argument_sites g scope c) clean in
+        let front : IsClean g (value_sites g scope w c) × IsClean g (call_sites g scope Right c) =
+        clean_parts g (value_sites g scope w c) (call_sites g scope Right c) parts.0 in
+        let results : IsClean g (result_at_call g scope w (out-Call c).name.at (called g x)) =
+        (clean_parts g (choice_at g scope w (out-Call c).name.at (is_allowed g scope Right x (out-Call c).operands))
+        (result_at_call g scope w (out-Call c).name.at (called g x)) front.0).1 in
+        let call : (recurs g scope.home x ≡ false) × (is_counted (called g x) (out-Call c).operands ≡ true) =
+        call_right g scope Right (out-Call c).name (out-Call c).operands
+        (clean_first g (Calls scope Right (out-Call c).name (out-Call c).operands) [] front.1).0 in
+        typed_one _ spot
+        (calling_typed g V D n globals scope blocks F H funcs x f there (out-Call c).operands (dest_of target) line spot
+        call.1 parts.1
+        (λ d v one result. dest_good g V D d.result v target result good
+        (result_right g w (out-Call c).name.at d.result
+        (clean_first g (Gives w (out-Call c).name.at d.result) []
+        (subst (λ k. IsClean g (result_at_call g scope w (out-Call c).name.at k)) one results)).0)))
+
+    operand_assigned : (target : Meaning) (o : Operand) (y : Operand-F Operand Call) (line : ℕ) (spot : Spot)
+        → out-Operand o ≡ y → GoodMeaning g V D target
+        → IsClean g (right_step g scope (want_of_target target) o y)
+        → Typed (stored g scope (call_in y) (dest_of target) (assignment g scope target (rhs.Operand o)) line ∷ [])
+        spot
+    operand_assigned target o (operand.Path p) line spot is good c = plain_assigned target o line spot good c
+    operand_assigned target o (operand.Call x) line spot is good c =
+        call_assigned target o x line spot is good c (called_number g (out-Call x).name.text) refl
+    operand_assigned target o (operand.Number x) line spot is good c = plain_assigned target o line spot good c
+    operand_assigned target o (operand.Null at) line spot is good c = plain_assigned target o line spot good c
+    operand_assigned target o (operand.True at) line spot is good c = plain_assigned target o line spot good c
+    operand_assigned target o (operand.False at) line spot is good c = plain_assigned target o line spot good c
+
+    pub assign_typed : (target : Meaning) (r : Rhs) (line : ℕ) (spot : Spot) → GoodMeaning g V D target
+        → IsClean g (rhs_sites g scope (want_of_target target) r)
+        → Typed (assign_stmt g scope target r line ∷ []) spot
+    assign_typed target (rhs.Operand o) line spot good c =
+        operand_assigned target o (out-Operand o) line spot refl good c
+    assign_typed target (rhs.Malloc cast at size) line spot good c =
+        typed_act (assignment g scope target (rhs.Malloc cast at size)) line spot (new_typed g V D F H target spot good)
+
+    call_typed : (x : Text) (spot : Spot) → act_typed (shapes g V D) V D F H (call_act x) spot ≡ true
     call_typed x spot = either (has x errors)
       where
-        either : (error : Bool) → act_typed (shapes g V D) V D [] None (cond error act.Error act.Halt) spot ≡ true
+        either : (error : Bool) → act_typed (shapes g V D) V D F H (cond error act.Error act.Halt) spot ≡ true
         either true = refl
         either false = refl
+
+    call_stated : (c : Call) (line : ℕ) (spot : Spot)
+        → IsClean g (call_sites g scope Statement c ++ argument_sites g scope c)
+        → (k : Option ℕ) → called_number g (out-Call c).name.text ≡ k
+        → Typed (call_stmt g scope k (out-Call c).operands None (call_act (out-Call c).name.text) line ∷ []) spot
+    call_stated c line spot clean None none =
+        typed_act (call_act (out-Call c).name.text) line spot (call_typed (out-Call c).name.text spot)
+    call_stated c line spot clean (Some f) there =
+        let x : Text = (out-Call c).name.text in
+        let parts : IsClean g (call_sites g scope Statement c) × IsClean g (argument_sites g scope c) =
+        clean_parts g (call_sites g scope Statement c) (argument_sites g scope c) clean in
+        let call : (recurs g scope.home x ≡ false) × (is_counted (called g x) (out-Call c).operands ≡ true) =
+        call_right g scope Statement (out-Call c).name (out-Call c).operands
+        (clean_first g (Calls scope Statement (out-Call c).name (out-Call c).operands) [] parts.0).0 in
+        typed_one _ spot
+        (calling_typed g V D n globals scope blocks F H funcs x f there (out-Call c).operands None line spot call.1
+        parts.1 (λ d v one result. no_dest_good g V D v))
 
     pub simple_typed : (s : Simple) (spot : Spot) → IsClean g (simple_sites g scope s)
         → Typed (simple_stmts g scope s) spot
     simple_typed (simple.Assign to from) spot c =
-        typed_act (assignment g scope (meaning_of_path g scope to) from) to.head.at.line spot
-        (assignment_typed (meaning_of_path g scope to) (want_of_target (meaning_of_path g scope to)) from spot
-        (leads to) (wanted-target (meaning_of_path g scope to))
+        assign_typed (meaning_of_path g scope to) from to.head.at.line spot (leads to)
         (clean_parts g (target_sites g scope to) (rhs_sites g scope (want_of_target (meaning_of_path g scope to)) from)
-        c).1)
+        c).1
     simple_typed (simple.Call call) spot c =
-        typed_act (call_act (out-Call call).name.text) (out-Call call).name.at.line spot
-        (call_typed (out-Call call).name.text spot)
+        call_stated call (out-Call call).name.at.line spot c (called_number g (out-Call call).name.text) refl
     simple_typed (simple.Free at p) spot c =
-        typed_act _ at.line spot (freed_typed g V D (meaning_of_path g scope p) spot (leads p))
+        typed_act _ at.line spot (freed_typed g V D F H (meaning_of_path g scope p) spot (leads p))
 
     pub maybe_simple_typed : (s : Option Simple) (spot : Spot) → IsClean g (maybe_sites (simple_sites g scope) s)
         → Typed (maybe_simple g scope s) spot
     maybe_simple_typed None spot c = refl
     maybe_simple_typed (Some s) spot c = simple_typed s spot c
-
-    pub returned_typed : (o : Option Operand) (spot : Spot)
-        → act_typed (shapes g V D) V D [] None (act.Return (returned_operand g scope o)) spot ≡ true
-    returned_typed None spot = refl
-    returned_typed (Some o) spot = returned_good g V D (meaning_of_operand g scope o) spot (means o)
 
     -- Conditions
 

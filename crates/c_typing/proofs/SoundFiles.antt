@@ -1,11 +1,12 @@
 -- The program of a file where nothing is broken is typed.
-use Rattle.std.proofs.Common.{◌≡◌, ℕ, suc, Bool, true, false, ◌&&◌, cond, nat_le, List, [], ◌∷◌, ◌++◌, length}
-use Rattle.std.proofs.Common.{map, codes, Option, Some, None, refl, sym, ap, ◌∙◌, subst, arith, true≢false}
-use Rattle.std.proofs.lemmas.Bool.{and_parts, false_from_ne_true, or_from, or_parts}
+use Rattle.std.proofs.Common.{◌≡◌, ◌≤◌, ◌+◌, ℕ, zero, suc, Bool, true, false, not, ◌&&◌, cond, nat_le, List, [], ◌∷◌}
+use Rattle.std.proofs.Common.{◌++◌, length, map, codes, Option, Some, None, refl, sym, ap, ◌∙◌, subst, arith, true≢false}
+use Rattle.std.proofs.lemmas.Bool.{eq-eqb, false_from_ne_true, or_from, or_parts}
 use Rattle.std.proofs.lemmas.List.{append-nil, length-map}
 use Rattle.std.specs.Cmp.Lexicographic.{bytes_decides}
-use Rattle.fore_base.proofs.ListLemmas.{every_append}
-use Rattle.fore_base.specs.Lists.{Every}
+use Rattle.std.specs.List.{list_all}
+use Rattle.fore_base.proofs.ListLemmas.{every_append, every_in, every_tests, every_weaker, in_every}
+use Rattle.fore_base.specs.Lists.{IsIn, Every}
 use Rattle.fore_base.specs.Shapes.{targets_in, target_before}
 use Rattle.fore_base.specs.declared.limits.TheConstants.{DATUM}
 use Rattle.c_ast.specs.declared.items.Field.{Field}
@@ -13,41 +14,45 @@ use Rattle.c_ast.specs.declared.items.Field.TheVariants as field
 use Rattle.c_ast.specs.declared.items.Head.{Head}
 use Rattle.c_ast.specs.declared.items.Item.{Item}
 use Rattle.c_ast.specs.declared.items.Item.TheVariants as item
-use Rattle.c_ast.specs.declared.items.Params.{Params}
-use Rattle.c_ast.specs.declared.items.Params.TheVariants as params
 use Rattle.c_ast.specs.declared.items.Unit as whole
 use Rattle.c_ast.specs.declared.operands.Name.{Name}
-use Rattle.c_ast.specs.declared.statements.Block.{Block}
-use Rattle.c_types.specs.Program.{Spot, Outside, all_below, shapes_typed, vars_typed, each_typed, stmt_typed}
-use Rattle.c_types.specs.Program.{funcs_typed, is_typed}
+use Rattle.c_calls.proofs.FewCalls.{leads_few, none_test}
+use Rattle.c_calls.specs.Calls.{Leads, at_once, called_by, none_recurs, through}
+use Rattle.c_types.specs.Bodies.{all_different, body_calls, body_declares, body_names, calls_of, func_vars, is_among}
+use Rattle.c_types.specs.Bodies.{keeps_to_main}
+use Rattle.c_types.specs.Program.{all_below, bodies_typed, body_typed, funcs_typed, is_typed, shapes_typed, var_typed}
+use Rattle.c_types.specs.Program.{vars_typed}
+use Rattle.c_types.specs.declared.program.Func.{Func}
 use Rattle.c_types.specs.declared.program.Stmt.{Stmt}
-use Rattle.c_types.proofs.NoFunctions.{no_funcs_typed}
 use Rattle.c_types.specs.declared.program.VarDef.{VarDef}
-use Rattle.c_typing.specs.BodySites.{block_sites, block_places}
+use Rattle.c_types.specs.declared.program.VarRef.{VarRef}
+use Rattle.c_types.specs.declared.program.VarRef.TheVariants.{Ptr, Data}
 use Rattle.c_typing.specs.Globals.{Globals, Definition, defined_name, maybe_defined, structs_in, struct_definitions}
 use Rattle.c_typing.specs.Globals.{pointer_member, datum_member, members_in, struct_of, datum_of, values_from}
-use Rattle.c_typing.specs.Globals.{values_in, value_name, globals_of, struct_name, struct_names, is_main, result_kind}
-use Rattle.c_typing.specs.Globals.{params_of, function_of, head_name, functions_in, function_heads, functions_of}
+use Rattle.c_typing.specs.Globals.{values_in, value_name, globals_of, struct_name, is_main}
+use Rattle.c_typing.specs.Globals.{function_of, head_name, functions_in, function_heads, functions_of}
 use Rattle.c_typing.specs.Globals.{function_name, function_number}
 use Rattle.c_typing.specs.ItemSites.{Seen, nothing_seen, seen_after, names_of, member_sites, field_type_sites}
-use Rattle.c_typing.specs.ItemSites.{fields_sites, struct_sites, gives_sites, named_sites, result_sites}
-use Rattle.c_typing.specs.ItemSites.{own_params_sites, head_sites, body_sites, item_sites, items_sites}
-use Rattle.c_typing.specs.Profile.{gives_int, has_no_params, is_main_head}
-use Rattle.c_typing.specs.Programs.{field_of, field_kind_of, shape_of, program_with, program_without, program_in}
-use Rattle.c_typing.specs.Programs.{program_of, block_stmts}
-use Rattle.c_typing.specs.Scopes.{Scope, empty_scope, opened, past_block, result_declared, begun, result_of}
-use Rattle.c_typing.specs.Scopes.{past_result, past_params, past_head, past_item}
+use Rattle.c_typing.specs.ItemSites.{fields_sites, struct_sites, item_sites, items_sites}
+use Rattle.c_typing.specs.Programs.{field_of, field_kind_of, shape_of, program_in, program_of, funcs_in, main_in}
+use Rattle.c_typing.specs.Scopes.{Scope, empty_scope, is_declared, past_item, past_items}
 use Rattle.c_typing.specs.Sites as site
-use Rattle.c_typing.specs.Sites.{Site}
 use Rattle.c_typing.specs.Texts.{Text, same, has, number_of, one_more, firsts, each_of}
-use Rattle.c_typing.specs.Typing.{breaches_at, breaches}
+use Rattle.c_typing.specs.Typing.{breaches, or_else, overweight, site_breaches}
 use Rattle.c_typing.specs.declared.meaning.Kind.{Kind}
 use Rattle.c_typing.specs.declared.meaning.Kind.TheVariants.{Points, Datum}
 use Rattle.c_typing.specs.declared.meaning.Member.{Member}
 use Rattle.c_typing.specs.declared.meaning.StructDef.{StructDef}
-use Rattle.c_typing.proofs.Clean.{IsClean, clean_parts, clean_first, struct_there, main_alone}
-use Rattle.c_typing.proofs.Sound.{GoodKind, GoodMember, GoodStruct, GoodValue, GoodGlobals}
-use Rattle.c_typing.proofs.SoundStmts.{struct_kind, block_typed}
+use Rattle.c_typing.proofs.Clean.{IsClean, clean_parts, clean_first, struct_there}
+use Rattle.c_typing.proofs.FileCounts.{items_counted, main_vars}
+use Rattle.c_typing.proofs.FileNames.{heads_first}
+use Rattle.c_typing.proofs.OwnVariables.{among_counted, count, hit, once_different}
+use Rattle.c_typing.proofs.ScopeLaws.{Within}
+use Rattle.c_typing.proofs.Sound.{GoodKind, GoodMember, GoodStruct, GoodValue, GoodGlobals, shapes}
+use Rattle.c_typing.proofs.SoundCalls.{GoodFuncs}
+use Rattle.c_typing.proofs.SoundFunctions.{AllFacts, CallFacts, FileIs, ItemFacts, bodies_right, funcs_good, in_among}
+use Rattle.c_typing.proofs.SoundFunctions.{items_facts}
+use Rattle.c_typing.proofs.SoundStmts.{struct_kind}
 
 firsts_every : {X : Type 0} (P : X → Type 0) (name : X → Text) (seen : List Text) (xs : List X) → Every P xs
     → Every P (firsts name seen xs)
@@ -232,117 +237,161 @@ main_unnumbered is =
     (main_absent (map defined_name (struct_definitions is)) (function_heads is)
     (firsts_every IsOther head_name [] (each_of functions_in is) (all_others is)))
 
-no_params : (ps : Option Params) → has_no_params ps ≡ true → params_of ps ≡ []
-no_params None is = refl
-no_params (Some (params.Void at)) is = refl
-no_params (Some (params.List ps)) is = absurd (true≢false (sym is))
+-- The functions of a file are those of its heads.
 
--- Programs
+names-heads : (names : List Text) (hs : List Head) → map function_name (map (function_of names) hs)
+    ≡ map head_name hs
+names-heads names [] = refl
+names-heads names (h ∷ hs) = ap (λ ns. head_name h ∷ ns) (names-heads names hs)
 
-module _ (g : Globals) (globals : GoodGlobals (length g.structs) g) (unnumbered : function_number g (codes "main")
-    ≡ None) where
+file_is : (is : List Item) → FileIs (globals_of is) is
+file_is is = record {
+  calls = refl;
+  names = ap (λ ns. ns ++ codes "main" ∷ [])
+      (sym (names-heads (map defined_name (struct_definitions is)) (function_heads is)));
+  main = main_unnumbered is;
+}
+
+hit_true : (b : Bool) → 1 ≤ hit b → b ≡ true
+hit_true true h = refl
+hit_true false h = absurd (omega (arith, h))
+
+hit_small : (b : Bool) → hit b ≤ 1
+hit_small true = omega (arith)
+hit_small false = omega (arith)
+
+module _ (is : List Item)
+    (c : IsClean (globals_of is) (items_sites (globals_of is) nothing_seen is empty_scope)) where
+  abbrev g : Globals
+  g = globals_of is
+
+  abbrev final : Scope
+  final = past_items g is empty_scope
+
+  abbrev V : List VarDef
+  V = final.vars
+
+  abbrev D : ℕ
+  D = length final.data_vars
+
+  abbrev F : List Func
+  F = funcs_in g is empty_scope
+
+  abbrev body : List Stmt
+  body = main_in g is empty_scope
+
+  all_heads : function_heads is ≡ each_of functions_in is
+  all_heads = heads_first g nothing_seen is empty_scope [] (λ x none. none) c
+
+  inside : Within g V D final
+  inside = (([], sym (append-nil V)), omega (arith))
+
+  funcs : GoodFuncs g V D g.functions F
+  funcs = subst (λ ds. GoodFuncs g V D ds F)
+      (ap (λ ns. map (function_of ns) (each_of functions_in is))
+      (names-same (map defined_name (struct_definitions is)) (struct_definitions is))
+      ∙ ap (map (function_of (map defined_name (struct_definitions is)))) (sym all_heads))
+      (funcs_good g V D (length g.structs) refl nothing_seen is empty_scope inside c)
+
+  numbered : map function_name g.functions ≡ [] ++ map head_name (each_of functions_in is)
+  numbered = names-heads (map defined_name (struct_definitions is)) (function_heads is)
+      ∙ ap (map head_name) all_heads
+
+  facts : ItemFacts g V D (length g.structs) refl (globals_good is c) F funcs is (file_is is) 0 is empty_scope
+  facts = items_facts g V D (length g.structs) refl (globals_good is c) F funcs is (file_is is) nothing_seen is
+      empty_scope [] (λ x none. none) numbered (λ x none. refl) inside refl c
+
+  -- No function leads to itself.
+
+  called_facts : (m k : ℕ) (fs : List Func)
+      → AllFacts g V D (length g.structs) refl (globals_good is c) F funcs is (file_is is) m fs
+      → (f : ℕ) → IsIn f (called_by (calls_of fs) k) → CallFacts g (m + k) f
+  called_facts m k [] all f i = absurd i
+  called_facts m zero (fn ∷ fs) all f i =
+      subst (λ j. CallFacts g j f) (omega (arith)) (every_in (CallFacts g m) (body_calls fn.body) f all.0.1 i)
+  called_facts m (suc k) (fn ∷ fs) all f i =
+      subst (λ j. CallFacts g j f) (omega (arith)) (called_facts (suc m) k fs all.1 f i)
+
+  called_at : (a f : ℕ) → IsIn f (called_by (calls_of F) a) → CallFacts g a f
+  called_at a f i = subst (λ j. CallFacts g j f) (omega (arith)) (called_facts 0 a F facts.0 f i)
+
+  leads_more : (a b : ℕ) → Leads (calls_of F) a b → Leads g.calls a b
+  leads_more a b (at_once i) = at_once (called_at a b i).0
+  leads_more a b (through h i l) = through h (called_at a h i).0 (leads_more h b l)
+
+  none_back : (f : ℕ) → Leads (calls_of F) f f → ⊥
+  none_back f (at_once i) = true≢false (sym (eq-eqb f f refl) ∙ (called_at f f i).1.0)
+  none_back f (through h i l) =
+      true≢false (sym (leads_few g.calls h f (leads_more h f l)) ∙ (called_at f h i).1.1)
+
+  no_recursion : none_recurs (calls_of F) ≡ true
+  no_recursion = none_test (calls_of F) none_back
+
+  -- The variables of functions are the program's, and apart.
+
+  counted : (v : VarRef) → count v (func_vars F) + count v (main_vars g is empty_scope) ≤ hit (is_declared final v)
+  counted v = omega (arith, items_counted g v is empty_scope)
+
+  declared_typed : (v : VarRef) → is_declared final v ≡ true → var_typed (shapes g V D) V D v ≡ true
+  declared_typed (Ptr x) there = there
+  declared_typed (Data x) there = there
+
+  vars_there : list_all (var_typed (shapes g V D) V D) (func_vars F) ≡ true
+  vars_there = every_tests (var_typed (shapes g V D) V D) (func_vars F)
+      (in_every (λ v. var_typed (shapes g V D) V D v ≡ true) (func_vars F)
+      (λ v i. declared_typed v
+      (hit_true (is_declared final v)
+      (omega (arith, counted v, among_counted v (func_vars F) (in_among v (func_vars F) i))))))
+
+  different : all_different (func_vars F) ≡ true
+  different = once_different (func_vars F) (λ v. omega (arith, counted v, hit_small (is_declared final v)))
+
+  main_apart : keeps_to_main F body ≡ true
+  main_apart = every_tests (λ w. not (is_among (func_vars F) w)) (body_names body ++ body_declares body)
+      (every_weaker (λ w. IsIn w (main_vars g is empty_scope)) (λ w. not (is_among (func_vars F) w) ≡ true)
+      (body_names body ++ body_declares body)
+      (λ w i. ap not
+      (false_from_ne_true (is_among (func_vars F) w)
+      (λ there. omega (
+        arith,
+        counted w,
+        hit_small (is_declared final w),
+        among_counted w (func_vars F) there,
+        among_counted w (main_vars g is empty_scope) (in_among w (main_vars g is empty_scope) i),
+      )))) facts.1.0.1)
+
+  functions_right : funcs_typed (program_in g is) ≡ true
+  functions_right = ap (λ b. b && (bodies_typed (shapes g V D) V D F 0 F
+      && (list_all (var_typed (shapes g V D) V D) (func_vars F)
+      && (all_different (func_vars F) && keeps_to_main F body)))) no_recursion
+      ∙ ap (λ b. b && (list_all (var_typed (shapes g V D) V D) (func_vars F)
+      && (all_different (func_vars F) && keeps_to_main F body)))
+      (bodies_right g V D (length g.structs) refl (globals_good is c) F funcs is (file_is is) 0 F facts.0)
+      ∙ ap (λ b. b && (all_different (func_vars F) && keeps_to_main F body)) vars_there
+      ∙ ap (λ b. b && keeps_to_main F body) different ∙ main_apart
+
   all_shapes : shapes_typed (length (map shape_of g.structs)) (map shape_of g.structs) ≡ true
   all_shapes = subst (λ n. shapes_typed n (map shape_of g.structs) ≡ true) (sym (length-map g.structs shape_of))
-      (shapes_good (length g.structs) g.structs globals.0)
+      (shapes_good (length g.structs) g.structs (globals_good is c).0)
 
-  abbrev vars_of : Block → List VarDef
-  vars_of b = (past_block g b (opened empty_scope)).vars
+  all_vars : vars_typed (length (map shape_of g.structs)) V ≡ true
+  all_vars = subst (λ n. vars_typed n V ≡ true) (sym (length-map g.structs shape_of)) facts.1.1
 
-  abbrev count_of : Block → ℕ
-  count_of b = length (past_block g b (opened empty_scope)).data_vars
-
-  abbrev is_right : Block → Stmt → Spot → Bool
-  is_right b = stmt_typed (map shape_of g.structs) (vars_of b) (count_of b) [] None
-
-  abbrev body_typed : Block → Bool
-  body_typed b = each_typed (map shape_of g.structs) (vars_of b) (count_of b)
-      (map (is_right b) (block_stmts g b (opened empty_scope))) Outside
-
-  with_typed : (b : Block) → IsClean g (block_sites g b false (opened empty_scope)) → is_typed (program_with g b) ≡ true
+  program_typed : is_typed (program_in g is) ≡ true
   unfolding is_typed
-  with_typed b c =
-      let r : (body_typed b ≡ true) × (vars_typed (length g.structs) (vars_of b) ≡ true) =
-      block_typed g (vars_of b) (count_of b) (length g.structs) refl globals b false (opened empty_scope)
-      (([], sym (append-nil (vars_of b))), omega (arith)) (tt, refl) c in
-      let vars : vars_typed (length (map shape_of g.structs)) (vars_of b) ≡ true =
-      subst (λ n. vars_typed n (vars_of b) ≡ true) (sym (length-map g.structs shape_of)) r.1 in
-      let functions : funcs_typed (program_with g b) ≡ true = no_funcs_typed (program_with g b) refl in
-      ap (λ k. ((k && vars_typed (length (map shape_of g.structs)) (vars_of b)) && body_typed b)
-      && funcs_typed (program_with g b)) all_shapes
-      ∙ ap (λ k. (k && body_typed b) && funcs_typed (program_with g b)) vars
-      ∙ ap (λ k. k && funcs_typed (program_with g b)) r.0
-      ∙ functions
+  program_typed =
+      ap (λ k. ((k && vars_typed (length (map shape_of g.structs)) V)
+      && body_typed (shapes g V D) V D F None body) && funcs_typed (program_in g is)) all_shapes
+      ∙ ap (λ k. (k && body_typed (shapes g V D) V D F None body) && funcs_typed (program_in g is)) all_vars
+      ∙ ap (λ k. k && funcs_typed (program_in g is)) facts.1.0.0 ∙ functions_right
 
-  without_typed : is_typed (program_without g) ≡ true
-  unfolding is_typed
-  without_typed = ap (λ k. ((k && true) && true) && true) all_shapes
-
-  rest : (s : Seen) (i : Item) (is : List Item) → IsClean g (items_sites g s (i ∷ is) empty_scope)
-      → IsClean g (items_sites g (seen_after s i) is (past_item g i empty_scope))
-  rest s i is c =
-      (clean_parts g (item_sites g s i empty_scope) (items_sites g (seen_after s i) is (past_item g i empty_scope)) c).1
-
-  -- nothing is in scope where the body of `main` begins
-  main_scope : (h : Head) → is_main h ≡ true → is_main_head h ≡ true → past_head g h empty_scope ≡ opened empty_scope
-  main_scope h main right =
-      let unnamed : function_number g h.name.text ≡ None =
-      ap (λ x. function_number g x) ((bytes_decides h.name.text (codes "main")).0 main) ∙ unnumbered in
-      let none : params_of h.params ≡ [] =
-      no_params h.params (and_parts (gives_int h.gives) (has_no_params h.params) right).1 in
-      ap (λ ps. past_params g ps (opened (past_result g h empty_scope))) none
-      ∙ ap (λ b. opened (result_declared (cond b None (result_kind (struct_names g) h.gives)) h.name.text
-      (begun g h empty_scope))) main
-      ∙ ap (λ n. opened (record { home = n; blocks = []; vars = []; data_vars = [] })) unnamed
-
-  -- a function is `main` where nothing is broken, and its body breaks nothing
-  main_clean : (s : Seen) (h : Head) (b : Block) → s.main ≡ false → IsClean g (item_sites g s (item.Function h b)
-      empty_scope) → (is_main h ≡ true) × IsClean g (block_sites g b false (opened empty_scope))
-  main_clean s h b none c =
-      let parts : IsClean g (head_sites g s h empty_scope) × IsClean g (body_sites g b (past_head g h empty_scope)) =
-      clean_parts g (head_sites g s h empty_scope) (body_sites g b (past_head g h empty_scope)) c in
-      let first : IsClean g ((gives_sites h.gives ++ named_sites s h)
-      ++ result_sites (result_of g h) h.name (begun g h empty_scope)) =
-      (clean_parts g ((gives_sites h.gives ++ named_sites s h)
-      ++ result_sites (result_of g h) h.name (begun g h empty_scope))
-      (own_params_sites g (params_of h.params) (opened (past_result g h empty_scope))) parts.0).0 in
-      let begin : IsClean g (gives_sites h.gives ++ named_sites s h) =
-      (clean_parts g (gives_sites h.gives ++ named_sites s h)
-      (result_sites (result_of g h) h.name (begun g h empty_scope)) first).0 in
-      let named : IsClean g (named_sites s h) = (clean_parts g (gives_sites h.gives) (named_sites s h) begin).1 in
-      let last : IsClean g (site.Functions s.main h ∷ []) =
-      (clean_first g (site.Defines site.Function h.name [] (length s.functions)) (site.Functions s.main h ∷ [])
-      named).1 in
-      let function : breaches_at g (site.Functions s.main h) ≡ [] =
-      (clean_first g (site.Functions s.main h) [] last).0 in
-      let main : (is_main h ≡ true) × (is_main_head h ≡ true) =
-      main_alone g h (subst (λ k. breaches_at g (site.Functions k h) ≡ []) none function) in
-      let block : IsClean g (block_sites g b false (past_head g h empty_scope)) =
-      (clean_parts g (block_sites g b false (past_head g h empty_scope)) (site.Counts (block_places b).within ∷ [])
-      parts.1).0 in
-      (main.0, subst (λ scope. IsClean g (block_sites g b false scope)) (main_scope h main.0 main.1) block)
-
-  items_typed : (s : Seen) (is : List Item) → s.main ≡ false → IsClean g (items_sites g s is empty_scope)
-      → is_typed (program_in g is) ≡ true
-  items_typed s [] none c = without_typed
-  items_typed s (item.Struct at name fields ∷ is) none c =
-      items_typed (seen_after s (item.Struct at name fields)) is none (rest s (item.Struct at name fields) is c)
-  items_typed s (item.Enum at name values ∷ is) none c =
-      items_typed (seen_after s (item.Enum at name values)) is none (rest s (item.Enum at name values) is c)
-  items_typed s (item.Proto outer head ∷ is) none c =
-      items_typed (seen_after s (item.Proto outer head)) is none (rest s (item.Proto outer head) is c)
-  items_typed s (item.Declare d ∷ is) none c =
-      items_typed (seen_after s (item.Declare d)) is none (rest s (item.Declare d) is c)
-  items_typed s (item.Function h b ∷ is) none c =
-      let here : (is_main h ≡ true) × IsClean g (block_sites g b false (opened empty_scope)) =
-      main_clean s h b none
-      (clean_parts g (item_sites g s (item.Function h b) empty_scope)
-      (items_sites g (seen_after s (item.Function h b)) is (past_item g (item.Function h b) empty_scope)) c).0 in
-      ap (λ k. is_typed (cond k (program_with g b) (program_in g is))) here.0 ∙ with_typed b here.1
+nothing_else : {X : Type 0} (xs ys : List X) → or_else xs ys ≡ [] → xs ≡ []
+nothing_else [] ys none = refl
+nothing_else (x ∷ xs) ys none = none
 
 pub file_typed : (u : whole.Unit) → breaches u ≡ [] → is_typed (program_of u) ≡ true
-unfolding breaches program_of
+unfolding breaches site_breaches program_of
 file_typed u c =
-    let items : IsClean (globals_of u.items) (items_sites (globals_of u.items) nothing_seen u.items empty_scope) =
-    (clean_parts (globals_of u.items) (items_sites (globals_of u.items) nothing_seen u.items empty_scope) _ c).0 in
-    items_typed (globals_of u.items) (globals_good u.items items) (main_unnumbered u.items) nothing_seen u.items refl
-    items
+    program_typed u.items
+    (clean_parts (globals_of u.items) (items_sites (globals_of u.items) nothing_seen u.items empty_scope) _
+    (nothing_else (site_breaches u) (overweight u) c)).0

@@ -1,7 +1,7 @@
 -- What the items of a file define: structs, enumerations, enumerators and functions. They are known in the whole file.
 -- Of two definitions of one name the first counts.
-use Rattle.std.specs.Prelude.{ℕ, zero, suc, Bool, cond, nat_le, List, [], ◌∷◌, ◌++◌, map, codes, Option, Some, None}
-use Rattle.std.specs.Prelude.{slice_get}
+use Rattle.std.specs.Prelude.{ℕ, zero, suc, Bool, false, not, cond, nat_eq, nat_le, List, [], ◌∷◌, ◌++◌, map, codes}
+use Rattle.std.specs.Prelude.{Option, Some, None, slice_get}
 use Rattle.fore_base.specs.declared.limits.TheConstants.{DATUM}
 use Rattle.c_ast.specs.declared.items.Field.{Field}
 use Rattle.c_ast.specs.declared.items.Field.TheVariants as field
@@ -27,13 +27,16 @@ use Rattle.c_typing.specs.declared.meaning.Kind.TheVariants.{Points, Datum}
 use Rattle.c_typing.specs.declared.meaning.Member.{Member}
 use Rattle.c_typing.specs.declared.meaning.StructDef.{StructDef}
 
--- the structs in order of their definitions, the names of the enumerations, the enumerators, and the functions besides
--- `main` in order of their definitions
+-- The structs in order of their definitions, the names of the enumerations, the enumerators, the functions besides
+-- `main` in order of their definitions, and `main`, if there is one. And the calls of the file: for each function, and
+-- for `main` after them, those that its body calls.
 pub record Globals : Type 0 where
   pub structs : List StructDef
   pub enums : List Text
   pub values : List Enumerator
   pub functions : List FunctionDef
+  pub main : Option FunctionDef
+  pub calls : List (List ℕ)
 
 abbrev pub text_of : Name → Text
 text_of n = n.text
@@ -162,6 +165,22 @@ function_heads items = firsts head_name [] (each_of functions_in items)
 abbrev pub functions_of : List Item → List FunctionDef
 functions_of items = map (function_of (map defined_name (struct_definitions items))) (function_heads items)
 
+-- the head of the first `main`
+abbrev pub main_head : List Item → Option Head
+main_head [] = None
+main_head (item.Struct at name fields ∷ is) = main_head is
+main_head (item.Enum at name values ∷ is) = main_head is
+main_head (item.Proto outer head ∷ is) = main_head is
+main_head (item.Function head body ∷ is) = cond (is_main head) (Some head) (main_head is)
+main_head (item.Declare d ∷ is) = main_head is
+
+abbrev pub maybe_function_of : List Text → Option Head → Option FunctionDef
+maybe_function_of names None = None
+maybe_function_of names (Some h) = Some (function_of names h)
+
+abbrev pub main_of : List Item → Option FunctionDef
+main_of items = maybe_function_of (map defined_name (struct_definitions items)) (main_head items)
+
 -- Calls of a file: functions by their numbers, and `main` after them
 
 abbrev pub names_of_calls : List Item → List Text
@@ -199,6 +218,8 @@ globals_of items = record {
   enums = enums_of items;
   values = values_of items;
   functions = functions_of items;
+  main = main_of items;
+  calls = calls_of items;
 }
 
 -- What a name means
@@ -208,6 +229,12 @@ struct_name s = s.name
 
 abbrev pub struct_names : Globals → List Text
 struct_names g = map struct_name g.structs
+
+-- two structs that are defined, and are not the same
+abbrev pub differ : Option ℕ → Option ℕ → Bool
+differ None t = false
+differ (Some s) None = false
+differ (Some s) (Some t) = not (nat_eq s t)
 
 -- the number of the struct of this name
 abbrev pub struct_number : Globals → Text → Option ℕ

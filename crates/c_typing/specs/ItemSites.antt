@@ -118,9 +118,9 @@ proto_params_sites earlier (p ∷ ps) = (param_sites p ++ Defines Parameter (par
 abbrev pub proto_sites : Head → List Site
 proto_sites h = gives_sites h.gives ++ Declares h ∷ proto_params_sites [] (params_of h.params)
 
--- A definition, after so many others, is refused as what it is, and no second one for its name.
+-- the name of a definition, after others
 abbrev pub named_sites : Seen → Head → List Site
-named_sites s h = Defines Function h.name [] (length s.functions) ∷ Functions s.main h ∷ []
+named_sites s h = Defines Function h.name s.functions (length s.functions) ∷ Functions h ∷ []
 
 -- a result is declared at the name of its function
 abbrev pub result_sites : Option Kind → Name → Scope → List Site

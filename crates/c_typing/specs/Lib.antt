@@ -1,5 +1,6 @@
 pub mod BodySites
 pub mod Callees
+pub mod Functions
 pub mod Globals
 pub mod ItemSites
 pub mod Meanings

@@ -1,6 +1,6 @@
--- The functions that a program may call and declare, and the head of `main`. They go by their names alone: a variable
--- hides none of them.
-use Rattle.std.specs.Prelude.{Bool, true, false, ◌&&◌, ◌||◌, List, [], ◌∷◌, codes, Option, Some, None}
+-- The functions that a program may call and declare besides those that its file defines, and the head of `main`. They
+-- go by their names alone: a variable hides none of them.
+use Rattle.std.specs.Prelude.{Bool, true, false, ◌&&◌, ◌||◌, List, [], ◌∷◌, ◌++◌, codes, Option, Some, None}
 use Rattle.c_ast.specs.declared.items.Head.{Head}
 use Rattle.c_ast.specs.declared.items.Params.{Params}
 use Rattle.c_ast.specs.declared.items.Params.TheVariants as params
@@ -19,6 +19,16 @@ use Rattle.c_typing.specs.declared.meaning.Meaning.TheVariants as meaning
 use Rattle.c_typing.specs.declared.meaning.Spot.{Spot}
 use Rattle.c_typing.specs.declared.meaning.Spot.TheVariants.{Statement, Condition, Right, Elsewhere}
 
+abbrev pub errors : List Text
+errors = codes "__VERIFIER_error" ∷ codes "reach_error" ∷ []
+
+abbrev pub choices : List Text
+choices = codes "__VERIFIER_nondet_int" ∷ codes "__VERIFIER_nondet_bool" ∷ []
+
+-- the functions that a program has besides its own: these names mean them, whatever a file defines
+abbrev pub given : List Text
+given = codes "exit" ∷ codes "abort" ∷ choices ++ errors
+
 -- a number, an enumerator, `true` or `false`
 abbrev pub is_constant : Meaning → Bool
 is_constant (meaning.Pointer p to) = false
@@ -33,15 +43,11 @@ abbrev pub is_one_constant : Globals → Scope → List Operand → Bool
 is_one_constant g scope [] = false
 is_one_constant g scope (o ∷ os) = is_constant (meaning_of_operand g scope o) && is_empty os
 
-abbrev pub errors : List Text
-errors = codes "__VERIFIER_error" ∷ codes "reach_error" ∷ []
-
--- a call that is right there: its name and its operands
+-- a call of one of them that is right there: its name and its operands
 abbrev pub is_allowed : Globals → Scope → Spot → Text → List Operand → Bool
 is_allowed g scope Statement x os =
     (has x (codes "abort" ∷ errors) && is_empty os) || (same x (codes "exit") && is_one_constant g scope os)
-is_allowed g scope Condition x os = has x (codes "__VERIFIER_nondet_int" ∷ codes "__VERIFIER_nondet_bool" ∷ [])
-    && is_empty os
+is_allowed g scope Condition x os = has x choices && is_empty os
 is_allowed g scope Right x os = same x (codes "__VERIFIER_nondet_bool") && is_empty os
 is_allowed g scope Elsewhere x os = false
 
@@ -73,5 +79,5 @@ is_main_head h = gives_int h.gives && has_no_params h.params
 -- abort()`
 abbrev pub is_allowed_head : Head → Bool
 is_allowed_head h =
-    ((has h.name.text (codes "__VERIFIER_nondet_int" ∷ codes "__VERIFIER_nondet_bool" ∷ []) && gives_int h.gives)
+    ((has h.name.text choices && gives_int h.gives)
     || (has h.name.text (codes "abort" ∷ errors) && gives_nothing h.gives)) && has_no_params h.params

@@ -13,11 +13,14 @@ use Rattle.c_ast.specs.declared.conditions.Cond as tree
 use Rattle.c_ast.specs.declared.conditions.Test.{Test, fold-Test, Test-F}
 use Rattle.c_ast.specs.declared.conditions.Test.TheOpen as test
 use Rattle.c_ast.specs.declared.conditions.Unary.{Unary, fold-Unary, Unary-F}
+use Rattle.c_ast.specs.declared.items.Head.{Head}
 use Rattle.c_ast.specs.declared.items.Item.{Item}
 use Rattle.c_ast.specs.declared.items.Item.TheVariants as item
+use Rattle.c_ast.specs.declared.items.Param.{Param}
 use Rattle.c_ast.specs.declared.items.Unit as whole
-use Rattle.c_ast.specs.declared.operands.Call.{out-Call}
-use Rattle.c_ast.specs.declared.operands.Operand.{Operand}
+use Rattle.c_ast.specs.declared.operands.Call.{Call, out-Call}
+use Rattle.c_ast.specs.declared.operands.Operand.{Operand, Operand-F, out-Operand}
+use Rattle.c_ast.specs.declared.operands.Operand.TheOpen as operand
 use Rattle.c_ast.specs.declared.simples.Rhs.{Rhs}
 use Rattle.c_ast.specs.declared.simples.Rhs.TheVariants as rhs
 use Rattle.c_ast.specs.declared.simples.Simple.{Simple}
@@ -30,9 +33,13 @@ use Rattle.c_ast.specs.declared.statements.First.TheVariants as first
 use Rattle.c_ast.specs.declared.statements.Part as part
 use Rattle.c_ast.specs.declared.statements.Part.TheOpen as stmt
 use Rattle.c_ast.specs.declared.statements.Stmt as stmts
+use Rattle.c_types.specs.Bodies.{body_declares}
 use Rattle.c_types.specs.Program.{Program}
 use Rattle.c_types.specs.declared.program.Act.{Act}
-use Rattle.c_types.specs.declared.program.Act.TheVariants.{SetPtr, SetData, Free, Error, Halt, Return, Break, Continue}
+use Rattle.c_types.specs.declared.program.Act.TheVariants.{SetPtr, SetData, Free, Error, Halt, Return, Leave, Break}
+use Rattle.c_types.specs.declared.program.Act.TheVariants.{Continue}
+use Rattle.c_types.specs.declared.program.Arg.{Arg}
+use Rattle.c_types.specs.declared.program.Arg.TheVariants as arg
 use Rattle.c_types.specs.declared.program.Atom.{Atom}
 use Rattle.c_types.specs.declared.program.Atom.TheVariants as atom
 use Rattle.c_types.specs.declared.program.Cond.{Cond}
@@ -42,17 +49,23 @@ use Rattle.c_types.specs.declared.program.DataOp.TheVariants as data_op
 use Rattle.c_types.specs.declared.program.DataPath.{DataPath}
 use Rattle.c_types.specs.declared.program.DataRhs.{DataRhs}
 use Rattle.c_types.specs.declared.program.DataRhs.TheVariants as data_rhs
+use Rattle.c_types.specs.declared.program.Dest.{Dest}
+use Rattle.c_types.specs.declared.program.Dest.TheVariants as dest
+use Rattle.c_types.specs.declared.program.Func.{Func}
 use Rattle.c_types.specs.declared.program.PtrOp.{PtrOp}
 use Rattle.c_types.specs.declared.program.PtrOp.TheVariants as ptr_op
 use Rattle.c_types.specs.declared.program.PtrRhs.{PtrRhs}
 use Rattle.c_types.specs.declared.program.PtrRhs.TheVariants as ptr_rhs
 use Rattle.c_types.specs.declared.program.Stmt.{Stmt}
-use Rattle.c_types.specs.declared.program.Stmt.TheVariants.{Do, Branch, While, DoWhile, For, Group}
-use Rattle.c_typing.specs.Globals.{Globals, globals_of}
+use Rattle.c_types.specs.declared.program.Stmt.TheVariants.{Do, Branch, While, DoWhile, For, Group, Call as Calling}
+use Rattle.c_types.specs.declared.program.VarRef.{VarRef}
+use Rattle.c_typing.specs.Functions.{called_number, function_at, params_in}
+use Rattle.c_typing.specs.Globals.{Globals, globals_of, param_kind, params_of, result_at, struct_names}
 use Rattle.c_typing.specs.Meanings.{variable, meaning_of_path, meaning_of_operand, place_of_operand}
 use Rattle.c_typing.specs.Profile.{errors, is_main}
-use Rattle.c_typing.specs.Scopes.{Var, Scope, empty_scope, innermost, or_zero, opened, declared, kind_of}
-use Rattle.c_typing.specs.Scopes.{declarators_of, past_declare, past_part, past_stmt, past_block}
+use Rattle.c_typing.specs.Scopes.{Var, Scope, empty_scope, innermost, or_zero, opened, declared, kind_of, next_ref}
+use Rattle.c_typing.specs.Scopes.{declarators_of, past_declare, past_part, past_stmt, begun, result_of, past_result}
+use Rattle.c_typing.specs.Scopes.{param_name, past_head, past_item, past_items}
 use Rattle.c_typing.specs.Rules.{is_pointer}
 use Rattle.c_typing.specs.Texts.{Text, has}
 use Rattle.c_typing.specs.declared.meaning.Kind.{Kind}
@@ -203,6 +216,36 @@ datums_of (v ∷ vs) = datums_of vs ++ datum_before v.kind v.number
 abbrev pub grouped : List Stmt → Scope → ℕ → Stmt
 grouped body scope line = Group body (ptrs_of (innermost scope.blocks)) (datums_of (innermost scope.blocks)) line
 
+-- Calls
+
+-- what is given to a parameter, or returned as a result, of this kind
+abbrev pub arg_of : Kind → Meaning → Arg
+arg_of (kind.Points to) m = arg.Ptr (ptr_op_of m)
+arg_of kind.Datum m = arg.Data (data_op_of m)
+
+-- what the result of a call is assigned to
+abbrev pub dest_of : Meaning → Option Dest
+dest_of (meaning.Pointer p to) = Some (dest.Ptr p)
+dest_of (meaning.Datum d) = Some (dest.Data d)
+dest_of (meaning.Known k) = None
+dest_of meaning.Zero = None
+dest_of meaning.Null = None
+dest_of meaning.Call = None
+dest_of meaning.Broken = None
+
+abbrev pub call_in : Operand-F Operand Call → Option Call
+call_in (operand.Path p) = None
+call_in (operand.Call c) = Some c
+call_in (operand.Number n) = None
+call_in (operand.Null at) = None
+call_in (operand.True at) = None
+call_in (operand.False at) = None
+
+-- the call that a right side is, if it is one
+abbrev pub right_call : Rhs → Option Call
+right_call (rhs.Operand o) = call_in (out-Operand o)
+right_call (rhs.Malloc cast at size) = None
+
 -- the variable that the next declarator of this kind declares
 abbrev pub next_variable : Scope → Kind → Meaning
 next_variable scope (kind.Points to) = variable (kind.Points to) (length scope.vars)
@@ -215,10 +258,33 @@ module _ (g : Globals) where
   assignment scope target (rhs.Malloc cast at size) =
       assigned target (ptr_rhs.New (target_struct target)) (data_rhs.Known 0)
 
+  -- an argument for each parameter, in order
+  abbrev pub args_of : Scope → List Kind → List Operand → List Arg
+  args_of scope [] os = []
+  args_of scope (k ∷ ks) [] = []
+  args_of scope (k ∷ ks) (o ∷ os) = arg_of k (meaning_of_operand g scope o) ∷ args_of scope ks os
+
+  -- a call of the function of the file of this number, and where there is none this act
+  abbrev pub call_stmt : Scope → Option ℕ → List Operand → Option Dest → Act → ℕ → Stmt
+  call_stmt scope None os to act line = Do act line
+  call_stmt scope (Some f) os to act line = Calling f (args_of scope (params_in (function_at g (Some f))) os) to line
+
+  -- what is assigned may be the result of a call
+  abbrev pub stored : Scope → Option Call → Option Dest → Act → ℕ → Stmt
+  stored scope None to act line = Do act line
+  stored scope (Some c) to act line =
+      call_stmt scope (called_number g (out-Call c).name.text) (out-Call c).operands to act line
+
+  abbrev pub assign_stmt : Scope → Meaning → Rhs → ℕ → Stmt
+  assign_stmt scope target r line = stored scope (right_call r) (dest_of target) (assignment scope target r) line
+
   module _ (scope : Scope) where
     abbrev pub simple_stmts : Simple → List Stmt
-    simple_stmts (simple.Assign to from) = Do (assignment scope (meaning_of_path g scope to) from) to.head.at.line ∷ []
-    simple_stmts (simple.Call c) = Do (call_act (out-Call c).name.text) (out-Call c).name.at.line ∷ []
+    simple_stmts (simple.Assign to from) =
+        assign_stmt scope (meaning_of_path g scope to) from to.head.at.line ∷ []
+    simple_stmts (simple.Call c) =
+        call_stmt scope (called_number g (out-Call c).name.text) (out-Call c).operands None
+        (call_act (out-Call c).name.text) (out-Call c).name.at.line ∷ []
     simple_stmts (simple.Free at p) = Do (freed (meaning_of_path g scope p)) at.line ∷ []
 
     -- Conditions: brackets are nothing
@@ -265,11 +331,22 @@ module _ (g : Globals) where
     returned_operand None = None
     returned_operand (Some o) = returned (meaning_of_operand g scope o)
 
+    -- the value that a function returns, whose result is of this kind
+    abbrev pub returned_value : Option Kind → Option Operand → Option Arg
+    returned_value None o = None
+    returned_value (Some k) None = None
+    returned_value (Some k) (Some o) = Some (arg_of k (meaning_of_operand g scope o))
+
+    -- a `return` in the function of this number, or in `main`
+    abbrev pub return_act : Option ℕ → Option Operand → Act
+    return_act None o = Return (returned_operand o)
+    return_act (Some f) o = Leave f (returned_value (result_at g f) o)
+
   -- Declarations: what has an initialiser is assigned, on the line of its name
 
   abbrev pub initialised : Scope → Meaning → ℕ → Option Rhs → List Stmt
   initialised scope target line None = []
-  initialised scope target line (Some r) = Do (assignment scope target r) line ∷ []
+  initialised scope target line (Some r) = assign_stmt scope target r line ∷ []
 
   abbrev pub declarators_stmts : Kind → List Declarator → Scope → List Stmt
   declarators_stmts k [] scope = []
@@ -327,7 +404,7 @@ module _ (g : Globals) where
   stmt_step (stmt.While at c body) scope = While (cond_of scope c) (body.1 scope) ∷ []
   stmt_step (stmt.Do at body c) scope = DoWhile (cond_of scope c) (body.1 scope) ∷ []
   stmt_step (stmt.For at f c next body) scope = for_stmts f at c next body scope
-  stmt_step (stmt.Return at o) scope = Do (Return (returned_operand scope o)) at.line ∷ []
+  stmt_step (stmt.Return at o) scope = Do (return_act scope scope.home o) at.line ∷ []
   stmt_step (stmt.Break at) scope = Do Break at.line ∷ []
   stmt_step (stmt.Continue at) scope = Do Continue at.line ∷ []
   stmt_step (stmt.Assert at c) scope = Branch (cond_of scope c) [] (Do Error at.line ∷ []) ∷ []
@@ -361,28 +438,61 @@ field_of m = record { name = m.name; kind = field_kind_of m.kind }
 abbrev pub shape_of : StructDef → Shape
 shape_of s = record { name = s.name; fields = map field_of s.fields }
 
--- the program of main's block, which stands in that of its parameters: there are none
-abbrev pub program_with : Globals → Block → Program
-program_with g b = record {
-  shapes = record { structs = map shape_of g.structs };
-  vars = (past_block g b (opened empty_scope)).vars;
-  data_vars = (past_block g b (opened empty_scope)).data_vars;
-  funcs = [];
-  body = block_stmts g b (opened empty_scope);
-}
+-- Functions
 
-abbrev pub program_without : Globals → Program
-program_without g = record
-    { shapes = record { structs = map shape_of g.structs }; vars = []; data_vars = []; funcs = []; body = [] }
+abbrev pub result_ref : Option Kind → Scope → Option VarRef
+result_ref None scope = None
+result_ref (Some k) scope = Some (next_ref k scope)
 
--- the program of the first main
-abbrev pub program_in : Globals → List Item → Program
-program_in g [] = program_without g
-program_in g (item.Struct at name fields ∷ is) = program_in g is
-program_in g (item.Enum at name values ∷ is) = program_in g is
-program_in g (item.Proto outer head ∷ is) = program_in g is
-program_in g (item.Function head body ∷ is) = cond (is_main head) (program_with g body) (program_in g is)
-program_in g (item.Declare d ∷ is) = program_in g is
+module _ (g : Globals) where
+  -- the variables of parameters
+  abbrev pub param_refs : List Param → Scope → List VarRef
+  param_refs [] scope = []
+  param_refs (p ∷ ps) scope = next_ref (param_kind (struct_names g) p) scope
+      ∷ param_refs ps (declared scope (param_name p).text (param_kind (struct_names g) p))
+
+  -- the statements of a body
+  abbrev pub body_stmts : Head → Block → Scope → List Stmt
+  body_stmts head body scope = block_stmts g body (past_head g head scope)
+
+  abbrev pub func_of : Head → Block → Scope → Func
+  func_of head body scope = record {
+    name = head.name.text;
+    params = param_refs (params_of head.params) (opened (past_result g head scope));
+    locals = body_declares (body_stmts head body scope);
+    result = result_ref (result_of g head) (begun g head scope);
+    body = body_stmts head body scope;
+  }
+
+  -- the functions besides `main`
+  abbrev pub funcs_in : List Item → Scope → List Func
+  funcs_in [] scope = []
+  funcs_in (item.Struct at name fields ∷ is) scope = funcs_in is scope
+  funcs_in (item.Enum at name values ∷ is) scope = funcs_in is scope
+  funcs_in (item.Proto outer head ∷ is) scope = funcs_in is scope
+  funcs_in (item.Function head body ∷ is) scope =
+      cond (is_main head) [] (func_of head body scope ∷ []) ++ funcs_in is (past_item g (item.Function head body) scope)
+  funcs_in (item.Declare d ∷ is) scope = funcs_in is scope
+
+  -- the body of the first `main`
+  abbrev pub main_in : List Item → Scope → List Stmt
+  main_in [] scope = []
+  main_in (item.Struct at name fields ∷ is) scope = main_in is scope
+  main_in (item.Enum at name values ∷ is) scope = main_in is scope
+  main_in (item.Proto outer head ∷ is) scope = main_in is scope
+  main_in (item.Function head body ∷ is) scope =
+      cond (is_main head) (body_stmts head body scope) (main_in is (past_item g (item.Function head body) scope))
+  main_in (item.Declare d ∷ is) scope = main_in is scope
+
+  -- the variables of all functions are the program's
+  abbrev pub program_in : List Item → Program
+  program_in items = record {
+    shapes = record { structs = map shape_of g.structs };
+    vars = (past_items g items empty_scope).vars;
+    data_vars = (past_items g items empty_scope).data_vars;
+    funcs = funcs_in items empty_scope;
+    body = main_in items empty_scope;
+  }
 
 unfoldable pub program_of : whole.Unit → Program
 program_of u = program_in (globals_of u.items) u.items

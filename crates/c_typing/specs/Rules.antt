@@ -1,16 +1,20 @@
 -- The rules: for each, the places at which a site breaks it. `g` is what the file defines.
 use Rattle.std.specs.Prelude.{ℕ, Bool, true, false, not, ◌&&◌, ◌||◌, nat_eq, List, [], ◌∷◌, Option, Some, None, is_some}
-use Rattle.std.specs.Prelude.{slice_get}
+use Rattle.std.specs.Prelude.{is_none, slice_get}
 use Rattle.fore_base.specs.declared.limits.TheConstants.{STRUCTS, FIELDS, VARIABLES, ENUMERATORS, STATEMENTS}
 use Rattle.fore_base.specs.declared.place.Place.{Place}
+use Rattle.c_typing.specs.Functions.{called, is_called, is_counted, is_right_prototype, recurs}
 use Rattle.c_typing.specs.Globals.{Globals, struct_number, value_of, field_use, is_main, result_at}
-use Rattle.c_typing.specs.Profile.{is_allowed, is_allowed_head, is_main_head}
+pub use Rattle.c_typing.specs.Globals.{differ}
+use Rattle.c_typing.specs.Profile.{given, is_allowed, is_main_head}
 use Rattle.c_typing.specs.Scopes.{look_up}
 use Rattle.c_typing.specs.Sites.{Struct, Value, Member, Variable, Function, Site, UsesStruct, UsesEnum, Defines, Begins}
-use Rattle.c_typing.specs.Sites.{Follows, Measures, Stands, Chooses, Allocates, Casts, Sizes, Calls, Jumps, Returns}
-use Rattle.c_typing.specs.Sites.{Counts, Declares, Functions, Globally, Ends, Overflows, struct_at}
+use Rattle.c_typing.specs.Sites.{Follows, Measures, Stands, Chooses, Gives, Allocates, Casts, Sizes, Calls, Jumps}
+use Rattle.c_typing.specs.Sites.{Returns, Counts, Declares, Functions, Globally, Ends, Overflows, struct_at}
 use Rattle.c_typing.specs.Texts.{has}
 use Rattle.c_typing.specs.declared.limits.TheConstants.{FUNCTIONS}
+use Rattle.c_typing.specs.declared.meaning.Kind.{Kind}
+use Rattle.c_typing.specs.declared.meaning.Kind.TheVariants.{Points, Datum as DatumKind}
 use Rattle.c_typing.specs.declared.meaning.Meaning.{Meaning}
 use Rattle.c_typing.specs.declared.meaning.Meaning.TheVariants as meaning
 use Rattle.c_typing.specs.declared.meaning.Want.{Want}
@@ -24,12 +28,6 @@ when false at = []
 abbrev pub maybe_place : Option Place → List Place
 maybe_place None = []
 maybe_place (Some at) = at ∷ []
-
--- two structs that are defined, and are not the same
-abbrev pub differ : Option ℕ → Option ℕ → Bool
-differ None t = false
-differ (Some s) None = false
-differ (Some s) (Some t) = not (nat_eq s t)
 
 -- the struct to which a pointer is wanted
 abbrev pub wanted_struct : Want → Option ℕ
@@ -71,6 +69,22 @@ abbrev pub lacks_field : Globals → Meaning → List ℕ → Bool
 lacks_field g (meaning.Pointer p (Some shape)) x = not (is_some (field_use g shape x))
 lacks_field g _ x = false
 
+-- the struct to which the result of a function points
+abbrev pub result_struct : Option Kind → Option ℕ
+result_struct None = None
+result_struct (Some (Points to)) = to
+result_struct (Some DatumKind) = None
+
+abbrev pub gives_datum : Option Kind → Bool
+gives_datum None = false
+gives_datum (Some (Points to)) = false
+gives_datum (Some DatumKind) = true
+
+abbrev pub gives_pointer : Option Kind → Bool
+gives_pointer None = false
+gives_pointer (Some (Points to)) = true
+gives_pointer (Some DatumKind) = false
+
 -- a function returns a value exactly where it has a result; `main` may leave it out
 abbrev pub may_return : Globals → Option ℕ → Bool → Bool
 may_return g None operand = true
@@ -100,17 +114,18 @@ module _ (g : Globals) where
   t4 (UsesEnum name) = when (not (has name.text g.enums)) name.at
   t4 _ = []
 
-  -- T5: a second struct, enumeration or enumerator of one name, a second field of one struct, a second variable of one
-  -- block, a second parameter of one function, at the second name
+  -- T5: a second struct, enumeration, enumerator or function of one name, a second field of one struct, a second
+  -- variable of one block, a second parameter of one function, at the second name
   abbrev pub t5 : Site → List Place
   t5 (Defines family name earlier count) = when (has name.text earlier) name.at
   t5 _ = []
 
-  -- T6: pointers to different structs in an assignment or comparison, at the right operand; or a cast to another struct
-  -- than the target's, at the
+  -- T6: pointers to different structs in an assignment or comparison, at the right operand, an argument being assigned
+  -- to its parameter and a call being what its function returns; or a cast to another struct than the target's, at the
   -- struct's name in the cast
   abbrev pub t6 : Site → List Place
   t6 (Stands want at m) = when (differ (wanted_struct want) (struct_at m)) at
+  t6 (Gives want at result) = when (differ (wanted_struct want) (result_struct result)) at
   t6 (Casts want name) = when (differ (wanted_struct want) (struct_number g name.text)) name.at
   t6 _ = []
 
@@ -118,12 +133,14 @@ module _ (g : Globals) where
   abbrev pub t7 : Site → List Place
   t7 (Stands want at m) = when (wants_pointer want && is_datum m) at
   t7 (Chooses want at) = when (wants_pointer want) at
+  t7 (Gives want at result) = when (wants_pointer want && gives_datum result) at
   t7 _ = []
 
   -- T8: a pointer, NULL or `malloc` where data is wanted, at the operand or the word `malloc`
   abbrev pub t8 : Site → List Place
   t8 (Stands want at m) = when (wants_datum want && is_pointer m) at
   t8 (Allocates want at) = when (wants_datum want) at
+  t8 (Gives want at result) = when (wants_datum want && gives_pointer result) at
   t8 _ = []
 
   -- T9: an arrow or `sizeof *` on data, at the arrow or the `*`
@@ -147,9 +164,9 @@ module _ (g : Globals) where
   t12 (Ends main at) = when (not main) at
   t12 _ = []
 
-  -- T13: a function definition other than the first of main, at its name
+  -- T13: a call of the function around, or of one that leads to it by calls, at the called name
   abbrev pub t13 : Site → List Place
-  t13 (Functions main h) = when (main || not (is_main h)) h.name.at
+  t13 (Calls scope spot name operands) = when (recurs g scope.home name.text) name.at
   t13 _ = []
 
   -- T14: a global variable, at its first name
@@ -157,11 +174,12 @@ module _ (g : Globals) where
   t14 (Globally name) = name.at ∷ []
   t14 _ = []
 
-  -- T15: a call, prototype or head of the first main that is not of the profile, at its name
+  -- T15: a call, prototype or head of main that is not of the profile, or a definition of a given function, at its name
   abbrev pub t15 : Site → List Place
-  t15 (Calls scope spot name operands) = when (not (is_allowed g scope spot name.text operands)) name.at
-  t15 (Declares h) = when (not (is_allowed_head h)) h.name.at
-  t15 (Functions main h) = when (not main && (is_main h && not (is_main_head h))) h.name.at
+  t15 (Calls scope spot name operands) =
+      when (not (is_allowed g scope spot name.text operands || is_called g spot name.text operands)) name.at
+  t15 (Declares h) = when (not (is_right_prototype g h)) h.name.at
+  t15 (Functions h) = when (has h.name.text given || (is_main h && not (is_main_head h))) h.name.at
   t15 _ = []
 
   -- T16: a `return` with an operand in a function without a result, or without one in another function than main that
@@ -169,6 +187,13 @@ module _ (g : Globals) where
   abbrev pub t16 : Site → List Place
   t16 (Returns home operand at) = when (not (may_return g home operand)) at
   t16 _ = []
+
+  -- T17: a call with another number of arguments than parameters, or of a function without a result as a right side, at
+  -- the called name
+  abbrev pub t17 : Site → List Place
+  t17 (Calls scope spot name operands) = when (not (is_counted (called g name.text) operands)) name.at
+  t17 (Gives want at result) = when (is_none result) at
+  t17 _ = []
 
   -- K2: the first struct above the limit, at its name
   abbrev pub k2 : Site → List Place

@@ -116,6 +116,11 @@ abbrev pub declarators_of : Declare → List Declarator
 declarators_of (declare.Pointers at name vars) = vars
 declarators_of (declare.Datums base vars) = vars
 
+-- the variable that comes next
+abbrev pub next_ref : Kind → Scope → VarRef
+next_ref (Points to) scope = ref.Ptr (length scope.vars)
+next_ref Datum scope = ref.Data (length scope.data_vars)
+
 -- The result of `f` is a variable that is printed as `f()`. It is declared where no block is open, so it is in scope
 -- nowhere.
 abbrev pub result_declared : Option Kind → Text → Scope → Scope
@@ -218,3 +223,7 @@ module _ (g : Globals) where
   past_item (item.Proto outer head) scope = scope
   past_item (item.Function head body) scope = outside (past_block body (past_head head scope))
   past_item (item.Declare d) scope = scope
+
+  abbrev pub past_items : List Item → Scope → Scope
+  past_items [] scope = scope
+  past_items (i ∷ is) scope = past_items is (past_item i scope)

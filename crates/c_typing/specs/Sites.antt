@@ -22,11 +22,13 @@ use Rattle.c_ast.specs.declared.simples.Simple.{Simple}
 use Rattle.c_ast.specs.declared.simples.Simple.TheVariants as simple
 use Rattle.c_ast.specs.declared.simples.Size.{Size}
 use Rattle.c_ast.specs.declared.simples.Size.TheVariants as size
+use Rattle.c_typing.specs.Functions.{called, params_in}
 use Rattle.c_typing.specs.Globals.{Globals, struct_number, result_at}
 use Rattle.c_typing.specs.Meanings.{meaning_of_name, meaning_of_path, meaning_of_operand, place_of_operand, followed}
 use Rattle.c_typing.specs.Profile.{is_allowed}
 use Rattle.c_typing.specs.Scopes.{Scope}
 use Rattle.c_typing.specs.Texts.{Text, is_empty, joined}
+use Rattle.c_typing.specs.declared.meaning.FunctionDef.{FunctionDef}
 use Rattle.c_typing.specs.declared.meaning.Kind.{Kind}
 use Rattle.c_typing.specs.declared.meaning.Kind.TheVariants.{Points, Datum as DatumKind}
 use Rattle.c_typing.specs.declared.meaning.Meaning.{Meaning}
@@ -64,13 +66,15 @@ pub data Site : Type 0 where
   Stands : Want → Place → Meaning → Site
   -- a right side that is a choice
   Chooses : Want → Place → Site
+  -- a right side that is a call of a function of the file, and what this gives
+  Gives : Want → Place → Option Kind → Site
   -- a `malloc`
   Allocates : Want → Place → Site
   -- the struct in the cast of a `malloc`
   Casts : Want → Name → Site
   -- the `sizeof` of the struct of this number
   Sizes : Want → Place → Option ℕ → Site
-  -- a call
+  -- a call, with the function around in the scope
   Calls : Scope → Spot → Name → List Operand → Site
   -- a `break` or `continue`, and whether a loop is open
   Jumps : Bool → Place → Site
@@ -80,8 +84,8 @@ pub data Site : Type 0 where
   Counts : List Place → Site
   -- a prototype
   Declares : Head → Site
-  -- a definition of a function, and whether main was defined before it
-  Functions : Bool → Head → Site
+  -- a definition of a function
+  Functions : Head → Site
   -- a global variable
   Globally : Name → Site
   -- the end of the file, and whether main is defined
@@ -177,24 +181,42 @@ module _ (g : Globals) where
     abbrev pub wanted_sites : Spot → Want → Operand → List Site
     wanted_sites spot want o = operand_sites spot o ++ stands want o ∷ []
 
+    -- what is given to parameters of these kinds; none of the operands is to be a call
+    abbrev pub arguments_sites : List Kind → List Operand → List Site
+    arguments_sites [] os = []
+    arguments_sites (k ∷ ks) [] = []
+    arguments_sites (k ∷ ks) (o ∷ os) = wanted_sites Elsewhere (want_of_kind k) o ++ arguments_sites ks os
+
+    -- what is given to a function of the file
+    abbrev pub argument_sites : Call → List Site
+    argument_sites c = arguments_sites (params_in (called g (out-Call c).name.text)) (out-Call c).operands
+
     -- Right sides
 
     abbrev pub choice_at : Want → Place → Bool → List Site
     choice_at want at true = Chooses want at ∷ []
     choice_at want at false = []
 
-    -- a call that gives a choice
-    abbrev pub choice_sites : Want → Operand-F Operand Call → List Site
-    choice_sites want (operand.Path p) = []
-    choice_sites want (operand.Call c) =
+    abbrev pub result_at_call : Want → Place → Option FunctionDef → List Site
+    result_at_call want at None = []
+    result_at_call want at (Some f) = Gives want at f.result ∷ []
+
+    -- a call gives a choice, or the result of a function of the file
+    abbrev pub value_sites : Want → Call → List Site
+    value_sites want c =
         choice_at want (out-Call c).name.at (is_allowed g scope Right (out-Call c).name.text (out-Call c).operands)
-    choice_sites want (operand.Number n) = []
-    choice_sites want (operand.Null at) = []
-    choice_sites want (operand.True at) = []
-    choice_sites want (operand.False at) = []
+        ++ result_at_call want (out-Call c).name.at (called g (out-Call c).name.text)
+
+    abbrev pub right_step : Want → Operand → Operand-F Operand Call → List Site
+    right_step want o (operand.Path p) = wanted_sites Right want o
+    right_step want o (operand.Call c) = value_sites want c ++ call_sites Right c ++ argument_sites c
+    right_step want o (operand.Number n) = wanted_sites Right want o
+    right_step want o (operand.Null at) = wanted_sites Right want o
+    right_step want o (operand.True at) = wanted_sites Right want o
+    right_step want o (operand.False at) = wanted_sites Right want o
 
     abbrev pub right_sites : Want → Operand → List Site
-    right_sites want o = choice_sites want (out-Operand o) ++ wanted_sites Right want o
+    right_sites want o = right_step want o (out-Operand o)
 
     abbrev pub cast_sites : Want → Option Cast → List Site
     cast_sites want None = []
@@ -219,7 +241,7 @@ module _ (g : Globals) where
     abbrev pub simple_sites : Simple → List Site
     simple_sites (simple.Assign to from) =
         target_sites to ++ rhs_sites (want_of_target (meaning_of_path g scope to)) from
-    simple_sites (simple.Call c) = call_sites Statement c
+    simple_sites (simple.Call c) = call_sites Statement c ++ argument_sites c
     simple_sites (simple.Free at p) = read_sites p ++ Stands (APointer None) p.head.at (meaning_of_path g scope p) ∷ []
 
     -- Conditions: anything but a call that gives no choice may stand alone

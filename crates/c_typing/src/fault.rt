@@ -7,10 +7,10 @@ use thiserror::Error;
 /// Why a syntax tree is no program.
 #[derive(Clone, Copy, PartialEq, Eq, Debug, Error)]
 pub enum TypeFault {
-    /// One of the rules T1 to T16 is broken here.
+    /// One of the rules T1 to T17 is broken here.
     #[error("rule T{} is broken at {}:{}", .rule, .at.line, .at.column)]
     Rule { rule: u8, at: Place },
-    /// One of the limits K2 to K5, K7, K8 and K10 is passed here.
+    /// One of the limits K2 to K5 and K7 to K10 is passed here.
     #[error("limit K{} is passed at {}:{}", .limit, .at.line, .at.column)]
     Limit { limit: u8, at: Place },
     /// Want of memory.

@@ -5,10 +5,10 @@
 
 use crate::noting::Noting;
 use anyhow::{Context, Result, bail};
-use fore_base::mem_shelf::MemShelf;
-use fore_base::mem_sink::MemSink;
 use fore_base::memory::Mem;
 use fore_call::forester;
+use fore_outside::mem_shelf::MemShelf;
+use fore_outside::mem_sink::MemSink;
 use row_kit::Answers;
 use row_texts::read_text;
 use std::alloc::Global;

@@ -1,5 +1,8 @@
 pub mod Covering
 pub mod ExplorationRows
+pub mod HeldRows
+pub mod HeldSteps
+pub mod Holding
 pub mod Lists
 pub mod NoCells
 pub mod Numbered

@@ -1,29 +1,25 @@
 -- Worked values of the words on explorations, each made by hand from what the word says.
 use Rattle.std.proofs.Common.{◌≡◌, inl, inr, ℕ, zero, suc, ◌++◌, List, [], ◌∷◌, length, true, false, Option, Some}
-use Rattle.std.proofs.Common.{None, refl, sym, ◌∙◌, ap, subst, arith, lit<, lit≤, length-append, nat_cmp}
-use Rattle.std.specs.BTreeMap.{BTreeMap, get}
+use Rattle.std.proofs.Common.{None, refl, sym, ◌∙◌, ap, subst, arith, lit<, lit≤, length-append}
 use Rattle.std.proofs.lemmas.Option.{none-some, same_Some}
 use Rattle.fore_base.specs.declared.fault.Fault.TheVariants.{Leak}
 use Rattle.fore_base.specs.declared.store.Store.{Store}
-use Rattle.fore_base.specs.Lists.{IsIn}
 use Rattle.fa_core.specs.Boxes.{Boxes}
 use Rattle.fa_core.specs.Covering.{Covers}
 use Rattle.fa_core.specs.declared.faces.Face.{Face}
 use Rattle.fa_core.specs.declared.forest.Forest.{Forest}
 use Rattle.fa_core.specs.declared.forest.Target.{Target}
 use Rattle.fa_core.specs.declared.forest.Target.TheVariants.{Null, Uninit}
-use Rattle.fa_pool.specs.Indexes.{IsListed}
-use Rattle.fa_pool.specs.Keys.{with_numbers}
 use Rattle.fa_sound.specs.Soundness.{SoundForest}
 use Rattle.c_cfg.specs.Edges.{Passed, Faulted, Halted, NotPassed}
 use Rattle.c_cfg.specs.Fans.{choice_list}
 use Rattle.c_cfg.specs.Graphs.{ControlGraph}
 use Rattle.c_cfg.specs.declared.graph.Edge.{Edge}
-use Rattle.fix_core.specs.Covered.{Lists, IsCovered, NoneCovers, CoversOrNot, CoversAt, IsPlaced}
+use Rattle.fix_core.specs.Covered.{IsCovered, NoneCovers, CoversOrNot, IsPlaced}
 use Rattle.fix_core.specs.declared.nodes.Placed.TheVariants.{Covered, Added, Full as NoRoom}
 use Rattle.fix_core.specs.Explorations.{is_head, NoLater, IsWay, begins, goes, IsCared, IsExplored}
 use Rattle.fix_core.specs.Follows.{IsMember, IsStateAt}
-use Rattle.fix_core.specs.Listed.{numbers_at, key_at, AreListed}
+use Rattle.fix_core.specs.Listed.{numbers_at}
 use Rattle.fix_core.specs.States.{AbstractState, forest_of, IsOver}
 use Rattle.fix_core.specs.declared.explored.AbsTrace.{AbsTrace}
 use Rattle.fix_core.specs.declared.explored.Explored.TheVariants.{Closed, Faulty, Spent}
@@ -157,37 +153,13 @@ module _ (T : Boxes) where
   no_middle_elsewhere : (k : ℕ) (F M : Forest) (e : Edge) → IsStateAt T false k F e (state [] (Some M)) → ⊥
   no_middle_elsewhere k F M e h = none-some M (sym h.no_middle)
 
--- Lists of numbers, and the numbers of nodes by their keys
+-- Lists of numbers
 
 at_a_place : numbers_at ((1 ∷ []) ∷ (0 ∷ 2 ∷ []) ∷ []) 1 ≡ 0 ∷ 2 ∷ []
 at_a_place = refl
 
 past_the_places : numbers_at ((1 ∷ []) ∷ []) 1 ≡ []
 past_the_places = refl
-
--- node 0 is at location 0, and its forest has no variable, no datum and 0 roots; node 1 at location 1 has a variable
--- that is null
-key_of_n0 : key_at n0.head.location n0.state.forest ≡ with_numbers 0 (0 ∷ 0 ∷ [])
-key_of_n0 = refl
-
-key_of_n1 : key_at n1.head.location n1.state.forest ≡ with_numbers 0 (1 ∷ 0 ∷ 0 ∷ [])
-key_of_n1 = refl
-
-module _ (there : BTreeMap ℕ (List ℕ)) where
-  -- each of both in the list of its key
-  are_listed : get nat_cmp there (key_at n0.head.location n0.state.forest) ≡ Some (0 ∷ [])
-      → get nat_cmp there (key_at n1.head.location n1.state.forest) ≡ Some (1 ∷ []) → AreListed (n0 ∷ n1 ∷ []) there
-  are_listed at0 at1 zero n i =
-      subst (λ (x : Node). IsListed there (key_at x.head.location x.state.forest) 0) (same_Some n0 n i)
-      (0 ∷ [], at0, inl refl)
-  are_listed at0 at1 (suc zero) n i =
-      subst (λ (x : Node). IsListed there (key_at x.head.location x.state.forest) 1) (same_Some n1 n i)
-      (1 ∷ [], at1, inl refl)
-  are_listed at0 at1 (suc (suc j)) n i = absurd (none-some n i)
-
-  -- node 1 is in no list of its key
-  not_listed : get nat_cmp there (key_at n1.head.location n1.state.forest) ≡ None → AreListed (n0 ∷ n1 ∷ []) there → ⊥
-  not_listed none h = let at = h 1 n1 refl in none-some at.0 (sym none ∙ at.1)
 
 -- Forests that are there or not
 
@@ -214,22 +186,6 @@ other c = omega (arith, ap (λ (vs : List Target). length vs) c.vars)
 covered : IsCovered nodes 1 (bare (Null ∷ []))
 covered = record { at = 1; node = n1; is = refl; there = refl; covers = same (Null ∷ []) }
 
-covers_at : CoversAt nodes 1 1 (bare (Null ∷ [])) true
-covers_at = covered
-
-covers_other_targets : CoversAt nodes 1 1 (bare []) false
-covers_other_targets m i l c = other (subst (λ (x : Node). Covers x.state.forest (bare [])) (sym (same_Some n1 m i)) c)
-
-covers_elsewhere : CoversAt nodes 1 2 (bare (Null ∷ [])) false
-covers_elsewhere m i l c = let e : 1 ≡ 2 = subst (λ (x : Node). x.head.location ≡ 2) (sym (same_Some n1 m i)) l in
-    omega (arith, e)
-
-covers_past_the_end : CoversAt nodes 4 1 (bare (Null ∷ [])) false
-covers_past_the_end m i l c = none-some m i
-
-covers_after_all : CoversAt nodes 1 1 (bare (Null ∷ [])) false → ⊥
-covers_after_all h = h n1 refl refl (same (Null ∷ []))
-
 one_covers : CoversOrNot nodes 1 (bare (Null ∷ [])) true
 one_covers = covered
 
@@ -242,25 +198,6 @@ none_does zero m i l c =
     subst (λ (x : Node). Covers x.state.forest (bare (Null ∷ []))) (sym (same_Some n0 m i)) c in
     omega (arith, ap (λ (vs : List Target). length vs) e.vars)
 none_does (suc j) m i l c = none-some m i
-
-lists : Lists (1 ∷ []) (n0 ∷ n1 ∷ []) (key_at 1 (bare (Null ∷ [])))
-lists zero n i k =
-    absurd (other (subst (λ (x : Node). key_at x.head.location x.state.forest ≡ key_at 1 (bare (Null ∷ [])))
-    (sym (same_Some n0 n i)) k))
-  where
-    -- 1,000,003 times itself
-    other : key_at 0 (bare []) ≡ key_at 1 (bare (Null ∷ [])) → ⊥
-    other k = let e : 0 ≡ 1000006000009 = k in omega (arith, e)
-lists (suc zero) n i k = inl refl
-lists (suc (suc j)) n i k = absurd (none-some n i)
-
--- node 3 is at location 1 too
-lists_too_few : Lists (1 ∷ []) nodes (key_at 1 (bare (Uninit ∷ []))) → ⊥
-lists_too_few h = no_three (h 3 n3 refl refl)
-  where
-    no_three : IsIn {X = ℕ} 3 (1 ∷ []) → ⊥
-    no_three (inl e) = omega (arith, e)
-    no_three (inr i) = i
 
 -- A state that is to be a node: node 1 covers it, whether or not the budget is full; node 0 alone does not
 

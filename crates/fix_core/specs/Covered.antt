@@ -1,18 +1,11 @@
 -- Which nodes cover a forest.
 use Rattle.std.specs.Prelude.{◌≡◌, ◌++◌, ℕ, List, [], ◌∷◌, length, Bool, true, false}
-use Rattle.fore_base.specs.Lists.{IsIn}
 use Rattle.fa_core.specs.Covering.{Covers}
 use Rattle.fa_core.specs.declared.forest.Forest.{Forest}
 use Rattle.fix_core.specs.declared.nodes.Node.{Node}
 use Rattle.fix_core.specs.declared.nodes.Placed.{Placed}
 use Rattle.fix_core.specs.declared.nodes.Placed.TheVariants.{Covered, Added, Full}
 use Rattle.fix_core.specs.Explorations.{IsNode}
-use Rattle.fix_core.specs.Listed.{key_at}
-
--- the number of each node with the key is in the list
-abbrev pub Lists : List ℕ → List Node → ℕ → Type 0
-Lists numbers nodes key = (j : ℕ) (n : Node) → IsNode nodes j n → key_at n.head.location n.state.forest ≡ key
-    → IsIn j numbers
 
 -- a node of the location covers the forest
 pub record IsCovered (nodes : List Node) (location : ℕ) (F : Forest) : Type 0 where
@@ -34,11 +27,6 @@ NoneCovers nodes location F = (j : ℕ) → NotCovers nodes location F j
 abbrev pub CoversOrNot : List Node → ℕ → Forest → Bool → Type 0
 CoversOrNot nodes location F true = IsCovered nodes location F
 CoversOrNot nodes location F false = NoneCovers nodes location F
-
--- a node of the location covers the forest, or this one does not
-abbrev pub CoversAt : List Node → ℕ → ℕ → Forest → Bool → Type 0
-CoversAt nodes j location F true = IsCovered nodes location F
-CoversAt nodes j location F false = NotCovers nodes location F j
 
 -- the node n is covered, and the nodes are as before; it is not covered, and is added at the end; or it is not covered,
 -- and the nodes, which are as many as the budget, are as before

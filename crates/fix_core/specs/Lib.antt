@@ -1,5 +1,7 @@
 pub mod Covered
 pub mod Explorations
 pub mod Follows
+pub mod Held
+pub mod inner
 pub mod Listed
 pub mod States

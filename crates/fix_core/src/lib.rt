@@ -1,14 +1,15 @@
 //! Explorations of a control graph by abstract states, as definitions and as values: the states, the nodes, and the
 //! traces.
 //!
-//! A node is a set of stores at a location, given by a forest. `Nodes` keeps the nodes of an exploration and answers
-//! whether one of a location covers a forest; a state becomes a node only where none does. `specs/` says when nodes
-//! are an exploration, and what its three ends are.
+//! A node is a set of stores at a location, given by a forest. `Nodes` keeps the nodes of an exploration, with the
+//! components of their forests in one pool; a state becomes a node only where no node of its location covers it.
+//! `specs/` says when nodes are an exploration, and what its three ends are.
 #![tactic(auto)]
 
 pub mod crossing;
 pub mod edges;
 pub mod explored;
+mod held;
 pub mod nodes;
 pub mod numbers;
 pub mod states;

@@ -1,26 +1,29 @@
 // The nodes of an exploration.
-ghost use Rattle.std.specs.Prelude.{◌≡◌, ◌↔◌, ◌<◌, ◌≤◌, ◌+◌, ◌++◌, ◌∷◌, [], ◌^◌, length, None, Some};
-ghost use Rattle.std.specs.Prelude.{IsTrue, IfOk, OnOk, OnErr, MatchOption};
-ghost use Rattle.fix_core.specs.Explorations.{IsNode};
-ghost use Rattle.fix_core.specs.declared.nodes.Node.{Node};
+ghost use Rattle.std.specs.Prelude.{◌≡◌, ◌<◌, ◌≤◌, ◌∷◌, [], length, None, Some};
+ghost use Rattle.std.specs.Prelude.{IfOk, OnErr, MatchOption};
+ghost use Rattle.par_kit.specs.Crews.{IsJobs};
 ghost use Rattle.fore_base.specs.Lists.{IsIn};
-ghost use Rattle.fa_core.specs.Covering.{Covers};
-ghost use Rattle.fix_core.specs.Covered.{CoversAt, CoversOrNot, IsPlaced, Lists};
-ghost use Rattle.fix_core.specs.Listed.{key_at};
+ghost use Rattle.fa_core.specs.Filled.{IsSound};
+ghost use Rattle.fa_pool.specs.Pools.{IsKeptIn};
+ghost use Rattle.fa_groups.specs.Reads.{read};
+ghost use Rattle.fix_core.specs.Covered.{IsPlaced};
+ghost use Rattle.fix_core.specs.Explorations.{IsNode};
+ghost use Rattle.fix_core.specs.inner.Holding.{IsHeldAlone};
+ghost use Rattle.fix_core.specs.declared.nodes.Node.{Node};
 
+use crate::held::Held;
 use crate::states::State;
+use fa_core::faces::Face;
 use fa_core::folds::FoldStep;
-use fa_core::forest::Forest;
-use fa_cover::covers;
-use fa_pool::indexes::{Index, add};
-use fa_pool::keys::mixed;
-use fa_pool::looks::with_looks;
+use fa_pool::{Kept, Pool};
 use fa_sound::Sound;
-use fore_base::list::List;
+use fore_base::list::Copies;
 use fore_base::memory::Mem;
+use par_kit::crew::Crew;
+use par_kit::gate::Gate;
 use std::alloc::Global;
-use std::collections::BTreeMap;
 use std::marker::Model;
+use std::thread::Threads;
 
 /// Where a node stands, and how it was reached: the number of its parent and that of the edge, with the edge's choice.
 /// Node 0 has only its location.
@@ -57,25 +60,24 @@ pub struct Due {
     pub forest: Sound,
 }
 
-/// The nodes of an exploration, seen as their list. The number of a node is its place in it, and they are fewer than
-/// 2^32.
+/// The nodes of an exploration, one at least, seen as their list. The number of a node is its place in it, and they are
+/// fewer than 2^32. Their forests stand over one face, and equal components of them are held once.
 #[derive(Drop)]
 pub struct Nodes {
-    items: List<Node>,
-    // the number of each node, listed by the key of its location and of what its forest looks like
-    there: Index,
+    face: Face,
+    held: Held,
 }
 
 impl Model for Nodes {
-    ghost use Rattle.std.specs.Prelude.{List, ◌<◌, ◌^◌, length};
+    ghost use Rattle.std.specs.Prelude.{List, ◌<◌, length};
     ghost use Rattle.fix_core.specs.declared.nodes.Node.{Node};
-    ghost use Rattle.fix_core.specs.Listed.{AreListed};
+    ghost use Rattle.fix_core.specs.Held.{nodes_of, IsHeld};
 
     ghost Value = { List Node };
 
-    ghost view = { λ nodes. nodes.items };
+    ghost view = { λ nodes. nodes_of nodes.face nodes.held };
 
-    ghost invariant = { λ nodes. (length nodes.items < 2 ^ 32) × AreListed nodes.items nodes.there };
+    ghost invariant = { λ nodes. (0 < length nodes.held.nodes) × IsHeld nodes.face nodes.held };
 }
 
 impl Nodes {
@@ -83,7 +85,7 @@ impl Nodes {
     pub fn len(&self) -> u32
         ensures { result ≡ length self.now }
     {
-        self.items.len() as u32
+        self.held.nodes.len() as u32
     }
 
     /// Where the node stands, and how it was reached.
@@ -91,7 +93,7 @@ impl Nodes {
         requires { node < length self.now }
         ensures { (n : Node) → IsNode self.now node n → result.now ≡ n.head }
     {
-        &self.items.at(node as usize).head
+        &self.held.nodes.at(node as usize).head
     }
 
     /// The forest of the node. Err is want of memory.
@@ -100,7 +102,8 @@ impl Nodes {
         ensures { IfOk result (λ forest. (n : Node) → IsNode self.now node n → (forest.forest ≡ n.state.forest)
             × (forest.face ≡ n.state.face)) }
     {
-        self.items.at(node as usize).state.forest().copy(alloc)
+        let kept = &self.held.nodes.at(node as usize).forest;
+        sound_of(alloc, &self.held.pool, &self.face, kept)
     }
 
     /// The forest of the node before it was folded and abstracted: there exactly at a loop head other than node 0. Err
@@ -111,8 +114,11 @@ impl Nodes {
             → MatchOption middle (n.state.middle ≡ None)
             (λ forest. (n.state.middle ≡ Some forest.forest) × (forest.face ≡ n.state.face))) }
     {
-        match self.items.at(node as usize).state.middle() {
-            Some(middle) => Ok(Some(middle.copy(alloc)?)),
+        match &self.held.nodes.at(node as usize).middle {
+            Some(kept) => {
+                let middle = sound_of(alloc, &self.held.pool, &self.face, kept)?;
+                Ok(Some(middle))
+            }
             None => Ok(None),
         }
     }
@@ -122,7 +128,7 @@ impl Nodes {
         requires { node < length self.now }
         ensures { (n : Node) → IsNode self.now node n → result.now ≡ n.state.folds }
     {
-        self.items.at(node as usize).state.folds()
+        self.held.nodes.at(node as usize).folds.as_slice()
     }
 
     /// The location and the forest of the node. Err is want of memory.
@@ -137,113 +143,58 @@ impl Nodes {
         })
     }
 
-    /// No nodes.
-    pub fn none(alloc: Global) -> Nodes
-        ensures { result ≡ [] }
+    /// The node alone. Err is want of memory.
+    pub fn one(alloc: Global, node: &Node) -> Mem<Nodes>
+        ensures { IfOk result (λ nodes. nodes ≡ node.now ∷ []) }
     {
-        Nodes {
-            items: List::new(alloc),
-            there: BTreeMap::new(alloc),
-        }
-    }
-
-    /// Adds a node at the end. Err is want of memory.
-    pub fn push(&mut self, alloc: Global, node: Node) -> Mem<()>
-        requires { length self.old + 1 < 2 ^ 32 }
-        ensures ok { OnOk result (self.new ≡ self.old ++ node ∷ []) }
-        ensures err { OnErr result (self.new ≡ self.old) }
-    {
-        let key = key_at(node.head.location, node.state.forest().forest());
-        add(alloc, &mut self.there, key, self.items.len())?;
-        self.items.push(node)
+        let face = node.state.forest().face().copy(alloc)?;
+        let held = hold_one(alloc, node)?;
+        Ok(Nodes { face, held })
     }
 
     /// Adds a node with this head and an equal state, unless a node of its location covers it, or the budget of nodes
-    /// is full. Err is want of memory.
-    pub fn add_uncovered(
+    /// is full. Only nodes of its location are asked whose targets, data and number of roots are those of the state,
+    /// since no other one can cover it. The crew runs 1 to 64 jobs and has no bearing on what becomes of the state.
+    ///
+    /// # Errors
+    ///
+    /// Want of memory; the nodes stay as they were.
+    pub fn add_uncovered<R: Threads + Sync, G: Gate>(
         &mut self,
+        rt: &R,
         alloc: Global,
         head: NodeHead,
         state: &State,
         budget: u32,
+        crew: &Crew<'_, G>,
     ) -> Mem<Placed>
+        requires jobs { IsJobs crew.now.jobs }
         requires faces { (n : Node) → IsIn n self.old → n.state.face ≡ state.now.face }
         requires within { length self.old ≤ budget }
-        ensures { IfOk result (IsPlaced self.old (record { head = head; state = state.now }) budget self.new) }
+        ensures placed { IfOk result (IsPlaced self.old (record { head = head; state = state.now }) budget self.new) }
+        ensures err { OnErr result (self.new ≡ self.old) }
     {
-        if self.is_covered(alloc, head.location, state)? {
-            return Ok(Placed::Covered);
-        }
-        if self.len() == budget {
-            return Ok(Placed::Full);
-        }
-        let state = state.copy(alloc)?;
-        self.push(alloc, Node { head, state })?;
-        Ok(Placed::Added)
-    }
-
-    /// Whether a node of the location covers the forest of the state. Only nodes of this location are looked at whose
-    /// targets, data and number of roots are those of the state. Err is want of memory.
-    pub fn is_covered(&self, alloc: Global, location: u32, state: &State) -> Mem<bool>
-        requires { (n : Node) → IsIn n self.now → n.state.face ≡ state.now.face }
-        ensures { IfOk result (CoversOrNot self.now location state.now.forest) }
-    {
-        let key = key_at(location, state.forest().forest());
-        match self.there.get(&key) {
-            Some(numbers) => self.is_covered_in(alloc, numbers.as_slice(), location, state),
-            None => Ok(false),
-        }
-    }
-
-    /// The same, where the numbers of the nodes with the key of the state are among these.
-    fn is_covered_in(
-        &self,
-        alloc: Global,
-        numbers: &[usize],
-        location: u32,
-        state: &State,
-    ) -> Mem<bool>
-        requires faces { (n : Node) → IsIn n self.now → n.state.face ≡ state.now.face }
-        requires numbers { Lists numbers.now self.now (key_at location state.now.forest) }
-        ensures { IfOk result (CoversOrNot self.now location state.now.forest) }
-    {
-        for number in numbers {
-            if self.covers_at(alloc, *number, location, state)? {
-                return Ok(true);
-            }
-        }
-        Ok(false)
-    }
-
-    /// Whether the node is there, stands at the location and covers the forest of the state. Err is want of memory.
-    fn covers_at(&self, alloc: Global, number: usize, location: u32, state: &State) -> Mem<bool>
-        requires { (n : Node) → IsIn n self.now → n.state.face ≡ state.now.face }
-        ensures { IfOk result (CoversAt self.now number location state.now.forest) }
-    {
-        match self.items.get(number) {
-            Some(node) if node.head.location == location => covers_state(alloc, node, state),
-            _ => Ok(false),
-        }
+        self.held.place(rt, alloc, head, state, budget, crew)
     }
 }
 
-/// Whether the node's forest covers that of the state. Err is want of memory.
-fn covers_state(alloc: Global, node: &Node, state: &State) -> Mem<bool>
-    requires { node.now.state.face ≡ state.now.face }
-    ensures { IfOk result (λ yes. IsTrue yes ↔ Covers node.now.state.forest state.now.forest) }
+/// The node alone, held. Err is want of memory.
+fn hold_one(alloc: Global, node: &Node) -> Mem<Held>
+    ensures { IfOk result (IsHeldAlone node.now) }
 {
-    covers(alloc, node.state.forest(), state.forest())
+    let mut held = Held::none(alloc);
+    let forest = held.keep(alloc, node.state.forest())?;
+    held.add(alloc, node.head, &node.state, forest)?;
+    Ok(held)
 }
 
-/// The key of a location and of what a forest there looks like: its targets and data, and how many roots it has.
-fn key_at(location: u32, forest: &Forest) -> u64
-    ensures { result ≡ key_at location forest.now }
+/// The sound forest as which the kept one reads. Err is want of memory.
+fn sound_of(alloc: Global, pool: &Pool, face: &Face, kept: &Kept) -> Mem<Sound>
+    requires kept { IsKeptIn pool.now kept.now }
+    requires sound { IsSound face.now (read pool.now kept.now) }
+    ensures forest { IfOk result (λ made. made.forest ≡ read pool.now kept.now) }
+    ensures face { IfOk result (λ made. made.face ≡ face.now) }
 {
-    let key = mixed(0, location as u64);
-    with_looks(
-        key,
-        forest.vars.as_slice(),
-        forest.data_vars.as_slice(),
-        forest.autos.len(),
-    )
+    let forest = pool.forest(alloc, kept)?;
+    Sound::of(alloc, forest, face)
 }

@@ -72,7 +72,7 @@ fn work<R: Threads + Sync, G: Gate>(task: &Task<'_, R>, crew: &Crew<'_, G>) -> M
     let mut at = 0;
     'rounds: while at < nodes.len() {
         let round = round_of(task, &nodes, at, crew)?;
-        let (here, how) = take_round(task, &mut nodes, at, round.as_slice())?;
+        let (here, how) = take_round(task, &mut nodes, at, round.as_slice(), crew)?;
         match how {
             Taken::All => at += round.len() as u32,
             Taken::Fault { edge, bad } => {

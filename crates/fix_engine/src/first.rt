@@ -27,8 +27,8 @@ pub fn first_node(alloc: Global, graph: &Graph, table: &BoxTable) -> Mem<Nodes>
         choice: None,
     };
     let state = State::carried(alloc, forest);
-    let mut nodes = Nodes::none(alloc);
-    nodes.push(alloc, Node { head, state })?;
+    let node = Node { head, state };
+    let nodes = Nodes::one(alloc, &node)?;
     Ok(nodes)
 }
 

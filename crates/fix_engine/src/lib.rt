@@ -6,6 +6,7 @@
 //! an edge makes of a node, `fix_trace` the way to one, and `fix_verdict`, by `judge`, what that means for the program.
 #![tactic(auto)]
 
+mod crews;
 pub mod exploring;
 mod first;
 mod rounds;

@@ -5,6 +5,7 @@ ghost use Rattle.fix_engine.specs.inner.Rounds.{AreDues, IsRound, IsTakenRound};
 ghost use Rattle.fix_engine.specs.inner.Taking.{IsFront};
 ghost use Rattle.par_kit.specs.Crews.{IsJobs};
 
+use crate::crews::{crew_for, rules_of_all};
 use crate::taking::{Taken, take_node};
 use fix_core::nodes::{Due, Nodes};
 use fix_successors::{EdgeImage, Task, images_of};
@@ -41,7 +42,8 @@ impl<'a, R: Threads + Sync> Maker<Due, List<EdgeImage>> for ImageMaker<'a, R> {
     }
 }
 
-/// The images of the next nodes, at most one node for each job. Err is want of memory.
+/// The images of the next nodes, at most one node for each job. Where their forests are small, no thread is begun. Err is
+/// want of memory.
 pub fn round_of<R: Threads + Sync, G: Gate>(
     task: &Task<'_, R>,
     nodes: &Nodes,
@@ -58,12 +60,13 @@ pub fn round_of<R: Threads + Sync, G: Gate>(
     let left = nodes.len() - at;
     let many = left.min(crew.jobs as u32);
     let dues = dues_of(task.alloc(), nodes, at, many)?;
+    let crew = crew_for(crew, rules_of_all(&dues));
     make_all(
         task.rt(),
         task.alloc(),
         dues.as_slice(),
         &ImageMaker { task },
-        crew,
+        &crew,
     )
 }
 
@@ -83,12 +86,14 @@ fn dues_of(alloc: Global, nodes: &Nodes, at: u32, many: u32) -> Mem<List<Due>>
 
 /// Takes up the images of a round, node by node, and says at which node the work ended, which is the next one where all
 /// were taken up, and how. Err is want of memory.
-pub fn take_round<R: Threads + Sync>(
+pub fn take_round<R: Threads + Sync, G: Gate>(
     task: &Task<'_, R>,
     nodes: &mut Nodes,
     at: u32,
     round: &[List<EdgeImage>],
+    crew: &Crew<'_, G>,
 ) -> Mem<(u32, Taken)>
+    requires jobs { IsJobs crew.now.jobs }
     requires front { IsFront task.now.table task.now.graph task.now.height nodes.old at task.now.budget }
     requires round { IsRound task.now.table task.now.graph task.now.height nodes.old at round.now }
     requires fits { at + length round.now < 2 ^ 32 }
@@ -98,7 +103,7 @@ pub fn take_round<R: Threads + Sync>(
 {
     let mut here = at;
     for images in round {
-        match take_node(task, nodes, here, images.as_slice())? {
+        match take_node(task, nodes, here, images.as_slice(), crew)? {
             Taken::All => here += 1,
             how => return Ok((here, how)),
         }

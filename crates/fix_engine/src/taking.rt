@@ -2,18 +2,22 @@
 // location covers it.
 ghost use Rattle.std.specs.Prelude.{◌≡◌, ◌≤◌, [], length, IfOk};
 ghost use Rattle.fore_base.specs.Lists.{Every};
+ghost use Rattle.par_kit.specs.Crews.{IsJobs};
 ghost use Rattle.fix_successors.specs.Images.{IsImageAt, edge_numbers};
 ghost use Rattle.fix_successors.specs.Exits.{Rises};
 ghost use Rattle.fix_core.specs.States.{AbstractState};
 ghost use Rattle.fix_engine.specs.inner.Taking.{AreDue, AreFirstTaken, IsMid, IsStage, IsTakenEdge, IsTakenNode};
 ghost use Rattle.fix_engine.specs.inner.Taking.{all_or_full, child};
 
+use crate::crews::{crew_for, rules_of};
 use c_cfg::graph::Edge;
 use fix_core::edges::edge_at;
 use fix_core::nodes::{NodeHead, Nodes, Placed};
 use fix_core::states::State;
 use fix_successors::{EdgeImage, Image, Task, copy_bad};
 use fore_base::memory::Mem;
+use par_kit::crew::Crew;
+use par_kit::gate::Gate;
 use std::thread::Threads;
 use sym_step::Bad;
 
@@ -29,12 +33,14 @@ pub enum Taken {
 }
 
 /// Takes up the images of a node, edge by edge. Err is want of memory.
-pub fn take_node<R: Threads + Sync>(
+pub fn take_node<R: Threads + Sync, G: Gate>(
     task: &Task<'_, R>,
     nodes: &mut Nodes,
     at: u32,
     images: &[EdgeImage],
+    crew: &Crew<'_, G>,
 ) -> Mem<Taken>
+    requires jobs { IsJobs crew.now.jobs }
     requires stage { IsStage task.now.table task.now.graph task.now.height nodes.old at (edge_numbers images.now) }
     requires rises { Rises (edge_numbers images.now) }
     requires within { length nodes.old ≤ task.now.budget }
@@ -44,7 +50,7 @@ pub fn take_node<R: Threads + Sync>(
         task.now.budget nodes.new) }
 {
     for next in images {
-        match take_edge(task, nodes, at, next)? {
+        match take_edge(task, nodes, at, next, crew)? {
             Taken::All => {}
             ended => return Ok(ended),
         }
@@ -53,12 +59,14 @@ pub fn take_node<R: Threads + Sync>(
 }
 
 /// Takes up one edge: a fault first, else the states to which it leads. Err is want of memory.
-fn take_edge<R: Threads + Sync>(
+fn take_edge<R: Threads + Sync, G: Gate>(
     task: &Task<'_, R>,
     nodes: &mut Nodes,
     at: u32,
     next: &EdgeImage,
+    crew: &Crew<'_, G>,
 ) -> Mem<Taken>
+    requires jobs { IsJobs crew.now.jobs }
     requires mid { IsMid task.now.table task.now.graph task.now.height nodes.old at next.now.edge [] }
     requires within { length nodes.old ≤ task.now.budget }
     requires image { IsImageAt task.now.table task.now.graph task.now.height nodes.old at next.now }
@@ -75,7 +83,7 @@ fn take_edge<R: Threads + Sync>(
             })
         }
         Image::States { states } => {
-            let room = take_states(task, nodes, at, next.edge, states.as_slice())?;
+            let room = take_states(task, nodes, at, next.edge, states.as_slice(), crew)?;
             Ok(all_or_full(room))
         }
     }
@@ -90,13 +98,15 @@ fn all_or_full(room: bool) -> Taken
 
 /// Takes up the states to which an edge leads: each becomes a node, unless a node of its location covers it. False
 /// where the budget has no room for one. Err is want of memory.
-fn take_states<R: Threads + Sync>(
+fn take_states<R: Threads + Sync, G: Gate>(
     task: &Task<'_, R>,
     nodes: &mut Nodes,
     at: u32,
     number: u32,
     states: &[State],
+    crew: &Crew<'_, G>,
 ) -> Mem<bool>
+    requires jobs { IsJobs crew.now.jobs }
     requires mid { IsMid task.now.table task.now.graph task.now.height nodes.old at number [] }
     requires within { length nodes.old ≤ task.now.budget }
     requires due { AreDue task.now.table task.now.graph task.now.height nodes.old at number states.now }
@@ -107,7 +117,8 @@ fn take_states<R: Threads + Sync>(
     task.known();
     let head = head_of(at, number, edge_at(task.graph(), number));
     for state in states {
-        match nodes.add_uncovered(task.alloc(), head, state, task.budget())? {
+        let crew = crew_for(crew, rules_of(state.forest().forest()));
+        match nodes.add_uncovered(task.rt(), task.alloc(), head, state, task.budget(), &crew)? {
             Placed::Full => return Ok(false),
             _ => {}
         }

@@ -1,6 +1,6 @@
 -- How an answer reaches its two sinks.
 use Rattle.std.specs.Prelude.{◌≡◌, ◌⊎◌, ℕ, List}
-use Rattle.fore_base.specs.Outside.{Rose, Grew, GrewByPrefix}
+use Rattle.fore_outside.specs.Outside.{Rose, Grew, GrewByPrefix}
 use Rattle.fore_answer.specs.declared.answer.Answer.{Answer}
 use Rattle.fore_answer.specs.Writings.{Writing}
 use Rattle.fore_answer.specs.Texts.{out_text, notes_text}

@@ -1,6 +1,6 @@
 -- What a sink tells before and after an answer is delivered.
 use Rattle.std.specs.Prelude.{ℕ, List, Option}
-use Rattle.fore_base.specs.declared.sink.Sink.{Ghosts as SinkMeaning}
+use Rattle.fore_outside.specs.declared.sink.Sink.{Ghosts as SinkMeaning}
 
 -- what a sink tells at a moment: the bytes that were written so far, and how often a write has failed
 pub record SinkView : Type 0 where

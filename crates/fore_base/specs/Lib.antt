@@ -1,14 +1,9 @@
-pub mod Counts
 pub mod Faults
 pub mod formers
 pub mod Heap
 pub mod Lends
 pub mod Lists
 pub mod Marks
-pub mod MemShelves
-pub mod MemSinks
-pub mod NamedFiles
 pub mod Names
-pub mod Outside
 pub mod Shapes
 pub mod Stores

@@ -3,13 +3,9 @@
 use crate::boxed::Boxed;
 use crate::fault::Fault;
 use crate::list::List;
-use crate::mem_shelf::MemShelf;
-use crate::mem_sink::MemSink;
 use crate::names::Names;
 use crate::place::Place;
 use crate::shape::Shapes;
-use crate::shelf::ShelfFault;
-use crate::sink::SinkFault;
 use crate::store::Store;
 use crate::text::Text;
 
@@ -42,18 +38,6 @@ pub fn shapes_cross(shapes: &Shapes, text: &Text) {
 pub fn fault_crosses(fault: &Fault, place: &Place) {
     crosses(fault);
     crosses(place)
-}
-
-/// The shelf and the sink in memory cross threads.
-pub fn memory_crosses(shelf: &MemShelf, sink: &MemSink) {
-    crosses(shelf);
-    crosses(sink)
-}
-
-/// The faults of reading and writing cross threads.
-pub fn outside_faults_cross(shelf_fault: &ShelfFault, sink_fault: &SinkFault) {
-    crosses(shelf_fault);
-    crosses(sink_fault)
 }
 
 /// Names cross threads.

@@ -1,9 +1,9 @@
 -- What is right for one file after another is right for what is asked, and what is right for that for the words.
 use Rattle.std.proofs.Common.{◌≡◌, ◌≤◌, ◌⊎◌, inl, inr, List, [], ◌∷◌, ◌++◌, ℕ, None, Some, sym, ◌∙◌, ap, subst, refl, arith}
 use Rattle.std.proofs.lemmas.List.{append_assoc}
-use Rattle.fore_base.specs.NamedFiles.{reading}
-use Rattle.fore_base.specs.Outside.{Rose}
-use Rattle.fore_base.specs.declared.named_files.NamedFile.{NamedFile}
+use Rattle.fore_outside.specs.NamedFiles.{reading}
+use Rattle.fore_outside.specs.Outside.{Rose}
+use Rattle.fore_outside.specs.declared.named_files.NamedFile.{NamedFile}
 use Rattle.c_types.specs.Program.{Program}
 use Rattle.fa_core.specs.Boxes.{Boxes}
 use Rattle.c_types.specs.declared.mode.MallocMode.{MallocMode}

@@ -26,8 +26,8 @@ use Rattle.std.proofs.Common.{
   true≢false,
   arith,
 }
-use Rattle.fore_base.specs.NamedFiles.{reading}
-use Rattle.fore_base.specs.declared.named_files.NamedFile.{NamedFile}
+use Rattle.fore_outside.specs.NamedFiles.{reading}
+use Rattle.fore_outside.specs.declared.named_files.NamedFile.{NamedFile}
 use Rattle.fore_base.specs.declared.shape.Shapes.{Shapes}
 use Rattle.c_types.specs.Program.{Program}
 use Rattle.c_types.specs.declared.mode.MallocMode.{MallocMode}

@@ -30,8 +30,8 @@ use Rattle.c_types.specs.declared.outcome.Outcome.{Outcome}
 use Rattle.c_types.specs.declared.outcome.Outcome.TheVariants.{Ended, Fault, Starved, BadChoice, StillRunning}
 use Rattle.c_front.specs.Files.{IsProgramOf, BreaksFirst}
 use Rattle.c_front.proofs.FileLaws.{one_program, program_or_breach}
-use Rattle.fore_base.specs.NamedFiles.{reading}
-use Rattle.fore_base.specs.declared.named_files.NamedFile.{NamedFile}
+use Rattle.fore_outside.specs.NamedFiles.{reading}
+use Rattle.fore_outside.specs.declared.named_files.NamedFile.{NamedFile}
 use Rattle.fore_base.specs.declared.limits.TheConstants.{FILE_BYTES, BOX_FILE_BYTES}
 use Rattle.fore_base.specs.declared.shape.Shapes.{Shapes}
 use Rattle.fa_core.specs.Boxes.{Boxes}

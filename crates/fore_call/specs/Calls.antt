@@ -1,7 +1,7 @@
 -- One call: what it is asked, and what it finds and leaves, as far as its shelf and its sinks tell.
 use Rattle.std.specs.Prelude.{ℕ, List, String}
 use Rattle.std.specs.declared.alloc.Global.{Global}
-use Rattle.fore_base.specs.declared.shelf.Shelf.{Ghosts as ShelfMeaning}
+use Rattle.fore_outside.specs.declared.shelf.Shelf.{Ghosts as ShelfMeaning}
 use Rattle.fore_answer.specs.Writings.{Writing}
 use Rattle.fore_read.specs.Readings.{Reading, reading_of}
 use Rattle.fore_words.specs.Words.{texts}

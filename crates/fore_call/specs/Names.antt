@@ -1,6 +1,6 @@
 -- Which of the commands words ask for, and which files they name.
 use Rattle.std.specs.Prelude.{◌≡◌, ⊤, ◌⊎◌, ℕ, List, [], ◌∷◌, Option, Some, None}
-use Rattle.fore_base.specs.declared.named_files.NamedFile.{NamedFile}
+use Rattle.fore_outside.specs.declared.named_files.NamedFile.{NamedFile}
 use Rattle.c_types.specs.declared.mode.MallocMode.{MallocMode}
 use Rattle.fore_words.specs.declared.asked.Settings.{Settings}
 use Rattle.fore_words.specs.declared.asked.Kind.{Kind}

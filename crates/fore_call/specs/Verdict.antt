@@ -1,9 +1,9 @@
 -- Which answer is right for what was asked and what the shelf gave.
 use Rattle.std.specs.Prelude.{◌≡◌, ◌≤◌, ◌<◌, ◌⊎◌, ⊤, ℕ, List, [], ◌∷◌, Option, Some, None, length}
-use Rattle.fore_base.specs.NamedFiles.{reading}
-use Rattle.fore_base.specs.Outside.{Rose}
+use Rattle.fore_outside.specs.NamedFiles.{reading}
+use Rattle.fore_outside.specs.Outside.{Rose}
 use Rattle.fore_base.specs.declared.limits.TheConstants.{FILE_BYTES, BOX_FILE_BYTES}
-use Rattle.fore_base.specs.declared.named_files.NamedFile.{NamedFile}
+use Rattle.fore_outside.specs.declared.named_files.NamedFile.{NamedFile}
 use Rattle.fore_base.specs.declared.shape.Shapes.{Shapes}
 use Rattle.c_types.specs.declared.outcome.Outcome.{Outcome}
 use Rattle.c_types.specs.Program.{Program}

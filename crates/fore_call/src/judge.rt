@@ -22,7 +22,7 @@ use c_types::program::Typed;
 use fa_core::table::BoxTable;
 use fore_answer::answer::{Answer, answer_to};
 use fore_base::memory::Mem;
-use fore_base::shelf::Shelf;
+use fore_outside::shelf::Shelf;
 use fore_read::{empty_table, read_program, read_table};
 use fore_report::report;
 use fore_words::{Asked, Settings, WordsFault, read_words};

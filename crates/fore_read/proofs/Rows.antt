@@ -1,7 +1,7 @@
 -- Worked values of the definitions, worked out by hand from docs/REPORTS.md.
 use Rattle.std.proofs.Common.{◌≡◌, inl, ℕ, List, [], ◌∷◌, codes, length, ap, Some, None, refl, arith}
-use Rattle.fore_base.specs.NamedFiles.{reading}
-use Rattle.fore_base.specs.declared.named_files.NamedFile.{NamedFile}
+use Rattle.fore_outside.specs.NamedFiles.{reading}
+use Rattle.fore_outside.specs.declared.named_files.NamedFile.{NamedFile}
 use Rattle.fore_base.specs.declared.shape.Shapes.{Shapes}
 use Rattle.c_front.specs.declared.broken.Broken.{Broken}
 use Rattle.c_front.specs.Files.{BreaksFirst}

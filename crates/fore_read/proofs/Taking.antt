@@ -1,6 +1,6 @@
 -- What a file that was read gives, by what its bytes are.
 use Rattle.std.proofs.Common.{ℕ, List, [], ◌∷◌, Result, Ok, Err, IfOk, IfErr, refl}
-use Rattle.fore_base.specs.NamedFiles.{reading}
+use Rattle.fore_outside.specs.NamedFiles.{reading}
 use Rattle.fore_base.specs.declared.limits.TheConstants.{FILE_BYTES, BOX_FILE_BYTES}
 use Rattle.fore_base.specs.declared.shape.Shapes.{Shapes}
 use Rattle.c_types.specs.Program.{Program}

@@ -1,7 +1,7 @@
 -- What a C file and a file of boxes give, and why they are refused.
 use Rattle.std.specs.Prelude.{◌≡◌, ⊤, ℕ, List, [], ◌∷◌, Option}
-use Rattle.fore_base.specs.NamedFiles.{reading}
-use Rattle.fore_base.specs.declared.named_files.NamedFile.{NamedFile}
+use Rattle.fore_outside.specs.NamedFiles.{reading}
+use Rattle.fore_outside.specs.declared.named_files.NamedFile.{NamedFile}
 use Rattle.fore_base.specs.declared.limits.TheConstants.{FILE_BYTES, BOX_FILE_BYTES}
 use Rattle.fore_base.specs.declared.shape.Shapes.{Shapes}
 use Rattle.c_types.specs.Program.{Program}

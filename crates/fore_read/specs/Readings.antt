@@ -1,8 +1,8 @@
 -- What was read from a shelf between two moments.
 use Rattle.std.specs.Prelude.{◌≡◌, ◌≤◌, ◌<◌, ◌++◌, ⊤, ℕ, List, [], ◌∷◌, length, Option, IfSome}
-use Rattle.fore_base.specs.Outside.{Rose}
-use Rattle.fore_base.specs.declared.named_files.NamedFile.{NamedFile}
-use Rattle.fore_base.specs.declared.shelf.Shelf.{Ghosts as ShelfMeaning}
+use Rattle.fore_outside.specs.Outside.{Rose}
+use Rattle.fore_outside.specs.declared.named_files.NamedFile.{NamedFile}
+use Rattle.fore_outside.specs.declared.shelf.Shelf.{Ghosts as ShelfMeaning}
 
 -- what a shelf tells at a moment: the bytes that it holds at each path, the readings that were answered so far, in
 -- their order, and how often reading each path has failed

@@ -12,7 +12,7 @@ use fa_text::{BoxFault, read_boxes};
 use fore_base::limits::BOX_FILE_BYTES;
 use fore_base::memory::Mem;
 use fore_base::shape::Shapes;
-use fore_base::shelf::Shelf;
+use fore_outside::shelf::Shelf;
 use std::alloc::Global;
 
 /// The table of the file of boxes of a path, over the structs of a program. The file is read once.

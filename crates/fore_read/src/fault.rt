@@ -3,7 +3,7 @@ ghost use Rattle.std.specs.Prelude.{◌≡◌};
 ghost use Rattle.fore_read.specs.inner.Taking.{not_given};
 
 use c_front::Broken;
-use fore_base::shelf::ShelfFault;
+use fore_outside::shelf::ShelfFault;
 
 /// Why what the words ask is refused. Each reason has one line of text.
 #[derive(Clone, Copy, PartialEq, Eq, Debug)]

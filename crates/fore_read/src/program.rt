@@ -9,7 +9,7 @@ use crate::fault::{ReadFault, Refusal, not_given};
 use c_front::{FileFault, program_in};
 use c_types::program::Typed;
 use fore_base::limits::FILE_BYTES;
-use fore_base::shelf::Shelf;
+use fore_outside::shelf::Shelf;
 use std::alloc::Global;
 
 /// The program of the C file of a path, which is read once.

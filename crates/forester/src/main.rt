@@ -5,9 +5,9 @@
 #![tactic(auto)]
 
 use fore_answer::status::{NO_MEMORY, USAGE};
-use fore_base::file_shelf::FileShelf;
-use fore_base::stream_sink::StreamSink;
 use fore_call::forester;
+use fore_outside::file_shelf::FileShelf;
+use fore_outside::stream_sink::StreamSink;
 use par_kit::gate::NoGate;
 use std::alloc::{AllocGlobal, Global};
 use std::env;

@@ -1,11 +1,11 @@
 // One call of the program over files and two sinks in memory.
 
 use anyhow::{Context, Result};
-use fore_base::mem_shelf::MemShelf;
-use fore_base::mem_sink::MemSink;
 use fore_base::memory::Mem;
-use fore_base::shelf::Shelf;
 use fore_call::forester;
+use fore_outside::mem_shelf::MemShelf;
+use fore_outside::mem_sink::MemSink;
+use fore_outside::shelf::Shelf;
 use par_kit::gate::NoGate;
 use row_reports::least_report;
 use std::alloc::Global;

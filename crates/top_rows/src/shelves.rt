@@ -1,12 +1,12 @@
 // A shelf whose files change after the first read.
 ghost use Rattle.std.specs.Prelude.{◌≤◌, length, IfOk, IsErrOf};
-ghost use Rattle.fore_base.specs.Outside.{untold};
-ghost use Rattle.fore_base.specs.declared.shelf.ShelfFault.TheVariants as ShelfFault;
+ghost use Rattle.fore_outside.specs.Outside.{untold};
+ghost use Rattle.fore_outside.specs.declared.shelf.ShelfFault.TheVariants as ShelfFault;
 
 use fore_base::list::List;
-use fore_base::named_files::{NamedFile, note_reading};
-use fore_base::shelf::{Shelf, ShelfFault};
 use fore_base::text::Text;
+use fore_outside::named_files::{NamedFile, note_reading};
+use fore_outside::shelf::{Shelf, ShelfFault};
 use std::alloc::Global;
 
 /// A shelf on which each path has the first bytes at the first read, and the others at each later one. It does not tell

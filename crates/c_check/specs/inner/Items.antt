@@ -66,6 +66,7 @@ kept_structs s name (Some fields) =
       enums = s.enums;
       values = s.values;
       functions = s.functions;
+      function_count = s.function_count;
     }
 
 abbrev pub kept_enums : Seen → Name → List Name → Seen
@@ -76,16 +77,18 @@ kept_enums s name values =
       enums = with_name s.enums name.text;
       values = with_names s.values values;
       functions = s.functions;
+      function_count = s.function_count;
     }
 
-abbrev pub kept_function : Seen → Seen
-kept_function s =
+abbrev pub kept_function : Seen → Head → Seen
+kept_function s h =
     record {
       structs = s.structs;
       count = s.count;
       enums = s.enums;
       values = s.values;
-      functions = s.functions + 1;
+      functions = with_name s.functions h.name.text;
+      function_count = s.function_count + 1;
     }
 
 -- what is kept after an item
@@ -93,7 +96,7 @@ abbrev pub kept_after : Seen → Item → Seen
 kept_after s (item.Struct at name fields) = kept_structs s name fields
 kept_after s (item.Enum at name values) = kept_enums s name values
 kept_after s (item.Proto outer head) = s
-kept_after s (item.Function head body) = kept_function s
+kept_after s (item.Function head body) = kept_function s head
 kept_after s (item.Declare d) = s
 
 -- whether the item is a function of the name `main`
@@ -104,44 +107,38 @@ is_main_item (item.Proto outer head) = false
 is_main_item (item.Function head body) = is_main head
 is_main_item (item.Declare d) = false
 
--- the name of a function that is defined after so many others
-abbrev pub kept_named_sites : Bool → ℕ → Head → List Site
-kept_named_sites main count h = Defines Function h.name [] count ∷ Functions main h ∷ []
+-- the name of a function that is defined after these and so many others
+abbrev pub kept_named_sites : List Text → ℕ → Head → List Site
+kept_named_sites names count h = Defines Function h.name names count ∷ Functions h ∷ []
 
 module _ (g : Globals) where
-  abbrev pub kept_head_sites : Bool → ℕ → Head → Scope → List Site
-  kept_head_sites main count h scope =
-      gives_sites h.gives ++ kept_named_sites main count h ++ result_sites (result_of g h) h.name (begun g h scope)
+  abbrev pub kept_head_sites : List Text → ℕ → Head → Scope → List Site
+  kept_head_sites names count h scope =
+      gives_sites h.gives ++ kept_named_sites names count h ++ result_sites (result_of g h) h.name (begun g h scope)
       ++ own_params_sites g (params_of h.params) (opened (past_result g h scope))
 
-  abbrev pub kept_function_sites : Bool → ℕ → Head → Block → Scope → List Site
-  kept_function_sites main count head body scope = kept_head_sites main count head scope
+  abbrev pub kept_function_sites : List Text → ℕ → Head → Block → Scope → List Site
+  kept_function_sites names count head body scope = kept_head_sites names count head scope
       ++ body_sites g body (past_head g head scope)
 
-  abbrev pub kept_item_sites : Bool → Seen → Item → Scope → List Site
-  kept_item_sites main s (item.Struct at name fields) scope = kept_struct_sites s name fields
-  kept_item_sites main s (item.Enum at name values) scope =
+  abbrev pub kept_item_sites : Seen → Item → Scope → List Site
+  kept_item_sites s (item.Struct at name fields) scope = kept_struct_sites s name fields
+  kept_item_sites s (item.Enum at name values) scope =
       Defines Enum name s.enums 0 ∷ kept_value_sites s.values 0 values
-  kept_item_sites main s (item.Proto outer head) scope = kept_proto_sites head
-  kept_item_sites main s (item.Function head body) scope = kept_function_sites main s.functions head body scope
-  kept_item_sites main s (item.Declare d) scope = type_sites d ++ global_sites g (declarators_of d)
+  kept_item_sites s (item.Proto outer head) scope = kept_proto_sites head
+  kept_item_sites s (item.Function head body) scope =
+      kept_function_sites s.functions s.function_count head body scope
+  kept_item_sites s (item.Declare d) scope = type_sites d ++ global_sites g (declarators_of d)
 
-  abbrev pub kept_items_sites : Bool → Seen → List Item → Scope → List Site
-  kept_items_sites main s [] scope = []
-  kept_items_sites main s (i ∷ is) scope =
-      kept_item_sites main s i scope ++ kept_items_sites (main || is_main_item i) (kept_after s i) is (past_item g i scope)
+  abbrev pub kept_items_sites : Seen → List Item → Scope → List Site
+  kept_items_sites s [] scope = []
+  kept_items_sites s (i ∷ is) scope =
+      kept_item_sites s i scope ++ kept_items_sites (kept_after s i) is (past_item g i scope)
 
 abbrev pub any_main : List Item → Bool
 any_main [] = false
 any_main (i ∷ is) = is_main_item i || any_main is
 
 abbrev pub nothing_kept : Seen
-nothing_kept = record { structs = []; count = 0; enums = []; values = []; functions = 0 }
-
--- the body of an item that is a function of the name `main`
-abbrev pub body_of_main : Item → Option Block
-body_of_main (item.Struct at name fields) = None
-body_of_main (item.Enum at name values) = None
-body_of_main (item.Proto outer head) = None
-body_of_main (item.Function head body) = cond (is_main head) (Some body) None
-body_of_main (item.Declare d) = None
+nothing_kept =
+    record { structs = []; count = 0; enums = []; values = []; functions = []; function_count = 0 }

@@ -12,7 +12,7 @@ use Rattle.c_ast.specs.declared.statements.Data.TheVariants as data'
 use Rattle.c_ast.specs.declared.statements.Declare.TheVariants as declare
 use Rattle.c_ast.specs.declared.statements.Part.TheVariants as part'
 use Rattle.c_ast.specs.declared.statements.Stmt.TheVariants as stmt
-use Rattle.c_typing.specs.Typing.{breaches}
+use Rattle.c_typing.specs.Typing.{breaches, site_breaches, overweight}
 use Rattle.c_typing.specs.declared.fault.TypeFault.TheVariants.{Rule}
 use Rattle.c_typing.proofs.Layers.{layers}
 use Rattle.c_typing.proofs.Rows.Forms.{at, name, var, arrow, path, call, number, plain, begun, block, head, unit}
@@ -24,7 +24,7 @@ smallest :
     breaches
     (unit (item.Function (head (gives.Data (data'.Int (at 200))) (name (codes "main") 201) None) (block 204 [] 205)
     ∷ []) 206) ≡ []
-unfolding breaches
+unfolding breaches site_breaches overweight
 smallest = simp layers refl
 
 -- int main(void) { return 0; }
@@ -32,12 +32,12 @@ without_parameters : breaches
     (unit
     (item.Function (head (gives.Data (data'.Int (at 200))) (name (codes "main") 201) (Some (params.Void (at 203))))
     (block 205 (part'.Stmt (stmt.Return (at 206) (Some (number (codes "0") 207))) ∷ []) 209) ∷ []) 210) ≡ []
-unfolding breaches
+unfolding breaches site_breaches overweight
 without_parameters = simp layers refl
 
 --
 nothing_at_all : breaches (unit [] 200) ≡ Rule 12 (at 200) ∷ []
-unfolding breaches
+unfolding breaches site_breaches
 nothing_at_all = refl
 
 -- int main(void);
@@ -45,7 +45,7 @@ prototype_is_no_main : breaches
     (unit
     (item.Proto None (head (gives.Data (data'.Int (at 200))) (name (codes "main") 201) (Some (params.Void (at 203))))
     ∷ []) 206) ≡ Rule 15 (at 201) ∷ Rule 12 (at 206) ∷ []
-unfolding breaches
+unfolding breaches site_breaches
 prototype_is_no_main = refl
 
 -- void f(void) { x = y; f(); }
@@ -54,9 +54,8 @@ other_function : breaches
     (item.Function (head (gives.Void (at 200)) (name (codes "f") 201) (Some (params.Void (at 203))))
     (block 205
     (part'.Stmt (stmt.Simple (simple.Assign (var (codes "x") 206) (rhs.Operand (operand.Path (var (codes "y") 208)))))
-    ∷ part'.Stmt (stmt.Simple (simple.Call (call (codes "f") 210 []))) ∷ []) 214) ∷ []) 215) ≡ Rule 13 (at 201)
-    ∷ Rule 3 (at 206) ∷ Rule 3 (at 208) ∷ Rule 15 (at 210) ∷ Rule 12 (at 215) ∷ []
-unfolding breaches
+    ∷ part'.Stmt (stmt.Simple (simple.Call (call (codes "f") 210 []))) ∷ []) 214) ∷ []) 215) ≡ Rule 3 (at 206) ∷ Rule 3 (at 208) ∷ Rule 13 (at 210) ∷ Rule 12 (at 215) ∷ []
+unfolding breaches site_breaches
 other_function = simp layers refl
 
 -- int main(void) { } int main(void) { x = 1; }
@@ -67,8 +66,8 @@ second_main :
     (block 205 [] 206) ∷ item.Function
     (head (gives.Data (data'.Int (at 207))) (name (codes "main") 208) (Some (params.Void (at 210))))
     (block 212 (part'.Stmt (stmt.Simple (simple.Assign (var (codes "x") 213) (rhs.Operand (number (codes "1") 215))))
-    ∷ []) 217) ∷ []) 218) ≡ Rule 13 (at 208) ∷ Rule 3 (at 213) ∷ []
-unfolding breaches
+    ∷ []) 217) ∷ []) 218) ≡ Rule 5 (at 208) ∷ Rule 3 (at 213) ∷ []
+unfolding breaches site_breaches
 second_main = simp layers refl
 
 -- int main(void) { } void main(int a) { }: its head is not asked
@@ -79,8 +78,8 @@ second_main_of_another_head :
     (block 205 [] 206) ∷ item.Function
     (head (gives.Void (at 207)) (name (codes "main") 208)
     (Some (params.List (param.Datum (data'.Int (at 210)) (name (codes "a") 211) ∷ [])))) (block 213 [] 214) ∷ []) 215)
-    ≡ Rule 13 (at 208) ∷ []
-unfolding breaches
+    ≡ Rule 5 (at 208) ∷ Rule 15 (at 208) ∷ []
+unfolding breaches site_breaches
 second_main_of_another_head = simp layers refl
 
 -- void main(void) { }
@@ -89,7 +88,7 @@ main_of_another_result :
     (unit
     (item.Function (head (gives.Void (at 200)) (name (codes "main") 201) (Some (params.Void (at 203))))
     (block 205 [] 206) ∷ []) 207) ≡ Rule 15 (at 201) ∷ []
-unfolding breaches
+unfolding breaches site_breaches
 main_of_another_result = simp layers refl
 
 -- enum e { A }; enum e main(void) { }
@@ -99,7 +98,7 @@ main_of_an_enumeration :
     ∷ item.Function
     (head (gives.Data (data'.Enum (at 206) (name (codes "e") 207))) (name (codes "main") 208)
     (Some (params.Void (at 210)))) (block 212 [] 213) ∷ []) 214) ≡ Rule 15 (at 208) ∷ []
-unfolding breaches
+unfolding breaches site_breaches
 main_of_an_enumeration = simp layers refl
 
 -- struct s { int a; }; struct s *main(void) { }
@@ -110,7 +109,7 @@ main_of_a_pointer : breaches
     ∷ item.Function
     (head (gives.Pointer (at 208) (name (codes "s") 209)) (name (codes "main") 211) (Some (params.Void (at 213))))
     (block 215 [] 216) ∷ []) 217) ≡ Rule 15 (at 211) ∷ []
-unfolding breaches
+unfolding breaches site_breaches
 main_of_a_pointer = simp layers refl
 
 -- int main(int a) { a = 1; }: its body is looked at, with the parameter
@@ -121,7 +120,7 @@ main_with_a_parameter : breaches
     (Some (params.List (param.Datum (data'.Int (at 203)) (name (codes "a") 204) ∷ []))))
     (block 206 (part'.Stmt (stmt.Simple (simple.Assign (var (codes "a") 207) (rhs.Operand (number (codes "1") 209))))
     ∷ []) 211) ∷ []) 212) ≡ Rule 15 (at 201) ∷ []
-unfolding breaches
+unfolding breaches site_breaches
 main_with_a_parameter = simp layers refl
 
 -- int f(void) { } int main(void) { }
@@ -130,8 +129,8 @@ function_before_main : breaches
     (item.Function (head (gives.Data (data'.Int (at 200))) (name (codes "f") 201) (Some (params.Void (at 203))))
     (block 205 [] 206) ∷ item.Function
     (head (gives.Data (data'.Int (at 207))) (name (codes "main") 208) (Some (params.Void (at 210)))) (block 212 [] 213)
-    ∷ []) 214) ≡ Rule 13 (at 201) ∷ []
-unfolding breaches
+    ∷ []) 214) ≡ []
+unfolding breaches site_breaches overweight
 function_before_main = simp layers refl
 
 -- int main(void) { } void f(void) { }
@@ -139,8 +138,8 @@ function_after_main : breaches
     (unit
     (item.Function (head (gives.Data (data'.Int (at 200))) (name (codes "main") 201) (Some (params.Void (at 203))))
     (block 205 [] 206) ∷ item.Function (head (gives.Void (at 207)) (name (codes "f") 208) (Some (params.Void (at 210))))
-    (block 212 [] 213) ∷ []) 214) ≡ Rule 13 (at 208) ∷ []
-unfolding breaches
+    (block 212 [] 213) ∷ []) 214) ≡ []
+unfolding breaches site_breaches overweight
 function_after_main = simp layers refl
 
 -- int main(void) { } void f(void) { } int main(void) { x = 1; }
@@ -152,8 +151,8 @@ function_between_mains :
     (block 212 [] 213) ∷ item.Function
     (head (gives.Data (data'.Int (at 214))) (name (codes "main") 215) (Some (params.Void (at 217))))
     (block 219 (part'.Stmt (stmt.Simple (simple.Assign (var (codes "x") 220) (rhs.Operand (number (codes "1") 222))))
-    ∷ []) 224) ∷ []) 225) ≡ Rule 13 (at 208) ∷ Rule 13 (at 215) ∷ Rule 3 (at 220) ∷ []
-unfolding breaches
+    ∷ []) 224) ∷ []) 225) ≡ Rule 5 (at 215) ∷ Rule 3 (at 220) ∷ []
+unfolding breaches site_breaches
 function_between_mains = simp layers refl
 
 -- Prototypes (T15)
@@ -171,7 +170,7 @@ allowed :
     ∷ item.Proto None (head (gives.Void (at 222)) (name (codes "abort") 223) (Some (params.Void (at 225))))
     ∷ item.Function (head (gives.Data (data'.Int (at 228))) (name (codes "main") 229) None) (block 232 [] 233) ∷ [])
     234) ≡ []
-unfolding breaches
+unfolding breaches site_breaches overweight
 allowed = simp layers refl
 
 -- extern void abort(void); extern void abort(); int main() { }
@@ -181,7 +180,7 @@ extern_and_twice : breaches
     ∷ item.Proto (Some (at 207)) (head (gives.Void (at 208)) (name (codes "abort") 209) None)
     ∷ item.Function (head (gives.Data (data'.Int (at 213))) (name (codes "main") 214) None) (block 217 [] 218) ∷ [])
     219) ≡ []
-unfolding breaches
+unfolding breaches site_breaches overweight
 extern_and_twice = simp layers refl
 
 -- void __VERIFIER_nondet_int(void); int main() { }
@@ -192,7 +191,7 @@ choice_of_another_result :
     (head (gives.Void (at 200)) (name (codes "__VERIFIER_nondet_int") 201) (Some (params.Void (at 203))))
     ∷ item.Function (head (gives.Data (data'.Int (at 206))) (name (codes "main") 207) None) (block 210 [] 211) ∷ [])
     212) ≡ Rule 15 (at 201) ∷ []
-unfolding breaches
+unfolding breaches site_breaches
 choice_of_another_result = simp layers refl
 
 -- int reach_error(void); int main() { }
@@ -203,7 +202,7 @@ error_of_another_result :
     (head (gives.Data (data'.Int (at 200))) (name (codes "reach_error") 201) (Some (params.Void (at 203))))
     ∷ item.Function (head (gives.Data (data'.Int (at 206))) (name (codes "main") 207) None) (block 210 [] 211) ∷ [])
     212) ≡ Rule 15 (at 201) ∷ []
-unfolding breaches
+unfolding breaches site_breaches
 error_of_another_result = simp layers refl
 
 -- enum e { A }; enum e __VERIFIER_nondet_bool(void); int main() { }
@@ -215,7 +214,7 @@ choice_of_an_enumeration :
     (Some (params.Void (at 210))))
     ∷ item.Function (head (gives.Data (data'.Int (at 213))) (name (codes "main") 214) None) (block 217 [] 218) ∷ [])
     219) ≡ Rule 15 (at 208) ∷ []
-unfolding breaches
+unfolding breaches site_breaches
 choice_of_an_enumeration = simp layers refl
 
 -- int __VERIFIER_nondet_int(int a); int main() { }
@@ -227,7 +226,7 @@ choice_with_a_parameter :
     (Some (params.List (param.Datum (data'.Int (at 203)) (name (codes "a") 204) ∷ []))))
     ∷ item.Function (head (gives.Data (data'.Int (at 207))) (name (codes "main") 208) None) (block 211 [] 212) ∷ [])
     213) ≡ Rule 15 (at 201) ∷ []
-unfolding breaches
+unfolding breaches site_breaches
 choice_with_a_parameter = simp layers refl
 
 -- int f(void); int main() { }
@@ -235,7 +234,7 @@ other_prototype : breaches
     (unit (item.Proto None (head (gives.Data (data'.Int (at 200))) (name (codes "f") 201) (Some (params.Void (at 203))))
     ∷ item.Function (head (gives.Data (data'.Int (at 206))) (name (codes "main") 207) None) (block 210 [] 211) ∷ [])
     212) ≡ Rule 15 (at 201) ∷ []
-unfolding breaches
+unfolding breaches site_breaches
 other_prototype = simp layers refl
 
 -- void exit(int status); int main() { }
@@ -246,7 +245,7 @@ exit_is_no_prototype : breaches
     (Some (params.List (param.Datum (data'.Int (at 203)) (name (codes "status") 204) ∷ []))))
     ∷ item.Function (head (gives.Data (data'.Int (at 207))) (name (codes "main") 208) None) (block 211 [] 212) ∷ [])
     213) ≡ Rule 15 (at 201) ∷ []
-unfolding breaches
+unfolding breaches site_breaches
 exit_is_no_prototype = simp layers refl
 
 -- Heads are asked for their types (T1, T4)
@@ -258,7 +257,7 @@ struct_of_a_result : breaches
     (head (gives.Pointer (at 200) (name (codes "s") 201)) (name (codes "f") 203) (Some (params.Void (at 205))))
     ∷ item.Function (head (gives.Data (data'.Int (at 208))) (name (codes "main") 209) None) (block 212 [] 213) ∷ [])
     214) ≡ Rule 1 (at 201) ∷ Rule 15 (at 203) ∷ []
-unfolding breaches
+unfolding breaches site_breaches
 struct_of_a_result = simp layers refl
 
 -- enum e f(void) { } int main() { }
@@ -269,8 +268,8 @@ enumeration_of_a_result :
     (head (gives.Data (data'.Enum (at 200) (name (codes "e") 201))) (name (codes "f") 202)
     (Some (params.Void (at 204)))) (block 206 [] 207)
     ∷ item.Function (head (gives.Data (data'.Int (at 208))) (name (codes "main") 209) None) (block 212 [] 213) ∷ [])
-    214) ≡ Rule 4 (at 201) ∷ Rule 13 (at 202) ∷ []
-unfolding breaches
+    214) ≡ Rule 4 (at 201) ∷ []
+unfolding breaches site_breaches
 enumeration_of_a_result = simp layers refl
 
 -- int f(struct s *a, enum e b, int c); int main() { }
@@ -284,7 +283,7 @@ structs_of_parameters : breaches
     ∷ param.Datum (data'.Int (at 212)) (name (codes "c") 213) ∷ []))))
     ∷ item.Function (head (gives.Data (data'.Int (at 216))) (name (codes "main") 217) None) (block 220 [] 221) ∷ [])
     222) ≡ Rule 15 (at 201) ∷ Rule 1 (at 204) ∷ Rule 4 (at 209) ∷ []
-unfolding breaches
+unfolding breaches site_breaches
 structs_of_parameters = simp layers refl
 
 -- Structs
@@ -301,7 +300,7 @@ used_before :
     (rhs.Operand (operand.Path (var (codes "p") 214))))) ∷ []) 216)
     ∷ item.Struct (at 217) (name (codes "s") 218)
     (Some (field.Pointers (at 220) (name (codes "s") 221) ((name (codes "f") 223) ∷ []) ∷ [])) ∷ []) 227) ≡ []
-unfolding breaches
+unfolding breaches site_breaches overweight
 used_before = simp layers refl
 
 -- struct s { struct s *f; struct t *g; }; struct t { int a; }; int main() { }
@@ -314,7 +313,7 @@ used_in_itself : breaches
     (Some (field.Datums (data'.Int (at 218)) ((name (codes "a") 219) ∷ []) ∷ []))
     ∷ item.Function (head (gives.Data (data'.Int (at 223))) (name (codes "main") 224) None) (block 227 [] 228) ∷ [])
     229) ≡ []
-unfolding breaches
+unfolding breaches site_breaches overweight
 used_in_itself = simp layers refl
 
 -- struct s { struct t *g; }; int main() { }
@@ -325,7 +324,7 @@ not_defined :
     (Some (field.Pointers (at 203) (name (codes "t") 204) ((name (codes "g") 206) ∷ []) ∷ []))
     ∷ item.Function (head (gives.Data (data'.Int (at 210))) (name (codes "main") 211) None) (block 214 [] 215) ∷ [])
     216) ≡ Rule 1 (at 204) ∷ []
-unfolding breaches
+unfolding breaches site_breaches
 not_defined = simp layers refl
 
 -- struct s; int main() { }
@@ -334,7 +333,7 @@ named_only :
     (unit (item.Struct (at 200) (name (codes "s") 201) None
     ∷ item.Function (head (gives.Data (data'.Int (at 203))) (name (codes "main") 204) None) (block 207 [] 208) ∷ [])
     209) ≡ Rule 1 (at 201) ∷ []
-unfolding breaches
+unfolding breaches site_breaches
 named_only = simp layers refl
 
 -- struct s; struct s { int a; }; struct s; int main() { }
@@ -345,7 +344,7 @@ named_and_defined : breaches
     ∷ item.Struct (at 211) (name (codes "s") 212) None
     ∷ item.Function (head (gives.Data (data'.Int (at 214))) (name (codes "main") 215) None) (block 218 [] 219) ∷ [])
     220) ≡ []
-unfolding breaches
+unfolding breaches site_breaches overweight
 named_and_defined = simp layers refl
 
 -- struct s { int a; }; struct s { struct s *a; }; int main() { struct s *p; p->a = 1; p->a = p; }: the first counts
@@ -364,7 +363,7 @@ defined_twice : breaches
     (stmt.Simple
     (simple.Assign (path (codes "p") 234 (arrow (codes "a") 235 ∷ []))
     (rhs.Operand (operand.Path (var (codes "p") 238))))) ∷ []) 240) ∷ []) 241) ≡ Rule 5 (at 209) ∷ Rule 8 (at 238) ∷ []
-unfolding breaches
+unfolding breaches site_breaches
 defined_twice = simp layers refl
 
 -- struct s { int a; struct s *a; }; int main() { struct s *p; p->a = 1; }
@@ -380,7 +379,7 @@ two_fields_of_one_name :
     (stmt.Simple
     (simple.Assign (path (codes "p") 223 (arrow (codes "a") 224 ∷ [])) (rhs.Operand (number (codes "1") 227)))) ∷ [])
     229) ∷ []) 230) ≡ Rule 5 (at 209) ∷ []
-unfolding breaches
+unfolding breaches site_breaches
 two_fields_of_one_name = simp layers refl
 
 -- struct s { int a; }; struct t { int a, b, b; }; int main() { }
@@ -393,7 +392,7 @@ fields_of_two_structs : breaches
     (field.Datums (data'.Int (at 211)) ((name (codes "a") 212) ∷ (name (codes "b") 214) ∷ (name (codes "b") 216) ∷ [])
     ∷ [])) ∷ item.Function (head (gives.Data (data'.Int (at 220))) (name (codes "main") 221) None) (block 224 [] 225)
     ∷ []) 226) ≡ Rule 5 (at 216) ∷ []
-unfolding breaches
+unfolding breaches site_breaches
 fields_of_two_structs = simp layers refl
 
 -- struct s { enum e a; }; int main() { }
@@ -404,7 +403,7 @@ field_of_no_enumeration :
     (Some (field.Datums (data'.Enum (at 203) (name (codes "e") 204)) ((name (codes "a") 205) ∷ []) ∷ []))
     ∷ item.Function (head (gives.Data (data'.Int (at 209))) (name (codes "main") 210) None) (block 213 [] 214) ∷ [])
     215) ≡ Rule 4 (at 204) ∷ []
-unfolding breaches
+unfolding breaches site_breaches
 field_of_no_enumeration = simp layers refl
 
 -- Enumerations
@@ -418,7 +417,7 @@ defined_after : breaches
     (declare.Datums (data'.Enum (at 205) (name (codes "e") 206))
     (begun (codes "x") 207 (rhs.Operand (operand.Path (var (codes "B") 209))) ∷ [])) ∷ []) 211)
     ∷ item.Enum (at 212) (name (codes "e") 213) ((name (codes "A") 215) ∷ (name (codes "B") 217) ∷ []) ∷ []) 221) ≡ []
-unfolding breaches
+unfolding breaches site_breaches overweight
 defined_after = simp layers refl
 
 -- enum e { A }; enum e { B }; int main() { }
@@ -427,7 +426,7 @@ two_of_one_name : breaches
     ∷ item.Enum (at 206) (name (codes "e") 207) ((name (codes "B") 209) ∷ [])
     ∷ item.Function (head (gives.Data (data'.Int (at 212))) (name (codes "main") 213) None) (block 216 [] 217) ∷ [])
     218) ≡ Rule 5 (at 207) ∷ []
-unfolding breaches
+unfolding breaches site_breaches
 two_of_one_name = simp layers refl
 
 -- enum e { A, A }; int main() { }
@@ -435,7 +434,7 @@ two_enumerators : breaches
     (unit (item.Enum (at 200) (name (codes "e") 201) ((name (codes "A") 203) ∷ (name (codes "A") 205) ∷ [])
     ∷ item.Function (head (gives.Data (data'.Int (at 208))) (name (codes "main") 209) None) (block 212 [] 213) ∷ [])
     214) ≡ Rule 5 (at 205) ∷ []
-unfolding breaches
+unfolding breaches site_breaches
 two_enumerators = simp layers refl
 
 -- enum e { A }; enum f { B, A }; int main() { }
@@ -445,7 +444,7 @@ two_enumerators_in_the_file :
     ∷ item.Enum (at 206) (name (codes "f") 207) ((name (codes "B") 209) ∷ (name (codes "A") 211) ∷ [])
     ∷ item.Function (head (gives.Data (data'.Int (at 214))) (name (codes "main") 215) None) (block 218 [] 219) ∷ [])
     220) ≡ Rule 5 (at 211) ∷ []
-unfolding breaches
+unfolding breaches site_breaches
 two_enumerators_in_the_file = simp layers refl
 
 -- struct a { int a; }; enum a { a }; int main() { int a; a = 1; { struct a *a; a->a = 1; } }
@@ -464,7 +463,7 @@ each_kind_by_itself : breaches
     (stmt.Simple
     (simple.Assign (path (codes "a") 232 (arrow (codes "a") 233 ∷ [])) (rhs.Operand (number (codes "1") 236)))) ∷ [])
     238)) ∷ []) 239) ∷ []) 240) ≡ []
-unfolding breaches
+unfolding breaches site_breaches overweight
 each_kind_by_itself = simp layers refl
 
 -- Global variables (T14)
@@ -476,7 +475,7 @@ global :
     ∷ item.Function (head (gives.Data (data'.Int (at 205))) (name (codes "main") 206) None)
     (block 209 (part'.Stmt (stmt.Simple (simple.Assign (var (codes "x") 210) (rhs.Operand (number (codes "1") 212))))
     ∷ []) 214) ∷ []) 215) ≡ Rule 14 (at 201) ∷ Rule 3 (at 210) ∷ []
-unfolding breaches
+unfolding breaches site_breaches
 global = simp layers refl
 
 -- struct s *p = x; int main() { }: its initialiser is not asked
@@ -487,7 +486,7 @@ global_pointer : breaches
     (begun (codes "p") 203 (rhs.Operand (operand.Path (var (codes "x") 205))) ∷ []))
     ∷ item.Function (head (gives.Data (data'.Int (at 207))) (name (codes "main") 208) None) (block 211 [] 212) ∷ [])
     213) ≡ Rule 1 (at 201) ∷ Rule 14 (at 203) ∷ []
-unfolding breaches
+unfolding breaches site_breaches
 global_pointer = simp layers refl
 
 -- enum e x; int main() { }
@@ -496,7 +495,7 @@ global_of_no_enumeration :
     (unit (item.Declare (declare.Datums (data'.Enum (at 200) (name (codes "e") 201)) (plain (codes "x") 202 ∷ []))
     ∷ item.Function (head (gives.Data (data'.Int (at 204))) (name (codes "main") 205) None) (block 208 [] 209) ∷ [])
     210) ≡ Rule 4 (at 201) ∷ Rule 14 (at 202) ∷ []
-unfolding breaches
+unfolding breaches site_breaches
 global_of_no_enumeration = simp layers refl
 
 -- enum e { A }; int x; int x; int main() { }
@@ -507,5 +506,5 @@ global_named_as_before :
     ∷ item.Declare (declare.Datums (data'.Int (at 209)) (plain (codes "x") 210 ∷ []))
     ∷ item.Function (head (gives.Data (data'.Int (at 212))) (name (codes "main") 213) None) (block 216 [] 217) ∷ [])
     218) ≡ Rule 14 (at 207) ∷ Rule 14 (at 210) ∷ []
-unfolding breaches
+unfolding breaches site_breaches
 global_named_as_before = simp layers refl

@@ -92,6 +92,8 @@ file = record {
   enums = codes "color" ∷ [];
   values = record { name = codes "RED"; value = 0 } ∷ record { name = codes "BLUE"; value = 1 } ∷ [];
   functions = [];
+  main = None;
+  calls = [] ∷ [];
 }
 
 -- in a block: struct node *p; struct item *q, *r; int x, y;

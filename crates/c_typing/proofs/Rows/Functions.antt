@@ -1,5 +1,4 @@
--- Rows on functions: their parameters, results and bodies. As long as a function besides `main` is refused, its name is
--- the first of what they break.
+-- Rows on functions: their parameters, results and bodies.
 use Rattle.std.proofs.Common.{◌≡◌, ℕ, zero, suc, true, false, List, [], ◌∷◌, Option, Some, None, codes, refl}
 use Rattle.c_ast.specs.declared.conditions.Test.TheVariants as test
 use Rattle.c_ast.specs.declared.conditions.Unary.TheVariants as unary
@@ -21,7 +20,7 @@ use Rattle.c_typing.specs.Globals.{Globals, globals_of}
 use Rattle.c_typing.specs.ItemSites.{nothing_seen, item_sites, all_seen}
 use Rattle.c_typing.specs.Scopes.{empty_scope, is_declared, past_head, past_item}
 use Rattle.c_typing.specs.Sites.{Function, Functions, Defines, Counts}
-use Rattle.c_typing.specs.Typing.{breaches, breaches_of}
+use Rattle.c_typing.specs.Typing.{breaches, breaches_of, site_breaches, overweight}
 use Rattle.c_typing.specs.declared.fault.TypeFault.{TypeFault}
 use Rattle.c_typing.specs.declared.fault.TypeFault.TheVariants.{Rule, Limit}
 use Rattle.c_typing.specs.declared.meaning.Kind.TheVariants.{Points, Datum}
@@ -36,17 +35,17 @@ body_of_a_function : breaches (unit (item.Function (head (gives.Void (at 200)) (
     (params.List (param.Datum (data'.Int (at 203)) (name (codes "a") 204) ∷ [])))) (block 206 (part'.Stmt
     (stmt.Simple (simple.Assign (var (codes "a") 207) (rhs.Operand (operand.Path (var (codes "b") 209)))))
     ∷ []) 211) ∷ item.Function (head (gives.Data (data'.Int (at 212))) (name (codes "main") 213) (Some (params.Void
-    (at 215)))) (block 217 [] 218) ∷ []) 219) ≡ Rule 13 (at 201) ∷ Rule 3 (at 209) ∷ []
-unfolding breaches
+    (at 215)))) (block 217 [] 218) ∷ []) 219) ≡ Rule 3 (at 209) ∷ []
+unfolding breaches site_breaches
 body_of_a_function = simp layers refl
 
 -- int f(int a, int a) { } int main(void) { }
 parameter_twice : breaches (unit (item.Function (head (gives.Data (data'.Int (at 200))) (name (codes "f") 201) (Some
     (params.List (param.Datum (data'.Int (at 203)) (name (codes "a") 204) ∷ param.Datum (data'.Int (at 206)) (name
     (codes "a") 207) ∷ [])))) (block 209 [] 210) ∷ item.Function (head (gives.Data (data'.Int (at 211))) (name
-    (codes "main") 212) (Some (params.Void (at 214)))) (block 216 [] 217) ∷ []) 218) ≡ Rule 13 (at 201) ∷ Rule 5
+    (codes "main") 212) (Some (params.Void (at 214)))) (block 216 [] 217) ∷ []) 218) ≡ Rule 5
     (at 207) ∷ []
-unfolding breaches
+unfolding breaches site_breaches
 parameter_twice = simp layers refl
 
 -- struct node { int key; }; struct item { int mark; }; void f(int a, struct node *a) { } int main(void) { }
@@ -56,8 +55,8 @@ parameters_of_two_kinds : breaches (unit (item.Struct (at 200) (name (codes "nod
     (gives.Void (at 216)) (name (codes "f") 217) (Some (params.List (param.Datum (data'.Int (at 219)) (name
     (codes "a") 220) ∷ param.Pointer (at 222) (name (codes "node") 223) (name (codes "a") 225) ∷ []))))
     (block 227 [] 228) ∷ item.Function (head (gives.Data (data'.Int (at 229))) (name (codes "main") 230) (Some
-    (params.Void (at 232)))) (block 234 [] 235) ∷ []) 236) ≡ Rule 13 (at 217) ∷ Rule 5 (at 225) ∷ []
-unfolding breaches
+    (params.Void (at 232)))) (block 234 [] 235) ∷ []) 236) ≡ Rule 5 (at 225) ∷ []
+unfolding breaches site_breaches
 parameters_of_two_kinds = simp layers refl
 
 -- void f(struct none *a, enum none b) { } int main(void) { }
@@ -65,8 +64,8 @@ parameter_of_no_type : breaches (unit (item.Function (head (gives.Void (at 200))
     (params.List (param.Pointer (at 203) (name (codes "none") 204) (name (codes "a") 206) ∷ param.Datum (data'.Enum
     (at 208) (name (codes "none") 209)) (name (codes "b") 210) ∷ [])))) (block 212 [] 213) ∷ item.Function (head
     (gives.Data (data'.Int (at 214))) (name (codes "main") 215) (Some (params.Void (at 217)))) (block 219 [] 220)
-    ∷ []) 221) ≡ Rule 13 (at 201) ∷ Rule 1 (at 204) ∷ Rule 4 (at 209) ∷ []
-unfolding breaches
+    ∷ []) 221) ≡ Rule 1 (at 204) ∷ Rule 4 (at 209) ∷ []
+unfolding breaches site_breaches
 parameter_of_no_type = simp layers refl
 
 -- int f(int a) { int a; { int a; } return a; } int main(void) { }: the body is a block of its own
@@ -76,8 +75,8 @@ parameter_hidden : breaches (unit (item.Function (head (gives.Data (data'.Int (a
     (part'.Declare (declare.Datums (data'.Int (at 211)) (plain (codes "a") 212 ∷ [])) ∷ []) 214)) ∷ part'.Stmt
     (stmt.Return (at 215) (Some (operand.Path (var (codes "a") 216)))) ∷ []) 218) ∷ item.Function (head (gives.Data
     (data'.Int (at 219))) (name (codes "main") 220) (Some (params.Void (at 222)))) (block 224 [] 225) ∷ []) 226)
-    ≡ Rule 13 (at 201) ∷ []
-unfolding breaches
+    ≡ []
+unfolding breaches site_breaches overweight
 parameter_hidden = simp layers refl
 
 -- void f(int a) { } void g(int b) { a = b; } int main(void) { b = 1; }
@@ -88,8 +87,8 @@ own_parameters_alone : breaches (unit (item.Function (head (gives.Void (at 200))
     (codes "a") 215) (rhs.Operand (operand.Path (var (codes "b") 217))))) ∷ []) 219) ∷ item.Function (head
     (gives.Data (data'.Int (at 220))) (name (codes "main") 221) (Some (params.Void (at 223)))) (block 225
     (part'.Stmt (stmt.Simple (simple.Assign (var (codes "b") 226) (rhs.Operand (number (codes "1") 228))))
-    ∷ []) 230) ∷ []) 231) ≡ Rule 13 (at 201) ∷ Rule 13 (at 209) ∷ Rule 3 (at 215) ∷ Rule 3 (at 226) ∷ []
-unfolding breaches
+    ∷ []) 230) ∷ []) 231) ≡ Rule 3 (at 215) ∷ Rule 3 (at 226) ∷ []
+unfolding breaches site_breaches
 own_parameters_alone = simp layers refl
 
 -- int main(void) { int x; } void f(void) { x = 1; }
@@ -97,8 +96,8 @@ nothing_of_main : breaches (unit (item.Function (head (gives.Data (data'.Int (at
     (Some (params.Void (at 203)))) (block 205 (part'.Declare (declare.Datums (data'.Int (at 206)) (plain
     (codes "x") 207 ∷ [])) ∷ []) 209) ∷ item.Function (head (gives.Void (at 210)) (name (codes "f") 211) (Some
     (params.Void (at 213)))) (block 215 (part'.Stmt (stmt.Simple (simple.Assign (var (codes "x") 216) (rhs.Operand
-    (number (codes "1") 218)))) ∷ []) 220) ∷ []) 221) ≡ Rule 13 (at 211) ∷ Rule 3 (at 216) ∷ []
-unfolding breaches
+    (number (codes "1") 218)))) ∷ []) 220) ∷ []) 221) ≡ Rule 3 (at 216) ∷ []
+unfolding breaches site_breaches
 nothing_of_main = simp layers refl
 
 -- struct node { int key; }; struct item { int mark; }; void f(struct node *p, struct item *q) { p = q; } int
@@ -110,9 +109,9 @@ parameter_and_structs : breaches (unit (item.Struct (at 200) (name (codes "node"
     (codes "node") 220) (name (codes "p") 222) ∷ param.Pointer (at 224) (name (codes "item") 225) (name
     (codes "q") 227) ∷ [])))) (block 229 (part'.Stmt (stmt.Simple (simple.Assign (var (codes "p") 230) (rhs.Operand
     (operand.Path (var (codes "q") 232))))) ∷ []) 234) ∷ item.Function (head (gives.Data (data'.Int (at 235))) (name
-    (codes "main") 236) (Some (params.Void (at 238)))) (block 240 [] 241) ∷ []) 242) ≡ Rule 13 (at 217) ∷ Rule 6
+    (codes "main") 236) (Some (params.Void (at 238)))) (block 240 [] 241) ∷ []) 242) ≡ Rule 6
     (at 232) ∷ []
-unfolding breaches
+unfolding breaches site_breaches
 parameter_and_structs = simp layers refl
 
 -- int main(int a, int b) { a = b; b = c; }
@@ -122,7 +121,7 @@ parameter_of_main : breaches (unit (item.Function (head (gives.Data (data'.Int (
     (rhs.Operand (operand.Path (var (codes "b") 212))))) ∷ part'.Stmt (stmt.Simple (simple.Assign (var
     (codes "b") 214) (rhs.Operand (operand.Path (var (codes "c") 216))))) ∷ []) 218) ∷ []) 219) ≡ Rule 15 (at 201)
     ∷ Rule 3 (at 216) ∷ []
-unfolding breaches
+unfolding breaches site_breaches
 parameter_of_main = simp layers refl
 
 -- Parameters of prototypes are no variables, and have names (T5)
@@ -134,7 +133,7 @@ prototype_of_one_name_twice : breaches (unit (item.Proto None (head (gives.Void 
     ∷ param.Datum (data'.Enum (at 214) (name (codes "none") 215)) (name (codes "c") 216) ∷ [])))) ∷ item.Function
     (head (gives.Data (data'.Int (at 219))) (name (codes "main") 220) (Some (params.Void (at 222))))
     (block 224 [] 225) ∷ []) 226) ≡ Rule 15 (at 201) ∷ Rule 1 (at 207) ∷ Rule 5 (at 212) ∷ Rule 4 (at 215) ∷ []
-unfolding breaches
+unfolding breaches site_breaches
 prototype_of_one_name_twice = simp layers refl
 
 -- void f(int a); void g(int a); int main(void) { a = 1; }
@@ -145,7 +144,7 @@ prototypes_of_one_name : breaches (unit (item.Proto None (head (gives.Void (at 2
     (Some (params.Void (at 217)))) (block 219 (part'.Stmt (stmt.Simple (simple.Assign (var (codes "a") 220)
     (rhs.Operand (number (codes "1") 222)))) ∷ []) 224) ∷ []) 225) ≡ Rule 15 (at 201) ∷ Rule 15 (at 208) ∷ Rule 3
     (at 220) ∷ []
-unfolding breaches
+unfolding breaches site_breaches
 prototypes_of_one_name = simp layers refl
 
 -- `return` gives what the function around gives (T16, T6 to T8)
@@ -154,16 +153,16 @@ prototypes_of_one_name = simp layers refl
 value_of_void : breaches (unit (item.Function (head (gives.Void (at 200)) (name (codes "f") 201) (Some (params.Void
     (at 203)))) (block 205 (part'.Stmt (stmt.Return (at 206) (Some (number (codes "0") 207))) ∷ []) 209)
     ∷ item.Function (head (gives.Data (data'.Int (at 210))) (name (codes "main") 211) (Some (params.Void (at 213))))
-    (block 215 [] 216) ∷ []) 217) ≡ Rule 13 (at 201) ∷ Rule 16 (at 206) ∷ []
-unfolding breaches
+    (block 215 [] 216) ∷ []) 217) ≡ Rule 16 (at 206) ∷ []
+unfolding breaches site_breaches
 value_of_void = simp layers refl
 
 -- int f(void) { return; } int main(void) { }
 no_value_of_data : breaches (unit (item.Function (head (gives.Data (data'.Int (at 200))) (name (codes "f") 201)
     (Some (params.Void (at 203)))) (block 205 (part'.Stmt (stmt.Return (at 206) None) ∷ []) 208) ∷ item.Function
     (head (gives.Data (data'.Int (at 209))) (name (codes "main") 210) (Some (params.Void (at 212))))
-    (block 214 [] 215) ∷ []) 216) ≡ Rule 13 (at 201) ∷ Rule 16 (at 206) ∷ []
-unfolding breaches
+    (block 214 [] 215) ∷ []) 216) ≡ Rule 16 (at 206) ∷ []
+unfolding breaches site_breaches
 no_value_of_data = simp layers refl
 
 -- struct node { int key; }; struct item { int mark; }; struct node *f(void) { return; } int main(void) { }
@@ -172,40 +171,39 @@ no_value_of_a_pointer : breaches (unit (item.Struct (at 200) (name (codes "node"
     (Some (field.Datums (data'.Int (at 211)) ((name (codes "mark") 212) ∷ []) ∷ [])) ∷ item.Function (head
     (gives.Pointer (at 216) (name (codes "node") 217)) (name (codes "f") 219) (Some (params.Void (at 221))))
     (block 223 (part'.Stmt (stmt.Return (at 224) None) ∷ []) 226) ∷ item.Function (head (gives.Data (data'.Int
-    (at 227))) (name (codes "main") 228) (Some (params.Void (at 230)))) (block 232 [] 233) ∷ []) 234) ≡ Rule 13
-    (at 219) ∷ Rule 16 (at 224) ∷ []
-unfolding breaches
+    (at 227))) (name (codes "main") 228) (Some (params.Void (at 230)))) (block 232 [] 233) ∷ []) 234) ≡ Rule 16 (at 224) ∷ []
+unfolding breaches site_breaches
 no_value_of_a_pointer = simp layers refl
 
 -- void f(void) { return x; } int main(void) { }
 value_of_void_that_is_broken : breaches (unit (item.Function (head (gives.Void (at 200)) (name (codes "f") 201)
     (Some (params.Void (at 203)))) (block 205 (part'.Stmt (stmt.Return (at 206) (Some (operand.Path (var
     (codes "x") 207)))) ∷ []) 209) ∷ item.Function (head (gives.Data (data'.Int (at 210))) (name (codes "main") 211)
-    (Some (params.Void (at 213)))) (block 215 [] 216) ∷ []) 217) ≡ Rule 13 (at 201) ∷ Rule 16 (at 206) ∷ Rule 3
+    (Some (params.Void (at 213)))) (block 215 [] 216) ∷ []) 217) ≡ Rule 16 (at 206) ∷ Rule 3
     (at 207) ∷ []
-unfolding breaches
+unfolding breaches site_breaches
 value_of_void_that_is_broken = simp layers refl
 
 -- void f(void) { return; } int main(void) { }
 nothing_of_void : breaches (unit (item.Function (head (gives.Void (at 200)) (name (codes "f") 201) (Some
     (params.Void (at 203)))) (block 205 (part'.Stmt (stmt.Return (at 206) None) ∷ []) 208) ∷ item.Function (head
     (gives.Data (data'.Int (at 209))) (name (codes "main") 210) (Some (params.Void (at 212)))) (block 214 [] 215)
-    ∷ []) 216) ≡ Rule 13 (at 201) ∷ []
-unfolding breaches
+    ∷ []) 216) ≡ []
+unfolding breaches site_breaches overweight
 nothing_of_void = simp layers refl
 
 -- int main(void) { return; }
 nothing_of_main_function : breaches (unit (item.Function (head (gives.Data (data'.Int (at 200))) (name
     (codes "main") 201) (Some (params.Void (at 203)))) (block 205 (part'.Stmt (stmt.Return (at 206) None) ∷ []) 208)
     ∷ []) 209) ≡ []
-unfolding breaches
+unfolding breaches site_breaches overweight
 nothing_of_main_function = simp layers refl
 
 -- int f(void) { } int main(void) { }
 no_return : breaches (unit (item.Function (head (gives.Data (data'.Int (at 200))) (name (codes "f") 201) (Some
     (params.Void (at 203)))) (block 205 [] 206) ∷ item.Function (head (gives.Data (data'.Int (at 207))) (name
-    (codes "main") 208) (Some (params.Void (at 210)))) (block 212 [] 213) ∷ []) 214) ≡ Rule 13 (at 201) ∷ []
-unfolding breaches
+    (codes "main") 208) (Some (params.Void (at 210)))) (block 212 [] 213) ∷ []) 214) ≡ []
+unfolding breaches site_breaches overweight
 no_return = simp layers refl
 
 -- struct node { int key; }; struct item { int mark; }; struct node *f(void) { return 1; } int main(void) { }
@@ -214,9 +212,8 @@ datum_of_a_pointer : breaches (unit (item.Struct (at 200) (name (codes "node") 2
     (field.Datums (data'.Int (at 211)) ((name (codes "mark") 212) ∷ []) ∷ [])) ∷ item.Function (head (gives.Pointer
     (at 216) (name (codes "node") 217)) (name (codes "f") 219) (Some (params.Void (at 221)))) (block 223 (part'.Stmt
     (stmt.Return (at 224) (Some (number (codes "1") 225))) ∷ []) 227) ∷ item.Function (head (gives.Data (data'.Int
-    (at 228))) (name (codes "main") 229) (Some (params.Void (at 231)))) (block 233 [] 234) ∷ []) 235) ≡ Rule 13
-    (at 219) ∷ Rule 7 (at 225) ∷ []
-unfolding breaches
+    (at 228))) (name (codes "main") 229) (Some (params.Void (at 231)))) (block 233 [] 234) ∷ []) 235) ≡ Rule 7 (at 225) ∷ []
+unfolding breaches site_breaches
 datum_of_a_pointer = simp layers refl
 
 -- struct node { int key; }; struct item { int mark; }; struct node *f(void) { return 0; } int main(void) { }
@@ -225,17 +222,16 @@ zero_of_a_pointer : breaches (unit (item.Struct (at 200) (name (codes "node") 20
     (field.Datums (data'.Int (at 211)) ((name (codes "mark") 212) ∷ []) ∷ [])) ∷ item.Function (head (gives.Pointer
     (at 216) (name (codes "node") 217)) (name (codes "f") 219) (Some (params.Void (at 221)))) (block 223 (part'.Stmt
     (stmt.Return (at 224) (Some (number (codes "0") 225))) ∷ []) 227) ∷ item.Function (head (gives.Data (data'.Int
-    (at 228))) (name (codes "main") 229) (Some (params.Void (at 231)))) (block 233 [] 234) ∷ []) 235) ≡ Rule 13
-    (at 219) ∷ []
-unfolding breaches
+    (at 228))) (name (codes "main") 229) (Some (params.Void (at 231)))) (block 233 [] 234) ∷ []) 235) ≡ []
+unfolding breaches site_breaches overweight
 zero_of_a_pointer = simp layers refl
 
 -- int f(void) { return NULL; } int main(void) { }
 null_of_data : breaches (unit (item.Function (head (gives.Data (data'.Int (at 200))) (name (codes "f") 201) (Some
     (params.Void (at 203)))) (block 205 (part'.Stmt (stmt.Return (at 206) (Some (operand.Null (at 207)))) ∷ []) 209)
     ∷ item.Function (head (gives.Data (data'.Int (at 210))) (name (codes "main") 211) (Some (params.Void (at 213))))
-    (block 215 [] 216) ∷ []) 217) ≡ Rule 13 (at 201) ∷ Rule 8 (at 207) ∷ []
-unfolding breaches
+    (block 215 [] 216) ∷ []) 217) ≡ Rule 8 (at 207) ∷ []
+unfolding breaches site_breaches
 null_of_data = simp layers refl
 
 -- enum e { A }; enum e f(void) { if (A == 0) return A; return 0; } int main(void) { }
@@ -245,8 +241,8 @@ zero_of_an_enumeration : breaches (unit (item.Enum (at 200) (name (codes "e") 20
     (operand.Path (var (codes "A") 215)) true (number (codes "0") 217) ∷ []) ∷ [])) (stmt.Return (at 219) (Some
     (operand.Path (var (codes "A") 220)))) None) ∷ part'.Stmt (stmt.Return (at 222) (Some (number (codes "0") 223)))
     ∷ []) 225) ∷ item.Function (head (gives.Data (data'.Int (at 226))) (name (codes "main") 227) (Some (params.Void
-    (at 229)))) (block 231 [] 232) ∷ []) 233) ≡ Rule 13 (at 208) ∷ []
-unfolding breaches
+    (at 229)))) (block 231 [] 232) ∷ []) 233) ≡ []
+unfolding breaches site_breaches overweight
 zero_of_an_enumeration = simp layers refl
 
 -- struct node { int key; }; struct item { int mark; }; struct node *f(struct node *p) { return p; } int main(void) {
@@ -257,8 +253,8 @@ pointer_of_a_pointer : breaches (unit (item.Struct (at 200) (name (codes "node")
     (at 216) (name (codes "node") 217)) (name (codes "f") 219) (Some (params.List (param.Pointer (at 221) (name
     (codes "node") 222) (name (codes "p") 224) ∷ [])))) (block 226 (part'.Stmt (stmt.Return (at 227) (Some
     (operand.Path (var (codes "p") 228)))) ∷ []) 230) ∷ item.Function (head (gives.Data (data'.Int (at 231))) (name
-    (codes "main") 232) (Some (params.Void (at 234)))) (block 236 [] 237) ∷ []) 238) ≡ Rule 13 (at 219) ∷ []
-unfolding breaches
+    (codes "main") 232) (Some (params.Void (at 234)))) (block 236 [] 237) ∷ []) 238) ≡ []
+unfolding breaches site_breaches overweight
 pointer_of_a_pointer = simp layers refl
 
 -- struct node { int key; }; struct item { int mark; }; struct node *f(struct item *p) { return p; } int main(void) {
@@ -269,9 +265,8 @@ other_pointer_of_a_pointer : breaches (unit (item.Struct (at 200) (name (codes "
     (gives.Pointer (at 216) (name (codes "node") 217)) (name (codes "f") 219) (Some (params.List (param.Pointer
     (at 221) (name (codes "item") 222) (name (codes "p") 224) ∷ [])))) (block 226 (part'.Stmt (stmt.Return (at 227)
     (Some (operand.Path (var (codes "p") 228)))) ∷ []) 230) ∷ item.Function (head (gives.Data (data'.Int (at 231)))
-    (name (codes "main") 232) (Some (params.Void (at 234)))) (block 236 [] 237) ∷ []) 238) ≡ Rule 13 (at 219)
-    ∷ Rule 6 (at 228) ∷ []
-unfolding breaches
+    (name (codes "main") 232) (Some (params.Void (at 234)))) (block 236 [] 237) ∷ []) 238) ≡ Rule 6 (at 228) ∷ []
+unfolding breaches site_breaches
 other_pointer_of_a_pointer = simp layers refl
 
 -- struct node { int key; }; struct item { int mark; }; struct none *f(struct item *p) { return p; } int main(void) {
@@ -283,8 +278,8 @@ pointer_of_an_undefined_struct : breaches (unit (item.Struct (at 200) (name (cod
     (at 221) (name (codes "item") 222) (name (codes "p") 224) ∷ [])))) (block 226 (part'.Stmt (stmt.Return (at 227)
     (Some (operand.Path (var (codes "p") 228)))) ∷ []) 230) ∷ item.Function (head (gives.Data (data'.Int (at 231)))
     (name (codes "main") 232) (Some (params.Void (at 234)))) (block 236 [] 237) ∷ []) 238) ≡ Rule 1 (at 217)
-    ∷ Rule 13 (at 219) ∷ []
-unfolding breaches
+    ∷ []
+unfolding breaches site_breaches
 pointer_of_an_undefined_struct = simp layers refl
 
 -- struct node { int key; }; struct item { int mark; }; int main(void) { struct node *p; return p; }
@@ -294,16 +289,16 @@ pointer_of_main : breaches (unit (item.Struct (at 200) (name (codes "node") 201)
     (data'.Int (at 216))) (name (codes "main") 217) (Some (params.Void (at 219)))) (block 221 (part'.Declare
     (declare.Pointers (at 222) (name (codes "node") 223) (plain (codes "p") 225 ∷ [])) ∷ part'.Stmt (stmt.Return
     (at 227) (Some (operand.Path (var (codes "p") 228)))) ∷ []) 230) ∷ []) 231) ≡ Rule 8 (at 228) ∷ []
-unfolding breaches
+unfolding breaches site_breaches
 pointer_of_main = simp layers refl
 
 -- int f(void) { return abort(); } int main(void) { }
 call_that_is_returned : breaches (unit (item.Function (head (gives.Data (data'.Int (at 200))) (name (codes "f") 201)
     (Some (params.Void (at 203)))) (block 205 (part'.Stmt (stmt.Return (at 206) (Some (operand.Call (call
     (codes "abort") 207 [])))) ∷ []) 211) ∷ item.Function (head (gives.Data (data'.Int (at 212))) (name
-    (codes "main") 213) (Some (params.Void (at 215)))) (block 217 [] 218) ∷ []) 219) ≡ Rule 13 (at 201) ∷ Rule 15
+    (codes "main") 213) (Some (params.Void (at 215)))) (block 217 [] 218) ∷ []) 219) ≡ Rule 15
     (at 207) ∷ []
-unfolding breaches
+unfolding breaches site_breaches
 call_that_is_returned = simp layers refl
 
 -- void f(void) { return; } int g(void) { return; } int main(void) { }
@@ -311,9 +306,8 @@ return_of_a_later_function : breaches (unit (item.Function (head (gives.Void (at
     (params.Void (at 203)))) (block 205 (part'.Stmt (stmt.Return (at 206) None) ∷ []) 208) ∷ item.Function (head
     (gives.Data (data'.Int (at 209))) (name (codes "g") 210) (Some (params.Void (at 212)))) (block 214 (part'.Stmt
     (stmt.Return (at 215) None) ∷ []) 217) ∷ item.Function (head (gives.Data (data'.Int (at 218))) (name
-    (codes "main") 219) (Some (params.Void (at 221)))) (block 223 [] 224) ∷ []) 225) ≡ Rule 13 (at 201) ∷ Rule 13
-    (at 210) ∷ Rule 16 (at 215) ∷ []
-unfolding breaches
+    (codes "main") 219) (Some (params.Void (at 221)))) (block 223 [] 224) ∷ []) 225) ≡ Rule 16 (at 215) ∷ []
+unfolding breaches site_breaches
 return_of_a_later_function = simp layers refl
 
 -- Loops end with their function (T11)
@@ -324,8 +318,8 @@ break_of_another_function : breaches (unit (item.Function (head (gives.Void (at 
     (gives.Data (data'.Int (at 209))) (name (codes "main") 210) (Some (params.Void (at 212)))) (block 214
     (part'.Stmt (stmt.While (at 215) (condition (conjunction (test.Unary (unary.Operand (number (codes "1") 217))
     ∷ []) ∷ [])) (stmt.Block (block 219 [] 220))) ∷ part'.Stmt (stmt.Continue (at 221)) ∷ []) 223) ∷ []) 224)
-    ≡ Rule 13 (at 201) ∷ Rule 11 (at 206) ∷ Rule 11 (at 221) ∷ []
-unfolding breaches
+    ≡ Rule 11 (at 206) ∷ Rule 11 (at 221) ∷ []
+unfolding breaches site_breaches
 break_of_another_function = simp layers refl
 
 -- void f(int a) { while (a) { break; } } int main(void) { }
@@ -334,8 +328,8 @@ break_within : breaches (unit (item.Function (head (gives.Void (at 200)) (name (
     (condition (conjunction (test.Unary (unary.Operand (operand.Path (var (codes "a") 209))) ∷ []) ∷ []))
     (stmt.Block (block 211 (part'.Stmt (stmt.Break (at 212)) ∷ []) 214))) ∷ []) 215) ∷ item.Function (head
     (gives.Data (data'.Int (at 216))) (name (codes "main") 217) (Some (params.Void (at 219)))) (block 221 [] 222)
-    ∷ []) 223) ≡ Rule 13 (at 201) ∷ []
-unfolding breaches
+    ∷ []) 223) ≡ []
+unfolding breaches site_breaches overweight
 break_within = simp layers refl
 
 -- What was declared so far is handed on from one function to the next
@@ -424,33 +418,33 @@ breaks_after n i =
 -- int f(int a) { int b; }
 variables_64 : breaks_after 61 (item.Function (head (gives.Data (data'.Int (at 200))) (name (codes "f") 201) (Some
     (params.List (param.Datum (data'.Int (at 203)) (name (codes "a") 204) ∷ [])))) (block 206 (part'.Declare
-    (declare.Datums (data'.Int (at 207)) (plain (codes "b") 208 ∷ [])) ∷ []) 210)) ≡ Rule 13 (at 201) ∷ []
+    (declare.Datums (data'.Int (at 207)) (plain (codes "b") 208 ∷ [])) ∷ []) 210)) ≡ []
 variables_64 = simp layers refl
 
 -- int f(int a) { int b; }
 variable_65 : breaks_after 62 (item.Function (head (gives.Data (data'.Int (at 200))) (name (codes "f") 201) (Some
     (params.List (param.Datum (data'.Int (at 203)) (name (codes "a") 204) ∷ [])))) (block 206 (part'.Declare
-    (declare.Datums (data'.Int (at 207)) (plain (codes "b") 208 ∷ [])) ∷ []) 210)) ≡ Rule 13 (at 201) ∷ Limit 4
+    (declare.Datums (data'.Int (at 207)) (plain (codes "b") 208 ∷ [])) ∷ []) 210)) ≡ Limit 4
     (at 208) ∷ []
 variable_65 = simp layers refl
 
 -- int f(int a) { int b; }
 parameter_65 : breaks_after 63 (item.Function (head (gives.Data (data'.Int (at 200))) (name (codes "f") 201) (Some
     (params.List (param.Datum (data'.Int (at 203)) (name (codes "a") 204) ∷ [])))) (block 206 (part'.Declare
-    (declare.Datums (data'.Int (at 207)) (plain (codes "b") 208 ∷ [])) ∷ []) 210)) ≡ Rule 13 (at 201) ∷ Limit 4
+    (declare.Datums (data'.Int (at 207)) (plain (codes "b") 208 ∷ [])) ∷ []) 210)) ≡ Limit 4
     (at 204) ∷ []
 parameter_65 = simp layers refl
 
 -- int f(int a) { int b; }
 result_65 : breaks_after 64 (item.Function (head (gives.Data (data'.Int (at 200))) (name (codes "f") 201) (Some
     (params.List (param.Datum (data'.Int (at 203)) (name (codes "a") 204) ∷ [])))) (block 206 (part'.Declare
-    (declare.Datums (data'.Int (at 207)) (plain (codes "b") 208 ∷ [])) ∷ []) 210)) ≡ Rule 13 (at 201) ∷ Limit 4
+    (declare.Datums (data'.Int (at 207)) (plain (codes "b") 208 ∷ [])) ∷ []) 210)) ≡ Limit 4
     (at 201) ∷ []
 result_65 = simp layers refl
 
 -- void f(int a) { }
 parameter_64 : breaks_after 63 (item.Function (head (gives.Void (at 200)) (name (codes "f") 201) (Some (params.List
-    (param.Datum (data'.Int (at 203)) (name (codes "a") 204) ∷ [])))) (block 206 [] 207)) ≡ Rule 13 (at 201) ∷ []
+    (param.Datum (data'.Int (at 203)) (name (codes "a") 204) ∷ [])))) (block 206 [] 207)) ≡ []
 parameter_64 = simp layers refl
 
 -- int main(void) { }
@@ -471,17 +465,17 @@ breaks_behind n i =
 
 -- void f(void) { }
 function_64 : breaks_behind 63 (item.Function (head (gives.Void (at 200)) (name (codes "f") 201) (Some (params.Void
-    (at 203)))) (block 205 [] 206)) ≡ Rule 13 (at 201) ∷ []
+    (at 203)))) (block 205 [] 206)) ≡ []
 function_64 = simp layers refl
 
 -- void f(void) { }
 function_65 : breaks_behind 64 (item.Function (head (gives.Void (at 200)) (name (codes "f") 201) (Some (params.Void
-    (at 203)))) (block 205 [] 206)) ≡ Limit 10 (at 201) ∷ Rule 13 (at 201) ∷ []
+    (at 203)))) (block 205 [] 206)) ≡ Limit 10 (at 201) ∷ []
 function_65 = simp layers refl
 
 -- void f(void) { }
 function_66 : breaks_behind 65 (item.Function (head (gives.Void (at 200)) (name (codes "f") 201) (Some (params.Void
-    (at 203)))) (block 205 [] 206)) ≡ Rule 13 (at 201) ∷ []
+    (at 203)))) (block 205 [] 206)) ≡ []
 function_66 = simp layers refl
 
 -- int main(void) { }
@@ -492,7 +486,7 @@ main_65 = simp layers refl
 -- void f(void) { ; ; }: the statements of each body are counted by themselves
 body_counts : item_sites file nothing_seen (item.Function (head (gives.Void (at 200)) (name (codes "f") 201) (Some
     (params.Void (at 203)))) (block 205 (part'.Stmt (stmt.Empty (at 206)) ∷ part'.Stmt (stmt.Empty (at 207))
-    ∷ []) 208)) empty_scope ≡ Defines Function (name (codes "f") 201) [] 0 ∷ Functions false (head (gives.Void
+    ∷ []) 208)) empty_scope ≡ Defines Function (name (codes "f") 201) [] 0 ∷ Functions (head (gives.Void
     (at 200)) (name (codes "f") 201) (Some (params.Void (at 203)))) ∷ Counts (at 206 ∷ at 207 ∷ []) ∷ []
 body_counts = simp layers refl
 

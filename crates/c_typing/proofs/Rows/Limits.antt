@@ -13,9 +13,12 @@ use Rattle.c_ast.specs.declared.statements.Declare.TheVariants as declare
 use Rattle.c_ast.specs.declared.statements.First.TheVariants as first
 use Rattle.c_ast.specs.declared.statements.Part.TheVariants as part'
 use Rattle.c_ast.specs.declared.statements.Stmt.TheVariants as stmt
-use Rattle.c_typing.specs.Typing.{breaches}
+use Rattle.c_typing.specs.Typing.{breaches, site_breaches, overweight}
 use Rattle.c_typing.specs.declared.fault.TypeFault.TheVariants.{Rule, Limit}
 use Rattle.c_typing.proofs.Layers.{layers}
+use Rattle.c_typing.proofs.PlaceLayers.{place_layers}
+use Rattle.c_typing.proofs.ScopeLayers.{scope_layers}
+use Rattle.c_typing.proofs.SiteLayers.{site_layers}
 use Rattle.c_typing.proofs.Rows.Forms.{at, name, var, call, number, condition, conjunction, plain, begun, block, head}
 use Rattle.c_typing.proofs.Rows.Forms.{unit, file}
 use Rattle.fore_base.specs.declared.place.Place.{Place}
@@ -42,7 +45,7 @@ fields_16 :
     ∷ (name (codes "f8") 226) ∷ (name (codes "f9") 228) ∷ (name (codes "f10") 230) ∷ (name (codes "f11") 232)
     ∷ (name (codes "f12") 234) ∷ (name (codes "f13") 236) ∷ (name (codes "f14") 238) ∷ (name (codes "f15") 240) ∷ [])
     ∷ [])) ∷ []) 244) ≡ []
-unfolding breaches
+unfolding breaches site_breaches overweight
 fields_16 = simp layers refl
 
 -- the 17th field; the 18th breaks nothing more
@@ -58,7 +61,7 @@ fields_17 :
     ∷ (name (codes "f12") 234) ∷ (name (codes "f13") 236) ∷ (name (codes "f14") 238) ∷ (name (codes "f15") 240) ∷ [])
     ∷ field.Pointers (at 242) (name (codes "s") 243) ((name (codes "f16") 245) ∷ (name (codes "f17") 248) ∷ []) ∷ []))
     ∷ []) 252) ≡ Limit 3 (at 245) ∷ []
-unfolding breaches
+unfolding breaches site_breaches
 fields_17 = simp layers refl
 
 -- 15 fields in one struct and 2 in another
@@ -74,7 +77,7 @@ fields_of_two : breaches
     ∷ item.Struct (at 242) (name (codes "t") 243)
     (Some (field.Datums (data'.Int (at 245)) ((name (codes "g") 246) ∷ (name (codes "h") 248) ∷ []) ∷ [])) ∷ []) 252)
     ≡ []
-unfolding breaches
+unfolding breaches site_breaches overweight
 fields_of_two = simp layers refl
 
 -- a repeated field counts too
@@ -88,7 +91,7 @@ fields_17_again : breaches
     ∷ (name (codes "f8") 226) ∷ (name (codes "f9") 228) ∷ (name (codes "f10") 230) ∷ (name (codes "f11") 232)
     ∷ (name (codes "f12") 234) ∷ (name (codes "f13") 236) ∷ (name (codes "f14") 238) ∷ (name (codes "f15") 240)
     ∷ (name (codes "f0") 242) ∷ []) ∷ [])) ∷ []) 246) ≡ Rule 5 (at 242) ∷ Limit 3 (at 242) ∷ []
-unfolding breaches
+unfolding breaches site_breaches
 fields_17_again = simp layers refl
 
 -- each struct is counted by itself
@@ -110,7 +113,7 @@ fields_17_twice : breaches
     ∷ (name (codes "f8") 266) ∷ (name (codes "f9") 268) ∷ (name (codes "f10") 270) ∷ (name (codes "f11") 272)
     ∷ (name (codes "f12") 274) ∷ (name (codes "f13") 276) ∷ (name (codes "f14") 278) ∷ (name (codes "f15") 280)
     ∷ (name (codes "f16") 282) ∷ []) ∷ [])) ∷ []) 286) ≡ Limit 3 (at 242) ∷ Limit 3 (at 282) ∷ []
-unfolding breaches
+unfolding breaches site_breaches
 fields_17_twice = simp layers refl
 
 -- an enumeration of 16 enumerators
@@ -123,7 +126,7 @@ values_16 :
     ∷ (name (codes "A8") 225) ∷ (name (codes "A9") 227) ∷ (name (codes "A10") 229) ∷ (name (codes "A11") 231)
     ∷ (name (codes "A12") 233) ∷ (name (codes "A13") 235) ∷ (name (codes "A14") 237) ∷ (name (codes "A15") 239) ∷ [])
     ∷ []) 242) ≡ []
-unfolding breaches
+unfolding breaches site_breaches overweight
 values_16 = simp layers refl
 
 -- the 17th enumerator
@@ -136,8 +139,8 @@ values_17 :
     ∷ (name (codes "A8") 225) ∷ (name (codes "A9") 227) ∷ (name (codes "A10") 229) ∷ (name (codes "A11") 231)
     ∷ (name (codes "A12") 233) ∷ (name (codes "A13") 235) ∷ (name (codes "A14") 237) ∷ (name (codes "A15") 239)
     ∷ (name (codes "A16") 241) ∷ (name (codes "A17") 243) ∷ []) ∷ []) 246) ≡ Limit 5 (at 241) ∷ []
-unfolding breaches
-values_17 = simp layers refl
+unfolding breaches site_breaches
+values_17 = simp (place_layers, scope_layers, site_layers) refl
 
 -- 15 enumerators in each of two enumerations
 values_of_two : breaches
@@ -152,7 +155,7 @@ values_of_two : breaches
     ∷ (name (codes "B4") 251) ∷ (name (codes "B5") 253) ∷ (name (codes "B6") 255) ∷ (name (codes "B7") 257)
     ∷ (name (codes "B8") 259) ∷ (name (codes "B9") 261) ∷ (name (codes "B10") 263) ∷ (name (codes "B11") 265)
     ∷ (name (codes "B12") 267) ∷ (name (codes "B13") 269) ∷ (name (codes "B14") 271) ∷ []) ∷ []) 274) ≡ []
-unfolding breaches
+unfolding breaches site_breaches overweight
 values_of_two = simp layers refl
 
 -- 32 structs
@@ -223,7 +226,7 @@ structs_32 :
     (Some (field.Datums (data'.Int (at 449)) ((name (codes "a") 450) ∷ []) ∷ []))
     ∷ item.Struct (at 454) (name (codes "s31") 455)
     (Some (field.Datums (data'.Int (at 457)) ((name (codes "a") 458) ∷ []) ∷ [])) ∷ []) 462) ≡ []
-unfolding breaches
+unfolding breaches site_breaches overweight
 structs_32 = simp layers refl
 
 -- the 33rd struct with braces; those without do not count
@@ -300,7 +303,7 @@ structs_33 :
     (Some (field.Datums (data'.Int (at 471)) ((name (codes "a") 472) ∷ []) ∷ []))
     ∷ item.Struct (at 476) (name (codes "s33") 477)
     (Some (field.Datums (data'.Int (at 479)) ((name (codes "a") 480) ∷ []) ∷ [])) ∷ []) 484) ≡ Limit 2 (at 469) ∷ []
-unfolding breaches
+unfolding breaches site_breaches
 structs_33 = simp layers refl
 
 -- a repeated struct counts too
@@ -373,7 +376,7 @@ structs_33_again : breaches
     ∷ item.Struct (at 462) (name (codes "s0") 463)
     (Some (field.Datums (data'.Int (at 465)) ((name (codes "a") 466) ∷ []) ∷ [])) ∷ []) 470) ≡ Rule 5 (at 463)
     ∷ Limit 2 (at 463) ∷ []
-unfolding breaches
+unfolding breaches site_breaches
 structs_33_again = simp layers refl
 
 -- after so many data variables, in blocks that are closed

@@ -15,6 +15,7 @@ use Rattle.c_ast.specs.declared.statements.Declare.TheVariants as declare
 use Rattle.c_ast.specs.declared.statements.First.TheVariants as first
 use Rattle.c_ast.specs.declared.statements.Part.TheVariants as part'
 use Rattle.c_ast.specs.declared.statements.Stmt.TheVariants as stmt
+use Rattle.c_types.proofs.Layers.{declares-Group}
 use Rattle.c_typing.proofs.Layers.{layers}
 use Rattle.c_typing.proofs.Rows.Forms.{at, name, var, arrow, path, call, number, condition, conjunction, plain, begun}
 use Rattle.c_typing.proofs.Rows.Forms.{block, head, unit, file, here}
@@ -34,6 +35,7 @@ use Rattle.c_types.specs.declared.program.PtrOp.TheVariants as ptr_op
 use Rattle.c_types.specs.declared.program.PtrRhs.TheVariants as ptr_rhs
 use Rattle.c_types.specs.declared.program.Stmt.{Stmt}
 use Rattle.c_types.specs.declared.program.Stmt.TheVariants.{Do, Branch, While, DoWhile, For, Group}
+use Rattle.c_types.specs.declared.program.VarRef.TheVariants as ref
 use Rattle.c_typing.specs.Programs.{stmt_stmts, cond_of, program_of}
 
 abbrev becomes : tree'.Stmt → List Stmt
@@ -661,9 +663,16 @@ first_main :
     226) ≡ record {
       shapes = record { structs = [] };
       vars = [];
-      data_vars = codes "x" ∷ [];
-      funcs = [];
-      body = Group (Do (SetData (Var 0) (data_rhs.Known 3)) 215 ∷ []) [] (0 ∷ []) 219 ∷ [];
+      data_vars = codes "a" ∷ codes "x" ∷ [];
+      funcs =
+          record {
+            name = codes "f";
+            params = [];
+            locals = ref.Data 0 ∷ [];
+            result = None;
+            body = Group [] [] (0 ∷ []) 208 ∷ [];
+          } ∷ [];
+      body = Group (Do (SetData (Var 1) (data_rhs.Known 3)) 215 ∷ []) [] (1 ∷ []) 219 ∷ [];
     }
 unfolding program_of
-first_main = simp layers refl
+first_main = simp (declares-Group, layers) refl

@@ -1,6 +1,6 @@
 -- Why a file that the shelf did not give is not taken.
-use Rattle.fore_base.specs.declared.shelf.ShelfFault.{ShelfFault}
-use Rattle.fore_base.specs.declared.shelf.ShelfFault.TheVariants as shelf
+use Rattle.fore_outside.specs.declared.shelf.ShelfFault.{ShelfFault}
+use Rattle.fore_outside.specs.declared.shelf.ShelfFault.TheVariants as shelf
 use Rattle.fore_read.specs.declared.fault.ReadFault.{ReadFault}
 use Rattle.fore_read.specs.declared.fault.ReadFault.TheVariants.{Refused, Failed, Memory}
 use Rattle.fore_read.specs.declared.fault.Refusal.{Refusal}

@@ -3,5 +3,5 @@ use Rattle.c_calls.specs.Calls.{AreCalls}
 use Rattle.c_typing.proofs.CallLaws.{calls_within}
 use Rattle.c_callees.proofs.calling.call_graph.Goals as goal
 
-pub new-requires-clause-within : goal.new-requires-clause-within
-new-requires-clause-within c = subst AreCalls (sym c.in_ok-calls.ensures) (calls_within c.args.items.now)
+pub graph_of-requires : goal.graph_of-requires
+graph_of-requires c = subst AreCalls (sym c.in_ok-calls.ensures) (calls_within c.args.items.now)

@@ -1,6 +1,6 @@
 use Rattle.std.proofs.Common.{List, ℕ, length, sym, ap, ◌∙◌, subst}
 use Rattle.c_calls.specs.Weights.{AreWeights}
-use Rattle.c_typing.specs.Globals.{calls_of, function_heads}
+use Rattle.c_typing.specs.Globals.{function_heads}
 use Rattle.c_typing.specs.Weights.{statements_of}
 use Rattle.c_callees.proofs.WeightLemmas.{main_last, statements_long, weights_long}
 use Rattle.c_callees.proofs.weighing.main_weight.Goals as goal

@@ -4,7 +4,7 @@ use Rattle.c_ast.specs.declared.items.Field.{Field}
 use Rattle.c_typing.specs.ItemSites.{field_type_sites, names_of}
 use Rattle.c_check.specs.inner.Items.{kept_fields_sites, kept_member_sites, with_names}
 use Rattle.c_expressions.specs.Meeting.{met}
-use Rattle.c_check.proofs.LoopLemmas.{turn}
+use Rattle.c_making.proofs.MakingLemmas.{turn}
 use Rattle.c_expressions.proofs.MeetingLemmas.{met-append, met-nil}
 use Rattle.c_check.proofs.definitions.defines_fields.Goals as goal
 

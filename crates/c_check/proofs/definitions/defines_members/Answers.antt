@@ -3,7 +3,7 @@ use Rattle.std.proofs.lemmas.List.{at_drop_all}
 use Rattle.c_ast.specs.declared.operands.Name.{Name}
 use Rattle.c_check.specs.inner.Items.{kept_member_sites, with_names}
 use Rattle.c_expressions.specs.Meeting.{met}
-use Rattle.c_check.proofs.LoopLemmas.{turn}
+use Rattle.c_making.proofs.MakingLemmas.{turn}
 use Rattle.c_expressions.proofs.MeetingLemmas.{met-cons, met-nil}
 use Rattle.c_check.proofs.definitions.defines_members.Goals as goal
 

@@ -5,8 +5,8 @@ use Rattle.c_typing.specs.Sites.{Counts}
 use Rattle.c_scopes.specs.InScope.{outer}
 use Rattle.c_expressions.specs.Meeting.{met}
 use Rattle.c_expressions.proofs.MeetingLemmas.{met-one}
-use Rattle.c_check.proofs.FunctionLemmas.{outer-past_head}
-use Rattle.c_check.proofs.StatementLemmas.{after_one}
+use Rattle.c_making.proofs.FunctionLemmas.{outer-past_head}
+use Rattle.c_bodies.proofs.StatementLemmas.{after_one}
 use Rattle.c_check.proofs.functions.function_faults.Goals as goal
 
 pub move_to-requires : goal.move_to-requires

@@ -5,7 +5,7 @@ use Rattle.c_typing.specs.Globals.{param_kind, struct_names}
 use Rattle.c_typing.specs.ItemSites.{own_param_sites, own_params_sites}
 use Rattle.c_typing.specs.Scopes.{declared, param_name, past_params}
 use Rattle.c_expressions.specs.Meeting.{met}
-use Rattle.c_check.proofs.LoopLemmas.{turn}
+use Rattle.c_making.proofs.MakingLemmas.{turn}
 use Rattle.c_expressions.proofs.MeetingLemmas.{met-append, met-nil}
 use Rattle.c_check.proofs.functions.params_faults.Goals as goal
 

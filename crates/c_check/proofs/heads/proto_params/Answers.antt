@@ -6,7 +6,7 @@ use Rattle.c_typing.specs.Scopes.{param_name}
 use Rattle.c_typing.specs.Sites.{Defines, Parameter}
 use Rattle.c_check.specs.inner.Items.{kept_params_sites, with_name}
 use Rattle.c_expressions.specs.Meeting.{met}
-use Rattle.c_check.proofs.LoopLemmas.{turn}
+use Rattle.c_making.proofs.MakingLemmas.{turn}
 use Rattle.c_expressions.proofs.MeetingLemmas.{met-append, met-nil}
 use Rattle.c_check.proofs.heads.proto_params.Goals as goal
 

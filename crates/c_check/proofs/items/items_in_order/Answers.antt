@@ -4,7 +4,7 @@ use Rattle.c_ast.specs.declared.items.Item.{Item}
 use Rattle.c_typing.specs.Scopes.{past_item}
 use Rattle.c_check.specs.inner.Items.{any_main, is_main_item, kept_after, kept_item_sites, kept_items_sites}
 use Rattle.c_expressions.specs.Meeting.{met}
-use Rattle.c_check.proofs.LoopLemmas.{turn}
+use Rattle.c_making.proofs.MakingLemmas.{turn}
 use Rattle.c_expressions.proofs.MeetingLemmas.{met-append, met-nil}
 use Rattle.c_check.proofs.items.items_in_order.Goals as goal
 
@@ -33,12 +33,11 @@ loop-item-preserved c =
         c.in_ok-main.ensures.seen,
         c.in_ok-main.ensures.past,
         c.in_ok-main.ensures.found,
-        c.in_ok-main.ensures.main,
       )
           (sym
-          (met-append g found (kept_item_sites g main seen item scope)
-          (kept_items_sites g (main || is_main_item item) (kept_after seen item) rest (past_item g item scope)))
-          ∙ turn (λ (is : List Item). met g found (kept_items_sites g main seen is scope)) items i item
+          (met-append g found (kept_item_sites g seen item scope)
+          (kept_items_sites g (kept_after seen item) rest (past_item g item scope)))
+          ∙ turn (λ (is : List Item). met g found (kept_items_sites g seen is scope)) items i item
           c.loop-item-test.true c.item-item.is
           ∙ c.loop-item.invariant.found);
       main = ap (λ b. b || any_main rest) c.in_ok-main.ensures.main
@@ -52,7 +51,7 @@ returns-clause-found c =
     let g = c.args.tables.now in
     sym
     (at_drop_all (λ (is : List Item).
-    met g c.loop-item.found (kept_items_sites g c.loop-item.main c.loop-item.seen is c.loop-item.scope))
+    met g c.loop-item.found (kept_items_sites g c.loop-item.seen is c.loop-item.scope))
     c.args.items.now c.loop-item.item-index c.loop-item-test.false
     ∙ met-nil g c.loop-item.found)
     ∙ c.loop-item.invariant.found

@@ -1,4 +1,4 @@
-use Rattle.std.proofs.Common.{false, ap, ◌∙◌}
+use Rattle.std.proofs.Common.{ap, ◌∙◌}
 use Rattle.c_typing.specs.Scopes.{empty_scope}
 use Rattle.c_typing.specs.Sites.{Ends, Overflows}
 use Rattle.c_check.specs.inner.Items.{any_main, kept_items_sites, nothing_kept}
@@ -15,5 +15,5 @@ returns c =
     ∙ ap (λ o. noted g o (Overflows u.over)) c.ends.ensures
     ∙ ap (λ o. noted g (noted g o (Ends main u.end)) (Overflows u.over))
     (c.in_ok-main.ensures.found
-    ∙ ap (λ is. met g c.args.found.now (kept_items_sites g false nothing_kept is empty_scope)) c.as_slice.ensures)
+    ∙ ap (λ is. met g c.args.found.now (kept_items_sites g nothing_kept is empty_scope)) c.as_slice.ensures)
     ∙ whole_met g c.args.found.now u main (c.in_ok-main.ensures.main ∙ ap any_main c.as_slice.ensures)

@@ -1,4 +1,4 @@
-use Rattle.c_check.proofs.FirstFaults.{types_all, finds_all}
+use Rattle.c_check.proofs.AnswerLemmas.{types_all, finds_all}
 use Rattle.c_check.proofs.units.check.Goals as goal
 
 pub returns-clause-types : goal.returns-clause-types

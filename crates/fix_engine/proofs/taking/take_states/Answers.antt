@@ -13,7 +13,7 @@ loop-state-init g c =
     c.requires.mid c.requires.within c.requires.due
 
 pub add_uncovered-requires-clause-faces : goal.add_uncovered-requires-clause-faces
-add_uncovered-requires-clause-faces g c = λ n h.
+add_uncovered-requires-clause-faces g c κs within = λ n h.
     let t = c.args.task.now in
     let a = c.state-item.result in
     let is = at_item c.args.states.now c.loop-state.state-index a c.loop-state-test.true c.state-item.is in
@@ -37,7 +37,7 @@ returns-in-Full g c =
     (subst (λ z. IsPlaced c.loop-state.nodes (child c.args.at c.args.number e a) z more c.in_ok-add_uncovered.field-0)
     c.budget.ensures
     (subst (λ z. IsPlaced c.loop-state.nodes z c.budget.result more c.in_ok-add_uncovered.field-0)
-    (c.head_of-head.ensures a) c.in_ok-add_uncovered.ensures)))
+    (c.head_of-head.ensures a) c.in_ok-add_uncovered.ensures.placed)))
 
 pub loop-state-preserved : goal.loop-state-preserved
 loop-state-preserved g c =
@@ -54,7 +54,7 @@ loop-state-preserved g c =
     (subst (λ z. IsPlaced c.loop-state.nodes (child c.args.at c.args.number e a) z more c.in_ok-add_uncovered.field-0)
     c.budget.ensures
     (subst (λ z. IsPlaced c.loop-state.nodes z c.budget.result more c.in_ok-add_uncovered.field-0)
-    (c.head_of-head.ensures a) c.in_ok-add_uncovered.ensures))
+    (c.head_of-head.ensures a) c.in_ok-add_uncovered.ensures.placed))
 
 pub returns : goal.returns
 returns g c =

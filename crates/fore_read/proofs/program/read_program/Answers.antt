@@ -1,5 +1,5 @@
 use Rattle.std.proofs.Common.{[], ◌∷◌, IfOk, IfErr, refl, subst}
-use Rattle.fore_base.specs.NamedFiles.{reading}
+use Rattle.fore_outside.specs.NamedFiles.{reading}
 use Rattle.c_front.specs.Files.{IsProgramOf}
 use Rattle.fore_read.specs.Readings.{reading_of}
 use Rattle.fore_read.specs.Bytes.{IsProgramFault}

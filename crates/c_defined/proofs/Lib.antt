@@ -1,0 +1,2 @@
+mod DirectoryLemmas
+pub mod TableLemmas

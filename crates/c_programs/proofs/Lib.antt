@@ -1,0 +1,2 @@
+pub mod DeclareLayers
+pub mod ProgramLemmas

@@ -1,6 +1,0 @@
-use Rattle.std.proofs.Common.{◌≡◌, map, take}
-use Rattle.c_typing.specs.Programs.{field_of}
-use Rattle.c_tables.proofs.tables.fields_in.Given as goal
-
-abbrev pub invariant-loop-member : goal.invariant-loop-member
-invariant-loop-member l = l.fields ≡ map field_of (take l.member-index l.members)

@@ -1,0 +1,43 @@
+// Whether a phase is worth threads.
+ghost use Rattle.par_kit.specs.Crews.{IsJobs};
+
+use fa_core::forest::Forest;
+use fix_core::nodes::Due;
+use fore_base::list::List;
+use par_kit::crew::Crew;
+use par_kit::gate::Gate;
+
+/// How many rules the forests of a phase have at least where threads are begun for it. To begin them and to wait for
+/// them takes up to 0.5 milliseconds, by the machine, and what is made of a forest some 0.02 for each rule: fewer rules
+/// than these are done by then.
+const THREAD_RULES: usize = 18;
+
+/// The crew for a phase over forests of so many rules in all: one job of it where these are too few for threads.
+pub fn crew_for<'g, G: Gate>(crew: &Crew<'g, G>, rules: usize) -> Crew<'g, G>
+    requires { IsJobs crew.now.jobs }
+    ensures { IsJobs result.jobs }
+{
+    let jobs = if rules < THREAD_RULES { 1 } else { crew.jobs };
+    Crew {
+        jobs,
+        gate: crew.gate,
+    }
+}
+
+/// How many rules the forest has, or as many as can be counted.
+pub fn rules_of(forest: &Forest) -> usize {
+    let mut rules = 0usize;
+    for auto in forest.autos.as_slice() {
+        rules = rules.saturating_add(auto.rules.len());
+    }
+    rules
+}
+
+/// How many rules the forests have in all, or as many as can be counted.
+pub fn rules_of_all(dues: &List<Due>) -> usize {
+    let mut rules = 0usize;
+    for due in dues.as_slice() {
+        rules = rules.saturating_add(rules_of(due.forest.forest()));
+    }
+    rules
+}

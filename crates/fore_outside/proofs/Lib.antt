@@ -1,0 +1,4 @@
+pub mod NamedFileLemmas
+pub mod OutsideLemmas
+mod OutsideRows
+pub mod ReadLemmas

@@ -1,0 +1,17 @@
+-- Files in memory, found by their paths. A path is its bytes.
+use Rattle.std.specs.Prelude.{ℕ, Bool, List, Option, nat_eq, find}
+use Rattle.std.specs.Option.{option_map}
+use Rattle.std.specs.Cmp.Lexicographic.{pointwise}
+use Rattle.fore_outside.specs.declared.named_files.NamedFile.{NamedFile}
+
+-- one answered reading: the path that was asked for, and the bytes that it gave
+abbrev pub reading : List ℕ → List ℕ → NamedFile
+reading path bytes = record { name = path; bytes = bytes }
+
+-- the file has this path
+abbrev pub is_named : List ℕ → NamedFile → Bool
+is_named name file = pointwise nat_eq file.name name
+
+-- the bytes of the first file of this path
+abbrev pub bytes_of : List NamedFile → List ℕ → Option (List ℕ)
+bytes_of files name = option_map (λ file. file.bytes) (find (is_named name) files)
