@@ -16,7 +16,7 @@ use std::marker::Model;
 
 /// The calls of a file. Contracts see for each function, by its number, the functions that its body calls, each as
 /// often as it is called.
-#[derive(Debug, Drop)]
+#[derive(Drop)]
 pub struct CallGraph {
     calls: List<List<u32>>,
     callers: List<List<u32>>,

@@ -4,7 +4,7 @@ use std::alloc::AllocError;
 use thiserror::Error;
 
 /// What a rule is about.
-#[derive(Clone, Copy, PartialEq, Eq, Debug)]
+#[derive(Clone, Copy, Debug)]
 pub enum Letter {
     /// L: bytes that are no tokens.
     Lexical,
@@ -19,7 +19,7 @@ pub enum Letter {
 }
 
 /// A rule, by its letter and number, and the place at which a file breaks it.
-#[derive(Clone, Copy, PartialEq, Eq, Debug)]
+#[derive(Clone, Copy, Debug)]
 pub struct Broken {
     pub letter: Letter,
     pub number: u8,
@@ -27,7 +27,7 @@ pub struct Broken {
 }
 
 /// Why a file gives no program.
-#[derive(Clone, Copy, PartialEq, Eq, Debug, Error)]
+#[derive(Clone, Copy, Debug, Error)]
 pub enum FileFault {
     /// This is the first rule that it breaks.
     #[error("the file breaks a rule at {}:{}", .first.at.line, .first.at.column)]

@@ -5,7 +5,7 @@ use std::alloc::AllocError;
 use thiserror::Error;
 
 /// Why a list of tokens is no unit.
-#[derive(Clone, Copy, PartialEq, Eq, Debug, Error)]
+#[derive(Clone, Copy, Debug, Error)]
 pub enum SyntaxFault {
     /// This token is refused by one of the rules P1 to P10.
     #[error("a token at {}:{} is refused by P{}", .at.line, .at.column, .rule)]

@@ -4,7 +4,7 @@ use std::alloc::AllocError;
 use thiserror::Error;
 
 /// Why a text has no list of tokens.
-#[derive(Clone, Copy, PartialEq, Eq, Debug, Error)]
+#[derive(Clone, Copy, Debug, Error)]
 pub enum LexFault {
     /// No token begins at this byte.
     #[error("no token begins at {}:{}", .at.line, .at.column)]

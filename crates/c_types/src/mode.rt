@@ -1,7 +1,7 @@
 // What `malloc` may answer.
 
 /// Whether `malloc` may give the null pointer (ISO/IEC 9899:2011, 7.22.3.4).
-#[derive(Clone, Copy, PartialEq, Eq, Debug)]
+#[derive(Clone, Copy, PartialEq, Eq)]
 pub enum MallocMode {
     /// Each `malloc` gives a cell.
     Always,

@@ -3,7 +3,7 @@
 use fore_base::fault::Fault;
 
 /// How a run of at most some number of steps comes out. Steps are counted from 1.
-#[derive(Clone, Copy, PartialEq, Eq, Debug)]
+#[derive(Clone, Copy)]
 pub enum Outcome {
     /// The run has ended after this number of steps.
     Ended { step: u64 },

@@ -5,7 +5,7 @@ use std::alloc::AllocError;
 use thiserror::Error;
 
 /// Why a syntax tree is no program.
-#[derive(Clone, Copy, PartialEq, Eq, Debug, Error)]
+#[derive(Clone, Copy, Debug, Error)]
 pub enum TypeFault {
     /// One of the rules T1 to T17 is broken here.
     #[error("rule T{} is broken at {}:{}", .rule, .at.line, .at.column)]

@@ -11,7 +11,7 @@ use fore_base::memory::Mem;
 use std::alloc::Global;
 
 /// Where root `from` is reached, root `to` is too.
-#[derive(Debug, Drop)]
+#[derive(Drop)]
 pub struct Hop {
     pub from: u32,
     pub to: u32,

@@ -22,7 +22,7 @@ use ta_core::auto::{Auto, Rule};
 
 /// What is known of the trees of a state: whether some is a leaf, whether some has a cell at its top, and their
 /// signature.
-#[derive(Debug, Drop)]
+#[derive(Drop)]
 pub struct Seen {
     pub leaf: bool,
     pub cell: bool,

@@ -8,7 +8,7 @@ use std::alloc::{AllocError, Global};
 
 /// A box: its name, its face, and the forest that stands for an edge of it. Root 0 of the inside is the input, root 1
 /// the output where there is one, and further roots are inner cells.
-#[derive(Debug, Drop)]
+#[derive(Drop)]
 pub struct BoxDef {
     pub name: Text,
     pub face: BoxFace,

@@ -5,7 +5,7 @@ use fore_base::shape::Shapes;
 use std::alloc::{AllocError, Global};
 
 /// What a box shows outside.
-#[derive(PartialEq, Eq, Debug, Drop)]
+#[derive(PartialEq, Eq, Drop)]
 pub struct BoxFace {
     /// The struct of the cell at which an edge of the box begins.
     pub input: u32,
@@ -20,7 +20,7 @@ pub struct BoxFace {
 }
 
 /// The structs and the faces of the boxes over which a forest stands. The number of a box is its position here.
-#[derive(PartialEq, Eq, Debug, Drop)]
+#[derive(PartialEq, Eq, Drop)]
 pub struct Face {
     pub shapes: Shapes,
     pub boxes: List<BoxFace>,

@@ -5,7 +5,7 @@ use fore_base::list::Copies;
 use std::alloc::{AllocError, Global};
 
 /// One fold: a part of a forest that a box edge took the place of.
-#[derive(Debug, Drop)]
+#[derive(Drop)]
 pub struct FoldStep {
     /// The box, by its number.
     pub box_no: u32,

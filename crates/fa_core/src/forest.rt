@@ -6,7 +6,7 @@ use std::alloc::{AllocError, Global};
 use ta_core::auto::Auto;
 
 /// What a pointer variable is.
-#[derive(Clone, Copy, PartialEq, Eq, Debug)]
+#[derive(Clone, Copy, PartialEq, Eq)]
 pub enum Target {
     Null,
     /// Never set: indeterminate (ISO/IEC 9899:2011, 6.7.9).
@@ -19,7 +19,7 @@ pub enum Target {
 
 /// A forest: its components, of which the number is that of their root, and what the pointer variables and the data
 /// variables are (CAV 2011, section 3).
-#[derive(Debug, Drop)]
+#[derive(Drop)]
 pub struct Forest {
     pub autos: List<Auto>,
     pub vars: List<Target>,

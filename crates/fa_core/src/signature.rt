@@ -6,7 +6,7 @@ use fore_base::list::{Copies, List};
 use std::alloc::{AllocError, Global};
 
 /// What the leaves of a tree that refer to one root have in common.
-#[derive(PartialEq, Eq, Debug, Drop)]
+#[derive(PartialEq, Eq, Drop)]
 pub struct RefMark {
     /// The root.
     pub root: u32,
@@ -21,13 +21,13 @@ pub struct RefMark {
 }
 
 /// The marks of the roots to which a tree refers, in the order of first visit.
-#[derive(PartialEq, Eq, Debug, Drop)]
+#[derive(PartialEq, Eq, Drop)]
 pub struct Signature {
     pub refs: List<RefMark>,
 }
 
 /// What stands at the end of an edge: whether it is a leaf, and the marks of its tree.
-#[derive(PartialEq, Eq, Debug, Drop)]
+#[derive(PartialEq, Eq, Drop)]
 pub struct Below {
     pub leaf: bool,
     pub marks: List<RefMark>,

@@ -16,7 +16,7 @@ use std::marker::Model;
 /// Boxes over structs, seen as a face and a list of boxes. It keeps that the face has the faces of the boxes, that each
 /// box is sound over those before it, and that there are at most 32, with different names, and without variables
 /// inside.
-#[derive(Debug, Drop)]
+#[derive(Drop)]
 pub struct BoxTable {
     face: Face,
     defs: List<BoxDef>,

@@ -4,7 +4,7 @@ use std::alloc::AllocError;
 use thiserror::Error;
 
 /// Why a box has no face.
-#[derive(Clone, Copy, PartialEq, Eq, Debug, Drop, Error)]
+#[derive(Clone, Copy, Debug, Drop, Error)]
 pub enum FaceFault {
     /// This is the least rule that the box breaks; where a component has no tree, it is B7.
     #[error("the box breaks rule {:?}", .0)]

@@ -18,7 +18,7 @@ use ta_core::symbol::Symbol;
 use ta_core::trimming::trim;
 
 /// An automaton whose trees all have a cell of one struct at the top.
-#[derive(Debug, Drop)]
+#[derive(Drop)]
 pub struct Part {
     pub top: u32,
     pub auto: Auto,

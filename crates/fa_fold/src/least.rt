@@ -18,7 +18,7 @@ use fore_base::memory::Mem;
 use std::alloc::Global;
 
 /// A place at which a box can be folded.
-#[derive(Debug, Drop)]
+#[derive(Drop)]
 pub struct FoldSite {
     /// The box, by its number.
     pub box_no: u32,

@@ -26,7 +26,7 @@ use ta_core::auto::{Auto, Rule};
 use ta_core::symbol::{Slot, Symbol};
 
 /// A root, whether it is a port, and one of its fields.
-#[derive(Clone, Copy, Debug)]
+#[derive(Clone, Copy)]
 pub struct Place {
     pub port: bool,
     pub root: u32,

@@ -18,7 +18,7 @@ use ta_core::auto::{Auto, Rule};
 use ta_core::symbol::Symbol;
 
 /// How often trees give a field at a root: at most so often, counted up to 2, and whether one never does.
-#[derive(Clone, Copy, Debug)]
+#[derive(Clone, Copy)]
 pub struct Extremes {
     pub most: u32,
     pub none: bool,
@@ -26,7 +26,7 @@ pub struct Extremes {
 
 /// How often the trees of the components give a field at a root: none does, since no box gives the field, or each as
 /// this list says.
-#[derive(Debug, Drop)]
+#[derive(Drop)]
 pub enum Given {
     Nothing,
     Each(List<Extremes>),

@@ -24,7 +24,7 @@ use ta_core::symbol::{Slot, Symbol};
 /// What trees give at the root: whether one is the reference to it, how often one gives the field there at most,
 /// counted
 /// up to 2, and whether one that is not the reference never does.
-#[derive(Clone, Copy, Debug)]
+#[derive(Clone, Copy)]
 pub struct Worth {
     pub leaf: bool,
     pub most: u32,

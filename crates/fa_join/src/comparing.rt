@@ -15,7 +15,7 @@ use ta_core::auto::Auto;
 use ta_incl::is_included;
 
 /// The places at which two lists differ: none, this one, or more.
-#[derive(Clone, Copy, PartialEq, Eq, Debug)]
+#[derive(Clone, Copy, PartialEq, Eq)]
 pub enum Apart {
     Nowhere,
     At(usize),

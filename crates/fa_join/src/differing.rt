@@ -21,7 +21,7 @@ use fore_base::memory::Mem;
 use std::alloc::{AllocError, Global};
 
 /// Where two forests differ that can be joined.
-#[derive(Clone, Copy, PartialEq, Eq, Debug)]
+#[derive(Clone, Copy, PartialEq, Eq)]
 pub enum Difference {
     /// Nowhere: they have the same languages.
     Nowhere,

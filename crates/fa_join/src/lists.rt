@@ -27,7 +27,7 @@ use std::alloc::Global;
 use std::thread::Threads;
 
 /// A forest of a list, by its place, and where it differs from another one with which it can be joined.
-#[derive(Clone, Copy, PartialEq, Eq, Debug)]
+#[derive(Clone, Copy, PartialEq, Eq)]
 pub struct Partner {
     pub place: usize,
     pub differing: Difference,

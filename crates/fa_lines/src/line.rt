@@ -5,14 +5,14 @@ use fore_base::store::Datum;
 use fore_base::text::Text;
 
 /// A datum of a cell, with the name of its field: `name=3`.
-#[derive(Debug, Drop)]
+#[derive(Drop)]
 pub struct DatumText {
     pub name: Text,
     pub datum: Datum,
 }
 
 /// A slot of a cell.
-#[derive(Debug, Drop)]
+#[derive(Drop)]
 pub enum SlotText {
     /// The field of this name, and the state below it: `next=s1`.
     Field(Text, u32),
@@ -23,7 +23,7 @@ pub enum SlotText {
 }
 
 /// What a rule makes.
-#[derive(Debug, Drop)]
+#[derive(Drop)]
 pub enum Term {
     Null,
     Uninit,
@@ -39,7 +39,7 @@ pub enum Term {
 }
 
 /// A line.
-#[derive(Debug, Drop)]
+#[derive(Drop)]
 pub enum Line {
     /// A line that is passed over: it is empty, or begins with `#`.
     Skipped,

@@ -3,7 +3,7 @@
 use std::alloc::AllocError;
 
 /// Why pieces are not read as what was asked for.
-#[derive(Clone, Copy, PartialEq, Eq, Debug)]
+#[derive(Clone, Copy)]
 pub enum Unread {
     /// They are something else.
     Other,

@@ -3,7 +3,7 @@
 use std::alloc::AllocError;
 
 /// Why a file of boxes is refused for its names. Lines are given by their numbers, the first being 1.
-#[derive(Clone, Copy, PartialEq, Eq, Debug)]
+#[derive(Clone, Copy)]
 pub enum NameFault {
     /// K6: the first line of the 33rd box.
     K6 { line: u32 },

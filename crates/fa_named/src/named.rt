@@ -5,7 +5,7 @@ use fore_base::list::List;
 use fore_base::text::Text;
 
 /// A box over the structs of a program, exactly as it is written.
-#[derive(Debug, Drop)]
+#[derive(Drop)]
 pub struct NamedBox {
     pub name: Text,
     /// The number of the struct of its input.
@@ -17,21 +17,21 @@ pub struct NamedBox {
 }
 
 /// The names of a struct's fields, pointers and data apart, in order of declaration.
-#[derive(Debug, Drop)]
+#[derive(Drop)]
 pub struct Fields {
     pub pointers: List<Text>,
     pub datums: List<Text>,
 }
 
 /// The structs of a program: their names, and the names of their fields.
-#[derive(Debug, Drop)]
+#[derive(Drop)]
 pub struct Known {
     pub names: List<Text>,
     pub fields: List<Fields>,
 }
 
 /// The boxes that stand before a line: their names, and which of them have an output.
-#[derive(Debug, Drop)]
+#[derive(Drop)]
 pub struct Boxes {
     pub names: List<Text>,
     pub outputs: List<bool>,

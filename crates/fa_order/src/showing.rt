@@ -41,7 +41,7 @@ use ta_core::inhabited::inhabited;
 use ta_core::symbol::{Slot, Symbol};
 
 /// What the trees of a root show. Where both a leaf and a cell may stand at the end of a field, it is the cell.
-#[derive(Debug, Drop)]
+#[derive(Drop)]
 pub struct Shown {
     /// The signature of the trees.
     pub marks: List<RefMark>,

@@ -184,7 +184,7 @@ fn are_placed(roots: &[u32], placed: &[u32]) -> bool
 }
 
 /// A tree, and the least field that it gives to a root.
-#[derive(Clone, Copy, Debug, Drop)]
+#[derive(Clone, Copy, Drop)]
 pub struct Giver {
     pub into: u32,
     pub field: u32,

@@ -26,7 +26,7 @@ use ta_core::single::has_one_top;
 use ta_core::symbol::{Slot, Symbol};
 
 /// The fields that the ports of a box cover, in rising order: they are the same at each place.
-#[derive(Debug, Drop)]
+#[derive(Drop)]
 pub struct PortFields {
     /// Those of the input.
     pub input: List<u32>,
@@ -35,7 +35,7 @@ pub struct PortFields {
 }
 
 /// A port of a part: its root, the struct that the box has there, and the fields that are taken there.
-#[derive(Debug, Drop)]
+#[derive(Drop)]
 pub struct Port {
     /// The root.
     pub root: u32,

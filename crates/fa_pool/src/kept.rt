@@ -7,7 +7,7 @@ use std::alloc::{AllocError, Global};
 
 /// A forest, whose components stand in a pool: their numbers there, and what the pointer variables and the data
 /// variables are.
-#[derive(Debug, Drop)]
+#[derive(Drop)]
 pub struct Kept {
     pub parts: List<usize>,
     pub vars: List<Target>,

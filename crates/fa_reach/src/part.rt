@@ -4,7 +4,7 @@ use fore_base::list::{Copies, List};
 use std::alloc::{AllocError, Global};
 
 /// Where root `from` is reached, root `to` is too.
-#[derive(Clone, Copy, PartialEq, Eq, Debug)]
+#[derive(Clone, Copy, PartialEq, Eq)]
 pub struct Hop {
     pub from: u32,
     pub to: u32,
@@ -12,7 +12,7 @@ pub struct Hop {
 
 /// What signatures of one component say that lead back alike: where they lead back, and the roots to which each of them
 /// refers.
-#[derive(Debug, Drop)]
+#[derive(Drop)]
 pub struct Part {
     pub hops: List<Hop>,
     pub downs: List<List<u32>>,

@@ -13,7 +13,7 @@ const MOST_STEPS: usize = 67_108_864;
 const LIST_STEPS: usize = 8;
 
 /// How many steps may still be taken.
-#[derive(Debug, Drop)]
+#[derive(Drop)]
 pub struct Steps {
     left: usize,
 }

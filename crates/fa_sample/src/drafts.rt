@@ -12,14 +12,14 @@ use ta_core::symbol::Symbol;
 use ta_core::tree::Tree;
 
 /// A pointer field of a cell, by its number, and its value.
-#[derive(Clone, Copy, Debug)]
+#[derive(Clone, Copy)]
 pub struct FieldValue {
     pub field: u32,
     pub value: Value,
 }
 
 /// A cell under way: its struct, its data, and the pointer fields that are known, in rising order.
-#[derive(Debug, Drop)]
+#[derive(Drop)]
 pub struct Draft {
     pub shape: u32,
     pub datums: List<Datum>,

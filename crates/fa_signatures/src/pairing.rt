@@ -23,7 +23,7 @@ use ta_core::auto::Rule;
 pub type Pair = (u32, Below);
 
 /// The pairs that were found, and the rules over them. The state of such a rule is the place of a pair.
-#[derive(Debug, Drop)]
+#[derive(Drop)]
 pub struct Found {
     pub pairs: List<Pair>,
     pub rules: List<Rule>,

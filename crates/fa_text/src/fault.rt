@@ -4,7 +4,7 @@ use std::alloc::AllocError;
 use thiserror::Error;
 
 /// Why a text is not one of sound boxes. Lines are given by their numbers, the first being 1.
-#[derive(Clone, Copy, PartialEq, Eq, Debug, Error)]
+#[derive(Clone, Copy, Debug, Error)]
 pub enum BoxFault {
     /// The number of the first rule that the text breaks, 1 to 7, and the line.
     #[error("rule B{} is broken at line {}", .rule, .line)]

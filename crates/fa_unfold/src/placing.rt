@@ -14,7 +14,7 @@ use ta_core::symbol::Symbol;
 
 /// Where the inside of an edge is put: the root at which the edge begins, the leaf at which it ends, if it has an end,
 /// and how many roots there are.
-#[derive(Clone, Copy, Debug)]
+#[derive(Clone, Copy)]
 pub struct Site {
     pub root: u32,
     pub end: Option<Target>,

@@ -28,7 +28,7 @@ use std::alloc::Global;
 use ta_core::auto::{Auto, Rule};
 
 /// A port with the leaves outside, and the rules at the tops of its trees.
-#[derive(Debug, Drop)]
+#[derive(Drop)]
 pub struct Port {
     pub auto: Auto,
     pub tops: List<Rule>,

@@ -5,7 +5,7 @@ use fore_base::list::List;
 use fore_base::text::Text;
 
 /// A rule.
-#[derive(Debug, Drop)]
+#[derive(Drop)]
 pub struct RuleDraft {
     /// The number of its line, the first being 1.
     pub line: u32,
@@ -14,7 +14,7 @@ pub struct RuleDraft {
 }
 
 /// A component: its root states, and its rules in the order of their lines.
-#[derive(Debug, Drop)]
+#[derive(Drop)]
 pub struct PartDraft {
     /// The number of the line that begins it.
     pub line: u32,
@@ -23,7 +23,7 @@ pub struct PartDraft {
 }
 
 /// What the first line of a box says.
-#[derive(Debug, Drop)]
+#[derive(Drop)]
 pub struct Head {
     /// The number of the line.
     pub line: u32,
@@ -33,7 +33,7 @@ pub struct Head {
 }
 
 /// A box: its components in order.
-#[derive(Debug, Drop)]
+#[derive(Drop)]
 pub struct BoxDraft {
     pub head: Head,
     pub parts: List<PartDraft>,
@@ -42,14 +42,14 @@ pub struct BoxDraft {
 }
 
 /// A box that is not ended yet.
-#[derive(Debug, Drop)]
+#[derive(Drop)]
 pub struct OpenBox {
     pub head: Head,
     pub parts: List<PartDraft>,
 }
 
 /// The boxes that have ended, and the one that has not, where there is one.
-#[derive(Debug, Drop)]
+#[derive(Drop)]
 pub struct Reading {
     pub boxes: List<BoxDraft>,
     pub current: Option<OpenBox>,

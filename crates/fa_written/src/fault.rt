@@ -3,7 +3,7 @@
 use std::alloc::AllocError;
 
 /// Why a text is not one of boxes as they are written.
-#[derive(Clone, Copy, PartialEq, Eq, Debug)]
+#[derive(Clone, Copy)]
 pub enum DraftFault {
     /// B1: the first line that is in the way, by its number, the first being 1.
     B1 { line: u32 },

@@ -3,7 +3,7 @@
 use std::alloc::AllocError;
 
 /// Why a line is not taken.
-#[derive(Clone, Copy, PartialEq, Eq, Debug)]
+#[derive(Clone, Copy)]
 pub enum Unfit {
     /// No box goes on so.
     Other,

@@ -7,17 +7,23 @@ use fore_base::list::List;
 use par_kit::crew::Crew;
 use par_kit::gate::Gate;
 
-/// How many rules the forests of a phase have at least where threads are begun for it. To begin them and to wait for
+/// How many rules the forests of a round have at least where threads are begun for it. To begin them and to wait for
 /// them takes up to 0.5 milliseconds, by the machine, and what is made of a forest some 0.02 for each rule: fewer rules
 /// than these are done by then.
-const THREAD_RULES: usize = 18;
+pub const ROUND_RULES: usize = 18;
 
-/// The crew for a phase over forests of so many rules in all: one job of it where these are too few for threads.
-pub fn crew_for<'g, G: Gate>(crew: &Crew<'g, G>, rules: usize) -> Crew<'g, G>
+/// How many rules a forest has at least where threads are begun to ask several nodes at once whether they cover it. Most
+/// of what is asked of two forests is known from the numbers of their components, so that a node is asked in a tenth
+/// of the time that it takes to begin threads, and less.
+pub const COVERING_RULES: usize = 1000;
+
+/// The crew for a phase over forests of so many rules in all: one job of it where these are fewer than the least for
+/// which threads are begun.
+pub fn crew_for<'g, G: Gate>(crew: &Crew<'g, G>, rules: usize, least: usize) -> Crew<'g, G>
     requires { IsJobs crew.now.jobs }
     ensures { IsJobs result.jobs }
 {
-    let jobs = if rules < THREAD_RULES { 1 } else { crew.jobs };
+    let jobs = if rules < least { 1 } else { crew.jobs };
     Crew {
         jobs,
         gate: crew.gate,

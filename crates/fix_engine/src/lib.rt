@@ -14,4 +14,3 @@ mod taking;
 
 pub use exploring::explore;
 pub use fix_core::{AbsTrace, Explored, Node, NodeHead, Nodes, State};
-pub use fix_verdict::{Verdict, judge};

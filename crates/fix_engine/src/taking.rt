@@ -9,7 +9,7 @@ ghost use Rattle.fix_core.specs.States.{AbstractState};
 ghost use Rattle.fix_engine.specs.inner.Taking.{AreDue, AreFirstTaken, IsMid, IsStage, IsTakenEdge, IsTakenNode};
 ghost use Rattle.fix_engine.specs.inner.Taking.{all_or_full, child};
 
-use crate::crews::{crew_for, rules_of};
+use crate::crews::{COVERING_RULES, crew_for, rules_of};
 use c_cfg::graph::Edge;
 use fix_core::edges::edge_at;
 use fix_core::nodes::{NodeHead, Nodes, Placed};
@@ -117,7 +117,8 @@ fn take_states<R: Threads + Sync, G: Gate>(
     task.known();
     let head = head_of(at, number, edge_at(task.graph(), number));
     for state in states {
-        let crew = crew_for(crew, rules_of(state.forest().forest()));
+        let rules = rules_of(state.forest().forest());
+        let crew = crew_for(crew, rules, COVERING_RULES);
         match nodes.add_uncovered(task.rt(), task.alloc(), head, state, task.budget(), &crew)? {
             Placed::Full => return Ok(false),
             _ => {}

@@ -8,7 +8,7 @@ use fore_read::{ReadFault, Refusal};
 use fore_report::Verdict;
 
 /// An answer to the words, with what its report prints.
-#[derive(PartialEq, Eq, Debug, Drop)]
+#[derive(Drop)]
 pub enum Answer {
     /// The program of the file was verified: the verdict, with its report, whole.
     Verified { verdict: Verdict, text: Text },

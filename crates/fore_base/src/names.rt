@@ -4,31 +4,35 @@ ghost use Rattle.std.specs.Prelude.{MatchOption};
 ghost use Rattle.fore_base.specs.Lists.{IsIn};
 ghost use Rattle.fore_base.specs.Names.{IsDistinct};
 
+use crate::list::List;
 use crate::memory::Mem;
-use indexmap::IndexSet;
-use std::alloc::Global;
+use crate::text::Text;
+use std::alloc::{AllocError, Global};
+use std::collections::HashMap;
 use std::marker::Model;
 
 /// Texts with their numbers. Contracts see the list of the texts, none twice and at most 4,294,967,295; a text's number
 /// is its position there.
 #[derive(Drop)]
 pub struct Names {
-    texts: IndexSet<Vec<u8>>,
+    texts: List<Text>,
+    numbers: HashMap<Vec<u8>, u32>,
     alloc: Global,
 }
 
 impl Model for Names {
-    ghost use Rattle.std.specs.Prelude.{List, ℕ, map};
+    ghost use Rattle.std.specs.Prelude.{List, ℕ};
     ghost use Rattle.std.specs.Coded.{coded_list, coded_ℕ};
-    ghost use Rattle.fore_base.specs.Names.{IsNumbered};
+    ghost use Rattle.fore_base.specs.Names.{AreFound, IsNumbered};
 
     ghost Value = { List (List ℕ) };
 
     ghost coded = { coded_list (coded_list coded_ℕ) };
 
-    ghost view = { λ names. map (λ text. text.items) names.texts.keys };
+    ghost view = { λ names. names.texts };
 
-    ghost invariant = { λ names. IsNumbered (map (λ text. text.items) names.texts.keys) };
+    ghost invariant = { λ names. IsNumbered names.texts
+        × AreFound (λ text. text.items) names.texts names.numbers };
 }
 
 impl Names {
@@ -37,7 +41,8 @@ impl Names {
         ensures { result ≡ [] }
     {
         Names {
-            texts: IndexSet::new(alloc),
+            texts: List::new(alloc),
+            numbers: HashMap::new(alloc),
             alloc,
         }
     }
@@ -68,8 +73,8 @@ impl Names {
         ensures { MatchOption result (IsIn text.now self.now → ⊥)
             (λ number. slice_get self.now number ≡ Some text.now) }
     {
-        match self.texts.get_index_of(text) {
-            Some(index) => Some(index as u32),
+        match self.numbers.get_key_value(text) {
+            Some((_, number)) => Some(*number),
             None => None,
         }
     }
@@ -101,8 +106,15 @@ impl Names {
         ensures err { OnErr result (self.new ≡ self.old) }
     {
         let number = self.texts.len() as u32;
-        let copy = Vec::from_slice(self.alloc, text)?;
-        self.texts.insert_full(copy)?;
-        Ok(number)
+        let key = Vec::from_slice(self.alloc, text)?;
+        let copy = Text::from_slice(self.alloc, text)?;
+        self.texts.push(copy)?;
+        match self.numbers.insert(key, number) {
+            Ok(_) => Ok(number),
+            Err(_) => {
+                let _last = self.texts.pop();
+                Err(AllocError)
+            }
+        }
     }
 }

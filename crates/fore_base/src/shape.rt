@@ -4,7 +4,7 @@ use crate::text::Text;
 use std::alloc::{AllocError, Global};
 
 /// What a field holds.
-#[derive(Clone, Copy, PartialEq, Eq, Debug)]
+#[derive(Clone, Copy, PartialEq, Eq)]
 pub enum FieldKind {
     /// A pointer to the struct of this number.
     Pointer(u32),
@@ -13,7 +13,7 @@ pub enum FieldKind {
 }
 
 /// A field of a struct.
-#[derive(PartialEq, Eq, Debug, Drop)]
+#[derive(PartialEq, Eq, Drop)]
 pub struct FieldDef {
     /// Its name, as it is spelled.
     pub name: Text,
@@ -22,7 +22,7 @@ pub struct FieldDef {
 }
 
 /// A struct: its fields in order of declaration.
-#[derive(PartialEq, Eq, Debug, Drop)]
+#[derive(PartialEq, Eq, Drop)]
 pub struct Shape {
     /// Its tag, as it is spelled.
     pub name: Text,
@@ -31,7 +31,7 @@ pub struct Shape {
 }
 
 /// The structs of a program. The number of a struct is its position here.
-#[derive(PartialEq, Eq, Debug, Drop)]
+#[derive(PartialEq, Eq, Drop)]
 pub struct Shapes {
     /// In order of declaration.
     pub structs: List<Shape>,

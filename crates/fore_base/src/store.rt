@@ -3,7 +3,7 @@ use crate::list::{Copies, List};
 use std::alloc::{AllocError, Global};
 
 /// The value of a pointer.
-#[derive(Clone, Copy, PartialEq, Eq, Debug)]
+#[derive(Clone, Copy, PartialEq, Eq)]
 pub enum Value {
     /// To no object (6.3.2.3).
     Null,
@@ -26,7 +26,7 @@ pub enum Datum {
 
 /// An allocated object: its number, which no other cell ever has, its struct, and its data and pointer fields, each
 /// kind in order of declaration.
-#[derive(PartialEq, Eq, Debug, Drop)]
+#[derive(PartialEq, Eq, Drop)]
 pub struct CellRec {
     /// Cells are numbered in the order in which they are made, from 0.
     pub number: u64,
@@ -39,7 +39,7 @@ pub struct CellRec {
 }
 
 /// The variables, pointers and data apart, the cells, and the number of the next cell to be made.
-#[derive(PartialEq, Eq, Debug, Drop)]
+#[derive(PartialEq, Eq, Drop)]
 pub struct Store {
     /// The values of the pointer variables, by number.
     pub vars: List<Value>,

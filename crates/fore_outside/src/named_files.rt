@@ -9,7 +9,7 @@ use fore_base::text::Text;
 use std::alloc::Global;
 
 /// A file in memory: its path, and its bytes.
-#[derive(Debug, Drop)]
+#[derive(Drop)]
 pub struct NamedFile {
     /// Its path.
     pub name: Text,

@@ -10,7 +10,7 @@ use std::alloc::{AllocError, Global};
 use thiserror::Error;
 
 /// Why a file was not read.
-#[derive(Clone, Copy, PartialEq, Eq, Debug, Error)]
+#[derive(Clone, Copy, Debug, Error)]
 pub enum ShelfFault {
     /// The file is not there or could not be read. The shelf has counted it as a fault of this path.
     #[error("the file could not be read")]

@@ -5,7 +5,7 @@ ghost use Rattle.fore_outside.specs.Outside.{Rose, Grew, GrewByPrefix};
 use thiserror::Error;
 
 /// Why bytes were not written.
-#[derive(Clone, Copy, PartialEq, Eq, Debug, Error)]
+#[derive(Clone, Copy, Debug, Error)]
 pub enum SinkFault {
     /// The sink took nothing, and has counted a fault.
     #[error("nothing was written")]

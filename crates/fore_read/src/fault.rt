@@ -6,7 +6,7 @@ use c_front::Broken;
 use fore_outside::shelf::ShelfFault;
 
 /// Why what the words ask is refused. Each reason has one line of text.
-#[derive(Clone, Copy, PartialEq, Eq, Debug)]
+#[derive(Clone, Copy)]
 pub enum Refusal {
     /// K1: the C file has more bytes than the limit.
     TooLong,
@@ -21,7 +21,7 @@ pub enum Refusal {
 }
 
 /// Why a file is not taken.
-#[derive(Clone, Copy, PartialEq, Eq, Debug)]
+#[derive(Clone, Copy)]
 pub enum ReadFault {
     /// It is refused.
     Refused(Refusal),

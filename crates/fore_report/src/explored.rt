@@ -11,7 +11,7 @@ use c_cfg::graph::Graph;
 use c_types::program::Typed;
 use fa_core::table::BoxTable;
 use fa_print::laws::members_can_be_printed;
-use fix_engine::{AbsTrace, Nodes};
+use fix_core::{AbsTrace, Nodes};
 use fore_base::memory::Mem;
 use fore_base::store::Store;
 use fore_base::text::Text;

@@ -14,7 +14,7 @@ ghost use Rattle.fore_report.specs.Texts.{
 };
 
 use c_types::outcome::Outcome;
-use fix_engine::AbsTrace;
+use fix_core::AbsTrace;
 use fore_base::fault::Fault;
 use fore_base::memory::Mem;
 use fore_base::text::Text;

@@ -1,7 +1,7 @@
 //! Verdicts.
 
 /// What verification says of a program.
-#[derive(Clone, Copy, PartialEq, Eq, Debug)]
+#[derive(Clone, Copy)]
 pub enum Verdict {
     /// No run meets a fault.
     Safe,

@@ -29,7 +29,7 @@ pub const RUN_STEPS: u32 = 1000000;
 pub const MOST_PHASES: u32 = 200;
 
 /// How a file is verified.
-#[derive(Clone, Copy, PartialEq, Eq, Debug)]
+#[derive(Clone, Copy)]
 pub struct Settings {
     /// The height of the abstraction, from 1 to `MOST_HEIGHT`.
     pub height: u32,
@@ -42,7 +42,7 @@ pub struct Settings {
 }
 
 /// What a generated program builds and takes apart in each of its phases.
-#[derive(Clone, Copy, PartialEq, Eq, Debug)]
+#[derive(Clone, Copy)]
 pub enum Kind {
     /// Singly linked lists.
     ListPhases,
@@ -53,7 +53,7 @@ pub enum Kind {
 }
 
 /// What the words ask.
-#[derive(Debug, Drop)]
+#[derive(Drop)]
 pub enum Asked<'a> {
     /// The file of this path is verified with these settings, and with the boxes of the file of the other path, where
     /// there is one.
@@ -79,7 +79,7 @@ pub enum Asked<'a> {
 }
 
 /// Why words are not read.
-#[derive(Clone, Copy, PartialEq, Eq, Debug)]
+#[derive(Clone, Copy)]
 pub enum WordsFault {
     /// They ask nothing.
     Usage,

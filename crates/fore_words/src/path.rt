@@ -4,7 +4,7 @@ ghost use Rattle.std.specs.Prelude.{◌≡◌};
 use std::marker::Model;
 
 /// The path of a file, which lies in the words; contracts see its bytes.
-#[derive(Debug, Drop)]
+#[derive(Drop)]
 pub struct FilePath<'a> {
     text: &'a str,
 }

@@ -9,7 +9,7 @@ use c_cfg::graph::{Const, Instr};
 use fa_core::forest::{Forest, Target};
 
 /// The pointer fields that an edge needs at the cell of a variable.
-#[derive(Clone, Copy, Debug)]
+#[derive(Clone, Copy)]
 pub enum Needed {
     Nothing,
     /// This field of the variable's cell.

@@ -6,7 +6,7 @@ use fore_base::fault::Fault;
 use fore_base::list::List;
 
 /// A fault, and a forest each member of which meets it.
-#[derive(Debug, Drop)]
+#[derive(Drop)]
 pub struct Bad {
     /// The fault.
     pub fault: Fault,
@@ -15,7 +15,7 @@ pub struct Bad {
 }
 
 /// What an edge makes of a forest: where its members go on, and where they meet faults.
-#[derive(Debug, Drop)]
+#[derive(Drop)]
 pub struct Post {
     /// The forests behind the edge. They are canonical, and no two can be joined.
     pub next: List<Sound>,

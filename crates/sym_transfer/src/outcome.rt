@@ -5,7 +5,7 @@ use fore_base::crossing::crosses;
 use fore_base::fault::Fault;
 
 /// What an edge makes of a forest, before the leak test: the same for all its members.
-#[derive(Debug, Drop)]
+#[derive(Drop)]
 pub enum Edited {
     /// All members meet this fault.
     Fault(Fault),

@@ -18,7 +18,7 @@ pub trait Likeness {
 }
 
 /// For each number the number of its class, and for each class its first number.
-#[derive(Debug, Drop)]
+#[derive(Drop)]
 pub struct Classes {
     pub numbers: List<u32>,
     pub firsts: List<u32>,

@@ -3,7 +3,7 @@
 use fore_base::list::List;
 
 /// Where all the states of `from` are reached, `to` is too.
-#[derive(Debug, Drop)]
+#[derive(Drop)]
 pub struct Arc {
     pub from: List<u32>,
     pub to: u32,

@@ -9,7 +9,7 @@ use std::alloc::{AllocError, Global};
 use std::marker::Model;
 
 /// A rule: a tree with this symbol, whose children have runs to these states, has a run to this state.
-#[derive(PartialEq, Eq, Debug, Drop)]
+#[derive(PartialEq, Eq, Drop)]
 pub struct Rule {
     pub state: u32,
     pub symbol: Symbol,
@@ -18,7 +18,7 @@ pub struct Rule {
 
 /// A tree automaton. Its states are the numbers below `states`. It keeps that each state in it is one of these, and
 /// that each rule has as many children as its symbol has `Field` and `Link` slots, a leaf none.
-#[derive(Debug, Drop)]
+#[derive(Drop)]
 pub struct Auto {
     pub states: u32,
     pub roots: List<u32>,

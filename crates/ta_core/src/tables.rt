@@ -12,7 +12,7 @@ use fore_base::store::Datum;
 use std::alloc::Global;
 
 /// A symbol in a table. Each cell is of struct 0 but where a number is given.
-#[derive(Clone, Copy, Debug)]
+#[derive(Clone, Copy)]
 pub enum Sign {
     Null,
     Uninit,
@@ -29,11 +29,11 @@ pub enum Sign {
 }
 
 /// A rule in a table: its state, symbol and children.
-#[derive(Clone, Copy, Debug)]
+#[derive(Clone, Copy)]
 pub struct Line<'a>(pub u32, pub Sign, pub &'a [u32]);
 
 /// An automaton in a table: the number of its states, its root states and its rules.
-#[derive(Clone, Copy, Debug)]
+#[derive(Clone, Copy)]
 pub struct Plan<'a>(pub u32, pub &'a [u32], pub &'a [Line<'a>]);
 
 /// The automaton of the plan. None exactly where a state is not below the number of states, or a rule has more or fewer

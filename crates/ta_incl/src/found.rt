@@ -12,7 +12,7 @@ use std::alloc::Global;
 /// A state of the left automaton with a set of states of the right one, as one mark for each, and with those states
 /// that are below one of the set; and what it was derived from: the place of a rule of the left automaton, and for each
 /// child of it the place of the found pair that stands there.
-#[derive(Debug, Drop)]
+#[derive(Drop)]
 pub struct Found {
     pub state: u32,
     pub marks: List<bool>,

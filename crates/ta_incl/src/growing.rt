@@ -16,7 +16,7 @@ use ta_core::results::last;
 use ta_core::tree::Tree;
 
 /// What is still to be done: the tree of the pair at this place, or the same where the trees of its children are made.
-#[derive(Clone, Copy, Debug)]
+#[derive(Clone, Copy)]
 enum Task {
     Open(usize),
     Close(usize),

@@ -17,14 +17,14 @@ use ta_sim::tabling::{Pairs, rows_of};
 use ta_sim::upward::upward_alone;
 
 /// Which states of an automaton are below which: each below itself alone, or row by row what the entries say.
-#[derive(Debug, Drop)]
+#[derive(Drop)]
 pub enum Order {
     Equal,
     Rows(List<List<bool>>),
 }
 
 /// The orders of the states of both automata.
-#[derive(Debug, Drop)]
+#[derive(Drop)]
 pub struct Orders {
     pub left: Order,
     pub right: Order,

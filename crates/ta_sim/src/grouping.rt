@@ -26,7 +26,7 @@ pub fn by_state(alloc: Global, rules: &[Rule], states: u32) -> Mem<List<List<Rul
 }
 
 /// A rule, with a place at which a state is its child.
-#[derive(Debug, Drop)]
+#[derive(Drop)]
 pub struct Use {
     pub child: u32,
     pub place: usize,

@@ -10,7 +10,7 @@ use std::marker::Model;
 
 /// A relation on the numbers below `size`. It keeps that there are `size` rows of `size` entries; the entry of row
 /// `left` at place `right` says whether `left` is related to `right`.
-#[derive(Debug, Drop)]
+#[derive(Drop)]
 pub struct Relation {
     pub size: u32,
     pub rows: List<List<bool>>,

@@ -1,156 +1,303 @@
-// One call of the program over files and two sinks in memory.
+// Rows of whole calls. `calling` makes one call of the program over files and two sinks in memory, `tables` makes many
+// over files that differ in little, `shelves` has a shelf whose files change, and `texts` how a C text stands in a row.
+//
+// The answer is the status, and what is then on standard output and on standard error, in quotes.
+//
+// - `call WORDS | FILE`: of the words over the file x.c.
+// - `lines WORDS | LINES`: of the words over a file with these lines in its main, of which the first is line 3.
+// - `until WORDS | FILE | LAST`: the same as `call`, and of standard output only what stands before LAST.
+// - `least WORDS | FILE | BOXES | LAST`: the same as `call`, over the file x.box too where there are boxes, and each
+//   component of a report by the least automaton of its trees; where there is a LAST, only what stands before it.
+// - `boxes READ WORDS | FILE | BOXES | LAST`: over the files x.c and x.box, where this read fails; where there is a LAST,
+//   of standard output only what stands before it.
+// - `alike WORDS | FILE | BOXES | LAST | WORDS`: of both words over the files x.c and x.box, where both calls tell the
+//   same; of standard output only what stands before LAST.
+// - `changing WORDS | FIRST | LATER`: over files that all have the first bytes at the first read, and then the others.
+// - `failing MOST READ OUT NOTES WORDS | FILE`: where a put takes at most MOST bytes, and these reads and puts fail.
+// - `prefixes STATUSES FIRST LAST WORDS | FILE | BOXES`: over each beginning of the last file, of FIRST to LAST bytes.
+// - `fronts STATUSES FIRST LAST WORDS | FILE | BOXES`: over each beginning of FILE, beside the whole of BOXES.
+// - `noted STATUSES FIRST LAST WORDS | FILE | BOXES`: over each beginning of the last file: each line that is noted,
+//   with the first length at which it comes after another one.
+// - `replaced STATUSES WORDS | FILE | BOXES`: over the last file with each byte in turn replaced by each of five strange
+//   ones.
+// - `puts MOST WORDS | FILE`: where a put takes at most MOST bytes, and each put in turn fails.
+// - `component | REPORT`: the report, each component by the least automaton of its trees.
+// - `report NUMBER LINE STEP | NAME`: the report on a fault of this number.
 
-use anyhow::{Context, Result};
-use fore_base::memory::Mem;
-use fore_call::forester;
-use fore_outside::mem_shelf::MemShelf;
-use fore_outside::mem_sink::MemSink;
-use fore_outside::shelf::Shelf;
-use par_kit::gate::NoGate;
+mod calling;
+mod shelves;
+mod tables;
+mod texts;
+
+use crate::calls::calling::{
+    Ends, STEADY, are_alike, call, call_over, shown, shown_least, shown_until,
+};
+use crate::calls::shelves::ChangingShelf;
+use crate::calls::tables::{Varied, noted, prefixes, puts, replaced};
+use crate::calls::texts::main_of;
+use anyhow::{Context, Result, bail};
+use fore_base::fault::Fault;
+use fore_base::text::Text;
+use fore_report::texts::unsafe_report;
 use row_reports::least_report;
+use row_texts::read_text;
 use std::alloc::Global;
 use std::thread::Threads;
 
-/// How many bytes a sink takes: more than the longest report of a row.
-const ROOM: usize = 1048576;
-
-/// How the shelf and the sinks behave.
-#[derive(Clone, Copy)]
-pub struct Ends {
-    /// How many bytes one put takes at most.
-    pub most: usize,
-    /// Which read fails, the first being 1; 0 for none.
-    pub read: u64,
-    /// Which put to standard output fails.
-    pub out: u64,
-    /// Which put to standard error fails.
-    pub notes: u64,
-}
-
-/// Nothing fails, and a text is put at once.
-pub const STEADY: Ends = Ends {
-    most: 512,
-    read: 0,
-    out: 0,
-    notes: 0,
-};
-
-/// What came of a call: the status, and what is then on standard output and on standard error.
-#[derive(Drop)]
-pub struct Told {
-    pub status: u8,
-    pub out: MemSink,
-    pub notes: MemSink,
-}
-
-/// What comes of these words over the file x.c of these bytes and, where there are some, the file x.box.
-pub fn call<R: Threads + Sync>(
+/// The answer to a row of this head and these texts.
+pub fn answer<R: Threads + Sync>(
     rt: &R,
     alloc: Global,
-    words: &[&str],
-    file: &[u8],
-    boxes: Option<&[u8]>,
-    ends: Ends,
-) -> Result<Told> {
-    let mut shelf = MemShelf::new(alloc);
-    shelf.add("x.c", file)?;
-    if let Some(boxes) = boxes {
-        shelf.add("x.box", boxes)?;
+    head: &str,
+    texts: &[&str],
+) -> Result<String> {
+    let words: Vec<&str> = head.split(' ').collect(alloc)?;
+    let (kind, words) = words.as_slice().split_first().context("no kind")?;
+    let (file, others) = texts.split_first().context("no file")?;
+    let file = file_of(alloc, kind, file)?;
+    match *kind {
+        "call" | "lines" => steady(rt, alloc, words, &file),
+        "least" => least(rt, alloc, words, &file, others),
+        "component" => component(alloc, &file),
+        "until" => until(rt, alloc, words, &file, others),
+        "boxes" => with_boxes(rt, alloc, words, &file, others),
+        "alike" => alike(rt, alloc, words, &file, others),
+        "changing" => changing(rt, alloc, words, file, others),
+        "failing" => failing(rt, alloc, words, &file),
+        "prefixes" | "fronts" | "noted" | "replaced" => {
+            answer_tables(rt, alloc, kind, words, &file, others)
+        }
+        "puts" => each_put(rt, alloc, words, &file),
+        "report" => report(alloc, words),
+        _ => bail!("no such kind"),
     }
-    shelf.fail(ends.read)?;
-    call_over(rt, alloc, words, &mut shelf, ends)
 }
 
-/// What comes of these words over a shelf.
-pub fn call_over<R: Threads + Sync, L: Shelf>(
+/// The bytes of the file.
+fn file_of(alloc: Global, kind: &str, text: &str) -> Result<Text> {
+    match kind {
+        "lines" => main_of(alloc, text),
+        _ => read_text(alloc, text),
+    }
+}
+
+fn steady<R: Threads + Sync>(rt: &R, alloc: Global, words: &[&str], file: &Text) -> Result<String> {
+    let told = call(rt, alloc, words, file.as_slice(), None, STEADY)?;
+    shown(alloc, &told)
+}
+
+fn least<R: Threads + Sync>(
     rt: &R,
     alloc: Global,
     words: &[&str],
-    shelf: &mut L,
-    ends: Ends,
-) -> Result<Told> {
-    let words = words_of(alloc, words)?;
-    let mut out = sink(alloc, ends.most, ends.out)?;
-    let mut notes = sink(alloc, ends.most, ends.notes)?;
-    let status = forester(
+    file: &Text,
+    others: &[&str],
+) -> Result<String> {
+    let boxes = boxes_of(alloc, others)?;
+    let boxes = match &boxes {
+        None => None,
+        Some(text) => Some(text.as_slice()),
+    };
+    let told = call(rt, alloc, words, file.as_slice(), boxes, STEADY)?;
+    shown_least(alloc, &told, others.get(1).copied())
+}
+
+/// The bytes of the file of boxes, if there is one.
+fn boxes_of(alloc: Global, others: &[&str]) -> Result<Option<Text>> {
+    match others.first() {
+        None => Ok(None),
+        Some(text) => Ok(Some(read_text(alloc, text)?)),
+    }
+}
+
+fn component(alloc: Global, report: &Text) -> Result<String> {
+    let report = str::from_utf8(report.as_slice())
+        .ok()
+        .context("bytes that are no text")?;
+    let least = least_report(alloc, report)?;
+    Ok(format!(in alloc; "{least:?}")?)
+}
+
+fn until<R: Threads + Sync>(
+    rt: &R,
+    alloc: Global,
+    words: &[&str],
+    file: &Text,
+    others: &[&str],
+) -> Result<String> {
+    let last = others.first().context("no last text")?;
+    let told = call(rt, alloc, words, file.as_slice(), None, STEADY)?;
+    shown_until(alloc, &told, last)
+}
+
+fn with_boxes<R: Threads + Sync>(
+    rt: &R,
+    alloc: Global,
+    words: &[&str],
+    file: &Text,
+    others: &[&str],
+) -> Result<String> {
+    let (read, words) = words.split_first().context("no number of a read")?;
+    let boxes = read_text(alloc, others.first().context("no file of boxes")?)?;
+    let ends = Ends {
+        read: read.parse::<u64>()?,
+        ..STEADY
+    };
+    let told = call(
         rt,
         alloc,
-        words.as_slice(),
-        shelf,
-        &mut out,
-        &mut notes,
-        &NoGate,
-    );
-    Ok(Told { status, out, notes })
-}
-
-/// The words of a head; two quotes stand for the empty one.
-fn words_of(alloc: Global, words: &[&str]) -> Mem<Vec<String>> {
-    let mut all = Vec::new(alloc);
-    for word in words {
-        all.push(String::from_str(alloc, plain(word))?)?;
-    }
-    Ok(all)
-}
-
-fn plain<'a>(word: &'a str) -> &'a str {
-    match word {
-        "''" => "",
-        _ => word,
+        words,
+        file.as_slice(),
+        Some(boxes.as_slice()),
+        ends,
+    )?;
+    match others.get(1) {
+        Some(last) => shown_until(alloc, &told, last),
+        None => shown(alloc, &told),
     }
 }
 
-/// A sink of which this put fails.
-fn sink(alloc: Global, most: usize, fails: u64) -> Mem<MemSink> {
-    let mut sink = MemSink::new(alloc, ROOM, most.max(1))?;
-    sink.fail(fails)?;
-    Ok(sink)
+fn alike<R: Threads + Sync>(
+    rt: &R,
+    alloc: Global,
+    words: &[&str],
+    file: &Text,
+    others: &[&str],
+) -> Result<String> {
+    let boxes = read_text(alloc, others.first().context("no file of boxes")?)?;
+    let last = others.get(1).context("no last text")?;
+    let others = others.get(2).context("no second words")?;
+    let others: Vec<&str> = others.split(' ').collect(alloc)?;
+    let boxes = Some(boxes.as_slice());
+    let told = call(rt, alloc, words, file.as_slice(), boxes, STEADY)?;
+    let other = call(rt, alloc, others.as_slice(), file.as_slice(), boxes, STEADY)?;
+    if !are_alike(&told, &other) {
+        bail!("two calls that tell different things");
+    }
+    shown_until(alloc, &told, last)
 }
 
-/// Whether both calls told the same.
-pub fn are_alike(left: &Told, right: &Told) -> bool {
-    left.status == right.status
-        && left.out.bytes() == right.out.bytes()
-        && left.notes.bytes() == right.notes.bytes()
+fn changing<R: Threads + Sync>(
+    rt: &R,
+    alloc: Global,
+    words: &[&str],
+    file: Text,
+    others: &[&str],
+) -> Result<String> {
+    let later = read_text(alloc, others.first().context("no later bytes")?)?;
+    let mut shelf = ChangingShelf::new(alloc, file, later);
+    let told = call_over(rt, alloc, words, &mut shelf, STEADY)?;
+    shown(alloc, &told)
 }
 
-/// The status, and both texts in quotes.
-pub fn shown(alloc: Global, told: &Told) -> Result<String> {
-    let out = text_of(told.out.bytes())?;
-    let notes = text_of(told.notes.bytes())?;
-    Ok(format!(in alloc; "{} {out:?} {notes:?}", told.status)?)
+fn failing<R: Threads + Sync>(
+    rt: &R,
+    alloc: Global,
+    words: &[&str],
+    file: &Text,
+) -> Result<String> {
+    let (most, words) = words.split_first().context("no number of bytes")?;
+    let (read, words) = words.split_first().context("no number of a read")?;
+    let (out, words) = words
+        .split_first()
+        .context("no number of a put to standard output")?;
+    let (notes, words) = words
+        .split_first()
+        .context("no number of a put to standard error")?;
+    let ends = Ends {
+        most: most.parse::<usize>()?,
+        read: read.parse::<u64>()?,
+        out: out.parse::<u64>()?,
+        notes: notes.parse::<u64>()?,
+    };
+    let told = call(rt, alloc, words, file.as_slice(), None, ends)?;
+    shown(alloc, &told)
 }
 
-/// The same, with what is on standard output as far as the end of `last`.
-pub fn shown_until(alloc: Global, told: &Told, last: &str) -> Result<String> {
-    let out = text_of(told.out.bytes())?;
-    let notes = text_of(told.notes.bytes())?;
-    let (before, _) = out
-        .split_once(last)
-        .context("no such text on standard output")?;
-    Ok(format!(in alloc; "{} {before:?}.. {notes:?}", told.status)?)
-}
-
-/// The same, with the report on standard output by the least automata of its components; where there is a `last`, only
-/// what stands before it.
-pub fn shown_least(alloc: Global, told: &Told, last: Option<&str>) -> Result<String> {
-    let out = text_of(told.out.bytes())?;
-    let notes = text_of(told.notes.bytes())?;
-    match last {
-        None => {
-            let out = least_report(alloc, out)?;
-            Ok(format!(in alloc; "{} {out:?} {notes:?}", told.status)?)
-        }
-        Some(last) => {
-            let (before, _) = out
-                .split_once(last)
-                .context("no such text on standard output")?;
-            let before = least_report(alloc, before)?;
-            Ok(format!(in alloc; "{} {before:?}.. {notes:?}", told.status)?)
-        }
+/// The kinds of many calls over one file that is changed.
+fn answer_tables<'a, R: Threads + Sync>(
+    rt: &R,
+    alloc: Global,
+    kind: &str,
+    words: &'a [&'a str],
+    file: &'a Text,
+    others: &[&str],
+) -> Result<String> {
+    let (statuses, words) = words.split_first().context("no statuses")?;
+    let boxes = boxes_of(alloc, others)?;
+    let boxes = match &boxes {
+        None => None,
+        Some(text) => Some(text.as_slice()),
+    };
+    let file = file.as_slice();
+    let varied = Varied {
+        statuses,
+        words,
+        file,
+        boxes,
+        keeps_boxes: kind == "fronts",
+    };
+    match kind {
+        "replaced" => replaced(rt, alloc, &varied),
+        _ => each_prefix(rt, alloc, kind, &varied),
     }
 }
 
-fn text_of<'a>(bytes: &'a [u8]) -> Result<&'a str> {
-    str::from_utf8(bytes).ok().context("bytes that are no text")
+fn each_prefix<R: Threads + Sync>(
+    rt: &R,
+    alloc: Global,
+    kind: &str,
+    varied: &Varied<'_>,
+) -> Result<String> {
+    let (first, words) = varied.words.split_first().context("no first number")?;
+    let (last, words) = words.split_first().context("no last number")?;
+    let varied = Varied { words, ..*varied };
+    let first = first.parse::<usize>()?;
+    let last = last.parse::<usize>()?;
+    match kind {
+        "noted" => noted(rt, alloc, &varied, first, last),
+        _ => prefixes(rt, alloc, &varied, first, last),
+    }
+}
+
+fn each_put<R: Threads + Sync>(
+    rt: &R,
+    alloc: Global,
+    words: &[&str],
+    file: &Text,
+) -> Result<String> {
+    let (most, words) = words.split_first().context("no number of bytes")?;
+    puts(rt, alloc, words, file.as_slice(), most.parse::<usize>()?)
+}
+
+fn report(alloc: Global, words: &[&str]) -> Result<String> {
+    let (number, words) = words.split_first().context("no number of a fault")?;
+    let (line, words) = words.split_first().context("no line")?;
+    let step = words.first().context("no step")?;
+    let fault = fault_of(number)?;
+    let text = unsafe_report(
+        alloc,
+        fault,
+        line.parse::<u32>()?,
+        step.parse::<u64>()?,
+        &[],
+    )?;
+    let text = str::from_utf8(text.as_slice())
+        .ok()
+        .context("bytes that are no text")?;
+    Ok(format!(in alloc; "{text:?}")?)
+}
+
+fn fault_of(number: &str) -> Result<Fault> {
+    match number {
+        "1" => Ok(Fault::NullDeref),
+        "2" => Ok(Fault::UninitDeref),
+        "3" => Ok(Fault::DanglingDeref),
+        "4" => Ok(Fault::InvalidFree),
+        "5" => Ok(Fault::DoubleFree),
+        "6" => Ok(Fault::Leak),
+        "7" => Ok(Fault::Assertion),
+        "8" => Ok(Fault::IndetTest),
+        _ => bail!("no such fault"),
+    }
 }

@@ -1,20 +1,49 @@
-//! Rows of whole calls: the files of rows that the words name are read, and each row is answered by a line.
+//! Rows of the program: what it stands on, its words, files of boxes and generated programs, whole calls of it, and the
+//! pieces in which they work. The files of rows that the words name are read, and each row is answered by a line.
 //!
-//! `calls` makes one call of the program over files and two sinks in memory, `tables` makes many over files that differ in little,
-//! `shelves` has a shelf whose files change, `kinds` says what each kind of row asks, and `texts` how a C text stands in
-//! a row.
+//! Each room is a module, which says what its kinds of rows ask.
 #![tactic(auto)]
 
+mod base;
+mod boxes;
 mod calls;
-mod kinds;
-mod shelves;
-mod tables;
-mod texts;
+mod crews;
+mod generated;
+mod words;
 
-use anyhow::Result;
-use kinds::Kinds;
-use row_kit::answer_files;
+use anyhow::{Result, bail};
+use row_kit::{Answers, answer_files};
+use std::alloc::Global;
+use std::rt::Files;
+use std::thread::Threads;
+
+// The rooms of the program. Real files are read by its handle.
+#[derive(Drop)]
+struct Rooms<'r, F: Files> {
+    files: &'r F,
+}
+
+impl<'r, F: Files> Answers for Rooms<'r, F> {
+    fn answer<R: Threads + Sync>(
+        &self,
+        rt: &R,
+        alloc: Global,
+        room: &str,
+        head: &str,
+        texts: &[&str],
+    ) -> Result<String> {
+        match room {
+            "base" => base::answer(self.files, alloc, head, texts),
+            "words" => words::answer(alloc, head, texts),
+            "boxes" => boxes::answer(alloc, head, texts),
+            "generated" => generated::answer(alloc, head, texts),
+            "calls" => calls::answer(rt, alloc, head, texts),
+            "crews" => crews::answer(rt, alloc, head, texts),
+            _ => bail!("no such room"),
+        }
+    }
+}
 
 fn main(rt: HostRuntime) -> Result<()> {
-    answer_files(&rt, &Kinds)
+    answer_files(&rt, &Rooms { files: &rt })
 }

@@ -1,23 +1,30 @@
-use Rattle.std.proofs.Common.{◌<◌, ℕ, List, [], ◌∷◌, ◌++◌, map, length, sym, ap, ◌∙◌, subst}
+use Rattle.std.proofs.Common.{◌≡◌, ◌<◌, List, ℕ, ◌∷◌, [], ◌++◌, length, Some, subst, sym, ap, ◌∙◌}
 use Rattle.fore_base.specs.Lists.{IsIn}
-use Rattle.fore_base.specs.Names.{IsNumbered}
-use Rattle.fore_base.proofs.NameLemmas.{added, numbered_push}
+use Rattle.fore_base.specs.Names.{AreFound, IsNumbered}
+use Rattle.fore_base.proofs.NameLemmas.{found_push, found_same, numbered_push, undone}
 use Rattle.fore_base.proofs.names.Names.add.Goals as goal
 
-pub invariant_of-self-2 : goal.invariant_of-self-2
-invariant_of-self-2 c =
+pub invariant_of-self-in-Ok : goal.invariant_of-self-in-Ok
+invariant_of-self-in-Ok c =
     let text = c.args.text.now in
-    let names = map (λ text. text.items) c.self.inside.texts.keys in
+    let texts = c.self.inside.texts in
     let absent = subst (λ (ns : List (List ℕ)). IsIn text ns → ⊥) (sym c.self.view_is) c.requires.absent in
     let room = subst (λ (ns : List (List ℕ)). length ns < 4294967295) (sym c.self.view_is) c.requires.room in
-    let more = added (λ text. text.items) c.self.inside.texts.keys c.insert_full.new.self.keys c.in_ok-copy.copy text
-    c.in_ok-copy.ensures.items absent c.in_ok-insert_full.ensures.keys in
-    subst IsNumbered (sym more) (numbered_push names text c.self.invariant absent room)
+    let pushed : c.push.new.self ≡ texts ++ text ∷ [] =
+    c.in_ok-push.ensures.ok ∙ ap (λ t. texts ++ t ∷ []) c.in_ok-copy.ensures in (
+      subst IsNumbered (sym pushed) (numbered_push texts text c.self.invariant.0 absent room),
+      subst (λ ts. AreFound (λ text. text.items) ts c.insert.new.self) (sym pushed)
+          (found_push (λ text. text.items) texts c.self.inside.numbers c.insert.new.self c.self.invariant.1 c.in_ok-key.key
+          text c.len-number.result c.in_ok-key.ensures.items c.len-number.ensures c.in-Ok.ensures.updates),
+    )
 
-pub returns-clause-ok : goal.returns-clause-ok
-returns-clause-ok c =
-    let text = c.args.text.now in
-    let absent = subst (λ (ns : List (List ℕ)). IsIn text ns → ⊥) (sym c.self.view_is) c.requires.absent in
-    let more = added (λ text. text.items) c.self.inside.texts.keys c.insert_full.new.self.keys c.in_ok-copy.copy text
-    c.in_ok-copy.ensures.items absent c.in_ok-insert_full.ensures.keys in
-    more ∙ ap (λ (ns : List (List ℕ)). ns ++ text ∷ []) c.self.view_is
+pub invariant_of-self-in-Err : goal.invariant_of-self-in-Err
+invariant_of-self-in-Err c =
+    let texts = c.self.inside.texts in
+    let same : c.pop-last.new.self ≡ texts =
+    undone texts c.push.new.self c.pop-last.new.self c.in_ok-copy.copy c.pop-last.result c.in_ok-push.ensures.ok
+    c.pop-last.ensures in (
+      subst IsNumbered (sym same) c.self.invariant.0,
+      found_same (λ text. text.items) texts c.pop-last.new.self c.self.inside.numbers c.insert.new.self
+          c.self.invariant.1 same c.in-Err.ensures.err,
+    )
