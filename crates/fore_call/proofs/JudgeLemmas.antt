@@ -1,5 +1,5 @@
 -- What is right for one file after another is right for what is asked, and what is right for that for the words.
-use Rattle.std.proofs.Common.{◌≡◌, ◌≤◌, ◌⊎◌, inl, inr, List, [], ◌∷◌, ◌++◌, ℕ, None, Some, sym, ◌∙◌, ap, subst, refl, arith}
+use Rattle.std.proofs.Common.{◌≡◌, ◌≤◌, inl, inr, List, [], ◌∷◌, ◌++◌, ℕ, None, Some, sym, ◌∙◌, ap, subst, refl, arith}
 use Rattle.std.proofs.lemmas.List.{append_assoc}
 use Rattle.fore_outside.specs.NamedFiles.{reading}
 use Rattle.fore_outside.specs.Outside.{Rose}

@@ -1,31 +1,7 @@
 -- Worked values, which guard the definitions in specs/: each is worked out by hand from docs/REPORTS.md, and each
 -- case of a definition is met by a row that fails if the case is wrong.
-use Rattle.std.proofs.Common.{
-  ◌≡◌,
-  ◌<◌,
-  inl,
-  inr,
-  ℕ,
-  List,
-  [],
-  ◌∷◌,
-  ◌++◌,
-  codes,
-  length,
-  take,
-  zero,
-  suc,
-  ap,
-  Option,
-  Some,
-  None,
-  false,
-  refl,
-  sym,
-  ◌∙◌,
-  true≢false,
-  arith,
-}
+use Rattle.std.proofs.Common.{◌≡◌, ◌<◌, inl, inr, ℕ, List, [], ◌∷◌, codes, length, ap, Option, Some}
+use Rattle.std.proofs.Common.{None, false, refl, sym, ◌∙◌, true≢false, arith}
 use Rattle.fore_outside.specs.NamedFiles.{reading}
 use Rattle.fore_outside.specs.declared.named_files.NamedFile.{NamedFile}
 use Rattle.fore_base.specs.declared.shape.Shapes.{Shapes}
@@ -33,12 +9,10 @@ use Rattle.c_types.specs.Program.{Program}
 use Rattle.c_types.specs.declared.mode.MallocMode.{MallocMode}
 use Rattle.c_types.specs.declared.mode.MallocMode.TheVariants.{Always}
 use Rattle.c_types.specs.Runs.{run}
-use Rattle.c_types.specs.declared.outcome.Outcome.TheVariants.{Ended, Fault, Starved, BadChoice, StillRunning}
+use Rattle.c_types.specs.declared.outcome.Outcome.TheVariants.{Ended}
 use Rattle.c_cfg.specs.Graphs.{ControlGraph}
 use Rattle.c_cfg.specs.LoopFree.{has_no_loop}
 use Rattle.c_cfg.specs.Lowering.{LowerOf}
-use Rattle.c_front.specs.declared.broken.Letter.{Letter}
-use Rattle.c_front.specs.declared.broken.Letter.TheVariants.{Lexical, Profile, Syntax, Typing, Limit}
 use Rattle.fa_core.specs.Boxes.{Boxes}
 use Rattle.fore_read.specs.declared.fault.Refusal.TheVariants.{
   TooLong,
@@ -49,25 +23,23 @@ use Rattle.fore_read.specs.declared.fault.Refusal.TheVariants.{
 }
 use Rattle.fore_read.specs.Readings.{ShelfView, Reading}
 use Rattle.fore_read.specs.Files.{GivesProgram, IsTableFile}
-use Rattle.fore_report.specs.declared.verdict.Verdict.TheVariants.{Safe, Unsafe, Unknown}
+use Rattle.fore_report.specs.declared.verdict.Verdict.TheVariants.{Safe}
 use Rattle.fore_words.specs.declared.asked.Settings.{Settings}
-use Rattle.fore_words.specs.declared.asked.Kind.TheVariants.{ListPhases, DllPhases, TreePhases}
+use Rattle.fore_words.specs.declared.asked.Kind.TheVariants.{ListPhases, DllPhases}
 use Rattle.fore_words.specs.declared.asked.Asked.{Asked}
 use Rattle.fore_words.specs.declared.asked.Asked.TheVariants.{Verify, Run, Gen}
 use Rattle.fore_words.specs.Words.{IsAsked, AsksNothing}
-use Rattle.fore_answer.specs.declared.answer.Answer.{Answer}
-use Rattle.fore_answer.specs.declared.answer.Answer.TheVariants.{Verified, Ran, Usage, Refused, ReadFault, NoMemory}
+use Rattle.fore_answer.specs.declared.answer.Answer.TheVariants.{Verified, Ran, Usage}
 use Rattle.fore_answer.specs.Writings.{Writing}
 use Rattle.fore_call.specs.Calls.{Request, Call}
 use Rattle.fore_call.specs.Names.{file_of, boxes_of, LetsRead, LetRead, Names}
-use Rattle.fore_answer.specs.Texts.{out_text, notes_text, status_of}
-use Rattle.fore_answer.specs.Delivery.{IsUntouched, Wrote, IsCut, IsCutShort}
+use Rattle.fore_answer.specs.Texts.{notes_text}
 use Rattle.fore_call.specs.Promises.{IsResult, IsDecision, IsRefusal, FitsBudget, Answers}
 use Rattle.c_front.specs.declared.broken.Broken.{Broken}
 use Rattle.c_front.specs.Files.{IsProgramOf}
 use Rattle.fore_gen.specs.Programs.{program_text}
 use Rattle.fore_gen.specs.Boxes.{dll_box_text}
-use Rattle.fa_text.specs.Files.{IsBoxFile, IsFirst}
+use Rattle.fa_text.specs.Files.{IsFirst}
 use Rattle.fa_text.specs.declared.fault.BoxFault.TheVariants.{Rule}
 use Rattle.fore_report.specs.Reports.{IsReport}
 use Rattle.fore_call.specs.Verdict.{

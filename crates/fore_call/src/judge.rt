@@ -1,5 +1,7 @@
 //! The answer to the words, and to what they ask.
 ghost use Rattle.std.specs.Prelude.{◌≡◌, List, ℕ, Some, None, IfOk};
+ghost use Rattle.c_cfg.specs.Lowering.{LowerOf};
+ghost use Rattle.fix_core.specs.Explorations.{IsExplored};
 ghost use Rattle.fore_read.specs.Readings.{reading_of, ReadsAtMost};
 ghost use Rattle.fore_words.specs.Words.{IsInRange};
 ghost use Rattle.fore_words.specs.declared.asked.Asked.TheVariants as ask;
@@ -16,10 +18,12 @@ ghost use Rattle.fore_call.specs.inner.Judging.{
 
 use crate::exploring::explored;
 use crate::summing::generated;
+use c_cfg::graph::Graph;
 use c_machine::run::run;
 use c_types::mode::MallocMode;
 use c_types::program::Typed;
 use fa_core::table::BoxTable;
+use fix_core::Explored;
 use fore_answer::answer::{Answer, answer_to};
 use fore_base::memory::Mem;
 use fore_outside::shelf::Shelf;
@@ -238,6 +242,23 @@ fn reported<R: Threads + Sync, G: Gate>(
     ensures { IfOk result (IsVerdict table.now program.now settings) }
 {
     let (graph, found) = explored(rt, alloc, program, table, settings, gate)?;
-    let (verdict, text) = report(alloc, &found, settings, table, &graph, program)?;
+    told(alloc, &found, settings, table, &graph, program)
+}
+
+/// Reports what was found.
+fn told(
+    alloc: Global,
+    found: &Explored,
+    settings: Settings,
+    table: &BoxTable,
+    graph: &Graph,
+    program: &Typed,
+) -> Mem<Answer>
+    requires shapes { graph.now.shapes ≡ table.now.face.shapes }
+    requires lowered { LowerOf program.now settings.malloc graph.now }
+    requires explored { IsExplored table.now graph.now settings.height settings.budget found.now }
+    ensures { IfOk result (IsVerdict table.now program.now settings) }
+{
+    let (verdict, text) = report(alloc, found, settings, table, graph, program)?;
     Ok(Answer::Verified { verdict, text })
 }

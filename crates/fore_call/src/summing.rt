@@ -1,8 +1,13 @@
 // The answer to a wish for a generated program.
 ghost use Rattle.std.specs.Prelude.{◌≡◌, IfOk};
+ghost use Rattle.c_cfg.specs.Lowering.{LowerOf};
+ghost use Rattle.fix_core.specs.Explorations.{IsExplored};
+ghost use Rattle.fore_generated.specs.Generated.{gen_settings};
 ghost use Rattle.fore_call.specs.inner.Judging.{IsGeneratedAnswer, IsSummedUp};
 
 use crate::exploring::explored;
+use c_cfg::graph::Graph;
+use fix_core::Explored;
 use fore_answer::answer::{Answer, answer_to};
 use fore_base::memory::Mem;
 use fore_generated::generated::{Generated, gen_settings, generated_program};
@@ -62,8 +67,28 @@ fn summed_up<R: Threads + Sync, G: Gate>(
     let program = &made.program;
     let table = &made.table;
     let (graph, found) = explored(rt, alloc, program, table, settings, gate)?;
+    told(alloc, kind, phases, made, &graph, &found)
+}
+
+/// Sums up what was found of a generated program.
+fn told(
+    alloc: Global,
+    kind: Kind,
+    phases: u32,
+    made: &Generated,
+    graph: &Graph,
+    found: &Explored,
+) -> Mem<Answer>
+    requires shapes { graph.now.shapes ≡ made.now.table.face.shapes }
+    requires lowered { LowerOf made.now.program gen_settings.malloc graph.now }
+    requires explored { IsExplored made.now.table graph.now gen_settings.height gen_settings.budget found.now }
+    ensures { IfOk result (IsSummedUp kind phases made.now.lines made.now.table made.now.program) }
+{
+    let settings = gen_settings();
+    let program = &made.program;
+    let table = &made.table;
     let (verdict, text) = summary(
-        alloc, kind, phases, made.lines, &found, settings, table, &graph, program,
+        alloc, kind, phases, made.lines, found, settings, table, graph, program,
     )?;
     Ok(Answer::Verified { verdict, text })
 }

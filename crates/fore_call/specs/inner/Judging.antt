@@ -1,5 +1,5 @@
 -- Which answer is right for a program, and what one file and then another gives.
-use Rattle.std.specs.Prelude.{◌≡◌, ◌≤◌, ◌⊎◌, ⊤, ℕ, List, []}
+use Rattle.std.specs.Prelude.{◌≡◌, ◌≤◌, ⊤, ℕ, List, []}
 use Rattle.fore_outside.specs.declared.named_files.NamedFile.{NamedFile}
 use Rattle.c_types.specs.declared.mode.MallocMode.{MallocMode}
 use Rattle.c_types.specs.Program.{Program}
