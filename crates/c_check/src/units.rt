@@ -32,8 +32,8 @@ use std::alloc::Global;
 /// # Errors
 ///
 /// The first fault of the unit, which is `Rule` or `Limit` at the earliest place where a rule is broken or a limit is
-/// passed, on one place a rule before a limit, and then the lesser number; where there is none, `Limit` 9 at the name of
-/// a `main` that weighs too much. `Memory` for want of memory.
+/// passed, on one place a rule before a limit, and then the lesser number; where there is none, `Limit` 9 at the name
+/// of a `main` that weighs too much. `Memory` for want of memory.
 pub fn check(alloc: Global, unit: &Unit) -> Result<Typed, TypeFault>
     ensures ok { IfOk result (TypedOf unit.now) }
     ensures err { IfErr result (λ e. (e ≡ Memory) ⊎ IsFirstFault unit.now e) }

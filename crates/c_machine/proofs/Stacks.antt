@@ -24,7 +24,8 @@ use Rattle.c_types.specs.declared.program.Stmt.TheOpen.{Call as Call-F}
 use Rattle.c_types.specs.Control.{Items, Done, Do, Close, If, Loop, Again, DoLoop, DoAgain, Enter, Leave, Exit, Test}
 use Rattle.c_types.specs.Control.{Both, Either, ◌then◌}
 use Rattle.c_types.specs.Control.{ask, round, do_round, open_before, opened, joined, test_of, all_before, closes}
-use Rattle.c_types.specs.Control.{leave_items, act_items, call_items, items_step, items_by, body_within, items_of, start_of}
+use Rattle.c_types.specs.Control.{leave_items, act_items, call_items, items_step, items_by, body_within, items_of}
+use Rattle.c_types.specs.Control.{start_of}
 use Rattle.c_types.proofs.Turns.{then_done}
 use Rattle.c_types.proofs.Layers.{test-Atom, test-Not, test-All, test-Any, by-Do, by-Branch, by-While, by-For}
 use Rattle.c_types.proofs.Layers.{by-DoWhile, by-Group, by-Call}
@@ -38,7 +39,8 @@ use Rattle.c_machine.specs.declared.items.Sides.TheVariants.{Branch as SideBranc
 use Rattle.c_machine.specs.declared.items.Part.{Part}
 use Rattle.fore_base.specs.Lists.{sum_of}
 use Rattle.c_machine.specs.Pending.{way, ways_of, block}
-use Rattle.c_machine.specs.Pending.{item_of, in_order, before, onto, Ways, and_then, or_else, through, narrowed, test_before}
+use Rattle.c_machine.specs.Pending.{item_of, in_order, before, onto, Ways, and_then, or_else, through, narrowed}
+use Rattle.c_machine.specs.Pending.{test_before}
 use Rattle.c_machine.specs.Pending.{size_step, size_of, weight_step, weight_of, block_weight, item_weight, stack_weight}
 
 -- Items

@@ -11,7 +11,8 @@ use Rattle.c_types.specs.declared.program.Stmt.TheOpen.{Do as Do-F, Branch as Br
 use Rattle.c_types.specs.declared.program.Stmt.TheOpen.{DoWhile as DoWhile-F, For as For-F, Group as Group-F}
 use Rattle.c_types.specs.declared.program.Stmt.TheOpen.{Call as Call-F}
 use Rattle.c_types.specs.declared.program.Func.{Func}
-use Rattle.c_types.specs.Control.{Test, Ask, Both, Either, Items, Done, Do, Close, If, Loop, Again, DoAgain, Enter, Leave}
+use Rattle.c_types.specs.Control.{Test, Ask, Both, Either, Items, Done, Do, Close, If, Loop, Again, DoAgain, Enter}
+use Rattle.c_types.specs.Control.{Leave}
 use Rattle.c_types.specs.Control.{Exit, ◌then◌, round, do_round, opened, joined, test_of, items_of, all_before, closes}
 use Rattle.c_types.specs.Control.{after_again, from_again, closed_ptrs, closed_datums}
 use Rattle.fore_base.specs.declared.store.Store.{Store}

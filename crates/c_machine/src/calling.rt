@@ -42,7 +42,8 @@ pub fn take_leave<'p>(
 ) -> Pace
     requires room { HasRoomFor (length heap.old.cells) marks.old }
     requires unleaked { leaks heap.old ≡ false }
-    ensures turn { settled (leave heap.old func.now.result func.now.locals value.now) (from_exit (pending stack.old.items))
+    ensures turn { settled (leave heap.old func.now.result func.now.locals value.now)
+        (from_exit (pending stack.old.items))
         ≡ turn_seen result (pending stack.new.items) heap.new }
     ensures unleaked { result ≡ Pace.Goes → leaks heap.new ≡ false }
     ensures keeps { IsNoLarger heap.old heap.new }

@@ -1,5 +1,5 @@
-//! Whether an act, the end of a block, or a step of a call takes a reference to a cell away. Any other step has the leak
-//! test's answer of before it.
+//! Whether an act, the end of a block, or a step of a call takes a reference to a cell away. Any other step has the
+//! leak test's answer of before it.
 
 ghost use Rattle.std.specs.Prelude.{◌≡◌, ◌||◌, [], ◌∷◌, length, map, slice_get};
 ghost use Rattle.c_types.specs.Control.{closed_ptrs, with_result};
@@ -210,8 +210,8 @@ pub fn leave_loses(heap: &Heap, func: &Func) -> bool
     call_holds(heap, &func.result, func.locals.as_slice())
 }
 
-/// Whether the end of a call takes a reference to a cell away: what the result is assigned to, the result or a parameter
-/// refers to one.
+/// Whether the end of a call takes a reference to a cell away: what the result is assigned to, the result or a
+/// parameter refers to one.
 pub fn exit_loses(heap: &Heap, func: &Func, to: &Option<Dest>) -> bool
     ensures { result ≡ to_loses heap.now to.now || vars_hold heap.now (with_result func.now.result func.now.params) }
 {

@@ -143,7 +143,8 @@ fn take_step<'p>(
 }
 
 impl<'p> Machine<'p> {
-    /// The machine at the start of a program whose `malloc` answers by the mode: nothing is set, and there are no cells.
+    /// The machine at the start of a program whose `malloc` answers by the mode: nothing is set, and there are no
+    /// cells.
     ///
     /// # Errors
     ///

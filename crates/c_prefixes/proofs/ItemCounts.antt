@@ -13,7 +13,8 @@ use Rattle.c_types.specs.Control.{Items, Done, Do, Close, If, Loop, Again, DoLoo
 use Rattle.c_types.specs.Control.{Ask, Not, Both, Either}
 use Rattle.c_cfg.specs.declared.link.Link.{Link}
 use Rattle.c_cfg.specs.declared.link.Link.TheVariants.{One, Two}
-use Rattle.c_cfg.specs.Links.{act_row, enter_row, exit_row, leave_row, links_in, ptr_loads, ptr_ends, cmp_loads, data_ends}
+use Rattle.c_cfg.specs.Links.{act_row, enter_row, exit_row, leave_row, links_in, ptr_loads, ptr_ends, cmp_loads}
+use Rattle.c_cfg.specs.Links.{data_ends}
 use Rattle.c_cfg.specs.Places.{remark_test, remark}
 
 -- of a location where one edge begins, and where two begin

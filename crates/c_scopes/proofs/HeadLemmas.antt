@@ -32,7 +32,8 @@ module _ (g : Globals) (params : List Param) (i : ℕ) where
 
   pub refs_over : (refs : List VarRef) (scope : Scope) → length params ≤ i
       → refs ++ param_refs g (drop i params) scope ≡ refs
-  refs_over refs scope past = ap (λ (ps : List Param). refs ++ param_refs g ps scope) (drop_all i params past) ∙ append_none refs
+  refs_over refs scope past =
+      ap (λ (ps : List Param). refs ++ param_refs g ps scope) (drop_all i params past) ∙ append_none refs
     where
       append_none : (rs : List VarRef) → rs ++ [] ≡ rs
       append_none [] = refl

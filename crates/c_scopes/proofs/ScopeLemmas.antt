@@ -259,7 +259,8 @@ left_kept t blocks b meant kept is now =
 pub left_as : (t : Table) (blocks : List (List Entry)) (b : List Entry) (meant : List (Option Meant))
     → t.blocks ≡ blocks ++ b ∷ [] → scope_of (record t { blocks = blocks; meant = meant }) ≡ left (scope_of t)
 left_as t blocks b meant is =
-    ap (λ bs. left (record { blocks = map (vars_of t.names) bs; vars = t.vars; data_vars = t.data_vars; home = t.home }))
+    ap (λ bs.
+    left (record { blocks = map (vars_of t.names) bs; vars = t.vars; data_vars = t.data_vars; home = t.home }))
     (sym (ap turned is ∙ turned_push blocks b))
 
 pub none_left : (t : Table) → t.blocks ≡ [] → scope_of t ≡ left (scope_of t)
@@ -498,18 +499,29 @@ pub added_as : (t u : Table) (x : List ℕ) (kind : Kind) (number : ℕ) → u.n
     ≡ declared (scope_of t) x kind
 added_as t u x (Points to) number names blocks vars data_vars home is =
     let now : scope_of u ≡ record
-    { blocks = (scope_of t).blocks; vars = more_vars (Points to) x t.vars; data_vars = t.data_vars; home = t.home } = cc in
+    { blocks = (scope_of t).blocks; vars = more_vars (Points to) x t.vars; data_vars = t.data_vars; home = t.home }
+    = cc in
     ap (bound x (record { kind = Points to; number = number })) now
     ∙ ap
     (λ (n : ℕ). bound x (record { kind = Points to; number = n })
-    (record { blocks = (scope_of t).blocks; vars = more_vars (Points to) x t.vars; data_vars = t.data_vars; home = t.home })) is
+    (record {
+      blocks = (scope_of t).blocks;
+      vars = more_vars (Points to) x t.vars;
+      data_vars = t.data_vars;
+      home = t.home;
+    })) is
 added_as t u x Datum number names blocks vars data_vars home is =
     let now : scope_of u ≡ record
     { blocks = (scope_of t).blocks; vars = t.vars; data_vars = more_data Datum x t.data_vars; home = t.home } = cc in
     ap (bound x (record { kind = Datum; number = number })) now
     ∙ ap
     (λ (n : ℕ). bound x (record { kind = Datum; number = n })
-    (record { blocks = (scope_of t).blocks; vars = t.vars; data_vars = more_data Datum x t.data_vars; home = t.home })) is
+    (record {
+      blocks = (scope_of t).blocks;
+      vars = t.vars;
+      data_vars = more_data Datum x t.data_vars;
+      home = t.home;
+    })) is
 
 -- adding changes only what was declared
 pub added_kept : (t u : Table) → IsKept t → u.names ≡ t.names → u.meant ≡ t.meant → u.blocks ≡ t.blocks → IsKept u

@@ -1,4 +1,5 @@
--- What is found in a scope, the number that comes next, and what is in scope once a block is closed or a function begins.
+-- What is found in a scope, the number that comes next, and what is in scope once a block is closed or a function
+-- begins.
 use Rattle.std.specs.Prelude.{ℕ, List, [], ◌∷◌, Option, Some, None, length}
 use Rattle.c_types.specs.declared.program.VarDef.{VarDef}
 use Rattle.c_typing.specs.Scopes.{Scope, Var}

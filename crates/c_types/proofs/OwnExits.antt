@@ -48,7 +48,8 @@ closes_own [] [] m n r = refl
 closes_own [] (d ∷ ds) m n r = refl
 closes_own (p ∷ ps) ds m n r = refl
 
-module _ (funcs : List Func) (inside : List Stmt → Items → Items) (bodies : (b : List Stmt) → OwnsExits (inside b)) where
+module _ (funcs : List Func) (inside : List Stmt → Items → Items)
+    (bodies : (b : List Stmt) → OwnsExits (inside b)) where
   abbrev its : Stmt → Items → Items
   its = items_by funcs inside
 

@@ -23,7 +23,8 @@ use Rattle.c_ast.specs.declared.statements.Part.TheOpen as layer
 use Rattle.c_ast.specs.declared.statements.Part.TheVariants as part'
 use Rattle.c_ast.specs.declared.statements.Stmt.{Stmt, fold-roll-Stmt}
 use Rattle.c_ast.specs.declared.statements.Stmt.TheVariants as stmt
-use Rattle.c_typing.specs.Callees.{maybe_callees, operand_step, call_step, operand_callees, call_callees, simple_callees}
+use Rattle.c_typing.specs.Callees.{maybe_callees, operand_step, call_step, operand_callees, call_callees}
+use Rattle.c_typing.specs.Callees.{simple_callees}
 use Rattle.c_typing.specs.Callees.{test_step, unary_step, and_step, cond_step, test_callees, unary_callees, and_callees}
 use Rattle.c_typing.specs.Callees.{cond_callees, declare_callees, first_callees, part_step, block_step, stmt_step}
 use Rattle.c_typing.specs.Callees.{part_callees, stmt_callees, block_callees, other_callees}
@@ -59,31 +60,42 @@ pub callees-operands : (name : Name) (operands : List Operand)
 callees-operands name operands =
     fold-roll-Call (List Text) (List Text) operand_step call_step (record { name = name; operands = operands })
 
-pub callees-Compare : (left : Operand) (equal : Bool) (right : Operand) → test_callees (test.Compare left equal right) ≡ operand_callees left ++ operand_callees right
+pub callees-Compare : (left : Operand) (equal : Bool) (right : Operand)
+    → test_callees (test.Compare left equal right) ≡ operand_callees left ++ operand_callees right
 callees-Compare left equal right = ap test_callees (sym (test.rolls-Compare left equal right))
-    ∙ fold-roll-Test (List Text) (List Text) (List Text) (List Text) test_step unary_step and_step cond_step (test-f.Compare left equal right)
+    ∙ fold-roll-Test (List Text) (List Text) (List Text) (List Text) test_step unary_step and_step cond_step
+    (test-f.Compare left equal right)
 
 pub callees-Unary : (u : Unary) → test_callees (test.Unary u) ≡ unary_callees u
 callees-Unary u = ap test_callees (sym (test.rolls-Unary u))
-    ∙ fold-roll-Test (List Text) (List Text) (List Text) (List Text) test_step unary_step and_step cond_step (test-f.Unary u)
+    ∙ fold-roll-Test (List Text) (List Text) (List Text) (List Text) test_step unary_step and_step cond_step
+    (test-f.Unary u)
 
 pub callees-Not : (at : Place) (u : Unary) → unary_callees (unary.Not at u) ≡ unary_callees u
 callees-Not at u = ap unary_callees (sym (unary.rolls-Not at u))
-    ∙ fold-roll-Unary (List Text) (List Text) (List Text) (List Text) test_step unary_step and_step cond_step (test-f.Not at u)
+    ∙ fold-roll-Unary (List Text) (List Text) (List Text) (List Text) test_step unary_step and_step cond_step
+    (test-f.Not at u)
 
 pub callees-Bracket : (at : Place) (c : Cond) → unary_callees (unary.Bracket at c) ≡ cond_callees c
 callees-Bracket at c = ap unary_callees (sym (unary.rolls-Bracket at c))
-    ∙ fold-roll-Unary (List Text) (List Text) (List Text) (List Text) test_step unary_step and_step cond_step (test-f.Bracket at c)
+    ∙ fold-roll-Unary (List Text) (List Text) (List Text) (List Text) test_step unary_step and_step cond_step
+    (test-f.Bracket at c)
 
 pub callees-Operand : (o : Operand) → unary_callees (unary.Operand o) ≡ operand_callees o
 callees-Operand o = ap unary_callees (sym (unary.rolls-Operand o))
-    ∙ fold-roll-Unary (List Text) (List Text) (List Text) (List Text) test_step unary_step and_step cond_step (test-f.Operand o)
+    ∙ fold-roll-Unary (List Text) (List Text) (List Text) (List Text) test_step unary_step and_step cond_step
+    (test-f.Operand o)
 
-pub callees-tests : (tests : List Test) → and_callees (roll-And (record { tests = tests })) ≡ joined (map test_callees tests)
-callees-tests tests = fold-roll-And (List Text) (List Text) (List Text) (List Text) test_step unary_step and_step cond_step (record { tests = tests })
+pub callees-tests : (tests : List Test)
+    → and_callees (roll-And (record { tests = tests })) ≡ joined (map test_callees tests)
+callees-tests tests =
+    fold-roll-And (List Text) (List Text) (List Text) (List Text) test_step unary_step and_step cond_step
+    (record { tests = tests })
 
 pub callees-ands : (ands : List And) → cond_callees (roll-Cond (record { ands = ands })) ≡ joined (map and_callees ands)
-callees-ands ands = fold-roll-Cond (List Text) (List Text) (List Text) (List Text) test_step unary_step and_step cond_step (record { ands = ands })
+callees-ands ands =
+    fold-roll-Cond (List Text) (List Text) (List Text) (List Text) test_step unary_step and_step cond_step
+    (record { ands = ands })
 
 pub callees-Declare : (d : Declare) → part_callees (part'.Declare d) ≡ declare_callees d
 callees-Declare d = ap part_callees (sym (part'.rolls-Declare d))
@@ -112,25 +124,31 @@ pub callees-Simple-stmt : (s : Simple) → stmt_callees (stmt.Simple s) ≡ simp
 callees-Simple-stmt s = ap stmt_callees (sym (stmt.rolls-Simple s))
     ∙ fold-roll-Stmt (List Text) (List Text) (List Text) part_step stmt_step block_step (layer.Simple s)
 
-pub callees-If-stmt : (at : Place) (c : Cond) (s : Stmt) (other : Option Stmt) → stmt_callees (stmt.If at c s other) ≡ cond_callees c ++ stmt_callees s ++ other_callees other
+pub callees-If-stmt : (at : Place) (c : Cond) (s : Stmt) (other : Option Stmt)
+    → stmt_callees (stmt.If at c s other) ≡ cond_callees c ++ stmt_callees s ++ other_callees other
 callees-If-stmt at c s None = ap stmt_callees (sym (stmt.rolls-If at c s None))
     ∙ fold-roll-Stmt (List Text) (List Text) (List Text) part_step stmt_step block_step (layer.If at c s None)
 callees-If-stmt at c s (Some o) = ap stmt_callees (sym (stmt.rolls-If at c s (Some o)))
     ∙ fold-roll-Stmt (List Text) (List Text) (List Text) part_step stmt_step block_step (layer.If at c s (Some o))
 
-pub callees-While-stmt : (at : Place) (c : Cond) (body : Stmt) → stmt_callees (stmt.While at c body) ≡ cond_callees c ++ stmt_callees body
+pub callees-While-stmt : (at : Place) (c : Cond) (body : Stmt)
+    → stmt_callees (stmt.While at c body) ≡ cond_callees c ++ stmt_callees body
 callees-While-stmt at c body = ap stmt_callees (sym (stmt.rolls-While at c body))
     ∙ fold-roll-Stmt (List Text) (List Text) (List Text) part_step stmt_step block_step (layer.While at c body)
 
-pub callees-Do-stmt : (at : Place) (body : Stmt) (c : Cond) → stmt_callees (stmt.Do at body c) ≡ stmt_callees body ++ cond_callees c
+pub callees-Do-stmt : (at : Place) (body : Stmt) (c : Cond)
+    → stmt_callees (stmt.Do at body c) ≡ stmt_callees body ++ cond_callees c
 callees-Do-stmt at body c = ap stmt_callees (sym (stmt.rolls-Do at body c))
     ∙ fold-roll-Stmt (List Text) (List Text) (List Text) part_step stmt_step block_step (layer.Do at body c)
 
-pub callees-For-stmt : (at : Place) (f : First) (c : Option Cond) (next : Option Simple) (body : Stmt) → stmt_callees (stmt.For at f c next body) ≡ first_callees f ++ maybe_callees cond_callees c ++ maybe_callees simple_callees next ++ stmt_callees body
+pub callees-For-stmt : (at : Place) (f : First) (c : Option Cond) (next : Option Simple) (body : Stmt)
+    → stmt_callees (stmt.For at f c next body) ≡ first_callees f ++ maybe_callees cond_callees c
+    ++ maybe_callees simple_callees next ++ stmt_callees body
 callees-For-stmt at f c next body = ap stmt_callees (sym (stmt.rolls-For at f c next body))
     ∙ fold-roll-Stmt (List Text) (List Text) (List Text) part_step stmt_step block_step (layer.For at f c next body)
 
-pub callees-Return-stmt : (at : Place) (o : Option Operand) → stmt_callees (stmt.Return at o) ≡ maybe_callees operand_callees o
+pub callees-Return-stmt : (at : Place) (o : Option Operand)
+    → stmt_callees (stmt.Return at o) ≡ maybe_callees operand_callees o
 callees-Return-stmt at o = ap stmt_callees (sym (stmt.rolls-Return at o))
     ∙ fold-roll-Stmt (List Text) (List Text) (List Text) part_step stmt_step block_step (layer.Return at o)
 

@@ -96,8 +96,10 @@ module _ (g : Globals) where
       ++ fault_when (wants_pointer w && gives_datum result) (Rule 7 at)) ≡ [])
       × (fault_when (wants_datum w && gives_pointer result) (Rule 8 at) ≡ []) = empty_parts _ _ last.0 in
       let two : (fault_when (differ (wanted_struct w) (result_struct result)) (Rule 6 at) ≡ [])
-      × (fault_when (wants_pointer w && gives_datum result) (Rule 7 at) ≡ []) = empty_parts _ _ three.0 in
-      ((never _ (Rule 6 at) two.0, never _ (Rule 7 at) two.1), (never _ (Rule 8 at) three.1, never _ (Rule 17 at) last.1))
+      × (fault_when (wants_pointer w && gives_datum result) (Rule 7 at) ≡ []) = empty_parts _ _ three.0 in (
+        (never _ (Rule 6 at) two.0, never _ (Rule 7 at) two.1),
+        (never _ (Rule 8 at) three.1, never _ (Rule 17 at) last.1),
+      )
 
   -- a `return` has an operand where it wants one
   pub return_right : (home : Option ℕ) (operand : Bool) (at : Place)

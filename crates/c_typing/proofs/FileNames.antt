@@ -148,7 +148,8 @@ module _ (g : Globals) where
       heads_first (seen_after s (item.Declare d)) is scope pre sub (rest_clean s (item.Declare d) is scope c)
   heads_first s (item.Function h b ∷ is) scope pre sub c =
       either (is_main h)
-      (λ names more. heads_first (seen_after s (item.Function h b)) is (past_item g (item.Function h b) scope) names more
+      (λ names more.
+      heads_first (seen_after s (item.Function h b)) is (past_item g (item.Function h b) scope) names more
       (rest_clean s (item.Function h b) is scope c))
     where
       heads : List Head

@@ -24,7 +24,8 @@ use Rattle.c_types.specs.declared.program.VarRef.TheVariants.{Ptr}
 use Rattle.c_types.proofs.Layers.{names-Atom, names-Not, names-All, names-Any}
 use Rattle.c_typing.specs.Globals.{Globals, value_of, field_use}
 use Rattle.c_typing.specs.Meanings.{all_followed, field_meaning, followed, meaning_of_operand, meaning_of_path}
-use Rattle.c_typing.specs.Meanings.{name_meaning, number_meaning, numeral, operand_meaning, place_of_operand, value_meaning}
+use Rattle.c_typing.specs.Meanings.{name_meaning, number_meaning, numeral, operand_meaning, place_of_operand}
+use Rattle.c_typing.specs.Meanings.{value_meaning}
 use Rattle.c_typing.specs.Meanings.{variable}
 use Rattle.c_typing.specs.Programs.{all_of, and_of, any_of, arg_of, args_of, assigned, compares_pointers, comparison}
 use Rattle.c_typing.specs.Programs.{cond_of, data_op_of, data_rhs_of, dest_of, freed, maybe_cond, ptr_op_of, ptr_rhs_of}

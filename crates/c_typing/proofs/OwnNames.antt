@@ -38,8 +38,10 @@ use Rattle.c_types.specs.declared.program.Stmt.{Stmt}
 use Rattle.c_types.specs.declared.program.Stmt.TheVariants.{Do, Branch, While, DoWhile, For, Group}
 use Rattle.c_types.specs.declared.program.VarRef.{VarRef}
 use Rattle.c_types.specs.declared.program.VarRef.TheVariants.{Ptr, Data}
-use Rattle.c_types.proofs.Layers.{names-Do, names-Branch, names-While, names-DoWhile, names-For, names-Group, names-Call}
-use Rattle.c_types.proofs.Layers.{calls-Do, calls-Branch, calls-While, calls-DoWhile, calls-For, calls-Group, calls-Call}
+use Rattle.c_types.proofs.Layers.{names-Do, names-Branch, names-While, names-DoWhile, names-For, names-Group}
+use Rattle.c_types.proofs.Layers.{names-Call}
+use Rattle.c_types.proofs.Layers.{calls-Do, calls-Branch, calls-While, calls-DoWhile, calls-For, calls-Group}
+use Rattle.c_types.proofs.Layers.{calls-Call}
 use Rattle.c_types.proofs.Layers.{declares-Branch, declares-While, declares-DoWhile, declares-For, declares-Group}
 use Rattle.c_typing.specs.BodySites.{maybe_sites, type_sites, declarator_sites, declarators_sites, declare_sites}
 use Rattle.c_typing.specs.BodySites.{first_sites, rest_sites, part_sites, stmt_sites, block_sites, parts_sites}
@@ -246,7 +248,8 @@ module _ (g : Globals) (A : VarRef → Type 0) (C : ℕ → Type 0) (M : Text �
     operand_right target w o (operand.Call c) line mine is clean all =
         let calls : IsClean g (call_sites g scope RightSpot c) =
         (clean_parts g (value_sites g scope w c) (call_sites g scope RightSpot c)
-        (clean_parts g (value_sites g scope w c ++ call_sites g scope RightSpot c) (argument_sites g scope c) clean).0).1
+        (clean_parts g (value_sites g scope w c ++ call_sites g scope RightSpot c)
+        (argument_sites g scope c) clean).0).1
         in
         call_stmt_right scope own (out-Call c).name.text (out-Call c).operands (dest_of target) _ line
         (subst (Every M) (operand_called o c is) all).0 (free_of RightSpot c calls) (dest_own g A target mine)

@@ -107,11 +107,13 @@ module _ (v : VarRef) where
 
   pub count-append : (xs ys : List VarRef) → count (xs ++ ys) ≡ count xs + count ys
   count-append [] ys = omega (arith)
-  count-append (x ∷ xs) ys = let rest : count (xs ++ ys) ≡ count xs + count ys = count-append xs ys in omega (arith, rest)
+  count-append (x ∷ xs) ys = let rest : count (xs ++ ys) ≡ count xs + count ys = count-append xs ys in
+      omega (arith, rest)
 
   total-append : (xs ys : List Stmt) → total (xs ++ ys) ≡ total xs + total ys
   total-append [] ys = omega (arith)
-  total-append (x ∷ xs) ys = let rest : total (xs ++ ys) ≡ total xs + total ys = total-append xs ys in omega (arith, rest)
+  total-append (x ∷ xs) ys = let rest : total (xs ++ ys) ≡ total xs + total ys = total-append xs ys in
+      omega (arith, rest)
 
   total-turn : (ss : List Stmt) → count (in_turn (map stmt_declares ss)) ≡ total ss
   total-turn [] = refl
@@ -318,7 +320,8 @@ module _ (v : VarRef) where
         ++ loop_of g at c n (body, stmt_stmts g body) (opened scope) ∷ [])
         ≡ total (simple_stmts g (opened scope) s)
         + total (loop_of g at c n (body, stmt_stmts g body) (opened scope) ∷ []) =
-        total-append (simple_stmts g (opened scope) s) (loop_of g at c n (body, stmt_stmts g body) (opened scope) ∷ []) in
+        total-append (simple_stmts g (opened scope) s)
+        (loop_of g at c n (body, stmt_stmts g body) (opened scope) ∷ []) in
         let none : total (simple_stmts g (opened scope) s) ≡ 0 = simple_none g (opened scope) s in
         let loop : total (loop_of g at c n (body, stmt_stmts g body) (opened scope) ∷ [])
         ≡ total (stmt_stmts g body (opened scope)) = loop_counted at c n body (opened scope) in

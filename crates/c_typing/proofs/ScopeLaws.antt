@@ -124,7 +124,8 @@ module _ (g : Globals) (V : List VarDef) (D : ℕ) where
           ∙ (ok scope).1.1,
     );
     of_parts = λ at close parts all scope.
-        carried scope _ _ (past-parts g at close parts scope) (refl, (λ w. parts_back parts all (opened scope) w, refl));
+        carried scope _ _ (past-parts g at close parts scope)
+        (refl, (λ w. parts_back parts all (opened scope) w, refl));
     of_Empty = λ at scope. carried scope _ _ (past-Empty-stmt g at scope) (unmoved scope);
     of_Block = λ b ok scope. carried scope _ _ (past-Block-stmt g b scope) (ok scope);
     of_Simple = λ s scope. carried scope _ _ (past-Simple-stmt g s scope) (unmoved scope);

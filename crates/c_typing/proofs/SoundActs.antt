@@ -19,7 +19,8 @@ use Rattle.c_typing.specs.declared.meaning.Meaning.TheVariants.{Pointer, Datum, 
 use Rattle.c_typing.specs.declared.meaning.Meaning.TheVariants.{Broken}
 use Rattle.c_typing.proofs.Sound.{shapes, GoodMeaning}
 
-pub one_struct : (s t : ℕ) (a b : Option ℕ) → a ≡ Some s → b ≡ Some t → differ (Some s) (Some t) ≡ false → both_targets a b
+pub one_struct : (s t : ℕ) (a b : Option ℕ) → a ≡ Some s → b ≡ Some t → differ (Some s) (Some t) ≡ false
+    → both_targets a b
     ≡ true
 one_struct s t a b left right same =
     ap (λ o. both_targets o b) left ∙ ap (λ o. is_target o s) right
@@ -60,7 +61,8 @@ module _ (g : Globals) (V : List VarDef) (D : ℕ) where
   ptr_rhs_good a s Broken is good same = ap is_some is
 
   -- what is assigned to a good target
-  pub assigned_typed : (F : List Func) (H : Option ℕ) (target m : Meaning) (spot : Spot) → GoodMeaning g V D target → GoodMeaning g V D m
+  pub assigned_typed : (F : List Func) (H : Option ℕ) (target m : Meaning) (spot : Spot) → GoodMeaning g V D target
+      → GoodMeaning g V D m
       → differ (struct_at target) (struct_at m) ≡ false
       → act_typed (shapes g V D) V D F H (assigned target (ptr_rhs_of m) (data_rhs_of m)) spot ≡ true
   assigned_typed F H (Pointer p None) m spot good other same = absurd good

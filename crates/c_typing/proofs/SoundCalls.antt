@@ -5,7 +5,8 @@ use Rattle.std.proofs.Common.{subst, arith, true≢false}
 use Rattle.std.proofs.lemmas.Bool.{eqb-true, eq-eqb, not-false}
 use Rattle.std.proofs.lemmas.List.{length-map}
 use Rattle.c_ast.specs.declared.operands.Operand.{Operand}
-use Rattle.c_types.specs.Program.{Spot, var_target, path_target, arg_typed, args_typed, to_typed, value_typed, call_typed}
+use Rattle.c_types.specs.Program.{Spot, var_target, path_target, arg_typed, args_typed, to_typed, value_typed}
+use Rattle.c_types.specs.Program.{call_typed}
 use Rattle.c_types.specs.Program.{data_op_typed, stmt_typed, data_typed, returns_typed, act_typed}
 use Rattle.c_types.specs.declared.program.Act.TheVariants as act
 use Rattle.c_types.specs.declared.program.Dest.{Dest}
@@ -83,7 +84,8 @@ module _ (g : Globals) (V : List VarDef) (D : ℕ) where
   GoodFuncs (d ∷ ds) (f ∷ fs) = GoodFunc d f × GoodFuncs ds fs
 
   abbrev pub There : List FunctionDef → List Func → ℕ → Type 0
-  There ds fs n = (d : FunctionDef) × ((f : Func) × (((slice_get ds n ≡ Some d) × (slice_get fs n ≡ Some f)) × GoodFunc d f))
+  There ds fs n =
+      (d : FunctionDef) × ((f : Func) × (((slice_get ds n ≡ Some d) × (slice_get fs n ≡ Some f)) × GoodFunc d f))
 
   pub func_there : (ds : List FunctionDef) (fs : List Func) (n : ℕ) → GoodFuncs ds fs → n < length ds → There ds fs n
   func_there [] fs n all below = absurd (omega (arith, below))

@@ -31,7 +31,8 @@ use Rattle.c_typing.specs.Globals.{Globals}
 use Rattle.c_typing.specs.Meanings.{meaning_of_path, meaning_of_operand, operand_meaning, place_of_operand}
 use Rattle.c_typing.specs.Profile.{errors, is_allowed}
 use Rattle.c_typing.specs.Programs.{assignment, simple_stmts, all_of, any_of, test_of, unary_of, and_of, cond_of}
-use Rattle.c_typing.specs.Programs.{maybe_cond, maybe_simple, comparison, truth, call_act, assign_stmt, call_in, call_stmt}
+use Rattle.c_typing.specs.Programs.{maybe_cond, maybe_simple, comparison, truth, call_act, assign_stmt, call_in}
+use Rattle.c_typing.specs.Programs.{call_stmt}
 use Rattle.c_typing.specs.Programs.{dest_of, stored}
 use Rattle.c_typing.specs.Rules.{differ, wanted_struct}
 use Rattle.c_typing.specs.Scopes.{Scope}

@@ -1,6 +1,7 @@
 -- Where nothing is broken, each function of a file is one of the program's, its body is typed and names variables of
 -- its own, and what it calls does not lead back to it.
-use Rattle.std.proofs.Common.{◌≡◌, ◌<◌, ℕ, zero, suc, Bool, true, false, cond, ◌&&◌, nat_eq, List, [], ◌∷◌, ◌++◌, length}
+use Rattle.std.proofs.Common.{◌≡◌, ◌<◌, ℕ, zero, suc, Bool, true, false, cond, ◌&&◌, nat_eq, List, [], ◌∷◌, ◌++◌}
+use Rattle.std.proofs.Common.{length}
 use Rattle.std.proofs.Common.{map, codes, Option, Some, None, slice_get, inl, inr, refl, sym, ap, ◌∙◌, subst, arith}
 use Rattle.std.proofs.lemmas.Bool.{or_parts}
 use Rattle.std.proofs.lemmas.List.{append_assoc, length-append}
@@ -30,7 +31,8 @@ use Rattle.c_typing.specs.Globals.{numbers_among, param_kind, params_of, result_
 use Rattle.c_typing.specs.ItemSites.{Seen, items_sites, seen_after}
 use Rattle.c_typing.specs.Profile.{given}
 use Rattle.c_typing.specs.Programs.{body_stmts, func_of, funcs_in, main_in, param_refs, result_ref}
-use Rattle.c_typing.specs.Scopes.{Scope, begun, declared, opened, param_name, past_block, past_head, past_item, past_items}
+use Rattle.c_typing.specs.Scopes.{Scope, begun, declared, opened, param_name, past_block, past_head, past_item}
+use Rattle.c_typing.specs.Scopes.{past_items}
 use Rattle.c_typing.specs.Scopes.{past_params, past_result, result_of}
 use Rattle.c_typing.specs.Texts.{Text, each_of, has, number_of}
 use Rattle.c_typing.proofs.Clean.{IsClean}
@@ -110,7 +112,8 @@ abbrev pub CallFacts : Globals → ℕ → ℕ → Type 0
 CallFacts g m f = IsIn f (called_by g.calls m)
     × ((nat_eq f m ≡ false) × (leads_within g.calls (length g.calls) f m ≡ false))
 
-may_call : (g : Globals) (all : List Item) → FileIs g all → (m : ℕ) (h : Text) (b : Block) → function_number g h ≡ Some m
+may_call : (g : Globals) (all : List Item) → FileIs g all → (m : ℕ) (h : Text) (b : Block)
+    → function_number g h ≡ Some m
     → body_named h all ≡ Some b → (x : Text) (f : ℕ) → IsIn x (block_callees b) → called_number g x ≡ Some f
     → recurs g (Some m) x ≡ false → CallFacts g m f
 may_call g all file m h b number body x f there is free =
@@ -369,5 +372,6 @@ module _ (g : Globals) where
       pub bodies_right : (m : ℕ) (fs : List Func) → AllFacts m fs
           → bodies_typed (shapes g V D) V D F m fs ≡ true
       bodies_right m [] facts = refl
-      bodies_right m (f ∷ fs) facts = both (body_typed (shapes g V D) V D F (Some m) f.body && keeps_to_own f) _ facts.0.0
+      bodies_right m (f ∷ fs) facts =
+          both (body_typed (shapes g V D) V D F (Some m) f.body && keeps_to_own f) _ facts.0.0
           (bodies_right (suc m) fs facts.1)

@@ -186,7 +186,8 @@ module _ (g : Globals) (V : List VarDef) (D n : ℕ) (size : length g.structs �
       let rest : Typed g V D F H (parts_stmts g ps (past_part g p scope)) (spot_of loop)
       × Ready (past_parts g ps (past_part g p scope)) =
       parts_typed ps all.1 loop (past_part g p scope) w one.1 halves.1 in (
-        typed_append g V D F H (part_stmts g p scope) (parts_stmts g ps (past_part g p scope)) (spot_of loop) one.0 rest.0,
+        typed_append g V D F H (part_stmts g p scope) (parts_stmts g ps (past_part g p scope))
+            (spot_of loop) one.0 rest.0,
         rest.1,
       )
     where
@@ -294,7 +295,8 @@ module _ (g : Globals) (V : List VarDef) (D n : ℕ) (size : length g.structs �
       (past_other g other (past_stmt g s scope)) =
       other_typed other ok' loop (past_stmt g s scope) end (still_ready s scope ready left.1) all.1 in
       told _ _ (spot_of loop) _ _ (made.made-If-stmt g at c s other scope) (past.past-If-stmt g at c s other scope) (
-        typed_one g V D F H (Branch (cond_of g scope c) (stmt_stmts g s scope) (other_stmts g other (past_stmt g s scope)))
+        typed_one g V D F H
+            (Branch (cond_of g scope c) (stmt_stmts g s scope) (other_stmts g other (past_stmt g s scope)))
             (spot_of loop)
             (typed-Branch (shapes g V D) V D F H (cond_of g scope c) (stmt_stmts g s scope)
             (other_stmts g other (past_stmt g s scope)) (spot_of loop)
@@ -405,7 +407,8 @@ module _ (g : Globals) (V : List VarDef) (D n : ℕ) (size : length g.structs �
         );
     of_parts = of_parts;
     of_Empty = λ at loop scope w ready c.
-        told _ _ (spot_of loop) _ _ (made.made-Empty-stmt g at scope) (past.past-Empty-stmt g at scope) (refl, ready.1.0);
+        told _ _ (spot_of loop) _ _ (made.made-Empty-stmt g at scope) (past.past-Empty-stmt g at scope)
+        (refl, ready.1.0);
     of_Block = λ b ok loop scope w ready c.
         told _ _ (spot_of loop) _ _ (made.made-Block-stmt g b scope) (past.past-Block-stmt g b scope)
         (ok loop scope (subst (Within g V D) (past.past-Block-stmt g b scope) w) ready

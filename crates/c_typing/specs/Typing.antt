@@ -9,7 +9,8 @@ use Rattle.c_typing.specs.Globals.{Globals, globals_of, main_head}
 use Rattle.c_typing.specs.ItemSites.{unit_sites}
 use Rattle.c_typing.specs.Orders.{before}
 use Rattle.c_typing.specs.Programs.{program_of}
-use Rattle.c_typing.specs.Rules.{when, t1, t2, t3, t4, t5, t6, t7, t8, t9, t10, t11, t12, t13, t14, t15, t16, t17, k2, k3, k4}
+use Rattle.c_typing.specs.Rules.{when, t1, t2, t3, t4, t5, t6, t7, t8, t9, t10, t11, t12, t13, t14, t15, t16, t17, k2}
+use Rattle.c_typing.specs.Rules.{k3, k4}
 use Rattle.c_typing.specs.Rules.{k5, k7, k8, k10}
 use Rattle.c_typing.specs.Sites.{Site}
 use Rattle.c_typing.specs.Texts.{each_of, joined}

@@ -203,7 +203,8 @@ module _ (bs : List BoxFace) where
       adds : Slot × Below → List ℕ
       adds p = provided_in bs (mark_of n p.1.marks) p.0 p.1.leaf
 
-      long : (l : Bool) → length (in_order (provided_at bs n (with_edge pre (Link b, end_of l (leaf_mark n ∷ [])) post)))
+      long : (l : Bool)
+          → length (in_order (provided_at bs n (with_edge pre (Link b, end_of l (leaf_mark n ∷ [])) post)))
           ≡ length (provided_at bs n pre) + (length (provided_in bs (mark_of n (leaf_mark n ∷ [])) (Link b) l)
           + length (provided_at bs n post))
       long l =
@@ -237,7 +238,8 @@ module _ (bs : List BoxFace) where
 
   quiet_by : {X : Type 0} (f : Option RefMark → Bool → X) (b : ℕ) (ms : List RefMark) → IsQuiet b ms
       → ((l k : Bool) → f None l ≡ f None k)
-      → ((n : ℕ) (l k : Bool) → gives_out_of bs b ≡ [] → back_of bs b ≡ false → f (Some (leaf_mark n)) l ≡ f (Some (leaf_mark n)) k)
+      → ((n : ℕ) (l k : Bool) → gives_out_of bs b ≡ [] → back_of bs b ≡ false
+      → f (Some (leaf_mark n)) l ≡ f (Some (leaf_mark n)) k)
       → (r : ℕ) (l k : Bool) → f (mark_of r ms) l ≡ f (mark_of r ms) k
   quiet_by f b ms (inl e) none some r l k = at (mark_of r ms) (ap (mark_of r) e)
     where
@@ -315,7 +317,8 @@ module _ (bs : List BoxFace) where
       both : (l k : Bool) → e.leaf ≡ l → x.leaf ≡ k → cell_marks bs (with_edge pre (Link b, end_of l x.marks) post)
           ≡ cell_marks bs (with_edge pre (Link b, end_of k x.marks) post)
       both l k i j =
-          ap₂ (λ (z : Bool) (ms : List RefMark). cell_marks bs (with_edge pre (Link b, end_of z ms) post)) (sym i) (sym m)
+          ap₂ (λ (z : Bool) (ms : List RefMark). cell_marks bs (with_edge pre (Link b, end_of z ms) post)) (sym i)
+          (sym m)
           ∙ h
           ∙ ap (λ (z : Bool). cell_marks bs (with_edge pre (Link b, end_of z x.marks) post)) j
 

@@ -78,8 +78,10 @@ module _ (a : Automaton) (p : ℕ) (y : Target) (ranked : IsRanked a) (one : Has
 
     -- the trees of the old component make the same marks
     old_same : (vs ws : List Tree) → RunEach a.rules (top_rule a).children vs → RunEach a.rules (top_rule a).children ws
-        → marks_by bs (top_rule a).symbol (map (below_of bs) vs) ≡ marks_by bs (top_rule a).symbol (map (below_of bs) ws)
-    old_same vs ws k l = sym (rolled_marks vs) ∙ signed.component (rolled vs) (rolled ws) (rolled_in vs k) (rolled_in ws l)
+        → marks_by bs (top_rule a).symbol (map (below_of bs) vs)
+        ≡ marks_by bs (top_rule a).symbol (map (below_of bs) ws)
+    old_same vs ws k l =
+        sym (rolled_marks vs) ∙ signed.component (rolled vs) (rolled ws) (rolled_in vs k) (rolled_in ws l)
         ∙ rolled_marks ws
 
     -- the children, with a tree of the old state in the place

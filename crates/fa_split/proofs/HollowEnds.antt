@@ -95,7 +95,8 @@ pub tree_is_node : (face : Face) (F : Forest) → IsFilled face F → Every HasS
     → (k : ℕ) → k < length F.autos → (t : Tree) → InLanguage (component_at F.autos k) t → (n : Node) × (bare n ≡ t)
 tree_is_node face F filled full ranked k l t h =
     let a = component_at F.autos k in
-    let e = run_end face a (component_has IsRanked F.autos k ranked l) (component_has (RulesFit face) F.autos k filled.rules l)
+    let e = run_end face a (component_has IsRanked F.autos k ranked l)
+    (component_has (RulesFit face) F.autos k filled.rules l)
     h.0 t h.2 in
     let s = top_of_filled face F filled full k a (bare_end e.0) (component_got F.autos k l)
     (subst (λ (z : Tree). InLanguage a z) (sym e.1) h) in

@@ -14,7 +14,8 @@ use Rattle.ta_core.specs.declared.tree.Tree.{out-roll-Tree}
 use Rattle.fa_core.specs.declared.forest.Forest.{Forest}
 use Rattle.fa_core.specs.declared.forest.Target.TheVariants.{Null as NullTarget, Uninit as UninitTarget, At}
 use Rattle.fa_core.specs.declared.forest.Target.TheVariants.{Dangling as DanglingTarget}
-use Rattle.fa_core.specs.Dressed.{Node, Parts, End, Nodes, node, no_parts, field, link, hook, under, leaf, no_nodes, more}
+use Rattle.fa_core.specs.Dressed.{Node, Parts, End, Nodes, node, no_parts, field, link, hook, under, leaf, no_nodes}
+use Rattle.fa_core.specs.Dressed.{more}
 use Rattle.fa_core.specs.Member.{bare_end}
 use Rattle.fa_core.proofs.Dressing.{leaf_top}
 use Rattle.fa_split.specs.Chosen.{Picked, none, take, leave, chosen, chosen_at}

@@ -24,7 +24,8 @@ use Rattle.fa_split.proofs.EdgeMarks.{EdgesSame, no_edges, an_edge, cell_kept, s
 leafs : (bs : List BoxFace) (t : Tree) → is_leaf (out-Tree t).symbol ≡ true → AreLeafs (signature bs t)
 leafs bs t l = here (out-Tree t).symbol refl
   where
-    by : (y : Symbol) → (out-Tree t).symbol ≡ y → signature bs t ≡ marks_by bs y (map (below_of bs) (out-Tree t).children)
+    by : (y : Symbol) → (out-Tree t).symbol ≡ y
+        → signature bs t ≡ marks_by bs y (map (below_of bs) (out-Tree t).children)
     by y e = tree_signature bs t ∙ ap (λ (z : Symbol). marks_by bs z (map (below_of bs) (out-Tree t).children)) e
 
     here : (y : Symbol) → (out-Tree t).symbol ≡ y → AreLeafs (signature bs t)
@@ -58,7 +59,8 @@ module _ (bs : List BoxFace) (rules : List Rule)
       ∙ ap (λ (es : List (Slot × Below)). cell_marks bs es)
       (sym (append_assoc pre (edge s t ∷ []) (edges ss (seen ws))))
 
-  pub runs_same : (pre : List (Slot × Below)) (ss : List Slot) {qs : List ℕ} {ts us : List Tree} → Every (SlotGives bs) ss
+  pub runs_same : (pre : List (Slot × Below)) (ss : List Slot) {qs : List ℕ} {ts us : List Tree}
+      → Every (SlotGives bs) ss
       → MakeSame pre ss qs → RunEach rules qs ts → RunEach rules qs us
       → EdgesSame bs (edges ss (seen ts)) (edges ss (seen us))
   runs_same pre [] g h a b = no_edges

@@ -94,8 +94,8 @@ module _ (F : Forest) (r p : ℕ) (ranked : Every IsRanked F.autos) (can : CanSp
   all_regroup well T = each_split (Regroups T F) (λ y m. leaf_regroups F r p ranked can y m T)
       (λ m. cells_regroup F r p ranked can T well)
 
-  -- each dressed forest is one of a forest of the list where its child is a leaf, and with the child taken out where that
-  -- is a cell
+  -- each dressed forest is one of a forest of the list where its child is a leaf, and with the child taken out where
+  -- that is a cell
   pub all_cases : (T : List BoxDef) (Gs : List Forest) → AreSplit F r p Gs → (d : Nodes) → OfForest T F d
       → ((y : Target) × MayBeLeaf F r p y × IsIn (split_leaf F r p y) Gs × OfForest T (split_leaf F r p y) d)
       ⊎ (IsIn (split_cells F r p) Gs × ((e : Nodes) × IsTakenOut r p d e))

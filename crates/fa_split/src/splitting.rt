@@ -38,8 +38,8 @@ pub fn can_split(forest: &Sound, root: u32, place: usize) -> bool
 
 /// One forest for each leaf that the child at the place may be, in which it is that leaf, and behind them, where the
 /// child may be a cell, one in which the child's cells are a new last root. The root has one rule, and that has a child
-/// at the place. A box edge that leads back gives its end something, as each box of a table does: else a state could get
-/// two signatures. Err is want of memory.
+/// at the place. A box edge that leads back gives its end something, as each box of a table does: else a state could
+/// get two signatures. Err is want of memory.
 pub fn split_child(alloc: Global, forest: &Sound, root: u32, place: usize) -> Mem<List<Sound>>
     requires can { CanSplit forest.now.forest root place }
     requires gives { Every (RulesGive forest.now.face.boxes) forest.now.forest.autos }

@@ -225,7 +225,8 @@ end_first = in_the_way 1 (inl (record {
   live = ([], [], (refl, tt));
   refs = λ k bs form. no_box_yet bs (none_taken k bs form);
   closed = λ said bs last closes.
-      absurd (true≢false (ap (λ (ps : List Numbered). is_end (first_line ps)) closes.0 ∙ no_end_first (bs ++ last ∷ [])));
+      absurd (true≢false
+      (ap (λ (ps : List Numbered). is_end (first_line ps)) closes.0 ∙ no_end_first (bs ++ last ∷ [])));
   dead = λ line said live. not_live line (said_once (codes "end") Ends line says_end said) live;
 })) refl
   where

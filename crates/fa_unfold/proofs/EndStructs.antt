@@ -21,7 +21,8 @@ use Rattle.fa_core.specs.declared.forest.Target.{Target}
 use Rattle.fa_core.specs.declared.forest.Target.TheVariants.{At}
 use Rattle.fa_core.specs.Boxes.{Boxes, faces_of}
 use Rattle.fa_core.specs.Choices.{bares, all_numbers, HasInsides}
-use Rattle.fa_core.specs.Dressed.{Node, Parts, End, Nodes, node, no_parts, field, link, hook, leaf, no_nodes, more, Seen}
+use Rattle.fa_core.specs.Dressed.{Node, Parts, End, Nodes, node, no_parts, field, link, hook, leaf, no_nodes, more}
+use Rattle.fa_core.specs.Dressed.{Seen}
 use Rattle.fa_core.specs.Dressed.{SeenField}
 use Rattle.fa_core.specs.Dressed.{SeenLink, SeenHook, SeenCell, seen, end_value, tree_cells, forest_cells, cells}
 use Rattle.fa_core.specs.Dressed.{roots_of}

@@ -1,5 +1,6 @@
 -- The slots of an inside fit where it is put in the place of an edge.
-use Rattle.std.proofs.Common.{◌≡◌, ◌⊎◌, inl, inr, ℕ, suc, List, [], ◌∷◌, ◌++◌, map, refl, sym, ap, subst, ◌∙◌, Some, slice_get}
+use Rattle.std.proofs.Common.{◌≡◌, ◌⊎◌, inl, inr, ℕ, suc, List, [], ◌∷◌, ◌++◌, map, refl, sym, ap, subst, ◌∙◌, Some}
+use Rattle.std.proofs.Common.{slice_get}
 use Rattle.fore_base.specs.Lists.{IsIn, Every, IsDistinct}
 use Rattle.fore_base.specs.declared.shape.Shapes.{Shapes}
 use Rattle.fore_base.specs.declared.store.Value.{Value}
@@ -13,7 +14,8 @@ use Rattle.fa_core.specs.declared.forest.Target.{Target}
 use Rattle.fa_core.specs.declared.forest.Target.TheVariants.{Null, Uninit, Dangling, At}
 use Rattle.fa_core.specs.Boxes.{InsideFilled}
 use Rattle.fa_core.specs.Choices.{bares}
-use Rattle.fa_core.specs.Dressed.{Node, Parts, End, Nodes, node, no_parts, field, link, hook, under, leaf, no_nodes, more}
+use Rattle.fa_core.specs.Dressed.{Node, Parts, End, Nodes, node, no_parts, field, link, hook, under, leaf, no_nodes}
+use Rattle.fa_core.specs.Dressed.{more}
 use Rattle.fa_core.specs.Dressed.{end_value, value_in, nth_value, SeenField, SeenLink, SeenHook, SeenCell}
 use Rattle.fa_core.specs.Filled.{NamesStruct, FieldEnds, EndsFit, IsFilledSpot, Spot, face_of, given_at}
 use Rattle.fa_core.specs.Member.{bare_end, slots_of}

@@ -224,7 +224,8 @@ module _ (face : Face) (x : Item) (d e : Nodes) (o : Opens x d e) (slot : IsSlot
       (fits_here face (cells d) (cells d) (λ n t k. k) h))).0
 
   -- where the slots of all cells fit before, and those that are gained fit, they fit after
-  pub opened_fits : Every (λ c. SlotsFit face (cells d) c.shape c.slots) (cells d) → Every (Fits face (cells e)) o.gained
+  pub opened_fits : Every (λ c. SlotsFit face (cells d) c.shape c.slots) (cells d)
+      → Every (Fits face (cells e)) o.gained
       → Every (λ c. SlotsFit face (cells e) c.shape c.slots) (cells e)
   opened_fits h g =
       let a : Every (FitsHere face (cells d)) (items d) =
@@ -284,7 +285,8 @@ module _ (t : Boxes) (table : IsBoxTable t) (F : Forest) (filled : IsFilled t.fa
           let hs = t.face.shapes.structs in
           let r = cells_items e in
           let m : Rearranged (facts e) (flat_map opened (flat_map cell_items (cells e))) =
-          subst (λ (z : List Fact). Rearranged z (flat_map opened (flat_map cell_items (cells e)))) (sym (facts_opened e))
+          subst (λ (z : List Fact). Rearranged z (flat_map opened (flat_map cell_items (cells e))))
+          (sym (facts_opened e))
           (flat_mapped opened r) in
           let k : given_n hs c.cell f (facts d) ≡ owed_n hs c.cell f (facts d) =
           sym (often_same f (fields_full t table F filled d of c.cell)) in

@@ -23,7 +23,8 @@ use Rattle.fa_core.proofs.Counts.{often_both}
 use Rattle.fa_core.proofs.Given.{slot_gifts, cell_gifts, given_there, gives_to}
 use Rattle.fa_core.proofs.Rearranging.{flat_map-append}
 use Rattle.fa_core.proofs.SeenCells.{SlotsFit, NamesOne, slots_seen, cell_number}
-use Rattle.fa_facts.proofs.FactCounts.{if_so, given_n, owed_n, at_cell, at_value, nothing_at, given_points, given_append}
+use Rattle.fa_facts.proofs.FactCounts.{if_so, given_n, owed_n, at_cell, at_value, nothing_at, given_points}
+use Rattle.fa_facts.proofs.FactCounts.{given_append}
 use Rattle.fa_facts.proofs.FactCounts.{owed_append, owed_head}
 use Rattle.fa_facts.proofs.TreeFields.{Lands, LinkGives, HookGives, so_both}
 use Rattle.fa_unfold.specs.Opens.{IsCell, HasSlot, opened}
@@ -261,7 +262,8 @@ module _ (face : Face) (T : List BoxDef) (c f : ℕ) (links : (b : ℕ) → Link
       → (owns xs ≡ often f (flat_map (covers bs) (slots_seen x.slots))) × (heads xs ≡ often f (fields_of hs x.shape))
   one_at [] a x i e = absurd i
   one_at (y ∷ xs) a x (inl w) e =
-      let n = none_at xs (λ j. a.0 (subst (λ (z : ℕ). IsIn z (map cell_number xs)) (sym (sym (ap cell_number w) ∙ e)) j)) in
+      let n = none_at xs
+      (λ j. a.0 (subst (λ (z : ℕ). IsIn z (map cell_number xs)) (sym (sym (ap cell_number w) ∙ e)) j)) in
       let t : nat_eq c y.cell ≡ true = eq-eqb c y.cell (sym (sym (ap cell_number w) ∙ e)) in
       let u : own y.cell y.slots ≡ often f (flat_map (covers bs) (slots_seen x.slots)) =
       ap (λ (b : Bool). if_so b (often f (flat_map (covers bs) (slots_seen y.slots)))) t
@@ -274,7 +276,8 @@ module _ (face : Face) (T : List BoxDef) (c f : ℕ) (links : (b : ℕ) → Link
       (omega (arith, u, n0), omega (arith, v, n1))
   one_at (y ∷ xs) a x (inr i) e =
       let k = one_at xs a.1 x i e in
-      let o : y.cell ≡ c → ⊥ = λ w. a.0 (subst (λ (z : ℕ). IsIn z (map cell_number xs)) (e ∙ sym w) (number_in xs x i)) in
+      let o : y.cell ≡ c → ⊥ =
+      λ w. a.0 (subst (λ (z : ℕ). IsIn z (map cell_number xs)) (e ∙ sym w) (number_in xs x i)) in
       let p = so_false y.cell (often f (flat_map (covers bs) (slots_seen y.slots))) o in
       let q = so_false y.cell (often f (fields_of hs y.shape)) o in
       let k0 = k.0 in

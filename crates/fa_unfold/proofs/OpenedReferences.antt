@@ -208,5 +208,6 @@ module _ (bs : List BoxFace) (i p c0 s0 : ℕ) (ds0 : List Datum) (ps : Parts) (
       (refs_at_root IsHookRoot hook_joined
       (λ os h. refs_joined IsHookRoot bs os (placed_parts hook_leaf ps) h hook_parts.0) i hook_less
       (refs_at_root IsHookRoot (parts_without p) (refs_without IsHookRoot p) i d
-      (every_weaker (λ k. k < count d) IsHookRoot (all_refs d) (λ k l. let z = hook_long in omega (arith, l, z)) below)))
+      (every_weaker (λ k. k < count d) IsHookRoot (all_refs d) (λ k l. let z = hook_long in
+      omega (arith, l, z)) below)))
       hook_parts.1

@@ -68,7 +68,8 @@ items_with ws no_nodes ms = refl
 items_with ws (more n ns) ms =
     rw (items_with ws ns ms) (sym (append_assoc (tree_items ws n) (forest_items ws ns) (forest_items ws ms)))
 
-pub refs_at_root : (P : ℕ → Type 0) (g : Parts → Parts) → ((ps : Parts) → Every P (refs_of ps) → Every P (refs_of (g ps)))
+pub refs_at_root : (P : ℕ → Type 0) (g : Parts → Parts)
+    → ((ps : Parts) → Every P (refs_of ps) → Every P (refs_of (g ps)))
     → (i : ℕ) (d : Nodes) → Every P (all_refs d) → Every P (all_refs (at_root g i d))
 refs_at_root P g w i no_nodes h = tt
 refs_at_root P g w zero (more (node c s ds ps) ns) h =

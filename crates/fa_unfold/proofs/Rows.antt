@@ -200,7 +200,8 @@ edge_dangling = refl
 
 abbrev with_edges : Nodes
 with_edges = more (node 0 0 [] (link 1 inside (under (node 7 0 [] (hook 2 inside no_parts))) no_parts))
-    (more (node 8 0 [] (field 1 (under (node 9 0 [] (link 0 inside (leaf DanglingTarget) no_parts))) no_parts)) no_nodes)
+    (more (node 8 0 [] (field 1 (under (node 9 0 [] (link 0 inside (leaf DanglingTarget) no_parts))) no_parts))
+    no_nodes)
 
 boxes_there : all_boxes with_edges ≡ 1 ∷ 2 ∷ 0 ∷ []
 boxes_there = refl

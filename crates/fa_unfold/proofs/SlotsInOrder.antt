@@ -14,7 +14,8 @@ use Rattle.fa_core.specs.declared.forest.Target.{Target}
 use Rattle.fa_core.specs.declared.forest.Target.TheVariants.{Null, Uninit, Dangling, At}
 use Rattle.fa_core.specs.Boxes.{InsideFilled}
 use Rattle.fa_core.specs.Choices.{bares}
-use Rattle.fa_core.specs.Dressed.{Node, Parts, End, Nodes, node, no_parts, field, link, hook, under, leaf, no_nodes, more}
+use Rattle.fa_core.specs.Dressed.{Node, Parts, End, Nodes, node, no_parts, field, link, hook, under, leaf, no_nodes}
+use Rattle.fa_core.specs.Dressed.{more}
 use Rattle.fa_core.specs.Dressed.{SeenCell, tree_cells, below, end_cells, forest_cells}
 use Rattle.fa_core.specs.Filled.{covers, fields_in, least, least_of, HasField, IsInOrder, IsFilledSpot, face_of}
 use Rattle.fa_core.specs.Filled.{Spot, given_at}

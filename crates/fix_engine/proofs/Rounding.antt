@@ -1,5 +1,6 @@
 -- Rounds: nodes that stand next to one another, and what their edges make of them.
-use Rattle.std.proofs.Common.{◌≡◌, ◌<◌, ◌≤◌, ◌+◌, ℕ, suc, zero, List, [], ◌∷◌, ◌++◌, length, slice_get, Some, Result, Ok}
+use Rattle.std.proofs.Common.{◌≡◌, ◌<◌, ◌≤◌, ◌+◌, ℕ, suc, zero, List, [], ◌∷◌, ◌++◌, length, slice_get, Some, Result}
+use Rattle.std.proofs.Common.{Ok}
 use Rattle.std.proofs.Common.{Err, IfOk, refl, sym, subst, inl, inr}
 use Rattle.fore_base.specs.Lists.{Every, Paired}
 use Rattle.fore_base.proofs.ListLemmas.{paired_long}
@@ -63,7 +64,8 @@ module _ (T : Boxes) (g : ControlGraph) (k : ℕ) where
         some = rw (sym long) some;
         upto = rw (sym long) upto;
         each = λ j images there.
-            let w = paired_at (λ (d : Due) is. AreImages T g k d.location d.forest.forest is) dues round j images p there
+            let w = paired_at
+            (λ (d : Due) is. AreImages T g k d.location d.forest.forest is) dues round j images p there
             in
             let d = are j w.0 w.1 in
             record {

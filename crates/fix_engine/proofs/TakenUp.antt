@@ -77,7 +77,8 @@ module _ (T : Boxes) (g : ControlGraph) (k : ℕ) where
       }
 
   module _ (start nodes : List Node) (at c budget : ℕ) (states : List AbstractState)
-      (due : AreDue T g k start at c states) (i : ℕ) (x : Arrival) (e : Edge) (is : slice_get due.targets.arrivals i ≡ Some x) (is_edge : IsEdge g c e)
+      (due : AreDue T g k start at c states) (i : ℕ) (x : Arrival) (e : Edge)
+      (is : slice_get due.targets.arrivals i ≡ Some x) (is_edge : IsEdge g c e)
       (before : AreTaken T g k start at c budget (take i due.targets.arrivals) nodes true) where
     abbrev all : List Arrival
     all = due.targets.arrivals
@@ -238,11 +239,13 @@ module _ (T : Boxes) (g : ControlGraph) (k : ℕ) where
   }
 
   -- no member of the node meets a fault on the edge
-  edge_calm : (nodes : List Node) (at : ℕ) (x : EdgeImage) (states : List AbstractState) (m : IsImageAt T g k nodes at x)
+  edge_calm : (nodes : List Node) (at : ℕ) (x : EdgeImage) (states : List AbstractState)
+      (m : IsImageAt T g k nodes at x)
       → AreSuccessors T g k m.node.state.forest m.made.edge states → IsCalm T m.node m.made.edge
   edge_calm nodes at x states m arr = λ s kind st is. subst (IsKeptIn T g states) is (arr.kept s st)
 
-  pub edge_due : (nodes : List Node) (at : ℕ) (x : EdgeImage) (states : List AbstractState) (m : IsImageAt T g k nodes at x)
+  pub edge_due : (nodes : List Node) (at : ℕ) (x : EdgeImage) (states : List AbstractState)
+      (m : IsImageAt T g k nodes at x)
       → AreSuccessors T g k m.node.state.forest m.made.edge states → AreDue T g k nodes at x.edge states
   edge_due nodes at x states m arr = record {
     parent = m.node;
@@ -396,7 +399,12 @@ module _ (T : Boxes) (g : ControlGraph) (k : ℕ) where
   images_at nodes at n images is all =
       every_of (IsImageAt T g k nodes at) images
       (λ x h.
-      record { node = n; is = is; made = every_in (IsEdgeImage T g k n.head.location n.state.forest) images x all.each h })
+      record {
+        node = n;
+        is = is;
+        made =
+            every_in (IsEdgeImage T g k n.head.location n.state.forest) images x all.each h;
+      })
 
   pub front_stage : (nodes : List Node) (at budget : ℕ) (n : Node) (images : List EdgeImage)
       → IsFront T g k nodes at budget → IsNode nodes at n → AreImages T g k n.head.location n.state.forest images

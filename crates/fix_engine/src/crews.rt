@@ -12,9 +12,9 @@ use par_kit::gate::Gate;
 /// than these are done by then.
 pub const ROUND_RULES: usize = 18;
 
-/// How many rules a forest has at least where threads are begun to ask several nodes at once whether they cover it. Most
-/// of what is asked of two forests is known from the numbers of their components, so the limit is high; it was chosen,
-/// and not measured.
+/// How many rules a forest has at least where threads are begun to ask several nodes at once whether they cover it.
+/// Most of what is asked of two forests is known from the numbers of their components, so the limit is high; it was
+/// chosen, and not measured.
 pub const COVERING_RULES: usize = 1000;
 
 /// The crew for a phase over forests of so many rules in all: one job of it where these are fewer than the least for

@@ -42,8 +42,8 @@ impl<'a, R: Threads + Sync> Maker<Due, List<EdgeImage>> for ImageMaker<'a, R> {
     }
 }
 
-/// The images of the next nodes, at most one node for each job. Where their forests are small, no thread is begun. Err is
-/// want of memory.
+/// The images of the next nodes, at most one node for each job. Where their forests are small, no thread is begun. Err
+/// is want of memory.
 pub fn round_of<R: Threads + Sync, G: Gate>(
     task: &Task<'_, R>,
     nodes: &Nodes,

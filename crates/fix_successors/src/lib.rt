@@ -1,8 +1,8 @@
 //! What the edges of its location make of a node: members that meet a fault, or the states to which an edge leads.
 //!
 //! `images_of` says it of each edge: a fault first, else the states of the cases of its post, which are folded,
-//! regrouped and abstracted at loop heads and carried on elsewhere. `Task` holds what an exploration is asked to do, and `exits_of`
-//! lists the edges of each location.
+//! regrouped and abstracted at loop heads and carried on elsewhere. `Task` holds what an exploration is asked to do,
+//! and `exits_of` lists the edges of each location.
 #![tactic(auto)]
 
 pub mod arrivals;

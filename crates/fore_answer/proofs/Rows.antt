@@ -1,5 +1,6 @@
 -- Worked values of the texts and of their delivery, worked out by hand from docs/REPORTS.md.
-use Rattle.std.proofs.Common.{◌≡◌, ◌<◌, inl, inr, ℕ, List, [], ◌∷◌, ◌++◌, codes, take, zero, suc, Option, Some, refl, arith}
+use Rattle.std.proofs.Common.{◌≡◌, ◌<◌, inl, inr, ℕ, List, [], ◌∷◌, ◌++◌, codes, take, zero, suc, Option, Some, refl}
+use Rattle.std.proofs.Common.{arith}
 use Rattle.std.specs.Fmt.{digits}
 use Rattle.fore_base.specs.declared.fault.Fault.TheVariants.{NullDeref, Leak}
 use Rattle.c_types.specs.declared.outcome.Outcome.TheVariants.{Ended, Fault, Starved, BadChoice, StillRunning}
@@ -143,7 +144,8 @@ usage_to_output (inl cut) = omega (arith, cut.0.grew.within)
 usage_to_output (inr cut) = omega (arith, cut.0.rose)
 
 -- a report is told where standard output got it and standard error nothing
-told_report : Told (sink (Some []) 0 (Some (codes "SAFE")) 0) (sink (Some []) 0 (Some []) 0) (Verified Safe (codes "SAFE"))
+told_report : Told (sink (Some []) 0 (Some (codes "SAFE")) 0) (sink (Some []) 0 (Some []) 0)
+    (Verified Safe (codes "SAFE"))
 told_report = (refl, refl)
 
 told_elsewhere : Told (sink (Some []) 0 (Some []) 0) (sink (Some []) 0 (Some (codes "SAFE")) 0)

@@ -19,7 +19,8 @@ use Rattle.fore_report.specs.declared.verdict.Verdict.TheVariants.{Safe, Unsafe,
 use Rattle.fore_words.specs.Usage.{ended_line, usage_text}
 use Rattle.fore_answer.specs.declared.answer.Answer.{Answer}
 use Rattle.fore_answer.specs.declared.answer.Answer.TheVariants.{Verified, Ran, Usage, Refused, ReadFault, NoMemory}
-use Rattle.fore_answer.specs.declared.status.TheConstants.{NO_FAULT, FAULT, USAGE, UNKNOWN, REFUSED, NOT_READ, NO_MEMORY}
+use Rattle.fore_answer.specs.declared.status.TheConstants.{NO_FAULT, FAULT, USAGE, UNKNOWN, REFUSED, NOT_READ}
+use Rattle.fore_answer.specs.declared.status.TheConstants.{NO_MEMORY}
 
 -- the letter of a rule
 abbrev pub letter_text : Letter → List ℕ

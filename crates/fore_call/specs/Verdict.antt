@@ -111,8 +111,8 @@ IsRight r (Refused why) = ForAsked r (Refused why)
 IsRight r ReadFault = ForAsked r ReadFault
 IsRight r NoMemory = ⊤
 
--- The words ask to verify a file, and the bytes that the shelf gave for it in this call are the text of a program p, and
--- those of the file of boxes, where one is named, that of a table t over its structs, of which this is true: P t p
+-- The words ask to verify a file, and the bytes that the shelf gave for it in this call are the text of a program p,
+-- and those of the file of boxes, where one is named, that of a table t over its structs, of which this is true: P t p
 -- settings, with the settings of the words. Where none is named the table has no boxes.
 abbrev pub VerifiesTo : Request → (Boxes → Program → Settings → Type 0) → Type 0
 VerifiesTo r P =

@@ -16,9 +16,9 @@ use std::thread::Threads;
 /// `run FILE [--choices LIST] [--steps N] [--malloc-null]` or `gen KIND N`. Gives the status with which the program
 /// ends. With `--malloc-null` each `malloc` of the program may give the null pointer, by a choice.
 ///
-/// The statuses stand in `status` of `fore_answer`. `NO_FAULT`: no choices and no number of steps lead the program of the file to a
-/// fault; or the run has ended. `FAULT`: the printed choices lead it to the printed fault; or the run met the
-/// printed fault. `USAGE`: the words do not read. `UNKNOWN`: neither was found, since as many abstract states are
+/// The statuses stand in `status` of `fore_answer`. `NO_FAULT`: no choices and no number of steps lead the program of
+/// the file to a fault; or the run has ended. `FAULT`: the printed choices lead it to the printed fault; or the run met
+/// the printed fault. `USAGE`: the words do not read. `UNKNOWN`: neither was found, since as many abstract states are
 /// kept as may be, or since the choices of the printed abstract trace meet no fault in up to 1,000,000 steps; or
 /// the run has too few choices, or a wrong one, or still runs. `REFUSED`: the C file has more than 1,048,576 bytes,
 /// or breaks a rule; or it does not, and the file of boxes has more than 65,536, or breaks a rule. `NOT_READ`: a file

@@ -40,7 +40,8 @@ module _ (p : Program) (b : Broken) where
   long_text long = long
 
   other_faults : (IsGeneratedFault ListPhases 3 (fault.Refused (BoxRule 2 6)) → ⊥)
-      × (IsGeneratedFault DllPhases 3 (fault.Refused BoxesTooLong) → ⊥) × (IsGeneratedFault DllPhases 3 fault.Failed → ⊥)
+      × (IsGeneratedFault DllPhases 3 (fault.Refused BoxesTooLong) → ⊥)
+      × (IsGeneratedFault DllPhases 3 fault.Failed → ⊥)
   other_faults = (λ h. h.2, λ h. h, λ h. h)
 
 no_table_refused : (shapes : Shapes) → (IsTableFaultOf ListPhases shapes (fault.Refused (BoxRule 2 6)) → ⊥)

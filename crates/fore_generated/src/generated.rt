@@ -31,8 +31,8 @@ pub struct Generated {
 ///
 /// # Errors
 ///
-/// `Refused` where the text is too long or breaks a rule of C files, or the boxes of its kind break one over its structs,
-/// then by the first one. `Memory` for want of memory.
+/// `Refused` where the text is too long or breaks a rule of C files, or the boxes of its kind break one over its
+/// structs, then by the first one. `Memory` for want of memory.
 pub fn generated_program(alloc: Global, kind: Kind, phases: u32) -> Result<Generated, ReadFault>
     ensures ok { IfOk result (IsGeneratedProgram kind phases) }
     ensures shapes { IfOk result (λ made. made.table.face.shapes ≡ made.program.shapes) }

@@ -1,5 +1,5 @@
-// Pieces take turns: a gate lets each piece begin only when exactly so many items are done as the pieces before it should
-// have, by number or from the last piece back. So a piece that has too few items, or too many, is seen.
+// Pieces take turns: a gate lets each piece begin only when exactly so many items are done as the pieces before it
+// should have, by number or from the last piece back. So a piece that has too few items, or too many, is seen.
 
 use crate::crew::Crew;
 use crate::filling::{RowWorker, fill_rows};

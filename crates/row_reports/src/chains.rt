@@ -1,8 +1,8 @@
 // The rules of a component, as those of chains.
 //
-// The trees of a component are chains where each cell has one slot at most below which cells stand. Each other slot ends
-// in one leaf then, which is written in its place: what is left of a rule is a symbol with a gap, and the state of the
-// child in it. In a cell with one slot the gap is there, whatever stands below.
+// The trees of a component are chains where each cell has one slot at most below which cells stand. Each other slot
+// ends in one leaf then, which is written in its place: what is left of a rule is a symbol with a gap, and the state of
+// the child in it. In a cell with one slot the gap is there, whatever stands below.
 
 use anyhow::{Context, Result, bail};
 use std::alloc::Global;
@@ -37,7 +37,8 @@ struct Slot<'a> {
 ///
 /// # Errors
 ///
-/// A cell with two slots below which cells stand, a slot with several leaves, a text that is no rule, and want of memory.
+/// A cell with two slots below which cells stand, a slot with several leaves, a text that is no rule, and want of
+/// memory.
 pub fn rules_of(alloc: Global, lines: &str) -> Result<Vec<Rule>> {
     let written = written_of(alloc, lines)?;
     let mut rules = Vec::new(alloc);

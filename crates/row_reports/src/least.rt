@@ -1,9 +1,9 @@
 // Reports in which each component stands by the least automaton of its trees that reads them from the top.
 //
-// Of a cell one slot at most ends in cells, so each tree is a chain (`chains`). What may stand in a chain behind its first
-// cells is a set of rules: those of the root states at the top, and behind a cell those of the states in which cells of
-// this symbol end. Two such sets are one state where the chains that begin in them are the same. States are numbered as
-// they are met from the top, and the rules of each stand in the order of their symbols.
+// Of a cell one slot at most ends in cells, so each tree is a chain (`chains`). What may stand in a chain behind its
+// first cells is a set of rules: those of the root states at the top, and behind a cell those of the states in which
+// cells of this symbol end. Two such sets are one state where the chains that begin in them are the same. States are
+// numbered as they are met from the top, and the rules of each stand in the order of their symbols.
 
 use crate::chains::{Rule, rules_of, state_of};
 use anyhow::{Context, Result, bail};
@@ -17,8 +17,8 @@ const LOOK: usize = 256;
 ///
 /// # Errors
 ///
-/// A cell with two slots below which cells stand, or with a slot that has several leaves, an automaton of many states, a
-/// text that is no report, and want of memory.
+/// A cell with two slots below which cells stand, or with a slot that has several leaves, an automaton of many states,
+/// a text that is no report, and want of memory.
 pub fn least_report(alloc: Global, report: &str) -> Result<String> {
     let mut out = String::new(alloc);
     let mut pieces = report.split("\nroot ");

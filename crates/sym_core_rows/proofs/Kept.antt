@@ -20,8 +20,8 @@ use Rattle.c_cfg.specs.declared.graph.PtrArg.TheVariants.{Null as PtrNull}
 use Rattle.sym_core.specs.Kept.{base_of, Needs, Frees, CoversAt, GivesAt, IsEdgeOf, IsExcepted, HasBoxEdge, KeepsEdges}
 
 -- Box 0 covers field 0 at its input and gives its output field 1; box 1, which has no output, covers field 2; box 2
--- covers field 0 and gives its output nothing. Cell 7 has the edge of box 0, which ends at cell 4; variable 0 is at cell
--- 7, variable 1 at cell 4, variable 2 is null, and variable 3 is at another cell, 9.
+-- covers field 0 and gives its output nothing. Cell 7 has the edge of box 0, which ends at cell 4; variable 0 is at
+-- cell 7, variable 1 at cell 4, variable 2 is null, and variable 3 is at another cell, 9.
 
 abbrev pub bs : List BoxFace
 bs = record { input = 0; output = Some 0; gives_in = 0 ∷ []; gives_out = 1 ∷ []; back = true }

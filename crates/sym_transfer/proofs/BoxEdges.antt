@@ -7,7 +7,8 @@ use Rattle.fore_base.specs.declared.store.Value.TheVariants.{Cell}
 use Rattle.fore_base.proofs.ListLemmas.{in_left, in_right, in_append}
 use Rattle.fa_core.specs.declared.forest.Target.{Target}
 use Rattle.fa_core.specs.declared.forest.Target.TheVariants.{At}
-use Rattle.fa_core.specs.Dressed.{Node, Parts, End, Nodes, node, no_parts, field, link, hook, under, leaf, no_nodes, more}
+use Rattle.fa_core.specs.Dressed.{Node, Parts, End, Nodes, node, no_parts, field, link, hook, under, leaf, no_nodes}
+use Rattle.fa_core.specs.Dressed.{more}
 use Rattle.fa_core.specs.Dressed.{Fact, Head, tree_facts, slot_facts, end_facts, forest_facts, facts, end_value}
 use Rattle.fa_core.specs.Dressed.{with_ports, roots_of}
 use Rattle.fa_core.specs.Dressed.{Seen, SeenLink, SeenHook, SeenCell, seen, tree_cells, below, end_cells}
@@ -77,10 +78,12 @@ module _ (f : ℕ → Target) (vs ws : List Value) where
       end_kept (under n) h = tree_kept n h
       end_kept (leaf t) (k, p, q, i) = absurd p
 
-    pub forest_kept : (d : Nodes) → HasBoxEdge (forest_cells vs d) m b → HasBoxEdge (forest_cells ws (placed_all f d)) m b
+    pub forest_kept : (d : Nodes) → HasBoxEdge (forest_cells vs d) m b
+        → HasBoxEdge (forest_cells ws (placed_all f d)) m b
     forest_kept no_nodes h = h
     forest_kept (more n ns) h =
-        both_kept (tree_cells vs n) (forest_cells vs ns) (tree_cells ws (placed f n)) (forest_cells ws (placed_all f ns))
+        both_kept (tree_cells vs n) (forest_cells vs ns) (tree_cells ws (placed f n))
+        (forest_cells ws (placed_all f ns))
         (tree_kept n) (forest_kept ns) h
 
 -- One more tree, as the last.

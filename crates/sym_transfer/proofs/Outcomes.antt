@@ -27,7 +27,8 @@ pub carried : (face : Face) (T : List BoxDef) (F G R : Forest) (i : Instr) (x : 
 carried face T F G R i x e h = subst (λ (M : Forest). Carries face T F M i x) (sym e) h
 
 module _ (F : SoundForest) (T : List BoxDef) (equal : Bool) (x : ℕ) where
-  pub ptrs_tested : (l r : PtrArg) → IsSound F.face F.forest → (same : Result Bool FaultKind) → same ≡ same_targets (target_of_arg F.forest l) (target_of_arg F.forest r)
+  pub ptrs_tested : (l r : PtrArg) → IsSound F.face F.forest → (same : Result Bool FaultKind)
+      → same ≡ same_targets (target_of_arg F.forest l) (target_of_arg F.forest r)
       → (made : Edited) → IsTested F same equal made → Becomes F.face T F.forest (TestPtr l r equal) x made
   ptrs_tested l r sound same e (Fault k) h =
       test_ptr_fails F.face T F.forest l r equal x (arg_below F.face F.forest sound l)

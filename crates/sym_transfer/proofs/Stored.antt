@@ -36,12 +36,14 @@ held_there P Q None e h = absurd (true≢false (sym e))
 
 -- the form of a forest with another leaf or datum
 pub put_form : (F R : SoundForest) (r f : ℕ) (t u : Target) → R.face ≡ F.face
-    → (Every HasNoBoxes F.forest.autos → Every HasNoBoxes R.forest.autos) → IsPut [] F.forest R.forest r f t u → HasForm F R
+    → (Every HasNoBoxes F.forest.autos → Every HasNoBoxes R.forest.autos) → IsPut [] F.forest R.forest r f t u
+    → HasForm F R
 put_form F R r f t u face plain p =
     record { face = face; plain = plain; vars = ap length p.vars; data_vars = ap length p.data_vars }
 
 pub datum_form : (F R : SoundForest) (r f : ℕ) (y z : Datum) → R.face ≡ F.face
-    → (Every HasNoBoxes F.forest.autos → Every HasNoBoxes R.forest.autos) → IsDatumPut [] F.forest R.forest r f y z → HasForm F R
+    → (Every HasNoBoxes F.forest.autos → Every HasNoBoxes R.forest.autos) → IsDatumPut [] F.forest R.forest r f y z
+    → HasForm F R
 datum_form F R r f y z face plain p =
     record { face = face; plain = plain; vars = ap length p.vars; data_vars = ap length p.data_vars }
 

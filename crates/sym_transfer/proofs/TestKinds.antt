@@ -52,7 +52,8 @@ tested equal q s = onto q (λ same. if_agreed equal same s)
 module _ (face : Face) (T : List BoxDef) (H : Forest) where
   -- Tests of pointers: the targets decide, for all members alike.
 
-  module _ (l r : PtrArg) (equal : Bool) (x : ℕ) (left : IsRoot (length H.autos) (target_of_arg H l)) (right : IsRoot (length H.autos) (target_of_arg H r)) where
+  module _ (l r : PtrArg) (equal : Bool) (x : ℕ) (left : IsRoot (length H.autos) (target_of_arg H l))
+      (right : IsRoot (length H.autos) (target_of_arg H r)) where
     found : (d : Nodes) (cs : List CellRec) (next : ℕ) → OfForest T H d → IsHeap face.shapes.structs d cs next
         → raw_step face.shapes.structs (TestPtr l r equal) x (store_by d H cs next)
         ≡ tested equal (same_targets (target_of_arg H l) (target_of_arg H r)) (store_by d H cs next)

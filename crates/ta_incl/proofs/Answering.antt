@@ -18,10 +18,12 @@ use Rattle.ta_incl.specs.declared.inclusion.Pair.{Pair}
 use Rattle.ta_incl.specs.declared.inclusion.Inclusion.{Inclusion}
 use Rattle.ta_incl.specs.declared.inclusion.Inclusion.TheVariants.{Yes, No}
 use Rattle.ta_incl.specs.declared.order.Orders.{Orders}
-use Rattle.ta_incl.specs.inner.Founds.{HaveStates, sets_of, IsCover, HasCover, IsProper, AreApart, IsCovered, CoversRule}
+use Rattle.ta_incl.specs.inner.Founds.{HaveStates, sets_of, IsCover, HasCover, IsProper, AreApart, IsCovered}
+use Rattle.ta_incl.specs.inner.Founds.{CoversRule}
 use Rattle.ta_incl.specs.inner.Founds.{CoversRules, IsFailing, IsExplored, IsTreeAt, IsThinned, IsPairOf}
 use Rattle.ta_incl.specs.inner.Orders.{AreOrdered, AreUpward}
-use Rattle.ta_incl.specs.Inclusions.{IsSubset, IsAntichain, IsBelow, Leads, IsClosed, MeetsRoots, IsMissing, IfYes, IfNo}
+use Rattle.ta_incl.specs.Inclusions.{IsSubset, IsAntichain, IsBelow, Leads, IsClosed, MeetsRoots, IsMissing, IfYes}
+use Rattle.ta_incl.specs.Inclusions.{IfNo}
 use Rattle.ta_incl.specs.inner.Answers.{Answers}
 use Rattle.ta_incl.proofs.Covering.{cover_same}
 use Rattle.ta_incl.proofs.Showing.{shows_within}

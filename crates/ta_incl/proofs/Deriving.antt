@@ -67,7 +67,8 @@ covers_push b orders turn P old before after rules r h w k =
     covered_still b orders P old before after s items w (f rest items a m i o)) h) k
 
 -- a rule of which no choice has the pair that is taken up
-pub covers_skip : (b : Automaton) (orders : Orders) (turn : Turn) (old found : List Found) (rules : List Rule) (r : Rule)
+pub covers_skip : (b : Automaton) (orders : Orders) (turn : Turn) (old found : List Found) (rules : List Rule)
+    (r : Rule)
     → Every (λ s. CoversFrom b orders old turn found s []) rules
     → ((places : List ℕ) (items : List Found) → AreAt old places items → HaveStates r.children items
     → is_due turn.at places ≡ false) → Every (λ s. CoversFrom b orders old turn found s []) (rules ++ r ∷ [])

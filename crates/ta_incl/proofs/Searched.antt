@@ -15,7 +15,8 @@ use Rattle.ta_incl.specs.declared.exploring.Turn.{Turn}
 use Rattle.ta_incl.specs.declared.found.Found.{Found}
 use Rattle.ta_incl.specs.declared.order.Orders.{Orders}
 use Rattle.ta_incl.specs.declared.searching.Search.{Search}
-use Rattle.ta_incl.specs.inner.Founds.{AreAt, HaveStates, IsDerived, AreFresh, AreLasting, HasUnder, IsProper, is_among, is_due}
+use Rattle.ta_incl.specs.inner.Founds.{AreAt, HaveStates, IsDerived, AreFresh, AreLasting, HasUnder, IsProper, is_among}
+use Rattle.ta_incl.specs.inner.Founds.{is_due}
 use Rattle.ta_incl.specs.inner.Founds.{IsCovered, CoversFrom, CoversRule, CoversRules, Widens, IsFailing, IsSearch}
 use Rattle.ta_incl.specs.inner.Founds.{IsReady, CoversReady, IsExplored}
 use Rattle.ta_incl.specs.inner.Orders.{AreUpward}
@@ -65,7 +66,8 @@ module _ (a b : Automaton) (orders : Orders) (old : Search) where
           (subst (λ (found : List Found). AreAt found places items) e at)
 
       here : (t : Bool) → is_due turn.at places ≡ t → IsCovered b orders (old.found ++ added) r items
-      here true d = every_in (λ (s : Rule). CoversFrom b orders old.found turn (old.found ++ added) s []) a.rules r now i
+      here true d =
+          every_in (λ (s : Rule). CoversFrom b orders old.found turn (old.found ++ added) s []) a.rules r now i
           places items there (every_weaker (IsReady old) (IsMarked turn.ready) places ready was) kids d
       here false d = covered_more b orders old.found added r items (before r places items i there was kids d)
 
@@ -177,7 +179,8 @@ taken_more found added all taken new e f l =
     omega (arith, a, b, c, l)
 
 -- a place within has no mark, whatever stands for the places behind
-pub no_mark : (marks : List Bool) (i : ℕ) → i < length marks → get_or marks i false ≡ false → get_or marks i true ≡ false
+pub no_mark : (marks : List Bool) (i : ℕ) → i < length marks → get_or marks i false ≡ false
+    → get_or marks i true ≡ false
 no_mark [] i l e = absurd (omega (arith, l))
 no_mark (m ∷ marks) zero l e = e
 no_mark (m ∷ marks) (suc i) l e = no_mark marks i (omega (arith, l)) e

@@ -178,7 +178,8 @@ module _ (a : Automaton) (m : ℕ) (f back : ℕ → ℕ) (proper : IsRanked a)
             (rule_low s.0 s.1).1
             (drawn_each R r.children s.0.children
             (subst (λ (x : Rule). Paired (λ u v. R u v ≡ true) (map f r.children) x.children) s.2 o.4))
-            (related_each a rel proper greatest s.0.children t.0.children (rule_low s.0 s.1).1 (rule_low t.0 t.1).1 t.4),
+            (related_each a rel proper greatest s.0.children t.0.children (rule_low s.0 s.1).1
+            (rule_low t.0 t.1).1 t.4),
       )
 
   -- the greatest simulation of the joined states is the image of that of the states

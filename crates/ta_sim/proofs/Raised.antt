@@ -1,11 +1,13 @@
 -- What a round on the way up leaves: rows that still relate what simulates upward, and in the end a simulation.
-use Rattle.std.proofs.Common.{◌≡◌, inl, inr, ℕ, zero, suc, ◌+◌, ◌<◌, Bool, true, false, List, [], ◌∷◌, ◌++◌, length, get_or}
+use Rattle.std.proofs.Common.{◌≡◌, inl, inr, ℕ, zero, suc, ◌+◌, ◌<◌, Bool, true, false, List, [], ◌∷◌, ◌++◌, length}
+use Rattle.std.proofs.Common.{get_or}
 use Rattle.std.proofs.Common.{length-set, replicate, set, slice_get, Some, take, refl}
 use Rattle.std.proofs.Common.{sym, ap, subst, ◌∙◌, arith}
 use Rattle.std.proofs.lemmas.List.{length-replicate}
 use Rattle.std.proofs.lemmas.Option.{none-some, same_Some}
 use Rattle.fore_base.specs.Lists.{IsIn, Every, Paired, PairedBut}
-use Rattle.fore_base.proofs.ListLemmas.{every_in, every_get, every_weaker, in_every, in_push, in_left, in_last, paired_long}
+use Rattle.fore_base.proofs.ListLemmas.{every_in, every_get, every_weaker, in_every, in_push, in_left, in_last}
+use Rattle.fore_base.proofs.ListLemmas.{paired_long}
 use Rattle.fore_base.proofs.ListLemmas.{take_item}
 use Rattle.fore_base.proofs.MarkLemmas.{marked_new, marked_set, marked_still, unmarked_none}
 use Rattle.fore_base.specs.Marks.{IsMarked, MarksOf}

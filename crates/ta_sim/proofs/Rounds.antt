@@ -69,8 +69,10 @@ related_each n rules rows f (p ∷ ps) (q ∷ qs) l k h = (f p q l.0 k.0 h.0, re
 module _ (n : ℕ) (rules : List Rule) (groups : List (List Rule)) (rows : List (List Bool))
     (proper : Every (IsRankedRule n) rules) (by : AreByState rules n groups) (square : AreSquare n rows) where
   -- a pair stays where the one state simulates the other
-  stays_simulated : Includes n rules rows → (p q : ℕ) → p < n → q < n → IsSimulated rules p q → Stays (IsMatch rows) groups rows p q
-  stays_simulated f p q l k h = (f p q l k h, in_every (IsAnswered (IsMatch rows) (group_at groups q)) (group_at groups p) answer)
+  stays_simulated : Includes n rules rows → (p q : ℕ) → p < n → q < n → IsSimulated rules p q
+      → Stays (IsMatch rows) groups rows p q
+  stays_simulated f p q l k h =
+      (f p q l k h, in_every (IsAnswered (IsMatch rows) (group_at groups q)) (group_at groups p) answer)
     where
       answer : (r : Rule) → IsIn r (group_at groups p) → IsAnswered (IsMatch rows) (group_at groups q) r
       answer r i =

@@ -129,8 +129,8 @@ fn marks_of(alloc: Global, count: u32, states: &[u32]) -> Mem<List<bool>>
     Ok(marks)
 }
 
-/// A use of a state is matched by one at the same place of a rule with the same symbol, whose other children are related
-/// by the relation from below, and whose state by the rows.
+/// A use of a state is matched by one at the same place of a rule with the same symbol, whose other children are
+/// related by the relation from below, and whose state by the rows.
 #[derive(Clone, Copy)]
 struct ByOthers<'a> {
     down: &'a [List<bool>],

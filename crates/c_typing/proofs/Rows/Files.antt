@@ -54,7 +54,8 @@ other_function : breaches
     (item.Function (head (gives.Void (at 200)) (name (codes "f") 201) (Some (params.Void (at 203))))
     (block 205
     (part'.Stmt (stmt.Simple (simple.Assign (var (codes "x") 206) (rhs.Operand (operand.Path (var (codes "y") 208)))))
-    ∷ part'.Stmt (stmt.Simple (simple.Call (call (codes "f") 210 []))) ∷ []) 214) ∷ []) 215) ≡ Rule 3 (at 206) ∷ Rule 3 (at 208) ∷ Rule 13 (at 210) ∷ Rule 12 (at 215) ∷ []
+    ∷ part'.Stmt (stmt.Simple (simple.Call (call (codes "f") 210 []))) ∷ []) 214) ∷ []) 215) ≡ Rule 3 (at 206)
+    ∷ Rule 3 (at 208) ∷ Rule 13 (at 210) ∷ Rule 12 (at 215) ∷ []
 unfolding breaches site_breaches
 other_function = simp layers refl
 

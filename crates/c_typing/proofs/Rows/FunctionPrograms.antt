@@ -56,7 +56,8 @@ ptr x fields = record { var = x; fields = fields }
 
 -- f(x, p->next);
 statement_call : stmt_stmts own (stmt.Simple (simple.Call (call (codes "f") 200 ((operand.Path (var (codes "x") 202))
-    ∷ (operand.Path (path (codes "p") 204 (arrow (codes "next") 205 ∷ []))) ∷ [])))) here ≡ Call 0 (arg.Data (data_op.Path (Var 0)) ∷ arg.Ptr (ptr_op.Path (ptr 0 (0 ∷ []))) ∷ []) None 200 ∷ []
+    ∷ (operand.Path (path (codes "p") 204 (arrow (codes "next") 205 ∷ []))) ∷ [])))) here
+    ≡ Call 0 (arg.Data (data_op.Path (Var 0)) ∷ arg.Ptr (ptr_op.Path (ptr 0 (0 ∷ []))) ∷ []) None 200 ∷ []
 statement_call = simp (condition_layers, program_layers) refl
 
 -- g();
@@ -65,7 +66,8 @@ call_of_nothing = simp (condition_layers, program_layers) refl
 
 -- f(RED, NULL);
 constants_given : stmt_stmts own (stmt.Simple (simple.Call (call (codes "f") 200 ((operand.Path (var (codes "RED")
-    202)) ∷ (operand.Null (at 204)) ∷ [])))) here ≡ Call 0 (arg.Data (data_op.Known 0) ∷ arg.Ptr ptr_op.Null ∷ []) None 200 ∷ []
+    202)) ∷ (operand.Null (at 204)) ∷ [])))) here
+    ≡ Call 0 (arg.Data (data_op.Known 0) ∷ arg.Ptr ptr_op.Null ∷ []) None 200 ∷ []
 constants_given = simp (condition_layers, program_layers) refl
 
 -- f(0, 0);
@@ -76,17 +78,20 @@ zeros_given = simp (condition_layers, program_layers) refl
 -- p->key = f(true, p);
 datum_assigned : stmt_stmts own (stmt.Simple (simple.Assign (path (codes "p") 200 (arrow (codes "key") 201 ∷ []))
     (rhs.Operand (operand.Call (call (codes "f") 204 ((operand.True (at 206)) ∷ (operand.Path (var (codes "p") 208)) ∷
-    [])))))) here ≡ Call 0 (arg.Data (data_op.Known 1) ∷ arg.Ptr (ptr_op.Path (ptr 0 [])) ∷ []) (Some (dest.Data (Field (ptr 0 []) 0))) 200 ∷ []
+    [])))))) here ≡ Call 0 (arg.Data (data_op.Known 1) ∷ arg.Ptr (ptr_op.Path (ptr 0 [])) ∷ [])
+    (Some (dest.Data (Field (ptr 0 []) 0))) 200 ∷ []
 datum_assigned = simp (condition_layers, program_layers) refl
 
 -- q->twin = h(r);
 pointer_assigned : stmt_stmts own (stmt.Simple (simple.Assign (path (codes "q") 200 (arrow (codes "twin") 201 ∷ []))
-    (rhs.Operand (operand.Call (call (codes "h") 204 ((operand.Path (var (codes "r") 206)) ∷ [])))))) here ≡ Call 2 (arg.Ptr (ptr_op.Path (ptr 2 [])) ∷ []) (Some (dest.Ptr (ptr 1 (1 ∷ [])))) 200 ∷ []
+    (rhs.Operand (operand.Call (call (codes "h") 204 ((operand.Path (var (codes "r") 206)) ∷ [])))))) here
+    ≡ Call 2 (arg.Ptr (ptr_op.Path (ptr 2 [])) ∷ []) (Some (dest.Ptr (ptr 1 (1 ∷ [])))) 200 ∷ []
 pointer_assigned = simp (condition_layers, program_layers) refl
 
 -- x = f(15, NULL);
 variable_assigned : stmt_stmts own (stmt.Simple (simple.Assign (var (codes "x") 200) (rhs.Operand (operand.Call (call
-    (codes "f") 202 ((number (codes "15") 204) ∷ (operand.Null (at 206)) ∷ [])))))) here ≡ Call 0 (arg.Data (data_op.Known 15) ∷ arg.Ptr ptr_op.Null ∷ []) (Some (dest.Data (Var 0))) 200 ∷ []
+    (codes "f") 202 ((number (codes "15") 204) ∷ (operand.Null (at 206)) ∷ [])))))) here
+    ≡ Call 0 (arg.Data (data_op.Known 15) ∷ arg.Ptr ptr_op.Null ∷ []) (Some (dest.Data (Var 0))) 200 ∷ []
 variable_assigned = simp (condition_layers, program_layers) refl
 
 -- g(1);: they are let go, in a file that is refused
@@ -97,7 +102,8 @@ operands_that_are_too_many = simp (condition_layers, program_layers) refl
 -- { abort(); x = __VERIFIER_nondet_bool(); }
 given_functions_stay : stmt_stmts own (stmt.Block (block 200 (part'.Stmt (stmt.Simple (simple.Call (call (codes
     "abort") 201 []))) ∷ part'.Stmt (stmt.Simple (simple.Assign (var (codes "x") 205) (rhs.Operand (operand.Call (call
-    (codes "__VERIFIER_nondet_bool") 207 []))))) ∷ []) 211)) here ≡ Group (Do Halt 201 ∷ Do (SetData (Var 0) data_rhs.Choice) 205 ∷ []) [] [] 211 ∷ []
+    (codes "__VERIFIER_nondet_bool") 207 []))))) ∷ []) 211)) here
+    ≡ Group (Do Halt 201 ∷ Do (SetData (Var 0) data_rhs.Choice) 205 ∷ []) [] [] 211 ∷ []
 given_functions_stay = simp (condition_layers, program_layers, scope_layers) refl
 
 -- { int z = f(z, NULL); struct item *s = h(s); }: a variable may be given to its own initialiser
@@ -114,7 +120,8 @@ initialisers = simp (condition_layers, program_layers, scope_layers) refl
 calls_in_the_head_of_a_for : stmt_stmts own (stmt.For (at 200) (first.Simple (simple.Assign (var (codes "x") 202)
     (rhs.Operand (operand.Call (call (codes "f") 204 ((number (codes "1") 206) ∷ (operand.Path (var (codes "p") 208))
     ∷ [])))))) (Some (condition (conjunction (test.Unary (unary.Operand (operand.Path (var (codes "x") 211))) ∷ []) ∷
-    []))) (Some (simple.Call (call (codes "g") 213 []))) (stmt.Empty (at 217))) here ≡ Call 0 (arg.Data (data_op.Known 1) ∷ arg.Ptr (ptr_op.Path (ptr 0 [])) ∷ []) (Some (dest.Data (Var 0))) 202
+    []))) (Some (simple.Call (call (codes "g") 213 []))) (stmt.Empty (at 217))) here
+    ≡ Call 0 (arg.Data (data_op.Known 1) ∷ arg.Ptr (ptr_op.Path (ptr 0 [])) ∷ []) (Some (dest.Data (Var 0))) 202
     ∷ For (Any (All (formula.Atom (atom.Data (data_op.Path (Var 0)) (data_op.Known 0) false) 211 ∷ []) ∷ []))
     (Call 1 [] None 213 ∷ []) [] ∷ []
 calls_in_the_head_of_a_for = simp (condition_layers, program_layers, scope_layers) refl
@@ -144,15 +151,18 @@ zero_returned_as_a_pointer = simp (condition_layers, program_layers) refl
 
 -- return q->twin;
 pointer_returned : stmt_stmts own (stmt.Return (at 200) (Some (operand.Path (path (codes "q") 201 (arrow (codes
-    "twin") 202 ∷ []))))) (record here { home = Some 2 }) ≡ Do (Leave 2 (Some (arg.Ptr (ptr_op.Path (ptr 1 (1 ∷ [])))))) 200 ∷ []
+    "twin") 202 ∷ []))))) (record here { home = Some 2 })
+    ≡ Do (Leave 2 (Some (arg.Ptr (ptr_op.Path (ptr 1 (1 ∷ [])))))) 200 ∷ []
 pointer_returned = simp (condition_layers, program_layers) refl
 
 -- return;
-nothing_returned : stmt_stmts own (stmt.Return (at 200) None) (record here { home = Some 1 }) ≡ Do (Leave 1 None) 200 ∷ []
+nothing_returned : stmt_stmts own (stmt.Return (at 200) None) (record here { home = Some 1 })
+    ≡ Do (Leave 1 None) 200 ∷ []
 nothing_returned = simp (condition_layers, program_layers) refl
 
 -- return x;
-returned_from_main : stmt_stmts own (stmt.Return (at 200) (Some (operand.Path (var (codes "x") 201)))) here ≡ Do (Return (Some (Var 0))) 200 ∷ []
+returned_from_main : stmt_stmts own (stmt.Return (at 200) (Some (operand.Path (var (codes "x") 201)))) here
+    ≡ Do (Return (Some (Var 0))) 200 ∷ []
 returned_from_main = simp (condition_layers, program_layers) refl
 
 -- A function: its result is numbered before its parameters, and these before its local variables
@@ -168,7 +178,8 @@ function_of_data : func_of own (head (gives.Data (data'.Int (at 200))) (name (co
       result = Some (ref.Data 2);
       body = Group (Do (Leave 0 (Some (arg.Data (data_op.Path (Var 3))))) 215 ∷ []) [] (4 ∷ []) 218 ∷ [];
     }
-function_of_data = simp (declares-Do, declares-Call, declares-Group, condition_layers, program_layers, scope_layers) refl
+function_of_data =
+    simp (declares-Do, declares-Call, declares-Group, condition_layers, program_layers, scope_layers) refl
 
 -- void g(void) { struct node *s; { int b; f(b, s); } }
 function_of_nothing : func_of own (head (gives.Void (at 200)) (name (codes "g") 201) (Some (params.Void (at 203))))
@@ -184,7 +195,8 @@ function_of_nothing : func_of own (head (gives.Void (at 200)) (name (codes "g") 
           (Group (Call 0 (arg.Data (data_op.Path (Var 2)) ∷ arg.Ptr (ptr_op.Path (ptr 3 [])) ∷ []) None 215 ∷ []) []
           (2 ∷ []) 222 ∷ []) (3 ∷ []) [] 223 ∷ [];
     }
-function_of_nothing = simp (declares-Do, declares-Call, declares-Group, condition_layers, program_layers, scope_layers) refl
+function_of_nothing =
+    simp (declares-Do, declares-Call, declares-Group, condition_layers, program_layers, scope_layers) refl
 
 -- struct item *h(struct item *s) { return s; }
 function_of_a_pointer : func_of own (head (gives.Pointer (at 200) (name (codes "item") 201)) (name (codes "h") 203)
@@ -196,7 +208,8 @@ function_of_a_pointer : func_of own (head (gives.Pointer (at 200) (name (codes "
       result = Some (ref.Ptr 3);
       body = Group (Do (Leave 2 (Some (arg.Ptr (ptr_op.Path (ptr 4 []))))) 211 ∷ []) [] [] 214 ∷ [];
     }
-function_of_a_pointer = simp (declares-Do, declares-Call, declares-Group, condition_layers, program_layers, scope_layers) refl
+function_of_a_pointer =
+    simp (declares-Do, declares-Call, declares-Group, condition_layers, program_layers, scope_layers) refl
 
 -- int main(int a) { }
 main_has_no_result : func_of own (head (gives.Data (data'.Int (at 200))) (name (codes "main") 201) (Some (params.List
@@ -207,7 +220,8 @@ main_has_no_result : func_of own (head (gives.Data (data'.Int (at 200))) (name (
       result = None;
       body = Group [] [] [] 207 ∷ [];
     }
-main_has_no_result = simp (declares-Do, declares-Call, declares-Group, condition_layers, program_layers, scope_layers) refl
+main_has_no_result =
+    simp (declares-Do, declares-Call, declares-Group, condition_layers, program_layers, scope_layers) refl
 
 -- A program: functions besides `main` in order, the variables of all, and the body of `main`
 

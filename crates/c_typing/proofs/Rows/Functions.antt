@@ -171,7 +171,8 @@ no_value_of_a_pointer : breaches (unit (item.Struct (at 200) (name (codes "node"
     (Some (field.Datums (data'.Int (at 211)) ((name (codes "mark") 212) ∷ []) ∷ [])) ∷ item.Function (head
     (gives.Pointer (at 216) (name (codes "node") 217)) (name (codes "f") 219) (Some (params.Void (at 221))))
     (block 223 (part'.Stmt (stmt.Return (at 224) None) ∷ []) 226) ∷ item.Function (head (gives.Data (data'.Int
-    (at 227))) (name (codes "main") 228) (Some (params.Void (at 230)))) (block 232 [] 233) ∷ []) 234) ≡ Rule 16 (at 224) ∷ []
+    (at 227))) (name (codes "main") 228) (Some (params.Void (at 230)))) (block 232 [] 233) ∷ []) 234)
+    ≡ Rule 16 (at 224) ∷ []
 unfolding breaches site_breaches
 no_value_of_a_pointer = simp layers refl
 
@@ -212,7 +213,8 @@ datum_of_a_pointer : breaches (unit (item.Struct (at 200) (name (codes "node") 2
     (field.Datums (data'.Int (at 211)) ((name (codes "mark") 212) ∷ []) ∷ [])) ∷ item.Function (head (gives.Pointer
     (at 216) (name (codes "node") 217)) (name (codes "f") 219) (Some (params.Void (at 221)))) (block 223 (part'.Stmt
     (stmt.Return (at 224) (Some (number (codes "1") 225))) ∷ []) 227) ∷ item.Function (head (gives.Data (data'.Int
-    (at 228))) (name (codes "main") 229) (Some (params.Void (at 231)))) (block 233 [] 234) ∷ []) 235) ≡ Rule 7 (at 225) ∷ []
+    (at 228))) (name (codes "main") 229) (Some (params.Void (at 231)))) (block 233 [] 234) ∷ []) 235)
+    ≡ Rule 7 (at 225) ∷ []
 unfolding breaches site_breaches
 datum_of_a_pointer = simp layers refl
 
@@ -277,8 +279,8 @@ pointer_of_an_undefined_struct : breaches (unit (item.Struct (at 200) (name (cod
     (gives.Pointer (at 216) (name (codes "none") 217)) (name (codes "f") 219) (Some (params.List (param.Pointer
     (at 221) (name (codes "item") 222) (name (codes "p") 224) ∷ [])))) (block 226 (part'.Stmt (stmt.Return (at 227)
     (Some (operand.Path (var (codes "p") 228)))) ∷ []) 230) ∷ item.Function (head (gives.Data (data'.Int (at 231)))
-    (name (codes "main") 232) (Some (params.Void (at 234)))) (block 236 [] 237) ∷ []) 238) ≡ Rule 1 (at 217)
-    ∷ []
+    (name (codes "main") 232) (Some (params.Void (at 234)))) (block 236 [] 237) ∷ []) 238)
+    ≡ Rule 1 (at 217) ∷ []
 unfolding breaches site_breaches
 pointer_of_an_undefined_struct = simp layers refl
 

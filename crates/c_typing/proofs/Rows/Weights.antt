@@ -36,5 +36,6 @@ light_enough = refl
 too_heavy : or_else [] (Limit 9 (at 1) ∷ []) ≡ Limit 9 (at 1) ∷ []
 too_heavy = refl
 
-heavy_and_broken : or_else (Rule 15 (at 7) ∷ Rule 3 (at 8) ∷ []) (Limit 9 (at 1) ∷ []) ≡ Rule 15 (at 7) ∷ Rule 3 (at 8) ∷ []
+heavy_and_broken : or_else (Rule 15 (at 7) ∷ Rule 3 (at 8) ∷ []) (Limit 9 (at 1) ∷ [])
+    ≡ Rule 15 (at 7) ∷ Rule 3 (at 8) ∷ []
 heavy_and_broken = refl

@@ -156,8 +156,8 @@ pub record Widens (order : Order) (P : Found → Type 0) (old before after : Lis
 abbrev pub IsFailing : List ℕ → List ℕ → Found → Type 0
 IsFailing lefts rights f = IsIn f.state lefts × (some_marked f.marks rights ≡ false)
 
--- the pairs of a search: they are derived, none is covered by an earlier one, and there are marks for those that no later
--- one covers, and for those that were taken up; where the search says so, one of them fails
+-- the pairs of a search: they are derived, none is covered by an earlier one, and there are marks for those that no
+-- later one covers, and for those that were taken up; where the search says so, one of them fails
 pub record IsSearch (a b : Automaton) (orders : Orders) (x : Search) : Type 0 where
   pub derived : AreDerived a.rules b x.found
   pub proper : Every (IsProper a b orders) x.found

@@ -4,7 +4,8 @@ use Rattle.c_callees.proofs.calling.lead_in.Goals as goal
 
 pub returns-then-to-count : goal.returns-then-to-count
 returns-then-to-count c =
-    leads_past c.args.graph.now c.known.ensures.within c.args.from c.args.to (omega (arith, c.requires, c.if-to-count.true))
+    leads_past c.args.graph.now c.known.ensures.within c.args.from c.args.to
+    (omega (arith, c.requires, c.if-to-count.true))
 
 pub returns : goal.returns
 returns c =

@@ -13,7 +13,8 @@ operands_calls-loop-operand-preserved t c =
     ap (λ ns. called names ns (joined (map operand_callees (drop (i + 1) c.args.operands.now))))
     c.in_ok-operand_calls.ensures
     ∙ sym
-    (each_called names operand_callees c.args.operands.now i c.loop-operand.found c.operand-item.result c.loop-operand-test.true
+    (each_called names operand_callees c.args.operands.now i c.loop-operand.found c.operand-item.result
+    c.loop-operand-test.true
     c.operand-item.is)
     ∙ c.loop-operand.invariant
 

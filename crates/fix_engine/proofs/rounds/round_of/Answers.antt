@@ -23,5 +23,6 @@ make_all-requires-clause-accepted g c =
     let t = c.args.task.now in
     let dues = c.in_ok-dues.dues in
     λ κs within. rw c.as_slice.ensures
-    (dues_fit t.table t.graph t.height c.args.nodes.now c.args.at dues (record { shared = c.type_bounds.sync-R.shared }) c.requires.explored
+    (dues_fit t.table t.graph t.height c.args.nodes.now c.args.at dues
+    (record { shared = c.type_bounds.sync-R.shared }) c.requires.explored
     c.known.ensures.edges c.known.ensures.entry c.in_ok-dues.ensures.1)

@@ -53,8 +53,11 @@ loop-images-preserved g c =
     let t = c.args.task.now in
     let l = c.loop-images in
     let taken = subst (IsTakenNode t.table t.graph t.height l.nodes l.here t.budget c.take_node.new.nodes)
-    c.in-All.is c.in_ok-how.ensures in
-    (taken.0, grows_then c.args.nodes.now l.nodes c.take_node.new.nodes l.invariant.1 taken.1, omega (arith, l.invariant.2))
+    c.in-All.is c.in_ok-how.ensures in (
+      taken.0,
+      grows_then c.args.nodes.now l.nodes c.take_node.new.nodes l.invariant.1 taken.1,
+      omega (arith, l.invariant.2),
+    )
 
 pub returns : goal.returns
 returns g c =

@@ -9,8 +9,10 @@ returns-in_ok-copy-in-Fault g c =
     let x = c.args.next.now in
     let m = c.requires.image in
     let f = subst (IsImage t.table t.graph t.height m.node.state.forest m.made.edge) c.in-Fault.is m.made.image in
-    let copied = subst (IsTrueFault t.table t.graph m.node.state.forest m.made.edge) (sym c.in_ok-copy-in-Fault.ensures.same) f in (
-      edge_fault t.table t.graph t.height c.args.nodes.now c.args.at x c.in_ok-copy-in-Fault.copy c.requires.mid m copied,
+    let copied = subst (IsTrueFault t.table t.graph m.node.state.forest m.made.edge)
+    (sym c.in_ok-copy-in-Fault.ensures.same) f in (
+      edge_fault t.table t.graph t.height c.args.nodes.now c.args.at x c.in_ok-copy-in-Fault.copy c.requires.mid m
+          copied,
       refl,
     )
 

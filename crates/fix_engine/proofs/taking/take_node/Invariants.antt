@@ -7,4 +7,5 @@ use Rattle.fix_engine.proofs.taking.take_node.Given as goal
 abbrev pub invariant-loop-next : goal.invariant-loop-next
 invariant-loop-next g l =
     IsStage l.task.table l.task.graph l.task.height l.nodes l.at (edge_numbers (drop l.next-index l.images))
-    × Rises (edge_numbers (drop l.next-index l.images)) × (length l.nodes ≤ l.task.budget) × Grows l.initial.nodes l.nodes
+    × Rises (edge_numbers (drop l.next-index l.images)) × (length l.nodes ≤ l.task.budget)
+    × Grows l.initial.nodes l.nodes

@@ -23,6 +23,7 @@ returns g c =
     let a = c.in_ok-forms.ensures in
     let b = c.in_ok-joined.ensures in
     normal_forms t.table t.graph (rw c.table.ensures at c.known.ensures)
-    (rw c.table-2.ensures at c.ranked_insides.ensures) F cs js c.requires.face c.requires.vars (a.regroups t.table.defs) a.members a.vars a.data_vars
+    (rw c.table-2.ensures at c.ranked_insides.ensures) F cs js c.requires.face c.requires.vars
+    (a.regroups t.table.defs) a.members a.vars a.data_vars
     (b.joined t.table.defs) (rw c.face.ensures at b.apart) b.canonical b.reduced (rw c.face.ensures at b.faces)
     (rw c.as_slice.ensures at c.all_known.ensures)

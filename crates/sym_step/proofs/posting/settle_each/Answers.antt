@@ -80,7 +80,8 @@ loop-forest-preserved g c =
     rw (drop_item all i G less is) at (rw c.as_slice-forest-items.ensures at c.loop-forest.invariant.0) in
     let many = length-append c.loop-forest.next c.in_ok-more.more.next in
     rw (c.in_ok-append.ensures.ok, c.in_ok-append-2.ensures.ok, c.as_slice-forest-items.ensures) (
-      settled_more s.face (λ T q. subst (IsTableOf s.face) (sym q) c.requires.table) F e G (drop (i + 1) all) c.loop-forest.next c.loop-forest.faulty c.in_ok-more.more.next
+      settled_more s.face (λ T q. subst (IsTableOf s.face) (sym q) c.requires.table) F e G
+          (drop (i + 1) all) c.loop-forest.next c.loop-forest.faulty c.in_ok-more.more.next
           c.in_ok-more.more.faults inv like c.in_ok-more.ensures.settles,
       (λ q. let a = c.loop-forest.invariant.1 q in let b = c.in_ok-more.ensures.quiet q in omega (arith, a, b, many)),
     )

@@ -13,7 +13,8 @@ use Rattle.sym_transfer.proofs.loading.loaded_known.Goals as goal
 pub with_known-requires : goal.with_known-requires
 with_known-requires c =
     record {
-      fits = datum_at_fits c.args.forest.now.face c.args.forest.now.forest c.known.ensures.sound c.args.root c.args.field
+      fits = datum_at_fits c.args.forest.now.face c.args.forest.now.forest c.known.ensures.sound c.args.root
+          c.args.field
           c.in-Some.datum c.requires.top (sym c.datum_of.ensures.value ∙ c.in-Some.is);
     }
 

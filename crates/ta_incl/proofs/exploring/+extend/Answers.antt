@@ -46,9 +46,11 @@ loop-next-preserved t c =
       | then-fits+in_ok-longer+in_ok-extend w ↦ (
           let g = rw (w.as_slice.ensures, w.in_ok-longer.ensures) at w.in_ok-extend.ensures.covers in
           rw w.added-is (record {
-            widens = widens_more c.args.orders.now.left _ c.args.found.now c.args.added.now c.loop-next.added w.extend.new.added
+            widens = widens_more c.args.orders.now.left _ c.args.found.now c.args.added.now c.loop-next.added
+                w.extend.new.added
                 c.loop-next.invariant.widens w.in_ok-extend.ensures.widens;
-            covers = next_push c.args.found.now c.args.rule.now c.args.from.now c.args.right.now c.args.orders.now c.args.turn.now _
+            covers = next_push c.args.found.now c.args.rule.now c.args.from.now c.args.right.now c.args.orders.now
+                c.args.turn.now _
                 c.loop-next.added w.extend.new.added c.loop-next.next c.loop-next.invariant.covers
                 w.in_ok-extend.ensures.widens g;
           }))
@@ -56,7 +58,8 @@ loop-next-preserved t c =
           let late = rw c.len-in-loop-next.ensures at (c.fits.ensures.late w.if-fits.false) in
           record {
             widens = c.loop-next.invariant.widens;
-            covers = next_skip c.args.found.now c.args.rule.now c.args.from.now c.args.right.now c.args.orders.now c.args.turn.now _
+            covers = next_skip c.args.found.now c.args.rule.now c.args.from.now c.args.right.now c.args.orders.now
+                c.args.turn.now _
                 c.loop-next.next c.at-state.result.now c.index-found-next.result c.loop-next.invariant.covers
                 c.at-state.ensures at late;
           })

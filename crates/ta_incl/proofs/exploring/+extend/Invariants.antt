@@ -8,7 +8,8 @@ decreases-extend l = length l.rule.now.children - length l.from.now
 
 abbrev pub invariant-loop-next : goal.invariant-loop-next
 invariant-loop-next l = record {
-  widens : Widens l.orders.left (λ f. IsFrom l.right l.found l.place l.rule f × HasUnder l.right l.orders.right f) l.found
+  widens : Widens l.orders.left
+      (λ f. IsFrom l.right l.found l.place l.rule f × HasUnder l.right l.orders.right f) l.found
       l.initial.added l.added;
   covers : CoversNext l.right l.orders l.found l.turn (l.found ++ l.added) l.rule l.from l.next;
 }

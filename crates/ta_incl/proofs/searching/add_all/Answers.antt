@@ -22,7 +22,8 @@ returns-clause-search c =
     c.in_ok-append-2.ensures.ok c.requires.added
     (taken_more c.args.search.now.found c.args.added c.append-2.new.self c.args.search.now.taken c.append.new.self marks
     c.in_ok-append-2.ensures.ok c.requires.search.taken) lasting
-    (fails_from c.args.left.now.roots c.args.right.now.roots c.args.added c.failing.result c.is_some-failed.result failing
+    (fails_from c.args.left.now.roots c.args.right.now.roots c.args.added c.failing.result c.is_some-failed.result
+    failing
     c.is_some-failed.ensures)
 
 pub returns-clause-ready : goal.returns-clause-ready

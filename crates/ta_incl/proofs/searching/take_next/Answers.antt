@@ -4,7 +4,8 @@ use Rattle.fore_base.proofs.MarkLemmas.{count_set, count_within, marked_below}
 use Rattle.ta_incl.proofs.Lasting.{lasting_long}
 use Rattle.ta_incl.proofs.Searched.{explored_all, explored_failed, no_mark, taken_covers}
 use Rattle.ta_incl.proofs.searching.take_next.Goals as goal
-use Rattle.ta_incl.proofs.searching.take_next.Goals.{then-search-via-then-search, then-search-via-else-search+then-len-limit}
+use Rattle.ta_incl.proofs.searching.take_next.Goals.{then-search-via-then-search}
+use Rattle.ta_incl.proofs.searching.take_next.Goals.{then-search-via-else-search+then-len-limit}
 
 pub returns-then-search-clause-changes : goal.returns-then-search-clause-changes
 returns-then-search-clause-changes c = elim c.then-search.branch [

@@ -22,6 +22,7 @@ returns-clause-refines g c =
     (c.exchange-changed.ensures.differ e))
     (λ e. let s = c.exchange-changed.ensures.same e in (
       sym s,
-      settled c.args.states c.args._rules.now groups rows c.requires.proper c.requires.grouped c.requires.square next made
+      settled c.args.states c.args._rules.now groups rows c.requires.proper c.requires.grouped c.requires.square next
+          made
           s,
     )))

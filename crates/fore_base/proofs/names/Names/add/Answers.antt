@@ -14,7 +14,8 @@ invariant_of-self-in-Ok c =
     c.in_ok-push.ensures.ok ∙ ap (λ t. texts ++ t ∷ []) c.in_ok-copy.ensures in (
       subst IsNumbered (sym pushed) (numbered_push texts text c.self.invariant.0 absent room),
       subst (λ ts. AreFound (λ text. text.items) ts c.insert.new.self) (sym pushed)
-          (found_push (λ text. text.items) texts c.self.inside.numbers c.insert.new.self c.self.invariant.1 c.in_ok-key.key
+          (found_push (λ text. text.items) texts c.self.inside.numbers c.insert.new.self c.self.invariant.1
+          c.in_ok-key.key
           text c.len-number.result c.in_ok-key.ensures.items c.len-number.ensures c.in-Ok.ensures.updates),
     )
 
