@@ -7,10 +7,11 @@ use fore_base::list::List;
 use par_kit::crew::Crew;
 use par_kit::gate::Gate;
 
-/// How many rules the forests of a round have at least where threads are begun for it. To begin them and to wait for
-/// them takes up to 0.5 milliseconds, by the machine, and what is made of a forest some 0.02 for each rule: fewer rules
-/// than these are done by then.
-pub const ROUND_RULES: usize = 18;
+/// How many rules the forests of a round have at least, one with another, where threads are begun for it. What is made
+/// of a forest takes some 0.02 milliseconds for each rule; a thread takes 0.03 until it runs and is waited for, on a
+/// machine that has a processor for it, and many times that on one that has not, and it begins with nothing in its
+/// caches. Forests of fewer rules are done sooner on one thread.
+pub const NODE_RULES: usize = 12;
 
 /// How many rules a forest has at least where threads are begun to ask several nodes at once whether they cover it.
 /// Most of what is asked of two forests is known from the numbers of their components, so the limit is high; it was

@@ -5,7 +5,7 @@ ghost use Rattle.fix_engine.specs.inner.Rounds.{AreDues, IsRound, IsTakenRound};
 ghost use Rattle.fix_engine.specs.inner.Taking.{IsFront};
 ghost use Rattle.par_kit.specs.Crews.{IsJobs};
 
-use crate::crews::{ROUND_RULES, crew_for, rules_of_all};
+use crate::crews::{NODE_RULES, crew_for, rules_of_all};
 use crate::taking::{Taken, take_node};
 use fix_core::nodes::{Due, Nodes};
 use fix_successors::{EdgeImage, Task, images_of};
@@ -60,7 +60,8 @@ pub fn round_of<R: Threads + Sync, G: Gate>(
     let left = nodes.len() - at;
     let many = left.min(crew.jobs as u32);
     let dues = dues_of(task.alloc(), nodes, at, many)?;
-    let crew = crew_for(crew, rules_of_all(&dues), ROUND_RULES);
+    let least = dues.len().saturating_mul(NODE_RULES);
+    let crew = crew_for(crew, rules_of_all(&dues), least);
     make_all(
         task.rt(),
         task.alloc(),
