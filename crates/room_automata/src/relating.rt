@@ -1,14 +1,12 @@
 // Kinds of rows on simulations and inclusions.
 //
 // - `simulation JOBS | AUTOMATON`: the number of its states, and the pairs of its greatest downward simulation, of
-// which
-//   the second state simulates the first. It is computed by 1 or 64 jobs.
-// - `upward | AUTOMATON`, `upward alone | AUTOMATON`: the same of its greatest upward simulation by that one, by 64 jobs
-//   and without a crew.
+//   which the second state simulates the first. It is computed by 1 or 64 jobs.
+// - `upward | AUTOMATON`, `upward alone | AUTOMATON`: the same of its greatest upward simulation by that one, by 64
+//   jobs and without a crew.
 // - `included | AUTOMATON | AUTOMATON`: whether each tree of the first is one of the second.
 // - `missing | AUTOMATON | AUTOMATON | ..`: for the tree that shows that the second has not all trees of the first,
-// which
-//   of the automata accept it, a for the first; none where the second has all.
+//   which of the automata accept it, a for the first; none where the second has all.
 // - `pairs | AUTOMATON | AUTOMATON`: what shows that the second has all trees of the first: a state of the first with a
 //   set of states of the second, each; none where it has not all.
 
