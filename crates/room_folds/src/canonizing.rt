@@ -16,7 +16,7 @@ use fa_unfold::{can_unfold, unfold};
 use fore_base::list::List;
 use par_kit::crew::Crew;
 use par_kit::gate::NoGate;
-use row_forests::{forest_of, letters};
+use row_forests::{boxed_over, letters};
 use std::alloc::Global;
 use std::thread::Threads;
 
@@ -59,11 +59,8 @@ fn canonical_over<R: Threads + Sync>(
     text: &str,
     table: &BoxTable,
 ) -> Result<List<Sound>> {
-    let forest = forest_of(alloc, text)?;
-    match Sound::make(alloc, &forest, table.face())? {
-        Some(made) => canonical_folded(rt, alloc, &made, table),
-        None => bail!("not sound"),
-    }
+    let forest = boxed_over(alloc, table.face(), text)?;
+    canonical_folded(rt, alloc, &forest, table)
 }
 
 // The canonical forms of the forest after all folds, where none of its members leaks.

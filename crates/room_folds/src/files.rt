@@ -12,6 +12,7 @@
 use anyhow::{Result, bail};
 use fa_core::table::BoxTable;
 use fa_text::read_boxes;
+use fore_base::shape::Shapes;
 use fore_base::text::Text;
 use row_forests::face;
 use std::alloc::Global;
@@ -73,11 +74,19 @@ pub fn table_of(alloc: Global, names: &str) -> Result<BoxTable> {
     for name in names.split(' ') {
         text.put(box_of(name)?.as_bytes())?;
     }
+    read(alloc, &text)
+}
+
+fn read(alloc: Global, text: &Text) -> Result<BoxTable> {
+    let face = face(alloc)?;
+    read_over(alloc, text, &face.shapes)
+}
+
+fn read_over(alloc: Global, text: &Text, shapes: &Shapes) -> Result<BoxTable> {
     if text.len() > FILE_BYTES {
         bail!("a long file");
     }
-    let face = face(alloc)?;
-    match read_boxes(alloc, text.as_slice(), &face.shapes) {
+    match read_boxes(alloc, text.as_slice(), shapes) {
         Ok(table) => Ok(table),
         Err(_) => bail!("no file of boxes"),
     }

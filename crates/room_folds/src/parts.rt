@@ -7,7 +7,7 @@ use fa_core::table::BoxTable;
 use fa_fold::is_within;
 use fa_part::{is_site, part};
 use fa_sound::Sound;
-use row_forests::{forest_of, letter};
+use row_forests::{boxed_over, letter};
 use std::alloc::Global;
 
 // Where an edge of a box could stand.
@@ -29,11 +29,18 @@ pub fn part_letter(
 ) -> Result<String> {
     let site = site_of(head)?;
     let table = table_of(alloc, boxes)?;
-    let forest = forest_of(alloc, forest)?;
-    match Sound::make(alloc, &forest, table.face())? {
-        Some(made) => letter_at(alloc, &made, &table, site, wanted),
-        None => bail!("not sound"),
-    }
+    letter_over(alloc, forest, &table, site, wanted)
+}
+
+fn letter_over(
+    alloc: Global,
+    text: &str,
+    table: &BoxTable,
+    site: Site,
+    wanted: &[&str],
+) -> Result<String> {
+    let forest = boxed_over(alloc, table.face(), text)?;
+    letter_at(alloc, &forest, table, site, wanted)
 }
 
 fn letter_at(
@@ -56,11 +63,12 @@ fn letter_at(
 pub fn within_answer(alloc: Global, head: &str, forest: &str, boxes: &str) -> Result<String> {
     let site = site_of(head)?;
     let table = table_of(alloc, boxes)?;
-    let forest = forest_of(alloc, forest)?;
-    match Sound::make(alloc, &forest, table.face())? {
-        Some(made) => answer_at(alloc, &made, &table, site),
-        None => bail!("not sound"),
-    }
+    answer_over(alloc, forest, &table, site)
+}
+
+fn answer_over(alloc: Global, text: &str, table: &BoxTable, site: Site) -> Result<String> {
+    let forest = boxed_over(alloc, table.face(), text)?;
+    answer_at(alloc, &forest, table, site)
 }
 
 fn answer_at(alloc: Global, forest: &Sound, table: &BoxTable, site: Site) -> Result<String> {

@@ -14,7 +14,7 @@ use fa_text::read_boxes;
 use fore_base::shape::Shapes;
 use fore_base::store::Store;
 use fore_base::text::Text;
-use row_forests::{face, forest_of};
+use row_forests::{boxed_over, face, forest_of};
 use std::alloc::Global;
 
 // No file of these rows is as long.
@@ -53,11 +53,8 @@ fn store_of(alloc: Global, forest: &str, boxes: &[&str]) -> Result<Store> {
 }
 
 fn member_over(alloc: Global, text: &str, table: &BoxTable) -> Result<Store> {
-    let forest = forest_of(alloc, text)?;
-    match Sound::make(alloc, &forest, table.face())? {
-        Some(made) => Ok(sample(alloc, &made, table)?),
-        None => bail!("not sound"),
-    }
+    let forest = boxed_over(alloc, table.face(), text)?;
+    Ok(sample(alloc, &forest, table)?)
 }
 
 // boxed-signatures: the signatures of all states.
@@ -67,11 +64,8 @@ pub fn signatures(alloc: Global, forest: &str, boxes: &[&str]) -> Result<String>
 }
 
 fn signatures_over(alloc: Global, text: &str, face: &Face) -> Result<String> {
-    let forest = forest_of(alloc, text)?;
-    match Sound::make(alloc, &forest, face)? {
-        Some(made) => signatures_text(alloc, &made),
-        None => bail!("not sound"),
-    }
+    let forest = boxed_over(alloc, face, text)?;
+    signatures_text(alloc, &forest)
 }
 
 // boxed-parts: which of the forests behind the boxes are the parts of the forest.
@@ -88,11 +82,8 @@ pub fn canonical(alloc: Global, forest: &str, boxes: &[&str]) -> Result<String> 
 }
 
 fn canonical_over(alloc: Global, text: &str, face: &Face) -> Result<String> {
-    let forest = forest_of(alloc, text)?;
-    match Sound::make(alloc, &forest, face)? {
-        Some(made) => canonical_words(alloc, &made),
-        None => bail!("not sound"),
-    }
+    let forest = boxed_over(alloc, face, text)?;
+    canonical_words(alloc, &forest)
 }
 
 fn canonical_words(alloc: Global, forest: &Sound) -> Result<String> {

@@ -4,11 +4,11 @@ ghost use Rattle.std.specs.Prelude.{◌≡◌};
 
 use crate::boxed::table_of;
 use crate::unfolding::number_at;
-use anyhow::{Context, Result, bail};
+use anyhow::{Context, Result};
 use fa_core::table::BoxTable;
 use fa_opening::{can_open, open_edges};
 use fa_sound::Sound;
-use row_forests::{forest_of, letters};
+use row_forests::{boxed_over, letters};
 use std::alloc::Global;
 
 // opened ROOT FIELD: which of the forests behind the boxes those are in which no box edge covers the field of the root
@@ -29,11 +29,8 @@ fn opened_over(
     field: u32,
     wanted: &[&str],
 ) -> Result<String> {
-    let forest = forest_of(alloc, text)?;
-    match Sound::make(alloc, &forest, table.face())? {
-        Some(made) => opened_at(alloc, &made, table, root, field, wanted),
-        None => bail!("not sound"),
-    }
+    let forest = boxed_over(alloc, table.face(), text)?;
+    opened_at(alloc, &forest, table, root, field, wanted)
 }
 
 fn opened_at(

@@ -3,11 +3,11 @@
 ghost use Rattle.std.specs.Prelude.{◌≡◌};
 
 use crate::boxed::table_of;
-use anyhow::{Context, Result, bail};
+use anyhow::{Context, Result};
 use fa_core::table::BoxTable;
 use fa_sound::Sound;
 use fa_unfold::{can_unfold, unfold};
-use row_forests::{forest_of, letters};
+use row_forests::{boxed_over, letters};
 use std::alloc::Global;
 
 // unfolded ROOT SLOT: which of the forests behind the boxes those are in which the edge at the slot of the root is
@@ -34,11 +34,8 @@ fn unfolded_over(
     slot: u32,
     wanted: &[&str],
 ) -> Result<String> {
-    let forest = forest_of(alloc, text)?;
-    match Sound::make(alloc, &forest, table.face())? {
-        Some(made) => unfolded_at(alloc, &made, table, root, slot, wanted),
-        None => bail!("not sound"),
-    }
+    let forest = boxed_over(alloc, table.face(), text)?;
+    unfolded_at(alloc, &forest, table, root, slot, wanted)
 }
 
 fn unfolded_at(

@@ -22,7 +22,7 @@ use fore_base::shape::Shapes;
 use fore_base::text::Text;
 use par_kit::crew::Crew;
 use par_kit::gate::NoGate;
-use row_forests::{face, forest_of};
+use row_forests::{boxed_over, face};
 use std::alloc::Global;
 use std::thread::Threads;
 use sym_step::posting::post;
@@ -110,11 +110,8 @@ fn stepped<R: Threads + Sync>(
     text: &str,
     table: &BoxTable,
 ) -> Result<Post> {
-    let forest = forest_of(alloc, text)?;
-    match Sound::make(alloc, &forest, table.face())? {
-        Some(made) => passed(rt, alloc, &made, edge, table),
-        None => bail!("not sound"),
-    }
+    let forest = boxed_over(alloc, table.face(), text)?;
+    passed(rt, alloc, &forest, edge, table)
 }
 
 fn passed<R: Threads + Sync>(
