@@ -31,7 +31,9 @@ mod shelves;
 mod tables;
 mod texts;
 
-use crate::calling::{Ends, STEADY, are_alike, call, call_over, shown, shown_least, shown_until};
+use crate::calling::{
+    Ends, STEADY, Told, are_alike, call, call_over, shown, shown_least, shown_until,
+};
 use crate::shelves::ChangingShelf;
 use crate::tables::{Varied, noted, prefixes, puts, replaced};
 use crate::texts::main_of;
@@ -138,11 +140,11 @@ fn with_boxes<R: Threads + Sync>(
     others: &[&str],
 ) -> Result<String> {
     let (read, words) = words.split_first().context("no number of a read")?;
-    let boxes = read_text(alloc, others.first().context("no file of boxes")?)?;
     let ends = Ends {
         read: read.parse::<u64>()?,
         ..STEADY
     };
+    let boxes = read_text(alloc, others.first().context("no file of boxes")?)?;
     let told = call(
         rt,
         alloc,
@@ -164,17 +166,51 @@ fn alike<R: Threads + Sync>(
     file: &Text,
     others: &[&str],
 ) -> Result<String> {
-    let boxes = read_text(alloc, others.first().context("no file of boxes")?)?;
-    let last = others.get(1).context("no last text")?;
-    let others = others.get(2).context("no second words")?;
+    let (boxes, others) = others.split_first().context("no file of boxes")?;
+    let (last, others) = others.split_first().context("no last text")?;
+    let others = others.first().context("no second words")?;
     let others: Vec<&str> = others.split(' ').collect(alloc)?;
-    let boxes = Some(boxes.as_slice());
-    let told = call(rt, alloc, words, file.as_slice(), boxes, STEADY)?;
-    let other = call(rt, alloc, others.as_slice(), file.as_slice(), boxes, STEADY)?;
-    if !are_alike(&told, &other) {
+    let boxes = read_text(alloc, boxes)?;
+    let calls = Calls {
+        file: file.as_slice(),
+        boxes: boxes.as_slice(),
+        others: others.as_slice(),
+        last,
+    };
+    alike_over(rt, alloc, words, calls)
+}
+
+/// What both calls are over, the words of the second, and the text before which what is shown ends.
+#[derive(Clone, Copy)]
+struct Calls<'a> {
+    file: &'a [u8],
+    boxes: &'a [u8],
+    others: &'a [&'a str],
+    last: &'a str,
+}
+
+fn alike_over<R: Threads + Sync>(
+    rt: &R,
+    alloc: Global,
+    words: &[&str],
+    calls: Calls<'_>,
+) -> Result<String> {
+    let told = call(rt, alloc, words, calls.file, Some(calls.boxes), STEADY)?;
+    alike_to(rt, alloc, &told, calls)
+}
+
+fn alike_to<R: Threads + Sync>(
+    rt: &R,
+    alloc: Global,
+    told: &Told,
+    calls: Calls<'_>,
+) -> Result<String> {
+    let boxes = Some(calls.boxes);
+    let other = call(rt, alloc, calls.others, calls.file, boxes, STEADY)?;
+    if !are_alike(told, &other) {
         bail!("two calls that tell different things");
     }
-    shown_until(alloc, &told, last)
+    shown_until(alloc, told, calls.last)
 }
 
 fn changing<R: Threads + Sync>(

@@ -13,25 +13,24 @@ use std::alloc::Global;
 /// edges: the edges and loop heads of the graph of a body.
 pub fn put_edges(alloc: Global, out: &mut Text, mode: MallocMode, body: &[u8]) -> Result<()> {
     let graph = graph_of(alloc, mode, body)?;
-    put_graph(out, &graph)?;
-    Ok(())
+    put_graph(out, &graph)
 }
 
-fn put_graph(out: &mut Text, graph: &Graph) -> Mem<()> {
+fn put_graph(out: &mut Text, graph: &Graph) -> Result<()> {
     for edge in graph.edges.as_slice() {
         put_edge(out, edge)?;
     }
-    put_heads(out, graph)
+    put_heads(out, graph)?;
+    Ok(())
 }
 
 /// sizes: how many locations, edges and variables the graph of a body has, and whether it has loops.
 pub fn put_sizes(alloc: Global, out: &mut Text, mode: MallocMode, body: &[u8]) -> Result<()> {
     let graph = graph_of(alloc, mode, body)?;
-    put_numbers(out, &graph)?;
-    Ok(())
+    put_numbers(out, &graph)
 }
 
-fn put_numbers(out: &mut Text, graph: &Graph) -> Mem<()> {
+fn put_numbers(out: &mut Text, graph: &Graph) -> Result<()> {
     put_var(out, b"locations ", graph.locations)?;
     out.put(b" edges ")?;
     out.put_number(graph.edges.len() as u64)?;
@@ -47,10 +46,14 @@ fn put_numbers(out: &mut Text, graph: &Graph) -> Mem<()> {
 /// ended, the empty list with them.
 pub fn put_prefixes(alloc: Global, out: &mut Text, mode: MallocMode, body: &[u8]) -> Result<()> {
     let graph = graph_of(alloc, mode, body)?;
+    put_prefixes_of(alloc, out, &graph)
+}
+
+fn put_prefixes_of(alloc: Global, out: &mut Text, graph: &Graph) -> Result<()> {
     if !graph.is_loop_free() {
         bail!("a loop");
     }
-    out.put_number(count_prefixes(alloc, &graph)?)?;
+    out.put_number(count_prefixes(alloc, graph)?)?;
     Ok(())
 }
 

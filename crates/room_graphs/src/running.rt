@@ -175,14 +175,18 @@ fn given(letter: u8) -> Result<Option<u8>> {
 /// 1, 2, 0; or else the first choices on which they do not, and how both come out.
 pub fn put_alike(alloc: Global, out: &mut Text, mode: MallocMode, body: &[u8]) -> Result<()> {
     let program = program_of(alloc, GRAPH_HEAD, body)?;
-    let graph = lower(alloc, &program, mode)?;
+    put_alike_to(alloc, out, mode, &program)
+}
+
+/// Puts whether the graph of the program comes out as the program does.
+fn put_alike_to(alloc: Global, out: &mut Text, mode: MallocMode, program: &Typed) -> Result<()> {
+    let graph = lower(alloc, program, mode)?;
     let pair = Pair {
-        program: &program,
+        program,
         mode,
         graph: &graph,
     };
-    put_compared(alloc, out, pair)?;
-    Ok(())
+    put_compared(alloc, out, pair)
 }
 
 /// A program whose `malloc` has a mode, and its graph.
@@ -193,7 +197,7 @@ struct Pair<'a> {
     graph: &'a Graph,
 }
 
-fn put_compared(alloc: Global, out: &mut Text, pair: Pair) -> Mem<()> {
+fn put_compared(alloc: Global, out: &mut Text, pair: Pair) -> Result<()> {
     if agree(alloc, out, pair)? && agree_on(alloc, out, pair, &[1, 2, 0])? {
         out.put(b"alike")?;
     }
