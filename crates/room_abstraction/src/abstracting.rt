@@ -34,9 +34,24 @@ pub fn answer_on_quotients<R: Threads + Sync>(
         bail!("no height");
     }
     let forest = canonical(rt, alloc, first)?;
+    answer_on(rt, alloc, kind, &forest, height, wanted)
+}
+
+fn answer_on<R: Threads + Sync>(
+    rt: &R,
+    alloc: Global,
+    kind: &str,
+    forest: &Sound,
+    height: u32,
+    wanted: &[&str],
+) -> Result<String>
+    requires canonical { IsCanonical forest.now.face forest.now.forest }
+    requires reduced { Reduced forest.now.forest }
+    requires height { 1 ≤ height }
+{
     match kind {
-        "quotient" => quotient(alloc, &forest, height, wanted),
-        "abstracted" => reduced_quotient(rt, alloc, &forest, height, wanted),
+        "quotient" => quotient(alloc, forest, height, wanted),
+        "abstracted" => reduced_quotient(rt, alloc, forest, height, wanted),
         _ => bail!("no such kind"),
     }
 }
@@ -45,12 +60,19 @@ fn canonical<R: Threads + Sync>(rt: &R, alloc: Global, text: &str) -> Result<Sou
     ensures canonical { IfOk result (λ s. IsCanonical s.face s.forest) }
     ensures reduced { IfOk result (λ s. Reduced s.forest) }
 {
+    let forest = boxed(alloc, text)?;
+    reduced(rt, alloc, &forest)
+}
+
+fn reduced<R: Threads + Sync>(rt: &R, alloc: Global, forest: &Sound) -> Result<Sound>
+    ensures canonical { IfOk result (λ s. IsCanonical s.face s.forest) }
+    ensures reduced { IfOk result (λ s. Reduced s.forest) }
+{
     let crew = Crew {
         jobs: 1,
         gate: &NoGate,
     };
-    let forest = boxed(alloc, text)?;
-    let made = reduce_forest(rt, alloc, &forest, &crew)?;
+    let made = reduce_forest(rt, alloc, forest, &crew)?;
     if !is_canonical(alloc, &made)? {
         bail!("not canonical");
     }
@@ -92,6 +114,10 @@ fn reduced_quotient<R: Threads + Sync>(
         gate: &NoGate,
     };
     let made = abstracted(rt, alloc, forest, height, &crew)?;
-    let letter = letter(alloc, made.forest(), wanted)?;
+    letter_text(alloc, made.forest(), wanted)
+}
+
+fn letter_text(alloc: Global, made: &Forest, wanted: &[&str]) -> Result<String> {
+    let letter = letter(alloc, made, wanted)?;
     Ok(format!(in alloc; "{letter}")?)
 }

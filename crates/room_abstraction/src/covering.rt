@@ -26,9 +26,20 @@ pub fn answer_on_covers<R: Threads + Sync>(
     others: &[&str],
 ) -> Result<String> {
     let face = face(alloc)?;
+    answer_over(rt, alloc, &face, kind, first, others)
+}
+
+fn answer_over<R: Threads + Sync>(
+    rt: &R,
+    alloc: Global,
+    face: &Face,
+    kind: &str,
+    first: &str,
+    others: &[&str],
+) -> Result<String> {
     match kind {
-        "covers" => cover(alloc, &face, first, others),
-        "first_cover" => first_place(rt, alloc, &face, first, others),
+        "covers" => cover(alloc, face, first, others),
+        "first_cover" => first_place(rt, alloc, face, first, others),
         _ => bail!("no such kind"),
     }
 }
@@ -42,8 +53,14 @@ fn cover(alloc: Global, face: &Face, first: &str, others: &[&str]) -> Result<Str
 
 fn does_cover(alloc: Global, face: &Face, wide: &str, narrow: &str) -> Result<bool> {
     let wide = sound_over(alloc, face, wide)?;
+    is_covered(alloc, face, &wide, narrow)
+}
+
+fn is_covered(alloc: Global, face: &Face, wide: &Sound, narrow: &str) -> Result<bool>
+    requires { wide.now.face ≡ face.now }
+{
     let narrow = sound_over(alloc, face, narrow)?;
-    Ok(covers(alloc, &wide, &narrow)?)
+    Ok(covers(alloc, wide, &narrow)?)
 }
 
 fn first_place<R: Threads + Sync>(

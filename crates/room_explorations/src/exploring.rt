@@ -43,8 +43,20 @@ fn explored_texts<R: Threads + Sync>(
 ) -> Result<Explored> {
     let (text, boxes) = texts.split_first().context("no graph")?;
     let graph = graph_of(alloc, text)?;
-    let table = table_for(alloc, &graph, boxes)?;
-    explored(rt, alloc, &graph, &table, height, budget, jobs)
+    explored_over(rt, alloc, &graph, boxes, height, budget, jobs)
+}
+
+fn explored_over<R: Threads + Sync>(
+    rt: &R,
+    alloc: Global,
+    graph: &Graph,
+    boxes: &[&str],
+    height: u32,
+    budget: u32,
+    jobs: usize,
+) -> Result<Explored> {
+    let table = table_for(alloc, graph, boxes)?;
+    explored(rt, alloc, graph, &table, height, budget, jobs)
 }
 
 // The boxes that the text names, over the structs of the graph; without a text there are none.

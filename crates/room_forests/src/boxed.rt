@@ -8,6 +8,7 @@ use crate::canonizing::{made_letters, turned_forest};
 use crate::deciding::words;
 use crate::roots::{dropped_text, exchanged_text, leaking_text, merged_letters};
 use anyhow::{Result, bail};
+use fa_core::forest::Forest;
 use fa_sound::Sound;
 use row_forests::{boxed, face_with_boxes};
 use std::alloc::Global;
@@ -62,9 +63,15 @@ pub fn turned_letters<R: Threads + Sync>(
 fn turned(alloc: Global, text: &str) -> Result<Sound>
     ensures { IfOk result (λ s. Every IsGiving s.face.boxes) }
 {
-    let face = face_with_boxes(alloc)?;
     let forest = turned_forest(alloc, text)?;
-    match Sound::make(alloc, &forest, &face)? {
+    over_boxes(alloc, &forest)
+}
+
+fn over_boxes(alloc: Global, forest: &Forest) -> Result<Sound>
+    ensures { IfOk result (λ s. Every IsGiving s.face.boxes) }
+{
+    let face = face_with_boxes(alloc)?;
+    match Sound::make(alloc, forest, &face)? {
         Some(made) => Ok(made),
         None => bail!("not sound"),
     }

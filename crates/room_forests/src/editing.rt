@@ -18,10 +18,14 @@ use ta_core::single::has_one_top;
 // boxed-leaf ROOT FIELD: the leaf in the field, or that it is not one leaf that is shown there.
 pub fn leaf_text(alloc: Global, text: &str, root: u32, field: u32) -> Result<String> {
     let forest = boxed(alloc, text)?;
-    if !is_plain_at(&forest, root, field) {
+    leaf_at(alloc, &forest, root, field)
+}
+
+fn leaf_at(alloc: Global, forest: &Sound, root: u32, field: u32) -> Result<String> {
+    if !is_plain_at(forest, root, field) {
         return refused(alloc);
     }
-    put_leaf(alloc, leaf_of(&forest, root, field))
+    put_leaf(alloc, leaf_of(forest, root, field))
 }
 
 fn put_leaf(alloc: Global, leaf: Option<Target>) -> Result<String> {
@@ -42,12 +46,25 @@ pub fn set_letter(
     leaf: &str,
     wanted: &[&str],
 ) -> Result<String> {
-    let forest = boxed(alloc, text)?;
     let leaf = leaf_from(alloc, leaf)?;
-    if !is_plain_at(&forest, root, field) {
+    let forest = boxed(alloc, text)?;
+    set_in(alloc, &forest, root, field, leaf, wanted)
+}
+
+fn set_in(
+    alloc: Global,
+    forest: &Sound,
+    root: u32,
+    field: u32,
+    leaf: Target,
+    wanted: &[&str],
+) -> Result<String>
+    requires giving { Every IsGiving forest.now.face.boxes }
+{
+    if !is_plain_at(forest, root, field) {
         return refused(alloc);
     }
-    set_at(alloc, &forest, root, field, leaf, wanted)
+    set_at(alloc, forest, root, field, leaf, wanted)
 }
 
 // A leaf is written as a variable.
@@ -102,9 +119,20 @@ pub fn dated_letter(
     datum: &str,
     wanted: &[&str],
 ) -> Result<String> {
-    let forest = boxed(alloc, text)?;
     let number = datum.parse::<u8>()?;
-    match dated(alloc, &forest, root, field, number)? {
+    let forest = boxed(alloc, text)?;
+    dated_in(alloc, &forest, root, field, number, wanted)
+}
+
+fn dated_in(
+    alloc: Global,
+    forest: &Sound,
+    root: u32,
+    field: u32,
+    number: u8,
+    wanted: &[&str],
+) -> Result<String> {
+    match dated(alloc, forest, root, field, number)? {
         Some(made) => letter_of(alloc, &made, wanted),
         None => refused(alloc),
     }
@@ -141,12 +169,16 @@ pub fn added_letter(
     wanted: &[&str],
 ) -> Result<String> {
     let forest = boxed(alloc, text)?;
+    added_to(alloc, &forest, to, shape, wanted)
+}
+
+fn added_to(alloc: Global, forest: &Sound, to: u32, shape: u32, wanted: &[&str]) -> Result<String> {
     if (to as usize) >= forest.forest().vars.len() {
         bail!("no such variable");
     }
     if (shape as usize) >= forest.face().shapes.structs.len() {
         bail!("no such struct");
     }
-    let made = with_cell(alloc, &forest, to, shape)?;
+    let made = with_cell(alloc, forest, to, shape)?;
     letter_of(alloc, &made, wanted)
 }

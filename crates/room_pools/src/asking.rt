@@ -34,12 +34,36 @@ fn firsts_over<R: Threads + Sync>(
     texts: &[&str],
 ) -> Result<String> {
     let forests = sounds_over(alloc, face, texts)?;
+    firsts_of(rt, alloc, face, forests.as_slice())
+}
+
+fn firsts_of<R: Threads + Sync>(
+    rt: &R,
+    alloc: Global,
+    face: &Face,
+    forests: &[Sound],
+) -> Result<String>
+    requires faces { Every (λ s. s.face ≡ face.now) forests.now }
+{
     let mut pool = Pool::new(alloc);
-    let nodes = keep_sounds(alloc, &mut pool, forests.as_slice())?;
-    if !are_kept_in(&pool, nodes.as_slice()) {
+    let nodes = keep_sounds(alloc, &mut pool, forests)?;
+    firsts_in(rt, alloc, face, &pool, nodes.as_slice(), forests)
+}
+
+fn firsts_in<R: Threads + Sync>(
+    rt: &R,
+    alloc: Global,
+    face: &Face,
+    pool: &Pool,
+    nodes: &[Kept],
+    forests: &[Sound],
+) -> Result<String>
+    requires faces { Every (λ s. s.face ≡ face.now) forests.now }
+{
+    if !are_kept_in(pool, nodes) {
         bail!("no such number");
     }
-    asked_twice(rt, alloc, face, &pool, nodes.as_slice(), forests.as_slice())
+    asked_twice(rt, alloc, face, pool, nodes, forests)
 }
 
 fn asked_twice<R: Threads + Sync>(

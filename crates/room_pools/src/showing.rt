@@ -18,17 +18,20 @@ use std::alloc::Global;
 pub fn numbers(alloc: Global, texts: &[&str]) -> Result<String> {
     let mut pool = Pool::new(alloc);
     let all = keep_all(alloc, &mut pool, texts)?;
+    numbers_text(alloc, all.as_slice(), pool.len())
+}
+
+fn numbers_text(alloc: Global, all: &[Kept], count: usize) -> Result<String> {
     let mut text = String::new(alloc);
-    for kept in all.as_slice() {
-        put_parts(alloc, &mut text, kept)?;
+    for kept in all {
+        put_parts(&mut text, kept)?;
         text.push_str("; ")?;
     }
-    let count = format!(in alloc; "{}", pool.len())?;
-    text.push_str(count.as_str())?;
+    write!(text, "{count}")?;
     Ok(text)
 }
 
-fn put_parts(alloc: Global, text: &mut String, kept: &Kept) -> Result<()> {
+fn put_parts(text: &mut String, kept: &Kept) -> Result<()> {
     if kept.parts.is_empty() {
         text.push('-')?;
     }
@@ -36,8 +39,7 @@ fn put_parts(alloc: Global, text: &mut String, kept: &Kept) -> Result<()> {
         if place > 0 {
             text.push(' ')?;
         }
-        let number = format!(in alloc; "{part}")?;
-        text.push_str(number.as_str())?;
+        write!(text, "{part}")?;
     }
     Ok(())
 }
@@ -65,8 +67,12 @@ fn shown(alloc: Global, pool: &Pool) -> Result<String> {
 pub fn first(alloc: Global, texts: &[&str]) -> Result<String> {
     let mut pool = Pool::new(alloc);
     let all = keep_all(alloc, &mut pool, texts)?;
-    let kept = all.as_slice().first().context("no forest")?;
-    let forest = read(alloc, &pool, kept)?;
+    first_of(alloc, &pool, all.as_slice())
+}
+
+fn first_of(alloc: Global, pool: &Pool, all: &[Kept]) -> Result<String> {
+    let kept = all.first().context("no forest")?;
+    let forest = read(alloc, pool, kept)?;
     text_of(alloc, &forest)
 }
 

@@ -38,7 +38,19 @@ fn turns_over<R: Threads + Sync>(
 fn taken<R: Threads + Sync>(rt: &R, alloc: Global, forests: &[Sound]) -> Result<String> {
     let mut pool = Pool::new(alloc);
     let mut memo = Memo::new(alloc);
-    let text = take_all(rt, alloc, &mut pool, &mut memo, forests)?;
+    taken_into(rt, alloc, &mut pool, &mut memo, forests)
+}
+
+fn taken_into<R: Threads + Sync>(
+    rt: &R,
+    alloc: Global,
+    pool: &mut Pool,
+    memo: &mut Memo,
+    forests: &[Sound],
+) -> Result<String>
+    requires { Agrees memo.old pool.old }
+{
+    let text = take_all(rt, alloc, pool, memo, forests)?;
     Ok(format!(in alloc; "{text}| {} {}", pool.len(), memo.len())?)
 }
 

@@ -1,6 +1,7 @@
 // Forests with box edges, over a file of boxes that `files` has by the names of the second text.
 
 use crate::files::file_of;
+use crate::judging::word_on;
 use crate::parting::letters_over;
 use crate::signing::signatures_text;
 use crate::stores::text_of_store;
@@ -29,10 +30,7 @@ pub fn judged(alloc: Global, forest: &str, boxes: &[&str]) -> Result<String> {
 
 fn word_over(alloc: Global, text: &str, table: &BoxTable) -> Result<&'static str> {
     let forest = forest_of(alloc, text)?;
-    match Sound::make(alloc, &forest, table.face())? {
-        Some(_) => Ok("yes"),
-        None => Ok("no"),
-    }
+    word_on(alloc, &forest, table.face())
 }
 
 // member: a member of the forest.

@@ -14,18 +14,19 @@ pub fn judged(alloc: Global, text: &str) -> Result<String> {
 
 fn word_of(alloc: Global, text: &str) -> Result<&'static str> {
     let forest = forest_of(alloc, text)?;
-    word_on(alloc, &forest)
+    plain_word(alloc, &forest)
 }
 
-fn word_on(alloc: Global, forest: &Forest) -> Result<&'static str> {
-    let face = face(alloc)?;
-    word(alloc, forest, &face)
-}
-
-fn word(alloc: Global, forest: &Forest, face: &Face) -> Result<&'static str> {
+fn plain_word(alloc: Global, forest: &Forest) -> Result<&'static str> {
     if !have_no_boxes(forest.autos.as_slice()) {
         bail!("a box edge");
     }
+    let face = face(alloc)?;
+    word_on(alloc, forest, &face)
+}
+
+/// Whether the forest is sound over the face, as a word.
+pub fn word_on(alloc: Global, forest: &Forest, face: &Face) -> Result<&'static str> {
     match Sound::make(alloc, forest, face)? {
         Some(_) => Ok("yes"),
         None => Ok("no"),

@@ -62,11 +62,37 @@ pub fn boxed_step<R: Threads + Sync>(
 ) -> Result<String> {
     let (first, others) = texts.split_first().context("no forest")?;
     let (boxes, wanted) = others.split_first().context("no boxes")?;
-    let edge = edge(alloc, 0, 1, what)?;
-    let face = face(alloc)?;
-    let table = table_of(alloc, boxes, &face.shapes)?;
-    let made = stepped(rt, alloc, &edge, first, &table)?;
+    let table = table_named(alloc, boxes)?;
+    told_over(rt, alloc, what, first, &table, wanted)
+}
+
+fn told_over<R: Threads + Sync>(
+    rt: &R,
+    alloc: Global,
+    what: &str,
+    text: &str,
+    table: &BoxTable,
+    wanted: &[&str],
+) -> Result<String> {
+    let made = made_over(rt, alloc, what, text, table)?;
     told(alloc, &made, wanted)
+}
+
+fn made_over<R: Threads + Sync>(
+    rt: &R,
+    alloc: Global,
+    what: &str,
+    text: &str,
+    table: &BoxTable,
+) -> Result<Post> {
+    let edge = edge(alloc, 0, 1, what)?;
+    stepped(rt, alloc, &edge, text, table)
+}
+
+// The boxes of the file of this name, over the structs of rows.
+fn table_named(alloc: Global, name: &str) -> Result<BoxTable> {
+    let face = face(alloc)?;
+    table_of(alloc, name, &face.shapes)
 }
 
 // The boxes of the file of this name, over the structs.

@@ -52,9 +52,14 @@ fn edited(alloc: Global, changes: &str) -> Result<Option<Sound>> {
 
 fn next(alloc: Global, forest: Option<Sound>, text: &str) -> Result<Option<Sound>> {
     match forest {
-        Some(forest) => changed(alloc, &forest, change_of(text)?),
+        Some(forest) => changed_by(alloc, &forest, text),
         None => Ok(None),
     }
+}
+
+fn changed_by(alloc: Global, forest: &Sound, text: &str) -> Result<Option<Sound>> {
+    let change = change_of(text)?;
+    changed(alloc, forest, change)
 }
 
 fn empty(alloc: Global) -> Result<Sound> {

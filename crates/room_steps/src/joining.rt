@@ -28,7 +28,19 @@ pub fn join<R: Threads + Sync>(
     let count = count.parse::<usize>()?;
     let (given, others) = texts.split_at_checked(count).context("too few forests")?;
     let face = face_with_boxes(alloc)?;
-    let made = joined(rt, alloc, &face, given)?;
+    join_over(rt, alloc, &face, given, others)
+}
+
+fn join_over<R: Threads + Sync>(
+    rt: &R,
+    alloc: Global,
+    face: &Face,
+    given: &[&str],
+    others: &[&str],
+) -> Result<String>
+    requires { Every IsGiving face.now.boxes }
+{
+    let made = joined(rt, alloc, face, given)?;
     letters(alloc, made.as_slice(), others)
 }
 

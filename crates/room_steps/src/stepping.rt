@@ -30,9 +30,13 @@ pub fn step<R: Threads + Sync>(
     texts: &[&str],
 ) -> Result<String> {
     let (first, others) = texts.split_first().context("no forest")?;
-    let edge = edge(alloc, 0, 1, what)?;
-    let made = stepped(rt, alloc, &edge, first)?;
+    let made = made_by(rt, alloc, what, first)?;
     told(alloc, &made, others)
+}
+
+fn made_by<R: Threads + Sync>(rt: &R, alloc: Global, what: &str, text: &str) -> Result<Post> {
+    let edge = edge(alloc, 0, 1, what)?;
+    stepped(rt, alloc, &edge, text)
 }
 
 fn stepped<R: Threads + Sync>(rt: &R, alloc: Global, edge: &Edge, text: &str) -> Result<Post> {
