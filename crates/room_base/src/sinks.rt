@@ -7,7 +7,6 @@ use fore_base::text::Text;
 use fore_outside::mem_sink::MemSink;
 use fore_outside::sink::put_all;
 use fore_outside::stream_sink::StreamSink;
-use row_texts::put_between;
 use std::alloc::Global;
 use std::io;
 
