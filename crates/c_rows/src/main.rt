@@ -1,12 +1,8 @@
 //! Rows of C: its syntax, the whole front end, and the control graphs and runs of programs. The files of rows that the
 //! words name are read, and each row is answered by a line.
 //!
-//! Each room is a module, which says what its kinds of rows ask.
+//! Each room is a library, which says what its kinds of rows ask.
 #![tactic(auto)]
-
-mod front;
-mod graphs;
-mod syntax;
 
 use anyhow::{Result, bail};
 use row_kit::{Answers, answer_files};
@@ -26,9 +22,9 @@ impl Answers for Rooms {
         texts: &[&str],
     ) -> Result<String> {
         match room {
-            "syntax" => syntax::answer(alloc, head, texts),
-            "front" => front::answer(alloc, head, texts),
-            "graphs" => graphs::answer(alloc, head, texts),
+            "syntax" => room_syntax::answer(alloc, head, texts),
+            "front" => room_front::answer(alloc, head, texts),
+            "graphs" => room_graphs::answer(alloc, head, texts),
             _ => bail!("no such room"),
         }
     }

@@ -1,16 +1,8 @@
 //! Rows of forest automata: tree automata, forests of them, what is folded and kept of these, and the steps of an
 //! exploration. The files of rows that the words name are read, and each row is answered by a line.
 //!
-//! Each room is a module, which says what its kinds of rows ask.
+//! Each room is a library, which says what its kinds of rows ask.
 #![tactic(auto)]
-
-mod abstraction;
-mod automata;
-mod folds;
-mod forests;
-mod pools;
-mod sound;
-mod steps;
 
 use anyhow::{Result, bail};
 use row_kit::{Answers, answer_files};
@@ -30,13 +22,14 @@ impl Answers for Rooms {
         texts: &[&str],
     ) -> Result<String> {
         match room {
-            "automata" => automata::answer(rt, alloc, head, texts),
-            "forests" => forests::answer(rt, alloc, head, texts),
-            "sound" => sound::answer(alloc, head, texts),
-            "folds" => folds::answer(rt, alloc, head, texts),
-            "abstraction" => abstraction::answer(rt, alloc, head, texts),
-            "pools" => pools::answer(rt, alloc, head, texts),
-            "steps" => steps::answer(rt, alloc, head, texts),
+            "automata" => room_automata::answer(rt, alloc, head, texts),
+            "forests" => room_forests::answer(rt, alloc, head, texts),
+            "sound" => room_sound::answer(alloc, head, texts),
+            "folds" => room_folds::answer(rt, alloc, head, texts),
+            "abstraction" => room_abstraction::answer(rt, alloc, head, texts),
+            "pools" => room_pools::answer(rt, alloc, head, texts),
+            "steps" => room_steps::answer(rt, alloc, head, texts),
+            "explorations" => room_explorations::answer(rt, alloc, head, texts),
             _ => bail!("no such room"),
         }
     }

@@ -1,15 +1,8 @@
 //! Rows of the program: what it stands on, its words, files of boxes and generated programs, whole calls of it, and the
 //! pieces in which they work. The files of rows that the words name are read, and each row is answered by a line.
 //!
-//! Each room is a module, which says what its kinds of rows ask.
+//! Each room is a library, which says what its kinds of rows ask.
 #![tactic(auto)]
-
-mod base;
-mod boxes;
-mod calls;
-mod crews;
-mod generated;
-mod words;
 
 use anyhow::{Result, bail};
 use row_kit::{Answers, answer_files};
@@ -33,12 +26,12 @@ impl<'r, F: Files> Answers for Rooms<'r, F> {
         texts: &[&str],
     ) -> Result<String> {
         match room {
-            "base" => base::answer(self.files, alloc, head, texts),
-            "words" => words::answer(alloc, head, texts),
-            "boxes" => boxes::answer(alloc, head, texts),
-            "generated" => generated::answer(alloc, head, texts),
-            "calls" => calls::answer(rt, alloc, head, texts),
-            "crews" => crews::answer(rt, alloc, head, texts),
+            "base" => room_base::answer(self.files, alloc, head, texts),
+            "words" => room_words::answer(alloc, head, texts),
+            "boxes" => room_boxes::answer(alloc, head, texts),
+            "generated" => room_generated::answer(alloc, head, texts),
+            "calls" => room_calls::answer(rt, alloc, head, texts),
+            "crews" => room_crews::answer(rt, alloc, head, texts),
             _ => bail!("no such room"),
         }
     }

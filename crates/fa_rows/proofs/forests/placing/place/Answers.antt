@@ -1,4 +1,0 @@
-use Rattle.fa_rows.proofs.forests.placing.place.Goals as goal
-
-pub place_roots-requires-clause-reached : goal.place_roots-requires-clause-reached
-place_roots-requires-clause-reached c = rw c.in-None.is at c.in_ok-leak.ensures.root

@@ -1,5 +1,0 @@
-use Rattle.fa_kept.specs.Memos.{Agrees}
-use Rattle.fa_rows.proofs.pools.asking.asked.Given as goal
-
-abbrev pub invariant-loop-place : goal.invariant-loop-place
-invariant-loop-place g l = Agrees l.memo l.pool

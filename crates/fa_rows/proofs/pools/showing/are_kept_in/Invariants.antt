@@ -1,7 +1,0 @@
-use Rattle.std.proofs.Common.{take}
-use Rattle.fore_base.specs.Lists.{Every}
-use Rattle.fa_pool.specs.Pools.{IsKeptIn}
-use Rattle.fa_rows.proofs.pools.showing.are_kept_in.Given as goal
-
-abbrev pub invariant-loop-kept : goal.invariant-loop-kept
-invariant-loop-kept l = Every (IsKeptIn l.pool) (take l.kept-index l.all)

@@ -1,6 +1,0 @@
-use Rattle.fore_base.specs.Lists.{Every}
-use Rattle.c_cfg.specs.Graphs.{HasItsChoice}
-use Rattle.fa_rows.proofs.steps.graphs.edges_of.Given as goal
-
-abbrev pub invariant-loop-part : goal.invariant-loop-part
-invariant-loop-part l = Every HasItsChoice l.edges

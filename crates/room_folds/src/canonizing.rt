@@ -1,0 +1,120 @@
+// The canonical forms of the forest after all folds, and what an edge of them is unfolded into.
+
+ghost use Rattle.std.specs.Prelude.{◌≡◌};
+
+use crate::files::table_of;
+use crate::parts::word_at;
+use anyhow::{Result, bail};
+use fa_canon::canonical;
+use fa_core::forest::Forest;
+use fa_core::laws::tables_give;
+use fa_core::table::BoxTable;
+use fa_fold::fold_all;
+use fa_merge::leaking_root;
+use fa_sound::Sound;
+use fa_unfold::{can_unfold, unfold};
+use fore_base::list::List;
+use par_kit::crew::Crew;
+use par_kit::gate::NoGate;
+use row_forests::{boxed_over, letters};
+use std::alloc::Global;
+use std::thread::Threads;
+
+// canonical: which of the wanted forests the canonical forms are.
+pub fn canonical_letters<R: Threads + Sync>(
+    rt: &R,
+    alloc: Global,
+    forest: &str,
+    boxes: &str,
+    wanted: &[&str],
+) -> Result<String> {
+    let table = table_of(alloc, boxes)?;
+    let made = canonical_over(rt, alloc, forest, &table)?;
+    letters(alloc, made.as_slice(), wanted)
+}
+
+// unfolded ROOT SLOT: which of the wanted forests those are into which the edge at the slot of the root is unfolded,
+// where there is one canonical form.
+pub fn unfolded_letters<R: Threads + Sync>(
+    rt: &R,
+    alloc: Global,
+    head: &str,
+    forest: &str,
+    boxes: &str,
+    wanted: &[&str],
+) -> Result<String> {
+    let root = word_at(head, 1)?.parse::<u32>()?;
+    let slot = word_at(head, 2)?.parse::<u32>()?;
+    let table = table_of(alloc, boxes)?;
+    let made = canonical_over(rt, alloc, forest, &table)?;
+    if made.len() != 1 {
+        bail!("not one canonical form");
+    }
+    unfolded_over(alloc, made.at(0).forest(), &table, root, slot, wanted)
+}
+
+fn canonical_over<R: Threads + Sync>(
+    rt: &R,
+    alloc: Global,
+    text: &str,
+    table: &BoxTable,
+) -> Result<List<Sound>> {
+    let forest = boxed_over(alloc, table.face(), text)?;
+    canonical_folded(rt, alloc, &forest, table)
+}
+
+// The canonical forms of the forest after all folds, where none of its members leaks.
+fn canonical_folded<R: Threads + Sync>(
+    rt: &R,
+    alloc: Global,
+    forest: &Sound,
+    table: &BoxTable,
+) -> Result<List<Sound>>
+    requires { table.now.face ≡ forest.now.face }
+{
+    table.known();
+    tables_give();
+    let (folded, _) = fold_all(alloc, forest, table)?;
+    match leaking_root(alloc, &folded)? {
+        Some(_) => bail!("a leak"),
+        None => {
+            let crew = Crew {
+                jobs: 1,
+                gate: &NoGate,
+            };
+            Ok(canonical(rt, alloc, &folded, &crew)?)
+        }
+    }
+}
+
+fn unfolded_over(
+    alloc: Global,
+    forest: &Forest,
+    table: &BoxTable,
+    root: u32,
+    slot: u32,
+    wanted: &[&str],
+) -> Result<String> {
+    match Sound::make(alloc, forest, table.face())? {
+        Some(made) => unfolded_at(alloc, &made, table, root, slot, wanted),
+        None => bail!("not sound"),
+    }
+}
+
+fn unfolded_at(
+    alloc: Global,
+    forest: &Sound,
+    table: &BoxTable,
+    root: u32,
+    slot: u32,
+    wanted: &[&str],
+) -> Result<String>
+    requires { table.now.face ≡ forest.now.face }
+{
+    if can_unfold(forest, root, slot as usize) {
+        let made = unfold(alloc, forest, table, root, slot as usize)?;
+        letters(alloc, made.as_slice(), wanted)
+    } else {
+        Ok(String::from_str(alloc, "refused")?)
+    }
+}

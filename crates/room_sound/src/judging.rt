@@ -1,0 +1,34 @@
+// sound?: whether a forest is sound.
+
+use anyhow::{Result, bail};
+use fa_core::faces::Face;
+use fa_core::forest::Forest;
+use fa_sound::{Sound, have_no_boxes};
+use row_forests::{face, forest_of};
+use std::alloc::Global;
+
+pub fn judged(alloc: Global, text: &str) -> Result<String> {
+    let word = word_of(alloc, text)?;
+    Ok(String::from_str(alloc, word)?)
+}
+
+fn word_of(alloc: Global, text: &str) -> Result<&'static str> {
+    let forest = forest_of(alloc, text)?;
+    plain_word(alloc, &forest)
+}
+
+fn plain_word(alloc: Global, forest: &Forest) -> Result<&'static str> {
+    if !have_no_boxes(forest.autos.as_slice()) {
+        bail!("a box edge");
+    }
+    let face = face(alloc)?;
+    word_on(alloc, forest, &face)
+}
+
+/// Whether the forest is sound over the face, as a word.
+pub fn word_on(alloc: Global, forest: &Forest, face: &Face) -> Result<&'static str> {
+    match Sound::make(alloc, forest, face)? {
+        Some(_) => Ok("yes"),
+        None => Ok("no"),
+    }
+}
