@@ -114,7 +114,8 @@ no_knot_by_edge h = by h.from h.is_above
         rw f at (subst (λ (t : Tree). IsIn h.leaf (field_trees t)) (sym (same_Some by_edge h.above e)) h.in_field)
     by (suc zero) e =
         let f = below_fields in
-        elim (rw f at (subst (λ (t : Tree). IsIn h.leaf (field_trees t)) (sym (same_Some below h.above e)) h.in_field)) [
+        let s = sym (same_Some below h.above e) in
+        elim (rw f at (subst (λ (t : Tree). IsIn h.leaf (field_trees t)) s h.in_field)) [
           | inl k ↦ other_reference h.leaf k h.refers
           | inr x ↦ x
         ]

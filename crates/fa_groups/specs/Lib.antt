@@ -1,2 +1,1 @@
 pub mod Grouped
-pub mod Reads

@@ -1,33 +1,25 @@
-// Kept forests in groups by keys.
+// Numbers in groups by keys.
 
-ghost use Rattle.std.specs.Prelude.{OnOk, OnErr, IfOk, IsSome};
+ghost use Rattle.std.specs.Prelude.{◌≡◌, OnOk, OnErr, IsSome};
 ghost use Rattle.std.specs.BTreeMap.{get};
-ghost use Rattle.par_kit.specs.Crews.{IsJobs};
-ghost use Rattle.fa_pool.specs.Pools.{IsKeptIn};
-ghost use Rattle.fa_kept.specs.Memos.{Agrees};
-ghost use Rattle.fore_base.specs.Lists.{Every};
-ghost use Rattle.fa_groups.specs.Grouped.{key_cmp, AreKeptIn, AreSame, CoversInGroup, IsCoveredBy, IsJoined};
+ghost use Rattle.fa_groups.specs.Grouped.{key_cmp, numbers_of, AreSame, IsJoined};
 
-use fa_kept::{Memo, first_kept};
-use fa_pool::{Kept, Pool};
 use fore_base::list::List;
 use fore_base::memory::Mem;
-use par_kit::crew::Crew;
-use par_kit::gate::Gate;
 use std::alloc::Global;
 use std::collections::BTreeMap;
-use std::thread::Threads;
 
-/// The kept forests of each group, by its key.
-pub type Groups = BTreeMap<(u32, u64), List<Kept>>;
+/// The numbers of each group, by its key.
+pub type Groups = BTreeMap<(u32, u64), List<u32>>;
 
-/// Takes the kept forest into the group of the key. Err is want of memory, after which each group has what it had.
-pub fn add(alloc: Global, groups: &mut Groups, key: (u32, u64), kept: Kept) -> Mem<()>
-    ensures ok { OnOk result (IsJoined groups.old key kept groups.new) }
+/// Takes the number into the group of the key, behind those that it has. Err is want of memory, after which each group
+/// has what it had.
+pub fn add(alloc: Global, groups: &mut Groups, key: (u32, u64), number: u32) -> Mem<()>
+    ensures ok { OnOk result (IsJoined groups.old key number groups.new) }
     ensures err { OnErr result (AreSame groups.old groups.new) }
 {
     open(alloc, groups, key)?;
-    join(groups, key, kept)
+    join(groups, key, number)
 }
 
 /// Gives the key a group, where it has none. Err is want of memory.
@@ -43,64 +35,24 @@ fn open(alloc: Global, groups: &mut Groups, key: (u32, u64)) -> Mem<()>
     Ok(())
 }
 
-/// Takes the kept forest into the group that the key has. Err is want of memory.
-fn join(groups: &mut Groups, key: (u32, u64), kept: Kept) -> Mem<()>
+/// Takes the number into the group that the key has. Err is want of memory.
+fn join(groups: &mut Groups, key: (u32, u64), number: u32) -> Mem<()>
     requires { IsSome (get key_cmp groups.old key) }
-    ensures ok { OnOk result (IsJoined groups.old key kept groups.new) }
+    ensures ok { OnOk result (IsJoined groups.old key number groups.new) }
     ensures err { OnErr result (AreSame groups.old groups.new) }
 {
     match groups.get_mut(&key) {
-        Some(group) => group.push(kept),
+        Some(group) => group.push(number),
         None => unreachable!(),
     }
 }
 
-/// Whether a kept forest of the group of the key covers this one. The memo agrees with the pool, and still does
-/// afterwards. The crew runs 1 to 64 jobs and has no bearing on the answer.
-///
-/// # Errors
-///
-/// Want of memory; the memo may then have further answers.
-pub fn is_covered<R: Threads + Sync, G: Gate>(
-    rt: &R,
-    alloc: Global,
-    pool: &Pool,
-    memo: &mut Memo,
-    groups: &Groups,
-    key: (u32, u64),
-    kept: &Kept,
-    crew: &Crew<'_, G>,
-) -> Mem<bool>
-    requires jobs { IsJobs crew.now.jobs }
-    requires agrees { Agrees memo.old pool.now }
-    requires groups { AreKeptIn pool.now groups.now }
-    requires kept { IsKeptIn pool.now kept.now }
-    ensures agrees { Agrees memo.new pool.now }
-    ensures exact { IfOk result (CoversInGroup pool.now groups.now key kept.now) }
+/// The numbers of the group of the key, in the order in which they joined it; none where there is no such group.
+pub fn numbers_of(groups: &Groups, key: (u32, u64)) -> &[u32]
+    ensures { result.now ≡ numbers_of groups.now key }
 {
     match groups.get(&key) {
-        Some(group) => is_covered_by(rt, alloc, pool, memo, group.as_slice(), kept, crew),
-        None => Ok(false),
+        Some(group) => group.as_slice(),
+        None => &[],
     }
-}
-
-/// Whether one of these covers it. Err is want of memory.
-fn is_covered_by<R: Threads + Sync, G: Gate>(
-    rt: &R,
-    alloc: Global,
-    pool: &Pool,
-    memo: &mut Memo,
-    group: &[Kept],
-    kept: &Kept,
-    crew: &Crew<'_, G>,
-) -> Mem<bool>
-    requires jobs { IsJobs crew.now.jobs }
-    requires agrees { Agrees memo.old pool.now }
-    requires group { Every (IsKeptIn pool.now) group.now }
-    requires kept { IsKeptIn pool.now kept.now }
-    ensures agrees { Agrees memo.new pool.now }
-    ensures exact { IfOk result (IsCoveredBy pool.now group.now kept.now) }
-{
-    let first = first_kept(rt, alloc, pool, memo, group, kept, crew)?;
-    Ok(first.is_some())
 }

@@ -1,9 +1,10 @@
 -- Worked values of the words on nodes that are held, each made by hand from what the word says.
 use Rattle.std.proofs.Common.{◌≡◌, ◌≤◌, ◌^◌, ℕ, List, [], ◌∷◌, replicate, true, Option, Some, None}
-use Rattle.std.proofs.Common.{refl, sym, ap, ◌∙◌, subst, arith, inl, inr}
+use Rattle.std.proofs.Common.{refl, sym, ap, ◌∙◌, subst, arith, inl}
 use Rattle.std.specs.BTreeMap.{get}
 use Rattle.std.proofs.lemmas.List.{length-replicate}
-use Rattle.std.proofs.lemmas.Option.{none-some}
+use Rattle.std.proofs.lemmas.Option.{none-some, same_Some}
+use Rattle.fore_base.specs.Lists.{IsIn}
 use Rattle.fore_base.specs.declared.store.Datum.{Datum}
 use Rattle.fore_base.specs.declared.store.Datum.TheVariants.{Known}
 use Rattle.ta_core.specs.Auto.{Automaton}
@@ -12,8 +13,8 @@ use Rattle.fa_core.specs.declared.forest.Target.TheVariants.{Null, Uninit, At}
 use Rattle.fa_pool.specs.Keys.{with_numbers}
 use Rattle.fa_pool.specs.declared.kept.Kept.{Kept}
 use Rattle.fa_kept.specs.Memos.{Answer, answer}
-use Rattle.fa_groups.specs.Grouped.{Grouped, key_cmp}
-use Rattle.fix_core.specs.Held.{key_at, node_of, nodes_of, IsHeldIn, IsOfNode, AreGrouped, IsHeld}
+use Rattle.fa_groups.specs.Grouped.{Grouped, key_cmp, numbers_if}
+use Rattle.fix_core.specs.Held.{key_at, node_of, nodes_of, IsHeldIn, HasKey, AreGrouped, IsHeld}
 use Rattle.fix_core.specs.declared.held.Held.{Held}
 use Rattle.fix_core.specs.declared.held.HeldNode.{HeldNode}
 use Rattle.fix_core.specs.declared.nodes.NodeHead.{NodeHead}
@@ -85,28 +86,33 @@ module _ (groups : Grouped) where
   reads_in_order : nodes_of face (held (two ∷ none ∷ []) []) ≡ node_of face pool two ∷ node_of face pool none ∷ []
   reads_in_order = refl
 
-  -- the group of a node's key is not there; and one has the forest of no node
+  -- the group of a node's key is not there; and one has the number of no node
   no_group : get key_cmp groups (5, with_numbers 0 (0 ∷ [])) ≡ None → AreGrouped (none ∷ []) groups → ⊥
   no_group gone h =
-      let i = (h (5, with_numbers 0 (0 ∷ [])) (kept [] [] [])).1
-      (record { node = none; there = inl refl; same_key = refl; same_forest = refl }) in
-      none-some i.0 (sym gone ∙ i.1)
+      subst (IsIn 0) (ap numbers_if gone)
+      ((h (5, with_numbers 0 (0 ∷ [])) 0).1 (record { node = none; is = refl; same_key = refl }))
 
-  of_no_node : IsOfNode [] (5, 0) (kept [] [] []) → ⊥
-  of_no_node h = h.there
+  of_no_node : HasKey [] (5, 0) 0 → ⊥
+  of_no_node h = none-some h.node h.is
 
-  one_too_many : get key_cmp groups (5, 0) ≡ Some (kept [] [] [] ∷ []) → AreGrouped [] groups → ⊥
-  one_too_many there h = of_no_node ((h (5, 0) (kept [] [] [])).0 (kept [] [] [] ∷ [], there, inl refl))
+  one_too_many : get key_cmp groups (5, 0) ≡ Some (0 ∷ []) → AreGrouped [] groups → ⊥
+  one_too_many there h = of_no_node ((h (5, 0) 0).0 (subst (IsIn 0) (sym (ap numbers_if there)) (inl refl)))
 
-  -- a node's forest under the key of another location
-  wrong_key : IsOfNode (none ∷ []) (4, with_numbers 0 (0 ∷ [])) (kept [] [] []) → ⊥
-  wrong_key h = elim h.there [
-    | inl same ↦
-        let e : 5 ≡ 4 = ap (λ (k : ℕ × ℕ). k.0)
-        (subst (λ (n : HeldNode). key_at n.head.location n.forest ≡ (4, with_numbers 0 (0 ∷ []))) same h.same_key) in
-        omega (arith, e)
-    | inr i ↦ i
-  ]
+  -- the second node has its key, and the first one that of another location
+  second_has_its_key : HasKey (two ∷ none ∷ []) (5, with_numbers 0 (0 ∷ [])) 1
+  second_has_its_key = record { node = none; is = refl; same_key = refl }
+
+  wrong_key : HasKey (none ∷ []) (4, with_numbers 0 (0 ∷ [])) 0 → ⊥
+  wrong_key h =
+      let e : 5 ≡ 4 = ap (λ (n : HeldNode). n.head.location) (same_Some none h.node h.is)
+      ∙ ap (λ (k : ℕ × ℕ). k.0) h.same_key in
+      omega (arith, e)
+
+  -- the group of the key has the number of another node with it
+  wrong_number : get key_cmp groups (5, with_numbers 0 (0 ∷ [])) ≡ Some (1 ∷ []) → AreGrouped (none ∷ []) groups → ⊥
+  wrong_number there h =
+      let i = (h (5, with_numbers 0 (0 ∷ [])) 1).0 (subst (IsIn 1) (sym (ap numbers_if there)) (inl refl)) in
+      none-some i.node i.is
 
   -- too many nodes, a number that the pool does not have, a datum over 15, and an answer on such a number
   too_many : (n : ℕ) → 2 ^ 32 ≤ n → IsHeld face (held (replicate n none) []) → ⊥

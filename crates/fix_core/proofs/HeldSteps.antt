@@ -14,7 +14,7 @@ use Rattle.fa_core.specs.declared.forest.Forest.{Forest}
 use Rattle.fa_sound.specs.Soundness.{SoundForest}
 use Rattle.fa_pool.specs.Pools.{IsKeptIn}
 use Rattle.fa_pool.specs.declared.kept.Kept.{Kept}
-use Rattle.fa_groups.specs.Reads.{read, read_if}
+use Rattle.fix_core.specs.Reads.{read, read_if}
 use Rattle.fix_core.specs.Covered.{NoneCovers, CoversOrNot, IsPlaced}
 use Rattle.fix_core.specs.Explorations.{IsNode}
 use Rattle.fix_core.specs.Held.{node_of, nodes_of, IsHeldIn, IsHeld}

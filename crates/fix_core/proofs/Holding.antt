@@ -1,16 +1,14 @@
 -- What is held: how nodes read in a pool that grows, one node more, and which nodes cover a forest.
-use Rattle.std.proofs.Common.{◌≡◌, ℕ, zero, suc, ◌+◌, ◌<◌, ◌^◌, Bool, true, false, List, [], ◌∷◌, ◌++◌}
-use Rattle.std.proofs.Common.{map, length, slice_get, Option, Some, None, MatchOption}
+use Rattle.std.proofs.Common.{◌≡◌, ◌⊎◌, ◌↔◌, ℕ, zero, suc, ◌+◌, ◌<◌, ◌^◌, Bool, true, false, List, [], ◌∷◌, ◌++◌}
+use Rattle.std.proofs.Common.{map, length, take, get_or, slice_get, Option, Some, None, MatchOption}
 use Rattle.std.proofs.Common.{Result, Ok, Err, IfOk, OnOk, OnErr}
 use Rattle.std.proofs.Common.{refl, sym, ap, ◌∙◌, subst, arith, inl, inr}
-use Rattle.std.specs.BTreeMap.{is_at}
-use Rattle.std.specs.Map.{lookup}
 use Rattle.std.specs.Option.{IfSome}
-use Rattle.std.proofs.lemmas.List.{append-nil, append_assoc, length-append, length-map, map-append}
-use Rattle.std.proofs.lemmas.Option.{none-some}
-use Rattle.fore_base.specs.Lists.{IsIn, Every}
-use Rattle.fore_base.proofs.ListLemmas.{every_in, every_push, in_left, in_last, in_push, in_from_place}
-use Rattle.fore_base.proofs.ListLemmas.{paired_long, place_of}
+use Rattle.std.proofs.lemmas.List.{append-nil, append_assoc, length-append, length-map, map-append, take_more}
+use Rattle.std.proofs.lemmas.Option.{none-some, slice_get_within}
+use Rattle.fore_base.specs.Lists.{IsIn, Every, Paired}
+use Rattle.fore_base.proofs.ListLemmas.{every_in, every_push, in_every, in_from_place, paired_long, paired_push}
+use Rattle.fore_base.proofs.ListLemmas.{same_item}
 use Rattle.ta_core.specs.Auto.{Automaton}
 use Rattle.ta_core.specs.Language.{IsWithin}
 use Rattle.fa_core.specs.Covering.{Covers}
@@ -21,18 +19,19 @@ use Rattle.fa_pool.specs.Pools.{ReadsAs, IsKeptIn, IsGrown}
 use Rattle.fa_pool.specs.declared.kept.Kept.{Kept}
 use Rattle.fa_kept.specs.Memos.{Answer, Agrees}
 use Rattle.fa_kept.proofs.Growing.{agrees_when_grown}
-use Rattle.fa_groups.specs.Grouped.{Key, Grouped, key_cmp, IsOfGroup, AreSame, AreKeptIn, CoversInGroup}
-use Rattle.fa_groups.specs.Reads.{auto_at, read, read_if}
-use Rattle.fa_groups.proofs.Grouping.{same_then}
-use Rattle.fa_groups.proofs.Reading.{is_read, kept_grown, read_grown}
+use Rattle.fa_groups.specs.Grouped.{Key, Grouped, numbers_of, AreSame}
+use Rattle.fa_groups.proofs.Grouping.{in_joined, none_grouped, same_then}
 use Rattle.fix_core.specs.Covered.{CoversOrNot}
-use Rattle.fix_core.specs.Held.{key_at, node_of, nodes_of, IsHeldIn, IsOfNode, AreGrouped, IsHeld}
+use Rattle.fix_core.specs.Held.{key_at, node_of, nodes_of, IsHeldIn, HasKey, AreGrouped, IsHeld}
+use Rattle.fix_core.specs.Reads.{auto_at, read, read_if}
 use Rattle.fix_core.specs.States.{IsSoundState}
-use Rattle.fix_core.specs.inner.Holding.{HasGrown, IsKeptAs, IsHeldAs, IsPushed, StaysHeld, IsHeldWith}
+use Rattle.fix_core.specs.inner.Holding.{HasGrown, IsKeptAs, IsHeldAs, IsPushed, IsForestOf, IsCoveredBy, StaysHeld}
+use Rattle.fix_core.specs.inner.Holding.{IsHeldWith}
 use Rattle.fix_core.specs.declared.held.Held.{Held}
 use Rattle.fix_core.specs.declared.held.HeldNode.{HeldNode}
 use Rattle.fix_core.specs.declared.nodes.Node.{Node}
-use Rattle.fix_core.proofs.Lists.{some_same}
+use Rattle.fix_core.proofs.Lists.{get_last, get_more, get_push, some_same}
+use Rattle.fix_core.proofs.Reading.{is_read, kept_grown, read_grown}
 
 -- a node by its number
 
@@ -95,11 +94,11 @@ module _ (face : Face) (before after : Held) (grown : HasGrown before after) (he
       ∙ nodes_longer before.pool grown.more face before.nodes held.kept
 
   grouped_still : AreGrouped after.nodes after.groups
-  grouped_still key kept = (
-    (λ h. subst (λ (ns : List HeldNode). IsOfNode ns key kept) (sym grown.nodes)
-        ((held.grouped key kept).0 ((grown.groups key kept).0 h))),
-    (λ h. (grown.groups key kept).1
-        ((held.grouped key kept).1 (subst (λ (ns : List HeldNode). IsOfNode ns key kept) grown.nodes h))),
+  grouped_still key number = (
+    (λ i. subst (λ (ns : List HeldNode). HasKey ns key number) (sym grown.nodes)
+        ((held.grouped key number).0 (subst (IsIn number) (grown.groups key) i))),
+    (λ h. subst (IsIn number) (sym (grown.groups key))
+        ((held.grouped key number).1 (subst (λ (ns : List HeldNode). HasKey ns key number) grown.nodes h))),
   )
 
   -- what is held keeps what it keeps
@@ -112,7 +111,7 @@ module _ (face : Face) (before after : Held) (grown : HasGrown before after) (he
         (every_longer before.pool grown.more before.nodes held.kept));
     sound = subst (Every (λ (n : Node). IsSoundState n.state)) (sym nodes_still) held.sound;
     agrees = grown.memo held.agrees;
-    grouped = λ key kept. grouped_still key kept;
+    grouped = λ key number. grouped_still key number;
   }
 
   pub stays_held : StaysHeld face before after
@@ -136,10 +135,9 @@ nothing_held face held nodes memo groups = record {
       subst (λ (ns : List HeldNode). Every (λ (n : Node). IsSoundState n.state) (map (node_of face held.pool) ns))
       (sym nodes) tt;
   agrees = subst (λ (z : List Answer). Agrees z held.pool) (sym memo) tt;
-  grouped = λ key kept. (
-    (λ h. absurd (none-some h.0
-        (ap (λ (es : List (Key × List Kept)). lookup (is_at (key_cmp key)) es) (sym groups) ∙ h.1))),
-    (λ h. absurd (subst (λ (ns : List HeldNode). IsIn h.node ns) nodes h.there)),
+  grouped = λ key number. (
+    (λ i. absurd (subst (IsIn number) (none_grouped held.groups key groups) i)),
+    (λ h. absurd (none-some h.node (subst (λ (ns : List HeldNode). slice_get ns number ≡ Some h.node) nodes h.is))),
   );
 }
 
@@ -151,7 +149,7 @@ grows_not held = record {
   more = [];
   pool = sym (append-nil held.pool);
   memo = λ agrees. agrees;
-  groups = λ key kept. ((λ h. h), (λ h. h));
+  groups = λ key. refl;
 }
 
 pub grows_then : (before between after : Held) → HasGrown before between → HasGrown between after
@@ -177,14 +175,14 @@ pool_grows (Ok x) held pool autos ok err = record {
   more = ok.0;
   pool = ok.1;
   memo = λ agrees. agrees_when_grown held.memo held.pool autos pool ok agrees;
-  groups = λ key kept. ((λ h. h), (λ h. h));
+  groups = λ key. refl;
 }
 pool_grows (Err e) held pool autos ok err = record {
   nodes = refl;
   more = [];
   pool = err ∙ sym (append-nil held.pool);
   memo = λ agrees. subst (Agrees held.memo) (sym err) agrees;
-  groups = λ key kept. ((λ h. h), (λ h. h));
+  groups = λ key. refl;
 }
 
 pub kept_as : {E : Type 0} (r : Result Kept E) (pool : List Automaton) (F : Forest)
@@ -200,7 +198,7 @@ memo_grows held memo agrees = record {
   more = [];
   pool = sym (append-nil held.pool);
   memo = λ old. agrees;
-  groups = λ key kept. ((λ h. h), (λ h. h));
+  groups = λ key. refl;
 }
 
 -- the last one is taken off again
@@ -249,43 +247,53 @@ module _ (face : Face) (before after : Held) (node : HeldNode) (n : Node) (held 
       ∙ map-append (node_of face before.pool) before.nodes (node ∷ [])
       ∙ ap (λ (m : Node). nodes_of face before ++ m ∷ []) are.1
 
-  there_before : (key : Key) (kept : Kept) → IsOfNode before.nodes key kept
-      → IsOfNode (before.nodes ++ node ∷ []) key kept
-  there_before key kept h = record {
+  there_before : (key : Key) (number : ℕ) → HasKey before.nodes key number
+      → HasKey (before.nodes ++ node ∷ []) key number
+  there_before key number h = record {
     node = h.node;
-    there = in_left h.node before.nodes (node ∷ []) h.there;
+    is = get_more before.nodes (node ∷ []) number h.node h.is;
     same_key = h.same_key;
-    same_forest = h.same_forest;
   }
 
-  grouped_to : (key : Key) (kept : Kept) → IsOfGroup after.groups key kept
-      → IsOfNode (before.nodes ++ node ∷ []) key kept
-  grouped_to key kept h = elim ((pushed.groups key kept).0 h) [
-    | inl was ↦ there_before key kept ((held.grouped key kept).0 was)
-    | inr own ↦
-        record {
-          node = node;
-          there = in_last node before.nodes;
-          same_key = sym own.0;
-          same_forest = sym own.1;
-        }
+  last_there : (key : Key) (number : ℕ) → key ≡ key_at node.head.location node.forest
+      → number ≡ length before.nodes → HasKey (before.nodes ++ node ∷ []) key number
+  last_there key number at last = record {
+    node = node;
+    is =
+        subst (λ (n : ℕ). slice_get (before.nodes ++ node ∷ []) n ≡ Some node) (sym last)
+        (get_last before.nodes node);
+    same_key = sym at;
+  }
+
+  joined_to : (key : Key) (number : ℕ) → IsIn number (numbers_of after.groups key)
+      ↔ (IsIn number (numbers_of before.groups key)
+      ⊎ ((key ≡ key_at node.head.location node.forest) × (number ≡ length before.nodes)))
+  joined_to key number =
+      in_joined before.groups after.groups (key_at node.head.location node.forest) (length before.nodes) pushed.groups
+      key number
+
+  grouped_to : (key : Key) (number : ℕ) → IsIn number (numbers_of after.groups key)
+      → HasKey (before.nodes ++ node ∷ []) key number
+  grouped_to key number i = elim ((joined_to key number).0 i) [
+    | inl was ↦ there_before key number ((held.grouped key number).0 was)
+    | inr own ↦ last_there key number own.0 own.1
   ]
 
-  grouped_from : (key : Key) (kept : Kept) → IsOfNode (before.nodes ++ node ∷ []) key kept
-      → IsOfGroup after.groups key kept
-  grouped_from key kept h = (pushed.groups key kept).1
-      (elim (in_push node h.node before.nodes h.there) [
-        | inl was ↦ inl ((held.grouped key kept).1
-            (record { node = h.node; there = was; same_key = h.same_key; same_forest = h.same_forest }))
+  grouped_from : (key : Key) (number : ℕ) → HasKey (before.nodes ++ node ∷ []) key number
+      → IsIn number (numbers_of after.groups key)
+  grouped_from key number h = (joined_to key number).1
+      (elim (get_push before.nodes node number h.node h.is) [
+        | inl was ↦ inl ((held.grouped key number).1
+            (record { node = h.node; is = was; same_key = h.same_key }))
         | inr own ↦ inr (
-          sym h.same_key ∙ ap (λ (m : HeldNode). key_at m.head.location m.forest) own,
-          sym h.same_forest ∙ ap (λ (m : HeldNode). m.forest) own,
+          sym h.same_key ∙ ap (λ (m : HeldNode). key_at m.head.location m.forest) own.1,
+          own.0,
         )
       ])
 
   grouped_with : AreGrouped after.nodes after.groups
   grouped_with = subst (λ (ns : List HeldNode). AreGrouped ns after.groups) (sym pushed.nodes)
-      (λ key kept. (grouped_to key kept, grouped_from key kept))
+      (λ key number. (grouped_to key number, grouped_from key number))
 
   pub held_with : IsHeldWith face before n after
   held_with = (
@@ -323,36 +331,79 @@ same_key pool there location wide narrow at c =
     ∙ ap (λ ds. (location, with_looks 0 narrow.vars ds (length wide.parts))) (sym c.data_vars)
     ∙ ap (λ k. (location, with_looks 0 narrow.vars narrow.data_vars k)) (sym long)
 
-module _ (face : Face) (held : Held) (is : IsHeld face held) where
-  -- the groups have kept forests of the pool
-  pub groups_kept : AreKeptIn held.pool held.groups
-  groups_kept key kept h =
-      let own = (is.grouped key kept).0 h in
-      subst (IsKeptIn held.pool) own.same_forest
-      (every_in (IsHeldIn held.pool) held.nodes own.node is.kept own.there).forest
+-- one number more, with the forest of its node
+pub one_more_forest : (nodes : List HeldNode) (ns : List ℕ) (i d : ℕ) (forests : List Kept) (node : HeldNode)
+    (kept : Kept) → i < length ns → Paired (IsForestOf nodes) (take i ns) forests
+    → slice_get nodes (get_or ns i d) ≡ Some node → kept ≡ node.forest
+    → Paired (IsForestOf nodes) (take (i + 1) ns) (forests ++ kept ∷ [])
+one_more_forest nodes ns i d forests node kept low h at same =
+    subst (λ ms. Paired (IsForestOf nodes) ms (forests ++ kept ∷ [])) (sym (take_more ns i d low))
+    (paired_push (IsForestOf nodes) (take i ns) forests (get_or ns i d) kept h (node, at, same))
 
-  -- what the group says, says what the nodes of the location say
-  pub group_says : (location : ℕ) (narrow : Kept) (yes : Bool)
-      → CoversInGroup held.pool held.groups (key_at location narrow) narrow yes
-      → CoversOrNot (nodes_of face held) location (read held.pool narrow) yes
-  group_says location narrow true c =
-      let own = (is.grouped (key_at location narrow) c.0).0 c.1 in
-      let at = place_of held.nodes own.node own.there in
-      record {
-        at = at.0;
-        node = node_of face held.pool own.node;
-        is = at_map (node_of face held.pool) held.nodes at.0 own.node at.1;
-        there = ap (λ (k : Key). k.0) own.same_key;
-        covers =
-            subst (λ (k : Kept). Covers (read held.pool k) (read held.pool narrow)) (sym own.same_forest) c.2;
-      }
-  group_says location narrow false none = λ j m is_m there cov.
-      let at = map_at (node_of face held.pool) held.nodes j m is_m in
-      let wide = at.0.forest in
-      let c : Covers (read held.pool wide) (read held.pool narrow) =
-      subst (λ (z : Node). Covers z.state.forest (read held.pool narrow)) (sym at.2) cov in
-      let same = same_key held.pool at.0.head.location location wide narrow
-      (subst (λ (z : Node). z.head.location ≡ location) (sym at.2) there) c in
-      none wide
-      ((is.grouped (key_at location narrow) wide).1
-      (record { node = at.0; there = in_from_place held.nodes j at.0 at.1; same_key = same; same_forest = refl })) c
+-- what is in one of two lists that are paired has its like in the other
+right_of : {X Y : Type 0} (R : X → Y → Type 0) (xs : List X) (ys : List Y) (x : X) → Paired R xs ys → IsIn x xs
+    → (y : Y) × IsIn y ys × R x y
+right_of R [] ys x h i = absurd i
+right_of R (a ∷ xs) [] x h i = absurd h
+right_of R (a ∷ xs) (b ∷ ys) x h (inl e) = (b, inl refl, subst (λ z. R z b) (sym e) h.0)
+right_of R (a ∷ xs) (b ∷ ys) x h (inr i) = let r = right_of R xs ys x h.1 i in (r.0, inr r.1, r.2)
+
+left_of : {X Y : Type 0} (R : X → Y → Type 0) (xs : List X) (ys : List Y) (y : Y) → Paired R xs ys → IsIn y ys
+    → (x : X) × IsIn x xs × R x y
+left_of R xs [] y h i = absurd i
+left_of R [] (b ∷ ys) y h i = absurd h
+left_of R (a ∷ xs) (b ∷ ys) y h (inl e) = (a, inl refl, subst (R a) (sym e) h.0)
+left_of R (a ∷ xs) (b ∷ ys) y h (inr i) = let r = left_of R xs ys y h.1 i in (r.0, inr r.1, r.2)
+
+module _ (face : Face) (held : Held) (is : IsHeld face held) (location : ℕ) (narrow : Kept) where
+  abbrev key : Key
+  key = key_at location narrow
+
+  -- the group of the key has numbers of nodes
+  pub numbers_low : Every (λ n. n < length held.nodes) (numbers_of held.groups key)
+  numbers_low =
+      in_every (λ n. n < length held.nodes) (numbers_of held.groups key)
+      (λ n i. let own = (is.grouped key n).0 i in slice_get_within held.nodes n own.node own.is)
+
+  module _ (alike : List Kept) (are : Paired (IsForestOf held.nodes) (numbers_of held.groups key) alike) where
+    number_in : (wide : Kept) → IsIn wide alike → (n : ℕ) × IsIn n (numbers_of held.groups key)
+        × IsForestOf held.nodes n wide
+    number_in wide i = left_of (IsForestOf held.nodes) (numbers_of held.groups key) alike wide are i
+
+    -- the forests of these nodes are kept in the pool
+    pub alike_kept : Every (IsKeptIn held.pool) alike
+    alike_kept =
+        in_every (IsKeptIn held.pool) alike
+        (λ wide i.
+        let found = number_in wide i in
+        let there = in_from_place held.nodes found.0 found.2.0 found.2.1 in
+        subst (IsKeptIn held.pool) (sym found.2.2)
+        (every_in (IsHeldIn held.pool) held.nodes found.2.0 is.kept there).forest)
+
+    -- what they say, says what the nodes of the location say
+    pub alike_say : (yes : Bool) → IsCoveredBy held.pool alike narrow yes
+        → CoversOrNot (nodes_of face held) location (read held.pool narrow) yes
+    alike_say true c =
+        let found = number_in c.0 c.1 in
+        let own = (is.grouped key found.0).0 found.1 in
+        let same = found.2.2
+        ∙ ap (λ (m : HeldNode). m.forest) (same_item held.nodes found.0 found.2.0 own.node found.2.1 own.is) in
+        record {
+          at = found.0;
+          node = node_of face held.pool own.node;
+          is = at_map (node_of face held.pool) held.nodes found.0 own.node own.is;
+          there = ap (λ (k : Key). k.0) own.same_key;
+          covers = subst (λ (k : Kept). Covers (read held.pool k) (read held.pool narrow)) same c.2;
+        }
+    alike_say false none = λ j m is_m there cov.
+        let at = map_at (node_of face held.pool) held.nodes j m is_m in
+        let c : Covers (read held.pool at.0.forest) (read held.pool narrow) =
+        subst (λ (z : Node). Covers z.state.forest (read held.pool narrow)) (sym at.2) cov in
+        let same = same_key held.pool at.0.head.location location at.0.forest narrow
+        (subst (λ (z : Node). z.head.location ≡ location) (sym at.2) there) c in
+        let found = right_of (IsForestOf held.nodes) (numbers_of held.groups key) alike j are
+        ((is.grouped key j).1 (record { node = at.0; is = at.1; same_key = same })) in
+        let own = found.2.2
+        ∙ ap (λ (m : HeldNode). m.forest) (same_item held.nodes j found.2.0 at.0 found.2.1 at.1) in
+        none found.0 found.1
+        (subst (λ (k : Kept). Covers (read held.pool k) (read held.pool narrow)) (sym own) c)

@@ -6,4 +6,6 @@ pub mod Holding
 pub mod Lists
 pub mod NoCells
 pub mod Numbered
+pub mod Reading
+pub mod ReadingRows
 pub mod Rows

@@ -1,5 +1,5 @@
 -- Which abstract states follow one another: what an edge makes of a forest, folded and abstracted at loop heads.
-use Rattle.std.specs.Prelude.{◌≡◌, ℕ, List, [], length, Bool, true, false, Some, None}
+use Rattle.std.specs.Prelude.{◌≡◌, ℕ, [], length, Bool, true, false, Some, None}
 use Rattle.fore_base.specs.Lists.{Every, Paired}
 use Rattle.fore_base.specs.declared.store.Store.{Store}
 use Rattle.ta_core.specs.Auto.{IsRanked}

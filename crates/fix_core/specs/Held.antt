@@ -1,5 +1,5 @@
 -- Nodes whose forests are held by the numbers of their components in one pool.
-use Rattle.std.specs.Prelude.{◌≡◌, ◌↔◌, ◌<◌, ◌^◌, ℕ, List, map, length}
+use Rattle.std.specs.Prelude.{◌≡◌, ◌↔◌, ◌<◌, ◌^◌, ℕ, List, map, length, Some, slice_get}
 use Rattle.std.specs.Option.{IfSome}
 use Rattle.fore_base.specs.Lists.{IsIn, Every}
 use Rattle.ta_core.specs.Auto.{Automaton}
@@ -8,11 +8,11 @@ use Rattle.fa_pool.specs.Looks.{with_looks}
 use Rattle.fa_pool.specs.Pools.{IsKeptIn}
 use Rattle.fa_pool.specs.declared.kept.Kept.{Kept}
 use Rattle.fa_kept.specs.Memos.{Agrees}
-use Rattle.fa_groups.specs.Grouped.{Key, Grouped, IsOfGroup}
-use Rattle.fa_groups.specs.Reads.{read, read_if}
+use Rattle.fa_groups.specs.Grouped.{Key, Grouped, numbers_of}
 use Rattle.fix_core.specs.declared.held.Held.{Held}
 use Rattle.fix_core.specs.declared.held.HeldNode.{HeldNode}
 use Rattle.fix_core.specs.declared.nodes.Node.{Node}
+use Rattle.fix_core.specs.Reads.{read, read_if}
 use Rattle.fix_core.specs.States.{IsSoundState}
 
 -- the key of a location and of what a kept forest there looks like: its targets, its data, and how many components it
@@ -43,19 +43,18 @@ pub record IsHeldIn (pool : List Automaton) (node : HeldNode) : Type 0 where
   pub forest : IsKeptIn pool node.forest
   pub middle : IfSome node.middle (IsKeptIn pool)
 
--- the kept forest is that of a node with this key
-pub record IsOfNode (nodes : List HeldNode) (key : Key) (kept : Kept) : Type 0 where
+-- the node of the number has this key
+pub record HasKey (nodes : List HeldNode) (key : Key) (number : ℕ) : Type 0 where
   pub node : HeldNode
-  pub there : IsIn node nodes
+  pub is : slice_get nodes number ≡ Some node
   pub same_key : key_at node.head.location node.forest ≡ key
-  pub same_forest : node.forest ≡ kept
 
--- each group has the forests of the nodes with its key, and nothing else
+-- the numbers of each group are those of the nodes with its key, and no others
 abbrev pub AreGrouped : List HeldNode → Grouped → Type 0
-AreGrouped nodes groups = (key : Key) (kept : Kept) → IsOfGroup groups key kept ↔ IsOfNode nodes key kept
+AreGrouped nodes groups = (key : Key) (number : ℕ) → IsIn number (numbers_of groups key) ↔ HasKey nodes key number
 
 -- Fewer than 2^32 nodes, whose parts are numbers of automata and whose forests are sound over the face, with answers of
--- inclusion that are right, and with the forest of each node in the group of its key.
+-- inclusion that are right, and with the number of each node in the group of its key.
 pub record IsHeld (face : Face) (held : Held) : Type 0 where
   pub few : length held.nodes < 2 ^ 32
   pub kept : Every (IsHeldIn held.pool) held.nodes

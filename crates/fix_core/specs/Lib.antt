@@ -4,4 +4,5 @@ pub mod Follows
 pub mod Held
 pub mod inner
 pub mod Listed
+pub mod Reads
 pub mod States

@@ -4,21 +4,23 @@ ghost use Rattle.std.specs.Prelude.{◌≡◌, ◌<◌, ◌≤◌, ◌+◌, ◌^
 ghost use Rattle.par_kit.specs.Crews.{IsJobs};
 ghost use Rattle.fa_core.specs.declared.faces.Face.{Face};
 ghost use Rattle.fa_pool.specs.Pools.{IsKeptIn};
-ghost use Rattle.fa_groups.specs.Reads.{read};
+ghost use Rattle.fix_core.specs.Reads.{read};
 ghost use Rattle.fix_core.specs.Covered.{CoversOrNot, IsCovered, IsPlaced, NoneCovers};
 ghost use Rattle.fix_core.specs.Held.{key_at, nodes_of, IsHeld};
 ghost use Rattle.fix_core.specs.inner.Holding.{HasGrown, IsHeldAs, IsHeldWith, IsKeptAs, IsKeptIfThere};
 ghost use Rattle.fix_core.specs.inner.Holding.{IsPushed, StaysHeld};
 
+use crate::alike::{forests_of, is_covered_by};
 use crate::nodes::{NodeHead, Placed};
 use crate::states::State;
 use fa_core::folds::FoldStep;
-use fa_groups::groups::{Groups, add, is_covered};
+use fa_groups::groups::{Groups, add, numbers_of};
 use fa_kept::Memo;
 use fa_pool::looks::with_looks;
 use fa_pool::{Kept, Pool};
 use fa_sound::Sound;
-use fore_base::list::{Copies, List};
+use fore_base::boxed::Boxed;
+use fore_base::list::List;
 use fore_base::memory::Mem;
 use par_kit::crew::Crew;
 use par_kit::gate::Gate;
@@ -26,17 +28,18 @@ use std::alloc::Global;
 use std::collections::BTreeMap;
 use std::thread::Threads;
 
-/// A node, whose forests are kept by the numbers of their components.
+/// A node, whose forests are kept by the numbers of their components. The middle, which only nodes at loop heads
+/// have, has memory of its own.
 #[derive(Drop)]
 pub struct HeldNode {
     pub head: NodeHead,
     pub forest: Kept,
-    pub middle: Option<Kept>,
+    pub middle: Option<Boxed<Kept>>,
     pub folds: List<FoldStep>,
 }
 
-/// The nodes of an exploration, the automata of their forests, what is known of the inclusion of these, and the forest
-/// of each node in the group of its location and of what it looks like.
+/// The nodes of an exploration, the automata of their forests, what is known of the inclusion of these, and the number
+/// of each node in the group of its location and of what its forest looks like.
 #[derive(Drop)]
 pub struct Held {
     pub nodes: List<HeldNode>,
@@ -149,14 +152,14 @@ impl Held {
         ensures covers { IfOk result (λ yes. (face : Face) → IsHeld face self.old
             → CoversOrNot (nodes_of face self.old) location (read self.old.pool forest.now) yes) }
     {
-        let key = key_at(location, forest);
-        is_covered(
+        let numbers = numbers_of(&self.groups, key_at(location, forest));
+        let alike = forests_of(alloc, &self.nodes, numbers)?;
+        is_covered_by(
             rt,
             alloc,
             &self.pool,
             &mut self.memo,
-            &self.groups,
-            key,
+            alike.as_slice(),
             forest,
             crew,
         )
@@ -206,28 +209,30 @@ impl Held {
     }
 
     /// The forest of the state before it was folded, kept in the pool, if there is one. Err is want of memory.
-    fn keep_middle(&mut self, alloc: Global, state: &State) -> Mem<Option<Kept>>
+    fn keep_middle(&mut self, alloc: Global, state: &State) -> Mem<Option<Boxed<Kept>>>
         ensures grows { HasGrown self.old self.new }
         ensures kept { IfOk result (IsKeptIfThere self.new.pool state.now.middle) }
     {
         match state.middle() {
             Some(middle) => {
                 let kept = self.keep(alloc, middle)?;
-                Ok(Some(kept))
+                let boxed = Boxed::new(alloc, kept)?;
+                Ok(Some(boxed))
             }
             None => Ok(None),
         }
     }
 
-    /// Adds the node at the end, and its forest to the group of its key. Err is want of memory.
+    /// Adds the node at the end, and its number to the group of its key. Err is want of memory.
     fn push(&mut self, alloc: Global, node: HeldNode) -> Mem<()>
+        requires { length self.old.nodes < 2 ^ 32 }
         ensures ok { OnOk result (IsPushed self.old node self.new) }
         ensures err { OnErr result (HasGrown self.old self.new) }
     {
         let key = key_at(node.head.location, &node.forest);
-        let forest = node.forest.copy(alloc)?;
+        let number = self.nodes.len() as u32;
         self.nodes.push(node)?;
-        match add(alloc, &mut self.groups, key, forest) {
+        match add(alloc, &mut self.groups, key, number) {
             Ok(()) => Ok(()),
             Err(error) => {
                 let _last = self.nodes.pop();

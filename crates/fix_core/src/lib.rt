@@ -6,6 +6,7 @@
 //! `specs/` says when nodes are an exploration, and what its three ends are.
 #![tactic(auto)]
 
+mod alike;
 pub mod crossing;
 pub mod edges;
 pub mod explored;

@@ -5,7 +5,7 @@ ghost use Rattle.par_kit.specs.Crews.{IsJobs};
 ghost use Rattle.fore_base.specs.Lists.{IsIn};
 ghost use Rattle.fa_core.specs.Filled.{IsSound};
 ghost use Rattle.fa_pool.specs.Pools.{IsKeptIn};
-ghost use Rattle.fa_groups.specs.Reads.{read};
+ghost use Rattle.fix_core.specs.Reads.{read};
 ghost use Rattle.fix_core.specs.Covered.{IsPlaced};
 ghost use Rattle.fix_core.specs.Explorations.{IsNode};
 ghost use Rattle.fix_core.specs.inner.Holding.{IsHeldAlone};
@@ -116,7 +116,7 @@ impl Nodes {
     {
         match &self.held.nodes.at(node as usize).middle {
             Some(kept) => {
-                let middle = sound_of(alloc, &self.held.pool, &self.face, kept)?;
+                let middle = sound_of(alloc, &self.held.pool, &self.face, kept.get())?;
                 Ok(Some(middle))
             }
             None => Ok(None),

@@ -1,15 +1,17 @@
 -- What the steps by which nodes are held do.
-use Rattle.std.specs.Prelude.{◌≡◌, ◌<◌, ◌++◌, List, [], ◌∷◌, length, Option}
+use Rattle.std.specs.Prelude.{◌≡◌, ◌<◌, ◌++◌, ℕ, List, [], ◌∷◌, length, Option, Some, slice_get, Bool, true, false}
 use Rattle.std.specs.Option.{IfSome}
+use Rattle.fore_base.specs.Lists.{IsIn}
 use Rattle.ta_core.specs.Auto.{Automaton}
+use Rattle.fa_core.specs.Covering.{Covers}
 use Rattle.fa_core.specs.declared.faces.Face.{Face}
 use Rattle.fa_core.specs.declared.forest.Forest.{Forest}
 use Rattle.fa_pool.specs.Pools.{IsKeptIn}
 use Rattle.fa_pool.specs.declared.kept.Kept.{Kept}
 use Rattle.fa_kept.specs.Memos.{Agrees}
 use Rattle.fa_groups.specs.Grouped.{AreSame, IsJoined}
-use Rattle.fa_groups.specs.Reads.{read, read_if}
 use Rattle.fix_core.specs.Held.{key_at, node_of, nodes_of, IsHeldIn, IsHeld}
+use Rattle.fix_core.specs.Reads.{read, read_if}
 use Rattle.fix_core.specs.declared.held.Held.{Held}
 use Rattle.fix_core.specs.declared.held.HeldNode.{HeldNode}
 use Rattle.fix_core.specs.declared.nodes.Node.{Node}
@@ -35,12 +37,22 @@ IsKeptIfThere pool M kept = IfSome kept (IsKeptIn pool) × (read_if pool kept �
 abbrev pub IsHeldAs : Face → List Automaton → Node → HeldNode → Type 0
 IsHeldAs face pool n node = IsHeldIn pool node × (node_of face pool node ≡ n)
 
--- the node is the last one, and its forest is in the group of its key
+-- the node is the last one, and its number is in the group of its key
 pub record IsPushed (before : Held) (node : HeldNode) (after : Held) : Type 0 where
   pub nodes : after.nodes ≡ before.nodes ++ node ∷ []
   pub pool : after.pool ≡ before.pool
   pub memo : after.memo ≡ before.memo
-  pub groups : IsJoined before.groups (key_at node.head.location node.forest) node.forest after.groups
+  pub groups : IsJoined before.groups (key_at node.head.location node.forest) (length before.nodes) after.groups
+
+-- the kept forest is that of the node of the number
+abbrev pub IsForestOf : List HeldNode → ℕ → Kept → Type 0
+IsForestOf nodes number kept = (node : HeldNode) × (slice_get nodes number ≡ Some node) × (kept ≡ node.forest)
+
+-- one of the kept forests covers the narrow one, or none does
+abbrev pub IsCoveredBy : List Automaton → List Kept → Kept → Bool → Type 0
+IsCoveredBy pool alike narrow true =
+    (wide : Kept) × IsIn wide alike × Covers (read pool wide) (read pool narrow)
+IsCoveredBy pool alike narrow false = (wide : Kept) → IsIn wide alike → Covers (read pool wide) (read pool narrow) → ⊥
 
 -- what is held reads as the same nodes
 abbrev pub StaysHeld : Face → Held → Held → Type 0

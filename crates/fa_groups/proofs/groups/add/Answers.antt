@@ -4,10 +4,10 @@ use Rattle.fa_groups.proofs.groups.add.Goals as goal
 
 pub returns-clause-ok : goal.returns-clause-ok
 returns-clause-ok c =
-    on_ok c.join.result (IsJoined c.open.new.groups c.args.key c.args.kept c.join.new.groups)
-    (IsJoined c.args.groups.now c.args.key c.args.kept c.join.new.groups)
-    (λ h. joined_then c.args.groups.now c.open.new.groups c.join.new.groups c.args.key c.args.kept c.open.ensures.same h)
-    c.join.ensures.ok
+    on_ok c.join.result (IsJoined c.open.new.groups c.args.key c.args.number c.join.new.groups)
+    (IsJoined c.args.groups.now c.args.key c.args.number c.join.new.groups)
+    (λ h. joined_then c.args.groups.now c.open.new.groups c.join.new.groups c.args.key c.args.number
+    c.open.ensures.same h) c.join.ensures.ok
 
 pub returns-clause-err : goal.returns-clause-err
 returns-clause-err c =

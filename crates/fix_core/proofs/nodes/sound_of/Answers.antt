@@ -1,8 +1,8 @@
 use Rattle.std.proofs.Common.{◌∙◌, ◌≡◌, subst, sym}
 use Rattle.std.proofs.lemmas.Result.{IfOk-weaker}
 use Rattle.fa_core.specs.Filled.{IsSound}
-use Rattle.fa_groups.specs.Reads.{read}
-use Rattle.fa_groups.proofs.Reading.{is_read}
+use Rattle.fix_core.specs.Reads.{read}
+use Rattle.fix_core.proofs.Reading.{is_read}
 use Rattle.fa_sound.specs.Soundness.{SoundForest}
 use Rattle.fix_core.proofs.nodes.sound_of.Goals as goal
 

@@ -1,5 +1,4 @@
-use Rattle.std.proofs.Common.{refl, subst}
-use Rattle.fa_pool.specs.declared.kept.Kept.{Kept}
+use Rattle.std.proofs.Common.{ℕ, length, refl, subst}
 use Rattle.fa_groups.specs.Grouped.{Key, IsJoined}
 use Rattle.fix_core.proofs.Holding.{push_undone}
 use Rattle.fix_core.proofs.held.Held.push.Goals as goal
@@ -10,10 +9,10 @@ returns-in-Ok-clause-ok c = record {
   pool = refl;
   memo = refl;
   groups =
-      subst (λ (key : Key). IsJoined c.args.self.now.groups key c.args.node.forest c.add.new.groups)
+      subst (λ (key : Key). IsJoined c.args.self.now.groups key (length c.args.self.now.nodes) c.add.new.groups)
       c.key_at-key.ensures
-      (subst (λ (kept : Kept). IsJoined c.args.self.now.groups c.key_at-key.result kept c.add.new.groups)
-      c.in_ok-forest.ensures c.in-Ok.ensures.ok);
+      (subst (λ (n : ℕ). IsJoined c.args.self.now.groups c.key_at-key.result n c.add.new.groups) c.len-number.ensures
+      c.in-Ok.ensures.ok);
 }
 
 pub returns-in-Err-clause-err : goal.returns-in-Err-clause-err

@@ -1,11 +1,10 @@
 -- Forests as which kept ones read, in a pool that grows, and which of them cover others.
-use Rattle.std.proofs.Common.{◌≡◌, ℕ, zero, suc, ◌<◌, Bool, true, false, List, [], ◌∷◌, ◌++◌, map, length}
-use Rattle.std.proofs.Common.{Option, Some, None, slice_get, slice_index_or, refl, sym, ap, ◌∙◌, subst, arith, inl, inr}
+use Rattle.std.proofs.Common.{◌≡◌, ℕ, zero, suc, ◌<◌, Bool, false, List, [], ◌∷◌, ◌++◌, map, length}
+use Rattle.std.proofs.Common.{Option, Some, None, slice_get, refl, sym, ap, ◌∙◌, subst, arith, inl, inr}
 use Rattle.std.specs.Option.{is_some}
 use Rattle.std.proofs.lemmas.List.{length-append}
 use Rattle.std.proofs.lemmas.Option.{none-some, same_Some}
 use Rattle.fore_base.specs.Lists.{IsIn, Every, Paired}
-use Rattle.fore_base.proofs.ListLemmas.{every_in}
 use Rattle.ta_core.specs.Auto.{Automaton}
 use Rattle.fa_core.specs.Covering.{Covers}
 use Rattle.fa_core.specs.declared.faces.Face.{Face}
@@ -16,8 +15,8 @@ use Rattle.fa_sound.specs.Soundness.{SoundForest}
 use Rattle.fa_cover.specs.Firsts.{FirstCover}
 use Rattle.fa_pool.specs.Pools.{IsNumber, ReadsAs, IsKeptIn}
 use Rattle.fa_pool.specs.declared.kept.Kept.{Kept}
-use Rattle.fa_groups.specs.Grouped.{IsCoveredBy}
-use Rattle.fa_groups.specs.Reads.{no_states, auto_at, read}
+use Rattle.fix_core.specs.Reads.{auto_at, read}
+use Rattle.fix_core.specs.inner.Holding.{IsCoveredBy}
 
 -- the automaton of a number is that at its place
 is_at_place : (pool : List Automaton) (n : ℕ) → n < length pool → IsNumber pool n (auto_at pool n)
