@@ -16,6 +16,7 @@ pub mod keys;
 pub mod looks;
 mod numbering;
 pub mod pool;
+mod tight;
 
 pub use kept::Kept;
 pub use pool::Pool;

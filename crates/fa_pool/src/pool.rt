@@ -7,6 +7,7 @@ ghost use Rattle.fa_pool.specs.Pools.{IsNumber, ReadsAs, IsKeptIn, IsGrown};
 use crate::indexes::Index;
 use crate::kept::Kept;
 use crate::numbering::number_all;
+use crate::tight::tight;
 use fa_core::forest::Forest;
 use fa_sound::Sound;
 use fore_base::list::{Copies, List};
@@ -93,12 +94,13 @@ impl Pool {
     {
         let held = self.autos.as_slice();
         let forest = forest.forest();
-        let vars = forest.vars.copy(alloc)?;
-        let data_vars = forest.data_vars.copy(alloc)?;
+        let vars = tight(alloc, forest.vars.as_slice())?;
+        let data_vars = tight(alloc, forest.data_vars.as_slice())?;
         let made = number_all(alloc, held, &mut self.index, forest.autos.as_slice())?;
+        let parts = tight(alloc, made.numbers.as_slice())?;
         self.autos.append(made.more)?;
         Ok(Kept {
-            parts: made.numbers,
+            parts,
             vars,
             data_vars,
         })
