@@ -1,3 +1,4 @@
+pub mod CountedRules
 pub mod Covering
 pub mod ExplorationRows
 pub mod HeldRows

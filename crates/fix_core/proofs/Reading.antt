@@ -24,7 +24,7 @@ is_at_place [] n low = absurd (omega (arith, low))
 is_at_place (a ∷ pool) zero low = refl
 is_at_place (a ∷ pool) (suc n) low = is_at_place pool n (omega (arith, low))
 
-at_its_place : (pool : List Automaton) (n : ℕ) (a : Automaton) → IsNumber pool n a → a ≡ auto_at pool n
+pub at_its_place : (pool : List Automaton) (n : ℕ) (a : Automaton) → IsNumber pool n a → a ≡ auto_at pool n
 at_its_place [] n a is = absurd (none-some a is)
 at_its_place (b ∷ pool) zero a is = sym (same_Some b a is)
 at_its_place (b ∷ pool) (suc n) a is = at_its_place pool n a is

@@ -10,6 +10,7 @@ use Rattle.fa_core.specs.Covering.{Covers}
 use Rattle.fa_core.specs.declared.forest.Target.{Target}
 use Rattle.fa_core.specs.declared.forest.Target.TheVariants.{Null, Uninit}
 use Rattle.fa_pool.specs.declared.kept.Kept.{Kept}
+use Rattle.fix_core.specs.Counted.{rules_in}
 use Rattle.fix_core.specs.Reads.{no_states, auto_at, read, read_if}
 use Rattle.fix_core.specs.inner.Holding.{IsCoveredBy}
 
@@ -43,6 +44,13 @@ reads_in_order = refl
 
 reads_past_the_end : auto_at pool 2 ≡ no_states
 reads_past_the_end = refl
+
+-- one rule, none, and three: each automaton counts as often as it stands
+rules_counted : rules_in (one ∷ none ∷ record one { rules = leaf ∷ leaf ∷ leaf ∷ [] } ∷ one ∷ []) ≡ 5
+rules_counted = refl
+
+no_rules_counted : rules_in [] ≡ 0
+no_rules_counted = refl
 
 reads_none : read_if pool None ≡ None
 reads_none = refl

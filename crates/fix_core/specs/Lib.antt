@@ -1,3 +1,4 @@
+pub mod Counted
 pub mod Covered
 pub mod Explorations
 pub mod Follows

@@ -7,6 +7,7 @@
 #![tactic(auto)]
 
 mod alike;
+mod counting;
 pub mod crossing;
 pub mod edges;
 pub mod explored;

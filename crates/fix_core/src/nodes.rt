@@ -1,5 +1,5 @@
 // The nodes of an exploration.
-ghost use Rattle.std.specs.Prelude.{◌≡◌, ◌<◌, ◌≤◌, ◌∷◌, [], length, None, Some};
+ghost use Rattle.std.specs.Prelude.{◌≡◌, ◌<◌, ◌≤◌, ◌-◌, ◌^◌, ◌∷◌, [], length, min, None, Some};
 ghost use Rattle.std.specs.Prelude.{IfOk, OnErr, MatchOption};
 ghost use Rattle.par_kit.specs.Crews.{IsJobs};
 ghost use Rattle.fore_base.specs.Lists.{IsIn};
@@ -7,10 +7,12 @@ ghost use Rattle.fa_core.specs.Filled.{IsSound};
 ghost use Rattle.fa_pool.specs.Pools.{IsKeptIn};
 ghost use Rattle.fix_core.specs.Reads.{read};
 ghost use Rattle.fix_core.specs.Covered.{IsPlaced};
+ghost use Rattle.fix_core.specs.Counted.{rules_in};
 ghost use Rattle.fix_core.specs.Explorations.{IsNode};
 ghost use Rattle.fix_core.specs.inner.Holding.{IsHeldAlone};
 ghost use Rattle.fix_core.specs.declared.nodes.Node.{Node};
 
+use crate::counting::count_rules;
 use crate::held::Held;
 use crate::states::State;
 use fa_core::faces::Face;
@@ -129,6 +131,15 @@ impl Nodes {
         ensures { (n : Node) → IsNode self.now node n → result.now ≡ n.state.folds }
     {
         self.held.nodes.at(node as usize).folds.as_slice()
+    }
+
+    /// How many rules the forest of the node has in all, or as many as can be counted, for which it is not made.
+    pub fn count_rules(&self, node: u32) -> usize
+        requires { node < length self.now }
+        ensures { (n : Node) → IsNode self.now node n → result ≡ min (rules_in n.state.forest.autos) (2 ^ 64 - 1) }
+    {
+        let forest = &self.held.nodes.at(node as usize).forest;
+        count_rules(&self.held.pool, forest.parts.as_slice())
     }
 
     /// The location and the forest of the node. Err is want of memory.

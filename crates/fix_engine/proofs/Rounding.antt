@@ -1,7 +1,8 @@
 -- Rounds: nodes that stand next to one another, and what their edges make of them.
 use Rattle.std.proofs.Common.{◌≡◌, ◌<◌, ◌≤◌, ◌+◌, ℕ, suc, zero, List, [], ◌∷◌, ◌++◌, length, slice_get, Some, Result}
-use Rattle.std.proofs.Common.{Ok}
+use Rattle.std.proofs.Common.{Ok, arith}
 use Rattle.std.proofs.Common.{Err, IfOk, refl, sym, subst, inl, inr}
+use Rattle.std.proofs.lemmas.Option.{slice_get_within}
 use Rattle.fore_base.specs.Lists.{Every, Paired}
 use Rattle.fore_base.proofs.ListLemmas.{paired_long}
 use Rattle.fa_core.specs.Boxes.{Boxes}
@@ -9,24 +10,33 @@ use Rattle.c_cfg.specs.Graphs.{ControlGraph}
 use Rattle.c_cfg.specs.Ranges.{IsEdgeOf}
 use Rattle.fix_core.specs.declared.nodes.Due.{Due}
 use Rattle.fix_core.specs.declared.nodes.Node.{Node}
-use Rattle.fix_core.specs.Explorations.{Exploration}
-use Rattle.fix_core.proofs.Lists.{get_push, every_at, some_same}
+use Rattle.fix_core.specs.Explorations.{Exploration, IsNode}
+use Rattle.fix_core.proofs.Lists.{at_within, get_push, every_at, some_same}
 use Rattle.fix_successors.specs.declared.images.EdgeImage.{EdgeImage}
 use Rattle.fix_successors.specs.Images.{AreImages}
 use Rattle.fix_successors.specs.Ready.{IsNormal}
 use Rattle.fix_engine.specs.declared.taking.Taken.{Taken}
 use Rattle.fix_engine.specs.declared.taking.Taken.TheVariants.{All, Fault, Full as Over}
-use Rattle.fix_engine.specs.inner.Rounds.{IsDue, AreDues, AreImagesOf, IsRound, IsTakenRound}
+use Rattle.fix_engine.specs.inner.Rounds.{IsDue, AreNumbers, AreImagesOf, IsRound, IsTakenRound}
 use Rattle.fix_engine.specs.inner.Taking.{Grows, IsTakenNode}
 use Rattle.fix_engine.proofs.TakenUp.{node_normal, node_inside}
 
--- one node more
-pub dues_next : (nodes : List Node) (at : ℕ) (dues : List Due) (d : Due) → AreDues nodes at dues
-    → IsDue nodes (at + length dues) d → AreDues nodes at (dues ++ d ∷ [])
-dues_next nodes at dues d are is j e there = elim (get_push dues d j e there) [
-  | inl before ↦ are j e before
+-- one number more
+pub numbers_next : (at n : ℕ) (numbers : List ℕ) → AreNumbers at numbers → n ≡ at + length numbers
+    → AreNumbers at (numbers ++ n ∷ [])
+numbers_next at n numbers are is j m there = elim (get_push numbers n j m there) [
+  | inl before ↦ are j m before
   | inr last ↦ rw (last.0, last.1) is
 ]
+
+-- what is taken up is the location and the forest of the node
+pub due_is : (nodes : List Node) (j : ℕ) (d : Due) → j < length nodes
+    → ((n : Node) → IsNode nodes j n → (d.location ≡ n.head.location) × (d.forest.forest ≡ n.state.forest)
+    × (d.forest.face ≡ n.state.face)) → IsDue nodes j d
+due_is nodes j d low same =
+    let n = at_within nodes j low in
+    let are = same n.0 n.1 in
+    record { node = n.0; is = n.1; location = are.0; forest = are.1; face = are.2 }
 
 -- what stands with an item of the second list
 paired_at : {X Y : Type 0} (R : X → Y → Type 0) (xs : List X) (ys : List Y) (j : ℕ) (y : Y) → Paired R xs ys
@@ -46,45 +56,47 @@ module _ (T : Boxes) (g : ControlGraph) (k : ℕ) where
     rw is.location (node_inside T g k nodes j is.node edges entry x is.is),
   )
 
-  pub dues_fit : {S : Type 0} (nodes : List Node) (at : ℕ) (dues : List Due) → S → Exploration T g k nodes
-      → Every (IsEdgeOf g) g.edges → 0 < g.locations → AreDues nodes at dues
-      → Every (λ (d : Due). S × IsNormal T g d.forest × (d.location < g.locations)) dues
-  dues_fit {S} nodes at dues s x edges entry are =
-      every_at (λ (d : Due). S × IsNormal T g d.forest × (d.location < g.locations)) dues
-      (λ j d there. let p = due_fits nodes (at + j) d x edges entry (are j d there) in (s, p.0, p.1))
+  -- the nodes of these numbers may be given to the crew
+  pub numbers_fit : {S : Type 0} (nodes : List Node) (at : ℕ) (numbers : List ℕ) → S → Exploration T g k nodes
+      → at + length numbers ≤ length nodes → AreNumbers at numbers
+      → Every (λ (n : ℕ). S × Exploration T g k nodes × (n < length nodes)) numbers
+  numbers_fit {S} nodes at numbers s x upto are =
+      every_at (λ (n : ℕ). S × Exploration T g k nodes × (n < length nodes)) numbers
+      (λ j n there. (s, x, omega (arith, upto, are j n there, slice_get_within numbers j n there)))
+
+  -- what the edges make of what is taken up they make of the node
+  pub images_are : (nodes : List Node) (j : ℕ) (d : Due) (images : List EdgeImage) → IsDue nodes j d
+      → AreImages T g k d.location d.forest.forest images → AreImagesOf T g k nodes j images
+  images_are nodes j d images is made =
+      record {
+        node = is.node;
+        is = is.is;
+        made = subst (λ z. AreImages T g k z is.node.state.forest images) is.location
+            (subst (λ z. AreImages T g k d.location z images) is.forest made);
+      }
 
   -- what the crew has made
-  pub round_made : {E : Type 0} (nodes : List Node) (at : ℕ) (dues : List Due) (r : Result (List (List EdgeImage)) E)
-      → 0 < length dues → at + length dues ≤ length nodes → AreDues nodes at dues
-      → IfOk r (Paired (λ (d : Due) images. AreImages T g k d.location d.forest.forest images) dues)
-      → IfOk r (IsRound T g k nodes at)
-  round_made nodes at dues (Ok round) some upto are p =
-      let long = paired_long (λ (d : Due) images. AreImages T g k d.location d.forest.forest images) dues round p in
+  pub round_made : {E : Type 0} (nodes : List Node) (at : ℕ) (numbers : List ℕ)
+      (r : Result (List (List EdgeImage)) E) → 0 < length numbers → at + length numbers ≤ length nodes
+      → AreNumbers at numbers → IfOk r (Paired (AreImagesOf T g k nodes) numbers) → IfOk r (IsRound T g k nodes at)
+  round_made nodes at numbers (Ok round) some upto are p =
+      let long = paired_long (AreImagesOf T g k nodes) numbers round p in
       record {
         some = rw (sym long) some;
         upto = rw (sym long) upto;
         each = λ j images there.
-            let w = paired_at
-            (λ (d : Due) is. AreImages T g k d.location d.forest.forest is) dues round j images p there
-            in
-            let d = are j w.0 w.1 in
-            record {
-              node = d.node;
-              is = d.is;
-              made = subst (λ z. AreImages T g k z d.node.state.forest images) d.location
-                  (subst (λ z. AreImages T g k w.0.location z images) d.forest w.2);
-            };
+            let w = paired_at (AreImagesOf T g k nodes) numbers round j images p there in
+            subst (λ z. AreImagesOf T g k nodes z images) (are j w.0 w.1) w.2;
       }
-  round_made nodes at dues (Err e) some upto are p = tt
+  round_made nodes at numbers (Err e) some upto are p = tt
 
   -- it is made of each node once
-  pub round_few : {E : Type 0} (dues : List Due) (r : Result (List (List EdgeImage)) E) (jobs : ℕ)
-      → length dues ≤ jobs
-      → IfOk r (Paired (λ (d : Due) images. AreImages T g k d.location d.forest.forest images) dues)
+  pub round_few : {E : Type 0} (nodes : List Node) (numbers : List ℕ) (r : Result (List (List EdgeImage)) E) (jobs : ℕ)
+      → length numbers ≤ jobs → IfOk r (Paired (AreImagesOf T g k nodes) numbers)
       → IfOk r (λ round. length round ≤ jobs)
-  round_few dues (Ok round) jobs few p =
-      rw (sym (paired_long (λ (d : Due) images. AreImages T g k d.location d.forest.forest images) dues round p)) few
-  round_few dues (Err e) jobs few p = tt
+  round_few nodes numbers (Ok round) jobs few p =
+      rw (sym (paired_long (AreImagesOf T g k nodes) numbers round p)) few
+  round_few nodes numbers (Err e) jobs few p = tt
 
   -- nodes that were added later change nothing
   pub images_later : (nodes later : List Node) (j : ℕ) (images : List EdgeImage) → Grows nodes later

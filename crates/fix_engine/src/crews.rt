@@ -2,8 +2,6 @@
 ghost use Rattle.par_kit.specs.Crews.{IsJobs};
 
 use fa_core::forest::Forest;
-use fix_core::nodes::Due;
-use fore_base::list::List;
 use par_kit::crew::Crew;
 use par_kit::gate::Gate;
 
@@ -36,15 +34,6 @@ pub fn rules_of(forest: &Forest) -> usize {
     let mut rules = 0usize;
     for auto in forest.autos.as_slice() {
         rules = rules.saturating_add(auto.rules.len());
-    }
-    rules
-}
-
-/// How many rules the forests have in all, or as many as can be counted.
-pub fn rules_of_all(dues: &List<Due>) -> usize {
-    let mut rules = 0usize;
-    for due in dues.as_slice() {
-        rules = rules.saturating_add(rules_of(due.forest.forest()));
     }
     rules
 }

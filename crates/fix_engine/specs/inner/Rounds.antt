@@ -19,9 +19,9 @@ pub record IsDue (nodes : List Node) (j : ℕ) (d : Due) : Type 0 where
   pub forest : d.forest.forest ≡ node.state.forest
   pub face : d.forest.face ≡ node.state.face
 
--- those of the nodes from `at` on
-abbrev pub AreDues : List Node → ℕ → List Due → Type 0
-AreDues nodes at dues = (j : ℕ) (d : Due) → slice_get dues j ≡ Some d → IsDue nodes (at + j) d
+-- the numbers from `at` on
+abbrev pub AreNumbers : ℕ → List ℕ → Type 0
+AreNumbers at numbers = (j n : ℕ) → slice_get numbers j ≡ Some n → n ≡ at + j
 
 module _ (T : Boxes) (g : ControlGraph) (k : ℕ) where
   -- what the edges of its location make of node j
